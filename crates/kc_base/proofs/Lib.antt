@@ -1,0 +1,3 @@
+mod Faults
+pub mod Growth
+pub mod TextLineLemmas

@@ -1,0 +1,24 @@
+//! What every part of the kit speaks of: state times, pins, undefined uses, texts, images, files and sinks.
+#![tactic(auto)]
+
+mod edge_out;
+mod files;
+mod host;
+mod image;
+mod memory;
+mod sink;
+mod steps;
+mod text;
+mod text_lines;
+mod types;
+
+pub use edge_out::EdgeOut;
+pub use files::{FILE_LIMIT, FileFault, Files};
+pub use host::{HostFiles, HostOut};
+pub use image::{IMAGE_LEN, IMAGE_START, Image};
+pub use memory::{MemFiles, MemSink};
+pub use sink::{Failed, Sink, put_all};
+pub use steps::Steps;
+pub use text::Text;
+pub use text_lines::{after, first_line, front};
+pub use types::{Edge, IntSet, Kind, Level, NoMemory, Pin, PtsMode, StateTime, Undefined};

@@ -1,0 +1,11 @@
+//! The common memory as its masters see it: accesses, windows, and a bus without units.
+#![tactic(auto)]
+
+mod bus;
+mod flat;
+mod windows;
+
+pub use bus::Bus;
+pub use flat::Flat;
+pub use kc_effect::{Masks, Master};
+pub use windows::{is_known, window};

@@ -1,0 +1,12 @@
+pub mod Access
+pub mod Effect
+pub mod Window
+pub mod Memory
+pub mod Status
+pub mod Parts
+pub mod Operands
+pub mod Operations
+pub mod Plans
+pub mod Effects
+pub mod Entering
+pub mod Accesses

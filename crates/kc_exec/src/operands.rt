@@ -1,0 +1,110 @@
+ghost use Rattle.std.specs.Prelude.{◌≡◌, ◌+◌, ◌≤◌, ◌<◌, ◌%◌, IfOk, IsTrue, false};
+ghost use Rattle.kc_effect.specs.Effect.{Gives, run};
+ghost use Rattle.kc_effect.specs.Parts.{limit};
+ghost use Rattle.kc_effect.specs.Operands.{size, at_offset, source, target};
+
+use crate::parts::{read, read_from, write_to};
+use kc_base::Kind;
+use kc_bus::{Bus, window};
+use kc_isa::Operand;
+
+fn size_of_step(byte: bool) -> u16
+    ensures { result ≡ size byte }
+{
+    if byte { 1 } else { 2 }
+}
+
+fn moved(base: u16, offset: u16) -> u16
+    ensures { result ≡ at_offset base offset }
+{
+    base.wrapping_add(offset)
+}
+
+fn cut(byte: bool, value: u16) -> u16
+    ensures value { result ≡ value % limit byte }
+    ensures bound { result < limit byte }
+{
+    if byte { value % 0x100 } else { value }
+}
+
+/// Reads S.
+#[tactic(auto, using(kc_effect::proofs::Running::run_bind), unfolding(kc_effect::specs::Operands::source))]
+pub(crate) fn read_source<B: Bus>(
+    bus: &mut B,
+    byte: bool,
+    wsr: u8,
+    operand: Operand,
+) -> Result<u16, Kind>
+    ensures gives { Gives (λ x. x) result (B.held bus.new) (run B.meaning (source byte wsr operand) (B.held bus.old)) }
+    ensures spent { B.spent bus.new + B.allowed (B.held bus.old) ≤ B.spent bus.old + B.allowed (B.held bus.new) }
+    ensures same { B.lent bus.new ≡ B.lent bus.old }
+    ensures bound { IfOk result (λ n. n < limit byte) }
+{
+    match operand {
+        Operand::Reg(register) => read_from(bus, byte, wsr, register),
+        Operand::Imm(value) => Ok(cut(byte, value)),
+        Operand::Indirect(register) => {
+            let pointer = read_from(bus, false, wsr, register)?;
+            read(bus, byte, pointer)
+        }
+        Operand::Increment(register) => {
+            let pointer = read_from(bus, false, wsr, register)?;
+            let value = read(bus, byte, pointer)?;
+            write_to(
+                bus,
+                false,
+                wsr,
+                register,
+                moved(pointer, size_of_step(byte)),
+            )?;
+            Ok(value)
+        }
+        Operand::Short { base, offset } => {
+            let pointer = read_from(bus, false, wsr, base)?;
+            read(bus, byte, moved(pointer, i16::from(offset).cast_unsigned()))
+        }
+        Operand::Long { base, offset } => {
+            let pointer = read_from(bus, false, wsr, base)?;
+            read(bus, byte, moved(pointer, offset))
+        }
+        Operand::Absent | Operand::Count(_) | Operand::Disp(_) => Ok(0),
+    }
+}
+
+/// Finds the address of S.
+#[tactic(auto, using(kc_effect::proofs::Running::run_bind), unfolding(kc_effect::specs::Operands::target))]
+pub(crate) fn find_target<B: Bus>(
+    bus: &mut B,
+    byte: bool,
+    wsr: u8,
+    operand: Operand,
+) -> Result<u16, Kind>
+    ensures gives { Gives (λ x. x) result (B.held bus.new) (run B.meaning (target byte wsr operand) (B.held bus.old)) }
+    ensures spent { B.spent bus.new + B.allowed (B.held bus.old) ≤ B.spent bus.old + B.allowed (B.held bus.new) }
+    ensures same { B.lent bus.new ≡ B.lent bus.old }
+{
+    match operand {
+        Operand::Reg(register) => window(wsr, register),
+        Operand::Indirect(register) => read_from(bus, false, wsr, register),
+        Operand::Increment(register) => {
+            let pointer = read_from(bus, false, wsr, register)?;
+            write_to(
+                bus,
+                false,
+                wsr,
+                register,
+                moved(pointer, size_of_step(byte)),
+            )?;
+            Ok(pointer)
+        }
+        Operand::Short { base, offset } => {
+            let pointer = read_from(bus, false, wsr, base)?;
+            Ok(moved(pointer, i16::from(offset).cast_unsigned()))
+        }
+        Operand::Long { base, offset } => {
+            let pointer = read_from(bus, false, wsr, base)?;
+            Ok(moved(pointer, offset))
+        }
+        Operand::Absent | Operand::Imm(_) | Operand::Count(_) | Operand::Disp(_) => Ok(0),
+    }
+}
