@@ -112,10 +112,9 @@ impl<S: Sink> TraceOut<S> {
         ensures line { Puts (out_of S.written S.faults self.old) (line_of item.now) (out_of S.written S.faults self.new) }
         ensures counts { self.new.counts ≡ counted_unless self.old.failed item.now self.old.counts }
     {
-        if self.failed {
-            return;
+        if !self.failed {
+            self.counts = self.counts.with(item);
         }
-        self.counts = self.counts.with(item);
         let text = line(item);
         self.put_text(text.as_slice());
     }
