@@ -1,4 +1,4 @@
--- What a master may ask of the bus.
+-- What a master may ask of the bus (80C196KC User's Manual, "Memory Map").
 use Rattle.std.specs.Prelude.{◌≡◌, ℕ, Result, Ok, Err}
 use Rattle.kc_base.specs.declared.types.Kind.{Kind}
 use Rattle.kc_effect.specs.declared.access.Master.{Master}

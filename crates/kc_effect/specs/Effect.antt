@@ -1,4 +1,4 @@
--- What an instruction does, told from the answers of its accesses, and what that comes to over a bus.
+-- What an instruction does, told from the answers of its accesses, and what that comes to over a bus (this kit's own).
 use Rattle.std.specs.Prelude.{◌≡◌, ℕ, Result, Ok, Err}
 use Rattle.kc_base.specs.declared.types.Kind.{Kind}
 use Rattle.kc_effect.specs.declared.access.Masks.{Masks}

@@ -7,6 +7,13 @@ pub mod Parts
 pub mod Operands
 pub mod Operations
 pub mod Plans
-pub mod Effects
+pub mod Computing
+pub mod Moving
+pub mod Jumping
+pub mod Saving
+pub mod Settings
+pub mod BlockMoves
 pub mod Entering
+pub mod Effects
+pub mod Places
 pub mod Accesses

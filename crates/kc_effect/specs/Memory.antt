@@ -1,4 +1,4 @@
--- The memory from 0018H on, and what a bus keeps to there.
+-- The memory from 0018H on, and what a bus keeps to there (80C196KC User's Manual, "Memory Map"; the ROM and the hole are this kit's own).
 use Rattle.std.specs.Prelude.{◌≡◌, ℕ, Bool, ◌+◌, ◌*◌, ◌/◌, ◌%◌, ◌^◌, ◌<◌, ◌≤◌, ◌==◌, nat_lt, nat_le, ◌&&◌, if◌then◌else◌, Result, Ok, Err}
 use Rattle.kc_base.specs.declared.types.Kind.{Kind}
 use Rattle.kc_base.specs.declared.types.Kind.TheVariants.{OddWord, RomWrite, OutsideMap, BadWindow}

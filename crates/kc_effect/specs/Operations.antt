@@ -1,9 +1,11 @@
--- The operations on two numbers of a width.
-use Rattle.std.specs.Prelude.{ℕ, Bool, true, false, if◌then◌else◌, bit_and, bit_or, bit_xor}
+-- Results and flags of the operations on one or two numbers of a width (80C196KC User's Manual, "Instruction Set"; what each does to the flags is this kit's own).
+use Rattle.std.specs.Prelude.{ℕ, Bool, true, false, ◌-◌, ◌*◌, if◌then◌else◌, bit_and, bit_or, bit_xor}
 use Rattle.kc_alu.specs.declared.flags.Flags.{Flags}
 use Rattle.kc_alu.specs.Arithmetic.{carry_in, borrow_in, sum_result, sum_flags, difference_result, difference_flags, logic_flags}
 use Rattle.kc_effect.specs.declared.plan.Operation.{Operation}
 use Rattle.kc_effect.specs.declared.plan.Operation.TheVariants.{Add, AddCarry, Sub, SubBorrow, Compare, And, Or, Xor}
+use Rattle.kc_effect.specs.declared.plan.Alteration.{Alteration}
+use Rattle.kc_effect.specs.declared.plan.Alteration.TheVariants.{Clear, Complement, Negate, Increment, Decrement}
 
 abbrev pub width : Bool → ℕ
 width byte = if byte then 8 else 16
@@ -31,3 +33,25 @@ computed_flags Xor half a s f = logic_flags half (bit_xor a s) f
 abbrev pub writes_result : Operation → Bool
 writes_result Compare = false
 writes_result _ = true
+
+abbrev pub complement : ℕ → ℕ → ℕ
+complement half n = 2 * half - 1 - n
+
+unfoldable pub altered : Alteration → ℕ → ℕ → Flags → ℕ
+altered Clear half n f = 0
+altered Complement half n f = complement half n
+altered Negate half n f = difference_result half 0 n (borrow_in false f)
+altered Increment half n f = sum_result half n 1 (carry_in false f)
+altered Decrement half n f = difference_result half n 1 (borrow_in false f)
+
+unfoldable pub altered_flags : Alteration → ℕ → ℕ → Flags → Flags
+altered_flags Clear half n f = logic_flags half 0 f
+altered_flags Complement half n f = logic_flags half (complement half n) f
+altered_flags Negate half n f = difference_flags half 0 n (borrow_in false f) false f
+altered_flags Increment half n f = sum_flags half n 1 (carry_in false f) false f
+altered_flags Decrement half n f = difference_flags half n 1 (borrow_in false f) false f
+
+-- CLR reads nothing
+abbrev pub reads_register : Alteration → Bool
+reads_register Clear = false
+reads_register _ = true

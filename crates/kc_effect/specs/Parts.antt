@@ -1,8 +1,10 @@
--- The accesses that instructions are made of.
-use Rattle.std.specs.Prelude.{ℕ, Bool, false, ◌+◌, ◌*◌, ◌/◌, ◌%◌, ◌==◌, if◌then◌else◌, Result, Ok, Err}
+-- The accesses that instructions are made of: a byte or a word at an address, a register in the window, the stack (80C196KC User's Manual, "Memory Map" and "Windows"; the order inside a long register is this kit's own).
+use Rattle.std.specs.Prelude.{ℕ, Bool, true, false, ◌+◌, ◌*◌, ◌/◌, ◌%◌, ◌==◌, if◌then◌else◌, Result, Ok, Err}
 use Rattle.kc_base.specs.declared.types.Kind.{Kind}
 use Rattle.kc_base.specs.declared.types.Kind.TheVariants.{LongAlign}
 use Rattle.kc_effect.specs.declared.access.Master.TheVariants.{Cpu}
+use Rattle.kc_effect.specs.declared.plan.Size.{Size}
+use Rattle.kc_effect.specs.declared.plan.Size.TheVariants.{Byte, Word, Long}
 use Rattle.kc_effect.specs.Access.{ReadByte, ReadWord, WriteByte, WriteWord}
 use Rattle.kc_effect.specs.Effect.{Effect, End, Undefined, Ask, ◌>>=◌}
 use Rattle.kc_effect.specs.Window.{window_of}
@@ -48,6 +50,35 @@ write_long wsr register n = do
   addr ← long_place wsr register
   low ← write_at false addr (n % 0x10000)
   write_at false (addr + 2) (n / 0x10000)
+
+-- the numbers of a width, and how many bits they have
+abbrev pub sized_limit : Size → ℕ
+sized_limit Byte = 0x100
+sized_limit Word = 0x10000
+sized_limit Long = 0x100000000
+
+abbrev pub bits : Size → ℕ
+bits Byte = 8
+bits Word = 16
+bits Long = 32
+
+unfoldable pub read_sized : Size → ℕ → ℕ → Effect ℕ
+read_sized Byte wsr register = read_register true wsr register
+read_sized Word wsr register = read_register false wsr register
+read_sized Long wsr register = read_long wsr register
+
+unfoldable pub write_sized : Size → ℕ → ℕ → ℕ → Effect (Unit {0})
+write_sized Byte wsr register n = write_register true wsr register n
+write_sized Word wsr register n = write_register false wsr register n
+write_sized Long wsr register n = write_long wsr register n
+
+-- twice the width of a byte, or of a word
+abbrev pub doubled : Bool → Size
+doubled byte = if byte then Word else Long
+
+-- the low half of a register of twice the width, whose alignment is asked first where it is long
+unfoldable pub read_low_half : Bool → ℕ → ℕ → Effect ℕ
+read_low_half byte wsr register = if byte then read_register true wsr register else (long_place wsr register >>= λ addr. read_at false addr)
 
 -- the stack, whose pointer stands at 18H in every window
 unfoldable pub push : ℕ → Effect (Unit {0})

@@ -1,4 +1,4 @@
-ghost use Rattle.kc_effect.specs.Accesses.{EightAccesses, EntryAccesses};
+ghost use Rattle.kc_effect.specs.Accesses.{EightAccesses, WordAccesses, EntryAccesses, TrapAccesses};
 
 /// No instruction makes more than eight accesses.
 pub fn eight_accesses()
@@ -8,4 +8,14 @@ pub fn eight_accesses()
 /// No entry makes more than eight accesses.
 pub fn entry_accesses()
     ensures { EntryAccesses }
+{}
+
+/// No word of a block move makes more than eight accesses.
+pub fn word_accesses()
+    ensures { WordAccesses }
+{}
+
+/// No trap makes more than eight accesses.
+pub fn trap_accesses()
+    ensures { TrapAccesses }
 {}

@@ -9,5 +9,7 @@ mod plan;
 
 pub use access::{Masks, Master};
 pub use cpu::{After, Cpu, Words};
-pub use laws::{eight_accesses, entry_accesses};
-pub use plan::{Operation, Plan};
+pub use laws::{eight_accesses, entry_accesses, trap_accesses, word_accesses};
+pub use plan::{
+    Alteration, Computation, Movement, Operation, Plan, Route, Saving, Setting, Size, Test,
+};
