@@ -239,8 +239,8 @@ impl Core {
         ensures ready { IsReady self.new.under_way self.new.going }
         ensures spent { steps.new ≤ steps.old + 16 * (run_to (activity_end (machine_of self.old)) (machine_of self.old)).work }
     {
-        if self.ended.is_some() {
-            return Ok(self.ended);
+        if let Some(end) = self.ended {
+            return Ok(Some(end));
         }
         self.pass_current(out, steps);
         if out.failed() {
