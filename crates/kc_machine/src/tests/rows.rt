@@ -9,12 +9,7 @@ use std::test::Fail;
 
 /// What a run of these bytes prints, with 2100H in the vectors at 2010H and 2012H and a jump to itself there.
 fn printed(alloc: Global, bytes: &[u8], states: u64) -> Result<TraceOut<MemSink>, NoMemory> {
-    let mut others = [0xFFu8; 0xF2];
-    others[0] = 0x00;
-    others[1] = 0x21;
-    others[2] = 0x00;
-    others[3] = 0x21;
-    let mut machine = machine_of(alloc, bytes, 0x2010, &others[..4])?;
+    let mut machine = machine_of(alloc, bytes, 0x2010, &[0x00, 0x21, 0x00, 0x21])?;
     machine.poke(0x2100, 0x27);
     machine.poke(0x2101, 0xFE);
     let mut out = TraceOut::new(MemSink::new(alloc, 2048, Vec::new(alloc))?);
@@ -24,14 +19,7 @@ fn printed(alloc: Global, bytes: &[u8], states: u64) -> Result<TraceOut<MemSink>
 }
 
 fn has(text: &[u8], part: &[u8]) -> bool {
-    let mut at = 0;
-    while at < text.len() {
-        if text[at..].starts_with(part) {
-            return true;
-        }
-        at += 1;
-    }
-    false
+    (0..text.len()).any(|at| text[at..].starts_with(part))
 }
 
 #[test]
