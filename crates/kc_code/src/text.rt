@@ -206,17 +206,17 @@ fn push_listed(out: &mut Line, shape: Shape, group: Group, byte: bool, next: u16
     }
 }
 
-#[tactic(auto, using(crate::proofs::Numbers::fits_number))]
 /// The text of a well-formed instruction that stands at `at`: the mnemonic and, behind a blank, its operands
 /// in the assembler's order. Registers, bytes, counts and masks have two hexadecimal digits and `H`, words and
 /// the addresses that jumps lead to four, with a digit 0 before a letter.
+#[tactic(auto, using(crate::proofs::Numbers::fits_number))]
 pub fn text(insn: &Insn, at: u16) -> ArrayVec<u8, 80>
     requires { IsTrue (is_formed insn.now) }
     ensures { result.items ≡ text_of insn.now at }
 {
     let mut out = ArrayVec::new();
     let Some(row) = row_of(insn.opcode, insn.signed) else {
-        return out;
+        unreachable!();
     };
     push_name(&mut out, row.name);
     let next = at.wrapping_add(u16::from(length(insn)));

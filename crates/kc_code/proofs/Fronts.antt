@@ -1,0 +1,162 @@
+-- Which bytes are the front of an instruction, and that nothing behind one matters.
+use Rattle.std.proofs.Common.{◌≡◌, ◌≢◌, ℕ, zero, suc, ◌+◌, ◌-◌, ◌%◌, ◌<◌, ◌≤◌, Bool, true, false, List, [], ◌∷◌, ◌++◌, Option, Some, None, refl, sym, ◌∙◌, ap, subst, arith, ◌⊎◌, inl, inr, length, take, drop, append_assoc, length-append, lit≤}
+use Rattle.std.specs.Prelude.{◌==◌, nat_lt, if◌then◌else◌, ◌&&◌, ◌||◌, not}
+use Rattle.std.specs.Int.{w8, w16, cast_signed}
+use Rattle.std.proofs.lemmas.List.{length-take-le, length-drop}
+use Rattle.std.proofs.lemmas.Grind.{common_steps}
+use Rattle.kc_isa.specs.declared.layout.Form.{Form}
+use Rattle.kc_isa.specs.declared.layout.Form.TheVariants.{NoOperand, Mode, ShiftCount, Distance11, Distance8, Distance16, OneByte}
+use Rattle.kc_isa.specs.declared.layout.Layout.{Layout}
+use Rattle.kc_isa.specs.declared.insn.Operand.{Operand}
+use Rattle.kc_isa.specs.declared.insn.Operand.TheVariants.{Absent, Reg, Imm, Indirect, Increment, Short, Long, Count, Disp}
+use Rattle.kc_isa.specs.declared.insn.Insn.{Insn}
+use Rattle.kc_isa.specs.Formed.{is_even, is_byte, is_formed, row_fits, operand_length, length_of, row_length}
+use Rattle.kc_isa.specs.declared.table.Shape.{Shape}
+use Rattle.kc_isa.specs.declared.table.Shape.TheVariants.{Nothing, One, Two, Four, FourOne, FourTwo, Exchange, CountOne, Near, Conditional, BitTest, Loop, TableJump, Far, Key}
+use Rattle.kc_isa.specs.Names.{Shown, row_at}
+use Rattle.kc_isa.specs.Table.{plain_entry}
+use Rattle.kc_isa.specs.Layout.{layout_of}
+use Rattle.kc_code.specs.Spelling.{word, operand_bytes, high_bits, laid_bytes, prefix, row_spelling, spelling, is_in_range}
+use Rattle.kc_code.specs.Reading.{◌>>=◌, byte_at, word_at, regs_at, distance11, indirect_at, indexed_at, mode_at, operand_at, laid_at, body_at, finished, no_row, with_row, behind_prefix, decode_of}
+use Rattle.kc_code.specs.declared.reader.Decoded.{Decoded}
+use Rattle.kc_code.specs.declared.reader.Decoded.TheVariants.{Insn as Whole, Unimplemented, Undefined, Short as Cut}
+use Rattle.kc_code.specs.Bytes.{IsBytes}
+use Rattle.kc_code.specs.Ranges.{InsnHas}
+use Rattle.kc_code.specs.Front.{IsInFront, IsProperFront, is_gap, is_gap_behind, is_undefined, is_unimplemented, RestDoesNotMatter}
+use Rattle.kc_code.proofs.Takes.{Read, read_is, taken}
+use Rattle.kc_code.proofs.Again.{spelled_again}
+
+-- the length of a spelling
+
+operand_count : (form : Form) (byte : Bool) (o : Operand) → length (operand_bytes form byte o) ≡ operand_length form byte o
+operand_count form byte Absent = refl
+operand_count form byte (Reg r) = refl
+operand_count NoOperand byte (Imm n) = refl
+operand_count Mode true (Imm n) = refl
+operand_count Mode false (Imm n) = refl
+operand_count ShiftCount byte (Imm n) = refl
+operand_count Distance11 byte (Imm n) = refl
+operand_count Distance8 byte (Imm n) = refl
+operand_count Distance16 byte (Imm n) = refl
+operand_count OneByte byte (Imm n) = refl
+operand_count form byte (Indirect r) = refl
+operand_count form byte (Increment r) = refl
+operand_count form byte (Short base offset) = refl
+operand_count form byte (Long base offset) = refl
+operand_count form byte (Count n) = refl
+operand_count NoOperand byte (Disp d) = refl
+operand_count Mode byte (Disp d) = refl
+operand_count ShiftCount byte (Disp d) = refl
+operand_count Distance11 byte (Disp d) = refl
+operand_count Distance8 byte (Disp d) = refl
+operand_count Distance16 byte (Disp d) = refl
+operand_count OneByte byte (Disp d) = refl
+
+few_registers : (s : Shape) → (layout_of s).before + (layout_of s).after ≤ 3
+few_registers Nothing = lit≤ tt
+few_registers One = lit≤ tt
+few_registers Two = lit≤ tt
+few_registers Four = lit≤ tt
+few_registers FourOne = lit≤ tt
+few_registers FourTwo = lit≤ tt
+few_registers Exchange = lit≤ tt
+few_registers CountOne = lit≤ tt
+few_registers Near = lit≤ tt
+few_registers Conditional = lit≤ tt
+few_registers BitTest = lit≤ tt
+few_registers Loop = lit≤ tt
+few_registers TableJump = lit≤ tt
+few_registers Far = lit≤ tt
+few_registers Key = lit≤ tt
+
+laid_count : (l : Layout) (byte : Bool) (i : Insn) → length i.regs ≡ 3 → l.before + l.after ≤ 3
+    → length (laid_bytes l byte i) ≡ l.before + operand_length l.form byte i.operand + l.after
+laid_count l byte i three few =
+    let front : length (take l.before i.regs) ≡ l.before = length-take-le l.before i.regs (omega arith) in
+    let left : length (drop l.before i.regs) ≡ length i.regs - l.before = length-drop l.before i.regs in
+    let back : length (take l.after (drop l.before i.regs)) ≡ l.after = length-take-le l.after (drop l.before i.regs) (omega arith) in
+    let first = length-append (take l.before i.regs) (operand_bytes l.form byte i.operand ++ take l.after (drop l.before i.regs)) in
+    let second = length-append (operand_bytes l.form byte i.operand) (take l.after (drop l.before i.regs)) in
+    let middle = operand_count l.form byte i.operand in
+    omega arith
+
+row_count : (i : Insn) (row : Shown) → length i.regs ≡ 3 → length (row_spelling i row) ≡ row_length i row
+row_count i row three = at_prefix i.signed
+  where
+    laid : length (laid_bytes (layout_of row.shape) (is_byte row.width) i) ≡ (layout_of row.shape).before + operand_length (layout_of row.shape).form (is_byte row.width) i.operand + (layout_of row.shape).after
+    laid = laid_count (layout_of row.shape) (is_byte row.width) i three (few_registers row.shape)
+
+    at_prefix : (t : Bool) → length (prefix t ++ ((i.opcode + high_bits (layout_of row.shape).form i.operand) ∷ laid_bytes (layout_of row.shape) (is_byte row.width) i))
+        ≡ (if t then 2 else 1) + (layout_of row.shape).before + operand_length (layout_of row.shape).form (is_byte row.width) i.operand + (layout_of row.shape).after
+    at_prefix true = omega (arith, laid)
+    at_prefix false = omega (arith, laid)
+
+pub spelled_count : (i : Insn) → length i.regs ≡ 3 → length (spelling i) ≡ length_of i
+spelled_count i three = at_row (row_at i.opcode i.signed)
+  where
+    at_row : (o : Option Shown) → (let text : List ℕ = elim o [ None ↦ [] | Some row ↦ row_spelling i row ] in length text) ≡ (elim o [ None ↦ 0 | Some row ↦ row_length i row ])
+    at_row None = refl
+    at_row (Some row) = row_count i row three
+
+pub in_front : (bytes : List ℕ) (i : Insn) (n : ℕ) → IsBytes bytes → decode_of bytes ≡ Whole i n → IsInFront bytes i n
+in_front bytes i n b h =
+    let r = read_is bytes i n b h in
+    let whole : length bytes ≡ length (spelling i) + length r.rest = ap length r.whole ∙ length-append (spelling i) r.rest in
+    let count : length (spelling i) ≡ length_of i = spelled_count i r.has.three in
+    let length_is : n ≡ length bytes - length r.rest = r.length_is in
+    record {
+      formed = r.formed;
+      in_range = r.in_range;
+      has = r.has;
+      told = omega arith;
+      within = omega arith;
+      spelled = taken bytes i n r;
+    }
+
+-- nothing behind an instruction matters
+
+bare_row : (o : Option Shown) (bytes more : List ℕ) (opcode : ℕ) (signed : Bool) (rest rest2 : List ℕ) (d : Decoded) → (d ≡ Unimplemented) ⊎ (d ≡ Undefined)
+    → with_row bytes opcode signed o rest ≡ d → with_row more opcode signed o rest2 ≡ d
+bare_row None bytes more opcode signed rest rest2 d bare h = h
+bare_row (Some row) bytes more opcode signed rest rest2 d bare h = absurd (never (body_at opcode signed row rest) h bare)
+  where
+    never : (q : Option (Insn × List ℕ)) → finished bytes q ≡ d → (d ≡ Unimplemented) ⊎ (d ≡ Undefined) → ⊥
+    never None e (inl u) = cc (e, u)
+    never None e (inr u) = cc (e, u)
+    never (Some p) e (inl u) = cc (e, u)
+    never (Some p) e (inr u) = cc (e, u)
+
+bare_again : (bytes rest : List ℕ) (d : Decoded) → (d ≡ Unimplemented) ⊎ (d ≡ Undefined) → decode_of bytes ≡ d → decode_of (bytes ++ rest) ≡ d
+bare_again [] rest d (inl u) h = absurd (cc (h, u))
+bare_again [] rest d (inr u) h = absurd (cc (h, u))
+bare_again (x ∷ xs) rest d bare h = at_test (x == 0xFE) h
+  where
+    behind : (ys : List ℕ) → behind_prefix (x ∷ xs) ys ≡ d → behind_prefix (x ∷ (xs ++ rest)) (ys ++ rest) ≡ d
+    behind [] e = absurd (cut bare)
+      where
+        cut : (d ≡ Unimplemented) ⊎ (d ≡ Undefined) → ⊥
+        cut (inl u) = cc (e, u)
+        cut (inr u) = cc (e, u)
+    behind (y ∷ ys) e = bare_row (row_at y true) (x ∷ xs) (x ∷ (xs ++ rest)) y true ys (ys ++ rest) d bare e
+
+    at_test : (t : Bool) → (if t then behind_prefix (x ∷ xs) xs else with_row (x ∷ xs) x false (row_at x false) xs) ≡ d
+        → (if t then behind_prefix (x ∷ (xs ++ rest)) (xs ++ rest) else with_row (x ∷ (xs ++ rest)) x false (row_at x false) (xs ++ rest)) ≡ d
+    at_test true e = behind xs e
+    at_test false e = bare_row (row_at x false) (x ∷ xs) (x ∷ (xs ++ rest)) x false xs (xs ++ rest) d bare e
+
+whole_again : (bytes rest : List ℕ) (i : Insn) (n : ℕ) → IsBytes bytes → decode_of bytes ≡ Whole i n → decode_of (bytes ++ rest) ≡ Whole i n
+whole_again bytes rest i n b h =
+    let r = read_is bytes i n b h in
+    let whole : length bytes ≡ length (spelling i) + length r.rest = ap length r.whole ∙ length-append (spelling i) r.rest in
+    let length_is : n ≡ length bytes - length r.rest = r.length_is in
+    let count : length (spelling i) ≡ n = omega arith in
+    ap (λ t. decode_of (t ++ rest)) r.whole ∙ ap decode_of (append_assoc (spelling i) r.rest rest) ∙ spelled_again i (r.rest ++ rest) r.has r.formed r.in_range ∙ ap (Whole i) count
+
+pub rest_is_free : RestDoesNotMatter
+rest_is_free bytes rest b some = at_answer (decode_of bytes) refl
+  where
+    at_answer : (d : Decoded) → decode_of bytes ≡ d → decode_of (bytes ++ rest) ≡ decode_of bytes
+    at_answer (Whole i n) h = whole_again bytes rest i n b h ∙ sym h
+    at_answer Unimplemented h = bare_again bytes rest Unimplemented (inl refl) h ∙ sym h
+    at_answer Undefined h = bare_again bytes rest Undefined (inr refl) h ∙ sym h
+    at_answer Cut h = absurd (some h)
