@@ -1,8 +1,8 @@
 -- Which bytes are the front of an instruction, and that nothing behind one matters.
-use Rattle.std.proofs.Common.{◌≡◌, ◌≢◌, ℕ, zero, suc, ◌+◌, ◌-◌, ◌%◌, ◌<◌, ◌≤◌, Bool, true, false, List, [], ◌∷◌, ◌++◌, Option, Some, None, refl, sym, ◌∙◌, ap, subst, arith, ◌⊎◌, inl, inr, length, take, drop, append_assoc, length-append, lit≤}
+use Rattle.std.proofs.Common.{◌≡◌, ◌≢◌, ℕ, zero, suc, ◌+◌, ◌-◌, ◌*◌, ◌%◌, ◌<◌, ◌≤◌, Bool, true, false, List, [], ◌∷◌, ◌++◌, Option, Some, None, refl, sym, ◌∙◌, ap, subst, arith, ◌⊎◌, inl, inr, length, take, drop, append_assoc, length-append, lit≤}
 use Rattle.std.specs.Prelude.{◌==◌, nat_lt, if◌then◌else◌, ◌&&◌, ◌||◌, not}
 use Rattle.std.specs.Int.{w8, w16, cast_signed}
-use Rattle.std.proofs.lemmas.List.{length-take-le, length-drop}
+use Rattle.std.proofs.lemmas.List.{append-nil, length-take-le, length-drop}
 use Rattle.std.proofs.lemmas.Grind.{common_steps}
 use Rattle.kc_isa.specs.declared.layout.Form.{Form}
 use Rattle.kc_isa.specs.declared.layout.Form.TheVariants.{NoOperand, Mode, ShiftCount, Distance11, Distance8, Distance16, OneByte}
@@ -17,7 +17,7 @@ use Rattle.kc_isa.specs.Names.{Shown, row_at}
 use Rattle.kc_isa.specs.Table.{plain_entry}
 use Rattle.kc_isa.specs.Layout.{layout_of}
 use Rattle.kc_code.specs.Spelling.{word, operand_bytes, high_bits, laid_bytes, prefix, row_spelling, spelling, is_in_range}
-use Rattle.kc_code.specs.Reading.{◌>>=◌, byte_at, word_at, regs_at, distance11, indirect_at, indexed_at, mode_at, operand_at, laid_at, body_at, finished, no_row, with_row, behind_prefix, decode_of}
+use Rattle.kc_code.specs.Reading.{◌>>=◌, byte_at, word_at, regs_at, distance11, indirect_at, indexed_at, mode_at, operand_at, base_opcode, joined, laid_at, body_at, finished, no_row, with_row, behind_prefix, decode_of}
 use Rattle.kc_code.specs.declared.reader.Decoded.{Decoded}
 use Rattle.kc_code.specs.declared.reader.Decoded.TheVariants.{Insn as Whole, Unimplemented, Undefined, Short as Cut}
 use Rattle.kc_code.specs.Bytes.{IsBytes}
@@ -160,3 +160,103 @@ rest_is_free bytes rest b some = at_answer (decode_of bytes) refl
     at_answer Unimplemented h = bare_again bytes rest Unimplemented (inl refl) h ∙ sym h
     at_answer Undefined h = bare_again bytes rest Undefined (inr refl) h ∙ sym h
     at_answer Cut h = absurd (some h)
+
+-- with enough bytes each part is read
+
+record Got {A : Type 0} (o : Option (A × List ℕ)) (bytes : List ℕ) (n : ℕ) : Type 0 where
+  pub part : A × List ℕ
+  pub is : o ≡ Some part
+  pub left : length bytes ≤ length part.1 + n
+
+either : {A : Type 0} (t : Bool) (a b : Option (A × List ℕ)) (bytes : List ℕ) (n : ℕ) → Got a bytes n → Got b bytes n → Got (if t then a else b) bytes n
+either true a b bytes n g h = g
+either false a b bytes n g h = h
+
+operand_enough : (form : Form) (opcode : ℕ) (byte : Bool) (x y z : ℕ) (rest : List ℕ) → Got (operand_at form opcode byte (x ∷ y ∷ z ∷ rest)) (x ∷ y ∷ z ∷ rest) 3
+unfolding operand_at mode_at indirect_at indexed_at
+operand_enough NoOperand opcode byte x y z rest = record { part = (Absent, x ∷ y ∷ z ∷ rest); is = refl; left = omega arith }
+operand_enough Mode opcode byte x y z rest =
+    either (opcode % 4 == 0) _ _ _ 3 (record { part = (Reg x, y ∷ z ∷ rest); is = refl; left = omega arith })
+    (either (opcode % 4 == 1) _ _ _ 3
+        (either byte _ _ _ 3 (record { part = (Imm x, y ∷ z ∷ rest); is = refl; left = omega arith }) (record { part = (Imm (x + 256 * y), z ∷ rest); is = refl; left = omega arith }))
+    (either (opcode % 4 == 2) _ _ _ 3 (record { part = ((if is_even x then Indirect x else Increment (x - 1)), y ∷ z ∷ rest); is = refl; left = omega arith })
+    (either (is_even x) _ _ _ 3 (record { part = (Short x (cast_signed w8 y), z ∷ rest); is = refl; left = omega arith }) (record { part = (Long (x - 1) (y + 256 * z), rest); is = refl; left = omega arith }))))
+operand_enough ShiftCount opcode byte x y z rest = record { part = (Count x, y ∷ z ∷ rest); is = refl; left = omega arith }
+operand_enough Distance11 opcode byte x y z rest = record { part = (Disp (distance11 (256 * (opcode % 8) + x)), y ∷ z ∷ rest); is = refl; left = omega arith }
+operand_enough Distance8 opcode byte x y z rest = record { part = (Disp (cast_signed w8 x), y ∷ z ∷ rest); is = refl; left = omega arith }
+operand_enough Distance16 opcode byte x y z rest = record { part = (Disp (cast_signed w16 (x + 256 * y)), z ∷ rest); is = refl; left = omega arith }
+operand_enough OneByte opcode byte x y z rest = record { part = (Imm x, y ∷ z ∷ rest); is = refl; left = omega arith }
+
+operand_got : (form : Form) (opcode : ℕ) (byte : Bool) (bytes : List ℕ) → 3 ≤ length bytes → Got (operand_at form opcode byte bytes) bytes 3
+operand_got form opcode byte [] h = absurd (omega arith)
+operand_got form opcode byte (x ∷ []) h = absurd (omega arith)
+operand_got form opcode byte (x ∷ y ∷ []) h = absurd (omega arith)
+operand_got form opcode byte (x ∷ y ∷ z ∷ rest) h = operand_enough form opcode byte x y z rest
+
+abbrev GotRegs : ℕ → Type 0
+GotRegs k = (bytes : List ℕ) → k ≤ length bytes → Got (regs_at k bytes) bytes k
+
+got_0 : GotRegs 0
+unfolding regs_at
+got_0 bytes h = record { part = (0 ∷ 0 ∷ 0 ∷ [], bytes); is = refl; left = omega arith }
+
+got_1 : GotRegs 1
+unfolding regs_at
+got_1 [] h = absurd (omega arith)
+got_1 (x ∷ rest) h = record { part = (x ∷ 0 ∷ 0 ∷ [], rest); is = refl; left = omega arith }
+
+got_2 : GotRegs 2
+unfolding regs_at
+got_2 [] h = absurd (omega arith)
+got_2 (x ∷ []) h = absurd (omega arith)
+got_2 (x ∷ y ∷ rest) h = record { part = (x ∷ y ∷ 0 ∷ [], rest); is = refl; left = omega arith }
+
+got_3 : GotRegs 3
+unfolding regs_at
+got_3 [] h = absurd (omega arith)
+got_3 (x ∷ []) h = absurd (omega arith)
+got_3 (x ∷ y ∷ []) h = absurd (omega arith)
+got_3 (x ∷ y ∷ z ∷ rest) h = record { part = (x ∷ y ∷ z ∷ [], rest); is = refl; left = omega arith }
+
+abbrev layout_with : ℕ → Form → ℕ → Layout
+layout_with before form after = record { before = before; form = form; after = after }
+
+-- some instruction is read in the layout
+abbrev LaidSome : Layout → Type 0
+LaidSome l = (byte : Bool) (opcode : ℕ) (signed : Bool) (bytes : List ℕ) → 6 ≤ length bytes → (p : Insn × List ℕ) × (laid_at l byte opcode signed bytes ≡ Some p)
+
+laid_some : (before : ℕ) (form : Form) (after : ℕ) → before + after ≤ 3 → GotRegs before → GotRegs after → LaidSome (layout_with before form after)
+unfolding laid_at
+laid_some before form after few gets_front gets_back byte opcode signed bytes h =
+    let front = gets_front bytes (omega arith) in
+    let front_left : length bytes ≤ length front.part.1 + before = front.left in
+    let operand = operand_got form opcode byte front.part.1 (omega arith) in
+    let operand_left : length front.part.1 ≤ length operand.part.1 + 3 = operand.left in
+    let back = gets_back operand.part.1 (omega arith) in
+    (_, ap (λ o. o >>= after_front) front.is ∙ ap (λ o. o >>= after_operand front.part) operand.is ∙ ap (λ o. o >>= after_back front.part operand.part) back.is)
+  where
+    after_back : List ℕ × List ℕ → Operand × List ℕ → List ℕ × List ℕ → Option (Insn × List ℕ)
+    after_back f o b = Some (record { opcode = base_opcode form opcode; signed = signed; operand = o.0; regs = joined before f.0 b.0 }, b.1)
+
+    after_operand : List ℕ × List ℕ → Operand × List ℕ → Option (Insn × List ℕ)
+    after_operand f o = regs_at after o.1 >>= after_back f o
+
+    after_front : List ℕ × List ℕ → Option (Insn × List ℕ)
+    after_front f = operand_at form opcode byte f.1 >>= after_operand f
+
+shape_some : (s : Shape) → LaidSome (layout_of s)
+shape_some Nothing = laid_some 0 NoOperand 0 (lit≤ tt) got_0 got_0
+shape_some One = laid_some 0 NoOperand 1 (lit≤ tt) got_0 got_1
+shape_some Two = laid_some 0 NoOperand 2 (lit≤ tt) got_0 got_2
+shape_some Four = laid_some 0 Mode 0 (lit≤ tt) got_0 got_0
+shape_some FourOne = laid_some 0 Mode 1 (lit≤ tt) got_0 got_1
+shape_some FourTwo = laid_some 0 Mode 2 (lit≤ tt) got_0 got_2
+shape_some Exchange = laid_some 0 Mode 1 (lit≤ tt) got_0 got_1
+shape_some CountOne = laid_some 0 ShiftCount 1 (lit≤ tt) got_0 got_1
+shape_some Near = laid_some 0 Distance11 0 (lit≤ tt) got_0 got_0
+shape_some Conditional = laid_some 0 Distance8 0 (lit≤ tt) got_0 got_0
+shape_some BitTest = laid_some 1 Distance8 0 (lit≤ tt) got_1 got_0
+shape_some Loop = laid_some 1 Distance8 0 (lit≤ tt) got_1 got_0
+shape_some TableJump = laid_some 0 NoOperand 3 (lit≤ tt) got_0 got_3
+shape_some Far = laid_some 0 Distance16 0 (lit≤ tt) got_0 got_0
+shape_some Key = laid_some 0 OneByte 0 (lit≤ tt) got_0 got_0
