@@ -1,5 +1,5 @@
 -- Which bytes are the front of an instruction, and that nothing behind one matters.
-use Rattle.std.proofs.Common.{◌≡◌, ◌≢◌, ℕ, zero, suc, ◌+◌, ◌-◌, ◌*◌, ◌%◌, ◌<◌, ◌≤◌, Bool, true, false, List, [], ◌∷◌, ◌++◌, Option, Some, None, refl, sym, ◌∙◌, ap, subst, arith, ◌⊎◌, inl, inr, length, take, drop, append_assoc, length-append, lit≤}
+use Rattle.std.proofs.Common.{◌≡◌, ◌≢◌, ℕ, zero, suc, ◌+◌, ◌-◌, ◌*◌, ◌%◌, ◌<◌, ◌≤◌, Bool, true, false, List, [], ◌∷◌, ◌++◌, Option, Some, None, refl, sym, ◌∙◌, ap, subst, arith, ◌⊎◌, inl, inr, length, take, drop, append_assoc, length-append, lit≤, lit<}
 use Rattle.std.specs.Prelude.{◌==◌, nat_lt, if◌then◌else◌, ◌&&◌, ◌||◌, not}
 use Rattle.std.specs.Int.{w8, w16, cast_signed}
 use Rattle.std.proofs.lemmas.List.{append-nil, length-take-le, length-drop}
@@ -260,3 +260,137 @@ shape_some Loop = laid_some 1 Distance8 0 (lit≤ tt) got_1 got_0
 shape_some TableJump = laid_some 0 NoOperand 3 (lit≤ tt) got_0 got_3
 shape_some Far = laid_some 0 Distance16 0 (lit≤ tt) got_0 got_0
 shape_some Key = laid_some 0 OneByte 0 (lit≤ tt) got_0 got_0
+
+-- proper fronts
+
+-- one of two beginnings of a list goes on with the other
+compared : (a b c d : List ℕ) → a ++ b ≡ c ++ d → ((r : List ℕ) × (a ≡ c ++ r)) ⊎ ((x : ℕ) × ((r : List ℕ) × ((c ≡ a ++ (x ∷ r)) × (b ≡ (x ∷ r) ++ d))))
+compared a b [] d h = inl (a, refl)
+compared [] b (x ∷ c) d h = inr (x, (c, (refl, h)))
+compared (y ∷ a) b (x ∷ c) d h = go (compared a b c d tails)
+  where
+    heads : y ≡ x
+    heads = cc h
+
+    tails : a ++ b ≡ c ++ d
+    tails = cc h
+
+    go : ((r : List ℕ) × (a ≡ c ++ r)) ⊎ ((z : ℕ) × ((r : List ℕ) × ((c ≡ a ++ (z ∷ r)) × (b ≡ (z ∷ r) ++ d))))
+        → ((r : List ℕ) × ((y ∷ a) ≡ (x ∷ c) ++ r)) ⊎ ((z : ℕ) × ((r : List ℕ) × (((x ∷ c) ≡ (y ∷ a) ++ (z ∷ r)) × (b ≡ (z ∷ r) ++ d))))
+    go (inl p) = let e = p.1 in inl (p.0, cc)
+    go (inr p) = let e = p.1.1.0 in inr (p.0, (p.1.0, (cc, p.1.1.1)))
+
+bytes_front : (a b : List ℕ) → IsBytes (a ++ b) → IsBytes a
+bytes_front [] b h = tt
+bytes_front (x ∷ a) b h = (h.0, bytes_front a b h.1)
+
+bytes_joined : (a b : List ℕ) → IsBytes a → IsBytes b → IsBytes (a ++ b)
+bytes_joined [] b g h = h
+bytes_joined (x ∷ a) b g h = (g.0, bytes_joined a b g.1 h)
+
+zeros : List ℕ
+zeros = 0 ∷ 0 ∷ 0 ∷ 0 ∷ 0 ∷ 0 ∷ []
+
+zeros_bytes : IsBytes zeros
+unfolding zeros
+zeros_bytes = (lit< tt, (lit< tt, (lit< tt, (lit< tt, (lit< tt, (lit< tt, tt))))))
+
+zeros_count : length zeros ≡ 6
+unfolding zeros
+zeros_count = refl
+
+-- with six zeros behind it a row's instruction is whole
+filled_front : (bytes : List ℕ) (opcode : ℕ) (signed : Bool) (row : Shown) (rest : List ℕ) → IsBytes bytes → decode_of bytes ≡ Cut
+    → decode_of (bytes ++ zeros) ≡ finished (bytes ++ zeros) (body_at opcode signed row (rest ++ zeros)) → IsProperFront bytes
+filled_front bytes opcode signed row rest b cut h =
+    let enough : 6 ≤ length (rest ++ zeros) = omega (arith, length-append rest zeros, zeros_count) in
+    let p = shape_some row.shape (is_byte row.width) opcode signed (rest ++ zeros) enough in
+    from p.0.0 (length (bytes ++ zeros) - length p.0.1) (h ∙ ap (finished (bytes ++ zeros)) p.1)
+  where
+    from : (i : Insn) (n : ℕ) → decode_of (bytes ++ zeros) ≡ Whole i n → IsProperFront bytes
+    from i n e = go (compared bytes zeros (spelling i) r.rest r.whole)
+      where
+        r : Read (bytes ++ zeros) i n
+        r = read_is (bytes ++ zeros) i n (bytes_joined bytes zeros b zeros_bytes) e
+
+        go : ((t : List ℕ) × (bytes ≡ spelling i ++ t)) ⊎ ((x : ℕ) × ((t : List ℕ) × ((spelling i ≡ bytes ++ (x ∷ t)) × (zeros ≡ (x ∷ t) ++ r.rest)))) → IsProperFront bytes
+        go (inl q) = absurd (cc (cut, ap decode_of q.1 ∙ spelled_again i q.0 r.has r.formed r.in_range))
+        go (inr q) = record {
+          insn = i;
+          next = q.0;
+          rest = q.1.0;
+          are_bytes = bytes_front (q.0 ∷ q.1.0) r.rest (subst (λ (t : List ℕ). IsBytes t) q.1.1.1 zeros_bytes);
+          whole = ap decode_of (sym q.1.1.0 ∙ sym (append-nil (spelling i))) ∙ spelled_again i [] r.has r.formed r.in_range ∙ ap (λ t. Whole i (length t)) q.1.1.0;
+        }
+
+test_true : (a b : ℕ) → (a == b) ≡ true → a ≡ b
+test_true a b h = grind (arith, common_steps)
+
+nothing_is_front : IsProperFront []
+unfolding row_at plain_entry laid_at regs_at operand_at
+nothing_is_front = record {
+  insn = record { opcode = 0xFD; signed = false; operand = Absent; regs = 0 ∷ 0 ∷ 0 ∷ [] };
+  next = 0xFD;
+  rest = [];
+  are_bytes = (lit< tt, tt);
+  whole = refl;
+}
+
+prefix_is_front : IsProperFront (0xFE ∷ [])
+unfolding row_at laid_at regs_at operand_at mode_at
+prefix_is_front = record {
+  insn = record { opcode = 0x4C; signed = true; operand = Reg 0; regs = 0 ∷ 0 ∷ 0 ∷ [] };
+  next = 0x4C;
+  rest = 0 ∷ 0 ∷ 0 ∷ [];
+  are_bytes = (lit< tt, (lit< tt, (lit< tt, (lit< tt, tt))));
+  whole = refl;
+}
+
+decode_behind : (x y : ℕ) (ys : List ℕ) → (x == 0xFE) ≡ true → decode_of (x ∷ y ∷ ys) ≡ with_row (x ∷ y ∷ ys) y true (row_at y true) ys
+decode_behind x y ys e = ap (λ (t : Bool). if t then behind_prefix (x ∷ y ∷ ys) (y ∷ ys) else with_row (x ∷ y ∷ ys) x false (row_at x false) (y ∷ ys)) e
+
+decode_plain : (x : ℕ) (xs : List ℕ) → (x == 0xFE) ≡ false → decode_of (x ∷ xs) ≡ with_row (x ∷ xs) x false (row_at x false) xs
+decode_plain x xs e = ap (λ (t : Bool). if t then behind_prefix (x ∷ xs) xs else with_row (x ∷ xs) x false (row_at x false) xs) e
+
+no_row_is_whole : (opcode : ℕ) (signed : Bool) → no_row opcode signed ≡ Cut → ⊥
+no_row_is_whole opcode true h = cc h
+no_row_is_whole opcode false h = at_test (opcode == 0xEE) h
+  where
+    at_test : (t : Bool) → (if t then Undefined else Unimplemented) ≡ Cut → ⊥
+    at_test true e = cc e
+    at_test false e = cc e
+
+pub cut_is_front : (bytes : List ℕ) → IsBytes bytes → decode_of bytes ≡ Cut → IsProperFront bytes
+cut_is_front [] b h = nothing_is_front
+cut_is_front (x ∷ xs) b h = at_test (x == 0xFE) refl
+  where
+    behind : (ys : List ℕ) → xs ≡ ys → (x == 0xFE) ≡ true → IsProperFront (x ∷ xs)
+    behind [] e t = subst (λ (l : List ℕ). IsProperFront l) (sym (ap (λ k. k ∷ xs) (test_true x 0xFE t) ∙ ap (λ l. 0xFE ∷ l) e)) prefix_is_front
+    behind (y ∷ ys) e t = at_row (row_at y true) refl
+      where
+        at_row : (o : Option Shown) → row_at y true ≡ o → IsProperFront (x ∷ xs)
+        at_row None r = absurd (no_row_is_whole y true (sym (ap (λ l. decode_of (x ∷ l)) e ∙ decode_behind x y ys t ∙ ap (λ o. with_row (x ∷ y ∷ ys) y true o ys) r) ∙ h))
+        at_row (Some row) r = filled_front (x ∷ xs) y true row ys b h
+            (ap (λ l. decode_of (x ∷ (l ++ zeros))) e ∙ decode_behind x y (ys ++ zeros) t ∙ ap (λ o. with_row (x ∷ y ∷ (ys ++ zeros)) y true o (ys ++ zeros)) r
+            ∙ ap (λ l. finished (x ∷ (l ++ zeros)) (body_at y true row (ys ++ zeros))) (sym e))
+
+    at_test : (t : Bool) → (x == 0xFE) ≡ t → IsProperFront (x ∷ xs)
+    at_test true t = behind xs refl t
+    at_test false t = at_row (row_at x false) refl
+      where
+        at_row : (o : Option Shown) → row_at x false ≡ o → IsProperFront (x ∷ xs)
+        at_row None r = absurd (no_row_is_whole x false (sym (decode_plain x xs t ∙ ap (λ o. with_row (x ∷ xs) x false o xs) r) ∙ h))
+        at_row (Some row) r = filled_front (x ∷ xs) x false row xs b h (decode_plain x (xs ++ zeros) t ∙ ap (λ o. with_row (x ∷ (xs ++ zeros)) x false o (xs ++ zeros)) r)
+
+pub front_is_cut : (bytes : List ℕ) → IsBytes bytes → IsProperFront bytes → decode_of bytes ≡ Cut
+front_is_cut bytes b f = at_answer (decode_of bytes) refl
+  where
+    at_answer : (d : Decoded) → decode_of bytes ≡ d → d ≡ Cut
+    at_answer (Whole i n) h =
+        let within : n ≤ length bytes = (in_front bytes i n b h).within in
+        let both : Whole i n ≡ Whole f.insn (length (bytes ++ (f.next ∷ f.rest))) = sym (whole_again bytes (f.next ∷ f.rest) i n b h) ∙ f.whole in
+        let count : n ≡ length (bytes ++ (f.next ∷ f.rest)) = cc both in
+        absurd (omega (arith, length-append bytes (f.next ∷ f.rest)))
+    at_answer Unimplemented h = absurd (cc (bare_again bytes (f.next ∷ f.rest) Unimplemented (inl refl) h, f.whole))
+    at_answer Undefined h = absurd (cc (bare_again bytes (f.next ∷ f.rest) Undefined (inr refl) h, f.whole))
+    at_answer Cut h = refl
