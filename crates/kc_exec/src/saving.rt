@@ -2,7 +2,7 @@ ghost use Rattle.std.specs.Prelude.{◌≡◌, ◌+◌, ◌≤◌};
 ghost use Rattle.kc_effect.specs.Effect.{Gives, run};
 ghost use Rattle.kc_effect.specs.Saving.{push_status, pop_status, push_all, pop_all, save};
 
-use crate::parts::{pop_word, push_word};
+use kc_access::{pop_word, push_word};
 use kc_base::Kind;
 use kc_bus::{Bus, Masks};
 use kc_effect::Saving;

@@ -35,7 +35,7 @@ fn bits_of(size: Size) -> u8
 
 /// The result of an operation, and the flags.
 #[tactic(auto, unfolding(kc_effect::specs::Operations::computed, kc_effect::specs::Operations::computed_flags))]
-pub(crate) fn combine(op: Operation, byte: bool, a: u16, s: u16, flags: Flags) -> (u16, Flags)
+pub fn combine(op: Operation, byte: bool, a: u16, s: u16, flags: Flags) -> (u16, Flags)
     requires a { a < limit byte }
     requires s { s < limit byte }
     ensures value { result.0 ≡ computed op (half_of (width byte)) a s flags }
@@ -54,7 +54,7 @@ pub(crate) fn combine(op: Operation, byte: bool, a: u16, s: u16, flags: Flags) -
 
 /// A changed number, and the flags.
 #[tactic(auto, unfolding(kc_effect::specs::Operations::altered, kc_effect::specs::Operations::altered_flags))]
-pub(crate) fn change(how: Alteration, byte: bool, n: u16, flags: Flags) -> (u16, Flags)
+pub fn change(how: Alteration, byte: bool, n: u16, flags: Flags) -> (u16, Flags)
     requires { n < limit byte }
     ensures value { result.0 ≡ altered how (half_of (width byte)) n flags }
     ensures flags { result.1 ≡ altered_flags how (half_of (width byte)) n flags }
@@ -145,7 +145,7 @@ fn xor(byte: bool, a: u16, s: u16) -> u16
 }
 
 /// The sign of a number over twice its width, and the flags.
-pub(crate) fn spread_low(byte: bool, low: u16, flags: Flags) -> (u32, Flags)
+pub fn spread_low(byte: bool, low: u16, flags: Flags) -> (u32, Flags)
     requires { low < limit byte }
     ensures value { result.0 ≡ spread (half_of (width byte)) low }
     ensures flags { result.1 ≡ logic_flags (long_half (half_of (width byte))) (spread (half_of (width byte)) low) flags }
@@ -155,7 +155,7 @@ pub(crate) fn spread_low(byte: bool, low: u16, flags: Flags) -> (u32, Flags)
 }
 
 /// A number shifted by a count, and the flags.
-pub(crate) fn shift_number(how: Shift, size: Size, n: u32, count: u8, flags: Flags) -> (u32, Flags)
+pub fn shift_number(how: Shift, size: Size, n: u32, count: u8, flags: Flags) -> (u32, Flags)
     requires n { n < sized_limit size }
     requires count { count ≤ 31 }
     ensures value { result.0 ≡ shifted how (half_of (bits size)) n (2 ^ count) }
@@ -167,7 +167,7 @@ pub(crate) fn shift_number(how: Shift, size: Size, n: u32, count: u8, flags: Fla
 
 /// The product of two numbers, of twice their width.
 #[tactic(auto, using(crate::proofs::Bounds::product_bound))]
-pub(crate) fn times(with_sign: bool, byte: bool, a: u16, b: u16) -> u32
+pub fn times(with_sign: bool, byte: bool, a: u16, b: u16) -> u32
     requires a { a < limit byte }
     requires b { b < limit byte }
     ensures value { result ≡ product (half_of (width byte)) with_sign a b }
@@ -177,7 +177,7 @@ pub(crate) fn times(with_sign: bool, byte: bool, a: u16, b: u16) -> u32
 }
 
 /// A number of twice the width by one of the width; quotient and remainder, and the flags.
-pub(crate) fn share(
+pub fn share(
     with_sign: bool,
     byte: bool,
     n: u32,
@@ -194,7 +194,7 @@ pub(crate) fn share(
 
 /// The flags of a long number less another.
 #[tactic(auto, unfolding(kc_alu::specs::Width::half_of))]
-pub(crate) fn compare_longs(n: u32, s: u32, flags: Flags) -> Flags
+pub fn compare_longs(n: u32, s: u32, flags: Flags) -> Flags
     ensures { result ≡ difference_flags (half_of 32) n s (borrow_in false flags) false flags }
 {
     let (_, flags) = sub(32, n, s, false, flags);

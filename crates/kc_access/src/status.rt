@@ -19,9 +19,9 @@ fn weigh(weight: u8, set: bool) -> u8
     if set { weight } else { 0 }
 }
 
-/// The flags in the high byte of the PSW.
+/// The flags in the high byte of the PSW (80C196KC User's Manual, "Program Status Word").
 #[tactic(auto, unfolding(kc_effect::specs::Status::flags_of))]
-pub(crate) fn unpack(psw: u8) -> Flags
+pub fn unpack(psw: u8) -> Flags
     ensures { result ≡ flags_of psw }
 {
     Flags {
@@ -36,7 +36,7 @@ pub(crate) fn unpack(psw: u8) -> Flags
 
 /// The high byte of the PSW with these flags.
 #[tactic(auto, unfolding(kc_effect::specs::Status::with_flags))]
-pub(crate) fn pack(psw: u8, flags: Flags) -> u8
+pub fn pack(psw: u8, flags: Flags) -> u8
     ensures { result ≡ with_flags psw flags }
 {
     weigh(128, flags.z)
@@ -49,7 +49,7 @@ pub(crate) fn pack(psw: u8, flags: Flags) -> u8
 }
 
 /// The high byte of the PSW with one bit set.
-pub(crate) fn set_bit(setting: Setting, psw: u8) -> u8
+pub fn set_bit(setting: Setting, psw: u8) -> u8
     ensures { result ≡ setting_psw setting psw }
 {
     match setting {
@@ -62,7 +62,7 @@ pub(crate) fn set_bit(setting: Setting, psw: u8) -> u8
 }
 
 /// What follows the setting of a bit.
-pub(crate) fn follow(setting: Setting) -> After
+pub fn follow(setting: Setting) -> After
     ensures { result ≡ setting_after setting }
 {
     match setting {

@@ -6,8 +6,9 @@ use kc_base::Kind;
 use kc_bus::{Bus, Master, window};
 use kc_effect::Size;
 
+/// Reads a byte or a word at an address, which no window moves. Refused as the bus refuses it.
 #[tactic(auto, using(kc_effect::proofs::Running::run_bind), unfolding(kc_effect::specs::Parts::read_at))]
-pub(crate) fn read<B: Bus>(bus: &mut B, byte: bool, addr: u16) -> Result<u16, Kind>
+pub fn read_at<B: Bus>(bus: &mut B, byte: bool, addr: u16) -> Result<u16, Kind>
     ensures gives { Gives (λ x. x) result (B.held bus.new) (run B.meaning (read_at byte addr) (B.held bus.old)) }
     ensures spent { B.spent bus.new + B.allowed (B.held bus.old) ≤ B.spent bus.old + B.allowed (B.held bus.new) }
     ensures same { B.lent bus.new ≡ B.lent bus.old }
@@ -20,8 +21,10 @@ pub(crate) fn read<B: Bus>(bus: &mut B, byte: bool, addr: u16) -> Result<u16, Ki
     }
 }
 
+/// Writes a byte (the low one of the value) or a word at an address, which no window moves. Refused as the bus
+/// refuses it.
 #[tactic(auto, using(kc_effect::proofs::Running::run_bind), unfolding(kc_effect::specs::Parts::write_at))]
-pub(crate) fn write<B: Bus>(bus: &mut B, byte: bool, addr: u16, value: u16) -> Result<(), Kind>
+pub fn write_at<B: Bus>(bus: &mut B, byte: bool, addr: u16, value: u16) -> Result<(), Kind>
     ensures gives { Gives (λ x. x) result (B.held bus.new) (run B.meaning (write_at byte addr value) (B.held bus.old)) }
     ensures spent { B.spent bus.new + B.allowed (B.held bus.old) ≤ B.spent bus.old + B.allowed (B.held bus.new) }
     ensures same { B.lent bus.new ≡ B.lent bus.old }
@@ -33,19 +36,21 @@ pub(crate) fn write<B: Bus>(bus: &mut B, byte: bool, addr: u16, value: u16) -> R
     }
 }
 
+/// Reads a register byte or word of an instruction, in the window of a value of WSR.
 #[tactic(auto, using(kc_effect::proofs::Running::run_bind), unfolding(kc_effect::specs::Parts::read_register))]
-pub(crate) fn read_from<B: Bus>(bus: &mut B, byte: bool, wsr: u8, register: u8) -> Result<u16, Kind>
+pub fn read_register<B: Bus>(bus: &mut B, byte: bool, wsr: u8, register: u8) -> Result<u16, Kind>
     ensures gives { Gives (λ x. x) result (B.held bus.new) (run B.meaning (read_register byte wsr register) (B.held bus.old)) }
     ensures spent { B.spent bus.new + B.allowed (B.held bus.old) ≤ B.spent bus.old + B.allowed (B.held bus.new) }
     ensures same { B.lent bus.new ≡ B.lent bus.old }
     ensures bound { IfOk result (λ n. n < limit byte) }
 {
     let addr = window(wsr, register)?;
-    read(bus, byte, addr)
+    read_at(bus, byte, addr)
 }
 
+/// Writes a register byte or word of an instruction, in the window of a value of WSR.
 #[tactic(auto, using(kc_effect::proofs::Running::run_bind), unfolding(kc_effect::specs::Parts::write_register))]
-pub(crate) fn write_to<B: Bus>(
+pub fn write_register<B: Bus>(
     bus: &mut B,
     byte: bool,
     wsr: u8,
@@ -57,9 +62,10 @@ pub(crate) fn write_to<B: Bus>(
     ensures same { B.lent bus.new ≡ B.lent bus.old }
 {
     let addr = window(wsr, register)?;
-    write(bus, byte, addr, value)
+    write_at(bus, byte, addr, value)
 }
 
+// The address of a long register.
 #[tactic(auto, using(kc_effect::proofs::Running::run_bind), unfolding(kc_effect::specs::Parts::long_place))]
 fn place_of_long<B: Bus>(bus: &mut B, wsr: u8, register: u8) -> Result<u16, Kind>
     ensures gives { Gives (λ x. x) result (B.held bus.new) (run B.meaning (long_place wsr register) (B.held bus.old)) }
@@ -75,62 +81,58 @@ fn place_of_long<B: Bus>(bus: &mut B, wsr: u8, register: u8) -> Result<u16, Kind
     }
 }
 
+/// Reads a long register, low word first. Refused as `LongAlign` before any access where it does not stand at a
+/// multiple of 4.
 #[tactic(auto, using(kc_effect::proofs::Running::run_bind), unfolding(kc_effect::specs::Parts::read_long))]
-pub(crate) fn read_long_from<B: Bus>(bus: &mut B, wsr: u8, register: u8) -> Result<u32, Kind>
+pub fn read_long<B: Bus>(bus: &mut B, wsr: u8, register: u8) -> Result<u32, Kind>
     ensures gives { Gives (λ x. x) result (B.held bus.new) (run B.meaning (read_long wsr register) (B.held bus.old)) }
     ensures spent { B.spent bus.new + B.allowed (B.held bus.old) ≤ B.spent bus.old + B.allowed (B.held bus.new) }
     ensures same { B.lent bus.new ≡ B.lent bus.old }
 {
     let addr = place_of_long(bus, wsr, register)?;
-    let low = read(bus, false, addr)?;
-    let high = read(bus, false, addr + 2)?;
+    let low = read_at(bus, false, addr)?;
+    let high = read_at(bus, false, addr + 2)?;
     Ok(u32::from(low) + 0x1_0000 * u32::from(high))
 }
 
+/// Writes a long register, low word first. Refused as `LongAlign` before any access where it does not stand at a
+/// multiple of 4.
 #[tactic(auto, using(kc_effect::proofs::Running::run_bind), unfolding(kc_effect::specs::Parts::write_long))]
-pub(crate) fn write_long_to<B: Bus>(
-    bus: &mut B,
-    wsr: u8,
-    register: u8,
-    value: u32,
-) -> Result<(), Kind>
+pub fn write_long<B: Bus>(bus: &mut B, wsr: u8, register: u8, value: u32) -> Result<(), Kind>
     ensures gives { Gives (λ x. x) result (B.held bus.new) (run B.meaning (write_long wsr register value) (B.held bus.old)) }
     ensures spent { B.spent bus.new + B.allowed (B.held bus.old) ≤ B.spent bus.old + B.allowed (B.held bus.new) }
     ensures same { B.lent bus.new ≡ B.lent bus.old }
 {
     let addr = place_of_long(bus, wsr, register)?;
-    write(bus, false, addr, (value % 0x1_0000) as u16)?;
-    write(bus, false, addr + 2, (value / 0x1_0000) as u16)
+    write_at(bus, false, addr, (value % 0x1_0000) as u16)?;
+    write_at(bus, false, addr + 2, (value / 0x1_0000) as u16)
 }
 
 /// The double of a width.
-pub(crate) fn double_of(byte: bool) -> Size
+pub fn double_of(byte: bool) -> Size
     ensures { result ≡ doubled byte }
 {
     if byte { Size::Word } else { Size::Long }
 }
 
+/// Reads a register of a size.
 #[tactic(auto, using(kc_effect::proofs::Running::run_bind), unfolding(kc_effect::specs::Parts::read_sized))]
-pub(crate) fn read_sized_from<B: Bus>(
-    bus: &mut B,
-    size: Size,
-    wsr: u8,
-    register: u8,
-) -> Result<u32, Kind>
+pub fn read_sized<B: Bus>(bus: &mut B, size: Size, wsr: u8, register: u8) -> Result<u32, Kind>
     ensures gives { Gives (λ x. x) result (B.held bus.new) (run B.meaning (read_sized size wsr register) (B.held bus.old)) }
     ensures spent { B.spent bus.new + B.allowed (B.held bus.old) ≤ B.spent bus.old + B.allowed (B.held bus.new) }
     ensures same { B.lent bus.new ≡ B.lent bus.old }
     ensures bound { IfOk result (λ n. n < sized_limit size) }
 {
     match size {
-        Size::Byte => Ok(u32::from(read_from(bus, true, wsr, register)?)),
-        Size::Word => Ok(u32::from(read_from(bus, false, wsr, register)?)),
-        Size::Long => read_long_from(bus, wsr, register),
+        Size::Byte => Ok(u32::from(read_register(bus, true, wsr, register)?)),
+        Size::Word => Ok(u32::from(read_register(bus, false, wsr, register)?)),
+        Size::Long => read_long(bus, wsr, register),
     }
 }
 
+/// Writes a register of a size.
 #[tactic(auto, using(kc_effect::proofs::Running::run_bind), unfolding(kc_effect::specs::Parts::write_sized))]
-pub(crate) fn write_sized_to<B: Bus>(
+pub fn write_sized<B: Bus>(
     bus: &mut B,
     size: Size,
     wsr: u8,
@@ -143,51 +145,48 @@ pub(crate) fn write_sized_to<B: Bus>(
     ensures same { B.lent bus.new ≡ B.lent bus.old }
 {
     match size {
-        Size::Byte => write_to(bus, true, wsr, register, value as u16),
-        Size::Word => write_to(bus, false, wsr, register, value as u16),
-        Size::Long => write_long_to(bus, wsr, register, value),
+        Size::Byte => write_register(bus, true, wsr, register, value as u16),
+        Size::Word => write_register(bus, false, wsr, register, value as u16),
+        Size::Long => write_long(bus, wsr, register, value),
     }
 }
 
-/// Reads the low half of a register of twice the width.
+/// Reads the low half of a register of twice the width; the alignment of a long one is asked first.
 #[tactic(auto, using(kc_effect::proofs::Running::run_bind), unfolding(kc_effect::specs::Parts::read_low_half))]
-pub(crate) fn read_low_half_of<B: Bus>(
-    bus: &mut B,
-    byte: bool,
-    wsr: u8,
-    register: u8,
-) -> Result<u16, Kind>
+pub fn read_low_half<B: Bus>(bus: &mut B, byte: bool, wsr: u8, register: u8) -> Result<u16, Kind>
     ensures gives { Gives (λ x. x) result (B.held bus.new) (run B.meaning (read_low_half byte wsr register) (B.held bus.old)) }
     ensures spent { B.spent bus.new + B.allowed (B.held bus.old) ≤ B.spent bus.old + B.allowed (B.held bus.new) }
     ensures same { B.lent bus.new ≡ B.lent bus.old }
     ensures bound { IfOk result (λ n. n < limit byte) }
 {
     if byte {
-        return read_from(bus, true, wsr, register);
+        return read_register(bus, true, wsr, register);
     }
     let addr = place_of_long(bus, wsr, register)?;
-    read(bus, false, addr)
+    read_at(bus, false, addr)
 }
 
+/// Pushes a word: SP less 2 is written, then the word is stored there.
 #[tactic(auto, using(kc_effect::proofs::Running::run_bind), unfolding(kc_effect::specs::Parts::push))]
-pub(crate) fn push_word<B: Bus>(bus: &mut B, value: u16) -> Result<(), Kind>
+pub fn push_word<B: Bus>(bus: &mut B, value: u16) -> Result<(), Kind>
     ensures gives { Gives (λ x. x) result (B.held bus.new) (run B.meaning (push value) (B.held bus.old)) }
     ensures spent { B.spent bus.new + B.allowed (B.held bus.old) ≤ B.spent bus.old + B.allowed (B.held bus.new) }
     ensures same { B.lent bus.new ≡ B.lent bus.old }
 {
-    let sp = read(bus, false, 0x18)?.wrapping_sub(2);
-    write(bus, false, 0x18, sp)?;
-    write(bus, false, sp, value)
+    let sp = read_at(bus, false, 0x18)?.wrapping_sub(2);
+    write_at(bus, false, 0x18, sp)?;
+    write_at(bus, false, sp, value)
 }
 
+/// Pops a word: it is read, then SP plus 2 is written.
 #[tactic(auto, using(kc_effect::proofs::Running::run_bind), unfolding(kc_effect::specs::Parts::pop))]
-pub(crate) fn pop_word<B: Bus>(bus: &mut B) -> Result<u16, Kind>
+pub fn pop_word<B: Bus>(bus: &mut B) -> Result<u16, Kind>
     ensures gives { Gives (λ x. x) result (B.held bus.new) (run B.meaning (pop) (B.held bus.old)) }
     ensures spent { B.spent bus.new + B.allowed (B.held bus.old) ≤ B.spent bus.old + B.allowed (B.held bus.new) }
     ensures same { B.lent bus.new ≡ B.lent bus.old }
 {
-    let sp = read(bus, false, 0x18)?;
-    let value = read(bus, false, sp)?;
-    write(bus, false, 0x18, sp.wrapping_add(2))?;
+    let sp = read_at(bus, false, 0x18)?;
+    let value = read_at(bus, false, sp)?;
+    write_at(bus, false, 0x18, sp.wrapping_add(2))?;
     Ok(value)
 }

@@ -3,7 +3,7 @@ ghost use Rattle.kc_effect.specs.Effect.{Gives, run};
 ghost use Rattle.kc_effect.specs.Parts.{limit};
 ghost use Rattle.kc_effect.specs.Operands.{size, at_offset, source, target};
 
-use crate::parts::{read, read_from, write_to};
+use crate::parts::{read_at, read_register, write_register};
 use kc_base::Kind;
 use kc_bus::{Bus, window};
 use kc_isa::Operand;
@@ -27,30 +27,26 @@ fn cut(byte: bool, value: u16) -> u16
     if byte { value % 0x100 } else { value }
 }
 
-/// Reads S.
+/// Reads S, a byte or a word: its pointer or base first, and an incremented pointer is written back after the read
+/// (80C196KC User's Manual, "Addressing Modes").
 #[tactic(auto, using(kc_effect::proofs::Running::run_bind), unfolding(kc_effect::specs::Operands::source))]
-pub(crate) fn read_source<B: Bus>(
-    bus: &mut B,
-    byte: bool,
-    wsr: u8,
-    operand: Operand,
-) -> Result<u16, Kind>
+pub fn read_source<B: Bus>(bus: &mut B, byte: bool, wsr: u8, operand: Operand) -> Result<u16, Kind>
     ensures gives { Gives (λ x. x) result (B.held bus.new) (run B.meaning (source byte wsr operand) (B.held bus.old)) }
     ensures spent { B.spent bus.new + B.allowed (B.held bus.old) ≤ B.spent bus.old + B.allowed (B.held bus.new) }
     ensures same { B.lent bus.new ≡ B.lent bus.old }
     ensures bound { IfOk result (λ n. n < limit byte) }
 {
     match operand {
-        Operand::Reg(register) => read_from(bus, byte, wsr, register),
+        Operand::Reg(register) => read_register(bus, byte, wsr, register),
         Operand::Imm(value) => Ok(cut(byte, value)),
         Operand::Indirect(register) => {
-            let pointer = read_from(bus, false, wsr, register)?;
-            read(bus, byte, pointer)
+            let pointer = read_register(bus, false, wsr, register)?;
+            read_at(bus, byte, pointer)
         }
         Operand::Increment(register) => {
-            let pointer = read_from(bus, false, wsr, register)?;
-            let value = read(bus, byte, pointer)?;
-            write_to(
+            let pointer = read_register(bus, false, wsr, register)?;
+            let value = read_at(bus, byte, pointer)?;
+            write_register(
                 bus,
                 false,
                 wsr,
@@ -60,35 +56,31 @@ pub(crate) fn read_source<B: Bus>(
             Ok(value)
         }
         Operand::Short { base, offset } => {
-            let pointer = read_from(bus, false, wsr, base)?;
-            read(bus, byte, moved(pointer, i16::from(offset).cast_unsigned()))
+            let pointer = read_register(bus, false, wsr, base)?;
+            read_at(bus, byte, moved(pointer, i16::from(offset).cast_unsigned()))
         }
         Operand::Long { base, offset } => {
-            let pointer = read_from(bus, false, wsr, base)?;
-            read(bus, byte, moved(pointer, offset))
+            let pointer = read_register(bus, false, wsr, base)?;
+            read_at(bus, byte, moved(pointer, offset))
         }
         Operand::Absent | Operand::Count(_) | Operand::Disp(_) => Ok(0),
     }
 }
 
-/// Finds the address of S.
+/// Finds the address of S: its pointer or base is read, and an incremented pointer written back (80C196KC User's
+/// Manual, "Addressing Modes").
 #[tactic(auto, using(kc_effect::proofs::Running::run_bind), unfolding(kc_effect::specs::Operands::target))]
-pub(crate) fn find_target<B: Bus>(
-    bus: &mut B,
-    byte: bool,
-    wsr: u8,
-    operand: Operand,
-) -> Result<u16, Kind>
+pub fn find_target<B: Bus>(bus: &mut B, byte: bool, wsr: u8, operand: Operand) -> Result<u16, Kind>
     ensures gives { Gives (λ x. x) result (B.held bus.new) (run B.meaning (target byte wsr operand) (B.held bus.old)) }
     ensures spent { B.spent bus.new + B.allowed (B.held bus.old) ≤ B.spent bus.old + B.allowed (B.held bus.new) }
     ensures same { B.lent bus.new ≡ B.lent bus.old }
 {
     match operand {
         Operand::Reg(register) => window(wsr, register),
-        Operand::Indirect(register) => read_from(bus, false, wsr, register),
+        Operand::Indirect(register) => read_register(bus, false, wsr, register),
         Operand::Increment(register) => {
-            let pointer = read_from(bus, false, wsr, register)?;
-            write_to(
+            let pointer = read_register(bus, false, wsr, register)?;
+            write_register(
                 bus,
                 false,
                 wsr,
@@ -98,11 +90,11 @@ pub(crate) fn find_target<B: Bus>(
             Ok(pointer)
         }
         Operand::Short { base, offset } => {
-            let pointer = read_from(bus, false, wsr, base)?;
+            let pointer = read_register(bus, false, wsr, base)?;
             Ok(moved(pointer, i16::from(offset).cast_unsigned()))
         }
         Operand::Long { base, offset } => {
-            let pointer = read_from(bus, false, wsr, base)?;
+            let pointer = read_register(bus, false, wsr, base)?;
             Ok(moved(pointer, offset))
         }
         Operand::Absent | Operand::Imm(_) | Operand::Count(_) | Operand::Disp(_) => Ok(0),
