@@ -1,5 +1,5 @@
 -- Which bytes are the front of an instruction, and that nothing behind one matters.
-use Rattle.std.proofs.Common.{◌≡◌, ◌≢◌, ℕ, zero, suc, ◌+◌, ◌-◌, ◌*◌, ◌%◌, ◌<◌, ◌≤◌, Bool, true, false, List, [], ◌∷◌, ◌++◌, Option, Some, None, refl, sym, ◌∙◌, ap, subst, arith, ◌⊎◌, inl, inr, length, take, drop, append_assoc, length-append, lit≤, lit<}
+use Rattle.std.proofs.Common.{◌≡◌, ◌≢◌, ℕ, zero, suc, ◌+◌, ◌-◌, ◌*◌, ◌%◌, ◌<◌, ◌≤◌, Bool, true, false, List, [], ◌∷◌, ◌++◌, Option, Some, None, refl, sym, ◌∙◌, ap, subst, arith, ◌⊎◌, inl, inr, length, take, drop, append_assoc, length-append, lit≤, lit<, ◌↔◌}
 use Rattle.std.specs.Prelude.{◌==◌, nat_lt, if◌then◌else◌, ◌&&◌, ◌||◌, not}
 use Rattle.std.specs.Int.{w8, w16, cast_signed}
 use Rattle.std.proofs.lemmas.List.{append-nil, length-take-le, length-drop}
@@ -178,7 +178,7 @@ operand_enough NoOperand opcode byte x y z rest = record { part = (Absent, x ∷
 operand_enough Mode opcode byte x y z rest =
     either (opcode % 4 == 0) _ _ _ 3 (record { part = (Reg x, y ∷ z ∷ rest); is = refl; left = omega arith })
     (either (opcode % 4 == 1) _ _ _ 3
-        (either byte _ _ _ 3 (record { part = (Imm x, y ∷ z ∷ rest); is = refl; left = omega arith }) (record { part = (Imm (x + 256 * y), z ∷ rest); is = refl; left = omega arith }))
+    (either byte _ _ _ 3 (record { part = (Imm x, y ∷ z ∷ rest); is = refl; left = omega arith }) (record { part = (Imm (x + 256 * y), z ∷ rest); is = refl; left = omega arith }))
     (either (opcode % 4 == 2) _ _ _ 3 (record { part = ((if is_even x then Indirect x else Increment (x - 1)), y ∷ z ∷ rest); is = refl; left = omega arith })
     (either (is_even x) _ _ _ 3 (record { part = (Short x (cast_signed w8 y), z ∷ rest); is = refl; left = omega arith }) (record { part = (Long (x - 1) (y + 256 * z), rest); is = refl; left = omega arith }))))
 operand_enough ShiftCount opcode byte x y z rest = record { part = (Count x, y ∷ z ∷ rest); is = refl; left = omega arith }
@@ -394,3 +394,95 @@ front_is_cut bytes b f = at_answer (decode_of bytes) refl
     at_answer Unimplemented h = absurd (cc (bare_again bytes (f.next ∷ f.rest) Unimplemented (inl refl) h, f.whole))
     at_answer Undefined h = absurd (cc (bare_again bytes (f.next ∷ f.rest) Undefined (inr refl) h, f.whole))
     at_answer Cut h = refl
+
+-- opcodes without a row
+
+says_undefined : Decoded → Bool
+says_undefined Undefined = true
+says_undefined _ = false
+
+says_unimplemented : Decoded → Bool
+says_unimplemented Unimplemented = true
+says_unimplemented _ = false
+
+finished_says_no : (bytes : List ℕ) (q : Option (Insn × List ℕ)) → (says_undefined (finished bytes q) ≡ false) × (says_unimplemented (finished bytes q) ≡ false)
+unfolding says_undefined says_unimplemented
+finished_says_no bytes None = (refl, refl)
+finished_says_no bytes (Some p) = (refl, refl)
+
+other_has_none : (row : Shown) → row_at 0xEE false ≡ Some row → ⊥
+unfolding row_at plain_entry
+other_has_none row h = cc h
+
+row_says : (bytes : List ℕ) (opcode : ℕ) (rest : List ℕ) (o : Option Shown) → row_at opcode false ≡ o
+    → (says_undefined (with_row bytes opcode false o rest) ≡ (opcode == 0xEE)) × (says_unimplemented (with_row bytes opcode false o rest) ≡ (not (opcode == 0xEE) && is_gap o))
+unfolding says_undefined says_unimplemented
+row_says bytes opcode rest None r = at_test (opcode == 0xEE)
+  where
+    at_test : (t : Bool) → (says_undefined (if t then Undefined else Unimplemented) ≡ t) × (says_unimplemented (if t then Undefined else Unimplemented) ≡ (not t && true))
+    at_test true = (refl, refl)
+    at_test false = (refl, refl)
+row_says bytes opcode rest (Some row) r =
+    let n = finished_says_no bytes (body_at opcode false row rest) in
+    at_test (opcode == 0xEE) refl n.0 n.1
+  where
+    at_test : (t : Bool) → (opcode == 0xEE) ≡ t → says_undefined (finished bytes (body_at opcode false row rest)) ≡ false → says_unimplemented (finished bytes (body_at opcode false row rest)) ≡ false
+        → (says_undefined (finished bytes (body_at opcode false row rest)) ≡ t) × (says_unimplemented (finished bytes (body_at opcode false row rest)) ≡ (not t && false))
+    at_test true e u v = absurd (other_has_none row (ap (λ n. row_at n false) (sym (test_true opcode 0xEE e)) ∙ r))
+    at_test false e u v = (u, v)
+
+behind_says : (bytes : List ℕ) (opcode : ℕ) (rest : List ℕ) (o : Option Shown)
+    → (says_undefined (with_row bytes opcode true o rest) ≡ is_gap o) × (says_unimplemented (with_row bytes opcode true o rest) ≡ false)
+unfolding says_undefined says_unimplemented
+behind_says bytes opcode rest None = (refl, refl)
+behind_says bytes opcode rest (Some row) = finished_says_no bytes (body_at opcode true row rest)
+
+says : (bytes : List ℕ) → (says_undefined (decode_of bytes) ≡ is_undefined bytes) × (says_unimplemented (decode_of bytes) ≡ is_unimplemented bytes)
+unfolding says_undefined says_unimplemented
+says [] = (refl, refl)
+says (x ∷ xs) = at_test (x == 0xFE) refl
+  where
+    and_false : (t : Bool) → (t && false) ≡ false
+    and_false true = refl
+    and_false false = refl
+
+    or_false : (t : Bool) → (t || false) ≡ t
+    or_false true = refl
+    or_false false = refl
+
+    not_other : (x == 0xFE) ≡ true → (x == 0xEE) ≡ false
+    not_other e = ap (λ n. n == 0xEE) (test_true x 0xFE e)
+
+    behind : (ys : List ℕ) → (x == 0xEE) ≡ false → (says_undefined (behind_prefix (x ∷ xs) ys) ≡ ((x == 0xEE) || is_gap_behind ys)) × (says_unimplemented (behind_prefix (x ∷ xs) ys) ≡ false)
+    behind [] e = (ap (λ t. false) e ∙ sym (ap (λ t. t || false) e), refl)
+    behind (y ∷ ys) e = let s = behind_says (x ∷ xs) y ys (row_at y true) in (s.0 ∙ sym (ap (λ t. t || is_gap (row_at y true)) e), s.1)
+
+    at_test : (t : Bool) → (x == 0xFE) ≡ t
+        → (says_undefined (if t then behind_prefix (x ∷ xs) xs else with_row (x ∷ xs) x false (row_at x false) xs) ≡ ((x == 0xEE) || (t && is_gap_behind xs)))
+        × (says_unimplemented (if t then behind_prefix (x ∷ xs) xs else with_row (x ∷ xs) x false (row_at x false) xs) ≡ (not (x == 0xEE) && (not t && is_gap (row_at x false))))
+    at_test true e = let s = behind xs (not_other e) in (s.0, s.1 ∙ sym (and_false (not (x == 0xEE))))
+    at_test false e = let s = row_says (x ∷ xs) x xs (row_at x false) refl in (s.0 ∙ sym (or_false (x == 0xEE)), s.1)
+
+pub undefined_is : (bytes : List ℕ) → (decode_of bytes ≡ Undefined) ↔ (is_undefined bytes ≡ true)
+unfolding says_undefined
+undefined_is bytes = (λ h. sym (says bytes).0 ∙ ap says_undefined h, λ h. back (decode_of bytes) ((says bytes).0 ∙ h))
+  where
+    back : (d : Decoded) → says_undefined d ≡ true → d ≡ Undefined
+    back (Whole i n) e = absurd (cc e)
+    back Unimplemented e = absurd (cc e)
+    back Undefined e = refl
+    back Cut e = absurd (cc e)
+
+pub unimplemented_is : (bytes : List ℕ) → (decode_of bytes ≡ Unimplemented) ↔ (is_unimplemented bytes ≡ true)
+unfolding says_unimplemented
+unimplemented_is bytes = (λ h. sym (says bytes).1 ∙ ap says_unimplemented h, λ h. back (decode_of bytes) ((says bytes).1 ∙ h))
+  where
+    back : (d : Decoded) → says_unimplemented d ≡ true → d ≡ Unimplemented
+    back (Whole i n) e = absurd (cc e)
+    back Unimplemented e = refl
+    back Undefined e = absurd (cc e)
+    back Cut e = absurd (cc e)
+
+-- a spelling alone decodes to its instruction, with its length
+pub spelling_decodes : (i : Insn) → InsnHas i → is_formed i ≡ true → is_in_range i ≡ true → decode_of (spelling i) ≡ Whole i (length_of i)
+spelling_decodes i has formed range = ap decode_of (sym (append-nil (spelling i))) ∙ spelled_again i [] has formed range ∙ ap (Whole i) (spelled_count i has.three)
