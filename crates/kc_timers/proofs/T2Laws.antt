@@ -1,11 +1,11 @@
 -- Laws of Timer 2 over a span without inputs.
-use Rattle.std.proofs.Common.{◌≡◌, ℕ, zero, suc, ◌+◌, ◌-◌, ◌*◌, ◌/◌, ◌%◌, ◌<◌, ◌≤◌, ◌==◌, Bool, true, false, not, cond, ◌&&◌, ◌||◌, refl, sym, ◌∙◌, ap, arith, add-zero, add-suc, add-one, subst}
+use Rattle.std.proofs.Common.{◌≡◌, ℕ, zero, suc, ◌+◌, ◌-◌, ◌*◌, ◌/◌, ◌%◌, ◌<◌, ◌≤◌, ◌==◌, Bool, true, false, ◌&&◌, ◌||◌, refl, sym, ap, arith, add-zero, add-suc, subst}
 use Rattle.std.specs.Prelude.{if◌then◌else◌}
 use Rattle.std.proofs.lemmas.Bool.Decides.{nat_tests}
-use Rattle.kc_span.specs.Span.{Rule, after, QuietFor, DueAt}
+use Rattle.kc_span.specs.Span.{after, QuietFor, DueAt}
 use Rattle.kc_span.proofs.SpanLaws.{after-zero, after-suc}
 use Rattle.kc_timers.specs.declared.T2Control.{T2Control}
-use Rattle.kc_timers.specs.T2.{T2, is_count, counted, last_before, tick_of, overflows, no_inputs, timer2_rule, counts_in, counts_left, every_of, moved, value_at, view_of}
+use Rattle.kc_timers.specs.T2.{T2, is_count, counted, last_before, timer2_rule, counts_in, counts_left, every_of, moved, value_at, view_of}
 
 -- one more state counts once more, or not
 eighth_step : (from t : ℕ) → from ≤ t → suc t / 8 - from / 8 ≡ (if (t % 8 == 7) then suc (t / 8 - from / 8) else (t / 8 - from / 8))

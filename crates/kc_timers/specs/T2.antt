@@ -1,6 +1,6 @@
 -- Timer 2: what one Tick does, and how it goes on by itself (80C196KC User's Manual, "Timer 2"; the order inside a state,
 -- and that the inner clock counts where the state time is 7 modulo 8, are this kit's own).
-use Rattle.std.specs.Prelude.{◌≡◌, ℕ, ◌+◌, ◌-◌, ◌*◌, ◌/◌, ◌%◌, ◌==◌, Bool, true, false, if◌then◌else◌, ◌&&◌, ◌||◌}
+use Rattle.std.specs.Prelude.{ℕ, ◌+◌, ◌-◌, ◌*◌, ◌/◌, ◌%◌, ◌==◌, Bool, false, if◌then◌else◌, ◌&&◌, ◌||◌}
 use Rattle.std.proofs.Common.{not}
 use Rattle.kc_span.specs.Span.{Rule}
 use Rattle.kc_timers.specs.declared.T2Control.{T2Control}

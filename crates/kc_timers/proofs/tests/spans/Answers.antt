@@ -1,4 +1,4 @@
-use Rattle.std.proofs.Common.{ℕ, ◌+◌, ◌<◌, ◌≡◌, true, false, refl, arith}
+use Rattle.std.proofs.Common.{◌<◌, true, false, refl, arith}
 use Rattle.kc_timers.specs.declared.T2Control.{T2Control}
 use Rattle.kc_timers.proofs.T2Laws.{timer2_due}
 use Rattle.kc_timers.proofs.tests.spans.Goals as goal

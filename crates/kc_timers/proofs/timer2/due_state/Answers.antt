@@ -1,4 +1,4 @@
-use Rattle.std.proofs.Common.{◌<◌, ◌≡◌, arith}
+use Rattle.std.proofs.Common.{◌<◌, arith}
 use Rattle.kc_timers.proofs.T2Laws.{due_fast, due_slow}
 use Rattle.kc_timers.proofs.timer2.due_state.Goals as goal
 

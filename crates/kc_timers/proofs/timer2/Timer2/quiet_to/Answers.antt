@@ -1,4 +1,4 @@
-use Rattle.std.proofs.Common.{◌<◌, ◌≡◌, ◌+◌, ◌-◌, refl, sym, arith}
+use Rattle.std.proofs.Common.{◌<◌, ◌≡◌, ◌+◌, ◌-◌, refl, arith}
 use Rattle.kc_timers.proofs.T2Laws.{timer2_after}
 use Rattle.kc_timers.proofs.timer2.Timer2.quiet_to.Goals as goal
 
