@@ -124,7 +124,7 @@ trapped-at m now x u v (Refused kind scene) = refl
 
 finished-at : (doing : Activity) (m : Machine) (now : ℕ) (x : Units) (u v : Option UnderWay) → finished doing (at m now x u) ≡ finished doing (at m now x v)
 unfolding finished
-finished-at (Executes insn) m now x u v = settled-at m now x u v insn (own_records (at m now x u) insn) (run scene_meaning (effect_of insn m.cpu) (scene_of (at m now x u)))
+finished-at (Executes insn) m now x u v = settled-at m now x u v insn (own_records now m.cpu.pc insn) (run scene_meaning (effect_of insn m.cpu) (scene_of (at m now x u)))
 finished-at (MovesWord insn words) m now x u v = settled-at m now x u v insn [] (run scene_meaning (moved_word insn words m.cpu) (scene_of (at m now x u)))
 finished-at Traps m now x u v = trapped-at m now x u v (run scene_meaning (opcode_trap m.cpu.pc) (scene_of (at m now x u)))
 finished-at (Enters number) m now x u v = entered-at m now x u v number (run scene_meaning (entry (vector_at number) m.cpu.pc) (scene_of (at m now x u)))
@@ -239,7 +239,7 @@ trapped-time m (Refused kind scene) = refl
 
 finished-time : (doing : Activity) (m : Machine) → (finished doing m).machine.time ≡ m.time + 1
 unfolding finished
-finished-time (Executes insn) m = settled-time m insn (own_records m insn) (run scene_meaning (effect_of insn m.cpu) (scene_of m))
+finished-time (Executes insn) m = settled-time m insn (own_records m.time m.cpu.pc insn) (run scene_meaning (effect_of insn m.cpu) (scene_of m))
 finished-time (MovesWord insn words) m = settled-time m insn [] (run scene_meaning (moved_word insn words m.cpu) (scene_of m))
 finished-time Traps m = trapped-time m (run scene_meaning (opcode_trap m.cpu.pc) (scene_of m))
 finished-time (Enters number) m = entered-time m number (run scene_meaning (entry (vector_at number) m.cpu.pc) (scene_of m))
