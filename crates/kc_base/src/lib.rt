@@ -22,3 +22,6 @@ pub use steps::Steps;
 pub use text::Text;
 pub use text_lines::{after, first_line, front};
 pub use types::{Edge, IntSet, Kind, Level, NoMemory, Pin, PtsMode, StateTime, Undefined};
+
+#[cfg(test)]
+mod tests;

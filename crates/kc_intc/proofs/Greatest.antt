@@ -1,0 +1,65 @@
+-- The greatest number that passes a test.
+use Rattle.std.proofs.Common.{◌≡◌, ℕ, zero, suc, ◌+◌, ◌<◌, ◌≤◌, ◌==◌, ◌&&◌, ◌||◌, not, Bool, true, false, Option, Some, None, if◌then◌else◌, MatchOption, ◌⊎◌, inl, inr, refl, ap, ◌∙◌, add-one, arith}
+use Rattle.std.proofs.lemmas.Bool.{cases_lt}
+use Rattle.std.proofs.lemmas.Nat.Bits.{bit_at-zero}
+use Rattle.kc_base.specs.Bits.{bit}
+use Rattle.kc_intc.specs.declared.requests.Requests.{Requests}
+use Rattle.kc_intc.specs.declared.requests.Choice.TheVariants.{Transfer, Enter, Go}
+use Rattle.kc_intc.specs.Choosing.{greatest, wants_cycle, wants_entry, or_else, choice_of}
+use Rattle.kc_intc.specs.Laws.{IsGreatest}
+
+pub greatest_more : (test : ℕ → Bool) (n : ℕ) → greatest test (n + 1) ≡ (if test n then Some n else greatest test n)
+unfolding greatest
+greatest_more test n = rw (add-one n) refl
+
+fails_below : (test : ℕ → Bool) (n : ℕ) → test n ≡ false → ((k : ℕ) → k < n → test k ≡ false) → (k : ℕ) → k < suc n → test k ≡ false
+fails_below test n here below k within = either (cases_lt k n)
+  where
+    either : (k < n) ⊎ (n ≤ k) → test k ≡ false
+    either (inl less) = below k less
+    either (inr more) = let same : k ≡ n = omega arith in ap test same ∙ here
+
+highest_still : (test : ℕ → Bool) (n m : ℕ) → test n ≡ false → ((k : ℕ) → m < k → k < n → test k ≡ false) → (k : ℕ) → m < k → k < suc n → test k ≡ false
+highest_still test n m here above k more within = either (cases_lt k n)
+  where
+    either : (k < n) ⊎ (n ≤ k) → test k ≡ false
+    either (inl less) = above k more less
+    either (inr far) = let same : k ≡ n = omega arith in ap test same ∙ here
+
+one_more : (test : ℕ → Bool) (n : ℕ) (found : Option ℕ) → test n ≡ false → MatchOption found ((k : ℕ) → k < n → test k ≡ false) (IsGreatest test n) → MatchOption found ((k : ℕ) → k < suc n → test k ≡ false) (IsGreatest test (suc n))
+one_more test n None here below = fails_below test n here below
+one_more test n (Some m) here is = record { below = omega (arith, is.below); passes = is.passes; highest = highest_still test n m here is.highest }
+
+pub greatest_is : (test : ℕ → Bool) (limit : ℕ) → MatchOption (greatest test limit) ((k : ℕ) → k < limit → test k ≡ false) (IsGreatest test limit)
+unfolding greatest
+greatest_is test zero = λ k within. absurd (omega arith)
+greatest_is test (suc n) = by_test (test n) refl (greatest_is test n)
+  where
+    by_test : (b : Bool) → test n ≡ b → MatchOption (greatest test n) ((k : ℕ) → k < n → test k ≡ false) (IsGreatest test n) → MatchOption (if b then Some n else greatest test n) ((k : ℕ) → k < suc n → test k ≡ false) (IsGreatest test (suc n))
+    by_test true e rest = record { below = omega arith; passes = e; highest = λ k more within. absurd (omega arith) }
+    by_test false e rest = one_more test n (greatest test n) e rest
+
+greatest_none : (test : ℕ → Bool) (n : ℕ) → ((k : ℕ) → test k ≡ false) → greatest test n ≡ None
+unfolding greatest
+greatest_none test zero fails = refl
+greatest_none test (suc n) fails = rw (fails n) (greatest_none test n fails)
+
+bit-zero : (set k : ℕ) → set ≡ 0 → bit set k ≡ false
+bit-zero set k e = ap (λ s. bit s k) e ∙ ap (λ n. n == 1) (bit_at-zero k)
+
+pub nothing_wanted : (pse enabled : Bool) (r : Requests) → r.pending ≡ 0 → r.service ≡ 0 → choice_of pse enabled r ≡ Go
+nothing_wanted pse enabled r p s =
+    let cycles : greatest (wants_cycle r) 15 ≡ None = greatest_none (wants_cycle r) 15 (λ k. ap (λ b. b && (bit r.mask k && bit r.select k)) (bit-zero r.pending k p)) in
+    let entries : greatest (wants_entry r) 15 ≡ None = greatest_none (wants_entry r) 15 (λ k. ap (λ b. bit r.mask k && (b || (bit r.pending k && not (bit r.select k)))) (bit-zero r.service k s) ∙ ap (λ b. bit r.mask k && (b && not (bit r.select k))) (bit-zero r.pending k p) ∙ both (bit r.mask k)) in
+    let nmi : bit r.pending 15 ≡ false = bit-zero r.pending 15 p in
+    rw (nmi, cycles, entries) (neither pse enabled)
+  where
+    both : (b : Bool) → (b && false) ≡ false
+    both true = refl
+    both false = refl
+
+    neither : (a b : Bool) → or_else Transfer (if a then None else None) (or_else Enter (if b then None else None) Go) ≡ Go
+    neither true true = refl
+    neither true false = refl
+    neither false true = refl
+    neither false false = refl

@@ -1,0 +1,4 @@
+pub mod Sets
+pub mod Choosing
+pub mod Changes
+pub mod Laws

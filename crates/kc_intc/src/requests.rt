@@ -1,0 +1,158 @@
+ghost use Rattle.std.specs.Prelude.{◌≡◌, ◌<◌, bit_or, IfSome};
+ghost use Rattle.kc_base.specs.Bits.{bit};
+ghost use Rattle.kc_intc.specs.Choosing.{wants_cycle, wants_entry, greatest, choice_of, IsBelow15};
+ghost use Rattle.kc_intc.specs.Sets.{without, with_request};
+ghost use Rattle.kc_intc.specs.Changes.{entered_of, ended_of};
+
+use kc_base::IntSet;
+
+/// The four sets of interrupt requests; bit n of each is the request of vector n, 0 to 15.
+///
+/// `pending` is INT_PEND (low byte) and INT_PEND1, `mask` INT_MASK and INT_MASK1, `select` PTSSEL, `service` PTSSRV
+/// (80C196KC User's Manual, "Interrupts" and "Peripheral Transaction Server").
+#[derive(Clone, Copy, Debug, Default, PartialEq, Eq)]
+pub struct Requests {
+    pub pending: u16,
+    pub mask: u16,
+    pub select: u16,
+    pub service: u16,
+}
+
+/// What is served before the program goes on.
+#[derive(Clone, Copy, Debug, PartialEq, Eq)]
+pub enum Choice {
+    /// NMI is entered.
+    Nmi,
+    /// A cycle of the peripheral transaction server for this request.
+    Transfer(u8),
+    /// This request is entered.
+    Enter(u8),
+    /// Nothing: the program goes on.
+    Go,
+}
+
+fn is_in(set: u16, n: u8) -> bool
+    requires { n < 16 }
+    ensures { result ≡ bit set n }
+{
+    (set >> n) % 2 == 1
+}
+
+fn without(n: u8, set: u16) -> u16
+    requires { n < 16 }
+    ensures { result ≡ without n set }
+{
+    set & !(1 << n)
+}
+
+fn with_request(n: u8, set: u16) -> u16
+    requires { n < 16 }
+    ensures { result ≡ with_request n set }
+{
+    set | 1 << n
+}
+
+impl Requests {
+    /// Adds these requests to the pending ones.
+    pub fn raise(&mut self, set: IntSet)
+        ensures { self.new ≡ record self.old { pending = bit_or self.old.pending set.0 } }
+    {
+        self.pending |= set.0;
+    }
+
+    /// What is served next, where `pse` is the bit PSE of the PSW and `enabled` its bit I.
+    #[tactic(auto, using(crate::proofs::Greatest::nothing_wanted))]
+    pub fn choose(&self, pse: bool, enabled: bool) -> Choice
+        ensures value { result ≡ choice_of pse enabled self.now }
+        ensures below { IsBelow15 result }
+    {
+        if self.pending == 0 && self.service == 0 {
+            return Choice::Go;
+        }
+        if is_in(self.pending, 15) {
+            return Choice::Nmi;
+        }
+        if pse && let Some(n) = self.cycle() {
+            return Choice::Transfer(n);
+        }
+        if enabled && let Some(n) = self.entry() {
+            return Choice::Enter(n);
+        }
+        Choice::Go
+    }
+
+    /// Takes a request away that a cycle of the transfer server begins with.
+    pub fn taken(&mut self, n: u8)
+        requires { n < 16 }
+        ensures { self.new ≡ record self.old { pending = without n self.old.pending } }
+    {
+        let left = without(n, self.pending);
+        self.pending = left;
+    }
+
+    /// Takes a request away that is entered: its service bit, or where that is clear its pending bit.
+    pub fn entered(&mut self, n: u8)
+        requires { n < 16 }
+        ensures { self.new ≡ entered_of n self.old }
+    {
+        if is_in(self.service, n) {
+            self.service = without(n, self.service);
+        } else {
+            self.pending = without(n, self.pending);
+        }
+    }
+
+    /// Hands a request whose last cycle has ended from the transfer server to its interrupt.
+    pub fn ended(&mut self, n: u8)
+        requires { n < 16 }
+        ensures { self.new ≡ ended_of n self.old }
+    {
+        self.select = without(n, self.select);
+        self.service = with_request(n, self.service);
+    }
+
+    fn wants_cycle(&self, n: u8) -> bool
+        requires { n < 16 }
+        ensures { result ≡ wants_cycle self.now n }
+    {
+        is_in(self.pending, n) & is_in(self.mask, n) & is_in(self.select, n)
+    }
+
+    fn wants_entry(&self, n: u8) -> bool
+        requires { n < 16 }
+        ensures { result ≡ wants_entry self.now n }
+    {
+        is_in(self.mask, n)
+            & (is_in(self.service, n) | is_in(self.pending, n) & !is_in(self.select, n))
+    }
+
+    // The request that the transfer server serves next.
+    #[tactic(auto, using(crate::proofs::Greatest::greatest_more), unfolding(crate::specs::Choosing::greatest))]
+    fn cycle(&self) -> Option<u8>
+        ensures value { result ≡ greatest (wants_cycle self.now) 15 }
+        ensures below { IfSome result (λ n. n < 15) }
+    {
+        let mut found = None;
+        for n in 0..15 {
+            if self.wants_cycle(n) {
+                found = Some(n);
+            }
+        }
+        found
+    }
+
+    // The request that is entered next.
+    #[tactic(auto, using(crate::proofs::Greatest::greatest_more), unfolding(crate::specs::Choosing::greatest))]
+    fn entry(&self) -> Option<u8>
+        ensures value { result ≡ greatest (wants_entry self.now) 15 }
+        ensures below { IfSome result (λ n. n < 15) }
+    {
+        let mut found = None;
+        for n in 0..15 {
+            if self.wants_entry(n) {
+                found = Some(n);
+            }
+        }
+        found
+    }
+}

@@ -1,0 +1,6 @@
+pub mod Text
+pub mod Printable
+pub mod Counting
+pub mod Out
+pub mod Trace
+pub mod Laws

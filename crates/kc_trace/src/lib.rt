@@ -1,0 +1,16 @@
+//! The lines of a trace: what is printed as a line, how it is spelled, and how lines are written to a sink.
+#![tactic(auto)]
+
+mod edge_out;
+mod laws;
+mod record;
+mod spelling;
+mod trace;
+
+pub use laws::{records_join, texts_join};
+pub use record::Record;
+pub use spelling::line;
+pub use trace::{Counts, TraceOut};
+
+#[cfg(test)]
+mod tests;
