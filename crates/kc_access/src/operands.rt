@@ -8,16 +8,17 @@ use kc_base::Kind;
 use kc_bus::{Bus, window};
 use kc_isa::Operand;
 
-fn size_of_step(byte: bool) -> u16
-    ensures { result ≡ size byte }
-{
-    if byte { 1 } else { 2 }
-}
-
 fn moved(base: u16, offset: u16) -> u16
     ensures { result ≡ at_offset base offset }
 {
     base.wrapping_add(offset)
+}
+
+// A pointer behind a byte or a word.
+fn stepped(byte: bool, pointer: u16) -> u16
+    ensures { result ≡ at_offset pointer (size byte) }
+{
+    moved(pointer, if byte { 1 } else { 2 })
 }
 
 fn cut(byte: bool, value: u16) -> u16
@@ -44,15 +45,9 @@ pub fn read_source<B: Bus>(bus: &mut B, byte: bool, wsr: u8, operand: Operand) -
             read_at(bus, byte, pointer)
         }
         Operand::Increment(register) => {
-            let pointer = read_register(bus, false, wsr, register)?;
-            let value = read_at(bus, byte, pointer)?;
-            write_register(
-                bus,
-                false,
-                wsr,
-                register,
-                moved(pointer, size_of_step(byte)),
-            )?;
+            let place = read_register(bus, false, wsr, register)?;
+            let value = read_at(bus, byte, place)?;
+            write_register(bus, false, wsr, register, stepped(byte, place))?;
             Ok(value)
         }
         Operand::Short { base, offset } => {
@@ -80,13 +75,7 @@ pub fn find_target<B: Bus>(bus: &mut B, byte: bool, wsr: u8, operand: Operand) -
         Operand::Indirect(register) => read_register(bus, false, wsr, register),
         Operand::Increment(register) => {
             let pointer = read_register(bus, false, wsr, register)?;
-            write_register(
-                bus,
-                false,
-                wsr,
-                register,
-                moved(pointer, size_of_step(byte)),
-            )?;
+            write_register(bus, false, wsr, register, stepped(byte, pointer))?;
             Ok(pointer)
         }
         Operand::Short { base, offset } => {
