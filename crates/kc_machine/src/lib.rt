@@ -14,3 +14,6 @@ mod registers;
 pub use kc_model::End;
 pub use machine::Machine;
 pub use passing::WriteFault;
+
+#[cfg(test)]
+mod tests;

@@ -4,6 +4,9 @@ ghost use Rattle.kc_trace.specs.Out.{Puts};
 ghost use Rattle.kc_trace.specs.Text.{text_of};
 ghost use Rattle.kc_model.specs.Machine.{start, memory_of};
 ghost use Rattle.kc_model.specs.Run.{run_to, end_of};
+ghost use Rattle.kc_model.specs.Passing.{activity_end};
+ghost use Rattle.kc_model.specs.Peeking.{peeked, poked};
+ghost use Rattle.kc_effect.specs.Memory.{IsMemory, is_hole};
 ghost use Rattle.kc_model.specs.Text.{finals, HasRun};
 
 use crate::bus::Common;
@@ -129,6 +132,46 @@ impl Machine {
         ensures spent { steps.new ≤ steps.old + 16 * (run_to self.new.time self.old).work }
     {
         self.core.run(until, out, steps)
+    }
+
+    /// Goes on to the end of the present activity, or of the next one where none is under way, and writes what is printed
+    /// on the way. Answers how the run has ended, or `None` while the machine lives; an ended machine writes nothing.
+    pub fn step_activity<S: Sink, L: Ledger>(
+        &mut self,
+        out: &mut TraceOut<S>,
+        steps: &mut Steps<L>,
+    ) -> Result<Option<End>, WriteFault>
+        requires room { self.old.time ≤ 2000000000000000 }
+        requires unbroken { out.old.failed ≡ false }
+        ensures end { IfOk result (λ end. end ≡ (run_to (activity_end self.old) self.old).machine.ended) }
+        ensures lines { Puts (out_of S.written S.faults out.old) (text_of (run_to (activity_end self.old) self.old).records) (out_of S.written S.faults out.new) }
+        ensures written { OnOk result (out.new.failed ≡ false) }
+        ensures counts { OnOk result (out.new.counts ≡ counted_all (run_to (activity_end self.old) self.old).records out.old.counts) }
+
+        // After a fault it stands at the end of the activity too.
+        ensures failed { OnErr result (out.new.failed ≡ true) }
+        ensures machine { self.new ≡ (run_to (activity_end self.old) self.old).machine }
+        ensures spent { steps.new ≤ steps.old + 16 * (run_to (activity_end self.old) self.old).work }
+    {
+        self.core.step(out, steps)
+    }
+
+    /// The byte at an address as the processor would read it at the start of the present state, without any effect:
+    /// below 0018H in WSR's horizontal window, each half of a word register, and 0 where a read is undefined.
+    pub fn peek(&mut self, addr: u16) -> u8
+        ensures value { result ≡ peeked self.old addr }
+        ensures same { self.new ≡ self.old }
+    {
+        self.core.peek(addr)
+    }
+
+    /// Changes the byte at an address of memory, ROM too.
+    pub fn poke(&mut self, addr: u16, value: u8)
+        requires memory { IsMemory addr }
+        requires known { is_hole addr ≡ false }
+        ensures { self.new ≡ poked self.old addr value }
+    {
+        self.core.bus.put_byte(addr, value);
     }
 
     /// Writes the lines of the end: how the run has ended, and the registers.

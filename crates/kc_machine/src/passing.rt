@@ -7,7 +7,7 @@ ghost use Rattle.kc_trace.specs.Printable.{CanPrint, HasName};
 ghost use Rattle.kc_trace.specs.Trace.{out_of};
 ghost use Rattle.kc_model.specs.Board.{pins, edges_in, units_rule};
 ghost use Rattle.kc_model.specs.Machine.{scene_of, current};
-ghost use Rattle.kc_model.specs.Passing.{at, left_at, whole};
+ghost use Rattle.kc_model.specs.Passing.{at, left_at, whole, activity_end};
 ghost use Rattle.kc_model.specs.Run.{run_to, end_of};
 ghost use Rattle.kc_machine.specs.Sound.{IsGoing, IsReady, IsSoundGoing};
 
@@ -206,6 +206,47 @@ impl Core {
             }
         }
         Ok(self.end())
+    }
+
+    // Goes on to the end of the activity.
+    fn pass_current<S: Sink, L: Ledger>(&mut self, out: &mut TraceOut<S>, steps: &mut Steps<L>)
+        requires ready { IsReady self.old.under_way self.old.going }
+        requires lives { self.old.ended ≡ None }
+        requires room { self.old.time ≤ 2000000000000000 }
+        ensures machine { machine_of self.new ≡ (run_to (activity_end (machine_of self.old)) (machine_of self.old)).machine }
+        ensures lines { Prints (out_of S.written S.faults out.old) (run_to (activity_end (machine_of self.old)) (machine_of self.old)).records (out_of S.written S.faults out.new) }
+        ensures ready { IsReady self.new.under_way self.new.going }
+        ensures spent { steps.new ≤ steps.old + 16 * (run_to (activity_end (machine_of self.old)) (machine_of self.old)).work }
+    {
+        let activity = self.current(steps);
+        self.complete(activity, out, steps);
+    }
+
+    /// Goes on to the end of the activity, and writes what is printed on the way; an ended machine stands still.
+    pub(crate) fn step<S: Sink, L: Ledger>(
+        &mut self,
+        out: &mut TraceOut<S>,
+        steps: &mut Steps<L>,
+    ) -> Result<Option<End>, WriteFault>
+        requires ready { IsReady self.old.under_way self.old.going }
+        requires room { self.old.time ≤ 2000000000000000 }
+        requires unbroken { out.old.failed ≡ false }
+        ensures end { IfOk result (λ end. end ≡ (run_to (activity_end (machine_of self.old)) (machine_of self.old)).machine.ended) }
+        ensures machine { machine_of self.new ≡ (run_to (activity_end (machine_of self.old)) (machine_of self.old)).machine }
+        ensures lines { Prints (out_of S.written S.faults out.old) (run_to (activity_end (machine_of self.old)) (machine_of self.old)).records (out_of S.written S.faults out.new) }
+        ensures written { OnOk result (out.new.failed ≡ false) }
+        ensures failed { OnErr result (out.new.failed ≡ true) }
+        ensures ready { IsReady self.new.under_way self.new.going }
+        ensures spent { steps.new ≤ steps.old + 16 * (run_to (activity_end (machine_of self.old)) (machine_of self.old)).work }
+    {
+        if let Some(end) = self.ended {
+            return Ok(Some(end));
+        }
+        self.pass_current(out, steps);
+        if out.failed() {
+            return Err(WriteFault);
+        }
+        Ok(self.ended)
     }
 
     // How the run has ended so far.
