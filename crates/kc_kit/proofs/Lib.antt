@@ -1,0 +1,4 @@
+mod Digits
+mod Onward
+mod Placeable
+mod Splitting

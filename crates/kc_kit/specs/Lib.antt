@@ -1,0 +1,5 @@
+pub mod Linked
+pub mod Number
+pub mod Placing
+pub mod Reading
+pub mod Source

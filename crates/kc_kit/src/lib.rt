@@ -1,0 +1,11 @@
+//! The kit as a whole: the words of a command line and the files that they name, to the bytes written and the status.
+#![tactic(auto)]
+
+mod assembler;
+mod lines;
+mod number;
+mod source;
+mod statement;
+mod status;
+
+pub use status::Status;
