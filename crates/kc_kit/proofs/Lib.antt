@@ -1,4 +1,5 @@
 mod Digits
 mod Onward
 mod Placeable
+mod Placed
 mod Splitting
