@@ -34,7 +34,7 @@ use Rattle.kc_effect.specs.Operands.{source, target}
 use Rattle.kc_effect.specs.Operations.{writes_result, reads_register}
 use Rattle.kc_effect.specs.Plans.{plan_of}
 use Rattle.kc_effect.specs.Computing.{register, has_a, operate, read_altered, alter, extend, shift_count, shift, normalize, factor, multiply, divide, compare_long, compute}
-use Rattle.kc_effect.specs.Moving.{load, load_extended, store, exchange, push_source, pop_target, move}
+use Rattle.kc_effect.specs.Moving.{load, load_extended, store, exchange, push_source, pop_target, move_data}
 use Rattle.kc_effect.specs.Jumping.{bit_jump, count_down, table_target, goes}
 use Rattle.kc_effect.specs.Saving.{push_status, pop_status, push_all, pop_all, save}
 use Rattle.kc_effect.specs.Settings.{idle_after}
@@ -278,8 +278,8 @@ pop_target-most wsr i =
     AtMost-bind 3 3 pop _ pop-most (λ n.
     AtMost-bind 2 1 (target false wsr i.operand) _ (target-most false wsr i.operand) (λ addr. write_at-most false addr n))
 
-move-most : (how : Movement) (wsr : ℕ) (i : Insn) → AtMost 6 (move how wsr i)
-unfolding move
+move-most : (how : Movement) (wsr : ℕ) (i : Insn) → AtMost 6 (move_data how wsr i)
+unfolding move_data
 move-most (Load byte) wsr i = AtMost-more 4 6 _ (omega arith) (load-most byte wsr i)
 move-most ZeroExtend wsr i = AtMost-more 4 6 _ (omega arith) (load_extended-most false wsr i)
 move-most SignExtend wsr i = AtMost-more 4 6 _ (omega arith) (load_extended-most true wsr i)

@@ -1,9 +1,10 @@
 ghost use Rattle.std.specs.Prelude.{◌≡◌, ◌+◌, ◌≤◌, ◌<◌, IfOk, IsTrue, false};
 ghost use Rattle.kc_effect.specs.Effect.{Gives, run};
-ghost use Rattle.kc_effect.specs.Parts.{limit, read_at, write_at, read_register, write_register, long_place, read_long, write_long, push, pop};
+ghost use Rattle.kc_effect.specs.Parts.{limit, sized_limit, doubled, read_at, write_at, read_register, write_register, long_place, read_long, write_long, read_sized, write_sized, read_low_half, push, pop};
 
 use kc_base::Kind;
 use kc_bus::{Bus, Master, window};
+use kc_effect::Size;
 
 #[tactic(auto, using(kc_effect::proofs::Running::run_bind), unfolding(kc_effect::specs::Parts::read_at))]
 pub(crate) fn read<B: Bus>(bus: &mut B, byte: bool, addr: u16) -> Result<u16, Kind>
@@ -100,6 +101,72 @@ pub(crate) fn write_long_to<B: Bus>(
     let addr = place_of_long(bus, wsr, register)?;
     write(bus, false, addr, (value % 0x1_0000) as u16)?;
     write(bus, false, addr + 2, (value / 0x1_0000) as u16)
+}
+
+/// The double of a width.
+pub(crate) fn double_of(byte: bool) -> Size
+    ensures { result ≡ doubled byte }
+{
+    if byte { Size::Word } else { Size::Long }
+}
+
+#[tactic(auto, using(kc_effect::proofs::Running::run_bind), unfolding(kc_effect::specs::Parts::read_sized))]
+pub(crate) fn read_sized_from<B: Bus>(
+    bus: &mut B,
+    size: Size,
+    wsr: u8,
+    register: u8,
+) -> Result<u32, Kind>
+    ensures gives { Gives (λ x. x) result (B.held bus.new) (run B.meaning (read_sized size wsr register) (B.held bus.old)) }
+    ensures spent { B.spent bus.new + B.allowed (B.held bus.old) ≤ B.spent bus.old + B.allowed (B.held bus.new) }
+    ensures same { B.lent bus.new ≡ B.lent bus.old }
+    ensures bound { IfOk result (λ n. n < sized_limit size) }
+{
+    match size {
+        Size::Byte => Ok(u32::from(read_from(bus, true, wsr, register)?)),
+        Size::Word => Ok(u32::from(read_from(bus, false, wsr, register)?)),
+        Size::Long => read_long_from(bus, wsr, register),
+    }
+}
+
+#[tactic(auto, using(kc_effect::proofs::Running::run_bind), unfolding(kc_effect::specs::Parts::write_sized))]
+pub(crate) fn write_sized_to<B: Bus>(
+    bus: &mut B,
+    size: Size,
+    wsr: u8,
+    register: u8,
+    value: u32,
+) -> Result<(), Kind>
+    requires { value < sized_limit size }
+    ensures gives { Gives (λ x. x) result (B.held bus.new) (run B.meaning (write_sized size wsr register value) (B.held bus.old)) }
+    ensures spent { B.spent bus.new + B.allowed (B.held bus.old) ≤ B.spent bus.old + B.allowed (B.held bus.new) }
+    ensures same { B.lent bus.new ≡ B.lent bus.old }
+{
+    match size {
+        Size::Byte => write_to(bus, true, wsr, register, value as u16),
+        Size::Word => write_to(bus, false, wsr, register, value as u16),
+        Size::Long => write_long_to(bus, wsr, register, value),
+    }
+}
+
+/// Reads the low half of a register of twice the width.
+#[tactic(auto, using(kc_effect::proofs::Running::run_bind), unfolding(kc_effect::specs::Parts::read_low_half))]
+pub(crate) fn read_low_half_of<B: Bus>(
+    bus: &mut B,
+    byte: bool,
+    wsr: u8,
+    register: u8,
+) -> Result<u16, Kind>
+    ensures gives { Gives (λ x. x) result (B.held bus.new) (run B.meaning (read_low_half byte wsr register) (B.held bus.old)) }
+    ensures spent { B.spent bus.new + B.allowed (B.held bus.old) ≤ B.spent bus.old + B.allowed (B.held bus.new) }
+    ensures same { B.lent bus.new ≡ B.lent bus.old }
+    ensures bound { IfOk result (λ n. n < limit byte) }
+{
+    if byte {
+        return read_from(bus, true, wsr, register);
+    }
+    let addr = place_of_long(bus, wsr, register)?;
+    read(bus, false, addr)
 }
 
 #[tactic(auto, using(kc_effect::proofs::Running::run_bind), unfolding(kc_effect::specs::Parts::push))]

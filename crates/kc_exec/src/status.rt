@@ -1,7 +1,9 @@
 ghost use Rattle.std.specs.Prelude.{◌≡◌, ◌≤◌, ◌<◌};
 ghost use Rattle.kc_effect.specs.Status.{has, weighed, flags_of, with_flags};
+ghost use Rattle.kc_effect.specs.Settings.{setting_psw, setting_after};
 
 use kc_alu::Flags;
+use kc_effect::{After, Setting};
 
 fn is_set(weight: u8, psw: u8) -> bool
     requires { 0 < weight }
@@ -44,4 +46,27 @@ pub(crate) fn pack(psw: u8, flags: Flags) -> u8
         + weigh(8, flags.c)
         + psw / 2 % 4 * 2
         + weigh(1, flags.st)
+}
+
+/// The high byte of the PSW with one bit set.
+pub(crate) fn set_bit(setting: Setting, psw: u8) -> u8
+    ensures { result ≡ setting_psw setting psw }
+{
+    match setting {
+        Setting::Carry(set) => psw / 16 * 16 + weigh(8, set) + psw % 8,
+        Setting::Interrupts(set) => psw / 4 * 4 + weigh(2, set) + psw % 2,
+        Setting::Transfers(set) => psw / 8 * 8 + weigh(4, set) + psw % 4,
+        Setting::NoOverflowTrap => psw / 32 * 32 + psw % 16,
+        Setting::Nothing => psw,
+    }
+}
+
+/// What follows the setting of a bit.
+pub(crate) fn follow(setting: Setting) -> After
+    ensures { result ≡ setting_after setting }
+{
+    match setting {
+        Setting::Interrupts(_) | Setting::Transfers(_) => After::Held,
+        Setting::Carry(_) | Setting::NoOverflowTrap | Setting::Nothing => After::Next,
+    }
 }

@@ -1,0 +1,13 @@
+//! The definitions of the board: which register answers an access, what the machine does in each state time, and what is
+//! printed of a run. This crate holds plain data and definitions alone; the crates above compute them.
+#![tactic(auto)]
+
+mod doing;
+mod laws;
+mod registers;
+mod units;
+
+pub use doing::{Activity, End, Going, Next, UnderWay};
+pub use laws::{idle_span, part_of_activity, whole_activity};
+pub use registers::{ByteRegister, Window, WordRegister};
+pub use units::Units;
