@@ -2,4 +2,5 @@ mod Digits
 mod Onward
 mod Placeable
 mod Placed
+mod Replying
 mod Splitting

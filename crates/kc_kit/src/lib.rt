@@ -4,8 +4,13 @@
 mod assembler;
 mod lines;
 mod number;
+mod run;
+mod say;
 mod source;
 mod statement;
 mod status;
+mod top;
+mod words;
 
 pub use status::Status;
+pub use top::kit;
