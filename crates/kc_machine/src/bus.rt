@@ -125,7 +125,7 @@ impl Common {
         self.memory[addr as usize]
     }
 
-    fn put_byte(&mut self, addr: u16, value: u8)
+    pub(crate) fn put_byte(&mut self, addr: u16, value: u8)
         ensures scene { held_of self.new ≡ put (held_of self.old) addr value }
         ensures count { self.new.reached ≡ self.old.reached }
     {

@@ -1,5 +1,6 @@
 // The machine's parts, and which activity comes next.
-ghost use Rattle.std.specs.Prelude.{◌≡◌, ◌+◌, ◌<◌, true, None, OnTrue, IsTrue};
+ghost use Rattle.std.specs.Prelude.{◌≡◌, ◌+◌, ◌<◌, true, None, IsTrue};
+ghost use Rattle.std.specs.Bool.{OnTrue};
 ghost use Rattle.kc_intc.specs.declared.requests.Choice.TheVariants.{Go};
 ghost use Rattle.kc_isa.specs.Formed.{is_formed};
 ghost use Rattle.kc_effect.specs.Places.{place_of};
@@ -8,12 +9,15 @@ ghost use Rattle.kc_model.specs.Board.{masks_of, word_at};
 ghost use Rattle.kc_model.specs.Scene.{byte};
 ghost use Rattle.kc_model.specs.Machine.{breaks, placed, scene_of, pushing_states, fetches, enters, goes_on, goes_first, asked, chosen, current};
 ghost use Rattle.kc_model.specs.Passing.{IsIdle};
+ghost use Rattle.kc_model.specs.Peeking.{peeked};
 ghost use Rattle.kc_machine.specs.Sound.{IsGoing, IsReady, IsSoundGoing};
 
-use crate::bus::Common;
+use crate::bus::{Common, is_outside};
 use crate::choosing::{entry_time, fetch, read_front};
 use crate::over::place_over;
+use crate::registers::{look, window_for};
 use kc_base::{Kind, StateTime, Steps};
+use kc_bus::Master;
 use kc_code::Decoded;
 use kc_effect::Cpu;
 use kc_exec::word_states;
@@ -180,6 +184,20 @@ impl Core {
         match self.under_way {
             Some(activity) => activity,
             None => self.chosen(steps),
+        }
+    }
+
+    /// The byte at an address, in the window that the processor sees.
+    pub(crate) fn peek(&self, addr: u16) -> u8
+        ensures { result ≡ peeked (machine_of self.now) addr }
+    {
+        if addr < 0x18 {
+            let window = window_for(Master::Cpu, self.bus.units.wsr);
+            look(self.time, window, self.bus.units, addr)
+        } else if is_outside(addr) {
+            0
+        } else {
+            self.bus.memory[addr as usize]
         }
     }
 

@@ -5,6 +5,7 @@ ghost use Rattle.kc_effect.specs.Window.{is_wsr};
 ghost use Rattle.kc_trace.specs.Printable.{HasName};
 ghost use Rattle.kc_model.specs.Board.{latch_edges};
 ghost use Rattle.kc_model.specs.Registers.{window_seen, bytes_everywhere, bytes_read, bytes_written, words_read, words_written, row_at, timer1, byte_value, with_byte, word_value, with_word, after_byte, after_word, unnamed, byte_read, after_byte_read, byte_written, word_read, after_word_read, word_written};
+ghost use Rattle.kc_model.specs.Peeking.{half_at, looked};
 ghost use Rattle.kc_model.specs.Scene.{byte_weight, word_weight};
 
 use arrayvec::ArrayVec;
@@ -158,12 +159,7 @@ pub(crate) fn behind_byte(window: Window, units: Units, addr: u16) -> Units
 }
 
 /// The units after a byte write, or its refusal.
-pub(crate) fn write_byte(
-    window: Window,
-    units: Units,
-    addr: u16,
-    value: u8,
-) -> Result<Units, Kind>
+pub(crate) fn write_byte(window: Window, units: Units, addr: u16, value: u8) -> Result<Units, Kind>
     requires { IsTrue (is_wsr units.wsr) }
     ensures value { result ≡ byte_written window units addr value }
     ensures window { IfOk result (λ u. IsTrue (is_wsr u.wsr)) }
@@ -175,12 +171,7 @@ pub(crate) fn write_byte(
 }
 
 /// A word read in a state: a word register, or two bytes, the low one first.
-pub(crate) fn read_word(
-    t: StateTime,
-    window: Window,
-    units: Units,
-    addr: u16,
-) -> Result<u16, Kind>
+pub(crate) fn read_word(t: StateTime, window: Window, units: Units, addr: u16) -> Result<u16, Kind>
     requires { addr < 24 }
     ensures { result ≡ word_read t window units addr }
 {
@@ -205,12 +196,7 @@ pub(crate) fn behind_word(window: Window, units: Units, addr: u16) -> Units
 }
 
 /// The units after a word write, or its refusal: a word register, or two bytes, of which a refused one leaves both.
-pub(crate) fn write_word(
-    window: Window,
-    units: Units,
-    addr: u16,
-    value: u16,
-) -> Result<Units, Kind>
+pub(crate) fn write_word(window: Window, units: Units, addr: u16, value: u16) -> Result<Units, Kind>
     requires window { IsTrue (is_wsr units.wsr) }
     requires register { addr < 24 }
     ensures value { result ≡ word_written window units addr value }
@@ -221,6 +207,29 @@ pub(crate) fn write_word(
     }
     let middle = write_byte(window, units, addr, (value % 256) as u8)?;
     write_byte(window, middle, addr + 1, (value / 256) as u8)
+}
+
+fn half_at(addr: u16, word: u16) -> u8
+    ensures { result ≡ half_at addr word }
+{
+    if addr % 2 == 0 {
+        (word % 256) as u8
+    } else {
+        (word / 256) as u8
+    }
+}
+
+/// The byte of a register as a read would give it, each half of a word register, and 0 where a read is undefined.
+pub(crate) fn look(t: StateTime, window: Window, units: Units, addr: u16) -> u8
+    ensures { result ≡ looked t window units addr }
+{
+    if let Some(register) = byte_to_read(window, addr) {
+        return byte_of(units, register);
+    }
+    match word_to_read(window, addr - addr % 2) {
+        Some(register) => half_at(addr, word_of(t, units, register)),
+        None => 0,
+    }
 }
 
 /// Whether a byte access counts as one that reaches a unit.

@@ -18,7 +18,7 @@ use Rattle.kc_effect.specs.Effect.{Outcome, Done, Refused, run}
 use Rattle.kc_effect.specs.Effects.{effect_of}
 use Rattle.kc_effect.specs.Entering.{entry, vector_at, opcode_trap}
 use Rattle.kc_effect.specs.BlockMoves.{moved_word}
-use Rattle.kc_model.specs.Passing.{at, left_at, stepped_of, after_ticks, ticks_of, passed, whole}
+use Rattle.kc_model.specs.Passing.{at, left_at, stepped_of, after_ticks, ticks_of, passed, whole, activity_end}
 use Rattle.kc_model.specs.Machine.{Machine, Stepped, step, stepped, current, chosen, finished, waiting, with_units, settled, entered, trapped, own_records, scene_of, before}
 use Rattle.kc_model.specs.Run.{still, and_then, run_for, run_to}
 
@@ -197,6 +197,10 @@ pub run_to-whole : (until : ℕ) (m : Machine) (a : UnderWay) → m.ended ≡ No
 run_to-whole until m a lives same some sum =
     let n : until - m.time ≡ a.left = omega arith in
     ap (λ k. run_for k m) n ∙ run_for-whole m a lives (sym same) some
+
+-- a run to the end of the current activity
+pub run_to-activity : (m : Machine) → m.ended ≡ None → 0 < (current m).left → run_to (activity_end m) m ≡ whole m (current m)
+run_to-activity m lives some = run_to-whole (activity_end m) m (current m) lives refl some refl
 
 -- a run that goes on from a state on its way
 pub run_to-append : (mid until : ℕ) (m : Machine) → m.time ≤ mid → mid ≤ until → (run_to mid m).machine.time ≡ mid → run_to until m ≡ and_then (run_to mid m) (run_to until)
