@@ -1,6 +1,6 @@
 -- How the slots go on while no entry fires and nothing is loaded.
 use Rattle.std.proofs.Common.{◌≡◌, ℕ, zero, suc, ◌+◌, ◌-◌, ◌*◌, ◌/◌, ◌%◌, ◌<◌, ◌==◌, Bool, true, false, not, ◌&&◌, ◌||◌, refl, sym, ◌∙◌, ap, arith, Option, Some, None, inl, inr, ◌⊎◌, List, length}
-use Rattle.std.specs.Prelude.{if◌then◌else◌, slice_index_or, is_none, is_some}
+use Rattle.std.specs.Prelude.{if◌then◌else◌, slice_index_or, slice_set, is_none, is_some}
 use Rattle.std.proofs.lemmas.Bool.Decides.{nat_tests}
 use Rattle.std.proofs.lemmas.Bool.{cases_eq, eq-eqb, ne_eqb}
 use Rattle.std.proofs.lemmas.List.{get_or-set_same, get_or-set_other, length-set, ext_get_or}
@@ -11,7 +11,7 @@ use Rattle.kc_timers.specs.declared.T2View.{T2View}
 use Rattle.kc_timers.specs.T2.{value_at, moved, counts_in}
 use Rattle.kc_hso.specs.declared.cam.Entry.{Entry}
 use Rattle.kc_hso.specs.declared.cam.Held.{Held}
-use Rattle.kc_hso.specs.Cam.{Cam, latched, timer_of, matches, fires, slot_at, slot_after, hso_rule, latches_after}
+use Rattle.kc_hso.specs.Cam.{Cam, latched, timer_of, matches, fires, slot_at, slot_after, tick_of, hso_rule, latches_after}
 use Rattle.kc_hso.specs.Visits.{first_visit, pace, meets, met_all, visits_in, down_of, pace_of, met_first, met_in, rested}
 
 visits_none : (from i : ℕ) → i < 8 → visits_in from i 0 ≡ 0
@@ -242,3 +242,19 @@ rested_only view from n old a b p q =
     let latches : a.latches ≡ b.latches = p.latches ∙ sym q.latches in
     let same : cam a.command a.slots a.holding a.latches ≡ cam b.command b.slots b.holding b.latches = cc in
     same
+
+-- whether a lock is kept does not matter where nothing fires
+pub keep_unseen : (keep : Bool) (t t2 : ℕ) (d : Cam) → fires (slot_at d t) t t2 ≡ false → tick_of keep t t2 d ≡ tick_of false t t2 d
+keep_unseen keep t t2 d quiet =
+    ap (λ s. record (tick_of false t t2 d) { slots = slice_set d.slots (t % 8) s }) (by (slot_at d t) quiet)
+  where
+    slot_by : (entry : Entry) (m done : Bool) → (m && not done) ≡ false →
+        ◌≡◌ {A = Option Entry} (if m then (if done || (keep && bit entry.command 7) then Some (record entry { done = true }) else None) else Some (record entry { done = false }))
+        (if m then (if done || (false && bit entry.command 7) then Some (record entry { done = true }) else None) else Some (record entry { done = false }))
+    slot_by entry true true q = refl
+    slot_by entry true false q = cc
+    slot_by entry false done q = refl
+
+    by : (o : Option Entry) → fires o t t2 ≡ false → slot_after keep t t2 d.holding o ≡ slot_after false t t2 d.holding o
+    by None q = refl
+    by (Some entry) q = slot_by entry (matches entry t t2) entry.done q

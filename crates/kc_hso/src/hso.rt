@@ -1,5 +1,5 @@
 //! The unit with its eight slots.
-ghost use Rattle.std.specs.Prelude.{◌≡◌, ℕ, ◌+◌, ◌-◌, ◌*◌, ◌/◌, ◌%◌, ◌≤◌, ◌<◌, ◌^◌, replicate, true, false, Bool, List, length, is_some, is_none, Option, Some, None, OnOk, IfErr, slice_get};
+ghost use Rattle.std.specs.Prelude.{◌≡◌, ℕ, ◌+◌, ◌-◌, ◌*◌, ◌/◌, ◌%◌, ◌≤◌, ◌<◌, ◌^◌, replicate, true, false, Bool, List, length, is_some, is_none, Option, Some, None, IsOk, ◌↔◌, OnOk, OnErr, IfErr, slice_get};
 ghost use Rattle.kc_span.specs.Span.{after, QuietFor, IsDue, one_more};
 ghost use Rattle.kc_hso.specs.declared.cam.Held.{Held};
 ghost use Rattle.kc_hso.specs.Cam.{load_refusal, with_load, emptied, tick_of, out_of, hso_rule, has_timer2_of, ios0_of, weight as weight_of, latch_bits as latch_bits_of, is_on_timer2 as on_timer2, latched as latched_by, matches as matches_at, loaded_as};
@@ -74,8 +74,10 @@ impl Hso {
     /// IOC2.0. The refusals in their order: HoldingFull, where the holding register is loaded; Channel, for channel 12 or
     /// 13; FastTimer2, for a command on Timer 2 while `fast`.
     pub fn load_time(&mut self, time: u16, fast: bool) -> Result<(), Kind>
-        ensures ok { OnOk result ((load_refusal self.old.inner fast ≡ None) × (self.new ≡ record self.old { inner = with_load time self.old.inner })) }
-        ensures err { IfErr result (λ kind. (load_refusal self.old.inner fast ≡ Some kind) × (self.new ≡ self.old)) }
+        ensures loads { IsOk result ↔ (load_refusal self.old.inner fast ≡ None) }
+        ensures ok { OnOk result (self.new ≡ record self.old { inner = with_load time self.old.inner }) }
+        ensures refused { IfErr result (λ kind. load_refusal self.old.inner fast ≡ Some kind) }
+        ensures err { OnErr result (self.new ≡ self.old) }
     {
         if self.holding.is_some() {
             return Err(Kind::HoldingFull);
