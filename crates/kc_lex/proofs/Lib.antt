@@ -4,3 +4,4 @@ pub mod ScanLemmas
 pub mod ControlLemmas
 pub mod LineLemmas
 pub mod WrittenLemmas
+pub mod ProperLemmas
