@@ -1,6 +1,6 @@
 -- Which bytes are the front of an instruction, and that nothing behind one matters.
-use Rattle.std.proofs.Common.{◌≡◌, ◌≢◌, ℕ, zero, suc, ◌+◌, ◌-◌, ◌*◌, ◌%◌, ◌<◌, ◌≤◌, Bool, true, false, List, [], ◌∷◌, ◌++◌, Option, Some, None, refl, sym, ◌∙◌, ap, subst, arith, ◌⊎◌, inl, inr, length, take, drop, append_assoc, length-append, lit≤, lit<, ◌↔◌}
-use Rattle.std.specs.Prelude.{◌==◌, nat_lt, if◌then◌else◌, ◌&&◌, ◌||◌, not}
+use Rattle.std.proofs.Common.{◌≡◌, ℕ, ◌+◌, ◌-◌, ◌*◌, ◌%◌, ◌≤◌, Bool, true, false, List, [], ◌∷◌, ◌++◌, Option, Some, None, refl, sym, ◌∙◌, ap, subst, arith, ◌⊎◌, inl, inr, length, take, drop, append_assoc, length-append, lit≤, lit<, ◌↔◌}
+use Rattle.std.specs.Prelude.{◌==◌, if◌then◌else◌, ◌&&◌, ◌||◌, not}
 use Rattle.std.specs.Int.{w8, w16, cast_signed}
 use Rattle.std.proofs.lemmas.List.{append-nil, length-take-le, length-drop}
 use Rattle.std.proofs.lemmas.Grind.{common_steps}
@@ -10,14 +10,14 @@ use Rattle.kc_isa.specs.declared.layout.Layout.{Layout}
 use Rattle.kc_isa.specs.declared.insn.Operand.{Operand}
 use Rattle.kc_isa.specs.declared.insn.Operand.TheVariants.{Absent, Reg, Imm, Indirect, Increment, Short, Long, Count, Disp}
 use Rattle.kc_isa.specs.declared.insn.Insn.{Insn}
-use Rattle.kc_isa.specs.Formed.{is_even, is_byte, is_formed, row_fits, operand_length, length_of, row_length}
+use Rattle.kc_isa.specs.Formed.{is_even, is_byte, is_formed, operand_length, length_of, row_length}
 use Rattle.kc_isa.specs.declared.table.Shape.{Shape}
 use Rattle.kc_isa.specs.declared.table.Shape.TheVariants.{Nothing, One, Two, Four, FourOne, FourTwo, Exchange, CountOne, Near, Conditional, BitTest, Loop, TableJump, Far, Key}
 use Rattle.kc_isa.specs.Names.{Shown, row_at}
 use Rattle.kc_isa.specs.Table.{plain_entry}
 use Rattle.kc_isa.specs.Layout.{layout_of}
-use Rattle.kc_code.specs.Spelling.{word, operand_bytes, high_bits, laid_bytes, prefix, row_spelling, spelling, is_in_range}
-use Rattle.kc_code.specs.Reading.{◌>>=◌, byte_at, word_at, regs_at, distance11, indirect_at, indexed_at, mode_at, operand_at, base_opcode, joined, laid_at, body_at, finished, no_row, with_row, behind_prefix, decode_of}
+use Rattle.kc_code.specs.Spelling.{operand_bytes, high_bits, laid_bytes, prefix, row_spelling, spelling, is_in_range}
+use Rattle.kc_code.specs.Reading.{◌>>=◌, regs_at, distance11, indirect_at, indexed_at, mode_at, operand_at, base_opcode, joined, laid_at, body_at, finished, no_row, with_row, behind_prefix, decode_of}
 use Rattle.kc_code.specs.declared.reader.Decoded.{Decoded}
 use Rattle.kc_code.specs.declared.reader.Decoded.TheVariants.{Insn as Whole, Unimplemented, Undefined, Short as Cut}
 use Rattle.kc_code.specs.Bytes.{IsBytes}
