@@ -166,7 +166,6 @@ pub fn shift_number(how: Shift, size: Size, n: u32, count: u8, flags: Flags) -> 
 }
 
 /// The product of two numbers, of twice their width.
-#[tactic(auto, using(crate::proofs::Bounds::product_bound))]
 pub fn times(with_sign: bool, byte: bool, a: u16, b: u16) -> u32
     requires a { a < limit byte }
     requires b { b < limit byte }
