@@ -1,6 +1,5 @@
 -- Laws of runs: how they are put together, and how an activity is passed at once.
 use Rattle.std.proofs.Common.{◌≡◌, ℕ, zero, suc, ◌+◌, ◌-◌, ◌<◌, ◌≤◌, ◌≢◌, Bool, true, false, eqb, List, [], ◌++◌, Option, Some, None, refl, sym, ◌∙◌, ap, subst, append_assoc, append-nil, zero-add, arith}
-use Rattle.std.specs.Option.{unwrap_or}
 use Rattle.std.proofs.lemmas.Bool.Decides.{nat_tests}
 use Rattle.kc_effect.specs.declared.cpu.Cpu.{Cpu}
 use Rattle.kc_effect.specs.declared.cpu.After.{After}
@@ -18,8 +17,8 @@ use Rattle.kc_effect.specs.Effect.{Outcome, Done, Refused, run}
 use Rattle.kc_effect.specs.Effects.{effect_of}
 use Rattle.kc_effect.specs.Entering.{entry, vector_at, opcode_trap}
 use Rattle.kc_effect.specs.BlockMoves.{moved_word}
-use Rattle.kc_model.specs.Passing.{at, left_at, stepped_of, after_ticks, ticks_of, passed, whole, activity_end}
-use Rattle.kc_model.specs.Machine.{Machine, Stepped, step, stepped, current, chosen, finished, waiting, with_units, settled, entered, trapped, own_records, scene_of, before}
+use Rattle.kc_model.specs.Passing.{at, left_at, stepped_of, after_ticks, passed, whole, activity_end}
+use Rattle.kc_model.specs.Machine.{Machine, Stepped, step, stepped, current, finished, waiting, with_units, settled, entered, trapped, own_records, scene_of, before}
 use Rattle.kc_model.specs.Run.{still, and_then, run_for, run_to}
 
 -- a machine that has ended does nothing more

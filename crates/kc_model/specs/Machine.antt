@@ -1,5 +1,5 @@
 -- The machine, and what it does in one state time (80C196KC User's Manual, "Interrupts", "Idle and Powerdown Modes"; the states of activities and the moment of their accesses are this kit's own).
-use Rattle.std.specs.Prelude.{ℕ, zero, suc, ◌+◌, ◌-◌, ◌*◌, ◌%◌, Bool, true, false, ◌||◌, not, List, [], ◌∷◌, ◌++◌, Option, Some, None, Result, Ok, Err, if◌then◌else◌, ◌==◌, nat_lt, slice_index, replicate}
+use Rattle.std.specs.Prelude.{ℕ, zero, suc, ◌+◌, ◌-◌, ◌%◌, Bool, true, false, ◌||◌, not, List, [], ◌∷◌, ◌++◌, Option, Some, None, Result, Ok, Err, if◌then◌else◌, ◌==◌, nat_lt, slice_index, replicate}
 use Rattle.kc_base.specs.declared.types.Kind.{Kind}
 use Rattle.kc_base.specs.declared.types.Kind.TheVariants.{OutsideMap, Opcode}
 use Rattle.kc_base.specs.declared.types.Undefined.{Undefined}
@@ -13,12 +13,11 @@ use Rattle.kc_code.specs.declared.reader.Decoded.{Decoded}
 use Rattle.kc_code.specs.declared.reader.Decoded.TheVariants as says
 use Rattle.kc_code.specs.Reading.{decode_of}
 use Rattle.kc_effect.specs.declared.cpu.Cpu.{Cpu}
-use Rattle.kc_effect.specs.declared.cpu.Words.{Words}
 use Rattle.kc_effect.specs.declared.cpu.After.{After}
 use Rattle.kc_effect.specs.declared.cpu.After.TheVariants as after
 use Rattle.kc_effect.specs.Status.{has}
 use Rattle.kc_effect.specs.Memory.{is_hole}
-use Rattle.kc_effect.specs.Effect.{Effect, Outcome, Done, Refused, run}
+use Rattle.kc_effect.specs.Effect.{Outcome, Done, Refused, run}
 use Rattle.kc_effect.specs.Effects.{effect_of}
 use Rattle.kc_effect.specs.Jumping.{next_pc}
 use Rattle.kc_effect.specs.BlockMoves.{moved_word, word_states_of}

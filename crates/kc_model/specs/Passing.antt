@@ -1,5 +1,5 @@
 -- An activity, or a span of idle states, passed at once (this kit's own).
-use Rattle.std.specs.Prelude.{◌≡◌, ℕ, ◌+◌, ◌-◌, ◌<◌, Bool, false, List, Option, Some, None}
+use Rattle.std.specs.Prelude.{◌≡◌, ℕ, ◌+◌, ◌-◌, ◌<◌, false, List, Option, Some, None}
 use Rattle.kc_span.specs.Span.{after}
 use Rattle.kc_intc.specs.declared.requests.Choice.TheVariants.{Go}
 use Rattle.kc_trace.specs.declared.record.Record.{Record}
