@@ -3,3 +3,4 @@ pub mod Bus
 pub mod BusLaws
 pub mod Sound
 pub mod Leading
+pub mod Seen

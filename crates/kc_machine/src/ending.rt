@@ -1,5 +1,5 @@
 // How activities end: their accesses, and what is printed of them.
-ghost use Rattle.std.specs.Prelude.{◌≡◌, ◌≤◌, ◌<◌, ◌+◌, ◌*◌, ◌^◌, ◌++◌, IsTrue, IfSome, None, [], ◌∷◌, option_to_list};
+ghost use Rattle.std.specs.Prelude.{◌≡◌, ◌≤◌, ◌<◌, ◌+◌, ◌*◌, ◌^◌, ◌++◌, IsTrue, IfSome, None, [], ◌∷◌, option_to_list, false, true};
 ghost use Rattle.kc_isa.specs.Formed.{is_formed};
 ghost use Rattle.kc_effect.specs.BlockMoves.{IsOfMove};
 ghost use Rattle.kc_effect.specs.Jumping.{next_pc};

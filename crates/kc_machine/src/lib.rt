@@ -2,6 +2,15 @@
 #![tactic(auto)]
 
 mod bus;
+mod choosing;
+mod ending;
+mod finals;
+mod machine;
+mod over;
+mod parts;
+mod passing;
 mod registers;
 
-pub use bus::Common;
+pub use kc_model::End;
+pub use machine::Machine;
+pub use passing::WriteFault;

@@ -158,12 +158,7 @@ pub(crate) fn behind_byte(window: Window, units: Units, addr: u16) -> Units
 }
 
 /// The units after a byte write, or its refusal.
-pub(crate) fn write_byte(
-    window: Window,
-    units: Units,
-    addr: u16,
-    value: u8,
-) -> Result<Units, Kind>
+pub(crate) fn write_byte(window: Window, units: Units, addr: u16, value: u8) -> Result<Units, Kind>
     requires { IsTrue (is_wsr units.wsr) }
     ensures value { result ≡ byte_written window units addr value }
     ensures window { IfOk result (λ u. IsTrue (is_wsr u.wsr)) }
@@ -175,12 +170,7 @@ pub(crate) fn write_byte(
 }
 
 /// A word read in a state: a word register, or two bytes, the low one first.
-pub(crate) fn read_word(
-    t: StateTime,
-    window: Window,
-    units: Units,
-    addr: u16,
-) -> Result<u16, Kind>
+pub(crate) fn read_word(t: StateTime, window: Window, units: Units, addr: u16) -> Result<u16, Kind>
     requires { addr < 24 }
     ensures { result ≡ word_read t window units addr }
 {
@@ -205,12 +195,7 @@ pub(crate) fn behind_word(window: Window, units: Units, addr: u16) -> Units
 }
 
 /// The units after a word write, or its refusal: a word register, or two bytes, of which a refused one leaves both.
-pub(crate) fn write_word(
-    window: Window,
-    units: Units,
-    addr: u16,
-    value: u16,
-) -> Result<Units, Kind>
+pub(crate) fn write_word(window: Window, units: Units, addr: u16, value: u16) -> Result<Units, Kind>
     requires window { IsTrue (is_wsr units.wsr) }
     requires register { addr < 24 }
     ensures value { result ≡ word_written window units addr value }
