@@ -59,7 +59,7 @@ stands-code (i ∷ insns) at image rest all here =
 
 -- the image of instructions that have room
 pub linked-code : (insns : List Insn) (blank image : List ℕ) → All IsPlaceable insns → size_of insns ≤ 0x3f80 → blank ≡ replicate 57344 255
-  → image ≡ take origin blank ++ code_of insns ++ drop (origin + length (code_of insns)) blank → Linked insns image
+    → image ≡ take origin blank ++ code_of insns ++ drop (origin + length (code_of insns)) blank → Linked insns image
 linked-code insns blank image all fits full e =
     let code = code_of insns in
     let size : length code ≡ size_of insns = length-code_of insns all in
@@ -73,8 +73,8 @@ linked-code insns blank image all fits full e =
       stands = stands-code insns origin image tail all (ap (drop origin) split ∙ ap (λ n. drop n (take origin blank ++ (code ++ tail))) (sym front) ∙ drop-append_seam (take origin blank) (code ++ tail));
       before = λ k below. ap (λ xs. slice_index xs k) split ∙ get_or_append_left (take origin blank) (code ++ tail) 0 k (omega arith) ∙ get_or-take origin blank k 0 below ∙ blanks k (omega arith);
       after = λ k above within.
-        let passed : length (take origin blank ++ code) ≡ origin + length code = length-append (take origin blank) code ∙ ap (λ n. n + length code) front in
-        ap (λ xs. slice_index xs k) e ∙ get_or-append_right (take origin blank ++ code) tail (origin + length code) k 0 passed (omega arith)
-        ∙ get_or-drop (origin + length code) blank (k - (origin + length code)) 0
-        ∙ ap (slice_index blank) (let same : origin + length code + (k - (origin + length code)) ≡ k = omega arith in same) ∙ blanks k within;
+          let passed : length (take origin blank ++ code) ≡ origin + length code = length-append (take origin blank) code ∙ ap (λ n. n + length code) front in
+          ap (λ xs. slice_index xs k) e ∙ get_or-append_right (take origin blank ++ code) tail (origin + length code) k 0 passed (omega arith)
+          ∙ get_or-drop (origin + length code) blank (k - (origin + length code)) 0
+          ∙ ap (slice_index blank) (let same : origin + length code + (k - (origin + length code)) ≡ k = omega arith in same) ∙ blanks k within;
     }

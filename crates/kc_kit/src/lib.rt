@@ -14,3 +14,6 @@ mod words;
 
 pub use status::Status;
 pub use top::kit;
+
+#[cfg(test)]
+mod tests;

@@ -13,6 +13,8 @@ returns-clause-some c =
     let insns = c.args.insns.now in
     let code = c.deref.ensures.value ∙ c.in_ok-code.ensures.bytes in
     let size = ap length c.in_ok-code.ensures.bytes ∙ length-code_of insns c.requires in
-    let fits : size_of insns ≤ 0x3f80 = omega (arith, size) in
-    (fits, linked-code insns c.in_ok-image.image c.put.new.self c.requires fits c.in_ok-image.ensures
-      (rw code at c.put.ensures))
+    let fits : size_of insns ≤ 0x3f80 = omega (arith, size) in (
+      fits,
+      linked-code insns c.in_ok-image.image c.put.new.self c.requires fits c.in_ok-image.ensures
+          (rw code at c.put.ensures),
+    )
