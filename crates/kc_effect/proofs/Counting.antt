@@ -36,7 +36,7 @@ use Rattle.kc_effect.specs.Plans.{plan_of}
 use Rattle.kc_effect.specs.Computing.{register, has_a, operate, read_altered, alter, extend, shift_count, shift, normalize, factor, multiply, divide, compare_long, compute}
 use Rattle.kc_effect.specs.Moving.{load, load_extended, store, exchange, push_source, pop_target, move_data}
 use Rattle.kc_effect.specs.Jumping.{bit_jump, count_down, table_target, goes}
-use Rattle.kc_effect.specs.Saving.{push_status, pop_status, push_all, pop_all, save}
+use Rattle.kc_effect.specs.Saving.{push_status, pop_status, push_masks, pop_masks, push_all, pop_all, save}
 use Rattle.kc_effect.specs.Settings.{idle_after}
 use Rattle.kc_effect.specs.BlockMoves.{set_up, less_one, write_pointers, write_count, move_one, moved_word}
 use Rattle.kc_effect.specs.Entering.{entry, trap}
@@ -324,15 +324,21 @@ pop_status-most : AtMost 4 pop_status
 unfolding pop_status
 pop_status-most = AtMost-bind 3 1 pop _ pop-most (λ n. λ m. (omega arith, λ k. tt))
 
+push_masks-most : AtMost 4 push_masks
+unfolding push_masks
+push_masks-most = AtMost-bind 3 1 (Look _) _ (λ m. push-most _) (λ pushed. (λ m. (omega arith, λ k. tt)))
+
+pop_masks-most : AtMost 4 pop_masks
+unfolding pop_masks
+pop_masks-most = AtMost-bind 3 1 pop _ pop-most (λ n. λ m. (omega arith, λ k. tt))
+
 push_all-most : (psw : ℕ) → AtMost 8 (push_all psw)
 unfolding push_all
-push_all-most psw =
-    AtMost-bind 4 4 (push_status psw) _ (push_status-most psw) (λ first.
-    AtMost-bind 3 1 (Look _) _ (λ m. push-most _) (λ second. (λ m. (omega arith, λ k. tt))))
+push_all-most psw = AtMost-bind 4 4 (push_status psw) _ (push_status-most psw) (λ u. push_masks-most)
 
 pop_all-most : AtMost 8 pop_all
 unfolding pop_all
-pop_all-most = AtMost-bind 3 5 pop _ pop-most (λ n. λ m. (omega arith, λ k. pop_status-most))
+pop_all-most = AtMost-bind 4 4 pop_masks _ pop_masks-most (λ u. pop_status-most)
 
 save-most : (how : Saving) (psw : ℕ) → AtMost 8 (save how psw)
 unfolding save

@@ -5,7 +5,7 @@ ghost use Rattle.kc_effect.specs.BlockMoves.{set_up, after_words, cpu_after_word
 ghost use Rattle.kc_effect.specs.Effects.{Performs};
 
 use crate::jumping::following;
-use crate::parts::{read, read_from, read_long_from, write, write_long_to, write_to};
+use kc_access::{read_at, read_long, read_register, write_at, write_long, write_register};
 use kc_base::Kind;
 use kc_bus::Bus;
 use kc_effect::{After, Cpu, Words};
@@ -25,8 +25,8 @@ pub(crate) fn start_words<B: Bus>(
     ensures all { IfOk result (λ w. w.left ≡ w.count) }
     ensures kind { IfOk result (λ w. w.interruptible ≡ interruptible) }
 {
-    let pointers = read_long_from(bus, wsr, insn.regs[1])?;
-    let count = read_from(bus, false, wsr, insn.regs[0])?;
+    let pointers = read_long(bus, wsr, insn.regs[1])?;
+    let count = read_register(bus, false, wsr, insn.regs[0])?;
     Ok(Words {
         source: (pointers % 0x1_0000) as u16,
         target: (pointers / 0x1_0000) as u16,
@@ -88,7 +88,7 @@ fn put_pointers<B: Bus>(bus: &mut B, wsr: u8, insn: &Insn, words: Words) -> Resu
     ensures same { B.lent bus.new ≡ B.lent bus.old }
 {
     if words.interruptible || words.left == 0 {
-        write_long_to(bus, wsr, insn.regs[1], joined(words.source, words.target))
+        write_long(bus, wsr, insn.regs[1], joined(words.source, words.target))
     } else {
         Ok(())
     }
@@ -108,7 +108,7 @@ fn put_count<B: Bus>(bus: &mut B, wsr: u8, insn: &Insn, words: Words) -> Result<
     } else {
         words.left
     };
-    write_to(bus, false, wsr, insn.regs[0], shown)
+    write_register(bus, false, wsr, insn.regs[0], shown)
 }
 
 #[tactic(auto, using(kc_effect::proofs::Running::run_bind), unfolding(kc_effect::specs::BlockMoves::move_one))]
@@ -118,8 +118,8 @@ fn do_word<B: Bus>(bus: &mut B, wsr: u8, insn: &Insn, words: Words) -> Result<()
     ensures spent { B.spent bus.new + B.allowed (B.held bus.old) ≤ B.spent bus.old + B.allowed (B.held bus.new) }
     ensures same { B.lent bus.new ≡ B.lent bus.old }
 {
-    let n = read(bus, false, words.source)?;
-    write(bus, false, words.target, n)?;
+    let n = read_at(bus, false, words.source)?;
+    write_at(bus, false, words.target, n)?;
     let rest = behind_one(words);
     put_pointers(bus, wsr, insn, rest)?;
     put_count(bus, wsr, insn, rest)

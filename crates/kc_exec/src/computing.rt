@@ -4,13 +4,11 @@ ghost use Rattle.kc_effect.specs.Parts.{limit};
 ghost use Rattle.kc_effect.specs.Operations.{writes_result, reads_register};
 ghost use Rattle.kc_effect.specs.Computing.{has_a, destination, operate, read_altered, alter, extend, shift_count, shift, normalize, factor, multiply, divide, compare_long, compute};
 
-use crate::numbers::{change, combine, compare_longs, share, shift_number, spread_low, times};
-use crate::operands::read_source;
-use crate::parts::{
-    double_of, read_from, read_long_from, read_low_half_of, read_sized_from, write_long_to,
-    write_sized_to, write_to,
+use kc_access::{
+    change, combine, compare_longs, double_of, pack, read_long, read_low_half, read_register,
+    read_sized, read_source, share, shift_number, spread_low, times, unpack, write_long,
+    write_register, write_sized,
 };
-use crate::status::{pack, unpack};
 use kc_alu::{Shift, normalize};
 use kc_base::Kind;
 use kc_bus::Bus;
@@ -53,10 +51,10 @@ fn do_operate<B: Bus>(
     ensures same { B.lent bus.new ≡ B.lent bus.old }
 {
     let s = read_source(bus, byte, wsr, insn.operand)?;
-    let n = read_from(bus, byte, wsr, insn.regs[0])?;
+    let n = read_register(bus, byte, wsr, insn.regs[0])?;
     let (value, flags) = combine(op, byte, n, s, unpack(psw));
     if is_kept(op) {
-        write_to(bus, byte, wsr, last_register(insn), value)?;
+        write_register(bus, byte, wsr, last_register(insn), value)?;
     }
     Ok(pack(psw, flags))
 }
@@ -81,7 +79,7 @@ fn read_changed<B: Bus>(
     ensures bound { IfOk result (λ n. n < limit byte) }
 {
     if is_read(how) {
-        read_from(bus, byte, wsr, d)
+        read_register(bus, byte, wsr, d)
     } else {
         Ok(0)
     }
@@ -102,7 +100,7 @@ fn do_alter<B: Bus>(
 {
     let n = read_changed(bus, how, byte, wsr, d)?;
     let (value, flags) = change(how, byte, n, unpack(psw));
-    write_to(bus, byte, wsr, d, value)?;
+    write_register(bus, byte, wsr, d, value)?;
     Ok(pack(psw, flags))
 }
 
@@ -112,9 +110,9 @@ fn do_extend<B: Bus>(bus: &mut B, byte: bool, wsr: u8, d: u8, psw: u8) -> Result
     ensures spent { B.spent bus.new + B.allowed (B.held bus.old) ≤ B.spent bus.old + B.allowed (B.held bus.new) }
     ensures same { B.lent bus.new ≡ B.lent bus.old }
 {
-    let n = read_low_half_of(bus, byte, wsr, d)?;
+    let n = read_low_half(bus, byte, wsr, d)?;
     let (value, flags) = spread_low(byte, n, unpack(psw));
-    write_sized_to(bus, double_of(byte), wsr, d, value)?;
+    write_sized(bus, double_of(byte), wsr, d, value)?;
     Ok(pack(psw, flags))
 }
 
@@ -127,7 +125,7 @@ fn read_count<B: Bus>(bus: &mut B, wsr: u8, operand: Operand) -> Result<u8, Kind
 {
     match operand {
         Operand::Count(n) if n < 0x10 => Ok(n),
-        Operand::Count(n) => Ok((read_from(bus, true, wsr, n)? % 32) as u8),
+        Operand::Count(n) => Ok((read_register(bus, true, wsr, n)? % 32) as u8),
         _ => Ok(0),
     }
 }
@@ -146,9 +144,9 @@ fn do_shift<B: Bus>(
     ensures same { B.lent bus.new ≡ B.lent bus.old }
 {
     let count = read_count(bus, wsr, insn.operand)?;
-    let n = read_sized_from(bus, size, wsr, insn.regs[0])?;
+    let n = read_sized(bus, size, wsr, insn.regs[0])?;
     let (value, flags) = shift_number(how, size, n, count, unpack(psw));
-    write_sized_to(bus, size, wsr, insn.regs[0], value)?;
+    write_sized(bus, size, wsr, insn.regs[0], value)?;
     Ok(pack(psw, flags))
 }
 
@@ -158,10 +156,10 @@ fn do_normalize<B: Bus>(bus: &mut B, wsr: u8, insn: &Insn, psw: u8) -> Result<u8
     ensures spent { B.spent bus.new + B.allowed (B.held bus.old) ≤ B.spent bus.old + B.allowed (B.held bus.new) }
     ensures same { B.lent bus.new ≡ B.lent bus.old }
 {
-    let n = read_long_from(bus, wsr, insn.regs[1])?;
+    let n = read_long(bus, wsr, insn.regs[1])?;
     let (value, count, flags) = normalize(n, unpack(psw));
-    write_long_to(bus, wsr, insn.regs[1], value)?;
-    write_to(bus, true, wsr, insn.regs[0], u16::from(count))?;
+    write_long(bus, wsr, insn.regs[1], value)?;
+    write_register(bus, true, wsr, insn.regs[0], u16::from(count))?;
     Ok(pack(psw, flags))
 }
 
@@ -173,9 +171,9 @@ fn read_factor<B: Bus>(bus: &mut B, byte: bool, wsr: u8, insn: &Insn) -> Result<
     ensures bound { IfOk result (λ n. n < limit byte) }
 {
     if is_with_a(insn) {
-        read_from(bus, byte, wsr, insn.regs[0])
+        read_register(bus, byte, wsr, insn.regs[0])
     } else {
-        read_low_half_of(bus, byte, wsr, insn.regs[0])
+        read_low_half(bus, byte, wsr, insn.regs[0])
     }
 }
 
@@ -194,7 +192,7 @@ fn do_multiply<B: Bus>(
     let s = read_source(bus, byte, wsr, insn.operand)?;
     let n = read_factor(bus, byte, wsr, insn)?;
     let value = times(with_sign, byte, n, s);
-    write_sized_to(bus, double_of(byte), wsr, last_register(insn), value)
+    write_sized(bus, double_of(byte), wsr, last_register(insn), value)
 }
 
 #[tactic(auto, using(kc_effect::proofs::Running::run_bind), unfolding(kc_effect::specs::Computing::divide))]
@@ -211,9 +209,9 @@ fn do_divide<B: Bus>(
     ensures same { B.lent bus.new ≡ B.lent bus.old }
 {
     let s = read_source(bus, byte, wsr, insn.operand)?;
-    let n = read_sized_from(bus, double_of(byte), wsr, insn.regs[0])?;
+    let n = read_sized(bus, double_of(byte), wsr, insn.regs[0])?;
     let (value, flags) = share(with_sign, byte, n, s, unpack(psw))?;
-    write_sized_to(bus, double_of(byte), wsr, insn.regs[0], value)?;
+    write_sized(bus, double_of(byte), wsr, insn.regs[0], value)?;
     Ok(pack(psw, flags))
 }
 
@@ -223,8 +221,8 @@ fn do_compare_long<B: Bus>(bus: &mut B, wsr: u8, insn: &Insn, psw: u8) -> Result
     ensures spent { B.spent bus.new + B.allowed (B.held bus.old) ≤ B.spent bus.old + B.allowed (B.held bus.new) }
     ensures same { B.lent bus.new ≡ B.lent bus.old }
 {
-    let s = read_long_from(bus, wsr, insn.regs[0])?;
-    let n = read_long_from(bus, wsr, insn.regs[1])?;
+    let s = read_long(bus, wsr, insn.regs[0])?;
+    let n = read_long(bus, wsr, insn.regs[1])?;
     Ok(pack(psw, compare_longs(n, s, unpack(psw))))
 }
 

@@ -2,7 +2,7 @@ ghost use Rattle.std.specs.Prelude.{◌≡◌, ◌+◌, ◌≤◌};
 ghost use Rattle.kc_effect.specs.Effect.{Gives, run};
 ghost use Rattle.kc_effect.specs.Entering.{entry, trap, opcode_trap, Loads};
 
-use crate::parts::{push_word, read};
+use kc_access::{push_word, read_at};
 use kc_base::Kind;
 use kc_bus::Bus;
 use kc_effect::Cpu;
@@ -13,7 +13,7 @@ fn enter_at<B: Bus>(bus: &mut B, vector: u16, back: u16) -> Result<u16, Kind>
     ensures spent { B.spent bus.new + B.allowed (B.held bus.old) ≤ B.spent bus.old + B.allowed (B.held bus.new) }
     ensures same { B.lent bus.new ≡ B.lent bus.old }
 {
-    let pc = read(bus, false, vector)?;
+    let pc = read_at(bus, false, vector)?;
     push_word(bus, back)?;
     Ok(pc)
 }
@@ -26,7 +26,7 @@ pub(crate) fn trap_at<B: Bus>(bus: &mut B, vector: u16, back: u16) -> Result<u16
     ensures same { B.lent bus.new ≡ B.lent bus.old }
 {
     push_word(bus, back)?;
-    read(bus, false, vector)
+    read_at(bus, false, vector)
 }
 
 /// Enters through the vector at an address: pushes PC, and loads it with the word there (80C196KC User's Manual,

@@ -6,8 +6,7 @@ ghost use Rattle.kc_effect.specs.Parts.{limit};
 ghost use Rattle.kc_effect.specs.Operands.{at_offset};
 ghost use Rattle.kc_effect.specs.Jumping.{next_pc, jump_pc, branch_pc, distance, holds, is_taken, bit_jump, count_down, table_target, goes, psw_after};
 
-use crate::parts::{pop_word, push_word, read, read_from, write_to};
-use crate::status::{set_bit, unpack};
+use kc_access::{pop_word, push_word, read_at, read_register, set_bit, unpack, write_register};
 use kc_alu::Flags;
 use kc_base::Kind;
 use kc_bus::Bus;
@@ -87,7 +86,7 @@ fn is_bit_jump<B: Bus>(
     ensures spent { B.spent bus.new + B.allowed (B.held bus.old) ≤ B.spent bus.old + B.allowed (B.held bus.new) }
     ensures same { B.lent bus.new ≡ B.lent bus.old }
 {
-    let n = read_from(bus, true, wsr, register)?;
+    let n = read_register(bus, true, wsr, register)?;
     let found = is_bit(number, n);
     Ok(if set { found } else { !found })
 }
@@ -111,9 +110,9 @@ fn is_counted<B: Bus>(bus: &mut B, byte: bool, wsr: u8, register: u8) -> Result<
     ensures spent { B.spent bus.new + B.allowed (B.held bus.old) ≤ B.spent bus.old + B.allowed (B.held bus.new) }
     ensures same { B.lent bus.new ≡ B.lent bus.old }
 {
-    let n = read_from(bus, byte, wsr, register)?;
+    let n = read_register(bus, byte, wsr, register)?;
     let less = less_one(byte, n);
-    write_to(bus, byte, wsr, register, less)?;
+    write_register(bus, byte, wsr, register, less)?;
     Ok(less != 0)
 }
 
@@ -129,10 +128,10 @@ fn read_table<B: Bus>(bus: &mut B, wsr: u8, insn: &Insn) -> Result<u16, Kind>
     ensures spent { B.spent bus.new + B.allowed (B.held bus.old) ≤ B.spent bus.old + B.allowed (B.held bus.new) }
     ensures same { B.lent bus.new ≡ B.lent bus.old }
 {
-    let pointer = read_from(bus, false, wsr, insn.regs[0])?;
-    let index = read(bus, true, pointer)? as u8;
-    let table = read_from(bus, false, wsr, insn.regs[2])?;
-    read(bus, false, table_place(table, index, insn.regs[1]))
+    let pointer = read_register(bus, false, wsr, insn.regs[0])?;
+    let index = read_at(bus, true, pointer)? as u8;
+    let table = read_register(bus, false, wsr, insn.regs[2])?;
+    read_at(bus, false, table_place(table, index, insn.regs[1]))
 }
 
 /// Does the work of a jump; gives the address at which the program goes on.
@@ -168,7 +167,7 @@ pub(crate) fn do_jump<B: Bus>(
             Ok(branch(taken, insn, cpu.pc))
         }
         Route::Table => read_table(bus, wsr, insn),
-        Route::Register => read_from(bus, false, wsr, insn.regs[0]),
+        Route::Register => read_register(bus, false, wsr, insn.regs[0]),
     }
 }
 

@@ -7,14 +7,10 @@ mod computing;
 mod enters;
 mod jumping;
 mod moving;
-mod numbers;
-mod operands;
-mod parts;
 mod places;
 mod plan;
 mod runs;
 mod saving;
-mod status;
 
 pub use blocks::{move_word, word_states};
 pub use enters::{enter, trap_opcode};

@@ -2,8 +2,9 @@ ghost use Rattle.std.specs.Prelude.{◌≡◌, ◌+◌, ◌≤◌, ◌<◌};
 ghost use Rattle.kc_effect.specs.Effect.{Gives, run};
 ghost use Rattle.kc_effect.specs.Moving.{load, sign_extended, load_extended, store, exchange, push_source, pop_target, move_data};
 
-use crate::operands::{find_target, read_source};
-use crate::parts::{pop_word, push_word, read, read_from, write, write_to};
+use kc_access::{
+    find_target, pop_word, push_word, read_at, read_register, read_source, write_at, write_register,
+};
 use kc_base::Kind;
 use kc_bus::Bus;
 use kc_effect::Movement;
@@ -16,7 +17,7 @@ fn do_load<B: Bus>(bus: &mut B, byte: bool, wsr: u8, insn: &Insn) -> Result<(), 
     ensures same { B.lent bus.new ≡ B.lent bus.old }
 {
     let s = read_source(bus, byte, wsr, insn.operand)?;
-    write_to(bus, byte, wsr, insn.regs[0], s)
+    write_register(bus, byte, wsr, insn.regs[0], s)
 }
 
 fn extend_sign(n: u16) -> u16
@@ -34,7 +35,7 @@ fn do_load_extended<B: Bus>(bus: &mut B, with_sign: bool, wsr: u8, insn: &Insn) 
 {
     let s = read_source(bus, true, wsr, insn.operand)?;
     let value = if with_sign { extend_sign(s) } else { s };
-    write_to(bus, false, wsr, insn.regs[0], value)
+    write_register(bus, false, wsr, insn.regs[0], value)
 }
 
 #[tactic(auto, using(kc_effect::proofs::Running::run_bind), unfolding(kc_effect::specs::Moving::store))]
@@ -43,9 +44,9 @@ fn do_store<B: Bus>(bus: &mut B, byte: bool, wsr: u8, insn: &Insn) -> Result<(),
     ensures spent { B.spent bus.new + B.allowed (B.held bus.old) ≤ B.spent bus.old + B.allowed (B.held bus.new) }
     ensures same { B.lent bus.new ≡ B.lent bus.old }
 {
-    let n = read_from(bus, byte, wsr, insn.regs[0])?;
+    let n = read_register(bus, byte, wsr, insn.regs[0])?;
     let addr = find_target(bus, byte, wsr, insn.operand)?;
-    write(bus, byte, addr, n)
+    write_at(bus, byte, addr, n)
 }
 
 #[tactic(auto, using(kc_effect::proofs::Running::run_bind), unfolding(kc_effect::specs::Moving::exchange))]
@@ -55,10 +56,10 @@ fn do_exchange<B: Bus>(bus: &mut B, byte: bool, wsr: u8, insn: &Insn) -> Result<
     ensures same { B.lent bus.new ≡ B.lent bus.old }
 {
     let addr = find_target(bus, byte, wsr, insn.operand)?;
-    let s = read(bus, byte, addr)?;
-    let n = read_from(bus, byte, wsr, insn.regs[0])?;
-    write_to(bus, byte, wsr, insn.regs[0], s)?;
-    write(bus, byte, addr, n)
+    let s = read_at(bus, byte, addr)?;
+    let n = read_register(bus, byte, wsr, insn.regs[0])?;
+    write_register(bus, byte, wsr, insn.regs[0], s)?;
+    write_at(bus, byte, addr, n)
 }
 
 #[tactic(auto, using(kc_effect::proofs::Running::run_bind), unfolding(kc_effect::specs::Moving::push_source))]
@@ -79,7 +80,7 @@ fn do_pop<B: Bus>(bus: &mut B, wsr: u8, insn: &Insn) -> Result<(), Kind>
 {
     let n = pop_word(bus)?;
     let addr = find_target(bus, false, wsr, insn.operand)?;
-    write(bus, false, addr, n)
+    write_at(bus, false, addr, n)
 }
 
 /// Does the work of an instruction that moves a number.

@@ -40,7 +40,7 @@ fn computation(mnemonic: Mnemonic) -> Option<Plan>
     ensures found { IfSome result (λ p. p ≡ plan_of mnemonic) }
     ensures none { IfNone result (is_other_computation (plan_of mnemonic) ≡ false) }
 {
-    let plan = match mnemonic {
+    let how = match mnemonic {
         Mnemonic::Clr => Computation::Alter(Alteration::Clear, false),
         Mnemonic::Clrb => Computation::Alter(Alteration::Clear, true),
         Mnemonic::Not => Computation::Alter(Alteration::Complement, false),
@@ -74,7 +74,7 @@ fn computation(mnemonic: Mnemonic) -> Option<Plan>
         Mnemonic::Cmpl => Computation::CompareLong,
         _ => return None,
     };
-    Some(Plan::Compute(plan))
+    Some(Plan::Compute(how))
 }
 
 // Loads, stores, exchanges, PUSH and POP.
@@ -82,7 +82,7 @@ fn movement(mnemonic: Mnemonic) -> Option<Plan>
     ensures found { IfSome result (λ p. p ≡ plan_of mnemonic) }
     ensures none { IfNone result (is_movement (plan_of mnemonic) ≡ false) }
 {
-    let plan = match mnemonic {
+    let how = match mnemonic {
         Mnemonic::Ld => Movement::Load(false),
         Mnemonic::Ldb => Movement::Load(true),
         Mnemonic::Ldbze => Movement::ZeroExtend,
@@ -95,7 +95,7 @@ fn movement(mnemonic: Mnemonic) -> Option<Plan>
         Mnemonic::Pop => Movement::Pop,
         _ => return None,
     };
-    Some(Plan::Move(plan))
+    Some(Plan::Move(how))
 }
 
 // Jumps, calls and returns.
@@ -103,7 +103,7 @@ fn route(mnemonic: Mnemonic) -> Option<Plan>
     ensures found { IfSome result (λ p. p ≡ plan_of mnemonic) }
     ensures none { IfNone result (is_route (plan_of mnemonic) ≡ false) }
 {
-    let plan = match mnemonic {
+    let route = match mnemonic {
         Mnemonic::Sjmp | Mnemonic::Ljmp => Route::Always,
         Mnemonic::Br => Route::Register,
         Mnemonic::Tijmp => Route::Table,
@@ -131,7 +131,7 @@ fn route(mnemonic: Mnemonic) -> Option<Plan>
         Mnemonic::Djnzw => Route::CountDown(false),
         _ => return None,
     };
-    Some(Plan::Jump(plan))
+    Some(Plan::Jump(route))
 }
 
 // What stands in no other group.

@@ -12,7 +12,7 @@ use crate::jumping::{do_jump, following, psw_behind};
 use crate::moving::do_move;
 use crate::plan::make_plan;
 use crate::saving::do_save;
-use crate::status::{follow, set_bit};
+use kc_access::{follow, set_bit};
 use kc_base::Kind;
 use kc_bus::Bus;
 use kc_effect::{After, Cpu, Plan};

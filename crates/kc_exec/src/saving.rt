@@ -1,8 +1,8 @@
 ghost use Rattle.std.specs.Prelude.{◌≡◌, ◌+◌, ◌≤◌};
 ghost use Rattle.kc_effect.specs.Effect.{Gives, run};
-ghost use Rattle.kc_effect.specs.Saving.{push_status, pop_status, push_all, pop_all, save};
+ghost use Rattle.kc_effect.specs.Saving.{push_status, pop_status, push_masks, pop_masks, push_all, pop_all, save};
 
-use crate::parts::{pop_word, push_word};
+use kc_access::{pop_word, push_word};
 use kc_base::Kind;
 use kc_bus::{Bus, Masks};
 use kc_effect::Saving;
@@ -39,13 +39,12 @@ fn do_pop_status<B: Bus>(bus: &mut B) -> Result<u8, Kind>
     Ok((n / 0x100) as u8)
 }
 
-#[tactic(auto, using(kc_effect::proofs::Running::run_bind), unfolding(kc_effect::specs::Saving::push_all))]
-fn do_push_all<B: Bus>(bus: &mut B, psw: u8) -> Result<(), Kind>
-    ensures gives { Gives (λ x. x) result (B.held bus.new) (run B.meaning (push_all psw) (B.held bus.old)) }
+#[tactic(auto, using(kc_effect::proofs::Running::run_bind), unfolding(kc_effect::specs::Saving::push_masks))]
+fn do_push_masks<B: Bus>(bus: &mut B) -> Result<(), Kind>
+    ensures gives { Gives (λ x. x) result (B.held bus.new) (run B.meaning (push_masks) (B.held bus.old)) }
     ensures spent { B.spent bus.new + B.allowed (B.held bus.old) ≤ B.spent bus.old + B.allowed (B.held bus.new) }
     ensures same { B.lent bus.new ≡ B.lent bus.old }
 {
-    do_push_status(bus, psw)?;
     let masks = bus.masks();
     push_word(
         bus,
@@ -59,9 +58,9 @@ fn do_push_all<B: Bus>(bus: &mut B, psw: u8) -> Result<(), Kind>
     })
 }
 
-#[tactic(auto, using(kc_effect::proofs::Running::run_bind), unfolding(kc_effect::specs::Saving::pop_all))]
-fn do_pop_all<B: Bus>(bus: &mut B) -> Result<u8, Kind>
-    ensures gives { Gives (λ x. x) result (B.held bus.new) (run B.meaning (pop_all) (B.held bus.old)) }
+#[tactic(auto, using(kc_effect::proofs::Running::run_bind), unfolding(kc_effect::specs::Saving::pop_masks))]
+fn do_pop_masks<B: Bus>(bus: &mut B) -> Result<(), Kind>
+    ensures gives { Gives (λ x. x) result (B.held bus.new) (run B.meaning (pop_masks) (B.held bus.old)) }
     ensures spent { B.spent bus.new + B.allowed (B.held bus.old) ≤ B.spent bus.old + B.allowed (B.held bus.new) }
     ensures same { B.lent bus.new ≡ B.lent bus.old }
 {
@@ -71,7 +70,26 @@ fn do_pop_all<B: Bus>(bus: &mut B) -> Result<u8, Kind>
         int_mask: masks.int_mask,
         int_mask1: (n / 0x100) as u8,
         wsr: (n % 0x100) as u8,
-    })?;
+    })
+}
+
+#[tactic(auto, using(kc_effect::proofs::Running::run_bind), unfolding(kc_effect::specs::Saving::push_all))]
+fn do_push_all<B: Bus>(bus: &mut B, psw: u8) -> Result<(), Kind>
+    ensures gives { Gives (λ x. x) result (B.held bus.new) (run B.meaning (push_all psw) (B.held bus.old)) }
+    ensures spent { B.spent bus.new + B.allowed (B.held bus.old) ≤ B.spent bus.old + B.allowed (B.held bus.new) }
+    ensures same { B.lent bus.new ≡ B.lent bus.old }
+{
+    do_push_status(bus, psw)?;
+    do_push_masks(bus)
+}
+
+#[tactic(auto, using(kc_effect::proofs::Running::run_bind), unfolding(kc_effect::specs::Saving::pop_all))]
+fn do_pop_all<B: Bus>(bus: &mut B) -> Result<u8, Kind>
+    ensures gives { Gives (λ x. x) result (B.held bus.new) (run B.meaning (pop_all) (B.held bus.old)) }
+    ensures spent { B.spent bus.new + B.allowed (B.held bus.old) ≤ B.spent bus.old + B.allowed (B.held bus.new) }
+    ensures same { B.lent bus.new ≡ B.lent bus.old }
+{
+    do_pop_masks(bus)?;
     do_pop_status(bus)
 }
 
