@@ -1,7 +1,5 @@
 -- What is so of each activity that the machine begins, and of what goes on between activities (this kit's own).
 use Rattle.std.specs.Prelude.{◌<◌, IsTrue, Option, Some, None}
-use Rattle.kc_code.specs.declared.reader.Decoded.{Decoded}
-use Rattle.kc_code.specs.declared.reader.Decoded.TheVariants as says
 use Rattle.kc_isa.specs.declared.insn.Insn.{Insn}
 use Rattle.kc_isa.specs.Formed.{is_formed}
 use Rattle.kc_effect.specs.declared.cpu.Words.{Words}
@@ -11,11 +9,6 @@ use Rattle.kc_model.specs.declared.doing.Activity.TheVariants.{Executes, MovesWo
 use Rattle.kc_model.specs.declared.doing.Going.{Going}
 use Rattle.kc_model.specs.declared.doing.Going.TheVariants.{Moving}
 use Rattle.kc_model.specs.declared.doing.UnderWay.{UnderWay}
-
--- an instruction that was decoded has its row's shape
-abbrev pub IsSoundDecoded : Decoded → Type 0
-IsSoundDecoded (says.Insn insn length) = IsTrue (is_formed insn)
-IsSoundDecoded _ = Unit {0}
 
 -- these are words of this block move
 pub record IsSoundMove (insn : Insn) (words : Words) : Type 0 where

@@ -1,13 +1,10 @@
 // What the next activity is told from.
-ghost use Rattle.std.specs.Prelude.{◌≡◌, ◌<◌, length, IsTrue};
-ghost use Rattle.kc_code.specs.Reading.{decode_of};
+ghost use Rattle.std.specs.Prelude.{◌≡◌, ◌<◌, length};
 ghost use Rattle.kc_effect.specs.Entering.{vector_at, entry_states};
 ghost use Rattle.kc_model.specs.Machine.{fetched, can_fetch};
-ghost use Rattle.kc_machine.specs.Sound.{IsSoundDecoded};
 
 use crate::bus::is_outside;
 use arrayvec::ArrayVec;
-use kc_code::{Decoded, decode};
 
 fn can_fetch(addr: u16) -> bool
     ensures { result ≡ can_fetch addr }
@@ -30,14 +27,6 @@ pub(crate) fn fetch(memory: &[u8], addr: u16) -> ArrayVec<u8, 7>
         at = at.wrapping_add(1);
     }
     bytes
-}
-
-/// What the front of some bytes says.
-pub(crate) fn read_front(bytes: &[u8]) -> Decoded
-    ensures value { result ≡ decode_of bytes.now }
-    ensures sound { IsSoundDecoded result }
-{
-    decode(bytes)
 }
 
 /// The states of an entry or a trap, by the stack pointer.

@@ -13,12 +13,12 @@ ghost use Rattle.kc_model.specs.Peeking.{peeked};
 ghost use Rattle.kc_machine.specs.Sound.{IsGoing, IsReady, IsSoundGoing};
 
 use crate::bus::{Common, is_outside};
-use crate::choosing::{entry_time, fetch, read_front};
+use crate::choosing::{entry_time, fetch};
 use crate::over::place_over;
 use crate::registers::{look, window_for};
 use kc_base::{Kind, StateTime, Steps};
 use kc_bus::Master;
-use kc_code::Decoded;
+use kc_code::{Decoded, decode};
 use kc_effect::Cpu;
 use kc_exec::word_states;
 use kc_intc::Choice;
@@ -108,7 +108,7 @@ impl Core {
         ensures steps { steps.new ≡ steps.old }
     {
         let bytes = fetch(&self.bus.memory, self.cpu.pc);
-        match read_front(bytes.as_slice()) {
+        match decode(bytes.as_slice()) {
             Decoded::Insn(insn, _) => self.placed(insn, steps),
             Decoded::Unimplemented => UnderWay {
                 doing: Activity::Traps,
