@@ -1,5 +1,5 @@
 -- Activities in their last state, by what their accesses lead to over the bus.
-use Rattle.std.proofs.Common.{◌≡◌, ℕ, ◌+◌, ◌*◌, ◌%◌, true, List, [], ◌∷◌, None, refl, sym, ◌∙◌, ap}
+use Rattle.std.proofs.Common.{◌≡◌, ℕ, ◌+◌, ◌%◌, [], ◌∷◌, refl, sym, ◌∙◌, ap}
 use Rattle.kc_base.specs.declared.types.Kind.{Kind}
 use Rattle.kc_isa.specs.declared.insn.Insn.{Insn}
 use Rattle.kc_effect.specs.declared.cpu.Cpu.{Cpu}

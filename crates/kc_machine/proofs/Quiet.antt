@@ -1,5 +1,5 @@
 -- States in which the units do nothing by themselves.
-use Rattle.std.proofs.Common.{◌≡◌, ℕ, zero, suc, [], refl, sym}
+use Rattle.std.proofs.Common.{◌≡◌, ℕ, zero, suc, [], refl}
 use Rattle.kc_span.specs.Span.{after}
 use Rattle.kc_span.proofs.SpanLaws.{after-still}
 use Rattle.kc_model.specs.declared.units.Units.{Units}

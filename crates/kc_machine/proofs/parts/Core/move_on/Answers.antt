@@ -1,7 +1,7 @@
 use Rattle.std.proofs.Common.{◌≡◌, ◌∙◌, ◌++◌, ap, sym, []}
 use Rattle.kc_effect.specs.Effect.{Done, Refused, run}
 use Rattle.kc_effect.specs.BlockMoves.{moved_word}
-use Rattle.kc_model.specs.Machine.{Machine, scene_of, closed, broken, next_after}
+use Rattle.kc_model.specs.Machine.{Machine, scene_of, closed, broken}
 use Rattle.kc_model.specs.Scene.{Scene}
 use Rattle.kc_machine.specs.declared.parts.Core.{Core}
 use Rattle.kc_model.specs.Board.{pins}

@@ -1,4 +1,4 @@
-use Rattle.std.proofs.Common.{◌≡◌, ℕ, ◌-◌, ◌≤◌, ◌∙◌, ap, sym, subst, arith}
+use Rattle.std.proofs.Common.{◌≡◌, ◌-◌, ◌∙◌, ap, sym, subst, arith}
 use Rattle.kc_intc.specs.declared.requests.Choice.TheVariants.{Go}
 use Rattle.kc_span.specs.Span.{after}
 use Rattle.kc_trace.specs.Out.{Prints}

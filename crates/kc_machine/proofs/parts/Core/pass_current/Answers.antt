@@ -2,7 +2,7 @@ use Rattle.std.proofs.Common.{◌≡◌, ◌+◌, ◌*◌, ◌≤◌, ◌<◌, �
 use Rattle.kc_trace.specs.Out.{Prints}
 use Rattle.kc_trace.specs.Trace.{out_of}
 use Rattle.kc_model.specs.declared.doing.UnderWay.{UnderWay}
-use Rattle.kc_model.specs.Machine.{Machine, Stepped, current}
+use Rattle.kc_model.specs.Machine.{Stepped, current}
 use Rattle.kc_model.specs.Passing.{activity_end, whole}
 use Rattle.kc_model.specs.Run.{run_to}
 use Rattle.kc_model.proofs.Runs.{run_to-activity}
