@@ -66,9 +66,17 @@ fn a_no_operation_is_spelled_in_both_versions(rt: HostRuntime) -> Result<(), Fai
     Ok(())
 }
 
-#[test]
-fn each_part_has_its_record(rt: HostRuntime) -> Result<(), Fail> {
-    let alloc = rt.alloc();
+fn taken(rt: &HostRuntime, name: &[u8], register: bool) -> Result<Taken, Fail> {
+    let name = text(rt, name)?;
+    Ok(Taken { name, register })
+}
+
+fn given(rt: &HostRuntime, name: &[u8], piece: Option<u16>, value: u16) -> Result<Given, Fail> {
+    let name = text(rt, name)?;
+    Ok(Given { name, piece, value })
+}
+
+fn pieces(rt: &HostRuntime) -> Result<Vec<Segment>, Fail> {
     let code = Segment {
         kind: SegKind::Code,
         at: None,
@@ -79,67 +87,90 @@ fn each_part_has_its_record(rt: HostRuntime) -> Result<(), Fail> {
         at: None,
         length: 10,
     };
-    let fixed = Segment {
+    let data = Segment {
         kind: SegKind::Ram,
         at: Some(0x300),
         length: 2,
     };
-    let jump = Fixup {
-        piece: 0,
-        offset: 1,
-        kind: 4,
-        target: Target::External(0),
-        addend: 0x2100,
-    };
-    let run = Content {
+    Ok([code, stack, data].to_vec(rt.alloc())?)
+}
+
+fn externals(rt: &HostRuntime) -> Result<Vec<Taken>, Fail> {
+    let mut names = Vec::new(rt.alloc());
+    names.push(taken(rt, b"STACK", false)?)?;
+    names.push(taken(rt, b"R", true)?)?;
+    Ok(names)
+}
+
+fn publics(rt: &HostRuntime) -> Result<Vec<Given>, Fail> {
+    let mut names = Vec::new(rt.alloc());
+    names.push(given(rt, b"A", Some(0), 2)?)?;
+    names.push(given(rt, b"B", None, 0x1234)?)?;
+    Ok(names)
+}
+
+fn jump_bytes(rt: &HostRuntime) -> Result<Vec<Content>, Fail> {
+    let bytes = text(rt, &[0xE7, 0, 0])?;
+    let mut contents = Vec::new(rt.alloc());
+    contents.push(Content {
         piece: 0,
         offset: 0,
-        bytes: text(&rt, &[0xE7, 0, 0])?,
+        bytes,
+    })?;
+    Ok(contents)
+}
+
+const JUMP: Fixup = Fixup {
+    piece: 0,
+    offset: 1,
+    kind: 4,
+    target: Target::External(0),
+    addend: 0x2100,
+};
+
+// A module that has something of everything.
+fn whole(rt: &HostRuntime) -> Result<Module, Fail> {
+    let alloc = rt.alloc();
+    let entry = Lines {
+        piece: 0,
+        offset: 0,
+        line: 70000,
     };
+    let lines = [entry].to_vec(alloc)?;
+    let fixups = [JUMP].to_vec(alloc)?;
+    let name = text(rt, b"M")?;
     let module = Module::new(
-        text(&rt, b"M")?,
-        vec![in alloc; code, stack, fixed]?,
-        vec![in alloc;
-            Taken {
-                name: text(&rt, b"STACK")?,
-                register: false
-            },
-            Taken {
-                name: text(&rt, b"R")?,
-                register: true
-            },
-        ]?,
-        vec![in alloc;
-            Given {
-                name: text(&rt, b"A")?,
-                piece: Some(0),
-                value: 2
-            },
-            Given {
-                name: text(&rt, b"B")?,
-                piece: None,
-                value: 0x1234
-            },
-        ]?,
-        vec![in alloc; run]?,
-        vec![in alloc; jump]?,
-        Some(vec![in alloc;
-            Lines {
-                piece: 0,
-                offset: 0,
-                line: 70000
-            },
-        ]?),
+        name,
+        pieces(rt)?,
+        externals(rt)?,
+        publics(rt)?,
+        jump_bytes(rt)?,
+        fixups,
+        Some(lines),
     );
-    let sound = module.ok_or("a rule is broken")?;
-    assert_eq!(rt; sound.name().as_slice(), b"M".as_slice());
-    assert_eq!(rt; sound.segments(), [code, stack, fixed].as_slice());
-    assert_eq!(rt; sound.externals().len(), 2);
-    assert_eq!(rt; sound.publics().len(), 2);
-    assert_eq!(rt; sound.contents().len(), 1);
-    assert_eq!(rt; sound.fixups(), [jump].as_slice());
-    assert_eq!(rt; sound.lines().map_or(0, |l| l.len()), 1);
-    let bytes = encode(alloc, &sound).ok().ok_or("memory")?;
+    Ok(module.ok_or("a rule is broken")?)
+}
+
+#[test]
+fn a_module_lends_its_parts(rt: HostRuntime) -> Result<(), Fail> {
+    let module = whole(&rt)?;
+    let counts = (
+        module.segments().len(),
+        module.externals().len(),
+        module.publics().len(),
+        module.contents().len(),
+    );
+    assert_eq!(rt; module.name().as_slice(), b"M".as_slice());
+    assert_eq!(rt; counts, (3, 2, 2, 1));
+    assert_eq!(rt; module.fixups(), [JUMP].as_slice());
+    assert!(rt; module.lines().is_some());
+    Ok(())
+}
+
+#[test]
+fn each_part_has_its_record(rt: HostRuntime) -> Result<(), Fail> {
+    let module = whole(&rt)?;
+    let bytes = encode(rt.alloc(), &module).ok().ok_or("memory")?;
     assert_eq!(rt;
         bytes.as_slice(),
         b"\x01\x03\0\x02\x01M\x02\x06\0\x01\0\0\0\x03\0\x02\x06\0\x03\0\0\0\x0A\0\x02\x06\0\x02\x01\0\x03\x02\0\
