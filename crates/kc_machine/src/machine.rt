@@ -126,8 +126,10 @@ impl Machine {
         ensures written { OnOk result (out.new.failed ≡ false) }
         ensures counts { OnOk result (out.new.counts ≡ counted_all (run_to until self.old).records out.old.counts) }
 
-        // After a fault it stands at the end of the activity whose line was to be written.
+        // After a fault it stands at the end of the activity whose line was to be written, and the sink failed in the lines
+        // of the run up to there.
         ensures failed { OnErr result (out.new.failed ≡ true) }
+        ensures fault { OnErr result (Puts (out_of S.written S.faults out.old) (text_of (run_to self.new.time self.old).records) (out_of S.written S.faults out.new)) }
         ensures stands { self.new ≡ (run_to self.new.time self.old).machine }
         ensures spent { steps.new ≤ steps.old + 16 * (run_to self.new.time self.old).work }
     {

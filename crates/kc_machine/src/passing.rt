@@ -192,6 +192,7 @@ impl Core {
         ensures lines { Prints (out_of S.written S.faults out.old) (run_to until (machine_of self.old)).records (out_of S.written S.faults out.new) }
         ensures written { OnOk result (out.new.failed ≡ false) }
         ensures failed { OnErr result (out.new.failed ≡ true) }
+        ensures fault { OnErr result (Prints (out_of S.written S.faults out.old) (run_to self.new.time (machine_of self.old)).records (out_of S.written S.faults out.new)) }
         ensures stands { machine_of self.new ≡ (run_to self.new.time (machine_of self.old)).machine }
         ensures ready { IsReady self.new.under_way self.new.going }
         ensures spent { steps.new ≤ steps.old + 16 * (run_to self.new.time (machine_of self.old)).work }
