@@ -1,5 +1,5 @@
 -- How a reply to a part is a reply to the whole.
-use Rattle.std.proofs.Common.{◌≡◌, ◌⊎◌, ℕ, ◌+◌, ◌-◌, ◌<◌, ◌≤◌, true, false, List, [], ◌∷◌, ◌++◌, length, replicate, Option, Some, None, inl, inr, refl, sym, ◌∙◌, ap, subst, arith}
+use Rattle.std.proofs.Common.{◌≡◌, ◌⊎◌, ℕ, ◌<◌, ◌≤◌, true, false, List, [], ◌∷◌, length, replicate, Option, Some, None, refl, sym, ◌∙◌, ap, subst, arith}
 use Rattle.std.specs.Prelude.{nat_lt}
 use Rattle.std.specs.Option.{unwrap_or, IsSomeAnd}
 use Rattle.std.proofs.lemmas.Bool.Decides.{nat_tests}
@@ -19,10 +19,10 @@ use Rattle.kc_model.specs.Text.{trace_of, finals, HasRun}
 use Rattle.kc_model.proofs.Runs.{run_for-has_run}
 use Rattle.kc_kit.specs.declared.status.Status.{Status}
 use Rattle.kc_kit.specs.declared.status.Status.TheVariants as status
-use Rattle.kc_kit.specs.Words.{Command, Helps, TellsVersion, Runs, command_of}
+use Rattle.kc_kit.specs.Words.{Command, Runs, command_of}
 use Rattle.kc_kit.specs.Source.{program_of}
 use Rattle.kc_kit.specs.Linked.{Linked}
-use Rattle.kc_kit.specs.Answer.{Says, RunAnswer, SourceAnswer, BytesAnswer, FileAnswer, CommandAnswer, ReadAnswer, MayAnswer, IsAccepted, Over, Replies, status_of, long_line, source_line, missing_line}
+use Rattle.kc_kit.specs.Answer.{Says, RunAnswer, SourceAnswer, BytesAnswer, FileAnswer, CommandAnswer, ReadAnswer, MayAnswer, Over, Replies, status_of, long_line, source_line, missing_line}
 
 -- what may be answered may be answered
 pub Replies-widen : (may wide : Status → List ℕ → Type 0) (old : Option (List ℕ)) (given : Status) (new : Option (List ℕ)) → ((s : Status) (t : List ℕ) → may s t → wide s t) → Replies may old given new → Replies wide old given new

@@ -1,5 +1,5 @@
 -- The first line of a source, and the lines after it.
-use Rattle.std.proofs.Common.{◌≡◌, ℕ, zero, suc, ◌+◌, ◌<◌, ◌≤◌, Bool, true, false, not, cond, eqb, List, [], ◌∷◌, length, take, drop, Option, Some, None, ◌⊎◌, inl, inr, ltb, refl, sym, ap, ◌∙◌, subst, add-one, arith}
+use Rattle.std.proofs.Common.{◌≡◌, ℕ, suc, ◌+◌, ◌<◌, ◌≤◌, Bool, true, false, not, cond, eqb, List, [], ◌∷◌, length, take, drop, Option, Some, None, ◌⊎◌, inl, inr, ltb, refl, sym, ap, ◌∙◌, subst, arith}
 use borrow.Author.Tests.{ltb-true, ltb-false}
 use Rattle.std.specs.Option.{option_map}
 use Rattle.std.specs.List.{prefix_len, position}

@@ -1,5 +1,5 @@
 -- What the kit answers to a command line over what the files hold (this kit's own).
-use Rattle.std.specs.Prelude.{◌≡◌, ◌≤◌, ◌⊎◌, ℕ, Bool, true, false, List, [], ◌++◌, codes, length, Option, Some, None, IsSome, nat_lt}
+use Rattle.std.specs.Prelude.{◌≡◌, ◌≤◌, ◌⊎◌, ℕ, Bool, true, false, List, ◌++◌, codes, length, Option, Some, None, IsSome, nat_lt}
 use Rattle.std.specs.Option.{IsSomeAnd}
 use Rattle.kc_base.specs.Held.{Holding}
 use Rattle.kc_base.specs.Causes.{Grew, GrewByPart}

@@ -1,6 +1,5 @@
 -- What a read command asks for (this kit's own).
 use Rattle.std.specs.Prelude.{◌≤◌}
-use Rattle.kc_kit.specs.declared.words.Run.{Run}
 use Rattle.kc_kit.specs.declared.words.Command.{Command as Read}
 use Rattle.kc_kit.specs.declared.words.Command.TheVariants as read
 use Rattle.kc_kit.specs.Words.{Command, Helps, TellsVersion, Runs, max_states}

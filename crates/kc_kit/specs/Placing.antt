@@ -1,5 +1,5 @@
 -- Instructions that can be placed in an image (this kit's own).
-use Rattle.std.specs.Prelude.{◌≡◌, ℕ, true, List, flat_map, length, Option, Some, None}
+use Rattle.std.specs.Prelude.{◌≡◌, ℕ, true, List, flat_map, length, Option, Some}
 use Rattle.kc_isa.specs.declared.insn.Insn.{Insn}
 use Rattle.kc_isa.specs.Formed.{is_formed, length_of}
 use Rattle.kc_code.specs.Ranges.{InsnHas}

@@ -1,5 +1,5 @@
 -- The source language, until it is read whole: one segment at 2080H, of NOP and of LD that reads TIMER1 (this kit's own).
-use Rattle.std.specs.Prelude.{ℕ, ◌-◌, ◌%◌, Bool, true, false, ◌&&◌, not, List, [], ◌∷◌, codes, length, take, drop, Option, Some, None, if◌then◌else◌, ◌==◌, nat_le, slice_range}
+use Rattle.std.specs.Prelude.{ℕ, ◌-◌, ◌%◌, Bool, true, false, ◌&&◌, List, [], ◌∷◌, codes, length, take, drop, Option, Some, None, if◌then◌else◌, ◌==◌, nat_le, slice_range}
 use Rattle.std.specs.Char.{is_ascii_lowercase}
 use Rattle.std.specs.List.{list_any}
 use Rattle.std.specs.Option.{option_map}

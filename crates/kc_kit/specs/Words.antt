@@ -1,5 +1,5 @@
 -- What the words of a command line ask for (this kit's own).
-use Rattle.std.specs.Prelude.{ℕ, ◌≤◌, Bool, ◌&&◌, not, List, [], ◌∷◌, codes, length, Option, Some, None, if◌then◌else◌, ◌==◌, nat_lt, nat_le, slice_index}
+use Rattle.std.specs.Prelude.{ℕ, Bool, ◌&&◌, not, List, [], ◌∷◌, codes, length, Option, Some, None, if◌then◌else◌, ◌==◌, nat_lt, nat_le, slice_index}
 use Rattle.std.specs.Option.{option_map}
 use Rattle.std.specs.Str.{bytes_eq}
 use Rattle.kc_kit.specs.Number.{number_of}

@@ -1,4 +1,4 @@
-use Rattle.std.proofs.Common.{◌∙◌, ◌≤◌, ap, sym, length, arith}
+use Rattle.std.proofs.Common.{◌∙◌, ◌≤◌, ap, length, arith}
 use Rattle.kc_kit.specs.Linked.{size_of}
 use Rattle.kc_kit.proofs.Placed.{length-code_of, linked-code}
 use Rattle.kc_kit.proofs.assembler.placed.Goals as goal

@@ -1,6 +1,4 @@
-use Rattle.std.proofs.Common.{◌≡◌, ◌∷◌, ◌+◌, List, ℕ, take, drop, sym, ◌∙◌, ap}
-use Rattle.std.specs.Option.{option_map}
-use Rattle.kc_kit.specs.Source.{lines_of}
+use Rattle.std.proofs.Common.{sym}
 use Rattle.kc_kit.proofs.Splitting.{at_position, at_no_position}
 use Rattle.kc_kit.proofs.lines.split_line.Goals as goal
 

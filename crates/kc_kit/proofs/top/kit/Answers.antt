@@ -1,5 +1,4 @@
-use Rattle.std.proofs.Common.{◌≡◌, Some, None, map, string_bytes, inl, refl, ◌∙◌, sym, ap, subst}
-use Rattle.std.specs.Option.{option_map}
+use Rattle.std.proofs.Common.{◌≡◌, Some, None, map, string_bytes, inl, ◌∙◌, sym, ap}
 use Rattle.kc_base.specs.Causes.{Rose}
 use Rattle.kc_kit.specs.declared.status.Status.TheVariants as status
 use Rattle.kc_kit.specs.Words.{Helps, TellsVersion, Runs, command_of}
