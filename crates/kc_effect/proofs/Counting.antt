@@ -1,5 +1,5 @@
 -- No instruction, word of a block move, entry or trap makes more than eight accesses.
-use Rattle.std.proofs.Common.{◌≡◌, ℕ, Bool, true, false, ◌+◌, ◌-◌, ◌*◌, ◌/◌, ◌%◌, ◌<◌, ◌≤◌, ◌^◌, ◌==◌, nat_lt, ◌||◌, if◌then◌else◌, Option, Some, None, Result, Ok, Err, refl, sym, subst, arith}
+use Rattle.std.proofs.Common.{◌≡◌, ℕ, Bool, true, false, ◌+◌, ◌-◌, ◌/◌, ◌%◌, ◌<◌, ◌≤◌, ◌==◌, nat_lt, ◌||◌, if◌then◌else◌, Option, Some, None, Result, Ok, Err, subst, arith}
 use Rattle.kc_base.specs.declared.types.Kind.{Kind}
 use Rattle.kc_base.specs.declared.types.Kind.TheVariants.{Opcode}
 use Rattle.kc_isa.specs.declared.insn.Insn.{Insn}
@@ -8,7 +8,6 @@ use Rattle.kc_isa.specs.declared.insn.Operand.TheVariants.{Absent, Reg, Imm, Ind
 use Rattle.kc_isa.specs.declared.table.Mnemonic.{Mnemonic}
 use Rattle.kc_isa.specs.Names.{mnemonic_at}
 use Rattle.kc_alu.specs.declared.flags.Shift.{Shift as ShiftKind}
-use Rattle.kc_effect.specs.declared.access.Masks.{Masks}
 use Rattle.kc_effect.specs.declared.cpu.After.{After}
 use Rattle.kc_effect.specs.declared.cpu.Cpu.{Cpu}
 use Rattle.kc_effect.specs.declared.cpu.Words.{Words}

@@ -3,7 +3,7 @@ use Rattle.std.specs.Prelude.{ℕ, Bool, true, false, ◌+◌, nat_lt, if◌then
 use Rattle.kc_isa.specs.declared.insn.Insn.{Insn}
 use Rattle.kc_effect.specs.declared.plan.Movement.{Movement}
 use Rattle.kc_effect.specs.declared.plan.Movement.TheVariants.{Load, ZeroExtend, SignExtend, Store, Exchange, Push, Pop}
-use Rattle.kc_effect.specs.Effect.{Effect, End, ◌>>=◌}
+use Rattle.kc_effect.specs.Effect.{Effect, ◌>>=◌}
 use Rattle.kc_effect.specs.Parts.{read_at, write_at, read_register, write_register, push, pop}
 use Rattle.kc_effect.specs.Operands.{source, target}
 use Rattle.kc_effect.specs.Computing.{register}

@@ -1,7 +1,7 @@
 -- What a further unit does by itself, from what it says of itself (this kit's own).
 use Rattle.std.specs.Prelude.{ℕ, ◌==◌, Bool, true, false, ◌&&◌, List, [], ◌∷◌}
 use Rattle.kc_span.specs.Span.{Rule}
-use Rattle.kc_extra.specs.declared.out.ExtraOut.{ExtraOut}
+use Rattle.kc_extra.specs.declared.outcome.ExtraOut.{ExtraOut}
 
 abbrev pub is_empty : {T : Type 0} → List T → Bool
 is_empty [] = true

@@ -2,9 +2,9 @@ ghost use Rattle.std.specs.Prelude.{◌≡◌, ℕ, ◌+◌, ◌-◌, ◌*◌, �
 ghost use Rattle.kc_span.specs.Span.{after, QuietFor, IsDue, one_more};
 ghost use Rattle.kc_extra.specs.Further.{further_rule};
 ghost use Rattle.kc_extra.specs.Pins.{AreFew, MoveSome};
-ghost use Rattle.kc_extra.specs.declared.out.ExtraOut.{ExtraOut};
+ghost use Rattle.kc_extra.specs.declared.outcome.ExtraOut.{ExtraOut};
 
-use crate::out::ExtraOut;
+use crate::outcome::ExtraOut;
 use kc_base::{StateTime, Steps};
 use std::sync::ledger::Ledger;
 

@@ -1,7 +1,7 @@
 ghost use Rattle.std.specs.Prelude.{◌≡◌, ℕ, ◌+◌, ◌-◌, ◌*◌, ◌≤◌, ◌^◌, Bool, List, [], Option, Some, None, true, false, is_some, bit_xor};
 
 use crate::extra::Extra;
-use crate::out::{ExtraOut, Moved};
+use crate::outcome::{ExtraOut, Moved};
 use kc_base::{IntSet, StateTime, Steps};
 use std::sync::ledger::Ledger;
 

@@ -7,7 +7,7 @@ ghost use Rattle.kc_extra.specs.Pins.{AreFew, MoveSome};
 
 use crate::extra::Extra;
 use crate::joined::{both, earlier};
-use crate::out::ExtraOut;
+use crate::outcome::ExtraOut;
 use crate::pair::Pair;
 use kc_base::{StateTime, Steps};
 use std::marker::Brand;

@@ -1,11 +1,11 @@
 -- Room for relocations in what is left of the contents.
-use Rattle.std.proofs.Common.{◌≡◌, ℕ, ◌+◌, ◌-◌, ◌<◌, ◌≤◌, Bool, true, false, cond, not, ◌&&◌, ◌||◌, eqb, ltb, leb, List, [], ◌∷◌, length, drop, get_or, suc, add-one, drop-cons, Option, None, refl, sym, ap, ◌∙◌, arith}
+use Rattle.std.proofs.Common.{◌≡◌, ℕ, ◌+◌, ◌<◌, Bool, true, false, ◌&&◌, ◌||◌, eqb, ltb, leb, List, [], ◌∷◌, length, drop, get_or, add-one, drop-cons, refl, sym, ap, ◌∙◌, arith}
 use Rattle.std.specs.List.{list_all}
 use Rattle.std.proofs.lemmas.Bool.{and_parts}
 use Rattle.std.proofs.lemmas.Bool.Decides.{nat_tests}
 use Rattle.kc_obj.specs.declared.parts.Content.{Content}
 use Rattle.kc_obj.specs.declared.parts.Fixup.{Fixup}
-use Rattle.kc_obj.specs.Contents.{contents_in_order, content_at, is_from, SameFrom}
+use Rattle.kc_obj.specs.Contents.{content_at, is_from, SameFrom}
 use Rattle.kc_obj.specs.Fixups.{fixup_width, fixup_follows, fixups_in_order, may_begin, is_zero, has_room}
 
 from_same : (p o : ℕ) → is_from p o p o ≡ true

@@ -1,5 +1,5 @@
 -- Line entries of a module: from which line of the source the bytes at a place come (this kit's own).
-use Rattle.std.specs.Prelude.{ℕ, Bool, true, not, ◌+◌, ◌==◌, ◌&&◌, ◌||◌, nat_lt, Option, Some, None, List, [], ◌∷◌, slice_get}
+use Rattle.std.specs.Prelude.{Bool, true, ◌+◌, ◌==◌, ◌&&◌, ◌||◌, nat_lt, Option, Some, None, List, [], ◌∷◌, slice_get}
 use Rattle.std.specs.List.{list_all}
 use Rattle.kc_obj.specs.declared.parts.Segment.{Segment}
 use Rattle.kc_obj.specs.declared.parts.Lines.{Lines}

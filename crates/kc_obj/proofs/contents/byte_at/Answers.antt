@@ -1,4 +1,4 @@
-use Rattle.std.proofs.Common.{sym, ◌∙◌}
+use Rattle.std.proofs.Common.{◌∙◌}
 use Rattle.kc_obj.proofs.ContentLemmas.{byte_is}
 use Rattle.kc_obj.proofs.contents.byte_at.Goals as goal
 

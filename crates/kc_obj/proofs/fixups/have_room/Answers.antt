@@ -1,7 +1,7 @@
 use Rattle.std.proofs.Common.{sym, ◌∙◌, arith}
 use Rattle.std.specs.List.{list_all}
 use Rattle.kc_obj.specs.Fixups.{has_room}
-use Rattle.kc_obj.proofs.RoomLemmas.{room_step, room_stop}
+use Rattle.kc_obj.proofs.RoomLemmas.{room_step}
 use Rattle.kc_obj.proofs.fixups.have_room.Goals as goal
 
 pub loop-i-preserved : goal.loop-i-preserved

@@ -1,0 +1,4 @@
+pub mod Events
+pub mod Queue
+pub mod Input
+pub mod DueStates
