@@ -1,11 +1,15 @@
-ghost use Rattle.std.specs.Prelude.{◌≡◌, ◌<◌, ◌≤◌};
+ghost use Rattle.std.specs.Prelude.{◌≡◌, ◌<◌, ◌≤◌, ◌+◌, ◌*◌, OnOk, OnErr, IfOk, IsTrue, false};
 ghost use Rattle.kc_effect.specs.Window.{window_of, mapped, is_wsr};
 
 use kc_base::Kind;
 
-/// The address of a register byte under a value of WSR.
+/// The address of a register byte under a value of WSR, in the register file (80C196KC User's Manual, "Windows").
+/// Refused as `BadWindow` for a value outside the profile.
 pub fn window(wsr: u8, register: u8) -> Result<u16, Kind>
-    ensures { result ≡ window_of wsr register }
+    ensures address { result ≡ window_of wsr register }
+    ensures known { OnOk result (IsTrue (is_wsr wsr)) }
+    ensures unknown { OnErr result (is_wsr wsr ≡ false) }
+    ensures bound { IfOk result (λ addr. addr < 512) }
 {
     let place = u16::from(register);
     match wsr {
@@ -21,7 +25,9 @@ fn mapped_to(size: u16, n: u16, register: u16) -> u16
     requires size { size ≤ 128 }
     requires n { n < 16 }
     requires register { register < 256 }
-    ensures { result ≡ mapped size n register }
+    requires place { size * n + size ≤ 512 }
+    ensures address { result ≡ mapped size n register }
+    ensures bound { result < 512 }
 {
     if register < 256 - size {
         register

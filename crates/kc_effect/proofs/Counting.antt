@@ -1,5 +1,5 @@
 -- No instruction, word of a block move, entry or trap makes more than eight accesses.
-use Rattle.std.proofs.Common.{◌≡◌, ℕ, Bool, true, false, ◌+◌, ◌-◌, ◌*◌, ◌/◌, ◌%◌, ◌<◌, ◌≤◌, ◌^◌, ◌==◌, nat_lt, ◌||◌, if◌then◌else◌, Option, Some, None, Result, Ok, Err, refl, sym, subst, arith}
+use Rattle.std.proofs.Common.{◌≡◌, ℕ, Bool, true, false, ◌+◌, ◌-◌, ◌/◌, ◌%◌, ◌<◌, ◌≤◌, ◌==◌, nat_lt, ◌||◌, if◌then◌else◌, Option, Some, None, Result, Ok, Err, subst, arith}
 use Rattle.kc_base.specs.declared.types.Kind.{Kind}
 use Rattle.kc_base.specs.declared.types.Kind.TheVariants.{Opcode}
 use Rattle.kc_isa.specs.declared.insn.Insn.{Insn}
@@ -8,7 +8,6 @@ use Rattle.kc_isa.specs.declared.insn.Operand.TheVariants.{Absent, Reg, Imm, Ind
 use Rattle.kc_isa.specs.declared.table.Mnemonic.{Mnemonic}
 use Rattle.kc_isa.specs.Names.{mnemonic_at}
 use Rattle.kc_alu.specs.declared.flags.Shift.{Shift as ShiftKind}
-use Rattle.kc_effect.specs.declared.access.Masks.{Masks}
 use Rattle.kc_effect.specs.declared.cpu.After.{After}
 use Rattle.kc_effect.specs.declared.cpu.Cpu.{Cpu}
 use Rattle.kc_effect.specs.declared.cpu.Words.{Words}
@@ -34,9 +33,9 @@ use Rattle.kc_effect.specs.Operands.{source, target}
 use Rattle.kc_effect.specs.Operations.{writes_result, reads_register}
 use Rattle.kc_effect.specs.Plans.{plan_of}
 use Rattle.kc_effect.specs.Computing.{register, has_a, operate, read_altered, alter, extend, shift_count, shift, normalize, factor, multiply, divide, compare_long, compute}
-use Rattle.kc_effect.specs.Moving.{load, load_extended, store, exchange, push_source, pop_target, move}
+use Rattle.kc_effect.specs.Moving.{load, load_extended, store, exchange, push_source, pop_target, move_data}
 use Rattle.kc_effect.specs.Jumping.{bit_jump, count_down, table_target, goes}
-use Rattle.kc_effect.specs.Saving.{push_status, pop_status, push_all, pop_all, save}
+use Rattle.kc_effect.specs.Saving.{push_status, pop_status, push_masks, pop_masks, push_all, pop_all, save}
 use Rattle.kc_effect.specs.Settings.{idle_after}
 use Rattle.kc_effect.specs.BlockMoves.{set_up, less_one, write_pointers, write_count, move_one, moved_word}
 use Rattle.kc_effect.specs.Entering.{entry, trap}
@@ -278,8 +277,8 @@ pop_target-most wsr i =
     AtMost-bind 3 3 pop _ pop-most (λ n.
     AtMost-bind 2 1 (target false wsr i.operand) _ (target-most false wsr i.operand) (λ addr. write_at-most false addr n))
 
-move-most : (how : Movement) (wsr : ℕ) (i : Insn) → AtMost 6 (move how wsr i)
-unfolding move
+move-most : (how : Movement) (wsr : ℕ) (i : Insn) → AtMost 6 (move_data how wsr i)
+unfolding move_data
 move-most (Load byte) wsr i = AtMost-more 4 6 _ (omega arith) (load-most byte wsr i)
 move-most ZeroExtend wsr i = AtMost-more 4 6 _ (omega arith) (load_extended-most false wsr i)
 move-most SignExtend wsr i = AtMost-more 4 6 _ (omega arith) (load_extended-most true wsr i)
@@ -324,15 +323,21 @@ pop_status-most : AtMost 4 pop_status
 unfolding pop_status
 pop_status-most = AtMost-bind 3 1 pop _ pop-most (λ n. λ m. (omega arith, λ k. tt))
 
+push_masks-most : AtMost 4 push_masks
+unfolding push_masks
+push_masks-most = AtMost-bind 3 1 (Look _) _ (λ m. push-most _) (λ pushed. (λ m. (omega arith, λ k. tt)))
+
+pop_masks-most : AtMost 4 pop_masks
+unfolding pop_masks
+pop_masks-most = AtMost-bind 3 1 pop _ pop-most (λ n. λ m. (omega arith, λ k. tt))
+
 push_all-most : (psw : ℕ) → AtMost 8 (push_all psw)
 unfolding push_all
-push_all-most psw =
-    AtMost-bind 4 4 (push_status psw) _ (push_status-most psw) (λ first.
-    AtMost-bind 3 1 (Look _) _ (λ m. push-most _) (λ second. (λ m. (omega arith, λ k. tt))))
+push_all-most psw = AtMost-bind 4 4 (push_status psw) _ (push_status-most psw) (λ u. push_masks-most)
 
 pop_all-most : AtMost 8 pop_all
 unfolding pop_all
-pop_all-most = AtMost-bind 3 5 pop _ pop-most (λ n. λ m. (omega arith, λ k. pop_status-most))
+pop_all-most = AtMost-bind 4 4 pop_masks _ pop_masks-most (λ u. pop_status-most)
 
 save-most : (how : Saving) (psw : ℕ) → AtMost 8 (save how psw)
 unfolding save

@@ -1,5 +1,5 @@
 -- Block moves: what BMOV and BMOVI do before the first word, and with each word (80C196KC User's Manual, "Instruction Set"; the moments at which pointers and count are written are this kit's own).
-use Rattle.std.specs.Prelude.{◌≡◌, ℕ, Bool, false, ◌+◌, ◌-◌, ◌*◌, ◌/◌, ◌%◌, ◌<◌, ◌≤◌, ◌==◌, nat_le, ◌&&◌, ◌||◌, if◌then◌else◌, Some}
+use Rattle.std.specs.Prelude.{◌≡◌, ℕ, Bool, false, ◌+◌, ◌-◌, ◌*◌, ◌/◌, ◌%◌, ◌<◌, ◌≤◌, ◌==◌, nat_le, ◌||◌, if◌then◌else◌, Some}
 use Rattle.kc_isa.specs.declared.insn.Insn.{Insn}
 use Rattle.kc_isa.specs.declared.table.Mnemonic.TheVariants.{Bmov, Bmovi}
 use Rattle.kc_isa.specs.Names.{mnemonic_at}
@@ -7,6 +7,8 @@ use Rattle.kc_effect.specs.declared.cpu.Cpu.{Cpu}
 use Rattle.kc_effect.specs.declared.cpu.Words.{Words}
 use Rattle.kc_effect.specs.declared.cpu.After.{After}
 use Rattle.kc_effect.specs.declared.cpu.After.TheVariants.{Next, MoreWords}
+use Rattle.kc_effect.specs.declared.plan.Plan.{Plan}
+use Rattle.kc_effect.specs.declared.plan.Plan.TheVariants.{BlockMove}
 use Rattle.kc_effect.specs.Effect.{Effect, End, Look, ◌>>=◌}
 use Rattle.kc_effect.specs.Parts.{read_at, write_at, read_register, write_register, read_long, write_long}
 use Rattle.kc_effect.specs.Operands.{at_offset}
@@ -62,3 +64,8 @@ IsUnderWay i w = (mnemonic_at i.opcode i.signed ≡ Some (if w.interruptible the
 abbrev pub IsOfMove : Insn → After → Type 0
 IsOfMove i (MoreWords w) = IsUnderWay i w
 IsOfMove i _ = Unit {0}
+
+-- the same by the kind of work
+abbrev pub IsOfPlan : Plan → After → Type 0
+IsOfPlan plan (MoreWords w) = (plan ≡ BlockMove w.interruptible) × (0 < w.left) × (w.left ≤ w.count)
+IsOfPlan plan _ = Unit {0}

@@ -13,7 +13,7 @@ use Rattle.kc_effect.specs.Effect.{Effect, End, Undefined, Look, ◌>>=◌, Outc
 use Rattle.kc_effect.specs.Parts.{or_undefined}
 use Rattle.kc_effect.specs.Plans.{plan_of}
 use Rattle.kc_effect.specs.Computing.{compute}
-use Rattle.kc_effect.specs.Moving.{move}
+use Rattle.kc_effect.specs.Moving.{move_data}
 use Rattle.kc_effect.specs.Jumping.{next_pc, goes, psw_after}
 use Rattle.kc_effect.specs.Saving.{save}
 use Rattle.kc_effect.specs.Settings.{setting_psw, setting_after, idle_after}
@@ -25,7 +25,7 @@ ended after pc psw = End (after, record { pc = pc; psw_high = psw })
 
 unfoldable pub planned : Plan → Insn → ℕ → Cpu → Effect (After × Cpu)
 planned (Compute how) i wsr cpu = compute how wsr i cpu.psw_high >>= λ psw. ended Next (next_pc i cpu.pc) psw
-planned (Move how) i wsr cpu = move how wsr i >>= λ u. ended Next (next_pc i cpu.pc) cpu.psw_high
+planned (Move how) i wsr cpu = move_data how wsr i >>= λ u. ended Next (next_pc i cpu.pc) cpu.psw_high
 planned (Jump route) i wsr cpu = goes route wsr i cpu >>= λ pc. ended Next pc (psw_after route cpu.psw_high)
 planned (Save how) i wsr cpu = save how cpu.psw_high >>= λ psw. ended Held (next_pc i cpu.pc) psw
 planned (Set bit) i wsr cpu = ended (setting_after bit) (next_pc i cpu.pc) (setting_psw bit cpu.psw_high)

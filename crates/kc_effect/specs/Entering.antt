@@ -1,5 +1,5 @@
 -- Entries through a vector (80C196KC User's Manual, "Interrupts"; the order of accesses and the states are this kit's own).
-use Rattle.std.specs.Prelude.{◌≡◌, ℕ, ◌+◌, ◌-◌, ◌*◌, ◌%◌, ◌==◌, nat_lt, Bool, false, if◌then◌else◌, Result, Ok, Err}
+use Rattle.std.specs.Prelude.{◌≡◌, ℕ, ◌+◌, ◌-◌, ◌*◌, ◌%◌, ◌==◌, nat_lt, false, if◌then◌else◌, Result, Ok, Err}
 use Rattle.kc_base.specs.declared.types.Kind.{Kind}
 use Rattle.kc_effect.specs.declared.cpu.Cpu.{Cpu}
 use Rattle.kc_effect.specs.Effect.{Effect, End, ◌>>=◌, Outcome, Done, Refused}

@@ -3,7 +3,7 @@ use Rattle.std.specs.Prelude.{ℕ, Bool, true, false, ◌+◌, nat_lt, if◌then
 use Rattle.kc_isa.specs.declared.insn.Insn.{Insn}
 use Rattle.kc_effect.specs.declared.plan.Movement.{Movement}
 use Rattle.kc_effect.specs.declared.plan.Movement.TheVariants.{Load, ZeroExtend, SignExtend, Store, Exchange, Push, Pop}
-use Rattle.kc_effect.specs.Effect.{Effect, End, ◌>>=◌}
+use Rattle.kc_effect.specs.Effect.{Effect, ◌>>=◌}
 use Rattle.kc_effect.specs.Parts.{read_at, write_at, read_register, write_register, push, pop}
 use Rattle.kc_effect.specs.Operands.{source, target}
 use Rattle.kc_effect.specs.Computing.{register}
@@ -44,11 +44,11 @@ pop_target wsr i = do
   addr ← target false wsr i.operand
   write_at false addr n
 
-unfoldable pub move : Movement → ℕ → Insn → Effect (Unit {0})
-move (Load byte) wsr i = load byte wsr i
-move ZeroExtend wsr i = load_extended false wsr i
-move SignExtend wsr i = load_extended true wsr i
-move (Store byte) wsr i = store byte wsr i
-move (Exchange byte) wsr i = exchange byte wsr i
-move Push wsr i = push_source wsr i
-move Pop wsr i = pop_target wsr i
+unfoldable pub move_data : Movement → ℕ → Insn → Effect (Unit {0})
+move_data (Load byte) wsr i = load byte wsr i
+move_data ZeroExtend wsr i = load_extended false wsr i
+move_data SignExtend wsr i = load_extended true wsr i
+move_data (Store byte) wsr i = store byte wsr i
+move_data (Exchange byte) wsr i = exchange byte wsr i
+move_data Push wsr i = push_source wsr i
+move_data Pop wsr i = pop_target wsr i

@@ -22,18 +22,23 @@ pop_status = do
   changed ← change_masks (λ m. record { int_mask = n % 0x100; int_mask1 = m.int_mask1; wsr = m.wsr })
   End (n / 0x100)
 
--- the PSW, then INT_MASK1 and WSR
-unfoldable pub push_all : ℕ → Effect (Unit {0})
-push_all psw = do
-  first ← push_status psw
-  second ← Look (λ m. push (0x100 * m.int_mask1 + m.wsr))
+-- INT_MASK1 and WSR
+unfoldable pub push_masks : Effect (Unit {0})
+push_masks = do
+  pushed ← Look (λ m. push (0x100 * m.int_mask1 + m.wsr))
   change_masks (λ m. record { int_mask = m.int_mask; int_mask1 = 0; wsr = m.wsr })
 
-unfoldable pub pop_all : Effect ℕ
-pop_all = do
+unfoldable pub pop_masks : Effect (Unit {0})
+pop_masks = do
   n ← pop
-  changed ← change_masks (λ m. record { int_mask = m.int_mask; int_mask1 = n / 0x100; wsr = n % 0x100 })
-  pop_status
+  change_masks (λ m. record { int_mask = m.int_mask; int_mask1 = n / 0x100; wsr = n % 0x100 })
+
+-- the PSW first, and the other way back
+unfoldable pub push_all : ℕ → Effect (Unit {0})
+push_all psw = push_status psw >>= λ u. push_masks
+
+unfoldable pub pop_all : Effect ℕ
+pop_all = pop_masks >>= λ u. pop_status
 
 unfoldable pub save : Saving → ℕ → Effect ℕ
 save PushStatus psw = push_status psw >>= λ u. End 0

@@ -1,5 +1,5 @@
 -- One bit of a set that has lost a request, or got one.
-use Rattle.std.proofs.Common.{◌≡◌, ◌≢◌, ℕ, ◌+◌, ◌-◌, ◌<◌, ◌^◌, ◌==◌, min, max, bit_and, bit_or, true, false, refl, sym, ap, ◌∙◌, arith}
+use Rattle.std.proofs.Common.{◌≡◌, ℕ, ◌-◌, ◌<◌, ◌^◌, ◌==◌, min, max, true, false, ap, ◌∙◌, arith}
 use Rattle.std.specs.Int.{w16, bit_at, bit_not}
 use Rattle.std.proofs.lemmas.Nat.Bits.{bit_at_and, bit_at_or, bit_at_not, bit_at-pow_same, bit_at-pow_other, bit_at-lt}
 use Rattle.std.proofs.Math.Pow.{pow-lt}

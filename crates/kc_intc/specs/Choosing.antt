@@ -1,5 +1,5 @@
 -- Which request is served next (80C196KC User's Manual, "Interrupts", "Peripheral Transaction Server").
-use Rattle.std.specs.Prelude.{ℕ, zero, suc, Bool, ◌&&◌, ◌||◌, not, Option, Some, None, if◌then◌else◌}
+use Rattle.std.specs.Prelude.{ℕ, zero, suc, ◌<◌, Bool, ◌&&◌, ◌||◌, not, Option, Some, None, if◌then◌else◌}
 use Rattle.kc_base.specs.Bits.{bit}
 use Rattle.kc_intc.specs.declared.requests.Requests.{Requests}
 use Rattle.kc_intc.specs.declared.requests.Choice.{Choice}
@@ -29,3 +29,9 @@ choice_of pse enabled r =
     if bit r.pending 15 then Nmi
     else or_else Transfer (if pse then greatest (wants_cycle r) 15 else None)
     (or_else Enter (if enabled then greatest (wants_entry r) 15 else None) Go)
+
+-- NMI stands apart from the numbers that are chosen
+abbrev pub IsBelow15 : Choice → Type 0
+IsBelow15 (Transfer n) = n < 15
+IsBelow15 (Enter n) = n < 15
+IsBelow15 _ = Unit {0}

@@ -1,6 +1,6 @@
-ghost use Rattle.std.specs.Prelude.{◌≡◌, ◌<◌, ◌≤◌, bit_or, ◌&&◌, ◌||◌, not};
+ghost use Rattle.std.specs.Prelude.{◌≡◌, ◌<◌, bit_or, IfSome};
 ghost use Rattle.kc_base.specs.Bits.{bit};
-ghost use Rattle.kc_intc.specs.Choosing.{wants_cycle, wants_entry, greatest, choice_of};
+ghost use Rattle.kc_intc.specs.Choosing.{wants_cycle, wants_entry, greatest, choice_of, IsBelow15};
 ghost use Rattle.kc_intc.specs.Sets.{without, with_request};
 ghost use Rattle.kc_intc.specs.Changes.{entered_of, ended_of};
 
@@ -63,7 +63,8 @@ impl Requests {
     /// What is served next, where `pse` is the bit PSE of the PSW and `enabled` its bit I.
     #[tactic(auto, using(crate::proofs::Greatest::nothing_wanted))]
     pub fn choose(&self, pse: bool, enabled: bool) -> Choice
-        ensures { result ≡ choice_of pse enabled self.now }
+        ensures value { result ≡ choice_of pse enabled self.now }
+        ensures below { IsBelow15 result }
     {
         if self.pending == 0 && self.service == 0 {
             return Choice::Go;
@@ -128,7 +129,8 @@ impl Requests {
     // The request that the transfer server serves next.
     #[tactic(auto, using(crate::proofs::Greatest::greatest_more), unfolding(crate::specs::Choosing::greatest))]
     fn cycle(&self) -> Option<u8>
-        ensures { result ≡ greatest (wants_cycle self.now) 15 }
+        ensures value { result ≡ greatest (wants_cycle self.now) 15 }
+        ensures below { IfSome result (λ n. n < 15) }
     {
         let mut found = None;
         for n in 0..15 {
@@ -142,7 +144,8 @@ impl Requests {
     // The request that is entered next.
     #[tactic(auto, using(crate::proofs::Greatest::greatest_more), unfolding(crate::specs::Choosing::greatest))]
     fn entry(&self) -> Option<u8>
-        ensures { result ≡ greatest (wants_entry self.now) 15 }
+        ensures value { result ≡ greatest (wants_entry self.now) 15 }
+        ensures below { IfSome result (λ n. n < 15) }
     {
         let mut found = None;
         for n in 0..15 {

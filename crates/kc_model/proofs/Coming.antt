@@ -1,7 +1,6 @@
 -- A run that has come to a state, with its records put to a trace.
 use Rattle.std.proofs.Common.{◌≡◌, ℕ, suc, ◌+◌, ◌*◌, ◌-◌, ◌<◌, ◌≤◌, true, List, [], ◌∷◌, ◌++◌, Some, max, ◌⊎◌, inl, inr, refl, sym, ◌∙◌, ap, subst, arith}
 use Rattle.std.proofs.lemmas.Bool.{cases_lt}
-use Rattle.kc_trace.specs.declared.record.Record.{Record}
 use Rattle.kc_trace.specs.declared.record.Record.TheVariants.{Registers}
 use Rattle.kc_trace.specs.Out.{Out, IsPut, Prints}
 use Rattle.kc_trace.proofs.Printed.{Prints-none, Prints-one, Prints-append, Prints-longer}

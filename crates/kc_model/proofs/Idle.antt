@@ -1,7 +1,6 @@
 -- Idle states in which no request is served.
-use Rattle.std.proofs.Common.{if◌then◌else◌, ◌≡◌, ℕ, zero, suc, ◌+◌, ◌-◌, ◌<◌, ◌≤◌, Bool, true, false, List, [], ◌++◌, Option, Some, None, refl, sym, ◌∙◌, ap, append-nil, arith}
+use Rattle.std.proofs.Common.{if◌then◌else◌, ◌≡◌, ℕ, zero, suc, ◌+◌, ◌-◌, ◌<◌, ◌≤◌, Bool, false, List, [], ◌++◌, Option, Some, None, refl, sym, ◌∙◌, ap, append-nil, arith}
 use Rattle.kc_span.specs.Span.{after}
-use Rattle.kc_intc.specs.declared.requests.Choice.{Choice}
 use Rattle.kc_intc.specs.declared.requests.Choice.TheVariants.{Go}
 use Rattle.kc_trace.specs.declared.record.Record.{Record}
 use Rattle.kc_model.specs.declared.doing.Activity.TheVariants.{Idles}
@@ -11,7 +10,7 @@ use Rattle.kc_model.specs.declared.doing.End.{End}
 use Rattle.kc_model.specs.declared.doing.UnderWay.{UnderWay}
 use Rattle.kc_model.specs.declared.units.Units.{Units}
 use Rattle.kc_model.specs.Board.{tick, touched, pins, edges_in, touched_in, units_rule}
-use Rattle.kc_model.specs.Machine.{Machine, Stepped, current, current_of, chosen, asked, serves, goes_on, goes_first, fetches, finished, stepped, step, with_units, before}
+use Rattle.kc_model.specs.Machine.{Machine, current, current_of, chosen, asked, serves, goes_on, goes_first, fetches, finished, stepped, before}
 use Rattle.kc_model.specs.Passing.{at, stepped_of, after_ticks, ticks_of, IsIdle}
 use Rattle.kc_model.specs.Run.{still, and_then, run_for, run_to}
 use Rattle.kc_model.proofs.Runs.{run_for-add, run_for-one, stepped-finished, same_stepped, same_at}

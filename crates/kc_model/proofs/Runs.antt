@@ -1,6 +1,5 @@
 -- Laws of runs: how they are put together, and how an activity is passed at once.
 use Rattle.std.proofs.Common.{◌≡◌, ℕ, zero, suc, ◌+◌, ◌-◌, ◌<◌, ◌≤◌, ◌≢◌, Bool, true, false, eqb, List, [], ◌++◌, Option, Some, None, refl, sym, ◌∙◌, ap, subst, append_assoc, append-nil, zero-add, arith}
-use Rattle.std.specs.Option.{unwrap_or}
 use Rattle.std.proofs.lemmas.Bool.Decides.{nat_tests}
 use Rattle.kc_effect.specs.declared.cpu.Cpu.{Cpu}
 use Rattle.kc_effect.specs.declared.cpu.After.{After}
@@ -18,8 +17,8 @@ use Rattle.kc_effect.specs.Effect.{Outcome, Done, Refused, run}
 use Rattle.kc_effect.specs.Effects.{effect_of}
 use Rattle.kc_effect.specs.Entering.{entry, vector_at, opcode_trap}
 use Rattle.kc_effect.specs.BlockMoves.{moved_word}
-use Rattle.kc_model.specs.Passing.{at, left_at, stepped_of, after_ticks, ticks_of, passed, whole}
-use Rattle.kc_model.specs.Machine.{Machine, Stepped, step, stepped, current, chosen, finished, waiting, with_units, settled, entered, trapped, own_records, scene_of, before}
+use Rattle.kc_model.specs.Passing.{at, left_at, stepped_of, after_ticks, passed, whole, activity_end}
+use Rattle.kc_model.specs.Machine.{Machine, Stepped, step, stepped, current, finished, waiting, with_units, settled, entered, trapped, own_records, scene_of, before}
 use Rattle.kc_model.specs.Run.{still, and_then, run_for, run_to}
 
 -- a machine that has ended does nothing more
@@ -124,7 +123,7 @@ trapped-at m now x u v (Refused kind scene) = refl
 
 finished-at : (doing : Activity) (m : Machine) (now : ℕ) (x : Units) (u v : Option UnderWay) → finished doing (at m now x u) ≡ finished doing (at m now x v)
 unfolding finished
-finished-at (Executes insn) m now x u v = settled-at m now x u v insn (own_records (at m now x u) insn) (run scene_meaning (effect_of insn m.cpu) (scene_of (at m now x u)))
+finished-at (Executes insn) m now x u v = settled-at m now x u v insn (own_records now m.cpu.pc insn) (run scene_meaning (effect_of insn m.cpu) (scene_of (at m now x u)))
 finished-at (MovesWord insn words) m now x u v = settled-at m now x u v insn [] (run scene_meaning (moved_word insn words m.cpu) (scene_of (at m now x u)))
 finished-at Traps m now x u v = trapped-at m now x u v (run scene_meaning (opcode_trap m.cpu.pc) (scene_of (at m now x u)))
 finished-at (Enters number) m now x u v = entered-at m now x u v number (run scene_meaning (entry (vector_at number) m.cpu.pc) (scene_of (at m now x u)))
@@ -198,6 +197,10 @@ run_to-whole until m a lives same some sum =
     let n : until - m.time ≡ a.left = omega arith in
     ap (λ k. run_for k m) n ∙ run_for-whole m a lives (sym same) some
 
+-- a run to the end of the current activity
+pub run_to-activity : (m : Machine) → m.ended ≡ None → 0 < (current m).left → run_to (activity_end m) m ≡ whole m (current m)
+run_to-activity m lives some = run_to-whole (activity_end m) m (current m) lives refl some refl
+
 -- a run that goes on from a state on its way
 pub run_to-append : (mid until : ℕ) (m : Machine) → m.time ≤ mid → mid ≤ until → (run_to mid m).machine.time ≡ mid → run_to until m ≡ and_then (run_to mid m) (run_to until)
 run_to-append mid until m below above at_mid =
@@ -239,7 +242,7 @@ trapped-time m (Refused kind scene) = refl
 
 finished-time : (doing : Activity) (m : Machine) → (finished doing m).machine.time ≡ m.time + 1
 unfolding finished
-finished-time (Executes insn) m = settled-time m insn (own_records m insn) (run scene_meaning (effect_of insn m.cpu) (scene_of m))
+finished-time (Executes insn) m = settled-time m insn (own_records m.time m.cpu.pc insn) (run scene_meaning (effect_of insn m.cpu) (scene_of m))
 finished-time (MovesWord insn words) m = settled-time m insn [] (run scene_meaning (moved_word insn words m.cpu) (scene_of m))
 finished-time Traps m = trapped-time m (run scene_meaning (opcode_trap m.cpu.pc) (scene_of m))
 finished-time (Enters number) m = entered-time m number (run scene_meaning (entry (vector_at number) m.cpu.pc) (scene_of m))

@@ -1,5 +1,5 @@
 -- What the accesses of both masters see and change, and how it goes on by itself (80C196KC User's Manual, "Memory Map", "Interrupts").
-use Rattle.std.specs.Prelude.{ℕ, zero, suc, ◌+◌, ◌*◌, Bool, true, List, [], ◌++◌, map, slice_index}
+use Rattle.std.specs.Prelude.{ℕ, zero, suc, ◌+◌, ◌*◌, true, List, [], ◌++◌, map, slice_index}
 use Rattle.kc_base.specs.declared.types.Edge.{Edge}
 use Rattle.kc_effect.specs.declared.access.Masks.{Masks}
 use Rattle.kc_intc.specs.declared.requests.Requests.{Requests}

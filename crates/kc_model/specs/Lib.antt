@@ -4,4 +4,5 @@ pub mod Scene
 pub mod Machine
 pub mod Run
 pub mod Passing
+pub mod Peeking
 pub mod Text

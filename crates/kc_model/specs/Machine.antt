@@ -1,5 +1,5 @@
 -- The machine, and what it does in one state time (80C196KC User's Manual, "Interrupts", "Idle and Powerdown Modes"; the states of activities and the moment of their accesses are this kit's own).
-use Rattle.std.specs.Prelude.{ℕ, zero, suc, ◌+◌, ◌-◌, ◌*◌, ◌%◌, Bool, true, false, ◌||◌, not, List, [], ◌∷◌, ◌++◌, Option, Some, None, Result, Ok, Err, if◌then◌else◌, ◌==◌, nat_lt, slice_index, replicate}
+use Rattle.std.specs.Prelude.{ℕ, zero, suc, ◌+◌, ◌-◌, ◌%◌, Bool, true, false, ◌||◌, not, List, [], ◌∷◌, ◌++◌, Option, Some, None, Result, Ok, Err, if◌then◌else◌, ◌==◌, nat_lt, slice_index, replicate}
 use Rattle.kc_base.specs.declared.types.Kind.{Kind}
 use Rattle.kc_base.specs.declared.types.Kind.TheVariants.{OutsideMap, Opcode}
 use Rattle.kc_base.specs.declared.types.Undefined.{Undefined}
@@ -13,12 +13,11 @@ use Rattle.kc_code.specs.declared.reader.Decoded.{Decoded}
 use Rattle.kc_code.specs.declared.reader.Decoded.TheVariants as says
 use Rattle.kc_code.specs.Reading.{decode_of}
 use Rattle.kc_effect.specs.declared.cpu.Cpu.{Cpu}
-use Rattle.kc_effect.specs.declared.cpu.Words.{Words}
 use Rattle.kc_effect.specs.declared.cpu.After.{After}
 use Rattle.kc_effect.specs.declared.cpu.After.TheVariants as after
 use Rattle.kc_effect.specs.Status.{has}
 use Rattle.kc_effect.specs.Memory.{is_hole}
-use Rattle.kc_effect.specs.Effect.{Effect, Outcome, Done, Refused, run}
+use Rattle.kc_effect.specs.Effect.{Outcome, Done, Refused, run}
 use Rattle.kc_effect.specs.Effects.{effect_of}
 use Rattle.kc_effect.specs.Jumping.{next_pc}
 use Rattle.kc_effect.specs.BlockMoves.{moved_word, word_states_of}
@@ -36,6 +35,7 @@ use Rattle.kc_model.specs.declared.doing.Going.{Going}
 use Rattle.kc_model.specs.declared.doing.Going.TheVariants.{Moving, Idling}
 use Rattle.kc_model.specs.declared.doing.End.{End}
 use Rattle.kc_model.specs.declared.doing.End.TheVariants as end
+use Rattle.kc_model.specs.declared.doing.Next.{Next}
 use Rattle.kc_model.specs.declared.doing.UnderWay.{UnderWay}
 use Rattle.kc_model.specs.declared.units.Units.{Units}
 use Rattle.kc_model.specs.Board.{Board, requests_of, with_requests, masks_of, tick, touched, pins, word_at}
@@ -77,13 +77,9 @@ fetched (suc more) memory addr =
 abbrev pub breaks : Kind → UnderWay
 breaks kind = record { doing = Breaks kind; left = 2 }
 
--- an activity has a state at least
-abbrev pub at_least_one : ℕ → ℕ
-at_least_one n = if n == 0 then 1 else n
-
 -- an instruction whose states are counted by its place, or whose place is refused
 abbrev pub placed : Insn → Result Place Kind → UnderWay
-placed insn (Ok place) = record { doing = Executes insn; left = at_least_one (states_of insn place) }
+placed insn (Ok place) = record { doing = Executes insn; left = states_of insn place }
 placed insn (Err kind) = breaks kind
 
 abbrev pub pushing_states : Machine → ℕ
@@ -141,12 +137,6 @@ current_of machine None = chosen machine
 abbrev pub current : Machine → UnderWay
 current machine = current_of machine machine.under_way
 
--- how the machine goes on after an activity
-pub record Next : Type 0 where
-  pub held : Bool
-  pub going : Option Going
-  pub ended : Option End
-
 -- anything may come, or an instruction has to come
 abbrev pub free : Next
 free = record { held = false; going = None; ended = None }
@@ -154,11 +144,14 @@ free = record { held = false; going = None; ended = None }
 abbrev pub holding : Next
 holding = record { held = true; going = None; ended = None }
 
+abbrev pub idling : Next
+idling = record { held = false; going = Some Idling; ended = None }
+
 -- after an instruction, or after a word of it
 abbrev pub next_after : Insn → After → Next
 next_after insn after.Next = free
 next_after insn after.Held = holding
-next_after insn after.Idle = record { held = false; going = Some Idling; ended = None }
+next_after insn after.Idle = idling
 next_after insn after.Powerdown = record { held = false; going = None; ended = Some end.Powerdown }
 next_after insn after.Reset = record { held = false; going = None; ended = Some end.Reset }
 next_after insn (after.MoreWords words) = record { held = false; going = Some (Moving insn words); ended = None }
@@ -182,9 +175,8 @@ is_trap (Some Trap) = true
 is_trap _ = false
 
 -- TRAP is printed as an entry
-abbrev pub own_records : Machine → Insn → List Record
-own_records machine insn =
-    if is_trap (mnemonic_at insn.opcode insn.signed) then Entered machine.time 16 (next_pc insn machine.cpu.pc) ∷ [] else []
+abbrev pub own_records : ℕ → ℕ → Insn → List Record
+own_records time pc insn = if is_trap (mnemonic_at insn.opcode insn.signed) then Entered time 16 (next_pc insn pc) ∷ [] else []
 
 -- after the accesses of an instruction, or of a word of it
 abbrev pub settled : Machine → Insn → List Record → Outcome (After × Cpu) Scene → Stepped
@@ -212,11 +204,11 @@ trapped machine (Refused kind scene) = broken machine scene machine.cpu.pc kind
 
 -- an activity in its last state, after the Tick of that state
 unfoldable pub finished : Activity → Machine → Stepped
-finished (Executes insn) machine = settled machine insn (own_records machine insn) (run scene_meaning (effect_of insn machine.cpu) (scene_of machine))
+finished (Executes insn) machine = settled machine insn (own_records machine.time machine.cpu.pc insn) (run scene_meaning (effect_of insn machine.cpu) (scene_of machine))
 finished (MovesWord insn words) machine = settled machine insn [] (run scene_meaning (moved_word insn words machine.cpu) (scene_of machine))
 finished Traps machine = trapped machine (run scene_meaning (opcode_trap machine.cpu.pc) (scene_of machine))
 finished (Enters number) machine = entered machine number (run scene_meaning (entry (vector_at number) machine.cpu.pc) (scene_of machine))
-finished Idles machine = closed machine (scene_of machine) machine.cpu (record { held = false; going = Some Idling; ended = None }) []
+finished Idles machine = closed machine (scene_of machine) machine.cpu idling []
 finished (Breaks kind) machine = broken machine (scene_of machine) machine.cpu.pc kind
 
 -- an activity in another state, after the Tick of that state

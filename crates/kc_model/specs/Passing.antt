@@ -1,5 +1,5 @@
 -- An activity, or a span of idle states, passed at once (this kit's own).
-use Rattle.std.specs.Prelude.{◌≡◌, ℕ, ◌+◌, ◌-◌, ◌<◌, Bool, false, List, Option, Some, None}
+use Rattle.std.specs.Prelude.{◌≡◌, ℕ, ◌+◌, ◌-◌, ◌<◌, false, List, Option, Some, None}
 use Rattle.kc_span.specs.Span.{after}
 use Rattle.kc_intc.specs.declared.requests.Choice.TheVariants.{Go}
 use Rattle.kc_trace.specs.declared.record.Record.{Record}
@@ -56,3 +56,7 @@ pub record IsIdle (m : Machine) : Type 0 where
 -- so many idle states, in none of which a request is served
 abbrev pub IdleSpan : Type 0
 IdleSpan = (n : ℕ) (m : Machine) → IsIdle m → ((k : ℕ) → k < n → asked (after_ticks m k None) ≡ Go) → run_for n m ≡ ticks_of m n None
+
+-- the state at which the current activity is over
+abbrev pub activity_end : Machine → ℕ
+activity_end m = m.time + (current m).left

@@ -1,5 +1,5 @@
 -- Which special function register answers an access, by window (80C196KC User's Manual, "Special Function Registers"; which registers appear in which window, and kinds 7 and 13, are this kit's own).
-use Rattle.std.specs.Prelude.{ℕ, ◌+◌, ◌-◌, ◌*◌, ◌/◌, ◌%◌, ◌==◌, Bool, is_some, Option, Some, None, Result, Ok, Err, List, [], ◌∷◌, if◌then◌else◌}
+use Rattle.std.specs.Prelude.{ℕ, ◌+◌, ◌-◌, ◌*◌, ◌/◌, ◌%◌, ◌==◌, is_some, Option, Some, None, Result, Ok, Err, List, [], ◌∷◌, if◌then◌else◌}
 use Rattle.kc_base.specs.declared.types.Kind.{Kind}
 use Rattle.kc_base.specs.declared.types.Kind.TheVariants.{NoRegister, BadWindow, ByteAccess}
 use Rattle.kc_effect.specs.declared.access.Master.{Master}

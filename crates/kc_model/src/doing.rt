@@ -41,3 +41,14 @@ pub enum End {
     Reset,
     Undefined(Undefined),
 }
+
+/// How the machine goes on after an activity.
+#[derive(Clone, Copy, Debug, PartialEq, Eq, Drop)]
+pub struct Next {
+    /// The next activity is an instruction.
+    pub held: bool,
+    /// What goes on between this activity and the next.
+    pub going: Option<Going>,
+    /// The run has ended so.
+    pub ended: Option<End>,
+}

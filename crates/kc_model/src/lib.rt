@@ -7,7 +7,7 @@ mod laws;
 mod registers;
 mod units;
 
-pub use doing::{Activity, End, Going, UnderWay};
+pub use doing::{Activity, End, Going, Next, UnderWay};
 pub use laws::{idle_span, part_of_activity, whole_activity};
 pub use registers::{ByteRegister, Window, WordRegister};
 pub use units::Units;

@@ -1,0 +1,155 @@
+-- The value of an expression, or the least code of its faults: 7 for a name without value, 9 for a number of over 16
+-- bits, 11 for a division by 0, 13 for arithmetic on places (after the MCS-96 Macro Assembler User's Guide,
+-- "Relocatable Expressions"; the codes are this kit's own).
+use Rattle.std.specs.Prelude.{◌≡◌, ℕ, ◌+◌, ◌-◌, ◌*◌, ◌/◌, ◌%◌, ◌^◌, Bool, true, false, not, ◌&&◌, ◌==◌, nat_lt, nat_le, if◌then◌else◌, List, [], ◌∷◌, Option, Some, None, Result, Ok, Err, min, bit_and, bit_or, bit_xor}
+use Rattle.std.specs.FinMap.{get}
+use Rattle.kc_lex.specs.declared.fault.SourceFault.{SourceFault}
+use Rattle.kc_lex.specs.declared.fault.SourceFault.TheVariants as faults
+use Rattle.kc_expr.specs.declared.values.Base.{Base}
+use Rattle.kc_expr.specs.declared.values.Base.TheVariants.{Fixed, Absolute, Piece, External}
+use Rattle.kc_expr.specs.declared.values.Tag.TheVariants.{Memory}
+use Rattle.kc_expr.specs.declared.values.Value.{Value}
+use Rattle.kc_expr.specs.declared.expr.Unary.{Unary}
+use Rattle.kc_expr.specs.declared.expr.Unary.TheVariants as unary
+use Rattle.kc_expr.specs.declared.expr.Binary.{Binary}
+use Rattle.kc_expr.specs.declared.expr.Binary.TheVariants as binary
+use Rattle.kc_expr.specs.Tree.{Tree, Number, Chars, Name, Here, One, Two}
+use Rattle.kc_expr.specs.Names.{NameMap}
+
+abbrev pub Answer : Type 0
+Answer = Result Value ℕ
+
+-- a plain number
+abbrev pub plain : ℕ → Value
+plain n = record { base = Fixed; tag = Memory; number = n }
+
+abbrev pub number_answer : ℕ → Answer
+number_answer n = if nat_lt n (2 ^ 16) then Ok (plain n) else Err 9
+
+-- the first character is the high byte
+abbrev pub chars_answer : List ℕ → Answer
+chars_answer [] = Err 9
+chars_answer (a ∷ []) = Ok (plain a)
+chars_answer (a ∷ b ∷ []) = Ok (plain (256 * a + b))
+chars_answer (a ∷ b ∷ c ∷ cs) = Err 9
+
+abbrev pub found : Option Value → Answer
+found None = Err 7
+found (Some v) = Ok v
+
+abbrev pub is_fixed : Base → Bool
+is_fixed Fixed = true
+is_fixed Absolute = false
+is_fixed (Piece n) = false
+is_fixed (External n) = false
+
+abbrev pub same_base : Base → Base → Bool
+same_base Absolute Absolute = true
+same_base (Piece m) (Piece n) = m == n
+same_base (External m) (External n) = m == n
+same_base a b = false
+
+abbrev pub truth : Bool → ℕ
+truth b = if b then 65535 else 0
+
+-- one number under an operator
+unfoldable pub unary_number : Unary → ℕ → ℕ
+unary_number unary.Low n = n % 256
+unary_number unary.High n = n / 256
+unary_number unary.Plus n = n
+unary_number unary.Minus n = (65536 - n) % 65536
+unary_number unary.Not n = 65535 - n
+
+-- two numbers under an operator, modulo 65536; a division by 0 has none
+unfoldable pub binary_number : Binary → ℕ → ℕ → Option ℕ
+binary_number binary.Times a b = Some (a * b % 65536)
+binary_number binary.Over a b = if b == 0 then None else Some (a / b)
+binary_number binary.Mod a b = if b == 0 then None else Some (a % b)
+binary_number binary.Shl a b = Some (a * 2 ^ b % 65536)
+binary_number binary.Shr a b = Some (a / 2 ^ b)
+binary_number binary.Plus a b = Some ((a + b) % 65536)
+binary_number binary.Minus a b = Some ((a + 65536 - b) % 65536)
+binary_number binary.Eq a b = Some (truth (a == b))
+binary_number binary.Ne a b = Some (truth (not (a == b)))
+binary_number binary.Lt a b = Some (truth (nat_lt a b))
+binary_number binary.Le a b = Some (truth (nat_le a b))
+binary_number binary.Gt a b = Some (truth (nat_lt b a))
+binary_number binary.Ge a b = Some (truth (nat_le b a))
+binary_number binary.And a b = Some (bit_and a b)
+binary_number binary.Or a b = Some (bit_or a b)
+binary_number binary.Xor a b = Some (bit_xor a b)
+
+abbrev pub divided : Option ℕ → Answer
+divided None = Err 11
+divided (Some n) = Ok (plain n)
+
+-- a place, moved by a plain number
+abbrev pub moved : Binary → Value → ℕ → Answer
+moved binary.Plus v n = Ok (record v { number = (v.number + n) % 65536 })
+moved binary.Minus v n = Ok (record v { number = (v.number + 65536 - n) % 65536 })
+moved op v n = Err 13
+
+-- a plain number, and a place after it
+abbrev pub moved_to : Binary → Value → ℕ → Answer
+moved_to binary.Plus v n = Ok (record v { number = (v.number + n) % 65536 })
+moved_to op v n = Err 13
+
+-- two places of one base have a distance
+abbrev pub distance : Binary → Value → Value → Answer
+distance binary.Minus a b = if same_base a.base b.base then Ok (record { base = Absolute; tag = Memory; number = (a.number + 65536 - b.number) % 65536 }) else Err 13
+distance op a b = Err 13
+
+unfoldable pub on_one : Unary → Value → Answer
+on_one op v = if is_fixed v.base then Ok (plain (unary_number op v.number)) else Err 13
+
+unfoldable pub on_two : Binary → Value → Value → Answer
+on_two op a b =
+    if is_fixed a.base
+    then (if is_fixed b.base then divided (binary_number op a.number b.number) else moved_to op b a.number)
+    else (if is_fixed b.base then moved op a b.number else distance op a b)
+
+-- a part that has a fault gives its code
+abbrev pub unary_answer : Unary → Answer → Answer
+unary_answer op (Ok v) = on_one op v
+unary_answer op (Err e) = Err e
+
+-- of the codes of two parts the lesser
+abbrev pub parts_answer : Binary → Answer → Answer → Answer
+parts_answer op (Ok a) (Ok b) = on_two op a b
+parts_answer op (Ok a) (Err e) = Err e
+parts_answer op (Err e) (Ok b) = Err e
+parts_answer op (Err d) (Err e) = Err (min d e)
+
+abbrev pub is_division : Binary → Bool
+is_division binary.Over = true
+is_division binary.Mod = true
+is_division op = false
+
+abbrev pub divides_by_zero : Binary → Answer → Bool
+divides_by_zero op (Ok b) = is_division op && is_fixed b.base && (b.number == 0)
+divides_by_zero op (Err e) = false
+
+-- a division by a fixed 0 is a fault whatever is divided
+abbrev pub by_zero : Answer → Answer
+by_zero (Ok a) = Err 11
+by_zero (Err e) = Err (min e 11)
+
+unfoldable pub binary_answer : Binary → Answer → Answer → Answer
+binary_answer op a b = if divides_by_zero op b then by_zero a else parts_answer op a b
+
+-- the name of the place where a line stands
+abbrev pub here : List ℕ
+here = 36 ∷ []
+
+unfoldable pub answer : Tree → NameMap → Answer
+answer (Number n) names = number_answer n
+answer (Chars cs) names = chars_answer cs
+answer (Name n) names = found (get names n)
+answer Here names = found (get names here)
+answer (One op e) names = unary_answer op (answer e names)
+answer (Two op a b) names = binary_answer op (answer a names) (answer b names)
+
+-- what a call answers at a line
+abbrev pub IsAnswerAt : ℕ → Answer → Result Value SourceFault → Type 0
+IsAnswerAt line (Ok v) result = result ≡ Ok v
+IsAnswerAt line (Err e) result = result ≡ Err (faults.At line e)

@@ -1,0 +1,19 @@
+//! Expressions: their tree, and their values.
+#![tactic(auto)]
+
+pub mod evaluate;
+pub mod expr;
+mod operators;
+pub mod parser;
+pub mod symbols;
+pub mod values;
+
+pub use evaluate::value;
+pub use expr::{Binary, Expr, Unary};
+pub use operators::is_type;
+pub use parser::parse;
+pub use symbols::Symbols;
+pub use values::{Base, Tag, Value};
+
+#[cfg(test)]
+mod tests;

@@ -1,0 +1,3 @@
+pub mod Law
+pub mod Records
+pub mod Spelling

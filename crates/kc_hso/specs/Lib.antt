@@ -1,0 +1,2 @@
+pub mod Cam
+pub mod Visits

@@ -1,0 +1,6 @@
+mod Digits
+mod Onward
+mod Placeable
+mod Placed
+mod Replying
+mod Splitting

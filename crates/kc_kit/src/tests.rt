@@ -1,0 +1,213 @@
+// Whole commands over files and a sink in memory. The texts were worked by hand.
+use crate::{Status, kit};
+use kc_base::{MemFiles, MemSink, NoMemory};
+use kc_trace::TraceOut;
+use std::alloc::{AllocError, Global};
+use std::test::Fail;
+
+const ONE_NOP: &str = " CSEG AT 2080H\n NOP\n END\n";
+
+const TIMER: &str = " CSEG AT 2080H\n NOP\n NOP\n NOP\n LD 20H,0AH\n END\n";
+
+const NO_STATEMENT: &str = " CSEG AT 2080H\n END\n";
+
+const ZEROS: &str = "0000000000000000000000000000000000000000000000000000000000000000";
+
+fn words(alloc: Global, line: &str) -> Result<Vec<String>, AllocError> {
+    let mut words = Vec::new(alloc);
+    for word in line.split_whitespace() {
+        words.push(String::from_str(alloc, word)?)?;
+    }
+    Ok(words)
+}
+
+fn numbers(alloc: Global, items: &[u64]) -> Result<Vec<u64>, AllocError> {
+    Vec::from_slice(alloc, items)
+}
+
+/// Runs a command line over one file, and tells whether its status and its text are these.
+fn answers(
+    alloc: Global,
+    line: &str,
+    source: &[u8],
+    failing_reads: &[u64],
+    failing_writes: &[u64],
+    status: Status,
+    text: &str,
+) -> Result<bool, NoMemory> {
+    let words = words(alloc, line)?;
+    let mut files = MemFiles::new(alloc, numbers(alloc, failing_reads)?, Vec::new(alloc));
+    files.put(alloc, "a.a96", source)?;
+    let sink = MemSink::new(alloc, 4096, numbers(alloc, failing_writes)?)?;
+    let mut out = TraceOut::new(sink);
+    let given = kit(alloc, &words, &mut files, &mut out);
+    Ok(given == status && out.sink().written() == text.as_bytes())
+}
+
+/// The text of a run: its end, and the register file, of which one row may be other than 0.
+fn trace(alloc: Global, end: &str, second_row: &str) -> Result<String, AllocError> {
+    let mut text = String::from_str(alloc, end)?;
+    for base in [
+        "000", "020", "040", "060", "080", "0A0", "0C0", "0E0", "100", "120", "140", "160", "180",
+        "1A0", "1C0", "1E0",
+    ] {
+        text.push_str("R ")?;
+        text.push_str(base)?;
+        text.push_str(" ")?;
+        text.push_str(if base == "020" { second_row } else { ZEROS })?;
+        text.push_str("\n")?;
+    }
+    Ok(text)
+}
+
+#[test]
+fn sources_are_run(rt: HostRuntime) -> Result<(), Fail> {
+    let a = rt.alloc();
+    let ticks = "0100000000000000000000000000000000000000000000000000000000000000";
+    for (line, source, end, row) in [
+        (
+            "run a.a96 --states 1",
+            ONE_NOP,
+            "X 1 spent\nPC 2080\nPSW 0000\nWSR 00\n",
+            ZEROS,
+        ),
+        (
+            "run a.a96 --states 10",
+            TIMER,
+            "X 10 spent\nPC 2086\nPSW 0000\nWSR 00\n",
+            ticks,
+        ),
+        (
+            "run a.a96 --states 000aH",
+            TIMER,
+            "X 10 spent\nPC 2086\nPSW 0000\nWSR 00\n",
+            ticks,
+        ),
+        (
+            "run a.a96 --states 9",
+            NO_STATEMENT,
+            "X 3 reset\nPC 2081\nPSW 0000\nWSR 00\n",
+            ZEROS,
+        ),
+    ] {
+        let text = trace(a, end, row)?;
+        let right = answers(
+            a,
+            line,
+            source.as_bytes(),
+            &[],
+            &[],
+            Status::Done,
+            text.as_str(),
+        )?;
+        assert!(rt; right, "{line}");
+    }
+    Ok(())
+}
+
+#[test]
+fn words_are_judged_before_files(rt: HostRuntime) -> Result<(), Fail> {
+    let a = rt.alloc();
+    for line in [
+        "",
+        "run a.a96",
+        "run a.a96 --states",
+        "run a.a96 --states 5D",
+        "run a.a96 --states FH",
+        "run a.a96 --states 0ah",
+        "run a.a96 --states 1000000000000001",
+        "run -a.a96 --states 1",
+        "--states 1 run a.a96",
+        "--help --version",
+    ] {
+        let right = answers(
+            a,
+            line,
+            ONE_NOP.as_bytes(),
+            &[1],
+            &[],
+            Status::Usage,
+            "usage\n",
+        )?;
+        assert!(rt; right, "{line}");
+    }
+    Ok(())
+}
+
+#[test]
+fn help_and_version_are_told(rt: HostRuntime) -> Result<(), Fail> {
+    let a = rt.alloc();
+    let help =
+        "kc96 runs programs of the 80C196KC and prints what the chip does.\n  kc96 run NAME --states N   run the source NAME for N state times\n  kc96 --help                print this text\n  kc96 --version             print the name and the version\n";
+    assert!(rt; answers(a, "--help", b"", &[1], &[], Status::Done, help)?);
+    assert!(rt; answers(a, "--version", b"", &[1], &[], Status::Done, "kc96 0.1.0\n")?);
+    Ok(())
+}
+
+#[test]
+fn sources_with_a_fault_are_refused(rt: HostRuntime) -> Result<(), Fail> {
+    let a = rt.alloc();
+    let line = "run a.a96 --states 1";
+    for source in [
+        "",
+        " NOP\n END\n",
+        " CSEG AT 2080H\n NOP\n END",
+        " CSEG AT 2080H\n NOP\n",
+        " CSEG AT 2080H\n CSEG AT 2080H\n END\n",
+        " CSEG AT 2080H\n END\n\n",
+        " CSEG AT 2080H\n LD 21H,0AH\n END\n",
+        " CSEG AT 2080H\n LD 0feH,0AH\n END\n",
+        " CSEG AT 2080H\n LD 16H,0AH\n END\n",
+        "CSEG AT 2080H\n END\n",
+    ] {
+        let text = "source a.a96:1: E01\n";
+        let right = answers(a, line, source.as_bytes(), &[], &[], Status::Source, text)?;
+        assert!(rt; right, "{source:?}");
+    }
+    Ok(())
+}
+
+#[test]
+fn faults_have_their_status(rt: HostRuntime) -> Result<(), Fail> {
+    let a = rt.alloc();
+    let line = "run a.a96 --states 1";
+    let source = ONE_NOP.as_bytes();
+    let long = vec![in a; 32u8; 1_048_577]?;
+    let third = "X 1 spent\nPC 2080\n";
+    assert!(rt; answers(a, line, source, &[], &[3], Status::WriteFault, third)?);
+    assert!(rt;
+        answers(
+            a,
+            line,
+            source,
+            &[1],
+            &[],
+            Status::ReadFault,
+            "read a.a96\n"
+        )?
+    );
+    assert!(rt;
+        answers(
+            a,
+            "run b.a96 --states 1",
+            source,
+            &[],
+            &[],
+            Status::Missing,
+            "missing b.a96\n"
+        )?
+    );
+    assert!(rt;
+        answers(
+            a,
+            line,
+            &long,
+            &[],
+            &[],
+            Status::Input,
+            "input a.a96:0: LONG\n"
+        )?
+    );
+    assert!(rt; answers(a, "", source, &[], &[1], Status::WriteFault, "")?);
+    Ok(())
+}

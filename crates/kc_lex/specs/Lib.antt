@@ -1,0 +1,7 @@
+pub mod Chars
+pub mod Numbers
+pub mod Lexemes
+pub mod Lines
+pub mod Scan
+pub mod Words
+pub mod Kinds

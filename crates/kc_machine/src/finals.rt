@@ -1,0 +1,99 @@
+// What is printed at the end of a run.
+ghost use Rattle.std.specs.Prelude.{◌≡◌, ◌<◌, ◌+◌, ◌*◌, length};
+ghost use Rattle.kc_trace.specs.declared.record.Record.TheVariants.{Stopped};
+ghost use Rattle.kc_trace.specs.Out.{Prints};
+ghost use Rattle.kc_trace.specs.Printable.{CanPrint};
+ghost use Rattle.kc_trace.specs.Trace.{out_of};
+ghost use Rattle.kc_model.specs.Text.{processor_lines, register_rows, finals, shown_row, end_state, end_number, HasRun};
+ghost use Rattle.kc_machine.specs.Seen.{machine_of};
+
+use crate::parts::Core;
+use crate::passing::put_one;
+use kc_base::{Sink, StateTime};
+use kc_model::End;
+use kc_trace::{Record, TraceOut};
+
+pub(crate) fn word(high: u8, low: u8) -> u16
+    ensures { result ≡ 256 * high + low }
+{
+    256 * u16::from(high) + u16::from(low)
+}
+
+// The line of the end, at a state.
+fn stopped(how: End, time: StateTime) -> Record
+    requires { HasRun how time }
+    ensures value { result ≡ Stopped (end_state how time) (end_number how) }
+    ensures printable { CanPrint result }
+{
+    match how {
+        End::Spent => Record::Stopped { at: time, how: 0 },
+        End::Powerdown => Record::Stopped {
+            at: time - 1,
+            how: 1,
+        },
+        End::Reset => Record::Stopped {
+            at: time - 1,
+            how: 2,
+        },
+        End::Undefined(what) => Record::Stopped {
+            at: what.at,
+            how: 3,
+        },
+    }
+}
+
+// A row of the register file as it is shown.
+fn row_of(memory: &[u8], row: u16) -> [u8; 32]
+    requires long { length memory.now ≡ 65536 }
+    requires row { row < 16 }
+    ensures { result ≡ shown_row row memory.now }
+{
+    let mut bytes = [0u8; 32];
+    if row == 0 {
+        bytes[0x18..].copy_from_slice(&memory[0x18..0x20]);
+    } else {
+        let start = 32 * row as usize;
+        bytes.copy_from_slice(&memory[start..start + 32]);
+    }
+    bytes
+}
+
+// The lines of the end and of the processor.
+fn put_processor<S: Sink>(core: &Core, how: End, out: &mut TraceOut<S>)
+    requires ran { HasRun how core.now.time }
+    ensures { Prints (out_of S.written S.faults out.old) (processor_lines how (machine_of core.now)) (out_of S.written S.faults out.new) }
+{
+    put_one(out, &stopped(how, core.time));
+    put_one(out, &Record::Pc(core.cpu.pc));
+    put_one(
+        out,
+        &Record::Psw(word(core.cpu.psw_high, core.bus.units.int_mask)),
+    );
+    put_one(out, &Record::Wsr(core.bus.units.wsr));
+}
+
+// The lines of the register file.
+fn put_registers<S: Sink>(memory: &[u8], out: &mut TraceOut<S>)
+    requires { length memory.now ≡ 65536 }
+    ensures { Prints (out_of S.written S.faults out.old) (register_rows 16 memory.now) (out_of S.written S.faults out.new) }
+{
+    for row in 0..16 {
+        let bytes = row_of(memory, row);
+        put_one(
+            out,
+            &Record::Registers {
+                base: 32 * row,
+                bytes,
+            },
+        );
+    }
+}
+
+/// The lines of the end.
+pub(crate) fn put_finals<S: Sink>(core: &Core, how: End, out: &mut TraceOut<S>)
+    requires ran { HasRun how core.now.time }
+    ensures { Prints (out_of S.written S.faults out.old) (finals how (machine_of core.now)) (out_of S.written S.faults out.new) }
+{
+    put_processor(core, how, out);
+    put_registers(&core.bus.memory, out);
+}

@@ -1,0 +1,19 @@
+//! Object modules: their parts, the rules that a module keeps, and its one spelling as bytes.
+#![tactic(auto)]
+
+mod contents;
+mod fixups;
+mod line_entries;
+mod module;
+mod names;
+mod parts;
+mod pieces;
+mod rules;
+mod writing;
+
+pub use module::Module;
+pub use parts::{Content, Fixup, Given, Lines, SegKind, Segment, Taken, Target};
+pub use writing::encode;
+
+#[cfg(test)]
+mod tests;

@@ -1,0 +1,65 @@
+ghost use Rattle.std.specs.Prelude.{◌≡◌};
+ghost use Rattle.std.specs.List.{list_all};
+ghost use Rattle.kc_obj.specs.Names.{is_digit, is_name_char, begins_name, is_name, is_stack_name, is_below};
+
+pub(crate) fn digit(c: u8) -> bool
+    ensures { result ≡ is_digit c }
+{
+    b'0' <= c && c <= b'9'
+}
+
+pub(crate) fn name_char(c: u8) -> bool
+    ensures { result ≡ is_name_char c }
+{
+    b'A' <= c && c <= b'Z' || digit(c) || c == b'_' || c == b'?'
+}
+
+fn begins(name: &[u8]) -> bool
+    ensures { result ≡ begins_name name.now }
+{
+    match name {
+        [] => false,
+        [first, ..] => !digit(*first),
+    }
+}
+
+pub(crate) fn all_name_chars(characters: &[u8]) -> bool
+    ensures { result ≡ list_all is_name_char characters.now }
+{
+    characters.iter().all(|c| name_char(*c))
+}
+
+// Whether a name can stand in an object.
+pub(crate) fn name_is_sound(name: &[u8]) -> bool
+    ensures { result ≡ is_name name.now }
+{
+    begins(name) && name.len() <= 31 && all_name_chars(name)
+}
+
+pub(crate) fn is_stack(name: &[u8]) -> bool
+    ensures { result ≡ is_stack_name name.now }
+{
+    name == b"STACK".as_slice()
+}
+
+// Whether a name comes before another one in the order of bytes.
+#[tactic(auto, unfolding(crate::specs::Names::is_below))]
+pub(crate) fn comes_below(name: &[u8], other: &[u8]) -> bool
+    ensures { result ≡ is_below name.now other.now }
+{
+    let mut left = name;
+    let mut right = other;
+    while let [c, rest @ ..] = left {
+        match right {
+            [] => return false,
+            [d, others @ ..] => {
+                if c != d {
+                    return c < d;
+                }
+                right = others;
+            }
+        }
+        left = rest;
+    }
+    !right.is_empty()
+}
