@@ -1,0 +1,5 @@
+pub mod Levels
+pub mod Pushes
+pub mod Found
+pub mod ReadLines
+pub mod FieldLaws
