@@ -1,5 +1,5 @@
 -- The reading of some tokens is of the longest expression at their front.
-use Rattle.std.proofs.Common.{◌≡◌, ℕ, zero, suc, ◌+◌, ◌-◌, ◌*◌, ◌<◌, ◌≤◌, Bool, true, false, cond, ◌&&◌, List, [], ◌∷◌, ◌++◌, length, drop, Option, Some, None, refl, sym, ap, subst, ◌∙◌, append_assoc, arith}
+use Rattle.std.proofs.Common.{◌≡◌, ℕ, zero, suc, ◌+◌, ◌-◌, ◌*◌, ◌<◌, ◌≤◌, true, false, cond, ◌&&◌, List, [], ◌∷◌, ◌++◌, length, drop, Option, Some, None, refl, sym, ap, subst, ◌∙◌, append_assoc, arith}
 use Rattle.std.specs.Prelude.{option_and_then}
 use Rattle.std.specs.Option.{option_map}
 use Rattle.std.proofs.lemmas.List.{append-nil, length-append, length-drop}
@@ -9,7 +9,7 @@ use Rattle.kc_expr.specs.declared.expr.Unary.{Unary}
 use Rattle.kc_expr.specs.declared.expr.Binary.{Binary}
 use Rattle.kc_expr.specs.Tree.{Tree, One, Two}
 use Rattle.kc_expr.specs.Grammar.{alone, is_type, has_suffix, past_suffix, Reading, unary_at, binary_at, unary_first, binary_first, grouped, primary, prefixed, joined, longest, extended, parsed}
-use Rattle.kc_expr.specs.Derives.{is_suffix, Derives, from_token, from_group, from_tighter, from_unary, from_binary, IsLongestFront, IsLongest}
+use Rattle.kc_expr.specs.Derives.{is_suffix, Derives, from_token, from_group, from_tighter, from_unary, from_binary, IsLongest}
 use Rattle.kc_expr.proofs.GrammarLemmas as g
 use Rattle.kc_expr.proofs.OperatorLemmas.{IsBreak, binary_breaks, close_breaks, no_binary_close, no_binary_zero, unary_positive, no_binary_unary, unary_level, alone_not_open, no_unary_alone, no_unary_open}
 

@@ -1,5 +1,5 @@
 -- Which tokens are operators, and of which level.
-use Rattle.std.proofs.Common.{◌≡◌, ℕ, zero, suc, ◌<◌, ◌≤◌, Bool, true, false, cond, not, ◌&&◌, eqb, List, [], ◌∷◌, ◌++◌, length, drop, Option, Some, None, refl, sym, ap, subst, ◌∙◌, arith, inl, inr, lit≤}
+use Rattle.std.proofs.Common.{◌≡◌, ℕ, zero, suc, ◌<◌, ◌≤◌, Bool, true, false, cond, not, ◌&&◌, eqb, List, [], ◌∷◌, Option, Some, None, refl, sym, subst, arith, inl, inr, lit≤}
 use Rattle.std.specs.Prelude.{is_none, codes}
 use Rattle.std.specs.Str.{bytes_eq}
 use Rattle.std.specs.Cmp.Lexicographic.{bytes_decides}
@@ -14,7 +14,7 @@ use Rattle.kc_expr.specs.declared.expr.Unary.TheVariants as unary
 use Rattle.kc_expr.specs.declared.expr.Binary.{Binary}
 use Rattle.kc_expr.specs.declared.expr.Binary.TheVariants as binary
 use Rattle.kc_expr.specs.Tree.{Tree}
-use Rattle.kc_expr.specs.Grammar.{unary_at, multiplying, adding, comparing, either, binary_at, alone, is_type}
+use Rattle.kc_expr.specs.Grammar.{unary_at, multiplying, adding, comparing, either, binary_at, alone}
 
 -- ---- a token that is a certain sign or word
 

@@ -7,7 +7,7 @@ use Rattle.kc_lex.specs.Kinds.{is_sign}
 use Rattle.kc_expr.specs.declared.expr.Unary.{Unary}
 use Rattle.kc_expr.specs.declared.expr.Binary.{Binary}
 use Rattle.kc_expr.specs.Tree.{Tree, One, Two}
-use Rattle.kc_expr.specs.Grammar.{alone, is_type, unary_at, binary_at, Reading, parsed}
+use Rattle.kc_expr.specs.Grammar.{alone, is_type, unary_at, binary_at, Reading}
 
 -- nothing, or `:` and a type
 abbrev pub is_suffix : List Token → Bool

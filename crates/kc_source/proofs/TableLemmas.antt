@@ -1,8 +1,6 @@
 -- What a table has of a name after one more use, and the faults of the uses one by one.
-use Rattle.std.proofs.Common.{◌≡◌, ℕ, ◌+◌, Bool, true, false, cond, not, ◌&&◌, ◌||◌, List, [], ◌∷◌, ◌++◌, Option, Some, None, refl, sym, ap, subst, ◌∙◌}
+use Rattle.std.proofs.Common.{◌≡◌, ℕ, ◌+◌, Bool, true, false, cond, ◌&&◌, List, [], ◌∷◌, Option, Some, None, refl, sym, ap, subst, ◌∙◌}
 use Rattle.std.specs.Prelude.{nat_le, unwrap_or}
-use Rattle.std.specs.Option.{option_to_list}
-use Rattle.std.specs.List.{list_any}
 use Rattle.std.specs.Map.{lookup, KeepsOthers}
 use Rattle.std.specs.Str.{bytes_eq}
 use Rattle.std.specs.Global.{Vec}
@@ -12,7 +10,7 @@ use Rattle.kc_source.specs.declared.names.Known.{Known}
 use Rattle.kc_source.specs.declared.uses.Use.{Use}
 use Rattle.kc_source.specs.declared.uses.UseKind.{UseKind}
 use Rattle.kc_source.specs.declared.uses.UseKind.TheVariants.{Once, Again, Taken, Given}
-use Rattle.kc_source.specs.Faults.{Fault, lesser, least, at_line, has_use, is_once, is_again, is_taken, brings_name, name_count, is_one_too_many, use_code, name_faults}
+use Rattle.kc_source.specs.Faults.{Fault, lesser, least, at_line, has_use, brings_name, name_count, is_one_too_many, use_code, name_faults}
 use Rattle.kc_source.specs.Known.{nothing, known_at, joined, summary, IsTable, brings, known_code}
 use Rattle.kc_source.proofs.FaultLemmas.{lesser_assoc, least_one}
 

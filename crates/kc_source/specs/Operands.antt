@@ -1,12 +1,11 @@
 -- The parts of a statement: expressions, operands, items and names, and which operands an operation takes (after the
 -- MCS-96 Macro Assembler User's Guide, "Instruction Operands"; the exact forms are this kit's own).
-use Rattle.std.specs.Prelude.{ℕ, Bool, true, false, not, ◌&&◌, ◌||◌, ◌==◌, if◌then◌else◌, List, [], ◌∷◌, length, drop, Option, Some, None, option_and_then, codes}
+use Rattle.std.specs.Prelude.{ℕ, Bool, true, false, not, ◌&&◌, ◌||◌, ◌==◌, if◌then◌else◌, List, [], ◌∷◌, length, drop, Option, Some, None}
 use Rattle.std.specs.Option.{option_map}
-use Rattle.kc_lex.specs.declared.token.TokenKind.{TokenKind}
 use Rattle.kc_lex.specs.declared.token.Token.{Token}
 use Rattle.kc_lex.specs.declared.words.Operands.{Operands}
 use Rattle.kc_lex.specs.declared.words.Operands.TheVariants as operands
-use Rattle.kc_lex.specs.Kinds.{is_sign, is_word, is_free_name, is_chars_kind, begins_sign, begins_word}
+use Rattle.kc_lex.specs.Kinds.{is_sign, is_free_name, is_chars_kind, begins_sign}
 use Rattle.kc_expr.specs.Tree.{Tree}
 use Rattle.kc_expr.specs.Grammar.{Reading, parsed, is_type}
 use Rattle.kc_source.specs.Trees.{ItemTree, ArgTree, Plain, Immediate, Indirect, Increment, Indexed}

@@ -1,6 +1,6 @@
 use Rattle.std.proofs.Common.{◌≡◌, suc, ◌-◌, ◌∷◌, drop, sym, ap, ◌∙◌, arith}
 use Rattle.std.proofs.Math.Seq.{drop-cons, drop-length}
-use Rattle.kc_source.specs.Known.{known_at, joined, summary}
+use Rattle.kc_source.specs.Known.{summary}
 use Rattle.kc_source.proofs.TableLemmas.{empty_table, table_grows}
 use Rattle.kc_source.proofs.names.table_of.Goals as goal
 

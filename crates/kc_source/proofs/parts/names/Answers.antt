@@ -1,4 +1,4 @@
-use Rattle.std.proofs.Common.{◌≡◌, ◌+◌, ◌<◌, ◌++◌, ◌∷◌, [], length, take, drop, Some, sym, ap, ◌∙◌, arith}
+use Rattle.std.proofs.Common.{◌<◌, length, Some, sym, ap, ◌∙◌, arith}
 use Rattle.kc_source.specs.Operands.{name_in, parts, all_some}
 use Rattle.kc_source.proofs.PartLemmas.{after_some, part_fails, last_part, part_read}
 use Rattle.kc_source.proofs.parts.names.Goals as goal
