@@ -1,6 +1,6 @@
 -- The grammar of expressions, as a function on tokens that gives the longest expression at the front and the rest
 -- (after the MCS-96 Macro Assembler User's Guide, "Expressions"; the exact precedence is this kit's own).
-use Rattle.std.specs.Prelude.{ℕ, zero, suc, ◌+◌, ◌-◌, ◌*◌, Bool, true, false, not, ◌&&◌, ◌||◌, ◌==◌, if◌then◌else◌, List, [], ◌∷◌, length, drop, Option, Some, None, codes, option_and_then, ◌≡◌, Result, Ok, Err}
+use Rattle.std.specs.Prelude.{ℕ, zero, suc, ◌+◌, ◌-◌, ◌*◌, Bool, false, not, ◌&&◌, ◌||◌, ◌==◌, if◌then◌else◌, List, [], ◌∷◌, length, drop, Option, Some, None, codes, option_and_then, ◌≡◌, Result, Ok, Err}
 use Rattle.std.specs.Option.{option_map}
 use Rattle.kc_lex.specs.declared.token.TokenKind.{TokenKind}
 use Rattle.kc_lex.specs.declared.token.TokenKind.TheVariants as kinds

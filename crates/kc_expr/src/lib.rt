@@ -3,6 +3,7 @@
 
 pub mod evaluate;
 pub mod expr;
+pub mod grammar;
 mod operators;
 pub mod parser;
 pub mod symbols;

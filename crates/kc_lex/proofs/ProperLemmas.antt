@@ -1,12 +1,12 @@
 -- Proper lexemes are read as they are written, and what is read is proper.
-use Rattle.std.proofs.Common.{◌≡◌, ℕ, Bool, true, false, cond, not, ◌&&◌, ◌||◌, eqb, List, [], ◌∷◌, ◌++◌, Option, Some, None, refl, sym, ap, subst, ◌∙◌, append_assoc}
+use Rattle.std.proofs.Common.{◌≡◌, ℕ, Bool, true, false, cond, not, ◌&&◌, ◌||◌, eqb, List, [], ◌∷◌, ◌++◌, Some, None, refl, sym, ap, ◌∙◌, append_assoc}
 use Rattle.std.specs.Option.{option_map}
 use Rattle.std.specs.List.{list_any, list_all}
 use Rattle.std.proofs.lemmas.Bool.{eqb-true}
 use Rattle.std.proofs.lemmas.List.{append-nil}
 use Rattle.kc_base.specs.TextLines.{begins_with}
 use Rattle.kc_lex.specs.Chars.{is_text_char, is_word_char, is_blank, is_sign, signs}
-use Rattle.kc_lex.specs.Lexemes.{Lexeme, Blank, Word, Quoted, Mark, Comment, Open, closed, with_char, with_lexeme, with_string, after_string, outside_at, outside, inside, at_quote, lexemes, doubled, written, all_written, is_proper, begins_with_word, begins_with_string, is_end, may_precede, all_proper}
+use Rattle.kc_lex.specs.Lexemes.{Lexeme, Blank, Word, Quoted, Mark, Comment, Open, closed, with_char, with_lexeme, with_string, after_string, outside_at, outside, inside, at_quote, lexemes, doubled, all_written, is_proper, begins_with_word, begins_with_string, is_end, may_precede, all_proper}
 use Rattle.kc_lex.proofs.LexemeLemmas.{not_word, word_at}
 use Rattle.kc_lex.proofs.ScanLemmas.{ended}
 

@@ -1,4 +1,4 @@
-use Rattle.std.proofs.Common.{sym, ◌∙◌, arith}
+use Rattle.std.proofs.Common.{sym, ◌∙◌}
 use Rattle.kc_lex.proofs.ControlLemmas.{comment_found, no_text, text_read, all_read}
 use Rattle.kc_lex.proofs.reader.has_text.Goals as goal
 
