@@ -23,6 +23,7 @@ fn what_depends_on_a_base(rt: HostRuntime) {
 
 /// LJMP 2100H at 2080H is E7 7D 00, and has a relocation of kind 4 in a relocatable piece.
 #[test]
+#[tactic(auto, unfolding(kc_relocation::specs::Numbers::first_part, kc_relocation::specs::Numbers::number, kc_relocation::specs::Numbers::distance))]
 fn a_long_jump_to_a_number(rt: HostRuntime) {
     let target = value(Base::Fixed, 0x2100);
     let first = Octet::First {
