@@ -1,0 +1,6 @@
+pub mod Trees
+pub mod Operands
+pub mod Statements
+pub mod Faults
+pub mod Known
+pub mod Passing

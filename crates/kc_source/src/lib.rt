@@ -1,0 +1,20 @@
+//! The statements of a source, and the first fault of reading them.
+#![tactic(auto)]
+
+mod faults;
+mod forms;
+pub mod lists;
+mod names;
+mod operands;
+mod parts;
+mod pass;
+mod reading;
+pub mod statement;
+mod uses;
+
+pub use lists::{Args, Items, Names};
+pub use pass::statements;
+pub use statement::{Action, Arg, Item, Stmt};
+
+#[cfg(test)]
+mod tests;
