@@ -1,11 +1,10 @@
 -- Statements by the table of the language: a line's label, and what the words behind it say, or the code of its fault:
 -- 1 for what is no statement, 14 for a statement that has not its form (after the MCS-96 Macro Assembler User's Guide,
 -- "Assembler Directives"; the exact forms and the codes are this kit's own).
-use Rattle.std.specs.Prelude.{ℕ, Bool, true, false, ◌&&◌, ◌||◌, ◌==◌, if◌then◌else◌, List, [], ◌∷◌, drop, Option, Some, None, Result, Ok, Err, is_some, codes}
-use Rattle.std.specs.Option.{option_map}
+use Rattle.std.specs.Prelude.{ℕ, Bool, true, false, ◌&&◌, ◌||◌, ◌==◌, if◌then◌else◌, List, [], ◌∷◌, drop, Option, Some, None, Result, Ok, Err, codes}
+use Rattle.std.specs.Option.{option_map, option_or}
 use Rattle.kc_lex.specs.declared.token.Token.{Token}
 use Rattle.kc_lex.specs.declared.words.Operands.{Operands}
-use Rattle.kc_lex.specs.declared.words.Operands.TheVariants as forms
 use Rattle.kc_lex.specs.declared.words.Directive.{Directive}
 use Rattle.kc_lex.specs.declared.words.Directive.TheVariants as directives
 use Rattle.kc_lex.specs.Words.{operands_of, generic_operands_of, directive_of}
@@ -14,7 +13,7 @@ use Rattle.kc_expr.specs.Tree.{Tree}
 use Rattle.kc_expr.specs.Grammar.{Reading, parsed}
 use Rattle.kc_source.specs.Trees.{ArgTree, ActionTree}
 use Rattle.kc_source.specs.Trees as trees
-use Rattle.kc_source.specs.Operands.{is_nil, whole, operands_in, items_in, names_in, is_plain, takes}
+use Rattle.kc_source.specs.Operands.{is_nil, whole, operands_in, items_in, names_in, takes}
 
 -- ---- the form of each directive, by what stands behind its word
 
@@ -62,7 +61,8 @@ defined_in size ts = option_map (λ is. trees.Define size is) (items_in (size ==
 abbrev pub reserved_in : ℕ → List Token → Option ActionTree
 reserved_in size ts = option_map (λ x. trees.Reserve size x) (whole ts)
 
--- what a directive says with what stands behind it; EQU and SET want a name before them
+-- what a directive says with what stands behind it; EQU and SET want a name before them, and the words of macros,
+-- repetitions and conditions have no form here, where these are replaced
 unfoldable pub directive_in : Directive → List Token → Option ActionTree
 directive_in directives.Module ts = module_in None ts
 directive_in directives.Cseg ts = option_map (λ at. trees.Cseg at) (segment_in ts)
@@ -102,37 +102,20 @@ abbrev pub or_form_fault : Option ActionTree → Result ActionTree ℕ
 or_form_fault None = Err 14
 or_form_fault (Some a) = Ok a
 
--- words of macros, repetitions and conditions: no statement of a text in which these are replaced
-abbrev pub is_macro_word : Directive → Bool
-is_macro_word directives.If = true
-is_macro_word directives.Else = true
-is_macro_word directives.Endif = true
-is_macro_word directives.Macro = true
-is_macro_word directives.Local = true
-is_macro_word directives.Exitm = true
-is_macro_word directives.Endm = true
-is_macro_word directives.Rept = true
-is_macro_word directives.Irp = true
-is_macro_word d = false
-
--- BR with a place in place of a register is a generic branch
-abbrev pub is_generic_jump : Operands → List ArgTree → Bool
-is_generic_jump forms.Branch (a ∷ []) = is_plain a
-is_generic_jump form args = false
-
--- generic branches are no statements yet
-abbrev pub operation_in : List ℕ → Operands → Option (List ArgTree) → Result ActionTree ℕ
-operation_in word form None = Err 14
-operation_in word form (Some args) =
-    if is_generic_jump form args then Err 1
-    else (if takes form args then Ok (trees.Operation word args) else Err 14)
-
 abbrev pub by_directive : Option Directive → List Token → Result ActionTree ℕ
 by_directive None ts = Err 1
-by_directive (Some d) ts = if is_macro_word d then Err 1 else or_form_fault (directive_in d ts)
+by_directive (Some d) ts = or_form_fault (directive_in d ts)
+
+-- the operands of an operation, which is an instruction or a generic branch
+abbrev pub operation_of : List ℕ → Option Operands
+operation_of word = option_or (operands_of word) (generic_operands_of word)
+
+abbrev pub operation_in : List ℕ → Operands → Option (List ArgTree) → Result ActionTree ℕ
+operation_in word form None = Err 14
+operation_in word form (Some args) = if takes form args then Ok (trees.Operation word args) else Err 14
 
 abbrev pub by_operation : List ℕ → Option Operands → List Token → Result ActionTree ℕ
-by_operation word None ts = if is_some (generic_operands_of word) then Err 1 else by_directive (directive_of word) ts
+by_operation word None ts = by_directive (directive_of word) ts
 by_operation word (Some form) ts = operation_in word form (operands_in ts)
 
 -- the directive that a token is
@@ -150,7 +133,7 @@ second_directive (t ∷ []) = None
 second_directive (t ∷ u ∷ ts) = if is_free_name t then directive_at u else None
 
 abbrev pub by_word : Token → List Token → Result ActionTree ℕ
-by_word t ts = if is_name_kind t.kind then by_operation t.text (operands_of t.text) ts else Err 1
+by_word t ts = if is_name_kind t.kind then by_operation t.text (operation_of t.text) ts else Err 1
 
 abbrev pub only_defining : Option Directive → Option Directive
 only_defining None = None

@@ -4,7 +4,6 @@ ghost use Rattle.kc_expr.specs.Tree.{tree_of};
 ghost use Rattle.kc_expr.specs.Grammar.{parsed, seen};
 ghost use Rattle.kc_source.specs.Trees.{arg_tree, item_tree, Immediate};
 ghost use Rattle.kc_source.specs.Operands as spec;
-ghost use Rattle.kc_source.specs.Statements.{is_generic_jump};
 
 use crate::statement::{Arg, Item};
 use kc_base::{NoMemory, Text};
@@ -316,19 +315,6 @@ pub(crate) fn takes(form: Operands, args: &[Arg]) -> bool
         [a] => takes_one(form, a),
         [a, b] => takes_two(form, a, b),
         [a, b, c] => takes_three(form, a, b, c),
-        _ => false,
-    }
-}
-
-/// Whether the operands make BR a generic branch.
-pub(crate) fn is_generic_jump(form: Operands, args: &[Arg]) -> bool
-    ensures { result ≡ is_generic_jump form (map arg_tree args.now) }
-{
-    match form {
-        Operands::Branch => match args {
-            [a] => is_plain(a),
-            _ => false,
-        },
         _ => false,
     }
 }

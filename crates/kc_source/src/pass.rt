@@ -207,8 +207,9 @@ fn read(alloc: Global, lines: &[Line]) -> Result<Pass, NoMemory>
 /// where a line is no statement, 6 where it defines a name that an earlier one defines (but SET may follow SET), 8 where
 /// it brings a name after 16,384 others, 14 where it has not the form of its statement, 18 for an instruction or data
 /// where the segment is not CSEG, 20 where it gives a name that is not defined, 21 where it takes a name that is defined
-/// or taken before, 23 where MODULE is not the first statement. Macro words and generic branches have code 1. (MCS-96
-/// Macro Assembler User's Guide, "Assembler Directives"; forms and codes are this kit's own.)
+/// or taken before, 23 where MODULE is not the first statement. The lines are those of a text in which macros, repetitions
+/// and conditions are replaced: a line of one of these has code 14. (MCS-96 Macro Assembler User's Guide, "Assembler
+/// Directives"; forms and codes are this kit's own.)
 pub fn statements(alloc: Global, lines: &[Line]) -> Result<Vec<Stmt>, SourceFault>
     ensures { spec.IsStatements result lines.now }
 {

@@ -5,7 +5,7 @@ ghost use Rattle.kc_source.specs.Operands.{operands_in};
 ghost use Rattle.kc_source.specs.Statements as spec;
 
 use crate::forms::{definition, directive};
-use crate::operands::{is_generic_jump, takes};
+use crate::operands::takes;
 use crate::parts::operands;
 use crate::statement::Action;
 use kc_base::{NoMemory, Text};
@@ -14,7 +14,7 @@ use kc_lex::words::{directive_of, generic_operands_of, operands_of};
 use kc_lex::{Directive, Operands, Token};
 use std::alloc::Global;
 
-// An operation, or the code of its fault. Generic branches are no statements yet.
+// An operation, or the code of its fault.
 fn operation(
     alloc: Global,
     word: &Token,
@@ -26,32 +26,13 @@ fn operation(
     match operands(alloc, tokens)? {
         None => Ok(Err(14)),
         Some(args) => {
-            if is_generic_jump(form, args.as_slice()) {
-                Ok(Err(1))
-            } else if takes(form, args.as_slice()) {
+            if takes(form, args.as_slice()) {
                 let name = Text::of(alloc, word.text.as_slice())?;
                 Ok(Ok(Action::Operation { name, args }))
             } else {
                 Ok(Err(14))
             }
         }
-    }
-}
-
-fn is_macro_word(directive: Directive) -> bool
-    ensures { result ≡ spec.is_macro_word directive }
-{
-    match directive {
-        Directive::If => true,
-        Directive::Else => true,
-        Directive::Endif => true,
-        Directive::Macro => true,
-        Directive::Local => true,
-        Directive::Exitm => true,
-        Directive::Endm => true,
-        Directive::Rept => true,
-        Directive::Irp => true,
-        _ => false,
     }
 }
 
@@ -71,12 +52,8 @@ fn by_directive(
     match first {
         None => Ok(Err(1)),
         Some(word) => {
-            if is_macro_word(word) {
-                Ok(Err(1))
-            } else {
-                let action = directive(alloc, word, tokens)?;
-                Ok(or_form_fault(action))
-            }
+            let action = directive(alloc, word, tokens)?;
+            Ok(or_form_fault(action))
         }
     }
 }
@@ -91,21 +68,22 @@ fn by_operation(
 {
     match form {
         Some(form) => operation(alloc, word, form, tokens),
-        None => {
-            if generic_operands_of(word.text.as_slice()).is_some() {
-                Ok(Err(1))
-            } else {
-                by_directive(alloc, directive_of(word.text.as_slice()), tokens)
-            }
-        }
+        None => by_directive(alloc, directive_of(word.text.as_slice()), tokens),
     }
+}
+
+// The operands of an instruction or a generic branch.
+fn operation_of(word: &[u8]) -> Option<Operands>
+    ensures { result ≡ spec.operation_of word.now }
+{
+    operands_of(word).or(generic_operands_of(word))
 }
 
 fn by_word(alloc: Global, word: &Token, tokens: &[Token]) -> Result<Result<Action, u8>, NoMemory>
     ensures { IfOk result (λ r. spec.by_word word.now tokens.now ≡ action_read r) }
 {
     if is_name(word) {
-        by_operation(alloc, word, operands_of(word.text.as_slice()), tokens)
+        by_operation(alloc, word, operation_of(word.text.as_slice()), tokens)
     } else {
         Ok(Err(1))
     }
