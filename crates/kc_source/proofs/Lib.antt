@@ -2,3 +2,4 @@ pub mod PartLemmas
 pub mod FaultLemmas
 pub mod TableLemmas
 pub mod PassLemmas
+pub mod ClearLemmas

@@ -4,3 +4,4 @@ pub mod Statements
 pub mod Faults
 pub mod Known
 pub mod Passing
+pub mod Clear

@@ -3,6 +3,7 @@
 
 mod faults;
 mod forms;
+mod laws;
 pub mod lists;
 mod names;
 mod operands;
@@ -12,6 +13,7 @@ mod reading;
 pub mod statement;
 mod uses;
 
+pub use laws::names_are_clear;
 pub use lists::{Args, Items, Names};
 pub use pass::statements;
 pub use statement::{Action, Arg, Item, Stmt};
