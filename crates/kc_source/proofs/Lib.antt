@@ -3,3 +3,4 @@ pub mod FaultLemmas
 pub mod TableLemmas
 pub mod PassLemmas
 pub mod ClearLemmas
+pub mod FormedLemmas

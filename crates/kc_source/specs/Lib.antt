@@ -5,3 +5,4 @@ pub mod Faults
 pub mod Known
 pub mod Passing
 pub mod Clear
+pub mod Formed
