@@ -4,3 +4,4 @@ pub mod TableLemmas
 pub mod PassLemmas
 pub mod ClearLemmas
 pub mod FormedLemmas
+pub mod OperandLemmas

@@ -6,3 +6,4 @@ pub mod Known
 pub mod Passing
 pub mod Clear
 pub mod Formed
+pub mod Forms

@@ -1,4 +1,5 @@
 ghost use Rattle.kc_source.specs.Clear.{NamesAreClear};
+ghost use Rattle.kc_source.specs.Forms.{OperandsHaveForms};
 ghost use Rattle.kc_source.specs.Formed.{StatementsAreFormed, NamesStandOnTheLine};
 
 /// In lines without a fault a name is defined by one label or one EQU, or by SET alone; a name that EXTRN takes is taken
@@ -15,4 +16,9 @@ pub fn statements_are_formed()
 /// What holds of every free name among the tokens of a line holds of each name that its statement defines, takes or gives.
 pub fn names_stand_on_the_line()
     ensures { NamesStandOnTheLine }
+{}
+
+/// An operand is read exactly where the tokens are written in one of its forms, and it is the one that they are.
+pub fn operands_have_forms()
+    ensures { OperandsHaveForms }
 {}

@@ -13,7 +13,9 @@ mod reading;
 pub mod statement;
 mod uses;
 
-pub use laws::{names_are_clear, names_stand_on_the_line, statements_are_formed};
+pub use laws::{
+    names_are_clear, names_stand_on_the_line, operands_have_forms, statements_are_formed,
+};
 pub use lists::{Args, Items, Names};
 pub use pass::statements;
 pub use statement::{Action, Arg, Item, Stmt};
