@@ -95,6 +95,9 @@ fn statements_with_their_lines(rt: HostRuntime) {
     };
     assert!(rt; stmts.len() == SAID.len());
     for (stmt, &(line, labelled)) in stmts.iter().zip(&SAID) {
-        assert!(rt; stmt.line == line && stmt.label.is_some() == labelled, "{line}");
+        assert!(rt;
+            stmt.line == line && stmt.label.is_some() == labelled,
+            "{line}"
+        );
     }
 }
