@@ -1,0 +1,4 @@
+pub mod FaultLemmas
+pub mod TableLemmas
+pub mod PassLemmas
+pub mod ClearLemmas

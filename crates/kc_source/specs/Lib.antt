@@ -1,0 +1,4 @@
+pub mod Faults
+pub mod Known
+pub mod Passing
+pub mod Clear

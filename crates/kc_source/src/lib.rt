@@ -1,0 +1,15 @@
+//! The statements of a source, and the first fault of reading them.
+#![tactic(auto)]
+
+mod faults;
+mod laws;
+mod names;
+mod pass;
+mod uses;
+
+pub use kc_statement::{Action, Arg, Args, Item, Items, Names, Stmt};
+pub use laws::names_are_clear;
+pub use pass::statements;
+
+#[cfg(test)]
+mod tests;
