@@ -1,4 +1,5 @@
 mod Digits
+mod Listed
 mod Onward
 mod Placeable
 mod Placed

@@ -2,8 +2,10 @@
 #![tactic(auto)]
 
 mod assembler;
+mod hex;
 mod lines;
 mod number;
+mod reading;
 mod run;
 mod say;
 mod source;

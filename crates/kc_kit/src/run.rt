@@ -1,17 +1,15 @@
 // The command that runs a source.
 ghost use Rattle.std.specs.Prelude.{◌≡◌, ◌≢◌, ◌≤◌, ◌⊎◌, Some, false};
 ghost use Rattle.kc_base.specs.Causes.{Rose};
-ghost use Rattle.kc_model.specs.Machine.{start};
-ghost use Rattle.kc_model.specs.Run.{run_to};
-ghost use Rattle.kc_kit.specs.Answer.{FileAnswer, SourceAnswer, ReadAnswer, RunAnswer, Over, Replies, status_of};
-ghost use Rattle.kc_kit.specs.Source.{program_of};
+ghost use Rattle.kc_kit.specs.Answer.{FileAnswer, SourceBytes, ReadAnswer, RunOf, Over, Replies, status_of};
 ghost use Rattle.kc_kit.specs.Words.{Runs};
 
 use crate::Status;
 use crate::assembler::assemble;
+use crate::reading::read_file;
 use crate::say::say_of;
 use crate::words::Run;
-use kc_base::{FileFault, Files, Image, NoMemory, Sink, Steps};
+use kc_base::{Files, Image, NoMemory, Sink, Steps};
 use kc_machine::{End, Machine};
 use kc_trace::TraceOut;
 use std::alloc::Global;
@@ -28,7 +26,7 @@ pub fn run_file<F: Files, S: Sink>(
     requires ready { out.old.failed ≡ false }
     requires states { run.now.states ≤ 1000000000000000 }
     ensures answer { Over (F.held files.old) (λ held. Replies
-        (λ given text. FileAnswer run.now.name.now run.now.states (held run.now.name.now) given text
+        (λ given text. FileAnswer run.now.name.now (SourceBytes run.now.name.now run.now.states) (held run.now.name.now) given text
         ⊎ ReadAnswer (Some (Runs run.now.name.now run.now.states)) (Rose (F.read_faults files.old) (F.read_faults files.new)) given text)
         (S.written out.old.sink) result (S.written out.new.sink)) }
     ensures not_usage { result ≢ Status.Usage }
@@ -38,26 +36,9 @@ pub fn run_file<F: Files, S: Sink>(
     ensures same { F.held files.new ≡ F.held files.old }
     ensures no_write { F.write_faults files.new ≡ F.write_faults files.old }
 {
-    match files.read(alloc, run.name) {
+    match read_file(alloc, run.name, files, out) {
         Ok(bytes) => run_source(alloc, run, &bytes, out),
-        Err(FileFault::Missing) => say_of(
-            alloc,
-            out,
-            b"missing ",
-            run.name,
-            b"\n",
-            Status::Missing,
-        ),
-        Err(FileFault::TooLong) => say_of(
-            alloc,
-            out,
-            b"input ",
-            run.name,
-            b":0: LONG\n",
-            Status::Input,
-        ),
-        Err(FileFault::Failed) => say_of(alloc, out, b"read ", run.name, b"\n", Status::ReadFault),
-        Err(FileFault::NoMemory) => Status::NoMemory,
+        Err(status) => status,
     }
 }
 
@@ -65,7 +46,7 @@ pub fn run_file<F: Files, S: Sink>(
 fn run_source<S: Sink>(alloc: Global, run: &Run<'_>, source: &[u8], out: &mut TraceOut<S>) -> Status
     requires ready { out.old.failed ≡ false }
     requires states { run.now.states ≤ 1000000000000000 }
-    ensures answer { Replies (SourceAnswer run.now.name.now run.now.states (program_of source.now))
+    ensures answer { Replies (SourceBytes run.now.name.now run.now.states source.now)
         (S.written out.old.sink) result (S.written out.new.sink) }
     ensures fault { result ≡ Status.WriteFault → Rose (S.faults out.old.sink) (S.faults out.new.sink) }
     ensures status { (result ≢ Status.Usage) × (result ≢ Status.ReadFault) × (result ≢ Status.Link) }
@@ -86,8 +67,8 @@ fn run_source<S: Sink>(alloc: Global, run: &Run<'_>, source: &[u8], out: &mut Tr
     }
 }
 
-// Runs an image.
-fn run_image<S: Sink, L: Ledger>(
+/// Runs an image.
+pub fn run_image<S: Sink, L: Ledger>(
     alloc: Global,
     image: Image,
     states: u64,
@@ -99,7 +80,7 @@ fn run_image<S: Sink, L: Ledger>(
     requires name { blank.name ≡ L.name }
     requires parts { blank.parts ≡ L.parts }
     requires whole { blank.parts ≡ 1 }
-    ensures answer { Replies (RunAnswer (run_to states (start image)))
+    ensures answer { Replies (RunOf states image)
         (S.written out.old.sink) result (S.written out.new.sink) }
     ensures fault { result ≡ Status.WriteFault → Rose (S.faults out.old.sink) (S.faults out.new.sink) }
     ensures status { (result ≢ Status.Usage) × (result ≢ Status.ReadFault) × (result ≢ Status.Link) }

@@ -1,10 +1,11 @@
 // Texts that are no trace: the lines of refusals, the help and the version.
-ghost use Rattle.std.specs.Prelude.{◌≡◌, ◌≢◌, ◌⊎◌, ◌↔◌, ◌++◌, true, false};
+ghost use Rattle.std.specs.Prelude.{◌≡◌, ◌≢◌, ◌⊎◌, ◌↔◌, ◌++◌, codes, decimal, IfOk, true, false};
 ghost use Rattle.kc_base.specs.Causes.{Rose};
-ghost use Rattle.kc_kit.specs.Answer.{Replies, Says};
+ghost use Rattle.kc_kit.specs.Answer.{Replies, Says, hex_line};
 
 use crate::Status;
-use kc_base::Sink;
+use itoa::Buffer;
+use kc_base::{NoMemory, Sink};
 use kc_trace::TraceOut;
 use std::alloc::Global;
 
@@ -46,4 +47,37 @@ pub fn say_of<S: Sink>(
         return Status::NoMemory;
     }
     say(out, &text, status)
+}
+
+/// Writes the line of a fault of a hex file.
+pub fn say_fault<S: Sink>(
+    alloc: Global,
+    out: &mut TraceOut<S>,
+    name: &str,
+    line: u32,
+    code: u8,
+) -> Status
+    requires { out.old.failed ≡ false }
+    ensures reply { Replies (Says Status.Input (hex_line name.now line code)) (S.written out.old.sink) result (S.written out.new.sink) }
+    ensures status { (result ≡ Status.Input) ⊎ ((result ≡ Status.WriteFault) ⊎ (result ≡ Status.NoMemory)) }
+    ensures fault { result ≡ Status.WriteFault → Rose (S.faults out.old.sink) (S.faults out.new.sink) }
+{
+    let Ok(place) = fault_place(alloc, line, code) else {
+        return Status::NoMemory;
+    };
+    say_of(alloc, out, b"input ", name, &place, Status::Input)
+}
+
+// The line and the code of a fault, behind the name of its file.
+fn fault_place(alloc: Global, line: u32, code: u8) -> Result<Vec<u8>, NoMemory>
+    ensures { IfOk result (λ v. v.items ≡ codes ":" ++ decimal line ++ codes ": H0" ++ decimal code ++ codes "\n") }
+{
+    let mut buffer = Buffer::new();
+    let mut text = Vec::from_slice(alloc, b":")?;
+    text.extend_from_slice(buffer.format(line).as_bytes())?;
+    text.extend_from_slice(b": H0")?;
+    let mut digits = Buffer::new();
+    text.extend_from_slice(digits.format(code).as_bytes())?;
+    text.push(b'\n')?;
+    Ok(text)
 }

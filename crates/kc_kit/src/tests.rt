@@ -25,6 +25,14 @@ fn numbers(alloc: Global, items: &[u64]) -> Result<Vec<u64>, AllocError> {
     Vec::from_slice(alloc, items)
 }
 
+// The hex file of a no operation at 2080H, and that of the first pulse program.
+const NOP_HEX: &str = ":01208000FD62\n:00000001FF\n";
+
+const PULSE_HEX: &str = ":09208000B12006A10A000427FEAC\r\n\n:00000001ff";
+
+const PULSE_LISTING: &str =
+    "2080 B12006 LDB 06H,#20H\n2083 A10A0004 LD 04H,#000AH\n2087 27FE SJMP 2087H\n";
+
 /// Runs a command line over one file, and tells whether its status and its text are these.
 fn answers(
     alloc: Global,
@@ -119,6 +127,16 @@ fn words_are_judged_before_files(rt: HostRuntime) -> Result<(), Fail> {
         "run -a.a96 --states 1",
         "--states 1 run a.a96",
         "--help --version",
+        "hex a.a96",
+        "hex a.a96 --states 5D",
+        "hex -a.a96 --states 1",
+        "dis a.a96",
+        "dis a.a96 2080H",
+        "dis a.a96 2088H-2080H",
+        "dis a.a96 1FFFH-2080H",
+        "dis a.a96 8192-65536",
+        "dis a.a96 2080H-2088H-2090H",
+        "dis a.a96 -2088H",
     ] {
         let right = answers(
             a,
@@ -138,7 +156,7 @@ fn words_are_judged_before_files(rt: HostRuntime) -> Result<(), Fail> {
 fn help_and_version_are_told(rt: HostRuntime) -> Result<(), Fail> {
     let a = rt.alloc();
     let help =
-        "kc96 runs programs of the 80C196KC and prints what the chip does.\n  kc96 run NAME --states N   run the source NAME for N state times\n  kc96 --help                print this text\n  kc96 --version             print the name and the version\n";
+        "kc96 runs programs of the 80C196KC and prints what the chip does.\n  kc96 run NAME --states N   run the source NAME for N state times\n  kc96 hex NAME --states N   run the Intel hex file NAME for N state times\n  kc96 dis NAME A-B          list the instructions of the hex file NAME from address A to B\n  kc96 --help                print this text\n  kc96 --version             print the name and the version\n";
     assert!(rt; answers(a, "--help", b"", &[1], &[], Status::Done, help)?);
     assert!(rt; answers(a, "--version", b"", &[1], &[], Status::Done, "kc96 0.1.0\n")?);
     Ok(())
@@ -209,5 +227,81 @@ fn faults_have_their_status(rt: HostRuntime) -> Result<(), Fail> {
         )?
     );
     assert!(rt; answers(a, "", source, &[], &[1], Status::WriteFault, "")?);
+    Ok(())
+}
+
+#[test]
+fn hex_files_are_run_and_listed(rt: HostRuntime) -> Result<(), Fail> {
+    let a = rt.alloc();
+    let nop = trace(a, "X 1 spent\nPC 2080\nPSW 0000\nWSR 00\n", ZEROS)?;
+    for (line, source, status, text) in [
+        ("hex a.a96 --states 1", NOP_HEX, Status::Done, nop.as_str()),
+        (
+            "dis a.a96 2080H-2088H",
+            PULSE_HEX,
+            Status::Done,
+            PULSE_LISTING,
+        ),
+        (
+            "dis a.a96 2087H-2087H",
+            PULSE_HEX,
+            Status::Done,
+            "2087 27FE SJMP 2087H\n",
+        ),
+        (
+            "dis a.a96 8192-02001H",
+            NOP_HEX,
+            Status::Done,
+            "2000 FF RST\n2001 FF RST\n",
+        ),
+        (
+            "hex a.a96 --states 1",
+            ":01208000FD63\n",
+            Status::Input,
+            "input a.a96:1: H02\n",
+        ),
+        (
+            "dis a.a96 2080H-2088H",
+            "\n:01208000FD62\n\n",
+            Status::Input,
+            "input a.a96:4: H06\n",
+        ),
+        (
+            "hex b.a96 --states 1",
+            NOP_HEX,
+            Status::Missing,
+            "missing b.a96\n",
+        ),
+        (
+            "dis b.a96 2080H-2088H",
+            NOP_HEX,
+            Status::Missing,
+            "missing b.a96\n",
+        ),
+    ] {
+        let right = answers(a, line, source.as_bytes(), &[], &[], status, text)?;
+        assert!(rt; right, "{line}");
+    }
+    Ok(())
+}
+
+#[test]
+fn listings_end_where_the_sink_fails(rt: HostRuntime) -> Result<(), Fail> {
+    let a = rt.alloc();
+    let line = "dis a.a96 2080H-2088H";
+    let first = "2080 B12006 LDB 06H,#20H\n";
+    let source = PULSE_HEX.as_bytes();
+    assert!(rt; answers(a, line, source, &[], &[2], Status::WriteFault, first)?);
+    assert!(rt;
+        answers(
+            a,
+            line,
+            source,
+            &[1],
+            &[],
+            Status::ReadFault,
+            "read a.a96\n"
+        )?
+    );
     Ok(())
 }

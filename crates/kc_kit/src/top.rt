@@ -6,6 +6,7 @@ ghost use Rattle.kc_kit.specs.Answer.{MayAnswer, IsAccepted, Over, Replies};
 ghost use Rattle.kc_kit.specs.Words.{command_of};
 
 use crate::Status;
+use crate::hex::{list_hex, run_hex};
 use crate::run::run_file;
 use crate::say::say;
 use crate::words::{Command, read_words};
@@ -16,6 +17,8 @@ use std::alloc::Global;
 /// The text of `--help`.
 const HELP: &[u8] = b"kc96 runs programs of the 80C196KC and prints what the chip does.
   kc96 run NAME --states N   run the source NAME for N state times
+  kc96 hex NAME --states N   run the Intel hex file NAME for N state times
+  kc96 dis NAME A-B          list the instructions of the hex file NAME from address A to B
   kc96 --help                print this text
   kc96 --version             print the name and the version
 ";
@@ -58,6 +61,8 @@ pub fn kit<F: Files, S: Sink>(
             Command::Help => say(out, HELP, Status::Done),
             Command::Version => say(out, VERSION, Status::Done),
             Command::Run(run) => run_file(alloc, &run, files, out),
+            Command::RunHex(run) => run_hex(alloc, &run, files, out),
+            Command::List(list) => list_hex(alloc, &list, files, out),
         },
     }
 }

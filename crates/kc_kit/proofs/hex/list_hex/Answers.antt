@@ -1,0 +1,17 @@
+use Rattle.kc_base.specs.Causes.{Rose}
+use Rattle.kc_kit.specs.Answer.{HexBytes, ListingOf}
+use Rattle.kc_kit.proofs.Replying.{Over-bytes, Over-missed}
+use Rattle.kc_kit.proofs.hex.list_hex.Goals as goal
+
+pub returns-in-Ok-clause-answer : goal.returns-in-Ok-clause-answer
+returns-in-Ok-clause-answer g c =
+    let list = c.args.list.now in
+    let rose : Type 0 = Rose (g.F.Files.read_faults c.args.files.now) (g.F.Files.read_faults c.read_file.new.files) in
+    Over-bytes _ list.name.now (HexBytes list.name.now (ListingOf list.first list.last)) rose c.in-Ok.bytes.items _ _ _ c.in-Ok.ensures.bytes c.in-Ok.ensures.within
+    (rw c.deref.ensures.value at (rw c.in-Ok.ensures.untouched at c.list_text.ensures.answer))
+
+pub returns-in-Err-clause-answer : goal.returns-in-Err-clause-answer
+returns-in-Err-clause-answer g c =
+    let list = c.args.list.now in
+    let rose : Type 0 = Rose (g.F.Files.read_faults c.args.files.now) (g.F.Files.read_faults c.read_file.new.files) in
+    Over-missed _ list.name.now (HexBytes list.name.now (ListingOf list.first list.last)) rose _ _ _ c.in-Err.ensures.answer

@@ -1,0 +1,9 @@
+//! Listings of images: the lines of a disassembly.
+#![tactic(auto)]
+
+mod listing;
+
+pub use listing::{Line, line_at};
+
+#[cfg(test)]
+mod tests;
