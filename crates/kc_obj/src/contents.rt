@@ -1,5 +1,5 @@
 ghost use Rattle.std.specs.Prelude.{◌≡◌, ◌≤◌, true, length, drop};
-ghost use Rattle.kc_obj.specs.Contents.{content_end, content_is_sound, content_follows, contents_in_order, byte_of, content_at, is_over, SameFrom, BeginsFrom, byte_of_first, leaves_place};
+ghost use Rattle.kc_obj.specs.Contents.{content_end, content_is_sound, content_follows, contents_in_order, covers, byte_of, content_at, is_over, SameFrom, BeginsFrom, byte_of_first, leaves_place};
 
 use crate::parts::{Content, Segment};
 use crate::pieces::is_code_to;
@@ -17,8 +17,8 @@ pub(crate) fn content_sound(segments: &[Segment], content: &Content) -> bool
     0 < len && len <= 1024 && is_code_to(segments.get(content.piece as usize), end_of(content))
 }
 
-// Whether a run may begin at a place after another one.
-pub(crate) fn may_begin_after(before: &Content, piece: u16, offset: u16) -> bool
+/// Whether a run may begin at a place after another one.
+pub fn may_begin_after(before: &Content, piece: u16, offset: u16) -> bool
     ensures { result ≡ leaves_place before.now piece offset }
 {
     let end = end_of(before);
@@ -86,13 +86,19 @@ pub(crate) fn from_place(contents: &[Content], piece: u16, offset: usize) -> &[C
     contents.split_at(n).1
 }
 
+/// Whether a place is one of the run's.
+pub fn holds(content: &Content, piece: u16, offset: usize) -> bool
+    ensures { result ≡ covers content.now piece offset }
+{
+    content.piece == piece && content.offset as usize <= offset && offset < end_of(content)
+}
+
 fn byte_in(content: &Content, piece: u16, offset: usize) -> Option<u8>
     ensures { result ≡ byte_of content.now piece offset }
 {
-    let bytes = content.bytes.as_slice();
-    let start = content.offset as usize;
-    if content.piece == piece && start <= offset && offset < start + bytes.len() {
-        Some(bytes[offset - start])
+    if holds(content, piece, offset) {
+        let bytes = content.bytes.as_slice();
+        Some(bytes[offset - content.offset as usize])
     } else {
         None
     }

@@ -6,7 +6,8 @@ ghost use Rattle.kc_obj.specs.Fixups.{fixup_width, target_exists, fixup_is_sound
 use crate::contents::{byte_at, from_place};
 use crate::parts::{Content, Fixup, Segment, Taken, Target};
 
-pub(crate) fn width(kind: u8) -> usize
+/// How many bytes the number of a relocation of this kind has.
+pub fn width(kind: u8) -> usize
     ensures { result ≡ fixup_width kind }
 {
     if kind == 1 || kind == 2 { 1 } else { 2 }
@@ -55,7 +56,8 @@ pub(crate) fn are_in_order(fixups: &[Fixup]) -> bool
     true
 }
 
-fn begins_free(kind: u8, byte: Option<u8>) -> bool
+/// Whether the first byte under a relocation of this kind is free for it.
+pub fn begins_free(kind: u8, byte: Option<u8>) -> bool
     ensures { result ≡ may_begin kind byte }
 {
     match byte {
@@ -70,7 +72,8 @@ fn begins_free(kind: u8, byte: Option<u8>) -> bool
     }
 }
 
-fn zero(byte: Option<u8>) -> bool
+/// Whether a byte stands there and is 0.
+pub fn zero(byte: Option<u8>) -> bool
     ensures { result ≡ is_zero byte }
 {
     match byte {

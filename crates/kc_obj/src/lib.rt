@@ -1,13 +1,13 @@
 //! Object modules: their parts, the rules that a module keeps, and its one spelling as bytes.
 #![tactic(auto)]
 
-mod contents;
-mod fixups;
-mod line_entries;
+pub mod contents;
+pub mod fixups;
+pub mod line_entries;
 mod module;
-mod names;
+pub mod names;
 mod parts;
-mod pieces;
+pub mod pieces;
 mod rules;
 mod writing;
 

@@ -14,7 +14,8 @@ fn line_sound(segments: &[Segment], entry: Lines) -> bool
     ) && 0 < entry.line
 }
 
-pub(crate) fn follows(first: Lines, next: Lines) -> bool
+/// Whether a line entry stands after another one.
+pub fn follows(first: Lines, next: Lines) -> bool
     ensures { result ≡ line_follows first next }
 {
     first.piece < next.piece || first.piece == next.piece && first.offset < next.offset

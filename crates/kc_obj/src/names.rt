@@ -2,7 +2,8 @@ ghost use Rattle.std.specs.Prelude.{◌≡◌};
 ghost use Rattle.std.specs.List.{list_all};
 ghost use Rattle.kc_obj.specs.Names.{is_digit, is_name_char, begins_name, is_name, is_stack_name, is_below};
 
-pub(crate) fn digit(c: u8) -> bool
+/// Whether a character is a decimal digit.
+pub fn digit(c: u8) -> bool
     ensures { result ≡ is_digit c }
 {
     b'0' <= c && c <= b'9'
@@ -23,7 +24,8 @@ fn begins(name: &[u8]) -> bool
     }
 }
 
-pub(crate) fn all_name_chars(characters: &[u8]) -> bool
+/// Whether each character can stand in a name.
+pub fn all_name_chars(characters: &[u8]) -> bool
     ensures { result ≡ list_all is_name_char characters.now }
 {
     characters.iter().all(|c| name_char(*c))
@@ -36,15 +38,16 @@ pub(crate) fn name_is_sound(name: &[u8]) -> bool
     begins(name) && name.len() <= 31 && all_name_chars(name)
 }
 
-pub(crate) fn is_stack(name: &[u8]) -> bool
+/// Whether a name is STACK.
+pub fn is_stack(name: &[u8]) -> bool
     ensures { result ≡ is_stack_name name.now }
 {
     name == b"STACK".as_slice()
 }
 
-// Whether a name comes before another one in the order of bytes.
+/// Whether a name comes before another one in the order of bytes.
 #[tactic(auto, unfolding(crate::specs::Names::is_below))]
-pub(crate) fn comes_below(name: &[u8], other: &[u8]) -> bool
+pub fn comes_below(name: &[u8], other: &[u8]) -> bool
     ensures { result ≡ is_below name.now other.now }
 {
     let mut left = name;

@@ -5,8 +5,8 @@ ghost use Rattle.kc_obj.specs.Pieces.{kind_number, lies_in, in_region, is_placed
 
 use crate::parts::{Fixup, Given, SegKind, Segment, Target};
 
-// The number that a kind has in an object.
-pub(crate) fn number_of(kind: SegKind) -> u8
+/// The number that a kind has in an object.
+pub fn number_of(kind: SegKind) -> u8
     ensures { result ≡ kind_number kind }
 {
     match kind {
@@ -24,7 +24,8 @@ fn lies(low: u32, high: u32, base: u16, len: u16) -> bool
     low <= base as u32 && base as u32 <= high && base as u32 + len as u32 <= high + 1
 }
 
-pub(crate) fn fits_region(kind: SegKind, base: u16, len: u16) -> bool
+/// Whether an absolute piece of this kind may stand there.
+pub fn fits_region(kind: SegKind, base: u16, len: u16) -> bool
     ensures { result ≡ in_region kind base len }
 {
     match kind {
@@ -120,9 +121,9 @@ fn kept(publics: &[Given], fixups: &[Fixup], index: usize, segment: &Segment) ->
     !empty(segment) || number_of(segment.kind) != 3 && named(publics, fixups, index)
 }
 
-// Whether each empty relocatable piece is named by a public or a target.
+/// Whether each empty relocatable piece is named by a public or a target.
 #[tactic(auto, unfolding(crate::specs::Pieces::all_kept))]
-pub(crate) fn are_kept(publics: &[Given], fixups: &[Fixup], segments: &[Segment]) -> bool
+pub fn are_kept(publics: &[Given], fixups: &[Fixup], segments: &[Segment]) -> bool
     ensures { result ≡ all_kept publics.now fixups.now 0 segments.now }
 {
     let mut left = segments;
@@ -137,8 +138,18 @@ pub(crate) fn are_kept(publics: &[Given], fixups: &[Fixup], segments: &[Segment]
     true
 }
 
-// Whether a piece is one of code, and at least so long.
-pub(crate) fn is_code_to(segment: Option<&Segment>, end: usize) -> bool
+/// Whether a piece is one of code, and at least so long.
+pub fn is_code(segment: Option<Segment>, end: usize) -> bool
+    ensures { result ≡ has_code segment end }
+{
+    match segment {
+        None => false,
+        Some(piece) => number_of(piece.kind) == 1 && end <= piece.length as usize,
+    }
+}
+
+/// Whether a piece that is lent is one of code, and at least so long.
+pub fn is_code_to(segment: Option<&Segment>, end: usize) -> bool
     ensures { result ≡ has_code (option_copied segment.entry) end }
 {
     match segment {

@@ -1,0 +1,16 @@
+pub mod Blocks
+pub mod Bytes
+pub mod Clear
+pub mod ClearCode
+pub mod ClearLines
+pub mod Forth
+pub mod ForthCode
+pub mod Good
+pub mod Holding
+pub mod Decoded
+pub mod Onward
+pub mod Order
+pub mod Spelled
+pub mod StepLemmas
+pub mod Telling
+pub mod Unmarred

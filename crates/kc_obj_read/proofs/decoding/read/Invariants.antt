@@ -1,0 +1,12 @@
+use Rattle.std.proofs.Common.{◌≡◌, ◌≤◌, length}
+use Rattle.kc_obj_read.specs.Reading.{read_on, answer_of}
+use Rattle.kc_obj_read.proofs.decoding.read.Given as goal
+
+abbrev pub invariant-loop-left : goal.invariant-loop-left
+invariant-loop-left l = record {
+  read : read_on l.left l.bytes l.at l.reading ≡ answer_of l.bytes;
+  within : l.at ≤ length l.bytes;
+}
+
+abbrev pub decreases-loop-left : goal.decreases-loop-left
+decreases-loop-left l = l.left
