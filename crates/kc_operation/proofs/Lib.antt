@@ -1,0 +1,5 @@
+pub mod Search
+pub mod Fills
+pub mod Spelled
+pub mod Found
+pub mod Paired
