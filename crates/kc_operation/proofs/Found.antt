@@ -28,7 +28,7 @@ both false b h = absurd (cc h)
 pub same-number : (a b : ℕ) → (a == b) ≡ true → a ≡ b
 same-number a b h = (Decides-eqb a b).0 h
 
-test-number : (a b : ℕ) → a ≡ b → (a == b) ≡ true
+pub test-number : (a b : ℕ) → a ≡ b → (a == b) ≡ true
 test-number a b h = (Decides-eqb a b).1 h
 
 plain_suits : (x : Option Value) (m : ℕ) (t : Bool) → is_direct x ≡ t → m ≡ (if t then 0 else 3) → mode_suits m (plain_source x) ≡ true

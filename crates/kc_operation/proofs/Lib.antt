@@ -3,3 +3,7 @@ pub mod Fills
 pub mod Spelled
 pub mod Found
 pub mod Paired
+pub mod Sound
+pub mod Rows
+pub mod Exists
+pub mod Operations

@@ -31,7 +31,7 @@ passes_step : (p : ℕ → Bool) (n from k : ℕ) (t : Bool) → p from ≡ t �
 passes_step p n from k true e g r = let f : from ≡ k = cc g in (subst (λ (m : ℕ). p m ≡ true) f e, omega arith)
 passes_step p n from k false e g r = let s : (p k ≡ true) × (k < (from + 1) + n) = r g in (s.0, omega arith)
 
-least-passes : (p : ℕ → Bool) (n from k : ℕ) → least p n from ≡ Some k → (p k ≡ true) × (k < from + n)
+pub least-passes : (p : ℕ → Bool) (n from k : ℕ) → least p n from ≡ Some k → (p k ≡ true) × (k < from + n)
 unfolding least
 least-passes p zero from k h = absurd (cc h)
 least-passes p (suc n) from k h = passes_step p n from k (p from) refl h (λ g. least-passes p n (from + 1) k g)
@@ -46,7 +46,7 @@ finds_step p n from k true e h r = (from, refl)
 finds_step p n from k false e h r = r (λ (q : from ≡ k). (let f : false ≡ true = sym e ∙ (subst (λ (m : ℕ). p m ≡ true) (sym q) h) in absurd (cc f)))
 
 -- what passes is found, or something before it
-least-finds : (p : ℕ → Bool) (n from k : ℕ) → from ≤ k → k < from + n → p k ≡ true → (j : ℕ) × (least p n from ≡ Some j)
+pub least-finds : (p : ℕ → Bool) (n from k : ℕ) → from ≤ k → k < from + n → p k ≡ true → (j : ℕ) × (least p n from ≡ Some j)
 unfolding least
 least-finds p zero from k a b h = absurd (omega arith)
 least-finds p (suc n) from k a b h = finds_step p n from k (p from) refl h (λ d. least-finds p n (from + 1) k (omega arith) (omega arith) h)

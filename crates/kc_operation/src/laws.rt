@@ -1,4 +1,4 @@
-ghost use Rattle.kc_operation.specs.Laws.{FilledIsSpelled, OctetsArePaired};
+ghost use Rattle.kc_operation.specs.Laws.{FilledIsSpelled, OctetsArePaired, OperationsAreInstructions, SettledIsSound};
 
 /// Once the bases are known, the bytes of an instruction spell it.
 pub fn filled_is_spelled()
@@ -8,4 +8,14 @@ pub fn filled_is_spelled()
 /// The two bytes of a number stand together.
 pub fn octets_are_paired()
     ensures { OctetsArePaired }
+{}
+
+/// An instruction whose numbers fit their bytes is well formed under the bases.
+pub fn settled_is_sound()
+    ensures { SettledIsSound }
+{}
+
+/// An operation is written in full by instructions of the table.
+pub fn operations_are_instructions()
+    ensures { OperationsAreInstructions }
 {}
