@@ -7,3 +7,4 @@ pub mod Sound
 pub mod Rows
 pub mod Exists
 pub mod Operations
+pub mod Lengths

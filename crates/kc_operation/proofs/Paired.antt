@@ -102,7 +102,7 @@ paired_listed : (word : List ℕ) (args : List Argument) (o : Option Worded) →
 paired_listed word args None e = refl
 paired_listed word args (Some w) e = paired-append (worded_octets w) [] (paired_worded word w (instruction_found word args w e)) refl
 
-listed-octets : (o : Option Worded) (ws : List Worded) → all_octets (listed o ++ ws) ≡ all_octets (listed o) ++ all_octets ws
+pub listed-octets : (o : Option Worded) (ws : List Worded) → all_octets (listed o ++ ws) ≡ all_octets (listed o) ++ all_octets ws
 listed-octets None ws = refl
 listed-octets (Some w) ws = simp append_assoc
 

@@ -39,7 +39,7 @@ LengthStays = (word : List ℕ) (args : List Argument) (form : Form) (here there
 
 -- the length of a generic branch is told by its kind and form: an inverse jump leads behind the whole
 abbrev pub BranchesHaveLengths : Type 0
-BranchesHaveLengths = (word : List ℕ) (args : List Argument) (form : Form) (here : Value) (kind : BranchKind) → is_operation word args ≡ true →
+BranchesHaveLengths = (word : List ℕ) (args : List Argument) (form : Form) (here : Value) (kind : BranchKind) →
     branch_kind word args ≡ Some kind → length (all_octets (instructions word args form here)) ≡ branch_length kind form
 
 -- the bytes of a number stand together

@@ -1,4 +1,4 @@
-ghost use Rattle.kc_operation.specs.Laws.{FilledIsSpelled, OctetsArePaired, OperationsAreInstructions, SettledIsSound};
+ghost use Rattle.kc_operation.specs.Laws.{BranchesHaveLengths, FilledIsSpelled, OctetsArePaired, OperationsAreInstructions, SettledIsSound};
 
 /// Once the bases are known, the bytes of an instruction spell it.
 pub fn filled_is_spelled()
@@ -18,4 +18,9 @@ pub fn settled_is_sound()
 /// An operation is written in full by instructions of the table.
 pub fn operations_are_instructions()
     ensures { OperationsAreInstructions }
+{}
+
+/// The length of a generic branch is told by its kind and its form: so an inverse jump leads behind the whole.
+pub fn branches_have_lengths()
+    ensures { BranchesHaveLengths }
 {}
