@@ -81,7 +81,7 @@ rest_for shapes.TableJump args = refl
 rest_for shapes.Far args = refl
 rest_for shapes.Key args = refl
 
-three_for : (shape : Shape) (args : List Argument) → length (regs_for shape args) ≡ 3
+pub three_for : (shape : Shape) (args : List Argument) → length (regs_for shape args) ≡ 3
 three_for shapes.Nothing args = refl
 three_for shapes.One args = refl
 three_for shapes.Two args = refl

@@ -8,3 +8,4 @@ pub mod Rows
 pub mod Exists
 pub mod Operations
 pub mod Lengths
+pub mod Stays

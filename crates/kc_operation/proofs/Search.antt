@@ -60,3 +60,7 @@ pub least-alike : (p q : ℕ → Bool) (n from : ℕ) → ((k : ℕ) → p k ≡
 unfolding least
 least-alike p q zero from h = refl
 least-alike p q (suc n) from h = rw (h from) (rw (least-alike p q n (from + 1) h) refl)
+
+pub opcode-alike : (word : List ℕ) (args brgs : List Argument) (signed : Bool) → ((k : ℕ) → is_opcode_for word args signed k ≡ is_opcode_for word brgs signed k) → opcode_of word args signed ≡ opcode_of word brgs signed
+unfolding opcode_of
+opcode-alike word args brgs signed h = least-alike (is_opcode_for word args signed) (is_opcode_for word brgs signed) 256 0 h

@@ -1,4 +1,4 @@
-ghost use Rattle.kc_operation.specs.Laws.{BranchesHaveLengths, FilledIsSpelled, OctetsArePaired, OperationsAreInstructions, SettledIsSound};
+ghost use Rattle.kc_operation.specs.Laws.{BranchesHaveLengths, FilledIsSpelled, LengthStays, OctetsArePaired, OperationsAreInstructions, SettledIsSound};
 
 /// Once the bases are known, the bytes of an instruction spell it.
 pub fn filled_is_spelled()
@@ -23,4 +23,9 @@ pub fn operations_are_instructions()
 /// The length of a generic branch is told by its kind and its form: so an inverse jump leads behind the whole.
 pub fn branches_have_lengths()
     ensures { BranchesHaveLengths }
+{}
+
+/// How many bytes an operation has depends neither on its place nor on numbers that are not fixed.
+pub fn length_stays()
+    ensures { LengthStays }
 {}
