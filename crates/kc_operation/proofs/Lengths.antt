@@ -38,7 +38,7 @@ use Rattle.kc_operation.proofs.Operations.{IsWordOf, AllFound, branch_word, bran
 
 -- ---- the shape of a mnemonic
 
-not_some : (p : ℕ → Bool) (k : ℕ) → not (is_some (least p 256 0)) ≡ true → k < 256 → p k ≡ true → ⊥
+pub not_some : (p : ℕ → Bool) (k : ℕ) → not (is_some (least p 256 0)) ≡ true → k < 256 → p k ≡ true → ⊥
 not_some p k h b e =
     let r : (j : ℕ) × (least p 256 0 ≡ Some j) = least-finds p 256 0 k (omega arith) (omega arith) e in
     let f : not (is_some (least p 256 0)) ≡ false = rw r.1 refl in

@@ -9,3 +9,4 @@ pub mod Exists
 pub mod Operations
 pub mod Lengths
 pub mod Stays
+pub mod Most

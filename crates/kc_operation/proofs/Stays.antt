@@ -177,7 +177,7 @@ taken n xs ys e = omega (arith, length-map (take n xs) byte_of, length-map (take
 behind : (m n : ℕ) (xs ys : List Value) → length xs ≡ length ys → length (map byte_of (take n (drop m xs))) ≡ length (map byte_of (take n (drop m ys)))
 behind m n xs ys e = taken n (drop m xs) (drop m ys) (omega (arith, length-drop m xs, length-drop m ys))
 
-abbrev parts : Layout → Bool → ℕ → Bool → Word → List Value → List Octet
+abbrev pub parts : Layout → Bool → ℕ → Bool → Word → List Value → List Octet
 parts l byte opcode signed o regs = let w : Worded = record { opcode = opcode; signed = signed; operand = o; regs = regs } in laid_octets l byte w
 
 pub parts_length : (l : Layout) (byte : Bool) (opcode : ℕ) (signed : Bool) (o : Word) (regs : List Value) →
@@ -186,7 +186,7 @@ parts_length l byte opcode signed o regs =
     omega (arith, length-append (map byte_of (take l.before regs)) (operand_octets l.form byte o ++ map byte_of (take l.after (drop l.before regs))),
     length-append (operand_octets l.form byte o) (map byte_of (take l.after (drop l.before regs))))
 
-row_length : (w : Worded) (row : Shown) → length (row_octets w row) ≡ length (map octets.Plain (prefix w.signed)) + (1 + length (laid_octets (layout_of row.shape) (is_byte row.width) w))
+pub row_length : (w : Worded) (row : Shown) → length (row_octets w row) ≡ length (map octets.Plain (prefix w.signed)) + (1 + length (laid_octets (layout_of row.shape) (is_byte row.width) w))
 row_length w row = omega (arith, length-append (map octets.Plain (prefix w.signed)) (opcode_octet (layout_of row.shape).form w.opcode w.operand ∷ laid_octets (layout_of row.shape) (is_byte row.width) w))
 
 laid_same : (opcode : ℕ) (signed : Bool) (args : List Argument) (row : Shown) → length (row_octets (laid opcode signed (map blurred args) row.shape) row) ≡ length (row_octets (laid opcode signed args row.shape) row)
@@ -205,7 +205,7 @@ laid_same opcode signed args row =
 worded_is : (w : Worded) (row : Shown) → row_at w.opcode w.signed ≡ Some row → worded_octets w ≡ row_octets w row
 worded_is w row e = rw (e, worded_octets) refl
 
-single_length : (w : Worded) → length (all_octets (w ∷ [])) ≡ length (worded_octets w)
+pub single_length : (w : Worded) → length (all_octets (w ∷ [])) ≡ length (worded_octets w)
 single_length w = omega (arith, length-append (worded_octets w) [])
 
 at_row : (opcode : ℕ) (signed : Bool) (args : List Argument) (r : Option Shown) → row_at opcode signed ≡ r →
@@ -216,7 +216,7 @@ at_row opcode signed args (Some row) e =
     let w : Worded = laid opcode signed args row.shape in
     single_length v ∙ (ap (λ (os : List Octet). length os) (worded_is v row e) ∙ (laid_same opcode signed args row ∙ (sym (ap (λ (os : List Octet). length os) (worded_is w row e)) ∙ sym (single_length w))))
 
-abbrev size : Option Worded → ℕ
+abbrev pub size : Option Worded → ℕ
 size o = length (all_octets (listed o))
 
 signed_at : (word : List ℕ) (args : List Argument) (o : Option ℕ) → opcode_of word args true ≡ o → size (signed_instruction word (map blurred args)) ≡ size (signed_instruction word args)
@@ -263,7 +263,7 @@ kind_same word args = rw (branch_args args) refl
 plain_full : (word : List ℕ) (args : List Argument) (form : BranchForm) (here : Value) → branch_kind word args ≡ None → in_full word args form here ≡ line word args ∷ []
 plain_full word args form here e = rw (e, in_full) refl
 
-plain_size : (word : List ℕ) (args : List Argument) (form : BranchForm) (here : Value) → branch_kind word args ≡ None → length (all_octets (instructions word args form here)) ≡ size (instruction word args)
+pub plain_size : (word : List ℕ) (args : List Argument) (form : BranchForm) (here : Value) → branch_kind word args ≡ None → length (all_octets (instructions word args form here)) ≡ size (instruction word args)
 unfolding instructions
 plain_size word args form here e =
     ap (λ (ls : List Line). length (all_octets (all_lines ls))) (plain_full word args form here e) ∙ omega (arith, lines-octets word args [])

@@ -1,6 +1,8 @@
-ghost use Rattle.std.specs.Prelude.{◌≡◌, ◌+◌, ◌≤◌, ◌<◌, ◌++◌, ◌∷◌, [], length, map, take, drop};
+ghost use Rattle.std.specs.Prelude.{◌≡◌, ℕ, ◌+◌, ◌≤◌, ◌<◌, ◌++◌, ◌∷◌, [], length, map, take, drop};
+ghost use Rattle.std.specs.List.{All};
 ghost use Rattle.arrayvec.specs.ArrayVec.{array_vec_len};
 ghost use Rattle.kc_expr.specs.declared.values.Value.{Value};
+ghost use Rattle.kc_octet.specs.Relocating.{HasRoom};
 ghost use Rattle.kc_operation.specs.Instructions as instructions;
 ghost use Rattle.kc_operation.specs.Octets as octets;
 
@@ -111,10 +113,9 @@ fn opcode_octet(form: Bytes, opcode: u8, operand: Word) -> Octet
     }
 }
 
-/// The bytes of an instruction before the bases are known, at most eight. None where its opcode has no row.
-/// (80C196KC User's Manual, "Instruction Format".)
-pub fn octets_of(worded: &Worded) -> ArrayVec<Octet, 8>
-    ensures { result.items ≡ octets.worded_octets worded.now }
+fn row_octets(worded: &Worded) -> ArrayVec<Octet, 8>
+    ensures items { result.items ≡ octets.worded_octets worded.now }
+    ensures opcode { worded.now.opcode < 256 }
 {
     let mut list = ArrayVec::new();
     let Some(row) = row_of(worded.opcode, worded.signed) else {
@@ -130,6 +131,16 @@ pub fn octets_of(worded: &Worded) -> ArrayVec<Octet, 8>
     push_operand(&mut list, layout.form, byte, worded.operand);
     push_registers(&mut list, layout.before, layout.after, worded.regs);
     list
+}
+
+/// The bytes of an instruction before the bases are known, at most eight, each number with room in its bytes. None where
+/// its opcode has no row.
+/// (80C196KC User's Manual, "Instruction Format".)
+pub fn octets_of(worded: &Worded) -> ArrayVec<Octet, 8>
+    ensures items { result.items ≡ octets.worded_octets worded.now }
+    ensures room { (place : ℕ) → All (HasRoom place) result.items }
+{
+    row_octets(worded)
 }
 
 fn octet_count(worded: &Worded) -> u16
@@ -152,7 +163,8 @@ fn total(list: &[Worded]) -> u16
 
 /// How many bytes an operation has, wherever it stands, at most seven.
 pub fn length(word: &[u8], args: &[Argument], form: Form) -> u16
-    ensures { (here : Value) → result ≡ length (octets.all_octets (instructions.instructions word.now args.now form here)) }
+    ensures count { (here : Value) → result ≡ length (octets.all_octets (instructions.instructions word.now args.now form here)) }
+    ensures most { result ≤ 7 }
 {
     let list = instructions(word, args, form, fixed(0));
     total(list.as_slice())
