@@ -113,29 +113,45 @@ laid_instruction word args signed opcode row e h k =
       opcode = k;
     }
 
+-- how the table gives an instruction for a line
+pub record IsLaid (word : List ℕ) (args : List Argument) (w : Worded) : Type 0 where
+  pub opcode : ℕ
+  pub signed : Bool
+  pub row : Shown
+  pub at : row_at opcode signed ≡ Some row
+  pub fits : is_row_for word args opcode row ≡ true
+  pub below : opcode < 256
+  pub is : laid opcode signed args row.shape ≡ w
+
 found_at : (word : List ℕ) (args : List Argument) (signed : Bool) (opcode : ℕ) (r : Option Shown) → row_at opcode signed ≡ r →
     (elim r as (λ _. Bool) [ None ↦ false | Some row ↦ is_row_for word args opcode row ]) ≡ true → opcode < 256 →
-    (w : Worded) → option_map (λ (row : Shown). laid opcode signed args row.shape) r ≡ Some w → IsInstruction word w
+    (w : Worded) → option_map (λ (row : Shown). laid opcode signed args row.shape) r ≡ Some w → IsLaid word args w
 found_at word args signed opcode None e h k w f = absurd (cc h)
-found_at word args signed opcode (Some row) e h k w f =
-    let g : laid opcode signed args row.shape ≡ w = cc f in
-    subst (λ (v : Worded). IsInstruction word v) g (laid_instruction word args signed opcode row e h k)
+found_at word args signed opcode (Some row) e h k w f = record { opcode = opcode; signed = signed; row = row; at = e; fits = h; below = k; is = cc f }
 
-at_opcode : (word : List ℕ) (args : List Argument) (signed : Bool) (opcode : ℕ) → opcode_of word args signed ≡ Some opcode → (w : Worded) → instruction_at signed args opcode ≡ Some w → IsInstruction word w
+at_opcode : (word : List ℕ) (args : List Argument) (signed : Bool) (opcode : ℕ) → opcode_of word args signed ≡ Some opcode → (w : Worded) → instruction_at signed args opcode ≡ Some w → IsLaid word args w
 at_opcode word args signed opcode e w f =
     let h : (is_opcode_for word args signed opcode ≡ true) × (opcode < 256) = opcode-passes word args signed opcode e in
     found_at word args signed opcode (row_at opcode signed) refl h.0 h.1 w f
 
 signed_found : (word : List ℕ) (args : List Argument) (o : Option ℕ) → opcode_of word args true ≡ o → (w : Worded) →
-    (elim o as (λ _. Option Worded) [ None ↦ None | Some opcode ↦ instruction_at true args opcode ]) ≡ Some w → IsInstruction word w
+    (elim o as (λ _. Option Worded) [ None ↦ None | Some opcode ↦ instruction_at true args opcode ]) ≡ Some w → IsLaid word args w
 signed_found word args None e w f = absurd (cc f)
 signed_found word args (Some opcode) e w f = at_opcode word args true opcode e w f
 
 plain_found : (word : List ℕ) (args : List Argument) (o : Option ℕ) → opcode_of word args false ≡ o → (w : Worded) →
-    (elim o as (λ _. Option Worded) [ None ↦ signed_instruction word args | Some opcode ↦ instruction_at false args opcode ]) ≡ Some w → IsInstruction word w
+    (elim o as (λ _. Option Worded) [ None ↦ signed_instruction word args | Some opcode ↦ instruction_at false args opcode ]) ≡ Some w → IsLaid word args w
 plain_found word args None e w f = signed_found word args (opcode_of word args true) refl w f
 plain_found word args (Some opcode) e w f = at_opcode word args false opcode e w f
 
-pub instruction_found : (word : List ℕ) (args : List Argument) (w : Worded) → instruction word args ≡ Some w → IsInstruction word w
+pub instruction_laid : (word : List ℕ) (args : List Argument) (w : Worded) → instruction word args ≡ Some w → IsLaid word args w
 unfolding instruction
-instruction_found word args w f = plain_found word args (opcode_of word args false) refl w f
+instruction_laid word args w f = plain_found word args (opcode_of word args false) refl w f
+
+pub instruction_found : (word : List ℕ) (args : List Argument) (w : Worded) → instruction word args ≡ Some w → IsInstruction word w
+instruction_found word args w f =
+    let l : IsLaid word args w = instruction_laid word args w f in
+    subst (λ (v : Worded). IsInstruction word v) l.is (laid_instruction word args l.signed l.opcode l.row l.at l.fits l.below)
+
+pub laid_count : (word : List ℕ) (args : List Argument) (w : Worded) (l : IsLaid word args w) → operand_count l.row.shape ≡ length args
+laid_count word args w l = same-number _ _ (both (operand_count l.row.shape == length args) _ (both (bytes_eq l.row.name word) _ l.fits).1).0

@@ -65,7 +65,7 @@ one_shape v shape opcode row h b e n =
     let p : differs v shape opcode ≡ true = rw (e, differs) o in
     not_some (differs v shape) opcode (both _ _ h).0 b p)))
 
-shape_of : (v : List ℕ) (shape : Shape) (opcode : ℕ) (signed : Bool) (row : Shown) → has_one_shape shape v ≡ true → opcode < 256 → row_at opcode signed ≡ Some row → row.name ≡ v → (signed ≡ false) × (row.shape ≡ shape)
+pub shape_of : (v : List ℕ) (shape : Shape) (opcode : ℕ) (signed : Bool) (row : Shown) → has_one_shape shape v ≡ true → opcode < 256 → row_at opcode signed ≡ Some row → row.name ≡ v → (signed ≡ false) × (row.shape ≡ shape)
 shape_of v shape opcode true row h b e n = absurd (no_signed v shape opcode row h b e n)
 shape_of v shape opcode false row h b e n = (refl, one_shape v shape opcode row h b e n)
 
@@ -145,31 +145,31 @@ two_lines : (word second : List ℕ) (args rest : List Argument) (a b : Shape) �
     length (all_octets (all_lines (line word args ∷ line second rest ∷ []))) ≡ jump_size a + jump_size b
 two_lines word second args rest a b f g i j h k = omega (arith, lines-octets word args (line second rest ∷ []), line_length word args a f i h, one_line second rest b g j k)
 
-sjmp : has_one_shape shapes.Near (codes "SJMP") ≡ true
+pub sjmp : has_one_shape shapes.Near (codes "SJMP") ≡ true
 sjmp = one_of (has_one_shape shapes.Near) Rows.near_words (codes "SJMP") Rows.near_shape refl
 
-scall : has_one_shape shapes.Near (codes "SCALL") ≡ true
+pub scall : has_one_shape shapes.Near (codes "SCALL") ≡ true
 scall = one_of (has_one_shape shapes.Near) Rows.near_words (codes "SCALL") Rows.near_shape refl
 
-ljmp : has_one_shape shapes.Far (codes "LJMP") ≡ true
+pub ljmp : has_one_shape shapes.Far (codes "LJMP") ≡ true
 ljmp = one_of (has_one_shape shapes.Far) Rows.far_words (codes "LJMP") Rows.far_shape refl
 
-lcall : has_one_shape shapes.Far (codes "LCALL") ≡ true
+pub lcall : has_one_shape shapes.Far (codes "LCALL") ≡ true
 lcall = one_of (has_one_shape shapes.Far) Rows.far_words (codes "LCALL") Rows.far_shape refl
 
 abbrev Bits : List ℕ
 Bits = 0 ∷ 1 ∷ 2 ∷ 3 ∷ 4 ∷ 5 ∷ 6 ∷ 7 ∷ []
 
-jump_shape : (w : List ℕ) (h : IsWordOf Conditional w) → has_one_shape shapes.Conditional (jump_of w) ≡ true
+pub jump_shape : (w : List ℕ) (h : IsWordOf Conditional w) → has_one_shape shapes.Conditional (jump_of w) ≡ true
 jump_shape w h = (both (has_rows shapes.Conditional (0 ∷ []) (jump_of w)) _ (both _ _ (branch_rows w h)).0).1
 
-inverse_shape : (w : List ℕ) (h : IsWordOf Conditional w) → has_one_shape shapes.Conditional (inverse_of w) ≡ true
+pub inverse_shape : (w : List ℕ) (h : IsWordOf Conditional w) → has_one_shape shapes.Conditional (inverse_of w) ≡ true
 inverse_shape w h = (both (has_rows shapes.Conditional (0 ∷ []) (inverse_of w)) _ (both _ _ (branch_rows w h)).1).1
 
-test_shape : (w : List ℕ) (h : IsWordOf BitTest w) → has_one_shape shapes.BitTest (jump_of w) ≡ true
+pub test_shape : (w : List ℕ) (h : IsWordOf BitTest w) → has_one_shape shapes.BitTest (jump_of w) ≡ true
 test_shape w h = (both (has_rows shapes.BitTest Bits (jump_of w)) _ (both _ _ (test_rows w h)).0).1
 
-inverse_test_shape : (w : List ℕ) (h : IsWordOf BitTest w) → has_one_shape shapes.BitTest (inverse_of w) ≡ true
+pub inverse_test_shape : (w : List ℕ) (h : IsWordOf BitTest w) → has_one_shape shapes.BitTest (inverse_of w) ≡ true
 inverse_test_shape w h = (both (has_rows shapes.BitTest Bits (inverse_of w)) _ (both _ _ (test_rows w h)).1).1
 
 pub branch_size : (kind : BranchKind) (w : List ℕ) (args : List Argument) (form : Form) (here : Value) → IsWordOf kind w → AllFound (branch_lines kind w args form here) →

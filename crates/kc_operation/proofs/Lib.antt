@@ -10,3 +10,5 @@ pub mod Operations
 pub mod Lengths
 pub mod Stays
 pub mod Most
+pub mod Evens
+pub mod Pointers

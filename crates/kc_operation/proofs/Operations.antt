@@ -103,7 +103,7 @@ two_or_three w args t (inr h) = found_among w args shapes.FourTwo Modes (one_of 
 abbrev Zero : List ℕ
 Zero = 0 ∷ []
 
-single : (w v : List ℕ) → bytes_eq w v ≡ true → is_one_of (v ∷ []) w ≡ true
+pub single : (w v : List ℕ) → bytes_eq w v ≡ true → is_one_of (v ∷ []) w ≡ true
 single w v h = rw h refl
 
 -- NORML, CMPL, BMOV and BMOVI have two registers, DJNZ and DJNZW a register and a target
@@ -133,7 +133,7 @@ pair_found : (w : List ℕ) (args : List Argument) → (is_one_of Rows.pair_word
 pair_found w args (inl t) h = found_among w args shapes.Two Zero (one_of (has_rows shapes.Two Zero) Rows.pair_words w Rows.pair_rows t) h refl
 pair_found w args (inr t) h = found_among w args shapes.Loop Zero (one_of (has_rows shapes.Loop Zero) Rows.loop_words w Rows.loop_rows t) h refl
 
-choose : (t : Bool) (o : Operands) (rest : Option Operands) (form : Operands) (P : Type 0) → (if t then Some o else rest) ≡ Some form → (t ≡ true → o ≡ form → P) → (rest ≡ Some form → P) → P
+pub choose : (t : Bool) (o : Operands) (rest : Option Operands) (form : Operands) (P : Type 0) → (if t then Some o else rest) ≡ Some form → (t ≡ true → o ≡ form → P) → (rest ≡ Some form → P) → P
 choose true o rest form P h f g = f refl (cc h)
 choose false o rest form P h f g = g h
 
@@ -255,7 +255,7 @@ form_takes w args form e = rw (e, is_operation) refl
 no_form : (w : List ℕ) → operands_of w ≡ None → generic_operands_of w ≡ None → operands_for w ≡ None
 no_form w e f = rw (e, operands_for) f
 
-some_form : (w : List ℕ) (form : Operands) → operands_of w ≡ Some form → operands_for w ≡ Some form
+pub some_form : (w : List ℕ) (form : Operands) → operands_of w ≡ Some form → operands_for w ≡ Some form
 some_form w form e = rw (e, operands_for) refl
 
 with_operands : (w : List ℕ) (args : List Argument) (o : Option Operands) → operands_of w ≡ o → branch_kind w args ≡ None → is_operation w args ≡ true → IsFound w args

@@ -227,3 +227,7 @@ tested_words = codes "BBC" ∷ codes "BBS" ∷ []
 pub tested_rows : list_all (is_branch_row BitTest (0 ∷ 1 ∷ 2 ∷ 3 ∷ 4 ∷ 5 ∷ 6 ∷ 7 ∷ [])) tested_words ≡ true
 unfolding has_row has_one_shape least row_at plain_entry jump_of inverse_of
 tested_rows = refl
+
+pub branch_shape : list_all (has_one_shape One) branch_words ≡ true
+unfolding has_one_shape least row_at plain_entry
+branch_shape = refl

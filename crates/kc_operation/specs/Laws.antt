@@ -1,5 +1,5 @@
 -- What the definitions of this crate owe each other.
-use Rattle.std.specs.Prelude.{◌≡◌, ℕ, true, ◌+◌, ◌<◌, Option, Some, None, List, [], ◌∷◌, length, map}
+use Rattle.std.specs.Prelude.{◌≡◌, ℕ, true, ◌+◌, ◌%◌, ◌<◌, Option, Some, None, List, [], ◌∷◌, length, map}
 use Rattle.kc_expr.specs.declared.values.Value.{Value}
 use Rattle.kc_code.specs.Spelling.{spelling}
 use Rattle.kc_relocation.specs.Numbers.{Bases}
@@ -11,9 +11,10 @@ use Rattle.kc_operation.specs.declared.word.Worded.{Worded}
 use Rattle.kc_operation.specs.Takes.{is_operation}
 use Rattle.kc_operation.specs.Branches.{branch_kind, branch_length, in_full}
 use Rattle.kc_operation.specs.Instructions.{instructions}
+use Rattle.kc_operation.specs.Faults.{fault_of}
 use Rattle.kc_operation.specs.Words.{insn_of}
 use Rattle.kc_operation.specs.Octets.{worded_octets, all_octets}
-use Rattle.kc_operation.specs.Suits.{IsInstruction, AreInstructions, IsSettled, IsSound}
+use Rattle.kc_operation.specs.Suits.{IsInstruction, AreInstructions, IsSettled, IsSound, IsEven, HasWords, EachOf, AllWords}
 use Rattle.kc_operation.specs.Pairs.{IsPaired}
 use Rattle.kc_operation.specs.Blurred.{blurred}
 
@@ -45,3 +46,12 @@ BranchesHaveLengths = (word : List ℕ) (args : List Argument) (form : Form) (he
 -- the bytes of a number stand together
 abbrev pub OctetsArePaired : Type 0
 OctetsArePaired = (word : List ℕ) (args : List Argument) (form : Form) (here : Value) → IsPaired (all_octets (instructions word args form here))
+
+-- where the operands have no fault, the registers of pointers and indices are even: the bases of pieces are
+abbrev pub PointersAreEven : Type 0
+PointersAreEven = (bases : Bases) (word : List ℕ) (args : List Argument) (form : Form) (here : Value) → is_operation word args ≡ true → fault_of word args ≡ None →
+    ((p : ℕ) → bases.piece p % 2 ≡ 0) → EachOf (λ w. IsEven bases w.operand) (instructions word args form here)
+
+-- the numbers of instructions are words where those of the operands are
+abbrev pub NumbersAreWords : Type 0
+NumbersAreWords = (word : List ℕ) (args : List Argument) (form : Form) (here : Value) → AllWords args → EachOf (λ w. HasWords w.operand) (instructions word args form here)

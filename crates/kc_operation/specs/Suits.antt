@@ -1,6 +1,6 @@
 -- When an instruction with values is one of the table, and when its numbers have room in its bytes (80C196KC User's Manual,
 -- "Addressing Modes" and "Instruction Format").
-use Rattle.std.specs.Prelude.{◌≡◌, ℕ, Bool, true, false, ◌+◌, ◌%◌, ◌<◌, ◌==◌, Some, List, [], ◌∷◌, drop, length, FitsSigned}
+use Rattle.std.specs.Prelude.{◌≡◌, ℕ, Bool, true, false, ◌+◌, ◌%◌, ◌<◌, ◌==◌, Option, Some, None, List, [], ◌∷◌, drop, length, FitsSigned}
 use Rattle.std.specs.Int.{w8}
 use Rattle.kc_isa.specs.declared.layout.Form.{Form}
 use Rattle.kc_isa.specs.declared.layout.Form.TheVariants.{NoOperand, Mode, ShiftCount, Distance11, Distance8, Distance16, OneByte}
@@ -14,6 +14,9 @@ use Rattle.kc_relocation.specs.Numbers.{Bases, number, reach, fits}
 use Rattle.kc_octet.specs.declared.octet.Octet.{Octet}
 use Rattle.kc_octet.specs.declared.octet.Octet.TheVariants as octets
 use Rattle.kc_octet.specs.Filling.{address}
+use Rattle.kc_expr.specs.declared.values.Value.{Value}
+use Rattle.kc_operation.specs.declared.argument.Argument.{Argument}
+use Rattle.kc_operation.specs.declared.argument.Argument.TheVariants as arguments
 use Rattle.kc_operation.specs.declared.word.Word.{Word}
 use Rattle.kc_operation.specs.declared.word.Word.TheVariants.{Absent, Register, Immediate, Indirect, Increment, Short, Long, Count, Jump}
 use Rattle.kc_operation.specs.declared.word.Worded.{Worded}
@@ -99,3 +102,24 @@ pub record IsSound (i : Insn) : Type 0 where
   pub formed : is_formed i ≡ true
   pub in_range : is_in_range i ≡ true
   pub has : InsnHas i
+
+-- so much holds of each instruction
+abbrev pub EachOf : (Worded → Type 0) → List Worded → Type 0
+EachOf P [] = Unit {0}
+EachOf P (w ∷ ws) = P w × EachOf P ws
+
+-- the values of operands are words
+abbrev pub IsWord : Option Value → Type 0
+IsWord None = Unit {0}
+IsWord (Some v) = v.number < 65536
+
+abbrev pub AreWords : Argument → Type 0
+AreWords (arguments.Plain x) = IsWord x
+AreWords (arguments.Immediate x) = IsWord x
+AreWords (arguments.Indirect r) = IsWord r
+AreWords (arguments.Increment r) = IsWord r
+AreWords (arguments.Indexed x r) = IsWord x × IsWord r
+
+abbrev pub AllWords : List Argument → Type 0
+AllWords [] = Unit {0}
+AllWords (a ∷ args) = AreWords a × AllWords args

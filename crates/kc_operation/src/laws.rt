@@ -1,4 +1,4 @@
-ghost use Rattle.kc_operation.specs.Laws.{BranchesHaveLengths, FilledIsSpelled, LengthStays, OctetsArePaired, OperationsAreInstructions, SettledIsSound};
+ghost use Rattle.kc_operation.specs.Laws.{BranchesHaveLengths, FilledIsSpelled, LengthStays, NumbersAreWords, OctetsArePaired, OperationsAreInstructions, PointersAreEven, SettledIsSound};
 
 /// Once the bases are known, the bytes of an instruction spell it.
 pub fn filled_is_spelled()
@@ -28,4 +28,14 @@ pub fn branches_have_lengths()
 /// How many bytes an operation has depends neither on its place nor on numbers that are not fixed.
 pub fn length_stays()
     ensures { LengthStays }
+{}
+
+/// The numbers of instructions are words where those of the operands are.
+pub fn numbers_are_words()
+    ensures { NumbersAreWords }
+{}
+
+/// Where the operands of an operation have no fault, the registers of its pointers and indices are even.
+pub fn pointers_are_even()
+    ensures { PointersAreEven }
 {}
