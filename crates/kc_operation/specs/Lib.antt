@@ -5,9 +5,3 @@ pub mod Opcodes
 pub mod Branches
 pub mod Instructions
 pub mod Faults
-pub mod Words
-pub mod Octets
-pub mod Suits
-pub mod Pairs
-pub mod Blurred
-pub mod Laws

@@ -17,7 +17,7 @@ pub enum Argument {
 }
 
 /// A number that counts from nothing.
-pub(crate) fn fixed(number: u16) -> Value
+pub fn fixed(number: u16) -> Value
     ensures { result ≡ values.fixed number }
 {
     Value {
@@ -28,7 +28,7 @@ pub(crate) fn fixed(number: u16) -> Value
 }
 
 /// Some bytes behind a value, modulo 65536.
-pub(crate) fn moved(value: Value, count: u16) -> Value
+pub fn moved(value: Value, count: u16) -> Value
     ensures { result ≡ values.moved value count }
 {
     Value {
