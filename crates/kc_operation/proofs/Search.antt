@@ -25,4 +25,3 @@ least_none p n k h = let f : n - k ≡ 0 = omega arith in rw f refl
 pub opcode_from : (word : List ℕ) (args : List Argument) (signed : Bool) → opcode_of word args signed ≡ least (is_opcode_for word args signed) (256 - 0) 0
 unfolding opcode_of
 opcode_from word args signed = refl
-

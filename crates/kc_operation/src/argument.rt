@@ -113,13 +113,7 @@ pub(crate) fn mode(argument: Argument) -> u8
     ensures { result ≡ sources.mode argument }
 {
     match argument {
-        Argument::Plain(value) => {
-            if is_direct(value) {
-                0
-            } else {
-                3
-            }
-        }
+        Argument::Plain(value) => { if is_direct(value) { 0 } else { 3 } }
         Argument::Immediate(_) => 1,
         Argument::Indirect(_) | Argument::Increment(_) => 2,
         Argument::Indexed(..) => 3,

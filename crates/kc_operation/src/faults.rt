@@ -2,7 +2,7 @@ ghost use Rattle.std.specs.Prelude.{◌≡◌};
 ghost use Rattle.kc_operation.specs.Faults as faults;
 ghost use Rattle.kc_operation.specs.Takes as takes;
 
-use crate::argument::{Argument, operand_at, is_fixed};
+use crate::argument::{Argument, is_fixed, operand_at};
 use kc_expr::{Base, Value};
 use kc_lex::Operands;
 use kc_lex::words::{generic_operands_of, operands_of};

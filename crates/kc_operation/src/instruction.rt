@@ -3,7 +3,7 @@ ghost use Rattle.arrayvec.specs.ArrayVec.{array_vec_len};
 ghost use Rattle.kc_operation.specs.Branches as branches;
 ghost use Rattle.kc_operation.specs.Instructions as instructions;
 
-use crate::argument::{Argument, operand_at, fixed, moved, source, value_of};
+use crate::argument::{Argument, fixed, moved, operand_at, source, value_of};
 use crate::branch::{BranchKind, Form, branch_kind, branch_length, inverse_of, jump_of};
 use crate::opcode::{opcode_of, source_of};
 use crate::word::{Word, Worded};
@@ -35,12 +35,8 @@ fn regs_for(shape: Shape, args: &[Argument]) -> [Value; 3]
     let third = value_of(operand_at(args, 2));
     let rest = fixed(0);
     match shape {
-        Shape::Nothing
-        | Shape::Four
-        | Shape::Near
-        | Shape::Conditional
-        | Shape::Far
-        | Shape::Key => [rest, rest, rest],
+        Shape::Nothing | Shape::Four | Shape::Near | Shape::Conditional | Shape::Far | Shape::Key =>
+            [rest, rest, rest],
         Shape::One
         | Shape::FourOne
         | Shape::Exchange

@@ -14,3 +14,6 @@ pub use branch::{BranchKind, Form, branch_kind, branch_length};
 pub use faults::fault;
 pub use instruction::instructions;
 pub use word::{Word, Worded};
+
+#[cfg(test)]
+mod tests;

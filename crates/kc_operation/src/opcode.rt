@@ -10,12 +10,7 @@ pub(crate) fn operand_count(shape: Shape) -> usize
 {
     match shape {
         Shape::Nothing => 0,
-        Shape::One
-        | Shape::Four
-        | Shape::Near
-        | Shape::Conditional
-        | Shape::Far
-        | Shape::Key => 1,
+        Shape::One | Shape::Four | Shape::Near | Shape::Conditional | Shape::Far | Shape::Key => 1,
         Shape::Two | Shape::FourOne | Shape::Exchange | Shape::CountOne | Shape::Loop => 2,
         Shape::FourTwo | Shape::BitTest | Shape::TableJump => 3,
     }

@@ -93,10 +93,19 @@ prefix_most false = omega arith
 instruction_most : (word : List ℕ) (w : Worded) → IsInstruction word w → (length (worded_octets w) ≤ 7) × (0 < length (worded_octets w))
 instruction_most word w h =
     let l : Layout = layout_of h.row.shape in
-    let e : length (worded_octets w) ≡ length (row_octets w h.row) = ap (λ (os : List Octet). length os) (octets_are word w h) in
-    (omega (arith, e, row_length w h.row, parts_length l (is_byte h.row.width) w.opcode w.signed w.operand w.regs, taken_most l.before w.regs, taken_most l.after (drop l.before w.regs),
-    parts_most h.row.shape (is_byte h.row.width) w.opcode w.operand h.operand, prefix_most w.signed),
-    omega (arith, e, row_length w h.row))
+    let e : length (worded_octets w) ≡ length (row_octets w h.row) = ap (λ (os : List Octet). length os) (octets_are word w h) in (
+      omega (
+        arith,
+        e,
+        row_length w h.row,
+        parts_length l (is_byte h.row.width) w.opcode w.signed w.operand w.regs,
+        taken_most l.before w.regs,
+        taken_most l.after (drop l.before w.regs),
+        parts_most h.row.shape (is_byte h.row.width) w.opcode w.operand h.operand,
+        prefix_most w.signed,
+      ),
+      omega (arith, e, row_length w h.row),
+    )
 
 found_most : (word : List ℕ) (args : List Argument) (o : Option Worded) → instruction word args ≡ o → size o ≤ 7
 found_most word args None e = omega arith
@@ -236,10 +245,11 @@ room_row place w row b e =
     let F : List Octet = map byte_of (take l.before w.regs) in
     let O : List Octet = operand_octets l.form byte w.operand in
     let B : List Octet = map byte_of (take l.after (drop l.before w.regs)) in
-    rooms-append place (map Plain (prefix w.signed)) (opcode_octet l.form w.opcode w.operand ∷ (F ++ (O ++ B))) (room_plain place (prefix w.signed))
-    (room_opcode place l.form w.opcode w.operand (λ h. near_small w.opcode w.signed row b e (high_is_near row.shape h)),
-    rooms-append place F (O ++ B) (room_bytes place (take l.before w.regs))
-    (rooms-append place O B (room_operand place l.form byte w.operand) (room_bytes place (take l.after (drop l.before w.regs)))))
+    rooms-append place (map Plain (prefix w.signed)) (opcode_octet l.form w.opcode w.operand ∷ (F ++ (O ++ B))) (room_plain place (prefix w.signed)) (
+      room_opcode place l.form w.opcode w.operand (λ h. near_small w.opcode w.signed row b e (high_is_near row.shape h)),
+      rooms-append place F (O ++ B) (room_bytes place (take l.before w.regs))
+          (rooms-append place O B (room_operand place l.form byte w.operand) (room_bytes place (take l.after (drop l.before w.regs)))),
+    )
 
 room_at : (place : ℕ) (w : Worded) (r : Option Shown) → w.opcode < 256 → row_at w.opcode w.signed ≡ r → HaveRoom place (worded_octets w)
 room_at place w None b e = rw (e, worded_octets) tt

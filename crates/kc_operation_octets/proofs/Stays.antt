@@ -183,8 +183,11 @@ parts l byte opcode signed o regs = let w : Worded = record { opcode = opcode; s
 pub parts_length : (l : Layout) (byte : Bool) (opcode : ℕ) (signed : Bool) (o : Word) (regs : List Value) →
     length (parts l byte opcode signed o regs) ≡ length (map byte_of (take l.before regs)) + (length (operand_octets l.form byte o) + length (map byte_of (take l.after (drop l.before regs))))
 parts_length l byte opcode signed o regs =
-    omega (arith, length-append (map byte_of (take l.before regs)) (operand_octets l.form byte o ++ map byte_of (take l.after (drop l.before regs))),
-    length-append (operand_octets l.form byte o) (map byte_of (take l.after (drop l.before regs))))
+    omega (
+      arith,
+      length-append (map byte_of (take l.before regs)) (operand_octets l.form byte o ++ map byte_of (take l.after (drop l.before regs))),
+      length-append (operand_octets l.form byte o) (map byte_of (take l.after (drop l.before regs))),
+    )
 
 pub row_length : (w : Worded) (row : Shown) → length (row_octets w row) ≡ length (map octets.Plain (prefix w.signed)) + (1 + length (laid_octets (layout_of row.shape) (is_byte row.width) w))
 row_length w row = omega (arith, length-append (map octets.Plain (prefix w.signed)) (opcode_octet (layout_of row.shape).form w.opcode w.operand ∷ laid_octets (layout_of row.shape) (is_byte row.width) w))
@@ -199,8 +202,16 @@ laid_same opcode signed args row =
     let r : List Value = regs_for row.shape args in
     let s : List Value = regs_for row.shape (map blurred args) in
     let e : length s ≡ length r = three_for row.shape (map blurred args) ∙ sym (three_for row.shape args) in
-    omega (arith, row_length (laid opcode signed args row.shape) row, row_length (laid opcode signed (map blurred args) row.shape) row,
-    parts_length l byte opcode signed o r, parts_length l byte opcode signed p s, taken l.before s r e, behind l.before l.after s r e, operand_same row.shape args l.form byte)
+    omega (
+      arith,
+      row_length (laid opcode signed args row.shape) row,
+      row_length (laid opcode signed (map blurred args) row.shape) row,
+      parts_length l byte opcode signed o r,
+      parts_length l byte opcode signed p s,
+      taken l.before s r e,
+      behind l.before l.after s r e,
+      operand_same row.shape args l.form byte,
+    )
 
 worded_is : (w : Worded) (row : Shown) → row_at w.opcode w.signed ≡ Some row → worded_octets w ≡ row_octets w row
 worded_is w row e = rw (e, worded_octets) refl
