@@ -1,8 +1,8 @@
 -- The least number that passes a test.
-use Rattle.std.proofs.Common.{◌≡◌, ◌≢◌, ℕ, zero, suc, ◌+◌, ◌-◌, ◌<◌, ◌≤◌, Bool, true, false, refl, sym, subst, ◌∙◌, Option, Some, None, arith}
+use Rattle.std.proofs.Common.{◌≡◌, ℕ, suc, ◌+◌, ◌-◌, ◌<◌, Bool, true, false, refl, Some, None, arith}
 use Rattle.kc_operation.specs.Opcodes.{least, opcode_of, is_opcode_for}
 use Rattle.kc_operation.specs.declared.argument.Argument.{Argument}
-use Rattle.std.specs.Prelude.{List, if◌then◌else◌}
+use Rattle.std.specs.Prelude.{List}
 
 least_more : (p : ℕ → Bool) (m k : ℕ) → p k ≡ false → least p (suc m) k ≡ least p m (k + 1)
 unfolding least

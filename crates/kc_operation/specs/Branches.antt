@@ -6,7 +6,7 @@ use Rattle.std.specs.Str.{bytes_eq}
 use Rattle.kc_expr.specs.declared.values.Value.{Value}
 use Rattle.kc_lex.specs.Words.{is_one_of, is_generic_conditional}
 use Rattle.kc_operation.specs.declared.argument.Argument.{Argument}
-use Rattle.kc_operation.specs.declared.argument.Argument.TheVariants.{Plain, Immediate, Indirect, Increment, Indexed}
+use Rattle.kc_operation.specs.declared.argument.Argument.TheVariants.{Plain}
 use Rattle.kc_operation.specs.declared.branch.Form.{Form}
 use Rattle.kc_operation.specs.declared.branch.Form.TheVariants.{First, Second, Third}
 use Rattle.kc_operation.specs.declared.branch.BranchKind.{BranchKind}

@@ -1,13 +1,13 @@
 -- Faults of operands: 10 where the number of a bit or of shifts is not fixed; 12 where a bit is over 7, a count over 15, or where
 -- S has a pointer or an index whose number is odd or that is an external, since the low bit of its byte has a meaning of its own
 -- (after the MCS-96 Macro Assembler User's Guide, "Operands"; the codes are this kit's own).
-use Rattle.std.specs.Prelude.{ℕ, Bool, true, false, not, ◌%◌, ◌==◌, ◌||◌, nat_lt, if◌then◌else◌, Option, Some, None, List, [], ◌∷◌}
+use Rattle.std.specs.Prelude.{ℕ, not, ◌%◌, ◌==◌, ◌||◌, nat_lt, if◌then◌else◌, Option, Some, None, List, [], ◌∷◌}
 use Rattle.kc_expr.specs.declared.values.Value.{Value}
 use Rattle.kc_lex.specs.declared.words.Operands.{Operands}
 use Rattle.kc_lex.specs.declared.words.Operands.TheVariants as operands
 use Rattle.kc_operation.specs.declared.argument.Argument.{Argument}
 use Rattle.kc_operation.specs.declared.argument.Argument.TheVariants.{Plain, Immediate, Indirect, Increment, Indexed}
-use Rattle.kc_operation.specs.Values.{is_fixed, is_external, argument, value_of}
+use Rattle.kc_operation.specs.Values.{is_fixed, is_external, argument}
 use Rattle.kc_operation.specs.Takes.{operands_for}
 
 -- a number that has to be fixed, and is at most a bound

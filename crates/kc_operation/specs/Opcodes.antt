@@ -1,7 +1,7 @@
 -- The opcode of an instruction as it is written: told from the instruction table alone. It is the first opcode, of those
 -- behind FEH where no other is, whose row has the mnemonic, as many operands, and the mode of S or the number of the bit
 -- in its low bits (80C196KC User's Manual, "Opcode Map").
-use Rattle.std.specs.Prelude.{ℕ, zero, suc, Bool, true, false, ◌+◌, ◌-◌, ◌%◌, ◌==◌, ◌&&◌, if◌then◌else◌, Option, Some, None, List, length}
+use Rattle.std.specs.Prelude.{ℕ, zero, suc, Bool, false, ◌+◌, ◌-◌, ◌%◌, ◌==◌, ◌&&◌, if◌then◌else◌, Option, Some, None, List, length}
 use Rattle.std.specs.Str.{bytes_eq}
 use Rattle.kc_isa.specs.declared.table.Shape.{Shape}
 use Rattle.kc_isa.specs.declared.table.Shape.TheVariants.{Nothing, One, Two, Four, FourOne, FourTwo, Exchange, CountOne, Near, Conditional, BitTest, Loop, TableJump, Far, Key}

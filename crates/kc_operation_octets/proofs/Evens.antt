@@ -1,35 +1,24 @@
 -- Pointers are even, and numbers are words.
-use Rattle.std.proofs.Common.{◌≡◌, ◌≢◌, ℕ, zero, suc, ◌+◌, ◌-◌, ◌%◌, ◌<◌, Bool, true, false, List, [], ◌∷◌, ◌++◌, length, map, refl, sym, ap, ◌∙◌, subst, Option, Some, None, arith}
-use Rattle.std.specs.Prelude.{◌==◌, ◌||◌, not, if◌then◌else◌, FitsSigned, codes}
-use Rattle.std.specs.Str.{bytes_eq}
+use Rattle.std.proofs.Common.{◌≡◌, ℕ, zero, suc, ◌%◌, ◌<◌, Bool, true, false, List, [], ◌∷◌, ◌++◌, refl, subst, Option, Some, None, arith}
+use Rattle.std.specs.Prelude.{FitsSigned}
 use Rattle.std.specs.Int.{w8, cast_signed}
 use Rattle.std.proofs.lemmas.Int.{ints}
-use Rattle.std.proofs.lemmas.Bool.Decides.{Decides-eqb}
-use Rattle.kc_expr.specs.declared.values.Base.{Base}
-use Rattle.kc_expr.specs.declared.values.Base.TheVariants.{Fixed, Absolute, Piece, External}
 use Rattle.kc_expr.specs.declared.values.Value.{Value}
 use Rattle.kc_isa.specs.declared.table.Shape.{Shape}
 use Rattle.kc_isa.specs.declared.table.Shape.TheVariants as shapes
-use Rattle.kc_lex.specs.declared.words.Operands.{Operands}
-use Rattle.kc_lex.specs.declared.words.Operands.TheVariants as operands
-use Rattle.kc_lex.specs.Words.{operands_of, generic_operands_of}
-use Rattle.kc_relocation.specs.Numbers.{Bases}
-use Rattle.kc_octet.specs.Filling.{base_address, address}
 use Rattle.kc_operation.specs.declared.argument.Argument.{Argument}
 use Rattle.kc_operation.specs.declared.argument.Argument.TheVariants.{Plain, Immediate, Indirect, Increment, Indexed}
 use Rattle.kc_operation.specs.declared.branch.Form.{Form}
 use Rattle.kc_operation.specs.declared.branch.Form.TheVariants.{First, Second, Third}
 use Rattle.kc_operation.specs.declared.branch.BranchKind.{BranchKind}
 use Rattle.kc_operation.specs.declared.branch.BranchKind.TheVariants.{Jump, Call, Conditional, BitTest}
-use Rattle.kc_operation.specs.declared.word.Word.{Word}
 use Rattle.kc_operation.specs.declared.word.Worded.{Worded}
-use Rattle.kc_operation.specs.Values.{fixed, or_zero, is_external, is_direct, is_short, argument, value_of, moved}
+use Rattle.kc_operation.specs.Values.{or_zero, is_direct, is_short, argument, value_of}
 use Rattle.kc_operation.specs.Sources.{plain_source, indexed_source, source}
-use Rattle.kc_operation.specs.Opcodes.{operand_count, source_of}
-use Rattle.kc_operation.specs.Branches.{Line, line, tested, over, branch_kind, branch_lines, jump_of, inverse_of, in_full}
-use Rattle.kc_operation.specs.Instructions.{operand_for, laid, instruction, listed, all_lines, instructions}
-use Rattle.kc_operation_octets.specs.Suits.{IsEven, HasWords, EachOf, IsWord, AreWords, AllWords}
-use Rattle.kc_operation_octets.proofs.Found.{IsLaid, instruction_laid, laid_count}
+use Rattle.kc_operation.specs.Branches.{Line, line, over, branch_kind, branch_lines, in_full}
+use Rattle.kc_operation.specs.Instructions.{operand_for, instruction, listed, all_lines, instructions}
+use Rattle.kc_operation_octets.specs.Suits.{HasWords, EachOf, IsWord, AreWords, AllWords}
+use Rattle.kc_operation_octets.proofs.Found.{IsLaid, instruction_laid}
 
 -- ---- what holds of the operands of each line holds of its instruction
 

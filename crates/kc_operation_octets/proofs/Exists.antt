@@ -1,11 +1,10 @@
 -- The table has a row for each line that a test found.
-use Rattle.std.proofs.Common.{◌≡◌, ◌≢◌, ℕ, zero, suc, ◌+◌, ◌%◌, ◌<◌, ◌≤◌, Bool, true, false, List, [], ◌∷◌, length, refl, sym, ap, ◌∙◌, subst, Option, Some, None, arith}
+use Rattle.std.proofs.Common.{◌≡◌, ℕ, zero, suc, ◌+◌, ◌%◌, ◌<◌, Bool, true, false, List, [], ◌∷◌, length, refl, sym, ap, ◌∙◌, subst, Option, Some, None, arith}
 use Rattle.std.specs.Prelude.{◌==◌, ◌&&◌, ◌||◌, not, is_some, if◌then◌else◌}
 use Rattle.std.specs.List.{list_all, list_any}
 use Rattle.std.specs.Str.{bytes_eq}
 use Rattle.std.specs.Option.{option_map}
 use Rattle.std.proofs.lemmas.Slice.Eq.{bytes_eq-Decides}
-use Rattle.std.proofs.lemmas.Bool.Decides.{Decides-eqb}
 use Rattle.kc_expr.specs.declared.values.Value.{Value}
 use Rattle.kc_isa.specs.declared.table.Shape.{Shape}
 use Rattle.kc_isa.specs.declared.table.Shape.TheVariants.{Nothing, One, Two, Four, FourOne, FourTwo, Exchange, CountOne, Near, Conditional, BitTest, Loop, TableJump, Far, Key}
@@ -19,9 +18,9 @@ use Rattle.kc_operation.specs.Sources.{mode}
 use Rattle.kc_operation.specs.Takes.{is_plain, is_immediate, is_indexed}
 use Rattle.kc_operation.specs.Opcodes.{operand_count, low_bits, wanted_bits, is_row_for, is_opcode_for, least, opcode_of}
 use Rattle.kc_operation.specs.Instructions.{laid, instruction_at, signed_instruction, instruction}
-use Rattle.kc_operation_octets.proofs.Search.{least-passes, least-finds, opcode-passes, opcode-finds}
+use Rattle.kc_operation_octets.proofs.Search.{least-passes, opcode-passes, opcode-finds}
 use Rattle.kc_operation_octets.proofs.Found.{both, same-number, test-number}
-use Rattle.kc_operation_octets.proofs.Rows.{shape_number, is_row, matches, has_row, has_rows, is_other, differs, is_signed, has_one_shape}
+use Rattle.kc_operation_octets.proofs.Rows.{shape_number, is_row, matches, has_row, has_rows}
 
 shape_from : ℕ → Shape
 shape_from zero = Nothing

@@ -1,6 +1,5 @@
 -- The filled bytes of an instruction are its spelling under the bases.
-use Rattle.std.proofs.Common.{◌≡◌, ℕ, ◌+◌, ◌%◌, ◌/◌, ◌<◌, Bool, true, false, List, [], ◌∷◌, ◌++◌, length, take, drop, map, refl, sym, ap, ◌∙◌, subst, zero-add, length-append, arith}
-use Rattle.std.proofs.lemmas.List.{take-map, drop-map}
+use Rattle.std.proofs.Common.{◌≡◌, ℕ, ◌+◌, ◌%◌, ◌<◌, Bool, true, false, List, [], ◌∷◌, ◌++◌, length, map, refl, ap, ◌∙◌, subst, zero-add, arith}
 use Rattle.std.specs.Int.{w8, w16, cast_signed, cast_unsigned}
 use Rattle.std.proofs.lemmas.Int.{of_z-to_z}
 use Rattle.kc_expr.specs.declared.values.Base.{Base}
@@ -8,7 +7,6 @@ use Rattle.kc_expr.specs.declared.values.Base.TheVariants.{Fixed, Absolute, Piec
 use Rattle.kc_expr.specs.declared.values.Value.{Value}
 use Rattle.kc_isa.specs.declared.layout.Form.{Form}
 use Rattle.kc_isa.specs.declared.layout.Form.TheVariants.{NoOperand, Mode, ShiftCount, Distance11, Distance8, Distance16, OneByte}
-use Rattle.kc_isa.specs.declared.layout.Layout.{Layout}
 use Rattle.kc_code.specs.Spelling.{word, operand_bytes, high_bits}
 use Rattle.kc_relocation.specs.Numbers.{Bases, distance, number, first_part, second_part, fits}
 use Rattle.kc_octet.specs.declared.octet.Octet.{Octet}
@@ -18,7 +16,7 @@ use Rattle.kc_operation.specs.declared.word.Word.{Word}
 use Rattle.kc_operation.specs.declared.word.Word.TheVariants.{Absent, Register, Immediate, Indirect, Increment, Short, Long, Count, Jump}
 use Rattle.kc_operation.specs.Values.{moved}
 use Rattle.kc_operation_octets.specs.Words.{operand_of}
-use Rattle.kc_operation_octets.specs.Octets.{byte_of, word_of, immediate_octets, jump_octets, operand_octets, opcode_octet}
+use Rattle.kc_operation_octets.specs.Octets.{byte_of, word_of, operand_octets, opcode_octet}
 use Rattle.kc_operation_octets.specs.Suits.{FitsAt, AllFit, IsEven, HasWords}
 
 pub filled-append : (b : Bases) (xs ys : List Octet) (a : ℕ) → filled b a (xs ++ ys) ≡ filled b a xs ++ filled b (a + length xs) ys

@@ -1,5 +1,5 @@
 -- What the table gives for a line is an instruction of it.
-use Rattle.std.proofs.Common.{◌≡◌, ℕ, ◌+◌, ◌-◌, ◌%◌, ◌<◌, Bool, true, false, List, [], ◌∷◌, length, drop, refl, sym, subst, ◌∙◌, Option, Some, None, arith}
+use Rattle.std.proofs.Common.{◌≡◌, ℕ, ◌+◌, ◌%◌, ◌<◌, Bool, true, false, List, length, drop, refl, subst, Option, Some, None}
 use Rattle.std.specs.Prelude.{◌==◌, ◌&&◌, if◌then◌else◌}
 use Rattle.std.specs.Option.{option_map}
 use Rattle.std.specs.Str.{bytes_eq}
@@ -12,9 +12,8 @@ use Rattle.kc_isa.specs.Layout.{layout_of}
 use Rattle.kc_expr.specs.declared.values.Value.{Value}
 use Rattle.kc_operation.specs.declared.argument.Argument.{Argument}
 use Rattle.kc_operation.specs.declared.argument.Argument.TheVariants.{Plain, Immediate, Indirect, Increment, Indexed}
-use Rattle.kc_operation.specs.declared.word.Word.TheVariants as words
 use Rattle.kc_operation.specs.declared.word.Worded.{Worded}
-use Rattle.kc_operation.specs.Values.{fixed, or_zero, is_direct, is_short, argument, value_of, bit_of}
+use Rattle.kc_operation.specs.Values.{is_direct, is_short}
 use Rattle.kc_operation.specs.Sources.{mode, source, plain_source, indexed_source}
 use Rattle.kc_operation.specs.Opcodes.{operand_count, source_of, low_bits, wanted_bits, is_row_for, is_opcode_for, opcode_of}
 use Rattle.kc_operation.specs.Instructions.{operand_for, regs_for, no_regs, laid, instruction_at, signed_instruction, instruction}

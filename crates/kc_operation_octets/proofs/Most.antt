@@ -1,8 +1,8 @@
 -- An instruction has at most seven bytes, and its numbers have room in them.
-use Rattle.std.proofs.Common.{◌≡◌, ℕ, zero, suc, ◌+◌, ◌/◌, ◌%◌, ◌<◌, ◌≤◌, Bool, true, false, List, [], ◌∷◌, ◌++◌, length, take, drop, map, refl, sym, ap, ◌∙◌, subst, length-append, length-take, min, Option, Some, None, arith, zero-add}
+use Rattle.std.proofs.Common.{◌≡◌, ℕ, zero, suc, ◌+◌, ◌<◌, ◌≤◌, Bool, true, false, List, [], ◌∷◌, ◌++◌, length, take, drop, map, refl, ap, length-take, Option, Some, None, arith}
 use Rattle.std.proofs.lemmas.List.{length-map}
 use Rattle.std.specs.List.{All}
-use Rattle.std.specs.Prelude.{◌&&◌, not, is_some, nat_lt, if◌then◌else◌}
+use Rattle.std.specs.Prelude.{◌&&◌, not, is_some, nat_lt}
 use Rattle.std.proofs.lemmas.Bool.Decides.{Decides-ltb}
 use Rattle.kc_expr.specs.declared.values.Value.{Value}
 use Rattle.kc_isa.specs.declared.layout.Form.{Form}
@@ -17,7 +17,7 @@ use Rattle.kc_isa.specs.Formed.{is_byte}
 use Rattle.kc_code.specs.Spelling.{prefix}
 use Rattle.kc_relocation.specs.Numbers.{number, reach, first_part}
 use Rattle.kc_octet.specs.declared.octet.Octet.{Octet}
-use Rattle.kc_octet.specs.declared.octet.Octet.TheVariants.{Plain, First, Second}
+use Rattle.kc_octet.specs.declared.octet.Octet.TheVariants.{Plain, First}
 use Rattle.kc_octet.specs.Filling.{address}
 use Rattle.kc_octet.specs.Relocating.{no_bases, HasRoom}
 use Rattle.kc_operation.specs.declared.argument.Argument.{Argument}
@@ -32,7 +32,7 @@ use Rattle.kc_operation.specs.Values.{moved}
 use Rattle.kc_operation.specs.Opcodes.{least}
 use Rattle.kc_operation.specs.Branches.{branch_kind, branch_length}
 use Rattle.kc_operation.specs.Instructions.{instruction, instructions}
-use Rattle.kc_operation_octets.specs.Octets.{byte_of, word_of, immediate_octets, jump_octets, operand_octets, opcode_octet, laid_octets, row_octets, worded_octets, all_octets}
+use Rattle.kc_operation_octets.specs.Octets.{byte_of, word_of, immediate_octets, jump_octets, operand_octets, opcode_octet, row_octets, worded_octets, all_octets}
 use Rattle.kc_operation_octets.specs.Suits.{operand_suits, IsInstruction}
 use Rattle.kc_operation_octets.proofs.Spelled.{octets_are}
 use Rattle.kc_operation_octets.proofs.Found.{instruction_found}

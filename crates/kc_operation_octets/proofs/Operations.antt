@@ -1,33 +1,30 @@
 -- An operation is written in full by lines that the table has.
-use Rattle.std.proofs.Common.{◌≡◌, ◌≢◌, ℕ, ◌+◌, ◌<◌, Bool, true, false, List, [], ◌∷◌, ◌++◌, length, refl, sym, ap, ◌∙◌, subst, Option, Some, None, arith, ◌⊎◌, inl, inr}
+use Rattle.std.proofs.Common.{◌≡◌, ℕ, Bool, true, false, List, [], ◌∷◌, ◌++◌, length, refl, sym, ◌∙◌, subst, Option, Some, None, ◌⊎◌, inl, inr}
 use Rattle.std.specs.Prelude.{◌&&◌, ◌||◌, not, if◌then◌else◌, codes}
-use Rattle.std.specs.List.{list_all}
 use Rattle.std.specs.Str.{bytes_eq}
 use Rattle.std.proofs.lemmas.Slice.Eq.{bytes_eq-Decides}
 use Rattle.kc_expr.specs.declared.values.Value.{Value}
-use Rattle.kc_isa.specs.declared.table.Shape.{Shape}
 use Rattle.kc_isa.specs.declared.table.Shape.TheVariants as shapes
 use Rattle.kc_lex.specs.declared.words.Operands.{Operands}
 use Rattle.kc_lex.specs.declared.words.Operands.TheVariants as operands
 use Rattle.kc_lex.specs.Words.{is_one_of, takes_nothing, takes_register, is_jump, is_conditional, takes_source, loads, takes_two_or_three, shifts, takes_pair, operands_of, is_generic_conditional, generic_operands_of}
 use Rattle.kc_operation.specs.declared.argument.Argument.{Argument}
-use Rattle.kc_operation.specs.declared.argument.Argument.TheVariants.{Plain, Immediate, Indirect, Increment, Indexed}
+use Rattle.kc_operation.specs.declared.argument.Argument.TheVariants.{Plain}
 use Rattle.kc_operation.specs.declared.branch.Form.{Form}
 use Rattle.kc_operation.specs.declared.branch.Form.TheVariants.{First, Second, Third}
 use Rattle.kc_operation.specs.declared.branch.BranchKind.{BranchKind}
 use Rattle.kc_operation.specs.declared.branch.BranchKind.TheVariants.{Jump, Call, Conditional, BitTest}
 use Rattle.kc_operation.specs.declared.word.Worded.{Worded}
 use Rattle.kc_operation.specs.Values.{argument}
-use Rattle.kc_operation.specs.Sources.{mode}
 use Rattle.kc_operation.specs.Takes.{is_plain, is_immediate, is_indexed, takes, operands_for, is_operation}
-use Rattle.kc_operation.specs.Opcodes.{operand_count, source_of, wanted_bits}
-use Rattle.kc_operation.specs.Branches.{Line, line, tested, over, plain_branch, branch_kind, branch_length, branch_lines, jump_of, inverse_of, in_full}
+use Rattle.kc_operation.specs.Opcodes.{source_of}
+use Rattle.kc_operation.specs.Branches.{Line, line, tested, over, plain_branch, branch_kind, branch_lines, jump_of, inverse_of, in_full}
 use Rattle.kc_operation.specs.Instructions.{instruction, listed, all_lines, instructions}
 use Rattle.kc_operation_octets.specs.Suits.{AreInstructions}
 use Rattle.kc_operation_octets.proofs.Found.{both, instruction_found}
 use Rattle.kc_operation_octets.proofs.Rows
 use Rattle.kc_operation_octets.proofs.Rows.{has_rows, has_one_shape, is_branch_row}
-use Rattle.kc_operation_octets.proofs.Exists.{IsFound, one_of, is_among, found_among, mode_among, place_among, exchange_among, bit_among}
+use Rattle.kc_operation_octets.proofs.Exists.{IsFound, one_of, found_among, mode_among, place_among, exchange_among, bit_among}
 
 -- ---- how many operands a form takes
 

@@ -1,16 +1,15 @@
 -- The bytes of instructions go in pairs.
-use Rattle.std.proofs.Common.{◌≡◌, ℕ, ◌+◌, Bool, true, false, List, [], ◌∷◌, ◌++◌, take, drop, map, refl, sym, subst, append_assoc, Option, Some, None}
-use Rattle.std.specs.List.{flat_map}
+use Rattle.std.proofs.Common.{◌≡◌, ℕ, Bool, true, false, List, [], ◌∷◌, ◌++◌, take, drop, map, refl, sym, subst, append_assoc, Option, Some, None}
 use Rattle.kc_expr.specs.declared.values.Value.{Value}
 use Rattle.kc_isa.specs.declared.layout.Form.{Form}
-use Rattle.kc_isa.specs.declared.layout.Form.TheVariants.{NoOperand, Mode, ShiftCount, Distance11, Distance8, Distance16, OneByte}
+use Rattle.kc_isa.specs.declared.layout.Form.TheVariants.{Mode, Distance11, Distance16}
 use Rattle.kc_isa.specs.declared.layout.Layout.{Layout}
 use Rattle.kc_isa.specs.Names.{Shown}
 use Rattle.kc_isa.specs.Layout.{layout_of}
 use Rattle.kc_isa.specs.Formed.{is_byte}
 use Rattle.kc_code.specs.Spelling.{prefix}
 use Rattle.kc_octet.specs.declared.octet.Octet.{Octet}
-use Rattle.kc_octet.specs.declared.octet.Octet.TheVariants.{Plain, First, Second}
+use Rattle.kc_octet.specs.declared.octet.Octet.TheVariants.{Plain, First}
 use Rattle.kc_operation.specs.declared.argument.Argument.{Argument}
 use Rattle.kc_operation.specs.declared.branch.Form.{Form as BranchForm}
 use Rattle.kc_operation.specs.declared.word.Word.{Word}
@@ -19,7 +18,7 @@ use Rattle.kc_operation.specs.declared.word.Worded.{Worded}
 use Rattle.kc_operation.specs.Branches.{Line, in_full}
 use Rattle.kc_operation.specs.Instructions.{instruction, listed, all_lines, instructions}
 use Rattle.kc_operation_octets.specs.Octets.{byte_of, operand_octets, opcode_octet, laid_octets, row_octets, worded_octets, all_octets}
-use Rattle.kc_operation_octets.specs.Suits.{operand_suits, IsInstruction}
+use Rattle.kc_operation_octets.specs.Suits.{IsInstruction}
 use Rattle.kc_operation_octets.specs.Pairs.{Pending, opens, Follows, IsPairedFrom, IsPaired}
 use Rattle.kc_operation_octets.proofs.Spelled.{JumpLast, jump_last, octets_are}
 use Rattle.kc_operation_octets.proofs.Found.{instruction_found}

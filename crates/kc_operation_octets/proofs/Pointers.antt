@@ -1,6 +1,6 @@
 -- Where the operands have no fault, pointers are even.
-use Rattle.std.proofs.Common.{◌≡◌, ℕ, ◌+◌, ◌-◌, ◌%◌, Bool, true, false, List, [], ◌∷◌, length, refl, sym, ap, ◌∙◌, subst, Option, Some, None, arith, ◌⊎◌, inl, inr}
-use Rattle.std.specs.Prelude.{◌==◌, ◌||◌, ◌&&◌, not, if◌then◌else◌, codes}
+use Rattle.std.proofs.Common.{◌≡◌, ℕ, ◌-◌, ◌%◌, Bool, true, false, List, [], ◌∷◌, length, refl, sym, ap, ◌∙◌, subst, Option, Some, None, arith, ◌⊎◌, inl, inr}
+use Rattle.std.specs.Prelude.{◌==◌, ◌||◌, not, if◌then◌else◌, codes}
 use Rattle.std.specs.Str.{bytes_eq}
 use Rattle.std.proofs.lemmas.Bool.Decides.{Decides-eqb}
 use Rattle.std.proofs.lemmas.Slice.Eq.{bytes_eq-Decides}
@@ -25,7 +25,7 @@ use Rattle.kc_operation.specs.Values.{or_zero, is_external, is_direct, is_short,
 use Rattle.kc_operation.specs.Sources.{plain_source, indexed_source, source}
 use Rattle.kc_operation.specs.Takes.{is_plain, is_immediate, takes, operands_for, is_operation}
 use Rattle.kc_operation.specs.Opcodes.{operand_count}
-use Rattle.kc_operation.specs.Branches.{Line, line, branch_kind, branch_lines, jump_of, inverse_of, in_full}
+use Rattle.kc_operation.specs.Branches.{Line, line, branch_kind, branch_lines, in_full}
 use Rattle.kc_operation.specs.Instructions.{operand_for, instructions}
 use Rattle.kc_operation.specs.Faults.{pointer_fault, source_fault, operands_fault, fault_of}
 use Rattle.kc_operation_octets.specs.Suits.{IsEven, EachOf}

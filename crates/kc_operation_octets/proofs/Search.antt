@@ -1,5 +1,5 @@
 -- The least number that passes a test.
-use Rattle.std.proofs.Common.{◌≡◌, ◌≢◌, ℕ, zero, suc, ◌+◌, ◌-◌, ◌<◌, ◌≤◌, Bool, true, false, refl, sym, subst, ◌∙◌, Option, Some, None, arith}
+use Rattle.std.proofs.Common.{◌≡◌, ◌≢◌, ℕ, zero, suc, ◌+◌, ◌<◌, ◌≤◌, Bool, true, false, refl, sym, subst, ◌∙◌, Some, arith}
 use Rattle.kc_operation.specs.Opcodes.{least, opcode_of, is_opcode_for}
 use Rattle.kc_operation.specs.declared.argument.Argument.{Argument}
 use Rattle.std.specs.Prelude.{List, if◌then◌else◌}

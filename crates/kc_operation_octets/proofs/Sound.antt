@@ -1,5 +1,5 @@
 -- An instruction whose numbers fit is well formed under the bases.
-use Rattle.std.proofs.Common.{◌≡◌, ℕ, zero, suc, ◌+◌, ◌%◌, ◌<◌, Bool, true, false, List, [], ◌∷◌, ◌++◌, length, take, drop, map, refl, sym, ap, ◌∙◌, subst, length-append, arith}
+use Rattle.std.proofs.Common.{◌≡◌, ℕ, zero, suc, ◌+◌, ◌%◌, ◌<◌, Bool, true, false, List, ◌∷◌, ◌++◌, length, drop, map, refl, sym, ap, ◌∙◌, subst, length-append, arith}
 use Rattle.std.proofs.lemmas.List.{drop-map, length-map}
 use Rattle.std.specs.Prelude.{Some, negsuc, pos, ◌||◌, ◌&&◌, not, nat_lt, FitsSigned}
 use Rattle.std.specs.Int.{w16, cast_signed}
@@ -18,7 +18,7 @@ use Rattle.kc_code.specs.Spelling.{prefix, is_in_range, is_within, operand_in_ra
 use Rattle.kc_code.specs.Ranges.{OperandHas}
 use Rattle.kc_relocation.specs.Numbers.{Bases, distance, number, fits}
 use Rattle.kc_octet.specs.declared.octet.Octet.{Octet}
-use Rattle.kc_octet.specs.declared.octet.Octet.TheVariants.{Plain, First, Second}
+use Rattle.kc_octet.specs.declared.octet.Octet.TheVariants.{Plain, First}
 use Rattle.kc_octet.specs.Filling.{base_address, address}
 use Rattle.kc_operation.specs.declared.word.Word.{Word}
 use Rattle.kc_operation.specs.declared.word.Word.TheVariants.{Absent, Register, Immediate, Indirect, Increment, Short, Long, Count, Jump}
@@ -29,7 +29,6 @@ use Rattle.kc_operation_octets.specs.Octets.{operand_octets, opcode_octet, laid_
 use Rattle.kc_operation_octets.specs.Suits.{operand_suits, FitsAt, AllFit, IsEven, HasWords, IsInstruction, IsSettled, IsSound}
 use Rattle.kc_operation_octets.proofs.Fills.{fit-front, fit-behind, distance-small, IsNext, IsOver}
 use Rattle.kc_operation_octets.proofs.Spelled.{JumpLast, jump_last, jump_next, jump_over, front_octets, back_octets, octets_are}
-use Rattle.kc_operation_octets.proofs.Found.{both}
 use Rattle.std.proofs.lemmas.Bool.Decides.{Decides-eqb}
 use Rattle.std.specs.Prelude.{◌==◌}
 

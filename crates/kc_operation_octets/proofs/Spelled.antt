@@ -1,7 +1,6 @@
 -- The filled bytes of a whole instruction.
-use Rattle.std.proofs.Common.{◌≡◌, ℕ, ◌+◌, Bool, true, List, [], ◌∷◌, ◌++◌, length, take, drop, map, refl, sym, ap, ◌∙◌, subst, length-append, arith}
+use Rattle.std.proofs.Common.{◌≡◌, ℕ, ◌+◌, Bool, true, List, ◌∷◌, ◌++◌, length, take, drop, map, refl, sym, ◌∙◌, subst, length-append, arith}
 use Rattle.std.proofs.lemmas.List.{take-map, drop-map}
-use Rattle.std.specs.Prelude.{Some}
 use Rattle.kc_expr.specs.declared.values.Value.{Value}
 use Rattle.kc_isa.specs.declared.layout.Form.{Form}
 use Rattle.kc_isa.specs.declared.layout.Form.TheVariants.{NoOperand, Mode, ShiftCount, Distance11, Distance8, Distance16, OneByte}
@@ -14,8 +13,8 @@ use Rattle.kc_isa.specs.Formed.{is_byte}
 use Rattle.kc_code.specs.Spelling.{prefix, laid_bytes, row_spelling, spelling}
 use Rattle.kc_relocation.specs.Numbers.{Bases}
 use Rattle.kc_octet.specs.declared.octet.Octet.{Octet}
-use Rattle.kc_octet.specs.declared.octet.Octet.TheVariants.{Plain, First, Second}
-use Rattle.kc_octet.specs.Filling.{address, fill, filled}
+use Rattle.kc_octet.specs.declared.octet.Octet.TheVariants.{Plain}
+use Rattle.kc_octet.specs.Filling.{address, filled}
 use Rattle.kc_operation.specs.declared.word.Word.{Word}
 use Rattle.kc_operation.specs.declared.word.Word.TheVariants.{Absent, Register, Immediate, Indirect, Increment, Short, Long, Count, Jump}
 use Rattle.kc_operation.specs.declared.word.Worded.{Worded}

@@ -1,15 +1,15 @@
 -- The length of an operation depends neither on its place nor on numbers that are not fixed.
-use Rattle.std.proofs.Common.{◌≡◌, ℕ, zero, suc, ◌+◌, ◌-◌, ◌%◌, ◌<◌, Bool, true, false, List, [], ◌∷◌, ◌++◌, length, get_or, take, drop, map, refl, sym, ap, ◌∙◌, subst, length-append, length-take, length-drop, Option, Some, None, arith}
+use Rattle.std.proofs.Common.{◌≡◌, ℕ, ◌+◌, ◌%◌, Bool, true, false, List, [], ◌∷◌, ◌++◌, length, take, drop, map, refl, sym, ap, ◌∙◌, subst, length-append, length-take, length-drop, Option, Some, None, arith}
 use Rattle.std.proofs.Math.ListN.{get_or-map}
 use Rattle.std.proofs.lemmas.List.{length-map}
-use Rattle.std.specs.Prelude.{◌==◌, ◌&&◌, ◌||◌, nat_lt, nat_le, if◌then◌else◌}
+use Rattle.std.specs.Prelude.{if◌then◌else◌}
 use Rattle.std.specs.Option.{option_map}
 use Rattle.kc_expr.specs.declared.values.Base.{Base}
 use Rattle.kc_expr.specs.declared.values.Base.TheVariants.{Fixed, Absolute, Piece, External}
 use Rattle.kc_expr.specs.declared.values.Tag.{Tag}
 use Rattle.kc_expr.specs.declared.values.Value.{Value}
 use Rattle.kc_isa.specs.declared.layout.Form.{Form}
-use Rattle.kc_isa.specs.declared.layout.Form.TheVariants.{NoOperand, Mode, ShiftCount, Distance11, Distance8, Distance16, OneByte}
+use Rattle.kc_isa.specs.declared.layout.Form.TheVariants.{Mode, Distance11, Distance16}
 use Rattle.kc_isa.specs.declared.layout.Layout.{Layout}
 use Rattle.kc_isa.specs.declared.table.Shape.{Shape}
 use Rattle.kc_isa.specs.declared.table.Shape.TheVariants as shapes
@@ -26,12 +26,12 @@ use Rattle.kc_operation.specs.declared.branch.BranchKind.{BranchKind}
 use Rattle.kc_operation.specs.declared.word.Word.{Word}
 use Rattle.kc_operation.specs.declared.word.Word.TheVariants as words
 use Rattle.kc_operation.specs.declared.word.Worded.{Worded}
-use Rattle.kc_operation.specs.Values.{is_fixed, is_register, or_zero, is_direct, is_short, argument, value_of, bit_of}
+use Rattle.kc_operation.specs.Values.{is_fixed, or_zero, is_direct, is_short, argument, value_of, bit_of}
 use Rattle.kc_operation.specs.Sources.{mode, plain_source, indexed_source, source}
-use Rattle.kc_operation.specs.Opcodes.{operand_count, source_of, low_bits, wanted_bits, is_row_for, is_opcode_for, opcode_of}
-use Rattle.kc_operation.specs.Branches.{Line, line, plain_branch, branch_kind, branch_length, in_full}
-use Rattle.kc_operation.specs.Instructions.{operand_for, regs_for, laid, instruction_at, signed_instruction, instruction, listed, all_lines, instructions}
-use Rattle.kc_operation_octets.specs.Octets.{byte_of, immediate_octets, jump_octets, operand_octets, opcode_octet, laid_octets, row_octets, worded_octets, all_octets}
+use Rattle.kc_operation.specs.Opcodes.{wanted_bits, is_row_for, is_opcode_for, opcode_of}
+use Rattle.kc_operation.specs.Branches.{Line, line, plain_branch, branch_kind, in_full}
+use Rattle.kc_operation.specs.Instructions.{operand_for, regs_for, laid, signed_instruction, instruction, listed, all_lines, instructions}
+use Rattle.kc_operation_octets.specs.Octets.{byte_of, operand_octets, opcode_octet, laid_octets, row_octets, worded_octets, all_octets}
 use Rattle.kc_operation_octets.specs.Blurred.{blurred_value, blurred}
 use Rattle.kc_operation_octets.proofs.Search.{opcode-alike}
 use Rattle.kc_operation_octets.proofs.Found.{three_for}

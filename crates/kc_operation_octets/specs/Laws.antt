@@ -1,5 +1,5 @@
 -- What the definitions of this crate owe each other.
-use Rattle.std.specs.Prelude.{◌≡◌, ℕ, true, ◌+◌, ◌%◌, ◌<◌, Option, Some, None, List, [], ◌∷◌, length, map}
+use Rattle.std.specs.Prelude.{◌≡◌, ℕ, true, ◌+◌, ◌%◌, Some, None, List, length, map}
 use Rattle.kc_expr.specs.declared.values.Value.{Value}
 use Rattle.kc_code.specs.Spelling.{spelling}
 use Rattle.kc_relocation.specs.Numbers.{Bases}

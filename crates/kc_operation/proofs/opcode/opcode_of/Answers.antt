@@ -1,4 +1,4 @@
-use Rattle.std.proofs.Common.{◌≡◌, ◌∙◌, sym, arith, Option, Some, None, ℕ, ◌<◌}
+use Rattle.std.proofs.Common.{◌∙◌, sym, arith, ◌<◌}
 use Rattle.kc_operation.specs.Opcodes.{is_opcode_for}
 use Rattle.kc_operation.proofs.Search.{opcode_from, least_step, least_found, least_none}
 use Rattle.kc_operation.proofs.opcode.opcode_of.Goals as goal

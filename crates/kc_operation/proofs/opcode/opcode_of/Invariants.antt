@@ -1,4 +1,4 @@
-use Rattle.std.proofs.Common.{◌≡◌, ◌≤◌, ◌-◌}
+use Rattle.std.proofs.Common.{◌≡◌, ◌-◌}
 use Rattle.kc_operation.specs.Opcodes.{least, opcode_of, is_opcode_for}
 use Rattle.kc_operation.proofs.opcode.opcode_of.Given as goal
 

@@ -1,4 +1,4 @@
-use Rattle.std.proofs.Common.{◌≡◌, ◌≤◌, ◌∙◌, length, arith}
+use Rattle.std.proofs.Common.{◌≡◌, ◌∙◌, length, arith}
 use Rattle.kc_operation.specs.Instructions.{instructions}
 use Rattle.kc_operation_octets.specs.Octets.{all_octets}
 use Rattle.kc_operation_octets.proofs.Stays.{length_anywhere}

@@ -1,4 +1,4 @@
-use Rattle.std.proofs.Common.{◌≡◌, ◌++◌, length, map, take, drop, ◌+◌}
+use Rattle.std.proofs.Common.{◌≡◌, ◌++◌, map, take, drop, ◌+◌}
 use Rattle.arrayvec.specs.ArrayVec.{array_vec_len}
 use Rattle.kc_operation_octets.specs.Octets as octets
 use Rattle.kc_operation_octets.proofs.octets.push_registers.Given as goal
