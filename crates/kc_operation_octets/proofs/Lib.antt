@@ -12,3 +12,4 @@ pub mod Stays
 pub mod Most
 pub mod Evens
 pub mod Pointers
+pub mod Saying

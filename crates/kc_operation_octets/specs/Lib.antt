@@ -4,3 +4,4 @@ pub mod Suits
 pub mod Pairs
 pub mod Blurred
 pub mod Laws
+pub mod Said

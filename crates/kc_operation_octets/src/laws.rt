@@ -1,3 +1,4 @@
+ghost use Rattle.kc_operation_octets.specs.Said.{OperationsAreSaid};
 ghost use Rattle.kc_operation_octets.specs.Laws.{BranchesHaveLengths, FilledIsSpelled, LengthStays, NumbersAreWords, OctetsArePaired, OperationsAreInstructions, PointersAreEven, SettledIsSound};
 
 /// Once the bases are known, the bytes of an instruction spell it.
@@ -38,4 +39,9 @@ pub fn numbers_are_words()
 /// Where the operands of an operation have no fault, the registers of its pointers and indices are even.
 pub fn pointers_are_even()
     ensures { PointersAreEven }
+{}
+
+/// Under bases an operation without fault, whose numbers fit, says well formed instructions, and its bytes spell them.
+pub fn operations_are_said()
+    ensures { OperationsAreSaid }
 {}
