@@ -5,8 +5,7 @@ use Rattle.std.specs.Prelude.{ℕ, zero, suc, Bool, false, ◌+◌, ◌-◌, ◌
 use Rattle.std.specs.Str.{bytes_eq}
 use Rattle.kc_isa.specs.declared.table.Shape.{Shape}
 use Rattle.kc_isa.specs.declared.table.Shape.TheVariants.{Nothing, One, Two, Four, FourOne, FourTwo, Exchange, CountOne, Near, Conditional, BitTest, Loop, TableJump, Far, Key}
-use Rattle.kc_isa.specs.declared.table.Row.{Row}
-use Rattle.kc_isa.specs.Names.{Shown, shown_row, row_at}
+use Rattle.kc_isa.specs.Names.{Shown, row_at}
 use Rattle.kc_operation.specs.declared.argument.Argument.{Argument}
 use Rattle.kc_operation.specs.Values.{argument, bit_of}
 use Rattle.kc_operation.specs.Sources.{mode}
@@ -51,9 +50,6 @@ wanted_bits FourTwo args = mode (source_of FourTwo args)
 wanted_bits Exchange args = mode (source_of Exchange args)
 wanted_bits BitTest args = bit_of (argument args 1)
 wanted_bits shape args = 0
-
-abbrev pub seen : Row → Shown
-seen row = shown_row row
 
 abbrev pub is_row_for : List ℕ → List Argument → ℕ → Shown → Bool
 is_row_for word args opcode row =

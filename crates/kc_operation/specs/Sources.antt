@@ -1,6 +1,6 @@
--- The operand S: `x`, `#x`, `[reg]`, `[reg]+` or `x[reg]`. A plain x is a register where it is fixed and at most FFH, or a label of
--- a register segment; else it is indexed by register 0 (80C196KC User's Manual, "Addressing Modes"; MCS-96 Macro Assembler
--- User's Guide, "Operands").
+-- The operand S: `x`, `#x`, `[reg]`, `[reg]+` or `x[reg]`. Alone, x names a register if it is a fixed number of one byte or a label
+-- of a register segment, and else a place in memory, which is written as an index behind register 0 (80C196KC User's Manual,
+-- "Addressing Modes"; MCS-96 Macro Assembler User's Guide, "Operands").
 use Rattle.std.specs.Prelude.{ℕ, ◌%◌, if◌then◌else◌, Option}
 use Rattle.std.specs.Int.{w8, cast_signed}
 use Rattle.kc_expr.specs.declared.values.Value.{Value}

@@ -1,4 +1,5 @@
 ghost use Rattle.std.specs.Prelude.{◌≡◌, ◌≤◌, ◌<◌, MatchOption};
+ghost use Rattle.kc_isa.specs.Names.{shown_row};
 ghost use Rattle.kc_operation.specs.Opcodes as opcodes;
 
 use crate::argument::{Argument, bit_of, mode, operand_at};
@@ -46,7 +47,7 @@ fn wanted_bits(shape: Shape, args: &[Argument]) -> u8
 }
 
 fn is_row_for(word: &[u8], args: &[Argument], opcode: u8, row: Row) -> bool
-    ensures { result ≡ opcodes.is_row_for word.now args.now opcode (opcodes.seen row) }
+    ensures { result ≡ opcodes.is_row_for word.now args.now opcode (shown_row row) }
 {
     row.name.as_bytes() == word
         && operand_count(row.shape) == args.len()
