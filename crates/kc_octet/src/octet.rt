@@ -1,3 +1,5 @@
+ghost use Rattle.std.specs.Prelude.{◌≡◌};
+
 use kc_expr::Value;
 
 /// A byte of a piece before the bases are known: a byte that stands, or the first or the second byte of a number that a
@@ -10,4 +12,13 @@ pub enum Octet {
     Plain(u8),
     First { kind: u8, start: u8, value: Value },
     Second { kind: u8, value: Value },
+}
+
+impl Default for Octet {
+    /// A byte 0.
+    fn default() -> Octet
+        ensures { result ≡ Octet.Plain 0 }
+    {
+        Octet::Plain(0)
+    }
 }

@@ -1,0 +1,7 @@
+pub mod Values
+pub mod Sources
+pub mod Takes
+pub mod Opcodes
+pub mod Branches
+pub mod Instructions
+pub mod Faults

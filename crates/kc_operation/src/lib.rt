@@ -1,0 +1,19 @@
+//! An operation with the values of its operands, as instructions whose numbers are values; generic branches in each of
+//! their forms.
+#![tactic(auto)]
+
+pub mod argument;
+pub mod branch;
+pub mod faults;
+pub mod instruction;
+mod opcode;
+pub mod word;
+
+pub use argument::{Argument, fixed, moved};
+pub use branch::{BranchKind, Form, branch_kind, branch_length};
+pub use faults::fault;
+pub use instruction::instructions;
+pub use word::{Word, Worded};
+
+#[cfg(test)]
+mod tests;
