@@ -1,0 +1,4 @@
+pub mod OperandLemmas
+pub mod Soundness
+pub mod RunLemmas
+pub mod Ends
