@@ -3,7 +3,7 @@ ghost use Rattle.std.specs.List.{filter};
 ghost use Rattle.kc_ahead.specs.Pieces as pieces;
 ghost use Rattle.kc_ahead.specs.Filled as filling;
 
-use crate::piece::{BodyFault, Mark, Marks, Piece, copy_piece};
+use crate::piece::{BodyFault, Mark, Marking, Marks, Piece, copy_piece};
 use kc_base::NoMemory;
 use kc_body::copying::copy_tokens;
 use kc_body::filling::filled;
@@ -18,13 +18,14 @@ pub type Filled = Result<Vec<Piece>, BodyFault>;
 pub fn turn_body(alloc: Global, mark: Mark, front: &[Piece]) -> Result<Vec<Piece>, NoMemory>
     ensures { IfOk result (λ v. v.items ≡ map (pieces.marked mark) (filter pieces.is_line front.now)) }
 {
+    let mut marking = Marking::new(alloc, mark)?;
     let mut body = Vec::new(alloc);
     for piece in front {
         if let Some(tokens) = &piece.tokens {
             let copy = copy_tokens(alloc, tokens.as_slice())?;
             body.push(Piece {
                 number: piece.number,
-                from: piece.from.with(alloc, mark)?,
+                from: marking.put(alloc, &piece.from)?,
                 tokens: Some(copy),
             })?;
         }
@@ -59,7 +60,7 @@ pub fn body_lines(
         let tokens = copy_tokens(alloc, line.as_slice())?;
         body.push(Piece {
             number,
-            from: from.copy(alloc)?,
+            from: from.copy()?,
             tokens: Some(tokens),
         })?;
     }
@@ -116,7 +117,7 @@ fn fill_piece(
         Some(tokens) => match filled(alloc, formals, args, given, tokens.as_slice())? {
             Ok(tokens) => Ok(Ok(Piece {
                 number: piece.number,
-                from: piece.from.copy(alloc)?,
+                from: piece.from.copy()?,
                 tokens: Some(tokens),
             })),
             Err(code) => Ok(Err(BodyFault {

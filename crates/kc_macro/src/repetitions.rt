@@ -7,7 +7,6 @@ use crate::state::{State, Step};
 use crate::steps::{code_of, counted, least_unmatched};
 use kc_ahead::bodies::{Filled, fill_body, fill_turns, turn_body};
 use kc_ahead::cutting::cut_off;
-use kc_ahead::piece::copy_pieces;
 use kc_ahead::{Extent, Mark, Marks, Piece};
 use kc_base::{NoMemory, Text};
 use kc_body::Texts;
@@ -68,9 +67,9 @@ fn same_turns(
             code: fault.code,
         }),
         Ok(first) => {
-            let later = copy_pieces(alloc, first.as_slice())?;
             let head = turn_head(alloc, state.left, number, from)?;
-            state.ahead.put_turns(head, later, times - 1)?;
+            let later = times - 1;
+            state.ahead.put_turns(alloc, head, first.as_slice(), later)?;
             state.ahead.put(first)?;
             Ok(counted(state, number))
         }
