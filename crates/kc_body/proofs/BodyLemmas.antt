@@ -5,7 +5,7 @@ use Rattle.kc_lex.specs.declared.token.Token.{Token}
 use Rattle.kc_body.specs.declared.macros.Locals.{Locals}
 use Rattle.kc_body.specs.Words.{word_of}
 use Rattle.kc_body.specs.Arguments.{names_at}
-use Rattle.kc_body.specs.Bodies.{depth_after, declares, plain_lines, local_names, both, with_local, placed, no_locals}
+use Rattle.kc_body.specs.Bodies.{depth_after, declares, plain_lines, local_names, both, with_local, placed}
 
 -- ---- lines
 

@@ -1,6 +1,5 @@
 -- The arguments of a call, and lists of names (after the MCS-96 Macro Assembler User's Guide, "Macro Calls").
 use Rattle.std.specs.Prelude.{ℕ, ◌+◌, ◌-◌, Bool, true, false, ◌&&◌, ◌==◌, if◌then◌else◌, List, [], ◌∷◌, drop, take, length, map, Option, Some, None, codes}
-use Rattle.std.specs.Option.{option_map}
 use Rattle.kc_lex.specs.declared.token.Token.{Token}
 use Rattle.kc_lex.specs.Kinds.{is_word, is_sign, is_free_name}
 

@@ -1,9 +1,8 @@
 -- What a definition keeps of a macro's body: its lines without those of LOCAL, and the names of these.
-use Rattle.std.specs.Prelude.{ℕ, zero, suc, ◌+◌, ◌-◌, Bool, true, false, not, ◌&&◌, ◌||◌, ◌==◌, if◌then◌else◌, List, [], ◌∷◌, ◌++◌, drop, position, Option, Some, None, is_some, refl}
+use Rattle.std.specs.Prelude.{ℕ, ◌+◌, ◌-◌, Bool, ◌&&◌, ◌||◌, ◌==◌, if◌then◌else◌, List, [], ◌∷◌, ◌++◌, drop, position, Option, Some, None, is_some}
 use Rattle.std.specs.Str.{bytes_eq}
 use Rattle.std.specs.FinMap as fm
 use Rattle.kc_lex.specs.declared.token.Token.{Token}
-use Rattle.kc_lex.specs.Kinds.{is_name_kind}
 use Rattle.kc_body.specs.declared.words.Word.{Word}
 use Rattle.kc_body.specs.declared.macros.Locals.{Locals}
 use Rattle.kc_body.specs.declared.macros.Formals.{Formals}

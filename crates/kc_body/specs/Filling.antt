@@ -1,6 +1,6 @@
 -- The lines of a body, as a call puts them in: parameters and LOCAL names are replaced, then neighbours of `&` are joined
 -- (after the MCS-96 Macro Assembler User's Guide, "Macros").
-use Rattle.std.specs.Prelude.{ℕ, ◌+◌, Bool, true, false, ◌&&◌, nat_lt, if◌then◌else◌, List, [], ◌∷◌, ◌++◌, length, get_or, Option, Some, None, Result, Ok, Err, position, codes, decimal, option_and_then}
+use Rattle.std.specs.Prelude.{ℕ, ◌+◌, Bool, nat_lt, if◌then◌else◌, List, [], ◌∷◌, ◌++◌, length, get_or, Option, Some, None, Result, Ok, Err, position, codes, decimal, option_and_then}
 use Rattle.std.specs.Str.{bytes_eq}
 use Rattle.std.specs.FinMap as fm
 use Rattle.kc_lex.specs.declared.token.TokenKind.TheVariants as kinds

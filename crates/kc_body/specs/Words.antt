@@ -1,5 +1,5 @@
 -- As which word a line is matched (after the MCS-96 Macro Assembler User's Guide, "Macros" and "Conditional Assembly").
-use Rattle.std.specs.Prelude.{ℕ, Bool, true, false, not, ◌&&◌, ◌||◌, if◌then◌else◌, List, [], ◌∷◌, codes}
+use Rattle.std.specs.Prelude.{Bool, true, false, ◌&&◌, if◌then◌else◌, List, [], ◌∷◌, codes}
 use Rattle.kc_lex.specs.declared.token.Token.{Token}
 use Rattle.kc_lex.specs.Kinds.{is_word, is_sign, is_name_kind, is_free_name, begins_word}
 use Rattle.kc_body.specs.declared.words.Word.{Word}

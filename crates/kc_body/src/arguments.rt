@@ -145,10 +145,7 @@ fn parameters(alloc: Global, tokens: &[Token]) -> Result<Option<Names>, NoMemory
 }
 
 /// The name and the parameters of a macro's first line.
-pub fn definition(
-    alloc: Global,
-    tokens: &[Token],
-) -> Result<Option<(Text, Names)>, NoMemory>
+pub fn definition(alloc: Global, tokens: &[Token]) -> Result<Option<(Text, Names)>, NoMemory>
     ensures { IfOk result (λ o. o ≡ arguments.definition tokens.now) }
 {
     match tokens {
@@ -166,12 +163,8 @@ pub fn definition(
     }
 }
 
-
 /// What stands behind IRP: the name, and the arguments over which it goes; none where a line has not this form.
-pub fn over_arguments(
-    alloc: Global,
-    tokens: &[Token],
-) -> Result<Option<(Text, Texts)>, NoMemory>
+pub fn over_arguments(alloc: Global, tokens: &[Token]) -> Result<Option<(Text, Texts)>, NoMemory>
     ensures { IfOk result (λ o. o ≡ arguments.over_arguments tokens.now) }
 {
     match tokens {

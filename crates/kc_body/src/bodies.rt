@@ -21,13 +21,7 @@ fn depth_after(line: &Tokens, depth: usize) -> usize
 {
     match word_of(line.as_slice()) {
         Word::Macro => depth + 1,
-        Word::Rept | Word::Irp => {
-            if depth == 0 {
-                0
-            } else {
-                depth + 1
-            }
-        }
+        Word::Rept | Word::Irp => { if depth == 0 { 0 } else { depth + 1 } }
         Word::Endm => depth.saturating_sub(1),
         _ => depth,
     }

@@ -1,6 +1,6 @@
 -- One rewriting of the text ahead: its first piece is replaced by what it stands for, or comes out (after the MCS-96 Macro
 -- Assembler User's Guide, "Macros" and "Conditional Assembly"; the codes of faults are this kit's own).
-use Rattle.std.specs.Prelude.{◌≡◌, ℕ, suc, ◌+◌, ◌-◌, Bool, true, false, not, ◌&&◌, ◌||◌, ◌==◌, nat_lt, nat_le, if◌then◌else◌, List, [], ◌∷◌, ◌++◌, length, drop, take, map, count_by, min, Option, Some, None, is_some, Result, Ok, Err}
+use Rattle.std.specs.Prelude.{◌≡◌, ℕ, suc, ◌+◌, ◌-◌, Bool, true, false, not, ◌||◌, ◌==◌, nat_lt, nat_le, if◌then◌else◌, List, [], ◌∷◌, ◌++◌, length, drop, take, map, count_by, min, Option, Some, None, is_some, Result, Ok, Err}
 use Rattle.std.specs.List.{filter}
 use Rattle.std.specs.FinMap as fm
 use Rattle.kc_lex.specs.declared.token.Token.{Token}

@@ -74,13 +74,7 @@ fn text_code(text: &Filled) -> Option<u8>
     }
 }
 
-fn call_fault(
-    left: u32,
-    from: &Marks,
-    item: &Macro,
-    args: &[Tokens],
-    text: &Filled,
-) -> Option<u8>
+fn call_fault(left: u32, from: &Marks, item: &Macro, args: &[Tokens], text: &Filled) -> Option<u8>
     ensures { result ≡ steps.call_fault left from.now item.now args.now (seen_filled text.now) }
 {
     let many = code_if(item.formals.params.as_slice().len() < args.len(), 16);

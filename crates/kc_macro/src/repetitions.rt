@@ -34,12 +34,7 @@ pub(crate) fn exitm_step(
 }
 
 // The place where a turn begins.
-fn turn_head(
-    alloc: Global,
-    left: u32,
-    number: u32,
-    from: &Marks,
-) -> Result<Piece, NoMemory>
+fn turn_head(alloc: Global, left: u32, number: u32, from: &Marks) -> Result<Piece, NoMemory>
     ensures { IfOk result (λ p. p ≡ steps.turn_head left number from.now) }
 {
     Ok(Piece {

@@ -7,7 +7,7 @@ pub loop-piece-preserved : goal.loop-piece-preserved
 loop-piece-preserved c =
     let body = c.args.body.now in
     together_more (λ p. single (fill_piece c.args.formals.now c.args.args.now c.args.given p)) c.piece-item.result (drop (c.loop-piece.piece-index + 1) body) (drop c.loop-piece.piece-index body) (seen_filled c.loop-piece.all) (seen_filled c.in_ok-all.all) _
-      (front_of body c.loop-piece.piece-index c.piece-item.result (omega arith) c.piece-item.is) (c.in_ok-all.ensures ∙ ap (λ r. together (seen_filled c.loop-piece.all) (single r)) c.in_ok-next.ensures) c.loop-piece.invariant
+    (front_of body c.loop-piece.piece-index c.piece-item.result (omega arith) c.piece-item.is) (c.in_ok-all.ensures ∙ ap (λ r. together (seen_filled c.loop-piece.all) (single r)) c.in_ok-next.ensures) c.loop-piece.invariant
 
 pub returns : goal.returns
 returns c =

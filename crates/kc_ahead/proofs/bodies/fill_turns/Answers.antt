@@ -7,7 +7,7 @@ pub loop-arg-preserved : goal.loop-arg-preserved
 loop-arg-preserved c =
     let args = c.args.args.now in
     together_more (fill_turn c.args.formals.now c.args.head.now c.args.body.now) c.arg-item.result (drop (c.loop-arg.arg-index + 1) args) (drop c.loop-arg.arg-index args) (seen_filled c.loop-arg.all) (seen_filled c.in_ok-all.all) _
-      (front_of args c.loop-arg.arg-index c.arg-item.result (omega arith) c.arg-item.is) c.in_ok-all.ensures c.loop-arg.invariant
+    (front_of args c.loop-arg.arg-index c.arg-item.result (omega arith) c.arg-item.is) c.in_ok-all.ensures c.loop-arg.invariant
 
 pub returns : goal.returns
 returns c =

@@ -1,5 +1,5 @@
-use Rattle.std.proofs.Common.{◌≡◌, ◌<◌, ◌≤◌, ◌+◌, ◌∷◌, ◌==◌, [], false, true, length, drop, ap, sym, ◌∙◌, arith, drop_of_length-le}
-use Rattle.kc_body.specs.Arguments.{closes, is_nothing, group_depth}
+use Rattle.std.proofs.Common.{◌≡◌, ◌+◌, ◌==◌, false, true, drop, ap, sym, ◌∙◌, arith, drop_of_length-le}
+use Rattle.kc_body.specs.Arguments.{is_nothing, group_depth}
 use Rattle.kc_body.proofs.ArgumentLemmas.{front_of, closes_end, closes_more, closes_none}
 use Rattle.kc_body.proofs.arguments.closes.Goals as goal
 

@@ -1,6 +1,6 @@
-use Rattle.std.proofs.Common.{◌≡◌, ◌+◌, ◌∷◌, ◌++◌, [], List, Some, None, drop, ap, sym, ◌∙◌, arith, drop_of_length-le}
+use Rattle.std.proofs.Common.{◌≡◌, ◌+◌, ◌∷◌, [], List, drop, ap, sym, ◌∙◌, arith, drop_of_length-le}
 use Rattle.kc_lex.specs.declared.token.Token.{Token}
-use Rattle.kc_body.specs.Filling.{joined_on, one_name}
+use Rattle.kc_body.specs.Filling.{joined_on}
 use Rattle.kc_body.proofs.ArgumentLemmas.{front_of}
 use Rattle.kc_body.proofs.FillLemmas.{after_line, joined_more, joined_open, joined_wrong, joined_name, joined_end}
 use Rattle.kc_body.proofs.filling.joined_on.Goals as goal
@@ -11,7 +11,7 @@ loop-at-preserved-then-not-is_join c =
     record {
       within = omega arith;
       kept = rw (c.in_ok-push.ensures.ok, c.in_ok-last-2.ensures) (joined_more c.loop-at.line c.loop-at.last c.index-tokens-at.result (drop (c.loop-at.at + 1) tokens) (drop c.loop-at.at tokens) _
-        (front_of tokens c.loop-at.at c.index-tokens-at.result (omega arith) c.index-tokens-at.is) (sym c.if-not-is_join.ensures) c.loop-at.invariant.kept);
+          (front_of tokens c.loop-at.at c.index-tokens-at.result (omega arith) c.index-tokens-at.is) (sym c.if-not-is_join.ensures) c.loop-at.invariant.kept);
     }
 
 pub returns-then-at-tokens : goal.returns-then-at-tokens
@@ -39,7 +39,7 @@ loop-at-preserved c =
     record {
       within = omega arith;
       kept = ap (λ n. after_line c.loop-at.line (joined_on c.in-Some.name (drop n tokens))) (sym two)
-        ∙ joined_name c.loop-at.line c.loop-at.last t u c.in-Some.name (drop (c.loop-at.at + 1 + 1) tokens) (drop c.loop-at.at tokens) _ rest (sym c.if-not-is_join.ensures) (sym c.in-Some.is ∙ c.in_ok-one_name.ensures) c.loop-at.invariant.kept;
+          ∙ joined_name c.loop-at.line c.loop-at.last t u c.in-Some.name (drop (c.loop-at.at + 1 + 1) tokens) (drop c.loop-at.at tokens) _ rest (sym c.if-not-is_join.ensures) (sym c.in-Some.is ∙ c.in_ok-one_name.ensures) c.loop-at.invariant.kept;
     }
 
 pub returns : goal.returns
