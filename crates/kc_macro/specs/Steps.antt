@@ -1,6 +1,6 @@
 -- One rewriting of the text ahead: its first piece is replaced by what it stands for, or comes out (after the MCS-96 Macro
 -- Assembler User's Guide, "Macros" and "Conditional Assembly"; the codes of faults are this kit's own).
-use Rattle.std.specs.Prelude.{◌≡◌, ℕ, suc, ◌+◌, ◌-◌, Bool, true, false, not, ◌||◌, ◌==◌, nat_lt, nat_le, if◌then◌else◌, List, [], ◌∷◌, ◌++◌, length, drop, take, map, count_by, min, Option, Some, None, is_some, Result, Ok, Err}
+use Rattle.std.specs.Prelude.{◌≡◌, ℕ, suc, ◌+◌, ◌-◌, ◌≤◌, Bool, true, false, not, ◌||◌, ◌==◌, nat_lt, nat_le, if◌then◌else◌, List, [], ◌∷◌, ◌++◌, length, drop, take, map, count_by, min, Option, Some, None, is_some, Result, Ok, Err}
 use Rattle.std.specs.List.{filter}
 use Rattle.std.specs.FinMap as fm
 use Rattle.kc_lex.specs.declared.token.Token.{Token}
@@ -243,9 +243,9 @@ next_of steps.Counted s = Counted s
 next_of steps.Ended s = Ended s.done
 next_of (steps.Fault line code) s = Fault line code
 
--- an expanded line takes one of those that are left
-abbrev pub TakesOne : Step → ℕ → ℕ → Type 0
-TakesOne steps.Quiet left after = ⊥
-TakesOne steps.Counted left after = suc after ≡ left
-TakesOne steps.Ended left after = Unit {0}
-TakesOne (steps.Fault line code) left after = Unit {0}
+-- an expanded line takes one of those that are left, and no more lines come out than these
+abbrev pub TakesOne : Step → State → State → Type 0
+TakesOne steps.Quiet s t = ⊥
+TakesOne steps.Counted s t = (suc t.left ≡ s.left) × (length t.done + t.left ≤ length s.done + s.left)
+TakesOne steps.Ended s t = length t.done ≤ length s.done + s.left
+TakesOne (steps.Fault line code) s t = Unit {0}
