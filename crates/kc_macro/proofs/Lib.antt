@@ -2,3 +2,4 @@ pub mod OperandLemmas
 pub mod Soundness
 pub mod RunLemmas
 pub mod Ends
+pub mod Plain
