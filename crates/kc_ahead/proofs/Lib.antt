@@ -1,0 +1,3 @@
+pub mod AheadLemmas
+pub mod CutLemmas
+pub mod FilledLemmas

@@ -1,0 +1,4 @@
+pub mod ArgumentLemmas
+pub mod BodyLemmas
+pub mod FillLemmas
+pub mod NameLemmas

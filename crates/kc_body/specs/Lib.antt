@@ -1,0 +1,7 @@
+pub mod Words
+pub mod Arguments
+pub mod ByName
+pub mod Bodies
+pub mod Filling
+pub mod Calls
+pub mod MacroCode

@@ -1,0 +1,16 @@
+//! The lines of a macro's body: the words by which lines are matched, arguments, LOCAL names, and lines with what stands
+//! for their parameters.
+#![tactic(auto)]
+
+pub mod arguments;
+pub mod bodies;
+pub mod calls;
+pub mod copying;
+pub mod filling;
+pub mod lists;
+pub mod macros;
+pub mod words;
+
+pub use lists::{Names, Texts};
+pub use macros::{Formals, Locals, Macro, Macros};
+pub use words::Word;

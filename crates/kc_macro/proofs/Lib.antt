@@ -1,0 +1,5 @@
+pub mod OperandLemmas
+pub mod Soundness
+pub mod RunLemmas
+pub mod Ends
+pub mod Plain
