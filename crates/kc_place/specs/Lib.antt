@@ -1,0 +1,5 @@
+pub mod Gaps
+pub mod Names
+pub mod Placing
+pub mod Ranges
+pub mod Stands

@@ -1,0 +1,2 @@
+pub struct Placing;
+pub fn place() {}
