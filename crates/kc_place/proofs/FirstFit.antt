@@ -335,3 +335,27 @@ empty_is_taken gaps taken s r h = record {
   where
     nowhere : (b : ℕ) → has s b ≡ false
     nowhere b = grind (arith, nat_tests, h)
+
+-- ---- what the least free address has
+
+least_passes : (p : ℕ → Bool) (n from a : ℕ) → least p n from ≡ Some a → (p a ≡ true) × (from ≤ a) × (a < from + n)
+unfolding least
+least_passes p zero from a e = absurd (cc e)
+least_passes p (suc n) from a e = by (p from) refl e (least_passes p n (from + 1) a)
+  where
+    by : (t : Bool) → p from ≡ t → (if t then Some from else least p n (from + 1)) ≡ Some a → (least p n (from + 1) ≡ Some a → (p a ≡ true) × (from + 1 ≤ a) × (a < (from + 1) + n)) → (p a ≡ true) × (from ≤ a) × (a < from + suc n)
+    by true q f go = let g : from ≡ a = cc f in (rw (← g) q, omega (arith, g), omega (arith, g))
+    by false q f go = let r = go f in (r.0, omega (arith, r.1), omega (arith, r.2))
+
+pub record HasRoom (taken : List Stand) (low last step count a : ℕ) : Type 0 where
+  pub room : leaves_room taken a count ≡ true
+  pub above : low ≤ a
+  pub fits : a + count ≤ last + 1
+  pub within : a ≤ last
+
+pub room_of_least : (taken : List Stand) (low last step count a : ℕ) → least_free taken (low, last) step count ≡ Some a → HasRoom taken low last step count a
+room_of_least taken low last step count a e =
+    let s = least_passes (suits taken last step count) ((last + 1) - low) low a e in
+    let p = both (a % step == 0) (nat_le (a + count) (last + 1) && leaves_room taken a count) s.0 in
+    let q = both (nat_le (a + count) (last + 1)) (leaves_room taken a count) p.1 in
+    record { room = q.1; above = s.1; fits = grind (arith, nat_tests, q.0); within = omega (arith, s.1, s.2) }

@@ -1,3 +1,6 @@
 pub mod NameLemmas
 pub mod FirstFit
 pub mod Covers
+pub mod StackLemmas
+pub mod StepLemmas
+pub mod AnswerLemmas

@@ -15,6 +15,11 @@ use Rattle.kc_place.specs.declared.ranges.LinkFault.TheVariants.{Unresolved, Ove
 use Rattle.kc_place.specs.declared.pieces.Piece.{Piece}
 use Rattle.kc_place.specs.declared.pieces.Stand.{Stand}
 use Rattle.kc_place.specs.declared.names.Home.{Home}
+use Rattle.kc_place.specs.declared.gaps.Gap.{Gap}
+use Rattle.kc_place.specs.declared.putting.NoPlace.{NoPlace}
+use Rattle.kc_place.specs.declared.putting.NoPlace.TheVariants.{NoRoom, NoMemoryLeft}
+use Rattle.kc_place.specs.Gaps.{Represents}
+use Rattle.std.specs.Global.{Vec}
 use Rattle.kc_place.specs.Ranges.{range_of, step_of}
 use Rattle.kc_place.specs.Stands.{how_many, least, least_free, stand_at, same_kind, fixed_from, wanted}
 use Rattle.kc_place.specs.Names.{either, home_of, unresolved, doubled}
@@ -85,14 +90,18 @@ abbrev pub places_with : List Object → List Stand → ℕ → ℕ → Places
 places_with ms puts size stack = record { pieces = places_from puts stack 0 ms; after_stack = (stack + size) % 65536 }
 
 -- an empty stack needs no room
+abbrev pub stack_at : ℕ → Option ℕ → Option ℕ
+stack_at size (Some at) = Some at
+stack_at size None = if size == 0 then Some 0 else None
+
 abbrev pub with_stack : List Object → List Stand → ℕ → Option ℕ → Result Places LinkFault
 with_stack ms puts size (Some stack) = Ok (places_with ms puts size stack)
-with_stack ms puts size None = if size == 0 then Ok (places_with ms puts size 0) else Err (Capacity Stack (length ms))
+with_stack ms puts size None = Err (Capacity Stack (length ms))
 
 abbrev pub with_puts : List Object → Ranges → Result (List Stand) Piece → Result Places LinkFault
 with_puts ms ranges (Err p) = Err (Capacity p.kind p.index)
 with_puts ms ranges (Ok puts) =
-    with_stack ms puts (stack_size ranges ms) (least_free (fixed_from 0 ms ++ puts) (range_of ranges Stack) 2 (stack_size ranges ms))
+    with_stack ms puts (stack_size ranges ms) (stack_at (stack_size ranges ms) (least_free (fixed_from 0 ms ++ puts) (range_of ranges Stack) 2 (stack_size ranges ms)))
 
 abbrev pub unless : Option LinkFault → Result Places LinkFault → Result Places LinkFault
 unless None result = result
@@ -132,3 +141,40 @@ bases_of ms places index m = bases_in (base_lists ms places index m)
 unfoldable pub bases_from : List Object → Places → ℕ → List Object → List BaseLists
 bases_from all places index [] = []
 bases_from all places index (m ∷ ms) = base_lists all places index m ∷ bases_from all places (index + 1) ms
+
+-- ---- what a call of placing answers
+
+-- want of memory has no cause here
+abbrev pub IsCause : LinkFault → Type 0 → Type 0
+IsCause NoMemory P = Unit {0}
+IsCause _ P = P
+
+-- the bases of each module at the places, or the fault
+abbrev pub IsAnswer : List Object → Result Places LinkFault → Result (Vec BaseLists) LinkFault → Type 0
+IsAnswer ms placed (Ok bases) = (places : Places) × ((placed ≡ Ok places) × (bases.items ≡ bases_from ms places 0 ms))
+IsAnswer ms placed (Err fault) = IsCause fault (placed ≡ Err fault)
+
+-- the first broken rule, if there is one
+abbrev pub IsLocated : List Object → Ranges → Result (Vec BaseLists) LinkFault → Type 0
+IsLocated ms ranges result = IsAnswer ms (located ms ranges) result
+
+-- a rule is kept, or broken with this fault
+abbrev pub IsKept : {A : Type 0} → Option LinkFault → Result A LinkFault → Type 0
+IsKept broken (Ok x) = broken ≡ None
+IsKept broken (Err fault) = IsCause fault (broken ≡ Some fault)
+
+abbrev pub fault_of : NoPlace → LinkFault
+fault_of (NoRoom p) = Capacity p.kind p.index
+fault_of NoMemoryLeft = NoMemory
+
+-- one piece is put
+abbrev pub IsPut : Ranges → List Stand → Piece → List Gap → Result Stand NoPlace → Type 0
+IsPut ranges taken p gaps (Ok s) = (least_free taken (range_of ranges p.kind) (step_of p.kind) p.size ≡ Some s.at) × ((s ≡ stand_at p s.at) × Represents gaps (taken ++ s ∷ []))
+IsPut ranges taken p gaps (Err (NoRoom q)) = (least_free taken (range_of ranges p.kind) (step_of p.kind) p.size ≡ None) × (q ≡ p)
+IsPut ranges taken p gaps (Err NoMemoryLeft) = Unit {0}
+
+-- all of them are put
+abbrev pub ArePut : Ranges → List Stand → List Piece → List Gap → Result (Vec Stand) NoPlace → Type 0
+ArePut ranges fixed ps gaps (Ok puts) = (put_all ranges fixed [] ps ≡ Ok puts.items) × Represents gaps (fixed ++ puts.items)
+ArePut ranges fixed ps gaps (Err (NoRoom p)) = put_all ranges fixed [] ps ≡ Err p
+ArePut ranges fixed ps gaps (Err NoMemoryLeft) = Unit {0}

@@ -5,9 +5,12 @@ mod cover;
 mod gaps;
 mod names;
 mod pieces;
+mod places;
 mod placing;
+mod putting;
 mod ranges;
 mod rules;
+mod stack;
 
-pub use placing::{Placing, place};
+pub use placing::place;
 pub use ranges::{LinkFault, Ranges};

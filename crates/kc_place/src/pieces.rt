@@ -1,4 +1,4 @@
-ghost use Rattle.std.specs.Prelude.{◌≡◌, ◌++◌, OnOk, IfOk};
+ghost use Rattle.std.specs.Prelude.{◌≡◌, ◌≤◌, ◌++◌, OnOk, IfOk, length};
 ghost use Rattle.kc_place.specs.Stands as stands;
 ghost use Rattle.kc_place.specs.Stands.{piece_of, fixed_in, fixed_from, wanted_in, wanted_from, wanted};
 
@@ -9,7 +9,7 @@ use std::alloc::Global;
 /// A piece of a module: the numbers of both, its kind, and its length in bytes.
 #[derive(Clone, Copy, Debug, PartialEq, Eq)]
 pub struct Piece {
-    pub index: usize,
+    pub index: u16,
     pub number: usize,
     pub kind: SegKind,
     pub size: u16,
@@ -22,7 +22,7 @@ pub struct Stand {
     pub at: u16,
 }
 
-fn make_piece(index: usize, number: usize, segment: Segment) -> Piece
+fn make_piece(index: u16, number: usize, segment: Segment) -> Piece
     ensures { result ≡ piece_of index number segment }
 {
     Piece {
@@ -33,7 +33,7 @@ fn make_piece(index: usize, number: usize, segment: Segment) -> Piece
     }
 }
 
-fn is_kind(kind: SegKind, other: SegKind) -> bool
+pub(crate) fn is_kind(kind: SegKind, other: SegKind) -> bool
     ensures { result ≡ stands.same_kind kind other }
 {
     kind == other
@@ -41,7 +41,7 @@ fn is_kind(kind: SegKind, other: SegKind) -> bool
 
 // Adds the absolute pieces of a module.
 #[tactic(auto, unfolding(crate::specs::Stands::fixed_in))]
-fn add_fixed(index: usize, segments: &[Segment], stands: &mut Vec<Stand>) -> Result<(), NoMemory>
+fn add_fixed(index: u16, segments: &[Segment], stands: &mut Vec<Stand>) -> Result<(), NoMemory>
     ensures { OnOk result (stands.new.items ≡ stands.old.items ++ fixed_in index 0 segments.now) }
 {
     let mut left = segments;
@@ -62,6 +62,7 @@ fn add_fixed(index: usize, segments: &[Segment], stands: &mut Vec<Stand>) -> Res
 /// The absolute pieces of all modules.
 #[tactic(auto, unfolding(crate::specs::Stands::fixed_from))]
 pub(crate) fn fixed_pieces(alloc: Global, modules: &[Module]) -> Result<Vec<Stand>, NoMemory>
+    requires { length modules.now ≤ 64 }
     ensures { IfOk result (λ all. all.items ≡ fixed_from 0 modules.now) }
 {
     let mut stands = Vec::new(alloc);
@@ -79,7 +80,7 @@ pub(crate) fn fixed_pieces(alloc: Global, modules: &[Module]) -> Result<Vec<Stan
 #[tactic(auto, unfolding(crate::specs::Stands::wanted_in))]
 fn add_wanted(
     kind: SegKind,
-    index: usize,
+    index: u16,
     segments: &[Segment],
     pieces: &mut Vec<Piece>,
 ) -> Result<(), NoMemory>
@@ -100,6 +101,7 @@ fn add_wanted(
 // Adds the relocatable pieces of a kind of all modules.
 #[tactic(auto, unfolding(crate::specs::Stands::wanted_from))]
 fn add_kind(kind: SegKind, modules: &[Module], pieces: &mut Vec<Piece>) -> Result<(), NoMemory>
+    requires { length modules.now ≤ 64 }
     ensures { OnOk result (pieces.new.items ≡ pieces.old.items ++ wanted_from kind 0 modules.now) }
 {
     let mut left = modules;
@@ -114,6 +116,7 @@ fn add_kind(kind: SegKind, modules: &[Module], pieces: &mut Vec<Piece>) -> Resul
 
 /// The relocatable pieces of all modules, in the order in which they are placed: registers, code, data.
 pub(crate) fn wanted_pieces(alloc: Global, modules: &[Module]) -> Result<Vec<Piece>, NoMemory>
+    requires { length modules.now ≤ 64 }
     ensures { IfOk result (λ all. all.items ≡ wanted modules.now) }
 {
     let mut pieces = Vec::new(alloc);

@@ -12,6 +12,7 @@ use Rattle.kc_obj.specs.LineEntries.{lines_are_sound}
 
 pub record IsKept (m : Object) : Type 0 where
   pub placed : list_all is_placed m.segments ≡ true
+  pub segments_ordered : segments_in_order m.segments ≡ true
   pub contents : list_all (content_is_sound m.segments) m.contents ≡ true
   pub contents_ordered : contents_in_order m.contents ≡ true
   pub fixups_ordered : fixups_in_order m.fixups ≡ true
@@ -38,6 +39,7 @@ kept m h =
     let fixups = and_parts (list_all (fixup_is_sound m.segments m.externals) m.fixups && fixups_in_order m.fixups) (list_all (has_room m.contents) m.fixups) all.1.1.0 in
     record {
       placed = (and_parts (list_all is_placed m.segments) (segments_in_order m.segments) segments.0).0;
+      segments_ordered = (and_parts (list_all is_placed m.segments) (segments_in_order m.segments) segments.0).1;
       contents = contents.0;
       contents_ordered = contents.1;
       fixups_ordered = (and_parts (list_all (fixup_is_sound m.segments m.externals) m.fixups) (fixups_in_order m.fixups) fixups.0).1;

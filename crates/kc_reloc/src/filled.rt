@@ -32,10 +32,10 @@ fn unfit_among(bases: &Bases, fixups: &[Fixup]) -> Option<Fixup>
 }
 
 /// The first relocation of a module whose number does not fit its bytes, if there is one.
-pub fn first_unfit(module: &Module, bases: &Bases) -> Option<Fixup>
-    ensures { result ≡ unfit_in (bases_in bases.now) module.now.fixups }
+pub fn first_unfit(object: &Module, bases: &Bases) -> Option<Fixup>
+    ensures { result ≡ unfit_in (bases_in bases.now) object.now.fixups }
 {
-    unfit_among(bases, module.fixups())
+    unfit_among(bases, object.fixups())
 }
 
 // The relocation, where it begins at an offset of a piece.
@@ -101,13 +101,13 @@ fn second_there(bases: &Bases, fixups: &[Fixup], piece: u16, offset: u16) -> u8
 }
 
 /// The byte at an offset of a piece with what relocations put there, from the byte that the module has there.
-pub fn filled_byte(module: &Module, bases: &Bases, piece: u16, offset: u16, byte: u8) -> u8
-    requires fit { unfit_in (bases_in bases.now) module.now.fixups ≡ None }
-    requires stands { content_at module.now.contents piece offset ≡ Some byte }
-    ensures { Some result ≡ filled_at (bases_in bases.now) module.now piece offset }
+pub fn filled_byte(object: &Module, bases: &Bases, piece: u16, offset: u16, byte: u8) -> u8
+    requires fit { unfit_in (bases_in bases.now) object.now.fixups ≡ None }
+    requires stands { content_at object.now.contents piece offset ≡ Some byte }
+    ensures { Some result ≡ filled_at (bases_in bases.now) object.now piece offset }
 {
-    module.keeps_rules();
-    let fixups = module.fixups();
+    object.keeps_rules();
+    let fixups = object.fixups();
     let place = bases.piece(piece) as u32 + offset as u32;
     let first = first_of(bases, place, find(fixups, piece, offset));
     let second = second_there(bases, fixups, piece, offset);
