@@ -124,7 +124,7 @@ room-of taken (suc n) from f =
     let e : is_taken taken from ≡ false = rw z at (f 0 (omega arith)) in
     rw e (room-of taken n (from + 1) (λ k h. let q : (from + 1) + k ≡ from + suc k = omega arith in rw q (f (suc k) (omega arith))))
 
-room-at : (taken : List Stand) (n from k : ℕ) → leaves_room taken from n ≡ true → k < n → is_taken taken (from + k) ≡ false
+pub room-at : (taken : List Stand) (n from k : ℕ) → leaves_room taken from n ≡ true → k < n → is_taken taken (from + k) ≡ false
 unfolding leaves_room
 room-at taken zero from k e h = absurd (omega arith)
 room-at taken (suc n) from zero e h = let z : from + 0 ≡ from = omega arith in rw z (not-true (is_taken taken from) (both (not (is_taken taken from)) (leaves_room taken (from + 1) n) e).0)

@@ -4,3 +4,4 @@ pub mod Covers
 pub mod StackLemmas
 pub mod StepLemmas
 pub mod AnswerLemmas
+pub mod ApartLemmas

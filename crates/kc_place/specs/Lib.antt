@@ -1,3 +1,4 @@
+pub mod Apart
 pub mod Gaps
 pub mod Names
 pub mod Placing

@@ -1,6 +1,7 @@
 //! The places of pieces: names, overlaps and room, by the rules of the linker.
 #![tactic(auto)]
 
+mod apart;
 mod cover;
 mod gaps;
 mod names;
@@ -12,5 +13,6 @@ mod ranges;
 mod rules;
 mod stack;
 
+pub use apart::code_stands_apart;
 pub use placing::place;
 pub use ranges::{LinkFault, Ranges};
