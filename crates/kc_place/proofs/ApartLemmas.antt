@@ -1,6 +1,6 @@
 -- No two code pieces have one address.
-use Rattle.std.proofs.Common.{◌≡◌, ℕ, zero, suc, ◌+◌, ◌-◌, ◌<◌, ◌≤◌, Bool, true, false, List, [], ◌∷◌, ◌++◌, length, Option, Some, None, refl, sym, ap, ◌∙◌, subst, inl, inr, append_assoc, append-nil, arith}
-use Rattle.std.specs.Prelude.{◌⊎◌, ◌&&◌, ◌||◌, ◌==◌, not, nat_lt, nat_le, if◌then◌else◌, slice_get, Result, Ok, Err}
+use Rattle.std.proofs.Common.{◌≡◌, ℕ, zero, suc, ◌+◌, ◌-◌, ◌<◌, ◌≤◌, Bool, true, false, List, [], ◌∷◌, ◌++◌, Option, Some, None, refl, sym, ap, ◌∙◌, subst, inl, inr, append_assoc, append-nil, arith}
+use Rattle.std.specs.Prelude.{◌⊎◌, ◌&&◌, ◌||◌, ◌==◌, not, nat_le, if◌then◌else◌, slice_get, Result, Ok, Err}
 use Rattle.std.specs.Option.{option_map}
 use Rattle.std.specs.List.{list_all}
 use Rattle.std.proofs.lemmas.Bool.{and_parts}
@@ -9,8 +9,7 @@ use Rattle.kc_obj.specs.declared.parts.SegKind.{SegKind}
 use Rattle.kc_obj.specs.declared.parts.SegKind.TheVariants.{Reg, Code, Ram, Stack}
 use Rattle.kc_obj.specs.declared.parts.Segment.{Segment}
 use Rattle.kc_obj.specs.Object.{Object}
-use Rattle.kc_obj.specs.Pieces.{is_placed, based_well, in_region, lies_in}
-use Rattle.kc_obj.specs.Rules.{is_module}
+use Rattle.kc_obj.specs.Pieces.{is_placed, based_well}
 use Rattle.kc_place.specs.declared.ranges.Ranges.{Ranges}
 use Rattle.kc_place.specs.declared.ranges.LinkFault.{LinkFault}
 use Rattle.kc_place.specs.declared.ranges.LinkFault.TheVariants.{Unresolved, OverlapName, OverlapPlace}
@@ -19,12 +18,12 @@ use Rattle.kc_place.specs.declared.pieces.Stand.{Stand}
 use Rattle.kc_place.specs.Ranges.{are_in_bounds, lies_within, range_of, step_of}
 use Rattle.kc_place.specs.Stands.{has, is_taken, how_many, leaves_room, least, least_free, piece_of, stand_at, same_kind, fixed_in, fixed_from, wanted_in, wanted_from, wanted}
 use Rattle.kc_place.specs.Names.{unresolved, doubled}
-use Rattle.kc_place.specs.Placing.{Places, overlap, put_all, is_at, put_at, place_of, places_in, places_from, places_with, stack_size, stack_at, with_stack, with_puts, unless, located, list_at, base_at}
+use Rattle.kc_place.specs.Placing.{Places, overlap, put_all, is_at, put_at, place_of, places_in, places_from, places_with, stack_size, stack_at, with_stack, with_puts, unless, located, base_at}
 use Rattle.kc_place.specs.Apart.{CodeAt, AllKeepRules, CodeIsApart, CodeStandsApart}
-use Rattle.kc_place.proofs.FirstFit.{HasRoom, room_of_least, room-at}
+use Rattle.kc_place.proofs.FirstFit.{room_of_least, room-at}
 use Rattle.kc_place.proofs.Covers.{free_is}
 use Rattle.kc_reloc.specs.Numbers.{or_0}
-use Rattle.kc_reloc.proofs.Modules.{IsKept, kept}
+use Rattle.kc_reloc.proofs.Modules.{kept}
 
 -- ---- how many pieces have an address
 

@@ -1,13 +1,13 @@
 -- A module has at most one stack piece.
-use Rattle.std.proofs.Common.{◌≡◌, ℕ, ◌+◌, ◌<◌, Bool, true, false, ◌&&◌, List, [], ◌∷◌, length, get_or, take, drop, ◌-◌, ◌≤◌, Option, Some, None, refl, sym, ap, ◌∙◌, arith}
-use Rattle.std.specs.Prelude.{nat_lt, if◌then◌else◌}
+use Rattle.std.proofs.Common.{◌≡◌, ℕ, ◌<◌, Bool, true, false, List, [], ◌∷◌, length, get_or, take, drop, ◌-◌, ◌≤◌, Option, Some, None, refl, sym, arith}
+use Rattle.std.specs.Prelude.{nat_lt}
 use Rattle.std.specs.List.{list_all}
 use Rattle.std.proofs.lemmas.Bool.{and_parts}
 use Rattle.std.proofs.lemmas.Bool.Decides.{nat_tests}
 use Rattle.kc_obj.specs.declared.parts.SegKind.{SegKind}
 use Rattle.kc_obj.specs.declared.parts.SegKind.TheVariants.{Reg, Code, Ram, Stack}
 use Rattle.kc_obj.specs.declared.parts.Segment.{Segment}
-use Rattle.kc_obj.specs.Pieces.{kind_number, based_well, in_region, is_placed, may_follow, segment_follows, segments_in_order}
+use Rattle.kc_obj.specs.Pieces.{kind_number, based_well, is_placed, may_follow, segment_follows, segments_in_order}
 use Rattle.std.proofs.Math.Seq.{take-length}
 use Rattle.kc_place.specs.Stands.{same_kind}
 use Rattle.kc_place.specs.Placing.{stack_part, stack_in}

@@ -1,6 +1,6 @@
 -- The first of the items that are left, and the others.
 use Rattle.std.proofs.Common.{◌≡◌, ℕ, ◌-◌, ◌≤◌, List, [], ◌∷◌, ◌++◌, length, get_or, take, drop, map, Some, None, refl, sym, ap, ◌∙◌, append_assoc, append-nil, arith}
-use Rattle.std.specs.Prelude.{Result, Ok, Err}
+use Rattle.std.specs.Prelude.{Ok, Err}
 use Rattle.std.proofs.Math.Seq.{take-length}
 use Rattle.kc_obj.specs.declared.parts.Taken.{Taken}
 use Rattle.kc_place.specs.declared.ranges.Ranges.{Ranges}

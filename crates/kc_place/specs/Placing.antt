@@ -1,17 +1,15 @@
 -- Where all pieces stand, or the first of the rules on names, overlaps and room that is broken (after RL96 of the MCS-96 utilities, in outline;
 -- the order of the rules is this kit's own).
-use Rattle.std.specs.Prelude.{◌≡◌, ℕ, Bool, true, false, ◌+◌, ◌*◌, ◌/◌, ◌%◌, ◌==◌, ◌&&◌, nat_le, if◌then◌else◌, Option, Some, None, Result, Ok, Err, List, [], ◌∷◌, ◌++◌, length, map, slice_get}
+use Rattle.std.specs.Prelude.{◌≡◌, ℕ, Bool, ◌+◌, ◌*◌, ◌/◌, ◌%◌, ◌==◌, ◌&&◌, nat_le, if◌then◌else◌, Option, Some, None, Result, Ok, Err, List, [], ◌∷◌, ◌++◌, length, map, slice_get}
 use Rattle.std.specs.Option.{option_map}
-use Rattle.kc_obj.specs.declared.parts.SegKind.{SegKind}
-use Rattle.kc_obj.specs.declared.parts.SegKind.TheVariants.{Reg, Code, Ram, Stack}
+use Rattle.kc_obj.specs.declared.parts.SegKind.TheVariants.{Stack}
 use Rattle.kc_obj.specs.declared.parts.Segment.{Segment}
-use Rattle.kc_obj.specs.declared.parts.Taken.{Taken}
 use Rattle.kc_obj.specs.Object.{Object}
 use Rattle.kc_obj.specs.Names.{is_stack_name}
 use Rattle.kc_reloc.specs.Numbers.{Bases, BaseLists, bases_in, or_0}
 use Rattle.kc_place.specs.declared.ranges.Ranges.{Ranges}
 use Rattle.kc_place.specs.declared.ranges.LinkFault.{LinkFault}
-use Rattle.kc_place.specs.declared.ranges.LinkFault.TheVariants.{Unresolved, OverlapName, OverlapPlace, Capacity, Range, NoMemory}
+use Rattle.kc_place.specs.declared.ranges.LinkFault.TheVariants.{Unresolved, OverlapName, OverlapPlace, Capacity, NoMemory}
 use Rattle.kc_place.specs.declared.pieces.Piece.{Piece}
 use Rattle.kc_place.specs.declared.pieces.Stand.{Stand}
 use Rattle.kc_place.specs.declared.names.Home.{Home}
@@ -22,7 +20,7 @@ use Rattle.kc_place.specs.Gaps.{Represents}
 use Rattle.std.specs.Global.{Vec}
 use Rattle.kc_place.specs.Ranges.{range_of, step_of}
 use Rattle.kc_place.specs.Stands.{how_many, least, least_free, stand_at, same_kind, fixed_from, wanted}
-use Rattle.kc_place.specs.Names.{either, home_of, unresolved, doubled}
+use Rattle.kc_place.specs.Names.{home_of, unresolved, doubled}
 
 -- ---- overlaps: the least address above the special function registers that two absolute pieces have
 

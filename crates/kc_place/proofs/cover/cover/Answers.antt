@@ -1,7 +1,7 @@
-use Rattle.std.proofs.Common.{◌≡◌, ℕ, ◌+◌, ◌-◌, ◌<◌, ◌≤◌, length, get_or, List, refl, sym, ap, ◌∙◌, arith}
+use Rattle.std.proofs.Common.{◌≡◌, ◌+◌, ◌-◌, length, refl, sym, ap, ◌∙◌, arith}
 use Rattle.std.proofs.lemmas.List.{get_or_read}
 use Rattle.kc_place.specs.Stands.{how_many}
-use Rattle.kc_place.specs.Gaps.{begins_at, ends_at, open_at}
+use Rattle.kc_place.specs.Gaps.{begins_at, ends_at}
 use Rattle.kc_place.proofs.Covers.{open_none, open_next, standing_step, standing_fits, counted_more}
 use Rattle.kc_place.proofs.cover.cover.Goals as goal
 

@@ -1,4 +1,4 @@
-use Rattle.std.proofs.Common.{◌≡◌, ℕ, ◌+◌, ◌<◌, ◌≤◌, length, get_or, take, set, arith, ap, ◌∙◌, sym}
+use Rattle.std.proofs.Common.{◌≡◌, ◌+◌, length, get_or, take, arith, ap, ◌∙◌}
 use Rattle.std.proofs.lemmas.List.{length-set, length-take-le, take_all}
 use Rattle.kc_obj.specs.declared.parts.SegKind.TheVariants.{Reg}
 use Rattle.kc_place.specs.declared.pieces.Stand.{Stand}

@@ -1,4 +1,4 @@
-use Rattle.std.proofs.Common.{◌≡◌, ap, ◌∙◌, sym, arith}
+use Rattle.std.proofs.Common.{ap, ◌∙◌}
 use Rattle.kc_place.proofs.Covers.{push_step, stay_step, free_step, last_step, all_step}
 use Rattle.kc_place.proofs.cover.gaps_between.Goals as goal
 use Rattle.kc_place.proofs.cover.gaps_between.Goals.{then-cover-address-gt0, then-start-address+in_ok-push, else-start-address, else-cover-address-gt0, then-start-lt65536+in_ok-push-2, else-start-lt65536}

@@ -1,6 +1,6 @@
-use Rattle.std.proofs.Common.{◌≡◌, ℕ, ◌+◌, ◌-◌, ◌≤◌, Bool, true, false, Some, None, List, refl, sym, ◌∙◌, ap, arith, get_or}
+use Rattle.std.proofs.Common.{◌+◌, ◌-◌, refl, sym, ◌∙◌, arith}
 use Rattle.std.specs.Prelude.{nat_le}
-use Rattle.kc_place.specs.Stands.{how_many, least}
+use Rattle.kc_place.specs.Stands.{how_many}
 use Rattle.kc_place.specs.Placing.{overlap}
 use Rattle.kc_place.proofs.Covers.{least_more, least_here, least_end, two_true, two_false}
 use Rattle.kc_place.proofs.cover.overlap.Goals as goal

@@ -1,4 +1,4 @@
-use Rattle.std.proofs.Common.{◌≡◌, ◌<◌, ◌∙◌, sym, ap, arith, subst}
+use Rattle.std.proofs.Common.{◌∙◌, sym, ap, arith}
 use Rattle.std.specs.Prelude.{ℕ}
 use Rattle.kc_place.specs.Ranges.{step_of}
 use Rattle.kc_place.specs.Stands.{least_free}

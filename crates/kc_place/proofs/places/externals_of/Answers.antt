@@ -1,4 +1,4 @@
-use Rattle.std.proofs.Common.{◌≡◌, ◌∙◌, sym, ap, ◌++◌, List, arith}
+use Rattle.std.proofs.Common.{◌∙◌, sym, ap, arith}
 use Rattle.kc_place.specs.Placing.{name_number}
 use Rattle.kc_place.proofs.StepLemmas.{map_step, map_end}
 use Rattle.kc_place.proofs.places.externals_of.Goals as goal

@@ -1,7 +1,7 @@
 use Rattle.std.proofs.Common.{◌≡◌, ◌++◌, List, map, length}
 use Rattle.kc_obj.specs.Object.{Object}
 use Rattle.kc_place.specs.Names.{Knows}
-use Rattle.kc_place.specs.Placing.{Places, name_number}
+use Rattle.kc_place.specs.Placing.{name_number}
 use Rattle.kc_place.proofs.places.externals_of.Given as goal
 
 abbrev pub invariant-loop-left : goal.invariant-loop-left

@@ -1,6 +1,4 @@
-use Rattle.std.proofs.Common.{◌≡◌, ◌∙◌, sym, ap, ◌++◌, List, [], Ok}
-use Rattle.kc_place.specs.declared.pieces.Stand.{Stand}
-use Rattle.kc_place.specs.declared.pieces.Piece.{Piece}
+use Rattle.std.proofs.Common.{◌≡◌, ◌∙◌, ◌++◌, [], Ok}
 use Rattle.kc_place.specs.Stands.{fixed_from, wanted}
 use Rattle.kc_place.specs.Gaps.{Represents}
 use Rattle.kc_place.specs.Placing.{put_all}

@@ -1,7 +1,6 @@
-use Rattle.std.proofs.Common.{◌≡◌, ℕ, ◌<◌, ◌≤◌, ◌+◌, true, List, Some, refl, sym, ap, ◌∙◌, arith}
-use Rattle.kc_place.specs.declared.pieces.Stand.{Stand}
-use Rattle.kc_place.specs.Ranges.{range_of, step_of}
-use Rattle.kc_place.specs.Stands.{leaves_room, least_free, stand_at}
+use Rattle.std.proofs.Common.{◌≡◌, ℕ, ◌<◌, Some, refl, sym, ap, ◌∙◌, arith}
+use Rattle.kc_place.specs.Ranges.{step_of}
+use Rattle.kc_place.specs.Stands.{least_free, stand_at}
 use Rattle.kc_place.specs.Gaps.{Represents}
 use Rattle.kc_place.proofs.FirstFit.{cut_is_taken, empty_is_taken, room_of_least}
 use Rattle.kc_place.proofs.putting.put.Goals as goal

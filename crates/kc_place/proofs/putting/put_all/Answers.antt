@@ -1,4 +1,4 @@
-use Rattle.std.proofs.Common.{◌≡◌, ◌∙◌, sym, ap, ◌++◌, List, true, not, arith}
+use Rattle.std.proofs.Common.{◌≡◌, ◌∙◌, ap, ◌++◌, true, not, arith}
 use Rattle.std.specs.Result.{is_ok}
 use Rattle.kc_obj.specs.declared.parts.SegKind.TheVariants.{Reg}
 use Rattle.kc_place.specs.declared.pieces.Piece.{Piece}

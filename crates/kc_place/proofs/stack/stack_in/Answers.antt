@@ -1,4 +1,4 @@
-use Rattle.std.proofs.Common.{◌≡◌, sym, ◌∙◌, None, arith}
+use Rattle.std.proofs.Common.{sym, ◌∙◌, None}
 use Rattle.kc_obj.specs.declared.parts.SegKind.TheVariants.{Reg}
 use Rattle.kc_obj.specs.declared.parts.Segment.{Segment}
 use Rattle.kc_place.proofs.StackLemmas.{first_is_stack, first_is_none}

@@ -1,4 +1,4 @@
-use Rattle.std.proofs.Common.{◌≡◌, None, rules, sym, ◌∙◌}
+use Rattle.std.proofs.Common.{◌≡◌, None, rules}
 use Rattle.kc_place.specs.Names.{found_in}
 use Rattle.kc_place.proofs.NameLemmas.{noted}
 use Rattle.kc_place.proofs.names.Names.note.Goals as goal

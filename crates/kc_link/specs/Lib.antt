@@ -1,0 +1,4 @@
+pub mod Filled
+pub mod LineMap
+pub mod Placed
+pub mod Writes

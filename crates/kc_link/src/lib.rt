@@ -1,0 +1,8 @@
+//! Links modules: fills an image at the places of their pieces, and tells which line stands where.
+#![tactic(auto)]
+
+mod filling;
+mod linking;
+
+pub use kc_place::{LinkFault, Ranges};
+pub use linking::link;
