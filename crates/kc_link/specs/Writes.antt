@@ -1,12 +1,12 @@
 -- The bytes of an image, written one after the other.
-use Rattle.std.specs.Prelude.{◌≡◌, ℕ, zero, suc, ◌+◌, ◌-◌, ◌<◌, ◌≤◌, Some, List, [], ◌∷◌, ◌++◌, length, slice_get, slice_set, slice_index, ◌⊎◌}
+use Rattle.std.specs.Prelude.{◌≡◌, ℕ, zero, suc, ◌+◌, ◌-◌, ◌<◌, ◌≤◌, Some, None, List, [], ◌∷◌, ◌++◌, length, slice_get, slice_set, slice_index, ◌⊎◌}
 use Rattle.kc_obj.specs.declared.parts.Content.{Content}
 use Rattle.kc_obj.specs.declared.parts.Segment.{Segment}
 use Rattle.kc_obj.specs.declared.parts.SegKind.TheVariants.{Code}
 use Rattle.kc_obj.specs.Object.{Object}
 use Rattle.kc_obj.specs.Contents.{content_at}
 use Rattle.kc_reloc.specs.Numbers.{Bases, BaseLists, bases_in, or_0}
-use Rattle.kc_reloc.specs.Filled.{filled_at}
+use Rattle.kc_reloc.specs.Filled.{filled_at, unfit_in}
 
 unfoldable pub written : List ℕ → List (ℕ × ℕ) → List ℕ
 written image [] = image
@@ -36,3 +36,9 @@ pub record RunStands (b : Bases) (m : Object) (c : Content) : Type 0 where
 abbrev pub RunsStand : Bases → Object → List Content → Type 0
 RunsStand b m [] = Unit {0}
 RunsStand b m (c ∷ cs) = RunStands b m c × RunsStand b m cs
+
+-- each module's relocations fit, and its runs stand
+abbrev pub ModulesStand : List Object → List BaseLists → Type 0
+ModulesStand [] bs = Unit {0}
+ModulesStand (m ∷ ms) [] = Unit {0}
+ModulesStand (m ∷ ms) (b ∷ bs) = ((unfit_in (bases_in b) m.fixups ≡ None) × RunsStand (bases_in b) m m.contents) × ModulesStand ms bs

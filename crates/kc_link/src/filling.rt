@@ -1,7 +1,7 @@
 ghost use Rattle.std.specs.Prelude.{◌≡◌, ◌+◌, ◌-◌, ◌<◌, ◌≤◌, ℕ, List, None, length, slice_index};
 ghost use Rattle.kc_reloc.specs.Numbers.{bases_in};
 ghost use Rattle.kc_reloc.specs.Filled.{unfit_in};
-ghost use Rattle.kc_link.specs.Writes.{written, bytes_of, runs_of, all_bytes, RunStands, RunsStand};
+ghost use Rattle.kc_link.specs.Writes.{written, bytes_of, runs_of, all_bytes, RunStands, RunsStand, ModulesStand};
 
 use kc_base::{IMAGE_START, Image};
 use kc_obj::{Content, Module};
@@ -31,6 +31,26 @@ fn fill_runs(image: &mut Image, object: &Module, bases: &Bases, runs: &[Content]
     let mut left = runs;
     while let [run, rest @ ..] = left {
         fill_run(image, object, bases, run);
+        left = rest;
+    }
+}
+
+/// Puts all bytes of all modules into the image, each at its place and filled.
+#[tactic(auto, unfolding(crate::specs::Writes::all_bytes))]
+pub(crate) fn fill(image: &mut Image, modules: &[Module], bases: &[Bases])
+    requires { ModulesStand modules.now bases.now }
+    ensures { image.new ≡ written image.old (all_bytes modules.now bases.now) }
+{
+    let mut left = modules;
+    let mut ahead = bases;
+    while let [object, rest @ ..] = left {
+        match ahead {
+            [] => return,
+            [own, others @ ..] => {
+                fill_runs(image, object, own, object.contents());
+                ahead = others;
+            }
+        }
         left = rest;
     }
 }

@@ -2,7 +2,8 @@
 #![tactic(auto)]
 
 mod filling;
+mod lines;
 mod linking;
 
 pub use kc_place::{LinkFault, Ranges};
-pub use linking::link;
+pub use linking::check_fits;
