@@ -1,1 +1,4 @@
+pub mod ContentLemmas
+pub mod ImageLemmas
+pub mod PlacedLemmas
 pub mod WriteLemmas

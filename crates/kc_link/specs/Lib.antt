@@ -2,3 +2,4 @@ pub mod Filled
 pub mod LineMap
 pub mod Placed
 pub mod Writes
+pub mod Laws

@@ -3,7 +3,9 @@
 
 mod filling;
 mod lines;
+mod laws;
 mod linking;
 
 pub use kc_place::{LinkFault, Ranges};
+pub use laws::probe;
 pub use linking::check_fits;

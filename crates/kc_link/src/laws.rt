@@ -1,0 +1,7 @@
+ghost use Rattle.kc_link.specs.Laws.{WrittenIsFilled};
+
+/// probe
+pub fn probe()
+    ensures { WrittenIsFilled }
+{
+}
