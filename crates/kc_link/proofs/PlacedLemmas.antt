@@ -7,9 +7,10 @@ use Rattle.kc_reloc.specs.Numbers.{Bases, BaseLists, bases_in}
 use Rattle.kc_reloc.specs.Filled.{unfit_in}
 use Rattle.kc_place.specs.declared.ranges.Ranges.{Ranges}
 use Rattle.kc_place.specs.declared.ranges.LinkFault.{LinkFault}
+use Rattle.kc_place.specs.declared.ranges.LinkFault.TheVariants.{Unresolved, OverlapName, OverlapPlace, Capacity, Range, NoMemory}
 use Rattle.kc_place.specs.Names.{either}
-use Rattle.kc_place.specs.Placing.{Places, base_lists, bases_of, bases_from}
-use Rattle.kc_link.specs.Placed.{range_fault, unfit, unfit_by}
+use Rattle.kc_place.specs.Placing.{Places, base_lists, bases_of, bases_from, located, IsCause}
+use Rattle.kc_link.specs.Placed.{range_fault, unfit, unfit_by, or_fault, with_places, placed}
 
 pub unfit_same : (all : List Object) (places : Places) (n : ℕ) (ms : List Object) → unfit_by n ms (bases_from all places n ms) ≡ unfit all places n ms
 unfolding unfit unfit_by bases_from
@@ -37,3 +38,44 @@ module_fits all places n (x ∷ ms) h (suc k) i m q e =
 pub rest_fits : (all : List Object) (places : Places) (n : ℕ) (m : Object) (ms : List Object) → unfit all places n (m ∷ ms) ≡ None → unfit all places (n + 1) ms ≡ None
 unfolding unfit
 rest_fits all places n m ms h = (range-none n (unfit_in (bases_of all places n m) m.fixups) (unfit all places (n + 1) ms) h).1
+
+-- ---- placed, from what is located
+
+cause_map : (P Q : Type 0) (fault : LinkFault) → IsCause fault P → (P → Q) → IsCause fault Q
+cause_map P Q (Unresolved t) c f = f c
+cause_map P Q (OverlapName t) c f = f c
+cause_map P Q (OverlapPlace a) c f = f c
+cause_map P Q (Capacity k i) c f = f c
+cause_map P Q (Range i p o) c f = f c
+cause_map P Q NoMemory c f = tt
+
+pub placed_ok : (ms : List Object) (ranges : Ranges) (places : Places) (bs : List BaseLists) → located ms ranges ≡ Ok places → bs ≡ bases_from ms places 0 ms → unfit_by 0 ms bs ≡ None → placed ms ranges ≡ Ok places
+unfolding placed
+placed_ok ms ranges places bs l b u =
+    let v : unfit ms places 0 ms ≡ None = sym (unfit_same ms places 0 ms) ∙ (rw b at u) in
+    rw l (rw v refl)
+
+pub placed_err : (ms : List Object) (ranges : Ranges) (places : Places) (bs : List BaseLists) (fault : LinkFault) → located ms ranges ≡ Ok places → bs ≡ bases_from ms places 0 ms → IsCause fault (unfit_by 0 ms bs ≡ Some fault) →
+    IsCause fault (placed ms ranges ≡ Err fault)
+unfolding placed
+placed_err ms ranges places bs fault l b c = cause_map (unfit_by 0 ms bs ≡ Some fault) (placed ms ranges ≡ Err fault) fault c (λ u.
+    let v : unfit ms places 0 ms ≡ Some fault = sym (unfit_same ms places 0 ms) ∙ (rw b at u) in
+    rw l (rw v refl))
+
+pub record WasLocated (ms : List Object) (ranges : Ranges) (places : Places) : Type 0 where
+  pub located_ok : located ms ranges ≡ Ok places
+  pub fit : unfit ms places 0 ms ≡ None
+
+or-ok : (o : Option LinkFault) (p places : Places) → or_fault o p ≡ Ok places → (o ≡ None) × (p ≡ places)
+or-ok None p places e = (refl, cc e)
+or-ok (Some f) p places e = absurd (cc e)
+
+pub was_located : (ms : List Object) (ranges : Ranges) (places : Places) → placed ms ranges ≡ Ok places → WasLocated ms ranges places
+unfolding placed
+was_located ms ranges places e = by (located ms ranges) refl e
+  where
+    by : (r : Result Places LinkFault) → located ms ranges ≡ r → with_places ms r ≡ Ok places → WasLocated ms ranges places
+    by (Err f) q g = absurd (cc g)
+    by (Ok p) q g =
+        let h = or-ok (unfit ms p 0 ms) p places g in
+        record { located_ok = q ∙ ap (λ (x : Places). Ok x) h.1; fit = subst (λ (x : Places). unfit ms x 0 ms ≡ None) h.1 h.0 }

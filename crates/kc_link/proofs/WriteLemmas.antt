@@ -1,12 +1,15 @@
 -- Writing the bytes of runs one after the other, and reading them back.
-use Rattle.std.proofs.Common.{◌≡◌, ℕ, zero, suc, ◌+◌, ◌-◌, ◌<◌, ◌≤◌, List, [], ◌∷◌, ◌++◌, length, get_or, take, drop, Option, Some, None, refl, ap, sym, ◌∙◌, subst, inl, inr, append-nil, arith}
-use Rattle.std.specs.Prelude.{slice_get, slice_set, slice_index, ◌⊎◌}
+use Rattle.std.proofs.Common.{◌≡◌, ℕ, zero, suc, ◌+◌, ◌-◌, ◌<◌, ◌≤◌, List, [], ◌∷◌, ◌++◌, length, get_or, take, drop, replicate, Option, Some, None, refl, ap, sym, ◌∙◌, subst, inl, inr, append-nil, arith}
+use Rattle.std.specs.Prelude.{slice_get, slice_set, slice_index, ◌⊎◌, Result, Ok, Err, IfOk}
+use Rattle.std.proofs.lemmas.List.{length-replicate, get_or-replicate}
+use Rattle.std.proofs.lemmas.Option.{slice_get-get_or}
+use Rattle.kc_base.specs.declared.types.NoMemory.{NoMemory}
 use Rattle.std.proofs.Math.Seq.{take-length}
 use Rattle.kc_obj.specs.declared.parts.Content.{Content}
 use Rattle.kc_obj.specs.Object.{Object}
 use Rattle.kc_reloc.specs.Numbers.{Bases, BaseLists, bases_in, or_0}
 use Rattle.kc_reloc.specs.Filled.{filled_at, unfit_in}
-use Rattle.kc_link.specs.Writes.{written, bytes_of, runs_of, all_bytes, RunStands, RunsStand, ModulesStand}
+use Rattle.kc_link.specs.Writes.{written, bytes_of, runs_of, all_bytes, RunStands, RunsStand, ModulesStand, IsBlank}
 
 abbrev pub tail : {X : Type 0} → List X → List X
 tail xs = take (length xs - 1) (drop 1 xs)
@@ -183,3 +186,15 @@ pub has-either : (place byte : ℕ) (ws vs : List (ℕ × ℕ)) → Has place by
 has-either place byte [] vs h = inr h
 has-either place byte (w ∷ ws) vs (inl h) = inl (inl h)
 has-either place byte (w ∷ ws) vs (inr h) = elim (has-either place byte ws vs h) [ inl k ↦ inl (inr k) | inr k ↦ inr k ]
+
+-- ---- an image of FFH
+
+get_replicate : (n k v : ℕ) → k < n → slice_get (replicate n v) k ≡ Some v
+get_replicate n k v l = slice_get-get_or (replicate n v) k 0 (omega (arith, length-replicate n v)) ∙ ap (λ (x : ℕ). Some x) (get_or-replicate n k v 0 l)
+
+pub blank_ok : (n : ℕ) (r : Result (List ℕ) NoMemory) → n ≡ 0xE000 → IfOk r (λ i. i ≡ replicate n 255) → IfOk r (λ i. IsBlank i)
+blank_ok n (Ok i) e h = record {
+  long = ap (λ (l : List ℕ). length l) h ∙ (length-replicate n 255 ∙ e);
+  empty = λ place l. rw h (get_replicate n place 255 (omega (arith, l, e)));
+}
+blank_ok n (Err f) e h = tt

@@ -2,4 +2,3 @@ pub mod Filled
 pub mod LineMap
 pub mod Placed
 pub mod Writes
-pub mod Laws

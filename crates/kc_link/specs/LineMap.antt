@@ -45,3 +45,17 @@ unfoldable pub lines_by : List Object → List BaseLists → List LineAt
 lines_by [] bs = []
 lines_by (m ∷ ms) [] = []
 lines_by (m ∷ ms) (b ∷ bs) = lines_in (bases_in b) m.name m.lines ++ lines_by ms bs
+
+-- the addresses of line entries are addresses
+abbrev pub LinesStand : Bases → List Lines → Type 0
+LinesStand b [] = Unit {0}
+LinesStand b (l ∷ ls) = (b.piece l.piece + l.offset < 65536) × LinesStand b ls
+
+abbrev pub MaybeLinesStand : Bases → Option (List Lines) → Type 0
+MaybeLinesStand b None = Unit {0}
+MaybeLinesStand b (Some lines) = LinesStand b lines
+
+abbrev pub AllLinesStand : List Object → List BaseLists → Type 0
+AllLinesStand [] bs = Unit {0}
+AllLinesStand (m ∷ ms) [] = Unit {0}
+AllLinesStand (m ∷ ms) (b ∷ bs) = MaybeLinesStand (bases_in b) m.lines × AllLinesStand ms bs

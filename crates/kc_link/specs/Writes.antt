@@ -42,3 +42,8 @@ abbrev pub ModulesStand : List Object → List BaseLists → Type 0
 ModulesStand [] bs = Unit {0}
 ModulesStand (m ∷ ms) [] = Unit {0}
 ModulesStand (m ∷ ms) (b ∷ bs) = ((unfit_in (bases_in b) m.fixups ≡ None) × RunsStand (bases_in b) m m.contents) × ModulesStand ms bs
+
+-- an image on which nothing is written
+pub record IsBlank (image : List ℕ) : Type 0 where
+  pub long : length image ≡ 0xE000
+  pub empty : (place : ℕ) → place < 0xE000 → slice_get image place ≡ Some 255

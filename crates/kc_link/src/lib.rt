@@ -3,9 +3,8 @@
 
 mod filling;
 mod lines;
-mod laws;
 mod linking;
 
 pub use kc_place::{LinkFault, Ranges};
-pub use laws::probe;
-pub use linking::check_fits;
+
+pub use linking::link;
