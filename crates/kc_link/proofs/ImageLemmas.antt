@@ -1,14 +1,12 @@
 -- The image that is written is the filled one.
-use Rattle.std.proofs.Common.{◌≡◌, ℕ, zero, suc, ◌+◌, ◌-◌, ◌<◌, ◌≤◌, Bool, true, false, List, [], ◌∷◌, ◌++◌, length, get_or, Option, Some, None, refl, sym, ap, ◌∙◌, subst, inl, inr, zero-add, arith}
+use Rattle.std.proofs.Common.{◌≡◌, ℕ, zero, suc, ◌+◌, ◌-◌, ◌<◌, Bool, true, false, List, [], ◌∷◌, ◌++◌, length, Option, Some, None, refl, sym, ap, ◌∙◌, subst, inl, inr, zero-add, arith}
 use Rattle.std.specs.Prelude.{slice_get, slice_index, if◌then◌else◌, ◌⊎◌}
-use Rattle.kc_obj.specs.declared.parts.SegKind.TheVariants.{Code}
-use Rattle.kc_obj.specs.declared.parts.Segment.{Segment}
 use Rattle.kc_obj.specs.declared.parts.Content.{Content}
 use Rattle.kc_obj.specs.Object.{Object}
 use Rattle.kc_obj.specs.Contents.{content_end, covers, content_at}
-use Rattle.kc_reloc.specs.Numbers.{Bases, BaseLists, bases_in, or_0}
-use Rattle.kc_reloc.specs.Filled.{filled_at, part_at, plus, unfit_in}
-use Rattle.kc_reloc.proofs.Modules.{IsKept, kept}
+use Rattle.kc_reloc.specs.Numbers.{Bases, or_0}
+use Rattle.kc_reloc.specs.Filled.{filled_at, part_at, plus}
+use Rattle.kc_reloc.proofs.Modules.{kept}
 use Rattle.kc_place.specs.Placing.{Places, base_at, base_lists, bases_of, bases_from}
 use Rattle.kc_place.specs.Apart.{CodeAt, AllKeepRules, CodeIsApart}
 use Rattle.kc_link.specs.Placed.{unfit}
@@ -16,7 +14,7 @@ use Rattle.kc_link.specs.Filled.{StandsAt, IsFilled}
 use Rattle.kc_link.specs.Writes.{written, bytes_of, runs_of, all_bytes, RunStands, RunsStand, ModulesStand}
 use Rattle.kc_link.proofs.ContentLemmas.{InCode, byte_in_code, run_byte, run_some, covered_parts}
 use Rattle.kc_link.proofs.PlacedLemmas.{module_fits, rest_fits}
-use Rattle.kc_link.proofs.WriteLemmas.{Has, Misses, has_or_misses, stay, stand, written-long, has-left, has-right, has-either}
+use Rattle.kc_link.proofs.WriteLemmas.{Has, has_or_misses, stay, stand, written-long, has-left, has-right, has-either}
 
 -- ---- the writes of runs and modules
 
@@ -112,7 +110,7 @@ all_of_has all places n (x ∷ ms) place byte h = by (has-either place byte (run
 
 -- ---- where the bytes stand
 
-base_same : (ms : List Object) (places : Places) (i p : ℕ) (m : Object) → (bases_of ms places i m).piece p ≡ base_at places.pieces i p
+pub base_same : (ms : List Object) (places : Places) (i p : ℕ) (m : Object) → (bases_of ms places i m).piece p ≡ base_at places.pieces i p
 unfolding base_lists base_at
 base_same ms places i p m = refl
 

@@ -1,3 +1,4 @@
+pub mod LineLemmas
 pub mod ContentLemmas
 pub mod ImageLemmas
 pub mod PlacedLemmas

@@ -1,8 +1,6 @@
 -- The bytes of an image, written one after the other.
-use Rattle.std.specs.Prelude.{◌≡◌, ℕ, zero, suc, ◌+◌, ◌-◌, ◌<◌, ◌≤◌, Some, None, List, [], ◌∷◌, ◌++◌, length, slice_get, slice_set, slice_index, ◌⊎◌}
+use Rattle.std.specs.Prelude.{◌≡◌, ℕ, zero, suc, ◌+◌, ◌-◌, ◌<◌, ◌≤◌, Some, None, List, [], ◌∷◌, ◌++◌, length, slice_get, slice_set, slice_index}
 use Rattle.kc_obj.specs.declared.parts.Content.{Content}
-use Rattle.kc_obj.specs.declared.parts.Segment.{Segment}
-use Rattle.kc_obj.specs.declared.parts.SegKind.TheVariants.{Code}
 use Rattle.kc_obj.specs.Object.{Object}
 use Rattle.kc_obj.specs.Contents.{content_at}
 use Rattle.kc_reloc.specs.Numbers.{Bases, BaseLists, bases_in, or_0}

@@ -7,4 +7,5 @@ mod linking;
 
 pub use kc_place::{LinkFault, Ranges};
 
+pub use lines::{LineAt, line_map};
 pub use linking::link;

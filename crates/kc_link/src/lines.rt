@@ -1,10 +1,13 @@
-ghost use Rattle.std.specs.Prelude.{◌≡◌, ◌++◌, IfOk, OnOk, map};
+ghost use Rattle.std.specs.Prelude.{◌≡◌, ◌<◌, ◌≤◌, ◌++◌, IfOk, OnOk, true, length, map};
 ghost use Rattle.std.specs.List.Sorted.{IsPermutation, IsNonDecreasingBy};
 ghost use Rattle.kc_reloc.specs.Numbers.{bases_in};
-ghost use Rattle.kc_link.specs.LineMap.{line_at, lines_in, lines_by, LinesStand, MaybeLinesStand, AllLinesStand};
+ghost use Rattle.kc_place.specs.Ranges.{are_in_bounds};
+ghost use Rattle.kc_link.specs.LineMap.{line_at, lines_in, lines_by, LinesStand, MaybeLinesStand, AllLinesStand, IsLines};
 
+use crate::linking::{keep_rules, linked_bases};
 use kc_base::{NoMemory, Text};
 use kc_obj::{Lines, Module};
+use kc_place::{LinkFault, Ranges, code_stands_apart};
 use kc_reloc::Bases;
 use std::alloc::Global;
 
@@ -90,4 +93,24 @@ fn sort(entries: &mut Vec<LineAt>) -> Result<(), NoMemory>
 {
     entries.sort_by_key(|e| e.addr)?;
     Ok(())
+}
+
+/// The line map of 1 to 64 modules that are linked in these ranges: each line entry with the address at which it stands,
+/// by rising address. It is refused as `link` is, for the same causes. A module without line entries gives none.
+pub fn line_map(
+    alloc: Global,
+    modules: &[Module],
+    ranges: &Ranges,
+) -> Result<Vec<LineAt>, LinkFault>
+    requires some { 0 < length modules.now }
+    requires few { length modules.now ≤ 64 }
+    requires ranges { are_in_bounds ranges.now ≡ true }
+    ensures { IsLines modules.now ranges.now result }
+{
+    let bases = linked_bases(alloc, modules, ranges)?;
+    keep_rules(modules);
+    code_stands_apart();
+    let mut entries = all_lines(alloc, modules, &bases)?;
+    sort(&mut entries)?;
+    Ok(entries)
 }

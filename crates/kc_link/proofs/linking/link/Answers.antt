@@ -1,8 +1,8 @@
-use Rattle.std.proofs.Common.{◌≡◌, ◌∙◌, sym, ap, List}
+use Rattle.std.proofs.Common.{◌≡◌, ◌∙◌, ap, List}
 use Rattle.kc_reloc.specs.Numbers.{BaseLists}
 use Rattle.kc_place.specs.Placing.{bases_from}
 use Rattle.kc_place.specs.Apart.{CodeIsApart}
-use Rattle.kc_link.specs.Writes.{written, all_bytes, ModulesStand}
+use Rattle.kc_link.specs.Writes.{written, all_bytes}
 use Rattle.kc_link.proofs.PlacedLemmas.{was_located}
 use Rattle.kc_link.proofs.ImageLemmas.{modules_stand, is_filled}
 use Rattle.kc_link.proofs.linking.link.Goals as goal

@@ -1,6 +1,4 @@
-use Rattle.std.proofs.Common.{◌≡◌, ◌∙◌, None, arith}
-use Rattle.kc_place.specs.Placing.{IsCause}
-use Rattle.kc_link.specs.Placed.{unfit_by}
+use Rattle.std.proofs.Common.{◌∙◌}
 use Rattle.kc_link.proofs.PlacedLemmas.{placed_ok, placed_err}
 use Rattle.kc_link.proofs.linking.linked_bases.Goals as goal
 
