@@ -6,6 +6,8 @@ mod lines;
 mod linking;
 
 pub use kc_place::{LinkFault, Ranges};
-
 pub use lines::{LineAt, line_map};
 pub use linking::link;
+
+#[cfg(test)]
+mod tests;
