@@ -152,9 +152,10 @@ module _ (ms : List Object) (places : Places) (rules : AllKeepRules ms) (apart :
   unfolding bases_from
   modules_stand_from n [] h u = tt
   modules_stand_from n (m ∷ left) h u =
-      let here : slice_get ms n ≡ Some m = (let q : n + 0 ≡ n = omega arith in rw q at (h 0 m refl)) in
-      ( (module_fits ms places n (m ∷ left) u 0 n m (omega arith) refl, runs_stand_from (bases_of ms places n m) m m.contents (run_stands n m here))
-      , modules_stand_from (n + 1) left (λ k x e. let q : (n + 1) + k ≡ n + suc k = omega arith in rw q (h (suc k) x e)) (rest_fits ms places n m left u) )
+      let here : slice_get ms n ≡ Some m = (let q : n + 0 ≡ n = omega arith in rw q at (h 0 m refl)) in (
+        (module_fits ms places n (m ∷ left) u 0 n m (omega arith) refl, runs_stand_from (bases_of ms places n m) m m.contents (run_stands n m here)),
+        modules_stand_from (n + 1) left (λ k x e. let q : (n + 1) + k ≡ n + suc k = omega arith in rw q (h (suc k) x e)) (rest_fits ms places n m left u),
+      )
 
   pub modules_stand : unfit ms places 0 ms ≡ None → ModulesStand ms (bases_from ms places 0 ms)
   modules_stand u = modules_stand_from 0 ms (λ k m e. let q : 0 + k ≡ k = omega arith in rw q e) u

@@ -62,6 +62,7 @@ rising (e ∷ f ∷ es) s o =
   where
     same : (f.addr == f.addr) ≡ true
     same = grind (arith, nat_tests)
+
     below : (t : Bool) → (e.addr == f.addr) ≡ t → e.addr ≤ f.addr → (if t then 1 + many f.addr (f ∷ es) else many f.addr (f ∷ es)) ≤ 1 → e.addr < f.addr
     below true q l g =
         let h : 1 + many f.addr (f ∷ es) ≤ 1 = g in
@@ -134,9 +135,10 @@ module _ (ms : List Object) (places : Places) (rules : AllKeepRules ms) (apart :
 
   lines_stand : (i : ℕ) (m : Object) (ls : List Lines) → slice_get ms i ≡ Some m → list_all (line_is_sound m.segments) ls ≡ true → LinesStand (bases_of ms places i m) ls
   lines_stand i m [] e h = tt
-  lines_stand i m (l ∷ ls) e h =
-      ( (apart.within i l.piece ((bases_of ms places i m).piece l.piece + l.offset) (line_code i m (l ∷ ls) 0 l e h refl)).1
-      , lines_stand i m ls e (and_parts (line_is_sound m.segments l) (list_all (line_is_sound m.segments) ls) h).1 )
+  lines_stand i m (l ∷ ls) e h = (
+    (apart.within i l.piece ((bases_of ms places i m).piece l.piece + l.offset) (line_code i m (l ∷ ls) 0 l e h refl)).1,
+    lines_stand i m ls e (and_parts (line_is_sound m.segments l) (list_all (line_is_sound m.segments) ls) h).1,
+  )
 
   maybe_stand : (i : ℕ) (m : Object) → slice_get ms i ≡ Some m → (o : Option (List Lines)) → m.lines ≡ o → MaybeLinesStand (bases_of ms places i m) o
   maybe_stand i m e None f = tt
@@ -189,9 +191,10 @@ module _ (ms : List Object) (places : Places) (rules : AllKeepRules ms) (apart :
   module_once : (i : ℕ) (m : Object) → slice_get ms i ≡ Some m → (a : ℕ) (o : Option (List Lines)) → m.lines ≡ o → (many a (lines_in (bases_of ms places i m) m.name o) ≤ 1) × (1 ≤ many a (lines_in (bases_of ms places i m) m.name o) → (p : ℕ) × CodeAt ms places i p a)
   module_once i m e a None f = (omega arith, λ h. absurd (omega (arith, h)))
   module_once i m e a (Some ls) f =
-      let k = lines_ok i m ls e f in
-      ( once i m ls e k.sound k.ordered a
-      , λ h. let r = at_line (bases_of ms places i m) m.name ls a h in (r.line.piece, subst (λ (x : ℕ). CodeAt ms places i r.line.piece x) r.at (line_code i m ls r.j r.line e k.sound r.is_there)) )
+      let k = lines_ok i m ls e f in (
+        once i m ls e k.sound k.ordered a,
+        λ h. let r = at_line (bases_of ms places i m) m.name ls a h in (r.line.piece, subst (λ (x : ℕ). CodeAt ms places i r.line.piece x) r.at (line_code i m ls r.j r.line e k.sound r.is_there)),
+      )
 
   joined : (n a c d sum : ℕ) → sum ≡ c + d → c ≤ 1 → (1 ≤ c → (p : ℕ) × CodeAt ms places n p a) → Once (n + 1) a d → Once n a sum
   joined n a c d sum e l f r = record { le = le (leb 1 c) (leb 1 d) refl refl; at = at (leb 1 c) refl }

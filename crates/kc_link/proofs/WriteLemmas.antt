@@ -84,10 +84,11 @@ fill_stand [] bs m b l k e f s = absurd (omega arith)
 fill_stand (x ∷ ms) [] m b l k e f s = absurd (omega arith)
 fill_stand (x ∷ ms) (y ∷ bs) m b l k e f s =
     let t : tail (x ∷ ms) ≡ ms = tail_is x ms in
-    let u : tail (y ∷ bs) ≡ bs = tail_is y bs in
-    ( subst (λ (z : BaseLists). (unfit_in (bases_in z) m.fixups ≡ None) × RunsStand (bases_in z) m m.contents) (sym f)
-      (subst (λ (z : Object). (unfit_in (bases_in y) z.fixups ≡ None) × RunsStand (bases_in y) z z.contents) (sym e) s.0)
-    , rw (t, u) s.1 )
+    let u : tail (y ∷ bs) ≡ bs = tail_is y bs in (
+      subst (λ (z : BaseLists). (unfit_in (bases_in z) m.fixups ≡ None) × RunsStand (bases_in z) m m.contents) (sym f)
+          (subst (λ (z : Object). (unfit_in (bases_in y) z.fixups ≡ None) × RunsStand (bases_in y) z z.contents) (sym e) s.0),
+      rw (t, u) s.1,
+    )
 
 pub fill_end : (image : List ℕ) (ms : List Object) (bs : List BaseLists) → length ms ≤ 0 → written image (all_bytes ms bs) ≡ image
 unfolding written all_bytes

@@ -62,11 +62,7 @@ fn add_module(
 
 // The line entries of all modules.
 #[tactic(auto, unfolding(crate::specs::LineMap::lines_by))]
-fn all_lines(
-    alloc: Global,
-    modules: &[Module],
-    bases: &[Bases],
-) -> Result<Vec<LineAt>, NoMemory>
+fn all_lines(alloc: Global, modules: &[Module], bases: &[Bases]) -> Result<Vec<LineAt>, NoMemory>
     requires { AllLinesStand modules.now bases.now }
     ensures { IfOk result (λ all. all.items ≡ lines_by modules.now bases.now) }
 {

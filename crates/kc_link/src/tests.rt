@@ -120,7 +120,11 @@ fn modules(rt: &HostRuntime, all: &[Parts]) -> Result<Vec<Module>, Fail> {
 }
 
 // Links where that is permitted.
-fn linked(rt: &HostRuntime, all: &[Parts], ranges: &Ranges) -> Result<Result<Image, LinkFault>, Fail> {
+fn linked(
+    rt: &HostRuntime,
+    all: &[Parts],
+    ranges: &Ranges,
+) -> Result<Result<Image, LinkFault>, Fail> {
     let made = modules(rt, all)?;
     let count = made.len();
     if count == 0 || 64 < count || !ranges.are_within_bounds() {
@@ -188,7 +192,10 @@ fn a_name_that_nothing_gives_is_told(rt: HostRuntime) -> Result<(), Fail> {
         line: None,
     };
     let fault = refused(&rt, &[jump], &Ranges::new())?;
-    assert_eq!(rt; told(&fault), (b"unresolved".as_slice(), b"X".as_slice(), 0, 0, 0));
+    assert_eq!(rt;
+        told(&fault),
+        (b"unresolved".as_slice(), b"X".as_slice(), 0, 0, 0)
+    );
     Ok(())
 }
 
@@ -209,7 +216,10 @@ fn a_name_that_is_given_twice_is_told(rt: HostRuntime) -> Result<(), Fail> {
     let one = [loose(1)];
     let all = [giver(&one), giver(&one)];
     let fault = refused(&rt, &all, &Ranges::new())?;
-    assert_eq!(rt; told(&fault), (b"duplicate".as_slice(), b"A".as_slice(), 0, 0, 0));
+    assert_eq!(rt;
+        told(&fault),
+        (b"duplicate".as_slice(), b"A".as_slice(), 0, 0, 0)
+    );
     Ok(())
 }
 
@@ -218,12 +228,18 @@ fn two_absolute_pieces_overlap(rt: HostRuntime) -> Result<(), Fail> {
     let fixed = [piece(SegKind::Code, Some(0x2100), 1)];
     let all = [bare(&fixed, &[0xFD]), bare(&fixed, &[0xFD])];
     let fault = refused(&rt, &all, &Ranges::new())?;
-    assert_eq!(rt; told(&fault), (b"overlap".as_slice(), b"".as_slice(), 0x2100, 0, 0));
+    assert_eq!(rt;
+        told(&fault),
+        (b"overlap".as_slice(), b"".as_slice(), 0x2100, 0, 0)
+    );
     // Special function registers may be in several pieces.
     let low = [piece(SegKind::Reg, Some(0x18), 3)];
     let both = [bare(&low, &[]), bare(&low, &[])];
     let fault = refused(&rt, &both, &Ranges::new())?;
-    assert_eq!(rt; told(&fault), (b"overlap".as_slice(), b"".as_slice(), 0x1A, 0, 0));
+    assert_eq!(rt;
+        told(&fault),
+        (b"overlap".as_slice(), b"".as_slice(), 0x1A, 0, 0)
+    );
     Ok(())
 }
 
@@ -232,14 +248,23 @@ fn pieces_find_room(rt: HostRuntime) -> Result<(), Fail> {
     // 001CH to 00FFH hold 228 bytes.
     let many = [piece(SegKind::Reg, None, 229)];
     let fault = refused(&rt, &[bare(&many, &[])], &Ranges::new())?;
-    assert_eq!(rt; told(&fault), (b"capacity".as_slice(), b"reg".as_slice(), 0, 0, 0));
+    assert_eq!(rt;
+        told(&fault),
+        (b"capacity".as_slice(), b"reg".as_slice(), 0, 0, 0)
+    );
     let all = [piece(SegKind::Reg, None, 228)];
     let fits = linked(&rt, &[bare(&all, &[])], &Ranges::new())?;
     assert!(rt; fits.is_ok());
     // 0200H to 1FFDH hold 7678 bytes; the stack takes what data leaves.
-    let full = [piece(SegKind::Ram, None, 7670), piece(SegKind::Stack, None, 9)];
+    let full = [
+        piece(SegKind::Ram, None, 7670),
+        piece(SegKind::Stack, None, 9),
+    ];
     let fault = refused(&rt, &[bare(&full, &[])], &Ranges::new())?;
-    assert_eq!(rt; told(&fault), (b"capacity".as_slice(), b"stack".as_slice(), 1, 0, 0));
+    assert_eq!(rt;
+        told(&fault),
+        (b"capacity".as_slice(), b"stack".as_slice(), 1, 0, 0)
+    );
     Ok(())
 }
 
@@ -255,7 +280,10 @@ fn a_distance_out_of_reach_is_told(rt: HostRuntime) -> Result<(), Fail> {
     };
     let far = [piece(SegKind::Code, Some(0x3000), 1)];
     let fault = refused(&rt, &[branch, giver(&far)], &Ranges::new())?;
-    assert_eq!(rt; told(&fault), (b"range".as_slice(), b"".as_slice(), 0, 0, 1));
+    assert_eq!(rt;
+        told(&fault),
+        (b"range".as_slice(), b"".as_slice(), 0, 0, 1)
+    );
     Ok(())
 }
 
@@ -293,7 +321,10 @@ fn a_call_reaches_the_next_module(rt: HostRuntime) -> Result<(), Fail> {
         line: None,
     };
     let whole = image(&rt, &[caller, callee], &Ranges::new())?;
-    assert_eq!(rt; code(&whole, 8), [0xEF, 0x03, 0x00, 0x27, 0xFE, 0xFF, 0xF0, 0xFF].as_slice());
+    assert_eq!(rt;
+        code(&whole, 8),
+        [0xEF, 0x03, 0x00, 0x27, 0xFE, 0xFF, 0xF0, 0xFF].as_slice()
+    );
     Ok(())
 }
 
@@ -312,14 +343,19 @@ fn stacked(rt: &HostRuntime, ranges: &Ranges) -> Result<Result<Image, LinkFault>
 
 #[test]
 fn the_stack_stands_behind_the_data(rt: HostRuntime) -> Result<(), Fail> {
-    let whole = stacked(&rt, &Ranges::new())?.ok().ok_or("a rule is broken")?;
+    let whole = stacked(&rt, &Ranges::new())?
+        .ok()
+        .ok_or("a rule is broken")?;
     assert_eq!(rt; code(&whole, 4), [0xA1, 0x0A, 0x02, 0x18].as_slice());
     let asked = Ranges {
         stack: Some(0),
         ..Ranges::new()
     };
     let fault = stacked(&rt, &asked)?.err().ok_or("no rule is broken")?;
-    assert_eq!(rt; told(&fault), (b"unresolved".as_slice(), b"STACK".as_slice(), 0, 0, 0));
+    assert_eq!(rt;
+        told(&fault),
+        (b"unresolved".as_slice(), b"STACK".as_slice(), 0, 0, 0)
+    );
     Ok(())
 }
 
@@ -347,7 +383,9 @@ fn lines_rise_over_modules(rt: HostRuntime) -> Result<(), Fail> {
     if count == 0 || 64 < count {
         return Err("count".into());
     }
-    let map = line_map(rt.alloc(), &made, &Ranges::new()).ok().ok_or("a rule is broken")?;
+    let map = line_map(rt.alloc(), &made, &Ranges::new())
+        .ok()
+        .ok_or("a rule is broken")?;
     assert_eq!(rt; map.len(), 2);
     assert_eq!(rt; (map[0].addr, map[0].line), (0x2080, 2));
     assert_eq!(rt; (map[1].addr, map[1].line), (0x2100, 7));

@@ -194,6 +194,7 @@ wanted-in ms index m there kind n (s ∷ ss) h =
   where
     here : slice_get m.segments n ≡ Some s
     here = let q : n + 0 ≡ n = omega arith in rw q at (h 0 s refl)
+
     by : (o : Option ℕ) (t : Bool) → AllPieces (IsPiece ms) (wanted_in kind index (n + 1) ss) →
         AllPieces (IsPiece ms) (elim o as (λ _. List Piece) [ None ↦ (if t then piece_of index n s ∷ wanted_in kind index (n + 1) ss else wanted_in kind index (n + 1) ss) | Some a ↦ wanted_in kind index (n + 1) ss ])
     by None true g = (record { m = m; is_there = there; segment = s; in_module = here; kind_is = refl; size_is = refl }, g)
@@ -412,7 +413,7 @@ puts-ok : (ms : List Object) (ranges : Ranges) (r : Result (List Stand) Piece) (
 puts-ok ms ranges (Err p) places e = absurd (cc e)
 puts-ok ms ranges (Ok puts) places e = (puts, (refl, stack-ok ms puts (stack_size ranges ms) (stack_at (stack_size ranges ms) (least_free (fixed_from 0 ms ++ puts) (range_of ranges Stack) 2 (stack_size ranges ms))) places e))
 
-located-by : (ms : List Object) (ranges : Ranges) (places : Places) → located ms ranges ≡ Ok places → IsLocatedBy ms ranges places
+pub located-by : (ms : List Object) (ranges : Ranges) (places : Places) → located ms ranges ≡ Ok places → IsLocatedBy ms ranges places
 unfolding located
 located-by ms ranges places e =
     let a = unless-ok (option_map Unresolved (unresolved ms (stack_size ranges ms) ms)) _ places e in

@@ -145,6 +145,7 @@ free-push true b start a l h k = by (nat_lt b (a + 1)) refl
   where
     not_a : b ≡ a → ⊥
     not_a e = cc (k e)
+
     by : (t : Bool) → nat_lt b (a + 1) ≡ t → ((nat_lt b start && true) || (nat_le start b && nat_lt b a)) ≡ (t && true)
     by true e = let u : b < a + 1 = grind (arith, nat_tests, e) in let v : b < a = omega (arith, u, not_a) in grind (arith, nat_tests, v)
     by false e = let u : a + 1 ≤ b = grind (arith, nat_tests, e) in grind (arith, nat_tests, u, l)
@@ -161,6 +162,7 @@ free-stay true b a k = by (nat_lt b (a + 1)) refl
   where
     not_a : b ≡ a → ⊥
     not_a e = cc (k e)
+
     by : (t : Bool) → nat_lt b (a + 1) ≡ t → (nat_lt b a && true) ≡ (t && true)
     by true e = let u : b < a + 1 = grind (arith, nat_tests, e) in let v : b < a = omega (arith, u, not_a) in grind (arith, nat_tests, v)
     by false e = let u : a + 1 ≤ b = grind (arith, nat_tests, e) in grind (arith, nat_tests, u)

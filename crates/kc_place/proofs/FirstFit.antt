@@ -316,8 +316,8 @@ pub cut_is_taken : (gaps : List Gap) (taken : List Stand) (s : Stand) → Repres
     Represents (cut gaps s.at s.piece.size) (taken ++ s ∷ [])
 cut_is_taken gaps taken s r h room top =
     let w : Within gaps s.at s.piece.size = run-within 0 gaps s.at s.piece.size r.sorted h (λ k i.
-        let u : is_taken taken (s.at + k) ≡ false = room-at taken s.piece.size s.at k room i in
-        r.free (s.at + k) ∙ (rw u (below (s.at + k) (omega (arith, i, top))))) in
+    let u : is_taken taken (s.at + k) ≡ false = room-at taken s.piece.size s.at k room i in
+    r.free (s.at + k) ∙ (rw u (below (s.at + k) (omega (arith, i, top))))) in
     record {
       sorted = cut-sorted gaps 0 s.at s.piece.size r.sorted h w;
       free = λ b. cut-free gaps 0 s b r.sorted h w ∙ (rw (r.free b, taken_after taken s b) (joined (nat_lt b 65536) (is_taken taken b) (has s b)));

@@ -75,8 +75,10 @@ stack_tail s (t ∷ ts) o p e = by s.at refl
   where
     parts : (is_placed s ≡ true) × (list_all is_placed (t ∷ ts) ≡ true)
     parts = and_parts (is_placed s) (list_all is_placed (t ∷ ts)) p
+
     more : (is_placed t ≡ true) × (list_all is_placed ts ≡ true)
     more = and_parts (is_placed t) (list_all is_placed ts) parts.1
+
     by : (x : Option ℕ) → s.at ≡ x → stack_in (t ∷ ts) ≡ 0
     by (Some a) f = absurd (absolute_no_stack s a parts.0 f e)
     by None f =

@@ -4,5 +4,4 @@ ghost use Rattle.kc_place.specs.Apart.{CodeStandsApart};
 /// nothing when it runs.
 pub fn code_stands_apart()
     ensures { CodeStandsApart }
-{
-}
+{}

@@ -55,12 +55,7 @@ fn first_of(kind: SegKind, range: (u16, u16)) -> Option<u16>
 }
 
 /// The least address of a range at which so many bytes of a kind are free, where the gaps are all that is free.
-pub(crate) fn find(
-    gaps: &[Gap],
-    kind: SegKind,
-    range: (u16, u16),
-    count: u32,
-) -> Option<u16>
+pub(crate) fn find(gaps: &[Gap], kind: SegKind, range: (u16, u16), count: u32) -> Option<u16>
     ensures { (taken : List Stand) → Represents gaps.now taken → result ≡ least_free taken (range.0, range.1) (step_of kind) count }
 {
     if count == 0 {

@@ -27,12 +27,7 @@ use kc_reloc::Bases;
 use std::alloc::Global;
 
 // Whether each name that is taken is given.
-fn check_taken(
-    alloc: Global,
-    names: &Names,
-    size: u32,
-    modules: &[Module],
-) -> Result<(), LinkFault>
+fn check_taken(alloc: Global, names: &Names, size: u32, modules: &[Module]) -> Result<(), LinkFault>
     ensures { Knows names.now.homes.entries modules.now → IsKept (option_map faults.Unresolved (named.unresolved modules.now size modules.now)) result }
 {
     match unresolved(names, size, modules) {
@@ -69,13 +64,7 @@ fn place_stack(ranges: &Ranges, gaps: &[Gap], size: u32) -> Option<u16>
 {
     match find(gaps, SegKind::Stack, ranges.ram, size) {
         Some(at) => Some(at),
-        None => {
-            if size == 0 {
-                Some(0)
-            } else {
-                None
-            }
-        }
+        None => { if size == 0 { Some(0) } else { None } }
     }
 }
 

@@ -56,7 +56,10 @@ pub enum LinkFault {
     OverlapPlace(u16),
     /// A piece of this kind of the module with this number, counted from 0, finds no room; of the stack the number of
     /// modules.
-    Capacity { kind: SegKind, module: u16 },
+    Capacity {
+        kind: SegKind,
+        module: u16,
+    },
     /// The number of the relocation at this offset of a piece of a module does not fit.
     Range {
         module: u16,

@@ -1,5 +1,5 @@
 -- What the rules of a module say, part by part.
-use Rattle.std.proofs.Common.{◌≡◌, ℕ, Bool, true, ◌&&◌, List, length}
+use Rattle.std.proofs.Common.{◌≡◌, Bool, true, ◌&&◌, length}
 use Rattle.std.specs.List.{list_all}
 use Rattle.std.proofs.lemmas.Bool.{and_parts}
 use Rattle.kc_obj.specs.Object.{Object}
@@ -33,7 +33,7 @@ module _ (a b c d e f g : Bool) where
 pub kept : (m : Object) → is_module m ≡ true → IsKept m
 kept m h =
     let all = seven (is_name m.name) (segments_are_sound m.segments m.publics m.fixups) (externals_are_sound m.externals) (publics_are_sound (length m.segments) m.publics)
-        (contents_are_sound m.segments m.contents) (fixups_are_sound m.segments m.externals m.contents m.fixups) (lines_are_sound m.segments m.lines) h in
+    (contents_are_sound m.segments m.contents) (fixups_are_sound m.segments m.externals m.contents m.fixups) (lines_are_sound m.segments m.lines) h in
     let segments = and_parts (list_all is_placed m.segments && segments_in_order m.segments) (all_kept m.publics m.fixups 0 m.segments) all.0 in
     let contents = and_parts (list_all (content_is_sound m.segments) m.contents) (contents_in_order m.contents) all.1.0 in
     let fixups = and_parts (list_all (fixup_is_sound m.segments m.externals) m.fixups && fixups_in_order m.fixups) (list_all (has_room m.contents) m.fixups) all.1.1.0 in

@@ -1,5 +1,5 @@
 -- A byte and what relocations put at it are a byte.
-use Rattle.std.proofs.Common.{◌≡◌, ℕ, zero, suc, ◌+◌, ◌/◌, ◌%◌, ◌<◌, ◌≤◌, Bool, true, false, ◌&&◌, ◌||◌, not, eqb, ltb, leb, List, [], ◌∷◌, length, get_or, Option, Some, None, refl, sym, ap, ◌∙◌, subst, inl, inr, arith}
+use Rattle.std.proofs.Common.{◌≡◌, ℕ, zero, suc, ◌+◌, ◌<◌, ◌≤◌, Bool, true, false, ◌&&◌, ◌||◌, not, eqb, ltb, leb, List, [], ◌∷◌, Option, Some, None, refl, subst, inl, inr, arith}
 use Rattle.std.specs.Prelude.{if◌then◌else◌, MatchOption, ◌⊎◌}
 use Rattle.std.specs.List.{list_all}
 use Rattle.std.proofs.lemmas.Bool.{and_parts}
@@ -7,7 +7,7 @@ use Rattle.std.proofs.lemmas.Bool.Decides.{nat_tests}
 use Rattle.kc_obj.specs.declared.parts.Content.{Content}
 use Rattle.kc_obj.specs.declared.parts.Fixup.{Fixup}
 use Rattle.kc_obj.specs.Contents.{content_at}
-use Rattle.kc_obj.specs.Fixups.{fixup_width, fixup_follows, fixups_in_order, has_room, may_begin, is_zero}
+use Rattle.kc_obj.specs.Fixups.{fixup_width, fixups_in_order, has_room, may_begin, is_zero}
 use Rattle.kc_reloc.specs.Numbers.{Bases, first_part, second_part, is_wide, fits}
 use Rattle.kc_reloc.specs.Filled.{fixup_number, fixup_at, first_of_fixup, second_of_fixup, second_at, is_fit, unfit_in}
 use Rattle.kc_reloc.proofs.Sorted.{rest_in_order, next_follows, none_behind}

@@ -9,7 +9,6 @@ use crate::Bases;
 use crate::numbers::{first_byte, fits_kind, fixup_number as number_of, has_second, second_byte};
 use kc_obj::{Fixup, Module};
 
-
 fn fixup_fits(bases: &Bases, fixup: Fixup) -> bool
     ensures { result ≡ is_fit (bases_in bases.now) fixup }
 {
@@ -59,8 +58,7 @@ fn find(fixups: &[Fixup], piece: u16, offset: u16) -> Option<Fixup>
     requires { fixups_in_order fixups.now ≡ true }
     ensures { result ≡ fixup_at fixups.now piece offset }
 {
-    let at = fixups
-        .partition_point(|f| f.piece < piece || f.piece == piece && f.offset < offset);
+    let at = fixups.partition_point(|f| f.piece < piece || f.piece == piece && f.offset < offset);
     if_it_begins(fixups.get(at), piece, offset)
 }
 

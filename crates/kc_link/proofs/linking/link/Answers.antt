@@ -19,6 +19,11 @@ returns c =
     let p = c.in_ok-bases.ensures in
     let w = was_located c.args.modules.now c.args.ranges.now p.0 p.1.0 in
     let a : CodeIsApart c.args.modules.now p.0 = c.code_stands_apart.ensures c.args.modules.now c.args.ranges.now p.0 c.keep_rules.ensures c.requires.ranges w.located_ok in
-    let b : c.deref.result.now ≡ bases_from c.args.modules.now p.0 0 c.args.modules.now = c.deref.ensures.value ∙ p.1.1 in
-    (p.0, (p.1.0, is_filled c.args.modules.now p.0 c.keep_rules.ensures a c.in_ok-image.image c.fill.new.image c.in_ok-image.ensures.long c.in_ok-image.ensures.empty
-            (c.fill.ensures ∙ ap (λ (l : List BaseLists). written c.in_ok-image.image (all_bytes c.args.modules.now l)) b)))
+    let b : c.deref.result.now ≡ bases_from c.args.modules.now p.0 0 c.args.modules.now = c.deref.ensures.value ∙ p.1.1 in (
+      p.0,
+      (
+        p.1.0,
+        is_filled c.args.modules.now p.0 c.keep_rules.ensures a c.in_ok-image.image c.fill.new.image c.in_ok-image.ensures.long c.in_ok-image.ensures.empty
+            (c.fill.ensures ∙ ap (λ (l : List BaseLists). written c.in_ok-image.image (all_bytes c.args.modules.now l)) b),
+      ),
+    )

@@ -13,7 +13,7 @@ loop-left-preserved c = λ fixed r.
     let inv = c.loop-left.invariant fixed r in
     let ok : is_ok c.push.result ≡ true = c.is_err.ensures.negation ∙ ap not c.if-is_err.false in
     let s = put_step c.args.ranges.now fixed c.loop-left.puts.items c.put.new.gaps.items c.loop-left.left.now nothing c.in-Ok.stand c.push.new.self.items c.in-len1-up.len_at_least (rw ok at c.push.ensures.items)
-        (c.in-Ok.ensures (fixed ++ c.loop-left.puts.items) inv.1) in
+    (c.in-Ok.ensures (fixed ++ c.loop-left.puts.items) inv.1) in
     (s.0 ∙ inv.0, s.1)
 
 pub returns : goal.returns

@@ -1,7 +1,6 @@
-use Rattle.std.proofs.Common.{◌≡◌, ◌+◌, ◌<◌, true, Some, sym, ap, ◌∙◌, subst, arith, refl}
-use Rattle.kc_obj.specs.Contents.{content_at}
+use Rattle.std.proofs.Common.{◌≡◌, ◌+◌, arith, refl}
 use Rattle.kc_reloc.specs.Numbers.{bases_in}
-use Rattle.kc_reloc.specs.Filled.{first_of_fixup, second_at, fixup_at, filled_at, plus, part_at}
+use Rattle.kc_reloc.specs.Filled.{first_of_fixup, second_at, fixup_at, filled_at}
 use Rattle.kc_reloc.proofs.Modules.{kept}
 use Rattle.kc_reloc.proofs.Room.{fit_at, sum_fits}
 use Rattle.kc_reloc.proofs.filled.filled_byte.Goals as goal

@@ -1,4 +1,4 @@
-use Rattle.std.proofs.Common.{◌∙◌, sym, ap, rules, of_calls}
+use Rattle.std.proofs.Common.{◌∙◌, ap, rules, of_calls}
 use Rattle.std.proofs.lemmas.Fn.{always_returns_same}
 use Rattle.kc_reloc.specs.Filled.{is_before, if_there}
 use Rattle.kc_reloc.proofs.Sorted.{partitioned, found_at, item_there}
