@@ -21,7 +21,7 @@ fn check_fits(modules: &[Module], bases: &[Bases]) -> Result<(), LinkFault>
 {
     let mut left = modules;
     let mut ahead = bases;
-    let mut index = 0;
+    let mut index = 0u16;
     while let [object, rest @ ..] = left {
         match ahead {
             [] => return Ok(()),
