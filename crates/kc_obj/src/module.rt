@@ -1,7 +1,7 @@
-ghost use Rattle.std.specs.Prelude.{◌≡◌, length};
+ghost use Rattle.std.specs.Prelude.{◌≡◌, true, length};
 ghost use Rattle.std.specs.Option.{option_map, option_copied};
 ghost use Rattle.kc_obj.specs.Object.{object_of};
-ghost use Rattle.kc_obj.specs.Rules.{checked};
+ghost use Rattle.kc_obj.specs.Rules.{checked, is_module};
 
 use crate::line_entries::lines_sound;
 use crate::names::name_is_sound;
@@ -125,5 +125,12 @@ impl Module {
             None => None,
             Some(lines) => Some(lines.as_slice()),
         }
+    }
+
+    /// Each module keeps the rules of the format. It does nothing when it runs.
+    pub fn keeps_rules(&self)
+        ensures { is_module self.now ≡ true }
+    {
+        let _ = &self.name;
     }
 }

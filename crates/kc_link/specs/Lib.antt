@@ -1,0 +1,5 @@
+pub mod Filled
+pub mod Laws
+pub mod LineMap
+pub mod Placed
+pub mod Writes

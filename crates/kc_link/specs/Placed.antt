@@ -1,0 +1,40 @@
+-- Where all pieces stand, or the first broken rule of the linker, the range of relocations among them (after RL96 of the MCS-96 utilities, in outline;
+-- the order of the rules is this kit's own).
+use Rattle.std.specs.Prelude.{ℕ, ◌+◌, Option, Some, None, Result, Ok, Err, List, [], ◌∷◌}
+use Rattle.kc_obj.specs.declared.parts.Fixup.{Fixup}
+use Rattle.kc_obj.specs.Object.{Object}
+use Rattle.kc_reloc.specs.Numbers.{BaseLists, bases_in}
+use Rattle.kc_reloc.specs.Filled.{unfit_in}
+use Rattle.kc_place.specs.declared.ranges.Ranges.{Ranges}
+use Rattle.kc_place.specs.declared.ranges.LinkFault.{LinkFault}
+use Rattle.kc_place.specs.declared.ranges.LinkFault.TheVariants.{Range}
+use Rattle.kc_place.specs.Names.{either}
+use Rattle.kc_place.specs.Placing.{Places, located, bases_of}
+
+-- a relocation whose number does not fit
+abbrev pub range_fault : ℕ → Option Fixup → Option LinkFault
+range_fault index None = None
+range_fault index (Some f) = Some (Range index f.piece f.offset)
+
+-- the first of them, by module and then by order
+unfoldable pub unfit : List Object → Places → ℕ → List Object → Option LinkFault
+unfit all places index [] = None
+unfit all places index (m ∷ ms) = either (range_fault index (unfit_in (bases_of all places index m) m.fixups)) (unfit all places (index + 1) ms)
+
+abbrev pub or_fault : Option LinkFault → Places → Result Places LinkFault
+or_fault None places = Ok places
+or_fault (Some fault) places = Err fault
+
+abbrev pub with_places : List Object → Result Places LinkFault → Result Places LinkFault
+with_places ms (Err fault) = Err fault
+with_places ms (Ok places) = or_fault (unfit ms places 0 ms) places
+
+-- the places of all pieces, or the first broken rule
+unfoldable pub placed : List Object → Ranges → Result Places LinkFault
+placed ms ranges = with_places ms (located ms ranges)
+
+-- the same by the bases of each module
+unfoldable pub unfit_by : ℕ → List Object → List BaseLists → Option LinkFault
+unfit_by index [] bs = None
+unfit_by index (m ∷ ms) [] = None
+unfit_by index (m ∷ ms) (b ∷ bs) = either (range_fault index (unfit_in (bases_in b) m.fixups)) (unfit_by (index + 1) ms bs)

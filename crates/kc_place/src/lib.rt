@@ -1,0 +1,18 @@
+//! The places of pieces: names, overlaps and room, by the rules of the linker.
+#![tactic(auto)]
+
+mod apart;
+mod cover;
+mod gaps;
+mod names;
+mod pieces;
+mod places;
+mod placing;
+mod putting;
+mod ranges;
+mod rules;
+mod stack;
+
+pub use apart::code_stands_apart;
+pub use placing::place;
+pub use ranges::{LinkFault, Ranges};
