@@ -1,0 +1,4 @@
+pub mod Order
+pub mod Puts
+pub mod Runs
+pub mod Sheet

@@ -1,0 +1,106 @@
+ghost use Rattle.std.specs.Prelude.{◌≡◌, ◌+◌, ◌<◌, ◌≤◌, ◌++◌, [], ◌∷◌, true, length, OnOk, IfOk, Some};
+ghost use Rattle.std.specs.List.{list_all};
+ghost use Rattle.kc_piece.specs.Tape.{is_tape};
+ghost use Rattle.kc_module.specs.Order as order;
+ghost use Rattle.kc_module.specs.Sheet as sheet;
+
+use crate::kept::Kept;
+use crate::puts::{Put, put_cells, put_marks};
+use kc_base::NoMemory;
+use kc_obj::{Lines, SegKind, Segment};
+use kc_piece::Part;
+use std::alloc::Global;
+use std::marker::Model;
+
+/// The pieces of a module with what stands in them, one after the other.
+#[derive(Drop)]
+pub(crate) struct Gathered {
+    segments: Vec<Segment>,
+    puts: Vec<Put>,
+    lines: Vec<Lines>,
+}
+
+impl Model for Gathered {
+    ghost use Rattle.kc_module.specs.Sheet.{Sheet, sheet_of};
+
+    ghost Value = { Sheet };
+
+    ghost view = { λ g. sheet_of g.segments.items g.puts.items g.lines.items };
+}
+
+fn segment_of(part: &Part) -> Segment
+    requires { part.now.length < 65536 }
+    ensures { result ≡ order.segment_of part.now }
+{
+    Segment {
+        kind: part.kind(),
+        at: part.at(),
+        length: part.length() as u16,
+    }
+}
+
+impl Gathered {
+    fn new(alloc: Global) -> Gathered
+        ensures { result ≡ sheet.empty }
+    {
+        Gathered {
+            segments: Vec::new(alloc),
+            puts: Vec::new(alloc),
+            lines: Vec::new(alloc),
+        }
+    }
+
+    // Adds a part as the next piece.
+    fn add(&mut self, kept: Kept, part: &Part) -> Result<(), NoMemory>
+        requires room { length self.old.segments < 65536 }
+        requires part { sheet.IsAddable part.now }
+        ensures { OnOk result (self.new ≡ sheet.added (order.number_of kept) part.now self.old) }
+    {
+        let piece = self.segments.len() as u16;
+        self.segments.push(segment_of(part))?;
+        put_cells(&mut self.puts, kept, piece, part)?;
+        put_marks(&mut self.lines, piece, part)
+    }
+
+    // Adds parts as the next pieces.
+    #[tactic(auto, unfolding(crate::specs::Sheet::added_all, crate::specs::Sheet::AreAddable))]
+    fn add_all(&mut self, kept: Kept, parts: &[Part]) -> Result<(), NoMemory>
+        requires room { length self.old.segments + length parts.now ≤ 65536 }
+        requires parts { sheet.AreAddable parts.now }
+        ensures { OnOk result (self.new ≡ sheet.added_all (order.number_of kept) parts.now self.old) }
+    {
+        let mut left = parts;
+        while let [first, rest @ ..] = left {
+            self.add(kept, first)?;
+            left = rest;
+        }
+        Ok(())
+    }
+
+    // Adds a part as the next piece where it is kept.
+    #[tactic(auto, unfolding(crate::specs::Sheet::added_all))]
+    fn add_if(&mut self, kept: Kept, stays: bool, part: &Part) -> Result<(), NoMemory>
+        requires room { length self.old.segments + length (order.kept_if stays (Some part.now)) ≤ 65536 }
+        requires part { sheet.IsAddable part.now }
+        ensures { OnOk result (self.new ≡ sheet.added_all (order.number_of kept) (order.kept_if stays (Some part.now)) self.old) }
+    {
+        if stays { self.add(kept, part) } else { Ok(()) }
+    }
+
+    // Adds the stack as the next piece where it has bytes.
+    #[tactic(auto, unfolding(crate::specs::Sheet::added_all))]
+    fn add_stack(&mut self, kept: Kept, bytes: u16) -> Result<(), NoMemory>
+        requires { length self.old.segments + length (order.stack_pieces bytes) ≤ 65536 }
+        ensures { OnOk result (self.new ≡ sheet.added_all (order.number_of kept) (order.stack_pieces bytes) self.old) }
+    {
+        if bytes == 0 {
+            return Ok(());
+        }
+        self.segments.push(Segment {
+            kind: SegKind::Stack,
+            at: None,
+            length: bytes,
+        })?;
+        Ok(())
+    }
+}

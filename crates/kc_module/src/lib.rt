@@ -1,0 +1,9 @@
+//! The module that the pieces of a source are.
+#![tactic(auto)]
+
+mod gather;
+mod kept;
+mod puts;
+mod runs;
+
+pub use kept::Kept;
