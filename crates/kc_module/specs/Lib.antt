@@ -1,4 +1,5 @@
 pub mod Order
+pub mod Publics
 pub mod Puts
 pub mod Runs
 pub mod Sheet

@@ -3,6 +3,7 @@
 
 mod gather;
 mod kept;
+mod publics;
 mod puts;
 mod runs;
 
