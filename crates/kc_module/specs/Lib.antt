@@ -1,3 +1,5 @@
+pub mod Drafts
+pub mod ModuleOf
 pub mod Order
 pub mod Publics
 pub mod Puts

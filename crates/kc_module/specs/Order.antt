@@ -65,13 +65,13 @@ abbrev pub stack_pieces : ℕ → List Tape
 stack_pieces bytes = if bytes == 0 then [] else stack_tape bytes ∷ []
 
 -- relocatable parts by kind, the stack, absolute parts in their order
+abbrev pub in_order : Kept → Option Tape → Option Tape → Option Tape → ℕ → List Tape → List Tape
+in_order kept registers code ram stack absolute =
+    kept_if kept.registers registers ++ (kept_if kept.code code ++ (kept_if kept.ram ram ++ (stack_pieces stack ++ absolute)))
+
+-- the pieces of the module
 abbrev pub pieces_of : Kept → List Tape → ℕ → List Tape
-pieces_of kept parts stack =
-    kept_if kept.registers (slice_get parts 0)
-    ++ (kept_if kept.code (slice_get parts 1)
-    ++ (kept_if kept.ram (slice_get parts 2)
-    ++ (stack_pieces stack
-    ++ drop 3 parts)))
+pieces_of kept parts stack = in_order kept (slice_get parts 0) (slice_get parts 1) (slice_get parts 2) stack (drop 3 parts)
 
 abbrev pub segment_of : Tape → Segment
 segment_of t = record { kind = t.kind; at = t.at; length = t.length }

@@ -30,7 +30,8 @@ impl Model for Gathered {
 
 fn segment_of(part: &Part) -> Segment
     requires { part.now.length < 65536 }
-    ensures { result ≡ order.segment_of part.now }
+    ensures segment { result ≡ order.segment_of part.now }
+    ensures tape { is_tape part.now ≡ true }
 {
     Segment {
         kind: part.kind(),
@@ -54,7 +55,8 @@ impl Gathered {
     fn add(&mut self, kept: Kept, part: &Part) -> Result<(), NoMemory>
         requires room { length self.old.segments < 65536 }
         requires part { sheet.IsAddable part.now }
-        ensures { OnOk result (self.new ≡ sheet.added (order.number_of kept) part.now self.old) }
+        ensures added { OnOk result (self.new ≡ sheet.added (order.number_of kept) part.now self.old) }
+        ensures tape { is_tape part.now ≡ true }
     {
         let piece = self.segments.len() as u16;
         self.segments.push(segment_of(part))?;
@@ -67,7 +69,8 @@ impl Gathered {
     fn add_all(&mut self, kept: Kept, parts: &[Part]) -> Result<(), NoMemory>
         requires room { length self.old.segments + length parts.now ≤ 65536 }
         requires parts { sheet.AreAddable parts.now }
-        ensures { OnOk result (self.new ≡ sheet.added_all (order.number_of kept) parts.now self.old) }
+        ensures added { OnOk result (self.new ≡ sheet.added_all (order.number_of kept) parts.now self.old) }
+        ensures tapes { OnOk result (list_all is_tape parts.now ≡ true) }
     {
         let mut left = parts;
         while let [first, rest @ ..] = left {
@@ -82,8 +85,11 @@ impl Gathered {
     fn add_if(&mut self, kept: Kept, stays: bool, part: &Part) -> Result<(), NoMemory>
         requires room { length self.old.segments + length (order.kept_if stays (Some part.now)) ≤ 65536 }
         requires part { sheet.IsAddable part.now }
-        ensures { OnOk result (self.new ≡ sheet.added_all (order.number_of kept) (order.kept_if stays (Some part.now)) self.old) }
+        ensures added { OnOk result (self.new ≡ sheet.added_all (order.number_of kept) (order.kept_if stays (Some part.now)) self.old) }
+        ensures tape { is_tape part.now ≡ true }
     {
+        let length = part.length();
+        prove!(length <= 65536);
         if stays { self.add(kept, part) } else { Ok(()) }
     }
 
@@ -102,5 +108,49 @@ impl Gathered {
             length: bytes,
         })?;
         Ok(())
+    }
+}
+
+// The pieces of a module with what stands in them: the parts that are kept, the stack, the absolute parts.
+fn gather_all(
+    alloc: Global,
+    kept: Kept,
+    registers: &Part,
+    code: &Part,
+    ram: &Part,
+    stack: u16,
+    absolute: &[Part],
+) -> Result<Gathered, NoMemory>
+    requires count { length (order.in_order kept (Some registers.now) (Some code.now) (Some ram.now) stack absolute.now) ≤ 65536 }
+    requires of_registers { sheet.IsAddable registers.now }
+    requires of_code { sheet.IsAddable code.now }
+    requires of_ram { sheet.IsAddable ram.now }
+    requires of_absolute { sheet.AreAddable absolute.now }
+    ensures pieces { IfOk result (λ g. g ≡ sheet.added_all (order.number_of kept) (order.in_order kept (Some registers.now) (Some code.now) (Some ram.now) stack absolute.now) sheet.empty) }
+    ensures of_registers { OnOk result (is_tape registers.now ≡ true) }
+    ensures of_code { OnOk result (is_tape code.now ≡ true) }
+    ensures of_ram { OnOk result (is_tape ram.now ≡ true) }
+    ensures of_absolute { OnOk result (list_all is_tape absolute.now ≡ true) }
+{
+    let mut gathered = Gathered::new(alloc);
+    gathered.add_if(kept, kept.registers, registers)?;
+    gathered.add_if(kept, kept.code, code)?;
+    gathered.add_if(kept, kept.ram, ram)?;
+    gathered.add_stack(kept, stack)?;
+    gathered.add_all(kept, absolute)?;
+    Ok(gathered)
+}
+
+// All pieces of a module with what stands in them.
+pub(crate) fn gather(alloc: Global, kept: Kept, parts: &[Part], stack: u16) -> Result<Gathered, NoMemory>
+    requires three { 3 ≤ length parts.now }
+    requires count { length (order.pieces_of kept parts.now stack) ≤ 65536 }
+    requires parts { sheet.AreAddable parts.now }
+    ensures pieces { IfOk result (λ g. g ≡ sheet.added_all (order.number_of kept) (order.pieces_of kept parts.now stack) sheet.empty) }
+    ensures tapes { OnOk result (list_all is_tape parts.now ≡ true) }
+{
+    match parts {
+        [registers, code, ram, absolute @ ..] => gather_all(alloc, kept, registers, code, ram, stack, absolute),
+        _ => unreachable!(),
     }
 }
