@@ -3,3 +3,6 @@ pub mod Sorting
 pub mod Gathering
 pub mod RunBytes
 pub mod RunOrder
+pub mod Flat
+pub mod Fixing
+pub mod Pieces
