@@ -6,3 +6,5 @@ pub mod RunOrder
 pub mod Flat
 pub mod Fixing
 pub mod Pieces
+pub mod Standing
+pub mod Ordering

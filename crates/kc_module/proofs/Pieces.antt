@@ -72,7 +72,7 @@ module _ (number : ℕ → ℕ) (piece : ℕ) (t : Tape) where
       first_fits o kind start v cs rest (at_own kind v.base) refl begins.1 complete
   octet_fits externals o (Second kind v) cs rest is complete = tt
 
-  cells_fit : (externals : ℕ) (cells : List Cell) (rest : List Put) → AreOctets externals cells → AllFit rest → AllFit (map (put_of number piece t) cells ++ rest)
+  pub cells_fit : (externals : ℕ) (cells : List Cell) (rest : List Put) → AreOctets externals cells → AllFit rest → AllFit (map (put_of number piece t) cells ++ rest)
   unfolding AreOctets
   cells_fit externals [] rest are fit = fit
   cells_fit externals (c ∷ cs) rest are fit = (octet_fits externals c.offset c.octet cs rest are.0 are.1, cells_fit externals cs rest are.2 fit)
@@ -138,7 +138,7 @@ module _ (number : ℕ → ℕ) (piece : ℕ) (t : Tape) where
     abbrev pub sound_put : Put → Bool
     sound_put q = list_all (fixup_is_sound segments externals) (listed q.fixup)
 
-    cells_sound : (cells : List Cell) → AreOctets (length externals) cells → AllAim cells → list_all sound_put (map (put_of number piece t) cells) ≡ true
+    pub cells_sound : (cells : List Cell) → AreOctets (length externals) cells → AllAim cells → list_all sound_put (map (put_of number piece t) cells) ≡ true
     unfolding AreOctets
     cells_sound [] are aim = refl
     cells_sound (c ∷ cs) are aim = both (sound_put (put_of number piece t c)) (list_all sound_put (map (put_of number piece t) cs)) (octet_sound c.offset c.octet are.0 aim.0) (cells_sound cs are.2 aim.1)
