@@ -8,3 +8,5 @@ pub mod Fixing
 pub mod Pieces
 pub mod Standing
 pub mod Ordering
+pub mod Drafting
+pub mod Whole
