@@ -12,14 +12,20 @@ use Rattle.kc_obj.specs.declared.parts.SegKind.TheVariants.{Reg, Code, Ram, Stac
 use Rattle.kc_obj.specs.declared.parts.Segment.{Segment}
 use Rattle.kc_obj.specs.declared.parts.Given.{Given}
 use Rattle.kc_obj.specs.declared.parts.Taken.{Taken}
+use Rattle.kc_obj.specs.declared.parts.Content.{Content}
+use Rattle.kc_obj.specs.declared.parts.Fixup.{Fixup}
+use Rattle.kc_obj.specs.declared.parts.Lines.{Lines}
 use Rattle.kc_obj.specs.Names.{is_name, is_stack_name}
 use Rattle.kc_obj.specs.Pieces as object
 use Rattle.kc_obj.specs.Pieces.{kind_number, is_placed, is_relocatable, segments_in_order, is_kept, all_kept}
 use Rattle.kc_obj.specs.Contents.{content_at, contents_in_order}
-use Rattle.kc_obj.specs.Rules.{names_piece, given_is_sound, publics_in_order, publics_are_sound, segments_are_sound, contents_are_sound, fixups_are_sound, is_module}
-use Rattle.kc_obj.specs.LineEntries.{lines_are_sound}
+use Rattle.kc_obj.specs.Rules.{names_piece, given_is_sound, publics_in_order, publics_are_sound, segments_are_sound, contents_are_sound, fixups_are_sound, is_module, checked}
+use Rattle.kc_obj.specs.Contents.{content_is_sound}
+use Rattle.kc_obj.specs.Fixups.{fixup_is_sound, fixups_in_order, has_room}
+use Rattle.kc_obj.specs.LineEntries.{line_is_sound, lines_in_order, lines_are_sound}
 use Rattle.kc_obj.specs.Object.{Object, object_of}
 use Rattle.kc_octet.specs.Relocating.{is_piece}
+use Rattle.kc_piece.specs.declared.draft.Draft.{Draft}
 use Rattle.kc_piece.specs.declared.draft.Public.{Public}
 use Rattle.kc_piece.specs.Tape.{Tape, is_tape}
 use Rattle.kc_module.specs.declared.puts.Put.{Put}
@@ -27,12 +33,13 @@ use Rattle.kc_module.specs.declared.kept.Kept.{Kept}
 use Rattle.kc_module.specs.Order.{segment_of, relocation, aims_at, is_named, stays, kept_of, count_of, number_of, kept_if, stack_tape, stack_pieces, in_order, pieces_of}
 use Rattle.kc_module.specs.Publics.{piece_of, given_of}
 use Rattle.kc_module.specs.Runs.{runs, fixups_of}
-use Rattle.kc_module.specs.Drafts.{IsPart, is_public, is_given_base, is_absolute_part, stands_at, stand_well}
-use Rattle.kc_module.specs.ModuleOf.{entries_from}
+use Rattle.kc_module.specs.Sheet.{Sheet, sheet_of, empty, added_all}
+use Rattle.kc_module.specs.Drafts.{IsDraft, IsPart, is_public, is_given_base, is_absolute_part, stands_at, stand_well}
+use Rattle.kc_module.specs.ModuleOf.{entries_from, fixup_at, relocated_at, kept_in, pieces_in, IsModuleOf}
 use Rattle.kc_module.proofs.RunBytes.{put_byte, contents_are}
 use Rattle.kc_module.proofs.RunOrder.{both, rises, runs_in_order, runs_sound}
-use Rattle.kc_module.proofs.Flat.{puts_from, puts_rise}
-use Rattle.kc_module.proofs.Fixing.{AllFit, fixups_ordered, rooms, all_listed}
+use Rattle.kc_module.proofs.Flat.{puts_from, gathered_is, puts_rise, fixups_put, bytes_put}
+use Rattle.kc_module.proofs.Fixing.{AllFit, fixups_ordered, fixups_at, rooms, all_listed}
 use Rattle.kc_module.proofs.Standing.{IsPiece, all_stand, all_in_code, all_fit, all_sound, all_marked, all_placed, all_tapes, entries_in_order}
 use Rattle.kc_module.proofs.Ordering.{Ordered, absolute_ordered, kept_ordered, stack_ordered, kept_next, absolute_kept, stack_kept, stay_kept, has_aim, module_names, with_octets, kept_any, stack_any}
 use Rattle.kc_module.proofs.Drafting.{StandWell, stand_parts, number_below, parts_placed, parts_pieces, stack_piece, all_in_order}
@@ -189,3 +196,127 @@ module _ (name : List ℕ) (r c m : Tape) (absolute : List Tape) (stack : ℕ) (
 
   names : (n : ℕ) → is_named parts publics n ≡ true → object.is_named givens (fixups_of puts) (number n) ≡ true
   names n h = module_names number n parts pieces publics givens same (aims_of n) h
+
+  stays_kept : (index n : ℕ) (t : Tape) (k : Bool) → kind_number t.kind < 3 → k ≡ stays parts publics t n → number n ≡ index → k ≡ true → is_kept givens (fixups_of puts) index (segment_of t) ≡ true
+  stays_kept index n t k kind e at h =
+      stay_kept givens (fixups_of puts) index n t (is_named parts publics n) kind (sym e ∙ h) (λ g. subst (λ (i : ℕ). object.is_named givens (fixups_of puts) i ≡ true) at (names n g))
+
+  kept_all : all_kept givens (fixups_of puts) 0 segments ≡ true
+  kept_all =
+      let first : count_of kept.registers ≡ 0 + count_of kept.registers = omega arith in
+      kept_next givens (fixups_of puts) kept.registers r (kept_if kept.code (Some c) ++ (kept_if kept.ram (Some m) ++ (stack_pieces stack ++ absolute))) 0 (count_of kept.registers) first
+        (stays_kept 0 0 r kept.registers (omega (arith, stand.registers.kind_is)) kept_r refl)
+      (kept_next givens (fixups_of puts) kept.code c (kept_if kept.ram (Some m) ++ (stack_pieces stack ++ absolute)) (count_of kept.registers) (count_of kept.registers + count_of kept.code) refl
+        (stays_kept (count_of kept.registers) 1 c kept.code (omega (arith, stand.code.kind_is)) kept_c refl)
+      (kept_next givens (fixups_of puts) kept.ram m (stack_pieces stack ++ absolute) (count_of kept.registers + count_of kept.code) (count_of kept.registers + count_of kept.code + count_of kept.ram) refl
+        (stays_kept (count_of kept.registers + count_of kept.code) 2 m kept.ram (omega (arith, stand.ram.kind_is)) kept_m refl)
+      (stack_kept givens (fixups_of puts) (count_of kept.registers + count_of kept.code + count_of kept.ram) stack absolute absolutes)))
+
+  segments_sound : segments_are_sound segments givens (fixups_of puts) ≡ true
+  segments_sound =
+      both (list_all is_placed segments && segments_in_order segments) (all_kept givens (fixups_of puts) 0 segments)
+        (both (list_all is_placed segments) (segments_in_order segments) (all_placed number segments externals pieces all_pieces) ordered) kept_all
+
+  publics_sound : publics_are_sound (length segments) givens ≡ true
+  publics_sound =
+      both (list_all (given_is_sound (length segments)) givens) (publics_in_order givens)
+        (all_permuted (given_is_sound (length segments)) (map (given_of number) publics) givens same
+          (givens_sound kept (length segments) publics publics_ok (λ n lt h. below n lt (named_by_public n h))))
+        sorted
+
+  pub bytes_are : (piece offset : ℕ) → content_at (runs [] 0 0 puts) piece offset ≡ put_byte puts piece offset
+  bytes_are piece offset = contents_are puts piece offset
+
+  contents_sound : contents_are_sound segments (runs [] 0 0 puts) ≡ true
+  contents_sound =
+      both (list_all (content_is_sound segments) (runs [] 0 0 puts)) (contents_in_order (runs [] 0 0 puts))
+        (runs_sound segments puts [] 0 0 (omega arith) (λ h. absurd (omega arith)) (all_in_code number segments externals 0 pieces (all_stand pieces) all_pieces))
+        (runs_in_order puts rising)
+
+  fixups_sound : fixups_are_sound segments externals (runs [] 0 0 puts) (fixups_of puts) ≡ true
+  fixups_sound =
+      both (list_all (fixup_is_sound segments externals) (fixups_of puts) && fixups_in_order (fixups_of puts)) (list_all (has_room (runs [] 0 0 puts)) (fixups_of puts))
+        (both (list_all (fixup_is_sound segments externals) (fixups_of puts)) (fixups_in_order (fixups_of puts))
+          (all_listed (fixup_is_sound segments externals) puts (all_sound number segments externals 0 pieces (all_stand pieces) all_pieces)) (fixups_ordered puts 0 0 rising fitting))
+        (rooms (runs [] 0 0 puts) puts 0 0 (λ piece offset from. bytes_are piece offset) rising fitting)
+
+  lines_sound : lines_are_sound segments (Some (entries_from 0 pieces)) ≡ true
+  lines_sound =
+      both (list_all (line_is_sound segments) (entries_from 0 pieces)) (lines_in_order (entries_from 0 pieces))
+        (all_marked number segments externals 0 pieces (all_stand pieces) all_pieces) (entries_in_order pieces tapes_of)
+
+  pub rules_kept : is_module (object_of name segments externals givens (runs [] 0 0 puts) (fixups_of puts) (Some (entries_from 0 pieces))) ≡ true
+  rules_kept = rw (named, segments_sound, externals_ok, publics_sound, contents_sound, fixups_sound, lines_sound) refl
+
+  pub fixups_are : (piece offset : ℕ) → fixup_at (fixups_of puts) piece offset ≡ relocated_at number piece (slice_get pieces piece) offset
+  fixups_are piece offset = fixups_at puts 0 0 piece offset rising fitting ∙ fixups_put number pieces piece offset
+
+-- ---- of any draft
+
+abbrev pub object_from : List ℕ → List Tape → ℕ → List Taken → List Public → List Given → Object
+object_from name parts stack externals publics givens =
+    object_of name (map segment_of (pieces_of (kept_of parts publics) parts stack)) externals givens
+      (runs [] 0 0 (puts_from (number_of (kept_of parts publics)) 0 (pieces_of (kept_of parts publics) parts stack)))
+      (fixups_of (puts_from (number_of (kept_of parts publics)) 0 (pieces_of (kept_of parts publics) parts stack)))
+      (Some (entries_from 0 (pieces_of (kept_of parts publics) parts stack)))
+
+module _ (name : List ℕ) (stack : ℕ) (externals : List Taken) (publics : List Public) (givens : List Given)
+    (named : is_name name ≡ true) (externals_ok : list_all (λ t. is_name t.name) externals ≡ true) (publics_ok : list_all is_public publics ≡ true) (short : stack < 65536) (sorted : publics_in_order givens ≡ true) where
+  rules_of : (parts : List Tape) → stand_well parts ≡ true → AllByRecursion (IsPart (length externals)) parts → list_all is_tape parts ≡ true → IsPermutation (map (given_of (number_of (kept_of parts publics))) publics) givens
+      → is_module (object_from name parts stack externals publics givens) ≡ true
+  unfolding kept_of
+  rules_of [] stand are tapes same = absurd (cc)
+  rules_of (r ∷ []) stand are tapes same = absurd (cc)
+  rules_of (r ∷ c ∷ []) stand are tapes same = absurd (cc)
+  rules_of (r ∷ c ∷ m ∷ absolute) stand are tapes same =
+      rules_kept name r c m absolute stack externals publics givens (kept_of (r ∷ c ∷ m ∷ absolute) publics) refl refl refl named externals_ok publics_ok (stand_parts r c m absolute stand) are tapes short same sorted
+
+  relocations_of : (parts : List Tape) → stand_well parts ≡ true → AllByRecursion (IsPart (length externals)) parts → list_all is_tape parts ≡ true → IsPermutation (map (given_of (number_of (kept_of parts publics))) publics) givens
+      → (piece offset : ℕ) → fixup_at (object_from name parts stack externals publics givens).fixups piece offset ≡ relocated_at (number_of (kept_of parts publics)) piece (slice_get (pieces_of (kept_of parts publics) parts stack) piece) offset
+  unfolding kept_of
+  relocations_of [] stand are tapes same = absurd (cc)
+  relocations_of (r ∷ []) stand are tapes same = absurd (cc)
+  relocations_of (r ∷ c ∷ []) stand are tapes same = absurd (cc)
+  relocations_of (r ∷ c ∷ m ∷ absolute) stand are tapes same =
+      fixups_are name r c m absolute stack externals publics givens (kept_of (r ∷ c ∷ m ∷ absolute) publics) refl refl refl named externals_ok publics_ok (stand_parts r c m absolute stand) are tapes short same sorted
+
+pub module_is : (d : Draft) (givens : List Given) → IsDraft d → list_all is_tape d.parts.items ≡ true → d.stack < 65536
+    → IsPermutation (map (given_of (number_of (kept_in d))) d.publics.items) givens → publics_in_order givens ≡ true
+    → IsModuleOf d (object_from d.name d.parts.items d.stack d.externals.items d.publics.items givens)
+module_is d givens is tapes short same sorted = record {
+  rules = rules_of d.name d.stack d.externals.items d.publics.items givens is.name is.externals is.publics short sorted d.parts.items is.places is.parts tapes same;
+  name = refl;
+  segments = refl;
+  externals = refl;
+  publics = same;
+  contents = λ piece offset. contents_are (puts_from (number_of (kept_in d)) 0 (pieces_in d)) piece offset ∙ bytes_put (number_of (kept_in d)) (pieces_in d) piece offset;
+  fixups = relocations_of d.name d.stack d.externals.items d.publics.items givens is.name is.externals is.publics short sorted d.parts.items is.places is.parts tapes same;
+  lines = refl
+}
+
+-- ---- from what the calls give
+
+module _ (d : Draft) (is : IsDraft d) (short : d.stack < 65536) (kept : Kept) (gathered : Sheet) (segments : List Segment) (lines : List Lines) (contents : List Content) (fixups : List Fixup) (givens : List Given)
+    (kept_is : kept ≡ kept_in d) (tapes : list_all is_tape d.parts.items ≡ true)
+    (gathered_as : gathered ≡ added_all (number_of kept) (pieces_of kept d.parts.items d.stack) empty)
+    (segments_as : segments ≡ gathered.segments) (lines_as : lines ≡ gathered.entries) (contents_as : contents ≡ runs [] 0 0 gathered.puts) (fixups_as : fixups ≡ fixups_of gathered.puts)
+    (same : IsPermutation (map (given_of (number_of kept)) d.publics.items) givens) (sorted : publics_in_order givens ≡ true) where
+  abbrev whole : Object
+  whole = object_from d.name d.parts.items d.stack d.externals.items d.publics.items givens
+
+  sheet_as : gathered ≡ sheet_of (map segment_of (pieces_in d)) (puts_from (number_of (kept_in d)) 0 (pieces_in d)) (entries_from 0 (pieces_in d))
+  sheet_as = gathered_as ∙ ap (λ (k : Kept). added_all (number_of k) (pieces_of k d.parts.items d.stack) empty) kept_is ∙ gathered_is (number_of (kept_in d)) (pieces_in d)
+
+  pub module_whole : IsModuleOf d whole
+  module_whole = module_is d givens is tapes short (subst (λ (k : Kept). IsPermutation (map (given_of (number_of k)) d.publics.items) givens) kept_is same) sorted
+
+  object_as : object_of d.name segments d.externals.items givens contents fixups (Some lines) ≡ whole
+  object_as =
+      (λ i. object_of d.name (segments_as i) d.externals.items givens (contents_as i) (fixups_as i) (Some (lines_as i)))
+      ∙ (λ i. object_of d.name (sheet_as i).segments d.externals.items givens (runs [] 0 0 (sheet_as i).puts) (fixups_of (sheet_as i).puts) (Some (sheet_as i).entries))
+
+  whole_checked : checked whole ≡ Some whole
+  whole_checked = rw module_whole.rules refl
+
+  pub checked_whole : checked (object_of d.name segments d.externals.items givens contents fixups (Some lines)) ≡ Some whole
+  checked_whole = ap checked object_as ∙ whole_checked

@@ -51,6 +51,21 @@ impl Gathered {
         }
     }
 
+    // What stands at the places of the pieces.
+    pub(crate) fn puts(&self) -> &[Put]
+        ensures { result.now ≡ self.now.puts }
+    {
+        self.puts.as_slice()
+    }
+
+    // The pieces and their line entries.
+    pub(crate) fn into_lists(self) -> (Vec<Segment>, Vec<Lines>)
+        ensures segments { result.0.items ≡ self.segments }
+        ensures lines { result.1.items ≡ self.entries }
+    {
+        (self.segments, self.lines)
+    }
+
     // Adds a part as the next piece.
     fn add(&mut self, kept: Kept, part: &Part) -> Result<(), NoMemory>
         requires room { length self.old.segments < 65536 }

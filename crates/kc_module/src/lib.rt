@@ -3,8 +3,10 @@
 
 mod gather;
 mod kept;
+mod making;
 mod publics;
 mod puts;
 mod runs;
 
 pub use kept::Kept;
+pub use making::module_of;
