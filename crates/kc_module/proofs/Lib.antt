@@ -10,3 +10,6 @@ pub mod Standing
 pub mod Ordering
 pub mod Drafting
 pub mod Whole
+pub mod OneContents
+pub mod OneFixups
+pub mod OneModule

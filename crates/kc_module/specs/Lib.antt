@@ -5,3 +5,4 @@ pub mod Publics
 pub mod Puts
 pub mod Runs
 pub mod Sheet
+pub mod OneModule

@@ -3,10 +3,12 @@
 
 mod gather;
 mod kept;
+mod laws;
 mod making;
 mod publics;
 mod puts;
 mod runs;
 
 pub use kept::Kept;
+pub use laws::one_module;
 pub use making::module_of;
