@@ -6,3 +6,4 @@ pub mod Puts
 pub mod Runs
 pub mod Sheet
 pub mod OneModule
+pub mod Worked

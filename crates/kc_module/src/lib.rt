@@ -12,3 +12,6 @@ mod runs;
 pub use kept::Kept;
 pub use laws::one_module;
 pub use making::module_of;
+
+#[cfg(test)]
+mod tests;
