@@ -13,3 +13,5 @@ pub mod Whole
 pub mod OneContents
 pub mod OneFixups
 pub mod OneModule
+pub mod Counting
+pub mod Working

@@ -7,3 +7,4 @@ pub mod Runs
 pub mod Sheet
 pub mod OneModule
 pub mod Worked
+pub mod Count
