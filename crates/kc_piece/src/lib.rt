@@ -3,9 +3,11 @@
 #![tactic(auto)]
 
 mod draft;
+mod laws;
 mod part;
 
 pub use draft::{Draft, Public};
+pub use laws::{put_stands, written_stands};
 pub use part::{Cell, Mark, Part};
 
 
