@@ -1,9 +1,8 @@
 -- How many pieces there are.
-use Rattle.std.proofs.Common.{◌≡◌, ℕ, ◌+◌, ◌≤◌, Bool, true, false, eqb, if◌then◌else◌, Option, Some, None, List, [], ◌∷◌, ◌++◌, length, drop, refl, length-append, arith}
-use Rattle.std.specs.List.{slice_get}
+use Rattle.std.proofs.Common.{◌≡◌, ℕ, ◌+◌, ◌≤◌, Bool, true, false, eqb, if◌then◌else◌, Option, Some, None, List, [], ◌∷◌, ◌++◌, length, refl, length-append, arith}
 use Rattle.kc_piece.specs.Tape.{Tape}
 use Rattle.kc_module.specs.declared.kept.Kept.{Kept}
-use Rattle.kc_module.specs.Order.{kept_if, stack_tape, stack_pieces, in_order, pieces_of}
+use Rattle.kc_module.specs.Order.{kept_if, stack_tape, stack_pieces, in_order}
 use Rattle.kc_module.specs.Count.{FewPieces}
 
 none_kept : (b : Bool) → length (kept_if b None) ≤ 0
@@ -24,10 +23,12 @@ one_stack bytes = by (eqb bytes 0)
 
 all_count : (kept : Kept) (r c m : Option Tape) (stack : ℕ) (absolute : List Tape) → length (in_order kept r c m stack absolute) ≡ length (kept_if kept.registers r) + (length (kept_if kept.code c) + (length (kept_if kept.ram m) + (length (stack_pieces stack) + length absolute)))
 all_count kept r c m stack absolute =
-    rw (length-append (kept_if kept.registers r) (kept_if kept.code c ++ (kept_if kept.ram m ++ (stack_pieces stack ++ absolute))),
-        length-append (kept_if kept.code c) (kept_if kept.ram m ++ (stack_pieces stack ++ absolute)),
-        length-append (kept_if kept.ram m) (stack_pieces stack ++ absolute),
-        length-append (stack_pieces stack) absolute) refl
+    rw (
+      length-append (kept_if kept.registers r) (kept_if kept.code c ++ (kept_if kept.ram m ++ (stack_pieces stack ++ absolute))),
+      length-append (kept_if kept.code c) (kept_if kept.ram m ++ (stack_pieces stack ++ absolute)),
+      length-append (kept_if kept.ram m) (stack_pieces stack ++ absolute),
+      length-append (stack_pieces stack) absolute,
+    ) refl
 
 pub few : FewPieces
 few kept [] stack = omega (arith, all_count kept None None None stack [], none_kept kept.registers, none_kept kept.code, none_kept kept.ram, one_stack stack)

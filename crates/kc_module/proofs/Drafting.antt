@@ -1,6 +1,6 @@
 -- What a draft without fault says of the pieces.
-use Rattle.std.proofs.Common.{◌≡◌, ℕ, ◌+◌, ◌<◌, ◌≤◌, Bool, true, false, not, ◌&&◌, ◌||◌, eqb, ltb, leb, if◌then◌else◌, Option, Some, None, List, [], ◌∷◌, ◌++◌, map, length, suc, zero, refl, sym, ap, subst, ◌∙◌, length-append, arith}
-use Rattle.std.specs.List.{slice_get, list_all, list_any, AllByRecursion}
+use Rattle.std.proofs.Common.{◌≡◌, ℕ, ◌+◌, ◌<◌, ◌≤◌, Bool, true, false, ◌&&◌, ◌||◌, eqb, ltb, leb, if◌then◌else◌, Option, Some, None, List, [], ◌∷◌, ◌++◌, length, suc, zero, refl, ap, ◌∙◌, length-append, arith}
+use Rattle.std.specs.List.{list_all, list_any, AllByRecursion}
 use Rattle.std.proofs.lemmas.Bool.{and_parts}
 use Rattle.std.proofs.lemmas.Bool.Decides.{nat_tests}
 use Rattle.kc_obj.specs.declared.parts.SegKind.{SegKind}
@@ -9,12 +9,11 @@ use Rattle.kc_obj.specs.Pieces.{kind_number, in_region, is_placed, is_relocatabl
 use Rattle.kc_obj.specs.Fixups.{may_begin}
 use Rattle.kc_octet.specs.declared.octet.Octet.{Octet}
 use Rattle.kc_octet.specs.declared.octet.Octet.TheVariants.{Plain, First, Second}
-use Rattle.kc_octet.specs.Relocating.{is_piece}
 use Rattle.kc_piece.specs.declared.part.Cell.{Cell}
 use Rattle.kc_piece.specs.declared.draft.Public.{Public}
 use Rattle.kc_piece.specs.Tape.{Tape, is_tape, rise}
 use Rattle.kc_module.specs.declared.kept.Kept.{Kept}
-use Rattle.kc_module.specs.Order.{start_of, segment_of, relocation, aims_at, is_named, stays, count_of, number_of, kept_if, stack_tape, stack_pieces, in_order}
+use Rattle.kc_module.specs.Order.{start_of, segment_of, is_named, stays, count_of, number_of, kept_if, stack_tape, stack_pieces, in_order}
 use Rattle.kc_module.specs.Puts.{has_start}
 use Rattle.kc_module.specs.Sheet.{IsAddable, AreAddable}
 use Rattle.kc_module.specs.Drafts.{base_exists, is_octet, AreOctets, IsPart, stands_at, is_relocatable_part, is_absolute_part, stand_well}
@@ -116,10 +115,14 @@ module _ (parts : List Tape) (publics : List Public) (kept : Kept) (r c m : Tape
 
   pieces_count : length pieces ≡ count_of kept.registers + (count_of kept.code + (count_of kept.ram + length (stack_pieces stack ++ absolute)))
   pieces_count =
-      rw (length-append (kept_if kept.registers (Some r)) (kept_if kept.code (Some c) ++ (kept_if kept.ram (Some m) ++ (stack_pieces stack ++ absolute))),
-          length-append (kept_if kept.code (Some c)) (kept_if kept.ram (Some m) ++ (stack_pieces stack ++ absolute)),
-          length-append (kept_if kept.ram (Some m)) (stack_pieces stack ++ absolute),
-          kept_count kept.registers r, kept_count kept.code c, kept_count kept.ram m) refl
+      rw (
+        length-append (kept_if kept.registers (Some r)) (kept_if kept.code (Some c) ++ (kept_if kept.ram (Some m) ++ (stack_pieces stack ++ absolute))),
+        length-append (kept_if kept.code (Some c)) (kept_if kept.ram (Some m) ++ (stack_pieces stack ++ absolute)),
+        length-append (kept_if kept.ram (Some m)) (stack_pieces stack ++ absolute),
+        kept_count kept.registers r,
+        kept_count kept.code c,
+        kept_count kept.ram m,
+      ) refl
 
   named_stays : (t : Tape) (n : ℕ) → is_named parts publics n ≡ true → stays parts publics t n ≡ true
   named_stays t n h = by (ltb 0 t.length)
@@ -174,9 +177,10 @@ pub parts_pieces : (number : ℕ → ℕ) (count externals : ℕ) (ts : List Tap
 parts_pieces number count externals [] aims are tapes placed = tt
 parts_pieces number count externals (t ∷ ts) aims are tapes placed =
     let tape = and_parts (is_tape t) (list_all is_tape ts) tapes in
-    let place = and_parts (is_placed (segment_of t)) (list_all (λ t. is_placed (segment_of t)) ts) placed in
-    (record { tape = tape.0; part = are.0; placed = place.0; aims = λ n lt h. aims n lt (or_left (has_aim n t) (list_any (has_aim n) ts) h) },
-     parts_pieces number count externals ts (λ n lt h. aims n lt (or_right (has_aim n t) (list_any (has_aim n) ts) h)) are.1 tape.1 place.1)
+    let place = and_parts (is_placed (segment_of t)) (list_all (λ t. is_placed (segment_of t)) ts) placed in (
+      record { tape = tape.0; part = are.0; placed = place.0; aims = λ n lt h. aims n lt (or_left (has_aim n t) (list_any (has_aim n) ts) h) },
+      parts_pieces number count externals ts (λ n lt h. aims n lt (or_right (has_aim n t) (list_any (has_aim n) ts) h)) are.1 tape.1 place.1,
+    )
 
 stack_is_tape : (bytes : ℕ) → bytes < 65536 → is_tape (stack_tape bytes) ≡ true
 unfolding rise

@@ -1,5 +1,5 @@
 -- What stands in the pieces, one after the other.
-use Rattle.std.proofs.Common.{◌≡◌, ℕ, ◌+◌, ◌<◌, ◌≤◌, Bool, true, false, ◌&&◌, ◌||◌, eqb, ltb, leb, if◌then◌else◌, Option, Some, None, List, [], ◌∷◌, ◌++◌, map, length, suc, zero, refl, sym, ap, ◌∙◌, append_assoc, length-append, arith}
+use Rattle.std.proofs.Common.{◌≡◌, ℕ, ◌+◌, ◌<◌, Bool, true, false, ◌&&◌, eqb, leb, if◌then◌else◌, Option, Some, None, List, [], ◌∷◌, ◌++◌, map, length, suc, zero, refl, sym, ap, ◌∙◌, append_assoc, length-append, arith}
 use Rattle.std.specs.List.{slice_get, list_all}
 use Rattle.std.specs.Option.{option_map}
 use Rattle.std.proofs.lemmas.List.{append-nil}
@@ -11,12 +11,11 @@ use Rattle.kc_obj.specs.declared.parts.Lines.{Lines}
 use Rattle.kc_obj.specs.Contents.{is_from}
 use Rattle.kc_octet.specs.declared.octet.Octet.{Octet}
 use Rattle.kc_piece.specs.declared.part.Cell.{Cell}
-use Rattle.kc_piece.specs.declared.part.Mark.{Mark}
-use Rattle.kc_piece.specs.Tape.{Tape, rise, is_tape, cell_offsets, mark_offsets, cell_at}
+use Rattle.kc_piece.specs.Tape.{Tape, rise, is_tape, cell_offsets, cell_at}
 use Rattle.kc_module.specs.declared.puts.Put.{Put}
 use Rattle.kc_module.specs.Order.{segment_of, relocation}
 use Rattle.kc_module.specs.Puts.{put_of, entry_of, byte_for, fixup_for}
-use Rattle.kc_module.specs.Sheet.{Sheet, sheet_of, empty, added, added_all}
+use Rattle.kc_module.specs.Sheet.{sheet_of, empty, added_all}
 use Rattle.kc_module.specs.ModuleOf.{entries_from, byte_at, relocated_at, fixup_from}
 use Rattle.kc_module.proofs.Cells.{tape_parts}
 use Rattle.kc_module.proofs.RunBytes.{is_at, put_byte}
@@ -165,7 +164,7 @@ unfolding cell_at
 byte_in number piece t [] o = refl
 byte_in number piece t (c ∷ cs) o =
     by_test (eqb c.offset o) (Some (byte_for t c.offset c.octet)) (Some (byte_for t o c.octet)) (look_in own_byte number piece t cs o) (option_map (byte_for t o) (cell_at cs o))
-      (λ h. ap (λ (n : ℕ). Some (byte_for t n c.octet)) (same_number c.offset o h)) (byte_in number piece t cs o)
+    (λ h. ap (λ (n : ℕ). Some (byte_for t n c.octet)) (same_number c.offset o h)) (byte_in number piece t cs o)
     ∙ sym (map_if (byte_for t o) (eqb c.offset o) c.octet (cell_at cs o))
 
 byte_look : (number : ℕ → ℕ) (piece : ℕ) (t : Option Tape) (o : ℕ) → look_at own_byte number piece t o ≡ byte_at t o
@@ -184,7 +183,7 @@ unfolding cell_at
 fixup_in number piece t [] o = refl
 fixup_in number piece t (c ∷ cs) o =
     by_test (eqb c.offset o) (fixup_for number piece c.offset (relocation t c.octet)) (fixup_for number piece o (relocation t c.octet)) (look_in own_fixup number piece t cs o) (fixup_from number t piece o (cell_at cs o))
-      (λ h. ap (λ (n : ℕ). fixup_for number piece n (relocation t c.octet)) (same_number c.offset o h)) (fixup_in number piece t cs o)
+    (λ h. ap (λ (n : ℕ). fixup_for number piece n (relocation t c.octet)) (same_number c.offset o h)) (fixup_in number piece t cs o)
     ∙ sym (from_if number t piece o (eqb c.offset o) c.octet (cell_at cs o))
 
 fixup_look : (number : ℕ → ℕ) (piece : ℕ) (t : Option Tape) (o : ℕ) → look_at own_fixup number piece t o ≡ relocated_at number piece t o

@@ -1,15 +1,9 @@
 -- Pieces that are gathered one after the other.
-use Rattle.std.proofs.Common.{◌≡◌, ℕ, ◌+◌, ◌<◌, ◌≤◌, Bool, true, false, ◌&&◌, Option, Some, None, List, [], ◌∷◌, ◌++◌, map, length, take, drop, get_or, suc, zero, refl, sym, ap, ◌∙◌, append_assoc, length-append, arith}
+use Rattle.std.proofs.Common.{◌≡◌, ℕ, ◌+◌, ◌≤◌, Bool, true, Some, List, [], ◌∷◌, ◌++◌, length, take, drop, suc, zero, refl, ap, length-append, arith}
 use Rattle.std.specs.List.{list_all, slice_get}
-use Rattle.std.proofs.lemmas.List.{append-nil}
-use Rattle.std.proofs.lemmas.Option.{slice_get_read}
-use Rattle.kc_obj.specs.declared.parts.Segment.{Segment}
-use Rattle.kc_obj.specs.declared.parts.Lines.{Lines}
-use Rattle.kc_piece.specs.Tape.{Tape, is_tape}
-use Rattle.kc_module.specs.declared.puts.Put.{Put}
-use Rattle.kc_module.specs.declared.kept.Kept.{Kept}
-use Rattle.kc_module.specs.Order.{segment_of, kept_if, stack_pieces, in_order, pieces_of}
-use Rattle.kc_module.specs.Sheet.{Sheet, sheet_of, empty, added, added_all, IsAddable, AreAddable}
+use Rattle.kc_piece.specs.Tape.{Tape}
+use Rattle.kc_module.specs.Order.{segment_of}
+use Rattle.kc_module.specs.Sheet.{Sheet, empty, added, added_all, IsAddable, AreAddable}
 
 pub added_more : (number : ℕ → ℕ) (xs ys : List Tape) (s : Sheet) → added_all number (xs ++ ys) s ≡ added_all number ys (added_all number xs s)
 unfolding added_all

@@ -1,5 +1,5 @@
 -- A draft has at most one module.
-use Rattle.std.proofs.Common.{◌≡◌, ℕ, Bool, true, ◌&&◌, length, refl, sym, ap, subst, ◌∙◌, List, map}
+use Rattle.std.proofs.Common.{◌≡◌, true, ◌&&◌, length, sym, subst, ◌∙◌, List, map}
 use Rattle.std.specs.List.{list_all}
 use Rattle.std.proofs.lemmas.Bool.{and_parts}
 use Rattle.kc_obj.specs.declared.parts.Segment.{Segment}
@@ -9,10 +9,9 @@ use Rattle.kc_obj.specs.Contents.{content_is_sound, contents_in_order}
 use Rattle.kc_obj.specs.Fixups.{fixup_is_sound, fixups_in_order, has_room}
 use Rattle.kc_obj.specs.LineEntries.{lines_are_sound}
 use Rattle.kc_obj.specs.Rules.{given_is_sound, publics_in_order, segments_are_sound, externals_are_sound, publics_are_sound, contents_are_sound, fixups_are_sound, is_module}
-use Rattle.kc_piece.specs.declared.draft.Draft.{Draft}
-use Rattle.kc_module.specs.Order.{segment_of, number_of}
+use Rattle.kc_module.specs.Order.{number_of}
 use Rattle.kc_module.specs.Publics.{given_of}
-use Rattle.kc_module.specs.ModuleOf.{IsModuleOf, kept_in, pieces_in}
+use Rattle.kc_module.specs.ModuleOf.{kept_in}
 use Rattle.kc_module.specs.OneModule.{OneModule}
 use Rattle.kc_module.proofs.OneContents.{one_contents}
 use Rattle.kc_module.proofs.OneFixups.{one_fixups, one_publics}
@@ -35,7 +34,7 @@ rules m h =
       publics = (and_parts (list_all (given_is_sound (length m.segments)) m.publics) (publics_in_order m.publics) publics.1).1;
       sound = runs.0;
       contents = runs.1;
-      fixups = (and_parts (list_all (fixup_is_sound m.segments m.externals) m.fixups) (fixups_in_order m.fixups) numbers.0).1
+      fixups = (and_parts (list_all (fixup_is_sound m.segments m.externals) m.fixups) (fixups_in_order m.fixups) numbers.0).1;
     }
 
 pub at_most_one : OneModule

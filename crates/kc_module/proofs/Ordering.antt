@@ -1,5 +1,5 @@
 -- The pieces stand in order, and those that are empty are named.
-use Rattle.std.proofs.Common.{◌≡◌, ℕ, ◌+◌, ◌<◌, ◌≤◌, Bool, true, false, not, ◌&&◌, ◌||◌, eqb, ltb, leb, if◌then◌else◌, Option, Some, None, List, [], ◌∷◌, ◌++◌, map, length, suc, zero, refl, sym, ap, subst, ◌∙◌, arith}
+use Rattle.std.proofs.Common.{◌≡◌, ℕ, ◌+◌, ◌<◌, ◌≤◌, Bool, true, false, not, ◌&&◌, ◌||◌, eqb, ltb, leb, if◌then◌else◌, Option, Some, None, List, [], ◌∷◌, ◌++◌, map, refl, sym, subst, ◌∙◌, arith}
 use Rattle.std.specs.List.{list_all, list_any}
 use Rattle.std.specs.List.Sorted.{IsPermutation}
 use Rattle.std.proofs.lemmas.Bool.{and_parts}
@@ -19,8 +19,7 @@ use Rattle.kc_piece.specs.declared.part.Cell.{Cell}
 use Rattle.kc_piece.specs.declared.draft.Public.{Public}
 use Rattle.kc_piece.specs.Tape.{Tape, is_tape, rise, cell_offsets}
 use Rattle.kc_module.specs.declared.puts.Put.{Put}
-use Rattle.kc_module.specs.declared.kept.Kept.{Kept}
-use Rattle.kc_module.specs.Order.{segment_of, relocation, aims_at, is_named, stays, count_of, kept_if, stack_tape, stack_pieces, in_order}
+use Rattle.kc_module.specs.Order.{segment_of, relocation, aims_at, is_named, count_of, kept_if, stack_tape, stack_pieces}
 use Rattle.kc_module.specs.Puts.{put_of, fixup_for, target_of}
 use Rattle.kc_module.specs.Publics.{piece_of, given_of}
 use Rattle.kc_module.specs.Runs.{listed, fixups_of}
@@ -156,7 +155,7 @@ givens_name : (number : ℕ → ℕ) (n : ℕ) (ps : List Public) → list_any (
 givens_name number n [] h = absurd (cc)
 givens_name number n (p ∷ ps) h =
     or_cases (is_piece n p.value.base) (list_any (λ p. is_piece n p.value.base) ps) (object.is_piece (piece_of number p.value.base) (number n)) (list_any (λ g. object.is_piece g.piece (number n)) (map (given_of number) ps))
-      (base_named number n p.value.base) (givens_name number n ps) h
+    (base_named number n p.value.base) (givens_name number n ps) h
 
 abbrev pub has_aim : ℕ → Tape → Bool
 has_aim n t = list_any (λ c. aims_at n (relocation t c.octet)) t.cells
@@ -182,9 +181,9 @@ module _ (number : ℕ → ℕ) (n : ℕ) where
   cells_name piece t (c ∷ cs) rest b more h =
       rw (list_any-append names (listed (fixup_for number piece c.offset (relocation t c.octet))) (fixups_of (map (put_of number piece t) cs ++ rest)))
       (or_cases (aims_at n (relocation t c.octet)) (list_any (λ c. aims_at n (relocation t c.octet)) cs || b)
-        (list_any names (listed (fixup_for number piece c.offset (relocation t c.octet)))) (list_any names (fixups_of (map (put_of number piece t) cs ++ rest)))
-        (one_names piece c.offset (relocation t c.octet)) (cells_name piece t cs rest b more)
-        (regroup (aims_at n (relocation t c.octet)) (list_any (λ c. aims_at n (relocation t c.octet)) cs) b h))
+      (list_any names (listed (fixup_for number piece c.offset (relocation t c.octet)))) (list_any names (fixups_of (map (put_of number piece t) cs ++ rest)))
+      (one_names piece c.offset (relocation t c.octet)) (cells_name piece t cs rest b more)
+      (regroup (aims_at n (relocation t c.octet)) (list_any (λ c. aims_at n (relocation t c.octet)) cs) b h))
     where
       regroup : (x y z : Bool) → ((x || y) || z) ≡ true → (x || (y || z)) ≡ true
       regroup true y z h = refl
@@ -201,8 +200,8 @@ module _ (number : ℕ → ℕ) (n : ℕ) where
   unfolding is_named
   module_names parts pieces publics givens same sub h =
       or_cases (list_any (λ p. is_piece n p.value.base) publics) (list_any (has_aim n) parts) (list_any (λ g. object.is_piece g.piece (number n)) givens) (list_any names (fixups_of (puts_from number 0 pieces)))
-        (λ k. sym (list_any-IsPermutation (λ g. object.is_piece g.piece (number n)) (map (given_of number) publics) givens same) ∙ givens_name number n publics k)
-        (λ k. pieces_name 0 pieces (sub k)) h
+      (λ k. sym (list_any-IsPermutation (λ g. object.is_piece g.piece (number n)) (map (given_of number) publics) givens same) ∙ givens_name number n publics k)
+      (λ k. pieces_name 0 pieces (sub k)) h
 
 -- ---- parts that have octets are pieces
 

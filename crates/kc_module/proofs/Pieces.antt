@@ -1,33 +1,27 @@
 -- What is put of a piece is sound.
-use Rattle.std.proofs.Common.{◌≡◌, ℕ, ◌+◌, ◌<◌, ◌≤◌, Bool, true, false, not, ◌&&◌, ◌||◌, eqb, ltb, leb, if◌then◌else◌, Option, Some, None, List, [], ◌∷◌, ◌++◌, map, length, suc, zero, refl, sym, ap, ◌∙◌, arith}
-use Rattle.std.specs.List.{slice_get, list_all, list_any}
+use Rattle.std.proofs.Common.{◌≡◌, ℕ, ◌+◌, ◌<◌, Bool, true, false, ◌&&◌, eqb, ltb, leb, if◌then◌else◌, Option, Some, None, List, [], ◌∷◌, ◌++◌, map, length, refl, ap, arith}
+use Rattle.std.specs.List.{list_all}
 use Rattle.std.proofs.lemmas.Bool.{and_parts}
 use Rattle.std.proofs.lemmas.Bool.Decides.{nat_tests}
-use Rattle.std.proofs.lemmas.List.Folds.{list_all-append}
 use Rattle.kc_expr.specs.declared.values.Base.{Base}
 use Rattle.kc_expr.specs.declared.values.Base.TheVariants.{Fixed, Absolute, Piece, External}
 use Rattle.kc_expr.specs.declared.values.Value.{Value}
 use Rattle.kc_obj.specs.declared.parts.Segment.{Segment}
 use Rattle.kc_obj.specs.declared.parts.Taken.{Taken}
-use Rattle.kc_obj.specs.declared.parts.Fixup.{Fixup}
-use Rattle.kc_obj.specs.Pieces.{kind_number, has_code}
+use Rattle.kc_obj.specs.Pieces.{kind_number}
 use Rattle.kc_obj.specs.Fixups.{fixup_width, fixup_is_sound, may_begin, target_exists}
-use Rattle.kc_relocation.specs.Numbers.{is_distance}
 use Rattle.kc_octet.specs.declared.octet.Octet.{Octet}
 use Rattle.kc_octet.specs.declared.octet.Octet.TheVariants.{Plain, First, Second}
-use Rattle.kc_octet.specs.Filling.{fill}
-use Rattle.kc_octet.specs.Relocating.{is_piece, depends, counts, leaves, shown, relocated, no_bases}
+use Rattle.kc_octet.specs.Relocating.{is_piece, depends, leaves, shown, relocated}
 use Rattle.kc_piece.specs.declared.part.Cell.{Cell}
-use Rattle.kc_piece.specs.Tape.{Tape, cell, is_tape, rise, cell_offsets}
+use Rattle.kc_piece.specs.Tape.{Tape, cell}
 use Rattle.kc_module.specs.declared.puts.Put.{Put}
-use Rattle.kc_module.specs.Order.{start_of, segment_of, relocation, aims_at}
-use Rattle.kc_module.specs.Puts.{put_of, byte_for, fixup_for, target_of}
+use Rattle.kc_module.specs.Order.{start_of, relocation, aims_at}
+use Rattle.kc_module.specs.Puts.{put_of, fixup_for, target_of}
 use Rattle.kc_module.specs.Runs.{listed}
-use Rattle.kc_module.specs.Drafts.{base_exists, is_octet, BeginsWithSecond, IsComplete, AreOctets, holds_code, IsPart}
-use Rattle.kc_module.proofs.Cells.{cells_below}
-use Rattle.kc_module.proofs.RunOrder.{both, put_in_code}
+use Rattle.kc_module.specs.Drafts.{base_exists, is_octet, BeginsWithSecond, IsComplete, AreOctets}
+use Rattle.kc_module.proofs.RunOrder.{both}
 use Rattle.kc_module.proofs.Fixing.{NextFree, Fits, AllFit}
-use Rattle.kc_module.proofs.Flat.{puts_from}
 
 -- ---- a relocation has room in its bytes
 

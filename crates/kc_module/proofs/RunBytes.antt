@@ -1,12 +1,11 @@
 -- What the runs have at a place.
-use Rattle.std.proofs.Common.{◌≡◌, ℕ, ◌+◌, ◌-◌, ◌<◌, ◌≤◌, Bool, true, false, ◌&&◌, ◌||◌, eqb, ltb, leb, if◌then◌else◌, Option, Some, None, List, [], ◌∷◌, ◌++◌, length, suc, zero, refl, sym, ap, ◌∙◌, length-append, arith}
+use Rattle.std.proofs.Common.{◌≡◌, ℕ, ◌+◌, ◌-◌, ◌<◌, Bool, true, false, ◌&&◌, ◌||◌, eqb, ltb, leb, if◌then◌else◌, Option, Some, None, List, [], ◌∷◌, ◌++◌, length, suc, zero, refl, sym, ap, ◌∙◌, length-append, arith}
 use Rattle.std.specs.List.{slice_get}
-use Rattle.std.proofs.lemmas.Bool.{and_parts}
 use Rattle.std.proofs.lemmas.Bool.Decides.{nat_tests}
 use Rattle.kc_obj.specs.declared.parts.Content.{Content}
-use Rattle.kc_obj.specs.Contents.{content_end, covers, content_at}
+use Rattle.kc_obj.specs.Contents.{content_at}
 use Rattle.kc_module.specs.declared.puts.Put.{Put}
-use Rattle.kc_module.specs.Runs.{content, closed, joins, runs}
+use Rattle.kc_module.specs.Runs.{closed, joins, runs}
 
 abbrev pub is_at : Put → ℕ → ℕ → Bool
 is_at q piece offset = eqb q.piece piece && eqb q.offset offset
@@ -56,8 +55,8 @@ extended : (bytes : List ℕ) (b p o piece offset : ℕ) (other : Option ℕ)
 extended bytes b p o piece offset other =
     rw (length-append bytes (b ∷ []), within_more p o (length bytes) piece offset)
     (pick (eqb p piece && leb o offset && ltb offset (o + length bytes)) (eqb p piece && eqb (o + length bytes) offset) (slice_get (bytes ++ b ∷ []) (offset - o)) (slice_get bytes (offset - o)) (Some b) other
-      (λ h. get_left bytes (b ∷ []) (offset - o) (inside p o (length bytes) piece offset h))
-      (λ h. get_last bytes b (offset - o) (behind p o (length bytes) piece offset h)))
+    (λ h. get_left bytes (b ∷ []) (offset - o) (inside p o (length bytes) piece offset h))
+    (λ h. get_last bytes b (offset - o) (behind p o (length bytes) piece offset h)))
 
 -- a run of one byte
 single_at : (t : Bool) (b n : ℕ) (other : Option ℕ) → (t ≡ true → n ≡ 0) → (if t then slice_get (b ∷ []) n else other) ≡ (if t then Some b else other)

@@ -1,11 +1,11 @@
 -- The runs stand in order, and each within its piece.
-use Rattle.std.proofs.Common.{◌≡◌, ℕ, ◌+◌, ◌-◌, ◌<◌, ◌≤◌, Bool, true, false, ◌&&◌, ◌||◌, eqb, ltb, leb, if◌then◌else◌, Option, Some, None, List, [], ◌∷◌, ◌++◌, length, suc, zero, refl, sym, ap, ◌∙◌, length-append, arith}
+use Rattle.std.proofs.Common.{◌≡◌, ℕ, ◌+◌, ◌<◌, ◌≤◌, Bool, true, false, ◌&&◌, ◌||◌, eqb, ltb, leb, if◌then◌else◌, List, [], ◌∷◌, ◌++◌, length, refl, length-append, arith}
 use Rattle.std.specs.List.{slice_get, list_all}
 use Rattle.std.proofs.lemmas.Bool.{and_parts}
 use Rattle.std.proofs.lemmas.Bool.Decides.{nat_tests}
 use Rattle.kc_obj.specs.declared.parts.Content.{Content}
 use Rattle.kc_obj.specs.declared.parts.Segment.{Segment}
-use Rattle.kc_obj.specs.Contents.{content_end, content_is_sound, content_follows, contents_in_order, leaves_place, is_from}
+use Rattle.kc_obj.specs.Contents.{content_is_sound, content_follows, contents_in_order, leaves_place, is_from}
 use Rattle.kc_obj.specs.Pieces.{has_code}
 use Rattle.kc_module.specs.declared.puts.Put.{Put}
 use Rattle.kc_module.specs.Runs.{content, closed, joins, runs}

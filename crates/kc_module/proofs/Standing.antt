@@ -1,5 +1,5 @@
 -- What is put and marked in all pieces is sound.
-use Rattle.std.proofs.Common.{◌≡◌, ℕ, ◌+◌, ◌<◌, ◌≤◌, Bool, true, false, not, ◌&&◌, ◌||◌, eqb, ltb, leb, if◌then◌else◌, Option, Some, None, List, [], ◌∷◌, ◌++◌, map, length, suc, zero, refl, sym, ap, subst, ◌∙◌, append_assoc, length-append, arith}
+use Rattle.std.proofs.Common.{◌≡◌, ℕ, ◌+◌, ◌<◌, ◌≤◌, Bool, true, false, ◌&&◌, ◌||◌, eqb, ltb, leb, Some, List, [], ◌∷◌, ◌++◌, map, length, refl, subst, append_assoc, length-append, arith}
 use Rattle.std.specs.List.{slice_get, list_all, list_any, AllByRecursion}
 use Rattle.std.proofs.lemmas.Bool.{and_parts}
 use Rattle.std.proofs.lemmas.Bool.Decides.{nat_tests}
@@ -7,7 +7,6 @@ use Rattle.std.proofs.lemmas.Option.{slice_get_within}
 use Rattle.std.proofs.lemmas.List.Folds.{list_all-append}
 use Rattle.kc_obj.specs.declared.parts.Segment.{Segment}
 use Rattle.kc_obj.specs.declared.parts.Taken.{Taken}
-use Rattle.kc_obj.specs.declared.parts.Fixup.{Fixup}
 use Rattle.kc_obj.specs.declared.parts.Lines.{Lines}
 use Rattle.kc_obj.specs.Pieces.{kind_number, has_code, is_placed}
 use Rattle.kc_obj.specs.Contents.{is_from}
@@ -19,14 +18,14 @@ use Rattle.kc_piece.specs.Tape.{Tape, is_tape, rise, mark_offsets}
 use Rattle.kc_module.specs.declared.puts.Put.{Put}
 use Rattle.kc_module.specs.Order.{segment_of, relocation, aims_at}
 use Rattle.kc_module.specs.Puts.{put_of, entry_of}
-use Rattle.kc_module.specs.Drafts.{AreOctets, holds_code, IsPart}
+use Rattle.kc_module.specs.Drafts.{IsPart}
 use Rattle.kc_module.specs.Runs.{listed}
 use Rattle.kc_module.specs.ModuleOf.{entries_from}
 use Rattle.kc_module.proofs.Cells.{cells_below, tape_parts, rise_end}
 use Rattle.kc_module.proofs.RunOrder.{both, put_in_code}
 use Rattle.kc_module.proofs.Fixing.{AllFit}
 use Rattle.kc_module.proofs.Flat.{puts_from}
-use Rattle.kc_module.proofs.Pieces.{cells_fit, cells_sound, sound_put, AllAim}
+use Rattle.kc_module.proofs.Pieces.{cells_fit, cells_sound, AllAim}
 
 -- a piece of the module: the relocatable parts that it names are pieces
 pub record IsPiece (number : ℕ → ℕ) (count externals : ℕ) (t : Tape) : Type 0 where
@@ -80,7 +79,7 @@ module _ (number : ℕ → ℕ) (segments : List Segment) (piece : ℕ) (t : Tap
   cells_in_code (c ∷ cs) kind below =
       let parts = and_parts (ltb c.offset t.length) (list_all (λ c. ltb c.offset t.length) cs) below in
       both (put_in_code segments (put_of number piece t c)) (list_all (put_in_code segments) (map (put_of number piece t) cs))
-        (code_to (c.offset + 1) (kind (omega arith)) (ends_by c.offset t.length parts.0)) (cells_in_code cs (λ _. kind (omega arith)) parts.1)
+      (code_to (c.offset + 1) (kind (omega arith)) (ends_by c.offset t.length parts.0)) (cells_in_code cs (λ _. kind (omega arith)) parts.1)
 
   marks_in_code : (marks : List Mark) (from : ℕ) → (0 < length marks → eqb (kind_number t.kind) 1 ≡ true) → rise from (mark_offsets marks) t.length ≡ true → list_all (λ m. ltb 0 m.line) marks ≡ true
       → list_all (line_is_sound segments) (map (entry_of piece) marks) ≡ true
@@ -92,8 +91,8 @@ module _ (number : ℕ → ℕ) (segments : List Segment) (piece : ℕ) (t : Tap
       let end : m.offset + 1 ≤ t.length = rise_end (m.offset + 1) (mark_offsets ms) t.length rises.1 in
       let within : leb (m.offset + 1) t.length ≡ true = grind (arith, nat_tests) in
       both (line_is_sound segments (entry_of piece m)) (list_all (line_is_sound segments) (map (entry_of piece) ms))
-        (both (has_code (slice_get segments piece) (m.offset + 1)) (ltb 0 m.line) (code_to (m.offset + 1) (kind (omega arith)) within) parts.0)
-        (marks_in_code ms (m.offset + 1) (λ _. kind (omega arith)) rises.1 parts.1)
+      (both (has_code (slice_get segments piece) (m.offset + 1)) (ltb 0 m.line) (code_to (m.offset + 1) (kind (omega arith)) within) parts.0)
+      (marks_in_code ms (m.offset + 1) (λ _. kind (omega arith)) rises.1 parts.1)
 
 -- ---- all pieces
 
@@ -106,8 +105,8 @@ module _ (number : ℕ → ℕ) (segments : List Segment) (externals : List Take
   all_in_code piece [] stand are = refl
   all_in_code piece (t ∷ ts) stand are =
       append_all (put_in_code segments) (map (put_of number piece t) t.cells) (puts_from number (piece + 1) ts)
-        (cells_in_code number segments piece t stand.0 t.cells (is_code (eqb (kind_number t.kind) 1) (length t.cells) (length t.marks) are.0.part.code) (cells_below t are.0.tape))
-        (all_in_code (piece + 1) ts stand.1 are.1)
+      (cells_in_code number segments piece t stand.0 t.cells (is_code (eqb (kind_number t.kind) 1) (length t.cells) (length t.marks) are.0.part.code) (cells_below t are.0.tape))
+      (all_in_code (piece + 1) ts stand.1 are.1)
 
   pub all_fit : (piece : ℕ) (ts : List Tape) → ArePieces ts → AllFit (puts_from number piece ts)
   unfolding puts_from
@@ -124,9 +123,10 @@ module _ (number : ℕ → ℕ) (segments : List Segment) (externals : List Take
   aim_cells : (piece : ℕ) (t : Tape) (there : ltb piece (length segments) ≡ true) (cells : List Cell)
       → ((n : ℕ) → n < 3 → list_any (λ c. aims_at n (relocation t c.octet)) cells ≡ true → number n < length segments) → AllAim number piece t segments externals there cells
   aim_cells piece t there [] aims = tt
-  aim_cells piece t there (c ∷ cs) aims =
-      (λ n lt h. aims n lt (or_left (aims_at n (relocation t c.octet)) (list_any (λ c. aims_at n (relocation t c.octet)) cs) h),
-       aim_cells piece t there cs (λ n lt h. aims n lt (or_right (aims_at n (relocation t c.octet)) (list_any (λ c. aims_at n (relocation t c.octet)) cs) h)))
+  aim_cells piece t there (c ∷ cs) aims = (
+    λ n lt h. aims n lt (or_left (aims_at n (relocation t c.octet)) (list_any (λ c. aims_at n (relocation t c.octet)) cs) h),
+    aim_cells piece t there cs (λ n lt h. aims n lt (or_right (aims_at n (relocation t c.octet)) (list_any (λ c. aims_at n (relocation t c.octet)) cs) h)),
+  )
 
   is_below : (a b : ℕ) → a < b → ltb a b ≡ true
   is_below a b h = grind (arith, nat_tests)
@@ -140,16 +140,16 @@ module _ (number : ℕ → ℕ) (segments : List Segment) (externals : List Take
   all_sound piece (t ∷ ts) stand are =
       let there : ltb piece (length segments) ≡ true = is_below piece (length segments) (slice_get_within segments piece (segment_of t) stand.0) in
       append_all fixup_sound (map (put_of number piece t) t.cells) (puts_from number (piece + 1) ts)
-        (cells_sound number piece t segments externals there t.cells are.0.part.octets (aim_cells piece t there t.cells are.0.aims))
-        (all_sound (piece + 1) ts stand.1 are.1)
+      (cells_sound number piece t segments externals there t.cells are.0.part.octets (aim_cells piece t there t.cells are.0.aims))
+      (all_sound (piece + 1) ts stand.1 are.1)
 
   pub all_marked : (piece : ℕ) (ts : List Tape) → StandAt segments piece ts → ArePieces ts → list_all (line_is_sound segments) (entries_from piece ts) ≡ true
   unfolding entries_from
   all_marked piece [] stand are = refl
   all_marked piece (t ∷ ts) stand are =
       append_all (line_is_sound segments) (map (entry_of piece) t.marks) (entries_from (piece + 1) ts)
-        (marks_in_code number segments piece t stand.0 t.marks 0 (is_code_by_marks (eqb (kind_number t.kind) 1) (length t.cells) (length t.marks) are.0.part.code) (tape_parts t are.0.tape).1 are.0.part.lines)
-        (all_marked (piece + 1) ts stand.1 are.1)
+      (marks_in_code number segments piece t stand.0 t.marks 0 (is_code_by_marks (eqb (kind_number t.kind) 1) (length t.cells) (length t.marks) are.0.part.code) (tape_parts t are.0.tape).1 are.0.part.lines)
+      (all_marked (piece + 1) ts stand.1 are.1)
 
   pub all_placed : (ts : List Tape) → ArePieces ts → list_all is_placed (map segment_of ts) ≡ true
   all_placed [] are = refl

@@ -1,6 +1,6 @@
 -- The module of a draft keeps the rules, and is the draft's.
-use Rattle.std.proofs.Common.{◌≡◌, ℕ, ◌+◌, ◌<◌, ◌≤◌, Bool, true, false, not, ◌&&◌, ◌||◌, eqb, ltb, leb, if◌then◌else◌, Option, Some, None, List, [], ◌∷◌, ◌++◌, map, length, drop, suc, zero, refl, sym, ap, subst, ◌∙◌, length-append, arith}
-use Rattle.std.specs.List.{slice_get, list_all, list_any, AllByRecursion, IsDistinct}
+use Rattle.std.proofs.Common.{◌≡◌, ℕ, ◌+◌, ◌<◌, Bool, true, false, not, ◌&&◌, ◌||◌, eqb, ltb, if◌then◌else◌, Option, Some, None, List, [], ◌∷◌, ◌++◌, map, length, refl, sym, ap, subst, ◌∙◌, arith}
+use Rattle.std.specs.List.{slice_get, list_all, list_any, AllByRecursion}
 use Rattle.std.specs.List.Sorted.{IsPermutation}
 use Rattle.std.proofs.lemmas.Bool.{and_parts}
 use Rattle.std.proofs.lemmas.Bool.Decides.{nat_tests}
@@ -8,7 +8,6 @@ use Rattle.std.proofs.lemmas.List.{length-map}
 use Rattle.std.proofs.lemmas.List.Sorted.{list_any-IsPermutation}
 use Rattle.kc_expr.specs.declared.values.Base.{Base}
 use Rattle.kc_expr.specs.declared.values.Base.TheVariants.{Fixed, Absolute, Piece, External}
-use Rattle.kc_obj.specs.declared.parts.SegKind.TheVariants.{Reg, Code, Ram, Stack}
 use Rattle.kc_obj.specs.declared.parts.Segment.{Segment}
 use Rattle.kc_obj.specs.declared.parts.Given.{Given}
 use Rattle.kc_obj.specs.declared.parts.Taken.{Taken}
@@ -30,7 +29,7 @@ use Rattle.kc_piece.specs.declared.draft.Public.{Public}
 use Rattle.kc_piece.specs.Tape.{Tape, is_tape}
 use Rattle.kc_module.specs.declared.puts.Put.{Put}
 use Rattle.kc_module.specs.declared.kept.Kept.{Kept}
-use Rattle.kc_module.specs.Order.{segment_of, relocation, aims_at, is_named, stays, kept_of, count_of, number_of, kept_if, stack_tape, stack_pieces, in_order, pieces_of}
+use Rattle.kc_module.specs.Order.{segment_of, is_named, stays, kept_of, count_of, number_of, kept_if, stack_pieces, in_order, pieces_of}
 use Rattle.kc_module.specs.Publics.{piece_of, given_of}
 use Rattle.kc_module.specs.Runs.{runs, fixups_of}
 use Rattle.kc_module.specs.Sheet.{Sheet, sheet_of, empty, added_all}
@@ -41,7 +40,7 @@ use Rattle.kc_module.proofs.RunOrder.{both, rises, runs_in_order, runs_sound}
 use Rattle.kc_module.proofs.Flat.{puts_from, gathered_is, puts_rise, fixups_put, bytes_put}
 use Rattle.kc_module.proofs.Fixing.{AllFit, fixups_ordered, fixups_at, rooms, all_listed}
 use Rattle.kc_module.proofs.Standing.{IsPiece, all_stand, all_in_code, all_fit, all_sound, all_marked, all_placed, all_tapes, entries_in_order}
-use Rattle.kc_module.proofs.Ordering.{Ordered, absolute_ordered, kept_ordered, stack_ordered, kept_next, absolute_kept, stack_kept, stay_kept, has_aim, module_names, with_octets, kept_any, stack_any}
+use Rattle.kc_module.proofs.Ordering.{absolute_ordered, kept_ordered, stack_ordered, kept_next, stack_kept, stay_kept, has_aim, module_names, with_octets, kept_any, stack_any}
 use Rattle.kc_module.proofs.Drafting.{StandWell, stand_parts, number_below, parts_placed, parts_pieces, stack_piece, all_in_order}
 
 -- ---- the publics are sound
@@ -99,9 +98,9 @@ givens_sound kept count (p ∷ ps) h below =
     let parts = and_parts (is_public p) (list_all is_public ps) h in
     let whole = and_parts (is_name p.name && not (is_stack_name p.name)) (is_given_base p.value.base) parts.0 in
     both (given_is_sound count (given_of (number_of kept) p)) (list_all (given_is_sound count) (map (given_of (number_of kept)) ps))
-      (both (is_name p.name && not (is_stack_name p.name)) (names_piece count (piece_of (number_of kept) p.value.base)) whole.0
-        (base_sound kept count p.value.base whole.1 (λ n lt k. below n lt (or_left (is_piece n p.value.base) (list_any (λ p. is_piece n p.value.base) ps) k))))
-      (givens_sound kept count ps parts.1 (λ n lt k. below n lt (or_right (is_piece n p.value.base) (list_any (λ p. is_piece n p.value.base) ps) k)))
+    (both (is_name p.name && not (is_stack_name p.name)) (names_piece count (piece_of (number_of kept) p.value.base)) whole.0
+    (base_sound kept count p.value.base whole.1 (λ n lt k. below n lt (or_left (is_piece n p.value.base) (list_any (λ p. is_piece n p.value.base) ps) k))))
+    (givens_sound kept count ps parts.1 (λ n lt k. below n lt (or_right (is_piece n p.value.base) (list_any (λ p. is_piece n p.value.base) ps) k)))
 
 -- ---- the rules
 
@@ -120,7 +119,6 @@ module _ (name : List ℕ) (r c m : Tape) (absolute : List Tape) (stack : ℕ) (
     (named : is_name name ≡ true) (externals_ok : list_all (λ t. is_name t.name) externals ≡ true) (publics_ok : list_all is_public publics ≡ true)
     (stand : StandWell r c m absolute) (are : AllByRecursion (IsPart (length externals)) (r ∷ c ∷ m ∷ absolute)) (tapes : list_all is_tape (r ∷ c ∷ m ∷ absolute) ≡ true)
     (short : stack < 65536) (same : IsPermutation (map (given_of (number_of kept)) publics) givens) (sorted : publics_in_order givens ≡ true) where
-
   abbrev parts : List Tape
   parts = r ∷ c ∷ m ∷ absolute
 
@@ -153,8 +151,8 @@ module _ (name : List ℕ) (r c m : Tape) (absolute : List Tape) (stack : ℕ) (
   pub all_pieces : AllByRecursion (IsPiece number (length segments) (length externals)) pieces
   all_pieces =
       all_in_order (IsPiece number (length segments) (length externals)) kept r c m stack absolute
-        (parts_pieces number (length segments) (length externals) parts (λ n lt h. below n lt (named_by_part n h)) are tapes (parts_placed r c m absolute stand))
-        (stack_piece number (length segments) (length externals) stack short)
+      (parts_pieces number (length segments) (length externals) parts (λ n lt h. below n lt (named_by_part n h)) are tapes (parts_placed r c m absolute stand))
+      (stack_piece number (length segments) (length externals) stack short)
 
   tapes_of : list_all is_tape pieces ≡ true
   tapes_of = all_tapes number segments externals pieces all_pieces
@@ -187,11 +185,11 @@ module _ (name : List ℕ) (r c m : Tape) (absolute : List Tape) (stack : ℕ) (
   aims_of : (n : ℕ) → list_any (has_aim n) parts ≡ true → list_any (has_aim n) pieces ≡ true
   aims_of n =
       kept_any (has_aim n) kept.registers r (kept_if kept.code (Some c) ++ (kept_if kept.ram (Some m) ++ (stack_pieces stack ++ absolute))) (list_any (has_aim n) (c ∷ m ∷ absolute))
-        (λ h. long_stays r 0 kept.registers kept_r (with_octets r tape_of_part.0 n h))
+      (λ h. long_stays r 0 kept.registers kept_r (with_octets r tape_of_part.0 n h))
       (kept_any (has_aim n) kept.code c (kept_if kept.ram (Some m) ++ (stack_pieces stack ++ absolute)) (list_any (has_aim n) (m ∷ absolute))
-        (λ h. long_stays c 1 kept.code kept_c (with_octets c tape_of_part.1 n h))
+      (λ h. long_stays c 1 kept.code kept_c (with_octets c tape_of_part.1 n h))
       (kept_any (has_aim n) kept.ram m (stack_pieces stack ++ absolute) (list_any (has_aim n) absolute)
-        (λ h. long_stays m 2 kept.ram kept_m (with_octets m tape_of_part.2 n h))
+      (λ h. long_stays m 2 kept.ram kept_m (with_octets m tape_of_part.2 n h))
       (stack_any (has_aim n) stack absolute)))
 
   names : (n : ℕ) → is_named parts publics n ≡ true → object.is_named givens (fixups_of puts) (number n) ≡ true
@@ -205,24 +203,24 @@ module _ (name : List ℕ) (r c m : Tape) (absolute : List Tape) (stack : ℕ) (
   kept_all =
       let first : count_of kept.registers ≡ 0 + count_of kept.registers = omega arith in
       kept_next givens (fixups_of puts) kept.registers r (kept_if kept.code (Some c) ++ (kept_if kept.ram (Some m) ++ (stack_pieces stack ++ absolute))) 0 (count_of kept.registers) first
-        (stays_kept 0 0 r kept.registers (omega (arith, stand.registers.kind_is)) kept_r refl)
+      (stays_kept 0 0 r kept.registers (omega (arith, stand.registers.kind_is)) kept_r refl)
       (kept_next givens (fixups_of puts) kept.code c (kept_if kept.ram (Some m) ++ (stack_pieces stack ++ absolute)) (count_of kept.registers) (count_of kept.registers + count_of kept.code) refl
-        (stays_kept (count_of kept.registers) 1 c kept.code (omega (arith, stand.code.kind_is)) kept_c refl)
+      (stays_kept (count_of kept.registers) 1 c kept.code (omega (arith, stand.code.kind_is)) kept_c refl)
       (kept_next givens (fixups_of puts) kept.ram m (stack_pieces stack ++ absolute) (count_of kept.registers + count_of kept.code) (count_of kept.registers + count_of kept.code + count_of kept.ram) refl
-        (stays_kept (count_of kept.registers + count_of kept.code) 2 m kept.ram (omega (arith, stand.ram.kind_is)) kept_m refl)
+      (stays_kept (count_of kept.registers + count_of kept.code) 2 m kept.ram (omega (arith, stand.ram.kind_is)) kept_m refl)
       (stack_kept givens (fixups_of puts) (count_of kept.registers + count_of kept.code + count_of kept.ram) stack absolute absolutes)))
 
   segments_sound : segments_are_sound segments givens (fixups_of puts) ≡ true
   segments_sound =
       both (list_all is_placed segments && segments_in_order segments) (all_kept givens (fixups_of puts) 0 segments)
-        (both (list_all is_placed segments) (segments_in_order segments) (all_placed number segments externals pieces all_pieces) ordered) kept_all
+      (both (list_all is_placed segments) (segments_in_order segments) (all_placed number segments externals pieces all_pieces) ordered) kept_all
 
   publics_sound : publics_are_sound (length segments) givens ≡ true
   publics_sound =
       both (list_all (given_is_sound (length segments)) givens) (publics_in_order givens)
-        (all_permuted (given_is_sound (length segments)) (map (given_of number) publics) givens same
-          (givens_sound kept (length segments) publics publics_ok (λ n lt h. below n lt (named_by_public n h))))
-        sorted
+      (all_permuted (given_is_sound (length segments)) (map (given_of number) publics) givens same
+      (givens_sound kept (length segments) publics publics_ok (λ n lt h. below n lt (named_by_public n h))))
+      sorted
 
   pub bytes_are : (piece offset : ℕ) → content_at (runs [] 0 0 puts) piece offset ≡ put_byte puts piece offset
   bytes_are piece offset = contents_are puts piece offset
@@ -230,20 +228,20 @@ module _ (name : List ℕ) (r c m : Tape) (absolute : List Tape) (stack : ℕ) (
   contents_sound : contents_are_sound segments (runs [] 0 0 puts) ≡ true
   contents_sound =
       both (list_all (content_is_sound segments) (runs [] 0 0 puts)) (contents_in_order (runs [] 0 0 puts))
-        (runs_sound segments puts [] 0 0 (omega arith) (λ h. absurd (omega arith)) (all_in_code number segments externals 0 pieces (all_stand pieces) all_pieces))
-        (runs_in_order puts rising)
+      (runs_sound segments puts [] 0 0 (omega arith) (λ h. absurd (omega arith)) (all_in_code number segments externals 0 pieces (all_stand pieces) all_pieces))
+      (runs_in_order puts rising)
 
   fixups_sound : fixups_are_sound segments externals (runs [] 0 0 puts) (fixups_of puts) ≡ true
   fixups_sound =
       both (list_all (fixup_is_sound segments externals) (fixups_of puts) && fixups_in_order (fixups_of puts)) (list_all (has_room (runs [] 0 0 puts)) (fixups_of puts))
-        (both (list_all (fixup_is_sound segments externals) (fixups_of puts)) (fixups_in_order (fixups_of puts))
-          (all_listed (fixup_is_sound segments externals) puts (all_sound number segments externals 0 pieces (all_stand pieces) all_pieces)) (fixups_ordered puts 0 0 rising fitting))
-        (rooms (runs [] 0 0 puts) puts 0 0 (λ piece offset from. bytes_are piece offset) rising fitting)
+      (both (list_all (fixup_is_sound segments externals) (fixups_of puts)) (fixups_in_order (fixups_of puts))
+      (all_listed (fixup_is_sound segments externals) puts (all_sound number segments externals 0 pieces (all_stand pieces) all_pieces)) (fixups_ordered puts 0 0 rising fitting))
+      (rooms (runs [] 0 0 puts) puts 0 0 (λ piece offset from. bytes_are piece offset) rising fitting)
 
   lines_sound : lines_are_sound segments (Some (entries_from 0 pieces)) ≡ true
   lines_sound =
       both (list_all (line_is_sound segments) (entries_from 0 pieces)) (lines_in_order (entries_from 0 pieces))
-        (all_marked number segments externals 0 pieces (all_stand pieces) all_pieces) (entries_in_order pieces tapes_of)
+      (all_marked number segments externals 0 pieces (all_stand pieces) all_pieces) (entries_in_order pieces tapes_of)
 
   pub rules_kept : is_module (object_of name segments externals givens (runs [] 0 0 puts) (fixups_of puts) (Some (entries_from 0 pieces))) ≡ true
   rules_kept = rw (named, segments_sound, externals_ok, publics_sound, contents_sound, fixups_sound, lines_sound) refl
@@ -256,9 +254,9 @@ module _ (name : List ℕ) (r c m : Tape) (absolute : List Tape) (stack : ℕ) (
 abbrev pub object_from : List ℕ → List Tape → ℕ → List Taken → List Public → List Given → Object
 object_from name parts stack externals publics givens =
     object_of name (map segment_of (pieces_of (kept_of parts publics) parts stack)) externals givens
-      (runs [] 0 0 (puts_from (number_of (kept_of parts publics)) 0 (pieces_of (kept_of parts publics) parts stack)))
-      (fixups_of (puts_from (number_of (kept_of parts publics)) 0 (pieces_of (kept_of parts publics) parts stack)))
-      (Some (entries_from 0 (pieces_of (kept_of parts publics) parts stack)))
+    (runs [] 0 0 (puts_from (number_of (kept_of parts publics)) 0 (pieces_of (kept_of parts publics) parts stack)))
+    (fixups_of (puts_from (number_of (kept_of parts publics)) 0 (pieces_of (kept_of parts publics) parts stack)))
+    (Some (entries_from 0 (pieces_of (kept_of parts publics) parts stack)))
 
 module _ (name : List ℕ) (stack : ℕ) (externals : List Taken) (publics : List Public) (givens : List Given)
     (named : is_name name ≡ true) (externals_ok : list_all (λ t. is_name t.name) externals ≡ true) (publics_ok : list_all is_public publics ≡ true) (short : stack < 65536) (sorted : publics_in_order givens ≡ true) where
@@ -291,7 +289,7 @@ module_is d givens is tapes short same sorted = record {
   publics = same;
   contents = λ piece offset. contents_are (puts_from (number_of (kept_in d)) 0 (pieces_in d)) piece offset ∙ bytes_put (number_of (kept_in d)) (pieces_in d) piece offset;
   fixups = relocations_of d.name d.stack d.externals.items d.publics.items givens is.name is.externals is.publics short sorted d.parts.items is.places is.parts tapes same;
-  lines = refl
+  lines = refl;
 }
 
 -- ---- from what the calls give

@@ -42,7 +42,7 @@ unfoldable pub kept_of : List Tape → List Public → Kept
 kept_of parts publics = record {
   registers = stays_in parts publics 0 (slice_get parts 0);
   code = stays_in parts publics 1 (slice_get parts 1);
-  ram = stays_in parts publics 2 (slice_get parts 2)
+  ram = stays_in parts publics 2 (slice_get parts 2);
 }
 
 abbrev pub count_of : Bool → ℕ

@@ -1,5 +1,5 @@
 -- What stands at the places of a module.
-use Rattle.std.specs.Prelude.{ℕ, Bool, true, ◌+◌, ◌==◌, ◌&&◌, if◌then◌else◌, Option, Some, None, List, [], ◌∷◌, ◌++◌, map}
+use Rattle.std.specs.Prelude.{ℕ, Bool, true, ◌+◌, Option, Some, None}
 use Rattle.kc_expr.specs.declared.values.Base.{Base}
 use Rattle.kc_expr.specs.declared.values.Base.TheVariants.{Fixed, Absolute, Piece, External}
 use Rattle.kc_expr.specs.declared.values.Value.{Value}

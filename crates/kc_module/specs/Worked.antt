@@ -24,19 +24,19 @@ second kind base number = Second kind (value base number)
 abbrev pub code : Tape
 code =
     tape_of Code None 17
-      (cell 0 (Plain 0xE7) ∷ cell 1 (first 4 0 (External 0) 0) ∷ cell 2 (second 4 (External 0) 0) ∷ cell 3 (Plain 0xFF)
-      ∷ cell 4 (first 0 0 (Piece 1) 2) ∷ cell 5 (second 0 (Piece 1) 2) ∷ cell 6 (first 0 0 (External 1) 0) ∷ cell 7 (second 0 (External 1) 0)
-      ∷ cell 8 (Plain 0xE7) ∷ cell 9 (first 4 0 Fixed 0x2100) ∷ cell 10 (second 4 Fixed 0x2100)
-      ∷ cell 11 (first 3 0x28 (External 0) 0) ∷ cell 12 (second 3 (External 0) 0) ∷ cell 16 (Plain 7) ∷ [])
-      (mark 0 8 ∷ mark 4 9 ∷ mark 8 10 ∷ mark 11 11 ∷ mark 16 13 ∷ [])
+    (cell 0 (Plain 0xE7) ∷ cell 1 (first 4 0 (External 0) 0) ∷ cell 2 (second 4 (External 0) 0) ∷ cell 3 (Plain 0xFF)
+    ∷ cell 4 (first 0 0 (Piece 1) 2) ∷ cell 5 (second 0 (Piece 1) 2) ∷ cell 6 (first 0 0 (External 1) 0) ∷ cell 7 (second 0 (External 1) 0)
+    ∷ cell 8 (Plain 0xE7) ∷ cell 9 (first 4 0 Fixed 0x2100) ∷ cell 10 (second 4 Fixed 0x2100)
+    ∷ cell 11 (first 3 0x28 (External 0) 0) ∷ cell 12 (second 3 (External 0) 0) ∷ cell 16 (Plain 7) ∷ [])
+    (mark 0 8 ∷ mark 4 9 ∷ mark 8 10 ∷ mark 11 11 ∷ mark 16 13 ∷ [])
 
 -- a load of the address of the code, and the jump to 2100H
 abbrev pub absolute : Tape
 absolute =
     tape_of Code (Some 0x2080) 7
-      (cell 0 (Plain 0xA1) ∷ cell 1 (first 0 0 (Piece 1) 0) ∷ cell 2 (second 0 (Piece 1) 0) ∷ cell 3 (Plain 0x20)
-      ∷ cell 4 (Plain 0xE7) ∷ cell 5 (first 4 0 Fixed 0x2100) ∷ cell 6 (second 4 Fixed 0x2100) ∷ [])
-      (mark 0 15 ∷ mark 4 16 ∷ [])
+    (cell 0 (Plain 0xA1) ∷ cell 1 (first 0 0 (Piece 1) 0) ∷ cell 2 (second 0 (Piece 1) 0) ∷ cell 3 (Plain 0x20)
+    ∷ cell 4 (Plain 0xE7) ∷ cell 5 (first 4 0 Fixed 0x2100) ∷ cell 6 (second 4 Fixed 0x2100) ∷ [])
+    (mark 0 15 ∷ mark 4 16 ∷ [])
 
 abbrev pub parts : List Tape
 parts = blank Reg None ∷ code ∷ blank Ram None ∷ absolute ∷ []

@@ -157,7 +157,12 @@ fn gather_all(
 }
 
 // All pieces of a module with what stands in them.
-pub(crate) fn gather(alloc: Global, kept: Kept, parts: &[Part], stack: u16) -> Result<Gathered, NoMemory>
+pub(crate) fn gather(
+    alloc: Global,
+    kept: Kept,
+    parts: &[Part],
+    stack: u16,
+) -> Result<Gathered, NoMemory>
     requires three { 3 ≤ length parts.now }
     requires count { length (order.pieces_of kept parts.now stack) ≤ 65536 }
     requires parts { sheet.AreAddable parts.now }
@@ -165,7 +170,9 @@ pub(crate) fn gather(alloc: Global, kept: Kept, parts: &[Part], stack: u16) -> R
     ensures tapes { OnOk result (list_all is_tape parts.now ≡ true) }
 {
     match parts {
-        [registers, code, ram, absolute @ ..] => gather_all(alloc, kept, registers, code, ram, stack, absolute),
+        [registers, code, ram, absolute @ ..] => gather_all(
+            alloc, kept, registers, code, ram, stack, absolute,
+        ),
         _ => unreachable!(),
     }
 }

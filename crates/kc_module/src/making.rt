@@ -31,6 +31,14 @@ pub fn module_of(alloc: Global, draft: Draft) -> Result<Module, NoMemory>
     let fixups = fixups_of(alloc, gathered.puts())?;
     let givens = publics_of(alloc, kept, publics)?;
     let (segments, lines) = gathered.into_lists();
-    let module = Module::new(name, segments, externals, givens, contents, fixups, Some(lines));
+    let module = Module::new(
+        name,
+        segments,
+        externals,
+        givens,
+        contents,
+        fixups,
+        Some(lines),
+    );
     Ok(module.unwrap())
 }

@@ -34,7 +34,10 @@ fn given_of(kept: Kept, public: Public) -> Given
 fn givens_of(alloc: Global, kept: Kept, publics: Vec<Public>) -> Result<Vec<Given>, NoMemory>
     ensures { IfOk result (λ v. v.items ≡ map (spec.given_of (order.number_of kept)) publics.items) }
 {
-    let givens = publics.into_iter().map(|p| given_of(kept, p)).collect(alloc)?;
+    let givens = publics
+        .into_iter()
+        .map(|p| given_of(kept, p))
+        .collect(alloc)?;
     Ok(givens)
 }
 
@@ -47,7 +50,11 @@ fn sort_by_name(givens: &mut Vec<Given>) -> Result<(), NoMemory>
 }
 
 // The public names by rising name.
-pub(crate) fn publics_of(alloc: Global, kept: Kept, publics: Vec<Public>) -> Result<Vec<Given>, NoMemory>
+pub(crate) fn publics_of(
+    alloc: Global,
+    kept: Kept,
+    publics: Vec<Public>,
+) -> Result<Vec<Given>, NoMemory>
     requires { IsDistinct spec.is_same_name publics.items }
     ensures same { IfOk result (λ v. IsPermutation (map (spec.given_of (order.number_of kept)) publics.items) v.items) }
     ensures sorted { IfOk result (λ v. publics_in_order v.items ≡ true) }

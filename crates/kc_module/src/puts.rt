@@ -72,7 +72,12 @@ fn put_of(kept: Kept, piece: u16, part: &Part, cell: Cell) -> Put
 }
 
 // Adds what stands in a part as a piece of the module.
-pub(crate) fn put_cells(puts: &mut Vec<Put>, kept: Kept, piece: u16, part: &Part) -> Result<(), NoMemory>
+pub(crate) fn put_cells(
+    puts: &mut Vec<Put>,
+    kept: Kept,
+    piece: u16,
+    part: &Part,
+) -> Result<(), NoMemory>
     requires starts { list_all (λ c. spec.has_start c.octet) part.now.cells ≡ true }
     requires fits { order.start_of part.now.at + part.now.length ≤ 65536 }
     ensures { OnOk result (puts.new.items ≡ puts.old.items ++ map (spec.put_of (order.number_of kept) piece part.now) part.now.cells) }

@@ -19,7 +19,10 @@ fn number(kind: u8, start: u8, base: Base, number: u16) -> (Octet, Octet)
         tag: Tag::Memory,
         number,
     };
-    (Octet::First { kind, start, value }, Octet::Second { kind, value })
+    (
+        Octet::First { kind, start, value },
+        Octet::Second { kind, value },
+    )
 }
 
 #[tactic(auto, unfolding(kc_piece::specs::Tape::laid))]

@@ -1,5 +1,5 @@
 -- What stands in a piece after octets were written at its end.
-use Rattle.std.proofs.Common.{◌≡◌, ℕ, ◌+◌, ◌-◌, ◌<◌, ◌≤◌, Bool, true, false, ◌&&◌, eqb, ltb, leb, if◌then◌else◌, Option, Some, None, List, [], ◌∷◌, ◌++◌, map, length, suc, zero, refl, sym, ap, ◌∙◌, append_assoc, add-one, arith}
+use Rattle.std.proofs.Common.{◌≡◌, ℕ, ◌+◌, ◌-◌, ◌<◌, ◌≤◌, Bool, true, false, ◌&&◌, eqb, ltb, leb, if◌then◌else◌, Option, Some, None, List, [], ◌∷◌, ◌++◌, length, suc, refl, sym, ap, ◌∙◌, append_assoc, arith}
 use Rattle.std.specs.List.{slice_get, list_all}
 use Rattle.std.proofs.lemmas.List.{append-nil}
 use Rattle.std.proofs.lemmas.Bool.{and_parts}
@@ -7,8 +7,8 @@ use Rattle.std.proofs.lemmas.Bool.Decides.{nat_tests}
 use Rattle.kc_octet.specs.declared.octet.Octet.{Octet}
 use Rattle.kc_piece.specs.declared.part.Cell.{Cell}
 use Rattle.kc_piece.specs.declared.part.Mark.{Mark}
-use Rattle.kc_piece.specs.Tape.{Tape, tape_of, rise, is_tape, cell_at, octet_at, cell, mark, put, laid, begun, written, cell_offsets, mark_offsets}
-use Rattle.kc_piece.specs.Writing.{IsLonger, marks_after, WrittenStands, PutStands}
+use Rattle.kc_piece.specs.Tape.{Tape, tape_of, rise, is_tape, cell_at, cell, mark, put, laid, begun, cell_offsets, mark_offsets}
+use Rattle.kc_piece.specs.Writing.{IsLonger, WrittenStands, PutStands}
 
 -- octets one after the other from an offset on
 abbrev numbered : ℕ → List Octet → List Cell
@@ -113,7 +113,7 @@ longer t u octets marks is e = record {
   kind = ap (λ (x : Tape). x.kind) e;
   at = ap (λ (x : Tape). x.at) e;
   size = ap (λ (x : Tape). x.length) e;
-  stand = λ i. ap (λ (x : Tape). cell_at x.cells i) e ∙ behind_cells t.cells octets t.length i (tape_below t is)
+  stand = λ i. ap (λ (x : Tape). cell_at x.cells i) e ∙ behind_cells t.cells octets t.length i (tape_below t is);
 }
 
 begun_is : (line : ℕ) (o : Octet) (os : List Octet) (t : Tape) → laid os (begun line o t) ≡ tape_of t.kind t.at (t.length + length (o ∷ os)) (t.cells ++ numbered t.length (o ∷ os)) (t.marks ++ mark t.length line ∷ [])

@@ -2,7 +2,7 @@
 use Rattle.std.specs.Prelude.{◌≡◌, ℕ, true, ◌+◌, ◌-◌, nat_lt, if◌then◌else◌, List, [], ◌∷◌, ◌++◌, length, slice_get}
 use Rattle.kc_octet.specs.declared.octet.Octet.{Octet}
 use Rattle.kc_piece.specs.declared.part.Mark.{Mark}
-use Rattle.kc_piece.specs.Tape.{Tape, is_tape, octet_at, mark, put, skipped, written}
+use Rattle.kc_piece.specs.Tape.{Tape, is_tape, octet_at, mark, put, written}
 
 -- the octets stand one after the other behind what stood
 pub record IsLonger (t : Tape) (octets : List Octet) (u : Tape) : Type 0 where

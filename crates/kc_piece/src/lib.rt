@@ -10,6 +10,5 @@ pub use draft::{Draft, Public};
 pub use laws::{put_stands, written_stands};
 pub use part::{Cell, Mark, Part};
 
-
 #[cfg(test)]
 mod tests;

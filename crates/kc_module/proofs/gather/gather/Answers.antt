@@ -1,4 +1,4 @@
-use Rattle.std.proofs.Common.{◌≡◌, ◌-◌, ◌≤◌, ◌<◌, Some, drop, length, refl, arith}
+use Rattle.std.proofs.Common.{◌-◌, drop, length, refl, arith}
 use Rattle.std.proofs.lemmas.Option.{slice_get_read}
 use Rattle.kc_module.proofs.Gathering.{addable_at, addable_after, addable_first}
 use Rattle.kc_module.proofs.gather.gather.Goals as goal

@@ -1,4 +1,4 @@
-use Rattle.std.proofs.Common.{Some, ◌≡◌, ap, ◌∙◌}
+use Rattle.std.proofs.Common.{Some, ◌≡◌}
 use Rattle.kc_module.specs.Order.{number_of, kept_if, stack_pieces}
 use Rattle.kc_module.specs.Sheet.{empty}
 use Rattle.kc_module.proofs.Gathering.{room_two, room_three, room_four, room_five, five_added}

@@ -1,6 +1,5 @@
-use Rattle.std.proofs.Common.{◌≡◌, ◌<◌, true, Some, List, [], ap, ◌∙◌, refl, sym, subst, arith}
+use Rattle.std.proofs.Common.{◌≡◌, ◌<◌, true, List, [], ap, ◌∙◌, refl, sym, subst, arith}
 use Rattle.std.specs.List.{list_all}
-use Rattle.std.specs.Option.{IsSome}
 use Rattle.kc_obj.specs.Object.{Object}
 use Rattle.kc_piece.specs.Tape.{Tape, is_tape}
 use Rattle.kc_module.specs.declared.puts.Put.{Put}
@@ -24,7 +23,7 @@ unwrap-requires c =
     let contents : c.in_ok-contents.contents.items ≡ runs [] 0 0 c.in_ok-gathered.gathered.puts = c.in_ok-contents.ensures ∙ ap (λ (qs : List Put). runs [] 0 0 qs) c.puts.ensures in
     let fixups : c.in_ok-fixups.fixups.items ≡ fixups_of c.in_ok-gathered.gathered.puts = c.in_ok-fixups.ensures ∙ ap fixups_of c.puts-2.ensures in
     let made = c.new-module.ensures ∙ checked_whole c.args.draft c.requires short c.kept_of-kept.result c.in_ok-gathered.gathered c.into_lists-segments.result.0.items c.into_lists-segments.result.1.items c.in_ok-contents.contents.items c.in_ok-fixups.fixups.items c.in_ok-givens.givens.items
-      kept tapes gathered c.into_lists-segments.ensures.segments c.into_lists-segments.ensures.lines contents fixups c.in_ok-givens.ensures.same c.in_ok-givens.ensures.sorted in
+    kept tapes gathered c.into_lists-segments.ensures.segments c.into_lists-segments.ensures.lines contents fixups c.in_ok-givens.ensures.same c.in_ok-givens.ensures.sorted in
     rw made refl
 
 pub returns : goal.returns
@@ -36,8 +35,8 @@ returns c =
     let contents : c.in_ok-contents.contents.items ≡ runs [] 0 0 c.in_ok-gathered.gathered.puts = c.in_ok-contents.ensures ∙ ap (λ (qs : List Put). runs [] 0 0 qs) c.puts.ensures in
     let fixups : c.in_ok-fixups.fixups.items ≡ fixups_of c.in_ok-gathered.gathered.puts = c.in_ok-fixups.ensures ∙ ap fixups_of c.puts-2.ensures in
     let made = c.new-module.ensures ∙ checked_whole c.args.draft c.requires short c.kept_of-kept.result c.in_ok-gathered.gathered c.into_lists-segments.result.0.items c.into_lists-segments.result.1.items c.in_ok-contents.contents.items c.in_ok-fixups.fixups.items c.in_ok-givens.givens.items
-      kept tapes gathered c.into_lists-segments.ensures.segments c.into_lists-segments.ensures.lines contents fixups c.in_ok-givens.ensures.same c.in_ok-givens.ensures.sorted in
+    kept tapes gathered c.into_lists-segments.ensures.segments c.into_lists-segments.ensures.lines contents fixups c.in_ok-givens.ensures.same c.in_ok-givens.ensures.sorted in
     let is = module_whole c.args.draft c.requires short c.kept_of-kept.result c.in_ok-gathered.gathered c.into_lists-segments.result.0.items c.into_lists-segments.result.1.items c.in_ok-contents.contents.items c.in_ok-fixups.fixups.items c.in_ok-givens.givens.items
-      kept tapes gathered c.into_lists-segments.ensures.segments c.into_lists-segments.ensures.lines contents fixups c.in_ok-givens.ensures.same c.in_ok-givens.ensures.sorted in
+    kept tapes gathered c.into_lists-segments.ensures.segments c.into_lists-segments.ensures.lines contents fixups c.in_ok-givens.ensures.same c.in_ok-givens.ensures.sorted in
     let same = sym made ∙ c.unwrap.ensures in
     subst (λ (m : Object). IsModuleOf c.args.draft m) (cc same) is

@@ -1,4 +1,4 @@
-use Rattle.std.proofs.Common.{◌+◌, refl}
+use Rattle.std.proofs.Common.{refl}
 use Rattle.kc_module.proofs.Cells.{cells_below}
 use Rattle.kc_module.proofs.puts.put_cells.Goals as goal
 

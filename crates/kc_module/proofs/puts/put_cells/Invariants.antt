@@ -1,4 +1,4 @@
-use Rattle.std.proofs.Common.{◌≡◌, ◌+◌, ◌≤◌, true, ltb, ◌++◌, map, length}
+use Rattle.std.proofs.Common.{◌≡◌, true, ltb, ◌++◌, map, length}
 use Rattle.std.specs.List.{list_all}
 use Rattle.kc_module.specs.Order.{number_of}
 use Rattle.kc_module.specs.Puts.{put_of, has_start}

@@ -1,5 +1,4 @@
 use Rattle.std.proofs.Common.{◌+◌}
-use Rattle.kc_module.specs.Order.{start_of}
 use Rattle.kc_module.proofs.Cells.{room_left}
 use Rattle.kc_module.proofs.puts.put_of.Goals as goal
 

@@ -1,4 +1,4 @@
-use Rattle.std.proofs.Common.{◌≡◌, ◌+◌, ◌<◌, ◌≤◌, ◌∷◌, [], ◌++◌, ℕ, refl, ap, arith}
+use Rattle.std.proofs.Common.{◌≡◌, refl, ap, arith}
 use Rattle.kc_piece.specs.Tape.{Tape, cell, mark}
 use Rattle.kc_piece.proofs.Rising.{tape_put, tape_begun}
 use Rattle.kc_piece.proofs.part.Part.begin.Goals as goal

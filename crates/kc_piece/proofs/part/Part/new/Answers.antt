@@ -1,4 +1,4 @@
-use Rattle.std.proofs.Common.{◌≡◌, ◌+◌, ◌<◌, ◌≤◌, ◌∷◌, [], ◌++◌, ℕ, refl, ap, arith}
+use Rattle.std.proofs.Common.{refl}
 use Rattle.kc_piece.specs.Tape.{rise}
 use Rattle.kc_piece.proofs.part.Part.new.Goals as goal
 

@@ -1,4 +1,4 @@
-use Rattle.std.proofs.Common.{◌≡◌, ◌+◌, ◌<◌, ◌≤◌, ◌∷◌, [], ◌++◌, ℕ, refl, ap, arith}
+use Rattle.std.proofs.Common.{◌≡◌, ap, arith}
 use Rattle.kc_piece.specs.Tape.{Tape}
 use Rattle.kc_piece.proofs.Rising.{tape_skipped}
 use Rattle.kc_piece.proofs.part.Part.skip.Goals as goal
