@@ -1,6 +1,6 @@
 -- Pieces that are gathered one after the other.
-use Rattle.std.proofs.Common.{◌≡◌, ℕ, ◌+◌, ◌≤◌, Bool, true, Some, List, [], ◌∷◌, ◌++◌, length, take, drop, suc, zero, refl, ap, length-append, arith}
-use Rattle.std.specs.List.{list_all, slice_get}
+use Rattle.std.proofs.Common.{◌≡◌, ℕ, ◌+◌, ◌≤◌, Some, List, [], ◌∷◌, ◌++◌, length, take, drop, suc, zero, refl, ap, length-append, arith}
+use Rattle.std.specs.List.{slice_get}
 use Rattle.kc_piece.specs.Tape.{Tape}
 use Rattle.kc_module.specs.Order.{segment_of}
 use Rattle.kc_module.specs.Sheet.{Sheet, empty, added, added_all, IsAddable, AreAddable}
@@ -26,16 +26,6 @@ unfolding AreAddable
 addable_after zero ts a = a
 addable_after (suc n) [] a = tt
 addable_after (suc n) (t ∷ ts) a = addable_after n ts a.1
-
-pub all_parts : (p : Tape → Bool) (ts : List Tape) (r c m : Tape) → slice_get ts 0 ≡ Some r → slice_get ts 1 ≡ Some c → slice_get ts 2 ≡ Some m → p r ≡ true → p c ≡ true → p m ≡ true → list_all p (drop 3 ts) ≡ true → list_all p ts ≡ true
-all_parts p [] r c m e f g h i j k = absurd (cc)
-all_parts p (x ∷ []) r c m e f g h i j k = absurd (cc)
-all_parts p (x ∷ y ∷ []) r c m e f g h i j k = absurd (cc)
-all_parts p (x ∷ y ∷ z ∷ ts) r c m e f g h i j k =
-    let one : x ≡ r = cc in
-    let two : y ≡ c = cc in
-    let three : z ≡ m = cc in
-    rw (one, two, three, h, i, j, k) refl
 
 pub addable_first : (n : ℕ) (ts : List Tape) → AreAddable ts → AreAddable (take n ts)
 unfolding AreAddable

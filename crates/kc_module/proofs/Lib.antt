@@ -15,3 +15,4 @@ pub mod OneFixups
 pub mod OneModule
 pub mod Counting
 pub mod Working
+pub mod Numbering

@@ -79,7 +79,8 @@ stand_well [] = false
 stand_well (registers ∷ []) = false
 stand_well (registers ∷ code ∷ []) = false
 stand_well (registers ∷ code ∷ ram ∷ absolute) =
-    is_relocatable_part Reg registers && is_relocatable_part Code code && is_relocatable_part Ram ram && list_all is_absolute_part absolute
+    is_relocatable_part Reg registers && is_relocatable_part Code code && is_relocatable_part Ram ram
+    && list_all is_absolute_part absolute
 
 -- ---- public names
 

@@ -8,3 +8,4 @@ pub mod Sheet
 pub mod OneModule
 pub mod Worked
 pub mod Count
+pub mod Numbers

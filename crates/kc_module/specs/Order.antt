@@ -28,7 +28,8 @@ aims_at part (Some r) = is_piece part r.1.base
 -- a public or the target of a relocation names the relocatable part with this number
 unfoldable pub is_named : List Tape → List Public → ℕ → Bool
 is_named parts publics n =
-    list_any (λ p. is_piece n p.value.base) publics || list_any (λ t. list_any (λ c. aims_at n (relocation t c.octet)) t.cells) parts
+    list_any (λ p. is_piece n p.value.base) publics
+    || list_any (λ t. list_any (λ c. aims_at n (relocation t c.octet)) t.cells) parts
 
 -- a relocatable part is a piece where it is nonempty or named
 abbrev pub stays : List Tape → List Public → Tape → ℕ → Bool
@@ -50,7 +51,10 @@ count_of b = if b then 1 else 0
 
 -- the number of the piece that a relocatable part is: how many pieces stand before it
 abbrev pub number_of : Kept → ℕ → ℕ
-number_of kept part = if part == 0 then 0 else if part == 1 then count_of kept.registers else count_of kept.registers + count_of kept.code
+number_of kept part =
+    if part == 0 then 0
+    else if part == 1 then count_of kept.registers
+    else count_of kept.registers + count_of kept.code
 
 abbrev pub kept_if : Bool → Option Tape → List Tape
 kept_if true (Some t) = t ∷ []
@@ -67,7 +71,8 @@ stack_pieces bytes = if bytes == 0 then [] else stack_tape bytes ∷ []
 -- relocatable parts by kind, the stack, absolute parts in their order
 abbrev pub in_order : Kept → Option Tape → Option Tape → Option Tape → ℕ → List Tape → List Tape
 in_order kept registers code ram stack absolute =
-    kept_if kept.registers registers ++ (kept_if kept.code code ++ (kept_if kept.ram ram ++ (stack_pieces stack ++ absolute)))
+    kept_if kept.registers registers
+    ++ (kept_if kept.code code ++ (kept_if kept.ram ram ++ (stack_pieces stack ++ absolute)))
 
 -- the pieces of the module
 abbrev pub pieces_of : Kept → List Tape → ℕ → List Tape

@@ -28,14 +28,20 @@ target_of number (External external) = targets.External external
 -- the relocation that fills in a value: its number is the addend
 abbrev pub fixup_for : (ℕ → ℕ) → ℕ → ℕ → Option (ℕ × Value) → Option Fixup
 fixup_for number piece offset None = None
-fixup_for number piece offset (Some r) = Some (record { piece = piece; offset = offset; kind = r.0; target = target_of number r.1.base; addend = r.1.number })
+fixup_for number piece offset (Some r) =
+    Some (record { piece = piece; offset = offset; kind = r.0; target = target_of number r.1.base; addend = r.1.number })
 
 -- the byte that the module has for an octet of a part
 abbrev pub byte_for : Tape → ℕ → Octet → ℕ
 byte_for t offset octet = shown t.at (kind_number t.kind) (start_of t.at + offset) octet
 
 abbrev pub put_of : (ℕ → ℕ) → ℕ → Tape → Cell → Put
-put_of number piece t c = record { piece = piece; offset = c.offset; byte = byte_for t c.offset c.octet; fixup = fixup_for number piece c.offset (relocation t c.octet) }
+put_of number piece t c = record {
+  piece = piece;
+  offset = c.offset;
+  byte = byte_for t c.offset c.octet;
+  fixup = fixup_for number piece c.offset (relocation t c.octet)
+}
 
 abbrev pub entry_of : ℕ → Mark → Lines
 entry_of piece m = record { piece = piece; offset = m.offset; line = m.line }

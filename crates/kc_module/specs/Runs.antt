@@ -22,7 +22,8 @@ joins bytes piece offset q = nat_lt (length bytes) 1024 && (piece == q.piece) &&
 unfoldable pub runs : List ℕ → ℕ → ℕ → List Put → List Content
 runs bytes piece offset [] = closed bytes piece offset
 runs bytes piece offset (q ∷ qs) =
-    if joins bytes piece offset q then runs (bytes ++ q.byte ∷ []) piece offset qs else closed bytes piece offset ++ runs (q.byte ∷ []) q.piece q.offset qs
+    if joins bytes piece offset q then runs (bytes ++ q.byte ∷ []) piece offset qs
+    else closed bytes piece offset ++ runs (q.byte ∷ []) q.piece q.offset qs
 
 abbrev pub listed : Option Fixup → List Fixup
 listed None = []

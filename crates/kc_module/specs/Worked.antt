@@ -1,4 +1,5 @@
--- A worked draft: jumps to an external and to a number, words, reserved bytes, an absolute part, and an empty part that a public names.
+-- A worked draft: jumps to an external and to a number, words, reserved bytes, an absolute part, and an empty part that
+-- a public names.
 use Rattle.std.specs.Prelude.{ℕ, false, Some, None, List, [], ◌∷◌, codes}
 use Rattle.kc_expr.specs.declared.values.Base.{Base}
 use Rattle.kc_expr.specs.declared.values.Base.TheVariants.{Fixed, Piece, External}

@@ -10,7 +10,7 @@ mod puts;
 mod runs;
 
 pub use kept::Kept;
-pub use laws::{few_pieces, one_module};
+pub use laws::{absolute_alike, few_pieces, numbers_stand, one_module};
 pub use making::module_of;
 
 #[cfg(test)]

@@ -63,7 +63,8 @@ laid (o ∷ os) t = laid os (put o t)
 
 -- the first octet of the statement on a line
 abbrev pub begun : ℕ → Octet → Tape → Tape
-begun line octet t = tape_of t.kind t.at (t.length + 1) (t.cells ++ cell t.length octet ∷ []) (t.marks ++ mark t.length line ∷ [])
+begun line octet t =
+    tape_of t.kind t.at (t.length + 1) (t.cells ++ cell t.length octet ∷ []) (t.marks ++ mark t.length line ∷ [])
 
 -- all octets of the statement on a line
 abbrev pub written : ℕ → List Octet → Tape → Tape

@@ -17,7 +17,9 @@ marks_after line [] t = t.marks
 marks_after line (o ∷ os) t = t.marks ++ mark t.length line ∷ []
 
 abbrev pub WrittenStands : Type 0
-WrittenStands = (t : Tape) → is_tape t ≡ true → (line : ℕ) (octets : List Octet) → IsLonger t octets (written line octets t) × ((written line octets t).marks ≡ marks_after line octets t)
+WrittenStands =
+    (t : Tape) → is_tape t ≡ true → (line : ℕ) (octets : List Octet)
+    → IsLonger t octets (written line octets t) × ((written line octets t).marks ≡ marks_after line octets t)
 
 abbrev pub PutStands : Type 0
 PutStands = (t : Tape) → is_tape t ≡ true → (octet : Octet) → IsLonger t (octet ∷ []) (put octet t)
