@@ -6,6 +6,7 @@ use kc_octet::Octet;
 
 /// A jump on line 3, seven reserved bytes, and a byte on line 5.
 #[test]
+#[tactic(auto, unfolding(crate::specs::Tape::laid))]
 fn a_part_grows_at_its_end(rt: HostRuntime) -> Result<(), NoMemory> {
     let value = Value {
         base: Base::Fixed,
