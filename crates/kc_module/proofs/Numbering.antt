@@ -37,13 +37,13 @@ stand_in (r ∷ []) publics stack three n lt h = absurd (omega arith)
 stand_in (r ∷ c ∷ []) publics stack three n lt h = absurd (omega arith)
 stand_in (r ∷ c ∷ m ∷ absolute) publics stack three zero lt h =
     first_stands (stays (r ∷ c ∷ m ∷ absolute) publics r 0) r (kept_if (stays (r ∷ c ∷ m ∷ absolute) publics c 1) (Some c) ++ (kept_if (stays (r ∷ c ∷ m ∷ absolute) publics m 2) (Some m) ++ (stack_pieces stack ++ absolute)))
-      (named_stays (r ∷ c ∷ m ∷ absolute) publics r 0 h)
+    (named_stays (r ∷ c ∷ m ∷ absolute) publics r 0 h)
 stand_in (r ∷ c ∷ m ∷ absolute) publics stack three (suc zero) lt h =
     second_stands (stays (r ∷ c ∷ m ∷ absolute) publics r 0) (stays (r ∷ c ∷ m ∷ absolute) publics c 1) r c (kept_if (stays (r ∷ c ∷ m ∷ absolute) publics m 2) (Some m) ++ (stack_pieces stack ++ absolute))
-      (named_stays (r ∷ c ∷ m ∷ absolute) publics c 1 h)
+    (named_stays (r ∷ c ∷ m ∷ absolute) publics c 1 h)
 stand_in (r ∷ c ∷ m ∷ absolute) publics stack three (suc (suc zero)) lt h =
     third_stands (stays (r ∷ c ∷ m ∷ absolute) publics r 0) (stays (r ∷ c ∷ m ∷ absolute) publics c 1) (stays (r ∷ c ∷ m ∷ absolute) publics m 2) r c m (stack_pieces stack ++ absolute)
-      (named_stays (r ∷ c ∷ m ∷ absolute) publics m 2 h)
+    (named_stays (r ∷ c ∷ m ∷ absolute) publics m 2 h)
 stand_in (r ∷ c ∷ m ∷ absolute) publics stack three (suc (suc (suc n))) lt h = absurd (omega arith)
 
 pub numbers : NumbersStand

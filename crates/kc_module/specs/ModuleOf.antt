@@ -54,7 +54,7 @@ pub record IsModuleOf (d : Draft) (m : Object) : Type 0 where
   pub externals : m.externals ≡ d.externals.items
   pub publics : IsPermutation (map (given_of (number_of (kept_in d))) d.publics.items) m.publics
   pub contents : (piece offset : ℕ) →
-    content_at m.contents piece offset ≡ byte_at (slice_get (pieces_in d) piece) offset
+      content_at m.contents piece offset ≡ byte_at (slice_get (pieces_in d) piece) offset
   pub fixups : (piece offset : ℕ) →
-    fixup_at m.fixups piece offset ≡ relocated_at (number_of (kept_in d)) piece (slice_get (pieces_in d) piece) offset
+      fixup_at m.fixups piece offset ≡ relocated_at (number_of (kept_in d)) piece (slice_get (pieces_in d) piece) offset
   pub lines : m.lines ≡ Some (entries_from 0 (pieces_in d))

@@ -40,7 +40,7 @@ put_of number piece t c = record {
   piece = piece;
   offset = c.offset;
   byte = byte_for t c.offset c.octet;
-  fixup = fixup_for number piece c.offset (relocation t c.octet)
+  fixup = fixup_for number piece c.offset (relocation t c.octet);
 }
 
 abbrev pub entry_of : ℕ → Mark → Lines

@@ -22,8 +22,8 @@ empty = sheet_of [] [] []
 abbrev pub added : (ℕ → ℕ) → Tape → Sheet → Sheet
 added number t s =
     sheet_of (s.segments ++ segment_of t ∷ [])
-      (s.puts ++ map (put_of number (length s.segments) t) t.cells)
-      (s.entries ++ map (entry_of (length s.segments)) t.marks)
+    (s.puts ++ map (put_of number (length s.segments) t) t.cells)
+    (s.entries ++ map (entry_of (length s.segments)) t.marks)
 
 unfoldable pub added_all : (ℕ → ℕ) → List Tape → Sheet → Sheet
 added_all number [] s = s
