@@ -1,0 +1,11 @@
+pub mod Drafts
+pub mod ModuleOf
+pub mod Order
+pub mod Publics
+pub mod Puts
+pub mod Runs
+pub mod Sheet
+pub mod OneModule
+pub mod Worked
+pub mod Count
+pub mod Numbers
