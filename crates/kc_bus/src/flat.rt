@@ -1,10 +1,10 @@
 ghost use Rattle.std.specs.Prelude.{◌≡◌, ◌+◌, ◌*◌, ◌<◌, ◌≤◌, ◌^◌, IsTrue, IfOk, vec_len, false};
 ghost use Rattle.kc_effect.specs.Window.{is_wsr};
 ghost use Rattle.kc_bus.specs.Registers.{register_of, with_register, word_of, with_word};
-ghost use Rattle.kc_effect.specs.Memory.{is_hole, is_rom};
 ghost use Rattle.kc_bus.specs.Blank.{blank_bytes};
 
 use crate::bus::Bus;
+use crate::map::{is_fixed, is_outside};
 use crate::windows::is_known;
 use kc_base::{Kind, NoMemory};
 use kc_effect::{Masks, Master};
@@ -105,18 +105,6 @@ fn written_word(masks: Masks, addr: u16, value: u16) -> Result<Masks, Kind>
 {
     let middle = written(masks, addr, (value % 256) as u8)?;
     written(middle, addr + 1, (value / 256) as u8)
-}
-
-fn is_outside(addr: u16) -> bool
-    ensures { result ≡ is_hole addr }
-{
-    (0x1FFE..0x2000).contains(&addr)
-}
-
-fn is_fixed(addr: u16) -> bool
-    ensures { result ≡ is_rom addr }
-{
-    (0x2000..0x6000).contains(&addr)
 }
 
 impl Bus for Flat {

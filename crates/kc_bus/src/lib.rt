@@ -3,9 +3,11 @@
 
 mod bus;
 mod flat;
+mod map;
 mod windows;
 
 pub use bus::Bus;
 pub use flat::Flat;
 pub use kc_effect::{Masks, Master};
+pub use map::{is_fixed, is_outside};
 pub use windows::{is_known, window};

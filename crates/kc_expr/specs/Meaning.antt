@@ -141,13 +141,21 @@ binary_answer op a b = if divides_by_zero op b then by_zero a else parts_answer 
 abbrev pub here : List ℕ
 here = 36 ∷ []
 
-unfoldable pub answer : Tree → NameMap → Answer
-answer (Number n) names = number_answer n
-answer (Chars cs) names = chars_answer cs
-answer (Name n) names = found (get names n)
-answer Here names = found (get names here)
-answer (One op e) names = unary_answer op (answer e names)
-answer (Two op a b) names = binary_answer op (answer a names) (answer b names)
+-- the value over what each name answers
+unfoldable pub answer_by : (List ℕ → Answer) → Tree → Answer
+answer_by look (Number n) = number_answer n
+answer_by look (Chars cs) = chars_answer cs
+answer_by look (Name n) = look n
+answer_by look Here = look here
+answer_by look (One op e) = unary_answer op (answer_by look e)
+answer_by look (Two op a b) = binary_answer op (answer_by look a) (answer_by look b)
+
+-- a name answers its value
+abbrev pub name_answer : NameMap → List ℕ → Answer
+name_answer names name = found (get names name)
+
+abbrev pub answer : Tree → NameMap → Answer
+answer tree names = answer_by (name_answer names) tree
 
 -- what a call answers at a line
 abbrev pub IsAnswerAt : ℕ → Answer → Result Value SourceFault → Type 0

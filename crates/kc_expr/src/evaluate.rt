@@ -1,7 +1,7 @@
-ghost use Rattle.std.specs.Prelude.{◌≡◌, ◌*◌, ◌/◌, ◌%◌, ◌^◌};
+ghost use Rattle.std.specs.Prelude.{◌≡◌, ◌*◌, ◌/◌, ◌%◌, ◌^◌, ℕ, List};
 ghost use Rattle.kc_expr.specs.Tree.{tree_of};
 ghost use Rattle.kc_expr.specs.Meaning as meaning;
-ghost use Rattle.kc_expr.specs.Meaning.{answer, IsAnswerAt, plain, number_answer, chars_answer, found, same_base, truth, unary_number, binary_number, divided, moved, moved_to, distance, on_one, on_two, binary_answer};
+ghost use Rattle.kc_expr.specs.Meaning.{Answer, answer, answer_by, name_answer, IsAnswerAt, plain, number_answer, chars_answer, found, same_base, truth, unary_number, binary_number, divided, moved, moved_to, distance, on_one, on_two, binary_answer};
 
 use crate::expr::{Binary, Expr, Unary};
 use crate::symbols::Symbols;
@@ -13,28 +13,45 @@ use kc_lex::SourceFault;
 pub fn value(expr: &Expr, symbols: &Symbols, line: u32) -> Result<Value, SourceFault>
     ensures { IsAnswerAt line (answer (tree_of expr.now) symbols.now) result }
 {
-    match evaluate(expr, symbols) {
+    match value_over(expr, symbols) {
         Ok(value) => Ok(value),
         Err(code) => Err(SourceFault::At { line, code }),
     }
 }
 
-#[tactic(auto, unfolding(crate::specs::Meaning::answer))]
-fn evaluate(expr: &Expr, symbols: &Symbols) -> Result<Value, u8>
-    ensures { result ≡ answer (tree_of expr.now) symbols.now }
+/// What names mean where an expression stands: each answers a value, or the code of a fault.
+pub trait Scope {
+    ghost answers: { Self → List ℕ → Answer };
+
+    fn look(&self, name: &[u8]) -> Result<Value, u8>
+        ensures { result ≡ answers self.now name.now };
+}
+
+impl Scope for Symbols {
+    ghost answers = { name_answer };
+
+    fn look(&self, name: &[u8]) -> Result<Value, u8> {
+        known(Symbols::look(self, name))
+    }
+}
+
+/// The value of an expression over what its names answer, or the least code of its faults.
+#[tactic(auto, unfolding(crate::specs::Meaning::answer_by))]
+pub fn value_over<S: Scope>(expr: &Expr, names: &S) -> Result<Value, u8>
+    ensures { result ≡ answer_by (S.answers names.now) (tree_of expr.now) }
 {
     match expr {
         Expr::Number(n) => number(*n),
         Expr::Chars(text) => chars(text.as_slice()),
-        Expr::Name(name) => known(symbols.get(name)),
-        Expr::Here => known(symbols.look(b"$")),
+        Expr::Name(name) => names.look(name.as_slice()),
+        Expr::Here => names.look(b"$"),
         Expr::Unary(op, e) => {
-            let value = evaluate(e, symbols)?;
+            let value = value_over(e, names)?;
             one(*op, value)
         }
         Expr::Binary(op, a, b) => {
-            let left = evaluate(a, symbols);
-            let right = evaluate(b, symbols);
+            let left = value_over(a, names);
+            let right = value_over(b, names);
             both(*op, left, right)
         }
     }

@@ -9,7 +9,7 @@ pub mod parser;
 pub mod symbols;
 pub mod values;
 
-pub use evaluate::value;
+pub use evaluate::{Scope, value, value_over};
 pub use expr::{Binary, Expr, Unary};
 pub use operators::is_type;
 pub use parser::parse;

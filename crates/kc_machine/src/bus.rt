@@ -2,7 +2,6 @@
 ghost use Rattle.std.specs.Prelude.{◌≡◌, ◌+◌, ◌*◌, ◌<◌, ◌≤◌, ◌-◌, ◌^◌, IsTrue, IfOk, vec_len, length, false};
 ghost use Rattle.std.specs.List.{All};
 ghost use Rattle.kc_effect.specs.Window.{is_wsr};
-ghost use Rattle.kc_effect.specs.Memory.{is_hole, is_rom};
 ghost use Rattle.kc_trace.specs.Printable.{HasName};
 ghost use Rattle.kc_machine.specs.Keeping.{fitting};
 
@@ -12,7 +11,7 @@ use crate::registers::{
 };
 use arrayvec::ArrayVec;
 use kc_base::{Edge, EdgeOut, Kind, StateTime, Steps};
-use kc_bus::{Bus, Masks, Master, is_known};
+use kc_bus::{Bus, Masks, Master, is_fixed, is_known, is_outside};
 use kc_intc::Requests;
 use kc_model::{Units, Window};
 use std::sync::ledger::Ledger;
@@ -29,18 +28,6 @@ pub struct Common {
     ghost long: { vec_len memory ≡ 65536 },
     ghost window: { IsTrue (is_wsr units.wsr) },
     ghost named: { All HasName edges.items },
-}
-
-pub(crate) fn is_outside(addr: u16) -> bool
-    ensures { result ≡ is_hole addr }
-{
-    (0x1FFE..0x2000).contains(&addr)
-}
-
-fn is_fixed(addr: u16) -> bool
-    ensures { result ≡ is_rom addr }
-{
-    (0x2000..0x6000).contains(&addr)
 }
 
 // The edges with more of them, where there is room.

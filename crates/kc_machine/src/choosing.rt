@@ -3,8 +3,8 @@ ghost use Rattle.std.specs.Prelude.{◌≡◌, ◌<◌, length};
 ghost use Rattle.kc_effect.specs.Entering.{vector_at, entry_states};
 ghost use Rattle.kc_model.specs.Machine.{fetched, can_fetch};
 
-use crate::bus::is_outside;
 use arrayvec::ArrayVec;
+use kc_bus::is_outside;
 
 fn can_fetch(addr: u16) -> bool
     ensures { result ≡ can_fetch addr }

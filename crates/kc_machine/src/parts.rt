@@ -12,12 +12,12 @@ ghost use Rattle.kc_model.specs.Passing.{IsIdle};
 ghost use Rattle.kc_model.specs.Peeking.{peeked};
 ghost use Rattle.kc_machine.specs.Sound.{IsGoing, IsReady, IsSoundGoing};
 
-use crate::bus::{Common, is_outside};
+use crate::bus::Common;
 use crate::choosing::{entry_time, fetch};
 use crate::over::place_over;
 use crate::registers::{look, window_for};
 use kc_base::{Kind, StateTime, Steps};
-use kc_bus::Master;
+use kc_bus::{Master, is_outside};
 use kc_code::{Decoded, decode};
 use kc_effect::Cpu;
 use kc_exec::word_states;

@@ -1,9 +1,8 @@
 ghost use Rattle.std.specs.Prelude.{◌≡◌, IsTrue, vec_len};
 ghost use Rattle.kc_effect.specs.Window.{is_wsr};
-ghost use Rattle.kc_effect.specs.Memory.{is_hole, is_rom};
 
 use kc_base::{Kind, NoMemory};
-use kc_bus::{Bus, Masks, Master, is_known};
+use kc_bus::{Bus, Masks, Master, is_fixed, is_known, is_outside};
 use std::alloc::Global;
 
 /// A bus whose registers below 0018H are bytes that keep what is written.
@@ -40,18 +39,6 @@ impl Board {
         self.bytes[addr as usize] = (value % 256) as u8;
         self.bytes[addr.wrapping_add(1) as usize] = (value / 256) as u8;
     }
-}
-
-fn is_outside(addr: u16) -> bool
-    ensures { result ≡ is_hole addr }
-{
-    (0x1FFE..0x2000).contains(&addr)
-}
-
-fn is_fixed(addr: u16) -> bool
-    ensures { result ≡ is_rom addr }
-{
-    (0x2000..0x6000).contains(&addr)
 }
 
 impl Bus for Board {

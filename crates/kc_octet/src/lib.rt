@@ -1,0 +1,11 @@
+//! Bytes of pieces before the bases are known: what depends on a base, what a module has in its place, and what fills it in.
+#![tactic(auto)]
+
+pub mod octet;
+pub mod relocating;
+
+pub use octet::Octet;
+pub use relocating::{depends, misfit, relocated, shown};
+
+#[cfg(test)]
+mod tests;
