@@ -1,0 +1,2 @@
+//! What names mean at each statement of a source.
+#![tactic(auto)]
