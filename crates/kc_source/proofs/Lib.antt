@@ -1,4 +1,3 @@
-pub mod PartLemmas
 pub mod FaultLemmas
 pub mod TableLemmas
 pub mod PassLemmas

@@ -1,6 +1,3 @@
-pub mod Trees
-pub mod Operands
-pub mod Statements
 pub mod Faults
 pub mod Known
 pub mod Passing

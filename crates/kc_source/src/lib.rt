@@ -2,21 +2,14 @@
 #![tactic(auto)]
 
 mod faults;
-mod forms;
 mod laws;
-pub mod lists;
 mod names;
-mod operands;
-mod parts;
 mod pass;
-mod reading;
-pub mod statement;
 mod uses;
 
+pub use kc_statement::{Action, Arg, Args, Item, Items, Names, Stmt};
 pub use laws::names_are_clear;
-pub use lists::{Args, Items, Names};
 pub use pass::statements;
-pub use statement::{Action, Arg, Item, Stmt};
 
 #[cfg(test)]
 mod tests;

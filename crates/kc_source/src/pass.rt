@@ -1,17 +1,16 @@
 ghost use Rattle.std.specs.Prelude.{◌≡◌, ◌∷◌, ◌++◌, [], List, None, map, Ok, false, OnOk, IfOk};
 ghost use Rattle.kc_lex.specs.declared.token.Line.{Line};
-ghost use Rattle.kc_source.specs.Statements.{statement_in};
+ghost use Rattle.kc_statement.specs.Statements.{statement_in};
 ghost use Rattle.kc_source.specs.Passing.{IsReading};
-ghost use Rattle.kc_source.specs.Trees.{action_tree};
+ghost use Rattle.kc_statement.specs.Trees.{action_tree};
 ghost use Rattle.kc_source.specs.Faults as spec;
 
 use crate::faults::{at_line, lesser};
 use crate::names::name_fault;
-use crate::reading::{label, statement};
-use crate::statement::{Action, Stmt};
 use crate::uses::{Use, UseKind};
 use kc_base::{NoMemory, Text};
 use kc_lex::{Line, SourceFault};
+use kc_statement::{Action, Stmt, read_label, read_statement};
 use std::alloc::Global;
 
 fn is_module(action: &Action) -> bool
@@ -162,9 +161,9 @@ impl Pass {
         ensures stmts { OnOk result (self.new.found ≡ None → map spec.stmt_said self.new.stmts.items ≡ map spec.stmt_said self.old.stmts.items ++ spec.said line.now ∷ []) }
     {
         let tokens = line.tokens.as_slice();
-        let label = label(alloc, tokens)?;
+        let label = read_label(alloc, tokens)?;
         push_label(&mut self.uses, alloc, line.number, &label)?;
-        match statement(alloc, tokens)? {
+        match read_statement(alloc, tokens)? {
             Ok(action) => {
                 self.take_statement(alloc, line.number, label, action)?;
             }

@@ -1,8 +1,8 @@
 ghost use Rattle.std.specs.Prelude.{◌≡◌, ◌≤◌, length, drop, true, IfOk};
 ghost use Rattle.std.specs.Option.{option_map};
-ghost use Rattle.kc_source.specs.Trees.{action_tree, action_read};
-ghost use Rattle.kc_source.specs.Operands.{operands_in};
-ghost use Rattle.kc_source.specs.Statements as spec;
+ghost use Rattle.kc_statement.specs.Trees.{action_tree, action_read};
+ghost use Rattle.kc_statement.specs.Operands.{operands_in};
+ghost use Rattle.kc_statement.specs.Statements as spec;
 
 use crate::forms::{definition, directive};
 use crate::operands::takes;
@@ -237,9 +237,11 @@ fn behind_label(alloc: Global, tokens: &[Token]) -> Result<Result<Action, u8>, N
     }
 }
 
-/// What a line says behind its label, if it has one, or the code of its fault.
+/// What the tokens of a line say behind its label, if it has one; or the code of its fault: 1 for what is no statement, 14
+/// for what has not the form of its statement. (MCS-96 Macro Assembler User's Guide, "Assembler Directives"; forms and
+/// codes are this kit's own.)
 #[tactic(auto, unfolding(crate::specs::Statements::statement_in))]
-pub(crate) fn statement(alloc: Global, tokens: &[Token]) -> Result<Result<Action, u8>, NoMemory>
+pub fn read_statement(alloc: Global, tokens: &[Token]) -> Result<Result<Action, u8>, NoMemory>
     ensures { IfOk result (λ r. spec.statement_in tokens.now ≡ action_read r) }
 {
     if has_label(tokens) {
@@ -260,7 +262,7 @@ fn first_text(tokens: &[Token]) -> &[u8]
 
 /// The label of a line, if it has one.
 #[tactic(auto, unfolding(crate::specs::Statements::label_in))]
-pub(crate) fn label(alloc: Global, tokens: &[Token]) -> Result<Option<Text>, NoMemory>
+pub fn read_label(alloc: Global, tokens: &[Token]) -> Result<Option<Text>, NoMemory>
     ensures { IfOk result (λ o. spec.label_in tokens.now ≡ o) }
 {
     if has_label(tokens) {

@@ -8,8 +8,8 @@ use Rattle.kc_lex.specs.declared.words.Operands.TheVariants as operands
 use Rattle.kc_lex.specs.Kinds.{is_sign, is_free_name, is_chars_kind, begins_sign}
 use Rattle.kc_expr.specs.Tree.{Tree}
 use Rattle.kc_expr.specs.Grammar.{Reading, parsed, is_type}
-use Rattle.kc_source.specs.Trees.{ItemTree, ArgTree, Plain, Immediate, Indirect, Increment, Indexed}
-use Rattle.kc_source.specs.Trees as trees
+use Rattle.kc_statement.specs.Trees.{ItemTree, ArgTree, Plain, Immediate, Indirect, Increment, Indexed}
+use Rattle.kc_statement.specs.Trees as trees
 
 abbrev pub is_nil : List Token → Bool
 is_nil ts = length ts == 0

@@ -11,9 +11,9 @@ use Rattle.kc_lex.specs.Words.{operands_of, generic_operands_of, directive_of}
 use Rattle.kc_lex.specs.Kinds.{is_sign, is_word, is_name_kind, is_free_name, begins_word}
 use Rattle.kc_expr.specs.Tree.{Tree}
 use Rattle.kc_expr.specs.Grammar.{Reading, parsed}
-use Rattle.kc_source.specs.Trees.{ArgTree, ActionTree}
-use Rattle.kc_source.specs.Trees as trees
-use Rattle.kc_source.specs.Operands.{is_nil, whole, operands_in, items_in, names_in, takes}
+use Rattle.kc_statement.specs.Trees.{ArgTree, ActionTree}
+use Rattle.kc_statement.specs.Trees as trees
+use Rattle.kc_statement.specs.Operands.{is_nil, whole, operands_in, items_in, names_in, takes}
 
 -- ---- the form of each directive, by what stands behind its word
 

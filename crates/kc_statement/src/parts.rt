@@ -2,8 +2,8 @@ ghost use Rattle.std.specs.Prelude.{◌≡◌, ◌≤◌, not, length, map, IfOk
 ghost use Rattle.std.specs.List.{take_while};
 ghost use Rattle.std.specs.Option.{option_map};
 ghost use Rattle.kc_lex.specs.Kinds as kinds;
-ghost use Rattle.kc_source.specs.Trees.{arg_tree, item_tree};
-ghost use Rattle.kc_source.specs.Operands as spec;
+ghost use Rattle.kc_statement.specs.Trees.{arg_tree, item_tree};
+ghost use Rattle.kc_statement.specs.Operands as spec;
 
 use crate::lists::{Args, Items, Names};
 use crate::operands::{item, name, operand};

@@ -6,7 +6,7 @@ use Rattle.std.proofs.lemmas.List.Sums.{take_while-cons}
 use Rattle.std.proofs.Math.ListN.{drop_of_length-le}
 use Rattle.kc_lex.specs.declared.token.Token.{Token}
 use Rattle.kc_lex.specs.Kinds.{is_sign}
-use Rattle.kc_source.specs.Operands.{in_first, parts, and_some, all_some}
+use Rattle.kc_statement.specs.Operands.{in_first, parts, and_some, all_some}
 
 abbrev pub no_comma : Token → Bool
 no_comma t = not (is_sign 44 t)

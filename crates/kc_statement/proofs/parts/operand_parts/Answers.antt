@@ -2,10 +2,10 @@ use Rattle.std.proofs.Common.{◌+◌, ◌<◌, ◌∷◌, [], length, drop, Som
 use Rattle.std.specs.Prelude.{map}
 use Rattle.std.specs.Option.{option_map}
 use Rattle.std.proofs.lemmas.List.{map-append}
-use Rattle.kc_source.specs.Trees.{arg_tree}
-use Rattle.kc_source.specs.Operands.{operand, parts, all_some}
-use Rattle.kc_source.proofs.PartLemmas.{after_some, part_fails, last_part, part_read}
-use Rattle.kc_source.proofs.parts.operand_parts.Goals as goal
+use Rattle.kc_statement.specs.Trees.{arg_tree}
+use Rattle.kc_statement.specs.Operands.{operand, parts, all_some}
+use Rattle.kc_statement.proofs.PartLemmas.{after_some, part_fails, last_part, part_read}
+use Rattle.kc_statement.proofs.parts.operand_parts.Goals as goal
 
 pub returns-in_default : goal.returns-in_default
 returns-in_default c = part_fails operand (map arg_tree c.parts.args) c.parts.left.now c.part_len-n.result (all_some operand (parts c.args.tokens.now)) c.part_len-n.ensures.value (ap operand (sym c.front.ensures) ∙ c.in_ok-arg.ensures ∙ ap (option_map arg_tree) c.in_default.is) c.parts.invariant

@@ -2,10 +2,10 @@ ghost use Rattle.std.specs.Prelude.{◌≡◌, ◌≤◌, length, IfOk, Some, fa
 ghost use Rattle.std.specs.Option.{option_map};
 ghost use Rattle.kc_expr.specs.Tree.{tree_of};
 ghost use Rattle.kc_expr.specs.Grammar.{parsed};
-ghost use Rattle.kc_source.specs.Trees.{action_tree};
-ghost use Rattle.kc_source.specs.Trees as trees;
-ghost use Rattle.kc_source.specs.Operands.{whole as whole_of, names_in};
-ghost use Rattle.kc_source.specs.Statements as spec;
+ghost use Rattle.kc_statement.specs.Trees.{action_tree};
+ghost use Rattle.kc_statement.specs.Trees as trees;
+ghost use Rattle.kc_statement.specs.Operands.{whole as whole_of, names_in};
+ghost use Rattle.kc_statement.specs.Statements as spec;
 
 use crate::operands::{expression, whole};
 use crate::parts::{items, names};

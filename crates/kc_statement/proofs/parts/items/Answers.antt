@@ -2,10 +2,10 @@ use Rattle.std.proofs.Common.{◌+◌, ◌<◌, ◌∷◌, [], length, drop, Som
 use Rattle.std.specs.Prelude.{map}
 use Rattle.std.specs.Option.{option_map}
 use Rattle.std.proofs.lemmas.List.{map-append}
-use Rattle.kc_source.specs.Trees.{item_tree}
-use Rattle.kc_source.specs.Operands.{item, parts, all_some}
-use Rattle.kc_source.proofs.PartLemmas.{after_some, part_fails, last_part, part_read}
-use Rattle.kc_source.proofs.parts.items.Goals as goal
+use Rattle.kc_statement.specs.Trees.{item_tree}
+use Rattle.kc_statement.specs.Operands.{item, parts, all_some}
+use Rattle.kc_statement.proofs.PartLemmas.{after_some, part_fails, last_part, part_read}
+use Rattle.kc_statement.proofs.parts.items.Goals as goal
 
 pub returns-in_default : goal.returns-in_default
 returns-in_default c = part_fails (item c.args.bytes) (map item_tree c.parts.items) c.parts.left.now c.part_len-n.result (all_some (item c.args.bytes) (parts c.args.tokens.now)) c.part_len-n.ensures.value (ap (item c.args.bytes) (sym c.front.ensures) ∙ c.in_ok-read.ensures ∙ ap (option_map item_tree) c.in_default.is) c.parts.invariant

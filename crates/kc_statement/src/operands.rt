@@ -2,8 +2,8 @@ ghost use Rattle.std.specs.Prelude.{◌≡◌, ◌≤◌, ◌<◌, length, drop,
 ghost use Rattle.std.specs.Option.{option_map};
 ghost use Rattle.kc_expr.specs.Tree.{tree_of};
 ghost use Rattle.kc_expr.specs.Grammar.{parsed, seen};
-ghost use Rattle.kc_source.specs.Trees.{arg_tree, item_tree, Immediate};
-ghost use Rattle.kc_source.specs.Operands as spec;
+ghost use Rattle.kc_statement.specs.Trees.{arg_tree, item_tree, Immediate};
+ghost use Rattle.kc_statement.specs.Operands as spec;
 
 use crate::statement::{Arg, Item};
 use kc_base::{NoMemory, Text};

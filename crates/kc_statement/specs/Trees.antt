@@ -2,12 +2,12 @@
 use Rattle.std.specs.Prelude.{ℕ, List, Option, Result, Ok, Err, map}
 use Rattle.std.specs.Option.{option_map}
 use Rattle.kc_expr.specs.Tree.{Tree, tree_of}
-use Rattle.kc_source.specs.declared.statement.Item.{Item}
-use Rattle.kc_source.specs.declared.statement.Item.TheVariants as item
-use Rattle.kc_source.specs.declared.statement.Arg.{Arg}
-use Rattle.kc_source.specs.declared.statement.Arg.TheVariants as arg
-use Rattle.kc_source.specs.declared.statement.Action.{Action}
-use Rattle.kc_source.specs.declared.statement.Action.TheVariants as action
+use Rattle.kc_statement.specs.declared.statement.Item.{Item}
+use Rattle.kc_statement.specs.declared.statement.Item.TheVariants as item
+use Rattle.kc_statement.specs.declared.statement.Arg.{Arg}
+use Rattle.kc_statement.specs.declared.statement.Arg.TheVariants as arg
+use Rattle.kc_statement.specs.declared.statement.Action.{Action}
+use Rattle.kc_statement.specs.declared.statement.Action.TheVariants as action
 
 pub data ItemTree : Type 0 where
   Value : (value : Tree) → ItemTree

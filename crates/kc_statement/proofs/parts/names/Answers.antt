@@ -1,7 +1,7 @@
 use Rattle.std.proofs.Common.{◌<◌, length, Some, sym, ap, ◌∙◌, arith}
-use Rattle.kc_source.specs.Operands.{name_in, parts, all_some}
-use Rattle.kc_source.proofs.PartLemmas.{after_some, part_fails, last_part, part_read}
-use Rattle.kc_source.proofs.parts.names.Goals as goal
+use Rattle.kc_statement.specs.Operands.{name_in, parts, all_some}
+use Rattle.kc_statement.proofs.PartLemmas.{after_some, part_fails, last_part, part_read}
+use Rattle.kc_statement.proofs.parts.names.Goals as goal
 
 pub returns-in_default : goal.returns-in_default
 returns-in_default c = part_fails (name_in c.args.typed) c.parts.names c.parts.left.now c.part_len-n.result (all_some (name_in c.args.typed) (parts c.args.tokens.now)) c.part_len-n.ensures.value (ap (name_in c.args.typed) (sym c.front.ensures) ∙ c.in_ok-read.ensures ∙ c.in_default.is) c.parts.invariant

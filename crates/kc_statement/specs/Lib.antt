@@ -1,0 +1,5 @@
+pub mod Trees
+pub mod Operands
+pub mod Statements
+pub mod Forms
+pub mod Formed
