@@ -11,8 +11,8 @@ use Rattle.kc_expr.specs.declared.values.Tag.{Tag}
 use Rattle.kc_expr.specs.declared.values.Tag.TheVariants.{Register, Memory}
 use Rattle.kc_expr.specs.Tree.{Tree, Number, Chars, Name, Here, One, Two}
 use Rattle.kc_expr.specs.Meaning.{Answer}
-use Rattle.kc_source.specs.Trees.{ActionTree, ArgTree, ItemTree}
-use Rattle.kc_source.specs.Trees as trees
+use Rattle.kc_statement.specs.Trees.{ActionTree, ArgTree, ItemTree}
+use Rattle.kc_statement.specs.Trees as trees
 use Rattle.kc_names.specs.Located.{Located}
 
 abbrev pub stack_name : List ℕ

@@ -9,9 +9,9 @@ use Rattle.kc_expr.specs.declared.values.Tag.{Tag}
 use Rattle.kc_expr.specs.declared.values.Tag.TheVariants.{Register, Memory}
 use Rattle.kc_expr.specs.declared.values.Value.{Value}
 use Rattle.kc_expr.specs.Tree.{Tree}
-use Rattle.kc_source.specs.declared.statement.Stmt.{Stmt}
-use Rattle.kc_source.specs.Trees.{ActionTree, action_tree}
-use Rattle.kc_source.specs.Trees as trees
+use Rattle.kc_statement.specs.declared.statement.Stmt.{Stmt}
+use Rattle.kc_statement.specs.Trees.{ActionTree, action_tree}
+use Rattle.kc_statement.specs.Trees as trees
 
 -- The segment in force: the number and the kind of its piece, and how many pieces there are so far. The relocatable
 -- pieces are 0 (registers), 1 (code) and 2 (data); absolute ones follow in the order of the source.

@@ -7,8 +7,8 @@ use Rattle.std.specs.Str.{bytes_eq}
 use Rattle.kc_obj.specs.declared.parts.Taken.{Taken}
 use Rattle.kc_expr.specs.Tree.{Tree}
 use Rattle.kc_expr.specs.Meaning.{Answer, answer_by, here}
-use Rattle.kc_source.specs.Trees.{ActionTree}
-use Rattle.kc_source.specs.Trees as trees
+use Rattle.kc_statement.specs.Trees.{ActionTree}
+use Rattle.kc_statement.specs.Trees as trees
 use Rattle.kc_names.specs.Located.{Located, place_value}
 use Rattle.kc_names.specs.Externals.{externals, external_in, stack_name, declared_names}
 
