@@ -80,14 +80,14 @@ declared_names _ = []
 abbrev pub statement_uses_stack : ActionTree → Bool
 statement_uses_stack action = list_any uses_stack (action_trees action)
 
-abbrev pub declared : Bool → Located → List Taken
-declared used l =
-    map (taken (is_register_kind l.segment.kind)) (declared_names l.action)
-    ++ (if statement_uses_stack l.action && not used then taken false stack_name ∷ [] else [])
+abbrev pub declared : Bool → SegKind → ActionTree → List Taken
+declared used kind action =
+    map (taken (is_register_kind kind)) (declared_names action)
+    ++ (if statement_uses_stack action && not used then taken false stack_name ∷ [] else [])
 
 unfoldable pub externals_from : Bool → List Located → List Taken
 externals_from used [] = []
-externals_from used (l ∷ ls) = declared used l ++ externals_from (used || statement_uses_stack l.action) ls
+externals_from used (l ∷ ls) = declared used l.segment.kind l.action ++ externals_from (used || statement_uses_stack l.action) ls
 
 abbrev pub externals : List Located → List Taken
 externals ls = externals_from false ls

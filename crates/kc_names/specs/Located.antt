@@ -10,15 +10,11 @@ use Rattle.kc_expr.specs.declared.values.Tag.TheVariants.{Register, Memory}
 use Rattle.kc_expr.specs.declared.values.Value.{Value}
 use Rattle.kc_expr.specs.Tree.{Tree}
 use Rattle.kc_statement.specs.declared.statement.Stmt.{Stmt}
-use Rattle.kc_statement.specs.Trees.{ActionTree, action_tree}
-use Rattle.kc_statement.specs.Trees as trees
+use Rattle.kc_statement.specs.Trees.{ActionTree, action_tree, Bare, Module, Cseg, Dseg, Rseg, Sseg, Public, Extrn, Equ, Set, Define, Reserve, Org, Even, End, Operation}
+use Rattle.kc_names.specs.declared.segments.Segment.{Segment}
 
--- The segment in force: the number and the kind of its piece, and how many pieces there are so far. The relocatable
+-- Of the segment in force: the number and the kind of its piece, and how many pieces there are so far. The relocatable
 -- pieces are 0 (registers), 1 (code) and 2 (data); absolute ones follow in the order of the source.
-pub record Segment : Type 0 where
-  pub piece : ℕ
-  pub kind : SegKind
-  pub count : ℕ
 
 abbrev pub first_segment : Segment
 first_segment = record { piece = 1; kind = Code; count = 3 }
@@ -35,10 +31,22 @@ opened kind None g = record g { piece = piece_of_kind kind; kind = kind }
 opened kind (Some at) g = record { piece = g.count; kind = kind; count = g.count + 1 }
 
 abbrev pub segment_after : Segment → ActionTree → Segment
-segment_after g (trees.Cseg at) = opened Code at g
-segment_after g (trees.Dseg at) = opened Ram at g
-segment_after g (trees.Rseg at) = opened Reg at g
-segment_after g _ = g
+segment_after g (Cseg at) = opened Code at g
+segment_after g (Dseg at) = opened Ram at g
+segment_after g (Rseg at) = opened Reg at g
+segment_after g Bare = g
+segment_after g (Module name stack) = g
+segment_after g (Sseg size) = g
+segment_after g (Public names) = g
+segment_after g (Extrn names) = g
+segment_after g (Equ name x) = g
+segment_after g (Set name x) = g
+segment_after g (Define size items) = g
+segment_after g (Reserve size x) = g
+segment_after g (Org x) = g
+segment_after g Even = g
+segment_after g End = g
+segment_after g (Operation name args) = g
 
 -- A statement and where it stands. The place is that of its label and of `$`: an offset, or in an absolute piece an address.
 pub record Located : Type 0 where
@@ -48,12 +56,13 @@ pub record Located : Type 0 where
   pub segment : Segment
   pub place : ℕ
 
+abbrev pub located_at : Segment → ℕ → Stmt → Located
+located_at g place s = record { line = s.line; label = s.label; action = action_tree s.action; segment = g; place = place }
+
 -- the statements from one on, where the places of all are told by their numbers
 unfoldable pub located_from : (ℕ → ℕ) → ℕ → Segment → List Stmt → List Located
 located_from places i g [] = []
-located_from places i g (s ∷ ss) =
-    record { line = s.line; label = s.label; action = action_tree s.action; segment = g; place = places i }
-    ∷ located_from places (i + 1) (segment_after g (action_tree s.action)) ss
+located_from places i g (s ∷ ss) = located_at g (places i) s ∷ located_from places (i + 1) (segment_after g (action_tree s.action)) ss
 
 abbrev pub located : (ℕ → ℕ) → List Stmt → List Located
 located places ss = located_from places 0 first_segment ss
@@ -72,5 +81,8 @@ tag_of Code = Memory
 tag_of Ram = Memory
 tag_of Stack = Memory
 
+abbrev pub value_at : Segment → ℕ → Value
+value_at g place = record { base = base_of g; tag = tag_of g.kind; number = place % 65536 }
+
 abbrev pub place_value : Located → Value
-place_value l = record { base = base_of l.segment; tag = tag_of l.segment.kind; number = l.place % 65536 }
+place_value l = value_at l.segment l.place

@@ -1,2 +1,6 @@
 //! What names mean at each statement of a source.
 #![tactic(auto)]
+
+mod segments;
+
+pub use segments::Segment;
