@@ -1,3 +1,5 @@
 pub mod Located
 pub mod Externals
 pub mod Meanings
+pub mod Tables
+pub mod Walk
