@@ -1,3 +1,4 @@
 pub mod SegmentLemmas
 pub mod ExternalLemmas
 pub mod TableLemmas
+pub mod EarlierLemmas
