@@ -2,3 +2,4 @@ pub mod SegmentLemmas
 pub mod ExternalLemmas
 pub mod TableLemmas
 pub mod EarlierLemmas
+pub mod WalkLemmas

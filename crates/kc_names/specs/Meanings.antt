@@ -1,7 +1,7 @@
 -- What names mean at a statement. EQU and SET use names of earlier lines and any labels; every other statement uses all
 -- names of the module, and of a name that SET defines the latest value before it. A fault of a definition is told there
 -- alone: at a use its code is above all others (after the MCS-96 Macro Assembler User's Guide, "EQU and SET").
-use Rattle.std.specs.Prelude.{ℕ, Bool, true, false, if◌then◌else◌, List, [], ◌∷◌, reverse, Option, Some, None, Result, Ok, Err}
+use Rattle.std.specs.Prelude.{ℕ, Bool, true, false, ◌||◌, if◌then◌else◌, List, [], ◌∷◌, reverse, Option, Some, None, Result, Ok, Err}
 use Rattle.std.specs.List.{list_any}
 use Rattle.std.specs.Str.{bytes_eq}
 use Rattle.kc_expr.specs.declared.values.Value.{Value}
@@ -113,6 +113,10 @@ is_set_by (Operation _ args) name = false
 
 unfoldable pub is_set : List Located → List ℕ → Bool
 is_set all name = list_any (λ l. is_set_by l.action name) all
+
+-- the names that SET defines, with those of one statement more
+abbrev pub with_set : ActionTree → (List ℕ → Bool) → List ℕ → Bool
+with_set action marked name = is_set_by action name || marked name
 
 abbrev pub is_definition : ActionTree → Bool
 is_definition (Equ name x) = true
