@@ -3,3 +3,5 @@ pub mod ExternalLemmas
 pub mod TableLemmas
 pub mod EarlierLemmas
 pub mod WalkLemmas
+pub mod AlikeLemmas
+pub mod PlaceLemmas

@@ -3,3 +3,4 @@ pub mod Externals
 pub mod Meanings
 pub mod Tables
 pub mod Walk
+pub mod Alike

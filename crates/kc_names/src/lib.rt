@@ -3,10 +3,12 @@
 
 mod earlier;
 mod external_names;
+mod laws;
 mod meanings;
 mod segments;
 mod table;
 
 pub use external_names::externals;
+pub use laws::meanings_do_not_depend_on_places;
 pub use meanings::Meanings;
 pub use segments::Segment;
