@@ -116,7 +116,7 @@ pub means : (m : Meanings) (all before : List Located) (l : Located) → IsBehin
 means m all before l is place defines =
     let each : (q : List ℕ) → at_statement m q ≡ meaning all before l q
     = λ q. (λ i. cond (bytes_eq q here) (Ok (place i)) (cond (defines i || is.set i q) (is.earlier.latest i q) (is.last i q)))
-        ∙ ap (λ a. cond (bytes_eq q here) (Ok (place_value l)) a) (by_kind (is_definition l.action) q) in
+    ∙ ap (λ a. cond (bytes_eq q here) (Ok (place_value l)) a) (by_kind (is_definition l.action) q) in
     λ i q. each q i
   where
     by_kind : (b : Bool) (q : List ℕ) → cond (b || is_set all q) (earlier all before q) (in_all all q) ≡ cond b (earlier all before) (throughout all before) q

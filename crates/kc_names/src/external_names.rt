@@ -105,7 +105,12 @@ fn is_register_kind(kind: SegKind) -> bool
     }
 }
 
-fn push_name(taken: &mut Vec<Taken>, alloc: Global, register: bool, name: &[u8]) -> Result<(), NoMemory>
+fn push_name(
+    taken: &mut Vec<Taken>,
+    alloc: Global,
+    register: bool,
+    name: &[u8],
+) -> Result<(), NoMemory>
     ensures { OnOk result (taken.new.items ≡ taken.old.items ++ spec.taken register name.now ∷ []) }
 {
     let name = Text::of(alloc, name)?;
@@ -113,7 +118,12 @@ fn push_name(taken: &mut Vec<Taken>, alloc: Global, register: bool, name: &[u8])
     Ok(())
 }
 
-fn push_names(taken: &mut Vec<Taken>, alloc: Global, register: bool, names: &[Text]) -> Result<(), NoMemory>
+fn push_names(
+    taken: &mut Vec<Taken>,
+    alloc: Global,
+    register: bool,
+    names: &[Text],
+) -> Result<(), NoMemory>
     ensures { OnOk result (taken.new.items ≡ taken.old.items ++ map (spec.taken register) names.now) }
 {
     for name in names {

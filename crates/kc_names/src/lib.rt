@@ -12,3 +12,6 @@ pub use external_names::externals;
 pub use laws::meanings_do_not_depend_on_places;
 pub use meanings::Meanings;
 pub use segments::Segment;
+
+#[cfg(test)]
+mod tests;

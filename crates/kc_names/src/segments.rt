@@ -1,4 +1,4 @@
-ghost use Rattle.std.specs.Prelude.{◌≡◌, ◌+◌, ◌<◌, ◌^◌};
+ghost use Rattle.std.specs.Prelude.{◌≡◌, ◌+◌, ◌<◌, ◌≤◌, ◌^◌};
 ghost use Rattle.std.specs.Option.{option_map};
 ghost use Rattle.kc_expr.specs.Tree.{tree_of};
 ghost use Rattle.kc_statement.specs.Trees.{action_tree};
@@ -33,7 +33,8 @@ impl Segment {
     /// That behind a statement.
     pub fn after(self, action: &Action) -> Segment
         requires { self.count + 1 < 2 ^ 64 }
-        ensures { result ≡ spec.segment_after self (action_tree action.now) }
+        ensures value { result ≡ spec.segment_after self (action_tree action.now) }
+        ensures few { result.count ≤ self.count + 1 }
     {
         match action {
             Action::Cseg(at) => self.opened(SegKind::Code, at),
@@ -45,7 +46,8 @@ impl Segment {
 
     fn opened(self, kind: SegKind, at: &Option<Expr>) -> Segment
         requires { self.count + 1 < 2 ^ 64 }
-        ensures { result ≡ spec.opened kind (option_map tree_of at.now) self }
+        ensures value { result ≡ spec.opened kind (option_map tree_of at.now) self }
+        ensures few { result.count ≤ self.count + 1 }
     {
         match at {
             None => Segment {

@@ -33,9 +33,9 @@ loop-i-preserved c =
     let split : drop i stmts ≡ s ∷ drop (i + 1) stmts = front stmts i s c.loop-i-test.true c.index-stmts-i.is in
     let grown : next ≡ with_label s.label (value_at g (places i)) look = c.in_ok-set_label.ensures ∙ ap (λ v. with_label s.label v look) c.value_at.ensures in
     record {
-      few = few_pieces g c.after-segment.result (action_tree s.action) i c.after-segment.ensures c.loop-i.invariant.few;
+      few = few_pieces g c.after-segment.result (action_tree s.action) i c.after-segment.ensures.value c.loop-i.invariant.few;
       clean = clean_more s.label (value_at g (places i)) look next grown c.loop-i.invariant.clean;
-      so_far = label_more places i g c.after-segment.result s (drop (i + 1) stmts) look next all grown c.after-segment.ensures
+      so_far = label_more places i g c.after-segment.result s (drop (i + 1) stmts) look next all grown c.after-segment.ensures.value
           (subst (λ (ss : List Stmt). (q : List ℕ) → first_of (look q) (label_answer (located_from places i g ss) q) ≡ all q) split c.loop-i.invariant.so_far);
     }
 

@@ -16,9 +16,9 @@ loop-stmt-preserved c =
     let ts = c.loop-stmt.taken.items in
     let split : drop i stmts ≡ s ∷ drop (i + 1) stmts = front stmts i s c.loop-stmt-test.true c.stmt-item.is in
     record {
-      few = few_pieces g c.after-segment.result (action_tree s.action) i c.after-segment.ensures c.loop-stmt.invariant.few;
+      few = few_pieces g c.after-segment.result (action_tree s.action) i c.after-segment.ensures.value c.loop-stmt.invariant.few;
       so_far = λ places. declares places i g c.after-segment.result c.loop-stmt.used c.in_ok-used.used s (drop (i + 1) stmts) ts c.push_declared.new.taken.items (externals (located places stmts))
-          c.in_ok-used.ensures.items c.in_ok-used.ensures.used c.after-segment.ensures
+          c.in_ok-used.ensures.items c.in_ok-used.ensures.used c.after-segment.ensures.value
           (subst (λ (ss : List Stmt). ts ++ externals_from c.loop-stmt.used (located_from places i g ss) ≡ externals (located places stmts)) split (c.loop-stmt.invariant.so_far places));
     }
 

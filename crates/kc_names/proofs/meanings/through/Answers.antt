@@ -36,8 +36,8 @@ loop-i-preserved c =
     let latest : answers f.latest ≡ behind (answers e.taken) a (value_at g (places i)) (answers e.latest)
     = c.in_ok-leave.ensures.latest ∙ (λ j. behind (answers (c.enter.ensures.taken j)) a (c.enter.ensures.here j) (answers (c.enter.ensures.latest j))) in
     record {
-      few = few_pieces g c.after-segment.result a i c.after-segment.ensures c.loop-i.invariant.few;
-      passing = subst (λ (ls : List Located). Passing f all ls) (λ j. located_from places (i + 1) (sym c.after-segment.ensures j) (drop (i + 1) stmts))
+      few = few_pieces g c.after-segment.result a i c.after-segment.ensures.value c.loop-i.invariant.few;
+      passing = subst (λ (ls : List Located). Passing f all ls) (λ j. located_from places (i + 1) (sym c.after-segment.ensures.value j) (drop (i + 1) stmts))
           (passes e f all (located_from places (i + 1) (segment_after g a) (drop (i + 1) stmts)) (located_at g (places i) s) taken latest (subst (λ (ls : List Located). Passing e all ls) split_located c.loop-i.invariant.passing));
     }
 
