@@ -5,3 +5,4 @@ pub mod EarlierLemmas
 pub mod WalkLemmas
 pub mod AlikeLemmas
 pub mod PlaceLemmas
+pub mod FewLemmas

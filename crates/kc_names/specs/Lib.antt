@@ -4,3 +4,4 @@ pub mod Meanings
 pub mod Tables
 pub mod Walk
 pub mod Alike
+pub mod Few

@@ -9,7 +9,7 @@ mod segments;
 mod table;
 
 pub use external_names::externals;
-pub use laws::meanings_do_not_depend_on_places;
+pub use laws::{externals_are_few, meanings_do_not_depend_on_places};
 pub use meanings::Meanings;
 pub use segments::Segment;
 
