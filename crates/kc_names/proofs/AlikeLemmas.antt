@@ -1,6 +1,6 @@
 -- Expressions over answers that are alike.
 use Rattle.std.proofs.Common.{◌≡◌, ℕ, ◌+◌, ◌-◌, ◌%◌, Bool, true, false, cond, ◌&&◌, List, refl, sym, ap, subst, ◌∙◌}
-use Rattle.std.specs.Prelude.{◌==◌, min, Option, Some, None, Result, Ok, Err}
+use Rattle.std.specs.Prelude.{◌==◌, min, Ok, Err}
 use Rattle.kc_expr.specs.declared.values.Base.{Base}
 use Rattle.kc_expr.specs.declared.values.Base.TheVariants.{Absolute}
 use Rattle.kc_expr.specs.declared.values.Tag.{Tag}

@@ -1,6 +1,6 @@
 -- What names mean by the statements before one, a statement at a time.
-use Rattle.std.proofs.Common.{◌≡◌, ℕ, suc, ◌+◌, ◌-◌, ◌<◌, ◌≤◌, Bool, true, false, cond, ◌||◌, List, [], ◌∷◌, length, drop, get_or, refl, sym, ap, subst, ◌∙◌, arith}
-use Rattle.std.specs.Prelude.{Option, Some, None, Result, Ok, Err}
+use Rattle.std.proofs.Common.{◌≡◌, ℕ, suc, ◌+◌, ◌<◌, ◌≤◌, Bool, true, false, cond, ◌||◌, List, [], ◌∷◌, length, drop, get_or, refl, sym, ap, subst, ◌∙◌, arith}
+use Rattle.std.specs.Prelude.{Option, Some, None, Ok, Err}
 use Rattle.std.specs.List.{list_any}
 use Rattle.std.specs.Str.{bytes_eq}
 use Rattle.std.specs.Cmp.Lexicographic.{bytes_decides}
@@ -12,10 +12,10 @@ use Rattle.kc_expr.specs.declared.values.Value.{Value}
 use Rattle.kc_expr.specs.Tree.{Tree}
 use Rattle.kc_expr.specs.Meaning.{Answer, answer_by}
 use Rattle.kc_statement.specs.declared.statement.Stmt.{Stmt}
-use Rattle.kc_statement.specs.Trees.{ActionTree, action_tree}
+use Rattle.kc_statement.specs.Trees.{action_tree}
 use Rattle.kc_names.specs.declared.segments.Segment.{Segment}
 use Rattle.kc_names.specs.Tables.{updated, nothing}
-use Rattle.kc_names.specs.Located.{Located, located, located_from, value_at, segment_after}
+use Rattle.kc_names.specs.Located.{Located, located_from, value_at, segment_after}
 use Rattle.kc_names.specs.Externals.{external_in, tag_of_taken, stack_name}
 use Rattle.kc_names.specs.Meanings.{or_told, is_label, label_answer, everywhere, external_answer, first_of, with_label, with_taken, by_definition, earlier}
 

@@ -9,7 +9,7 @@ use Rattle.std.proofs.lemmas.List.Folds.{list_any-append}
 use Rattle.kc_obj.specs.declared.parts.Taken.{Taken}
 use Rattle.kc_expr.specs.Tree.{Tree}
 use Rattle.kc_statement.specs.declared.statement.Stmt.{Stmt}
-use Rattle.kc_statement.specs.Trees.{ActionTree, action_tree}
+use Rattle.kc_statement.specs.Trees.{action_tree}
 use Rattle.kc_names.specs.declared.segments.Segment.{Segment}
 use Rattle.kc_names.specs.Located.{located_from, segment_after}
 use Rattle.kc_names.specs.Externals.{uses_stack, all_trees, declared, statement_uses_stack, externals_from}

@@ -1,23 +1,21 @@
 -- How many externals the statements of a source without a fault have.
-use Rattle.std.proofs.Common.{◌≡◌, ℕ, suc, zero, ◌+◌, ◌<◌, ◌≤◌, Bool, true, false, cond, not, ◌||◌, ◌&&◌, List, [], ◌∷◌, ◌++◌, length, refl, sym, ap, subst, ◌∙◌, arith, length-append}
-use Rattle.std.specs.Prelude.{map, nat_le, Option, Some, None, Result, Ok, Err}
+use Rattle.std.proofs.Common.{◌≡◌, ℕ, ◌+◌, ◌<◌, ◌≤◌, Bool, true, false, cond, not, ◌||◌, ◌&&◌, List, [], ◌∷◌, ◌++◌, length, refl, ap, arith, length-append}
+use Rattle.std.specs.Prelude.{map, nat_le, Option, Some, None}
 use Rattle.std.specs.Option.{option_to_list}
 use Rattle.std.specs.Str.{bytes_eq}
 use Rattle.std.proofs.lemmas.List.{length-map}
 use Rattle.std.proofs.lemmas.Bool.Decides.{nat_tests}
-use Rattle.kc_lex.specs.declared.token.Line.{Line}
 use Rattle.kc_obj.specs.declared.parts.SegKind.{SegKind}
-use Rattle.kc_obj.specs.declared.parts.Taken.{Taken}
 use Rattle.kc_statement.specs.declared.statement.Stmt.{Stmt}
 use Rattle.kc_statement.specs.Trees.{ActionTree, action_tree, Bare, Module, Cseg, Dseg, Rseg, Sseg, Public, Extrn, Equ, Set, Define, Reserve, Org, Even, End, Operation}
 use Rattle.kc_source.specs.declared.uses.Use.{Use}
 use Rattle.kc_source.specs.declared.uses.UseKind.{UseKind}
 use Rattle.kc_source.specs.declared.uses.UseKind.TheVariants.{Once, Again, Given}
 use Rattle.kc_source.specs.declared.uses.UseKind.TheVariants as uses
-use Rattle.kc_source.specs.Faults.{Fault, is_before, lesser, least, at_line, has_use, is_once, is_again, is_taken, is_defined, is_named, brings_name, name_count, is_one_too_many, use_code, name_faults, line_faults, faults_of, Said, all_said, use_of, label_uses, action_uses, uses_of, all_uses, stmt_said, AreStatements}
+use Rattle.kc_source.specs.Faults.{Fault, is_before, lesser, least, at_line, has_use, is_once, is_again, is_taken, is_defined, brings_name, name_count, is_one_too_many, use_code, name_faults, line_faults, faults_of, all_said, use_of, label_uses, action_uses, uses_of, all_uses, stmt_said}
 use Rattle.kc_names.specs.declared.segments.Segment.{Segment}
-use Rattle.kc_names.specs.Located.{Located, located, located_from, located_at, segment_after, first_segment}
-use Rattle.kc_names.specs.Externals.{declared_names, declared, statement_uses_stack, is_register_kind, taken, stack_name, externals, externals_from}
+use Rattle.kc_names.specs.Located.{located_from, segment_after, first_segment}
+use Rattle.kc_names.specs.Externals.{declared_names, declared, statement_uses_stack, is_register_kind, taken, stack_name, externals_from}
 use Rattle.kc_names.specs.Few.{ExternalsAreFew}
 
 -- ---- uses that take a name

@@ -1,20 +1,19 @@
 -- Statements in two layouts, and what names mean in both.
-use Rattle.std.proofs.Common.{◌≡◌, ℕ, suc, zero, ◌+◌, ◌%◌, Bool, true, false, cond, ◌||◌, List, [], ◌∷◌, ◌++◌, reverse, length, refl, sym, ap, subst, ◌∙◌}
-use Rattle.std.specs.Prelude.{nat_le, Option, Some, None, Result, Ok, Err}
+use Rattle.std.proofs.Common.{◌≡◌, ℕ, suc, ◌+◌, ◌%◌, Bool, true, false, cond, ◌||◌, List, [], ◌∷◌, ◌++◌, reverse, length, refl, sym, ap, subst, ◌∙◌}
+use Rattle.std.specs.Prelude.{Option, Some, None, Ok, Err}
 use Rattle.std.specs.Str.{bytes_eq}
 use Rattle.std.proofs.lemmas.List.{reverse-append, reverse-reverse, length-reverse}
 use Rattle.kc_expr.specs.declared.values.Base.TheVariants.{Absolute, Piece}
-use Rattle.kc_expr.specs.declared.values.Value.{Value}
 use Rattle.kc_expr.specs.Tree.{Tree}
 use Rattle.kc_expr.specs.Meaning.{Answer, answer_by, is_fixed, here}
 use Rattle.kc_statement.specs.declared.statement.Stmt.{Stmt}
 use Rattle.kc_statement.specs.Trees.{ActionTree, action_tree}
 use Rattle.kc_names.specs.declared.segments.Segment.{Segment}
 use Rattle.kc_names.specs.Located.{Located, located, located_from, is_absolute, base_of, tag_of, place_value, segment_after, first_segment}
-use Rattle.kc_names.specs.Externals.{declared, statement_uses_stack, externals, externals_from, external_in, stack_name}
-use Rattle.kc_names.specs.Meanings.{or_told, is_label, label_answer, external_answer, everywhere, with_here, is_taken_by, defines, by_definition, behind, earlier, is_set, is_set_by, is_definition, in_all, throughout, meaning}
-use Rattle.kc_names.specs.Alike.{AreAlikeValues, AreAlike, MeaningsDoNotDependOnPlaces}
-use Rattle.kc_names.proofs.AlikeLemmas.{alike, alike_same, places_alike, expressions_alike}
+use Rattle.kc_names.specs.Externals.{declared, statement_uses_stack, externals_from, external_in, stack_name}
+use Rattle.kc_names.specs.Meanings.{or_told, is_label, label_answer, external_answer, with_here, is_taken_by, defines, by_definition, behind, earlier, is_set, is_set_by, is_definition, in_all, throughout, meaning}
+use Rattle.kc_names.specs.Alike.{AreAlike, MeaningsDoNotDependOnPlaces}
+use Rattle.kc_names.proofs.AlikeLemmas.{alike, places_alike, expressions_alike}
 
 -- a statement, and the same at another place
 record IsMoved (l m : Located) : Type 0 where

@@ -1,21 +1,20 @@
 -- A walk over the statements, one statement at a time.
-use Rattle.std.proofs.Common.{◌≡◌, ℕ, ◌+◌, ◌≤◌, Bool, true, false, cond, ◌||◌, List, [], ◌∷◌, ◌++◌, reverse, length, drop, refl, sym, ap, subst, ◌∙◌, append_assoc, arith}
-use Rattle.std.specs.Prelude.{Option, Some, None, Result, Ok, Err}
+use Rattle.std.proofs.Common.{◌≡◌, ℕ, ◌+◌, ◌≤◌, Bool, true, false, cond, ◌||◌, List, [], ◌∷◌, ◌++◌, reverse, length, drop, refl, sym, ap, subst, ◌∙◌, append_assoc}
+use Rattle.std.specs.Prelude.{Ok}
 use Rattle.std.specs.List.{list_any}
 use Rattle.std.specs.Str.{bytes_eq}
 use Rattle.std.proofs.lemmas.List.{reverse-append}
 use Rattle.std.proofs.Math.ListN.{drop_of_length-le}
-use Rattle.kc_expr.specs.Meaning.{Answer, answer_by, here}
+use Rattle.kc_expr.specs.Meaning.{here}
 use Rattle.kc_statement.specs.declared.statement.Stmt.{Stmt}
-use Rattle.kc_statement.specs.Trees.{ActionTree, action_tree}
+use Rattle.kc_statement.specs.Trees.{action_tree}
 use Rattle.kc_names.specs.declared.earlier.Earlier.{Earlier}
 use Rattle.kc_names.specs.declared.meanings.Meanings.{Meanings}
 use Rattle.kc_names.specs.declared.segments.Segment.{Segment}
-use Rattle.kc_names.specs.Tables.{answers, is_marked, updated, no_name}
-use Rattle.kc_names.specs.Located.{Located, located, located_from, located_at, value_at, place_value, segment_after, first_segment}
-use Rattle.kc_names.specs.Meanings as spec
+use Rattle.kc_names.specs.Tables.{answers, updated, no_name}
+use Rattle.kc_names.specs.Located.{Located, located, located_from, located_at, place_value, segment_after, first_segment}
 use Rattle.kc_names.specs.Meanings.{behind, external_answer, earlier, is_set, is_set_by, with_set, in_all, meaning, throughout, is_definition}
-use Rattle.kc_names.specs.Walk.{at_statement, IsEarlier, IsBehind, IsAt}
+use Rattle.kc_names.specs.Walk.{at_statement, IsEarlier, IsBehind}
 
 -- ---- one statement
 

@@ -1,6 +1,6 @@
 -- What does not depend on where statements stand: the bytes of a statement are as many wherever the labels are. Two
 -- layouts give each expression the same code, or values of one base and one tag, and of one number where it is fixed.
-use Rattle.std.specs.Prelude.{◌≡◌, ℕ, true, List, [], ◌∷◌, ◌++◌, reverse, length, Result, Ok, Err}
+use Rattle.std.specs.Prelude.{◌≡◌, ℕ, true, List, ◌∷◌, ◌++◌, reverse, length, Ok, Err}
 use Rattle.kc_expr.specs.declared.values.Value.{Value}
 use Rattle.kc_expr.specs.Tree.{Tree}
 use Rattle.kc_expr.specs.Meaning.{Answer, answer_by, is_fixed}

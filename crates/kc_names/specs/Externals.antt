@@ -1,6 +1,6 @@
 -- The externals of a module: the names that EXTRN takes, in the order of their declaration, and STACK, the address after
 -- the stack, where it is first used (after the MCS-96 Macro Assembler User's Guide, "EXTRN" and "SSEG").
-use Rattle.std.specs.Prelude.{ℕ, zero, suc, ◌+◌, Bool, true, false, not, ◌&&◌, ◌||◌, if◌then◌else◌, List, [], ◌∷◌, ◌++◌, map, codes, Option, Some, None, Result, Ok, Err}
+use Rattle.std.specs.Prelude.{ℕ, ◌+◌, Bool, true, false, not, ◌&&◌, ◌||◌, if◌then◌else◌, List, [], ◌∷◌, ◌++◌, map, codes, Option, Some, None, Ok, Err}
 use Rattle.std.specs.List.{list_any}
 use Rattle.std.specs.Str.{bytes_eq}
 use Rattle.kc_obj.specs.declared.parts.SegKind.{SegKind}

@@ -1,5 +1,5 @@
 -- How far a walk over the statements has come, and what it has there of the names.
-use Rattle.std.specs.Prelude.{◌≡◌, ℕ, Bool, ◌||◌, if◌then◌else◌, List, ◌∷◌, Ok}
+use Rattle.std.specs.Prelude.{◌≡◌, ℕ, ◌||◌, if◌then◌else◌, List, Ok}
 use Rattle.std.specs.Str.{bytes_eq}
 use Rattle.kc_expr.specs.Meaning.{Answer, here}
 use Rattle.kc_names.specs.declared.earlier.Earlier.{Earlier}

@@ -1,4 +1,4 @@
-use Rattle.std.proofs.Common.{◌≡◌, ℕ, ◌+◌, ◌≤◌, List, length, drop}
+use Rattle.std.proofs.Common.{◌≡◌, ℕ, ◌+◌, ◌≤◌, List, drop}
 use Rattle.std.specs.Prelude.{slice_index}
 use Rattle.kc_names.specs.Located.{located, located_from}
 use Rattle.kc_names.specs.Meanings.{label_answer, first_of}

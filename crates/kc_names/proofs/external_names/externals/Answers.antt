@@ -1,4 +1,4 @@
-use Rattle.std.proofs.Common.{◌≡◌, ◌++◌, ◌+◌, ◌∷◌, drop, ap, ◌∙◌, subst, List}
+use Rattle.std.proofs.Common.{◌≡◌, ◌++◌, ◌+◌, ◌∷◌, drop, subst, List}
 use Rattle.kc_statement.specs.Trees.{action_tree}
 use Rattle.kc_statement.specs.declared.statement.Stmt.{Stmt}
 use Rattle.kc_names.specs.Located.{located, located_from}

@@ -1,6 +1,5 @@
-use Rattle.std.proofs.Common.{◌≡◌, ◌+◌, ◌∷◌, List, ℕ, drop, sym, ap, subst, ◌∙◌, arith}
+use Rattle.std.proofs.Common.{◌≡◌, ◌+◌, ◌∷◌, List, drop, sym, ap, subst, ◌∙◌, arith}
 use Rattle.std.specs.Prelude.{slice_index}
-use Rattle.kc_statement.specs.declared.statement.Stmt.{Stmt}
 use Rattle.kc_statement.specs.Trees.{action_tree}
 use Rattle.kc_names.specs.Tables.{answers}
 use Rattle.kc_names.specs.Located.{Located, located, located_from, located_at, value_at, segment_after}

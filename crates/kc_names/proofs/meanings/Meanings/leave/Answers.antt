@@ -1,7 +1,5 @@
-use Rattle.std.proofs.Common.{◌≡◌, sym, ap, ◌∙◌}
-use Rattle.kc_statement.specs.Trees.{action_tree}
+use Rattle.std.proofs.Common.{sym, ◌∙◌}
 use Rattle.kc_names.specs.Tables.{answers}
-use Rattle.kc_names.specs.Located.{place_value}
 use Rattle.kc_names.specs.Meanings.{behind}
 use Rattle.kc_names.proofs.WalkLemmas.{goes_behind}
 use Rattle.kc_names.proofs.meanings.Meanings.leave.Goals as goal

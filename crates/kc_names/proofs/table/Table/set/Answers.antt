@@ -1,4 +1,4 @@
-use Rattle.std.specs.Prelude.{Err, true, false}
+use Rattle.std.specs.Prelude.{Err}
 use Rattle.kc_names.proofs.TableLemmas.{one_set}
 use Rattle.kc_names.proofs.table.Table.set.Goals as goal
 
