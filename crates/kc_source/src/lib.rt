@@ -5,7 +5,7 @@ mod faults;
 mod laws;
 mod names;
 mod pass;
-mod uses;
+pub mod uses;
 
 pub use kc_statement::{Action, Arg, Args, Item, Items, Names, Stmt};
 pub use laws::names_are_clear;

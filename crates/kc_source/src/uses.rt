@@ -2,7 +2,7 @@ use kc_base::Text;
 
 /// How a statement uses a name.
 #[derive(Clone, Copy, Debug, PartialEq, Eq)]
-pub(crate) enum UseKind {
+pub enum UseKind {
     /// defined for once, as a label or by EQU
     Once,
     /// defined by SET
@@ -15,7 +15,7 @@ pub(crate) enum UseKind {
 
 /// The use of a name on a line.
 #[derive(Debug, Drop)]
-pub(crate) struct Use {
+pub struct Use {
     pub line: u32,
     pub name: Text,
     pub kind: UseKind,

@@ -1,0 +1,26 @@
+use Rattle.std.proofs.Common.{◌≡◌, ◌++◌, ◌+◌, ◌∷◌, drop, subst, List}
+use Rattle.kc_statement.specs.Trees.{action_tree}
+use Rattle.kc_statement.specs.declared.statement.Stmt.{Stmt}
+use Rattle.kc_names.specs.Located.{located, located_from}
+use Rattle.kc_names.specs.Externals.{externals, externals_from}
+use Rattle.kc_names.proofs.SegmentLemmas.{few_pieces}
+use Rattle.kc_names.proofs.ExternalLemmas.{front, declares, all_declared}
+use Rattle.kc_names.proofs.external_names.externals.Goals as goal
+
+pub loop-stmt-preserved : goal.loop-stmt-preserved
+loop-stmt-preserved c =
+    let stmts = c.args.stmts.now in
+    let i = c.loop-stmt.stmt-index in
+    let s = c.stmt-item.result in
+    let g = c.loop-stmt.segment in
+    let ts = c.loop-stmt.taken.items in
+    let split : drop i stmts ≡ s ∷ drop (i + 1) stmts = front stmts i s c.loop-stmt-test.true c.stmt-item.is in
+    record {
+      few = few_pieces g c.after-segment.result (action_tree s.action) i c.after-segment.ensures.value c.loop-stmt.invariant.few;
+      so_far = λ places. declares places i g c.after-segment.result c.loop-stmt.used c.in_ok-used.used s (drop (i + 1) stmts) ts c.push_declared.new.taken.items (externals (located places stmts))
+          c.in_ok-used.ensures.items c.in_ok-used.ensures.used c.after-segment.ensures.value
+          (subst (λ (ss : List Stmt). ts ++ externals_from c.loop-stmt.used (located_from places i g ss) ≡ externals (located places stmts)) split (c.loop-stmt.invariant.so_far places));
+    }
+
+pub returns : goal.returns
+returns c = λ places. all_declared places c.loop-stmt.segment c.loop-stmt.used c.args.stmts.now c.loop-stmt.stmt-index c.loop-stmt.taken.items (externals (located places c.args.stmts.now)) c.loop-stmt-test.false (c.loop-stmt.invariant.so_far places)
