@@ -81,36 +81,40 @@ unfoldable pub places : List Piece → List Form → ℕ → List ℕ
 places [] fs here = here ∷ []
 places (x ∷ xs) fs here = here ∷ places xs (forms_after x fs) (end_of x (head_form fs) here)
 
--- whether a branch that ends at `end` reaches its target in the layout with these places;
--- another segment or module is reached by the third form alone
 abbrev pub is_third : Form → Bool
 is_third First = false
 is_third Second = false
 is_third Third = true
 
+-- whether a branch that ends at `end` reaches its target in the layout with these places; another segment or module is
+-- reached by the third form alone
 abbrev pub reaches : List ℕ → BranchKind → Option (ℕ × ℤ) → Form → ℕ → Bool
 reaches at kind None f end = is_third f
 reaches at kind (Some target) f end = spans kind f ((pos (slice_index at target.0) +ℤ target.1) -ℤ pos end)
+
+-- the same of a piece; one that is no branch has nothing to reach
+abbrev pub piece_reaches : List ℕ → Piece → Form → ℕ → Bool
+piece_reaches at (Bytes n) f end = true
+piece_reaches at Even f end = true
+piece_reaches at (At place) f end = true
+piece_reaches at (Branch kind target) f end = reaches at kind target f end
 
 -- ---- rounds
 
 -- the form of a branch after a round
 abbrev pub next_form : List ℕ → Piece → Form → ℕ → Form
-next_form at (Bytes n) f end = f
-next_form at Even f end = f
-next_form at (At place) f end = f
-next_form at (Branch kind target) f end = if reaches at kind target f end then f else longer f
+next_form at x f end = if piece_reaches at x f end then f else longer f
 
 -- the forms from a piece on, where those of the later pieces are known
 abbrev pub with_form : Piece → Form → List Form → List Form
 with_form x f fs = if is_branch x then f ∷ fs else fs
 
--- each branch that does not reach its target takes its next form
+-- each branch that does not reach its target takes its next form; the first piece is the k-th of the layout, so that it
+-- ends at the place k + 1
 unfoldable pub raised : List ℕ → List Piece → List Form → ℕ → List Form
-raised at [] fs here = []
-raised at (x ∷ xs) fs here =
-    let end = end_of x (head_form fs) here in
-    with_form x (next_form at x (head_form fs) end) (raised at xs (forms_after x fs) end)
+raised at [] fs k = []
+raised at (x ∷ xs) fs k =
+    with_form x (next_form at x (head_form fs) (slice_index at (k + 1))) (raised at xs (forms_after x fs) (k + 1))
 
 abbrev pub round : List Piece → List Form → List Form
 round pieces fs = raised (places pieces fs 0) pieces fs 0

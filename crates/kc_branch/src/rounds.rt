@@ -1,17 +1,24 @@
 //! Rounds over whole layouts.
 
-ghost use Rattle.std.specs.Prelude.{◌≡◌, ◌<◌, ◌^◌, true, IsTrue, ◌↔◌, length, IfOk};
+ghost use Rattle.std.specs.Prelude.{◌≡◌, ◌<◌, ◌^◌, true, IsTrue, ◌↔◌, length, slice_index, IfOk};
 ghost use Rattle.kc_branch.specs.Forms as spec;
 
 use kc_base::NoMemory;
 use std::alloc::Global;
 
 use crate::branch::{away, longer, spans};
-use crate::layout::{end_of, forms_after, head_form, places};
+use crate::layout::{forms_after, head_form, places};
 use crate::piece::{BranchKind, Form, Piece};
 
 // More pieces than any memory holds.
 const MOST_PIECES: usize = 1 << 40;
+
+// A place of the layout.
+fn place_at(places: &[u64], index: usize) -> u64
+    ensures { result ≡ slice_index places.now index }
+{
+    places.get(index).copied().unwrap_or(0)
+}
 
 // Whether a branch that ends at a place reaches its target.
 fn reaches(places: &[u64], kind: BranchKind, target: Option<(u32, i16)>, form: Form, end: u64) -> bool
@@ -19,10 +26,16 @@ fn reaches(places: &[u64], kind: BranchKind, target: Option<(u32, i16)>, form: F
 {
     match target {
         None => matches!(form, Form::Third),
-        Some((index, distance)) => {
-            let place = places.get(index as usize).copied().unwrap_or(0);
-            spans(kind, form, away(place, distance, end))
-        }
+        Some((index, distance)) => spans(kind, form, away(place_at(places, index as usize), distance, end)),
+    }
+}
+
+fn piece_reaches(places: &[u64], piece: &Piece, form: Form, end: u64) -> bool
+    ensures { result ≡ spec.piece_reaches places.now piece.now form end }
+{
+    match *piece {
+        Piece::Branch { kind, target } => reaches(places, kind, target, form, end),
+        _ => true,
     }
 }
 
@@ -30,15 +43,10 @@ fn reaches(places: &[u64], kind: BranchKind, target: Option<(u32, i16)>, form: F
 fn next_form(places: &[u64], piece: &Piece, form: Form, end: u64) -> Form
     ensures { result ≡ spec.next_form places.now piece.now form end }
 {
-    match *piece {
-        Piece::Branch { kind, target } => {
-            if reaches(places, kind, target, form, end) {
-                form
-            } else {
-                longer(form)
-            }
-        }
-        _ => form,
+    if piece_reaches(places, piece, form, end) {
+        form
+    } else {
+        longer(form)
     }
 }
 
@@ -79,13 +87,10 @@ fn raised(alloc: Global, places: &[u64], pieces: &[Piece], forms: &[Form]) -> Re
     ensures { IfOk result (λ v. v.items ≡ spec.raised places.now pieces.now forms.now 0) }
 {
     let mut next = Vec::new(alloc);
-    let mut here: u64 = 0;
     let mut later = forms;
-    for piece in pieces {
-        let form = head_form(later);
-        here = end_of(piece, form, here);
+    for (at, piece) in pieces.iter().enumerate() {
         if is_branch(piece) {
-            next.push(next_form(places, piece, form, here))?;
+            next.push(next_form(places, piece, head_form(later), place_at(places, at + 1)))?;
         }
         later = forms_after(piece, later);
     }
