@@ -1,2 +1,3 @@
 pub mod Iterated
+pub mod Reaching
 pub mod SameForms

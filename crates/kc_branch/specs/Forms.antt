@@ -134,17 +134,3 @@ start_forms (x ∷ xs) = with_form x (start_form x) (start_forms xs)
 -- as many rounds as twice the number of branches
 unfoldable pub forms : List Piece → List Form
 forms pieces = iterate (round pieces) (2 * length (start_forms pieces)) (start_forms pieces)
-
--- ---- what a list of pieces needs
-
--- each target names a place from 0 to n
-abbrev pub stands_to : ℕ → Piece → Bool
-stands_to n (Bytes k) = true
-stands_to n Even = true
-stands_to n (At place) = true
-stands_to n (Branch kind None) = true
-stands_to n (Branch kind (Some target)) = nat_le target.0 n
-
-unfoldable pub targets_stand : ℕ → List Piece → Bool
-targets_stand n [] = true
-targets_stand n (x ∷ xs) = stands_to n x && targets_stand n xs

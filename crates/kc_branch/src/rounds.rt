@@ -2,6 +2,7 @@
 
 ghost use Rattle.std.specs.Prelude.{◌≡◌, ◌<◌, ◌^◌, true, IsTrue, ◌↔◌, length, slice_index, IfOk};
 ghost use Rattle.kc_branch.specs.Forms as spec;
+ghost use Rattle.kc_branch.specs.Laws as laws;
 
 use kc_base::NoMemory;
 use std::alloc::Global;
@@ -118,7 +119,8 @@ fn round(alloc: Global, pieces: &[Piece], forms: &[Form]) -> Result<Vec<Form>, N
 /// `NoMemory`: memory ran out. That is the only error.
 #[tactic(auto, unfolding(crate::specs::Forms::forms))]
 pub fn sizes(alloc: Global, pieces: &[Piece]) -> Result<Vec<Form>, NoMemory>
-    ensures { IfOk result (λ v. v.items ≡ spec.forms pieces.now) }
+    ensures forms { IfOk result (λ v. v.items ≡ spec.forms pieces.now) }
+    ensures reach { IfOk result (λ v. laws.settles pieces.now v.items ≡ true) }
 {
     if pieces.len() >= MOST_PIECES {
         return Err(NoMemory);
