@@ -121,6 +121,7 @@ fn round(alloc: Global, pieces: &[Piece], forms: &[Form]) -> Result<Vec<Form>, N
 pub fn sizes(alloc: Global, pieces: &[Piece]) -> Result<Vec<Form>, NoMemory>
     ensures forms { IfOk result (λ v. v.items ≡ spec.forms pieces.now) }
     ensures reach { IfOk result (λ v. laws.settles pieces.now v.items ≡ true) }
+    ensures least { IfOk result (λ v. laws.IsLeast pieces.now v.items) }
 {
     if pieces.len() >= MOST_PIECES {
         return Err(NoMemory);

@@ -1,6 +1,7 @@
 use Rattle.std.proofs.Common.{◌-◌, ◌*◌, ap, ◌∙◌, arith}
 use Rattle.kc_branch.specs.Forms as spec
 use Rattle.kc_branch.proofs.Iterated.{one_fewer, stays, none_left}
+use Rattle.kc_branch.proofs.Least.{least_along}
 use Rattle.kc_branch.proofs.Reaching.{along}
 use Rattle.kc_branch.proofs.SameForms.{same_forms}
 use Rattle.kc_branch.proofs.rounds.sizes.Goals as goal
@@ -21,3 +22,6 @@ returns-clause-forms c = elim c.loop-round-test.branch [
 
 pub returns-clause-reach : goal.returns-clause-reach
 returns-clause-reach c = along c.args.pieces.now c.loop-round.forms.items (returns-clause-forms c)
+
+pub returns-clause-least : goal.returns-clause-least
+returns-clause-least c = least_along c.args.pieces.now c.loop-round.forms.items (returns-clause-forms c)
