@@ -11,8 +11,8 @@ pub still : {A : Type 0} (h : A → A) (x : A) (n : ℕ) → h x ≡ x → itera
 still h x zero e = refl
 still h x (suc n) e = ap (iterate h n) e ∙ still h x n e
 
-pub stays : {A : Type 0} (h : A → A) (x next y : A) (n : ℕ) → next ≡ h x → next ≡ x → iterate h n x ≡ y → x ≡ y
-stays h x next y n is same e = sym (still h x n (sym is ∙ same)) ∙ e
+pub stays : {A : Type 0} (h : A → A) (x y : A) (n : ℕ) → h x ≡ x → iterate h n x ≡ y → x ≡ y
+stays h x y n same e = sym (still h x n same) ∙ e
 
 pub none_left : {A : Type 0} (h : A → A) (x y : A) (i n : ℕ) → n ≤ i → iterate h (n - i) x ≡ y → x ≡ y
 none_left h x y i n le e =

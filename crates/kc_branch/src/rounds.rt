@@ -8,7 +8,7 @@ use kc_base::NoMemory;
 use std::alloc::Global;
 
 use crate::branch::{away, longer, spans};
-use crate::layout::{forms_after, head_form, places};
+use crate::layout::{end_of, forms_after, head_form, places};
 use crate::piece::{BranchKind, Form, Piece};
 
 // More pieces than any memory holds.
@@ -37,17 +37,6 @@ fn piece_reaches(places: &[u64], piece: &Piece, form: Form, end: u64) -> bool
     match *piece {
         Piece::Branch { kind, target } => reaches(places, kind, target, form, end),
         _ => true,
-    }
-}
-
-// The form of a branch after a round.
-fn next_form(places: &[u64], piece: &Piece, form: Form, end: u64) -> Form
-    ensures { result ≡ spec.next_form places.now piece.now form end }
-{
-    if piece_reaches(places, piece, form, end) {
-        form
-    } else {
-        longer(form)
     }
 }
 
@@ -81,30 +70,47 @@ fn start_forms(alloc: Global, pieces: &[Piece]) -> Result<Vec<Form>, NoMemory>
     Ok(forms)
 }
 
-// The forms after a round, where the places of the layout are known.
-#[tactic(auto, unfolding(crate::specs::Forms::raised))]
-fn raised(alloc: Global, places: &[u64], pieces: &[Piece], forms: &[Form]) -> Result<Vec<Form>, NoMemory>
+// What a round makes of a layout.
+#[derive(Drop)]
+struct Advance {
+    // Whether each branch reached before it.
+    settled: bool,
+    forms: Vec<Form>,
+    // The places of the layout with these forms.
+    places: Vec<u64>,
+}
+
+// One round over the whole layout, and the layout behind it.
+#[tactic(auto, using(crate::proofs::Passing::passing), unfolding(crate::specs::Forms::raised, crate::specs::Forms::places, crate::specs::Laws::all_reach))]
+fn round(alloc: Global, pieces: &[Piece], places: &[u64], forms: &[Form]) -> Result<Advance, NoMemory>
     requires { length pieces.now < 2 ^ 40 }
-    ensures { IfOk result (λ v. v.items ≡ spec.raised places.now pieces.now forms.now 0) }
+    ensures settled { IfOk result (λ r. r.settled ≡ laws.all_reach places.now pieces.now forms.now 0) }
+    ensures forms { IfOk result (λ r. r.forms.items ≡ spec.raised places.now pieces.now forms.now 0) }
+    ensures places { IfOk result (λ r. r.places.items ≡ spec.places pieces.now (spec.raised places.now pieces.now forms.now 0) 0) }
 {
-    let mut next = Vec::new(alloc);
+    let mut next_forms = Vec::with_capacity(alloc, forms.len())?;
+    let mut next_places = Vec::with_capacity(alloc, places.len())?;
+    let mut settled = true;
+    let mut here: u64 = 0;
     let mut later = forms;
     for (at, piece) in pieces.iter().enumerate() {
+        let form = head_form(later);
+        let reached = piece_reaches(places, piece, form, place_at(places, at + 1));
+        let next = if reached { form } else { longer(form) };
+        settled = settled && reached;
+        next_places.push(here)?;
+        here = end_of(piece, next, here);
         if is_branch(piece) {
-            next.push(next_form(places, piece, head_form(later), place_at(places, at + 1)))?;
+            next_forms.push(next)?;
         }
         later = forms_after(piece, later);
     }
-    Ok(next)
-}
-
-// One round over the whole layout.
-fn round(alloc: Global, pieces: &[Piece], forms: &[Form]) -> Result<Vec<Form>, NoMemory>
-    requires { length pieces.now < 2 ^ 40 }
-    ensures { IfOk result (λ v. v.items ≡ spec.round pieces.now forms.now) }
-{
-    let places = places(alloc, pieces, forms)?;
-    raised(alloc, &places, pieces, forms)
+    next_places.push(here)?;
+    Ok(Advance {
+        settled,
+        forms: next_forms,
+        places: next_places,
+    })
 }
 
 /// The form of each generic branch of a list of pieces, in order.
@@ -127,12 +133,14 @@ pub fn sizes(alloc: Global, pieces: &[Piece]) -> Result<Vec<Form>, NoMemory>
         return Err(NoMemory);
     }
     let mut forms = start_forms(alloc, pieces)?;
+    let mut places = places(alloc, pieces, &forms)?;
     for _round in 0..2 * forms.len() {
-        let next = round(alloc, pieces, &forms)?;
-        if next == forms {
+        let next = round(alloc, pieces, &places, &forms)?;
+        if next.settled {
             break;
         }
-        forms = next;
+        forms = next.forms;
+        places = next.places;
     }
     Ok(forms)
 }
