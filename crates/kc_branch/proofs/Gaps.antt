@@ -137,7 +137,7 @@ from_start (Branch kind target ∷ xs) fs gs a b (suc j) n s c le =
     let goes = by_branch kind target (head_form fs) (head_form gs) xs a b p.head s in
     join a b (a + size kind (head_form fs)) (b + size kind (head_form gs)) _ _ goes.0
     (from_start xs (drop 1 fs) (drop 1 gs) (a + size kind (head_form fs)) (b + size kind (head_form gs)) j n goes.1
-      record { first = p.first_length; second = p.second_length; longer = p.later } (omega arith))
+    record { first = p.first_length; second = p.second_length; longer = p.later } (omega arith))
 
 -- from any place to any later one
 pub between : (xs : List Piece) (fs gs : List Form) (a b i j : ℕ) → no_at xs ≡ true → Steady xs a b → Choices xs fs gs → i ≤ j → j ≤ length xs →
@@ -158,7 +158,7 @@ between (Branch kind target ∷ xs) fs gs a b (suc i) (suc j) n s c lt le =
     let p = choices_after kind target xs fs gs c in
     let goes = by_branch kind target (head_form fs) (head_form gs) xs a b p.head s in
     between xs (drop 1 fs) (drop 1 gs) (a + size kind (head_form fs)) (b + size kind (head_form gs)) i j n goes.1
-      record { first = p.first_length; second = p.second_length; longer = p.later } (omega arith) (omega arith)
+    record { first = p.first_length; second = p.second_length; longer = p.later } (omega arith) (omega arith)
 
 -- a whole list whose first piece may be an At
 pub gaps : (pieces : List Piece) (fs gs : List Form) (i j : ℕ) → IsPlain pieces → Choices pieces fs gs → i ≤ j → j ≤ length pieces →

@@ -120,7 +120,7 @@ branch_least at bt n kind (Some target) f g end gap en stands le reach =
     let near = nearer at bt n target.0 end gap (le_true target.0 n p.0) en in
     next_no_longer (reaches at kind (Some target) f (slice_index at end)) f g le
     (λ e. ap (λ h. reaches at kind (Some target) h (slice_index at end)) e
-      ∙ spans_near kind g target.1 (slice_index at target.0) (slice_index at end) (slice_index bt target.0) (slice_index bt end) (zero_of target.1 p.1) near reach)
+    ∙ spans_near kind g target.1 (slice_index at target.0) (slice_index at end) (slice_index bt target.0) (slice_index bt end) (zero_of target.1 p.1) near reach)
 
 -- ---- all branches
 

@@ -3,11 +3,10 @@
 ghost use Rattle.std.specs.Prelude.{◌≡◌, ◌+◌, ◌≤◌, ◌<◌, ◌^◌, length, IfOk};
 ghost use Rattle.kc_branch.specs.Forms as spec;
 
-use kc_base::NoMemory;
-use std::alloc::Global;
-
 use crate::branch::size;
 use crate::piece::{Form, Piece};
+use kc_base::NoMemory;
+use std::alloc::Global;
 
 // The form of the next branch.
 pub(crate) fn head_form(forms: &[Form]) -> Form

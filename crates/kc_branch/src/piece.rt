@@ -11,7 +11,10 @@ pub enum Piece {
     At(u16),
     /// A generic branch. Its target is a place in the list of pieces, from 0 (before the first) to their number (after the
     /// last), and a distance in bytes from there; None where the target stands in another segment or module.
-    Branch { kind: BranchKind, target: Option<(u32, i16)> },
+    Branch {
+        kind: BranchKind,
+        target: Option<(u32, i16)>,
+    },
 }
 
 /// What a generic branch stands for: BR; CALL; a conditional jump, as BE; a jump on a bit, BBC or BBS.

@@ -4,12 +4,11 @@ ghost use Rattle.std.specs.Prelude.{◌≡◌, ◌<◌, ◌^◌, true, IsTrue, �
 ghost use Rattle.kc_branch.specs.Forms as spec;
 ghost use Rattle.kc_branch.specs.Laws as laws;
 
-use kc_base::NoMemory;
-use std::alloc::Global;
-
 use crate::branch::{away, longer, spans};
 use crate::layout::{end_of, forms_after, head_form, places};
 use crate::piece::{BranchKind, Form, Piece};
+use kc_base::NoMemory;
+use std::alloc::Global;
 
 // More pieces than any memory holds.
 const MOST_PIECES: usize = 1 << 40;
@@ -22,12 +21,22 @@ fn place_at(places: &[u64], index: usize) -> u64
 }
 
 // Whether a branch that ends at a place reaches its target.
-fn reaches(places: &[u64], kind: BranchKind, target: Option<(u32, i16)>, form: Form, end: u64) -> bool
+fn reaches(
+    places: &[u64],
+    kind: BranchKind,
+    target: Option<(u32, i16)>,
+    form: Form,
+    end: u64,
+) -> bool
     ensures { result ≡ spec.reaches places.now kind target form end }
 {
     match target {
         None => matches!(form, Form::Third),
-        Some((index, distance)) => spans(kind, form, away(place_at(places, index as usize), distance, end)),
+        Some((index, distance)) => spans(
+            kind,
+            form,
+            away(place_at(places, index as usize), distance, end),
+        ),
     }
 }
 
@@ -82,7 +91,12 @@ struct Advance {
 
 // One round over the whole layout, and the layout behind it.
 #[tactic(auto, using(crate::proofs::Passing::passing), unfolding(crate::specs::Forms::raised, crate::specs::Forms::places, crate::specs::Laws::all_reach))]
-fn round(alloc: Global, pieces: &[Piece], places: &[u64], forms: &[Form]) -> Result<Advance, NoMemory>
+fn round(
+    alloc: Global,
+    pieces: &[Piece],
+    places: &[u64],
+    forms: &[Form],
+) -> Result<Advance, NoMemory>
     requires { length pieces.now < 2 ^ 40 }
     ensures settled { IfOk result (λ r. r.settled ≡ laws.all_reach places.now pieces.now forms.now 0) }
     ensures forms { IfOk result (λ r. r.forms.items ≡ spec.raised places.now pieces.now forms.now 0) }

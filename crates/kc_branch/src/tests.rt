@@ -40,6 +40,55 @@ fn forms_by_distance(rt: HostRuntime) -> Result<(), Fail> {
     Ok(())
 }
 
+const FIRST: Form = Form::First;
+
+const SECOND: Form = Form::Second;
+
+const THIRD: Form = Form::Third;
+
+/// Even, At (forth and back), a target elsewhere, distances, and a branch that grows since another one has.
+#[test]
+fn forms_over_other_pieces(rt: HostRuntime) -> Result<(), Fail> {
+    let test = |place, distance| to(BranchKind::Conditional, place, distance);
+    let elsewhere = Piece::Branch {
+        kind: BranchKind::Jump,
+        target: None,
+    };
+    let rows: [(&[Piece], &[Form]); 11] = [
+        (&[test(3, 0), Piece::Bytes(126), Piece::Even], &[FIRST]),
+        (&[test(3, 0), Piece::Bytes(127), Piece::Even], &[SECOND]),
+        (
+            &[Piece::At(0x2100), Piece::At(0x2080), test(1, 1)],
+            &[FIRST],
+        ),
+        (
+            &[Piece::At(0x2100), Piece::At(0x2080), test(1, 2)],
+            &[SECOND],
+        ),
+        (
+            &[Piece::At(0x3000), Piece::At(0x2080), test(1, 0)],
+            &[THIRD],
+        ),
+        (&[test(0, 129), test(1, -126)], &[FIRST, FIRST]),
+        (&[test(0, 130), test(1, -127)], &[SECOND, SECOND]),
+        (
+            &[test(3, 0), test(4, 0), Piece::Bytes(125), Piece::Bytes(2)],
+            &[FIRST, FIRST],
+        ),
+        (
+            &[test(3, 0), test(4, 0), Piece::Bytes(125), Piece::Bytes(3)],
+            &[SECOND, SECOND],
+        ),
+        (&[elsewhere, test(0, 0)], &[THIRD, FIRST]),
+        (&[], &[]),
+    ];
+    for (pieces, wanted) in rows {
+        let forms = sizes(rt.alloc(), pieces)?;
+        assert_eq!(rt; forms.as_slice(), wanted, "{pieces:?}");
+    }
+    Ok(())
+}
+
 /// A chain of conditional jumps: each has 32 others between it and its target, and does not reach once they all have their
 /// second form. The last ones go elsewhere; one after the other takes its second form.
 #[test]
@@ -55,7 +104,13 @@ fn a_long_chain_grows_one_by_one(rt: HostRuntime) -> Result<(), Fail> {
         })?;
     }
     let forms = sizes(rt.alloc(), &pieces)?;
-    assert_eq!(rt; forms.iter().filter(|form| **form == Form::Second).count(), 2000);
-    assert_eq!(rt; forms.iter().filter(|form| **form == Form::Third).count(), 33);
+    assert_eq!(rt;
+        forms.iter().filter(|form| **form == Form::Second).count(),
+        2000
+    );
+    assert_eq!(rt;
+        forms.iter().filter(|form| **form == Form::Third).count(),
+        33
+    );
     Ok(())
 }

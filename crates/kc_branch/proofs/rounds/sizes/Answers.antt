@@ -27,9 +27,9 @@ returns-clause-forms c = elim c.loop-round-test.branch [
   | then-loop-round-test+in_ok-next+then-next w ↦
       stays (spec.round c.args.pieces.now) c.loop-round.forms.items (spec.forms c.args.pieces.now) (2 * c.len-round-end.result - c.loop-round._round)
       (round_same c.args.pieces.now w.deref-in-loop-round.result.now w.deref-in-loop-round-2.result.now c.loop-round.forms.items w.in_ok-next.next.settled
-        (w.deref-in-loop-round.ensures.value ∙ c.loop-round.invariant.placed) w.deref-in-loop-round-2.ensures.value c.loop-round.invariant.each w.in_ok-next.ensures.settled w.if-next.true)
+      (w.deref-in-loop-round.ensures.value ∙ c.loop-round.invariant.placed) w.deref-in-loop-round-2.ensures.value c.loop-round.invariant.each w.in_ok-next.ensures.settled w.if-next.true)
       c.loop-round.invariant.left
-  ]
+]
 
 pub returns-clause-reach : goal.returns-clause-reach
 returns-clause-reach c = along c.args.pieces.now c.loop-round.forms.items (returns-clause-forms c)
