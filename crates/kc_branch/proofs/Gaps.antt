@@ -1,16 +1,15 @@
 -- Longer forms leave no places nearer to one another, where no At and no Even stands behind a branch.
-use Rattle.std.proofs.Common.{◌≡◌, ℕ, zero, suc, Bool, true, false, ◌+◌, ◌-◌, ◌%◌, ◌<◌, ◌≤◌, ◌&&◌, not, leb, ◌⊎◌, inl, inr, List, [], ◌∷◌, length, Option, Some, None, ℤ, get_or, drop, refl, sym, ap, ◌∙◌, arith}
+use Rattle.std.proofs.Common.{◌≡◌, ℕ, zero, suc, true, ◌+◌, ◌%◌, ◌≤◌, leb, ◌⊎◌, inl, inr, List, [], ◌∷◌, length, Option, ℤ, drop, refl, ap, ◌∙◌, arith}
 use Rattle.std.specs.Prelude.{slice_index}
 use Rattle.std.proofs.lemmas.Bool.{and_parts}
-use Rattle.std.proofs.lemmas.Bool.Decides.{nat_tests}
 use Rattle.kc_branch.specs.declared.piece.Piece.{Piece}
 use Rattle.kc_branch.specs.declared.piece.Piece.TheVariants.{Bytes, Even, At, Branch}
 use Rattle.kc_branch.specs.declared.piece.BranchKind.{BranchKind}
 use Rattle.kc_branch.specs.declared.piece.BranchKind.TheVariants.{Jump, Call, Conditional, BitTest}
 use Rattle.kc_branch.specs.declared.piece.Form.{Form}
 use Rattle.kc_branch.specs.declared.piece.Form.TheVariants.{First, Second, Third}
-use Rattle.kc_branch.specs.Forms.{size, head_form, forms_after, end_of, is_branch, places, start_forms}
-use Rattle.kc_branch.specs.Laws.{rank, no_longer, is_at, is_even, no_at, no_even, evens_lead, at_leads, IsPlain}
+use Rattle.kc_branch.specs.Forms.{size, head_form, places, start_forms}
+use Rattle.kc_branch.specs.Laws.{rank, no_longer, no_at, no_even, evens_lead, IsPlain}
 use Rattle.kc_branch.proofs.Reaching.{count_branch}
 
 size_grows : (kind : BranchKind) (f g : Form) → leb (rank f) (rank g) ≡ true → size kind f ≤ size kind g

@@ -1,5 +1,5 @@
 -- No branch has a longer form than in any choice in which each branch reaches.
-use Rattle.std.proofs.Common.{◌≡◌, ℕ, zero, suc, Bool, true, false, ◌+◌, ◌*◌, ◌<◌, ◌≤◌, ◌&&◌, cond, leb, ◌⊎◌, inl, inr, List, [], ◌∷◌, length, Option, Some, None, ℤ, pos, negsuc, ◌+ℤ◌, ◌-ℤ◌, ◌≤ℤ◌, drop, refl, sym, ap, ◌∙◌, subst, arith}
+use Rattle.std.proofs.Common.{◌≡◌, ℕ, zero, suc, Bool, true, false, ◌+◌, ◌*◌, ◌≤◌, ◌&&◌, cond, leb, ◌⊎◌, inl, inr, List, [], ◌∷◌, length, Option, Some, None, ℤ, pos, negsuc, ◌+ℤ◌, ◌-ℤ◌, ◌≤ℤ◌, drop, refl, sym, ap, ◌∙◌, subst, arith}
 use Rattle.std.specs.Prelude.{slice_index, int_le}
 use Rattle.std.specs.Ordering.{int_eq}
 use Rattle.std.proofs.lemmas.Bool.{and_parts}
@@ -12,10 +12,10 @@ use Rattle.kc_branch.specs.declared.piece.BranchKind.{BranchKind}
 use Rattle.kc_branch.specs.declared.piece.BranchKind.TheVariants.{Jump, Call, Conditional, BitTest}
 use Rattle.kc_branch.specs.declared.piece.Form.{Form}
 use Rattle.kc_branch.specs.declared.piece.Form.TheVariants.{First, Second, Third}
-use Rattle.kc_branch.specs.Forms.{spans, is_third, reaches, piece_reaches, longer, next_form, head_form, forms_after, with_form, is_branch, raised, round, places, start_form, start_forms, forms}
+use Rattle.kc_branch.specs.Forms.{spans, is_third, reaches, longer, next_form, head_form, raised, round, places, start_forms, forms}
 use Rattle.kc_branch.specs.Laws.{all_reach, settles, rank, no_longer, places_to, is_place_to, IsPlain, IsLeast}
 use Rattle.kc_branch.proofs.Reaching.{raised_length}
-use Rattle.kc_branch.proofs.Gaps.{Wider, Choices, Parts, parts, gaps}
+use Rattle.kc_branch.proofs.Gaps.{Wider, Choices, parts, gaps}
 
 -- ---- distances
 

@@ -1,9 +1,9 @@
 -- A round over a list of pieces, and the layout behind it.
-use Rattle.std.proofs.Common.{◌≡◌, ℕ, Bool, true, false, ◌&&◌, List, ◌∷◌, Option, ℤ, length, refl, ap, ◌∙◌}
+use Rattle.std.proofs.Common.{◌≡◌, ℕ, Bool, true, List, ◌∷◌, length, refl, ap, ◌∙◌}
 use Rattle.kc_branch.specs.declared.piece.Piece.{Piece}
 use Rattle.kc_branch.specs.declared.piece.Piece.TheVariants.{Bytes, Even, At, Branch}
 use Rattle.kc_branch.specs.declared.piece.Form.{Form}
-use Rattle.kc_branch.specs.Forms.{with_form, is_branch, places, end_of, raised, round, start_forms}
+use Rattle.kc_branch.specs.Forms.{with_form, places, end_of, raised, round, start_forms}
 use Rattle.kc_branch.specs.Laws.{all_reach}
 use Rattle.kc_branch.proofs.Reaching.{raised_length, raised_same}
 

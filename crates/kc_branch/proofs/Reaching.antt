@@ -1,5 +1,5 @@
 -- After twice as many rounds as there are branches each branch reaches: a round that changes something raises a rank.
-use Rattle.std.proofs.Common.{◌≡◌, ℕ, zero, suc, Bool, true, false, ◌+◌, ◌-◌, ◌*◌, ◌<◌, ◌≤◌, ◌&&◌, cond, ◌⊎◌, inl, inr, List, [], ◌∷◌, length, Option, Some, None, ℤ, get_or, drop, refl, sym, ap, ◌∙◌, subst, arith}
+use Rattle.std.proofs.Common.{◌≡◌, ℕ, zero, suc, Bool, true, false, ◌+◌, ◌*◌, ◌≤◌, ◌&&◌, cond, ◌⊎◌, inl, inr, List, [], ◌∷◌, length, Option, Some, None, ℤ, drop, refl, ap, ◌∙◌, arith}
 use Rattle.std.specs.Prelude.{slice_index}
 use Rattle.std.proofs.lemmas.Bool.{and_parts}
 use Rattle.std.specs.Fn.{iterate}
@@ -9,7 +9,7 @@ use Rattle.kc_branch.specs.declared.piece.BranchKind.{BranchKind}
 use Rattle.kc_branch.specs.declared.piece.BranchKind.TheVariants.{Jump, Call, Conditional, BitTest}
 use Rattle.kc_branch.specs.declared.piece.Form.{Form}
 use Rattle.kc_branch.specs.declared.piece.Form.TheVariants.{First, Second, Third}
-use Rattle.kc_branch.specs.Forms.{reaches, piece_reaches, longer, next_form, head_form, forms_after, with_form, is_branch, raised, round, places, start_form, start_forms, forms}
+use Rattle.kc_branch.specs.Forms.{reaches, longer, next_form, raised, round, places, start_forms, forms}
 use Rattle.kc_branch.specs.Laws.{all_reach, settles, rank}
 use Rattle.kc_branch.proofs.Iterated.{still}
 

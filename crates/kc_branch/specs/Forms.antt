@@ -1,6 +1,6 @@
 -- The forms of generic branches (MCS-96 Macro Assembler guide, "Generic jumps and calls"). Places and distances are whole
 -- numbers here, not taken modulo 65536.
-use Rattle.std.specs.Prelude.{◌≡◌, ℕ, zero, suc, Bool, true, false, ◌+◌, ◌*◌, ◌%◌, ◌&&◌, if◌then◌else◌, nat_le, int_le, ℤ, pos, negsuc, ◌+ℤ◌, ◌-ℤ◌, Option, Some, None, List, [], ◌∷◌, length, drop, slice_index}
+use Rattle.std.specs.Prelude.{ℕ, Bool, true, false, ◌+◌, ◌*◌, ◌%◌, ◌&&◌, if◌then◌else◌, int_le, ℤ, pos, negsuc, ◌+ℤ◌, ◌-ℤ◌, Option, Some, None, List, [], ◌∷◌, length, drop, slice_index}
 use Rattle.std.specs.Fn.{iterate}
 use Rattle.kc_branch.specs.declared.piece.Piece.{Piece}
 use Rattle.kc_branch.specs.declared.piece.Piece.TheVariants.{Bytes, Even, At, Branch}

@@ -1,11 +1,11 @@
 -- What a choice of forms owes: each branch reaches its target, and none could be shorter.
-use Rattle.std.specs.Prelude.{◌≡◌, ℕ, Bool, true, false, ◌+◌, ◌&&◌, not, nat_le, ℤ, pos, ◌==◌, Option, Some, None, List, [], ◌∷◌, length, slice_index}
+use Rattle.std.specs.Prelude.{◌≡◌, ℕ, Bool, true, false, ◌+◌, ◌&&◌, not, nat_le, pos, Some, None, List, [], ◌∷◌, length, slice_index}
 use Rattle.std.specs.Ordering.{int_eq}
 use Rattle.kc_branch.specs.declared.piece.Piece.{Piece}
 use Rattle.kc_branch.specs.declared.piece.Piece.TheVariants.{Bytes, Even, At, Branch}
 use Rattle.kc_branch.specs.declared.piece.Form.{Form}
 use Rattle.kc_branch.specs.declared.piece.Form.TheVariants.{First, Second, Third}
-use Rattle.kc_branch.specs.Forms.{is_branch, head_form, forms_after, places, piece_reaches, start_forms}
+use Rattle.kc_branch.specs.Forms.{head_form, forms_after, places, piece_reaches, start_forms}
 
 -- ---- each branch reaches
 
