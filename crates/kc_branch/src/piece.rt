@@ -9,8 +9,8 @@ pub enum Piece {
     Even,
     /// What follows begins at this place.
     At(u16),
-    /// A generic branch. Its target is a place in the list of pieces, from 0 (before the first) to their number (after the
-    /// last), and a distance in bytes from there; None where the target stands in another segment or module.
+    /// A generic branch. Its target is a place in the list of pieces, from 0 (before the first) to their number (after
+    /// the last), and a distance in bytes from there; None where the target stands in another segment or module.
     Branch {
         kind: BranchKind,
         target: Option<(u32, i16)>,

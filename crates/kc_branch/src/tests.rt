@@ -89,8 +89,8 @@ fn forms_over_other_pieces(rt: HostRuntime) -> Result<(), Fail> {
     Ok(())
 }
 
-/// A chain of conditional jumps: each has 32 others between it and its target, and does not reach once they all have their
-/// second form. The last ones go elsewhere; one after the other takes its second form.
+/// A chain of conditional jumps: each has 32 others between it and its target, and does not reach once they all have
+/// their second form. The last ones go elsewhere; one after the other takes its second form.
 #[test]
 fn a_long_chain_grows_one_by_one(rt: HostRuntime) -> Result<(), Fail> {
     let mut pieces = Vec::new(rt.alloc());
