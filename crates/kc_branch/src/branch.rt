@@ -1,0 +1,63 @@
+//! One branch: its length and its reach in each form.
+
+ghost use Rattle.std.specs.Prelude.{◌≡◌, ◌+ℤ◌, ◌-ℤ◌, pos, ◌≤◌};
+ghost use Rattle.kc_branch.specs.Forms as spec;
+
+use crate::piece::{BranchKind, Form};
+
+// The length in bytes.
+pub(crate) fn size(kind: BranchKind, form: Form) -> u8
+    ensures value { result ≡ spec.size kind form }
+    ensures bound { result ≤ 6 }
+{
+    match (kind, form) {
+        (BranchKind::Jump | BranchKind::Call, Form::First) => 2,
+        (BranchKind::Jump | BranchKind::Call, Form::Second | Form::Third) => 3,
+        (BranchKind::Conditional, Form::First) => 2,
+        (BranchKind::Conditional, Form::Second) => 4,
+        (BranchKind::Conditional, Form::Third) => 5,
+        (BranchKind::BitTest, Form::First) => 3,
+        (BranchKind::BitTest, Form::Second) => 5,
+        (BranchKind::BitTest, Form::Third) => 6,
+    }
+}
+
+fn is_byte(away: i128) -> bool
+    ensures { result ≡ spec.is_byte away }
+{
+    -128 <= away && away <= 127
+}
+
+fn is_eleven_bits(away: i128) -> bool
+    ensures { result ≡ spec.is_eleven_bits away }
+{
+    -1024 <= away && away <= 1023
+}
+
+// Whether a form reaches so far from the end of the branch.
+pub(crate) fn spans(kind: BranchKind, form: Form, away: i128) -> bool
+    ensures { result ≡ spec.spans kind form away }
+{
+    match (kind, form) {
+        (BranchKind::Jump | BranchKind::Call, Form::First) => is_eleven_bits(away),
+        (BranchKind::Conditional | BranchKind::BitTest, Form::First) => is_byte(away),
+        (BranchKind::Conditional | BranchKind::BitTest, Form::Second) => is_eleven_bits(away),
+        _ => true,
+    }
+}
+
+pub(crate) fn longer(form: Form) -> Form
+    ensures { result ≡ spec.longer form }
+{
+    match form {
+        Form::First => Form::Second,
+        Form::Second | Form::Third => Form::Third,
+    }
+}
+
+// How far a target is from the end of a branch.
+pub(crate) fn away(to: u64, distance: i16, end: u64) -> i128
+    ensures { result ≡ ((pos to +ℤ distance) -ℤ pos end) }
+{
+    i128::from(to) + i128::from(distance) - i128::from(end)
+}

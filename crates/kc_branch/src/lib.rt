@@ -1,0 +1,13 @@
+//! The forms of generic branches: the shortest with which each branch of a module reaches its target, found in rounds.
+#![tactic(auto)]
+
+mod branch;
+mod layout;
+mod piece;
+mod rounds;
+
+pub use piece::{BranchKind, Form, Piece};
+pub use rounds::sizes;
+
+#[cfg(test)]
+mod tests;
