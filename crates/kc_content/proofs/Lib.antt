@@ -1,1 +1,4 @@
-
+pub mod AlikeLemmas
+pub mod Counting
+pub mod FaultLemmas
+pub mod Stays

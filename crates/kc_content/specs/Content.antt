@@ -1,6 +1,6 @@
 -- What a statement puts into the piece in which it stands, over what each name answers. Data are bytes, words or long
 -- words, the low byte first (after the MCS-96 Macro Assembler User's Guide, "Data Definition" and "Storage Reservation").
-use Rattle.std.specs.Prelude.{ℕ, ◌*◌, ◌==◌, if◌then◌else◌, List, [], ◌∷◌, ◌++◌, map, length, Option, Some, None}
+use Rattle.std.specs.Prelude.{ℕ, ◌+◌, ◌*◌, ◌==◌, if◌then◌else◌, List, [], ◌∷◌, ◌++◌, map, length, Option, Some, None}
 use Rattle.std.specs.Int.{w32, to_le_bytes}
 use Rattle.std.specs.List.{flat_map}
 use Rattle.kc_expr.specs.declared.values.Value.{Value}
@@ -46,6 +46,15 @@ item_octets look size (trees.Chars cs) = map Plain cs
 
 abbrev pub data_octets : Look → ℕ → List ItemTree → List Octet
 data_octets look size items = flat_map (item_octets look size) items
+
+-- how many bytes data have does not depend on values
+abbrev pub item_count : ℕ → ItemTree → ℕ
+item_count size (trees.Value x) = if size == 1 then 1 else if size == 2 then 2 else 4
+item_count size (trees.Chars cs) = length cs
+
+abbrev pub data_count : ℕ → List ItemTree → ℕ
+data_count size [] = 0
+data_count size (i ∷ is) = item_count size i + data_count size is
 
 -- ---- statements
 

@@ -28,6 +28,7 @@ pub fn alignment_of(kind: SegKind, action: &Action) -> u32
 }
 
 /// How many bytes of filling lead from a place to the next one that is divisible.
+#[tactic(auto, using(crate::proofs::Counting::gap_divides))]
 pub fn gap(place: u32, align: u32) -> u32
     requires { 1 ≤ align }
     ensures value { result ≡ alignment.gap place align }

@@ -26,7 +26,7 @@ pub enum Extent {
 }
 
 fn item_length(size: u8, item: &Item) -> u32
-    ensures { (look : arguments.Look) → result ≡ min (length (content.item_octets look size (item_tree item.now))) most }
+    ensures { result ≡ min (content.item_count size (item_tree item.now)) most }
 {
     match item {
         Item::Value(_) => match size {
@@ -38,8 +38,9 @@ fn item_length(size: u8, item: &Item) -> u32
     }
 }
 
+#[tactic(auto, using(crate::proofs::Counting::min_small, crate::proofs::Counting::counts_on))]
 fn data_length(size: u8, items: &[Item]) -> u32
-    ensures { (look : arguments.Look) → result ≡ min (length (content.data_octets look size (map item_tree items.now))) most }
+    ensures { result ≡ min (content.data_count size (map item_tree items.now)) most }
 {
     let mut count = 0u32;
     for item in items {

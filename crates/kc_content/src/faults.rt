@@ -1,11 +1,9 @@
-ghost use Rattle.std.specs.Prelude.{◌≡◌, ℕ, List, Option, map, IfOk};
+ghost use Rattle.std.specs.Prelude.{◌≡◌, Ok, Err, map, IfOk};
 ghost use Rattle.std.specs.List.{flat_map};
 ghost use Rattle.kc_expr.specs.Tree.{tree_of};
-ghost use Rattle.kc_expr.specs.Meaning.{Answer};
 ghost use Rattle.kc_statement.specs.Trees.{item_tree, arg_tree, action_tree};
 ghost use Rattle.std.specs.Option.{option_map};
-ghost use Rattle.kc_operation.specs.Faults.{fault_of};
-ghost use Rattle.kc_content.specs.Arguments as arguments;
+ghost use Rattle.kc_statement.specs.Trees as trees;
 ghost use Rattle.kc_content.specs.Faults as faults;
 
 use crate::operands::arguments;
@@ -93,6 +91,7 @@ fn item_fault<S: Scope>(size: u8, item: &Item, scope: &S) -> Option<u8>
     }
 }
 
+#[tactic(auto, using(crate::proofs::FaultLemmas::goes_on, crate::proofs::FaultLemmas::least_none, crate::proofs::FaultLemmas::lesser_none))]
 fn data_fault<S: Scope>(size: u8, items: &[Item], scope: &S) -> Option<u8>
     ensures { result ≡ faults.least (flat_map (faults.item_faults (S.answers scope.now) size) (map item_tree items.now)) }
 {
@@ -103,6 +102,7 @@ fn data_fault<S: Scope>(size: u8, items: &[Item], scope: &S) -> Option<u8>
     code
 }
 
+#[tactic(auto, using(crate::proofs::FaultLemmas::least_append))]
 fn operand_values_fault<S: Scope>(arg: &Arg, scope: &S) -> Option<u8>
     ensures { result ≡ faults.least (faults.operand_faults (S.answers scope.now) (arg_tree arg.now)) }
 {
@@ -113,6 +113,7 @@ fn operand_values_fault<S: Scope>(arg: &Arg, scope: &S) -> Option<u8>
     }
 }
 
+#[tactic(auto, using(crate::proofs::FaultLemmas::goes_on, crate::proofs::FaultLemmas::least_none, crate::proofs::FaultLemmas::lesser_none))]
 fn operands_fault<S: Scope>(args: &[Arg], scope: &S) -> Option<u8>
     ensures { result ≡ faults.least (flat_map (faults.operand_faults (S.answers scope.now)) (map arg_tree args.now)) }
 {
@@ -123,8 +124,9 @@ fn operands_fault<S: Scope>(args: &[Arg], scope: &S) -> Option<u8>
     code
 }
 
+#[tactic(auto, using(crate::proofs::FaultLemmas::least_append, crate::proofs::FaultLemmas::least_option))]
 fn operation_fault<S: Scope>(alloc: Global, word: &[u8], args: &[Arg], scope: &S) -> Result<Option<u8>, NoMemory>
-    ensures { IfOk result (λ c. c ≡ faults.lesser (faults.least (flat_map (faults.operand_faults (S.answers scope.now)) (map arg_tree args.now))) (fault_of word.now (arguments.arguments (S.answers scope.now) (map arg_tree args.now)))) }
+    ensures { IfOk result (λ c. c ≡ faults.least (faults.faults_of (S.answers scope.now) (trees.Operation word.now (map arg_tree args.now)))) }
 {
     let values = arguments(alloc, args, scope)?;
     Ok(lesser(operands_fault(args, scope), operand_fault(word, values.as_slice())))
@@ -135,6 +137,7 @@ fn operation_fault<S: Scope>(alloc: Global, word: &[u8], args: &[Arg], scope: &S
 /// places; 255 for a fault that is told at another line is none here); 10 where a value has to be fixed and is not, in AT,
 /// SSEG, STACKSIZE, ORG and what is reserved, as the number of a bit or of shifts; 12 for operands that do not fit.
 /// (MCS-96 Macro Assembler User's Guide, "Expressions" and "Operands"; the codes are this kit's own.)
+#[tactic(auto, unfolding(crate::specs::Faults::least))]
 pub fn fault<S: Scope>(alloc: Global, action: &Action, scope: &S) -> Result<Option<u8>, NoMemory>
     ensures { IfOk result (λ c. c ≡ faults.least (faults.faults_of (S.answers scope.now) (action_tree action.now))) }
 {

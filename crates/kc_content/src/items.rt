@@ -1,7 +1,7 @@
 ghost use Rattle.std.specs.Prelude.{◌≡◌, ◌++◌, map, OnOk, IfOk};
 ghost use Rattle.kc_expr.specs.Tree.{tree_of};
 ghost use Rattle.kc_statement.specs.Trees.{item_tree};
-ghost use Rattle.kc_octet.specs.declared.octet.Octet as octets;
+ghost use Rattle.kc_octet.specs.declared.octet.Octet.TheVariants as octets;
 ghost use Rattle.kc_operation_octets.specs.Octets.{word_of};
 ghost use Rattle.kc_content.specs.Content as content;
 
