@@ -91,7 +91,6 @@ fn item_fault<S: Scope>(size: u8, item: &Item, scope: &S) -> Option<u8>
     }
 }
 
-#[tactic(auto, using(crate::proofs::FaultLemmas::goes_on, crate::proofs::FaultLemmas::least_none, crate::proofs::FaultLemmas::lesser_none))]
 fn data_fault<S: Scope>(size: u8, items: &[Item], scope: &S) -> Option<u8>
     ensures { result ≡ faults.least (flat_map (faults.item_faults (S.answers scope.now) size) (map item_tree items.now)) }
 {
@@ -113,7 +112,6 @@ fn operand_values_fault<S: Scope>(arg: &Arg, scope: &S) -> Option<u8>
     }
 }
 
-#[tactic(auto, using(crate::proofs::FaultLemmas::goes_on, crate::proofs::FaultLemmas::least_none, crate::proofs::FaultLemmas::lesser_none))]
 fn operands_fault<S: Scope>(args: &[Arg], scope: &S) -> Option<u8>
     ensures { result ≡ faults.least (flat_map (faults.operand_faults (S.answers scope.now)) (map arg_tree args.now)) }
 {

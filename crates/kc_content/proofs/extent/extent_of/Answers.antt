@@ -13,5 +13,11 @@ use Rattle.kc_content.proofs.extent.extent_of.Goals as goal
 pub returns-in-Define : goal.returns-in-Define
 returns-in-Define g c = λ place.
     let e : c.data_length.result ≡ min (content.data_count c.in-Define.size (map item_tree c.in-Define.items)) most = cc in
-    let t : action_tree c.args.action.now ≡ _ = cc in
-    ap extent.Bytes (e ∙ ap (λ n. min n most) (sym (counted_data (g.S.Scope.answers c.args.scope.now) c.in-Define.size (map item_tree c.in-Define.items)))) ∙ ?
+    ap extent.Bytes (e ∙ ap (λ n. min n most) (sym (counted_data (g.S.Scope.answers c.args.scope.now) c.in-Define.size (map item_tree c.in-Define.items))))
+    ∙ ap (λ a. counted (content.extent_of (content.content (g.S.Scope.answers c.args.scope.now) c.args.form place (action_tree a)))) (sym c.in-Define.is)
+
+pub returns-in_ok-count-in-Operation : goal.returns-in_ok-count-in-Operation
+returns-in_ok-count-in-Operation g c = λ place.
+    ap extent.Bytes (c.in_ok-count-in-Operation.ensures place
+    ∙ (λ i. min (length (all_octets (instructions (c.as_slice-in-Operation.ensures i) (arguments.arguments (g.S.Scope.answers c.args.scope.now) (map arg_tree (c.as_slice-in-Operation-2.ensures i))) c.args.form place))) most))
+    ∙ ap (λ a. counted (content.extent_of (content.content (g.S.Scope.answers c.args.scope.now) c.args.form place (action_tree a)))) (sym c.in-Operation.is)
