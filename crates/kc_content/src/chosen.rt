@@ -6,9 +6,9 @@ ghost use Rattle.kc_content.specs.Arguments as arguments;
 ghost use Rattle.kc_content.specs.Content as content;
 ghost use Rattle.kc_content.specs.Seen.{seen};
 
-use crate::operands::arguments;
 use crate::content::Content;
 use crate::items::data_octets;
+use crate::operands::arguments;
 use crate::values::fixed_of;
 use kc_base::NoMemory;
 use kc_expr::{Scope, Value};
@@ -74,12 +74,24 @@ pub fn content_of<S: Scope>(
     ensures { IfOk result (λ c. seen c ≡ content.content (S.answers scope.now) form place (action_tree action.now)) }
 {
     match action {
-        Action::Define(size, items) => Ok(Content::Octets(data_octets(alloc, *size, items.as_slice(), scope)?)),
+        Action::Define(size, items) => Ok(Content::Octets(data_octets(
+            alloc,
+            *size,
+            items.as_slice(),
+            scope,
+        )?)),
         Action::Reserve(size, count) => Ok(reserved(*size, fixed_of(count, scope))),
         Action::Org(to) => Ok(upto(fixed_of(to, scope))),
         Action::Even => Ok(Content::Even),
         Action::Operation { name, args } => {
-            let octets = operation_octets(alloc, name.as_slice(), args.as_slice(), form, place, scope)?;
+            let octets = operation_octets(
+                alloc,
+                name.as_slice(),
+                args.as_slice(),
+                form,
+                place,
+                scope,
+            )?;
             Ok(Content::Octets(octets))
         }
         _ => Ok(Content::Nothing),

@@ -49,7 +49,13 @@ fn data_length(size: u8, items: &[Item]) -> u32
     count
 }
 
-fn operation_length<S: Scope>(alloc: Global, word: &[u8], args: &[Arg], form: Form, scope: &S) -> Result<u32, NoMemory>
+fn operation_length<S: Scope>(
+    alloc: Global,
+    word: &[u8],
+    args: &[Arg],
+    form: Form,
+    scope: &S,
+) -> Result<u32, NoMemory>
     ensures { IfOk result (λ n. (place : Value) → n ≡ min (length (all_octets (instructions word.now (arguments.arguments (S.answers scope.now) (map arg_tree args.now)) form place))) most) }
 {
     let args = arguments(alloc, args, scope)?;
@@ -76,7 +82,12 @@ fn upto(place: Option<u16>) -> Extent
 
 /// How far a statement goes on, wherever it stands: what its content tells, without its octets. A count of bytes stops at
 /// the greatest number of 32 bits. (MCS-96 Macro Assembler User's Guide, "Segments and the Location Counter".)
-pub fn extent_of<S: Scope>(alloc: Global, action: &Action, form: Form, scope: &S) -> Result<Extent, NoMemory>
+pub fn extent_of<S: Scope>(
+    alloc: Global,
+    action: &Action,
+    form: Form,
+    scope: &S,
+) -> Result<Extent, NoMemory>
     ensures { IfOk result (λ e. (place : Value) → e ≡ counted (content.extent_of (content.content (S.answers scope.now) form place (action_tree action.now)))) }
 {
     match action {

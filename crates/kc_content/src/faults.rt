@@ -45,7 +45,11 @@ fn value_fault<S: Scope>(expr: &Expr, scope: &S) -> Option<u8>
 fn unless_fixed(value: Value) -> Option<u8>
     ensures { result ≡ faults.least (faults.unless_fixed (Ok value)) }
 {
-    if value.base == Base::Fixed { None } else { Some(10) }
+    if value.base == Base::Fixed {
+        None
+    } else {
+        Some(10)
+    }
 }
 
 #[tactic(auto, unfolding(crate::specs::Faults::least))]
@@ -108,7 +112,10 @@ fn operand_values_fault<S: Scope>(arg: &Arg, scope: &S) -> Option<u8>
     match arg {
         Arg::Plain(value) | Arg::Immediate(value) => value_fault(value, scope),
         Arg::Indirect(register) | Arg::Increment(register) => value_fault(register, scope),
-        Arg::Indexed(value, register) => lesser(value_fault(value, scope), value_fault(register, scope)),
+        Arg::Indexed(value, register) => lesser(
+            value_fault(value, scope),
+            value_fault(register, scope),
+        ),
     }
 }
 
@@ -123,11 +130,19 @@ fn operands_fault<S: Scope>(args: &[Arg], scope: &S) -> Option<u8>
 }
 
 #[tactic(auto, using(crate::proofs::FaultLemmas::least_append, crate::proofs::FaultLemmas::least_option))]
-fn operation_fault<S: Scope>(alloc: Global, word: &[u8], args: &[Arg], scope: &S) -> Result<Option<u8>, NoMemory>
+fn operation_fault<S: Scope>(
+    alloc: Global,
+    word: &[u8],
+    args: &[Arg],
+    scope: &S,
+) -> Result<Option<u8>, NoMemory>
     ensures { IfOk result (λ c. c ≡ faults.least (faults.faults_of (S.answers scope.now) (trees.Operation word.now (map arg_tree args.now)))) }
 {
     let values = arguments(alloc, args, scope)?;
-    Ok(lesser(operands_fault(args, scope), operand_fault(word, values.as_slice())))
+    Ok(lesser(
+        operands_fault(args, scope),
+        operand_fault(word, values.as_slice()),
+    ))
 }
 
 /// The least code of the faults of a statement's values, over what names mean where it stands: those of its expressions (7
@@ -142,10 +157,17 @@ pub fn fault<S: Scope>(alloc: Global, action: &Action, scope: &S) -> Result<Opti
     match action {
         Action::Module { stack, .. } => Ok(part_fault(stack, scope)),
         Action::Cseg(at) | Action::Dseg(at) | Action::Rseg(at) => Ok(part_fault(at, scope)),
-        Action::Sseg(value) | Action::Reserve(_, value) | Action::Org(value) => Ok(fixed_fault(value, scope)),
+        Action::Sseg(value) | Action::Reserve(_, value) | Action::Org(value) => Ok(fixed_fault(
+            value, scope,
+        )),
         Action::Equ(_, value) | Action::Set(_, value) => Ok(value_fault(value, scope)),
         Action::Define(size, items) => Ok(data_fault(*size, items.as_slice(), scope)),
-        Action::Operation { name, args } => operation_fault(alloc, name.as_slice(), args.as_slice(), scope),
+        Action::Operation { name, args } => operation_fault(
+            alloc,
+            name.as_slice(),
+            args.as_slice(),
+            scope,
+        ),
         _ => Ok(None),
     }
 }

@@ -45,7 +45,12 @@ fn push_long<S: Scope>(list: &mut Vec<Octet>, expr: &Expr, scope: &S) -> Result<
     }
 }
 
-fn push_value<S: Scope>(list: &mut Vec<Octet>, size: u8, expr: &Expr, scope: &S) -> Result<(), NoMemory>
+fn push_value<S: Scope>(
+    list: &mut Vec<Octet>,
+    size: u8,
+    expr: &Expr,
+    scope: &S,
+) -> Result<(), NoMemory>
     ensures { OnOk result (list.new.items ≡ list.old.items ++ content.value_octets (S.answers scope.now) size (tree_of expr.now)) }
 {
     match size {
@@ -62,7 +67,12 @@ fn push_value<S: Scope>(list: &mut Vec<Octet>, size: u8, expr: &Expr, scope: &S)
     }
 }
 
-fn push_item<S: Scope>(list: &mut Vec<Octet>, size: u8, item: &Item, scope: &S) -> Result<(), NoMemory>
+fn push_item<S: Scope>(
+    list: &mut Vec<Octet>,
+    size: u8,
+    item: &Item,
+    scope: &S,
+) -> Result<(), NoMemory>
     ensures { OnOk result (list.new.items ≡ list.old.items ++ content.item_octets (S.answers scope.now) size (item_tree item.now)) }
 {
     match item {
@@ -72,7 +82,12 @@ fn push_item<S: Scope>(list: &mut Vec<Octet>, size: u8, item: &Item, scope: &S) 
 }
 
 // The octets of a list of data whose items have so many bytes.
-pub(crate) fn data_octets<S: Scope>(alloc: Global, size: u8, items: &[Item], scope: &S) -> Result<Vec<Octet>, NoMemory>
+pub(crate) fn data_octets<S: Scope>(
+    alloc: Global,
+    size: u8,
+    items: &[Item],
+    scope: &S,
+) -> Result<Vec<Octet>, NoMemory>
     ensures { IfOk result (λ v. v.items ≡ content.data_octets (S.answers scope.now) size (map item_tree items.now)) }
 {
     let mut list = Vec::new(alloc);

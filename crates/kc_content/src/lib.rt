@@ -3,22 +3,22 @@
 #![tactic(auto)]
 
 pub mod alignment;
-pub mod operands;
 mod chosen;
 pub mod content;
-mod items;
 pub mod extent;
 pub mod faults;
+mod items;
 pub mod laws;
+pub mod operands;
 mod values;
 
 pub use alignment::{alignment_of, gap};
-pub use operands::arguments;
 pub use chosen::content_of;
 pub use content::Content;
 pub use extent::{Extent, extent_of};
 pub use faults::fault;
 pub use laws::{expressions_are_alike, extents_stay};
+pub use operands::arguments;
 
 #[cfg(test)]
 mod tests;

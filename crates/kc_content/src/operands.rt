@@ -25,7 +25,11 @@ fn argument<S: Scope>(arg: &Arg, scope: &S) -> Argument
 
 /// The operands of an operation with the values of their expressions, over what names mean; `None` where an expression has
 /// a fault. (MCS-96 Macro Assembler User's Guide, "Operands".)
-pub fn arguments<S: Scope>(alloc: Global, args: &[Arg], scope: &S) -> Result<Vec<Argument>, NoMemory>
+pub fn arguments<S: Scope>(
+    alloc: Global,
+    args: &[Arg],
+    scope: &S,
+) -> Result<Vec<Argument>, NoMemory>
     ensures { IfOk result (λ v. v.items ≡ arguments.arguments (S.answers scope.now) (map arg_tree args.now)) }
 {
     let mut list = Vec::new(alloc);
