@@ -5,3 +5,5 @@ pub mod Alignment
 pub mod Faults
 pub mod Alike
 pub mod Laws
+pub mod Pairing
+pub mod Bases

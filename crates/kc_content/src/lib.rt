@@ -17,7 +17,7 @@ pub use chosen::content_of;
 pub use content::Content;
 pub use extent::{Extent, extent_of};
 pub use faults::fault;
-pub use laws::{expressions_are_alike, extents_stay};
+pub use laws::{contents_are_octets, contents_are_paired, expressions_are_alike, extents_stay};
 pub use operands::arguments;
 
 #[cfg(test)]
