@@ -1,6 +1,6 @@
 -- The values of expressions count from nothing that their names do not count from.
 use Rattle.std.proofs.Common.{◌≡◌, ℕ, ◌+◌, ◌-◌, ◌%◌, Bool, true, false, cond, List, [], ◌∷◌, refl}
-use Rattle.std.specs.Prelude.{nat_lt, Option, Some, None, Result, Ok, Err}
+use Rattle.std.specs.Prelude.{nat_lt, Option, Some, None, Ok, Err}
 use Rattle.kc_expr.specs.declared.values.Base.{Base}
 use Rattle.kc_expr.specs.declared.values.Base.TheVariants as bases
 use Rattle.kc_expr.specs.declared.values.Tag.TheVariants.{Memory}

@@ -1,5 +1,5 @@
 -- Counts that stop at a greatest number, and gaps.
-use Rattle.std.proofs.Common.{◌≡◌, arith, ℕ, ◌+◌, ◌-◌, ◌*◌, ◌/◌, ◌%◌, ◌<◌, ◌≤◌, refl, sym, ap, ◌∙◌}
+use Rattle.std.proofs.Common.{◌≡◌, arith, ℕ, ◌+◌, ◌-◌, ◌*◌, ◌/◌, ◌%◌, ◌<◌, ◌≤◌, sym, ap, ◌∙◌}
 use Rattle.std.specs.Prelude.{min}
 use Rattle.std.proofs.Math.Nat.{add-mod-mod, mod-add-div, mod-lt, mul-mod_right}
 use Rattle.kc_content.specs.Seen.{most}

@@ -12,7 +12,7 @@ use Rattle.kc_expr.specs.Meaning.{Answer, answer_by}
 use Rattle.kc_statement.specs.Trees.{ItemTree, ArgTree, ActionTree}
 use Rattle.kc_statement.specs.Trees as trees
 use Rattle.kc_isa.specs.declared.layout.Form.{Form as Bytes}
-use Rattle.kc_isa.specs.declared.layout.Form.TheVariants.{NoOperand, Mode, ShiftCount, Distance11, Distance8, Distance16, OneByte}
+use Rattle.kc_isa.specs.declared.layout.Form.TheVariants.{Mode, Distance11, Distance16}
 use Rattle.kc_isa.specs.declared.layout.Layout.{Layout}
 use Rattle.kc_isa.specs.declared.table.Shape.{Shape}
 use Rattle.kc_isa.specs.declared.table.Shape.TheVariants as shapes
@@ -21,7 +21,6 @@ use Rattle.kc_isa.specs.Table.{plain_entry}
 use Rattle.kc_isa.specs.Layout.{layout_of}
 use Rattle.kc_isa.specs.Formed.{is_byte}
 use Rattle.kc_code.specs.Spelling.{prefix}
-use Rattle.kc_obj.specs.Fixups.{may_begin}
 use Rattle.kc_octet.specs.declared.octet.Octet.{Octet}
 use Rattle.kc_octet.specs.declared.octet.Octet.TheVariants as octets
 use Rattle.kc_operation.specs.declared.argument.Argument.{Argument}
@@ -34,9 +33,9 @@ use Rattle.kc_operation.specs.declared.word.Word.{Word}
 use Rattle.kc_operation.specs.declared.word.Word.TheVariants.{Absent, Register, Immediate, Indirect, Increment, Short, Long, Count, Jump}
 use Rattle.kc_operation.specs.declared.word.Worded.{Worded}
 use Rattle.kc_operation.specs.Values.{fixed as plain, or_zero, moved, is_direct, is_short, argument, value_of}
-use Rattle.kc_operation.specs.Opcodes.{least, low_bits, wanted_bits, operand_count, is_row_for}
+use Rattle.kc_operation.specs.Opcodes.{least, low_bits, wanted_bits}
 use Rattle.kc_operation.specs.Sources.{plain_source, indexed_source, source}
-use Rattle.kc_operation.specs.Branches.{Line, line, over, branch_kind, branch_lines, in_full}
+use Rattle.kc_operation.specs.Branches.{Line, line, branch_kind, branch_lines, in_full}
 use Rattle.kc_operation.specs.Instructions.{operand_for, regs_for, laid, instructions}
 use Rattle.kc_operation_octets.specs.Octets.{byte_of, word_of, immediate_octets, jump_octets, operand_octets, opcode_octet, row_octets, worded_octets, all_octets}
 use Rattle.kc_operation_octets.specs.Suits.{EachOf}
@@ -44,7 +43,7 @@ use Rattle.kc_operation_octets.proofs.Found.{IsLaid}
 use Rattle.kc_operation_octets.proofs.Lengths.{not_some}
 use Rattle.kc_operation_octets.proofs.Evens.{EachLine, each_line}
 use Rattle.kc_content.specs.Arguments as contents
-use Rattle.kc_content.specs.Content.{long_octets, value_octets, item_octets, data_octets, reserved, upto, content}
+use Rattle.kc_content.specs.Content.{long_octets, item_octets, data_octets, reserved, upto, content}
 use Rattle.kc_content.specs.Bases.{is_octet, AreOctets, is_known}
 use Rattle.kc_content.proofs.BaseLemmas.{answer_known}
 
@@ -283,16 +282,16 @@ module _ (known : Base → Bool) (fixed : known bases.Fixed ≡ true) where
       let r : AllKnown regs = regs_known row.shape args h in
       all-append (is_octet known) (map octets.Plain (prefix signed)) (opcode_octet l.form opcode (operand_for row.shape args) ∷ (F ++ (O ++ B))) (plain_are (prefix signed))
       (join (is_octet known (opcode_octet l.form opcode (operand_for row.shape args))) (list_all (is_octet known) (F ++ (O ++ B)))
-        (opcode_is l.form opcode (operand_for row.shape args) j (operand_known row.shape args h))
-        (all-append (is_octet known) F (O ++ B) (bytes_are (take l.before regs) (all-take (λ v. known v.base) l.before regs r))
-          (all-append (is_octet known) O B (operand_are l.form (is_byte row.width) (operand_for row.shape args) (operand_known row.shape args h))
-            (bytes_are (take l.after (drop l.before regs)) (all-take (λ v. known v.base) l.after (drop l.before regs) (all-drop (λ v. known v.base) l.before regs r))))))
+      (opcode_is l.form opcode (operand_for row.shape args) j (operand_known row.shape args h))
+      (all-append (is_octet known) F (O ++ B) (bytes_are (take l.before regs) (all-take (λ v. known v.base) l.before regs r))
+      (all-append (is_octet known) O B (operand_are l.form (is_byte row.width) (operand_for row.shape args) (operand_known row.shape args h))
+      (bytes_are (take l.after (drop l.before regs)) (all-take (λ v. known v.base) l.after (drop l.before regs) (all-drop (λ v. known v.base) l.before regs r))))))
 
   worded_are : (word : List ℕ) (args : List Argument) (w : Worded) → KnownArguments known args → IsLaid word args w → Are (worded_octets w)
   worded_are word args w h l =
       let j : is_high (layout_of l.row.shape).form ≡ true → is_jump l.opcode ≡ true = λ n.
-        (let near : is_near l.row.shape ≡ true = high_is_near l.row.shape n in
-        near_jump l.opcode l.signed l.row l.below l.at near (near_bits l.row.shape l.opcode args near (both _ _ (both _ _ l.fits).1).1)) in
+      (let near : is_near l.row.shape ≡ true = high_is_near l.row.shape n in
+      near_jump l.opcode l.signed l.row l.below l.at near (near_bits l.row.shape l.opcode args near (both _ _ (both _ _ l.fits).1).1)) in
       let p : Are (worded_octets (laid l.opcode l.signed args l.row.shape)) = rw (l.at, worded_octets) (row_are l.opcode l.signed args l.row j h) in
       subst (λ (v : Worded). Are (worded_octets v)) l.is p
 

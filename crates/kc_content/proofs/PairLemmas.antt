@@ -1,5 +1,5 @@
 -- The bytes of data are paired.
-use Rattle.std.proofs.Common.{◌≡◌, ℕ, Bool, true, false, cond, List, [], ◌∷◌, ◌++◌, map, refl}
+use Rattle.std.proofs.Common.{ℕ, Bool, true, false, cond, List, [], ◌∷◌, ◌++◌, map, refl}
 use Rattle.std.specs.Prelude.{◌==◌}
 use Rattle.std.specs.Int.{w32, to_le_bytes}
 use Rattle.kc_expr.specs.declared.values.Value.{Value}
@@ -15,7 +15,7 @@ use Rattle.kc_operation_octets.specs.Pairs.{IsPaired}
 use Rattle.kc_operation_octets.specs.Laws.{OctetsArePaired}
 use Rattle.kc_operation_octets.proofs.Paired.{paired-append}
 use Rattle.kc_content.specs.Arguments.{Look, value_of, fixed_of, arguments}
-use Rattle.kc_content.specs.Content.{long_octets, value_octets, item_octets, data_octets, reserved, upto, content}
+use Rattle.kc_content.specs.Content.{long_octets, item_octets, data_octets, reserved, upto, content}
 use Rattle.kc_content.specs.Pairing.{ArePaired}
 use Rattle.std.specs.Prelude.{Option, Some, None}
 

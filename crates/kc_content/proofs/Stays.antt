@@ -1,8 +1,6 @@
 -- How far a statement goes on is the same over looks that are alike.
-use Rattle.std.proofs.Common.{◌≡◌, ℕ, ◌+◌, ◌*◌, Bool, true, false, cond, List, [], ◌∷◌, ◌++◌, length, map, refl, sym, ap, ◌∙◌}
-use Rattle.std.specs.Prelude.{◌==◌, Option, Some, None, Result, Ok, Err}
-use Rattle.std.specs.Int.{w32, to_le_bytes}
-use Rattle.std.specs.List.{flat_map}
+use Rattle.std.proofs.Common.{◌≡◌, ℕ, ◌+◌, Bool, true, false, cond, List, [], ◌∷◌, length, map, refl, sym, ap, ◌∙◌}
+use Rattle.std.specs.Prelude.{◌==◌, Some, None, Ok, Err}
 use Rattle.kc_expr.specs.declared.values.Base.{Base}
 use Rattle.kc_expr.specs.declared.values.Base.TheVariants.{Fixed, Absolute, Piece, External}
 use Rattle.kc_expr.specs.declared.values.Tag.{Tag}
@@ -13,7 +11,6 @@ use Rattle.kc_statement.specs.Trees.{ItemTree, ArgTree, ActionTree}
 use Rattle.kc_statement.specs.Trees as trees
 use Rattle.kc_octet.specs.declared.octet.Octet.{Octet}
 use Rattle.kc_octet.specs.declared.octet.Octet.TheVariants.{Plain}
-use Rattle.kc_operation.specs.declared.argument.Argument.{Argument}
 use Rattle.kc_operation.specs.declared.argument.Argument.TheVariants as arg
 use Rattle.kc_operation.specs.declared.branch.Form.{Form}
 use Rattle.kc_operation.specs.Instructions.{instructions}
@@ -22,9 +19,9 @@ use Rattle.kc_operation_octets.specs.Octets.{byte_of, word_of, all_octets}
 use Rattle.kc_operation_octets.specs.Blurred.{blurred_value, blurred}
 use Rattle.kc_operation_octets.specs.Laws.{LengthStays}
 use Rattle.kc_content.specs.declared.extent.Extent.TheVariants as extent
-use Rattle.kc_content.specs.Arguments.{Look, value_in, value_of, fixed_in, fixed_of, argument, arguments}
+use Rattle.kc_content.specs.Arguments.{Look, value_in, value_of, fixed_in, argument, arguments}
 use Rattle.kc_content.specs.Alike.{AreAlikeValues, AreAlike, AllAlike}
-use Rattle.kc_content.specs.Content.{long_octets, value_octets, item_octets, item_count, data_octets, data_count, reserved, upto, content, extent_of}
+use Rattle.kc_content.specs.Content.{long_octets, item_octets, item_count, data_octets, data_count, reserved, upto, content, extent_of}
 use Rattle.kc_content.proofs.AlikeLemmas.{expressions_alike}
 use Rattle.std.proofs.lemmas.List.{length-append, length-map}
 

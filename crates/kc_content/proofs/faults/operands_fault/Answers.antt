@@ -1,4 +1,4 @@
-use Rattle.std.proofs.Common.{◌≡◌, ◌∙◌, ap, arith}
+use Rattle.std.proofs.Common.{◌∙◌, ap}
 use Rattle.kc_statement.specs.Trees.{arg_tree}
 use Rattle.kc_content.specs.Faults as faults
 use Rattle.kc_content.proofs.FaultLemmas.{advances, ends}
