@@ -1,0 +1,17 @@
+-- The second byte of a number stands behind its first one in the bytes of every statement.
+use Rattle.kc_expr.specs.declared.values.Value.{Value}
+use Rattle.kc_statement.specs.Trees.{ActionTree}
+use Rattle.kc_operation.specs.declared.branch.Form.{Form}
+use Rattle.kc_operation_octets.specs.Pairs.{IsPaired}
+use Rattle.kc_content.specs.Arguments.{Look}
+use Rattle.kc_content.specs.Content.{Content, Nothing, Octets, Reserved, Upto, Even, content}
+
+abbrev pub ArePaired : Content → Type 0
+ArePaired (Octets os) = IsPaired os
+ArePaired Nothing = Unit {0}
+ArePaired (Reserved n) = Unit {0}
+ArePaired (Upto place) = Unit {0}
+ArePaired Even = Unit {0}
+
+abbrev pub ContentsArePaired : Type 0
+ContentsArePaired = (look : Look) (form : Form) (place : Value) (action : ActionTree) → ArePaired (content look form place action)

@@ -1,0 +1,30 @@
+ghost use Rattle.kc_content.specs.Alike.{ExpressionsAreAlike};
+ghost use Rattle.kc_content.specs.Bases.{ContentsAreOctets};
+ghost use Rattle.kc_content.specs.Laws.{ExtentsStay};
+ghost use Rattle.kc_content.specs.Pairing.{ContentsArePaired};
+
+use kc_operation_octets::laws::{length_stays, octets_are_paired};
+
+/// Where all names answer alike, so do all expressions.
+pub fn expressions_are_alike()
+    ensures { ExpressionsAreAlike }
+{}
+
+/// How far a statement goes on depends neither on where it stands nor on numbers that are not fixed.
+pub fn extents_stay()
+    ensures { ExtentsStay }
+{
+    length_stays();
+}
+
+/// The second byte of a number stands behind its first one, and nowhere else.
+pub fn contents_are_paired()
+    ensures { ContentsArePaired }
+{
+    octets_are_paired();
+}
+
+/// Octets count from nothing that the names do not count from, and each number has a kind and stands where it may.
+pub fn contents_are_octets()
+    ensures { ContentsAreOctets }
+{}

@@ -1,0 +1,24 @@
+//! What a statement puts into its piece, over what names mean where it stands: its octets, how far it goes on, and the faults
+//! of its values.
+#![tactic(auto)]
+
+pub mod alignment;
+mod chosen;
+pub mod content;
+pub mod extent;
+pub mod faults;
+mod items;
+pub mod laws;
+pub mod operands;
+mod values;
+
+pub use alignment::{alignment_of, gap};
+pub use chosen::content_of;
+pub use content::Content;
+pub use extent::{Extent, extent_of};
+pub use faults::fault;
+pub use laws::{contents_are_octets, contents_are_paired, expressions_are_alike, extents_stay};
+pub use operands::arguments;
+
+#[cfg(test)]
+mod tests;
