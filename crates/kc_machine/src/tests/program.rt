@@ -84,9 +84,9 @@ use std::test::Fail;
 //   JC C1
 //   NOP
 //   C1: CLRVT
-//   JNVT D1
+//   JNVT MOVES
 //   NOP
-//   D1: LD 34H,#0600H
+//   MOVES: LD 34H,#0600H
 //   LD 36H,#0620H
 //   LD 38H,#2
 //   BMOV 34H,38H
