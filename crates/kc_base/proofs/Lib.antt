@@ -1,3 +1,4 @@
+pub mod ByteLemmas
 mod Faults
 pub mod Growth
 pub mod TextLineLemmas

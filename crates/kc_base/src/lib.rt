@@ -1,6 +1,7 @@
 //! What every part of the kit speaks of: state times, pins, undefined uses, texts, images, files and sinks.
 #![tactic(auto)]
 
+mod digits;
 mod edge_out;
 mod files;
 mod host;
@@ -12,6 +13,7 @@ mod text;
 mod text_lines;
 mod types;
 
+pub use digits::hex_digit;
 pub use edge_out::EdgeOut;
 pub use files::{FILE_LIMIT, FileFault, Files};
 pub use host::{HostFiles, HostOut};

@@ -1,7 +1,7 @@
 -- As which word a line is matched (after the MCS-96 Macro Assembler User's Guide, "Macros" and "Conditional Assembly").
 use Rattle.std.specs.Prelude.{Bool, true, false, ◌&&◌, if◌then◌else◌, List, [], ◌∷◌, codes}
 use Rattle.kc_lex.specs.declared.token.Token.{Token}
-use Rattle.kc_lex.specs.Kinds.{is_word, is_sign, is_name_kind, is_free_name, begins_word}
+use Rattle.kc_lex.specs.Kinds.{is_word, is_name_kind, has_label, begins_word}
 use Rattle.kc_body.specs.declared.words.Word.{Word}
 use Rattle.kc_body.specs.declared.words.Word.TheVariants.{Macro, Local, Exitm, Else, Endif, Endm, If, Rept, Irp, End, Other}
 
@@ -37,12 +37,6 @@ is_other If = false
 is_other Rept = false
 is_other Irp = false
 is_other End = false
-
--- a label is a name and a colon
-abbrev pub has_label : List Token → Bool
-has_label [] = false
-has_label (t ∷ []) = false
-has_label (t ∷ u ∷ ts) = is_free_name t && is_sign 58 u
 
 -- the word of a line without label; a definition has its name before MACRO
 abbrev pub unlabelled : List Token → Word

@@ -2,7 +2,7 @@ ghost use Rattle.std.specs.Prelude.{◌≡◌, ◌≤◌, length, true};
 ghost use Rattle.kc_body.specs.Words as words;
 
 use kc_lex::Token;
-use kc_lex::kinds::{begins_word, is_free_name, is_name, is_sign, is_word};
+use kc_lex::kinds::{begins_word, has_label, is_name, is_word};
 
 /// As which word a line is matched.
 #[derive(Clone, Copy, Debug, PartialEq, Eq)]
@@ -60,17 +60,6 @@ fn is_other(word: Word) -> bool
     ensures { result ≡ words.is_other word }
 {
     matches!(word, Word::Other)
-}
-
-/// Whether a line begins with a label, a name and a colon.
-pub fn has_label(tokens: &[Token]) -> bool
-    ensures value { result ≡ words.has_label tokens.now }
-    ensures within { result ≡ true → 2 ≤ length tokens.now }
-{
-    match tokens {
-        [first, second, ..] => is_free_name(first) && is_sign(second, b':'),
-        _ => false,
-    }
 }
 
 /// The word of a line that has no label.

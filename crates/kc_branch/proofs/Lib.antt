@@ -1,5 +1,10 @@
+pub mod Forks
 pub mod Gaps
 pub mod Iterated
 pub mod Least
-pub mod Passing
+pub mod Listing
 pub mod Reaching
+pub mod Resting
+pub mod Spanning
+pub mod Standing
+pub mod Stirring

@@ -22,7 +22,7 @@ count_branch kind target xs = refl
 
 -- ---- one branch
 
-third_reaches : (at : List ℕ) (kind : BranchKind) (target : Option (ℕ × ℤ)) (end : ℕ) → reaches at kind target Third end ≡ true
+pub third_reaches : (at : List ℕ) (kind : BranchKind) (target : Option (ℕ × ℤ)) (end : ℕ) → reaches at kind target Third end ≡ true
 third_reaches at Jump None end = refl
 third_reaches at Jump (Some t) end = refl
 third_reaches at Call None end = refl

@@ -2,6 +2,7 @@
 
 ghost use Rattle.std.specs.Prelude.{◌≡◌, ◌+ℤ◌, ◌-ℤ◌, pos, ◌≤◌};
 ghost use Rattle.kc_branch.specs.Forms as spec;
+ghost use Rattle.kc_branch.specs.Layouts as layouts;
 
 use crate::piece::{BranchKind, Form};
 
@@ -20,6 +21,13 @@ pub(crate) fn size(kind: BranchKind, form: Form) -> u8
         (BranchKind::BitTest, Form::Second) => 5,
         (BranchKind::BitTest, Form::Third) => 6,
     }
+}
+
+/// The length of a generic branch in a form, in bytes. (80C196KC User's Manual, "Jump and Call Instructions".)
+pub fn branch_length(kind: BranchKind, form: Form) -> u16
+    ensures { result ≡ spec.size kind form }
+{
+    u16::from(size(kind, form))
 }
 
 fn is_byte(away: i128) -> bool
@@ -42,6 +50,17 @@ pub(crate) fn spans(kind: BranchKind, form: Form, away: i128) -> bool
         (BranchKind::Jump | BranchKind::Call, Form::First) => is_eleven_bits(away),
         (BranchKind::Conditional | BranchKind::BitTest, Form::First) => is_byte(away),
         (BranchKind::Conditional | BranchKind::BitTest, Form::Second) => is_eleven_bits(away),
+        _ => true,
+    }
+}
+
+// Whether a form reaches any place.
+pub(crate) fn is_free(kind: BranchKind, form: Form) -> bool
+    ensures { result ≡ layouts.is_free kind form }
+{
+    match (kind, form) {
+        (BranchKind::Jump | BranchKind::Call, Form::First) => false,
+        (BranchKind::Conditional | BranchKind::BitTest, Form::First | Form::Second) => false,
         _ => true,
     }
 }

@@ -5,7 +5,9 @@ mod branch;
 mod layout;
 mod piece;
 mod rounds;
+mod stretch;
 
+pub use branch::branch_length;
 pub use piece::{BranchKind, Form, Piece};
 pub use rounds::sizes;
 

@@ -114,3 +114,31 @@ fn a_long_chain_grows_one_by_one(rt: HostRuntime) -> Result<(), Fail> {
     );
     Ok(())
 }
+
+/// Two such chains in one list, each from a place of its own: the second goes back to the place of the first.
+#[test]
+fn chains_in_two_pieces_grow_apart(rt: HostRuntime) -> Result<(), Fail> {
+    let mut pieces = Vec::new(rt.alloc());
+    for first in [1, 535] {
+        pieces.push(Piece::At(0x3000))?;
+        for at in 0..500 {
+            pieces.push(to(BranchKind::Conditional, first + at + 33, 0))?;
+        }
+        for _ in 0..33 {
+            pieces.push(Piece::Branch {
+                kind: BranchKind::Conditional,
+                target: None,
+            })?;
+        }
+    }
+    let forms = sizes(rt.alloc(), &pieces)?;
+    assert_eq!(rt;
+        forms.iter().filter(|form| **form == Form::Second).count(),
+        1000
+    );
+    assert_eq!(rt;
+        forms.iter().filter(|form| **form == Form::Third).count(),
+        66
+    );
+    Ok(())
+}

@@ -20,7 +20,7 @@ use Rattle.kc_code.specs.Spelling.{operand_bytes, high_bits, laid_bytes, prefix,
 use Rattle.kc_code.specs.Reading.{◌>>=◌, regs_at, distance11, indirect_at, indexed_at, mode_at, operand_at, base_opcode, joined, laid_at, body_at, finished, no_row, with_row, behind_prefix, decode_of}
 use Rattle.kc_code.specs.declared.reader.Decoded.{Decoded}
 use Rattle.kc_code.specs.declared.reader.Decoded.TheVariants.{Insn as Whole, Unimplemented, Undefined, Short as Cut}
-use Rattle.kc_code.specs.Bytes.{IsBytes}
+use Rattle.kc_base.specs.Bytes.{IsBytes}
 use Rattle.kc_code.specs.Ranges.{InsnHas}
 use Rattle.kc_code.specs.Front.{IsInFront, IsProperFront, is_gap, is_gap_behind, is_undefined, is_unimplemented, RestDoesNotMatter}
 use Rattle.kc_code.proofs.Takes.{Read, read_is, taken}

@@ -6,7 +6,7 @@ use Rattle.kc_isa.specs.Names.{Shown, row_at}
 use Rattle.kc_isa.specs.Formed.{is_formed, length_of}
 use Rattle.kc_code.specs.declared.reader.Decoded.{Decoded}
 use Rattle.kc_code.specs.declared.reader.Decoded.TheVariants.{Insn as Whole, Short}
-use Rattle.kc_code.specs.Bytes.{IsBytes}
+use Rattle.kc_base.specs.Bytes.{IsBytes}
 use Rattle.kc_code.specs.Reading.{decode_of}
 use Rattle.kc_code.specs.Spelling.{spelling, is_in_range}
 use Rattle.kc_code.specs.Ranges.{InsnHas}

@@ -2,6 +2,7 @@
 -- MCS-96 Macro Assembler User's Guide, "Operands").
 use Rattle.std.specs.Prelude.{◌≡◌, ℕ, Bool, true, ◌<◌, ◌+◌, ◌/◌, ◌%◌, nat_lt, if◌then◌else◌, Some, None, List, [], ◌∷◌, ◌++◌, slice_index_or}
 use Rattle.std.specs.Int.{w16, cast_unsigned}
+use Rattle.kc_base.specs.Digits.{hex_digit}
 use Rattle.kc_isa.specs.declared.table.Shape.{Shape}
 use Rattle.kc_isa.specs.declared.table.Shape.TheVariants.{Nothing, One, Two, Four, FourOne, FourTwo, Exchange, CountOne, Near, Conditional, BitTest, Loop, TableJump, Far, Key}
 use Rattle.kc_isa.specs.declared.table.Group.{Group}
@@ -12,20 +13,17 @@ use Rattle.kc_isa.specs.declared.insn.Insn.{Insn}
 use Rattle.kc_isa.specs.Names.{Shown, row_at}
 use Rattle.kc_isa.specs.Formed.{is_byte, length_of}
 
-abbrev pub digit : ℕ → ℕ
-digit n = if nat_lt n 10 then 0x30 + n else 0x37 + n
-
 -- a digit 0 stands before a number that begins with a letter
 abbrev pub zero_before : ℕ → List ℕ
 zero_before n = if nat_lt n 10 then [] else 0x30 ∷ []
 
 -- two hexadecimal digits and H
 unfoldable pub byte_text : ℕ → List ℕ
-byte_text n = zero_before (n / 0x10) ++ (digit (n / 0x10) ∷ digit (n % 0x10) ∷ 0x48 ∷ [])
+byte_text n = zero_before (n / 0x10) ++ (hex_digit (n / 0x10) ∷ hex_digit (n % 0x10) ∷ 0x48 ∷ [])
 
 -- four hexadecimal digits and H
 unfoldable pub word_text : ℕ → List ℕ
-word_text n = zero_before (n / 0x1000) ++ (digit (n / 0x1000) ∷ digit (n / 0x100 % 0x10) ∷ digit (n / 0x10 % 0x10) ∷ digit (n % 0x10) ∷ 0x48 ∷ [])
+word_text n = zero_before (n / 0x1000) ++ (hex_digit (n / 0x1000) ∷ hex_digit (n / 0x100 % 0x10) ∷ hex_digit (n / 0x10 % 0x10) ∷ hex_digit (n % 0x10) ∷ 0x48 ∷ [])
 
 -- #n
 abbrev pub number_text : Bool → ℕ → List ℕ

@@ -1,19 +1,13 @@
 ghost use Rattle.std.specs.Prelude.{◌≡◌, ◌+◌, ◌≤◌, ◌<◌, ◌++◌, ◌∷◌, [], IsTrue, true, length};
 ghost use Rattle.arrayvec.specs.ArrayVec.{array_vec_len};
 ghost use Rattle.kc_isa.specs.Formed.{is_formed};
-ghost use Rattle.kc_code.specs.Text.{digit, zero_before, byte_text, word_text, number_text, pointer_text, count_text, operand_text, is_byte_number, single_text, listed, register, text_of, FitsNumber, before_operand, ◌comma◌};
+ghost use Rattle.kc_code.specs.Text.{zero_before, byte_text, word_text, number_text, pointer_text, count_text, operand_text, is_byte_number, single_text, listed, register, text_of, FitsNumber, before_operand, ◌comma◌};
 
 use arrayvec::ArrayVec;
+use kc_base::hex_digit;
 use kc_isa::{Group, Insn, Operand, Shape, is_byte_wide, length, row_of};
 
 type Line = ArrayVec<u8, 80>;
-
-fn digit_of(n: u8) -> u8
-    requires { n < 16 }
-    ensures { result ≡ digit n }
-{
-    if n < 10 { b'0' + n } else { b'A' + (n - 10) }
-}
 
 fn push_zero(out: &mut Line, first: u8)
     requires { array_vec_len out.old < 80 }
@@ -32,8 +26,8 @@ fn push_byte(out: &mut Line, n: u8)
     ensures len { array_vec_len out.new ≤ array_vec_len out.old + 4 }
 {
     push_zero(out, n / 16);
-    out.push(digit_of(n / 16));
-    out.push(digit_of(n % 16));
+    out.push(hex_digit(n / 16));
+    out.push(hex_digit(n % 16));
     out.push(b'H');
 }
 
@@ -44,10 +38,10 @@ fn push_word(out: &mut Line, n: u16)
     ensures len { array_vec_len out.new ≤ array_vec_len out.old + 6 }
 {
     push_zero(out, (n / 0x1000) as u8);
-    out.push(digit_of((n / 0x1000) as u8));
-    out.push(digit_of((n / 0x100 % 0x10) as u8));
-    out.push(digit_of((n / 0x10 % 0x10) as u8));
-    out.push(digit_of((n % 0x10) as u8));
+    out.push(hex_digit((n / 0x1000) as u8));
+    out.push(hex_digit((n / 0x100 % 0x10) as u8));
+    out.push(hex_digit((n / 0x10 % 0x10) as u8));
+    out.push(hex_digit((n % 0x10) as u8));
     out.push(b'H');
 }
 

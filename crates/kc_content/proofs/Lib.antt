@@ -1,7 +1,5 @@
-pub mod AlikeLemmas
 pub mod Counting
 pub mod FaultLemmas
 pub mod Stays
 pub mod PairLemmas
-pub mod BaseLemmas
 pub mod OctetLemmas

@@ -9,6 +9,8 @@ use Rattle.kc_expr.specs.declared.values.Base.TheVariants as bases
 use Rattle.kc_expr.specs.declared.values.Value.{Value}
 use Rattle.kc_expr.specs.Tree.{Tree, Number, Chars, Name, Here, One, Two}
 use Rattle.kc_expr.specs.Meaning.{Answer, answer_by}
+use Rattle.kc_expr.specs.Known.{is_known}
+use Rattle.kc_expr.proofs.KnownLemmas.{answer_known}
 use Rattle.kc_statement.specs.Trees.{ItemTree, ArgTree, ActionTree}
 use Rattle.kc_statement.specs.Trees as trees
 use Rattle.kc_isa.specs.declared.layout.Form.{Form as Bytes}
@@ -25,10 +27,10 @@ use Rattle.kc_octet.specs.declared.octet.Octet.{Octet}
 use Rattle.kc_octet.specs.declared.octet.Octet.TheVariants as octets
 use Rattle.kc_operation.specs.declared.argument.Argument.{Argument}
 use Rattle.kc_operation.specs.declared.argument.Argument.TheVariants as arg
-use Rattle.kc_operation.specs.declared.branch.Form.{Form}
-use Rattle.kc_operation.specs.declared.branch.Form.TheVariants as forms
-use Rattle.kc_operation.specs.declared.branch.BranchKind.{BranchKind}
-use Rattle.kc_operation.specs.declared.branch.BranchKind.TheVariants as kinds
+use Rattle.kc_branch.specs.declared.piece.Form.{Form}
+use Rattle.kc_branch.specs.declared.piece.Form.TheVariants as forms
+use Rattle.kc_branch.specs.declared.piece.BranchKind.{BranchKind}
+use Rattle.kc_branch.specs.declared.piece.BranchKind.TheVariants as kinds
 use Rattle.kc_operation.specs.declared.word.Word.{Word}
 use Rattle.kc_operation.specs.declared.word.Word.TheVariants.{Absent, Register, Immediate, Indirect, Increment, Short, Long, Count, Jump}
 use Rattle.kc_operation.specs.declared.word.Worded.{Worded}
@@ -44,8 +46,7 @@ use Rattle.kc_operation_octets.proofs.Lengths.{not_some}
 use Rattle.kc_operation_octets.proofs.Evens.{EachLine, each_line}
 use Rattle.kc_content.specs.Arguments as contents
 use Rattle.kc_content.specs.Content.{long_octets, item_octets, data_octets, reserved, upto, content}
-use Rattle.kc_content.specs.Bases.{is_octet, AreOctets, is_known}
-use Rattle.kc_content.proofs.BaseLemmas.{answer_known}
+use Rattle.kc_content.specs.Bases.{is_octet, AreOctets}
 
 both : (x y : Bool) → (x && y) ≡ true → (x ≡ true) × (y ≡ true)
 both true true h = (refl, refl)

@@ -7,12 +7,14 @@ use Rattle.kc_expr.specs.declared.values.Tag.{Tag}
 use Rattle.kc_expr.specs.declared.values.Value.{Value}
 use Rattle.kc_expr.specs.Tree.{Tree, Number, Chars, Name, Here, One, Two}
 use Rattle.kc_expr.specs.Meaning.{Answer, answer_by, is_fixed}
+use Rattle.kc_expr.specs.Alike.{AreAlikeValues, AreAlike, AllAlike}
+use Rattle.kc_expr.proofs.AlikeLemmas.{expressions_alike}
 use Rattle.kc_statement.specs.Trees.{ItemTree, ArgTree, ActionTree}
 use Rattle.kc_statement.specs.Trees as trees
 use Rattle.kc_octet.specs.declared.octet.Octet.{Octet}
 use Rattle.kc_octet.specs.declared.octet.Octet.TheVariants.{Plain}
 use Rattle.kc_operation.specs.declared.argument.Argument.TheVariants as arg
-use Rattle.kc_operation.specs.declared.branch.Form.{Form}
+use Rattle.kc_branch.specs.declared.piece.Form.{Form}
 use Rattle.kc_operation.specs.Instructions.{instructions}
 use Rattle.kc_operation.specs.Values.{or_zero}
 use Rattle.kc_operation_octets.specs.Octets.{byte_of, word_of, all_octets}
@@ -20,9 +22,7 @@ use Rattle.kc_operation_octets.specs.Blurred.{blurred_value, blurred}
 use Rattle.kc_operation_octets.specs.Laws.{LengthStays}
 use Rattle.kc_content.specs.declared.extent.Extent.TheVariants as extent
 use Rattle.kc_content.specs.Arguments.{Look, value_in, value_of, fixed_in, argument, arguments}
-use Rattle.kc_content.specs.Alike.{AreAlikeValues, AreAlike, AllAlike}
 use Rattle.kc_content.specs.Content.{long_octets, item_octets, item_count, data_octets, data_count, reserved, upto, content, extent_of}
-use Rattle.kc_content.proofs.AlikeLemmas.{expressions_alike}
 use Rattle.std.proofs.lemmas.List.{length-append, length-map}
 
 -- ---- items

@@ -1,16 +1,16 @@
 -- What the bytes of statements count from: nothing that the names they use do not count from. And each number has a kind,
 -- and is added to 0 or to the opcode of a jump of 11 bits.
-use Rattle.std.specs.Prelude.{◌≡◌, ℕ, Bool, true, ◌&&◌, nat_le, List, Some, Ok, Err}
+use Rattle.std.specs.Prelude.{◌≡◌, ℕ, Bool, true, ◌&&◌, nat_le, List, Some}
 use Rattle.std.specs.List.{list_all}
 use Rattle.kc_expr.specs.declared.values.Base.{Base}
 use Rattle.kc_expr.specs.declared.values.Base.TheVariants as bases
 use Rattle.kc_expr.specs.declared.values.Value.{Value}
-use Rattle.kc_expr.specs.Meaning.{Answer}
+use Rattle.kc_expr.specs.Known.{is_known}
 use Rattle.kc_statement.specs.Trees.{ActionTree}
 use Rattle.kc_obj.specs.Fixups.{may_begin}
 use Rattle.kc_octet.specs.declared.octet.Octet.{Octet}
 use Rattle.kc_octet.specs.declared.octet.Octet.TheVariants.{Plain, First, Second}
-use Rattle.kc_operation.specs.declared.branch.Form.{Form}
+use Rattle.kc_branch.specs.declared.piece.Form.{Form}
 use Rattle.kc_content.specs.Arguments.{Look}
 use Rattle.kc_content.specs.Content.{Content, Nothing, Octets, Reserved, Upto, Even, content}
 
@@ -26,11 +26,6 @@ AreOctets known Nothing = Unit {0}
 AreOctets known (Reserved n) = Unit {0}
 AreOctets known (Upto place) = Unit {0}
 AreOctets known Even = Unit {0}
-
--- an answer counts from a base that is known
-abbrev pub is_known : (Base → Bool) → Answer → Bool
-is_known known (Ok v) = known v.base
-is_known known (Err code) = true
 
 abbrev pub ContentsAreOctets : Type 0
 ContentsAreOctets =

@@ -9,7 +9,7 @@ use Rattle.kc_statement.specs.Trees.{ItemTree, ActionTree}
 use Rattle.kc_statement.specs.Trees as trees
 use Rattle.kc_octet.specs.declared.octet.Octet.{Octet}
 use Rattle.kc_octet.specs.declared.octet.Octet.TheVariants.{Plain}
-use Rattle.kc_operation.specs.declared.branch.Form.{Form}
+use Rattle.kc_branch.specs.declared.piece.Form.{Form}
 use Rattle.kc_operation.specs.Values.{or_zero}
 use Rattle.kc_operation.specs.Instructions.{instructions}
 use Rattle.kc_operation_octets.specs.Octets.{byte_of, word_of, all_octets}

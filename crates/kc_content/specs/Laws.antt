@@ -1,10 +1,10 @@
 -- How far a statement goes on does not depend on where it stands, nor on numbers that are not fixed.
 use Rattle.std.specs.Prelude.{◌≡◌}
 use Rattle.kc_expr.specs.declared.values.Value.{Value}
+use Rattle.kc_expr.specs.Alike.{AllAlike}
 use Rattle.kc_statement.specs.Trees.{ActionTree}
-use Rattle.kc_operation.specs.declared.branch.Form.{Form}
+use Rattle.kc_branch.specs.declared.piece.Form.{Form}
 use Rattle.kc_content.specs.Arguments.{Look}
-use Rattle.kc_content.specs.Alike.{AllAlike}
 use Rattle.kc_content.specs.Content.{content, extent_of}
 
 abbrev pub ExtentsStay : Type 0

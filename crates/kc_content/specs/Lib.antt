@@ -3,7 +3,6 @@ pub mod Content
 pub mod Seen
 pub mod Alignment
 pub mod Faults
-pub mod Alike
 pub mod Laws
 pub mod Pairing
 pub mod Bases

@@ -1,7 +1,7 @@
 -- The second byte of a number stands behind its first one in the bytes of every statement.
 use Rattle.kc_expr.specs.declared.values.Value.{Value}
 use Rattle.kc_statement.specs.Trees.{ActionTree}
-use Rattle.kc_operation.specs.declared.branch.Form.{Form}
+use Rattle.kc_branch.specs.declared.piece.Form.{Form}
 use Rattle.kc_operation_octets.specs.Pairs.{IsPaired}
 use Rattle.kc_content.specs.Arguments.{Look}
 use Rattle.kc_content.specs.Content.{Content, Nothing, Octets, Reserved, Upto, Even, content}

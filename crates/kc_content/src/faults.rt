@@ -13,7 +13,8 @@ use kc_operation::fault as operand_fault;
 use kc_statement::{Action, Arg, Item};
 use std::alloc::Global;
 
-fn lesser(a: Option<u8>, b: Option<u8>) -> Option<u8>
+/// Of two codes the lesser one.
+pub fn lesser(a: Option<u8>, b: Option<u8>) -> Option<u8>
     ensures { result ≡ faults.lesser a b }
 {
     match (a, b) {

@@ -1,14 +1,8 @@
-ghost use Rattle.kc_content.specs.Alike.{ExpressionsAreAlike};
 ghost use Rattle.kc_content.specs.Bases.{ContentsAreOctets};
 ghost use Rattle.kc_content.specs.Laws.{ExtentsStay};
 ghost use Rattle.kc_content.specs.Pairing.{ContentsArePaired};
 
 use kc_operation_octets::laws::{length_stays, octets_are_paired};
-
-/// Where all names answer alike, so do all expressions.
-pub fn expressions_are_alike()
-    ensures { ExpressionsAreAlike }
-{}
 
 /// How far a statement goes on depends neither on where it stands nor on numbers that are not fixed.
 pub fn extents_stay()

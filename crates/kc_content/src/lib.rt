@@ -10,15 +10,16 @@ pub mod faults;
 mod items;
 pub mod laws;
 pub mod operands;
-mod values;
+pub mod values;
 
 pub use alignment::{alignment_of, gap};
 pub use chosen::content_of;
 pub use content::Content;
 pub use extent::{Extent, extent_of};
 pub use faults::fault;
-pub use laws::{contents_are_octets, contents_are_paired, expressions_are_alike, extents_stay};
+pub use laws::{contents_are_octets, contents_are_paired, extents_stay};
 pub use operands::arguments;
+pub use values::{fixed_of, value_of};
 
 #[cfg(test)]
 mod tests;

@@ -2,11 +2,11 @@ ghost use Rattle.std.specs.Prelude.{Err};
 
 use super::*;
 use kc_base::{NoMemory, Text};
+use kc_branch::Form;
 use kc_expr::{Base, Scope, Symbols, Tag, Value};
 use kc_lex::lines;
 use kc_obj::SegKind;
 use kc_octet::Octet;
-use kc_operation::Form;
 use kc_statement::{Action, read_statement};
 use std::alloc::{AllocGlobal, Global};
 use std::process::Abort;

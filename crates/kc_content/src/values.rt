@@ -6,8 +6,8 @@ ghost use Rattle.kc_operation.specs.Values.{or_zero};
 use kc_expr::{Base, Expr, Scope, Value, value_over};
 use kc_operation::fixed;
 
-// The value, where there is no fault.
-pub(crate) fn value_of<S: Scope>(expr: &Expr, scope: &S) -> Option<Value>
+/// The value of an expression over what names mean, where it has no fault.
+pub fn value_of<S: Scope>(expr: &Expr, scope: &S) -> Option<Value>
     ensures { result ≡ arguments.value_of (S.answers scope.now) (tree_of expr.now) }
 {
     match value_over(expr, scope) {
@@ -26,8 +26,8 @@ pub(crate) fn value_or_zero<S: Scope>(expr: &Expr, scope: &S) -> Value
     }
 }
 
-// The number, where it counts from nothing.
-pub(crate) fn fixed_of<S: Scope>(expr: &Expr, scope: &S) -> Option<u16>
+/// The number of an expression over what names mean, where it counts from nothing.
+pub fn fixed_of<S: Scope>(expr: &Expr, scope: &S) -> Option<u16>
     ensures { result ≡ arguments.fixed_of (S.answers scope.now) (tree_of expr.now) }
 {
     match value_over(expr, scope) {

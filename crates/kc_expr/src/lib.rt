@@ -4,6 +4,7 @@
 pub mod evaluate;
 pub mod expr;
 pub mod grammar;
+mod laws;
 mod operators;
 pub mod parser;
 pub mod symbols;
@@ -11,6 +12,7 @@ pub mod values;
 
 pub use evaluate::{Scope, value, value_over};
 pub use expr::{Binary, Expr, Unary};
+pub use laws::{expressions_are_alike, expressions_are_known};
 pub use operators::is_type;
 pub use parser::parse;
 pub use symbols::Symbols;

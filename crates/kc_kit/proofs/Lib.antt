@@ -1,7 +1,6 @@
-mod Digits
+mod AlikeLemmas
+mod AnswerLemmas
+mod LinkLemmas
 mod Listed
-mod Onward
-mod Placeable
-mod Placed
-mod Replying
-mod Splitting
+mod RunLemmas
+mod SourceLemmas

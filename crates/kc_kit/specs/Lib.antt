@@ -1,8 +1,6 @@
+pub mod Alike
 pub mod Answer
-pub mod Asked
-pub mod Linked
-pub mod Number
-pub mod Placing
-pub mod Reading
-pub mod Source
-pub mod Words
+pub mod Jobs
+pub mod Lines
+pub mod Linking
+pub mod Sources

@@ -1,116 +1,98 @@
 // The commands on a hex file: a run of its image, and a listing of its instructions.
-ghost use Rattle.std.specs.Prelude.{◌≡◌, ◌≢◌, ◌≤◌, ◌<◌, ◌⊎◌, ◌+◌, Some, false, length};
+ghost use Rattle.std.specs.Prelude.{◌≡◌, ◌≤◌, ◌<◌, ◌+◌, Some, Ok, Err, IfOk, IfErr, false, length};
 ghost use Rattle.kc_base.specs.Causes.{Rose};
-ghost use Rattle.kc_model.specs.Machine.{start};
 ghost use Rattle.kc_listing.specs.Listing.{listing};
-ghost use Rattle.kc_kit.specs.Answer.{FileAnswer, HexBytes, RunOf, ListingOf, ReadAnswer, Over, Replies, Says};
-ghost use Rattle.kc_kit.specs.Words.{RunsHex, Lists};
+ghost use Rattle.kc_files.specs.Reply.{IsRefused};
+ghost use Rattle.kc_files.specs.Outside.{Kept, Replies, shown};
+ghost use Rattle.kc_words.specs.Words.{RunsHex, Lists};
+ghost use Rattle.kc_kit.specs.Answer.{MayAnswer, ListingOf, hex_of};
+ghost use Rattle.kc_kit.specs.Jobs.{IsPrepared};
 
-use crate::Status;
-use crate::reading::{read_file, read_image};
-use crate::run::run_image;
-use crate::words::{List, Run};
+use crate::inputs::input_refusal;
+use crate::job::Job;
 use kc_base::{Files, Image, Sink};
+use kc_files::{Refusal, Status, read_file};
+use kc_hex::HexFault;
 use kc_listing::line_at;
 use kc_trace::TraceOut;
+use kc_words::{List, RunHex};
 use std::alloc::Global;
-use std::marker::Brand;
-use std::sync::ledger::Blank;
 
-/// Reads a hex file, and runs its image.
-pub fn run_hex<F: Files, S: Sink>(
+// The image of a hex text, or the refusal of its first fault.
+fn image_of(alloc: Global, name: &str, text: &[u8]) -> Result<Image, Refusal>
+    requires { length text.now ≤ 1048576 }
+    ensures image { IfOk result (λ image. hex_of name.now text.now ≡ Ok image) }
+    ensures refusal { IfErr result (IsRefused (λ reply. hex_of name.now text.now ≡ Err reply)) }
+{
+    match kc_hex::read(alloc, text) {
+        Ok(image) => Ok(image),
+        Err(HexFault::At { line, code }) => Err(input_refusal(alloc, name, line, b"H", code)),
+        Err(HexFault::NoMemory) => Err(Refusal::NoMemory),
+    }
+}
+
+/// Reads a hex file that is to be run.
+pub(crate) fn prepare_run<'a, F: Files>(
     alloc: Global,
-    run: &Run<'_>,
+    run: &RunHex<'a>,
     files: &mut F,
-    out: &mut TraceOut<S>,
-) -> Status
-    requires ready { out.old.failed ≡ false }
-    requires states { run.now.states ≤ 1000000000000000 }
-    ensures answer { Over (F.held files.old) (λ held. Replies
-        (λ given text. FileAnswer run.now.name.now (HexBytes run.now.name.now (RunOf run.now.states)) (held run.now.name.now) given text
-        ⊎ ReadAnswer (Some (RunsHex run.now.name.now run.now.states)) (Rose (F.read_faults files.old) (F.read_faults files.new)) given text)
-        (S.written out.old.sink) result (S.written out.new.sink)) }
-    ensures not_usage { result ≢ Status.Usage }
-    ensures no_link { result ≢ Status.Link }
-    ensures read_fault { result ≡ Status.ReadFault → Rose (F.read_faults files.old) (F.read_faults files.new) }
-    ensures write_fault { result ≡ Status.WriteFault → Rose (S.faults out.old.sink) (S.faults out.new.sink) }
+) -> Result<Job<'a>, Refusal>
+    requires { run.now.states ≤ 1000000000000000 }
+    ensures answer { IsPrepared (MayAnswer (Some (RunsHex run.now.file.now run.now.states)) (F.held files.old) (Rose (F.read_faults files.old) (F.read_faults files.new))) result }
     ensures same { F.held files.new ≡ F.held files.old }
     ensures no_write { F.write_faults files.new ≡ F.write_faults files.old }
 {
-    match read_file(alloc, run.name, files, out) {
-        Ok(bytes) => run_text(alloc, run, &bytes, out),
-        Err(status) => status,
+    let text = match read_file(alloc, run.file, files) {
+        Ok(text) => text,
+        Err(refusal) => return Err(refusal),
+    };
+    match image_of(alloc, run.file, &text) {
+        Ok(image) => Ok(Job::Run {
+            image,
+            states: run.states,
+        }),
+        Err(refusal) => Err(refusal),
     }
 }
 
-// Runs the image of a hex text.
-fn run_text<S: Sink>(alloc: Global, run: &Run<'_>, text: &[u8], out: &mut TraceOut<S>) -> Status
-    requires ready { out.old.failed ≡ false }
-    requires states { run.now.states ≤ 1000000000000000 }
-    requires within { length text.now ≤ 1048576 }
-    ensures answer { Replies (HexBytes run.now.name.now (RunOf run.now.states) text.now)
-        (S.written out.old.sink) result (S.written out.new.sink) }
-    ensures fault { result ≡ Status.WriteFault → Rose (S.faults out.old.sink) (S.faults out.new.sink) }
-    ensures status { (result ≢ Status.Usage) × (result ≢ Status.ReadFault) × (result ≢ Status.Link) }
-{
-    match read_image(alloc, run.name, text, out) {
-        Ok(image) => run_image::<S, Brand>(alloc, image, run.states, Blank::new(1), out),
-        Err(status) => status,
-    }
-}
-
-/// Reads a hex file, and lists the instructions of its image.
-pub fn list_hex<F: Files, S: Sink>(
+/// Reads a hex file that is to be listed.
+pub(crate) fn prepare_list<'a, F: Files>(
     alloc: Global,
-    list: &List<'_>,
+    list: &List<'a>,
     files: &mut F,
-    out: &mut TraceOut<S>,
-) -> Status
-    requires ready { out.old.failed ≡ false }
+) -> Result<Job<'a>, Refusal>
     requires first { 0x2000 ≤ list.now.first }
     requires order { list.now.first ≤ list.now.last }
-    ensures answer { Over (F.held files.old) (λ held. Replies
-        (λ given text. FileAnswer list.now.name.now (HexBytes list.now.name.now (ListingOf list.now.first list.now.last)) (held list.now.name.now) given text
-        ⊎ ReadAnswer (Some (Lists list.now.name.now list.now.first list.now.last)) (Rose (F.read_faults files.old) (F.read_faults files.new)) given text)
-        (S.written out.old.sink) result (S.written out.new.sink)) }
-    ensures not_usage { result ≢ Status.Usage }
-    ensures no_link { result ≢ Status.Link }
-    ensures read_fault { result ≡ Status.ReadFault → Rose (F.read_faults files.old) (F.read_faults files.new) }
-    ensures write_fault { result ≡ Status.WriteFault → Rose (S.faults out.old.sink) (S.faults out.new.sink) }
+    ensures answer { IsPrepared (MayAnswer (Some (Lists list.now.file.now list.now.first list.now.last)) (F.held files.old) (Rose (F.read_faults files.old) (F.read_faults files.new))) result }
     ensures same { F.held files.new ≡ F.held files.old }
     ensures no_write { F.write_faults files.new ≡ F.write_faults files.old }
 {
-    match read_file(alloc, list.name, files, out) {
-        Ok(bytes) => list_text(alloc, list, &bytes, out),
-        Err(status) => status,
+    let text = match read_file(alloc, list.file, files) {
+        Ok(text) => text,
+        Err(refusal) => return Err(refusal),
+    };
+    match image_of(alloc, list.file, &text) {
+        Ok(image) => Ok(Job::List {
+            image,
+            first: list.first,
+            last: list.last,
+        }),
+        Err(refusal) => Err(refusal),
     }
 }
 
-// Lists the image of a hex text.
-fn list_text<S: Sink>(alloc: Global, list: &List<'_>, text: &[u8], out: &mut TraceOut<S>) -> Status
-    requires ready { out.old.failed ≡ false }
-    requires first { 0x2000 ≤ list.now.first }
-    requires order { list.now.first ≤ list.now.last }
-    requires within { length text.now ≤ 1048576 }
-    ensures answer { Replies (HexBytes list.now.name.now (ListingOf list.now.first list.now.last) text.now)
-        (S.written out.old.sink) result (S.written out.new.sink) }
-    ensures fault { result ≡ Status.WriteFault → Rose (S.faults out.old.sink) (S.faults out.new.sink) }
-    ensures status { (result ≢ Status.Usage) × (result ≢ Status.ReadFault) × (result ≢ Status.Link) }
-{
-    match read_image(alloc, list.name, text, out) {
-        Ok(image) => list_image(&image, list.first, list.last, out),
-        Err(status) => status,
-    }
-}
-
-// Writes the lines of a listing.
-fn list_image<S: Sink>(image: &Image, first: u16, last: u16, out: &mut TraceOut<S>) -> Status
+/// Prints the lines of a listing.
+pub(crate) fn list_image<S: Sink>(
+    image: &Image,
+    first: u16,
+    last: u16,
+    out: &mut TraceOut<S>,
+) -> Status
     requires ready { out.old.failed ≡ false }
     requires first { 0x2000 ≤ first }
     requires order { first ≤ last }
-    ensures answer { Replies (ListingOf first last image.now) (S.written out.old.sink) result (S.written out.new.sink) }
-    ensures fault { result ≡ Status.WriteFault → Rose (S.faults out.old.sink) (S.faults out.new.sink) }
-    ensures status { (result ≡ Status.Done) ⊎ (result ≡ Status.WriteFault) }
+    ensures { (files : Kept) → Replies (ListingOf first last image.now) files (shown (S.written out.old.sink) (S.faults out.old.sink))
+        result files (shown (S.written out.new.sink) (S.faults out.new.sink)) }
 {
     let mut at = u32::from(first);
     while at <= u32::from(last) {

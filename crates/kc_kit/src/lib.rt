@@ -1,21 +1,19 @@
-//! The kit as a whole: the words of a command line and the files that they name, to the bytes written and the status.
+//! The kit as a whole: the words of a command line and the files that they name, to what is printed, what is written and the status.
 #![tactic(auto)]
 
-mod assembler;
+mod alike;
 mod hex;
-mod lines;
-mod number;
-mod reading;
+mod inputs;
+mod job;
+mod line_map;
+mod link_lines;
+mod linking;
+mod objects;
 mod run;
-mod say;
-mod source;
-mod statement;
-mod status;
+mod running;
+mod sources;
 mod top;
-mod words;
 
-pub use status::Status;
+pub use alike::runs_are_alike;
+pub use kc_files::Status;
 pub use top::kit;
-
-#[cfg(test)]
-mod tests;

@@ -1,73 +1,16 @@
-// The command that runs a source.
-ghost use Rattle.std.specs.Prelude.{◌≡◌, ◌≢◌, ◌≤◌, ◌⊎◌, Some, false};
-ghost use Rattle.kc_base.specs.Causes.{Rose};
-ghost use Rattle.kc_kit.specs.Answer.{FileAnswer, SourceBytes, ReadAnswer, RunOf, Over, Replies, status_of};
-ghost use Rattle.kc_kit.specs.Words.{Runs};
+// A run of an image.
+ghost use Rattle.std.specs.Prelude.{◌≡◌, ◌≤◌, false};
+ghost use Rattle.kc_files.specs.Outside.{Kept, Replies, shown};
+ghost use Rattle.kc_kit.specs.Sources.{RunOf, status_of};
 
-use crate::Status;
-use crate::assembler::assemble;
-use crate::reading::read_file;
-use crate::say::say_of;
-use crate::words::Run;
-use kc_base::{Files, Image, NoMemory, Sink, Steps};
+use kc_base::{Image, Sink, Steps};
+use kc_files::Status;
 use kc_machine::{End, Machine};
 use kc_trace::TraceOut;
 use std::alloc::Global;
-use std::marker::Brand;
 use std::sync::ledger::{Blank, Ledger};
 
-/// Reads a file, and runs the source that it holds.
-pub fn run_file<F: Files, S: Sink>(
-    alloc: Global,
-    run: &Run<'_>,
-    files: &mut F,
-    out: &mut TraceOut<S>,
-) -> Status
-    requires ready { out.old.failed ≡ false }
-    requires states { run.now.states ≤ 1000000000000000 }
-    ensures answer { Over (F.held files.old) (λ held. Replies
-        (λ given text. FileAnswer run.now.name.now (SourceBytes run.now.name.now run.now.states) (held run.now.name.now) given text
-        ⊎ ReadAnswer (Some (Runs run.now.name.now run.now.states)) (Rose (F.read_faults files.old) (F.read_faults files.new)) given text)
-        (S.written out.old.sink) result (S.written out.new.sink)) }
-    ensures not_usage { result ≢ Status.Usage }
-    ensures no_link { result ≢ Status.Link }
-    ensures read_fault { result ≡ Status.ReadFault → Rose (F.read_faults files.old) (F.read_faults files.new) }
-    ensures write_fault { result ≡ Status.WriteFault → Rose (S.faults out.old.sink) (S.faults out.new.sink) }
-    ensures same { F.held files.new ≡ F.held files.old }
-    ensures no_write { F.write_faults files.new ≡ F.write_faults files.old }
-{
-    match read_file(alloc, run.name, files, out) {
-        Ok(bytes) => run_source(alloc, run, &bytes, out),
-        Err(status) => status,
-    }
-}
-
-// Runs the source of a file.
-fn run_source<S: Sink>(alloc: Global, run: &Run<'_>, source: &[u8], out: &mut TraceOut<S>) -> Status
-    requires ready { out.old.failed ≡ false }
-    requires states { run.now.states ≤ 1000000000000000 }
-    ensures answer { Replies (SourceBytes run.now.name.now run.now.states source.now)
-        (S.written out.old.sink) result (S.written out.new.sink) }
-    ensures fault { result ≡ Status.WriteFault → Rose (S.faults out.old.sink) (S.faults out.new.sink) }
-    ensures status { (result ≢ Status.Usage) × (result ≢ Status.ReadFault) × (result ≢ Status.Link) }
-{
-    match assemble(alloc, source) {
-        Ok(made) => match made {
-            Some(image) => run_image::<S, Brand>(alloc, image, run.states, Blank::new(1), out),
-            None => say_of(
-                alloc,
-                out,
-                b"source ",
-                run.name,
-                b":1: E01\n",
-                Status::Source,
-            ),
-        },
-        Err(NoMemory) => Status::NoMemory,
-    }
-}
-
-/// Runs an image.
+/// Runs an image, and prints its trace.
 pub fn run_image<S: Sink, L: Ledger>(
     alloc: Global,
     image: Image,
@@ -80,10 +23,8 @@ pub fn run_image<S: Sink, L: Ledger>(
     requires name { blank.name ≡ L.name }
     requires parts { blank.parts ≡ L.parts }
     requires whole { blank.parts ≡ 1 }
-    ensures answer { Replies (RunOf states image)
-        (S.written out.old.sink) result (S.written out.new.sink) }
-    ensures fault { result ≡ Status.WriteFault → Rose (S.faults out.old.sink) (S.faults out.new.sink) }
-    ensures status { (result ≢ Status.Usage) × (result ≢ Status.ReadFault) × (result ≢ Status.Link) }
+    ensures { (files : Kept) → Replies (RunOf states image) files (shown (S.written out.old.sink) (S.faults out.old.sink))
+        result files (shown (S.written out.new.sink) (S.faults out.new.sink)) }
 {
     let Ok(mut machine) = Machine::new(alloc, image) else {
         return Status::NoMemory;

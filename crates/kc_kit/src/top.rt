@@ -1,32 +1,42 @@
 // The top call: words, files and output to a status.
-ghost use Rattle.std.specs.Prelude.{◌≡◌, ◌≢◌, ◌⊎◌, false, map, string_bytes, None};
+ghost use Rattle.std.specs.Prelude.{◌≡◌, ◌≢◌, ◌⊎◌, [], false, map, string_bytes, Some, None};
 ghost use Rattle.kc_base.specs.Causes.{Rose};
 ghost use Rattle.kc_base.specs.Held.{Told};
-ghost use Rattle.kc_kit.specs.Answer.{MayAnswer, IsAccepted, Over, Replies};
-ghost use Rattle.kc_kit.specs.Words.{command_of};
+ghost use Rattle.kc_files.specs.Outside.{Replies, kept, shown};
+ghost use Rattle.kc_words.specs.Words.{command_of};
+ghost use Rattle.kc_words.specs.Asked.{asked, IsWithin};
+ghost use Rattle.kc_kit.specs.Answer.{MayAnswer, IsAccepted, StaysBut, names_read, names_written};
+ghost use Rattle.kc_kit.specs.Jobs.{IsDoable, IsOf, IsReady};
 
-use crate::Status;
-use crate::hex::{list_hex, run_hex};
-use crate::run::run_file;
-use crate::say::say;
-use crate::words::{Command, read_words};
+use crate::hex::{prepare_list, prepare_run};
+use crate::job::{Job, perform};
+use crate::linking::prepare_link;
+use crate::running::{prepare_object, prepare_sources};
 use kc_base::{Files, Sink};
+use kc_files::{Refusal, Status, refuse, say};
 use kc_trace::TraceOut;
+use kc_words::{Command, read_words};
 use std::alloc::Global;
 
 /// The text of `--help`.
-const HELP: &[u8] = b"kc96 runs programs of the 80C196KC and prints what the chip does.
-  kc96 run NAME --states N   run the source NAME for N state times
-  kc96 hex NAME --states N   run the Intel hex file NAME for N state times
-  kc96 dis NAME A-B          list the instructions of the hex file NAME from address A to B
-  kc96 --help                print this text
-  kc96 --version             print the name and the version
+const HELP: &[u8] = b"kc96 assembles, links and runs programs of the 80C196KC.
+  kc96 run NAME.. --states N      run sources, assembled and linked, for N state times
+  kc96 asm NAME --out FILE        assemble the source NAME to the object FILE
+  kc96 link OBJ.. --out FILE      link objects to the Intel hex file FILE
+       [--lines FILE]             and write which source line stands where
+  kc96 hex NAME --states N        run the Intel hex file NAME for N state times
+  kc96 dis NAME A-B               list the instructions of the hex file NAME from A to B
+  kc96 --help                     print this text
+  kc96 --version                  print the name and the version
+Where run and link may place registers, code and data, and how long the stack is:
+  [--reg A-B] [--code A-B] [--data A-B] [--stack N]
 ";
 
 /// The line of `--version`.
 const VERSION: &[u8] = b"kc96 0.1.0\n";
 
-/// Does what the words ask for: reads the files that they name, writes the text of the answer, and gives its status.
+/// Does what the words ask for: reads the files that they name, prints the text of the answer, writes the files that it
+/// has, and gives its status.
 pub fn kit<F: Files, S: Sink>(
     alloc: Global,
     words: &[String],
@@ -35,34 +45,103 @@ pub fn kit<F: Files, S: Sink>(
 ) -> Status
     requires { out.old.failed ≡ false }
 
-    // The status and what is written are the answer, over what the files hold.
-    ensures answer { Over (F.held files.old) (λ held. Replies
-        (MayAnswer (map string_bytes words.now) held (Rose (F.read_faults files.old) (F.read_faults files.new)))
-        (S.written out.old.sink) result (S.written out.new.sink)) }
+    // The status, what is printed and what the files hold afterwards are the answer, over what the files held.
+    ensures answer { Replies (MayAnswer (command_of (map string_bytes words.now)) (F.held files.old) (Rose (F.read_faults files.old) (F.read_faults files.new)))
+        (kept (F.held files.old) (F.write_faults files.old)) (shown (S.written out.old.sink) (S.faults out.old.sink))
+        result (kept (F.held files.new) (F.write_faults files.new)) (shown (S.written out.new.sink) (S.faults out.new.sink)) }
 
     // What is accepted, with no fault counted in this call, is done.
-    ensures complete { Told (F.held files.old) (λ held. IsAccepted (command_of (map string_bytes words.now)) held
-        → ¬ Rose (F.read_faults files.old) (F.read_faults files.new) → ¬ Rose (S.faults out.old.sink) (S.faults out.new.sink)
+    ensures complete { Told (F.held files.old) (λ held. IsAccepted (command_of (map string_bytes words.now)) (map held (names_read (command_of (map string_bytes words.now))))
+        → ¬ Rose (F.read_faults files.old) (F.read_faults files.new) → ¬ Rose (S.faults out.old.sink) (S.faults out.new.sink) → ¬ Rose (F.write_faults files.old) (F.write_faults files.new)
         → (result ≡ Status.Done) ⊎ ((result ≡ Status.Undefined) ⊎ (result ≡ Status.NoMemory))) }
 
     ensures usage { result ≡ Status.Usage → command_of (map string_bytes words.now) ≡ None }
     ensures no_command { command_of (map string_bytes words.now) ≡ None → (result ≡ Status.Usage) ⊎ (result ≡ Status.WriteFault) }
     ensures read_fault { result ≡ Status.ReadFault → Rose (F.read_faults files.old) (F.read_faults files.new) }
-    ensures write_fault { result ≡ Status.WriteFault → Rose (S.faults out.old.sink) (S.faults out.new.sink) }
-    ensures no_link { result ≢ Status.Link }
+    ensures write_fault { result ≡ Status.WriteFault → Rose (S.faults out.old.sink) (S.faults out.new.sink)
+        ⊎ ((names_written (command_of (map string_bytes words.now)) ≢ []) × Rose (F.write_faults files.old) (F.write_faults files.new)) }
 
-    // The files stay as they were, and none is written.
-    ensures same { F.held files.new ≡ F.held files.old }
-    ensures no_write { F.write_faults files.new ≡ F.write_faults files.old }
+    // No name changes but those that the words name as files to be written; without such a name the files stay as they were.
+    ensures others { Told (F.held files.old) (λ before. StaysBut (names_written (command_of (map string_bytes words.now))) before (F.held files.new)) }
+    ensures same { names_written (command_of (map string_bytes words.now)) ≡ [] → F.held files.new ≡ F.held files.old }
+    ensures no_write { names_written (command_of (map string_bytes words.now)) ≡ [] → F.write_faults files.new ≡ F.write_faults files.old }
+{
+    answered(alloc, words, files, out)
+}
+
+// The answer to some words.
+fn answered<F: Files, S: Sink>(
+    alloc: Global,
+    words: &[String],
+    files: &mut F,
+    out: &mut TraceOut<S>,
+) -> Status
+    requires { out.old.failed ≡ false }
+    ensures answer { Replies (MayAnswer (command_of (map string_bytes words.now)) (F.held files.old) (Rose (F.read_faults files.old) (F.read_faults files.new)))
+        (kept (F.held files.old) (F.write_faults files.old)) (shown (S.written out.old.sink) (S.faults out.old.sink))
+        result (kept (F.held files.new) (F.write_faults files.new)) (shown (S.written out.new.sink) (S.faults out.new.sink)) }
+    ensures no_command { command_of (map string_bytes words.now) ≡ None → (result ≡ Status.Usage) ⊎ (result ≡ Status.WriteFault) }
 {
     match read_words(words) {
         None => say(out, b"usage\n", Status::Usage),
-        Some(command) => match command {
-            Command::Help => say(out, HELP, Status::Done),
-            Command::Version => say(out, VERSION, Status::Done),
-            Command::Run(run) => run_file(alloc, &run, files, out),
-            Command::RunHex(run) => run_hex(alloc, &run, files, out),
-            Command::List(list) => list_hex(alloc, &list, files, out),
-        },
+        Some(command) => done(alloc, &command, files, out),
+    }
+}
+
+// Does a command.
+fn done<F: Files, S: Sink>(
+    alloc: Global,
+    command: &Command<'_>,
+    files: &mut F,
+    out: &mut TraceOut<S>,
+) -> Status
+    requires ready { out.old.failed ≡ false }
+    requires within { IsWithin command.now }
+    ensures { Replies (MayAnswer (Some (asked command.now)) (F.held files.old) (Rose (F.read_faults files.old) (F.read_faults files.new)))
+        (kept (F.held files.old) (F.write_faults files.old)) (shown (S.written out.old.sink) (S.faults out.old.sink))
+        result (kept (F.held files.new) (F.write_faults files.new)) (shown (S.written out.new.sink) (S.faults out.new.sink)) }
+{
+    match command {
+        Command::Help => say(out, HELP, Status::Done),
+        Command::Version => say(out, VERSION, Status::Done),
+        Command::Run(run) => {
+            let prepared = prepare_sources(alloc, run, files);
+            finish(alloc, prepared, files, out)
+        }
+        Command::Assemble(assemble) => {
+            let prepared = prepare_object(alloc, assemble, files);
+            finish(alloc, prepared, files, out)
+        }
+        Command::Link(link) => {
+            let prepared = prepare_link(alloc, link, files);
+            finish(alloc, prepared, files, out)
+        }
+        Command::RunHex(run) => {
+            let prepared = prepare_run(alloc, run, files);
+            finish(alloc, prepared, files, out)
+        }
+        Command::List(list) => {
+            let prepared = prepare_list(alloc, list, files);
+            finish(alloc, prepared, files, out)
+        }
+    }
+}
+
+// Does what is prepared, or prints its refusal.
+fn finish<F: Files, S: Sink>(
+    alloc: Global,
+    prepared: Result<Job<'_>, Refusal>,
+    files: &mut F,
+    out: &mut TraceOut<S>,
+) -> Status
+    requires ready { out.old.failed ≡ false }
+    requires doable { IsReady prepared }
+    ensures answer { Replies (IsOf prepared.entry) (kept (F.held files.old) (F.write_faults files.old)) (shown (S.written out.old.sink) (S.faults out.old.sink))
+        result (kept (F.held files.new) (F.write_faults files.new)) (shown (S.written out.new.sink) (S.faults out.new.sink)) }
+    ensures no_read { F.read_faults files.new ≡ F.read_faults files.old }
+{
+    match prepared {
+        Ok(job) => perform(alloc, job, files, out),
+        Err(refusal) => refuse(out, refusal),
     }
 }

@@ -36,6 +36,12 @@ is_free_name t = is_name_kind t.kind && not (is_reserved t.text)
 
 -- ---- what stands at the front of some tokens
 
+-- a label is a name and a colon
+abbrev pub has_label : List Token → Bool
+has_label [] = false
+has_label (t ∷ []) = false
+has_label (t ∷ u ∷ ts) = is_free_name t && is_sign 58 u
+
 abbrev pub begins_sign : ℕ → List Token → Bool
 begins_sign c [] = false
 begins_sign c (t ∷ ts) = is_sign c t

@@ -66,6 +66,17 @@ pub fn begins_sign(tokens: &[Token], sign: u8) -> bool
     }
 }
 
+/// Whether the first tokens are a label: a name that a program may define, and a colon.
+pub fn has_label(tokens: &[Token]) -> bool
+    ensures value { result ≡ kinds.has_label tokens.now }
+    ensures two { result ≡ true → 2 ≤ length tokens.now }
+{
+    match tokens {
+        [name, colon, ..] => is_free_name(name) && is_sign(colon, b':'),
+        _ => false,
+    }
+}
+
 /// Whether the first token is this word, given in upper case.
 pub fn begins_word(tokens: &[Token], word: &[u8]) -> bool
     ensures value { result ≡ kinds.begins_word word.now tokens.now }

@@ -1,7 +1,7 @@
 ghost use Rattle.std.specs.Prelude.{◌≤◌, length};
 
 use super::*;
-use crate::kinds::{begins_sign, begins_word, front, is_chars, is_free_name, rest};
+use crate::kinds::{begins_sign, begins_word, front, has_label, is_chars, is_free_name, rest};
 use crate::words::{
     directive_of, generic_operands_of, is_name_text, is_reserved, operands_of, upper,
 };
@@ -35,6 +35,7 @@ fn a_line_has_its_tokens(rt: HostRuntime) -> Result<(), Fail> {
     assert_eq!(rt; read[2].tokens.as_slice().len(), 0);
     assert!(rt; is_free_name(&tokens[0]) && is_chars(&tokens[5]));
     assert!(rt; begins_sign(rest(tokens, 1), b':') && begins_word(front(tokens, 1), b"A"));
+    assert!(rt; has_label(tokens) && !has_label(rest(tokens, 1)));
     Ok(())
 }
 

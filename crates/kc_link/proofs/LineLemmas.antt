@@ -12,7 +12,8 @@ use Rattle.kc_obj.specs.declared.parts.Segment.{Segment}
 use Rattle.kc_obj.specs.Object.{Object}
 use Rattle.kc_obj.specs.Pieces.{has_code}
 use Rattle.kc_obj.specs.LineEntries.{line_is_sound, line_follows, lines_in_order, lines_are_sound}
-use Rattle.kc_reloc.specs.Numbers.{Bases, BaseLists}
+use Rattle.kc_relocation.specs.Numbers.{Bases}
+use Rattle.kc_reloc.specs.BaseLists.{BaseLists}
 use Rattle.kc_reloc.proofs.Modules.{kept}
 use Rattle.kc_place.specs.Placing.{Places, bases_of, bases_from}
 use Rattle.kc_place.specs.Apart.{CodeAt, AllKeepRules, CodeIsApart}

@@ -2,8 +2,9 @@
 use Rattle.std.specs.Prelude.{◌≡◌, ℕ, true, ◌+◌, ◌<◌, ◌≤◌, Some, Ok, Err, Result, List, length, slice_get}
 use Rattle.kc_obj.specs.declared.parts.Fixup.{Fixup}
 use Rattle.kc_obj.specs.Object.{Object}
-use Rattle.kc_reloc.specs.Numbers.{fits}
-use Rattle.kc_reloc.specs.Filled.{fixup_at, fixup_number, filled_at}
+use Rattle.kc_relocation.specs.Numbers.{fits}
+use Rattle.kc_obj.specs.Fixups.{fixup_at}
+use Rattle.kc_reloc.specs.Filled.{fixup_number, filled_at}
 use Rattle.kc_place.specs.declared.ranges.Ranges.{Ranges}
 use Rattle.kc_place.specs.declared.ranges.LinkFault.{LinkFault}
 use Rattle.kc_place.specs.Placing.{Places, bases_of, IsCause}

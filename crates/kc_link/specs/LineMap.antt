@@ -4,7 +4,8 @@ use Rattle.std.specs.List.Sorted.{IsPermutation}
 use Rattle.std.specs.Global.{Vec}
 use Rattle.kc_obj.specs.declared.parts.Lines.{Lines}
 use Rattle.kc_obj.specs.Object.{Object}
-use Rattle.kc_reloc.specs.Numbers.{Bases, BaseLists, bases_in}
+use Rattle.kc_relocation.specs.Numbers.{Bases}
+use Rattle.kc_reloc.specs.BaseLists.{BaseLists, bases_in}
 use Rattle.kc_place.specs.declared.ranges.Ranges.{Ranges}
 use Rattle.kc_place.specs.declared.ranges.LinkFault.{LinkFault}
 use Rattle.kc_place.specs.Placing.{Places, bases_of, IsCause}

@@ -1,5 +1,5 @@
 ghost use Rattle.std.specs.Prelude.{◌≡◌, ◌+◌, ◌-◌, ◌<◌, ◌≤◌, ℕ, List, None, length, slice_index};
-ghost use Rattle.kc_reloc.specs.Numbers.{bases_in};
+ghost use Rattle.kc_reloc.specs.BaseLists.{bases_in};
 ghost use Rattle.kc_reloc.specs.Filled.{unfit_in};
 ghost use Rattle.kc_link.specs.Writes.{written, bytes_of, runs_of, all_bytes, RunStands, RunsStand, ModulesStand};
 

@@ -1,6 +1,6 @@
 ghost use Rattle.std.specs.Prelude.{◌≡◌, ◌<◌, ◌≤◌, ◌++◌, IfOk, OnOk, true, length, map};
 ghost use Rattle.std.specs.List.Sorted.{IsPermutation, IsNonDecreasingBy};
-ghost use Rattle.kc_reloc.specs.Numbers.{bases_in};
+ghost use Rattle.kc_reloc.specs.BaseLists.{bases_in};
 ghost use Rattle.kc_place.specs.Ranges.{are_in_bounds};
 ghost use Rattle.kc_link.specs.LineMap.{line_at, lines_in, lines_by, LinesStand, MaybeLinesStand, AllLinesStand, IsLines};
 

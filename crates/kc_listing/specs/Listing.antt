@@ -1,12 +1,12 @@
 -- A listing of an image: a line for each instruction from an address on, or for one byte where none is whole
 -- (this kit's own; the texts of instructions are those of kc_code).
-use Rattle.std.specs.Prelude.{◌≡◌, true, ℕ, zero, suc, ◌+◌, ◌-◌, ◌/◌, ◌%◌, ◌*◌, nat_le, if◌then◌else◌, List, [], ◌∷◌, ◌++◌, codes, take, drop, flat_map, slice_index}
-use Rattle.kc_isa.specs.declared.insn.Insn.{Insn}
+use Rattle.std.specs.Prelude.{◌≡◌, true, ℕ, zero, suc, ◌+◌, ◌-◌, ◌/◌, ◌%◌, nat_le, if◌then◌else◌, List, [], ◌∷◌, ◌++◌, codes, take, drop, flat_map, slice_index}
 use Rattle.kc_code.specs.declared.reader.Decoded.{Decoded}
 use Rattle.kc_code.specs.declared.reader.Decoded.TheVariants.{Insn as Whole, Unimplemented, Undefined, Short}
 use Rattle.kc_code.specs.Reading.{decode_of}
 use Rattle.kc_isa.specs.Formed.{is_formed}
-use Rattle.kc_code.specs.Text.{digit, byte_text, text_of}
+use Rattle.kc_base.specs.Digits.{hex_digit}
+use Rattle.kc_code.specs.Text.{byte_text, text_of}
 
 -- the bytes from an address on; an image begins at 2000H
 abbrev pub bytes_from : List ℕ → ℕ → List ℕ
@@ -28,7 +28,7 @@ words_of Short at byte = codes "DCB " ++ byte_text byte
 
 -- two upper-case hexadecimal digits
 abbrev pub pair : ℕ → List ℕ
-pair n = digit (n / 16) ∷ digit (n % 16) ∷ []
+pair n = hex_digit (n / 16) ∷ hex_digit (n % 16) ∷ []
 
 abbrev pub address_text : ℕ → List ℕ
 address_text at = pair (at / 256) ++ pair (at % 256)

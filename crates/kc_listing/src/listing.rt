@@ -1,22 +1,15 @@
 ghost use Rattle.std.specs.Prelude.{◌≡◌, ◌+◌, ◌-◌, ◌*◌, ◌/◌, ◌%◌, ◌≤◌, ◌<◌, ◌++◌, ◌∷◌, [], length, take, drop, flat_map, codes, slice_index};
 ghost use Rattle.arrayvec.specs.ArrayVec.{array_vec_len};
 ghost use Rattle.kc_code.specs.Reading.{decode_of};
-ghost use Rattle.kc_code.specs.Text.{digit, byte_text};
+ghost use Rattle.kc_code.specs.Text.{byte_text};
 ghost use Rattle.kc_listing.specs.Listing as listing;
 
 use arrayvec::ArrayVec;
-use kc_base::{IMAGE_START, Image};
+use kc_base::{IMAGE_START, Image, hex_digit};
 use kc_code::{Decoded, decode, text};
 
 /// The characters of a line of a listing.
 pub type Line = ArrayVec<u8, 128>;
-
-fn digit_of(n: u8) -> u8
-    requires { n < 16 }
-    ensures { result ≡ digit n }
-{
-    if n < 10 { b'0' + n } else { b'A' + (n - 10) }
-}
 
 // Two digits of a byte.
 fn push_pair(line: &mut Line, n: u8)
@@ -24,8 +17,8 @@ fn push_pair(line: &mut Line, n: u8)
     ensures items { line.new.items ≡ line.old.items ++ listing.pair n }
     ensures len { array_vec_len line.new ≡ array_vec_len line.old + 2 }
 {
-    line.push(digit_of(n / 16));
-    line.push(digit_of(n % 16));
+    line.push(hex_digit(n / 16));
+    line.push(hex_digit(n % 16));
 }
 
 // Two digits of each byte.

@@ -8,7 +8,8 @@ use Rattle.kc_lex.specs.declared.token.Line.{Line}
 use Rattle.kc_body.specs.declared.words.Word.{Word}
 use Rattle.kc_body.specs.declared.words.Word.TheVariants as words
 use Rattle.kc_body.specs.declared.macros.Macro.{Macro}
-use Rattle.kc_body.specs.Words.{has_label, unlabelled, behind_label}
+use Rattle.kc_lex.specs.Kinds.{has_label}
+use Rattle.kc_body.specs.Words.{unlabelled, behind_label}
 use Rattle.kc_body.specs.Arguments.{arguments, definition, over_arguments}
 use Rattle.kc_body.specs.Bodies.{macro_of, only}
 use Rattle.kc_body.specs.ByName.{ByName}

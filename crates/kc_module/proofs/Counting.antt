@@ -21,7 +21,7 @@ one_stack bytes = by (eqb bytes 0)
     by true = omega arith
     by false = omega arith
 
-all_count : (kept : Kept) (r c m : Option Tape) (stack : ℕ) (absolute : List Tape) → length (in_order kept r c m stack absolute) ≡ length (kept_if kept.registers r) + (length (kept_if kept.code c) + (length (kept_if kept.ram m) + (length (stack_pieces stack) + length absolute)))
+pub all_count : (kept : Kept) (r c m : Option Tape) (stack : ℕ) (absolute : List Tape) → length (in_order kept r c m stack absolute) ≡ length (kept_if kept.registers r) + (length (kept_if kept.code c) + (length (kept_if kept.ram m) + (length (stack_pieces stack) + length absolute)))
 all_count kept r c m stack absolute =
     rw (
       length-append (kept_if kept.registers r) (kept_if kept.code c ++ (kept_if kept.ram m ++ (stack_pieces stack ++ absolute))),

@@ -6,10 +6,10 @@ use Rattle.std.proofs.lemmas.Bool.Decides.{nat_tests}
 use Rattle.kc_obj.specs.declared.parts.Content.{Content}
 use Rattle.kc_obj.specs.declared.parts.Fixup.{Fixup}
 use Rattle.kc_obj.specs.Contents.{content_at, is_from}
-use Rattle.kc_obj.specs.Fixups.{fixup_width, fixup_follows, fixups_in_order, may_begin, is_zero, has_room}
+use Rattle.kc_relocation.specs.Numbers.{width}
+use Rattle.kc_obj.specs.Fixups.{fixup_at, fixup_follows, fixups_in_order, may_begin, is_zero, has_room}
 use Rattle.kc_module.specs.declared.puts.Put.{Put}
 use Rattle.kc_module.specs.Runs.{listed, fixups_of}
-use Rattle.kc_module.specs.ModuleOf.{fixup_at}
 use Rattle.kc_module.proofs.RunBytes.{is_at, put_byte}
 use Rattle.kc_module.proofs.RunOrder.{rises, both}
 use Rattle.kc_module.proofs.Flat.{rises_weaker, look, own_fixup}
@@ -21,7 +21,7 @@ NextFree q (r ∷ rs) = (r.piece ≡ q.piece) × (r.offset ≡ q.offset + 1) × 
 
 abbrev pub Fits : Option Fixup → Put → List Put → Type 0
 Fits None q qs = Unit {0}
-Fits (Some f) q qs = (f.piece ≡ q.piece) × (f.offset ≡ q.offset) × (may_begin f.kind (Some q.byte) ≡ true) × (fixup_width f.kind ≡ 2 → NextFree q qs)
+Fits (Some f) q qs = (f.piece ≡ q.piece) × (f.offset ≡ q.offset) × (may_begin f.kind (Some q.byte) ≡ true) × (width f.kind ≡ 2 → NextFree q qs)
 
 -- each relocation stands at its byte, and has room
 abbrev pub AllFit : List Put → Type 0
@@ -59,49 +59,49 @@ one_or_two : (t : Bool) (n : ℕ) → n ≡ (if t then 1 else 2) → (n ≡ 1) �
 one_or_two true n e = inl e
 one_or_two false n e = inr e
 
-width_cases : (kind : ℕ) → (fixup_width kind ≡ 1) ⊎ (fixup_width kind ≡ 2)
-width_cases kind = one_or_two (eqb kind 1 || eqb kind 2) (fixup_width kind) refl
+width_cases : (kind : ℕ) → (width kind ≡ 1) ⊎ (width kind ≡ 2)
+width_cases kind = one_or_two (eqb kind 1 || eqb kind 2) (width kind) refl
 
 skip_free : (p o : ℕ) (f : Option Fixup) (r : Put) (b : Bool) → f ≡ None → b ≡ true → (is_after p o f r && b) ≡ true
 skip_free p o None r b e h = h
 skip_free p o (Some f) r b e h = absurd (cc)
 
 -- the relocations behind one
-next_after : (f : Fixup) (q : Put) (qs : List Put) → Fits (Some f) q qs → rises q.piece (q.offset + 1) qs ≡ true → are_after f.piece (f.offset + fixup_width f.kind) qs ≡ true
+next_after : (f : Fixup) (q : Put) (qs : List Put) → Fits (Some f) q qs → rises q.piece (q.offset + 1) qs ≡ true → are_after f.piece (f.offset + width f.kind) qs ≡ true
 next_after f q qs fit rising = elim (width_cases f.kind) [ inl one ↦ narrow one | inr two ↦ wide qs two (fit.3 two) rising ]
   where
-    narrow : fixup_width f.kind ≡ 1 → are_after f.piece (f.offset + fixup_width f.kind) qs ≡ true
+    narrow : width f.kind ≡ 1 → are_after f.piece (f.offset + width f.kind) qs ≡ true
     narrow one = rw (one, fit.0, fit.1) (all_after q.piece (q.offset + 1) qs rising)
 
-    wide : (qs : List Put) → fixup_width f.kind ≡ 2 → NextFree q qs → rises q.piece (q.offset + 1) qs ≡ true → are_after f.piece (f.offset + fixup_width f.kind) qs ≡ true
+    wide : (qs : List Put) → width f.kind ≡ 2 → NextFree q qs → rises q.piece (q.offset + 1) qs ≡ true → are_after f.piece (f.offset + width f.kind) qs ≡ true
     wide [] two free h = absurd free
     wide (r ∷ rs) two free h =
         let parts = and_parts (is_from q.piece (q.offset + 1) r.piece r.offset) (rises r.piece (r.offset + 1) rs) h in
-        let place : f.offset + fixup_width f.kind ≡ r.offset + 1 = omega (arith, two, fit.1, free.1) in
+        let place : f.offset + width f.kind ≡ r.offset + 1 = omega (arith, two, fit.1, free.1) in
         let piece : f.piece ≡ r.piece = fit.0 ∙ sym free.0 in
-        let moved : are_after f.piece (f.offset + fixup_width f.kind) (r ∷ rs) ≡ are_after r.piece (r.offset + 1) (r ∷ rs) = (λ i. are_after (piece i) (place i) (r ∷ rs)) in
+        let moved : are_after f.piece (f.offset + width f.kind) (r ∷ rs) ≡ are_after r.piece (r.offset + 1) (r ∷ rs) = (λ i. are_after (piece i) (place i) (r ∷ rs)) in
         moved ∙ (skip_free r.piece (r.offset + 1) r.fixup r (are_after r.piece (r.offset + 1) rs) free.3 (all_after r.piece (r.offset + 1) rs parts.1))
 
 module _ (q : Put) (qs : List Put) (parts : rises q.piece (q.offset + 1) qs ≡ true)
-    (more : (f : Fixup) → are_after f.piece (f.offset + fixup_width f.kind) qs ≡ true → fixups_in_order (f ∷ fixups_of qs) ≡ true) where
-  one_more : (f : Fixup) (g : Option Fixup) → is_after f.piece (f.offset + fixup_width f.kind) g q ≡ true → are_after f.piece (f.offset + fixup_width f.kind) qs ≡ true → Fits g q qs
+    (more : (f : Fixup) → are_after f.piece (f.offset + width f.kind) qs ≡ true → fixups_in_order (f ∷ fixups_of qs) ≡ true) where
+  one_more : (f : Fixup) (g : Option Fixup) → is_after f.piece (f.offset + width f.kind) g q ≡ true → are_after f.piece (f.offset + width f.kind) qs ≡ true → Fits g q qs
       → fixups_in_order (f ∷ (listed g ++ fixups_of qs)) ≡ true
   unfolding fixups_in_order
   one_more f None first rest fit = more f rest
   one_more f (Some g) first rest fit =
-      let here : is_from f.piece (f.offset + fixup_width f.kind) g.piece g.offset ≡ true = rw (fit.0, fit.1) first in
+      let here : is_from f.piece (f.offset + width f.kind) g.piece g.offset ≡ true = rw (fit.0, fit.1) first in
       both (fixup_follows f g) (fixups_in_order (g ∷ fixups_of qs)) here (more g (next_after g q qs fit parts))
 
   one_first : (g : Option Fixup) → fixups_in_order (fixups_of qs) ≡ true → Fits g q qs → fixups_in_order (listed g ++ fixups_of qs) ≡ true
   one_first None h fit = h
   one_first (Some g) h fit = more g (next_after g q qs fit parts)
 
-order_after : (qs : List Put) (p o : ℕ) → rises p o qs ≡ true → AllFit qs → (f : Fixup) → are_after f.piece (f.offset + fixup_width f.kind) qs ≡ true → fixups_in_order (f ∷ fixups_of qs) ≡ true
+order_after : (qs : List Put) (p o : ℕ) → rises p o qs ≡ true → AllFit qs → (f : Fixup) → are_after f.piece (f.offset + width f.kind) qs ≡ true → fixups_in_order (f ∷ fixups_of qs) ≡ true
 unfolding fixups_in_order fixups_of
 order_after [] p o rising fit f after = refl
 order_after (q ∷ qs) p o rising fit f after =
     let parts = and_parts (is_from p o q.piece q.offset) (rises q.piece (q.offset + 1) qs) rising in
-    let afters = and_parts (is_after f.piece (f.offset + fixup_width f.kind) q.fixup q) (are_after f.piece (f.offset + fixup_width f.kind) qs) after in
+    let afters = and_parts (is_after f.piece (f.offset + width f.kind) q.fixup q) (are_after f.piece (f.offset + width f.kind) qs) after in
     one_more q qs parts.1 (order_after qs q.piece (q.offset + 1) parts.1 fit.1) f q.fixup afters.0 afters.1 fit.0
 
 pub fixups_ordered : (qs : List Put) (p o : ℕ) → rises p o qs ≡ true → AllFit qs → fixups_in_order (fixups_of qs) ≡ true
@@ -144,13 +144,13 @@ second_zero contents q (r ∷ rs) same free =
 room : (contents : List Content) (f : Fixup) (q : Put) (qs : List Put) → content_at contents q.piece q.offset ≡ Some q.byte → SameBytes contents qs q.piece (q.offset + 1) → Fits (Some f) q qs → has_room contents f ≡ true
 room contents f q qs byte same fit =
     let begins : may_begin f.kind (content_at contents f.piece f.offset) ≡ true = rw (fit.0, fit.1, byte) fit.2 in
-    both (may_begin f.kind (content_at contents f.piece f.offset)) (eqb (fixup_width f.kind) 1 || is_zero (content_at contents f.piece (f.offset + 1))) begins
+    both (may_begin f.kind (content_at contents f.piece f.offset)) (eqb (width f.kind) 1 || is_zero (content_at contents f.piece (f.offset + 1))) begins
     (elim (width_cases f.kind) [ inl one ↦ narrow one | inr two ↦ wide two ])
   where
-    narrow : fixup_width f.kind ≡ 1 → (eqb (fixup_width f.kind) 1 || is_zero (content_at contents f.piece (f.offset + 1))) ≡ true
+    narrow : width f.kind ≡ 1 → (eqb (width f.kind) 1 || is_zero (content_at contents f.piece (f.offset + 1))) ≡ true
     narrow one = rw one refl
 
-    wide : fixup_width f.kind ≡ 2 → (eqb (fixup_width f.kind) 1 || is_zero (content_at contents f.piece (f.offset + 1))) ≡ true
+    wide : width f.kind ≡ 2 → (eqb (width f.kind) 1 || is_zero (content_at contents f.piece (f.offset + 1))) ≡ true
     wide two = rw (two, fit.0, fit.1) (second_zero contents q qs same (fit.3 two))
 
 module _ (contents : List Content) (q : Put) (qs : List Put) (byte : content_at contents q.piece q.offset ≡ Some q.byte) (same : SameBytes contents qs q.piece (q.offset + 1)) where

@@ -16,3 +16,4 @@ pub mod OneModule
 pub mod Counting
 pub mod Working
 pub mod Numbering
+pub mod Totals

@@ -9,9 +9,9 @@ use Rattle.kc_obj.specs.declared.parts.Fixup.{Fixup}
 use Rattle.kc_obj.specs.declared.parts.Given.{Given}
 use Rattle.kc_obj.specs.Names.{is_below}
 use Rattle.kc_obj.specs.Contents.{is_from}
-use Rattle.kc_obj.specs.Fixups.{fixup_width, fixup_follows, fixups_in_order}
+use Rattle.kc_relocation.specs.Numbers.{width}
+use Rattle.kc_obj.specs.Fixups.{fixup_at, fixup_follows, fixups_in_order}
 use Rattle.kc_obj.specs.Rules.{publics_in_order}
-use Rattle.kc_module.specs.ModuleOf.{fixup_at}
 
 -- ---- relocations
 
@@ -24,8 +24,8 @@ unfolding fixups_in_order
 rest_ordered f [] h = refl
 rest_ordered f (g ∷ fs) h = (and_parts (fixup_follows f g) (fixups_in_order (g ∷ fs)) h).1
 
-some_width : (kind : ℕ) → 0 < fixup_width kind
-some_width kind = by (eqb kind 1 || eqb kind 2) (fixup_width kind) refl
+some_width : (kind : ℕ) → 0 < width kind
+some_width kind = by (eqb kind 1 || eqb kind 2) (width kind) refl
   where
     by : (t : Bool) (n : ℕ) → n ≡ (if t then 1 else 2) → 0 < n
     by true n e = omega arith
@@ -37,7 +37,7 @@ next_from p o w q r lt h = grind (arith, nat_tests)
 rest_from : (f : Fixup) (fs : List Fixup) → fixups_in_order (f ∷ fs) ≡ true → start_from f.piece (f.offset + 1) fs ≡ true
 unfolding fixups_in_order
 rest_from f [] h = refl
-rest_from f (g ∷ fs) h = next_from f.piece f.offset (fixup_width f.kind) g.piece g.offset (some_width f.kind) (and_parts (fixup_follows f g) (fixups_in_order (g ∷ fs)) h).0
+rest_from f (g ∷ fs) h = next_from f.piece f.offset (width f.kind) g.piece g.offset (some_width f.kind) (and_parts (fixup_follows f g) (fixups_in_order (g ∷ fs)) h).0
 
 before_first : (a b q r p o : ℕ) → is_from a b q r ≡ true → is_from a b p o ≡ false → (eqb q p && eqb r o) ≡ false
 before_first a b q r p o h k = grind (arith, nat_tests)

@@ -9,7 +9,8 @@ use Rattle.kc_expr.specs.declared.values.Value.{Value}
 use Rattle.kc_obj.specs.declared.parts.Segment.{Segment}
 use Rattle.kc_obj.specs.declared.parts.Taken.{Taken}
 use Rattle.kc_obj.specs.Pieces.{kind_number}
-use Rattle.kc_obj.specs.Fixups.{fixup_width, fixup_is_sound, may_begin, target_exists}
+use Rattle.kc_relocation.specs.Numbers.{width}
+use Rattle.kc_obj.specs.Fixups.{fixup_is_sound, may_begin, target_exists}
 use Rattle.kc_octet.specs.declared.octet.Octet.{Octet}
 use Rattle.kc_octet.specs.declared.octet.Octet.TheVariants.{Plain, First, Second}
 use Rattle.kc_octet.specs.Relocating.{is_piece, depends, leaves, shown, relocated}
@@ -50,7 +51,7 @@ module _ (number : ℕ → ℕ) (piece : ℕ) (t : Tape) where
       (refl, offset, rw octet (second_shown (start_of t.at + d.offset) kind v h), rw octet (second_plain d.offset kind v))
 
   first_fits : (o kind start : ℕ) (v : Value) (cs : List Cell) (rest : List Put) (d : Bool) → at_own kind v.base ≡ d → may_begin kind (Some start) ≡ true
-      → (fixup_width kind ≡ 2 → BeginsWithSecond kind (o + 1) v cs)
+      → (width kind ≡ 2 → BeginsWithSecond kind (o + 1) v cs)
       → Fits (fixup_for number piece o (if d then Some (kind, v) else None)) (put_of number piece t (cell o (First kind start v))) (map (put_of number piece t) cs ++ rest)
   first_fits o kind start v cs rest false e begins second = tt
   first_fits o kind start v cs rest true e begins second =

@@ -20,7 +20,7 @@ use Rattle.kc_obj.specs.Pieces.{kind_number, is_placed, is_relocatable, segments
 use Rattle.kc_obj.specs.Contents.{content_at, contents_in_order}
 use Rattle.kc_obj.specs.Rules.{names_piece, given_is_sound, publics_in_order, publics_are_sound, segments_are_sound, contents_are_sound, fixups_are_sound, is_module, checked}
 use Rattle.kc_obj.specs.Contents.{content_is_sound}
-use Rattle.kc_obj.specs.Fixups.{fixup_is_sound, fixups_in_order, has_room}
+use Rattle.kc_obj.specs.Fixups.{fixup_at, fixup_is_sound, fixups_in_order, has_room}
 use Rattle.kc_obj.specs.LineEntries.{line_is_sound, lines_in_order, lines_are_sound}
 use Rattle.kc_obj.specs.Object.{Object, object_of}
 use Rattle.kc_octet.specs.Relocating.{is_piece}
@@ -34,7 +34,7 @@ use Rattle.kc_module.specs.Publics.{piece_of, given_of}
 use Rattle.kc_module.specs.Runs.{runs, fixups_of}
 use Rattle.kc_module.specs.Sheet.{Sheet, sheet_of, empty, added_all}
 use Rattle.kc_module.specs.Drafts.{IsDraft, IsPart, is_public, is_given_base, is_absolute_part, stands_at, stand_well}
-use Rattle.kc_module.specs.ModuleOf.{entries_from, fixup_at, relocated_at, kept_in, pieces_in, IsModuleOf}
+use Rattle.kc_module.specs.ModuleOf.{entries_from, relocated_at, kept_in, pieces_in, IsModuleOf}
 use Rattle.kc_module.proofs.RunBytes.{put_byte, contents_are}
 use Rattle.kc_module.proofs.RunOrder.{both, rises, runs_in_order, runs_sound}
 use Rattle.kc_module.proofs.Flat.{puts_from, gathered_is, puts_rise, fixups_put, bytes_put}

@@ -8,7 +8,8 @@ use Rattle.kc_obj.specs.declared.parts.SegKind.{SegKind}
 use Rattle.kc_obj.specs.declared.parts.SegKind.TheVariants.{Reg, Code, Ram}
 use Rattle.kc_obj.specs.Names.{is_name, is_stack_name}
 use Rattle.kc_obj.specs.Pieces.{kind_number, in_region, is_relocatable}
-use Rattle.kc_obj.specs.Fixups.{fixup_width, may_begin}
+use Rattle.kc_relocation.specs.Numbers.{width}
+use Rattle.kc_obj.specs.Fixups.{may_begin}
 use Rattle.kc_octet.specs.declared.octet.Octet.{Octet}
 use Rattle.kc_octet.specs.declared.octet.Octet.TheVariants.{Plain, First, Second}
 use Rattle.kc_piece.specs.declared.part.Cell.{Cell}
@@ -43,7 +44,7 @@ IsComplete c cs = completes c.octet
   where
     completes : Octet → Type 0
     completes (Plain b) = Unit {0}
-    completes (First kind start v) = fixup_width kind ≡ 2 → BeginsWithSecond kind (c.offset + 1) v cs
+    completes (First kind start v) = width kind ≡ 2 → BeginsWithSecond kind (c.offset + 1) v cs
     completes (Second kind v) = Unit {0}
 
 unfoldable pub AreOctets : ℕ → List Cell → Type 0

@@ -1,5 +1,5 @@
 -- The module that a draft is.
-use Rattle.std.specs.Prelude.{◌≡◌, ℕ, true, ◌+◌, ◌==◌, ◌&&◌, if◌then◌else◌, Option, Some, None, List, [], ◌∷◌, ◌++◌, map, slice_get}
+use Rattle.std.specs.Prelude.{◌≡◌, ℕ, true, ◌+◌, Option, Some, None, List, [], ◌∷◌, ◌++◌, map, slice_get}
 use Rattle.std.specs.List.Sorted.{IsPermutation}
 use Rattle.std.specs.Option.{option_map}
 use Rattle.kc_obj.specs.declared.parts.Fixup.{Fixup}
@@ -7,6 +7,7 @@ use Rattle.kc_obj.specs.declared.parts.Lines.{Lines}
 use Rattle.kc_obj.specs.Object.{Object}
 use Rattle.kc_obj.specs.Rules.{is_module}
 use Rattle.kc_obj.specs.Contents.{content_at}
+use Rattle.kc_obj.specs.Fixups.{fixup_at}
 use Rattle.kc_octet.specs.declared.octet.Octet.{Octet}
 use Rattle.kc_piece.specs.declared.draft.Draft.{Draft}
 use Rattle.kc_piece.specs.Tape.{Tape, octet_at}
@@ -14,11 +15,6 @@ use Rattle.kc_module.specs.declared.kept.Kept.{Kept}
 use Rattle.kc_module.specs.Order.{kept_of, number_of, pieces_of, segment_of, relocation}
 use Rattle.kc_module.specs.Publics.{given_of}
 use Rattle.kc_module.specs.Puts.{byte_for, fixup_for, entry_of}
-
--- the relocation that begins at a place
-unfoldable pub fixup_at : List Fixup → ℕ → ℕ → Option Fixup
-fixup_at [] piece offset = None
-fixup_at (f ∷ fs) piece offset = if (f.piece == piece) && (f.offset == offset) then Some f else fixup_at fs piece offset
 
 -- the byte that a piece, if there is one, has at an offset
 abbrev pub byte_at : Option Tape → ℕ → Option ℕ

@@ -10,12 +10,12 @@ use Rattle.kc_obj.specs.declared.parts.Taken.{Taken}
 use Rattle.kc_expr.specs.declared.values.Base.TheVariants.{External}
 use Rattle.kc_expr.specs.declared.values.Value.{Value}
 use Rattle.kc_expr.specs.Tree.{Tree}
-use Rattle.kc_expr.specs.Meaning.{Answer, answer_by}
+use Rattle.kc_expr.specs.Meaning.{Answer, answer_by, plain}
 use Rattle.kc_statement.specs.declared.statement.Stmt.{Stmt}
 use Rattle.kc_statement.specs.Trees.{action_tree}
 use Rattle.kc_names.specs.declared.segments.Segment.{Segment}
 use Rattle.kc_names.specs.Tables.{updated, nothing}
-use Rattle.kc_names.specs.Located.{Located, located_from, value_at, segment_after}
+use Rattle.kc_names.specs.Located.{Located, located_by, located_from, listed, segment_after, first_segment}
 use Rattle.kc_names.specs.Externals.{external_in, tag_of_taken, stack_name}
 use Rattle.kc_names.specs.Meanings.{or_told, is_label, label_answer, everywhere, external_answer, first_of, with_label, with_taken, by_definition, earlier}
 
@@ -57,36 +57,50 @@ clean_label (Ok w) b v e = refl
 clean_label (Err code) true v e = refl
 clean_label (Err code) false v e = e
 
-one_label : (places : ℕ → ℕ) (i : ℕ) (g : Segment) (s : Stmt) (ss : List Stmt) (q : List ℕ)
-    → label_answer (located_from places i g (s ∷ ss)) q ≡ cond (is_label q s.label) (Ok (value_at g (places i))) (label_answer (located_from places (i + 1) (segment_after g (action_tree s.action)) ss) q)
+one_label : (values : ℕ → Segment → Value) (i : ℕ) (g : Segment) (s : Stmt) (ss : List Stmt) (q : List ℕ)
+    → label_answer (located_from values i g (s ∷ ss)) q ≡ cond (is_label q s.label) (Ok (values i g)) (label_answer (located_from values (i + 1) (segment_after g (action_tree s.action)) ss) q)
 unfolding label_answer located_from
-one_label places i g s ss q = refl
+one_label values i g s ss q = refl
 
-pub label_more : (places : ℕ → ℕ) (i : ℕ) (g h : Segment) (s : Stmt) (ss : List Stmt) (look next all : List ℕ → Answer)
-    → next ≡ with_label s.label (value_at g (places i)) look → h ≡ segment_after g (action_tree s.action)
-    → ((q : List ℕ) → first_of (look q) (label_answer (located_from places i g (s ∷ ss)) q) ≡ all q)
-    → (q : List ℕ) → first_of (next q) (label_answer (located_from places (i + 1) h ss) q) ≡ all q
-label_more places i g h s ss look next all grown moved so_far q =
-    (λ j. first_of (grown j q) (label_answer (located_from places (i + 1) (moved j) ss) q))
-    ∙ first_of_label (look q) (is_label q s.label) (value_at g (places i)) (label_answer (located_from places (i + 1) (segment_after g (action_tree s.action)) ss) q)
-    ∙ ap (first_of (look q)) (sym (one_label places i g s ss q)) ∙ so_far q
+-- so far these names, and the labels from one statement on, with values by a list
+pub record Labelling (vs : List Value) (i : ℕ) (ss : List Stmt) (look all : List ℕ → Answer) : Type 0 where
+  pub segment : Segment
+  pub so_far : (q : List ℕ) → first_of (look q) (label_answer (located_from (listed vs) i segment ss) q) ≡ all q
+
+pub labels_start : (vs : List Value) (ss : List Stmt) (look : List ℕ → Answer) → look ≡ nothing → Labelling vs 0 ss look (label_answer (located_by (listed vs) ss))
+labels_start vs ss look none = record { segment = first_segment; so_far = λ q i. first_of (none i q) (label_answer (located_by (listed vs) ss) q) }
+
+pub label_more : (vs : List Value) (i : ℕ) (v : Value) (s : Stmt) (ss : List Stmt) (look next all : List ℕ → Answer)
+    → v ≡ get_or vs i (plain 0) → next ≡ with_label s.label v look → Labelling vs i (s ∷ ss) look all → Labelling vs (i + 1) ss next all
+label_more vs i v s ss look next all value grown l =
+    let g = l.segment in
+    let u = get_or vs i (plain 0) in
+    let h = segment_after g (action_tree s.action) in
+    let with : next ≡ with_label s.label u look = grown ∙ ap (λ w. with_label s.label w look) value in
+    record {
+      segment = h;
+      so_far = λ q. (λ j. first_of (with j q) (label_answer (located_from (listed vs) (i + 1) h ss) q))
+          ∙ first_of_label (look q) (is_label q s.label) u (label_answer (located_from (listed vs) (i + 1) h ss) q)
+          ∙ ap (first_of (look q)) (sym (one_label (listed vs) i g s ss q)) ∙ l.so_far q;
+    }
 
 pub clean_more : (label : Option (List ℕ)) (v : Value) (look next : List ℕ → Answer) → next ≡ with_label label v look → ((q : List ℕ) → cleaned (look q) ≡ look q) → (q : List ℕ) → cleaned (next q) ≡ next q
 clean_more label v look next grown clean q = subst (λ (f : List ℕ → Answer). cleaned (f q) ≡ f q) (sym grown) (clean_label (look q) (is_label q label) v (clean q))
 
-no_label : (places : ℕ → ℕ) (i : ℕ) (g : Segment) (q : List ℕ) → label_answer (located_from places i g []) q ≡ Err 7
+no_label : (values : ℕ → Segment → Value) (i : ℕ) (g : Segment) (q : List ℕ) → label_answer (located_from values i g []) q ≡ Err 7
 unfolding label_answer located_from
-no_label places i g q = refl
+no_label values i g q = refl
 
 first_or_seven : (a : Answer) → first_of a (Err 7) ≡ cleaned a
 first_or_seven (Ok v) = refl
 first_or_seven (Err code) = refl
 
-pub all_labels : (places : ℕ → ℕ) (i : ℕ) (g : Segment) (ss : List Stmt) (look all : List ℕ → Answer) → length ss ≤ i → ((q : List ℕ) → cleaned (look q) ≡ look q)
-    → ((q : List ℕ) → first_of (look q) (label_answer (located_from places i g (drop i ss)) q) ≡ all q) → look ≡ all
-all_labels places i g ss look all past clean so_far =
+pub all_labels : (vs : List Value) (i : ℕ) (ss : List Stmt) (look all : List ℕ → Answer) → length ss ≤ i → ((q : List ℕ) → cleaned (look q) ≡ look q)
+    → Labelling vs i (drop i ss) look all → look ≡ all
+all_labels vs i ss look all past clean l =
     let each : (q : List ℕ) → look q ≡ all q
-    = λ q. sym (clean q) ∙ sym (first_or_seven (look q)) ∙ ap (first_of (look q)) (sym (no_label places i g q)) ∙ ap (λ rest. first_of (look q) (label_answer (located_from places i g rest) q)) (sym (drop_of_length-le ss past)) ∙ so_far q in
+    = λ q. sym (clean q) ∙ sym (first_or_seven (look q)) ∙ ap (first_of (look q)) (sym (no_label (listed vs) i l.segment q))
+    ∙ ap (λ rest. first_of (look q) (label_answer (located_from (listed vs) i l.segment rest) q)) (sym (drop_of_length-le ss past)) ∙ l.so_far q in
     λ j q. each q j
 
 -- ---- STACK

@@ -7,6 +7,7 @@ use Rattle.std.specs.List.{list_any}
 use Rattle.std.proofs.lemmas.List.{append-nil}
 use Rattle.std.proofs.lemmas.List.Folds.{list_any-append}
 use Rattle.kc_obj.specs.declared.parts.Taken.{Taken}
+use Rattle.kc_expr.specs.declared.values.Value.{Value}
 use Rattle.kc_expr.specs.Tree.{Tree}
 use Rattle.kc_statement.specs.declared.statement.Stmt.{Stmt}
 use Rattle.kc_statement.specs.Trees.{action_tree}
@@ -47,24 +48,24 @@ ended f t xs i past so_far = sym (no_use f t) ∙ ap (some_use f t) (sym (drop_o
 
 -- ---- the list of externals
 
-pub one_declared : (places : ℕ → ℕ) (i : ℕ) (g : Segment) (used : Bool) (s : Stmt) (ss : List Stmt)
-    → externals_from used (located_from places i g (s ∷ ss)) ≡ declared used g.kind (action_tree s.action) ++ externals_from (used || statement_uses_stack (action_tree s.action)) (located_from places (i + 1) (segment_after g (action_tree s.action)) ss)
+pub one_declared : (values : ℕ → Segment → Value) (i : ℕ) (g : Segment) (used : Bool) (s : Stmt) (ss : List Stmt)
+    → externals_from used (located_from values i g (s ∷ ss)) ≡ declared used g.kind (action_tree s.action) ++ externals_from (used || statement_uses_stack (action_tree s.action)) (located_from values (i + 1) (segment_after g (action_tree s.action)) ss)
 unfolding externals_from located_from
-one_declared places i g used s ss = refl
+one_declared values i g used s ss = refl
 
-pub none_declared : (places : ℕ → ℕ) (i : ℕ) (g : Segment) (used : Bool) → externals_from used (located_from places i g []) ≡ []
+pub none_declared : (values : ℕ → Segment → Value) (i : ℕ) (g : Segment) (used : Bool) → externals_from used (located_from values i g []) ≡ []
 unfolding externals_from located_from
-none_declared places i g used = refl
+none_declared values i g used = refl
 
-pub declares : (places : ℕ → ℕ) (i : ℕ) (g h : Segment) (used after : Bool) (s : Stmt) (ss : List Stmt) (ts us all : List Taken)
+pub declares : (values : ℕ → Segment → Value) (i : ℕ) (g h : Segment) (used after : Bool) (s : Stmt) (ss : List Stmt) (ts us all : List Taken)
     → us ≡ ts ++ declared used g.kind (action_tree s.action) → after ≡ (used || statement_uses_stack (action_tree s.action)) → h ≡ segment_after g (action_tree s.action)
-    → ts ++ externals_from used (located_from places i g (s ∷ ss)) ≡ all → us ++ externals_from after (located_from places (i + 1) h ss) ≡ all
-declares places i g h used after s ss ts us all grown uses moved so_far =
-    (λ j. grown j ++ externals_from (uses j) (located_from places (i + 1) (moved j) ss))
-    ∙ append_assoc ts (declared used g.kind (action_tree s.action)) (externals_from (used || statement_uses_stack (action_tree s.action)) (located_from places (i + 1) (segment_after g (action_tree s.action)) ss))
-    ∙ ap (λ rest. ts ++ rest) (sym (one_declared places i g used s ss)) ∙ so_far
+    → ts ++ externals_from used (located_from values i g (s ∷ ss)) ≡ all → us ++ externals_from after (located_from values (i + 1) h ss) ≡ all
+declares values i g h used after s ss ts us all grown uses moved so_far =
+    (λ j. grown j ++ externals_from (uses j) (located_from values (i + 1) (moved j) ss))
+    ∙ append_assoc ts (declared used g.kind (action_tree s.action)) (externals_from (used || statement_uses_stack (action_tree s.action)) (located_from values (i + 1) (segment_after g (action_tree s.action)) ss))
+    ∙ ap (λ rest. ts ++ rest) (sym (one_declared values i g used s ss)) ∙ so_far
 
-pub all_declared : (places : ℕ → ℕ) (g : Segment) (used : Bool) (ss : List Stmt) (i : ℕ) (ts all : List Taken) → length ss ≤ i
-    → ts ++ externals_from used (located_from places i g (drop i ss)) ≡ all → ts ≡ all
-all_declared places g used ss i ts all past so_far =
-    sym (append-nil ts) ∙ ap (λ us. ts ++ us) (sym (none_declared places i g used)) ∙ ap (λ rest. ts ++ externals_from used (located_from places i g rest)) (sym (drop_of_length-le ss past)) ∙ so_far
+pub all_declared : (values : ℕ → Segment → Value) (g : Segment) (used : Bool) (ss : List Stmt) (i : ℕ) (ts all : List Taken) → length ss ≤ i
+    → ts ++ externals_from used (located_from values i g (drop i ss)) ≡ all → ts ≡ all
+all_declared values g used ss i ts all past so_far =
+    sym (append-nil ts) ∙ ap (λ us. ts ++ us) (sym (none_declared values i g used)) ∙ ap (λ rest. ts ++ externals_from used (located_from values i g rest)) (sym (drop_of_length-le ss past)) ∙ so_far

@@ -6,6 +6,7 @@ use Rattle.std.specs.Str.{bytes_eq}
 use Rattle.std.proofs.lemmas.List.{length-map}
 use Rattle.std.proofs.lemmas.Bool.Decides.{nat_tests}
 use Rattle.kc_obj.specs.declared.parts.SegKind.{SegKind}
+use Rattle.kc_expr.specs.declared.values.Value.{Value}
 use Rattle.kc_statement.specs.declared.statement.Stmt.{Stmt}
 use Rattle.kc_statement.specs.Trees.{ActionTree, action_tree, Bare, Module, Cseg, Dseg, Rseg, Sseg, Public, Extrn, Equ, Set, Define, Reserve, Org, Even, End, Operation}
 use Rattle.kc_source.specs.declared.uses.Use.{Use}
@@ -81,13 +82,13 @@ declared_length used kind a =
     let names = length-map (declared_names a) (taken (is_register_kind kind)) in
     omega (arith, both, names, one_stack (statement_uses_stack a) used)
 
-externals_length : (used : Bool) (places : ℕ → ℕ) (i : ℕ) (g : Segment) (ss : List Stmt) → length (externals_from used (located_from places i g ss)) ≤ takes (all_uses (map stmt_said ss)) + stack_left used
+externals_length : (used : Bool) (values : ℕ → Segment → Value) (i : ℕ) (g : Segment) (ss : List Stmt) → length (externals_from used (located_from values i g ss)) ≤ takes (all_uses (map stmt_said ss)) + stack_left used
 unfolding externals_from located_from all_uses
-externals_length used places i g [] = omega arith
-externals_length used places i g (s ∷ ss) =
+externals_length used values i g [] = omega arith
+externals_length used values i g (s ∷ ss) =
     let a = action_tree s.action in
-    let rest = externals_length (used || statement_uses_stack a) places (i + 1) (segment_after g a) ss in
-    let both = length-append (declared used g.kind a) (externals_from (used || statement_uses_stack a) (located_from places (i + 1) (segment_after g a) ss)) in
+    let rest = externals_length (used || statement_uses_stack a) values (i + 1) (segment_after g a) ss in
+    let both = length-append (declared used g.kind a) (externals_from (used || statement_uses_stack a) (located_from values (i + 1) (segment_after g a) ss)) in
     let here = declared_length used g.kind a in
     let uses = takes_append (uses_of (stmt_said s)) (all_uses (map stmt_said ss)) in
     let of_one = takes_append (label_uses s.line s.label) (action_uses s.line a) in
@@ -188,10 +189,10 @@ no_names = refl
 
 pub externals_are_few : ExternalsAreFew
 unfolding faults_of has_use
-externals_are_few ls stmts places are =
+externals_are_few ls stmts values are =
     let all = all_uses (all_said ls) in
     let none : name_faults all [] all ≡ [] = (both_empty (line_faults true true (all_said ls)) (name_faults all [] all) (no_least (line_faults true true (all_said ls) ++ name_faults all [] all) are.sound)).1 in
     let few : takes all + name_count [] ≤ 16384 = few_names all [] all none (omega (arith, no_names)) (λ name e. (refl, e)) in
     let same : takes (all_uses (map stmt_said stmts)) ≡ takes all = ap (λ ss. takes (all_uses ss)) are.said_by in
-    let long : length (externals_from false (located_from places 0 first_segment stmts)) ≤ takes (all_uses (map stmt_said stmts)) + 1 = externals_length false places 0 first_segment stmts in
+    let long : length (externals_from false (located_from values 0 first_segment stmts)) ≤ takes (all_uses (map stmt_said stmts)) + 1 = externals_length false values 0 first_segment stmts in
     omega (arith, few, same, long, no_names)

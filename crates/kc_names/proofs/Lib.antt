@@ -3,6 +3,7 @@ pub mod ExternalLemmas
 pub mod TableLemmas
 pub mod EarlierLemmas
 pub mod WalkLemmas
-pub mod AlikeLemmas
+pub mod ValueLemmas
+pub mod KnownLemmas
 pub mod PlaceLemmas
 pub mod FewLemmas

@@ -4,31 +4,36 @@ use Rattle.std.specs.Prelude.{Option, Some, None, Ok, Err}
 use Rattle.std.specs.Str.{bytes_eq}
 use Rattle.std.proofs.lemmas.List.{reverse-append, reverse-reverse, length-reverse}
 use Rattle.kc_expr.specs.declared.values.Base.TheVariants.{Absolute, Piece}
+use Rattle.kc_expr.specs.declared.values.Value.{Value}
 use Rattle.kc_expr.specs.Tree.{Tree}
 use Rattle.kc_expr.specs.Meaning.{Answer, answer_by, is_fixed, here}
+use Rattle.kc_expr.specs.Alike.{AreAlikeValues, AreAlike}
+use Rattle.kc_expr.proofs.AlikeLemmas.{alike, places_alike, expressions_alike}
 use Rattle.kc_statement.specs.declared.statement.Stmt.{Stmt}
 use Rattle.kc_statement.specs.Trees.{ActionTree, action_tree}
 use Rattle.kc_names.specs.declared.segments.Segment.{Segment}
-use Rattle.kc_names.specs.Located.{Located, located, located_from, is_absolute, base_of, tag_of, place_value, segment_after, first_segment}
+use Rattle.kc_names.specs.Located.{Located, located, located_by, located_from, is_absolute, base_of, tag_of, value_at, segment_after, first_segment}
 use Rattle.kc_names.specs.Externals.{declared, statement_uses_stack, externals_from, external_in, stack_name}
 use Rattle.kc_names.specs.Meanings.{or_told, is_label, label_answer, external_answer, with_here, is_taken_by, defines, by_definition, behind, earlier, is_set, is_set_by, is_definition, in_all, throughout, meaning}
-use Rattle.kc_names.specs.Alike.{AreAlike, MeaningsDoNotDependOnPlaces}
-use Rattle.kc_names.proofs.AlikeLemmas.{alike, places_alike, expressions_alike}
+use Rattle.kc_names.specs.Alike.{MeaningsAreAlike, MeaningsDoNotDependOnPlaces}
 
 -- a statement, and the same at another place
 record IsMoved (l m : Located) : Type 0 where
   label : l.label ≡ m.label
   action : l.action ≡ m.action
   segment : l.segment ≡ m.segment
+  here : AreAlikeValues l.here m.here
 
 data AreMoved : List Located → List Located → Type 0 where
   none : AreMoved [] []
   more : {l m : Located} {ls ms : List Located} → IsMoved l m → AreMoved ls ms → AreMoved (l ∷ ls) (m ∷ ms)
 
-located_moved : (places others : ℕ → ℕ) (i : ℕ) (g : Segment) (ss : List Stmt) → AreMoved (located_from places i g ss) (located_from others i g ss)
+located_moved : (values others : ℕ → Segment → Value) → ((i : ℕ) (g : Segment) → AreAlikeValues (values i g) (others i g)) → (i : ℕ) (g : Segment) (ss : List Stmt)
+    → AreMoved (located_from values i g ss) (located_from others i g ss)
 unfolding located_from
-located_moved places others i g [] = none
-located_moved places others i g (s ∷ ss) = more (record { label = refl; action = refl; segment = refl }) (located_moved places others (i + 1) (segment_after g (action_tree s.action)) ss)
+located_moved values others same i g [] = none
+located_moved values others same i g (s ∷ ss) =
+    more (record { label = refl; action = refl; segment = refl; here = same i g }) (located_moved values others same (i + 1) (segment_after g (action_tree s.action)) ss)
 
 -- ---- parts of lists
 
@@ -69,18 +74,6 @@ externals_moved used (more {l} {m} {ls} {ms} one ones) =
     (λ i. declared used (one.segment i).kind (one.action i) ++ externals_from (used || statement_uses_stack (one.action i)) ls)
     ∙ ap (λ rest. declared used m.segment.kind m.action ++ rest) (externals_moved (used || statement_uses_stack m.action) ones)
 
-place_is_no_number : (g : Segment) → is_fixed (base_of g) ≡ false
-place_is_no_number g = by_test (is_absolute g)
-  where
-    by_test : (b : Bool) → is_fixed (cond b Absolute (Piece g.piece)) ≡ false
-    by_test true = refl
-    by_test false = refl
-
-place_moved : (l m : Located) → IsMoved l m → AreAlike (Ok (place_value l)) (Ok (place_value m))
-place_moved l m one =
-    subst (λ (g : Segment). AreAlike (Ok (place_value l)) (Ok (record { base = base_of g; tag = tag_of g.kind; number = m.place % 65536 }))) one.segment
-    (places_alike (base_of l.segment) (tag_of l.segment.kind) (l.place % 65536) (m.place % 65536) (place_is_no_number l.segment))
-
 same_test : (x : Bool) (a b c d : Answer) → AreAlike a c → AreAlike b d → AreAlike (cond x a b) (cond x c d)
 same_test true a b c d first second = first
 same_test false a b c d first second = second
@@ -89,8 +82,8 @@ labels_moved : {ls ms : List Located} → AreMoved ls ms → (q : List ℕ) → 
 unfolding label_answer
 labels_moved none q = refl
 labels_moved (more {l} {m} {ls} {ms} one ones) q =
-    subst (λ (o : Option (List ℕ)). AreAlike (cond (is_label q l.label) (Ok (place_value l)) (label_answer ls q)) (cond (is_label q o) (Ok (place_value m)) (label_answer ms q))) one.label
-    (same_test (is_label q l.label) (Ok (place_value l)) (label_answer ls q) (Ok (place_value m)) (label_answer ms q) (place_moved l m one) (labels_moved ones q))
+    subst (λ (o : Option (List ℕ)). AreAlike (cond (is_label q l.label) (Ok l.here) (label_answer ls q)) (cond (is_label q o) (Ok m.here) (label_answer ms q))) one.label
+    (same_test (is_label q l.label) (Ok l.here) (label_answer ls q) (Ok m.here) (label_answer ms q) one.here (labels_moved ones q))
 
 sets_moved : {ls ms : List Located} → AreMoved ls ms → (q : List ℕ) → is_set ls q ≡ is_set ms q
 unfolding is_set
@@ -112,19 +105,19 @@ definition_moved : (o : Option Tree) (look at : List ℕ → Answer) (a b : Answ
 definition_moved None look at a b same rest = rest
 definition_moved (Some x) look at a b same rest = told (answer_by look x) (answer_by at x) (expressions_alike look at same x)
 
-here_moved : (l m : Located) (look at : List ℕ → Answer) → IsMoved l m → ((q : List ℕ) → AreAlike (look q) (at q)) → (q : List ℕ) → AreAlike (with_here (place_value l) look q) (with_here (place_value m) at q)
-here_moved l m look at one same q = same_test (bytes_eq q here) (Ok (place_value l)) (look q) (Ok (place_value m)) (at q) (place_moved l m one) (same q)
+here_moved : (l m : Located) (look at : List ℕ → Answer) → IsMoved l m → ((q : List ℕ) → AreAlike (look q) (at q)) → (q : List ℕ) → AreAlike (with_here l.here look q) (with_here m.here at q)
+here_moved l m look at one same q = same_test (bytes_eq q here) (Ok l.here) (look q) (Ok m.here) (at q) one.here (same q)
 
 earlier_moved : {all others : List Located} → AreMoved all others → {before passed : List Located} → AreMoved before passed → (q : List ℕ) → AreAlike (earlier all before q) (earlier others passed q)
 unfolding earlier
 earlier_moved {all} {others} a none q =
     same_test (bytes_eq q stack_name) (external_answer all q) (label_answer all q) (external_answer others q) (label_answer others q) (external_moved a q) (labels_moved a q)
 earlier_moved {all} {others} a (more {l} {m} {ls} {ms} one ones) q =
-    subst (λ (action : ActionTree). AreAlike (behind (external_answer all) l.action (place_value l) (earlier all ls) q) (behind (external_answer others) action (place_value m) (earlier others ms) q)) one.action
-    (same_test (is_taken_by l.action q) (external_answer all q) (by_definition (defines l.action q) (with_here (place_value l) (earlier all ls)) (earlier all ls q))
-    (external_answer others q) (by_definition (defines l.action q) (with_here (place_value m) (earlier others ms)) (earlier others ms q))
+    subst (λ (action : ActionTree). AreAlike (behind (external_answer all) l.action l.here (earlier all ls) q) (behind (external_answer others) action m.here (earlier others ms) q)) one.action
+    (same_test (is_taken_by l.action q) (external_answer all q) (by_definition (defines l.action q) (with_here l.here (earlier all ls)) (earlier all ls q))
+    (external_answer others q) (by_definition (defines l.action q) (with_here m.here (earlier others ms)) (earlier others ms q))
     (external_moved a q)
-    (definition_moved (defines l.action q) (with_here (place_value l) (earlier all ls)) (with_here (place_value m) (earlier others ms)) (earlier all ls q) (earlier others ms q)
+    (definition_moved (defines l.action q) (with_here l.here (earlier all ls)) (with_here m.here (earlier others ms)) (earlier all ls q) (earlier others ms q)
     (here_moved l m (earlier all ls) (earlier others ms) one (λ n. earlier_moved a ones n)) (earlier_moved a ones q)))
 
 throughout_moved : {all others before passed : List Located} → AreMoved all others → AreMoved before passed → (q : List ℕ) → AreAlike (throughout all before q) (throughout others passed q)
@@ -139,17 +132,34 @@ by_kind false a ones q = throughout_moved a ones q
 
 meaning_moved : {all others before passed : List Located} → AreMoved all others → AreMoved before passed → (l m : Located) → IsMoved l m → (q : List ℕ) → AreAlike (meaning all before l q) (meaning others passed m q)
 meaning_moved {all} {others} {before} {passed} a ones l m one q =
-    subst (λ (action : ActionTree). AreAlike (meaning all before l q) (with_here (place_value m) (cond (is_definition action) (earlier others passed) (throughout others passed)) q)) one.action
+    subst (λ (action : ActionTree). AreAlike (meaning all before l q) (with_here m.here (cond (is_definition action) (earlier others passed) (throughout others passed)) q)) one.action
     (here_moved l m (cond (is_definition l.action) (earlier all before) (throughout all before)) (cond (is_definition l.action) (earlier others passed) (throughout others passed)) one (by_kind (is_definition l.action) a ones) q)
 
 twice : (ls : List Located) → reverse (reverse ls) ≡ ls
 twice ls = reverse-reverse ls
 
-pub do_not_depend : MeaningsDoNotDependOnPlaces
-do_not_depend places others stmts before passed after rest l m here there same x =
-    let a : AreMoved (located places stmts) (located others stmts) = located_moved places others 0 first_segment stmts in
-    let b : AreMoved (reverse before ++ l ∷ after) (reverse passed ++ m ∷ rest) = subst (λ (ks : List Located). AreMoved ks (reverse passed ++ m ∷ rest)) here (subst (λ (ks : List Located). AreMoved (located places stmts) ks) there a) in
-    let lengths : length (reverse before) ≡ length (reverse passed) = length-reverse before ∙ same ∙ sym (length-reverse passed) in
+pub meanings_alike : MeaningsAreAlike
+meanings_alike values others same stmts before passed after rest l m here there long =
+    let a : AreMoved (located_by values stmts) (located_by others stmts) = located_moved values others same 0 first_segment stmts in
+    let b : AreMoved (reverse before ++ l ∷ after) (reverse passed ++ m ∷ rest) = subst (λ (ks : List Located). AreMoved ks (reverse passed ++ m ∷ rest)) here (subst (λ (ks : List Located). AreMoved (located_by values stmts) ks) there a) in
+    let lengths : length (reverse before) ≡ length (reverse passed) = length-reverse before ∙ long ∙ sym (length-reverse passed) in
     let s : Split (reverse before) (reverse passed) l m = split (reverse before) (reverse passed) after rest l m lengths b in
     let fronts : AreMoved before passed = subst (λ (ks : List Located). AreMoved before ks) (twice passed) (subst (λ (ks : List Located). AreMoved ks (reverse (reverse passed))) (twice before) (reversed s.front)) in
-    expressions_alike (meaning (located places stmts) before l) (meaning (located others stmts) passed m) (meaning_moved a fronts l m s.one) x
+    meaning_moved a fronts l m s.one
+
+-- ---- places in pieces
+
+place_is_no_number : (g : Segment) → is_fixed (base_of g) ≡ false
+place_is_no_number g = by_test (is_absolute g)
+  where
+    by_test : (b : Bool) → is_fixed (cond b Absolute (Piece g.piece)) ≡ false
+    by_test true = refl
+    by_test false = refl
+
+places_are_alike : (places others : ℕ → ℕ) (i : ℕ) (g : Segment) → AreAlikeValues (value_at g (places i)) (value_at g (others i))
+places_are_alike places others i g = places_alike (base_of g) (tag_of g.kind) (places i % 65536) (others i % 65536) (place_is_no_number g)
+
+pub do_not_depend : MeaningsDoNotDependOnPlaces
+do_not_depend places others stmts before passed after rest l m here there long x =
+    expressions_alike (meaning (located places stmts) before l) (meaning (located others stmts) passed m)
+    (meanings_alike (λ i g. value_at g (places i)) (λ i g. value_at g (others i)) (places_are_alike places others) stmts before passed after rest l m here there long) x

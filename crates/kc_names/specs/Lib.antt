@@ -4,4 +4,5 @@ pub mod Meanings
 pub mod Tables
 pub mod Walk
 pub mod Alike
+pub mod Known
 pub mod Few

@@ -1,6 +1,6 @@
 -- Where statements stand. A segment is in force from the statement that opens it on; a module begins in its code segment
 -- (after the MCS-96 Macro Assembler User's Guide, "Segments and the Location Counter").
-use Rattle.std.specs.Prelude.{ℕ, Bool, ◌+◌, ◌%◌, nat_le, if◌then◌else◌, List, [], ◌∷◌, Option, Some, None}
+use Rattle.std.specs.Prelude.{ℕ, Bool, ◌+◌, ◌%◌, nat_le, if◌then◌else◌, List, [], ◌∷◌, map, get_or, Option, Some, None}
 use Rattle.kc_obj.specs.declared.parts.SegKind.{SegKind}
 use Rattle.kc_obj.specs.declared.parts.SegKind.TheVariants.{Reg, Code, Ram, Stack}
 use Rattle.kc_expr.specs.declared.values.Base.{Base}
@@ -9,6 +9,7 @@ use Rattle.kc_expr.specs.declared.values.Tag.{Tag}
 use Rattle.kc_expr.specs.declared.values.Tag.TheVariants.{Register, Memory}
 use Rattle.kc_expr.specs.declared.values.Value.{Value}
 use Rattle.kc_expr.specs.Tree.{Tree}
+use Rattle.kc_expr.specs.Meaning.{plain}
 use Rattle.kc_statement.specs.declared.statement.Stmt.{Stmt}
 use Rattle.kc_statement.specs.Trees.{ActionTree, action_tree, Bare, Module, Cseg, Dseg, Rseg, Sseg, Public, Extrn, Equ, Set, Define, Reserve, Org, Even, End, Operation}
 use Rattle.kc_names.specs.declared.segments.Segment.{Segment}
@@ -48,25 +49,6 @@ segment_after g Even = g
 segment_after g End = g
 segment_after g (Operation name args) = g
 
--- A statement and where it stands. The place is that of its label and of `$`: an offset, or in an absolute piece an address.
-pub record Located : Type 0 where
-  pub line : ℕ
-  pub label : Option (List ℕ)
-  pub action : ActionTree
-  pub segment : Segment
-  pub place : ℕ
-
-abbrev pub located_at : Segment → ℕ → Stmt → Located
-located_at g place s = record { line = s.line; label = s.label; action = action_tree s.action; segment = g; place = place }
-
--- the statements from one on, where the places of all are told by their numbers
-unfoldable pub located_from : (ℕ → ℕ) → ℕ → Segment → List Stmt → List Located
-located_from places i g [] = []
-located_from places i g (s ∷ ss) = located_at g (places i) s ∷ located_from places (i + 1) (segment_after g (action_tree s.action)) ss
-
-abbrev pub located : (ℕ → ℕ) → List Stmt → List Located
-located places ss = located_from places 0 first_segment ss
-
 -- ---- the value of a place
 
 abbrev pub is_absolute : Segment → Bool
@@ -81,8 +63,38 @@ tag_of Code = Memory
 tag_of Ram = Memory
 tag_of Stack = Memory
 
+-- a place is an offset, or in an absolute piece an address
 abbrev pub value_at : Segment → ℕ → Value
 value_at g place = record { base = base_of g; tag = tag_of g.kind; number = place % 65536 }
 
-abbrev pub place_value : Located → Value
-place_value l = value_at l.segment l.place
+-- ---- where statements stand
+
+-- a statement with its segment and the value of its place, which its label and `$` have
+pub record Located : Type 0 where
+  pub line : ℕ
+  pub label : Option (List ℕ)
+  pub action : ActionTree
+  pub segment : Segment
+  pub here : Value
+
+abbrev pub located_at : Segment → Value → Stmt → Located
+located_at g value s = record { line = s.line; label = s.label; action = action_tree s.action; segment = g; here = value }
+
+-- the statements from one on, where the values of all places are told by the numbers of the statements and their segments
+unfoldable pub located_from : (ℕ → Segment → Value) → ℕ → Segment → List Stmt → List Located
+located_from values i g [] = []
+located_from values i g (s ∷ ss) = located_at g (values i g) s ∷ located_from values (i + 1) (segment_after g (action_tree s.action)) ss
+
+abbrev pub located_by : (ℕ → Segment → Value) → List Stmt → List Located
+located_by values ss = located_from values 0 first_segment ss
+
+-- where each statement has this place in its segment
+abbrev pub located : (ℕ → ℕ) → List Stmt → List Located
+located places ss = located_by (λ i g. value_at g (places i)) ss
+
+abbrev pub place_values : List Located → List Value
+place_values ls = map (λ l. l.here) ls
+
+-- the values of places by a list of them
+abbrev pub listed : List Value → ℕ → Segment → Value
+listed values i g = get_or values i (plain 0)

@@ -8,7 +8,7 @@ use Rattle.kc_expr.specs.declared.values.Value.{Value}
 use Rattle.kc_expr.specs.Tree.{Tree}
 use Rattle.kc_expr.specs.Meaning.{Answer, answer_by, here}
 use Rattle.kc_statement.specs.Trees.{ActionTree, Bare, Module, Cseg, Dseg, Rseg, Sseg, Public, Extrn, Equ, Set, Define, Reserve, Org, Even, End, Operation}
-use Rattle.kc_names.specs.Located.{Located, place_value}
+use Rattle.kc_names.specs.Located.{Located}
 use Rattle.kc_names.specs.Externals.{externals, external_in, stack_name, declared_names}
 
 -- the code of a fault that is told at another line
@@ -27,7 +27,7 @@ is_label name (Some label) = bytes_eq name label
 
 unfoldable pub label_answer : List Located → List ℕ → Answer
 label_answer [] name = Err 7
-label_answer (l ∷ ls) name = if is_label name l.label then Ok (place_value l) else label_answer ls name
+label_answer (l ∷ ls) name = if is_label name l.label then Ok l.here else label_answer ls name
 
 -- of two answers the first that is a value
 abbrev pub first_of : Answer → Answer → Answer
@@ -81,7 +81,7 @@ behind external action place look name =
 -- what a name means by the statements before one, the latest first, among all statements
 unfoldable pub earlier : List Located → List Located → List ℕ → Answer
 earlier all [] = everywhere all
-earlier all (l ∷ before) = behind (external_answer all) l.action (place_value l) (earlier all before)
+earlier all (l ∷ before) = behind (external_answer all) l.action l.here (earlier all before)
 
 -- a label where it stands, if no earlier label has its name
 abbrev pub with_label : Option (List ℕ) → Value → (List ℕ → Answer) → List ℕ → Answer
@@ -146,4 +146,4 @@ throughout all before name = if is_set all name then earlier all before name els
 
 -- what the names in a statement mean, where these statements stand before it, the latest first
 abbrev pub meaning : List Located → List Located → Located → List ℕ → Answer
-meaning all before l = with_here (place_value l) (if is_definition l.action then earlier all before else throughout all before)
+meaning all before l = with_here l.here (if is_definition l.action then earlier all before else throughout all before)

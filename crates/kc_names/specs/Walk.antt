@@ -5,7 +5,7 @@ use Rattle.kc_expr.specs.Meaning.{Answer, here}
 use Rattle.kc_names.specs.declared.earlier.Earlier.{Earlier}
 use Rattle.kc_names.specs.declared.meanings.Meanings.{Meanings}
 use Rattle.kc_names.specs.Tables.{answers, is_marked}
-use Rattle.kc_names.specs.Located.{Located, place_value}
+use Rattle.kc_names.specs.Located.{Located}
 use Rattle.kc_names.specs.Meanings as spec
 
 -- what names answer in a definition
@@ -31,5 +31,5 @@ pub record IsBehind (m : Meanings) (all before : List Located) : Type 0 where
 -- the walk is at a statement
 pub record IsAt (m : Meanings) (all before : List Located) (l : Located) : Type 0 where
   pub behind : IsBehind m all before
-  pub place : m.earlier.here ≡ place_value l
+  pub here : m.earlier.here ≡ l.here
   pub means : at_statement m ≡ spec.meaning all before l

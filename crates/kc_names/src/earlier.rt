@@ -1,8 +1,8 @@
-ghost use Rattle.std.specs.Prelude.{◌≡◌, ◌≤◌, [], length, slice_index, IfOk, OnOk};
+ghost use Rattle.std.specs.Prelude.{◌≡◌, ◌≤◌, [], length, IfOk, OnOk};
 ghost use Rattle.std.specs.Str.{bytes_eq};
 ghost use Rattle.kc_expr.specs.Meaning.{here};
 ghost use Rattle.kc_statement.specs.Trees.{action_tree};
-ghost use Rattle.kc_names.specs.Located.{located, value_at};
+ghost use Rattle.kc_names.specs.Located.{located_by, listed};
 ghost use Rattle.kc_names.specs.Externals.{externals, external_in, tag_of_taken};
 ghost use Rattle.kc_names.specs.Tables.{answers};
 ghost use Rattle.kc_names.specs.Meanings.{or_told, behind, label_answer, with_label, with_taken};
@@ -93,16 +93,14 @@ fn set_label(
     }
 }
 
-fn label_table(alloc: Global, stmts: &[Stmt], places: &[u32]) -> Result<Table, NoMemory>
-    requires { length places.now ≡ length stmts.now }
-    ensures { IfOk result (λ t. answers t ≡ label_answer (located (slice_index places.now) stmts.now)) }
+fn label_table(alloc: Global, stmts: &[Stmt], values: &[Value]) -> Result<Table, NoMemory>
+    requires { length values.now ≡ length stmts.now }
+    ensures { IfOk result (λ t. answers t ≡ label_answer (located_by (listed values.now) stmts.now)) }
 {
     let mut table = Table::new(alloc);
-    let mut segment = Segment::first();
     for i in 0..stmts.len() {
         let stmt = &stmts[i];
-        set_label(&mut table, alloc, &stmt.label, segment.value_at(places[i]))?;
-        segment = segment.after(&stmt.action);
+        set_label(&mut table, alloc, &stmt.label, values[i])?;
     }
     Ok(table)
 }
@@ -121,16 +119,16 @@ impl Earlier {
     pub(crate) fn new(
         alloc: Global,
         stmts: &[Stmt],
-        places: &[u32],
+        values: &[Value],
         taken: &[Taken],
     ) -> Result<Earlier, NoMemory>
-        requires places { length places.now ≡ length stmts.now }
-        requires taken { taken.now ≡ externals (located (slice_index places.now) stmts.now) }
+        requires values { length values.now ≡ length stmts.now }
+        requires taken { taken.now ≡ externals (located_by (listed values.now) stmts.now) }
         requires few { length taken.now ≤ 65536 }
-        ensures { IfOk result (λ e. IsEarlier e (located (slice_index places.now) stmts.now) []) }
+        ensures { IfOk result (λ e. IsEarlier e (located_by (listed values.now) stmts.now) []) }
     {
         let taken = external_table(alloc, taken)?;
-        let mut latest = label_table(alloc, stmts, places)?;
+        let mut latest = label_table(alloc, stmts, values)?;
         latest.set(alloc, b"STACK", taken.look(b"STACK"))?;
         let here = Segment::first().value_at(0);
         Ok(Earlier {
@@ -140,13 +138,13 @@ impl Earlier {
         })
     }
 
-    /// At a statement.
-    pub(crate) fn enter(&mut self, segment: Segment, place: u32)
-        ensures here { self.new.here ≡ value_at segment place }
+    /// At a statement, with the value of its place.
+    pub(crate) fn enter(&mut self, value: Value)
+        ensures here { self.new.here ≡ value }
         ensures taken { self.new.taken ≡ self.old.taken }
         ensures latest { self.new.latest ≡ self.old.latest }
     {
-        self.here = segment.value_at(place);
+        self.here = value;
     }
 
     fn take(&mut self, alloc: Global, names: &[Text]) -> Result<(), NoMemory>

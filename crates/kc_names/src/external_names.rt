@@ -3,7 +3,9 @@ ghost use Rattle.std.specs.List.{list_any};
 ghost use Rattle.std.specs.Option.{option_map};
 ghost use Rattle.kc_expr.specs.Tree.{tree_of};
 ghost use Rattle.kc_statement.specs.Trees.{action_tree, arg_tree, item_tree};
-ghost use Rattle.kc_names.specs.Located.{located};
+ghost use Rattle.kc_expr.specs.declared.values.Value.{Value};
+ghost use Rattle.kc_names.specs.declared.segments.Segment.{Segment};
+ghost use Rattle.kc_names.specs.Located.{located_by};
 ghost use Rattle.kc_names.specs.Externals as spec;
 
 use crate::segments::Segment;
@@ -159,7 +161,7 @@ fn push_declared(
 /// declared in RSEG; and STACK, the address after the stack, at its first use. (MCS-96 Macro Assembler User's Guide,
 /// "EXTRN" and "SSEG".)
 pub fn externals(alloc: Global, stmts: &[Stmt]) -> Result<Vec<Taken>, NoMemory>
-    ensures { IfOk result (λ taken. (places : ℕ → ℕ) → taken.items ≡ spec.externals (located places stmts.now)) }
+    ensures { IfOk result (λ taken. (values : ℕ → Segment → Value) → taken.items ≡ spec.externals (located_by values stmts.now)) }
 {
     let mut taken = Vec::new(alloc);
     let mut used = false;

@@ -5,13 +5,18 @@ mod earlier;
 mod external_names;
 mod laws;
 mod meanings;
+mod places;
 mod segments;
 mod table;
 
 pub use external_names::externals;
-pub use laws::{externals_are_few, meanings_do_not_depend_on_places};
+pub use laws::{
+    bases_are_known, externals_are_few, meanings_are_alike, meanings_do_not_depend_on_places,
+};
 pub use meanings::Meanings;
+pub use places::place_values;
 pub use segments::Segment;
+pub use table::Marks;
 
 #[cfg(test)]
 mod tests;

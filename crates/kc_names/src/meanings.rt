@@ -1,15 +1,16 @@
-ghost use Rattle.std.specs.Prelude.{◌≡◌, ◌≤◌, ℕ, List, [], ◌∷◌, length, reverse, slice_index, IfOk, OnOk};
+ghost use Rattle.std.specs.Prelude.{◌≡◌, ◌≤◌, ℕ, List, [], ◌∷◌, length, reverse, IfOk, OnOk};
 ghost use Rattle.kc_expr.specs.Tree.{tree_of};
 ghost use Rattle.kc_expr.specs.Meaning.{answer_by};
 ghost use Rattle.kc_statement.specs.Trees.{action_tree};
-ghost use Rattle.kc_names.specs.Located.{Located, located, located_at};
+ghost use Rattle.kc_expr.specs.declared.values.Value.{Value};
+ghost use Rattle.kc_names.specs.declared.segments.Segment.{Segment};
+ghost use Rattle.kc_names.specs.Located.{Located, located_by, located_at, place_values, listed};
 ghost use Rattle.kc_names.specs.Externals.{externals};
 ghost use Rattle.kc_names.specs.Tables.{is_marked};
 ghost use Rattle.kc_names.specs.Meanings as spec;
 ghost use Rattle.kc_names.specs.Walk.{at_statement, IsEarlier, IsBehind, IsAt};
 
 use crate::earlier::{Earlier, is_here};
-use crate::segments::Segment;
 use crate::table::{Marks, Table};
 use kc_base::NoMemory;
 use kc_expr::{Expr, Scope, Value, value_over};
@@ -37,7 +38,7 @@ fn mark_set(marks: &mut Marks, alloc: Global, action: &Action) -> Result<(), NoM
 
 // The names that SET defines.
 fn set_names(alloc: Global, stmts: &[Stmt]) -> Result<Marks, NoMemory>
-    ensures { IfOk result (λ m. (places : ℕ → ℕ) → is_marked m ≡ spec.is_set (located places stmts.now)) }
+    ensures { IfOk result (λ m. (values : ℕ → Segment → Value) → is_marked m ≡ spec.is_set (located_by values stmts.now)) }
 {
     let mut marks = Marks::new(alloc);
     for stmt in stmts {
@@ -51,19 +52,17 @@ fn through(
     earlier: Earlier,
     alloc: Global,
     stmts: &[Stmt],
-    places: &[u32],
+    values: &[Value],
 ) -> Result<Earlier, NoMemory>
-    requires places { length places.now ≡ length stmts.now }
-    requires earlier { IsEarlier earlier (located (slice_index places.now) stmts.now) [] }
-    ensures { IfOk result (λ e. IsEarlier e (located (slice_index places.now) stmts.now) (reverse (located (slice_index places.now) stmts.now))) }
+    requires values { length values.now ≡ length stmts.now }
+    requires earlier { IsEarlier earlier (located_by (listed values.now) stmts.now) [] }
+    ensures { IfOk result (λ e. IsEarlier e (located_by (listed values.now) stmts.now) (reverse (located_by (listed values.now) stmts.now))) }
 {
     let mut earlier = earlier;
-    let mut segment = Segment::first();
     for i in 0..stmts.len() {
         let stmt = &stmts[i];
-        earlier.enter(segment, places[i]);
+        earlier.enter(values[i]);
         earlier.leave(alloc, &stmt.action)?;
-        segment = segment.after(&stmt.action);
     }
     Ok(earlier)
 }
@@ -96,27 +95,27 @@ impl Scope for Meanings {
 }
 
 impl Meanings {
-    /// Before the first of the statements, where each has its place in `places`, an offset or address of at most
-    /// 65,536, and `taken` are the externals.
+    /// Before the first of the statements, where the places of all have these values, as `place_values` gives them, and
+    /// `taken` are the externals.
     pub fn new(
         alloc: Global,
         stmts: &[Stmt],
-        places: &[u32],
+        values: &[Value],
         taken: &[Taken],
     ) -> Result<Meanings, NoMemory>
-        requires places { length places.now ≡ length stmts.now }
-        requires taken { taken.now ≡ externals (located (slice_index places.now) stmts.now) }
+        requires values { length values.now ≡ length stmts.now }
+        requires taken { taken.now ≡ externals (located_by (listed values.now) stmts.now) }
         requires few { length taken.now ≤ 65536 }
-        ensures { IfOk result (λ m. IsBehind m (located (slice_index places.now) stmts.now) []) }
+        ensures { IfOk result (λ m. (at : ℕ → Segment → Value) → place_values (located_by at stmts.now) ≡ values.now → IsBehind m (located_by at stmts.now) []) }
     {
-        let first = Earlier::new(alloc, stmts, places, taken)?;
+        let first = Earlier::new(alloc, stmts, values, taken)?;
         let Earlier {
             taken: _,
             latest,
             here: _,
-        } = through(first, alloc, stmts, places)?;
+        } = through(first, alloc, stmts, values)?;
         let set = set_names(alloc, stmts)?;
-        let earlier = Earlier::new(alloc, stmts, places, taken)?;
+        let earlier = Earlier::new(alloc, stmts, values, taken)?;
         Ok(Meanings {
             earlier,
             last: latest,
@@ -125,11 +124,11 @@ impl Meanings {
         })
     }
 
-    /// Enters the next statement, with its segment and its place.
-    pub fn enter(&mut self, segment: Segment, stmt: &Stmt, place: u32)
-        ensures { (all before : List Located) → IsBehind self.old all before → IsAt self.new all before (located_at segment place stmt.now) }
+    /// Enters the next statement, with the value of its place.
+    pub fn enter(&mut self, stmt: &Stmt, value: Value)
+        ensures { (all before : List Located) (g : Segment) → IsBehind self.old all before → IsAt self.new all before (located_at g value stmt.now) }
     {
-        self.earlier.enter(segment, place);
+        self.earlier.enter(value);
         self.defines = is_definition(&stmt.action);
     }
 

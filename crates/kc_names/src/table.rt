@@ -46,12 +46,13 @@ impl Table {
 
 /// Names that are marked.
 #[derive(Drop)]
-pub(crate) struct Marks {
+pub struct Marks {
     map: IndexMap<Vec<u8>, bool>,
 }
 
 impl Marks {
-    pub(crate) fn new(alloc: Global) -> Marks
+    /// No name is marked.
+    pub fn new(alloc: Global) -> Marks
         ensures { is_marked result ≡ no_name }
     {
         Marks {
@@ -59,7 +60,8 @@ impl Marks {
         }
     }
 
-    pub(crate) fn has(&self, name: &[u8]) -> bool
+    /// Whether a name is marked.
+    pub fn has(&self, name: &[u8]) -> bool
         ensures { result ≡ is_marked self.now name.now }
     {
         match self.map.get(name) {
@@ -68,7 +70,8 @@ impl Marks {
         }
     }
 
-    pub(crate) fn mark(&mut self, alloc: Global, name: &[u8]) -> Result<(), NoMemory>
+    /// Marks a name.
+    pub fn mark(&mut self, alloc: Global, name: &[u8]) -> Result<(), NoMemory>
         ensures { OnOk result (is_marked self.new ≡ updated name.now true (is_marked self.old)) }
     {
         let key = Vec::from_slice(alloc, name)?;

@@ -72,16 +72,15 @@ fn entered(rt: &HostRuntime, index: usize) -> Option<Meanings> {
     if stmts.len() != PLACES.len() || taken.len() > 65536 {
         return None;
     }
-    let mut meanings = Meanings::new(rt.alloc(), &stmts, &PLACES, &taken).ok()?;
-    let mut segment = Segment::first();
+    let values = place_values(rt.alloc(), &stmts, &PLACES).ok()?;
+    let mut meanings = Meanings::new(rt.alloc(), &stmts, &values, &taken).ok()?;
     for i in 0..stmts.len() {
         let stmt = &stmts[i];
-        meanings.enter(segment, stmt, PLACES[i]);
+        meanings.enter(stmt, *values.get(i)?);
         if i == index {
             return Some(meanings);
         }
         meanings.leave(rt.alloc(), stmt).ok()?;
-        segment = segment.after(&stmt.action);
     }
     None
 }

@@ -6,7 +6,8 @@ use Rattle.std.proofs.lemmas.Bool.Decides.{nat_tests}
 use Rattle.kc_obj.specs.declared.parts.Content.{Content}
 use Rattle.kc_obj.specs.declared.parts.Fixup.{Fixup}
 use Rattle.kc_obj.specs.Contents.{content_at, is_from, SameFrom}
-use Rattle.kc_obj.specs.Fixups.{fixup_width, fixup_follows, fixups_in_order, may_begin, is_zero, has_room}
+use Rattle.kc_relocation.specs.Numbers.{width}
+use Rattle.kc_obj.specs.Fixups.{fixup_follows, fixups_in_order, may_begin, is_zero, has_room}
 
 from_same : (p o : ℕ) → is_from p o p o ≡ true
 from_same p o = grind (arith, nat_tests)
@@ -33,13 +34,13 @@ same_room : (cs all : List Content) (f : Fixup) (p o : ℕ) → SameFrom p o cs 
 same_room cs all f p o same from =
     let first : content_at cs f.piece f.offset ≡ content_at all f.piece f.offset = same f.piece f.offset from in
     let second : content_at cs f.piece (f.offset + 1) ≡ content_at all f.piece (f.offset + 1) = same f.piece (f.offset + 1) (from_joined p o f.piece f.offset f.piece (f.offset + 1) from (from_next f.piece f.offset)) in
-    (λ i. may_begin f.kind (first i) && (eqb (fixup_width f.kind) 1 || is_zero (second i)))
+    (λ i. may_begin f.kind (first i) && (eqb (width f.kind) 1 || is_zero (second i)))
 
 -- each relocation from a place on has the same room
 rooms_from : (cs all : List Content) (f : Fixup) (fs : List Fixup) (p o : ℕ) → SameFrom p o cs all → is_from p o f.piece f.offset ≡ true → fixups_in_order (f ∷ fs) ≡ true → list_all (has_room cs) (f ∷ fs) ≡ list_all (has_room all) (f ∷ fs)
 rooms_from cs all f [] p o same from h = ap (λ b. b && true) (same_room cs all f p o same from)
 rooms_from cs all f (g ∷ fs) p o same from h =
-    let later : is_from p o g.piece g.offset ≡ true = from_joined p o f.piece f.offset g.piece g.offset from (from_following f.piece f.offset (fixup_width f.kind) g.piece g.offset (next_follows f g fs h)) in
+    let later : is_from p o g.piece g.offset ≡ true = from_joined p o f.piece f.offset g.piece g.offset from (from_following f.piece f.offset (width f.kind) g.piece g.offset (next_follows f g fs h)) in
     let rest : list_all (has_room cs) (g ∷ fs) ≡ list_all (has_room all) (g ∷ fs) = rooms_from cs all g fs p o same later (rest_in_order f (g ∷ fs) h) in
     (λ i. same_room cs all f p o same from i && rest i)
 

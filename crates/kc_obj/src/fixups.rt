@@ -1,17 +1,12 @@
 ghost use Rattle.std.specs.Prelude.{◌≡◌, true};
 ghost use Rattle.std.specs.List.{list_all};
 ghost use Rattle.kc_obj.specs.Contents.{contents_in_order};
-ghost use Rattle.kc_obj.specs.Fixups.{fixup_width, target_exists, fixup_is_sound, fixup_follows, fixups_in_order, may_begin, is_zero, has_room};
+ghost use Rattle.kc_relocation.specs.Numbers.{width};
+ghost use Rattle.kc_obj.specs.Fixups.{target_exists, fixup_is_sound, fixup_follows, fixups_in_order, may_begin, is_zero, has_room};
 
 use crate::contents::{byte_at, from_place};
 use crate::parts::{Content, Fixup, Segment, Taken, Target};
-
-/// How many bytes the number of a relocation of this kind has.
-pub fn width(kind: u8) -> usize
-    ensures { result ≡ fixup_width kind }
-{
-    if kind == 1 || kind == 2 { 1 } else { 2 }
-}
+use kc_relocation::{is_distance, width};
 
 fn target_sound(segments: &[Segment], externals: &[Taken], kind: u8, target: Target) -> bool
     ensures { result ≡ target_exists segments.now externals.now kind target }
@@ -19,7 +14,7 @@ fn target_sound(segments: &[Segment], externals: &[Taken], kind: u8, target: Tar
     match target {
         Target::Piece(piece) => (piece as usize) < segments.len(),
         Target::External(external) => (external as usize) < externals.len(),
-        Target::Number => 2 <= kind,
+        Target::Number => is_distance(kind),
     }
 }
 
@@ -36,7 +31,7 @@ fn follows(first: Fixup, next: Fixup) -> bool
 {
     first.piece < next.piece
         || first.piece == next.piece
-            && first.offset as usize + width(first.kind) <= next.offset as usize
+            && first.offset as usize + width(first.kind) as usize <= next.offset as usize
 }
 
 // Whether relocations stand by rising place, none over another.

@@ -31,8 +31,8 @@ pub fn all_name_chars(characters: &[u8]) -> bool
     characters.iter().all(|c| name_char(*c))
 }
 
-// Whether a name can stand in an object.
-pub(crate) fn name_is_sound(name: &[u8]) -> bool
+/// Whether a name can stand in an object: at most 31 upper-case letters, digits, `_` and `?`, and no digit first.
+pub fn name_is_sound(name: &[u8]) -> bool
     ensures { result ≡ is_name name.now }
 {
     begins(name) && name.len() <= 31 && all_name_chars(name)

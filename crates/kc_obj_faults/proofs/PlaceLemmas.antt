@@ -9,7 +9,7 @@ use Rattle.std.proofs.lemmas.Bool.Decides.{nat_tests}
 use Rattle.kc_obj.specs.declared.parts.Content.{Content}
 use Rattle.kc_obj.specs.declared.parts.Fixup.{Fixup}
 use Rattle.kc_obj.specs.Contents.{covers}
-use Rattle.kc_obj.specs.Fixups.{fixup_width}
+use Rattle.kc_relocation.specs.Numbers.{width}
 use Rattle.kc_obj_faults.specs.Records.{place_of, is_over, is_under}
 use Rattle.kc_obj_faults.specs.Places.{same_place, or_else, place_in_run, PutsRun, IsTable, Covers, CoversNumber, HasCovered}
 
@@ -108,7 +108,7 @@ width_plain : (b : Bool) (P : ℕ → Type 0) → ((cond {A = ℕ} b 1 2 ≡ 2 �
 width_plain true P f g = f (λ e. omega arith)
 width_plain false P f g = g refl
 
-width_is : (kind : ℕ) (P : ℕ → Type 0) → ((fixup_width kind ≡ 2 → ⊥) → P 1) → (fixup_width kind ≡ 2 → P 2) → P (fixup_width kind)
+width_is : (kind : ℕ) (P : ℕ → Type 0) → ((width kind ≡ 2 → ⊥) → P 1) → (width kind ≡ 2 → P 2) → P (width kind)
 width_is kind P f g = width_plain ((kind == 1) || (kind == 2)) P f g
 
 pub put_or : (b x : Bool) → cond b true x ≡ (x || b)
@@ -117,12 +117,12 @@ put_or true false = refl
 put_or false true = refl
 put_or false false = refl
 
-pub covers_one : {S : Type 0} (old new : HashSet (ℕ × ℕ) S) (x : Fixup) → (fixup_width x.kind ≡ 2 → ⊥) → Covers old new x.piece x.offset → CoversNumber old new x
+pub covers_one : {S : Type 0} (old new : HashSet (ℕ × ℕ) S) (x : Fixup) → (width x.kind ≡ 2 → ⊥) → Covers old new x.piece x.offset → CoversNumber old new x
 covers_one old new x other covers p o =
     covers p o ∙ one_over x.piece x.offset p o (contains same_place old (p, o))
     ∙ width_is x.kind (λ w. (contains same_place old (p, o) || ((x.piece == p) && nat_le x.offset o && nat_lt o (x.offset + 1))) ≡ (contains same_place old (p, o) || ((x.piece == p) && nat_le x.offset o && nat_lt o (x.offset + w)))) (λ e. refl) (λ e. absurd (other e))
 
-pub covers_two : {S : Type 0} (old now new : HashSet (ℕ × ℕ) S) (x : Fixup) → fixup_width x.kind ≡ 2 → Covers old now x.piece x.offset → Covers now new x.piece (x.offset + 1) → CoversNumber old new x
+pub covers_two : {S : Type 0} (old now new : HashSet (ℕ × ℕ) S) (x : Fixup) → width x.kind ≡ 2 → Covers old now x.piece x.offset → Covers now new x.piece (x.offset + 1) → CoversNumber old new x
 covers_two old now new x two first second p o =
     second p o ∙ ap (λ b. b || ((x.piece == p) && (x.offset + 1 == o))) (first p o) ∙ two_over x.piece x.offset p o (contains same_place old (p, o))
     ∙ ap (λ w. contains same_place old (p, o) || ((x.piece == p) && nat_le x.offset o && nat_lt o (x.offset + w))) (sym two)

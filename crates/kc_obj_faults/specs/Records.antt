@@ -16,7 +16,8 @@ use Rattle.kc_obj.specs.declared.parts.Target.TheVariants as targets
 use Rattle.kc_obj.specs.Names.{is_below}
 use Rattle.kc_obj.specs.Pieces.{kind_number, in_region, is_relocatable, has_code}
 use Rattle.kc_obj.specs.Contents.{leaves_place, covers}
-use Rattle.kc_obj.specs.Fixups.{fixup_width, may_begin, is_zero}
+use Rattle.kc_relocation.specs.Numbers.{width}
+use Rattle.kc_obj.specs.Fixups.{may_begin, is_zero}
 use Rattle.kc_obj.specs.LineEntries.{line_follows}
 use Rattle.kc_obj_faults.specs.Fields.{word_at, long_at, name_at, is_bad_name, noted}
 
@@ -163,7 +164,7 @@ place_of (c ∷ cs) (start ∷ starts) piece offset =
 
 -- the bytes of a relocation have an offset of a piece among them
 abbrev pub is_over : ℕ → ℕ → Fixup → Bool
-is_over piece offset f = (f.piece == piece) && nat_le f.offset offset && nat_lt offset (f.offset + fixup_width f.kind)
+is_over piece offset f = (f.piece == piece) && nat_le f.offset offset && nat_lt offset (f.offset + width f.kind)
 
 abbrev pub is_under : List Fixup → ℕ → ℕ → Bool
 is_under fixups piece offset = list_any (is_over piece offset) fixups
@@ -181,12 +182,12 @@ place_or_zero (Some place) = place
 abbrev pub byte_faults : List ℕ → Fixup → Option ℕ → Option ℕ → Option Fault → Option Fault
 byte_faults file x first second f =
     noted (noted f (not (may_begin x.kind (byte_of_file file first))) (place_or_zero first) 4)
-    ((fixup_width x.kind == 2) && not (is_zero (byte_of_file file second))) (place_or_zero second) 4
+    ((width x.kind == 2) && not (is_zero (byte_of_file file second))) (place_or_zero second) 4
 
 abbrev pub stands_free : List Fixup → Fixup → Option ℕ → Option ℕ → Bool
 stands_free fixups x first second =
     is_some first && not (is_under fixups x.piece x.offset)
-    && ((fixup_width x.kind == 1) || (is_some second && not (is_under fixups x.piece (x.offset + 1))))
+    && ((width x.kind == 1) || (is_some second && not (is_under fixups x.piece (x.offset + 1))))
 
 abbrev pub free_faults : ℕ → List ℕ → List Fixup → Fixup → Option ℕ → Option ℕ → Option Fault → Option Fault
 free_faults at file fixups x first second f =

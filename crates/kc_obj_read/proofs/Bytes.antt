@@ -1,10 +1,10 @@
 -- Bytes of a list, and the numbers that they spell.
-use Rattle.std.proofs.Common.{◌≡◌, ℕ, zero, suc, ◌+◌, ◌*◌, ◌/◌, ◌%◌, ◌<◌, ◌≤◌, List, [], ◌∷◌, ◌++◌, length, get_or, Fits, w8, take, drop, sym, ap, ◌∙◌, arith}
+use Rattle.std.proofs.Common.{◌≡◌, ℕ, zero, suc, ◌+◌, ◌*◌, ◌/◌, ◌%◌, ◌<◌, ◌≤◌, List, [], ◌∷◌, ◌++◌, length, take, drop, sym, ap, ◌∙◌, arith}
 use Rattle.std.proofs.lemmas.List.{length-take-le}
 use Rattle.std.specs.Prelude.{slice_index}
 use Rattle.kc_obj.specs.Spelling.{word_bytes, record_bytes}
 use Rattle.kc_obj_faults.specs.Fields.{word_at}
-use Rattle.kc_obj_read.specs.Law.{IsBytes}
+use Rattle.kc_base.specs.Bytes.{IsBytes}
 
 pub bytes_drop : (n : ℕ) (xs : List ℕ) → IsBytes xs → IsBytes (drop n xs)
 bytes_drop zero xs h = h
@@ -41,7 +41,3 @@ record_here (k ∷ a ∷ b ∷ more) len h two is le =
     let word : word_bytes len ≡ a ∷ b ∷ [] = ap word_bytes is ∙ word_again a b h.1.0 h.1.1.0 in
     let sum : 3 + len ≡ suc (suc (suc len)) = omega arith in
     ap (λ n. take n (k ∷ a ∷ b ∷ more)) sum ∙ sym (ap (λ n. (k ∷ word_bytes n) ++ take len more) size ∙ ap (λ (w : List ℕ). (k ∷ w) ++ take len more) word)
-
-pub bytes_are : (xs : List ℕ) → ((i : ℕ) → Fits w8 (get_or xs i 0)) → IsBytes xs
-bytes_are [] h = tt
-bytes_are (x ∷ xs) h = (let k : Fits w8 x = h 0 in omega (arith, k), bytes_are xs (λ i. h (suc i)))

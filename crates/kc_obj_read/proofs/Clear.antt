@@ -14,7 +14,7 @@ use Rattle.kc_obj.specs.Rules.{names_piece, given_is_sound}
 use Rattle.kc_obj.specs.Spelling.{word_bytes, name_bytes, tag_of, piece_number, segment_body, taken_body, given_body}
 use Rattle.kc_obj_faults.specs.declared.faults.Fault.{Fault}
 use Rattle.kc_obj_faults.specs.Fields.{word_at, noted, name_at, begins_digit, is_bad_name}
-use Rattle.kc_obj_read.specs.Law.{IsBytes}
+use Rattle.kc_base.specs.Bytes.{IsBytes}
 use Rattle.kc_obj_faults.specs.Records.{kind_of, segment_at, kind_falls, comes_late, bad_base, bad_length, kind_faults, flag_faults, segment_faults, head_faults, taken_at, taken_faults, piece_of, given_at, name_falls, given_faults}
 use Rattle.kc_obj_read.proofs.Order.{AfterLast}
 use Rattle.kc_obj_read.proofs.Bytes.{word_again, word_below, bytes_drop}

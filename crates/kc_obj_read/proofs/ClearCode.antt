@@ -9,11 +9,13 @@ use Rattle.kc_obj.specs.declared.parts.Content.{Content}
 use Rattle.kc_obj.specs.declared.parts.Fixup.{Fixup}
 use Rattle.kc_obj.specs.Pieces.{has_code}
 use Rattle.kc_obj.specs.Contents.{content_is_sound, content_follows, content_at}
-use Rattle.kc_obj.specs.Fixups.{fixup_width, target_exists, fixup_is_sound, fixup_follows, may_begin, is_zero, has_room}
+use Rattle.kc_relocation.specs.Numbers.{width}
+use Rattle.kc_obj.specs.Fixups.{target_exists, fixup_is_sound, fixup_follows, may_begin, is_zero, has_room}
 use Rattle.kc_obj.specs.Spelling.{content_body, target_bytes, fixup_body}
 use Rattle.kc_obj_faults.specs.declared.faults.Fault.{Fault}
 use Rattle.kc_obj_faults.specs.Fields.{word_at, noted}
-use Rattle.kc_obj_read.specs.Law.{IsBytes, target_fits, fixup_fits}
+use Rattle.kc_base.specs.Bytes.{IsBytes}
+use Rattle.kc_obj_read.specs.Law.{target_fits, fixup_fits}
 use Rattle.kc_obj_faults.specs.Records.{run_at, run_piece_falls, run_falls, run_faults, target_of, fixup_at, fixup_piece_falls, fixup_falls, bad_index, fixup_place_faults, place_of, is_over, is_under, byte_of_file, place_or_zero, byte_faults, stands_free, free_faults, under_faults}
 use Rattle.kc_obj_read.specs.Reading.{Read, fixup_faults}
 use Rattle.kc_obj_faults.specs.Fields.{last_of}
@@ -100,14 +102,14 @@ abbrev pub PlacesHold : List ℕ → List Content → List ℕ → Type 0
 PlacesHold file contents starts = (p o : ℕ) → byte_of_file file (place_of contents starts p o) ≡ content_at contents p o
 
 pub free_clear : (at : ℕ) (file : List ℕ) (fixups : List Fixup) (x : Fixup) (first second : Option ℕ) (f : Option Fault) → free_faults at file fixups x first second f ≡ None
-    → (f ≡ None) × (is_under fixups x.piece x.offset ≡ false) × (may_begin x.kind (byte_of_file file first) ≡ true) × (((fixup_width x.kind == 2) && not (is_zero (byte_of_file file second))) ≡ false)
+    → (f ≡ None) × (is_under fixups x.piece x.offset ≡ false) × (may_begin x.kind (byte_of_file file first) ≡ true) × (((width x.kind == 2) && not (is_zero (byte_of_file file second))) ≡ false)
 free_clear at file fixups x first second f clear =
-    elim (stands_free fixups x first second) as (λ b. stands_free fixups x first second ≡ b → cond b (byte_faults file x first second f) (noted f true (at + 2) 3) ≡ None → (f ≡ None) × (is_under fixups x.piece x.offset ≡ false) × (may_begin x.kind (byte_of_file file first) ≡ true) × (((fixup_width x.kind == 2) && not (is_zero (byte_of_file file second))) ≡ false)) [
+    elim (stands_free fixups x first second) as (λ b. stands_free fixups x first second ≡ b → cond b (byte_faults file x first second f) (noted f true (at + 2) 3) ≡ None → (f ≡ None) × (is_under fixups x.piece x.offset ≡ false) × (may_begin x.kind (byte_of_file file first) ≡ true) × (((width x.kind == 2) && not (is_zero (byte_of_file file second))) ≡ false)) [
       | true ↦ λ e quiet.
           let o = x.offset in
           let begins = may_begin x.kind (byte_of_file file first) in
-          let wrong = (fixup_width x.kind == 2) && not (is_zero (byte_of_file file second)) in
-          let both = and_parts (is_some first && not (is_under fixups x.piece o)) ((fixup_width x.kind == 1) || (is_some second && not (is_under fixups x.piece (o + 1)))) e in
+          let wrong = (width x.kind == 2) && not (is_zero (byte_of_file file second)) in
+          let both = and_parts (is_some first && not (is_under fixups x.piece o)) ((width x.kind == 1) || (is_some second && not (is_under fixups x.piece (o + 1)))) e in
           let one = and_parts (is_some first) (not (is_under fixups x.piece o)) both.0 in
           let n2 = noted_none (noted f (not begins) (place_or_zero first) 4) wrong (place_or_zero second) 4 quiet in
           let n1 = noted_none f (not begins) (place_or_zero first) 4 n2.0 in
@@ -115,7 +117,7 @@ free_clear at file fixups x first second f clear =
       | false ↦ λ e quiet. absurd (cc quiet)
     ] refl clear
 
-width_cases : (kind : ℕ) (z : Bool) → ((fixup_width kind == 2) && not z) ≡ false → ((fixup_width kind == 1) || z) ≡ true
+width_cases : (kind : ℕ) (z : Bool) → ((width kind == 2) && not z) ≡ false → ((width kind == 1) || z) ≡ true
 width_cases kind z h =
     elim ((kind == 1) || (kind == 2)) as (λ b. ((cond b 1 2 == 2) && not z) ≡ false → ((cond b 1 2 == 1) || z) ≡ true) [ true ↦ λ k. refl | false ↦ λ k. not-false z k ] h
 
@@ -124,7 +126,7 @@ over_next p q o r w h k l = grind (arith, nat_tests)
 
 fixup_after : (fixups : List Fixup) (before : Option Fixup) (x : Fixup) → last_of fixups ≡ before → fixup_piece_falls before x.piece ≡ false → fixup_falls before x.piece x.offset ≡ false → is_under fixups x.piece x.offset ≡ false → AfterLast fixup_follows before x
 fixup_after fixups None x last h k under = tt
-fixup_after fixups (Some b) x last h k under = over_next b.piece x.piece b.offset x.offset (fixup_width b.kind) h k (none_last (is_over x.piece x.offset) fixups b under last)
+fixup_after fixups (Some b) x last h k under = over_next b.piece x.piece b.offset x.offset (width b.kind) h k (none_last (is_over x.piece x.offset) fixups b under last)
 
 target_exact : (segments : List Segment) (externals : List Taken) (kind t i j : ℕ) → i < 256 → j < 256 → (nat_lt 2 t || ((t == 2) && nat_lt kind 2)) ≡ false → bad_index (length segments) (length externals) t (i + 256 * j) ≡ false
     → (target_exists segments externals kind (target_of t (i + 256 * j)) ≡ true) × (target_bytes (target_of t (i + 256 * j)) ≡ t ∷ i ∷ j ∷ []) × (target_fits (target_of t (i + 256 * j)) ≡ true)
@@ -198,7 +200,7 @@ module _ (at : ℕ) (file : List ℕ) (r : Read) (a b c d k t i j e g : ℕ) (by
       let quiet = free_clear at file r.fixups x first second place free in
       let exact = target_exact r.segments r.externals k t i j bytes.1.1.1.1.1.1.0 bytes.1.1.1.1.1.1.1.0 target_clear.1 target_clear.2 in
       let begins : may_begin k (content_at r.contents x.piece x.offset) ≡ true = ap (may_begin k) (sym (hold x.piece x.offset)) ∙ quiet.2 in
-      let ends : ((fixup_width k == 1) || is_zero (content_at r.contents x.piece (x.offset + 1))) ≡ true = ap (λ y. (fixup_width k == 1) || is_zero y) (sym (hold x.piece (x.offset + 1))) ∙ width_cases k (is_zero (byte_of_file file second)) quiet.3 in
+      let ends : ((width k == 1) || is_zero (content_at r.contents x.piece (x.offset + 1))) ≡ true = ap (λ y. (width k == 1) || is_zero y) (sym (hold x.piece (x.offset + 1))) ∙ width_cases k (is_zero (byte_of_file file second)) quiet.3 in
       let p_narrow : nat_lt x.piece 0x10000 ≡ true = lt-ltb x.piece 0x10000 (word_below a b bytes.0 bytes.1.0) in
       let o_narrow : nat_lt x.offset 0x10000 ≡ true = lt-ltb x.offset 0x10000 (word_below c d bytes.1.1.0 bytes.1.1.1.0) in
       let e_narrow : nat_lt x.addend 0x10000 ≡ true = lt-ltb x.addend 0x10000 (word_below e g bytes.1.1.1.1.1.1.1.1.0 bytes.1.1.1.1.1.1.1.1.1.0) in (
@@ -208,7 +210,7 @@ module _ (at : ℕ) (file : List ℕ) (r : Read) (a b c d k t i j e g : ℕ) (by
           narrow = and_from (nat_lt x.piece 0x10000 && nat_lt x.offset 0x10000 && target_fits x.target) (nat_lt x.addend 0x10000) (and_from (nat_lt x.piece 0x10000 && nat_lt x.offset 0x10000) (target_fits x.target) (and_from (nat_lt x.piece 0x10000) (nat_lt x.offset 0x10000) p_narrow o_narrow) exact.2) e_narrow;
           spelled = λ n. word_again a b bytes.0 bytes.1.0 n ++ word_again c d bytes.1.1.0 bytes.1.1.1.0 n ++ (k ∷ exact.1 n) ++ word_again e g bytes.1.1.1.1.1.1.1.1.0 bytes.1.1.1.1.1.1.1.1.1.0 n;
           follows = fixup_after r.fixups (last_of r.fixups) x refl place_clear.2 place_clear.3 quiet.1;
-          room = and_from (may_begin k (content_at r.contents x.piece x.offset)) ((fixup_width k == 1) || is_zero (content_at r.contents x.piece (x.offset + 1))) begins ends;
+          room = and_from (may_begin k (content_at r.contents x.piece x.offset)) ((width k == 1) || is_zero (content_at r.contents x.piece (x.offset + 1))) begins ends;
         },
       )
 

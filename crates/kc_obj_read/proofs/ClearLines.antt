@@ -11,7 +11,8 @@ use Rattle.kc_obj.specs.LineEntries.{line_is_sound, line_follows, lines_in_order
 use Rattle.kc_obj.specs.Spelling.{word_bytes, long_bytes, entry_bytes, block_record, record_bytes}
 use Rattle.kc_obj_faults.specs.declared.faults.Fault.{Fault}
 use Rattle.kc_obj_faults.specs.Fields.{word_at, long_at, noted}
-use Rattle.kc_obj_read.specs.Law.{IsBytes, line_fits}
+use Rattle.kc_base.specs.Bytes.{IsBytes}
+use Rattle.kc_obj_read.specs.Law.{line_fits}
 use Rattle.kc_obj_faults.specs.Records.{entry_at, entry_falls, entry_faults, block_falls}
 use Rattle.kc_obj_read.specs.Reading.{Read, after_entry, after_entries, opened_block, after_block, fits_lines}
 use Rattle.kc_obj_faults.specs.Fields.{last_of}

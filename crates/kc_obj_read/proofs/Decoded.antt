@@ -16,7 +16,8 @@ use Rattle.kc_obj.specs.Spelling.{record_bytes}
 use Rattle.kc_obj_faults.specs.declared.faults.Fault.{Fault}
 use Rattle.kc_obj_faults.specs.Fields.{word_at}
 use Rattle.kc_obj_read.specs.Reading.{Read, Answer, nothing_read, object_read, stage_of, may_come, fits_name, fits, after_head, after_record, stopped, told, ended, at_stage, behind_record, bodied, sized, typed, read_on, answer_of}
-use Rattle.kc_obj_read.specs.Law.{IsBytes, IsSpelled, fixup_fits, lines_fit, numbers_fit}
+use Rattle.kc_base.specs.Bytes.{IsBytes}
+use Rattle.kc_obj_read.specs.Law.{IsSpelled, fixup_fits, lines_fit, numbers_fit}
 use Rattle.kc_obj_read.proofs.Bytes.{record_here, bytes_drop, bytes_take}
 use Rattle.kc_obj_read.proofs.Good.{Rules, Good, head_good, enter_good, segment_good, external_good, public_good, run_good, fixup_good, lines_good}
 use Rattle.kc_obj_read.proofs.Unmarred.{record_none, stage_none}

@@ -13,7 +13,8 @@ use Rattle.kc_obj.specs.declared.parts.Target.{Target}
 use Rattle.kc_obj.specs.declared.parts.Target.TheVariants as targets
 use Rattle.kc_obj.specs.Pieces.{has_code}
 use Rattle.kc_obj.specs.Contents.{content_at}
-use Rattle.kc_obj.specs.Fixups.{fixup_width, target_exists, fixup_is_sound, fixup_follows, fixups_in_order, may_begin, is_zero, has_room}
+use Rattle.kc_relocation.specs.Numbers.{width}
+use Rattle.kc_obj.specs.Fixups.{target_exists, fixup_is_sound, fixup_follows, fixups_in_order, may_begin, is_zero, has_room}
 use Rattle.kc_obj.specs.LineEntries.{line_is_sound, line_follows, lines_in_order}
 use Rattle.kc_obj.specs.Spelling.{word_bytes, target_bytes, fixup_body, entry_bytes}
 use Rattle.kc_obj_faults.specs.declared.faults.Fault.{Fault}
@@ -53,7 +54,7 @@ unfolding fixups_in_order
 follows_all f [] x h = (and_parts (fixup_follows f x) true h).0
 follows_all f (g ∷ fs) x h =
     let both = and_parts (fixup_follows f g) (fixups_in_order (g ∷ (fs ++ x ∷ []))) h in
-    before_joined f.piece f.offset g.piece g.offset x.piece x.offset (fixup_width f.kind) (fixup_width g.kind) both.0 (follows_all g fs x both.1)
+    before_joined f.piece f.offset g.piece g.offset x.piece x.offset (width f.kind) (width g.kind) both.0 (follows_all g fs x both.1)
 
 not_over : (p o q r w t : ℕ) → (nat_lt p q || ((p == q) && nat_le (o + w) r)) ≡ true → r ≤ t → ((p == q) && nat_le o t && nat_lt t (o + w)) ≡ false
 not_over p o q r w t h le = grind (arith, nat_tests)
@@ -62,7 +63,7 @@ none_over : (fs : List Fixup) (x : Fixup) (o : ℕ) → fixups_in_order (fs ++ x
 unfolding fixups_in_order
 none_over [] x o h le = refl
 none_over (f ∷ fs) x o h le =
-    or_from (is_over x.piece o f) (is_under fs x.piece o) (not_over f.piece f.offset x.piece x.offset (fixup_width f.kind) o (follows_all f fs x h) le) (none_over fs x o (rest fs h) le)
+    or_from (is_over x.piece o f) (is_under fs x.piece o) (not_over f.piece f.offset x.piece x.offset (width f.kind) o (follows_all f fs x h) le) (none_over fs x o (rest fs h) le)
   where
     rest : (gs : List Fixup) → fixups_in_order (f ∷ (gs ++ x ∷ [])) ≡ true → fixups_in_order (gs ++ x ∷ []) ≡ true
     rest [] k = refl
@@ -70,12 +71,12 @@ none_over (f ∷ fs) x o h le =
 
 fixup_not_late : (before : Option Fixup) (x : Fixup) → AfterLast fixup_follows before x → (fixup_piece_falls before x.piece ≡ false) × (fixup_falls before x.piece x.offset ≡ false)
 fixup_not_late None x h = (refl, refl)
-fixup_not_late (Some b) x h = plain b.piece b.offset x.piece x.offset (fixup_width b.kind) (width_positive b.kind) h
+fixup_not_late (Some b) x h = plain b.piece b.offset x.piece x.offset (width b.kind) (width_positive b.kind) h
   where
     plain : (p o q r w : ℕ) → 0 < w → (nat_lt p q || ((p == q) && nat_le (o + w) r)) ≡ true → (nat_lt q p ≡ false) × (((p == q) && nat_le r o) ≡ false)
     plain p o q r w lt k = (grind (arith, nat_tests), grind (arith, nat_tests))
 
-    width_positive : (kind : ℕ) → 0 < fixup_width kind
+    width_positive : (kind : ℕ) → 0 < width kind
     width_positive kind = elim ((kind == 1) || (kind == 2)) as (λ b. 0 < cond b 1 2) [ true ↦ omega arith | false ↦ omega arith ]
 
 begin_some : (file : List ℕ) (kind : ℕ) (place : Option ℕ) → may_begin kind (byte_of_file file place) ≡ true → is_some place ≡ true
@@ -90,21 +91,21 @@ second_free : (w : ℕ) (z s u : Bool) → ((w == 1) || z) ≡ true → (z ≡ t
 second_free w z s u h f e =
     elim (w == 1) as (λ b. (b || z) ≡ true → (b || (s && not u)) ≡ true) [ true ↦ λ k. refl | false ↦ λ k. and_from s (not u) (f k) (not_from_false u e) ] h
 
-second_zero : (kind : ℕ) (z : Bool) → ((fixup_width kind == 1) || z) ≡ true → ((fixup_width kind == 2) && not z) ≡ false
+second_zero : (kind : ℕ) (z : Bool) → ((width kind == 1) || z) ≡ true → ((width kind == 2) && not z) ≡ false
 second_zero kind z h =
     elim ((kind == 1) || (kind == 2)) as (λ b. ((cond b 1 2 == 1) || z) ≡ true → ((cond b 1 2 == 2) && not z) ≡ false) [ true ↦ λ k. refl | false ↦ λ k. not_from_true z k ] h
 
 free_forth : (at : ℕ) (file : List ℕ) (fixups : List Fixup) (x : Fixup) (first second : Option ℕ) (f : Option Fault) → f ≡ None → fixups_in_order (fixups ++ x ∷ []) ≡ true → may_begin x.kind (byte_of_file file first) ≡ true
-    → ((fixup_width x.kind == 1) || is_zero (byte_of_file file second)) ≡ true → free_faults at file fixups x first second f ≡ None
+    → ((width x.kind == 1) || is_zero (byte_of_file file second)) ≡ true → free_faults at file fixups x first second f ≡ None
 free_forth at file fixups x first second f none ordered begins ends =
     let under : is_under fixups x.piece x.offset ≡ false = none_over fixups x x.offset ordered (omega arith) in
     let under_next : is_under fixups x.piece (x.offset + 1) ≡ false = none_over fixups x (x.offset + 1) ordered (omega arith) in
-    let second_part = (fixup_width x.kind == 1) || (is_some second && not (is_under fixups x.piece (x.offset + 1))) in
+    let second_part = (width x.kind == 1) || (is_some second && not (is_under fixups x.piece (x.offset + 1))) in
     let ok : stands_free fixups x first second ≡ true =
     and_from (is_some first && not (is_under fixups x.piece x.offset)) second_part (and_from (is_some first) (not (is_under fixups x.piece x.offset)) (begin_some file x.kind first begins) (not_from_false (is_under fixups x.piece x.offset) under))
-    (second_free (fixup_width x.kind) (is_zero (byte_of_file file second)) (is_some second) (is_under fixups x.piece (x.offset + 1)) ends (zero_some file second) under_next) in
+    (second_free (width x.kind) (is_zero (byte_of_file file second)) (is_some second) (is_under fixups x.piece (x.offset + 1)) ends (zero_some file second) under_next) in
     let bad = not (may_begin x.kind (byte_of_file file first)) in
-    let wrong = (fixup_width x.kind == 2) && not (is_zero (byte_of_file file second)) in
+    let wrong = (width x.kind == 2) && not (is_zero (byte_of_file file second)) in
     let c1 = clear_noted f bad (place_or_zero first) 4 none (not_from_true (may_begin x.kind (byte_of_file file first)) begins) in
     let quiet : byte_faults file x first second f ≡ None = clear_noted (noted f bad (place_or_zero first) 4) wrong (place_or_zero second) 4 c1 (second_zero x.kind (is_zero (byte_of_file file second)) ends) in
     ap (λ b. cond b (byte_faults file x first second f) (noted f true (at + 2) 3)) ok ∙ quiet
@@ -122,7 +123,7 @@ number_forth at file r x none hold sound narrow ordered room =
     let n3 = and_parts (nat_lt x.piece 0x10000 && nat_lt x.offset 0x10000 && target_fits x.target) (nat_lt x.addend 0x10000) narrow in
     let n2 = and_parts (nat_lt x.piece 0x10000 && nat_lt x.offset 0x10000) (target_fits x.target) n3.0 in
     let n1 = and_parts (nat_lt x.piece 0x10000) (nat_lt x.offset 0x10000) n2.0 in
-    let rm = and_parts (may_begin x.kind (content_at r.contents x.piece x.offset)) ((fixup_width x.kind == 1) || is_zero (content_at r.contents x.piece (x.offset + 1))) room in
+    let rm = and_parts (may_begin x.kind (content_at r.contents x.piece x.offset)) ((width x.kind == 1) || is_zero (content_at r.contents x.piece (x.offset + 1))) room in
     let t : TargetForth r.segments r.externals x.kind x.target = target_forth r.segments r.externals x.kind x.target s2.1 n2.1 in
     let body = word_bytes x.piece ++ word_bytes x.offset ++ (x.kind ∷ t.code ∷ word_bytes t.index) ++ word_bytes x.addend in
     let shape : fixup_body x ≡ body = ap (λ b. word_bytes x.piece ++ word_bytes x.offset ++ (x.kind ∷ b) ++ word_bytes x.addend) t.bytes in
@@ -144,7 +145,7 @@ number_forth at file r x none hold sound narrow ordered room =
     let place = fixup_place_faults at before pieces body r.fault in
     let c4 : place ≡ None = clear_noted (noted (noted (noted r.fault first at 3) second at 4) third (at + 2) 4) fourth (at + 4) 3 c3 (and_right (nat_le 5 (length body)) (nat_lt 4 x.kind) (le-ltb 4 x.kind (leb-true x.kind 4 s1.1))) in
     let begins : may_begin x.kind (byte_of_file file (place_of r.contents r.starts x.piece x.offset)) ≡ true = ap (may_begin x.kind) (hold x.piece x.offset) ∙ rm.0 in
-    let ends : ((fixup_width x.kind == 1) || is_zero (byte_of_file file (place_of r.contents r.starts x.piece (x.offset + 1)))) ≡ true = ap (λ y. (fixup_width x.kind == 1) || is_zero y) (hold x.piece (x.offset + 1)) ∙ rm.1 in
+    let ends : ((width x.kind == 1) || is_zero (byte_of_file file (place_of r.contents r.starts x.piece (x.offset + 1)))) ≡ true = ap (λ y. (width x.kind == 1) || is_zero y) (hold x.piece (x.offset + 1)) ∙ rm.1 in
     let free : free_faults at file r.fixups x (place_of r.contents r.starts x.piece x.offset) (place_of r.contents r.starts x.piece (x.offset + 1)) place ≡ None = free_forth at file r.fixups x (place_of r.contents r.starts x.piece x.offset) (place_of r.contents r.starts x.piece (x.offset + 1)) place c4 ordered begins ends in
     let free_body : free_faults at file r.fixups (fixup_at body) (place_of r.contents r.starts (word_at body 0) (word_at body 2)) (place_of r.contents r.starts (word_at body 0) (word_at body 2 + 1)) place ≡ None =
     (λ n. free_faults at file r.fixups (again n) (place_of r.contents r.starts (p n) (o n)) (place_of r.contents r.starts (p n) (o n + 1)) place) ∙ free in

@@ -15,7 +15,8 @@ use Rattle.kc_obj.specs.Contents.{content_is_sound, content_follows, contents_in
 use Rattle.kc_obj.specs.Fixups.{fixup_is_sound, fixup_follows, fixups_in_order, has_room}
 use Rattle.kc_obj.specs.LineEntries.{line_is_sound, lines_in_order}
 use Rattle.kc_obj.specs.Spelling.{record_bytes, name_bytes, version_of, head_body, segment_record, taken_record, given_record, content_record, fixup_record, block_records, line_records}
-use Rattle.kc_obj_read.specs.Law.{IsBytes, fixup_fits, line_fits}
+use Rattle.kc_base.specs.Bytes.{IsBytes}
+use Rattle.kc_obj_read.specs.Law.{fixup_fits, line_fits}
 use Rattle.kc_obj_faults.specs.Fields.{word_at, name_at}
 use Rattle.kc_obj_faults.specs.Records.{segment_at, taken_at, given_at, run_at, fixup_at}
 use Rattle.kc_obj_read.specs.Reading.{Read, object_read, stage_of, at_stage, fits_lines, nothing_read, after_head, after_segment, after_taken, after_given, after_run, after_fixup, after_block}

@@ -6,7 +6,8 @@ use Rattle.kc_obj.specs.Rules.{is_module}
 use Rattle.kc_obj_faults.specs.declared.faults.ObjFault.{ObjFault}
 use Rattle.kc_obj_faults.specs.declared.faults.ObjFault.TheVariants as faults
 use Rattle.kc_obj_read.specs.Reading.{Answer, answer_of, IsDecoded}
-use Rattle.kc_obj_read.specs.Law.{IsBytes, TellsSpelling}
+use Rattle.kc_base.specs.Bytes.{IsBytes}
+use Rattle.kc_obj_read.specs.Law.{TellsSpelling}
 use Rattle.kc_obj_read.proofs.Decoded.{decoded_spelled}
 use Rattle.kc_obj_read.proofs.Spelled.{spelled_decoded}
 

@@ -2,6 +2,7 @@
 -- each module is read as it (this kit's own).
 use Rattle.std.specs.Prelude.{◌≡◌, ℕ, ◌<◌, Bool, true, ◌&&◌, nat_lt, Option, Some, None, Result, Ok, Err, List, [], ◌∷◌}
 use Rattle.std.specs.List.{list_all}
+use Rattle.kc_base.specs.Bytes.{IsBytes}
 use Rattle.kc_obj.specs.declared.parts.Fixup.{Fixup}
 use Rattle.kc_obj.specs.declared.parts.Lines.{Lines}
 use Rattle.kc_obj.specs.declared.parts.Target.{Target}
@@ -13,10 +14,6 @@ use Rattle.kc_obj.specs.Spelling.{spelling}
 use Rattle.kc_obj_faults.specs.declared.faults.ObjFault.{ObjFault}
 use Rattle.kc_obj_faults.specs.declared.faults.ObjFault.TheVariants as faults
 use Rattle.kc_obj_read.specs.Reading.{answer_of}
-
-abbrev pub IsBytes : List ℕ → Type 0
-IsBytes [] = Unit {0}
-IsBytes (b ∷ bytes) = (b < 256) × IsBytes bytes
 
 -- ---- the numbers of a module fit their fields: 16 bits, of a line 32
 

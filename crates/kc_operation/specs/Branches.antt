@@ -7,10 +7,11 @@ use Rattle.kc_expr.specs.declared.values.Value.{Value}
 use Rattle.kc_lex.specs.Words.{is_one_of, is_generic_conditional}
 use Rattle.kc_operation.specs.declared.argument.Argument.{Argument}
 use Rattle.kc_operation.specs.declared.argument.Argument.TheVariants.{Plain}
-use Rattle.kc_operation.specs.declared.branch.Form.{Form}
-use Rattle.kc_operation.specs.declared.branch.Form.TheVariants.{First, Second, Third}
-use Rattle.kc_operation.specs.declared.branch.BranchKind.{BranchKind}
-use Rattle.kc_operation.specs.declared.branch.BranchKind.TheVariants.{Jump, Call, Conditional, BitTest}
+use Rattle.kc_branch.specs.declared.piece.Form.{Form}
+use Rattle.kc_branch.specs.declared.piece.Form.TheVariants.{First, Second, Third}
+use Rattle.kc_branch.specs.declared.piece.BranchKind.{BranchKind}
+use Rattle.kc_branch.specs.declared.piece.BranchKind.TheVariants.{Jump, Call, Conditional, BitTest}
+use Rattle.kc_branch.specs.Forms.{size as branch_length}
 use Rattle.kc_operation.specs.Values.{argument, moved}
 
 -- BR is generic with a plain operand, and an instruction with a pointer
@@ -53,21 +54,6 @@ inverse_of w =
     else (if bytes_eq w (codes "BST") then codes "JNST" else (if bytes_eq w (codes "BNST") then codes "JST"
     else (if bytes_eq w (codes "BBC") then codes "JBS" else (if bytes_eq w (codes "BBS") then codes "JBC"
     else [])))))))))))))))))
-
--- how many bytes a branch has
-abbrev pub branch_length : BranchKind → Form → ℕ
-branch_length Jump First = 2
-branch_length Jump Second = 3
-branch_length Jump Third = 3
-branch_length Call First = 2
-branch_length Call Second = 3
-branch_length Call Third = 3
-branch_length Conditional First = 2
-branch_length Conditional Second = 4
-branch_length Conditional Third = 5
-branch_length BitTest First = 3
-branch_length BitTest Second = 5
-branch_length BitTest Third = 6
 
 -- an instruction as it is written
 pub record Line : Type 0 where

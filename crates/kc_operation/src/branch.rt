@@ -4,37 +4,7 @@ ghost use Rattle.kc_lex.specs.Words.{is_generic_conditional};
 ghost use Rattle.kc_operation.specs.Branches as branches;
 
 use crate::argument::Argument;
-
-/// The forms of a generic branch, the shortest first. (MCS-96 Macro Assembler User's Guide, "Generic Branches".)
-#[derive(Clone, Copy, Debug, PartialEq, Eq)]
-pub enum Form {
-    First,
-    Second,
-    Third,
-}
-
-/// The generic branches: BR, CALL, those on a condition, BBC and BBS.
-#[derive(Clone, Copy, Debug, PartialEq, Eq)]
-pub enum BranchKind {
-    Jump,
-    Call,
-    Conditional,
-    BitTest,
-}
-
-/// How many bytes a generic branch has in a form.
-pub fn branch_length(kind: BranchKind, form: Form) -> u16
-    ensures { result ≡ branches.branch_length kind form }
-{
-    match (kind, form) {
-        (BranchKind::Jump | BranchKind::Call | BranchKind::Conditional, Form::First) => 2,
-        (BranchKind::Jump | BranchKind::Call, Form::Second | Form::Third) => 3,
-        (BranchKind::BitTest, Form::First) => 3,
-        (BranchKind::Conditional, Form::Second) => 4,
-        (BranchKind::Conditional, Form::Third) | (BranchKind::BitTest, Form::Second) => 5,
-        (BranchKind::BitTest, Form::Third) => 6,
-    }
-}
+use kc_branch::BranchKind;
 
 fn is(word: &[u8], other: &[u8]) -> bool
     ensures { result ≡ bytes_eq word.now other.now }

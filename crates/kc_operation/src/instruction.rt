@@ -4,10 +4,11 @@ ghost use Rattle.kc_operation.specs.Branches as branches;
 ghost use Rattle.kc_operation.specs.Instructions as instructions;
 
 use crate::argument::{Argument, fixed, moved, operand_at, source, value_of};
-use crate::branch::{BranchKind, Form, branch_kind, branch_length, inverse_of, jump_of};
+use crate::branch::{branch_kind, inverse_of, jump_of};
 use crate::opcode::{opcode_of, source_of};
 use crate::word::{Word, Worded};
 use arrayvec::ArrayVec;
+use kc_branch::{BranchKind, Form, branch_length};
 use kc_expr::Value;
 use kc_isa::{Shape, row_of};
 

@@ -10,7 +10,7 @@ mod opcode;
 pub mod word;
 
 pub use argument::{Argument, fixed, moved};
-pub use branch::{BranchKind, Form, branch_kind, branch_length};
+pub use branch::branch_kind;
 pub use faults::fault;
 pub use instruction::instructions;
 pub use word::{Word, Worded};

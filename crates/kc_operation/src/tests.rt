@@ -1,4 +1,5 @@
 use super::*;
+use kc_branch::{BranchKind, Form, branch_length};
 use kc_expr::{Base, Tag, Value};
 use std::test::*;
 

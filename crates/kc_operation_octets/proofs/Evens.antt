@@ -8,10 +8,10 @@ use Rattle.kc_isa.specs.declared.table.Shape.{Shape}
 use Rattle.kc_isa.specs.declared.table.Shape.TheVariants as shapes
 use Rattle.kc_operation.specs.declared.argument.Argument.{Argument}
 use Rattle.kc_operation.specs.declared.argument.Argument.TheVariants.{Plain, Immediate, Indirect, Increment, Indexed}
-use Rattle.kc_operation.specs.declared.branch.Form.{Form}
-use Rattle.kc_operation.specs.declared.branch.Form.TheVariants.{First, Second, Third}
-use Rattle.kc_operation.specs.declared.branch.BranchKind.{BranchKind}
-use Rattle.kc_operation.specs.declared.branch.BranchKind.TheVariants.{Jump, Call, Conditional, BitTest}
+use Rattle.kc_branch.specs.declared.piece.Form.{Form}
+use Rattle.kc_branch.specs.declared.piece.Form.TheVariants.{First, Second, Third}
+use Rattle.kc_branch.specs.declared.piece.BranchKind.{BranchKind}
+use Rattle.kc_branch.specs.declared.piece.BranchKind.TheVariants.{Jump, Call, Conditional, BitTest}
 use Rattle.kc_operation.specs.declared.word.Worded.{Worded}
 use Rattle.kc_operation.specs.Values.{or_zero, is_direct, is_short, argument, value_of}
 use Rattle.kc_operation.specs.Sources.{plain_source, indexed_source, source}

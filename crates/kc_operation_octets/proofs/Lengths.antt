@@ -12,16 +12,17 @@ use Rattle.kc_code.specs.Spelling.{prefix}
 use Rattle.kc_octet.specs.declared.octet.Octet.{Octet}
 use Rattle.kc_octet.specs.declared.octet.Octet.TheVariants.{Plain}
 use Rattle.kc_operation.specs.declared.argument.Argument.{Argument}
-use Rattle.kc_operation.specs.declared.branch.Form.{Form}
-use Rattle.kc_operation.specs.declared.branch.Form.TheVariants.{First, Second, Third}
-use Rattle.kc_operation.specs.declared.branch.BranchKind.{BranchKind}
-use Rattle.kc_operation.specs.declared.branch.BranchKind.TheVariants.{Jump, Call, Conditional, BitTest}
+use Rattle.kc_branch.specs.declared.piece.Form.{Form}
+use Rattle.kc_branch.specs.declared.piece.Form.TheVariants.{First, Second, Third}
+use Rattle.kc_branch.specs.declared.piece.BranchKind.{BranchKind}
+use Rattle.kc_branch.specs.declared.piece.BranchKind.TheVariants.{Jump, Call, Conditional, BitTest}
+use Rattle.kc_branch.specs.Forms.{size as branch_length}
 use Rattle.kc_operation.specs.declared.word.Word.{Word}
 use Rattle.kc_operation.specs.declared.word.Word.TheVariants as words
 use Rattle.kc_operation.specs.declared.word.Worded.{Worded}
 use Rattle.kc_operation.specs.Values.{argument}
 use Rattle.kc_operation.specs.Opcodes.{least}
-use Rattle.kc_operation.specs.Branches.{Line, line, tested, over, branch_kind, branch_length, branch_lines, jump_of, inverse_of, in_full}
+use Rattle.kc_operation.specs.Branches.{Line, line, tested, over, branch_kind, branch_lines, jump_of, inverse_of, in_full}
 use Rattle.kc_operation.specs.Instructions.{instruction, listed, all_lines, instructions}
 use Rattle.kc_operation_octets.specs.Octets.{opcode_octet, laid_octets, row_octets, worded_octets, all_octets}
 use Rattle.kc_operation_octets.specs.Suits.{operand_suits, IsInstruction}

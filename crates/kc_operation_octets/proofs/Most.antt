@@ -21,16 +21,17 @@ use Rattle.kc_octet.specs.declared.octet.Octet.TheVariants.{Plain, First}
 use Rattle.kc_octet.specs.Filling.{address}
 use Rattle.kc_octet.specs.Relocating.{no_bases, HasRoom}
 use Rattle.kc_operation.specs.declared.argument.Argument.{Argument}
-use Rattle.kc_operation.specs.declared.branch.Form.{Form as BranchForm}
-use Rattle.kc_operation.specs.declared.branch.Form.TheVariants as forms
-use Rattle.kc_operation.specs.declared.branch.BranchKind.{BranchKind}
-use Rattle.kc_operation.specs.declared.branch.BranchKind.TheVariants as kinds
+use Rattle.kc_branch.specs.declared.piece.Form.{Form as BranchForm}
+use Rattle.kc_branch.specs.declared.piece.Form.TheVariants as forms
+use Rattle.kc_branch.specs.declared.piece.BranchKind.{BranchKind}
+use Rattle.kc_branch.specs.declared.piece.BranchKind.TheVariants as kinds
+use Rattle.kc_branch.specs.Forms.{size as branch_length}
 use Rattle.kc_operation.specs.declared.word.Word.{Word}
 use Rattle.kc_operation.specs.declared.word.Word.TheVariants.{Absent, Register, Immediate, Indirect, Increment, Short, Long, Count, Jump}
 use Rattle.kc_operation.specs.declared.word.Worded.{Worded}
 use Rattle.kc_operation.specs.Values.{moved}
 use Rattle.kc_operation.specs.Opcodes.{least}
-use Rattle.kc_operation.specs.Branches.{branch_kind, branch_length}
+use Rattle.kc_operation.specs.Branches.{branch_kind}
 use Rattle.kc_operation.specs.Instructions.{instruction, instructions}
 use Rattle.kc_operation_octets.specs.Octets.{byte_of, word_of, immediate_octets, jump_octets, operand_octets, opcode_octet, row_octets, worded_octets, all_octets}
 use Rattle.kc_operation_octets.specs.Suits.{operand_suits, IsInstruction}

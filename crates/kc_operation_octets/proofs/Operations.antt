@@ -10,10 +10,10 @@ use Rattle.kc_lex.specs.declared.words.Operands.TheVariants as operands
 use Rattle.kc_lex.specs.Words.{is_one_of, takes_nothing, takes_register, is_jump, is_conditional, takes_source, loads, takes_two_or_three, shifts, takes_pair, operands_of, is_generic_conditional, generic_operands_of}
 use Rattle.kc_operation.specs.declared.argument.Argument.{Argument}
 use Rattle.kc_operation.specs.declared.argument.Argument.TheVariants.{Plain}
-use Rattle.kc_operation.specs.declared.branch.Form.{Form}
-use Rattle.kc_operation.specs.declared.branch.Form.TheVariants.{First, Second, Third}
-use Rattle.kc_operation.specs.declared.branch.BranchKind.{BranchKind}
-use Rattle.kc_operation.specs.declared.branch.BranchKind.TheVariants.{Jump, Call, Conditional, BitTest}
+use Rattle.kc_branch.specs.declared.piece.Form.{Form}
+use Rattle.kc_branch.specs.declared.piece.Form.TheVariants.{First, Second, Third}
+use Rattle.kc_branch.specs.declared.piece.BranchKind.{BranchKind}
+use Rattle.kc_branch.specs.declared.piece.BranchKind.TheVariants.{Jump, Call, Conditional, BitTest}
 use Rattle.kc_operation.specs.declared.word.Worded.{Worded}
 use Rattle.kc_operation.specs.Values.{argument}
 use Rattle.kc_operation.specs.Takes.{is_plain, is_immediate, is_indexed, takes, operands_for, is_operation}

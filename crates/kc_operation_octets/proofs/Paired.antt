@@ -11,7 +11,7 @@ use Rattle.kc_code.specs.Spelling.{prefix}
 use Rattle.kc_octet.specs.declared.octet.Octet.{Octet}
 use Rattle.kc_octet.specs.declared.octet.Octet.TheVariants.{Plain, First}
 use Rattle.kc_operation.specs.declared.argument.Argument.{Argument}
-use Rattle.kc_operation.specs.declared.branch.Form.{Form as BranchForm}
+use Rattle.kc_branch.specs.declared.piece.Form.{Form as BranchForm}
 use Rattle.kc_operation.specs.declared.word.Word.{Word}
 use Rattle.kc_operation.specs.declared.word.Word.TheVariants.{Absent, Register, Immediate, Indirect, Increment, Short, Long, Count, Jump}
 use Rattle.kc_operation.specs.declared.word.Worded.{Worded}

@@ -16,10 +16,10 @@ use Rattle.kc_relocation.specs.Numbers.{Bases}
 use Rattle.kc_octet.specs.Filling.{base_address, address}
 use Rattle.kc_operation.specs.declared.argument.Argument.{Argument}
 use Rattle.kc_operation.specs.declared.argument.Argument.TheVariants.{Plain, Immediate, Indirect, Increment, Indexed}
-use Rattle.kc_operation.specs.declared.branch.Form.{Form}
-use Rattle.kc_operation.specs.declared.branch.Form.TheVariants.{First, Second, Third}
-use Rattle.kc_operation.specs.declared.branch.BranchKind.{BranchKind}
-use Rattle.kc_operation.specs.declared.branch.BranchKind.TheVariants.{Jump, Call, Conditional, BitTest}
+use Rattle.kc_branch.specs.declared.piece.Form.{Form}
+use Rattle.kc_branch.specs.declared.piece.Form.TheVariants.{First, Second, Third}
+use Rattle.kc_branch.specs.declared.piece.BranchKind.{BranchKind}
+use Rattle.kc_branch.specs.declared.piece.BranchKind.TheVariants.{Jump, Call, Conditional, BitTest}
 use Rattle.kc_operation.specs.declared.word.Worded.{Worded}
 use Rattle.kc_operation.specs.Values.{or_zero, is_external, is_direct, is_short, argument}
 use Rattle.kc_operation.specs.Sources.{plain_source, indexed_source, source}

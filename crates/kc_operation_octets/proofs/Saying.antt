@@ -1,14 +1,11 @@
 -- Instructions one behind the other.
-use Rattle.std.proofs.Common.{◌≡◌, ℕ, ◌+◌, ◌%◌, true, List, [], ◌∷◌, ◌++◌, length, refl, ap, ◌∙◌, Some, None}
-use Rattle.std.specs.List.{flat_map}
+use Rattle.std.proofs.Common.{◌≡◌, ℕ, ◌+◌, ◌%◌, true, List, [], ◌∷◌, ◌++◌, length, refl, ap, ◌∙◌, None}
 use Rattle.kc_expr.specs.declared.values.Value.{Value}
-use Rattle.kc_isa.specs.declared.insn.Insn.{Insn}
 use Rattle.kc_code.specs.Spelling.{spelling}
 use Rattle.kc_relocation.specs.Numbers.{Bases}
-use Rattle.kc_octet.specs.declared.octet.Octet.{Octet}
 use Rattle.kc_octet.specs.Filling.{filled}
 use Rattle.kc_operation.specs.declared.argument.Argument.{Argument}
-use Rattle.kc_operation.specs.declared.branch.Form.{Form}
+use Rattle.kc_branch.specs.declared.piece.Form.{Form}
 use Rattle.kc_operation.specs.declared.word.Worded.{Worded}
 use Rattle.kc_operation.specs.Takes.{is_operation}
 use Rattle.kc_operation.specs.Branches.{Line, in_full}
@@ -16,8 +13,8 @@ use Rattle.kc_operation.specs.Instructions.{instructions}
 use Rattle.kc_operation.specs.Faults.{fault_of}
 use Rattle.kc_operation_octets.specs.Words.{insn_of}
 use Rattle.kc_operation_octets.specs.Octets.{worded_octets, all_octets}
-use Rattle.kc_operation_octets.specs.Suits.{IsInstruction, AreInstructions, AllFit, AllWords, IsEven, HasWords, IsSettled, IsSound, EachOf}
-use Rattle.kc_operation_octets.specs.Said.{said, AreSound, IsSaid}
+use Rattle.kc_operation_octets.specs.Suits.{IsInstruction, AreInstructions, AllFit, AllWords, IsEven, HasWords, IsSettled, EachOf}
+use Rattle.kc_operation_octets.specs.Said.{said, IsSaid}
 use Rattle.kc_operation_octets.proofs.Fills.{filled-append, fit-front, fit-behind}
 use Rattle.kc_operation_octets.proofs.Spelled.{filled_is_spelled}
 use Rattle.kc_operation_octets.proofs.Sound.{settled_is_sound}

@@ -21,8 +21,8 @@ use Rattle.kc_octet.specs.declared.octet.Octet.{Octet}
 use Rattle.kc_octet.specs.declared.octet.Octet.TheVariants as octets
 use Rattle.kc_operation.specs.declared.argument.Argument.{Argument}
 use Rattle.kc_operation.specs.declared.argument.Argument.TheVariants.{Plain, Immediate, Indirect, Increment, Indexed}
-use Rattle.kc_operation.specs.declared.branch.Form.{Form as BranchForm}
-use Rattle.kc_operation.specs.declared.branch.BranchKind.{BranchKind}
+use Rattle.kc_branch.specs.declared.piece.Form.{Form as BranchForm}
+use Rattle.kc_branch.specs.declared.piece.BranchKind.{BranchKind}
 use Rattle.kc_operation.specs.declared.word.Word.{Word}
 use Rattle.kc_operation.specs.declared.word.Word.TheVariants as words
 use Rattle.kc_operation.specs.declared.word.Worded.{Worded}

@@ -5,11 +5,12 @@ use Rattle.kc_code.specs.Spelling.{spelling}
 use Rattle.kc_relocation.specs.Numbers.{Bases}
 use Rattle.kc_octet.specs.Filling.{filled}
 use Rattle.kc_operation.specs.declared.argument.Argument.{Argument}
-use Rattle.kc_operation.specs.declared.branch.Form.{Form}
-use Rattle.kc_operation.specs.declared.branch.BranchKind.{BranchKind}
+use Rattle.kc_branch.specs.declared.piece.Form.{Form}
+use Rattle.kc_branch.specs.declared.piece.BranchKind.{BranchKind}
+use Rattle.kc_branch.specs.Forms.{size as branch_length}
 use Rattle.kc_operation.specs.declared.word.Worded.{Worded}
 use Rattle.kc_operation.specs.Takes.{is_operation}
-use Rattle.kc_operation.specs.Branches.{branch_kind, branch_length, in_full}
+use Rattle.kc_operation.specs.Branches.{branch_kind, in_full}
 use Rattle.kc_operation.specs.Instructions.{instructions}
 use Rattle.kc_operation.specs.Faults.{fault_of}
 use Rattle.kc_operation_octets.specs.Words.{insn_of}

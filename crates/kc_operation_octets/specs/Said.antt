@@ -7,7 +7,7 @@ use Rattle.kc_code.specs.Spelling.{spelling}
 use Rattle.kc_relocation.specs.Numbers.{Bases}
 use Rattle.kc_octet.specs.Filling.{filled}
 use Rattle.kc_operation.specs.declared.argument.Argument.{Argument}
-use Rattle.kc_operation.specs.declared.branch.Form.{Form}
+use Rattle.kc_branch.specs.declared.piece.Form.{Form}
 use Rattle.kc_operation.specs.declared.word.Worded.{Worded}
 use Rattle.kc_operation.specs.Takes.{is_operation}
 use Rattle.kc_operation.specs.Instructions.{instructions}

@@ -7,10 +7,11 @@ ghost use Rattle.kc_operation.specs.Instructions as instructions;
 ghost use Rattle.kc_operation_octets.specs.Octets as octets;
 
 use arrayvec::ArrayVec;
+use kc_branch::Form;
 use kc_expr::Value;
 use kc_isa::{Form as Bytes, is_byte_wide, layout_for, row_of};
 use kc_octet::Octet;
-use kc_operation::{Argument, Form, Word, Worded, fixed, instructions, moved};
+use kc_operation::{Argument, Word, Worded, fixed, instructions, moved};
 
 fn byte_of(value: Value) -> Octet
     ensures { result ≡ octets.byte_of value }

@@ -2,9 +2,10 @@ ghost use Rattle.std.specs.Prelude.{◌<◌};
 
 use super::*;
 use arrayvec::ArrayVec;
+use kc_branch::Form;
 use kc_expr::{Base, Tag, Value};
 use kc_octet::Octet;
-use kc_operation::{Argument, Form, instructions};
+use kc_operation::{Argument, instructions};
 use std::test::*;
 
 macro_rules! value {

@@ -4,7 +4,7 @@ use Rattle.std.specs.Prelude.{Result, Ok, Err}
 use Rattle.std.specs.Global.{Vec}
 use Rattle.kc_obj.specs.Object.{Object}
 use Rattle.kc_obj.specs.declared.parts.SegKind.TheVariants.{Stack}
-use Rattle.kc_reloc.specs.Numbers.{BaseLists}
+use Rattle.kc_reloc.specs.BaseLists.{BaseLists}
 use Rattle.kc_place.specs.declared.ranges.Ranges.{Ranges}
 use Rattle.kc_place.specs.declared.ranges.LinkFault.{LinkFault}
 use Rattle.kc_place.specs.declared.pieces.Piece.{Piece}

@@ -22,7 +22,7 @@ use Rattle.kc_place.specs.Placing.{Places, overlap, put_all, is_at, put_at, plac
 use Rattle.kc_place.specs.Apart.{CodeAt, AllKeepRules, CodeIsApart, CodeStandsApart}
 use Rattle.kc_place.proofs.FirstFit.{room_of_least, room-at}
 use Rattle.kc_place.proofs.Covers.{free_is}
-use Rattle.kc_reloc.specs.Numbers.{or_0}
+use Rattle.kc_reloc.specs.BaseLists.{or_0}
 use Rattle.kc_reloc.proofs.Modules.{kept}
 
 -- ---- how many pieces have an address

@@ -6,7 +6,8 @@ use Rattle.kc_obj.specs.declared.parts.SegKind.TheVariants.{Stack}
 use Rattle.kc_obj.specs.declared.parts.Segment.{Segment}
 use Rattle.kc_obj.specs.Object.{Object}
 use Rattle.kc_obj.specs.Names.{is_stack_name}
-use Rattle.kc_reloc.specs.Numbers.{Bases, BaseLists, bases_in, or_0}
+use Rattle.kc_relocation.specs.Numbers.{Bases}
+use Rattle.kc_reloc.specs.BaseLists.{BaseLists, bases_in, or_0}
 use Rattle.kc_place.specs.declared.ranges.Ranges.{Ranges}
 use Rattle.kc_place.specs.declared.ranges.LinkFault.{LinkFault}
 use Rattle.kc_place.specs.declared.ranges.LinkFault.TheVariants.{Unresolved, OverlapName, OverlapPlace, Capacity, NoMemory}

@@ -1,15 +1,15 @@
 -- A byte and what relocations put at it are a byte.
-use Rattle.std.proofs.Common.{◌≡◌, ℕ, zero, suc, ◌+◌, ◌<◌, ◌≤◌, Bool, true, false, ◌&&◌, ◌||◌, not, eqb, ltb, leb, List, [], ◌∷◌, Option, Some, None, refl, subst, inl, inr, arith}
-use Rattle.std.specs.Prelude.{if◌then◌else◌, MatchOption, ◌⊎◌}
+use Rattle.std.proofs.Common.{◌≡◌, ℕ, zero, suc, ◌+◌, ◌<◌, ◌≤◌, Bool, true, false, ◌&&◌, ◌||◌, eqb, ltb, leb, List, [], ◌∷◌, Option, Some, None, refl, subst, inl, inr, arith}
+use Rattle.std.specs.Prelude.{if◌then◌else◌, ◌⊎◌}
 use Rattle.std.specs.List.{list_all}
 use Rattle.std.proofs.lemmas.Bool.{and_parts}
 use Rattle.std.proofs.lemmas.Bool.Decides.{nat_tests}
 use Rattle.kc_obj.specs.declared.parts.Content.{Content}
 use Rattle.kc_obj.specs.declared.parts.Fixup.{Fixup}
 use Rattle.kc_obj.specs.Contents.{content_at}
-use Rattle.kc_obj.specs.Fixups.{fixup_width, fixups_in_order, has_room, may_begin, is_zero}
-use Rattle.kc_reloc.specs.Numbers.{Bases, first_part, second_part, is_wide, fits}
-use Rattle.kc_reloc.specs.Filled.{fixup_number, fixup_at, first_of_fixup, second_of_fixup, second_at, is_fit, unfit_in}
+use Rattle.kc_obj.specs.Fixups.{fixups_in_order, has_room, may_begin, is_zero, fixup_at}
+use Rattle.kc_relocation.specs.Numbers.{Bases, first_part, second_part, width}
+use Rattle.kc_reloc.specs.Filled.{fixup_number, first_of_fixup, second_of_fixup, second_at, is_fit, unfit_in}
 use Rattle.kc_reloc.proofs.Sorted.{rest_in_order, next_follows, none_behind}
 
 pub record IsThere (cs : List Content) (b : Bases) (p k : ℕ) (f : Fixup) : Type 0 where
@@ -48,19 +48,19 @@ behind_next p j q o e f = grind (arith, nat_tests)
 apart_numbers : (q o p j : ℕ) → q ≡ p → o ≡ j → (eqb q p && eqb o (suc j)) ≡ false
 apart_numbers q o p j e f = grind (arith, nat_tests)
 
-tail_none : (p j : ℕ) (x : Fixup) (fs : List Fixup) → fixups_in_order (x ∷ fs) ≡ true → x.piece ≡ p → x.offset ≡ j → fixup_width x.kind ≡ 2 → fixup_at fs p (suc j) ≡ None
+tail_none : (p j : ℕ) (x : Fixup) (fs : List Fixup) → fixups_in_order (x ∷ fs) ≡ true → x.piece ≡ p → x.offset ≡ j → width x.kind ≡ 2 → fixup_at fs p (suc j) ≡ None
 unfolding fixup_at
 tail_none p j x [] h e f w = refl
-tail_none p j x (y ∷ fs) h e f w = none_behind p (suc j) y fs (rest_in_order x (y ∷ fs) h) (behind_width x.piece x.offset (fixup_width x.kind) y.piece y.offset p j (next_follows x y fs h) e f w)
+tail_none p j x (y ∷ fs) h e f w = none_behind p (suc j) y fs (rest_in_order x (y ∷ fs) h) (behind_width x.piece x.offset (width x.kind) y.piece y.offset p j (next_follows x y fs h) e f w)
 
-pub apart : (p j : ℕ) (g f : Fixup) (fs : List Fixup) → fixups_in_order fs ≡ true → fixup_at fs p j ≡ Some g → fixup_at fs p (suc j) ≡ Some f → fixup_width g.kind ≡ 2 → ⊥
+pub apart : (p j : ℕ) (g f : Fixup) (fs : List Fixup) → fixups_in_order fs ≡ true → fixup_at fs p j ≡ Some g → fixup_at fs p (suc j) ≡ Some f → width g.kind ≡ 2 → ⊥
 unfolding fixup_at
 apart p j g f [] h a b w = cc a
 apart p j g f (x ∷ fs) h a b w = by (eqb x.piece p && eqb x.offset j) (eqb x.piece p && eqb x.offset (suc j)) refl refl a b (apart p j g f fs (rest_in_order x fs h))
   where
     by : (t u : Bool) → (eqb x.piece p && eqb x.offset j) ≡ t → (eqb x.piece p && eqb x.offset (suc j)) ≡ u →
         (if t then Some x else fixup_at fs p j) ≡ Some g → (if u then Some x else fixup_at fs p (suc j)) ≡ Some f →
-        (fixup_at fs p j ≡ Some g → fixup_at fs p (suc j) ≡ Some f → fixup_width g.kind ≡ 2 → ⊥) → ⊥
+        (fixup_at fs p j ≡ Some g → fixup_at fs p (suc j) ≡ Some f → width g.kind ≡ 2 → ⊥) → ⊥
     by true true d e a1 b1 go =
         let s = both_same x.piece p x.offset j d in
         let n = apart_numbers x.piece x.offset p j s.0 s.1 in cc (e, n)
@@ -88,62 +88,48 @@ opening kind byte h = by (eqb kind 3) refl h
     by true e h1 = inr (grind (arith, nat_tests, e), grind (arith, nat_tests, h1))
     by false e h1 = inl (grind (arith, nat_tests, h1))
 
-wide_is : (kind : ℕ) → is_wide kind ≡ true → fixup_width kind ≡ 2
-wide_is kind h = by (eqb kind 1 || eqb kind 2) h
-  where
-    by : (t : Bool) → not t ≡ true → ◌≡◌ {A = ℕ} (if t then 1 else 2) 2
-    by true e = absurd (cc e)
-    by false e = refl
+wide_is : (kind : ℕ) → eqb (width kind) 2 ≡ true → width kind ≡ 2
+wide_is kind h = grind (arith, nat_tests, h)
 
 zero_is : (byte : ℕ) → is_zero (Some byte) ≡ true → byte ≡ 0
 zero_is byte h = grind (arith, nat_tests, h)
 
 module _ (cs : List Content) (b : Bases) (fs : List Fixup) (p : ℕ) (rooms : list_all (has_room cs) fs ≡ true) (fit : unfit_in b fs ≡ None) (ordered : fixups_in_order fs ≡ true) where
-  pub fit_at : (k : ℕ) → MatchOption (fixup_at fs p k) (Unit {0}) (λ f. fits f.kind (fixup_number b (b.piece p + k) f) ≡ true)
-  fit_at k = by (fixup_at fs p k) refl
-    where
-      by : (o : Option Fixup) → fixup_at fs p k ≡ o → MatchOption o (Unit {0}) (λ f. fits f.kind (fixup_number b (b.piece p + k) f) ≡ true)
-      by None e = tt
-      by (Some f) e =
-          let t = there cs b fs p k f rooms fit e in
-          subst (λ (o : ℕ). fits f.kind (fixup_number b (b.piece p + o) f) ≡ true) t.offset_is
-          (subst (λ (q : ℕ). fits f.kind (fixup_number b (b.piece q + f.offset) f) ≡ true) t.piece_is t.fit)
-
   -- where a relocation begins, none goes on
   nothing_goes_on : (k : ℕ) (f : Fixup) → fixup_at fs p k ≡ Some f → second_at b fs p k ≡ 0
   nothing_goes_on zero f e = refl
   nothing_goes_on (suc j) f e = by (fixup_at fs p j) refl
     where
-      by2 : (g : Fixup) → fixup_at fs p j ≡ Some g → (t : Bool) → is_wide g.kind ≡ t → (if t then second_part g.kind (fixup_number b (b.piece p + j) g) else 0) ≡ 0
+      by2 : (g : Fixup) → fixup_at fs p j ≡ Some g → (t : Bool) → eqb (width g.kind) 2 ≡ t → (if t then second_part g.kind (fixup_number b (b.piece p + j) g) else 0) ≡ 0
       by2 g d true w = absurd (apart p j g f fs ordered d e (wide_is g.kind w))
       by2 g d false w = refl
 
       by : (o : Option Fixup) → fixup_at fs p j ≡ o → second_of_fixup b (b.piece p + j) o ≡ 0
       by None d = refl
-      by (Some g) d = by2 g d (is_wide g.kind) refl
+      by (Some g) d = by2 g d (eqb (width g.kind) 2) refl
 
   -- where one goes on, the byte is 0
   goes_on : (k byte : ℕ) → content_at cs p k ≡ Some byte → (byte ≡ 0) ⊎ (second_at b fs p k ≡ 0)
   goes_on zero byte c = inr refl
   goes_on (suc j) byte c = by (fixup_at fs p j) refl
     where
-      byte_zero : (g : Fixup) → fixup_at fs p j ≡ Some g → is_wide g.kind ≡ true → byte ≡ 0
+      byte_zero : (g : Fixup) → fixup_at fs p j ≡ Some g → eqb (width g.kind) 2 ≡ true → byte ≡ 0
       byte_zero g d w =
           let t = there cs b fs p j g rooms fit d in
-          let r = and_parts (may_begin g.kind (content_at cs g.piece g.offset)) (eqb (fixup_width g.kind) 1 || is_zero (content_at cs g.piece (g.offset + 1))) t.room in
+          let r = and_parts (may_begin g.kind (content_at cs g.piece g.offset)) (eqb (width g.kind) 1 || is_zero (content_at cs g.piece (g.offset + 1))) t.room in
           let n : g.offset + 1 ≡ suc j = omega (arith, t.offset_is) in
-          let z : (eqb (fixup_width g.kind) 1 || is_zero (content_at cs g.piece (g.offset + 1))) ≡ true = r.1 in
+          let z : (eqb (width g.kind) 1 || is_zero (content_at cs g.piece (g.offset + 1))) ≡ true = r.1 in
           let q : is_zero (content_at cs g.piece (g.offset + 1)) ≡ true = rw (wide_is g.kind w) at z in
           let s : is_zero (content_at cs p (suc j)) ≡ true = subst (λ (y : ℕ). is_zero (content_at cs p y) ≡ true) n (subst (λ (x : ℕ). is_zero (content_at cs x (g.offset + 1)) ≡ true) t.piece_is q) in
           zero_is byte (rw c at s)
 
-      by2 : (g : Fixup) → fixup_at fs p j ≡ Some g → (t : Bool) → is_wide g.kind ≡ t → (byte ≡ 0) ⊎ ((if t then second_part g.kind (fixup_number b (b.piece p + j) g) else 0) ≡ 0)
+      by2 : (g : Fixup) → fixup_at fs p j ≡ Some g → (t : Bool) → eqb (width g.kind) 2 ≡ t → (byte ≡ 0) ⊎ ((if t then second_part g.kind (fixup_number b (b.piece p + j) g) else 0) ≡ 0)
       by2 g d true w = inl (byte_zero g d w)
       by2 g d false w = inr refl
 
       by : (o : Option Fixup) → fixup_at fs p j ≡ o → (byte ≡ 0) ⊎ (second_of_fixup b (b.piece p + j) o ≡ 0)
       by None d = inr refl
-      by (Some g) d = by2 g d (is_wide g.kind) refl
+      by (Some g) d = by2 g d (eqb (width g.kind) 2) refl
 
   pub sum_fits : (k byte first second : ℕ) → content_at cs p k ≡ Some byte → byte < 256 → first < 256 → second < 256 →
       first ≡ first_of_fixup b (b.piece p + k) (fixup_at fs p k) → second ≡ second_at b fs p k → byte + (first + second) < 256
@@ -154,7 +140,7 @@ module _ (cs : List Content) (b : Bases) (fs : List Fixup) (p : ℕ) (rooms : li
       by (Some g) e f1 =
           let z : second_at b fs p k ≡ 0 = nothing_goes_on k g e in
           let t = there cs b fs p k g rooms fit e in
-          let r = and_parts (may_begin g.kind (content_at cs g.piece g.offset)) (eqb (fixup_width g.kind) 1 || is_zero (content_at cs g.piece (g.offset + 1))) t.room in
+          let r = and_parts (may_begin g.kind (content_at cs g.piece g.offset)) (eqb (width g.kind) 1 || is_zero (content_at cs g.piece (g.offset + 1))) t.room in
           let q : may_begin g.kind (content_at cs p k) ≡ true = subst (λ (y : ℕ). may_begin g.kind (content_at cs p y) ≡ true) t.offset_is (subst (λ (x : ℕ). may_begin g.kind (content_at cs x g.offset) ≡ true) t.piece_is r.0) in
           elim (opening g.kind byte (rw c at q)) [
             | inl d ↦ omega (arith, d, z, s)

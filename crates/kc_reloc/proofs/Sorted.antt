@@ -9,8 +9,9 @@ use Rattle.std.specs.Slice.{IsItemAt}
 use Rattle.std.specs.Option.{option_copied}
 use Rattle.std.proofs.lemmas.Option.{slice_get_past, slice_get_read}
 use Rattle.kc_obj.specs.declared.parts.Fixup.{Fixup}
-use Rattle.kc_obj.specs.Fixups.{fixup_width, fixup_follows, fixups_in_order}
-use Rattle.kc_reloc.specs.Filled.{fixup_at, is_before, if_there}
+use Rattle.kc_relocation.specs.Numbers.{width}
+use Rattle.kc_obj.specs.Fixups.{fixup_follows, fixups_in_order, fixup_at}
+use Rattle.kc_reloc.specs.Filled.{is_before, if_there}
 
 -- ---- on plain numbers: a relocation at offset o of piece q with another one at r of s behind it
 
@@ -49,7 +50,7 @@ partitioned p k (f ∷ fs) h zero zero d le lt t = t
 partitioned p k (f ∷ []) h zero (suc j) d le lt t = absurd (omega arith)
 partitioned p k (f ∷ g ∷ fs) h zero (suc j) d le lt t =
     let first : is_before p k g ≡ true = partitioned p k (g ∷ fs) (rest_in_order f (g ∷ fs) h) zero j d (omega arith) (omega arith) t in
-    before_step f.piece f.offset (fixup_width f.kind) g.piece g.offset p k (next_follows f g fs h) first
+    before_step f.piece f.offset (width f.kind) g.piece g.offset p k (next_follows f g fs h) first
 partitioned p k (f ∷ fs) h (suc i) zero d le lt t = absurd (omega arith)
 partitioned p k (f ∷ fs) h (suc i) (suc j) d le lt t = partitioned p k fs (rest_in_order f fs h) i j d (omega arith) (omega arith) t
 
@@ -58,7 +59,7 @@ unfolding fixup_at
 none_behind p k f [] h b = rw (behind_apart f.piece f.offset p k b) refl
 none_behind p k f (g ∷ fs) h b =
     rw (behind_apart f.piece f.offset p k b)
-    (none_behind p k g fs (rest_in_order f (g ∷ fs) h) (behind_step f.piece f.offset (fixup_width f.kind) g.piece g.offset p k (next_follows f g fs h) b))
+    (none_behind p k g fs (rest_in_order f (g ∷ fs) h) (behind_step f.piece f.offset (width f.kind) g.piece g.offset p k (next_follows f g fs h) b))
 
 first_here : (p k : ℕ) (f : Fixup) (fs : List Fixup) → fixups_in_order (f ∷ fs) ≡ true → is_before p k f ≡ false → (t : Bool) → (eqb f.piece p && eqb f.offset k) ≡ t → fixup_at (f ∷ fs) p k ≡ (if t then Some f else None)
 unfolding fixup_at

@@ -5,7 +5,8 @@ use Rattle.kc_obj.specs.declared.parts.Target.{Target}
 use Rattle.kc_obj.specs.declared.parts.Target.TheVariants.{Piece, External, Number}
 use Rattle.kc_obj.specs.Object.{Object}
 use Rattle.kc_obj.specs.Contents.{content_at}
-use Rattle.kc_reloc.specs.Numbers.{Bases, number, reach, first_part, second_part, is_wide, fits}
+use Rattle.kc_obj.specs.Fixups.{fixup_at}
+use Rattle.kc_relocation.specs.Numbers.{Bases, number, reach, first_part, second_part, fits, width}
 
 -- the target plus the addend
 abbrev pub target_number : Bases → Target → ℕ → ℕ
@@ -17,18 +18,13 @@ target_number bases Number n = n
 abbrev pub fixup_number : Bases → ℕ → Fixup → ℕ
 fixup_number bases place f = number f.kind (place + reach f.kind) (target_number bases f.target f.addend)
 
--- the relocation whose first byte is at an offset of a piece
-unfoldable pub fixup_at : List Fixup → ℕ → ℕ → Option Fixup
-fixup_at [] piece offset = None
-fixup_at (f ∷ fs) piece offset = if (f.piece == piece) && (f.offset == offset) then Some f else fixup_at fs piece offset
-
 abbrev pub first_of_fixup : Bases → ℕ → Option Fixup → ℕ
 first_of_fixup bases place None = 0
 first_of_fixup bases place (Some f) = first_part f.kind (fixup_number bases place f)
 
 abbrev pub second_of_fixup : Bases → ℕ → Option Fixup → ℕ
 second_of_fixup bases place None = 0
-second_of_fixup bases place (Some f) = if is_wide f.kind then second_part f.kind (fixup_number bases place f) else 0
+second_of_fixup bases place (Some f) = if width f.kind == 2 then second_part f.kind (fixup_number bases place f) else 0
 
 abbrev pub second_at : Bases → List Fixup → ℕ → ℕ → ℕ
 second_at bases fs piece zero = 0

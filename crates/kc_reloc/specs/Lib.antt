@@ -1,2 +1,2 @@
+pub mod BaseLists
 pub mod Filled
-pub mod Numbers

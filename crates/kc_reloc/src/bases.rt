@@ -1,5 +1,5 @@
 ghost use Rattle.std.specs.Prelude.{◌≡◌};
-ghost use Rattle.kc_reloc.specs.Numbers.{bases_in};
+ghost use Rattle.kc_reloc.specs.BaseLists.{bases_in};
 
 use std::marker::Model;
 
@@ -11,7 +11,7 @@ pub struct Bases {
 }
 
 impl Model for Bases {
-    ghost use Rattle.kc_reloc.specs.Numbers.{BaseLists};
+    ghost use Rattle.kc_reloc.specs.BaseLists.{BaseLists};
 
     ghost Value = { BaseLists };
 

@@ -1,19 +1,20 @@
-ghost use Rattle.std.specs.Prelude.{◌≡◌, ◌<◌, true, MatchOption};
+ghost use Rattle.std.specs.Prelude.{◌≡◌, ◌<◌, true};
 ghost use Rattle.std.specs.Option.{option_copied};
 ghost use Rattle.kc_obj.specs.Contents.{content_at};
-ghost use Rattle.kc_obj.specs.Fixups.{fixups_in_order};
-ghost use Rattle.kc_reloc.specs.Numbers.{bases_in, fits};
-ghost use Rattle.kc_reloc.specs.Filled.{fixup_number, fixup_at, first_of_fixup, second_of_fixup, second_at, filled_at, is_fit, unfit_in, if_there};
+ghost use Rattle.kc_obj.specs.Fixups.{fixups_in_order, fixup_at};
+ghost use Rattle.kc_reloc.specs.BaseLists.{bases_in};
+ghost use Rattle.kc_reloc.specs.Filled.{first_of_fixup, second_of_fixup, second_at, filled_at, is_fit, unfit_in, if_there};
 
 use crate::Bases;
-use crate::numbers::{first_byte, fits_kind, fixup_number as number_of, has_second, second_byte};
+use crate::numbers::fixup_number as number_of;
 use kc_obj::{Fixup, Module};
+use kc_relocation::{first_part, fits, second_part, width};
 
 fn fixup_fits(bases: &Bases, fixup: Fixup) -> bool
     ensures { result ≡ is_fit (bases_in bases.now) fixup }
 {
     let place = bases.piece(fixup.piece) as u32 + fixup.offset as u32;
-    fits_kind(fixup.kind, number_of(bases, place, fixup))
+    fits(fixup.kind, number_of(bases, place, fixup))
 }
 
 #[tactic(auto, unfolding(crate::specs::Filled::unfit_in))]
@@ -64,13 +65,12 @@ fn find(fixups: &[Fixup], piece: u16, offset: u16) -> Option<Fixup>
 
 // What the relocation whose first byte is at an address puts there.
 fn first_of(bases: &Bases, place: u32, fixup: Option<Fixup>) -> u8
-    requires place { place < 131072 }
-    requires fit { MatchOption fixup (Unit {0}) (λ f. fits f.kind (fixup_number (bases_in bases.now) place f) ≡ true) }
+    requires { place < 131072 }
     ensures { result ≡ first_of_fixup (bases_in bases.now) place fixup }
 {
     match fixup {
         None => 0,
-        Some(f) => first_byte(f.kind, number_of(bases, place, f)),
+        Some(f) => first_part(f.kind, number_of(bases, place, f)),
     }
 }
 
@@ -80,7 +80,7 @@ fn second_of(bases: &Bases, place: u32, fixup: Option<Fixup>) -> u8
     ensures { result ≡ second_of_fixup (bases_in bases.now) place fixup }
 {
     match fixup {
-        Some(f) if has_second(f.kind) => second_byte(f.kind, number_of(bases, place, f)),
+        Some(f) if width(f.kind) == 2 => second_part(f.kind, number_of(bases, place, f)),
         _ => 0,
     }
 }

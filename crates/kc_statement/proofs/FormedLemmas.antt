@@ -6,14 +6,14 @@ use Rattle.kc_lex.specs.declared.token.Token.{Token}
 use Rattle.kc_lex.specs.declared.words.Operands.{Operands}
 use Rattle.kc_lex.specs.declared.words.Directive.{Directive}
 use Rattle.kc_lex.specs.declared.words.Directive.TheVariants as directives
-use Rattle.kc_lex.specs.Kinds.{is_sign, is_name_kind, is_free_name}
+use Rattle.kc_lex.specs.Kinds.{is_sign, is_name_kind, is_free_name, has_label}
 use Rattle.kc_lex.specs.Words.{directive_of}
 use Rattle.kc_expr.specs.Tree.{Tree}
 use Rattle.kc_expr.specs.Grammar.{is_type}
 use Rattle.kc_statement.specs.Trees.{ItemTree, ArgTree, ActionTree}
 use Rattle.kc_statement.specs.Trees as trees
 use Rattle.kc_statement.specs.Operands.{is_nil, whole, in_first, parts, and_some, all_some, item, items_in, string_or, free_text, name_in, names_in, takes, operands_in}
-use Rattle.kc_statement.specs.Statements.{segment_in, stack_in, past_main, module_in, defined_in, directive_in, definition_in, or_form_fault, by_directive, operation_of, operation_in, by_operation, by_word, by_first, only_defining, directive_at, second_directive, action_in, bars_label, first_directive, has_label, behind_label, statement_in, label_in}
+use Rattle.kc_statement.specs.Statements.{segment_in, stack_in, past_main, module_in, defined_in, directive_in, definition_in, or_form_fault, by_directive, operation_of, operation_in, by_operation, by_word, by_first, only_defining, directive_at, second_directive, action_in, bars_label, first_directive, behind_label, statement_in, label_in}
 use Rattle.kc_statement.specs.Formed.{is_formed, IsFormed, is_value, suits, names_said, names_read, StatementsAreFormed, NamesStandOnTheLine}
 
 -- ---- what holds of a value, where there is one

@@ -8,7 +8,7 @@ use Rattle.kc_lex.specs.declared.words.Operands.{Operands}
 use Rattle.kc_lex.specs.declared.words.Directive.{Directive}
 use Rattle.kc_lex.specs.declared.words.Directive.TheVariants as directives
 use Rattle.kc_lex.specs.Words.{operands_of, generic_operands_of, directive_of}
-use Rattle.kc_lex.specs.Kinds.{is_sign, is_word, is_name_kind, is_free_name, begins_word}
+use Rattle.kc_lex.specs.Kinds.{is_sign, is_word, is_name_kind, is_free_name, has_label, begins_word}
 use Rattle.kc_expr.specs.Tree.{Tree}
 use Rattle.kc_expr.specs.Grammar.{Reading, parsed}
 use Rattle.kc_statement.specs.Trees.{ArgTree, ActionTree}
@@ -166,11 +166,6 @@ bars d = false
 abbrev pub bars_label : Option Directive → Bool
 bars_label None = false
 bars_label (Some d) = bars d
-
-abbrev pub has_label : List Token → Bool
-has_label [] = false
-has_label (t ∷ []) = false
-has_label (t ∷ u ∷ ts) = is_free_name t && is_sign 58 u
 
 -- a label before what takes none makes no statement
 abbrev pub behind_label : List Token → Result ActionTree ℕ

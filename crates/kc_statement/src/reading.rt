@@ -9,7 +9,7 @@ use crate::operands::takes;
 use crate::parts::operands;
 use crate::statement::Action;
 use kc_base::{NoMemory, Text};
-use kc_lex::kinds::{is_free_name, is_name, is_sign, rest};
+use kc_lex::kinds::{has_label, is_free_name, is_name, rest};
 use kc_lex::words::{directive_of, generic_operands_of, operands_of};
 use kc_lex::{Directive, Operands, Token};
 use std::alloc::Global;
@@ -213,16 +213,6 @@ fn bars(directive: Directive) -> bool
         Directive::Else => true,
         Directive::Endif => true,
         Directive::Endm => true,
-        _ => false,
-    }
-}
-
-fn has_label(tokens: &[Token]) -> bool
-    ensures value { result ≡ spec.has_label tokens.now }
-    ensures two { result ≡ true → 2 ≤ length tokens.now }
-{
-    match tokens {
-        [name, colon, ..] => is_free_name(name) && is_sign(colon, b':'),
         _ => false,
     }
 }

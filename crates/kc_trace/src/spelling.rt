@@ -1,14 +1,14 @@
 // How records are spelled: each line is made in place, with no memory.
 ghost use Rattle.std.specs.Prelude.{◌≡◌, ◌+◌, ◌*◌, ◌<◌, ◌≤◌, ◌++◌, [], ◌∷◌, length, decimal, flat_map, codes};
 ghost use Rattle.arrayvec.specs.ArrayVec.{array_vec_len};
-ghost use Rattle.kc_trace.specs.Text.{line_of, fields_of, hex, hex_digit, end_name, mode_name, kind_number, level_digit};
+ghost use Rattle.kc_trace.specs.Text.{line_of, fields_of, hex, end_name, mode_name, kind_number, level_digit};
 ghost use Rattle.kc_base.specs.Pins.{pin_name, IsPin};
 ghost use Rattle.kc_trace.specs.Printable.{CanPrint};
 
 use crate::Record;
 use arrayvec::ArrayVec;
 use itoa::Buffer;
-use kc_base::{Edge, Kind, Level, PtsMode, Undefined};
+use kc_base::{Edge, Kind, Level, PtsMode, Undefined, hex_digit};
 
 type Line = ArrayVec<u8, 160>;
 
@@ -32,17 +32,6 @@ fn put_decimal(line: &mut Line, number: u64)
     put_text(line, buffer.format(number).as_bytes());
 }
 
-fn hex_digit(digit: u16) -> u8
-    requires { digit < 16 }
-    ensures { result ≡ hex_digit digit }
-{
-    if digit < 10 {
-        b'0' + digit as u8
-    } else {
-        b'A' + (digit as u8 - 10)
-    }
-}
-
 /// So many upper-case hex digits of a number.
 fn put_hex(line: &mut Line, digits: u8, number: u16)
     requires { array_vec_len line.old + digits ≤ 160 }
@@ -51,7 +40,7 @@ fn put_hex(line: &mut Line, digits: u8, number: u16)
 {
     if digits > 0 {
         put_hex(line, digits - 1, number / 16);
-        line.push(hex_digit(number % 16));
+        line.push(hex_digit((number % 16) as u8));
     }
 }
 

@@ -1,38 +1,73 @@
-use Rattle.std.proofs.Common.{◌-◌, ◌*◌, ◌∙◌, arith}
+use Rattle.std.proofs.Common.{◌≡◌, ◌-◌, ◌*◌, length, ap, sym, ◌∙◌, arith}
 use Rattle.kc_branch.specs.Forms as spec
+use Rattle.kc_branch.specs.Layouts.{items, stirred, stands, raised_from, forms_of, pieces_of}
+use Rattle.kc_branch.proofs.Forks.{kept}
 use Rattle.kc_branch.proofs.Iterated.{one_fewer, stays, none_left}
 use Rattle.kc_branch.proofs.Least.{least_along}
-use Rattle.kc_branch.proofs.Passing.{is_round, round_length, round_places, round_same}
+use Rattle.kc_branch.proofs.Listing.{begun_length, begun_pieces, forms_begun, forms_none, forms_told, round_is, same_pieces}
 use Rattle.kc_branch.proofs.Reaching.{along}
+use Rattle.kc_branch.proofs.Resting.{begun_rests, round_rests}
+use Rattle.kc_branch.proofs.Spanning.{rests_in_tree}
 use Rattle.kc_branch.proofs.rounds.sizes.Goals as goal
-use Rattle.kc_branch.proofs.rounds.sizes.Goals.{else-loop-round-test, then-loop-round-test+in_ok-next+then-next}
+use Rattle.kc_branch.proofs.rounds.sizes.Goals.{else-loop-round-test, then-loop-round-test+in_ok-raises+then-is_keep}
+
+pub returns-then-is_empty-clause-forms : goal.returns-then-is_empty-clause-forms
+returns-then-is_empty-clause-forms c = forms_none c.args.pieces.now c.new-forms.result.items (sym c.is_empty.ensures ∙ c.if-is_empty.true) c.new-forms.ensures.items
+
+pub returns-then-is_empty-clause-reach : goal.returns-then-is_empty-clause-reach
+returns-then-is_empty-clause-reach c = along c.args.pieces.now c.new-forms.result.items (returns-then-is_empty-clause-forms c)
+
+pub returns-then-is_empty-clause-least : goal.returns-then-is_empty-clause-least
+returns-then-is_empty-clause-least c = least_along c.args.pieces.now c.new-forms.result.items (returns-then-is_empty-clause-forms c)
+
+pub loop-round-init : goal.loop-round-init
+loop-round-init c =
+    let pieces = c.args.pieces.now in
+    let layout = c.in_ok-layout.layout in
+    let begins = c.in_ok-layout.ensures in
+    let count : length (items layout) ≡ length pieces = ap length begins.items ∙ begun_length pieces in
+    record {
+      listed = ap pieces_of begins.items ∙ begun_pieces pieces;
+      count = count;
+      laid = begins.laid;
+      spanned = begins.spanned;
+      rests = rests_in_tree (length pieces) (stirred layout) (stands (items layout) 0) layout 0 (begun_rests pieces (length pieces) (items layout) (stirred layout) count begins.stirred);
+      left = forms_begun pieces (items layout) c.branches-round-end.result begins.items c.branches-round-end.ensures.value;
+    }
 
 pub loop-round-preserved : goal.loop-round-preserved
 loop-round-preserved c =
     let pieces = c.args.pieces.now in
-    let forms = c.loop-round.forms.items in
-    let next = c.in_ok-next.next.forms.items in
-    let at = c.deref-in-loop-round.result.now in
-    let fs = c.deref-in-loop-round-2.result.now in
-    let is = is_round pieces at fs forms next (c.deref-in-loop-round.ensures.value ∙ c.loop-round.invariant.placed) c.deref-in-loop-round-2.ensures.value c.in_ok-next.ensures.forms in
+    let layout = c.loop-round.layout in
+    let next = c.raise.new.layout in
+    let inv = c.loop-round.invariant in
+    let is : items next ≡ raised_from (stands (items layout) 0) (items layout) 0 = c.raise.ensures.items ∙ c.in_ok-raises.ensures in
     record {
-      each = round_length pieces forms next is;
-      placed = round_places pieces at c.in_ok-next.next.places.items fs next c.in_ok-next.ensures.forms c.in_ok-next.ensures.places;
-      left = one_fewer (spec.round pieces) forms next (spec.forms pieces) c.loop-round._round (2 * c.len-round-end.result) is (omega arith) c.loop-round.invariant.left;
+      listed = ap pieces_of is ∙ (same_pieces (stands (items layout) 0) (items layout) 0 ∙ inv.listed);
+      count = c.raise.ensures.few ∙ inv.count;
+      laid = c.raise.ensures.laid;
+      spanned = c.raise.ensures.spanned;
+      rests = rests_in_tree (length pieces) (stirred next) (stands (items next) 0) next 0 (round_rests (items layout) (items next) (stirred next) (length pieces) (sym inv.count) is c.raise.ensures.stirs);
+      left = one_fewer (spec.round pieces) (forms_of (items layout)) (forms_of (items next)) (spec.forms pieces) c.loop-round._round (2 * c.branches-round-end.result)
+          (round_is pieces (items layout) (items next) inv.listed is) (omega arith) inv.left;
     }
 
 pub returns-clause-forms : goal.returns-clause-forms
-returns-clause-forms c = elim c.loop-round-test.branch [
-  | else-loop-round-test w ↦ none_left (spec.round c.args.pieces.now) c.loop-round.forms.items (spec.forms c.args.pieces.now) c.loop-round._round (2 * c.len-round-end.result) w.loop-round-test.false c.loop-round.invariant.left
-  | then-loop-round-test+in_ok-next+then-next w ↦
-      stays (spec.round c.args.pieces.now) c.loop-round.forms.items (spec.forms c.args.pieces.now) (2 * c.len-round-end.result - c.loop-round._round)
-      (round_same c.args.pieces.now w.deref-in-loop-round.result.now w.deref-in-loop-round-2.result.now c.loop-round.forms.items w.in_ok-next.next.settled
-      (w.deref-in-loop-round.ensures.value ∙ c.loop-round.invariant.placed) w.deref-in-loop-round-2.ensures.value c.loop-round.invariant.each w.in_ok-next.ensures.settled w.if-next.true)
-      c.loop-round.invariant.left
-]
+returns-clause-forms c =
+    let pieces = c.args.pieces.now in
+    let layout = c.loop-round.layout in
+    let inv = c.loop-round.invariant in
+    let rounds = 2 * c.branches-round-end.result in
+    forms_told c.new-forms.result.items (spec.forms pieces) c.push_forms.new.forms.items (items layout) c.in_ok-push_forms.ensures c.new-forms.ensures.items (elim c.loop-round-test.branch [
+      | else-loop-round-test w ↦ none_left (spec.round pieces) (forms_of (items layout)) (spec.forms pieces) c.loop-round._round rounds w.loop-round-test.false inv.left
+      | then-loop-round-test+in_ok-raises+then-is_keep w ↦
+          let same : items layout ≡ raised_from (stands (items layout) 0) (items layout) 0 =
+          sym (kept layout w.in_ok-raises.raises (sym w.is_keep.ensures ∙ w.if-is_keep.true)) ∙ w.in_ok-raises.ensures in
+          stays (spec.round pieces) (forms_of (items layout)) (spec.forms pieces) (rounds - c.loop-round._round) (sym (round_is pieces (items layout) (items layout) inv.listed same)) inv.left
+    ])
 
 pub returns-clause-reach : goal.returns-clause-reach
-returns-clause-reach c = along c.args.pieces.now c.loop-round.forms.items (returns-clause-forms c)
+returns-clause-reach c = along c.args.pieces.now c.push_forms.new.forms.items (returns-clause-forms c)
 
 pub returns-clause-least : goal.returns-clause-least
-returns-clause-least c = least_along c.args.pieces.now c.loop-round.forms.items (returns-clause-forms c)
+returns-clause-least c = least_along c.args.pieces.now c.push_forms.new.forms.items (returns-clause-forms c)

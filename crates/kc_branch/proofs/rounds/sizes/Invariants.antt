@@ -1,11 +1,15 @@
 use Rattle.std.proofs.Common.{◌≡◌, ◌-◌, length}
 use Rattle.std.specs.Fn.{iterate}
 use Rattle.kc_branch.specs.Forms as spec
+use Rattle.kc_branch.specs.Layouts as layouts
 use Rattle.kc_branch.proofs.rounds.sizes.Given as goal
 
 abbrev pub invariant-loop-round : goal.invariant-loop-round
 invariant-loop-round l = record {
-  each : length l.forms.items ≡ length (spec.start_forms l.pieces);
-  placed : l.places.items ≡ spec.places l.pieces l.forms.items 0;
-  left : iterate (spec.round l.pieces) (l._round-end - l._round) l.forms.items ≡ spec.forms l.pieces;
+  listed : layouts.pieces_of (layouts.items l.layout) ≡ l.pieces;
+  count : length (layouts.items l.layout) ≡ length l.pieces;
+  laid : layouts.IsLaid l.layout;
+  spanned : layouts.IsSpanned (length l.pieces) l.layout 0;
+  rests : layouts.AreAtRest (length l.pieces) (layouts.stirred l.layout) (layouts.stands (layouts.items l.layout) 0) l.layout 0;
+  left : iterate (spec.round l.pieces) (l._round-end - l._round) (layouts.forms_of (layouts.items l.layout)) ≡ spec.forms l.pieces;
 }

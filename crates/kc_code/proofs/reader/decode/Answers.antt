@@ -1,7 +1,8 @@
-use Rattle.std.proofs.Common.{◌≡◌, ◌≤◌, ℕ, suc, List, [], ◌∷◌, get_or, Fits, w8, IsTrue, arith, sym, ◌∙◌, length, take}
+use Rattle.std.proofs.Common.{◌≡◌, ◌≤◌, ℕ, List, IsTrue, sym, ◌∙◌, length, take}
 use Rattle.kc_isa.specs.declared.insn.Insn.{Insn as Instruction}
 use Rattle.kc_isa.specs.Formed.{is_formed, length_of}
-use Rattle.kc_code.specs.Bytes.{IsBytes}
+use Rattle.kc_base.specs.Bytes.{IsBytes}
+use Rattle.kc_base.proofs.ByteLemmas.{bytes_are}
 use Rattle.kc_code.specs.Reading.{decode_of}
 use Rattle.kc_code.specs.Spelling.{spelling, is_in_range}
 use Rattle.kc_code.specs.Front.{IfWhole, IsInFront}
@@ -9,10 +10,6 @@ use Rattle.kc_code.specs.declared.reader.Decoded.{Decoded}
 use Rattle.kc_code.specs.declared.reader.Decoded.TheVariants.{Insn, Unimplemented, Undefined, Short}
 use Rattle.kc_code.proofs.Fronts.{in_front, cut_is_front, front_is_cut, undefined_is, unimplemented_is}
 use Rattle.kc_code.proofs.reader.decode.Goals as goal
-
-bytes_are : (xs : List ℕ) → ((i : ℕ) → Fits w8 (get_or xs i 0)) → IsBytes xs
-bytes_are [] h = tt
-bytes_are (x ∷ xs) h = (let k : Fits w8 x = h 0 in omega (arith, k), bytes_are xs (λ i. h (suc i)))
 
 told : (P : Instruction → ℕ → Type 0) (bytes : List ℕ) (d : Decoded) → IsBytes bytes → d ≡ decode_of bytes → ((i : Instruction) (n : ℕ) → IsInFront bytes i n → P i n) → IfWhole d P
 told P bytes (Insn i n) b h f = f i n (in_front bytes i n b (sym h))

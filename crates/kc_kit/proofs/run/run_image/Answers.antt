@@ -1,10 +1,11 @@
-use Rattle.std.proofs.Common.{◌∙◌, ap, refl, sym, subst}
+use Rattle.std.proofs.Common.{◌≡◌, ◌∙◌, ap, refl, sym, subst}
 use Rattle.kc_model.specs.Machine.{Machine, Stepped}
 use Rattle.kc_model.specs.Run.{run_to, end_of}
-use Rattle.kc_model.specs.Text.{trace_of}
-use Rattle.kc_kit.specs.declared.status.Status.TheVariants as status
-use Rattle.kc_kit.specs.Answer.{RunAnswer, Replies, status_of}
-use Rattle.kc_kit.proofs.Replying.{HasRun-start, Puts-trace, GrewByPart-trace, run-whole}
+use Rattle.kc_files.specs.declared.status.Status.TheVariants as status
+use Rattle.kc_files.specs.Reply.{Reply}
+use Rattle.kc_files.specs.Outside.{Replies, shown}
+use Rattle.kc_kit.specs.Sources.{run_reply}
+use Rattle.kc_kit.proofs.RunLemmas.{HasRun-start, Puts-trace, GrewByPart-trace, run-whole, run-part}
 use Rattle.kc_kit.proofs.run.run_image.Goals as goal
 
 pub write_finals-requires-clause-ran : goal.write_finals-requires-clause-ran
@@ -13,22 +14,22 @@ write_finals-requires-clause-ran g c =
     (c.in-Ok-run.ensures.machine ∙ ap (λ (m : Machine). (run_to c.args.states m).machine) c.in-Ok.ensures)
     (c.in-Ok-run.ensures.end ∙ ap end_of (sym c.in-Ok-run.ensures.machine))
 
-pub returns-in-Ok-write_finals-clause-answer : goal.returns-in-Ok-write_finals-clause-answer
-returns-in-Ok-write_finals-clause-answer g c =
+pub returns-in-Ok-write_finals : goal.returns-in-Ok-write_finals
+returns-in-Ok-write_finals g c = λ files.
     let ran : Stepped = run_to c.args.states c.in-Ok.machine in
     let lines = Puts-trace ran _ _ _ c.in-Ok-run.end c.run.new.self c.in-Ok-run.ensures.end c.in-Ok-run.ensures.machine c.run.ensures.lines c.write_finals.ensures.lines in
-    subst (λ (m : Machine). Replies (RunAnswer (run_to c.args.states m)) (g.S.Sink.written c.args.out.now.sink) c.status_of.result (g.S.Sink.written c.write_finals.new.out.sink)) c.in-Ok.ensures
-    (rw c.status_of.ensures (run-whole ran _ _ c.in-Ok-run.end c.in-Ok-run.ensures.end (lines.whole c.in-Ok-write_finals.ensures.written)))
+    subst (λ (m : Machine). Replies (λ (reply : Reply). reply ≡ run_reply (run_to c.args.states m)) files (shown (g.S.Sink.written c.args.out.now.sink) (g.S.Sink.faults c.args.out.now.sink)) c.status_of.result files (shown (g.S.Sink.written c.write_finals.new.out.sink) (g.S.Sink.faults c.write_finals.new.out.sink))) c.in-Ok.ensures
+    (rw c.status_of.ensures (run-whole ran (λ (reply : Reply). reply ≡ run_reply ran) files _ _ c.in-Ok-run.end refl c.in-Ok-run.ensures.end (lines.whole c.in-Ok-write_finals.ensures.written)))
 
-pub returns-in-Ok-run-clause-answer : goal.returns-in-Ok-run-clause-answer
-returns-in-Ok-run-clause-answer g c =
+pub returns-in-Ok-run : goal.returns-in-Ok-run
+returns-in-Ok-run g c = λ files.
     let ran : Stepped = run_to c.args.states c.in-Ok.machine in
     let lines = Puts-trace ran _ _ _ c.in-Ok-run.end c.run.new.self c.in-Ok-run.ensures.end c.in-Ok-run.ensures.machine c.run.ensures.lines c.write_finals.ensures.lines in
-    subst (λ (m : Machine). Replies (RunAnswer (run_to c.args.states m)) (g.S.Sink.written c.args.out.now.sink) status.WriteFault (g.S.Sink.written c.write_finals.new.out.sink)) c.in-Ok.ensures
-    (status_of (end_of ran.machine), trace_of ran, (refl, refl), lines.part)
+    subst (λ (m : Machine). Replies (λ (reply : Reply). reply ≡ run_reply (run_to c.args.states m)) files (shown (g.S.Sink.written c.args.out.now.sink) (g.S.Sink.faults c.args.out.now.sink)) status.WriteFault files (shown (g.S.Sink.written c.write_finals.new.out.sink) (g.S.Sink.faults c.write_finals.new.out.sink))) c.in-Ok.ensures
+    (run-part ran (λ (reply : Reply). reply ≡ run_reply ran) files _ _ refl lines.part (lines.cause c.requires.ready c.in-Err-write_finals.ensures.failed))
 
-pub returns-clause-answer : goal.returns-clause-answer
-returns-clause-answer g c =
+pub returns : goal.returns
+returns g c = λ files.
     let ran : Stepped = run_to c.args.states c.in-Ok.machine in
-    subst (λ (m : Machine). Replies (RunAnswer (run_to c.args.states m)) (g.S.Sink.written c.args.out.now.sink) status.WriteFault (g.S.Sink.written c.run.new.out.sink)) c.in-Ok.ensures
-    (status_of (end_of ran.machine), trace_of ran, (refl, refl), GrewByPart-trace ran (g.S.Sink.written c.args.out.now.sink) (g.S.Sink.written c.run.new.out.sink) c.run.ensures.lines.part)
+    subst (λ (m : Machine). Replies (λ (reply : Reply). reply ≡ run_reply (run_to c.args.states m)) files (shown (g.S.Sink.written c.args.out.now.sink) (g.S.Sink.faults c.args.out.now.sink)) status.WriteFault files (shown (g.S.Sink.written c.run.new.out.sink) (g.S.Sink.faults c.run.new.out.sink))) c.in-Ok.ensures
+    (run-part ran (λ (reply : Reply). reply ≡ run_reply ran) files _ _ refl (GrewByPart-trace ran (g.S.Sink.written c.args.out.now.sink) (g.S.Sink.written c.run.new.out.sink) c.run.ensures.lines.part) (c.run.ensures.lines.cause c.requires.ready c.in-Err.ensures.failed))

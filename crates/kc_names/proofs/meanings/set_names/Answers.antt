@@ -19,4 +19,4 @@ loop-stmt-preserved c =
     (subst (λ (ss : List Stmt). (q : List ℕ) → (set_in ss q || look q) ≡ set_in stmts q) split c.loop-stmt.invariant)
 
 pub returns : goal.returns
-returns c = λ places. set_all places c.loop-stmt.stmt-index c.args.stmts.now (is_marked c.loop-stmt.marks) c.loop-stmt-test.false c.loop-stmt.invariant
+returns c = λ values. set_all values c.loop-stmt.stmt-index c.args.stmts.now (is_marked c.loop-stmt.marks) c.loop-stmt-test.false c.loop-stmt.invariant

@@ -1,4 +1,4 @@
-use Rattle.kc_obj_read.proofs.Bytes.{bytes_are}
+use Rattle.kc_base.proofs.ByteLemmas.{bytes_are}
 use Rattle.kc_obj_read.proofs.Telling.{tells}
 use Rattle.kc_obj_read.proofs.decoding.decode.Goals as goal
 

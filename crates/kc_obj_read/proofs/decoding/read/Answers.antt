@@ -3,7 +3,7 @@ use Rattle.kc_obj_faults.specs.declared.faults.Fault.{Fault}
 use Rattle.kc_obj_read.specs.declared.step.Step.TheVariants as steps
 use Rattle.kc_obj_read.specs.Reading.{Answer, told, object_read, answer_of, IsDecoded}
 use Rattle.kc_obj_read.proofs.StepLemmas.{on_step, one_less, no_more}
-use Rattle.kc_obj_read.proofs.Bytes.{bytes_are}
+use Rattle.kc_base.proofs.ByteLemmas.{bytes_are}
 use Rattle.kc_obj_read.proofs.Telling.{module_told}
 use Rattle.kc_obj_read.proofs.decoding.read.Goals as goal
 

@@ -1,14 +1,10 @@
 use Rattle.std.proofs.Common.{◌≡◌, ◌+◌, arith, refl}
-use Rattle.kc_reloc.specs.Numbers.{bases_in}
-use Rattle.kc_reloc.specs.Filled.{first_of_fixup, second_at, fixup_at, filled_at}
+use Rattle.kc_reloc.specs.BaseLists.{bases_in}
+use Rattle.kc_obj.specs.Fixups.{fixup_at}
+use Rattle.kc_reloc.specs.Filled.{first_of_fixup, second_at, filled_at}
 use Rattle.kc_reloc.proofs.Modules.{kept}
-use Rattle.kc_reloc.proofs.Room.{fit_at, sum_fits}
+use Rattle.kc_reloc.proofs.Room.{sum_fits}
 use Rattle.kc_reloc.proofs.filled.filled_byte.Goals as goal
-
-pub first_of-first-requires-clause-fit : goal.first_of-first-requires-clause-fit
-first_of-first-requires-clause-fit c =
-    let s = kept c.args.object.now c.keeps_rules.ensures in
-    rw (c.find.ensures, c.fixups-fixups.ensures, c.piece.ensures) (fit_at c.args.object.now.contents (bases_in c.args.bases.now) c.args.object.now.fixups c.args.piece s.rooms c.requires.fit s.fixups_ordered c.args.offset)
 
 pub overflow_add-result : goal.overflow_add-result
 overflow_add-result c =

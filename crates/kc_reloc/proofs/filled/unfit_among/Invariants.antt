@@ -1,5 +1,5 @@
 use Rattle.std.proofs.Common.{◌≡◌, length}
-use Rattle.kc_reloc.specs.Numbers.{bases_in}
+use Rattle.kc_reloc.specs.BaseLists.{bases_in}
 use Rattle.kc_reloc.specs.Filled.{unfit_in}
 use Rattle.kc_reloc.proofs.filled.unfit_among.Given as goal
 

@@ -1,7 +1,6 @@
 use Rattle.std.proofs.Common.{◌≡◌, ap, ◌∙◌}
-use Rattle.std.specs.Prelude.{slice_index}
 use Rattle.kc_names.specs.Tables.{answers, updated}
-use Rattle.kc_names.specs.Located.{located}
+use Rattle.kc_names.specs.Located.{located_by, listed}
 use Rattle.kc_names.specs.Externals.{external_in, stack_name}
 use Rattle.kc_names.specs.Meanings.{external_answer}
 use Rattle.kc_names.proofs.EarlierLemmas.{stack_set}
@@ -9,7 +8,7 @@ use Rattle.kc_names.proofs.earlier.Earlier.new.Goals as goal
 
 pub returns : goal.returns
 returns c =
-    let all = located (slice_index c.args.places.now) c.args.stmts.now in
+    let all = located_by (listed c.args.values.now) c.args.stmts.now in
     let external : answers c.in_ok-taken.taken ≡ external_answer all = c.in_ok-taken.ensures ∙ ap (external_in 0) c.requires.taken in
     record {
       external = external;

@@ -1,0 +1,28 @@
+use Rattle.std.proofs.Common.{◌≤◌, inr, length, arith, Ok, Err}
+use Rattle.kc_source.specs.Faults.{AreStatements}
+use Rattle.kc_asm.specs.Assembled.{AreSaid, IsMade}
+use Rattle.kc_asm.proofs.Counts.{line_count, stmt_count}
+use Rattle.kc_asm.proofs.assembling.assemble.Goals as goal
+
+pub expand-requires : goal.expand-requires
+expand-requires c = omega (arith, c.requires, line_count c.args.source.now c.in_ok-lines.lines.items c.in_ok-lines.ensures)
+
+pub module_or_fault-requires-clause-few : goal.module_or_fault-requires-clause-few
+module_or_fault-requires-clause-few c =
+    let text : length c.deref.result.now ≤ 65535 = rw c.deref.ensures.value c.in_ok-text.ensures.few in
+    let few : length c.in_ok-stmts.stmts.items ≤ 65536 = omega (arith, text, stmt_count c.in_ok-stmts.stmts.items c.deref.result.now c.in_ok-stmts.ensures) in
+    rw c.deref-2.ensures.value few
+
+pub returns-in-Ok-Ok : goal.returns-in-Ok-Ok
+returns-in-Ok-Ok c =
+    let statements : AreStatements c.in_ok-stmts.stmts.items c.in_ok-text.text.items = rw c.deref.ensures.value at c.in_ok-stmts.ensures in
+    let said : AreSaid c.args.source.now c.in_ok-stmts.stmts.items = (c.in_ok-text.text.items, (c.in_ok-lines.lines.items, c.in_ok-lines.ensures, c.in_ok-text.ensures.lines), statements) in
+    let made : IsMade c.in_ok-stmts.stmts.items (Ok c.in-Ok-Ok.module) = rw (c.deref-2.ensures.value, c.in-Ok-Ok.field-0-is) at c.in-Ok-Ok.ensures in
+    record { stmts = c.in_ok-stmts.stmts.items; said = said; characters = made.0; sound = made.2; draft = made.1; drafted = made.3; few = made.4; made = made.5 }
+
+pub returns-in-Ok-Err : goal.returns-in-Ok-Err
+returns-in-Ok-Err c =
+    let statements : AreStatements c.in_ok-stmts.stmts.items c.in_ok-text.text.items = rw c.deref.ensures.value at c.in_ok-stmts.ensures in
+    let said : AreSaid c.args.source.now c.in_ok-stmts.stmts.items = (c.in_ok-text.text.items, (c.in_ok-lines.lines.items, c.in_ok-lines.ensures, c.in_ok-text.ensures.lines), statements) in
+    let told : IsMade c.in_ok-stmts.stmts.items (Err c.in-Ok-Err.field-0-0) = rw (c.deref-2.ensures.value, c.in-Ok-Err.field-0-is) at c.in-Ok-Err.ensures in
+    inr (inr (inr (c.in_ok-stmts.stmts.items, said, told)))

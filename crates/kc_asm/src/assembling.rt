@@ -1,0 +1,83 @@
+ghost use Rattle.std.specs.Prelude.{◌≡◌, ◌≤◌, length, IfOk};
+ghost use Rattle.kc_obj.specs.Object.{Object};
+ghost use Rattle.kc_names.specs.Externals.{externals};
+ghost use Rattle.kc_judge.specs.Judging.{standing};
+ghost use Rattle.kc_asm.specs.Assembled as spec;
+
+use kc_base::NoMemory;
+use kc_draft::draft;
+use kc_judge::{Fault, judge};
+use kc_layout::layout;
+use kc_lex::{SourceFault, lines};
+use kc_linked::characters_are_bytes;
+use kc_macro::expand;
+use kc_module::{module_of, piece_count};
+use kc_names::{externals, externals_are_few};
+use kc_obj::Module;
+use kc_outline::outline;
+use kc_sound::drafts_are_drafts;
+use kc_source::statements;
+use kc_statement::Stmt;
+use std::alloc::Global;
+
+/// The most pieces that an object can number.
+const MOST_PIECES: usize = 65_536;
+
+#[tactic(auto, unfolding(crate::specs::Assembled::last_line))]
+fn last_line(stmts: &[Stmt]) -> u32
+    ensures { result ≡ spec.last_line 0 stmts.now }
+{
+    let mut line = 0;
+    let mut left = stmts;
+    while let [first, rest @ ..] = left {
+        line = first.line;
+        left = rest;
+    }
+    line
+}
+
+// The module of statements, or the first fault of their values and places.
+fn module_or_fault(alloc: Global, stmts: &[Stmt]) -> Result<Result<Module, Fault>, NoMemory>
+    requires few { length stmts.now ≤ 65536 }
+    requires few_externals { length (externals (standing stmts.now)) ≤ 65536 }
+    ensures { IfOk result (λ r. spec.IsMade stmts.now r) }
+{
+    let taken = externals(alloc, stmts)?;
+    let notes = outline(alloc, stmts, &taken)?;
+    let sites = layout(alloc, &notes)?;
+    if let Some(fault) = judge(alloc, stmts, &sites, &taken)? {
+        return Ok(Err(fault));
+    }
+    let draft = draft(alloc, stmts, &sites, taken)?;
+    drafts_are_drafts();
+    if piece_count(&draft) > MOST_PIECES {
+        return Ok(Err(Fault {
+            line: last_line(stmts),
+            code: 17,
+        }));
+    }
+    characters_are_bytes(stmts);
+    Ok(Ok(module_of(alloc, draft)?))
+}
+
+/// The module of a source of at most 1,048,576 bytes, with a line entry for each statement that has bytes.
+///
+/// Else its first fault: of the first pass that has one, there on the least line, there the least code. Pass 1 reads lines
+/// (codes 1, 3, 9), pass 2 replaces macros, repetitions and conditions (1, 2, 3, 4, 5, 7, 9, 10, 11, 13, 15, 16), pass 3
+/// reads statements and names (1, 6, 8, 14, 18, 20, 21, 23), pass 4 gives values, places and bytes (7, 9, 10, 11, 12, 13, 17,
+/// 19, 20, 22, 24). The work of each pass grows with its lines and their tokens.
+/// (MCS-96 Macro Assembler User's Guide; passes and codes are this kit's own.)
+pub fn assemble(alloc: Global, source: &[u8]) -> Result<Module, SourceFault>
+    requires { length source.now ≤ 1048576 }
+    ensures { spec.IsAssembled source.now result }
+{
+    let lines = lines(alloc, source)?;
+    let text = expand(alloc, lines)?;
+    let stmts = statements(alloc, &text)?;
+    externals_are_few();
+    match module_or_fault(alloc, &stmts) {
+        Ok(Ok(module)) => Ok(module),
+        Ok(Err(Fault { line, code })) => Err(SourceFault::At { line, code }),
+        Err(NoMemory) => Err(SourceFault::NoMemory),
+    }
+}

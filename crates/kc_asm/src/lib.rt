@@ -1,0 +1,9 @@
+//! The assembler: a source to its module, or to its first fault.
+#![tactic(auto)]
+
+mod assembling;
+
+pub use assembling::assemble;
+
+#[cfg(test)]
+mod tests;

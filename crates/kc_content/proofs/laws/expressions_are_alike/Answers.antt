@@ -1,5 +1,0 @@
-use Rattle.kc_content.proofs.AlikeLemmas.{expressions_alike}
-use Rattle.kc_content.proofs.laws.expressions_are_alike.Goals as goal
-
-pub returns : goal.returns
-returns c = expressions_alike

@@ -1,0 +1,5 @@
+pub mod FillLemmas
+pub mod GivenLemmas
+pub mod NamedLemmas
+pub mod StackLemmas
+pub mod PassLemmas

@@ -1,0 +1,13 @@
+//! The draft of a module: the bytes that its statements write, its names and its stack.
+#![tactic(auto)]
+
+mod drafting;
+mod naming;
+mod pieces;
+mod publics;
+mod writing;
+
+pub use drafting::draft;
+
+#[cfg(test)]
+mod tests;

@@ -1,0 +1,5 @@
+pub mod RegionLemmas
+pub mod NameLemmas
+pub mod OctetLemmas
+pub mod SoundLemmas
+pub mod WalkLemmas

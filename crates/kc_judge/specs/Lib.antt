@@ -1,0 +1,5 @@
+pub mod Codes
+pub mod Pairs
+pub mod Judging
+pub mod Walk
+pub mod Laws

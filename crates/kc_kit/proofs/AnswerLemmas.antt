@@ -1,0 +1,434 @@
+-- What follows from an answer: its status, the files that it writes, and its causes.
+use Rattle.std.proofs.Common.{◌≡◌, ◌≢◌, ◌⊎◌, inl, inr, ℕ, Bool, true, false, cond, List, [], ◌∷◌, length, map, Option, Some, None, Result, Ok, Err, refl, sym, ◌∙◌, ap, subst}
+use Rattle.std.specs.Prelude.{nat_lt, IsSomeAnd, codes}
+use Rattle.std.specs.Result.{IsOk}
+use Rattle.std.specs.Option.{option_to_list}
+use Rattle.kc_base.specs.Held.{Holding, Told}
+use Rattle.kc_base.specs.Causes.{Rose}
+use Rattle.kc_model.specs.declared.doing.End.{End}
+use Rattle.kc_model.specs.declared.doing.End.TheVariants as end
+use Rattle.kc_model.specs.Run.{run_to, end_of}
+use Rattle.kc_model.specs.Machine.{start}
+use Rattle.kc_obj.specs.Object.{Object}
+use Rattle.kc_obj_faults.specs.declared.faults.Fault.{Fault}
+use Rattle.kc_obj_read.specs.Reading.{answer_of}
+use Rattle.kc_place.specs.declared.ranges.Ranges.{Ranges}
+use Rattle.kc_place.specs.declared.ranges.LinkFault.{LinkFault}
+use Rattle.kc_place.specs.Placing.{Places}
+use Rattle.kc_link.specs.Placed.{placed}
+use Rattle.kc_hex.specs.Records.{image_of}
+use Rattle.kc_files.specs.declared.status.Status.{Status}
+use Rattle.kc_files.specs.declared.status.Status.TheVariants as status
+use Rattle.kc_files.specs.Reply.{Reply, Write, says, before, joined, Then}
+use Rattle.kc_files.specs.Reads.{read_of, reads_of, long_line, missing_line, FailedRead}
+use Rattle.kc_files.specs.Outside.{Kept, Shown, OthersStay, Wrote, WroteByPart, SinkFailed, WriteFailed, IsGiven, Replies}
+use Rattle.kc_files.proofs.ReplyLemmas.{given-of}
+use Rattle.kc_words.specs.Words.{Command, Helps, TellsVersion, Runs, Assembles, Links, RunsHex, Lists}
+use Rattle.kc_kit.specs.Linking.{modules_of, by_object, object_of, by_places, places_of, Placing, IsMap, LinksTo, LinkAnswer}
+use Rattle.kc_kit.specs.Answer.{names_read, names_written, by_image, hex_of, OneText, HexAnswer, ListingOf, CommandAnswer, MayAnswer, AreAccepted, IsOneText, IsLinkable, AreRunnable, IsAccepted, StaysBut}
+use Rattle.kc_kit.specs.Sources.{TellsFault, TellsFirst, status_of, RunOf, RunsLinked, RunAnswer, AssembleAnswer, IsFaultless, AreFaultless}
+use Rattle.kc_kit.specs.Lines.{source_line, input_line, link_line}
+
+-- ---- steps
+
+-- what holds of each refusal and of each answer with the value
+pub then-all : {A : Type 0} (P : Reply → Type 0) (x : Result A Reply) (may : A → Reply → Type 0) (r : Reply) → ((e : Reply) → x ≡ Err e → P e) → ((a : A) → x ≡ Ok a → may a r → P r) → Then x may r → P r
+then-all P (Ok a) may r f g h = g a refl h
+then-all P (Err e) may r f g h = subst P (sym h) (f e refl)
+
+joined-err : {A : Type 0} (x : Result A Reply) (others : Result (List A) Reply) (e : Reply) → joined x others ≡ Err e → (x ≡ Err e) ⊎ (others ≡ Err e)
+joined-err (Err r) others e h = inl (ap Err (let same : r ≡ e = cc in same))
+joined-err (Ok a) (Err r) e h = inr (ap Err (let same : r ≡ e = cc in same))
+joined-err (Ok a) (Ok more) e h = absurd (cc)
+
+-- ---- statuses other than those of usage and of faults outside
+
+abbrev pub is_told : Status → Bool
+is_told status.Done = true
+is_told status.Missing = true
+is_told status.Source = true
+is_told status.Input = true
+is_told status.Link = true
+is_told status.Undefined = true
+is_told _ = false
+
+-- such a status, and no file, or files of these names
+pub record IsSound (names : List (List ℕ)) (r : Reply) : Type 0 where
+  pub told : is_told r.status ≡ true
+  pub named : (r.writes ≡ []) ⊎ (map (λ (w : Write). w.name) r.writes ≡ names)
+
+sound-says : (names : List (List ℕ)) (s : Status) (t : List ℕ) → is_told s ≡ true → IsSound names (says s t)
+sound-says names s t h = record { told = h; named = inl refl }
+
+sound-err : (names : List (List ℕ)) (s : Status) (t : List ℕ) (e : Reply) → is_told s ≡ true → says s t ≡ e → IsSound names e
+sound-err names s t e h k = subst (IsSound names) k (sound-says names s t h)
+
+ok-err : {A : Type 0} (P : Type 0) (a : A) (e : Reply) → Ok a ≡ Err e → P
+ok-err P a e h = absurd (cc)
+
+sound-read : (names : List (List ℕ)) (name : List ℕ) (content : Option (List ℕ)) (e : Reply) → read_of name content ≡ Err e → IsSound names e
+sound-read names name None e h = sound-err names status.Missing (missing_line name) e refl (let k : says status.Missing (missing_line name) ≡ e = cc in k)
+sound-read names name (Some bytes) e h = by (nat_lt 1048576 (length bytes)) h
+  where
+    by : (b : Bool) → cond b (Err (says status.Input (long_line name))) (Ok bytes) ≡ Err e → IsSound names e
+    by true k = sound-err names status.Input (long_line name) e refl (let f : says status.Input (long_line name) ≡ e = cc in f)
+    by false k = ok-err (IsSound names e) bytes e k
+
+sound-reads : (ns : List (List ℕ)) (names : List (List ℕ)) (contents : List (Option (List ℕ))) (e : Reply) → reads_of names contents ≡ Err e → IsSound ns e
+sound-reads ns [] contents e h = ok-err (IsSound ns e) [] e h
+sound-reads ns (n ∷ names) [] e h = ok-err (IsSound ns e) [] e h
+sound-reads ns (n ∷ names) (c ∷ contents) e h = either (joined-err (read_of n c) (reads_of names contents) e h) (sound-reads ns names contents e)
+  where
+    either : (read_of n c ≡ Err e) ⊎ (reads_of names contents ≡ Err e) → (reads_of names contents ≡ Err e → IsSound ns e) → IsSound ns e
+    either (inl k) f = sound-read ns n c e k
+    either (inr k) f = f k
+
+sound-object : (ns : List (List ℕ)) (name : List ℕ) (x : Result Object Fault) (e : Reply) → by_object name x ≡ Err e → IsSound ns e
+sound-object ns name (Ok m) e h = ok-err (IsSound ns e) m e h
+sound-object ns name (Err fault) e h = sound-err ns status.Input (input_line name fault.at (codes "O") fault.code) e refl (let k : says status.Input (input_line name fault.at (codes "O") fault.code) ≡ e = cc in k)
+
+sound-modules : (ns : List (List ℕ)) (names texts : List (List ℕ)) (e : Reply) → modules_of object_of names texts ≡ Err e → IsSound ns e
+sound-modules ns [] texts e h = ok-err (IsSound ns e) [] e h
+sound-modules ns (n ∷ names) [] e h = ok-err (IsSound ns e) [] e h
+sound-modules ns (n ∷ names) (t ∷ texts) e h = either (joined-err (object_of n t) (modules_of object_of names texts) e h) (sound-modules ns names texts e)
+  where
+    either : (object_of n t ≡ Err e) ⊎ (modules_of object_of names texts ≡ Err e) → (modules_of object_of names texts ≡ Err e → IsSound ns e) → IsSound ns e
+    either (inl k) f = sound-object ns n (answer_of t) e k
+    either (inr k) f = f k
+
+sound-places : (ns names : List (List ℕ)) (x : Result Places LinkFault) (e : Reply) → by_places names x ≡ Err e → IsSound ns e
+sound-places ns names (Ok places) e h = ok-err (IsSound ns e) places e h
+sound-places ns names (Err fault) e h = sound-err ns status.Link (link_line names fault) e refl (let k : says status.Link (link_line names fault) ≡ e = cc in k)
+
+sound-hex : (ns : List (List ℕ)) (name : List ℕ) (x : Result (List ℕ) (ℕ × ℕ)) (e : Reply) → by_image name x ≡ Err e → IsSound ns e
+sound-hex ns name (Ok image) e h = ok-err (IsSound ns e) image e h
+sound-hex ns name (Err fault) e h = sound-err ns status.Input (input_line name fault.0 (codes "H") fault.1) e refl (let k : says status.Input (input_line name fault.0 (codes "H") fault.1) ≡ e = cc in k)
+
+told-end : (how : End) → is_told (status_of how) ≡ true
+told-end end.Spent = refl
+told-end end.Powerdown = refl
+told-end end.Reset = refl
+told-end (end.Undefined what) = refl
+
+sound-run : (ns : List (List ℕ)) (states : ℕ) (image : List ℕ) (r : Reply) → RunOf states image r → IsSound ns r
+sound-run ns states image r h = subst (IsSound ns) (sym h) (record { told = told-end (end_of (run_to states (start image)).machine); named = inl refl })
+
+sound-fault : (ns : List (List ℕ)) (name text : List ℕ) (r : Reply) → TellsFault name text r → IsSound ns r
+sound-fault ns name text r h = subst (IsSound ns) (sym h.3) (sound-says ns status.Source (source_line name h.0 h.1) refl)
+
+sound-first : (ns names texts : List (List ℕ)) (r : Reply) → TellsFirst names texts r → IsSound ns r
+sound-first ns [] texts r h = absurd h
+sound-first ns (n ∷ names) [] r h = absurd h
+sound-first ns (n ∷ names) (t ∷ texts) r (inl h) = sound-fault ns n t r h
+sound-first ns (n ∷ names) (t ∷ texts) r (inr h) = sound-first ns names texts r h.1
+
+sound-placing : (ns names texts : List (List ℕ)) (states : ℕ) (ranges : Ranges) (ms : List Object) (r : Reply) → Placing names ranges (RunsLinked texts states) ms r → IsSound ns r
+sound-placing ns names texts states ranges ms r h =
+    then-all (IsSound ns) (places_of names ms ranges) (RunsLinked texts states ms) r (sound-places ns names (placed ms ranges)) (λ places f l. sound-run ns states l.image r l.ran) h
+
+sound-runs : (ns names : List (List ℕ)) (states : ℕ) (ranges : Ranges) (texts : List (List ℕ)) (r : Reply) → RunAnswer names states ranges texts r → IsSound ns r
+sound-runs ns names states ranges texts r (Ok ms, made, h) = sound-placing ns names texts states ranges ms r h
+sound-runs ns names states ranges texts r (Err e, told, h) = subst (IsSound ns) (sym h) (sound-first ns names texts e told)
+
+sound-object-of : (name out text : List ℕ) (r : Reply) → AssembleAnswer name out text r → IsSound (out ∷ []) r
+sound-object-of name out text r (Ok m, made, h) = subst (IsSound (out ∷ [])) (sym h) (record { told = refl; named = inr refl })
+sound-object-of name out text r (Err e, told, h) = subst (IsSound (out ∷ [])) (sym h) (sound-fault (out ∷ []) name text e told)
+
+sound-one : (ns : List (List ℕ)) (may : List ℕ → Reply → Type 0) (texts : List (List ℕ)) (r : Reply) → ((t : List ℕ) → may t r → IsSound ns r) → OneText may texts r → IsSound ns r
+sound-one ns may (t ∷ []) r f h = f t h
+sound-one ns may [] r f h = absurd h
+sound-one ns may (t ∷ u ∷ texts) r f h = absurd h
+
+sound-links : (out : List ℕ) (lines : Option (List ℕ)) (ms : List Object) (places : Places) (r : Reply) → LinksTo out lines ms places r → IsSound (out ∷ option_to_list lines) r
+sound-links out lines ms places r h = subst (IsSound (out ∷ option_to_list lines)) (sym h.done) (record { told = refl; named = inr (ap (λ l. out ∷ l) (by lines h.is_map)) })
+  where
+    by : (lines : Option (List ℕ)) → IsMap lines ms places h.more → map (λ (w : Write). w.name) h.more ≡ option_to_list lines
+    by None k = ap (map (λ (w : Write). w.name)) k
+    by (Some name) k = ap (map (λ (w : Write). w.name)) k.2
+
+sound-link : (names : List (List ℕ)) (out : List ℕ) (lines : Option (List ℕ)) (ranges : Ranges) (texts : List (List ℕ)) (r : Reply) → LinkAnswer names out lines ranges texts r → IsSound (out ∷ option_to_list lines) r
+sound-link names out lines ranges texts r h =
+    let ns = out ∷ option_to_list lines in
+    then-all (IsSound ns) (modules_of object_of names texts) (Placing names ranges (LinksTo out lines)) r (sound-modules ns names texts)
+    (λ ms e k. then-all (IsSound ns) (places_of names ms ranges) (LinksTo out lines ms) r (sound-places ns names (placed ms ranges)) (λ places f l. sound-links out lines ms places r l) k) h
+
+pub sound-command : (c : Command) (contents : List (Option (List ℕ))) (r : Reply) → CommandAnswer (Some c) contents r → IsSound (names_written (Some c)) r
+sound-command Helps contents r h = subst (IsSound []) (sym h) (sound-says [] status.Done _ refl)
+sound-command TellsVersion contents r h = subst (IsSound []) (sym h) (sound-says [] status.Done _ refl)
+sound-command (Runs files states placing) contents r h =
+    then-all (IsSound []) (reads_of files contents) (RunAnswer files states placing) r (sound-reads [] files contents) (λ texts e k. sound-runs [] files states placing texts r k) h
+sound-command (Assembles file out) contents r h =
+    then-all (IsSound (out ∷ [])) (reads_of (file ∷ []) contents) (OneText (AssembleAnswer file out)) r (sound-reads (out ∷ []) (file ∷ []) contents)
+    (λ texts e k. sound-one (out ∷ []) (AssembleAnswer file out) texts r (λ t l. sound-object-of file out t r l) k) h
+sound-command (Links files out lines placing) contents r h =
+    let ns = out ∷ option_to_list lines in
+    then-all (IsSound ns) (reads_of files contents) (LinkAnswer files out lines placing) r (sound-reads ns files contents) (λ texts e k. sound-link files out lines placing texts r k) h
+sound-command (RunsHex file states) contents r h =
+    then-all (IsSound []) (reads_of (file ∷ []) contents) (OneText (HexAnswer file (RunOf states))) r (sound-reads [] (file ∷ []) contents)
+    (λ texts e k. sound-one [] (HexAnswer file (RunOf states)) texts r
+    (λ t l. then-all (IsSound []) (hex_of file t) (RunOf states) r (sound-hex [] file (image_of t)) (λ image f m. sound-run [] states image r m) l) k) h
+sound-command (Lists file first last) contents r h =
+    then-all (IsSound []) (reads_of (file ∷ []) contents) (OneText (HexAnswer file (ListingOf first last))) r (sound-reads [] (file ∷ []) contents)
+    (λ texts e k. sound-one [] (HexAnswer file (ListingOf first last)) texts r
+    (λ t l. then-all (IsSound []) (hex_of file t) (ListingOf first last) r (sound-hex [] file (image_of t)) (λ image f m. subst (IsSound []) (sym m) (sound-says [] status.Done _ refl)) l) k) h
+
+-- a read that has failed
+failed-says : (names : List (List ℕ)) (contents : List (Option (List ℕ))) (rose : Type 0) (r : Reply) → FailedRead names contents rose r → rose × (r.status ≡ status.ReadFault) × (r.writes ≡ [])
+failed-says [] contents rose r h = absurd h
+failed-says (n ∷ names) [] rose r h = absurd h
+failed-says (n ∷ names) (c ∷ contents) rose r (inl h) = (h.0, ap (λ (k : Reply). k.status) h.1, ap (λ (k : Reply). k.writes) h.1)
+failed-says (n ∷ names) (c ∷ contents) rose r (inr h) = failed-says names contents rose r h.1
+
+-- ---- what may be answered to a command
+
+-- it is no usage, or there is no command
+pub may-usage : (c : Option Command) (told : Option Holding) (rose : Type 0) (r : Reply) → MayAnswer c told rose r → r.status ≡ status.Usage → c ≡ None
+may-usage None told rose r h e = refl
+may-usage (Some c) told rose r (contents, holds, inl h) e = absurd (let s = (sound-command c contents r h).told in let f : is_told status.Usage ≡ true = subst (λ k. is_told k ≡ true) e s in let g : false ≡ true = f in cc)
+may-usage (Some c) told rose r (contents, holds, inr h) e = absurd (let s = (failed-says (names_read (Some c)) contents rose r h).1 in let g : status.Usage ≡ status.ReadFault = sym e ∙ s in cc)
+
+pub may-read : (c : Option Command) (told : Option Holding) (rose : Type 0) (r : Reply) → MayAnswer c told rose r → r.status ≡ status.ReadFault → rose
+may-read None told rose r (contents, holds, inl h) e = absurd (let g : status.Usage ≡ status.ReadFault = sym (ap (λ (k : Reply). k.status) h) ∙ e in cc)
+may-read None told rose r (contents, holds, inr h) e = (failed-says [] contents rose r h).0
+may-read (Some c) told rose r (contents, holds, inl h) e = absurd (let s = (sound-command c contents r h).told in let f : is_told status.ReadFault ≡ true = subst (λ k. is_told k ≡ true) e s in let g : false ≡ true = f in cc)
+may-read (Some c) told rose r (contents, holds, inr h) e = (failed-says (names_read (Some c)) contents rose r h).0
+
+abbrev pub AreNamed : List (List ℕ) → Reply → Type 0
+AreNamed names r = (r.writes ≡ []) ⊎ (map (λ (w : Write). w.name) r.writes ≡ names)
+
+pub may-named : (c : Option Command) (told : Option Holding) (rose : Type 0) (r : Reply) → MayAnswer c told rose r → AreNamed (names_written c) r
+may-named None told rose r (contents, holds, inl h) = inl (ap (λ (k : Reply). k.writes) h)
+may-named None told rose r (contents, holds, inr h) = inl (failed-says [] contents rose r h).2
+may-named (Some c) told rose r (contents, holds, inl h) = (sound-command c contents r h).named
+may-named (Some c) told rose r (contents, holds, inr h) = inl (failed-says (names_read (Some c)) contents rose r h).2
+
+-- ---- what is written
+
+no_writes : (r : Reply) → AreNamed [] r → r.writes ≡ []
+no_writes r (inl e) = e
+no_writes r (inr e) = by r.writes e
+  where
+    by : (ws : List Write) → map (λ (w : Write). w.name) ws ≡ [] → ws ≡ []
+    by [] h = refl
+    by (w ∷ ws) h = absurd (cc)
+
+part-of_none : (old new : Kept) (ws : List Write) → ws ≡ [] → WroteByPart old ws new → ⊥
+part-of_none old new [] e h = h
+part-of_none old new (w ∷ ws) e h = absurd (cc)
+
+wrote-none : (old new : Kept) (ws : List Write) → ws ≡ [] → Wrote old ws new → new ≡ old
+wrote-none old new [] e h = h
+wrote-none old new (w ∷ ws) e h = absurd (cc)
+
+-- how the files are after a reply with each status
+pub record Ends (may : Reply → Type 0) (old new : Kept) : Type 0 where
+  pub how : (new ≡ old) ⊎ ((r : Reply) × may r × (Wrote old r.writes new ⊎ WroteByPart old r.writes new))
+
+pub ends-of : (may : Reply → Type 0) (old : Kept) (before : Shown) (given : Status) (new : Kept) (now : Shown) → Replies may old before given new now → Ends may old new
+ends-of may old before given new now h = by given h
+  where
+    whole : (s : Status) → IsGiven may s old before new now → Ends may old new
+    whole s k = record { how = inr (k.reply, k.is_answer, inl k.files) }
+
+    wanted : (new ≡ old) ⊎ ((reply : Reply) × may reply × WroteByPart old reply.writes new) → (new ≡ old) ⊎ ((r : Reply) × may r × (Wrote old r.writes new ⊎ WroteByPart old r.writes new))
+    wanted (inl e) = inl e
+    wanted (inr k) = inr (k.0, k.1, inr k.2)
+
+    by : (s : Status) → Replies may old before s new now → Ends may old new
+    by status.NoMemory k = record { how = wanted k.files }
+    by status.WriteFault (inl k) = record { how = inl k.files }
+    by status.WriteFault (inr k) = record { how = inr (k.reply, k.is_answer, inr k.files) }
+    by status.Done k = whole status.Done k
+    by status.Usage k = whole status.Usage k
+    by status.Missing k = whole status.Missing k
+    by status.Source k = whole status.Source k
+    by status.Input k = whole status.Input k
+    by status.Link k = whole status.Link k
+    by status.Undefined k = whole status.Undefined k
+    by status.ReadFault k = whole status.ReadFault k
+
+-- without a file that is written the files stay as they were
+pub ends-same : (may : Reply → Type 0) (old new : Kept) (names : List (List ℕ)) → ((r : Reply) → may r → AreNamed names r) → names ≡ [] → Ends may old new → new ≡ old
+ends-same may old new names named e h = by h.how
+  where
+    none : (r : Reply) → may r → r.writes ≡ []
+    none r m = no_writes r (subst (λ ns. AreNamed ns r) e (named r m))
+
+    by : (new ≡ old) ⊎ ((r : Reply) × may r × (Wrote old r.writes new ⊎ WroteByPart old r.writes new)) → new ≡ old
+    by (inl k) = k
+    by (inr (r, m, inl k)) = wrote-none old new r.writes (none r m) k
+    by (inr (r, m, inr k)) = absurd (part-of_none old new r.writes (none r m) k)
+
+-- no other name changes
+stays-after : (name : List ℕ) (names : List (List ℕ)) (before mid : Holding) (now : Option Holding) → ((other : List ℕ) → other ≢ name → mid other ≡ before other) → StaysBut names mid now → StaysBut (name ∷ names) before now
+stays-after name names before mid None f h = absurd h
+stays-after name names before mid (Some now) f h = λ other none. h other none.1 ∙ f other none.0
+
+one-stays : (before : Option Holding) (held : Holding) (w : Write) (now : Option Holding) → before ≡ Some held → OthersStay before w.name now → IsSomeAnd now (λ now. (other : List ℕ) → other ≢ w.name → now other ≡ held other)
+one-stays before held w now e h = subst (λ b. OthersStay b w.name now) e h
+
+pub wrote-stays : (ws : List Write) (old new : Kept) (before : Holding) → old.held ≡ Some before → Wrote old ws new → StaysBut (map (λ (w : Write). w.name) ws) before new.held
+wrote-stays [] old new before e h = subst (λ n. StaysBut [] before n) (sym (ap (λ (k : Kept). k.held) h ∙ e)) (λ name none. refl)
+wrote-stays (w ∷ ws) old new before e (mid, one, rest) = by mid.held refl (one-stays old.held before w mid.held e one.1) (λ m f. wrote-stays ws mid new m f rest)
+  where
+    by : (h : Option Holding) → mid.held ≡ h → IsSomeAnd h (λ now. (other : List ℕ) → other ≢ w.name → now other ≡ before other)
+        → ((m : Holding) → mid.held ≡ Some m → StaysBut (map (λ (w : Write). w.name) ws) m new.held) → StaysBut (w.name ∷ map (λ (w : Write). w.name) ws) before new.held
+    by None f k rest = absurd k
+    by (Some m) f k rest = stays-after w.name (map (λ (w : Write). w.name) ws) before m new.held k (rest m f)
+
+stays-more : (name : List ℕ) (names : List (List ℕ)) (before : Holding) (now : Option Holding) → IsSomeAnd now (λ now. (other : List ℕ) → other ≢ name → now other ≡ before other) → StaysBut (name ∷ names) before now
+stays-more name names before None h = absurd h
+stays-more name names before (Some now) h = λ other none. h other none.0
+
+pub part-stays : (ws : List Write) (old new : Kept) (before : Holding) → old.held ≡ Some before → WroteByPart old ws new → StaysBut (map (λ (w : Write). w.name) ws) before new.held
+part-stays [] old new before e h = absurd h
+part-stays (w ∷ ws) old new before e (inl h) = stays-more w.name (map (λ (w : Write). w.name) ws) before new.held (one-stays old.held before w new.held e h)
+part-stays (w ∷ ws) old new before e (inr (mid, one, rest)) = by mid.held refl (one-stays old.held before w mid.held e one.1) (λ m f. part-stays ws mid new m f rest)
+  where
+    by : (h : Option Holding) → mid.held ≡ h → IsSomeAnd h (λ now. (other : List ℕ) → other ≢ w.name → now other ≡ before other)
+        → ((m : Holding) → mid.held ≡ Some m → StaysBut (map (λ (w : Write). w.name) ws) m new.held) → StaysBut (w.name ∷ map (λ (w : Write). w.name) ws) before new.held
+    by None f k rest = absurd k
+    by (Some m) f k rest = stays-after w.name (map (λ (w : Write). w.name) ws) before m new.held k (rest m f)
+
+stays-wide : (names : List (List ℕ)) (before : Holding) (now : Option Holding) → StaysBut [] before now → StaysBut names before now
+stays-wide names before None h = absurd h
+stays-wide names before (Some now) h = λ name none. h name tt
+
+pub ends-stay : (may : Reply → Type 0) (old new : Kept) (names : List (List ℕ)) → ((r : Reply) → may r → AreNamed names r) → Ends may old new → Told old.held (λ before. StaysBut names before new.held)
+ends-stay may old new names named h = told old.held refl
+  where
+    same : (before : Holding) → old.held ≡ Some before → new ≡ old → StaysBut names before new.held
+    same before e k = subst (λ n. StaysBut names before n) (sym (ap (λ (k : Kept). k.held) k ∙ e)) (λ name none. refl)
+
+    of_names : (before : Holding) (ws : List Write) → (ws ≡ []) ⊎ (map (λ (w : Write). w.name) ws ≡ names) → StaysBut (map (λ (w : Write). w.name) ws) before new.held → StaysBut names before new.held
+    of_names before ws (inl e) k = stays-wide names before new.held (subst (λ (l : List Write). StaysBut (map (λ (w : Write). w.name) l) before new.held) e k)
+    of_names before ws (inr e) k = subst (λ l. StaysBut l before new.held) e k
+
+    by : (before : Holding) → old.held ≡ Some before → (new ≡ old) ⊎ ((r : Reply) × may r × (Wrote old r.writes new ⊎ WroteByPart old r.writes new)) → StaysBut names before new.held
+    by before e (inl k) = same before e k
+    by before e (inr (r, m, inl k)) = of_names before r.writes (named r m) (wrote-stays r.writes old new before e k)
+    by before e (inr (r, m, inr k)) = of_names before r.writes (named r m) (part-stays r.writes old new before e k)
+
+    told : (o : Option Holding) → old.held ≡ o → Told o (λ before. StaysBut names before new.held)
+    told None e = tt
+    told (Some before) e = by before e h.how
+
+-- ---- faults outside
+
+pub fault-of : (may : Reply → Type 0) (old : Kept) (before : Shown) (given : Status) (new : Kept) (now : Shown) (names : List (List ℕ)) → ((r : Reply) → may r → AreNamed names r) →
+    Replies may old before given new now → given ≡ status.WriteFault → Rose before.faults now.faults ⊎ ((names ≢ []) × Rose old.faults new.faults)
+fault-of may old before given new now names named h e = by (subst (λ s. Replies may old before s new now) e h)
+  where
+    by : SinkFailed may old before new now ⊎ WriteFailed may old before new now → Rose before.faults now.faults ⊎ ((names ≢ []) × Rose old.faults new.faults)
+    by (inl k) = inl k.cause
+    by (inr k) = inr (λ none. part-of_none old new k.reply.writes (no_writes k.reply (subst (λ ns. AreNamed ns k.reply) none (named k.reply k.is_answer))) k.files, k.cause)
+
+pub status-of : (may : Reply → Type 0) (old : Kept) (before : Shown) (given : Status) (new : Kept) (now : Shown) → given ≢ status.WriteFault → given ≢ status.NoMemory → Replies may old before given new now → (r : Reply) × may r × (given ≡ r.status)
+status-of may old before given new now f g h = let k = given-of may given old before new now f g h in (k.reply, k.is_answer, k.status)
+
+-- ---- what is accepted is done
+
+abbrev pub IsDone : Status → Type 0
+IsDone given = (given ≡ status.Done) ⊎ (given ≡ status.Undefined)
+
+done-end : (how : End) → IsDone (status_of how)
+done-end end.Spent = inl refl
+done-end end.Powerdown = inl refl
+done-end end.Reset = inl refl
+done-end (end.Undefined what) = inr refl
+
+done-run : (states : ℕ) (image : List ℕ) (r : Reply) → RunOf states image r → IsDone r.status
+done-run states image r h = subst (λ (k : Reply). IsDone k.status) (sym h) (done-end (end_of (run_to states (start image)).machine))
+
+no-fault : (name text : List ℕ) (r : Reply) → IsFaultless text → TellsFault name text r → ⊥
+no-fault name text r none h = none h.0 h.1 h.2
+
+none-first : (names texts : List (List ℕ)) (r : Reply) → AreFaultless texts → TellsFirst names texts r → ⊥
+none-first [] texts r none h = h
+none-first (n ∷ names) [] r none h = h
+none-first (n ∷ names) (t ∷ texts) r none (inl h) = no-fault n t r none.0 h
+none-first (n ∷ names) (t ∷ texts) r none (inr h) = none-first names texts r none.1 h.1
+
+done-linked : (texts : List (List ℕ)) (states : ℕ) (ms : List Object) (x : Result Places Reply) (r : Reply) → IsOk x → Then x (RunsLinked texts states ms) r → IsDone r.status
+done-linked texts states ms (Ok places) r a h = done-run states h.image r h.ran
+done-linked texts states ms (Err e) r a h = absurd (let k : false ≡ true = a in cc)
+
+done-runs : (names : List (List ℕ)) (states : ℕ) (ranges : Ranges) (texts : List (List ℕ)) (r : Reply) → AreRunnable names ranges texts → RunAnswer names states ranges texts r → IsDone r.status
+done-runs names states ranges texts r a (Ok ms, made, h) = done-linked texts states ms (places_of names ms ranges) r (a.1 ms made) h
+done-runs names states ranges texts r a (Err e, told, h) = absurd (none-first names texts e a.0 told)
+
+done-object : (name out text : List ℕ) (r : Reply) → IsFaultless text → AssembleAnswer name out text r → IsDone r.status
+done-object name out text r none (Ok m, made, h) = inl (ap (λ (k : Reply). k.status) h)
+done-object name out text r none (Err e, told, h) = absurd (no-fault name text e none told)
+
+done-objects : (name out : List ℕ) (texts : List (List ℕ)) (r : Reply) → IsOneText IsFaultless texts → OneText (AssembleAnswer name out) texts r → IsDone r.status
+done-objects name out (t ∷ []) r a h = done-object name out t r a h
+done-objects name out [] r a h = absurd h
+done-objects name out (t ∷ u ∷ texts) r a h = absurd h
+
+done-hex : (name : List ℕ) (may : List ℕ → Reply → Type 0) (x : Result (List ℕ) (ℕ × ℕ)) (r : Reply) → ((image : List ℕ) → may image r → IsDone r.status) → IsOk x → Then (by_image name x) may r → IsDone r.status
+done-hex name may (Ok image) r f a h = f image h
+done-hex name may (Err fault) r f a h = absurd (let e : false ≡ true = a in cc)
+
+done-one : (name : List ℕ) (may : List ℕ → Reply → Type 0) (texts : List (List ℕ)) (r : Reply) → ((image : List ℕ) → may image r → IsDone r.status) → IsOneText (λ text. IsOk (image_of text)) texts → OneText (HexAnswer name may) texts r → IsDone r.status
+done-one name may (t ∷ []) r f a h = done-hex name may (image_of t) r f a h
+done-one name may [] r f a h = absurd h
+done-one name may (t ∷ u ∷ texts) r f a h = absurd h
+
+done-placed : (out : List ℕ) (lines : Option (List ℕ)) (ms : List Object) (x : Result Places Reply) (r : Reply) → IsOk x → Then x (LinksTo out lines ms) r → IsDone r.status
+done-placed out lines ms (Ok places) r a h = inl (ap (λ (k : Reply). k.status) h.done)
+done-placed out lines ms (Err e) r a h = absurd (let k : false ≡ true = a in cc)
+
+done-link : (names : List (List ℕ)) (out : List ℕ) (lines : Option (List ℕ)) (ranges : Ranges) (x : Result (List Object) Reply) (r : Reply) → IsLinkable names ranges x → Then x (Placing names ranges (LinksTo out lines)) r → IsDone r.status
+done-link names out lines ranges (Ok ms) r a h = done-placed out lines ms (places_of names ms ranges) r a h
+done-link names out lines ranges (Err e) r a h = absurd a
+
+accepted-then : (accepts : List (List ℕ) → Type 0) (may : List (List ℕ) → Reply → Type 0) (x : Result (List (List ℕ)) Reply) (r : Reply) → ((texts : List (List ℕ)) → accepts texts → may texts r → IsDone r.status) → AreAccepted accepts x → Then x may r → IsDone r.status
+accepted-then accepts may (Ok texts) r f a h = f texts a h
+accepted-then accepts may (Err e) r f a h = absurd a
+
+pub done-command : (c : Option Command) (contents : List (Option (List ℕ))) (r : Reply) → IsAccepted c contents → CommandAnswer c contents r → IsDone r.status
+done-command None contents r a h = absurd a
+done-command (Some Helps) contents r a h = inl (ap (λ (k : Reply). k.status) h)
+done-command (Some TellsVersion) contents r a h = inl (ap (λ (k : Reply). k.status) h)
+done-command (Some (Runs files states placing)) contents r a h = accepted-then _ (RunAnswer files states placing) (reads_of files contents) r (λ texts b k. done-runs files states placing texts r b k) a h
+done-command (Some (Assembles file out)) contents r a h = accepted-then _ (OneText (AssembleAnswer file out)) (reads_of (file ∷ []) contents) r (λ texts b k. done-objects file out texts r b k) a h
+done-command (Some (Links files out lines placing)) contents r a h = accepted-then _ (LinkAnswer files out lines placing) (reads_of files contents) r (λ texts b k. done-link files out lines placing (modules_of object_of files texts) r b k) a h
+done-command (Some (RunsHex file states)) contents r a h = accepted-then _ (OneText (HexAnswer file (RunOf states))) (reads_of (file ∷ []) contents) r (λ texts b k. done-one file (RunOf states) texts r (λ image l. done-run states image r l) b k) a h
+done-command (Some (Lists file first last)) contents r a h = accepted-then _ (OneText (HexAnswer file (ListingOf first last))) (reads_of (file ∷ []) contents) r (λ texts b k. done-one file (ListingOf first last) texts r (λ image l. inl (ap (λ (k : Reply). k.status) l)) b k) a h
+
+-- a reply without a fault outside is done, or for want of memory
+pub done-of : (c : Option Command) (told : Option Holding) (rose : Type 0) (old : Kept) (before : Shown) (given : Status) (new : Kept) (now : Shown) →
+    Replies (MayAnswer c told rose) old before given new now →
+    Told told (λ held. IsAccepted c (map held (names_read c)) → ¬ rose → ¬ Rose before.faults now.faults → ¬ Rose old.faults new.faults → (given ≡ status.Done) ⊎ ((given ≡ status.Undefined) ⊎ (given ≡ status.NoMemory)))
+done-of c None rose old before given new now h = tt
+done-of c (Some held) rose old before given new now h = λ accepted read sink write. by given refl accepted read sink write
+  where
+    placed-so : (s : Status) → IsDone s → given ≡ s → (given ≡ status.Done) ⊎ ((given ≡ status.Undefined) ⊎ (given ≡ status.NoMemory))
+    placed-so s (inl e) f = inl (f ∙ e)
+    placed-so s (inr e) f = inr (inl (f ∙ e))
+
+    answer : (r : Reply) → given ≡ r.status → IsAccepted c (map held (names_read c)) → ¬ rose → MayAnswer c (Some held) rose r → (given ≡ status.Done) ⊎ ((given ≡ status.Undefined) ⊎ (given ≡ status.NoMemory))
+    answer r e accepted read (contents, holds, inl k) = placed-so r.status (done-command c contents r (subst (IsAccepted c) (sym holds) accepted) k) e
+    answer r e accepted read (contents, holds, inr k) = absurd (read (failed-says (names_read c) contents rose r k).0)
+
+    faults : SinkFailed (MayAnswer c (Some held) rose) old before new now ⊎ WriteFailed (MayAnswer c (Some held) rose) old before new now → ¬ Rose before.faults now.faults → ¬ Rose old.faults new.faults → ⊥
+    faults (inl k) sink write = sink k.cause
+    faults (inr k) sink write = write k.cause
+
+    whole : (s : Status) → given ≡ s → s ≢ status.WriteFault → s ≢ status.NoMemory → IsAccepted c (map held (names_read c)) → ¬ rose → (given ≡ status.Done) ⊎ ((given ≡ status.Undefined) ⊎ (given ≡ status.NoMemory))
+    whole s e f g accepted read =
+        let k = status-of (MayAnswer c (Some held) rose) old before s new now f g (subst (λ t. Replies (MayAnswer c (Some held) rose) old before t new now) e h) in
+        answer k.0 (e ∙ k.2) accepted read k.1
+
+    by : (s : Status) → given ≡ s → IsAccepted c (map held (names_read c)) → ¬ rose → ¬ Rose before.faults now.faults → ¬ Rose old.faults new.faults → (given ≡ status.Done) ⊎ ((given ≡ status.Undefined) ⊎ (given ≡ status.NoMemory))
+    by status.NoMemory e a read sink write = inr (inr e)
+    by status.WriteFault e a read sink write = absurd (faults (subst (λ t. Replies (MayAnswer c (Some held) rose) old before t new now) e h) sink write)
+    by status.Done e a read sink write = inl e
+    by status.Undefined e a read sink write = inr (inl e)
+    by status.Usage e a read sink write = whole status.Usage e (λ k. cc) (λ k. cc) a read
+    by status.Missing e a read sink write = whole status.Missing e (λ k. cc) (λ k. cc) a read
+    by status.Source e a read sink write = whole status.Source e (λ k. cc) (λ k. cc) a read
+    by status.Input e a read sink write = whole status.Input e (λ k. cc) (λ k. cc) a read
+    by status.Link e a read sink write = whole status.Link e (λ k. cc) (λ k. cc) a read
+    by status.ReadFault e a read sink write = whole status.ReadFault e (λ k. cc) (λ k. cc) a read

@@ -1,0 +1,11 @@
+use Rattle.std.proofs.Common.{sym, subst}
+use Rattle.kc_files.specs.Reply.{IsSaid}
+use Rattle.kc_files.specs.Outside.{kept}
+use Rattle.kc_files.proofs.ReplyLemmas.{Replies-widen}
+use Rattle.kc_kit.specs.Jobs.{IsOf}
+use Rattle.kc_kit.proofs.top.finish.Goals as goal
+
+pub returns-in-Err-clause-answer : goal.returns-in-Err-clause-answer
+returns-in-Err-clause-answer g c =
+    Replies-widen (IsSaid c.in-Err.refusal) (IsOf c.args.prepared) _ _ _ _ _ (λ r e. subst (λ p. IsOf p r) (sym c.in-Err.is) e)
+    (c.refuse.ensures.reply (kept (g.F.Files.held c.args.files.now) (g.F.Files.write_faults c.args.files.now)))

@@ -1,0 +1,27 @@
+-- A law of the commands: `asm` of each source, `link` of the objects and `hex` of the file answer as `run` of the sources does
+-- (this kit's own).
+use Rattle.std.specs.Prelude.{◌≡◌, ℕ, ◌<◌, true, List, [], ◌∷◌, length, map, slice_index, None}
+use Rattle.std.specs.List.{list_all}
+use Rattle.kc_obj.specs.Object.{Object}
+use Rattle.kc_obj.specs.Spelling.{spelling}
+use Rattle.kc_obj_read.specs.Law.{numbers_fit}
+use Rattle.kc_place.specs.declared.ranges.Ranges.{Ranges}
+use Rattle.kc_place.specs.Placing.{Places}
+use Rattle.kc_link.specs.Filled.{IsFilled}
+use Rattle.kc_files.specs.Reply.{Reply, write, done_writing}
+use Rattle.kc_kit.specs.Answer.{HexAnswer}
+use Rattle.kc_kit.specs.Linking.{LinkAnswer}
+use Rattle.kc_kit.specs.Sources.{AreModules, RunOf, RunAnswer}
+
+-- what is filled from modules are bytes
+abbrev pub FillsBytes : List Object → Type 0
+FillsBytes ms = (places : Places) (image : List ℕ) → IsFilled ms places image → (k : ℕ) → slice_index image k < 256
+
+-- where the numbers of the modules have the room of their fields
+abbrev pub RunsAlike : Type 0
+RunsAlike =
+    (names objects texts : List (List ℕ)) (ms : List Object) (ranges : Ranges) (states : ℕ) (file hex : List ℕ) (reply : Reply)
+    → AreModules texts ms → list_all numbers_fit ms ≡ true → FillsBytes ms → length objects ≡ length ms
+    → LinkAnswer objects file None ranges (map spelling ms) (done_writing (write file hex ∷ []))
+    → HexAnswer file (RunOf states) hex reply
+    → RunAnswer names states ranges texts reply

@@ -1,0 +1,56 @@
+-- What is left to do once a command's files are read and judged (this kit's own).
+use Rattle.std.specs.Prelude.{◌≡◌, ◌≤◌, List, [], ◌∷◌, Option, Some, None, Result, Ok, Err}
+use Rattle.kc_model.specs.Machine.{start}
+use Rattle.kc_model.specs.Run.{run_to}
+use Rattle.kc_listing.specs.Listing.{listing}
+use Rattle.kc_base.specs.Causes.{Rose}
+use Rattle.kc_files.specs.declared.status.Status.{Status}
+use Rattle.kc_files.specs.declared.status.Status.TheVariants as status
+use Rattle.kc_files.specs.Outside.{Kept, Wrote, WroteByPart}
+use Rattle.kc_files.specs.declared.refusal.Refusal.{Refusal}
+use Rattle.kc_files.specs.Reply.{Reply, Write, write, says, done_writing, IsRefused, IsSaid}
+use Rattle.kc_words.specs.Settings.{max_states}
+use Rattle.kc_kit.specs.declared.job.Job.{Job}
+use Rattle.kc_kit.specs.declared.job.Job.TheVariants as job
+use Rattle.kc_kit.specs.declared.job.Output.{Output}
+use Rattle.kc_kit.specs.Sources.{run_reply}
+
+abbrev pub written : Output → Write
+written o = write o.name.now o.bytes.items
+
+abbrev pub maybe_written : Option Output → List Write
+maybe_written None = []
+maybe_written (Some o) = written o ∷ []
+
+-- the reply of a job
+abbrev pub does : Job → Reply
+does (job.Run image states) = run_reply (run_to states (start image))
+does (job.List image first last) = says status.Done (listing image first last)
+does (job.Write file more) = done_writing (written file ∷ maybe_written more)
+
+-- state times within their limit, and addresses in order
+abbrev pub IsDoable : Job → Type 0
+IsDoable (job.Run image states) = states ≤ max_states
+IsDoable (job.List image first last) = (0x2000 ≤ first) × (first ≤ last)
+IsDoable (job.Write file more) = Unit {0}
+
+-- a job or a refusal, of which the reply may be given
+abbrev pub IsPrepared : (Reply → Type 0) → Result Job Refusal → Type 0
+IsPrepared may (Ok job) = may (does job) × IsDoable job
+IsPrepared may (Err refusal) = IsRefused may refusal
+
+abbrev pub IsReady : Result Job Refusal → Type 0
+IsReady (Ok job) = IsDoable job
+IsReady (Err refusal) = Unit {0}
+
+-- the reply of a job or of a refusal
+abbrev pub IsOf : Result Job Refusal → Reply → Type 0
+IsOf (Ok job) reply = reply ≡ does job
+IsOf (Err refusal) reply = IsSaid refusal reply
+
+-- files are written, all of them or some and then one that is refused
+abbrev pub AreWritten : Kept → List Write → Status → Kept → Type 0
+AreWritten before ws status.Done now = Wrote before ws now
+AreWritten before ws status.WriteFault now = Rose before.faults now.faults × WroteByPart before ws now
+AreWritten before ws status.NoMemory now = WroteByPart before ws now
+AreWritten before ws _ now = ⊥

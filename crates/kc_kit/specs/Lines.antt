@@ -1,0 +1,72 @@
+-- The texts that the kit prints, and the text of a line map (this kit's own).
+use Rattle.std.specs.Prelude.{ℕ, ◌/◌, ◌%◌, List, [], ◌++◌, codes, decimal, flat_map, Some, None, slice_get}
+use Rattle.kc_obj.specs.declared.parts.SegKind.{SegKind}
+use Rattle.kc_obj.specs.declared.parts.SegKind.TheVariants as kind
+use Rattle.kc_place.specs.declared.ranges.LinkFault.{LinkFault}
+use Rattle.kc_place.specs.declared.ranges.LinkFault.TheVariants as fault
+use Rattle.kc_link.specs.declared.lines.LineAt.{LineAt}
+use Rattle.kc_trace.specs.Text.{hex}
+
+abbrev pub help_text : List ℕ
+help_text =
+    codes "kc96 assembles, links and runs programs of the 80C196KC.\n"
+    ++ codes "  kc96 run NAME.. --states N      run sources, assembled and linked, for N state times\n"
+    ++ codes "  kc96 asm NAME --out FILE        assemble the source NAME to the object FILE\n"
+    ++ codes "  kc96 link OBJ.. --out FILE      link objects to the Intel hex file FILE\n"
+    ++ codes "       [--lines FILE]             and write which source line stands where\n"
+    ++ codes "  kc96 hex NAME --states N        run the Intel hex file NAME for N state times\n"
+    ++ codes "  kc96 dis NAME A-B               list the instructions of the hex file NAME from A to B\n"
+    ++ codes "  kc96 --help                     print this text\n"
+    ++ codes "  kc96 --version                  print the name and the version\n"
+    ++ codes "Where run and link may place registers, code and data, and how long the stack is:\n"
+    ++ codes "  [--reg A-B] [--code A-B] [--data A-B] [--stack N]\n"
+
+abbrev pub version_line : List ℕ
+version_line = codes "kc96 0.1.0\n"
+
+abbrev pub usage_line : List ℕ
+usage_line = codes "usage\n"
+
+abbrev pub two_digits : ℕ → List ℕ
+two_digits n = decimal (n / 10) ++ decimal (n % 10)
+
+-- the place and the code of a fault in a file: of a source `E` and the line, of a hex file `H` and the line, of an object `O` and the offset
+abbrev pub place_text : ℕ → List ℕ → ℕ → List ℕ
+place_text place letter code = codes ":" ++ decimal place ++ codes ": " ++ letter ++ two_digits code ++ codes "\n"
+
+abbrev pub source_line : List ℕ → ℕ → ℕ → List ℕ
+source_line name line code = codes "source " ++ name ++ place_text line (codes "E") code
+
+abbrev pub input_line : List ℕ → ℕ → List ℕ → ℕ → List ℕ
+input_line name place letter code = codes "input " ++ name ++ place_text place letter code
+
+-- ---- broken rules of the linker
+
+abbrev pub kind_word : SegKind → List ℕ
+kind_word kind.Reg = codes "reg"
+kind_word kind.Code = codes "code"
+kind_word kind.Ram = codes "data"
+kind_word kind.Stack = codes "stack"
+
+-- the word that names a module's file; that of the one stack of all modules is `-`
+abbrev pub file_at : List (List ℕ) → ℕ → List ℕ
+file_at names index = elim (slice_get names index) [ None ↦ codes "-" | Some name ↦ name ]
+
+abbrev pub link_text : List (List ℕ) → LinkFault → List ℕ
+link_text names (fault.Unresolved name) = codes "unresolved " ++ name
+link_text names (fault.OverlapName name) = codes "duplicate " ++ name
+link_text names (fault.OverlapPlace place) = codes "overlap " ++ hex 4 place
+link_text names (fault.Capacity kind index) = codes "capacity " ++ kind_word kind ++ codes " " ++ file_at names index
+link_text names (fault.Range index piece offset) = codes "range " ++ file_at names index ++ codes " " ++ decimal piece ++ codes " " ++ decimal offset
+link_text names fault.NoMemory = []
+
+abbrev pub link_line : List (List ℕ) → LinkFault → List ℕ
+link_line names fault = codes "link " ++ link_text names fault ++ codes "\n"
+
+-- ---- a line map: for each entry the address, the name of the module and the line
+
+abbrev pub map_line : LineAt → List ℕ
+map_line entry = hex 4 entry.addr ++ codes " " ++ entry.name ++ codes " " ++ decimal entry.line ++ codes "\n"
+
+abbrev pub map_text : List LineAt → List ℕ
+map_text entries = flat_map map_line entries

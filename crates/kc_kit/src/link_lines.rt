@@ -1,0 +1,115 @@
+// The lines of broken rules of the linker.
+ghost use Rattle.std.specs.Prelude.{◌≡◌, ◌<◌, ◌++◌, codes, decimal, IfOk, IsErr, map, string_bytes};
+ghost use Rattle.kc_trace.specs.Text.{hex};
+ghost use Rattle.kc_files.specs.declared.status.Status.TheVariants as status;
+ghost use Rattle.kc_files.specs.Reply.{says, IsRefused};
+ghost use Rattle.kc_kit.specs.Lines.{kind_word, file_at, link_text, link_line};
+
+use itoa::Buffer;
+use kc_base::{NoMemory, hex_digit};
+use kc_files::{Cause, Refusal, refusal_of};
+use kc_link::LinkFault;
+use kc_obj::SegKind;
+use std::alloc::Global;
+
+/// An address as four upper-case hex digits.
+pub(crate) fn address_text(address: u16) -> [u8; 4]
+    ensures { result ≡ hex 4 address }
+{
+    let second = address / 16;
+    let third = second / 16;
+    let fourth = third / 16;
+    [
+        hex_digit((fourth % 16) as u8),
+        hex_digit((third % 16) as u8),
+        hex_digit((second % 16) as u8),
+        hex_digit((address % 16) as u8),
+    ]
+}
+
+fn kind_word(kind: SegKind) -> &'static [u8]
+    ensures { result.now ≡ kind_word kind }
+{
+    match kind {
+        SegKind::Reg => b"reg",
+        SegKind::Code => b"code",
+        SegKind::Ram => b"data",
+        SegKind::Stack => b"stack",
+    }
+}
+
+// The word that names a module's file; that of the one stack of all modules is `-`.
+fn file_at(names: &[String], index: u16) -> &[u8]
+    ensures { result.now ≡ file_at (map string_bytes names.now) index }
+{
+    let index = usize::from(index);
+    if index < names.len() {
+        names[index].as_bytes()
+    } else {
+        b"-"
+    }
+}
+
+fn joined(alloc: Global, before: &[u8], after: &[u8]) -> Result<Vec<u8>, NoMemory>
+    ensures { IfOk result (λ text. text.items ≡ before.now ++ after.now) }
+{
+    let mut text = Vec::from_slice(alloc, before)?;
+    text.extend_from_slice(after)?;
+    Ok(text)
+}
+
+fn capacity_text(alloc: Global, kind: &[u8], file: &[u8]) -> Result<Vec<u8>, NoMemory>
+    ensures { IfOk result (λ text. text.items ≡ codes "capacity " ++ kind.now ++ codes " " ++ file.now) }
+{
+    let mut text = joined(alloc, b"capacity ", kind)?;
+    text.push(b' ')?;
+    text.extend_from_slice(file)?;
+    Ok(text)
+}
+
+fn range_text(alloc: Global, file: &[u8], piece: u16, offset: u16) -> Result<Vec<u8>, NoMemory>
+    ensures { IfOk result (λ text. text.items ≡ codes "range " ++ file.now ++ codes " " ++ decimal piece ++ codes " " ++ decimal offset) }
+{
+    let mut text = joined(alloc, b"range ", file)?;
+    text.push(b' ')?;
+    let mut buffer = Buffer::new();
+    text.extend_from_slice(buffer.format(piece).as_bytes())?;
+    text.push(b' ')?;
+    let mut digits = Buffer::new();
+    text.extend_from_slice(digits.format(offset).as_bytes())?;
+    Ok(text)
+}
+
+// A broken rule in words, where memory was not the matter.
+fn link_text(alloc: Global, names: &[String], fault: &LinkFault) -> Result<Vec<u8>, NoMemory>
+    ensures text { IfOk result (λ text. text.items ≡ link_text (map string_bytes names.now) fault.now) }
+    ensures memory { fault.now ≡ LinkFault.NoMemory → IsErr result }
+{
+    match fault {
+        LinkFault::Unresolved(name) => joined(alloc, b"unresolved ", name.as_slice()),
+        LinkFault::OverlapName(name) => joined(alloc, b"duplicate ", name.as_slice()),
+        LinkFault::OverlapPlace(place) => {
+            joined(alloc, b"overlap ", address_text(*place).as_slice())
+        }
+        LinkFault::Capacity { kind, module } => {
+            capacity_text(alloc, kind_word(*kind), file_at(names, *module))
+        }
+        LinkFault::Range {
+            module,
+            piece,
+            offset,
+        } => { range_text(alloc, file_at(names, *module), *piece, *offset) }
+        LinkFault::NoMemory => Err(NoMemory),
+    }
+}
+
+/// The refusal of modules of these files that break a rule of the linker.
+pub(crate) fn link_refusal(alloc: Global, names: &[String], fault: &LinkFault) -> Refusal
+    ensures line { IsRefused (λ reply. reply ≡ says status.Link (link_line (map string_bytes names.now) fault.now)) result }
+    ensures memory { fault.now ≡ LinkFault.NoMemory → result ≡ Refusal.NoMemory }
+{
+    match link_text(alloc, names, fault) {
+        Ok(text) => refusal_of(alloc, Cause::Link, b"link ", &text, b"\n"),
+        Err(NoMemory) => Refusal::NoMemory,
+    }
+}

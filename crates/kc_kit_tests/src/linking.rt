@@ -1,0 +1,195 @@
+// Linking as a command, over files and a sink in memory. The objects and the answers are those of an independent model.
+use crate::whole::{holds, words};
+use kc_base::{Files, MemFiles, MemSink, NoMemory};
+use kc_kit::{Status, kit};
+use kc_trace::TraceOut;
+use std::alloc::{AllocError, Global};
+use std::test::Fail;
+
+// One no operation at 2080H, in versions 1 and 2 of the format.
+const NOP_1: &str = "01080001064E4F4E414D4502060001018020010003050000000000FD7F0000";
+
+const NOP_2: &str =
+    "01080002064E4F4E414D4502060001018020010003050000000000FD07080000000000020000007F0000";
+
+// A jump to the external X; a no operation with the public A; one at 2100H; 229 bytes of registers; a short jump to the
+// external T; a no operation at 3000H with the public T; a stack of six bytes.
+const TAKES_X: &str =
+    "01080002064E4F4E414D4502060001000000030005030001580103070000000000E70000040A000000010004010000000007080000000000030000007F0000";
+
+const GIVES_A: &str =
+    "01080002064E4F4E414D4502060001000000010006060001410000000003050000000000FD07080000000000030000007F0000";
+
+const AT_2100: &str =
+    "01080002064E4F4E414D4502060001010021010003050000000000FD07080000000000020000007F0000";
+
+const REGISTERS: &str = "01080002064E4F4E414D4502060000000000E5007F0000";
+
+const TAKES_T: &str =
+    "01080002064E4F4E414D4502060001000000020005030001540103060000000000DF00040A000000010002010000000007080000000000030000007F0000";
+
+const GIVES_T: &str =
+    "01080002064E4F4E414D450206000101003001000606000154FFFF003003050000000000FD07080000000000030000007F0000";
+
+const STACK: &str = "01080002064E4F4E414D450206000300000006007F0000";
+
+const NOP_HEX: &str = ":10208000FDFFFFFFFFFFFFFFFFFFFFFFFFFFFFFF62\n:00000001FF\n";
+
+const EMPTY_HEX: &str = ":00000001FF\n";
+
+fn digit(c: u8) -> u8 {
+    if c <= b'9' {
+        c.wrapping_sub(b'0')
+    } else {
+        c.wrapping_sub(b'A').wrapping_add(10)
+    }
+}
+
+fn bytes_of(alloc: Global, digits: &str) -> Result<Vec<u8>, AllocError> {
+    let mut bytes = Vec::new(alloc);
+    let mut high = None;
+    for c in digits.as_bytes() {
+        match high {
+            None => high = Some(digit(*c)),
+            Some(first) => {
+                bytes.push((first & 15) * 16 + (digit(*c) & 15))?;
+                high = None;
+            }
+        }
+    }
+    Ok(bytes)
+}
+
+// The objects by one letter each.
+fn objects(alloc: Global, failing_writes: &[u64]) -> Result<MemFiles, NoMemory> {
+    let mut files = MemFiles::new(
+        alloc,
+        Vec::new(alloc),
+        Vec::from_slice(alloc, failing_writes)?,
+    );
+    for (name, digits) in [
+        ("1", NOP_1),
+        ("2", NOP_2),
+        ("x", TAKES_X),
+        ("a", GIVES_A),
+        ("b", GIVES_A),
+        ("c", AT_2100),
+        ("r", REGISTERS),
+        ("t", TAKES_T),
+        ("u", GIVES_T),
+        ("s", STACK),
+    ] {
+        let bytes = bytes_of(alloc, digits)?;
+        files.put(alloc, name, &bytes)?;
+    }
+    Ok(files)
+}
+
+/// Runs a command line over the objects, and tells whether its status, its text, and what the files `h` and `m` hold
+/// afterwards are these; `-` stands for no file.
+fn answers(
+    alloc: Global,
+    line: &str,
+    failing_writes: &[u64],
+    status: Status,
+    text: &str,
+    hex: &str,
+    map: &str,
+) -> Result<bool, NoMemory> {
+    let words = words(alloc, line)?;
+    let mut files = objects(alloc, failing_writes)?;
+    let mut out = TraceOut::new(MemSink::new(alloc, 4096, Vec::new(alloc))?);
+    let given = kit(alloc, &words, &mut files, &mut out);
+    Ok(
+        given == status
+            && out.sink().written() == text.as_bytes()
+            && holds(alloc, &mut files, "h", hex.as_bytes())
+            && holds(alloc, &mut files, "m", map.as_bytes()),
+    )
+}
+
+#[test]
+fn objects_are_linked(rt: HostRuntime) -> Result<(), Fail> {
+    let a = rt.alloc();
+    for (line, hex, map) in [
+        ("link 2 --out h", NOP_HEX, "-"),
+        ("link 2 --out h --lines m", NOP_HEX, "2080 NONAME 2\n"),
+        ("link 1 --lines m --out h", NOP_HEX, ""),
+        ("link r --out h --reg 1AH-1FFH", EMPTY_HEX, "-"),
+        ("link s --out h --stack 0", EMPTY_HEX, "-"),
+        (
+            "link a --out h --lines m --code 3000H-3FFFH",
+            ":10300000FDFFFFFFFFFFFFFFFFFFFFFFFFFFFFFFD2\n:00000001FF\n",
+            "3000 NONAME 3\n",
+        ),
+    ] {
+        assert!(rt;
+            answers(a, line, &[], Status::Done, "", hex, map)?,
+            "{line}"
+        );
+    }
+    Ok(())
+}
+
+#[test]
+fn broken_rules_are_told_and_nothing_is_written(rt: HostRuntime) -> Result<(), Fail> {
+    let a = rt.alloc();
+    for (line, status, text) in [
+        (
+            "link x --out h --lines m",
+            Status::Link,
+            "link unresolved X\n",
+        ),
+        ("link a b --out h", Status::Link, "link duplicate A\n"),
+        ("link c c --out h", Status::Link, "link overlap 2100\n"),
+        ("link r --out h", Status::Link, "link capacity reg r\n"),
+        ("link t u --out h", Status::Link, "link range t 0 1\n"),
+        (
+            "link s --out h --stack 8000",
+            Status::Link,
+            "link capacity stack -\n",
+        ),
+        ("link 1 z y --out h", Status::Missing, "missing z\n"),
+        ("link 1 --out h --lines h", Status::Usage, "usage\n"),
+    ] {
+        assert!(rt; answers(a, line, &[], status, text, "-", "-")?, "{line}");
+    }
+    Ok(())
+}
+
+#[test]
+fn all_files_are_read_before_one_is_judged(rt: HostRuntime) -> Result<(), Fail> {
+    let a = rt.alloc();
+    let whole = bytes_of(a, NOP_1)?;
+    for (line, length, text, status) in [
+        ("link f --out h", 0, "input f:0: O02\n", Status::Input),
+        ("link f --out h", 1, "input f:1: O02\n", Status::Input),
+        ("link f --out h", 21, "input f:21: O02\n", Status::Input),
+        ("link f --out h", 30, "input f:30: O02\n", Status::Input),
+        ("link f z --out h", 30, "missing z\n", Status::Missing),
+        ("link f f --out h", 30, "input f:30: O02\n", Status::Input),
+    ] {
+        let words = words(a, line)?;
+        let mut files = MemFiles::new(a, Vec::new(a), Vec::new(a));
+        let mut front = Vec::new(a);
+        for byte in whole.iter().take(length) {
+            front.push(*byte)?;
+        }
+        files.put(a, "f", &front)?;
+        let mut out = TraceOut::new(MemSink::new(a, 4096, Vec::new(a))?);
+        let given = kit(a, &words, &mut files, &mut out);
+        assert!(rt; given == status, "{line}");
+        assert!(rt; out.sink().written() == text.as_bytes(), "{line}");
+        assert!(rt; holds(a, &mut files, "h", b"-"), "{line}");
+    }
+    Ok(())
+}
+
+#[test]
+fn a_failing_write_prints_nothing(rt: HostRuntime) -> Result<(), Fail> {
+    let a = rt.alloc();
+    let line = "link 2 --out h --lines m";
+    assert!(rt; answers(a, line, &[1], Status::WriteFault, "", "-", "-")?);
+    assert!(rt; answers(a, line, &[2], Status::WriteFault, "", NOP_HEX, "-")?);
+    Ok(())
+}

@@ -1,0 +1,16 @@
+pub mod Words
+pub mod Meanings
+pub mod Formed
+pub mod Evens
+pub mod Spelled
+pub mod Decoding
+pub mod Placed
+pub mod Standing
+pub mod Statements
+pub mod Lengths
+pub mod Linking
+pub mod OneImage
+pub mod Row
+pub mod Alone
+pub mod Sited
+pub mod Passing

@@ -1,0 +1,4 @@
+pub mod Characters
+pub mod Saying
+pub mod Linked
+pub mod Worked

@@ -1,0 +1,16 @@
+//! The outline of a module: what of its statements tells where they stand, wherever that is.
+#![tactic(auto)]
+
+mod anchors;
+mod laws;
+mod note;
+mod notes;
+mod walk;
+
+pub use anchors::{opens, target};
+pub use laws::{outlines_are_numbered, outlines_have_lengths, outlines_stay};
+pub use note::{Anchor, Body, Note};
+pub use walk::outline;
+
+#[cfg(test)]
+mod tests;

@@ -1,0 +1,15 @@
+pub mod Lists
+pub mod Untold
+pub mod Faultless
+pub mod Taping
+pub mod Standing
+pub mod Going
+pub mod Walking
+pub mod Room
+pub mod Keeping
+pub mod Whole
+pub mod Settling
+pub mod Octets
+pub mod Naming
+pub mod Drafts
+pub mod Stood

@@ -1,0 +1,4 @@
+pub mod Drafting
+pub mod Writable
+pub mod Sound
+pub mod Stood

@@ -1,0 +1,4 @@
+pub mod Expressions
+pub mod Names
+pub mod Anchors
+pub mod Reached

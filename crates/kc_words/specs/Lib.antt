@@ -1,0 +1,5 @@
+pub mod Asked
+pub mod Filling
+pub mod Number
+pub mod Settings
+pub mod Words
