@@ -4,8 +4,8 @@ use Rattle.kc_base.specs.TextLines.{text_lines, with_first, begins_with}
 use Rattle.kc_lex.specs.declared.token.Token.{Token}
 use Rattle.kc_lex.specs.declared.token.Line.{Line}
 use Rattle.kc_lex.specs.Lines.{Answer, and_lines, line_tokens, lines_from, lines_of}
-use Rattle.kc_statement.specs.declared.statement.Stmt.{Stmt}
-use Rattle.kc_statement.specs.Operands.{is_nil}
+use Rattle.kc_source_statement.specs.declared.statement.Stmt.{Stmt}
+use Rattle.kc_source_statement.specs.Operands.{is_nil}
 use Rattle.kc_source.specs.Faults.{said, all_said, stmt_said, AreStatements}
 
 first_count : (c : ℕ) (ls : List (List ℕ)) → length (with_first c ls) ≤ length ls + 1

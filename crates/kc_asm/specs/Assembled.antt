@@ -8,16 +8,16 @@ use Rattle.kc_lex.specs.declared.fault.SourceFault.{SourceFault}
 use Rattle.kc_lex.specs.declared.fault.SourceFault.TheVariants as faults
 use Rattle.kc_lex.specs.Lines.{lines_of}
 use Rattle.kc_macro.specs.Expansion.{expanded}
-use Rattle.kc_statement.specs.declared.statement.Stmt.{Stmt}
+use Rattle.kc_source_statement.specs.declared.statement.Stmt.{Stmt}
 use Rattle.kc_source.specs.Faults as names
 use Rattle.kc_source.specs.Faults.{Fault, AreStatements}
 use Rattle.kc_obj.specs.Object.{Object}
-use Rattle.kc_piece.specs.declared.draft.Draft.{Draft}
-use Rattle.kc_module.specs.ModuleOf.{IsModuleOf, pieces_in}
-use Rattle.kc_judge.specs.declared.fault.Fault.{Fault as JudgeFault}
-use Rattle.kc_judge.specs.Judging.{first_fault}
-use Rattle.kc_sound.specs.Drafting.{IsDraftOf}
-use Rattle.kc_linked.specs.Characters.{has_bytes}
+use Rattle.kc_asm_piece.specs.declared.draft.Draft.{Draft}
+use Rattle.kc_asm_module.specs.ModuleOf.{IsModuleOf, pieces_in}
+use Rattle.kc_asm_check.specs.declared.fault.Fault.{Fault as JudgeFault}
+use Rattle.kc_asm_check.specs.Judging.{first_fault}
+use Rattle.kc_asm_draft_laws.specs.Drafting.{IsDraftOf}
+use Rattle.kc_link_source_laws.specs.Characters.{has_bytes}
 
 -- the text of a source with all that macros, repetitions and conditions stand for
 abbrev pub IsText : List ℕ → List Line → Type 0

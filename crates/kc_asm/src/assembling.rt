@@ -1,23 +1,23 @@
 ghost use Rattle.std.specs.Prelude.{◌≡◌, ◌≤◌, length, IfOk};
 ghost use Rattle.kc_obj.specs.Object.{Object};
-ghost use Rattle.kc_names.specs.Externals.{externals};
-ghost use Rattle.kc_judge.specs.Judging.{standing};
+ghost use Rattle.kc_asm_symbols.specs.Externals.{externals};
+ghost use Rattle.kc_asm_check.specs.Judging.{standing};
 ghost use Rattle.kc_asm.specs.Assembled as spec;
 
+use kc_asm_check::{Fault, judge};
+use kc_asm_draft::draft;
+use kc_asm_draft_laws::drafts_are_drafts;
+use kc_asm_layout::layout;
+use kc_asm_module::{module_of, piece_count};
+use kc_asm_outline::outline;
+use kc_asm_symbols::{externals, externals_are_few};
 use kc_base::NoMemory;
-use kc_draft::draft;
-use kc_judge::{Fault, judge};
-use kc_layout::layout;
 use kc_lex::{SourceFault, lines};
-use kc_linked::characters_are_bytes;
+use kc_link_source_laws::characters_are_bytes;
 use kc_macro::expand;
-use kc_module::{module_of, piece_count};
-use kc_names::{externals, externals_are_few};
 use kc_obj::Module;
-use kc_outline::outline;
-use kc_sound::drafts_are_drafts;
 use kc_source::statements;
-use kc_statement::Stmt;
+use kc_source_statement::Stmt;
 use std::alloc::Global;
 
 /// The most pieces that an object can number.

@@ -2,8 +2,8 @@
 use Rattle.std.specs.Prelude.{ℕ, ◌+◌, ◌*◌, ◌/◌, ◌%◌, ◌==◌, nat_lt, if◌then◌else◌, Result, Ok, Err}
 use Rattle.kc_base.specs.declared.types.Kind.{Kind}
 use Rattle.kc_base.specs.declared.types.Kind.TheVariants.{NoRegister, BadWindow}
-use Rattle.kc_effect.specs.declared.access.Masks.{Masks}
-use Rattle.kc_effect.specs.Window.{is_wsr}
+use Rattle.kc_exec_spec.specs.declared.access.Masks.{Masks}
+use Rattle.kc_exec_spec.specs.Window.{is_wsr}
 
 -- a byte read of a register
 abbrev pub register_of : Masks → ℕ → Result ℕ Kind

@@ -1,11 +1,11 @@
 ghost use Rattle.std.specs.Prelude.{◌≡◌, ℕ, ◌+◌, ◌≤◌, OnOk, OnErr, IsTrue, false, List};
-ghost use Rattle.kc_effect.specs.Access.{ReadByte, ReadWord, WriteByte, WriteWord, SetMasks, Accepts};
-ghost use Rattle.kc_effect.specs.Effect.{Meaning};
-ghost use Rattle.kc_effect.specs.Window.{is_wsr};
-ghost use Rattle.kc_effect.specs.Memory.{IsMemory, IsLawful, is_hole};
+ghost use Rattle.kc_exec_spec.specs.Access.{ReadByte, ReadWord, WriteByte, WriteWord, SetMasks, Accepts};
+ghost use Rattle.kc_exec_spec.specs.Effect.{Meaning};
+ghost use Rattle.kc_exec_spec.specs.Window.{is_wsr};
+ghost use Rattle.kc_exec_spec.specs.Memory.{IsMemory, IsLawful, is_hole};
 
 use kc_base::Kind;
-use kc_effect::{Masks, Master};
+use kc_exec_spec::{Masks, Master};
 
 /// The common memory. A refused access changes no register and no memory.
 pub trait Bus {

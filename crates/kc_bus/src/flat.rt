@@ -1,5 +1,5 @@
 ghost use Rattle.std.specs.Prelude.{◌≡◌, ◌+◌, ◌*◌, ◌<◌, ◌≤◌, ◌^◌, IsTrue, IfOk, vec_len, false};
-ghost use Rattle.kc_effect.specs.Window.{is_wsr};
+ghost use Rattle.kc_exec_spec.specs.Window.{is_wsr};
 ghost use Rattle.kc_bus.specs.Registers.{register_of, with_register, word_of, with_word};
 ghost use Rattle.kc_bus.specs.Blank.{blank_bytes};
 
@@ -7,7 +7,7 @@ use crate::bus::Bus;
 use crate::map::{is_fixed, is_outside};
 use crate::windows::is_known;
 use kc_base::{Kind, NoMemory};
-use kc_effect::{Masks, Master};
+use kc_exec_spec::{Masks, Master};
 use std::alloc::Global;
 
 /// A bus whose special function registers other than the three masks are all `NoRegister`.

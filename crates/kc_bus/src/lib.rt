@@ -8,6 +8,6 @@ mod windows;
 
 pub use bus::Bus;
 pub use flat::Flat;
-pub use kc_effect::{Masks, Master};
+pub use kc_exec_spec::{Masks, Master};
 pub use map::{is_fixed, is_outside};
 pub use windows::{is_known, window};

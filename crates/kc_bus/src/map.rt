@@ -1,5 +1,5 @@
 ghost use Rattle.std.specs.Prelude.{◌≡◌};
-ghost use Rattle.kc_effect.specs.Memory.{is_hole, is_rom};
+ghost use Rattle.kc_exec_spec.specs.Memory.{is_hole, is_rom};
 
 /// Whether an address is in the hole of the profile's memory map, 1FFEH and 1FFFH, where nothing answers.
 pub fn is_outside(addr: u16) -> bool

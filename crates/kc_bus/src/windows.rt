@@ -1,5 +1,5 @@
 ghost use Rattle.std.specs.Prelude.{◌≡◌, ◌<◌, ◌≤◌, ◌+◌, ◌*◌, OnOk, OnErr, IfOk, IsTrue, false};
-ghost use Rattle.kc_effect.specs.Window.{window_of, mapped, is_wsr};
+ghost use Rattle.kc_exec_spec.specs.Window.{window_of, mapped, is_wsr};
 
 use kc_base::Kind;
 

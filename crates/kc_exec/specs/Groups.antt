@@ -1,8 +1,8 @@
 -- The groups of kinds of work in which an instruction is looked for (this kit's own).
 use Rattle.std.specs.Prelude.{Bool, true, false}
-use Rattle.kc_effect.specs.declared.plan.Plan.{Plan}
-use Rattle.kc_effect.specs.declared.plan.Plan.TheVariants.{Compute, Move, Jump}
-use Rattle.kc_effect.specs.declared.plan.Computation.TheVariants.{Operate}
+use Rattle.kc_exec_spec.specs.declared.plan.Plan.{Plan}
+use Rattle.kc_exec_spec.specs.declared.plan.Plan.TheVariants.{Compute, Move, Jump}
+use Rattle.kc_exec_spec.specs.declared.plan.Computation.TheVariants.{Operate}
 
 abbrev pub is_operation : Plan → Bool
 is_operation (Compute (Operate op byte)) = true

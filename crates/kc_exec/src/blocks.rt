@@ -1,18 +1,18 @@
 ghost use Rattle.std.specs.Prelude.{◌≡◌, ◌+◌, ◌-◌, ◌*◌, ◌≤◌, ◌<◌, ◌^◌, IfOk, IsTrue};
 ghost use Rattle.kc_isa.specs.Formed.{is_formed};
-ghost use Rattle.kc_effect.specs.Effect.{Gives, run};
-ghost use Rattle.kc_effect.specs.BlockMoves.{set_up, after_words, cpu_after_words, less_one, write_pointers, write_count, move_one, moved_word, word_states_of, IsUnderWay, IsOfMove};
-ghost use Rattle.kc_effect.specs.Effects.{Performs};
+ghost use Rattle.kc_exec_spec.specs.Effect.{Gives, run};
+ghost use Rattle.kc_exec_spec.specs.BlockMoves.{set_up, after_words, cpu_after_words, less_one, write_pointers, write_count, move_one, moved_word, word_states_of, IsUnderWay, IsOfMove};
+ghost use Rattle.kc_exec_spec.specs.Effects.{Performs};
 
 use crate::jumping::following;
-use kc_access::{read_at, read_long, read_register, write_at, write_long, write_register};
 use kc_base::Kind;
 use kc_bus::Bus;
-use kc_effect::{After, Cpu, Words};
+use kc_exec_operands::{read_at, read_long, read_register, write_at, write_long, write_register};
+use kc_exec_spec::{After, Cpu, Words};
 use kc_isa::Insn;
 
 /// Reads the pointers and the count of a block move.
-#[tactic(auto, using(kc_effect::proofs::Running::run_bind), unfolding(kc_effect::specs::BlockMoves::set_up))]
+#[tactic(auto, using(kc_exec_spec::proofs::Running::run_bind), unfolding(kc_exec_spec::specs::BlockMoves::set_up))]
 pub(crate) fn start_words<B: Bus>(
     bus: &mut B,
     interruptible: bool,
@@ -81,7 +81,7 @@ fn joined(low: u16, high: u16) -> u32
     u32::from(low) + 0x1_0000 * u32::from(high)
 }
 
-#[tactic(auto, using(kc_effect::proofs::Running::run_bind), unfolding(kc_effect::specs::BlockMoves::write_pointers))]
+#[tactic(auto, using(kc_exec_spec::proofs::Running::run_bind), unfolding(kc_exec_spec::specs::BlockMoves::write_pointers))]
 fn put_pointers<B: Bus>(bus: &mut B, wsr: u8, insn: &Insn, words: Words) -> Result<(), Kind>
     ensures gives { Gives (λ x. x) result (B.held bus.new) (run B.meaning (write_pointers wsr insn.now words) (B.held bus.old)) }
     ensures spent { B.spent bus.new + B.allowed (B.held bus.old) ≤ B.spent bus.old + B.allowed (B.held bus.new) }
@@ -94,7 +94,7 @@ fn put_pointers<B: Bus>(bus: &mut B, wsr: u8, insn: &Insn, words: Words) -> Resu
     }
 }
 
-#[tactic(auto, using(kc_effect::proofs::Running::run_bind), unfolding(kc_effect::specs::BlockMoves::write_count))]
+#[tactic(auto, using(kc_exec_spec::proofs::Running::run_bind), unfolding(kc_exec_spec::specs::BlockMoves::write_count))]
 fn put_count<B: Bus>(bus: &mut B, wsr: u8, insn: &Insn, words: Words) -> Result<(), Kind>
     ensures gives { Gives (λ x. x) result (B.held bus.new) (run B.meaning (write_count wsr insn.now words) (B.held bus.old)) }
     ensures spent { B.spent bus.new + B.allowed (B.held bus.old) ≤ B.spent bus.old + B.allowed (B.held bus.new) }
@@ -111,7 +111,7 @@ fn put_count<B: Bus>(bus: &mut B, wsr: u8, insn: &Insn, words: Words) -> Result<
     write_register(bus, false, wsr, insn.regs[0], shown)
 }
 
-#[tactic(auto, using(kc_effect::proofs::Running::run_bind), unfolding(kc_effect::specs::BlockMoves::move_one))]
+#[tactic(auto, using(kc_exec_spec::proofs::Running::run_bind), unfolding(kc_exec_spec::specs::BlockMoves::move_one))]
 fn do_word<B: Bus>(bus: &mut B, wsr: u8, insn: &Insn, words: Words) -> Result<(), Kind>
     requires { 0 < words.left }
     ensures gives { Gives (λ x. x) result (B.held bus.new) (run B.meaning (move_one wsr insn.now words) (B.held bus.old)) }
@@ -127,7 +127,7 @@ fn do_word<B: Bus>(bus: &mut B, wsr: u8, insn: &Insn, words: Words) -> Result<()
 
 /// Moves one word of the block move at `cpu.pc`. After a refusal the bus is as after the accesses before the refused
 /// one, and the registers are as before (80C196KC User's Manual, "Instruction Set").
-#[tactic(auto, using(kc_effect::proofs::Running::run_bind), unfolding(kc_effect::specs::BlockMoves::moved_word))]
+#[tactic(auto, using(kc_exec_spec::proofs::Running::run_bind), unfolding(kc_exec_spec::specs::BlockMoves::moved_word))]
 pub fn move_word<B: Bus>(
     insn: &Insn,
     words: Words,

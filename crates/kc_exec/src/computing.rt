@@ -1,18 +1,18 @@
 ghost use Rattle.std.specs.Prelude.{◌≡◌, ◌+◌, ◌≤◌, ◌<◌, IfOk};
-ghost use Rattle.kc_effect.specs.Effect.{Gives, run};
-ghost use Rattle.kc_effect.specs.Parts.{limit};
-ghost use Rattle.kc_effect.specs.Operations.{writes_result, reads_register};
-ghost use Rattle.kc_effect.specs.Computing.{has_a, destination, operate, read_altered, alter, extend, shift_count, shift, normalize, factor, multiply, divide, compare_long, compute};
+ghost use Rattle.kc_exec_spec.specs.Effect.{Gives, run};
+ghost use Rattle.kc_exec_spec.specs.Parts.{limit};
+ghost use Rattle.kc_exec_spec.specs.Operations.{writes_result, reads_register};
+ghost use Rattle.kc_exec_spec.specs.Computing.{has_a, destination, operate, read_altered, alter, extend, shift_count, shift, normalize, factor, multiply, divide, compare_long, compute};
 
-use kc_access::{
+use kc_alu::{Shift, normalize};
+use kc_base::Kind;
+use kc_bus::Bus;
+use kc_exec_operands::{
     change, combine, compare_longs, double_of, pack, read_long, read_low_half, read_register,
     read_sized, read_source, share, shift_number, spread_low, times, unpack, write_long,
     write_register, write_sized,
 };
-use kc_alu::{Shift, normalize};
-use kc_base::Kind;
-use kc_bus::Bus;
-use kc_effect::{Alteration, Computation, Operation, Size};
+use kc_exec_spec::{Alteration, Computation, Operation, Size};
 use kc_isa::{Insn, Operand};
 
 fn is_with_a(insn: &Insn) -> bool
@@ -37,7 +37,7 @@ fn is_kept(op: Operation) -> bool
     !matches!(op, Operation::Compare)
 }
 
-#[tactic(auto, using(kc_effect::proofs::Running::run_bind), unfolding(kc_effect::specs::Computing::operate))]
+#[tactic(auto, using(kc_exec_spec::proofs::Running::run_bind), unfolding(kc_exec_spec::specs::Computing::operate))]
 fn do_operate<B: Bus>(
     bus: &mut B,
     op: Operation,
@@ -65,7 +65,7 @@ fn is_read(how: Alteration) -> bool
     !matches!(how, Alteration::Clear)
 }
 
-#[tactic(auto, using(kc_effect::proofs::Running::run_bind), unfolding(kc_effect::specs::Computing::read_altered))]
+#[tactic(auto, using(kc_exec_spec::proofs::Running::run_bind), unfolding(kc_exec_spec::specs::Computing::read_altered))]
 fn read_changed<B: Bus>(
     bus: &mut B,
     how: Alteration,
@@ -85,7 +85,7 @@ fn read_changed<B: Bus>(
     }
 }
 
-#[tactic(auto, using(kc_effect::proofs::Running::run_bind), unfolding(kc_effect::specs::Computing::alter))]
+#[tactic(auto, using(kc_exec_spec::proofs::Running::run_bind), unfolding(kc_exec_spec::specs::Computing::alter))]
 fn do_alter<B: Bus>(
     bus: &mut B,
     how: Alteration,
@@ -104,7 +104,7 @@ fn do_alter<B: Bus>(
     Ok(pack(psw, flags))
 }
 
-#[tactic(auto, using(kc_effect::proofs::Running::run_bind), unfolding(kc_effect::specs::Computing::extend))]
+#[tactic(auto, using(kc_exec_spec::proofs::Running::run_bind), unfolding(kc_exec_spec::specs::Computing::extend))]
 fn do_extend<B: Bus>(bus: &mut B, byte: bool, wsr: u8, d: u8, psw: u8) -> Result<u8, Kind>
     ensures gives { Gives (λ x. x) result (B.held bus.new) (run B.meaning (extend byte wsr d psw) (B.held bus.old)) }
     ensures spent { B.spent bus.new + B.allowed (B.held bus.old) ≤ B.spent bus.old + B.allowed (B.held bus.new) }
@@ -116,7 +116,7 @@ fn do_extend<B: Bus>(bus: &mut B, byte: bool, wsr: u8, d: u8, psw: u8) -> Result
     Ok(pack(psw, flags))
 }
 
-#[tactic(auto, using(kc_effect::proofs::Running::run_bind), unfolding(kc_effect::specs::Computing::shift_count))]
+#[tactic(auto, using(kc_exec_spec::proofs::Running::run_bind), unfolding(kc_exec_spec::specs::Computing::shift_count))]
 fn read_count<B: Bus>(bus: &mut B, wsr: u8, operand: Operand) -> Result<u8, Kind>
     ensures gives { Gives (λ x. x) result (B.held bus.new) (run B.meaning (shift_count wsr operand) (B.held bus.old)) }
     ensures spent { B.spent bus.new + B.allowed (B.held bus.old) ≤ B.spent bus.old + B.allowed (B.held bus.new) }
@@ -130,7 +130,7 @@ fn read_count<B: Bus>(bus: &mut B, wsr: u8, operand: Operand) -> Result<u8, Kind
     }
 }
 
-#[tactic(auto, using(kc_effect::proofs::Running::run_bind), unfolding(kc_effect::specs::Computing::shift))]
+#[tactic(auto, using(kc_exec_spec::proofs::Running::run_bind), unfolding(kc_exec_spec::specs::Computing::shift))]
 fn do_shift<B: Bus>(
     bus: &mut B,
     how: Shift,
@@ -150,7 +150,7 @@ fn do_shift<B: Bus>(
     Ok(pack(psw, flags))
 }
 
-#[tactic(auto, using(kc_effect::proofs::Running::run_bind), unfolding(kc_effect::specs::Computing::normalize))]
+#[tactic(auto, using(kc_exec_spec::proofs::Running::run_bind), unfolding(kc_exec_spec::specs::Computing::normalize))]
 fn do_normalize<B: Bus>(bus: &mut B, wsr: u8, insn: &Insn, psw: u8) -> Result<u8, Kind>
     ensures gives { Gives (λ x. x) result (B.held bus.new) (run B.meaning (normalize wsr insn.now psw) (B.held bus.old)) }
     ensures spent { B.spent bus.new + B.allowed (B.held bus.old) ≤ B.spent bus.old + B.allowed (B.held bus.new) }
@@ -163,7 +163,7 @@ fn do_normalize<B: Bus>(bus: &mut B, wsr: u8, insn: &Insn, psw: u8) -> Result<u8
     Ok(pack(psw, flags))
 }
 
-#[tactic(auto, using(kc_effect::proofs::Running::run_bind), unfolding(kc_effect::specs::Computing::factor))]
+#[tactic(auto, using(kc_exec_spec::proofs::Running::run_bind), unfolding(kc_exec_spec::specs::Computing::factor))]
 fn read_factor<B: Bus>(bus: &mut B, byte: bool, wsr: u8, insn: &Insn) -> Result<u16, Kind>
     ensures gives { Gives (λ x. x) result (B.held bus.new) (run B.meaning (factor byte wsr insn.now) (B.held bus.old)) }
     ensures spent { B.spent bus.new + B.allowed (B.held bus.old) ≤ B.spent bus.old + B.allowed (B.held bus.new) }
@@ -177,7 +177,7 @@ fn read_factor<B: Bus>(bus: &mut B, byte: bool, wsr: u8, insn: &Insn) -> Result<
     }
 }
 
-#[tactic(auto, using(kc_effect::proofs::Running::run_bind), unfolding(kc_effect::specs::Computing::multiply))]
+#[tactic(auto, using(kc_exec_spec::proofs::Running::run_bind), unfolding(kc_exec_spec::specs::Computing::multiply))]
 fn do_multiply<B: Bus>(
     bus: &mut B,
     with_sign: bool,
@@ -195,7 +195,7 @@ fn do_multiply<B: Bus>(
     write_sized(bus, double_of(byte), wsr, last_register(insn), value)
 }
 
-#[tactic(auto, using(kc_effect::proofs::Running::run_bind), unfolding(kc_effect::specs::Computing::divide))]
+#[tactic(auto, using(kc_exec_spec::proofs::Running::run_bind), unfolding(kc_exec_spec::specs::Computing::divide))]
 fn do_divide<B: Bus>(
     bus: &mut B,
     with_sign: bool,
@@ -215,7 +215,7 @@ fn do_divide<B: Bus>(
     Ok(pack(psw, flags))
 }
 
-#[tactic(auto, using(kc_effect::proofs::Running::run_bind), unfolding(kc_effect::specs::Computing::compare_long))]
+#[tactic(auto, using(kc_exec_spec::proofs::Running::run_bind), unfolding(kc_exec_spec::specs::Computing::compare_long))]
 fn do_compare_long<B: Bus>(bus: &mut B, wsr: u8, insn: &Insn, psw: u8) -> Result<u8, Kind>
     ensures gives { Gives (λ x. x) result (B.held bus.new) (run B.meaning (compare_long wsr insn.now psw) (B.held bus.old)) }
     ensures spent { B.spent bus.new + B.allowed (B.held bus.old) ≤ B.spent bus.old + B.allowed (B.held bus.new) }
@@ -227,7 +227,7 @@ fn do_compare_long<B: Bus>(bus: &mut B, wsr: u8, insn: &Insn, psw: u8) -> Result
 }
 
 /// Does the work of an instruction that computes; gives the new high byte of the PSW.
-#[tactic(auto, using(kc_effect::proofs::Running::run_bind), unfolding(kc_effect::specs::Computing::compute))]
+#[tactic(auto, using(kc_exec_spec::proofs::Running::run_bind), unfolding(kc_exec_spec::specs::Computing::compute))]
 pub(crate) fn do_compute<B: Bus>(
     bus: &mut B,
     how: Computation,

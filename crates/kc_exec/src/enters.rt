@@ -1,13 +1,13 @@
 ghost use Rattle.std.specs.Prelude.{◌≡◌, ◌+◌, ◌≤◌};
-ghost use Rattle.kc_effect.specs.Effect.{Gives, run};
-ghost use Rattle.kc_effect.specs.Entering.{entry, trap, opcode_trap, Loads};
+ghost use Rattle.kc_exec_spec.specs.Effect.{Gives, run};
+ghost use Rattle.kc_exec_spec.specs.Entering.{entry, trap, opcode_trap, Loads};
 
-use kc_access::{push_word, read_at};
 use kc_base::Kind;
 use kc_bus::Bus;
-use kc_effect::Cpu;
+use kc_exec_operands::{push_word, read_at};
+use kc_exec_spec::Cpu;
 
-#[tactic(auto, using(kc_effect::proofs::Running::run_bind), unfolding(kc_effect::specs::Entering::entry))]
+#[tactic(auto, using(kc_exec_spec::proofs::Running::run_bind), unfolding(kc_exec_spec::specs::Entering::entry))]
 fn enter_at<B: Bus>(bus: &mut B, vector: u16, back: u16) -> Result<u16, Kind>
     ensures gives { Gives (λ x. x) result (B.held bus.new) (run B.meaning (entry vector back) (B.held bus.old)) }
     ensures spent { B.spent bus.new + B.allowed (B.held bus.old) ≤ B.spent bus.old + B.allowed (B.held bus.new) }
@@ -19,7 +19,7 @@ fn enter_at<B: Bus>(bus: &mut B, vector: u16, back: u16) -> Result<u16, Kind>
 }
 
 /// Pushes a return address; gives the word at a vector.
-#[tactic(auto, using(kc_effect::proofs::Running::run_bind), unfolding(kc_effect::specs::Entering::trap))]
+#[tactic(auto, using(kc_exec_spec::proofs::Running::run_bind), unfolding(kc_exec_spec::specs::Entering::trap))]
 pub(crate) fn trap_at<B: Bus>(bus: &mut B, vector: u16, back: u16) -> Result<u16, Kind>
     ensures gives { Gives (λ x. x) result (B.held bus.new) (run B.meaning (trap vector back) (B.held bus.old)) }
     ensures spent { B.spent bus.new + B.allowed (B.held bus.old) ≤ B.spent bus.old + B.allowed (B.held bus.new) }

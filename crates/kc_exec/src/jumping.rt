@@ -1,16 +1,18 @@
 ghost use Rattle.std.specs.Prelude.{◌≡◌, ◌+◌, ◌-◌, ◌*◌, ◌%◌, ◌^◌, ◌≤◌, ◌<◌, IsTrue, bit_and};
 ghost use Rattle.kc_isa.specs.Formed.{is_formed};
-ghost use Rattle.kc_effect.specs.Effect.{Gives, run};
-ghost use Rattle.kc_effect.specs.Status.{has};
-ghost use Rattle.kc_effect.specs.Parts.{limit};
-ghost use Rattle.kc_effect.specs.Operands.{at_offset};
-ghost use Rattle.kc_effect.specs.Jumping.{next_pc, jump_pc, branch_pc, distance, holds, is_taken, bit_jump, count_down, table_target, goes, psw_after};
+ghost use Rattle.kc_exec_spec.specs.Effect.{Gives, run};
+ghost use Rattle.kc_exec_spec.specs.Status.{has};
+ghost use Rattle.kc_exec_spec.specs.Parts.{limit};
+ghost use Rattle.kc_exec_spec.specs.Operands.{at_offset};
+ghost use Rattle.kc_exec_spec.specs.Jumping.{next_pc, jump_pc, branch_pc, distance, holds, is_taken, bit_jump, count_down, table_target, goes, psw_after};
 
-use kc_access::{pop_word, push_word, read_at, read_register, set_bit, unpack, write_register};
 use kc_alu::Flags;
 use kc_base::Kind;
 use kc_bus::Bus;
-use kc_effect::{Cpu, Route, Setting, Test};
+use kc_exec_operands::{
+    pop_word, push_word, read_at, read_register, set_bit, unpack, write_register,
+};
+use kc_exec_spec::{Cpu, Route, Setting, Test};
 use kc_isa::{Insn, Operand, length};
 
 /// The address after the instruction.
@@ -73,7 +75,7 @@ fn is_bit(number: u8, n: u16) -> bool
     (n >> number) % 2 == 1
 }
 
-#[tactic(auto, using(kc_effect::proofs::Running::run_bind), unfolding(kc_effect::specs::Jumping::bit_jump))]
+#[tactic(auto, using(kc_exec_spec::proofs::Running::run_bind), unfolding(kc_exec_spec::specs::Jumping::bit_jump))]
 fn is_bit_jump<B: Bus>(
     bus: &mut B,
     set: bool,
@@ -104,7 +106,7 @@ fn less_one(byte: bool, n: u16) -> u16
     }
 }
 
-#[tactic(auto, using(kc_effect::proofs::Running::run_bind), unfolding(kc_effect::specs::Jumping::count_down))]
+#[tactic(auto, using(kc_exec_spec::proofs::Running::run_bind), unfolding(kc_exec_spec::specs::Jumping::count_down))]
 fn is_counted<B: Bus>(bus: &mut B, byte: bool, wsr: u8, register: u8) -> Result<bool, Kind>
     ensures gives { Gives (λ x. x) result (B.held bus.new) (run B.meaning (count_down byte wsr register) (B.held bus.old)) }
     ensures spent { B.spent bus.new + B.allowed (B.held bus.old) ≤ B.spent bus.old + B.allowed (B.held bus.new) }
@@ -122,7 +124,7 @@ fn table_place(table: u16, index: u8, mask: u8) -> u16
     table.wrapping_add(2 * u16::from(index & mask))
 }
 
-#[tactic(auto, using(kc_effect::proofs::Running::run_bind), unfolding(kc_effect::specs::Jumping::table_target))]
+#[tactic(auto, using(kc_exec_spec::proofs::Running::run_bind), unfolding(kc_exec_spec::specs::Jumping::table_target))]
 fn read_table<B: Bus>(bus: &mut B, wsr: u8, insn: &Insn) -> Result<u16, Kind>
     ensures gives { Gives (λ x. x) result (B.held bus.new) (run B.meaning (table_target wsr insn.now) (B.held bus.old)) }
     ensures spent { B.spent bus.new + B.allowed (B.held bus.old) ≤ B.spent bus.old + B.allowed (B.held bus.new) }
@@ -135,7 +137,7 @@ fn read_table<B: Bus>(bus: &mut B, wsr: u8, insn: &Insn) -> Result<u16, Kind>
 }
 
 /// Does the work of a jump; gives the address at which the program goes on.
-#[tactic(auto, using(kc_effect::proofs::Running::run_bind), unfolding(kc_effect::specs::Jumping::goes))]
+#[tactic(auto, using(kc_exec_spec::proofs::Running::run_bind), unfolding(kc_exec_spec::specs::Jumping::goes))]
 pub(crate) fn do_jump<B: Bus>(
     bus: &mut B,
     route: Route,

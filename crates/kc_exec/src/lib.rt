@@ -14,6 +14,6 @@ mod saving;
 
 pub use blocks::{move_word, word_states};
 pub use enters::{enter, trap_opcode};
-pub use kc_effect::{After, Cpu, Words};
+pub use kc_exec_spec::{After, Cpu, Words};
 pub use places::place;
 pub use runs::perform;

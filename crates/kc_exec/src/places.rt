@@ -1,16 +1,16 @@
 ghost use Rattle.std.specs.Prelude.{◌≡◌, ◌+◌, ◌*◌, ◌%◌, ◌≤◌, ◌<◌, ◌^◌, IfOk, IfErr, IsTrue, false};
 ghost use Rattle.kc_base.specs.declared.types.Kind.TheVariants.{NoRegister as NotThere};
 ghost use Rattle.kc_isa.specs.Formed.{is_formed};
-ghost use Rattle.kc_effect.specs.Window.{is_wsr};
+ghost use Rattle.kc_exec_spec.specs.Window.{is_wsr};
 ghost use Rattle.kc_alu.specs.Shifts.{normal_shifts};
-ghost use Rattle.kc_effect.specs.Places.{word_seen, long_seen, or_register, is_outside_at, operand_outside, is_push, is_pop, is_pop_target, stack_outside, count_seen, normal_seen, shifts_seen, jump_taken, planned_place, place_of};
+ghost use Rattle.kc_exec_spec.specs.Places.{word_seen, long_seen, or_register, is_outside_at, operand_outside, is_push, is_pop, is_pop_target, stack_outside, count_seen, normal_seen, shifts_seen, jump_taken, planned_place, place_of};
 
 use crate::jumping::is_met;
 use crate::plan::make_plan;
 use kc_alu::{Flags, normalize};
 use kc_base::Kind;
 use kc_bus::{Bus, window};
-use kc_effect::{Computation, Cpu, Movement, Plan, Route, Saving};
+use kc_exec_spec::{Computation, Cpu, Movement, Plan, Route, Saving};
 use kc_isa::{Insn, Operand, Place, mnemonic_of};
 
 const OUTSIDE: u16 = 0x200;
@@ -57,7 +57,7 @@ fn count_at<B: Bus>(bus: &B, addr: u16) -> Result<u8, Kind>
     }
 }
 
-#[tactic(auto, unfolding(kc_effect::specs::Places::is_outside_at))]
+#[tactic(auto, unfolding(kc_exec_spec::specs::Places::is_outside_at))]
 fn is_pointed_outside<B: Bus>(
     bus: &B,
     pops: bool,
@@ -75,7 +75,7 @@ fn is_pointed_outside<B: Bus>(
     Ok(pointer.wrapping_add(offset).wrapping_add(popped) >= OUTSIDE)
 }
 
-#[tactic(auto, unfolding(kc_effect::specs::Places::operand_outside))]
+#[tactic(auto, unfolding(kc_exec_spec::specs::Places::operand_outside))]
 fn is_operand_outside<B: Bus>(bus: &B, pops: bool, wsr: u8, operand: Operand) -> Result<bool, Kind>
     requires { IsTrue (is_wsr wsr) }
     ensures value { result ≡ operand_outside pops wsr (B.byte (B.held bus.now)) operand }
@@ -124,7 +124,7 @@ fn is_stack_outside(plan: Plan, sp: u16) -> bool
     (is_pushing(plan) && sp.wrapping_sub(2) >= OUTSIDE) || (is_popping(plan) && sp >= OUTSIDE)
 }
 
-#[tactic(auto, unfolding(kc_effect::specs::Places::count_seen))]
+#[tactic(auto, unfolding(kc_exec_spec::specs::Places::count_seen))]
 fn shift_count<B: Bus>(bus: &B, wsr: u8, operand: Operand) -> Result<u8, Kind>
     requires { IsTrue (is_wsr wsr) }
     ensures value { result ≡ count_seen wsr (B.byte (B.held bus.now)) operand }
@@ -157,7 +157,7 @@ fn shifts_of(n: u32) -> u8
     normalize(n, none).1
 }
 
-#[tactic(auto, unfolding(kc_effect::specs::Places::normal_seen))]
+#[tactic(auto, unfolding(kc_exec_spec::specs::Places::normal_seen))]
 fn normal_count<B: Bus>(bus: &B, wsr: u8, register: u8) -> Result<u8, Kind>
     requires { IsTrue (is_wsr wsr) }
     ensures value { result ≡ normal_seen wsr (B.byte (B.held bus.now)) register }
@@ -201,7 +201,7 @@ fn is_pop_instruction(plan: Plan) -> bool
     matches!(plan, Plan::Move(Movement::Pop))
 }
 
-#[tactic(auto, unfolding(kc_effect::specs::Places::planned_place))]
+#[tactic(auto, unfolding(kc_exec_spec::specs::Places::planned_place))]
 fn place_by<B: Bus>(bus: &B, plan: Plan, insn: &Insn, psw: u8, wsr: u8) -> Result<Place, Kind>
     requires { IsTrue (is_wsr wsr) }
     ensures value { result ≡ planned_place plan insn.now psw wsr (B.byte (B.held bus.now)) }
@@ -222,7 +222,7 @@ fn place_by<B: Bus>(bus: &B, plan: Plan, insn: &Insn, psw: u8, wsr: u8) -> Resul
 /// register file, how many shifts will be made, and whether a jump is taken. It has no effect. Refused as `NoRegister`
 /// where a pointer, base or count register that is needed stands at 0002H to 0017H, or NORML's long register below
 /// 0018H, each in the window that stands.
-#[tactic(auto, unfolding(kc_effect::specs::Places::place_of))]
+#[tactic(auto, unfolding(kc_exec_spec::specs::Places::place_of))]
 pub fn place<B: Bus>(insn: &Insn, cpu: &Cpu, bus: &B) -> Result<Place, Kind>
     requires { IsTrue (is_formed insn.now) }
     ensures value { result ≡ place_of insn.now cpu.now (B.meaning.masks (B.held bus.now)) (B.byte (B.held bus.now)) }

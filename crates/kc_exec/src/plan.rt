@@ -1,9 +1,9 @@
 ghost use Rattle.std.specs.Prelude.{◌≡◌, IfSome, IfNone, false};
-ghost use Rattle.kc_effect.specs.Plans.{plan_of};
+ghost use Rattle.kc_exec_spec.specs.Plans.{plan_of};
 ghost use Rattle.kc_exec.specs.Groups.{is_operation, is_other_computation, is_movement, is_route};
 
 use kc_alu::Shift;
-use kc_effect::{
+use kc_exec_spec::{
     Alteration, Computation, Movement, Operation, Plan, Route, Saving, Setting, Size, Test,
 };
 use kc_isa::Mnemonic;

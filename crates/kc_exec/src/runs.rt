@@ -1,9 +1,9 @@
 ghost use Rattle.std.specs.Prelude.{◌≡◌, ◌+◌, ◌≤◌, ◌<◌, IsTrue, IfOk};
-ghost use Rattle.kc_effect.specs.Effect.{Gives, run};
+ghost use Rattle.kc_exec_spec.specs.Effect.{Gives, run};
 ghost use Rattle.kc_isa.specs.Formed.{is_formed};
-ghost use Rattle.kc_effect.specs.Settings.{idle_after};
-ghost use Rattle.kc_effect.specs.BlockMoves.{IsOfMove, IsOfPlan};
-ghost use Rattle.kc_effect.specs.Effects.{planned, effect_of, Performs};
+ghost use Rattle.kc_exec_spec.specs.Settings.{idle_after};
+ghost use Rattle.kc_exec_spec.specs.BlockMoves.{IsOfMove, IsOfPlan};
+ghost use Rattle.kc_exec_spec.specs.Effects.{planned, effect_of, Performs};
 
 use crate::blocks::{cpu_behind, follow_words, start_words};
 use crate::computing::do_compute;
@@ -12,10 +12,10 @@ use crate::jumping::{do_jump, following, psw_behind};
 use crate::moving::do_move;
 use crate::plan::make_plan;
 use crate::saving::do_save;
-use kc_access::{follow, set_bit};
 use kc_base::Kind;
 use kc_bus::Bus;
-use kc_effect::{After, Cpu, Plan};
+use kc_exec_operands::{follow, set_bit};
+use kc_exec_spec::{After, Cpu, Plan};
 use kc_isa::{Insn, Operand, mnemonic_of};
 
 fn idle(key: Operand) -> Result<After, Kind>
@@ -28,7 +28,7 @@ fn idle(key: Operand) -> Result<After, Kind>
     }
 }
 
-#[tactic(auto, using(kc_effect::proofs::Running::run_bind), unfolding(kc_effect::specs::Effects::planned))]
+#[tactic(auto, using(kc_exec_spec::proofs::Running::run_bind), unfolding(kc_exec_spec::specs::Effects::planned))]
 fn work<B: Bus>(
     plan: Plan,
     insn: &Insn,
@@ -69,7 +69,7 @@ fn work<B: Bus>(
 
 /// Performs the instruction at `cpu.pc`. After a refusal the bus is as after the accesses before the
 /// refused one, and the registers are as before.
-#[tactic(auto, using(kc_effect::proofs::Running::run_bind), unfolding(kc_effect::specs::Effects::effect_of))]
+#[tactic(auto, using(kc_exec_spec::proofs::Running::run_bind), unfolding(kc_exec_spec::specs::Effects::effect_of))]
 pub fn perform<B: Bus>(insn: &Insn, cpu: &mut Cpu, bus: &mut B) -> Result<After, Kind>
     requires { IsTrue (is_formed insn.now) }
     ensures effect { Performs result cpu.old cpu.new (B.held bus.new) (run B.meaning (effect_of insn.now cpu.old) (B.held bus.old)) }

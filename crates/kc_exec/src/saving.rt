@@ -1,13 +1,13 @@
 ghost use Rattle.std.specs.Prelude.{◌≡◌, ◌+◌, ◌≤◌};
-ghost use Rattle.kc_effect.specs.Effect.{Gives, run};
-ghost use Rattle.kc_effect.specs.Saving.{push_status, pop_status, push_masks, pop_masks, push_all, pop_all, save};
+ghost use Rattle.kc_exec_spec.specs.Effect.{Gives, run};
+ghost use Rattle.kc_exec_spec.specs.Saving.{push_status, pop_status, push_masks, pop_masks, push_all, pop_all, save};
 
-use kc_access::{pop_word, push_word};
 use kc_base::Kind;
 use kc_bus::{Bus, Masks};
-use kc_effect::Saving;
+use kc_exec_operands::{pop_word, push_word};
+use kc_exec_spec::Saving;
 
-#[tactic(auto, using(kc_effect::proofs::Running::run_bind), unfolding(kc_effect::specs::Saving::push_status))]
+#[tactic(auto, using(kc_exec_spec::proofs::Running::run_bind), unfolding(kc_exec_spec::specs::Saving::push_status))]
 fn do_push_status<B: Bus>(bus: &mut B, psw: u8) -> Result<(), Kind>
     ensures gives { Gives (λ x. x) result (B.held bus.new) (run B.meaning (push_status psw) (B.held bus.old)) }
     ensures spent { B.spent bus.new + B.allowed (B.held bus.old) ≤ B.spent bus.old + B.allowed (B.held bus.new) }
@@ -23,7 +23,7 @@ fn do_push_status<B: Bus>(bus: &mut B, psw: u8) -> Result<(), Kind>
     })
 }
 
-#[tactic(auto, using(kc_effect::proofs::Running::run_bind), unfolding(kc_effect::specs::Saving::pop_status))]
+#[tactic(auto, using(kc_exec_spec::proofs::Running::run_bind), unfolding(kc_exec_spec::specs::Saving::pop_status))]
 fn do_pop_status<B: Bus>(bus: &mut B) -> Result<u8, Kind>
     ensures gives { Gives (λ x. x) result (B.held bus.new) (run B.meaning (pop_status) (B.held bus.old)) }
     ensures spent { B.spent bus.new + B.allowed (B.held bus.old) ≤ B.spent bus.old + B.allowed (B.held bus.new) }
@@ -39,7 +39,7 @@ fn do_pop_status<B: Bus>(bus: &mut B) -> Result<u8, Kind>
     Ok((n / 0x100) as u8)
 }
 
-#[tactic(auto, using(kc_effect::proofs::Running::run_bind), unfolding(kc_effect::specs::Saving::push_masks))]
+#[tactic(auto, using(kc_exec_spec::proofs::Running::run_bind), unfolding(kc_exec_spec::specs::Saving::push_masks))]
 fn do_push_masks<B: Bus>(bus: &mut B) -> Result<(), Kind>
     ensures gives { Gives (λ x. x) result (B.held bus.new) (run B.meaning (push_masks) (B.held bus.old)) }
     ensures spent { B.spent bus.new + B.allowed (B.held bus.old) ≤ B.spent bus.old + B.allowed (B.held bus.new) }
@@ -58,7 +58,7 @@ fn do_push_masks<B: Bus>(bus: &mut B) -> Result<(), Kind>
     })
 }
 
-#[tactic(auto, using(kc_effect::proofs::Running::run_bind), unfolding(kc_effect::specs::Saving::pop_masks))]
+#[tactic(auto, using(kc_exec_spec::proofs::Running::run_bind), unfolding(kc_exec_spec::specs::Saving::pop_masks))]
 fn do_pop_masks<B: Bus>(bus: &mut B) -> Result<(), Kind>
     ensures gives { Gives (λ x. x) result (B.held bus.new) (run B.meaning (pop_masks) (B.held bus.old)) }
     ensures spent { B.spent bus.new + B.allowed (B.held bus.old) ≤ B.spent bus.old + B.allowed (B.held bus.new) }
@@ -73,7 +73,7 @@ fn do_pop_masks<B: Bus>(bus: &mut B) -> Result<(), Kind>
     })
 }
 
-#[tactic(auto, using(kc_effect::proofs::Running::run_bind), unfolding(kc_effect::specs::Saving::push_all))]
+#[tactic(auto, using(kc_exec_spec::proofs::Running::run_bind), unfolding(kc_exec_spec::specs::Saving::push_all))]
 fn do_push_all<B: Bus>(bus: &mut B, psw: u8) -> Result<(), Kind>
     ensures gives { Gives (λ x. x) result (B.held bus.new) (run B.meaning (push_all psw) (B.held bus.old)) }
     ensures spent { B.spent bus.new + B.allowed (B.held bus.old) ≤ B.spent bus.old + B.allowed (B.held bus.new) }
@@ -83,7 +83,7 @@ fn do_push_all<B: Bus>(bus: &mut B, psw: u8) -> Result<(), Kind>
     do_push_masks(bus)
 }
 
-#[tactic(auto, using(kc_effect::proofs::Running::run_bind), unfolding(kc_effect::specs::Saving::pop_all))]
+#[tactic(auto, using(kc_exec_spec::proofs::Running::run_bind), unfolding(kc_exec_spec::specs::Saving::pop_all))]
 fn do_pop_all<B: Bus>(bus: &mut B) -> Result<u8, Kind>
     ensures gives { Gives (λ x. x) result (B.held bus.new) (run B.meaning (pop_all) (B.held bus.old)) }
     ensures spent { B.spent bus.new + B.allowed (B.held bus.old) ≤ B.spent bus.old + B.allowed (B.held bus.new) }
@@ -94,7 +94,7 @@ fn do_pop_all<B: Bus>(bus: &mut B) -> Result<u8, Kind>
 }
 
 /// Saves or restores the PSW and more; gives its new high byte.
-#[tactic(auto, using(kc_effect::proofs::Running::run_bind), unfolding(kc_effect::specs::Saving::save))]
+#[tactic(auto, using(kc_exec_spec::proofs::Running::run_bind), unfolding(kc_exec_spec::specs::Saving::save))]
 pub(crate) fn do_save<B: Bus>(bus: &mut B, how: Saving, psw: u8) -> Result<u8, Kind>
     ensures gives { Gives (λ x. x) result (B.held bus.new) (run B.meaning (save how psw) (B.held bus.old)) }
     ensures spent { B.spent bus.new + B.allowed (B.held bus.old) ≤ B.spent bus.old + B.allowed (B.held bus.new) }

@@ -1,7 +1,7 @@
 use kc_base::Kind;
 use kc_bus::{Bus, Flat, Masks, Master};
-use kc_effect::{After, Cpu, Words};
 use kc_exec::{enter, move_word, perform, place, trap_opcode, word_states};
+use kc_exec_spec::{After, Cpu, Words};
 use kc_isa::{Insn, Operand, Place, well_formed};
 use std::test::Fail;
 

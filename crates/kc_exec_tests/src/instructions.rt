@@ -1,7 +1,7 @@
 use crate::rows::{ROWS, Row, START};
 use kc_bus::{Bus, Flat, Master};
-use kc_effect::Cpu;
 use kc_exec::{perform, place};
+use kc_exec_spec::Cpu;
 use kc_isa::{states, well_formed};
 use std::alloc::Global;
 use std::test::Fail;

@@ -2,7 +2,7 @@
 //! from a model of the processor that shares nothing with this program.
 
 use kc_base::Kind;
-use kc_effect::{After, Words};
+use kc_exec_spec::{After, Words};
 use kc_isa::Operand::{Absent, Count, Disp, Imm, Increment, Indirect, Long, Reg, Short};
 use kc_isa::{Insn, Operand};
 

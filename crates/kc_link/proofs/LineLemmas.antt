@@ -12,11 +12,11 @@ use Rattle.kc_obj.specs.declared.parts.Segment.{Segment}
 use Rattle.kc_obj.specs.Object.{Object}
 use Rattle.kc_obj.specs.Pieces.{has_code}
 use Rattle.kc_obj.specs.LineEntries.{line_is_sound, line_follows, lines_in_order, lines_are_sound}
-use Rattle.kc_relocation.specs.Numbers.{Bases}
-use Rattle.kc_reloc.specs.BaseLists.{BaseLists}
-use Rattle.kc_reloc.proofs.Modules.{kept}
-use Rattle.kc_place.specs.Placing.{Places, bases_of, bases_from}
-use Rattle.kc_place.specs.Apart.{CodeAt, AllKeepRules, CodeIsApart}
+use Rattle.kc_obj_relocation.specs.Numbers.{Bases}
+use Rattle.kc_link_fill.specs.BaseLists.{BaseLists}
+use Rattle.kc_link_fill.proofs.Modules.{kept}
+use Rattle.kc_link_place.specs.Placing.{Places, bases_of, bases_from}
+use Rattle.kc_link_place.specs.Apart.{CodeAt, AllKeepRules, CodeIsApart}
 use Rattle.kc_link.specs.declared.lines.LineAt.{LineAt}
 use Rattle.kc_link.specs.LineMap.{line_at, lines_in, lines_of, lines_by, Rises, IsLineMap, LinesStand, MaybeLinesStand, AllLinesStand}
 use Rattle.kc_link.proofs.ContentLemmas.{InCode, code_to}

@@ -3,13 +3,13 @@ use Rattle.std.proofs.Common.{◌≡◌, ℕ, zero, suc, ◌+◌, List, [], ◌�
 use Rattle.std.specs.Prelude.{slice_get, Result, Ok, Err}
 use Rattle.kc_obj.specs.declared.parts.Fixup.{Fixup}
 use Rattle.kc_obj.specs.Object.{Object}
-use Rattle.kc_reloc.specs.BaseLists.{BaseLists}
-use Rattle.kc_reloc.specs.Filled.{unfit_in}
-use Rattle.kc_place.specs.declared.ranges.Ranges.{Ranges}
-use Rattle.kc_place.specs.declared.ranges.LinkFault.{LinkFault}
-use Rattle.kc_place.specs.declared.ranges.LinkFault.TheVariants.{Unresolved, OverlapName, OverlapPlace, Capacity, Range, NoMemory}
-use Rattle.kc_place.specs.Names.{either}
-use Rattle.kc_place.specs.Placing.{Places, bases_of, bases_from, located, IsCause}
+use Rattle.kc_link_fill.specs.BaseLists.{BaseLists}
+use Rattle.kc_link_fill.specs.Filled.{unfit_in}
+use Rattle.kc_link_place.specs.declared.ranges.Ranges.{Ranges}
+use Rattle.kc_link_place.specs.declared.ranges.LinkFault.{LinkFault}
+use Rattle.kc_link_place.specs.declared.ranges.LinkFault.TheVariants.{Unresolved, OverlapName, OverlapPlace, Capacity, Range, NoMemory}
+use Rattle.kc_link_place.specs.Names.{either}
+use Rattle.kc_link_place.specs.Placing.{Places, bases_of, bases_from, located, IsCause}
 use Rattle.kc_link.specs.Placed.{range_fault, unfit, unfit_by, or_fault, with_places, placed}
 
 pub unfit_same : (all : List Object) (places : Places) (n : ℕ) (ms : List Object) → unfit_by n ms (bases_from all places n ms) ≡ unfit all places n ms

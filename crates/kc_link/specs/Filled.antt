@@ -2,12 +2,12 @@
 use Rattle.std.specs.Prelude.{◌≡◌, ℕ, true, ◌+◌, ◌<◌, ◌≤◌, Some, Ok, Err, Result, List, length, slice_get}
 use Rattle.kc_obj.specs.declared.parts.Fixup.{Fixup}
 use Rattle.kc_obj.specs.Object.{Object}
-use Rattle.kc_relocation.specs.Numbers.{fits}
+use Rattle.kc_obj_relocation.specs.Numbers.{fits}
 use Rattle.kc_obj.specs.Fixups.{fixup_at}
-use Rattle.kc_reloc.specs.Filled.{fixup_number, filled_at}
-use Rattle.kc_place.specs.declared.ranges.Ranges.{Ranges}
-use Rattle.kc_place.specs.declared.ranges.LinkFault.{LinkFault}
-use Rattle.kc_place.specs.Placing.{Places, bases_of, IsCause}
+use Rattle.kc_link_fill.specs.Filled.{fixup_number, filled_at}
+use Rattle.kc_link_place.specs.declared.ranges.Ranges.{Ranges}
+use Rattle.kc_link_place.specs.declared.ranges.LinkFault.{LinkFault}
+use Rattle.kc_link_place.specs.Placing.{Places, bases_of, IsCause}
 use Rattle.kc_link.specs.Placed.{placed}
 
 -- a byte of a module stands at a place of the image

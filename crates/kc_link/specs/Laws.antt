@@ -2,8 +2,8 @@
 use Rattle.std.specs.Prelude.{◌≡◌, ℕ, Some, Ok, List, slice_get}
 use Rattle.kc_obj.specs.declared.parts.Segment.{Segment}
 use Rattle.kc_obj.specs.Object.{Object}
-use Rattle.kc_place.specs.declared.ranges.Ranges.{Ranges}
-use Rattle.kc_place.specs.Placing.{Places, base_at}
+use Rattle.kc_link_place.specs.declared.ranges.Ranges.{Ranges}
+use Rattle.kc_link_place.specs.Placing.{Places, base_at}
 use Rattle.kc_link.specs.Placed.{placed}
 use Rattle.kc_link.specs.Filled.{IsFilled, AllFit}
 

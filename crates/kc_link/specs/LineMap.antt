@@ -4,11 +4,11 @@ use Rattle.std.specs.List.Sorted.{IsPermutation}
 use Rattle.std.specs.Global.{Vec}
 use Rattle.kc_obj.specs.declared.parts.Lines.{Lines}
 use Rattle.kc_obj.specs.Object.{Object}
-use Rattle.kc_relocation.specs.Numbers.{Bases}
-use Rattle.kc_reloc.specs.BaseLists.{BaseLists, bases_in}
-use Rattle.kc_place.specs.declared.ranges.Ranges.{Ranges}
-use Rattle.kc_place.specs.declared.ranges.LinkFault.{LinkFault}
-use Rattle.kc_place.specs.Placing.{Places, bases_of, IsCause}
+use Rattle.kc_obj_relocation.specs.Numbers.{Bases}
+use Rattle.kc_link_fill.specs.BaseLists.{BaseLists, bases_in}
+use Rattle.kc_link_place.specs.declared.ranges.Ranges.{Ranges}
+use Rattle.kc_link_place.specs.declared.ranges.LinkFault.{LinkFault}
+use Rattle.kc_link_place.specs.Placing.{Places, bases_of, IsCause}
 use Rattle.kc_link.specs.declared.lines.LineAt.{LineAt}
 use Rattle.kc_link.specs.Placed.{placed}
 

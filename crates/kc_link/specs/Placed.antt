@@ -3,13 +3,13 @@
 use Rattle.std.specs.Prelude.{ℕ, ◌+◌, Option, Some, None, Result, Ok, Err, List, [], ◌∷◌}
 use Rattle.kc_obj.specs.declared.parts.Fixup.{Fixup}
 use Rattle.kc_obj.specs.Object.{Object}
-use Rattle.kc_reloc.specs.BaseLists.{BaseLists, bases_in}
-use Rattle.kc_reloc.specs.Filled.{unfit_in}
-use Rattle.kc_place.specs.declared.ranges.Ranges.{Ranges}
-use Rattle.kc_place.specs.declared.ranges.LinkFault.{LinkFault}
-use Rattle.kc_place.specs.declared.ranges.LinkFault.TheVariants.{Range}
-use Rattle.kc_place.specs.Names.{either}
-use Rattle.kc_place.specs.Placing.{Places, located, bases_of}
+use Rattle.kc_link_fill.specs.BaseLists.{BaseLists, bases_in}
+use Rattle.kc_link_fill.specs.Filled.{unfit_in}
+use Rattle.kc_link_place.specs.declared.ranges.Ranges.{Ranges}
+use Rattle.kc_link_place.specs.declared.ranges.LinkFault.{LinkFault}
+use Rattle.kc_link_place.specs.declared.ranges.LinkFault.TheVariants.{Range}
+use Rattle.kc_link_place.specs.Names.{either}
+use Rattle.kc_link_place.specs.Placing.{Places, located, bases_of}
 
 -- a relocation whose number does not fit
 abbrev pub range_fault : ℕ → Option Fixup → Option LinkFault

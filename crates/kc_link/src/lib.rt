@@ -6,7 +6,7 @@ mod laws;
 mod lines;
 mod linking;
 
-pub use kc_place::{LinkFault, Ranges};
+pub use kc_link_place::{LinkFault, Ranges};
 pub use laws::{absolute_pieces_stand, one_image, relocations_fit};
 pub use lines::{LineAt, line_map};
 pub use linking::link;

@@ -1,14 +1,14 @@
 ghost use Rattle.std.specs.Prelude.{◌≡◌, ◌<◌, ◌≤◌, ◌++◌, IfOk, OnOk, true, length, map};
 ghost use Rattle.std.specs.List.Sorted.{IsPermutation, IsNonDecreasingBy};
-ghost use Rattle.kc_reloc.specs.BaseLists.{bases_in};
-ghost use Rattle.kc_place.specs.Ranges.{are_in_bounds};
+ghost use Rattle.kc_link_fill.specs.BaseLists.{bases_in};
+ghost use Rattle.kc_link_place.specs.Ranges.{are_in_bounds};
 ghost use Rattle.kc_link.specs.LineMap.{line_at, lines_in, lines_by, LinesStand, MaybeLinesStand, AllLinesStand, IsLines};
 
 use crate::linking::{keep_rules, linked_bases};
 use kc_base::{NoMemory, Text};
+use kc_link_fill::Bases;
+use kc_link_place::{LinkFault, Ranges, code_stands_apart};
 use kc_obj::{Lines, Module};
-use kc_place::{LinkFault, Ranges, code_stands_apart};
-use kc_reloc::Bases;
 use std::alloc::Global;
 
 /// The bytes at this address come from this line of the module with this name.

@@ -1,16 +1,16 @@
 ghost use Rattle.std.specs.Prelude.{◌≡◌, ◌+◌, ◌<◌, ◌≤◌, ℕ, List, IfOk, true, length};
-ghost use Rattle.kc_place.specs.Ranges.{are_in_bounds};
-ghost use Rattle.kc_place.specs.Placing.{IsAnswer, IsKept};
-ghost use Rattle.kc_place.specs.Apart.{AllKeepRules};
+ghost use Rattle.kc_link_place.specs.Ranges.{are_in_bounds};
+ghost use Rattle.kc_link_place.specs.Placing.{IsAnswer, IsKept};
+ghost use Rattle.kc_link_place.specs.Apart.{AllKeepRules};
 ghost use Rattle.kc_link.specs.Placed.{placed, unfit_by};
 ghost use Rattle.kc_link.specs.Writes.{IsBlank};
 ghost use Rattle.kc_link.specs.Filled.{IsImage};
 
 use crate::filling::fill;
 use kc_base::{Image, NoMemory};
+use kc_link_fill::{Bases, first_unfit};
+use kc_link_place::{LinkFault, Ranges, code_stands_apart, place};
 use kc_obj::Module;
-use kc_place::{LinkFault, Ranges, code_stands_apart, place};
-use kc_reloc::{Bases, first_unfit};
 use std::alloc::Global;
 
 // Whether the number of each relocation fits.

@@ -6,12 +6,12 @@ use Rattle.kc_lex.specs.declared.token.Token.{Token}
 use Rattle.kc_lex.specs.declared.token.Line.{Line}
 use Rattle.kc_lex.specs.Kinds.{is_name_kind, is_free_name, is_sign}
 use Rattle.kc_expr.specs.Names.{NameMap}
-use Rattle.kc_body.specs.declared.macros.Macro.{Macro}
-use Rattle.kc_body.specs.declared.words.Word.{Word}
-use Rattle.kc_body.specs.declared.words.Word.TheVariants as words
-use Rattle.kc_body.specs.Words.{word_of, is_other, unlabelled, behind_label}
-use Rattle.kc_body.specs.Calls.{called, is_defining}
-use Rattle.kc_ahead.specs.Pieces.{first_piece}
+use Rattle.kc_macro_body.specs.declared.macros.Macro.{Macro}
+use Rattle.kc_macro_body.specs.declared.words.Word.{Word}
+use Rattle.kc_macro_body.specs.declared.words.Word.TheVariants as words
+use Rattle.kc_macro_body.specs.Words.{word_of, is_other, unlabelled, behind_label}
+use Rattle.kc_macro_body.specs.Calls.{called, is_defining}
+use Rattle.kc_macro_input.specs.Pieces.{first_piece}
 use Rattle.kc_macro.specs.declared.state.State.{State}
 use Rattle.kc_macro.specs.Operands.{noted}
 use Rattle.kc_macro.specs.Steps.{Ended, Counted, counted, ended, emitted, word_step, other_step, plain_step, end_step, labelled_step, line_step, step}

@@ -2,8 +2,8 @@
 use Rattle.std.specs.Prelude.{◌≡◌, ◌<◌, Bool, true, List, [], ◌∷◌, ◌++◌, length, Some, Ok}
 use Rattle.std.specs.List.{list_all}
 use Rattle.kc_lex.specs.declared.token.Line.{Line}
-use Rattle.kc_body.specs.declared.words.Word.TheVariants.{End}
-use Rattle.kc_body.specs.Words.{word_of, is_other}
+use Rattle.kc_macro_body.specs.declared.words.Word.TheVariants.{End}
+use Rattle.kc_macro_body.specs.Words.{word_of, is_other}
 use Rattle.kc_macro.specs.Expansion.{expanded}
 
 -- a line that is no construct, no definition and no END

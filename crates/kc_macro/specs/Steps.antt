@@ -5,22 +5,22 @@ use Rattle.std.specs.List.{filter}
 use Rattle.std.specs.FinMap as fm
 use Rattle.kc_lex.specs.declared.token.Token.{Token}
 use Rattle.kc_lex.specs.declared.token.Line.{Line}
-use Rattle.kc_body.specs.declared.words.Word.{Word}
-use Rattle.kc_body.specs.declared.words.Word.TheVariants as words
-use Rattle.kc_body.specs.declared.macros.Macro.{Macro}
+use Rattle.kc_macro_body.specs.declared.words.Word.{Word}
+use Rattle.kc_macro_body.specs.declared.words.Word.TheVariants as words
+use Rattle.kc_macro_body.specs.declared.macros.Macro.{Macro}
 use Rattle.kc_lex.specs.Kinds.{has_label}
-use Rattle.kc_body.specs.Words.{unlabelled, behind_label}
-use Rattle.kc_body.specs.Arguments.{arguments, definition, over_arguments}
-use Rattle.kc_body.specs.Bodies.{macro_of, only}
-use Rattle.kc_body.specs.ByName.{ByName}
-use Rattle.kc_body.specs.Calls.{called}
-use Rattle.kc_ahead.specs.declared.piece.Mark.{Mark}
-use Rattle.kc_ahead.specs.declared.piece.Mark.TheVariants.{Call, Turns, If}
-use Rattle.kc_ahead.specs.declared.piece.Piece.{Piece}
-use Rattle.kc_ahead.specs.declared.piece.Extent.TheVariants.{Body}
-use Rattle.kc_ahead.specs.Pieces.{is_call, is_if, innermost, marked, left_out, body_line, is_line, texts_of, repeated}
-use Rattle.kc_ahead.specs.Cuts.{Cut, cut_at, kept}
-use Rattle.kc_ahead.specs.Filled.{Filled, fill_body, fill_turns}
+use Rattle.kc_macro_body.specs.Words.{unlabelled, behind_label}
+use Rattle.kc_macro_body.specs.Arguments.{arguments, definition, over_arguments}
+use Rattle.kc_macro_body.specs.Bodies.{macro_of, only}
+use Rattle.kc_macro_body.specs.ByName.{ByName}
+use Rattle.kc_macro_body.specs.Calls.{called}
+use Rattle.kc_macro_input.specs.declared.piece.Mark.{Mark}
+use Rattle.kc_macro_input.specs.declared.piece.Mark.TheVariants.{Call, Turns, If}
+use Rattle.kc_macro_input.specs.declared.piece.Piece.{Piece}
+use Rattle.kc_macro_input.specs.declared.piece.Extent.TheVariants.{Body}
+use Rattle.kc_macro_input.specs.Pieces.{is_call, is_if, innermost, marked, left_out, body_line, is_line, texts_of, repeated}
+use Rattle.kc_macro_input.specs.Cuts.{Cut, cut_at, kept}
+use Rattle.kc_macro_input.specs.Filled.{Filled, fill_body, fill_turns}
 use Rattle.kc_macro.specs.declared.state.State.{State}
 use Rattle.kc_macro.specs.declared.state.Step.{Step}
 use Rattle.kc_macro.specs.declared.state.Step.TheVariants as steps

@@ -1,21 +1,21 @@
 ghost use Rattle.std.specs.Prelude.{◌≡◌, ◌+◌, IfOk, drop};
 ghost use Rattle.kc_macro.specs.Steps as steps;
 ghost use Rattle.std.specs.Option.{IfSome};
-ghost use Rattle.kc_ahead.specs.Filled.{seen_filled};
-ghost use Rattle.kc_body.specs.Arguments as arguments;
-ghost use Rattle.kc_body.specs.Calls as calls;
+ghost use Rattle.kc_macro_input.specs.Filled.{seen_filled};
+ghost use Rattle.kc_macro_body.specs.Arguments as arguments;
+ghost use Rattle.kc_macro_body.specs.Calls as calls;
 
 use crate::state::{State, Step};
 use crate::steps::{code_if, least, plain_step};
-use kc_ahead::bodies::{Filled, body_lines, fill_body, texts};
-use kc_ahead::cutting::cut_off;
-use kc_ahead::{Extent, Mark, Marks};
 use kc_base::{NoMemory, Text};
-use kc_body::arguments::arguments;
-use kc_body::bodies::macro_of;
-use kc_body::calls::called;
-use kc_body::{Macro, Names};
 use kc_lex::{Token, Tokens};
+use kc_macro_body::arguments::arguments;
+use kc_macro_body::bodies::macro_of;
+use kc_macro_body::calls::called;
+use kc_macro_body::{Macro, Names};
+use kc_macro_input::bodies::{Filled, body_lines, fill_body, texts};
+use kc_macro_input::cutting::cut_off;
+use kc_macro_input::{Extent, Mark, Marks};
 use std::alloc::Global;
 
 /// The tokens behind the first.

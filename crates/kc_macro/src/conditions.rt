@@ -4,9 +4,9 @@ ghost use Rattle.kc_macro.specs.Operands as operands;
 
 use crate::state::{State, Step};
 use crate::steps::{code_if, code_of, least, least_unmatched};
-use kc_ahead::cutting::keep;
-use kc_ahead::{Mark, Marks};
 use kc_base::NoMemory;
+use kc_macro_input::cutting::keep;
+use kc_macro_input::{Mark, Marks};
 use std::alloc::Global;
 
 fn number_of(value: Result<u16, u8>) -> u16

@@ -1,16 +1,16 @@
 ghost use Rattle.std.specs.Prelude.{◌≡◌, ◌<◌, IfOk};
 ghost use Rattle.kc_macro.specs.Steps as steps;
-ghost use Rattle.kc_ahead.specs.Pieces.{innermost};
-ghost use Rattle.kc_ahead.specs.Filled.{seen_filled};
+ghost use Rattle.kc_macro_input.specs.Pieces.{innermost};
+ghost use Rattle.kc_macro_input.specs.Filled.{seen_filled};
 
 use crate::state::{State, Step};
 use crate::steps::{code_of, counted, least_unmatched};
-use kc_ahead::bodies::{Filled, fill_body, fill_turns, turn_body};
-use kc_ahead::cutting::cut_off;
-use kc_ahead::{Extent, Mark, Marks, Piece};
 use kc_base::{NoMemory, Text};
-use kc_body::Texts;
-use kc_body::bodies::{nothing, only};
+use kc_macro_body::Texts;
+use kc_macro_body::bodies::{nothing, only};
+use kc_macro_input::bodies::{Filled, fill_body, fill_turns, turn_body};
+use kc_macro_input::cutting::cut_off;
+use kc_macro_input::{Extent, Mark, Marks, Piece};
 use std::alloc::Global;
 
 pub(crate) fn exitm_step(

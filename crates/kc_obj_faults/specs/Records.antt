@@ -16,7 +16,7 @@ use Rattle.kc_obj.specs.declared.parts.Target.TheVariants as targets
 use Rattle.kc_obj.specs.Names.{is_below}
 use Rattle.kc_obj.specs.Pieces.{kind_number, in_region, is_relocatable, has_code}
 use Rattle.kc_obj.specs.Contents.{leaves_place, covers}
-use Rattle.kc_relocation.specs.Numbers.{width}
+use Rattle.kc_obj_relocation.specs.Numbers.{width}
 use Rattle.kc_obj.specs.Fixups.{may_begin, is_zero}
 use Rattle.kc_obj.specs.LineEntries.{line_follows}
 use Rattle.kc_obj_faults.specs.Fields.{word_at, long_at, name_at, is_bad_name, noted}

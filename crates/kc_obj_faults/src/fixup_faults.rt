@@ -10,7 +10,7 @@ use crate::runs::Runs;
 use kc_obj::fixups::{begins_free, zero};
 use kc_obj::pieces::is_code;
 use kc_obj::{Fixup, Lines, Segment, line_entries};
-use kc_relocation::width;
+use kc_obj_relocation::width;
 
 fn index_is_bad(pieces: usize, externals: usize, code: u8, index: u16) -> bool
     ensures { result ≡ bad_index pieces externals code index }

@@ -6,7 +6,7 @@ ghost use Rattle.kc_obj_faults.specs.Places.{Covers, CoversNumber};
 
 use kc_base::NoMemory;
 use kc_obj::Fixup;
-use kc_relocation::width;
+use kc_obj_relocation::width;
 use std::alloc::Global;
 use std::collections::HashSet;
 use std::marker::Model;

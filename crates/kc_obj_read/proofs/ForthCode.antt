@@ -13,7 +13,7 @@ use Rattle.kc_obj.specs.declared.parts.Target.{Target}
 use Rattle.kc_obj.specs.declared.parts.Target.TheVariants as targets
 use Rattle.kc_obj.specs.Pieces.{has_code}
 use Rattle.kc_obj.specs.Contents.{content_at}
-use Rattle.kc_relocation.specs.Numbers.{width}
+use Rattle.kc_obj_relocation.specs.Numbers.{width}
 use Rattle.kc_obj.specs.Fixups.{target_exists, fixup_is_sound, fixup_follows, fixups_in_order, may_begin, is_zero, has_room}
 use Rattle.kc_obj.specs.LineEntries.{line_is_sound, line_follows, lines_in_order}
 use Rattle.kc_obj.specs.Spelling.{word_bytes, target_bytes, fixup_body, entry_bytes}

@@ -4,7 +4,7 @@ use Rattle.std.specs.Prelude.{map}
 use Rattle.std.proofs.lemmas.List.{append-nil}
 use Rattle.kc_lex.specs.declared.token.Line.{Line}
 use Rattle.kc_source.specs.declared.pass.Pass.{Pass}
-use Rattle.kc_statement.specs.Operands.{is_nil}
+use Rattle.kc_source_statement.specs.Operands.{is_nil}
 use Rattle.kc_source.specs.Faults.{Fault, lesser, least, Said, said, all_said, code_at, code_behind, at_line, line_faults, uses_of, all_uses, name_faults, faults_of, stmt_said}
 use Rattle.kc_source.specs.Passing.{IsReading}
 use Rattle.kc_source.proofs.FaultLemmas.{lesser_none, lesser_assoc, least_append, least_one, nothing_found}

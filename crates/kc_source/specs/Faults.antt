@@ -10,13 +10,13 @@ use Rattle.std.specs.Global.{Vec}
 use Rattle.kc_lex.specs.declared.token.Line.{Line}
 use Rattle.kc_lex.specs.declared.fault.SourceFault.{SourceFault}
 use Rattle.kc_lex.specs.declared.fault.SourceFault.TheVariants as faults
-use Rattle.kc_statement.specs.declared.statement.Stmt.{Stmt}
+use Rattle.kc_source_statement.specs.declared.statement.Stmt.{Stmt}
 use Rattle.kc_source.specs.declared.uses.Use.{Use}
 use Rattle.kc_source.specs.declared.uses.UseKind.{UseKind}
 use Rattle.kc_source.specs.declared.uses.UseKind.TheVariants.{Once, Again, Taken, Given}
-use Rattle.kc_statement.specs.Trees.{ActionTree, action_tree, Bare, Module, Cseg, Dseg, Rseg, Sseg, Public, Extrn, Equ, Set, Define, Reserve, Org, Even, End, Operation}
-use Rattle.kc_statement.specs.Operands.{is_nil}
-use Rattle.kc_statement.specs.Statements.{statement_in, label_in}
+use Rattle.kc_source_statement.specs.Trees.{ActionTree, action_tree, Bare, Module, Cseg, Dseg, Rseg, Sseg, Public, Extrn, Equ, Set, Define, Reserve, Org, Even, End, Operation}
+use Rattle.kc_source_statement.specs.Operands.{is_nil}
+use Rattle.kc_source_statement.specs.Statements.{statement_in, label_in}
 
 -- ---- faults, and the first of them
 

@@ -1,8 +1,8 @@
 ghost use Rattle.std.specs.Prelude.{◌≡◌, ◌∷◌, ◌++◌, [], List, None, map, Ok, false, OnOk, IfOk};
 ghost use Rattle.kc_lex.specs.declared.token.Line.{Line};
-ghost use Rattle.kc_statement.specs.Statements.{statement_in};
+ghost use Rattle.kc_source_statement.specs.Statements.{statement_in};
 ghost use Rattle.kc_source.specs.Passing.{IsReading};
-ghost use Rattle.kc_statement.specs.Trees.{action_tree};
+ghost use Rattle.kc_source_statement.specs.Trees.{action_tree};
 ghost use Rattle.kc_source.specs.Faults as spec;
 
 use crate::faults::{at_line, lesser};
@@ -10,7 +10,7 @@ use crate::names::name_fault;
 use crate::uses::{Use, UseKind};
 use kc_base::{NoMemory, Text};
 use kc_lex::{Line, SourceFault};
-use kc_statement::{Action, Stmt, read_label, read_statement};
+use kc_source_statement::{Action, Stmt, read_label, read_statement};
 use std::alloc::Global;
 
 fn is_module(action: &Action) -> bool

@@ -3,6 +3,7 @@
 //! kit's own).
 #![tactic(auto)]
 
+ghost use Rattle.kc_span.specs.Timer1.{timer1_of};
 ghost use Rattle.std.specs.Prelude.{◌≡◌, ℕ, ◌+◌, ◌-◌, ◌*◌, ◌/◌, ◌%◌, ◌<◌, ◌≤◌, ◌^◌, ◌≢◌};
 ghost use Rattle.kc_span.specs.Span.{after};
 ghost use Rattle.kc_timers.specs.T2.{T2, timer2_rule, value_at, view_of};
@@ -54,7 +55,7 @@ pub struct T2View {
 
 /// What Timer 1 reads in state `t`.
 pub fn timer1(t: StateTime) -> u16
-    ensures { result ≡ (t / 8) % 65536 }
+    ensures { result ≡ timer1_of t }
 {
     ((t / 8) % 65536) as u16
 }

@@ -11,6 +11,7 @@ Puts-nothing a = record {
   part = ([], [], refl, Grew-nothing a.written a.written refl);
   cause = λ h k. cc;
   later = omega arith;
+  calm = λ h. refl;
   stays = λ h. h;
   silent = λ h. refl;
 }
@@ -30,6 +31,7 @@ Puts-append a x b y c h k = record {
   part = by_part b.failed refl;
   cause = λ e f. by_cause b.failed refl e f;
   later = omega (arith, h.later, k.later);
+  calm = λ e. by_calm b.failed refl e;
   stays = λ e. k.stays (h.stays e);
   silent = λ e. k.silent (h.stays e) ∙ h.silent e;
 }
@@ -37,6 +39,10 @@ Puts-append a x b y c h k = record {
     by_whole : (f : Bool) → b.failed ≡ f → c.failed ≡ false → Grew a.written (x ++ y) c.written
     by_whole true e g = absurd (let i = k.stays e in cc)
     by_whole false e g = Grew-append a.written x b.written y c.written (h.whole e) (k.whole g)
+
+    by_calm : (f : Bool) → b.failed ≡ f → c.failed ≡ false → c.faults ≡ a.faults
+    by_calm true e g = absurd (let i = k.stays e in cc)
+    by_calm false e g = k.calm g ∙ h.calm e
 
     by_part : (f : Bool) → b.failed ≡ f → GrewByPart a.written (x ++ y) c.written
     by_part true e = GrewByPart-longer a.written x y c.written (subst (λ w. GrewByPart a.written x w) (sym (k.silent e)) h.part)
@@ -53,6 +59,7 @@ Puts-longer a x y b over h = record {
   part = GrewByPart-longer a.written x y b.written h.part;
   cause = h.cause;
   later = h.later;
+  calm = λ e. absurd (let t : true ≡ false = sym over ∙ e in cc);
   stays = h.stays;
   silent = h.silent;
 }

@@ -19,6 +19,7 @@ pub record Puts (old : Out) (text : List ℕ) (new : Out) : Type 0 where
   pub part : GrewByPart old.written text new.written
   pub cause : old.failed ≡ false → new.failed ≡ true → Rose old.faults new.faults
   pub later : old.faults ≤ new.faults
+  pub calm : new.failed ≡ false → new.faults ≡ old.faults
   pub stays : old.failed ≡ true → new.failed ≡ true
   pub silent : old.failed ≡ true → new.written ≡ old.written
 

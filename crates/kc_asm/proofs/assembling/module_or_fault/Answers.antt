@@ -1,8 +1,8 @@
 use Rattle.std.proofs.Common.{◌≡◌, ◌<◌, ◌≤◌, inr, None, length, sym, ap, ◌∙◌, arith}
 use Rattle.std.specs.Option.{option_map}
-use Rattle.kc_judge.specs.Judging.{first_fault}
-use Rattle.kc_judge.specs.Pairs.{pair}
-use Rattle.kc_module.specs.ModuleOf.{pieces_in}
+use Rattle.kc_asm_check.specs.Judging.{first_fault}
+use Rattle.kc_asm_check.specs.Pairs.{pair}
+use Rattle.kc_asm_module.specs.ModuleOf.{pieces_in}
 use Rattle.kc_asm.proofs.assembling.module_or_fault.Goals as goal
 
 pub returns-then-piece_count-gt-MOST_PIECES : goal.returns-then-piece_count-gt-MOST_PIECES

@@ -1,6 +1,6 @@
 use Rattle.std.proofs.Common.{◌≡◌, ◌∙◌}
-use Rattle.kc_place.specs.Placing.{bases_from}
-use Rattle.kc_place.specs.Apart.{CodeIsApart}
+use Rattle.kc_link_place.specs.Placing.{bases_from}
+use Rattle.kc_link_place.specs.Apart.{CodeIsApart}
 use Rattle.kc_link.proofs.PlacedLemmas.{was_located}
 use Rattle.kc_link.proofs.LineLemmas.{all_lines_stand, is_line_map}
 use Rattle.kc_link.proofs.lines.line_map.Goals as goal

@@ -1,7 +1,7 @@
 use Rattle.std.proofs.Common.{◌≡◌, ◌∙◌, ap, List}
-use Rattle.kc_reloc.specs.BaseLists.{BaseLists}
-use Rattle.kc_place.specs.Placing.{bases_from}
-use Rattle.kc_place.specs.Apart.{CodeIsApart}
+use Rattle.kc_link_fill.specs.BaseLists.{BaseLists}
+use Rattle.kc_link_place.specs.Placing.{bases_from}
+use Rattle.kc_link_place.specs.Apart.{CodeIsApart}
 use Rattle.kc_link.specs.Writes.{written, all_bytes}
 use Rattle.kc_link.proofs.PlacedLemmas.{was_located}
 use Rattle.kc_link.proofs.ImageLemmas.{modules_stand, is_filled}

@@ -1,5 +1,5 @@
 use Rattle.std.proofs.Common.{sym, ap, ◌∙◌}
-use Rattle.kc_statement.specs.Operands.{is_nil}
+use Rattle.kc_source_statement.specs.Operands.{is_nil}
 use Rattle.kc_source.proofs.PassLemmas.{blank_read, words_read}
 use Rattle.kc_source.proofs.pass.Pass.take_line.Goals as goal
 

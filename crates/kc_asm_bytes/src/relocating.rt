@@ -1,0 +1,105 @@
+ghost use Rattle.std.specs.Prelude.{◌≡◌, ◌+◌, ◌≤◌, ◌<◌};
+ghost use Rattle.kc_obj_relocation.specs.Numbers as numbers;
+ghost use Rattle.kc_asm_bytes.specs.Filling as filling;
+ghost use Rattle.kc_asm_bytes.specs.Relocating as relocating;
+
+use crate::Octet;
+use kc_expr::{Base, Value};
+use kc_obj_relocation::{first_part, fits, is_distance, number, reach, second_part};
+
+// The number of a value with all pieces at 0, where the next instruction begins some bytes behind a place.
+#[tactic(auto, unfolding(kc_obj_relocation::specs::Numbers::number, kc_obj_relocation::specs::Numbers::distance))]
+fn number_at(kind: u8, place: u16, behind: u16, value: Value) -> u16
+    ensures { result ≡ numbers.number kind (place + behind) (filling.address relocating.no_bases value) }
+{
+    number(kind, place.wrapping_add(behind), value.number)
+}
+
+// The base is a piece or an external.
+fn counts(base: Base) -> bool
+    ensures { result ≡ relocating.counts base }
+{
+    matches!(base, Base::Piece(_) | Base::External(_))
+}
+
+fn leaves(at: Option<u16>, piece: u16, base: Base) -> bool
+    ensures { result ≡ relocating.leaves at piece base }
+{
+    match at {
+        Some(_) => counts(base),
+        None => base != Base::Piece(piece),
+    }
+}
+
+/// Whether a number of this kind, in a piece that is absolute or not, depends on a base.
+#[tactic(auto, unfolding(crate::specs::Relocating::depends))]
+pub fn depends(kind: u8, at: Option<u16>, piece: u16, base: Base) -> bool
+    ensures { result ≡ relocating.depends kind at piece base }
+{
+    if is_distance(kind) {
+        leaves(at, piece, base)
+    } else {
+        counts(base)
+    }
+}
+
+/// The relocation that begins at a byte of a piece: its kind, and the value that it fills in.
+#[tactic(auto, unfolding(crate::specs::Relocating::relocated))]
+pub fn relocated(at: Option<u16>, piece: u16, octet: Octet) -> Option<(u8, Value)>
+    ensures { result ≡ relocating.relocated at piece octet }
+{
+    match octet {
+        Octet::First { kind, value, .. } => {
+            if depends(kind, at, piece, value.base) {
+                Some((kind, value))
+            } else {
+                None
+            }
+        }
+        Octet::Plain(_) | Octet::Second { .. } => None,
+    }
+}
+
+/// The code of the fault where a number that depends on no base does not fit: 12 for a byte, 19 for a jump. The octet
+/// stands at `place`, an address in an absolute piece, else an offset.
+#[tactic(auto, unfolding(crate::specs::Relocating::misfit))]
+pub fn misfit(at: Option<u16>, piece: u16, place: u16, octet: Octet) -> Option<u8>
+    ensures { result ≡ relocating.misfit at piece place octet }
+{
+    match octet {
+        Octet::First { kind, value, .. } => {
+            let own = !depends(kind, at, piece, value.base);
+            if own && !fits(kind, number_at(kind, place, reach(kind), value)) {
+                Some(if kind == 1 { 12 } else { 19 })
+            } else {
+                None
+            }
+        }
+        Octet::Plain(_) | Octet::Second { .. } => None,
+    }
+}
+
+/// The byte that a module has for an octet at `place`, an address in an absolute piece, else an offset.
+#[tactic(auto, unfolding(crate::specs::Relocating::shown, crate::specs::Filling::fill))]
+pub fn shown(at: Option<u16>, piece: u16, place: u16, octet: Octet) -> u8
+    requires { relocating.HasRoom place octet }
+    ensures { result ≡ relocating.shown at piece place octet }
+{
+    match octet {
+        Octet::Plain(byte) => byte,
+        Octet::First { kind, start, value } => {
+            if depends(kind, at, piece, value.base) {
+                start
+            } else {
+                start + first_part(kind, number_at(kind, place, reach(kind), value))
+            }
+        }
+        Octet::Second { kind, value } => {
+            if depends(kind, at, piece, value.base) {
+                0
+            } else {
+                second_part(kind, number_at(kind, place, 1, value))
+            }
+        }
+    }
+}

@@ -1,0 +1,74 @@
+//! The pieces of a module, while its statements are written.
+
+ghost use Rattle.std.specs.Prelude.{◌≡◌, IfOk, OnOk};
+ghost use Rattle.kc_source_statement.specs.Trees.{action_tree};
+ghost use Rattle.kc_asm_outline.specs.Outline.{opens as opened};
+ghost use Rattle.kc_asm_check.specs.Walk.{stood};
+ghost use Rattle.kc_asm_draft_laws.specs.Drafting as spec;
+ghost use Rattle.kc_asm_draft_laws.specs.Writable.{IsWritable};
+
+use crate::writing::write;
+use kc_asm_layout::Site;
+use kc_asm_outline::opens;
+use kc_asm_piece::Part;
+use kc_asm_symbols::Segment;
+use kc_base::NoMemory;
+use kc_expr::Scope;
+use kc_obj::SegKind;
+use kc_source_statement::{Action, Stmt};
+use std::alloc::Global;
+
+/// The pieces of a module before its first statement: its relocatable registers, code and data.
+pub(crate) fn first_parts(alloc: Global) -> Result<Vec<Part>, NoMemory>
+    ensures { IfOk result (λ parts. parts.items ≡ spec.first_parts) }
+{
+    let mut parts = Vec::new(alloc);
+    parts.push(Part::new(alloc, SegKind::Reg, None))?;
+    parts.push(Part::new(alloc, SegKind::Code, None))?;
+    parts.push(Part::new(alloc, SegKind::Ram, None))?;
+    Ok(parts)
+}
+
+// The kind of an absolute piece that a statement opens.
+fn kind_opened(action: &Action) -> SegKind
+    ensures { result ≡ spec.kind_opened (action_tree action.now) }
+{
+    match action {
+        Action::Cseg(_) => SegKind::Code,
+        Action::Dseg(_) => SegKind::Ram,
+        Action::Rseg(_) => SegKind::Reg,
+        _ => SegKind::Stack,
+    }
+}
+
+// The absolute piece that a statement opens, if it opens one.
+fn open<S: Scope>(
+    alloc: Global,
+    parts: &mut Vec<Part>,
+    action: &Action,
+    scope: &S,
+) -> Result<(), NoMemory>
+    ensures { OnOk result (parts.new.items ≡ spec.with_opened (spec.kind_opened (action_tree action.now)) (opened (S.answers scope.now) (action_tree action.now)) parts.old.items) }
+{
+    if let Some(address) = opens(action, scope) {
+        parts.push(Part::new(alloc, kind_opened(action), Some(address)))?;
+    }
+    Ok(())
+}
+
+/// The pieces behind a statement in a segment at its site, over what names mean there.
+pub(crate) fn pass<S: Scope>(
+    alloc: Global,
+    parts: &mut Vec<Part>,
+    segment: Segment,
+    stmt: &Stmt,
+    site: &Site,
+    scope: &S,
+) -> Result<(), NoMemory>
+    requires { IsWritable (S.answers scope.now) (stood segment stmt.now site.now) site.now parts.old.items }
+    ensures { OnOk result (parts.new.items ≡ spec.parts_after (S.answers scope.now) (stood segment stmt.now site.now) site.now parts.old.items) }
+{
+    write(alloc, &mut parts[segment.piece], segment, stmt, site, scope)?;
+    open(alloc, parts, &stmt.action, scope)?;
+    Ok(())
+}

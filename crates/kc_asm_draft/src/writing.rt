@@ -1,0 +1,95 @@
+//! What a statement writes at the end of its piece.
+
+ghost use Rattle.std.specs.Prelude.{◌≡◌, ◌+◌, ◌≤◌, OnOk};
+ghost use Rattle.kc_asm_emission.specs.Seen.{seen};
+ghost use Rattle.kc_asm_check.specs.Walk.{stood};
+ghost use Rattle.kc_asm_draft_laws.specs.Drafting as spec;
+ghost use Rattle.kc_asm_draft_laws.specs.Writable.{HasRoom};
+ghost use Rattle.kc_asm_draft.specs.Writing.{StatementFits};
+
+use kc_asm_bytes::Octet;
+use kc_asm_check::value_at;
+use kc_asm_emission::{Content, content_of};
+use kc_asm_layout::Site;
+use kc_asm_piece::Part;
+use kc_asm_symbols::Segment;
+use kc_base::NoMemory;
+use kc_expr::Scope;
+use kc_obj::SegKind;
+use kc_source_statement::Stmt;
+use std::alloc::Global;
+
+/// What stands in code where nothing else does.
+const FILLING: u8 = 0xFF;
+
+// So many bytes of filling.
+fn fill(part: &mut Part, count: u64) -> Result<(), NoMemory>
+    requires { part.old.length + count ≤ 65536 }
+    ensures { OnOk result (part.new ≡ spec.led SegKind.Code count part.old) }
+{
+    let mut left = count;
+    while left > 0 {
+        part.push(Octet::Plain(FILLING))?;
+        left -= 1;
+    }
+    Ok(())
+}
+
+// Leads on by so many bytes: in code FFH stands there.
+fn lead(part: &mut Part, kind: SegKind, count: u64) -> Result<(), NoMemory>
+    requires { part.old.length + count ≤ 65536 }
+    ensures { OnOk result (part.new ≡ spec.led kind count part.old) }
+{
+    match kind {
+        SegKind::Code => fill(part, count),
+        SegKind::Reg | SegKind::Ram | SegKind::Stack => {
+            part.skip(count as u32);
+            Ok(())
+        }
+    }
+}
+
+// Puts the content of the statement on a line, which stands at a place.
+fn put(
+    part: &mut Part,
+    line: u32,
+    kind: SegKind,
+    place: u64,
+    content: &Content,
+) -> Result<(), NoMemory>
+    requires { HasRoom part.old.length (seen content.now) place }
+    ensures { OnOk result (part.new ≡ spec.put_content line kind place (seen content.now) part.old) }
+{
+    match content {
+        Content::Nothing => Ok(()),
+        Content::Octets(octets) => part.write(line, octets.as_slice()),
+        Content::Reserved(count) => {
+            part.skip(*count);
+            Ok(())
+        }
+        Content::Upto(to) => {
+            part.skip((u64::from(*to) - place) as u32);
+            Ok(())
+        }
+        Content::Even => lead(part, kind, place % 2),
+    }
+}
+
+/// Writes a statement in a segment at its site, at the end of its piece, over what names mean there.
+pub(crate) fn write<S: Scope>(
+    alloc: Global,
+    part: &mut Part,
+    segment: Segment,
+    stmt: &Stmt,
+    site: &Site,
+    scope: &S,
+) -> Result<(), NoMemory>
+    requires { StatementFits (S.answers scope.now) (stood segment stmt.now site.now) site.now part.old.length }
+    ensures { OnOk result (part.new ≡ spec.tape_after (S.answers scope.now) (stood segment stmt.now site.now) site.now part.old) }
+{
+    let here = value_at(segment, site.place);
+    let content = content_of(alloc, &stmt.action, site.form, here, scope)?;
+    lead(part, segment.kind, site.place - site.before)?;
+    put(part, stmt.line, segment.kind, site.place, &content)?;
+    Ok(())
+}

@@ -1,0 +1,120 @@
+-- The draft of a module: what its statements write, each at its site (after the MCS-96 Macro Assembler User's Guide,
+-- "Assembler Directives").
+use Rattle.std.specs.Prelude.{◌≡◌, ℕ, ◌-◌, ◌%◌, if◌then◌else◌, List, [], ◌∷◌, ◌++◌, replicate, codes, Option, Some, None, unwrap_or, Ok, Err, slice_get, slice_set}
+use Rattle.std.specs.List.{list_any}
+use Rattle.std.specs.Str.{bytes_eq}
+use Rattle.kc_obj.specs.declared.parts.SegKind.{SegKind}
+use Rattle.kc_obj.specs.declared.parts.SegKind.TheVariants.{Reg, Code, Ram, Stack}
+use Rattle.kc_expr.specs.Meaning.{Answer}
+use Rattle.kc_source_statement.specs.declared.statement.Stmt.{Stmt}
+use Rattle.kc_source_statement.specs.Trees.{ActionTree, Module, Cseg, Dseg, Rseg, Public}
+use Rattle.kc_asm_symbols.specs.Located.{Located}
+use Rattle.kc_asm_symbols.specs.Externals.{externals}
+use Rattle.kc_asm_symbols.specs.Meanings.{meaning, in_all}
+use Rattle.kc_asm_bytes.specs.declared.octet.Octet.TheVariants.{Plain}
+use Rattle.kc_asm_piece.specs.declared.draft.Draft.{Draft}
+use Rattle.kc_asm_piece.specs.declared.draft.Public.{Public as Given}
+use Rattle.kc_asm_piece.specs.Tape.{Tape, blank, laid, skipped, written}
+use Rattle.kc_asm_emission.specs.Arguments.{Look}
+use Rattle.kc_asm_emission.specs.Content.{Content, Nothing, Octets, Reserved, Upto, Even, content}
+use Rattle.kc_asm_outline.specs.Outline.{opens}
+use Rattle.kc_asm_layout.specs.declared.site.Site.{Site}
+use Rattle.kc_asm_check.specs.Codes.{stack_after}
+use Rattle.kc_asm_check.specs.Judging.{site_list, standing}
+
+-- ---- pieces
+
+-- bytes that lead on to a place: FFH in code, else nothing stands there
+abbrev pub led : SegKind → ℕ → Tape → Tape
+led Code count t = laid (replicate count (Plain 255)) t
+led kind count t = skipped count t
+
+-- what a statement that stands at a place puts there
+abbrev pub put_content : ℕ → SegKind → ℕ → Content → Tape → Tape
+put_content line kind place Nothing t = t
+put_content line kind place (Octets os) t = written line os t
+put_content line kind place (Reserved n) t = skipped n t
+put_content line kind place (Upto to) t = skipped (to - place) t
+put_content line kind place Even t = led kind (place % 2) t
+
+abbrev pub tape_after : Look → Located → Site → Tape → Tape
+tape_after look l s t =
+    put_content l.line l.segment.kind s.place (content look s.form l.here l.action) (led l.segment.kind (s.place - s.before) t)
+
+abbrev pub kind_opened : ActionTree → SegKind
+kind_opened (Cseg at) = Code
+kind_opened (Dseg at) = Ram
+kind_opened (Rseg at) = Reg
+kind_opened action = Stack
+
+abbrev pub with_opened : SegKind → Option ℕ → List Tape → List Tape
+with_opened kind None parts = parts
+with_opened kind (Some address) parts = parts ++ blank kind (Some address) ∷ []
+
+abbrev pub first_tape : Tape
+first_tape = blank Code None
+
+-- the pieces behind a statement
+abbrev pub parts_after : Look → Located → Site → List Tape → List Tape
+parts_after look l s parts =
+    with_opened (kind_opened l.action) (opens look l.action)
+    (slice_set parts l.segment.piece (tape_after look l s (unwrap_or (slice_get parts l.segment.piece) first_tape)))
+
+unfoldable pub parts_from : List Located → List Located → List Located → List Site → List Tape → List Tape
+parts_from all before [] ss parts = parts
+parts_from all before (l ∷ ls) [] parts = parts
+parts_from all before (l ∷ ls) (s ∷ ss) parts =
+    parts_from all (l ∷ before) ls ss (parts_after (meaning all before l) l s parts)
+
+abbrev pub first_parts : List Tape
+first_parts = blank Reg None ∷ blank Code None ∷ blank Ram None ∷ []
+
+-- ---- the stack, the name, public names
+
+unfoldable pub stack_from : List Located → ℕ → List Located → List Located → ℕ
+stack_from all sum before [] = sum
+stack_from all sum before (l ∷ ls) = stack_from all (stack_after (meaning all before l) sum l.action) (l ∷ before) ls
+
+-- the name in MODULE, else NONAME
+abbrev pub name_or : Option (List ℕ) → List ℕ → List ℕ
+name_or None other = other
+name_or (Some name) other = name
+
+abbrev pub name_by : ActionTree → List ℕ → List ℕ
+name_by (Module name stack) other = name_or name other
+name_by action other = other
+
+unfoldable pub name_of : List Located → List ℕ
+name_of [] = codes "NONAME"
+name_of (l ∷ ls) = name_by l.action (name_of ls)
+
+-- the names that PUBLIC gives, each where it is given first
+abbrev pub given_by : ActionTree → List (List ℕ)
+given_by (Public names) = names
+given_by action = []
+
+unfoldable pub all_given : List Located → List (List ℕ)
+all_given [] = []
+all_given (l ∷ ls) = given_by l.action ++ all_given ls
+
+unfoldable pub distinct_from : List (List ℕ) → List (List ℕ) → List (List ℕ)
+distinct_from seen [] = []
+distinct_from seen (n ∷ ns) = if list_any (bytes_eq n) seen then distinct_from seen ns else n ∷ distinct_from (n ∷ seen) ns
+
+-- with the values that they have by all statements
+abbrev pub given_as : List ℕ → Answer → List Given
+given_as name (Ok v) = record { name = name; value = v } ∷ []
+given_as name (Err code) = []
+
+unfoldable pub publics_of : (List ℕ → Answer) → List (List ℕ) → List Given
+publics_of last [] = []
+publics_of last (n ∷ ns) = given_as n (last n) ++ publics_of last ns
+
+-- ---- the whole
+
+pub record IsDraftOf (stmts : List Stmt) (d : Draft) : Type 0 where
+  pub name : d.name ≡ name_of (standing stmts)
+  pub parts : d.parts.items ≡ parts_from (standing stmts) [] (standing stmts) (site_list stmts) first_parts
+  pub stack : d.stack ≡ stack_from (standing stmts) 0 [] (standing stmts)
+  pub externals : d.externals.items ≡ externals (standing stmts)
+  pub publics : d.publics.items ≡ publics_of (in_all (standing stmts)) (distinct_from [] (all_given (standing stmts)))

@@ -1,0 +1,39 @@
+-- Where a source has no fault, what its statements write has room in its pieces.
+use Rattle.std.specs.Prelude.{◌≡◌, ℕ, ◌+◌, ◌-◌, ◌%◌, ◌≤◌, List, [], ◌∷◌, length, Some, None, slice_get}
+use Rattle.kc_source_statement.specs.declared.statement.Stmt.{Stmt}
+use Rattle.kc_asm_symbols.specs.Located.{Located}
+use Rattle.kc_asm_symbols.specs.Meanings.{meaning}
+use Rattle.kc_asm_piece.specs.Tape.{Tape}
+use Rattle.kc_asm_emission.specs.Arguments.{Look}
+use Rattle.kc_asm_emission.specs.Content.{Content, Nothing, Octets, Reserved, Upto, Even, content}
+use Rattle.kc_asm_layout.specs.declared.site.Site.{Site}
+use Rattle.kc_asm_check.specs.Judging.{first_fault, site_list, standing}
+use Rattle.kc_asm_draft_laws.specs.Drafting.{parts_after, first_parts}
+
+-- so many bytes, behind a number of others, have room
+abbrev pub HasRoom : ℕ → Content → ℕ → Type 0
+HasRoom size Nothing place = Unit {0}
+HasRoom size (Octets os) place = size + length os ≤ 65536
+HasRoom size (Reserved n) place = size + n ≤ 65536
+HasRoom size (Upto to) place = (place ≤ to) × (size + (to - place) ≤ 65536)
+HasRoom size Even place = size + place % 2 ≤ 65536
+
+-- what a statement writes behind a piece of its kind has room there
+pub record IsWritable (look : Look) (l : Located) (s : Site) (parts : List Tape) : Type 0 where
+  pub t : Tape
+  pub part : slice_get parts l.segment.piece ≡ Some t
+  pub kind : t.kind ≡ l.segment.kind
+  pub forward : s.before ≤ s.place
+  pub gap : t.length + (s.place - s.before) ≤ 65536
+  pub room : HasRoom (t.length + (s.place - s.before)) (content look s.form l.here l.action) s.place
+
+abbrev pub AllWritable : List Located → List Located → List Located → List Site → List Tape → Type 0
+AllWritable all before [] ss parts = Unit {0}
+AllWritable all before (l ∷ ls) [] parts = ⊥
+AllWritable all before (l ∷ ls) (s ∷ ss) parts =
+    IsWritable (meaning all before l) l s parts × AllWritable all (l ∷ before) ls ss (parts_after (meaning all before l) l s parts)
+
+abbrev pub PartsAreWritable : Type 0
+PartsAreWritable =
+    (stmts : List Stmt) → first_fault stmts ≡ None
+    → AllWritable (standing stmts) [] (standing stmts) (site_list stmts) first_parts

@@ -1,0 +1,25 @@
+-- What calls answer, as the definitions see it.
+use Rattle.std.specs.Prelude.{ℕ, min}
+use Rattle.kc_asm_emission.specs.declared.content.Content.{Content as Made}
+use Rattle.kc_asm_emission.specs.declared.content.Content.TheVariants as made
+use Rattle.kc_asm_emission.specs.declared.extent.Extent.{Extent}
+use Rattle.kc_asm_emission.specs.declared.extent.Extent.TheVariants as extent
+use Rattle.kc_asm_emission.specs.Content.{Content, Nothing, Octets, Reserved, Upto, Even}
+
+-- a content without where its octets lie in memory
+abbrev pub seen : Made → Content
+seen made.Nothing = Nothing
+seen (made.Octets os) = Octets os.items
+seen (made.Reserved n) = Reserved n
+seen (made.Upto place) = Upto place
+seen made.Even = Even
+
+-- the most that a number of 32 bits counts
+abbrev pub most : ℕ
+most = 4294967295
+
+-- a count of 32 bits stops at its greatest number
+abbrev pub counted : Extent → Extent
+counted (extent.Bytes n) = extent.Bytes (min n most)
+counted (extent.Upto place) = extent.Upto place
+counted extent.Even = extent.Even

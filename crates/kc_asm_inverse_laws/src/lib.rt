@@ -1,0 +1,14 @@
+//! What the inverse jumps of generic branches do: a law of definitions, without code.
+#![tactic(auto)]
+
+ghost use Rattle.kc_asm_inverse_laws.specs.Opposite.{ConditionsAreOpposite, TestsAreOpposite};
+
+/// The inverse jump of a conditional branch is taken exactly where its jump is not.
+pub fn conditions_are_opposite()
+    ensures { ConditionsAreOpposite }
+{}
+
+/// The inverse jump of a bit test asks for the bit the other way.
+pub fn tests_are_opposite()
+    ensures { TestsAreOpposite }
+{}

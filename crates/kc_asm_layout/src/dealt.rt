@@ -1,0 +1,98 @@
+//! Which form each statement has.
+
+ghost use Rattle.std.specs.Prelude.{◌≡◌, ◌+◌, ◌≤◌, length, drop, IfOk};
+ghost use Rattle.kc_asm_layout.specs.Text as spec;
+
+use crate::places::{head_form, rest_of};
+use crate::text::{is_code, is_main};
+use kc_asm_outline::{Body, Note};
+use kc_base::NoMemory;
+use kc_branch::Form;
+use std::alloc::Global;
+
+fn is_branch(body: &Body) -> bool
+    ensures { result ≡ spec.is_branch body.now }
+{
+    match body {
+        Body::Branch { .. } => true,
+        Body::Bytes(_) | Body::Upto(_) | Body::Even => false,
+    }
+}
+
+fn is_code_branch(note: &Note) -> bool
+    ensures { result ≡ spec.is_code_branch note.now }
+{
+    is_code(note.segment) && is_branch(&note.body)
+}
+
+// Whether it is a branch of the relocatable code.
+fn is_main_branch(note: &Note) -> bool
+    ensures { result ≡ spec.is_main_branch note.now }
+{
+    is_main(note.segment) && is_code_branch(note)
+}
+
+// Whether it is a branch of an absolute piece of code.
+fn is_absolute_branch(note: &Note) -> bool
+    ensures { result ≡ spec.is_absolute_branch note.now }
+{
+    note.segment.is_absolute() && is_code_branch(note)
+}
+
+#[tactic(auto, unfolding(crate::specs::Text::count_main))]
+fn count_main(notes: &[Note]) -> usize
+    ensures { result ≡ spec.count_main notes.now }
+{
+    let mut count = 0;
+    for note in notes {
+        if is_main_branch(note) {
+            count += 1;
+        }
+    }
+    count
+}
+
+// The next form of those that are left.
+fn form_for(note: &Note, main: &[Form], absolute: &[Form]) -> Form
+    ensures { result ≡ spec.form_for note.now main.now absolute.now }
+{
+    if is_main_branch(note) {
+        head_form(main)
+    } else if is_absolute_branch(note) {
+        head_form(absolute)
+    } else {
+        Form::First
+    }
+}
+
+fn left_behind(takes: bool, forms: &[Form]) -> &[Form]
+    ensures { result.now ≡ spec.left_behind takes forms.now }
+{
+    if takes { rest_of(forms) } else { forms }
+}
+
+fn behind(forms: &[Form], count: usize) -> &[Form]
+    ensures { result.now ≡ drop count forms.now }
+{
+    forms.get(count..).unwrap_or(&[])
+}
+
+// The form of each statement, where the branches have these, those of the relocatable code first.
+#[tactic(auto, unfolding(crate::specs::Text::dealt))]
+pub(crate) fn statement_forms(
+    alloc: Global,
+    chosen: &[Form],
+    notes: &[Note],
+) -> Result<Vec<Form>, NoMemory>
+    ensures { IfOk result (λ v. v.items ≡ spec.statement_forms chosen.now notes.now) }
+{
+    let mut forms = Vec::new(alloc);
+    let mut main = chosen;
+    let mut absolute = behind(chosen, count_main(notes));
+    for note in notes {
+        forms.push(form_for(note, main, absolute))?;
+        main = left_behind(is_main_branch(note), main);
+        absolute = left_behind(is_absolute_branch(note), absolute);
+    }
+    Ok(forms)
+}

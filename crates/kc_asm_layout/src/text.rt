@@ -1,0 +1,266 @@
+//! The text in which the forms of generic branches are chosen.
+
+ghost use Rattle.std.specs.Prelude.{◌≡◌, ◌++◌, ◌∷◌, [], Some, drop, slice_index, IfOk};
+ghost use Rattle.kc_asm_outline.specs.declared.note.Body.TheVariants.{Branch};
+ghost use Rattle.kc_asm_outline.specs.Numbered as numbered;
+ghost use Rattle.kc_asm_layout.specs.Text as spec;
+
+use kc_asm_outline::{Anchor, Body, Note};
+use kc_asm_symbols::Segment;
+use kc_base::NoMemory;
+use kc_branch::{BranchKind, Form, Piece, branch_length};
+use kc_obj::SegKind;
+use std::alloc::Global;
+
+// The most bytes of a piece of text.
+const MOST: u32 = 65535;
+
+pub(crate) fn is_code(segment: Segment) -> bool
+    ensures { result ≡ numbered.is_code segment }
+{
+    match segment.kind {
+        SegKind::Code => true,
+        SegKind::Reg | SegKind::Ram | SegKind::Stack => false,
+    }
+}
+
+// The relocatable code.
+pub(crate) fn is_main(segment: Segment) -> bool
+    ensures { result ≡ spec.is_main segment }
+{
+    segment.piece == 1
+}
+
+// ---- targets
+
+fn is_same_base(one: Segment, other: Segment) -> bool
+    ensures { result ≡ spec.is_same_base one other }
+{
+    (one.is_absolute() && other.is_absolute()) || one.piece == other.piece
+}
+
+fn segment_at(notes: &[Note], number: u16) -> Segment
+    ensures { result ≡ spec.segment_at notes.now number }
+{
+    match notes.get(usize::from(number)) {
+        None => Segment::first(),
+        Some(note) => note.segment,
+    }
+}
+
+// The place of a statement in the text, with a distance. No memory holds more pieces of text than 32 bits count.
+fn place_in(positions: &[u64], number: u16, distance: i16) -> Result<Option<(u32, i16)>, NoMemory>
+    ensures { IfOk result (λ t. t ≡ Some (slice_index positions.now number, distance)) }
+{
+    let position = positions.get(usize::from(number)).copied().unwrap_or(0);
+    match u32::try_from(position) {
+        Ok(place) => Ok(Some((place, distance))),
+        Err(_) => Err(NoMemory),
+    }
+}
+
+// What the target of a branch is in the text, by the segment of the branch.
+fn target_in(
+    positions: &[u64],
+    notes: &[Note],
+    segment: Segment,
+    anchor: Anchor,
+) -> Result<Option<(u32, i16)>, NoMemory>
+    ensures { IfOk result (λ t. t ≡ spec.target_in positions.now notes.now segment anchor) }
+{
+    match anchor {
+        Anchor::Statement { number, distance } => {
+            if is_same_base(segment, segment_at(notes, number)) {
+                place_in(positions, number, distance)
+            } else {
+                Ok(None)
+            }
+        }
+        Anchor::External | Anchor::Nothing => Ok(None),
+    }
+}
+
+// ---- one statement
+
+// So many bytes.
+fn push_bytes(text: &mut Vec<Piece>, count: u32) -> Result<(), NoMemory>
+    ensures { IfOk result (λ _. text.new.items ≡ text.old.items ++ spec.bytes_text count) }
+{
+    for _part in 0..count / MOST {
+        text.push(Piece::Bytes(65535))?;
+    }
+    text.push(Piece::Bytes((count % MOST) as u16))?;
+    Ok(())
+}
+
+// What leads to the place of a statement.
+fn push_lead(text: &mut Vec<Piece>, gap: u32, note: &Note) -> Result<(), NoMemory>
+    ensures { IfOk result (λ _. text.new.items ≡ text.old.items ++ spec.lead gap note.now) }
+{
+    if !is_code(note.segment) {
+        return push_bytes(text, gap);
+    }
+    if note.alignment == 2 {
+        text.push(Piece::Even)?;
+    }
+    Ok(())
+}
+
+// A branch, which outside code keeps its first form.
+fn branch_text(
+    positions: &[u64],
+    notes: &[Note],
+    segment: Segment,
+    kind: BranchKind,
+    anchor: Anchor,
+) -> Result<Piece, NoMemory>
+    ensures { IfOk result (λ p. p ∷ [] ≡ spec.body_text (spec.target_in positions.now notes.now) segment (Branch kind anchor)) }
+{
+    if is_code(segment) {
+        let target = target_in(positions, notes, segment, anchor)?;
+        Ok(Piece::Branch { kind, target })
+    } else {
+        Ok(Piece::Bytes(branch_length(kind, Form::First)))
+    }
+}
+
+fn push_body(
+    text: &mut Vec<Piece>,
+    positions: &[u64],
+    notes: &[Note],
+    note: &Note,
+) -> Result<(), NoMemory>
+    ensures { IfOk result (λ _. text.new.items ≡ text.old.items ++ spec.body_text (spec.target_in positions.now notes.now) note.now.segment note.now.body) }
+{
+    match note.body {
+        Body::Bytes(count) => push_bytes(text, count),
+        Body::Upto(to) => {
+            text.push(Piece::At(to))?;
+            Ok(())
+        }
+        Body::Even => {
+            text.push(Piece::Even)?;
+            Ok(())
+        }
+        Body::Branch { kind, anchor } => {
+            let piece = branch_text(positions, notes, note.segment, kind, anchor)?;
+            text.push(piece)?;
+            Ok(())
+        }
+    }
+}
+
+fn push_own(
+    text: &mut Vec<Piece>,
+    positions: &[u64],
+    notes: &[Note],
+    gap: u32,
+    note: &Note,
+) -> Result<(), NoMemory>
+    ensures { IfOk result (λ _. text.new.items ≡ text.old.items ++ spec.own_text (spec.target_in positions.now notes.now) gap note.now) }
+{
+    push_lead(text, gap, note)?;
+    push_body(text, positions, notes, note)
+}
+
+fn push_main(
+    text: &mut Vec<Piece>,
+    positions: &[u64],
+    notes: &[Note],
+    gap: u32,
+    note: &Note,
+) -> Result<(), NoMemory>
+    ensures { IfOk result (λ _. text.new.items ≡ text.old.items ++ spec.main_text (spec.target_in positions.now notes.now) gap note.now) }
+{
+    if is_main(note.segment) {
+        push_own(text, positions, notes, gap, note)?;
+    }
+    Ok(())
+}
+
+fn push_absolute(
+    text: &mut Vec<Piece>,
+    positions: &[u64],
+    notes: &[Note],
+    gap: u32,
+    note: &Note,
+) -> Result<(), NoMemory>
+    ensures { IfOk result (λ _. text.new.items ≡ text.old.items ++ spec.absolute_text (spec.target_in positions.now notes.now) gap note.now) }
+{
+    if note.segment.is_absolute() {
+        push_own(text, positions, notes, gap, note)?;
+    }
+    if let Some(address) = note.opens {
+        text.push(Piece::At(address))?;
+    }
+    Ok(())
+}
+
+// ---- all statements, with the gap before each
+
+pub(crate) fn next_gap(gaps: &[u32]) -> u32
+    ensures { result ≡ spec.next_gap gaps.now }
+{
+    match gaps {
+        [] => 0,
+        [gap, ..] => *gap,
+    }
+}
+
+pub(crate) fn behind_gap(gaps: &[u32]) -> &[u32]
+    ensures { result.now ≡ drop 1 gaps.now }
+{
+    match gaps {
+        [] => gaps,
+        [_, rest @ ..] => rest,
+    }
+}
+
+#[tactic(auto, unfolding(crate::specs::Text::text_by))]
+fn push_all_main(
+    text: &mut Vec<Piece>,
+    positions: &[u64],
+    gaps: &[u32],
+    notes: &[Note],
+) -> Result<(), NoMemory>
+    ensures { IfOk result (λ _. text.new.items ≡ text.old.items ++ spec.text_by (spec.main_text (spec.target_in positions.now notes.now)) gaps.now notes.now) }
+{
+    let mut later = gaps;
+    for note in notes {
+        push_main(text, positions, notes, next_gap(later), note)?;
+        later = behind_gap(later);
+    }
+    Ok(())
+}
+
+#[tactic(auto, unfolding(crate::specs::Text::text_by))]
+fn push_all_absolute(
+    text: &mut Vec<Piece>,
+    positions: &[u64],
+    gaps: &[u32],
+    notes: &[Note],
+) -> Result<(), NoMemory>
+    ensures { IfOk result (λ _. text.new.items ≡ text.old.items ++ spec.text_by (spec.absolute_text (spec.target_in positions.now notes.now)) gaps.now notes.now) }
+{
+    let mut later = gaps;
+    for note in notes {
+        push_absolute(text, positions, notes, next_gap(later), note)?;
+        later = behind_gap(later);
+    }
+    Ok(())
+}
+
+// The relocatable code, and then the absolute pieces.
+pub(crate) fn text(
+    alloc: Global,
+    positions: &[u64],
+    gaps: &[u32],
+    notes: &[Note],
+) -> Result<Vec<Piece>, NoMemory>
+    ensures { IfOk result (λ v. v.items ≡ spec.whole_text (spec.target_in positions.now notes.now) gaps.now notes.now) }
+{
+    let mut text = Vec::new(alloc);
+    push_all_main(&mut text, positions, gaps, notes)?;
+    push_all_absolute(&mut text, positions, gaps, notes)?;
+    Ok(text)
+}

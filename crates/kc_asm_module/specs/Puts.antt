@@ -1,0 +1,53 @@
+-- What stands at the places of a module.
+use Rattle.std.specs.Prelude.{ℕ, Bool, true, ◌+◌, Option, Some, None}
+use Rattle.kc_expr.specs.declared.values.Base.{Base}
+use Rattle.kc_expr.specs.declared.values.Base.TheVariants.{Fixed, Absolute, Piece, External}
+use Rattle.kc_expr.specs.declared.values.Value.{Value}
+use Rattle.kc_obj.specs.declared.parts.Fixup.{Fixup}
+use Rattle.kc_obj.specs.declared.parts.Lines.{Lines}
+use Rattle.kc_obj.specs.declared.parts.Target.{Target}
+use Rattle.kc_obj.specs.declared.parts.Target.TheVariants as targets
+use Rattle.kc_obj.specs.Pieces.{kind_number}
+use Rattle.kc_obj.specs.Fixups.{may_begin}
+use Rattle.kc_asm_bytes.specs.declared.octet.Octet.{Octet}
+use Rattle.kc_asm_bytes.specs.declared.octet.Octet.TheVariants.{Plain, First, Second}
+use Rattle.kc_asm_bytes.specs.Relocating.{shown}
+use Rattle.kc_asm_piece.specs.declared.part.Cell.{Cell}
+use Rattle.kc_asm_piece.specs.declared.part.Mark.{Mark}
+use Rattle.kc_asm_piece.specs.Tape.{Tape}
+use Rattle.kc_asm_module.specs.declared.puts.Put.{Put}
+use Rattle.kc_asm_module.specs.Order.{start_of, relocation}
+
+-- an address is a number alone; the pieces have their numbers in the module
+abbrev pub target_of : (ℕ → ℕ) → Base → Target
+target_of number Fixed = targets.Number
+target_of number Absolute = targets.Number
+target_of number (Piece part) = targets.Piece (number part)
+target_of number (External external) = targets.External external
+
+-- the relocation that fills in a value: its number is the addend
+abbrev pub fixup_for : (ℕ → ℕ) → ℕ → ℕ → Option (ℕ × Value) → Option Fixup
+fixup_for number piece offset None = None
+fixup_for number piece offset (Some r) =
+    Some (record { piece = piece; offset = offset; kind = r.0; target = target_of number r.1.base; addend = r.1.number })
+
+-- the byte that the module has for an octet of a part
+abbrev pub byte_for : Tape → ℕ → Octet → ℕ
+byte_for t offset octet = shown t.at (kind_number t.kind) (start_of t.at + offset) octet
+
+abbrev pub put_of : (ℕ → ℕ) → ℕ → Tape → Cell → Put
+put_of number piece t c = record {
+  piece = piece;
+  offset = c.offset;
+  byte = byte_for t c.offset c.octet;
+  fixup = fixup_for number piece c.offset (relocation t c.octet);
+}
+
+abbrev pub entry_of : ℕ → Mark → Lines
+entry_of piece m = record { piece = piece; offset = m.offset; line = m.line }
+
+-- what a number is added to is 0, or the opcode of a jump of 11 bits
+abbrev pub has_start : Octet → Bool
+has_start (Plain b) = true
+has_start (First kind start v) = may_begin kind (Some start)
+has_start (Second kind v) = true

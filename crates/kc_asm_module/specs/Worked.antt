@@ -1,0 +1,55 @@
+-- A worked draft: jumps to an external and to a number, words, reserved bytes, an absolute part, and an empty part that
+-- a public names.
+use Rattle.std.specs.Prelude.{ℕ, false, Some, None, List, [], ◌∷◌, codes}
+use Rattle.kc_expr.specs.declared.values.Base.{Base}
+use Rattle.kc_expr.specs.declared.values.Base.TheVariants.{Fixed, Piece, External}
+use Rattle.kc_expr.specs.declared.values.Tag.TheVariants.{Memory}
+use Rattle.kc_expr.specs.declared.values.Value.{Value}
+use Rattle.kc_obj.specs.declared.parts.SegKind.TheVariants.{Reg, Code, Ram}
+use Rattle.kc_obj.specs.declared.parts.Taken.{Taken}
+use Rattle.kc_asm_bytes.specs.declared.octet.Octet.{Octet}
+use Rattle.kc_asm_bytes.specs.declared.octet.Octet.TheVariants.{Plain, First, Second}
+use Rattle.kc_asm_piece.specs.declared.draft.Public.{Public}
+use Rattle.kc_asm_piece.specs.Tape.{Tape, tape_of, blank, cell, mark}
+
+abbrev pub value : Base → ℕ → Value
+value base number = record { base = base; tag = Memory; number = number }
+
+abbrev pub first : ℕ → ℕ → Base → ℕ → Octet
+first kind start base number = First kind start (value base number)
+
+abbrev pub second : ℕ → Base → ℕ → Octet
+second kind base number = Second kind (value base number)
+
+-- a jump to an external, a byte of filling, two words, a jump to 2100H, a short call, three bytes reserved, a byte
+abbrev pub code : Tape
+code =
+    tape_of Code None 17
+    (cell 0 (Plain 0xE7) ∷ cell 1 (first 4 0 (External 0) 0) ∷ cell 2 (second 4 (External 0) 0) ∷ cell 3 (Plain 0xFF)
+    ∷ cell 4 (first 0 0 (Piece 1) 2) ∷ cell 5 (second 0 (Piece 1) 2) ∷ cell 6 (first 0 0 (External 1) 0) ∷ cell 7 (second 0 (External 1) 0)
+    ∷ cell 8 (Plain 0xE7) ∷ cell 9 (first 4 0 Fixed 0x2100) ∷ cell 10 (second 4 Fixed 0x2100)
+    ∷ cell 11 (first 3 0x28 (External 0) 0) ∷ cell 12 (second 3 (External 0) 0) ∷ cell 16 (Plain 7) ∷ [])
+    (mark 0 8 ∷ mark 4 9 ∷ mark 8 10 ∷ mark 11 11 ∷ mark 16 13 ∷ [])
+
+-- a load of the address of the code, and the jump to 2100H
+abbrev pub absolute : Tape
+absolute =
+    tape_of Code (Some 0x2080) 7
+    (cell 0 (Plain 0xA1) ∷ cell 1 (first 0 0 (Piece 1) 0) ∷ cell 2 (second 0 (Piece 1) 0) ∷ cell 3 (Plain 0x20)
+    ∷ cell 4 (Plain 0xE7) ∷ cell 5 (first 4 0 Fixed 0x2100) ∷ cell 6 (second 4 Fixed 0x2100) ∷ [])
+    (mark 0 15 ∷ mark 4 16 ∷ [])
+
+abbrev pub parts : List Tape
+parts = blank Reg None ∷ code ∷ blank Ram None ∷ absolute ∷ []
+
+abbrev pub public : List ℕ → Base → ℕ → Public
+public name base number = record { name = name; value = value base number }
+
+abbrev pub publics : List Public
+publics = public (codes "Z") Fixed 0x1234 ∷ public (codes "A") (Piece 1) 0 ∷ public (codes "LONE") (Piece 0) 0 ∷ []
+
+abbrev pub taken : List ℕ → Taken
+taken name = record { name = name; register = false }
+
+abbrev pub externals : List Taken
+externals = taken (codes "PROC") ∷ taken (codes "PLACE") ∷ []

@@ -1,0 +1,170 @@
+-- A walk over the statements with all of them at 0 and with each as a base of its own, one statement at a time.
+use Rattle.std.proofs.Common.{◌≡◌, ℕ, zero, suc, ◌+◌, ◌<◌, ◌≤◌, Bool, false, ◌||◌, List, [], ◌∷◌, ◌++◌, length, drop, refl, sym, ap, subst, ◌∙◌, append_assoc, arith}
+use Rattle.std.proofs.lemmas.List.{append-nil}
+use Rattle.std.proofs.Math.ListN.{drop_of_length-le}
+use Rattle.kc_obj.specs.declared.parts.Taken.{Taken}
+use Rattle.kc_expr.specs.declared.values.Value.{Value}
+use Rattle.kc_source_statement.specs.declared.statement.Stmt.{Stmt}
+use Rattle.kc_source_statement.specs.Trees.{action_tree}
+use Rattle.kc_asm_symbols.specs.declared.meanings.Meanings.{Meanings}
+use Rattle.kc_asm_symbols.specs.declared.segments.Segment.{Segment}
+use Rattle.kc_asm_symbols.specs.Externals.{declared, externals, externals_from, statement_uses_stack}
+use Rattle.kc_asm_symbols.specs.Located.{Located, located_by, located_from, located_at, listed, place_values, segment_after, first_segment}
+use Rattle.kc_asm_symbols.specs.Meanings.{meaning}
+use Rattle.kc_asm_symbols.specs.Walk.{IsBehind, IsAt, at_statement}
+use Rattle.kc_asm_symbols.proofs.ExternalLemmas.{one_declared, none_declared}
+use Rattle.kc_asm_symbols.proofs.ValueLemmas.{value_more, located_listed}
+use Rattle.kc_asm_outline.specs.declared.note.Note.{Note}
+use Rattle.kc_asm_outline.specs.Outline.{at_zero, on_its_own, note_of, notes_from, outline}
+
+-- ---- externals do not depend on where statements stand
+
+externals_stay_from : (values others : ℕ → Segment → Value) (i : ℕ) (g : Segment) (used : Bool) (ss : List Stmt)
+    → externals_from used (located_from values i g ss) ≡ externals_from used (located_from others i g ss)
+externals_stay_from values others i g used [] = none_declared values i g used ∙ sym (none_declared others i g used)
+externals_stay_from values others i g used (s ∷ ss) =
+    let a = action_tree s.action in
+    one_declared values i g used s ss
+    ∙ ap (λ rest. declared used g.kind a ++ rest) (externals_stay_from values others (i + 1) (segment_after g a) (used || statement_uses_stack a) ss)
+    ∙ sym (one_declared others i g used s ss)
+
+pub externals_stay : (values others : ℕ → Segment → Value) (ss : List Stmt) → externals (located_by values ss) ≡ externals (located_by others ss)
+externals_stay values others ss = externals_stay_from values others 0 first_segment false ss
+
+-- ---- the values of own places
+
+pub own_starts : (vs : List Value) (ss : List Stmt) → vs ≡ [] → vs ++ place_values (located_from on_its_own 0 first_segment ss) ≡ place_values (located_by on_its_own ss)
+own_starts vs ss none = ap (λ (us : List Value). us ++ place_values (located_from on_its_own 0 first_segment ss)) none
+
+has_front : (ss : List Stmt) (i : ℕ) → i < length ss → (s : Stmt) × (drop i ss ≡ s ∷ drop (i + 1) ss)
+has_front [] i within = absurd (omega arith)
+has_front (s ∷ ss) zero within = (s, refl)
+has_front (s ∷ ss) (suc i) within =
+    let next : suc i + 1 ≡ suc (i + 1) = omega arith in
+    let f = has_front ss i (omega arith) in
+    (f.0, f.1 ∙ ap (λ (n : ℕ). f.0 ∷ drop n (s ∷ ss)) (sym next))
+
+pub own_more : (i : ℕ) (g : Segment) (ss : List Stmt) (vs ws : List Value) (v : Value) → i < length ss → v ≡ on_its_own i g → ws ≡ vs ++ v ∷ []
+    → vs ++ place_values (located_from on_its_own i g (drop i ss)) ≡ place_values (located_by on_its_own ss)
+    → (h : Segment) × (ws ++ place_values (located_from on_its_own (i + 1) h (drop (i + 1) ss)) ≡ place_values (located_by on_its_own ss))
+own_more i g ss vs ws v within is grown so_far =
+    let f = has_front ss i within in
+    let all = place_values (located_by on_its_own ss) in
+    let h = segment_after g (action_tree f.0.action) in (
+      h,
+      value_more on_its_own i g h f.0 (drop (i + 1) ss) vs ws all refl (grown ∙ ap (λ (u : Value). vs ++ u ∷ []) is)
+          (subst (λ (rest : List Stmt). vs ++ place_values (located_from on_its_own i g rest) ≡ all) f.1 so_far),
+    )
+
+-- ---- the notes
+
+abbrev pub zeros_from : ℕ → Segment → List Stmt → List Located
+zeros_from i g ss = located_from at_zero i g ss
+
+abbrev pub owns_from : ℕ → Segment → List Stmt → List Located
+owns_from i g ss = located_from on_its_own i g ss
+
+one_located : (values : ℕ → Segment → Value) (i : ℕ) (g : Segment) (s : Stmt) (ss : List Stmt)
+    → located_from values i g (s ∷ ss) ≡ located_at g (values i g) s ∷ located_from values (i + 1) (segment_after g (action_tree s.action)) ss
+unfolding located_from
+one_located values i g s ss = refl
+
+none_located : (values : ℕ → Segment → Value) (i : ℕ) (g : Segment) → located_from values i g [] ≡ []
+unfolding located_from
+none_located values i g = refl
+
+one_note : (zeros owns before passed ls ms : List Located) (l m : Located)
+    → notes_from zeros owns before passed (l ∷ ls) (m ∷ ms) ≡ note_of (meaning zeros before l) (meaning owns passed m) l ∷ notes_from zeros owns (l ∷ before) (m ∷ passed) ls ms
+unfolding notes_from
+one_note zeros owns before passed ls ms l m = refl
+
+no_note : (zeros owns before passed ms : List Located) → notes_from zeros owns before passed [] ms ≡ []
+unfolding notes_from
+no_note zeros owns before passed ms = refl
+
+-- the statements that both walks have passed, the latest first, and the notes of those that are left
+pub record Walked (look own : Meanings) (notes : List Note) (i : ℕ) (g : Segment) (stmts rest : List Stmt) : Type 0 where
+  pub before : List Located
+  pub passed : List Located
+  pub look_is : IsBehind look (located_by at_zero stmts) before
+  pub own_is : IsBehind own (located_by on_its_own stmts) passed
+  pub so_far : notes ++ notes_from (located_by at_zero stmts) (located_by on_its_own stmts) before passed (zeros_from i g rest) (owns_from i g rest) ≡ outline stmts
+
+pub walk_starts : (look own : Meanings) (notes : List Note) (g : Segment) (stmts : List Stmt) → notes ≡ [] → g ≡ first_segment
+    → IsBehind look (located_by at_zero stmts) [] → IsBehind own (located_by on_its_own stmts) [] → Walked look own notes 0 g stmts stmts
+walk_starts look own notes g stmts none first look_is own_is = record {
+  before = [];
+  passed = [];
+  look_is = look_is;
+  own_is = own_is;
+  so_far = λ j. none j ++ notes_from (located_by at_zero stmts) (located_by on_its_own stmts) [] [] (zeros_from 0 (first j) stmts) (owns_from 0 (first j) stmts);
+}
+
+-- one note more
+pub note_more : (zeros owns before passed : List Located) (notes more : List Note) (i : ℕ) (g h : Segment) (s : Stmt) (rest : List Stmt) (n : Note) (all : List Note)
+    → h ≡ segment_after g (action_tree s.action) → more ≡ notes ++ n ∷ []
+    → n ≡ note_of (meaning zeros before (located_at g (at_zero i g) s)) (meaning owns passed (located_at g (on_its_own i g) s)) (located_at g (at_zero i g) s)
+    → notes ++ notes_from zeros owns before passed (zeros_from i g (s ∷ rest)) (owns_from i g (s ∷ rest)) ≡ all
+    → more ++ notes_from zeros owns (located_at g (at_zero i g) s ∷ before) (located_at g (on_its_own i g) s ∷ passed) (zeros_from (i + 1) h rest) (owns_from (i + 1) h rest) ≡ all
+note_more zeros owns before passed notes more i g h s rest n all moved grown is so_far =
+    let l = located_at g (at_zero i g) s in
+    let m = located_at g (on_its_own i g) s in
+    let k = segment_after g (action_tree s.action) in
+    let later = notes_from zeros owns (l ∷ before) (m ∷ passed) (zeros_from (i + 1) k rest) (owns_from (i + 1) k rest) in
+    (λ j. grown j ++ notes_from zeros owns (l ∷ before) (m ∷ passed) (zeros_from (i + 1) (moved j) rest) (owns_from (i + 1) (moved j) rest))
+    ∙ append_assoc notes (n ∷ []) later
+    ∙ ap (λ x. notes ++ x ∷ later) is
+    ∙ ap (λ ns. notes ++ ns) (sym (one_note zeros owns before passed (zeros_from (i + 1) k rest) (owns_from (i + 1) k rest) l m))
+    ∙ (λ j. notes ++ notes_from zeros owns before passed (sym (one_located at_zero i g s rest) j) (sym (one_located on_its_own i g s rest) j))
+    ∙ so_far
+
+-- over one statement, which is entered and left
+pub walk_more : (look looking looked own owning owned : Meanings) (notes more : List Note) (n : Note) (i : ℕ) (g h : Segment) (stmts rest : List Stmt) (s : Stmt) (v w : Value)
+    → v ≡ at_zero i g → w ≡ on_its_own i g → h ≡ segment_after g (action_tree s.action)
+    → ((all before : List Located) (k : Segment) → IsBehind look all before → IsAt looking all before (located_at k v s))
+    → ((all before : List Located) (k : Segment) → IsBehind own all before → IsAt owning all before (located_at k w s))
+    → ((all before : List Located) (l : Located) → IsAt looking all before l → l.action ≡ action_tree s.action → IsBehind looked all (l ∷ before))
+    → ((all before : List Located) (l : Located) → IsAt owning all before l → l.action ≡ action_tree s.action → IsBehind owned all (l ∷ before))
+    → n ≡ note_of (at_statement looking) (at_statement owning) (located_at g v s) → more ≡ notes ++ n ∷ []
+    → Walked look own notes i g stmts (s ∷ rest) → Walked looked owned more (i + 1) h stmts rest
+walk_more look looking looked own owning owned notes more n i g h stmts rest s v w zero_at own_at moved enters owner leaves owner_leaves is grown walked =
+    let zeros = located_by at_zero stmts in
+    let owns = located_by on_its_own stmts in
+    let l = located_at g (at_zero i g) s in
+    let m = located_at g (on_its_own i g) s in
+    let at_l : IsAt looking zeros walked.before l = subst (λ (u : Value). IsAt looking zeros walked.before (located_at g u s)) zero_at (enters zeros walked.before g walked.look_is) in
+    let at_m : IsAt owning owns walked.passed m = subst (λ (u : Value). IsAt owning owns walked.passed (located_at g u s)) own_at (owner owns walked.passed g walked.own_is) in
+    record {
+      before = l ∷ walked.before;
+      passed = m ∷ walked.passed;
+      look_is = leaves zeros walked.before l at_l refl;
+      own_is = owner_leaves owns walked.passed m at_m refl;
+      so_far = note_more zeros owns walked.before walked.passed notes more i g h s rest n (outline stmts) moved grown
+          (is ∙ (λ j. note_of (at_l.means j) (at_m.means j) (located_at g (zero_at j) s))) walked.so_far;
+    }
+
+-- the externals of the module, by a list of the values of places
+pub taken_listed : (at : ℕ → Segment → Value) (vs : List Value) (ss : List Stmt) (ts : List Taken) → ts ≡ externals (located_by at_zero ss) → length vs ≡ length ss
+    → vs ≡ place_values (located_by at ss) → ts ≡ externals (located_by (listed vs) ss)
+taken_listed at vs ss ts taken long same = taken ∙ externals_stay at_zero at ss ∙ ap externals (sym (located_listed at vs ss long (sym same)))
+
+pub walk_ends : (look own : Meanings) (notes : List Note) (i : ℕ) (g : Segment) (stmts : List Stmt) → length stmts ≤ i → Walked look own notes i g stmts (drop i stmts) → notes ≡ outline stmts
+walk_ends look own notes i g stmts past w =
+    let zeros = located_by at_zero stmts in
+    let owns = located_by on_its_own stmts in
+    sym (append-nil notes)
+    ∙ ap (λ ns. notes ++ ns) (sym (no_note zeros owns w.before w.passed (owns_from i g (drop i stmts))))
+    ∙ ap (λ ls. notes ++ notes_from zeros owns w.before w.passed ls (owns_from i g (drop i stmts))) (sym (none_located at_zero i g) ∙ ap (zeros_from i g) (sym (drop_of_length-le stmts past)))
+    ∙ w.so_far
+
+-- ---- as many notes as statements
+
+count_from : (zeros owns before passed : List Located) (i : ℕ) (g : Segment) (ss : List Stmt)
+    → length (notes_from zeros owns before passed (zeros_from i g ss) (owns_from i g ss)) ≡ length ss
+unfolding notes_from located_from
+count_from zeros owns before passed i g [] = refl
+count_from zeros owns before passed i g (s ∷ ss) =
+    ap suc (count_from zeros owns (located_at g (at_zero i g) s ∷ before) (located_at g (on_its_own i g) s ∷ passed) (i + 1) (segment_after g (action_tree s.action)) ss)
+
+pub note_count : (stmts : List Stmt) → length (outline stmts) ≡ length stmts
+note_count stmts = count_from (located_by at_zero stmts) (located_by on_its_own stmts) [] [] 0 first_segment stmts

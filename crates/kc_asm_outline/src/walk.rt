@@ -1,0 +1,83 @@
+ghost use Rattle.std.specs.Prelude.{◌≡◌, ◌<◌, ◌≤◌, ◌^◌, ℕ, length, IfOk};
+ghost use Rattle.kc_asm_symbols.specs.declared.segments.Segment.{Segment as SegmentOf};
+ghost use Rattle.kc_asm_symbols.specs.Located.{located_by, place_values};
+ghost use Rattle.kc_asm_symbols.specs.Externals.{externals};
+ghost use Rattle.kc_asm_outline.specs.Outline as spec;
+
+use crate::note::Note;
+use crate::notes::note_of;
+use kc_asm_symbols::{Meanings, Segment};
+use kc_base::NoMemory;
+use kc_expr::{Base, Tag, Value};
+use kc_obj::Taken;
+use kc_source_statement::Stmt;
+use std::alloc::Global;
+
+// The place of a statement as a base of its own.
+fn own_place(number: u16) -> Value
+    ensures { (g : SegmentOf) → result ≡ spec.on_its_own number g }
+{
+    Value {
+        base: Base::Piece(number),
+        tag: Tag::Memory,
+        number: 0,
+    }
+}
+
+// All statements at 0.
+fn zeros(alloc: Global, stmts: &[Stmt]) -> Result<Vec<Value>, NoMemory>
+    requires { length stmts.now ≤ 65536 }
+    ensures values { IfOk result (λ v. v.items ≡ place_values (located_by spec.at_zero stmts.now)) }
+    ensures count { IfOk result (λ v. length v.items ≡ length stmts.now) }
+{
+    let mut values = Vec::new(alloc);
+    let mut segment = Segment::first();
+    for i in 0..stmts.len() {
+        let stmt = &stmts[i];
+        values.push(segment.value_at(0))?;
+        segment = segment.after(&stmt.action);
+    }
+    Ok(values)
+}
+
+// Each statement as a base of its own.
+fn owns(alloc: Global, stmts: &[Stmt]) -> Result<Vec<Value>, NoMemory>
+    requires { length stmts.now ≤ 65536 }
+    ensures values { IfOk result (λ v. v.items ≡ place_values (located_by spec.on_its_own stmts.now)) }
+    ensures count { IfOk result (λ v. length v.items ≡ length stmts.now) }
+{
+    let mut values = Vec::new(alloc);
+    for i in 0..stmts.len() {
+        values.push(own_place(i as u16))?;
+    }
+    Ok(values)
+}
+
+/// The outline of a module: a note for each of its statements, of which there are at most 65,536, where `taken` are its
+/// externals. It is the same wherever the statements stand. (MCS-96 Macro Assembler User's Guide, "Segments and the
+/// Location Counter" and "Generic Branches".)
+pub fn outline(alloc: Global, stmts: &[Stmt], taken: &[Taken]) -> Result<Vec<Note>, NoMemory>
+    requires statements { length stmts.now ≤ 65536 }
+    requires taken { taken.now ≡ externals (located_by spec.at_zero stmts.now) }
+    requires few { length taken.now ≤ 65536 }
+    ensures notes { IfOk result (λ v. v.items ≡ spec.outline stmts.now) }
+    ensures count { IfOk result (λ v. length v.items ≡ length stmts.now) }
+{
+    let at_zero = zeros(alloc, stmts)?;
+    let on_their_own = owns(alloc, stmts)?;
+    let mut look = Meanings::new(alloc, stmts, at_zero.as_slice(), taken)?;
+    let mut own = Meanings::new(alloc, stmts, on_their_own.as_slice(), taken)?;
+    let mut notes = Vec::new(alloc);
+    let mut segment = Segment::first();
+    for i in 0..stmts.len() {
+        let stmt = &stmts[i];
+        look.enter(stmt, segment.value_at(0));
+        own.enter(stmt, own_place(i as u16));
+        let note = note_of(alloc, segment, stmt, &look, &own)?;
+        notes.push(note)?;
+        look.leave(alloc, stmt)?;
+        own.leave(alloc, stmt)?;
+        segment = segment.after(&stmt.action);
+    }
+    Ok(notes)
+}

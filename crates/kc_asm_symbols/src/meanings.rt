@@ -1,0 +1,157 @@
+ghost use Rattle.std.specs.Prelude.{◌≡◌, ◌≤◌, ℕ, List, [], ◌∷◌, length, reverse, IfOk, OnOk};
+ghost use Rattle.kc_expr.specs.Tree.{tree_of};
+ghost use Rattle.kc_expr.specs.Meaning.{answer_by};
+ghost use Rattle.kc_source_statement.specs.Trees.{action_tree};
+ghost use Rattle.kc_expr.specs.declared.values.Value.{Value};
+ghost use Rattle.kc_asm_symbols.specs.declared.segments.Segment.{Segment};
+ghost use Rattle.kc_asm_symbols.specs.Located.{Located, located_by, located_at, place_values, listed};
+ghost use Rattle.kc_asm_symbols.specs.Externals.{externals};
+ghost use Rattle.kc_asm_symbols.specs.Tables.{is_marked};
+ghost use Rattle.kc_asm_symbols.specs.Meanings as spec;
+ghost use Rattle.kc_asm_symbols.specs.Walk.{at_statement, IsEarlier, IsBehind, IsAt};
+
+use crate::earlier::{Earlier, is_here};
+use crate::table::{Marks, Table};
+use kc_base::NoMemory;
+use kc_expr::{Expr, Scope, Value, value_over};
+use kc_obj::Taken;
+use kc_source_statement::{Action, Stmt};
+use std::alloc::Global;
+
+fn is_definition(action: &Action) -> bool
+    ensures { result ≡ spec.is_definition (action_tree action.now) }
+{
+    match action {
+        Action::Equ(_, _) | Action::Set(_, _) => true,
+        _ => false,
+    }
+}
+
+fn mark_set(marks: &mut Marks, alloc: Global, action: &Action) -> Result<(), NoMemory>
+    ensures { OnOk result (is_marked marks.new ≡ spec.with_set (action_tree action.now) (is_marked marks.old)) }
+{
+    match action {
+        Action::Set(name, _) => marks.mark(alloc, name.as_slice()),
+        _ => Ok(()),
+    }
+}
+
+// The names that SET defines.
+fn set_names(alloc: Global, stmts: &[Stmt]) -> Result<Marks, NoMemory>
+    ensures { IfOk result (λ m. (values : ℕ → Segment → Value) → is_marked m ≡ spec.is_set (located_by values stmts.now)) }
+{
+    let mut marks = Marks::new(alloc);
+    for stmt in stmts {
+        mark_set(&mut marks, alloc, &stmt.action)?;
+    }
+    Ok(marks)
+}
+
+// What names mean by all statements.
+fn through(
+    earlier: Earlier,
+    alloc: Global,
+    stmts: &[Stmt],
+    values: &[Value],
+) -> Result<Earlier, NoMemory>
+    requires values { length values.now ≡ length stmts.now }
+    requires earlier { IsEarlier earlier (located_by (listed values.now) stmts.now) [] }
+    ensures { IfOk result (λ e. IsEarlier e (located_by (listed values.now) stmts.now) (reverse (located_by (listed values.now) stmts.now))) }
+{
+    let mut earlier = earlier;
+    for i in 0..stmts.len() {
+        let stmt = &stmts[i];
+        earlier.enter(values[i]);
+        earlier.leave(alloc, &stmt.action)?;
+    }
+    Ok(earlier)
+}
+
+/// What names mean at each statement of a module, in a walk over the statements, which enters each and leaves it. In the
+/// statement where it is, a name answers its value or a code: 7 where it means nothing there, and 255, above all other
+/// codes, where its own definition has a fault, which is told at that line alone. EQU and SET use names of earlier lines
+/// and any labels, other statements all names of the module, and of a name that SET defines the latest value before
+/// them. (MCS-96 Macro Assembler User's Guide, "EQU and SET".)
+#[derive(Drop)]
+pub struct Meanings {
+    earlier: Earlier,
+    last: Table,
+    set: Marks,
+    defines: bool,
+}
+
+impl Scope for Meanings {
+    ghost answers = { at_statement };
+
+    fn look(&self, name: &[u8]) -> Result<Value, u8> {
+        if is_here(name) {
+            Ok(self.earlier.here)
+        } else if self.defines || self.set.has(name) {
+            self.earlier.latest.look(name)
+        } else {
+            self.last.look(name)
+        }
+    }
+}
+
+impl Meanings {
+    /// Before the first of the statements, where the places of all have these values, as `place_values` gives them, and
+    /// `taken` are the externals.
+    pub fn new(
+        alloc: Global,
+        stmts: &[Stmt],
+        values: &[Value],
+        taken: &[Taken],
+    ) -> Result<Meanings, NoMemory>
+        requires values { length values.now ≡ length stmts.now }
+        requires taken { taken.now ≡ externals (located_by (listed values.now) stmts.now) }
+        requires few { length taken.now ≤ 65536 }
+        ensures { IfOk result (λ m. (at : ℕ → Segment → Value) → place_values (located_by at stmts.now) ≡ values.now → IsBehind m (located_by at stmts.now) []) }
+    {
+        let first = Earlier::new(alloc, stmts, values, taken)?;
+        let Earlier {
+            taken: _,
+            latest,
+            here: _,
+        } = through(first, alloc, stmts, values)?;
+        let set = set_names(alloc, stmts)?;
+        let earlier = Earlier::new(alloc, stmts, values, taken)?;
+        Ok(Meanings {
+            earlier,
+            last: latest,
+            set,
+            defines: false,
+        })
+    }
+
+    /// Enters the next statement, with the value of its place.
+    pub fn enter(&mut self, stmt: &Stmt, value: Value)
+        ensures { (all before : List Located) (g : Segment) → IsBehind self.old all before → IsAt self.new all before (located_at g value stmt.now) }
+    {
+        self.earlier.enter(value);
+        self.defines = is_definition(&stmt.action);
+    }
+
+    /// Leaves the statement that it is at. After an error it is of no further use.
+    pub fn leave(&mut self, alloc: Global, stmt: &Stmt) -> Result<(), NoMemory>
+        ensures { OnOk result ((all before : List Located) (l : Located) → IsAt self.old all before l → l.action ≡ action_tree stmt.now.action → IsBehind self.new all (l ∷ before)) }
+    {
+        self.earlier.leave(alloc, &stmt.action)?;
+        Ok(())
+    }
+
+    /// The value of an expression of the statement, or the least code of its faults.
+    pub fn value(&self, expr: &Expr) -> Result<Value, u8>
+        ensures { (all before : List Located) (l : Located) → IsAt self.now all before l → result ≡ answer_by (spec.meaning all before l) (tree_of expr.now) }
+    {
+        value_over(expr, self)
+    }
+
+    /// What a name means by all statements, as a public name does: 7 where it means nothing, 255 where its definition
+    /// has a fault.
+    pub fn last(&self, name: &[u8]) -> Result<Value, u8>
+        ensures { (all before : List Located) → IsBehind self.now all before → result ≡ spec.in_all all name.now }
+    {
+        self.last.look(name)
+    }
+}

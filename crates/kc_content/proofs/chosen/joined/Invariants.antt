@@ -1,6 +1,0 @@
-use Rattle.std.proofs.Common.{◌≡◌, ◌++◌, drop}
-use Rattle.kc_operation_octets.specs.Octets.{all_octets}
-use Rattle.kc_content.proofs.chosen.joined.Given as goal
-
-abbrev pub invariant-loop-worded : goal.invariant-loop-worded
-invariant-loop-worded l = l.octets.items ++ all_octets (drop l.worded-index l.list) ≡ all_octets l.list

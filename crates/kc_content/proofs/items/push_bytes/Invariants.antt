@@ -1,6 +1,0 @@
-use Rattle.std.proofs.Common.{◌≡◌, ◌++◌, map, take}
-use Rattle.kc_octet.specs.declared.octet.Octet.TheVariants as octets
-use Rattle.kc_content.proofs.items.push_bytes.Given as goal
-
-abbrev pub invariant-loop-byte : goal.invariant-loop-byte
-invariant-loop-byte l = l.list.items ≡ l.fn.list.items ++ map octets.Plain (take l.byte-index l.bytes)

@@ -1,5 +1,0 @@
-use Rattle.kc_effect.proofs.Counting.{any_trap-most}
-use Rattle.kc_effect.proofs.laws.trap_accesses.Goals as goal
-
-pub returns : goal.returns
-returns c = any_trap-most

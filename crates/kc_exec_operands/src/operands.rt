@@ -1,0 +1,91 @@
+ghost use Rattle.std.specs.Prelude.{◌≡◌, ◌+◌, ◌≤◌, ◌<◌, ◌%◌, IfOk, IsTrue, false};
+ghost use Rattle.kc_exec_spec.specs.Effect.{Gives, run};
+ghost use Rattle.kc_exec_spec.specs.Parts.{limit};
+ghost use Rattle.kc_exec_spec.specs.Operands.{size, at_offset, source, target};
+
+use crate::parts::{read_at, read_register, write_register};
+use kc_base::Kind;
+use kc_bus::{Bus, window};
+use kc_isa::Operand;
+
+fn moved(base: u16, offset: u16) -> u16
+    ensures { result ≡ at_offset base offset }
+{
+    base.wrapping_add(offset)
+}
+
+// A pointer behind a byte or a word.
+fn stepped(byte: bool, pointer: u16) -> u16
+    ensures { result ≡ at_offset pointer (size byte) }
+{
+    moved(pointer, if byte { 1 } else { 2 })
+}
+
+fn cut(byte: bool, value: u16) -> u16
+    ensures value { result ≡ value % limit byte }
+    ensures bound { result < limit byte }
+{
+    if byte { value % 0x100 } else { value }
+}
+
+/// Reads S, a byte or a word: its pointer or base first, and an incremented pointer is written back after the read
+/// (80C196KC User's Manual, "Addressing Modes").
+#[tactic(auto, using(kc_exec_spec::proofs::Running::run_bind), unfolding(kc_exec_spec::specs::Operands::source))]
+pub fn read_source<B: Bus>(bus: &mut B, byte: bool, wsr: u8, operand: Operand) -> Result<u16, Kind>
+    ensures gives { Gives (λ x. x) result (B.held bus.new) (run B.meaning (source byte wsr operand) (B.held bus.old)) }
+    ensures spent { B.spent bus.new + B.allowed (B.held bus.old) ≤ B.spent bus.old + B.allowed (B.held bus.new) }
+    ensures same { B.lent bus.new ≡ B.lent bus.old }
+    ensures bound { IfOk result (λ n. n < limit byte) }
+{
+    match operand {
+        Operand::Reg(register) => read_register(bus, byte, wsr, register),
+        Operand::Imm(value) => Ok(cut(byte, value)),
+        Operand::Indirect(register) => {
+            let pointer = read_register(bus, false, wsr, register)?;
+            read_at(bus, byte, pointer)
+        }
+        Operand::Increment(register) => {
+            let place = read_register(bus, false, wsr, register)?;
+            let value = read_at(bus, byte, place)?;
+            write_register(bus, false, wsr, register, stepped(byte, place))?;
+            Ok(value)
+        }
+        Operand::Short { base, offset } => {
+            let pointer = read_register(bus, false, wsr, base)?;
+            read_at(bus, byte, moved(pointer, i16::from(offset).cast_unsigned()))
+        }
+        Operand::Long { base, offset } => {
+            let pointer = read_register(bus, false, wsr, base)?;
+            read_at(bus, byte, moved(pointer, offset))
+        }
+        Operand::Absent | Operand::Count(_) | Operand::Disp(_) => Ok(0),
+    }
+}
+
+/// Finds the address of S: its pointer or base is read, and an incremented pointer written back (80C196KC User's
+/// Manual, "Addressing Modes").
+#[tactic(auto, using(kc_exec_spec::proofs::Running::run_bind), unfolding(kc_exec_spec::specs::Operands::target))]
+pub fn find_target<B: Bus>(bus: &mut B, byte: bool, wsr: u8, operand: Operand) -> Result<u16, Kind>
+    ensures gives { Gives (λ x. x) result (B.held bus.new) (run B.meaning (target byte wsr operand) (B.held bus.old)) }
+    ensures spent { B.spent bus.new + B.allowed (B.held bus.old) ≤ B.spent bus.old + B.allowed (B.held bus.new) }
+    ensures same { B.lent bus.new ≡ B.lent bus.old }
+{
+    match operand {
+        Operand::Reg(register) => window(wsr, register),
+        Operand::Indirect(register) => read_register(bus, false, wsr, register),
+        Operand::Increment(register) => {
+            let pointer = read_register(bus, false, wsr, register)?;
+            write_register(bus, false, wsr, register, stepped(byte, pointer))?;
+            Ok(pointer)
+        }
+        Operand::Short { base, offset } => {
+            let pointer = read_register(bus, false, wsr, base)?;
+            Ok(moved(pointer, i16::from(offset).cast_unsigned()))
+        }
+        Operand::Long { base, offset } => {
+            let pointer = read_register(bus, false, wsr, base)?;
+            Ok(moved(pointer, offset))
+        }
+        Operand::Absent | Operand::Imm(_) | Operand::Count(_) | Operand::Disp(_) => Ok(0),
+    }
+}

@@ -1,8 +1,0 @@
--- The statement that a walk is at.
-use Rattle.kc_statement.specs.declared.statement.Stmt.{Stmt}
-use Rattle.kc_names.specs.declared.segments.Segment.{Segment}
-use Rattle.kc_names.specs.Located.{Located, located_at, value_at}
-use Rattle.kc_layout.specs.declared.site.Site.{Site}
-
-abbrev pub stood : Segment → Stmt → Site → Located
-stood g stmt s = located_at g (value_at g s.place) stmt

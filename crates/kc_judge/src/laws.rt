@@ -1,7 +1,0 @@
-ghost use Rattle.kc_judge.specs.Laws.{SoundStatements};
-
-/// Where a module has no first fault, no statement of it has any.
-#[tactic(auto, using(crate::proofs::SoundLemmas::sound_statements))]
-pub fn no_fault_no_codes()
-    ensures { SoundStatements }
-{}

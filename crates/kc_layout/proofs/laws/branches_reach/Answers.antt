@@ -1,5 +1,0 @@
-use Rattle.kc_layout.proofs.Reach.{reach}
-use Rattle.kc_layout.proofs.laws.branches_reach.Goals as goal
-
-pub returns : goal.returns
-returns c = reach

@@ -1,5 +1,0 @@
-use Rattle.kc_layout.proofs.Reach.{others_long}
-use Rattle.kc_layout.proofs.laws.other_branches_are_long.Goals as goal
-
-pub returns : goal.returns
-returns c = others_long

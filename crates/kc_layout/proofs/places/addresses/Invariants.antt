@@ -1,6 +1,0 @@
-use Rattle.std.proofs.Common.{◌≡◌, ◌++◌, drop}
-use Rattle.kc_layout.specs.Places as spec
-use Rattle.kc_layout.proofs.places.addresses.Given as goal
-
-abbrev pub invariant-loop-note : goal.invariant-loop-note
-invariant-loop-note l = l.addresses.items ++ spec.opened (drop l.note-index l.notes) ≡ spec.addresses l.notes

@@ -1,0 +1,110 @@
+-- The image that is filled from the modules of drafts holds the octets of the drafts
+-- (after the MCS-96 Macro Assembler User's Guide, "Relocation").
+use Rattle.std.specs.Prelude.{◌≡◌, ℕ, true, ◌+◌, ◌-◌, ◌<◌, ◌≤◌, Some, Ok, List, ◌++◌, length, drop, slice_get}
+use Rattle.kc_expr.specs.declared.values.Value.{Value}
+use Rattle.kc_obj.specs.Object.{Object}
+use Rattle.kc_obj_relocation.specs.Numbers.{Bases, number, reach, fits}
+use Rattle.kc_asm_bytes.specs.declared.octet.Octet.{Octet}
+use Rattle.kc_asm_bytes.specs.declared.octet.Octet.TheVariants.{First}
+use Rattle.kc_asm_bytes.specs.Filling.{address, fill, filled}
+use Rattle.kc_asm_piece.specs.declared.draft.Draft.{Draft}
+use Rattle.kc_asm_piece.specs.Tape.{Tape, octet_at}
+use Rattle.kc_asm_module.specs.Drafts.{IsDraft}
+use Rattle.kc_asm_module.specs.ModuleOf.{IsModuleOf}
+use Rattle.kc_link_place.specs.declared.ranges.Ranges.{Ranges}
+use Rattle.kc_link_place.specs.Placing.{Places, bases_of}
+use Rattle.kc_link.specs.Placed.{placed}
+use Rattle.kc_link.specs.Filled.{IsFilled}
+use Rattle.kc_link_draft_laws.specs.Parts.{StandsIn, start, part_bases}
+use Rattle.kc_link_draft_laws.specs.Settled.{IsWhole, IsSettled}
+
+-- ---- one draft under the bases of its module
+
+-- an octet stands in the image of program memory, at its place and filled
+pub record IsHeld (image : List ℕ) (bases : Bases) (d : Draft) (part offset : ℕ) (octet : Octet) : Type 0 where
+  pub within : 0x2000 ≤ start bases d part + offset
+  pub byte : slice_get image ((start bases d part + offset) - 0x2000) ≡ Some (fill (part_bases bases d) (start bases d part + offset) octet)
+
+-- each octet of a draft does
+pub record HoldsDraft (image : List ℕ) (bases : Bases) (d : Draft) : Type 0 where
+  pub octets : (part offset : ℕ) (t : Tape) (octet : Octet) → StandsIn d part t offset octet → IsHeld image bases d part offset octet
+
+-- octets stand one after the other in a part, from an offset on
+abbrev pub StandsFrom : Draft → ℕ → ℕ → List Octet → Type 0
+StandsFrom d part offset octets = (t : Tape) × ((slice_get d.parts.items part ≡ Some t)
+    × ((k : ℕ) (octet : Octet) → slice_get octets k ≡ Some octet → octet_at t (offset + k) ≡ Some octet))
+
+-- from the place of an offset on the image reads as octets, filled, and what is behind them
+abbrev pub ReadsAs : List ℕ → Bases → Draft → ℕ → ℕ → List Octet → Type 0
+ReadsAs image bases d part offset octets =
+    (rest : List ℕ) × (drop ((start bases d part + offset) - 0x2000) image ≡ filled (part_bases bases d) (start bases d part + offset) octets ++ rest)
+
+-- each number of a draft fits its bytes
+pub record FitsDraft (bases : Bases) (d : Draft) : Type 0 where
+  pub numbers : (part offset kind begin : ℕ) (t : Tape) (v : Value) → StandsIn d part t offset (First kind begin v)
+      → fits kind (number kind ((start bases d part + offset) + reach kind) (address (part_bases bases d) v)) ≡ true
+
+-- each absolute part stands at its address
+pub record StandsAbsolute (bases : Bases) (d : Draft) : Type 0 where
+  pub parts : (part address : ℕ) (t : Tape) → slice_get d.parts.items part ≡ Some t → t.at ≡ Some address → start bases d part ≡ address
+
+-- ---- all drafts
+
+-- modules are those of drafts, in order
+pub record AreModulesOf (ds : List Draft) (ms : List Object) : Type 0 where
+  pub count : length ds ≡ length ms
+  pub are_drafts : (i : ℕ) (d : Draft) → slice_get ds i ≡ Some d → IsDraft d
+  pub are_whole : (i : ℕ) (d : Draft) → slice_get ds i ≡ Some d → IsWhole d
+  pub of : (i : ℕ) (d : Draft) (m : Object) → slice_get ds i ≡ Some d → slice_get ms i ≡ Some m → IsModuleOf d m
+
+abbrev pub AreSettled : List Draft → Type 0
+AreSettled ds = (i : ℕ) (d : Draft) → slice_get ds i ≡ Some d → IsSettled d
+
+-- an octet of a draft has a place of the image
+pub record IsCovered (ds : List Draft) (ms : List Object) (places : Places) (place : ℕ) : Type 0 where
+  pub index : ℕ
+  pub d : Draft
+  pub is_there : slice_get ds index ≡ Some d
+  pub m : Object
+  pub its_module : slice_get ms index ≡ Some m
+  pub part : ℕ
+  pub offset : ℕ
+  pub t : Tape
+  pub octet : Octet
+  pub stands : StandsIn d part t offset octet
+  pub at : start (bases_of ms places index m) d part + offset ≡ 0x2000 + place
+
+-- the image holds each draft, and FFH where none has an octet
+pub record AreLinked (ds : List Draft) (ms : List Object) (places : Places) (image : List ℕ) : Type 0 where
+  pub long : length image ≡ 0xE000
+  pub holds : (i : ℕ) (d : Draft) (m : Object) → slice_get ds i ≡ Some d → slice_get ms i ≡ Some m
+      → HoldsDraft image (bases_of ms places i m) d
+  pub blank : (place : ℕ) → place < 0xE000 → (IsCovered ds ms places place → ⊥) → slice_get image place ≡ Some 255
+
+-- ---- laws
+
+abbrev pub DraftsAreLinked : Type 0
+DraftsAreLinked =
+    (ds : List Draft) (ms : List Object) (ranges : Ranges) (places : Places) (image : List ℕ)
+    → AreModulesOf ds ms → placed ms ranges ≡ Ok places → IsFilled ms places image
+    → AreLinked ds ms places image
+
+-- what is held can be read in a row
+abbrev pub HeldIsRead : Type 0
+HeldIsRead =
+    (image : List ℕ) (bases : Bases) (d : Draft) (part offset : ℕ) (octets : List Octet)
+    → HoldsDraft image bases d → StandsFrom d part offset octets → ReadsAs image bases d part offset octets
+
+abbrev pub NumbersFit : Type 0
+NumbersFit =
+    (ds : List Draft) (ms : List Object) (ranges : Ranges) (places : Places)
+    → AreModulesOf ds ms → AreSettled ds → placed ms ranges ≡ Ok places
+    → (i : ℕ) (d : Draft) (m : Object) → slice_get ds i ≡ Some d → slice_get ms i ≡ Some m
+    → FitsDraft (bases_of ms places i m) d
+
+abbrev pub AbsolutePartsStand : Type 0
+AbsolutePartsStand =
+    (ds : List Draft) (ms : List Object) (ranges : Ranges) (places : Places)
+    → AreModulesOf ds ms → placed ms ranges ≡ Ok places
+    → (i : ℕ) (d : Draft) (m : Object) → slice_get ds i ≡ Some d → slice_get ms i ≡ Some m
+    → StandsAbsolute (bases_of ms places i m) d

@@ -1,0 +1,52 @@
+//! The image that is filled from the modules of drafts holds the octets of the drafts: laws of definitions, without code.
+#![tactic(auto)]
+
+ghost use Rattle.kc_link_draft_laws.specs.Growing.{FirstsStay, NoMisfitStays};
+ghost use Rattle.kc_link_draft_laws.specs.Linked.{AbsolutePartsStand, DraftsAreLinked, HeldIsRead, NumbersFit};
+ghost use Rattle.kc_link_draft_laws.specs.Worked.{WorkedDraft};
+
+use kc_link::{absolute_pieces_stand, relocations_fit};
+
+/// Where no rule of the linker is broken, each absolute part of a draft stands at its address.
+pub fn absolute_parts_stand()
+    ensures { AbsolutePartsStand }
+{
+    absolute_pieces_stand();
+}
+
+/// The image that is filled from the modules of drafts has each octet of each draft at its place, filled under the bases
+/// of its module, and FFH where no draft has an octet.
+pub fn drafts_are_linked()
+    ensures { DraftsAreLinked }
+{
+    absolute_pieces_stand();
+}
+
+/// Octets that stand one after the other in a part of a draft are read one after the other, filled, from their place on in
+/// an image that holds the draft.
+pub fn held_is_read()
+    ensures { HeldIsRead }
+{}
+
+/// Where no rule of the linker is broken, each number of each draft fits its bytes.
+pub fn numbers_fit()
+    ensures { NumbersFit }
+{
+    absolute_pieces_stand();
+    relocations_fit();
+}
+
+/// In a part at whose end paired octets are written each second byte of a number stands behind its first one.
+pub fn firsts_stay()
+    ensures { FirstsStay }
+{}
+
+/// A part at whose end octets without misfits are written has no misfit.
+pub fn no_misfit_stays()
+    ensures { NoMisfitStays }
+{}
+
+/// Where the parts of a worked draft stand, and some of its bytes.
+pub fn worked_draft()
+    ensures { WorkedDraft }
+{}

@@ -1,0 +1,29 @@
+use Rattle.std.proofs.Common.{◌≡◌, ◌+◌, length, get_or, take, arith, ap, ◌∙◌}
+use Rattle.std.proofs.lemmas.List.{length-set, length-take-le, take_all}
+use Rattle.kc_obj.specs.declared.parts.SegKind.TheVariants.{Reg}
+use Rattle.kc_link_place.specs.declared.pieces.Stand.{Stand}
+use Rattle.kc_link_place.specs.Gaps.{ends_at}
+use Rattle.kc_link_place.proofs.Covers.{ends_le, ends_more, marked, mark_fits}
+use Rattle.kc_link_place.proofs.cover.ends.Goals as goal
+
+abbrev nowhere : Stand
+nowhere = record { piece = record { index = 0; number = 0; kind = Reg; size = 0 }; at = 0 }
+
+pub raise-requires : goal.raise-requires
+raise-requires c =
+    let seen = take c.loop-stand.stand-index c.args.stands.now in
+    let n : length (take c.loop-stand.stand-index c.args.stands.now) ≡ c.loop-stand.stand-index = length-take-le c.loop-stand.stand-index c.args.stands.now (omega arith) in
+    let b = mark_fits c.loop-stand.table.items ((get_or c.args.stands.now c.loop-stand.stand-index nowhere).at + (get_or c.args.stands.now c.loop-stand.stand-index nowhere).piece.size) (length (take c.loop-stand.stand-index c.args.stands.now)) (ends_at (take c.loop-stand.stand-index c.args.stands.now)) c.loop-stand.invariant.size c.loop-stand.invariant.counts (ends_le (take c.loop-stand.stand-index c.args.stands.now)) in
+    omega (arith, b, n)
+
+pub loop-stand-preserved : goal.loop-stand-preserved
+loop-stand-preserved c = rw c.raise.ensures record {
+  size = length-set c.loop-stand.table.items ((get_or c.args.stands.now c.loop-stand.stand-index nowhere).at + (get_or c.args.stands.now c.loop-stand.stand-index nowhere).piece.size) _ ∙ c.loop-stand.invariant.size;
+  counts = marked c.loop-stand.table.items ((get_or c.args.stands.now c.loop-stand.stand-index nowhere).at + (get_or c.args.stands.now c.loop-stand.stand-index nowhere).piece.size) (ends_at (take c.loop-stand.stand-index c.args.stands.now)) (ends_at (take (c.loop-stand.stand-index + 1) c.args.stands.now))
+      c.loop-stand.invariant.size c.loop-stand.invariant.counts (λ a. ends_more c.args.stands.now c.loop-stand.stand-index nowhere a c.loop-stand-test.true);
+}
+
+pub returns : goal.returns
+returns c =
+    let all : take c.loop-stand.stand-index c.args.stands.now ≡ c.args.stands.now = take_all c.loop-stand.stand-index c.args.stands.now (omega arith) in
+    (c.loop-stand.invariant.size, λ a l. c.loop-stand.invariant.counts a l ∙ ap (λ ss. ends_at ss a) all)

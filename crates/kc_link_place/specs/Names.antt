@@ -1,0 +1,72 @@
+-- Which module gives a name, and the rules on names.
+use Rattle.std.specs.Prelude.{◌≡◌, ℕ, Bool, true, false, ◌+◌, nat_lt, if◌then◌else◌, Option, Some, None, List, [], ◌∷◌}
+use Rattle.std.specs.Str.{bytes_eq}
+use Rattle.std.specs.Map.{lookup}
+use Rattle.std.specs.Global.{Vec}
+use Rattle.kc_obj.specs.declared.parts.Given.{Given}
+use Rattle.kc_obj.specs.declared.parts.Taken.{Taken}
+use Rattle.kc_obj.specs.Object.{Object}
+use Rattle.kc_obj.specs.Names.{is_stack_name}
+use Rattle.kc_link_place.specs.declared.names.Home.{Home}
+
+abbrev pub either : {A : Type 0} → Option A → Option A → Option A
+either None other = other
+either (Some a) other = Some a
+
+abbrev pub home : ℕ → Given → Home
+home index g = record { index = index; piece = g.piece; value = g.value }
+
+abbrev pub home_among : ℕ → List Given → List ℕ → Option Home
+home_among index [] name = None
+home_among index (g ∷ gs) name = if bytes_eq g.name name then Some (home index g) else home_among index gs name
+
+unfoldable pub home_from : ℕ → List Object → List ℕ → Option Home
+home_from index [] name = None
+home_from index (m ∷ ms) name = either (home_among index m.publics name) (home_from (index + 1) ms name)
+
+-- the first module that makes a name public, with the place or number that it gives
+abbrev pub home_of : List Object → List ℕ → Option Home
+home_of modules name = home_from 0 modules name
+
+abbrev pub is_some_home : Option Home → Bool
+is_some_home None = false
+is_some_home (Some h) = true
+
+-- ---- a name is taken that no module gives: STACK is given where there is a stack
+
+abbrev pub is_resolved : List Object → ℕ → List ℕ → Bool
+is_resolved modules stack name = if is_stack_name name then nat_lt 0 stack else is_some_home (home_of modules name)
+
+abbrev pub first_missing : List Object → ℕ → List Taken → Option (List ℕ)
+first_missing modules stack [] = None
+first_missing modules stack (t ∷ ts) = if is_resolved modules stack t.name then first_missing modules stack ts else Some t.name
+
+unfoldable pub unresolved : List Object → ℕ → List Object → Option (List ℕ)
+unresolved modules stack [] = None
+unresolved modules stack (m ∷ ms) = either (first_missing modules stack m.externals) (unresolved modules stack ms)
+
+-- ---- a name is given that an earlier module gives
+
+abbrev pub comes_later : Option Home → ℕ → Bool
+comes_later None index = false
+comes_later (Some h) index = nat_lt h.index index
+
+abbrev pub first_second : List Object → ℕ → List Given → Option (List ℕ)
+first_second modules index [] = None
+first_second modules index (g ∷ gs) = if comes_later (home_of modules g.name) index then Some g.name else first_second modules index gs
+
+unfoldable pub doubled : List Object → ℕ → List Object → Option (List ℕ)
+doubled modules index [] = None
+doubled modules index (m ∷ ms) = either (first_second modules index m.publics) (doubled modules (index + 1) ms)
+
+-- ---- the names as they are kept by hash
+
+abbrev pub found_in : List (Vec ℕ × Home) → List ℕ → Option Home
+found_in entries name = lookup (λ k. bytes_eq name k.items) entries
+
+-- each name of the modules with its home
+abbrev pub Knows : List (Vec ℕ × Home) → List Object → Type 0
+Knows entries modules = (name : List ℕ) → found_in entries name ≡ home_of modules name
+
+abbrev pub if_same : List ℕ → List ℕ → Home → Option Home
+if_same a b h = if bytes_eq a b then Some h else None

@@ -1,0 +1,79 @@
+ghost use Rattle.std.specs.Prelude.{◌≡◌, ◌+◌, ◌<◌, ◌≤◌, ℕ, List, OnOk, IfOk, length};
+ghost use Rattle.std.specs.Option.{option_copied};
+ghost use Rattle.kc_obj.specs.Object.{Object};
+ghost use Rattle.kc_link_place.specs.Names as spec;
+ghost use Rattle.kc_link_place.specs.Names.{either, home_among, home_of, found_in, Knows, if_same, is_some_home};
+
+use indexmap::IndexMap;
+use kc_base::{NoMemory, Text};
+use kc_obj::{Given, Module, Taken};
+use std::alloc::Global;
+
+/// Where a name is public: the number of the module, and a place in one of its pieces or a number alone.
+#[derive(Clone, Copy, Debug, PartialEq, Eq)]
+pub struct Home {
+    pub index: usize,
+    pub piece: Option<u16>,
+    pub value: u16,
+}
+
+/// The public names of modules, each with its first home.
+#[derive(Drop)]
+pub(crate) struct Names {
+    homes: IndexMap<Vec<u8>, Home>,
+}
+
+impl Names {
+    /// The home of a name, if it has one.
+    pub(crate) fn home(&self, name: &[u8]) -> Option<Home>
+        ensures { result ≡ found_in self.now.homes.entries name.now }
+    {
+        self.homes.get(name).copied()
+    }
+
+    // Notes the home of a name that has none.
+    fn note(&mut self, alloc: Global, name: &[u8], home: Home) -> Result<(), NoMemory>
+        ensures { OnOk result ((q : List ℕ) → found_in self.new.homes.entries q ≡ either (found_in self.old.homes.entries q) (if_same name.now q home)) }
+    {
+        if self.home(name).is_none() {
+            let key = Vec::from_slice(alloc, name)?;
+            self.homes.insert(key, home)?;
+        }
+        Ok(())
+    }
+
+    // Notes the public names of a module.
+    fn note_all(&mut self, alloc: Global, index: usize, publics: &[Given]) -> Result<(), NoMemory>
+        ensures { OnOk result ((q : List ℕ) → found_in self.new.homes.entries q ≡ either (found_in self.old.homes.entries q) (home_among index publics.now q)) }
+    {
+        let mut left = publics;
+        while let [given, rest @ ..] = left {
+            let home = Home {
+                index,
+                piece: given.piece,
+                value: given.value,
+            };
+            self.note(alloc, given.name.as_slice(), home)?;
+            left = rest;
+        }
+        Ok(())
+    }
+}
+
+/// The public names of all modules.
+#[tactic(auto, unfolding(crate::specs::Names::home_from))]
+pub(crate) fn public_names(alloc: Global, modules: &[Module]) -> Result<Names, NoMemory>
+    ensures { IfOk result (λ names. Knows names.homes.entries modules.now) }
+{
+    let mut names = Names {
+        homes: IndexMap::new(alloc),
+    };
+    let mut left = modules;
+    let mut index = 0;
+    while let [module, rest @ ..] = left {
+        names.note_all(alloc, index, module.publics())?;
+        index += 1;
+        left = rest;
+    }
+    Ok(names)
+}

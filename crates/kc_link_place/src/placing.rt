@@ -1,0 +1,147 @@
+ghost use Rattle.std.specs.Prelude.{◌≡◌, ◌+◌, ◌<◌, ◌≤◌, ◌++◌, ℕ, List, [], IfOk, true, length};
+ghost use Rattle.std.specs.Option.{option_map};
+ghost use Rattle.kc_obj.specs.Object.{Object};
+ghost use Rattle.kc_obj.specs.declared.parts.SegKind.TheVariants as kinds;
+ghost use Rattle.kc_link_place.specs.declared.pieces.Stand as the;
+ghost use Rattle.kc_link_place.specs.declared.ranges.LinkFault.TheVariants as faults;
+ghost use Rattle.kc_link_place.specs.Ranges.{are_in_bounds, range_of};
+ghost use Rattle.kc_link_place.specs.Stands.{least_free, fixed_from, wanted};
+ghost use Rattle.kc_link_place.specs.Gaps.{Represents};
+ghost use Rattle.kc_link_place.specs.Names as named;
+ghost use Rattle.kc_link_place.specs.Names.{Knows};
+ghost use Rattle.kc_link_place.specs.Placing as placing;
+ghost use Rattle.kc_link_place.specs.Placing.{IsAnswer, IsCause, IsKept, IsLocated, stack_at, with_puts};
+
+use crate::cover::{cover, gaps_between, overlap};
+use crate::gaps::{Gap, find};
+use crate::names::{Names, public_names};
+use crate::pieces::{Stand, fixed_pieces, wanted_pieces};
+use crate::places::{all_bases, all_places};
+use crate::putting::{NoPlace, put_all};
+use crate::ranges::{LinkFault, Ranges};
+use crate::rules::{doubled, unresolved};
+use crate::stack::stack_size;
+use kc_base::Text;
+use kc_link_fill::Bases;
+use kc_obj::{Module, SegKind};
+use std::alloc::Global;
+
+// Whether each name that is taken is given.
+fn check_taken(alloc: Global, names: &Names, size: u32, modules: &[Module]) -> Result<(), LinkFault>
+    ensures { Knows names.now.homes.entries modules.now → IsKept (option_map faults.Unresolved (named.unresolved modules.now size modules.now)) result }
+{
+    match unresolved(names, size, modules) {
+        None => Ok(()),
+        Some(name) => Err(LinkFault::Unresolved(Text::of(alloc, name.as_slice())?)),
+    }
+}
+
+// Whether each name is given once.
+fn check_given(alloc: Global, names: &Names, modules: &[Module]) -> Result<(), LinkFault>
+    ensures { Knows names.now.homes.entries modules.now → IsKept (option_map faults.OverlapName (named.doubled modules.now 0 modules.now)) result }
+{
+    match doubled(names, modules) {
+        None => Ok(()),
+        Some(name) => Err(LinkFault::OverlapName(Text::of(alloc, name.as_slice())?)),
+    }
+}
+
+// The addresses that absolute pieces leave free, where no two of them overlap.
+fn free_addresses(alloc: Global, fixed: &[Stand]) -> Result<Vec<Gap>, LinkFault>
+    ensures kept { IsKept (option_map faults.OverlapPlace (placing.overlap fixed.now)) result }
+    ensures free { IfOk result (λ gaps. Represents gaps.items fixed.now) }
+{
+    let counts = cover(alloc, fixed)?;
+    match overlap(&counts) {
+        None => Ok(gaps_between(alloc, &counts)?),
+        Some(address) => Err(LinkFault::OverlapPlace(address)),
+    }
+}
+
+// Where the stack stands.
+fn place_stack(ranges: &Ranges, gaps: &[Gap], size: u32) -> Option<u16>
+    ensures { (taken : List the.Stand) → Represents gaps.now taken → result ≡ stack_at size (least_free taken (range_of ranges.now kinds.Stack) 2 size) }
+{
+    match find(gaps, SegKind::Stack, ranges.ram, size) {
+        Some(at) => Some(at),
+        None => { if size == 0 { Some(0) } else { None } }
+    }
+}
+
+fn fault_of(cause: NoPlace) -> LinkFault
+    ensures { result ≡ placing.fault_of cause }
+{
+    match cause {
+        NoPlace::NoRoom(piece) => LinkFault::Capacity {
+            kind: piece.kind,
+            module: piece.index,
+        },
+        NoPlace::NoMemoryLeft => LinkFault::NoMemory,
+    }
+}
+
+// The bases of each module once all other pieces are put.
+fn with_stack(
+    alloc: Global,
+    names: &Names,
+    puts: &[Stand],
+    gaps: &[Gap],
+    size: u32,
+    modules: &[Module],
+    ranges: &Ranges,
+) -> Result<Vec<Bases>, LinkFault>
+    requires { length modules.now ≤ 64 }
+    ensures { (fixed : List the.Stand) → Knows names.now.homes.entries modules.now → Represents gaps.now (fixed ++ puts.now)
+        → IsAnswer modules.now (placing.with_stack modules.now puts.now size (stack_at size (least_free (fixed ++ puts.now) (range_of ranges.now kinds.Stack) 2 size))) result }
+{
+    match place_stack(ranges, gaps, size) {
+        None => Err(LinkFault::Capacity {
+            kind: SegKind::Stack,
+            module: modules.len() as u16,
+        }),
+        Some(stack) => {
+            let pieces = all_places(alloc, puts, stack, modules)?;
+            let after_stack = ((u64::from(stack) + u64::from(size)) % 65_536) as u16;
+            Ok(all_bases(alloc, names, &pieces, after_stack, modules)?)
+        }
+    }
+}
+
+// The bases of each module once the absolute pieces have left these gaps.
+fn with_pieces(
+    alloc: Global,
+    names: &Names,
+    gaps: &mut Vec<Gap>,
+    size: u32,
+    modules: &[Module],
+    ranges: &Ranges,
+) -> Result<Vec<Bases>, LinkFault>
+    requires { length modules.now ≤ 64 }
+    ensures { Knows names.now.homes.entries modules.now → Represents gaps.old.items (fixed_from 0 modules.now) → size ≡ placing.stack_size ranges.now modules.now
+        → IsAnswer modules.now (with_puts modules.now ranges.now (placing.put_all ranges.now (fixed_from 0 modules.now) [] (wanted modules.now))) result }
+{
+    let pieces = wanted_pieces(alloc, modules)?;
+    match put_all(alloc, ranges, gaps, &pieces) {
+        Ok(puts) => with_stack(alloc, names, &puts, gaps, size, modules, ranges),
+        Err(cause) => Err(fault_of(cause)),
+    }
+}
+
+/// Places the pieces of 1 to 64 modules within ranges that are within bounds, and gives for each module what its
+/// numbers count from. The refusal is the first broken rule: a name that is taken and not given, a name that is given
+/// twice, an address from 001AH on that two absolute pieces have, a piece without room.
+#[tactic(auto, unfolding(crate::specs::Placing::located))]
+pub fn place(alloc: Global, modules: &[Module], ranges: &Ranges) -> Result<Vec<Bases>, LinkFault>
+    requires some { 0 < length modules.now }
+    requires few { length modules.now ≤ 64 }
+    requires ranges { are_in_bounds ranges.now ≡ true }
+    ensures { IsLocated modules.now ranges.now result }
+{
+    let names = public_names(alloc, modules)?;
+    let size = stack_size(ranges, modules);
+    check_taken(alloc, &names, size, modules)?;
+    check_given(alloc, &names, modules)?;
+    let fixed = fixed_pieces(alloc, modules)?;
+    let mut gaps = free_addresses(alloc, &fixed)?;
+    with_pieces(alloc, &names, &mut gaps, size, modules, ranges)
+}

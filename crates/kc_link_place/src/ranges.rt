@@ -1,0 +1,82 @@
+ghost use Rattle.std.specs.Prelude.{◌≡◌, ℕ, None};
+ghost use Rattle.kc_link_place.specs.Ranges.{are_in_bounds, lies_within};
+
+use kc_base::{NoMemory, Text};
+use kc_obj::SegKind;
+
+/// Where relocatable pieces may stand: the first and the last address for registers, code, and data with the stack.
+/// `stack` is the length of the stack in bytes, where it is not the sum of all stack pieces.
+#[derive(Clone, Copy, Debug, PartialEq, Eq)]
+pub struct Ranges {
+    pub reg: (u16, u16),
+    pub code: (u16, u16),
+    pub ram: (u16, u16),
+    pub stack: Option<u16>,
+}
+
+impl Ranges {
+    /// The ranges of a board that has nothing special: registers 001AH to 00FFH, code 2080H to 5FFFH, data and stack
+    /// 0200H to 1FFDH, and the stack of all stack pieces.
+    pub fn new() -> Ranges
+        ensures { result ≡ record { reg = (0x1A, 0xFF); code = (0x2080, 0x5FFF); ram = (0x200, 0x1FFD); stack = None } }
+    {
+        Ranges {
+            reg: (0x1A, 0xFF),
+            code: (0x2080, 0x5FFF),
+            ram: (0x200, 0x1FFD),
+            stack: None,
+        }
+    }
+
+    /// Whether each range runs upwards within its bounds: registers within 001AH to 01FFH, code within 2000H to FFFFH,
+    /// data within 0200H to 1FFDH or within 6000H to FFFFH.
+    pub fn are_within_bounds(&self) -> bool
+        ensures { result ≡ are_in_bounds self.now }
+    {
+        lies(0x1A, 0x1FF, self.reg)
+            && lies(0x2000, 0xFFFF, self.code)
+            && (lies(0x200, 0x1FFD, self.ram) || lies(0x6000, 0xFFFF, self.ram))
+    }
+}
+
+fn lies(low: u16, high: u16, range: (u16, u16)) -> bool
+    ensures { result ≡ lies_within low high range }
+{
+    low <= range.0 && range.0 <= range.1 && range.1 <= high
+}
+
+/// The first rule of the linker that is broken, or want of memory.
+#[derive(Debug, Drop)]
+pub enum LinkFault {
+    /// No module makes this name public.
+    Unresolved(Text),
+    /// Two modules make this name public.
+    OverlapName(Text),
+    /// Two absolute pieces have this address, the least one from 001AH on.
+    OverlapPlace(u16),
+    /// A piece of this kind of the module with this number, counted from 0, finds no room; of the stack the number of
+    /// modules.
+    Capacity {
+        kind: SegKind,
+        module: u16,
+    },
+    /// The number of the relocation at this offset of a piece of a module does not fit.
+    Range {
+        module: u16,
+        piece: u16,
+        offset: u16,
+    },
+    /// The system gave no memory.
+    NoMemory,
+}
+
+impl From<NoMemory> for LinkFault {
+    ghost use Rattle.std.specs.Prelude.{◌≡◌};
+    ghost use Rattle.kc_link_place.specs.declared.ranges.LinkFault.TheVariants as faults;
+
+    ghost from_gives = { λ _ fault. fault ≡ faults.NoMemory };
+
+    fn from(_: NoMemory) -> LinkFault {
+        LinkFault::NoMemory
+    }
+}

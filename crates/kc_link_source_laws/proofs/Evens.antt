@@ -1,0 +1,91 @@
+-- Pointers are even where the pieces that their bytes count from stand at even addresses.
+use Rattle.std.proofs.Common.{◌≡◌, ℕ, ◌%◌, Bool, List, [], ◌∷◌, ◌++◌, map, refl, subst, arith}
+use Rattle.std.specs.Prelude.{Some, take, drop}
+use Rattle.kc_isa.specs.declared.layout.Form.{Form}
+use Rattle.kc_isa.specs.Names.{Shown, row_at}
+use Rattle.kc_isa.specs.Layout.{layout_of}
+use Rattle.kc_isa.specs.Formed.{is_byte}
+use Rattle.kc_code.specs.Spelling.{prefix}
+use Rattle.kc_expr.specs.declared.values.Base.{Base}
+use Rattle.kc_expr.specs.declared.values.Base.TheVariants.{Fixed, Absolute, Piece, External}
+use Rattle.kc_expr.specs.declared.values.Value.{Value}
+use Rattle.kc_obj_relocation.specs.Numbers.{Bases}
+use Rattle.kc_asm_bytes.specs.declared.octet.Octet.{Octet}
+use Rattle.kc_asm_bytes.specs.declared.octet.Octet.TheVariants.{Plain, First, Second}
+use Rattle.kc_asm_bytes.specs.Filling.{base_address, address}
+use Rattle.kc_asm_operation.specs.declared.word.Word.{Word}
+use Rattle.kc_asm_operation.specs.declared.word.Word.TheVariants.{Absent, Register, Immediate, Indirect, Increment, Short, Long, Count, Jump}
+use Rattle.kc_asm_operation.specs.declared.word.Worded.{Worded}
+use Rattle.kc_asm_encoding.specs.Octets.{byte_of, operand_octets, opcode_octet, laid_octets, row_octets, worded_octets, all_octets}
+use Rattle.kc_asm_encoding.specs.Suits.{IsInstruction, IsEven}
+
+-- ---- what a byte counts from
+
+abbrev pub HasEvenBase : Bases → Base → Type 0
+HasEvenBase b (Piece p) = b.piece p % 2 ≡ 0
+HasEvenBase b Fixed = Unit {0}
+HasEvenBase b Absolute = Unit {0}
+HasEvenBase b (External e) = Unit {0}
+
+abbrev pub IsEvenAt : Bases → Octet → Type 0
+IsEvenAt b (Plain n) = Unit {0}
+IsEvenAt b (First kind start v) = kind ≡ 1 → HasEvenBase b v.base
+IsEvenAt b (Second kind v) = Unit {0}
+
+abbrev pub AllEven : Bases → List Octet → Type 0
+AllEven b [] = Unit {0}
+AllEven b (o ∷ os) = IsEvenAt b o × AllEven b os
+
+pub even_front : (b : Bases) (xs ys : List Octet) → AllEven b (xs ++ ys) → AllEven b xs
+even_front b [] ys h = tt
+even_front b (x ∷ xs) ys h = (h.0, even_front b xs ys h.1)
+
+pub even_behind : (b : Bases) (xs ys : List Octet) → AllEven b (xs ++ ys) → AllEven b ys
+even_behind b [] ys h = h
+even_behind b (x ∷ xs) ys h = even_behind b xs ys h.1
+
+-- ---- an operand
+
+-- all pieces at 0, and all externals at one address
+abbrev pub bases_at : ℕ → Bases
+bases_at n = record { piece = λ p. 0; external = λ e. n }
+
+even_base : (b : Bases) (base : Base) (n : ℕ) → base_address (bases_at 0) base n % 2 ≡ 0 → base_address (bases_at 1) base n % 2 ≡ 0 → HasEvenBase b base → base_address b base n % 2 ≡ 0
+even_base b Fixed n h k e = h
+even_base b Absolute n h k e = h
+even_base b (Piece p) n h k e = omega (arith, h, e)
+even_base b (External x) n h k e = absurd (omega (arith, h, k))
+
+even_value : (b : Bases) (v : Value) → address (bases_at 0) v % 2 ≡ 0 → address (bases_at 1) v % 2 ≡ 0 → HasEvenBase b v.base → address b v % 2 ≡ 0
+even_value b v h k e = even_base b v.base v.number h k e
+
+even_operand : (b : Bases) (form : Form) (byte : Bool) (w : Word) → AllEven b (operand_octets form byte w) → IsEven (bases_at 0) w → IsEven (bases_at 1) w → IsEven b w
+even_operand b form byte Absent e h k = tt
+even_operand b form byte (Register v) e h k = tt
+even_operand b form byte (Immediate v) e h k = tt
+even_operand b form byte (Indirect v) e h k = even_value b v h k (e.0 refl)
+even_operand b form byte (Increment v) e h k = even_value b v h k (e.0 refl)
+even_operand b form byte (Short base offset) e h k = even_value b base h k (e.0 refl)
+even_operand b form byte (Long base offset) e h k = even_value b base h k (e.0 refl)
+even_operand b form byte (Count v) e h k = tt
+even_operand b form byte (Jump v) e h k = tt
+
+-- ---- an instruction
+
+operand_even : (b : Bases) (w : Worded) (row : Shown) → AllEven b (row_octets w row) → AllEven b (operand_octets (layout_of row.shape).form (is_byte row.width) w.operand)
+operand_even b w row h =
+    let l = layout_of row.shape in
+    let laid : AllEven b (laid_octets (layout_of row.shape) (is_byte row.width) w) = (even_behind b (map Plain (prefix w.signed)) (opcode_octet (layout_of row.shape).form w.opcode w.operand ∷ laid_octets (layout_of row.shape) (is_byte row.width) w) h).1 in
+    even_front b (operand_octets (layout_of row.shape).form (is_byte row.width) w.operand) (map byte_of (take (layout_of row.shape).after (drop (layout_of row.shape).before w.regs)))
+    (even_behind b (map byte_of (take (layout_of row.shape).before w.regs)) (operand_octets (layout_of row.shape).form (is_byte row.width) w.operand ++ map byte_of (take (layout_of row.shape).after (drop (layout_of row.shape).before w.regs))) laid)
+
+worded_is : (w : Worded) (row : Shown) → row_at w.opcode w.signed ≡ Some row → worded_octets w ≡ row_octets w row
+worded_is w row e = rw (e, worded_octets) refl
+
+even_worded : (b : Bases) (word : List ℕ) (w : Worded) → IsInstruction word w → AllEven b (worded_octets w) → IsEven (bases_at 0) w.operand → IsEven (bases_at 1) w.operand → IsEven b w.operand
+even_worded b word w i e h k =
+    even_operand b (layout_of i.row.shape).form (is_byte i.row.width) w.operand (operand_even b w i.row (subst (AllEven b) (worded_is w i.row i.is) e)) h k
+
+pub all_even : (b : Bases) (word : List ℕ) (w : Worded) (ws : List Worded) → IsInstruction word w → AllEven b (all_octets (w ∷ ws))
+    → IsEven (bases_at 0) w.operand → IsEven (bases_at 1) w.operand → IsEven b w.operand × AllEven b (all_octets ws)
+all_even b word w ws i e h k = (even_worded b word w i (even_front b (worded_octets w) (all_octets ws) e) h k, even_behind b (worded_octets w) (all_octets ws) e)

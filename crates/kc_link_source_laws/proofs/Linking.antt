@@ -1,0 +1,208 @@
+-- The image that is filled from the modules of sources is linked.
+use Rattle.std.proofs.Common.{◌≡◌, ℕ, zero, suc, ◌+◌, ◌-◌, ◌%◌, ◌<◌, true, List, [], ◌∷◌, length, refl, sym, ap, ◌∙◌, subst, inl, inr, arith}
+use Rattle.std.specs.Prelude.{Some, slice_get}
+use Rattle.std.specs.List.{list_all}
+use Rattle.std.proofs.lemmas.Option.{slice_get_within}
+use Rattle.kc_source_statement.specs.declared.statement.Stmt.{Stmt}
+use Rattle.kc_source_statement.specs.Formed.{is_formed, StatementsAreFormed}
+use Rattle.kc_asm_symbols.specs.Located.{Located, first_segment, value_at}
+use Rattle.kc_asm_symbols.specs.Meanings.{meaning}
+use Rattle.kc_obj.specs.Object.{Object}
+use Rattle.kc_obj_relocation.specs.Numbers.{Bases}
+use Rattle.kc_asm_bytes.specs.declared.octet.Octet.{Octet}
+use Rattle.kc_asm_bytes.specs.declared.octet.Octet.TheVariants.{Plain}
+use Rattle.kc_asm_bytes.specs.Filling.{fill}
+use Rattle.kc_asm_piece.specs.declared.draft.Draft.{Draft}
+use Rattle.kc_asm_piece.specs.Tape.{Tape}
+use Rattle.kc_asm_module.specs.Drafts.{IsDraft}
+use Rattle.kc_asm_module.specs.Order.{start_of}
+use Rattle.kc_asm_module.specs.Numbers.{NumbersStand}
+use Rattle.kc_link_place.specs.Placing.{Places, bases_of}
+use Rattle.kc_link_draft_laws.specs.Parts.{start, part_bases}
+use Rattle.kc_link_draft_laws.specs.Linked.{HoldsDraft, FitsDraft, StandsAbsolute, AreModulesOf, AreSettled, AreLinked, IsCovered, DraftsAreLinked, HeldIsRead, NumbersFit, AbsolutePartsStand}
+use Rattle.kc_asm_emission.specs.Content.{Content, content, Octets}
+use Rattle.kc_asm_emission.specs.Faults.{faults_of}
+use Rattle.kc_asm_layout.specs.declared.site.Site.{Site}
+use Rattle.kc_asm_check.specs.Codes.{first_regions}
+use Rattle.kc_asm_check.specs.Judging.{site_list, standing, place_at}
+use Rattle.kc_asm_check.specs.Laws.{SoundStatements}
+use Rattle.kc_asm_draft_laws.specs.Sound.{DraftsAreDrafts, DraftsAreWhole, DraftsAreSettled}
+use Rattle.kc_asm_draft_laws.specs.Stood.{StatementsStand, IsOfStatement, NothingElseStands}
+use Rattle.kc_link_source_laws.specs.Characters.{all_bytes}
+use Rattle.kc_link_source_laws.specs.Linked.{IsSource, address_of, IsStatement, size_of, Stands, AreSources, Covers, LinkedImage}
+use Rattle.kc_link_source_laws.proofs.Words.{IsWordAnswer}
+use Rattle.kc_link_source_laws.proofs.Meanings.{split_test, standing_test, places_are_words, has_all_bytes, meaning_word}
+use Rattle.kc_link_source_laws.proofs.Formed.{all_formed}
+use Rattle.kc_link_source_laws.proofs.Placed.{relocatable_even}
+use Rattle.kc_link_source_laws.proofs.Standing.{RelocatableEven, base_is, all_even_from, all_fit_from}
+use Rattle.kc_link_source_laws.proofs.Statements.{Laws, IsRead, sound_at, values_sound, address_is, is_read, code_stands, data_stands, within_of}
+use Rattle.kc_link_source_laws.proofs.OneImage.{same_or}
+
+-- ---- what lower crates prove
+
+pub record DraftLaws : Type 0 where
+  pub drafts : DraftsAreDrafts
+  pub whole : DraftsAreWhole
+  pub settled : DraftsAreSettled
+  pub stand : StatementsStand
+  pub nothing_else : NothingElseStands
+  pub sound : SoundStatements
+  pub formed : StatementsAreFormed
+  pub numbers : NumbersStand
+  pub linked : DraftsAreLinked
+  pub read : HeldIsRead
+  pub fit : NumbersFit
+  pub absolute : AbsolutePartsStand
+
+-- ---- one source of several
+
+get_some : {A : Type 0} (xs : List A) (i : ℕ) → i < length xs → (x : A) × (slice_get xs i ≡ Some x)
+get_some [] i h = absurd (omega arith)
+get_some (x ∷ xs) zero h = (x, refl)
+get_some (x ∷ xs) (suc i) h = get_some xs i (omega (arith, h))
+
+-- a statement among all statements, by what is known of the draft and the bases
+record IsBased (image : List ℕ) (c : Bases) (d : Draft) : Type 0 where
+  draft : IsDraft d
+  held : HoldsDraft image c d
+  fit : FitsDraft c d
+  absolute : StandsAbsolute c d
+
+module _ (laws : Laws) (more : DraftLaws) where
+  is_draft : (stmts : List Stmt) (d : Draft) (m : Object) → IsSource stmts d m → IsDraft d
+  is_draft stmts d m source = more.drafts stmts d source.sound source.drafted source.few
+
+  statement_stands : (image : List ℕ) (c : Bases) (stmts : List Stmt) (d : Draft) (m : Object) (before : List Located) (l : Located) (s : Site)
+      → IsSource stmts d m → IsBased image c d → RelocatableEven c m → IsStatement stmts before l s → Stands image c stmts d before l s
+  statement_stands image c stmts d m before l s source based even statement = record {
+    within = λ n. within_of (part_bases c d) image (address_of c d l.segment s) (content (meaning (standing stmts) before l) s.form l.here l.action) octets n;
+    code = code_stands laws (part_bases c d) image (address_of c d l.segment s) (meaning (standing stmts) before l) names s.form l l.action formed bytes faults octets;
+    bytes = data_stands laws (part_bases c d) image (address_of c d l.segment s) (meaning (standing stmts) before l) names s.form l l.action octets;
+  }
+    where
+      texts : list_all has_all_bytes (standing stmts) ≡ true
+      texts = standing_test all_bytes (λ i g. value_at g (place_at (site_list stmts) i)) 0 first_segment stmts source.characters
+
+      names : (q : List ℕ) → IsWordAnswer ((meaning (standing stmts) before l) q)
+      names = meaning_word (standing stmts) (places_are_words (place_at (site_list stmts)) 0 first_segment stmts) texts before statement.after l statement.split
+
+      bytes : all_bytes l.action ≡ true
+      bytes = (split_test has_all_bytes (standing stmts) before statement.after l texts statement.split).1
+
+      formed : is_formed l.action ≡ true
+      formed = (split_test (λ (x : Located). is_formed x.action) (standing stmts) before statement.after l
+          (standing_test is_formed (λ i g. value_at g (place_at (site_list stmts) i)) 0 first_segment stmts (all_formed more.formed stmts source.lines source.read)) statement.split).1
+
+      faults : faults_of (meaning (standing stmts) before l) l.action ≡ []
+      faults = values_sound (standing stmts) before l s (sound_at (standing stmts) first_regions before statement.after l s (site_list stmts) (more.sound stmts source.sound) statement.split statement.site)
+
+      octets : (os : List Octet) → content (meaning (standing stmts) before l) s.form l.here l.action ≡ Octets os → IsRead (part_bases c d) image (address_of c d l.segment s) os
+      octets os e =
+          let at = more.stand stmts d source.sound source.drafted before l s os (record { after = statement.after; split = statement.split; site = statement.site; octets = e }) in
+          is_read more.read image c d l.segment s os based.held based.draft based.absolute at
+          (all_fit_from d c based.fit l.segment.piece (s.place - start_of at.t.at) (start c d l.segment.piece + (s.place - start_of at.t.at)) at.t os refl at.is_part at.stand)
+          (all_even_from more.numbers d m c based.draft source.made even l.segment.piece (s.place - start_of at.t.at) at.t os at.is_part at.stand)
+
+  -- ---- all sources
+
+  at_index : (sources : List (List Stmt)) (drafts : List Draft) (modules : List Object) → AreSources sources drafts modules → (i : ℕ) (d : Draft) → slice_get drafts i ≡ Some d
+      → (stmts : List Stmt) × ((slice_get sources i ≡ Some stmts) × ((m : Object) × (slice_get modules i ≡ Some m)))
+  at_index sources drafts modules are i d e =
+      let l = slice_get_within drafts i d e in
+      let dc = are.drafts_count in
+      let mc = are.modules_count in
+      let s = get_some sources i (omega (arith, l, dc)) in
+      let m = get_some modules i (omega (arith, l, dc, mc)) in
+      (s.0, (s.1, (m.0, m.1)))
+
+  are_modules : (sources : List (List Stmt)) (drafts : List Draft) (modules : List Object) → AreSources sources drafts modules → AreModulesOf drafts modules
+  are_modules sources drafts modules are = record {
+    count = sym are.drafts_count ∙ are.modules_count;
+    are_drafts = λ i d e. (let a = at_index sources drafts modules are i d e in is_draft a.0 d a.1.1.0 (are.of i a.0 d a.1.1.0 a.1.0 e a.1.1.1));
+    are_whole = λ i d e. (let a = at_index sources drafts modules are i d e in let source = are.of i a.0 d a.1.1.0 a.1.0 e a.1.1.1 in more.whole a.0 d source.sound source.drafted);
+    of = λ i d m e f. (let a = at_index sources drafts modules are i d e in (are.of i a.0 d m a.1.0 e f).made);
+  }
+
+  are_settled : (sources : List (List Stmt)) (drafts : List Draft) (modules : List Object) → AreSources sources drafts modules → AreSettled drafts
+  are_settled sources drafts modules are i d e =
+      let a = at_index sources drafts modules are i d e in
+      let source = are.of i a.0 d a.1.1.0 a.1.0 e a.1.1.1 in
+      more.settled a.0 d source.sound source.drafted
+
+  filling : (c : Bases) (place : ℕ) (o : Octet) → o ≡ Plain 255 → fill c place o ≡ 255
+  unfolding fill
+  filling c place o e = ap (fill c place) e
+
+  covers : (sources : List (List Stmt)) (drafts : List Draft) (modules : List Object) (places : Places) (place : ℕ) → AreSources sources drafts modules → (c : IsCovered drafts modules places place)
+      → StandsAbsolute (bases_of modules places c.index c.m) c.d → (stmts : List Stmt) → slice_get sources c.index ≡ Some stmts
+      → IsOfStatement (standing stmts) (site_list stmts) c.part (start_of c.t.at + c.offset) c.octet → Covers sources drafts modules places place
+  covers sources drafts modules places place are c absolute stmts e o =
+      let source = are.of c.index stmts c.d c.m e c.is_there c.its_module in
+      let at = more.stand stmts c.d source.sound source.drafted o.before o.l o.s o.os o.statement in
+      let same : Some at.t ≡ Some c.t = sym at.is_part ∙ (ap (slice_get c.d.parts.items) o.its_part ∙ c.stands.is_part) in
+      let t : at.t ≡ c.t = cc same in
+      let begin : start_of at.t.at ≡ start_of c.t.at = ap (λ (x : Tape). start_of x.at) t in
+      let address = address_is c.d (bases_of modules places c.index c.m) (is_draft stmts c.d c.m source) absolute o.l.segment o.s at.t at.is_part at.begins in
+      let part : start (bases_of modules places c.index c.m) c.d o.l.segment.piece ≡ start (bases_of modules places c.index c.m) c.d c.part = ap (start (bases_of modules places c.index c.m) c.d) o.its_part in
+      let low = at.begins in
+      let its_place = o.its_place in
+      let there = c.at in
+      record {
+        index = c.index;
+        stmts = stmts;
+        source = e;
+        d = c.d;
+        draft = c.is_there;
+        m = c.m;
+        its_module = c.its_module;
+        before = o.before;
+        l = o.l;
+        s = o.s;
+        statement = record { after = o.statement.after; split = o.statement.split; site = o.statement.site };
+        byte = o.index;
+        below = subst (λ (x : Content). o.index < size_of x) (sym o.statement.octets) (slice_get_within o.os o.index c.octet o.octet);
+        at = omega (arith, begin, address, part, low, its_place, there);
+      }
+
+  pub linked_image : LinkedImage
+  linked_image sources drafts modules ranges places image are ok filled = record {
+    long = linked.long;
+    stands = λ i stmts d m before l s e f g statement. statement_stands image (bases_of modules places i m) stmts d m before l s (are.of i stmts d m e f g) (based i stmts d m e f g) (evens i m g) statement;
+    blank = λ place h none. elim (same_or (slice_get image place) (Some 255)) [
+      | inl e ↦ e
+      | inr n ↦ linked.blank place h (λ c. n (covered place none c))
+    ];
+  }
+    where
+      of : AreModulesOf drafts modules
+      of = are_modules sources drafts modules are
+
+      linked : AreLinked drafts modules places image
+      linked = more.linked drafts modules ranges places image of ok filled
+
+      absolute : (i : ℕ) (d : Draft) (m : Object) → slice_get drafts i ≡ Some d → slice_get modules i ≡ Some m → StandsAbsolute (bases_of modules places i m) d
+      absolute = more.absolute drafts modules ranges places of ok
+
+      based : (i : ℕ) (stmts : List Stmt) (d : Draft) (m : Object) → slice_get sources i ≡ Some stmts → slice_get drafts i ≡ Some d → slice_get modules i ≡ Some m → IsBased image (bases_of modules places i m) d
+      based i stmts d m e f g = record {
+        draft = of.are_drafts i d f;
+        held = linked.holds i d m f g;
+        fit = more.fit drafts modules ranges places of (are_settled sources drafts modules are) ok i d m f g;
+        absolute = absolute i d m f g;
+      }
+
+      evens : (i : ℕ) (m : Object) → slice_get modules i ≡ Some m → RelocatableEven (bases_of modules places i m) m
+      evens i m g piece s h none = subst (λ (n : ℕ). n % 2 ≡ 0) (sym (base_is modules places i m piece)) (relocatable_even modules ranges places i piece m s ok g h none)
+
+      covered : (place : ℕ) → (Covers sources drafts modules places place → ⊥) → IsCovered drafts modules places place → slice_get image place ≡ Some 255
+      covered place none c =
+          let a = at_index sources drafts modules are c.index c.d c.is_there in
+          let source = are.of c.index a.0 c.d c.m a.1.0 c.is_there c.its_module in
+          elim (more.nothing_else a.0 c.d source.sound source.drafted c.part c.offset c.t c.octet c.stands.is_part c.stands.is_octet) [
+            | inl e ↦
+                let h = (linked.holds c.index c.d c.m c.is_there c.its_module).octets c.part c.offset c.t c.octet c.stands in
+                let there = c.at in
+                let p : (start (bases_of modules places c.index c.m) c.d c.part + c.offset) - 0x2000 ≡ place = omega (arith, there) in
+                ap (slice_get image) (sym p) ∙ (h.byte ∙ ap (λ (n : ℕ). Some n) (filling (part_bases (bases_of modules places c.index c.m) c.d) (start (bases_of modules places c.index c.m) c.d c.part + c.offset) c.octet e))
+            | inr o ↦ absurd (none (covers sources drafts modules places place are c (absolute c.index c.d c.m c.is_there c.its_module) a.0 a.1.0 o))
+          ]

@@ -1,0 +1,53 @@
+-- The worked source, computed.
+use Rattle.std.proofs.Common.{◌≡◌, ◌+◌, [], ◌∷◌, refl, ap}
+use Rattle.std.specs.Prelude.{Some, None, slice_get}
+use Rattle.kc_isa.specs.Names.{row_at}
+use Rattle.kc_isa.specs.Table.{plain_entry}
+use Rattle.kc_code.specs.Reading.{regs_at, operand_at, laid_at}
+use Rattle.kc_lex.specs.Words.{operands_of}
+use Rattle.kc_branch.specs.Forms.{places, raised, start_forms, forms}
+use Rattle.kc_expr.specs.Meaning.{answer_by}
+use Rattle.kc_asm_symbols.specs.Located.{located_from}
+use Rattle.kc_obj_relocation.specs.Numbers.{distance, number, fits}
+use Rattle.kc_asm_bytes.specs.Relocating.{depends, misfit}
+use Rattle.kc_asm_operation.specs.Branches.{branch_kind}
+use Rattle.kc_asm_operation.specs.Opcodes.{least, opcode_of}
+use Rattle.kc_asm_operation.specs.Instructions.{instruction, instructions}
+use Rattle.kc_asm_operation.specs.Faults.{fault_of}
+use Rattle.kc_asm_encoding.specs.Said.{said}
+use Rattle.kc_asm_outline.specs.Outline.{target, notes_from}
+use Rattle.kc_asm_layout.specs.Places.{opened, sites_from}
+use Rattle.kc_asm_layout.specs.Text.{text_by, positions_from, count_main, dealt}
+use Rattle.kc_source.specs.Faults as source_faults
+use Rattle.kc_asm_emission.specs.Faults as value_faults
+use Rattle.kc_asm_check.specs.Codes.{misfits}
+use Rattle.kc_asm_check.specs.Judging.{standing, site_list, faults_from, first_fault}
+use Rattle.kc_link_source_laws.specs.Linked.{Decodes}
+use Rattle.kc_link_source_laws.specs.Worked.{source, segment, jump, site, ljmp, WorkedSource}
+
+second_site : slice_get (site_list source) 1 ≡ Some site
+unfolding row_at plain_entry places raised start_forms forms located_from target notes_from opened sites_from text_by positions_from count_main dealt branch_kind instructions instruction opcode_of least
+second_site = refl
+
+all_stand : standing source ≡ segment ∷ jump ∷ []
+unfolding row_at plain_entry places raised start_forms forms located_from target notes_from opened sites_from text_by positions_from count_main dealt branch_kind instructions instruction opcode_of least
+all_stand = refl
+
+no_fault : first_fault source ≡ None
+unfolding row_at plain_entry places raised start_forms forms located_from target notes_from opened sites_from text_by positions_from count_main dealt branch_kind instructions instruction opcode_of least
+    faults_from source_faults.least value_faults.least misfits misfit depends fits number distance fault_of answer_by operands_of
+no_fault = refl
+
+decoded : Decodes (0xE7 ∷ 0x7D ∷ 0 ∷ []) 0 (ljmp ∷ [])
+unfolding row_at plain_entry regs_at operand_at laid_at
+decoded = (refl, tt)
+
+pub worked_source : WorkedSource
+unfolding instructions instruction opcode_of least row_at plain_entry said answer_by distance branch_kind
+worked_source bases d at = record {
+  sound = no_fault;
+  statement = record { after = []; split = all_stand; site = second_site };
+  stands = ap (λ n. n + 0) at;
+  says = refl;
+  reads = decoded;
+}

@@ -1,0 +1,7 @@
+use Rattle.std.proofs.Common.{sym, ap, ◌∙◌}
+use Rattle.std.specs.FinMap.{get}
+use Rattle.kc_macro_body.proofs.NameLemmas.{get_named}
+use Rattle.kc_macro_body.proofs.macros.Macros.look.Goals as goal
+
+pub returns : goal.returns
+returns c = c.get.ensures.value ∙ sym (get_named c.self.inside.map.entries c.args.name.now) ∙ ap (λ m. get m c.args.name.now) c.self.view_is

@@ -1,0 +1,9 @@
+use Rattle.std.proofs.Common.{◌≡◌, length}
+use Rattle.kc_macro_input.specs.Ahead.{flat}
+use Rattle.kc_macro_input.proofs.ahead.take.Given as goal
+
+abbrev pub invariant-loop-held : goal.invariant-loop-held
+invariant-loop-held l = flat l.stack.items ≡ flat l.initial.stack.items
+
+abbrev pub decreases-loop-held : goal.decreases-loop-held
+decreases-loop-held l = length l.stack.items

@@ -1,0 +1,200 @@
+ghost use Rattle.std.specs.Prelude.{◌≡◌, map, IfOk};
+ghost use Rattle.std.specs.List.{filter};
+ghost use Rattle.kc_macro_input.specs.Pieces as pieces;
+ghost use Rattle.kc_macro_input.specs.Filled as filling;
+
+use crate::piece::{BodyFault, Mark, Marking, Marks, Piece, copy_piece};
+use kc_base::NoMemory;
+use kc_lex::Tokens;
+use kc_macro_body::copying::copy_tokens;
+use kc_macro_body::filling::filled;
+use kc_macro_body::{Formals, Texts};
+use std::alloc::Global;
+
+/// The lines of a body, or the first of its faults.
+pub type Filled = Result<Vec<Piece>, BodyFault>;
+
+/// The lines of a body, each with a mark in front.
+pub fn turn_body(alloc: Global, mark: Mark, front: &[Piece]) -> Result<Vec<Piece>, NoMemory>
+    ensures { IfOk result (λ v. v.items ≡ map (pieces.marked mark) (filter pieces.is_line front.now)) }
+{
+    let mut marking = Marking::new(alloc, mark)?;
+    let mut body = Vec::new(alloc);
+    for piece in front {
+        if let Some(tokens) = &piece.tokens {
+            let copy = copy_tokens(alloc, tokens.as_slice())?;
+            body.push(Piece {
+                number: piece.number,
+                from: marking.put(alloc, &piece.from)?,
+                tokens: Some(copy),
+            })?;
+        }
+    }
+    Ok(body)
+}
+
+/// The tokens of the lines of a body.
+pub fn texts(alloc: Global, front: &[Piece]) -> Result<Texts, NoMemory>
+    ensures { IfOk result (λ t. t ≡ pieces.texts_of front.now) }
+{
+    let mut texts = Texts::new(alloc);
+    for piece in front {
+        if let Some(tokens) = &piece.tokens {
+            texts.push(copy_tokens(alloc, tokens.as_slice())?)?;
+        }
+    }
+    Ok(texts)
+}
+
+/// The lines of a macro, with the number of the call and what they come from.
+pub fn body_lines(
+    alloc: Global,
+    number: u32,
+    from: &Marks,
+    lines: &[Tokens],
+) -> Result<Vec<Piece>, NoMemory>
+    ensures { IfOk result (λ v. v.items ≡ map (pieces.body_line number from.now) lines.now) }
+{
+    let mut body = Vec::new(alloc);
+    for line in lines {
+        let tokens = copy_tokens(alloc, line.as_slice())?;
+        body.push(Piece {
+            number,
+            from: from.copy()?,
+            tokens: Some(tokens),
+        })?;
+    }
+    Ok(body)
+}
+
+fn is_earlier(first: BodyFault, second: BodyFault) -> bool
+    ensures { result ≡ filling.is_earlier first second }
+{
+    first.line < second.line || (first.line == second.line && first.code < second.code)
+}
+
+fn lesser(first: BodyFault, second: BodyFault) -> BodyFault
+    ensures { result ≡ filling.lesser first second }
+{
+    if is_earlier(second, first) {
+        second
+    } else {
+        first
+    }
+}
+
+// Appends a line, or notes its fault.
+fn add(body: Filled, piece: Result<Piece, BodyFault>) -> Result<Filled, NoMemory>
+    ensures { IfOk result (λ r. filling.seen_filled r ≡ filling.together (filling.seen_filled body) (filling.single piece)) }
+{
+    match body {
+        Ok(pieces) => match piece {
+            Ok(piece) => {
+                let mut pieces = pieces;
+                pieces.push(piece)?;
+                Ok(Ok(pieces))
+            }
+            Err(fault) => Ok(Err(fault)),
+        },
+        Err(first) => match piece {
+            Ok(_) => Ok(Err(first)),
+            Err(second) => Ok(Err(lesser(first, second))),
+        },
+    }
+}
+
+fn fill_piece(
+    alloc: Global,
+    formals: &Formals,
+    args: &[Tokens],
+    given: u64,
+    piece: &Piece,
+) -> Result<Result<Piece, BodyFault>, NoMemory>
+    ensures { IfOk result (λ r. r ≡ filling.fill_piece formals.now args.now given piece.now) }
+{
+    match &piece.tokens {
+        None => Ok(Ok(copy_piece(alloc, piece)?)),
+        Some(tokens) => match filled(alloc, formals, args, given, tokens.as_slice())? {
+            Ok(tokens) => Ok(Ok(Piece {
+                number: piece.number,
+                from: piece.from.copy()?,
+                tokens: Some(tokens),
+            })),
+            Err(code) => Ok(Err(BodyFault {
+                line: piece.number,
+                code,
+            })),
+        },
+    }
+}
+
+// Appends the lines of a body with the arguments in place of its parameters, or notes the least of its faults.
+fn append_filled(
+    alloc: Global,
+    before: Filled,
+    formals: &Formals,
+    args: &[Tokens],
+    given: u64,
+    body: &[Piece],
+) -> Result<Filled, NoMemory>
+    ensures { IfOk result (λ r. filling.seen_filled r ≡ filling.together (filling.seen_filled before) (filling.fill_body formals.now args.now given body.now)) }
+{
+    let mut all = before;
+    for piece in body {
+        let next = fill_piece(alloc, formals, args, given, piece)?;
+        all = add(all, next)?;
+    }
+    Ok(all)
+}
+
+/// The lines of a body with the arguments in place of its parameters and the names that follow so many given ones in place
+/// of its LOCAL names; or of the first line that has one, the least fault.
+#[tactic(auto, using(crate::proofs::FilledLemmas::together_start))]
+pub fn fill_body(
+    alloc: Global,
+    formals: &Formals,
+    args: &[Tokens],
+    given: u64,
+    body: &[Piece],
+) -> Result<Filled, NoMemory>
+    ensures { IfOk result (λ r. filling.seen_filled r ≡ filling.fill_body formals.now args.now given body.now) }
+{
+    append_filled(alloc, Ok(Vec::new(alloc)), formals, args, given, body)
+}
+
+// Appends a turn over one argument.
+#[tactic(auto, using(crate::proofs::FilledLemmas::together_assoc))]
+fn append_turn(
+    alloc: Global,
+    before: Filled,
+    formals: &Formals,
+    head: &Piece,
+    body: &[Piece],
+    arg: &Tokens,
+) -> Result<Filled, NoMemory>
+    ensures { IfOk result (λ r. filling.seen_filled r ≡ filling.together (filling.seen_filled before) (filling.fill_turn formals.now head.now body.now arg.now)) }
+{
+    let first = copy_piece(alloc, head)?;
+    let begun = add(before, Ok(first))?;
+    let mut args = Texts::new(alloc);
+    args.push(copy_tokens(alloc, arg.as_slice())?)?;
+    append_filled(alloc, begun, formals, args.as_slice(), 0, body)
+}
+
+/// The turns of a body over some arguments, each behind a piece that says that a turn begins.
+#[tactic(auto, using(crate::proofs::FilledLemmas::together_start))]
+pub fn fill_turns(
+    alloc: Global,
+    formals: &Formals,
+    head: &Piece,
+    body: &[Piece],
+    args: &[Tokens],
+) -> Result<Filled, NoMemory>
+    ensures { IfOk result (λ r. filling.seen_filled r ≡ filling.fill_turns formals.now head.now body.now args.now) }
+{
+    let mut all = Ok(Vec::new(alloc));
+    for arg in args {
+        all = append_turn(alloc, all, formals, head, body, arg)?;
+    }
+    Ok(all)
+}

@@ -1,5 +1,0 @@
-use Rattle.kc_names.proofs.PlaceLemmas.{meanings_alike}
-use Rattle.kc_names.proofs.laws.meanings_are_alike.Goals as goal
-
-pub returns : goal.returns
-returns c = meanings_alike

@@ -1,5 +1,0 @@
-use Rattle.kc_names.proofs.PlaceLemmas.{do_not_depend}
-use Rattle.kc_names.proofs.laws.meanings_do_not_depend_on_places.Goals as goal
-
-pub returns : goal.returns
-returns c = do_not_depend

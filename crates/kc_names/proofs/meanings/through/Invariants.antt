@@ -1,7 +1,0 @@
-use Rattle.std.proofs.Common.{drop}
-use Rattle.kc_names.specs.Located.{located_by, listed}
-use Rattle.kc_names.proofs.WalkLemmas.{Walking}
-use Rattle.kc_names.proofs.meanings.through.Given as goal
-
-abbrev pub invariant-loop-i : goal.invariant-loop-i
-invariant-loop-i l = Walking l.earlier l.values (located_by (listed l.values) l.stmts) l.i (drop l.i l.stmts)

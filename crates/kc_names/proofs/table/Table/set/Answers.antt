@@ -1,6 +1,0 @@
-use Rattle.std.specs.Prelude.{Err}
-use Rattle.kc_names.proofs.TableLemmas.{one_set}
-use Rattle.kc_names.proofs.table.Table.set.Goals as goal
-
-pub returns : goal.returns
-returns c = one_set (Err 7) c.args.answer c.args.self.now.map.entries c.insert.new.self.entries c.in_ok-key.key c.args.name.now c.in_ok-key.ensures.items c.in_ok-insert.ensures.updates.1 c.in_ok-insert.ensures.updates.3

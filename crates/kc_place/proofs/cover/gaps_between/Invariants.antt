@@ -1,5 +1,0 @@
-use Rattle.kc_place.proofs.Covers.{Below}
-use Rattle.kc_place.proofs.cover.gaps_between.Given as goal
-
-abbrev pub invariant-loop-address : goal.invariant-loop-address
-invariant-loop-address l = Below l.cover l.gaps.items l.start l.address

@@ -1,5 +1,0 @@
-use Rattle.kc_sound.proofs.Stood.{nothing_else}
-use Rattle.kc_sound.proofs.nothing_else_stands.Goals as goal
-
-pub returns : goal.returns
-returns c = nothing_else c.outlines_stay.ensures c.outlines_have_lengths.ensures c.no_fault_no_codes.ensures

@@ -1,5 +1,0 @@
-use Rattle.kc_sound.proofs.Room.{parts_writable}
-use Rattle.kc_sound.proofs.parts_are_writable.Goals as goal
-
-pub returns : goal.returns
-returns c = parts_writable c.outlines_stay.ensures c.outlines_have_lengths.ensures c.no_fault_no_codes.ensures

@@ -1,0 +1,182 @@
+-- The parts of a statement: expressions, operands, items and names, and which operands an operation takes (after the
+-- MCS-96 Macro Assembler User's Guide, "Instruction Operands"; the exact forms are this kit's own).
+use Rattle.std.specs.Prelude.{ℕ, Bool, true, false, not, ◌&&◌, ◌||◌, ◌==◌, if◌then◌else◌, List, [], ◌∷◌, length, drop, Option, Some, None}
+use Rattle.std.specs.Option.{option_map}
+use Rattle.kc_lex.specs.declared.token.Token.{Token}
+use Rattle.kc_lex.specs.declared.words.Operands.{Operands}
+use Rattle.kc_lex.specs.declared.words.Operands.TheVariants as operands
+use Rattle.kc_lex.specs.Kinds.{is_sign, is_free_name, is_chars_kind, begins_sign}
+use Rattle.kc_expr.specs.Tree.{Tree}
+use Rattle.kc_expr.specs.Grammar.{Reading, parsed, is_type}
+use Rattle.kc_source_statement.specs.Trees.{ItemTree, ArgTree, Plain, Immediate, Indirect, Increment, Indexed}
+use Rattle.kc_source_statement.specs.Trees as trees
+
+abbrev pub is_nil : List Token → Bool
+is_nil ts = length ts == 0
+
+-- ---- an expression that takes all the tokens
+
+abbrev pub taken_whole : Reading → Option Tree
+taken_whole None = None
+taken_whole (Some p) = if is_nil p.1 then Some p.0 else None
+
+unfoldable pub whole : List Token → Option Tree
+whole ts = taken_whole (parsed ts)
+
+-- ---- lists: the parts between commas
+
+abbrev pub in_first : Token → List (List Token) → List (List Token)
+in_first t [] = (t ∷ []) ∷ []
+in_first t (p ∷ ps) = (t ∷ p) ∷ ps
+
+unfoldable pub parts : List Token → List (List Token)
+parts [] = [] ∷ []
+parts (t ∷ ts) = if is_sign 44 t then [] ∷ parts ts else in_first t (parts ts)
+
+abbrev pub and_some : {A : Type 0} → Option A → Option (List A) → Option (List A)
+and_some None rest = None
+and_some (Some x) None = None
+and_some (Some x) (Some xs) = Some (x ∷ xs)
+
+-- what each of the lists says, or none where one says nothing
+unfoldable pub all_some : {A : Type 0} → (List Token → Option A) → List (List Token) → Option (List A)
+all_some read [] = Some []
+all_some read (p ∷ ps) = and_some (read p) (all_some read ps)
+
+-- ---- operands
+
+-- `]` and no more
+abbrev pub is_close : List Token → Bool
+is_close [] = false
+is_close (t ∷ []) = is_sign 93 t
+is_close (t ∷ u ∷ ts) = false
+
+-- `]+` and no more
+abbrev pub is_close_plus : List Token → Bool
+is_close_plus [] = false
+is_close_plus (t ∷ []) = false
+is_close_plus (t ∷ u ∷ []) = is_sign 93 t && is_sign 43 u
+is_close_plus (t ∷ u ∷ v ∷ ts) = false
+
+abbrev pub pointed : Reading → Option ArgTree
+pointed None = None
+pointed (Some p) = if is_close p.1 then Some (Indirect p.0) else (if is_close_plus p.1 then Some (Increment p.0) else None)
+
+abbrev pub with_register : Tree → Reading → Option ArgTree
+with_register x None = None
+with_register x (Some p) = if is_close p.1 then Some (Indexed x p.0) else None
+
+abbrev pub plain_or_indexed : Reading → Option ArgTree
+plain_or_indexed None = None
+plain_or_indexed (Some p) =
+    if is_nil p.1 then Some (Plain p.0)
+    else (if begins_sign 91 p.1 then with_register p.0 (parsed (drop 1 p.1)) else None)
+
+-- `#x`, `[reg]`, `[reg]+`, `x` or `x[reg]`
+unfoldable pub operand : List Token → Option ArgTree
+operand ts =
+    if begins_sign 35 ts then option_map (λ x. Immediate x) (whole (drop 1 ts))
+    else (if begins_sign 91 ts then pointed (parsed (drop 1 ts))
+    else plain_or_indexed (parsed ts))
+
+unfoldable pub operands_in : List Token → Option (List ArgTree)
+operands_in ts = if is_nil ts then Some [] else all_some operand (parts ts)
+
+-- ---- items of data
+
+abbrev pub string_of : List Token → Option (List ℕ)
+string_of [] = None
+string_of (t ∷ []) = if is_chars_kind t.kind then Some t.text else None
+string_of (t ∷ u ∷ ts) = None
+
+abbrev pub string_or : Option (List ℕ) → Option Tree → Option ItemTree
+string_or (Some cs) x = Some (trees.Chars cs)
+string_or None None = None
+string_or None (Some x) = Some (trees.Value x)
+
+-- strings are items of bytes alone, and only where they stand alone
+unfoldable pub item : Bool → List Token → Option ItemTree
+item bytes ts = string_or (if bytes then string_of ts else None) (whole ts)
+
+abbrev pub items_in : Bool → List Token → Option (List ItemTree)
+items_in bytes ts = all_some (item bytes) (parts ts)
+
+-- ---- names
+
+abbrev pub free_text : Token → Option (List ℕ)
+free_text t = if is_free_name t then Some t.text else None
+
+-- a name, and behind one that is taken its type, which has no effect
+abbrev pub name_in : Bool → List Token → Option (List ℕ)
+name_in typed [] = None
+name_in typed (t ∷ []) = free_text t
+name_in typed (t ∷ u ∷ []) = None
+name_in typed (t ∷ u ∷ v ∷ []) = if typed && is_sign 58 u && is_type v then free_text t else None
+name_in typed (t ∷ u ∷ v ∷ w ∷ ts) = None
+
+abbrev pub names_in : Bool → List Token → Option (List (List ℕ))
+names_in typed ts = all_some (name_in typed) (parts ts)
+
+-- ---- which operands an operation takes
+
+abbrev pub is_plain : ArgTree → Bool
+is_plain (Plain x) = true
+is_plain (Immediate x) = false
+is_plain (Indirect r) = false
+is_plain (Increment r) = false
+is_plain (Indexed x r) = false
+
+abbrev pub is_immediate : ArgTree → Bool
+is_immediate (Immediate x) = true
+is_immediate (Plain x) = false
+is_immediate (Indirect r) = false
+is_immediate (Increment r) = false
+is_immediate (Indexed x r) = false
+
+abbrev pub is_indirect : ArgTree → Bool
+is_indirect (Indirect r) = true
+is_indirect (Plain x) = false
+is_indirect (Immediate x) = false
+is_indirect (Increment r) = false
+is_indirect (Indexed x r) = false
+
+abbrev pub is_indexed : ArgTree → Bool
+is_indexed (Indexed x r) = true
+is_indexed (Plain x) = false
+is_indexed (Immediate x) = false
+is_indexed (Indirect r) = false
+is_indexed (Increment r) = false
+
+abbrev pub takes_none : Operands → Bool
+takes_none operands.Nothing = true
+takes_none form = false
+
+abbrev pub takes_one : Operands → ArgTree → Bool
+takes_one operands.One a = is_plain a
+takes_one operands.Source a = true
+takes_one operands.Place a = not (is_immediate a)
+takes_one operands.Branch a = is_plain a || is_indirect a
+takes_one operands.Key a = is_immediate a
+takes_one form a = false
+
+abbrev pub takes_two : Operands → ArgTree → ArgTree → Bool
+takes_two operands.Two a b = is_plain a
+takes_two operands.TwoOrThree a b = is_plain a
+takes_two operands.Store a b = is_plain a && not (is_immediate b)
+takes_two operands.Exchange a b = is_plain a && (is_plain b || is_indexed b)
+takes_two operands.Shift a b = is_plain a && (is_plain b || is_immediate b)
+takes_two operands.Pair a b = is_plain a && is_plain b
+takes_two form a b = false
+
+abbrev pub takes_three : Operands → ArgTree → ArgTree → ArgTree → Bool
+takes_three operands.TwoOrThree a b c = is_plain a && is_plain b
+takes_three operands.Triple a b c = is_plain a && is_plain b && is_plain c
+takes_three operands.Table a b c = is_plain a && is_indirect b && is_immediate c
+takes_three form a b c = false
+
+abbrev pub takes : Operands → List ArgTree → Bool
+takes form [] = takes_none form
+takes form (a ∷ []) = takes_one form a
+takes form (a ∷ b ∷ []) = takes_two form a b
+takes form (a ∷ b ∷ c ∷ []) = takes_three form a b c
+takes form (a ∷ b ∷ c ∷ d ∷ rest) = false

@@ -1,5 +1,0 @@
-use Rattle.kc_statement.proofs.OperandLemmas.{operands_have_forms}
-use Rattle.kc_statement.proofs.laws.operands_have_forms.Goals as goal
-
-pub returns : goal.returns
-returns c = operands_have_forms
