@@ -1,0 +1,21 @@
+-- An access at a state: the Ticks up to and with that state, and then the access (this kit's own).
+use Rattle.std.specs.Prelude.{ℕ, ◌+◌, ◌-◌, ◌*◌, ◌++◌, List}
+use Rattle.kc_base.specs.declared.types.Edge.{Edge}
+use Rattle.kc_span.specs.Span.{after}
+use Rattle.kc_extra.specs.Further.{Further}
+use Rattle.kc_block_spec.specs.Units.{Units}
+use Rattle.kc_block_spec.specs.Touch.{block_rule, touch, edges_of, in_state}
+use Rattle.kc_block_spec.specs.Accesses.{latch_edges}
+use Rattle.kc_block.specs.Seen.{Seen}
+
+-- the units after the Tick of a state
+abbrev pub units_past : {X : Type 0} → Further X → Seen X → ℕ → Units X
+units_past f s at = after (block_rule f) s.time (at + 1 - s.time) s.units
+
+-- the edges of those Ticks, and then those of the access
+abbrev pub edges_past : {X : Type 0} → Further X → Seen X → ℕ → Units X → List (ℕ × Edge)
+edges_past f s at new = edges_of f s.time (at + 1 - s.time) s.units ++ in_state at (latch_edges (units_past f s at) new)
+
+-- four unit calls for each unit that a Tick touches, and sixteen for the access
+abbrev pub most_calls : {X : Type 0} → Further X → Seen X → ℕ → ℕ
+most_calls f s at = 4 * touch f s.time (at + 1 - s.time) s.units + 16

@@ -1,0 +1,4 @@
+pub mod Seen
+pub mod Lent
+pub mod Sound
+pub mod Accessed

@@ -1,0 +1,212 @@
+-- Proofs of what an access leaves of the lanes.
+use Rattle.std.proofs.Common.{◌≡◌, ℕ, zero, suc, ◌-◌, ◌<◌, Bool, refl, sym, ◌∙◌, ap, subst, arith, Option, bit_or, bit_xor}
+use Rattle.kc_base.specs.Bits.{bit}
+use Rattle.kc_span.specs.Span.{IsDue, after}
+use Rattle.kc_span.proofs.SpanLaws.{after-zero, after-suc}
+use Rattle.kc_due.specs.Due.{Times, at_slot}
+use Rattle.kc_stim.specs.Drives.{IsNextEdge}
+use Rattle.kc_timers.specs.T2.{T2, timer2_rule}
+use Rattle.kc_timers.specs.declared.T2Control.{T2Control}
+use Rattle.kc_timers.proofs.T2Laws.{view_tells}
+use Rattle.kc_hso.specs.Cam.{Cam}
+use Rattle.kc_hso.proofs.Kept.{quiet_keeps}
+use Rattle.kc_hsi.specs.Input.{hsi_rule}
+use Rattle.kc_hsi.proofs.QuietSpans.{quiet_after}
+use Rattle.kc_extra.specs.Further.{Further}
+use Rattle.kc_block_lane.specs.Lane.{shown, lane_at, IsLane}
+use Rattle.kc_block_lane.proofs.Lanes.{asked, asked_shows, lent}
+use Rattle.kc_block_spec.specs.declared.steady.Steady.{Steady}
+use Rattle.kc_block_spec.specs.Levels.{stimulated_before, wired, outputs}
+use Rattle.kc_block_spec.specs.Control.{control_of}
+use Rattle.kc_block_spec.specs.Laws.{flag_rule}
+use Rattle.kc_block_lazy.specs.Lanes.{Lanes, flag_goes, timer2_goes, line, hso_goes, further_goes, shown_units, levels_ahead, wire_slot, IsFurther, IsLazy}
+use Rattle.kc_block_lazy.proofs.Spans.{agrees_after}
+use Rattle.kc_block_access.specs.Left.{IsLeft, AreSameButTwo, UnreadLeft, FlagLeft, HsiLeft, FurtherLeft, HsoLeft, TimersLeft, GateLeft, StandingTells}
+
+captured_stays : (control : T2Control) (from n : ℕ) (d : T2) → (after (timer2_rule control) from n d).captured ≡ d.captured
+captured_stays control from zero d = ap (λ e. e.captured) (after-zero (timer2_rule control) from d)
+captured_stays control from (suc n) d = ap (λ e. e.captured) (after-suc (timer2_rule control) from n d) ∙ captured_stays control from n d
+
+module _ {X : Type 0} (f : Further X) (agrees : ℕ → ℕ → X → Type 0) where
+  pub standing_tells : StandingTells f agrees
+  standing_tells h now is = record {
+    hsi = quiet_after h.hsi.at (now - h.hsi.at) h.hsi.kept (lent hsi_rule h.hsi now (at_slot h.due 2) is.hsi);
+    captured = captured_stays (control_of h.steady h.steady.levels) h.timer2.at (now - h.timer2.at) h.timer2.kept;
+    value = sym (view_tells (control_of h.steady h.steady.levels) h.timer2.at now h.timer2.kept is.value is.timer2.first);
+    hso = quiet_keeps (line h) h.hso.at (now - h.hso.at) h.hso.kept (lent (hso_goes h) h.hso now (at_slot h.due 1) is.hso);
+  }
+
+  pub unread_left : UnreadLeft f agrees
+  unread_left h now s is unread = subst (λ t. IsLeft f agrees now (record h { steady = t }) (record (shown_units f h now) { steady = t })) (sym unread) (record {
+    lazy = record {
+      timer2 = is.timer2;
+      hso = is.hso;
+      hsi = is.hsi;
+      further = is.further;
+      flag = is.flag;
+      stimuli = is.stimuli;
+      wires = is.wires;
+      proper = is.proper;
+      held = is.held;
+      order = is.order;
+      value = is.value;
+      agreed = is.agreed;
+      spare = is.spare;
+    };
+    shows = refl;
+  })
+
+  -- what is said of a slot that keeps its time
+  at : (P : Option ℕ → Type 0) {a b : Option ℕ} → b ≡ a → P a → P b
+  at P same p = subst P (sym same) p
+
+  pub flag_left : FlagLeft f agrees
+  flag_left h now b times is same due = record {
+    lazy = record {
+      timer2 = at (IsLane (timer2_goes h) h.timer2 now) (same 0 (λ e. omega arith)) is.timer2;
+      hso = at (IsLane (hso_goes h) h.hso now) (same 1 (λ e. omega arith)) is.hso;
+      hsi = at (IsLane hsi_rule h.hsi now) (same 2 (λ e. omega arith)) is.hsi;
+      further = at (IsLane (further_goes f) h.further now) (same 3 (λ e. omega arith)) is.further;
+      flag = asked (flag_goes h) now b (at_slot times 4) due;
+      stimuli = at (IsNextEdge h.drives.stimuli now) (same 5 (λ e. omega arith)) is.stimuli;
+      wires = same 6 (λ e. omega arith) ∙ is.wires;
+      proper = is.proper;
+      held = is.held;
+      order = is.order;
+      value = is.value;
+      agreed = is.agreed;
+      spare = λ slot from to. same slot (λ e. omega arith) ∙ is.spare slot from to;
+    };
+    shows = ap (λ o. record (shown_units f h now) { overflowed = o }) (asked_shows (flag_goes h) now b);
+  }
+
+  pub hsi_left : HsiLeft f agrees
+  hsi_left h now d times is same due = record {
+    lazy = record {
+      timer2 = at (IsLane (timer2_goes h) h.timer2 now) (same 0 (λ e. omega arith)) is.timer2;
+      hso = at (IsLane (hso_goes h) h.hso now) (same 1 (λ e. omega arith)) is.hso;
+      hsi = asked hsi_rule now d (at_slot times 2) due;
+      further = at (IsLane (further_goes f) h.further now) (same 3 (λ e. omega arith)) is.further;
+      flag = at (IsLane (flag_goes h) h.flag now) (same 4 (λ e. omega arith)) is.flag;
+      stimuli = at (IsNextEdge h.drives.stimuli now) (same 5 (λ e. omega arith)) is.stimuli;
+      wires = same 6 (λ e. omega arith) ∙ is.wires;
+      proper = is.proper;
+      held = is.held;
+      order = is.order;
+      value = is.value;
+      agreed = is.agreed;
+      spare = λ slot from to. same slot (λ e. omega arith) ∙ is.spare slot from to;
+    };
+    shows = ap (λ i. record (shown_units f h now) { hsi = i }) (asked_shows hsi_rule now d);
+  }
+
+  pub further_left : IsFurther f agrees → FurtherLeft f agrees
+  further_left keeps h now d times is same due kept = record {
+    lazy = record {
+      timer2 = at (IsLane (timer2_goes h) h.timer2 now) (same 0 (λ e. omega arith)) is.timer2;
+      hso = at (IsLane (hso_goes h) h.hso now) (same 1 (λ e. omega arith)) is.hso;
+      hsi = at (IsLane hsi_rule h.hsi now) (same 2 (λ e. omega arith)) is.hsi;
+      further = asked (further_goes f) now d (at_slot times 3) due;
+      flag = at (IsLane (flag_goes h) h.flag now) (same 4 (λ e. omega arith)) is.flag;
+      stimuli = at (IsNextEdge h.drives.stimuli now) (same 5 (λ e. omega arith)) is.stimuli;
+      wires = same 6 (λ e. omega arith) ∙ is.wires;
+      proper = is.proper;
+      held = is.held;
+      order = is.order;
+      value = is.value;
+      agreed = λ m. kept m (bit_xor h.steady.levels m)
+          (agrees_after f agrees keeps h h.further.at (now - h.further.at) m (bit_xor h.steady.levels m) h.further.kept (is.agreed m));
+      spare = λ slot from to. same slot (λ e. omega arith) ∙ is.spare slot from to;
+    };
+    shows = ap (λ x. record (shown_units f h now) { further = x }) (asked_shows (further_goes f) now d);
+  }
+
+  -- the latches of HSO as it stands are those that are shown
+  same_latches : (h : Lanes X) (now : ℕ) → IsLazy f agrees h now → (shown (hso_goes h) h.hso now).latches ≡ h.hso.kept.latches
+  same_latches h now is = (standing_tells h now is).hso.latches
+
+  -- so the wires lead the same levels
+  same_wires : (h : Lanes X) (now : ℕ) (c : Cam) → IsLazy f agrees h now → c.latches ≡ (shown (hso_goes h) h.hso now).latches →
+      wire_slot now (levels_ahead h now) h.steady.levels
+      ≡ wire_slot now (bit_or (stimulated_before h.drives now) (wired h.drives (outputs h.steady c))) h.steady.levels
+  same_wires h now c is latches = ap {B = Option ℕ} (λ (l : _).
+      wire_slot now (bit_or (stimulated_before h.drives now) (wired h.drives (outputs h.steady (record c { latches = l })))) h.steady.levels)
+      (sym (latches ∙ same_latches h now is))
+
+  pub hso_left : HsoLeft f agrees
+  hso_left h now d times is same due latches = record {
+    lazy = record {
+      timer2 = at (IsLane (timer2_goes h) h.timer2 now) (same 0 (λ e. omega arith)) is.timer2;
+      hso = asked (hso_goes h) now d (at_slot times 1) due;
+      hsi = at (IsLane hsi_rule h.hsi now) (same 2 (λ e. omega arith)) is.hsi;
+      further = at (IsLane (further_goes f) h.further now) (same 3 (λ e. omega arith)) is.further;
+      flag = at (IsLane (flag_goes h) h.flag now) (same 4 (λ e. omega arith)) is.flag;
+      stimuli = at (IsNextEdge h.drives.stimuli now) (same 5 (λ e. omega arith)) is.stimuli;
+      wires = same 6 (λ e. omega arith) ∙ is.wires ∙ same_wires h now d is latches;
+      proper = is.proper;
+      held = is.held;
+      order = is.timer2.first;
+      value = is.value;
+      agreed = is.agreed;
+      spare = λ slot from to. same slot (λ e. omega arith) ∙ is.spare slot from to;
+    };
+    shows = ap (λ c. record (shown_units f h now) { hso = c }) (asked_shows (hso_goes h) now d);
+  }
+
+  controlled_left : (h : Lanes X) (now ioc0 ioc2 ioc3 : ℕ) (d : T2) (c : Cam) (times : Times) → IsLazy f agrees h now → AreSameButTwo 0 1 h.due times →
+      d.value < 65536 → c.latches ≡ (shown (hso_goes h) h.hso now).latches →
+      let s : Steady = record h.steady { ioc0 = ioc0; ioc2 = ioc2; ioc3 = ioc3 } in
+      let new : Lanes X = record h { steady = s; timer2 = lane_at now d; hso = lane_at now c; due = times } in
+      IsDue (timer2_goes new) now d (at_slot times 0) → IsDue (hso_goes new) now c (at_slot times 1) →
+      IsLeft f agrees now new (record (shown_units f h now) { steady = s; timer2 = d; hso = c })
+  controlled_left h now ioc0 ioc2 ioc3 d c times is same fits latches due_timer2 due_hso =
+      let s : Steady = record h.steady { ioc0 = ioc0; ioc2 = ioc2; ioc3 = ioc3 } in
+      let new : Lanes X = record h { steady = s; timer2 = lane_at now d; hso = lane_at now c; due = times } in
+      record {
+        lazy = record {
+          timer2 = asked (timer2_goes new) now d (at_slot times 0) due_timer2;
+          hso = asked (hso_goes new) now c (at_slot times 1) due_hso;
+          hsi = at (IsLane hsi_rule h.hsi now) (same 2 (λ e. omega arith) (λ e. omega arith)) is.hsi;
+          further = at (IsLane (further_goes f) h.further now) (same 3 (λ e. omega arith) (λ e. omega arith)) is.further;
+          flag = at (IsLane (flag_goes h) h.flag now) (same 4 (λ e. omega arith) (λ e. omega arith)) is.flag;
+          stimuli = at (IsNextEdge h.drives.stimuli now) (same 5 (λ e. omega arith) (λ e. omega arith)) is.stimuli;
+          wires = same 6 (λ e. omega arith) (λ e. omega arith) ∙ is.wires ∙ same_wires h now c is latches;
+          proper = is.proper;
+          held = is.held;
+          order = omega arith;
+          value = fits;
+          agreed = is.agreed;
+          spare = λ slot from to. same slot (λ e. omega arith) (λ e. omega arith) ∙ is.spare slot from to;
+        };
+        shows = λ j. record (shown_units f h now) { steady = s; timer2 = asked_shows (timer2_goes new) now d j; hso = asked_shows (hso_goes new) now c j };
+      }
+
+  pub timers_left : TimersLeft f agrees
+  timers_left h now s d c times is same alike fits latches =
+      subst (λ (t : Steady).
+      let new : Lanes X = record h { steady = t; timer2 = lane_at now d; hso = lane_at now c; due = times } in
+      IsDue (timer2_goes new) now d (at_slot times 0) → IsDue (hso_goes new) now c (at_slot times 1) →
+      IsLeft f agrees now new (record (shown_units f h now) { steady = t; timer2 = d; hso = c }))
+      (sym alike) (controlled_left h now s.ioc0 s.ioc2 s.ioc3 d c times is same fits latches)
+
+  pub gate_left : GateLeft f agrees
+  gate_left h now ioc1 times is same due wires =
+      let b : Bool = shown (flag_goes h) h.flag now in
+      record {
+        lazy = record {
+          timer2 = at (IsLane (timer2_goes h) h.timer2 now) (same 0 (λ e. omega arith) (λ e. omega arith)) is.timer2;
+          hso = at (IsLane (hso_goes h) h.hso now) (same 1 (λ e. omega arith) (λ e. omega arith)) is.hso;
+          hsi = at (IsLane hsi_rule h.hsi now) (same 2 (λ e. omega arith) (λ e. omega arith)) is.hsi;
+          further = at (IsLane (further_goes f) h.further now) (same 3 (λ e. omega arith) (λ e. omega arith)) is.further;
+          flag = asked (flag_rule (bit ioc1 2)) now b (at_slot times 4) due;
+          stimuli = at (IsNextEdge h.drives.stimuli now) (same 5 (λ e. omega arith) (λ e. omega arith)) is.stimuli;
+          wires = wires;
+          proper = is.proper;
+          held = is.held;
+          order = is.order;
+          value = is.value;
+          agreed = is.agreed;
+          spare = λ slot from to. same slot (λ e. omega arith) (λ e. omega arith) ∙ is.spare slot from to;
+        };
+        shows = ap (λ o. record (shown_units f h now) { steady = record h.steady { ioc1 = ioc1 }; overflowed = o }) (asked_shows (flag_rule (bit ioc1 2)) now b);
+      }

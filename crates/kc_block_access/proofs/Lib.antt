@@ -1,0 +1,4 @@
+pub mod Left
+pub mod Acts
+pub mod Outcomes
+pub mod Words

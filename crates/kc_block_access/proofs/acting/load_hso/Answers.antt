@@ -1,0 +1,29 @@
+use Rattle.std.proofs.Common.{◌≡◌, refl, ap, sym, ◌∙◌, Option, Some, None, Result, Ok, Err}
+use Rattle.std.specs.Prelude.{IfErr, OnOk}
+use Rattle.kc_base.specs.declared.types.Kind.{Kind}
+use Rattle.kc_block_lazy.specs.Lanes.{shown_units}
+use Rattle.kc_block_lanes.specs.Standing.{standing}
+use Rattle.kc_base.specs.Bits.{bit}
+use Rattle.kc_hso.specs.Cam.{load_refusal, with_load}
+use Rattle.kc_block_access.proofs.Acts.{hso_act}
+use Rattle.kc_block_access.proofs.acting.load_hso.Goals as goal
+
+loaded : (r : Result (Unit {0}) Kind) (P : Type 0) (refusal : Option Kind) → IfErr r (λ kind. refusal ≡ Some kind) → OnOk r P → refusal ≡ None → P
+loaded (Ok u) P refusal refused ok none = ok
+loaded (Err kind) P refusal refused ok none = let both : ◌≡◌ {A = Option Kind} (Some kind) None = sym refused ∙ none in cc
+
+pub returns-clause-left : goal.returns-clause-left
+returns-clause-left g c =
+    let before = c.bring_hso.new.self in
+    let kept : (shown_units g.X.Extra.further (standing g.X.Extra.plain c.args.lanes.now) c.args.now).hso ≡ before.hso.unit.inner =
+    ap (λ l. l.hso.kept) (sym c.bring_hso.ensures.standing) in
+    let steady : c.args.lanes.now.steady ≡ before.steady = ap (λ l. l.steady) (sym c.bring_hso.ensures.standing) in
+    let none : load_refusal before.hso.unit.inner c.bit-fast.result ≡ None =
+    ap (load_refusal before.hso.unit.inner) c.bit-fast.ensures
+    ∙ (λ j. load_refusal (sym kept j) (bit (sym steady j).ioc2 0)) ∙ c.requires.loads in
+    let loads = loaded c.load_time.result (c.load_time.new.self ≡ record before.hso.unit { inner = with_load c.args.time before.hso.unit.inner })
+    (load_refusal before.hso.unit.inner c.bit-fast.result) c.load_time.ensures.refused c.load_time.ensures.ok none in
+    hso_act g.X.Extra.further g.X.Extra.agrees g.X.Extra.plain c.args.lanes.now before c.ask_hso.new.self c.args.now
+    (with_load c.args.time) c.load_time.new.self
+    (record { lazy = c.bring_hso.ensures.lazy; shows = c.bring_hso.ensures.shows }) c.bring_hso.ensures.standing
+    (ap (λ u. u.inner) loads) (λ d. refl) c.ask_hso.ensures.rest c.ask_hso.ensures.others c.ask_hso.ensures.due

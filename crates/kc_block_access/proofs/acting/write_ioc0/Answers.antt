@@ -1,0 +1,20 @@
+use Rattle.std.proofs.Common.{false, true, Bool, ◌<◌, refl, ap, arith}
+use Rattle.kc_base.specs.Bits.{bit}
+use Rattle.kc_timers.specs.T2.{T2}
+use Rattle.kc_block_spec.specs.Writing.{reset_by}
+use Rattle.std.specs.Prelude.{bit_and, if◌then◌else◌}
+use Rattle.kc_block_access.proofs.Acts.{timers_act}
+use Rattle.kc_block_access.proofs.acting.write_ioc0.Goals as goal
+
+reset_fits : (b : Bool) (t : T2) → t.value < 65536 → (if b then record t { value = 0 } else t).value < 65536
+reset_fits true t fits = omega arith
+reset_fits false t fits = fits
+
+pub returns-clause-left : goal.returns-clause-left
+returns-clause-left g c =
+    timers_act g.X.Extra.further g.X.Extra.agrees g.X.Extra.plain c.args.lanes.now c.bring_timers.new.self c.ask_timers.new.self c.args.now
+    (λ s. record s { ioc0 = bit_and c.args.value 0xFD }) (reset_by c.args.value) (λ d. d)
+    c.steady_with-lanes.result c.reset_by.new.timer c.bring_timers.new.self.hso.unit
+    (record { lazy = c.bring_timers.ensures.lazy; shows = c.bring_timers.ensures.shows }) c.bring_timers.ensures.standing
+    (λ s. refl) c.steady_with-lanes.ensures (ap (λ u. u.inner) c.reset_by.ensures) (reset_fits (bit c.args.value 1) c.bring_timers.new.self.timer2.unit.inner c.bring_timers.ensures.lazy.value)
+    refl (λ d. refl) c.ask_timers.ensures.rest c.ask_timers.ensures.others c.ask_timers.ensures.timer2 c.ask_timers.ensures.hso

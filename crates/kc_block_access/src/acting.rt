@@ -1,0 +1,278 @@
+//! What accesses do to the units that they concern: those are brought to the present state, changed, and asked anew when they
+//! are due.
+ghost use Rattle.std.specs.Prelude.{◌≡◌, ◌+◌, ◌-◌, ◌*◌, ◌≤◌, ◌<◌, ◌^◌, false, None};
+ghost use Rattle.kc_base.specs.Bits.{bit as bit_of};
+ghost use Rattle.kc_hso.specs.Cam.{load_refusal, with_load};
+ghost use Rattle.kc_block_spec.specs.Registers.{window_number};
+ghost use Rattle.kc_block_spec.specs.Writing.{reset_by as reset_when, emptied_by as emptied_when, steady_with as steady_after};
+ghost use Rattle.kc_block_lazy.specs.Lanes.{shown_units, IsLazy};
+ghost use Rattle.kc_block_lanes.specs.Standing.{standing, moves_of};
+ghost use Rattle.kc_block_access.specs.Left.{IsLeft};
+
+use crate::registers::number;
+use crate::steadying::steady_with;
+use crate::values::{bit, state_before};
+use kc_base::{StateTime, Steps};
+use kc_block_lanes::Lanes;
+use kc_block_spec::{Window, WritableByte};
+use kc_extra::Extra;
+use kc_hso::Hso;
+use kc_timers::Timer2;
+use std::sync::ledger::Ledger;
+
+/// A read of IOS1 clears its bits 0 to 5.
+pub(crate) fn clear_ios1<X: Extra>(lanes: &mut Lanes<X>, now: StateTime)
+    requires bound { now ≤ 3 * 10 ^ 15 }
+    requires lazy { IsLazy X.further X.agrees (standing X.plain lanes.old) now }
+    ensures left { let u = shown_units X.further (standing X.plain lanes.old) now in
+        IsLeft X.further X.agrees now (standing X.plain lanes.new) (record u { steady = record u.steady { ios1 = 0 }; overflowed = false }) }
+    ensures moves { moves_of X.moved lanes.new ≡ moves_of X.moved lanes.old }
+{
+    lanes.bring_flag(now);
+    lanes.flag.unit = false;
+    lanes.steady.ios1 = 0;
+    lanes.ask_flag(now);
+}
+
+/// A write of IOC1 gates outputs, and says whether Timer 1's overflow is a request.
+pub(crate) fn write_ioc1<X: Extra>(lanes: &mut Lanes<X>, now: StateTime, value: u8)
+    requires bound { now ≤ 3 * 10 ^ 15 }
+    requires lazy { IsLazy X.further X.agrees (standing X.plain lanes.old) now }
+    ensures left { let u = shown_units X.further (standing X.plain lanes.old) now in
+        IsLeft X.further X.agrees now (standing X.plain lanes.new) (record u { steady = steady_after u.steady WritableByte.Ioc1 value }) }
+    ensures moves { moves_of X.moved lanes.new ≡ moves_of X.moved lanes.old }
+{
+    lanes.bring_flag(now);
+    lanes.steady = steady_with(&lanes.steady, WritableByte::Ioc1, value);
+    lanes.ask_flag(now);
+    lanes.set_wires(now);
+}
+
+/// A write of TIMER2.
+pub(crate) fn write_timer2<X: Extra, L: Ledger>(
+    lanes: &mut Lanes<X>,
+    now: StateTime,
+    value: u16,
+    steps: &mut Steps<L>,
+)
+    requires bound { now ≤ 3 * 10 ^ 15 }
+    requires lazy { IsLazy X.further X.agrees (standing X.plain lanes.old) now }
+    ensures left { let u = shown_units X.further (standing X.plain lanes.old) now in
+        IsLeft X.further X.agrees now (standing X.plain lanes.new) (record u { timer2 = record u.timer2 { value = value } }) }
+    ensures steps { steps.new ≡ steps.old + 4 }
+    ensures moves { moves_of X.moved lanes.new ≤ moves_of X.moved lanes.old + 2 }
+{
+    lanes.bring_timers(now, steps);
+    lanes.timer2.unit.write(value);
+    lanes.ask_timers(now, steps);
+}
+
+/// Bit 1 of a write of IOC0 resets Timer 2.
+fn reset_by(timer: &mut Timer2, value: u8)
+    ensures { timer.new ≡ record timer.old { inner = reset_when value timer.old.inner } }
+{
+    if bit(value, 1) {
+        timer.write(0);
+    }
+}
+
+/// A write of IOC0.
+pub(crate) fn write_ioc0<X: Extra, L: Ledger>(
+    lanes: &mut Lanes<X>,
+    now: StateTime,
+    value: u8,
+    steps: &mut Steps<L>,
+)
+    requires bound { now ≤ 3 * 10 ^ 15 }
+    requires lazy { IsLazy X.further X.agrees (standing X.plain lanes.old) now }
+    ensures left { let u = shown_units X.further (standing X.plain lanes.old) now in
+        IsLeft X.further X.agrees now (standing X.plain lanes.new)
+        (record u { steady = steady_after u.steady WritableByte.Ioc0 value; timer2 = reset_when value u.timer2 }) }
+    ensures steps { steps.new ≡ steps.old + 4 }
+    ensures moves { moves_of X.moved lanes.new ≤ moves_of X.moved lanes.old + 2 }
+{
+    lanes.bring_timers(now, steps);
+    lanes.steady = steady_with(&lanes.steady, WritableByte::Ioc0, value);
+    reset_by(&mut lanes.timer2.unit, value);
+    lanes.ask_timers(now, steps);
+}
+
+/// Bit 7 of a write of IOC2 empties HSO's entries and holding register.
+fn empty_by(hso: &mut Hso, value: u8)
+    ensures { hso.new ≡ record hso.old { inner = emptied_when value hso.old.inner } }
+{
+    if bit(value, 7) {
+        hso.clear();
+    }
+}
+
+/// A write of IOC2, which was found to be no fast Timer 2 with entries on it.
+pub(crate) fn write_ioc2<X: Extra, L: Ledger>(
+    lanes: &mut Lanes<X>,
+    now: StateTime,
+    value: u8,
+    steps: &mut Steps<L>,
+)
+    requires bound { now ≤ 3 * 10 ^ 15 }
+    requires lazy { IsLazy X.further X.agrees (standing X.plain lanes.old) now }
+    ensures left { let u = shown_units X.further (standing X.plain lanes.old) now in
+        IsLeft X.further X.agrees now (standing X.plain lanes.new)
+        (record u { steady = steady_after u.steady WritableByte.Ioc2 value; hso = emptied_when value u.hso }) }
+    ensures steps { steps.new ≡ steps.old + 4 }
+    ensures moves { moves_of X.moved lanes.new ≤ moves_of X.moved lanes.old + 2 }
+{
+    lanes.bring_timers(now, steps);
+    lanes.steady = steady_with(&lanes.steady, WritableByte::Ioc2, value);
+    empty_by(&mut lanes.hso.unit, value);
+    lanes.ask_timers(now, steps);
+}
+
+/// A write of IOC3.
+pub(crate) fn write_ioc3<X: Extra, L: Ledger>(
+    lanes: &mut Lanes<X>,
+    now: StateTime,
+    value: u8,
+    steps: &mut Steps<L>,
+)
+    requires bound { now ≤ 3 * 10 ^ 15 }
+    requires lazy { IsLazy X.further X.agrees (standing X.plain lanes.old) now }
+    ensures left { let u = shown_units X.further (standing X.plain lanes.old) now in
+        IsLeft X.further X.agrees now (standing X.plain lanes.new) (record u { steady = steady_after u.steady WritableByte.Ioc3 value }) }
+    ensures steps { steps.new ≡ steps.old + 4 }
+    ensures moves { moves_of X.moved lanes.new ≤ moves_of X.moved lanes.old + 2 }
+{
+    lanes.bring_timers(now, steps);
+    lanes.steady = steady_with(&lanes.steady, WritableByte::Ioc3, value);
+    lanes.ask_timers(now, steps);
+}
+
+/// A write of HSO_COMMAND.
+pub(crate) fn write_hso_command<X: Extra, L: Ledger>(
+    lanes: &mut Lanes<X>,
+    now: StateTime,
+    value: u8,
+    steps: &mut Steps<L>,
+)
+    requires bound { now ≤ 3 * 10 ^ 15 }
+    requires lazy { IsLazy X.further X.agrees (standing X.plain lanes.old) now }
+    ensures left { let u = shown_units X.further (standing X.plain lanes.old) now in
+        IsLeft X.further X.agrees now (standing X.plain lanes.new) (record u { hso = record u.hso { command = value } }) }
+    ensures steps { steps.new ≡ steps.old + 2 }
+    ensures moves { moves_of X.moved lanes.new ≤ moves_of X.moved lanes.old + 1 }
+{
+    lanes.bring_hso(now, steps);
+    lanes.hso.unit.command(value);
+    lanes.ask_hso(now, steps);
+}
+
+/// A write of HSO_TIME, which was found to load.
+pub(crate) fn load_hso<X: Extra, L: Ledger>(
+    lanes: &mut Lanes<X>,
+    now: StateTime,
+    time: u16,
+    steps: &mut Steps<L>,
+)
+    requires bound { now ≤ 3 * 10 ^ 15 }
+    requires lazy { IsLazy X.further X.agrees (standing X.plain lanes.old) now }
+    requires loads { load_refusal (shown_units X.further (standing X.plain lanes.old) now).hso (bit_of lanes.old.steady.ioc2 0) ≡ None }
+    ensures left { let u = shown_units X.further (standing X.plain lanes.old) now in
+        IsLeft X.further X.agrees now (standing X.plain lanes.new) (record u { hso = with_load time u.hso }) }
+    ensures steps { steps.new ≡ steps.old + 2 }
+    ensures moves { moves_of X.moved lanes.new ≤ moves_of X.moved lanes.old + 1 }
+{
+    lanes.bring_hso(now, steps);
+    let fast = bit(lanes.steady.ioc2, 0);
+    let _ = lanes.hso.unit.load_time(time, fast);
+    lanes.ask_hso(now, steps);
+}
+
+/// A write of HSI_MODE.
+pub(crate) fn write_hsi_mode<X: Extra, L: Ledger>(
+    lanes: &mut Lanes<X>,
+    now: StateTime,
+    value: u8,
+    steps: &mut Steps<L>,
+)
+    requires bound { now ≤ 3 * 10 ^ 15 }
+    requires lazy { IsLazy X.further X.agrees (standing X.plain lanes.old) now }
+    ensures left { let u = shown_units X.further (standing X.plain lanes.old) now in
+        IsLeft X.further X.agrees now (standing X.plain lanes.new) (record u { hsi = record u.hsi { mode = value } }) }
+    ensures steps { steps.new ≡ steps.old + 2 }
+    ensures moves { moves_of X.moved lanes.new ≤ moves_of X.moved lanes.old + 1 }
+{
+    lanes.bring_hsi(now, steps);
+    lanes.hsi.unit.set_mode(value);
+    lanes.ask_hsi(now, steps);
+}
+
+/// A read of HSI_TIME empties the holding register.
+pub(crate) fn take_hsi_time<X: Extra, L: Ledger>(
+    lanes: &mut Lanes<X>,
+    now: StateTime,
+    steps: &mut Steps<L>,
+) -> u16
+    requires bound { now ≤ 3 * 10 ^ 15 }
+    requires lazy { IsLazy X.further X.agrees (standing X.plain lanes.old) now }
+    ensures time { result ≡ (shown_units X.further (standing X.plain lanes.old) now).hsi.held.time }
+    ensures left { let u = shown_units X.further (standing X.plain lanes.old) now in
+        IsLeft X.further X.agrees now (standing X.plain lanes.new) (record u { hsi = record u.hsi { loaded = false } }) }
+    ensures steps { steps.new ≡ steps.old + 2 }
+    ensures moves { moves_of X.moved lanes.new ≤ moves_of X.moved lanes.old + 1 }
+{
+    lanes.bring_hsi(now, steps);
+    let time = lanes.hsi.unit.read_time();
+    lanes.ask_hsi(now, steps);
+    time
+}
+
+/// A byte read of the further unit, in the state before `now`.
+pub(crate) fn read_further<X: Extra, L: Ledger>(
+    lanes: &mut Lanes<X>,
+    now: StateTime,
+    window: Window,
+    sfr: u8,
+    steps: &mut Steps<L>,
+) -> Option<u8>
+    requires bound { now ≤ 3 * 10 ^ 15 }
+    requires lazy { IsLazy X.further X.agrees (standing X.plain lanes.old) now }
+    ensures answer { let u = shown_units X.further (standing X.plain lanes.old) now in
+        result ≡ X.further.answer (window_number window) sfr (now - 1) u.further }
+    ensures left { let u = shown_units X.further (standing X.plain lanes.old) now in
+        IsLeft X.further X.agrees now (standing X.plain lanes.new)
+        (record u { further = X.further.after_read (window_number window) sfr (now - 1) u.further }) }
+    ensures steps { steps.new ≡ steps.old + 2 }
+    ensures moves { moves_of X.moved lanes.new ≤ moves_of X.moved lanes.old + 1 }
+{
+    lanes.bring_further(now, steps);
+    let answer = lanes
+        .further
+        .unit
+        .read(number(window), sfr, state_before(now));
+    lanes.ask_further(now, steps);
+    answer
+}
+
+/// A byte write of the further unit, in the state before `now`.
+pub(crate) fn write_further<X: Extra, L: Ledger>(
+    lanes: &mut Lanes<X>,
+    now: StateTime,
+    window: Window,
+    sfr: u8,
+    value: u8,
+    steps: &mut Steps<L>,
+)
+    requires bound { now ≤ 3 * 10 ^ 15 }
+    requires lazy { IsLazy X.further X.agrees (standing X.plain lanes.old) now }
+    ensures left { let u = shown_units X.further (standing X.plain lanes.old) now in
+        IsLeft X.further X.agrees now (standing X.plain lanes.new)
+        (record u { further = X.further.after_write (window_number window) sfr value (now - 1) u.further }) }
+    ensures steps { steps.new ≡ steps.old + 2 }
+    ensures moves { moves_of X.moved lanes.new ≤ moves_of X.moved lanes.old + 1 }
+{
+    lanes.bring_further(now, steps);
+    let _ = lanes
+        .further
+        .unit
+        .write(number(window), sfr, value, state_before(now));
+    lanes.ask_further(now, steps);
+}

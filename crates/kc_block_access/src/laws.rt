@@ -1,0 +1,19 @@
+ghost use Rattle.kc_block_access.specs.Left.{UnreadLeft, FlagLeft, HsiLeft, FurtherLeft, HsoLeft, TimersLeft, GateLeft, StandingTells};
+
+use kc_extra::Extra;
+
+/// What an access leaves of the lanes shows the units that the access leaves, and needs no other due state asked.
+pub fn what_is_left_is_lazy<X: Extra>()
+    ensures unread { UnreadLeft X.further X.agrees }
+    ensures flag { FlagLeft X.further X.agrees }
+    ensures hsi { HsiLeft X.further X.agrees }
+    ensures further { FurtherLeft X.further X.agrees }
+    ensures hso { HsoLeft X.further X.agrees }
+    ensures timers { TimersLeft X.further X.agrees }
+    ensures gate { GateLeft X.further X.agrees }
+{}
+
+/// What units that stand earlier tell of the present state, without being moved.
+pub fn standing_units_tell_what_is_shown<X: Extra>()
+    ensures { StandingTells X.further X.agrees }
+{}

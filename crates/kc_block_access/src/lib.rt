@@ -1,0 +1,20 @@
+//! Accesses of the special function registers below 0018H, each master's alike: which units an access brings to the present
+//! state, what it does to them, and which due states it asks anew.
+#![tactic(auto)]
+
+mod acting;
+mod laws;
+mod looking;
+mod reading;
+mod registers;
+mod seeing;
+mod steadying;
+#[cfg(test)]
+mod tests;
+mod values;
+mod writing;
+
+pub use laws::{standing_units_tell_what_is_shown, what_is_left_is_lazy};
+pub use looking::look;
+pub use reading::{read8, read16};
+pub use writing::{write8, write16};

@@ -1,0 +1,199 @@
+//! Reads of the special function registers.
+ghost use Rattle.std.specs.Prelude.{◌≡◌, ℕ, ◌+◌, ◌-◌, ◌*◌, ◌≤◌, ◌<◌, ◌^◌, true, None, Ok, OnOk, OnErr};
+ghost use Rattle.kc_exec_spec.specs.Window.{is_wsr};
+ghost use Rattle.kc_block_spec.specs.Units.{Units};
+ghost use Rattle.kc_block_spec.specs.Registers.{row_at, words_read};
+ghost use Rattle.kc_block_spec.specs.Reading.{byte_value, after_byte, word_value, after_word};
+ghost use Rattle.kc_block_spec.specs.Accesses.{byte_read, after_byte_read, word_read, after_word_read};
+ghost use Rattle.kc_block_spec.specs.RegisterLaws.{refusal};
+ghost use Rattle.kc_block_lazy.specs.Lanes.{shown_units, IsLazy};
+ghost use Rattle.kc_block_lanes.specs.Standing.{standing, moves_of};
+ghost use Rattle.kc_block_access.specs.Left.{IsLeft};
+ghost use Rattle.kc_block_access.specs.Costs.{byte_calls, word_calls};
+
+use crate::acting::{clear_ios1, read_further, take_hsi_time};
+use crate::registers::{is_half_read, number, readable_byte, readable_word};
+use crate::seeing::{byte_at, word_at};
+use crate::values::state_before;
+use kc_base::{Kind, StateTime, Steps};
+use kc_block_lanes::Lanes;
+use kc_block_spec::{ReadableByte, ReadableWord, Window};
+use kc_extra::Extra;
+use std::sync::ledger::Ledger;
+
+/// Why a byte read is refused in the state before `now`, if it is: this is the same whatever the units are.
+fn read_refusal<X: Extra>(lanes: &Lanes<X>, now: StateTime, window: Window, sfr: u8) -> Option<Kind>
+    requires { now ≤ 3 * 10 ^ 15 }
+    ensures { (t : ℕ) (u : Units X) → result ≡ refusal (byte_read X.further t window u sfr) }
+{
+    if readable_byte(window, sfr).is_some() {
+        return None;
+    }
+    if is_half_read(window, sfr) {
+        return Some(Kind::ByteAccess);
+    }
+    match lanes.further.unit.look(number(window), sfr, now) {
+        Some(_) => None,
+        None => Some(Kind::NoRegister),
+    }
+}
+
+// What a byte read of a register leaves.
+fn take_byte<X: Extra>(lanes: &mut Lanes<X>, now: StateTime, register: ReadableByte)
+    requires bound { now ≤ 3 * 10 ^ 15 }
+    requires lazy { IsLazy X.further X.agrees (standing X.plain lanes.old) now }
+    ensures left { IsLeft X.further X.agrees now (standing X.plain lanes.new) (after_byte (shown_units X.further (standing X.plain lanes.old) now) register) }
+    ensures moves { moves_of X.moved lanes.new ≡ moves_of X.moved lanes.old }
+{
+    match register {
+        ReadableByte::Ios1 => clear_ios1(lanes, now),
+        ReadableByte::Ios2 => lanes.steady.ios2 = 0,
+        _ => {}
+    }
+}
+
+fn read_named<X: Extra>(lanes: &mut Lanes<X>, now: StateTime, register: ReadableByte) -> u8
+    requires bound { now ≤ 3 * 10 ^ 15 }
+    requires lazy { IsLazy X.further X.agrees (standing X.plain lanes.old) now }
+    ensures value { result ≡ byte_value (shown_units X.further (standing X.plain lanes.old) now) register }
+    ensures left { IsLeft X.further X.agrees now (standing X.plain lanes.new) (after_byte (shown_units X.further (standing X.plain lanes.old) now) register) }
+    ensures moves { moves_of X.moved lanes.new ≡ moves_of X.moved lanes.old }
+{
+    let steady = lanes.steady;
+    let value = byte_at(lanes, &steady, now, register);
+    take_byte(lanes, now, register);
+    value
+}
+
+// A byte read that is not refused.
+fn read_byte<X: Extra, L: Ledger>(
+    lanes: &mut Lanes<X>,
+    now: StateTime,
+    window: Window,
+    sfr: u8,
+    steps: &mut Steps<L>,
+) -> u8
+    requires bound { now ≤ 3 * 10 ^ 15 }
+    requires lazy { IsLazy X.further X.agrees (standing X.plain lanes.old) now }
+    requires defined { refusal (byte_read X.further (now - 1) window (shown_units X.further (standing X.plain lanes.old) now) sfr) ≡ None }
+    ensures value { byte_read X.further (now - 1) window (shown_units X.further (standing X.plain lanes.old) now) sfr ≡ Ok result }
+    ensures left { IsLeft X.further X.agrees now (standing X.plain lanes.new)
+        (after_byte_read X.further (now - 1) window (shown_units X.further (standing X.plain lanes.old) now) sfr) }
+    ensures steps { steps.new ≤ steps.old + byte_calls sfr }
+    ensures moves { moves_of X.moved lanes.new ≤ moves_of X.moved lanes.old + byte_calls sfr }
+{
+    match readable_byte(window, sfr) {
+        Some(register) => read_named(lanes, now, register),
+        None => read_further(lanes, now, window, sfr, steps).unwrap_or(0),
+    }
+}
+
+/// A byte read of a register below 0018H in the state before `now`, after its Tick. The refusals: ByteAccess, a half of a word
+/// register of the window; NoRegister, where neither the window nor the further unit has such a register. A refused read
+/// changes nothing and makes no call of a unit that counts.
+pub fn read8<X: Extra, L: Ledger>(
+    lanes: &mut Lanes<X>,
+    now: StateTime,
+    window: Window,
+    sfr: u8,
+    steps: &mut Steps<L>,
+) -> Result<u8, Kind>
+    requires bound { now ≤ 3 * 10 ^ 15 }
+    requires lazy { IsLazy X.further X.agrees (standing X.plain lanes.old) now }
+    requires profile { is_wsr lanes.old.steady.wsr ≡ true }
+    ensures answer { result ≡ byte_read X.further (now - 1) window (shown_units X.further (standing X.plain lanes.old) now) sfr }
+    ensures lazy { IsLazy X.further X.agrees (standing X.plain lanes.new) now }
+    ensures profile { is_wsr lanes.new.steady.wsr ≡ true }
+    ensures units { OnOk result (shown_units X.further (standing X.plain lanes.new) now
+        ≡ after_byte_read X.further (now - 1) window (shown_units X.further (standing X.plain lanes.old) now) sfr) }
+    ensures refused { OnErr result (lanes.new ≡ lanes.old) }
+    ensures no_call { OnErr result (steps.new ≡ steps.old) }
+    ensures steps { steps.new ≤ steps.old + byte_calls sfr }
+    ensures moves { moves_of X.moved lanes.new ≤ moves_of X.moved lanes.old + byte_calls sfr }
+{
+    if let Some(kind) = read_refusal(lanes, now, window, sfr) {
+        return Err(kind);
+    }
+    Ok(read_byte(lanes, now, window, sfr, steps))
+}
+
+// A read of a word register.
+fn read_word<X: Extra, L: Ledger>(
+    lanes: &mut Lanes<X>,
+    now: StateTime,
+    register: ReadableWord,
+    steps: &mut Steps<L>,
+) -> u16
+    requires bound { now ≤ 3 * 10 ^ 15 }
+    requires lazy { IsLazy X.further X.agrees (standing X.plain lanes.old) now }
+    ensures value { result ≡ word_value (now - 1) (shown_units X.further (standing X.plain lanes.old) now) register }
+    ensures left { IsLeft X.further X.agrees now (standing X.plain lanes.new) (after_word (shown_units X.further (standing X.plain lanes.old) now) register) }
+    ensures steps { steps.new ≤ steps.old + 2 }
+    ensures moves { moves_of X.moved lanes.new ≤ moves_of X.moved lanes.old + 1 }
+{
+    match register {
+        ReadableWord::HsiTime => take_hsi_time(lanes, now, steps),
+        _ => word_at(lanes, now, state_before(now), register),
+    }
+}
+
+// A word that is no word register is read as two bytes, which are both asked before either is read.
+fn read_two<X: Extra, L: Ledger>(
+    lanes: &mut Lanes<X>,
+    now: StateTime,
+    window: Window,
+    sfr: u8,
+    steps: &mut Steps<L>,
+) -> Result<u16, Kind>
+    requires bound { now ≤ 3 * 10 ^ 15 }
+    requires byte { sfr < 24 }
+    requires lazy { IsLazy X.further X.agrees (standing X.plain lanes.old) now }
+    requires two { row_at (words_read window) sfr ≡ None }
+    ensures answer { result ≡ word_read X.further (now - 1) window (shown_units X.further (standing X.plain lanes.old) now) sfr }
+    ensures left { OnOk result (IsLeft X.further X.agrees now (standing X.plain lanes.new)
+        (after_word_read X.further (now - 1) window (shown_units X.further (standing X.plain lanes.old) now) sfr)) }
+    ensures refused { OnErr result (lanes.new ≡ lanes.old) }
+    ensures no_call { OnErr result (steps.new ≡ steps.old) }
+    ensures steps { steps.new ≤ steps.old + word_calls sfr }
+    ensures moves { moves_of X.moved lanes.new ≤ moves_of X.moved lanes.old + word_calls sfr }
+{
+    if let Some(kind) = read_refusal(lanes, now, window, sfr) {
+        return Err(kind);
+    }
+    if let Some(kind) = read_refusal(lanes, now, window, sfr + 1) {
+        return Err(kind);
+    }
+    let low = read_byte(lanes, now, window, sfr, steps);
+    let high = read_byte(lanes, now, window, sfr + 1, steps);
+    Ok(u16::from(low) + 256 * u16::from(high))
+}
+
+/// A word read at an address below 0018H in the state before `now`, after its Tick: of a word register of the window, else of
+/// two bytes, the low one first. It is refused as the low byte is, else as the high byte is; a refused read changes nothing
+/// and makes no call of a unit that counts.
+pub fn read16<X: Extra, L: Ledger>(
+    lanes: &mut Lanes<X>,
+    now: StateTime,
+    window: Window,
+    sfr: u8,
+    steps: &mut Steps<L>,
+) -> Result<u16, Kind>
+    requires bound { now ≤ 3 * 10 ^ 15 }
+    requires byte { sfr < 24 }
+    requires lazy { IsLazy X.further X.agrees (standing X.plain lanes.old) now }
+    requires profile { is_wsr lanes.old.steady.wsr ≡ true }
+    ensures answer { result ≡ word_read X.further (now - 1) window (shown_units X.further (standing X.plain lanes.old) now) sfr }
+    ensures lazy { IsLazy X.further X.agrees (standing X.plain lanes.new) now }
+    ensures profile { is_wsr lanes.new.steady.wsr ≡ true }
+    ensures units { OnOk result (shown_units X.further (standing X.plain lanes.new) now
+        ≡ after_word_read X.further (now - 1) window (shown_units X.further (standing X.plain lanes.old) now) sfr) }
+    ensures refused { OnErr result (lanes.new ≡ lanes.old) }
+    ensures no_call { OnErr result (steps.new ≡ steps.old) }
+    ensures steps { steps.new ≤ steps.old + word_calls sfr }
+    ensures moves { moves_of X.moved lanes.new ≤ moves_of X.moved lanes.old + word_calls sfr }
+{
+    match readable_word(window, sfr) {
+        Some(register) => Ok(read_word(lanes, now, register, steps)),
+        None => read_two(lanes, now, window, sfr, steps),
+    }
+}

@@ -1,0 +1,79 @@
+//! What registers read that hold no unit's data: ports and pins.
+ghost use Rattle.std.specs.Prelude.{◌≡◌, ◌+◌, ◌-◌, ◌%◌, ◌<◌, ◌≤◌, bit_and};
+ghost use Rattle.kc_base.specs.Bits.{bit as bit_of};
+ghost use Rattle.kc_hso.specs.Cam.{weight as weight_of};
+ghost use Rattle.kc_block_spec.specs.Control.{hsi_bits};
+ghost use Rattle.kc_block_spec.specs.Reading.{port0_levels, port1_levels, port2_read};
+
+use kc_base::StateTime;
+use kc_block_inputs::has_pin;
+use kc_block_spec::Steady;
+
+/// A bit of a register by its weight.
+pub(crate) fn weight(is: bool, value: u8) -> u8
+    ensures { result ≡ weight_of is value }
+{
+    if is { value } else { 0 }
+}
+
+/// Bit n of a register.
+pub(crate) fn bit(value: u8, n: u8) -> bool
+    requires { n < 8 }
+    ensures { result ≡ bit_of value n }
+{
+    (value >> n) % 2 == 1
+}
+
+/// The levels of HSI0 to HSI3 as the low four bits.
+pub(crate) fn hsi_pins(levels: u64) -> u8
+    ensures { result ≡ hsi_bits levels }
+{
+    weight(has_pin(levels, 18), 1)
+        + weight(has_pin(levels, 19), 2)
+        + weight(has_pin(levels, 20), 4)
+        + weight(has_pin(levels, 21), 8)
+}
+
+/// IOS1: its bits 0 to 4, Timer 1's overflow, and the bits of HSI.
+pub(crate) fn ios1(low: u8, overflowed: bool, flags: u8) -> u8
+    requires { flags ≤ 192 }
+    ensures { result ≡ low % 32 + weight_of overflowed 32 + flags }
+{
+    low % 32 + weight(overflowed, 32) + flags
+}
+
+/// PORT0: the levels of P00 to P07.
+pub(crate) fn port0(levels: u64) -> u8
+    ensures { result ≡ port0_levels levels }
+{
+    ((levels >> 28) % 256) as u8
+}
+
+/// PORT1: its latch and the levels of P10 to P17, both by AND.
+pub(crate) fn port1(steady: &Steady) -> u8
+    ensures { result ≡ bit_and steady.now.port1 (port1_levels steady.now.levels) }
+{
+    steady.port1 & ((steady.levels >> 6) % 256) as u8
+}
+
+/// PORT2: latch bits, levels, and both by AND.
+pub(crate) fn port2(steady: &Steady) -> u8
+    ensures { result ≡ port2_read steady.now }
+{
+    let latch = steady.port2;
+    let levels = steady.levels;
+    weight(bit(latch, 0), 1)
+        + weight(has_pin(levels, 24), 4)
+        + weight(has_pin(levels, 22), 8)
+        + weight(has_pin(levels, 23), 16)
+        + weight(bit(latch, 5), 32)
+        + weight(bit(latch, 6) && has_pin(levels, 26), 64)
+        + weight(bit(latch, 7) && has_pin(levels, 27), 128)
+}
+
+/// The state of an access, whose Tick was the last before the present state.
+pub(crate) fn state_before(now: StateTime) -> StateTime
+    ensures { result ≡ now - 1 }
+{
+    now.saturating_sub(1)
+}

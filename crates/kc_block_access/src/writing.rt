@@ -1,0 +1,328 @@
+//! Writes of the special function registers.
+ghost use Rattle.std.specs.Prelude.{◌≡◌, ℕ, ◌+◌, ◌-◌, ◌*◌, ◌≤◌, ◌<◌, ◌^◌, true, Some, None, IfOk, OnErr, ◌&&◌, if◌then◌else◌};
+ghost use Rattle.kc_base.specs.Bits.{bit as bit_of};
+ghost use Rattle.kc_hso.specs.Cam.{has_timer2_of};
+ghost use Rattle.kc_exec_spec.specs.Window.{is_wsr as in_profile};
+ghost use Rattle.kc_block_spec.specs.Registers.{row_at, words_written};
+ghost use Rattle.kc_block_spec.specs.Writing.{with_byte, with_word};
+ghost use Rattle.kc_block_spec.specs.Accesses.{byte_written, word_written};
+ghost use Rattle.kc_block_spec.specs.RegisterLaws.{refusal};
+ghost use Rattle.kc_block_lazy.specs.Lanes.{shown_units, IsLazy};
+ghost use Rattle.kc_block_lanes.specs.Standing.{standing, moves_of};
+ghost use Rattle.kc_block_access.specs.Left.{IsLeft};
+ghost use Rattle.kc_block_access.specs.Costs.{is_plain as has_no_unit, named_calls, byte_calls, word_calls};
+
+use crate::acting::{
+    load_hso, write_further, write_hsi_mode, write_hso_command, write_ioc0, write_ioc1, write_ioc2,
+    write_ioc3, write_timer2,
+};
+use crate::registers::{is_half_written, number, writable_byte, writable_word};
+use crate::steadying::steady_with;
+use crate::values::bit;
+use kc_base::{Kind, StateTime, Steps};
+use kc_block_lanes::Lanes;
+use kc_block_spec::{Window, WritableByte, WritableWord};
+use kc_extra::Extra;
+use std::sync::ledger::Ledger;
+
+/// Whether a value of WSR is in the profile: 0, 1, 15, 40H to 4FH, 20H to 27H, 10H to 13H.
+fn is_wsr(value: u8) -> bool
+    ensures { result ≡ in_profile value }
+{
+    matches!(value, 0 | 1 | 15 | 0x40..=0x4F | 0x20..=0x27 | 0x10..=0x13)
+}
+
+fn wsr_refusal(value: u8) -> Option<Kind>
+    ensures { result ≡ (if in_profile value then None else Some Kind.BadWindow) }
+{
+    if is_wsr(value) {
+        None
+    } else {
+        Some(Kind::BadWindow)
+    }
+}
+
+fn has_timer2<X: Extra>(lanes: &Lanes<X>, now: StateTime) -> bool
+    requires { IsLazy X.further X.agrees (standing X.plain lanes.now) now }
+    ensures { result ≡ has_timer2_of (shown_units X.further (standing X.plain lanes.now) now).hso }
+{
+    lanes.hso.unit.has_timer2()
+}
+
+fn ioc2_refusal<X: Extra>(lanes: &Lanes<X>, now: StateTime, value: u8) -> Option<Kind>
+    requires { IsLazy X.further X.agrees (standing X.plain lanes.now) now }
+    ensures { result ≡ (if bit_of value 0 && has_timer2_of (shown_units X.further (standing X.plain lanes.now) now).hso then Some Kind.FastTimer2 else None) }
+{
+    let refuses = bit(value, 0) & has_timer2(lanes, now);
+    if refuses {
+        Some(Kind::FastTimer2)
+    } else {
+        None
+    }
+}
+
+/// Why a register refuses a byte, if it does.
+fn byte_refusal<X: Extra>(
+    lanes: &Lanes<X>,
+    now: StateTime,
+    register: WritableByte,
+    value: u8,
+) -> Option<Kind>
+    requires { IsLazy X.further X.agrees (standing X.plain lanes.now) now }
+    ensures { result ≡ refusal (with_byte (shown_units X.further (standing X.plain lanes.now) now) register value) }
+{
+    match register {
+        WritableByte::Wsr => wsr_refusal(value),
+        WritableByte::Ioc2 => ioc2_refusal(lanes, now, value),
+        _ => None,
+    }
+}
+
+/// Why a byte write is refused in the state before `now`, if it is.
+fn write_refusal<X: Extra>(
+    lanes: &Lanes<X>,
+    now: StateTime,
+    window: Window,
+    sfr: u8,
+    value: u8,
+) -> Option<Kind>
+    requires { IsLazy X.further X.agrees (standing X.plain lanes.now) now }
+    ensures { (t : ℕ) → result ≡ refusal (byte_written X.further t window (shown_units X.further (standing X.plain lanes.now) now) sfr value) }
+{
+    if let Some(register) = writable_byte(window, sfr) {
+        return byte_refusal(lanes, now, register, value);
+    }
+    if is_half_written(window, sfr) {
+        return Some(Kind::ByteAccess);
+    }
+    if lanes.further.unit.takes(number(window), sfr) {
+        None
+    } else {
+        Some(Kind::NoRegister)
+    }
+}
+
+// A write of a register that no unit holds.
+fn write_plain<X: Extra>(lanes: &mut Lanes<X>, now: StateTime, register: WritableByte, value: u8)
+    requires lazy { IsLazy X.further X.agrees (standing X.plain lanes.old) now }
+    requires plain { has_no_unit register ≡ true }
+    ensures left { IfOk (with_byte (shown_units X.further (standing X.plain lanes.old) now) register value)
+        (IsLeft X.further X.agrees now (standing X.plain lanes.new)) }
+    ensures moves { moves_of X.moved lanes.new ≡ moves_of X.moved lanes.old }
+{
+    lanes.steady = steady_with(&lanes.steady, register, value);
+}
+
+// A write of a register that does not refuse the byte.
+fn write_named<X: Extra, L: Ledger>(
+    lanes: &mut Lanes<X>,
+    now: StateTime,
+    register: WritableByte,
+    value: u8,
+    steps: &mut Steps<L>,
+)
+    requires bound { now ≤ 3 * 10 ^ 15 }
+    requires lazy { IsLazy X.further X.agrees (standing X.plain lanes.old) now }
+    ensures left { IfOk (with_byte (shown_units X.further (standing X.plain lanes.old) now) register value)
+        (IsLeft X.further X.agrees now (standing X.plain lanes.new)) }
+    ensures steps { steps.new ≤ steps.old + named_calls register }
+    ensures moves { moves_of X.moved lanes.new ≤ moves_of X.moved lanes.old + named_calls register }
+{
+    match register {
+        WritableByte::HsiMode => write_hsi_mode(lanes, now, value, steps),
+        WritableByte::HsoCommand => write_hso_command(lanes, now, value, steps),
+        WritableByte::Ioc0 => write_ioc0(lanes, now, value, steps),
+        WritableByte::Ioc1 => write_ioc1(lanes, now, value),
+        WritableByte::Ioc2 => write_ioc2(lanes, now, value, steps),
+        WritableByte::Ioc3 => write_ioc3(lanes, now, value, steps),
+        _ => write_plain(lanes, now, register, value),
+    }
+}
+
+// A byte write that is not refused.
+fn write_byte<X: Extra, L: Ledger>(
+    lanes: &mut Lanes<X>,
+    now: StateTime,
+    window: Window,
+    sfr: u8,
+    value: u8,
+    steps: &mut Steps<L>,
+)
+    requires bound { now ≤ 3 * 10 ^ 15 }
+    requires lazy { IsLazy X.further X.agrees (standing X.plain lanes.old) now }
+    ensures left { IfOk (byte_written X.further (now - 1) window (shown_units X.further (standing X.plain lanes.old) now) sfr value)
+        (IsLeft X.further X.agrees now (standing X.plain lanes.new)) }
+    ensures steps { steps.new ≤ steps.old + byte_calls sfr }
+    ensures moves { moves_of X.moved lanes.new ≤ moves_of X.moved lanes.old + byte_calls sfr }
+{
+    match writable_byte(window, sfr) {
+        Some(register) => write_named(lanes, now, register, value, steps),
+        None => write_further(lanes, now, window, sfr, value, steps),
+    }
+}
+
+/// A byte write of a register below 0018H in the state before `now`, after its Tick. The refusals: BadWindow, a value of WSR
+/// outside the profile; FastTimer2, IOC2.0 while an entry of HSO is on Timer 2; ByteAccess, a half of a word register of the
+/// window; NoRegister, where neither the window nor the further unit has such a register. A refused write changes nothing and
+/// makes no call of a unit that counts. The edges of printed pins are those between before and after.
+pub fn write8<X: Extra, L: Ledger>(
+    lanes: &mut Lanes<X>,
+    now: StateTime,
+    window: Window,
+    sfr: u8,
+    value: u8,
+    steps: &mut Steps<L>,
+) -> Result<(), Kind>
+    requires bound { now ≤ 3 * 10 ^ 15 }
+    requires lazy { IsLazy X.further X.agrees (standing X.plain lanes.old) now }
+    requires profile { in_profile lanes.old.steady.wsr ≡ true }
+    ensures answer { refusal result
+        ≡ refusal (byte_written X.further (now - 1) window (shown_units X.further (standing X.plain lanes.old) now) sfr value) }
+    ensures units { IfOk (byte_written X.further (now - 1) window (shown_units X.further (standing X.plain lanes.old) now) sfr value)
+        (λ units. shown_units X.further (standing X.plain lanes.new) now ≡ units) }
+    ensures lazy { IsLazy X.further X.agrees (standing X.plain lanes.new) now }
+    ensures profile { in_profile lanes.new.steady.wsr ≡ true }
+    ensures refused { OnErr result (lanes.new ≡ lanes.old) }
+    ensures no_call { OnErr result (steps.new ≡ steps.old) }
+    ensures steps { steps.new ≤ steps.old + byte_calls sfr }
+    ensures moves { moves_of X.moved lanes.new ≤ moves_of X.moved lanes.old + byte_calls sfr }
+{
+    if let Some(kind) = write_refusal(lanes, now, window, sfr, value) {
+        return Err(kind);
+    }
+    write_byte(lanes, now, window, sfr, value, steps);
+    Ok(())
+}
+
+/// Why a word register refuses a word, if it does.
+fn word_refusal<X: Extra>(
+    lanes: &Lanes<X>,
+    now: StateTime,
+    register: WritableWord,
+    value: u16,
+) -> Option<Kind>
+    requires { IsLazy X.further X.agrees (standing X.plain lanes.now) now }
+    ensures { result ≡ refusal (with_word (shown_units X.further (standing X.plain lanes.now) now) register value) }
+{
+    match register {
+        WritableWord::HsoTime => lanes.hso.unit.refusal(bit(lanes.steady.ioc2, 0)),
+        _ => None,
+    }
+}
+
+// A write of a word register that does not refuse the word.
+fn write_word<X: Extra, L: Ledger>(
+    lanes: &mut Lanes<X>,
+    now: StateTime,
+    register: WritableWord,
+    value: u16,
+    steps: &mut Steps<L>,
+)
+    requires bound { now ≤ 3 * 10 ^ 15 }
+    requires lazy { IsLazy X.further X.agrees (standing X.plain lanes.old) now }
+    requires defined { refusal (with_word (shown_units X.further (standing X.plain lanes.old) now) register value) ≡ None }
+    ensures left { IfOk (with_word (shown_units X.further (standing X.plain lanes.old) now) register value)
+        (IsLeft X.further X.agrees now (standing X.plain lanes.new)) }
+    ensures steps { steps.new ≤ steps.old + 4 }
+    ensures moves { moves_of X.moved lanes.new ≤ moves_of X.moved lanes.old + 2 }
+{
+    match register {
+        WritableWord::HsoTime => load_hso(lanes, now, value, steps),
+        WritableWord::Timer2 => write_timer2(lanes, now, value, steps),
+        WritableWord::PtsSelect => lanes.steady.requests.select = value,
+        WritableWord::PtsService => lanes.steady.requests.service = value,
+    }
+}
+
+// A word register of the window is written, or refuses.
+fn write_one<X: Extra, L: Ledger>(
+    lanes: &mut Lanes<X>,
+    now: StateTime,
+    register: WritableWord,
+    value: u16,
+    steps: &mut Steps<L>,
+) -> Result<(), Kind>
+    requires bound { now ≤ 3 * 10 ^ 15 }
+    requires lazy { IsLazy X.further X.agrees (standing X.plain lanes.old) now }
+    ensures answer { refusal result ≡ refusal (with_word (shown_units X.further (standing X.plain lanes.old) now) register value) }
+    ensures left { IfOk (with_word (shown_units X.further (standing X.plain lanes.old) now) register value)
+        (IsLeft X.further X.agrees now (standing X.plain lanes.new)) }
+    ensures refused { OnErr result (lanes.new ≡ lanes.old) }
+    ensures no_call { OnErr result (steps.new ≡ steps.old) }
+    ensures steps { steps.new ≤ steps.old + 4 }
+    ensures moves { moves_of X.moved lanes.new ≤ moves_of X.moved lanes.old + 2 }
+{
+    if let Some(kind) = word_refusal(lanes, now, register, value) {
+        return Err(kind);
+    }
+    write_word(lanes, now, register, value, steps);
+    Ok(())
+}
+
+// A word that is no word register is written as two bytes, which are both asked before either is written.
+fn write_two<X: Extra, L: Ledger>(
+    lanes: &mut Lanes<X>,
+    now: StateTime,
+    window: Window,
+    sfr: u8,
+    value: u16,
+    steps: &mut Steps<L>,
+) -> Result<(), Kind>
+    requires bound { now ≤ 3 * 10 ^ 15 }
+    requires byte { sfr < 24 }
+    requires lazy { IsLazy X.further X.agrees (standing X.plain lanes.old) now }
+    requires two { row_at (words_written window) sfr ≡ None }
+    ensures answer { refusal result
+        ≡ refusal (word_written X.further (now - 1) window (shown_units X.further (standing X.plain lanes.old) now) sfr value) }
+    ensures left { IfOk (word_written X.further (now - 1) window (shown_units X.further (standing X.plain lanes.old) now) sfr value)
+        (IsLeft X.further X.agrees now (standing X.plain lanes.new)) }
+    ensures refused { OnErr result (lanes.new ≡ lanes.old) }
+    ensures no_call { OnErr result (steps.new ≡ steps.old) }
+    ensures steps { steps.new ≤ steps.old + word_calls sfr }
+    ensures moves { moves_of X.moved lanes.new ≤ moves_of X.moved lanes.old + word_calls sfr }
+{
+    let low = (value % 256) as u8;
+    let high = (value / 256) as u8;
+    if let Some(kind) = write_refusal(lanes, now, window, sfr, low) {
+        return Err(kind);
+    }
+    if let Some(kind) = write_refusal(lanes, now, window, sfr + 1, high) {
+        return Err(kind);
+    }
+    write_byte(lanes, now, window, sfr, low, steps);
+    write_byte(lanes, now, window, sfr + 1, high, steps);
+    Ok(())
+}
+
+/// A word write at an address below 0018H in the state before `now`, after its Tick: of a word register of the window, else of
+/// two bytes, the low one first. HSO_TIME refuses with HoldingFull, Channel or FastTimer2, asked in this order; two bytes are
+/// refused as the low one is, else as the high one is. A refused write changes nothing and makes no call of a unit that counts.
+/// The edges of printed pins are those between before and after.
+pub fn write16<X: Extra, L: Ledger>(
+    lanes: &mut Lanes<X>,
+    now: StateTime,
+    window: Window,
+    sfr: u8,
+    value: u16,
+    steps: &mut Steps<L>,
+) -> Result<(), Kind>
+    requires bound { now ≤ 3 * 10 ^ 15 }
+    requires byte { sfr < 24 }
+    requires lazy { IsLazy X.further X.agrees (standing X.plain lanes.old) now }
+    requires profile { in_profile lanes.old.steady.wsr ≡ true }
+    ensures answer { refusal result
+        ≡ refusal (word_written X.further (now - 1) window (shown_units X.further (standing X.plain lanes.old) now) sfr value) }
+    ensures units { IfOk (word_written X.further (now - 1) window (shown_units X.further (standing X.plain lanes.old) now) sfr value)
+        (λ units. shown_units X.further (standing X.plain lanes.new) now ≡ units) }
+    ensures lazy { IsLazy X.further X.agrees (standing X.plain lanes.new) now }
+    ensures profile { in_profile lanes.new.steady.wsr ≡ true }
+    ensures refused { OnErr result (lanes.new ≡ lanes.old) }
+    ensures no_call { OnErr result (steps.new ≡ steps.old) }
+    ensures steps { steps.new ≤ steps.old + word_calls sfr }
+    ensures moves { moves_of X.moved lanes.new ≤ moves_of X.moved lanes.old + word_calls sfr }
+{
+    match writable_word(window, sfr) {
+        Some(register) => write_one(lanes, now, register, value, steps),
+        None => write_two(lanes, now, window, sfr, value, steps),
+    }
+}

@@ -1,0 +1,4 @@
+pub mod Asked
+pub mod Ticked
+pub mod Past
+pub mod Going

@@ -1,0 +1,34 @@
+// One event of the block.
+ghost use Rattle.std.specs.Prelude.{◌≡◌, ℕ, ◌+◌, ◌*◌, ◌≤◌, ◌^◌};
+ghost use Rattle.kc_block_spec.specs.Tick.{tick};
+ghost use Rattle.kc_block_spec.specs.Touch.{in_state, touched as touched_in};
+ghost use Rattle.kc_block_spec.specs.Leading.{Leads};
+ghost use Rattle.kc_block_lazy.specs.Lanes.{shown_units, IsLazy};
+ghost use Rattle.kc_block_lanes.specs.Standing.{standing, moves_of};
+
+use crate::asks::ask_touched;
+use crate::ticks::tick_all;
+use kc_base::{EdgeOut, StateTime, Steps};
+use kc_block_lanes::Lanes;
+use kc_extra::Extra;
+use std::sync::ledger::Ledger;
+
+/// The Tick of state `now`, and its edges. Only the units that it touches are called, each three times at most: they are
+/// brought there, ticked, and asked anew.
+pub fn pass<X: Extra, O: EdgeOut, L: Ledger>(
+    lanes: &mut Lanes<X>,
+    now: StateTime,
+    out: &mut O,
+    steps: &mut Steps<L>,
+)
+    requires bound { now ≤ 3 * 10 ^ 15 }
+    requires lazy { IsLazy X.further X.agrees (standing X.plain lanes.old) now }
+    ensures lazy { IsLazy X.further X.agrees (standing X.plain lanes.new) (now + 1) }
+    ensures units { shown_units X.further (standing X.plain lanes.new) (now + 1) ≡ (tick X.further now (shown_units X.further (standing X.plain lanes.old) now)).units }
+    ensures edges { Leads O.led out.old (in_state now (tick X.further now (shown_units X.further (standing X.plain lanes.old) now)).edges) out.new }
+    ensures steps { steps.new ≤ steps.old + 4 * touched_in X.further now (shown_units X.further (standing X.plain lanes.old) now) }
+    ensures moves { moves_of X.moved lanes.new ≤ moves_of X.moved lanes.old + 4 * touched_in X.further now (shown_units X.further (standing X.plain lanes.old) now) }
+{
+    let touched = tick_all(lanes, now, out, steps);
+    ask_touched(lanes, touched, now + 1, steps);
+}

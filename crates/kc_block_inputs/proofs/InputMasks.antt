@@ -1,0 +1,126 @@
+-- Masks of inputs, pin by pin.
+use Rattle.std.proofs.Common.{◌≡◌, ℕ, zero, suc, ◌+◌, ◌-◌, ◌^◌, ◌<◌, ◌≤◌, ◌==◌, Bool, true, false, ◌&&◌, refl, sym, ◌∙◌, ap, arith, Option, Some, None, inl, inr, min, max, add-zero, add-suc, add-one}
+use Rattle.std.specs.Prelude.{nat_lt, is_some, is_none, bit_and, bit_or}
+use Rattle.std.specs.Int.{bit_at, bit_not}
+use Rattle.std.proofs.Common.{w64}
+use Rattle.std.proofs.lemmas.Nat.Bits.{bit_at_or, bit_at_and, bit_at_not, same_from_bits}
+use Rattle.std.proofs.lemmas.Bool.{false≢true, and_left, and_right, or_from, cases_lt, false_from_ne_true, lt-leb, lt-ltb, le-ltb}
+use lib.Bits.{or_zero_r}
+use Rattle.kc_stim.specs.Drives.{Drives, level_before, wire_to}
+use Rattle.kc_stim.specs.Fields.{is_input, is_wire_input}
+use Rattle.kc_stim.specs.Proper.{AreProper, is_driven}
+use Rattle.kc_stim.proofs.Proper.{wires_lead_from_outputs}
+use Rattle.kc_hso.specs.Cam.{weight}
+use Rattle.kc_block_spec.specs.Levels.{mask_of, is_high, follows, stimulated_before, wired}
+use Rattle.kc_block_spec.specs.Looking.{wired_inputs}
+use Rattle.kc_block_spec.proofs.Masks.{mask_bit, mask_same}
+
+-- one pin more
+pub mask_next : (test : ℕ → Bool) (n : ℕ) → mask_of test (n + 1) ≡ bit_or (mask_of test n) (weight (test n) (2 ^ n))
+unfolding mask_of
+mask_next test n = rw add-one refl
+
+pub mask_start : (test : ℕ → Bool) → mask_of test 0 ≡ 0
+unfolding mask_of
+mask_start test = refl
+
+-- pins that do not pass
+pub mask_rest : (test : ℕ → Bool) (n k : ℕ) → ((i : ℕ) → n ≤ i → i < n + k → test i ≡ false) → mask_of test (n + k) ≡ mask_of test n
+unfolding mask_of
+mask_rest test n zero none = rw add-zero refl
+mask_rest test n (suc k) none =
+    rw (add-suc n k, none (n + k) (omega arith) (omega arith), or_zero_r (mask_of test (n + k)))
+    (mask_rest test n k (λ i le lt. none i le (omega arith)))
+
+-- no bit from the number on
+mask_above : (test : ℕ → Bool) (n k : ℕ) → n ≤ k → bit_at (mask_of test n) k ≡ 0
+mask_above test n k le =
+    let some : ℕ → Bool = λ i. test i && nat_lt i n in
+    let off : (i : ℕ) → n ≤ i → some i ≡ false = λ i later. and_right (test i) (nat_lt i n) (le-ltb i n later) in
+    let same : mask_of test n ≡ mask_of some n = mask_same test some n (λ i lt. ap (λ b. b) (sym (ap (λ b. test i && b) (lt-ltb i n lt) ∙ and_true (test i)))) in
+    let parts : n + (suc k - n) ≡ suc k = omega arith in
+    let more : mask_of some (suc k) ≡ mask_of some n = ap (mask_of some) (sym parts) ∙ mask_rest some n (suc k - n) (λ i later lt. off i later) in
+    ap (λ m. bit_at m k) (same ∙ sym more) ∙ mask_bit some (suc k) k (omega arith) ∙ ap (λ b. weight b 1) (off k le)
+  where
+    and_true : (b : Bool) → (b && true) ≡ b
+    and_true true = refl
+    and_true false = refl
+
+-- an input that may not be wired has no wire
+pub no_wire : (d : Drives) (pin : ℕ) → AreProper d → is_wire_input pin ≡ false → wire_to d.wires pin ≡ None
+no_wire d pin proper other = by (wire_to d.wires pin) refl
+  where
+    by : (o : Option ℕ) → wire_to d.wires pin ≡ o → wire_to d.wires pin ≡ None
+    by None e = e
+    by (Some output) e = absurd (false≢true (sym other ∙ (wires_lead_from_outputs d pin output proper e).to))
+
+low_pin : (pin : ℕ) → pin < 18 → is_wire_input pin ≡ false
+low_pin pin lt = or_from _ _ (and_left _ _ (lt-leb 18 pin lt)) (ne pin lt)
+  where
+    ne : (p : ℕ) → p < 18 → (p == 24) ≡ false
+    ne p below = false_from_ne_true _ (λ e. absurd (grind arith))
+
+high_pin : (pin : ℕ) → 25 ≤ pin → is_wire_input pin ≡ false
+high_pin pin le = or_from _ _ (and_right _ _ (lt-leb pin 22 (omega arith))) (ne pin le)
+  where
+    ne : (p : ℕ) → 25 ≤ p → (p == 24) ≡ false
+    ne p above = false_from_ne_true _ (λ e. absurd (grind arith))
+
+-- a test of wires, below the inputs that may be wired and from there on
+module _ (d : Drives) (proper : AreProper d) (q : Option ℕ → Bool) (none : q None ≡ false) where
+  pub wires_below : mask_of (λ pin. q (wire_to d.wires pin)) 18 ≡ 0
+  wires_below = mask_rest (λ pin. q (wire_to d.wires pin)) 0 18 (λ i le lt. ap q (no_wire d i proper (low_pin i lt)) ∙ none) ∙ mask_start (λ pin. q (wire_to d.wires pin))
+
+  pub wires_above : mask_of (λ pin. q (wire_to d.wires pin)) 36 ≡ mask_of (λ pin. q (wire_to d.wires pin)) 25
+  wires_above = mask_rest (λ pin. q (wire_to d.wires pin)) 25 11 (λ i le lt. ap q (no_wire d i proper (high_pin i le)) ∙ none)
+
+-- the levels of the inputs without a wire
+module _ (d : Drives) (t outs : ℕ) where
+  abbrev stim : ℕ → Bool
+  stim pin = is_driven d pin && is_high (level_before d.stimuli pin t)
+
+  bits_here : (high driven : Bool) (o : Option ℕ) (input : Bool) → driven ≡ (input && is_none o) →
+      min (max (weight (driven && high) 1) (weight (follows o outs) 1)) (1 - weight (is_some o) 1) ≡ weight (driven && high) 1
+  bits_here high driven None true e = by high driven e
+    where
+      by : (h v : Bool) → v ≡ true → min (max (weight (v && h) 1) 0) 1 ≡ weight (v && h) 1
+      by true true e = refl
+      by false true e = refl
+      by h false e = absurd (false≢true e)
+  bits_here high driven None false e = by high driven e
+    where
+      by : (h v : Bool) → v ≡ false → min (max (weight (v && h) 1) 0) 1 ≡ weight (v && h) 1
+      by h false e = refl
+      by h true e = absurd (false≢true (sym e))
+  bits_here high driven (Some output) input e = by high driven input e
+    where
+      by : (h v i : Bool) → v ≡ (i && false) → min (max (weight (v && h) 1) (weight (follows (Some output) outs) 1)) 0 ≡ weight (v && h) 1
+      by h false i e = omega arith
+      by h true true e = absurd (false≢true (sym e))
+      by h true false e = absurd (false≢true (sym e))
+
+  pub unwired_is : (levels inputs : ℕ) → levels ≡ bit_or (stimulated_before d t) (wired d outs) → inputs ≡ wired_inputs d → inputs < 2 ^ 64 →
+      bit_and levels (bit_not w64 inputs) ≡ stimulated_before d t
+  unwired_is levels inputs is are fits = same_from_bits _ _ (λ pin. elim (cases_lt pin 36) [
+    | inl lt ↦
+        let least : bit_at (bit_and levels (bit_not w64 inputs)) pin ≡ min (bit_at levels pin) (bit_at (bit_not w64 inputs) pin) = bit_at_and levels (bit_not w64 inputs) pin in
+        let most : bit_at levels pin ≡ max (bit_at (stimulated_before d t) pin) (bit_at (wired d outs) pin) =
+        ap (λ n. bit_at n pin) is ∙ bit_at_or (stimulated_before d t) (wired d outs) pin in
+        let turned : bit_at (bit_not w64 inputs) pin ≡ 1 - bit_at inputs pin = bit_at_not w64 inputs pin fits (omega arith) in
+        let own : bit_at (stimulated_before d t) pin ≡ weight (stim pin) 1 = mask_bit stim 36 pin lt in
+        let from : bit_at (wired d outs) pin ≡ weight (follows (wire_to d.wires pin) outs) 1 = mask_bit (λ n. follows (wire_to d.wires n) outs) 36 pin lt in
+        let has : bit_at inputs pin ≡ weight (is_some (wire_to d.wires pin)) 1 =
+        ap (λ n. bit_at n pin) are ∙ mask_bit (λ n. is_some (wire_to d.wires n)) 36 pin lt in
+        least
+        ∙ ap (λ n. min n (bit_at (bit_not w64 inputs) pin)) (most ∙ ap (λ n. max n (bit_at (wired d outs) pin)) own ∙ ap (λ n. max (weight (stim pin) 1) n) from)
+        ∙ ap (λ n. min (max (weight (stim pin) 1) (weight (follows (wire_to d.wires pin) outs) 1)) n) (turned ∙ ap (λ n. 1 - n) has)
+        ∙ bits_here (is_high (level_before d.stimuli pin t)) (is_driven d pin) (wire_to d.wires pin) (is_input pin) refl
+        ∙ sym own
+    | inr le ↦
+        let least : bit_at (bit_and levels (bit_not w64 inputs)) pin ≡ min (bit_at levels pin) (bit_at (bit_not w64 inputs) pin) = bit_at_and levels (bit_not w64 inputs) pin in
+        let most : bit_at levels pin ≡ max (bit_at (stimulated_before d t) pin) (bit_at (wired d outs) pin) =
+        ap (λ n. bit_at n pin) is ∙ bit_at_or (stimulated_before d t) (wired d outs) pin in
+        let own : bit_at (stimulated_before d t) pin ≡ 0 = mask_above stim 36 pin le in
+        let from : bit_at (wired d outs) pin ≡ 0 = mask_above (λ n. follows (wire_to d.wires n) outs) 36 pin le in
+        omega arith
+  ])

@@ -1,0 +1,2 @@
+pub mod InputMasks
+pub mod Leads

@@ -1,0 +1,5 @@
+use Rattle.kc_block_lane.proofs.Lanes.{lent}
+use Rattle.kc_block_lane.proofs.lent_quietly.Goals as goal
+
+pub returns : goal.returns
+returns g c = lent

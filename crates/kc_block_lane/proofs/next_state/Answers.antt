@@ -1,0 +1,5 @@
+use Rattle.kc_block_lane.proofs.Lanes.{next}
+use Rattle.kc_block_lane.proofs.next_state.Goals as goal
+
+pub returns : goal.returns
+returns g c = next

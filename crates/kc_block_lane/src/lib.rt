@@ -1,0 +1,54 @@
+//! Units that stand each at a state of their own, while the board shows them all in the present state: what a lane is,
+//! and the laws by which it goes on, waits, is brought forward and asked anew. This crate holds definitions and their
+//! laws alone.
+#![tactic(auto)]
+
+ghost use Rattle.kc_block_lane.specs.Laws.{Next, Calm, Event, Waits, Lent, Brought, BroughtShows, Asked, AskedShows, Alike, AlikeShows, PassesOver};
+
+/// What is shown of a lane goes on by one Tick from state to state.
+pub fn next_state<D>()
+    ensures { Next D }
+{}
+
+/// Before its due state each Tick of a lane is quiet.
+pub fn calm_before_due<D>()
+    ensures { Calm D }
+{}
+
+/// The Tick of the present state is quiet exactly where that is not the due state.
+pub fn event_at_due<D>()
+    ensures { Event D }
+{}
+
+/// The present state may go on up to the due state.
+pub fn waits_up_to_due<D>()
+    ensures { Waits D }
+{}
+
+/// A unit that is lent stands where each Tick up to the present state is quiet.
+pub fn lent_quietly<D>()
+    ensures { Lent D }
+{}
+
+/// Brought forward to the present state, a lane keeps its due state: it is not asked anew.
+pub fn brought_forward<D>()
+    ensures due { Brought D }
+    ensures shows { BroughtShows D }
+{}
+
+/// What was asked in the present state makes a lane that stands there.
+pub fn asked_anew<D>()
+    ensures due { Asked D }
+    ensures shows { AskedShows D }
+{}
+
+/// Rules that do the same from where a lane stands have the same lanes, and show the same of them.
+pub fn alike_rules<D>()
+    ensures due { Alike D }
+    ensures shows { AlikeShows D }
+{}
+
+/// A unit that is quiet in the present state stands as it is in the next.
+pub fn passes_over<D>()
+    ensures { PassesOver D }
+{}

@@ -1,0 +1,15 @@
+//! The units of the board as the block keeps them: each at a state time of its own, beside the list of their due states.
+//! Here they are made, brought to the present state, and asked anew when they are next due.
+#![tactic(auto)]
+
+mod asking;
+mod bringing;
+mod lanes;
+mod seeing;
+mod slots;
+mod starting;
+
+pub use bringing::has_overflowed;
+pub use lanes::{Lane, Lanes};
+pub use seeing::control;
+pub use slots::is_due;

@@ -1,0 +1,7 @@
+pub mod Levels
+pub mod Spans
+pub mod Rows
+pub mod Due
+pub mod Bringing
+pub mod Told
+pub mod Joins

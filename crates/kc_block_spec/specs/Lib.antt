@@ -1,0 +1,16 @@
+pub mod Units
+pub mod Levels
+pub mod Fired
+pub mod Control
+pub mod Tick
+pub mod Touch
+pub mod Laws
+pub mod Rows
+pub mod Registers
+pub mod Reading
+pub mod Writing
+pub mod Accesses
+pub mod Looking
+pub mod RegisterLaws
+pub mod Leading
+pub mod Start
