@@ -1,7 +1,7 @@
-pub mod Quiet
-pub mod Fetching
+pub mod Noting
 pub mod Fitting
+pub mod Fetching
 pub mod Finishing
 pub mod Pins
 pub mod Handing
-pub mod Resting
+pub mod Failing

@@ -2,5 +2,6 @@ pub mod Keeping
 pub mod Bus
 pub mod BusLaws
 pub mod Sound
-pub mod Leading
+pub mod Board
 pub mod Seen
+pub mod Failing

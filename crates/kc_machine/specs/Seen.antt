@@ -1,11 +1,13 @@
--- The machine that the parts of a core make (this kit's own).
-use Rattle.kc_model.specs.Machine.{Machine}
+-- What a machine shows of itself (this kit's own).
+use Rattle.kc_extra.specs.declared.extra.Extra as extra
+use Rattle.kc_machine_spec.specs.Machine.{Machine}
 use Rattle.kc_machine.specs.declared.parts.Core.{Core}
 
-abbrev pub machine_of : Core → Machine
+-- the machine that the parts of a core make
+abbrev pub machine_of : {X : Type 0} {d : extra.Ghosts X} → Core X d → Machine X
 machine_of core = record {
   time = core.time;
-  board = record { units = core.bus.units; memory = core.bus.memory.items };
+  board = record { units = core.bus.block.units; memory = core.bus.memory.items };
   cpu = core.cpu;
   held = core.held;
   going = core.going;

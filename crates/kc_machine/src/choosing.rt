@@ -1,7 +1,8 @@
 // What the next activity is told from.
 ghost use Rattle.std.specs.Prelude.{◌≡◌, ◌<◌, length};
-ghost use Rattle.kc_effect.specs.Entering.{vector_at, entry_states};
-ghost use Rattle.kc_model.specs.Machine.{fetched, can_fetch};
+ghost use Rattle.kc_exec_spec.specs.Entering.{vector_at, entry_states};
+ghost use Rattle.kc_pts.specs.Cycles.{vector_of};
+ghost use Rattle.kc_machine_spec.specs.Machine.{fetched, can_fetch};
 
 use arrayvec::ArrayVec;
 use kc_bus::is_outside;
@@ -51,4 +52,12 @@ pub(crate) fn vector_at(number: u8) -> u16
     } else {
         0x2030 + 2 * (u16::from(number) - 8)
     }
+}
+
+/// Where the address of the control block of a request stands.
+pub(crate) fn vector_of(number: u8) -> u16
+    requires { number < 15 }
+    ensures { result ≡ vector_of number }
+{
+    0x2040 + 2 * u16::from(number)
 }

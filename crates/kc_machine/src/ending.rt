@@ -1,22 +1,24 @@
 // How activities end: their accesses, and what is printed of them.
 ghost use Rattle.std.specs.Prelude.{◌≡◌, ◌≤◌, ◌<◌, ◌+◌, ◌*◌, ◌^◌, ◌++◌, IsTrue, IfSome, None, [], ◌∷◌, option_to_list, false, true};
 ghost use Rattle.kc_isa.specs.Formed.{is_formed};
-ghost use Rattle.kc_effect.specs.BlockMoves.{IsOfMove};
-ghost use Rattle.kc_effect.specs.Jumping.{next_pc};
+ghost use Rattle.kc_exec_spec.specs.BlockMoves.{IsOfMove};
+ghost use Rattle.kc_exec_spec.specs.Jumping.{next_pc};
 ghost use Rattle.kc_trace.specs.Printable.{CanPrint};
-ghost use Rattle.kc_model.specs.declared.doing.Activity.TheVariants.{Executes, MovesWord, Traps, Enters, Idles};
-ghost use Rattle.kc_model.specs.Board.{pins};
-ghost use Rattle.kc_model.specs.Machine.{next_after, own_records, finished, broken, holding, idling, scene_of};
-ghost use Rattle.kc_model.specs.Passing.{stepped_of};
-ghost use Rattle.kc_machine.specs.Sound.{IsSoundActivity, IsSoundGoing, IsSoundMove};
+ghost use Rattle.kc_machine_spec.specs.declared.doing.Activity.TheVariants.{Executes, MovesWord, Traps, Enters, SetsUp, Transfers, Idles};
+ghost use Rattle.kc_machine_spec.specs.Board.{pins};
+ghost use Rattle.kc_machine_spec.specs.Machine.{next_after, own_records, finished, broken, holding, idling, serving, scene_of};
+ghost use Rattle.kc_machine_spec.specs.Passing.{stepped_of};
+ghost use Rattle.kc_machine.specs.Sound.{IsSoundActivity, IsSoundGoing, IsSoundMove, IsSoundCycle};
 
-use crate::choosing::vector_at;
-use crate::over::{enter_over, move_over, perform_over, trap_over};
+use crate::choosing::{vector_at, vector_of};
+use crate::over::{enter_over, move_over, perform_over, serve_over, setup_over, trap_over};
 use crate::parts::Core;
 use kc_base::{Kind, StateTime, Steps, Undefined};
-use kc_effect::{After, Words};
+use kc_exec_spec::{After, Words};
+use kc_extra::Extra;
 use kc_isa::{Insn, Mnemonic, length, mnemonic_of};
-use kc_model::{Activity, End, Going, Next};
+use kc_machine_spec::{Activity, End, Going, Next};
+use kc_pts::Cycle;
 use kc_trace::Record;
 use std::sync::ledger::Ledger;
 
@@ -36,6 +38,16 @@ fn idle() -> Next
     Next {
         held: false,
         going: Some(Going::Idling),
+        ended: None,
+    }
+}
+
+fn go_on_serving(number: u8, cycle: Cycle) -> Next
+    ensures { result ≡ serving number cycle }
+{
+    Next {
+        held: false,
+        going: Some(Going::Serving(number, cycle)),
         ended: None,
     }
 }
@@ -87,7 +99,7 @@ fn own_record(time: StateTime, pc: u16, insn: &Insn) -> Option<Record>
     }
 }
 
-impl Core {
+impl<X: Extra + Drop> Core<X> {
     ghost use Rattle.kc_machine.specs.Bus.{held_of};
     ghost use Rattle.kc_machine.specs.Seen.{machine_of};
 
@@ -106,8 +118,8 @@ impl Core {
     // Ends the run by an undefined use that is reported at an address.
     fn break_off(&mut self, addr: u16, kind: Kind) -> Record
         requires room { self.old.time < 2 ^ 63 }
-        ensures machine { stepped_of (machine_of self.new) (pins self.old.time self.new.bus.edges.items ++ result ∷ []) self.new.bus.reached ≡ broken (machine_of self.old) (held_of self.old.bus) addr kind }
-        ensures count { self.new.bus.reached ≡ self.old.bus.reached }
+        ensures machine { stepped_of (machine_of self.new) (pins self.old.time self.new.bus.edges ++ result ∷ []) (4 * self.new.bus.reached) ≡ broken (machine_of self.old) (held_of self.old.bus) addr kind }
+        ensures bus { self.new.bus ≡ self.old.bus }
         ensures going { self.new.going ≡ self.old.going }
         ensures time { self.new.time ≡ self.old.time + 1 }
         ensures over { self.new.under_way ≡ None }
@@ -132,8 +144,10 @@ impl Core {
         requires room { self.old.time < 2 ^ 63 }
         requires between { IsSoundGoing self.old.going }
         requires scene { held_of self.old.bus ≡ scene_of (machine_of self.old) }
-        ensures machine { stepped_of (machine_of self.new) (pins self.old.time self.new.bus.edges.items ++ option_to_list result) self.new.bus.reached ≡ finished (Executes insn.now) (machine_of self.old) }
+        ensures machine { stepped_of (machine_of self.new) (pins self.old.time self.new.bus.edges ++ option_to_list result) (4 * self.new.bus.reached) ≡ finished X.further (Executes insn.now) (machine_of self.old) }
         ensures spent { steps.new ≤ steps.old + 16 * self.new.bus.reached }
+        ensures moves { self.new.bus.block.moves ≤ self.old.bus.block.moves + 16 * self.new.bus.reached }
+        ensures block { self.new.bus.block.time ≡ self.old.bus.block.time }
         ensures time { self.new.time ≡ self.old.time + 1 }
         ensures over { self.new.under_way ≡ None }
         ensures between { IsSoundGoing self.new.going }
@@ -160,8 +174,10 @@ impl Core {
         requires room { self.old.time < 2 ^ 63 }
         requires between { IsSoundGoing self.old.going }
         requires scene { held_of self.old.bus ≡ scene_of (machine_of self.old) }
-        ensures machine { stepped_of (machine_of self.new) (pins self.old.time self.new.bus.edges.items ++ option_to_list result) self.new.bus.reached ≡ finished (MovesWord insn.now words) (machine_of self.old) }
+        ensures machine { stepped_of (machine_of self.new) (pins self.old.time self.new.bus.edges ++ option_to_list result) (4 * self.new.bus.reached) ≡ finished X.further (MovesWord insn.now words) (machine_of self.old) }
         ensures spent { steps.new ≤ steps.old + 16 * self.new.bus.reached }
+        ensures moves { self.new.bus.block.moves ≤ self.old.bus.block.moves + 16 * self.new.bus.reached }
+        ensures block { self.new.bus.block.time ≡ self.old.bus.block.time }
         ensures time { self.new.time ≡ self.old.time + 1 }
         ensures over { self.new.under_way ≡ None }
         ensures between { IsSoundGoing self.new.going }
@@ -181,8 +197,10 @@ impl Core {
         requires room { self.old.time < 2 ^ 63 }
         requires between { IsSoundGoing self.old.going }
         requires scene { held_of self.old.bus ≡ scene_of (machine_of self.old) }
-        ensures machine { stepped_of (machine_of self.new) (pins self.old.time self.new.bus.edges.items ++ option_to_list result) self.new.bus.reached ≡ finished Traps (machine_of self.old) }
+        ensures machine { stepped_of (machine_of self.new) (pins self.old.time self.new.bus.edges ++ option_to_list result) (4 * self.new.bus.reached) ≡ finished X.further Traps (machine_of self.old) }
         ensures spent { steps.new ≤ steps.old + 16 * self.new.bus.reached }
+        ensures moves { self.new.bus.block.moves ≤ self.old.bus.block.moves + 16 * self.new.bus.reached }
+        ensures block { self.new.bus.block.time ≡ self.old.bus.block.time }
         ensures time { self.new.time ≡ self.old.time + 1 }
         ensures over { self.new.under_way ≡ None }
         ensures between { IsSoundGoing self.new.going }
@@ -209,8 +227,10 @@ impl Core {
         requires room { self.old.time < 2 ^ 63 }
         requires between { IsSoundGoing self.old.going }
         requires scene { held_of self.old.bus ≡ scene_of (machine_of self.old) }
-        ensures machine { stepped_of (machine_of self.new) (pins self.old.time self.new.bus.edges.items ++ option_to_list result) self.new.bus.reached ≡ finished (Enters number) (machine_of self.old) }
+        ensures machine { stepped_of (machine_of self.new) (pins self.old.time self.new.bus.edges ++ option_to_list result) (4 * self.new.bus.reached) ≡ finished X.further (Enters number) (machine_of self.old) }
         ensures spent { steps.new ≤ steps.old + 16 * self.new.bus.reached }
+        ensures moves { self.new.bus.block.moves ≤ self.old.bus.block.moves + 16 * self.new.bus.reached }
+        ensures block { self.new.bus.block.time ≡ self.old.bus.block.time }
         ensures time { self.new.time ≡ self.old.time + 1 }
         ensures over { self.new.under_way ≡ None }
         ensures between { IsSoundGoing self.new.going }
@@ -232,11 +252,78 @@ impl Core {
         }
     }
 
+    // Sets up a cycle of the transfer server in its last state; tells what is printed behind the edges.
+    fn set_up<L: Ledger>(&mut self, number: u8, steps: &mut Steps<L>) -> Option<Record>
+        requires number { number < 15 }
+        requires room { self.old.time < 2 ^ 63 }
+        requires between { IsSoundGoing self.old.going }
+        requires scene { held_of self.old.bus ≡ scene_of (machine_of self.old) }
+        ensures machine { stepped_of (machine_of self.new) (pins self.old.time self.new.bus.edges ++ option_to_list result) (4 * self.new.bus.reached) ≡ finished X.further (SetsUp number) (machine_of self.old) }
+        ensures spent { steps.new ≤ steps.old + 16 * self.new.bus.reached }
+        ensures moves { self.new.bus.block.moves ≤ self.old.bus.block.moves + 16 * self.new.bus.reached }
+        ensures block { self.new.bus.block.time ≡ self.old.bus.block.time }
+        ensures time { self.new.time ≡ self.old.time + 1 }
+        ensures over { self.new.under_way ≡ None }
+        ensures between { IsSoundGoing self.new.going }
+        ensures printable { IfSome result CanPrint }
+    {
+        match setup_over(number, &mut self.bus, steps) {
+            Ok(cycle) => {
+                self.bus.claim(number);
+                self.close(go_on_serving(number, cycle));
+                None
+            }
+            Err(kind) => Some(self.break_off(vector_of(number), kind)),
+        }
+    }
+
+    // Makes a transfer of a cycle in its last state; tells what is printed behind the edges.
+    fn transfer<L: Ledger>(
+        &mut self,
+        number: u8,
+        cycle: Cycle,
+        steps: &mut Steps<L>,
+    ) -> Option<Record>
+        requires cycle { IsSoundCycle number cycle }
+        requires room { self.old.time < 2 ^ 63 }
+        requires between { IsSoundGoing self.old.going }
+        requires scene { held_of self.old.bus ≡ scene_of (machine_of self.old) }
+        ensures machine { stepped_of (machine_of self.new) (pins self.old.time self.new.bus.edges ++ option_to_list result) (4 * self.new.bus.reached) ≡ finished X.further (Transfers number cycle) (machine_of self.old) }
+        ensures spent { steps.new ≤ steps.old + 16 * self.new.bus.reached }
+        ensures moves { self.new.bus.block.moves ≤ self.old.bus.block.moves + 16 * self.new.bus.reached }
+        ensures block { self.new.bus.block.time ≡ self.old.bus.block.time }
+        ensures time { self.new.time ≡ self.old.time + 1 }
+        ensures over { self.new.under_way ≡ None }
+        ensures between { IsSoundGoing self.new.going }
+        ensures printable { IfSome result CanPrint }
+    {
+        let at = self.time;
+        let mut next = cycle;
+        match serve_over(number, &mut next, &mut self.bus, steps) {
+            Ok(None) => {
+                self.close(go_on_serving(number, next));
+                None
+            }
+            Ok(Some(count)) => {
+                self.bus.hand(number, count);
+                self.close(end(None));
+                Some(Record::Served {
+                    at,
+                    vector: number,
+                    mode: next.mode,
+                    count,
+                })
+            }
+            Err(kind) => Some(self.break_off(vector_of(number), kind)),
+        }
+    }
+
     // Ends an idle state.
     fn stay(&mut self) -> Option<Record>
         requires room { self.old.time < 2 ^ 63 }
         requires scene { held_of self.old.bus ≡ scene_of (machine_of self.old) }
-        ensures machine { stepped_of (machine_of self.new) (pins self.old.time self.new.bus.edges.items ++ option_to_list result) self.new.bus.reached ≡ finished Idles (machine_of self.old) }
+        ensures machine { stepped_of (machine_of self.new) (pins self.old.time self.new.bus.edges ++ option_to_list result) (4 * self.new.bus.reached) ≡ finished X.further Idles (machine_of self.old) }
+        ensures bus { self.new.bus ≡ self.old.bus }
         ensures time { self.new.time ≡ self.old.time + 1 }
         ensures over { self.new.under_way ≡ None }
         ensures between { IsSoundGoing self.new.going }
@@ -256,8 +343,10 @@ impl Core {
         requires room { self.old.time < 2 ^ 63 }
         requires between { IsSoundGoing self.old.going }
         requires scene { held_of self.old.bus ≡ scene_of (machine_of self.old) }
-        ensures machine { stepped_of (machine_of self.new) (pins self.old.time self.new.bus.edges.items ++ option_to_list result) self.new.bus.reached ≡ finished doing (machine_of self.old) }
+        ensures machine { stepped_of (machine_of self.new) (pins self.old.time self.new.bus.edges ++ option_to_list result) (4 * self.new.bus.reached) ≡ finished X.further doing (machine_of self.old) }
         ensures spent { steps.new ≤ steps.old + 16 * self.new.bus.reached }
+        ensures moves { self.new.bus.block.moves ≤ self.old.bus.block.moves + 16 * self.new.bus.reached }
+        ensures block { self.new.bus.block.time ≡ self.old.bus.block.time }
         ensures time { self.new.time ≡ self.old.time + 1 }
         ensures over { self.new.under_way ≡ None }
         ensures between { IsSoundGoing self.new.going }
@@ -268,6 +357,8 @@ impl Core {
             Activity::MovesWord(insn, words) => self.move_on(&insn, words, steps),
             Activity::Traps => self.trap(steps),
             Activity::Enters(number) => self.enter(number, steps),
+            Activity::SetsUp(number) => self.set_up(number, steps),
+            Activity::Transfers(number, cycle) => self.transfer(number, cycle, steps),
             Activity::Idles => self.stay(),
             Activity::Breaks(kind) => Some(self.break_off(self.cpu.pc, kind)),
         }

@@ -4,13 +4,14 @@ ghost use Rattle.kc_trace.specs.declared.record.Record.TheVariants.{Stopped};
 ghost use Rattle.kc_trace.specs.Out.{Prints};
 ghost use Rattle.kc_trace.specs.Printable.{CanPrint};
 ghost use Rattle.kc_trace.specs.Trace.{out_of};
-ghost use Rattle.kc_model.specs.Text.{processor_lines, register_rows, finals, shown_row, end_state, end_number, HasRun};
+ghost use Rattle.kc_machine_spec.specs.Text.{processor_lines, register_rows, finals, shown_row, end_state, end_number, HasRun};
 ghost use Rattle.kc_machine.specs.Seen.{machine_of};
 
 use crate::parts::Core;
 use crate::passing::put_one;
 use kc_base::{Sink, StateTime};
-use kc_model::End;
+use kc_extra::Extra;
+use kc_machine_spec::End;
 use kc_trace::{Record, TraceOut};
 
 pub(crate) fn word(high: u8, low: u8) -> u16
@@ -59,7 +60,7 @@ fn row_of(memory: &[u8], row: u16) -> [u8; 32]
 }
 
 // The lines of the end and of the processor.
-fn put_processor<S: Sink>(core: &Core, how: End, out: &mut TraceOut<S>)
+fn put_processor<X: Extra + Drop, S: Sink>(core: &Core<X>, how: End, out: &mut TraceOut<S>)
     requires ran { HasRun how core.now.time }
     ensures { Prints (out_of S.written S.faults out.old) (processor_lines how (machine_of core.now)) (out_of S.written S.faults out.new) }
 {
@@ -67,9 +68,9 @@ fn put_processor<S: Sink>(core: &Core, how: End, out: &mut TraceOut<S>)
     put_one(out, &Record::Pc(core.cpu.pc));
     put_one(
         out,
-        &Record::Psw(word(core.cpu.psw_high, core.bus.units.int_mask)),
+        &Record::Psw(word(core.cpu.psw_high, core.bus.masks().int_mask)),
     );
-    put_one(out, &Record::Wsr(core.bus.units.wsr));
+    put_one(out, &Record::Wsr(core.bus.masks().wsr));
 }
 
 // The lines of the register file.
@@ -90,7 +91,7 @@ fn put_registers<S: Sink>(memory: &[u8], out: &mut TraceOut<S>)
 }
 
 /// The lines of the end.
-pub(crate) fn put_finals<S: Sink>(core: &Core, how: End, out: &mut TraceOut<S>)
+pub(crate) fn put_finals<X: Extra + Drop, S: Sink>(core: &Core<X>, how: End, out: &mut TraceOut<S>)
     requires ran { HasRun how core.now.time }
     ensures { Prints (out_of S.written S.faults out.old) (finals how (machine_of core.now)) (out_of S.written S.faults out.new) }
 {

@@ -1,17 +1,19 @@
-//! The machine: an image that is run in state times, and the lines of its trace.
+//! The machine: an image that is run in state times, with the units of its board, and the lines of its trace.
 #![tactic(auto)]
 
-mod bus;
 mod choosing;
+mod common;
 mod ending;
 mod finals;
+mod lent;
 mod machine;
+mod noted;
 mod over;
 mod parts;
 mod passing;
-mod registers;
+mod weights;
 
-pub use kc_model::End;
+pub use kc_machine_spec::End;
 pub use machine::Machine;
 pub use passing::WriteFault;
 

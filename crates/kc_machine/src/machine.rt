@@ -1,43 +1,50 @@
-ghost use Rattle.std.specs.Prelude.{◌≡◌, ◌≤◌, ◌<◌, ◌+◌, ◌*◌, ◌↔◌, None, IfOk, OnOk, OnErr, IsTrue, false, true, vec_len};
+ghost use Rattle.std.specs.Prelude.{◌≡◌, ◌≤◌, ◌<◌, ◌+◌, ◌*◌, ◌^◌, ◌%◌, ◌↔◌, ℕ, None, IfOk, OnOk, OnErr, IsTrue, false, true, vec_len, bit_xor};
 ghost use Rattle.kc_trace.specs.Counting.{counted_all};
 ghost use Rattle.kc_trace.specs.Out.{Puts};
 ghost use Rattle.kc_trace.specs.Text.{text_of};
-ghost use Rattle.kc_model.specs.Machine.{start, memory_of};
-ghost use Rattle.kc_model.specs.Run.{run_to, end_of};
-ghost use Rattle.kc_model.specs.Passing.{activity_end};
-ghost use Rattle.kc_model.specs.Peeking.{peeked, poked};
-ghost use Rattle.kc_effect.specs.Memory.{IsMemory, is_hole};
-ghost use Rattle.kc_model.specs.Text.{finals, HasRun};
+ghost use Rattle.kc_exec_spec.specs.Memory.{IsMemory, is_hole};
+ghost use Rattle.kc_block_spec.specs.Levels.{stimulated_before};
+ghost use Rattle.kc_machine_spec.specs.Machine.{start, memory_of};
+ghost use Rattle.kc_machine_spec.specs.Run.{run_to, end_of};
+ghost use Rattle.kc_machine_spec.specs.Passing.{activity_end};
+ghost use Rattle.kc_machine_spec.specs.Peeking.{peeked, poked};
+ghost use Rattle.kc_machine_spec.specs.Text.{finals, HasRun};
+ghost use Rattle.kc_machine.specs.Board.{Whole};
+ghost use Rattle.kc_machine.specs.Failing.{FailsIn};
 
-use crate::bus::Common;
+use crate::common::Common;
 use crate::finals::{put_finals, word};
+use crate::noted::Noted;
 use crate::parts::Core;
 use crate::passing::WriteFault;
-use arrayvec::ArrayVec;
 use kc_base::{Image, NoMemory, Sink, StateTime, Steps};
-use kc_effect::Cpu;
-use kc_model::{End, Units};
+use kc_block::Block;
+use kc_exec_spec::Cpu;
+use kc_extra::Extra;
+use kc_machine_spec::End;
+use kc_stim::Stimuli;
 use kc_trace::TraceOut;
 use std::alloc::Global;
 use std::marker::Model;
 use std::sync::ledger::Ledger;
 
-/// A board that is run in state times.
+/// A board with a further unit `X` that is run in state times.
 #[derive(Drop)]
-pub struct Machine {
-    core: Core,
+pub struct Machine<X: Extra + Drop> {
+    core: Core<X>,
 }
 
-impl Model for Machine {
-    ghost use Rattle.kc_model.specs.Machine as model;
+impl<X: Extra + Drop> Model for Machine<X> {
+    ghost use Rattle.kc_machine.specs.Board.{Whole};
+
+    ghost Value = { Whole X };
+
     ghost use Rattle.kc_machine.specs.Sound.{IsReady};
     ghost use Rattle.kc_machine.specs.Seen.{machine_of};
 
-    ghost Value = { model.Machine };
+    ghost view = { λ m. record { machine = machine_of m.core; held = m.core.bus.block.held; moves = m.core.bus.block.moves } };
 
-    ghost view = { λ m. machine_of m.core };
-
-    ghost invariant = { λ m. IsReady m.core.under_way m.core.going };
+    ghost invariant = { λ m. IsReady m.core };
 }
 
 fn first_memory(alloc: Global, image: &Image) -> Result<Vec<u8>, NoMemory>
@@ -49,29 +56,30 @@ fn first_memory(alloc: Global, image: &Image) -> Result<Vec<u8>, NoMemory>
     Ok(bytes)
 }
 
-impl Machine {
+impl<X: Extra + Drop> Machine<X> {
     ghost use Rattle.kc_trace.specs.Trace.{out_of};
 
-    /// The machine of an image, at state 0.
-    pub fn new(alloc: Global, image: Image) -> Result<Machine, NoMemory>
-        ensures { IfOk result (λ machine. machine ≡ start image) }
+    /// The machine of an image at state 0, with these stimuli and wires, and with a further unit that keeps the levels
+    /// before state 0.
+    pub fn new(
+        alloc: Global,
+        image: Image,
+        stimuli: Stimuli,
+        extra: X,
+    ) -> Result<Machine<X>, NoMemory>
+        requires { (m : ℕ) → X.agrees m (bit_xor (stimulated_before stimuli 0) m) (X.plain extra) }
+        ensures machine { IfOk result (λ machine. machine.machine ≡ start image stimuli (X.plain extra)) }
+        ensures moves { IfOk result (λ machine. machine.moves ≡ X.moved extra) }
     {
         let memory = first_memory(alloc, &image)?;
+        let block = Block::new(alloc, stimuli, extra)?;
         Ok(Machine {
             core: Core {
                 time: 0,
                 bus: Common {
                     memory,
-                    units: Units {
-                        int_mask: 0,
-                        int_mask1: 0,
-                        wsr: 0,
-                        pending: 0,
-                        select: 0,
-                        service: 0,
-                    },
-                    at: 0,
-                    edges: ArrayVec::new(),
+                    block,
+                    edges: Noted::none(),
                     reached: 0,
                 },
                 cpu: Cpu {
@@ -86,74 +94,76 @@ impl Machine {
         })
     }
 
+    /// The present state.
     pub fn now(&self) -> StateTime
-        ensures { result ≡ self.now.time }
+        ensures { result ≡ self.now.machine.time }
     {
         self.core.time
     }
 
+    /// The program counter.
     pub fn pc(&self) -> u16
-        ensures { result ≡ self.now.cpu.pc }
+        ensures { result ≡ self.now.machine.cpu.pc }
     {
         self.core.cpu.pc
     }
 
+    /// The whole PSW, with INT_MASK as its low byte.
     pub fn psw(&self) -> u16
-        ensures { result ≡ 256 * self.now.cpu.psw_high + self.now.board.units.int_mask }
+        ensures { result ≡ 256 * self.now.machine.cpu.psw_high + self.now.machine.board.units.steady.requests.mask % 256 }
     {
-        word(self.core.cpu.psw_high, self.core.bus.units.int_mask)
+        word(self.core.cpu.psw_high, self.core.bus.masks().int_mask)
     }
 
     /// Whether no activity is under way.
     pub fn between(&self) -> bool
-        ensures { IsTrue result ↔ (self.now.under_way ≡ None) }
+        ensures { IsTrue result ↔ (self.now.machine.under_way ≡ None) }
     {
         self.core.under_way.is_none()
     }
 
     /// Goes on to the end of the run, or to the state `until` if that comes first, and writes what is printed on the way.
+    ///
+    /// After a fault of the sink it stands at the end of the activity, or of the idle state, in whose lines the sink failed.
     pub fn run<S: Sink, L: Ledger>(
         &mut self,
         until: StateTime,
         out: &mut TraceOut<S>,
         steps: &mut Steps<L>,
     ) -> Result<End, WriteFault>
-        requires until { until ≤ 2000000000000000 }
+        requires until { until ≤ 2 * 10 ^ 15 }
         requires unbroken { out.old.failed ≡ false }
-        ensures end { IfOk result (λ end. end ≡ end_of (run_to until self.old).machine) }
-        ensures machine { OnOk result (self.new ≡ (run_to until self.old).machine) }
-        ensures lines { Puts (out_of S.written S.faults out.old) (text_of (run_to until self.old).records) (out_of S.written S.faults out.new) }
+        ensures end { IfOk result (λ end. end ≡ end_of (run_to X.further until self.old.machine).machine) }
+        ensures machine { OnOk result (self.new.machine ≡ (run_to X.further until self.old.machine).machine) }
+        ensures lines { Puts (out_of S.written S.faults out.old) (text_of (run_to X.further until self.old.machine).records) (out_of S.written S.faults out.new) }
         ensures written { OnOk result (out.new.failed ≡ false) }
-        ensures counts { OnOk result (out.new.counts ≡ counted_all (run_to until self.old).records out.old.counts) }
-
-        // After a fault it stands at the end of the activity whose line was to be written, and the sink failed in the lines
-        // of the run up to there.
-        ensures failed { OnErr result (out.new.failed ≡ true) }
-        ensures fault { OnErr result (Puts (out_of S.written S.faults out.old) (text_of (run_to self.new.time self.old).records) (out_of S.written S.faults out.new)) }
-        ensures stands { self.new ≡ (run_to self.new.time self.old).machine }
-        ensures spent { steps.new ≤ steps.old + 16 * (run_to self.new.time self.old).work }
+        ensures counts { OnOk result (out.new.counts ≡ counted_all (run_to X.further until self.old.machine).records out.old.counts) }
+        ensures fails { OnErr result (FailsIn X.further until self.old.machine (out_of S.written S.faults out.old) self.new.machine (out_of S.written S.faults out.new)) }
+        ensures stands { self.new.machine ≡ (run_to X.further self.new.machine.time self.old.machine).machine }
+        ensures spent { steps.new ≤ steps.old + 4 * (run_to X.further self.new.machine.time self.old.machine).work }
+        ensures moves { self.new.moves ≤ self.old.moves + 4 * (run_to X.further self.new.machine.time self.old.machine).work }
     {
         self.core.run(until, out, steps)
     }
 
     /// Goes on to the end of the present activity, or of the next one where none is under way, and writes what is printed
     /// on the way. Answers how the run has ended, or `None` while the machine lives; an ended machine writes nothing.
+    /// After a fault of the sink it stands at the end of the activity too.
     pub fn step_activity<S: Sink, L: Ledger>(
         &mut self,
         out: &mut TraceOut<S>,
         steps: &mut Steps<L>,
     ) -> Result<Option<End>, WriteFault>
-        requires room { self.old.time ≤ 2000000000000000 }
+        requires room { self.old.machine.time ≤ 2 * 10 ^ 15 }
         requires unbroken { out.old.failed ≡ false }
-        ensures end { IfOk result (λ end. end ≡ (run_to (activity_end self.old) self.old).machine.ended) }
-        ensures lines { Puts (out_of S.written S.faults out.old) (text_of (run_to (activity_end self.old) self.old).records) (out_of S.written S.faults out.new) }
+        ensures end { IfOk result (λ end. end ≡ (run_to X.further (activity_end self.old.machine) self.old.machine).machine.ended) }
+        ensures machine { self.new.machine ≡ (run_to X.further (activity_end self.old.machine) self.old.machine).machine }
+        ensures lines { Puts (out_of S.written S.faults out.old) (text_of (run_to X.further (activity_end self.old.machine) self.old.machine).records) (out_of S.written S.faults out.new) }
         ensures written { OnOk result (out.new.failed ≡ false) }
-        ensures counts { OnOk result (out.new.counts ≡ counted_all (run_to (activity_end self.old) self.old).records out.old.counts) }
-
-        // After a fault it stands at the end of the activity too.
-        ensures failed { OnErr result (out.new.failed ≡ true) }
-        ensures machine { self.new ≡ (run_to (activity_end self.old) self.old).machine }
-        ensures spent { steps.new ≤ steps.old + 16 * (run_to (activity_end self.old) self.old).work }
+        ensures counts { OnOk result (out.new.counts ≡ counted_all (run_to X.further (activity_end self.old.machine) self.old.machine).records out.old.counts) }
+        ensures fails { OnErr result (FailsIn X.further (activity_end self.old.machine) self.old.machine (out_of S.written S.faults out.old) self.new.machine (out_of S.written S.faults out.new)) }
+        ensures spent { steps.new ≤ steps.old + 4 * (run_to X.further (activity_end self.old.machine) self.old.machine).work }
+        ensures moves { self.new.moves ≤ self.old.moves + 4 * (run_to X.further (activity_end self.old.machine) self.old.machine).work }
     {
         self.core.step(out, steps)
     }
@@ -161,8 +171,8 @@ impl Machine {
     /// The byte at an address as the processor would read it at the start of the present state, without any effect:
     /// below 0018H in WSR's horizontal window, each half of a word register, and 0 where a read is undefined.
     pub fn peek(&mut self, addr: u16) -> u8
-        ensures value { result ≡ peeked self.old addr }
-        ensures same { self.new ≡ self.old }
+        ensures value { result ≡ peeked X.further self.old.machine addr }
+        ensures same { self.new.machine ≡ self.old.machine }
     {
         self.core.peek(addr)
     }
@@ -171,7 +181,9 @@ impl Machine {
     pub fn poke(&mut self, addr: u16, value: u8)
         requires memory { IsMemory addr }
         requires known { is_hole addr ≡ false }
-        ensures { self.new ≡ poked self.old addr value }
+        ensures machine { self.new.machine ≡ poked self.old.machine addr value }
+        ensures held { self.new.held ≡ self.old.held }
+        ensures moves { self.new.moves ≡ self.old.moves }
     {
         self.core.bus.put_byte(addr, value);
     }
@@ -179,8 +191,8 @@ impl Machine {
     /// Writes the lines of the end: how the run has ended, and the registers.
     pub fn write_finals<S: Sink>(&self, how: End, out: &mut TraceOut<S>) -> Result<(), WriteFault>
         requires unbroken { out.old.failed ≡ false }
-        requires ran { HasRun how self.now.time }
-        ensures lines { Puts (out_of S.written S.faults out.old) (text_of (finals how self.now)) (out_of S.written S.faults out.new) }
+        requires ran { HasRun how self.now.machine.time }
+        ensures lines { Puts (out_of S.written S.faults out.old) (text_of (finals how self.now.machine)) (out_of S.written S.faults out.new) }
         ensures written { OnOk result (out.new.failed ≡ false) }
         ensures failed { OnErr result (out.new.failed ≡ true) }
     {

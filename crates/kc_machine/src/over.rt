@@ -1,96 +1,289 @@
 // Activities over the machine's board.
-ghost use Rattle.std.specs.Prelude.{◌≡◌, ◌+◌, ◌*◌, ◌≤◌, IsTrue, IfOk};
+ghost use Rattle.std.specs.Prelude.{◌≡◌, ◌+◌, ◌*◌, ◌≤◌, ◌<◌, IsTrue, IfOk, None};
 ghost use Rattle.kc_isa.specs.Formed.{is_formed};
-ghost use Rattle.kc_effect.specs.Effect.{run};
-ghost use Rattle.kc_effect.specs.Effects.{effect_of, Performs};
-ghost use Rattle.kc_effect.specs.BlockMoves.{moved_word, IsUnderWay, IsOfMove};
-ghost use Rattle.kc_effect.specs.Entering.{entry, opcode_trap, Loads};
-ghost use Rattle.kc_effect.specs.Places.{place_of};
-ghost use Rattle.kc_model.specs.Board.{masks_of};
-ghost use Rattle.kc_model.specs.Scene.{byte};
+ghost use Rattle.kc_exec_spec.specs.Effect.{Gives, run};
+ghost use Rattle.kc_exec_spec.specs.Effects.{effect_of, Performs};
+ghost use Rattle.kc_exec_spec.specs.BlockMoves.{moved_word, IsUnderWay, IsOfMove};
+ghost use Rattle.kc_exec_spec.specs.Entering.{entry, opcode_trap, Loads};
+ghost use Rattle.kc_exec_spec.specs.Places.{place_of};
+ghost use Rattle.kc_pts.specs.Cycles.{set_up, served, Serves};
+ghost use Rattle.kc_machine_spec.specs.Board.{masks_of};
+ghost use Rattle.kc_machine_spec.specs.Scene.{byte};
 ghost use Rattle.kc_machine.specs.Bus.{held_of, bus_meaning};
+ghost use Rattle.kc_machine.specs.Sound.{IsSoundCycle};
 
-use crate::bus::{Common, Lent};
+use crate::common::Common;
+use crate::lent::{Began, Lent};
 use kc_base::{Kind, Steps};
-use kc_effect::{After, Cpu, Words};
 use kc_exec::{enter, move_word, perform, place, trap_opcode};
+use kc_exec_spec::{After, Cpu, Words};
+use kc_extra::Extra;
 use kc_isa::{Insn, Place};
+use kc_pts::{Cycle, serve, setup};
+use std::marker::{Brand, PhantomData};
 use std::sync::ledger::Ledger;
 
-/// Performs an instruction over the board.
-pub(crate) fn perform_over<L: Ledger>(
+fn perform_from<X: Extra + Drop, L: Ledger, K: Began>(
     insn: &Insn,
     cpu: &mut Cpu,
-    common: &mut Common,
+    common: &mut Common<X>,
     steps: &mut Steps<L>,
 ) -> Result<After, Kind>
-    requires { IsTrue (is_formed insn.now) }
-    ensures effect { Performs result cpu.old cpu.new (held_of common.new) (run bus_meaning (effect_of insn.now cpu.old) (held_of common.old)) }
+    requires unreached { common.old.reached ≡ 0 }
+    requires formed { IsTrue (is_formed insn.now) }
+    requires steps { steps.old ≡ K.steps }
+    requires moves { common.old.block.moves ≡ K.moves }
+    ensures effect { Performs result cpu.old cpu.new (held_of common.new) (run (bus_meaning X.further) (effect_of insn.now cpu.old) (held_of common.old)) }
     ensures words { IfOk result (λ after. IsOfMove insn.now after) }
-    ensures spent { steps.new + 16 * common.old.reached ≤ steps.old + 16 * common.new.reached }
+    ensures time { common.new.block.time ≡ common.old.block.time }
+    ensures spent { steps.new ≤ steps.old + 16 * common.new.reached }
+    ensures moves { common.new.block.moves ≤ common.old.block.moves + 16 * common.new.reached }
 {
-    let mut bus = Lent { common, steps };
+    let mut bus = Lent {
+        common,
+        steps,
+        began: PhantomData::<K>,
+    };
     perform(insn, cpu, &mut bus)
 }
 
-/// Moves a word of a block move over the board.
-pub(crate) fn move_over<L: Ledger>(
+/// Performs an instruction over the board.
+pub(crate) fn perform_over<X: Extra + Drop, L: Ledger>(
+    insn: &Insn,
+    cpu: &mut Cpu,
+    common: &mut Common<X>,
+    steps: &mut Steps<L>,
+) -> Result<After, Kind>
+    requires unreached { common.old.reached ≡ 0 }
+    requires formed { IsTrue (is_formed insn.now) }
+    ensures effect { Performs result cpu.old cpu.new (held_of common.new) (run (bus_meaning X.further) (effect_of insn.now cpu.old) (held_of common.old)) }
+    ensures words { IfOk result (λ after. IsOfMove insn.now after) }
+    ensures time { common.new.block.time ≡ common.old.block.time }
+    ensures spent { steps.new ≤ steps.old + 16 * common.new.reached }
+    ensures moves { common.new.block.moves ≤ common.old.block.moves + 16 * common.new.reached }
+{
+    perform_from::<X, L, Brand>(insn, cpu, common, steps)
+}
+
+fn move_from<X: Extra + Drop, L: Ledger, K: Began>(
     insn: &Insn,
     words: Words,
     cpu: &mut Cpu,
-    common: &mut Common,
+    common: &mut Common<X>,
     steps: &mut Steps<L>,
 ) -> Result<After, Kind>
+    requires unreached { common.old.reached ≡ 0 }
     requires formed { IsTrue (is_formed insn.now) }
     requires under_way { IsUnderWay insn.now words }
-    ensures effect { Performs result cpu.old cpu.new (held_of common.new) (run bus_meaning (moved_word insn.now words cpu.old) (held_of common.old)) }
+    requires steps { steps.old ≡ K.steps }
+    requires moves { common.old.block.moves ≡ K.moves }
+    ensures effect { Performs result cpu.old cpu.new (held_of common.new) (run (bus_meaning X.further) (moved_word insn.now words cpu.old) (held_of common.old)) }
     ensures words { IfOk result (λ after. IsOfMove insn.now after) }
-    ensures spent { steps.new + 16 * common.old.reached ≤ steps.old + 16 * common.new.reached }
+    ensures time { common.new.block.time ≡ common.old.block.time }
+    ensures spent { steps.new ≤ steps.old + 16 * common.new.reached }
+    ensures moves { common.new.block.moves ≤ common.old.block.moves + 16 * common.new.reached }
 {
-    let mut bus = Lent { common, steps };
+    let mut bus = Lent {
+        common,
+        steps,
+        began: PhantomData::<K>,
+    };
     move_word(insn, words, cpu, &mut bus)
 }
 
-/// Enters through a vector over the board.
-pub(crate) fn enter_over<L: Ledger>(
+/// Moves a word of a block move over the board.
+pub(crate) fn move_over<X: Extra + Drop, L: Ledger>(
+    insn: &Insn,
+    words: Words,
+    cpu: &mut Cpu,
+    common: &mut Common<X>,
+    steps: &mut Steps<L>,
+) -> Result<After, Kind>
+    requires unreached { common.old.reached ≡ 0 }
+    requires formed { IsTrue (is_formed insn.now) }
+    requires under_way { IsUnderWay insn.now words }
+    ensures effect { Performs result cpu.old cpu.new (held_of common.new) (run (bus_meaning X.further) (moved_word insn.now words cpu.old) (held_of common.old)) }
+    ensures words { IfOk result (λ after. IsOfMove insn.now after) }
+    ensures time { common.new.block.time ≡ common.old.block.time }
+    ensures spent { steps.new ≤ steps.old + 16 * common.new.reached }
+    ensures moves { common.new.block.moves ≤ common.old.block.moves + 16 * common.new.reached }
+{
+    move_from::<X, L, Brand>(insn, words, cpu, common, steps)
+}
+
+fn enter_from<X: Extra + Drop, L: Ledger, K: Began>(
     vector: u16,
     cpu: &mut Cpu,
-    common: &mut Common,
+    common: &mut Common<X>,
     steps: &mut Steps<L>,
 ) -> Result<(), Kind>
-    ensures effect { Loads result cpu.old cpu.new (held_of common.new) (run bus_meaning (entry vector cpu.old.pc) (held_of common.old)) }
-    ensures spent { steps.new + 16 * common.old.reached ≤ steps.old + 16 * common.new.reached }
+    requires unreached { common.old.reached ≡ 0 }
+    requires steps { steps.old ≡ K.steps }
+    requires moves { common.old.block.moves ≡ K.moves }
+    ensures effect { Loads result cpu.old cpu.new (held_of common.new) (run (bus_meaning X.further) (entry vector cpu.old.pc) (held_of common.old)) }
+    ensures time { common.new.block.time ≡ common.old.block.time }
+    ensures spent { steps.new ≤ steps.old + 16 * common.new.reached }
+    ensures moves { common.new.block.moves ≤ common.old.block.moves + 16 * common.new.reached }
 {
-    let mut bus = Lent { common, steps };
+    let mut bus = Lent {
+        common,
+        steps,
+        began: PhantomData::<K>,
+    };
     enter(vector, cpu, &mut bus)
 }
 
-/// Takes the trap of an opcode that no instruction has over the board.
-pub(crate) fn trap_over<L: Ledger>(
+/// Enters through a vector over the board.
+pub(crate) fn enter_over<X: Extra + Drop, L: Ledger>(
+    vector: u16,
     cpu: &mut Cpu,
-    common: &mut Common,
+    common: &mut Common<X>,
     steps: &mut Steps<L>,
 ) -> Result<(), Kind>
-    ensures effect { Loads result cpu.old cpu.new (held_of common.new) (run bus_meaning (opcode_trap cpu.old.pc) (held_of common.old)) }
-    ensures spent { steps.new + 16 * common.old.reached ≤ steps.old + 16 * common.new.reached }
+    requires unreached { common.old.reached ≡ 0 }
+    ensures effect { Loads result cpu.old cpu.new (held_of common.new) (run (bus_meaning X.further) (entry vector cpu.old.pc) (held_of common.old)) }
+    ensures time { common.new.block.time ≡ common.old.block.time }
+    ensures spent { steps.new ≤ steps.old + 16 * common.new.reached }
+    ensures moves { common.new.block.moves ≤ common.old.block.moves + 16 * common.new.reached }
 {
-    let mut bus = Lent { common, steps };
+    enter_from::<X, L, Brand>(vector, cpu, common, steps)
+}
+
+fn trap_from<X: Extra + Drop, L: Ledger, K: Began>(
+    cpu: &mut Cpu,
+    common: &mut Common<X>,
+    steps: &mut Steps<L>,
+) -> Result<(), Kind>
+    requires unreached { common.old.reached ≡ 0 }
+    requires steps { steps.old ≡ K.steps }
+    requires moves { common.old.block.moves ≡ K.moves }
+    ensures effect { Loads result cpu.old cpu.new (held_of common.new) (run (bus_meaning X.further) (opcode_trap cpu.old.pc) (held_of common.old)) }
+    ensures time { common.new.block.time ≡ common.old.block.time }
+    ensures spent { steps.new ≤ steps.old + 16 * common.new.reached }
+    ensures moves { common.new.block.moves ≤ common.old.block.moves + 16 * common.new.reached }
+{
+    let mut bus = Lent {
+        common,
+        steps,
+        began: PhantomData::<K>,
+    };
     trap_opcode(cpu, &mut bus)
 }
 
+/// Takes the trap of an opcode that no instruction has over the board.
+pub(crate) fn trap_over<X: Extra + Drop, L: Ledger>(
+    cpu: &mut Cpu,
+    common: &mut Common<X>,
+    steps: &mut Steps<L>,
+) -> Result<(), Kind>
+    requires unreached { common.old.reached ≡ 0 }
+    ensures effect { Loads result cpu.old cpu.new (held_of common.new) (run (bus_meaning X.further) (opcode_trap cpu.old.pc) (held_of common.old)) }
+    ensures time { common.new.block.time ≡ common.old.block.time }
+    ensures spent { steps.new ≤ steps.old + 16 * common.new.reached }
+    ensures moves { common.new.block.moves ≤ common.old.block.moves + 16 * common.new.reached }
+{
+    trap_from::<X, L, Brand>(cpu, common, steps)
+}
+
+fn setup_from<X: Extra + Drop, L: Ledger, K: Began>(
+    number: u8,
+    common: &mut Common<X>,
+    steps: &mut Steps<L>,
+) -> Result<Cycle, Kind>
+    requires unreached { common.old.reached ≡ 0 }
+    requires number { number < 15 }
+    requires steps { steps.old ≡ K.steps }
+    requires moves { common.old.block.moves ≡ K.moves }
+    ensures gives { Gives (λ x. x) result (held_of common.new) (run (bus_meaning X.further) (set_up number) (held_of common.old)) }
+    ensures sound { IfOk result (λ cycle. IsSoundCycle number cycle) }
+    ensures time { common.new.block.time ≡ common.old.block.time }
+    ensures spent { steps.new ≤ steps.old + 16 * common.new.reached }
+    ensures moves { common.new.block.moves ≤ common.old.block.moves + 16 * common.new.reached }
+{
+    let mut bus = Lent {
+        common,
+        steps,
+        began: PhantomData::<K>,
+    };
+    setup(number, &mut bus)
+}
+
+/// Sets up a cycle of the transfer server over the board.
+pub(crate) fn setup_over<X: Extra + Drop, L: Ledger>(
+    number: u8,
+    common: &mut Common<X>,
+    steps: &mut Steps<L>,
+) -> Result<Cycle, Kind>
+    requires unreached { common.old.reached ≡ 0 }
+    requires number { number < 15 }
+    ensures gives { Gives (λ x. x) result (held_of common.new) (run (bus_meaning X.further) (set_up number) (held_of common.old)) }
+    ensures sound { IfOk result (λ cycle. IsSoundCycle number cycle) }
+    ensures time { common.new.block.time ≡ common.old.block.time }
+    ensures spent { steps.new ≤ steps.old + 16 * common.new.reached }
+    ensures moves { common.new.block.moves ≤ common.old.block.moves + 16 * common.new.reached }
+{
+    setup_from::<X, L, Brand>(number, common, steps)
+}
+
+fn serve_from<X: Extra + Drop, L: Ledger, K: Began>(
+    number: u8,
+    cycle: &mut Cycle,
+    common: &mut Common<X>,
+    steps: &mut Steps<L>,
+) -> Result<Option<u8>, Kind>
+    requires unreached { common.old.reached ≡ 0 }
+    requires sound { IsSoundCycle number cycle.old }
+    requires steps { steps.old ≡ K.steps }
+    requires moves { common.old.block.moves ≡ K.moves }
+    ensures effect { Serves result cycle.old cycle.new (held_of common.new) (run (bus_meaning X.further) (served cycle.old) (held_of common.old)) }
+    ensures sound { IfOk result (λ count. count ≡ None → IsSoundCycle number cycle.new) }
+    ensures time { common.new.block.time ≡ common.old.block.time }
+    ensures spent { steps.new ≤ steps.old + 16 * common.new.reached }
+    ensures moves { common.new.block.moves ≤ common.old.block.moves + 16 * common.new.reached }
+{
+    let mut bus = Lent {
+        common,
+        steps,
+        began: PhantomData::<K>,
+    };
+    serve(cycle, &mut bus)
+}
+
+/// Makes one transfer of a cycle over the board, and after the last the end of the cycle.
+pub(crate) fn serve_over<X: Extra + Drop, L: Ledger>(
+    number: u8,
+    cycle: &mut Cycle,
+    common: &mut Common<X>,
+    steps: &mut Steps<L>,
+) -> Result<Option<u8>, Kind>
+    requires unreached { common.old.reached ≡ 0 }
+    requires sound { IsSoundCycle number cycle.old }
+    ensures effect { Serves result cycle.old cycle.new (held_of common.new) (run (bus_meaning X.further) (served cycle.old) (held_of common.old)) }
+    ensures sound { IfOk result (λ count. count ≡ None → IsSoundCycle number cycle.new) }
+    ensures time { common.new.block.time ≡ common.old.block.time }
+    ensures spent { steps.new ≤ steps.old + 16 * common.new.reached }
+    ensures moves { common.new.block.moves ≤ common.old.block.moves + 16 * common.new.reached }
+{
+    serve_from::<X, L, Brand>(number, cycle, common, steps)
+}
+
 /// The place of an instruction on the board, which stays as it is.
-pub(crate) fn place_over<L: Ledger>(
+pub(crate) fn place_over<X: Extra + Drop, L: Ledger>(
     insn: &Insn,
     cpu: &Cpu,
-    common: &mut Common,
+    common: &mut Common<X>,
     steps: &mut Steps<L>,
 ) -> Result<Place, Kind>
     requires { IsTrue (is_formed insn.now) }
-    ensures value { result ≡ place_of insn.now cpu.now (masks_of common.old.units) (byte (held_of common.old)) }
+    ensures value { result ≡ place_of insn.now cpu.now (masks_of common.old.block.units) (byte (held_of common.old)) }
     ensures shifts { IfOk result (λ at. at.shifts ≤ 31) }
     ensures common { common.new ≡ common.old }
     ensures steps { steps.new ≡ steps.old }
 {
-    let bus = Lent { common, steps };
+    let bus = Lent {
+        common,
+        steps,
+        began: PhantomData::<Brand>,
+    };
     place(insn, cpu, &bus)
 }

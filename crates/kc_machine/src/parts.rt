@@ -3,34 +3,36 @@ ghost use Rattle.std.specs.Prelude.{◌≡◌, ◌+◌, ◌<◌, true, None, IsT
 ghost use Rattle.std.specs.Bool.{OnTrue};
 ghost use Rattle.kc_intc.specs.declared.requests.Choice.TheVariants.{Go};
 ghost use Rattle.kc_isa.specs.Formed.{is_formed};
-ghost use Rattle.kc_effect.specs.Places.{place_of};
+ghost use Rattle.kc_exec_spec.specs.Places.{place_of};
 ghost use Rattle.kc_intc.specs.Choosing.{IsBelow15};
-ghost use Rattle.kc_model.specs.Board.{masks_of, word_at};
-ghost use Rattle.kc_model.specs.Scene.{byte};
-ghost use Rattle.kc_model.specs.Machine.{breaks, placed, scene_of, pushing_states, fetches, enters, goes_on, goes_first, asked, chosen, current};
-ghost use Rattle.kc_model.specs.Passing.{IsIdle};
-ghost use Rattle.kc_model.specs.Peeking.{peeked};
+ghost use Rattle.kc_machine_spec.specs.Board.{masks_of, word_at};
+ghost use Rattle.kc_machine_spec.specs.Scene.{byte};
+ghost use Rattle.kc_machine_spec.specs.Machine.{breaks, placed, scene_of, pushing_states, fetches, enters, sets_up, goes_on, goes_first, asked, chosen, current};
+ghost use Rattle.kc_machine_spec.specs.Passing.{IsIdle};
+ghost use Rattle.kc_machine_spec.specs.Peeking.{peeked};
 ghost use Rattle.kc_machine.specs.Sound.{IsGoing, IsReady, IsSoundGoing};
 
-use crate::bus::Common;
 use crate::choosing::{entry_time, fetch};
+use crate::common::Common;
 use crate::over::place_over;
-use crate::registers::{look, window_for};
+use crate::weights::window_for;
 use kc_base::{Kind, StateTime, Steps};
 use kc_bus::{Master, is_outside};
 use kc_code::{Decoded, decode};
-use kc_effect::Cpu;
 use kc_exec::word_states;
+use kc_exec_spec::Cpu;
+use kc_extra::Extra;
 use kc_intc::Choice;
 use kc_isa::{Insn, states};
-use kc_model::{Activity, End, Going, UnderWay};
+use kc_machine_spec::{Activity, End, Going, UnderWay};
+use kc_pts::{SETUP_STATES, transfer_states};
 use std::sync::ledger::Ledger;
 
-/// The parts of a machine.
+/// The parts of a machine. Between two states the units stand at its state.
 #[derive(Drop)]
-pub struct Core {
+pub struct Core<X: Extra + Drop> {
     pub(crate) time: StateTime,
-    pub(crate) bus: Common,
+    pub(crate) bus: Common<X>,
     pub(crate) cpu: Cpu,
     pub(crate) held: bool,
     pub(crate) going: Option<Going>,
@@ -53,11 +55,24 @@ fn goes_first(going: Option<Going>) -> bool
 {
     match going {
         Some(Going::Moving(_, words)) => !words.interruptible,
+        Some(Going::Serving(_, _)) => true,
         _ => false,
     }
 }
 
-impl Core {
+// The setup of a cycle of the transfer server.
+fn setup(number: u8) -> UnderWay
+    requires { number < 15 }
+    ensures value { result ≡ sets_up number }
+    ensures going { IsGoing result }
+{
+    UnderWay {
+        doing: Activity::SetsUp(number),
+        left: SETUP_STATES,
+    }
+}
+
+impl<X: Extra + Drop> Core<X> {
     ghost use Rattle.kc_machine.specs.Seen.{machine_of};
 
     // The states of what pushes a return address.
@@ -100,7 +115,7 @@ impl Core {
     }
 
     // The next instruction.
-    #[tactic(auto, unfolding(kc_model::specs::Machine::fetches))]
+    #[tactic(auto, unfolding(kc_machine_spec::specs::Machine::fetches))]
     fn instruction<L: Ledger>(&mut self, steps: &mut Steps<L>) -> UnderWay
         ensures value { result ≡ fetches (machine_of self.old) }
         ensures going { IsGoing result }
@@ -136,6 +151,10 @@ impl Core {
                 doing: Activity::Idles,
                 left: 1,
             },
+            Some(Going::Serving(number, cycle)) => UnderWay {
+                doing: Activity::Transfers(number, cycle),
+                left: transfer_states(cycle.mode),
+            },
             None => self.instruction(steps),
         }
     }
@@ -147,12 +166,13 @@ impl Core {
     {
         let psw = self.cpu.psw_high;
         self.bus
+            .block
             .requests()
             .choose(psw / 4 % 2 == 1, psw / 2 % 2 == 1)
     }
 
     // The activity that comes next.
-    #[tactic(auto, unfolding(kc_model::specs::Machine::chosen))]
+    #[tactic(auto, unfolding(kc_machine_spec::specs::Machine::chosen))]
     fn chosen<L: Ledger>(&mut self, steps: &mut Steps<L>) -> UnderWay
         requires { IsSoundGoing self.old.going }
         ensures value { result ≡ chosen (machine_of self.old) }
@@ -169,13 +189,14 @@ impl Core {
         match self.asked() {
             Choice::Nmi => self.entry(15),
             Choice::Enter(number) => self.entry(number),
-            Choice::Transfer(_) | Choice::Go => self.go_on(steps),
+            Choice::Transfer(number) => setup(number),
+            Choice::Go => self.go_on(steps),
         }
     }
 
     /// The activity that has the coming state.
     pub(crate) fn current<L: Ledger>(&mut self, steps: &mut Steps<L>) -> UnderWay
-        requires { IsReady self.old.under_way self.old.going }
+        requires { IsReady self.old }
         ensures value { result ≡ current (machine_of self.old) }
         ensures going { IsGoing result }
         ensures same { self.new ≡ self.old }
@@ -188,16 +209,19 @@ impl Core {
     }
 
     /// The byte at an address, in the window that the processor sees.
-    pub(crate) fn peek(&self, addr: u16) -> u8
-        ensures { result ≡ peeked (machine_of self.now) addr }
+    pub(crate) fn peek(&mut self, addr: u16) -> u8
+        requires stands { self.old.bus.block.time ≡ self.old.time }
+        ensures value { result ≡ peeked X.further (machine_of self.old) addr }
+        ensures same { machine_of self.new ≡ machine_of self.old }
+        ensures stands { self.new.bus.block.time ≡ self.new.time }
     {
         if addr < 0x18 {
-            let window = window_for(Master::Cpu, self.bus.units.wsr);
-            look(self.time, window, self.bus.units, addr)
+            let window = window_for(Master::Cpu, self.bus.block.wsr());
+            self.bus.look(window, addr)
         } else if is_outside(addr) {
             0
         } else {
-            self.bus.memory[addr as usize]
+            self.bus.byte_at(addr)
         }
     }
 

@@ -1,19 +1,22 @@
 // How the machine passes whole activities, and spans of idle states, at once.
 ghost use Rattle.std.specs.Prelude.{◌≡◌, ◌≤◌, ◌<◌, ◌+◌, ◌-◌, ◌*◌, ◌^◌, ℕ, ◌++◌, IfSome, IfOk, OnOk, OnErr, None, [], option_to_list, true, false};
 ghost use Rattle.std.specs.List.{All};
-ghost use Rattle.kc_span.specs.Span.{after};
+ghost use Rattle.kc_span.specs.Span.{after, QuietFor};
 ghost use Rattle.kc_trace.specs.Out.{IsPut, Prints};
 ghost use Rattle.kc_trace.specs.Printable.{CanPrint, HasName};
 ghost use Rattle.kc_trace.specs.Trace.{out_of};
-ghost use Rattle.kc_model.specs.Board.{pins, edges_in, units_rule};
-ghost use Rattle.kc_model.specs.Machine.{scene_of, current};
-ghost use Rattle.kc_model.specs.Passing.{at, left_at, whole, activity_end};
-ghost use Rattle.kc_model.specs.Run.{run_to, end_of};
+ghost use Rattle.kc_block_spec.specs.Touch.{block_rule, touch};
+ghost use Rattle.kc_machine_spec.specs.Board.{pins, edges_in};
+ghost use Rattle.kc_machine_spec.specs.Machine.{scene_of, current};
+ghost use Rattle.kc_machine_spec.specs.Passing.{at, left_at, whole, activity_end};
+ghost use Rattle.kc_machine_spec.specs.Run.{run_to, end_of};
 ghost use Rattle.kc_machine.specs.Sound.{IsGoing, IsReady, IsSoundGoing};
+ghost use Rattle.kc_machine.specs.Failing.{Passes, FailsIn};
 
 use crate::parts::Core;
 use kc_base::{Edge, Sink, StateTime, Steps};
-use kc_model::{End, UnderWay};
+use kc_extra::Extra;
+use kc_machine_spec::{End, UnderWay};
 use kc_trace::{Record, TraceOut};
 use std::sync::ledger::Ledger;
 
@@ -21,42 +24,59 @@ use std::sync::ledger::Ledger;
 #[derive(Clone, Copy, Debug, PartialEq, Eq)]
 pub struct WriteFault;
 
-impl Core {
+impl<X: Extra + Drop> Core<X> {
     ghost use Rattle.kc_machine.specs.Bus.{held_of};
     ghost use Rattle.kc_machine.specs.Seen.{machine_of};
 
-    // All units go so many states on, to the last of these states, and the edges that they give are printed.
-    fn advance<S: Sink>(&mut self, count: u64, out: &mut TraceOut<S>)
+    // All units go so many states on, past the last of these states, and the edges that they give are printed.
+    fn advance<S: Sink, L: Ledger>(
+        &mut self,
+        count: u64,
+        out: &mut TraceOut<S>,
+        steps: &mut Steps<L>,
+    )
         requires some { 0 < count }
-        requires room { self.old.time + count < 2 ^ 63 }
-        ensures machine { machine_of self.new ≡ at (machine_of self.old) (self.old.time + (count - 1)) (after units_rule self.old.time count self.old.bus.units) self.old.under_way }
+        requires room { self.old.time + count ≤ 3 * 10 ^ 15 }
+        requires stands { self.old.bus.block.time ≡ self.old.time }
+        ensures machine { machine_of self.new ≡ at (machine_of self.old) (self.old.time + (count - 1)) (after (block_rule X.further) self.old.time count self.old.bus.block.units) self.old.under_way }
         ensures scene { held_of self.new.bus ≡ scene_of (machine_of self.new) }
-        ensures lines { Prints (out_of S.written S.faults out.old) (edges_in self.old.time count self.old.bus.units) (out_of S.written S.faults out.new) }
+        ensures lines { Prints (out_of S.written S.faults out.old) (edges_in X.further self.old.time count self.old.bus.block.units) (out_of S.written S.faults out.new) }
+        ensures past { self.new.bus.block.time ≡ self.old.time + count }
+        ensures spent { steps.new ≤ steps.old + 4 * touch X.further self.old.time count self.old.bus.block.units }
+        ensures moves { self.new.bus.block.moves ≤ self.old.bus.block.moves + 4 * touch X.further self.old.time count self.old.bus.block.units }
     {
-        self.bus.advance(self.time, count, out);
+        self.bus.advance(self.time, count, out, steps);
         self.time += count - 1;
     }
 
     // The edges that the accesses of a state have given are printed.
     fn put_edges<S: Sink>(&self, at: StateTime, out: &mut TraceOut<S>)
-        ensures { Prints (out_of S.written S.faults out.old) (pins at self.now.bus.edges.items) (out_of S.written S.faults out.new) }
+        ensures { Prints (out_of S.written S.faults out.old) (pins at self.now.bus.edges) (out_of S.written S.faults out.new) }
     {
         put_pins(self.bus.edges.as_slice(), at, out);
     }
 
     // Goes on by some states of an activity, its last not among them.
-    fn wait<S: Sink>(&mut self, activity: UnderWay, until: StateTime, out: &mut TraceOut<S>)
+    fn wait<S: Sink, L: Ledger>(
+        &mut self,
+        activity: UnderWay,
+        until: StateTime,
+        out: &mut TraceOut<S>,
+        steps: &mut Steps<L>,
+    )
         requires some { self.old.time < until }
         requires fewer { until - self.old.time < activity.left }
-        requires room { until < 2 ^ 63 }
+        requires room { until ≤ 3 * 10 ^ 15 }
         requires sound { IsGoing activity }
-        requires between { IsSoundGoing self.old.going }
-        ensures machine { machine_of self.new ≡ at (machine_of self.old) until (after units_rule self.old.time (until - self.old.time) self.old.bus.units) (left_at activity (activity.left - (until - self.old.time))) }
-        ensures lines { Prints (out_of S.written S.faults out.old) (edges_in self.old.time (until - self.old.time) self.old.bus.units) (out_of S.written S.faults out.new) }
-        ensures ready { IsReady self.new.under_way self.new.going }
+        requires ready { IsReady self.old }
+        ensures machine { machine_of self.new ≡ at (machine_of self.old) until (after (block_rule X.further) self.old.time (until - self.old.time) self.old.bus.block.units) (left_at activity (activity.left - (until - self.old.time))) }
+        ensures lines { Prints (out_of S.written S.faults out.old) (edges_in X.further self.old.time (until - self.old.time) self.old.bus.block.units) (out_of S.written S.faults out.new) }
+        ensures ready { IsReady self.new }
+        ensures spent { steps.new ≤ steps.old + 4 * touch X.further self.old.time (until - self.old.time) self.old.bus.block.units }
+        ensures moves { self.new.bus.block.moves ≤ self.old.bus.block.moves + 4 * touch X.further self.old.time (until - self.old.time) self.old.bus.block.units }
     {
         let states = until - self.time;
-        self.advance(states, out);
+        self.advance(states, out, steps);
         self.time = until;
         self.under_way = Some(UnderWay {
             doing: activity.doing,
@@ -65,13 +85,22 @@ impl Core {
     }
 
     // Goes on by idle states in which no request is served.
-    fn rest<S: Sink>(&mut self, until: StateTime, out: &mut TraceOut<S>)
+    fn rest<S: Sink, L: Ledger>(
+        &mut self,
+        until: StateTime,
+        out: &mut TraceOut<S>,
+        steps: &mut Steps<L>,
+    )
         requires some { self.old.time < until }
-        requires room { until < 2 ^ 63 }
-        ensures machine { machine_of self.new ≡ at (machine_of self.old) until (after units_rule self.old.time (until - self.old.time) self.old.bus.units) self.old.under_way }
-        ensures lines { Prints (out_of S.written S.faults out.old) (edges_in self.old.time (until - self.old.time) self.old.bus.units) (out_of S.written S.faults out.new) }
+        requires room { until ≤ 3 * 10 ^ 15 }
+        requires ready { IsReady self.old }
+        ensures machine { machine_of self.new ≡ at (machine_of self.old) until (after (block_rule X.further) self.old.time (until - self.old.time) self.old.bus.block.units) self.old.under_way }
+        ensures lines { Prints (out_of S.written S.faults out.old) (edges_in X.further self.old.time (until - self.old.time) self.old.bus.block.units) (out_of S.written S.faults out.new) }
+        ensures ready { IsReady self.new }
+        ensures spent { steps.new ≤ steps.old + 4 * touch X.further self.old.time (until - self.old.time) self.old.bus.block.units }
+        ensures moves { self.new.bus.block.moves ≤ self.old.bus.block.moves + 4 * touch X.further self.old.time (until - self.old.time) self.old.bus.block.units }
     {
-        self.advance(until - self.time, out);
+        self.advance(until - self.time, out, steps);
         self.time = until;
     }
 
@@ -83,24 +112,37 @@ impl Core {
         steps: &mut Steps<L>,
     )
         requires going { IsGoing activity }
-        requires between { IsSoundGoing self.old.going }
-        requires room { self.old.time + activity.left < 2 ^ 63 }
-        ensures machine { machine_of self.new ≡ (whole (machine_of self.old) activity).machine }
-        ensures spent { steps.new ≤ steps.old + 16 * (whole (machine_of self.old) activity).work }
+        requires ready { IsReady self.old }
+        requires room { self.old.time + activity.left ≤ 3 * 10 ^ 15 }
+        ensures machine { machine_of self.new ≡ (whole X.further (machine_of self.old) activity).machine }
         ensures time { self.new.time ≡ self.old.time + activity.left }
-        ensures over { self.new.under_way ≡ None }
-        ensures between { IsSoundGoing self.new.going }
-        ensures lines { Prints (out_of S.written S.faults out.old) (whole (machine_of self.old) activity).records (out_of S.written S.faults out.new) }
+        ensures ready { IsReady self.new }
+        ensures lines { Prints (out_of S.written S.faults out.old) (whole X.further (machine_of self.old) activity).records (out_of S.written S.faults out.new) }
+        ensures spent { steps.new ≤ steps.old + 4 * (whole X.further (machine_of self.old) activity).work }
+        ensures moves { self.new.bus.block.moves ≤ self.old.bus.block.moves + 4 * (whole X.further (machine_of self.old) activity).work }
     {
         let left = u64::from(activity.left);
-        self.advance(left, out);
+        self.advance(left, out, steps);
         let at = self.time;
         let last = self.finish(activity.doing, steps);
         self.put_edges(at, out);
         put_last(last, out);
     }
 
-    // Goes on to the end of the activity, or over the idle states that follow one another, or to `until` if that
+    // Up to where a machine that idles rests: to the end of the state in which the units do something next, or to `until`
+    // if that comes first.
+    fn rest_end(&self, until: StateTime) -> StateTime
+        requires ahead { self.now.time < until }
+        requires stands { self.now.bus.block.time ≡ self.now.time }
+        ensures further { self.now.time < result }
+        ensures within { result ≤ until }
+        ensures quiet { QuietFor (block_rule X.further) self.now.time (result - 1 - self.now.time) self.now.bus.block.units }
+    {
+        let due = self.bus.block.due();
+        if due < until { due + 1 } else { until }
+    }
+
+    // Goes on to the end of the activity, or over idle states up to where the units do something, or to `until` if that
     // comes first.
     fn pass<S: Sink, L: Ledger>(
         &mut self,
@@ -108,19 +150,20 @@ impl Core {
         out: &mut TraceOut<S>,
         steps: &mut Steps<L>,
     )
-        requires ready { IsReady self.old.under_way self.old.going }
+        requires ready { IsReady self.old }
         requires lives { self.old.ended ≡ None }
         requires ahead { self.old.time < until }
-        requires room { until ≤ 2000000000000000 }
-        ensures forward { self.old.time < self.new.time }
-        ensures within { self.new.time ≤ until }
-        ensures machine { machine_of self.new ≡ (run_to self.new.time (machine_of self.old)).machine }
-        ensures lines { Prints (out_of S.written S.faults out.old) (run_to self.new.time (machine_of self.old)).records (out_of S.written S.faults out.new) }
-        ensures ready { IsReady self.new.under_way self.new.going }
-        ensures spent { steps.new ≤ steps.old + 16 * (run_to self.new.time (machine_of self.old)).work }
+        requires room { until ≤ 2 * 10 ^ 15 }
+        ensures passes { Passes X.further until (machine_of self.old) (machine_of self.new) }
+        ensures machine { machine_of self.new ≡ (run_to X.further self.new.time (machine_of self.old)).machine }
+        ensures lines { Prints (out_of S.written S.faults out.old) (run_to X.further self.new.time (machine_of self.old)).records (out_of S.written S.faults out.new) }
+        ensures ready { IsReady self.new }
+        ensures spent { steps.new ≤ steps.old + 4 * (run_to X.further self.new.time (machine_of self.old)).work }
+        ensures moves { self.new.bus.block.moves ≤ self.old.bus.block.moves + 4 * (run_to X.further self.new.time (machine_of self.old)).work }
     {
         if self.rests() {
-            self.rest(until, out);
+            let end = self.rest_end(until);
+            self.rest(end, out, steps);
         } else {
             self.pass_activity(until, out, steps);
         }
@@ -133,16 +176,16 @@ impl Core {
         out: &mut TraceOut<S>,
         steps: &mut Steps<L>,
     )
-        requires ready { IsReady self.old.under_way self.old.going }
+        requires ready { IsReady self.old }
         requires lives { self.old.ended ≡ None }
         requires ahead { self.old.time < until }
-        requires room { until ≤ 2000000000000000 }
-        ensures forward { self.old.time < self.new.time }
-        ensures within { self.new.time ≤ until }
-        ensures machine { machine_of self.new ≡ (run_to self.new.time (machine_of self.old)).machine }
-        ensures lines { Prints (out_of S.written S.faults out.old) (run_to self.new.time (machine_of self.old)).records (out_of S.written S.faults out.new) }
-        ensures ready { IsReady self.new.under_way self.new.going }
-        ensures spent { steps.new ≤ steps.old + 16 * (run_to self.new.time (machine_of self.old)).work }
+        requires room { until ≤ 2 * 10 ^ 15 }
+        ensures passes { Passes X.further until (machine_of self.old) (machine_of self.new) }
+        ensures machine { machine_of self.new ≡ (run_to X.further self.new.time (machine_of self.old)).machine }
+        ensures lines { Prints (out_of S.written S.faults out.old) (run_to X.further self.new.time (machine_of self.old)).records (out_of S.written S.faults out.new) }
+        ensures ready { IsReady self.new }
+        ensures spent { steps.new ≤ steps.old + 4 * (run_to X.further self.new.time (machine_of self.old)).work }
+        ensures moves { self.new.bus.block.moves ≤ self.old.bus.block.moves + 4 * (run_to X.further self.new.time (machine_of self.old)).work }
     {
         let activity = self.current(steps);
         self.go_through(activity, until, out, steps);
@@ -158,20 +201,20 @@ impl Core {
     )
         requires value { activity ≡ current (machine_of self.old) }
         requires going { IsGoing activity }
-        requires between { IsSoundGoing self.old.going }
+        requires ready { IsReady self.old }
         requires lives { self.old.ended ≡ None }
         requires ahead { self.old.time < until }
-        requires room { until ≤ 2000000000000000 }
-        ensures forward { self.old.time < self.new.time }
-        ensures within { self.new.time ≤ until }
-        ensures machine { machine_of self.new ≡ (run_to self.new.time (machine_of self.old)).machine }
-        ensures lines { Prints (out_of S.written S.faults out.old) (run_to self.new.time (machine_of self.old)).records (out_of S.written S.faults out.new) }
-        ensures ready { IsReady self.new.under_way self.new.going }
-        ensures spent { steps.new ≤ steps.old + 16 * (run_to self.new.time (machine_of self.old)).work }
+        requires room { until ≤ 2 * 10 ^ 15 }
+        ensures passes { Passes X.further until (machine_of self.old) (machine_of self.new) }
+        ensures machine { machine_of self.new ≡ (run_to X.further self.new.time (machine_of self.old)).machine }
+        ensures lines { Prints (out_of S.written S.faults out.old) (run_to X.further self.new.time (machine_of self.old)).records (out_of S.written S.faults out.new) }
+        ensures ready { IsReady self.new }
+        ensures spent { steps.new ≤ steps.old + 4 * (run_to X.further self.new.time (machine_of self.old)).work }
+        ensures moves { self.new.bus.block.moves ≤ self.old.bus.block.moves + 4 * (run_to X.further self.new.time (machine_of self.old)).work }
     {
         let ahead = until - self.time;
         if ahead < u64::from(activity.left) {
-            self.wait(activity, until, out);
+            self.wait(activity, until, out, steps);
         } else {
             self.complete(activity, out, steps);
         }
@@ -184,18 +227,18 @@ impl Core {
         out: &mut TraceOut<S>,
         steps: &mut Steps<L>,
     ) -> Result<End, WriteFault>
-        requires ready { IsReady self.old.under_way self.old.going }
-        requires until { until ≤ 2000000000000000 }
+        requires ready { IsReady self.old }
+        requires until { until ≤ 2 * 10 ^ 15 }
         requires unbroken { out.old.failed ≡ false }
-        ensures end { IfOk result (λ end. end ≡ end_of (run_to until (machine_of self.old)).machine) }
-        ensures machine { OnOk result (machine_of self.new ≡ (run_to until (machine_of self.old)).machine) }
-        ensures lines { Prints (out_of S.written S.faults out.old) (run_to until (machine_of self.old)).records (out_of S.written S.faults out.new) }
+        ensures end { IfOk result (λ end. end ≡ end_of (run_to X.further until (machine_of self.old)).machine) }
+        ensures machine { OnOk result (machine_of self.new ≡ (run_to X.further until (machine_of self.old)).machine) }
+        ensures lines { Prints (out_of S.written S.faults out.old) (run_to X.further until (machine_of self.old)).records (out_of S.written S.faults out.new) }
         ensures written { OnOk result (out.new.failed ≡ false) }
-        ensures failed { OnErr result (out.new.failed ≡ true) }
-        ensures fault { OnErr result (Prints (out_of S.written S.faults out.old) (run_to self.new.time (machine_of self.old)).records (out_of S.written S.faults out.new)) }
-        ensures stands { machine_of self.new ≡ (run_to self.new.time (machine_of self.old)).machine }
-        ensures ready { IsReady self.new.under_way self.new.going }
-        ensures spent { steps.new ≤ steps.old + 16 * (run_to self.new.time (machine_of self.old)).work }
+        ensures fails { OnErr result (FailsIn X.further until (machine_of self.old) (out_of S.written S.faults out.old) (machine_of self.new) (out_of S.written S.faults out.new)) }
+        ensures stands { machine_of self.new ≡ (run_to X.further self.new.time (machine_of self.old)).machine }
+        ensures ready { IsReady self.new }
+        ensures spent { steps.new ≤ steps.old + 4 * (run_to X.further self.new.time (machine_of self.old)).work }
+        ensures moves { self.new.bus.block.moves ≤ self.old.bus.block.moves + 4 * (run_to X.further self.new.time (machine_of self.old)).work }
     {
         while self.time < until {
             if let Some(end) = self.ended {
@@ -211,13 +254,16 @@ impl Core {
 
     // Goes on to the end of the activity.
     fn pass_current<S: Sink, L: Ledger>(&mut self, out: &mut TraceOut<S>, steps: &mut Steps<L>)
-        requires ready { IsReady self.old.under_way self.old.going }
+        requires ready { IsReady self.old }
         requires lives { self.old.ended ≡ None }
-        requires room { self.old.time ≤ 2000000000000000 }
-        ensures machine { machine_of self.new ≡ (run_to (activity_end (machine_of self.old)) (machine_of self.old)).machine }
-        ensures lines { Prints (out_of S.written S.faults out.old) (run_to (activity_end (machine_of self.old)) (machine_of self.old)).records (out_of S.written S.faults out.new) }
-        ensures ready { IsReady self.new.under_way self.new.going }
-        ensures spent { steps.new ≤ steps.old + 16 * (run_to (activity_end (machine_of self.old)) (machine_of self.old)).work }
+        requires room { self.old.time ≤ 2 * 10 ^ 15 }
+        ensures passes { Passes X.further (activity_end (machine_of self.old)) (machine_of self.old) (machine_of self.new) }
+        ensures machine { machine_of self.new ≡ (run_to X.further (activity_end (machine_of self.old)) (machine_of self.old)).machine }
+        ensures lines { Prints (out_of S.written S.faults out.old) (run_to X.further (activity_end (machine_of self.old)) (machine_of self.old)).records (out_of S.written S.faults out.new) }
+        ensures time { self.new.time ≡ activity_end (machine_of self.old) }
+        ensures ready { IsReady self.new }
+        ensures spent { steps.new ≤ steps.old + 4 * (run_to X.further (activity_end (machine_of self.old)) (machine_of self.old)).work }
+        ensures moves { self.new.bus.block.moves ≤ self.old.bus.block.moves + 4 * (run_to X.further (activity_end (machine_of self.old)) (machine_of self.old)).work }
     {
         let activity = self.current(steps);
         self.complete(activity, out, steps);
@@ -229,16 +275,17 @@ impl Core {
         out: &mut TraceOut<S>,
         steps: &mut Steps<L>,
     ) -> Result<Option<End>, WriteFault>
-        requires ready { IsReady self.old.under_way self.old.going }
-        requires room { self.old.time ≤ 2000000000000000 }
+        requires ready { IsReady self.old }
+        requires room { self.old.time ≤ 2 * 10 ^ 15 }
         requires unbroken { out.old.failed ≡ false }
-        ensures end { IfOk result (λ end. end ≡ (run_to (activity_end (machine_of self.old)) (machine_of self.old)).machine.ended) }
-        ensures machine { machine_of self.new ≡ (run_to (activity_end (machine_of self.old)) (machine_of self.old)).machine }
-        ensures lines { Prints (out_of S.written S.faults out.old) (run_to (activity_end (machine_of self.old)) (machine_of self.old)).records (out_of S.written S.faults out.new) }
+        ensures end { IfOk result (λ end. end ≡ (run_to X.further (activity_end (machine_of self.old)) (machine_of self.old)).machine.ended) }
+        ensures machine { machine_of self.new ≡ (run_to X.further (activity_end (machine_of self.old)) (machine_of self.old)).machine }
+        ensures lines { Prints (out_of S.written S.faults out.old) (run_to X.further (activity_end (machine_of self.old)) (machine_of self.old)).records (out_of S.written S.faults out.new) }
         ensures written { OnOk result (out.new.failed ≡ false) }
-        ensures failed { OnErr result (out.new.failed ≡ true) }
-        ensures ready { IsReady self.new.under_way self.new.going }
-        ensures spent { steps.new ≤ steps.old + 16 * (run_to (activity_end (machine_of self.old)) (machine_of self.old)).work }
+        ensures fails { OnErr result (FailsIn X.further (activity_end (machine_of self.old)) (machine_of self.old) (out_of S.written S.faults out.old) (machine_of self.new) (out_of S.written S.faults out.new)) }
+        ensures ready { IsReady self.new }
+        ensures spent { steps.new ≤ steps.old + 4 * (run_to X.further (activity_end (machine_of self.old)) (machine_of self.old)).work }
+        ensures moves { self.new.bus.block.moves ≤ self.old.bus.block.moves + 4 * (run_to X.further (activity_end (machine_of self.old)) (machine_of self.old)).work }
     {
         if let Some(end) = self.ended {
             return Ok(Some(end));
@@ -260,7 +307,6 @@ impl Core {
         }
     }
 }
-
 // The edges of pins in a state are printed.
 fn put_pins<S: Sink>(edges: &[Edge], at: StateTime, out: &mut TraceOut<S>)
     requires { All HasName edges.now }

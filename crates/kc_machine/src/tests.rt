@@ -1,10 +1,12 @@
-ghost use Rattle.std.specs.Prelude.{◌≡◌, ◌≤◌, ◌<◌, false};
+ghost use Rattle.std.specs.Prelude.{◌≡◌, ◌*◌, ◌^◌, ◌≤◌, ◌<◌, false};
 
 mod program;
 mod rows;
 
 use crate::{End, Machine};
 use kc_base::{Image, MemSink, NoMemory, StateTime, Steps};
+use kc_extra::NoExtra;
+use kc_stim::Stimuli;
 use kc_trace::TraceOut;
 use std::alloc::Global;
 use std::sync::ledger::{Blank, Ledger};
@@ -21,16 +23,21 @@ fn put(image: &mut Image, at: u16, bytes: &[u8]) {
 }
 
 /// The machine of some bytes at 2080H, and some at another place.
-fn machine_of(alloc: Global, bytes: &[u8], at: u16, others: &[u8]) -> Result<Machine, NoMemory> {
+fn machine_of(
+    alloc: Global,
+    bytes: &[u8],
+    at: u16,
+    others: &[u8],
+) -> Result<Machine<NoExtra>, NoMemory> {
     let mut image = Image::blank(alloc)?;
     put(&mut image, 0x2080, bytes);
     put(&mut image, at, others);
-    Machine::new(alloc, image)
+    Machine::new(alloc, image, Stimuli::none(alloc), NoExtra::new())
 }
 
 /// Runs a machine, and writes its end.
 fn run_counted<L: Ledger>(
-    machine: &mut Machine,
+    machine: &mut Machine<NoExtra>,
     until: StateTime,
     out: &mut TraceOut<MemSink>,
     blank: Blank,
@@ -39,7 +46,7 @@ fn run_counted<L: Ledger>(
     requires parts { blank.parts ≡ L.parts }
     requires whole { 0 < blank.parts }
     requires unbroken { out.old.failed ≡ false }
-    requires until { until ≤ 2000000000000000 }
+    requires until { until ≤ 2 * 10 ^ 15 }
 {
     let mut steps: Steps<L> = Steps::new(blank);
     let Ok(end) = machine.run(until, out, &mut steps) else {

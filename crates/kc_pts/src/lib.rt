@@ -3,7 +3,9 @@
 
 mod cycle;
 mod ends;
+mod laws;
 mod server;
+mod serving;
 mod setups;
 #[cfg(test)]
 mod tests;
@@ -12,5 +14,7 @@ mod transfers;
 pub use cycle::{Cycle, Left};
 pub use ends::finish;
 pub use kc_base::PtsMode;
+pub use laws::{setup_accesses, states_of_setups, transfer_accesses};
+pub use serving::serve;
 pub use setups::{SETUP_STATES, setup, transfer_states};
 pub use transfers::transfer;

@@ -2,11 +2,11 @@
 use Rattle.std.specs.Prelude.{ℕ, ◌+◌, ◌*◌, ◌/◌, ◌%◌, nat_lt, if◌then◌else◌, Result, Ok, Err, List, slice_index, slice_set}
 use Rattle.kc_base.specs.declared.types.Kind.{Kind}
 use Rattle.kc_base.specs.declared.types.Kind.TheVariants.{BadWindow}
-use Rattle.kc_effect.specs.declared.access.Masks.{Masks}
-use Rattle.kc_effect.specs.Access.{Access, ReadByte, ReadWord, WriteByte, WriteWord, SetMasks}
-use Rattle.kc_effect.specs.Effect.{Meaning}
-use Rattle.kc_effect.specs.Window.{is_wsr}
-use Rattle.kc_effect.specs.Memory.{if_even, reads, writes}
+use Rattle.kc_exec_spec.specs.declared.access.Masks.{Masks}
+use Rattle.kc_exec_spec.specs.Access.{Access, ReadByte, ReadWord, WriteByte, WriteWord, SetMasks}
+use Rattle.kc_exec_spec.specs.Effect.{Meaning}
+use Rattle.kc_exec_spec.specs.Window.{is_wsr}
+use Rattle.kc_exec_spec.specs.Memory.{if_even, reads, writes}
 use Rattle.kc_pts_tests.specs.declared.board.Board.{Board}
 
 pub record BoardHeld : Type 0 where

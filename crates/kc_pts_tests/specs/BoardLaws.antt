@@ -2,8 +2,8 @@
 use Rattle.std.proofs.Common.{◌≡◌, ℕ, ◌<◌, arith, refl}
 use Rattle.std.specs.Prelude.{slice_index, slice_set, length, nat_lt, ◌==◌, if◌then◌else◌, false, true, List}
 use Rattle.std.proofs.lemmas.Grind.{common_steps}
-use Rattle.kc_effect.specs.Access.{Access, ReadByte, ReadWord, WriteByte, WriteWord, SetMasks}
-use Rattle.kc_effect.specs.Memory.{IsLawful, IsMemory, IsOfRegister}
+use Rattle.kc_exec_spec.specs.Access.{Access, ReadByte, ReadWord, WriteByte, WriteWord, SetMasks}
+use Rattle.kc_exec_spec.specs.Memory.{IsLawful, IsMemory, IsOfRegister}
 use Rattle.kc_pts_tests.specs.Board.{BoardHeld, held_of, board_meaning, board_answer, board_after, put}
 
 is_memory : (addr : ℕ) → IsMemory addr → nat_lt addr 24 ≡ false
@@ -53,5 +53,5 @@ board_is_lawful = record {
   masks-put = λ h addr n. refl;
   byte-after = byte-after;
   set_masks = λ h m. refl;
-  masks-after = λ h m. refl;
+  masks-after = λ h m byte. refl;
 }

@@ -1,5 +1,5 @@
 ghost use Rattle.std.specs.Prelude.{◌≡◌, IsTrue, vec_len};
-ghost use Rattle.kc_effect.specs.Window.{is_wsr};
+ghost use Rattle.kc_exec_spec.specs.Window.{is_wsr};
 
 use kc_base::{Kind, NoMemory};
 use kc_bus::{Bus, Masks, Master, is_fixed, is_known, is_outside};

@@ -4,6 +4,7 @@ ghost use Rattle.std.specs.Prelude.{◌≡◌, ◌<◌};
 use super::machine_of;
 use crate::Machine;
 use kc_base::{MemSink, Steps};
+use kc_extra::NoExtra;
 use kc_trace::TraceOut;
 use std::alloc::{AllocError, Global};
 use std::marker::Brand;
@@ -256,13 +257,13 @@ const TABLE: &str = "\
 796 2195 0000 0400 0111 1234 0000 21A0 7001 0028 FFFF F0FA 0000 0000 0608 0628 0001 2195 1B6C 0000\n\
 ";
 
-fn word(machine: &mut Machine, addr: u16) -> u16 {
+fn word(machine: &mut Machine<NoExtra>, addr: u16) -> u16 {
     let low = machine.peek(addr);
     let high = machine.peek(addr.wrapping_add(1));
     u16::from(low) + 256 * u16::from(high)
 }
 
-fn registers(alloc: Global, machine: &mut Machine) -> Result<String, AllocError> {
+fn registers(alloc: Global, machine: &mut Machine<NoExtra>) -> Result<String, AllocError> {
     let pc = machine.pc();
     let psw = machine.psw();
     let sp = word(machine, 0x18);
@@ -277,7 +278,7 @@ fn registers(alloc: Global, machine: &mut Machine) -> Result<String, AllocError>
 /// The registers at each change of them before a state.
 fn changes<L: Ledger>(
     alloc: Global,
-    machine: &mut Machine,
+    machine: &mut Machine<NoExtra>,
     until: u64,
     blank: Blank,
 ) -> Result<String, Fail>

@@ -40,12 +40,12 @@ fn undefined_uses_are_told(rt: HostRuntime) -> Result<(), Fail> {
         ),
         (&[0xA0, 0x22, 0x21], "U 3 1 2080\n"),
         (&[0xEE], "U 1 3 2080\nX 1 undefined\nPC 2080\n"),
-        // Half of a word in INT_MASK, half in a register that is not there: the mask stays.
+        // Of a word in WSR and a register that is not there neither half is written.
         (
-            &[0xA1, 0xFF, 0xFF, 0x08],
-            "U 4 7 2080\nX 4 undefined\nPC 2080\nPSW 0000\n",
+            &[0xB1, 0x0F, 0x14, 0xA1, 0x00, 0x00, 0x14],
+            "U 9 7 2083\nX 9 undefined\nPC 2083\nPSW 0000\nWSR 0F\n",
         ),
-        (&[0xA1, 0xFF, 0xFF, 0x12], "U 4 7 2080\n"),
+        (&[0xB1, 0x01, 0x14, 0xA1, 0xFF, 0xFF, 0x0C], "U 9 7 2083\n"),
         // Timer 1 stands in window 0 alone.
         (&[0xB1, 0x01, 0x14, 0xB0, 0x0A, 0x20], "U 8 7 2083\n"),
         (&[0xB1, 0x0F, 0x14, 0xA0, 0x0A, 0x20], "U 8 7 2083\n"),

@@ -1,5 +1,5 @@
 use Rattle.kc_trace.proofs.Printed.{Prints-append}
-use Rattle.kc_model.specs.Text.{processor_lines, register_rows}
+use Rattle.kc_machine_spec.specs.Text.{processor_lines, register_rows}
 use Rattle.kc_machine.specs.Seen.{machine_of}
 use Rattle.kc_machine.proofs.finals.put_finals.Goals as goal
 

@@ -1,4 +1,4 @@
-use Rattle.kc_model.proofs.Coming.{rows-nothing, rows-more}
+use Rattle.kc_machine_spec.proofs.Coming.{rows-nothing, rows-more}
 use Rattle.kc_machine.proofs.finals.put_registers.Goals as goal
 
 pub loop-row-init : goal.loop-row-init

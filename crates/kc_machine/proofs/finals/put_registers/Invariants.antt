@@ -1,6 +1,6 @@
 use Rattle.kc_trace.specs.Out.{Prints}
 use Rattle.kc_trace.specs.Trace.{out_of}
-use Rattle.kc_model.specs.Text.{register_rows}
+use Rattle.kc_machine_spec.specs.Text.{register_rows}
 use Rattle.kc_machine.proofs.finals.put_registers.Given as goal
 
 abbrev pub invariant-loop-row : goal.invariant-loop-row

@@ -1,5 +1,5 @@
 use Rattle.std.proofs.Common.{◌≡◌, ◌++◌, ◌∙◌, ap, replicate}
-use Rattle.kc_model.specs.Machine.{memory_of}
+use Rattle.kc_machine_spec.specs.Machine.{memory_of}
 use Rattle.kc_machine.proofs.machine.first_memory.Goals as goal
 
 pub returns-clause-bytes : goal.returns-clause-bytes

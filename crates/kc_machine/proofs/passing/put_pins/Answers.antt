@@ -3,7 +3,7 @@ use Rattle.std.proofs.lemmas.List.{take_more}
 use Rattle.kc_trace.specs.Out.{Prints}
 use Rattle.kc_trace.specs.Trace.{out_of}
 use Rattle.kc_trace.proofs.Printed.{Prints-none}
-use Rattle.kc_model.specs.Board.{pins}
+use Rattle.kc_machine_spec.specs.Board.{pins}
 use Rattle.kc_machine.proofs.Pins.{pins-more}
 use Rattle.kc_machine.proofs.passing.put_pins.Goals as goal
 

@@ -1,7 +1,7 @@
 use Rattle.std.proofs.Common.{take}
 use Rattle.kc_trace.specs.Out.{Prints}
 use Rattle.kc_trace.specs.Trace.{out_of}
-use Rattle.kc_model.specs.Board.{pins}
+use Rattle.kc_machine_spec.specs.Board.{pins}
 use Rattle.kc_machine.proofs.passing.put_pins.Given as goal
 
 abbrev pub invariant-loop-edge : goal.invariant-loop-edge

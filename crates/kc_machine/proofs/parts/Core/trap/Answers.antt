@@ -1,12 +1,11 @@
-use Rattle.std.proofs.Common.{◌≡◌, ◌∙◌, ◌++◌, ap, sym, ◌+◌, ◌%◌, [], ◌∷◌}
+use Rattle.std.proofs.Common.{◌≡◌, ◌∙◌, ◌++◌, ◌*◌, ap, sym, ◌+◌, ◌%◌, [], ◌∷◌}
 use Rattle.kc_trace.specs.declared.record.Record.TheVariants.{Entered}
-use Rattle.kc_effect.specs.Effect.{Done, Refused, run}
-use Rattle.kc_effect.specs.Entering.{opcode_trap}
-use Rattle.kc_model.specs.Machine.{Machine, scene_of, closed, broken}
-use Rattle.kc_model.specs.Scene.{Scene}
+use Rattle.kc_exec_spec.specs.Effect.{Done, Refused, run}
+use Rattle.kc_exec_spec.specs.Entering.{opcode_trap}
+use Rattle.kc_machine_spec.specs.Machine.{scene_of, closed, broken}
 use Rattle.kc_machine.specs.declared.parts.Core.{Core}
-use Rattle.kc_model.specs.Board.{pins}
-use Rattle.kc_model.specs.Passing.{stepped_of}
+use Rattle.kc_machine_spec.specs.Board.{pins}
+use Rattle.kc_machine_spec.specs.Passing.{stepped_of}
 use Rattle.kc_machine.specs.Bus.{bus_meaning, held_of}
 use Rattle.kc_machine.specs.Seen.{machine_of}
 use Rattle.kc_machine.proofs.Finishing.{trap-made, trap-refused}
@@ -14,20 +13,20 @@ use Rattle.kc_machine.proofs.parts.Core.trap.Goals as goal
 
 pub returns-in-Ok-clause-machine : goal.returns-in-Ok-clause-machine
 returns-in-Ok-clause-machine g c =
-    let m : Machine = machine_of c.args.self.now in
-    let s : Scene = held_of c.trap_over.new.common in
-    let led : run bus_meaning (opcode_trap m.cpu.pc) (scene_of m) ≡ Done c.trap_over.new.cpu.pc s =
-    ap (run bus_meaning (opcode_trap m.cpu.pc)) (sym c.requires.scene) ∙ c.in-Ok.ensures.effect.0 in
-    ap (λ (core : Core). stepped_of (machine_of core) (pins m.time core.bus.edges.items ++ (Entered m.time 17 ((m.cpu.pc + 1) % 0x10000) ∷ [])) core.bus.reached) c.close.ensures
+    let m = machine_of c.args.self.now in
+    let s = held_of c.trap_over.new.common in
+    let led : run (bus_meaning g.X.Extra.further) (opcode_trap m.cpu.pc) (scene_of m) ≡ Done c.trap_over.new.cpu.pc s =
+    ap (run (bus_meaning g.X.Extra.further) (opcode_trap m.cpu.pc)) (sym c.requires.scene) ∙ c.in-Ok.ensures.effect.0 in
+    ap (λ (core : Core _ _). stepped_of (machine_of core) (pins m.time core.bus.edges ++ (Entered m.time 17 ((m.cpu.pc + 1) % 0x10000) ∷ [])) (4 * core.bus.reached)) c.close.ensures
     ∙ ap (λ next. closed m s c.trap_over.new.cpu next (Entered m.time 17 ((m.cpu.pc + 1) % 0x10000) ∷ [])) c.hold.ensures
-    ∙ trap-made m s c.trap_over.new.cpu led c.in-Ok.ensures.effect.1
+    ∙ trap-made g.X.Extra.further m s c.trap_over.new.cpu led c.in-Ok.ensures.effect.1
 
 pub returns-in-Err-clause-machine : goal.returns-in-Err-clause-machine
 returns-in-Err-clause-machine g c =
-    let m : Machine = machine_of c.args.self.now in
-    let s : Scene = held_of c.trap_over.new.common in
-    let led : run bus_meaning (opcode_trap m.cpu.pc) (scene_of m) ≡ Refused c.in-Err.kind s =
-    ap (run bus_meaning (opcode_trap m.cpu.pc)) (sym c.requires.scene) ∙ c.in-Err.ensures.effect.0 in
+    let m = machine_of c.args.self.now in
+    let s = held_of c.trap_over.new.common in
+    let led : run (bus_meaning g.X.Extra.further) (opcode_trap m.cpu.pc) (scene_of m) ≡ Refused c.in-Err.kind s =
+    ap (run (bus_meaning g.X.Extra.further) (opcode_trap m.cpu.pc)) (sym c.requires.scene) ∙ c.in-Err.ensures.effect.0 in
     c.break_off.ensures.machine
     ∙ ap (λ cpu. broken (record m { cpu = cpu }) s cpu.pc c.in-Err.kind) c.in-Err.ensures.effect.1
-    ∙ trap-refused m s c.in-Err.kind led
+    ∙ trap-refused g.X.Extra.further m s c.in-Err.kind led

@@ -1,0 +1,281 @@
+// The common board of both masters in a state.
+ghost use Rattle.std.specs.Prelude.{◌≡◌, ℕ, ◌+◌, ◌*◌, ◌<◌, ◌≤◌, ◌-◌, ◌%◌, ◌^◌, Err, IsTrue, OnOk, OnErr, vec_len, length, [], false};
+ghost use Rattle.kc_span.specs.Span.{after};
+ghost use Rattle.kc_exec_spec.specs.Access.{ReadByte, ReadWord, WriteByte, WriteWord, SetMasks, Accepts};
+ghost use Rattle.kc_exec_spec.specs.Window.{is_wsr};
+ghost use Rattle.kc_block_spec.specs.Touch.{block_rule, touch, edges_of};
+ghost use Rattle.kc_block_spec.specs.Leading.{Leads};
+ghost use Rattle.kc_block_spec.specs.Looking.{looked};
+ghost use Rattle.kc_machine_spec.specs.Board.{masks_of};
+ghost use Rattle.kc_machine_spec.specs.Scene.{opened, byte, put, window_at, scene_answer, after_by};
+ghost use Rattle.kc_machine_spec.specs.Machine.{taken, claimed, handed};
+ghost use Rattle.kc_machine.specs.Keeping.{fitting, counted};
+
+use crate::noted::Noted;
+use crate::weights::{weigh_byte, weigh_word_read, weigh_word_written, window_for};
+use kc_base::{EdgeOut, Kind, StateTime, Steps};
+use kc_block::Block;
+use kc_block_spec::Window;
+use kc_bus::{Masks, Master};
+use kc_extra::Extra;
+use std::sync::ledger::Ledger;
+
+/// The memory and the units of a board. After the Tick of a state they are those that the accesses of the state meet; beside
+/// them stand the edges of pins that these accesses have made, and how many of them have reached a unit.
+#[derive(Drop)]
+pub struct Common<X: Extra + Drop> {
+    pub(crate) memory: Vec<u8>,
+    pub(crate) block: Block<X>,
+    pub(crate) edges: Noted,
+    pub(crate) reached: u8,
+    ghost long: { vec_len memory ≡ 65536 },
+}
+
+fn count(reached: u8, more: u8) -> u8
+    requires { more ≤ 2 }
+    ensures { result ≡ counted reached more }
+{
+    if reached < 64 {
+        reached + more
+    } else {
+        reached
+    }
+}
+
+impl<X: Extra + Drop> Common<X> {
+    ghost use Rattle.kc_machine.specs.Bus.{held_of};
+
+    /// Brings the units past so many states from the present one on, and hands out their edges: the last of the states is
+    /// that of the accesses that follow.
+    pub(crate) fn advance<O: EdgeOut, L: Ledger>(
+        &mut self,
+        from: StateTime,
+        count: u64,
+        out: &mut O,
+        steps: &mut Steps<L>,
+    )
+        requires from { self.old.block.time ≡ from }
+        requires some { 0 < count }
+        requires room { from + count ≤ 3 * 10 ^ 15 }
+        ensures edges { Leads O.led out.old (edges_of X.further from count self.old.block.units) out.new }
+        ensures scene { held_of self.new ≡ opened (from + (count - 1)) (record { units = after (block_rule X.further) from count self.old.block.units; memory = self.old.memory.items }) }
+        ensures time { self.new.block.time ≡ from + count }
+        ensures steps { steps.new ≤ steps.old + 4 * touch X.further from count self.old.block.units }
+        ensures moves { self.new.block.moves ≤ self.old.block.moves + 4 * touch X.further from count self.old.block.units }
+    {
+        self.block.advance(from + count, out, steps);
+        self.edges = Noted::none();
+        self.reached = 0;
+    }
+
+    /// The registers of the units that belong to the processor's state.
+    pub(crate) fn masks(&self) -> Masks
+        ensures value { result ≡ masks_of self.now.block.units }
+        ensures window { IsTrue (is_wsr result.wsr) }
+    {
+        let mask = self.block.requests().mask;
+        Masks {
+            int_mask: (mask % 256) as u8,
+            int_mask1: (mask / 256) as u8,
+            wsr: self.block.wsr(),
+        }
+    }
+
+    /// Takes a request away that is entered.
+    pub(crate) fn take(&mut self, number: u8)
+        requires { number < 16 }
+        ensures scene { held_of self.new ≡ taken number (held_of self.old) }
+        ensures count { self.new.reached ≡ self.old.reached }
+        ensures time { self.new.block.time ≡ self.old.block.time }
+        ensures moves { self.new.block.moves ≡ self.old.block.moves }
+    {
+        let mut requests = self.block.requests();
+        requests.entered(number);
+        self.block.set_requests(requests);
+    }
+
+    /// Takes the pending request away of a cycle of the transfer server that is set up.
+    pub(crate) fn claim(&mut self, number: u8)
+        requires { number < 16 }
+        ensures scene { held_of self.new ≡ claimed number (held_of self.old) }
+        ensures count { self.new.reached ≡ self.old.reached }
+        ensures time { self.new.block.time ≡ self.old.block.time }
+        ensures moves { self.new.block.moves ≡ self.old.block.moves }
+    {
+        let mut requests = self.block.requests();
+        requests.taken(number);
+        self.block.set_requests(requests);
+    }
+
+    /// Where the count of a cycle that has ended is 0, hands its request from the transfer server to its interrupt.
+    pub(crate) fn hand(&mut self, number: u8, count: u8)
+        requires { number < 16 }
+        ensures scene { held_of self.new ≡ handed number count (held_of self.old) }
+        ensures count { self.new.reached ≡ self.old.reached }
+        ensures time { self.new.block.time ≡ self.old.block.time }
+        ensures moves { self.new.block.moves ≡ self.old.block.moves }
+    {
+        if count == 0 {
+            let mut requests = self.block.requests();
+            requests.ended(number);
+            self.block.set_requests(requests);
+        }
+    }
+
+    /// What a byte read below 0018H would give at the start of the present state.
+    pub(crate) fn look(&mut self, window: Window, addr: u16) -> u8
+        requires { addr < 24 }
+        ensures value { result ≡ looked X.further self.old.block.time window self.old.block.units addr }
+        ensures time { self.new.block.time ≡ self.old.block.time }
+        ensures units { self.new.block.units ≡ self.old.block.units }
+        ensures memory { self.new.memory ≡ self.old.memory }
+    {
+        self.block.look(window, addr as u8)
+    }
+
+    pub(crate) fn byte_at(&self, addr: u16) -> u8
+        ensures { result ≡ byte (held_of self.now) addr }
+    {
+        self.memory[addr as usize]
+    }
+
+    pub(crate) fn put_byte(&mut self, addr: u16, value: u8)
+        ensures scene { held_of self.new ≡ put (held_of self.old) addr value }
+        ensures count { self.new.reached ≡ self.old.reached }
+        ensures block { self.new.block ≡ self.old.block }
+    {
+        self.memory[addr as usize] = value;
+    }
+
+    fn window(&self, by: Master) -> Window
+        ensures { result ≡ window_at (held_of self.now) by }
+    {
+        window_for(by, self.block.wsr())
+    }
+
+    /// A byte read below 0018H.
+    pub(crate) fn read_byte<L: Ledger>(
+        &mut self,
+        by: Master,
+        addr: u16,
+        steps: &mut Steps<L>,
+    ) -> Result<u8, Kind>
+        requires { addr < 24 }
+        ensures answer { scene_answer X.further (held_of self.old) (ReadByte by addr) ≡ result }
+        ensures ok { OnOk result (after_by X.further fitting (held_of self.old) (ReadByte by addr) ≡ held_of self.new) }
+        ensures err { OnErr result (held_of self.old ≡ held_of self.new) }
+        ensures time { self.new.block.time ≡ self.old.block.time }
+        ensures later { self.old.reached ≤ self.new.reached }
+        ensures steps { self.new.reached < 64 → steps.new + 16 * self.old.reached ≤ steps.old + 16 * self.new.reached }
+        ensures moves { self.new.reached < 64 → self.new.block.moves + 16 * self.old.reached ≤ self.old.block.moves + 16 * self.new.reached }
+    {
+        let window = self.window(by);
+        let value = self.block.read8_here(window, addr as u8, steps)?;
+        self.reached = count(self.reached, weigh_byte(addr));
+        Ok(value)
+    }
+
+    /// A word read below 0018H.
+    pub(crate) fn read_word<L: Ledger>(
+        &mut self,
+        by: Master,
+        addr: u16,
+        steps: &mut Steps<L>,
+    ) -> Result<u16, Kind>
+        requires register { addr < 24 }
+        requires even { addr % 2 ≡ 0 }
+        ensures answer { scene_answer X.further (held_of self.old) (ReadWord by addr) ≡ result }
+        ensures ok { OnOk result (after_by X.further fitting (held_of self.old) (ReadWord by addr) ≡ held_of self.new) }
+        ensures err { OnErr result (held_of self.old ≡ held_of self.new) }
+        ensures time { self.new.block.time ≡ self.old.block.time }
+        ensures later { self.old.reached ≤ self.new.reached }
+        ensures steps { self.new.reached < 64 → steps.new + 16 * self.old.reached ≤ steps.old + 16 * self.new.reached }
+        ensures moves { self.new.reached < 64 → self.new.block.moves + 16 * self.old.reached ≤ self.old.block.moves + 16 * self.new.reached }
+    {
+        let window = self.window(by);
+        if addr < 2 {
+            return Ok(0);
+        }
+        let value = self.block.read16_here(window, addr as u8, steps)?;
+        self.reached = count(self.reached, weigh_word_read(window, addr));
+        Ok(value)
+    }
+
+    /// A byte write below 0018H.
+    pub(crate) fn write_byte<L: Ledger>(
+        &mut self,
+        by: Master,
+        addr: u16,
+        value: u8,
+        steps: &mut Steps<L>,
+    ) -> Result<(), Kind>
+        requires { addr < 24 }
+        ensures answer { Accepts result (scene_answer X.further (held_of self.old) (WriteByte by addr value)) }
+        ensures ok { OnOk result (after_by X.further fitting (held_of self.old) (WriteByte by addr value) ≡ held_of self.new) }
+        ensures err { OnErr result (held_of self.old ≡ held_of self.new) }
+        ensures time { self.new.block.time ≡ self.old.block.time }
+        ensures later { self.old.reached ≤ self.new.reached }
+        ensures steps { self.new.reached < 64 → steps.new + 16 * self.old.reached ≤ steps.old + 16 * self.new.reached }
+        ensures moves { self.new.reached < 64 → self.new.block.moves + 16 * self.old.reached ≤ self.old.block.moves + 16 * self.new.reached }
+    {
+        let window = self.window(by);
+        match self
+            .block
+            .write8_here(window, addr as u8, value, &mut self.edges, steps)
+        {
+            Ok(()) => {
+                self.reached = count(self.reached, weigh_byte(addr));
+                Ok(())
+            }
+            Err(kind) => Err(kind),
+        }
+    }
+
+    /// A word write below 0018H.
+    pub(crate) fn write_word<L: Ledger>(
+        &mut self,
+        by: Master,
+        addr: u16,
+        value: u16,
+        steps: &mut Steps<L>,
+    ) -> Result<(), Kind>
+        requires register { addr < 24 }
+        requires even { addr % 2 ≡ 0 }
+        ensures answer { Accepts result (scene_answer X.further (held_of self.old) (WriteWord by addr value)) }
+        ensures ok { OnOk result (after_by X.further fitting (held_of self.old) (WriteWord by addr value) ≡ held_of self.new) }
+        ensures err { OnErr result (held_of self.old ≡ held_of self.new) }
+        ensures time { self.new.block.time ≡ self.old.block.time }
+        ensures later { self.old.reached ≤ self.new.reached }
+        ensures steps { self.new.reached < 64 → steps.new + 16 * self.old.reached ≤ steps.old + 16 * self.new.reached }
+        ensures moves { self.new.reached < 64 → self.new.block.moves + 16 * self.old.reached ≤ self.old.block.moves + 16 * self.new.reached }
+    {
+        let window = self.window(by);
+        if addr < 2 {
+            return Ok(());
+        }
+        match self
+            .block
+            .write16_here(window, addr as u8, value, &mut self.edges, steps)
+        {
+            Ok(()) => {
+                self.reached = count(self.reached, weigh_word_written(window, addr));
+                Ok(())
+            }
+            Err(kind) => Err(kind),
+        }
+    }
+
+    /// Puts other values into the masks and WSR.
+    pub(crate) fn set_masks(&mut self, masks: Masks)
+        requires { IsTrue (is_wsr masks.wsr) }
+        ensures scene { after_by X.further fitting (held_of self.old) (SetMasks masks) ≡ held_of self.new }
+        ensures count { self.new.reached ≡ self.old.reached }
+        ensures time { self.new.block.time ≡ self.old.block.time }
+        ensures moves { self.new.block.moves ≡ self.old.block.moves }
+    {
+        let mut requests = self.block.requests();
+        requests.mask = u16::from(masks.int_mask) + 256 * u16::from(masks.int_mask1);
+        self.block.set_requests(requests);
+        self.block.set_wsr(masks.wsr);
+    }
+}

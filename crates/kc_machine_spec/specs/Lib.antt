@@ -1,0 +1,7 @@
+pub mod Board
+pub mod Scene
+pub mod Machine
+pub mod Run
+pub mod Passing
+pub mod Peeking
+pub mod Text

@@ -1,8 +1,0 @@
-pub mod Registers
-pub mod Board
-pub mod Scene
-pub mod Machine
-pub mod Run
-pub mod Passing
-pub mod Peeking
-pub mod Text
