@@ -7,19 +7,25 @@ use Rattle.kc_obj.specs.Spelling.{spelling}
 use Rattle.kc_obj_faults.specs.declared.faults.Fault.{Fault}
 use Rattle.kc_obj_read.specs.Reading.{answer_of}
 use Rattle.kc_obj_read.specs.Law.{numbers_fit, SpelledIsDecoded}
-use Rattle.kc_place.specs.declared.ranges.LinkFault.{LinkFault}
-use Rattle.kc_place.specs.Placing.{Places}
+use Rattle.kc_link_place.specs.declared.ranges.LinkFault.{LinkFault}
+use Rattle.kc_link_place.specs.Placing.{Places}
 use Rattle.kc_link.specs.Placed.{placed}
 use Rattle.kc_hex.specs.Law.{WrittenIsRead}
 use Rattle.kc_hex.specs.Records.{image_of}
 use Rattle.kc_hex.specs.Spelling as records
-use Rattle.kc_linked.specs.Linked.{LinkedImage}
-use Rattle.kc_files.specs.declared.status.Status.TheVariants as status
-use Rattle.kc_files.specs.Reply.{Reply, Write, write, done_writing, before, joined, Then}
-use Rattle.kc_kit.specs.Answer.{by_image}
-use Rattle.kc_kit.specs.Linking.{modules_of, by_object, object_of, by_places, places_of, Placing, LinksTo}
-use Rattle.kc_kit.specs.Sources.{AreModules, RunOf, RunsLinked, RunAnswer}
+use Rattle.kc_link_source_laws.specs.Linked.{LinkedImage}
+use Rattle.kc_kit_files.specs.declared.status.Status.TheVariants as status
+use Rattle.kc_kit_files.specs.Reply.{Reply, Write, write, done_writing, before, joined, Then}
 use Rattle.kc_kit.specs.Alike.{RunsAlike}
+use Rattle.kc_kit.specs.Hex.{by_image}
+use Rattle.kc_kit.specs.Link.{LinksTo}
+use Rattle.kc_kit.specs.Objects.{modules_of, by_object, object_of}
+use Rattle.kc_kit.specs.Places.{by_places, places_of, Placing}
+use Rattle.kc_kit.specs.Run.{RunsLinked, RunsDriven, RunAnswer}
+use Rattle.kc_kit.specs.Running.{RunOf}
+use Rattle.kc_kit.specs.Sources.{AreModules}
+use Rattle.kc_kit.specs.Stimuli.{drives_of, Driving}
+use Rattle.kc_kit.proofs.InputLemmas.{then-map}
 use Rattle.kc_kit.proofs.LinkLemmas.{then-ok}
 use Rattle.kc_kit.proofs.SourceLemmas.{image-of}
 
@@ -40,17 +46,19 @@ first_bytes [] = []
 first_bytes (w ∷ ws) = w.bytes
 
 pub alike : LinkedImage → SpelledIsDecoded → WrittenIsRead → RunsAlike
-alike linked spelled read names objects texts ms ranges states file hex reply made fit bytes count l h =
+alike linked spelled read names objects texts ms inputs input_texts ranges states file hex reply made fit bytes count l h =
     by (placed ms ranges) refl (subst (λ (x : Result (List Object) Reply). Then x (Placing objects ranges (LinksTo file None)) (done_writing (write file hex ∷ []))) (objects-read spelled objects texts ms made fit count) l)
   where
-    by : (x : Result Places LinkFault) → placed ms ranges ≡ x → Then (by_places objects x) (LinksTo file None ms) (done_writing (write file hex ∷ [])) → RunAnswer names states ranges texts reply
+    by : (x : Result Places LinkFault) → placed ms ranges ≡ x → Then (by_places objects x) (LinksTo file None ms) (done_writing (write file hex ∷ [])) → RunAnswer names inputs states ranges texts input_texts reply
     by (Ok places) e k =
         let same : hex ≡ records.spelling k.image = ap (λ (r : Reply). first_bytes r.writes) k.done in
         let image : image_of hex ≡ Ok k.image = ap image_of same ∙ read k.image (record { len = k.is_filled.long; bytes = bytes places k.image k.is_filled }) in
-        let ran : RunOf states k.image reply = subst (λ (x : Result (List ℕ) (ℕ × ℕ)). Then (by_image file x) (RunOf states) reply) image h in (
+        let driven : Driving inputs input_texts (λ d. RunOf states d k.image) reply =
+        subst (λ (x : Result (List ℕ) (ℕ × ℕ)). Then (by_image file x) (λ image. Driving inputs input_texts (λ d. RunOf states d image)) reply) image h in (
           Ok ms,
           made,
-          then-ok (places_of names ms ranges) places (RunsLinked texts states ms) reply (ap (by_places names) e)
-              (record { image = k.image; is_filled = k.is_filled; is_image = image-of linked texts ms ranges places k.image made e k.is_filled; ran = ran }),
+          then-ok (places_of names ms ranges) places (RunsDriven (RunsLinked texts states) inputs input_texts ms) reply (ap (by_places names) e)
+              (then-map (drives_of inputs input_texts) (λ d. RunOf states d k.image) (λ d. RunsLinked texts states d ms places) reply
+              (λ d ran. record { image = k.image; is_filled = k.is_filled; is_image = image-of linked texts ms ranges places k.image made e k.is_filled; ran = ran }) driven),
         )
     by (Err f) e k = absurd (let g : status.Done ≡ status.Link = ap (λ (r : Reply). r.status) k in cc)

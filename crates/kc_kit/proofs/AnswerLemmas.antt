@@ -1,33 +1,44 @@
 -- What follows from an answer: its status, the files that it writes, and its causes.
-use Rattle.std.proofs.Common.{◌≡◌, ◌≢◌, ◌⊎◌, inl, inr, ℕ, Bool, true, false, cond, List, [], ◌∷◌, length, map, Option, Some, None, Result, Ok, Err, refl, sym, ◌∙◌, ap, subst}
+use Rattle.std.proofs.Common.{◌≡◌, ◌≢◌, ◌⊎◌, inl, inr, ℕ, Bool, true, false, cond, List, [], ◌∷◌, ◌++◌, length, map, take, drop, fold, Option, Some, None, Result, Ok, Err, refl, sym, ◌∙◌, ap, subst}
 use Rattle.std.specs.Prelude.{nat_lt, IsSomeAnd, codes}
 use Rattle.std.specs.Result.{IsOk}
 use Rattle.std.specs.Option.{option_to_list}
 use Rattle.kc_base.specs.Held.{Holding, Told}
 use Rattle.kc_base.specs.Causes.{Rose}
-use Rattle.kc_model.specs.declared.doing.End.{End}
-use Rattle.kc_model.specs.declared.doing.End.TheVariants as end
-use Rattle.kc_model.specs.Run.{run_to, end_of}
-use Rattle.kc_model.specs.Machine.{start}
+use Rattle.kc_machine_spec.specs.declared.doing.End.{End}
+use Rattle.kc_machine_spec.specs.declared.doing.End.TheVariants as end
+use Rattle.kc_machine_spec.specs.Run.{end_of}
+use Rattle.kc_stim.specs.declared.fault.StimFault.{StimFault}
+use Rattle.kc_stim.specs.Drives.{Drives}
+use Rattle.kc_stim.specs.Reading.{nothing, with_item, first_fault, items_of}
 use Rattle.kc_obj.specs.Object.{Object}
 use Rattle.kc_obj_faults.specs.declared.faults.Fault.{Fault}
 use Rattle.kc_obj_read.specs.Reading.{answer_of}
-use Rattle.kc_place.specs.declared.ranges.Ranges.{Ranges}
-use Rattle.kc_place.specs.declared.ranges.LinkFault.{LinkFault}
-use Rattle.kc_place.specs.Placing.{Places}
+use Rattle.kc_link_place.specs.declared.ranges.Ranges.{Ranges}
+use Rattle.kc_link_place.specs.declared.ranges.LinkFault.{LinkFault}
+use Rattle.kc_link_place.specs.Placing.{Places}
 use Rattle.kc_link.specs.Placed.{placed}
 use Rattle.kc_hex.specs.Records.{image_of}
-use Rattle.kc_files.specs.declared.status.Status.{Status}
-use Rattle.kc_files.specs.declared.status.Status.TheVariants as status
-use Rattle.kc_files.specs.Reply.{Reply, Write, says, before, joined, Then}
-use Rattle.kc_files.specs.Reads.{read_of, reads_of, long_line, missing_line, FailedRead}
-use Rattle.kc_files.specs.Outside.{Kept, Shown, OthersStay, Wrote, WroteByPart, SinkFailed, WriteFailed, IsGiven, Replies}
-use Rattle.kc_files.proofs.ReplyLemmas.{given-of}
-use Rattle.kc_words.specs.Words.{Command, Helps, TellsVersion, Runs, Assembles, Links, RunsHex, Lists}
-use Rattle.kc_kit.specs.Linking.{modules_of, by_object, object_of, by_places, places_of, Placing, IsMap, LinksTo, LinkAnswer}
-use Rattle.kc_kit.specs.Answer.{names_read, names_written, by_image, hex_of, OneText, HexAnswer, ListingOf, CommandAnswer, MayAnswer, AreAccepted, IsOneText, IsLinkable, AreRunnable, IsAccepted, StaysBut}
-use Rattle.kc_kit.specs.Sources.{TellsFault, TellsFirst, status_of, RunOf, RunsLinked, RunAnswer, AssembleAnswer, IsFaultless, AreFaultless}
-use Rattle.kc_kit.specs.Lines.{source_line, input_line, link_line}
+use Rattle.kc_kit_files.specs.declared.status.Status.{Status}
+use Rattle.kc_kit_files.specs.declared.status.Status.TheVariants as status
+use Rattle.kc_kit_files.specs.Reply.{Reply, Write, says, before, joined, Then}
+use Rattle.kc_kit_files.specs.Reads.{read_of, reads_of, long_line, missing_line, FailedRead}
+use Rattle.kc_kit_files.specs.Outside.{Kept, Shown, OthersStay, Wrote, WroteByPart, SinkFailed, WriteFailed, IsGiven, Replies}
+use Rattle.kc_kit_files.proofs.ReplyLemmas.{given-of}
+use Rattle.kc_kit_words.specs.declared.inputs.Role.{Role}
+use Rattle.kc_kit_words.specs.declared.inputs.Role.TheVariants as role
+use Rattle.kc_kit_words.specs.Words.{Command, Helps, TellsVersion, Runs, Assembles, Links, RunsHex, Lists}
+use Rattle.kc_kit.specs.Answer.{names_read, names_written, OneText, Parted, CommandAnswer, MayAnswer, AreAccepted, IsOneText, IsAccepted, StaysBut}
+use Rattle.kc_kit.specs.Assemble.{AssembleAnswer}
+use Rattle.kc_kit.specs.Hex.{by_image, hex_of, HexAnswer, RunHexAnswer, ListingOf}
+use Rattle.kc_kit.specs.Lines.{coded, source_line, input_line, link_line}
+use Rattle.kc_kit.specs.Link.{IsMap, LinksTo, LinkAnswer, IsLinkable}
+use Rattle.kc_kit.specs.Objects.{modules_of, by_object, object_of}
+use Rattle.kc_kit.specs.Places.{by_places, places_of, Placing}
+use Rattle.kc_kit.specs.Run.{AreRunnable, RunsLinked, RunsDriven, RunAnswer}
+use Rattle.kc_kit.specs.Running.{status_of, run_of, RunOf}
+use Rattle.kc_kit.specs.Sources.{TellsFault, TellsFirst, IsFaultless, AreFaultless}
+use Rattle.kc_kit.specs.Stimuli.{names_of, place_of, fault_line, by_fault, drives_of, Driving}
 
 -- ---- steps
 
@@ -85,7 +96,7 @@ sound-reads ns (n ∷ names) (c ∷ contents) e h = either (joined-err (read_of 
 
 sound-object : (ns : List (List ℕ)) (name : List ℕ) (x : Result Object Fault) (e : Reply) → by_object name x ≡ Err e → IsSound ns e
 sound-object ns name (Ok m) e h = ok-err (IsSound ns e) m e h
-sound-object ns name (Err fault) e h = sound-err ns status.Input (input_line name fault.at (codes "O") fault.code) e refl (let k : says status.Input (input_line name fault.at (codes "O") fault.code) ≡ e = cc in k)
+sound-object ns name (Err fault) e h = sound-err ns status.Input (input_line name fault.at (coded (codes "O") fault.code)) e refl (let k : says status.Input (input_line name fault.at (coded (codes "O") fault.code)) ≡ e = cc in k)
 
 sound-modules : (ns : List (List ℕ)) (names texts : List (List ℕ)) (e : Reply) → modules_of object_of names texts ≡ Err e → IsSound ns e
 sound-modules ns [] texts e h = ok-err (IsSound ns e) [] e h
@@ -102,7 +113,7 @@ sound-places ns names (Err fault) e h = sound-err ns status.Link (link_line name
 
 sound-hex : (ns : List (List ℕ)) (name : List ℕ) (x : Result (List ℕ) (ℕ × ℕ)) (e : Reply) → by_image name x ≡ Err e → IsSound ns e
 sound-hex ns name (Ok image) e h = ok-err (IsSound ns e) image e h
-sound-hex ns name (Err fault) e h = sound-err ns status.Input (input_line name fault.0 (codes "H") fault.1) e refl (let k : says status.Input (input_line name fault.0 (codes "H") fault.1) ≡ e = cc in k)
+sound-hex ns name (Err fault) e h = sound-err ns status.Input (input_line name fault.0 (coded (codes "H") fault.1)) e refl (let k : says status.Input (input_line name fault.0 (coded (codes "H") fault.1)) ≡ e = cc in k)
 
 told-end : (how : End) → is_told (status_of how) ≡ true
 told-end end.Spent = refl
@@ -110,8 +121,21 @@ told-end end.Powerdown = refl
 told-end end.Reset = refl
 told-end (end.Undefined what) = refl
 
-sound-run : (ns : List (List ℕ)) (states : ℕ) (image : List ℕ) (r : Reply) → RunOf states image r → IsSound ns r
-sound-run ns states image r h = subst (IsSound ns) (sym h) (record { told = told-end (end_of (run_to states (start image)).machine); named = inl refl })
+sound-run : (ns : List (List ℕ)) (states : ℕ) (drives : Drives) (image : List ℕ) (r : Reply) → RunOf states drives image r → IsSound ns r
+sound-run ns states drives image r h = subst (IsSound ns) (sym h) (record { told = told-end (end_of (run_of states drives image).machine); named = inl refl })
+
+sound-stimuli : (ns : List (List ℕ)) (name text : List ℕ) (x : Option StimFault) (e : Reply) → by_fault name text x ≡ Err e → IsSound ns e
+sound-stimuli ns name text None e h = ok-err (IsSound ns e) (fold with_item nothing (items_of text)) e h
+sound-stimuli ns name text (Some fault) e h =
+    sound-err ns status.Input (fault_line name (place_of fault)) e refl (let k : says status.Input (fault_line name (place_of fault)) ≡ e = cc in k)
+
+sound-drives : (ns : List (List ℕ)) (inputs : List (Role × List ℕ)) (texts : List (List ℕ)) (e : Reply) → drives_of inputs texts ≡ Err e → IsSound ns e
+sound-drives ns [] texts e h = ok-err (IsSound ns e) nothing e h
+sound-drives ns ((role.Stimuli, name) ∷ inputs) [] e h = ok-err (IsSound ns e) nothing e h
+sound-drives ns ((role.Stimuli, name) ∷ inputs) (text ∷ texts) e h = sound-stimuli ns name text (first_fault 0 nothing (items_of text)) e h
+
+sound-driving : (ns : List (List ℕ)) (inputs : List (Role × List ℕ)) (texts : List (List ℕ)) (may : Drives → Reply → Type 0) (r : Reply) → ((d : Drives) → may d r → IsSound ns r) → Driving inputs texts may r → IsSound ns r
+sound-driving ns inputs texts may r f h = then-all (IsSound ns) (drives_of inputs texts) may r (sound-drives ns inputs texts) (λ d e k. f d k) h
 
 sound-fault : (ns : List (List ℕ)) (name text : List ℕ) (r : Reply) → TellsFault name text r → IsSound ns r
 sound-fault ns name text r h = subst (IsSound ns) (sym h.3) (sound-says ns status.Source (source_line name h.0 h.1) refl)
@@ -122,13 +146,15 @@ sound-first ns (n ∷ names) [] r h = absurd h
 sound-first ns (n ∷ names) (t ∷ texts) r (inl h) = sound-fault ns n t r h
 sound-first ns (n ∷ names) (t ∷ texts) r (inr h) = sound-first ns names texts r h.1
 
-sound-placing : (ns names texts : List (List ℕ)) (states : ℕ) (ranges : Ranges) (ms : List Object) (r : Reply) → Placing names ranges (RunsLinked texts states) ms r → IsSound ns r
-sound-placing ns names texts states ranges ms r h =
-    then-all (IsSound ns) (places_of names ms ranges) (RunsLinked texts states ms) r (sound-places ns names (placed ms ranges)) (λ places f l. sound-run ns states l.image r l.ran) h
+sound-placing : (ns names : List (List ℕ)) (inputs : List (Role × List ℕ)) (texts input_texts : List (List ℕ)) (states : ℕ) (ranges : Ranges) (ms : List Object) (r : Reply) →
+    Placing names ranges (RunsDriven (RunsLinked texts states) inputs input_texts) ms r → IsSound ns r
+sound-placing ns names inputs texts input_texts states ranges ms r h =
+    then-all (IsSound ns) (places_of names ms ranges) (RunsDriven (RunsLinked texts states) inputs input_texts ms) r (sound-places ns names (placed ms ranges))
+    (λ places f l. sound-driving ns inputs input_texts (λ d. RunsLinked texts states d ms places) r (λ d k. sound-run ns states d k.image r k.ran) l) h
 
-sound-runs : (ns names : List (List ℕ)) (states : ℕ) (ranges : Ranges) (texts : List (List ℕ)) (r : Reply) → RunAnswer names states ranges texts r → IsSound ns r
-sound-runs ns names states ranges texts r (Ok ms, made, h) = sound-placing ns names texts states ranges ms r h
-sound-runs ns names states ranges texts r (Err e, told, h) = subst (IsSound ns) (sym h) (sound-first ns names texts e told)
+sound-runs : (ns names : List (List ℕ)) (inputs : List (Role × List ℕ)) (states : ℕ) (ranges : Ranges) (texts input_texts : List (List ℕ)) (r : Reply) → RunAnswer names inputs states ranges texts input_texts r → IsSound ns r
+sound-runs ns names inputs states ranges texts input_texts r (Ok ms, made, h) = sound-placing ns names inputs texts input_texts states ranges ms r h
+sound-runs ns names inputs states ranges texts input_texts r (Err e, told, h) = subst (IsSound ns) (sym h) (sound-first ns names texts e told)
 
 sound-object-of : (name out text : List ℕ) (r : Reply) → AssembleAnswer name out text r → IsSound (out ∷ []) r
 sound-object-of name out text r (Ok m, made, h) = subst (IsSound (out ∷ [])) (sym h) (record { told = refl; named = inr refl })
@@ -155,18 +181,22 @@ sound-link names out lines ranges texts r h =
 pub sound-command : (c : Command) (contents : List (Option (List ℕ))) (r : Reply) → CommandAnswer (Some c) contents r → IsSound (names_written (Some c)) r
 sound-command Helps contents r h = subst (IsSound []) (sym h) (sound-says [] status.Done _ refl)
 sound-command TellsVersion contents r h = subst (IsSound []) (sym h) (sound-says [] status.Done _ refl)
-sound-command (Runs files states placing) contents r h =
-    then-all (IsSound []) (reads_of files contents) (RunAnswer files states placing) r (sound-reads [] files contents) (λ texts e k. sound-runs [] files states placing texts r k) h
+sound-command (Runs files inputs states placing) contents r h =
+    let names = files ++ names_of inputs in
+    then-all (IsSound []) (reads_of names contents) (Parted (length files) (RunAnswer files inputs states placing)) r (sound-reads [] names contents)
+    (λ texts e k. sound-runs [] files inputs states placing (take (length files) texts) (drop (length files) texts) r k) h
 sound-command (Assembles file out) contents r h =
     then-all (IsSound (out ∷ [])) (reads_of (file ∷ []) contents) (OneText (AssembleAnswer file out)) r (sound-reads (out ∷ []) (file ∷ []) contents)
     (λ texts e k. sound-one (out ∷ []) (AssembleAnswer file out) texts r (λ t l. sound-object-of file out t r l) k) h
 sound-command (Links files out lines placing) contents r h =
     let ns = out ∷ option_to_list lines in
     then-all (IsSound ns) (reads_of files contents) (LinkAnswer files out lines placing) r (sound-reads ns files contents) (λ texts e k. sound-link files out lines placing texts r k) h
-sound-command (RunsHex file states) contents r h =
-    then-all (IsSound []) (reads_of (file ∷ []) contents) (OneText (HexAnswer file (RunOf states))) r (sound-reads [] (file ∷ []) contents)
-    (λ texts e k. sound-one [] (HexAnswer file (RunOf states)) texts r
-    (λ t l. then-all (IsSound []) (hex_of file t) (RunOf states) r (sound-hex [] file (image_of t)) (λ image f m. sound-run [] states image r m) l) k) h
+sound-command (RunsHex file inputs states) contents r h =
+    let names = file ∷ names_of inputs in
+    then-all (IsSound []) (reads_of names contents) (Parted 1 (λ texts more. OneText (λ text. RunHexAnswer file inputs states text more) texts)) r (sound-reads [] names contents)
+    (λ texts e k. sound-one [] (λ text. RunHexAnswer file inputs states text (drop 1 texts)) (take 1 texts) r
+    (λ t l. then-all (IsSound []) (hex_of file t) (λ image. Driving inputs (drop 1 texts) (λ d. RunOf states d image)) r (sound-hex [] file (image_of t))
+    (λ image f m. sound-driving [] inputs (drop 1 texts) (λ d. RunOf states d image) r (λ d n. sound-run [] states d image r n) m) l) k) h
 sound-command (Lists file first last) contents r h =
     then-all (IsSound []) (reads_of (file ∷ []) contents) (OneText (HexAnswer file (ListingOf first last))) r (sound-reads [] (file ∷ []) contents)
     (λ texts e k. sound-one [] (HexAnswer file (ListingOf first last)) texts r
@@ -337,8 +367,12 @@ done-end end.Powerdown = inl refl
 done-end end.Reset = inl refl
 done-end (end.Undefined what) = inr refl
 
-done-run : (states : ℕ) (image : List ℕ) (r : Reply) → RunOf states image r → IsDone r.status
-done-run states image r h = subst (λ (k : Reply). IsDone k.status) (sym h) (done-end (end_of (run_to states (start image)).machine))
+done-run : (states : ℕ) (drives : Drives) (image : List ℕ) (r : Reply) → RunOf states drives image r → IsDone r.status
+done-run states drives image r h = subst (λ (k : Reply). IsDone k.status) (sym h) (done-end (end_of (run_of states drives image).machine))
+
+done-driven : (x : Result Drives Reply) (may : Drives → Reply → Type 0) (r : Reply) → IsOk x → ((d : Drives) → may d r → IsDone r.status) → Then x may r → IsDone r.status
+done-driven (Ok d) may r a f h = f d h
+done-driven (Err e) may r a f h = absurd (let k : false ≡ true = a in cc)
 
 no-fault : (name text : List ℕ) (r : Reply) → IsFaultless text → TellsFault name text r → ⊥
 no-fault name text r none h = none h.0 h.1 h.2
@@ -349,13 +383,16 @@ none-first (n ∷ names) [] r none h = h
 none-first (n ∷ names) (t ∷ texts) r none (inl h) = no-fault n t r none.0 h
 none-first (n ∷ names) (t ∷ texts) r none (inr h) = none-first names texts r none.1 h.1
 
-done-linked : (texts : List (List ℕ)) (states : ℕ) (ms : List Object) (x : Result Places Reply) (r : Reply) → IsOk x → Then x (RunsLinked texts states ms) r → IsDone r.status
-done-linked texts states ms (Ok places) r a h = done-run states h.image r h.ran
-done-linked texts states ms (Err e) r a h = absurd (let k : false ≡ true = a in cc)
+done-linked : (inputs : List (Role × List ℕ)) (texts input_texts : List (List ℕ)) (states : ℕ) (ms : List Object) (x : Result Places Reply) (r : Reply) →
+    IsOk x → IsOk (drives_of inputs input_texts) → Then x (RunsDriven (RunsLinked texts states) inputs input_texts ms) r → IsDone r.status
+done-linked inputs texts input_texts states ms (Ok places) r a b h =
+    done-driven (drives_of inputs input_texts) (λ d. RunsLinked texts states d ms places) r b (λ d k. done-run states d k.image r k.ran) h
+done-linked inputs texts input_texts states ms (Err e) r a b h = absurd (let k : false ≡ true = a in cc)
 
-done-runs : (names : List (List ℕ)) (states : ℕ) (ranges : Ranges) (texts : List (List ℕ)) (r : Reply) → AreRunnable names ranges texts → RunAnswer names states ranges texts r → IsDone r.status
-done-runs names states ranges texts r a (Ok ms, made, h) = done-linked texts states ms (places_of names ms ranges) r (a.1 ms made) h
-done-runs names states ranges texts r a (Err e, told, h) = absurd (none-first names texts e a.0 told)
+done-runs : (names : List (List ℕ)) (inputs : List (Role × List ℕ)) (states : ℕ) (ranges : Ranges) (texts input_texts : List (List ℕ)) (r : Reply) →
+    AreRunnable names inputs ranges texts input_texts → RunAnswer names inputs states ranges texts input_texts r → IsDone r.status
+done-runs names inputs states ranges texts input_texts r a (Ok ms, made, h) = done-linked inputs texts input_texts states ms (places_of names ms ranges) r (a.1 ms made) a.2 h
+done-runs names inputs states ranges texts input_texts r a (Err e, told, h) = absurd (none-first names texts e a.0 told)
 
 done-object : (name out text : List ℕ) (r : Reply) → IsFaultless text → AssembleAnswer name out text r → IsDone r.status
 done-object name out text r none (Ok m, made, h) = inl (ap (λ (k : Reply). k.status) h)
@@ -391,10 +428,15 @@ pub done-command : (c : Option Command) (contents : List (Option (List ℕ))) (r
 done-command None contents r a h = absurd a
 done-command (Some Helps) contents r a h = inl (ap (λ (k : Reply). k.status) h)
 done-command (Some TellsVersion) contents r a h = inl (ap (λ (k : Reply). k.status) h)
-done-command (Some (Runs files states placing)) contents r a h = accepted-then _ (RunAnswer files states placing) (reads_of files contents) r (λ texts b k. done-runs files states placing texts r b k) a h
+done-command (Some (Runs files inputs states placing)) contents r a h =
+    accepted-then _ (Parted (length files) (RunAnswer files inputs states placing)) (reads_of (files ++ names_of inputs) contents) r
+    (λ texts b k. done-runs files inputs states placing (take (length files) texts) (drop (length files) texts) r b k) a h
 done-command (Some (Assembles file out)) contents r a h = accepted-then _ (OneText (AssembleAnswer file out)) (reads_of (file ∷ []) contents) r (λ texts b k. done-objects file out texts r b k) a h
 done-command (Some (Links files out lines placing)) contents r a h = accepted-then _ (LinkAnswer files out lines placing) (reads_of files contents) r (λ texts b k. done-link files out lines placing (modules_of object_of files texts) r b k) a h
-done-command (Some (RunsHex file states)) contents r a h = accepted-then _ (OneText (HexAnswer file (RunOf states))) (reads_of (file ∷ []) contents) r (λ texts b k. done-one file (RunOf states) texts r (λ image l. done-run states image r l) b k) a h
+done-command (Some (RunsHex file inputs states)) contents r a h =
+    accepted-then _ (Parted 1 (λ texts more. OneText (λ text. RunHexAnswer file inputs states text more) texts)) (reads_of (file ∷ names_of inputs) contents) r
+    (λ texts b k. done-one file (λ image. Driving inputs (drop 1 texts) (λ d. RunOf states d image)) (take 1 texts) r
+    (λ image l. done-driven (drives_of inputs (drop 1 texts)) (λ d. RunOf states d image) r b.1 (λ d m. done-run states d image r m) l) b.0 k) a h
 done-command (Some (Lists file first last)) contents r a h = accepted-then _ (OneText (HexAnswer file (ListingOf first last))) (reads_of (file ∷ []) contents) r (λ texts b k. done-one file (ListingOf first last) texts r (λ image l. inl (ap (λ (k : Reply). k.status) l)) b k) a h
 
 -- a reply without a fault outside is done, or for want of memory

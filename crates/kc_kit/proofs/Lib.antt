@@ -1,5 +1,6 @@
 mod AlikeLemmas
 mod AnswerLemmas
+mod InputLemmas
 mod LinkLemmas
 mod Listed
 mod RunLemmas

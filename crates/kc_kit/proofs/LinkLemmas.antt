@@ -8,25 +8,29 @@ use Rattle.kc_base.specs.Held.{Holding, Told}
 use Rattle.kc_base.specs.Causes.{Rose}
 use Rattle.kc_base.proofs.Growth.{Grew-nothing}
 use Rattle.kc_obj.specs.Object.{Object}
-use Rattle.kc_place.specs.declared.ranges.Ranges.{Ranges}
-use Rattle.kc_place.specs.declared.ranges.LinkFault.{LinkFault}
-use Rattle.kc_place.specs.declared.ranges.LinkFault.TheVariants as faults
-use Rattle.kc_place.specs.Placing.{Places, IsCause}
+use Rattle.kc_link_place.specs.declared.ranges.Ranges.{Ranges}
+use Rattle.kc_link_place.specs.declared.ranges.LinkFault.{LinkFault}
+use Rattle.kc_link_place.specs.declared.ranges.LinkFault.TheVariants as faults
+use Rattle.kc_link_place.specs.Placing.{Places, IsCause}
 use Rattle.kc_link.specs.Placed.{placed}
-use Rattle.kc_files.specs.declared.status.Status.{Status}
-use Rattle.kc_files.specs.declared.status.Status.TheVariants as status
-use Rattle.kc_files.specs.declared.refusal.Refusal.{Refusal}
-use Rattle.kc_files.specs.declared.refusal.Refusal.TheVariants as refusals
-use Rattle.kc_files.specs.Reply.{Reply, Write, says, done_writing, before, joined, Then, IsRefused}
-use Rattle.kc_files.specs.Reads.{reads_of, Holds, FailedRead, MissedRead, MissedOne, AreHeld, AllShort}
-use Rattle.kc_files.specs.Outside.{Kept, Shown, kept, Replies, WroteOne, OthersStay}
-use Rattle.kc_files.proofs.ReadLemmas.{refused-widen, reads-held, Holds-held, held-one, missed-one}
-use Rattle.kc_files.proofs.ReplyLemmas.{Replies-widen, said-refused}
+use Rattle.kc_kit_files.specs.declared.status.Status.{Status}
+use Rattle.kc_kit_files.specs.declared.status.Status.TheVariants as status
+use Rattle.kc_kit_files.specs.declared.refusal.Refusal.{Refusal}
+use Rattle.kc_kit_files.specs.declared.refusal.Refusal.TheVariants as refusals
+use Rattle.kc_kit_files.specs.Reply.{Reply, Write, says, done_writing, before, joined, Then, IsRefused}
+use Rattle.kc_kit_files.specs.Reads.{reads_of, Holds, FailedRead, MissedRead, MissedOne, AreHeld, AllShort}
+use Rattle.kc_kit_files.specs.Outside.{Kept, Shown, kept, Replies, WroteOne, OthersStay}
+use Rattle.kc_kit_files.proofs.ReadLemmas.{refused-widen, reads-held, Holds-held, held-one, missed-one}
+use Rattle.kc_kit_files.proofs.ReplyLemmas.{Replies-widen, said-refused}
 use Rattle.kc_kit.specs.declared.job.Job.{Job}
+use Rattle.kc_kit_words.specs.declared.command.Command.{Command as Read}
+use Rattle.kc_kit_words.specs.Asked.{asked}
+use Rattle.kc_kit.specs.Answer.{OneText, MayAnswer, MayAnswerBy}
+use Rattle.kc_kit.specs.Hex.{hex_of, HexAnswer}
+use Rattle.kc_kit.specs.Jobs.{does, IsPrepared, Prepares, IsReady, IsOf, AreWritten}
 use Rattle.kc_kit.specs.Lines.{link_line, file_at}
-use Rattle.kc_kit.specs.Linking.{modules_of, object_of, by_places, places_of, Placing}
-use Rattle.kc_kit.specs.Answer.{hex_of, OneText, HexAnswer}
-use Rattle.kc_kit.specs.Jobs.{does, IsPrepared, IsReady, IsOf, AreWritten}
+use Rattle.kc_kit.specs.Objects.{modules_of, object_of}
+use Rattle.kc_kit.specs.Places.{by_places, places_of, Placing}
 
 -- ---- steps
 
@@ -65,12 +69,18 @@ pub prepared-of : (may : Reply → Type 0) (p : Result Job Refusal) → IsPrepar
 prepared-of may (Ok job) h r e = subst may (sym e) h.0
 prepared-of may (Err refusal) h r e = said-refused may refusal h r e
 
+kept-same : (a b : Option Holding) (m n : ℕ) → a ≡ b → m ≡ n → kept a m ≡ kept b n
+kept-same a b m n e f = ap (λ h. kept h m) e ∙ ap (λ k. kept b k) f
+
 -- a command whose files are read and judged is finished
-pub finished : (may : Type 0 → Reply → Type 0) (p : Result Job Refusal) (rose later : Type 0) (old mid new : Kept) (before now : Shown) (given : Status) →
-    IsPrepared (may rose) p → mid ≡ old → rose ≡ later → Replies (IsOf p) mid before given new now → Replies (may later) old before given new now
-finished may p rose later old mid new before now given h same e replies =
-    subst (λ k. Replies (may later) k before given new now) same
-    (Replies-widen (IsOf p) (may later) mid before given new now (λ r w. subst (λ t. may t r) e (prepared-of (may rose) p h r w)) replies)
+pub finished : {T : Type 0} (held : T → Option Holding) (reads writes : T → ℕ) (command read : Read) (old mid new : T) (p : Result Job Refusal) (before now : Shown) (given : Status) →
+    command ≡ read → Prepares held reads writes (asked read) old p mid → Replies (IsOf p) (kept (held mid) (writes mid)) before given (kept (held new) (writes new)) now → reads new ≡ reads mid →
+    Replies (MayAnswerBy held reads (Some (asked command)) old new) (kept (held old) (writes old)) before given (kept (held new) (writes new)) now
+finished held reads writes command read old mid new p before now given is h replies e =
+    subst (λ k. Replies (MayAnswerBy held reads (Some (asked command)) old new) k before given (kept (held new) (writes new)) now) (kept-same (held mid) (held old) (writes mid) (writes old) h.only_read.same h.only_read.no_write)
+    (Replies-widen (IsOf p) (MayAnswerBy held reads (Some (asked command)) old new) (kept (held mid) (writes mid)) before given (kept (held new) (writes new)) now
+    (λ r w. subst (λ c. MayAnswerBy held reads (Some (asked c)) old new r) (sym is)
+    (subst (λ n. MayAnswer (Some (asked read)) (held old) (Rose (reads old) n) r) (sym e) (prepared-of (MayAnswerBy held reads (Some (asked read)) old mid) p h.answer r w))) replies)
 
 -- ---- modules one after the other
 
@@ -252,6 +262,3 @@ Replies-written old new out ws status.ReadFault may m h = absurd h
 pub holds-none : (told : Option Holding) → Holds told [] []
 holds-none None = refl
 holds-none (Some held) = refl
-
-pub kept-same : (a b : Option Holding) (m n : ℕ) → a ≡ b → m ≡ n → kept a m ≡ kept b n
-kept-same a b m n e f = ap (λ h. kept h m) e ∙ ap (λ k. kept b k) f

@@ -1,54 +1,56 @@
 -- The reply of a run.
 use Rattle.std.proofs.Common.{◌≡◌, inl, ℕ, ◌<◌, List, Option, Some, None, refl, sym, ◌∙◌, ap, subst}
 use Rattle.std.specs.Option.{unwrap_or}
+use Rattle.kc_stim.specs.Drives.{Drives}
+use Rattle.kc_extra.specs.declared.none.NoExtra.{NoExtra}
 use Rattle.kc_base.specs.Causes.{Rose, Grew, GrewByPart}
 use Rattle.kc_trace.specs.Out.{Out, Puts}
 use Rattle.kc_trace.specs.Text.{text_of}
 use Rattle.kc_trace.proofs.Outs.{GrewByPart-longer, Puts-append}
 use Rattle.kc_trace.proofs.Printed.{text_of-append}
-use Rattle.kc_model.specs.declared.doing.End.{End}
-use Rattle.kc_model.specs.declared.doing.End.TheVariants as end
-use Rattle.kc_model.specs.Machine.{Machine, Stepped, start}
-use Rattle.kc_model.specs.Run.{run_to, end_of}
-use Rattle.kc_model.specs.Text.{trace_of, finals, HasRun}
-use Rattle.kc_model.proofs.Runs.{run_for-has_run}
-use Rattle.kc_files.specs.declared.status.Status.TheVariants as status
-use Rattle.kc_files.specs.Reply.{Reply}
-use Rattle.kc_files.specs.Outside.{Kept, Shown, Replies}
-use Rattle.kc_kit.specs.Sources.{run_reply, status_of}
+use Rattle.kc_machine_spec.specs.declared.doing.End.{End}
+use Rattle.kc_machine_spec.specs.declared.doing.End.TheVariants as end
+use Rattle.kc_machine_spec.specs.Machine.{Machine, Stepped, start}
+use Rattle.kc_machine_spec.specs.Run.{end_of}
+use Rattle.kc_machine_spec.specs.Text.{trace_of, finals, HasRun}
+use Rattle.kc_machine_spec.proofs.Runs.{run_for-has_run}
+use Rattle.kc_kit_files.specs.declared.status.Status.TheVariants as status
+use Rattle.kc_kit_files.specs.Reply.{Reply}
+use Rattle.kc_kit_files.specs.Outside.{Kept, Shown, Replies}
+use Rattle.kc_kit.specs.Running.{no_unit, no_further, run_of, run_reply, status_of}
 
 -- the status of a run, with its text whole
-pub run-whole : (ran : Stepped) (may : Reply → Type 0) (files : Kept) (old new : Shown) (how : End) → may (run_reply ran) → how ≡ end_of ran.machine → Grew old.written (trace_of ran) new.written → Replies may files old (status_of how) files new
+pub run-whole : {X : Type 0} (ran : Stepped X) (may : Reply → Type 0) (files : Kept) (old new : Shown) (how : End) → may (run_reply ran) → how ≡ end_of ran.machine → Grew old.written (trace_of ran) new.written → Replies may files old (status_of how) files new
 run-whole ran may files old new end.Spent m e h = record { reply = run_reply ran; is_answer = m; status = ap status_of e; text = h; files = refl }
 run-whole ran may files old new end.Powerdown m e h = record { reply = run_reply ran; is_answer = m; status = ap status_of e; text = h; files = refl }
 run-whole ran may files old new end.Reset m e h = record { reply = run_reply ran; is_answer = m; status = ap status_of e; text = h; files = refl }
 run-whole ran may files old new (end.Undefined what) m e h = record { reply = run_reply ran; is_answer = m; status = ap status_of e; text = h; files = refl }
 
 -- a run at whose end or in whose middle the sink has failed
-pub run-part : (ran : Stepped) (may : Reply → Type 0) (files : Kept) (old new : Shown) → may (run_reply ran) → GrewByPart old.written (trace_of ran) new.written → Rose old.faults new.faults → Replies may files old status.WriteFault files new
+pub run-part : {X : Type 0} (ran : Stepped X) (may : Reply → Type 0) (files : Kept) (old new : Shown) → may (run_reply ran) → GrewByPart old.written (trace_of ran) new.written → Rose old.faults new.faults → Replies may files old status.WriteFault files new
 run-part ran may files old new m h c = inl (record { reply = run_reply ran; is_answer = m; text = h; cause = c; files = refl })
 
 -- the lines of a run and its finals
-pub Puts-trace : (ran : Stepped) (old mid new : Out) (how : End) (machine : Machine) → how ≡ end_of ran.machine → machine ≡ ran.machine → Puts old (text_of ran.records) mid → Puts mid (text_of (finals how machine)) new → Puts old (trace_of ran) new
+pub Puts-trace : {X : Type 0} (ran : Stepped X) (old mid new : Out) (how : End) (machine : Machine X) → how ≡ end_of ran.machine → machine ≡ ran.machine → Puts old (text_of ran.records) mid → Puts mid (text_of (finals how machine)) new → Puts old (trace_of ran) new
 Puts-trace ran old mid new how machine e f h k =
     let last = finals (end_of ran.machine) ran.machine in
     let written : Puts mid (text_of last) new =
-    subst (λ (m : Machine). Puts mid (text_of (finals (end_of ran.machine) m)) new) f (subst (λ (w : End). Puts mid (text_of (finals w machine)) new) e k) in
+    subst (λ m. Puts mid (text_of (finals (end_of ran.machine) m)) new) f (subst (λ (w : End). Puts mid (text_of (finals w machine)) new) e k) in
     subst (λ text. Puts old text new) (sym (text_of-append ran.records last)) (Puts-append old (text_of ran.records) mid (text_of last) new h written)
 
 -- a front of the lines of a run
-pub GrewByPart-trace : (ran : Stepped) (old new : Option (List ℕ)) → GrewByPart old (text_of ran.records) new → GrewByPart old (trace_of ran) new
+pub GrewByPart-trace : {X : Type 0} (ran : Stepped X) (old new : Option (List ℕ)) → GrewByPart old (text_of ran.records) new → GrewByPart old (trace_of ran) new
 GrewByPart-trace ran old new h =
     let last = text_of (finals (end_of ran.machine) ran.machine) in
     subst (λ text. GrewByPart old text new) (sym (text_of-append ran.records (finals (end_of ran.machine) ran.machine)))
     (GrewByPart-longer old (text_of ran.records) last new h)
 
 -- a machine of an image that was reset has run
-pub HasRun-start : (states : ℕ) (image : List ℕ) (machine : Machine) (how : End) → machine ≡ (run_to states (start image)).machine → how ≡ end_of machine → HasRun how machine.time
-HasRun-start states image machine how e f = by_end machine.ended refl
+pub HasRun-start : (states : ℕ) (drives : Drives) (image : List ℕ) (machine : Machine NoExtra) (how : End) → machine ≡ (run_of states drives image).machine → how ≡ end_of machine → HasRun how machine.time
+HasRun-start states drives image machine how e f = by_end machine.ended refl
   where
     has_run : (over : End) → machine.ended ≡ Some over → 0 < machine.time
-    has_run over g = subst (λ (m : Machine). 0 < m.time) (sym e) (run_for-has_run _ (start image) over refl (ap (λ (m : Machine). m.ended) (sym e) ∙ g))
+    has_run over g = subst (λ (m : Machine NoExtra). 0 < m.time) (sym e) (run_for-has_run no_further _ (start image drives no_unit) over refl (ap (λ (m : Machine NoExtra). m.ended) (sym e) ∙ g))
 
     of_how : (w : End) → 0 < machine.time → HasRun w machine.time
     of_how end.Spent h = tt

@@ -4,23 +4,27 @@ use Rattle.std.specs.Prelude.{slice_get, true}
 use Rattle.std.specs.List.{list_all}
 use Rattle.std.specs.Global.{Vec}
 use Rattle.std.proofs.lemmas.List.{append-nil}
-use Rattle.kc_statement.specs.declared.statement.Stmt.{Stmt}
-use Rattle.kc_judge.specs.Judging.{first_fault}
-use Rattle.kc_piece.specs.declared.draft.Draft.{Draft}
-use Rattle.kc_module.specs.ModuleOf.{IsModuleOf, pieces_in}
-use Rattle.kc_sound.specs.Drafting.{IsDraftOf}
-use Rattle.kc_place.specs.declared.ranges.Ranges.{Ranges}
-use Rattle.kc_place.specs.declared.ranges.LinkFault.{LinkFault}
-use Rattle.kc_place.specs.Placing.{Places}
+use Rattle.kc_source_statement.specs.declared.statement.Stmt.{Stmt}
+use Rattle.kc_asm_check.specs.Judging.{first_fault}
+use Rattle.kc_asm_piece.specs.declared.draft.Draft.{Draft}
+use Rattle.kc_asm_module.specs.ModuleOf.{IsModuleOf, pieces_in}
+use Rattle.kc_asm_draft_laws.specs.Drafting.{IsDraftOf}
+use Rattle.kc_link_place.specs.declared.ranges.Ranges.{Ranges}
+use Rattle.kc_link_place.specs.declared.ranges.LinkFault.{LinkFault}
+use Rattle.kc_link_place.specs.Placing.{Places}
 use Rattle.kc_link.specs.Placed.{placed}
 use Rattle.kc_link.specs.Filled.{IsFilled}
-use Rattle.kc_linked.specs.Characters.{has_bytes}
-use Rattle.kc_linked.specs.Linked.{IsSource, LinkedImage}
+use Rattle.kc_link_source_laws.specs.Characters.{has_bytes}
+use Rattle.kc_link_source_laws.specs.Linked.{IsSource, LinkedImage}
 use Rattle.kc_obj.specs.Object.{Object}
 use Rattle.kc_asm.specs.Assembled.{AreSaid, IsModule}
-use Rattle.kc_files.specs.Reply.{Reply, Then}
-use Rattle.kc_kit.specs.Linking.{by_places, Placing}
-use Rattle.kc_kit.specs.Sources.{AreModules, TellsFault, TellsFirst, AreDrafted, IsImageOfTexts, RunsFilled, RunsLinked}
+use Rattle.kc_kit_files.specs.Reply.{Reply, Then}
+use Rattle.kc_kit_words.specs.declared.inputs.Role.{Role}
+use Rattle.kc_kit.specs.Places.{by_places, Placing}
+use Rattle.kc_kit.specs.Run.{AreDrafted, IsImageOfTexts, RunsFilled, RunsLinked, RunsDriven}
+use Rattle.kc_kit.specs.Sources.{AreModules, TellsFault, TellsFirst}
+use Rattle.kc_kit.specs.Stimuli.{drives_of}
+use Rattle.kc_kit.proofs.InputLemmas.{then-map}
 use Rattle.kc_kit.proofs.LinkLemmas.{names_in, texts_in, name-get, text-get}
 
 -- what follows of the rest follows of the whole
@@ -116,9 +120,12 @@ image-of law texts ms ranges places image made is filled =
           (record { drafts_count = (counts texts k.sources k.drafts ms k.drafted).0; modules_count = (counts texts k.sources k.drafts ms k.drafted).1; of = each texts k.sources k.drafts ms k.drafted }) is filled;
     }
 
-pub linked-placing : LinkedImage → (names : List (List ℕ)) (states : ℕ) (ranges : Ranges) (texts : List (List ℕ)) (ms : List Object) (r : Reply) → AreModules texts ms → Placing names ranges (RunsFilled states) ms r → Placing names ranges (RunsLinked texts states) ms r
-linked-placing law names states ranges texts ms r made h = by (placed ms ranges) refl h
+pub linked-placing : LinkedImage → (names : List (List ℕ)) (inputs : List (Role × List ℕ)) (states : ℕ) (ranges : Ranges) (texts input_texts : List (List ℕ)) (ms : List Object) (r : Reply) → AreModules texts ms →
+    Placing names ranges (RunsDriven (RunsFilled states) inputs input_texts) ms r → Placing names ranges (RunsDriven (RunsLinked texts states) inputs input_texts) ms r
+linked-placing law names inputs states ranges texts input_texts ms r made h = by (placed ms ranges) refl h
   where
-    by : (x : Result Places LinkFault) → placed ms ranges ≡ x → Then (by_places names x) (RunsFilled states ms) r → Then (by_places names x) (RunsLinked texts states ms) r
-    by (Ok places) e k = record { image = k.image; is_filled = k.is_filled; is_image = image-of law texts ms ranges places k.image made e k.is_filled; ran = k.ran }
+    by : (x : Result Places LinkFault) → placed ms ranges ≡ x → Then (by_places names x) (RunsDriven (RunsFilled states) inputs input_texts ms) r → Then (by_places names x) (RunsDriven (RunsLinked texts states) inputs input_texts ms) r
+    by (Ok places) e k =
+        then-map (drives_of inputs input_texts) (λ d. RunsFilled states d ms places) (λ d. RunsLinked texts states d ms places) r
+        (λ d f. record { image = f.image; is_filled = f.is_filled; is_image = image-of law texts ms ranges places f.image made e f.is_filled; ran = f.ran }) k
     by (Err f) e k = k

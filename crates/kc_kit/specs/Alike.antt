@@ -5,13 +5,15 @@ use Rattle.std.specs.List.{list_all}
 use Rattle.kc_obj.specs.Object.{Object}
 use Rattle.kc_obj.specs.Spelling.{spelling}
 use Rattle.kc_obj_read.specs.Law.{numbers_fit}
-use Rattle.kc_place.specs.declared.ranges.Ranges.{Ranges}
-use Rattle.kc_place.specs.Placing.{Places}
+use Rattle.kc_link_place.specs.declared.ranges.Ranges.{Ranges}
+use Rattle.kc_link_place.specs.Placing.{Places}
 use Rattle.kc_link.specs.Filled.{IsFilled}
-use Rattle.kc_files.specs.Reply.{Reply, write, done_writing}
-use Rattle.kc_kit.specs.Answer.{HexAnswer}
-use Rattle.kc_kit.specs.Linking.{LinkAnswer}
-use Rattle.kc_kit.specs.Sources.{AreModules, RunOf, RunAnswer}
+use Rattle.kc_kit_files.specs.Reply.{Reply, write, done_writing}
+use Rattle.kc_kit_words.specs.declared.inputs.Role.{Role}
+use Rattle.kc_kit.specs.Hex.{RunHexAnswer}
+use Rattle.kc_kit.specs.Link.{LinkAnswer}
+use Rattle.kc_kit.specs.Run.{RunAnswer}
+use Rattle.kc_kit.specs.Sources.{AreModules}
 
 -- what is filled from modules are bytes
 abbrev pub FillsBytes : List Object → Type 0
@@ -20,8 +22,8 @@ FillsBytes ms = (places : Places) (image : List ℕ) → IsFilled ms places imag
 -- where the numbers of the modules have the room of their fields
 abbrev pub RunsAlike : Type 0
 RunsAlike =
-    (names objects texts : List (List ℕ)) (ms : List Object) (ranges : Ranges) (states : ℕ) (file hex : List ℕ) (reply : Reply)
+    (names objects texts : List (List ℕ)) (ms : List Object) (inputs : List (Role × List ℕ)) (input_texts : List (List ℕ)) (ranges : Ranges) (states : ℕ) (file hex : List ℕ) (reply : Reply)
     → AreModules texts ms → list_all numbers_fit ms ≡ true → FillsBytes ms → length objects ≡ length ms
     → LinkAnswer objects file None ranges (map spelling ms) (done_writing (write file hex ∷ []))
-    → HexAnswer file (RunOf states) hex reply
-    → RunAnswer names states ranges texts reply
+    → RunHexAnswer file inputs states hex input_texts reply
+    → RunAnswer names inputs states ranges texts input_texts reply

@@ -1,27 +1,30 @@
 -- What the kit answers to a command line over what the files hold (this kit's own).
-use Rattle.std.specs.Prelude.{◌≡◌, ◌≢◌, ◌⊎◌, ℕ, List, [], ◌∷◌, codes, Option, Some, None, Result, Ok, Err}
+use Rattle.std.specs.Prelude.{◌≡◌, ◌≢◌, ◌⊎◌, ℕ, List, [], ◌∷◌, ◌++◌, length, take, drop, Option, Some, None, Result, Ok, Err}
 use Rattle.std.specs.Result.{IsOk}
 use Rattle.std.specs.Option.{option_to_list}
+use Rattle.kc_base.specs.Causes.{Rose}
 use Rattle.kc_base.specs.Held.{Holding}
-use Rattle.kc_obj.specs.Object.{Object}
-use Rattle.kc_place.specs.declared.ranges.Ranges.{Ranges}
 use Rattle.kc_hex.specs.Records.{image_of}
-use Rattle.kc_listing.specs.Listing.{listing}
-use Rattle.kc_files.specs.declared.status.Status.TheVariants as status
-use Rattle.kc_files.specs.Reply.{Reply, says, Then}
-use Rattle.kc_files.specs.Reads.{reads_of, Holds, FailedRead}
-use Rattle.kc_words.specs.Words.{Command, Helps, TellsVersion, Runs, Assembles, Links, RunsHex, Lists}
-use Rattle.kc_kit.specs.Lines.{help_text, version_line, usage_line, input_line}
-use Rattle.kc_kit.specs.Linking.{modules_of, object_of, places_of, LinkAnswer}
-use Rattle.kc_kit.specs.Sources.{AreModules, RunOf, RunAnswer, AssembleAnswer, IsFaultless, AreFaultless}
+use Rattle.kc_kit_files.specs.declared.status.Status.TheVariants as status
+use Rattle.kc_kit_files.specs.Reply.{Reply, says, Then}
+use Rattle.kc_kit_files.specs.Reads.{reads_of, Holds, FailedRead}
+use Rattle.kc_kit_words.specs.Words.{Command, Helps, TellsVersion, Runs, Assembles, Links, RunsHex, Lists}
+use Rattle.kc_kit.specs.Assemble.{AssembleAnswer}
+use Rattle.kc_kit.specs.Hex.{HexAnswer, RunHexAnswer, ListingOf}
+use Rattle.kc_kit.specs.Lines.{help_text, version_line, usage_line}
+use Rattle.kc_kit.specs.Link.{LinkAnswer, IsLinkable}
+use Rattle.kc_kit.specs.Objects.{modules_of, object_of}
+use Rattle.kc_kit.specs.Run.{RunAnswer, AreRunnable}
+use Rattle.kc_kit.specs.Sources.{IsFaultless}
+use Rattle.kc_kit.specs.Stimuli.{names_of, drives_of}
 
 -- ---- the files that a command names: those that are read, in this order, and those that are written
 
 abbrev pub names_read : Option Command → List (List ℕ)
-names_read (Some (Runs files states placing)) = files
+names_read (Some (Runs files inputs states placing)) = files ++ names_of inputs
 names_read (Some (Assembles file out)) = file ∷ []
 names_read (Some (Links files out lines placing)) = files
-names_read (Some (RunsHex file states)) = file ∷ []
+names_read (Some (RunsHex file inputs states)) = file ∷ names_of inputs
 names_read (Some (Lists file first last)) = file ∷ []
 names_read _ = []
 
@@ -30,38 +33,27 @@ names_written (Some (Assembles file out)) = out ∷ []
 names_written (Some (Links files out lines placing)) = out ∷ option_to_list lines
 names_written _ = []
 
--- ---- hex files
-
-abbrev pub by_image : List ℕ → Result (List ℕ) (ℕ × ℕ) → Result (List ℕ) Reply
-by_image name (Ok image) = Ok image
-by_image name (Err fault) = Err (says status.Input (input_line name fault.0 (codes "H") fault.1))
-
--- the image of a hex file
-abbrev pub hex_of : List ℕ → List ℕ → Result (List ℕ) Reply
-hex_of name text = by_image name (image_of text)
+-- ---- commands
 
 -- the one file of a command
 abbrev pub OneText : (List ℕ → Reply → Type 0) → List (List ℕ) → Reply → Type 0
 OneText may (text ∷ []) reply = may text reply
 OneText may _ reply = ⊥
 
-abbrev pub HexAnswer : List ℕ → (List ℕ → Reply → Type 0) → List ℕ → Reply → Type 0
-HexAnswer name may text reply = Then (hex_of name text) may reply
-
-abbrev pub ListingOf : ℕ → ℕ → List ℕ → Reply → Type 0
-ListingOf first last image reply = reply ≡ says status.Done (listing image first last)
-
--- ---- commands
+-- the texts of so many first files, and those of the inputs behind them
+abbrev pub Parted : ℕ → (List (List ℕ) → List (List ℕ) → Reply → Type 0) → List (List ℕ) → Reply → Type 0
+Parted count may texts reply = may (take count texts) (drop count texts) reply
 
 -- what may be answered, over what the files that are read hold, in the order of their names
 abbrev pub CommandAnswer : Option Command → List (Option (List ℕ)) → Reply → Type 0
 CommandAnswer None contents reply = reply ≡ says status.Usage usage_line
 CommandAnswer (Some Helps) contents reply = reply ≡ says status.Done help_text
 CommandAnswer (Some TellsVersion) contents reply = reply ≡ says status.Done version_line
-CommandAnswer (Some (Runs files states placing)) contents reply = Then (reads_of files contents) (RunAnswer files states placing) reply
+CommandAnswer (Some (Runs files inputs states placing)) contents reply = Then (reads_of (files ++ names_of inputs) contents) (Parted (length files) (RunAnswer files inputs states placing)) reply
 CommandAnswer (Some (Assembles file out)) contents reply = Then (reads_of (file ∷ []) contents) (OneText (AssembleAnswer file out)) reply
 CommandAnswer (Some (Links files out lines placing)) contents reply = Then (reads_of files contents) (LinkAnswer files out lines placing) reply
-CommandAnswer (Some (RunsHex file states)) contents reply = Then (reads_of (file ∷ []) contents) (OneText (HexAnswer file (RunOf states))) reply
+CommandAnswer (Some (RunsHex file inputs states)) contents reply =
+    Then (reads_of (file ∷ names_of inputs) contents) (Parted 1 (λ texts more. OneText (λ text. RunHexAnswer file inputs states text more) texts)) reply
 CommandAnswer (Some (Lists file first last)) contents reply = Then (reads_of (file ∷ []) contents) (OneText (HexAnswer file (ListingOf first last))) reply
 
 -- What may be answered to a command, over what the files tell that they hold: all files are read before any is judged. A read may
@@ -69,6 +61,10 @@ CommandAnswer (Some (Lists file first last)) contents reply = Then (reads_of (fi
 abbrev pub MayAnswer : Option Command → Option Holding → Type 0 → Reply → Type 0
 MayAnswer command told rose reply =
     (contents : List (Option (List ℕ))) × Holds told (names_read command) contents × (CommandAnswer command contents reply ⊎ FailedRead (names_read command) contents rose reply)
+
+-- the same of files, by what they tell of themselves before and after the command
+abbrev pub MayAnswerBy : {T : Type 0} → (T → Option Holding) → (T → ℕ) → Option Command → T → T → Reply → Type 0
+MayAnswerBy held reads command old new reply = MayAnswer command (held old) (Rose (reads old) (reads new)) reply
 
 -- ---- what is accepted: a command, each file held within its limit and in its form, no source with a fault, and no rule of the
 -- ---- linker broken
@@ -81,21 +77,16 @@ abbrev pub IsOneText : (List ℕ → Type 0) → List (List ℕ) → Type 0
 IsOneText accepts (text ∷ []) = accepts text
 IsOneText accepts _ = ⊥
 
-abbrev pub IsLinkable : List (List ℕ) → Ranges → Result (List Object) Reply → Type 0
-IsLinkable names ranges (Ok ms) = IsOk (places_of names ms ranges)
-IsLinkable names ranges (Err refusal) = ⊥
-
-abbrev pub AreRunnable : List (List ℕ) → Ranges → List (List ℕ) → Type 0
-AreRunnable names ranges texts = AreFaultless texts × ((ms : List Object) → AreModules texts ms → IsOk (places_of names ms ranges))
-
 abbrev pub IsAccepted : Option Command → List (Option (List ℕ)) → Type 0
 IsAccepted None contents = ⊥
 IsAccepted (Some Helps) contents = Unit {0}
 IsAccepted (Some TellsVersion) contents = Unit {0}
-IsAccepted (Some (Runs files states placing)) contents = AreAccepted (AreRunnable files placing) (reads_of files contents)
+IsAccepted (Some (Runs files inputs states placing)) contents =
+    AreAccepted (λ texts. AreRunnable files inputs placing (take (length files) texts) (drop (length files) texts)) (reads_of (files ++ names_of inputs) contents)
 IsAccepted (Some (Assembles file out)) contents = AreAccepted (IsOneText IsFaultless) (reads_of (file ∷ []) contents)
 IsAccepted (Some (Links files out lines placing)) contents = AreAccepted (λ texts. IsLinkable files placing (modules_of object_of files texts)) (reads_of files contents)
-IsAccepted (Some (RunsHex file states)) contents = AreAccepted (IsOneText (λ text. IsOk (image_of text))) (reads_of (file ∷ []) contents)
+IsAccepted (Some (RunsHex file inputs states)) contents =
+    AreAccepted (λ texts. IsOneText (λ text. IsOk (image_of text)) (take 1 texts) × IsOk (drives_of inputs (drop 1 texts))) (reads_of (file ∷ names_of inputs) contents)
 IsAccepted (Some (Lists file first last)) contents = AreAccepted (IsOneText (λ text. IsOk (image_of text))) (reads_of (file ∷ []) contents)
 
 -- ---- no name changes but those of files that are written

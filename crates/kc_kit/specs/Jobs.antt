@@ -1,19 +1,20 @@
 -- What is left to do once a command's files are read and judged (this kit's own).
-use Rattle.std.specs.Prelude.{◌≡◌, ◌≤◌, List, [], ◌∷◌, Option, Some, None, Result, Ok, Err}
-use Rattle.kc_model.specs.Machine.{start}
-use Rattle.kc_model.specs.Run.{run_to}
-use Rattle.kc_listing.specs.Listing.{listing}
+use Rattle.std.specs.Prelude.{◌≡◌, ℕ, ◌≤◌, List, [], ◌∷◌, Option, Some, None, Result, Ok, Err}
+use Rattle.kc_code_listing.specs.Listing.{listing}
 use Rattle.kc_base.specs.Causes.{Rose}
-use Rattle.kc_files.specs.declared.status.Status.{Status}
-use Rattle.kc_files.specs.declared.status.Status.TheVariants as status
-use Rattle.kc_files.specs.Outside.{Kept, Wrote, WroteByPart}
-use Rattle.kc_files.specs.declared.refusal.Refusal.{Refusal}
-use Rattle.kc_files.specs.Reply.{Reply, Write, write, says, done_writing, IsRefused, IsSaid}
-use Rattle.kc_words.specs.Settings.{max_states}
+use Rattle.kc_base.specs.Held.{Holding}
+use Rattle.kc_kit_files.specs.declared.status.Status.{Status}
+use Rattle.kc_kit_files.specs.declared.status.Status.TheVariants as status
+use Rattle.kc_kit_files.specs.Outside.{Kept, OnlyRead, Wrote, WroteByPart}
+use Rattle.kc_kit_files.specs.declared.refusal.Refusal.{Refusal}
+use Rattle.kc_kit_files.specs.Reply.{Reply, Write, write, says, done_writing, IsRefused, IsSaid}
+use Rattle.kc_kit_words.specs.Values.{max_states}
+use Rattle.kc_kit_words.specs.Words.{Command}
 use Rattle.kc_kit.specs.declared.job.Job.{Job}
 use Rattle.kc_kit.specs.declared.job.Job.TheVariants as job
 use Rattle.kc_kit.specs.declared.job.Output.{Output}
-use Rattle.kc_kit.specs.Sources.{run_reply}
+use Rattle.kc_kit.specs.Answer.{MayAnswerBy}
+use Rattle.kc_kit.specs.Running.{run_of, run_reply}
 
 abbrev pub written : Output → Write
 written o = write o.name.now o.bytes.items
@@ -24,13 +25,13 @@ maybe_written (Some o) = written o ∷ []
 
 -- the reply of a job
 abbrev pub does : Job → Reply
-does (job.Run image states) = run_reply (run_to states (start image))
+does (job.Run image stimuli states) = run_reply (run_of states stimuli image)
 does (job.List image first last) = says status.Done (listing image first last)
 does (job.Write file more) = done_writing (written file ∷ maybe_written more)
 
 -- state times within their limit, and addresses in order
 abbrev pub IsDoable : Job → Type 0
-IsDoable (job.Run image states) = states ≤ max_states
+IsDoable (job.Run image stimuli states) = states ≤ max_states
 IsDoable (job.List image first last) = (0x2000 ≤ first) × (first ≤ last)
 IsDoable (job.Write file more) = Unit {0}
 
@@ -38,6 +39,11 @@ IsDoable (job.Write file more) = Unit {0}
 abbrev pub IsPrepared : (Reply → Type 0) → Result Job Refusal → Type 0
 IsPrepared may (Ok job) = may (does job) × IsDoable job
 IsPrepared may (Err refusal) = IsRefused may refusal
+
+-- the job or the refusal that a command comes to once its files are read and judged; the files stay
+pub record Prepares {T : Type 0} (held : T → Option Holding) (reads writes : T → ℕ) (command : Command) (old : T) (given : Result Job Refusal) (new : T) : Type 0 where
+  pub answer : IsPrepared (MayAnswerBy held reads (Some command) old new) given
+  pub only_read : OnlyRead held reads writes old new
 
 abbrev pub IsReady : Result Job Refusal → Type 0
 IsReady (Ok job) = IsDoable job

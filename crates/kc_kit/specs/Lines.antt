@@ -2,27 +2,17 @@
 use Rattle.std.specs.Prelude.{ℕ, ◌/◌, ◌%◌, List, [], ◌++◌, codes, decimal, flat_map, Some, None, slice_get}
 use Rattle.kc_obj.specs.declared.parts.SegKind.{SegKind}
 use Rattle.kc_obj.specs.declared.parts.SegKind.TheVariants as kind
-use Rattle.kc_place.specs.declared.ranges.LinkFault.{LinkFault}
-use Rattle.kc_place.specs.declared.ranges.LinkFault.TheVariants as fault
+use Rattle.kc_link_place.specs.declared.ranges.LinkFault.{LinkFault}
+use Rattle.kc_link_place.specs.declared.ranges.LinkFault.TheVariants as fault
 use Rattle.kc_link.specs.declared.lines.LineAt.{LineAt}
 use Rattle.kc_trace.specs.Text.{hex}
+use Rattle.kc_kit.specs.declared.help.TheConstants.{HELP, VERSION}
 
 abbrev pub help_text : List ℕ
-help_text =
-    codes "kc96 assembles, links and runs programs of the 80C196KC.\n"
-    ++ codes "  kc96 run NAME.. --states N      run sources, assembled and linked, for N state times\n"
-    ++ codes "  kc96 asm NAME --out FILE        assemble the source NAME to the object FILE\n"
-    ++ codes "  kc96 link OBJ.. --out FILE      link objects to the Intel hex file FILE\n"
-    ++ codes "       [--lines FILE]             and write which source line stands where\n"
-    ++ codes "  kc96 hex NAME --states N        run the Intel hex file NAME for N state times\n"
-    ++ codes "  kc96 dis NAME A-B               list the instructions of the hex file NAME from A to B\n"
-    ++ codes "  kc96 --help                     print this text\n"
-    ++ codes "  kc96 --version                  print the name and the version\n"
-    ++ codes "Where run and link may place registers, code and data, and how long the stack is:\n"
-    ++ codes "  [--reg A-B] [--code A-B] [--data A-B] [--stack N]\n"
+help_text = HELP.now
 
 abbrev pub version_line : List ℕ
-version_line = codes "kc96 0.1.0\n"
+version_line = VERSION.now
 
 abbrev pub usage_line : List ℕ
 usage_line = codes "usage\n"
@@ -30,15 +20,19 @@ usage_line = codes "usage\n"
 abbrev pub two_digits : ℕ → List ℕ
 two_digits n = decimal (n / 10) ++ decimal (n % 10)
 
--- the place and the code of a fault in a file: of a source `E` and the line, of a hex file `H` and the line, of an object `O` and the offset
-abbrev pub place_text : ℕ → List ℕ → ℕ → List ℕ
-place_text place letter code = codes ":" ++ decimal place ++ codes ": " ++ letter ++ two_digits code ++ codes "\n"
+-- a code of one letter and two digits: of a source `E`, of a hex file `H`, of an object `O`
+abbrev pub coded : List ℕ → ℕ → List ℕ
+coded letter n = letter ++ two_digits n
+
+-- the place and the code of a fault in a file: the place is a line, or an offset in an object
+abbrev pub place_text : ℕ → List ℕ → List ℕ
+place_text place code = codes ":" ++ decimal place ++ codes ": " ++ code ++ codes "\n"
 
 abbrev pub source_line : List ℕ → ℕ → ℕ → List ℕ
-source_line name line code = codes "source " ++ name ++ place_text line (codes "E") code
+source_line name line code = codes "source " ++ name ++ place_text line (coded (codes "E") code)
 
-abbrev pub input_line : List ℕ → ℕ → List ℕ → ℕ → List ℕ
-input_line name place letter code = codes "input " ++ name ++ place_text place letter code
+abbrev pub input_line : List ℕ → ℕ → List ℕ → List ℕ
+input_line name place code = codes "input " ++ name ++ place_text place code
 
 -- ---- broken rules of the linker
 

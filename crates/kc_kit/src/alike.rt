@@ -2,7 +2,7 @@
 ghost use Rattle.kc_kit.specs.Alike.{RunsAlike};
 
 use kc_hex::written_is_read;
-use kc_linked::linked_image;
+use kc_link_source_laws::linked_image;
 use kc_obj_read::laws::spelled_is_decoded;
 
 /// Objects that are assembled of each source and linked to a hex file, and that file run, answer as the sources run.

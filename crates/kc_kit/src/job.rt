@@ -1,12 +1,13 @@
 // What is left to do once a command's files are read and judged.
 ghost use Rattle.std.specs.Prelude.{◌≡◌, ◌∷◌, false};
-ghost use Rattle.kc_files.specs.Outside.{Replies, kept, shown};
+ghost use Rattle.kc_kit_files.specs.Outside.{Replied, kept};
 ghost use Rattle.kc_kit.specs.Jobs.{AreWritten, IsDoable, does, written, maybe_written};
 
-use crate::hex::list_image;
-use crate::run::run_image;
+use crate::image_run::run_image;
+use crate::list::list_image;
 use kc_base::{Files, Image, Sink};
-use kc_files::{Status, write_file};
+use kc_kit_files::{Status, write_file};
+use kc_stim::Stimuli;
 use kc_trace::TraceOut;
 use std::alloc::Global;
 use std::marker::Brand;
@@ -24,6 +25,7 @@ pub(crate) struct Output<'a> {
 pub(crate) enum Job<'a> {
     Run {
         image: Image,
+        stimuli: Stimuli,
         states: u64,
     },
     List {
@@ -46,14 +48,15 @@ pub(crate) fn perform<F: Files, S: Sink>(
 ) -> Status
     requires ready { out.old.failed ≡ false }
     requires doable { IsDoable job }
-    ensures answer { Replies (λ reply. reply ≡ does job.entry) (kept (F.held files.old) (F.write_faults files.old)) (shown (S.written out.old.sink) (S.faults out.old.sink))
-        result (kept (F.held files.new) (F.write_faults files.new)) (shown (S.written out.new.sink) (S.faults out.new.sink)) }
+    ensures answer { Replied F.held F.write_faults S.written S.faults (λ reply. reply ≡ does job.entry) files.old out.old.sink result files.new out.new.sink }
     ensures no_read { F.read_faults files.new ≡ F.read_faults files.old }
 {
     match job {
-        Job::Run { image, states } => {
-            run_image::<S, Brand>(alloc, image, states, Blank::new(1), out)
-        }
+        Job::Run {
+            image,
+            stimuli,
+            states,
+        } => { run_image::<S, Brand>(alloc, image, stimuli, states, Blank::new(1), out) }
         Job::List { image, first, last } => list_image(&image, first, last, out),
         Job::Write { file, more } => write_files(alloc, &file, &more, files),
     }

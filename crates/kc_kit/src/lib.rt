@@ -2,18 +2,25 @@
 #![tactic(auto)]
 
 mod alike;
-mod hex;
-mod inputs;
+mod assemble;
+mod help;
+mod hex_image;
+mod image_run;
+mod input_lines;
 mod job;
 mod line_map;
+mod link;
 mod link_lines;
-mod linking;
+mod list;
 mod objects;
+mod reading;
 mod run;
-mod running;
+mod run_hex;
 mod sources;
+mod stimuli;
 mod top;
 
 pub use alike::runs_are_alike;
-pub use kc_files::Status;
+pub use help::{HELP, VERSION};
+pub use kc_kit_files::Status;
 pub use top::kit;

@@ -1,13 +1,13 @@
 // The lines of broken rules of the linker.
 ghost use Rattle.std.specs.Prelude.{◌≡◌, ◌<◌, ◌++◌, codes, decimal, IfOk, IsErr, map, string_bytes};
 ghost use Rattle.kc_trace.specs.Text.{hex};
-ghost use Rattle.kc_files.specs.declared.status.Status.TheVariants as status;
-ghost use Rattle.kc_files.specs.Reply.{says, IsRefused};
+ghost use Rattle.kc_kit_files.specs.declared.status.Status.TheVariants as status;
+ghost use Rattle.kc_kit_files.specs.Reply.{says, IsRefused};
 ghost use Rattle.kc_kit.specs.Lines.{kind_word, file_at, link_text, link_line};
 
 use itoa::Buffer;
 use kc_base::{NoMemory, hex_digit};
-use kc_files::{Cause, Refusal, refusal_of};
+use kc_kit_files::{Cause, Refusal, refusal_of};
 use kc_link::LinkFault;
 use kc_obj::SegKind;
 use std::alloc::Global;

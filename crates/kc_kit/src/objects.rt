@@ -1,12 +1,12 @@
 // Objects read to modules.
 ghost use Rattle.std.specs.Prelude.{◌≡◌, ◌≤◌, ◌++◌, ◌∷◌, [], Ok, Err, IfOk, IfErr, OnOk, length, map, string_bytes};
-ghost use Rattle.kc_files.specs.Reply.{IsRefused};
-ghost use Rattle.kc_files.specs.Reads.{AllShort};
-ghost use Rattle.kc_kit.specs.Linking.{object_of, modules_of};
+ghost use Rattle.kc_kit_files.specs.Reply.{IsRefused};
+ghost use Rattle.kc_kit_files.specs.Reads.{AllShort};
+ghost use Rattle.kc_kit.specs.Objects.{object_of, modules_of};
 
-use crate::inputs::input_refusal;
+use crate::input_lines::coded_refusal;
 use kc_base::NoMemory;
-use kc_files::Refusal;
+use kc_kit_files::Refusal;
 use kc_obj::Module;
 use kc_obj_read::{ObjFault, decode};
 use std::alloc::Global;
@@ -19,7 +19,7 @@ fn read_object(alloc: Global, name: &str, bytes: &[u8]) -> Result<Module, Refusa
 {
     match decode(alloc, bytes) {
         Ok(object) => Ok(object),
-        Err(ObjFault::At { at, code }) => Err(input_refusal(alloc, name, at, b"O", code)),
+        Err(ObjFault::At { at, code }) => Err(coded_refusal(alloc, name, at, b"O", code)),
         Err(ObjFault::NoMemory) => Err(Refusal::NoMemory),
     }
 }

@@ -1,49 +1,85 @@
-// A run of an image.
-ghost use Rattle.std.specs.Prelude.{◌≡◌, ◌≤◌, false};
-ghost use Rattle.kc_files.specs.Outside.{Kept, Replies, shown};
-ghost use Rattle.kc_kit.specs.Sources.{RunOf, status_of};
+// The command that runs sources.
+ghost use Rattle.std.specs.Prelude.{◌≡◌, ◌≤◌, length, map, string_bytes};
+ghost use Rattle.kc_kit_files.specs.Reads.{AllShort};
+ghost use Rattle.kc_kit_words.specs.Asked.{asked, AreLinkable, IsWithin};
+ghost use Rattle.kc_kit_words.specs.Inputs.{inputs_in};
+ghost use Rattle.kc_kit_words.specs.Values.{max_states};
+ghost use Rattle.kc_kit.specs.Jobs.{IsPrepared, Prepares};
+ghost use Rattle.kc_kit.specs.Places.{Placing};
+ghost use Rattle.kc_kit.specs.Run.{RunAnswer, RunsDriven, RunsFilled};
 
-use kc_base::{Image, Sink, Steps};
-use kc_files::Status;
-use kc_machine::{End, Machine};
-use kc_trace::TraceOut;
+use crate::job::Job;
+use crate::link_lines::link_refusal;
+use crate::reading::read_inputs;
+use crate::sources::assemble_sources;
+use crate::stimuli::stimuli_in;
+use kc_base::Files;
+use kc_kit_files::{Refusal, read_files};
+use kc_kit_words::{Command, Run};
+use kc_link_source_laws::linked_image;
+use kc_obj::Module;
 use std::alloc::Global;
-use std::sync::ledger::{Blank, Ledger};
 
-/// Runs an image, and prints its trace.
-pub fn run_image<S: Sink, L: Ledger>(
+/// Reads sources and what drives the inputs, assembles and links the image that is to be run.
+pub(crate) fn prepare_run<'a, F: Files>(
     alloc: Global,
-    image: Image,
-    states: u64,
-    blank: Blank,
-    out: &mut TraceOut<S>,
-) -> Status
-    requires ready { out.old.failed ≡ false }
-    requires states { states ≤ 1000000000000000 }
-    requires name { blank.name ≡ L.name }
-    requires parts { blank.parts ≡ L.parts }
-    requires whole { blank.parts ≡ 1 }
-    ensures { (files : Kept) → Replies (RunOf states image) files (shown (S.written out.old.sink) (S.faults out.old.sink))
-        result files (shown (S.written out.new.sink) (S.faults out.new.sink)) }
+    run: &Run<'a>,
+    files: &mut F,
+) -> Result<Job<'a>, Refusal>
+    requires { IsWithin (Command.Run run.now) }
+    ensures { Prepares F.held F.read_faults F.write_faults (asked (Command.Run run.now)) files.old result files.new }
 {
-    let Ok(mut machine) = Machine::new(alloc, image) else {
-        return Status::NoMemory;
+    let texts = match read_files(alloc, run.files, files) {
+        Ok(texts) => texts,
+        Err(refusal) => return Err(refusal),
     };
-    let mut steps = Steps::<L>::new(blank);
-    match machine.run(states, out, &mut steps) {
-        Ok(end) => match machine.write_finals(end, out) {
-            Ok(()) => status_of(end),
-            Err(_) => Status::WriteFault,
-        },
-        Err(_) => Status::WriteFault,
+    match read_inputs(alloc, run.inputs, files) {
+        Ok(inputs) => run_texts(alloc, run, &texts, &inputs),
+        Err(refusal) => Err(refusal),
     }
 }
 
-fn status_of(end: End) -> Status
-    ensures { result ≡ status_of end }
+// The run of the sources with some texts, over inputs with others.
+fn run_texts<'a>(
+    alloc: Global,
+    run: &Run<'a>,
+    texts: &[Vec<u8>],
+    inputs: &[Vec<u8>],
+) -> Result<Job<'a>, Refusal>
+    requires within { IsWithin (Command.Run run.now) }
+    requires count { length texts.now ≡ length run.now.files.now }
+    requires short { AllShort (map (λ t. t.items) texts.now) }
+    requires inputs { AllShort (map (λ t. t.items) inputs.now) }
+    ensures { IsPrepared (RunAnswer (map string_bytes run.now.files.now) (inputs_in run.now.inputs) run.now.states run.now.placing (map (λ t. t.items) texts.now) (map (λ t. t.items) inputs.now)) result }
 {
-    match end {
-        End::Undefined(_) => Status::Undefined,
-        _ => Status::Done,
+    linked_image();
+    match assemble_sources(alloc, run.files, texts) {
+        Ok(modules) => run_modules(alloc, run, &modules, inputs),
+        Err(refusal) => Err(refusal),
+    }
+}
+
+// The run of the image that is linked from modules.
+fn run_modules<'a>(
+    alloc: Global,
+    run: &Run<'a>,
+    modules: &[Module],
+    inputs: &[Vec<u8>],
+) -> Result<Job<'a>, Refusal>
+    requires states { run.now.states ≤ max_states }
+    requires linkable { AreLinkable (length modules.now) run.now.placing }
+    requires inputs { AllShort (map (λ t. t.items) inputs.now) }
+    ensures { IsPrepared (Placing (map string_bytes run.now.files.now) run.now.placing (RunsDriven (RunsFilled run.now.states) (inputs_in run.now.inputs) (map (λ t. t.items) inputs.now)) modules.now) result }
+{
+    match kc_link::link(alloc, modules, &run.placing) {
+        Ok(image) => match stimuli_in(alloc, run.inputs, inputs) {
+            Ok(stimuli) => Ok(Job::Run {
+                image,
+                stimuli,
+                states: run.states,
+            }),
+            Err(refusal) => Err(refusal),
+        },
+        Err(fault) => Err(link_refusal(alloc, run.files, &fault)),
     }
 }

@@ -1,25 +1,34 @@
 // Sources assembled to modules.
-ghost use Rattle.std.specs.Prelude.{◌≡◌, ◌≤◌, ◌++◌, ◌∷◌, [], IfOk, IfErr, OnOk, length, map, string_bytes};
+ghost use Rattle.std.specs.Prelude.{◌≡◌, ◌≤◌, ◌++◌, ◌∷◌, [], codes, IfOk, IfErr, OnOk, length, map, string_bytes};
 ghost use Rattle.kc_asm.specs.Assembled.{IsModule};
-ghost use Rattle.kc_files.specs.declared.status.Status.TheVariants as status;
-ghost use Rattle.kc_files.specs.Reply.{says, IsRefused};
-ghost use Rattle.kc_files.specs.Reads.{AllShort};
+ghost use Rattle.kc_kit_files.specs.declared.status.Status.TheVariants as status;
+ghost use Rattle.kc_kit_files.specs.Reply.{says, IsRefused};
+ghost use Rattle.kc_kit_files.specs.Reads.{AllShort};
+ghost use Rattle.kc_kit.specs.Lines as spec;
 ghost use Rattle.kc_kit.specs.Lines.{source_line};
 ghost use Rattle.kc_kit.specs.Sources.{AreModules, TellsFault, TellsFirst};
 
-use crate::inputs::place_text;
+use crate::input_lines::{coded, place_text};
 use kc_asm::assemble;
 use kc_base::NoMemory;
-use kc_files::{Cause, Refusal, refusal_of};
+use kc_kit_files::{Cause, Refusal, refusal_of};
 use kc_lex::SourceFault;
 use kc_obj::Module;
 use std::alloc::Global;
+
+// The place and the code of a fault of a source.
+fn fault_text(alloc: Global, line: u32, code: u8) -> Result<Vec<u8>, NoMemory>
+    ensures { IfOk result (λ text. text.items ≡ spec.place_text line (spec.coded (codes "E") code)) }
+{
+    let code = coded(alloc, b"E", code)?;
+    place_text(alloc, line, &code)
+}
 
 // The refusal of a source with a fault: its line and its code.
 fn source_refusal(alloc: Global, name: &str, line: u32, code: u8) -> Refusal
     ensures { IsRefused (λ reply. reply ≡ says status.Source (source_line name.now line code)) result }
 {
-    match place_text(alloc, line, b"E", code) {
+    match fault_text(alloc, line, code) {
         Ok(text) => refusal_of(alloc, Cause::Source, b"source ", name.as_bytes(), &text),
         Err(NoMemory) => Refusal::NoMemory,
     }

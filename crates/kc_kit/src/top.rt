@@ -2,38 +2,24 @@
 ghost use Rattle.std.specs.Prelude.{◌≡◌, ◌≢◌, ◌⊎◌, [], false, map, string_bytes, Some, None};
 ghost use Rattle.kc_base.specs.Causes.{Rose};
 ghost use Rattle.kc_base.specs.Held.{Told};
-ghost use Rattle.kc_files.specs.Outside.{Replies, kept, shown};
-ghost use Rattle.kc_words.specs.Words.{command_of};
-ghost use Rattle.kc_words.specs.Asked.{asked, IsWithin};
-ghost use Rattle.kc_kit.specs.Answer.{MayAnswer, IsAccepted, StaysBut, names_read, names_written};
+ghost use Rattle.kc_kit_files.specs.Outside.{Replied};
+ghost use Rattle.kc_kit_words.specs.Words.{command_of};
+ghost use Rattle.kc_kit_words.specs.Asked.{asked, IsWithin};
+ghost use Rattle.kc_kit.specs.Answer.{MayAnswerBy, IsAccepted, StaysBut, names_read, names_written};
 ghost use Rattle.kc_kit.specs.Jobs.{IsDoable, IsOf, IsReady};
 
-use crate::hex::{prepare_list, prepare_run};
+use crate::assemble::prepare_assemble;
+use crate::help::{HELP, VERSION};
 use crate::job::{Job, perform};
-use crate::linking::prepare_link;
-use crate::running::{prepare_object, prepare_sources};
+use crate::link::prepare_link;
+use crate::list::prepare_list;
+use crate::run::prepare_run;
+use crate::run_hex::prepare_hex;
 use kc_base::{Files, Sink};
-use kc_files::{Refusal, Status, refuse, say};
+use kc_kit_files::{Refusal, Status, refuse, say};
+use kc_kit_words::{Command, read_words};
 use kc_trace::TraceOut;
-use kc_words::{Command, read_words};
 use std::alloc::Global;
-
-/// The text of `--help`.
-const HELP: &[u8] = b"kc96 assembles, links and runs programs of the 80C196KC.
-  kc96 run NAME.. --states N      run sources, assembled and linked, for N state times
-  kc96 asm NAME --out FILE        assemble the source NAME to the object FILE
-  kc96 link OBJ.. --out FILE      link objects to the Intel hex file FILE
-       [--lines FILE]             and write which source line stands where
-  kc96 hex NAME --states N        run the Intel hex file NAME for N state times
-  kc96 dis NAME A-B               list the instructions of the hex file NAME from A to B
-  kc96 --help                     print this text
-  kc96 --version                  print the name and the version
-Where run and link may place registers, code and data, and how long the stack is:
-  [--reg A-B] [--code A-B] [--data A-B] [--stack N]
-";
-
-/// The line of `--version`.
-const VERSION: &[u8] = b"kc96 0.1.0\n";
 
 /// Does what the words ask for: reads the files that they name, prints the text of the answer, writes the files that it
 /// has, and gives its status.
@@ -46,9 +32,8 @@ pub fn kit<F: Files, S: Sink>(
     requires { out.old.failed ≡ false }
 
     // The status, what is printed and what the files hold afterwards are the answer, over what the files held.
-    ensures answer { Replies (MayAnswer (command_of (map string_bytes words.now)) (F.held files.old) (Rose (F.read_faults files.old) (F.read_faults files.new)))
-        (kept (F.held files.old) (F.write_faults files.old)) (shown (S.written out.old.sink) (S.faults out.old.sink))
-        result (kept (F.held files.new) (F.write_faults files.new)) (shown (S.written out.new.sink) (S.faults out.new.sink)) }
+    ensures answer { Replied F.held F.write_faults S.written S.faults (MayAnswerBy F.held F.read_faults (command_of (map string_bytes words.now)) files.old files.new)
+        files.old out.old.sink result files.new out.new.sink }
 
     // What is accepted, with no fault counted in this call, is done.
     ensures complete { Told (F.held files.old) (λ held. IsAccepted (command_of (map string_bytes words.now)) (map held (names_read (command_of (map string_bytes words.now))))
@@ -77,9 +62,8 @@ fn answered<F: Files, S: Sink>(
     out: &mut TraceOut<S>,
 ) -> Status
     requires { out.old.failed ≡ false }
-    ensures answer { Replies (MayAnswer (command_of (map string_bytes words.now)) (F.held files.old) (Rose (F.read_faults files.old) (F.read_faults files.new)))
-        (kept (F.held files.old) (F.write_faults files.old)) (shown (S.written out.old.sink) (S.faults out.old.sink))
-        result (kept (F.held files.new) (F.write_faults files.new)) (shown (S.written out.new.sink) (S.faults out.new.sink)) }
+    ensures answer { Replied F.held F.write_faults S.written S.faults (MayAnswerBy F.held F.read_faults (command_of (map string_bytes words.now)) files.old files.new)
+        files.old out.old.sink result files.new out.new.sink }
     ensures no_command { command_of (map string_bytes words.now) ≡ None → (result ≡ Status.Usage) ⊎ (result ≡ Status.WriteFault) }
 {
     match read_words(words) {
@@ -97,19 +81,18 @@ fn done<F: Files, S: Sink>(
 ) -> Status
     requires ready { out.old.failed ≡ false }
     requires within { IsWithin command.now }
-    ensures { Replies (MayAnswer (Some (asked command.now)) (F.held files.old) (Rose (F.read_faults files.old) (F.read_faults files.new)))
-        (kept (F.held files.old) (F.write_faults files.old)) (shown (S.written out.old.sink) (S.faults out.old.sink))
-        result (kept (F.held files.new) (F.write_faults files.new)) (shown (S.written out.new.sink) (S.faults out.new.sink)) }
+    ensures { Replied F.held F.write_faults S.written S.faults (MayAnswerBy F.held F.read_faults (Some (asked command.now)) files.old files.new)
+        files.old out.old.sink result files.new out.new.sink }
 {
     match command {
-        Command::Help => say(out, HELP, Status::Done),
-        Command::Version => say(out, VERSION, Status::Done),
+        Command::Help => say(out, HELP.as_bytes(), Status::Done),
+        Command::Version => say(out, VERSION.as_bytes(), Status::Done),
         Command::Run(run) => {
-            let prepared = prepare_sources(alloc, run, files);
+            let prepared = prepare_run(alloc, run, files);
             finish(alloc, prepared, files, out)
         }
         Command::Assemble(assemble) => {
-            let prepared = prepare_object(alloc, assemble, files);
+            let prepared = prepare_assemble(alloc, assemble, files);
             finish(alloc, prepared, files, out)
         }
         Command::Link(link) => {
@@ -117,7 +100,7 @@ fn done<F: Files, S: Sink>(
             finish(alloc, prepared, files, out)
         }
         Command::RunHex(run) => {
-            let prepared = prepare_run(alloc, run, files);
+            let prepared = prepare_hex(alloc, run, files);
             finish(alloc, prepared, files, out)
         }
         Command::List(list) => {
@@ -136,8 +119,7 @@ fn finish<F: Files, S: Sink>(
 ) -> Status
     requires ready { out.old.failed ≡ false }
     requires doable { IsReady prepared }
-    ensures answer { Replies (IsOf prepared.entry) (kept (F.held files.old) (F.write_faults files.old)) (shown (S.written out.old.sink) (S.faults out.old.sink))
-        result (kept (F.held files.new) (F.write_faults files.new)) (shown (S.written out.new.sink) (S.faults out.new.sink)) }
+    ensures answer { Replied F.held F.write_faults S.written S.faults (IsOf prepared.entry) files.old out.old.sink result files.new out.new.sink }
     ensures no_read { F.read_faults files.new ≡ F.read_faults files.old }
 {
     match prepared {

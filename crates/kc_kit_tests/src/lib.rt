@@ -2,8 +2,14 @@
 #![tactic(auto)]
 
 #[cfg(test)]
+mod board;
+#[cfg(test)]
+mod lines;
+#[cfg(test)]
 mod linking;
 #[cfg(test)]
 mod sources;
+#[cfg(test)]
+mod stimuli;
 #[cfg(test)]
 mod whole;

@@ -1,8 +1,7 @@
 // Linking as a command, over files and a sink in memory. The objects and the answers are those of an independent model.
-use crate::whole::{holds, words};
-use kc_base::{Files, MemFiles, MemSink, NoMemory};
-use kc_kit::{Status, kit};
-use kc_trace::TraceOut;
+use crate::lines::{Failing, NO_FAULT, NOTHING, answers, files, holds};
+use kc_base::{MemFiles, NoMemory};
+use kc_kit::Status;
 use std::alloc::{AllocError, Global};
 use std::test::Fail;
 
@@ -61,12 +60,8 @@ fn bytes_of(alloc: Global, digits: &str) -> Result<Vec<u8>, AllocError> {
 }
 
 // The objects by one letter each.
-fn objects(alloc: Global, failing_writes: &[u64]) -> Result<MemFiles, NoMemory> {
-    let mut files = MemFiles::new(
-        alloc,
-        Vec::new(alloc),
-        Vec::from_slice(alloc, failing_writes)?,
-    );
+fn objects(alloc: Global, failing: Failing<'_>) -> Result<MemFiles, NoMemory> {
+    let mut files = files(alloc, &[], failing)?;
     for (name, digits) in [
         ("1", NOP_1),
         ("2", NOP_2),
@@ -85,29 +80,6 @@ fn objects(alloc: Global, failing_writes: &[u64]) -> Result<MemFiles, NoMemory> 
     Ok(files)
 }
 
-/// Runs a command line over the objects, and tells whether its status, its text, and what the files `h` and `m` hold
-/// afterwards are these; `-` stands for no file.
-fn answers(
-    alloc: Global,
-    line: &str,
-    failing_writes: &[u64],
-    status: Status,
-    text: &str,
-    hex: &str,
-    map: &str,
-) -> Result<bool, NoMemory> {
-    let words = words(alloc, line)?;
-    let mut files = objects(alloc, failing_writes)?;
-    let mut out = TraceOut::new(MemSink::new(alloc, 4096, Vec::new(alloc))?);
-    let given = kit(alloc, &words, &mut files, &mut out);
-    Ok(
-        given == status
-            && out.sink().written() == text.as_bytes()
-            && holds(alloc, &mut files, "h", hex.as_bytes())
-            && holds(alloc, &mut files, "m", map.as_bytes()),
-    )
-}
-
 #[test]
 fn objects_are_linked(rt: HostRuntime) -> Result<(), Fail> {
     let a = rt.alloc();
@@ -123,10 +95,11 @@ fn objects_are_linked(rt: HostRuntime) -> Result<(), Fail> {
             "3000 NONAME 3\n",
         ),
     ] {
-        assert!(rt;
-            answers(a, line, &[], Status::Done, "", hex, map)?,
-            "{line}"
-        );
+        let mut files = objects(a, NO_FAULT)?;
+        let right = answers(a, &mut files, NO_FAULT, line, Status::Done, "")?;
+        assert!(rt; right, "{line}");
+        assert!(rt; holds(a, &mut files, "h", hex.as_bytes()), "{line}");
+        assert!(rt; holds(a, &mut files, "m", map.as_bytes()), "{line}");
     }
     Ok(())
 }
@@ -152,7 +125,11 @@ fn broken_rules_are_told_and_nothing_is_written(rt: HostRuntime) -> Result<(), F
         ("link 1 z y --out h", Status::Missing, "missing z\n"),
         ("link 1 --out h --lines h", Status::Usage, "usage\n"),
     ] {
-        assert!(rt; answers(a, line, &[], status, text, "-", "-")?, "{line}");
+        let mut files = objects(a, NO_FAULT)?;
+        let right = answers(a, &mut files, NO_FAULT, line, status, text)?;
+        assert!(rt; right, "{line}");
+        assert!(rt; holds(a, &mut files, "h", NOTHING), "{line}");
+        assert!(rt; holds(a, &mut files, "m", NOTHING), "{line}");
     }
     Ok(())
 }
@@ -169,18 +146,15 @@ fn all_files_are_read_before_one_is_judged(rt: HostRuntime) -> Result<(), Fail> 
         ("link f z --out h", 30, "missing z\n", Status::Missing),
         ("link f f --out h", 30, "input f:30: O02\n", Status::Input),
     ] {
-        let words = words(a, line)?;
-        let mut files = MemFiles::new(a, Vec::new(a), Vec::new(a));
+        let mut files = files(a, &[], NO_FAULT)?;
         let mut front = Vec::new(a);
         for byte in whole.iter().take(length) {
             front.push(*byte)?;
         }
         files.put(a, "f", &front)?;
-        let mut out = TraceOut::new(MemSink::new(a, 4096, Vec::new(a))?);
-        let given = kit(a, &words, &mut files, &mut out);
-        assert!(rt; given == status, "{line}");
-        assert!(rt; out.sink().written() == text.as_bytes(), "{line}");
-        assert!(rt; holds(a, &mut files, "h", b"-"), "{line}");
+        let right = answers(a, &mut files, NO_FAULT, line, status, text)?;
+        assert!(rt; right, "{line}");
+        assert!(rt; holds(a, &mut files, "h", NOTHING), "{line}");
     }
     Ok(())
 }
@@ -189,7 +163,12 @@ fn all_files_are_read_before_one_is_judged(rt: HostRuntime) -> Result<(), Fail> 
 fn a_failing_write_prints_nothing(rt: HostRuntime) -> Result<(), Fail> {
     let a = rt.alloc();
     let line = "link 2 --out h --lines m";
-    assert!(rt; answers(a, line, &[1], Status::WriteFault, "", "-", "-")?);
-    assert!(rt; answers(a, line, &[2], Status::WriteFault, "", NOP_HEX, "-")?);
+    for (writes, hex) in [(&[1], NOTHING), (&[2], NOP_HEX.as_bytes())] {
+        let failing = Failing { writes, ..NO_FAULT };
+        let mut files = objects(a, failing)?;
+        assert!(rt; answers(a, &mut files, failing, line, Status::WriteFault, "")?);
+        assert!(rt; holds(a, &mut files, "h", hex));
+        assert!(rt; holds(a, &mut files, "m", NOTHING));
+    }
     Ok(())
 }

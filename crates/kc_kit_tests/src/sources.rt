@@ -1,13 +1,10 @@
 // Sources as commands, over files and a sink in memory. The answers are those of an independent model.
-use crate::whole::{ZEROS, holds, trace, words};
-use kc_base::{MemFiles, MemSink, NoMemory};
-use kc_kit::{Status, kit};
-use kc_trace::TraceOut;
-use std::alloc::Global;
+use crate::lines::{Failing, NO_FAULT, NOTHING, answers, files, holds, trace};
+use kc_kit::Status;
 use std::test::Fail;
 
 // Sources by their names.
-static SOURCES: [(&str, &str); 26] = [
+pub(crate) static SOURCES: [(&str, &str); 26] = [
     ("one", " CSEG AT 2080H\n NOP\n END\n"),
     ("empty", ""),
     ("twice", "A: NOP\nA: NOP\n END\n"),
@@ -70,147 +67,92 @@ const JUMP_HEX: &[u8] = b":10208000E77D00FFFFFFFFFFFFFFFFFFFFFFFFFFF9\n:00000001
 const ENGINE_HEX: &[u8] =
     b":10200000FFFFFFFF9420FFFFFFFFFFFFFFFFFFFF2A\n:10204000FFFFFFFFFFFF4000FFFFFFFFFFFFFFFF5E\n:10208000A1100218EF2300B10103B10115B10C0832\n:10209000FB27FEFFF4A0041CB13606450A001C0411\n:1020A000B10606450E001C04F5F0B10114A10800AC\n:1020B00004B10014A1030540A11C0042A16000442A\n:1020C000B10146EDF0FFFFFFFFFFFFFFFFFFFFFF46\n:00000001FF\n";
 
-const NOTHING: &[u8] = b"-";
-
-fn sources(alloc: Global, failing_writes: &[u64]) -> Result<MemFiles, NoMemory> {
-    let mut files = MemFiles::new(
-        alloc,
-        Vec::new(alloc),
-        Vec::from_slice(alloc, failing_writes)?,
-    );
-    for (name, text) in &SOURCES {
-        files.put(alloc, name, text.as_bytes())?;
-    }
-    Ok(files)
-}
-
-/// Does a command line, and tells whether its status and its text are these, and what a file holds afterwards; `-` stands
-/// for no file.
-fn answers(
-    alloc: Global,
-    files: &mut MemFiles,
-    line: &str,
-    status: Status,
-    text: &str,
-    file: &str,
-    bytes: &[u8],
-) -> Result<bool, NoMemory> {
-    let words = words(alloc, line)?;
-    let mut out = TraceOut::new(MemSink::new(alloc, 4096, Vec::new(alloc))?);
-    let given = kit(alloc, &words, files, &mut out);
-    Ok(
-        given == status
-            && out.sink().written() == text.as_bytes()
-            && holds(alloc, files, file, bytes),
-    )
-}
+// Runs: the words, the status, the lines before the register file, and its bytes that are other than 0.
+static RUNS: [(&str, Status, &str, &[(usize, &str)]); 11] = [
+    (
+        "run one --states 1",
+        Status::Done,
+        "X 1 spent\nPC 2080\nPSW 0000\nWSR 00\n",
+        &[],
+    ),
+    (
+        "run one r --states 1 --reg 1AH-1FFH",
+        Status::Done,
+        "X 1 spent\nPC 2080\nPSW 0000\nWSR 00\n",
+        &[],
+    ),
+    (
+        "run caller routine --states 30",
+        Status::Done,
+        "X 21 reset\nPC 2095\nPSW 0000\nWSR 00\n",
+        &[(0x18, "FEFF"), (0x20, "3412")],
+    ),
+    (
+        "run routine caller --states 30",
+        Status::Done,
+        "X 21 reset\nPC 2095\nPSW 0000\nWSR 00\n",
+        &[(0x18, "FEFF"), (0x20, "3412")],
+    ),
+    (
+        "run caller routine --states 30 --code 3000H-3FFFH",
+        Status::Done,
+        "X 3 reset\nPC 2081\nPSW 0000\nWSR 00\n",
+        &[],
+    ),
+    (
+        "run main crank log --states 4",
+        Status::Done,
+        "X 4 spent\nPC 2080\nPSW 0000\nWSR 00\n",
+        &[],
+    ),
+    (
+        "run divide --states 100",
+        Status::Undefined,
+        "U 23 10 2080\nX 23 undefined\nPC 2080\nPSW 0000\nWSR 00\n",
+        &[],
+    ),
+    (
+        "run odd --states 100",
+        Status::Undefined,
+        "U 3 1 2080\nX 3 undefined\nPC 2080\nPSW 0000\nWSR 00\n",
+        &[],
+    ),
+    (
+        "run none --states 100",
+        Status::Undefined,
+        "U 1 3 2080\nX 1 undefined\nPC 2080\nPSW 0000\nWSR 00\n",
+        &[],
+    ),
+    (
+        "run trap --states 100",
+        Status::Done,
+        "I 13 17 2081\nX 100 spent\nPC 2100\nPSW 0000\nWSR 00\n",
+        &[(0x18, "FEFF")],
+    ),
+    (
+        "run window --states 17",
+        Status::Done,
+        "X 17 spent\nPC 208B\nPSW 0000\nWSR 48\n",
+        &[(0xE0, "11"), (0x100, "11")],
+    ),
+];
 
 #[test]
 fn sources_are_linked_and_run(rt: HostRuntime) -> Result<(), Fail> {
     let a = rt.alloc();
-    let mut files = sources(a, &[])?;
-    let called = "000000000000000000000000000000000000000000000000FEFF000000000000";
-    let loaded = "3412000000000000000000000000000000000000000000000000000000000000";
-    for (line, status, end, first, second) in [
-        (
-            "run one --states 1",
-            Status::Done,
-            "X 1 spent\nPC 2080\nPSW 0000\nWSR 00\n",
-            ZEROS,
-            ZEROS,
-        ),
-        (
-            "run one r --states 1 --reg 1AH-1FFH",
-            Status::Done,
-            "X 1 spent\nPC 2080\nPSW 0000\nWSR 00\n",
-            ZEROS,
-            ZEROS,
-        ),
-        (
-            "run caller routine --states 30",
-            Status::Done,
-            "X 21 reset\nPC 2095\nPSW 0000\nWSR 00\n",
-            called,
-            loaded,
-        ),
-        (
-            "run routine caller --states 30",
-            Status::Done,
-            "X 21 reset\nPC 2095\nPSW 0000\nWSR 00\n",
-            called,
-            loaded,
-        ),
-        (
-            "run caller routine --states 30 --code 3000H-3FFFH",
-            Status::Done,
-            "X 3 reset\nPC 2081\nPSW 0000\nWSR 00\n",
-            ZEROS,
-            ZEROS,
-        ),
-        (
-            "run main crank log --states 4",
-            Status::Done,
-            "X 4 spent\nPC 2080\nPSW 0000\nWSR 00\n",
-            ZEROS,
-            ZEROS,
-        ),
-        (
-            "run divide --states 100",
-            Status::Undefined,
-            "U 23 10 2080\nX 23 undefined\nPC 2080\nPSW 0000\nWSR 00\n",
-            ZEROS,
-            ZEROS,
-        ),
-        (
-            "run odd --states 100",
-            Status::Undefined,
-            "U 3 1 2080\nX 3 undefined\nPC 2080\nPSW 0000\nWSR 00\n",
-            ZEROS,
-            ZEROS,
-        ),
-        (
-            "run none --states 100",
-            Status::Undefined,
-            "U 1 3 2080\nX 1 undefined\nPC 2080\nPSW 0000\nWSR 00\n",
-            ZEROS,
-            ZEROS,
-        ),
-        (
-            "run trap --states 100",
-            Status::Done,
-            "I 13 17 2081\nX 100 spent\nPC 2100\nPSW 0000\nWSR 00\n",
-            called,
-            ZEROS,
-        ),
-    ] {
-        let text = trace(a, end, &[("000", first), ("020", second)])?;
-        let right = answers(a, &mut files, line, status, text.as_str(), "h", NOTHING)?;
+    let mut files = files(a, &SOURCES, NO_FAULT)?;
+    for (line, status, end, registers) in &RUNS {
+        let text = trace(a, end, registers)?;
+        let right = answers(a, &mut files, NO_FAULT, line, *status, text.as_str())?;
         assert!(rt; right, "{line}");
     }
-    let stored = "1100000000000000000000000000000000000000000000000000000000000000";
-    let text = trace(
-        a,
-        "X 17 spent\nPC 208B\nPSW 0000\nWSR 48\n",
-        &[("0E0", stored), ("100", stored)],
-    )?;
-    assert!(rt;
-        answers(
-            a,
-            &mut files,
-            "run window --states 17",
-            Status::Done,
-            text.as_str(),
-            "h",
-            NOTHING
-        )?
-    );
     Ok(())
 }
 
 #[test]
 fn the_first_fault_of_the_first_faulty_source_is_told(rt: HostRuntime) -> Result<(), Fail> {
     let a = rt.alloc();
-    let mut files = sources(a, &[])?;
+    let mut files = files(a, &SOURCES, NO_FAULT)?;
     for (line, status, text) in [
         (
             "run empty --states 1",
@@ -266,8 +208,9 @@ fn the_first_fault_of_the_first_faulty_source_is_told(rt: HostRuntime) -> Result
             "link capacity stack -\n",
         ),
     ] {
-        let right = answers(a, &mut files, line, status, text, "h", NOTHING)?;
+        let right = answers(a, &mut files, NO_FAULT, line, status, text)?;
         assert!(rt; right, "{line}");
+        assert!(rt; holds(a, &mut files, "h", NOTHING), "{line}");
     }
     Ok(())
 }
@@ -275,7 +218,7 @@ fn the_first_fault_of_the_first_faulty_source_is_told(rt: HostRuntime) -> Result
 #[test]
 fn objects_are_written_and_linked(rt: HostRuntime) -> Result<(), Fail> {
     let a = rt.alloc();
-    let mut files = sources(a, &[])?;
+    let mut files = files(a, &SOURCES, NO_FAULT)?;
     for (line, file, bytes) in [
         ("asm jump --out h", "h", JUMP),
         ("link h --out h2", "h2", JUMP_HEX),
@@ -284,38 +227,26 @@ fn objects_are_written_and_linked(rt: HostRuntime) -> Result<(), Fail> {
         ("asm log --out 3", "z", NOTHING),
         ("link 1 2 3 --out e", "e", ENGINE_HEX),
     ] {
-        let right = answers(a, &mut files, line, Status::Done, "", file, bytes)?;
+        let right = answers(a, &mut files, NO_FAULT, line, Status::Done, "")?;
         assert!(rt; right, "{line}");
+        assert!(rt; holds(a, &mut files, file, bytes), "{line}");
     }
     let text = trace(a, "X 4 spent\nPC 2080\nPSW 0000\nWSR 00\n", &[])?;
-    assert!(rt;
-        answers(
-            a,
-            &mut files,
-            "hex e --states 4",
-            Status::Done,
-            text.as_str(),
-            "z",
-            NOTHING
-        )?
-    );
+    let line = "hex e --states 4";
+    assert!(rt; answers(a, &mut files, NO_FAULT, line, Status::Done, text.as_str())?);
     Ok(())
 }
 
 #[test]
 fn a_failing_write_of_an_object_prints_nothing(rt: HostRuntime) -> Result<(), Fail> {
     let a = rt.alloc();
-    let mut files = sources(a, &[1])?;
-    assert!(rt;
-        answers(
-            a,
-            &mut files,
-            "asm one --out h",
-            Status::WriteFault,
-            "",
-            "h",
-            NOTHING
-        )?
-    );
+    let first = Failing {
+        writes: &[1],
+        ..NO_FAULT
+    };
+    let mut files = files(a, &SOURCES, first)?;
+    let line = "asm one --out h";
+    assert!(rt; answers(a, &mut files, NO_FAULT, line, Status::WriteFault, "")?);
+    assert!(rt; holds(a, &mut files, "h", NOTHING));
     Ok(())
 }

@@ -1,8 +1,6 @@
 // Whole commands over files and a sink in memory. The texts were worked by hand.
-use kc_base::{Files, MemFiles, MemSink, NoMemory};
-use kc_kit::{Status, kit};
-use kc_trace::TraceOut;
-use std::alloc::{AllocError, Global};
+use crate::lines::{Failing, NO_FAULT, answers, files, trace};
+use kc_kit::{HELP, Status, VERSION};
 use std::test::Fail;
 
 const ONE_NOP: &str = " CSEG AT 2080H\n NOP\n END\n";
@@ -11,19 +9,11 @@ const TIMER: &str = " CSEG AT 2080H\n NOP\n NOP\n NOP\n LD 20H,0AH\n END\n";
 
 const NO_STATEMENT: &str = " CSEG AT 2080H\n END\n";
 
-pub(crate) const ZEROS: &str = "0000000000000000000000000000000000000000000000000000000000000000";
-
-pub(crate) fn words(alloc: Global, line: &str) -> Result<Vec<String>, AllocError> {
-    let mut words = Vec::new(alloc);
-    for word in line.split_whitespace() {
-        words.push(String::from_str(alloc, word)?)?;
-    }
-    Ok(words)
-}
-
-fn numbers(alloc: Global, items: &[u64]) -> Result<Vec<u64>, AllocError> {
-    Vec::from_slice(alloc, items)
-}
+const FIRST_READ: Failing<'static> = Failing {
+    reads: &[1],
+    writes: &[],
+    output: &[],
+};
 
 // The hex file of a no operation at 2080H, and that of the first pulse program.
 const NOP_HEX: &str = ":01208000FD62\n:00000001FF\n";
@@ -33,68 +23,16 @@ const PULSE_HEX: &str = ":09208000B12006A10A000427FEAC\r\n\n:00000001ff";
 const PULSE_LISTING: &str =
     "2080 B12006 LDB 06H,#20H\n2083 A10A0004 LD 04H,#000AH\n2087 27FE SJMP 2087H\n";
 
-/// Runs a command line over one file, and tells whether its status and its text are these.
-fn answers(
-    alloc: Global,
-    line: &str,
-    source: &[u8],
-    failing_reads: &[u64],
-    failing_writes: &[u64],
-    status: Status,
-    text: &str,
-) -> Result<bool, NoMemory> {
-    let words = words(alloc, line)?;
-    let mut files = MemFiles::new(alloc, numbers(alloc, failing_reads)?, Vec::new(alloc));
-    files.put(alloc, "a.a96", source)?;
-    let sink = MemSink::new(alloc, 4096, numbers(alloc, failing_writes)?)?;
-    let mut out = TraceOut::new(sink);
-    let given = kit(alloc, &words, &mut files, &mut out);
-    Ok(given == status && out.sink().written() == text.as_bytes())
-}
-
-/// Whether a file holds these bytes; `-` stands for no file.
-pub(crate) fn holds(alloc: Global, files: &mut MemFiles, name: &str, bytes: &[u8]) -> bool {
-    match files.read(alloc, name) {
-        Ok(held) => held.as_slice() == bytes,
-        Err(_) => bytes == b"-".as_slice(),
-    }
-}
-
-fn row<'a>(base: &str, rows: &[(&str, &'a str)]) -> &'a str {
-    for (name, row) in rows {
-        if *name == base {
-            return row;
-        }
-    }
-    ZEROS
-}
-
-/// The text of a run: its end, and the register file, of which these rows are other than 0.
-pub(crate) fn trace(alloc: Global, end: &str, rows: &[(&str, &str)]) -> Result<String, AllocError> {
-    let mut text = String::from_str(alloc, end)?;
-    for base in [
-        "000", "020", "040", "060", "080", "0A0", "0C0", "0E0", "100", "120", "140", "160", "180",
-        "1A0", "1C0", "1E0",
-    ] {
-        text.push_str("R ")?;
-        text.push_str(base)?;
-        text.push_str(" ")?;
-        text.push_str(row(base, rows))?;
-        text.push_str("\n")?;
-    }
-    Ok(text)
-}
-
 #[test]
 fn sources_are_run(rt: HostRuntime) -> Result<(), Fail> {
     let a = rt.alloc();
-    let ticks = "0100000000000000000000000000000000000000000000000000000000000000";
-    for (line, source, end, row) in [
+    let ticks = "01";
+    for (line, source, end, register) in [
         (
             "run a.a96 --states 1",
             ONE_NOP,
             "X 1 spent\nPC 2080\nPSW 0000\nWSR 00\n",
-            ZEROS,
+            "00",
         ),
         (
             "run a.a96 --states 10",
@@ -112,19 +50,12 @@ fn sources_are_run(rt: HostRuntime) -> Result<(), Fail> {
             "run a.a96 --states 9",
             NO_STATEMENT,
             "X 3 reset\nPC 2081\nPSW 0000\nWSR 00\n",
-            ZEROS,
+            "00",
         ),
     ] {
-        let text = trace(a, end, &[("020", row)])?;
-        let right = answers(
-            a,
-            line,
-            source.as_bytes(),
-            &[],
-            &[],
-            Status::Done,
-            text.as_str(),
-        )?;
+        let text = trace(a, end, &[(0x20, register)])?;
+        let mut files = files(a, &[("a.a96", source)], NO_FAULT)?;
+        let right = answers(a, &mut files, NO_FAULT, line, Status::Done, text.as_str())?;
         assert!(rt; right, "{line}");
     }
     Ok(())
@@ -139,8 +70,8 @@ fn words_are_judged_before_files(rt: HostRuntime) -> Result<(), Fail> {
         "hex a.a96 --states 5D",
         "dis a.a96 1FFFH-2080H",
     ] {
-        let source = ONE_NOP.as_bytes();
-        let right = answers(a, line, source, &[1], &[], Status::Usage, "usage\n")?;
+        let mut files = files(a, &[("a.a96", ONE_NOP)], FIRST_READ)?;
+        let right = answers(a, &mut files, NO_FAULT, line, Status::Usage, "usage\n")?;
         assert!(rt; right, "{line}");
     }
     Ok(())
@@ -149,65 +80,59 @@ fn words_are_judged_before_files(rt: HostRuntime) -> Result<(), Fail> {
 #[test]
 fn help_and_version_are_told(rt: HostRuntime) -> Result<(), Fail> {
     let a = rt.alloc();
-    let help = "kc96 assembles, links and runs programs of the 80C196KC.
-  kc96 run NAME.. --states N      run sources, assembled and linked, for N state times
-  kc96 asm NAME --out FILE        assemble the source NAME to the object FILE
-  kc96 link OBJ.. --out FILE      link objects to the Intel hex file FILE
-       [--lines FILE]             and write which source line stands where
-  kc96 hex NAME --states N        run the Intel hex file NAME for N state times
-  kc96 dis NAME A-B               list the instructions of the hex file NAME from A to B
-  kc96 --help                     print this text
-  kc96 --version                  print the name and the version
-Where run and link may place registers, code and data, and how long the stack is:
-  [--reg A-B] [--code A-B] [--data A-B] [--stack N]
-";
-    assert!(rt; answers(a, "--help", b"", &[1], &[], Status::Done, help)?);
-    assert!(rt; answers(a, "--version", b"", &[1], &[], Status::Done, "kc96 0.1.0\n")?);
+    let mut files = files(a, &[], FIRST_READ)?;
+    assert!(rt; answers(a, &mut files, NO_FAULT, "--help", Status::Done, HELP)?);
+    assert!(rt; answers(a, &mut files, NO_FAULT, "--version", Status::Done, VERSION)?);
     Ok(())
 }
 
 #[test]
 fn faults_have_their_status(rt: HostRuntime) -> Result<(), Fail> {
     let a = rt.alloc();
-    let line = "run a.a96 --states 1";
-    let source = ONE_NOP.as_bytes();
-    let long = vec![in a; 32u8; 1_048_577]?;
-    let third = "X 1 spent\nPC 2080\n";
-    assert!(rt; answers(a, line, source, &[], &[3], Status::WriteFault, third)?);
-    assert!(rt;
-        answers(
-            a,
-            line,
-            source,
-            &[1],
-            &[],
+    let third = Failing {
+        output: &[3],
+        ..NO_FAULT
+    };
+    let first = Failing {
+        output: &[1],
+        ..NO_FAULT
+    };
+    for (line, failing, status, text) in [
+        (
+            "run a.a96 --states 1",
+            third,
+            Status::WriteFault,
+            "X 1 spent\nPC 2080\n",
+        ),
+        (
+            "run a.a96 --states 1",
+            FIRST_READ,
             Status::ReadFault,
-            "read a.a96\n"
-        )?
-    );
-    assert!(rt;
-        answers(
-            a,
+            "read a.a96\n",
+        ),
+        (
             "run b.a96 --states 1",
-            source,
-            &[],
-            &[],
+            NO_FAULT,
             Status::Missing,
-            "missing b.a96\n"
-        )?
-    );
-    assert!(rt;
-        answers(
-            a,
-            line,
-            &long,
-            &[],
-            &[],
-            Status::Input,
-            "input a.a96:0: LONG\n"
-        )?
-    );
-    assert!(rt; answers(a, "", source, &[], &[1], Status::WriteFault, "")?);
+            "missing b.a96\n",
+        ),
+        ("", first, Status::WriteFault, ""),
+    ] {
+        let mut files = files(a, &[("a.a96", ONE_NOP)], failing)?;
+        let right = answers(a, &mut files, failing, line, status, text)?;
+        assert!(rt; right, "{line}");
+    }
+    Ok(())
+}
+
+#[test]
+fn a_file_has_up_to_1048576_bytes(rt: HostRuntime) -> Result<(), Fail> {
+    let a = rt.alloc();
+    let mut files = files(a, &[], NO_FAULT)?;
+    files.put(a, "a.a96", &vec![in a; 32u8; 1_048_577]?)?;
+    let line = "run a.a96 --states 1";
+    let long = "input a.a96:0: LONG\n";
+    assert!(rt; answers(a, &mut files, NO_FAULT, line, Status::Input, long)?);
     Ok(())
 }
 
@@ -260,7 +185,8 @@ fn hex_files_are_run_and_listed(rt: HostRuntime) -> Result<(), Fail> {
             "missing b.a96\n",
         ),
     ] {
-        let right = answers(a, line, source.as_bytes(), &[], &[], status, text)?;
+        let mut files = files(a, &[("a.a96", source)], NO_FAULT)?;
+        let right = answers(a, &mut files, NO_FAULT, line, status, text)?;
         assert!(rt; right, "{line}");
     }
     Ok(())
@@ -269,20 +195,18 @@ fn hex_files_are_run_and_listed(rt: HostRuntime) -> Result<(), Fail> {
 #[test]
 fn listings_end_where_the_sink_fails(rt: HostRuntime) -> Result<(), Fail> {
     let a = rt.alloc();
-    let line = "dis a.a96 2080H-2088H";
-    let first = "2080 B12006 LDB 06H,#20H\n";
-    let source = PULSE_HEX.as_bytes();
-    assert!(rt; answers(a, line, source, &[], &[2], Status::WriteFault, first)?);
-    assert!(rt;
-        answers(
-            a,
-            line,
-            source,
-            &[1],
-            &[],
-            Status::ReadFault,
-            "read a.a96\n"
-        )?
-    );
+    let second = Failing {
+        output: &[2],
+        ..NO_FAULT
+    };
+    for (failing, status, text) in [
+        (second, Status::WriteFault, "2080 B12006 LDB 06H,#20H\n"),
+        (FIRST_READ, Status::ReadFault, "read a.a96\n"),
+    ] {
+        let mut files = files(a, &[("a.a96", PULSE_HEX)], failing)?;
+        let line = "dis a.a96 2080H-2088H";
+        let right = answers(a, &mut files, failing, line, status, text)?;
+        assert!(rt; right, "{text}");
+    }
     Ok(())
 }

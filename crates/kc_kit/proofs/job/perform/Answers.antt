@@ -1,16 +1,16 @@
 use Rattle.std.proofs.Common.{◌≡◌, ◌∷◌, ap, sym, ◌∙◌}
-use Rattle.kc_files.specs.Reply.{Reply}
-use Rattle.kc_files.specs.Outside.{kept, shown}
-use Rattle.kc_files.proofs.ReplyLemmas.{Replies-widen}
-use Rattle.kc_kit.specs.Answer.{ListingOf}
-use Rattle.kc_kit.specs.Sources.{RunOf}
+use Rattle.kc_kit_files.specs.Reply.{Reply}
+use Rattle.kc_kit_files.specs.Outside.{kept, shown}
+use Rattle.kc_kit_files.proofs.ReplyLemmas.{Replies-widen}
+use Rattle.kc_kit.specs.Hex.{ListingOf}
 use Rattle.kc_kit.specs.Jobs.{does, written, maybe_written}
+use Rattle.kc_kit.specs.Running.{RunOf}
 use Rattle.kc_kit.proofs.LinkLemmas.{Replies-written}
 use Rattle.kc_kit.proofs.job.perform.Goals as goal
 
 pub returns-in-Run-clause-answer : goal.returns-in-Run-clause-answer
 returns-in-Run-clause-answer g c =
-    Replies-widen (RunOf c.in-Run.states c.in-Run.image) (λ (reply : Reply). reply ≡ does c.args.job) _ _ _ _ _ (λ r e. e ∙ sym (ap does c.in-Run.is))
+    Replies-widen (RunOf c.in-Run.states c.in-Run.stimuli c.in-Run.image) (λ (reply : Reply). reply ≡ does c.args.job) _ _ _ _ _ (λ r e. e ∙ sym (ap does c.in-Run.is))
     (c.run_image.ensures (kept (g.F.Files.held c.args.files.now) (g.F.Files.write_faults c.args.files.now)))
 
 pub returns-in-List-clause-answer : goal.returns-in-List-clause-answer

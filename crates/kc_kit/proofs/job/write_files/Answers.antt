@@ -1,7 +1,7 @@
 use Rattle.std.proofs.Common.{◌∷◌, sym, subst}
 use Rattle.std.specs.Prelude.{[]}
-use Rattle.kc_files.specs.Outside.{kept}
-use Rattle.kc_files.specs.declared.status.Status.TheVariants as status
+use Rattle.kc_kit_files.specs.Outside.{kept}
+use Rattle.kc_kit_files.specs.declared.status.Status.TheVariants as status
 use Rattle.kc_kit.specs.Jobs.{AreWritten, written, maybe_written}
 use Rattle.kc_kit.proofs.LinkLemmas.{written-none, written-more, written-one}
 use Rattle.kc_kit.proofs.job.write_files.Goals as goal

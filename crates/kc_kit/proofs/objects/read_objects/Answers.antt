@@ -1,8 +1,8 @@
 use Rattle.std.proofs.Common.{◌≡◌, ◌≤◌, ◌<◌, ◌+◌, ◌∷◌, [], ◌∙◌, ap, sym, subst, length, drop, arith, Err}
 use Rattle.std.proofs.lemmas.List.{length-append}
-use Rattle.kc_files.specs.Reply.{Reply}
-use Rattle.kc_files.proofs.ReadLemmas.{refused-widen}
-use Rattle.kc_kit.specs.Linking.{modules_of, object_of}
+use Rattle.kc_kit_files.specs.Reply.{Reply}
+use Rattle.kc_kit_files.proofs.ReadLemmas.{refused-widen}
+use Rattle.kc_kit.specs.Objects.{modules_of, object_of}
 use Rattle.kc_kit.proofs.LinkLemmas.{prepend, names_in, texts_in, object-next, object-stop, short-at}
 use Rattle.kc_kit.proofs.objects.read_objects.Goals as goal
 

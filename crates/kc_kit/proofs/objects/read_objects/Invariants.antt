@@ -1,5 +1,5 @@
 use Rattle.std.proofs.Common.{◌≡◌, drop, length}
-use Rattle.kc_kit.specs.Linking.{modules_of, object_of}
+use Rattle.kc_kit.specs.Objects.{modules_of, object_of}
 use Rattle.kc_kit.proofs.LinkLemmas.{prepend, names_in, texts_in}
 use Rattle.kc_kit.proofs.objects.read_objects.Given as goal
 

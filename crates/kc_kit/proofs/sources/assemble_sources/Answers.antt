@@ -1,7 +1,7 @@
 use Rattle.std.proofs.Common.{◌≤◌, ◌<◌, ◌+◌, ◌∷◌, [], ◌∙◌, ap, sym, subst, length, arith}
 use Rattle.std.proofs.lemmas.List.{length-append}
 use Rattle.kc_asm.specs.Assembled.{IsModule}
-use Rattle.kc_files.proofs.ReadLemmas.{refused-widen}
+use Rattle.kc_kit_files.proofs.ReadLemmas.{refused-widen}
 use Rattle.kc_kit.specs.Sources.{TellsFault, TellsFirst}
 use Rattle.kc_kit.proofs.LinkLemmas.{names_in, texts_in, short-at}
 use Rattle.kc_kit.proofs.SourceLemmas.{onward-next, onward-stop, onward-end}

@@ -1,12 +1,12 @@
 use Rattle.std.proofs.Common.{◌≡◌, [], inl, subst, map, string_bytes}
 use Rattle.kc_base.specs.Causes.{Rose}
-use Rattle.kc_files.specs.declared.status.Status.TheVariants as status
-use Rattle.kc_files.specs.Reply.{Reply, says}
-use Rattle.kc_files.specs.Outside.{kept}
-use Rattle.kc_files.proofs.ReplyLemmas.{Replies-widen}
-use Rattle.kc_words.specs.Words.{command_of}
-use Rattle.kc_kit.specs.Lines.{usage_line}
+use Rattle.kc_kit_files.specs.declared.status.Status.TheVariants as status
+use Rattle.kc_kit_files.specs.Reply.{Reply, says}
+use Rattle.kc_kit_files.specs.Outside.{kept}
+use Rattle.kc_kit_files.proofs.ReplyLemmas.{Replies-widen}
+use Rattle.kc_kit_words.specs.Words.{command_of}
 use Rattle.kc_kit.specs.Answer.{MayAnswer}
+use Rattle.kc_kit.specs.Lines.{usage_line}
 use Rattle.kc_kit.proofs.LinkLemmas.{holds-none}
 use Rattle.kc_kit.proofs.top.answered.Goals as goal
 

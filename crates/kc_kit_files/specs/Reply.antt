@@ -1,0 +1,62 @@
+-- What a command answers: a status, a text that is printed, and files that are written, in this order (this kit's own).
+use Rattle.std.specs.Prelude.{◌≡◌, ℕ, List, [], ◌∷◌, Result, Ok, Err}
+use Rattle.kc_kit_files.specs.declared.status.Status.{Status}
+use Rattle.kc_kit_files.specs.declared.status.Status.TheVariants as status
+use Rattle.kc_kit_files.specs.declared.refusal.Cause.{Cause}
+use Rattle.kc_kit_files.specs.declared.refusal.Cause.TheVariants as cause
+use Rattle.kc_kit_files.specs.declared.refusal.Refusal.{Refusal}
+use Rattle.kc_kit_files.specs.declared.refusal.Refusal.TheVariants as refusals
+
+-- a file that is written
+pub record Write : Type 0 where
+  pub name : List ℕ
+  pub bytes : List ℕ
+
+abbrev pub write : List ℕ → List ℕ → Write
+write name bytes = record { name = name; bytes = bytes }
+
+pub record Reply : Type 0 where
+  pub status : Status
+  pub text : List ℕ
+  pub writes : List Write
+
+-- this status with this text, and no file
+abbrev pub says : Status → List ℕ → Reply
+says status text = record { status = status; text = text; writes = [] }
+
+-- these files, and no text
+abbrev pub done_writing : List Write → Reply
+done_writing writes = record { status = status.Done; text = []; writes = writes }
+
+-- a step gives a value, or a reply; with the value the answer goes on
+abbrev pub Then : {A : Type 0} → Result A Reply → (A → Reply → Type 0) → Reply → Type 0
+Then (Ok a) may reply = may a reply
+Then (Err refusal) may reply = reply ≡ refusal
+
+-- the values of steps, or the first reply
+abbrev pub before : {A : Type 0} → A → Result (List A) Reply → Result (List A) Reply
+before a (Ok more) = Ok (a ∷ more)
+before a (Err reply) = Err reply
+
+abbrev pub joined : {A : Type 0} → Result A Reply → Result (List A) Reply → Result (List A) Reply
+joined (Ok a) others = before a others
+joined (Err reply) others = Err reply
+
+-- the status of a refusal
+abbrev pub status_for : Cause → Status
+status_for cause.Usage = status.Usage
+status_for cause.Missing = status.Missing
+status_for cause.Source = status.Source
+status_for cause.Input = status.Input
+status_for cause.Link = status.Link
+status_for cause.ReadFault = status.ReadFault
+
+-- a refusal is a reply that may be given, or want of memory
+abbrev pub IsRefused : (Reply → Type 0) → Refusal → Type 0
+IsRefused may (refusals.Says cause line) = may (says (status_for cause) line.items)
+IsRefused may refusals.NoMemory = Unit {0}
+
+-- the reply of a refusal
+abbrev pub IsSaid : Refusal → Reply → Type 0
+IsSaid (refusals.Says cause line) reply = reply ≡ says (status_for cause) line.items
+IsSaid refusals.NoMemory reply = ⊥

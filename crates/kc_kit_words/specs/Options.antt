@@ -1,0 +1,83 @@
+-- The options of a command, each with its value (this kit's own).
+use Rattle.std.specs.Prelude.{ℕ, Bool, true, false, ◌&&◌, List, [], ◌∷◌, codes, Option, Some, None, is_some, is_none, if◌then◌else◌}
+use Rattle.std.specs.Option.{option_and_then, option_map_or}
+use Rattle.std.specs.Str.{bytes_eq}
+use Rattle.kc_kit_words.specs.declared.inputs.Role.{Role}
+use Rattle.kc_kit_words.specs.declared.inputs.Role.TheVariants as role
+use Rattle.kc_kit_words.specs.declared.values.Form.{Form}
+use Rattle.kc_kit_words.specs.declared.values.Form.TheVariants as form
+use Rattle.kc_kit_words.specs.Values.{is_name, states_of, length_of, range_of}
+
+-- ---- the options that each command takes, with the form of their values
+
+abbrev pub placing_options : List (List ℕ × Form)
+placing_options = (codes "--reg", form.Span) ∷ (codes "--code", form.Span) ∷ (codes "--data", form.Span) ∷ (codes "--stack", form.Length) ∷ []
+
+abbrev pub options_for : List ℕ → List (List ℕ × Form)
+options_for verb =
+    if bytes_eq verb (codes "run") then (codes "--states", form.States) ∷ (codes "--stim", form.Input role.Stimuli) ∷ placing_options
+    else if bytes_eq verb (codes "asm") then (codes "--out", form.File) ∷ []
+    else if bytes_eq verb (codes "link") then (codes "--out", form.File) ∷ (codes "--lines", form.File) ∷ placing_options
+    else if bytes_eq verb (codes "hex") then (codes "--states", form.States) ∷ (codes "--stim", form.Input role.Stimuli) ∷ []
+    else []
+
+abbrev pub form_among : List ℕ → List (List ℕ × Form) → Option Form
+form_among option [] = None
+form_among option (o ∷ os) = if bytes_eq option o.0 then Some o.1 else form_among option os
+
+-- the form of the value of an option, where the command takes it
+abbrev pub form_of : List ℕ → List ℕ → Option Form
+form_of verb option = form_among option (options_for verb)
+
+abbrev pub has_form : Form → List ℕ → Bool
+has_form form.States value = is_some (states_of value)
+has_form form.Length value = is_some (length_of value)
+has_form form.Span value = is_some (range_of value)
+has_form form.File value = is_name value
+has_form (form.Input role) value = is_name value
+
+-- the command takes the option with this value
+abbrev pub takes : List ℕ → List ℕ → List ℕ → Bool
+takes verb option value = option_map_or (λ f. has_form f value) (form_of verb option) false
+
+-- ---- options and their values, one after the other
+
+-- the value of an option, where it stands
+unfoldable pub value_of : List ℕ → List (List ℕ) → Option (List ℕ)
+value_of option (word ∷ value ∷ words) = if bytes_eq word option then Some value else value_of option words
+value_of option _ = None
+
+-- each option is one that the command takes, with a value in its form, and none stands twice
+unfoldable pub are_options : List ℕ → List (List ℕ) → Bool
+are_options verb [] = true
+are_options verb (option ∷ []) = false
+are_options verb (option ∷ value ∷ words) = takes verb option value && is_none (value_of option words) && are_options verb words
+
+-- ---- the files that options name for reading, in the order of the words
+
+abbrev pub role_in : Option Form → Option Role
+role_in (Some (form.Input role)) = Some role
+role_in _ = None
+
+-- the role of the file that an option names, where it names one for reading
+abbrev pub role_of : List ℕ → List ℕ → Option Role
+role_of verb option = role_in (form_of verb option)
+
+abbrev pub with_input : Option Role → List ℕ → List (Role × List ℕ) → List (Role × List ℕ)
+with_input (Some role) name more = (role, name) ∷ more
+with_input None name more = more
+
+unfoldable pub inputs_of : List ℕ → List (List ℕ) → List (Role × List ℕ)
+inputs_of verb (option ∷ value ∷ words) = with_input (role_of verb option) value (inputs_of verb words)
+inputs_of verb _ = []
+
+-- ---- what the options say
+
+abbrev pub states_in : List (List ℕ) → Option ℕ
+states_in options = option_and_then states_of (value_of (codes "--states") options)
+
+abbrev pub range_in : List ℕ → List (List ℕ) → Option (ℕ × ℕ)
+range_in option options = option_and_then range_of (value_of option options)
+
+abbrev pub length_in : List ℕ → List (List ℕ) → Option ℕ
+length_in option options = option_and_then length_of (value_of option options)

@@ -1,0 +1,33 @@
+-- The values of options (this kit's own).
+use Rattle.std.specs.Prelude.{ℕ, ◌+◌, Bool, not, ◌&&◌, ◌==◌, nat_lt, nat_le, List, length, take, drop, slice_index, Option, Some, None}
+use Rattle.std.specs.List.{position}
+use Rattle.kc_kit_words.specs.Number.{number_of}
+
+-- the name of a file: 1 to 255 bytes, of which the first is no `-`
+abbrev pub is_name : List ℕ → Bool
+is_name name = nat_lt 0 (length name) && nat_le (length name) 255 && not (slice_index name 0 == 45)
+
+abbrev pub max_states : ℕ
+max_states = 1000000000000000
+
+-- a number of state times
+abbrev pub states_of : List ℕ → Option ℕ
+states_of word = number_of max_states word
+
+-- a number of bytes
+abbrev pub length_of : List ℕ → Option ℕ
+length_of word = number_of 65535 word
+
+-- ---- a range A-B: two numbers up to 65,535 round the only `-`
+
+abbrev pub both : Option ℕ → Option ℕ → Option (ℕ × ℕ)
+both (Some first) (Some last) = Some (first, last)
+both (Some first) None = None
+both None last = None
+
+abbrev pub range_at : List ℕ → Option ℕ → Option (ℕ × ℕ)
+range_at word (Some at) = both (number_of 65535 (take at word)) (number_of 65535 (drop (at + 1) word))
+range_at word None = None
+
+abbrev pub range_of : List ℕ → Option (ℕ × ℕ)
+range_of word = range_at word (position (λ c. c == 45) word)

@@ -1,0 +1,115 @@
+-- What the words of a command line ask for (this kit's own).
+use Rattle.std.specs.Prelude.{ℕ, Bool, true, not, ◌&&◌, nat_le, List, [], ◌∷◌, codes, length, take, drop, Option, Some, None, if◌then◌else◌}
+use Rattle.std.specs.List.{prefix_len, list_all}
+use Rattle.std.specs.Option.{option_map, unwrap_or}
+use Rattle.std.specs.Str.{bytes_eq}
+use Rattle.kc_base.specs.TextLines.{begins_with}
+use Rattle.kc_link_place.specs.declared.ranges.Ranges.{Ranges}
+use Rattle.kc_link_place.specs.Ranges.{are_in_bounds, lies_within}
+use Rattle.kc_kit_words.specs.declared.inputs.Role.{Role}
+use Rattle.kc_kit_words.specs.Options.{are_options, inputs_of, value_of, states_in, range_in, length_in}
+use Rattle.kc_kit_words.specs.Values.{is_name, range_of}
+
+-- A command. Beside its first files it may have further ones to be read, each for a role.
+pub data Command : Type 0 where
+  Helps : Command
+  TellsVersion : Command
+  Runs : List (List ℕ) → List (Role × List ℕ) → ℕ → Ranges → Command
+  Assembles : List ℕ → List ℕ → Command
+  Links : List (List ℕ) → List ℕ → Option (List ℕ) → Ranges → Command
+  RunsHex : List ℕ → List (Role × List ℕ) → ℕ → Command
+  Lists : List ℕ → ℕ → ℕ → Command
+
+-- ---- files stand before the options, and an option begins with `-`
+
+abbrev pub count_files : List (List ℕ) → ℕ
+count_files words = prefix_len (λ w. not (begins_with 45 w)) words
+
+abbrev pub files_of : List (List ℕ) → List (List ℕ)
+files_of words = take (count_files words) words
+
+abbrev pub options_of : List (List ℕ) → List (List ℕ)
+options_of words = drop (count_files words) words
+
+-- 1 to 64 names
+abbrev pub are_files : List (List ℕ) → Bool
+are_files names = nat_le 1 (length names) && nat_le (length names) 64 && list_all is_name names
+
+-- ---- where relocatable pieces may stand: the default where an option does not say otherwise
+
+abbrev pub placing_of : List (List ℕ) → Ranges
+placing_of options = record {
+  reg = unwrap_or (range_in (codes "--reg") options) (0x1A, 0xFF);
+  code = unwrap_or (range_in (codes "--code") options) (0x2080, 0x5FFF);
+  ram = unwrap_or (range_in (codes "--data") options) (0x200, 0x1FFD);
+  stack = length_in (codes "--stack") options;
+}
+
+-- ---- each command with its files and options
+
+abbrev pub runs_by : List (List ℕ) → List (Role × List ℕ) → Option ℕ → Ranges → Option Command
+runs_by files inputs None placing = None
+runs_by files inputs (Some states) placing = if are_in_bounds placing then Some (Runs files inputs states placing) else None
+
+abbrev pub run_by : List (List ℕ) → List ℕ → List (List ℕ) → Option Command
+run_by files verb options = if are_files files then runs_by files (inputs_of verb options) (states_in options) (placing_of options) else None
+
+abbrev pub assemble_by : List (List ℕ) → List (List ℕ) → Option Command
+assemble_by (file ∷ []) options = if is_name file then option_map (Assembles file) (value_of (codes "--out") options) else None
+assemble_by _ options = None
+
+-- a second file is another one
+abbrev pub is_other : List ℕ → Option (List ℕ) → Bool
+is_other out None = true
+is_other out (Some lines) = not (bytes_eq lines out)
+
+abbrev pub links_by : List (List ℕ) → Option (List ℕ) → Option (List ℕ) → Ranges → Option Command
+links_by files None lines placing = None
+links_by files (Some out) lines placing = if is_other out lines && are_in_bounds placing then Some (Links files out lines placing) else None
+
+abbrev pub link_by : List (List ℕ) → List (List ℕ) → Option Command
+link_by files options =
+    if are_files files then links_by files (value_of (codes "--out") options) (value_of (codes "--lines") options) (placing_of options) else None
+
+abbrev pub hex_of : List ℕ → List ℕ → List (List ℕ) → Option Command
+hex_of file verb options = if is_name file then option_map (RunsHex file (inputs_of verb options)) (states_in options) else None
+
+abbrev pub hex_by : List (List ℕ) → List ℕ → List (List ℕ) → Option Command
+hex_by (file ∷ []) verb options = hex_of file verb options
+hex_by _ verb options = None
+
+-- the addresses of a listing are those of an image
+abbrev pub lists_by : List ℕ → Option (ℕ × ℕ) → Option Command
+lists_by file None = None
+lists_by file (Some range) = if lies_within 0x2000 0xFFFF range then Some (Lists file range.0 range.1) else None
+
+abbrev pub list_of : List ℕ → List ℕ → Option Command
+list_of file range = if is_name file then lists_by file (range_of range) else None
+
+abbrev pub list_by : List (List ℕ) → Option Command
+list_by (file ∷ range ∷ []) = list_of file range
+list_by _ = None
+
+abbrev pub alone : List (List ℕ) → Command → Option Command
+alone [] command = Some command
+alone (file ∷ files) command = None
+
+abbrev pub command_by : List ℕ → List (List ℕ) → List (List ℕ) → Option Command
+command_by verb files options =
+    if bytes_eq verb (codes "run") then run_by files verb options
+    else if bytes_eq verb (codes "asm") then assemble_by files options
+    else if bytes_eq verb (codes "link") then link_by files options
+    else if bytes_eq verb (codes "hex") then hex_by files verb options
+    else if bytes_eq verb (codes "dis") then list_by files
+    else if bytes_eq verb (codes "--help") then alone files Helps
+    else if bytes_eq verb (codes "--version") then alone files TellsVersion
+    else None
+
+-- the command of words whose options it takes
+abbrev pub command_with : List ℕ → List (List ℕ) → List (List ℕ) → Option Command
+command_with verb files options = if are_options verb options then command_by verb files options else None
+
+-- the command of some words, or none
+abbrev pub command_of : List (List ℕ) → Option Command
+command_of [] = None
+command_of (verb ∷ words) = command_with verb (files_of words) (options_of words)

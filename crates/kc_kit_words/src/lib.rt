@@ -1,0 +1,20 @@
+//! The words of a command line, read as a command: its files, and its options with their values.
+#![tactic(auto)]
+
+mod command;
+mod inputs;
+mod numbers;
+mod options;
+mod order;
+mod values;
+mod words;
+
+pub use command::{Assemble, Command, Link, List, Run, RunHex};
+pub use inputs::{Input, Inputs, Role};
+pub use kc_link_place::Ranges;
+pub use numbers::number;
+pub use order::options_come_in_any_order;
+pub use words::read_words;
+
+#[cfg(test)]
+mod tests;

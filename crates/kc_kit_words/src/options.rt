@@ -1,0 +1,141 @@
+// The words of a command line after its verb: files, and then options with their values.
+ghost use Rattle.std.specs.Prelude.{◌≡◌, ◌≤◌, ◌&&◌, is_none, map, string_bytes, length, IfSome};
+ghost use Rattle.std.specs.Option.{option_map};
+ghost use Rattle.kc_base.specs.TextLines.{begins_with};
+ghost use Rattle.kc_kit_words.specs.Options.{placing_options, form_among, form_of, takes, value_of, are_options, states_in, range_in, length_in};
+ghost use Rattle.kc_kit_words.specs.Values.{max_states};
+ghost use Rattle.kc_kit_words.specs.Words as spec;
+
+use crate::inputs::Role;
+use crate::values::{Form, bytes, has_form, range, states};
+
+fn is_option(word: &str) -> bool
+    ensures { result ≡ begins_with 45 word.now }
+{
+    match word.as_bytes().first() {
+        Some(first) => *first == b'-',
+        None => false,
+    }
+}
+
+/// How many words stand before the first that begins with `-`.
+pub(crate) fn count_files(words: &[String]) -> usize
+    ensures count { result ≡ spec.count_files (map string_bytes words.now) }
+    ensures within { result ≤ length words.now }
+{
+    let mut count = 0;
+    let mut left = words;
+    while let [word, rest @ ..] = left {
+        if is_option(word.as_str()) {
+            return count;
+        }
+        count += 1;
+        left = rest;
+    }
+    count
+}
+
+// The form of the value of an option that says where relocatable pieces may stand.
+fn placing_form(option: &str) -> Option<Form>
+    ensures { result ≡ form_among option.now placing_options }
+{
+    match option {
+        "--reg" | "--code" | "--data" => Some(Form::Span),
+        "--stack" => Some(Form::Length),
+        _ => None,
+    }
+}
+
+/// The form of the value of an option, or none where the command does not take it.
+pub(crate) fn form_of(verb: &str, option: &str) -> Option<Form>
+    ensures { result ≡ form_of verb.now option.now }
+{
+    match verb {
+        "run" => match option {
+            "--states" => Some(Form::States),
+            "--stim" => Some(Form::Input(Role::Stimuli)),
+            _ => placing_form(option),
+        },
+        "asm" => match option {
+            "--out" => Some(Form::File),
+            _ => None,
+        },
+        "link" => match option {
+            "--out" | "--lines" => Some(Form::File),
+            _ => placing_form(option),
+        },
+        "hex" => match option {
+            "--states" => Some(Form::States),
+            "--stim" => Some(Form::Input(Role::Stimuli)),
+            _ => None,
+        },
+        _ => None,
+    }
+}
+
+// Whether a command takes an option with this value.
+fn takes(verb: &str, option: &str, value: &str) -> bool
+    ensures { result ≡ takes verb.now option.now value.now }
+{
+    match form_of(verb, option) {
+        Some(form) => has_form(form, value),
+        None => false,
+    }
+}
+
+/// The value of an option, where it stands.
+pub(crate) fn value_of<'a>(option: &str, words: &'a [String]) -> Option<&'a str>
+    ensures { option_map (λ v. v.now) result ≡ value_of option.now (map string_bytes words.now) }
+{
+    let mut left = words;
+    while let [word, value, rest @ ..] = left {
+        if word.as_str() == option {
+            return Some(value.as_str());
+        }
+        left = rest;
+    }
+    None
+}
+
+// Whether a command takes an option with this value, and the option does not stand again.
+fn may_stand(verb: &str, option: &str, value: &str, behind: &[String]) -> bool
+    ensures { result ≡ (takes verb.now option.now value.now && is_none (value_of option.now (map string_bytes behind.now))) }
+{
+    takes(verb, option, value) && value_of(option, behind).is_none()
+}
+
+/// Whether each option is one that the command takes, with a value in its form, and none stands twice.
+pub(crate) fn are_options(verb: &str, words: &[String]) -> bool
+    ensures { result ≡ are_options verb.now (map string_bytes words.now) }
+{
+    let mut left = words;
+    while let [option, value, rest @ ..] = left {
+        if !may_stand(verb, option.as_str(), value.as_str(), rest) {
+            return false;
+        }
+        left = rest;
+    }
+    left.is_empty()
+}
+
+/// How many state times a run has, where an option says it.
+pub(crate) fn states_in(words: &[String]) -> Option<u64>
+    ensures value { result ≡ states_in (map string_bytes words.now) }
+    ensures within { IfSome result (λ n. n ≤ max_states) }
+{
+    states(value_of("--states", words)?)
+}
+
+/// The range that an option sets, where it stands.
+pub(crate) fn range_in(option: &str, words: &[String]) -> Option<(u16, u16)>
+    ensures { result ≡ range_in option.now (map string_bytes words.now) }
+{
+    range(value_of(option, words)?)
+}
+
+/// The number of bytes that an option sets, where it stands.
+pub(crate) fn length_in(option: &str, words: &[String]) -> Option<u16>
+    ensures { result ≡ length_in option.now (map string_bytes words.now) }
+{
+    bytes(value_of(option, words)?)
+}

@@ -1,0 +1,242 @@
+// Command lines and what they ask for.
+use crate::{Command, Inputs, Ranges, Role, read_words};
+use std::alloc::{AllocError, Global};
+use std::test::Fail;
+
+fn words(alloc: Global, line: &str) -> Result<Vec<String>, AllocError> {
+    let mut words = Vec::new(alloc);
+    for word in line.split_whitespace() {
+        words.push(String::from_str(alloc, word)?)?;
+    }
+    Ok(words)
+}
+
+// A command in digits and names: files, states or addresses, names of files that are written, ranges.
+fn shown(alloc: Global, line: &str) -> Result<String, AllocError> {
+    let words = words(alloc, line)?;
+    let mut text = String::new(alloc);
+    match read_words(&words) {
+        None => text.push_str("none")?,
+        Some(Command::Help) => text.push_str("help")?,
+        Some(Command::Version) => text.push_str("version")?,
+        Some(Command::Run(run)) => {
+            text.push_str("run")?;
+            put_files(&mut text, run.files)?;
+            put_inputs(&mut text, run.inputs)?;
+            put_number(alloc, &mut text, run.states)?;
+            put_ranges(alloc, &mut text, &run.placing)?;
+        }
+        Some(Command::Assemble(assemble)) => {
+            text.push_str("asm")?;
+            put(&mut text, assemble.file)?;
+            put(&mut text, assemble.out)?;
+        }
+        Some(Command::Link(link)) => {
+            text.push_str("link")?;
+            put_files(&mut text, link.files)?;
+            put(&mut text, link.out)?;
+            put(&mut text, link.lines.unwrap_or("-"))?;
+            put_ranges(alloc, &mut text, &link.placing)?;
+        }
+        Some(Command::RunHex(run)) => {
+            text.push_str("hex")?;
+            put(&mut text, run.file)?;
+            put_inputs(&mut text, run.inputs)?;
+            put_number(alloc, &mut text, run.states)?;
+        }
+        Some(Command::List(list)) => {
+            text.push_str("dis")?;
+            put(&mut text, list.file)?;
+            put_number(alloc, &mut text, u64::from(list.first))?;
+            put_number(alloc, &mut text, u64::from(list.last))?;
+        }
+    }
+    Ok(text)
+}
+
+fn put(text: &mut String, word: &str) -> Result<(), AllocError> {
+    text.push_str(" ")?;
+    text.push_str(word)?;
+    Ok(())
+}
+
+fn put_files(text: &mut String, files: &[String]) -> Result<(), AllocError> {
+    for file in files {
+        put(text, file.as_str())?;
+    }
+    Ok(())
+}
+
+fn put_inputs(text: &mut String, inputs: Inputs<'_>) -> Result<(), AllocError> {
+    if let Some((input, others)) = inputs.split_first() {
+        match input.role {
+            Role::Stimuli => put(text, "stimuli")?,
+        }
+        put(text, input.name)?;
+        if others.split_first().is_some() {
+            put(text, "others")?;
+        }
+    }
+    Ok(())
+}
+
+fn put_number(alloc: Global, text: &mut String, number: u64) -> Result<(), AllocError> {
+    let number = format!(in alloc; "{number}")?;
+    put(text, number.as_str())
+}
+
+fn put_range(alloc: Global, text: &mut String, range: (u16, u16)) -> Result<(), AllocError> {
+    put_number(alloc, text, u64::from(range.0))?;
+    put_number(alloc, text, u64::from(range.1))
+}
+
+// Ranges other than the default, and the length of the stack.
+fn put_ranges(alloc: Global, text: &mut String, ranges: &Ranges) -> Result<(), AllocError> {
+    let plain = Ranges::new();
+    if ranges.reg != plain.reg {
+        put(text, "reg")?;
+        put_range(alloc, text, ranges.reg)?;
+    }
+    if ranges.code != plain.code {
+        put(text, "code")?;
+        put_range(alloc, text, ranges.code)?;
+    }
+    if ranges.ram != plain.ram {
+        put(text, "data")?;
+        put_range(alloc, text, ranges.ram)?;
+    }
+    if let Some(length) = ranges.stack {
+        put(text, "stack")?;
+        put_number(alloc, text, u64::from(length))?;
+    }
+    Ok(())
+}
+
+#[test]
+fn lines_ask_for_commands(rt: HostRuntime) -> Result<(), Fail> {
+    let a = rt.alloc();
+    for (line, command) in [
+        ("--help", "help"),
+        ("--version", "version"),
+        ("run a.a96 --states 000aH", "run a.a96 10"),
+        (
+            "run a b --reg 1AH-01ffH --states 0 --data 6000H-0FFFFH --stack 0",
+            "run a b 0 reg 26 511 data 24576 65535 stack 0",
+        ),
+        ("run a b --stim s.stm --states 7", "run a b stimuli s.stm 7"),
+        (
+            "hex a.hex --states 0FH --stim a.hex",
+            "hex a.hex stimuli a.hex 15",
+        ),
+        ("asm a.a96 --out a.obj", "asm a.a96 a.obj"),
+        (
+            "link a.obj b.obj --lines a.map --out a.hex",
+            "link a.obj b.obj a.hex a.map",
+        ),
+        (
+            "link a.obj --code 2000H-65535 --out a.hex --stack 0FFFFH",
+            "link a.obj a.hex - code 8192 65535 stack 65535",
+        ),
+        ("link a.obj --out a.obj", "link a.obj a.obj -"),
+        (
+            "hex a.hex --states 1000000000000000",
+            "hex a.hex 1000000000000000",
+        ),
+        ("dis a.hex 2080H-8328", "dis a.hex 8320 8328"),
+    ] {
+        let given = shown(a, line)?;
+        assert_eq!(rt; given.as_str(), command, "{line}");
+    }
+    Ok(())
+}
+
+#[test]
+fn other_lines_ask_for_nothing(rt: HostRuntime) -> Result<(), Fail> {
+    let a = rt.alloc();
+    for line in [
+        "",
+        "run a",
+        "run --states 1",
+        "run a --states",
+        "run a --states 5D",
+        "run a --states FH",
+        "run a --states 0ah",
+        "run a --states 1000000000000001",
+        "run a --states 1 --states 1",
+        "run a --states 1 --out b",
+        "run a --states 1 b",
+        "run a --states=1",
+        "run a --stim s",
+        "run a --states 1 --stim",
+        "run a --states 1 --stim -s",
+        "run a --states 1 --stim s --stim t",
+        "link a --out b --stim s",
+        "asm a --out b --stim s",
+        "dis a 2080H-2088H --stim s",
+        "--states 1 run a",
+        "--help --version",
+        "--help a",
+        "asm a b --out c",
+        "asm a",
+        "asm a --out -c",
+        "link a --out b --lines b",
+        "link a --out b --lib c",
+        "link a --out b --reg 19H-0FFH",
+        "link a --out b --reg 1AH-200H",
+        "link a --out b --code 1FFFH-3000H",
+        "link a --out b --data 200H-1FFEH",
+        "link a --out b --data 1000H-7000H",
+        "link a --out b --data 300H-2FFH",
+        "link a --out b --stack 65536",
+        "link a --out b --code 2080H",
+        "link a --out b --code 2080H-3000H-4000H",
+        "link a --out b --code -3000H",
+        "hex a b --states 1",
+        "hex a --states 1 --lives 2",
+        "dis a",
+        "dis a 2088H-2080H",
+        "dis a 1FFFH-2080H",
+        "dis a 8192-65536",
+        "dis a 2080H-2088H --out b",
+        "debug a b",
+        "gen 1",
+        "lib a --out b",
+    ] {
+        let given = shown(a, line)?;
+        assert_eq!(rt; given.as_str(), "none", "{line}");
+    }
+    Ok(())
+}
+
+// So many files of one byte, or one file of so many bytes.
+fn long_line(alloc: Global, files: usize, bytes: usize) -> Result<String, AllocError> {
+    let mut line = String::from_str(alloc, "run ")?;
+    for _ in 0..files {
+        for _ in 0..bytes {
+            line.push_str("f")?;
+        }
+        line.push_str(" ")?;
+    }
+    line.push_str("--states 1")?;
+    Ok(line)
+}
+
+#[test]
+fn commands_have_up_to_64_files_of_up_to_255_bytes(rt: HostRuntime) -> Result<(), Fail> {
+    let a = rt.alloc();
+    for (files, bytes, is_command) in [
+        (64, 1, true),
+        (65, 1, false),
+        (1, 255, true),
+        (1, 256, false),
+    ] {
+        let line = long_line(a, files, bytes)?;
+        let words = words(a, line.as_str())?;
+        assert_eq!(rt;
+            read_words(&words).is_some(),
+            is_command,
+            "{files} files of {bytes} bytes"
+        );
+    }
+    Ok(())
+}

@@ -1,0 +1,91 @@
+// The values of options.
+ghost use Rattle.std.specs.Prelude.{◌≡◌, ◌≤◌, ◌<◌, ◌==◌, IfSome, position, length};
+ghost use Rattle.kc_kit_words.specs.Number.{number_of};
+ghost use Rattle.kc_kit_words.specs.Values.{is_name, max_states, states_of, length_of, range_of};
+ghost use Rattle.kc_kit_words.specs.Options.{has_form};
+
+use crate::inputs::Role;
+use crate::numbers::number;
+use kc_base::{after, front};
+
+/// The form of the value of an option.
+#[derive(Clone, Copy)]
+pub(crate) enum Form {
+    /// A number of state times, up to 10^15.
+    States,
+    /// A number of bytes, up to 65,535.
+    Length,
+    /// Two addresses round a `-`.
+    Span,
+    /// The name of a file.
+    File,
+    /// The name of a file that is read beside the first ones.
+    Input(Role),
+}
+
+/// The most state times that a run may have.
+const MAX_STATES: u64 = 1_000_000_000_000_000;
+
+pub(crate) fn is_name(name: &str) -> bool
+    ensures { result ≡ is_name name.now }
+{
+    let bytes = name.as_bytes();
+    match bytes.first() {
+        Some(first) => bytes.len() <= 255 && *first != b'-',
+        None => false,
+    }
+}
+
+/// A number of state times.
+pub(crate) fn states(word: &str) -> Option<u64>
+    ensures value { result ≡ states_of word.now }
+    ensures within { IfSome result (λ n. n ≤ max_states) }
+{
+    number(word.as_bytes(), MAX_STATES)
+}
+
+// A number of 16 bits.
+fn short(word: &[u8]) -> Option<u16>
+    ensures { result ≡ number_of 65535 word.now }
+{
+    let value = number(word, 65_535)?;
+    Some(value as u16)
+}
+
+/// A number of bytes.
+pub(crate) fn bytes(word: &str) -> Option<u16>
+    ensures { result ≡ length_of word.now }
+{
+    short(word.as_bytes())
+}
+
+// Where the first `-` stands.
+fn dash_of(word: &[u8]) -> Option<usize>
+    ensures value { result ≡ position (λ c. c == 45) word.now }
+    ensures within { IfSome result (λ at. at < length word.now) }
+{
+    word.iter().position(|c| *c == b'-')
+}
+
+/// The two numbers of a range `A-B`, each up to 65,535, in any order.
+pub(crate) fn range(word: &str) -> Option<(u16, u16)>
+    ensures { result ≡ range_of word.now }
+{
+    let word = word.as_bytes();
+    let at = dash_of(word)?;
+    let first = short(front(word, at))?;
+    let last = short(after(word, at + 1))?;
+    Some((first, last))
+}
+
+/// Whether a value has a form.
+pub(crate) fn has_form(form: Form, value: &str) -> bool
+    ensures { result ≡ has_form form value.now }
+{
+    match form {
+        Form::States => states(value).is_some(),
+        Form::Length => bytes(value).is_some(),
+        Form::Span => range(value).is_some(),
+        Form::File | Form::Input(_) => is_name(value),
+    }
+}

@@ -1,0 +1,235 @@
+// What the words of a command line ask for.
+ghost use Rattle.std.specs.Prelude.{◌≡◌, IfSome, map, string_bytes};
+ghost use Rattle.std.specs.List.{list_all};
+ghost use Rattle.std.specs.Option.{option_map, unwrap_or};
+ghost use Rattle.kc_kit_words.specs.Values.{is_name};
+ghost use Rattle.kc_kit_words.specs.Words.{command_of, command_by, run_by, assemble_by, link_by, hex_by, hex_of, list_by, list_of, are_files, placing_of};
+ghost use Rattle.kc_kit_words.specs.Words as spec;
+ghost use Rattle.kc_kit_words.specs.Asked.{asked, IsWithin};
+
+use crate::command::{Assemble, Command, Link, List, Run, RunHex};
+use crate::inputs::Inputs;
+use crate::options::{are_options, count_files, length_in, range_in, states_in, value_of};
+use crate::values::{is_name, range};
+use kc_link_place::Ranges;
+
+/// The most files of one command.
+const MAX_FILES: usize = 64;
+
+fn are_names(files: &[String]) -> bool
+    ensures { result ≡ list_all is_name (map string_bytes files.now) }
+{
+    let mut left = files;
+    while let [file, rest @ ..] = left {
+        if !is_name(file.as_str()) {
+            return false;
+        }
+        left = rest;
+    }
+    true
+}
+
+// Whether these are 1 to 64 names of files.
+fn are_files(files: &[String]) -> bool
+    ensures { result ≡ are_files (map string_bytes files.now) }
+{
+    !files.is_empty() && files.len() <= MAX_FILES && are_names(files)
+}
+
+fn given(range: Option<(u16, u16)>, otherwise: (u16, u16)) -> (u16, u16)
+    ensures { result ≡ unwrap_or range otherwise }
+{
+    match range {
+        Some(range) => range,
+        None => otherwise,
+    }
+}
+
+// Where relocatable pieces may stand.
+fn placing(options: &[String]) -> Ranges
+    ensures { result ≡ placing_of (map string_bytes options.now) }
+{
+    let ranges = Ranges::new();
+    Ranges {
+        reg: given(range_in("--reg", options), ranges.reg),
+        code: given(range_in("--code", options), ranges.code),
+        ram: given(range_in("--data", options), ranges.ram),
+        stack: length_in("--stack", options),
+    }
+}
+
+fn read_run<'a>(files: &'a [String], verb: &'a str, options: &'a [String]) -> Option<Command<'a>>
+    ensures asked { option_map asked result ≡ run_by (map string_bytes files.now) verb.now (map string_bytes options.now) }
+    ensures within { IfSome result IsWithin }
+{
+    if !are_files(files) {
+        return None;
+    }
+    let states = states_in(options)?;
+    let placing = placing(options);
+    if placing.are_within_bounds() {
+        Some(Command::Run(Run {
+            files,
+            inputs: Inputs {
+                verb,
+                words: options,
+            },
+            states,
+            placing,
+        }))
+    } else {
+        None
+    }
+}
+
+fn read_assemble<'a>(files: &'a [String], options: &'a [String]) -> Option<Command<'a>>
+    ensures asked { option_map asked result ≡ assemble_by (map string_bytes files.now) (map string_bytes options.now) }
+    ensures within { IfSome result IsWithin }
+{
+    let [file] = files else {
+        return None;
+    };
+    if !is_name(file.as_str()) {
+        return None;
+    }
+    Some(Command::Assemble(Assemble {
+        file: file.as_str(),
+        out: value_of("--out", options)?,
+    }))
+}
+
+fn read_link<'a>(files: &'a [String], options: &'a [String]) -> Option<Command<'a>>
+    ensures asked { option_map asked result ≡ link_by (map string_bytes files.now) (map string_bytes options.now) }
+    ensures within { IfSome result IsWithin }
+{
+    if !are_files(files) {
+        return None;
+    }
+    let out = value_of("--out", options)?;
+    let lines = value_of("--lines", options);
+    let placing = placing(options);
+    if is_other(out, lines) && placing.are_within_bounds() {
+        Some(Command::Link(Link {
+            files,
+            out,
+            lines,
+            placing,
+        }))
+    } else {
+        None
+    }
+}
+
+// Whether a second file is another one.
+fn is_other(out: &str, lines: Option<&str>) -> bool
+    ensures { result ≡ spec.is_other out.now (option_map (λ l. l.now) lines.entry) }
+{
+    match lines {
+        None => true,
+        Some(lines) => lines != out,
+    }
+}
+
+// A run of a hex file.
+fn hex_run<'a>(file: &'a str, verb: &'a str, options: &'a [String]) -> Option<Command<'a>>
+    ensures asked { option_map asked result ≡ hex_of file.now verb.now (map string_bytes options.now) }
+    ensures within { IfSome result IsWithin }
+{
+    if !is_name(file) {
+        return None;
+    }
+    Some(Command::RunHex(RunHex {
+        file,
+        inputs: Inputs {
+            verb,
+            words: options,
+        },
+        states: states_in(options)?,
+    }))
+}
+
+fn read_hex<'a>(files: &'a [String], verb: &'a str, options: &'a [String]) -> Option<Command<'a>>
+    ensures asked { option_map asked result ≡ hex_by (map string_bytes files.now) verb.now (map string_bytes options.now) }
+    ensures within { IfSome result IsWithin }
+{
+    if files.len() != 1 {
+        return None;
+    }
+    hex_run(files[0].as_str(), verb, options)
+}
+
+// A listing of a file and a word for addresses.
+fn listing<'a>(file: &'a str, addresses: &str) -> Option<Command<'a>>
+    ensures asked { option_map asked result ≡ list_of file.now addresses.now }
+    ensures within { IfSome result IsWithin }
+{
+    if !is_name(file) {
+        return None;
+    }
+    let (first, last) = range(addresses)?;
+    if 0x2000 <= first && first <= last {
+        Some(Command::List(List { file, first, last }))
+    } else {
+        None
+    }
+}
+
+fn read_list(files: &[String]) -> Option<Command<'_>>
+    ensures asked { option_map asked result ≡ list_by (map string_bytes files.now) }
+    ensures within { IfSome result IsWithin }
+{
+    if files.len() != 2 {
+        return None;
+    }
+    listing(files[0].as_str(), files[1].as_str())
+}
+
+// A command that is one word.
+fn alone<'a>(files: &[String], command: Command<'a>) -> Option<Command<'a>>
+    requires { IsWithin command }
+    ensures asked { option_map asked result ≡ spec.alone (map string_bytes files.now) (asked command.entry) }
+    ensures within { IfSome result IsWithin }
+{
+    if files.is_empty() {
+        Some(command)
+    } else {
+        None
+    }
+}
+
+// The command of a verb with its files and options, all of which it takes.
+fn read_command<'a>(
+    verb: &'a str,
+    files: &'a [String],
+    options: &'a [String],
+) -> Option<Command<'a>>
+    ensures asked { option_map asked result ≡ command_by verb.now (map string_bytes files.now) (map string_bytes options.now) }
+    ensures within { IfSome result IsWithin }
+{
+    match verb {
+        "run" => read_run(files, verb, options),
+        "asm" => read_assemble(files, options),
+        "link" => read_link(files, options),
+        "hex" => read_hex(files, verb, options),
+        "dis" => read_list(files),
+        "--help" => alone(files, Command::Help),
+        "--version" => alone(files, Command::Version),
+        _ => None,
+    }
+}
+
+/// The command of some words, or none where they are no command.
+pub fn read_words(words: &[String]) -> Option<Command<'_>>
+    ensures asked { option_map asked result ≡ command_of (map string_bytes words.now) }
+    ensures within { IfSome result IsWithin }
+{
+    let [verb, rest @ ..] = words else {
+        return None;
+    };
+    let (files, options) = rest.split_at(count_files(rest));
+    if are_options(verb.as_str(), options) {
+        read_command(verb.as_str(), files, options)
+    } else {
+        None
+    }
+}

@@ -1,5 +1,0 @@
-use Rattle.std.proofs.Common.{refl}
-use Rattle.kc_words.proofs.words.placing.Goals as goal
-
-pub returns : goal.returns
-returns c = rw (c.given.ensures, c.given-2.ensures, c.given-3.ensures, c.new-ranges.ensures) refl
