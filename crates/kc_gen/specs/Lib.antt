@@ -1,0 +1,3 @@
+pub mod Randoms
+pub mod Sources
+pub mod Stimuli
