@@ -1,0 +1,1 @@
+au BufRead,BufNewFile *.a96 setfiletype a96
