@@ -21,11 +21,9 @@ struct Row {
 
 fn is_right(alloc: Global, row: &Row) -> Result<bool, NoMemory> {
     let source = source(alloc, row.lines)?;
-    let mut files = files(
-        alloc,
-        &[("a", source.as_str()), ("s", row.stimuli)],
-        NO_FAULT,
-    )?;
+    let mut files = files(alloc, &[], NO_FAULT)?;
+    files.put(alloc, "a", source.as_bytes())?;
+    files.put(alloc, "s", row.stimuli.as_bytes())?;
     let text = trace(alloc, row.printed, row.registers)?;
     answers(
         alloc,
