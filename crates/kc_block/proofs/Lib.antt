@@ -1,3 +1,4 @@
 pub mod Profile
 pub mod Calls
 pub mod Written
+pub mod Past

@@ -12,10 +12,14 @@ use Rattle.kc_block.specs.Seen.{Seen}
 abbrev pub units_past : {X : Type 0} → Further X → Seen X → ℕ → Units X
 units_past f s at = after (block_rule f) s.time (at + 1 - s.time) s.units
 
--- the edges of those Ticks, and then those of the access
-abbrev pub edges_past : {X : Type 0} → Further X → Seen X → ℕ → Units X → List (ℕ × Edge)
-edges_past f s at new = edges_of f s.time (at + 1 - s.time) s.units ++ in_state at (latch_edges (units_past f s at) new)
+-- the edges of the Ticks up to and with that of the state
+abbrev pub edges_past : {X : Type 0} → Further X → Seen X → ℕ → List (ℕ × Edge)
+edges_past f s at = edges_of f s.time (at + 1 - s.time) s.units
 
--- four unit calls for each unit that a Tick touches, and sixteen for the access
-abbrev pub most_calls : {X : Type 0} → Further X → Seen X → ℕ → ℕ
-most_calls f s at = 4 * touch f s.time (at + 1 - s.time) s.units + 16
+-- and then those of a write that leaves these units
+abbrev pub edges_with : {X : Type 0} → Further X → Seen X → ℕ → Units X → List (ℕ × Edge)
+edges_with f s at new = edges_past f s at ++ in_state at (latch_edges (units_past f s at) new)
+
+-- four unit calls for each unit that one of these Ticks touches
+abbrev pub calls_past : {X : Type 0} → Further X → Seen X → ℕ → ℕ
+calls_past f s at = 4 * touch f s.time (at + 1 - s.time) s.units

@@ -1,5 +1,4 @@
 ghost use Rattle.std.specs.Prelude.{◌≡◌, ℕ, ◌+◌, ◌-◌, ◌*◌, ◌≤◌, ◌<◌, ◌^◌, ◌%◌, OnOk, OnErr, IfOk, IfErr, Ok, Err, is_some, true};
-ghost use Rattle.kc_exec_spec.specs.Access.{Accepts};
 ghost use Rattle.kc_block_spec.specs.Registers.{row_at, bytes_read_everywhere, bytes_written_everywhere};
 ghost use Rattle.kc_block_spec.specs.Touch.{in_state};
 ghost use Rattle.kc_block_spec.specs.Leading.{Leads};
@@ -8,7 +7,6 @@ ghost use Rattle.kc_block_spec.specs.Looking.{looked};
 ghost use Rattle.kc_block_spec.specs.Levels.{printed as printed_of};
 ghost use Rattle.kc_block_lazy.specs.Lanes.{shown_units, IsLazy};
 ghost use Rattle.kc_block_lanes.specs.Standing.{standing};
-ghost use Rattle.kc_block.specs.Accessed.{units_past, edges_past, most_calls};
 
 use crate::block::Block;
 use kc_base::{EdgeOut, Kind, StateTime, Steps};
@@ -143,12 +141,13 @@ impl<X: Extra + Drop> Block<X> {
     }
 
     /// What a byte read at the start of the present state would give, without its effect: each half of a word register, and
-    /// 0 where the read is undefined.
+    /// 0 where the read is undefined. The further unit may be moved for it, once.
     pub fn look(&mut self, window: Window, sfr: u8) -> u8
         requires { sfr < 24 }
         ensures value { result ≡ looked X.further self.old.time window self.old.units sfr }
         ensures time { self.new.time ≡ self.old.time }
         ensures units { self.new.units ≡ self.old.units }
+        ensures moves { self.new.moves ≤ self.old.moves + 1 }
     {
         access::look(&mut self.lanes, self.time, window, sfr)
     }

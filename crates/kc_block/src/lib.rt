@@ -5,6 +5,9 @@
 mod accesses;
 mod block;
 mod lent;
+#[cfg(test)]
+mod tests;
+mod timed;
 
 pub use block::Block;
 pub use kc_block_spec::Window;
