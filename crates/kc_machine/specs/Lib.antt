@@ -5,3 +5,4 @@ pub mod Sound
 pub mod Board
 pub mod Seen
 pub mod Failing
+pub mod Stepping

@@ -64,7 +64,7 @@ impl<X: Extra + Drop> Common<X> {
         ensures moves { self.new.block.moves ≤ self.old.block.moves + 4 * touch X.further from count self.old.block.units }
     {
         self.block.advance(from + count, out, steps);
-        self.edges = Noted::none();
+        self.edges.forget();
         self.reached = 0;
     }
 

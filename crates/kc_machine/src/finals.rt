@@ -1,10 +1,12 @@
 // What is printed at the end of a run.
-ghost use Rattle.std.specs.Prelude.{◌≡◌, ◌<◌, ◌+◌, ◌*◌, length};
+ghost use Rattle.std.specs.Prelude.{◌≡◌, ◌<◌, ◌+◌, ◌*◌, length, drop};
+ghost use Rattle.kc_machine_spec.specs.declared.doing.End.TheVariants.{Spent};
 ghost use Rattle.kc_trace.specs.declared.record.Record.TheVariants.{Stopped};
-ghost use Rattle.kc_trace.specs.Out.{Prints};
+ghost use Rattle.kc_trace.specs.Out.{IsPut, Prints};
 ghost use Rattle.kc_trace.specs.Printable.{CanPrint};
 ghost use Rattle.kc_trace.specs.Trace.{out_of};
 ghost use Rattle.kc_machine_spec.specs.Text.{processor_lines, register_rows, finals, shown_row, end_state, end_number, HasRun};
+ghost use Rattle.kc_machine.specs.Stepping.{end_line, register_lines};
 ghost use Rattle.kc_machine.specs.Seen.{machine_of};
 
 use crate::parts::Core;
@@ -59,12 +61,18 @@ fn row_of(memory: &[u8], row: u16) -> [u8; 32]
     bytes
 }
 
-// The lines of the end and of the processor.
-fn put_processor<X: Extra + Drop, S: Sink>(core: &Core<X>, how: End, out: &mut TraceOut<S>)
+/// The line of the end.
+pub(crate) fn put_end<X: Extra + Drop, S: Sink>(core: &Core<X>, how: End, out: &mut TraceOut<S>)
     requires ran { HasRun how core.now.time }
-    ensures { Prints (out_of S.written S.faults out.old) (processor_lines how (machine_of core.now)) (out_of S.written S.faults out.new) }
+    ensures { IsPut (out_of S.written S.faults out.old) (end_line how (machine_of core.now)) (out_of S.written S.faults out.new) }
 {
     put_one(out, &stopped(how, core.time));
+}
+
+// The lines of the processor.
+fn put_processor<X: Extra + Drop, S: Sink>(core: &Core<X>, out: &mut TraceOut<S>)
+    ensures { Prints (out_of S.written S.faults out.old) (drop 1 (processor_lines Spent (machine_of core.now))) (out_of S.written S.faults out.new) }
+{
     put_one(out, &Record::Pc(core.cpu.pc));
     put_one(
         out,
@@ -90,11 +98,19 @@ fn put_registers<S: Sink>(memory: &[u8], out: &mut TraceOut<S>)
     }
 }
 
+/// The lines of the processor and of the register file.
+pub(crate) fn put_state<X: Extra + Drop, S: Sink>(core: &Core<X>, out: &mut TraceOut<S>)
+    ensures { Prints (out_of S.written S.faults out.old) (register_lines (machine_of core.now)) (out_of S.written S.faults out.new) }
+{
+    put_processor(core, out);
+    put_registers(&core.bus.memory, out);
+}
+
 /// The lines of the end.
 pub(crate) fn put_finals<X: Extra + Drop, S: Sink>(core: &Core<X>, how: End, out: &mut TraceOut<S>)
     requires ran { HasRun how core.now.time }
     ensures { Prints (out_of S.written S.faults out.old) (finals how (machine_of core.now)) (out_of S.written S.faults out.new) }
 {
-    put_processor(core, how, out);
-    put_registers(&core.bus.memory, out);
+    put_end(core, how, out);
+    put_state(core, out);
 }

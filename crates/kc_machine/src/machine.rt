@@ -1,7 +1,7 @@
-ghost use Rattle.std.specs.Prelude.{◌≡◌, ◌≤◌, ◌<◌, ◌+◌, ◌*◌, ◌^◌, ◌%◌, ◌↔◌, ℕ, None, IfOk, OnOk, OnErr, IsTrue, false, true, vec_len, bit_xor};
+ghost use Rattle.std.specs.Prelude.{◌≡◌, ◌≤◌, ◌<◌, ◌+◌, ◌*◌, ◌^◌, ◌%◌, ◌↔◌, ℕ, None, IfOk, OnOk, OnErr, IsTrue, false, true, max, vec_len, bit_xor};
 ghost use Rattle.kc_trace.specs.Counting.{counted_all};
 ghost use Rattle.kc_trace.specs.Out.{Puts};
-ghost use Rattle.kc_trace.specs.Text.{text_of};
+ghost use Rattle.kc_trace.specs.Text.{line_of, text_of};
 ghost use Rattle.kc_exec_spec.specs.Memory.{IsMemory, is_hole};
 ghost use Rattle.kc_block_spec.specs.Levels.{stimulated_before};
 ghost use Rattle.kc_machine_spec.specs.Machine.{start, memory_of};
@@ -11,9 +11,10 @@ ghost use Rattle.kc_machine_spec.specs.Peeking.{peeked, poked};
 ghost use Rattle.kc_machine_spec.specs.Text.{finals, HasRun};
 ghost use Rattle.kc_machine.specs.Board.{Whole};
 ghost use Rattle.kc_machine.specs.Failing.{FailsIn};
+ghost use Rattle.kc_machine.specs.Stepping.{IsBrief, end_line, register_lines};
 
 use crate::common::Common;
-use crate::finals::{put_finals, word};
+use crate::finals::{put_end, put_finals, put_state, word};
 use crate::noted::Noted;
 use crate::parts::Core;
 use crate::passing::WriteFault;
@@ -54,6 +55,18 @@ fn first_memory(alloc: Global, image: &Image) -> Result<Vec<u8>, NoMemory>
     let mut bytes = vec![in alloc; 0u8; 0x2000]?;
     bytes.extend_from_slice(image.as_slice())?;
     Ok(bytes)
+}
+
+// Whether all was written.
+fn written<S: Sink>(out: &TraceOut<S>) -> Result<(), WriteFault>
+    ensures written { OnOk result (out.now.failed ≡ false) }
+    ensures failed { OnErr result (out.now.failed ≡ true) }
+{
+    if out.failed() {
+        Err(WriteFault)
+    } else {
+        Ok(())
+    }
 }
 
 impl<X: Extra + Drop> Machine<X> {
@@ -115,11 +128,25 @@ impl<X: Extra + Drop> Machine<X> {
         word(self.core.cpu.psw_high, self.core.bus.masks().int_mask)
     }
 
+    /// WSR, a value of the profile.
+    pub fn wsr(&self) -> u8
+        ensures { result ≡ self.now.machine.board.units.steady.wsr }
+    {
+        self.core.bus.block.wsr()
+    }
+
     /// Whether no activity is under way.
     pub fn between(&self) -> bool
         ensures { IsTrue result ↔ (self.now.machine.under_way ≡ None) }
     {
         self.core.under_way.is_none()
+    }
+
+    /// How the run has ended, or `None` while the machine lives.
+    pub fn ended(&self) -> Option<End>
+        ensures { result ≡ self.now.machine.ended }
+    {
+        self.core.ended
     }
 
     /// Goes on to the end of the run, or to the state `until` if that comes first, and writes what is printed on the way.
@@ -140,6 +167,8 @@ impl<X: Extra + Drop> Machine<X> {
         ensures counts { OnOk result (out.new.counts ≡ counted_all (run_to X.further until self.old.machine).records out.old.counts) }
         ensures fails { OnErr result (FailsIn X.further until self.old.machine (out_of S.written S.faults out.old) self.new.machine (out_of S.written S.faults out.new)) }
         ensures stands { self.new.machine ≡ (run_to X.further self.new.machine.time self.old.machine).machine }
+        ensures within { self.new.machine.time ≤ max until self.old.machine.time }
+        ensures goes { self.old.machine.ended ≡ None → self.old.machine.time < until → self.old.machine.time < self.new.machine.time }
         ensures spent { steps.new ≤ steps.old + 4 * (run_to X.further self.new.machine.time self.old.machine).work }
         ensures moves { self.new.moves ≤ self.old.moves + 4 * (run_to X.further self.new.machine.time self.old.machine).work }
     {
@@ -157,6 +186,8 @@ impl<X: Extra + Drop> Machine<X> {
         requires room { self.old.machine.time ≤ 2 * 10 ^ 15 }
         requires unbroken { out.old.failed ≡ false }
         ensures end { IfOk result (λ end. end ≡ (run_to X.further (activity_end self.old.machine) self.old.machine).machine.ended) }
+        ensures states { self.old.machine.ended ≡ None → IsBrief self.old.machine }
+        ensures time { self.old.machine.ended ≡ None → self.new.machine.time ≡ activity_end self.old.machine }
         ensures machine { self.new.machine ≡ (run_to X.further (activity_end self.old.machine) self.old.machine).machine }
         ensures lines { Puts (out_of S.written S.faults out.old) (text_of (run_to X.further (activity_end self.old.machine) self.old.machine).records) (out_of S.written S.faults out.new) }
         ensures written { OnOk result (out.new.failed ≡ false) }
@@ -188,6 +219,29 @@ impl<X: Extra + Drop> Machine<X> {
         self.core.bus.put_byte(addr, value);
     }
 
+    /// Writes the line that tells how the run has ended.
+    pub fn write_end<S: Sink>(&self, how: End, out: &mut TraceOut<S>) -> Result<(), WriteFault>
+        requires unbroken { out.old.failed ≡ false }
+        requires ran { HasRun how self.now.machine.time }
+        ensures line { Puts (out_of S.written S.faults out.old) (line_of (end_line how self.now.machine)) (out_of S.written S.faults out.new) }
+        ensures written { OnOk result (out.new.failed ≡ false) }
+        ensures failed { OnErr result (out.new.failed ≡ true) }
+    {
+        put_end(&self.core, how, out);
+        written(out)
+    }
+
+    /// Writes the lines of the registers.
+    pub fn write_registers<S: Sink>(&self, out: &mut TraceOut<S>) -> Result<(), WriteFault>
+        requires unbroken { out.old.failed ≡ false }
+        ensures lines { Puts (out_of S.written S.faults out.old) (text_of (register_lines self.now.machine)) (out_of S.written S.faults out.new) }
+        ensures written { OnOk result (out.new.failed ≡ false) }
+        ensures failed { OnErr result (out.new.failed ≡ true) }
+    {
+        put_state(&self.core, out);
+        written(out)
+    }
+
     /// Writes the lines of the end: how the run has ended, and the registers.
     pub fn write_finals<S: Sink>(&self, how: End, out: &mut TraceOut<S>) -> Result<(), WriteFault>
         requires unbroken { out.old.failed ≡ false }
@@ -197,10 +251,6 @@ impl<X: Extra + Drop> Machine<X> {
         ensures failed { OnErr result (out.new.failed ≡ true) }
     {
         put_finals(&self.core, how, out);
-        if out.failed() {
-            Err(WriteFault)
-        } else {
-            Ok(())
-        }
+        written(out)
     }
 }

@@ -36,6 +36,13 @@ impl Noted {
         }
     }
 
+    /// Forgets all edges, and leaves the room for them as it is.
+    pub(crate) fn forget(&mut self)
+        ensures { self.new ≡ [] }
+    {
+        self.edges.clear();
+    }
+
     /// The edges in order.
     pub(crate) fn as_slice(&self) -> &[Edge]
         ensures edges { result.now ≡ self.now }

@@ -1,5 +1,5 @@
 // How the machine passes whole activities, and spans of idle states, at once.
-ghost use Rattle.std.specs.Prelude.{◌≡◌, ◌≤◌, ◌<◌, ◌+◌, ◌-◌, ◌*◌, ◌^◌, ℕ, ◌++◌, IfSome, IfOk, OnOk, OnErr, None, [], option_to_list, true, false};
+ghost use Rattle.std.specs.Prelude.{◌≡◌, ◌≤◌, ◌<◌, ◌+◌, ◌-◌, ◌*◌, ◌^◌, ℕ, ◌++◌, IfSome, IfOk, OnOk, OnErr, None, [], option_to_list, max, true, false};
 ghost use Rattle.std.specs.List.{All};
 ghost use Rattle.kc_span.specs.Span.{after, QuietFor};
 ghost use Rattle.kc_trace.specs.Out.{IsPut, Prints};
@@ -12,6 +12,7 @@ ghost use Rattle.kc_machine_spec.specs.Passing.{at, left_at, whole, activity_end
 ghost use Rattle.kc_machine_spec.specs.Run.{run_to, end_of};
 ghost use Rattle.kc_machine.specs.Sound.{IsGoing, IsReady, IsSoundGoing};
 ghost use Rattle.kc_machine.specs.Failing.{Passes, FailsIn};
+ghost use Rattle.kc_machine.specs.Stepping.{IsBrief};
 
 use crate::parts::Core;
 use kc_base::{Edge, Sink, StateTime, Steps};
@@ -236,6 +237,8 @@ impl<X: Extra + Drop> Core<X> {
         ensures written { OnOk result (out.new.failed ≡ false) }
         ensures fails { OnErr result (FailsIn X.further until (machine_of self.old) (out_of S.written S.faults out.old) (machine_of self.new) (out_of S.written S.faults out.new)) }
         ensures stands { machine_of self.new ≡ (run_to X.further self.new.time (machine_of self.old)).machine }
+        ensures within { self.new.time ≤ max until self.old.time }
+        ensures goes { self.old.ended ≡ None → self.old.time < until → self.old.time < self.new.time }
         ensures ready { IsReady self.new }
         ensures spent { steps.new ≤ steps.old + 4 * (run_to X.further self.new.time (machine_of self.old)).work }
         ensures moves { self.new.bus.block.moves ≤ self.old.bus.block.moves + 4 * (run_to X.further self.new.time (machine_of self.old)).work }
@@ -261,6 +264,7 @@ impl<X: Extra + Drop> Core<X> {
         ensures machine { machine_of self.new ≡ (run_to X.further (activity_end (machine_of self.old)) (machine_of self.old)).machine }
         ensures lines { Prints (out_of S.written S.faults out.old) (run_to X.further (activity_end (machine_of self.old)) (machine_of self.old)).records (out_of S.written S.faults out.new) }
         ensures time { self.new.time ≡ activity_end (machine_of self.old) }
+        ensures states { IsBrief (machine_of self.old) }
         ensures ready { IsReady self.new }
         ensures spent { steps.new ≤ steps.old + 4 * (run_to X.further (activity_end (machine_of self.old)) (machine_of self.old)).work }
         ensures moves { self.new.bus.block.moves ≤ self.old.bus.block.moves + 4 * (run_to X.further (activity_end (machine_of self.old)) (machine_of self.old)).work }
@@ -279,6 +283,8 @@ impl<X: Extra + Drop> Core<X> {
         requires room { self.old.time ≤ 2 * 10 ^ 15 }
         requires unbroken { out.old.failed ≡ false }
         ensures end { IfOk result (λ end. end ≡ (run_to X.further (activity_end (machine_of self.old)) (machine_of self.old)).machine.ended) }
+        ensures states { self.old.ended ≡ None → IsBrief (machine_of self.old) }
+        ensures time { self.old.ended ≡ None → self.new.time ≡ activity_end (machine_of self.old) }
         ensures machine { machine_of self.new ≡ (run_to X.further (activity_end (machine_of self.old)) (machine_of self.old)).machine }
         ensures lines { Prints (out_of S.written S.faults out.old) (run_to X.further (activity_end (machine_of self.old)) (machine_of self.old)).records (out_of S.written S.faults out.new) }
         ensures written { OnOk result (out.new.failed ≡ false) }

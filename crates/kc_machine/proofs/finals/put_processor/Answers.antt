@@ -9,9 +9,8 @@ use Rattle.kc_machine.proofs.finals.put_processor.Goals as goal
 pub returns : goal.returns
 returns g c =
     let high = 256 * c.args.core.now.cpu.psw_high in
-    Prints-cons _ _ _ _ _ (rw c.stopped.ensures.value at c.put_one.ensures)
-    (Prints-cons _ _ _ _ _ c.put_one-2.ensures
+    Prints-cons _ _ _ _ _ c.put_one.ensures
     (Prints-cons _ _ _ _ _
-    (subst (λ n. IsPut (out_of g.S.Sink.written g.S.Sink.faults c.put_one-2.new.out) (Psw n) (out_of g.S.Sink.written g.S.Sink.faults c.put_one-3.new.out)) (c.word.ensures ∙ ap (λ (m : Masks). high + m.int_mask) c.masks.ensures.value) c.put_one-3.ensures)
+    (subst (λ n. IsPut (out_of g.S.Sink.written g.S.Sink.faults c.put_one.new.out) (Psw n) (out_of g.S.Sink.written g.S.Sink.faults c.put_one-2.new.out)) (c.word.ensures ∙ ap (λ (m : Masks). high + m.int_mask) c.masks.ensures.value) c.put_one-2.ensures)
     (Prints-one _ _ _
-    (subst (λ (m : Masks). IsPut (out_of g.S.Sink.written g.S.Sink.faults c.put_one-3.new.out) (Wsr m.wsr) (out_of g.S.Sink.written g.S.Sink.faults c.put_one-4.new.out)) c.masks-2.ensures.value c.put_one-4.ensures))))
+    (subst (λ (m : Masks). IsPut (out_of g.S.Sink.written g.S.Sink.faults c.put_one-2.new.out) (Wsr m.wsr) (out_of g.S.Sink.written g.S.Sink.faults c.put_one-3.new.out)) c.masks-2.ensures.value c.put_one-3.ensures)))

@@ -1,4 +1,4 @@
-use Rattle.std.proofs.Common.{◌≡◌, ◌<◌, ◌∙◌, None, ap, sym, subst, arith}
+use Rattle.std.proofs.Common.{◌≡◌, ◌<◌, ◌≤◌, ◌∙◌, None, ap, sym, subst, arith}
 use Rattle.kc_extra.specs.Further.{Further}
 use Rattle.kc_extra.specs.declared.extra.Extra as extra
 use Rattle.kc_trace.specs.Out.{Prints}
@@ -53,3 +53,9 @@ returns-clause-time g c =
     let left = ap (λ (a : UnderWay). a.left) c.current-activity.ensures.value in
     let time = ap (λ (core : Core _ _). core.time) c.current-activity.ensures.same in
     omega arith
+
+pub returns-clause-states : goal.returns-clause-states
+returns-clause-states g c = record {
+  some = subst (λ (a : UnderWay). 0 < a.left) c.current-activity.ensures.value c.current-activity.ensures.going.some;
+  few = subst (λ (a : UnderWay). a.left ≤ 255) c.current-activity.ensures.value (omega arith);
+}
