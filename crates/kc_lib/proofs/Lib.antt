@@ -1,0 +1,6 @@
+pub mod FaultLemmas
+pub mod GiverLemmas
+pub mod NameLemmas
+pub mod Places
+pub mod ReadingLemmas
+pub mod StandingLemmas

@@ -1,0 +1,9 @@
+use Rattle.std.proofs.Common.{◌≡◌, None, rules}
+use Rattle.kc_lib.specs.Givers.{found_in}
+use Rattle.kc_lib.proofs.GiverLemmas.{noted}
+use Rattle.kc_lib.proofs.givers.Givers.note.Goals as goal
+
+pub returns-in_ok-insert : goal.returns-in_ok-insert
+returns-in_ok-insert c =
+    let none : found_in c.args.self.now.numbers.entries c.args.name.now ≡ None = search rules in
+    noted c.args.self.now.numbers.entries c.insert.new.self.entries c.in_ok-key.key c.args.name.now c.args.number c.in_ok-key.ensures.items none c.in_ok-insert.ensures.updates.1 c.in_ok-insert.ensures.updates.3

@@ -1,0 +1,9 @@
+pub mod Answers
+pub mod Codes
+pub mod Format
+pub mod Givers
+pub mod Laws
+pub mod Names
+pub mod Reading
+pub mod Standings
+pub mod Taking
