@@ -1,0 +1,6 @@
+pub mod Last
+pub mod Begins
+pub mod Passing
+pub mod Scripts
+pub mod Shown
+pub mod Going

@@ -1,0 +1,193 @@
+-- A command on its way: so many states have passed since it began.
+use Rattle.std.proofs.Common.{◌≡◌, ℕ, ◌+◌, ◌-◌, ◌<◌, ◌≤◌, max, is_some, Bool, true, false, List, [], ◌++◌, Option, Some, None, refl, sym, ap, subst, ◌∙◌, append_assoc, append-nil, arith, IfSome, is_none, ◌↔◌, ◌==◌, ◌&&◌}
+use Rattle.std.specs.List.{list_any}
+use Rattle.circular_buffer.specs.Buffer.{Buffer, buffer, keep_last}
+use Rattle.kc_extra.specs.Further.{Further}
+use Rattle.kc_trace.specs.declared.record.Record.{Record}
+use Rattle.kc_trace.specs.Counting.{counted_all}
+use Rattle.kc_trace.specs.Out.{Out, Puts, Prints}
+use Rattle.kc_trace.specs.Text.{text_of}
+use Rattle.kc_trace.proofs.Printed.{Prints-none, Prints-append, Prints-longer}
+use Rattle.kc_machine_spec.specs.declared.doing.End.{End}
+use Rattle.kc_machine_spec.specs.declared.doing.End.TheVariants as end
+use Rattle.kc_machine_spec.specs.Text.{HasRun}
+use Rattle.kc_machine_spec.specs.declared.doing.UnderWay.{UnderWay}
+use Rattle.kc_machine_spec.specs.Machine.{Machine, Stepped, current}
+use Rattle.kc_machine_spec.specs.Passing.{activity_end}
+use Rattle.kc_machine_spec.specs.Run.{still, and_then, run_for, run_to}
+use Rattle.kc_machine_spec.proofs.Runs.{run_for-ended, run_for-add, run_for-has_run}
+use Rattle.kc_machine.specs.Stepping.{IsBrief}
+use Rattle.kc_debug.specs.declared.activities.Begun.{Begun}
+use Rattle.kc_debug.specs.Activities.{begins_unless, beginning, begun_for}
+use Rattle.kc_debug.specs.Stops.{is_at_break}
+use Rattle.kc_debug.specs.Passing.{IsKept, Passed}
+use Rattle.kc_debug.proofs.Last.{last-append, last-same}
+use Rattle.kc_debug.proofs.Begins.{run-none, begun-none, begun-add, begun-ended, begun-activity}
+
+-- a machine that is not at its first state has run
+has_run : (how : End) (time : ℕ) → 0 < time → HasRun how time
+has_run end.Spent time h = tt
+has_run end.Powerdown time h = h
+has_run end.Reset time h = h
+has_run (end.Undefined what) time h = tt
+
+-- ---- tests
+
+pub none_end : (o : Option End) (b : Bool) → b ≡ false → b ≡ is_some o → o ≡ None
+none_end None b e h = refl
+none_end (Some how) b e h = absurd (let t : true ≡ false = sym h ∙ e in cc)
+
+pub no_end : (o : Option End) (b : Bool) → b ≡ true → b ≡ is_none o → o ≡ None
+no_end None b e h = refl
+no_end (Some how) b e h = absurd (let t : false ≡ true = sym h ∙ e in cc)
+
+-- nothing begins where an activity is under way
+pub busy : {X : Type 0} (m : Machine X) (b : Bool) → b ≡ false → ((b ≡ true) ↔ (m.under_way ≡ None)) → beginning m ≡ []
+busy m b e h = by_way m.under_way refl
+  where
+    by_way : (u : Option UnderWay) → m.under_way ≡ u → beginning m ≡ []
+    by_way (Some activity) is = ap (λ u. begins_unless u m) is
+    by_way None is = absurd (let t : b ≡ true = h.1 is in let f : true ≡ false = sym t ∙ e in cc)
+
+pub at_break : {X : Type 0} (m : Machine X) (breaks : List ℕ) (b r : Bool) (pc : ℕ) → b ≡ true → ((b ≡ true) ↔ (m.under_way ≡ None)) → pc ≡ m.cpu.pc →
+    r ≡ list_any (λ addr. addr == pc) breaks → r ≡ is_at_break breaks m
+at_break m breaks b r pc t h e is =
+    is ∙ ap (λ p. list_any (λ addr. addr == p) breaks) e ∙ ap (λ u. is_none u && list_any (λ addr. addr == m.cpu.pc) breaks) (sym (h.0 t))
+
+pub not_at_break : {X : Type 0} (m : Machine X) (breaks : List ℕ) (b : Bool) → b ≡ false → ((b ≡ true) ↔ (m.under_way ≡ None)) → false ≡ is_at_break breaks m
+not_at_break m breaks b e h = by_way m.under_way refl
+  where
+    by_way : (u : Option UnderWay) → m.under_way ≡ u → false ≡ is_at_break breaks m
+    by_way (Some activity) is = ap (λ u. is_none u && list_any (λ addr. addr == m.cpu.pc) breaks) (sym is)
+    by_way None is = absurd (let t : b ≡ true = h.1 is in let f : true ≡ false = sym t ∙ e in cc)
+
+-- what is kept stays where nothing is noted
+pub kept-same : (r : Buffer Begun) (xs : List Begun) → IsKept r → xs ≡ [] → r ≡ buffer (keep_last r.capacity (r.items ++ xs)) r.capacity
+kept-same r xs kept none =
+    let cap : 33 ≡ r.capacity = sym (ap (λ (b : Buffer Begun). b.capacity) kept) in
+    let all : r.items ≡ r.items ++ xs = sym (append-nil r.items) ∙ ap (λ ys. r.items ++ ys) (sym none) in
+    kept ∙ (λ i. buffer (keep_last (cap i) (all i)) (cap i))
+
+-- what holds the last of a list is kept
+pub kept-last : (r : Buffer Begun) (xs : List Begun) → r ≡ buffer (keep_last 33 xs) 33 → IsKept r
+kept-last r xs is = is ∙ ap (λ ys. buffer ys 33) (sym (last-same 33 xs) ∙ ap (λ (b : Buffer Begun). keep_last 33 b.items) (sym is))
+
+-- a machine that has ended has ended in some way
+pub some_end : (o : Option End) (b : Bool) → b ≡ true → b ≡ is_some o → (how : End) × (o ≡ Some how)
+some_end (Some how) b e h = (how, refl)
+some_end None b e h = absurd cc
+
+module _ {X : Type 0} (f : Further X) where
+  pub record Along (m0 : Machine X) (o0 : Out) (r0 : List Begun) (states : ℕ) (m : Machine X) (o : Out) (r : Buffer Begun) : Type 0 where
+    pub machine : m ≡ (run_for f states m0).machine
+    pub lines : Prints o0 (run_for f states m0).records o
+    pub begun : r ≡ buffer (keep_last 33 (r0 ++ begun_for f states m0)) 33
+
+  -- at the beginning
+  pub along-first : (m : Machine X) (o : Out) (r : Buffer Begun) → IsKept r → Along m o r.items 0 m o r
+  along-first m o r kept = record {
+    machine = ap (λ (s : Stepped X). s.machine) (sym (run-none f m));
+    lines = Prints-none _ o (ap (λ (s : Stepped X). s.records) (sym (run-none f m)));
+    begun = kept ∙ ap (λ xs. buffer (keep_last 33 xs) 33) (sym (append-nil r.items) ∙ ap (λ xs. r.items ++ xs) (sym (begun-none f m)));
+  }
+
+  pub along-kept : (m0 : Machine X) (o0 : Out) (r0 : List Begun) (i : ℕ) (m : Machine X) (o : Out) (r : Buffer Begun) → Along m0 o0 r0 i m o r → IsKept r
+  along-kept m0 o0 r0 i m o r along = kept-last r (r0 ++ begun_for f i m0) along.begun
+
+  -- some states of an activity more
+  pub along-next : (m0 : Machine X) (o0 : Out) (r0 : List Begun) (i n : ℕ) (m : Machine X) (o : Out) (r : Buffer Begun) (x : Machine X) (p : Out) (q : Buffer Begun) →
+      Along m0 o0 r0 i m o r → m.ended ≡ None → Passed f n m o r x p q → Along m0 o0 r0 (i + n) x p q
+  along-next m0 o0 r0 i n m o r x p q along lives next =
+      let mid : Machine X = (run_for f i m0).machine in
+      let same : run_for f n m ≡ run_for f n mid = ap (run_for f n) along.machine in
+      let all : run_for f (i + n) m0 ≡ and_then (run_for f i m0) (run_for f n) = run_for-add f i n m0 in
+      let began : begun_for f n mid ≡ beginning m = ap (begun_for f n) (sym along.machine) ∙ begun-activity f n m lives next.some next.few in
+      let more : (r0 ++ begun_for f i m0) ++ beginning m ≡ r0 ++ begun_for f (i + n) m0 =
+      append_assoc r0 (begun_for f i m0) (beginning m)
+      ∙ ap (λ xs. r0 ++ (begun_for f i m0 ++ xs)) (sym began)
+      ∙ ap (λ xs. r0 ++ xs) (sym (begun-add f i n m0)) in
+      record {
+        machine = next.machine ∙ ap (λ (s : Stepped X). s.machine) same ∙ ap (λ (s : Stepped X). s.machine) (sym all);
+        lines = subst (λ xs. Prints o0 xs p) (ap (λ (s : Stepped X). (run_for f i m0).records ++ s.records) same ∙ ap (λ (s : Stepped X). s.records) (sym all))
+            (Prints-append o0 (run_for f i m0).records o (run_for f n m).records p along.lines next.lines);
+        begun = next.begun
+            ∙ ap (λ (b : Buffer Begun). buffer (keep_last b.capacity (b.items ++ beginning m)) b.capacity) along.begun
+            ∙ ap (λ xs. buffer xs 33) (last-append 33 (r0 ++ begun_for f i m0) (beginning m) ∙ ap (keep_last 33) more);
+      }
+
+  -- an ended machine stands still
+  pub along-over : (m0 : Machine X) (o0 : Out) (r0 : List Begun) (i k : ℕ) (m : Machine X) (o : Out) (r : Buffer Begun) (how : End) →
+      Along m0 o0 r0 i m o r → m.ended ≡ Some how → Along m0 o0 r0 (i + k) m o r
+  along-over m0 o0 r0 i k m o r how along over =
+      let mid : Machine X = (run_for f i m0).machine in
+      let ended : mid.ended ≡ Some how = ap (λ (x : Machine X). x.ended) (sym along.machine) ∙ over in
+      let all : run_for f (i + k) m0 ≡ and_then (run_for f i m0) (run_for f k) = run_for-add f i k m0 in
+      let rest : run_for f k mid ≡ still mid = run_for-ended f k mid how ended in
+      record {
+        machine = along.machine ∙ ap (λ (s : Stepped X). s.machine) (sym rest) ∙ ap (λ (s : Stepped X). s.machine) (sym all);
+        lines = subst (λ xs. Prints o0 xs o)
+            (sym (append-nil (run_for f i m0).records) ∙ ap (λ (s : Stepped X). (run_for f i m0).records ++ s.records) (sym rest) ∙ ap (λ (s : Stepped X). s.records) (sym all))
+            along.lines;
+        begun = along.begun
+            ∙ ap (λ xs. buffer (keep_last 33 (r0 ++ xs)) 33)
+            (sym (append-nil (begun_for f i m0)) ∙ ap (λ xs. begun_for f i m0 ++ xs) (sym (begun-ended f k mid how ended)) ∙ sym (begun-add f i k m0));
+      }
+
+  -- a trace that has failed on the way
+  pub along-cut : (m0 : Machine X) (o0 : Out) (r0 : List Begun) (i k total : ℕ) (m : Machine X) (o : Out) (r : Buffer Begun) →
+      Along m0 o0 r0 i m o r → o.failed ≡ true → total ≡ i + k → Prints o0 (run_for f total m0).records o
+  along-cut m0 o0 r0 i k total m o r along failed sum =
+      subst (λ n. Prints o0 (run_for f n m0).records o) (sym sum)
+      (subst (λ (s : Stepped X). Prints o0 s.records o) (sym (run_for-add f i k m0)) (Prints-longer o0 _ _ o failed along.lines))
+
+  -- the end of the way
+  pub along-done : (m0 : Machine X) (o0 : Out) (r0 : List Begun) (i total : ℕ) (m : Machine X) (o : Out) (r : Buffer Begun) →
+      Along m0 o0 r0 i m o r → total ≡ i → Along m0 o0 r0 total m o r
+  along-done m0 o0 r0 i total m o r along e = subst (λ n. Along m0 o0 r0 n m o r) (sym e) along
+
+  -- a machine that ends on the way has run
+  pub ran : (n : ℕ) (m x : Machine X) → x ≡ (run_for f n m).machine → m.ended ≡ None → IfSome x.ended (λ how. HasRun how x.time)
+  ran n m x is lives = by_end x.ended refl
+    where
+      by_end : (o : Option End) → x.ended ≡ o → IfSome o (λ how. HasRun how x.time)
+      by_end None e = tt
+      by_end (Some how) e =
+          let time : (run_for f n m).machine.time ≡ x.time = ap (λ (y : Machine X). y.time) (sym is) in
+          let over : (run_for f n m).machine.ended ≡ Some how = ap (λ (y : Machine X). y.ended) (sym is) ∙ e in
+          has_run how x.time (omega (arith, run_for-has_run f n m how lives over))
+
+  -- the states of a whole activity
+  pub passed-activity : (m n : Machine X) (o p : Out) (r q : Buffer Begun) → IsBrief m → n ≡ (run_to f (activity_end m) m).machine → n.time ≡ activity_end m →
+      Prints o (run_to f (activity_end m) m).records p → q ≡ buffer (keep_last r.capacity (r.items ++ beginning m)) r.capacity → Passed f (current m).left m o r n p q
+  passed-activity m n o p r q brief machine time lines begun =
+      let e : activity_end m - m.time ≡ (current m).left = omega arith in
+      record {
+        some = brief.some;
+        few = λ more. omega arith;
+        machine = machine ∙ ap (λ i. (run_for f i m).machine) e;
+        time = time;
+        lines = subst (λ i. Prints o (run_for f i m).records p) e lines;
+        begun = begun;
+      }
+
+  -- one state
+  pub passed-state : (until : ℕ) (m n : Machine X) (o p : Out) (r q : Buffer Begun) → until ≡ m.time + 1 → n ≡ (run_to f n.time m).machine → m.time < n.time → n.time ≤ max until m.time →
+      Prints o (run_to f until m).records p → q ≡ buffer (keep_last r.capacity (r.items ++ beginning m)) r.capacity → Passed f 1 m o r n p q
+  passed-state until m n o p r q next machine further within lines begun =
+      let e : n.time - m.time ≡ 1 = omega arith in
+      let u : until - m.time ≡ 1 = omega arith in
+      record {
+        some = omega arith;
+        few = λ more. absurd (omega arith);
+        machine = machine ∙ ap (λ i. (run_for f i m).machine) e;
+        time = omega arith;
+        lines = subst (λ i. Prints o (run_for f i m).records p) u lines;
+        begun = begun;
+      }
+
+-- lines that were put whole, or at which the sink has failed
+pub printed : (o : Out) (xs : List Record) (p : Out) → Puts o (text_of xs) p → p.counts ≡ counted_all xs o.counts → Prints o xs p
+printed o xs p text counts = record { text = text; counts = λ e. counts }
+
+pub broken-off : (o : Out) (xs : List Record) (p : Out) → Puts o (text_of xs) p → p.failed ≡ true → Prints o xs p
+broken-off o xs p text failed = record { text = text; counts = λ e. absurd (let t : true ≡ false = sym failed ∙ e in cc) }

@@ -1,0 +1,36 @@
+use Rattle.std.proofs.Common.{◌++◌, sym, ap, subst, ◌∙◌}
+use Rattle.kc_trace.specs.Out.{Puts}
+use Rattle.kc_trace.specs.Text.{text_of}
+use Rattle.kc_trace.specs.Trace.{out_of}
+use Rattle.kc_trace.proofs.Outs.{Puts-append, Puts-longer}
+use Rattle.kc_machine_spec.specs.Machine.{Machine}
+use Rattle.kc_machine_spec.specs.Run.{run_for}
+use Rattle.kc_debug.specs.Lines.{stand_line}
+use Rattle.kc_debug.specs.Stops.{states_of_run}
+use Rattle.kc_debug.specs.Transcript.{new_end}
+use Rattle.kc_debug.proofs.Passing.{ran}
+use Rattle.kc_debug.proofs.session.Sitting.go.Goals as goal
+
+pub returns-in_err-go-clause-text : goal.returns-in_err-go-clause-text
+returns-in_err-go-clause-text g c =
+    let f = g.X.Extra.further in
+    let m = c.args.machine.now.machine in
+    let o = out_of g.S.Sink.written g.S.Sink.faults c.args.out.now in
+    let p = out_of g.S.Sink.written g.S.Sink.faults c.go.new.out in
+    Puts-longer o _ _ p c.in_err-go.ensures.failed (subst (λ bs. Puts o (text_of (run_for f (states_of_run f bs c.args.until m) m).records) p) c.as_slice.ensures.value c.go.ensures.lines.text)
+
+pub tell_stand-requires-clause-ran : goal.tell_stand-requires-clause-ran
+tell_stand-requires-clause-ran g c = λ lives. ran g.X.Extra.further _ c.args.machine.now.machine c.go.new.machine.machine c.in_ok-go.ensures.gone.machine (sym c.ended-before.ensures ∙ lives)
+
+pub returns-clause-text : goal.returns-clause-text
+returns-clause-text g c =
+    let f = g.X.Extra.further in
+    let m = c.args.machine.now.machine in
+    let n = c.go.new.machine.machine in
+    let o = out_of g.S.Sink.written g.S.Sink.faults c.args.out.now in
+    let p = out_of g.S.Sink.written g.S.Sink.faults c.go.new.out in
+    let q = out_of g.S.Sink.written g.S.Sink.faults c.tell_stand.new.out in
+    let lines = subst (λ bs. Puts o (text_of (run_for f (states_of_run f bs c.args.until m) m).records) p) c.as_slice.ensures.value c.go.ensures.lines.text in
+    let there = c.in_ok-go.ensures.gone.machine ∙ ap (λ bs. (run_for f (states_of_run f bs c.args.until m) m).machine) c.as_slice.ensures.value in
+    let text = subst (λ e. Puts p (text_of (new_end e n) ++ stand_line n) q) c.ended-before.ensures c.tell_stand.ensures.text in
+    Puts-append o _ p _ q lines (subst (λ (x : Machine _). Puts p (text_of (new_end m.ended x) ++ stand_line x) q) there text)

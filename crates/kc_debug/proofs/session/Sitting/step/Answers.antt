@@ -1,0 +1,24 @@
+use Rattle.std.proofs.Common.{◌++◌, sym, subst, ◌∙◌}
+use Rattle.kc_trace.specs.Out.{Puts}
+use Rattle.kc_trace.specs.Text.{text_of}
+use Rattle.kc_trace.specs.Trace.{out_of}
+use Rattle.kc_trace.proofs.Outs.{Puts-append, Puts-longer}
+use Rattle.kc_machine_spec.specs.Machine.{Machine}
+use Rattle.kc_debug.specs.Lines.{stand_line}
+use Rattle.kc_debug.specs.Transcript.{new_end}
+use Rattle.kc_debug.proofs.Passing.{ran}
+use Rattle.kc_debug.proofs.session.Sitting.step.Goals as goal
+
+pub returns-in_err-step-clause-text : goal.returns-in_err-step-clause-text
+returns-in_err-step-clause-text g c = Puts-longer _ _ _ _ c.in_err-step.ensures.failed c.step.ensures.lines.text
+
+pub tell_stand-requires-clause-ran : goal.tell_stand-requires-clause-ran
+tell_stand-requires-clause-ran g c = λ lives. ran g.X.Extra.further _ c.args.machine.now.machine c.step.new.machine.machine c.in_ok-step.ensures.gone.machine (sym c.ended-before.ensures ∙ lives)
+
+pub returns-clause-text : goal.returns-clause-text
+returns-clause-text g c =
+    let n = c.step.new.machine.machine in
+    let p = out_of g.S.Sink.written g.S.Sink.faults c.step.new.out in
+    let q = out_of g.S.Sink.written g.S.Sink.faults c.tell_stand.new.out in
+    let text = subst (λ o. Puts p (text_of (new_end o n) ++ stand_line n) q) c.ended-before.ensures c.tell_stand.ensures.text in
+    Puts-append _ _ p _ q c.step.ensures.lines.text (subst (λ (x : Machine _). Puts p (text_of (new_end c.args.machine.now.machine.ended x) ++ stand_line x) q) c.in_ok-step.ensures.gone.machine text)

@@ -1,0 +1,6 @@
+pub mod Activities
+pub mod Stops
+pub mod Lines
+pub mod Transcript
+pub mod Passing
+pub mod Sitting

@@ -1,0 +1,28 @@
+-- What a part of a command has done to a machine, to a trace, and to the activities that are kept (this kit's own).
+use Rattle.std.specs.Prelude.{◌≡◌, ℕ, ◌+◌, ◌<◌, ◌≤◌, ◌++◌}
+use Rattle.circular_buffer.specs.Buffer.{Buffer, buffer, keep_last}
+use Rattle.kc_extra.specs.Further.{Further}
+use Rattle.kc_trace.specs.Out.{Out, Prints}
+use Rattle.kc_machine_spec.specs.Machine.{Machine, current}
+use Rattle.kc_machine_spec.specs.Run.{run_for}
+use Rattle.kc_debug.specs.declared.activities.Begun.{Begun}
+use Rattle.kc_debug.specs.Activities.{beginning, begun_for}
+
+-- no more activities are kept than the last 33
+abbrev pub IsKept : Buffer Begun → Type 0
+IsKept r = r ≡ buffer (keep_last 33 r.items) 33
+
+module _ {X : Type 0} (f : Further X) where
+  -- some states of one activity have passed
+  pub record Passed (states : ℕ) (m : Machine X) (o : Out) (r : Buffer Begun) (n : Machine X) (p : Out) (q : Buffer Begun) : Type 0 where
+    pub some : 0 < states
+    pub few : 1 < states → states ≤ (current m).left
+    pub machine : n ≡ (run_for f states m).machine
+    pub time : n.time ≡ m.time + states
+    pub lines : Prints o (run_for f states m).records p
+    pub begun : q ≡ buffer (keep_last r.capacity (r.items ++ beginning m)) r.capacity
+
+  -- so many states have passed, and the activities that began in them are noted
+  pub record Gone (states : ℕ) (m : Machine X) (r : Buffer Begun) (n : Machine X) (q : Buffer Begun) : Type 0 where
+    pub machine : n ≡ (run_for f states m).machine
+    pub begun : q ≡ buffer (keep_last 33 (r.items ++ begun_for f states m)) 33

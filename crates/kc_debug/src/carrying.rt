@@ -1,0 +1,167 @@
+// The commands that let the machine go on.
+ghost use Rattle.std.specs.Prelude.{◌≡◌, ◌==◌, ℕ, ◌+◌, ◌-◌, ◌*◌, ◌^◌, ◌<◌, ◌≤◌, max, None, OnOk, OnErr, false, true};
+ghost use Rattle.std.specs.List.{list_any};
+ghost use Rattle.kc_trace.specs.Out.{Prints};
+ghost use Rattle.kc_trace.specs.Trace.{out_of};
+ghost use Rattle.kc_machine_spec.specs.Machine.{current};
+ghost use Rattle.kc_machine_spec.specs.Run.{run_for};
+ghost use Rattle.kc_debug.specs.Passing.{IsKept, Passed, Gone};
+ghost use Rattle.kc_debug.specs.Stops.{is_at_break as stands_at_break, states_of_activities, states_of_run};
+
+use crate::activities::{Begun, note};
+use circular_buffer::HeapCircularBuffer;
+use kc_base::{Sink, StateTime, Steps};
+use kc_extra::Extra;
+use kc_machine::{Machine, WriteFault};
+use kc_trace::TraceOut;
+use std::sync::ledger::Ledger;
+
+/// The most states of an activity.
+const ACTIVITY_LIMIT: u64 = 255;
+
+// Goes on to the end of the present activity, or of the next one.
+fn pass_activity<X: Extra + Drop, S: Sink, L: Ledger>(
+    begun: &mut HeapCircularBuffer<Begun>,
+    machine: &mut Machine<X>,
+    out: &mut TraceOut<S>,
+    steps: &mut Steps<L>,
+) -> Result<(), WriteFault>
+    requires kept { IsKept begun.old }
+    requires lives { machine.old.machine.ended ≡ None }
+    requires room { machine.old.machine.time ≤ 2 * 10 ^ 15 }
+    requires unbroken { out.old.failed ≡ false }
+    ensures passed { Passed X.further (current machine.old.machine).left machine.old.machine (out_of S.written S.faults out.old) begun.old machine.new.machine (out_of S.written S.faults out.new) begun.new }
+    ensures few { (current machine.old.machine).left ≤ 255 }
+    ensures written { OnOk result (out.new.failed ≡ false) }
+    ensures failed { OnErr result (out.new.failed ≡ true) }
+{
+    note(begun, machine);
+    match machine.step_activity(out, steps) {
+        Ok(_) => Ok(()),
+        Err(fault) => Err(fault),
+    }
+}
+
+// Goes on by one state.
+fn pass_state<X: Extra + Drop, S: Sink, L: Ledger>(
+    begun: &mut HeapCircularBuffer<Begun>,
+    machine: &mut Machine<X>,
+    out: &mut TraceOut<S>,
+    steps: &mut Steps<L>,
+) -> Result<(), WriteFault>
+    requires kept { IsKept begun.old }
+    requires lives { machine.old.machine.ended ≡ None }
+    requires room { machine.old.machine.time < 2 * 10 ^ 15 }
+    requires unbroken { out.old.failed ≡ false }
+    ensures passed { Passed X.further 1 machine.old.machine (out_of S.written S.faults out.old) begun.old machine.new.machine (out_of S.written S.faults out.new) begun.new }
+    ensures written { OnOk result (out.new.failed ≡ false) }
+    ensures failed { OnErr result (out.new.failed ≡ true) }
+{
+    note(begun, machine);
+    let next = machine.now() + 1;
+    match machine.run(next, out, steps) {
+        Ok(_) => Ok(()),
+        Err(fault) => Err(fault),
+    }
+}
+
+/// Goes on by so many activities; one that is under way is the first.
+pub(crate) fn step<X: Extra + Drop, S: Sink, L: Ledger>(
+    begun: &mut HeapCircularBuffer<Begun>,
+    count: u32,
+    machine: &mut Machine<X>,
+    out: &mut TraceOut<S>,
+    steps: &mut Steps<L>,
+) -> Result<(), WriteFault>
+    requires kept { IsKept begun.old }
+    requires room { machine.old.machine.time + 255 * count ≤ 2 * 10 ^ 15 }
+    requires unbroken { out.old.failed ≡ false }
+    ensures lines { Prints (out_of S.written S.faults out.old) (run_for X.further (states_of_activities X.further count machine.old.machine) machine.old.machine).records (out_of S.written S.faults out.new) }
+    ensures gone { OnOk result (Gone X.further (states_of_activities X.further count machine.old.machine) machine.old.machine begun.old machine.new.machine begun.new) }
+    ensures time { machine.new.machine.time ≤ machine.old.machine.time + 255 * count }
+    ensures capacity { begun.new.capacity ≡ 33 }
+    ensures written { OnOk result (out.new.failed ≡ false) }
+    ensures failed { OnErr result (out.new.failed ≡ true) }
+{
+    let mut left = count;
+    while left > 0 {
+        if machine.ended().is_some() {
+            return Ok(());
+        }
+        pass_activity(begun, machine, out, steps)?;
+        left -= 1;
+    }
+    Ok(())
+}
+
+fn is_break(breaks: &[u16], addr: u16) -> bool
+    ensures { result ≡ list_any (λ b. b == addr) breaks.now }
+{
+    breaks.iter().any(|b| *b == addr)
+}
+
+// Whether an activity would start at a breakpoint.
+fn is_at_break<X: Extra + Drop>(breaks: &[u16], machine: &Machine<X>) -> bool
+    ensures { result ≡ stands_at_break breaks.now machine.now.machine }
+{
+    if machine.between() {
+        is_break(breaks, machine.pc())
+    } else {
+        false
+    }
+}
+
+// Goes on to the end of an activity, or by one state where the state `until` is near.
+fn pass<X: Extra + Drop, S: Sink, L: Ledger>(
+    begun: &mut HeapCircularBuffer<Begun>,
+    until: StateTime,
+    machine: &mut Machine<X>,
+    out: &mut TraceOut<S>,
+    steps: &mut Steps<L>,
+) -> Result<(), WriteFault>
+    requires kept { IsKept begun.old }
+    requires lives { machine.old.machine.ended ≡ None }
+    requires ahead { machine.old.machine.time < until }
+    requires room { until ≤ 2 * 10 ^ 15 }
+    requires unbroken { out.old.failed ≡ false }
+    ensures passed { (states : ℕ) × (states ≤ until - machine.old.machine.time) × Passed X.further states machine.old.machine (out_of S.written S.faults out.old) begun.old machine.new.machine (out_of S.written S.faults out.new) begun.new }
+    ensures written { OnOk result (out.new.failed ≡ false) }
+    ensures failed { OnErr result (out.new.failed ≡ true) }
+{
+    if until - machine.now() >= ACTIVITY_LIMIT {
+        pass_activity(begun, machine, out, steps)
+    } else {
+        pass_state(begun, machine, out, steps)
+    }
+}
+
+/// Goes on to a state, or to where an activity would start at a breakpoint.
+pub(crate) fn go<X: Extra + Drop, S: Sink, L: Ledger>(
+    begun: &mut HeapCircularBuffer<Begun>,
+    breaks: &[u16],
+    until: StateTime,
+    machine: &mut Machine<X>,
+    out: &mut TraceOut<S>,
+    steps: &mut Steps<L>,
+) -> Result<(), WriteFault>
+    requires kept { IsKept begun.old }
+    requires room { until ≤ 2 * 10 ^ 15 }
+    requires unbroken { out.old.failed ≡ false }
+    ensures lines { Prints (out_of S.written S.faults out.old) (run_for X.further (states_of_run X.further breaks.now until machine.old.machine) machine.old.machine).records (out_of S.written S.faults out.new) }
+    ensures gone { OnOk result (Gone X.further (states_of_run X.further breaks.now until machine.old.machine) machine.old.machine begun.old machine.new.machine begun.new) }
+    ensures time { machine.new.machine.time ≤ max until machine.old.machine.time }
+    ensures capacity { begun.new.capacity ≡ 33 }
+    ensures written { OnOk result (out.new.failed ≡ false) }
+    ensures failed { OnErr result (out.new.failed ≡ true) }
+{
+    while machine.now() < until {
+        if machine.ended().is_some() {
+            return Ok(());
+        }
+        pass(begun, until, machine, out, steps)?;
+        if is_at_break(breaks, machine) {
+            return Ok(());
+        }
+    }
+    Ok(())
+}

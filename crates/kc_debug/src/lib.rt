@@ -1,0 +1,14 @@
+//! The debugger: a script of commands that is carried out over a machine, and what is printed of it.
+#![tactic(auto)]
+
+mod activities;
+mod carrying;
+mod lines;
+mod session;
+mod showing;
+#[cfg(test)]
+mod tests;
+
+pub use kc_debug_script::{DebugFault, LineMap, Script};
+pub use kc_machine::End;
+pub use session::Session;

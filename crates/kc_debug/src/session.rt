@@ -1,0 +1,259 @@
+// Sessions: a script that is carried out over a machine.
+ghost use Rattle.std.specs.Prelude.{◌≡◌, ◌+◌, ◌*◌, ◌^◌, ◌<◌, ◌≤◌, max, [], ◌∷◌, length, drop, count_by, IfOk, IfErr, OnOk, OnErr, false, true};
+ghost use Rattle.circular_buffer.specs.Buffer.{buffer, keep_last};
+ghost use Rattle.kc_trace.specs.Out.{Puts};
+ghost use Rattle.kc_machine_spec.specs.Run.{end_of};
+ghost use Rattle.kc_debug_script.specs.Commands.{IsBounded};
+ghost use Rattle.kc_debug_script.specs.declared.fault.DebugFault.TheVariants as faults;
+ghost use Rattle.kc_debug_script.specs.Script.{is_break, AreBounded};
+ghost use Rattle.kc_debug.specs.Passing.{IsKept, Gone};
+ghost use Rattle.kc_debug.specs.Stops.{states_of_activities, states_of_run};
+ghost use Rattle.kc_debug.specs.Transcript.{after_command, gone_for, quits, transcript};
+ghost use Rattle.kc_debug.specs.Sitting.{seen};
+
+use crate::activities::{Begun, KEPT};
+use crate::carrying::{go, step};
+use crate::showing::{show, tell_history, tell_stand};
+use arrayvec::ArrayVec;
+use circular_buffer::HeapCircularBuffer;
+use kc_base::{NoMemory, Sink, StateTime, Steps};
+use kc_debug_script::{Command, DebugFault, LineMap, Script};
+use kc_extra::Extra;
+use kc_machine::{End, Machine, WriteFault};
+use kc_trace::TraceOut;
+use std::alloc::Global;
+use std::marker::Model;
+use std::sync::ledger::Ledger;
+
+/// The breakpoints of a script so far, and the last activities that have begun.
+#[derive(Drop)]
+pub(crate) struct Sitting {
+    pub(crate) breaks: ArrayVec<u16, 16>,
+    pub(crate) begun: HeapCircularBuffer<Begun>,
+}
+
+/// A debugger with a line map. It carries out scripts, each from its own beginning, without breakpoints and without activities.
+#[derive(Drop)]
+pub struct Session {
+    lines: LineMap,
+    sitting: Sitting,
+}
+
+impl Model for Session {
+    ghost use Rattle.std.specs.Prelude.{◌≡◌, List};
+    ghost use Rattle.kc_debug_script.specs.declared.line_map.MapEntry.{MapEntry};
+
+    ghost Value = { List MapEntry };
+
+    ghost view = { λ s. s.lines };
+
+    ghost invariant = { λ s. s.sitting.begun.capacity ≡ 33 };
+}
+
+fn first_begun(alloc: Global) -> Result<HeapCircularBuffer<Begun>, NoMemory>
+    ensures { IfOk result (λ begun. begun ≡ buffer [] 33) }
+{
+    let begun = HeapCircularBuffer::with_capacity(alloc, KEPT)?;
+    Ok(begun)
+}
+
+fn is_quit(command: Command) -> bool
+    ensures { result ≡ quits command }
+{
+    matches!(command, Command::Quit)
+}
+
+fn command_at(commands: &[Command], index: usize) -> Command
+    requires within { index < length commands.now }
+    requires bounded { AreBounded commands.now }
+    ensures here { drop index commands.now ≡ result ∷ drop (index + 1) commands.now }
+    ensures bounded { IsBounded result }
+{
+    commands[index]
+}
+
+impl Sitting {
+    ghost use Rattle.kc_trace.specs.Trace.{out_of};
+
+    // Goes on by activities, and tells where the machine stands.
+    fn step<X: Extra + Drop, S: Sink, L: Ledger>(
+        &mut self,
+        count: u32,
+        machine: &mut Machine<X>,
+        out: &mut TraceOut<S>,
+        steps: &mut Steps<L>,
+    ) -> Result<(), WriteFault>
+        requires kept { IsKept self.old.begun }
+        requires room { machine.old.machine.time + 255 * count ≤ 2 * 10 ^ 15 }
+        requires unbroken { out.old.failed ≡ false }
+        ensures text { Puts (out_of S.written S.faults out.old) (gone_for X.further (states_of_activities X.further count machine.old.machine) (seen machine.old.machine self.old)).text (out_of S.written S.faults out.new) }
+        ensures gone { OnOk result (Gone X.further (states_of_activities X.further count machine.old.machine) machine.old.machine self.old.begun machine.new.machine self.new.begun) }
+        ensures time { machine.new.machine.time ≤ machine.old.machine.time + 255 * count }
+        ensures capacity { self.new.begun.capacity ≡ 33 }
+        ensures breaks { self.new.breaks ≡ self.old.breaks }
+        ensures written { OnOk result (out.new.failed ≡ false) }
+        ensures failed { OnErr result (out.new.failed ≡ true) }
+    {
+        let before = machine.ended();
+        step(&mut self.begun, count, machine, out, steps)?;
+        tell_stand(before, machine, out)
+    }
+
+    // Goes on to a state or a breakpoint, and tells where the machine stands.
+    fn go<X: Extra + Drop, S: Sink, L: Ledger>(
+        &mut self,
+        until: StateTime,
+        machine: &mut Machine<X>,
+        out: &mut TraceOut<S>,
+        steps: &mut Steps<L>,
+    ) -> Result<(), WriteFault>
+        requires kept { IsKept self.old.begun }
+        requires room { until ≤ 2 * 10 ^ 15 }
+        requires unbroken { out.old.failed ≡ false }
+        ensures text { Puts (out_of S.written S.faults out.old) (gone_for X.further (states_of_run X.further self.old.breaks.items until machine.old.machine) (seen machine.old.machine self.old)).text (out_of S.written S.faults out.new) }
+        ensures gone { OnOk result (Gone X.further (states_of_run X.further self.old.breaks.items until machine.old.machine) machine.old.machine self.old.begun machine.new.machine self.new.begun) }
+        ensures time { machine.new.machine.time ≤ max until machine.old.machine.time }
+        ensures capacity { self.new.begun.capacity ≡ 33 }
+        ensures breaks { self.new.breaks ≡ self.old.breaks }
+        ensures written { OnOk result (out.new.failed ≡ false) }
+        ensures failed { OnErr result (out.new.failed ≡ true) }
+    {
+        let before = machine.ended();
+        go(
+            &mut self.begun,
+            self.breaks.as_slice(),
+            until,
+            machine,
+            out,
+            steps,
+        )?;
+        tell_stand(before, machine, out)
+    }
+
+    // Carries out a command.
+    fn carry_out<X: Extra + Drop, S: Sink, L: Ledger>(
+        &mut self,
+        lines: &LineMap,
+        command: Command,
+        machine: &mut Machine<X>,
+        out: &mut TraceOut<S>,
+        steps: &mut Steps<L>,
+    ) -> Result<(), WriteFault>
+        requires bounded { IsBounded command }
+        requires kept { IsKept self.old.begun }
+        requires few { length self.old.breaks.items + count_by is_break (command ∷ []) ≤ 16 }
+        requires room { machine.old.machine.time + 255000000 ≤ 2 * 10 ^ 15 }
+        requires unbroken { out.old.failed ≡ false }
+        ensures text { Puts (out_of S.written S.faults out.old) (after_command X.further lines.now command (seen machine.old.machine self.old)).text (out_of S.written S.faults out.new) }
+        ensures machine { OnOk result (machine.new.machine ≡ (after_command X.further lines.now command (seen machine.old.machine self.old)).machine) }
+        ensures breaks { OnOk result (self.new.breaks.items ≡ (after_command X.further lines.now command (seen machine.old.machine self.old)).breaks) }
+        ensures begun { OnOk result (self.new.begun ≡ buffer (keep_last 33 (after_command X.further lines.now command (seen machine.old.machine self.old)).begun) 33) }
+        ensures time { machine.new.machine.time ≤ max (10 ^ 15) machine.old.machine.time + 255000000 }
+        ensures capacity { self.new.begun.capacity ≡ 33 }
+        ensures written { OnOk result (out.new.failed ≡ false) }
+        ensures failed { OnErr result (out.new.failed ≡ true) }
+    {
+        match command {
+            Command::Step(count) => self.step(count, machine, out, steps),
+            Command::Go(until) => self.go(until, machine, out, steps),
+            Command::Break(addr) => {
+                self.breaks.push(addr);
+                Ok(())
+            }
+            Command::Registers => machine.write_registers(out),
+            Command::Show { from, count } => show(machine, from, count, out),
+            Command::Write { addr, value } => {
+                machine.poke(addr, value);
+                Ok(())
+            }
+            Command::History => tell_history(lines, &self.begun, machine, out),
+            Command::Quit => Ok(()),
+        }
+    }
+
+    // Carries out commands from no breakpoint and no activity on, up to the first that ends the script.
+    fn carry_out_all<X: Extra + Drop, S: Sink, L: Ledger>(
+        &mut self,
+        lines: &LineMap,
+        commands: &[Command],
+        machine: &mut Machine<X>,
+        out: &mut TraceOut<S>,
+        steps: &mut Steps<L>,
+    ) -> Result<(), WriteFault>
+        requires bounded { AreBounded commands.now }
+        requires breaks { self.old.breaks.items ≡ [] }
+        requires begun { self.old.begun ≡ buffer [] 33 }
+        requires room { machine.old.machine.time ≤ 10 ^ 15 }
+        requires unbroken { out.old.failed ≡ false }
+        ensures text { Puts (out_of S.written S.faults out.old) (transcript X.further lines.now commands.now machine.old.machine).text (out_of S.written S.faults out.new) }
+        ensures machine { OnOk result (machine.new.machine ≡ (transcript X.further lines.now commands.now machine.old.machine).machine) }
+        ensures capacity { self.new.begun.capacity ≡ 33 }
+        ensures written { OnOk result (out.new.failed ≡ false) }
+        ensures failed { OnErr result (out.new.failed ≡ true) }
+    {
+        for index in 0..commands.len() {
+            let command = command_at(commands, index);
+            if is_quit(command) {
+                return Ok(());
+            }
+            self.carry_out(lines, command, machine, out, steps)?;
+        }
+        Ok(())
+    }
+}
+
+impl Session {
+    ghost use Rattle.kc_trace.specs.Trace.{out_of};
+
+    /// A session without source lines. The only refusal is want of memory.
+    pub fn new(alloc: Global) -> Result<Session, DebugFault>
+        ensures lines { IfOk result (λ session. session ≡ []) }
+        ensures fault { IfErr result (λ fault. fault ≡ faults.NoMemory) }
+    {
+        Session::with_lines(alloc, LineMap::none(alloc))
+    }
+
+    /// A session with the source lines of a map. The only refusal is want of memory.
+    pub fn with_lines(alloc: Global, lines: LineMap) -> Result<Session, DebugFault>
+        ensures lines { IfOk result (λ session. session ≡ lines) }
+        ensures fault { IfErr result (λ fault. fault ≡ faults.NoMemory) }
+    {
+        let begun = first_begun(alloc)?;
+        let breaks = ArrayVec::new();
+        Ok(Session {
+            lines,
+            sitting: Sitting { breaks, begun },
+        })
+    }
+
+    /// Carries out a script over a machine that stands at state 10^15 at most, from no breakpoint and no activity on, and writes
+    /// its transcript. Answers how the machine has ended, or `Spent` while it lives. The only refusal is that the sink failed;
+    /// a front of the transcript is written then.
+    pub fn run_script<X: Extra + Drop, S: Sink, L: Ledger>(
+        &mut self,
+        script: &Script,
+        machine: &mut Machine<X>,
+        out: &mut TraceOut<S>,
+        steps: &mut Steps<L>,
+    ) -> Result<End, DebugFault>
+        requires room { machine.old.machine.time ≤ 10 ^ 15 }
+        requires unbroken { out.old.failed ≡ false }
+        ensures text { Puts (out_of S.written S.faults out.old) (transcript X.further self.old script.now machine.old.machine).text (out_of S.written S.faults out.new) }
+        ensures machine { OnOk result (machine.new.machine ≡ (transcript X.further self.old script.now machine.old.machine).machine) }
+        ensures end { IfOk result (λ end. end ≡ end_of (transcript X.further self.old script.now machine.old.machine).machine) }
+        ensures written { OnOk result (out.new.failed ≡ false) }
+        ensures fault { IfErr result (λ fault. fault ≡ faults.WriteFault) }
+        ensures failed { OnErr result (out.new.failed ≡ true) }
+        ensures lines { self.new ≡ self.old }
+    {
+        self.sitting.breaks.clear();
+        self.sitting.begun.clear();
+        match self
+            .sitting
+            .carry_out_all(&self.lines, script.commands(), machine, out, steps)
+        {
+            Ok(()) => Ok(machine.ended().unwrap_or(End::Spent)),
+            Err(_) => Err(DebugFault::WriteFault),
+        }
+    }
+}

@@ -1,0 +1,163 @@
+// Expected lines are those of a model in another language.
+ghost use Rattle.std.specs.Prelude.{◌≡◌, ◌<◌, ◌≤◌, length, false, IfOk};
+
+use crate::{LineMap, Script, Session};
+use kc_base::{Image, MemSink, Sink, Steps};
+use kc_extra::NoExtra;
+use kc_machine::Machine;
+use kc_stim::Stimuli;
+use kc_trace::TraceOut;
+use std::alloc::Global;
+use std::marker::Brand;
+use std::sync::ledger::{Blank, Ledger};
+use std::test::Fail;
+
+// The place of 2080H in an image.
+const ORIGIN: usize = 0x80;
+
+fn machine_of(alloc: Global, bytes: &[u8]) -> Result<Machine<NoExtra>, Fail>
+    requires { length bytes.now ≤ 100 }
+    ensures { IfOk result (λ machine. machine.machine.time ≡ 0) }
+{
+    let mut image = Image::blank(alloc)?;
+    image.put(ORIGIN, bytes);
+    Ok(Machine::new(alloc, image, Stimuli::none(alloc), NoExtra::new())?)
+}
+
+fn run_counted<L: Ledger>(
+    session: &mut Session,
+    script: &Script,
+    machine: &mut Machine<NoExtra>,
+    out: &mut TraceOut<MemSink>,
+    blank: Blank,
+) -> bool
+    requires start { machine.old.machine.time ≡ 0 }
+    requires unbroken { out.old.failed ≡ false }
+    requires name { blank.name ≡ L.name }
+    requires parts { blank.parts ≡ L.parts }
+    requires whole { 0 < blank.parts }
+{
+    let mut steps = Steps::<L>::new(blank);
+    session.run_script(script, machine, out, &mut steps).is_ok()
+}
+
+// Carries out a script over the machine of some bytes at 2080H, with a line map, and a sink whose write of a number fails.
+fn carried_out(
+    alloc: Global,
+    bytes: &[u8],
+    script: &str,
+    map: &str,
+    failing: Option<u64>,
+) -> Result<(TraceOut<MemSink>, bool), Fail>
+    requires bytes { length bytes.now ≤ 100 }
+    requires script { length script.now ≤ 1000 }
+    requires map { length map.now ≤ 1000 }
+{
+    let script = Script::read(alloc, script.as_bytes())?;
+    let lines = LineMap::read(alloc, map.as_bytes())?;
+    let mut machine = machine_of(alloc, bytes)?;
+    let mut faults = Vec::new(alloc);
+    if let Some(write) = failing {
+        faults.push(write)?;
+    }
+    let mut out = TraceOut::new(MemSink::new(alloc, 4096, faults)?);
+    let mut session = Session::with_lines(alloc, lines)?;
+    let whole = run_counted::<Brand>(&mut session, &script, &mut machine, &mut out, Blank::new(1));
+    Ok((out, whole))
+}
+
+#[test]
+fn scripts_are_carried_out(rt: HostRuntime) -> Result<(), Fail> {
+    let rows: [(&[u8], &str, &str, &str); 13] = [
+        (
+            &[0xFD],
+            "s 1\nm 0018 2\nl\nq\n",
+            "",
+            "T 2 2081\nM 0018 0000\nA 0 2080\n",
+        ),
+        (
+            &[0xFD],
+            "s 1\nm 0018 2\nl\nq\n",
+            "2080 NONAME 2\n",
+            "T 2 2081\nM 0018 0000\nA 0 2080 NONAME:2\n",
+        ),
+        (
+            &[0xFD],
+            "b 2081\ng 100\nw 0020 7F\nm 0020 1\nq\n",
+            "",
+            "T 2 2081\nM 0020 7F\n",
+        ),
+        (
+            &[0x27, 0xFE],
+            "b 2080\ng 1000\ng 1000\nl\n",
+            "",
+            "T 7 2080\nT 14 2080\nA 0 2080\nA 7 2080\n",
+        ),
+        (
+            &[0x27, 0xFE],
+            "g 3\nl\ns 1\nl\ng 5\ns 1\nl\ng 1\ng 2000\n",
+            "",
+            "T 3 2080\nT 7 2080\nA 0 2080\nT 7 2080\nT 14 2080\nA 0 2080\nA 7 2080\nT 14 2080\nT 2000 2080\n",
+        ),
+        (
+            &[0xEE],
+            "b 2080\ng 100\ns 5\nl\nw 2080 FD\nm 2080 1\nq\nm 0000 1\n",
+            "",
+            "U 1 3 2080\nX 1 undefined\nT 2 2080\nT 2 2080\nA 0 2080\nM 2080 FD\n",
+        ),
+        (&[0xFF], "s 1\ng 5\n", "", "X 3 reset\nT 4 2081\nT 4 2081\n"),
+        (
+            &[0xFD],
+            "m FFF0 33\nm 1FFC 6\nm 200F 17\n",
+            "",
+            "M FFF0 FFFFFFFFFFFFFFFFFFFFFFFFFFFFFFFF\nM 0000 000000000000000000000000000000FF\nM 0010 E1\nM 1FFC 00000000FFFF\nM 200F FFFFFFFFFFFFFFFFFFFFFFFFFFFFFFFF\nM 201F FF\n",
+        ),
+        (
+            &[0xFD, 0xFD, 0xFD],
+            "w 2080 27\nw 2081 FE\ns 2\nl\n",
+            "",
+            "T 14 2080\nA 0 2080\nA 7 2080\n",
+        ),
+        (
+            &[0xF6, 0x01],
+            "s 1\nl\nb 2082\ng 7\ng 300\nl\n",
+            "",
+            "T 8 2082\nA 0 2080\nT 8 2082\nT 9 2082\nA 0 2080\nA 8 2082\n",
+        ),
+        (
+            &[0xA1, 0x34, 0x12, 0x20, 0xFD],
+            "b 2084\nb 2085\ng 1000000000000000\nm 001F 4\ng 1000\nl\n",
+            "2080 MAIN 3\n2084 MAIN 4\n",
+            "T 5 2084\nM 001F 00341200\nT 7 2085\nA 0 2080 MAIN:3\nA 5 2084 MAIN:4\n",
+        ),
+        (&[], "", "", ""),
+        (&[0xFD], "q\ns 1\n", "", ""),
+    ];
+    for (bytes, script, map, text) in rows {
+        assert!(rt; bytes.len() <= 100 && script.len() <= 1000 && map.len() <= 1000);
+        let (out, whole) = carried_out(rt.alloc(), bytes, script, map, None)?;
+        assert!(rt; out.sink().written() == text.as_bytes(), "{script}");
+        assert!(rt; whole);
+    }
+    Ok(())
+}
+
+// A line with a source line takes five writes, any other one.
+#[test]
+fn a_failed_sink_has_a_front(rt: HostRuntime) -> Result<(), Fail> {
+    let (bytes, map): (&[u8], &str) = (&[0x27, 0xFE], "2080 LOOP 7\n");
+    let rows = [
+        (1, "", false),
+        (2, "T 7 2080\n", false),
+        (3, "T 7 2080\nM 0018 0000\n", false),
+        (7, "T 7 2080\nM 0018 0000\nA 0 2080 LOOP:7", false),
+        (8, "T 7 2080\nM 0018 0000\nA 0 2080 LOOP:7\n", true),
+    ];
+    for (write, text, ends) in rows {
+        let script = "s 1\nm 0018 2\nl\n";
+        let (out, whole) = carried_out(rt.alloc(), bytes, script, map, Some(write))?;
+        assert!(rt; out.sink().written() == text.as_bytes(), "{write}");
+        assert_eq!(rt; whole, ends);
+    }
+    Ok(())
+}

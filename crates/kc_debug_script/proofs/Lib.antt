@@ -1,0 +1,4 @@
+pub mod Saying
+pub mod Grammar
+pub mod Limits
+pub mod Orders

@@ -1,0 +1,6 @@
+pub mod Fields
+pub mod Commands
+pub mod Reading
+pub mod Script
+pub mod LineMap
+pub mod Laws

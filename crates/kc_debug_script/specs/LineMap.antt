@@ -1,0 +1,74 @@
+-- A line map: from which line of which module the bytes at an address come (this kit's own).
+use Rattle.std.specs.Prelude.{◌≡◌, ℕ, ◌-◌, ◌<◌, ◌≤◌, ◌^◌, nat_lt, nat_le, Bool, true, ◌&&◌, Option, Some, None, Result, Ok, Err, List, [], ◌∷◌, length, find, slice_get, ◌==◌, if◌then◌else◌, All}
+use Rattle.std.specs.List.{before_first, after_first, list_any}
+use Rattle.std.specs.Char.{is_ascii_lowercase}
+use Rattle.kc_base.specs.TextLines.{text_lines}
+use Rattle.kc_obj.specs.Names.{is_name}
+use Rattle.kc_debug_script.specs.declared.line_map.MapEntry.{MapEntry}
+use Rattle.kc_debug_script.specs.declared.fault.DebugFault.{DebugFault}
+use Rattle.kc_debug_script.specs.declared.fault.DebugFault.TheVariants as faults
+use Rattle.kc_debug_script.specs.Fields.{if_is, number_of, address_of}
+use Rattle.kc_debug_script.specs.Commands.{is_space}
+use Rattle.kc_debug_script.specs.Reading.{said}
+
+-- ---- a line: an address, the name of a module, and a line of its source, with single spaces between them
+
+-- an address in upper-case digits
+abbrev pub map_address : List ℕ → Option ℕ
+map_address text = if list_any is_ascii_lowercase text then None else address_of text
+
+abbrev pub map_name : List ℕ → Option (List ℕ)
+map_name text = if is_name text then Some text else None
+
+abbrev pub entry_with : Option ℕ → Option (List ℕ) → Option ℕ → Option MapEntry
+entry_with None name line = None
+entry_with (Some addr) None line = None
+entry_with (Some addr) (Some name) None = None
+entry_with (Some addr) (Some name) (Some line) = Some (record { addr = addr; name = name; line = line })
+
+abbrev pub after_space : List ℕ → List ℕ
+after_space text = after_first is_space text
+
+abbrev pub entry_of : List ℕ → Option MapEntry
+entry_of text =
+    entry_with (map_address (before_first is_space text)) (map_name (before_first is_space (after_space text))) (number_of (2 ^ 32 - 1) (after_space (after_space text)))
+
+-- ---- a map: addresses from 2000H on, each above the one before
+
+abbrev pub is_below : ℕ → Option MapEntry → Bool
+is_below addr None = true
+is_below addr (Some last) = nat_lt last.addr addr
+
+abbrev pub may_come : List MapEntry → MapEntry → Bool
+may_come before entry = nat_le 0x2000 entry.addr && is_below entry.addr (slice_get before (length before - 1))
+
+-- the entry of a line behind these entries
+abbrev pub entry_after : List MapEntry → List ℕ → Option MapEntry
+entry_after before line = if_is (may_come before) (entry_of line)
+
+-- the entries of a map, or the number of its first line that is none
+abbrev pub map_of : List ℕ → Result (List MapEntry) ℕ
+map_of text = said entry_after [] (text_lines text)
+
+-- what a reader answers; want of memory may come at any time
+abbrev pub IsMapRead : Result (List MapEntry) DebugFault → Result (List MapEntry) ℕ → Type 0
+IsMapRead (Ok entries) read = read ≡ Ok entries
+IsMapRead (Err (faults.BadMap line)) read = read ≡ Err line
+IsMapRead (Err faults.NoMemory) read = Unit {0}
+IsMapRead (Err (faults.BadCommand line)) read = ⊥
+IsMapRead (Err faults.WriteFault) read = ⊥
+
+-- each address is above the one before
+abbrev pub Rises : List MapEntry → Type 0
+Rises [] = Unit {0}
+Rises (e ∷ []) = Unit {0}
+Rises (e ∷ f ∷ es) = (e.addr < f.addr) × Rises (f ∷ es)
+
+-- what is known of the entries of a map
+pub record IsOrdered (entries : List MapEntry) : Type 0 where
+  pub high : All (λ e. 0x2000 ≤ e.addr) entries
+  pub rises : Rises entries
+
+-- the entry of an address
+abbrev pub entry_at : List MapEntry → ℕ → Option MapEntry
+entry_at entries addr = find (λ e. e.addr == addr) entries

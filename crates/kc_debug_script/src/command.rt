@@ -1,0 +1,117 @@
+// Commands, and the lines that ask for them.
+ghost use Rattle.std.specs.Prelude.{◌≡◌, IfSome};
+ghost use Rattle.kc_debug_script.specs.Commands.{is_writable as may_be_written, letter_alone as alone, letter_with as with_fields, command_of, IsBounded};
+
+use crate::fields::{address, byte, number, split_at_space};
+use kc_base::StateTime;
+
+/// What a line of a script asks for.
+#[derive(Clone, Copy, Debug, PartialEq, Eq, Drop)]
+pub enum Command {
+    /// So many activities, 1 to 1,000,000.
+    Step(u32),
+    /// A run until a state, 1 to 10^15, or until an activity would start at a breakpoint.
+    Go(StateTime),
+    /// A breakpoint at an address.
+    Break(u16),
+    /// The program counter, the status word, the window register and the register file.
+    Registers,
+    /// So many bytes, 1 to 256, from an address on.
+    Show { from: u16, count: u16 },
+    /// A byte that is put at an address, 0018H or above and not 1FFEH or 1FFFH.
+    Write { addr: u16, value: u8 },
+    /// The last activities.
+    History,
+    /// The end of the script.
+    Quit,
+}
+
+/// The most activities of one command.
+const STEP_LIMIT: u64 = 1_000_000;
+
+/// The greatest state time that a run goes to.
+const TIME_LIMIT: u64 = 1_000_000_000_000_000;
+
+/// The most bytes that one command shows.
+const SHOW_LIMIT: u64 = 256;
+
+fn is_writable(addr: u16) -> bool
+    ensures { result ≡ may_be_written addr }
+{
+    0x18 <= addr && !(addr == 0x1FFE || addr == 0x1FFF)
+}
+
+fn letter_alone(letter: u8) -> Option<Command>
+    ensures { result ≡ alone letter }
+{
+    match letter {
+        b'l' => Some(Command::History),
+        b'q' => Some(Command::Quit),
+        b'r' => Some(Command::Registers),
+        _ => None,
+    }
+}
+
+fn go(fields: &[u8]) -> Option<Command>
+    ensures value { result ≡ with_fields 103 fields.now }
+    ensures bounded { IfSome result IsBounded }
+{
+    Some(Command::Go(number(fields, TIME_LIMIT)?))
+}
+
+fn step(fields: &[u8]) -> Option<Command>
+    ensures value { result ≡ with_fields 115 fields.now }
+    ensures bounded { IfSome result IsBounded }
+{
+    Some(Command::Step(number(fields, STEP_LIMIT)? as u32))
+}
+
+fn show(fields: &[u8]) -> Option<Command>
+    ensures value { result ≡ with_fields 109 fields.now }
+    ensures bounded { IfSome result IsBounded }
+{
+    let (first, second) = split_at_space(fields);
+    let from = address(first)?;
+    let count = number(second, SHOW_LIMIT)? as u16;
+    Some(Command::Show { from, count })
+}
+
+fn write(fields: &[u8]) -> Option<Command>
+    ensures value { result ≡ with_fields 119 fields.now }
+    ensures bounded { IfSome result IsBounded }
+{
+    let (first, second) = split_at_space(fields);
+    let addr = address(first)?;
+    if !is_writable(addr) {
+        return None;
+    }
+    let value = byte(second)?;
+    Some(Command::Write { addr, value })
+}
+
+// What stands behind a letter and a space.
+fn letter_with(letter: u8, fields: &[u8]) -> Option<Command>
+    ensures value { result ≡ with_fields letter fields.now }
+    ensures bounded { IfSome result IsBounded }
+{
+    match letter {
+        b'b' => Some(Command::Break(address(fields)?)),
+        b'g' => go(fields),
+        b'm' => show(fields),
+        b's' => step(fields),
+        b'w' => write(fields),
+        _ => None,
+    }
+}
+
+/// The command of a line, if it is one.
+pub(crate) fn read_command(line: &[u8]) -> Option<Command>
+    ensures value { result ≡ command_of line.now }
+    ensures bounded { IfSome result IsBounded }
+{
+    match line {
+        [letter] => letter_alone(*letter),
+        [letter, b' ', fields @ ..] => letter_with(*letter, fields),
+        _ => None,
+    }
+}
