@@ -1,0 +1,93 @@
+-- A text without a fault is read, and each draft of what it says has a module.
+use Rattle.std.proofs.Common.{◌≡◌, ℕ, ◌<◌, ◌≤◌, Bool, true, false, List, [], length, refl, arith, inl, inr}
+use Rattle.std.specs.Prelude.{Option, Some, None, Result, Ok, Err, nat_le}
+use Rattle.std.proofs.lemmas.Bool.Decides.{nat_tests}
+use Rattle.kc_lex.specs.declared.token.Line.{Line}
+use Rattle.kc_lex.specs.Lines.{lines_of}
+use Rattle.kc_macro.specs.Expansion.{Answer, expanded, Ends, ExpansionEnds}
+use Rattle.kc_source_statement.specs.declared.statement.Stmt.{Stmt}
+use Rattle.kc_source.specs.Faults.{Fault, least, faults_of}
+use Rattle.kc_asm_piece.specs.declared.draft.Draft.{Draft}
+use Rattle.kc_asm_module.specs.Drafts.{IsDraft}
+use Rattle.kc_asm_module.specs.Order.{number_of}
+use Rattle.kc_asm_module.specs.ModuleOf.{kept_in, pieces_in}
+use Rattle.kc_asm_module.proofs.Whole.{object_from, module_is}
+use Rattle.kc_asm_check.specs.Codes.{first_regions}
+use Rattle.kc_asm_check.specs.Judging.{first_fault, site_list, standing}
+use Rattle.kc_asm_check.specs.Laws.{SoundStatements}
+use Rattle.kc_asm_draft_laws.specs.Drafting.{first_parts, IsDraftOf}
+use Rattle.kc_asm_draft_laws.specs.Sound.{DraftsAreDrafts, DraftsAreWhole}
+use Rattle.kc_asm_draft_laws.specs.Writable.{PartsAreWritable}
+use Rattle.kc_asm.specs.Assembled.{IsText, AreSaid, last_line}
+use Rattle.kc_source_laws.specs.Lines.{StatementsAreOfTheText}
+use Rattle.kc_asm_laws.specs.Exists.{IsFaultless, FaultlessAreRead, FaultlessHaveModules}
+use Rattle.kc_asm_laws.proofs.Sources.{said_bytes}
+use Rattle.kc_asm_laws.proofs.Sorted.{sorted, sorted_same, sorted_ordered}
+use Rattle.kc_asm_laws.proofs.Tapes.{stack_small}
+
+-- ---- the first three passes
+
+pub faultless_are_read : ExpansionEnds → FaultlessAreRead
+faultless_are_read ends text none = of_lines (lines_of text) refl
+  where
+    of_names : (lines out : List Line) → lines_of text ≡ Ok lines → expanded lines ≡ Some (Ok out) → (o : Option Fault) → least (faults_of out) ≡ o → (read : List Line) × IsText text read × (least (faults_of read) ≡ None)
+    of_names lines out e f None g = (out, (lines, e, f), g)
+    of_names lines out e f (Some fault) g = absurd (none fault.0 fault.1 (inr (inr (inl (out, (lines, e, f), g)))))
+
+    of_expansion : (lines : List Line) → lines_of text ≡ Ok lines → (a : Answer) → expanded lines ≡ a → Ends a → (read : List Line) × IsText text read × (least (faults_of read) ≡ None)
+    of_expansion lines e None f ended = absurd ended
+    of_expansion lines e (Some (Err fault)) f ended = absurd (none fault.0 fault.1 (inr (inl (lines, e, f))))
+    of_expansion lines e (Some (Ok out)) f ended = of_names lines out e f (least (faults_of out)) refl
+
+    of_lines : (r : Result (List Line) (ℕ × ℕ)) → lines_of text ≡ r → (read : List Line) × IsText text read × (least (faults_of read) ≡ None)
+    of_lines (Err fault) e = absurd (none fault.0 fault.1 (inl e))
+    of_lines (Ok lines) e = of_expansion lines e (expanded lines) refl (ends lines)
+
+-- ---- the last pass
+
+pub record Laws : Type 0 where
+  pub of_text : StatementsAreOfTheText
+  pub drafts : DraftsAreDrafts
+  pub whole : DraftsAreWhole
+  pub writable : PartsAreWritable
+  pub sound : SoundStatements
+
+module _ (text : List ℕ) (stmts : List Stmt) (d : Draft) (none : IsFaultless text) (said : AreSaid text stmts) (drafted : IsDraftOf stmts d) where
+  pub no_fault : first_fault stmts ≡ None
+  no_fault = by (first_fault stmts) refl
+    where
+      by : (o : Option Fault) → first_fault stmts ≡ o → first_fault stmts ≡ None
+      by None e = e
+      by (Some f) e = absurd (none f.0 f.1 (inr (inr (inr (stmts, said, inl e)))))
+
+  pub few_pieces : length (pieces_in d) ≤ 65536
+  few_pieces = by (nat_le (length (pieces_in d)) 65536) refl
+    where
+      by : (b : Bool) → nat_le (length (pieces_in d)) 65536 ≡ b → length (pieces_in d) ≤ 65536
+      by true e = grind (arith, nat_tests, e)
+      by false e =
+          let many : 65536 < length (pieces_in d) = grind (arith, nat_tests, e) in
+          absurd (none (last_line 0 stmts) 17 (inr (inr (inr (stmts, said, inr (no_fault, (d, drafted, many, refl)))))))
+
+pub faultless_have_modules : Laws → FaultlessHaveModules
+faultless_have_modules laws text stmts d none said drafted =
+    let sound = no_fault text stmts d none said drafted in
+    let few = few_pieces text stmts d none said drafted in
+    let draft : IsDraft d = laws.drafts stmts d sound drafted few in
+    let tapes = (laws.whole stmts d sound drafted).tapes in
+    let small = stack_small (standing stmts) first_regions 0 [] (standing stmts) (site_list stmts) first_parts (laws.sound stmts sound) (laws.writable stmts sound) (omega arith) in
+    let stack : d.stack < 65536 = (let same = drafted.stack in omega (arith, small, same)) in
+    let givens = sorted (number_of (kept_in d)) d.publics.items in
+    let made = module_is d givens draft tapes stack (sorted_same (number_of (kept_in d)) d.publics.items) (sorted_ordered (number_of (kept_in d)) d.publics.items draft.distinct) in (
+      object_from d.name d.parts.items d.stack d.externals.items d.publics.items givens,
+      record {
+        stmts = stmts;
+        said = said;
+        characters = (said_bytes laws.of_text text stmts said).characters;
+        sound = sound;
+        draft = d;
+        drafted = drafted;
+        few = few;
+        made = made;
+      },
+    )

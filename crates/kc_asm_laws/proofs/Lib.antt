@@ -1,0 +1,10 @@
+pub mod Alike
+pub mod Octets
+pub mod Filling
+pub mod Sources
+pub mod Images
+pub mod Tapes
+pub mod Names
+pub mod Numbers
+pub mod Sorted
+pub mod Exists

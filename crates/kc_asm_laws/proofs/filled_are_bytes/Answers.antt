@@ -1,0 +1,12 @@
+use Rattle.kc_asm_laws.proofs.Images.{filled_are_bytes}
+use Rattle.kc_asm_laws.proofs.filled_are_bytes.Goals as goal
+
+pub returns : goal.returns
+returns c = filled_are_bytes (record {
+  words = c.numbers_are_words.ensures;
+  nothing_else = c.nothing_else_stands.ensures;
+  of_text = c.statements_are_of_the_text.ensures;
+  drafts = c.drafts_are_drafts.ensures;
+  whole = c.drafts_are_whole.ensures;
+  linked = c.drafts_are_linked.ensures;
+})

@@ -1,0 +1,21 @@
+-- A text without a fault has a module (this kit's own).
+use Rattle.std.specs.Prelude.{◌≡◌, ℕ, List, None}
+use Rattle.kc_lex.specs.declared.token.Line.{Line}
+use Rattle.kc_source_statement.specs.declared.statement.Stmt.{Stmt}
+use Rattle.kc_source.specs.Faults.{least, faults_of}
+use Rattle.kc_obj.specs.Object.{Object}
+use Rattle.kc_asm_piece.specs.declared.draft.Draft.{Draft}
+use Rattle.kc_asm_draft_laws.specs.Drafting.{IsDraftOf}
+use Rattle.kc_asm.specs.Assembled.{IsText, AreSaid, IsFirstFault, IsModule}
+
+abbrev pub IsFaultless : List ℕ → Type 0
+IsFaultless text = (line code : ℕ) → ¬ IsFirstFault text (line, code)
+
+-- the lines that macros, repetitions and conditions leave of it, of which none has a fault
+abbrev pub FaultlessAreRead : Type 0
+FaultlessAreRead = (text : List ℕ) → IsFaultless text → (lines : List Line) × IsText text lines × (least (faults_of lines) ≡ None)
+
+-- each draft of what a text without a fault says has a module, which is the module of the text
+abbrev pub FaultlessHaveModules : Type 0
+FaultlessHaveModules =
+    (text : List ℕ) (stmts : List Stmt) (d : Draft) → IsFaultless text → AreSaid text stmts → IsDraftOf stmts d → (m : Object) × IsModule text m

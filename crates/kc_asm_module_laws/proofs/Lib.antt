@@ -1,0 +1,5 @@
+pub mod Values
+pub mod Lines
+pub mod Publics
+pub mod Made
+pub mod Linking

@@ -1,0 +1,77 @@
+-- A text without a fault has statements, a draft and a module.
+use Rattle.std.proofs.Common.{◌≡◌, ℕ, suc, ◌+◌, ◌<◌, ◌≤◌, ◌^◌, Bool, true, false, cond, List, [], ◌∷◌, ◌++◌, length, refl, sym, ap, ◌∙◌, arith}
+use Rattle.std.specs.Prelude.{Option, Some, None}
+use Rattle.std.proofs.lemmas.List.{length-map}
+use Rattle.kc_expr.specs.declared.values.Value.{Value}
+use Rattle.kc_source_statement.specs.declared.statement.Stmt.{Stmt}
+use Rattle.kc_source_statement.specs.Trees.{action_tree}
+use Rattle.kc_source.specs.Clear.{NamesAreClear}
+use Rattle.kc_source.specs.Faults.{Fault, stmt_said, all_said, all_uses, is_before, lesser, least, line_faults, name_faults, faults_of, AreStatements}
+use Rattle.kc_asm_symbols.specs.Few.{ExternalsAreFew}
+use Rattle.kc_asm_symbols.specs.Externals.{externals}
+use Rattle.kc_asm_symbols.specs.declared.segments.Segment.{Segment}
+use Rattle.kc_asm_symbols.specs.Located.{first_segment, segment_after, value_at, located_from}
+use Rattle.kc_asm_symbols.specs.Meanings.{in_all}
+use Rattle.kc_asm_piece.specs.declared.draft.Draft.{Draft}
+use Rattle.kc_asm_check.specs.Judging.{site_list, standing, place_at}
+use Rattle.kc_asm_draft_laws.specs.Drafting.{name_of, parts_from, first_parts, stack_from, all_given, distinct_from, publics_of}
+use Rattle.kc_asm_draft_laws.proofs.Lists.{nothing_left}
+use Rattle.kc_asm_laws.specs.Exists.{FaultlessAreRead, FaultlessHaveModules}
+use Rattle.kc_asm_module_laws.specs.Made.{TextsHaveModules}
+use Rattle.kc_asm_module_laws.proofs.Values.{vec_of, made}
+use Rattle.kc_asm_module_laws.proofs.Lines.{few_lines, few_said, few_parts}
+use Rattle.kc_asm_module_laws.proofs.Publics.{few_publics}
+
+some_or_some : (b : Bool) (f g : Fault) → cond b (Some g) (Some f) ≡ None → ⊥
+some_or_some true f g e = cc e
+some_or_some false f g e = cc e
+
+lesser_some : (f : Fault) (o : Option Fault) → lesser (Some f) o ≡ None → ⊥
+lesser_some f None e = cc e
+lesser_some f (Some g) e = some_or_some (is_before g f) f g e
+
+no_faults : (fs : List Fault) → least fs ≡ None → fs ≡ []
+unfolding least
+no_faults [] e = refl
+no_faults (f ∷ fs) e = absurd (lesser_some f (least fs) e)
+
+located_length : (values : ℕ → Segment → Value) (i : ℕ) (g : Segment) (ss : List Stmt) → length (located_from values i g ss) ≡ length ss
+unfolding located_from
+located_length values i g [] = refl
+located_length values i g (s ∷ ss) = ap suc (located_length values (i + 1) (segment_after g (action_tree s.action)) ss)
+
+-- what few things are in memory
+small : (n m : ℕ) → n ≤ m → m ≤ 1000000 → n < 2 ^ 63
+small n m h k = omega (arith, h, k)
+
+pub record Laws : Type 0 where
+  pub read : FaultlessAreRead
+  pub have : FaultlessHaveModules
+  pub few : ExternalsAreFew
+  pub clear : NamesAreClear
+
+pub texts_have_modules : Laws → TextsHaveModules
+unfolding faults_of
+texts_have_modules laws text none =
+    let r = laws.read text none in
+    let faults : line_faults true true (all_said r.0) ≡ [] = (nothing_left (line_faults true true (all_said r.0)) (name_faults (all_uses (all_said r.0)) [] (all_uses (all_said r.0))) (no_faults (line_faults true true (all_said r.0) ++ name_faults (all_uses (all_said r.0)) [] (all_uses (all_said r.0))) r.2)).0 in
+    let k = made true true (all_said r.0) faults in
+    let are : AreStatements k.stmts r.0 = record { sound = r.2; said_by = k.same } in
+    let lines : length r.0 ≤ 65535 = few_lines r.1.0 r.0 r.1.2 in
+    let said : length (all_said r.0) ≤ length r.0 = few_said r.0 in
+    let as_many : length k.stmts ≡ length (all_said r.0) = sym (length-map k.stmts stmt_said) ∙ ap length k.same in
+    let long : length (standing k.stmts) ≡ length k.stmts = located_length (λ i g. value_at g (place_at (site_list k.stmts) i)) 0 first_segment k.stmts in
+    let parts = parts_from (standing k.stmts) [] (standing k.stmts) (site_list k.stmts) first_parts in
+    let parts_few : length parts ≤ 3 + length (standing k.stmts) = few_parts (standing k.stmts) [] (standing k.stmts) (site_list k.stmts) first_parts in
+    let externals_few : length (externals (standing k.stmts)) ≤ 16385 = laws.few r.0 k.stmts (λ i g. value_at g (place_at (site_list k.stmts) i)) are in
+    let publics = publics_of (in_all (standing k.stmts)) (distinct_from [] (all_given (standing k.stmts))) in
+    let publics_few : length publics ≤ length (all_said r.0) + length (all_said r.0) =
+    few_publics laws.clear r.0 k.stmts (λ i g. value_at g (place_at (site_list k.stmts) i)) 0 first_segment (in_all (standing k.stmts)) r.2 k.same in
+    let d : Draft = record {
+      name = name_of (standing k.stmts);
+      parts = vec_of parts (small (length parts) 200000 (omega (arith, parts_few, long, as_many, said, lines)) (omega arith));
+      stack = stack_from (standing k.stmts) 0 [] (standing k.stmts);
+      externals = vec_of (externals (standing k.stmts)) (small (length (externals (standing k.stmts))) 200000 (omega (arith, externals_few)) (omega arith));
+      publics = vec_of publics (small (length publics) 200000 (omega (arith, publics_few, said, lines)) (omega arith));
+    } in
+    laws.have text k.stmts d none (r.0, r.1, are) (record { name = refl; parts = refl; stack = refl; externals = refl; publics = refl })

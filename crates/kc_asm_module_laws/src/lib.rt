@@ -1,0 +1,29 @@
+//! Texts without a fault have modules, and these an image: laws of definitions, without code.
+#![tactic(auto)]
+
+ghost use Rattle.kc_asm_module_laws.specs.Made.{TextsAreLinked, TextsHaveModules};
+
+use kc_asm_laws::{faultless_are_read, faultless_have_modules};
+use kc_asm_symbols::externals_are_few;
+use kc_link_laws::{placed_have_image, placed_have_lines};
+use kc_source::names_are_clear;
+
+/// A text without a fault has a module: there are statements that its lines say, a draft that they are, and the module
+/// of that draft.
+pub fn texts_have_modules()
+    ensures { TextsHaveModules }
+{
+    faultless_are_read();
+    faultless_have_modules();
+    externals_are_few();
+    names_are_clear();
+}
+
+/// Texts without a fault have modules, and where no rule of the linker is broken these have an image and a line map.
+pub fn texts_are_linked()
+    ensures { TextsAreLinked }
+{
+    texts_have_modules();
+    placed_have_image();
+    placed_have_lines();
+}

@@ -1,0 +1,14 @@
+pub mod Marks
+pub mod Pairs
+pub mod Cutting
+pub mod Filling
+pub mod Simulation
+pub mod Wholes
+pub mod Answers
+pub mod Constructs
+pub mod Texts
+pub mod Reached
+pub mod Course
+pub mod PlainBodies
+pub mod Exits
+pub mod Names

@@ -1,0 +1,5 @@
+pub mod Course
+pub mod Nests
+pub mod Constructs
+pub mod Exits
+pub mod Names

@@ -1,0 +1,5 @@
+use Rattle.kc_source_laws.proofs.Expanding.{expansion_keeps_lines}
+use Rattle.kc_source_laws.proofs.expansion_keeps_lines.Goals as goal
+
+pub returns : goal.returns
+returns c = expansion_keeps_lines
