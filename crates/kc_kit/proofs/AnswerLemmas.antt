@@ -1,5 +1,5 @@
 -- What follows from an answer: its status, the files that it writes, and its causes.
-use Rattle.std.proofs.Common.{◌≡◌, ◌≢◌, ◌⊎◌, inl, inr, ℕ, Bool, true, false, cond, List, [], ◌∷◌, ◌++◌, length, map, take, drop, fold, Option, Some, None, Result, Ok, Err, refl, sym, ◌∙◌, ap, subst}
+use Rattle.std.proofs.Common.{◌≡◌, ◌≢◌, ◌⊎◌, inl, inr, ℕ, ◌+◌, ◌≤◌, Bool, true, false, cond, List, [], ◌∷◌, ◌++◌, length, map, take, drop, fold, Option, Some, None, Result, Ok, Err, refl, sym, ◌∙◌, ap, subst, arith}
 use Rattle.std.specs.Prelude.{nat_lt, IsSomeAnd, codes}
 use Rattle.std.specs.Result.{IsOk}
 use Rattle.std.specs.Option.{option_to_list}
@@ -25,20 +25,30 @@ use Rattle.kc_kit_files.specs.Reply.{Reply, Write, says, before, joined, Then}
 use Rattle.kc_kit_files.specs.Reads.{read_of, reads_of, long_line, missing_line, FailedRead}
 use Rattle.kc_kit_files.specs.Outside.{Kept, Shown, OthersStay, Wrote, WroteByPart, SinkFailed, WriteFailed, IsGiven, Replies}
 use Rattle.kc_kit_files.proofs.ReplyLemmas.{given-of}
-use Rattle.kc_kit_words.specs.declared.inputs.Role.{Role}
+use Rattle.kc_lib.specs.declared.faults.LibFault.{LibFault}
+use Rattle.kc_lib.specs.Reading.{read_answer}
+use Rattle.kc_lib.specs.Names.{doubled}
 use Rattle.kc_kit_words.specs.declared.inputs.Role.TheVariants as role
-use Rattle.kc_kit_words.specs.Words.{Command, Helps, TellsVersion, Runs, Assembles, Links, RunsHex, Lists}
-use Rattle.kc_kit.specs.Answer.{names_read, names_written, OneText, Parted, CommandAnswer, MayAnswer, AreAccepted, IsOneText, IsAccepted, StaysBut}
-use Rattle.kc_kit.specs.Assemble.{AssembleAnswer}
-use Rattle.kc_kit.specs.Hex.{by_image, hex_of, HexAnswer, RunHexAnswer, ListingOf}
-use Rattle.kc_kit.specs.Lines.{coded, source_line, input_line, link_line}
-use Rattle.kc_kit.specs.Link.{IsMap, LinksTo, LinkAnswer, IsLinkable}
-use Rattle.kc_kit.specs.Objects.{modules_of, by_object, object_of}
-use Rattle.kc_kit.specs.Places.{by_places, places_of, Placing}
-use Rattle.kc_kit.specs.Run.{AreRunnable, RunsLinked, RunsDriven, RunAnswer}
-use Rattle.kc_kit.specs.Running.{status_of, run_of, RunOf}
-use Rattle.kc_kit.specs.Sources.{TellsFault, TellsFirst, IsFaultless, AreFaultless}
-use Rattle.kc_kit.specs.Stimuli.{names_of, place_of, fault_line, by_fault, drives_of, Driving}
+use Rattle.kc_lib.specs.Taking.{AreTaken}
+use Rattle.kc_kit_words.specs.Words.{placing_of, Command, Helps, TellsVersion, Runs, Assembles, Packs, Links, RunsHex, Lists, Generates}
+use Rattle.kc_kit_inputs.specs.Hex.{by_image, hex_of}
+use Rattle.kc_kit_inputs.specs.Inputs.{names_of, input_for}
+use Rattle.kc_kit_inputs.specs.Library.{fault_reply, by_library, library_of}
+use Rattle.kc_kit_inputs.specs.Lines.{coded, source_line, input_line}
+use Rattle.kc_kit_inputs.specs.Objects.{modules_of, by_object, object_of}
+use Rattle.kc_kit_inputs.specs.Sources.{AreModules, TellsFault, TellsFirst, IsFaultless, AreFaultless}
+use Rattle.kc_kit_inputs.specs.Stimuli.{place_of, fault_line, by_fault, drives_of}
+use Rattle.kc_kit_answer.specs.Accepting.{Accepting, IsOneText}
+use Rattle.kc_kit_answer.specs.Answer.{names_read, names_written, OneText, Parted, CommandAnswer, MayAnswer, IsAccepted, StaysBut}
+use Rattle.kc_kit_answer.specs.Assemble.{AssembleAnswer}
+use Rattle.kc_kit_answer.specs.Generate.{made_names, made_texts, made_stimuli, summary_of}
+use Rattle.kc_kit_answer.specs.Hex.{HexTold, RunHexAnswer, ListingOf, ListAnswer}
+use Rattle.kc_kit_answer.specs.Lines.{link_line, member_words}
+use Rattle.kc_kit_answer.specs.Link.{IsMap, LinksTo, Taking, Completed, LinkAnswer, IsLinkable}
+use Rattle.kc_kit_answer.specs.Pack.{packed, PackAnswer}
+use Rattle.kc_kit_answer.specs.Places.{by_places, places_of, Placing}
+use Rattle.kc_kit_answer.specs.Run.{Driven, LinkedTold, SourcesTold, RunAnswer}
+use Rattle.kc_kit_answer.specs.Running.{status_of, run_of, run_reply}
 
 -- ---- steps
 
@@ -121,21 +131,24 @@ told-end end.Powerdown = refl
 told-end end.Reset = refl
 told-end (end.Undefined what) = refl
 
-sound-run : (ns : List (List ℕ)) (states : ℕ) (drives : Drives) (image : List ℕ) (r : Reply) → RunOf states drives image r → IsSound ns r
-sound-run ns states drives image r h = subst (IsSound ns) (sym h) (record { told = told-end (end_of (run_of states drives image).machine); named = inl refl })
+sound-run : (ns : List (List ℕ)) (states : ℕ) (drives : Drives) (image : List ℕ) → IsSound ns (run_reply (run_of states drives image))
+sound-run ns states drives image = record { told = told-end (end_of (run_of states drives image).machine); named = inl refl }
+
+sound-summary : (ns : List (List ℕ)) (number : ℕ) (drives : Drives) (image : List ℕ) → IsSound ns (summary_of number drives image)
+sound-summary ns number drives image = record { told = told-end (end_of (run_of 1000000 drives image).machine); named = inl refl }
 
 sound-stimuli : (ns : List (List ℕ)) (name text : List ℕ) (x : Option StimFault) (e : Reply) → by_fault name text x ≡ Err e → IsSound ns e
 sound-stimuli ns name text None e h = ok-err (IsSound ns e) (fold with_item nothing (items_of text)) e h
 sound-stimuli ns name text (Some fault) e h =
     sound-err ns status.Input (fault_line name (place_of fault)) e refl (let k : says status.Input (fault_line name (place_of fault)) ≡ e = cc in k)
 
-sound-drives : (ns : List (List ℕ)) (inputs : List (Role × List ℕ)) (texts : List (List ℕ)) (e : Reply) → drives_of inputs texts ≡ Err e → IsSound ns e
-sound-drives ns [] texts e h = ok-err (IsSound ns e) nothing e h
-sound-drives ns ((role.Stimuli, name) ∷ inputs) [] e h = ok-err (IsSound ns e) nothing e h
-sound-drives ns ((role.Stimuli, name) ∷ inputs) (text ∷ texts) e h = sound-stimuli ns name text (first_fault 0 nothing (items_of text)) e h
+sound-drives : (ns : List (List ℕ)) (stimuli : Option (List ℕ × List ℕ)) (e : Reply) → drives_of stimuli ≡ Err e → IsSound ns e
+sound-drives ns None e h = ok-err (IsSound ns e) nothing e h
+sound-drives ns (Some file) e h = sound-stimuli ns file.0 file.1 (first_fault 0 nothing (items_of file.1)) e h
 
-sound-driving : (ns : List (List ℕ)) (inputs : List (Role × List ℕ)) (texts : List (List ℕ)) (may : Drives → Reply → Type 0) (r : Reply) → ((d : Drives) → may d r → IsSound ns r) → Driving inputs texts may r → IsSound ns r
-sound-driving ns inputs texts may r f h = then-all (IsSound ns) (drives_of inputs texts) may r (sound-drives ns inputs texts) (λ d e k. f d k) h
+sound-library : (ns : List (List ℕ)) (name : List ℕ) (x : Result (List Object) LibFault) (e : Reply) → by_library name x ≡ Err e → IsSound ns e
+sound-library ns name (Ok members) e h = ok-err (IsSound ns e) members e h
+sound-library ns name (Err fault) e h = sound-err ns status.Input (fault_reply name fault).text e refl (let k : fault_reply name fault ≡ e = cc in k)
 
 sound-fault : (ns : List (List ℕ)) (name text : List ℕ) (r : Reply) → TellsFault name text r → IsSound ns r
 sound-fault ns name text r h = subst (IsSound ns) (sym h.3) (sound-says ns status.Source (source_line name h.0 h.1) refl)
@@ -146,15 +159,18 @@ sound-first ns (n ∷ names) [] r h = absurd h
 sound-first ns (n ∷ names) (t ∷ texts) r (inl h) = sound-fault ns n t r h
 sound-first ns (n ∷ names) (t ∷ texts) r (inr h) = sound-first ns names texts r h.1
 
-sound-placing : (ns names : List (List ℕ)) (inputs : List (Role × List ℕ)) (texts input_texts : List (List ℕ)) (states : ℕ) (ranges : Ranges) (ms : List Object) (r : Reply) →
-    Placing names ranges (RunsDriven (RunsLinked texts states) inputs input_texts) ms r → IsSound ns r
-sound-placing ns names inputs texts input_texts states ranges ms r h =
-    then-all (IsSound ns) (places_of names ms ranges) (RunsDriven (RunsLinked texts states) inputs input_texts ms) r (sound-places ns names (placed ms ranges))
-    (λ places f l. sound-driving ns inputs input_texts (λ d. RunsLinked texts states d ms places) r (λ d k. sound-run ns states d k.image r k.ran) l) h
+sound-sources : (ns names : List (List ℕ)) (stimuli : Option (List ℕ × List ℕ)) (ranges : Ranges) (texts : List (List ℕ)) (tell : Drives → List ℕ → Reply) (r : Reply) →
+    ((drives : Drives) (image : List ℕ) → IsSound ns (tell drives image)) → SourcesTold names stimuli ranges texts tell r → IsSound ns r
+sound-sources ns names stimuli ranges texts tell r f (Ok ms, made, h) =
+    then-all (IsSound ns) (places_of names ms ranges) (Driven stimuli (LinkedTold texts) tell ms) r (sound-places ns names (placed ms ranges))
+    (λ places e k. then-all (IsSound ns) (drives_of stimuli) (λ d. LinkedTold texts (tell d) ms places) r (sound-drives ns stimuli) (λ d g l. subst (IsSound ns) (sym l.told) (f d l.image)) k) h
+sound-sources ns names stimuli ranges texts tell r f (Err e, told, h) = subst (IsSound ns) (sym h) (sound-first ns names texts e told)
 
-sound-runs : (ns names : List (List ℕ)) (inputs : List (Role × List ℕ)) (states : ℕ) (ranges : Ranges) (texts input_texts : List (List ℕ)) (r : Reply) → RunAnswer names inputs states ranges texts input_texts r → IsSound ns r
-sound-runs ns names inputs states ranges texts input_texts r (Ok ms, made, h) = sound-placing ns names inputs texts input_texts states ranges ms r h
-sound-runs ns names inputs states ranges texts input_texts r (Err e, told, h) = subst (IsSound ns) (sym h) (sound-first ns names texts e told)
+sound-hex-told : (ns : List (List ℕ)) (name : List ℕ) (stimuli : Option (List ℕ × List ℕ)) (text : List ℕ) (tell : Drives → List ℕ → Reply) (r : Reply) →
+    ((drives : Drives) (image : List ℕ) → IsSound ns (tell drives image)) → HexTold name stimuli text tell r → IsSound ns r
+sound-hex-told ns name stimuli text tell r f h =
+    then-all (IsSound ns) (hex_of name text) (λ image. Then (drives_of stimuli) (λ drives reply. reply ≡ tell drives image)) r (sound-hex ns name (image_of text))
+    (λ image e k. then-all (IsSound ns) (drives_of stimuli) (λ drives reply. reply ≡ tell drives image) r (sound-drives ns stimuli) (λ d g l. subst (IsSound ns) (sym l) (f d image)) k) h
 
 sound-object-of : (name out text : List ℕ) (r : Reply) → AssembleAnswer name out text r → IsSound (out ∷ []) r
 sound-object-of name out text r (Ok m, made, h) = subst (IsSound (out ∷ [])) (sym h) (record { told = refl; named = inr refl })
@@ -172,11 +188,33 @@ sound-links out lines ms places r h = subst (IsSound (out ∷ option_to_list lin
     by None k = ap (map (λ (w : Write). w.name)) k
     by (Some name) k = ap (map (λ (w : Write). w.name)) k.2
 
-sound-link : (names : List (List ℕ)) (out : List ℕ) (lines : Option (List ℕ)) (ranges : Ranges) (texts : List (List ℕ)) (r : Reply) → LinkAnswer names out lines ranges texts r → IsSound (out ∷ option_to_list lines) r
-sound-link names out lines ranges texts r h =
+sound-taking : (ns names : List (List ℕ)) (library : List ℕ) (may : List (List ℕ) → List Object → Reply → Type 0) (ms members : List Object) (r : Reply) →
+    ((files : List (List ℕ)) (all : List Object) → may files all r → IsSound ns r) → Taking names library may ms members r → IsSound ns r
+sound-taking ns names library may ms members r f (Ok taken, is, h) = f (names ++ member_words library taken) (ms ++ taken) h
+sound-taking ns names library may ms members r f (Err e, is, h) = subst (IsSound ns) (sym (h ∙ is.3)) (sound-says ns status.Input _ refl)
+
+sound-completed : (ns names : List (List ℕ)) (library : Option (List ℕ × List ℕ)) (may : List (List ℕ) → List Object → Reply → Type 0) (ms : List Object) (r : Reply) →
+    ((files : List (List ℕ)) (all : List Object) → may files all r → IsSound ns r) → Completed names library may ms r → IsSound ns r
+sound-completed ns names None may ms r f h = f names ms h
+sound-completed ns names (Some library) may ms r f h =
+    then-all (IsSound ns) (library_of library.0 library.1) (Taking names library.0 may ms) r (sound-library ns library.0 (read_answer library.1)) (λ members e k. sound-taking ns names library.0 may ms members r f k) h
+
+sound-link : (names : List (List ℕ)) (library : Option (List ℕ × List ℕ)) (out : List ℕ) (lines : Option (List ℕ)) (ranges : Ranges) (texts : List (List ℕ)) (r : Reply) →
+    Then (modules_of object_of names texts) (Completed names library (λ files. Placing files ranges (LinksTo out lines))) r → IsSound (out ∷ option_to_list lines) r
+sound-link names library out lines ranges texts r h =
     let ns = out ∷ option_to_list lines in
-    then-all (IsSound ns) (modules_of object_of names texts) (Placing names ranges (LinksTo out lines)) r (sound-modules ns names texts)
-    (λ ms e k. then-all (IsSound ns) (places_of names ms ranges) (LinksTo out lines ms) r (sound-places ns names (placed ms ranges)) (λ places f l. sound-links out lines ms places r l) k) h
+    then-all (IsSound ns) (modules_of object_of names texts) (Completed names library (λ files. Placing files ranges (LinksTo out lines))) r (sound-modules ns names texts)
+    (λ ms e k. sound-completed ns names library (λ files. Placing files ranges (LinksTo out lines)) ms r
+    (λ files all l. then-all (IsSound ns) (places_of files all ranges) (LinksTo out lines all) r (sound-places ns files (placed all ranges)) (λ places f m. sound-links out lines all places r m) l) k) h
+
+sound-packed : (out : List ℕ) (ms : List Object) (double : Option (List ℕ)) → IsSound (out ∷ []) (packed out ms double)
+sound-packed out ms None = record { told = refl; named = inr refl }
+sound-packed out ms (Some name) = sound-says (out ∷ []) status.Link _ refl
+
+sound-pack : (names : List (List ℕ)) (out : List ℕ) (texts : List (List ℕ)) (r : Reply) → PackAnswer names out texts r → IsSound (out ∷ []) r
+sound-pack names out texts r h =
+    then-all (IsSound (out ∷ [])) (modules_of object_of names texts) (λ ms reply. reply ≡ packed out ms (doubled ms)) r (sound-modules (out ∷ []) names texts)
+    (λ ms e k. subst (IsSound (out ∷ [])) (sym k) (sound-packed out ms (doubled ms))) h
 
 pub sound-command : (c : Command) (contents : List (Option (List ℕ))) (r : Reply) → CommandAnswer (Some c) contents r → IsSound (names_written (Some c)) r
 sound-command Helps contents r h = subst (IsSound []) (sym h) (sound-says [] status.Done _ refl)
@@ -184,23 +222,28 @@ sound-command TellsVersion contents r h = subst (IsSound []) (sym h) (sound-says
 sound-command (Runs files inputs states placing) contents r h =
     let names = files ++ names_of inputs in
     then-all (IsSound []) (reads_of names contents) (Parted (length files) (RunAnswer files inputs states placing)) r (sound-reads [] names contents)
-    (λ texts e k. sound-runs [] files inputs states placing (take (length files) texts) (drop (length files) texts) r k) h
+    (λ texts e k. sound-sources [] files (input_for role.Stimuli inputs (drop (length files) texts)) placing (take (length files) texts) (λ drives image. run_reply (run_of states drives image)) r
+    (λ drives image. sound-run [] states drives image) k) h
 sound-command (Assembles file out) contents r h =
     then-all (IsSound (out ∷ [])) (reads_of (file ∷ []) contents) (OneText (AssembleAnswer file out)) r (sound-reads (out ∷ []) (file ∷ []) contents)
     (λ texts e k. sound-one (out ∷ []) (AssembleAnswer file out) texts r (λ t l. sound-object-of file out t r l) k) h
-sound-command (Links files out lines placing) contents r h =
+sound-command (Packs files out) contents r h =
+    then-all (IsSound (out ∷ [])) (reads_of files contents) (PackAnswer files out) r (sound-reads (out ∷ []) files contents) (λ texts e k. sound-pack files out texts r k) h
+sound-command (Links files inputs out lines placing) contents r h =
     let ns = out ∷ option_to_list lines in
-    then-all (IsSound ns) (reads_of files contents) (LinkAnswer files out lines placing) r (sound-reads ns files contents) (λ texts e k. sound-link files out lines placing texts r k) h
+    let names = files ++ names_of inputs in
+    then-all (IsSound ns) (reads_of names contents) (Parted (length files) (LinkAnswer files inputs out lines placing)) r (sound-reads ns names contents)
+    (λ texts e k. sound-link files (input_for role.Library inputs (drop (length files) texts)) out lines placing (take (length files) texts) r k) h
 sound-command (RunsHex file inputs states) contents r h =
     let names = file ∷ names_of inputs in
     then-all (IsSound []) (reads_of names contents) (Parted 1 (λ texts more. OneText (λ text. RunHexAnswer file inputs states text more) texts)) r (sound-reads [] names contents)
     (λ texts e k. sound-one [] (λ text. RunHexAnswer file inputs states text (drop 1 texts)) (take 1 texts) r
-    (λ t l. then-all (IsSound []) (hex_of file t) (λ image. Driving inputs (drop 1 texts) (λ d. RunOf states d image)) r (sound-hex [] file (image_of t))
-    (λ image f m. sound-driving [] inputs (drop 1 texts) (λ d. RunOf states d image) r (λ d n. sound-run [] states d image r n) m) l) k) h
+    (λ t l. sound-hex-told [] file (input_for role.Stimuli inputs (drop 1 texts)) t (λ drives image. run_reply (run_of states drives image)) r (λ drives image. sound-run [] states drives image) l) k) h
 sound-command (Lists file first last) contents r h =
-    then-all (IsSound []) (reads_of (file ∷ []) contents) (OneText (HexAnswer file (ListingOf first last))) r (sound-reads [] (file ∷ []) contents)
-    (λ texts e k. sound-one [] (HexAnswer file (ListingOf first last)) texts r
+    then-all (IsSound []) (reads_of (file ∷ []) contents) (OneText (ListAnswer file first last)) r (sound-reads [] (file ∷ []) contents)
+    (λ texts e k. sound-one [] (ListAnswer file first last) texts r
     (λ t l. then-all (IsSound []) (hex_of file t) (ListingOf first last) r (sound-hex [] file (image_of t)) (λ image f m. subst (IsSound []) (sym m) (sound-says [] status.Done _ refl)) l) k) h
+sound-command (Generates number) contents r h = sound-sources [] made_names (Some (made_stimuli number)) (placing_of []) (made_texts number) (summary_of number) r (λ drives image. sound-summary [] number drives image) h
 
 -- a read that has failed
 failed-says : (names : List (List ℕ)) (contents : List (Option (List ℕ))) (rose : Type 0) (r : Reply) → FailedRead names contents rose r → rose × (r.status ≡ status.ReadFault) × (r.writes ≡ [])
@@ -367,12 +410,20 @@ done-end end.Powerdown = inl refl
 done-end end.Reset = inl refl
 done-end (end.Undefined what) = inr refl
 
-done-run : (states : ℕ) (drives : Drives) (image : List ℕ) (r : Reply) → RunOf states drives image r → IsDone r.status
-done-run states drives image r h = subst (λ (k : Reply). IsDone k.status) (sym h) (done-end (end_of (run_of states drives image).machine))
+done-then : {A : Type 0} (x : Result A Reply) (may : A → Reply → Type 0) (r : Reply) → ((a : A) → may a r → IsDone r.status) → IsOk x → Then x may r → IsDone r.status
+done-then (Ok a) may r f ok h = f a h
+done-then (Err e) may r f ok h = absurd (let k : false ≡ true = ok in cc)
 
-done-driven : (x : Result Drives Reply) (may : Drives → Reply → Type 0) (r : Reply) → IsOk x → ((d : Drives) → may d r → IsDone r.status) → Then x may r → IsDone r.status
-done-driven (Ok d) may r a f h = f d h
-done-driven (Err e) may r a f h = absurd (let k : false ≡ true = a in cc)
+accepted-then : {A : Type 0} (accepts : A → Type 0) (may : A → Reply → Type 0) (x : Result A Reply) (r : Reply) → ((a : A) → accepts a → may a r → IsDone r.status) → Accepting accepts x → Then x may r → IsDone r.status
+accepted-then accepts may (Ok a) r f ok h = f a ok h
+accepted-then accepts may (Err e) r f ok h = absurd ok
+
+-- a reply that is said, where its status is this
+done-told : (r told : Reply) → r ≡ told → IsDone told.status → IsDone r.status
+done-told r told e h = subst (λ (k : Reply). IsDone k.status) (sym e) h
+
+done-run : (states : ℕ) (drives : Drives) (image : List ℕ) → IsDone (run_reply (run_of states drives image)).status
+done-run states drives image = done-end (end_of (run_of states drives image).machine)
 
 no-fault : (name text : List ℕ) (r : Reply) → IsFaultless text → TellsFault name text r → ⊥
 no-fault name text r none h = none h.0 h.1 h.2
@@ -383,16 +434,12 @@ none-first (n ∷ names) [] r none h = h
 none-first (n ∷ names) (t ∷ texts) r none (inl h) = no-fault n t r none.0 h
 none-first (n ∷ names) (t ∷ texts) r none (inr h) = none-first names texts r none.1 h.1
 
-done-linked : (inputs : List (Role × List ℕ)) (texts input_texts : List (List ℕ)) (states : ℕ) (ms : List Object) (x : Result Places Reply) (r : Reply) →
-    IsOk x → IsOk (drives_of inputs input_texts) → Then x (RunsDriven (RunsLinked texts states) inputs input_texts ms) r → IsDone r.status
-done-linked inputs texts input_texts states ms (Ok places) r a b h =
-    done-driven (drives_of inputs input_texts) (λ d. RunsLinked texts states d ms places) r b (λ d k. done-run states d k.image r k.ran) h
-done-linked inputs texts input_texts states ms (Err e) r a b h = absurd (let k : false ≡ true = a in cc)
-
-done-runs : (names : List (List ℕ)) (inputs : List (Role × List ℕ)) (states : ℕ) (ranges : Ranges) (texts input_texts : List (List ℕ)) (r : Reply) →
-    AreRunnable names inputs ranges texts input_texts → RunAnswer names inputs states ranges texts input_texts r → IsDone r.status
-done-runs names inputs states ranges texts input_texts r a (Ok ms, made, h) = done-linked inputs texts input_texts states ms (places_of names ms ranges) r (a.1 ms made) a.2 h
-done-runs names inputs states ranges texts input_texts r a (Err e, told, h) = absurd (none-first names texts e a.0 told)
+done-sources : (names : List (List ℕ)) (stimuli : Option (List ℕ × List ℕ)) (ranges : Ranges) (texts : List (List ℕ)) (tell : Drives → List ℕ → Reply) (r : Reply) → ((drives : Drives) (image : List ℕ) → IsDone (tell drives image).status) →
+    AreFaultless texts → ((ms : List Object) → AreModules texts ms → IsOk (places_of names ms ranges)) → IsOk (drives_of stimuli) → SourcesTold names stimuli ranges texts tell r → IsDone r.status
+done-sources names stimuli ranges texts tell r f a b c (Ok ms, made, h) =
+    done-then (places_of names ms ranges) (Driven stimuli (LinkedTold texts) tell ms) r
+    (λ places k. done-then (drives_of stimuli) (λ d. LinkedTold texts (tell d) ms places) r (λ d l. done-told r (tell d l.image) l.told (f d l.image)) c k) (b ms made) h
+done-sources names stimuli ranges texts tell r f a b c (Err e, told, h) = absurd (none-first names texts e a told)
 
 done-object : (name out text : List ℕ) (r : Reply) → IsFaultless text → AssembleAnswer name out text r → IsDone r.status
 done-object name out text r none (Ok m, made, h) = inl (ap (λ (k : Reply). k.status) h)
@@ -407,22 +454,31 @@ done-hex : (name : List ℕ) (may : List ℕ → Reply → Type 0) (x : Result (
 done-hex name may (Ok image) r f a h = f image h
 done-hex name may (Err fault) r f a h = absurd (let e : false ≡ true = a in cc)
 
-done-one : (name : List ℕ) (may : List ℕ → Reply → Type 0) (texts : List (List ℕ)) (r : Reply) → ((image : List ℕ) → may image r → IsDone r.status) → IsOneText (λ text. IsOk (image_of text)) texts → OneText (HexAnswer name may) texts r → IsDone r.status
+done-one : (name : List ℕ) (may : List ℕ → Reply → Type 0) (texts : List (List ℕ)) (r : Reply) → ((image : List ℕ) → may image r → IsDone r.status) →
+    IsOneText (λ text. IsOk (image_of text)) texts → OneText (λ text. Then (hex_of name text) may) texts r → IsDone r.status
 done-one name may (t ∷ []) r f a h = done-hex name may (image_of t) r f a h
 done-one name may [] r f a h = absurd h
 done-one name may (t ∷ u ∷ texts) r f a h = absurd h
 
-done-placed : (out : List ℕ) (lines : Option (List ℕ)) (ms : List Object) (x : Result Places Reply) (r : Reply) → IsOk x → Then x (LinksTo out lines ms) r → IsDone r.status
-done-placed out lines ms (Ok places) r a h = inl (ap (λ (k : Reply). k.status) h.done)
-done-placed out lines ms (Err e) r a h = absurd (let k : false ≡ true = a in cc)
+done-placed : (files : List (List ℕ)) (out : List ℕ) (lines : Option (List ℕ)) (ranges : Ranges) (ms : List Object) (r : Reply) → IsOk (places_of files ms ranges) → Placing files ranges (LinksTo out lines) ms r → IsDone r.status
+done-placed files out lines ranges ms r a h = done-then (places_of files ms ranges) (LinksTo out lines ms) r (λ places k. inl (ap (λ (e : Reply). e.status) k.done)) a h
 
-done-link : (names : List (List ℕ)) (out : List ℕ) (lines : Option (List ℕ)) (ranges : Ranges) (x : Result (List Object) Reply) (r : Reply) → IsLinkable names ranges x → Then x (Placing names ranges (LinksTo out lines)) r → IsDone r.status
-done-link names out lines ranges (Ok ms) r a h = done-placed out lines ms (places_of names ms ranges) r a h
-done-link names out lines ranges (Err e) r a h = absurd a
+done-taking : (names : List (List ℕ)) (library out : List ℕ) (lines : Option (List ℕ)) (ranges : Ranges) (ms members : List Object) (r : Reply) →
+    ((taken : List Object) → AreTaken ms members taken → (length ms + length taken ≤ 64) × IsOk (places_of (names ++ member_words library taken) (ms ++ taken) ranges)) →
+    Taking names library (λ files. Placing files ranges (LinksTo out lines)) ms members r → IsDone r.status
+done-taking names library out lines ranges ms members r a (Ok taken, is, h) = done-placed (names ++ member_words library taken) out lines ranges (ms ++ taken) r (a taken is.0).1 h
+done-taking names library out lines ranges ms members r a (Err e, is, h) = absurd (omega (arith, (a is.0 is.1).0, is.2))
 
-accepted-then : (accepts : List (List ℕ) → Type 0) (may : List (List ℕ) → Reply → Type 0) (x : Result (List (List ℕ)) Reply) (r : Reply) → ((texts : List (List ℕ)) → accepts texts → may texts r → IsDone r.status) → AreAccepted accepts x → Then x may r → IsDone r.status
-accepted-then accepts may (Ok texts) r f a h = f texts a h
-accepted-then accepts may (Err e) r f a h = absurd a
+done-completed : (names : List (List ℕ)) (library : Option (List ℕ × List ℕ)) (out : List ℕ) (lines : Option (List ℕ)) (ranges : Ranges) (ms : List Object) (r : Reply) →
+    IsLinkable names library ranges ms → Completed names library (λ files. Placing files ranges (LinksTo out lines)) ms r → IsDone r.status
+done-completed names None out lines ranges ms r a h = done-placed names out lines ranges ms r a h
+done-completed names (Some library) out lines ranges ms r a h =
+    accepted-then _ (Taking names library.0 (λ files. Placing files ranges (LinksTo out lines)) ms) (library_of library.0 library.1) r
+    (λ members b k. done-taking names library.0 out lines ranges ms members r b k) a h
+
+done-packed : (out : List ℕ) (ms : List Object) (double : Option (List ℕ)) → double ≡ None → IsDone (packed out ms double).status
+done-packed out ms None e = inl refl
+done-packed out ms (Some name) e = absurd (cc)
 
 pub done-command : (c : Option Command) (contents : List (Option (List ℕ))) (r : Reply) → IsAccepted c contents → CommandAnswer c contents r → IsDone r.status
 done-command None contents r a h = absurd a
@@ -430,14 +486,27 @@ done-command (Some Helps) contents r a h = inl (ap (λ (k : Reply). k.status) h)
 done-command (Some TellsVersion) contents r a h = inl (ap (λ (k : Reply). k.status) h)
 done-command (Some (Runs files inputs states placing)) contents r a h =
     accepted-then _ (Parted (length files) (RunAnswer files inputs states placing)) (reads_of (files ++ names_of inputs) contents) r
-    (λ texts b k. done-runs files inputs states placing (take (length files) texts) (drop (length files) texts) r b k) a h
+    (λ texts b k. done-sources files (input_for role.Stimuli inputs (drop (length files) texts)) placing (take (length files) texts) (λ drives image. run_reply (run_of states drives image)) r
+    (λ drives image. done-run states drives image) b.0 b.1 b.2 k) a h
 done-command (Some (Assembles file out)) contents r a h = accepted-then _ (OneText (AssembleAnswer file out)) (reads_of (file ∷ []) contents) r (λ texts b k. done-objects file out texts r b k) a h
-done-command (Some (Links files out lines placing)) contents r a h = accepted-then _ (LinkAnswer files out lines placing) (reads_of files contents) r (λ texts b k. done-link files out lines placing (modules_of object_of files texts) r b k) a h
+done-command (Some (Packs files out)) contents r a h =
+    accepted-then _ (PackAnswer files out) (reads_of files contents) r
+    (λ texts b k. accepted-then _ (λ ms reply. reply ≡ packed out ms (doubled ms)) (modules_of object_of files texts) r (λ ms c l. done-told r (packed out ms (doubled ms)) l (done-packed out ms (doubled ms) c)) b k) a h
+done-command (Some (Links files inputs out lines placing)) contents r a h =
+    accepted-then _ (Parted (length files) (LinkAnswer files inputs out lines placing)) (reads_of (files ++ names_of inputs) contents) r
+    (λ texts b k. accepted-then _ (Completed files (input_for role.Library inputs (drop (length files) texts)) (λ names. Placing names placing (LinksTo out lines))) (modules_of object_of files (take (length files) texts)) r
+    (λ ms c l. done-completed files (input_for role.Library inputs (drop (length files) texts)) out lines placing ms r c l) b k) a h
 done-command (Some (RunsHex file inputs states)) contents r a h =
     accepted-then _ (Parted 1 (λ texts more. OneText (λ text. RunHexAnswer file inputs states text more) texts)) (reads_of (file ∷ names_of inputs) contents) r
-    (λ texts b k. done-one file (λ image. Driving inputs (drop 1 texts) (λ d. RunOf states d image)) (take 1 texts) r
-    (λ image l. done-driven (drives_of inputs (drop 1 texts)) (λ d. RunOf states d image) r b.1 (λ d m. done-run states d image r m) l) b.0 k) a h
-done-command (Some (Lists file first last)) contents r a h = accepted-then _ (OneText (HexAnswer file (ListingOf first last))) (reads_of (file ∷ []) contents) r (λ texts b k. done-one file (ListingOf first last) texts r (λ image l. inl (ap (λ (k : Reply). k.status) l)) b k) a h
+    (λ texts b k. done-one file (λ image. Then (drives_of (input_for role.Stimuli inputs (drop 1 texts))) (λ drives reply. reply ≡ run_reply (run_of states drives image))) (take 1 texts) r
+    (λ image l. done-then (drives_of (input_for role.Stimuli inputs (drop 1 texts))) (λ drives reply. reply ≡ run_reply (run_of states drives image)) r
+    (λ d m. done-told r (run_reply (run_of states d image)) m (done-run states d image)) b.1 l) b.0 k) a h
+done-command (Some (Lists file first last)) contents r a h =
+    accepted-then _ (OneText (ListAnswer file first last)) (reads_of (file ∷ []) contents) r
+    (λ texts b k. done-one file (ListingOf first last) texts r (λ image l. inl (ap (λ (k : Reply). k.status) l)) b k) a h
+done-command (Some (Generates number)) contents r a h =
+    done-sources made_names (Some (made_stimuli number)) (placing_of []) (made_texts number) (summary_of number) r
+    (λ drives image. done-end (end_of (run_of 1000000 drives image).machine)) a.sources a.modules a.stimuli h
 
 -- a reply without a fault outside is done, or for want of memory
 pub done-of : (c : Option Command) (told : Option Holding) (rose : Type 0) (old : Kept) (before : Shown) (given : Status) (new : Kept) (now : Shown) →

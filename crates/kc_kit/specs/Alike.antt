@@ -10,10 +10,10 @@ use Rattle.kc_link_place.specs.Placing.{Places}
 use Rattle.kc_link.specs.Filled.{IsFilled}
 use Rattle.kc_kit_files.specs.Reply.{Reply, write, done_writing}
 use Rattle.kc_kit_words.specs.declared.inputs.Role.{Role}
-use Rattle.kc_kit.specs.Hex.{RunHexAnswer}
-use Rattle.kc_kit.specs.Link.{LinkAnswer}
-use Rattle.kc_kit.specs.Run.{RunAnswer}
-use Rattle.kc_kit.specs.Sources.{AreModules}
+use Rattle.kc_kit_answer.specs.Hex.{RunHexAnswer}
+use Rattle.kc_kit_answer.specs.Link.{LinkAnswer}
+use Rattle.kc_kit_answer.specs.Run.{RunAnswer}
+use Rattle.kc_kit_inputs.specs.Sources.{AreModules}
 
 -- what is filled from modules are bytes
 abbrev pub FillsBytes : List Object → Type 0
@@ -24,6 +24,6 @@ abbrev pub RunsAlike : Type 0
 RunsAlike =
     (names objects texts : List (List ℕ)) (ms : List Object) (inputs : List (Role × List ℕ)) (input_texts : List (List ℕ)) (ranges : Ranges) (states : ℕ) (file hex : List ℕ) (reply : Reply)
     → AreModules texts ms → list_all numbers_fit ms ≡ true → FillsBytes ms → length objects ≡ length ms
-    → LinkAnswer objects file None ranges (map spelling ms) (done_writing (write file hex ∷ []))
+    → LinkAnswer objects [] file None ranges (map spelling ms) [] (done_writing (write file hex ∷ []))
     → RunHexAnswer file inputs states hex input_texts reply
     → RunAnswer names inputs states ranges texts input_texts reply

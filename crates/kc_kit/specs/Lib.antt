@@ -1,13 +1,1 @@
 pub mod Alike
-pub mod Answer
-pub mod Assemble
-pub mod Hex
-pub mod Jobs
-pub mod Lines
-pub mod Link
-pub mod Objects
-pub mod Places
-pub mod Run
-pub mod Running
-pub mod Sources
-pub mod Stimuli

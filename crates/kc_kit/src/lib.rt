@@ -2,25 +2,9 @@
 #![tactic(auto)]
 
 mod alike;
-mod assemble;
-mod help;
-mod hex_image;
-mod image_run;
-mod input_lines;
-mod job;
-mod line_map;
-mod link;
-mod link_lines;
-mod list;
-mod objects;
-mod reading;
-mod run;
-mod run_hex;
-mod sources;
-mod stimuli;
 mod top;
 
 pub use alike::runs_are_alike;
-pub use help::{HELP, VERSION};
+pub use kc_kit_answer::{HELP, VERSION};
 pub use kc_kit_files::Status;
 pub use top::kit;

@@ -5,17 +5,14 @@ ghost use Rattle.kc_base.specs.Held.{Told};
 ghost use Rattle.kc_kit_files.specs.Outside.{Replied};
 ghost use Rattle.kc_kit_words.specs.Words.{command_of};
 ghost use Rattle.kc_kit_words.specs.Asked.{asked, IsWithin};
-ghost use Rattle.kc_kit.specs.Answer.{MayAnswerBy, IsAccepted, StaysBut, names_read, names_written};
-ghost use Rattle.kc_kit.specs.Jobs.{IsDoable, IsOf, IsReady};
+ghost use Rattle.kc_kit_answer.specs.Answer.{MayAnswerBy, IsAccepted, StaysBut, names_read, names_written};
+ghost use Rattle.kc_kit_answer.specs.Jobs.{IsDoable, IsOf, IsReady};
 
-use crate::assemble::prepare_assemble;
-use crate::help::{HELP, VERSION};
-use crate::job::{Job, perform};
-use crate::link::prepare_link;
-use crate::list::prepare_list;
-use crate::run::prepare_run;
-use crate::run_hex::prepare_hex;
 use kc_base::{Files, Sink};
+use kc_kit_answer::{
+    HELP, Job, VERSION, perform, prepare_assemble, prepare_generate, prepare_hex, prepare_link,
+    prepare_list, prepare_pack, prepare_run,
+};
 use kc_kit_files::{Refusal, Status, refuse, say};
 use kc_kit_words::{Command, read_words};
 use kc_trace::TraceOut;
@@ -95,6 +92,10 @@ fn done<F: Files, S: Sink>(
             let prepared = prepare_assemble(alloc, assemble, files);
             finish(alloc, prepared, files, out)
         }
+        Command::Pack(pack) => {
+            let prepared = prepare_pack(alloc, pack, files);
+            finish(alloc, prepared, files, out)
+        }
         Command::Link(link) => {
             let prepared = prepare_link(alloc, link, files);
             finish(alloc, prepared, files, out)
@@ -105,6 +106,10 @@ fn done<F: Files, S: Sink>(
         }
         Command::List(list) => {
             let prepared = prepare_list(alloc, list, files);
+            finish(alloc, prepared, files, out)
+        }
+        Command::Generate(generate) => {
+            let prepared = prepare_generate(alloc, generate.number);
             finish(alloc, prepared, files, out)
         }
     }

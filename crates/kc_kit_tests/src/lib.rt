@@ -4,9 +4,13 @@
 #[cfg(test)]
 mod board;
 #[cfg(test)]
+mod libraries;
+#[cfg(test)]
 mod lines;
 #[cfg(test)]
 mod linking;
+#[cfg(test)]
+mod made;
 #[cfg(test)]
 mod sources;
 #[cfg(test)]

@@ -1,11 +1,11 @@
 -- Two options that stand beside one another change places.
-use Rattle.std.proofs.Common.{◌≡◌, ◌⊎◌, inl, inr, ℕ, Bool, true, false, ◌&&◌, cond, List, [], ◌∷◌, ◌++◌, Option, Some, None, refl, sym, ap, ◌∙◌, subst}
+use Rattle.std.proofs.Common.{◌≡◌, ◌⊎◌, inl, inr, ℕ, Bool, true, false, ◌&&◌, cond, List, [], ◌∷◌, ◌++◌, Option, Some, None, refl, sym, ap, ◌∙◌}
 use Rattle.std.specs.Prelude.{is_none, codes}
 use Rattle.std.specs.Str.{bytes_eq}
 use Rattle.std.proofs.lemmas.Slice.Eq.{bytes_eq-Decides}
 use Rattle.kc_kit_words.specs.declared.inputs.Role.{Role}
-use Rattle.kc_kit_words.specs.Options.{takes, value_of, are_options, role_of, with_input, inputs_of, states_in}
-use Rattle.kc_kit_words.specs.Words.{Command, placing_of, command_by, command_with}
+use Rattle.kc_kit_words.specs.Options.{takes, value_of, are_options, role_of, with_input, inputs_of}
+use Rattle.kc_kit_words.specs.Words.{command_by, command_with}
 use Rattle.kc_kit_words.specs.Order.{words_of, OptionsInAnyOrder}
 
 -- ---- names of options

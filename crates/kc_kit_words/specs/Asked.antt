@@ -7,16 +7,23 @@ use Rattle.kc_kit_words.specs.declared.command.Command.{Command as Read}
 use Rattle.kc_kit_words.specs.declared.command.Command.TheVariants as read
 use Rattle.kc_kit_words.specs.Inputs.{inputs_in}
 use Rattle.kc_kit_words.specs.Values.{max_states}
-use Rattle.kc_kit_words.specs.Words.{Command, Helps, TellsVersion, Runs, Assembles, Links, RunsHex, Lists}
+use Rattle.kc_kit_words.specs.Words.{Command, Helps, TellsVersion, Runs, Assembles, Packs, Links, RunsHex, Lists, Generates}
 
 abbrev pub asked : Read → Command
 asked read.Help = Helps
 asked read.Version = TellsVersion
 asked (read.Run run) = Runs (map string_bytes run.files.now) (inputs_in run.inputs) run.states run.placing
 asked (read.Assemble assemble) = Assembles assemble.file.now assemble.out.now
-asked (read.Link link) = Links (map string_bytes link.files.now) link.out.now (option_map (λ l. l.now) link.lines) link.placing
+asked (read.Pack pack) = Packs (map string_bytes pack.files.now) pack.out.now
+asked (read.Link link) = Links (map string_bytes link.files.now) (inputs_in link.inputs) link.out.now (option_map (λ l. l.now) link.lines) link.placing
 asked (read.RunHex run) = RunsHex run.file.now (inputs_in run.inputs) run.states
 asked (read.List list) = Lists list.file.now list.first list.last
+asked (read.Generate generate) = Generates generate.number
+
+-- 1 to 64 files
+pub record AreFew (count : ℕ) : Type 0 where
+  pub some : 0 < count
+  pub few : count ≤ 64
 
 -- 1 to 64 files, and ranges within their bounds
 pub record AreLinkable (count : ℕ) (placing : Ranges) : Type 0 where
@@ -27,6 +34,7 @@ pub record AreLinkable (count : ℕ) (placing : Ranges) : Type 0 where
 -- the number of states is within its limit, files may be linked, addresses are in order
 abbrev pub IsWithin : Read → Type 0
 IsWithin (read.Run run) = (run.states ≤ max_states) × AreLinkable (length run.files.now) run.placing
+IsWithin (read.Pack pack) = AreFew (length pack.files.now)
 IsWithin (read.Link link) = AreLinkable (length link.files.now) link.placing
 IsWithin (read.RunHex run) = run.states ≤ max_states
 IsWithin (read.List list) = (0x2000 ≤ list.first) × (list.first ≤ list.last)

@@ -13,12 +13,19 @@ use Rattle.kc_kit_words.specs.Values.{is_name, states_of, length_of, range_of}
 abbrev pub placing_options : List (List ℕ × Form)
 placing_options = (codes "--reg", form.Span) ∷ (codes "--code", form.Span) ∷ (codes "--data", form.Span) ∷ (codes "--stack", form.Length) ∷ []
 
+abbrev pub stimuli_option : List ℕ × Form
+stimuli_option = (codes "--stim", form.Input role.Stimuli)
+
+abbrev pub out_option : List ℕ × Form
+out_option = (codes "--out", form.File)
+
 abbrev pub options_for : List ℕ → List (List ℕ × Form)
 options_for verb =
-    if bytes_eq verb (codes "run") then (codes "--states", form.States) ∷ (codes "--stim", form.Input role.Stimuli) ∷ placing_options
-    else if bytes_eq verb (codes "asm") then (codes "--out", form.File) ∷ []
-    else if bytes_eq verb (codes "link") then (codes "--out", form.File) ∷ (codes "--lines", form.File) ∷ placing_options
-    else if bytes_eq verb (codes "hex") then (codes "--states", form.States) ∷ (codes "--stim", form.Input role.Stimuli) ∷ []
+    if bytes_eq verb (codes "run") then (codes "--states", form.States) ∷ stimuli_option ∷ placing_options
+    else if bytes_eq verb (codes "asm") then out_option ∷ []
+    else if bytes_eq verb (codes "lib") then out_option ∷ []
+    else if bytes_eq verb (codes "link") then out_option ∷ (codes "--lines", form.File) ∷ (codes "--lib", form.Input role.Library) ∷ placing_options
+    else if bytes_eq verb (codes "hex") then (codes "--states", form.States) ∷ stimuli_option ∷ []
     else []
 
 abbrev pub form_among : List ℕ → List (List ℕ × Form) → Option Form

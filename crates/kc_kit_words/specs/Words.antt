@@ -8,6 +8,7 @@ use Rattle.kc_link_place.specs.declared.ranges.Ranges.{Ranges}
 use Rattle.kc_link_place.specs.Ranges.{are_in_bounds, lies_within}
 use Rattle.kc_kit_words.specs.declared.inputs.Role.{Role}
 use Rattle.kc_kit_words.specs.Options.{are_options, inputs_of, value_of, states_in, range_in, length_in}
+use Rattle.kc_kit_words.specs.Number.{number_of}
 use Rattle.kc_kit_words.specs.Values.{is_name, range_of}
 
 -- A command. Beside its first files it may have further ones to be read, each for a role.
@@ -16,9 +17,11 @@ pub data Command : Type 0 where
   TellsVersion : Command
   Runs : List (List ℕ) → List (Role × List ℕ) → ℕ → Ranges → Command
   Assembles : List ℕ → List ℕ → Command
-  Links : List (List ℕ) → List ℕ → Option (List ℕ) → Ranges → Command
+  Packs : List (List ℕ) → List ℕ → Command
+  Links : List (List ℕ) → List (Role × List ℕ) → List ℕ → Option (List ℕ) → Ranges → Command
   RunsHex : List ℕ → List (Role × List ℕ) → ℕ → Command
   Lists : List ℕ → ℕ → ℕ → Command
+  Generates : ℕ → Command
 
 -- ---- files stand before the options, and an option begins with `-`
 
@@ -58,18 +61,23 @@ abbrev pub assemble_by : List (List ℕ) → List (List ℕ) → Option Command
 assemble_by (file ∷ []) options = if is_name file then option_map (Assembles file) (value_of (codes "--out") options) else None
 assemble_by _ options = None
 
+abbrev pub pack_by : List (List ℕ) → List (List ℕ) → Option Command
+pack_by files options = if are_files files then option_map (Packs files) (value_of (codes "--out") options) else None
+
 -- a second file is another one
 abbrev pub is_other : List ℕ → Option (List ℕ) → Bool
 is_other out None = true
 is_other out (Some lines) = not (bytes_eq lines out)
 
-abbrev pub links_by : List (List ℕ) → Option (List ℕ) → Option (List ℕ) → Ranges → Option Command
-links_by files None lines placing = None
-links_by files (Some out) lines placing = if is_other out lines && are_in_bounds placing then Some (Links files out lines placing) else None
+abbrev pub links_by : List (List ℕ) → List (Role × List ℕ) → Option (List ℕ) → Option (List ℕ) → Ranges → Option Command
+links_by files inputs None lines placing = None
+links_by files inputs (Some out) lines placing = if is_other out lines && are_in_bounds placing then Some (Links files inputs out lines placing) else None
 
-abbrev pub link_by : List (List ℕ) → List (List ℕ) → Option Command
-link_by files options =
-    if are_files files then links_by files (value_of (codes "--out") options) (value_of (codes "--lines") options) (placing_of options) else None
+abbrev pub link_by : List (List ℕ) → List ℕ → List (List ℕ) → Option Command
+link_by files verb options =
+    if are_files files
+    then links_by files (inputs_of verb options) (value_of (codes "--out") options) (value_of (codes "--lines") options) (placing_of options)
+    else None
 
 abbrev pub hex_of : List ℕ → List ℕ → List (List ℕ) → Option Command
 hex_of file verb options = if is_name file then option_map (RunsHex file (inputs_of verb options)) (states_in options) else None
@@ -90,6 +98,11 @@ abbrev pub list_by : List (List ℕ) → Option Command
 list_by (file ∷ range ∷ []) = list_of file range
 list_by _ = None
 
+-- a number up to 65,535
+abbrev pub generate_by : List (List ℕ) → Option Command
+generate_by (number ∷ []) = option_map Generates (number_of 65535 number)
+generate_by _ = None
+
 abbrev pub alone : List (List ℕ) → Command → Option Command
 alone [] command = Some command
 alone (file ∷ files) command = None
@@ -98,9 +111,11 @@ abbrev pub command_by : List ℕ → List (List ℕ) → List (List ℕ) → Opt
 command_by verb files options =
     if bytes_eq verb (codes "run") then run_by files verb options
     else if bytes_eq verb (codes "asm") then assemble_by files options
-    else if bytes_eq verb (codes "link") then link_by files options
+    else if bytes_eq verb (codes "lib") then pack_by files options
+    else if bytes_eq verb (codes "link") then link_by files verb options
     else if bytes_eq verb (codes "hex") then hex_by files verb options
     else if bytes_eq verb (codes "dis") then list_by files
+    else if bytes_eq verb (codes "gen") then generate_by files
     else if bytes_eq verb (codes "--help") then alone files Helps
     else if bytes_eq verb (codes "--version") then alone files TellsVersion
     else None

@@ -17,10 +17,19 @@ pub struct Assemble<'a> {
     pub out: &'a str,
 }
 
-/// 1 to 64 objects that are linked to a hex file, and to a line map where one is asked for.
+/// 1 to 64 objects that are packed into a library.
+#[derive(Clone, Copy)]
+pub struct Pack<'a> {
+    pub files: &'a [String],
+    pub out: &'a str,
+}
+
+/// 1 to 64 objects that are linked, with what they need of a library where one is named, to a hex file, and to a line map
+/// where one is asked for.
 #[derive(Clone, Copy)]
 pub struct Link<'a> {
     pub files: &'a [String],
+    pub inputs: Inputs<'a>,
     pub out: &'a str,
     pub lines: Option<&'a str>,
     pub placing: Ranges,
@@ -42,6 +51,12 @@ pub struct List<'a> {
     pub last: u16,
 }
 
+/// A run of the input that is made from a number.
+#[derive(Clone, Copy)]
+pub struct Generate {
+    pub number: u16,
+}
+
 /// What some words ask for.
 #[derive(Clone, Copy)]
 pub enum Command<'a> {
@@ -49,7 +64,9 @@ pub enum Command<'a> {
     Version,
     Run(Run<'a>),
     Assemble(Assemble<'a>),
+    Pack(Pack<'a>),
     Link(Link<'a>),
     RunHex(RunHex<'a>),
     List(List<'a>),
+    Generate(Generate),
 }

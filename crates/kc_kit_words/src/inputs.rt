@@ -12,6 +12,8 @@ use crate::values::Form;
 pub enum Role {
     /// It says what drives the input pins.
     Stimuli,
+    /// It is the library from which modules are taken.
+    Library,
 }
 
 /// A file that an option names for reading.

@@ -56,12 +56,13 @@ pub(crate) fn form_of(verb: &str, option: &str) -> Option<Form>
             "--stim" => Some(Form::Input(Role::Stimuli)),
             _ => placing_form(option),
         },
-        "asm" => match option {
+        "asm" | "lib" => match option {
             "--out" => Some(Form::File),
             _ => None,
         },
         "link" => match option {
             "--out" | "--lines" => Some(Form::File),
+            "--lib" => Some(Form::Input(Role::Library)),
             _ => placing_form(option),
         },
         "hex" => match option {

@@ -1,5 +1,5 @@
 // Command lines and what they ask for.
-use crate::{Command, Inputs, Ranges, Role, read_words};
+use crate::{Command, Input, Inputs, Ranges, Role, read_words};
 use std::alloc::{AllocError, Global};
 use std::test::Fail;
 
@@ -31,9 +31,15 @@ fn shown(alloc: Global, line: &str) -> Result<String, AllocError> {
             put(&mut text, assemble.file)?;
             put(&mut text, assemble.out)?;
         }
+        Some(Command::Pack(pack)) => {
+            text.push_str("lib")?;
+            put_files(&mut text, pack.files)?;
+            put(&mut text, pack.out)?;
+        }
         Some(Command::Link(link)) => {
             text.push_str("link")?;
             put_files(&mut text, link.files)?;
+            put_inputs(&mut text, link.inputs)?;
             put(&mut text, link.out)?;
             put(&mut text, link.lines.unwrap_or("-"))?;
             put_ranges(alloc, &mut text, &link.placing)?;
@@ -49,6 +55,10 @@ fn shown(alloc: Global, line: &str) -> Result<String, AllocError> {
             put(&mut text, list.file)?;
             put_number(alloc, &mut text, u64::from(list.first))?;
             put_number(alloc, &mut text, u64::from(list.last))?;
+        }
+        Some(Command::Generate(generate)) => {
+            text.push_str("gen")?;
+            put_number(alloc, &mut text, u64::from(generate.number))?;
         }
     }
     Ok(text)
@@ -67,12 +77,18 @@ fn put_files(text: &mut String, files: &[String]) -> Result<(), AllocError> {
     Ok(())
 }
 
+fn put_input(text: &mut String, input: &Input<'_>) -> Result<(), AllocError> {
+    match input.role {
+        Role::Stimuli => put(text, "stimuli")?,
+        Role::Library => put(text, "library")?,
+    }
+    put(text, input.name)
+}
+
+// No command has more than one of them.
 fn put_inputs(text: &mut String, inputs: Inputs<'_>) -> Result<(), AllocError> {
     if let Some((input, others)) = inputs.split_first() {
-        match input.role {
-            Role::Stimuli => put(text, "stimuli")?,
-        }
-        put(text, input.name)?;
+        put_input(text, &input)?;
         if others.split_first().is_some() {
             put(text, "others")?;
         }
@@ -143,6 +159,16 @@ fn lines_ask_for_commands(rt: HostRuntime) -> Result<(), Fail> {
             "hex a.hex 1000000000000000",
         ),
         ("dis a.hex 2080H-8328", "dis a.hex 8320 8328"),
+        (
+            "lib a.obj b.obj a.obj --out a.lib",
+            "lib a.obj b.obj a.obj a.lib",
+        ),
+        (
+            "link a.obj --lib a.lib --out a.hex --lines a.lib",
+            "link a.obj library a.lib a.hex a.lib",
+        ),
+        ("gen 0FFH", "gen 255"),
+        ("gen 65535", "gen 65535"),
     ] {
         let given = shown(a, line)?;
         assert_eq!(rt; given.as_str(), command, "{line}");
@@ -180,7 +206,8 @@ fn other_lines_ask_for_nothing(rt: HostRuntime) -> Result<(), Fail> {
         "asm a",
         "asm a --out -c",
         "link a --out b --lines b",
-        "link a --out b --lib c",
+        "link a --out b --lib c --lib c",
+        "link a --lib c",
         "link a --out b --reg 19H-0FFH",
         "link a --out b --reg 1AH-200H",
         "link a --out b --code 1FFFH-3000H",
@@ -199,8 +226,13 @@ fn other_lines_ask_for_nothing(rt: HostRuntime) -> Result<(), Fail> {
         "dis a 8192-65536",
         "dis a 2080H-2088H --out b",
         "debug a b",
-        "gen 1",
-        "lib a --out b",
+        "gen",
+        "gen 65536",
+        "gen 1 2",
+        "gen 1 --states 1",
+        "lib --out b",
+        "lib a",
+        "lib a --out b --lib c",
     ] {
         let given = shown(a, line)?;
         assert_eq!(rt; given.as_str(), "none", "{line}");

@@ -44,8 +44,8 @@ pub(crate) fn states(word: &str) -> Option<u64>
     number(word.as_bytes(), MAX_STATES)
 }
 
-// A number of 16 bits.
-fn short(word: &[u8]) -> Option<u16>
+/// A number of 16 bits.
+pub(crate) fn short(word: &[u8]) -> Option<u16>
     ensures { result ≡ number_of 65535 word.now }
 {
     let value = number(word, 65_535)?;

@@ -3,14 +3,14 @@ ghost use Rattle.std.specs.Prelude.{◌≡◌, IfSome, map, string_bytes};
 ghost use Rattle.std.specs.List.{list_all};
 ghost use Rattle.std.specs.Option.{option_map, unwrap_or};
 ghost use Rattle.kc_kit_words.specs.Values.{is_name};
-ghost use Rattle.kc_kit_words.specs.Words.{command_of, command_by, run_by, assemble_by, link_by, hex_by, hex_of, list_by, list_of, are_files, placing_of};
+ghost use Rattle.kc_kit_words.specs.Words.{command_of, command_by, run_by, assemble_by, pack_by, link_by, hex_by, hex_of, list_by, list_of, generate_by, are_files, placing_of};
 ghost use Rattle.kc_kit_words.specs.Words as spec;
 ghost use Rattle.kc_kit_words.specs.Asked.{asked, IsWithin};
 
-use crate::command::{Assemble, Command, Link, List, Run, RunHex};
+use crate::command::{Assemble, Command, Generate, Link, List, Pack, Run, RunHex};
 use crate::inputs::Inputs;
 use crate::options::{are_options, count_files, length_in, range_in, states_in, value_of};
-use crate::values::{is_name, range};
+use crate::values::{is_name, range, short};
 use kc_link_place::Ranges;
 
 /// The most files of one command.
@@ -98,8 +98,19 @@ fn read_assemble<'a>(files: &'a [String], options: &'a [String]) -> Option<Comma
     }))
 }
 
-fn read_link<'a>(files: &'a [String], options: &'a [String]) -> Option<Command<'a>>
-    ensures asked { option_map asked result ≡ link_by (map string_bytes files.now) (map string_bytes options.now) }
+fn read_pack<'a>(files: &'a [String], options: &'a [String]) -> Option<Command<'a>>
+    ensures asked { option_map asked result ≡ pack_by (map string_bytes files.now) (map string_bytes options.now) }
+    ensures within { IfSome result IsWithin }
+{
+    if !are_files(files) {
+        return None;
+    }
+    let out = value_of("--out", options)?;
+    Some(Command::Pack(Pack { files, out }))
+}
+
+fn read_link<'a>(files: &'a [String], verb: &'a str, options: &'a [String]) -> Option<Command<'a>>
+    ensures asked { option_map asked result ≡ link_by (map string_bytes files.now) verb.now (map string_bytes options.now) }
     ensures within { IfSome result IsWithin }
 {
     if !are_files(files) {
@@ -111,6 +122,10 @@ fn read_link<'a>(files: &'a [String], options: &'a [String]) -> Option<Command<'
     if is_other(out, lines) && placing.are_within_bounds() {
         Some(Command::Link(Link {
             files,
+            inputs: Inputs {
+                verb,
+                words: options,
+            },
             out,
             lines,
             placing,
@@ -184,6 +199,17 @@ fn read_list(files: &[String]) -> Option<Command<'_>>
     listing(files[0].as_str(), files[1].as_str())
 }
 
+fn read_generate<'a>(files: &'a [String]) -> Option<Command<'a>>
+    ensures asked { option_map asked result ≡ generate_by (map string_bytes files.now) }
+    ensures within { IfSome result IsWithin }
+{
+    let [number] = files else {
+        return None;
+    };
+    let number = short(number.as_bytes())?;
+    Some(Command::Generate(Generate { number }))
+}
+
 // A command that is one word.
 fn alone<'a>(files: &[String], command: Command<'a>) -> Option<Command<'a>>
     requires { IsWithin command }
@@ -209,9 +235,11 @@ fn read_command<'a>(
     match verb {
         "run" => read_run(files, verb, options),
         "asm" => read_assemble(files, options),
-        "link" => read_link(files, options),
+        "lib" => read_pack(files, options),
+        "link" => read_link(files, verb, options),
         "hex" => read_hex(files, verb, options),
         "dis" => read_list(files),
+        "gen" => read_generate(files),
         "--help" => alone(files, Command::Help),
         "--version" => alone(files, Command::Version),
         _ => None,

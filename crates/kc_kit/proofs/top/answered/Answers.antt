@@ -5,9 +5,9 @@ use Rattle.kc_kit_files.specs.Reply.{Reply, says}
 use Rattle.kc_kit_files.specs.Outside.{kept}
 use Rattle.kc_kit_files.proofs.ReplyLemmas.{Replies-widen}
 use Rattle.kc_kit_words.specs.Words.{command_of}
-use Rattle.kc_kit.specs.Answer.{MayAnswer}
-use Rattle.kc_kit.specs.Lines.{usage_line}
-use Rattle.kc_kit.proofs.LinkLemmas.{holds-none}
+use Rattle.kc_kit_answer.specs.Answer.{MayAnswer}
+use Rattle.kc_kit_answer.specs.Lines.{usage_line}
+use Rattle.kc_kit_answer.proofs.AnswerSteps.{holds-none}
 use Rattle.kc_kit.proofs.top.answered.Goals as goal
 
 pub returns-in-None-clause-answer : goal.returns-in-None-clause-answer

@@ -5,8 +5,10 @@ use Rattle.kc_kit_files.specs.Reply.{Reply, says}
 use Rattle.kc_kit_files.specs.Outside.{kept}
 use Rattle.kc_kit_files.proofs.ReplyLemmas.{Replies-widen}
 use Rattle.kc_kit_words.specs.Asked.{asked}
-use Rattle.kc_kit.specs.Answer.{MayAnswer}
-use Rattle.kc_kit.proofs.LinkLemmas.{holds-none, finished}
+use Rattle.kc_kit_answer.specs.Answer.{MayAnswer}
+use Rattle.kc_kit_answer.specs.Generate.{GenerateAnswer}
+use Rattle.kc_kit_answer.specs.Jobs.{IsOf}
+use Rattle.kc_kit_answer.proofs.AnswerSteps.{holds-none, finished, prepared-of}
 use Rattle.kc_kit.proofs.top.done.Goals as goal
 
 pub returns-in-Help : goal.returns-in-Help
@@ -49,3 +51,17 @@ pub returns-in-List : goal.returns-in-List
 returns-in-List g c =
     finished g.F.Files.held g.F.Files.read_faults g.F.Files.write_faults c.args.command.now _ c.args.files.now c.prepare_list-prepared.new.files c.finish-in-List.new.files c.prepare_list-prepared.result _ _ _
     c.in-List.is c.prepare_list-prepared.ensures c.finish-in-List.ensures.answer c.finish-in-List.ensures.no_read
+
+pub returns-in-Pack : goal.returns-in-Pack
+returns-in-Pack g c =
+    finished g.F.Files.held g.F.Files.read_faults g.F.Files.write_faults c.args.command.now _ c.args.files.now c.prepare_pack-prepared.new.files c.finish-in-Pack.new.files c.prepare_pack-prepared.result _ _ _
+    c.in-Pack.is c.prepare_pack-prepared.ensures c.finish-in-Pack.ensures.answer c.finish-in-Pack.ensures.no_read
+
+pub returns-in-Generate : goal.returns-in-Generate
+returns-in-Generate g c =
+    let told = g.F.Files.held c.args.files.now in
+    let rose : Type 0 = Rose (g.F.Files.read_faults c.args.files.now) (g.F.Files.read_faults c.finish-in-Generate.new.files) in
+    Replies-widen (IsOf c.prepare_generate-prepared.result) (MayAnswer (Some (asked c.args.command.now)) told rose) _ _ _ _ _
+    (λ r e. subst (λ k. MayAnswer (Some (asked k)) told rose r) (sym c.in-Generate.is)
+    ([], holds-none told, inl (prepared-of (GenerateAnswer c.in-Generate.generate.number) c.prepare_generate-prepared.result c.prepare_generate-prepared.ensures r e)))
+    c.finish-in-Generate.ensures.answer

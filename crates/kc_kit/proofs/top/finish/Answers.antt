@@ -2,7 +2,7 @@ use Rattle.std.proofs.Common.{sym, subst}
 use Rattle.kc_kit_files.specs.Reply.{IsSaid}
 use Rattle.kc_kit_files.specs.Outside.{kept}
 use Rattle.kc_kit_files.proofs.ReplyLemmas.{Replies-widen}
-use Rattle.kc_kit.specs.Jobs.{IsOf}
+use Rattle.kc_kit_answer.specs.Jobs.{IsOf}
 use Rattle.kc_kit.proofs.top.finish.Goals as goal
 
 pub returns-in-Err-clause-answer : goal.returns-in-Err-clause-answer

@@ -1,0 +1,7 @@
+pub mod AnswerSteps
+pub mod LinkLemmas
+pub mod Listed
+pub mod MadeLemmas
+pub mod RunLemmas
+pub mod SourceLemmas
+pub mod WriteLemmas

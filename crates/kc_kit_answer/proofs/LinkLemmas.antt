@@ -1,0 +1,75 @@
+-- Modules that break a rule of the linker, and the words that name their files.
+use Rattle.std.proofs.Common.{◌≡◌, ℕ, zero, suc, ◌<◌, ◌≤◌, List, [], ◌∷◌, length, get_or, string_bytes, String, Global, Option, Some, None, Ok, Err, refl, sym, ◌∙◌, ap, subst, arith}
+use Rattle.std.specs.Prelude.{slice_get}
+use Rattle.kc_obj.specs.Object.{Object}
+use Rattle.kc_link_place.specs.declared.ranges.Ranges.{Ranges}
+use Rattle.kc_link_place.specs.declared.ranges.LinkFault.{LinkFault}
+use Rattle.kc_link_place.specs.declared.ranges.LinkFault.TheVariants as faults
+use Rattle.kc_link_place.specs.Placing.{Places, IsCause}
+use Rattle.kc_link.specs.Placed.{placed}
+use Rattle.kc_kit_files.specs.declared.status.Status.TheVariants as status
+use Rattle.kc_kit_files.specs.declared.refusal.Refusal.{Refusal}
+use Rattle.kc_kit_files.specs.declared.refusal.Refusal.TheVariants as refusals
+use Rattle.kc_kit_files.specs.Reply.{Reply, says, IsRefused}
+use Rattle.kc_kit_files.proofs.ReadLemmas.{refused-widen}
+use Rattle.std.specs.Prelude.{◌-◌, ◌++◌}
+use Rattle.std.proofs.lemmas.List.{append-nil}
+use Rattle.kc_kit_inputs.proofs.Words.{names_in, name-get, length-names}
+use Rattle.kc_kit_answer.proofs.AnswerSteps.{then-err}
+use Rattle.kc_kit_answer.specs.declared.link_lines.Members.{Members}
+use Rattle.kc_kit_answer.specs.Origins.{words_of_members, with_members}
+use Rattle.kc_kit_answer.specs.Lines.{link_line, file_at}
+use Rattle.kc_kit_answer.specs.Places.{by_places, places_of, Placing}
+
+-- ---- linking
+
+-- a broken rule
+pub link-refused : (names : List (List ℕ)) (ms : List Object) (ranges : Ranges) (may : List Object → Places → Reply → Type 0) (fault : LinkFault) (refusal : Refusal) →
+    IsCause fault (placed ms ranges ≡ Err fault) → IsRefused (λ reply. reply ≡ says status.Link (link_line names fault)) refusal → (fault ≡ faults.NoMemory → refusal ≡ refusals.NoMemory) →
+    IsRefused (Placing names ranges may ms) refusal
+link-refused names ms ranges may fault refusal cause line memory = by fault refl cause
+  where
+    told : placed ms ranges ≡ Err fault → IsRefused (Placing names ranges may ms) refusal
+    told e = refused-widen (λ reply. reply ≡ says status.Link (link_line names fault)) (Placing names ranges may ms) refusal
+        (λ r f. then-err (places_of names ms ranges) (may ms) r (ap (by_places names) e ∙ ap Err (sym f))) line
+
+    by : (f : LinkFault) → fault ≡ f → IsCause f (placed ms ranges ≡ Err fault) → IsRefused (Placing names ranges may ms) refusal
+    by faults.NoMemory e c = subst (IsRefused (Placing names ranges may ms)) (sym (memory e)) tt
+    by (faults.Unresolved name) e c = told c
+    by (faults.OverlapName name) e c = told c
+    by (faults.OverlapPlace place) e c = told c
+    by (faults.Capacity kind index) e c = told c
+    by (faults.Range index piece offset) e c = told c
+
+-- the same places
+pub same-places : (ms : List Object) (ranges : Ranges) (p q : Places) → placed ms ranges ≡ Ok p → placed ms ranges ≡ Ok q → q ≡ p
+same-places ms ranges p q e f = cc
+
+-- the word of a module's file
+abbrev file_word : Option (List ℕ) → List ℕ
+file_word word = elim word [ None ↦ 45 ∷ [] | Some name ↦ name ]
+
+slice-front : (names more : List (List ℕ)) (i : ℕ) → i < length names → slice_get (names ++ more) i ≡ slice_get names i
+slice-front [] more i h = absurd (omega (arith, h))
+slice-front (a ∷ names) more zero h = refl
+slice-front (a ∷ names) more (suc i) h = slice-front names more i (omega (arith, h))
+
+slice-behind : (names more : List (List ℕ)) (i : ℕ) → length names ≤ i → slice_get (names ++ more) i ≡ slice_get more (i - length names)
+slice-behind [] more i h = ap (slice_get more) (let e : i ≡ i - length {A = List ℕ} [] = omega arith in e)
+slice-behind (a ∷ names) more zero h = absurd (omega (arith, h))
+slice-behind (a ∷ names) more (suc i) h = slice-behind names more i (omega (arith, h)) ∙ ap (slice_get more) (let e : i - length names ≡ suc i - length (a ∷ names) = omega arith in e)
+
+members-behind : (names : List (List ℕ)) (members : Option Members) → with_members names members ≡ names ++ words_of_members members
+members-behind names None = sym (append-nil names)
+members-behind names (Some members) = refl
+
+pub file-there : (ws : List (String Global)) (members : Option Members) (i : ℕ) (w : String Global) → i < length ws → w ≡ get_or ws i w → file_at (with_members (names_in ws) members) i ≡ string_bytes w
+file-there ws members i w h e =
+    ap (λ names. file_at names i) (members-behind (names_in ws) members)
+    ∙ ap file_word (slice-front (names_in ws) (words_of_members members) i (omega (arith, h, length-names ws)) ∙ name-get ws i w h e)
+
+pub file-behind : (ws : List (String Global)) (members : Option Members) (i : ℕ) → length ws ≤ i → file_at (with_members (names_in ws) members) i ≡ file_at (words_of_members members) (i - length ws)
+file-behind ws members i h =
+    ap (λ names. file_at names i) (members-behind (names_in ws) members)
+    ∙ ap file_word (slice-behind (names_in ws) (words_of_members members) i (omega (arith, h, length-names ws)))
+    ∙ ap (λ n. file_at (words_of_members members) (i - n)) (length-names ws)

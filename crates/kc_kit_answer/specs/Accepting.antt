@@ -1,0 +1,13 @@
+-- What is accepted of a step and of files (this kit's own).
+use Rattle.std.specs.Prelude.{ℕ, List, [], ◌∷◌, Result, Ok, Err}
+use Rattle.kc_kit_files.specs.Reply.{Reply}
+
+-- the step gives a value, which is accepted
+abbrev pub Accepting : {A : Type 0} → (A → Type 0) → Result A Reply → Type 0
+Accepting accepts (Ok a) = accepts a
+Accepting accepts (Err refusal) = ⊥
+
+-- the one file of a command
+abbrev pub IsOneText : (List ℕ → Type 0) → List (List ℕ) → Type 0
+IsOneText accepts (text ∷ []) = accepts text
+IsOneText accepts _ = ⊥

@@ -1,0 +1,105 @@
+-- What the kit answers to a command line over what the files hold (this kit's own).
+use Rattle.std.specs.Prelude.{◌≡◌, ◌≢◌, ◌⊎◌, ℕ, List, [], ◌∷◌, ◌++◌, length, take, drop, Option, Some, None}
+use Rattle.std.specs.Result.{IsOk}
+use Rattle.std.specs.Option.{option_to_list}
+use Rattle.kc_base.specs.Causes.{Rose}
+use Rattle.kc_base.specs.Held.{Holding}
+use Rattle.kc_hex.specs.Records.{image_of}
+use Rattle.kc_kit_files.specs.declared.status.Status.TheVariants as status
+use Rattle.kc_kit_files.specs.Reply.{Reply, says, Then}
+use Rattle.kc_kit_files.specs.Reads.{reads_of, Holds, FailedRead}
+use Rattle.kc_kit_words.specs.declared.inputs.Role.TheVariants as role
+use Rattle.kc_kit_words.specs.Words.{Command, Helps, TellsVersion, Runs, Assembles, Packs, Links, RunsHex, Lists, Generates}
+use Rattle.kc_kit_inputs.specs.Inputs.{names_of, input_for}
+use Rattle.kc_kit_inputs.specs.Sources.{IsFaultless}
+use Rattle.kc_kit_inputs.specs.Stimuli.{drives_of}
+use Rattle.kc_kit_answer.specs.Accepting.{Accepting, IsOneText}
+use Rattle.kc_kit_answer.specs.Assemble.{AssembleAnswer}
+use Rattle.kc_kit_answer.specs.Generate.{GenerateAnswer, IsGenerable}
+use Rattle.kc_kit_answer.specs.Hex.{RunHexAnswer, ListAnswer}
+use Rattle.kc_kit_answer.specs.Lines.{help_text, version_line, usage_line}
+use Rattle.kc_kit_answer.specs.Link.{LinkAnswer, AreLinkable}
+use Rattle.kc_kit_answer.specs.Pack.{PackAnswer, ArePackable}
+use Rattle.kc_kit_answer.specs.Run.{RunAnswer, AreRunnable}
+
+-- ---- the files that a command names: those that are read, in this order, and those that are written
+
+abbrev pub names_read : Option Command → List (List ℕ)
+names_read (Some (Runs files inputs states placing)) = files ++ names_of inputs
+names_read (Some (Assembles file out)) = file ∷ []
+names_read (Some (Packs files out)) = files
+names_read (Some (Links files inputs out lines placing)) = files ++ names_of inputs
+names_read (Some (RunsHex file inputs states)) = file ∷ names_of inputs
+names_read (Some (Lists file first last)) = file ∷ []
+names_read _ = []
+
+abbrev pub names_written : Option Command → List (List ℕ)
+names_written (Some (Assembles file out)) = out ∷ []
+names_written (Some (Packs files out)) = out ∷ []
+names_written (Some (Links files inputs out lines placing)) = out ∷ option_to_list lines
+names_written _ = []
+
+-- ---- commands
+
+-- the one file of a command
+abbrev pub OneText : (List ℕ → Reply → Type 0) → List (List ℕ) → Reply → Type 0
+OneText may (text ∷ []) reply = may text reply
+OneText may _ reply = ⊥
+
+-- the texts of so many first files, and those of the inputs behind them
+abbrev pub Parted : ℕ → (List (List ℕ) → List (List ℕ) → Reply → Type 0) → List (List ℕ) → Reply → Type 0
+Parted count may texts reply = may (take count texts) (drop count texts) reply
+
+-- what may be answered, over what the files that are read hold, in the order of their names
+abbrev pub CommandAnswer : Option Command → List (Option (List ℕ)) → Reply → Type 0
+CommandAnswer None contents reply = reply ≡ says status.Usage usage_line
+CommandAnswer (Some Helps) contents reply = reply ≡ says status.Done help_text
+CommandAnswer (Some TellsVersion) contents reply = reply ≡ says status.Done version_line
+CommandAnswer (Some (Runs files inputs states placing)) contents reply = Then (reads_of (files ++ names_of inputs) contents) (Parted (length files) (RunAnswer files inputs states placing)) reply
+CommandAnswer (Some (Assembles file out)) contents reply = Then (reads_of (file ∷ []) contents) (OneText (AssembleAnswer file out)) reply
+CommandAnswer (Some (Packs files out)) contents reply = Then (reads_of files contents) (PackAnswer files out) reply
+CommandAnswer (Some (Links files inputs out lines placing)) contents reply =
+    Then (reads_of (files ++ names_of inputs) contents) (Parted (length files) (LinkAnswer files inputs out lines placing)) reply
+CommandAnswer (Some (RunsHex file inputs states)) contents reply =
+    Then (reads_of (file ∷ names_of inputs) contents) (Parted 1 (λ texts more. OneText (λ text. RunHexAnswer file inputs states text more) texts)) reply
+CommandAnswer (Some (Lists file first last)) contents reply = Then (reads_of (file ∷ []) contents) (OneText (ListAnswer file first last)) reply
+CommandAnswer (Some (Generates number)) contents reply = GenerateAnswer number reply
+
+-- What may be answered to a command, over what the files tell that they hold: all files are read before any is judged. A read may
+-- fail where the count of failed reads rose.
+abbrev pub MayAnswer : Option Command → Option Holding → Type 0 → Reply → Type 0
+MayAnswer command told rose reply =
+    (contents : List (Option (List ℕ))) × Holds told (names_read command) contents × (CommandAnswer command contents reply ⊎ FailedRead (names_read command) contents rose reply)
+
+-- the same of files, by what they tell of themselves before and after the command
+abbrev pub MayAnswerBy : {T : Type 0} → (T → Option Holding) → (T → ℕ) → Option Command → T → T → Reply → Type 0
+MayAnswerBy held reads command old new reply = MayAnswer command (held old) (Rose (reads old) (reads new)) reply
+
+-- ---- what is accepted: a command, each file held within its limit and in its form, no source with a fault, and no rule of the
+-- ---- linker broken
+
+abbrev pub IsAccepted : Option Command → List (Option (List ℕ)) → Type 0
+IsAccepted None contents = ⊥
+IsAccepted (Some Helps) contents = Unit {0}
+IsAccepted (Some TellsVersion) contents = Unit {0}
+IsAccepted (Some (Runs files inputs states placing)) contents =
+    Accepting (λ texts. AreRunnable files inputs placing (take (length files) texts) (drop (length files) texts)) (reads_of (files ++ names_of inputs) contents)
+IsAccepted (Some (Assembles file out)) contents = Accepting (IsOneText IsFaultless) (reads_of (file ∷ []) contents)
+IsAccepted (Some (Packs files out)) contents = Accepting (ArePackable files) (reads_of files contents)
+IsAccepted (Some (Links files inputs out lines placing)) contents =
+    Accepting (λ texts. AreLinkable files inputs placing (take (length files) texts) (drop (length files) texts)) (reads_of (files ++ names_of inputs) contents)
+IsAccepted (Some (RunsHex file inputs states)) contents =
+    Accepting (λ texts. IsOneText (λ text. IsOk (image_of text)) (take 1 texts) × IsOk (drives_of (input_for role.Stimuli inputs (drop 1 texts)))) (reads_of (file ∷ names_of inputs) contents)
+IsAccepted (Some (Lists file first last)) contents = Accepting (IsOneText (λ text. IsOk (image_of text))) (reads_of (file ∷ []) contents)
+IsAccepted (Some (Generates number)) contents = IsGenerable number
+
+-- ---- no name changes but those of files that are written
+
+-- a name is not one of these
+abbrev pub IsNone : List ℕ → List (List ℕ) → Type 0
+IsNone name [] = Unit {0}
+IsNone name (n ∷ ns) = (name ≢ n) × IsNone name ns
+
+abbrev pub StaysBut : List (List ℕ) → Holding → Option Holding → Type 0
+StaysBut names before None = ⊥
+StaysBut names before (Some now) = (name : List ℕ) → IsNone name names → now name ≡ before name

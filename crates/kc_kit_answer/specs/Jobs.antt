@@ -1,0 +1,72 @@
+-- What is left to do once a command's files are read and judged (this kit's own).
+use Rattle.std.specs.Prelude.{◌≡◌, ℕ, ◌≤◌, List, [], ◌∷◌, Option, Some, None, Result, Ok, Err}
+use Rattle.kc_code_listing.specs.Listing.{listing}
+use Rattle.kc_base.specs.Causes.{Rose}
+use Rattle.kc_base.specs.Held.{Holding}
+use Rattle.kc_kit_files.specs.declared.status.Status.{Status}
+use Rattle.kc_kit_files.specs.declared.status.Status.TheVariants as status
+use Rattle.kc_kit_files.specs.Outside.{Kept, OnlyRead, Wrote, WroteByPart}
+use Rattle.kc_kit_files.specs.declared.refusal.Refusal.{Refusal}
+use Rattle.kc_kit_files.specs.Reply.{Reply, Write, write, says, done_writing, IsRefused, IsSaid}
+use Rattle.kc_kit_words.specs.Values.{max_states}
+use Rattle.kc_kit_words.specs.Words.{Command}
+use Rattle.kc_stim.specs.Drives.{Drives}
+use Rattle.kc_kit_answer.specs.declared.board.Board.{Board}
+use Rattle.kc_kit_answer.specs.declared.job.Job.{Job}
+use Rattle.kc_kit_answer.specs.declared.job.Job.TheVariants as job
+use Rattle.kc_kit_answer.specs.declared.job.Output.{Output}
+use Rattle.kc_kit_answer.specs.Answer.{MayAnswerBy}
+use Rattle.kc_kit_answer.specs.Generate.{summary_of}
+use Rattle.kc_kit_answer.specs.Running.{run_of, run_reply}
+
+abbrev pub written : Output → Write
+written o = write o.name.now o.bytes.items
+
+abbrev pub maybe_written : Option Output → List Write
+maybe_written None = []
+maybe_written (Some o) = written o ∷ []
+
+-- the reply of a job
+abbrev pub does : Job → Reply
+does (job.Run board states) = run_reply (run_of states board.stimuli board.image)
+does (job.Count board number) = summary_of number board.stimuli board.image
+does (job.List image first last) = says status.Done (listing image first last)
+does (job.Write file more) = done_writing (written file ∷ maybe_written more)
+
+-- state times within their limit, and addresses in order
+abbrev pub IsDoable : Job → Type 0
+IsDoable (job.Run board states) = states ≤ max_states
+IsDoable (job.Count board number) = Unit {0}
+IsDoable (job.List image first last) = (0x2000 ≤ first) × (first ≤ last)
+IsDoable (job.Write file more) = Unit {0}
+
+-- a board with an image and what drives its inputs, on which what is answered depends; or a refusal that may be answered
+abbrev pub IsBoard : ((Drives → List ℕ → Reply) → Reply → Type 0) → Result Board Refusal → Type 0
+IsBoard answer (Ok board) = (tell : Drives → List ℕ → Reply) → answer tell (tell board.stimuli board.image)
+IsBoard answer (Err refusal) = (tell : Drives → List ℕ → Reply) → IsRefused (answer tell) refusal
+
+-- a job or a refusal, of which the reply may be given
+abbrev pub IsPrepared : (Reply → Type 0) → Result Job Refusal → Type 0
+IsPrepared may (Ok job) = may (does job) × IsDoable job
+IsPrepared may (Err refusal) = IsRefused may refusal
+
+-- the job or the refusal that a command comes to once its files are read and judged; the files stay
+pub record Prepares {T : Type 0} (held : T → Option Holding) (reads writes : T → ℕ) (command : Command) (old : T) (given : Result Job Refusal) (new : T) : Type 0 where
+  pub answer : IsPrepared (MayAnswerBy held reads (Some command) old new) given
+  pub only_read : OnlyRead held reads writes old new
+
+abbrev pub IsReady : Result Job Refusal → Type 0
+IsReady (Ok job) = IsDoable job
+IsReady (Err refusal) = Unit {0}
+
+-- the reply of a job or of a refusal
+abbrev pub IsOf : Result Job Refusal → Reply → Type 0
+IsOf (Ok job) reply = reply ≡ does job
+IsOf (Err refusal) reply = IsSaid refusal reply
+
+-- files are written, all of them or some and then one that is refused
+abbrev pub AreWritten : Kept → List Write → Status → Kept → Type 0
+AreWritten before ws status.Done now = Wrote before ws now
+AreWritten before ws status.WriteFault now = Rose before.faults now.faults × WroteByPart before ws now
+AreWritten before ws status.NoMemory now = WroteByPart before ws now
+AreWritten before ws _ now = ⊥

@@ -1,0 +1,13 @@
+pub mod Accepting
+pub mod Answer
+pub mod Assemble
+pub mod Generate
+pub mod Hex
+pub mod Jobs
+pub mod Lines
+pub mod Link
+pub mod Origins
+pub mod Pack
+pub mod Places
+pub mod Run
+pub mod Running

@@ -1,0 +1,59 @@
+-- The command that links objects: the hex file first, and then the line map where one is asked for (this kit's own).
+use Rattle.std.specs.Prelude.{◌≡◌, ℕ, ◌+◌, ◌≤◌, List, [], ◌∷◌, ◌++◌, length, Option, Some, None, Result}
+use Rattle.std.specs.Result.{IsOk}
+use Rattle.kc_obj.specs.Object.{Object}
+use Rattle.kc_lib.specs.Taking.{AreTaken}
+use Rattle.kc_link_place.specs.declared.ranges.Ranges.{Ranges}
+use Rattle.kc_link_place.specs.Placing.{Places}
+use Rattle.kc_link.specs.declared.lines.LineAt.{LineAt}
+use Rattle.kc_link.specs.Filled.{IsFilled}
+use Rattle.kc_link.specs.LineMap.{IsLineMap}
+use Rattle.kc_hex.specs.Spelling.{spelling}
+use Rattle.kc_kit_files.specs.Reply.{Reply, Write, write, done_writing, Then}
+use Rattle.kc_kit_words.specs.declared.inputs.Role.{Role}
+use Rattle.kc_kit_words.specs.declared.inputs.Role.TheVariants as role
+use Rattle.kc_kit_inputs.specs.Inputs.{input_for}
+use Rattle.kc_kit_inputs.specs.Library.{library_of, TakenAre}
+use Rattle.kc_kit_inputs.specs.Objects.{modules_of, object_of}
+use Rattle.kc_kit_answer.specs.Accepting.{Accepting}
+use Rattle.kc_kit_answer.specs.Lines.{member_words, map_text}
+use Rattle.kc_kit_answer.specs.Places.{places_of, Placing}
+
+abbrev pub IsMap : Option (List ℕ) → List Object → Places → List Write → Type 0
+IsMap None ms places writes = writes ≡ []
+IsMap (Some name) ms places writes = (entries : List LineAt) × IsLineMap ms places entries × (writes ≡ write name (map_text entries) ∷ [])
+
+pub record LinksTo (out : List ℕ) (lines : Option (List ℕ)) (ms : List Object) (places : Places) (reply : Reply) : Type 0 where
+  pub image : List ℕ
+  pub is_filled : IsFilled ms places image
+  pub more : List Write
+  pub is_map : IsMap lines ms places more
+  pub done : reply ≡ done_writing (write out (spelling image) ∷ more)
+
+-- ---- a library, by its name and its text: the members that the modules take follow them
+
+-- goes on with the modules and the members that they take from a library of this name
+abbrev pub Taking : List (List ℕ) → List ℕ → (List (List ℕ) → List Object → Reply → Type 0) → List Object → List Object → Reply → Type 0
+Taking names library may ms members reply =
+    (taken : Result (List Object) Reply) × TakenAre library ms members taken × Then taken (λ taken. may (names ++ member_words library taken) (ms ++ taken)) reply
+
+-- goes on with modules, where a library is named with what they take of it too
+abbrev pub Completed : List (List ℕ) → Option (List ℕ × List ℕ) → (List (List ℕ) → List Object → Reply → Type 0) → List Object → Reply → Type 0
+Completed names None may ms reply = may names ms reply
+Completed names (Some library) may ms reply = Then (library_of library.0 library.1) (Taking names library.0 may ms) reply
+
+-- the answer to objects that were read, and to a library where one was
+abbrev pub LinkAnswer : List (List ℕ) → List (Role × List ℕ) → List ℕ → Option (List ℕ) → Ranges → List (List ℕ) → List (List ℕ) → Reply → Type 0
+LinkAnswer names inputs out lines ranges texts input_texts reply =
+    Then (modules_of object_of names texts) (Completed names (input_for role.Library inputs input_texts) (λ files. Placing files ranges (LinksTo out lines))) reply
+
+-- ---- what is accepted: at most 64 modules and taken members, and no rule of the linker is broken
+
+abbrev pub IsLinkable : List (List ℕ) → Option (List ℕ × List ℕ) → Ranges → List Object → Type 0
+IsLinkable names None ranges ms = IsOk (places_of names ms ranges)
+IsLinkable names (Some library) ranges ms =
+    Accepting (λ members. (taken : List Object) → AreTaken ms members taken → (length ms + length taken ≤ 64) × IsOk (places_of (names ++ member_words library.0 taken) (ms ++ taken) ranges))
+    (library_of library.0 library.1)
+
+abbrev pub AreLinkable : List (List ℕ) → List (Role × List ℕ) → Ranges → List (List ℕ) → List (List ℕ) → Type 0
+AreLinkable names inputs ranges texts input_texts = Accepting (IsLinkable names (input_for role.Library inputs input_texts) ranges) (modules_of object_of names texts)

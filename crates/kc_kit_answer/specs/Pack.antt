@@ -1,0 +1,24 @@
+-- The command that packs objects into a library (this kit's own).
+use Rattle.std.specs.Prelude.{◌≡◌, ℕ, List, [], ◌∷◌, Option, Some, None}
+use Rattle.kc_obj.specs.Object.{Object}
+use Rattle.kc_lib.specs.Format.{library_bytes}
+use Rattle.kc_lib.specs.Names.{doubled}
+use Rattle.kc_link_place.specs.declared.ranges.LinkFault.TheVariants as faults
+use Rattle.kc_kit_files.specs.declared.status.Status.TheVariants as status
+use Rattle.kc_kit_files.specs.Reply.{Reply, says, write, done_writing, Then}
+use Rattle.kc_kit_inputs.specs.Objects.{modules_of, object_of}
+use Rattle.kc_kit_answer.specs.Accepting.{Accepting}
+use Rattle.kc_kit_answer.specs.Lines.{link_line}
+
+-- the library of modules is written, or the first name is told that is public in two of them
+abbrev pub packed : List ℕ → List Object → Option (List ℕ) → Reply
+packed out ms None = done_writing (write out (library_bytes ms) ∷ [])
+packed out ms (Some name) = says status.Link (link_line [] (faults.OverlapName name))
+
+-- the answer to objects that were read
+abbrev pub PackAnswer : List (List ℕ) → List ℕ → List (List ℕ) → Reply → Type 0
+PackAnswer names out texts reply = Then (modules_of object_of names texts) (λ ms reply. reply ≡ packed out ms (doubled ms)) reply
+
+-- what is accepted: no name is public in two of the objects
+abbrev pub ArePackable : List (List ℕ) → List (List ℕ) → Type 0
+ArePackable names texts = Accepting (λ ms. doubled ms ≡ None) (modules_of object_of names texts)

@@ -1,0 +1,22 @@
+-- Modules that are placed (this kit's own; the rules of linking after RL96 of the MCS-96 utilities, in outline).
+use Rattle.std.specs.Prelude.{ℕ, List, Result, Ok, Err}
+use Rattle.kc_obj.specs.Object.{Object}
+use Rattle.kc_link_place.specs.declared.ranges.Ranges.{Ranges}
+use Rattle.kc_link_place.specs.declared.ranges.LinkFault.{LinkFault}
+use Rattle.kc_link_place.specs.Placing.{Places}
+use Rattle.kc_link.specs.Placed.{placed}
+use Rattle.kc_kit_files.specs.declared.status.Status.TheVariants as status
+use Rattle.kc_kit_files.specs.Reply.{Reply, says, Then}
+use Rattle.kc_kit_answer.specs.Lines.{link_line}
+
+-- the places of modules, or the reply to the first broken rule
+abbrev pub by_places : List (List ℕ) → Result Places LinkFault → Result Places Reply
+by_places names (Ok places) = Ok places
+by_places names (Err fault) = Err (says status.Link (link_line names fault))
+
+abbrev pub places_of : List (List ℕ) → List Object → Ranges → Result Places Reply
+places_of names ms ranges = by_places names (placed ms ranges)
+
+-- what may be answered to modules, once they are placed
+abbrev pub Placing : List (List ℕ) → Ranges → (List Object → Places → Reply → Type 0) → List Object → Reply → Type 0
+Placing names ranges may ms reply = Then (places_of names ms ranges) (may ms) reply

@@ -1,0 +1,72 @@
+-- The command that runs sources (this kit's own).
+use Rattle.std.specs.Prelude.{◌≡◌, ℕ, ◌≤◌, true, Option, None, List, [], ◌∷◌, length, Result}
+use Rattle.std.specs.List.{list_all}
+use Rattle.std.specs.Result.{IsOk}
+use Rattle.kc_stim.specs.Drives.{Drives}
+use Rattle.kc_obj.specs.Object.{Object}
+use Rattle.kc_source_statement.specs.declared.statement.Stmt.{Stmt}
+use Rattle.kc_asm_check.specs.Judging.{first_fault}
+use Rattle.kc_asm_piece.specs.declared.draft.Draft.{Draft}
+use Rattle.kc_asm_module.specs.ModuleOf.{IsModuleOf, pieces_in}
+use Rattle.kc_asm_draft_laws.specs.Drafting.{IsDraftOf}
+use Rattle.kc_asm.specs.Assembled.{AreSaid}
+use Rattle.kc_link_source_laws.specs.Characters.{has_bytes}
+use Rattle.kc_link_source_laws.specs.Linked.{IsLinked}
+use Rattle.kc_link_place.specs.declared.ranges.Ranges.{Ranges}
+use Rattle.kc_link_place.specs.Placing.{Places}
+use Rattle.kc_link.specs.Filled.{IsFilled}
+use Rattle.kc_kit_files.specs.Reply.{Reply, Then}
+use Rattle.kc_kit_words.specs.declared.inputs.Role.{Role}
+use Rattle.kc_kit_words.specs.declared.inputs.Role.TheVariants as role
+use Rattle.kc_kit_inputs.specs.Inputs.{input_for}
+use Rattle.kc_kit_inputs.specs.Sources.{AreModules, SourcesAre, AreFaultless}
+use Rattle.kc_kit_inputs.specs.Stimuli.{drives_of}
+use Rattle.kc_kit_answer.specs.Places.{places_of, Placing}
+use Rattle.kc_kit_answer.specs.Running.{run_reply, run_of}
+
+-- the statements of sources, and the drafts of their modules
+abbrev pub AreDrafted : List (List ℕ) → List (List Stmt) → List Draft → List Object → Type 0
+AreDrafted [] [] [] [] = Unit {0}
+AreDrafted (text ∷ texts) (said ∷ sources) (d ∷ drafts) (m ∷ ms) =
+    AreSaid text said × (list_all has_bytes said ≡ true) × (first_fault said ≡ None) × IsDraftOf said d × (length (pieces_in d) ≤ 65536) × IsModuleOf d m × AreDrafted texts sources drafts ms
+AreDrafted _ _ _ _ = ⊥
+
+-- an image in which the place of each statement of the sources decodes to that statement
+pub record IsImageOfTexts (texts : List (List ℕ)) (ms : List Object) (places : Places) (image : List ℕ) : Type 0 where
+  pub sources : List (List Stmt)
+  pub drafts : List Draft
+  pub drafted : AreDrafted texts sources drafts ms
+  pub linked : IsLinked sources drafts ms places image
+
+-- in the image that is filled from modules the answer is this
+pub record FilledTold (tell : List ℕ → Reply) (ms : List Object) (places : Places) (reply : Reply) : Type 0 where
+  pub image : List ℕ
+  pub is_filled : IsFilled ms places image
+  pub told : reply ≡ tell image
+
+-- in the image that is linked from sources the answer is this
+pub record LinkedTold (texts : List (List ℕ)) (tell : List ℕ → Reply) (ms : List Object) (places : Places) (reply : Reply) : Type 0 where
+  pub image : List ℕ
+  pub is_filled : IsFilled ms places image
+  pub is_image : IsImageOfTexts texts ms places image
+  pub told : reply ≡ tell image
+
+-- once modules are placed, it is judged what drives the inputs
+abbrev pub Driven : Option (List ℕ × List ℕ) → ((List ℕ → Reply) → List Object → Places → Reply → Type 0) → (Drives → List ℕ → Reply) → List Object → Places → Reply → Type 0
+Driven stimuli may tell ms places reply = Then (drives_of stimuli) (λ drives. may (tell drives) ms places) reply
+
+-- sources are judged, their modules are placed, it is judged what drives the inputs, and with the image the answer is this
+abbrev pub SourcesTold : List (List ℕ) → Option (List ℕ × List ℕ) → Ranges → List (List ℕ) → (Drives → List ℕ → Reply) → Reply → Type 0
+SourcesTold names stimuli ranges texts tell reply =
+    (sources : Result (List Object) Reply) × SourcesAre names texts sources × Then sources (Placing names ranges (Driven stimuli (LinkedTold texts) tell)) reply
+
+-- the answer to sources that are run
+abbrev pub RunAnswer : List (List ℕ) → List (Role × List ℕ) → ℕ → Ranges → List (List ℕ) → List (List ℕ) → Reply → Type 0
+RunAnswer names inputs states ranges texts input_texts reply =
+    SourcesTold names (input_for role.Stimuli inputs input_texts) ranges texts (λ drives image. run_reply (run_of states drives image)) reply
+
+-- ---- what is accepted: no source has a fault, no rule of the linker is broken, and the stimuli have their form
+
+abbrev pub AreRunnable : List (List ℕ) → List (Role × List ℕ) → Ranges → List (List ℕ) → List (List ℕ) → Type 0
+AreRunnable names inputs ranges texts input_texts =
+    AreFaultless texts × ((ms : List Object) → AreModules texts ms → IsOk (places_of names ms ranges)) × IsOk (drives_of (input_for role.Stimuli inputs input_texts))

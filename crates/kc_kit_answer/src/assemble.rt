@@ -1,0 +1,46 @@
+// The command that assembles a source to an object.
+ghost use Rattle.std.specs.Prelude.{◌≤◌, length};
+ghost use Rattle.kc_kit_words.specs.Asked.{asked};
+ghost use Rattle.kc_kit_answer.specs.Assemble.{AssembleAnswer};
+ghost use Rattle.kc_kit_answer.specs.Jobs.{IsPrepared, Prepares};
+
+use crate::job::{Job, Output};
+use kc_base::Files;
+use kc_kit_files::{Refusal, read_file};
+use kc_kit_inputs::assemble_source;
+use kc_kit_words::{Assemble, Command};
+use kc_obj::encode;
+use std::alloc::Global;
+
+/// Reads a source and assembles the object that is to be written.
+pub fn prepare_assemble<'a, F: Files>(
+    alloc: Global,
+    assemble: &Assemble<'a>,
+    files: &mut F,
+) -> Result<Job<'a>, Refusal>
+    ensures { Prepares F.held F.read_faults F.write_faults (asked (Command.Assemble assemble.now)) files.old result files.new }
+{
+    match read_file(alloc, assemble.file, files) {
+        Ok(text) => object_text(alloc, assemble, &text),
+        Err(refusal) => Err(refusal),
+    }
+}
+
+// The object of the source with a text.
+fn object_text<'a>(alloc: Global, assemble: &Assemble<'a>, text: &[u8]) -> Result<Job<'a>, Refusal>
+    requires { length text.now ≤ 1048576 }
+    ensures { IsPrepared (AssembleAnswer assemble.now.file.now assemble.now.out.now text.now) result }
+{
+    let made = match assemble_source(alloc, assemble.file, text) {
+        Ok(made) => made,
+        Err(refusal) => return Err(refusal),
+    };
+    let Ok(bytes) = encode(alloc, &made) else {
+        return Err(Refusal::NoMemory);
+    };
+    let file = Output {
+        name: assemble.out,
+        bytes,
+    };
+    Ok(Job::Write { file, more: None })
+}

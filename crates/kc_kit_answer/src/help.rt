@@ -1,0 +1,21 @@
+/// The text of `--help`.
+pub const HELP: &str = "kc96 assembles, links and runs programs of the 80C196KC.
+  kc96 run NAME.. --states N      run sources, assembled and linked, for N state times
+  kc96 asm NAME --out FILE        assemble the source NAME to the object FILE
+  kc96 lib OBJ.. --out FILE       pack objects into the library FILE
+  kc96 link OBJ.. --out FILE      link objects to the Intel hex file FILE
+       [--lib FILE]               with what they need of a library
+       [--lines FILE]             and write which source line stands where
+  kc96 hex NAME --states N        run the Intel hex file NAME for N state times
+  kc96 dis NAME A-B               list the instructions of the hex file NAME from A to B
+  kc96 gen N                      make a program from the number N, run it and count what it does
+  kc96 --help                     print this text
+  kc96 --version                  print the name and the version
+Where run and link may place registers, code and data, and how long the stack is:
+  [--reg A-B] [--code A-B] [--data A-B] [--stack N]
+What drives the input pins while run and hex run:
+  [--stim FILE]
+";
+
+/// The line of `--version`.
+pub const VERSION: &str = "kc96 0.1.0\n";

@@ -1,0 +1,52 @@
+// A run of an image.
+ghost use Rattle.std.specs.Prelude.{◌≡◌, ◌≤◌, false};
+ghost use Rattle.kc_kit_files.specs.Outside.{Prints, shown_by};
+ghost use Rattle.kc_kit_words.specs.Values.{max_states};
+ghost use Rattle.kc_kit_answer.specs.Running.{run_of, run_reply, status_of};
+
+use crate::board::Board;
+use kc_base::{Sink, Steps};
+use kc_extra::NoExtra;
+use kc_kit_files::Status;
+use kc_machine::{End, Machine};
+use kc_trace::TraceOut;
+use std::alloc::Global;
+use std::sync::ledger::{Blank, Ledger};
+
+/// Runs a board, and prints its trace.
+pub(crate) fn run_board<S: Sink, L: Ledger>(
+    alloc: Global,
+    board: Board,
+    states: u64,
+    blank: Blank,
+    out: &mut TraceOut<S>,
+) -> Status
+    requires ready { out.old.failed ≡ false }
+    requires states { states ≤ max_states }
+    requires name { blank.name ≡ L.name }
+    requires parts { blank.parts ≡ L.parts }
+    requires whole { blank.parts ≡ 1 }
+    ensures { Prints (λ reply. reply ≡ run_reply (run_of states board.stimuli board.image)) (shown_by S.written S.faults out.old.sink) result (shown_by S.written S.faults out.new.sink) }
+{
+    let Ok(mut machine) = Machine::new(alloc, board.image, board.stimuli, NoExtra::new()) else {
+        return Status::NoMemory;
+    };
+    let mut steps = Steps::<L>::new(blank);
+    match machine.run(states, out, &mut steps) {
+        Ok(end) => match machine.write_finals(end, out) {
+            Ok(()) => status_of(end),
+            Err(_) => Status::WriteFault,
+        },
+        Err(_) => Status::WriteFault,
+    }
+}
+
+/// The status of a run that has ended so.
+pub(crate) fn status_of(end: End) -> Status
+    ensures { result ≡ status_of end }
+{
+    match end {
+        End::Undefined(_) => Status::Undefined,
+        _ => Status::Done,
+    }
+}

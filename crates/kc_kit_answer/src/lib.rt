@@ -1,0 +1,28 @@
+//! What each command answers, over what its files say: what it prints, which files it writes, and its status.
+#![tactic(auto)]
+
+mod assemble;
+mod board;
+mod count;
+mod generate;
+mod help;
+mod image_run;
+mod job;
+mod line_map;
+mod link;
+mod link_lines;
+mod list;
+mod pack;
+mod run;
+mod run_hex;
+
+pub use assemble::prepare_assemble;
+pub use board::Board;
+pub use generate::prepare_generate;
+pub use help::{HELP, VERSION};
+pub use job::{Job, Output, perform};
+pub use link::prepare_link;
+pub use list::prepare_list;
+pub use pack::prepare_pack;
+pub use run::prepare_run;
+pub use run_hex::prepare_hex;

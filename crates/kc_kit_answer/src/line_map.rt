@@ -1,0 +1,33 @@
+// The text of a line map.
+ghost use Rattle.std.specs.Prelude.{◌≡◌, ◌++◌, IfOk, OnOk};
+ghost use Rattle.kc_kit_answer.specs.Lines.{map_line, map_text};
+
+use crate::link_lines::address_text;
+use itoa::Buffer;
+use kc_base::NoMemory;
+use kc_link::LineAt;
+use std::alloc::Global;
+
+fn put_line(text: &mut Vec<u8>, entry: &LineAt) -> Result<(), NoMemory>
+    ensures { OnOk result (text.new.items ≡ text.old.items ++ map_line entry.now) }
+{
+    text.extend_from_slice(address_text(entry.addr).as_slice())?;
+    text.push(b' ')?;
+    text.extend_from_slice(entry.name.as_slice())?;
+    text.push(b' ')?;
+    let mut buffer = Buffer::new();
+    text.extend_from_slice(buffer.format(entry.line).as_bytes())?;
+    text.push(b'\n')?;
+    Ok(())
+}
+
+/// The text of a line map: for each entry the address, the name of the module and the line.
+pub(crate) fn map_text(alloc: Global, entries: &[LineAt]) -> Result<Vec<u8>, NoMemory>
+    ensures { IfOk result (λ text. text.items ≡ map_text entries.now) }
+{
+    let mut text = Vec::new(alloc);
+    for entry in entries {
+        put_line(&mut text, entry)?;
+    }
+    Ok(text)
+}

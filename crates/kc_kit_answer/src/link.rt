@@ -1,0 +1,180 @@
+// The command that links objects.
+ghost use Rattle.std.specs.Prelude.{◌≡◌, ◌≤◌, ◌++◌, ℕ, Ok, Some, IfOk, List, length, map, string_bytes};
+ghost use Rattle.std.specs.Option.{option_map};
+ghost use Rattle.kc_link_place.specs.Placing.{Places};
+ghost use Rattle.kc_link.specs.Placed.{placed};
+ghost use Rattle.kc_link.specs.Filled.{IsImage};
+ghost use Rattle.kc_link.specs.LineMap.{IsLineMap};
+ghost use Rattle.kc_link.specs.declared.lines.LineAt.{LineAt};
+ghost use Rattle.kc_kit_files.specs.Reads.{AllShort};
+ghost use Rattle.kc_kit_words.specs.Asked.{asked, AreLinkable, IsWithin};
+ghost use Rattle.kc_kit_words.specs.Inputs.{inputs_in};
+ghost use Rattle.kc_kit_answer.specs.Jobs.{IsPrepared, Prepares};
+ghost use Rattle.kc_kit_answer.specs.Lines.{map_text};
+ghost use Rattle.kc_kit_answer.specs.Link.{Completed, LinkAnswer, LinksTo};
+ghost use Rattle.kc_kit_answer.specs.Origins.{words_of};
+ghost use Rattle.kc_kit_answer.specs.Places.{Placing};
+
+use crate::job::{Job, Output};
+use crate::line_map::map_text;
+use crate::link_lines::{Members, Origins, link_refusal};
+use kc_base::{Files, Image, NoMemory};
+use kc_kit_files::{Refusal, read_files};
+use kc_kit_inputs::{input_for, read_inputs, read_library, read_objects, take_members};
+use kc_kit_words::{Command, Link, Role};
+use kc_link::line_map;
+use kc_obj::Module;
+use std::alloc::Global;
+
+/// Reads objects, and a library where one is named, and links them to the files that are to be written.
+pub fn prepare_link<'a, F: Files>(
+    alloc: Global,
+    link: &Link<'a>,
+    files: &mut F,
+) -> Result<Job<'a>, Refusal>
+    requires { IsWithin (Command.Link link.now) }
+    ensures { Prepares F.held F.read_faults F.write_faults (asked (Command.Link link.now)) files.old result files.new }
+{
+    let texts = match read_files(alloc, link.files, files) {
+        Ok(texts) => texts,
+        Err(refusal) => return Err(refusal),
+    };
+    match read_inputs(alloc, link.inputs, files) {
+        Ok(inputs) => link_texts(alloc, link, &texts, &inputs),
+        Err(refusal) => Err(refusal),
+    }
+}
+
+// Links the objects of some texts, over inputs with others.
+fn link_texts<'a>(
+    alloc: Global,
+    link: &Link<'a>,
+    texts: &[Vec<u8>],
+    inputs: &[Vec<u8>],
+) -> Result<Job<'a>, Refusal>
+    requires within { IsWithin (Command.Link link.now) }
+    requires count { length texts.now ≡ length link.now.files.now }
+    requires short { AllShort (map (λ t. t.items) texts.now) }
+    requires inputs { AllShort (map (λ t. t.items) inputs.now) }
+    ensures { IsPrepared (LinkAnswer (map string_bytes link.now.files.now) (inputs_in link.now.inputs) link.now.out.now (option_map (λ l. l.now) link.now.lines) link.now.placing (map (λ t. t.items) texts.now) (map (λ t. t.items) inputs.now)) result }
+{
+    let modules = match read_objects(alloc, link.files, texts) {
+        Ok(modules) => modules,
+        Err(refusal) => return Err(refusal),
+    };
+    match input_for(Role::Library, link.inputs, inputs) {
+        Some((name, bytes)) => link_library(alloc, link, modules, name, bytes),
+        None => {
+            let origins = Origins {
+                files: link.files,
+                members: None,
+            };
+            link_modules(alloc, link, &origins, &modules)
+        }
+    }
+}
+
+// Links modules with the members that they take from a library by its name and its bytes.
+fn link_library<'a>(
+    alloc: Global,
+    link: &Link<'a>,
+    modules: Vec<Module>,
+    name: &str,
+    bytes: &[u8],
+) -> Result<Job<'a>, Refusal>
+    requires linkable { AreLinkable (length modules.items) link.now.placing }
+    requires count { length modules.items ≡ length link.now.files.now }
+    requires short { length bytes.now ≤ 1048576 }
+    ensures { IsPrepared (Completed (map string_bytes link.now.files.now) (Some (name.now, bytes.now)) (λ files. Placing files link.now.placing (LinksTo link.now.out.now (option_map (λ l. l.now) link.now.lines))) modules.items) result }
+{
+    let library = match read_library(alloc, name, bytes) {
+        Ok(library) => library,
+        Err(refusal) => return Err(refusal),
+    };
+    let taken = match take_members(alloc, name, &library, &modules) {
+        Ok(taken) => taken,
+        Err(refusal) => return Err(refusal),
+    };
+    let all = match joined(modules, taken) {
+        Ok(all) => all,
+        Err(NoMemory) => return Err(Refusal::NoMemory),
+    };
+    let (_, taken) = all.split_at(link.files.len());
+    let origins = Origins {
+        files: link.files,
+        members: Some(Members {
+            library: name,
+            taken,
+        }),
+    };
+    link_modules(alloc, link, &origins, &all)
+}
+
+// Modules, and others behind them.
+fn joined(mut modules: Vec<Module>, others: Vec<Module>) -> Result<Vec<Module>, NoMemory>
+    ensures { IfOk result (λ all. all.items ≡ modules.items ++ others.items) }
+{
+    let mut others = others;
+    modules.append(&mut others)?;
+    Ok(modules)
+}
+
+// Links modules from these files.
+fn link_modules<'a>(
+    alloc: Global,
+    link: &Link<'a>,
+    origins: &Origins<'_, '_, '_>,
+    modules: &[Module],
+) -> Result<Job<'a>, Refusal>
+    requires { AreLinkable (length modules.now) link.now.placing }
+    ensures { IsPrepared (Placing (words_of origins.now) link.now.placing (LinksTo link.now.out.now (option_map (λ l. l.now) link.now.lines)) modules.now) result }
+{
+    match kc_link::link(alloc, modules, &link.placing) {
+        Ok(image) => outputs(alloc, link, modules, &image),
+        Err(fault) => Err(link_refusal(alloc, origins, &fault)),
+    }
+}
+
+// The files of a linked image: the hex file, and the line map where one is asked for.
+fn outputs<'a>(
+    alloc: Global,
+    link: &Link<'a>,
+    modules: &[Module],
+    image: &Image,
+) -> Result<Job<'a>, Refusal>
+    requires linkable { AreLinkable (length modules.now) link.now.placing }
+    requires linked { IsImage modules.now link.now.placing (Ok image.now) }
+    ensures { (names : List (List ℕ)) → IsPrepared (Placing names link.now.placing (LinksTo link.now.out.now (option_map (λ l. l.now) link.now.lines)) modules.now) result }
+{
+    let Ok(bytes) = kc_hex::write(alloc, image) else {
+        return Err(Refusal::NoMemory);
+    };
+    let file = Output {
+        name: link.out,
+        bytes,
+    };
+    match link.lines {
+        None => Ok(Job::Write { file, more: None }),
+        Some(name) => match lines_of(alloc, link, modules) {
+            Ok(bytes) => Ok(Job::Write {
+                file,
+                more: Some(Output { name, bytes }),
+            }),
+            Err(NoMemory) => Err(Refusal::NoMemory),
+        },
+    }
+}
+
+// The text of the line map of modules that are linked.
+fn lines_of(alloc: Global, link: &Link<'_>, modules: &[Module]) -> Result<Vec<u8>, NoMemory>
+    requires { AreLinkable (length modules.now) link.now.placing }
+    ensures { IfOk result (λ text. (entries : List LineAt) × (places : Places) × (placed modules.now link.now.placing ≡ Ok places) × IsLineMap modules.now places entries × (text.items ≡ map_text entries)) }
+{
+    match line_map(alloc, modules, &link.placing) {
+        Ok(entries) => {
+            let text = map_text(alloc, &entries)?;
+            Ok(text)
+        }
+        Err(_) => Err(NoMemory),
+    }
+}

@@ -1,0 +1,163 @@
+// The lines of broken rules of the linker.
+ghost use Rattle.std.specs.Prelude.{◌≡◌, ◌<◌, ◌++◌, codes, decimal, IfOk, IsErr};
+ghost use Rattle.kc_trace.specs.Text.{hex};
+ghost use Rattle.kc_kit_files.specs.declared.status.Status.TheVariants as status;
+ghost use Rattle.kc_kit_files.specs.Reply.{says, IsRefused};
+ghost use Rattle.kc_kit_answer.specs.Lines.{kind_word, file_at, link_text, link_line};
+ghost use Rattle.kc_kit_answer.specs.Origins.{words_of_members, words_of};
+
+use itoa::Buffer;
+use kc_base::{NoMemory, hex_digit};
+use kc_kit_files::{Cause, Refusal, refusal_of};
+use kc_link::LinkFault;
+use kc_obj::{Module, SegKind};
+use std::alloc::Global;
+
+/// An address as four upper-case hex digits.
+pub(crate) fn address_text(address: u16) -> [u8; 4]
+    ensures { result ≡ hex 4 address }
+{
+    let second = address / 16;
+    let third = second / 16;
+    let fourth = third / 16;
+    [
+        hex_digit((fourth % 16) as u8),
+        hex_digit((third % 16) as u8),
+        hex_digit((second % 16) as u8),
+        hex_digit((address % 16) as u8),
+    ]
+}
+
+fn kind_word(kind: SegKind) -> &'static [u8]
+    ensures { result.now ≡ kind_word kind }
+{
+    match kind {
+        SegKind::Reg => b"reg",
+        SegKind::Code => b"code",
+        SegKind::Ram => b"data",
+        SegKind::Stack => b"stack",
+    }
+}
+
+fn joined(alloc: Global, before: &[u8], after: &[u8]) -> Result<Vec<u8>, NoMemory>
+    ensures { IfOk result (λ text. text.items ≡ before.now ++ after.now) }
+{
+    let mut text = Vec::from_slice(alloc, before)?;
+    text.extend_from_slice(after)?;
+    Ok(text)
+}
+
+/// Members that are taken from a library of this name.
+#[derive(Clone, Copy)]
+pub(crate) struct Members<'l, 't> {
+    pub(crate) library: &'l str,
+    pub(crate) taken: &'t [Module],
+}
+
+/// Where modules come from that are linked: their files in order, and behind them members of a library.
+#[derive(Clone, Copy)]
+pub(crate) struct Origins<'f, 'l, 't> {
+    pub(crate) files: &'f [String],
+    pub(crate) members: Option<Members<'l, 't>>,
+}
+
+// The word that names a taken member: that of its library, a colon, and its own.
+fn member_at(
+    alloc: Global,
+    members: Option<Members<'_, '_>>,
+    index: usize,
+) -> Result<Vec<u8>, NoMemory>
+    ensures { IfOk result (λ text. text.items ≡ file_at (words_of_members members.entry) index) }
+{
+    let Some(members) = members else {
+        return Ok(Vec::from_slice(alloc, b"-")?);
+    };
+    match members.taken.get(index) {
+        Some(taken) => {
+            let mut text = joined(alloc, members.library.as_bytes(), b":")?;
+            text.extend_from_slice(taken.name().as_slice())?;
+            Ok(text)
+        }
+        None => Ok(Vec::from_slice(alloc, b"-")?),
+    }
+}
+
+// The word that names a module's file; that of the one stack of all modules is `-`.
+fn file_at(alloc: Global, origins: &Origins<'_, '_, '_>, index: u16) -> Result<Vec<u8>, NoMemory>
+    ensures { IfOk result (λ text. text.items ≡ file_at (words_of origins.now) index) }
+{
+    let index = usize::from(index);
+    if index < origins.files.len() {
+        Ok(Vec::from_slice(alloc, origins.files[index].as_bytes())?)
+    } else {
+        member_at(alloc, origins.members, index - origins.files.len())
+    }
+}
+
+fn capacity_text(alloc: Global, kind: &[u8], file: &[u8]) -> Result<Vec<u8>, NoMemory>
+    ensures { IfOk result (λ text. text.items ≡ codes "capacity " ++ kind.now ++ codes " " ++ file.now) }
+{
+    let mut text = joined(alloc, b"capacity ", kind)?;
+    text.push(b' ')?;
+    text.extend_from_slice(file)?;
+    Ok(text)
+}
+
+fn range_text(alloc: Global, file: &[u8], piece: u16, offset: u16) -> Result<Vec<u8>, NoMemory>
+    ensures { IfOk result (λ text. text.items ≡ codes "range " ++ file.now ++ codes " " ++ decimal piece ++ codes " " ++ decimal offset) }
+{
+    let mut text = joined(alloc, b"range ", file)?;
+    text.push(b' ')?;
+    let mut buffer = Buffer::new();
+    text.extend_from_slice(buffer.format(piece).as_bytes())?;
+    text.push(b' ')?;
+    let mut digits = Buffer::new();
+    text.extend_from_slice(digits.format(offset).as_bytes())?;
+    Ok(text)
+}
+
+// A broken rule in words, where memory was not the matter.
+fn link_text(
+    alloc: Global,
+    origins: &Origins<'_, '_, '_>,
+    fault: &LinkFault,
+) -> Result<Vec<u8>, NoMemory>
+    ensures text { IfOk result (λ text. text.items ≡ link_text (words_of origins.now) fault.now) }
+    ensures memory { fault.now ≡ LinkFault.NoMemory → IsErr result }
+{
+    match fault {
+        LinkFault::Unresolved(name) => joined(alloc, b"unresolved ", name.as_slice()),
+        LinkFault::OverlapName(name) => joined(alloc, b"duplicate ", name.as_slice()),
+        LinkFault::OverlapPlace(place) => {
+            joined(alloc, b"overlap ", address_text(*place).as_slice())
+        }
+        LinkFault::Capacity { kind, module } => {
+            let file = file_at(alloc, origins, *module)?;
+            capacity_text(alloc, kind_word(*kind), &file)
+        }
+        LinkFault::Range {
+            module,
+            piece,
+            offset,
+        } => {
+            let file = file_at(alloc, origins, *module)?;
+            range_text(alloc, &file, *piece, *offset)
+        }
+        LinkFault::NoMemory => Err(NoMemory),
+    }
+}
+
+/// The refusal of modules from these files that break a rule of the linker.
+pub(crate) fn link_refusal(
+    alloc: Global,
+    origins: &Origins<'_, '_, '_>,
+    fault: &LinkFault,
+) -> Refusal
+    ensures line { IsRefused (λ reply. reply ≡ says status.Link (link_line (words_of origins.now) fault.now)) result }
+    ensures memory { fault.now ≡ LinkFault.NoMemory → result ≡ Refusal.NoMemory }
+{
+    match link_text(alloc, origins, fault) {
+        Ok(text) => refusal_of(alloc, Cause::Link, b"link ", &text, b"\n"),
+        Err(NoMemory) => Refusal::NoMemory,
+    }
+}

@@ -1,0 +1,5 @@
+pub mod InputLemmas
+pub mod LibraryLemmas
+pub mod ObjectLemmas
+pub mod SourceLemmas
+pub mod Words

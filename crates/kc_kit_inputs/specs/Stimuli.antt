@@ -1,0 +1,35 @@
+-- Stimulus files, and what drives the inputs (this kit's own).
+use Rattle.std.specs.Prelude.{ℕ, List, [], codes, fold, Option, Some, None, Result, Ok, Err}
+use Rattle.kc_stim.specs.declared.fault.StimFault.{StimFault}
+use Rattle.kc_stim.specs.declared.fault.StimFault.TheVariants as faults
+use Rattle.kc_stim.specs.Drives.{Drives}
+use Rattle.kc_stim.specs.Reading.{nothing, with_item, first_fault, items_of}
+use Rattle.kc_kit_files.specs.declared.status.Status.TheVariants as status
+use Rattle.kc_kit_files.specs.Reply.{Reply, says}
+use Rattle.kc_kit_inputs.specs.Lines.{input_line}
+
+-- the line and the code of a fault
+abbrev pub place_of : StimFault → Option (ℕ × List ℕ)
+place_of (faults.BadLine line) = Some (line, codes "BADLINE")
+place_of (faults.Wired line) = Some (line, codes "WIRED")
+place_of (faults.Falling line) = Some (line, codes "FALLING")
+place_of (faults.Twice line) = Some (line, codes "TWICE")
+place_of (faults.TooMany line) = Some (line, codes "TOOMANY")
+place_of faults.NoMemory = None
+
+abbrev pub fault_line : List ℕ → Option (ℕ × List ℕ) → List ℕ
+fault_line name (Some place) = input_line name place.0 place.1
+fault_line name None = []
+
+abbrev pub by_fault : List ℕ → List ℕ → Option StimFault → Result Drives Reply
+by_fault name text None = Ok (fold with_item nothing (items_of text))
+by_fault name text (Some fault) = Err (says status.Input (fault_line name (place_of fault)))
+
+-- what a stimulus file drives, or the reply to its first fault
+abbrev pub stimuli_of : List ℕ → List ℕ → Result Drives Reply
+stimuli_of name text = by_fault name text (first_fault 0 nothing (items_of text))
+
+-- what drives the inputs of a run: its stimulus file, by its name and its text, and nothing without one
+abbrev pub drives_of : Option (List ℕ × List ℕ) → Result Drives Reply
+drives_of (Some file) = stimuli_of file.0 file.1
+drives_of None = Ok nothing

@@ -1,0 +1,61 @@
+// Files that leave their form.
+ghost use Rattle.std.specs.Prelude.{◌≡◌, IfOk};
+ghost use Rattle.kc_kit_files.specs.declared.status.Status.TheVariants as status;
+ghost use Rattle.kc_kit_files.specs.Reply.{says, IsRefused};
+ghost use Rattle.kc_kit_inputs.specs.Lines.{coded, place_text, input_line};
+
+use itoa::Buffer;
+use kc_base::NoMemory;
+use kc_kit_files::{Cause, Refusal, refusal_of};
+use std::alloc::Global;
+
+/// A code of a letter and two digits.
+pub(crate) fn coded(alloc: Global, letter: &[u8], number: u8) -> Result<Vec<u8>, NoMemory>
+    ensures { IfOk result (λ text. text.items ≡ coded letter.now number) }
+{
+    let mut text = Vec::from_slice(alloc, letter)?;
+    let mut tens = Buffer::new();
+    text.extend_from_slice(tens.format(number / 10).as_bytes())?;
+    let mut ones = Buffer::new();
+    text.extend_from_slice(ones.format(number % 10).as_bytes())?;
+    Ok(text)
+}
+
+/// The place and the code of a fault, behind the name of its file.
+pub(crate) fn place_text(alloc: Global, place: u32, code: &[u8]) -> Result<Vec<u8>, NoMemory>
+    ensures { IfOk result (λ text. text.items ≡ place_text place code.now) }
+{
+    let mut buffer = Buffer::new();
+    let mut text = Vec::from_slice(alloc, b":")?;
+    text.extend_from_slice(buffer.format(place).as_bytes())?;
+    text.extend_from_slice(b": ")?;
+    text.extend_from_slice(code)?;
+    text.push(b'\n')?;
+    Ok(text)
+}
+
+/// The refusal of a file with a fault: its place and its code.
+pub(crate) fn input_refusal(alloc: Global, name: &str, place: u32, code: &[u8]) -> Refusal
+    ensures { IsRefused (λ reply. reply ≡ says status.Input (input_line name.now place code.now)) result }
+{
+    match place_text(alloc, place, code) {
+        Ok(text) => refusal_of(alloc, Cause::Input, b"input ", name.as_bytes(), &text),
+        Err(NoMemory) => Refusal::NoMemory,
+    }
+}
+
+/// The same with a code of a letter and two digits.
+pub(crate) fn coded_refusal(
+    alloc: Global,
+    name: &str,
+    place: u32,
+    letter: &[u8],
+    number: u8,
+) -> Refusal
+    ensures { IsRefused (λ reply. reply ≡ says status.Input (input_line name.now place (coded letter.now number))) result }
+{
+    match coded(alloc, letter, number) {
+        Ok(code) => input_refusal(alloc, name, place, &code),
+        Err(NoMemory) => Refusal::NoMemory,
+    }
+}

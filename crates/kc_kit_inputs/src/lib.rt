@@ -1,0 +1,17 @@
+//! What named files say to a command, or the refusal of their first fault: sources, objects, libraries, hex files, stimuli.
+#![tactic(auto)]
+
+mod hex_image;
+mod input_lines;
+mod library;
+mod objects;
+mod reading;
+mod sources;
+mod stimuli;
+
+pub use hex_image::image_of;
+pub use library::{read_library, take_members};
+pub use objects::read_objects;
+pub use reading::{input_for, read_inputs};
+pub use sources::{assemble_source, assemble_sources};
+pub use stimuli::stimuli_in;

@@ -1,0 +1,53 @@
+// What drives the input pins of a board that is run.
+ghost use Rattle.std.specs.Prelude.{◌≡◌, ◌≤◌, Ok, Err, IfOk, IfErr, IfSome, length};
+ghost use Rattle.std.specs.Option.{option_map};
+ghost use Rattle.kc_kit_files.specs.declared.status.Status.TheVariants as status;
+ghost use Rattle.kc_kit_files.specs.Reply.{says, IsRefused};
+ghost use Rattle.kc_kit_inputs.specs.Stimuli.{place_of, stimuli_of, drives_of};
+
+use crate::input_lines::input_refusal;
+use kc_kit_files::Refusal;
+use kc_stim::{StimFault, Stimuli};
+use std::alloc::Global;
+
+// The line and the code of a fault; none for want of memory.
+fn place_of(fault: StimFault) -> Option<(u32, &'static [u8])>
+    ensures { option_map (λ p. (p.0, p.1.now)) result ≡ place_of fault }
+{
+    match fault {
+        StimFault::BadLine(line) => Some((line, b"BADLINE")),
+        StimFault::Wired(line) => Some((line, b"WIRED")),
+        StimFault::Falling(line) => Some((line, b"FALLING")),
+        StimFault::Twice(line) => Some((line, b"TWICE")),
+        StimFault::TooMany(line) => Some((line, b"TOOMANY")),
+        StimFault::NoMemory => None,
+    }
+}
+
+// The stimuli that a text says, or the refusal of its first fault.
+fn read_stimuli(alloc: Global, name: &str, text: &[u8]) -> Result<Stimuli, Refusal>
+    requires { length text.now ≤ 1048576 }
+    ensures stimuli { IfOk result (λ s. stimuli_of name.now text.now ≡ Ok s) }
+    ensures refusal { IfErr result (IsRefused (λ reply. stimuli_of name.now text.now ≡ Err reply)) }
+{
+    match Stimuli::read(alloc, text) {
+        Ok(stimuli) => Ok(stimuli),
+        Err(fault) => match place_of(fault) {
+            Some((line, code)) => Err(input_refusal(alloc, name, line, code)),
+            None => Err(Refusal::NoMemory),
+        },
+    }
+}
+
+/// What drives the inputs of a run: the stimuli of a file by its name and its text, or the refusal of its first fault; none
+/// without such a file.
+pub fn stimuli_in(alloc: Global, file: Option<(&str, &[u8])>) -> Result<Stimuli, Refusal>
+    requires { IfSome file (λ f. length f.1.now ≤ 1048576) }
+    ensures stimuli { IfOk result (λ s. drives_of (option_map (λ f. (f.0.now, f.1.now)) file.entry) ≡ Ok s) }
+    ensures refusal { IfErr result (IsRefused (λ reply. drives_of (option_map (λ f. (f.0.now, f.1.now)) file.entry) ≡ Err reply)) }
+{
+    match file {
+        Some((name, text)) => read_stimuli(alloc, name, text),
+        None => Ok(Stimuli::none(alloc)),
+    }
+}
