@@ -4,19 +4,20 @@ _kc96() {
     local options files option given left=
     COMPREPLY=()
     if [ "$COMP_CWORD" -eq 1 ]; then
-        mapfile -t COMPREPLY < <(compgen -W 'run asm link hex dis --help --version' -- "$word")
+        mapfile -t COMPREPLY < <(compgen -W 'run asm lib link hex dis gen --help --version' -- "$word")
         return
     fi
     case $command in
     run) options='--states --stim --reg --code --data --stack' files='a96' ;;
     asm) options='--out' files='a96' ;;
-    link) options='--out --lines --reg --code --data --stack' files='obj' ;;
+    lib) options='--out' files='obj' ;;
+    link) options='--out --lib --lines --reg --code --data --stack' files='obj' ;;
     hex) options='--states --stim' files='hex' ;;
     dis) options='' files='hex' ;;
     *) return ;;
     esac
     case $before in
-    --stim | --out | --lines)
+    --stim | --out | --lib | --lines)
         compopt -o filenames
         mapfile -t COMPREPLY < <(compgen -f -- "$word")
         return
