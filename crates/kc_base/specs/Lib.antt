@@ -2,6 +2,7 @@ pub mod Bits
 pub mod Bytes
 pub mod Causes
 pub mod Digits
+pub mod Fields
 pub mod Held
 pub mod Memory
 pub mod Pins

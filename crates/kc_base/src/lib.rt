@@ -3,8 +3,11 @@
 
 mod digits;
 mod edge_out;
+mod fields;
 mod files;
 mod host;
+mod host_reading;
+mod host_writing;
 mod image;
 mod memory;
 mod sink;
@@ -15,6 +18,7 @@ mod types;
 
 pub use digits::hex_digit;
 pub use edge_out::EdgeOut;
+pub use fields::{decimal, split_at_space};
 pub use files::{FILE_LIMIT, FileFault, Files};
 pub use host::{HostFiles, HostOut};
 pub use image::{IMAGE_LEN, IMAGE_START, Image};
@@ -23,7 +27,9 @@ pub use sink::{Failed, Sink, put_all};
 pub use steps::Steps;
 pub use text::Text;
 pub use text_lines::{after, first_line, front};
-pub use types::{Edge, IntSet, Kind, Level, NoMemory, Pin, PtsMode, StateTime, Undefined};
+pub use types::{
+    Edge, IntSet, Kind, Level, NoMemory, PIN_COUNT, Pin, PtsMode, StateTime, Undefined,
+};
 
 #[cfg(test)]
 mod tests;

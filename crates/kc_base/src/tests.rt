@@ -1,7 +1,7 @@
 // Pins, texts, files and sinks by examples that were worked by hand.
 use crate::{
-    FILE_LIMIT, FileFault, Files, HostFiles, HostOut, Image, MemFiles, MemSink, Pin, Sink, Text,
-    after, first_line, front, put_all,
+    FILE_LIMIT, FileFault, Files, HostFiles, HostOut, Image, MemFiles, MemSink, PIN_COUNT, Pin,
+    Sink, Text, after, first_line, front, put_all,
 };
 use std::alloc::{AllocError, Global};
 use std::test::Fail;
@@ -25,8 +25,11 @@ fn pins_have_names(rt: HostRuntime) {
         (24, "EXTINT"),
         (28, "P00"),
         (35, "P07"),
+        (36, "TXD"),
+        (37, "RXD"),
+        (40, "PWM2"),
     ] {
-        assert!(rt; number < 36);
+        assert!(rt; number < PIN_COUNT);
         assert!(rt; Pin(number).name() == name, "pin {number}");
     }
 }
@@ -101,6 +104,11 @@ fn host_files_are_read_and_written(rt: HostRuntime) -> Result<(), Fail> {
     assert!(rt; files.read(a, "kc_base_host.tmp")?.as_slice() == b"bytes".as_slice());
     assert!(rt; files.read(a, "kc_base_none.tmp").err() == Some(FileFault::Missing));
     assert!(rt; files.read(a, ".").err() == Some(FileFault::Missing));
+    assert!(rt; files.read(a, "kc_base_host.tmp/x").err() == Some(FileFault::Missing));
+    assert!(rt; files.read(a, "/dev/zero").err() == Some(FileFault::Missing));
+    assert!(rt; files.write(a, "kc_base_none/x", b"lost") == Err(FileFault::Failed));
+    assert!(rt; files.write(a, "kc_base_host.tmp", b"new") == Ok(()));
+    assert!(rt; files.read(a, "kc_base_host.tmp")?.as_slice() == b"new".as_slice());
     std::fs::remove_file(&rt, "kc_base_host.tmp")?;
     Ok(())
 }

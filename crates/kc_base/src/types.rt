@@ -6,8 +6,12 @@ use std::alloc::{AllocError, AllocFailed};
 /// A moment, counted in state times from 0.
 pub type StateTime = u64;
 
+/// How many pins have a name.
+pub const PIN_COUNT: u8 = 41;
+
 /// A pin of the board by its number: 0-5 HSO0 to HSO5, 6-13 P10 to P17, 14 P20, 15 P25, 16 P26, 17 P27,
-/// 18-21 HSI0 to HSI3, 22 T2CLK, 23 T2RST, 24 EXTINT, 25 NMI, 26 T2UD, 27 T2CAP, 28-35 P00 to P07.
+/// 18-21 HSI0 to HSI3, 22 T2CLK, 23 T2RST, 24 EXTINT, 25 NMI, 26 T2UD, 27 T2CAP, 28-35 P00 to P07,
+/// 36 TXD, 37 RXD, 38-40 PWM0 to PWM2.
 #[derive(Clone, Copy, Debug, Default, PartialEq, Eq)]
 pub struct Pin(pub u8);
 
@@ -55,6 +59,11 @@ impl Pin {
             33 => "P05",
             34 => "P06",
             35 => "P07",
+            36 => "TXD",
+            37 => "RXD",
+            38 => "PWM0",
+            39 => "PWM1",
+            40 => "PWM2",
             _ => unreachable!(),
         }
     }

@@ -1,0 +1,69 @@
+// Real files, read whole.
+ghost use Rattle.std.specs.Prelude.{◌≤◌, length, IfOk};
+
+use crate::{FILE_LIMIT, FileFault};
+use std::alloc::Global;
+use std::fs;
+use std::io::{ErrorKind, Read};
+use std::rt::Files as FileSystem;
+
+// What an error says of the name that was asked for: one under which nothing stands (no such entry, a path through a file, a
+// link that leads nowhere) is missing.
+fn fault_of(kind: ErrorKind) -> FileFault {
+    match kind {
+        ErrorKind::NotFound
+        | ErrorKind::NotADirectory
+        | ErrorKind::IsADirectory
+        | ErrorKind::FilesystemLoop
+        | ErrorKind::InvalidFilename => FileFault::Missing,
+        ErrorKind::OutOfMemory => FileFault::NoMemory,
+        _ => FileFault::Failed,
+    }
+}
+
+/// The bytes of a plain file of up to the limit. What is no plain file (a folder, a pipe, a device) is missing, and is not opened,
+/// since that may wait for ever.
+pub(crate) fn read_plain<R: FileSystem>(
+    system: &R,
+    alloc: Global,
+    name: &str,
+) -> Result<Vec<u8>, FileFault>
+    ensures { IfOk result (λ bytes. length bytes.items ≤ 1048576) }
+{
+    match fs::metadata(system, name) {
+        Ok(found) => {
+            if !found.is_file() {
+                return Err(FileFault::Missing);
+            }
+        }
+        Err(error) => return Err(fault_of(error.kind())),
+    }
+    match fs::open(system, name) {
+        Ok(file) => read_all(alloc, file),
+        Err(error) => Err(fault_of(error.kind())),
+    }
+}
+
+// What is left of a file, up to the limit.
+fn read_all<F: Read + Drop>(alloc: Global, file: F) -> Result<Vec<u8>, FileFault>
+    ensures { IfOk result (λ bytes. length bytes.items ≤ 1048576) }
+{
+    let mut file = file;
+    let mut bytes = Vec::new(alloc);
+    let mut chunk = [0u8; 4096];
+    for _ in 0..u64::MAX {
+        match file.read(&mut chunk) {
+            Ok(0) => return Ok(bytes),
+            Ok(count) => {
+                if count > FILE_LIMIT - bytes.len() {
+                    return Err(FileFault::TooLong);
+                }
+                if bytes.extend_from_slice(&chunk[..count]).is_err() {
+                    return Err(FileFault::NoMemory);
+                }
+            }
+            Err(error) => return Err(fault_of(error.kind())),
+        }
+    }
+    Err(FileFault::Failed)
+}
