@@ -49,8 +49,8 @@ impl<X: Extra + Drop> Block<X> {
         ensures free { is_some (row_at bytes_read_everywhere sfr) ≡ true → steps.new ≤ steps.old }
         ensures free_moves { is_some (row_at bytes_read_everywhere sfr) ≡ true → self.new.moves ≤ self.old.moves }
         ensures time { self.new.time ≡ self.old.time }
-        ensures steps { steps.new ≤ steps.old + 16 }
-        ensures moves { self.new.moves ≤ self.old.moves + 16 }
+        ensures steps { steps.new ≤ steps.old + 4 }
+        ensures moves { self.new.moves ≤ self.old.moves + 4 }
     {
         access::read8(&mut self.lanes, self.time, window, sfr, steps)
     }
@@ -69,8 +69,8 @@ impl<X: Extra + Drop> Block<X> {
         ensures refused { OnErr result (self.new ≡ self.old) }
         ensures unspent { OnErr result (steps.new ≡ steps.old) }
         ensures time { self.new.time ≡ self.old.time }
-        ensures steps { steps.new ≤ steps.old + 16 }
-        ensures moves { self.new.moves ≤ self.old.moves + 16 }
+        ensures steps { steps.new ≤ steps.old + 8 }
+        ensures moves { self.new.moves ≤ self.old.moves + 8 }
     {
         access::read16(&mut self.lanes, self.time, window, sfr, steps)
     }
@@ -94,8 +94,8 @@ impl<X: Extra + Drop> Block<X> {
         ensures free_moves { is_some (row_at bytes_written_everywhere sfr) ≡ true → self.new.moves ≤ self.old.moves }
         ensures time { self.new.time ≡ self.old.time }
         ensures edges { Leads O.led out.old (in_state (self.old.time - 1) (latch_edges self.old.units self.new.units)) out.new }
-        ensures steps { steps.new ≤ steps.old + 16 }
-        ensures moves { self.new.moves ≤ self.old.moves + 16 }
+        ensures steps { steps.new ≤ steps.old + 4 }
+        ensures moves { self.new.moves ≤ self.old.moves + 4 }
     {
         let before = printed_at(&self.lanes, self.time);
         let written = access::write8(&mut self.lanes, self.time, window, sfr, value, steps);
@@ -126,8 +126,8 @@ impl<X: Extra + Drop> Block<X> {
         ensures unspent { OnErr result (steps.new ≡ steps.old) }
         ensures time { self.new.time ≡ self.old.time }
         ensures edges { Leads O.led out.old (in_state (self.old.time - 1) (latch_edges self.old.units self.new.units)) out.new }
-        ensures steps { steps.new ≤ steps.old + 16 }
-        ensures moves { self.new.moves ≤ self.old.moves + 16 }
+        ensures steps { steps.new ≤ steps.old + 8 }
+        ensures moves { self.new.moves ≤ self.old.moves + 8 }
     {
         let before = printed_at(&self.lanes, self.time);
         let written = access::write16(&mut self.lanes, self.time, window, sfr, value, steps);

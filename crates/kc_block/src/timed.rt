@@ -44,10 +44,10 @@ impl<X: Extra + Drop> Block<X> {
         ensures refused { OnErr result (self.new.units ≡ units_past X.further self.old at) }
         ensures time { self.new.time ≡ at + 1 }
         ensures edges { Leads O.led out.old (edges_past X.further self.old at) out.new }
-        ensures steps { steps.new ≤ steps.old + (calls_past X.further self.old at + 16) }
+        ensures steps { steps.new ≤ steps.old + (calls_past X.further self.old at + 4) }
         ensures refused_steps { OnErr result (steps.new ≤ steps.old + calls_past X.further self.old at) }
         ensures free_steps { is_some (row_at bytes_read_everywhere sfr) ≡ true → steps.new ≤ steps.old + calls_past X.further self.old at }
-        ensures moves { self.new.moves ≤ self.old.moves + (calls_past X.further self.old at + 16) }
+        ensures moves { self.new.moves ≤ self.old.moves + (calls_past X.further self.old at + 4) }
         ensures refused_moves { OnErr result (self.new.moves ≤ self.old.moves + calls_past X.further self.old at) }
         ensures free_moves { is_some (row_at bytes_read_everywhere sfr) ≡ true → self.new.moves ≤ self.old.moves + calls_past X.further self.old at }
     {
@@ -73,9 +73,9 @@ impl<X: Extra + Drop> Block<X> {
         ensures refused { OnErr result (self.new.units ≡ units_past X.further self.old at) }
         ensures time { self.new.time ≡ at + 1 }
         ensures edges { Leads O.led out.old (edges_past X.further self.old at) out.new }
-        ensures steps { steps.new ≤ steps.old + (calls_past X.further self.old at + 16) }
+        ensures steps { steps.new ≤ steps.old + (calls_past X.further self.old at + 8) }
         ensures refused_steps { OnErr result (steps.new ≤ steps.old + calls_past X.further self.old at) }
-        ensures moves { self.new.moves ≤ self.old.moves + (calls_past X.further self.old at + 16) }
+        ensures moves { self.new.moves ≤ self.old.moves + (calls_past X.further self.old at + 8) }
         ensures refused_moves { OnErr result (self.new.moves ≤ self.old.moves + calls_past X.further self.old at) }
     {
         self.go_past(at, out, steps);
@@ -100,10 +100,10 @@ impl<X: Extra + Drop> Block<X> {
         ensures refused { OnErr result (self.new.units ≡ units_past X.further self.old at) }
         ensures time { self.new.time ≡ at + 1 }
         ensures edges { Leads O.led out.old (edges_with X.further self.old at self.new.units) out.new }
-        ensures steps { steps.new ≤ steps.old + (calls_past X.further self.old at + 16) }
+        ensures steps { steps.new ≤ steps.old + (calls_past X.further self.old at + 4) }
         ensures refused_steps { OnErr result (steps.new ≤ steps.old + calls_past X.further self.old at) }
         ensures free_steps { is_some (row_at bytes_written_everywhere sfr) ≡ true → steps.new ≤ steps.old + calls_past X.further self.old at }
-        ensures moves { self.new.moves ≤ self.old.moves + (calls_past X.further self.old at + 16) }
+        ensures moves { self.new.moves ≤ self.old.moves + (calls_past X.further self.old at + 4) }
         ensures refused_moves { OnErr result (self.new.moves ≤ self.old.moves + calls_past X.further self.old at) }
         ensures free_moves { is_some (row_at bytes_written_everywhere sfr) ≡ true → self.new.moves ≤ self.old.moves + calls_past X.further self.old at }
     {
@@ -131,9 +131,9 @@ impl<X: Extra + Drop> Block<X> {
         ensures refused { OnErr result (self.new.units ≡ units_past X.further self.old at) }
         ensures time { self.new.time ≡ at + 1 }
         ensures edges { Leads O.led out.old (edges_with X.further self.old at self.new.units) out.new }
-        ensures steps { steps.new ≤ steps.old + (calls_past X.further self.old at + 16) }
+        ensures steps { steps.new ≤ steps.old + (calls_past X.further self.old at + 8) }
         ensures refused_steps { OnErr result (steps.new ≤ steps.old + calls_past X.further self.old at) }
-        ensures moves { self.new.moves ≤ self.old.moves + (calls_past X.further self.old at + 16) }
+        ensures moves { self.new.moves ≤ self.old.moves + (calls_past X.further self.old at + 8) }
         ensures refused_moves { OnErr result (self.new.moves ≤ self.old.moves + calls_past X.further self.old at) }
     {
         self.go_past(at, out, steps);

@@ -6,6 +6,7 @@ use Rattle.std.proofs.Common.{w64}
 use Rattle.std.proofs.lemmas.Nat.Bits.{bit_at_or, bit_at_and, bit_at_not, same_from_bits}
 use Rattle.std.proofs.lemmas.Bool.{false≢true, and_left, and_right, or_from, cases_lt, false_from_ne_true, lt-leb, lt-ltb, le-ltb}
 use lib.Bits.{or_zero_r}
+use Rattle.kc_base.specs.Pins.{pin_count}
 use Rattle.kc_stim.specs.Drives.{Drives, level_before, wire_to}
 use Rattle.kc_stim.specs.Fields.{is_input, is_wire_input}
 use Rattle.kc_stim.specs.Proper.{AreProper, is_driven}
@@ -71,8 +72,8 @@ module _ (d : Drives) (proper : AreProper d) (q : Option ℕ → Bool) (none : q
   pub wires_below : mask_of (λ pin. q (wire_to d.wires pin)) 18 ≡ 0
   wires_below = mask_rest (λ pin. q (wire_to d.wires pin)) 0 18 (λ i le lt. ap q (no_wire d i proper (low_pin i lt)) ∙ none) ∙ mask_start (λ pin. q (wire_to d.wires pin))
 
-  pub wires_above : mask_of (λ pin. q (wire_to d.wires pin)) 36 ≡ mask_of (λ pin. q (wire_to d.wires pin)) 25
-  wires_above = mask_rest (λ pin. q (wire_to d.wires pin)) 25 11 (λ i le lt. ap q (no_wire d i proper (high_pin i le)) ∙ none)
+  pub wires_above : mask_of (λ pin. q (wire_to d.wires pin)) pin_count ≡ mask_of (λ pin. q (wire_to d.wires pin)) 25
+  wires_above = mask_rest (λ pin. q (wire_to d.wires pin)) 25 16 (λ i le lt. ap q (no_wire d i proper (high_pin i le)) ∙ none)
 
 -- the levels of the inputs without a wire
 module _ (d : Drives) (t outs : ℕ) where
@@ -101,16 +102,16 @@ module _ (d : Drives) (t outs : ℕ) where
 
   pub unwired_is : (levels inputs : ℕ) → levels ≡ bit_or (stimulated_before d t) (wired d outs) → inputs ≡ wired_inputs d → inputs < 2 ^ 64 →
       bit_and levels (bit_not w64 inputs) ≡ stimulated_before d t
-  unwired_is levels inputs is are fits = same_from_bits _ _ (λ pin. elim (cases_lt pin 36) [
+  unwired_is levels inputs is are fits = same_from_bits _ _ (λ pin. elim (cases_lt pin pin_count) [
     | inl lt ↦
         let least : bit_at (bit_and levels (bit_not w64 inputs)) pin ≡ min (bit_at levels pin) (bit_at (bit_not w64 inputs) pin) = bit_at_and levels (bit_not w64 inputs) pin in
         let most : bit_at levels pin ≡ max (bit_at (stimulated_before d t) pin) (bit_at (wired d outs) pin) =
         ap (λ n. bit_at n pin) is ∙ bit_at_or (stimulated_before d t) (wired d outs) pin in
         let turned : bit_at (bit_not w64 inputs) pin ≡ 1 - bit_at inputs pin = bit_at_not w64 inputs pin fits (omega arith) in
-        let own : bit_at (stimulated_before d t) pin ≡ weight (stim pin) 1 = mask_bit stim 36 pin lt in
-        let from : bit_at (wired d outs) pin ≡ weight (follows (wire_to d.wires pin) outs) 1 = mask_bit (λ n. follows (wire_to d.wires n) outs) 36 pin lt in
+        let own : bit_at (stimulated_before d t) pin ≡ weight (stim pin) 1 = mask_bit stim pin_count pin lt in
+        let from : bit_at (wired d outs) pin ≡ weight (follows (wire_to d.wires pin) outs) 1 = mask_bit (λ n. follows (wire_to d.wires n) outs) pin_count pin lt in
         let has : bit_at inputs pin ≡ weight (is_some (wire_to d.wires pin)) 1 =
-        ap (λ n. bit_at n pin) are ∙ mask_bit (λ n. is_some (wire_to d.wires n)) 36 pin lt in
+        ap (λ n. bit_at n pin) are ∙ mask_bit (λ n. is_some (wire_to d.wires n)) pin_count pin lt in
         least
         ∙ ap (λ n. min n (bit_at (bit_not w64 inputs) pin)) (most ∙ ap (λ n. max n (bit_at (wired d outs) pin)) own ∙ ap (λ n. max (weight (stim pin) 1) n) from)
         ∙ ap (λ n. min (max (weight (stim pin) 1) (weight (follows (wire_to d.wires pin) outs) 1)) n) (turned ∙ ap (λ n. 1 - n) has)
@@ -120,7 +121,7 @@ module _ (d : Drives) (t outs : ℕ) where
         let least : bit_at (bit_and levels (bit_not w64 inputs)) pin ≡ min (bit_at levels pin) (bit_at (bit_not w64 inputs) pin) = bit_at_and levels (bit_not w64 inputs) pin in
         let most : bit_at levels pin ≡ max (bit_at (stimulated_before d t) pin) (bit_at (wired d outs) pin) =
         ap (λ n. bit_at n pin) is ∙ bit_at_or (stimulated_before d t) (wired d outs) pin in
-        let own : bit_at (stimulated_before d t) pin ≡ 0 = mask_above stim 36 pin le in
-        let from : bit_at (wired d outs) pin ≡ 0 = mask_above (λ n. follows (wire_to d.wires n) outs) 36 pin le in
+        let own : bit_at (stimulated_before d t) pin ≡ 0 = mask_above stim pin_count pin le in
+        let from : bit_at (wired d outs) pin ≡ 0 = mask_above (λ n. follows (wire_to d.wires n) outs) pin_count pin le in
         omega arith
   ])

@@ -1,2 +1,3 @@
 pub mod InputMasks
 pub mod Leads
+pub mod StartLevels

@@ -1,34 +1,18 @@
 // The levels of the inputs, from stimuli and from wires.
 ghost use Rattle.std.specs.Prelude.{◌≡◌, ℕ, ◌<◌, ◌&&◌, bit_or, is_some};
-ghost use Rattle.kc_stim.specs.Drives.{level_at, starts_high as is_high_at_start, wire_to};
-ghost use Rattle.kc_stim.specs.Fields.{is_input as takes_stimuli};
+ghost use Rattle.kc_stim.specs.Drives.{level_at, start_level as level_at_start, wire_to};
 ghost use Rattle.kc_stim.specs.Proper.{AreProper, is_driven as driven};
 ghost use Rattle.kc_block_spec.specs.Levels.{is_high, follows as follows_output, stimulated as stimulated_at, stimulated_before, wired as wired_from};
 ghost use Rattle.kc_block_spec.specs.Looking.{wired_inputs as inputs_with_wires};
 
 use crate::masks::with_pin;
-use kc_base::{Level, Pin, StateTime};
-use kc_stim::Stimuli;
-
-/// How many pins have names.
-const PIN_COUNT: u8 = 36;
+use kc_base::{Level, PIN_COUNT, Pin, StateTime};
+use kc_stim::{Stimuli, is_input, start_level};
 
 /// The first input that may be wired, HSI0, and the one after the last, EXTINT.
 const FIRST_WIRED: u8 = 18;
 
 const AFTER_WIRED: u8 = 25;
-
-fn is_input(pin: u8) -> bool
-    ensures { result ≡ takes_stimuli pin }
-{
-    (6..=13).contains(&pin) | (18..=35).contains(&pin)
-}
-
-fn starts_high(pin: u8) -> bool
-    ensures { result ≡ is_high_at_start pin }
-{
-    (6..=13).contains(&pin) | (pin == 26) | (pin == 27)
-}
 
 /// Whether stimuli drive an input: it has no wire.
 fn is_driven(stimuli: &Stimuli, pin: u8) -> bool
@@ -55,9 +39,9 @@ pub fn stimulated(stimuli: &Stimuli, at: StateTime) -> u64
 }
 
 fn starts_driven_high(stimuli: &Stimuli, pin: u8) -> bool
-    ensures { result ≡ (driven stimuli.now pin && is_high_at_start pin) }
+    ensures { result ≡ (driven stimuli.now pin && is_high (level_at_start pin)) }
 {
-    is_driven(stimuli, pin) && starts_high(pin)
+    is_driven(stimuli, pin) && start_level(Pin(pin)) == Level::High
 }
 
 /// The inputs without a wire that are high before state 0.

@@ -2,6 +2,7 @@
 use Rattle.std.proofs.Common.{◌≡◌, ℕ, ◌<◌, false, refl, sym, ◌∙◌, ap, subst, arith, Option, Some, None}
 use Rattle.std.specs.Prelude.{bit_or, bit_xor}
 use lib.Bits.{or_zero_r}
+use Rattle.kc_base.specs.Pins.{pin_count}
 use Rattle.kc_span.specs.Span.{Rule, IsDue}
 use Rattle.kc_due.specs.Due.{at_slot}
 use Rattle.kc_stim.specs.Drives.{Drives, wire_to}
@@ -18,7 +19,7 @@ use Rattle.kc_block_lanes.specs.Asked.{AreAsked}
 -- no input follows an output where none is high
 pub none_wired : (d : Drives) → wired d 0 ≡ 0
 none_wired d =
-    mask_rest (λ pin. follows (wire_to d.wires pin) 0) 0 36 (λ i le lt. by (wire_to d.wires i))
+    mask_rest (λ pin. follows (wire_to d.wires pin) 0) 0 pin_count (λ i le lt. by (wire_to d.wires i))
     ∙ mask_start (λ pin. follows (wire_to d.wires pin) 0)
   where
     by : (o : Option ℕ) → follows o 0 ≡ false

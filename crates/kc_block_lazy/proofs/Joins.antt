@@ -3,6 +3,7 @@ use Rattle.std.proofs.Common.{◌≡◌, ℕ, ◌+◌, ◌<◌, ◌≤◌, ◌==
 use Rattle.std.specs.Prelude.{if◌then◌else◌}
 use Rattle.std.proofs.lemmas.Bool.{or_parts, eqb-true, not-false, false≢true}
 use Rattle.kc_span.specs.Span.{Rule}
+use Rattle.kc_base.specs.Pins.{pin_count}
 use Rattle.kc_stim.specs.Drives.{Drives, level_before}
 use Rattle.kc_stim.specs.Proper.{is_driven}
 use Rattle.kc_timers.specs.declared.T2Control.{T2Control}
@@ -71,7 +72,7 @@ started_either P true x y p q = p
 started_either P false x y p q = q
 
 before_next : (drives : Drives) (now : ℕ) → stimulated drives now ≡ stimulated_before drives (now + 1)
-before_next drives now = mask_same _ _ 36 (λ pin lt.
+before_next drives now = mask_same _ _ pin_count (λ pin lt.
     ap (λ l. is_driven drives pin && is_high l) (sym (before-suc drives.stimuli pin now) ∙ ap (λ t. level_before drives.stimuli pin t) (sym (add-one now))))
 
 module _ {X : Type 0} (f : Further X) (agrees : ℕ → ℕ → X → Type 0) (keeps : IsFurther f agrees) (h : Lanes X) (now : ℕ) (is : IsLazy f agrees h now) where

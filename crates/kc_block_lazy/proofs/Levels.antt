@@ -1,14 +1,15 @@
 -- The levels of the inputs while no slot comes.
-use Rattle.std.proofs.Common.{◌≢◌, max, true, inl, inr, ◌≡◌, ℕ, zero, suc, ◌+◌, ◌-◌, ◌<◌, ◌≤◌, ◌==◌, Bool, false, ◌&&◌, refl, sym, ◌∙◌, ap, arith, Option, Some, None, List, add-zero, add-suc}
+use Rattle.std.proofs.Common.{◌≢◌, max, true, inl, inr, ◌≡◌, ℕ, zero, suc, ◌+◌, ◌-◌, ◌<◌, ◌≤◌, ◌==◌, Bool, false, ◌&&◌, ◌||◌, refl, sym, ◌∙◌, ap, arith, Option, Some, None, List, add-zero, add-suc}
 use Rattle.std.specs.Prelude.{nat_le, is_none, bit_or}
 use Rattle.std.specs.Int.{bit_at}
 use Rattle.std.proofs.lemmas.Nat.Bits.{bit_at_or}
-use Rattle.std.proofs.lemmas.Bool.{ne_eqb, false≢true, and_parts, or_cases, cases_Bool, leb-true}
+use Rattle.std.proofs.lemmas.Bool.{ne_eqb, false≢true, and_parts, or_cases, cases_Bool, leb-true, eqb-true}
 use Rattle.kc_stim.specs.declared.stimulus.Stimulus.{Stimulus}
 use Rattle.kc_stim.specs.Drives.{Drives, level_at, level_before, wire_to, IsStill, IsNextEdge}
 use Rattle.kc_stim.specs.Proper.{is_driven, AreProper}
 use Rattle.kc_stim.specs.Fields.{is_input}
 use Rattle.kc_stim.proofs.Proper.{edges_are_of_driven_inputs}
+use Rattle.kc_base.specs.Pins.{pin_count}
 use Rattle.kc_base.specs.declared.types.Level.{Level}
 use Rattle.kc_base.specs.declared.types.Level.TheVariants.{Low, High}
 use Rattle.kc_hso.specs.Cam.{weight}
@@ -35,7 +36,7 @@ level_stays stimuli pin now (suc n) still =
 pub before_stays : (drives : Drives) (now to : ℕ) (next : Option ℕ) → IsNextEdge drives.stimuli now next → now ≤ to → ((u : ℕ) → next ≡ Some u → to ≤ u) →
     stimulated_before drives to ≡ stimulated_before drives now
 before_stays drives now to next is le ahead =
-    mask_same _ _ 36 (λ pin lt. ap (λ l. is_driven drives pin && is_high l)
+    mask_same _ _ pin_count (λ pin lt. ap (λ l. is_driven drives pin && is_high l)
     (let at : now + (to - now) ≡ to = omega arith in
     sym (ap (level_before drives.stimuli pin) at)
     ∙ level_stays drives.stimuli pin now (to - now) (λ k lt. still_before drives.stimuli now (now + k) next is (omega arith) (λ u e. let le' : to ≤ u = ahead u e in omega arith))))
@@ -43,7 +44,7 @@ before_stays drives now to next is le ahead =
 pub stimulated_stays : (drives : Drives) (now t : ℕ) (next : Option ℕ) → IsNextEdge drives.stimuli now next → now ≤ t → ((u : ℕ) → next ≡ Some u → t < u) →
     stimulated drives t ≡ stimulated_before drives now
 stimulated_stays drives now t next is le ahead =
-    mask_same _ _ 36 (λ pin below. ap (λ l. is_driven drives pin && is_high l) (still_before drives.stimuli now t next is le ahead pin))
+    mask_same _ _ pin_count (λ pin below. ap (λ l. is_driven drives pin && is_high l) (still_before drives.stimuli now t next is le ahead pin))
     ∙ before_stays drives now t next is le (λ u e. let lt : t < u = ahead u e in omega arith)
 
 -- and in the present state, where no stimulus comes
@@ -64,10 +65,13 @@ driven_parts drives pin outs driven = by (wire_to drives.wires pin) (and_parts (
     by None none = refl
     by (Some n) none = absurd (false≢true none)
 
-input_below : (pin : ℕ) → is_input pin ≡ true → pin < 36
-input_below pin is = elim (or_cases (nat_le 6 pin && nat_le pin 13) (nat_le 18 pin && nat_le pin 35) is) [
+input_below : (pin : ℕ) → is_input pin ≡ true → pin < pin_count
+input_below pin is = elim (or_cases (nat_le 6 pin && nat_le pin 13) ((nat_le 18 pin && nat_le pin 35) || (pin == 37)) is) [
   | inl port ↦ let le : pin ≤ 13 = leb-true pin 13 (and_parts (nat_le 6 pin) (nat_le pin 13) port).1 in omega arith
-  | inr other ↦ let le : pin ≤ 35 = leb-true pin 35 (and_parts (nat_le 18 pin) (nat_le pin 35) other).1 in omega arith
+  | inr more ↦ elim (or_cases (nat_le 18 pin && nat_le pin 35) (pin == 37) more) [
+    | inl other ↦ let le : pin ≤ 35 = leb-true pin 35 (and_parts (nat_le 18 pin) (nat_le pin 35) other).1 in omega arith
+    | inr serial ↦ let same : pin ≡ 37 = eqb-true pin 37 serial in omega arith
+  ]
 ]
 
 weights : (a b : Bool) → weight a 1 ≡ weight b 1 → a ≡ b
@@ -78,25 +82,25 @@ weights false false e = refl
 
 -- the stimuli in a mask of levels, whatever the wires are
 module _ (drives : Drives) (p q : ℕ → Bool) (a b : ℕ)
-    (same : bit_or (mask_of (λ pin. is_driven drives pin && p pin) 36) (wired drives a) ≡ bit_or (mask_of (λ pin. is_driven drives pin && q pin) 36) (wired drives b)) where
-  bit_by : (r : ℕ → Bool) (outs pin : ℕ) → pin < 36 → is_driven drives pin ≡ true →
-      bit_at (bit_or (mask_of (λ n. is_driven drives n && r n) 36) (wired drives outs)) pin ≡ weight (r pin) 1
+    (same : bit_or (mask_of (λ pin. is_driven drives pin && p pin) pin_count) (wired drives a) ≡ bit_or (mask_of (λ pin. is_driven drives pin && q pin) pin_count) (wired drives b)) where
+  bit_by : (r : ℕ → Bool) (outs pin : ℕ) → pin < pin_count → is_driven drives pin ≡ true →
+      bit_at (bit_or (mask_of (λ n. is_driven drives n && r n) pin_count) (wired drives outs)) pin ≡ weight (r pin) 1
   bit_by r outs pin lt driven =
-      let own : bit_at (mask_of (λ n. is_driven drives n && r n) 36) pin ≡ weight (is_driven drives pin && r pin) 1 = mask_bit (λ n. is_driven drives n && r n) 36 pin lt in
+      let own : bit_at (mask_of (λ n. is_driven drives n && r n) pin_count) pin ≡ weight (is_driven drives pin && r pin) 1 = mask_bit (λ n. is_driven drives n && r n) pin_count pin lt in
       let here : weight (is_driven drives pin && r pin) 1 ≡ weight (r pin) 1 = ap (λ d. weight (d && r pin) 1) driven in
       let none : bit_at (wired drives outs) pin ≡ 0 =
-      mask_bit (λ n. follows (wire_to drives.wires n) outs) 36 pin lt ∙ ap (λ f. weight f 1) (driven_parts drives pin outs driven) in
-      let most : bit_at (bit_or (mask_of (λ n. is_driven drives n && r n) 36) (wired drives outs)) pin
-      ≡ max (bit_at (mask_of (λ n. is_driven drives n && r n) 36) pin) (bit_at (wired drives outs) pin) =
-      bit_at_or (mask_of (λ n. is_driven drives n && r n) 36) (wired drives outs) pin in
+      mask_bit (λ n. follows (wire_to drives.wires n) outs) pin_count pin lt ∙ ap (λ f. weight f 1) (driven_parts drives pin outs driven) in
+      let most : bit_at (bit_or (mask_of (λ n. is_driven drives n && r n) pin_count) (wired drives outs)) pin
+      ≡ max (bit_at (mask_of (λ n. is_driven drives n && r n) pin_count) pin) (bit_at (wired drives outs) pin) =
+      bit_at_or (mask_of (λ n. is_driven drives n && r n) pin_count) (wired drives outs) pin in
       omega arith
 
-  pub same_driven : (pin : ℕ) → pin < 36 → is_driven drives pin ≡ true → p pin ≡ q pin
+  pub same_driven : (pin : ℕ) → pin < pin_count → is_driven drives pin ≡ true → p pin ≡ q pin
   same_driven pin lt driven =
       weights (p pin) (q pin) (sym (bit_by p a pin lt driven) ∙ ap (λ m. bit_at m pin) same ∙ bit_by q b pin lt driven)
 
-  pub same_stimuli : mask_of (λ pin. is_driven drives pin && p pin) 36 ≡ mask_of (λ pin. is_driven drives pin && q pin) 36
-  same_stimuli = mask_same _ _ 36 (λ pin lt. elim (cases_Bool (is_driven drives pin)) [
+  pub same_stimuli : mask_of (λ pin. is_driven drives pin && p pin) pin_count ≡ mask_of (λ pin. is_driven drives pin && q pin) pin_count
+  same_stimuli = mask_same _ _ pin_count (λ pin lt. elim (cases_Bool (is_driven drives pin)) [
     | inl driven ↦ ap (λ x. is_driven drives pin && x) (same_driven pin lt driven)
     | inr off ↦ rw off refl
   ])
@@ -112,5 +116,5 @@ pub edge_changes : (drives : Drives) (t a b pin : ℕ) → AreProper drives → 
     bit_or (stimulated drives t) (wired drives a) ≡ bit_or (stimulated_before drives t) (wired drives b) → ⊥
 edge_changes drives t a b pin proper edge same =
     let driven : is_driven drives pin ≡ true = edges_are_of_driven_inputs drives pin t proper edge in
-    let below : pin < 36 = input_below pin (and_parts (is_input pin) (is_none (wire_to drives.wires pin)) driven).0 in
+    let below : pin < pin_count = input_below pin (and_parts (is_input pin) (is_none (wire_to drives.wires pin)) driven).0 in
     edge (high_same _ _ (same_driven drives (λ n. is_high (level_at drives.stimuli n t)) (λ n. is_high (level_before drives.stimuli n t)) a b same pin below driven))

@@ -8,6 +8,7 @@ use lib.Bits.{or_lt, and_lt}
 use lib.Pow.{pow_pos}
 use Rattle.std.proofs.Math.Nat.{pow-suc}
 use Rattle.kc_base.specs.Bits.{bit}
+use Rattle.kc_base.specs.Pins.{pin_count}
 use Rattle.kc_base.specs.declared.types.Kind.{Kind}
 use Rattle.kc_base.specs.declared.types.Kind.TheVariants.{NoRegister, ByteAccess}
 use Rattle.kc_stim.specs.Drives.{wire_to, level_before}
@@ -85,11 +86,11 @@ levels_shown_stay t outs u levels still =
     let along = λ (pin : ℕ). follows (wire_to u.drives.wires pin) outs in
     let with_wire = λ (pin : ℕ). is_some (wire_to u.drives.wires pin) in
     let same : stimulated u.drives t ≡ stimulated_before u.drives t =
-    mask_same _ _ 36 (λ pin lt. ap (λ level. is_driven u.drives pin && is_high level) (still pin)) in
-    let kept : bit_and (bit_or (mask_of before 36) (mask_of along 36)) (mask_of with_wire 36) ≡ mask_of along 36 =
-    ap (λ m. bit_and m (mask_of with_wire 36)) (mask_or before along 36)
-    ∙ mask_and (λ pin. before pin || along pin) with_wire 36
-    ∙ mask_same _ _ 36 (λ pin lt. wires_alone (is_input pin) (is_high (level_before u.drives.stimuli pin t)) (wire_to u.drives.wires pin) outs) in
+    mask_same _ _ pin_count (λ pin lt. ap (λ level. is_driven u.drives pin && is_high level) (still pin)) in
+    let kept : bit_and (bit_or (mask_of before pin_count) (mask_of along pin_count)) (mask_of with_wire pin_count) ≡ mask_of along pin_count =
+    ap (λ m. bit_and m (mask_of with_wire pin_count)) (mask_or before along pin_count)
+    ∙ mask_and (λ pin. before pin || along pin) with_wire pin_count
+    ∙ mask_same _ _ pin_count (λ pin lt. wires_alone (is_input pin) (is_high (level_before u.drives.stimuli pin t)) (wire_to u.drives.wires pin) outs) in
     ap (λ m. bit_or m (bit_and u.steady.levels (wired_inputs u.drives))) same
     ∙ ap (λ m. bit_or (stimulated_before u.drives t) (bit_and m (wired_inputs u.drives))) levels
     ∙ ap (bit_or (stimulated_before u.drives t)) kept

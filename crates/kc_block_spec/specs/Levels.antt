@@ -2,6 +2,7 @@
 -- takes the level that its output had as the state begins is this kit's own).
 use Rattle.std.specs.Prelude.{ℕ, zero, suc, ◌+◌, ◌*◌, ◌^◌, Bool, true, false, ◌&&◌, if◌then◌else◌, Option, Some, None, List, [], ◌∷◌, ◌++◌, bit_and, bit_or, bit_xor}
 use Rattle.kc_base.specs.Bits.{bit}
+use Rattle.kc_base.specs.Pins.{pin_count}
 use Rattle.kc_base.specs.declared.types.Edge.{Edge}
 use Rattle.kc_base.specs.declared.types.Level.{Level}
 use Rattle.kc_base.specs.declared.types.Level.TheVariants.{Low, High}
@@ -33,11 +34,11 @@ is_high High = true
 
 -- the inputs without a wire that are high in a state
 abbrev pub stimulated : Drives → ℕ → ℕ
-stimulated drives t = mask_of (λ pin. is_driven drives pin && is_high (level_at drives.stimuli pin t)) 36
+stimulated drives t = mask_of (λ pin. is_driven drives pin && is_high (level_at drives.stimuli pin t)) pin_count
 
 -- the inputs without a wire that were high in the state before
 abbrev pub stimulated_before : Drives → ℕ → ℕ
-stimulated_before drives t = mask_of (λ pin. is_driven drives pin && is_high (level_before drives.stimuli pin t)) 36
+stimulated_before drives t = mask_of (λ pin. is_driven drives pin && is_high (level_before drives.stimuli pin t)) pin_count
 
 abbrev pub follows : Option ℕ → ℕ → Bool
 follows None outs = false
@@ -45,7 +46,7 @@ follows (Some output) outs = bit outs output
 
 -- the inputs whose wires come from high outputs
 abbrev pub wired : Drives → ℕ → ℕ
-wired drives outs = mask_of (λ pin. follows (wire_to drives.wires pin) outs) 36
+wired drives outs = mask_of (λ pin. follows (wire_to drives.wires pin) outs) pin_count
 
 -- the levels of the inputs in state t, from the outputs as it begins
 abbrev pub levels_at : {X : Type 0} → ℕ → Units X → ℕ

@@ -1,6 +1,7 @@
 -- What a special function register shows at the start of state t, without the effect of a read (this kit's own).
 use Rattle.std.specs.Prelude.{ℕ, ◌-◌, ◌/◌, ◌%◌, ◌==◌, is_some, Option, Some, None, if◌then◌else◌, bit_and, bit_or}
 use Rattle.std.specs.Option.{unwrap_or}
+use Rattle.kc_base.specs.Pins.{pin_count}
 use Rattle.kc_stim.specs.Drives.{Drives, wire_to}
 use Rattle.kc_extra.specs.Further.{Further}
 use Rattle.kc_block_spec.specs.declared.registers.Window.{Window}
@@ -13,7 +14,7 @@ use Rattle.kc_block_spec.specs.Reading.{byte_value, word_value}
 
 -- the inputs that have a wire
 abbrev pub wired_inputs : Drives → ℕ
-wired_inputs drives = mask_of (λ pin. is_some (wire_to drives.wires pin)) 36
+wired_inputs drives = mask_of (λ pin. is_some (wire_to drives.wires pin)) pin_count
 
 -- an input has the level of its stimuli in state t, a wired one that of the state before
 abbrev pub levels_shown : {X : Type 0} → ℕ → Units X → ℕ

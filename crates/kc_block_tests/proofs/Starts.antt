@@ -2,6 +2,7 @@
 use Rattle.std.proofs.Common.{◌≡◌, ◌==◌, Bool, true, false, ◌&&◌, refl, ◌∙◌, ap, arith}
 use Rattle.std.specs.Int.{bit_at}
 use Rattle.kc_base.specs.Bits.{bit}
+use Rattle.kc_base.specs.Pins.{pin_count}
 use Rattle.kc_stim.specs.Drives.{Drives, level_before}
 use Rattle.kc_stim.specs.Proper.{is_driven}
 use Rattle.kc_hso.specs.Cam.{weight}
@@ -18,7 +19,7 @@ no_level false = refl
 low_at_start : (drives : Drives) → bit (stimulated_before drives 0) 21 ≡ false
 low_at_start drives =
     let one : bit_at (stimulated_before drives 0) 21 ≡ weight (is_driven drives 21 && false) 1 =
-    mask_bit (λ pin. is_driven drives pin && is_high (level_before drives.stimuli pin 0)) 36 21 (omega arith) in
+    mask_bit (λ pin. is_driven drives pin && is_high (level_before drives.stimuli pin 0)) pin_count 21 (omega arith) in
     ap (λ n. n == 1) (one ∙ ap (λ b. weight b 1) (no_level (is_driven drives 21)))
 
 pub fits_each_board : FitsEachBoard beacon_agrees (record { inner = new_beacon; moves = 0 })

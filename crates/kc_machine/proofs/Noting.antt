@@ -189,7 +189,7 @@ module _ {X : Type 0} (f : Further X) where
   zeros-written t Window15 u n = refl
 
 -- what a byte access may count
-pub byte-counts : (free : Bool) (n old new reached later : ℕ) → n ≡ (if free then 0 else 1) → (free ≡ true → new ≤ old) → new ≤ old + 16 → later ≡ counted reached n → later < 64 → new + 16 * reached ≤ old + 16 * later
+pub byte-counts : (free : Bool) (n old new reached later : ℕ) → n ≡ (if free then 0 else 1) → (free ≡ true → new ≤ old) → new ≤ old + 4 → later ≡ counted reached n → later < 64 → new + 16 * reached ≤ old + 16 * later
 byte-counts true n old new reached later weight none most count few =
     let same : new ≤ old = none refl in
     let sum : later ≡ (if nat_lt reached 64 then reached + n else reached) = count in
@@ -207,7 +207,7 @@ byte-counts false n old new reached later weight none most count few = one-more 
         absurd (omega arith)
 
 -- what a word access may count
-pub word-counts : (n old new reached later : ℕ) → 0 < n → new ≤ old + 16 → later ≡ counted reached n → later < 64 → new + 16 * reached ≤ old + 16 * later
+pub word-counts : (n old new reached later : ℕ) → 0 < n → new ≤ old + 8 → later ≡ counted reached n → later < 64 → new + 16 * reached ≤ old + 16 * later
 word-counts n old new reached later some most count few = by-room (nat_lt reached 64) refl
   where
     by-room : (b : Bool) → nat_lt reached 64 ≡ b → new + 16 * reached ≤ old + 16 * later

@@ -129,6 +129,7 @@ impl<X: Extra + Drop> Common<X> {
         ensures time { self.new.block.time ≡ self.old.block.time }
         ensures units { self.new.block.units ≡ self.old.block.units }
         ensures memory { self.new.memory ≡ self.old.memory }
+        ensures moves { self.new.block.moves ≤ self.old.block.moves + 1 }
     {
         self.block.look(window, addr as u8)
     }

@@ -1,17 +1,18 @@
-ghost use Rattle.std.specs.Prelude.{◌≡◌, ◌≤◌, ◌<◌, ◌+◌, ◌*◌, ◌^◌, ◌%◌, ◌↔◌, ℕ, None, IfOk, OnOk, OnErr, IsTrue, false, true, max, vec_len, bit_xor};
+ghost use Rattle.std.specs.Prelude.{◌≡◌, ◌≤◌, ◌<◌, ◌+◌, ◌-◌, ◌*◌, ◌^◌, ◌%◌, ◌↔◌, ℕ, None, IfOk, OnOk, OnErr, IsTrue, false, true, max, vec_len, bit_xor};
 ghost use Rattle.kc_trace.specs.Counting.{counted_all};
 ghost use Rattle.kc_trace.specs.Out.{Puts};
 ghost use Rattle.kc_trace.specs.Text.{line_of, text_of};
 ghost use Rattle.kc_exec_spec.specs.Memory.{IsMemory, is_hole};
 ghost use Rattle.kc_block_spec.specs.Levels.{stimulated_before};
-ghost use Rattle.kc_machine_spec.specs.Machine.{start, memory_of};
+ghost use Rattle.kc_intc.specs.declared.requests.Choice.TheVariants.{Go};
+ghost use Rattle.kc_machine_spec.specs.Machine.{start, memory_of, asked};
 ghost use Rattle.kc_machine_spec.specs.Run.{run_to, end_of};
-ghost use Rattle.kc_machine_spec.specs.Passing.{activity_end};
+ghost use Rattle.kc_machine_spec.specs.Passing.{IsIdle, activity_end};
 ghost use Rattle.kc_machine_spec.specs.Peeking.{peeked, poked};
 ghost use Rattle.kc_machine_spec.specs.Text.{finals, HasRun};
 ghost use Rattle.kc_machine.specs.Board.{Whole};
 ghost use Rattle.kc_machine.specs.Failing.{FailsIn};
-ghost use Rattle.kc_machine.specs.Stepping.{IsBrief, end_line, register_lines};
+ghost use Rattle.kc_machine.specs.Stepping.{IsBrief, IdlesFor, end_line, register_lines};
 
 use crate::common::Common;
 use crate::finals::{put_end, put_finals, put_state, word};
@@ -149,6 +150,17 @@ impl<X: Extra + Drop> Machine<X> {
         self.core.ended
     }
 
+    /// A state up to which the machine does nothing but idle, `until` at most; the present state where it does not idle, or
+    /// where a request is served.
+    pub fn idles_to(&self, until: StateTime) -> StateTime
+        ensures from { self.now.machine.time ≤ result }
+        ensures within { result ≤ max until self.now.machine.time }
+        ensures idles { IdlesFor X.further (result - self.now.machine.time) self.now.machine }
+        ensures goes { IsIdle self.now.machine → asked self.now.machine ≡ Go → self.now.machine.time < until → self.now.machine.time < result }
+    {
+        self.core.idles_to(until)
+    }
+
     /// Goes on to the end of the run, or to the state `until` if that comes first, and writes what is printed on the way.
     ///
     /// After a fault of the sink it stands at the end of the activity, or of the idle state, in whose lines the sink failed.
@@ -200,10 +212,12 @@ impl<X: Extra + Drop> Machine<X> {
     }
 
     /// The byte at an address as the processor would read it at the start of the present state, without any effect:
-    /// below 0018H in WSR's horizontal window, each half of a word register, and 0 where a read is undefined.
+    /// below 0018H in WSR's horizontal window, each half of a word register, and 0 where a read is undefined. Below 0018H
+    /// the further unit may be moved for it, once.
     pub fn peek(&mut self, addr: u16) -> u8
         ensures value { result ≡ peeked X.further self.old.machine addr }
         ensures same { self.new.machine ≡ self.old.machine }
+        ensures moves { self.new.moves ≤ self.old.moves + 1 }
     {
         self.core.peek(addr)
     }

@@ -1,5 +1,5 @@
 // The machine's parts, and which activity comes next.
-ghost use Rattle.std.specs.Prelude.{◌≡◌, ◌+◌, ◌<◌, true, None, IsTrue};
+ghost use Rattle.std.specs.Prelude.{◌≡◌, ◌+◌, ◌<◌, ◌≤◌, true, None, IsTrue};
 ghost use Rattle.std.specs.Bool.{OnTrue};
 ghost use Rattle.kc_intc.specs.declared.requests.Choice.TheVariants.{Go};
 ghost use Rattle.kc_isa.specs.Formed.{is_formed};
@@ -214,6 +214,7 @@ impl<X: Extra + Drop> Core<X> {
         ensures value { result ≡ peeked X.further (machine_of self.old) addr }
         ensures same { machine_of self.new ≡ machine_of self.old }
         ensures stands { self.new.bus.block.time ≡ self.new.time }
+        ensures moves { self.new.bus.block.moves ≤ self.old.bus.block.moves + 1 }
     {
         if addr < 0x18 {
             let window = window_for(Master::Cpu, self.bus.block.wsr());
@@ -230,6 +231,7 @@ impl<X: Extra + Drop> Core<X> {
         requires { self.now.ended ≡ None }
         ensures idle { OnTrue result (IsIdle (machine_of self.now)) }
         ensures asked { OnTrue result (asked (machine_of self.now) ≡ Go) }
+        ensures rests { IsIdle (machine_of self.now) → asked (machine_of self.now) ≡ Go → IsTrue result }
     {
         match (self.going, self.under_way) {
             (Some(Going::Idling), None) => !self.held && matches!(self.asked(), Choice::Go),

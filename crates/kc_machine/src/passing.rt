@@ -7,12 +7,13 @@ ghost use Rattle.kc_trace.specs.Printable.{CanPrint, HasName};
 ghost use Rattle.kc_trace.specs.Trace.{out_of};
 ghost use Rattle.kc_block_spec.specs.Touch.{block_rule, touch};
 ghost use Rattle.kc_machine_spec.specs.Board.{pins, edges_in};
-ghost use Rattle.kc_machine_spec.specs.Machine.{scene_of, current};
-ghost use Rattle.kc_machine_spec.specs.Passing.{at, left_at, whole, activity_end};
+ghost use Rattle.kc_intc.specs.declared.requests.Choice.TheVariants.{Go};
+ghost use Rattle.kc_machine_spec.specs.Machine.{scene_of, current, asked};
+ghost use Rattle.kc_machine_spec.specs.Passing.{IsIdle, at, left_at, whole, activity_end};
 ghost use Rattle.kc_machine_spec.specs.Run.{run_to, end_of};
 ghost use Rattle.kc_machine.specs.Sound.{IsGoing, IsReady, IsSoundGoing};
 ghost use Rattle.kc_machine.specs.Failing.{Passes, FailsIn};
-ghost use Rattle.kc_machine.specs.Stepping.{IsBrief};
+ghost use Rattle.kc_machine.specs.Stepping.{IsBrief, IdlesFor};
 
 use crate::parts::Core;
 use kc_base::{Edge, Sink, StateTime, Steps};
@@ -141,6 +142,28 @@ impl<X: Extra + Drop> Core<X> {
     {
         let due = self.bus.block.due();
         if due < until { due + 1 } else { until }
+    }
+
+    /// A state up to which the machine does nothing but idle, `until` at most; the present state where it does not idle, or
+    /// where a request is served.
+    pub(crate) fn idles_to(&self, until: StateTime) -> StateTime
+        requires ready { IsReady self.now }
+        ensures from { self.now.time ≤ result }
+        ensures within { result ≤ max until self.now.time }
+        ensures idles { IdlesFor X.further (result - self.now.time) (machine_of self.now) }
+        ensures goes { IsIdle (machine_of self.now) → asked (machine_of self.now) ≡ Go → self.now.time < until → self.now.time < result }
+    {
+        if until <= self.time {
+            return self.time;
+        }
+        if self.ended.is_some() {
+            return self.time;
+        }
+        if self.rests() {
+            self.rest_end(until)
+        } else {
+            self.time
+        }
     }
 
     // Goes on to the end of the activity, or over idle states up to where the units do something, or to `until` if that

@@ -1,5 +1,5 @@
 -- Idle states in which no request is served.
-use Rattle.std.proofs.Common.{if◌then◌else◌, ◌≡◌, ℕ, zero, suc, ◌+◌, ◌-◌, ◌<◌, ◌≤◌, Bool, true, false, not, List, [], ◌++◌, Option, Some, None, refl, sym, ◌∙◌, ap, append-nil, arith}
+use Rattle.std.proofs.Common.{if◌then◌else◌, ◌≡◌, ℕ, zero, suc, ◌+◌, ◌-◌, ◌<◌, ◌≤◌, Bool, true, false, not, List, [], ◌++◌, Option, Some, None, refl, sym, ◌∙◌, ap, subst, append-nil, arith}
 use Rattle.kc_span.specs.Span.{after, QuietFor}
 use Rattle.kc_exec_spec.specs.Status.{has}
 use Rattle.kc_intc.specs.Choosing.{choice_of}
@@ -23,11 +23,11 @@ use Rattle.kc_machine_spec.specs.Passing.{at, stepped_of, after_ticks, ticks_of,
 use Rattle.kc_machine_spec.specs.Run.{still, and_then, run_for, run_to}
 use Rattle.kc_machine_spec.proofs.Runs.{edges_in-suc, run_for-add, run_for-one, stepped-finished, same_stepped, same_at}
 
-idle_state : UnderWay
+pub idle_state : UnderWay
 idle_state = record { doing = Idles; left = 1 }
 
 -- a machine that idles, of which no request is served, has an idle state next
-current-idle : {X : Type 0} (m : Machine X) → IsIdle m → asked m ≡ Go → current m ≡ idle_state
+pub current-idle : {X : Type 0} (m : Machine X) → IsIdle m → asked m ≡ Go → current m ≡ idle_state
 unfolding chosen idle_state
 current-idle m idle none =
     ap (current_of m) idle.between
@@ -55,7 +55,7 @@ module _ {X : Type 0} (f : Further X) where
   still-idle : (m : Machine X) (k : ℕ) → IsIdle m → IsIdle (after_ticks f m k None)
   still-idle m k idle = record { idling = idle.idling; free = idle.free; between = refl; lives = idle.lives }
 
-  one_more : (m : Machine X) → IsIdle m → asked m ≡ Go → run_for f 1 m ≡ before (pins m.time (tick f m.time m.board.units).edges) (touched f m.time m.board.units) (stepped_of (at m (m.time + 1) (tick f m.time m.board.units).units None) [] 0)
+  pub one_more : (m : Machine X) → IsIdle m → asked m ≡ Go → run_for f 1 m ≡ before (pins m.time (tick f m.time m.board.units).edges) (touched f m.time m.board.units) (stepped_of (at m (m.time + 1) (tick f m.time m.board.units).units None) [] 0)
   unfolding finished idle_state stands
   one_more m idle none =
       let units : Units X = (tick f m.time m.board.units).units in
@@ -100,6 +100,13 @@ module _ {X : Type 0} (f : Further X) where
 
   pub rests_to_due : (n : ℕ) (m : Machine X) → IsIdle m → asked m ≡ Go → QuietFor (block_rule f) m.time n m.board.units → run_for f (suc n) m ≡ ticks_of f m (suc n) None
   rests_to_due n m idle none quiet = rests (suc n) m idle (λ k within. none_later k m none (λ i below. quiet i (omega arith)))
+
+  -- up to the first Tick that is not quiet, and in the state of that Tick, the machine idles
+  pub rests_each : (n k : ℕ) (m : Machine X) → IsIdle m → asked m ≡ Go → QuietFor (block_rule f) m.time n m.board.units → k ≤ n →
+      IsIdle (run_for f k m).machine × (asked (run_for f k m).machine ≡ Go)
+  rests_each n k m idle none quiet within =
+      let ran : run_for f k m ≡ ticks_of f m k None = rests k m idle (λ i below. none_later i m none (λ j less. quiet j (omega arith))) in
+      subst (λ (s : Stepped X). IsIdle s.machine × (asked s.machine ≡ Go)) (sym ran) (still-idle m k idle, none_later k m none (λ j less. quiet j (omega arith)))
 
   -- a run of idle states alone
   pub run_to-rests : (until : ℕ) (m : Machine X) → IsIdle m → asked m ≡ Go → m.time < until → QuietFor (block_rule f) m.time (until - 1 - m.time) m.board.units → run_to f until m ≡ record {
