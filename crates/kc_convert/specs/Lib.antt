@@ -1,0 +1,15 @@
+pub mod Samples
+pub mod Fields
+pub mod Lines
+pub mod Reading
+pub mod Index
+pub mod Parts
+pub mod Converting
+pub mod Bounds
+pub mod ConverterLaws
+pub mod Pulsing
+pub mod PulseSpans
+pub mod PulseLaws
+pub mod Histories
+pub mod Converted
+pub mod Pulse

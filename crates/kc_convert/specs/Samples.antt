@@ -1,0 +1,19 @@
+-- The values of the analogue inputs over time (this kit's own; the eight inputs are those of the 80C196KC User's Manual,
+-- "A/D Converter").
+use Rattle.std.specs.Prelude.{ℕ, ◌==◌, nat_le, List, [], ◌∷◌, filter}
+use Rattle.kc_convert.specs.declared.sample.Sample.{Sample}
+
+abbrev pub of_channel : ℕ → List Sample → List Sample
+of_channel channel samples = filter (λ s. s.channel == channel) samples
+
+abbrev pub up_to : ℕ → List Sample → List Sample
+up_to t samples = filter (λ s. nat_le s.at t) samples
+
+-- the value that these leave, one after the other
+abbrev pub last_value : List Sample → ℕ → ℕ
+last_value [] before = before
+last_value (s ∷ samples) before = last_value samples s.value
+
+-- the value of a channel in a state: the last one with this time at most, else 0
+abbrev pub value_at : List Sample → ℕ → ℕ → ℕ
+value_at samples channel t = last_value (up_to t (of_channel channel samples)) 0

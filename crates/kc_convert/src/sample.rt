@@ -1,0 +1,17 @@
+use kc_base::StateTime;
+
+/// A value that an analogue input takes at a state time.
+#[derive(Clone, Copy, Debug, PartialEq, Eq)]
+pub struct Sample {
+    pub at: StateTime,
+    pub channel: u8,
+    pub value: u16,
+}
+
+/// What a line of an analogue file is.
+#[derive(Clone, Copy, Debug, PartialEq, Eq)]
+pub(crate) enum Item {
+    Blank,
+    Sampled(Sample),
+    Wrong,
+}

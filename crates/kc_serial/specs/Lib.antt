@@ -1,0 +1,9 @@
+pub mod Frames
+pub mod Samples
+pub mod Port
+pub mod Registers
+pub mod Unit
+pub mod Spans
+pub mod Quiet
+pub mod Laws
+pub mod History
