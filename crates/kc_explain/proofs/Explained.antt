@@ -1,0 +1,143 @@
+-- Each code has a row.
+use Rattle.std.proofs.Common.{◌≡◌, ℕ, zero, suc, ◌+◌, ◌-◌, ◌<◌, ◌≤◌, Bool, true, ◌&&◌, inl, inr, List, refl, ap, ◌∙◌, arith}
+use Rattle.std.specs.Prelude.{codes}
+use Rattle.std.proofs.lemmas.Bool.{and_parts, cases_lt}
+use Rattle.kc_base.specs.declared.types.Kind.{Kind}
+use Rattle.kc_base.specs.declared.types.Kind.TheVariants as kind
+use Rattle.kc_stim.specs.declared.fault.StimFault.{StimFault}
+use Rattle.kc_stim.specs.declared.fault.StimFault.TheVariants as stim
+use Rattle.kc_link_place.specs.declared.ranges.LinkFault.{LinkFault}
+use Rattle.kc_link_place.specs.declared.ranges.LinkFault.TheVariants as link
+use Rattle.kc_kit_files.specs.declared.status.Status.{Status}
+use Rattle.kc_kit_files.specs.declared.status.Status.TheVariants as status
+use Rattle.kc_explain.specs.Meanings.{is_among}
+use Rattle.kc_explain.specs.Codes.{all_codes, lettered, numbered, kind_code, status_code, stimulus_code, rule_code}
+use Rattle.kc_explain.specs.Laws.{IsExplained, FaultsAreExplained, UsesAreExplained}
+
+abbrev all_below : (ℕ → Bool) → ℕ → Bool
+all_below test zero = true
+all_below test (suc n) = test n && all_below test n
+
+each_below : (test : ℕ → Bool) (n k : ℕ) → all_below test n ≡ true → k < n → test k ≡ true
+each_below test zero k all less = absurd (omega arith)
+each_below test (suc n) k all less =
+    let both = and_parts (test n) (all_below test n) all in
+    elim (cases_lt k n) [
+      | inl lower ↦ each_below test n k both.1 lower
+      | inr last ↦ let same : k ≡ n = omega arith in ap test same ∙ both.0
+    ]
+
+-- from 1 on
+each_from : (test : ℕ → Bool) (n k : ℕ) → all_below (λ j. test (j + 1)) n ≡ true → 1 ≤ k → k ≤ n → test k ≡ true
+each_from test n k all some few =
+    let same : k ≡ k - 1 + 1 = omega arith in
+    ap test same ∙ each_below (λ j. test (j + 1)) n (k - 1) all (omega arith)
+
+abbrev has_row : List ℕ → Bool
+has_row code = is_among code all_codes
+
+sources : (n : ℕ) → 1 ≤ n → n ≤ 24 → IsExplained (lettered (codes "E") n)
+unfolding all_codes
+sources n some few = each_from (λ k. has_row (lettered (codes "E") k)) 24 n refl some few
+
+objects : (n : ℕ) → 1 ≤ n → n ≤ 6 → IsExplained (lettered (codes "O") n)
+unfolding all_codes
+objects n some few = each_from (λ k. has_row (lettered (codes "O") k)) 6 n refl some few
+
+libraries : (n : ℕ) → 1 ≤ n → n ≤ 6 → IsExplained (lettered (codes "B") n)
+unfolding all_codes
+libraries n some few = each_from (λ k. has_row (lettered (codes "B") k)) 6 n refl some few
+
+hex_files : (n : ℕ) → 1 ≤ n → n ≤ 6 → IsExplained (lettered (codes "H") n)
+unfolding all_codes
+hex_files n some few = each_from (λ k. has_row (lettered (codes "H") k)) 6 n refl some few
+
+statuses : (given : Status) → IsExplained (status_code given)
+unfolding all_codes
+statuses status.Done = refl
+statuses status.Usage = refl
+statuses status.Missing = refl
+statuses status.Source = refl
+statuses status.Input = refl
+statuses status.Link = refl
+statuses status.Undefined = refl
+statuses status.ReadFault = refl
+statuses status.WriteFault = refl
+statuses status.NoMemory = refl
+
+stimuli : (fault : StimFault) → IsExplained (stimulus_code fault)
+unfolding all_codes
+stimuli (stim.BadLine line) = refl
+stimuli (stim.Wired line) = refl
+stimuli (stim.Falling line) = refl
+stimuli (stim.Twice line) = refl
+stimuli (stim.TooMany line) = refl
+stimuli stim.NoMemory = refl
+
+rules_of_linking : (fault : LinkFault) → IsExplained (rule_code fault)
+unfolding all_codes
+rules_of_linking (link.Unresolved name) = refl
+rules_of_linking (link.OverlapName name) = refl
+rules_of_linking (link.OverlapPlace at) = refl
+rules_of_linking (link.Capacity sort number) = refl
+rules_of_linking (link.Range number piece offset) = refl
+rules_of_linking link.NoMemory = refl
+
+kinds : (k : Kind) → IsExplained (kind_code k)
+unfolding all_codes
+kinds kind.OddWord = refl
+kinds kind.LongAlign = refl
+kinds kind.Opcode = refl
+kinds kind.HoldingFull = refl
+kinds kind.FastTimer2 = refl
+kinds kind.Channel = refl
+kinds kind.NoRegister = refl
+kinds kind.BadWindow = refl
+kinds kind.BadPts = refl
+kinds kind.DivZero = refl
+kinds kind.RomWrite = refl
+kinds kind.OutsideMap = refl
+kinds kind.ByteAccess = refl
+kinds kind.IdleKey = refl
+
+requests : (n : ℕ) → n < 18 → IsExplained (numbered (codes "request") n)
+unfolding all_codes
+requests n few = each_below (λ k. has_row (numbered (codes "request") k)) 18 n refl few
+
+analog : IsExplained (codes "BADANALOG")
+unfolding all_codes
+analog = refl
+
+scripts : IsExplained (codes "BADCOMMAND")
+unfolding all_codes
+scripts = refl
+
+maps : IsExplained (codes "BADMAP")
+unfolding all_codes
+maps = refl
+
+traces : IsExplained (codes "BADTRACE")
+unfolding all_codes
+traces = refl
+
+files : IsExplained (codes "LONG")
+unfolding all_codes
+files = refl
+
+pub faults_are_explained : FaultsAreExplained
+faults_are_explained = record {
+  sources = sources;
+  objects = objects;
+  libraries = libraries;
+  hex = hex_files;
+  stimuli = stimuli;
+  rules = rules_of_linking;
+  analog = analog;
+  scripts = scripts;
+  maps = maps;
+  traces = traces;
+  files = files;
+}
+
+pub uses_are_explained : UsesAreExplained
+uses_are_explained = record { kinds = kinds; requests = requests; statuses = statuses }

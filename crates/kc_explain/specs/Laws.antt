@@ -1,0 +1,30 @@
+-- Each code is one of those that are explained (this kit's own).
+use Rattle.std.specs.Prelude.{◌≡◌, ℕ, ◌<◌, ◌≤◌, true, List, codes}
+use Rattle.kc_base.specs.declared.types.Kind.{Kind}
+use Rattle.kc_stim.specs.declared.fault.StimFault.{StimFault}
+use Rattle.kc_link_place.specs.declared.ranges.LinkFault.{LinkFault}
+use Rattle.kc_kit_files.specs.declared.status.Status.{Status}
+use Rattle.kc_explain.specs.Codes.{all_codes, lettered, numbered, kind_code, status_code, stimulus_code, rule_code}
+use Rattle.kc_explain.specs.Meanings.{is_among}
+
+abbrev pub IsExplained : List ℕ → Type 0
+IsExplained code = is_among code all_codes ≡ true
+
+-- the codes of sources, objects, libraries and hex files, and of what has one code alone
+pub record FaultsAreExplained : Type 0 where
+  pub sources : (n : ℕ) → 1 ≤ n → n ≤ 24 → IsExplained (lettered (codes "E") n)
+  pub objects : (n : ℕ) → 1 ≤ n → n ≤ 6 → IsExplained (lettered (codes "O") n)
+  pub libraries : (n : ℕ) → 1 ≤ n → n ≤ 6 → IsExplained (lettered (codes "B") n)
+  pub hex : (n : ℕ) → 1 ≤ n → n ≤ 6 → IsExplained (lettered (codes "H") n)
+  pub stimuli : (fault : StimFault) → IsExplained (stimulus_code fault)
+  pub rules : (fault : LinkFault) → IsExplained (rule_code fault)
+  pub analog : IsExplained (codes "BADANALOG")
+  pub scripts : IsExplained (codes "BADCOMMAND")
+  pub maps : IsExplained (codes "BADMAP")
+  pub traces : IsExplained (codes "BADTRACE")
+  pub files : IsExplained (codes "LONG")
+
+pub record UsesAreExplained : Type 0 where
+  pub kinds : (kind : Kind) → IsExplained (kind_code kind)
+  pub requests : (n : ℕ) → n < 18 → IsExplained (numbered (codes "request") n)
+  pub statuses : (given : Status) → IsExplained (status_code given)

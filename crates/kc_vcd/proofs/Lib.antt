@@ -1,0 +1,7 @@
+pub mod Words
+pub mod Numbers
+pub mod Pins
+pub mod Spelled
+pub mod Histories
+pub mod Growing
+pub mod Told

@@ -1,0 +1,20 @@
+-- What a dump tells of a run (this kit's own).
+use Rattle.std.specs.Prelude.{◌≡◌, ℕ, ◌*◌, ◌≤◌, Some, List}
+use Rattle.kc_base.specs.Pins.{IsPin, pin_name}
+use Rattle.kc_base.specs.TextLines.{text_lines}
+use Rattle.kc_trace.specs.declared.record.Record.{Record}
+use Rattle.kc_trace.specs.Text.{text_of}
+use Rattle.kc_vcd.specs.History.{IsHistory}
+use Rattle.kc_vcd.specs.Reading.{IsTrace}
+use Rattle.kc_vcd.specs.Levels.{level_at}
+use Rattle.kc_vcd.specs.Dump.{dump_of}
+use Rattle.kc_vcd.specs.Reader.{told}
+
+-- what the board prints is read as the records that were printed
+abbrev pub TracesAreRead : Type 0
+TracesAreRead = (items : List Record) → IsHistory 0 items → IsTrace (text_lines (text_of items)) items
+
+-- in every state the dump tells of every pin the level after all edges up to it
+abbrev pub DumpsTellLevels : Type 0
+DumpsTellLevels = (length : ℕ) (items : List Record) (pin t : ℕ) → 1 ≤ length → length ≤ 2000000000000 → IsHistory 0 items → IsPin pin →
+    told (dump_of length items) (length * t) (pin_name pin) ≡ Some (level_at items pin t)

@@ -1,0 +1,146 @@
+// The fields of a line, as far as they can be those of a record.
+ghost use Rattle.std.specs.Prelude.{◌≡◌, ◌<◌, ◌≤◌, ◌+◌, ◌*◌, ◌^◌, IfSome};
+ghost use Rattle.kc_base.specs.Pins.{IsPin};
+ghost use Rattle.kc_vcd.specs.Candidates.{time_of, byte_number, pin_of, level_of, mode_of, end_of, kind_of, word_of, byte_of, small as below_1000, base_of};
+
+use kc_base::{Kind, Level, PIN_COUNT, Pin, PtsMode, StateTime, decimal};
+
+/// The greatest state time of a run.
+const TIME_LIMIT: u64 = 1_000_000_000_000_000;
+
+/// A state time: decimal digits, 10^15 at most.
+pub(crate) fn time(text: &[u8]) -> Option<StateTime>
+    ensures value { result ≡ time_of text.now }
+    ensures bounded { IfSome result (λ n. n ≤ 10 ^ 15) }
+{
+    decimal(TIME_LIMIT, text)
+}
+
+/// A number of eight bits: decimal digits.
+pub(crate) fn number(text: &[u8]) -> Option<u8>
+    ensures value { result ≡ byte_number text.now }
+    ensures bounded { IfSome result (λ n. n < 256) }
+{
+    match decimal(255, text) {
+        Some(value) => Some(value as u8),
+        None => None,
+    }
+}
+
+/// The pin of a name.
+pub(crate) fn pin(text: &[u8]) -> Option<u8>
+    ensures value { result ≡ pin_of text.now }
+    ensures named { IfSome result IsPin }
+{
+    for number in 0..PIN_COUNT {
+        if Pin(number).name().as_bytes() == text {
+            return Some(number);
+        }
+    }
+    None
+}
+
+pub(crate) fn level(text: &[u8]) -> Level
+    ensures { result ≡ level_of text.now }
+{
+    match text {
+        [b'1', ..] => Level::High,
+        _ => Level::Low,
+    }
+}
+
+pub(crate) fn mode(text: &[u8]) -> PtsMode
+    ensures { result ≡ mode_of text.now }
+{
+    match text {
+        [_, _, b'o'] => PtsMode::Hso,
+        [_, _, _] => PtsMode::Hsi,
+        [_, _, _, _] => PtsMode::Scan,
+        [_, _, _, _, _] => PtsMode::Block,
+        _ => PtsMode::Single,
+    }
+}
+
+pub(crate) fn end(text: &[u8]) -> u8
+    ensures value { result ≡ end_of text.now }
+    ensures known { result < 4 }
+{
+    match text {
+        [b's', ..] => 0,
+        [b'p', ..] => 1,
+        [b'r', ..] => 2,
+        _ => 3,
+    }
+}
+
+pub(crate) fn kind(number: u8) -> Kind
+    ensures { result ≡ kind_of number }
+{
+    match number {
+        1 => Kind::OddWord,
+        2 => Kind::LongAlign,
+        3 => Kind::Opcode,
+        4 => Kind::HoldingFull,
+        5 => Kind::FastTimer2,
+        6 => Kind::Channel,
+        7 => Kind::NoRegister,
+        8 => Kind::BadWindow,
+        9 => Kind::BadPts,
+        10 => Kind::DivZero,
+        11 => Kind::RomWrite,
+        12 => Kind::OutsideMap,
+        13 => Kind::ByteAccess,
+        _ => Kind::IdleKey,
+    }
+}
+
+fn join(high: u8, low: u8) -> u16
+    ensures { result ≡ 256 * high + low }
+{
+    256 * u16::from(high) + u16::from(low)
+}
+
+/// A number of sixteen bits: four hex digits.
+pub(crate) fn word(text: &[u8]) -> Option<u16>
+    ensures value { result ≡ word_of text.now }
+    ensures bounded { IfSome result (λ n. n < 65536) }
+{
+    let mut bytes = [0u8; 2];
+    match hex::decode_to_slice(text, &mut bytes) {
+        Ok(()) => Some(join(bytes[0], bytes[1])),
+        Err(_) => None,
+    }
+}
+
+/// A number of eight bits: two hex digits.
+pub(crate) fn byte(text: &[u8]) -> Option<u8>
+    ensures { result ≡ byte_of text.now }
+{
+    let mut bytes = [0u8; 1];
+    match hex::decode_to_slice(text, &mut bytes) {
+        Ok(()) => Some(bytes[0]),
+        Err(_) => None,
+    }
+}
+
+// What has three hex digits.
+fn small(value: Option<u16>) -> Option<u16>
+    ensures value { result ≡ below_1000 value }
+    ensures bounded { IfSome result (λ n. n < 0x1000) }
+{
+    match value {
+        Some(value) if value < 0x1000 => Some(value),
+        _ => None,
+    }
+}
+
+/// An address of a register: three hex digits.
+pub(crate) fn base(text: &[u8]) -> Option<u16>
+    ensures value { result ≡ base_of text.now }
+    ensures bounded { IfSome result (λ n. n < 0x1000) }
+{
+    match text {
+        [a, b, c] => small(word(&[b'0', *a, *b, *c])),
+        _ => None,
+    }
+}

@@ -1,0 +1,11 @@
+ghost use Rattle.kc_vcd.specs.Laws.{DumpsTellLevels, TracesAreRead};
+
+/// The text of records that a run may have, in the order of time, is read as these records.
+pub fn traces_are_read()
+    ensures { TracesAreRead }
+{}
+
+/// In every state a dump tells of every pin the level after all edges of the trace up to it, or the one at the start.
+pub fn dumps_tell_levels()
+    ensures { DumpsTellLevels }
+{}
