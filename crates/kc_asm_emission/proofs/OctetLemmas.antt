@@ -23,6 +23,7 @@ use Rattle.kc_isa.specs.Table.{plain_entry}
 use Rattle.kc_isa.specs.Layout.{layout_of}
 use Rattle.kc_isa.specs.Formed.{is_byte}
 use Rattle.kc_code.specs.Spelling.{prefix}
+use Rattle.kc_lex.specs.Instructions.{least}
 use Rattle.kc_asm_bytes.specs.declared.octet.Octet.{Octet}
 use Rattle.kc_asm_bytes.specs.declared.octet.Octet.TheVariants as octets
 use Rattle.kc_asm_operation.specs.declared.argument.Argument.{Argument}
@@ -35,7 +36,7 @@ use Rattle.kc_asm_operation.specs.declared.word.Word.{Word}
 use Rattle.kc_asm_operation.specs.declared.word.Word.TheVariants.{Absent, Register, Immediate, Indirect, Increment, Short, Long, Count, Jump}
 use Rattle.kc_asm_operation.specs.declared.word.Worded.{Worded}
 use Rattle.kc_asm_operation.specs.Values.{fixed as plain, or_zero, moved, is_direct, is_short, argument, value_of}
-use Rattle.kc_asm_operation.specs.Opcodes.{least, low_bits, wanted_bits}
+use Rattle.kc_asm_operation.specs.Opcodes.{low_bits, wanted_bits}
 use Rattle.kc_asm_operation.specs.Sources.{plain_source, indexed_source, source}
 use Rattle.kc_asm_operation.specs.Branches.{Line, line, branch_kind, branch_lines, in_full}
 use Rattle.kc_asm_operation.specs.Instructions.{operand_for, regs_for, laid, instructions}

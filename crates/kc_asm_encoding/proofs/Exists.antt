@@ -10,15 +10,17 @@ use Rattle.kc_isa.specs.declared.table.Shape.{Shape}
 use Rattle.kc_isa.specs.declared.table.Shape.TheVariants.{Nothing, One, Two, Four, FourOne, FourTwo, Exchange, CountOne, Near, Conditional, BitTest, Loop, TableJump, Far, Key}
 use Rattle.kc_isa.specs.Names.{Shown, row_at}
 use Rattle.kc_lex.specs.Words.{is_one_of}
+use Rattle.kc_lex.proofs.IndexLemmas.{least-passes}
+use Rattle.kc_lex.specs.Instructions.{least}
 use Rattle.kc_asm_operation.specs.declared.argument.Argument.{Argument}
 use Rattle.kc_asm_operation.specs.declared.argument.Argument.TheVariants.{Plain, Immediate, Indirect, Increment, Indexed}
 use Rattle.kc_asm_operation.specs.declared.word.Worded.{Worded}
 use Rattle.kc_asm_operation.specs.Values.{is_fixed, is_direct, value_of, bit_of}
 use Rattle.kc_asm_operation.specs.Sources.{mode}
 use Rattle.kc_asm_operation.specs.Takes.{is_plain, is_immediate, is_indexed}
-use Rattle.kc_asm_operation.specs.Opcodes.{operand_count, low_bits, wanted_bits, is_row_for, is_opcode_for, least, opcode_of}
+use Rattle.kc_asm_operation.specs.Opcodes.{operand_count, low_bits, wanted_bits, is_row_for, is_opcode_for, opcode_of}
 use Rattle.kc_asm_operation.specs.Instructions.{laid, instruction_at, signed_instruction, instruction}
-use Rattle.kc_asm_encoding.proofs.Search.{least-passes, opcode-passes, opcode-finds}
+use Rattle.kc_asm_encoding.proofs.Search.{opcode-passes, opcode-finds}
 use Rattle.kc_asm_encoding.proofs.Found.{both, same-number, test-number}
 use Rattle.kc_asm_encoding.proofs.Rows.{shape_number, is_row, matches, has_row, has_rows}
 
@@ -136,7 +138,7 @@ from_signed word args j None e f =
     (r.0, behind_plain word args e ∙ (signed_is word args j f ∙ r.1))
 from_signed word args j (Some k) e f = from_plain word args k e
 
-either : (a b : Bool) → (a || b) ≡ true → (P : Type 0) → (a ≡ true → P) → (b ≡ true → P) → P
+pub either : (a b : Bool) → (a || b) ≡ true → (P : Type 0) → (a ≡ true → P) → (b ≡ true → P) → P
 either true b h P f g = f refl
 either false b h P f g = g h
 

@@ -9,6 +9,7 @@ use Rattle.kc_isa.specs.Names.{Shown, row_at}
 use Rattle.kc_isa.specs.Layout.{layout_of}
 use Rattle.kc_isa.specs.Formed.{is_byte}
 use Rattle.kc_code.specs.Spelling.{prefix}
+use Rattle.kc_lex.specs.Instructions.{least}
 use Rattle.kc_asm_bytes.specs.declared.octet.Octet.{Octet}
 use Rattle.kc_asm_bytes.specs.declared.octet.Octet.TheVariants.{Plain}
 use Rattle.kc_asm_operation.specs.declared.argument.Argument.{Argument}
@@ -21,7 +22,6 @@ use Rattle.kc_asm_operation.specs.declared.word.Word.{Word}
 use Rattle.kc_asm_operation.specs.declared.word.Word.TheVariants as words
 use Rattle.kc_asm_operation.specs.declared.word.Worded.{Worded}
 use Rattle.kc_asm_operation.specs.Values.{argument}
-use Rattle.kc_asm_operation.specs.Opcodes.{least}
 use Rattle.kc_asm_operation.specs.Branches.{Line, line, tested, over, branch_kind, branch_lines, jump_of, inverse_of, in_full}
 use Rattle.kc_asm_operation.specs.Instructions.{instruction, listed, all_lines, instructions}
 use Rattle.kc_asm_encoding.specs.Octets.{opcode_octet, laid_octets, row_octets, worded_octets, all_octets}

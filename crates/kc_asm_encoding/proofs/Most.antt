@@ -15,6 +15,7 @@ use Rattle.kc_isa.specs.Table.{plain_entry}
 use Rattle.kc_isa.specs.Layout.{layout_of}
 use Rattle.kc_isa.specs.Formed.{is_byte}
 use Rattle.kc_code.specs.Spelling.{prefix}
+use Rattle.kc_lex.specs.Instructions.{least}
 use Rattle.kc_obj_relocation.specs.Numbers.{number, reach, first_part}
 use Rattle.kc_asm_bytes.specs.declared.octet.Octet.{Octet}
 use Rattle.kc_asm_bytes.specs.declared.octet.Octet.TheVariants.{Plain, First}
@@ -30,7 +31,6 @@ use Rattle.kc_asm_operation.specs.declared.word.Word.{Word}
 use Rattle.kc_asm_operation.specs.declared.word.Word.TheVariants.{Absent, Register, Immediate, Indirect, Increment, Short, Long, Count, Jump}
 use Rattle.kc_asm_operation.specs.declared.word.Worded.{Worded}
 use Rattle.kc_asm_operation.specs.Values.{moved}
-use Rattle.kc_asm_operation.specs.Opcodes.{least}
 use Rattle.kc_asm_operation.specs.Branches.{branch_kind}
 use Rattle.kc_asm_operation.specs.Instructions.{instruction, instructions}
 use Rattle.kc_asm_encoding.specs.Octets.{byte_of, word_of, immediate_octets, jump_octets, operand_octets, opcode_octet, row_octets, worded_octets, all_octets}

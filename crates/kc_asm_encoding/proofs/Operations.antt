@@ -4,10 +4,14 @@ use Rattle.std.specs.Prelude.{◌&&◌, ◌||◌, not, if◌then◌else◌, code
 use Rattle.std.specs.Str.{bytes_eq}
 use Rattle.std.proofs.lemmas.Slice.Eq.{bytes_eq-Decides}
 use Rattle.kc_expr.specs.declared.values.Value.{Value}
+use Rattle.kc_isa.specs.declared.table.Shape.{Shape}
 use Rattle.kc_isa.specs.declared.table.Shape.TheVariants as shapes
+use Rattle.kc_isa.specs.Names.{row_at}
+use Rattle.kc_isa.specs.Table.{plain_entry}
 use Rattle.kc_lex.specs.declared.words.Operands.{Operands}
 use Rattle.kc_lex.specs.declared.words.Operands.TheVariants as operands
-use Rattle.kc_lex.specs.Words.{is_one_of, takes_nothing, takes_register, is_jump, is_conditional, takes_source, loads, takes_two_or_three, shifts, takes_pair, operands_of, is_generic_conditional, generic_operands_of}
+use Rattle.kc_lex.specs.Instructions.{least, first_opcode, operands_of}
+use Rattle.kc_lex.specs.Words.{is_one_of, is_generic_conditional, generic_operands_of}
 use Rattle.kc_asm_operation.specs.declared.argument.Argument.{Argument}
 use Rattle.kc_asm_operation.specs.declared.argument.Argument.TheVariants.{Plain}
 use Rattle.kc_branch.specs.declared.piece.Form.{Form}
@@ -17,14 +21,14 @@ use Rattle.kc_branch.specs.declared.piece.BranchKind.TheVariants.{Jump, Call, Co
 use Rattle.kc_asm_operation.specs.declared.word.Worded.{Worded}
 use Rattle.kc_asm_operation.specs.Values.{argument}
 use Rattle.kc_asm_operation.specs.Takes.{is_plain, is_immediate, is_indexed, takes, operands_for, is_operation}
-use Rattle.kc_asm_operation.specs.Opcodes.{source_of}
+use Rattle.kc_asm_operation.specs.Opcodes.{operand_count, source_of, wanted_bits}
 use Rattle.kc_asm_operation.specs.Branches.{Line, line, tested, over, plain_branch, branch_kind, branch_lines, jump_of, inverse_of, in_full}
 use Rattle.kc_asm_operation.specs.Instructions.{instruction, listed, all_lines, instructions}
 use Rattle.kc_asm_encoding.specs.Suits.{AreInstructions}
 use Rattle.kc_asm_encoding.proofs.Found.{both, instruction_found}
 use Rattle.kc_asm_encoding.proofs.Rows
-use Rattle.kc_asm_encoding.proofs.Rows.{has_rows, has_one_shape, is_branch_row}
-use Rattle.kc_asm_encoding.proofs.Exists.{IsFound, one_of, found_among, mode_among, place_among, exchange_among, bit_among}
+use Rattle.kc_asm_encoding.proofs.Rows.{has_rows, has_one_shape, is_branch_row, Zero, Modes, Places, Bits, rows_for, operand_rows}
+use Rattle.kc_asm_encoding.proofs.Exists.{IsFound, either, is_among, one_of, found_among, mode_among, place_among, exchange_among, bit_among}
 
 -- ---- how many operands a form takes
 
@@ -87,76 +91,49 @@ exchange_takes (a ∷ b ∷ []) h = (both _ _ h).1
 exchange_takes (a ∷ b ∷ c ∷ []) h = absurd (cc h)
 exchange_takes (a ∷ b ∷ c ∷ d ∷ rest) h = absurd (cc h)
 
--- ---- each group of words
+-- ---- each form of operands
 
-abbrev Modes : List ℕ
-Modes = 0 ∷ 1 ∷ 2 ∷ 3 ∷ []
-
-two_or_three : (w : List ℕ) (args : List Argument) → takes_two_or_three w ≡ true → (2 ≡ length args) ⊎ (3 ≡ length args) → IsFound w args
-two_or_three w args t (inl h) = found_among w args shapes.FourOne Modes (one_of (has_rows shapes.FourOne Modes) Rows.two_words w Rows.two_rows t) h (mode_among (source_of shapes.FourOne args))
-two_or_three w args t (inr h) = found_among w args shapes.FourTwo Modes (one_of (has_rows shapes.FourTwo Modes) Rows.three_words w Rows.three_rows t) h (mode_among (source_of shapes.FourTwo args))
-
--- a group whose rows have no low bits
-abbrev Zero : List ℕ
-Zero = 0 ∷ []
+two_or_three : (w : List ℕ) (args : List Argument) → has_rows shapes.FourOne Modes w ≡ true → has_rows shapes.FourTwo Modes w ≡ true → (2 ≡ length args) ⊎ (3 ≡ length args) → IsFound w args
+two_or_three w args two three (inl h) = found_among w args shapes.FourOne Modes two h (mode_among (source_of shapes.FourOne args))
+two_or_three w args two three (inr h) = found_among w args shapes.FourTwo Modes three h (mode_among (source_of shapes.FourTwo args))
 
 pub single : (w v : List ℕ) → bytes_eq w v ≡ true → is_one_of (v ∷ []) w ≡ true
 single w v h = rw h refl
 
--- NORML, CMPL, BMOV and BMOVI have two registers, DJNZ and DJNZW a register and a target
-pair_words : (w : List ℕ) → takes_pair w ≡ true → (is_one_of Rows.pair_words w ≡ true) ⊎ (is_one_of Rows.loop_words w ≡ true)
-pair_words w h = six (bytes_eq w (codes "NORML")) (bytes_eq w (codes "CMPL")) (bytes_eq w (codes "BMOV")) (bytes_eq w (codes "BMOVI")) (bytes_eq w (codes "DJNZ")) (bytes_eq w (codes "DJNZW")) h
-  where
-    six : (a b c d e f : Bool) → (a || (b || (c || (d || (e || (f || false)))))) ≡ true → ((a || (b || (c || (d || false)))) ≡ true) ⊎ ((e || (f || false)) ≡ true)
-    six true b c d e f h = inl refl
-    six false true c d e f h = inl refl
-    six false false true d e f h = inl refl
-    six false false false true e f h = inl refl
-    six false false false false e f h = inr h
+-- a shape whose rows have no low bits
+alike : (shape : Shape) (w : List ℕ) (args : List Argument) → has_rows shape Zero w ≡ true → operand_count shape ≡ length args → wanted_bits shape args ≡ 0 → IsFound w args
+alike shape w args r n z = found_among w args shape Zero r n (subst (λ (low : ℕ). is_among Zero low ≡ true) (sym z) refl)
 
-jump_words : (w : List ℕ) → is_jump w ≡ true → (is_one_of Rows.near_words w ≡ true) ⊎ (is_one_of Rows.far_words w ≡ true)
-jump_words w h = four (bytes_eq w (codes "SJMP")) (bytes_eq w (codes "SCALL")) (bytes_eq w (codes "LJMP")) (bytes_eq w (codes "LCALL")) h
-  where
-    four : (a b c d : Bool) → (a || (b || (c || (d || false)))) ≡ true → ((a || (b || false)) ≡ true) ⊎ ((c || (d || false)) ≡ true)
-    four true b c d h = inl refl
-    four false true c d h = inl refl
-    four false false c d h = inr h
+one_found : (w : List ℕ) (args : List Argument) → rows_for w operands.One ≡ true → 1 ≡ length args → IsFound w args
+one_found w args r n =
+    let one : Bool = has_rows shapes.One Zero w in
+    let near : Bool = has_rows shapes.Near Zero w in
+    let far : Bool = has_rows shapes.Far Zero w in
+    let conditional : Bool = has_rows shapes.Conditional Zero w in
+    either one (near || (far || conditional)) r (IsFound w args) (λ a. alike shapes.One w args a n refl)
+    (λ r1. either near (far || conditional) r1 (IsFound w args) (λ a. alike shapes.Near w args a n refl)
+    (λ r2. either far conditional r2 (IsFound w args) (λ a. alike shapes.Far w args a n refl) (λ a. alike shapes.Conditional w args a n refl)))
 
-jump_found : (w : List ℕ) (args : List Argument) → (is_one_of Rows.near_words w ≡ true) ⊎ (is_one_of Rows.far_words w ≡ true) → 1 ≡ length args → IsFound w args
-jump_found w args (inl t) h = found_among w args shapes.Near Zero (one_of (has_rows shapes.Near Zero) Rows.near_words w Rows.near_rows t) h refl
-jump_found w args (inr t) h = found_among w args shapes.Far Zero (one_of (has_rows shapes.Far Zero) Rows.far_words w Rows.far_rows t) h refl
-
-pair_found : (w : List ℕ) (args : List Argument) → (is_one_of Rows.pair_words w ≡ true) ⊎ (is_one_of Rows.loop_words w ≡ true) → 2 ≡ length args → IsFound w args
-pair_found w args (inl t) h = found_among w args shapes.Two Zero (one_of (has_rows shapes.Two Zero) Rows.pair_words w Rows.pair_rows t) h refl
-pair_found w args (inr t) h = found_among w args shapes.Loop Zero (one_of (has_rows shapes.Loop Zero) Rows.loop_words w Rows.loop_rows t) h refl
-
-pub choose : (t : Bool) (o : Operands) (rest : Option Operands) (form : Operands) (P : Type 0) → (if t then Some o else rest) ≡ Some form → (t ≡ true → o ≡ form → P) → (rest ≡ Some form → P) → P
-choose true o rest form P h f g = f refl (cc h)
-choose false o rest form P h f g = g h
+by_rows : (w : List ℕ) (args : List Argument) (form : Operands) → rows_for w form ≡ true → takes form args ≡ true → IsFound w args
+by_rows w args operands.Nothing r t = alike shapes.Nothing w args r (takes_count operands.Nothing args t) refl
+by_rows w args operands.One r t = one_found w args r (takes_count operands.One args t)
+by_rows w args operands.Source r t = found_among w args shapes.Four Modes r (takes_count operands.Source args t) (mode_among (source_of shapes.Four args))
+by_rows w args operands.Place r t = found_among w args shapes.Four Places r (takes_count operands.Place args t) (place_among (argument args 0) (place_takes args t))
+by_rows w args operands.Two r t = found_among w args shapes.FourOne Modes r (takes_count operands.Two args t) (mode_among (source_of shapes.FourOne args))
+by_rows w args operands.TwoOrThree r t = two_or_three w args (both (has_rows shapes.FourOne Modes w) (has_rows shapes.FourTwo Modes w) r).0 (both (has_rows shapes.FourOne Modes w) (has_rows shapes.FourTwo Modes w) r).1 (takes_count operands.TwoOrThree args t)
+by_rows w args operands.Store r t = found_among w args shapes.FourOne Places r (takes_count operands.Store args t) (place_among (argument args 1) (store_takes args t))
+by_rows w args operands.Exchange r t = found_among w args shapes.Exchange (0 ∷ 3 ∷ []) r (takes_count operands.Exchange args t) (exchange_among (argument args 1) (exchange_takes args t))
+by_rows w args operands.Shift r t = alike shapes.CountOne w args r (takes_count operands.Shift args t) refl
+by_rows w args operands.Pair r t =
+    let n : 2 ≡ length args = takes_count operands.Pair args t in
+    either (has_rows shapes.Two Zero w) (has_rows shapes.Loop Zero w) r (IsFound w args) (λ a. alike shapes.Two w args a n refl) (λ a. alike shapes.Loop w args a n refl)
+by_rows w args operands.Triple r t = found_among w args shapes.BitTest Bits r (takes_count operands.Triple args t) (bit_among (argument args 1))
+by_rows w args operands.Branch r t = alike shapes.One w args r (takes_count operands.Branch args t) refl
+by_rows w args operands.Table r t = alike shapes.TableJump w args r (takes_count operands.Table args t) refl
+by_rows w args operands.Key r t = alike shapes.Key w args r (takes_count operands.Key args t) refl
 
 plain_forms : (w : List ℕ) (args : List Argument) (form : Operands) → operands_of w ≡ Some form → takes form args ≡ true → IsFound w args
-unfolding operands_of
-plain_forms w args form e h =
-    let P : Type 0 = IsFound w args in
-    let count : (o : Operands) → o ≡ form → IsCount o (length args) = λ o f. takes_count o args (subst (λ (x : Operands). takes x args ≡ true) (sym f) h) in
-    choose (takes_nothing w) operands.Nothing _ form P e (λ t f. found_among w args shapes.Nothing Zero (one_of (has_rows shapes.Nothing Zero) Rows.nothing_words w Rows.nothing_rows t) (count operands.Nothing f) refl)
-    (λ e1. choose (takes_register w) operands.One _ form P e1 (λ t f. found_among w args shapes.One Zero (one_of (has_rows shapes.One Zero) Rows.register_words w Rows.register_rows t) (count operands.One f) refl)
-    (λ e2. choose (is_jump w) operands.One _ form P e2 (λ t f. jump_found w args (jump_words w t) (count operands.One f))
-    (λ e3. choose (is_conditional w) operands.One _ form P e3 (λ t f. found_among w args shapes.Conditional Zero (one_of (has_rows shapes.Conditional Zero) Rows.conditional_words w Rows.conditional_rows t) (count operands.One f) refl)
-    (λ e4. choose (bytes_eq w (codes "PUSH")) operands.Source _ form P e4 (λ t f. found_among w args shapes.Four Modes (one_of (has_rows shapes.Four Modes) Rows.push_words w Rows.push_rows (single w (codes "PUSH") t)) (count operands.Source f) (mode_among (source_of shapes.Four args)))
-    (λ e5. choose (bytes_eq w (codes "POP")) operands.Place _ form P e5 (λ t f. found_among w args shapes.Four (0 ∷ 2 ∷ 3 ∷ []) (one_of (has_rows shapes.Four (0 ∷ 2 ∷ 3 ∷ [])) Rows.pop_words w Rows.pop_rows (single w (codes "POP") t)) (count operands.Place f) (place_among (argument args 0) (place_takes args (subst (λ (x : Operands). takes x args ≡ true) (sym f) h))))
-    (λ e6. choose (takes_source w) operands.Two _ form P e6 (λ t f. found_among w args shapes.FourOne Modes (one_of (has_rows shapes.FourOne Modes) Rows.source_words w Rows.source_rows t) (count operands.Two f) (mode_among (source_of shapes.FourOne args)))
-    (λ e7. choose (loads w) operands.Two _ form P e7 (λ t f. found_among w args shapes.FourOne Modes (one_of (has_rows shapes.FourOne Modes) Rows.load_words w Rows.load_rows t) (count operands.Two f) (mode_among (source_of shapes.FourOne args)))
-    (λ e8. choose (takes_two_or_three w) operands.TwoOrThree _ form P e8 (λ t f. two_or_three w args t (count operands.TwoOrThree f))
-    (λ e9. choose (is_one_of Rows.store_words w) operands.Store _ form P e9 (λ t f. found_among w args shapes.FourOne (0 ∷ 2 ∷ 3 ∷ []) (one_of (has_rows shapes.FourOne (0 ∷ 2 ∷ 3 ∷ [])) Rows.store_words w Rows.store_rows t) (count operands.Store f) (place_among (argument args 1) (store_takes args (subst (λ (x : Operands). takes x args ≡ true) (sym f) h))))
-    (λ e10. choose (is_one_of Rows.exchange_words w) operands.Exchange _ form P e10 (λ t f. found_among w args shapes.Exchange (0 ∷ 3 ∷ []) (one_of (has_rows shapes.Exchange (0 ∷ 3 ∷ [])) Rows.exchange_words w Rows.exchange_rows t) (count operands.Exchange f) (exchange_among (argument args 1) (exchange_takes args (subst (λ (x : Operands). takes x args ≡ true) (sym f) h))))
-    (λ e11. choose (shifts w) operands.Shift _ form P e11 (λ t f. found_among w args shapes.CountOne Zero (one_of (has_rows shapes.CountOne Zero) Rows.shift_words w Rows.shift_rows t) (count operands.Shift f) refl)
-    (λ e12. choose (takes_pair w) operands.Pair _ form P e12 (λ t f. pair_found w args (pair_words w t) (count operands.Pair f))
-    (λ e13. choose (is_one_of Rows.bit_test_words w) operands.Triple _ form P e13 (λ t f. found_among w args shapes.BitTest (0 ∷ 1 ∷ 2 ∷ 3 ∷ 4 ∷ 5 ∷ 6 ∷ 7 ∷ []) (one_of (has_rows shapes.BitTest (0 ∷ 1 ∷ 2 ∷ 3 ∷ 4 ∷ 5 ∷ 6 ∷ 7 ∷ [])) Rows.bit_test_words w Rows.bit_test_rows t) (count operands.Triple f) (bit_among (argument args 1)))
-    (λ e14. choose (bytes_eq w (codes "BR")) operands.Branch _ form P e14 (λ t f. found_among w args shapes.One Zero (one_of (has_rows shapes.One Zero) Rows.branch_words w Rows.branch_rows (single w (codes "BR") t)) (count operands.Branch f) refl)
-    (λ e15. choose (bytes_eq w (codes "TIJMP")) operands.Table _ form P e15 (λ t f. found_among w args shapes.TableJump Zero (one_of (has_rows shapes.TableJump Zero) Rows.table_words w Rows.table_rows (single w (codes "TIJMP") t)) (count operands.Table f) refl)
-    (λ e16. choose (bytes_eq w (codes "IDLPD")) operands.Key None form P e16 (λ t f. found_among w args shapes.Key Zero (one_of (has_rows shapes.Key Zero) Rows.key_words w Rows.key_rows (single w (codes "IDLPD") t)) (count operands.Key f) refl)
-    (λ e17. absurd (cc e17))))))))))))))))))
+plain_forms w args form e h = by_rows w args form (operand_rows w form e) h
 
 -- ---- generic branches
 
@@ -187,10 +164,10 @@ AllFound [] = Unit {0}
 AllFound (l ∷ ls) = IsFound l.word l.args × AllFound ls
 
 pub near_found : (w : List ℕ) (x : Argument) → is_one_of Rows.near_words w ≡ true → IsFound w (x ∷ [])
-near_found w x t = jump_found w (x ∷ []) (inl t) refl
+near_found w x t = alike shapes.Near w (x ∷ []) (one_of (has_rows shapes.Near Zero) Rows.near_words w Rows.near_rows t) refl refl
 
 pub far_found : (w : List ℕ) (x : Argument) → is_one_of Rows.far_words w ≡ true → IsFound w (x ∷ [])
-far_found w x t = jump_found w (x ∷ []) (inr t) refl
+far_found w x t = alike shapes.Far w (x ∷ []) (one_of (has_rows shapes.Far Zero) Rows.far_words w Rows.far_rows t) refl refl
 
 pub branch_rows : (w : List ℕ) → is_generic_conditional w ≡ true → is_branch_row shapes.Conditional Zero w ≡ true
 branch_rows w h = one_of (is_branch_row shapes.Conditional Zero) Rows.generic_words w Rows.generic_rows h
@@ -233,7 +210,7 @@ none_generic w args h e = four (bytes_eq w (codes "BR")) (bytes_eq w (codes "CAL
     four false false false false h e = refl
 
 branch_takes : operands_of (codes "BR") ≡ Some operands.Branch
-unfolding operands_of
+unfolding operands_of first_opcode least row_at plain_entry
 branch_takes = refl
 
 no_operands : (w : List ℕ) (args : List Argument) (t : Bool) → bytes_eq w (codes "BR") ≡ t → operands_of w ≡ None → branch_kind w args ≡ None → generic_operands_of w ≡ None

@@ -11,7 +11,7 @@ use Rattle.kc_isa.specs.declared.table.Shape.{Shape}
 use Rattle.kc_isa.specs.declared.table.Shape.TheVariants as shapes
 use Rattle.kc_lex.specs.declared.words.Operands.{Operands}
 use Rattle.kc_lex.specs.declared.words.Operands.TheVariants as operands
-use Rattle.kc_lex.specs.Words.{is_one_of, takes_nothing, takes_register, is_jump, is_conditional, takes_source, loads, takes_two_or_three, shifts, takes_pair, operands_of, is_generic_conditional, generic_operands_of}
+use Rattle.kc_lex.specs.Words.{is_one_of, operands_of, is_generic_conditional, generic_operands_of}
 use Rattle.kc_obj_relocation.specs.Numbers.{Bases}
 use Rattle.kc_asm_bytes.specs.Filling.{base_address, address}
 use Rattle.kc_asm_operation.specs.declared.argument.Argument.{Argument}
@@ -31,9 +31,9 @@ use Rattle.kc_asm_operation.specs.Faults.{pointer_fault, source_fault, operands_
 use Rattle.kc_asm_encoding.specs.Suits.{IsEven, EachOf}
 use Rattle.kc_asm_encoding.proofs.Found.{IsLaid, laid_count, both}
 use Rattle.kc_asm_encoding.proofs.Rows
-use Rattle.kc_asm_encoding.proofs.Rows.{has_one_shape}
+use Rattle.kc_asm_encoding.proofs.Rows.{has_one_shape, branch_is_br}
 use Rattle.kc_asm_encoding.proofs.Exists.{one_of}
-use Rattle.kc_asm_encoding.proofs.Operations.{choose, single, IsWordOf, branch_word}
+use Rattle.kc_asm_encoding.proofs.Operations.{single, IsWordOf, branch_word}
 use Rattle.kc_asm_encoding.proofs.Lengths.{shape_of, sjmp, scall, ljmp, lcall, jump_shape, inverse_shape, test_shape, inverse_test_shape}
 use Rattle.kc_asm_encoding.proofs.Evens.{EachLine, each_line}
 
@@ -159,26 +159,7 @@ last_fault form (a ∷ b ∷ c ∷ d ∷ rest) h f n = absurd (cc h)
 
 -- BR alone takes a pointer that is no S
 not_branch : (w : List ℕ) → bytes_eq w (codes "BR") ≡ false → operands_of w ≡ Some operands.Branch → ⊥
-unfolding operands_of
-not_branch w t e =
-    choose (takes_nothing w) operands.Nothing _ operands.Branch ⊥ e (λ u f. absurd (cc f))
-    (λ e1. choose (takes_register w) operands.One _ operands.Branch ⊥ e1 (λ u f. absurd (cc f))
-    (λ e2. choose (is_jump w) operands.One _ operands.Branch ⊥ e2 (λ u f. absurd (cc f))
-    (λ e3. choose (is_conditional w) operands.One _ operands.Branch ⊥ e3 (λ u f. absurd (cc f))
-    (λ e4. choose (bytes_eq w (codes "PUSH")) operands.Source _ operands.Branch ⊥ e4 (λ u f. absurd (cc f))
-    (λ e5. choose (bytes_eq w (codes "POP")) operands.Place _ operands.Branch ⊥ e5 (λ u f. absurd (cc f))
-    (λ e6. choose (takes_source w) operands.Two _ operands.Branch ⊥ e6 (λ u f. absurd (cc f))
-    (λ e7. choose (loads w) operands.Two _ operands.Branch ⊥ e7 (λ u f. absurd (cc f))
-    (λ e8. choose (takes_two_or_three w) operands.TwoOrThree _ operands.Branch ⊥ e8 (λ u f. absurd (cc f))
-    (λ e9. choose (is_one_of Rows.store_words w) operands.Store _ operands.Branch ⊥ e9 (λ u f. absurd (cc f))
-    (λ e10. choose (is_one_of Rows.exchange_words w) operands.Exchange _ operands.Branch ⊥ e10 (λ u f. absurd (cc f))
-    (λ e11. choose (shifts w) operands.Shift _ operands.Branch ⊥ e11 (λ u f. absurd (cc f))
-    (λ e12. choose (takes_pair w) operands.Pair _ operands.Branch ⊥ e12 (λ u f. absurd (cc f))
-    (λ e13. choose (is_one_of Rows.bit_test_words w) operands.Triple _ operands.Branch ⊥ e13 (λ u f. absurd (cc f))
-    (λ e14. choose (bytes_eq w (codes "BR")) operands.Branch _ operands.Branch ⊥ e14 (λ u f. absurd (cc (t, u)))
-    (λ e15. choose (bytes_eq w (codes "TIJMP")) operands.Table _ operands.Branch ⊥ e15 (λ u f. absurd (cc f))
-    (λ e16. choose (bytes_eq w (codes "IDLPD")) operands.Key None operands.Branch ⊥ e16 (λ u f. absurd (cc f))
-    (λ e17. absurd (cc e17))))))))))))))))))
+not_branch w t e = cc (t, branch_is_br w e)
 
 not_generic : (w : List ℕ) → generic_operands_of w ≡ Some operands.Branch → ⊥
 unfolding generic_operands_of

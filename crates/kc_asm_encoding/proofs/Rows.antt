@@ -7,8 +7,12 @@ use Rattle.kc_isa.specs.declared.table.Shape.{Shape}
 use Rattle.kc_isa.specs.declared.table.Shape.TheVariants.{Nothing, One, Two, Four, FourOne, FourTwo, Exchange, CountOne, Near, Conditional, BitTest, Loop, TableJump, Far, Key}
 use Rattle.kc_isa.specs.Names.{Shown, row_at}
 use Rattle.kc_isa.specs.Table.{plain_entry}
+use Rattle.kc_lex.specs.declared.words.Operands.{Operands}
+use Rattle.kc_lex.specs.declared.words.Operands.TheVariants as operands
+use Rattle.kc_lex.specs.Instructions.{least, operands_of}
+use Rattle.kc_lex.proofs.IndexLemmas.{each_form}
 use Rattle.kc_asm_operation.specs.Branches.{jump_of, inverse_of}
-use Rattle.kc_asm_operation.specs.Opcodes.{low_bits, least}
+use Rattle.kc_asm_operation.specs.Opcodes.{low_bits}
 
 abbrev pub shape_number : Shape → ℕ
 shape_number Nothing = 0
@@ -53,161 +57,77 @@ is_signed word opcode = elim (row_at opcode true) [ None ↦ false | Some row �
 unfoldable pub has_one_shape : Shape → List ℕ → Bool
 has_one_shape shape word = not (is_some (least (differs word shape) 256 0)) && not (is_some (least (is_signed word) 256 0))
 
-abbrev pub nothing_words : List (List ℕ)
-nothing_words = codes "DPTS" ∷ codes "EPTS" ∷ codes "RET" ∷ codes "PUSHF" ∷ codes "POPF" ∷ codes "PUSHA" ∷ codes "POPA" ∷ codes "TRAP" ∷ codes "CLRC" ∷ codes "SETC" ∷ codes "DI" ∷ codes "EI" ∷ codes "CLRVT" ∷ codes "NOP" ∷ codes "RST" ∷ []
+-- ---- the rows of instructions, by the operands that they take
 
-pub nothing_rows : list_all (has_rows Nothing (0 ∷ [])) nothing_words ≡ true
+abbrev pub Zero : List ℕ
+Zero = 0 ∷ []
+
+-- the modes of S, and those of a place, which is no number
+abbrev pub Modes : List ℕ
+Modes = 0 ∷ 1 ∷ 2 ∷ 3 ∷ []
+
+abbrev pub Places : List ℕ
+Places = 0 ∷ 2 ∷ 3 ∷ []
+
+abbrev pub Bits : List ℕ
+Bits = 0 ∷ 1 ∷ 2 ∷ 3 ∷ 4 ∷ 5 ∷ 6 ∷ 7 ∷ []
+
+abbrev pub rows_for : List ℕ → Operands → Bool
+rows_for word operands.Nothing = has_rows Nothing Zero word
+rows_for word operands.One = has_rows One Zero word || (has_rows Near Zero word || (has_rows Far Zero word || has_rows Conditional Zero word))
+rows_for word operands.Source = has_rows Four Modes word
+rows_for word operands.Place = has_rows Four Places word
+rows_for word operands.Two = has_rows FourOne Modes word
+rows_for word operands.TwoOrThree = has_rows FourOne Modes word && has_rows FourTwo Modes word
+rows_for word operands.Store = has_rows FourOne Places word
+rows_for word operands.Exchange = has_rows Exchange (0 ∷ 3 ∷ []) word
+rows_for word operands.Shift = has_rows CountOne Zero word
+rows_for word operands.Pair = has_rows Two Zero word || has_rows Loop Zero word
+rows_for word operands.Triple = has_rows BitTest Bits word
+rows_for word operands.Branch = has_rows One Zero word
+rows_for word operands.Table = has_rows TableJump Zero word
+rows_for word operands.Key = has_rows Key Zero word
+
+-- tried over the index of the table
+pub operand_rows : (word : List ℕ) (form : Operands) → operands_of word ≡ Some form → rows_for word form ≡ true
 unfolding has_row least row_at plain_entry
-nothing_rows = refl
+operand_rows word form e = each_form rows_for refl word form e
 
-abbrev pub register_words : List (List ℕ)
-register_words = codes "SKIP" ∷ codes "CLR" ∷ codes "NOT" ∷ codes "NEG" ∷ codes "DEC" ∷ codes "EXT" ∷ codes "INC" ∷ codes "CLRB" ∷ codes "NOTB" ∷ codes "NEGB" ∷ codes "DECB" ∷ codes "EXTB" ∷ codes "INCB" ∷ []
+-- BR alone leads to a plain target or to an address in a register
+abbrev is_branch_word : List ℕ → Operands → Bool
+is_branch_word word operands.Branch = bytes_eq word (codes "BR")
+is_branch_word word form = true
 
-pub register_rows : list_all (has_rows One (0 ∷ [])) register_words ≡ true
-unfolding has_row least row_at plain_entry
-register_rows = refl
+pub branch_is_br : (word : List ℕ) → operands_of word ≡ Some operands.Branch → bytes_eq word (codes "BR") ≡ true
+unfolding row_at plain_entry
+branch_is_br word e = each_form is_branch_word refl word operands.Branch e
+
+-- ---- the jumps that stand for generic branches
 
 abbrev pub near_words : List (List ℕ)
 near_words = codes "SJMP" ∷ codes "SCALL" ∷ []
 
-pub near_rows : list_all (has_rows Near (0 ∷ [])) near_words ≡ true
+pub near_rows : list_all (has_rows Near Zero) near_words ≡ true
 unfolding has_row least row_at plain_entry
 near_rows = refl
-
-abbrev pub far_words : List (List ℕ)
-far_words = codes "LJMP" ∷ codes "LCALL" ∷ []
-
-pub far_rows : list_all (has_rows Far (0 ∷ [])) far_words ≡ true
-unfolding has_row least row_at plain_entry
-far_rows = refl
-
-abbrev pub conditional_words : List (List ℕ)
-conditional_words = codes "JNST" ∷ codes "JNH" ∷ codes "JGT" ∷ codes "JNC" ∷ codes "JNVT" ∷ codes "JNV" ∷ codes "JGE" ∷ codes "JNE" ∷ codes "JST" ∷ codes "JH" ∷ codes "JLE" ∷ codes "JC" ∷ codes "JVT" ∷ codes "JV" ∷ codes "JLT" ∷ codes "JE" ∷ []
-
-pub conditional_rows : list_all (has_rows Conditional (0 ∷ [])) conditional_words ≡ true
-unfolding has_row least row_at plain_entry
-conditional_rows = refl
-
-abbrev pub push_words : List (List ℕ)
-push_words = codes "PUSH" ∷ []
-
-pub push_rows : list_all (has_rows Four (0 ∷ 1 ∷ 2 ∷ 3 ∷ [])) push_words ≡ true
-unfolding has_row least row_at plain_entry
-push_rows = refl
-
-abbrev pub pop_words : List (List ℕ)
-pop_words = codes "POP" ∷ []
-
-pub pop_rows : list_all (has_rows Four (0 ∷ 2 ∷ 3 ∷ [])) pop_words ≡ true
-unfolding has_row least row_at plain_entry
-pop_rows = refl
-
-abbrev pub source_words : List (List ℕ)
-source_words = codes "OR" ∷ codes "XOR" ∷ codes "CMP" ∷ codes "DIVU" ∷ codes "DIV" ∷ codes "ORB" ∷ codes "XORB" ∷ codes "CMPB" ∷ codes "DIVUB" ∷ codes "DIVB" ∷ []
-
-pub source_rows : list_all (has_rows FourOne (0 ∷ 1 ∷ 2 ∷ 3 ∷ [])) source_words ≡ true
-unfolding has_row least row_at plain_entry
-source_rows = refl
-
-abbrev pub load_words : List (List ℕ)
-load_words = codes "LD" ∷ codes "ADDC" ∷ codes "SUBC" ∷ codes "LDBZE" ∷ codes "LDB" ∷ codes "ADDCB" ∷ codes "SUBCB" ∷ codes "LDBSE" ∷ []
-
-pub load_rows : list_all (has_rows FourOne (0 ∷ 1 ∷ 2 ∷ 3 ∷ [])) load_words ≡ true
-unfolding has_row least row_at plain_entry
-load_rows = refl
-
-abbrev pub two_words : List (List ℕ)
-two_words = codes "AND" ∷ codes "ADD" ∷ codes "SUB" ∷ codes "MULU" ∷ codes "MUL" ∷ codes "ANDB" ∷ codes "ADDB" ∷ codes "SUBB" ∷ codes "MULUB" ∷ codes "MULB" ∷ []
-
-pub two_rows : list_all (has_rows FourOne (0 ∷ 1 ∷ 2 ∷ 3 ∷ [])) two_words ≡ true
-unfolding has_row least row_at plain_entry
-two_rows = refl
-
-abbrev pub three_words : List (List ℕ)
-three_words = codes "AND" ∷ codes "ADD" ∷ codes "SUB" ∷ codes "MULU" ∷ codes "MUL" ∷ codes "ANDB" ∷ codes "ADDB" ∷ codes "SUBB" ∷ codes "MULUB" ∷ codes "MULB" ∷ []
-
-pub three_rows : list_all (has_rows FourTwo (0 ∷ 1 ∷ 2 ∷ 3 ∷ [])) three_words ≡ true
-unfolding has_row least row_at plain_entry
-three_rows = refl
-
-abbrev pub store_words : List (List ℕ)
-store_words = codes "ST" ∷ codes "STB" ∷ []
-
-pub store_rows : list_all (has_rows FourOne (0 ∷ 2 ∷ 3 ∷ [])) store_words ≡ true
-unfolding has_row least row_at plain_entry
-store_rows = refl
-
-abbrev pub exchange_words : List (List ℕ)
-exchange_words = codes "XCH" ∷ codes "XCHB" ∷ []
-
-pub exchange_rows : list_all (has_rows Exchange (0 ∷ 3 ∷ [])) exchange_words ≡ true
-unfolding has_row least row_at plain_entry
-exchange_rows = refl
-
-abbrev pub shift_words : List (List ℕ)
-shift_words = codes "SHR" ∷ codes "SHL" ∷ codes "SHRA" ∷ codes "SHRB" ∷ codes "SHLB" ∷ codes "SHRAB" ∷ codes "SHRL" ∷ codes "SHLL" ∷ codes "SHRAL" ∷ []
-
-pub shift_rows : list_all (has_rows CountOne (0 ∷ [])) shift_words ≡ true
-unfolding has_row least row_at plain_entry
-shift_rows = refl
-
-abbrev pub pair_words : List (List ℕ)
-pair_words = codes "NORML" ∷ codes "CMPL" ∷ codes "BMOV" ∷ codes "BMOVI" ∷ []
-
-pub pair_rows : list_all (has_rows Two (0 ∷ [])) pair_words ≡ true
-unfolding has_row least row_at plain_entry
-pair_rows = refl
-
-abbrev pub loop_words : List (List ℕ)
-loop_words = codes "DJNZ" ∷ codes "DJNZW" ∷ []
-
-pub loop_rows : list_all (has_rows Loop (0 ∷ [])) loop_words ≡ true
-unfolding has_row least row_at plain_entry
-loop_rows = refl
-
-abbrev pub bit_test_words : List (List ℕ)
-bit_test_words = codes "JBC" ∷ codes "JBS" ∷ []
-
-pub bit_test_rows : list_all (has_rows BitTest (0 ∷ 1 ∷ 2 ∷ 3 ∷ 4 ∷ 5 ∷ 6 ∷ 7 ∷ [])) bit_test_words ≡ true
-unfolding has_row least row_at plain_entry
-bit_test_rows = refl
-
-abbrev pub branch_words : List (List ℕ)
-branch_words = codes "BR" ∷ []
-
-pub branch_rows : list_all (has_rows One (0 ∷ [])) branch_words ≡ true
-unfolding has_row least row_at plain_entry
-branch_rows = refl
-
-abbrev pub table_words : List (List ℕ)
-table_words = codes "TIJMP" ∷ []
-
-pub table_rows : list_all (has_rows TableJump (0 ∷ [])) table_words ≡ true
-unfolding has_row least row_at plain_entry
-table_rows = refl
-
-abbrev pub key_words : List (List ℕ)
-key_words = codes "IDLPD" ∷ []
-
-pub key_rows : list_all (has_rows Key (0 ∷ [])) key_words ≡ true
-unfolding has_row least row_at plain_entry
-key_rows = refl
 
 pub near_shape : list_all (has_one_shape Near) near_words ≡ true
 unfolding has_one_shape least row_at plain_entry
 near_shape = refl
 
+abbrev pub far_words : List (List ℕ)
+far_words = codes "LJMP" ∷ codes "LCALL" ∷ []
+
+pub far_rows : list_all (has_rows Far Zero) far_words ≡ true
+unfolding has_row least row_at plain_entry
+far_rows = refl
+
 pub far_shape : list_all (has_one_shape Far) far_words ≡ true
 unfolding has_one_shape least row_at plain_entry
 far_shape = refl
 
-pub conditional_shape : list_all (has_one_shape Conditional) conditional_words ≡ true
-unfolding has_one_shape least row_at plain_entry
-conditional_shape = refl
-
-pub bit_test_shape : list_all (has_one_shape BitTest) bit_test_words ≡ true
-unfolding has_one_shape least row_at plain_entry
-bit_test_shape = refl
+abbrev pub branch_words : List (List ℕ)
+branch_words = codes "BR" ∷ []
 
 -- the jumps of a generic branch
 abbrev pub is_branch_row : Shape → List ℕ → List ℕ → Bool

@@ -1,18 +1,10 @@
 -- The least number that passes a test.
 use Rattle.std.proofs.Common.{◌≡◌, ◌≢◌, ℕ, zero, suc, ◌+◌, ◌<◌, ◌≤◌, Bool, true, false, refl, sym, subst, ◌∙◌, Some, arith}
-use Rattle.kc_asm_operation.specs.Opcodes.{least, opcode_of, is_opcode_for}
+use Rattle.kc_lex.specs.Instructions.{least}
+use Rattle.kc_lex.proofs.IndexLemmas.{least-passes}
+use Rattle.kc_asm_operation.specs.Opcodes.{opcode_of, is_opcode_for}
 use Rattle.kc_asm_operation.specs.declared.argument.Argument.{Argument}
 use Rattle.std.specs.Prelude.{List, if◌then◌else◌}
-
-passes_step : (p : ℕ → Bool) (n from k : ℕ) (t : Bool) → p from ≡ t → (if t then Some from else least p n (from + 1)) ≡ Some k →
-    (least p n (from + 1) ≡ Some k → (p k ≡ true) × (k < (from + 1) + n)) → (p k ≡ true) × (k < from + suc n)
-passes_step p n from k true e g r = let f : from ≡ k = cc g in (subst (λ (m : ℕ). p m ≡ true) f e, omega arith)
-passes_step p n from k false e g r = let s : (p k ≡ true) × (k < (from + 1) + n) = r g in (s.0, omega arith)
-
-pub least-passes : (p : ℕ → Bool) (n from k : ℕ) → least p n from ≡ Some k → (p k ≡ true) × (k < from + n)
-unfolding least
-least-passes p zero from k h = absurd (cc h)
-least-passes p (suc n) from k h = passes_step p n from k (p from) refl h (λ g. least-passes p n (from + 1) k g)
 
 pub opcode-passes : (word : List ℕ) (args : List Argument) (signed : Bool) (k : ℕ) → opcode_of word args signed ≡ Some k → (is_opcode_for word args signed k ≡ true) × (k < 256)
 unfolding opcode_of

@@ -1,11 +1,12 @@
 -- The opcode of an instruction as it is written: told from the instruction table alone. It is the first opcode, of those
 -- behind FEH where no other is, whose row has the mnemonic, as many operands, and the mode of S or the number of the bit
 -- in its low bits (80C196KC User's Manual, "Opcode Map").
-use Rattle.std.specs.Prelude.{ℕ, zero, suc, Bool, false, ◌+◌, ◌-◌, ◌%◌, ◌==◌, ◌&&◌, if◌then◌else◌, Option, Some, None, List, length}
+use Rattle.std.specs.Prelude.{ℕ, Bool, false, ◌-◌, ◌%◌, ◌==◌, ◌&&◌, Option, Some, None, List, length}
 use Rattle.std.specs.Str.{bytes_eq}
 use Rattle.kc_isa.specs.declared.table.Shape.{Shape}
 use Rattle.kc_isa.specs.declared.table.Shape.TheVariants.{Nothing, One, Two, Four, FourOne, FourTwo, Exchange, CountOne, Near, Conditional, BitTest, Loop, TableJump, Far, Key}
 use Rattle.kc_isa.specs.Names.{Shown, row_at}
+pub use Rattle.kc_lex.specs.Instructions.{least}
 use Rattle.kc_asm_operation.specs.declared.argument.Argument.{Argument}
 use Rattle.kc_asm_operation.specs.Values.{argument, bit_of}
 use Rattle.kc_asm_operation.specs.Sources.{mode}
@@ -57,11 +58,6 @@ is_row_for word args opcode row =
 
 abbrev pub is_opcode_for : List ℕ → List Argument → Bool → ℕ → Bool
 is_opcode_for word args signed opcode = elim (row_at opcode signed) [ None ↦ false | Some row ↦ is_row_for word args opcode row ]
-
--- the least of so many numbers from one on that passes a test
-unfoldable pub least : (ℕ → Bool) → ℕ → ℕ → Option ℕ
-least p zero from = None
-least p (suc count) from = if p from then Some from else least p count (from + 1)
 
 unfoldable pub opcode_of : List ℕ → List Argument → Bool → Option ℕ
 opcode_of word args signed = least (is_opcode_for word args signed) 256 0

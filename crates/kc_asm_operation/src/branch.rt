@@ -1,10 +1,10 @@
 ghost use Rattle.std.specs.Prelude.{◌≡◌};
 ghost use Rattle.std.specs.Str.{bytes_eq};
-ghost use Rattle.kc_lex.specs.Words.{is_generic_conditional};
 ghost use Rattle.kc_asm_operation.specs.Branches as branches;
 
 use crate::argument::Argument;
 use kc_branch::BranchKind;
+use kc_lex::words::is_generic_conditional;
 
 fn is(word: &[u8], other: &[u8]) -> bool
     ensures { result ≡ bytes_eq word.now other.now }
@@ -31,34 +31,13 @@ pub fn branch_kind(word: &[u8], args: &[Argument]) -> Option<BranchKind>
         plain_branch(args)
     } else if is(word, b"CALL") {
         Some(BranchKind::Call)
-    } else if is_conditional(word) {
+    } else if is_generic_conditional(word) {
         Some(BranchKind::Conditional)
     } else if is(word, b"BBC") || is(word, b"BBS") {
         Some(BranchKind::BitTest)
     } else {
         None
     }
-}
-
-fn is_conditional(word: &[u8]) -> bool
-    ensures { result ≡ is_generic_conditional word.now }
-{
-    is(word, b"BE")
-        || is(word, b"BNE")
-        || is(word, b"BH")
-        || is(word, b"BNH")
-        || is(word, b"BGT")
-        || is(word, b"BLE")
-        || is(word, b"BGE")
-        || is(word, b"BLT")
-        || is(word, b"BC")
-        || is(word, b"BNC")
-        || is(word, b"BV")
-        || is(word, b"BNV")
-        || is(word, b"BVT")
-        || is(word, b"BNVT")
-        || is(word, b"BST")
-        || is(word, b"BNST")
 }
 
 /// The jump of a conditional branch or of a bit test.

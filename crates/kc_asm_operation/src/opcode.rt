@@ -4,6 +4,7 @@ ghost use Rattle.kc_asm_operation.specs.Opcodes as opcodes;
 
 use crate::argument::{Argument, bit_of, mode, operand_at};
 use kc_isa::{Row, Shape, row_of};
+use kc_lex::first_opcode;
 
 /// How many operands are written.
 pub(crate) fn operand_count(shape: Shape) -> usize
@@ -67,7 +68,8 @@ fn is_opcode_for(word: &[u8], args: &[Argument], signed: bool, opcode: u8) -> bo
 pub(crate) fn opcode_of(word: &[u8], args: &[Argument], signed: bool) -> Option<u8>
     ensures { result ≡ opcodes.opcode_of word.now args.now signed }
 {
-    for opcode in 0..256u16 {
+    let first = first_opcode(word, signed)?;
+    for opcode in u16::from(first)..256 {
         if is_opcode_for(word, args, signed, opcode as u8) {
             return Some(opcode as u8);
         }

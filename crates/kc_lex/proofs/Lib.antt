@@ -5,3 +5,4 @@ pub mod ControlLemmas
 pub mod LineLemmas
 pub mod WrittenLemmas
 pub mod ProperLemmas
+pub mod IndexLemmas

@@ -8,6 +8,7 @@ use Rattle.kc_lex.specs.declared.words.Directive.TheVariants as directives
 use Rattle.kc_lex.specs.declared.words.Operands.{Operands}
 use Rattle.kc_lex.specs.declared.words.Operands.TheVariants as operands
 use Rattle.kc_lex.specs.Chars.{is_word_char}
+pub use Rattle.kc_lex.specs.Instructions.{operands_of}
 
 abbrev pub is_one_of : List (List ℕ) → List ℕ → Bool
 is_one_of words w = list_any (λ v. bytes_eq w v) words
@@ -18,63 +19,7 @@ abbrev pub is_operator_word : List ℕ → Bool
 is_operator_word w =
     is_one_of (codes "LOW" ∷ codes "HIGH" ∷ codes "MOD" ∷ codes "SHL" ∷ codes "SHR" ∷ codes "EQ" ∷ codes "NE" ∷ codes "LT" ∷ codes "LE" ∷ codes "GT" ∷ codes "GE" ∷ codes "NOT" ∷ codes "AND" ∷ codes "OR" ∷ codes "XOR" ∷ []) w
 
--- ---- operations, by the operands that they take
-
-abbrev pub takes_nothing : List ℕ → Bool
-takes_nothing w =
-    is_one_of (codes "DPTS" ∷ codes "EPTS" ∷ codes "RET" ∷ codes "PUSHF" ∷ codes "POPF" ∷ codes "PUSHA" ∷ codes "POPA" ∷ codes "TRAP" ∷ codes "CLRC" ∷ codes "SETC" ∷ codes "DI" ∷ codes "EI" ∷ codes "CLRVT" ∷ codes "NOP" ∷ codes "RST" ∷ []) w
-
-abbrev pub takes_register : List ℕ → Bool
-takes_register w =
-    is_one_of (codes "SKIP" ∷ codes "CLR" ∷ codes "NOT" ∷ codes "NEG" ∷ codes "DEC" ∷ codes "EXT" ∷ codes "INC" ∷ codes "CLRB" ∷ codes "NOTB" ∷ codes "NEGB" ∷ codes "DECB" ∷ codes "EXTB" ∷ codes "INCB" ∷ []) w
-
-abbrev pub is_jump : List ℕ → Bool
-is_jump w = is_one_of (codes "SJMP" ∷ codes "SCALL" ∷ codes "LJMP" ∷ codes "LCALL" ∷ []) w
-
-abbrev pub is_conditional : List ℕ → Bool
-is_conditional w =
-    is_one_of (codes "JNST" ∷ codes "JNH" ∷ codes "JGT" ∷ codes "JNC" ∷ codes "JNVT" ∷ codes "JNV" ∷ codes "JGE" ∷ codes "JNE" ∷ codes "JST" ∷ codes "JH" ∷ codes "JLE" ∷ codes "JC" ∷ codes "JVT" ∷ codes "JV" ∷ codes "JLT" ∷ codes "JE" ∷ []) w
-
-abbrev pub takes_source : List ℕ → Bool
-takes_source w =
-    is_one_of (codes "OR" ∷ codes "XOR" ∷ codes "CMP" ∷ codes "DIVU" ∷ codes "DIV" ∷ codes "ORB" ∷ codes "XORB" ∷ codes "CMPB" ∷ codes "DIVUB" ∷ codes "DIVB" ∷ []) w
-
-abbrev pub loads : List ℕ → Bool
-loads w =
-    is_one_of (codes "LD" ∷ codes "ADDC" ∷ codes "SUBC" ∷ codes "LDBZE" ∷ codes "LDB" ∷ codes "ADDCB" ∷ codes "SUBCB" ∷ codes "LDBSE" ∷ []) w
-
-abbrev pub takes_two_or_three : List ℕ → Bool
-takes_two_or_three w =
-    is_one_of (codes "AND" ∷ codes "ADD" ∷ codes "SUB" ∷ codes "MULU" ∷ codes "MUL" ∷ codes "ANDB" ∷ codes "ADDB" ∷ codes "SUBB" ∷ codes "MULUB" ∷ codes "MULB" ∷ []) w
-
-abbrev pub shifts : List ℕ → Bool
-shifts w =
-    is_one_of (codes "SHR" ∷ codes "SHL" ∷ codes "SHRA" ∷ codes "SHRB" ∷ codes "SHLB" ∷ codes "SHRAB" ∷ codes "SHRL" ∷ codes "SHLL" ∷ codes "SHRAL" ∷ []) w
-
-abbrev pub takes_pair : List ℕ → Bool
-takes_pair w = is_one_of (codes "NORML" ∷ codes "CMPL" ∷ codes "BMOV" ∷ codes "BMOVI" ∷ codes "DJNZ" ∷ codes "DJNZW" ∷ []) w
-
--- the operands of an instruction, if the word is one
-unfoldable pub operands_of : List ℕ → Option Operands
-operands_of w =
-    if takes_nothing w then Some operands.Nothing
-    else (if takes_register w then Some operands.One
-    else (if is_jump w then Some operands.One
-    else (if is_conditional w then Some operands.One
-    else (if bytes_eq w (codes "PUSH") then Some operands.Source
-    else (if bytes_eq w (codes "POP") then Some operands.Place
-    else (if takes_source w then Some operands.Two
-    else (if loads w then Some operands.Two
-    else (if takes_two_or_three w then Some operands.TwoOrThree
-    else (if is_one_of (codes "ST" ∷ codes "STB" ∷ []) w then Some operands.Store
-    else (if is_one_of (codes "XCH" ∷ codes "XCHB" ∷ []) w then Some operands.Exchange
-    else (if shifts w then Some operands.Shift
-    else (if takes_pair w then Some operands.Pair
-    else (if is_one_of (codes "JBC" ∷ codes "JBS" ∷ []) w then Some operands.Triple
-    else (if bytes_eq w (codes "BR") then Some operands.Branch
-    else (if bytes_eq w (codes "TIJMP") then Some operands.Table
-    else (if bytes_eq w (codes "IDLPD") then Some operands.Key
-    else None))))))))))))))))
+-- ---- generic branches, which stand beside the instructions
 
 abbrev pub is_generic_conditional : List ℕ → Bool
 is_generic_conditional w =

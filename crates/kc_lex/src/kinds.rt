@@ -72,7 +72,7 @@ pub fn has_label(tokens: &[Token]) -> bool
     ensures two { result ≡ true → 2 ≤ length tokens.now }
 {
     match tokens {
-        [name, colon, ..] => is_free_name(name) && is_sign(colon, b':'),
+        [name, colon, ..] => is_sign(colon, b':') && is_free_name(name),
         _ => false,
     }
 }

@@ -4,6 +4,7 @@
 mod chars;
 pub mod fault;
 pub mod grammar;
+mod instructions;
 pub mod kinds;
 mod number;
 mod reader;
@@ -12,6 +13,7 @@ pub mod token;
 pub mod words;
 
 pub use fault::SourceFault;
+pub use instructions::first_opcode;
 pub use reader::lines;
 pub use token::{Line, Token, TokenKind, Tokens};
 pub use words::{Directive, Operands};

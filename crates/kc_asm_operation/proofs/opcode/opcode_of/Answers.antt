@@ -1,10 +1,19 @@
-use Rattle.std.proofs.Common.{◌∙◌, sym, arith, ◌<◌}
-use Rattle.kc_asm_operation.specs.Opcodes.{is_opcode_for}
-use Rattle.kc_asm_operation.proofs.Search.{opcode_from, least_step, least_found, least_none}
+use Rattle.std.proofs.Common.{◌≡◌, ◌∙◌, sym, subst, arith, ℕ, ◌<◌, ◌-◌, Some, None}
+use Rattle.kc_lex.specs.Instructions.{least, first_opcode}
+use Rattle.kc_asm_operation.specs.Opcodes.{opcode_of, is_opcode_for}
+use Rattle.kc_asm_operation.proofs.Search.{opcode_from, opcode_none, least_step, least_found, least_none}
 use Rattle.kc_asm_operation.proofs.opcode.opcode_of.Goals as goal
 
 pub loop-opcode-init : goal.loop-opcode-init
-loop-opcode-init c = opcode_from c.args.word.now c.args.args.now c.args.signed
+loop-opcode-init c =
+    let f : first_opcode c.args.word.now c.args.signed ≡ Some c.in_ok-first.first = sym c.in_ok-first.ensures in
+    subst (λ (k : ℕ). opcode_of c.args.word.now c.args.args.now c.args.signed ≡ least (is_opcode_for c.args.word.now c.args.args.now c.args.signed) (256 - k) k) (sym c.from-opcode.ensures)
+    (opcode_from c.args.word.now c.args.args.now c.args.signed c.in_ok-first.first f)
+
+pub returns-in_err-first : goal.returns-in_err-first
+returns-in_err-first c =
+    let f : first_opcode c.args.word.now c.args.signed ≡ None = sym c.in_err-first.ensures in
+    c.from_residual.ensures ∙ sym (opcode_none c.args.word.now c.args.args.now c.args.signed f)
 
 pub returns-then-is_opcode_for : goal.returns-then-is_opcode_for
 returns-then-is_opcode_for c =

@@ -1,5 +1,6 @@
 use Rattle.std.proofs.Common.{◌≡◌, ◌-◌}
-use Rattle.kc_asm_operation.specs.Opcodes.{least, opcode_of, is_opcode_for}
+use Rattle.kc_lex.specs.Instructions.{least}
+use Rattle.kc_asm_operation.specs.Opcodes.{opcode_of, is_opcode_for}
 use Rattle.kc_asm_operation.proofs.opcode.opcode_of.Given as goal
 
 abbrev pub invariant-loop-opcode : goal.invariant-loop-opcode
