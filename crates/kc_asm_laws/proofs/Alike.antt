@@ -32,7 +32,7 @@ use Rattle.kc_asm_laws.specs.Modules.{OneModuleOfText}
 
 -- ---- statements that say the same stand alike
 
-cons_said : (a b : Said) (xs ys : List Said) → a ∷ xs ≡ b ∷ ys → (a ≡ b) × (xs ≡ ys)
+pub cons_said : (a b : Said) (xs ys : List Said) → a ∷ xs ≡ b ∷ ys → (a ≡ b) × (xs ≡ ys)
 cons_said a b xs ys e = (cc e, cc e)
 
 ok_tree : (a b : ActionTree) (r s : Result ActionTree ℕ) → r ≡ s → r ≡ Ok a → s ≡ Ok b → a ≡ b
@@ -63,15 +63,15 @@ module _ (ss ts : List Stmt) (same : map stmt_said ss ≡ map stmt_said ts) wher
   outline_alike : outline ss ≡ outline ts
   outline_alike = λ i. notes_from (zeros i) (owns i) [] [] (zeros i) (owns i)
 
-  sites_alike : site_list ss ≡ site_list ts
+  pub sites_alike : site_list ss ≡ site_list ts
   sites_alike = ap (λ (ns : List Note). layout ns) outline_alike
 
-  standing_alike : standing ss ≡ standing ts
+  pub standing_alike : standing ss ≡ standing ts
   standing_alike =
       located_alike (λ i g. value_at g (place_at (site_list ss) i)) 0 first_segment ss ts same
       ∙ ap (λ (l : List Site). located_from (λ i g. value_at g (place_at l i)) 0 first_segment ts) sites_alike
 
-  draft_alike : (d : Draft) → IsDraftOf ss d → IsDraftOf ts d
+  pub draft_alike : (d : Draft) → IsDraftOf ss d → IsDraftOf ts d
   draft_alike d h = record {
     name = h.name ∙ ap name_of standing_alike;
     parts = h.parts ∙ (λ i. parts_from (standing_alike i) [] (standing_alike i) (sites_alike i) first_parts);
@@ -95,7 +95,7 @@ module _ (stmts : List Stmt) (d e : Draft) (h : IsDraftOf stmts d) (k : IsDraftO
   kept_same : kept_in d ≡ kept_in e
   kept_same = λ i. kept_of (parts_same i) (publics_same i)
 
-  pieces_same : pieces_in d ≡ pieces_in e
+  pub pieces_same : pieces_in d ≡ pieces_in e
   pieces_same = λ i. pieces_of (kept_same i) (parts_same i) (stack_same i)
 
   givens_same : map (given_of (number_of (kept_in d))) d.publics.items ≡ map (given_of (number_of (kept_in e))) e.publics.items
@@ -115,18 +115,18 @@ module _ (stmts : List Stmt) (d e : Draft) (h : IsDraftOf stmts d) (k : IsDraftO
 
 -- ---- texts
 
-ok_lines : {E : Type 0} (r : Result (List Line) E) (a b : List Line) → r ≡ Ok a → r ≡ Ok b → a ≡ b
+pub ok_lines : {E : Type 0} (r : Result (List Line) E) (a b : List Line) → r ≡ Ok a → r ≡ Ok b → a ≡ b
 ok_lines r a b e f = cc (e, f)
 
 some_lines : {E : Type 0} (o : Option (Result (List Line) E)) (a b : List Line) → o ≡ Some (Ok a) → o ≡ Some (Ok b) → a ≡ b
 some_lines o a b e f = cc (e, f)
 
-text_same : (text : List ℕ) (a b : List Line) → IsText text a → IsText text b → a ≡ b
+pub text_same : (text : List ℕ) (a b : List Line) → IsText text a → IsText text b → a ≡ b
 text_same text a b x y =
     let lines : x.0 ≡ y.0 = ok_lines (lines_of text) x.0 y.0 x.1 y.1 in
     some_lines (expanded y.0) a b (sym (ap expanded lines) ∙ x.2) y.2
 
-said_same : (text : List ℕ) (ss ts : List Stmt) → AreSaid text ss → AreSaid text ts → map stmt_said ss ≡ map stmt_said ts
+pub said_same : (text : List ℕ) (ss ts : List Stmt) → AreSaid text ss → AreSaid text ts → map stmt_said ss ≡ map stmt_said ts
 said_same text ss ts x y = x.2.said_by ∙ (ap all_said (text_same text x.0 y.0 x.1 y.1) ∙ sym y.2.said_by)
 
 pub one_module_of_text : OneModule → OneModuleOfText

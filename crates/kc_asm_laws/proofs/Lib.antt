@@ -4,7 +4,7 @@ pub mod Filling
 pub mod Sources
 pub mod Images
 pub mod Tapes
-pub mod Names
 pub mod Numbers
 pub mod Sorted
 pub mod Exists
+pub mod OneAnswer

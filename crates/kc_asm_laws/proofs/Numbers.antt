@@ -53,13 +53,12 @@ use Rattle.kc_asm_draft_laws.specs.Stood.{NothingElseStands}
 use Rattle.kc_asm_draft_laws.specs.Writable.{PartsAreWritable}
 use Rattle.kc_asm.specs.Assembled.{IsModule}
 use Rattle.kc_link_source_laws.proofs.Words.{IsWordAnswer}
-use Rattle.kc_link_source_laws.proofs.Meanings.{places_are_words}
+use Rattle.kc_link_source_laws.proofs.Meanings.{places_are_words, in_all_word}
 use Rattle.kc_source_laws.specs.Lines.{is_line_of, StatementsAreOfTheText}
 use Rattle.kc_source_laws.proofs.Tests.{all_join, all_map}
 use Rattle.kc_asm_laws.specs.Modules.{ModulesFit}
 use Rattle.kc_asm_laws.proofs.Octets.{IsGoodOctet}
 use Rattle.kc_asm_laws.proofs.Sources.{AreBytes, said_bytes, standing_bytes, draft_good}
-use Rattle.kc_asm_laws.proofs.Names.{in_all_word}
 use Rattle.kc_asm_laws.proofs.Tapes.{marks_pass, parts_marks, located_lines, first_marks, entries_pass, pieces_pass, all_from, EachIs, each_piece, is_at, stack_small}
 
 -- ---- lists

@@ -3,7 +3,7 @@
 
 ghost use Rattle.kc_asm_laws.specs.Exists.{FaultlessAreRead, FaultlessHaveModules};
 ghost use Rattle.kc_asm_laws.specs.Images.{FilledAreBytes, FilledIsLinked, LinkedIsFilled, OneImageOfTexts, OneLinkedImageOfTexts};
-ghost use Rattle.kc_asm_laws.specs.Modules.{ModulesFit, OneModuleOfText};
+ghost use Rattle.kc_asm_laws.specs.Modules.{ModulesFit, OneAnswerOfText, OneModuleOfText};
 
 use kc_asm_check::no_fault_no_codes;
 use kc_asm_draft_laws::{
@@ -37,6 +37,14 @@ pub fn one_module_of_text()
     ensures { OneModuleOfText }
 {
     one_module();
+}
+
+/// A text has one answer at most: its module, or its first fault, which is one and shuts out a module.
+pub fn one_answer_of_text()
+    ensures { OneAnswerOfText }
+{
+    one_module_of_text();
+    expansion_ends();
 }
 
 /// What is filled from the modules of texts, where these are placed, are bytes.

@@ -3,3 +3,4 @@ pub mod Lines
 pub mod Publics
 pub mod Made
 pub mod Linking
+pub mod Answered

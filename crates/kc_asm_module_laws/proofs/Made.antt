@@ -3,6 +3,7 @@ use Rattle.std.proofs.Common.{◌≡◌, ℕ, suc, ◌+◌, ◌<◌, ◌≤◌, 
 use Rattle.std.specs.Prelude.{Option, Some, None}
 use Rattle.std.proofs.lemmas.List.{length-map}
 use Rattle.kc_expr.specs.declared.values.Value.{Value}
+use Rattle.kc_lex.specs.declared.token.Line.{Line}
 use Rattle.kc_source_statement.specs.declared.statement.Stmt.{Stmt}
 use Rattle.kc_source_statement.specs.Trees.{action_tree}
 use Rattle.kc_source.specs.Clear.{NamesAreClear}
@@ -14,7 +15,8 @@ use Rattle.kc_asm_symbols.specs.Located.{first_segment, segment_after, value_at,
 use Rattle.kc_asm_symbols.specs.Meanings.{in_all}
 use Rattle.kc_asm_piece.specs.declared.draft.Draft.{Draft}
 use Rattle.kc_asm_check.specs.Judging.{site_list, standing, place_at}
-use Rattle.kc_asm_draft_laws.specs.Drafting.{name_of, parts_from, first_parts, stack_from, all_given, distinct_from, publics_of}
+use Rattle.kc_asm_draft_laws.specs.Drafting.{name_of, parts_from, first_parts, stack_from, all_given, distinct_from, publics_of, IsDraftOf}
+use Rattle.kc_asm.specs.Assembled.{IsText, AreSaid}
 use Rattle.kc_asm_draft_laws.proofs.Lists.{nothing_left}
 use Rattle.kc_asm_laws.specs.Exists.{FaultlessAreRead, FaultlessHaveModules}
 use Rattle.kc_asm_module_laws.specs.Made.{TextsHaveModules}
@@ -44,29 +46,29 @@ located_length values i g (s ∷ ss) = ap suc (located_length values (i + 1) (se
 small : (n m : ℕ) → n ≤ m → m ≤ 1000000 → n < 2 ^ 63
 small n m h k = omega (arith, h, k)
 
-pub record Laws : Type 0 where
-  pub read : FaultlessAreRead
-  pub have : FaultlessHaveModules
-  pub few : ExternalsAreFew
-  pub clear : NamesAreClear
+-- the statements of a text whose lines have no fault, and their draft
+pub record Drafted (text : List ℕ) : Type 0 where
+  pub stmts : List Stmt
+  pub said : AreSaid text stmts
+  pub draft : Draft
+  pub drafted : IsDraftOf stmts draft
 
-pub texts_have_modules : Laws → TextsHaveModules
+pub drafted : ExternalsAreFew → NamesAreClear → (text : List ℕ) (out : List Line) → IsText text out → least (faults_of out) ≡ None → Drafted text
 unfolding faults_of
-texts_have_modules laws text none =
-    let r = laws.read text none in
-    let faults : line_faults true true (all_said r.0) ≡ [] = (nothing_left (line_faults true true (all_said r.0)) (name_faults (all_uses (all_said r.0)) [] (all_uses (all_said r.0))) (no_faults (line_faults true true (all_said r.0) ++ name_faults (all_uses (all_said r.0)) [] (all_uses (all_said r.0))) r.2)).0 in
-    let k = made true true (all_said r.0) faults in
-    let are : AreStatements k.stmts r.0 = record { sound = r.2; said_by = k.same } in
-    let lines : length r.0 ≤ 65535 = few_lines r.1.0 r.0 r.1.2 in
-    let said : length (all_said r.0) ≤ length r.0 = few_said r.0 in
-    let as_many : length k.stmts ≡ length (all_said r.0) = sym (length-map k.stmts stmt_said) ∙ ap length k.same in
+drafted few clear text out t sound =
+    let faults : line_faults true true (all_said out) ≡ [] = (nothing_left (line_faults true true (all_said out)) (name_faults (all_uses (all_said out)) [] (all_uses (all_said out))) (no_faults (line_faults true true (all_said out) ++ name_faults (all_uses (all_said out)) [] (all_uses (all_said out))) sound)).0 in
+    let k = made true true (all_said out) faults in
+    let are : AreStatements k.stmts out = record { sound = sound; said_by = k.same } in
+    let lines : length out ≤ 65535 = few_lines t.0 out t.2 in
+    let said : length (all_said out) ≤ length out = few_said out in
+    let as_many : length k.stmts ≡ length (all_said out) = sym (length-map k.stmts stmt_said) ∙ ap length k.same in
     let long : length (standing k.stmts) ≡ length k.stmts = located_length (λ i g. value_at g (place_at (site_list k.stmts) i)) 0 first_segment k.stmts in
     let parts = parts_from (standing k.stmts) [] (standing k.stmts) (site_list k.stmts) first_parts in
     let parts_few : length parts ≤ 3 + length (standing k.stmts) = few_parts (standing k.stmts) [] (standing k.stmts) (site_list k.stmts) first_parts in
-    let externals_few : length (externals (standing k.stmts)) ≤ 16385 = laws.few r.0 k.stmts (λ i g. value_at g (place_at (site_list k.stmts) i)) are in
+    let externals_few : length (externals (standing k.stmts)) ≤ 16385 = few out k.stmts (λ i g. value_at g (place_at (site_list k.stmts) i)) are in
     let publics = publics_of (in_all (standing k.stmts)) (distinct_from [] (all_given (standing k.stmts))) in
-    let publics_few : length publics ≤ length (all_said r.0) + length (all_said r.0) =
-    few_publics laws.clear r.0 k.stmts (λ i g. value_at g (place_at (site_list k.stmts) i)) 0 first_segment (in_all (standing k.stmts)) r.2 k.same in
+    let publics_few : length publics ≤ length (all_said out) + length (all_said out) =
+    few_publics clear out k.stmts (λ i g. value_at g (place_at (site_list k.stmts) i)) 0 first_segment (in_all (standing k.stmts)) sound k.same in
     let d : Draft = record {
       name = name_of (standing k.stmts);
       parts = vec_of parts (small (length parts) 200000 (omega (arith, parts_few, long, as_many, said, lines)) (omega arith));
@@ -74,4 +76,16 @@ texts_have_modules laws text none =
       externals = vec_of (externals (standing k.stmts)) (small (length (externals (standing k.stmts))) 200000 (omega (arith, externals_few)) (omega arith));
       publics = vec_of publics (small (length publics) 200000 (omega (arith, publics_few, said, lines)) (omega arith));
     } in
-    laws.have text k.stmts d none (r.0, r.1, are) (record { name = refl; parts = refl; stack = refl; externals = refl; publics = refl })
+    record { stmts = k.stmts; said = (out, t, are); draft = d; drafted = record { name = refl; parts = refl; stack = refl; externals = refl; publics = refl } }
+
+pub record Laws : Type 0 where
+  pub read : FaultlessAreRead
+  pub have : FaultlessHaveModules
+  pub few : ExternalsAreFew
+  pub clear : NamesAreClear
+
+pub texts_have_modules : Laws → TextsHaveModules
+texts_have_modules laws text none =
+    let r = laws.read text none in
+    let d : Drafted text = drafted laws.few laws.clear text r.0 r.1 r.2 in
+    laws.have text d.stmts d.draft none d.said d.drafted

@@ -1,5 +1,6 @@
 -- A text without a fault has a module, and placed modules of texts have an image and a line map (this kit's own).
-use Rattle.std.specs.Prelude.{◌≡◌, ℕ, true, Some, Ok, List, slice_get}
+use Rattle.std.specs.Prelude.{◌≡◌, ℕ, true, Some, Result, Ok, List, slice_get}
+use Rattle.kc_source.specs.Faults.{Fault}
 use Rattle.kc_obj.specs.Object.{Object}
 use Rattle.kc_link_place.specs.declared.ranges.Ranges.{Ranges}
 use Rattle.kc_link_place.specs.Ranges.{are_in_bounds}
@@ -10,10 +11,15 @@ use Rattle.kc_link.specs.Filled.{IsFilled}
 use Rattle.kc_link.specs.LineMap.{IsLineMap}
 use Rattle.kc_asm.specs.Assembled.{IsModule}
 use Rattle.kc_asm_laws.specs.Exists.{IsFaultless}
+use Rattle.kc_asm_laws.specs.Modules.{IsAnswer}
 use Rattle.kc_asm_laws.specs.Images.{AreModulesOf}
 
 abbrev pub TextsHaveModules : Type 0
 TextsHaveModules = (text : List ℕ) → IsFaultless text → (m : Object) × IsModule text m
+
+-- each text has a module or a first fault
+abbrev pub TextsAreAnswered : Type 0
+TextsAreAnswered = (text : List ℕ) → (answer : Result Object Fault) × IsAnswer text answer
 
 -- modules, at the places that no rule of the linker refuses
 pub record AreLinked (ms : List Object) (places : Places) : Type 0 where

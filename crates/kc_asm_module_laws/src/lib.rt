@@ -1,11 +1,12 @@
 //! Texts without a fault have modules, and these an image: laws of definitions, without code.
 #![tactic(auto)]
 
-ghost use Rattle.kc_asm_module_laws.specs.Made.{TextsAreLinked, TextsHaveModules};
+ghost use Rattle.kc_asm_module_laws.specs.Made.{TextsAreAnswered, TextsAreLinked, TextsHaveModules};
 
 use kc_asm_laws::{faultless_are_read, faultless_have_modules};
 use kc_asm_symbols::externals_are_few;
 use kc_link_laws::{placed_have_image, placed_have_lines};
+use kc_macro::laws::expansion_ends;
 use kc_source::names_are_clear;
 
 /// A text without a fault has a module: there are statements that its lines say, a draft that they are, and the module
@@ -14,6 +15,16 @@ pub fn texts_have_modules()
     ensures { TextsHaveModules }
 {
     faultless_are_read();
+    faultless_have_modules();
+    externals_are_few();
+    names_are_clear();
+}
+
+/// Each text has an answer: its module, or its first fault.
+pub fn texts_are_answered()
+    ensures { TextsAreAnswered }
+{
+    expansion_ends();
     faultless_have_modules();
     externals_are_few();
     names_are_clear();

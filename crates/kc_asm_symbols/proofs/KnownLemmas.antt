@@ -26,14 +26,14 @@ both false y e = absurd cc
 
 -- ---- tests of lists
 
-test_reverse : {X : Type 0} (p : X → Bool) (xs : List X) → list_all p (reverse xs) ≡ true → list_all p xs ≡ true
+pub test_reverse : {X : Type 0} (p : X → Bool) (xs : List X) → list_all p (reverse xs) ≡ true → list_all p xs ≡ true
 test_reverse p [] e = refl
 test_reverse p (x ∷ xs) e =
     let split : list_all p (reverse (x ∷ xs)) ≡ (list_all p (reverse xs) && list_all p (x ∷ [])) = ap (list_all p) (reverse-append (x ∷ []) xs) ∙ list_all-append p (reverse xs) (x ∷ []) in
     let parts = both (list_all p (reverse xs)) (list_all p (x ∷ [])) (sym split ∙ e) in
     λ i. (both (p x) true parts.1).0 i && test_reverse p xs parts.0 i
 
-reverse_test : {X : Type 0} (p : X → Bool) (xs : List X) → list_all p xs ≡ true → list_all p (reverse xs) ≡ true
+pub reverse_test : {X : Type 0} (p : X → Bool) (xs : List X) → list_all p xs ≡ true → list_all p (reverse xs) ≡ true
 reverse_test p [] e = refl
 reverse_test p (x ∷ xs) e =
     let parts = both (p x) (list_all p xs) e in

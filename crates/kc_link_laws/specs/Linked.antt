@@ -21,3 +21,7 @@ PlacedHaveImage = (ms : List Object) (ranges : Ranges) (places : Places) → Are
 
 abbrev pub PlacedHaveLines : Type 0
 PlacedHaveLines = (ms : List Object) (ranges : Ranges) (places : Places) → ArePlaced ms ranges places → (entries : List LineAt) × IsLineMap ms places entries
+
+-- and at most one
+abbrev pub OneLineMap : Type 0
+OneLineMap = (ms : List Object) (places : Places) (entries other : List LineAt) → IsLineMap ms places entries → IsLineMap ms places other → entries ≡ other

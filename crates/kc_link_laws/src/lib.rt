@@ -1,7 +1,7 @@
 //! Placed modules have an image and a line map: laws of definitions, without code.
 #![tactic(auto)]
 
-ghost use Rattle.kc_link_laws.specs.Linked.{PlacedHaveImage, PlacedHaveLines};
+ghost use Rattle.kc_link_laws.specs.Linked.{OneLineMap, PlacedHaveImage, PlacedHaveLines};
 
 use kc_link_place::code_stands_apart;
 
@@ -18,3 +18,8 @@ pub fn placed_have_lines()
 {
     code_stands_apart();
 }
+
+/// Modules and places have at most one line map.
+pub fn one_line_map()
+    ensures { OneLineMap }
+{}

@@ -5,7 +5,6 @@ use Rattle.std.specs.List.{list_all}
 use Rattle.std.specs.Str.{bytes_eq}
 use Rattle.std.proofs.lemmas.Bool.{and_parts}
 use Rattle.std.proofs.lemmas.Bool.Decides.{nat_tests}
-use Rattle.std.proofs.lemmas.List.{reverse-append}
 use Rattle.std.proofs.lemmas.List.Folds.{list_all-append}
 use Rattle.kc_expr.specs.declared.values.Base.TheVariants.{External}
 use Rattle.kc_expr.specs.declared.values.Value.{Value}
@@ -18,23 +17,11 @@ use Rattle.kc_asm_symbols.specs.declared.segments.Segment.{Segment}
 use Rattle.kc_asm_symbols.specs.Located.{Located, segment_after, value_at, located_from}
 use Rattle.kc_asm_symbols.specs.Externals.{externals, external_in, tag_of_taken, stack_name}
 use Rattle.kc_asm_symbols.specs.Meanings.{or_told, is_label, label_answer, external_answer, with_here, is_taken_by, defines, by_definition, earlier, is_set, is_definition, in_all, throughout, meaning}
+use Rattle.kc_asm_symbols.proofs.KnownLemmas.{test_reverse, reverse_test}
 use Rattle.kc_link_source_laws.specs.Characters.{are_bytes, all_bytes}
 use Rattle.kc_link_source_laws.proofs.Words.{IsWordAnswer, either, answer_word}
 
 -- ---- tests of lists
-
-test_reverse : {X : Type 0} (p : X → Bool) (xs : List X) → list_all p (reverse xs) ≡ true → list_all p xs ≡ true
-test_reverse p [] e = refl
-test_reverse p (x ∷ xs) e =
-    let split : list_all p (reverse (x ∷ xs)) ≡ (list_all p (reverse xs) && list_all p (x ∷ [])) = ap (list_all p) (reverse-append (x ∷ []) xs) ∙ list_all-append p (reverse xs) (x ∷ []) in
-    let parts = and_parts (list_all p (reverse xs)) (list_all p (x ∷ [])) (sym split ∙ e) in
-    λ i. (and_parts (p x) true parts.1).0 i && test_reverse p xs parts.0 i
-
-reverse_test : {X : Type 0} (p : X → Bool) (xs : List X) → list_all p xs ≡ true → list_all p (reverse xs) ≡ true
-reverse_test p [] e = refl
-reverse_test p (x ∷ xs) e =
-    let parts = and_parts (p x) (list_all p xs) e in
-    ap (list_all p) (reverse-append (x ∷ []) xs) ∙ list_all-append p (reverse xs) (x ∷ []) ∙ (λ i. reverse_test p xs parts.1 i && (parts.0 i && true))
 
 -- a test of all statements holds of one of them and of those before it
 pub split_test : {X : Type 0} (p : X → Bool) (all before after : List X) (l : X) → list_all p all ≡ true → all ≡ reverse before ++ l ∷ after → (list_all p before ≡ true) × (p l ≡ true)
@@ -134,7 +121,7 @@ module _ (all : List Located) (places : list_all place_is_word all ≡ true) (te
       (definition_word (defines l.action q) (with_here l.here (earlier all before)) (earlier all before q) (defines_bytes l.action q b.0)
       (here_word l.here (earlier all before) (word l.here.number a.0) (earlier_word before a.1 b.1)) (earlier_word before a.1 b.1 q))
 
-  in_all_word : (q : List ℕ) → IsWordAnswer (in_all all q)
+  pub in_all_word : (q : List ℕ) → IsWordAnswer (in_all all q)
   in_all_word q = earlier_word (reverse all) (reverse_test place_is_word all places) (reverse_test has_all_bytes all texts) q
 
   by_kind : (b : Bool) (before : List Located) → list_all place_is_word before ≡ true → list_all has_all_bytes before ≡ true → (q : List ℕ) → IsWordAnswer (cond b (earlier all before) (throughout all before) q)

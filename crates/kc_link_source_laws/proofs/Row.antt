@@ -4,14 +4,14 @@ use Rattle.std.specs.Prelude.{Some, None, slice_get}
 use Rattle.kc_isa.specs.Names.{row_at}
 use Rattle.kc_isa.specs.Table.{plain_entry}
 use Rattle.kc_code.specs.Reading.{regs_at, operand_at, laid_at}
-use Rattle.kc_lex.specs.Words.{operands_of}
+use Rattle.kc_lex.specs.Instructions.{least, first_opcode, operands_of}
 use Rattle.kc_branch.specs.Forms.{places, raised, start_forms, forms}
 use Rattle.kc_expr.specs.Meaning.{answer_by}
 use Rattle.kc_asm_symbols.specs.Located.{located_from}
 use Rattle.kc_obj_relocation.specs.Numbers.{distance, number, fits}
 use Rattle.kc_asm_bytes.specs.Relocating.{depends, misfit}
 use Rattle.kc_asm_operation.specs.Branches.{branch_kind}
-use Rattle.kc_asm_operation.specs.Opcodes.{least, opcode_of}
+use Rattle.kc_asm_operation.specs.Opcodes.{opcode_of}
 use Rattle.kc_asm_operation.specs.Instructions.{instruction, instructions}
 use Rattle.kc_asm_operation.specs.Faults.{fault_of}
 use Rattle.kc_asm_encoding.specs.Said.{said}
@@ -35,7 +35,7 @@ all_stand = refl
 
 no_fault : first_fault source ≡ None
 unfolding row_at plain_entry places raised start_forms forms located_from target notes_from opened sites_from text_by positions_from count_main dealt branch_kind instructions instruction opcode_of least
-    faults_from source_faults.least value_faults.least misfits misfit depends fits number distance fault_of answer_by operands_of
+    faults_from source_faults.least value_faults.least misfits misfit depends fits number distance fault_of answer_by operands_of first_opcode
 no_fault = refl
 
 decoded : Decodes (0xE7 ∷ 0x7D ∷ 0 ∷ []) 0 (ljmp ∷ [])

@@ -1,0 +1,3 @@
+mod AlikeLemmas
+mod OneAnswerLemmas
+mod OutcomeLemmas

@@ -1,0 +1,247 @@
+-- A command has one answer: each step gives one thing, by the laws of texts, images, line maps and libraries.
+use Rattle.std.proofs.Common.{◌≡◌, inl, inr, ℕ, List, [], ◌∷◌, ◌++◌, length, take, drop, Option, Some, None, Result, Ok, Err, refl, sym, ◌∙◌, ap, subst, arith}
+use Rattle.kc_source.specs.Faults.{Fault}
+use Rattle.kc_code_listing.specs.Listing.{listing}
+use Rattle.kc_obj.specs.Object.{Object}
+use Rattle.kc_obj.specs.Spelling as objects
+use Rattle.kc_lib.specs.Laws.{TakenOnce}
+use Rattle.kc_lib.specs.Names.{doubled}
+use Rattle.kc_hex.specs.Spelling.{spelling}
+use Rattle.kc_link_place.specs.declared.ranges.Ranges.{Ranges}
+use Rattle.kc_link_place.specs.Placing.{Places}
+use Rattle.kc_link.specs.Laws.{OneImage}
+use Rattle.kc_link.specs.declared.lines.LineAt.{LineAt}
+use Rattle.kc_link_laws.specs.Linked.{OneLineMap}
+use Rattle.kc_asm.specs.Assembled.{IsModule}
+use Rattle.kc_asm_laws.specs.Modules.{IsAnswer, OneAnswerOfText}
+use Rattle.kc_kit_files.specs.declared.status.Status.TheVariants as status
+use Rattle.kc_kit_files.specs.Reply.{Reply, Write, write, says, done_writing, Then}
+use Rattle.kc_kit_files.specs.Reads.{reads_of}
+use Rattle.kc_kit_words.specs.declared.inputs.Role.{Role}
+use Rattle.kc_kit_words.specs.declared.inputs.Role.TheVariants as role
+use Rattle.kc_kit_words.specs.Words.{placing_of, Command, Helps, TellsVersion, Runs, Assembles, Packs, Links, RunsHex, Lists, Debugs, Generates}
+use Rattle.kc_kit_inputs.specs.Hex.{hex_of}
+use Rattle.kc_kit_inputs.specs.declared.driving.Driving.{Driving}
+use Rattle.kc_kit_inputs.specs.Driving.{GivenFiles, given_for, driving_of}
+use Rattle.kc_kit_inputs.specs.Inputs.{names_of, input_for}
+use Rattle.kc_kit_inputs.specs.Library.{library_of, TakenAre}
+use Rattle.kc_kit_inputs.specs.Lines.{source_line}
+use Rattle.kc_kit_inputs.specs.Objects.{modules_of, object_of}
+use Rattle.kc_kit_inputs.specs.Sources.{TellsFault, SourceIs, AreModules, TellsFirst, SourcesAre}
+use Rattle.kc_kit_answer.specs.Answer.{OneText, TwoTexts, Parted, CommandAnswer}
+use Rattle.kc_kit_answer.specs.Assemble.{WritesObject, AssembleAnswer}
+use Rattle.kc_kit_answer.specs.Debug.{DebugAnswer, debug_reply}
+use Rattle.kc_kit_answer.specs.Generate.{made_names, made_texts, made_given, summary_of}
+use Rattle.kc_kit_answer.specs.Hex.{HexTold, RunHexAnswer, ListAnswer, ListingOf}
+use Rattle.kc_kit_answer.specs.Lines.{map_text, member_words}
+use Rattle.kc_kit_answer.specs.Link.{IsMap, LinksTo, Taking, Completed, LinkAnswer}
+use Rattle.kc_kit_answer.specs.Pack.{packed, PackAnswer}
+use Rattle.kc_kit_answer.specs.Places.{places_of, Placing}
+use Rattle.kc_kit_answer.specs.Run.{LinkedTold, Driven, SourcesTold, RunAnswer}
+use Rattle.kc_kit_answer.specs.Running.{run_reply, run_of}
+use Rattle.kc_kit_laws.specs.OneAnswer.{OneAnswer}
+
+-- ---- steps
+
+-- at most one reply may be given
+abbrev IsOne : (Reply → Type 0) → Type 0
+IsOne may = (r s : Reply) → may r → may s → r ≡ s
+
+one_told : (told : Reply) → IsOne (λ r. r ≡ told)
+one_told told r s h k = h ∙ sym k
+
+one_then : {A : Type 0} (x : Result A Reply) (may : A → Reply → Type 0) → ((a : A) → IsOne (may a)) → IsOne (Then x may)
+one_then (Ok a) may one r s h k = one a r s h k
+one_then (Err e) may one r s h k = h ∙ sym k
+
+-- the same where a step may give one thing alone
+one_given : {A : Type 0} (Gives : Result A Reply → Type 0) (may : A → Reply → Type 0) → ((x y : Result A Reply) → Gives x → Gives y → x ≡ y) → ((a : A) → IsOne (may a))
+    → IsOne (λ r. (x : Result A Reply) × Gives x × Then x may r)
+one_given {A} Gives may same one r s h k = one_then h.0 may one r s h.2 (subst (λ (x : Result A Reply). Then x may s) (sym (same h.0 k.0 h.1 k.1)) k.2)
+
+one_text : (may : List ℕ → Reply → Type 0) → ((text : List ℕ) → IsOne (may text)) → (texts : List (List ℕ)) → IsOne (OneText may texts)
+one_text may one [] r s h k = absurd h
+one_text may one (t ∷ []) r s h k = one t r s h k
+one_text may one (t ∷ u ∷ ts) r s h k = absurd h
+
+one_two : (may : List ℕ → List ℕ → Reply → Type 0) → ((text other : List ℕ) → IsOne (may text other)) → (texts : List (List ℕ)) → IsOne (TwoTexts may texts)
+one_two may one [] r s h k = absurd h
+one_two may one (t ∷ []) r s h k = absurd h
+one_two may one (t ∷ u ∷ []) r s h k = one t u r s h k
+one_two may one (t ∷ u ∷ v ∷ ts) r s h k = absurd h
+
+one_placing : (names : List (List ℕ)) (ranges : Ranges) (may : List Object → Places → Reply → Type 0) → ((ms : List Object) (places : Places) → IsOne (may ms places)) → (ms : List Object) → IsOne (Placing names ranges may ms)
+one_placing names ranges may one ms = one_then (places_of names ms ranges) (may ms) (one ms)
+
+-- the laws that this stands on
+pub record Laws : Type 0 where
+  pub texts : OneAnswerOfText
+  pub images : OneImage
+  pub maps : OneLineMap
+  pub taken : TakenOnce
+
+-- ---- sources
+
+abbrev found : Object → Result Object Reply
+found m = Ok m
+
+abbrev refused : Reply → Result Object Reply
+refused r = Err r
+
+-- the reply to a fault
+abbrev told_of : List ℕ → Fault → Reply
+told_of name fault = says status.Source (source_line name fault.0 fault.1)
+
+of_ok : (m n : Object) (x y : Result Object Fault) → x ≡ Ok m → y ≡ Ok n → x ≡ y → m ≡ n
+of_ok m n x y e f g = cc (e, f, g)
+
+of_err : (d e : Fault) (x y : Result Object Fault) → x ≡ Err d → y ≡ Err e → x ≡ y → d ≡ e
+of_err d e x y f g h = cc (f, g, h)
+
+ok_or_err : (m : Object) (d : Fault) (x y : Result Object Fault) → x ≡ Ok m → y ≡ Err d → x ≡ y → ⊥
+ok_or_err m d x y e f g = cc (e, f, g)
+
+module _ (law : OneAnswerOfText) where
+  one_module : (text : List ℕ) (m n : Object) → IsModule text m → IsModule text n → m ≡ n
+  one_module text m n h k = of_ok m n (Ok m) (Ok n) refl refl (law text (Ok m) (Ok n) h k)
+
+  no_fault : (name text : List ℕ) (m : Object) (r : Reply) → IsModule text m → TellsFault name text r → ⊥
+  no_fault name text m r h k = ok_or_err m (k.0, k.1) (Ok m) (Err (k.0, k.1)) refl refl (law text (Ok m) (Err (k.0, k.1)) h k.2)
+
+  one_fault : (name text : List ℕ) → IsOne (TellsFault name text)
+  one_fault name text r s h k =
+      h.3 ∙ (ap (told_of name) (of_err (h.0, h.1) (k.0, k.1) (Err (h.0, h.1)) (Err (k.0, k.1)) refl refl (law text (Err (h.0, h.1)) (Err (k.0, k.1)) h.2 k.2)) ∙ sym k.3)
+
+  one_source : (name text : List ℕ) (x y : Result Object Reply) → SourceIs name text x → SourceIs name text y → x ≡ y
+  one_source name text (Ok m) (Ok n) h k = ap found (one_module text m n h k)
+  one_source name text (Ok m) (Err r) h k = absurd (no_fault name text m r h k)
+  one_source name text (Err r) (Ok m) h k = absurd (no_fault name text m r k h)
+  one_source name text (Err r) (Err s) h k = ap refused (one_fault name text r s h k)
+
+  one_modules : (texts : List (List ℕ)) (ms ns : List Object) → AreModules texts ms → AreModules texts ns → ms ≡ ns
+  one_modules [] [] [] h k = refl
+  one_modules [] [] (n ∷ ns) h k = absurd k
+  one_modules [] (m ∷ ms) ns h k = absurd h
+  one_modules (t ∷ ts) [] ns h k = absurd h
+  one_modules (t ∷ ts) (m ∷ ms) [] h k = absurd k
+  one_modules (t ∷ ts) (m ∷ ms) (n ∷ ns) h k =
+      let first : m ≡ n = one_module t m n h.0 k.0 in
+      let rest : ms ≡ ns = one_modules ts ms ns h.1 k.1 in
+      (λ i. first i ∷ rest i)
+
+  no_first : (names texts : List (List ℕ)) (ms : List Object) (r : Reply) → AreModules texts ms → TellsFirst names texts r → ⊥
+  no_first [] texts ms r h k = absurd k
+  no_first (name ∷ names) [] ms r h k = absurd k
+  no_first (name ∷ names) (t ∷ ts) [] r h k = absurd h
+  no_first (name ∷ names) (t ∷ ts) (m ∷ ms) r h (inl k) = no_fault name t m r h.0 k
+  no_first (name ∷ names) (t ∷ ts) (m ∷ ms) r h (inr k) = no_first names ts ms r h.1 k.1
+
+  one_first : (names texts : List (List ℕ)) → IsOne (TellsFirst names texts)
+  one_first [] texts r s h k = absurd h
+  one_first (name ∷ names) [] r s h k = absurd h
+  one_first (name ∷ names) (t ∷ ts) r s (inl h) (inl k) = one_fault name t r s h k
+  one_first (name ∷ names) (t ∷ ts) r s (inl h) (inr k) = absurd (no_fault name t k.0.0 r k.0.1 h)
+  one_first (name ∷ names) (t ∷ ts) r s (inr h) (inl k) = absurd (no_fault name t h.0.0 s h.0.1 k)
+  one_first (name ∷ names) (t ∷ ts) r s (inr h) (inr k) = one_first names ts r s h.1 k.1
+
+  one_sources : (names texts : List (List ℕ)) (x y : Result (List Object) Reply) → SourcesAre names texts x → SourcesAre names texts y → x ≡ y
+  one_sources names texts (Ok ms) (Ok ns) h k = (let same : ms ≡ ns = one_modules texts ms ns h k in λ i. Ok (same i))
+  one_sources names texts (Ok ms) (Err r) h k = absurd (no_first names texts ms r h k)
+  one_sources names texts (Err r) (Ok ms) h k = absurd (no_first names texts ms r k h)
+  one_sources names texts (Err r) (Err s) h k = (let same : r ≡ s = one_first names texts r s h k in λ i. Err (same i))
+
+-- ---- images and line maps
+
+module _ (images : OneImage) where
+  one_linked : (texts : List (List ℕ)) (tell : List ℕ → Reply) (ms : List Object) (places : Places) → IsOne (LinkedTold texts tell ms places)
+  one_linked texts tell ms places r s h k = h.told ∙ (ap tell (images ms places h.image k.image h.is_filled k.is_filled) ∙ sym k.told)
+
+  one_driven : (texts : List (List ℕ)) (given : GivenFiles) (tell : Driving → List ℕ → Reply) (ms : List Object) (places : Places) → IsOne (Driven given (LinkedTold texts) tell ms places)
+  one_driven texts given tell ms places = one_then (driving_of given) (λ driving. LinkedTold texts (tell driving) ms places) (λ driving. one_linked texts (tell driving) ms places)
+
+  one_map : OneLineMap → (lines : Option (List ℕ)) (ms : List Object) (places : Places) (ws us : List Write) → IsMap lines ms places ws → IsMap lines ms places us → ws ≡ us
+  one_map maps None ms places ws us h k = h ∙ sym k
+  one_map maps (Some name) ms places ws us h k =
+      let same : h.0 ≡ k.0 = maps ms places h.0 k.0 h.1 k.1 in
+      h.2 ∙ (ap (λ (entries : List LineAt). write name (map_text entries) ∷ []) same ∙ sym k.2)
+
+  one_links : OneLineMap → (out : List ℕ) (lines : Option (List ℕ)) (ms : List Object) (places : Places) → IsOne (LinksTo out lines ms places)
+  one_links maps out lines ms places r s h k =
+      let image : h.image ≡ k.image = images ms places h.image k.image h.is_filled k.is_filled in
+      let more : h.more ≡ k.more = one_map maps lines ms places h.more k.more h.is_map k.is_map in
+      let both : done_writing (write out (spelling h.image) ∷ h.more) ≡ done_writing (write out (spelling k.image) ∷ k.more) = λ i. done_writing (write out (spelling (image i)) ∷ more i) in
+      h.done ∙ (both ∙ sym k.done)
+
+-- ---- members of a library
+
+too_many : TakenOnce → (name : List ℕ) (ms members taken : List Object) (r : Reply) → TakenAre name ms members (Ok taken) → TakenAre name ms members (Err r) → ⊥
+too_many law name ms members taken r h k =
+    let count : length taken ≡ length k.0 = ap (λ (xs : List Object). length xs) (law ms members taken k.0 h.0 k.1) in
+    let few = h.1 in
+    let many = k.2 in
+    omega (arith, count, few, many)
+
+one_taken : TakenOnce → (name : List ℕ) (ms members : List Object) (x y : Result (List Object) Reply) → TakenAre name ms members x → TakenAre name ms members y → x ≡ y
+one_taken law name ms members (Ok t) (Ok u) h k = (let same : t ≡ u = law ms members t u h.0 k.0 in λ i. Ok (same i))
+one_taken law name ms members (Ok t) (Err r) h k = absurd (too_many law name ms members t r h k)
+one_taken law name ms members (Err r) (Ok t) h k = absurd (too_many law name ms members t r k h)
+one_taken law name ms members (Err r) (Err s) h k = (let same : r ≡ s = h.3 ∙ sym k.3 in λ i. Err (same i))
+
+-- what goes on with modules and names of their files gives one thing
+abbrev EachOne : (List (List ℕ) → List Object → Reply → Type 0) → Type 0
+EachOne may = (names : List (List ℕ)) (ms : List Object) → IsOne (may names ms)
+
+one_completed : TakenOnce → (names : List (List ℕ)) (library : Option (List ℕ × List ℕ)) (may : List (List ℕ) → List Object → Reply → Type 0) → EachOne may → (ms : List Object) → IsOne (Completed names library may ms)
+one_completed law names None may one ms = one names ms
+one_completed law names (Some library) may one ms =
+    one_then (library_of library.0 library.1) (Taking names library.0 may ms)
+    (λ members. one_given (TakenAre library.0 ms members) (λ taken. may (names ++ member_words library.0 taken) (ms ++ taken)) (one_taken law library.0 ms members) (λ taken. one (names ++ member_words library.0 taken) (ms ++ taken)))
+
+-- ---- commands
+
+module _ (laws : Laws) where
+  one_told_sources : (names : List (List ℕ)) (given : GivenFiles) (ranges : Ranges) (texts : List (List ℕ)) (tell : Driving → List ℕ → Reply) → IsOne (SourcesTold names given ranges texts tell)
+  one_told_sources names given ranges texts tell =
+      one_given (SourcesAre names texts) (Placing names ranges (Driven given (LinkedTold texts) tell)) (one_sources laws.texts names texts)
+      (one_placing names ranges (Driven given (LinkedTold texts) tell) (one_driven laws.images texts given tell))
+
+  one_assembled : (file out text : List ℕ) → IsOne (AssembleAnswer file out text)
+  one_assembled file out text = one_given (SourceIs file text) (WritesObject out) (one_source laws.texts file text) (λ m. one_told (done_writing (write out (objects.spelling m) ∷ [])))
+
+  one_link : (files : List (List ℕ)) (inputs : List (Role × List ℕ)) (out : List ℕ) (lines : Option (List ℕ)) (ranges : Ranges) (texts more : List (List ℕ)) → IsOne (LinkAnswer files inputs out lines ranges texts more)
+  one_link files inputs out lines ranges texts more =
+      one_then (modules_of object_of files texts) (Completed files (input_for role.Library inputs more) (λ names. Placing names ranges (LinksTo out lines)))
+      (one_completed laws.taken files (input_for role.Library inputs more) (λ names. Placing names ranges (LinksTo out lines)) (λ names. one_placing names ranges (LinksTo out lines) (one_links laws.images laws.maps out lines)))
+
+  one_hex : (file : List ℕ) (given : GivenFiles) (text : List ℕ) (tell : Driving → List ℕ → Reply) → IsOne (HexTold file given text tell)
+  one_hex file given text tell =
+      one_then (hex_of file text) (λ image. Then (driving_of given) (λ driving reply. reply ≡ tell driving image))
+      (λ image. one_then (driving_of given) (λ driving reply. reply ≡ tell driving image) (λ driving. one_told (tell driving image)))
+
+  pub one_answer : OneAnswer
+  one_answer None contents r s h k = h ∙ sym k
+  one_answer (Some Helps) contents r s h k = h ∙ sym k
+  one_answer (Some TellsVersion) contents r s h k = h ∙ sym k
+  one_answer (Some (Runs files inputs states ranges)) contents r s h k =
+      one_then (reads_of (files ++ names_of inputs) contents) (Parted (length files) (RunAnswer files inputs states ranges))
+      (λ texts. one_told_sources files (given_for inputs (drop (length files) texts)) ranges (take (length files) texts) (λ driving image. run_reply (run_of states driving image))) r s h k
+  one_answer (Some (Assembles file out)) contents r s h k =
+      one_then (reads_of (file ∷ []) contents) (OneText (AssembleAnswer file out)) (one_text (AssembleAnswer file out) (one_assembled file out)) r s h k
+  one_answer (Some (Packs files out)) contents r s h k =
+      one_then (reads_of files contents) (PackAnswer files out)
+      (λ texts. one_then (modules_of object_of files texts) (λ ms reply. reply ≡ packed out ms (doubled ms)) (λ ms. one_told (packed out ms (doubled ms)))) r s h k
+  one_answer (Some (Links files inputs out lines ranges)) contents r s h k =
+      one_then (reads_of (files ++ names_of inputs) contents) (Parted (length files) (LinkAnswer files inputs out lines ranges))
+      (λ texts. one_link files inputs out lines ranges (take (length files) texts) (drop (length files) texts)) r s h k
+  one_answer (Some (RunsHex file inputs states)) contents r s h k =
+      one_then (reads_of (file ∷ names_of inputs) contents) (Parted 1 (λ texts more. OneText (λ text. RunHexAnswer file inputs states text more) texts))
+      (λ texts. one_text (λ text. RunHexAnswer file inputs states text (drop 1 texts))
+      (λ text. one_hex file (given_for inputs (drop 1 texts)) text (λ driving image. run_reply (run_of states driving image))) (take 1 texts)) r s h k
+  one_answer (Some (Lists file first last)) contents r s h k =
+      one_then (reads_of (file ∷ []) contents) (OneText (ListAnswer file first last))
+      (one_text (ListAnswer file first last) (λ text. one_then (hex_of file text) (ListingOf first last) (λ image. one_told (says status.Done (listing image first last))))) r s h k
+  one_answer (Some (Debugs file script inputs)) contents r s h k =
+      one_then (reads_of (file ∷ script ∷ names_of inputs) contents) (Parted 2 (λ texts more. TwoTexts (λ text commands. DebugAnswer file script inputs text commands more) texts))
+      (λ texts. one_two (λ text commands. DebugAnswer file script inputs text commands (drop 2 texts))
+      (λ text commands. one_hex file (given_for inputs (drop 2 texts)) text (debug_reply (script, commands) (input_for role.Lines inputs (drop 2 texts)))) (take 2 texts)) r s h k
+  one_answer (Some (Generates number)) contents r s h k = one_told_sources made_names (made_given number) (placing_of []) (made_texts number) (summary_of number) r s h k

@@ -1,0 +1,22 @@
+-- A law of the commands: `asm` of each source, `link` of the objects and `hex` of the file answer as `run` of the sources does
+-- (this kit's own).
+use Rattle.std.specs.Prelude.{◌≡◌, ℕ, ◌^◌, true, nat_lt, List, [], ◌∷◌, length, map, None}
+use Rattle.std.specs.List.{list_all}
+use Rattle.kc_obj.specs.Object.{Object}
+use Rattle.kc_obj.specs.Spelling.{spelling}
+use Rattle.kc_link_place.specs.declared.ranges.Ranges.{Ranges}
+use Rattle.kc_kit_files.specs.Reply.{Reply, write, done_writing}
+use Rattle.kc_kit_words.specs.declared.inputs.Role.{Role}
+use Rattle.kc_kit_answer.specs.Hex.{RunHexAnswer}
+use Rattle.kc_kit_answer.specs.Link.{LinkAnswer}
+use Rattle.kc_kit_answer.specs.Run.{RunAnswer}
+use Rattle.kc_kit_inputs.specs.Sources.{AreModules}
+
+-- where each text has fewer than 2^32 bytes: an object counts lines in 32 bits
+abbrev pub RunsAlike : Type 0
+RunsAlike =
+    (names objects texts : List (List ℕ)) (ms : List Object) (inputs : List (Role × List ℕ)) (input_texts : List (List ℕ)) (ranges : Ranges) (states : ℕ) (file hex : List ℕ) (reply : Reply)
+    → AreModules texts ms → list_all (λ t. nat_lt (length t) (2 ^ 32)) texts ≡ true → length objects ≡ length ms
+    → LinkAnswer objects [] file None ranges (map spelling ms) [] (done_writing (write file hex ∷ []))
+    → RunHexAnswer file inputs states hex input_texts reply
+    → RunAnswer names inputs states ranges texts input_texts reply

@@ -1,0 +1,48 @@
+-- Laws of the commands: what is answered to a command, over what the files hold, is one (this kit's own).
+use Rattle.std.specs.Prelude.{◌≡◌, ◌≢◌, ℕ, List, Option, Some, None}
+use Rattle.kc_base.specs.Causes.{Rose}
+use Rattle.kc_base.specs.Held.{Holding}
+use Rattle.kc_kit_files.specs.declared.status.Status.{Status}
+use Rattle.kc_kit_files.specs.declared.status.Status.TheVariants.{NoMemory, WriteFault}
+use Rattle.kc_kit_files.specs.Reply.{Reply}
+use Rattle.kc_kit_files.specs.Outside.{Kept, Shown, Replies}
+use Rattle.kc_kit_words.specs.Words.{Command}
+use Rattle.kc_kit_answer.specs.Answer.{CommandAnswer, MayAnswer}
+
+-- two replies to a command over the same contents of the files that it reads are the same: their status, text and files
+abbrev pub OneAnswer : Type 0
+OneAnswer =
+    (command : Option Command) (contents : List (Option (List ℕ))) (reply other : Reply)
+    → CommandAnswer command contents reply → CommandAnswer command contents other → reply ≡ other
+
+-- ---- calls
+
+-- A call with a command, by what it left: files that held this and a sink that was given that. Want of memory and faults of the
+-- outside are left aside: no read failed (reads: their count before and after), and the status is of another kind.
+pub record IsCall (command : Option Command) (held : Holding) (given : List ℕ) (s : Status) (files : Kept) (sink : Shown) : Type 0 where
+  pub memory : s ≢ NoMemory
+  pub write : s ≢ WriteFault
+  pub reads : ℕ × ℕ
+  pub well_read : ¬ Rose reads.0 reads.1
+  pub old : Kept
+  pub holds : old.held ≡ Some held
+  pub before : Shown
+  pub shows : before.written ≡ Some given
+  pub answered : Replies (MayAnswer command (Some held) (Rose reads.0 reads.1)) old before s files sink
+
+-- files tell that each name holds the same
+abbrev pub HoldSame : Option Holding → Option Holding → Type 0
+HoldSame (Some now) (Some other) = (name : List ℕ) → now name ≡ other name
+HoldSame (Some now) None = ⊥
+HoldSame None _ = ⊥
+
+pub record AreSame (s : Status) (files : Kept) (sink : Shown) (t : Status) (others : Kept) (other : Shown) : Type 0 where
+  pub status : s ≡ t
+  pub written : sink.written ≡ other.written
+  pub held : HoldSame files.held others.held
+
+-- two calls with a command, over files that held the same and sinks that were given the same, leave the same
+abbrev pub OneOutcome : Type 0
+OneOutcome =
+    (command : Option Command) (held : Holding) (given : List ℕ) (s t : Status) (files others : Kept) (sink other : Shown)
+    → IsCall command held given s files sink → IsCall command held given t others other → AreSame s files sink t others other

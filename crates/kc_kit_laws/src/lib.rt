@@ -1,0 +1,43 @@
+//! What is known of the answers of commands: laws of definitions, without code.
+#![tactic(auto)]
+
+ghost use Rattle.kc_kit_laws.specs.Alike.{RunsAlike};
+ghost use Rattle.kc_kit_laws.specs.OneAnswer.{OneAnswer, OneOutcome};
+
+use kc_asm_laws::{filled_are_bytes, modules_fit, one_answer_of_text};
+use kc_hex::written_is_read;
+use kc_lib::laws::taken_once;
+use kc_link::one_image;
+use kc_link_laws::one_line_map;
+use kc_link_source_laws::linked_image;
+use kc_obj_read::laws::spelled_is_decoded;
+
+/// Objects that are assembled of each source and linked to a hex file, and that file run, answer as the sources run. Each
+/// source has fewer than 2^32 bytes.
+pub fn runs_are_alike()
+    ensures { RunsAlike }
+{
+    modules_fit();
+    filled_are_bytes();
+    linked_image();
+    spelled_is_decoded();
+    written_is_read();
+}
+
+/// A command has one answer over what the files hold: whatever may be replied is the same status, text and files.
+pub fn one_answer()
+    ensures { OneAnswer }
+{
+    one_answer_of_text();
+    one_image();
+    one_line_map();
+    taken_once();
+}
+
+/// Calls with the same words, over files that hold the same, give the same status, print the same and leave the same in the
+/// files, but where memory is wanted, a read fails or a write fails.
+pub fn one_outcome()
+    ensures { OneOutcome }
+{
+    one_answer();
+}
