@@ -10,6 +10,7 @@ use Rattle.kc_machine_spec.specs.Passing.{passed}
 use Rattle.kc_machine_spec.proofs.Runs.{run_for-ended, run_for-add, run_for-cut, waits}
 use Rattle.kc_debug.specs.Activities.{beginning, unless_over, begun_for}
 use Rattle.kc_debug.specs.Stops.{is_at_break, states_of_activities, states_to_break}
+use Rattle.kc_debug.specs.Passing.{IsClear}
 
 module _ {X : Type 0} (f : Further X) where
   -- ---- runs
@@ -22,7 +23,7 @@ module _ {X : Type 0} (f : Further X) where
   pub machine-add : (a b : ℕ) (m : Machine X) → (run_for f (a + b) m).machine ≡ (run_for f b (run_for f a m).machine).machine
   machine-add a b m = ap (λ (s : Stepped X). s.machine) (run_for-add f a b m)
 
-  machine-suc : (b : ℕ) (m : Machine X) → (run_for f (suc b) m).machine ≡ (run_for f b (run_for f 1 m).machine).machine
+  pub machine-suc : (b : ℕ) (m : Machine X) → (run_for f (suc b) m).machine ≡ (run_for f b (run_for f 1 m).machine).machine
   machine-suc b m =
       let e : suc b ≡ 1 + b = omega arith in
       ap (λ n. (run_for f n m).machine) e ∙ machine-add 1 b m
@@ -137,26 +138,29 @@ module _ {X : Type 0} (f : Further X) where
   within-clear : (breaks : List ℕ) (i : ℕ) (m : Machine X) → m.ended ≡ None → 0 < i → i < (current m).left → is_at_break breaks (run_for f i m).machine ≡ false
   within-clear breaks i m lives some few = ap (λ (s : Stepped X). is_at_break breaks s.machine) (run_for-cut f i m (current m) lives refl some few)
 
-  -- some states of an activity, where no stop is behind them
-  pub break-past : (breaks : List ℕ) (n k : ℕ) (m x : Machine X) → m.ended ≡ None → (1 < n → n ≤ (current m).left) → x ≡ (run_for f n m).machine → is_at_break breaks x ≡ false →
+  pub activity-clear : (breaks : List ℕ) (n : ℕ) (m : Machine X) → m.ended ≡ None → (1 < n → n ≤ (current m).left) → IsClear f breaks n m
+  activity-clear breaks n m lives few i some less = within-clear breaks i m lives some (let left = few (omega arith) in omega arith)
+
+  -- some states without a stop, also behind them
+  pub break-past : (breaks : List ℕ) (n k : ℕ) (m x : Machine X) → IsClear f breaks n m → x ≡ (run_for f n m).machine → is_at_break breaks x ≡ false →
       states_to_break f breaks (n + k) m ≡ n + states_to_break f breaks k x
-  break-past breaks n k m x lives few is clear =
+  break-past breaks n k m x clear is none =
       break-later breaks n k m (λ i some within. elim (cases_lt i n) [
-        | inl less ↦ within-clear breaks i m lives some (let left = few (omega arith) in omega arith)
-        | inr last ↦ let e : i ≡ n = omega arith in ap (λ j. is_at_break breaks (run_for f j m).machine) e ∙ ap (is_at_break breaks) (sym is) ∙ clear
+        | inl less ↦ clear i some less
+        | inr last ↦ let e : i ≡ n = omega arith in ap (λ j. is_at_break breaks (run_for f j m).machine) e ∙ ap (is_at_break breaks) (sym is) ∙ none
       ])
       ∙ ap (λ y. n + states_to_break f breaks k y) (sym is)
 
-  -- and where one is
-  pub break-there : (breaks : List ℕ) (n k : ℕ) (m x : Machine X) → m.ended ≡ None → 0 < n → (1 < n → n ≤ (current m).left) → x ≡ (run_for f n m).machine → is_at_break breaks x ≡ true →
+  -- and where one is behind them
+  pub break-there : (breaks : List ℕ) (n k : ℕ) (m x : Machine X) → 0 < n → IsClear f breaks n m → x ≡ (run_for f n m).machine → is_at_break breaks x ≡ true →
       states_to_break f breaks (n + k) m ≡ n
-  break-there breaks n k m x lives some few is there =
+  break-there breaks n k m x some clear is there =
       let e : n + k ≡ (n - 1) + suc k = omega arith in
       let last : (n - 1) + 1 ≡ n = omega arith in
       let mid : Machine X = (run_for f (n - 1) m).machine in
       let end : (run_for f 1 mid).machine ≡ x = sym (machine-add (n - 1) 1 m) ∙ ap (λ i. (run_for f i m).machine) last ∙ sym is in
       ap (λ i. states_to_break f breaks i m) e
-      ∙ break-later breaks (n - 1) (suc k) m (λ i some within. within-clear breaks i m lives some (let left = few (omega arith) in omega arith))
+      ∙ break-later breaks (n - 1) (suc k) m (λ i some within. clear i some (omega arith))
       ∙ ap (λ i. (n - 1) + i) (break-suc breaks k mid true (ap (is_at_break breaks) end ∙ there))
       ∙ last
 
@@ -171,11 +175,10 @@ module _ {X : Type 0} (f : Further X) where
   unfolding states_of_activities
   states-more count more m x e is = ap (λ n. states_of_activities f n m) e ∙ ap (λ y. (current m).left + states_of_activities f more y) (sym is)
 
-  -- some states of an activity, with a stop behind them or not
-  pub break-any : (breaks : List ℕ) (n k : ℕ) (m x : Machine X) → m.ended ≡ None → 0 < n → (1 < n → n ≤ (current m).left) → x ≡ (run_for f n m).machine →
-      (rest : ℕ) × (states_to_break f breaks (n + k) m ≡ n + rest)
-  break-any breaks n k m x lives some few is = by_stop (is_at_break breaks x) refl
+  -- some states without a stop, with one behind them or not
+  pub break-any : (breaks : List ℕ) (n k : ℕ) (m : Machine X) → 0 < n → IsClear f breaks n m → (rest : ℕ) × (states_to_break f breaks (n + k) m ≡ n + rest)
+  break-any breaks n k m some clear = by_stop (is_at_break breaks (run_for f n m).machine) refl
     where
-      by_stop : (here : Bool) → is_at_break breaks x ≡ here → (rest : ℕ) × (states_to_break f breaks (n + k) m ≡ n + rest)
-      by_stop true e = (0, break-there breaks n k m x lives some few is e ∙ (let z : n ≡ n + 0 = omega arith in z))
-      by_stop false e = (states_to_break f breaks k x, break-past breaks n k m x lives few is e)
+      by_stop : (here : Bool) → is_at_break breaks (run_for f n m).machine ≡ here → (rest : ℕ) × (states_to_break f breaks (n + k) m ≡ n + rest)
+      by_stop true e = (0, break-there breaks n k m _ some clear refl e ∙ (let z : n ≡ n + 0 = omega arith in z))
+      by_stop false e = (states_to_break f breaks k (run_for f n m).machine, break-past breaks n k m _ clear refl e)

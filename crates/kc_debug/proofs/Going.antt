@@ -1,20 +1,27 @@
 -- A script on its way: so many commands have been carried out.
-use Rattle.std.proofs.Common.{◌≡◌, ℕ, ◌+◌, ◌*◌, ◌^◌, ◌≤◌, false, true, cond, List, [], ◌∷◌, ◌++◌, length, drop, refl, sym, ap, subst, ◌∙◌, arith, length-append}
+use Rattle.std.proofs.Common.{◌≡◌, ℕ, suc, ◌+◌, ◌-◌, ◌*◌, ◌^◌, ◌≤◌, Bool, false, true, ◌||◌, cond, List, [], ◌∷◌, ◌++◌, length, take, drop, refl, sym, ap, subst, ◌∙◌, arith, length-append, length-drop, length-take-le, Result, Ok, Err, OnErr}
 use Rattle.std.specs.Prelude.{count_by}
-use Rattle.std.proofs.lemmas.List.{drop_all}
+use Rattle.std.specs.List.{list_any}
+use Rattle.std.proofs.Math.Seq.{take-append-add}
+use Rattle.std.proofs.lemmas.List.{drop_all, take-append-drop}
+use Rattle.std.proofs.lemmas.List.Folds.{list_any-append}
 use Rattle.std.proofs.lemmas.List.Sums.{sum_by-append}
 use Rattle.circular_buffer.specs.Buffer.{buffer, keep_last}
 use Rattle.kc_extra.specs.Further.{Further}
 use Rattle.kc_trace.specs.Out.{Out, Puts}
 use Rattle.kc_trace.proofs.Outs.{Puts-nothing, Puts-append, Puts-longer}
-use Rattle.kc_machine_spec.specs.Machine.{Machine}
+use Rattle.kc_machine_spec.specs.Machine.{Machine, Stepped}
+use Rattle.kc_machine_spec.specs.Run.{run_for}
 use Rattle.kc_debug_script.specs.declared.command.Command.{Command}
 use Rattle.kc_debug_script.specs.declared.command.Command.TheVariants.{Step, Go, Break, Registers, Show, Write, History, Quit}
 use Rattle.kc_debug_script.specs.declared.line_map.MapEntry.{MapEntry}
 use Rattle.kc_debug_script.specs.Script.{is_break, AreBounded}
 use Rattle.kc_debug.specs.declared.session.Sitting.{Sitting}
 use Rattle.kc_debug.specs.Sitting.{seen}
+use Rattle.kc_debug.specs.Passing.{Halts}
+use Rattle.kc_debug.specs.Stands.{states_of, work_in, work_of, StandsIn}
 use Rattle.kc_debug.specs.Transcript.{Debugged, untouched, after_command, debugged, quits, transcript}
+use Rattle.kc_debug.proofs.Begins.{run-none}
 use Rattle.kc_debug.proofs.Scripts.{kept_of, GoesOn, alike, debugged-nil, debugged-quit, debugged-more, debugged-text}
 
 pub goes_on : (c : Command) → quits c ≡ false → GoesOn c
@@ -37,7 +44,43 @@ is_quit (Show from count) e = absurd (let t : false ≡ true = e in cc)
 is_quit (Write addr value) e = absurd (let t : false ≡ true = e in cc)
 is_quit History e = absurd (let t : false ≡ true = e in cc)
 
+-- what is so in any case is so where a call has failed
+pub always-failed : {A E : Type 0} {P : Type 0} (r : Result A E) → P → OnErr r P
+always-failed (Ok a) p = tt
+always-failed (Err e) p = p
+
+module _ {X : Type 0} (f : Further X) where
+  -- a machine that has not gone on
+  pub halts-none : (most : ℕ) (m n : Machine X) → n ≡ m → Halts f most m n
+  halts-none most m n same = record { states = 0; few = omega arith; machine = same ∙ ap (λ (s : Stepped X). s.machine) (sym (run-none f m)) }
+
+-- neither of two tests holds
+neither : (a b : Bool) → (a || b) ≡ false → (a ≡ false) × (b ≡ false)
+neither false b e = (refl, e)
+neither true b e = absurd (let t : true ≡ false = e in cc)
+
+-- some items, and the next one
+take-here : {A : Type 0} (i : ℕ) (all : List A) (c : A) (rest : List A) → drop i all ≡ c ∷ rest → take (i + 1) all ≡ take i all ++ c ∷ []
+take-here i all c rest here =
+    let long : length all - i ≡ suc (length rest) = sym (length-drop i all) ∙ ap length here in
+    let few : length (take i all) ≡ i = length-take-le i all (omega (arith, long)) in
+    let whole : all ≡ take i all ++ c ∷ rest = sym (take-append-drop i all) ∙ ap (λ xs. take i all ++ xs) here in
+    let e : i + 1 ≡ length (take i all) + 1 = omega (arith, few) in
+    ap (take (i + 1)) whole ∙ ap (λ n. take n (take i all ++ c ∷ rest)) e ∙ take-append-add (take i all) (c ∷ rest) 1
+
 module _ {X : Type 0} (f : Further X) (entries : List MapEntry) where
+  -- commands of which none quits, and one more
+  debugged-last : (before : List Command) (c : Command) (d : Debugged X) → list_any quits before ≡ false → GoesOn c →
+      debugged f entries (before ++ c ∷ []) d ≡ after_command f entries c (debugged f entries before d)
+  debugged-last [] c d none goes =
+      debugged-more f entries c [] d goes ∙ debugged-nil f entries (after_command f entries c d) ∙ ap (after_command f entries c) (sym (debugged-nil f entries d))
+  debugged-last (b ∷ before) c d none goes =
+      let both = neither (quits b) (list_any quits before) none in
+      let first = goes_on b both.0 in
+      debugged-more f entries b (before ++ c ∷ []) d first
+      ∙ debugged-last before c (after_command f entries b d) both.1 goes
+      ∙ ap (after_command f entries c) (sym (debugged-more f entries b before d first))
+
   pub record Going (all : List Command) (m0 : Machine X) (o0 : Out) (index : ℕ) (m : Machine X) (s : Sitting) (o : Out) : Type 0 where
     pub so_far : Debugged X
     pub rest : transcript f entries all m0 ≡ debugged f entries (drop index all) so_far
@@ -47,6 +90,8 @@ module _ {X : Type 0} (f : Further X) (entries : List MapEntry) where
     pub text : Puts o0 so_far.text o
     pub few : length s.breaks.items + count_by is_break (drop index all) ≤ 16
     pub time : m.time ≤ 10 ^ 15 + 255000000 * index
+    pub done : so_far ≡ transcript f entries (take index all) m0
+    pub whole : list_any quits (take index all) ≡ false
 
   pub going-first : (all : List Command) (m : Machine X) (s : Sitting) (o : Out) → AreBounded all → s.breaks.items ≡ [] → s.begun ≡ buffer [] 33 → m.time ≤ 10 ^ 15 → Going all m o 0 m s o
   going-first all m s o bounded breaks begun time = record {
@@ -58,6 +103,8 @@ module _ {X : Type 0} (f : Further X) (entries : List MapEntry) where
     text = Puts-nothing o;
     few = let none : length s.breaks.items ≡ 0 = ap length breaks in omega (arith, none, bounded.limited.breakpoints);
     time = omega arith;
+    done = sym (debugged-nil f entries (untouched m));
+    whole = refl;
   }
 
   -- what is kept is what a session sees
@@ -75,8 +122,17 @@ module _ {X : Type 0} (f : Further X) (entries : List MapEntry) where
   breaks-after History d = omega arith
   breaks-after Quit d = omega arith
 
+  -- none of some commands quits, and the next does not
+  whole-next : (before : List Command) (c : Command) → list_any quits before ≡ false → quits c ≡ false → list_any quits (before ++ c ∷ []) ≡ false
+  whole-next before c whole goes = list_any-append quits before (c ∷ []) ∙ ap (λ b. b || list_any quits (c ∷ [])) whole ∙ ap (λ b. b || false) goes
+
+  transcript-next : (all : List Command) (index : ℕ) (m : Machine X) (c : Command) → drop index all ≡ c ∷ drop (index + 1) all → list_any quits (take index all) ≡ false → quits c ≡ false →
+      after_command f entries c (transcript f entries (take index all) m) ≡ transcript f entries (take (index + 1) all) m
+  transcript-next all index m c here whole goes =
+      sym (debugged-last (take index all) c (untouched m) whole (goes_on c goes)) ∙ ap (λ cs. debugged f entries cs (untouched m)) (sym (take-here index all c (drop (index + 1) all) here))
+
   pub going-next : (all : List Command) (m0 : Machine X) (o0 : Out) (index : ℕ) (m : Machine X) (s : Sitting) (o : Out) (c : Command) (n : Machine X) (t : Sitting) (p : Out) →
-      Going all m0 o0 index m s o → drop index all ≡ c ∷ drop (index + 1) all → GoesOn c →
+      Going all m0 o0 index m s o → drop index all ≡ c ∷ drop (index + 1) all → quits c ≡ false →
       n ≡ (after_command f entries c (seen m s)).machine → t.breaks.items ≡ (after_command f entries c (seen m s)).breaks →
       t.begun ≡ buffer (keep_last 33 (after_command f entries c (seen m s)).begun) 33 → Puts o (after_command f entries c (seen m s)).text p →
       n.time ≤ 10 ^ 15 + 255000000 * (index + 1) → Going all m0 o0 (index + 1) n t p
@@ -88,13 +144,15 @@ module _ {X : Type 0} (f : Further X) (entries : List MapEntry) where
       ap (count_by is_break) here ∙ sum_by-append (λ x. cond (is_break x) 1 0) (c ∷ []) (drop (index + 1) all) in
       record {
         so_far = after_command f entries c d;
-        rest = g.rest ∙ ap (λ cs. debugged f entries cs d) here ∙ debugged-more f entries c (drop (index + 1) all) d goes;
+        rest = g.rest ∙ ap (λ cs. debugged f entries cs d) here ∙ debugged-more f entries c (drop (index + 1) all) d (goes_on c goes);
         machine = machine ∙ ap (λ (k : Debugged X). k.machine) is ∙ same.machine;
         breaks = breaks ∙ ap (λ (k : Debugged X). k.breaks) is ∙ same.breaks;
         begun = begun ∙ ap (λ (k : Debugged X). buffer (keep_last 33 k.begun) 33) is ∙ ap (λ xs. buffer xs 33) same.begun;
         text = subst (λ xs. Puts o0 xs p) (ap (λ (k : Debugged X). d.text ++ k.text) is ∙ sym same.text) (Puts-append o0 d.text o (after_command f entries c (seen m s)).text p g.text text);
         few = let few = breaks-after c (seen m s) in let now = ap length breaks in omega (arith, g.few, few, now, counted);
         time = time;
+        done = ap (after_command f entries c) g.done ∙ transcript-next all index m0 c here g.whole goes;
+        whole = ap (list_any quits) (take-here index all c (drop (index + 1) all) here) ∙ whole-next (take index all) c g.whole goes;
       }
 
   -- a trace that has failed in a command
@@ -137,3 +195,90 @@ module _ {X : Type 0} (f : Further X) (entries : List MapEntry) where
   pub going-done : (all : List Command) (m0 : Machine X) (o0 : Out) (index : ℕ) (m : Machine X) (s : Sitting) (o : Out) → Going all m0 o0 index m s o → length all ≤ index → Ends all m0 o0 m o
   going-done all m0 o0 index m s o g past =
       ends all m0 o0 index m s o g (ap (λ cs. debugged f entries cs g.so_far) (drop_all index all past) ∙ debugged-nil f entries g.so_far)
+
+  -- ---- where the machine stands when the sink has failed
+
+  states-kept : (c : Command) (d : Debugged X) → states_of f c (kept_of d) ≡ states_of f c d
+  states-kept (Step count) d = refl
+  states-kept (Go until) d = refl
+  states-kept (Break addr) d = refl
+  states-kept Registers d = refl
+  states-kept (Show from count) d = refl
+  states-kept (Write addr value) d = refl
+  states-kept History d = refl
+  states-kept Quit d = refl
+
+  pub going-stands : (all : List Command) (m0 : Machine X) (o0 : Out) (index : ℕ) (m : Machine X) (s : Sitting) (o : Out) (c : Command) (n : Machine X) (p : Out) →
+      Going all m0 o0 index m s o → o.failed ≡ false → drop index all ≡ c ∷ drop (index + 1) all → quits c ≡ false →
+      Puts o (after_command f entries c (seen m s)).text p → p.failed ≡ true → Halts f (states_of f c (seen m s)) m n → StandsIn f entries all m0 o0 n p
+  going-stands all m0 o0 index m s o c n p g unbroken here goes text failed halts =
+      let d : Debugged X = g.so_far in
+      let kept = seen-kept all m0 o0 index m s o g in
+      let said = (after_command f entries c (seen m s)).text in
+      let says : (after_command f entries c d).text ≡ d.text ++ said =
+      (alike f entries c d).text ∙ ap (λ (k : Debugged X). d.text ++ (after_command f entries c k).text) (sym kept) in
+      let states : states_of f c (seen m s) ≡ states_of f c d = ap (states_of f c) kept ∙ states-kept c d in
+      record {
+        before = take index all;
+        command = c;
+        rest = drop (index + 1) all;
+        all = sym (take-append-drop index all) ∙ ap (λ xs. take index all ++ xs) here;
+        goes_on = whole-next (take index all) c g.whole goes;
+        mid = o;
+        whole = subst (λ (k : Debugged X). Puts o0 k.text o) g.done g.text;
+        unbroken = unbroken;
+        said = said;
+        says = subst (λ (k : Debugged X). (after_command f entries c k).text ≡ k.text ++ said) g.done says;
+        part = text;
+        failed = failed;
+        states = halts.states;
+        few = subst (λ (k : Debugged X). halts.states ≤ states_of f c k) g.done (subst (λ i. halts.states ≤ i) states halts.few);
+        machine = halts.machine ∙ ap (λ x. (run_for f halts.states x).machine) (g.machine ∙ ap (λ (k : Debugged X). k.machine) g.done);
+      }
+
+  -- ---- the work of a script
+
+  work-kept : (c : Command) (d : Debugged X) → work_in f c (kept_of d) ≡ work_in f c d
+  work-kept c d = ap (λ i. (run_for f i d.machine).work) (states-kept c d)
+
+  work-more : (c : Command) (commands : List Command) (d : Debugged X) → GoesOn c → work_of f entries (c ∷ commands) d ≡ work_in f c d + work_of f entries commands (after_command f entries c d)
+  unfolding work_of
+  work-more (Step count) commands d h = refl
+  work-more (Go until) commands d h = refl
+  work-more (Break addr) commands d h = refl
+  work-more Registers commands d h = refl
+  work-more (Show from count) commands d h = refl
+  work-more (Write addr value) commands d h = refl
+  work-more History commands d h = refl
+  work-more Quit commands d h = absurd h
+
+  -- what was spent so far, and the work that is left
+  pub record Paid (all : List Command) (m0 : Machine X) (s0 v0 index s v : ℕ) : Type 0 where
+    pub steps : s + 4 * work_of f entries (drop index all) (transcript f entries (take index all) m0) ≤ s0 + 4 * work_of f entries all (untouched m0)
+    pub moves : v + 4 * work_of f entries (drop index all) (transcript f entries (take index all) m0) ≤ v0 + (4 * work_of f entries all (untouched m0) + 256 * index)
+
+  pub paid-first : (all : List Command) (m : Machine X) (s v : ℕ) → Paid all m s v 0 s v
+  paid-first all m s v =
+      let same = ap (work_of f entries all) (debugged-nil f entries (untouched m)) in
+      record { steps = omega (arith, same); moves = omega (arith, same) }
+
+  pub paid-next : (all : List Command) (m0 : Machine X) (o0 : Out) (index : ℕ) (m : Machine X) (sitting : Sitting) (o : Out) (c : Command) (s0 v0 s v t w : ℕ) →
+      Going all m0 o0 index m sitting o → drop index all ≡ c ∷ drop (index + 1) all → quits c ≡ false → Paid all m0 s0 v0 index s v →
+      t ≤ s + 4 * work_in f c (seen m sitting) → w ≤ v + (4 * work_in f c (seen m sitting) + 256) → Paid all m0 s0 v0 (index + 1) t w
+  paid-next all m0 o0 index m sitting o c s0 v0 s v t w g here goes paid steps moves =
+      let d : Debugged X = transcript f entries (take index all) m0 in
+      let next : Debugged X = transcript f entries (take (index + 1) all) m0 in
+      let one : work_in f c (seen m sitting) ≡ work_in f c d =
+      ap (work_in f c) (seen-kept all m0 o0 index m sitting o g) ∙ work-kept c g.so_far ∙ ap (work_in f c) g.done in
+      let more : work_of f entries (drop index all) d ≡ work_in f c d + work_of f entries (drop (index + 1) all) next =
+      ap (λ cs. work_of f entries cs d) here
+      ∙ work-more c (drop (index + 1) all) d (goes_on c goes)
+      ∙ ap (λ k. work_in f c d + work_of f entries (drop (index + 1) all) k) (transcript-next all index m0 c here g.whole goes) in
+      record { steps = omega (arith, paid.steps, steps, one, more); moves = omega (arith, paid.moves, moves, one, more) }
+
+  pub paid-steps : (all : List Command) (m0 : Machine X) (s0 v0 index s v : ℕ) → Paid all m0 s0 v0 index s v → s ≤ s0 + 4 * work_of f entries all (untouched m0)
+  paid-steps all m0 s0 v0 index s v paid = omega (arith, paid.steps)
+
+  pub paid-moves : (all : List Command) (m0 : Machine X) (s0 v0 index s v : ℕ) → Paid all m0 s0 v0 index s v → index ≤ length all →
+      v ≤ v0 + (4 * work_of f entries all (untouched m0) + 256 * length all)
+  paid-moves all m0 s0 v0 index s v paid few = omega (arith, paid.moves, few)

@@ -1,5 +1,6 @@
 pub mod Last
 pub mod Begins
+pub mod Idling
 pub mod Passing
 pub mod Scripts
 pub mod Shown

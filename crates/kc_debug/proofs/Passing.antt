@@ -1,5 +1,5 @@
 -- A command on its way: so many states have passed since it began.
-use Rattle.std.proofs.Common.{◌≡◌, ℕ, ◌+◌, ◌-◌, ◌<◌, ◌≤◌, max, is_some, Bool, true, false, List, [], ◌++◌, Option, Some, None, refl, sym, ap, subst, ◌∙◌, append_assoc, append-nil, arith, IfSome, is_none, ◌↔◌, ◌==◌, ◌&&◌}
+use Rattle.std.proofs.Common.{◌≡◌, ℕ, ◌+◌, ◌-◌, ◌*◌, ◌<◌, ◌≤◌, max, is_some, Bool, true, false, List, [], ◌++◌, Option, Some, None, refl, sym, ap, subst, ◌∙◌, append_assoc, append-nil, arith, IfSome, is_none, ◌↔◌, ◌==◌, ◌&&◌, Result, Ok, Err, OnOk}
 use Rattle.std.specs.List.{list_any}
 use Rattle.circular_buffer.specs.Buffer.{Buffer, buffer, keep_last}
 use Rattle.kc_extra.specs.Further.{Further}
@@ -16,13 +16,14 @@ use Rattle.kc_machine_spec.specs.Machine.{Machine, Stepped, current}
 use Rattle.kc_machine_spec.specs.Passing.{activity_end}
 use Rattle.kc_machine_spec.specs.Run.{still, and_then, run_for, run_to}
 use Rattle.kc_machine_spec.proofs.Runs.{run_for-ended, run_for-add, run_for-has_run}
+use Rattle.kc_machine.specs.Board.{Whole}
 use Rattle.kc_machine.specs.Stepping.{IsBrief}
 use Rattle.kc_debug.specs.declared.activities.Begun.{Begun}
 use Rattle.kc_debug.specs.Activities.{begins_unless, beginning, begun_for}
 use Rattle.kc_debug.specs.Stops.{is_at_break}
-use Rattle.kc_debug.specs.Passing.{IsKept, Passed}
+use Rattle.kc_debug.specs.Passing.{IsKept, Passed, Told, Stood, Halts, Spends}
 use Rattle.kc_debug.proofs.Last.{last-append, last-same}
-use Rattle.kc_debug.proofs.Begins.{run-none, begun-none, begun-add, begun-ended, begun-activity}
+use Rattle.kc_debug.proofs.Begins.{run-none, machine-add, begun-none, begun-add, begun-ended, begun-activity}
 
 -- a machine that is not at its first state has run
 has_run : (how : End) (time : ℕ) → 0 < time → HasRun how time
@@ -94,25 +95,43 @@ module _ {X : Type 0} (f : Further X) where
   pub along-kept : (m0 : Machine X) (o0 : Out) (r0 : List Begun) (i : ℕ) (m : Machine X) (o : Out) (r : Buffer Begun) → Along m0 o0 r0 i m o r → IsKept r
   along-kept m0 o0 r0 i m o r along = kept-last r (r0 ++ begun_for f i m0) along.begun
 
-  -- some states of an activity more
+  -- some states of an activity have been told
+  pub activity-told : (n : ℕ) (m : Machine X) (o : Out) (r : Buffer Begun) (x : Machine X) (p : Out) (q : Buffer Begun) → m.ended ≡ None → Passed f n m o r x p q → Told f n m o r p q
+  activity-told n m o r x p q lives next = record {
+    some = next.some;
+    lines = next.lines;
+    begun = next.begun ∙ ap (λ xs. buffer (keep_last r.capacity (r.items ++ xs)) r.capacity) (sym (begun-activity f n m lives next.some next.few));
+  }
+
+  pub activity-stood : (n : ℕ) (m : Machine X) (o : Out) (r : Buffer Begun) (x : Machine X) (p : Out) (q : Buffer Begun) → Passed f n m o r x p q → Stood f n m x
+  activity-stood n m o r x p q next = record { machine = next.machine; time = next.time }
+
+  -- the lines of some states more
+  pub along-lines : (m0 : Machine X) (o0 : Out) (r0 : List Begun) (i n : ℕ) (m : Machine X) (o : Out) (r : Buffer Begun) (p : Out) →
+      Along m0 o0 r0 i m o r → Prints o (run_for f n m).records p → Prints o0 (run_for f (i + n) m0).records p
+  along-lines m0 o0 r0 i n m o r p along lines =
+      let same : run_for f n m ≡ run_for f n (run_for f i m0).machine = ap (run_for f n) along.machine in
+      let all : run_for f (i + n) m0 ≡ and_then (run_for f i m0) (run_for f n) = run_for-add f i n m0 in
+      subst (λ xs. Prints o0 xs p) (ap (λ (s : Stepped X). (run_for f i m0).records ++ s.records) same ∙ ap (λ (s : Stepped X). s.records) (sym all))
+      (Prints-append o0 (run_for f i m0).records o (run_for f n m).records p along.lines lines)
+
+  -- some states more
   pub along-next : (m0 : Machine X) (o0 : Out) (r0 : List Begun) (i n : ℕ) (m : Machine X) (o : Out) (r : Buffer Begun) (x : Machine X) (p : Out) (q : Buffer Begun) →
-      Along m0 o0 r0 i m o r → m.ended ≡ None → Passed f n m o r x p q → Along m0 o0 r0 (i + n) x p q
-  along-next m0 o0 r0 i n m o r x p q along lives next =
+      Along m0 o0 r0 i m o r → Told f n m o r p q → Stood f n m x → Along m0 o0 r0 (i + n) x p q
+  along-next m0 o0 r0 i n m o r x p q along told stood =
       let mid : Machine X = (run_for f i m0).machine in
       let same : run_for f n m ≡ run_for f n mid = ap (run_for f n) along.machine in
       let all : run_for f (i + n) m0 ≡ and_then (run_for f i m0) (run_for f n) = run_for-add f i n m0 in
-      let began : begun_for f n mid ≡ beginning m = ap (begun_for f n) (sym along.machine) ∙ begun-activity f n m lives next.some next.few in
-      let more : (r0 ++ begun_for f i m0) ++ beginning m ≡ r0 ++ begun_for f (i + n) m0 =
-      append_assoc r0 (begun_for f i m0) (beginning m)
-      ∙ ap (λ xs. r0 ++ (begun_for f i m0 ++ xs)) (sym began)
+      let more : (r0 ++ begun_for f i m0) ++ begun_for f n m ≡ r0 ++ begun_for f (i + n) m0 =
+      append_assoc r0 (begun_for f i m0) (begun_for f n m)
+      ∙ ap (λ y. r0 ++ (begun_for f i m0 ++ begun_for f n y)) along.machine
       ∙ ap (λ xs. r0 ++ xs) (sym (begun-add f i n m0)) in
       record {
-        machine = next.machine ∙ ap (λ (s : Stepped X). s.machine) same ∙ ap (λ (s : Stepped X). s.machine) (sym all);
-        lines = subst (λ xs. Prints o0 xs p) (ap (λ (s : Stepped X). (run_for f i m0).records ++ s.records) same ∙ ap (λ (s : Stepped X). s.records) (sym all))
-            (Prints-append o0 (run_for f i m0).records o (run_for f n m).records p along.lines next.lines);
-        begun = next.begun
-            ∙ ap (λ (b : Buffer Begun). buffer (keep_last b.capacity (b.items ++ beginning m)) b.capacity) along.begun
-            ∙ ap (λ xs. buffer xs 33) (last-append 33 (r0 ++ begun_for f i m0) (beginning m) ∙ ap (keep_last 33) more);
+        machine = stood.machine ∙ ap (λ (s : Stepped X). s.machine) same ∙ ap (λ (s : Stepped X). s.machine) (sym all);
+        lines = along-lines m0 o0 r0 i n m o r p along told.lines;
+        begun = told.begun
+            ∙ ap (λ (b : Buffer Begun). buffer (keep_last b.capacity (b.items ++ begun_for f n m)) b.capacity) along.begun
+            ∙ ap (λ xs. buffer xs 33) (last-append 33 (r0 ++ begun_for f i m0) (begun_for f n m) ∙ ap (keep_last 33) more);
       }
 
   -- an ended machine stands still
@@ -134,11 +153,10 @@ module _ {X : Type 0} (f : Further X) where
       }
 
   -- a trace that has failed on the way
-  pub along-cut : (m0 : Machine X) (o0 : Out) (r0 : List Begun) (i k total : ℕ) (m : Machine X) (o : Out) (r : Buffer Begun) →
-      Along m0 o0 r0 i m o r → o.failed ≡ true → total ≡ i + k → Prints o0 (run_for f total m0).records o
-  along-cut m0 o0 r0 i k total m o r along failed sum =
+  pub along-cut : (m0 : Machine X) (o0 : Out) (i k total : ℕ) (o : Out) → Prints o0 (run_for f i m0).records o → o.failed ≡ true → total ≡ i + k → Prints o0 (run_for f total m0).records o
+  along-cut m0 o0 i k total o lines failed sum =
       subst (λ n. Prints o0 (run_for f n m0).records o) (sym sum)
-      (subst (λ (s : Stepped X). Prints o0 s.records o) (sym (run_for-add f i k m0)) (Prints-longer o0 _ _ o failed along.lines))
+      (subst (λ (s : Stepped X). Prints o0 s.records o) (sym (run_for-add f i k m0)) (Prints-longer o0 _ _ o failed lines))
 
   -- the end of the way
   pub along-done : (m0 : Machine X) (o0 : Out) (r0 : List Begun) (i total : ℕ) (m : Machine X) (o : Out) (r : Buffer Begun) →
@@ -184,6 +202,75 @@ module _ {X : Type 0} (f : Further X) where
         lines = subst (λ i. Prints o (run_for f i m).records p) u lines;
         begun = begun;
       }
+
+  -- ---- work, and where a machine stands on the way
+
+  work-add : (i k : ℕ) (m : Machine X) → (run_for f (i + k) m).work ≡ (run_for f i m).work + (run_for f k (run_for f i m).machine).work
+  work-add i k m = ap (λ (s : Stepped X). s.work) (run_for-add f i k m)
+
+  -- the work of some states is within that of all
+  work-within : (k n : ℕ) (m : Machine X) → k ≤ n → (run_for f k m).work ≤ (run_for f n m).work
+  work-within k n m few =
+      let sum : n ≡ k + (n - k) = omega arith in
+      let all = ap (λ i. (run_for f i m).work) sum ∙ work-add k (n - k) m in
+      omega (arith, all)
+
+  -- what is spent in a run to a state
+  pub spends-run : (k to : ℕ) (m : Whole X) (s : ℕ) (n : Whole X) (t : ℕ) → to - m.machine.time ≡ k →
+      t ≤ s + 4 * (run_to f to m.machine).work → n.moves ≤ m.moves + 4 * (run_to f to m.machine).work → Spends f k m s n t
+  spends-run k to m s n t e steps moves =
+      let work = ap (λ i. (run_for f i m.machine).work) e in
+      record { steps = omega (arith, steps, work); moves = omega (arith, moves, work) }
+
+  pub spends-activity : (m : Whole X) (s : ℕ) (n : Whole X) (t : ℕ) →
+      t ≤ s + 4 * (run_to f (activity_end m.machine) m.machine).work → n.moves ≤ m.moves + 4 * (run_to f (activity_end m.machine) m.machine).work →
+      Spends f (current m.machine).left m s n t
+  spends-activity m s n t steps moves = spends-run (current m.machine).left (activity_end m.machine) m s n t (omega arith) steps moves
+
+  -- a run that may stop before its state
+  pub spends-some : (end to : ℕ) (m : Whole X) (s : ℕ) (n : Whole X) (t : ℕ) → to - m.machine.time ≤ end →
+      t ≤ s + 4 * (run_to f to m.machine).work → n.moves ≤ m.moves + 4 * (run_to f to m.machine).work → Spends f end m s n t
+  spends-some end to m s n t few steps moves =
+      let work = work-within (to - m.machine.time) end m.machine few in
+      record { steps = omega (arith, steps, work); moves = omega (arith, moves, work) }
+
+  -- nothing is spent before the first state
+  pub spends-none : (m : Whole X) (s : ℕ) → Spends f 0 m s m s
+  spends-none m s = record { steps = omega arith; moves = omega arith }
+
+  -- some states, and then others
+  pub spends-add : (i k : ℕ) (m0 : Whole X) (s0 : ℕ) (m : Whole X) (s : ℕ) (n : Whole X) (t : ℕ) → m.machine ≡ (run_for f i m0.machine).machine →
+      Spends f i m0 s0 m s → Spends f k m s n t → Spends f (i + k) m0 s0 n t
+  spends-add i k m0 s0 m s n t is before then =
+      let same : (run_for f k m.machine).work ≡ (run_for f k (run_for f i m0.machine).machine).work = ap (λ x. (run_for f k x).work) is in
+      let all = work-add i k m0.machine in
+      record { steps = omega (arith, before.steps, then.steps, same, all); moves = omega (arith, before.moves, then.moves, same, all) }
+
+  -- more states do no less
+  pub spends-within : (k n : ℕ) (m0 : Whole X) (s0 : ℕ) (m : Whole X) (s : ℕ) → k ≤ n → Spends f k m0 s0 m s → Spends f n m0 s0 m s
+  spends-within k n m0 s0 m s few spends =
+      let work = work-within k n m0.machine few in
+      record { steps = omega (arith, spends.steps, work); moves = omega (arith, spends.moves, work) }
+
+  pub halts-at : (k most : ℕ) (m n : Machine X) → n ≡ (run_for f k m).machine → k ≤ most → Halts f most m n
+  halts-at k most m n is few = record { states = k; few = few; machine = is }
+
+  -- it stands behind some of the states of a run to a state
+  pub halts-run : (end : ℕ) (m n : Machine X) → n ≡ (run_to f n.time m).machine → n.time ≤ max end m.time → Halts f (end - m.time) m n
+  halts-run end m n is within = record { states = n.time - m.time; few = omega arith; machine = is }
+
+  -- behind some states, and then some of others
+  pub halts-later : (i k total : ℕ) (m0 m n : Machine X) → m ≡ (run_for f i m0).machine → Halts f k m n → i + k ≤ total → Halts f total m0 n
+  halts-later i k total m0 m n is halts fits = record {
+    states = i + halts.states;
+    few = omega (arith, halts.few, fits);
+    machine = halts.machine ∙ ap (λ x. (run_for f halts.states x).machine) is ∙ sym (machine-add f i halts.states m0);
+  }
+
+-- what is so in any case is so where a call is Ok
+pub always : {A E : Type 0} {P : Type 0} (r : Result A E) → P → OnOk r P
+always (Ok a) p = p
+always (Err e) p = tt
 
 -- lines that were put whole, or at which the sink has failed
 pub printed : (o : Out) (xs : List Record) (p : Out) → Puts o (text_of xs) p → p.counts ≡ counted_all xs o.counts → Prints o xs p

@@ -4,3 +4,4 @@ pub mod Lines
 pub mod Transcript
 pub mod Passing
 pub mod Sitting
+pub mod Stands

@@ -1,12 +1,14 @@
 -- What a part of a command has done to a machine, to a trace, and to the activities that are kept (this kit's own).
-use Rattle.std.specs.Prelude.{◌≡◌, ℕ, ◌+◌, ◌<◌, ◌≤◌, ◌++◌}
+use Rattle.std.specs.Prelude.{◌≡◌, ℕ, ◌+◌, ◌*◌, ◌<◌, ◌≤◌, false, List, ◌++◌}
 use Rattle.circular_buffer.specs.Buffer.{Buffer, buffer, keep_last}
 use Rattle.kc_extra.specs.Further.{Further}
 use Rattle.kc_trace.specs.Out.{Out, Prints}
 use Rattle.kc_machine_spec.specs.Machine.{Machine, current}
 use Rattle.kc_machine_spec.specs.Run.{run_for}
+use Rattle.kc_machine.specs.Board.{Whole}
 use Rattle.kc_debug.specs.declared.activities.Begun.{Begun}
 use Rattle.kc_debug.specs.Activities.{beginning, begun_for}
+use Rattle.kc_debug.specs.Stops.{is_at_break}
 
 -- no more activities are kept than the last 33
 abbrev pub IsKept : Buffer Begun → Type 0
@@ -21,6 +23,32 @@ module _ {X : Type 0} (f : Further X) where
     pub time : n.time ≡ m.time + states
     pub lines : Prints o (run_for f states m).records p
     pub begun : q ≡ buffer (keep_last r.capacity (r.items ++ beginning m)) r.capacity
+
+  -- within so many states no activity starts at a breakpoint
+  abbrev pub IsClear : List ℕ → ℕ → Machine X → Type 0
+  IsClear breaks states m = (i : ℕ) → 0 < i → i < states → is_at_break breaks (run_for f i m).machine ≡ false
+
+  -- the lines of some states have been put, and the activities that begin in them are noted
+  pub record Told (states : ℕ) (m : Machine X) (o : Out) (r : Buffer Begun) (p : Out) (q : Buffer Begun) : Type 0 where
+    pub some : 0 < states
+    pub lines : Prints o (run_for f states m).records p
+    pub begun : q ≡ buffer (keep_last r.capacity (r.items ++ begun_for f states m)) r.capacity
+
+  -- and the machine stands behind them
+  pub record Stood (states : ℕ) (m n : Machine X) : Type 0 where
+    pub machine : n ≡ (run_for f states m).machine
+    pub time : n.time ≡ m.time + states
+
+  -- the machine stands behind some of so many states
+  pub record Halts (most : ℕ) (m n : Machine X) : Type 0 where
+    pub states : ℕ
+    pub few : states ≤ most
+    pub machine : n ≡ (run_for f states m).machine
+
+  -- units were called, and moved, at most four times the work of so many states
+  pub record Spends (states : ℕ) (m : Whole X) (s : ℕ) (n : Whole X) (t : ℕ) : Type 0 where
+    pub steps : t ≤ s + 4 * (run_for f states m.machine).work
+    pub moves : n.moves ≤ m.moves + 4 * (run_for f states m.machine).work
 
   -- so many states have passed, and the activities that began in them are noted
   pub record Gone (states : ℕ) (m : Machine X) (r : Buffer Begun) (n : Machine X) (q : Buffer Begun) : Type 0 where

@@ -1,7 +1,8 @@
 // The activities that begin while a machine goes on.
-ghost use Rattle.std.specs.Prelude.{◌≡◌, ◌++◌};
+ghost use Rattle.std.specs.Prelude.{◌≡◌, ◌≤◌, ◌-◌, ◌++◌};
 ghost use Rattle.circular_buffer.specs.Buffer.{buffer, keep_last};
-ghost use Rattle.kc_debug.specs.Activities.{beginning};
+ghost use Rattle.kc_machine.specs.Stepping.{IdlesFor};
+ghost use Rattle.kc_debug.specs.Activities.{beginning, begun_for};
 ghost use Rattle.kc_debug.specs.Passing.{IsKept};
 
 use circular_buffer::HeapCircularBuffer;
@@ -29,5 +30,23 @@ pub(crate) fn note<X: Extra + Drop>(begun: &mut HeapCircularBuffer<Begun>, machi
             at: machine.now(),
             pc: machine.pc(),
         });
+    }
+}
+
+/// Notes the idle states from now on up to a state, of which the last alone are kept.
+pub(crate) fn note_idle<X: Extra + Drop>(
+    begun: &mut HeapCircularBuffer<Begun>,
+    end: StateTime,
+    machine: &Machine<X>,
+)
+    requires kept { IsKept begun.old }
+    requires ahead { machine.now.machine.time ≤ end }
+    requires idles { IdlesFor X.further (end - machine.now.machine.time) machine.now.machine }
+    ensures { begun.new ≡ buffer (keep_last begun.old.capacity (begun.old.items ++ begun_for X.further (end - machine.now.machine.time) machine.now.machine)) begun.old.capacity }
+{
+    let pc = machine.pc();
+    let first = machine.now().max(end.saturating_sub(KEPT as u64));
+    for at in first..end {
+        begun.push_back(Begun { at, pc });
     }
 }

@@ -1,14 +1,15 @@
 // The commands that let the machine go on.
-ghost use Rattle.std.specs.Prelude.{◌≡◌, ◌==◌, ℕ, ◌+◌, ◌-◌, ◌*◌, ◌^◌, ◌<◌, ◌≤◌, max, None, OnOk, OnErr, false, true};
+ghost use Rattle.std.specs.Prelude.{◌≡◌, ◌==◌, ℕ, ◌+◌, ◌-◌, ◌*◌, ◌^◌, ◌<◌, ◌≤◌, max, None, IfOk, OnOk, OnErr, false, true};
 ghost use Rattle.std.specs.List.{list_any};
 ghost use Rattle.kc_trace.specs.Out.{Prints};
 ghost use Rattle.kc_trace.specs.Trace.{out_of};
 ghost use Rattle.kc_machine_spec.specs.Machine.{current};
 ghost use Rattle.kc_machine_spec.specs.Run.{run_for};
-ghost use Rattle.kc_debug.specs.Passing.{IsKept, Passed, Gone};
+ghost use Rattle.kc_machine.specs.Stepping.{IdlesFor};
+ghost use Rattle.kc_debug.specs.Passing.{IsKept, Passed, IsClear, Told, Stood, Gone, Halts, Spends};
 ghost use Rattle.kc_debug.specs.Stops.{is_at_break as stands_at_break, states_of_activities, states_of_run};
 
-use crate::activities::{Begun, note};
+use crate::activities::{Begun, note, note_idle};
 use circular_buffer::HeapCircularBuffer;
 use kc_base::{Sink, StateTime, Steps};
 use kc_extra::Extra;
@@ -32,6 +33,7 @@ fn pass_activity<X: Extra + Drop, S: Sink, L: Ledger>(
     requires unbroken { out.old.failed ≡ false }
     ensures passed { Passed X.further (current machine.old.machine).left machine.old.machine (out_of S.written S.faults out.old) begun.old machine.new.machine (out_of S.written S.faults out.new) begun.new }
     ensures few { (current machine.old.machine).left ≤ 255 }
+    ensures spent { Spends X.further (current machine.old.machine).left machine.old steps.old machine.new steps.new }
     ensures written { OnOk result (out.new.failed ≡ false) }
     ensures failed { OnErr result (out.new.failed ≡ true) }
 {
@@ -54,6 +56,7 @@ fn pass_state<X: Extra + Drop, S: Sink, L: Ledger>(
     requires room { machine.old.machine.time < 2 * 10 ^ 15 }
     requires unbroken { out.old.failed ≡ false }
     ensures passed { Passed X.further 1 machine.old.machine (out_of S.written S.faults out.old) begun.old machine.new.machine (out_of S.written S.faults out.new) begun.new }
+    ensures spent { Spends X.further 1 machine.old steps.old machine.new steps.new }
     ensures written { OnOk result (out.new.failed ≡ false) }
     ensures failed { OnErr result (out.new.failed ≡ true) }
 {
@@ -62,6 +65,68 @@ fn pass_state<X: Extra + Drop, S: Sink, L: Ledger>(
     match machine.run(next, out, steps) {
         Ok(_) => Ok(()),
         Err(fault) => Err(fault),
+    }
+}
+
+// Goes on to a state up to which the machine idles.
+fn pass_idle<X: Extra + Drop, S: Sink, L: Ledger>(
+    begun: &mut HeapCircularBuffer<Begun>,
+    end: StateTime,
+    machine: &mut Machine<X>,
+    out: &mut TraceOut<S>,
+    steps: &mut Steps<L>,
+) -> Result<(), WriteFault>
+    requires kept { IsKept begun.old }
+    requires ahead { machine.old.machine.time < end }
+    requires room { end ≤ 2 * 10 ^ 15 }
+    requires idles { IdlesFor X.further (end - machine.old.machine.time) machine.old.machine }
+    requires unbroken { out.old.failed ≡ false }
+    ensures told { Told X.further (end - machine.old.machine.time) machine.old.machine (out_of S.written S.faults out.old) begun.old (out_of S.written S.faults out.new) begun.new }
+    ensures stood { OnOk result (Stood X.further (end - machine.old.machine.time) machine.old.machine machine.new.machine) }
+    ensures halts { Halts X.further (end - machine.old.machine.time) machine.old.machine machine.new.machine }
+    ensures spent { Spends X.further (end - machine.old.machine.time) machine.old steps.old machine.new steps.new }
+    ensures within { machine.new.machine.time ≤ end }
+    ensures written { OnOk result (out.new.failed ≡ false) }
+    ensures failed { OnErr result (out.new.failed ≡ true) }
+{
+    note_idle(begun, end, machine);
+    match machine.run(end, out, steps) {
+        Ok(_) => Ok(()),
+        Err(fault) => Err(fault),
+    }
+}
+
+// Goes on by some of so many activities, of which one that is under way is the first, and answers by how many.
+fn pass_some<X: Extra + Drop, S: Sink, L: Ledger>(
+    begun: &mut HeapCircularBuffer<Begun>,
+    left: u32,
+    machine: &mut Machine<X>,
+    out: &mut TraceOut<S>,
+    steps: &mut Steps<L>,
+) -> Result<u32, WriteFault>
+    requires kept { IsKept begun.old }
+    requires lives { machine.old.machine.ended ≡ None }
+    requires some { 0 < left }
+    requires room { machine.old.machine.time + 255 * left ≤ 2 * 10 ^ 15 }
+    requires unbroken { out.old.failed ≡ false }
+    ensures passed { (states : ℕ) × (rest : ℕ) × (states_of_activities X.further left machine.old.machine ≡ states + rest) × Told X.further states machine.old.machine (out_of S.written S.faults out.old) begun.old (out_of S.written S.faults out.new) begun.new × Halts X.further states machine.old.machine machine.new.machine × Spends X.further states machine.old steps.old machine.new steps.new × IfOk result (λ passed. Stood X.further states machine.old.machine machine.new.machine × (rest ≡ states_of_activities X.further (left - passed) machine.new.machine)) }
+    ensures some { IfOk result (λ passed. (0 < passed) × (passed ≤ left) × (machine.new.machine.time + 255 * (left - passed) ≤ machine.old.machine.time + 255 * left)) }
+    ensures time { machine.new.machine.time ≤ machine.old.machine.time + 255 * left }
+    ensures written { OnOk result (out.new.failed ≡ false) }
+    ensures failed { OnErr result (out.new.failed ≡ true) }
+{
+    let now = machine.now();
+    let end = machine.idles_to(now + u64::from(left));
+    if now < end {
+        match pass_idle(begun, end, machine, out, steps) {
+            Ok(()) => Ok((end - now) as u32),
+            Err(fault) => Err(fault),
+        }
+    } else {
+        match pass_activity(begun, machine, out, steps) {
+            Ok(()) => Ok(1),
+            Err(fault) => Err(fault),
+        }
     }
 }
 
@@ -78,6 +143,8 @@ pub(crate) fn step<X: Extra + Drop, S: Sink, L: Ledger>(
     requires unbroken { out.old.failed ≡ false }
     ensures lines { Prints (out_of S.written S.faults out.old) (run_for X.further (states_of_activities X.further count machine.old.machine) machine.old.machine).records (out_of S.written S.faults out.new) }
     ensures gone { OnOk result (Gone X.further (states_of_activities X.further count machine.old.machine) machine.old.machine begun.old machine.new.machine begun.new) }
+    ensures halts { Halts X.further (states_of_activities X.further count machine.old.machine) machine.old.machine machine.new.machine }
+    ensures spent { Spends X.further (states_of_activities X.further count machine.old.machine) machine.old steps.old machine.new steps.new }
     ensures time { machine.new.machine.time ≤ machine.old.machine.time + 255 * count }
     ensures capacity { begun.new.capacity ≡ 33 }
     ensures written { OnOk result (out.new.failed ≡ false) }
@@ -88,8 +155,8 @@ pub(crate) fn step<X: Extra + Drop, S: Sink, L: Ledger>(
         if machine.ended().is_some() {
             return Ok(());
         }
-        pass_activity(begun, machine, out, steps)?;
-        left -= 1;
+        let passed = pass_some(begun, left, machine, out, steps)?;
+        left -= passed;
     }
     Ok(())
 }
@@ -112,7 +179,7 @@ fn is_at_break<X: Extra + Drop>(breaks: &[u16], machine: &Machine<X>) -> bool
 }
 
 // Goes on to the end of an activity, or by one state where the state `until` is near.
-fn pass<X: Extra + Drop, S: Sink, L: Ledger>(
+fn pass_one<X: Extra + Drop, S: Sink, L: Ledger>(
     begun: &mut HeapCircularBuffer<Begun>,
     until: StateTime,
     machine: &mut Machine<X>,
@@ -124,7 +191,7 @@ fn pass<X: Extra + Drop, S: Sink, L: Ledger>(
     requires ahead { machine.old.machine.time < until }
     requires room { until ≤ 2 * 10 ^ 15 }
     requires unbroken { out.old.failed ≡ false }
-    ensures passed { (states : ℕ) × (states ≤ until - machine.old.machine.time) × Passed X.further states machine.old.machine (out_of S.written S.faults out.old) begun.old machine.new.machine (out_of S.written S.faults out.new) begun.new }
+    ensures passed { (states : ℕ) × (states ≤ until - machine.old.machine.time) × Passed X.further states machine.old.machine (out_of S.written S.faults out.old) begun.old machine.new.machine (out_of S.written S.faults out.new) begun.new × Spends X.further states machine.old steps.old machine.new steps.new }
     ensures written { OnOk result (out.new.failed ≡ false) }
     ensures failed { OnErr result (out.new.failed ≡ true) }
 {
@@ -132,6 +199,47 @@ fn pass<X: Extra + Drop, S: Sink, L: Ledger>(
         pass_activity(begun, machine, out, steps)
     } else {
         pass_state(begun, machine, out, steps)
+    }
+}
+
+// Up to where the machine idles and no activity starts at a breakpoint; the present state where that is not so.
+fn idle_end<X: Extra + Drop>(breaks: &[u16], until: StateTime, machine: &Machine<X>) -> StateTime
+    ensures from { machine.now.machine.time ≤ result }
+    ensures within { result ≤ max until machine.now.machine.time }
+    ensures idles { IdlesFor X.further (result - machine.now.machine.time) machine.now.machine }
+    ensures clear { IsClear X.further breaks.now (result - machine.now.machine.time) machine.now.machine }
+{
+    if is_break(breaks, machine.pc()) {
+        machine.now()
+    } else {
+        machine.idles_to(until)
+    }
+}
+
+// Goes on to the end of an activity, or over idle states, or by one state where the state `until` is near.
+fn pass<X: Extra + Drop, S: Sink, L: Ledger>(
+    begun: &mut HeapCircularBuffer<Begun>,
+    breaks: &[u16],
+    until: StateTime,
+    machine: &mut Machine<X>,
+    out: &mut TraceOut<S>,
+    steps: &mut Steps<L>,
+) -> Result<(), WriteFault>
+    requires kept { IsKept begun.old }
+    requires lives { machine.old.machine.ended ≡ None }
+    requires ahead { machine.old.machine.time < until }
+    requires room { until ≤ 2 * 10 ^ 15 }
+    requires unbroken { out.old.failed ≡ false }
+    ensures passed { (states : ℕ) × (states ≤ until - machine.old.machine.time) × IsClear X.further breaks.now states machine.old.machine × Told X.further states machine.old.machine (out_of S.written S.faults out.old) begun.old (out_of S.written S.faults out.new) begun.new × Halts X.further states machine.old.machine machine.new.machine × Spends X.further states machine.old steps.old machine.new steps.new × OnOk result (Stood X.further states machine.old.machine machine.new.machine) }
+    ensures within { machine.new.machine.time ≤ until }
+    ensures written { OnOk result (out.new.failed ≡ false) }
+    ensures failed { OnErr result (out.new.failed ≡ true) }
+{
+    let end = idle_end(breaks, until, machine);
+    if machine.now() < end {
+        pass_idle(begun, end, machine, out, steps)
+    } else {
+        pass_one(begun, until, machine, out, steps)
     }
 }
 
@@ -149,6 +257,8 @@ pub(crate) fn go<X: Extra + Drop, S: Sink, L: Ledger>(
     requires unbroken { out.old.failed ≡ false }
     ensures lines { Prints (out_of S.written S.faults out.old) (run_for X.further (states_of_run X.further breaks.now until machine.old.machine) machine.old.machine).records (out_of S.written S.faults out.new) }
     ensures gone { OnOk result (Gone X.further (states_of_run X.further breaks.now until machine.old.machine) machine.old.machine begun.old machine.new.machine begun.new) }
+    ensures halts { Halts X.further (states_of_run X.further breaks.now until machine.old.machine) machine.old.machine machine.new.machine }
+    ensures spent { Spends X.further (states_of_run X.further breaks.now until machine.old.machine) machine.old steps.old machine.new steps.new }
     ensures time { machine.new.machine.time ≤ max until machine.old.machine.time }
     ensures capacity { begun.new.capacity ≡ 33 }
     ensures written { OnOk result (out.new.failed ≡ false) }
@@ -158,7 +268,7 @@ pub(crate) fn go<X: Extra + Drop, S: Sink, L: Ledger>(
         if machine.ended().is_some() {
             return Ok(());
         }
-        pass(begun, until, machine, out, steps)?;
+        pass(begun, breaks, until, machine, out, steps)?;
         if is_at_break(breaks, machine) {
             return Ok(());
         }

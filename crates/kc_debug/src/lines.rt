@@ -94,6 +94,7 @@ fn put_bytes<X: Extra + Drop>(line: &mut Line, machine: &mut Machine<X>, from: u
     ensures items { line.new.items ≡ line.old.items ++ shown_bytes X.further machine.old.machine from count }
     ensures len { array_vec_len line.new ≤ array_vec_len line.old + 32 }
     ensures same { machine.new.machine ≡ machine.old.machine }
+    ensures moves { machine.new.moves ≤ machine.old.moves + count }
 {
     for byte in 0..count {
         let value = machine.peek(from.wrapping_add(byte));
@@ -106,6 +107,7 @@ pub(crate) fn memory_line<X: Extra + Drop>(machine: &mut Machine<X>, from: u16, 
     requires count { count ≤ 16 }
     ensures items { result.items ≡ line_of_memory X.further machine.old.machine from count }
     ensures same { machine.new.machine ≡ machine.old.machine }
+    ensures moves { machine.new.moves ≤ machine.old.moves + count }
 {
     let mut line = ArrayVec::new();
     put_text(&mut line, b"M ");

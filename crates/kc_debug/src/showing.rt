@@ -1,5 +1,5 @@
 // The commands that show something.
-ghost use Rattle.std.specs.Prelude.{◌≡◌, ◌-◌, ◌<◌, ◌≤◌, ◌++◌, None, IfSome, OnOk, OnErr, Option, false, true, flat_map};
+ghost use Rattle.std.specs.Prelude.{◌≡◌, ◌+◌, ◌-◌, ◌<◌, ◌≤◌, ◌++◌, None, IfSome, OnOk, OnErr, Option, false, true, flat_map};
 ghost use Rattle.circular_buffer.specs.Buffer.{keep_last};
 ghost use Rattle.kc_trace.specs.Out.{Puts};
 ghost use Rattle.kc_trace.specs.Text.{text_of};
@@ -70,6 +70,7 @@ pub(crate) fn show<X: Extra + Drop, S: Sink>(
     requires count { count ≤ 256 }
     ensures text { Puts (out_of S.written S.faults out.old) (memory_lines X.further machine.old.machine from count) (out_of S.written S.faults out.new) }
     ensures same { machine.new.machine ≡ machine.old.machine }
+    ensures moves { machine.new.moves ≤ machine.old.moves + count }
     ensures written { OnOk result (out.new.failed ≡ false) }
     ensures failed { OnErr result (out.new.failed ≡ true) }
 {

@@ -15,6 +15,11 @@ use std::test::Fail;
 // The place of 2080H in an image.
 const ORIGIN: usize = 0x80;
 
+// LD 34H,#0600H; LD 36H,#0620H; LD 38H,#3; BMOV 34H,38H; NOP
+const MOVING: &[u8] = &[
+    0xA1, 0x00, 0x06, 0x34, 0xA1, 0x20, 0x06, 0x36, 0xA1, 0x03, 0x00, 0x38, 0xC1, 0x38, 0x34, 0xFD,
+];
+
 fn machine_of(alloc: Global, bytes: &[u8]) -> Result<Machine<NoExtra>, Fail>
     requires { length bytes.now ≤ 100 }
     ensures { IfOk result (λ machine. machine.machine.time ≡ 0) }
@@ -68,7 +73,7 @@ fn carried_out(
 
 #[test]
 fn scripts_are_carried_out(rt: HostRuntime) -> Result<(), Fail> {
-    let rows: [(&[u8], &str, &str, &str); 13] = [
+    let rows: [(&[u8], &str, &str, &str); 16] = [
         (
             &[0xFD],
             "s 1\nm 0018 2\nl\nq\n",
@@ -130,6 +135,24 @@ fn scripts_are_carried_out(rt: HostRuntime) -> Result<(), Fail> {
             "2080 MAIN 3\n2084 MAIN 4\n",
             "T 5 2084\nM 001F 00341200\nT 7 2085\nA 0 2080 MAIN:3\nA 5 2084 MAIN:4\n",
         ),
+        (
+            MOVING,
+            "s 3\ng 20\nl\ng 30\nl\ns 1\nl\nm 0034 6\n",
+            "",
+            "T 15 208C\nT 20 208C\nA 0 2080\nA 5 2084\nA 10 2088\nT 30 208C\nA 0 2080\nA 5 2084\nA 10 2088\nA 15 208C\nT 35 208C\nA 0 2080\nA 5 2084\nA 10 2088\nA 15 208C\nA 21 208C\nM 0034 000620060300\n",
+        ),
+        (
+            MOVING,
+            "s 4\nw 0600 5A\nb 208C\ng 100\ng 100\ng 100\nm 0620 6\nl\n",
+            "",
+            "T 21 208C\nT 35 208C\nT 49 208C\nX 68 reset\nT 69 2091\nM 0620 5A0000000000\nA 0 2080\nA 5 2084\nA 10 2088\nA 15 208C\nA 21 208C\nA 35 208C\nA 49 208C\nA 63 208F\nA 65 2090\n",
+        ),
+        (
+            &[0xF6, 0x02, 0xFD],
+            "s 1\ng 5\ns 2\nl\nm 0018 1\nw 0018 01\nm 0018 1\nl\n",
+            "",
+            "X 7 powerdown\nT 8 2082\nT 8 2082\nT 8 2082\nA 0 2080\nM 0018 00\nM 0018 01\nA 0 2080\n",
+        ),
         (&[], "", "", ""),
         (&[0xFD], "q\ns 1\n", "", ""),
     ];
@@ -158,6 +181,70 @@ fn a_failed_sink_has_a_front(rt: HostRuntime) -> Result<(), Fail> {
         let (out, whole) = carried_out(rt.alloc(), bytes, script, map, Some(write))?;
         assert!(rt; out.sink().written() == text.as_bytes(), "{write}");
         assert_eq!(rt; whole, ends);
+    }
+    Ok(())
+}
+
+// The lines of the idle states from one on up to another, at 2082H or 208DH.
+fn idle_lines(alloc: Global, from: u64, end: u64, pc: &str) -> Result<String, Fail> {
+    let mut text = String::new(alloc);
+    for at in from..end {
+        text.push_str(format!(in alloc; "A {at} {pc}\n")?.as_str())?;
+    }
+    Ok(text)
+}
+
+// Idle states pass at once, and the last of them are told. The second program is woken by the overflow of Timer 1.
+#[test]
+fn idling_takes_no_time(rt: HostRuntime) -> Result<(), Fail> {
+    let idle: &[u8] = &[0xF6, 0x01];
+    let woken: &[u8] = &[
+        0xB1, 0x01, 0x08, 0xB1, 0x04, 0x16, 0xA1, 0x00, 0x01, 0x18, 0xFB, 0xF6, 0x01, 0x27, 0xFC,
+        0xFF, 0xF0,
+    ];
+    let rows: [(&[u8], &str, &str, u64, u64, &str); 4] = [
+        (
+            idle,
+            "g 1000000000000000\nl\n",
+            "T 1000000000000000 2082\n",
+            999_999_999_999_968,
+            1_000_000_000_000_000,
+            "2082",
+        ),
+        (
+            idle,
+            "s 1000000\nl\n",
+            "T 1000007 2082\n",
+            999_975,
+            1_000_007,
+            "2082",
+        ),
+        (
+            idle,
+            "s 100\ng 110\nl\n",
+            "T 107 2082\nT 110 2082\n",
+            78,
+            110,
+            "2082",
+        ),
+        (
+            woken,
+            "w 2000 90\nw 2001 20\nb 2090\ng 1000000\nl\n",
+            "I 524299 0 208D\nT 524300 2090\n",
+            524_257,
+            524_289,
+            "208D",
+        ),
+    ];
+    for (bytes, script, text, from, end, pc) in rows {
+        assert!(rt; bytes.len() <= 100 && script.len() <= 1000);
+        let (out, whole) = carried_out(rt.alloc(), bytes, script, "", None)?;
+        assert!(rt; whole);
+        let lines = idle_lines(rt.alloc(), from, end, pc)?;
+        let written = out.sink().written();
+        assert!(rt; written.starts_with(text.as_bytes()), "{script}");
+        assert!(rt; written.ends_with(lines.as_bytes()), "{script}");
+        assert_eq!(rt; written.len(), text.len() + lines.len());
     }
     Ok(())
 }

@@ -2,12 +2,10 @@
 use Rattle.std.specs.Prelude.{ℕ, ◌≤◌, ◌^◌, ◌==◌, nat_le, not, if◌then◌else◌, Bool, true, ◌&&◌, ◌||◌, ◌≡◌, Option, Some, None, List, [], ◌∷◌}
 use Rattle.std.specs.Option.{option_map}
 use Rattle.std.specs.List.{before_first, after_first}
+use Rattle.kc_base.specs.Fields.{is_space}
 use Rattle.kc_debug_script.specs.declared.command.Command.{Command}
 use Rattle.kc_debug_script.specs.declared.command.Command.TheVariants.{Step, Go, Break, Registers, Show, Write, History, Quit}
 use Rattle.kc_debug_script.specs.Fields.{if_is, number_of, address_of, byte_of}
-
-abbrev pub is_space : ℕ → Bool
-is_space c = c == 32
 
 -- memory that a script may write: from 0018H on, without 1FFEH and 1FFFH
 abbrev pub is_writable : ℕ → Bool

@@ -1,22 +1,17 @@
 -- The fields of a line of a debugger script or of a line map (this kit's own).
-use Rattle.std.specs.Prelude.{ℕ, ◌+◌, ◌-◌, ◌*◌, Bool, ◌&&◌, nat_le, if◌then◌else◌, Option, Some, None, Result, Ok, Err, List, fold, slice_index}
-use Rattle.std.specs.List.{list_all}
-use Rattle.std.specs.Char.{is_ascii_digit}
+use Rattle.std.specs.Prelude.{ℕ, ◌+◌, ◌*◌, Bool, nat_le, if◌then◌else◌, Option, Some, None, Result, Ok, Err, List, slice_index}
 use Rattle.hex.specs.declared.error.FromHexError.{FromHexError}
 use Rattle.hex.specs.Hex.{decode_sized}
+use Rattle.kc_base.specs.Fields.{decimal_of}
 
 -- what passes a test
 abbrev pub if_is : {A : Type 0} → (A → Bool) → Option A → Option A
 if_is test None = None
 if_is test (Some a) = if test a then Some a else None
 
-abbrev pub decimal_value : List ℕ → ℕ
-decimal_value digits = fold (λ n c. 10 * n + (c - 48)) 0 digits
-
 -- a number: decimal digits, from 1 to a limit
 abbrev pub number_of : ℕ → List ℕ → Option ℕ
-number_of limit text =
-    if list_all is_ascii_digit text && (nat_le 1 (decimal_value text) && nat_le (decimal_value text) limit) then Some (decimal_value text) else None
+number_of limit text = if_is (λ n. nat_le 1 n) (decimal_of limit text)
 
 abbrev pub word_in : Result (List ℕ) FromHexError → Option ℕ
 word_in (Ok bytes) = Some (256 * slice_index bytes 0 + slice_index bytes 1)

@@ -1,9 +1,12 @@
 -- What it means to read a text of lines, said of the whole text (this kit's own).
-use Rattle.std.specs.Prelude.{◌≡◌, ℕ, ◌-◌, ◌≤◌, ◌↔◌, Option, Some, Result, Ok, Err, List, length, map, take}
+use Rattle.std.specs.Prelude.{◌≡◌, ℕ, ◌-◌, ◌≤◌, ◌↔◌, Option, Some, Result, Ok, Err, List, length, map, take, All}
 use Rattle.kc_base.specs.TextLines.{text_lines}
 use Rattle.kc_debug_script.specs.Commands.{command_of}
 use Rattle.kc_debug_script.specs.Script.{script_of, IsLimited}
 use Rattle.kc_debug_script.specs.LineMap.{entry_of, map_of, IsOrdered}
+use Rattle.kc_debug_script.specs.declared.command.Command.{Command}
+use Rattle.kc_debug_script.specs.declared.line_map.MapEntry.{MapEntry}
+use Rattle.kc_debug_script.specs.Spelling.{command_text, script_text, map_text, IsCommand, IsEntry}
 
 -- each line says one of these things, and together they keep a rule
 pub record Say {A : Type 0} (meaning : List ℕ → Option A) (Keep : List A → Type 0) (lines : List (List ℕ)) (xs : List A) : Type 0 where
@@ -29,3 +32,14 @@ ScriptsAreCommands = ReadsLines command_of IsLimited script_of
 -- a line map is entries with rising addresses from 2000H on
 abbrev pub MapsAreEntries : Type 0
 MapsAreEntries = ReadsLines entry_of IsOrdered map_of
+
+-- ---- what is written is read
+
+abbrev pub CommandsAreReadBack : Type 0
+CommandsAreReadBack = (c : Command) → IsCommand c → command_of (command_text c) ≡ Some c
+
+abbrev pub ScriptsAreReadBack : Type 0
+ScriptsAreReadBack = (cs : List Command) → IsLimited cs → All IsCommand cs → script_of (script_text cs) ≡ Ok cs
+
+abbrev pub MapsAreReadBack : Type 0
+MapsAreReadBack = (es : List MapEntry) → IsOrdered es → All IsEntry es → map_of (map_text es) ≡ Ok es

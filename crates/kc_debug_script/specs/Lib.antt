@@ -3,4 +3,5 @@ pub mod Commands
 pub mod Reading
 pub mod Script
 pub mod LineMap
+pub mod Spelling
 pub mod Laws

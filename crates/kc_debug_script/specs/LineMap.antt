@@ -2,13 +2,13 @@
 use Rattle.std.specs.Prelude.{◌≡◌, ℕ, ◌-◌, ◌<◌, ◌≤◌, ◌^◌, nat_lt, nat_le, Bool, true, ◌&&◌, Option, Some, None, Result, Ok, Err, List, [], ◌∷◌, length, find, slice_get, ◌==◌, if◌then◌else◌, All}
 use Rattle.std.specs.List.{before_first, after_first, list_any}
 use Rattle.std.specs.Char.{is_ascii_lowercase}
+use Rattle.kc_base.specs.Fields.{is_space}
 use Rattle.kc_base.specs.TextLines.{text_lines}
 use Rattle.kc_obj.specs.Names.{is_name}
 use Rattle.kc_debug_script.specs.declared.line_map.MapEntry.{MapEntry}
 use Rattle.kc_debug_script.specs.declared.fault.DebugFault.{DebugFault}
 use Rattle.kc_debug_script.specs.declared.fault.DebugFault.TheVariants as faults
 use Rattle.kc_debug_script.specs.Fields.{if_is, number_of, address_of}
-use Rattle.kc_debug_script.specs.Commands.{is_space}
 use Rattle.kc_debug_script.specs.Reading.{said}
 
 -- ---- a line: an address, the name of a module, and a line of its source, with single spaces between them

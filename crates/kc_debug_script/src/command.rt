@@ -2,8 +2,8 @@
 ghost use Rattle.std.specs.Prelude.{◌≡◌, IfSome};
 ghost use Rattle.kc_debug_script.specs.Commands.{is_writable as may_be_written, letter_alone as alone, letter_with as with_fields, command_of, IsBounded};
 
-use crate::fields::{address, byte, number, split_at_space};
-use kc_base::StateTime;
+use crate::fields::{address, byte, number};
+use kc_base::{StateTime, split_at_space};
 
 /// What a line of a script asks for.
 #[derive(Clone, Copy, Debug, PartialEq, Eq, Drop)]

@@ -12,6 +12,9 @@ mod tests;
 
 pub use command::Command;
 pub use fault::DebugFault;
-pub use laws::{maps_are_entries, scripts_are_commands};
+pub use laws::{
+    commands_are_read_back, maps_are_entries, maps_are_read_back, scripts_are_commands,
+    scripts_are_read_back,
+};
 pub use line_map::{LineMap, MapEntry};
 pub use script::Script;

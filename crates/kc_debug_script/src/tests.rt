@@ -243,7 +243,7 @@ fn entries_are_found_by_their_addresses(rt: HostRuntime) -> Result<(), Fail> {
     Ok(())
 }
 
-// A map with an entry at each address from 2000H on.
+// A map of a mebibyte, with an entry at each address from 2000H on, of which those below 6000H end by CR LF.
 fn full_map(alloc: Global) -> Result<Vec<u8>, Fail> {
     let mut text = Vec::new(alloc);
     for addr in 0x2000..=0xFFFFu16 {
@@ -251,16 +251,19 @@ fn full_map(alloc: Global) -> Result<Vec<u8>, Fail> {
         text.push(hex_digit((addr / 256 % 16) as u8))?;
         text.push(hex_digit((addr / 16 % 16) as u8))?;
         text.push(hex_digit((addr % 16) as u8))?;
-        text.extend_from_slice(b" MODULE 00012\n")?;
+        text.extend_from_slice(b" MODULE 00012")?;
+        if addr < 0x6000 {
+            text.push(b'\r')?;
+        }
+        text.push(b'\n')?;
     }
     Ok(text)
 }
 
-// A map of about a mebibyte.
 #[test]
 fn a_map_of_all_addresses_is_read(rt: HostRuntime) -> Result<(), Fail> {
     let text = full_map(rt.alloc())?;
-    assert_eq!(rt; text.len(), 1_032_192);
+    assert_eq!(rt; text.len(), 1_048_576);
     let map = LineMap::read(rt.alloc(), text.as_slice())?;
     for addr in [0x2000, 0x2001, 0x6000, 0xA5A5, 0xFFFE, 0xFFFF] {
         assert_eq!(rt; place_of(rt.alloc(), &map, addr)?.as_str(), "MODULE:12");

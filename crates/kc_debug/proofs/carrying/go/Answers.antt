@@ -1,13 +1,14 @@
 use Rattle.std.proofs.Common.{◌≡◌, ℕ, ◌+◌, ◌-◌, sym, ap, ◌∙◌, arith}
 use Rattle.kc_debug.specs.Stops.{states_to_break, states_of_run}
 use Rattle.kc_debug.proofs.Begins.{break-none, break-past, break-there, break-any}
-use Rattle.kc_debug.proofs.Passing.{some_end, none_end, along-kept, along-first, along-next, along-over, along-cut, along-done}
+use Rattle.kc_debug.proofs.Passing.{some_end, none_end, along-kept, along-first, along-lines, along-next, along-over, along-cut, along-done, spends-none, spends-add, spends-within, halts-at, halts-later}
 use Rattle.kc_debug.proofs.carrying.go.Goals as goal
 
 pub loop-machine-init : goal.loop-machine-init
 loop-machine-init g c = record {
   states = 0;
   along = along-first g.X.Extra.further _ _ _ c.requires.kept;
+  spent = spends-none g.X.Extra.further _ _;
   rest = let e : (n : ℕ) → n ≡ 0 + n = λ n. omega arith in e _;
   time = omega arith;
   unbroken = c.requires.unbroken;
@@ -37,15 +38,12 @@ returns-in_err-pass-clause-lines g c =
     let f = g.X.Extra.further in
     let i = c.loop-machine.invariant in
     let m = c.loop-machine.machine.machine in
-    let x = c.pass.new.machine.machine in
     let n = c.pass.ensures.passed.0 in
-    let passed = c.pass.ensures.passed.2 in
-    let lives = sym c.ended.ensures ∙ none_end c.ended.result c.is_some.result c.if-is_some.false c.is_some.ensures in
-    let next = along-next f _ _ _ i.states n m _ _ x _ _ i.along lives passed in
-    let sum : c.args.until - m.time ≡ n + (c.args.until - x.time) = omega (arith, passed.time, c.pass.ensures.passed.1) in
-    let rest = break-any f c.args.breaks.now n (c.args.until - x.time) m x lives passed.some passed.few passed.machine in
+    let told = c.pass.ensures.passed.3 in
+    let sum : c.args.until - m.time ≡ n + (c.args.until - m.time - n) = omega (arith, c.pass.ensures.passed.1) in
+    let rest = break-any f c.args.breaks.now n (c.args.until - m.time - n) m told.some c.pass.ensures.passed.2 in
     let all : states_of_run f c.args.breaks.now c.args.until m ≡ n + rest.0 = ap (λ k. states_to_break f c.args.breaks.now k m) sum ∙ rest.1 in
-    along-cut f _ _ _ (i.states + n) rest.0 _ x _ _ next c.in_err-pass.ensures.failed (omega (arith, i.rest, all))
+    along-cut f _ _ (i.states + n) rest.0 _ _ (along-lines f _ _ _ i.states n m _ _ _ i.along told.lines) c.in_err-pass.ensures.failed (omega (arith, i.rest, all))
 
 pub returns-then-is_at_break-clause-lines : goal.returns-then-is_at_break-clause-lines
 returns-then-is_at_break-clause-lines g c =
@@ -53,12 +51,12 @@ returns-then-is_at_break-clause-lines g c =
     let i = c.loop-machine.invariant in
     let m = c.loop-machine.machine.machine in
     let x = c.pass.new.machine.machine in
-    let n = c.pass.ensures.passed.0 in
-    let passed = c.pass.ensures.passed.2 in
-    let lives = sym c.ended.ensures ∙ none_end c.ended.result c.is_some.result c.if-is_some.false c.is_some.ensures in
-    let next = along-next f _ _ _ i.states n m _ _ x _ _ i.along lives passed in
-    let sum : c.args.until - m.time ≡ n + (c.args.until - x.time) = omega (arith, passed.time, c.pass.ensures.passed.1) in
-    let all : states_of_run f c.args.breaks.now c.args.until m ≡ n = ap (λ k. states_to_break f c.args.breaks.now k m) sum ∙ break-there f c.args.breaks.now n (c.args.until - x.time) m x lives passed.some passed.few passed.machine (sym c.is_at_break.ensures ∙ c.if-is_at_break.true) in
+    let n = c.in_ok-pass.ensures.passed.0 in
+    let told = c.in_ok-pass.ensures.passed.3 in
+    let stood = c.in_ok-pass.ensures.passed.6 in
+    let next = along-next f _ _ _ i.states n m _ _ x _ _ i.along told stood in
+    let sum : c.args.until - m.time ≡ n + (c.args.until - x.time) = omega (arith, stood.time, c.in_ok-pass.ensures.passed.1) in
+    let all : states_of_run f c.args.breaks.now c.args.until m ≡ n = ap (λ k. states_to_break f c.args.breaks.now k m) sum ∙ break-there f c.args.breaks.now n (c.args.until - x.time) m x told.some c.in_ok-pass.ensures.passed.2 stood.machine (sym c.is_at_break.ensures ∙ c.if-is_at_break.true) in
     (along-done f _ _ _ (i.states + n) _ _ _ _ next (omega (arith, i.rest, all))).lines
 
 pub returns-then-is_at_break-clause-gone : goal.returns-then-is_at_break-clause-gone
@@ -67,12 +65,12 @@ returns-then-is_at_break-clause-gone g c =
     let i = c.loop-machine.invariant in
     let m = c.loop-machine.machine.machine in
     let x = c.pass.new.machine.machine in
-    let n = c.pass.ensures.passed.0 in
-    let passed = c.pass.ensures.passed.2 in
-    let lives = sym c.ended.ensures ∙ none_end c.ended.result c.is_some.result c.if-is_some.false c.is_some.ensures in
-    let next = along-next f _ _ _ i.states n m _ _ x _ _ i.along lives passed in
-    let sum : c.args.until - m.time ≡ n + (c.args.until - x.time) = omega (arith, passed.time, c.pass.ensures.passed.1) in
-    let all : states_of_run f c.args.breaks.now c.args.until m ≡ n = ap (λ k. states_to_break f c.args.breaks.now k m) sum ∙ break-there f c.args.breaks.now n (c.args.until - x.time) m x lives passed.some passed.few passed.machine (sym c.is_at_break.ensures ∙ c.if-is_at_break.true) in
+    let n = c.in_ok-pass.ensures.passed.0 in
+    let told = c.in_ok-pass.ensures.passed.3 in
+    let stood = c.in_ok-pass.ensures.passed.6 in
+    let next = along-next f _ _ _ i.states n m _ _ x _ _ i.along told stood in
+    let sum : c.args.until - m.time ≡ n + (c.args.until - x.time) = omega (arith, stood.time, c.in_ok-pass.ensures.passed.1) in
+    let all : states_of_run f c.args.breaks.now c.args.until m ≡ n = ap (λ k. states_to_break f c.args.breaks.now k m) sum ∙ break-there f c.args.breaks.now n (c.args.until - x.time) m x told.some c.in_ok-pass.ensures.passed.2 stood.machine (sym c.is_at_break.ensures ∙ c.if-is_at_break.true) in
     let done = along-done f _ _ _ (i.states + n) _ _ _ _ next (omega (arith, i.rest, all)) in
     record { machine = done.machine; begun = done.begun }
 
@@ -82,17 +80,18 @@ loop-machine-preserved g c =
     let i = c.loop-machine.invariant in
     let m = c.loop-machine.machine.machine in
     let x = c.pass.new.machine.machine in
-    let n = c.pass.ensures.passed.0 in
-    let passed = c.pass.ensures.passed.2 in
-    let lives = sym c.ended.ensures ∙ none_end c.ended.result c.is_some.result c.if-is_some.false c.is_some.ensures in
-    let sum : c.args.until - m.time ≡ n + (c.args.until - x.time) = omega (arith, passed.time, c.pass.ensures.passed.1) in
+    let n = c.in_ok-pass.ensures.passed.0 in
+    let told = c.in_ok-pass.ensures.passed.3 in
+    let stood = c.in_ok-pass.ensures.passed.6 in
+    let sum : c.args.until - m.time ≡ n + (c.args.until - x.time) = omega (arith, stood.time, c.in_ok-pass.ensures.passed.1) in
     let all : states_of_run f c.args.breaks.now c.args.until m ≡ n + states_of_run f c.args.breaks.now c.args.until x =
-    ap (λ k. states_to_break f c.args.breaks.now k m) sum ∙ break-past f c.args.breaks.now n (c.args.until - x.time) m x lives passed.few passed.machine (sym c.is_at_break.ensures ∙ c.if-is_at_break.false) in
+    ap (λ k. states_to_break f c.args.breaks.now k m) sum ∙ break-past f c.args.breaks.now n (c.args.until - x.time) m x c.in_ok-pass.ensures.passed.2 stood.machine (sym c.is_at_break.ensures ∙ c.if-is_at_break.false) in
     record {
       states = i.states + n;
-      along = along-next f _ _ _ i.states n m _ _ x _ _ i.along lives passed;
+      along = along-next f _ _ _ i.states n m _ _ x _ _ i.along told stood;
+      spent = spends-add f i.states n _ _ _ _ _ _ i.along.machine i.spent c.in_ok-pass.ensures.passed.5;
       rest = omega (arith, i.rest, all);
-      time = omega (arith, i.time, passed.time, c.pass.ensures.passed.1);
+      time = omega (arith, i.time, stood.time, c.in_ok-pass.ensures.passed.1);
       unbroken = c.in_ok-pass.ensures.written;
     }
 
@@ -112,3 +111,67 @@ returns-clause-gone g c =
     let over = ap (λ n. states_to_break g.X.Extra.further c.args.breaks.now n m) none ∙ break-none g.X.Extra.further c.args.breaks.now m in
     let done = along-done g.X.Extra.further _ _ _ i.states _ _ _ _ i.along (omega (arith, i.rest, over)) in
     record { machine = done.machine; begun = done.begun }
+
+pub returns-then-is_some-clause-halts : goal.returns-then-is_some-clause-halts
+returns-then-is_some-clause-halts g c =
+    let i = c.loop-machine.invariant in
+    halts-at g.X.Extra.further i.states _ _ _ i.along.machine (omega (arith, i.rest))
+
+pub returns-then-is_some-clause-spent : goal.returns-then-is_some-clause-spent
+returns-then-is_some-clause-spent g c =
+    let i = c.loop-machine.invariant in
+    spends-within g.X.Extra.further i.states _ _ _ _ _ (omega (arith, i.rest)) i.spent
+
+pub returns-clause-halts : goal.returns-clause-halts
+returns-clause-halts g c =
+    let i = c.loop-machine.invariant in
+    halts-at g.X.Extra.further i.states _ _ _ i.along.machine (omega (arith, i.rest))
+
+pub returns-clause-spent : goal.returns-clause-spent
+returns-clause-spent g c =
+    let i = c.loop-machine.invariant in
+    spends-within g.X.Extra.further i.states _ _ _ _ _ (omega (arith, i.rest)) i.spent
+
+pub returns-in_err-pass-clause-halts : goal.returns-in_err-pass-clause-halts
+returns-in_err-pass-clause-halts g c =
+    let f = g.X.Extra.further in
+    let i = c.loop-machine.invariant in
+    let m = c.loop-machine.machine.machine in
+    let passed = c.pass.ensures.passed in
+    let sum : c.args.until - m.time ≡ passed.0 + (c.args.until - m.time - passed.0) = omega (arith, passed.1) in
+    let rest = break-any f c.args.breaks.now passed.0 (c.args.until - m.time - passed.0) m passed.3.some passed.2 in
+    let all : states_of_run f c.args.breaks.now c.args.until m ≡ passed.0 + rest.0 = ap (λ k. states_to_break f c.args.breaks.now k m) sum ∙ rest.1 in
+    halts-later f i.states passed.0 _ _ _ _ i.along.machine passed.4 (omega (arith, i.rest, all))
+
+pub returns-in_err-pass-clause-spent : goal.returns-in_err-pass-clause-spent
+returns-in_err-pass-clause-spent g c =
+    let f = g.X.Extra.further in
+    let i = c.loop-machine.invariant in
+    let m = c.loop-machine.machine.machine in
+    let passed = c.pass.ensures.passed in
+    let sum : c.args.until - m.time ≡ passed.0 + (c.args.until - m.time - passed.0) = omega (arith, passed.1) in
+    let rest = break-any f c.args.breaks.now passed.0 (c.args.until - m.time - passed.0) m passed.3.some passed.2 in
+    let all : states_of_run f c.args.breaks.now c.args.until m ≡ passed.0 + rest.0 = ap (λ k. states_to_break f c.args.breaks.now k m) sum ∙ rest.1 in
+    spends-within f (i.states + passed.0) _ _ _ _ _ (omega (arith, i.rest, all)) (spends-add f i.states passed.0 _ _ _ _ _ _ i.along.machine i.spent passed.5)
+
+pub returns-then-is_at_break-clause-halts : goal.returns-then-is_at_break-clause-halts
+returns-then-is_at_break-clause-halts g c =
+    let f = g.X.Extra.further in
+    let i = c.loop-machine.invariant in
+    let m = c.loop-machine.machine.machine in
+    let passed = c.in_ok-pass.ensures.passed in
+    let sum : c.args.until - m.time ≡ passed.0 + (c.args.until - m.time - passed.0) = omega (arith, passed.1) in
+    let rest = break-any f c.args.breaks.now passed.0 (c.args.until - m.time - passed.0) m passed.3.some passed.2 in
+    let all : states_of_run f c.args.breaks.now c.args.until m ≡ passed.0 + rest.0 = ap (λ k. states_to_break f c.args.breaks.now k m) sum ∙ rest.1 in
+    halts-later f i.states passed.0 _ _ _ _ i.along.machine passed.4 (omega (arith, i.rest, all))
+
+pub returns-then-is_at_break-clause-spent : goal.returns-then-is_at_break-clause-spent
+returns-then-is_at_break-clause-spent g c =
+    let f = g.X.Extra.further in
+    let i = c.loop-machine.invariant in
+    let m = c.loop-machine.machine.machine in
+    let passed = c.in_ok-pass.ensures.passed in
+    let sum : c.args.until - m.time ≡ passed.0 + (c.args.until - m.time - passed.0) = omega (arith, passed.1) in
+    let rest = break-any f c.args.breaks.now passed.0 (c.args.until - m.time - passed.0) m passed.3.some passed.2 in
+    let all : states_of_run f c.args.breaks.now c.args.until m ≡ passed.0 + rest.0 = ap (λ k. states_to_break f c.args.breaks.now k m) sum ∙ rest.1 in
+    spends-within f (i.states + passed.0) _ _ _ _ _ (omega (arith, i.rest, all)) (spends-add f i.states passed.0 _ _ _ _ _ _ i.along.machine i.spent passed.5)

@@ -1,25 +1,25 @@
-use Rattle.std.proofs.Common.{◌≡◌, ℕ, ◌+◌, ◌-◌, sym, ap, ◌∙◌, arith}
-use Rattle.kc_machine_spec.specs.Machine.{current}
+use Rattle.std.proofs.Common.{◌≡◌, ℕ, ◌+◌, sym, ap, ◌∙◌, arith}
 use Rattle.kc_debug.specs.Stops.{states_of_activities}
-use Rattle.kc_debug.proofs.Begins.{states-none, states-more}
-use Rattle.kc_debug.proofs.Passing.{some_end, none_end, along-kept, along-first, along-next, along-over, along-cut, along-done}
+use Rattle.kc_debug.proofs.Begins.{states-none}
+use Rattle.kc_debug.proofs.Passing.{some_end, none_end, along-kept, along-first, along-lines, along-next, along-over, along-cut, along-done, spends-none, spends-add, spends-within, halts-at, halts-later}
 use Rattle.kc_debug.proofs.carrying.step.Goals as goal
 
 pub loop-left-init : goal.loop-left-init
 loop-left-init g c = record {
   states = 0;
   along = along-first g.X.Extra.further _ _ _ c.requires.kept;
+  spent = spends-none g.X.Extra.further _ _;
   rest = let e : (n : ℕ) → n ≡ 0 + n = λ n. omega arith in e _;
   time = omega arith;
   few = omega arith;
   unbroken = c.requires.unbroken;
 }
 
-pub pass_activity-requires-clause-kept : goal.pass_activity-requires-clause-kept
-pass_activity-requires-clause-kept g c = along-kept g.X.Extra.further _ _ _ _ _ _ _ c.loop-left.invariant.along
+pub pass_some-requires-clause-kept : goal.pass_some-requires-clause-kept
+pass_some-requires-clause-kept g c = along-kept g.X.Extra.further _ _ _ _ _ _ _ c.loop-left.invariant.along
 
-pub pass_activity-requires-clause-lives : goal.pass_activity-requires-clause-lives
-pass_activity-requires-clause-lives g c = sym c.ended.ensures ∙ none_end c.ended.result c.is_some.result c.if-is_some.false c.is_some.ensures
+pub pass_some-requires-clause-lives : goal.pass_some-requires-clause-lives
+pass_some-requires-clause-lives g c = sym c.ended.ensures ∙ none_end c.ended.result c.is_some.result c.if-is_some.false c.is_some.ensures
 
 pub returns-then-is_some-clause-lines : goal.returns-then-is_some-clause-lines
 returns-then-is_some-clause-lines g c =
@@ -34,32 +34,30 @@ returns-then-is_some-clause-gone g c =
     let done = along-done g.X.Extra.further _ _ _ _ _ _ _ _ (along-over g.X.Extra.further _ _ _ i.states _ _ _ _ how.0 i.along (sym c.ended.ensures ∙ how.1)) i.rest in
     record { machine = done.machine; begun = done.begun }
 
-pub returns-in_err-pass_activity-clause-lines : goal.returns-in_err-pass_activity-clause-lines
-returns-in_err-pass_activity-clause-lines g c =
+pub returns-in_err-passed-clause-lines : goal.returns-in_err-passed-clause-lines
+returns-in_err-passed-clause-lines g c =
     let f = g.X.Extra.further in
     let i = c.loop-left.invariant in
     let m = c.loop-left.machine.machine in
-    let x = c.pass_activity.new.machine.machine in
-    let lives = sym c.ended.ensures ∙ none_end c.ended.result c.is_some.result c.if-is_some.false c.is_some.ensures in
-    let next = along-next f _ _ _ i.states (current m).left m _ _ x _ _ i.along lives c.pass_activity.ensures.passed in
-    let more = states-more f c.loop-left.left (c.loop-left.left - 1) m x (omega arith) c.pass_activity.ensures.passed.machine in
-    along-cut f _ _ _ (i.states + (current m).left) (states_of_activities f (c.loop-left.left - 1) x) _ x _ _ next c.in_err-pass_activity.ensures.failed (omega (arith, i.rest, more))
+    let passed = c.pass_some.ensures.passed in
+    along-cut f _ _ (i.states + passed.0) passed.1 _ _ (along-lines f _ _ _ i.states passed.0 m _ _ _ i.along passed.3.lines) c.in_err-passed.ensures.failed (omega (arith, i.rest, passed.2))
 
 pub loop-left-preserved : goal.loop-left-preserved
 loop-left-preserved g c =
     let f = g.X.Extra.further in
     let i = c.loop-left.invariant in
     let m = c.loop-left.machine.machine in
-    let x = c.pass_activity.new.machine.machine in
-    let lives = sym c.ended.ensures ∙ none_end c.ended.result c.is_some.result c.if-is_some.false c.is_some.ensures in
-    let more = states-more f c.loop-left.left (c.loop-left.left - 1) m x (omega arith) c.pass_activity.ensures.passed.machine in
+    let x = c.pass_some.new.machine.machine in
+    let passed = c.in_ok-passed.ensures.passed in
+    let some = c.in_ok-passed.ensures.some in
     record {
-      states = i.states + (current m).left;
-      along = along-next f _ _ _ i.states (current m).left m _ _ x _ _ i.along lives c.pass_activity.ensures.passed;
-      rest = omega (arith, i.rest, more);
-      time = omega (arith, i.time, c.pass_activity.ensures.passed.time, c.pass_activity.ensures.few);
-      few = omega (arith, i.few);
-      unbroken = c.in_ok-pass_activity.ensures.written;
+      states = i.states + passed.0;
+      along = along-next f _ _ _ i.states passed.0 m _ _ x _ _ i.along passed.3 passed.6.0;
+      spent = spends-add f i.states passed.0 _ _ _ _ _ _ i.along.machine i.spent passed.5;
+      rest = omega (arith, i.rest, passed.2, passed.6.1);
+      time = omega (arith, i.time, some);
+      few = omega (arith, i.few, some);
+      unbroken = c.in_ok-passed.ensures.written;
     }
 
 pub returns-clause-lines : goal.returns-clause-lines
@@ -76,3 +74,36 @@ returns-clause-gone g c =
     let over = ap (λ n. states_of_activities g.X.Extra.further n c.loop-left.machine.machine) none ∙ states-none g.X.Extra.further c.loop-left.machine.machine in
     let done = along-done g.X.Extra.further _ _ _ i.states _ _ _ _ i.along (omega (arith, i.rest, over)) in
     record { machine = done.machine; begun = done.begun }
+
+pub returns-then-is_some-clause-halts : goal.returns-then-is_some-clause-halts
+returns-then-is_some-clause-halts g c =
+    let i = c.loop-left.invariant in
+    halts-at g.X.Extra.further i.states _ _ _ i.along.machine (omega (arith, i.rest))
+
+pub returns-then-is_some-clause-spent : goal.returns-then-is_some-clause-spent
+returns-then-is_some-clause-spent g c =
+    let i = c.loop-left.invariant in
+    spends-within g.X.Extra.further i.states _ _ _ _ _ (omega (arith, i.rest)) i.spent
+
+pub returns-clause-halts : goal.returns-clause-halts
+returns-clause-halts g c =
+    let i = c.loop-left.invariant in
+    halts-at g.X.Extra.further i.states _ _ _ i.along.machine (omega (arith, i.rest))
+
+pub returns-clause-spent : goal.returns-clause-spent
+returns-clause-spent g c =
+    let i = c.loop-left.invariant in
+    spends-within g.X.Extra.further i.states _ _ _ _ _ (omega (arith, i.rest)) i.spent
+
+pub returns-in_err-passed-clause-halts : goal.returns-in_err-passed-clause-halts
+returns-in_err-passed-clause-halts g c =
+    let i = c.loop-left.invariant in
+    let passed = c.pass_some.ensures.passed in
+    halts-later g.X.Extra.further i.states passed.0 _ _ _ _ i.along.machine passed.4 (omega (arith, i.rest, passed.2))
+
+pub returns-in_err-passed-clause-spent : goal.returns-in_err-passed-clause-spent
+returns-in_err-passed-clause-spent g c =
+    let f = g.X.Extra.further in
+    let i = c.loop-left.invariant in
+    let passed = c.pass_some.ensures.passed in
+    spends-within f (i.states + passed.0) _ _ _ _ _ (omega (arith, i.rest, passed.2)) (spends-add f i.states passed.0 _ _ _ _ _ _ i.along.machine i.spent passed.5)

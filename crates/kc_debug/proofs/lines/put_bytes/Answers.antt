@@ -10,6 +10,7 @@ loop-byte-init g c = record {
   items = sym (ap (λ xs. c.args.line.now.items ++ xs) (bytes-none g.X.Extra.further c.args.machine.now.machine c.args.from) ∙ append-nil c.args.line.now.items);
   len = omega arith;
   same = refl;
+  moves = omega arith;
 }
 
 pub loop-byte-preserved : goal.loop-byte-preserved
@@ -24,4 +25,5 @@ loop-byte-preserved g c =
           ∙ ap (λ xs. c.args.line.now.items ++ xs) (sym (bytes-more g.X.Extra.further m c.args.from n));
       len = omega (arith, c.put_hex.ensures.len, c.loop-byte.invariant.len);
       same = c.peek-value.ensures.same ∙ c.loop-byte.invariant.same;
+      moves = omega (arith, c.peek-value.ensures.moves, c.loop-byte.invariant.moves);
     }

@@ -1,4 +1,4 @@
-use Rattle.std.proofs.Common.{◌≡◌, ◌+◌, ◌-◌, ◌*◌, ◌%◌, ◌^◌, min, sym, subst, refl, ◌∙◌}
+use Rattle.std.proofs.Common.{◌≡◌, ◌+◌, ◌-◌, ◌*◌, ◌%◌, ◌^◌, min, sym, subst, refl, ◌∙◌, arith}
 use Rattle.kc_trace.specs.Out.{Puts}
 use Rattle.kc_trace.specs.Trace.{out_of}
 use Rattle.kc_trace.proofs.Outs.{Puts-nothing, Puts-append}
@@ -9,7 +9,7 @@ use Rattle.kc_debug.proofs.showing.show.Goals as goal
 pub loop-row-init : goal.loop-row-init
 loop-row-init g c =
     let o = out_of g.S.Sink.written g.S.Sink.faults c.args.out.now in
-    record { text = subst (λ xs. Puts o xs o) (sym (rows-none g.X.Extra.further c.args.machine.now.machine c.args.from c.args.count)) (Puts-nothing o); same = refl }
+    record { text = subst (λ xs. Puts o xs o) (sym (rows-none g.X.Extra.further c.args.machine.now.machine c.args.from c.args.count)) (Puts-nothing o); same = refl; moves = omega arith }
 
 pub loop-row-preserved : goal.loop-row-preserved
 loop-row-preserved g c =
@@ -26,4 +26,5 @@ loop-row-preserved g c =
       text = subst (λ xs. Puts o xs q) (sym (rows-more f m c.args.from c.args.count n))
           (Puts-append o (memory_rows f m c.args.from c.args.count n) p _ q c.loop-row.invariant.text (subst (λ xs. Puts p xs q) line c.put_text.ensures.text));
       same = c.memory_line-line.ensures.same ∙ c.loop-row.invariant.same;
+      moves = omega (arith, c.memory_line-line.ensures.moves, c.min.ensures, c.loop-row.invariant.moves);
     }

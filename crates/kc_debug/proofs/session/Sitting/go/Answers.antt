@@ -6,6 +6,7 @@ use Rattle.kc_trace.proofs.Outs.{Puts-append, Puts-longer}
 use Rattle.kc_machine_spec.specs.Machine.{Machine}
 use Rattle.kc_machine_spec.specs.Run.{run_for}
 use Rattle.kc_debug.specs.Lines.{stand_line}
+use Rattle.kc_debug.specs.Passing.{Halts, Spends}
 use Rattle.kc_debug.specs.Stops.{states_of_run}
 use Rattle.kc_debug.specs.Transcript.{new_end}
 use Rattle.kc_debug.proofs.Passing.{ran}
@@ -34,3 +35,27 @@ returns-clause-text g c =
     let there = c.in_ok-go.ensures.gone.machine ∙ ap (λ bs. (run_for f (states_of_run f bs c.args.until m) m).machine) c.as_slice.ensures.value in
     let text = subst (λ e. Puts p (text_of (new_end e n) ++ stand_line n) q) c.ended-before.ensures c.tell_stand.ensures.text in
     Puts-append o _ p _ q lines (subst (λ (x : Machine _). Puts p (text_of (new_end m.ended x) ++ stand_line x) q) there text)
+
+pub returns-in_err-go-clause-halts : goal.returns-in_err-go-clause-halts
+returns-in_err-go-clause-halts g c =
+    let f = g.X.Extra.further in
+    let m = c.args.machine.now.machine in
+    subst (λ bs. Halts f (states_of_run f bs c.args.until m) m c.go.new.machine.machine) c.as_slice.ensures.value c.go.ensures.halts
+
+pub returns-in_err-go-clause-spent : goal.returns-in_err-go-clause-spent
+returns-in_err-go-clause-spent g c =
+    let f = g.X.Extra.further in
+    let m = c.args.machine.now in
+    subst (λ bs. Spends f (states_of_run f bs c.args.until m.machine) m c.args.steps.now c.go.new.machine c.go.new.steps) c.as_slice.ensures.value c.go.ensures.spent
+
+pub returns-clause-halts : goal.returns-clause-halts
+returns-clause-halts g c =
+    let f = g.X.Extra.further in
+    let m = c.args.machine.now.machine in
+    subst (λ bs. Halts f (states_of_run f bs c.args.until m) m c.go.new.machine.machine) c.as_slice.ensures.value c.go.ensures.halts
+
+pub returns-clause-spent : goal.returns-clause-spent
+returns-clause-spent g c =
+    let f = g.X.Extra.further in
+    let m = c.args.machine.now in
+    subst (λ bs. Spends f (states_of_run f bs c.args.until m.machine) m c.args.steps.now c.go.new.machine c.go.new.steps) c.as_slice.ensures.value c.go.ensures.spent

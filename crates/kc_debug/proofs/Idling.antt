@@ -1,0 +1,198 @@
+-- A machine that idles: which activities begin, and which of them are kept.
+use Rattle.std.proofs.Common.{◌≡◌, ℕ, zero, suc, ◌+◌, ◌-◌, ◌<◌, ◌≤◌, ◌⊎◌, inl, inr, is_none, Bool, true, false, ◌==◌, ◌&&◌, List, [], ◌∷◌, ◌++◌, length, drop, refl, sym, ap, subst, ◌∙◌, append_assoc, append-nil, arith, length-append}
+use Rattle.std.specs.Prelude.{nat_le, max}
+use Rattle.std.specs.List.{list_any}
+use Rattle.std.proofs.lemmas.Bool.Decides.{nat_tests}
+use Rattle.std.proofs.Math.Seq.{drop-append-add}
+use Rattle.circular_buffer.specs.Buffer.{Buffer, buffer, keep_last}
+use Rattle.kc_exec_spec.specs.declared.cpu.Cpu.{Cpu}
+use Rattle.kc_extra.specs.Further.{Further}
+use Rattle.kc_intc.specs.declared.requests.Choice.TheVariants.{Go}
+use Rattle.kc_machine_spec.specs.Machine.{Machine, Stepped, current, asked}
+use Rattle.kc_machine_spec.specs.Passing.{IsIdle, activity_end}
+use Rattle.kc_machine_spec.specs.Run.{run_for, run_to}
+use Rattle.kc_machine_spec.proofs.Idle.{one_more, quiet_end}
+use Rattle.kc_machine.specs.Stepping.{IdlesFor}
+use Rattle.kc_debug.specs.declared.activities.Begun.{Begun}
+use Rattle.kc_debug.specs.Activities.{begins_unless, beginning, begun_for}
+use Rattle.kc_debug.specs.Stops.{states_of_activities}
+use Rattle.kc_debug.specs.Passing.{IsKept, IsClear, Stood}
+use Rattle.kc_debug.proofs.Last.{last-append}
+use Rattle.kc_debug.proofs.Begins.{run-none, machine-add, machine-suc, begun-none, begun-add, begun-one, states-more}
+
+-- the idle states from a state on, at a program counter
+abbrev pub idle_states : ℕ → ℕ → ℕ → List Begun
+idle_states from pc zero = []
+idle_states from pc (suc n) = idle_states from pc n ++ record { at = from + n; pc = pc } ∷ []
+
+idle-length : (from pc n : ℕ) → length (idle_states from pc n) ≡ n
+idle-length from pc zero = refl
+idle-length from pc (suc n) =
+    let longer : length (idle_states from pc n ++ record { at = from + n; pc = pc } ∷ []) ≡ length (idle_states from pc n) + 1 = length-append (idle_states from pc n) (record { at = from + n; pc = pc } ∷ []) in
+    omega (arith, longer, idle-length from pc n)
+
+idle-split : (from pc j k : ℕ) → idle_states from pc (j + k) ≡ idle_states from pc j ++ idle_states (from + j) pc k
+idle-split from pc j zero =
+    let e : j + 0 ≡ j = omega arith in
+    ap (idle_states from pc) e ∙ sym (append-nil (idle_states from pc j))
+idle-split from pc j (suc k) =
+    let e : j + suc k ≡ suc (j + k) = omega arith in
+    let at : from + (j + k) ≡ (from + j) + k = omega arith in
+    ap (idle_states from pc) e
+    ∙ ap (λ i. idle_states from pc (j + k) ++ record { at = i; pc = pc } ∷ []) at
+    ∙ ap (λ xs. xs ++ record { at = (from + j) + k; pc = pc } ∷ []) (idle-split from pc j k)
+    ∙ append_assoc (idle_states from pc j) (idle_states (from + j) pc k) (record { at = (from + j) + k; pc = pc } ∷ [])
+
+-- where enough comes, what was before it is not kept
+last-behind : {A : Type 0} (n : ℕ) (xs ys : List A) → n ≤ length ys → keep_last n (xs ++ ys) ≡ keep_last n ys
+last-behind n xs ys enough =
+    let longer : length (xs ++ ys) ≡ length xs + length ys = length-append xs ys in
+    let sum : length (xs ++ ys) - n ≡ length xs + (length ys - n) = omega (arith, longer) in
+    ap (λ i. drop i (xs ++ ys)) sum ∙ drop-append-add xs ys (length ys - n)
+
+-- of so many idle states, the last 33 alone need be noted
+pub idle-last : (r : List Begun) (from pc n first : ℕ) → from ≤ first → first ≤ from + n → (first ≡ from) ⊎ (first + 33 ≤ from + n) →
+    keep_last 33 (r ++ idle_states first pc (from + n - first)) ≡ keep_last 33 (r ++ idle_states from pc n)
+idle-last r from pc n first low high (inl all) =
+    let e : from + n - first ≡ n = omega (arith, all) in
+    λ i. keep_last 33 (r ++ idle_states (all i) pc (e i))
+idle-last r from pc n first low high (inr enough) =
+    let k : ℕ = from + n - first in
+    let j : ℕ = first - from in
+    let sum : n ≡ j + k = omega arith in
+    let start : from + j ≡ first = omega arith in
+    let whole : idle_states from pc n ≡ idle_states from pc j ++ idle_states first pc k =
+    ap (idle_states from pc) sum ∙ idle-split from pc j k ∙ ap (λ i. idle_states from pc j ++ idle_states i pc k) start in
+    let length : 33 ≤ length (idle_states first pc k) = omega (arith, idle-length first pc k) in
+    last-behind 33 r (idle_states first pc k) length
+    ∙ sym (last-behind 33 (r ++ idle_states from pc j) (idle_states first pc k) length)
+    ∙ ap (keep_last 33) (append_assoc r (idle_states from pc j) (idle_states first pc k))
+    ∙ ap (λ xs. keep_last 33 (r ++ xs)) (sym whole)
+
+-- where the notes begin
+pub first-noted : (now end first : ℕ) → first ≡ max now (end - 33) → (first ≡ now) ⊎ (first + 33 ≤ end)
+first-noted now end first is = by (nat_le (end - 33) now) refl
+  where
+    by : (b : Bool) → nat_le (end - 33) now ≡ b → (first ≡ now) ⊎ (first + 33 ≤ end)
+    by true e = inl (grind (arith, nat_tests, is, e))
+    by false e = inr (grind (arith, nat_tests, is, e))
+
+-- no idle state is noted yet
+pub idle-first : (r : Buffer Begun) (from pc : ℕ) → IsKept r → r ≡ buffer (keep_last 33 (r.items ++ idle_states from pc 0)) 33
+idle-first r from pc kept = kept ∙ ap (λ xs. buffer (keep_last 33 xs) 33) (sym (append-nil r.items))
+
+-- one idle state more is noted
+pub idle-noted : (r : List Begun) (p q : Buffer Begun) (from pc at : ℕ) → from ≤ at → p ≡ buffer (keep_last 33 (r ++ idle_states from pc (at - from))) 33 →
+    q ≡ buffer (keep_last p.capacity (p.items ++ record { at = at; pc = pc } ∷ [])) p.capacity → q ≡ buffer (keep_last 33 (r ++ idle_states from pc (at + 1 - from))) 33
+idle-noted r p q from pc at behind before noted =
+    let n : ℕ = at - from in
+    let here : at ≡ from + n = omega arith in
+    let more : at + 1 - from ≡ suc n = omega arith in
+    let b : List Begun = record { at = at; pc = pc } ∷ [] in
+    noted
+    ∙ ap (λ (x : Buffer Begun). buffer (keep_last x.capacity (x.items ++ b)) x.capacity) before
+    ∙ ap (λ xs. buffer xs 33) (last-append 33 (r ++ idle_states from pc n) b ∙ ap (keep_last 33) (append_assoc r (idle_states from pc n) b))
+    ∙ ap (λ i. buffer (keep_last 33 (r ++ (idle_states from pc n ++ record { at = i; pc = pc } ∷ []))) 33) here
+    ∙ ap (λ i. buffer (keep_last 33 (r ++ idle_states from pc i)) 33) (sym more)
+
+module _ {X : Type 0} (f : Further X) where
+  pub record IsThere (k : ℕ) (m : Machine X) : Type 0 where
+    pub time : (run_for f k m).machine.time ≡ m.time + k
+    pub cpu : (run_for f k m).machine.cpu ≡ m.cpu
+
+  -- after some of its idle states
+  pub idles-there : (n k : ℕ) (m : Machine X) → IdlesFor f n m → k ≤ n → IsThere k m
+  idles-there n zero m idles within =
+      let none = run-none f m in
+      let e : m.time ≡ m.time + 0 = omega arith in
+      record { time = ap (λ (s : Stepped X). s.machine.time) none ∙ e; cpu = ap (λ (s : Stepped X). s.machine.cpu) none }
+  idles-there n (suc k) m idles within =
+      let before = idles-there n k m idles (omega arith) in
+      let here = idles k (omega arith) in
+      let mid : Machine X = (run_for f k m).machine in
+      let e : suc k ≡ k + 1 = omega arith in
+      let next = ap (λ i. (run_for f i m).machine) e ∙ machine-add f k 1 m ∙ ap (λ (s : Stepped X). s.machine) (one_more f mid here.0 here.1) in
+      let time : mid.time + 1 ≡ m.time + suc k = omega (arith, before.time) in
+      record { time = ap (λ (x : Machine X). x.time) next ∙ time; cpu = ap (λ (x : Machine X). x.cpu) next ∙ before.cpu }
+
+  -- each idle state is an activity
+  pub idles-begun : (n k : ℕ) (m : Machine X) → IdlesFor f n m → k ≤ n → begun_for f k m ≡ idle_states m.time m.cpu.pc k
+  idles-begun n zero m idles within = begun-none f m
+  idles-begun n (suc k) m idles within =
+      let there = idles-there n k m idles (omega arith) in
+      let here = idles k (omega arith) in
+      let mid : Machine X = (run_for f k m).machine in
+      let e : suc k ≡ k + 1 = omega arith in
+      let one : beginning mid ≡ record { at = m.time + k; pc = m.cpu.pc } ∷ [] =
+      ap (λ u. begins_unless u mid) here.0.between ∙ (λ i. record { at = there.time i; pc = (there.cpu i).pc } ∷ []) in
+      ap (λ i. begun_for f i m) e
+      ∙ begun-add f k 1 m
+      ∙ ap (λ xs. begun_for f k m ++ xs) (begun-one f mid here.0.lives ∙ one)
+      ∙ ap (λ xs. xs ++ record { at = m.time + k; pc = m.cpu.pc } ∷ []) (idles-begun n k m idles (omega arith))
+
+  -- a machine that idles stays where it is
+  pub idles-clear : (breaks : List ℕ) (n : ℕ) (m : Machine X) → IdlesFor f n m → list_any (λ addr. addr == m.cpu.pc) breaks ≡ false → IsClear f breaks n m
+  idles-clear breaks n m idles none i some less =
+      let there = idles-there n i m idles (omega arith) in
+      let here = idles i less in
+      ap (λ u. is_none u && list_any (λ addr. addr == (run_for f i m).machine.cpu.pc) breaks) here.0.between
+      ∙ ap (λ (c : Cpu). list_any (λ addr. addr == c.pc) breaks) there.cpu
+      ∙ none
+
+  -- what is noted of idle states is what begins in them
+  pub idles-noted : (r q : Buffer Begun) (end first : ℕ) (m : Machine X) → IsKept r → m.time ≤ end → IdlesFor f (end - m.time) m → m.time ≤ first → first ≤ end →
+      (first ≡ m.time) ⊎ (first + 33 ≤ end) → q ≡ buffer (keep_last 33 (r.items ++ idle_states first m.cpu.pc (end - first))) 33 →
+      q ≡ buffer (keep_last r.capacity (r.items ++ begun_for f (end - m.time) m)) r.capacity
+  idles-noted r q end first m kept ahead idles low high which noted =
+      let n : ℕ = end - m.time in
+      let sum : m.time + n ≡ end = omega arith in
+      let cap : 33 ≡ r.capacity = sym (ap (λ (b : Buffer Begun). b.capacity) kept) in
+      let choice : (first ≡ m.time) ⊎ (first + 33 ≤ m.time + n) = by_which which in
+      noted
+      ∙ ap (λ i. buffer (keep_last 33 (r.items ++ idle_states first m.cpu.pc (i - first))) 33) (sym sum)
+      ∙ ap (λ xs. buffer xs 33) (idle-last r.items m.time m.cpu.pc n first low (omega arith) choice)
+      ∙ ap (λ xs. buffer (keep_last 33 (r.items ++ xs)) 33) (sym (idles-begun n n m idles (omega arith)))
+      ∙ (λ i. buffer (keep_last (cap i) (r.items ++ begun_for f n m)) (cap i))
+    where
+      by_which : (first ≡ m.time) ⊎ (first + 33 ≤ end) → (first ≡ m.time) ⊎ (first + 33 ≤ m.time + (end - m.time))
+      by_which (inl same) = inl same
+      by_which (inr enough) = inr (omega arith)
+
+  -- a machine that has idled up to a state stands there
+  pub idles-stood : (end : ℕ) (m n : Machine X) → m.time < end → IdlesFor f (end - m.time) m → n ≡ (run_for f (end - m.time) m).machine → Stood f (end - m.time) m n
+  idles-stood end m n ahead idles is = record { machine = is; time = ap (λ (x : Machine X). x.time) is ∙ (idles-there (end - m.time) (end - m.time) m idles (omega arith)).time }
+
+  -- ---- activities one after the other
+
+  idles-now : (n : ℕ) (m : Machine X) → IdlesFor f n m → 0 < n → IsIdle m × (asked m ≡ Go)
+  idles-now n m idles some = subst (λ (x : Machine X). IsIdle x × (asked x ≡ Go)) (ap (λ (s : Stepped X). s.machine) (run-none f m)) (idles 0 some)
+
+  idles-later : (n : ℕ) (m : Machine X) → IdlesFor f (suc n) m → IdlesFor f n (run_for f 1 m).machine
+  idles-later n m idles k less = subst (λ (x : Machine X). IsIdle x × (asked x ≡ Go)) (machine-suc f k m) (idles (suc k) (omega arith))
+
+  -- an idle state is an activity of one state
+  idle-left : (m : Machine X) → IsIdle m → asked m ≡ Go → (current m).left ≡ 1
+  idle-left m idle none =
+      let end = quiet_end f m.time m idle none (omega arith) (λ k less. absurd (omega (arith, less))) in
+      let zero_more : m.time - m.time ≡ 0 = omega arith in
+      let stays : (run_to f m.time m).machine ≡ m = ap (λ i. (run_for f i m).machine) zero_more ∙ ap (λ (s : Stepped X). s.machine) (run-none f m) in
+      let over : activity_end m ≡ m.time + 1 = ap activity_end (sym stays) ∙ end.over in
+      omega (arith, over)
+
+  -- so many idle states are as many activities
+  pub idles-activities : (n count : ℕ) (m : Machine X) → IdlesFor f n m → n ≤ count → states_of_activities f count m ≡ n + states_of_activities f (count - n) (run_for f n m).machine
+  idles-activities zero count m idles few =
+      let none = ap (λ (s : Stepped X). s.machine) (run-none f m) in
+      let same : count ≡ count - 0 = omega arith in
+      let z : (i : ℕ) → i ≡ 0 + i = λ i. omega arith in
+      (λ i. states_of_activities f (same i) (sym none i)) ∙ z (states_of_activities f (count - 0) (run_for f 0 m).machine)
+  idles-activities (suc n) count m idles few =
+      let now = idles-now (suc n) m idles (omega arith) in
+      let next : Machine X = (run_for f 1 m).machine in
+      let left : (current m).left ≡ 1 = idle-left m now.0 now.1 in
+      let more = states-more f count (count - 1) m next (omega arith) (ap (λ i. (run_for f i m).machine) (sym left)) in
+      let rest = idles-activities n (count - 1) next (idles-later n m idles) (omega arith) in
+      let fewer : count - 1 - n ≡ count - suc n = omega arith in
+      let last : states_of_activities f (count - 1 - n) (run_for f n next).machine ≡ states_of_activities f (count - suc n) (run_for f (suc n) m).machine =
+      λ i. states_of_activities f (fewer i) (sym (machine-suc f n m) i) in
+      omega (arith, left, more, rest, last)
