@@ -5,17 +5,25 @@ use kc_base::{HostFiles, HostOut};
 use kc_kit::kit;
 use kc_trace::TraceOut;
 use std::env;
+use std::io::ErrorKind;
 use std::process::ExitCode;
 
 fn main(rt: HostRuntime) -> ExitCode {
     let alloc = rt.alloc();
     let mut words = Vec::new(alloc);
-    let Ok(args) = env::args(&rt) else {
-        return ExitCode::from(9);
-    };
-    for word in args.skip(1) {
-        if words.push(word).is_err() {
-            return ExitCode::from(9);
+    match env::args(&rt) {
+        Ok(args) => {
+            for word in args.skip(1) {
+                if words.push(word).is_err() {
+                    return ExitCode::from(9);
+                }
+            }
+        }
+        Err(error) => {
+            // (words that are no text are no command, as none are)
+            if error.kind() != ErrorKind::InvalidData {
+                return ExitCode::from(9);
+            }
         }
     }
     let mut files = HostFiles::new(&rt);

@@ -10,6 +10,8 @@ use Rattle.kc_machine_spec.specs.declared.doing.End.TheVariants as end
 use Rattle.kc_machine_spec.specs.Run.{end_of}
 use Rattle.kc_stim.specs.declared.fault.StimFault.{StimFault}
 use Rattle.kc_stim.specs.Drives.{Drives}
+use Rattle.kc_convert.specs.declared.sample.Sample.{Sample}
+use Rattle.kc_convert.specs.Reading as values
 use Rattle.kc_stim.specs.Reading.{nothing, with_item, first_fault, items_of}
 use Rattle.kc_obj.specs.Object.{Object}
 use Rattle.kc_obj_faults.specs.declared.faults.Fault.{Fault}
@@ -25,23 +27,31 @@ use Rattle.kc_kit_files.specs.Reply.{Reply, Write, says, before, joined, Then}
 use Rattle.kc_kit_files.specs.Reads.{read_of, reads_of, long_line, missing_line, FailedRead}
 use Rattle.kc_kit_files.specs.Outside.{Kept, Shown, OthersStay, Wrote, WroteByPart, SinkFailed, WriteFailed, IsGiven, Replies}
 use Rattle.kc_kit_files.proofs.ReplyLemmas.{given-of}
+use Rattle.kc_debug_script.specs.LineMap as maps
+use Rattle.kc_debug_script.specs.Script as scripts
 use Rattle.kc_lib.specs.declared.faults.LibFault.{LibFault}
 use Rattle.kc_lib.specs.Reading.{read_answer}
 use Rattle.kc_lib.specs.Names.{doubled}
+use Rattle.kc_kit_words.specs.declared.inputs.Role.{Role}
 use Rattle.kc_kit_words.specs.declared.inputs.Role.TheVariants as role
 use Rattle.kc_lib.specs.Taking.{AreTaken}
-use Rattle.kc_kit_words.specs.Words.{placing_of, Command, Helps, TellsVersion, Runs, Assembles, Packs, Links, RunsHex, Lists, Generates}
+use Rattle.kc_kit_words.specs.Words.{placing_of, Command, Helps, TellsVersion, Runs, Assembles, Packs, Links, RunsHex, Lists, Debugs, Generates}
+use Rattle.kc_kit_inputs.specs.declared.driving.Driving.{Driving}
+use Rattle.kc_kit_inputs.specs.Analog.{by_bad_line, values_of}
+use Rattle.kc_kit_inputs.specs.Driving.{GivenFiles, given_for, with_drives, driving_of}
 use Rattle.kc_kit_inputs.specs.Hex.{by_image, hex_of}
 use Rattle.kc_kit_inputs.specs.Inputs.{names_of, input_for}
 use Rattle.kc_kit_inputs.specs.Library.{fault_reply, by_library, library_of}
 use Rattle.kc_kit_inputs.specs.Lines.{coded, source_line, input_line}
 use Rattle.kc_kit_inputs.specs.Objects.{modules_of, by_object, object_of}
+use Rattle.kc_kit_inputs.specs.Scripts.{by_lines, script_of, lines_of}
 use Rattle.kc_kit_inputs.specs.Sources.{AreModules, TellsFault, TellsFirst, IsFaultless, AreFaultless}
 use Rattle.kc_kit_inputs.specs.Stimuli.{place_of, fault_line, by_fault, drives_of}
-use Rattle.kc_kit_answer.specs.Accepting.{Accepting, IsOneText}
-use Rattle.kc_kit_answer.specs.Answer.{names_read, names_written, OneText, Parted, CommandAnswer, MayAnswer, IsAccepted, StaysBut}
+use Rattle.kc_kit_answer.specs.Accepting.{Accepting, IsOneText, AreTwoTexts, told}
+use Rattle.kc_kit_answer.specs.Answer.{names_read, names_written, OneText, TwoTexts, Parted, CommandAnswer, MayAnswer, IsAccepted, StaysBut}
 use Rattle.kc_kit_answer.specs.Assemble.{AssembleAnswer}
-use Rattle.kc_kit_answer.specs.Generate.{made_names, made_texts, made_stimuli, summary_of}
+use Rattle.kc_kit_answer.specs.Debug.{debugged_by, debug_reply, DebugAnswer, IsDebuggable}
+use Rattle.kc_kit_answer.specs.Generate.{made_names, made_texts, made_given, summary_of}
 use Rattle.kc_kit_answer.specs.Hex.{HexTold, RunHexAnswer, ListingOf, ListAnswer}
 use Rattle.kc_kit_answer.specs.Lines.{link_line, member_words}
 use Rattle.kc_kit_answer.specs.Link.{IsMap, LinksTo, Taking, Completed, LinkAnswer, IsLinkable}
@@ -131,11 +141,11 @@ told-end end.Powerdown = refl
 told-end end.Reset = refl
 told-end (end.Undefined what) = refl
 
-sound-run : (ns : List (List ℕ)) (states : ℕ) (drives : Drives) (image : List ℕ) → IsSound ns (run_reply (run_of states drives image))
-sound-run ns states drives image = record { told = told-end (end_of (run_of states drives image).machine); named = inl refl }
+sound-run : (ns : List (List ℕ)) (states : ℕ) (driving : Driving) (image : List ℕ) → IsSound ns (run_reply (run_of states driving image))
+sound-run ns states driving image = record { told = told-end (end_of (run_of states driving image).machine); named = inl refl }
 
-sound-summary : (ns : List (List ℕ)) (number : ℕ) (drives : Drives) (image : List ℕ) → IsSound ns (summary_of number drives image)
-sound-summary ns number drives image = record { told = told-end (end_of (run_of 1000000 drives image).machine); named = inl refl }
+sound-summary : (ns : List (List ℕ)) (number : ℕ) (driving : Driving) (image : List ℕ) → IsSound ns (summary_of number driving image)
+sound-summary ns number driving image = record { told = told-end (end_of (run_of 1000000 driving image).machine); named = inl refl }
 
 sound-stimuli : (ns : List (List ℕ)) (name text : List ℕ) (x : Option StimFault) (e : Reply) → by_fault name text x ≡ Err e → IsSound ns e
 sound-stimuli ns name text None e h = ok-err (IsSound ns e) (fold with_item nothing (items_of text)) e h
@@ -146,9 +156,48 @@ sound-drives : (ns : List (List ℕ)) (stimuli : Option (List ℕ × List ℕ)) 
 sound-drives ns None e h = ok-err (IsSound ns e) nothing e h
 sound-drives ns (Some file) e h = sound-stimuli ns file.0 file.1 (first_fault 0 nothing (items_of file.1)) e h
 
+sound-values : (ns : List (List ℕ)) (name text : List ℕ) (x : Option ℕ) (e : Reply) → by_bad_line name text x ≡ Err e → IsSound ns e
+sound-values ns name text None e h = ok-err (IsSound ns e) (fold values.with_item [] (values.items_of text)) e h
+sound-values ns name text (Some line) e h =
+    let told = input_line name line (codes "BADANALOG") in
+    sound-err ns status.Input told e refl (let k : says status.Input told ≡ e = cc in k)
+
+sound-analog : (ns : List (List ℕ)) (analog : Option (List ℕ × List ℕ)) (e : Reply) → values_of analog ≡ Err e → IsSound ns e
+sound-analog ns None e h = let none : List Sample = [] in ok-err (IsSound ns e) none e h
+sound-analog ns (Some file) e h = sound-values ns file.0 file.1 (values.first_bad 0 [] (values.items_of file.1)) e h
+
+sound-driving : (ns : List (List ℕ)) (given : GivenFiles) (e : Reply) → driving_of given ≡ Err e → IsSound ns e
+sound-driving ns given e h = by (drives_of given.stimuli) refl (values_of given.analog) refl h
+  where
+    by : (x : Result Drives Reply) → drives_of given.stimuli ≡ x → (y : Result (List Sample) Reply) → values_of given.analog ≡ y → with_drives x y ≡ Err e → IsSound ns e
+    by (Err r) f y g k = sound-drives ns given.stimuli e (f ∙ (let l : Err r ≡ Err e = cc in l))
+    by (Ok drives) f (Err r) g k = sound-analog ns given.analog e (g ∙ (let l : Err r ≡ Err e = cc in l))
+    by (Ok drives) f (Ok values) g k = absurd (cc)
+
 sound-library : (ns : List (List ℕ)) (name : List ℕ) (x : Result (List Object) LibFault) (e : Reply) → by_library name x ≡ Err e → IsSound ns e
 sound-library ns name (Ok members) e h = ok-err (IsSound ns e) members e h
 sound-library ns name (Err fault) e h = sound-err ns status.Input (fault_reply name fault).text e refl (let k : fault_reply name fault ≡ e = cc in k)
+
+sound-lines-of : {A : Type 0} (ns : List (List ℕ)) (code name : List ℕ) (x : Result (List A) ℕ) (e : Reply) → by_lines code name x ≡ Err e → IsSound ns e
+sound-lines-of ns code name (Ok said) e h = ok-err (IsSound ns e) said e h
+sound-lines-of ns code name (Err line) e h = sound-err ns status.Input (input_line name line code) e refl (let k : says status.Input (input_line name line code) ≡ e = cc in k)
+
+sound-script : (ns : List (List ℕ)) (script : List ℕ × List ℕ) (e : Reply) → script_of script.0 script.1 ≡ Err e → IsSound ns e
+sound-script ns script e h = sound-lines-of ns (codes "BADCOMMAND") script.0 (scripts.script_of script.1) e h
+
+sound-source-lines : (ns : List (List ℕ)) (lines : Option (List ℕ × List ℕ)) (e : Reply) → lines_of lines ≡ Err e → IsSound ns e
+sound-source-lines ns None e h = ok-err (IsSound ns e) [] e h
+sound-source-lines ns (Some file) e h = sound-lines-of ns (codes "BADMAP") file.0 (maps.map_of file.1) e h
+
+sound-told : {A : Type 0} (ns : List (List ℕ)) (x : Result A Reply) (tell : A → Reply) → ((e : Reply) → x ≡ Err e → IsSound ns e) → ((a : A) → IsSound ns (tell a)) → IsSound ns (told x tell)
+sound-told ns (Ok a) tell f g = g a
+sound-told ns (Err e) tell f g = f e refl
+
+sound-debug : (ns : List (List ℕ)) (script : List ℕ × List ℕ) (lines : Option (List ℕ × List ℕ)) (driving : Driving) (image : List ℕ) → IsSound ns (debug_reply script lines driving image)
+sound-debug ns script lines driving image =
+    sound-told ns (script_of script.0 script.1) _ (sound-script ns script)
+    (λ commands. sound-told ns (lines_of lines) _ (sound-source-lines ns lines)
+    (λ entries. record { told = told-end (end_of (debugged_by entries commands driving image).machine); named = inl refl }))
 
 sound-fault : (ns : List (List ℕ)) (name text : List ℕ) (r : Reply) → TellsFault name text r → IsSound ns r
 sound-fault ns name text r h = subst (IsSound ns) (sym h.3) (sound-says ns status.Source (source_line name h.0 h.1) refl)
@@ -159,18 +208,18 @@ sound-first ns (n ∷ names) [] r h = absurd h
 sound-first ns (n ∷ names) (t ∷ texts) r (inl h) = sound-fault ns n t r h
 sound-first ns (n ∷ names) (t ∷ texts) r (inr h) = sound-first ns names texts r h.1
 
-sound-sources : (ns names : List (List ℕ)) (stimuli : Option (List ℕ × List ℕ)) (ranges : Ranges) (texts : List (List ℕ)) (tell : Drives → List ℕ → Reply) (r : Reply) →
-    ((drives : Drives) (image : List ℕ) → IsSound ns (tell drives image)) → SourcesTold names stimuli ranges texts tell r → IsSound ns r
-sound-sources ns names stimuli ranges texts tell r f (Ok ms, made, h) =
-    then-all (IsSound ns) (places_of names ms ranges) (Driven stimuli (LinkedTold texts) tell ms) r (sound-places ns names (placed ms ranges))
-    (λ places e k. then-all (IsSound ns) (drives_of stimuli) (λ d. LinkedTold texts (tell d) ms places) r (sound-drives ns stimuli) (λ d g l. subst (IsSound ns) (sym l.told) (f d l.image)) k) h
-sound-sources ns names stimuli ranges texts tell r f (Err e, told, h) = subst (IsSound ns) (sym h) (sound-first ns names texts e told)
+sound-sources : (ns names : List (List ℕ)) (given : GivenFiles) (ranges : Ranges) (texts : List (List ℕ)) (tell : Driving → List ℕ → Reply) (r : Reply) →
+    ((driving : Driving) (image : List ℕ) → IsSound ns (tell driving image)) → SourcesTold names given ranges texts tell r → IsSound ns r
+sound-sources ns names given ranges texts tell r f (Ok ms, made, h) =
+    then-all (IsSound ns) (places_of names ms ranges) (Driven given (LinkedTold texts) tell ms) r (sound-places ns names (placed ms ranges))
+    (λ places e k. then-all (IsSound ns) (driving_of given) (λ d. LinkedTold texts (tell d) ms places) r (sound-driving ns given) (λ d g l. subst (IsSound ns) (sym l.told) (f d l.image)) k) h
+sound-sources ns names given ranges texts tell r f (Err e, told, h) = subst (IsSound ns) (sym h) (sound-first ns names texts e told)
 
-sound-hex-told : (ns : List (List ℕ)) (name : List ℕ) (stimuli : Option (List ℕ × List ℕ)) (text : List ℕ) (tell : Drives → List ℕ → Reply) (r : Reply) →
-    ((drives : Drives) (image : List ℕ) → IsSound ns (tell drives image)) → HexTold name stimuli text tell r → IsSound ns r
-sound-hex-told ns name stimuli text tell r f h =
-    then-all (IsSound ns) (hex_of name text) (λ image. Then (drives_of stimuli) (λ drives reply. reply ≡ tell drives image)) r (sound-hex ns name (image_of text))
-    (λ image e k. then-all (IsSound ns) (drives_of stimuli) (λ drives reply. reply ≡ tell drives image) r (sound-drives ns stimuli) (λ d g l. subst (IsSound ns) (sym l) (f d image)) k) h
+sound-hex-told : (ns : List (List ℕ)) (name : List ℕ) (given : GivenFiles) (text : List ℕ) (tell : Driving → List ℕ → Reply) (r : Reply) →
+    ((driving : Driving) (image : List ℕ) → IsSound ns (tell driving image)) → HexTold name given text tell r → IsSound ns r
+sound-hex-told ns name given text tell r f h =
+    then-all (IsSound ns) (hex_of name text) (λ image. Then (driving_of given) (λ driving reply. reply ≡ tell driving image)) r (sound-hex ns name (image_of text))
+    (λ image e k. then-all (IsSound ns) (driving_of given) (λ driving reply. reply ≡ tell driving image) r (sound-driving ns given) (λ d g l. subst (IsSound ns) (sym l) (f d image)) k) h
 
 sound-object-of : (name out text : List ℕ) (r : Reply) → AssembleAnswer name out text r → IsSound (out ∷ []) r
 sound-object-of name out text r (Ok m, made, h) = subst (IsSound (out ∷ [])) (sym h) (record { told = refl; named = inr refl })
@@ -180,6 +229,12 @@ sound-one : (ns : List (List ℕ)) (may : List ℕ → Reply → Type 0) (texts 
 sound-one ns may (t ∷ []) r f h = f t h
 sound-one ns may [] r f h = absurd h
 sound-one ns may (t ∷ u ∷ texts) r f h = absurd h
+
+sound-two : (ns : List (List ℕ)) (may : List ℕ → List ℕ → Reply → Type 0) (texts : List (List ℕ)) (r : Reply) → ((t u : List ℕ) → may t u r → IsSound ns r) → TwoTexts may texts r → IsSound ns r
+sound-two ns may (t ∷ u ∷ []) r f h = f t u h
+sound-two ns may [] r f h = absurd h
+sound-two ns may (t ∷ []) r f h = absurd h
+sound-two ns may (t ∷ u ∷ v ∷ texts) r f h = absurd h
 
 sound-links : (out : List ℕ) (lines : Option (List ℕ)) (ms : List Object) (places : Places) (r : Reply) → LinksTo out lines ms places r → IsSound (out ∷ option_to_list lines) r
 sound-links out lines ms places r h = subst (IsSound (out ∷ option_to_list lines)) (sym h.done) (record { told = refl; named = inr (ap (λ l. out ∷ l) (by lines h.is_map)) })
@@ -222,8 +277,8 @@ sound-command TellsVersion contents r h = subst (IsSound []) (sym h) (sound-says
 sound-command (Runs files inputs states placing) contents r h =
     let names = files ++ names_of inputs in
     then-all (IsSound []) (reads_of names contents) (Parted (length files) (RunAnswer files inputs states placing)) r (sound-reads [] names contents)
-    (λ texts e k. sound-sources [] files (input_for role.Stimuli inputs (drop (length files) texts)) placing (take (length files) texts) (λ drives image. run_reply (run_of states drives image)) r
-    (λ drives image. sound-run [] states drives image) k) h
+    (λ texts e k. sound-sources [] files (given_for inputs (drop (length files) texts)) placing (take (length files) texts) (λ driving image. run_reply (run_of states driving image)) r
+    (λ driving image. sound-run [] states driving image) k) h
 sound-command (Assembles file out) contents r h =
     then-all (IsSound (out ∷ [])) (reads_of (file ∷ []) contents) (OneText (AssembleAnswer file out)) r (sound-reads (out ∷ []) (file ∷ []) contents)
     (λ texts e k. sound-one (out ∷ []) (AssembleAnswer file out) texts r (λ t l. sound-object-of file out t r l) k) h
@@ -238,12 +293,18 @@ sound-command (RunsHex file inputs states) contents r h =
     let names = file ∷ names_of inputs in
     then-all (IsSound []) (reads_of names contents) (Parted 1 (λ texts more. OneText (λ text. RunHexAnswer file inputs states text more) texts)) r (sound-reads [] names contents)
     (λ texts e k. sound-one [] (λ text. RunHexAnswer file inputs states text (drop 1 texts)) (take 1 texts) r
-    (λ t l. sound-hex-told [] file (input_for role.Stimuli inputs (drop 1 texts)) t (λ drives image. run_reply (run_of states drives image)) r (λ drives image. sound-run [] states drives image) l) k) h
+    (λ t l. sound-hex-told [] file (given_for inputs (drop 1 texts)) t (λ driving image. run_reply (run_of states driving image)) r (λ driving image. sound-run [] states driving image) l) k) h
 sound-command (Lists file first last) contents r h =
     then-all (IsSound []) (reads_of (file ∷ []) contents) (OneText (ListAnswer file first last)) r (sound-reads [] (file ∷ []) contents)
     (λ texts e k. sound-one [] (ListAnswer file first last) texts r
     (λ t l. then-all (IsSound []) (hex_of file t) (ListingOf first last) r (sound-hex [] file (image_of t)) (λ image f m. subst (IsSound []) (sym m) (sound-says [] status.Done _ refl)) l) k) h
-sound-command (Generates number) contents r h = sound-sources [] made_names (Some (made_stimuli number)) (placing_of []) (made_texts number) (summary_of number) r (λ drives image. sound-summary [] number drives image) h
+sound-command (Debugs file script inputs) contents r h =
+    let names = file ∷ script ∷ names_of inputs in
+    then-all (IsSound []) (reads_of names contents) (Parted 2 (λ texts more. TwoTexts (λ text commands. DebugAnswer file script inputs text commands more) texts)) r (sound-reads [] names contents)
+    (λ texts e k. sound-two [] (λ text commands. DebugAnswer file script inputs text commands (drop 2 texts)) (take 2 texts) r
+    (λ t u l. sound-hex-told [] file (given_for inputs (drop 2 texts)) t (debug_reply (script, u) (input_for role.Lines inputs (drop 2 texts))) r
+    (λ driving image. sound-debug [] (script, u) (input_for role.Lines inputs (drop 2 texts)) driving image) l) k) h
+sound-command (Generates number) contents r h = sound-sources [] made_names (made_given number) (placing_of []) (made_texts number) (summary_of number) r (λ driving image. sound-summary [] number driving image) h
 
 -- a read that has failed
 failed-says : (names : List (List ℕ)) (contents : List (Option (List ℕ))) (rose : Type 0) (r : Reply) → FailedRead names contents rose r → rose × (r.status ≡ status.ReadFault) × (r.writes ≡ [])
@@ -422,8 +483,8 @@ accepted-then accepts may (Err e) r f ok h = absurd ok
 done-told : (r told : Reply) → r ≡ told → IsDone told.status → IsDone r.status
 done-told r told e h = subst (λ (k : Reply). IsDone k.status) (sym e) h
 
-done-run : (states : ℕ) (drives : Drives) (image : List ℕ) → IsDone (run_reply (run_of states drives image)).status
-done-run states drives image = done-end (end_of (run_of states drives image).machine)
+done-run : (states : ℕ) (driving : Driving) (image : List ℕ) → IsDone (run_reply (run_of states driving image)).status
+done-run states driving image = done-end (end_of (run_of states driving image).machine)
 
 no-fault : (name text : List ℕ) (r : Reply) → IsFaultless text → TellsFault name text r → ⊥
 no-fault name text r none h = none h.0 h.1 h.2
@@ -434,12 +495,12 @@ none-first (n ∷ names) [] r none h = h
 none-first (n ∷ names) (t ∷ texts) r none (inl h) = no-fault n t r none.0 h
 none-first (n ∷ names) (t ∷ texts) r none (inr h) = none-first names texts r none.1 h.1
 
-done-sources : (names : List (List ℕ)) (stimuli : Option (List ℕ × List ℕ)) (ranges : Ranges) (texts : List (List ℕ)) (tell : Drives → List ℕ → Reply) (r : Reply) → ((drives : Drives) (image : List ℕ) → IsDone (tell drives image).status) →
-    AreFaultless texts → ((ms : List Object) → AreModules texts ms → IsOk (places_of names ms ranges)) → IsOk (drives_of stimuli) → SourcesTold names stimuli ranges texts tell r → IsDone r.status
-done-sources names stimuli ranges texts tell r f a b c (Ok ms, made, h) =
-    done-then (places_of names ms ranges) (Driven stimuli (LinkedTold texts) tell ms) r
-    (λ places k. done-then (drives_of stimuli) (λ d. LinkedTold texts (tell d) ms places) r (λ d l. done-told r (tell d l.image) l.told (f d l.image)) c k) (b ms made) h
-done-sources names stimuli ranges texts tell r f a b c (Err e, told, h) = absurd (none-first names texts e a told)
+done-sources : (names : List (List ℕ)) (given : GivenFiles) (ranges : Ranges) (texts : List (List ℕ)) (tell : Driving → List ℕ → Reply) (r : Reply) → ((driving : Driving) (image : List ℕ) → IsDone (tell driving image).status) →
+    AreFaultless texts → ((ms : List Object) → AreModules texts ms → IsOk (places_of names ms ranges)) → IsOk (driving_of given) → SourcesTold names given ranges texts tell r → IsDone r.status
+done-sources names given ranges texts tell r f a b c (Ok ms, made, h) =
+    done-then (places_of names ms ranges) (Driven given (LinkedTold texts) tell ms) r
+    (λ places k. done-then (driving_of given) (λ d. LinkedTold texts (tell d) ms places) r (λ d l. done-told r (tell d l.image) l.told (f d l.image)) c k) (b ms made) h
+done-sources names given ranges texts tell r f a b c (Err e, told, h) = absurd (none-first names texts e a told)
 
 done-object : (name out text : List ℕ) (r : Reply) → IsFaultless text → AssembleAnswer name out text r → IsDone r.status
 done-object name out text r none (Ok m, made, h) = inl (ap (λ (k : Reply). k.status) h)
@@ -459,6 +520,27 @@ done-one : (name : List ℕ) (may : List ℕ → Reply → Type 0) (texts : List
 done-one name may (t ∷ []) r f a h = done-hex name may (image_of t) r f a h
 done-one name may [] r f a h = absurd h
 done-one name may (t ∷ u ∷ texts) r f a h = absurd h
+
+done-two : (accepts : List ℕ → List ℕ → Type 0) (may : List ℕ → List ℕ → Reply → Type 0) (texts : List (List ℕ)) (r : Reply) → ((t u : List ℕ) → accepts t u → may t u r → IsDone r.status) →
+    AreTwoTexts accepts texts → TwoTexts may texts r → IsDone r.status
+done-two accepts may (t ∷ u ∷ []) r f a h = f t u a h
+done-two accepts may [] r f a h = absurd h
+done-two accepts may (t ∷ []) r f a h = absurd h
+done-two accepts may (t ∷ u ∷ v ∷ texts) r f a h = absurd h
+
+done-step : {A : Type 0} (x : Result A Reply) (tell : A → Reply) → IsOk x → ((a : A) → IsDone (tell a).status) → IsDone (told x tell).status
+done-step (Ok a) tell ok f = f a
+done-step (Err e) tell ok f = absurd (let k : false ≡ true = ok in cc)
+
+done-debug : (file script : List ℕ) (inputs : List (Role × List ℕ)) (text commands : List ℕ) (texts : List (List ℕ)) (r : Reply) →
+    IsDebuggable script inputs text commands texts → DebugAnswer file script inputs text commands texts r → IsDone r.status
+done-debug file script inputs text commands texts r a h =
+    let given = given_for inputs texts in
+    let lines = input_for role.Lines inputs texts in
+    done-hex file (λ image. Then (driving_of given) (λ driving reply. reply ≡ debug_reply (script, commands) lines driving image)) (image_of text) r
+    (λ image k. done-then (driving_of given) (λ driving reply. reply ≡ debug_reply (script, commands) lines driving image) r
+    (λ d m. done-told r (debug_reply (script, commands) lines d image) m
+    (done-step (script_of script commands) _ a.script_read (λ cs. done-step (lines_of lines) _ a.lines (λ entries. done-end (end_of (debugged_by entries cs d image).machine))))) a.driving k) a.image h
 
 done-placed : (files : List (List ℕ)) (out : List ℕ) (lines : Option (List ℕ)) (ranges : Ranges) (ms : List Object) (r : Reply) → IsOk (places_of files ms ranges) → Placing files ranges (LinksTo out lines) ms r → IsDone r.status
 done-placed files out lines ranges ms r a h = done-then (places_of files ms ranges) (LinksTo out lines ms) r (λ places k. inl (ap (λ (e : Reply). e.status) k.done)) a h
@@ -486,8 +568,8 @@ done-command (Some Helps) contents r a h = inl (ap (λ (k : Reply). k.status) h)
 done-command (Some TellsVersion) contents r a h = inl (ap (λ (k : Reply). k.status) h)
 done-command (Some (Runs files inputs states placing)) contents r a h =
     accepted-then _ (Parted (length files) (RunAnswer files inputs states placing)) (reads_of (files ++ names_of inputs) contents) r
-    (λ texts b k. done-sources files (input_for role.Stimuli inputs (drop (length files) texts)) placing (take (length files) texts) (λ drives image. run_reply (run_of states drives image)) r
-    (λ drives image. done-run states drives image) b.0 b.1 b.2 k) a h
+    (λ texts b k. done-sources files (given_for inputs (drop (length files) texts)) placing (take (length files) texts) (λ driving image. run_reply (run_of states driving image)) r
+    (λ driving image. done-run states driving image) b.0 b.1 b.2 k) a h
 done-command (Some (Assembles file out)) contents r a h = accepted-then _ (OneText (AssembleAnswer file out)) (reads_of (file ∷ []) contents) r (λ texts b k. done-objects file out texts r b k) a h
 done-command (Some (Packs files out)) contents r a h =
     accepted-then _ (PackAnswer files out) (reads_of files contents) r
@@ -498,15 +580,19 @@ done-command (Some (Links files inputs out lines placing)) contents r a h =
     (λ ms c l. done-completed files (input_for role.Library inputs (drop (length files) texts)) out lines placing ms r c l) b k) a h
 done-command (Some (RunsHex file inputs states)) contents r a h =
     accepted-then _ (Parted 1 (λ texts more. OneText (λ text. RunHexAnswer file inputs states text more) texts)) (reads_of (file ∷ names_of inputs) contents) r
-    (λ texts b k. done-one file (λ image. Then (drives_of (input_for role.Stimuli inputs (drop 1 texts))) (λ drives reply. reply ≡ run_reply (run_of states drives image))) (take 1 texts) r
-    (λ image l. done-then (drives_of (input_for role.Stimuli inputs (drop 1 texts))) (λ drives reply. reply ≡ run_reply (run_of states drives image)) r
+    (λ texts b k. done-one file (λ image. Then (driving_of (given_for inputs (drop 1 texts))) (λ driving reply. reply ≡ run_reply (run_of states driving image))) (take 1 texts) r
+    (λ image l. done-then (driving_of (given_for inputs (drop 1 texts))) (λ driving reply. reply ≡ run_reply (run_of states driving image)) r
     (λ d m. done-told r (run_reply (run_of states d image)) m (done-run states d image)) b.1 l) b.0 k) a h
 done-command (Some (Lists file first last)) contents r a h =
     accepted-then _ (OneText (ListAnswer file first last)) (reads_of (file ∷ []) contents) r
     (λ texts b k. done-one file (ListingOf first last) texts r (λ image l. inl (ap (λ (k : Reply). k.status) l)) b k) a h
+done-command (Some (Debugs file script inputs)) contents r a h =
+    accepted-then _ (Parted 2 (λ texts more. TwoTexts (λ text commands. DebugAnswer file script inputs text commands more) texts)) (reads_of (file ∷ script ∷ names_of inputs) contents) r
+    (λ texts b k. done-two (λ text commands. IsDebuggable script inputs text commands (drop 2 texts)) (λ text commands. DebugAnswer file script inputs text commands (drop 2 texts)) (take 2 texts) r
+    (λ t u c l. done-debug file script inputs t u (drop 2 texts) r c l) b k) a h
 done-command (Some (Generates number)) contents r a h =
-    done-sources made_names (Some (made_stimuli number)) (placing_of []) (made_texts number) (summary_of number) r
-    (λ drives image. done-end (end_of (run_of 1000000 drives image).machine)) a.sources a.modules a.stimuli h
+    done-sources made_names (made_given number) (placing_of []) (made_texts number) (summary_of number) r
+    (λ driving image. done-end (end_of (run_of 1000000 driving image).machine)) a.sources a.modules a.driving h
 
 -- a reply without a fault outside is done, or for want of memory
 pub done-of : (c : Option Command) (told : Option Holding) (rose : Type 0) (old : Kept) (before : Shown) (given : Status) (new : Kept) (now : Shown) →

@@ -1,10 +1,8 @@
 //! The kit as a whole: the words of a command line and the files that they name, to what is printed, what is written and the status.
 #![tactic(auto)]
 
-mod alike;
 mod top;
 
-pub use alike::runs_are_alike;
 pub use kc_kit_answer::{HELP, VERSION};
 pub use kc_kit_files::Status;
 pub use top::kit;

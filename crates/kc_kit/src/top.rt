@@ -10,8 +10,8 @@ ghost use Rattle.kc_kit_answer.specs.Jobs.{IsDoable, IsOf, IsReady};
 
 use kc_base::{Files, Sink};
 use kc_kit_answer::{
-    HELP, Job, VERSION, perform, prepare_assemble, prepare_generate, prepare_hex, prepare_link,
-    prepare_list, prepare_pack, prepare_run,
+    HELP, Job, VERSION, perform, prepare_assemble, prepare_debug, prepare_generate, prepare_hex,
+    prepare_link, prepare_list, prepare_pack, prepare_run,
 };
 use kc_kit_files::{Refusal, Status, refuse, say};
 use kc_kit_words::{Command, read_words};
@@ -106,6 +106,10 @@ fn done<F: Files, S: Sink>(
         }
         Command::List(list) => {
             let prepared = prepare_list(alloc, list, files);
+            finish(alloc, prepared, files, out)
+        }
+        Command::Debug(debug) => {
+            let prepared = prepare_debug(alloc, debug, files);
             finish(alloc, prepared, files, out)
         }
         Command::Generate(generate) => {

@@ -19,7 +19,7 @@ use Rattle.kc_kit_inputs.specs.Library.{library_of, TakenAre}
 use Rattle.kc_kit_answer.specs.Lines.{member_words}
 use Rattle.kc_kit_answer.specs.Link.{Taking, Completed}
 use Rattle.kc_kit_answer.specs.Answer.{OneText, Parted, MayAnswer, MayAnswerBy}
-use Rattle.kc_stim.specs.Drives.{Drives}
+use Rattle.kc_kit_inputs.specs.declared.driving.Driving.{Driving}
 use Rattle.kc_kit_answer.specs.declared.board.Board.{Board}
 use Rattle.kc_kit_answer.specs.Jobs.{IsBoard, does, IsPrepared, Prepares, IsReady, IsOf}
 
@@ -53,8 +53,8 @@ then-map (Err e) may wide r f h = h
 
 -- ---- what is prepared
 
-pub board-widen : (answer wide : (Drives → List ℕ → Reply) → Reply → Type 0) (b : Result Board Refusal) → ((tell : Drives → List ℕ → Reply) (r : Reply) → answer tell r → wide tell r) → IsBoard answer b → IsBoard wide b
-board-widen answer wide (Ok board) f h = λ tell. f tell (tell board.stimuli board.image) (h tell)
+pub board-widen : (answer wide : (Driving → List ℕ → Reply) → Reply → Type 0) (b : Result Board Refusal) → ((tell : Driving → List ℕ → Reply) (r : Reply) → answer tell r → wide tell r) → IsBoard answer b → IsBoard wide b
+board-widen answer wide (Ok board) f h = λ tell. f tell (tell board.driving board.image) (h tell)
 board-widen answer wide (Err refusal) f h = λ tell. refused-widen (answer tell) (wide tell) refusal (f tell) (h tell)
 
 pub prepared-widen : (may wide : Reply → Type 0) (p : Result Job Refusal) → ((r : Reply) → may r → wide r) → IsPrepared may p → IsPrepared wide p

@@ -1,4 +1,5 @@
 pub mod AnswerSteps
+pub mod DebugLemmas
 pub mod LinkLemmas
 pub mod Listed
 pub mod MadeLemmas

@@ -1,8 +1,6 @@
 -- The reply of a run.
 use Rattle.std.proofs.Common.{◌≡◌, inl, ℕ, ◌<◌, List, ◌++◌, Option, Some, None, refl, sym, ◌∙◌, ap, subst}
 use Rattle.std.specs.Option.{unwrap_or}
-use Rattle.kc_stim.specs.Drives.{Drives}
-use Rattle.kc_extra.specs.declared.none.NoExtra.{NoExtra}
 use Rattle.kc_base.specs.Causes.{Rose, Grew, GrewByPart}
 use Rattle.kc_trace.specs.Out.{Out, Puts}
 use Rattle.kc_trace.specs.Text.{text_of}
@@ -10,7 +8,7 @@ use Rattle.kc_trace.proofs.Outs.{GrewByPart-longer, Puts-append}
 use Rattle.kc_trace.proofs.Printed.{text_of-append}
 use Rattle.kc_machine_spec.specs.declared.doing.End.{End}
 use Rattle.kc_machine_spec.specs.declared.doing.End.TheVariants as end
-use Rattle.kc_machine_spec.specs.Machine.{Machine, Stepped, start}
+use Rattle.kc_machine_spec.specs.Machine.{Machine, Stepped}
 use Rattle.kc_machine_spec.specs.Run.{end_of}
 use Rattle.kc_machine_spec.specs.Text.{trace_of, finals, HasRun}
 use Rattle.kc_machine_spec.proofs.Runs.{run_for-has_run}
@@ -25,7 +23,9 @@ use Rattle.kc_kit_files.specs.Reply.{says}
 use Rattle.kc_kit_answer.specs.Generate.{no_counts, counts_text, summary}
 use Rattle.kc_kit_files.specs.Reply.{Reply}
 use Rattle.kc_kit_files.specs.Outside.{Kept, Shown, Replies}
-use Rattle.kc_kit_answer.specs.Running.{no_unit, no_further, run_of, run_reply, status_of}
+use Rattle.kc_kit_inputs.specs.declared.driving.Driving.{Driving}
+use Rattle.kc_kit_answer.specs.Fitted.{FittedUnit, fitted_further}
+use Rattle.kc_kit_answer.specs.Running.{machine_of, run_of, run_reply, status_of}
 
 -- the status of a run, with its text whole
 pub run-whole : {X : Type 0} (ran : Stepped X) (may : Reply → Type 0) (files : Kept) (old new : Shown) (how : End) → may (run_reply ran) → how ≡ end_of ran.machine → Grew old.written (trace_of ran) new.written → Replies may files old (status_of how) files new
@@ -39,7 +39,7 @@ pub run-part : {X : Type 0} (ran : Stepped X) (may : Reply → Type 0) (files : 
 run-part ran may files old new m h c = inl (record { reply = run_reply ran; is_answer = m; text = h; cause = c; files = refl })
 
 -- what is told of a run whose lines are counted
-pub summary-is : (number : ℕ) (ran : Stepped NoExtra) (given : Status) (text : List ℕ) (counts : Counts) (how : End) (now : ℕ) → given ≡ status_of how → text ≡ counts_text number counts ++ line_of (Stopped (end_state how now) (end_number how)) →
+pub summary-is : (number : ℕ) (ran : Stepped FittedUnit) (given : Status) (text : List ℕ) (counts : Counts) (how : End) (now : ℕ) → given ≡ status_of how → text ≡ counts_text number counts ++ line_of (Stopped (end_state how now) (end_number how)) →
     counts ≡ counted_all ran.records no_counts → how ≡ end_of ran.machine → now ≡ ran.machine.time → says given text ≡ summary number ran
 summary-is number ran given text counts how now s t c h n = rw (s, t, c, h, n) refl
 
@@ -59,11 +59,11 @@ GrewByPart-trace ran old new h =
     (GrewByPart-longer old (text_of ran.records) last new h)
 
 -- a machine of an image that was reset has run
-pub HasRun-start : (states : ℕ) (drives : Drives) (image : List ℕ) (machine : Machine NoExtra) (how : End) → machine ≡ (run_of states drives image).machine → how ≡ end_of machine → HasRun how machine.time
-HasRun-start states drives image machine how e f = by_end machine.ended refl
+pub HasRun-start : (states : ℕ) (driving : Driving) (image : List ℕ) (machine : Machine FittedUnit) (how : End) → machine ≡ (run_of states driving image).machine → how ≡ end_of machine → HasRun how machine.time
+HasRun-start states driving image machine how e f = by_end machine.ended refl
   where
     has_run : (over : End) → machine.ended ≡ Some over → 0 < machine.time
-    has_run over g = subst (λ (m : Machine NoExtra). 0 < m.time) (sym e) (run_for-has_run no_further _ (start image drives no_unit) over refl (ap (λ (m : Machine NoExtra). m.ended) (sym e) ∙ g))
+    has_run over g = subst (λ (m : Machine FittedUnit). 0 < m.time) (sym e) (run_for-has_run fitted_further _ (machine_of driving image) over refl (ap (λ (m : Machine FittedUnit). m.ended) (sym e) ∙ g))
 
     of_how : (w : End) → 0 < machine.time → HasRun w machine.time
     of_how end.Spent h = tt

@@ -16,12 +16,12 @@ use Rattle.kc_link_source_laws.specs.Characters.{has_bytes}
 use Rattle.kc_link_source_laws.specs.Linked.{IsSource, LinkedImage}
 use Rattle.kc_obj.specs.Object.{Object}
 use Rattle.kc_asm.specs.Assembled.{AreSaid}
-use Rattle.kc_stim.specs.Drives.{Drives}
 use Rattle.kc_kit_files.specs.Reply.{Reply, Then}
 use Rattle.kc_kit_answer.specs.Places.{by_places, Placing}
 use Rattle.kc_kit_answer.specs.Run.{AreDrafted, IsImageOfTexts, Driven, FilledTold, LinkedTold}
 use Rattle.kc_kit_inputs.specs.Sources.{AreModules}
-use Rattle.kc_kit_inputs.specs.Stimuli.{drives_of}
+use Rattle.kc_kit_inputs.specs.declared.driving.Driving.{Driving}
+use Rattle.kc_kit_inputs.specs.Driving.{GivenFiles, driving_of}
 use Rattle.kc_kit_answer.proofs.AnswerSteps.{then-map}
 
 -- ---- the image of sources
@@ -71,12 +71,12 @@ image-of law texts ms ranges places image made is filled =
           (record { drafts_count = (counts texts k.sources k.drafts ms k.drafted).0; modules_count = (counts texts k.sources k.drafts ms k.drafted).1; of = each texts k.sources k.drafts ms k.drafted }) is filled;
     }
 
-pub linked-placing : LinkedImage → (names : List (List ℕ)) (stimuli : Option (List ℕ × List ℕ)) (ranges : Ranges) (texts : List (List ℕ)) (tell : Drives → List ℕ → Reply) (ms : List Object) (r : Reply) → AreModules texts ms →
-    Placing names ranges (Driven stimuli FilledTold tell) ms r → Placing names ranges (Driven stimuli (LinkedTold texts) tell) ms r
-linked-placing law names stimuli ranges texts tell ms r made h = by (placed ms ranges) refl h
+pub linked-placing : LinkedImage → (names : List (List ℕ)) (given : GivenFiles) (ranges : Ranges) (texts : List (List ℕ)) (tell : Driving → List ℕ → Reply) (ms : List Object) (r : Reply) → AreModules texts ms →
+    Placing names ranges (Driven given FilledTold tell) ms r → Placing names ranges (Driven given (LinkedTold texts) tell) ms r
+linked-placing law names given ranges texts tell ms r made h = by (placed ms ranges) refl h
   where
-    by : (x : Result Places LinkFault) → placed ms ranges ≡ x → Then (by_places names x) (Driven stimuli FilledTold tell ms) r → Then (by_places names x) (Driven stimuli (LinkedTold texts) tell ms) r
+    by : (x : Result Places LinkFault) → placed ms ranges ≡ x → Then (by_places names x) (Driven given FilledTold tell ms) r → Then (by_places names x) (Driven given (LinkedTold texts) tell ms) r
     by (Ok places) e k =
-        then-map (drives_of stimuli) (λ d. FilledTold (tell d) ms places) (λ d. LinkedTold texts (tell d) ms places) r
+        then-map (driving_of given) (λ d. FilledTold (tell d) ms places) (λ d. LinkedTold texts (tell d) ms places) r
         (λ d f. record { image = f.image; is_filled = f.is_filled; is_image = image-of law texts ms ranges places f.image made e f.is_filled; told = f.told }) k
     by (Err f) e k = k

@@ -7,7 +7,17 @@ abbrev pub Accepting : {A : Type 0} → (A → Type 0) → Result A Reply → Ty
 Accepting accepts (Ok a) = accepts a
 Accepting accepts (Err refusal) = ⊥
 
+-- the reply that a step's value has, or the refusal
+abbrev pub told : {A : Type 0} → Result A Reply → (A → Reply) → Reply
+told (Ok a) tell = tell a
+told (Err refusal) tell = refusal
+
 -- the one file of a command
 abbrev pub IsOneText : (List ℕ → Type 0) → List (List ℕ) → Type 0
 IsOneText accepts (text ∷ []) = accepts text
 IsOneText accepts _ = ⊥
+
+-- the two files of a command
+abbrev pub AreTwoTexts : (List ℕ → List ℕ → Type 0) → List (List ℕ) → Type 0
+AreTwoTexts accepts (text ∷ other ∷ []) = accepts text other
+AreTwoTexts accepts _ = ⊥

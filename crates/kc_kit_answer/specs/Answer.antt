@@ -8,13 +8,13 @@ use Rattle.kc_hex.specs.Records.{image_of}
 use Rattle.kc_kit_files.specs.declared.status.Status.TheVariants as status
 use Rattle.kc_kit_files.specs.Reply.{Reply, says, Then}
 use Rattle.kc_kit_files.specs.Reads.{reads_of, Holds, FailedRead}
-use Rattle.kc_kit_words.specs.declared.inputs.Role.TheVariants as role
-use Rattle.kc_kit_words.specs.Words.{Command, Helps, TellsVersion, Runs, Assembles, Packs, Links, RunsHex, Lists, Generates}
-use Rattle.kc_kit_inputs.specs.Inputs.{names_of, input_for}
+use Rattle.kc_kit_words.specs.Words.{Command, Helps, TellsVersion, Runs, Assembles, Packs, Links, RunsHex, Lists, Debugs, Generates}
+use Rattle.kc_kit_inputs.specs.Driving.{given_for, driving_of}
+use Rattle.kc_kit_inputs.specs.Inputs.{names_of}
 use Rattle.kc_kit_inputs.specs.Sources.{IsFaultless}
-use Rattle.kc_kit_inputs.specs.Stimuli.{drives_of}
-use Rattle.kc_kit_answer.specs.Accepting.{Accepting, IsOneText}
+use Rattle.kc_kit_answer.specs.Accepting.{Accepting, IsOneText, AreTwoTexts}
 use Rattle.kc_kit_answer.specs.Assemble.{AssembleAnswer}
+use Rattle.kc_kit_answer.specs.Debug.{DebugAnswer, IsDebuggable}
 use Rattle.kc_kit_answer.specs.Generate.{GenerateAnswer, IsGenerable}
 use Rattle.kc_kit_answer.specs.Hex.{RunHexAnswer, ListAnswer}
 use Rattle.kc_kit_answer.specs.Lines.{help_text, version_line, usage_line}
@@ -31,6 +31,7 @@ names_read (Some (Packs files out)) = files
 names_read (Some (Links files inputs out lines placing)) = files ++ names_of inputs
 names_read (Some (RunsHex file inputs states)) = file ∷ names_of inputs
 names_read (Some (Lists file first last)) = file ∷ []
+names_read (Some (Debugs file script inputs)) = file ∷ script ∷ names_of inputs
 names_read _ = []
 
 abbrev pub names_written : Option Command → List (List ℕ)
@@ -45,6 +46,11 @@ names_written _ = []
 abbrev pub OneText : (List ℕ → Reply → Type 0) → List (List ℕ) → Reply → Type 0
 OneText may (text ∷ []) reply = may text reply
 OneText may _ reply = ⊥
+
+-- the two first files of a command
+abbrev pub TwoTexts : (List ℕ → List ℕ → Reply → Type 0) → List (List ℕ) → Reply → Type 0
+TwoTexts may (text ∷ other ∷ []) reply = may text other reply
+TwoTexts may _ reply = ⊥
 
 -- the texts of so many first files, and those of the inputs behind them
 abbrev pub Parted : ℕ → (List (List ℕ) → List (List ℕ) → Reply → Type 0) → List (List ℕ) → Reply → Type 0
@@ -63,6 +69,8 @@ CommandAnswer (Some (Links files inputs out lines placing)) contents reply =
 CommandAnswer (Some (RunsHex file inputs states)) contents reply =
     Then (reads_of (file ∷ names_of inputs) contents) (Parted 1 (λ texts more. OneText (λ text. RunHexAnswer file inputs states text more) texts)) reply
 CommandAnswer (Some (Lists file first last)) contents reply = Then (reads_of (file ∷ []) contents) (OneText (ListAnswer file first last)) reply
+CommandAnswer (Some (Debugs file script inputs)) contents reply =
+    Then (reads_of (file ∷ script ∷ names_of inputs) contents) (Parted 2 (λ texts more. TwoTexts (λ text commands. DebugAnswer file script inputs text commands more) texts)) reply
 CommandAnswer (Some (Generates number)) contents reply = GenerateAnswer number reply
 
 -- What may be answered to a command, over what the files tell that they hold: all files are read before any is judged. A read may
@@ -89,8 +97,10 @@ IsAccepted (Some (Packs files out)) contents = Accepting (ArePackable files) (re
 IsAccepted (Some (Links files inputs out lines placing)) contents =
     Accepting (λ texts. AreLinkable files inputs placing (take (length files) texts) (drop (length files) texts)) (reads_of (files ++ names_of inputs) contents)
 IsAccepted (Some (RunsHex file inputs states)) contents =
-    Accepting (λ texts. IsOneText (λ text. IsOk (image_of text)) (take 1 texts) × IsOk (drives_of (input_for role.Stimuli inputs (drop 1 texts)))) (reads_of (file ∷ names_of inputs) contents)
+    Accepting (λ texts. IsOneText (λ text. IsOk (image_of text)) (take 1 texts) × IsOk (driving_of (given_for inputs (drop 1 texts)))) (reads_of (file ∷ names_of inputs) contents)
 IsAccepted (Some (Lists file first last)) contents = Accepting (IsOneText (λ text. IsOk (image_of text))) (reads_of (file ∷ []) contents)
+IsAccepted (Some (Debugs file script inputs)) contents =
+    Accepting (λ texts. AreTwoTexts (λ text commands. IsDebuggable script inputs text commands (drop 2 texts)) (take 2 texts)) (reads_of (file ∷ script ∷ names_of inputs) contents)
 IsAccepted (Some (Generates number)) contents = IsGenerable number
 
 -- ---- no name changes but those of files that are written

@@ -10,12 +10,13 @@ use Rattle.kc_kit_files.specs.declared.refusal.Refusal.{Refusal}
 use Rattle.kc_kit_files.specs.Reply.{Reply, Write, write, says, done_writing, IsRefused, IsSaid}
 use Rattle.kc_kit_words.specs.Values.{max_states}
 use Rattle.kc_kit_words.specs.Words.{Command}
-use Rattle.kc_stim.specs.Drives.{Drives}
+use Rattle.kc_kit_inputs.specs.declared.driving.Driving.{Driving}
 use Rattle.kc_kit_answer.specs.declared.board.Board.{Board}
 use Rattle.kc_kit_answer.specs.declared.job.Job.{Job}
 use Rattle.kc_kit_answer.specs.declared.job.Job.TheVariants as job
 use Rattle.kc_kit_answer.specs.declared.job.Output.{Output}
 use Rattle.kc_kit_answer.specs.Answer.{MayAnswerBy}
+use Rattle.kc_kit_answer.specs.Debug.{debugged_by, script_reply}
 use Rattle.kc_kit_answer.specs.Generate.{summary_of}
 use Rattle.kc_kit_answer.specs.Running.{run_of, run_reply}
 
@@ -28,9 +29,10 @@ maybe_written (Some o) = written o ∷ []
 
 -- the reply of a job
 abbrev pub does : Job → Reply
-does (job.Run board states) = run_reply (run_of states board.stimuli board.image)
-does (job.Count board number) = summary_of number board.stimuli board.image
+does (job.Run board states) = run_reply (run_of states board.driving board.image)
+does (job.Count board number) = summary_of number board.driving board.image
 does (job.List image first last) = says status.Done (listing image first last)
+does (job.Debug board script lines) = script_reply (debugged_by lines script board.driving board.image)
 does (job.Write file more) = done_writing (written file ∷ maybe_written more)
 
 -- state times within their limit, and addresses in order
@@ -38,12 +40,13 @@ abbrev pub IsDoable : Job → Type 0
 IsDoable (job.Run board states) = states ≤ max_states
 IsDoable (job.Count board number) = Unit {0}
 IsDoable (job.List image first last) = (0x2000 ≤ first) × (first ≤ last)
+IsDoable (job.Debug board script lines) = Unit {0}
 IsDoable (job.Write file more) = Unit {0}
 
 -- a board with an image and what drives its inputs, on which what is answered depends; or a refusal that may be answered
-abbrev pub IsBoard : ((Drives → List ℕ → Reply) → Reply → Type 0) → Result Board Refusal → Type 0
-IsBoard answer (Ok board) = (tell : Drives → List ℕ → Reply) → answer tell (tell board.stimuli board.image)
-IsBoard answer (Err refusal) = (tell : Drives → List ℕ → Reply) → IsRefused (answer tell) refusal
+abbrev pub IsBoard : ((Driving → List ℕ → Reply) → Reply → Type 0) → Result Board Refusal → Type 0
+IsBoard answer (Ok board) = (tell : Driving → List ℕ → Reply) → answer tell (tell board.driving board.image)
+IsBoard answer (Err refusal) = (tell : Driving → List ℕ → Reply) → IsRefused (answer tell) refusal
 
 -- a job or a refusal, of which the reply may be given
 abbrev pub IsPrepared : (Reply → Type 0) → Result Job Refusal → Type 0

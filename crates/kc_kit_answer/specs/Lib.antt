@@ -1,6 +1,8 @@
 pub mod Accepting
 pub mod Answer
 pub mod Assemble
+pub mod Debug
+pub mod Fitted
 pub mod Generate
 pub mod Hex
 pub mod Jobs

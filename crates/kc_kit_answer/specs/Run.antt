@@ -1,8 +1,7 @@
 -- The command that runs sources (this kit's own).
-use Rattle.std.specs.Prelude.{◌≡◌, ℕ, ◌≤◌, true, Option, None, List, [], ◌∷◌, length, Result}
+use Rattle.std.specs.Prelude.{◌≡◌, ℕ, ◌≤◌, true, None, List, [], ◌∷◌, length, Result}
 use Rattle.std.specs.List.{list_all}
 use Rattle.std.specs.Result.{IsOk}
-use Rattle.kc_stim.specs.Drives.{Drives}
 use Rattle.kc_obj.specs.Object.{Object}
 use Rattle.kc_source_statement.specs.declared.statement.Stmt.{Stmt}
 use Rattle.kc_asm_check.specs.Judging.{first_fault}
@@ -17,10 +16,9 @@ use Rattle.kc_link_place.specs.Placing.{Places}
 use Rattle.kc_link.specs.Filled.{IsFilled}
 use Rattle.kc_kit_files.specs.Reply.{Reply, Then}
 use Rattle.kc_kit_words.specs.declared.inputs.Role.{Role}
-use Rattle.kc_kit_words.specs.declared.inputs.Role.TheVariants as role
-use Rattle.kc_kit_inputs.specs.Inputs.{input_for}
+use Rattle.kc_kit_inputs.specs.declared.driving.Driving.{Driving}
+use Rattle.kc_kit_inputs.specs.Driving.{GivenFiles, given_for, driving_of}
 use Rattle.kc_kit_inputs.specs.Sources.{AreModules, SourcesAre, AreFaultless}
-use Rattle.kc_kit_inputs.specs.Stimuli.{drives_of}
 use Rattle.kc_kit_answer.specs.Places.{places_of, Placing}
 use Rattle.kc_kit_answer.specs.Running.{run_reply, run_of}
 
@@ -52,21 +50,21 @@ pub record LinkedTold (texts : List (List ℕ)) (tell : List ℕ → Reply) (ms 
   pub told : reply ≡ tell image
 
 -- once modules are placed, it is judged what drives the inputs
-abbrev pub Driven : Option (List ℕ × List ℕ) → ((List ℕ → Reply) → List Object → Places → Reply → Type 0) → (Drives → List ℕ → Reply) → List Object → Places → Reply → Type 0
-Driven stimuli may tell ms places reply = Then (drives_of stimuli) (λ drives. may (tell drives) ms places) reply
+abbrev pub Driven : GivenFiles → ((List ℕ → Reply) → List Object → Places → Reply → Type 0) → (Driving → List ℕ → Reply) → List Object → Places → Reply → Type 0
+Driven given may tell ms places reply = Then (driving_of given) (λ driving. may (tell driving) ms places) reply
 
 -- sources are judged, their modules are placed, it is judged what drives the inputs, and with the image the answer is this
-abbrev pub SourcesTold : List (List ℕ) → Option (List ℕ × List ℕ) → Ranges → List (List ℕ) → (Drives → List ℕ → Reply) → Reply → Type 0
-SourcesTold names stimuli ranges texts tell reply =
-    (sources : Result (List Object) Reply) × SourcesAre names texts sources × Then sources (Placing names ranges (Driven stimuli (LinkedTold texts) tell)) reply
+abbrev pub SourcesTold : List (List ℕ) → GivenFiles → Ranges → List (List ℕ) → (Driving → List ℕ → Reply) → Reply → Type 0
+SourcesTold names given ranges texts tell reply =
+    (sources : Result (List Object) Reply) × SourcesAre names texts sources × Then sources (Placing names ranges (Driven given (LinkedTold texts) tell)) reply
 
 -- the answer to sources that are run
 abbrev pub RunAnswer : List (List ℕ) → List (Role × List ℕ) → ℕ → Ranges → List (List ℕ) → List (List ℕ) → Reply → Type 0
 RunAnswer names inputs states ranges texts input_texts reply =
-    SourcesTold names (input_for role.Stimuli inputs input_texts) ranges texts (λ drives image. run_reply (run_of states drives image)) reply
+    SourcesTold names (given_for inputs input_texts) ranges texts (λ driving image. run_reply (run_of states driving image)) reply
 
--- ---- what is accepted: no source has a fault, no rule of the linker is broken, and the stimuli have their form
+-- ---- what is accepted: no source has a fault, no rule of the linker is broken, and what drives the inputs has its form
 
 abbrev pub AreRunnable : List (List ℕ) → List (Role × List ℕ) → Ranges → List (List ℕ) → List (List ℕ) → Type 0
 AreRunnable names inputs ranges texts input_texts =
-    AreFaultless texts × ((ms : List Object) → AreModules texts ms → IsOk (places_of names ms ranges)) × IsOk (drives_of (input_for role.Stimuli inputs input_texts))
+    AreFaultless texts × ((ms : List Object) → AreModules texts ms → IsOk (places_of names ms ranges)) × IsOk (driving_of (given_for inputs input_texts))

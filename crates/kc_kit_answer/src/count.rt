@@ -7,12 +7,12 @@ ghost use Rattle.kc_kit_files.specs.Outside.{Prints, shown_by};
 ghost use Rattle.kc_kit_answer.specs.Generate.{counts_text, numbered, summary_of};
 
 use crate::board::Board;
+use crate::fitted::fitted_machine;
 use crate::image_run::status_of;
 use itoa::Buffer;
 use kc_base::{Failed, NoMemory, Sink, StateTime, Steps};
-use kc_extra::NoExtra;
 use kc_kit_files::{Status, say};
-use kc_machine::{End, Machine};
+use kc_machine::End;
 use kc_trace::{Counts, Record, TraceOut, line};
 use std::alloc::Global;
 use std::sync::ledger::{Blank, Ledger};
@@ -109,9 +109,9 @@ pub(crate) fn count_board<S: Sink, L: Ledger>(
     requires name { blank.name ≡ L.name }
     requires parts { blank.parts ≡ L.parts }
     requires whole { blank.parts ≡ 1 }
-    ensures { Prints (λ reply. reply ≡ summary_of number board.stimuli board.image) (shown_by S.written S.faults out.old.sink) result (shown_by S.written S.faults out.new.sink) }
+    ensures { Prints (λ reply. reply ≡ summary_of number board.driving board.image) (shown_by S.written S.faults out.old.sink) result (shown_by S.written S.faults out.new.sink) }
 {
-    let Ok(mut machine) = Machine::new(alloc, board.image, board.stimuli, NoExtra::new()) else {
+    let Ok(mut machine) = fitted_machine(alloc, board) else {
         return Status::NoMemory;
     };
     let mut steps = Steps::<L>::new(blank);

@@ -9,6 +9,7 @@ use crate::board::board_of_sources;
 use crate::job::Job;
 use kc_base::NoMemory;
 use kc_kit_files::Refusal;
+use kc_kit_inputs::Given;
 use kc_kit_words::Ranges;
 use std::alloc::Global;
 
@@ -63,8 +64,11 @@ pub fn prepare_generate<'a>(alloc: Global, number: u16) -> Result<Job<'a>, Refus
     let Ok(made) = make_input(alloc, number) else {
         return Err(Refusal::NoMemory);
     };
-    let stimuli = Some(("gens", made.stimuli.as_slice()));
-    match board_of_sources(alloc, &made.names, &made.texts, &Ranges::new(), stimuli) {
+    let given = Given {
+        stimuli: Some(("gens", made.stimuli.as_slice())),
+        analog: None,
+    };
+    match board_of_sources(alloc, &made.names, &made.texts, &Ranges::new(), given) {
         Ok(board) => Ok(Job::Count { board, number }),
         Err(refusal) => Err(refusal),
     }

@@ -8,13 +8,15 @@ pub const HELP: &str = "kc96 assembles, links and runs programs of the 80C196KC.
        [--lines FILE]             and write which source line stands where
   kc96 hex NAME --states N        run the Intel hex file NAME for N state times
   kc96 dis NAME A-B               list the instructions of the hex file NAME from A to B
+  kc96 debug NAME SCRIPT          debug the hex file NAME by the commands of SCRIPT
+       [--lines FILE]             with the source lines of a line map
   kc96 gen N                      make a program from the number N, run it and count what it does
   kc96 --help                     print this text
   kc96 --version                  print the name and the version
 Where run and link may place registers, code and data, and how long the stack is:
   [--reg A-B] [--code A-B] [--data A-B] [--stack N]
-What drives the input pins while run and hex run:
-  [--stim FILE]
+What drives the input pins and the analogue inputs of run, hex and debug:
+  [--stim FILE] [--analog FILE]
 ";
 
 /// The line of `--version`.

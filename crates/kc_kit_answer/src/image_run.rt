@@ -5,10 +5,10 @@ ghost use Rattle.kc_kit_words.specs.Values.{max_states};
 ghost use Rattle.kc_kit_answer.specs.Running.{run_of, run_reply, status_of};
 
 use crate::board::Board;
+use crate::fitted::fitted_machine;
 use kc_base::{Sink, Steps};
-use kc_extra::NoExtra;
 use kc_kit_files::Status;
-use kc_machine::{End, Machine};
+use kc_machine::End;
 use kc_trace::TraceOut;
 use std::alloc::Global;
 use std::sync::ledger::{Blank, Ledger};
@@ -26,9 +26,9 @@ pub(crate) fn run_board<S: Sink, L: Ledger>(
     requires name { blank.name ≡ L.name }
     requires parts { blank.parts ≡ L.parts }
     requires whole { blank.parts ≡ 1 }
-    ensures { Prints (λ reply. reply ≡ run_reply (run_of states board.stimuli board.image)) (shown_by S.written S.faults out.old.sink) result (shown_by S.written S.faults out.new.sink) }
+    ensures { Prints (λ reply. reply ≡ run_reply (run_of states board.driving board.image)) (shown_by S.written S.faults out.old.sink) result (shown_by S.written S.faults out.new.sink) }
 {
-    let Ok(mut machine) = Machine::new(alloc, board.image, board.stimuli, NoExtra::new()) else {
+    let Ok(mut machine) = fitted_machine(alloc, board) else {
         return Status::NoMemory;
     };
     let mut steps = Steps::<L>::new(blank);

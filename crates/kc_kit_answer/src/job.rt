@@ -5,9 +5,11 @@ ghost use Rattle.kc_kit_answer.specs.Jobs.{AreWritten, IsDoable, does, written, 
 
 use crate::board::Board;
 use crate::count::count_board;
+use crate::debug::debug_board;
 use crate::image_run::run_board;
 use crate::list::list_image;
 use kc_base::{Files, Image, Sink};
+use kc_debug_script::{LineMap, Script};
 use kc_kit_files::{Status, write_file};
 use kc_trace::TraceOut;
 use std::alloc::Global;
@@ -21,8 +23,8 @@ pub struct Output<'a> {
     pub(crate) bytes: Vec<u8>,
 }
 
-/// What is left to do: a run of a board that is printed, or of which the lines are counted, a listing of an image, or one
-/// or two files to write.
+/// What is left to do: a run of a board that is printed, or of which the lines are counted, a listing of an image, a script
+/// over a board, or one or two files to write.
 #[derive(Drop)]
 pub enum Job<'a> {
     Run {
@@ -37,6 +39,11 @@ pub enum Job<'a> {
         image: Image,
         first: u16,
         last: u16,
+    },
+    Debug {
+        board: Board,
+        script: Script,
+        lines: LineMap,
     },
     Write {
         file: Output<'a>,
@@ -64,6 +71,11 @@ pub fn perform<F: Files, S: Sink>(
             count_board::<S, Brand>(alloc, board, number, Blank::new(1), out)
         }
         Job::List { image, first, last } => list_image(&image, first, last, out),
+        Job::Debug {
+            board,
+            script,
+            lines,
+        } => debug_board::<S, Brand>(alloc, board, &script, lines, Blank::new(1), out),
         Job::Write { file, more } => write_files(alloc, &file, &more, files),
     }
 }

@@ -4,6 +4,8 @@
 mod assemble;
 mod board;
 mod count;
+mod debug;
+mod fitted;
 mod generate;
 mod help;
 mod image_run;
@@ -18,6 +20,7 @@ mod run_hex;
 
 pub use assemble::prepare_assemble;
 pub use board::Board;
+pub use debug::prepare_debug;
 pub use generate::prepare_generate;
 pub use help::{HELP, VERSION};
 pub use job::{Job, Output, perform};

@@ -10,8 +10,8 @@ use crate::board::board_of_sources;
 use crate::job::Job;
 use kc_base::Files;
 use kc_kit_files::{Refusal, read_files};
-use kc_kit_inputs::{input_for, read_inputs};
-use kc_kit_words::{Command, Role, Run};
+use kc_kit_inputs::{given_for, read_inputs};
+use kc_kit_words::{Command, Run};
 use std::alloc::Global;
 
 /// Reads sources and what drives the inputs, assembles and links the image that is to be run.
@@ -46,8 +46,8 @@ fn run_texts<'a>(
     requires inputs { AllShort (map (λ t. t.items) inputs.now) }
     ensures { IsPrepared (RunAnswer (map string_bytes run.now.files.now) (inputs_in run.now.inputs) run.now.states run.now.placing (map (λ t. t.items) texts.now) (map (λ t. t.items) inputs.now)) result }
 {
-    let stimuli = input_for(Role::Stimuli, run.inputs, inputs);
-    match board_of_sources(alloc, run.files, texts, &run.placing, stimuli) {
+    let given = given_for(run.inputs, inputs);
+    match board_of_sources(alloc, run.files, texts, &run.placing, given) {
         Ok(board) => Ok(Job::Run {
             board,
             states: run.states,

@@ -11,8 +11,8 @@ use crate::board::board_of_hex;
 use crate::job::Job;
 use kc_base::Files;
 use kc_kit_files::{Refusal, read_file};
-use kc_kit_inputs::{input_for, read_inputs};
-use kc_kit_words::{Command, Role, RunHex};
+use kc_kit_inputs::{given_for, read_inputs};
+use kc_kit_words::{Command, RunHex};
 use std::alloc::Global;
 
 /// Reads a hex file that is to be run, and what drives the inputs.
@@ -46,8 +46,8 @@ fn run_text<'a>(
     requires inputs { AllShort (map (λ t. t.items) inputs.now) }
     ensures { IsPrepared (RunHexAnswer run.now.file.now (inputs_in run.now.inputs) run.now.states text.now (map (λ t. t.items) inputs.now)) result }
 {
-    let stimuli = input_for(Role::Stimuli, run.inputs, inputs);
-    match board_of_hex(alloc, run.file, text, stimuli) {
+    let given = given_for(run.inputs, inputs);
+    match board_of_hex(alloc, run.file, text, given) {
         Ok(board) => Ok(Job::Run {
             board,
             states: run.states,

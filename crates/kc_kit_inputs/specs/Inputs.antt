@@ -9,7 +9,9 @@ names_of inputs = map (λ i. i.1) inputs
 
 abbrev pub is_role : Role → Role → Bool
 is_role role.Stimuli role.Stimuli = true
+is_role role.Analog role.Analog = true
 is_role role.Library role.Library = true
+is_role role.Lines role.Lines = true
 is_role _ _ = false
 
 -- the name and the text of the first of these files that is there for a role

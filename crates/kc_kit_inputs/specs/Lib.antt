@@ -1,7 +1,10 @@
+pub mod Analog
+pub mod Driving
 pub mod Hex
 pub mod Inputs
 pub mod Library
 pub mod Lines
 pub mod Objects
+pub mod Scripts
 pub mod Sources
 pub mod Stimuli

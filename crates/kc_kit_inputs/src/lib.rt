@@ -1,17 +1,22 @@
-//! What named files say to a command, or the refusal of their first fault: sources, objects, libraries, hex files, stimuli.
+//! What named files say to a command, or the refusal of their first fault: sources, objects, libraries, hex files, stimuli,
+//! analogue files, debugger scripts.
 #![tactic(auto)]
 
+mod analog;
+mod driving;
 mod hex_image;
 mod input_lines;
 mod library;
 mod objects;
 mod reading;
+mod scripts;
 mod sources;
 mod stimuli;
 
+pub use driving::{Driving, Given, driving_in, given_for};
 pub use hex_image::image_of;
 pub use library::{read_library, take_members};
 pub use objects::read_objects;
 pub use reading::{input_for, read_inputs};
+pub use scripts::{lines_in, read_script};
 pub use sources::{assemble_source, assemble_sources};
-pub use stimuli::stimuli_in;

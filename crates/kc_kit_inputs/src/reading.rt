@@ -46,7 +46,10 @@ fn is_role(given: Role, wanted: Role) -> bool
 {
     matches!(
         (given, wanted),
-        (Role::Stimuli, Role::Stimuli) | (Role::Library, Role::Library)
+        (Role::Stimuli, Role::Stimuli)
+            | (Role::Analog, Role::Analog)
+            | (Role::Library, Role::Library)
+            | (Role::Lines, Role::Lines)
     )
 }
 

@@ -5,7 +5,7 @@ use Rattle.std.specs.Str.{bytes_eq}
 use Rattle.std.proofs.lemmas.List.{take_all, take-map, drop-map}
 use Rattle.kc_kit_words.specs.declared.inputs.Role.{Role}
 use Rattle.kc_kit_words.specs.Options.{takes, value_of, are_options, role_of, with_input, inputs_of}
-use Rattle.kc_kit_words.specs.Words.{command_with, command_of, count_files, hex_by, list_by}
+use Rattle.kc_kit_words.specs.Words.{command_with, command_of, count_files, hex_by, list_by, debug_by}
 
 -- the words behind the first two
 abbrev pub behind : List (String Global) → List (List ℕ)
@@ -94,12 +94,18 @@ inputs_of-short verb [] h = refl
 inputs_of-short verb (a ∷ []) h = refl
 inputs_of-short verb (a ∷ b ∷ ws) h = absurd (omega (arith, h))
 
--- ---- a hex file is one word, and a listing has two
+-- ---- a hex file is one word, a listing has two, and so has a debugger
 
 pub hex_by-other : (files : List (List ℕ)) (verb : List ℕ) (options : List (List ℕ)) → (length files ≡ 1 → ⊥) → hex_by files verb options ≡ None
 hex_by-other [] verb options one = refl
 hex_by-other (a ∷ []) verb options one = absurd (one refl)
 hex_by-other (a ∷ b ∷ files) verb options one = refl
+
+pub debug_by-other : (files : List (List ℕ)) (verb : List ℕ) (options : List (List ℕ)) → (length files ≡ 2 → ⊥) → debug_by files verb options ≡ None
+debug_by-other [] verb options two = refl
+debug_by-other (a ∷ []) verb options two = refl
+debug_by-other (a ∷ b ∷ []) verb options two = absurd (two refl)
+debug_by-other (a ∷ b ∷ c ∷ rest) verb options two = refl
 
 pub list_by-other : (words : List (List ℕ)) → (length words ≡ 2 → ⊥) → list_by words ≡ None
 list_by-other [] two = refl

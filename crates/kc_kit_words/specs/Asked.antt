@@ -7,7 +7,7 @@ use Rattle.kc_kit_words.specs.declared.command.Command.{Command as Read}
 use Rattle.kc_kit_words.specs.declared.command.Command.TheVariants as read
 use Rattle.kc_kit_words.specs.Inputs.{inputs_in}
 use Rattle.kc_kit_words.specs.Values.{max_states}
-use Rattle.kc_kit_words.specs.Words.{Command, Helps, TellsVersion, Runs, Assembles, Packs, Links, RunsHex, Lists, Generates}
+use Rattle.kc_kit_words.specs.Words.{Command, Helps, TellsVersion, Runs, Assembles, Packs, Links, RunsHex, Lists, Debugs, Generates}
 
 abbrev pub asked : Read → Command
 asked read.Help = Helps
@@ -18,6 +18,7 @@ asked (read.Pack pack) = Packs (map string_bytes pack.files.now) pack.out.now
 asked (read.Link link) = Links (map string_bytes link.files.now) (inputs_in link.inputs) link.out.now (option_map (λ l. l.now) link.lines) link.placing
 asked (read.RunHex run) = RunsHex run.file.now (inputs_in run.inputs) run.states
 asked (read.List list) = Lists list.file.now list.first list.last
+asked (read.Debug debug) = Debugs debug.file.now debug.script.now (inputs_in debug.inputs)
 asked (read.Generate generate) = Generates generate.number
 
 -- 1 to 64 files

@@ -1,5 +1,5 @@
 -- The options of a command, each with its value (this kit's own).
-use Rattle.std.specs.Prelude.{ℕ, Bool, true, false, ◌&&◌, List, [], ◌∷◌, codes, Option, Some, None, is_some, is_none, if◌then◌else◌}
+use Rattle.std.specs.Prelude.{ℕ, Bool, true, false, ◌&&◌, List, [], ◌∷◌, ◌++◌, codes, Option, Some, None, is_some, is_none, if◌then◌else◌}
 use Rattle.std.specs.Option.{option_and_then, option_map_or}
 use Rattle.std.specs.Str.{bytes_eq}
 use Rattle.kc_kit_words.specs.declared.inputs.Role.{Role}
@@ -13,19 +13,21 @@ use Rattle.kc_kit_words.specs.Values.{is_name, states_of, length_of, range_of}
 abbrev pub placing_options : List (List ℕ × Form)
 placing_options = (codes "--reg", form.Span) ∷ (codes "--code", form.Span) ∷ (codes "--data", form.Span) ∷ (codes "--stack", form.Length) ∷ []
 
-abbrev pub stimuli_option : List ℕ × Form
-stimuli_option = (codes "--stim", form.Input role.Stimuli)
+-- the files that say what drives the inputs
+abbrev pub driving_options : List (List ℕ × Form)
+driving_options = (codes "--stim", form.Input role.Stimuli) ∷ (codes "--analog", form.Input role.Analog) ∷ []
 
 abbrev pub out_option : List ℕ × Form
 out_option = (codes "--out", form.File)
 
 abbrev pub options_for : List ℕ → List (List ℕ × Form)
 options_for verb =
-    if bytes_eq verb (codes "run") then (codes "--states", form.States) ∷ stimuli_option ∷ placing_options
+    if bytes_eq verb (codes "run") then (codes "--states", form.States) ∷ driving_options ++ placing_options
     else if bytes_eq verb (codes "asm") then out_option ∷ []
     else if bytes_eq verb (codes "lib") then out_option ∷ []
     else if bytes_eq verb (codes "link") then out_option ∷ (codes "--lines", form.File) ∷ (codes "--lib", form.Input role.Library) ∷ placing_options
-    else if bytes_eq verb (codes "hex") then (codes "--states", form.States) ∷ stimuli_option ∷ []
+    else if bytes_eq verb (codes "hex") then (codes "--states", form.States) ∷ driving_options
+    else if bytes_eq verb (codes "debug") then (codes "--lines", form.Input role.Lines) ∷ driving_options
     else []
 
 abbrev pub form_among : List ℕ → List (List ℕ × Form) → Option Form

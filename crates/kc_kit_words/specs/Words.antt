@@ -21,6 +21,7 @@ pub data Command : Type 0 where
   Links : List (List ℕ) → List (Role × List ℕ) → List ℕ → Option (List ℕ) → Ranges → Command
   RunsHex : List ℕ → List (Role × List ℕ) → ℕ → Command
   Lists : List ℕ → ℕ → ℕ → Command
+  Debugs : List ℕ → List ℕ → List (Role × List ℕ) → Command
   Generates : ℕ → Command
 
 -- ---- files stand before the options, and an option begins with `-`
@@ -98,6 +99,14 @@ abbrev pub list_by : List (List ℕ) → Option Command
 list_by (file ∷ range ∷ []) = list_of file range
 list_by _ = None
 
+-- a hex file and a script
+abbrev pub debug_of : List ℕ → List ℕ → List ℕ → List (List ℕ) → Option Command
+debug_of file script verb options = if is_name file && is_name script then Some (Debugs file script (inputs_of verb options)) else None
+
+abbrev pub debug_by : List (List ℕ) → List ℕ → List (List ℕ) → Option Command
+debug_by (file ∷ script ∷ []) verb options = debug_of file script verb options
+debug_by _ verb options = None
+
 -- a number up to 65,535
 abbrev pub generate_by : List (List ℕ) → Option Command
 generate_by (number ∷ []) = option_map Generates (number_of 65535 number)
@@ -115,6 +124,7 @@ command_by verb files options =
     else if bytes_eq verb (codes "link") then link_by files verb options
     else if bytes_eq verb (codes "hex") then hex_by files verb options
     else if bytes_eq verb (codes "dis") then list_by files
+    else if bytes_eq verb (codes "debug") then debug_by files verb options
     else if bytes_eq verb (codes "gen") then generate_by files
     else if bytes_eq verb (codes "--help") then alone files Helps
     else if bytes_eq verb (codes "--version") then alone files TellsVersion

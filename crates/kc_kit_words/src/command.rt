@@ -51,6 +51,14 @@ pub struct List<'a> {
     pub last: u16,
 }
 
+/// A run of a hex file as the commands of a script say.
+#[derive(Clone, Copy)]
+pub struct Debug<'a> {
+    pub file: &'a str,
+    pub script: &'a str,
+    pub inputs: Inputs<'a>,
+}
+
 /// A run of the input that is made from a number.
 #[derive(Clone, Copy)]
 pub struct Generate {
@@ -68,5 +76,6 @@ pub enum Command<'a> {
     Link(Link<'a>),
     RunHex(RunHex<'a>),
     List(List<'a>),
+    Debug(Debug<'a>),
     Generate(Generate),
 }

@@ -12,8 +12,12 @@ use crate::values::Form;
 pub enum Role {
     /// It says what drives the input pins.
     Stimuli,
+    /// It says the values of the analogue inputs.
+    Analog,
     /// It is the library from which modules are taken.
     Library,
+    /// It is the line map of what is debugged.
+    Lines,
 }
 
 /// A file that an option names for reading.

@@ -9,7 +9,7 @@ mod order;
 mod values;
 mod words;
 
-pub use command::{Assemble, Command, Generate, Link, List, Pack, Run, RunHex};
+pub use command::{Assemble, Command, Debug, Generate, Link, List, Pack, Run, RunHex};
 pub use inputs::{Input, Inputs, Role};
 pub use kc_link_place::Ranges;
 pub use numbers::number;

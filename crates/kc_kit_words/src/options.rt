@@ -2,7 +2,7 @@
 ghost use Rattle.std.specs.Prelude.{◌≡◌, ◌≤◌, ◌&&◌, is_none, map, string_bytes, length, IfSome};
 ghost use Rattle.std.specs.Option.{option_map};
 ghost use Rattle.kc_base.specs.TextLines.{begins_with};
-ghost use Rattle.kc_kit_words.specs.Options.{placing_options, form_among, form_of, takes, value_of, are_options, states_in, range_in, length_in};
+ghost use Rattle.kc_kit_words.specs.Options.{placing_options, driving_options, form_among, form_of, takes, value_of, are_options, states_in, range_in, length_in};
 ghost use Rattle.kc_kit_words.specs.Values.{max_states};
 ghost use Rattle.kc_kit_words.specs.Words as spec;
 
@@ -46,6 +46,17 @@ fn placing_form(option: &str) -> Option<Form>
     }
 }
 
+// The form of the value of an option that says what drives the inputs.
+fn driving_form(option: &str) -> Option<Form>
+    ensures { result ≡ form_among option.now driving_options }
+{
+    match option {
+        "--stim" => Some(Form::Input(Role::Stimuli)),
+        "--analog" => Some(Form::Input(Role::Analog)),
+        _ => None,
+    }
+}
+
 /// The form of the value of an option, or none where the command does not take it.
 pub(crate) fn form_of(verb: &str, option: &str) -> Option<Form>
     ensures { result ≡ form_of verb.now option.now }
@@ -53,8 +64,10 @@ pub(crate) fn form_of(verb: &str, option: &str) -> Option<Form>
     match verb {
         "run" => match option {
             "--states" => Some(Form::States),
-            "--stim" => Some(Form::Input(Role::Stimuli)),
-            _ => placing_form(option),
+            _ => match driving_form(option) {
+                None => placing_form(option),
+                form => form,
+            },
         },
         "asm" | "lib" => match option {
             "--out" => Some(Form::File),
@@ -67,8 +80,11 @@ pub(crate) fn form_of(verb: &str, option: &str) -> Option<Form>
         },
         "hex" => match option {
             "--states" => Some(Form::States),
-            "--stim" => Some(Form::Input(Role::Stimuli)),
-            _ => None,
+            _ => driving_form(option),
+        },
+        "debug" => match option {
+            "--lines" => Some(Form::Input(Role::Lines)),
+            _ => driving_form(option),
         },
         _ => None,
     }

@@ -56,6 +56,12 @@ fn shown(alloc: Global, line: &str) -> Result<String, AllocError> {
             put_number(alloc, &mut text, u64::from(list.first))?;
             put_number(alloc, &mut text, u64::from(list.last))?;
         }
+        Some(Command::Debug(debug)) => {
+            text.push_str("debug")?;
+            put(&mut text, debug.file)?;
+            put(&mut text, debug.script)?;
+            put_inputs(&mut text, debug.inputs)?;
+        }
         Some(Command::Generate(generate)) => {
             text.push_str("gen")?;
             put_number(alloc, &mut text, u64::from(generate.number))?;
@@ -80,17 +86,20 @@ fn put_files(text: &mut String, files: &[String]) -> Result<(), AllocError> {
 fn put_input(text: &mut String, input: &Input<'_>) -> Result<(), AllocError> {
     match input.role {
         Role::Stimuli => put(text, "stimuli")?,
+        Role::Analog => put(text, "analog")?,
         Role::Library => put(text, "library")?,
+        Role::Lines => put(text, "lines")?,
     }
     put(text, input.name)
 }
 
-// No command has more than one of them.
+// No command has more than three of them.
 fn put_inputs(text: &mut String, inputs: Inputs<'_>) -> Result<(), AllocError> {
-    if let Some((input, others)) = inputs.split_first() {
-        put_input(text, &input)?;
-        if others.split_first().is_some() {
-            put(text, "others")?;
+    let mut left = inputs;
+    for _ in 0..3 {
+        if let Some((first, others)) = left.split_first() {
+            put_input(text, &first)?;
+            left = others;
         }
     }
     Ok(())
@@ -141,9 +150,14 @@ fn lines_ask_for_commands(rt: HostRuntime) -> Result<(), Fail> {
         ),
         ("run a b --stim s.stm --states 7", "run a b stimuli s.stm 7"),
         (
+            "run a --analog v --states 7 --code 2000H-2FFFH --stim s",
+            "run a analog v stimuli s 7 code 8192 12287",
+        ),
+        (
             "hex a.hex --states 0FH --stim a.hex",
             "hex a.hex stimuli a.hex 15",
         ),
+        ("hex a --analog a --states 1", "hex a analog a 1"),
         ("asm a.a96 --out a.obj", "asm a.a96 a.obj"),
         (
             "link a.obj b.obj --lines a.map --out a.hex",
@@ -166,6 +180,15 @@ fn lines_ask_for_commands(rt: HostRuntime) -> Result<(), Fail> {
         (
             "link a.obj --lib a.lib --out a.hex --lines a.lib",
             "link a.obj library a.lib a.hex a.lib",
+        ),
+        ("debug a.hex a.dbg", "debug a.hex a.dbg"),
+        (
+            "debug a.hex a.dbg --lines a.map --stim a.stm",
+            "debug a.hex a.dbg lines a.map stimuli a.stm",
+        ),
+        (
+            "debug a b --analog v --lines m --stim s",
+            "debug a b analog v lines m stimuli s",
         ),
         ("gen 0FFH", "gen 255"),
         ("gen 65535", "gen 65535"),
@@ -196,7 +219,10 @@ fn other_lines_ask_for_nothing(rt: HostRuntime) -> Result<(), Fail> {
         "run a --states 1 --stim",
         "run a --states 1 --stim -s",
         "run a --states 1 --stim s --stim t",
+        "run a --states 1 --analog",
+        "run a --states 1 --analog v --analog v",
         "link a --out b --stim s",
+        "link a --out b --analog v",
         "asm a --out b --stim s",
         "dis a 2080H-2088H --stim s",
         "--states 1 run a",
@@ -225,11 +251,15 @@ fn other_lines_ask_for_nothing(rt: HostRuntime) -> Result<(), Fail> {
         "dis a 1FFFH-2080H",
         "dis a 8192-65536",
         "dis a 2080H-2088H --out b",
-        "debug a b",
+        "debug a",
+        "debug a b c",
+        "debug a b --lines",
+        "debug a b --states 1",
         "gen",
         "gen 65536",
         "gen 1 2",
         "gen 1 --states 1",
+        "gen 1 --analog v",
         "lib --out b",
         "lib a",
         "lib a --out b --lib c",

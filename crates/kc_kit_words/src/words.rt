@@ -3,11 +3,11 @@ ghost use Rattle.std.specs.Prelude.{◌≡◌, IfSome, map, string_bytes};
 ghost use Rattle.std.specs.List.{list_all};
 ghost use Rattle.std.specs.Option.{option_map, unwrap_or};
 ghost use Rattle.kc_kit_words.specs.Values.{is_name};
-ghost use Rattle.kc_kit_words.specs.Words.{command_of, command_by, run_by, assemble_by, pack_by, link_by, hex_by, hex_of, list_by, list_of, generate_by, are_files, placing_of};
+ghost use Rattle.kc_kit_words.specs.Words.{command_of, command_by, run_by, assemble_by, pack_by, link_by, hex_by, hex_of, list_by, list_of, debug_by, debug_of, generate_by, are_files, placing_of};
 ghost use Rattle.kc_kit_words.specs.Words as spec;
 ghost use Rattle.kc_kit_words.specs.Asked.{asked, IsWithin};
 
-use crate::command::{Assemble, Command, Generate, Link, List, Pack, Run, RunHex};
+use crate::command::{Assemble, Command, Debug, Generate, Link, List, Pack, Run, RunHex};
 use crate::inputs::Inputs;
 use crate::options::{are_options, count_files, length_in, range_in, states_in, value_of};
 use crate::values::{is_name, range, short};
@@ -199,6 +199,40 @@ fn read_list(files: &[String]) -> Option<Command<'_>>
     listing(files[0].as_str(), files[1].as_str())
 }
 
+// The debugging of a hex file by a script.
+fn debugging<'a>(
+    file: &'a str,
+    script: &'a str,
+    verb: &'a str,
+    options: &'a [String],
+) -> Option<Command<'a>>
+    ensures asked { option_map asked result ≡ debug_of file.now script.now verb.now (map string_bytes options.now) }
+    ensures within { IfSome result IsWithin }
+{
+    if is_name(file) && is_name(script) {
+        Some(Command::Debug(Debug {
+            file,
+            script,
+            inputs: Inputs {
+                verb,
+                words: options,
+            },
+        }))
+    } else {
+        None
+    }
+}
+
+fn read_debug<'a>(files: &'a [String], verb: &'a str, options: &'a [String]) -> Option<Command<'a>>
+    ensures asked { option_map asked result ≡ debug_by (map string_bytes files.now) verb.now (map string_bytes options.now) }
+    ensures within { IfSome result IsWithin }
+{
+    if files.len() != 2 {
+        return None;
+    }
+    debugging(files[0].as_str(), files[1].as_str(), verb, options)
+}
+
 fn read_generate<'a>(files: &'a [String]) -> Option<Command<'a>>
     ensures asked { option_map asked result ≡ generate_by (map string_bytes files.now) }
     ensures within { IfSome result IsWithin }
@@ -239,6 +273,7 @@ fn read_command<'a>(
         "link" => read_link(files, verb, options),
         "hex" => read_hex(files, verb, options),
         "dis" => read_list(files),
+        "debug" => read_debug(files, verb, options),
         "gen" => read_generate(files),
         "--help" => alone(files, Command::Help),
         "--version" => alone(files, Command::Version),

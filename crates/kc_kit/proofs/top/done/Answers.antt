@@ -57,6 +57,11 @@ returns-in-Pack g c =
     finished g.F.Files.held g.F.Files.read_faults g.F.Files.write_faults c.args.command.now _ c.args.files.now c.prepare_pack-prepared.new.files c.finish-in-Pack.new.files c.prepare_pack-prepared.result _ _ _
     c.in-Pack.is c.prepare_pack-prepared.ensures c.finish-in-Pack.ensures.answer c.finish-in-Pack.ensures.no_read
 
+pub returns-in-Debug : goal.returns-in-Debug
+returns-in-Debug g c =
+    finished g.F.Files.held g.F.Files.read_faults g.F.Files.write_faults c.args.command.now _ c.args.files.now c.prepare_debug-prepared.new.files c.finish-in-Debug.new.files c.prepare_debug-prepared.result _ _ _
+    c.in-Debug.is c.prepare_debug-prepared.ensures c.finish-in-Debug.ensures.answer c.finish-in-Debug.ensures.no_read
+
 pub returns-in-Generate : goal.returns-in-Generate
 returns-in-Generate g c =
     let told = g.F.Files.held c.args.files.now in

@@ -1,6 +1,6 @@
 use Rattle.std.proofs.Common.{map, string_bytes, Ok, Err, refl}
-use Rattle.std.specs.Option.{option_map}
 use Rattle.kc_kit_files.proofs.ReadLemmas.{refused-widen}
+use Rattle.kc_kit_inputs.specs.Driving.{given_in}
 use Rattle.kc_kit_inputs.specs.Sources.{TellsFirst}
 use Rattle.kc_kit_inputs.proofs.Words.{texts_in}
 use Rattle.kc_kit_answer.specs.Places.{Placing}
@@ -12,15 +12,15 @@ use Rattle.kc_kit_answer.proofs.board.board_of_sources.Goals as goal
 pub returns-in-Ok : goal.returns-in-Ok
 returns-in-Ok c =
     let names = map string_bytes c.args.names.now in
-    let stimuli = option_map (λ f. (f.0.now, f.1.now)) c.args.stimuli in
+    let given = given_in c.args.given in
     let texts = texts_in c.args.texts.now in
-    board-widen (λ tell. Placing names c.args.placing.now (Driven stimuli FilledTold tell) c.in-Ok.modules.items) (SourcesTold names stimuli c.args.placing.now texts) c.board_of_modules.result
-    (λ tell r m. (Ok c.in-Ok.modules.items, c.in-Ok.ensures.made, linked-placing c.linked_image.ensures names stimuli c.args.placing.now texts tell c.in-Ok.modules.items r c.in-Ok.ensures.made m))
+    board-widen (λ tell. Placing names c.args.placing.now (Driven given FilledTold tell) c.in-Ok.modules.items) (SourcesTold names given c.args.placing.now texts) c.board_of_modules.result
+    (λ tell r m. (Ok c.in-Ok.modules.items, c.in-Ok.ensures.made, linked-placing c.linked_image.ensures names given c.args.placing.now texts tell c.in-Ok.modules.items r c.in-Ok.ensures.made m))
     (rw c.deref.ensures.value at c.board_of_modules.ensures)
 
 pub returns-in-Err : goal.returns-in-Err
 returns-in-Err c =
     let names = map string_bytes c.args.names.now in
-    let stimuli = option_map (λ f. (f.0.now, f.1.now)) c.args.stimuli in
+    let given = given_in c.args.given in
     let texts = texts_in c.args.texts.now in
-    λ tell. refused-widen (TellsFirst names texts) (SourcesTold names stimuli c.args.placing.now texts tell) c.in-Err.refusal (λ r e. (Err r, e, refl)) c.in-Err.ensures.refusal
+    λ tell. refused-widen (TellsFirst names texts) (SourcesTold names given c.args.placing.now texts tell) c.in-Err.refusal (λ r e. (Err r, e, refl)) c.in-Err.ensures.refusal

@@ -1,6 +1,6 @@
 use Rattle.std.proofs.Common.{subst, ℕ, List}
-use Rattle.kc_stim.specs.Drives.{Drives}
 use Rattle.kc_kit_files.specs.Reply.{Reply, IsRefused}
+use Rattle.kc_kit_inputs.specs.declared.driving.Driving.{Driving}
 use Rattle.kc_kit_answer.specs.Hex.{HexTold}
 use Rattle.kc_kit_answer.specs.Running.{run_reply, run_of}
 use Rattle.kc_kit_answer.proofs.run_hex.run_text.Goals as goal
@@ -8,11 +8,11 @@ use Rattle.kc_kit_answer.proofs.run_hex.run_text.Goals as goal
 pub returns-in-Ok : goal.returns-in-Ok
 returns-in-Ok c =
     let run = c.args.run.now in
-    let tell : Drives → List ℕ → Reply = λ drives image. run_reply (run_of run.states drives image) in
-    (subst (λ s. HexTold run.file.now s c.args.text.now tell (tell c.in-Ok.board.stimuli c.in-Ok.board.image)) c.input_for-stimuli.ensures.input (c.in-Ok.ensures tell), c.requires.states)
+    let tell : Driving → List ℕ → Reply = λ driving image. run_reply (run_of run.states driving image) in
+    (subst (λ s. HexTold run.file.now s c.args.text.now tell (tell c.in-Ok.board.driving c.in-Ok.board.image)) c.given_for-given.ensures.given (c.in-Ok.ensures tell), c.requires.states)
 
 pub returns-in-Err : goal.returns-in-Err
 returns-in-Err c =
     let run = c.args.run.now in
-    let tell : Drives → List ℕ → Reply = λ drives image. run_reply (run_of run.states drives image) in
-    subst (λ s. IsRefused (HexTold run.file.now s c.args.text.now tell) c.in-Err.refusal) c.input_for-stimuli.ensures.input (c.in-Err.ensures tell)
+    let tell : Driving → List ℕ → Reply = λ driving image. run_reply (run_of run.states driving image) in
+    subst (λ s. IsRefused (HexTold run.file.now s c.args.text.now tell) c.in-Err.refusal) c.given_for-given.ensures.given (c.in-Err.ensures tell)

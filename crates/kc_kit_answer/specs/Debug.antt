@@ -1,0 +1,44 @@
+-- The command that debugs a hex file by a script (this kit's own).
+use Rattle.std.specs.Prelude.{ℕ, List, [], ◌∷◌, Option}
+use Rattle.std.specs.Result.{IsOk}
+use Rattle.kc_hex.specs.Records.{image_of}
+use Rattle.kc_machine_spec.specs.Run.{end_of}
+use Rattle.kc_debug_script.specs.declared.command.Command.{Command}
+use Rattle.kc_debug_script.specs.declared.line_map.MapEntry.{MapEntry}
+use Rattle.kc_debug.specs.Transcript.{Debugged, transcript}
+use Rattle.kc_kit_files.specs.Reply.{Reply, says}
+use Rattle.kc_kit_words.specs.declared.inputs.Role.{Role}
+use Rattle.kc_kit_words.specs.declared.inputs.Role.TheVariants as role
+use Rattle.kc_kit_inputs.specs.declared.driving.Driving.{Driving}
+use Rattle.kc_kit_inputs.specs.Driving.{given_for, driving_of}
+use Rattle.kc_kit_inputs.specs.Inputs.{input_for}
+use Rattle.kc_kit_inputs.specs.Scripts.{script_of, lines_of}
+use Rattle.kc_kit_answer.specs.Accepting.{told}
+use Rattle.kc_kit_answer.specs.Hex.{HexTold}
+use Rattle.kc_kit_answer.specs.Fitted.{FittedUnit, fitted_further}
+use Rattle.kc_kit_answer.specs.Running.{machine_of, status_of}
+
+-- the reply of a script that was carried out: how its machine stands when the script ends, and the transcript
+abbrev pub script_reply : {X : Type 0} → Debugged X → Reply
+script_reply d = says (status_of (end_of d.machine)) d.text
+
+-- commands over the machine of an image that was reset, where these drive the inputs; with the entries of a line map
+abbrev pub debugged_by : List MapEntry → List Command → Driving → List ℕ → Debugged FittedUnit
+debugged_by lines commands driving image = transcript fitted_further lines commands (machine_of driving image)
+
+-- with an image and what drives the inputs, the script is judged, then the line map, and then the script is carried out
+abbrev pub debug_reply : List ℕ × List ℕ → Option (List ℕ × List ℕ) → Driving → List ℕ → Reply
+debug_reply script lines driving image =
+    told (script_of script.0 script.1) (λ commands. told (lines_of lines) (λ entries. script_reply (debugged_by entries commands driving image)))
+
+-- the answer to a hex file that is debugged by a script
+abbrev pub DebugAnswer : List ℕ → List ℕ → List (Role × List ℕ) → List ℕ → List ℕ → List (List ℕ) → Reply → Type 0
+DebugAnswer name script inputs text script_text input_texts reply =
+    HexTold name (given_for inputs input_texts) text (debug_reply (script, script_text) (input_for role.Lines inputs input_texts)) reply
+
+-- what is accepted: the hex file, what drives the inputs, the script and the line map have their form
+pub record IsDebuggable (script : List ℕ) (inputs : List (Role × List ℕ)) (text script_text : List ℕ) (input_texts : List (List ℕ)) : Type 0 where
+  pub image : IsOk (image_of text)
+  pub driving : IsOk (driving_of (given_for inputs input_texts))
+  pub script_read : IsOk (script_of script script_text)
+  pub lines : IsOk (lines_of (input_for role.Lines inputs input_texts))
