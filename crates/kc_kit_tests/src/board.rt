@@ -9,17 +9,17 @@ use std::test::Fail;
 
 /// A source that is run: what it shows, its lines, what drives the inputs, the words, and what is answered: the status,
 /// the lines before the register file, and the bytes of the register file that are other than 0.
-struct Row {
-    shows: &'static str,
-    lines: &'static str,
-    stimuli: &'static str,
-    words: &'static str,
-    status: Status,
-    printed: &'static str,
-    registers: &'static [(usize, &'static str)],
+pub(crate) struct Row {
+    pub(crate) shows: &'static str,
+    pub(crate) lines: &'static str,
+    pub(crate) stimuli: &'static str,
+    pub(crate) words: &'static str,
+    pub(crate) status: Status,
+    pub(crate) printed: &'static str,
+    pub(crate) registers: &'static [(usize, &'static str)],
 }
 
-fn is_right(alloc: Global, row: &Row) -> Result<bool, NoMemory> {
+pub(crate) fn is_right(alloc: Global, row: &Row) -> Result<bool, NoMemory> {
     let source = source(alloc, row.lines)?;
     let mut files = files(alloc, &[], NO_FAULT)?;
     files.put(alloc, "a", source.as_bytes())?;

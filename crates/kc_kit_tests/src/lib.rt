@@ -4,6 +4,10 @@
 #[cfg(test)]
 mod board;
 #[cfg(test)]
+mod converter;
+#[cfg(test)]
+mod debugger;
+#[cfg(test)]
 mod libraries;
 #[cfg(test)]
 mod lines;
@@ -11,6 +15,12 @@ mod lines;
 mod linking;
 #[cfg(test)]
 mod made;
+#[cfg(test)]
+mod narrow;
+#[cfg(test)]
+mod outside;
+#[cfg(test)]
+mod serial;
 #[cfg(test)]
 mod sources;
 #[cfg(test)]

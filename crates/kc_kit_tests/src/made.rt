@@ -6,7 +6,7 @@ use std::test::Fail;
 #[test]
 fn made_inputs_are_run_and_counted(rt: HostRuntime) -> Result<(), Fail> {
     let a = rt.alloc();
-    for (line, text) in [("gen 0", "gen 0\nP 4000\nI 1003\nS 1000\nX 1000000 spent\n")] {
+    for (line, text) in [("gen 7", "gen 7\nP 4000\nI 1003\nS 1000\nX 1000000 spent\n")] {
         let mut files = files(a, &[], NO_FAULT)?;
         assert!(rt;
             answers(a, &mut files, NO_FAULT, line, Status::Done, text)?,

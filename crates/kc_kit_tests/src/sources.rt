@@ -4,7 +4,7 @@ use kc_kit::Status;
 use std::test::Fail;
 
 // Sources by their names.
-pub(crate) static SOURCES: [(&str, &str); 26] = [
+pub(crate) static SOURCES: [(&str, &str); 30] = [
     ("one", " CSEG AT 2080H\n NOP\n END\n"),
     ("empty", ""),
     ("twice", "A: NOP\nA: NOP\n END\n"),
@@ -56,6 +56,17 @@ pub(crate) static SOURCES: [(&str, &str); 26] = [
     ),
     // no END
     ("open", " NOP\n"),
+    // a branch over so many bytes
+    ("over127", " CSEG AT 2080H\n BE T\n DSB 127\nT: NOP\n END\n"),
+    ("over128", " CSEG AT 2080H\n BE T\n DSB 128\nT: NOP\n END\n"),
+    (
+        "over1023",
+        " CSEG AT 2080H\n BE T\n DSB 1023\nT: NOP\n END\n",
+    ),
+    (
+        "over1024",
+        " CSEG AT 2080H\n BE T\n DSB 1024\nT: NOP\n END\n",
+    ),
 ];
 
 // The object of the source `jump`, and the hex file of the engine.
@@ -234,6 +245,37 @@ fn objects_are_written_and_linked(rt: HostRuntime) -> Result<(), Fail> {
     let text = trace(a, "X 4 spent\nPC 2080\nPSW 0000\nWSR 00\n", &[])?;
     let line = "hex e --states 4";
     assert!(rt; answers(a, &mut files, NO_FAULT, line, Status::Done, text.as_str())?);
+    Ok(())
+}
+
+#[test]
+fn branches_take_the_first_form_that_reaches(rt: HostRuntime) -> Result<(), Fail> {
+    let a = rt.alloc();
+    let mut files = files(a, &SOURCES, NO_FAULT)?;
+    for (assembles, listed) in [
+        ("asm over127 --out 1", "2080 DF7F JE 2101H\n2082 FF RST\n"),
+        (
+            "asm over128 --out 1",
+            "2080 D702 JNE 2084H\n2082 2080 SJMP 2104H\n",
+        ),
+        (
+            "asm over1023 --out 1",
+            "2080 D702 JNE 2084H\n2082 23FF SJMP 2483H\n",
+        ),
+        (
+            "asm over1024 --out 1",
+            "2080 D703 JNE 2085H\n2082 E70004 LJMP 2485H\n",
+        ),
+    ] {
+        for (line, text) in [
+            (assembles, ""),
+            ("link 1 --out h", ""),
+            ("dis h 2080H-2082H", listed),
+        ] {
+            let right = answers(a, &mut files, NO_FAULT, line, Status::Done, text)?;
+            assert!(rt; right, "{assembles}");
+        }
+    }
     Ok(())
 }
 

@@ -5,7 +5,7 @@ use kc_kit::Status;
 use std::test::Fail;
 
 // Hex files, and stimulus files by what is wrong with them.
-static FILES: [(&str, &str); 8] = [
+static FILES: [(&str, &str); 10] = [
     ("hex", ":01208000FD62\n:00000001FF\n"),
     ("bad", ":01208000FD63\n"),
     ("output", "; a pin that is no input\n\n@5 HSO0 1\n"),
@@ -14,6 +14,8 @@ static FILES: [(&str, &str); 8] = [
     ("pair", "@5 HSI0 1\r\n@5 HSI1 1\r\n@5 HSI0 0\r\n"),
     ("late", "@1 HSI0 1\n= HSO0 HSI1\n"),
     ("cr", "@1 HSI0 1\r"),
+    ("sent", "@1 RXD 0\n@2 TXD 0\n"),
+    ("pulse", "@1 PWM0 1\n"),
 ];
 
 #[test]
@@ -54,6 +56,16 @@ fn stimuli_are_judged_behind_sources_and_places(rt: HostRuntime) -> Result<(), F
             "run one --states 1 --stim pair",
             Status::Input,
             "input pair:3: TWICE\n",
+        ),
+        (
+            "run one --states 1 --stim sent",
+            Status::Input,
+            "input sent:2: BADLINE\n",
+        ),
+        (
+            "run one --states 1 --stim pulse",
+            Status::Input,
+            "input pulse:1: BADLINE\n",
         ),
         (
             "run twice --states 1 --stim falls",
