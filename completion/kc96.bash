@@ -4,20 +4,21 @@ _kc96() {
     local options files option given left=
     COMPREPLY=()
     if [ "$COMP_CWORD" -eq 1 ]; then
-        mapfile -t COMPREPLY < <(compgen -W 'run asm lib link hex dis gen --help --version' -- "$word")
+        mapfile -t COMPREPLY < <(compgen -W 'run asm lib link hex dis debug gen --help --version' -- "$word")
         return
     fi
     case $command in
-    run) options='--states --stim --reg --code --data --stack' files='a96' ;;
+    run) options='--states --stim --analog --reg --code --data --stack' files='a96' ;;
     asm) options='--out' files='a96' ;;
     lib) options='--out' files='obj' ;;
     link) options='--out --lib --lines --reg --code --data --stack' files='obj' ;;
-    hex) options='--states --stim' files='hex' ;;
+    hex) options='--states --stim --analog' files='hex' ;;
     dis) options='' files='hex' ;;
+    debug) options='--stim --analog --lines' files='hex' ;;
     *) return ;;
     esac
     case $before in
-    --stim | --out | --lib | --lines)
+    --stim | --analog | --out | --lib | --lines)
         compopt -o filenames
         mapfile -t COMPREPLY < <(compgen -f -- "$word")
         return
