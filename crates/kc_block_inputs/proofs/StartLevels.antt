@@ -1,9 +1,9 @@
 -- The levels of the inputs before state 0.
-use Rattle.std.proofs.Common.{◌≡◌, ℕ, ◌<◌, ◌==◌, Bool, true, false, ◌&&◌, refl, ◌∙◌, ap, arith, Option}
+use Rattle.std.proofs.Common.{◌≡◌, ℕ, ◌<◌, ◌==◌, Bool, true, false, ◌&&◌, refl, ◌∙◌, ap, arith, Option, []}
 use Rattle.std.specs.Prelude.{is_none}
 use Rattle.kc_base.specs.Bits.{bit}
 use Rattle.kc_base.specs.Pins.{pin_count}
-use Rattle.kc_stim.specs.Drives.{Drives, start_level, wire_to}
+use Rattle.kc_stim.specs.Drives.{Drives, start_of, wire_to}
 use Rattle.kc_stim.specs.Fields.{is_input, is_wire_input}
 use Rattle.kc_stim.specs.Proper.{AreProper, is_driven}
 use Rattle.kc_hso.specs.Cam.{weight}
@@ -13,16 +13,17 @@ use Rattle.kc_block_inputs.proofs.InputMasks.{no_wire}
 
 -- an input that may not be wired has its level of the start
 pub unwired_start : (d : Drives) (pin : ℕ) → AreProper d → pin < pin_count → is_input pin ≡ true → is_wire_input pin ≡ false →
-    bit (stimulated_before d 0) pin ≡ is_high (start_level pin)
+    bit (stimulated_before d 0) pin ≡ is_high (start_of d.stimuli.start pin)
 unwired_start d pin proper lt input other =
     let driven : is_driven d pin ≡ true =
     ap (λ (wire : Option ℕ). is_input pin && is_none wire) (no_wire d pin proper other) ∙ ap (λ is. is && true) input in
-    ap (λ n. n == 1) (mask_bit (λ n. is_driven d n && is_high (start_level n)) pin_count pin lt ∙ ap (λ is. weight (is && is_high (start_level pin)) 1) driven)
-    ∙ weighed (is_high (start_level pin))
+    ap (λ n. n == 1) (mask_bit (λ n. is_driven d n && is_high (start_of d.stimuli.start n)) pin_count pin lt ∙ ap (λ is. weight (is && is_high (start_of d.stimuli.start pin)) 1) driven)
+    ∙ weighed (is_high (start_of d.stimuli.start pin))
   where
     weighed : (b : Bool) → (weight b 1 == 1) ≡ b
     weighed true = refl
     weighed false = refl
 
-pub rxd_starts_high : (d : Drives) → AreProper d → bit (stimulated_before d 0) 37 ≡ true
-rxd_starts_high d proper = unwired_start d 37 proper (omega arith) refl refl
+pub rxd_starts_high : (d : Drives) → AreProper d → d.stimuli.start ≡ [] → bit (stimulated_before d 0) 37 ≡ true
+rxd_starts_high d proper first =
+    unwired_start d 37 proper (omega arith) refl refl ∙ ap (λ told. is_high (start_of told 37)) first

@@ -1,13 +1,13 @@
 // The levels of the inputs, from stimuli and from wires.
 ghost use Rattle.std.specs.Prelude.{◌≡◌, ℕ, ◌<◌, ◌&&◌, bit_or, is_some};
-ghost use Rattle.kc_stim.specs.Drives.{level_at, start_level as level_at_start, wire_to};
+ghost use Rattle.kc_stim.specs.Drives.{level_at, start_of, wire_to};
 ghost use Rattle.kc_stim.specs.Proper.{AreProper, is_driven as driven};
 ghost use Rattle.kc_block_spec.specs.Levels.{is_high, follows as follows_output, stimulated as stimulated_at, stimulated_before, wired as wired_from};
 ghost use Rattle.kc_block_spec.specs.Looking.{wired_inputs as inputs_with_wires};
 
 use crate::masks::with_pin;
 use kc_base::{Level, PIN_COUNT, Pin, StateTime};
-use kc_stim::{Stimuli, is_input, start_level};
+use kc_stim::{Stimuli, is_input};
 
 /// The first input that may be wired, HSI0, and the one after the last, EXTINT.
 const FIRST_WIRED: u8 = 18;
@@ -39,9 +39,9 @@ pub fn stimulated(stimuli: &Stimuli, at: StateTime) -> u64
 }
 
 fn starts_driven_high(stimuli: &Stimuli, pin: u8) -> bool
-    ensures { result ≡ (driven stimuli.now pin && is_high (level_at_start pin)) }
+    ensures { result ≡ (driven stimuli.now pin && is_high (start_of stimuli.now.stimuli.start pin)) }
 {
-    is_driven(stimuli, pin) && start_level(Pin(pin)) == Level::High
+    is_driven(stimuli, pin) && stimuli.start(Pin(pin)) == Level::High
 }
 
 /// The inputs without a wire that are high before state 0.

@@ -4,8 +4,7 @@ use Rattle.std.specs.Prelude.{is_some, if◌then◌else◌}
 use Rattle.std.proofs.lemmas.Bool.{false≢true, cases_eq, eq-eqb}
 use Rattle.kc_span.specs.Span.{after}
 use Rattle.kc_due.specs.Due.{at_slot}
-use Rattle.kc_stim.specs.declared.stimulus.Stimulus.{Stimulus}
-use Rattle.kc_stim.specs.Drives.{IsNextEdge}
+use Rattle.kc_stim.specs.Drives.{Stimulation, IsNextEdge}
 use Rattle.kc_extra.specs.Further.{Further}
 use Rattle.kc_block_lane.specs.Lane.{is_due_in}
 use Rattle.kc_block_spec.specs.Touch.{worked, block_rule}
@@ -13,7 +12,7 @@ use Rattle.kc_block_lazy.specs.Lanes.{Lanes, levels_ahead, wire_slot, shown_unit
 use Rattle.kc_block_lazy.specs.Laws.{IsUpTo, LeastSlotIsDue, NoSlotIsDue}
 use Rattle.kc_block_lazy.proofs.Spans.{is_quiet, quiet_span, goes_on, event_is_worked}
 
-edge_later : (stimuli : List Stimulus) (now : ℕ) (next : Option ℕ) (u : ℕ) → IsNextEdge stimuli now next → next ≡ Some u → now ≤ u
+edge_later : (stimuli : Stimulation) (now : ℕ) (next : Option ℕ) (u : ℕ) → IsNextEdge stimuli now next → next ≡ Some u → now ≤ u
 edge_later stimuli now None u is e = absurd (false≢true (ap is_some e))
 edge_later stimuli now (Some v) u is e = let same : v ≡ u = cc in subst (λ w. now ≤ w) same is.later
 

@@ -4,8 +4,7 @@ use Rattle.std.specs.Prelude.{nat_le, is_none, bit_or}
 use Rattle.std.specs.Int.{bit_at}
 use Rattle.std.proofs.lemmas.Nat.Bits.{bit_at_or}
 use Rattle.std.proofs.lemmas.Bool.{ne_eqb, false≢true, and_parts, or_cases, cases_Bool, leb-true, eqb-true}
-use Rattle.kc_stim.specs.declared.stimulus.Stimulus.{Stimulus}
-use Rattle.kc_stim.specs.Drives.{Drives, level_at, level_before, wire_to, IsStill, IsNextEdge}
+use Rattle.kc_stim.specs.Drives.{Drives, Stimulation, level_at, level_before, wire_to, IsStill, IsNextEdge}
 use Rattle.kc_stim.specs.Proper.{is_driven, AreProper}
 use Rattle.kc_stim.specs.Fields.{is_input}
 use Rattle.kc_stim.proofs.Proper.{edges_are_of_driven_inputs}
@@ -17,17 +16,17 @@ use Rattle.kc_block_spec.specs.Levels.{mask_of, is_high, follows, stimulated, st
 use Rattle.kc_block_spec.proofs.Masks.{mask_same, mask_bit}
 
 -- the states of a span without an edge by stimuli
-still_before : (stimuli : List Stimulus) (now t : ℕ) (next : Option ℕ) → IsNextEdge stimuli now next → now ≤ t → ((u : ℕ) → next ≡ Some u → t < u) → IsStill stimuli t
+still_before : (stimuli : Stimulation) (now t : ℕ) (next : Option ℕ) → IsNextEdge stimuli now next → now ≤ t → ((u : ℕ) → next ≡ Some u → t < u) → IsStill stimuli t
 still_before stimuli now t None next le ahead = next t le
 still_before stimuli now t (Some u) next le ahead = next.still t le (ahead u refl)
 
-pub before-suc : (stimuli : List Stimulus) (pin t : ℕ) → level_before stimuli pin (suc t) ≡ level_at stimuli pin t
+pub before-suc : (stimuli : Stimulation) (pin t : ℕ) → level_before stimuli pin (suc t) ≡ level_at stimuli pin t
 before-suc stimuli pin t =
     let off : (suc t == 0) ≡ false = ne_eqb (suc t) 0 (λ e. omega arith) in
     let less : suc t - 1 ≡ t = omega arith in
     rw (off, less) refl
 
-pub level_stays : (stimuli : List Stimulus) (pin now n : ℕ) → ((k : ℕ) → k < n → IsStill stimuli (now + k)) → level_before stimuli pin (now + n) ≡ level_before stimuli pin now
+pub level_stays : (stimuli : Stimulation) (pin now n : ℕ) → ((k : ℕ) → k < n → IsStill stimuli (now + k)) → level_before stimuli pin (now + n) ≡ level_before stimuli pin now
 level_stays stimuli pin now zero still = rw add-zero refl
 level_stays stimuli pin now (suc n) still =
     rw (add-suc now n) (before-suc stimuli pin (now + n) ∙ still n (omega arith) pin ∙ level_stays stimuli pin now n (λ k lt. still k (omega arith)))
@@ -53,7 +52,7 @@ pub stimulated_here : (drives : Drives) (now : ℕ) (next : Option ℕ) → IsNe
 stimulated_here drives now next is ahead = stimulated_stays drives now now next is (omega arith) ahead
 
 -- the next edge is the same from a later state on
-pub next_stays : (stimuli : List Stimulus) (now to : ℕ) (next : Option ℕ) → IsNextEdge stimuli now next → now ≤ to → ((u : ℕ) → next ≡ Some u → to ≤ u) → IsNextEdge stimuli to next
+pub next_stays : (stimuli : Stimulation) (now to : ℕ) (next : Option ℕ) → IsNextEdge stimuli now next → now ≤ to → ((u : ℕ) → next ≡ Some u → to ≤ u) → IsNextEdge stimuli to next
 next_stays stimuli now to None is le ahead = λ t later. is t (omega arith)
 next_stays stimuli now to (Some u) is le ahead = record { later = ahead u refl; edge = is.edge; still = λ t later sooner. is.still t (omega arith) sooner }
 
