@@ -148,6 +148,11 @@ abbrev pub IsCause : LinkFault → Type 0 → Type 0
 IsCause NoMemory P = Unit {0}
 IsCause _ P = P
 
+-- the places, or the fault
+abbrev pub ArePlaced : Result Places LinkFault → Result Places LinkFault → Type 0
+ArePlaced located (Ok places) = located ≡ Ok places
+ArePlaced located (Err fault) = IsCause fault (located ≡ Err fault)
+
 -- the bases of each module at the places, or the fault
 abbrev pub IsAnswer : List Object → Result Places LinkFault → Result (Vec BaseLists) LinkFault → Type 0
 IsAnswer ms placed (Ok bases) = (places : Places) × ((placed ≡ Ok places) × (bases.items ≡ bases_from ms places 0 ms))

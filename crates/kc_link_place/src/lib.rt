@@ -14,5 +14,7 @@ mod rules;
 mod stack;
 
 pub use apart::code_stands_apart;
-pub use placing::place;
+pub use places::Placed;
+pub use placing::{locate, place};
 pub use ranges::{LinkFault, Ranges};
+pub use stack::stack_size;

@@ -1,6 +1,6 @@
-ghost use Rattle.std.specs.Prelude.{◌≡◌, ◌+◌, ◌<◌, ◌≤◌, ◌%◌, ℕ, List, IfOk, length, map};
+ghost use Rattle.std.specs.Prelude.{◌≡◌, ◌+◌, ◌<◌, ◌≤◌, ◌%◌, ℕ, List, IfOk, Some, length, map};
 ghost use Rattle.kc_obj.specs.Object.{Object};
-ghost use Rattle.kc_link_place.specs.Names.{Knows};
+ghost use Rattle.kc_link_place.specs.Names.{Knows, home};
 ghost use Rattle.kc_link_place.specs.Placing as placing;
 ghost use Rattle.kc_link_place.specs.Placing.{Places, list_at, base_at, home_number, name_number, base_lists, bases_from, places_from};
 
@@ -9,7 +9,7 @@ use crate::pieces::{Stand, is_kind};
 use crate::rules::is_stack;
 use kc_base::NoMemory;
 use kc_link_fill::Bases;
-use kc_obj::{Module, SegKind, Segment, Taken};
+use kc_obj::{Given, Module, SegKind, Segment, Taken};
 use std::alloc::Global;
 use std::marker::Model;
 
@@ -121,10 +121,10 @@ fn addresses_at(pieces: &[Addresses], index: usize) -> &[u16]
 
 // The address of a piece of a module.
 #[tactic(auto, unfolding(crate::specs::Placing::base_at))]
-fn address_at(pieces: &[Addresses], index: usize, number: u16) -> u16
+fn address_at(pieces: &[Addresses], index: usize, number: usize) -> u16
     ensures { result ≡ base_at pieces.now index number }
 {
-    match addresses_at(pieces, index).get(number as usize) {
+    match addresses_at(pieces, index).get(number) {
         None => 0,
         Some(address) => *address,
     }
@@ -138,7 +138,9 @@ fn number_at(pieces: &[Addresses], home: Option<Home>) -> u16
         None => 0,
         Some(home) => match home.piece {
             None => home.value,
-            Some(piece) => address_at(pieces, home.index, piece).wrapping_add(home.value),
+            Some(piece) => address_at(pieces, home.index, usize::from(piece)).wrapping_add(
+                home.value,
+            ),
         },
     }
 }
@@ -193,9 +195,9 @@ fn bases_of(
     Ok(Bases::new(addresses, numbers))
 }
 
-/// What the numbers of each module count from.
+// What the numbers of each module count from.
 #[tactic(auto, unfolding(crate::specs::Placing::bases_from))]
-pub(crate) fn all_bases(
+fn all_bases(
     alloc: Global,
     names: &Names,
     pieces: &[Addresses],
@@ -214,4 +216,75 @@ pub(crate) fn all_bases(
         left = rest;
     }
     Ok(bases)
+}
+
+/// Where all pieces of modules stand.
+#[derive(Drop)]
+pub struct Placed {
+    pieces: Vec<Addresses>,
+    after_stack: u16,
+}
+
+impl Model for Placed {
+    ghost use Rattle.kc_link_place.specs.Placing.{Places};
+
+    ghost Value = { Places };
+
+    ghost view = { λ p. record { pieces = p.pieces.items; after_stack = p.after_stack } };
+}
+
+impl Placed {
+    pub(crate) fn new(pieces: Vec<Addresses>, after_stack: u16) -> Placed
+        ensures { result ≡ record { pieces = pieces.items; after_stack = after_stack } }
+    {
+        Placed {
+            pieces,
+            after_stack,
+        }
+    }
+
+    /// The address of a piece of a module, both counted from 0; 0 where there is no such piece.
+    pub fn piece(&self, index: usize, number: usize) -> u16
+        ensures { result ≡ base_at self.now.pieces index number }
+    {
+        address_at(self.pieces.as_slice(), index, number)
+    }
+
+    /// The value of a public name of a module, by the number of the module, counted from 0: the address of a place in a piece,
+    /// or a number alone.
+    pub fn value(&self, index: usize, given: &Given) -> u16
+        ensures { result ≡ home_number self.now.pieces (Some (home index given.now)) }
+    {
+        let home = Home {
+            index,
+            piece: given.piece,
+            value: given.value,
+        };
+        number_at(self.pieces.as_slice(), Some(home))
+    }
+
+    /// The address after the stack.
+    pub fn after_stack(&self) -> u16
+        ensures { result ≡ self.now.after_stack }
+    {
+        self.after_stack
+    }
+
+    /// What the numbers of each module count from.
+    pub(crate) fn bases(
+        &self,
+        alloc: Global,
+        names: &Names,
+        modules: &[Module],
+    ) -> Result<Vec<Bases>, NoMemory>
+        ensures { IfOk result (λ bases. Knows names.now.homes.entries modules.now → bases.items ≡ bases_from modules.now self.now 0 modules.now) }
+    {
+        all_bases(
+            alloc,
+            names,
+            self.pieces.as_slice(),
+            self.after_stack,
+            modules,
+        )
+    }
 }

@@ -10,13 +10,13 @@ ghost use Rattle.kc_link_place.specs.Gaps.{Represents};
 ghost use Rattle.kc_link_place.specs.Names as named;
 ghost use Rattle.kc_link_place.specs.Names.{Knows};
 ghost use Rattle.kc_link_place.specs.Placing as placing;
-ghost use Rattle.kc_link_place.specs.Placing.{IsAnswer, IsCause, IsKept, IsLocated, stack_at, with_puts};
+ghost use Rattle.kc_link_place.specs.Placing.{ArePlaced, IsKept, IsLocated, stack_at, with_puts};
 
 use crate::cover::{cover, gaps_between, overlap};
 use crate::gaps::{Gap, find};
 use crate::names::{Names, public_names};
 use crate::pieces::{Stand, fixed_pieces, wanted_pieces};
-use crate::places::{all_bases, all_places};
+use crate::places::{Placed, all_places};
 use crate::putting::{NoPlace, put_all};
 use crate::ranges::{LinkFault, Ranges};
 use crate::rules::{doubled, unresolved};
@@ -80,19 +80,18 @@ fn fault_of(cause: NoPlace) -> LinkFault
     }
 }
 
-// The bases of each module once all other pieces are put.
+// Where all pieces stand once all but the stack are put.
 fn with_stack(
     alloc: Global,
-    names: &Names,
     puts: &[Stand],
     gaps: &[Gap],
     size: u32,
     modules: &[Module],
     ranges: &Ranges,
-) -> Result<Vec<Bases>, LinkFault>
+) -> Result<Placed, LinkFault>
     requires { length modules.now ≤ 64 }
-    ensures { (fixed : List the.Stand) → Knows names.now.homes.entries modules.now → Represents gaps.now (fixed ++ puts.now)
-        → IsAnswer modules.now (placing.with_stack modules.now puts.now size (stack_at size (least_free (fixed ++ puts.now) (range_of ranges.now kinds.Stack) 2 size))) result }
+    ensures { (fixed : List the.Stand) → Represents gaps.now (fixed ++ puts.now)
+        → ArePlaced (placing.with_stack modules.now puts.now size (stack_at size (least_free (fixed ++ puts.now) (range_of ranges.now kinds.Stack) 2 size))) result }
 {
     match place_stack(ranges, gaps, size) {
         None => Err(LinkFault::Capacity {
@@ -102,35 +101,64 @@ fn with_stack(
         Some(stack) => {
             let pieces = all_places(alloc, puts, stack, modules)?;
             let after_stack = ((u64::from(stack) + u64::from(size)) % 65_536) as u16;
-            Ok(all_bases(alloc, names, &pieces, after_stack, modules)?)
+            Ok(Placed::new(pieces, after_stack))
         }
     }
 }
 
-// The bases of each module once the absolute pieces have left these gaps.
+// Where all pieces stand once the absolute ones have left these gaps.
 fn with_pieces(
     alloc: Global,
-    names: &Names,
     gaps: &mut Vec<Gap>,
     size: u32,
     modules: &[Module],
     ranges: &Ranges,
-) -> Result<Vec<Bases>, LinkFault>
+) -> Result<Placed, LinkFault>
     requires { length modules.now ≤ 64 }
-    ensures { Knows names.now.homes.entries modules.now → Represents gaps.old.items (fixed_from 0 modules.now) → size ≡ placing.stack_size ranges.now modules.now
-        → IsAnswer modules.now (with_puts modules.now ranges.now (placing.put_all ranges.now (fixed_from 0 modules.now) [] (wanted modules.now))) result }
+    ensures { Represents gaps.old.items (fixed_from 0 modules.now) → size ≡ placing.stack_size ranges.now modules.now
+        → ArePlaced (with_puts modules.now ranges.now (placing.put_all ranges.now (fixed_from 0 modules.now) [] (wanted modules.now))) result }
 {
     let pieces = wanted_pieces(alloc, modules)?;
     match put_all(alloc, ranges, gaps, &pieces) {
-        Ok(puts) => with_stack(alloc, names, &puts, gaps, size, modules, ranges),
+        Ok(puts) => with_stack(alloc, &puts, gaps, size, modules, ranges),
         Err(cause) => Err(fault_of(cause)),
     }
+}
+
+// Where all pieces stand, or the first broken rule.
+#[tactic(auto, unfolding(crate::specs::Placing::located))]
+fn located(
+    alloc: Global,
+    names: &Names,
+    modules: &[Module],
+    ranges: &Ranges,
+) -> Result<Placed, LinkFault>
+    requires few { length modules.now ≤ 64 }
+    requires ranges { are_in_bounds ranges.now ≡ true }
+    ensures { Knows names.now.homes.entries modules.now → ArePlaced (placing.located modules.now ranges.now) result }
+{
+    let size = stack_size(ranges, modules);
+    check_taken(alloc, names, size, modules)?;
+    check_given(alloc, names, modules)?;
+    let fixed = fixed_pieces(alloc, modules)?;
+    let mut gaps = free_addresses(alloc, &fixed)?;
+    with_pieces(alloc, &mut gaps, size, modules, ranges)
+}
+
+/// Where the pieces of 1 to 64 modules stand within ranges that are within bounds. The refusal is that of `place`.
+pub fn locate(alloc: Global, modules: &[Module], ranges: &Ranges) -> Result<Placed, LinkFault>
+    requires some { 0 < length modules.now }
+    requires few { length modules.now ≤ 64 }
+    requires ranges { are_in_bounds ranges.now ≡ true }
+    ensures { ArePlaced (placing.located modules.now ranges.now) result }
+{
+    let names = public_names(alloc, modules)?;
+    located(alloc, &names, modules, ranges)
 }
 
 /// Places the pieces of 1 to 64 modules within ranges that are within bounds, and gives for each module what its
 /// numbers count from. The refusal is the first broken rule: a name that is taken and not given, a name that is given
 /// twice, an address from 001AH on that two absolute pieces have, a piece without room.
-#[tactic(auto, unfolding(crate::specs::Placing::located))]
 pub fn place(alloc: Global, modules: &[Module], ranges: &Ranges) -> Result<Vec<Bases>, LinkFault>
     requires some { 0 < length modules.now }
     requires few { length modules.now ≤ 64 }
@@ -138,10 +166,6 @@ pub fn place(alloc: Global, modules: &[Module], ranges: &Ranges) -> Result<Vec<B
     ensures { IsLocated modules.now ranges.now result }
 {
     let names = public_names(alloc, modules)?;
-    let size = stack_size(ranges, modules);
-    check_taken(alloc, &names, size, modules)?;
-    check_given(alloc, &names, modules)?;
-    let fixed = fixed_pieces(alloc, modules)?;
-    let mut gaps = free_addresses(alloc, &fixed)?;
-    with_pieces(alloc, &names, &mut gaps, size, modules, ranges)
+    let placed = located(alloc, &names, modules, ranges)?;
+    Ok(placed.bases(alloc, &names, modules)?)
 }

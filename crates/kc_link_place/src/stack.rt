@@ -41,9 +41,10 @@ fn stack_sum(modules: &[Module]) -> u32
     sum
 }
 
-/// The length of the stack, rounded up to even: that which is asked for, or that of all stack pieces.
+/// The length in bytes of the stack of at most 64 modules, rounded up to even: that which is asked for, or that of all stack
+/// pieces.
 #[tactic(auto, unfolding(crate::specs::Placing::stack_size))]
-pub(crate) fn stack_size(ranges: &Ranges, modules: &[Module]) -> u32
+pub fn stack_size(ranges: &Ranges, modules: &[Module]) -> u32
     requires { length modules.now ≤ 64 }
     ensures value { result ≡ placing.stack_size ranges.now modules.now }
     ensures bound { result ≤ 65535 * 64 + 1 }

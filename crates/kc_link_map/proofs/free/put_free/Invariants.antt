@@ -1,0 +1,15 @@
+use Rattle.std.proofs.Common.{◌≡◌, ◌+◌, ◌-◌, ◌≤◌, ◌++◌}
+use Rattle.kc_link_map.specs.Free as spec
+use Rattle.kc_link_map.specs.Map as map
+use Rattle.kc_link_map.proofs.free.put_free.Given as goal
+
+abbrev pub invariant-loop-at : goal.invariant-loop-at
+invariant-loop-at l = record {
+  goes_on : l.text.items ++ map.free_lines l.word (spec.free_runs (spec.is_free l.modules l.placed l.stack.first l.stack.size) (l.end - l.at) l.at l.length)
+      ≡ l.initial.text.items ++ map.free_lines l.word (spec.free_runs (spec.is_free l.modules l.placed l.stack.first l.stack.size) (l.fn.range.1 + 1 - l.fn.range.0) l.fn.range.0 0);
+  ahead : l.at ≤ l.end;
+  begun : l.length ≤ l.at;
+}
+
+abbrev pub decreases-loop-at : goal.decreases-loop-at
+decreases-loop-at l = l.end - l.at

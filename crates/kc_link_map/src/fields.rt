@@ -1,0 +1,52 @@
+// Fields of lines.
+ghost use Rattle.std.specs.Prelude.{◌≡◌, ◌++◌, ◌∷◌, [], decimal, OnOk};
+ghost use Rattle.kc_trace.specs.Text.{hex};
+ghost use Rattle.kc_link_map.specs.Map as spec;
+
+use itoa::Buffer;
+use kc_base::{NoMemory, hex_digit};
+use kc_obj::SegKind;
+
+/// An address as four upper-case hex digits.
+pub fn address_text(address: u16) -> [u8; 4]
+    ensures { result ≡ hex 4 address }
+{
+    let second = address / 16;
+    let third = second / 16;
+    let fourth = third / 16;
+    [
+        hex_digit((fourth % 16) as u8),
+        hex_digit((third % 16) as u8),
+        hex_digit((second % 16) as u8),
+        hex_digit((address % 16) as u8),
+    ]
+}
+
+/// The word for a kind of piece, as refusals and maps have it.
+pub fn kind_word(kind: SegKind) -> &'static [u8]
+    ensures { result.now ≡ spec.kind_word kind }
+{
+    match kind {
+        SegKind::Reg => b"reg",
+        SegKind::Code => b"code",
+        SegKind::Ram => b"data",
+        SegKind::Stack => b"stack",
+    }
+}
+
+/// Puts an address behind a text.
+pub(crate) fn put_address(text: &mut Vec<u8>, address: u16) -> Result<(), NoMemory>
+    ensures { OnOk result (text.new.items ≡ text.old.items ++ hex 4 address) }
+{
+    text.extend_from_slice(address_text(address).as_slice())?;
+    Ok(())
+}
+
+/// Puts a number in decimal behind a text.
+pub(crate) fn put_number(text: &mut Vec<u8>, number: u32) -> Result<(), NoMemory>
+    ensures { OnOk result (text.new.items ≡ text.old.items ++ decimal number) }
+{
+    let mut buffer = Buffer::new();
+    text.extend_from_slice(buffer.format(number).as_bytes())?;
+    Ok(())
+}

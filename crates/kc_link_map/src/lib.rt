@@ -1,0 +1,15 @@
+//! The map of modules that are linked: where pieces and public names went, the stack, and what is left free.
+#![tactic(auto)]
+
+mod fields;
+mod free;
+mod laws;
+mod map;
+mod modules;
+
+pub use fields::{address_text, kind_word};
+pub use laws::free_runs_are_free;
+pub use map::link_map;
+
+#[cfg(test)]
+mod tests;
