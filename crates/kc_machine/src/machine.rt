@@ -4,6 +4,8 @@ ghost use Rattle.kc_trace.specs.Out.{Puts};
 ghost use Rattle.kc_trace.specs.Text.{line_of, text_of};
 ghost use Rattle.kc_exec_spec.specs.Memory.{IsMemory, is_hole};
 ghost use Rattle.kc_block_spec.specs.Levels.{stimulated_before};
+ghost use Rattle.kc_block_lazy.specs.Lanes.{further_goes};
+ghost use Rattle.kc_block.specs.Lent.{IsLent};
 ghost use Rattle.kc_intc.specs.declared.requests.Choice.TheVariants.{Go};
 ghost use Rattle.kc_machine_spec.specs.Machine.{start, memory_of, asked};
 ghost use Rattle.kc_machine_spec.specs.Run.{run_to, end_of};
@@ -148,6 +150,15 @@ impl<X: Extra + Drop> Machine<X> {
         ensures { result ≡ self.now.machine.ended }
     {
         self.core.ended
+    }
+
+    /// The further unit as the machine's block holds it: Ticks without input edges lead from its data to those of the present
+    /// state. It is not called.
+    pub fn extra(&self) -> &X
+        ensures held { X.plain result.now ≡ self.now.held.further.kept }
+        ensures lent { IsLent (further_goes X.further) self.now.held.further self.now.machine.time self.now.machine.board.units.further }
+    {
+        self.core.bus.block.extra()
     }
 
     /// A state up to which the machine does nothing but idle, `until` at most; the present state where it does not idle, or

@@ -1,0 +1,4 @@
+pub mod Keeping
+pub mod Going
+pub mod Following
+pub mod Fitted

@@ -1,0 +1,6 @@
+pub mod Watching
+pub mod WatchLaws
+pub mod Life
+pub mod Spans
+pub mod Lives
+pub mod Making
