@@ -1,18 +1,16 @@
 -- The row of a code among rows.
 use Rattle.std.proofs.Common.{◌≡◌, ℕ, Bool, true, false, cond, ◌||◌, Option, Some, None, List, [], ◌∷◌, ◌++◌, map, refl, sym, ap, subst, ◌∙◌}
 use Rattle.std.specs.Prelude.{find}
-use Rattle.std.specs.Option.{option_or}
-use Rattle.std.specs.Str.{bytes_eq}
-use Rattle.std.proofs.lemmas.List.Folds.{list_any-append}
+use Rattle.std.specs.Option.{option_map, option_or}
+use Rattle.std.proofs.lemmas.List.Folds.{find-append}
 use Rattle.std.proofs.lemmas.Slice.Eq.{bytes_eq-Decides}
-use Rattle.kc_explain.specs.declared.meaning.Meaning.{Meaning}
-use Rattle.kc_explain.specs.Meanings.{code_of, has_code, is_among, IsAnswer}
+use Rattle.kc_explain.specs.Meanings.{Said, code_of, has_code, source_rows, input_rows, run_rows, all_said, said_of, is_among, IsAnswer}
 
-behind : (x : Meaning) (names : List (List ℕ)) (code : List ℕ) (o : Option Meaning) → has_code code x ≡ false → IsAnswer names code o → IsAnswer (code_of x ∷ names) code o
+behind : (x : Said) (names : List (List ℕ)) (code : List ℕ) (o : Option Said) → has_code code x ≡ false → IsAnswer names code o → IsAnswer (code_of x ∷ names) code o
 behind x names code (Some row) other h = (h.0, ap (λ b. b || is_among code names) other ∙ h.1)
 behind x names code None other h = ap (λ b. b || is_among code names) other ∙ h
 
-found_in : (code : List ℕ) (rows : List Meaning) → IsAnswer (map code_of rows) code (find (has_code code) rows)
+found_in : (code : List ℕ) (rows : List Said) → IsAnswer (map code_of rows) code (find (has_code code) rows)
 found_in code [] = refl
 found_in code (x ∷ rows) = by_test (found_in code rows) (has_code code x) refl
   where
@@ -21,15 +19,32 @@ found_in code (x ∷ rows) = by_test (found_in code rows) (has_code code x) refl
     by_test rest false is = behind x (map code_of rows) code (find (has_code code) rows) is rest
 
 -- what is found among rows with these codes
-pub answer : (names : List (List ℕ)) (rows : List Meaning) (o : Option Meaning) (code : List ℕ) → map code_of rows ≡ names → o ≡ find (has_code code) rows → IsAnswer names code o
+pub answer : (names : List (List ℕ)) (rows : List Said) (o : Option Said) (code : List ℕ) → map code_of rows ≡ names → o ≡ find (has_code code) rows → IsAnswer names code o
 answer names rows o code are is = subst (λ ns. IsAnswer ns code o) are (subst (IsAnswer (map code_of rows) code) (sym is) (found_in code rows))
 
-or-true : (b : Bool) → (b || true) ≡ true
-or-true true = refl
-or-true false = refl
+-- the first of mapped elements is the mapped first
+pub find-mapped : {X Y : Type 0} (f : X → Y) (p : Y → Bool) (xs : List X) → find p (map f xs) ≡ option_map f (find (λ x. p (f x)) xs)
+find-mapped f p [] = refl
+find-mapped f p (x ∷ xs) = by_test (find-mapped f p xs) (p (f x))
+  where
+    by_test : find p (map f xs) ≡ option_map f (find (λ x. p (f x)) xs) → (b : Bool) → cond b (Some (f x)) (find p (map f xs)) ≡ option_map f (cond b (Some x) (find (λ x. p (f x)) xs))
+    by_test rest true = refl
+    by_test rest false = rest
 
--- one answer, or else another
-pub either : (xs ys : List (List ℕ)) (code : List ℕ) (o p : Option Meaning) → IsAnswer xs code o → IsAnswer ys code p → IsAnswer (xs ++ ys) code (option_or o p)
-either xs ys code (Some row) p h k = (h.0, list_any-append (λ name. bytes_eq name code) xs ys ∙ ap (λ b. b || is_among code ys) h.1)
-either xs ys code None (Some row) h k = (k.0, list_any-append (λ name. bytes_eq name code) xs ys ∙ ap (λ b. is_among code xs || b) k.1 ∙ or-true (is_among code xs))
-either xs ys code None None h k = list_any-append (λ name. bytes_eq name code) xs ys ∙ (λ i. h i || k i)
+-- what is found among elements that say some rows
+part : {X : Type 0} (f : X → Said) (code : List ℕ) (xs : List X) (o : Option X) (rows : List Said) → map f xs ≡ rows → o ≡ find (λ x. has_code code (f x)) xs → option_map f o ≡ find (has_code code) rows
+part f code xs o rows all e = ap (option_map f) e ∙ sym (find-mapped f (has_code code) xs) ∙ ap (find (has_code code)) all
+
+or-mapped : {X : Type 0} (f : X → Said) (o p : Option X) → option_map f (option_or o p) ≡ option_or (option_map f o) (option_map f p)
+or-mapped f None p = refl
+or-mapped f (Some x) p = refl
+
+-- what is found in three parts is said of the code
+pub in-parts : {X : Type 0} (f : X → Said) (code : List ℕ) (sources inputs runs : List X) (s i r o : Option X) → map f sources ≡ source_rows → map f inputs ≡ input_rows → map f runs ≡ run_rows →
+    s ≡ find (λ x. has_code code (f x)) sources → i ≡ find (λ x. has_code code (f x)) inputs → r ≡ find (λ x. has_code code (f x)) runs → o ≡ option_or s (option_or i r) → option_map f o ≡ said_of code
+unfolding all_said
+in-parts f code sources inputs runs s i r o a b c d e g h =
+    let p = has_code code in
+    let later : option_map f (option_or i r) ≡ find p (input_rows ++ run_rows) =
+    or-mapped f i r ∙ (λ k. option_or (part f code inputs i input_rows b e k) (part f code runs r run_rows c g k)) ∙ sym (find-append p input_rows run_rows) in
+    ap (option_map f) h ∙ or-mapped f s (option_or i r) ∙ (λ k. option_or (part f code sources s source_rows a d k) (later k)) ∙ sym (find-append p source_rows (input_rows ++ run_rows))

@@ -1,11 +1,13 @@
 -- Each code is one of those that are explained (this kit's own).
-use Rattle.std.specs.Prelude.{◌≡◌, ℕ, ◌<◌, ◌≤◌, true, List, codes}
+use Rattle.std.specs.Prelude.{◌≡◌, ℕ, ◌<◌, ◌≤◌, true, List, codes, map}
+use Rattle.std.specs.List.{IsDistinct}
+use Rattle.std.specs.Str.{bytes_eq}
 use Rattle.kc_base.specs.declared.types.Kind.{Kind}
 use Rattle.kc_stim.specs.declared.fault.StimFault.{StimFault}
 use Rattle.kc_link_place.specs.declared.ranges.LinkFault.{LinkFault}
 use Rattle.kc_kit_files.specs.declared.status.Status.{Status}
 use Rattle.kc_explain.specs.Codes.{all_codes, lettered, numbered, kind_code, status_code, stimulus_code, rule_code}
-use Rattle.kc_explain.specs.Meanings.{is_among}
+use Rattle.kc_explain.specs.Meanings.{code_of, all_said, is_among}
 
 abbrev pub IsExplained : List ℕ → Type 0
 IsExplained code = is_among code all_codes ≡ true
@@ -28,3 +30,8 @@ pub record UsesAreExplained : Type 0 where
   pub kinds : (kind : Kind) → IsExplained (kind_code kind)
   pub requests : (n : ℕ) → n < 18 → IsExplained (numbered (codes "request") n)
   pub statuses : (given : Status) → IsExplained (status_code given)
+
+-- the rows are those of the codes, and no two of them have one code
+pub record CodesDiffer : Type 0 where
+  pub rows : map code_of all_said ≡ all_codes
+  pub differ : IsDistinct bytes_eq all_codes

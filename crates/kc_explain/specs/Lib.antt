@@ -1,3 +1,4 @@
 pub mod Codes
 pub mod Meanings
+pub mod Text
 pub mod Laws

@@ -1,4 +1,4 @@
-ghost use Rattle.kc_explain.specs.Laws.{FaultsAreExplained, UsesAreExplained};
+ghost use Rattle.kc_explain.specs.Laws.{CodesDiffer, FaultsAreExplained, UsesAreExplained};
 
 /// Each fault of a source, an object, a library, a hex file, stimuli and other files is explained, and each rule of linking.
 pub fn faults_are_explained()
@@ -8,4 +8,9 @@ pub fn faults_are_explained()
 /// Each kind of undefined use, each request and each status is explained.
 pub fn uses_are_explained()
     ensures { UsesAreExplained }
+{}
+
+/// No two rows have one code.
+pub fn codes_differ()
+    ensures { CodesDiffer }
 {}

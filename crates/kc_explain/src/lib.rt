@@ -4,10 +4,12 @@
 mod laws;
 mod lookup;
 mod meaning;
+mod printing;
 mod table;
 #[cfg(test)]
 mod tests;
 
-pub use laws::{faults_are_explained, uses_are_explained};
+pub use laws::{codes_differ, faults_are_explained, uses_are_explained};
 pub use lookup::explain;
 pub use meaning::{Example, Meaning};
+pub use printing::meaning_text;

@@ -1,21 +1,20 @@
 ghost use Rattle.std.specs.Prelude.{◌≡◌, find};
-ghost use Rattle.std.specs.Option.{option_copied, option_or};
+ghost use Rattle.std.specs.Option.{option_copied, option_map, option_or};
+ghost use Rattle.std.specs.Str.{bytes_eq};
 ghost use Rattle.kc_explain.specs.Codes.{all_codes};
-ghost use Rattle.kc_explain.specs.Meanings.{has_code, IsAnswer};
+ghost use Rattle.kc_explain.specs.Meanings.{said, said_of, IsAnswer};
 
 use crate::meaning::Meaning;
-use crate::table::{inputs, runs, sources};
+use crate::table::{Row, inputs, meaning_in, runs, sources};
 
-// The row of a code in a table.
-fn find_in(table: &'static [Meaning], code: &str) -> Option<&'static Meaning>
-    ensures { option_copied result ≡ find (has_code code.now) table.now }
+// The first row of a code.
+fn find_in(table: &'static [Row], code: &str) -> Option<&'static Row>
+    ensures { option_copied result ≡ find (λ row. bytes_eq row.0.now code.now) table.now }
 {
-    table
-        .iter()
-        .find(|row| row.code.as_bytes() == code.as_bytes())
+    table.iter().find(|row| row.0.as_bytes() == code.as_bytes())
 }
 
-fn first(row: Option<&'static Meaning>, other: Option<&'static Meaning>) -> Option<&'static Meaning>
+fn first(row: Option<&'static Row>, other: Option<&'static Row>) -> Option<&'static Row>
     ensures { option_copied result ≡ option_or (option_copied row.entry) (option_copied other.entry) }
 {
     match row {
@@ -26,12 +25,16 @@ fn first(row: Option<&'static Meaning>, other: Option<&'static Meaning>) -> Opti
 
 /// The meaning of a code, as it is printed: `E07`, `O03`, `B01`, `H02`, `BADLINE`, the word of a rule of linking (`range`); with its
 /// number `kind10` for a kind of undefined use, `request3` for a request and `status4` for a status. `None` for any other text.
-pub fn explain(code: &str) -> Option<&'static Meaning>
-    ensures { IsAnswer all_codes code.now (option_copied result) }
+pub fn explain(code: &str) -> Option<Meaning>
+    ensures row { option_map said result ≡ said_of code.now }
+    ensures answer { IsAnswer all_codes code.now (option_map said result) }
 {
     let in_sources = find_in(sources(), code);
     let in_inputs = find_in(inputs(), code);
     let in_runs = find_in(runs(), code);
     let others = first(in_inputs, in_runs);
-    first(in_sources, others)
+    match first(in_sources, others) {
+        Some(row) => Some(meaning_in(row)),
+        None => None,
+    }
 }

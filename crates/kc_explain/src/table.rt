@@ -1,31 +1,27 @@
 // The meanings of all codes, as `docs/LANGUAGE.md`, `docs/OBJECT.md` and `docs/GUIDE.md` have them.
 ghost use Rattle.std.specs.Prelude.{◌≡◌, map};
-ghost use Rattle.kc_explain.specs.Codes.{source_codes, input_codes, run_codes};
-ghost use Rattle.kc_explain.specs.Meanings.{code_of};
+ghost use Rattle.std.specs.Option.{option_map};
+ghost use Rattle.kc_explain.specs.Meanings.{said, source_rows, input_rows, run_rows};
 
 use crate::meaning::{Example, Meaning};
 
+/// A code, its sentence, and what is wrong and how it is right. A tuple, since definitions read the table.
+pub(crate) type Row = (
+    &'static str,
+    &'static str,
+    Option<(&'static str, &'static str)>,
+);
+
 macro_rules! row {
     ($code:literal, $sentence:literal) => {
-        Meaning {
-            code: $code,
-            sentence: $sentence,
-            example: None,
-        }
+        ($code, $sentence, None)
     };
     ($code:literal, $sentence:literal; $wrong:literal => $right:literal) => {
-        Meaning {
-            code: $code,
-            sentence: $sentence,
-            example: Some(Example {
-                wrong: $wrong,
-                right: $right,
-            }),
-        }
+        ($code, $sentence, Some(($wrong, $right)))
     };
 }
 
-static SOURCES: [Meaning; 24] = [
+static SOURCES: [Row; 24] = [
     row!("E01", "a line is no statement, or has a character that stands nowhere, a string without its end or a name of over 31 characters"; "LOOP NOP" => "LOOP: NOP"),
     row!("E02", "the source has no END"; " NOP" => " NOP\n END"),
     row!(
@@ -55,7 +51,7 @@ static SOURCES: [Meaning; 24] = [
     row!("E24", "a generic branch goes to what is no label, no external and not `$`"; " BE 5" => "L: NOP\n BE L"),
 ];
 
-static INPUTS: [Meaning; 28] = [
+static INPUTS: [Row; 28] = [
     row!(
         "O01",
         "an object has a record of a type that does not come at this place"
@@ -110,7 +106,7 @@ static INPUTS: [Meaning; 28] = [
     row!("BADTRACE", "a line is none of a trace, or is earlier than a line before it"; "P 82 HSO9 1" => "P 82 HSO0 1"),
 ];
 
-static RUNS: [Meaning; 47] = [
+static RUNS: [Row; 47] = [
     row!("unresolved", "a module takes a name that no module gives; or takes STACK, and there is no stack"; " EXTRN SPEED\n CSEG\n LD 20H,#SPEED" => "SPEEDS MODULE\n PUBLIC SPEED\nSPEED EQU 10"),
     row!("duplicate", "two modules give one name"),
     row!("overlap", "two absolute pieces have this address"; " CSEG AT 2080H\n NOP\n CSEG AT 2080H\n NOP" => " CSEG AT 2080H\n NOP\n CSEG AT 2081H\n NOP"),
@@ -180,11 +176,14 @@ static RUNS: [Meaning; 47] = [
         "done; a run has ended as spent, in powerdown or by a reset"
     ),
     row!("status1", "the words are no command"; "kc96 run main.a96" => "kc96 run main.a96 --states 1000"),
-    row!("status2", "a file is not there"),
+    row!(
+        "status2",
+        "a file, or a code that is to be explained, is not there"
+    ),
     row!("status3", "a source has a fault"),
     row!(
         "status4",
-        "an object, a library, a hex or stimulus file, a script or a line map leaves its form, or a file is too long"
+        "an object, a library, a hex, stimulus or analogue file, a script, a line map or a trace leaves its form, or a file is too long"
     ),
     row!("status5", "a rule of linking is broken"),
     row!("status6", "the run has ended in an undefined use"),
@@ -194,22 +193,38 @@ static RUNS: [Meaning; 47] = [
 ];
 
 /// The faults of sources.
-pub(crate) fn sources() -> &'static [Meaning]
-    ensures { map code_of result.now ≡ source_codes }
+pub(crate) fn sources() -> &'static [Row]
+    ensures { map (λ row. record { code = row.0.now; sentence = row.1.now; example = option_map (λ e. (e.0.now, e.1.now)) row.2 }) result.now ≡ source_rows }
 {
     &SOURCES
 }
 
 /// The faults of all other files.
-pub(crate) fn inputs() -> &'static [Meaning]
-    ensures { map code_of result.now ≡ input_codes }
+pub(crate) fn inputs() -> &'static [Row]
+    ensures { map (λ row. record { code = row.0.now; sentence = row.1.now; example = option_map (λ e. (e.0.now, e.1.now)) row.2 }) result.now ≡ input_rows }
 {
     &INPUTS
 }
 
 /// Rules of linking, undefined uses, requests and statuses.
-pub(crate) fn runs() -> &'static [Meaning]
-    ensures { map code_of result.now ≡ run_codes }
+pub(crate) fn runs() -> &'static [Row]
+    ensures { map (λ row. record { code = row.0.now; sentence = row.1.now; example = option_map (λ e. (e.0.now, e.1.now)) row.2 }) result.now ≡ run_rows }
 {
     &RUNS
+}
+
+/// What a row says.
+pub(crate) fn meaning_in(row: &Row) -> Meaning
+    ensures { said result ≡ record { code = row.now.0.now; sentence = row.now.1.now; example = option_map (λ e. (e.0.now, e.1.now)) row.now.2 } }
+{
+    let (code, sentence, example) = *row;
+    let example = match example {
+        Some((wrong, right)) => Some(Example { wrong, right }),
+        None => None,
+    };
+    Meaning {
+        code,
+        sentence,
+        example,
+    }
 }

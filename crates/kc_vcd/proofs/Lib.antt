@@ -5,3 +5,4 @@ pub mod Spelled
 pub mod Histories
 pub mod Growing
 pub mod Told
+pub mod Readings

@@ -5,7 +5,7 @@ use Rattle.kc_base.specs.TextLines.{text_lines}
 use Rattle.kc_trace.specs.declared.record.Record.{Record}
 use Rattle.kc_trace.specs.Text.{text_of}
 use Rattle.kc_vcd.specs.History.{IsHistory}
-use Rattle.kc_vcd.specs.Reading.{IsTrace}
+use Rattle.kc_vcd.specs.Reading.{IsTrace, IsFirstWrong}
 use Rattle.kc_vcd.specs.Levels.{level_at}
 use Rattle.kc_vcd.specs.Dump.{dump_of}
 use Rattle.kc_vcd.specs.Reader.{told}
@@ -18,3 +18,9 @@ TracesAreRead = (items : List Record) → IsHistory 0 items → IsTrace (text_li
 abbrev pub DumpsTellLevels : Type 0
 DumpsTellLevels = (length : ℕ) (items : List Record) (pin t : ℕ) → 1 ≤ length → length ≤ 2000000000000 → IsHistory 0 items → IsPin pin →
     told (dump_of length items) (length * t) (pin_name pin) ≡ Some (level_at items pin t)
+
+-- lines are those of one trace, or one line of them is the first wrong one
+pub record OneReading : Type 0 where
+  pub traces : (lines : List (List ℕ)) (items others : List Record) → IsTrace lines items → IsTrace lines others → items ≡ others
+  pub apart : (lines : List (List ℕ)) (items : List Record) (line : ℕ) → IsTrace lines items → ¬ IsFirstWrong lines line
+  pub lines : (lines : List (List ℕ)) (line other : ℕ) → IsFirstWrong lines line → IsFirstWrong lines other → line ≡ other

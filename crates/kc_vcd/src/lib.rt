@@ -13,5 +13,5 @@ mod trace;
 
 pub use dumping::dump;
 pub use fault::VcdFault;
-pub use laws::{dumps_tell_levels, traces_are_read};
+pub use laws::{dumps_tell_levels, one_reading, traces_are_read};
 pub use trace::Trace;

@@ -1,19 +1,25 @@
-use Rattle.std.proofs.Common.{◌≡◌, ◌++◌, sym, ap, subst, ◌∙◌}
-use Rattle.std.specs.Option.{option_copied, option_or}
-use Rattle.kc_explain.specs.Codes.{source_codes, input_codes, run_codes, all_codes}
+use Rattle.std.proofs.Common.{ap, sym, subst, ◌∙◌, Some}
+use Rattle.std.specs.Option.{option_copied, option_map, option_or}
+use Rattle.kc_explain.specs.Codes.{all_codes}
 use Rattle.kc_explain.specs.Meanings.{IsAnswer}
-use Rattle.kc_explain.proofs.Rows.{answer, either}
+use Rattle.kc_explain.proofs.Rows.{in-parts}
+use Rattle.kc_explain.proofs.Distinct.{meaning-is}
 use Rattle.kc_explain.proofs.lookup.explain.Goals as goal
 
-pub returns : goal.returns
-unfolding all_codes
-returns c =
-    let code = c.args.code.now in
-    let s = option_copied c.find_in-in_sources.result in
-    let i = option_copied c.find_in-in_inputs.result in
-    let r = option_copied c.find_in-in_runs.result in
-    let told : option_copied c.first.result ≡ option_or s (option_or i r) = c.first.ensures ∙ ap (option_or s) c.first-others.ensures in
-    let sources = answer source_codes c.sources.result.now s code c.sources.ensures c.find_in-in_sources.ensures in
-    let inputs = answer input_codes c.inputs.result.now i code c.inputs.ensures c.find_in-in_inputs.ensures in
-    let runs = answer run_codes c.runs.result.now r code c.runs.ensures c.find_in-in_runs.ensures in
-    subst (IsAnswer all_codes code) (sym told) (either source_codes (input_codes ++ run_codes) code s (option_or i r) sources (either input_codes run_codes code i r inputs runs))
+pub returns-in-Some-clause-row : goal.returns-in-Some-clause-row
+returns-in-Some-clause-row c =
+    ap Some c.meaning_in.ensures ∙ ap (option_map _) (sym (ap option_copied c.in-Some.is))
+    ∙ in-parts _ c.args.code.now c.sources.result.now c.inputs.result.now c.runs.result.now _ _ _ _ c.sources.ensures c.inputs.ensures c.runs.ensures
+    c.find_in-in_sources.ensures c.find_in-in_inputs.ensures c.find_in-in_runs.ensures (c.first.ensures ∙ ap (option_or (option_copied c.find_in-in_sources.result)) c.first-others.ensures)
+
+pub returns-in-Some-clause-answer : goal.returns-in-Some-clause-answer
+returns-in-Some-clause-answer c = subst (IsAnswer all_codes c.args.code.now) (sym (returns-in-Some-clause-row c)) (meaning-is c.args.code.now)
+
+pub returns-in-None-clause-row : goal.returns-in-None-clause-row
+returns-in-None-clause-row c =
+    ap (option_map _) (sym (ap option_copied c.in-None.is))
+    ∙ in-parts _ c.args.code.now c.sources.result.now c.inputs.result.now c.runs.result.now _ _ _ _ c.sources.ensures c.inputs.ensures c.runs.ensures
+    c.find_in-in_sources.ensures c.find_in-in_inputs.ensures c.find_in-in_runs.ensures (c.first.ensures ∙ ap (option_or (option_copied c.find_in-in_sources.result)) c.first-others.ensures)
+
+pub returns-in-None-clause-answer : goal.returns-in-None-clause-answer
+returns-in-None-clause-answer c = subst (IsAnswer all_codes c.args.code.now) (sym (returns-in-None-clause-row c)) (meaning-is c.args.code.now)
