@@ -1,5 +1,5 @@
 -- A script on its way: so many commands have been carried out.
-use Rattle.std.proofs.Common.{◌≡◌, ℕ, suc, ◌+◌, ◌-◌, ◌*◌, ◌^◌, ◌≤◌, Bool, false, true, ◌||◌, cond, List, [], ◌∷◌, ◌++◌, length, take, drop, refl, sym, ap, subst, ◌∙◌, arith, length-append, length-drop, length-take-le, Result, Ok, Err, OnErr}
+use Rattle.std.proofs.Common.{◌≡◌, ℕ, suc, ◌+◌, ◌-◌, ◌*◌, ◌^◌, ◌≤◌, Bool, false, true, ◌||◌, cond, List, [], ◌∷◌, ◌++◌, length, take, drop, refl, sym, ap, subst, ◌∙◌, arith, length-append, length-drop, length-take-le, inr}
 use Rattle.std.specs.Prelude.{count_by}
 use Rattle.std.specs.List.{list_any}
 use Rattle.std.proofs.Math.Seq.{take-append-add}
@@ -8,8 +8,10 @@ use Rattle.std.proofs.lemmas.List.Folds.{list_any-append}
 use Rattle.std.proofs.lemmas.List.Sums.{sum_by-append}
 use Rattle.circular_buffer.specs.Buffer.{buffer, keep_last}
 use Rattle.kc_extra.specs.Further.{Further}
-use Rattle.kc_trace.specs.Out.{Out, Puts}
+use Rattle.kc_trace.specs.Out.{Out, Puts, Prints}
+use Rattle.kc_trace.specs.Text.{text_of}
 use Rattle.kc_trace.proofs.Outs.{Puts-nothing, Puts-append, Puts-longer}
+use Rattle.kc_trace.proofs.Printed.{Prints-nothing, text_of-nothing}
 use Rattle.kc_machine_spec.specs.Machine.{Machine, Stepped}
 use Rattle.kc_machine_spec.specs.Run.{run_for}
 use Rattle.kc_debug_script.specs.declared.command.Command.{Command}
@@ -18,8 +20,7 @@ use Rattle.kc_debug_script.specs.declared.line_map.MapEntry.{MapEntry}
 use Rattle.kc_debug_script.specs.Script.{is_break, AreBounded}
 use Rattle.kc_debug.specs.declared.session.Sitting.{Sitting}
 use Rattle.kc_debug.specs.Sitting.{seen}
-use Rattle.kc_debug.specs.Passing.{Halts}
-use Rattle.kc_debug.specs.Stands.{states_of, work_in, work_of, StandsIn}
+use Rattle.kc_debug.specs.Stands.{at_once_in, bytes_of, bytes_shown, states_of, work_in, work_of, FailsIn, StandsIn}
 use Rattle.kc_debug.specs.Transcript.{Debugged, untouched, after_command, debugged, quits, transcript}
 use Rattle.kc_debug.proofs.Begins.{run-none}
 use Rattle.kc_debug.proofs.Scripts.{kept_of, GoesOn, alike, debugged-nil, debugged-quit, debugged-more, debugged-text}
@@ -44,15 +45,23 @@ is_quit (Show from count) e = absurd (let t : false ≡ true = e in cc)
 is_quit (Write addr value) e = absurd (let t : false ≡ true = e in cc)
 is_quit History e = absurd (let t : false ≡ true = e in cc)
 
--- what is so in any case is so where a call has failed
-pub always-failed : {A E : Type 0} {P : Type 0} (r : Result A E) → P → OnErr r P
-always-failed (Ok a) p = tt
-always-failed (Err e) p = p
-
 module _ {X : Type 0} (f : Further X) where
-  -- a machine that has not gone on
-  pub halts-none : (most : ℕ) (m n : Machine X) → n ≡ m → Halts f most m n
-  halts-none most m n same = record { states = 0; few = omega arith; machine = same ∙ ap (λ (s : Stepped X). s.machine) (sym (run-none f m)) }
+  -- the sink has failed in what is said of a machine that has not gone on
+  pub fails-said : (at_once : Machine X → ℕ) (said : List ℕ) (m : Machine X) (o : Out) (n : Machine X) (p : Out) →
+      n ≡ m → o.failed ≡ false → Puts o said p → p.failed ≡ true → FailsIn f at_once 0 said m o n p
+  fails-said at_once said m o n p same unbroken text failed =
+      let none = run-none f m in
+      let silent : [] ≡ text_of (run_for f 0 m).records = sym (ap (λ (s : Stepped X). text_of s.records) none ∙ text_of-nothing) in
+      inr (record {
+        mid = o;
+        whole = subst (λ (s : Stepped X). Prints o s.records o) (sym none) (Prints-nothing o);
+        unbroken = unbroken;
+        rest = said;
+        says = ap (λ xs. xs ++ said) silent;
+        part = text;
+        failed = failed;
+        machine = same ∙ ap (λ (s : Stepped X). s.machine) (sym none);
+      })
 
 -- neither of two tests holds
 neither : (a b : Bool) → (a || b) ≡ false → (a ≡ false) × (b ≡ false)
@@ -210,8 +219,8 @@ module _ {X : Type 0} (f : Further X) (entries : List MapEntry) where
 
   pub going-stands : (all : List Command) (m0 : Machine X) (o0 : Out) (index : ℕ) (m : Machine X) (s : Sitting) (o : Out) (c : Command) (n : Machine X) (p : Out) →
       Going all m0 o0 index m s o → o.failed ≡ false → drop index all ≡ c ∷ drop (index + 1) all → quits c ≡ false →
-      Puts o (after_command f entries c (seen m s)).text p → p.failed ≡ true → Halts f (states_of f c (seen m s)) m n → StandsIn f entries all m0 o0 n p
-  going-stands all m0 o0 index m s o c n p g unbroken here goes text failed halts =
+      FailsIn f (at_once_in c) (states_of f c (seen m s)) (after_command f entries c (seen m s)).text m o n p → StandsIn f entries all m0 o0 n p
+  going-stands all m0 o0 index m s o c n p g unbroken here goes fails =
       let d : Debugged X = g.so_far in
       let kept = seen-kept all m0 o0 index m s o g in
       let said = (after_command f entries c (seen m s)).text in
@@ -229,11 +238,9 @@ module _ {X : Type 0} (f : Further X) (entries : List MapEntry) where
         unbroken = unbroken;
         said = said;
         says = subst (λ (k : Debugged X). (after_command f entries c k).text ≡ k.text ++ said) g.done says;
-        part = text;
-        failed = failed;
-        states = halts.states;
-        few = subst (λ (k : Debugged X). halts.states ≤ states_of f c k) g.done (subst (λ i. halts.states ≤ i) states halts.few);
-        machine = halts.machine ∙ ap (λ x. (run_for f halts.states x).machine) (g.machine ∙ ap (λ (k : Debugged X). k.machine) g.done);
+        fails = subst (λ (k : Debugged X). FailsIn f (at_once_in c) (states_of f c k) said k.machine o n p) g.done
+            (subst (λ x. FailsIn f (at_once_in c) (states_of f c d) said x o n p) g.machine
+            (subst (λ i. FailsIn f (at_once_in c) i said m o n p) states fails));
       }
 
   -- ---- the work of a script
@@ -252,10 +259,21 @@ module _ {X : Type 0} (f : Further X) (entries : List MapEntry) where
   work-more History commands d h = refl
   work-more Quit commands d h = absurd h
 
-  -- what was spent so far, and the work that is left
+  bytes-more : (c : Command) (commands : List Command) → GoesOn c → bytes_shown (c ∷ commands) ≡ bytes_of c + bytes_shown commands
+  unfolding bytes_shown
+  bytes-more (Step count) commands h = refl
+  bytes-more (Go until) commands h = refl
+  bytes-more (Break addr) commands h = refl
+  bytes-more Registers commands h = refl
+  bytes-more (Show from count) commands h = refl
+  bytes-more (Write addr value) commands h = refl
+  bytes-more History commands h = refl
+  bytes-more Quit commands h = absurd h
+
+  -- what was spent so far, and the work and the bytes that are left
   pub record Paid (all : List Command) (m0 : Machine X) (s0 v0 index s v : ℕ) : Type 0 where
     pub steps : s + 4 * work_of f entries (drop index all) (transcript f entries (take index all) m0) ≤ s0 + 4 * work_of f entries all (untouched m0)
-    pub moves : v + 4 * work_of f entries (drop index all) (transcript f entries (take index all) m0) ≤ v0 + (4 * work_of f entries all (untouched m0) + 256 * index)
+    pub moves : v + (4 * work_of f entries (drop index all) (transcript f entries (take index all) m0) + bytes_shown (drop index all)) ≤ v0 + (4 * work_of f entries all (untouched m0) + bytes_shown all)
 
   pub paid-first : (all : List Command) (m : Machine X) (s v : ℕ) → Paid all m s v 0 s v
   paid-first all m s v =
@@ -264,7 +282,7 @@ module _ {X : Type 0} (f : Further X) (entries : List MapEntry) where
 
   pub paid-next : (all : List Command) (m0 : Machine X) (o0 : Out) (index : ℕ) (m : Machine X) (sitting : Sitting) (o : Out) (c : Command) (s0 v0 s v t w : ℕ) →
       Going all m0 o0 index m sitting o → drop index all ≡ c ∷ drop (index + 1) all → quits c ≡ false → Paid all m0 s0 v0 index s v →
-      t ≤ s + 4 * work_in f c (seen m sitting) → w ≤ v + (4 * work_in f c (seen m sitting) + 256) → Paid all m0 s0 v0 (index + 1) t w
+      t ≤ s + 4 * work_in f c (seen m sitting) → w ≤ v + (4 * work_in f c (seen m sitting) + bytes_of c) → Paid all m0 s0 v0 (index + 1) t w
   paid-next all m0 o0 index m sitting o c s0 v0 s v t w g here goes paid steps moves =
       let d : Debugged X = transcript f entries (take index all) m0 in
       let next : Debugged X = transcript f entries (take (index + 1) all) m0 in
@@ -274,11 +292,12 @@ module _ {X : Type 0} (f : Further X) (entries : List MapEntry) where
       ap (λ cs. work_of f entries cs d) here
       ∙ work-more c (drop (index + 1) all) d (goes_on c goes)
       ∙ ap (λ k. work_in f c d + work_of f entries (drop (index + 1) all) k) (transcript-next all index m0 c here g.whole goes) in
-      record { steps = omega (arith, paid.steps, steps, one, more); moves = omega (arith, paid.moves, moves, one, more) }
+      let bytes : bytes_shown (drop index all) ≡ bytes_of c + bytes_shown (drop (index + 1) all) = ap bytes_shown here ∙ bytes-more c (drop (index + 1) all) (goes_on c goes) in
+      record { steps = omega (arith, paid.steps, steps, one, more); moves = omega (arith, paid.moves, moves, one, more, bytes) }
 
   pub paid-steps : (all : List Command) (m0 : Machine X) (s0 v0 index s v : ℕ) → Paid all m0 s0 v0 index s v → s ≤ s0 + 4 * work_of f entries all (untouched m0)
   paid-steps all m0 s0 v0 index s v paid = omega (arith, paid.steps)
 
-  pub paid-moves : (all : List Command) (m0 : Machine X) (s0 v0 index s v : ℕ) → Paid all m0 s0 v0 index s v → index ≤ length all →
-      v ≤ v0 + (4 * work_of f entries all (untouched m0) + 256 * length all)
-  paid-moves all m0 s0 v0 index s v paid few = omega (arith, paid.moves, few)
+  pub paid-moves : (all : List Command) (m0 : Machine X) (s0 v0 index s v : ℕ) → Paid all m0 s0 v0 index s v →
+      v ≤ v0 + (4 * work_of f entries all (untouched m0) + bytes_shown all)
+  paid-moves all m0 s0 v0 index s v paid = omega (arith, paid.moves)

@@ -1,22 +1,25 @@
 -- A machine that idles: which activities begin, and which of them are kept.
-use Rattle.std.proofs.Common.{◌≡◌, ℕ, zero, suc, ◌+◌, ◌-◌, ◌<◌, ◌≤◌, ◌⊎◌, inl, inr, is_none, Bool, true, false, ◌==◌, ◌&&◌, List, [], ◌∷◌, ◌++◌, length, drop, refl, sym, ap, subst, ◌∙◌, append_assoc, append-nil, arith, length-append}
-use Rattle.std.specs.Prelude.{nat_le, max}
+use Rattle.std.proofs.Common.{◌≡◌, ℕ, zero, suc, ◌+◌, ◌-◌, ◌<◌, ◌≤◌, ◌⊎◌, inl, inr, if◌then◌else◌, is_none, Bool, true, false, ◌==◌, ◌&&◌, List, [], ◌∷◌, ◌++◌, length, drop, refl, sym, ap, subst, ◌∙◌, append_assoc, append-nil, arith, length-append}
+use Rattle.std.specs.Prelude.{nat_le, nat_lt, min, max}
 use Rattle.std.specs.List.{list_any}
 use Rattle.std.proofs.lemmas.Bool.Decides.{nat_tests}
 use Rattle.std.proofs.Math.Seq.{drop-append-add}
 use Rattle.circular_buffer.specs.Buffer.{Buffer, buffer, keep_last}
 use Rattle.kc_exec_spec.specs.declared.cpu.Cpu.{Cpu}
 use Rattle.kc_extra.specs.Further.{Further}
+use Rattle.kc_trace.specs.Out.{Out, Prints}
 use Rattle.kc_intc.specs.declared.requests.Choice.TheVariants.{Go}
 use Rattle.kc_machine_spec.specs.Machine.{Machine, Stepped, current, asked}
 use Rattle.kc_machine_spec.specs.Passing.{IsIdle, activity_end}
 use Rattle.kc_machine_spec.specs.Run.{run_for, run_to}
 use Rattle.kc_machine_spec.proofs.Idle.{one_more, quiet_end}
+use Rattle.kc_machine.specs.Failing.{FailsIn}
 use Rattle.kc_machine.specs.Stepping.{IdlesFor}
 use Rattle.kc_debug.specs.declared.activities.Begun.{Begun}
 use Rattle.kc_debug.specs.Activities.{begins_unless, beginning, begun_for}
-use Rattle.kc_debug.specs.Stops.{states_of_activities}
+use Rattle.kc_debug.specs.Stops.{activity_states, states_at_once, states_of_activities}
 use Rattle.kc_debug.specs.Passing.{IsKept, IsClear, Stood}
+use Rattle.kc_debug.specs.Stands.{FailsWithin}
 use Rattle.kc_debug.proofs.Last.{last-append}
 use Rattle.kc_debug.proofs.Begins.{run-none, machine-add, machine-suc, begun-none, begun-add, begun-one, states-more}
 
@@ -178,6 +181,63 @@ module _ {X : Type 0} (f : Further X) where
       let stays : (run_to f m.time m).machine ≡ m = ap (λ i. (run_for f i m).machine) zero_more ∙ ap (λ (s : Stepped X). s.machine) (run-none f m) in
       let over : activity_end m ≡ m.time + 1 = ap activity_end (sym stays) ∙ end.over in
       omega (arith, over)
+
+  -- a machine that idles, in the lines of one of whose states the sink has failed, stands at the end of that state
+  pub idles-fail : (end : ℕ) (m : Machine X) (o : Out) (n : Machine X) (p : Out) → m.time < end → IdlesFor f (end - m.time) m → FailsIn f end m o n p →
+      FailsWithin f (λ x. 1) (end - m.time) m o n p
+  idles-fail end m o n p ahead idles fails =
+      let k : ℕ = fails.began - m.time in
+      let there : Machine X = (run_for f k m).machine in
+      let less : k < end - m.time = omega (arith, fails.from, fails.begins, fails.over) in
+      let here = idles k less in
+      let time = (idles-there (end - m.time) k m idles (omega (arith, less))).time in
+      let at : there.time ≡ fails.began = omega (arith, time, fails.from) in
+      let left : (current there).left ≡ 1 = idle-left there here.0 here.1 in
+      let over : activity_end there ≡ fails.began + 1 = omega (arith, at, left) in
+      let next : n.time ≡ fails.began + 1 = omega (arith, fails.over, fails.from, over, less) in
+      let one : n.time - there.time ≡ 1 = omega (arith, next, at) in
+      let all : n.time - m.time ≡ k + 1 = omega (arith, next, fails.from) in
+      record {
+        before = k;
+        there = there;
+        stands = refl;
+        mid = fails.mid;
+        whole = fails.whole;
+        unbroken = fails.unbroken;
+        part = subst (λ i. Prints fails.mid (run_for f i there).records p) one fails.part;
+        failed = fails.failed;
+        few = omega (arith, less);
+        machine = fails.stands ∙ ap (λ i. (run_for f i m).machine) all ∙ machine-add f k 1 m;
+      }
+
+  -- idle states pass one at a time in any case
+  idles-alike : (at_once : Machine X → ℕ) (most : ℕ) (m : Machine X) (o : Out) (n : Machine X) (p : Out) → IdlesFor f most m →
+      ((x : Machine X) → IsIdle x → asked x ≡ Go → at_once x ≡ 1) → FailsWithin f (λ x. 1) most m o n p → FailsWithin f at_once most m o n p
+  idles-alike at_once most m o n p idles alike fails =
+      let idle = idles fails.before (omega (arith, fails.few)) in
+      let one : at_once fails.there ≡ 1 = ap at_once fails.stands ∙ alike (run_for f fails.before m).machine idle.0 idle.1 in
+      record {
+        before = fails.before;
+        there = fails.there;
+        stands = fails.stands;
+        mid = fails.mid;
+        whole = fails.whole;
+        unbroken = fails.unbroken;
+        part = subst (λ i. Prints fails.mid (run_for f i fails.there).records p) (sym one) fails.part;
+        failed = fails.failed;
+        few = omega (arith, fails.few, one);
+        machine = fails.machine ∙ ap (λ i. (run_for f i fails.there).machine) (sym one);
+      }
+
+  pub idles-activity : (most : ℕ) (m : Machine X) (o : Out) (n : Machine X) (p : Out) → IdlesFor f most m → FailsWithin f (λ x. 1) most m o n p → FailsWithin f activity_states most m o n p
+  idles-activity most m o n p idles fails = idles-alike activity_states most m o n p idles (λ x idle none. idle-left x idle none) fails
+
+  pub idles-at-once : (until most : ℕ) (m : Machine X) (o : Out) (n : Machine X) (p : Out) → IdlesFor f most m → FailsWithin f (λ x. 1) most m o n p → FailsWithin f (states_at_once until) most m o n p
+  idles-at-once until most m o n p idles fails = idles-alike (states_at_once until) most m o n p idles (λ x idle none. one x (nat_lt (until - x.time) 255) refl (idle-left x idle none)) fails
+    where
+      one : (x : Machine X) (near : Bool) → nat_lt (until - x.time) 255 ≡ near → activity_states x ≡ 1 → states_at_once until x ≡ 1
+      one x true e left = ap (λ b. if b then 1 else activity_states x) e
+      one x false e left = ap (λ b. if b then 1 else activity_states x) e ∙ left
 
   -- so many idle states are as many activities
   pub idles-activities : (n count : ℕ) (m : Machine X) → IdlesFor f n m → n ≤ count → states_of_activities f count m ≡ n + states_of_activities f (count - n) (run_for f n m).machine

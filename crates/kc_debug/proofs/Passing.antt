@@ -1,13 +1,14 @@
 -- A command on its way: so many states have passed since it began.
-use Rattle.std.proofs.Common.{◌≡◌, ℕ, ◌+◌, ◌-◌, ◌*◌, ◌<◌, ◌≤◌, max, is_some, Bool, true, false, List, [], ◌++◌, Option, Some, None, refl, sym, ap, subst, ◌∙◌, append_assoc, append-nil, arith, IfSome, is_none, ◌↔◌, ◌==◌, ◌&&◌, Result, Ok, Err, OnOk}
+use Rattle.std.proofs.Common.{◌≡◌, ℕ, ◌+◌, ◌-◌, ◌*◌, ◌<◌, ◌≤◌, max, is_some, Bool, true, false, if◌then◌else◌, nat_lt, List, [], ◌++◌, Option, Some, None, refl, sym, ap, subst, ◌∙◌, append_assoc, append-nil, arith, IfSome, is_none, ◌↔◌, ◌==◌, ◌&&◌, Result, Ok, Err, OnOk, OnErr}
 use Rattle.std.specs.List.{list_any}
+use Rattle.std.proofs.lemmas.Bool.Decides.{nat_tests}
 use Rattle.circular_buffer.specs.Buffer.{Buffer, buffer, keep_last}
 use Rattle.kc_extra.specs.Further.{Further}
 use Rattle.kc_trace.specs.declared.record.Record.{Record}
 use Rattle.kc_trace.specs.Counting.{counted_all}
 use Rattle.kc_trace.specs.Out.{Out, Puts, Prints}
 use Rattle.kc_trace.specs.Text.{text_of}
-use Rattle.kc_trace.proofs.Printed.{Prints-none, Prints-append, Prints-longer}
+use Rattle.kc_trace.proofs.Printed.{Prints-nothing, Prints-none, Prints-append, Prints-longer}
 use Rattle.kc_machine_spec.specs.declared.doing.End.{End}
 use Rattle.kc_machine_spec.specs.declared.doing.End.TheVariants as end
 use Rattle.kc_machine_spec.specs.Text.{HasRun}
@@ -20,8 +21,9 @@ use Rattle.kc_machine.specs.Board.{Whole}
 use Rattle.kc_machine.specs.Stepping.{IsBrief}
 use Rattle.kc_debug.specs.declared.activities.Begun.{Begun}
 use Rattle.kc_debug.specs.Activities.{begins_unless, beginning, begun_for}
-use Rattle.kc_debug.specs.Stops.{is_at_break}
-use Rattle.kc_debug.specs.Passing.{IsKept, Passed, Told, Stood, Halts, Spends}
+use Rattle.kc_debug.specs.Stops.{activity_states, is_at_break, states_at_once}
+use Rattle.kc_debug.specs.Passing.{IsKept, Passed, Told, Stood, Spends}
+use Rattle.kc_debug.specs.Stands.{FailsWithin}
 use Rattle.kc_debug.proofs.Last.{last-append, last-same}
 use Rattle.kc_debug.proofs.Begins.{run-none, machine-add, begun-none, begun-add, begun-ended, begun-activity}
 
@@ -61,6 +63,18 @@ not_at_break m breaks b e h = by_way m.under_way refl
     by_way : (u : Option UnderWay) → m.under_way ≡ u → false ≡ is_at_break breaks m
     by_way (Some activity) is = ap (λ u. is_none u && list_any (λ addr. addr == m.cpu.pc) breaks) (sym is)
     by_way None is = absurd (let t : b ≡ true = h.1 is in let f : true ≡ false = sym t ∙ e in cc)
+
+-- how many states pass at once, as a test of their number tells
+pub at-once-near : {X : Type 0} (until now : ℕ) (m : Machine X) (b : Bool) → now ≡ m.time → b ≡ nat_lt (until - now) 255 → b ≡ true → states_at_once until m ≡ 1
+at-once-near until now m b e is near =
+    ap (λ t. if nat_lt (until - t) 255 then 1 else activity_states m) (sym e) ∙ ap (λ c. if c then 1 else activity_states m) (sym is ∙ near)
+
+pub at-once-far : {X : Type 0} (until now : ℕ) (m : Machine X) (b : Bool) → now ≡ m.time → b ≡ nat_lt (until - now) 255 → b ≡ false → states_at_once until m ≡ activity_states m
+at-once-far until now m b e is far =
+    ap (λ t. if nat_lt (until - t) 255 then 1 else activity_states m) (sym e) ∙ ap (λ c. if c then 1 else activity_states m) (sym is ∙ far)
+
+pub is-far : (until now : ℕ) (b : Bool) → b ≡ nat_lt (until - now) 255 → b ≡ false → 255 ≤ until - now
+is-far until now b is far = grind (arith, nat_tests, is, far)
 
 -- what is kept stays where nothing is noted
 pub kept-same : (r : Buffer Begun) (xs : List Begun) → IsKept r → xs ≡ [] → r ≡ buffer (keep_last r.capacity (r.items ++ xs)) r.capacity
@@ -241,10 +255,10 @@ module _ {X : Type 0} (f : Further X) where
   -- some states, and then others
   pub spends-add : (i k : ℕ) (m0 : Whole X) (s0 : ℕ) (m : Whole X) (s : ℕ) (n : Whole X) (t : ℕ) → m.machine ≡ (run_for f i m0.machine).machine →
       Spends f i m0 s0 m s → Spends f k m s n t → Spends f (i + k) m0 s0 n t
-  spends-add i k m0 s0 m s n t is before then =
+  spends-add i k m0 s0 m s n t is before after =
       let same : (run_for f k m.machine).work ≡ (run_for f k (run_for f i m0.machine).machine).work = ap (λ x. (run_for f k x).work) is in
       let all = work-add i k m0.machine in
-      record { steps = omega (arith, before.steps, then.steps, same, all); moves = omega (arith, before.moves, then.moves, same, all) }
+      record { steps = omega (arith, before.steps, after.steps, same, all); moves = omega (arith, before.moves, after.moves, same, all) }
 
   -- more states do no less
   pub spends-within : (k n : ℕ) (m0 : Whole X) (s0 : ℕ) (m : Whole X) (s : ℕ) → k ≤ n → Spends f k m0 s0 m s → Spends f n m0 s0 m s
@@ -252,20 +266,54 @@ module _ {X : Type 0} (f : Further X) where
       let work = work-within k n m0.machine few in
       record { steps = omega (arith, spends.steps, work); moves = omega (arith, spends.moves, work) }
 
-  pub halts-at : (k most : ℕ) (m n : Machine X) → n ≡ (run_for f k m).machine → k ≤ most → Halts f most m n
-  halts-at k most m n is few = record { states = k; few = few; machine = is }
+  -- the sink has failed in the lines of the first states that pass at once
+  pub fails-first : (at_once : Machine X → ℕ) (m : Machine X) (o : Out) (r : Buffer Begun) (n : Machine X) (p : Out) (q : Buffer Begun) →
+      Passed f (at_once m) m o r n p q → o.failed ≡ false → p.failed ≡ true → FailsWithin f at_once (at_once m) m o n p
+  fails-first at_once m o r n p q next unbroken failed =
+      let none = run-none f m in
+      record {
+        before = 0;
+        there = m;
+        stands = ap (λ (s : Stepped X). s.machine) (sym none);
+        mid = o;
+        whole = subst (λ (s : Stepped X). Prints o s.records o) (sym none) (Prints-nothing o);
+        unbroken = unbroken;
+        part = next.lines;
+        failed = failed;
+        few = omega arith;
+        machine = next.machine;
+      }
 
-  -- it stands behind some of the states of a run to a state
-  pub halts-run : (end : ℕ) (m n : Machine X) → n ≡ (run_to f n.time m).machine → n.time ≤ max end m.time → Halts f (end - m.time) m n
-  halts-run end m n is within = record { states = n.time - m.time; few = omega arith; machine = is }
+  -- some states, and then those in which it has failed
+  pub fails-later : (at_once : Machine X → ℕ) (i k total : ℕ) (m0 m : Machine X) (o0 o : Out) (n : Machine X) (p : Out) →
+      m ≡ (run_for f i m0).machine → Prints o0 (run_for f i m0).records o → FailsWithin f at_once k m o n p → i + k ≤ total → FailsWithin f at_once total m0 o0 n p
+  fails-later at_once i k total m0 m o0 o n p is lines fails fits =
+      let same : run_for f fails.before m ≡ run_for f fails.before (run_for f i m0).machine = ap (run_for f fails.before) is in
+      let all : run_for f (i + fails.before) m0 ≡ and_then (run_for f i m0) (run_for f fails.before) = run_for-add f i fails.before m0 in
+      record {
+        before = i + fails.before;
+        there = fails.there;
+        stands = fails.stands ∙ ap (λ (s : Stepped X). s.machine) same ∙ ap (λ (s : Stepped X). s.machine) (sym all);
+        mid = fails.mid;
+        whole = subst (λ xs. Prints o0 xs fails.mid)
+            (ap (λ (s : Stepped X). (run_for f i m0).records ++ s.records) same ∙ ap (λ (s : Stepped X). s.records) (sym all))
+            (Prints-append o0 (run_for f i m0).records o (run_for f fails.before m).records fails.mid lines fails.whole);
+        unbroken = fails.unbroken;
+        part = fails.part;
+        failed = fails.failed;
+        few = omega (arith, fails.few, fits);
+        machine = fails.machine;
+      }
 
-  -- behind some states, and then some of others
-  pub halts-later : (i k total : ℕ) (m0 m n : Machine X) → m ≡ (run_for f i m0).machine → Halts f k m n → i + k ≤ total → Halts f total m0 n
-  halts-later i k total m0 m n is halts fits = record {
-    states = i + halts.states;
-    few = omega (arith, halts.few, fits);
-    machine = halts.machine ∙ ap (λ x. (run_for f halts.states x).machine) is ∙ sym (machine-add f i halts.states m0);
-  }
+-- what follows where a call has failed
+pub on-fault : {A E : Type 0} {P Q : Type 0} (r : Result A E) → OnErr r P → (P → Q) → OnErr r Q
+on-fault (Ok a) p h = tt
+on-fault (Err e) p h = h p
+
+-- what is so in any case is so where a call has failed
+pub always-failed : {A E : Type 0} {P : Type 0} (r : Result A E) → P → OnErr r P
+always-failed (Ok a) p = tt
+always-failed (Err e) p = p
 
 -- what is so in any case is so where a call is Ok
 pub always : {A E : Type 0} {P : Type 0} (r : Result A E) → P → OnOk r P

@@ -39,12 +39,6 @@ module _ {X : Type 0} (f : Further X) where
     pub machine : n ≡ (run_for f states m).machine
     pub time : n.time ≡ m.time + states
 
-  -- the machine stands behind some of so many states
-  pub record Halts (most : ℕ) (m n : Machine X) : Type 0 where
-    pub states : ℕ
-    pub few : states ≤ most
-    pub machine : n ≡ (run_for f states m).machine
-
   -- units were called, and moved, at most four times the work of so many states
   pub record Spends (states : ℕ) (m : Whole X) (s : ℕ) (n : Whole X) (t : ℕ) : Type 0 where
     pub steps : t ≤ s + 4 * (run_for f states m.machine).work

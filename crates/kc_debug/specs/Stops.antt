@@ -1,9 +1,17 @@
 -- How many states a command lets the machine go on (this kit's own).
-use Rattle.std.specs.Prelude.{ℕ, zero, suc, ◌+◌, ◌-◌, ◌==◌, Bool, ◌&&◌, if◌then◌else◌, is_none, List}
+use Rattle.std.specs.Prelude.{ℕ, zero, suc, ◌+◌, ◌-◌, ◌==◌, Bool, ◌&&◌, if◌then◌else◌, is_none, nat_lt, List}
 use Rattle.std.specs.List.{list_any}
 use Rattle.kc_extra.specs.Further.{Further}
 use Rattle.kc_machine_spec.specs.Machine.{Machine, current}
 use Rattle.kc_machine_spec.specs.Run.{run_for}
+
+-- the states that are left of the present activity, or all of the one that begins
+abbrev pub activity_states : {X : Type 0} → Machine X → ℕ
+activity_states m = (current m).left
+
+-- a run to a state passes an activity at once, and its last 254 states one by one
+abbrev pub states_at_once : {X : Type 0} → ℕ → Machine X → ℕ
+states_at_once until m = if nat_lt (until - m.time) 255 then 1 else activity_states m
 
 -- an activity would start at a breakpoint
 abbrev pub is_at_break : {X : Type 0} → List ℕ → Machine X → Bool

@@ -1,13 +1,14 @@
 // The commands that let the machine go on.
-ghost use Rattle.std.specs.Prelude.{◌≡◌, ◌==◌, ℕ, ◌+◌, ◌-◌, ◌*◌, ◌^◌, ◌<◌, ◌≤◌, max, None, IfOk, OnOk, OnErr, false, true};
+ghost use Rattle.std.specs.Prelude.{◌≡◌, ◌==◌, ℕ, ◌+◌, ◌-◌, ◌*◌, ◌^◌, ◌<◌, ◌≤◌, max, nat_lt, None, IfOk, OnOk, OnErr, false, true};
 ghost use Rattle.std.specs.List.{list_any};
 ghost use Rattle.kc_trace.specs.Out.{Prints};
 ghost use Rattle.kc_trace.specs.Trace.{out_of};
 ghost use Rattle.kc_machine_spec.specs.Machine.{current};
 ghost use Rattle.kc_machine_spec.specs.Run.{run_for};
 ghost use Rattle.kc_machine.specs.Stepping.{IdlesFor};
-ghost use Rattle.kc_debug.specs.Passing.{IsKept, Passed, IsClear, Told, Stood, Gone, Halts, Spends};
-ghost use Rattle.kc_debug.specs.Stops.{is_at_break as stands_at_break, states_of_activities, states_of_run};
+ghost use Rattle.kc_debug.specs.Passing.{IsKept, Passed, IsClear, Told, Stood, Gone, Spends};
+ghost use Rattle.kc_debug.specs.Stands.{FailsWithin};
+ghost use Rattle.kc_debug.specs.Stops.{activity_states, is_at_break as stands_at_break, states_at_once, states_of_activities, states_of_run};
 
 use crate::activities::{Begun, note, note_idle};
 use circular_buffer::HeapCircularBuffer;
@@ -83,7 +84,7 @@ fn pass_idle<X: Extra + Drop, S: Sink, L: Ledger>(
     requires unbroken { out.old.failed ≡ false }
     ensures told { Told X.further (end - machine.old.machine.time) machine.old.machine (out_of S.written S.faults out.old) begun.old (out_of S.written S.faults out.new) begun.new }
     ensures stood { OnOk result (Stood X.further (end - machine.old.machine.time) machine.old.machine machine.new.machine) }
-    ensures halts { Halts X.further (end - machine.old.machine.time) machine.old.machine machine.new.machine }
+    ensures fails { OnErr result (FailsWithin X.further (λ m. 1) (end - machine.old.machine.time) machine.old.machine (out_of S.written S.faults out.old) machine.new.machine (out_of S.written S.faults out.new)) }
     ensures spent { Spends X.further (end - machine.old.machine.time) machine.old steps.old machine.new steps.new }
     ensures within { machine.new.machine.time ≤ end }
     ensures written { OnOk result (out.new.failed ≡ false) }
@@ -109,7 +110,7 @@ fn pass_some<X: Extra + Drop, S: Sink, L: Ledger>(
     requires some { 0 < left }
     requires room { machine.old.machine.time + 255 * left ≤ 2 * 10 ^ 15 }
     requires unbroken { out.old.failed ≡ false }
-    ensures passed { (states : ℕ) × (rest : ℕ) × (states_of_activities X.further left machine.old.machine ≡ states + rest) × Told X.further states machine.old.machine (out_of S.written S.faults out.old) begun.old (out_of S.written S.faults out.new) begun.new × Halts X.further states machine.old.machine machine.new.machine × Spends X.further states machine.old steps.old machine.new steps.new × IfOk result (λ passed. Stood X.further states machine.old.machine machine.new.machine × (rest ≡ states_of_activities X.further (left - passed) machine.new.machine)) }
+    ensures passed { (states : ℕ) × (rest : ℕ) × (states_of_activities X.further left machine.old.machine ≡ states + rest) × Told X.further states machine.old.machine (out_of S.written S.faults out.old) begun.old (out_of S.written S.faults out.new) begun.new × OnErr result (FailsWithin X.further activity_states states machine.old.machine (out_of S.written S.faults out.old) machine.new.machine (out_of S.written S.faults out.new)) × Spends X.further states machine.old steps.old machine.new steps.new × IfOk result (λ passed. Stood X.further states machine.old.machine machine.new.machine × (rest ≡ states_of_activities X.further (left - passed) machine.new.machine)) }
     ensures some { IfOk result (λ passed. (0 < passed) × (passed ≤ left) × (machine.new.machine.time + 255 * (left - passed) ≤ machine.old.machine.time + 255 * left)) }
     ensures time { machine.new.machine.time ≤ machine.old.machine.time + 255 * left }
     ensures written { OnOk result (out.new.failed ≡ false) }
@@ -130,7 +131,8 @@ fn pass_some<X: Extra + Drop, S: Sink, L: Ledger>(
     }
 }
 
-/// Goes on by so many activities; one that is under way is the first.
+/// Goes on by so many activities; one that is under way is the first. After a fault of the sink the machine stands at the end of
+/// the activity in whose lines that was.
 pub(crate) fn step<X: Extra + Drop, S: Sink, L: Ledger>(
     begun: &mut HeapCircularBuffer<Begun>,
     count: u32,
@@ -143,7 +145,7 @@ pub(crate) fn step<X: Extra + Drop, S: Sink, L: Ledger>(
     requires unbroken { out.old.failed ≡ false }
     ensures lines { Prints (out_of S.written S.faults out.old) (run_for X.further (states_of_activities X.further count machine.old.machine) machine.old.machine).records (out_of S.written S.faults out.new) }
     ensures gone { OnOk result (Gone X.further (states_of_activities X.further count machine.old.machine) machine.old.machine begun.old machine.new.machine begun.new) }
-    ensures halts { Halts X.further (states_of_activities X.further count machine.old.machine) machine.old.machine machine.new.machine }
+    ensures fails { OnErr result (FailsWithin X.further activity_states (states_of_activities X.further count machine.old.machine) machine.old.machine (out_of S.written S.faults out.old) machine.new.machine (out_of S.written S.faults out.new)) }
     ensures spent { Spends X.further (states_of_activities X.further count machine.old.machine) machine.old steps.old machine.new steps.new }
     ensures time { machine.new.machine.time ≤ machine.old.machine.time + 255 * count }
     ensures capacity { begun.new.capacity ≡ 33 }
@@ -178,6 +180,13 @@ fn is_at_break<X: Extra + Drop>(breaks: &[u16], machine: &Machine<X>) -> bool
     }
 }
 
+// Whether the state `until` is nearer than the end of an activity may be.
+fn is_near(until: StateTime, now: StateTime) -> bool
+    ensures { result ≡ nat_lt (until - now) 255 }
+{
+    until.saturating_sub(now) < ACTIVITY_LIMIT
+}
+
 // Goes on to the end of an activity, or by one state where the state `until` is near.
 fn pass_one<X: Extra + Drop, S: Sink, L: Ledger>(
     begun: &mut HeapCircularBuffer<Begun>,
@@ -191,14 +200,16 @@ fn pass_one<X: Extra + Drop, S: Sink, L: Ledger>(
     requires ahead { machine.old.machine.time < until }
     requires room { until ≤ 2 * 10 ^ 15 }
     requires unbroken { out.old.failed ≡ false }
-    ensures passed { (states : ℕ) × (states ≤ until - machine.old.machine.time) × Passed X.further states machine.old.machine (out_of S.written S.faults out.old) begun.old machine.new.machine (out_of S.written S.faults out.new) begun.new × Spends X.further states machine.old steps.old machine.new steps.new }
+    ensures passed { Passed X.further (states_at_once until machine.old.machine) machine.old.machine (out_of S.written S.faults out.old) begun.old machine.new.machine (out_of S.written S.faults out.new) begun.new }
+    ensures few { states_at_once until machine.old.machine ≤ until - machine.old.machine.time }
+    ensures spent { Spends X.further (states_at_once until machine.old.machine) machine.old steps.old machine.new steps.new }
     ensures written { OnOk result (out.new.failed ≡ false) }
     ensures failed { OnErr result (out.new.failed ≡ true) }
 {
-    if until - machine.now() >= ACTIVITY_LIMIT {
-        pass_activity(begun, machine, out, steps)
-    } else {
+    if is_near(until, machine.now()) {
         pass_state(begun, machine, out, steps)
+    } else {
+        pass_activity(begun, machine, out, steps)
     }
 }
 
@@ -230,7 +241,7 @@ fn pass<X: Extra + Drop, S: Sink, L: Ledger>(
     requires ahead { machine.old.machine.time < until }
     requires room { until ≤ 2 * 10 ^ 15 }
     requires unbroken { out.old.failed ≡ false }
-    ensures passed { (states : ℕ) × (states ≤ until - machine.old.machine.time) × IsClear X.further breaks.now states machine.old.machine × Told X.further states machine.old.machine (out_of S.written S.faults out.old) begun.old (out_of S.written S.faults out.new) begun.new × Halts X.further states machine.old.machine machine.new.machine × Spends X.further states machine.old steps.old machine.new steps.new × OnOk result (Stood X.further states machine.old.machine machine.new.machine) }
+    ensures passed { (states : ℕ) × (states ≤ until - machine.old.machine.time) × IsClear X.further breaks.now states machine.old.machine × Told X.further states machine.old.machine (out_of S.written S.faults out.old) begun.old (out_of S.written S.faults out.new) begun.new × OnErr result (FailsWithin X.further (states_at_once until) states machine.old.machine (out_of S.written S.faults out.old) machine.new.machine (out_of S.written S.faults out.new)) × Spends X.further states machine.old steps.old machine.new steps.new × OnOk result (Stood X.further states machine.old.machine machine.new.machine) }
     ensures within { machine.new.machine.time ≤ until }
     ensures written { OnOk result (out.new.failed ≡ false) }
     ensures failed { OnErr result (out.new.failed ≡ true) }
@@ -243,7 +254,8 @@ fn pass<X: Extra + Drop, S: Sink, L: Ledger>(
     }
 }
 
-/// Goes on to a state, or to where an activity would start at a breakpoint.
+/// Goes on to a state, or to where an activity would start at a breakpoint. After a fault of the sink the machine stands at the
+/// end of the activity in whose lines that was, or of the state where `until` is less than 255 states away.
 pub(crate) fn go<X: Extra + Drop, S: Sink, L: Ledger>(
     begun: &mut HeapCircularBuffer<Begun>,
     breaks: &[u16],
@@ -257,7 +269,7 @@ pub(crate) fn go<X: Extra + Drop, S: Sink, L: Ledger>(
     requires unbroken { out.old.failed ≡ false }
     ensures lines { Prints (out_of S.written S.faults out.old) (run_for X.further (states_of_run X.further breaks.now until machine.old.machine) machine.old.machine).records (out_of S.written S.faults out.new) }
     ensures gone { OnOk result (Gone X.further (states_of_run X.further breaks.now until machine.old.machine) machine.old.machine begun.old machine.new.machine begun.new) }
-    ensures halts { Halts X.further (states_of_run X.further breaks.now until machine.old.machine) machine.old.machine machine.new.machine }
+    ensures fails { OnErr result (FailsWithin X.further (states_at_once until) (states_of_run X.further breaks.now until machine.old.machine) machine.old.machine (out_of S.written S.faults out.old) machine.new.machine (out_of S.written S.faults out.new)) }
     ensures spent { Spends X.further (states_of_run X.further breaks.now until machine.old.machine) machine.old steps.old machine.new steps.new }
     ensures time { machine.new.machine.time ≤ max until machine.old.machine.time }
     ensures capacity { begun.new.capacity ≡ 33 }

@@ -6,11 +6,11 @@ ghost use Rattle.kc_machine_spec.specs.Run.{end_of};
 ghost use Rattle.kc_debug_script.specs.Commands.{IsBounded};
 ghost use Rattle.kc_debug_script.specs.declared.fault.DebugFault.TheVariants as faults;
 ghost use Rattle.kc_debug_script.specs.Script.{is_break, AreBounded};
-ghost use Rattle.kc_debug.specs.Passing.{IsKept, Gone, Halts, Spends};
-ghost use Rattle.kc_debug.specs.Stops.{states_of_activities, states_of_run};
+ghost use Rattle.kc_debug.specs.Passing.{IsKept, Gone, Spends};
+ghost use Rattle.kc_debug.specs.Stops.{activity_states, states_at_once, states_of_activities, states_of_run};
 ghost use Rattle.kc_debug.specs.Transcript.{after_command, gone_for, quits, transcript, untouched};
 ghost use Rattle.kc_debug.specs.Sitting.{seen};
-ghost use Rattle.kc_debug.specs.Stands.{states_of, work_in, work_of, StandsIn};
+ghost use Rattle.kc_debug.specs.Stands.{at_once_in, bytes_of, bytes_shown, states_of, work_in, work_of, FailsIn, StandsIn};
 
 use crate::activities::{Begun, KEPT};
 use crate::carrying::{go, step};
@@ -89,7 +89,7 @@ impl Sitting {
         requires unbroken { out.old.failed ≡ false }
         ensures text { Puts (out_of S.written S.faults out.old) (gone_for X.further (states_of_activities X.further count machine.old.machine) (seen machine.old.machine self.old)).text (out_of S.written S.faults out.new) }
         ensures gone { OnOk result (Gone X.further (states_of_activities X.further count machine.old.machine) machine.old.machine self.old.begun machine.new.machine self.new.begun) }
-        ensures halts { Halts X.further (states_of_activities X.further count machine.old.machine) machine.old.machine machine.new.machine }
+        ensures fails { OnErr result (FailsIn X.further activity_states (states_of_activities X.further count machine.old.machine) (gone_for X.further (states_of_activities X.further count machine.old.machine) (seen machine.old.machine self.old)).text machine.old.machine (out_of S.written S.faults out.old) machine.new.machine (out_of S.written S.faults out.new)) }
         ensures spent { Spends X.further (states_of_activities X.further count machine.old.machine) machine.old steps.old machine.new steps.new }
         ensures time { machine.new.machine.time ≤ machine.old.machine.time + 255 * count }
         ensures capacity { self.new.begun.capacity ≡ 33 }
@@ -115,7 +115,7 @@ impl Sitting {
         requires unbroken { out.old.failed ≡ false }
         ensures text { Puts (out_of S.written S.faults out.old) (gone_for X.further (states_of_run X.further self.old.breaks.items until machine.old.machine) (seen machine.old.machine self.old)).text (out_of S.written S.faults out.new) }
         ensures gone { OnOk result (Gone X.further (states_of_run X.further self.old.breaks.items until machine.old.machine) machine.old.machine self.old.begun machine.new.machine self.new.begun) }
-        ensures halts { Halts X.further (states_of_run X.further self.old.breaks.items until machine.old.machine) machine.old.machine machine.new.machine }
+        ensures fails { OnErr result (FailsIn X.further (states_at_once until) (states_of_run X.further self.old.breaks.items until machine.old.machine) (gone_for X.further (states_of_run X.further self.old.breaks.items until machine.old.machine) (seen machine.old.machine self.old)).text machine.old.machine (out_of S.written S.faults out.old) machine.new.machine (out_of S.written S.faults out.new)) }
         ensures spent { Spends X.further (states_of_run X.further self.old.breaks.items until machine.old.machine) machine.old steps.old machine.new steps.new }
         ensures time { machine.new.machine.time ≤ max until machine.old.machine.time }
         ensures capacity { self.new.begun.capacity ≡ 33 }
@@ -153,9 +153,9 @@ impl Sitting {
         ensures machine { OnOk result (machine.new.machine ≡ (after_command X.further lines.now command (seen machine.old.machine self.old)).machine) }
         ensures breaks { OnOk result (self.new.breaks.items ≡ (after_command X.further lines.now command (seen machine.old.machine self.old)).breaks) }
         ensures begun { OnOk result (self.new.begun ≡ buffer (keep_last 33 (after_command X.further lines.now command (seen machine.old.machine self.old)).begun) 33) }
-        ensures halts { OnErr result (Halts X.further (states_of X.further command (seen machine.old.machine self.old)) machine.old.machine machine.new.machine) }
+        ensures fails { OnErr result (FailsIn X.further (at_once_in command) (states_of X.further command (seen machine.old.machine self.old)) (after_command X.further lines.now command (seen machine.old.machine self.old)).text machine.old.machine (out_of S.written S.faults out.old) machine.new.machine (out_of S.written S.faults out.new)) }
         ensures spent { steps.new ≤ steps.old + 4 * work_in X.further command (seen machine.old.machine self.old) }
-        ensures moves { machine.new.moves ≤ machine.old.moves + (4 * work_in X.further command (seen machine.old.machine self.old) + 256) }
+        ensures moves { machine.new.moves ≤ machine.old.moves + (4 * work_in X.further command (seen machine.old.machine self.old) + bytes_of command) }
         ensures time { machine.new.machine.time ≤ max (10 ^ 15) machine.old.machine.time + 255000000 }
         ensures capacity { self.new.begun.capacity ≡ 33 }
         ensures written { OnOk result (out.new.failed ≡ false) }
@@ -197,7 +197,7 @@ impl Sitting {
         ensures machine { OnOk result (machine.new.machine ≡ (transcript X.further lines.now commands.now machine.old.machine).machine) }
         ensures stands { OnErr result (StandsIn X.further lines.now commands.now machine.old.machine (out_of S.written S.faults out.old) machine.new.machine (out_of S.written S.faults out.new)) }
         ensures spent { steps.new ≤ steps.old + 4 * work_of X.further lines.now commands.now (untouched machine.old.machine) }
-        ensures moves { machine.new.moves ≤ machine.old.moves + (4 * work_of X.further lines.now commands.now (untouched machine.old.machine) + 256 * length commands.now) }
+        ensures moves { machine.new.moves ≤ machine.old.moves + (4 * work_of X.further lines.now commands.now (untouched machine.old.machine) + bytes_shown commands.now) }
         ensures capacity { self.new.begun.capacity ≡ 33 }
         ensures written { OnOk result (out.new.failed ≡ false) }
         ensures failed { OnErr result (out.new.failed ≡ true) }
@@ -239,8 +239,10 @@ impl Session {
 
     /// Carries out a script over a machine that stands at state 10^15 at most, from no breakpoint and no activity on, and writes
     /// its transcript. Answers how the machine has ended, or `Spent` while it lives. The only refusal is that the sink failed;
-    /// a front of the transcript is written then, and the machine stands behind some states of the command in whose text the
-    /// sink failed. Units are called at most four times the work of the states that pass.
+    /// a front of the transcript is written then, and the machine stands at the end of the activity, or of the idle state, in whose
+    /// lines the sink failed, or where the command left it whose other text was not written. The last 254 states before the one
+    /// that `g` names pass one by one, so it stands at the end of such a state. Units are called at most four times the work of the
+    /// states that pass.
     pub fn run_script<X: Extra + Drop, S: Sink, L: Ledger>(
         &mut self,
         script: &Script,
@@ -254,7 +256,7 @@ impl Session {
         ensures machine { OnOk result (machine.new.machine ≡ (transcript X.further self.old script.now machine.old.machine).machine) }
         ensures stands { OnErr result (StandsIn X.further self.old script.now machine.old.machine (out_of S.written S.faults out.old) machine.new.machine (out_of S.written S.faults out.new)) }
         ensures spent { steps.new ≤ steps.old + 4 * work_of X.further self.old script.now (untouched machine.old.machine) }
-        ensures moves { machine.new.moves ≤ machine.old.moves + (4 * work_of X.further self.old script.now (untouched machine.old.machine) + 256 * length script.now) }
+        ensures moves { machine.new.moves ≤ machine.old.moves + (4 * work_of X.further self.old script.now (untouched machine.old.machine) + bytes_shown script.now) }
         ensures end { IfOk result (λ end. end ≡ end_of (transcript X.further self.old script.now machine.old.machine).machine) }
         ensures written { OnOk result (out.new.failed ≡ false) }
         ensures fault { IfErr result (λ fault. fault ≡ faults.WriteFault) }

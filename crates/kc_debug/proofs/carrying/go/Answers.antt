@@ -1,7 +1,7 @@
 use Rattle.std.proofs.Common.{◌≡◌, ℕ, ◌+◌, ◌-◌, sym, ap, ◌∙◌, arith}
-use Rattle.kc_debug.specs.Stops.{states_to_break, states_of_run}
+use Rattle.kc_debug.specs.Stops.{states_at_once, states_to_break, states_of_run}
 use Rattle.kc_debug.proofs.Begins.{break-none, break-past, break-there, break-any}
-use Rattle.kc_debug.proofs.Passing.{some_end, none_end, along-kept, along-first, along-lines, along-next, along-over, along-cut, along-done, spends-none, spends-add, spends-within, halts-at, halts-later}
+use Rattle.kc_debug.proofs.Passing.{some_end, none_end, along-kept, along-first, along-lines, along-next, along-over, along-cut, along-done, spends-none, spends-add, spends-within, always-failed, fails-later}
 use Rattle.kc_debug.proofs.carrying.go.Goals as goal
 
 pub loop-machine-init : goal.loop-machine-init
@@ -112,36 +112,26 @@ returns-clause-gone g c =
     let done = along-done g.X.Extra.further _ _ _ i.states _ _ _ _ i.along (omega (arith, i.rest, over)) in
     record { machine = done.machine; begun = done.begun }
 
-pub returns-then-is_some-clause-halts : goal.returns-then-is_some-clause-halts
-returns-then-is_some-clause-halts g c =
-    let i = c.loop-machine.invariant in
-    halts-at g.X.Extra.further i.states _ _ _ i.along.machine (omega (arith, i.rest))
-
 pub returns-then-is_some-clause-spent : goal.returns-then-is_some-clause-spent
 returns-then-is_some-clause-spent g c =
     let i = c.loop-machine.invariant in
     spends-within g.X.Extra.further i.states _ _ _ _ _ (omega (arith, i.rest)) i.spent
-
-pub returns-clause-halts : goal.returns-clause-halts
-returns-clause-halts g c =
-    let i = c.loop-machine.invariant in
-    halts-at g.X.Extra.further i.states _ _ _ i.along.machine (omega (arith, i.rest))
 
 pub returns-clause-spent : goal.returns-clause-spent
 returns-clause-spent g c =
     let i = c.loop-machine.invariant in
     spends-within g.X.Extra.further i.states _ _ _ _ _ (omega (arith, i.rest)) i.spent
 
-pub returns-in_err-pass-clause-halts : goal.returns-in_err-pass-clause-halts
-returns-in_err-pass-clause-halts g c =
+pub returns-in_err-pass-clause-fails : goal.returns-in_err-pass-clause-fails
+returns-in_err-pass-clause-fails g c =
     let f = g.X.Extra.further in
     let i = c.loop-machine.invariant in
     let m = c.loop-machine.machine.machine in
-    let passed = c.pass.ensures.passed in
+    let passed = c.in_err-pass.ensures.passed in
     let sum : c.args.until - m.time ≡ passed.0 + (c.args.until - m.time - passed.0) = omega (arith, passed.1) in
     let rest = break-any f c.args.breaks.now passed.0 (c.args.until - m.time - passed.0) m passed.3.some passed.2 in
     let all : states_of_run f c.args.breaks.now c.args.until m ≡ passed.0 + rest.0 = ap (λ k. states_to_break f c.args.breaks.now k m) sum ∙ rest.1 in
-    halts-later f i.states passed.0 _ _ _ _ i.along.machine passed.4 (omega (arith, i.rest, all))
+    always-failed _ (fails-later f (states_at_once c.args.until) i.states passed.0 _ _ _ _ _ _ _ i.along.machine i.along.lines passed.4 (omega (arith, i.rest, all)))
 
 pub returns-in_err-pass-clause-spent : goal.returns-in_err-pass-clause-spent
 returns-in_err-pass-clause-spent g c =
@@ -153,17 +143,6 @@ returns-in_err-pass-clause-spent g c =
     let rest = break-any f c.args.breaks.now passed.0 (c.args.until - m.time - passed.0) m passed.3.some passed.2 in
     let all : states_of_run f c.args.breaks.now c.args.until m ≡ passed.0 + rest.0 = ap (λ k. states_to_break f c.args.breaks.now k m) sum ∙ rest.1 in
     spends-within f (i.states + passed.0) _ _ _ _ _ (omega (arith, i.rest, all)) (spends-add f i.states passed.0 _ _ _ _ _ _ i.along.machine i.spent passed.5)
-
-pub returns-then-is_at_break-clause-halts : goal.returns-then-is_at_break-clause-halts
-returns-then-is_at_break-clause-halts g c =
-    let f = g.X.Extra.further in
-    let i = c.loop-machine.invariant in
-    let m = c.loop-machine.machine.machine in
-    let passed = c.in_ok-pass.ensures.passed in
-    let sum : c.args.until - m.time ≡ passed.0 + (c.args.until - m.time - passed.0) = omega (arith, passed.1) in
-    let rest = break-any f c.args.breaks.now passed.0 (c.args.until - m.time - passed.0) m passed.3.some passed.2 in
-    let all : states_of_run f c.args.breaks.now c.args.until m ≡ passed.0 + rest.0 = ap (λ k. states_to_break f c.args.breaks.now k m) sum ∙ rest.1 in
-    halts-later f i.states passed.0 _ _ _ _ i.along.machine passed.4 (omega (arith, i.rest, all))
 
 pub returns-then-is_at_break-clause-spent : goal.returns-then-is_at_break-clause-spent
 returns-then-is_at_break-clause-spent g c =

@@ -1,7 +1,7 @@
 use Rattle.std.proofs.Common.{◌≡◌, ℕ, ◌+◌, sym, ap, ◌∙◌, arith}
-use Rattle.kc_debug.specs.Stops.{states_of_activities}
+use Rattle.kc_debug.specs.Stops.{activity_states, states_of_activities}
 use Rattle.kc_debug.proofs.Begins.{states-none}
-use Rattle.kc_debug.proofs.Passing.{some_end, none_end, along-kept, along-first, along-lines, along-next, along-over, along-cut, along-done, spends-none, spends-add, spends-within, halts-at, halts-later}
+use Rattle.kc_debug.proofs.Passing.{some_end, none_end, along-kept, along-first, along-lines, along-next, along-over, along-cut, along-done, spends-none, spends-add, spends-within, always-failed, fails-later}
 use Rattle.kc_debug.proofs.carrying.step.Goals as goal
 
 pub loop-left-init : goal.loop-left-init
@@ -75,31 +75,21 @@ returns-clause-gone g c =
     let done = along-done g.X.Extra.further _ _ _ i.states _ _ _ _ i.along (omega (arith, i.rest, over)) in
     record { machine = done.machine; begun = done.begun }
 
-pub returns-then-is_some-clause-halts : goal.returns-then-is_some-clause-halts
-returns-then-is_some-clause-halts g c =
-    let i = c.loop-left.invariant in
-    halts-at g.X.Extra.further i.states _ _ _ i.along.machine (omega (arith, i.rest))
-
 pub returns-then-is_some-clause-spent : goal.returns-then-is_some-clause-spent
 returns-then-is_some-clause-spent g c =
     let i = c.loop-left.invariant in
     spends-within g.X.Extra.further i.states _ _ _ _ _ (omega (arith, i.rest)) i.spent
-
-pub returns-clause-halts : goal.returns-clause-halts
-returns-clause-halts g c =
-    let i = c.loop-left.invariant in
-    halts-at g.X.Extra.further i.states _ _ _ i.along.machine (omega (arith, i.rest))
 
 pub returns-clause-spent : goal.returns-clause-spent
 returns-clause-spent g c =
     let i = c.loop-left.invariant in
     spends-within g.X.Extra.further i.states _ _ _ _ _ (omega (arith, i.rest)) i.spent
 
-pub returns-in_err-passed-clause-halts : goal.returns-in_err-passed-clause-halts
-returns-in_err-passed-clause-halts g c =
+pub returns-in_err-passed-clause-fails : goal.returns-in_err-passed-clause-fails
+returns-in_err-passed-clause-fails g c =
     let i = c.loop-left.invariant in
-    let passed = c.pass_some.ensures.passed in
-    halts-later g.X.Extra.further i.states passed.0 _ _ _ _ i.along.machine passed.4 (omega (arith, i.rest, passed.2))
+    let passed = c.in_err-passed.ensures.passed in
+    always-failed _ (fails-later g.X.Extra.further activity_states i.states passed.0 _ _ _ _ _ _ _ i.along.machine i.along.lines passed.4 (omega (arith, i.rest, passed.2)))
 
 pub returns-in_err-passed-clause-spent : goal.returns-in_err-passed-clause-spent
 returns-in_err-passed-clause-spent g c =

@@ -1,5 +1,6 @@
 use Rattle.std.proofs.Common.{sym, ap, ◌∙◌, arith}
-use Rattle.kc_debug.proofs.Going.{goes_on, is_quit, going-first, going-next, going-cut, going-quit, going-done, going-stands, always-failed, paid-first, paid-next, paid-steps, paid-moves}
+use Rattle.kc_debug.proofs.Going.{goes_on, is_quit, going-first, going-next, going-cut, going-quit, going-done, going-stands, paid-first, paid-next, paid-steps, paid-moves}
+use Rattle.kc_debug.proofs.Passing.{always-failed}
 use Rattle.kc_debug.proofs.session.Sitting.carry_out_all.Goals as goal
 
 pub loop-index-init : goal.loop-index-init
@@ -50,18 +51,18 @@ pub returns-then-is_quit-clause-spent : goal.returns-then-is_quit-clause-spent
 returns-then-is_quit-clause-spent g c = paid-steps g.X.Extra.further c.args.lines.now c.args.commands.now _ _ _ _ _ _ c.loop-index.invariant.paid
 
 pub returns-then-is_quit-clause-moves : goal.returns-then-is_quit-clause-moves
-returns-then-is_quit-clause-moves g c = paid-moves g.X.Extra.further c.args.lines.now c.args.commands.now _ _ _ _ _ _ c.loop-index.invariant.paid (omega arith)
+returns-then-is_quit-clause-moves g c = paid-moves g.X.Extra.further c.args.lines.now c.args.commands.now _ _ _ _ _ _ c.loop-index.invariant.paid
 
 pub returns-clause-spent : goal.returns-clause-spent
 returns-clause-spent g c = paid-steps g.X.Extra.further c.args.lines.now c.args.commands.now _ _ _ _ _ _ c.loop-index.invariant.paid
 
 pub returns-clause-moves : goal.returns-clause-moves
-returns-clause-moves g c = paid-moves g.X.Extra.further c.args.lines.now c.args.commands.now _ _ _ _ _ _ c.loop-index.invariant.paid (omega arith)
+returns-clause-moves g c = paid-moves g.X.Extra.further c.args.lines.now c.args.commands.now _ _ _ _ _ _ c.loop-index.invariant.paid
 
 pub returns-in_err-carry_out-clause-stands : goal.returns-in_err-carry_out-clause-stands
 returns-in_err-carry_out-clause-stands g c =
     always-failed _ (going-stands g.X.Extra.further c.args.lines.now c.args.commands.now _ _ _ _ _ _ c.command_at-command.result _ _ c.loop-index.invariant.going c.loop-index.invariant.unbroken c.command_at-command.ensures.here
-    (sym c.is_quit.ensures ∙ c.if-is_quit.false) c.carry_out.ensures.text c.in_err-carry_out.ensures.failed c.in_err-carry_out.ensures.halts)
+    (sym c.is_quit.ensures ∙ c.if-is_quit.false) c.in_err-carry_out.ensures.fails)
 
 pub returns-in_err-carry_out-clause-spent : goal.returns-in_err-carry_out-clause-spent
 returns-in_err-carry_out-clause-spent g c =
@@ -73,4 +74,4 @@ pub returns-in_err-carry_out-clause-moves : goal.returns-in_err-carry_out-clause
 returns-in_err-carry_out-clause-moves g c =
     paid-moves g.X.Extra.further c.args.lines.now c.args.commands.now _ _ _ _ _ _
     (paid-next g.X.Extra.further c.args.lines.now c.args.commands.now _ _ _ _ _ _ c.command_at-command.result _ _ _ _ _ _ c.loop-index.invariant.going c.command_at-command.ensures.here
-    (sym c.is_quit.ensures ∙ c.if-is_quit.false) c.loop-index.invariant.paid c.carry_out.ensures.spent c.carry_out.ensures.moves) (omega arith)
+    (sym c.is_quit.ensures ∙ c.if-is_quit.false) c.loop-index.invariant.paid c.carry_out.ensures.spent c.carry_out.ensures.moves)

@@ -1,15 +1,16 @@
-use Rattle.std.proofs.Common.{◌++◌, sym, ap, subst, ◌∙◌}
-use Rattle.kc_trace.specs.Out.{Puts}
+use Rattle.std.proofs.Common.{◌++◌, inl, inr, refl, sym, ap, subst, ◌∙◌}
+use Rattle.kc_trace.specs.Out.{Puts, Prints}
 use Rattle.kc_trace.specs.Text.{text_of}
 use Rattle.kc_trace.specs.Trace.{out_of}
 use Rattle.kc_trace.proofs.Outs.{Puts-append, Puts-longer}
 use Rattle.kc_machine_spec.specs.Machine.{Machine}
 use Rattle.kc_machine_spec.specs.Run.{run_for}
 use Rattle.kc_debug.specs.Lines.{stand_line}
-use Rattle.kc_debug.specs.Passing.{Halts, Spends}
-use Rattle.kc_debug.specs.Stops.{states_of_run}
+use Rattle.kc_debug.specs.Passing.{Spends}
+use Rattle.kc_debug.specs.Stands.{FailsWithin}
+use Rattle.kc_debug.specs.Stops.{states_at_once, states_of_run}
 use Rattle.kc_debug.specs.Transcript.{new_end}
-use Rattle.kc_debug.proofs.Passing.{ran}
+use Rattle.kc_debug.proofs.Passing.{ran, always-failed, on-fault}
 use Rattle.kc_debug.proofs.session.Sitting.go.Goals as goal
 
 pub returns-in_err-go-clause-text : goal.returns-in_err-go-clause-text
@@ -36,26 +37,44 @@ returns-clause-text g c =
     let text = subst (λ e. Puts p (text_of (new_end e n) ++ stand_line n) q) c.ended-before.ensures c.tell_stand.ensures.text in
     Puts-append o _ p _ q lines (subst (λ (x : Machine _). Puts p (text_of (new_end m.ended x) ++ stand_line x) q) there text)
 
-pub returns-in_err-go-clause-halts : goal.returns-in_err-go-clause-halts
-returns-in_err-go-clause-halts g c =
-    let f = g.X.Extra.further in
-    let m = c.args.machine.now.machine in
-    subst (λ bs. Halts f (states_of_run f bs c.args.until m) m c.go.new.machine.machine) c.as_slice.ensures.value c.go.ensures.halts
-
 pub returns-in_err-go-clause-spent : goal.returns-in_err-go-clause-spent
 returns-in_err-go-clause-spent g c =
     let f = g.X.Extra.further in
     let m = c.args.machine.now in
     subst (λ bs. Spends f (states_of_run f bs c.args.until m.machine) m c.args.steps.now c.go.new.machine c.go.new.steps) c.as_slice.ensures.value c.go.ensures.spent
 
-pub returns-clause-halts : goal.returns-clause-halts
-returns-clause-halts g c =
-    let f = g.X.Extra.further in
-    let m = c.args.machine.now.machine in
-    subst (λ bs. Halts f (states_of_run f bs c.args.until m) m c.go.new.machine.machine) c.as_slice.ensures.value c.go.ensures.halts
-
 pub returns-clause-spent : goal.returns-clause-spent
 returns-clause-spent g c =
     let f = g.X.Extra.further in
     let m = c.args.machine.now in
     subst (λ bs. Spends f (states_of_run f bs c.args.until m.machine) m c.args.steps.now c.go.new.machine c.go.new.steps) c.as_slice.ensures.value c.go.ensures.spent
+
+pub returns-in_err-go-clause-fails : goal.returns-in_err-go-clause-fails
+returns-in_err-go-clause-fails g c =
+    let f = g.X.Extra.further in
+    let m = c.args.machine.now.machine in
+    let o = out_of g.S.Sink.written g.S.Sink.faults c.args.out.now in
+    let p = out_of g.S.Sink.written g.S.Sink.faults c.go.new.out in
+    always-failed _ (inl (subst (λ bs. FailsWithin f (states_at_once c.args.until) (states_of_run f bs c.args.until m) m o c.go.new.machine.machine p) c.as_slice.ensures.value c.in_err-go.ensures.fails))
+
+pub returns-clause-fails : goal.returns-clause-fails
+returns-clause-fails g c =
+    let f = g.X.Extra.further in
+    let m = c.args.machine.now.machine in
+    let n = c.go.new.machine.machine in
+    let o = out_of g.S.Sink.written g.S.Sink.faults c.args.out.now in
+    let p = out_of g.S.Sink.written g.S.Sink.faults c.go.new.out in
+    let q = out_of g.S.Sink.written g.S.Sink.faults c.tell_stand.new.out in
+    let there = (run_for f (states_of_run f c.args.self.now.breaks.items c.args.until m) m).machine in
+    let stands = c.in_ok-go.ensures.gone.machine ∙ ap (λ bs. (run_for f (states_of_run f bs c.args.until m) m).machine) c.as_slice.ensures.value in
+    let text = subst (λ e. Puts p (text_of (new_end e n) ++ stand_line n) q) c.ended-before.ensures c.tell_stand.ensures.text in
+    on-fault c.tell_stand.result c.tell_stand.ensures.failed (λ failed. inr (record {
+      mid = p;
+      whole = subst (λ bs. Prints o (run_for f (states_of_run f bs c.args.until m) m).records p) c.as_slice.ensures.value c.go.ensures.lines;
+      unbroken = c.in_ok-go.ensures.written;
+      rest = text_of (new_end m.ended there) ++ stand_line there;
+      says = refl;
+      part = subst (λ (x : Machine _). Puts p (text_of (new_end m.ended x) ++ stand_line x) q) stands text;
+      failed = failed;
+      machine = stands;
+    }))

@@ -1,12 +1,14 @@
-use Rattle.std.proofs.Common.{◌++◌, sym, subst, ◌∙◌}
+use Rattle.std.proofs.Common.{◌++◌, inl, inr, refl, sym, subst, ◌∙◌}
 use Rattle.kc_trace.specs.Out.{Puts}
 use Rattle.kc_trace.specs.Text.{text_of}
 use Rattle.kc_trace.specs.Trace.{out_of}
 use Rattle.kc_trace.proofs.Outs.{Puts-append, Puts-longer}
 use Rattle.kc_machine_spec.specs.Machine.{Machine}
+use Rattle.kc_machine_spec.specs.Run.{run_for}
 use Rattle.kc_debug.specs.Lines.{stand_line}
+use Rattle.kc_debug.specs.Stops.{states_of_activities}
 use Rattle.kc_debug.specs.Transcript.{new_end}
-use Rattle.kc_debug.proofs.Passing.{ran}
+use Rattle.kc_debug.proofs.Passing.{ran, always-failed, on-fault}
 use Rattle.kc_debug.proofs.session.Sitting.step.Goals as goal
 
 pub returns-in_err-step-clause-text : goal.returns-in_err-step-clause-text
@@ -22,3 +24,26 @@ returns-clause-text g c =
     let q = out_of g.S.Sink.written g.S.Sink.faults c.tell_stand.new.out in
     let text = subst (λ o. Puts p (text_of (new_end o n) ++ stand_line n) q) c.ended-before.ensures c.tell_stand.ensures.text in
     Puts-append _ _ p _ q c.step.ensures.lines.text (subst (λ (x : Machine _). Puts p (text_of (new_end c.args.machine.now.machine.ended x) ++ stand_line x) q) c.in_ok-step.ensures.gone.machine text)
+
+pub returns-in_err-step-clause-fails : goal.returns-in_err-step-clause-fails
+returns-in_err-step-clause-fails g c = always-failed _ (inl c.in_err-step.ensures.fails)
+
+pub returns-clause-fails : goal.returns-clause-fails
+returns-clause-fails g c =
+    let f = g.X.Extra.further in
+    let m = c.args.machine.now.machine in
+    let n = c.step.new.machine.machine in
+    let p = out_of g.S.Sink.written g.S.Sink.faults c.step.new.out in
+    let q = out_of g.S.Sink.written g.S.Sink.faults c.tell_stand.new.out in
+    let there = (run_for f (states_of_activities f c.args.count m) m).machine in
+    let text = subst (λ o. Puts p (text_of (new_end o n) ++ stand_line n) q) c.ended-before.ensures c.tell_stand.ensures.text in
+    on-fault c.tell_stand.result c.tell_stand.ensures.failed (λ failed. inr (record {
+      mid = p;
+      whole = c.step.ensures.lines;
+      unbroken = c.in_ok-step.ensures.written;
+      rest = text_of (new_end m.ended there) ++ stand_line there;
+      says = refl;
+      part = subst (λ (x : Machine _). Puts p (text_of (new_end m.ended x) ++ stand_line x) q) c.in_ok-step.ensures.gone.machine text;
+      failed = failed;
+      machine = c.in_ok-step.ensures.gone.machine;
+    }))
