@@ -4,26 +4,27 @@ _kc96() {
     local options files option given left=
     COMPREPLY=()
     if [ "$COMP_CWORD" -eq 1 ]; then
-        mapfile -t COMPREPLY < <(compgen -W 'run asm lib link hex dis debug gen --help --version' -- "$word")
+        mapfile -t COMPREPLY < <(compgen -W 'run asm lib link hex dis debug vcd gen explain --help --version' -- "$word")
         return
     fi
     case $command in
-    run) options='--states --stim --analog --reg --code --data --stack' files='a96' ;;
+    run) options='--states --lives --stim --analog --reg --code --data --stack' files='a96' ;;
     asm) options='--out' files='a96' ;;
     lib) options='--out' files='obj' ;;
-    link) options='--out --lib --lines --reg --code --data --stack' files='obj' ;;
-    hex) options='--states --stim --analog' files='hex' ;;
+    link) options='--out --lib --lines --map --reg --code --data --stack' files='obj' ;;
+    hex) options='--states --lives --stim --analog' files='hex' ;;
     dis) options='' files='hex' ;;
+    vcd) options='--out --clock' files='trace' ;;
     debug) options='--stim --analog --lines' files='hex' ;;
     *) return ;;
     esac
     case $before in
-    --stim | --analog | --out | --lib | --lines)
+    --stim | --analog | --out | --lib | --lines | --map)
         compopt -o filenames
         mapfile -t COMPREPLY < <(compgen -f -- "$word")
         return
         ;;
-    --states | --reg | --code | --data | --stack) return ;;
+    --states | --lives | --clock | --reg | --code | --data | --stack) return ;;
     esac
     for option in $options; do
         given=

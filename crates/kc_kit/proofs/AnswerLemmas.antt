@@ -1,13 +1,20 @@
 -- What follows from an answer: its status, the files that it writes, and its causes.
 use Rattle.std.proofs.Common.{◌≡◌, ◌≢◌, ◌⊎◌, inl, inr, ℕ, ◌+◌, ◌≤◌, Bool, true, false, cond, List, [], ◌∷◌, ◌++◌, length, map, take, drop, fold, Option, Some, None, Result, Ok, Err, refl, sym, ◌∙◌, ap, subst, arith}
+use Rattle.std.proofs.lemmas.List.{map-append}
 use Rattle.std.specs.Prelude.{nat_lt, IsSomeAnd, codes}
 use Rattle.std.specs.Result.{IsOk}
 use Rattle.std.specs.Option.{option_to_list}
 use Rattle.kc_base.specs.Held.{Holding, Told}
 use Rattle.kc_base.specs.Causes.{Rose}
+use Rattle.kc_base.specs.TextLines.{text_lines}
+use Rattle.kc_vcd.proofs.Readings.{never_wrong}
+use Rattle.kc_explain.specs.Codes.{all_codes}
+use Rattle.kc_explain.specs.Meanings.{Said, is_among, said_of, IsAnswer}
+use Rattle.kc_explain.proofs.Distinct.{meaning-is}
 use Rattle.kc_machine_spec.specs.declared.doing.End.{End}
 use Rattle.kc_machine_spec.specs.declared.doing.End.TheVariants as end
 use Rattle.kc_machine_spec.specs.Run.{end_of}
+use Rattle.kc_cycles.specs.Lives.{last_end}
 use Rattle.kc_stim.specs.declared.fault.StimFault.{StimFault}
 use Rattle.kc_stim.specs.Drives.{Drives}
 use Rattle.kc_convert.specs.declared.sample.Sample.{Sample}
@@ -32,10 +39,11 @@ use Rattle.kc_debug_script.specs.Script as scripts
 use Rattle.kc_lib.specs.declared.faults.LibFault.{LibFault}
 use Rattle.kc_lib.specs.Reading.{read_answer}
 use Rattle.kc_lib.specs.Names.{doubled}
+use Rattle.kc_kit_words.specs.declared.extent.Extent.{Extent}
 use Rattle.kc_kit_words.specs.declared.inputs.Role.{Role}
 use Rattle.kc_kit_words.specs.declared.inputs.Role.TheVariants as role
 use Rattle.kc_lib.specs.Taking.{AreTaken}
-use Rattle.kc_kit_words.specs.Words.{placing_of, Command, Helps, TellsVersion, Runs, Assembles, Packs, Links, RunsHex, Lists, Debugs, Generates}
+use Rattle.kc_kit_words.specs.Words.{placing_of, Beside, Command, Helps, TellsVersion, Runs, Assembles, Packs, Links, RunsHex, Lists, Debugs, Generates, Dumps, Explains}
 use Rattle.kc_kit_inputs.specs.declared.driving.Driving.{Driving}
 use Rattle.kc_kit_inputs.specs.Analog.{by_bad_line, values_of}
 use Rattle.kc_kit_inputs.specs.Driving.{GivenFiles, given_for, with_drives, driving_of}
@@ -48,17 +56,20 @@ use Rattle.kc_kit_inputs.specs.Scripts.{by_lines, script_of, lines_of}
 use Rattle.kc_kit_inputs.specs.Sources.{AreModules, TellsFault, TellsFirst, IsFaultless, AreFaultless}
 use Rattle.kc_kit_inputs.specs.Stimuli.{place_of, fault_line, by_fault, drives_of}
 use Rattle.kc_kit_answer.specs.Accepting.{Accepting, IsOneText, AreTwoTexts, told}
-use Rattle.kc_kit_answer.specs.Answer.{names_read, names_written, OneText, TwoTexts, Parted, CommandAnswer, MayAnswer, IsAccepted, StaysBut}
+use Rattle.kc_kit_answer.specs.Answer.{names_read, names_written, names_beside, OneText, TwoTexts, Parted, CommandAnswer, MayAnswer, IsAccepted, StaysBut}
 use Rattle.kc_kit_answer.specs.Assemble.{AssembleAnswer}
 use Rattle.kc_kit_answer.specs.Debug.{debugged_by, debug_reply, DebugAnswer, IsDebuggable}
+use Rattle.kc_kit_answer.specs.Dump.{DumpAnswer, IsTraceText}
+use Rattle.kc_kit_answer.specs.Explain.{explained_by, explained}
 use Rattle.kc_kit_answer.specs.Generate.{made_names, made_texts, made_given, summary_of}
 use Rattle.kc_kit_answer.specs.Hex.{HexTold, RunHexAnswer, ListingOf, ListAnswer}
 use Rattle.kc_kit_answer.specs.Lines.{link_line, member_words}
-use Rattle.kc_kit_answer.specs.Link.{IsMap, LinksTo, Taking, Completed, LinkAnswer, IsLinkable}
+use Rattle.kc_kit_answer.specs.Link.{IsMap, map_writes, LinksTo, Taking, Completed, LinkAnswer, IsLinkable}
 use Rattle.kc_kit_answer.specs.Pack.{packed, PackAnswer}
 use Rattle.kc_kit_answer.specs.Places.{by_places, places_of, Placing}
 use Rattle.kc_kit_answer.specs.Run.{Driven, LinkedTold, SourcesTold, RunAnswer}
-use Rattle.kc_kit_answer.specs.Running.{status_of, run_of, run_reply}
+use Rattle.kc_kit_answer.specs.Lives.{board_lives, reply_over, board_reply}
+use Rattle.kc_kit_answer.specs.Running.{status_of, run_of}
 
 -- ---- steps
 
@@ -141,8 +152,12 @@ told-end end.Powerdown = refl
 told-end end.Reset = refl
 told-end (end.Undefined what) = refl
 
-sound-run : (ns : List (List ℕ)) (states : ℕ) (driving : Driving) (image : List ℕ) → IsSound ns (run_reply (run_of states driving image))
-sound-run ns states driving image = record { told = told-end (end_of (run_of states driving image).machine); named = inl refl }
+sound-run : (ns : List (List ℕ)) (extent : Extent) (driving : Driving) (image : List ℕ) → IsSound ns (board_reply extent driving image)
+sound-run ns extent driving image = by extent.lives
+  where
+    by : (lives : Option ℕ) → IsSound ns (reply_over lives extent.states driving image)
+    by None = record { told = told-end (end_of (run_of extent.states driving image).machine); named = inl refl }
+    by (Some most) = record { told = told-end (last_end (board_lives most extent.states driving image)); named = inl refl }
 
 sound-summary : (ns : List (List ℕ)) (number : ℕ) (driving : Driving) (image : List ℕ) → IsSound ns (summary_of number driving image)
 sound-summary ns number driving image = record { told = told-end (end_of (run_of 1000000 driving image).machine); named = inl refl }
@@ -236,12 +251,16 @@ sound-two ns may [] r f h = absurd h
 sound-two ns may (t ∷ []) r f h = absurd h
 sound-two ns may (t ∷ u ∷ v ∷ texts) r f h = absurd h
 
-sound-links : (out : List ℕ) (lines : Option (List ℕ)) (ms : List Object) (places : Places) (r : Reply) → LinksTo out lines ms places r → IsSound (out ∷ option_to_list lines) r
-sound-links out lines ms places r h = subst (IsSound (out ∷ option_to_list lines)) (sym h.done) (record { told = refl; named = inr (ap (λ l. out ∷ l) (by lines h.is_map)) })
+sound-links : (out : List ℕ) (beside : Beside) (ranges : Ranges) (ms : List Object) (places : Places) (r : Reply) → LinksTo out beside ranges ms places r → IsSound (out ∷ names_beside beside) r
+sound-links out beside ranges ms places r h = subst (IsSound (out ∷ names_beside beside)) (sym h.done) (record { told = refl; named = inr (ap (λ l. out ∷ l) (map-append (λ (w : Write). w.name) h.more (map_writes beside.map ms ranges places) ∙ (ap (λ l. l ++ map (λ (w : Write). w.name) (map_writes beside.map ms ranges places)) (by beside.lines h.is_map) ∙ ap (λ l. option_to_list beside.lines ++ l) (named beside.map)))) })
   where
     by : (lines : Option (List ℕ)) → IsMap lines ms places h.more → map (λ (w : Write). w.name) h.more ≡ option_to_list lines
     by None k = ap (map (λ (w : Write). w.name)) k
     by (Some name) k = ap (map (λ (w : Write). w.name)) k.2
+
+    named : (m : Option (List ℕ)) → map (λ (w : Write). w.name) (map_writes m ms ranges places) ≡ option_to_list m
+    named None = refl
+    named (Some name) = refl
 
 sound-taking : (ns names : List (List ℕ)) (library : List ℕ) (may : List (List ℕ) → List Object → Reply → Type 0) (ms members : List Object) (r : Reply) →
     ((files : List (List ℕ)) (all : List Object) → may files all r → IsSound ns r) → Taking names library may ms members r → IsSound ns r
@@ -254,13 +273,13 @@ sound-completed ns names None may ms r f h = f names ms h
 sound-completed ns names (Some library) may ms r f h =
     then-all (IsSound ns) (library_of library.0 library.1) (Taking names library.0 may ms) r (sound-library ns library.0 (read_answer library.1)) (λ members e k. sound-taking ns names library.0 may ms members r f k) h
 
-sound-link : (names : List (List ℕ)) (library : Option (List ℕ × List ℕ)) (out : List ℕ) (lines : Option (List ℕ)) (ranges : Ranges) (texts : List (List ℕ)) (r : Reply) →
-    Then (modules_of object_of names texts) (Completed names library (λ files. Placing files ranges (LinksTo out lines))) r → IsSound (out ∷ option_to_list lines) r
-sound-link names library out lines ranges texts r h =
-    let ns = out ∷ option_to_list lines in
-    then-all (IsSound ns) (modules_of object_of names texts) (Completed names library (λ files. Placing files ranges (LinksTo out lines))) r (sound-modules ns names texts)
-    (λ ms e k. sound-completed ns names library (λ files. Placing files ranges (LinksTo out lines)) ms r
-    (λ files all l. then-all (IsSound ns) (places_of files all ranges) (LinksTo out lines all) r (sound-places ns files (placed all ranges)) (λ places f m. sound-links out lines all places r m) l) k) h
+sound-link : (names : List (List ℕ)) (library : Option (List ℕ × List ℕ)) (out : List ℕ) (beside : Beside) (ranges : Ranges) (texts : List (List ℕ)) (r : Reply) →
+    Then (modules_of object_of names texts) (Completed names library (λ files. Placing files ranges (LinksTo out beside ranges))) r → IsSound (out ∷ names_beside beside) r
+sound-link names library out beside ranges texts r h =
+    let ns = out ∷ names_beside beside in
+    then-all (IsSound ns) (modules_of object_of names texts) (Completed names library (λ files. Placing files ranges (LinksTo out beside ranges))) r (sound-modules ns names texts)
+    (λ ms e k. sound-completed ns names library (λ files. Placing files ranges (LinksTo out beside ranges)) ms r
+    (λ files all l. then-all (IsSound ns) (places_of files all ranges) (LinksTo out beside ranges all) r (sound-places ns files (placed all ranges)) (λ places f m. sound-links out beside ranges all places r m) l) k) h
 
 sound-packed : (out : List ℕ) (ms : List Object) (double : Option (List ℕ)) → IsSound (out ∷ []) (packed out ms double)
 sound-packed out ms None = record { told = refl; named = inr refl }
@@ -271,29 +290,37 @@ sound-pack names out texts r h =
     then-all (IsSound (out ∷ [])) (modules_of object_of names texts) (λ ms reply. reply ≡ packed out ms (doubled ms)) r (sound-modules (out ∷ []) names texts)
     (λ ms e k. subst (IsSound (out ∷ [])) (sym k) (sound-packed out ms (doubled ms))) h
 
+sound-dump : (name out : List ℕ) (clock : ℕ) (text : List ℕ) (r : Reply) → DumpAnswer name out clock text r → IsSound (out ∷ []) r
+sound-dump name out clock text r (Ok items, read, h) = subst (IsSound (out ∷ [])) (sym h) (record { told = refl; named = inr refl })
+sound-dump name out clock text r (Err e, told, h) = subst (IsSound (out ∷ [])) (sym (h ∙ told.2)) (sound-says (out ∷ []) status.Input (input_line name told.0 (codes "BADTRACE")) refl)
+
+sound-explained : (ns : List (List ℕ)) (code : List ℕ) (row : Option Said) → IsSound ns (explained_by code row)
+sound-explained ns code (Some row) = sound-says ns status.Done _ refl
+sound-explained ns code None = sound-says ns status.Missing _ refl
+
 pub sound-command : (c : Command) (contents : List (Option (List ℕ))) (r : Reply) → CommandAnswer (Some c) contents r → IsSound (names_written (Some c)) r
 sound-command Helps contents r h = subst (IsSound []) (sym h) (sound-says [] status.Done _ refl)
 sound-command TellsVersion contents r h = subst (IsSound []) (sym h) (sound-says [] status.Done _ refl)
-sound-command (Runs files inputs states placing) contents r h =
+sound-command (Runs files inputs extent placing) contents r h =
     let names = files ++ names_of inputs in
-    then-all (IsSound []) (reads_of names contents) (Parted (length files) (RunAnswer files inputs states placing)) r (sound-reads [] names contents)
-    (λ texts e k. sound-sources [] files (given_for inputs (drop (length files) texts)) placing (take (length files) texts) (λ driving image. run_reply (run_of states driving image)) r
-    (λ driving image. sound-run [] states driving image) k) h
+    then-all (IsSound []) (reads_of names contents) (Parted (length files) (RunAnswer files inputs extent placing)) r (sound-reads [] names contents)
+    (λ texts e k. sound-sources [] files (given_for inputs (drop (length files) texts)) placing (take (length files) texts) (board_reply extent) r
+    (λ driving image. sound-run [] extent driving image) k) h
 sound-command (Assembles file out) contents r h =
     then-all (IsSound (out ∷ [])) (reads_of (file ∷ []) contents) (OneText (AssembleAnswer file out)) r (sound-reads (out ∷ []) (file ∷ []) contents)
     (λ texts e k. sound-one (out ∷ []) (AssembleAnswer file out) texts r (λ t l. sound-object-of file out t r l) k) h
 sound-command (Packs files out) contents r h =
     then-all (IsSound (out ∷ [])) (reads_of files contents) (PackAnswer files out) r (sound-reads (out ∷ []) files contents) (λ texts e k. sound-pack files out texts r k) h
-sound-command (Links files inputs out lines placing) contents r h =
-    let ns = out ∷ option_to_list lines in
+sound-command (Links files inputs out beside placing) contents r h =
+    let ns = out ∷ names_beside beside in
     let names = files ++ names_of inputs in
-    then-all (IsSound ns) (reads_of names contents) (Parted (length files) (LinkAnswer files inputs out lines placing)) r (sound-reads ns names contents)
-    (λ texts e k. sound-link files (input_for role.Library inputs (drop (length files) texts)) out lines placing (take (length files) texts) r k) h
-sound-command (RunsHex file inputs states) contents r h =
+    then-all (IsSound ns) (reads_of names contents) (Parted (length files) (LinkAnswer files inputs out beside placing)) r (sound-reads ns names contents)
+    (λ texts e k. sound-link files (input_for role.Library inputs (drop (length files) texts)) out beside placing (take (length files) texts) r k) h
+sound-command (RunsHex file inputs extent) contents r h =
     let names = file ∷ names_of inputs in
-    then-all (IsSound []) (reads_of names contents) (Parted 1 (λ texts more. OneText (λ text. RunHexAnswer file inputs states text more) texts)) r (sound-reads [] names contents)
-    (λ texts e k. sound-one [] (λ text. RunHexAnswer file inputs states text (drop 1 texts)) (take 1 texts) r
-    (λ t l. sound-hex-told [] file (given_for inputs (drop 1 texts)) t (λ driving image. run_reply (run_of states driving image)) r (λ driving image. sound-run [] states driving image) l) k) h
+    then-all (IsSound []) (reads_of names contents) (Parted 1 (λ texts more. OneText (λ text. RunHexAnswer file inputs extent text more) texts)) r (sound-reads [] names contents)
+    (λ texts e k. sound-one [] (λ text. RunHexAnswer file inputs extent text (drop 1 texts)) (take 1 texts) r
+    (λ t l. sound-hex-told [] file (given_for inputs (drop 1 texts)) t (board_reply extent) r (λ driving image. sound-run [] extent driving image) l) k) h
 sound-command (Lists file first last) contents r h =
     then-all (IsSound []) (reads_of (file ∷ []) contents) (OneText (ListAnswer file first last)) r (sound-reads [] (file ∷ []) contents)
     (λ texts e k. sound-one [] (ListAnswer file first last) texts r
@@ -305,6 +332,10 @@ sound-command (Debugs file script inputs) contents r h =
     (λ t u l. sound-hex-told [] file (given_for inputs (drop 2 texts)) t (debug_reply (script, u) (input_for role.Lines inputs (drop 2 texts))) r
     (λ driving image. sound-debug [] (script, u) (input_for role.Lines inputs (drop 2 texts)) driving image) l) k) h
 sound-command (Generates number) contents r h = sound-sources [] made_names (made_given number) (placing_of []) (made_texts number) (summary_of number) r (λ driving image. sound-summary [] number driving image) h
+sound-command (Dumps file out clock) contents r h =
+    then-all (IsSound (out ∷ [])) (reads_of (file ∷ []) contents) (OneText (DumpAnswer file out clock)) r (sound-reads (out ∷ []) (file ∷ []) contents)
+    (λ texts e k. sound-one (out ∷ []) (DumpAnswer file out clock) texts r (λ t l. sound-dump file out clock t r l) k) h
+sound-command (Explains code) contents r h = subst (IsSound []) (sym h) (sound-explained [] code (said_of code))
 
 -- a read that has failed
 failed-says : (names : List (List ℕ)) (contents : List (Option (List ℕ))) (rose : Type 0) (r : Reply) → FailedRead names contents rose r → rose × (r.status ≡ status.ReadFault) × (r.writes ≡ [])
@@ -483,8 +514,12 @@ accepted-then accepts may (Err e) r f ok h = absurd ok
 done-told : (r told : Reply) → r ≡ told → IsDone told.status → IsDone r.status
 done-told r told e h = subst (λ (k : Reply). IsDone k.status) (sym e) h
 
-done-run : (states : ℕ) (driving : Driving) (image : List ℕ) → IsDone (run_reply (run_of states driving image)).status
-done-run states driving image = done-end (end_of (run_of states driving image).machine)
+done-run : (extent : Extent) (driving : Driving) (image : List ℕ) → IsDone (board_reply extent driving image).status
+done-run extent driving image = by extent.lives
+  where
+    by : (lives : Option ℕ) → IsDone (reply_over lives extent.states driving image).status
+    by None = done-end (end_of (run_of extent.states driving image).machine)
+    by (Some most) = done-end (last_end (board_lives most extent.states driving image))
 
 no-fault : (name text : List ℕ) (r : Reply) → IsFaultless text → TellsFault name text r → ⊥
 no-fault name text r none h = none h.0 h.1 h.2
@@ -542,47 +577,57 @@ done-debug file script inputs text commands texts r a h =
     (λ d m. done-told r (debug_reply (script, commands) lines d image) m
     (done-step (script_of script commands) _ a.script_read (λ cs. done-step (lines_of lines) _ a.lines (λ entries. done-end (end_of (debugged_by entries cs d image).machine))))) a.driving k) a.image h
 
-done-placed : (files : List (List ℕ)) (out : List ℕ) (lines : Option (List ℕ)) (ranges : Ranges) (ms : List Object) (r : Reply) → IsOk (places_of files ms ranges) → Placing files ranges (LinksTo out lines) ms r → IsDone r.status
-done-placed files out lines ranges ms r a h = done-then (places_of files ms ranges) (LinksTo out lines ms) r (λ places k. inl (ap (λ (e : Reply). e.status) k.done)) a h
+done-placed : (files : List (List ℕ)) (out : List ℕ) (beside : Beside) (ranges : Ranges) (ms : List Object) (r : Reply) → IsOk (places_of files ms ranges) → Placing files ranges (LinksTo out beside ranges) ms r → IsDone r.status
+done-placed files out beside ranges ms r a h = done-then (places_of files ms ranges) (LinksTo out beside ranges ms) r (λ places k. inl (ap (λ (e : Reply). e.status) k.done)) a h
 
-done-taking : (names : List (List ℕ)) (library out : List ℕ) (lines : Option (List ℕ)) (ranges : Ranges) (ms members : List Object) (r : Reply) →
+done-taking : (names : List (List ℕ)) (library out : List ℕ) (beside : Beside) (ranges : Ranges) (ms members : List Object) (r : Reply) →
     ((taken : List Object) → AreTaken ms members taken → (length ms + length taken ≤ 64) × IsOk (places_of (names ++ member_words library taken) (ms ++ taken) ranges)) →
-    Taking names library (λ files. Placing files ranges (LinksTo out lines)) ms members r → IsDone r.status
-done-taking names library out lines ranges ms members r a (Ok taken, is, h) = done-placed (names ++ member_words library taken) out lines ranges (ms ++ taken) r (a taken is.0).1 h
-done-taking names library out lines ranges ms members r a (Err e, is, h) = absurd (omega (arith, (a is.0 is.1).0, is.2))
+    Taking names library (λ files. Placing files ranges (LinksTo out beside ranges)) ms members r → IsDone r.status
+done-taking names library out beside ranges ms members r a (Ok taken, is, h) = done-placed (names ++ member_words library taken) out beside ranges (ms ++ taken) r (a taken is.0).1 h
+done-taking names library out beside ranges ms members r a (Err e, is, h) = absurd (omega (arith, (a is.0 is.1).0, is.2))
 
-done-completed : (names : List (List ℕ)) (library : Option (List ℕ × List ℕ)) (out : List ℕ) (lines : Option (List ℕ)) (ranges : Ranges) (ms : List Object) (r : Reply) →
-    IsLinkable names library ranges ms → Completed names library (λ files. Placing files ranges (LinksTo out lines)) ms r → IsDone r.status
-done-completed names None out lines ranges ms r a h = done-placed names out lines ranges ms r a h
-done-completed names (Some library) out lines ranges ms r a h =
-    accepted-then _ (Taking names library.0 (λ files. Placing files ranges (LinksTo out lines)) ms) (library_of library.0 library.1) r
-    (λ members b k. done-taking names library.0 out lines ranges ms members r b k) a h
+done-completed : (names : List (List ℕ)) (library : Option (List ℕ × List ℕ)) (out : List ℕ) (beside : Beside) (ranges : Ranges) (ms : List Object) (r : Reply) →
+    IsLinkable names library ranges ms → Completed names library (λ files. Placing files ranges (LinksTo out beside ranges)) ms r → IsDone r.status
+done-completed names None out beside ranges ms r a h = done-placed names out beside ranges ms r a h
+done-completed names (Some library) out beside ranges ms r a h =
+    accepted-then _ (Taking names library.0 (λ files. Placing files ranges (LinksTo out beside ranges)) ms) (library_of library.0 library.1) r
+    (λ members b k. done-taking names library.0 out beside ranges ms members r b k) a h
 
 done-packed : (out : List ℕ) (ms : List Object) (double : Option (List ℕ)) → double ≡ None → IsDone (packed out ms double).status
 done-packed out ms None e = inl refl
 done-packed out ms (Some name) e = absurd (cc)
 
+done-dump : (name out : List ℕ) (clock : ℕ) (texts : List (List ℕ)) (r : Reply) → IsOneText IsTraceText texts → OneText (DumpAnswer name out clock) texts r → IsDone r.status
+done-dump name out clock (t ∷ []) r a (Ok items, read, h) = inl (ap (λ (k : Reply). k.status) h)
+done-dump name out clock (t ∷ []) r a (Err e, told, h) = absurd (never_wrong (text_lines t) a.0 told.0 a.1 told.1)
+done-dump name out clock [] r a h = absurd h
+done-dump name out clock (t ∷ u ∷ texts) r a h = absurd h
+
+done-explained : (code : List ℕ) (row : Option Said) → IsAnswer all_codes code row → is_among code all_codes ≡ true → IsDone (explained_by code row).status
+done-explained code (Some row) is a = inl refl
+done-explained code None is a = absurd (let e : false ≡ true = sym is ∙ a in cc)
+
 pub done-command : (c : Option Command) (contents : List (Option (List ℕ))) (r : Reply) → IsAccepted c contents → CommandAnswer c contents r → IsDone r.status
 done-command None contents r a h = absurd a
 done-command (Some Helps) contents r a h = inl (ap (λ (k : Reply). k.status) h)
 done-command (Some TellsVersion) contents r a h = inl (ap (λ (k : Reply). k.status) h)
-done-command (Some (Runs files inputs states placing)) contents r a h =
-    accepted-then _ (Parted (length files) (RunAnswer files inputs states placing)) (reads_of (files ++ names_of inputs) contents) r
-    (λ texts b k. done-sources files (given_for inputs (drop (length files) texts)) placing (take (length files) texts) (λ driving image. run_reply (run_of states driving image)) r
-    (λ driving image. done-run states driving image) b.0 b.1 b.2 k) a h
+done-command (Some (Runs files inputs extent placing)) contents r a h =
+    accepted-then _ (Parted (length files) (RunAnswer files inputs extent placing)) (reads_of (files ++ names_of inputs) contents) r
+    (λ texts b k. done-sources files (given_for inputs (drop (length files) texts)) placing (take (length files) texts) (board_reply extent) r
+    (λ driving image. done-run extent driving image) b.0 b.1 b.2 k) a h
 done-command (Some (Assembles file out)) contents r a h = accepted-then _ (OneText (AssembleAnswer file out)) (reads_of (file ∷ []) contents) r (λ texts b k. done-objects file out texts r b k) a h
 done-command (Some (Packs files out)) contents r a h =
     accepted-then _ (PackAnswer files out) (reads_of files contents) r
     (λ texts b k. accepted-then _ (λ ms reply. reply ≡ packed out ms (doubled ms)) (modules_of object_of files texts) r (λ ms c l. done-told r (packed out ms (doubled ms)) l (done-packed out ms (doubled ms) c)) b k) a h
-done-command (Some (Links files inputs out lines placing)) contents r a h =
-    accepted-then _ (Parted (length files) (LinkAnswer files inputs out lines placing)) (reads_of (files ++ names_of inputs) contents) r
-    (λ texts b k. accepted-then _ (Completed files (input_for role.Library inputs (drop (length files) texts)) (λ names. Placing names placing (LinksTo out lines))) (modules_of object_of files (take (length files) texts)) r
-    (λ ms c l. done-completed files (input_for role.Library inputs (drop (length files) texts)) out lines placing ms r c l) b k) a h
-done-command (Some (RunsHex file inputs states)) contents r a h =
-    accepted-then _ (Parted 1 (λ texts more. OneText (λ text. RunHexAnswer file inputs states text more) texts)) (reads_of (file ∷ names_of inputs) contents) r
-    (λ texts b k. done-one file (λ image. Then (driving_of (given_for inputs (drop 1 texts))) (λ driving reply. reply ≡ run_reply (run_of states driving image))) (take 1 texts) r
-    (λ image l. done-then (driving_of (given_for inputs (drop 1 texts))) (λ driving reply. reply ≡ run_reply (run_of states driving image)) r
-    (λ d m. done-told r (run_reply (run_of states d image)) m (done-run states d image)) b.1 l) b.0 k) a h
+done-command (Some (Links files inputs out beside placing)) contents r a h =
+    accepted-then _ (Parted (length files) (LinkAnswer files inputs out beside placing)) (reads_of (files ++ names_of inputs) contents) r
+    (λ texts b k. accepted-then _ (Completed files (input_for role.Library inputs (drop (length files) texts)) (λ names. Placing names placing (LinksTo out beside placing))) (modules_of object_of files (take (length files) texts)) r
+    (λ ms c l. done-completed files (input_for role.Library inputs (drop (length files) texts)) out beside placing ms r c l) b k) a h
+done-command (Some (RunsHex file inputs extent)) contents r a h =
+    accepted-then _ (Parted 1 (λ texts more. OneText (λ text. RunHexAnswer file inputs extent text more) texts)) (reads_of (file ∷ names_of inputs) contents) r
+    (λ texts b k. done-one file (λ image. Then (driving_of (given_for inputs (drop 1 texts))) (λ driving reply. reply ≡ board_reply extent driving image)) (take 1 texts) r
+    (λ image l. done-then (driving_of (given_for inputs (drop 1 texts))) (λ driving reply. reply ≡ board_reply extent driving image) r
+    (λ d m. done-told r (board_reply extent d image) m (done-run extent d image)) b.1 l) b.0 k) a h
 done-command (Some (Lists file first last)) contents r a h =
     accepted-then _ (OneText (ListAnswer file first last)) (reads_of (file ∷ []) contents) r
     (λ texts b k. done-one file (ListingOf first last) texts r (λ image l. inl (ap (λ (k : Reply). k.status) l)) b k) a h
@@ -593,6 +638,8 @@ done-command (Some (Debugs file script inputs)) contents r a h =
 done-command (Some (Generates number)) contents r a h =
     done-sources made_names (made_given number) (placing_of []) (made_texts number) (summary_of number) r
     (λ driving image. done-end (end_of (run_of 1000000 driving image).machine)) a.sources a.modules a.driving h
+done-command (Some (Dumps file out clock)) contents r a h = accepted-then _ (OneText (DumpAnswer file out clock)) (reads_of (file ∷ []) contents) r (λ texts b k. done-dump file out clock texts r b k) a h
+done-command (Some (Explains code)) contents r a h = done-told r (explained code) h (done-explained code (said_of code) (meaning-is code) a)
 
 -- a reply without a fault outside is done, or for want of memory
 pub done-of : (c : Option Command) (told : Option Holding) (rose : Type 0) (old : Kept) (before : Shown) (given : Status) (new : Kept) (now : Shown) →

@@ -10,8 +10,8 @@ ghost use Rattle.kc_kit_answer.specs.Jobs.{IsDoable, IsOf, IsReady};
 
 use kc_base::{Files, Sink};
 use kc_kit_answer::{
-    HELP, Job, VERSION, perform, prepare_assemble, prepare_debug, prepare_generate, prepare_hex,
-    prepare_link, prepare_list, prepare_pack, prepare_run,
+    HELP, Job, VERSION, explain_code, perform, prepare_assemble, prepare_debug, prepare_dump,
+    prepare_generate, prepare_hex, prepare_link, prepare_list, prepare_pack, prepare_run,
 };
 use kc_kit_files::{Refusal, Status, refuse, say};
 use kc_kit_words::{Command, read_words};
@@ -116,6 +116,11 @@ fn done<F: Files, S: Sink>(
             let prepared = prepare_generate(alloc, generate.number);
             finish(alloc, prepared, files, out)
         }
+        Command::Dump(dump) => {
+            let prepared = prepare_dump(alloc, dump, files);
+            finish(alloc, prepared, files, out)
+        }
+        Command::Explain(explain) => explain_code(alloc, explain.code, out),
     }
 }
 

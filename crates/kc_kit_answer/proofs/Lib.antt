@@ -2,6 +2,7 @@ pub mod AnswerSteps
 pub mod DebugLemmas
 pub mod LinkLemmas
 pub mod Listed
+pub mod LivesLemmas
 pub mod MadeLemmas
 pub mod RunLemmas
 pub mod SourceLemmas

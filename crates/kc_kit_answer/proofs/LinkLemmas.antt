@@ -1,16 +1,20 @@
 -- Modules that break a rule of the linker, and the words that name their files.
 use Rattle.std.proofs.Common.{◌≡◌, ℕ, zero, suc, ◌<◌, ◌≤◌, List, [], ◌∷◌, length, get_or, string_bytes, String, Global, Option, Some, None, Ok, Err, refl, sym, ◌∙◌, ap, subst, arith}
-use Rattle.std.specs.Prelude.{slice_get}
+use Rattle.std.specs.Prelude.{slice_get, Result}
 use Rattle.kc_obj.specs.Object.{Object}
 use Rattle.kc_link_place.specs.declared.ranges.Ranges.{Ranges}
 use Rattle.kc_link_place.specs.declared.ranges.LinkFault.{LinkFault}
 use Rattle.kc_link_place.specs.declared.ranges.LinkFault.TheVariants as faults
-use Rattle.kc_link_place.specs.Placing.{Places, IsCause}
-use Rattle.kc_link.specs.Placed.{placed}
+use Rattle.kc_link_place.specs.Placing.{Places, located, IsCause}
+use Rattle.kc_link.specs.Placed.{placed, with_places, or_fault, unfit}
 use Rattle.kc_kit_files.specs.declared.status.Status.TheVariants as status
 use Rattle.kc_kit_files.specs.declared.refusal.Refusal.{Refusal}
 use Rattle.kc_kit_files.specs.declared.refusal.Refusal.TheVariants as refusals
-use Rattle.kc_kit_files.specs.Reply.{Reply, says, IsRefused}
+use Rattle.kc_kit_files.specs.Reply.{Reply, Write, write, says, done_writing, Then, IsRefused}
+use Rattle.kc_kit_words.specs.Words.{Beside}
+use Rattle.kc_hex.specs.Spelling.{spelling}
+use Rattle.kc_link.specs.Filled.{IsImage}
+use Rattle.kc_kit_answer.specs.Link.{IsMap, LinksTo, AreLineMaps, AreMaps, map_writes}
 use Rattle.kc_kit_files.proofs.ReadLemmas.{refused-widen}
 use Rattle.std.specs.Prelude.{◌-◌, ◌++◌}
 use Rattle.std.proofs.lemmas.List.{append-nil}
@@ -41,9 +45,55 @@ link-refused names ms ranges may fault refusal cause line memory = by fault refl
     by (faults.Capacity kind index) e c = told c
     by (faults.Range index piece offset) e c = told c
 
+-- pieces that are placed are located
+pub placed-located : (ms : List Object) (ranges : Ranges) (p : Places) → placed ms ranges ≡ Ok p → located ms ranges ≡ Ok p
+unfolding placed
+placed-located ms ranges p e = by (located ms ranges) refl e
+  where
+    or-ok : (fault : Option LinkFault) (q : Places) → or_fault fault q ≡ Ok p → q ≡ p
+    or-ok None q e = cc
+    or-ok (Some fault) q e = absurd (cc)
+
+    by : (r : Result Places LinkFault) → located ms ranges ≡ r → with_places ms r ≡ Ok p → located ms ranges ≡ Ok p
+    by (Ok q) f e = f ∙ ap Ok (or-ok (unfit ms q 0 ms) q e)
+    by (Err fault) f e = absurd (cc)
+
 -- the same places
 pub same-places : (ms : List Object) (ranges : Ranges) (p q : Places) → placed ms ranges ≡ Ok p → placed ms ranges ≡ Ok q → q ≡ p
 same-places ms ranges p q e f = cc
+
+-- what is written of a line map is that of the places
+lines-at : (lines : Option (List ℕ)) (ms : List Object) (ranges : Ranges) (places : Places) (writes : List Write) → placed ms ranges ≡ Ok places → AreLineMaps lines ms ranges writes → IsMap lines ms places writes
+lines-at None ms ranges places writes e h = h
+lines-at (Some name) ms ranges places writes e h = subst (λ p. IsMap (Some name) ms p writes) (same-places ms ranges places h.0 e h.1) h.2
+
+-- and what is written of a map
+map-at : (name : Option (List ℕ)) (ms : List Object) (ranges : Ranges) (places : Places) (writes : List Write) → placed ms ranges ≡ Ok places → AreMaps name ms ranges writes → writes ≡ map_writes name ms ranges places
+map-at None ms ranges places writes e h = h
+map-at (Some name) ms ranges places writes e h =
+    let there : located ms ranges ≡ Ok places = placed-located ms ranges places e in
+    let same : h.0 ≡ places = same-located there h.1 in
+    h.2 ∙ ap (map_writes (Some name) ms ranges) same
+  where
+    same-located : {p q : Places} → located ms ranges ≡ Ok p → located ms ranges ≡ Ok q → q ≡ p
+    same-located e f = cc
+
+-- the files of a linked image
+pub linked-files : (names : List (List ℕ)) (out : List ℕ) (beside : Beside) (ranges : Ranges) (ms : List Object) (image bytes : List ℕ) (first second : List Write) →
+    IsImage ms ranges (Ok image) → bytes ≡ spelling image → AreLineMaps beside.lines ms ranges first → AreMaps beside.map ms ranges second →
+    Placing names ranges (LinksTo out beside ranges) ms (done_writing (write out bytes ∷ first ++ second))
+linked-files names out beside ranges ms image bytes first second linked spelled lines maps =
+    let places = linked.0 in
+    let is : placed ms ranges ≡ Ok places = linked.1.0 in
+    let reply = done_writing (write out bytes ∷ first ++ second) in
+    let files : LinksTo out beside ranges ms places reply = record {
+      image = image;
+      is_filled = linked.1.1;
+      more = first;
+      is_map = lines-at beside.lines ms ranges places first is lines;
+      done = λ i. done_writing (write out (spelled i) ∷ first ++ map-at beside.map ms ranges places second is maps i);
+    } in
+    subst (λ r. Then (by_places names r) (LinksTo out beside ranges ms) reply) (sym is) files
 
 -- the word of a module's file
 abbrev file_word : Option (List ℕ) → List ℕ

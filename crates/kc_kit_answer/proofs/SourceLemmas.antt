@@ -1,5 +1,5 @@
 -- The image of sources.
-use Rattle.std.proofs.Common.{◌≡◌, ℕ, zero, suc, ◌≤◌, List, [], ◌∷◌, length, Option, Some, None, Result, Ok, Err, refl, ap, subst}
+use Rattle.std.proofs.Common.{◌≡◌, ℕ, zero, suc, ◌≤◌, List, [], ◌∷◌, length, Some, None, Result, Ok, Err, refl, ap, subst}
 use Rattle.std.specs.Prelude.{slice_get, true}
 use Rattle.std.specs.List.{list_all}
 use Rattle.kc_source_statement.specs.declared.statement.Stmt.{Stmt}

@@ -1,20 +1,24 @@
 -- What the kit answers to a command line over what the files hold (this kit's own).
-use Rattle.std.specs.Prelude.{◌≡◌, ◌≢◌, ◌⊎◌, ℕ, List, [], ◌∷◌, ◌++◌, length, take, drop, Option, Some, None}
+use Rattle.std.specs.Prelude.{◌≡◌, true, ◌≢◌, ◌⊎◌, ℕ, List, [], ◌∷◌, ◌++◌, length, take, drop, Option, Some, None}
 use Rattle.std.specs.Result.{IsOk}
 use Rattle.std.specs.Option.{option_to_list}
 use Rattle.kc_base.specs.Causes.{Rose}
 use Rattle.kc_base.specs.Held.{Holding}
 use Rattle.kc_hex.specs.Records.{image_of}
+use Rattle.kc_explain.specs.Codes.{all_codes}
+use Rattle.kc_explain.specs.Meanings.{is_among}
 use Rattle.kc_kit_files.specs.declared.status.Status.TheVariants as status
 use Rattle.kc_kit_files.specs.Reply.{Reply, says, Then}
 use Rattle.kc_kit_files.specs.Reads.{reads_of, Holds, FailedRead}
-use Rattle.kc_kit_words.specs.Words.{Command, Helps, TellsVersion, Runs, Assembles, Packs, Links, RunsHex, Lists, Debugs, Generates}
+use Rattle.kc_kit_words.specs.Words.{Beside, Command, Helps, TellsVersion, Runs, Assembles, Packs, Links, RunsHex, Lists, Debugs, Generates, Dumps, Explains}
 use Rattle.kc_kit_inputs.specs.Driving.{given_for, driving_of}
 use Rattle.kc_kit_inputs.specs.Inputs.{names_of}
 use Rattle.kc_kit_inputs.specs.Sources.{IsFaultless}
 use Rattle.kc_kit_answer.specs.Accepting.{Accepting, IsOneText, AreTwoTexts}
 use Rattle.kc_kit_answer.specs.Assemble.{AssembleAnswer}
 use Rattle.kc_kit_answer.specs.Debug.{DebugAnswer, IsDebuggable}
+use Rattle.kc_kit_answer.specs.Dump.{DumpAnswer, IsTraceText}
+use Rattle.kc_kit_answer.specs.Explain.{explained}
 use Rattle.kc_kit_answer.specs.Generate.{GenerateAnswer, IsGenerable}
 use Rattle.kc_kit_answer.specs.Hex.{RunHexAnswer, ListAnswer}
 use Rattle.kc_kit_answer.specs.Lines.{help_text, version_line, usage_line}
@@ -25,19 +29,25 @@ use Rattle.kc_kit_answer.specs.Run.{RunAnswer, AreRunnable}
 -- ---- the files that a command names: those that are read, in this order, and those that are written
 
 abbrev pub names_read : Option Command → List (List ℕ)
-names_read (Some (Runs files inputs states placing)) = files ++ names_of inputs
+names_read (Some (Runs files inputs extent placing)) = files ++ names_of inputs
 names_read (Some (Assembles file out)) = file ∷ []
 names_read (Some (Packs files out)) = files
-names_read (Some (Links files inputs out lines placing)) = files ++ names_of inputs
-names_read (Some (RunsHex file inputs states)) = file ∷ names_of inputs
+names_read (Some (Links files inputs out beside placing)) = files ++ names_of inputs
+names_read (Some (RunsHex file inputs extent)) = file ∷ names_of inputs
 names_read (Some (Lists file first last)) = file ∷ []
 names_read (Some (Debugs file script inputs)) = file ∷ script ∷ names_of inputs
+names_read (Some (Dumps file out clock)) = file ∷ []
 names_read _ = []
+
+-- the files beside a hex file
+abbrev pub names_beside : Beside → List (List ℕ)
+names_beside beside = option_to_list beside.lines ++ option_to_list beside.map
 
 abbrev pub names_written : Option Command → List (List ℕ)
 names_written (Some (Assembles file out)) = out ∷ []
 names_written (Some (Packs files out)) = out ∷ []
-names_written (Some (Links files inputs out lines placing)) = out ∷ option_to_list lines
+names_written (Some (Links files inputs out beside placing)) = out ∷ names_beside beside
+names_written (Some (Dumps file out clock)) = out ∷ []
 names_written _ = []
 
 -- ---- commands
@@ -61,17 +71,19 @@ abbrev pub CommandAnswer : Option Command → List (Option (List ℕ)) → Reply
 CommandAnswer None contents reply = reply ≡ says status.Usage usage_line
 CommandAnswer (Some Helps) contents reply = reply ≡ says status.Done help_text
 CommandAnswer (Some TellsVersion) contents reply = reply ≡ says status.Done version_line
-CommandAnswer (Some (Runs files inputs states placing)) contents reply = Then (reads_of (files ++ names_of inputs) contents) (Parted (length files) (RunAnswer files inputs states placing)) reply
+CommandAnswer (Some (Runs files inputs extent placing)) contents reply = Then (reads_of (files ++ names_of inputs) contents) (Parted (length files) (RunAnswer files inputs extent placing)) reply
 CommandAnswer (Some (Assembles file out)) contents reply = Then (reads_of (file ∷ []) contents) (OneText (AssembleAnswer file out)) reply
 CommandAnswer (Some (Packs files out)) contents reply = Then (reads_of files contents) (PackAnswer files out) reply
-CommandAnswer (Some (Links files inputs out lines placing)) contents reply =
-    Then (reads_of (files ++ names_of inputs) contents) (Parted (length files) (LinkAnswer files inputs out lines placing)) reply
-CommandAnswer (Some (RunsHex file inputs states)) contents reply =
-    Then (reads_of (file ∷ names_of inputs) contents) (Parted 1 (λ texts more. OneText (λ text. RunHexAnswer file inputs states text more) texts)) reply
+CommandAnswer (Some (Links files inputs out beside placing)) contents reply =
+    Then (reads_of (files ++ names_of inputs) contents) (Parted (length files) (LinkAnswer files inputs out beside placing)) reply
+CommandAnswer (Some (RunsHex file inputs extent)) contents reply =
+    Then (reads_of (file ∷ names_of inputs) contents) (Parted 1 (λ texts more. OneText (λ text. RunHexAnswer file inputs extent text more) texts)) reply
 CommandAnswer (Some (Lists file first last)) contents reply = Then (reads_of (file ∷ []) contents) (OneText (ListAnswer file first last)) reply
 CommandAnswer (Some (Debugs file script inputs)) contents reply =
     Then (reads_of (file ∷ script ∷ names_of inputs) contents) (Parted 2 (λ texts more. TwoTexts (λ text commands. DebugAnswer file script inputs text commands more) texts)) reply
 CommandAnswer (Some (Generates number)) contents reply = GenerateAnswer number reply
+CommandAnswer (Some (Dumps file out clock)) contents reply = Then (reads_of (file ∷ []) contents) (OneText (DumpAnswer file out clock)) reply
+CommandAnswer (Some (Explains code)) contents reply = reply ≡ explained code
 
 -- What may be answered to a command, over what the files tell that they hold: all files are read before any is judged. A read may
 -- fail where the count of failed reads rose.
@@ -83,25 +95,27 @@ MayAnswer command told rose reply =
 abbrev pub MayAnswerBy : {T : Type 0} → (T → Option Holding) → (T → ℕ) → Option Command → T → T → Reply → Type 0
 MayAnswerBy held reads command old new reply = MayAnswer command (held old) (Rose (reads old) (reads new)) reply
 
--- ---- what is accepted: a command, each file held within its limit and in its form, no source with a fault, and no rule of the
--- ---- linker broken
+-- ---- what is accepted: a command, each file held within its limit and in its form, no source with a fault, no rule of the linker
+-- ---- broken, and a code where one is to be explained
 
 abbrev pub IsAccepted : Option Command → List (Option (List ℕ)) → Type 0
 IsAccepted None contents = ⊥
 IsAccepted (Some Helps) contents = Unit {0}
 IsAccepted (Some TellsVersion) contents = Unit {0}
-IsAccepted (Some (Runs files inputs states placing)) contents =
+IsAccepted (Some (Runs files inputs extent placing)) contents =
     Accepting (λ texts. AreRunnable files inputs placing (take (length files) texts) (drop (length files) texts)) (reads_of (files ++ names_of inputs) contents)
 IsAccepted (Some (Assembles file out)) contents = Accepting (IsOneText IsFaultless) (reads_of (file ∷ []) contents)
 IsAccepted (Some (Packs files out)) contents = Accepting (ArePackable files) (reads_of files contents)
-IsAccepted (Some (Links files inputs out lines placing)) contents =
+IsAccepted (Some (Links files inputs out beside placing)) contents =
     Accepting (λ texts. AreLinkable files inputs placing (take (length files) texts) (drop (length files) texts)) (reads_of (files ++ names_of inputs) contents)
-IsAccepted (Some (RunsHex file inputs states)) contents =
+IsAccepted (Some (RunsHex file inputs extent)) contents =
     Accepting (λ texts. IsOneText (λ text. IsOk (image_of text)) (take 1 texts) × IsOk (driving_of (given_for inputs (drop 1 texts)))) (reads_of (file ∷ names_of inputs) contents)
 IsAccepted (Some (Lists file first last)) contents = Accepting (IsOneText (λ text. IsOk (image_of text))) (reads_of (file ∷ []) contents)
 IsAccepted (Some (Debugs file script inputs)) contents =
     Accepting (λ texts. AreTwoTexts (λ text commands. IsDebuggable script inputs text commands (drop 2 texts)) (take 2 texts)) (reads_of (file ∷ script ∷ names_of inputs) contents)
 IsAccepted (Some (Generates number)) contents = IsGenerable number
+IsAccepted (Some (Dumps file out clock)) contents = Accepting (IsOneText IsTraceText) (reads_of (file ∷ []) contents)
+IsAccepted (Some (Explains code)) contents = is_among code all_codes ≡ true
 
 -- ---- no name changes but those of files that are written
 

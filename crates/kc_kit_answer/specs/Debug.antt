@@ -1,5 +1,5 @@
 -- The command that debugs a hex file by a script (this kit's own).
-use Rattle.std.specs.Prelude.{ℕ, List, [], ◌∷◌, Option}
+use Rattle.std.specs.Prelude.{ℕ, List, Option}
 use Rattle.std.specs.Result.{IsOk}
 use Rattle.kc_hex.specs.Records.{image_of}
 use Rattle.kc_machine_spec.specs.Run.{end_of}

@@ -1,10 +1,10 @@
 -- The further units that are fitted to every board: the serial port, the converter and the pulse-width outputs, in this order of
 -- asking (this kit's own). What each says of itself stands with its crate, and what two say together with `Pair`.
-use Rattle.std.proofs.Common.{ℕ, refl, arith}
+use Rattle.std.proofs.Common.{ℕ, List, refl, arith}
 use Rattle.kc_base.specs.Bits.{bit}
 use Rattle.kc_base.specs.declared.types.Level.{Level}
 use Rattle.kc_span.specs.Span.{Counted}
-use Rattle.kc_stim.specs.Drives.{Drives}
+use Rattle.kc_stim.specs.Drives.{Drives, driven_from}
 use Rattle.kc_extra.specs.Further.{Further}
 use Rattle.kc_extra.specs.declared.extra.Extra as extra
 use Rattle.kc_extra.specs.declared.pair.Pair.{Pair}
@@ -14,6 +14,7 @@ use Rattle.kc_serial.specs.Port.{rxd, level_of, start as start_of_port}
 use Rattle.kc_serial.specs.declared.serial.Serial.{Serial}
 use Rattle.kc_serial.specs.contracts.serial.Serial as serial_type
 use Rattle.kc_serial.specs.contracts.serial.SerialExtra.TheImpl as serial
+use Rattle.kc_convert.specs.declared.sample.Sample.{Sample}
 use Rattle.kc_convert.specs.Converting.{Converting, new_converter}
 use Rattle.kc_convert.specs.Pulsing.{new_pulses}
 use Rattle.kc_convert.specs.declared.pulses.Pulses.{Pulses}
@@ -50,12 +51,20 @@ fitted_agrees = fitted_says.agrees
 abbrev pub rxd_before : Drives → Level
 rxd_before drives = level_of (bit (stimulated_before drives 0) rxd)
 
--- the port is off, and RXD has its level before state 0; no conversion has begun, and each width is 0
-abbrev pub fitted : Driving → FittedUnit
-fitted driving = record {
-  first = start_of_port (rxd_before driving.stimuli);
-  second = record { first = record { inner = new_converter driving.values 0; moves = 0 }; second = new_pulses; moves = 0; few = omega arith; apart = refl };
+-- The port is off, and RXD has its level before state 0. No conversion has begun, and the converter's state 0 is this state of
+-- the values. Each width is 0.
+abbrev pub units_at : Drives → List Sample → ℕ → FittedUnit
+units_at drives values from = record {
+  first = start_of_port (rxd_before drives);
+  second = record { first = record { inner = new_converter values from; moves = 0 }; second = new_pulses; moves = 0; few = omega arith; apart = refl };
   moves = 0;
   few = omega arith;
   apart = refl;
 }
+
+abbrev pub fitted : Driving → FittedUnit
+fitted driving = units_at driving.stimuli driving.values 0
+
+-- before the first state of the life that begins at a state of what drives the inputs
+abbrev pub fitted_for : List Sample → Drives → ℕ → FittedUnit
+fitted_for values drives from = units_at (driven_from from drives) values from

@@ -3,19 +3,20 @@ use Rattle.std.specs.Prelude.{◌≡◌, ℕ, List}
 use Rattle.kc_code_listing.specs.Listing.{listing}
 use Rattle.kc_kit_files.specs.declared.status.Status.TheVariants as status
 use Rattle.kc_kit_files.specs.Reply.{Reply, says, Then}
+use Rattle.kc_kit_words.specs.declared.extent.Extent.{Extent}
 use Rattle.kc_kit_words.specs.declared.inputs.Role.{Role}
 use Rattle.kc_kit_inputs.specs.declared.driving.Driving.{Driving}
 use Rattle.kc_kit_inputs.specs.Driving.{GivenFiles, given_for, driving_of}
 use Rattle.kc_kit_inputs.specs.Hex.{hex_of}
-use Rattle.kc_kit_answer.specs.Running.{run_reply, run_of}
+use Rattle.kc_kit_answer.specs.Lives.{board_reply}
 
 -- the image of a hex file is judged, then what drives the inputs, and with both the answer is this
 abbrev pub HexTold : List ℕ → GivenFiles → List ℕ → (Driving → List ℕ → Reply) → Reply → Type 0
 HexTold name given text tell reply = Then (hex_of name text) (λ image. Then (driving_of given) (λ driving reply. reply ≡ tell driving image)) reply
 
 -- the answer to a hex file that is run
-abbrev pub RunHexAnswer : List ℕ → List (Role × List ℕ) → ℕ → List ℕ → List (List ℕ) → Reply → Type 0
-RunHexAnswer name inputs states text input_texts reply = HexTold name (given_for inputs input_texts) text (λ driving image. run_reply (run_of states driving image)) reply
+abbrev pub RunHexAnswer : List ℕ → List (Role × List ℕ) → Extent → List ℕ → List (List ℕ) → Reply → Type 0
+RunHexAnswer name inputs extent text input_texts reply = HexTold name (given_for inputs input_texts) text (board_reply extent) reply
 
 abbrev pub ListingOf : ℕ → ℕ → List ℕ → Reply → Type 0
 ListingOf first last image reply = reply ≡ says status.Done (listing image first last)

@@ -1,5 +1,5 @@
 -- What is left to do once a command's files are read and judged (this kit's own).
-use Rattle.std.specs.Prelude.{◌≡◌, ℕ, ◌≤◌, List, [], ◌∷◌, Option, Some, None, Result, Ok, Err}
+use Rattle.std.specs.Prelude.{◌≡◌, ℕ, ◌≤◌, List, [], ◌∷◌, ◌++◌, Option, Some, None, Result, Ok, Err}
 use Rattle.kc_code_listing.specs.Listing.{listing}
 use Rattle.kc_base.specs.Causes.{Rose}
 use Rattle.kc_base.specs.Held.{Holding}
@@ -8,7 +8,7 @@ use Rattle.kc_kit_files.specs.declared.status.Status.TheVariants as status
 use Rattle.kc_kit_files.specs.Outside.{Kept, OnlyRead, Wrote, WroteByPart}
 use Rattle.kc_kit_files.specs.declared.refusal.Refusal.{Refusal}
 use Rattle.kc_kit_files.specs.Reply.{Reply, Write, write, says, done_writing, IsRefused, IsSaid}
-use Rattle.kc_kit_words.specs.Values.{max_states}
+use Rattle.kc_kit_words.specs.Asked.{IsBounded}
 use Rattle.kc_kit_words.specs.Words.{Command}
 use Rattle.kc_kit_inputs.specs.declared.driving.Driving.{Driving}
 use Rattle.kc_kit_answer.specs.declared.board.Board.{Board}
@@ -18,7 +18,7 @@ use Rattle.kc_kit_answer.specs.declared.job.Output.{Output}
 use Rattle.kc_kit_answer.specs.Answer.{MayAnswerBy}
 use Rattle.kc_kit_answer.specs.Debug.{debugged_by, script_reply}
 use Rattle.kc_kit_answer.specs.Generate.{summary_of}
-use Rattle.kc_kit_answer.specs.Running.{run_of, run_reply}
+use Rattle.kc_kit_answer.specs.Lives.{board_reply}
 
 abbrev pub written : Output → Write
 written o = write o.name.now o.bytes.items
@@ -29,19 +29,19 @@ maybe_written (Some o) = written o ∷ []
 
 -- the reply of a job
 abbrev pub does : Job → Reply
-does (job.Run board states) = run_reply (run_of states board.driving board.image)
+does (job.Run board extent) = board_reply extent board.driving board.image
 does (job.Count board number) = summary_of number board.driving board.image
 does (job.List image first last) = says status.Done (listing image first last)
 does (job.Debug board script lines) = script_reply (debugged_by lines script board.driving board.image)
-does (job.Write file more) = done_writing (written file ∷ maybe_written more)
+does (job.Write file lines map) = done_writing (written file ∷ maybe_written lines ++ maybe_written map)
 
--- state times within their limit, and addresses in order
+-- state times and lives within their limits, and addresses in order
 abbrev pub IsDoable : Job → Type 0
-IsDoable (job.Run board states) = states ≤ max_states
+IsDoable (job.Run board extent) = IsBounded extent
 IsDoable (job.Count board number) = Unit {0}
 IsDoable (job.List image first last) = (0x2000 ≤ first) × (first ≤ last)
 IsDoable (job.Debug board script lines) = Unit {0}
-IsDoable (job.Write file more) = Unit {0}
+IsDoable (job.Write file lines map) = Unit {0}
 
 -- a board with an image and what drives its inputs, on which what is answered depends; or a refusal that may be answered
 abbrev pub IsBoard : ((Driving → List ℕ → Reply) → Reply → Type 0) → Result Board Refusal → Type 0

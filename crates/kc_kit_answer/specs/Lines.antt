@@ -1,10 +1,9 @@
 -- The lines of broken rules of the linker, other texts that are printed, and the text of a line map (this kit's own).
 use Rattle.std.specs.Prelude.{ℕ, List, [], ◌++◌, codes, decimal, flat_map, map, Some, None, slice_get}
 use Rattle.kc_obj.specs.Object.{Object}
-use Rattle.kc_obj.specs.declared.parts.SegKind.{SegKind}
-use Rattle.kc_obj.specs.declared.parts.SegKind.TheVariants as kind
 use Rattle.kc_link_place.specs.declared.ranges.LinkFault.{LinkFault}
 use Rattle.kc_link_place.specs.declared.ranges.LinkFault.TheVariants as fault
+use Rattle.kc_link_map.specs.Map.{kind_word}
 use Rattle.kc_link.specs.declared.lines.LineAt.{LineAt}
 use Rattle.kc_trace.specs.Text.{hex}
 use Rattle.kc_kit_answer.specs.declared.help.TheConstants.{HELP, VERSION}
@@ -19,12 +18,6 @@ abbrev pub usage_line : List ℕ
 usage_line = codes "usage\n"
 
 -- ---- broken rules of the linker
-
-abbrev pub kind_word : SegKind → List ℕ
-kind_word kind.Reg = codes "reg"
-kind_word kind.Code = codes "code"
-kind_word kind.Ram = codes "data"
-kind_word kind.Stack = codes "stack"
 
 -- the word that names a module's file; that of the one stack of all modules is `-`
 abbrev pub file_at : List (List ℕ) → ℕ → List ℕ

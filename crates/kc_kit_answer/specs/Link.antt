@@ -1,15 +1,19 @@
--- The command that links objects: the hex file first, and then the line map where one is asked for (this kit's own).
-use Rattle.std.specs.Prelude.{◌≡◌, ℕ, ◌+◌, ◌≤◌, List, [], ◌∷◌, ◌++◌, length, Option, Some, None, Result}
+-- The command that links objects: the hex file first, and then the line map and the map of pieces and names where they are asked
+-- for (this kit's own).
+use Rattle.std.specs.Prelude.{◌≡◌, ℕ, ◌+◌, ◌≤◌, List, [], ◌∷◌, ◌++◌, length, Option, Some, None, Result, Ok}
 use Rattle.std.specs.Result.{IsOk}
 use Rattle.kc_obj.specs.Object.{Object}
 use Rattle.kc_lib.specs.Taking.{AreTaken}
 use Rattle.kc_link_place.specs.declared.ranges.Ranges.{Ranges}
-use Rattle.kc_link_place.specs.Placing.{Places}
+use Rattle.kc_link_place.specs.Placing.{Places, located}
+use Rattle.kc_link.specs.Placed.{placed}
+use Rattle.kc_link_map.specs.Map.{map_text as link_map_text}
 use Rattle.kc_link.specs.declared.lines.LineAt.{LineAt}
 use Rattle.kc_link.specs.Filled.{IsFilled}
 use Rattle.kc_link.specs.LineMap.{IsLineMap}
 use Rattle.kc_hex.specs.Spelling.{spelling}
 use Rattle.kc_kit_files.specs.Reply.{Reply, Write, write, done_writing, Then}
+use Rattle.kc_kit_words.specs.Words.{Beside}
 use Rattle.kc_kit_words.specs.declared.inputs.Role.{Role}
 use Rattle.kc_kit_words.specs.declared.inputs.Role.TheVariants as role
 use Rattle.kc_kit_inputs.specs.Inputs.{input_for}
@@ -19,16 +23,31 @@ use Rattle.kc_kit_answer.specs.Accepting.{Accepting}
 use Rattle.kc_kit_answer.specs.Lines.{member_words, map_text}
 use Rattle.kc_kit_answer.specs.Places.{places_of, Placing}
 
+-- the line map, where one is asked for
 abbrev pub IsMap : Option (List ℕ) → List Object → Places → List Write → Type 0
 IsMap None ms places writes = writes ≡ []
 IsMap (Some name) ms places writes = (entries : List LineAt) × IsLineMap ms places entries × (writes ≡ write name (map_text entries) ∷ [])
 
-pub record LinksTo (out : List ℕ) (lines : Option (List ℕ)) (ms : List Object) (places : Places) (reply : Reply) : Type 0 where
+-- the map of pieces and names, where one is asked for
+abbrev pub map_writes : Option (List ℕ) → List Object → Ranges → Places → List Write
+map_writes None ms ranges places = []
+map_writes (Some name) ms ranges places = write name (link_map_text ms ranges places) ∷ []
+
+-- what is written of a line map, and of a map, once all pieces are placed
+abbrev pub AreLineMaps : Option (List ℕ) → List Object → Ranges → List Write → Type 0
+AreLineMaps None ms ranges writes = writes ≡ []
+AreLineMaps (Some name) ms ranges writes = (places : Places) × (placed ms ranges ≡ Ok places) × IsMap (Some name) ms places writes
+
+abbrev pub AreMaps : Option (List ℕ) → List Object → Ranges → List Write → Type 0
+AreMaps None ms ranges writes = writes ≡ []
+AreMaps (Some name) ms ranges writes = (places : Places) × (located ms ranges ≡ Ok places) × (writes ≡ map_writes (Some name) ms ranges places)
+
+pub record LinksTo (out : List ℕ) (beside : Beside) (ranges : Ranges) (ms : List Object) (places : Places) (reply : Reply) : Type 0 where
   pub image : List ℕ
   pub is_filled : IsFilled ms places image
   pub more : List Write
-  pub is_map : IsMap lines ms places more
-  pub done : reply ≡ done_writing (write out (spelling image) ∷ more)
+  pub is_map : IsMap beside.lines ms places more
+  pub done : reply ≡ done_writing (write out (spelling image) ∷ more ++ map_writes beside.map ms ranges places)
 
 -- ---- a library, by its name and its text: the members that the modules take follow them
 
@@ -43,9 +62,9 @@ Completed names None may ms reply = may names ms reply
 Completed names (Some library) may ms reply = Then (library_of library.0 library.1) (Taking names library.0 may ms) reply
 
 -- the answer to objects that were read, and to a library where one was
-abbrev pub LinkAnswer : List (List ℕ) → List (Role × List ℕ) → List ℕ → Option (List ℕ) → Ranges → List (List ℕ) → List (List ℕ) → Reply → Type 0
-LinkAnswer names inputs out lines ranges texts input_texts reply =
-    Then (modules_of object_of names texts) (Completed names (input_for role.Library inputs input_texts) (λ files. Placing files ranges (LinksTo out lines))) reply
+abbrev pub LinkAnswer : List (List ℕ) → List (Role × List ℕ) → List ℕ → Beside → Ranges → List (List ℕ) → List (List ℕ) → Reply → Type 0
+LinkAnswer names inputs out beside ranges texts input_texts reply =
+    Then (modules_of object_of names texts) (Completed names (input_for role.Library inputs input_texts) (λ files. Placing files ranges (LinksTo out beside ranges))) reply
 
 -- ---- what is accepted: at most 64 modules and taken members, and no rule of the linker is broken
 

@@ -15,12 +15,13 @@ use Rattle.kc_link_place.specs.declared.ranges.Ranges.{Ranges}
 use Rattle.kc_link_place.specs.Placing.{Places}
 use Rattle.kc_link.specs.Filled.{IsFilled}
 use Rattle.kc_kit_files.specs.Reply.{Reply, Then}
+use Rattle.kc_kit_words.specs.declared.extent.Extent.{Extent}
 use Rattle.kc_kit_words.specs.declared.inputs.Role.{Role}
 use Rattle.kc_kit_inputs.specs.declared.driving.Driving.{Driving}
 use Rattle.kc_kit_inputs.specs.Driving.{GivenFiles, given_for, driving_of}
 use Rattle.kc_kit_inputs.specs.Sources.{AreModules, SourcesAre, AreFaultless}
 use Rattle.kc_kit_answer.specs.Places.{places_of, Placing}
-use Rattle.kc_kit_answer.specs.Running.{run_reply, run_of}
+use Rattle.kc_kit_answer.specs.Lives.{board_reply}
 
 -- the statements of sources, and the drafts of their modules
 abbrev pub AreDrafted : List (List ℕ) → List (List Stmt) → List Draft → List Object → Type 0
@@ -59,9 +60,9 @@ SourcesTold names given ranges texts tell reply =
     (sources : Result (List Object) Reply) × SourcesAre names texts sources × Then sources (Placing names ranges (Driven given (LinkedTold texts) tell)) reply
 
 -- the answer to sources that are run
-abbrev pub RunAnswer : List (List ℕ) → List (Role × List ℕ) → ℕ → Ranges → List (List ℕ) → List (List ℕ) → Reply → Type 0
-RunAnswer names inputs states ranges texts input_texts reply =
-    SourcesTold names (given_for inputs input_texts) ranges texts (λ driving image. run_reply (run_of states driving image)) reply
+abbrev pub RunAnswer : List (List ℕ) → List (Role × List ℕ) → Extent → Ranges → List (List ℕ) → List (List ℕ) → Reply → Type 0
+RunAnswer names inputs extent ranges texts input_texts reply =
+    SourcesTold names (given_for inputs input_texts) ranges texts (board_reply extent) reply
 
 -- ---- what is accepted: no source has a fault, no rule of the linker is broken, and what drives the inputs has its form
 

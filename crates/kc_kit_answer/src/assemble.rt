@@ -42,5 +42,9 @@ fn object_text<'a>(alloc: Global, assemble: &Assemble<'a>, text: &[u8]) -> Resul
         name: assemble.out,
         bytes,
     };
-    Ok(Job::Write { file, more: None })
+    Ok(Job::Write {
+        file,
+        lines: None,
+        map: None,
+    })
 }

@@ -1,11 +1,11 @@
 // The machine of a board with its further units.
-ghost use Rattle.std.specs.Prelude.{◌≡◌, ℕ, bit_xor, IfOk};
+ghost use Rattle.std.specs.Prelude.{◌≡◌, ◌≤◌, ℕ, bit_xor, IfOk};
 ghost use Rattle.kc_block_spec.specs.Levels.{stimulated_before};
-ghost use Rattle.kc_kit_answer.specs.Fitted.{fitted, fitted_agrees, rxd_before};
+ghost use Rattle.kc_kit_answer.specs.Fitted.{units_at, fitted_agrees, rxd_before};
 ghost use Rattle.kc_kit_answer.specs.Running.{machine_of};
 
 use crate::board::Board;
-use kc_base::{Level, NoMemory};
+use kc_base::{Level, NoMemory, StateTime};
 use kc_block_inputs::{has_pin, start_levels};
 use kc_convert::{Analog, Converter, Pulses};
 use kc_extra::Pair;
@@ -32,12 +32,14 @@ fn rxd_level(stimuli: &Stimuli) -> Level
     }
 }
 
-// The units before the first state of a run, where these drive the inputs.
-fn fitted_unit(stimuli: &Stimuli, values: Analog) -> FittedUnit
-    ensures unit { result ≡ fitted (record { stimuli = stimuli.now; values = values }) }
+/// The units before the first state of a run, where these drive the inputs: the pins from their state 0 on, the analogue
+/// inputs from state `from` on.
+pub(crate) fn fitted_unit(stimuli: &Stimuli, values: Analog, from: StateTime) -> FittedUnit
+    requires { from ≤ 1000000000000000 }
+    ensures unit { result ≡ units_at stimuli.now values from }
     ensures agrees { (edges : ℕ) → fitted_agrees edges (bit_xor (stimulated_before stimuli.now 0) edges) result }
 {
-    let analog = Pair::of(Converter::new(values, 0), Pulses::new());
+    let analog = Pair::of(Converter::new(values, from), Pulses::new());
     Pair::of(Serial::new(rxd_level(stimuli)), analog)
 }
 
@@ -47,6 +49,6 @@ pub(crate) fn fitted_machine(alloc: Global, board: Board) -> Result<Machine<Fitt
 {
     let Board { image, driving } = board;
     let Driving { stimuli, values } = driving;
-    let unit = fitted_unit(&stimuli, values);
+    let unit = fitted_unit(&stimuli, values, 0);
     Machine::new(alloc, image, stimuli, unit)
 }

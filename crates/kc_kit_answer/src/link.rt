@@ -1,17 +1,16 @@
 // The command that links objects.
 ghost use Rattle.std.specs.Prelude.{◌≡◌, ◌≤◌, ◌++◌, ℕ, Ok, Some, IfOk, List, length, map, string_bytes};
-ghost use Rattle.std.specs.Option.{option_map};
 ghost use Rattle.kc_link_place.specs.Placing.{Places};
 ghost use Rattle.kc_link.specs.Placed.{placed};
 ghost use Rattle.kc_link.specs.Filled.{IsImage};
 ghost use Rattle.kc_link.specs.LineMap.{IsLineMap};
 ghost use Rattle.kc_link.specs.declared.lines.LineAt.{LineAt};
 ghost use Rattle.kc_kit_files.specs.Reads.{AllShort};
-ghost use Rattle.kc_kit_words.specs.Asked.{asked, AreLinkable, IsWithin};
+ghost use Rattle.kc_kit_words.specs.Asked.{asked, beside_in, AreLinkable, IsWithin};
 ghost use Rattle.kc_kit_words.specs.Inputs.{inputs_in};
-ghost use Rattle.kc_kit_answer.specs.Jobs.{IsPrepared, Prepares};
+ghost use Rattle.kc_kit_answer.specs.Jobs.{IsPrepared, Prepares, maybe_written};
 ghost use Rattle.kc_kit_answer.specs.Lines.{map_text};
-ghost use Rattle.kc_kit_answer.specs.Link.{Completed, LinkAnswer, LinksTo};
+ghost use Rattle.kc_kit_answer.specs.Link.{Completed, LinkAnswer, LinksTo, AreLineMaps, AreMaps};
 ghost use Rattle.kc_kit_answer.specs.Origins.{words_of};
 ghost use Rattle.kc_kit_answer.specs.Places.{Placing};
 
@@ -23,6 +22,7 @@ use kc_kit_files::{Refusal, read_files};
 use kc_kit_inputs::{input_for, read_inputs, read_library, read_objects, take_members};
 use kc_kit_words::{Command, Link, Role};
 use kc_link::line_map;
+use kc_link_map::link_map;
 use kc_obj::Module;
 use std::alloc::Global;
 
@@ -56,7 +56,7 @@ fn link_texts<'a>(
     requires count { length texts.now ≡ length link.now.files.now }
     requires short { AllShort (map (λ t. t.items) texts.now) }
     requires inputs { AllShort (map (λ t. t.items) inputs.now) }
-    ensures { IsPrepared (LinkAnswer (map string_bytes link.now.files.now) (inputs_in link.now.inputs) link.now.out.now (option_map (λ l. l.now) link.now.lines) link.now.placing (map (λ t. t.items) texts.now) (map (λ t. t.items) inputs.now)) result }
+    ensures { IsPrepared (LinkAnswer (map string_bytes link.now.files.now) (inputs_in link.now.inputs) link.now.out.now (beside_in link.now.beside) link.now.placing (map (λ t. t.items) texts.now) (map (λ t. t.items) inputs.now)) result }
 {
     let modules = match read_objects(alloc, link.files, texts) {
         Ok(modules) => modules,
@@ -85,7 +85,7 @@ fn link_library<'a>(
     requires linkable { AreLinkable (length modules.items) link.now.placing }
     requires count { length modules.items ≡ length link.now.files.now }
     requires short { length bytes.now ≤ 1048576 }
-    ensures { IsPrepared (Completed (map string_bytes link.now.files.now) (Some (name.now, bytes.now)) (λ files. Placing files link.now.placing (LinksTo link.now.out.now (option_map (λ l. l.now) link.now.lines))) modules.items) result }
+    ensures { IsPrepared (Completed (map string_bytes link.now.files.now) (Some (name.now, bytes.now)) (λ files. Placing files link.now.placing (LinksTo link.now.out.now (beside_in link.now.beside) link.now.placing)) modules.items) result }
 {
     let library = match read_library(alloc, name, bytes) {
         Ok(library) => library,
@@ -127,7 +127,7 @@ fn link_modules<'a>(
     modules: &[Module],
 ) -> Result<Job<'a>, Refusal>
     requires { AreLinkable (length modules.now) link.now.placing }
-    ensures { IsPrepared (Placing (words_of origins.now) link.now.placing (LinksTo link.now.out.now (option_map (λ l. l.now) link.now.lines)) modules.now) result }
+    ensures { IsPrepared (Placing (words_of origins.now) link.now.placing (LinksTo link.now.out.now (beside_in link.now.beside) link.now.placing) modules.now) result }
 {
     match kc_link::link(alloc, modules, &link.placing) {
         Ok(image) => outputs(alloc, link, modules, &image),
@@ -135,7 +135,7 @@ fn link_modules<'a>(
     }
 }
 
-// The files of a linked image: the hex file, and the line map where one is asked for.
+// The files of a linked image: the hex file, and those beside it that are asked for.
 fn outputs<'a>(
     alloc: Global,
     link: &Link<'a>,
@@ -144,7 +144,7 @@ fn outputs<'a>(
 ) -> Result<Job<'a>, Refusal>
     requires linkable { AreLinkable (length modules.now) link.now.placing }
     requires linked { IsImage modules.now link.now.placing (Ok image.now) }
-    ensures { (names : List (List ℕ)) → IsPrepared (Placing names link.now.placing (LinksTo link.now.out.now (option_map (λ l. l.now) link.now.lines)) modules.now) result }
+    ensures { (names : List (List ℕ)) → IsPrepared (Placing names link.now.placing (LinksTo link.now.out.now (beside_in link.now.beside) link.now.placing) modules.now) result }
 {
     let Ok(bytes) = kc_hex::write(alloc, image) else {
         return Err(Refusal::NoMemory);
@@ -153,15 +153,42 @@ fn outputs<'a>(
         name: link.out,
         bytes,
     };
-    match link.lines {
-        None => Ok(Job::Write { file, more: None }),
-        Some(name) => match lines_of(alloc, link, modules) {
-            Ok(bytes) => Ok(Job::Write {
-                file,
-                more: Some(Output { name, bytes }),
-            }),
-            Err(NoMemory) => Err(Refusal::NoMemory),
-        },
+    match beside(alloc, link, modules) {
+        Ok((lines, map)) => Ok(Job::Write { file, lines, map }),
+        Err(NoMemory) => Err(Refusal::NoMemory),
+    }
+}
+
+// The files beside the hex file.
+fn beside<'a>(
+    alloc: Global,
+    link: &Link<'a>,
+    modules: &[Module],
+) -> Result<(Option<Output<'a>>, Option<Output<'a>>), NoMemory>
+    requires { AreLinkable (length modules.now) link.now.placing }
+    ensures lines { IfOk result (λ files. AreLineMaps (beside_in link.now.beside).lines modules.now link.now.placing (maybe_written files.0)) }
+    ensures map { IfOk result (λ files. AreMaps (beside_in link.now.beside).map modules.now link.now.placing (maybe_written files.1)) }
+{
+    let lines = lines_file(alloc, link, modules)?;
+    let map = map_file(alloc, link, modules)?;
+    Ok((lines, map))
+}
+
+// The line map of modules that are linked, where one is asked for.
+fn lines_file<'a>(
+    alloc: Global,
+    link: &Link<'a>,
+    modules: &[Module],
+) -> Result<Option<Output<'a>>, NoMemory>
+    requires { AreLinkable (length modules.now) link.now.placing }
+    ensures { IfOk result (λ file. AreLineMaps (beside_in link.now.beside).lines modules.now link.now.placing (maybe_written file)) }
+{
+    match link.beside.lines {
+        None => Ok(None),
+        Some(name) => {
+            let bytes = lines_of(alloc, link, modules)?;
+            Ok(Some(Output { name, bytes }))
+        }
     }
 }
 
@@ -176,5 +203,23 @@ fn lines_of(alloc: Global, link: &Link<'_>, modules: &[Module]) -> Result<Vec<u8
             Ok(text)
         }
         Err(_) => Err(NoMemory),
+    }
+}
+
+// The map of the pieces and names of modules that are linked, where one is asked for.
+fn map_file<'a>(
+    alloc: Global,
+    link: &Link<'a>,
+    modules: &[Module],
+) -> Result<Option<Output<'a>>, NoMemory>
+    requires { AreLinkable (length modules.now) link.now.placing }
+    ensures { IfOk result (λ file. AreMaps (beside_in link.now.beside).map modules.now link.now.placing (maybe_written file)) }
+{
+    match link.beside.map {
+        None => Ok(None),
+        Some(name) => match link_map(alloc, modules, &link.placing) {
+            Ok(bytes) => Ok(Some(Output { name, bytes })),
+            Err(_) => Err(NoMemory),
+        },
     }
 }

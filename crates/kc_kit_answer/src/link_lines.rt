@@ -1,43 +1,17 @@
 // The lines of broken rules of the linker.
 ghost use Rattle.std.specs.Prelude.{◌≡◌, ◌<◌, ◌++◌, codes, decimal, IfOk, IsErr};
-ghost use Rattle.kc_trace.specs.Text.{hex};
 ghost use Rattle.kc_kit_files.specs.declared.status.Status.TheVariants as status;
 ghost use Rattle.kc_kit_files.specs.Reply.{says, IsRefused};
-ghost use Rattle.kc_kit_answer.specs.Lines.{kind_word, file_at, link_text, link_line};
+ghost use Rattle.kc_kit_answer.specs.Lines.{file_at, link_text, link_line};
 ghost use Rattle.kc_kit_answer.specs.Origins.{words_of_members, words_of};
 
 use itoa::Buffer;
-use kc_base::{NoMemory, hex_digit};
+use kc_base::NoMemory;
 use kc_kit_files::{Cause, Refusal, refusal_of};
 use kc_link::LinkFault;
-use kc_obj::{Module, SegKind};
+use kc_link_map::{address_text, kind_word};
+use kc_obj::Module;
 use std::alloc::Global;
-
-/// An address as four upper-case hex digits.
-pub(crate) fn address_text(address: u16) -> [u8; 4]
-    ensures { result ≡ hex 4 address }
-{
-    let second = address / 16;
-    let third = second / 16;
-    let fourth = third / 16;
-    [
-        hex_digit((fourth % 16) as u8),
-        hex_digit((third % 16) as u8),
-        hex_digit((second % 16) as u8),
-        hex_digit((address % 16) as u8),
-    ]
-}
-
-fn kind_word(kind: SegKind) -> &'static [u8]
-    ensures { result.now ≡ kind_word kind }
-{
-    match kind {
-        SegKind::Reg => b"reg",
-        SegKind::Code => b"code",
-        SegKind::Ram => b"data",
-        SegKind::Stack => b"stack",
-    }
-}
 
 fn joined(alloc: Global, before: &[u8], after: &[u8]) -> Result<Vec<u8>, NoMemory>
     ensures { IfOk result (λ text. text.items ≡ before.now ++ after.now) }

@@ -55,7 +55,11 @@ fn pack_modules<'a>(alloc: Global, out: &'a str, modules: &[Module]) -> Result<J
     match kc_lib::pack(alloc, modules) {
         Ok(bytes) => {
             let file = Output { name: out, bytes };
-            Ok(Job::Write { file, more: None })
+            Ok(Job::Write {
+                file,
+                lines: None,
+                map: None,
+            })
         }
         Err(LibFault::Duplicate(name)) => {
             let origins = Origins {

@@ -44,13 +44,13 @@ fn run_texts<'a>(
     requires count { length texts.now ≡ length run.now.files.now }
     requires short { AllShort (map (λ t. t.items) texts.now) }
     requires inputs { AllShort (map (λ t. t.items) inputs.now) }
-    ensures { IsPrepared (RunAnswer (map string_bytes run.now.files.now) (inputs_in run.now.inputs) run.now.states run.now.placing (map (λ t. t.items) texts.now) (map (λ t. t.items) inputs.now)) result }
+    ensures { IsPrepared (RunAnswer (map string_bytes run.now.files.now) (inputs_in run.now.inputs) run.now.extent run.now.placing (map (λ t. t.items) texts.now) (map (λ t. t.items) inputs.now)) result }
 {
     let given = given_for(run.inputs, inputs);
     match board_of_sources(alloc, run.files, texts, &run.placing, given) {
         Ok(board) => Ok(Job::Run {
             board,
-            states: run.states,
+            extent: run.extent,
         }),
         Err(refusal) => Err(refusal),
     }

@@ -1,9 +1,8 @@
 // The command that runs a hex file.
 ghost use Rattle.std.specs.Prelude.{◌≤◌, length, map};
 ghost use Rattle.kc_kit_files.specs.Reads.{AllShort};
-ghost use Rattle.kc_kit_words.specs.Asked.{asked, IsWithin};
+ghost use Rattle.kc_kit_words.specs.Asked.{asked, IsBounded, IsWithin};
 ghost use Rattle.kc_kit_words.specs.Inputs.{inputs_in};
-ghost use Rattle.kc_kit_words.specs.Values.{max_states};
 ghost use Rattle.kc_kit_answer.specs.Hex.{RunHexAnswer};
 ghost use Rattle.kc_kit_answer.specs.Jobs.{IsPrepared, Prepares};
 
@@ -41,16 +40,16 @@ fn run_text<'a>(
     text: &[u8],
     inputs: &[Vec<u8>],
 ) -> Result<Job<'a>, Refusal>
-    requires states { run.now.states ≤ max_states }
+    requires bounded { IsBounded run.now.extent }
     requires short { length text.now ≤ 1048576 }
     requires inputs { AllShort (map (λ t. t.items) inputs.now) }
-    ensures { IsPrepared (RunHexAnswer run.now.file.now (inputs_in run.now.inputs) run.now.states text.now (map (λ t. t.items) inputs.now)) result }
+    ensures { IsPrepared (RunHexAnswer run.now.file.now (inputs_in run.now.inputs) run.now.extent text.now (map (λ t. t.items) inputs.now)) result }
 {
     let given = given_for(run.inputs, inputs);
     match board_of_hex(alloc, run.file, text, given) {
         Ok(board) => Ok(Job::Run {
             board,
-            states: run.states,
+            extent: run.extent,
         }),
         Err(refusal) => Err(refusal),
     }

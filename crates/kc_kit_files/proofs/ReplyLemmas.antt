@@ -1,5 +1,7 @@
 -- What is printed and written for a reply.
 use Rattle.std.proofs.Common.{◌≡◌, ◌≢◌, ◌⊎◌, inl, inr, refl, sym, subst}
+use Rattle.std.specs.List.{Any}
+use Rattle.kc_base.specs.Causes.{Grew}
 use Rattle.kc_kit_files.specs.declared.status.Status.{Status}
 use Rattle.kc_kit_files.specs.declared.status.Status.TheVariants as status
 use Rattle.kc_kit_files.specs.declared.refusal.Refusal.{Refusal}
@@ -12,8 +14,14 @@ given-widen may wide given old before new now f h = record { reply = h.reply; is
 
 -- what may be answered may be answered
 pub Replies-widen : (may wide : Reply → Type 0) (old : Kept) (before : Shown) (given : Status) (new : Kept) (now : Shown) → ((r : Reply) → may r → wide r) → Replies may old before given new now → Replies wide old before given new now
-Replies-widen may wide old before status.NoMemory new now f h = record { text = h.text; files = by h.files }
+Replies-widen may wide old before status.NoMemory new now f h = record { text = so_far h.text; files = by h.files }
   where
+    so_far :
+        (now.written ≡ before.written) ⊎ ((reply : Reply) × may reply × Any (λ front. Grew before.written front now.written) reply.pauses) →
+        (now.written ≡ before.written) ⊎ ((reply : Reply) × wide reply × Any (λ front. Grew before.written front now.written) reply.pauses)
+    so_far (inl e) = inl e
+    so_far (inr k) = inr (k.0, f k.0 k.1, k.2)
+
     by : (new ≡ old) ⊎ ((reply : Reply) × may reply × WroteByPart old reply.writes new) → (new ≡ old) ⊎ ((reply : Reply) × wide reply × WroteByPart old reply.writes new)
     by (inl e) = inl e
     by (inr k) = inr (k.0, f k.0 k.1, k.2)

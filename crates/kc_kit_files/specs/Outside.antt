@@ -1,5 +1,6 @@
 -- What a reply does to the files and to the output (this kit's own).
 use Rattle.std.specs.Prelude.{◌≡◌, ◌≢◌, ◌⊎◌, ℕ, ◌≤◌, List, [], ◌∷◌, Option, Some, None, IsSomeAnd}
+use Rattle.std.specs.List.{Any}
 use Rattle.kc_base.specs.Held.{Holding}
 use Rattle.kc_base.specs.Causes.{Rose, Grew, GrewByPart}
 use Rattle.kc_kit_files.specs.declared.status.Status.{Status}
@@ -65,9 +66,9 @@ pub record WriteFailed (may : Reply → Type 0) (old : Kept) (before : Shown) (n
   pub cause : Rose old.faults new.faults
   pub text : now.written ≡ before.written
 
--- want of memory: nothing is printed, and no file is written, or one is refused
+-- want of memory: nothing is printed, or the text up to a pause; and no file is written, or one is refused
 pub record MemoryWanted (may : Reply → Type 0) (old : Kept) (before : Shown) (new : Kept) (now : Shown) : Type 0 where
-  pub text : now.written ≡ before.written
+  pub text : (now.written ≡ before.written) ⊎ ((reply : Reply) × may reply × Any (λ front. Grew before.written front now.written) reply.pauses)
   pub files : (new ≡ old) ⊎ ((reply : Reply) × may reply × WroteByPart old reply.writes new)
 
 -- a reply is given whole

@@ -15,18 +15,25 @@ pub record Write : Type 0 where
 abbrev pub write : List ℕ → List ℕ → Write
 write name bytes = record { name = name; bytes = bytes }
 
+-- Memory may be wanted before anything is printed or written. Behind a text that has begun it may be wanted only where that is
+-- one of the pauses, which are fronts of the text.
 pub record Reply : Type 0 where
   pub status : Status
   pub text : List ℕ
+  pub pauses : List (List ℕ)
   pub writes : List Write
 
--- this status with this text, and no file
+-- this status with this text, in which there are these pauses, and no file
+abbrev pub says_with : Status → List ℕ → List (List ℕ) → Reply
+says_with status text pauses = record { status = status; text = text; pauses = pauses; writes = [] }
+
+-- this status with this text at once, and no file
 abbrev pub says : Status → List ℕ → Reply
-says status text = record { status = status; text = text; writes = [] }
+says status text = says_with status text []
 
 -- these files, and no text
 abbrev pub done_writing : List Write → Reply
-done_writing writes = record { status = status.Done; text = []; writes = writes }
+done_writing writes = record { status = status.Done; text = []; pauses = []; writes = writes }
 
 -- a step gives a value, or a reply; with the value the answer goes on
 abbrev pub Then : {A : Type 0} → Result A Reply → (A → Reply → Type 0) → Reply → Type 0

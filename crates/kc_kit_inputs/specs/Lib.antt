@@ -8,3 +8,4 @@ pub mod Objects
 pub mod Scripts
 pub mod Sources
 pub mod Stimuli
+pub mod Traces

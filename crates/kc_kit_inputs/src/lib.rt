@@ -1,5 +1,5 @@
 //! What named files say to a command, or the refusal of their first fault: sources, objects, libraries, hex files, stimuli,
-//! analogue files, debugger scripts.
+//! analogue files, debugger scripts, traces.
 #![tactic(auto)]
 
 mod analog;
@@ -12,6 +12,7 @@ mod reading;
 mod scripts;
 mod sources;
 mod stimuli;
+mod traces;
 
 pub use driving::{Driving, Given, driving_in, given_for};
 pub use hex_image::image_of;
@@ -20,3 +21,4 @@ pub use objects::read_objects;
 pub use reading::{input_for, read_inputs};
 pub use scripts::{lines_in, read_script};
 pub use sources::{assemble_source, assemble_sources};
+pub use traces::read_trace;

@@ -1,5 +1,5 @@
 -- Objects that are linked and run, as sources are.
-use Rattle.std.proofs.Common.{◌≡◌, ℕ, zero, suc, ◌<◌, ◌^◌, Bool, true, List, [], ◌∷◌, length, map, Option, Some, None, Result, Ok, Err, refl, ◌∙◌, ap, subst, arith}
+use Rattle.std.proofs.Common.{◌≡◌, ℕ, zero, suc, ◌<◌, ◌^◌, Bool, true, List, [], ◌∷◌, length, map, Some, None, Result, Ok, Err, refl, ◌∙◌, ap, subst, arith}
 use Rattle.std.specs.Prelude.{nat_lt, slice_get, slice_index}
 use Rattle.std.specs.List.{list_all}
 use Rattle.std.proofs.lemmas.Bool.{and_parts, and_from}
@@ -30,10 +30,10 @@ use Rattle.kc_kit_inputs.specs.Sources.{AreModules}
 use Rattle.kc_kit_answer.specs.Link.{Completed, LinksTo}
 use Rattle.kc_kit_answer.specs.Places.{by_places, places_of, Placing}
 use Rattle.kc_kit_answer.specs.Run.{Driven, LinkedTold, RunAnswer}
-use Rattle.kc_kit_answer.specs.Running.{run_of, run_reply}
+use Rattle.kc_kit_answer.specs.Lives.{board_reply}
 use Rattle.kc_kit_answer.proofs.AnswerSteps.{then-ok, then-map}
 use Rattle.kc_kit_answer.proofs.SourceLemmas.{image-of}
-use Rattle.kc_kit_laws.specs.Alike.{RunsAlike}
+use Rattle.kc_kit_laws.specs.Alike.{hex_alone, RunsAlike}
 
 objects-read : SpelledIsDecoded → (objects texts : List (List ℕ)) (ms : List Object) → AreModules texts ms → list_all numbers_fit ms ≡ true → length objects ≡ length ms → modules_of object_of objects (map spelling ms) ≡ Ok ms
 objects-read law [] [] [] a fit n = refl
@@ -92,17 +92,17 @@ byte-at (b ∷ bs) zero h = h.0
 byte-at (b ∷ bs) (suc k) h = byte-at bs k h.1
 
 pub alike : ModulesFit → FilledAreBytes → LinkedImage → SpelledIsDecoded → WrittenIsRead → RunsAlike
-alike fits bytes linked spelled read names objects texts ms inputs input_texts ranges states file hex reply made small count l h =
+alike fits bytes linked spelled read names objects texts ms inputs input_texts ranges extent file hex reply made small count l h =
     by (placed ms ranges) refl
-    (subst (λ (x : Result (List Object) Reply). Then x (Completed objects None (λ files. Placing files ranges (LinksTo file None))) (done_writing (write file hex ∷ []))) (objects-read spelled objects texts ms made (all-fit fits texts ms made small) count) l)
+    (subst (λ (x : Result (List Object) Reply). Then x (Completed objects None (λ files. Placing files ranges (LinksTo file hex_alone ranges))) (done_writing (write file hex ∷ []))) (objects-read spelled objects texts ms made (all-fit fits texts ms made small) count) l)
   where
     given : GivenFiles
     given = given_for inputs input_texts
 
     tell : Driving → List ℕ → Reply
-    tell driving image = run_reply (run_of states driving image)
+    tell = board_reply extent
 
-    by : (x : Result Places LinkFault) → placed ms ranges ≡ x → Then (by_places objects x) (LinksTo file None ms) (done_writing (write file hex ∷ [])) → RunAnswer names inputs states ranges texts input_texts reply
+    by : (x : Result Places LinkFault) → placed ms ranges ≡ x → Then (by_places objects x) (LinksTo file hex_alone ranges ms) (done_writing (write file hex ∷ [])) → RunAnswer names inputs extent ranges texts input_texts reply
     by (Ok places) e k =
         let same : hex ≡ records.spelling k.image = ap (λ (r : Reply). first_bytes r.writes) k.done in
         let image : image_of hex ≡ Ok k.image = ap image_of same ∙ read k.image (record { len = k.is_filled.long; bytes = λ i. byte-at k.image i (bytes texts ms ranges places k.image (of-texts texts ms made) e k.is_filled) }) in

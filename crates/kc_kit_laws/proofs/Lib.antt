@@ -1,3 +1,4 @@
 mod AlikeLemmas
 mod OneAnswerLemmas
 mod OutcomeLemmas
+mod StartLevels

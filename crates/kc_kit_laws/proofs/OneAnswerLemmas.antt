@@ -1,7 +1,12 @@
 -- A command has one answer: each step gives one thing, by the laws of texts, images, line maps and libraries.
+use Rattle.std.specs.Prelude.{codes}
 use Rattle.std.proofs.Common.{◌≡◌, inl, inr, ℕ, List, [], ◌∷◌, ◌++◌, length, take, drop, Option, Some, None, Result, Ok, Err, refl, sym, ◌∙◌, ap, subst, arith}
 use Rattle.kc_source.specs.Faults.{Fault}
 use Rattle.kc_code_listing.specs.Listing.{listing}
+use Rattle.kc_base.specs.TextLines.{text_lines}
+use Rattle.kc_trace.specs.declared.record.Record.{Record}
+use Rattle.kc_vcd.specs.Dump.{state_length, dump_of}
+use Rattle.kc_vcd.specs.Laws.{OneReading}
 use Rattle.kc_obj.specs.Object.{Object}
 use Rattle.kc_obj.specs.Spelling as objects
 use Rattle.kc_lib.specs.Laws.{TakenOnce}
@@ -13,32 +18,34 @@ use Rattle.kc_link.specs.Laws.{OneImage}
 use Rattle.kc_link.specs.declared.lines.LineAt.{LineAt}
 use Rattle.kc_link_laws.specs.Linked.{OneLineMap}
 use Rattle.kc_asm.specs.Assembled.{IsModule}
-use Rattle.kc_asm_laws.specs.Modules.{IsAnswer, OneAnswerOfText}
+use Rattle.kc_asm_laws.specs.Modules.{OneAnswerOfText}
 use Rattle.kc_kit_files.specs.declared.status.Status.TheVariants as status
 use Rattle.kc_kit_files.specs.Reply.{Reply, Write, write, says, done_writing, Then}
 use Rattle.kc_kit_files.specs.Reads.{reads_of}
 use Rattle.kc_kit_words.specs.declared.inputs.Role.{Role}
 use Rattle.kc_kit_words.specs.declared.inputs.Role.TheVariants as role
-use Rattle.kc_kit_words.specs.Words.{placing_of, Command, Helps, TellsVersion, Runs, Assembles, Packs, Links, RunsHex, Lists, Debugs, Generates}
+use Rattle.kc_kit_words.specs.Words.{placing_of, Beside, Helps, TellsVersion, Runs, Assembles, Packs, Links, RunsHex, Lists, Debugs, Generates, Dumps, Explains}
 use Rattle.kc_kit_inputs.specs.Hex.{hex_of}
 use Rattle.kc_kit_inputs.specs.declared.driving.Driving.{Driving}
 use Rattle.kc_kit_inputs.specs.Driving.{GivenFiles, given_for, driving_of}
 use Rattle.kc_kit_inputs.specs.Inputs.{names_of, input_for}
 use Rattle.kc_kit_inputs.specs.Library.{library_of, TakenAre}
-use Rattle.kc_kit_inputs.specs.Lines.{source_line}
+use Rattle.kc_kit_inputs.specs.Lines.{source_line, input_line}
 use Rattle.kc_kit_inputs.specs.Objects.{modules_of, object_of}
 use Rattle.kc_kit_inputs.specs.Sources.{TellsFault, SourceIs, AreModules, TellsFirst, SourcesAre}
-use Rattle.kc_kit_answer.specs.Answer.{OneText, TwoTexts, Parted, CommandAnswer}
+use Rattle.kc_kit_inputs.specs.Traces.{TraceIs}
+use Rattle.kc_kit_answer.specs.Answer.{OneText, TwoTexts, Parted}
 use Rattle.kc_kit_answer.specs.Assemble.{WritesObject, AssembleAnswer}
 use Rattle.kc_kit_answer.specs.Debug.{DebugAnswer, debug_reply}
+use Rattle.kc_kit_answer.specs.Dump.{WritesDump, DumpAnswer}
 use Rattle.kc_kit_answer.specs.Generate.{made_names, made_texts, made_given, summary_of}
 use Rattle.kc_kit_answer.specs.Hex.{HexTold, RunHexAnswer, ListAnswer, ListingOf}
 use Rattle.kc_kit_answer.specs.Lines.{map_text, member_words}
-use Rattle.kc_kit_answer.specs.Link.{IsMap, LinksTo, Taking, Completed, LinkAnswer}
+use Rattle.kc_kit_answer.specs.Link.{IsMap, map_writes, LinksTo, Taking, Completed, LinkAnswer}
 use Rattle.kc_kit_answer.specs.Pack.{packed, PackAnswer}
 use Rattle.kc_kit_answer.specs.Places.{places_of, Placing}
 use Rattle.kc_kit_answer.specs.Run.{LinkedTold, Driven, SourcesTold, RunAnswer}
-use Rattle.kc_kit_answer.specs.Running.{run_reply, run_of}
+use Rattle.kc_kit_answer.specs.Lives.{board_reply}
 use Rattle.kc_kit_laws.specs.OneAnswer.{OneAnswer}
 
 -- ---- steps
@@ -79,6 +86,7 @@ pub record Laws : Type 0 where
   pub images : OneImage
   pub maps : OneLineMap
   pub taken : TakenOnce
+  pub traces : OneReading
 
 -- ---- sources
 
@@ -165,12 +173,24 @@ module _ (images : OneImage) where
       let same : h.0 ≡ k.0 = maps ms places h.0 k.0 h.1 k.1 in
       h.2 ∙ (ap (λ (entries : List LineAt). write name (map_text entries) ∷ []) same ∙ sym k.2)
 
-  one_links : OneLineMap → (out : List ℕ) (lines : Option (List ℕ)) (ms : List Object) (places : Places) → IsOne (LinksTo out lines ms places)
-  one_links maps out lines ms places r s h k =
+  one_links : OneLineMap → (out : List ℕ) (beside : Beside) (ranges : Ranges) (ms : List Object) (places : Places) → IsOne (LinksTo out beside ranges ms places)
+  one_links maps out beside ranges ms places r s h k =
       let image : h.image ≡ k.image = images ms places h.image k.image h.is_filled k.is_filled in
-      let more : h.more ≡ k.more = one_map maps lines ms places h.more k.more h.is_map k.is_map in
-      let both : done_writing (write out (spelling h.image) ∷ h.more) ≡ done_writing (write out (spelling k.image) ∷ k.more) = λ i. done_writing (write out (spelling (image i)) ∷ more i) in
+      let more : h.more ≡ k.more = one_map maps beside.lines ms places h.more k.more h.is_map k.is_map in
+      let maps = map_writes beside.map ms ranges places in
+      let both : done_writing (write out (spelling h.image) ∷ h.more ++ maps) ≡ done_writing (write out (spelling k.image) ∷ k.more ++ maps) = λ i. done_writing (write out (spelling (image i)) ∷ more i ++ maps) in
       h.done ∙ (both ∙ sym k.done)
+
+-- ---- traces
+
+abbrev wrong_line : List ℕ → ℕ → Reply
+wrong_line name line = says status.Input (input_line name line (codes "BADTRACE"))
+
+one_read : OneReading → (name text : List ℕ) (x y : Result (List Record) Reply) → TraceIs name text x → TraceIs name text y → x ≡ y
+one_read law name text (Ok items) (Ok others) h k = (let same : items ≡ others = law.traces (text_lines text) items others h k in λ i. Ok (same i))
+one_read law name text (Ok items) (Err r) h k = absurd (law.apart (text_lines text) items k.0 h k.1)
+one_read law name text (Err r) (Ok items) h k = absurd (law.apart (text_lines text) items h.0 k h.1)
+one_read law name text (Err r) (Err s) h k = (let same : r ≡ s = h.2 ∙ (ap (wrong_line name) (law.lines (text_lines text) h.0 k.0 h.1 k.1) ∙ sym k.2) in λ i. Err (same i))
 
 -- ---- members of a library
 
@@ -208,35 +228,38 @@ module _ (laws : Laws) where
   one_assembled : (file out text : List ℕ) → IsOne (AssembleAnswer file out text)
   one_assembled file out text = one_given (SourceIs file text) (WritesObject out) (one_source laws.texts file text) (λ m. one_told (done_writing (write out (objects.spelling m) ∷ [])))
 
-  one_link : (files : List (List ℕ)) (inputs : List (Role × List ℕ)) (out : List ℕ) (lines : Option (List ℕ)) (ranges : Ranges) (texts more : List (List ℕ)) → IsOne (LinkAnswer files inputs out lines ranges texts more)
-  one_link files inputs out lines ranges texts more =
-      one_then (modules_of object_of files texts) (Completed files (input_for role.Library inputs more) (λ names. Placing names ranges (LinksTo out lines)))
-      (one_completed laws.taken files (input_for role.Library inputs more) (λ names. Placing names ranges (LinksTo out lines)) (λ names. one_placing names ranges (LinksTo out lines) (one_links laws.images laws.maps out lines)))
+  one_link : (files : List (List ℕ)) (inputs : List (Role × List ℕ)) (out : List ℕ) (beside : Beside) (ranges : Ranges) (texts more : List (List ℕ)) → IsOne (LinkAnswer files inputs out beside ranges texts more)
+  one_link files inputs out beside ranges texts more =
+      one_then (modules_of object_of files texts) (Completed files (input_for role.Library inputs more) (λ names. Placing names ranges (LinksTo out beside ranges)))
+      (one_completed laws.taken files (input_for role.Library inputs more) (λ names. Placing names ranges (LinksTo out beside ranges)) (λ names. one_placing names ranges (LinksTo out beside ranges) (one_links laws.images laws.maps out beside ranges)))
 
   one_hex : (file : List ℕ) (given : GivenFiles) (text : List ℕ) (tell : Driving → List ℕ → Reply) → IsOne (HexTold file given text tell)
   one_hex file given text tell =
       one_then (hex_of file text) (λ image. Then (driving_of given) (λ driving reply. reply ≡ tell driving image))
       (λ image. one_then (driving_of given) (λ driving reply. reply ≡ tell driving image) (λ driving. one_told (tell driving image)))
 
+  one_dump : (file out : List ℕ) (clock : ℕ) (text : List ℕ) → IsOne (DumpAnswer file out clock text)
+  one_dump file out clock text = one_given (TraceIs file text) (WritesDump out clock) (one_read laws.traces file text) (λ items. one_told (done_writing (write out (dump_of (state_length clock) items) ∷ [])))
+
   pub one_answer : OneAnswer
   one_answer None contents r s h k = h ∙ sym k
   one_answer (Some Helps) contents r s h k = h ∙ sym k
   one_answer (Some TellsVersion) contents r s h k = h ∙ sym k
-  one_answer (Some (Runs files inputs states ranges)) contents r s h k =
-      one_then (reads_of (files ++ names_of inputs) contents) (Parted (length files) (RunAnswer files inputs states ranges))
-      (λ texts. one_told_sources files (given_for inputs (drop (length files) texts)) ranges (take (length files) texts) (λ driving image. run_reply (run_of states driving image))) r s h k
+  one_answer (Some (Runs files inputs extent ranges)) contents r s h k =
+      one_then (reads_of (files ++ names_of inputs) contents) (Parted (length files) (RunAnswer files inputs extent ranges))
+      (λ texts. one_told_sources files (given_for inputs (drop (length files) texts)) ranges (take (length files) texts) (board_reply extent)) r s h k
   one_answer (Some (Assembles file out)) contents r s h k =
       one_then (reads_of (file ∷ []) contents) (OneText (AssembleAnswer file out)) (one_text (AssembleAnswer file out) (one_assembled file out)) r s h k
   one_answer (Some (Packs files out)) contents r s h k =
       one_then (reads_of files contents) (PackAnswer files out)
       (λ texts. one_then (modules_of object_of files texts) (λ ms reply. reply ≡ packed out ms (doubled ms)) (λ ms. one_told (packed out ms (doubled ms)))) r s h k
-  one_answer (Some (Links files inputs out lines ranges)) contents r s h k =
-      one_then (reads_of (files ++ names_of inputs) contents) (Parted (length files) (LinkAnswer files inputs out lines ranges))
-      (λ texts. one_link files inputs out lines ranges (take (length files) texts) (drop (length files) texts)) r s h k
-  one_answer (Some (RunsHex file inputs states)) contents r s h k =
-      one_then (reads_of (file ∷ names_of inputs) contents) (Parted 1 (λ texts more. OneText (λ text. RunHexAnswer file inputs states text more) texts))
-      (λ texts. one_text (λ text. RunHexAnswer file inputs states text (drop 1 texts))
-      (λ text. one_hex file (given_for inputs (drop 1 texts)) text (λ driving image. run_reply (run_of states driving image))) (take 1 texts)) r s h k
+  one_answer (Some (Links files inputs out beside ranges)) contents r s h k =
+      one_then (reads_of (files ++ names_of inputs) contents) (Parted (length files) (LinkAnswer files inputs out beside ranges))
+      (λ texts. one_link files inputs out beside ranges (take (length files) texts) (drop (length files) texts)) r s h k
+  one_answer (Some (RunsHex file inputs extent)) contents r s h k =
+      one_then (reads_of (file ∷ names_of inputs) contents) (Parted 1 (λ texts more. OneText (λ text. RunHexAnswer file inputs extent text more) texts))
+      (λ texts. one_text (λ text. RunHexAnswer file inputs extent text (drop 1 texts))
+      (λ text. one_hex file (given_for inputs (drop 1 texts)) text (board_reply extent)) (take 1 texts)) r s h k
   one_answer (Some (Lists file first last)) contents r s h k =
       one_then (reads_of (file ∷ []) contents) (OneText (ListAnswer file first last))
       (one_text (ListAnswer file first last) (λ text. one_then (hex_of file text) (ListingOf first last) (λ image. one_told (says status.Done (listing image first last))))) r s h k
@@ -245,3 +268,6 @@ module _ (laws : Laws) where
       (λ texts. one_two (λ text commands. DebugAnswer file script inputs text commands (drop 2 texts))
       (λ text commands. one_hex file (given_for inputs (drop 2 texts)) text (debug_reply (script, commands) (input_for role.Lines inputs (drop 2 texts)))) (take 2 texts)) r s h k
   one_answer (Some (Generates number)) contents r s h k = one_told_sources made_names (made_given number) (placing_of []) (made_texts number) (summary_of number) r s h k
+  one_answer (Some (Dumps file out clock)) contents r s h k =
+      one_then (reads_of (file ∷ []) contents) (OneText (DumpAnswer file out clock)) (one_text (DumpAnswer file out clock) (one_dump file out clock)) r s h k
+  one_answer (Some (Explains code)) contents r s h k = h ∙ sym k

@@ -6,17 +6,23 @@ use Rattle.kc_obj.specs.Object.{Object}
 use Rattle.kc_obj.specs.Spelling.{spelling}
 use Rattle.kc_link_place.specs.declared.ranges.Ranges.{Ranges}
 use Rattle.kc_kit_files.specs.Reply.{Reply, write, done_writing}
+use Rattle.kc_kit_words.specs.declared.extent.Extent.{Extent}
 use Rattle.kc_kit_words.specs.declared.inputs.Role.{Role}
+use Rattle.kc_kit_words.specs.Words.{Beside}
 use Rattle.kc_kit_answer.specs.Hex.{RunHexAnswer}
 use Rattle.kc_kit_answer.specs.Link.{LinkAnswer}
 use Rattle.kc_kit_answer.specs.Run.{RunAnswer}
 use Rattle.kc_kit_inputs.specs.Sources.{AreModules}
 
+-- no file is asked for beside the hex file
+abbrev pub hex_alone : Beside
+hex_alone = record { lines = None; map = None }
+
 -- where each text has fewer than 2^32 bytes: an object counts lines in 32 bits
 abbrev pub RunsAlike : Type 0
 RunsAlike =
-    (names objects texts : List (List ℕ)) (ms : List Object) (inputs : List (Role × List ℕ)) (input_texts : List (List ℕ)) (ranges : Ranges) (states : ℕ) (file hex : List ℕ) (reply : Reply)
+    (names objects texts : List (List ℕ)) (ms : List Object) (inputs : List (Role × List ℕ)) (input_texts : List (List ℕ)) (ranges : Ranges) (extent : Extent) (file hex : List ℕ) (reply : Reply)
     → AreModules texts ms → list_all (λ t. nat_lt (length t) (2 ^ 32)) texts ≡ true → length objects ≡ length ms
-    → LinkAnswer objects [] file None ranges (map spelling ms) [] (done_writing (write file hex ∷ []))
-    → RunHexAnswer file inputs states hex input_texts reply
-    → RunAnswer names inputs states ranges texts input_texts reply
+    → LinkAnswer objects [] file hex_alone ranges (map spelling ms) [] (done_writing (write file hex ∷ []))
+    → RunHexAnswer file inputs extent hex input_texts reply
+    → RunAnswer names inputs extent ranges texts input_texts reply

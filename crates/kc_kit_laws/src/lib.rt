@@ -3,6 +3,7 @@
 
 ghost use Rattle.kc_kit_laws.specs.Alike.{RunsAlike};
 ghost use Rattle.kc_kit_laws.specs.OneAnswer.{OneAnswer, OneOutcome};
+ghost use Rattle.kc_kit_laws.specs.StartLevels.{StartLevelsAgree};
 
 use kc_asm_laws::{filled_are_bytes, modules_fit, one_answer_of_text};
 use kc_hex::written_is_read;
@@ -11,6 +12,7 @@ use kc_link::one_image;
 use kc_link_laws::one_line_map;
 use kc_link_source_laws::linked_image;
 use kc_obj_read::laws::spelled_is_decoded;
+use kc_vcd::one_reading;
 
 /// Objects that are assembled of each source and linked to a hex file, and that file run, answer as the sources run. Each
 /// source has fewer than 2^32 bytes.
@@ -32,6 +34,7 @@ pub fn one_answer()
     one_image();
     one_line_map();
     taken_once();
+    one_reading();
 }
 
 /// Calls with the same words, over files that hold the same, give the same status, print the same and leave the same in the
@@ -41,3 +44,8 @@ pub fn one_outcome()
 {
     one_answer();
 }
+
+/// Before state 0 a dump of waveforms shows each input with the level that it has where nothing has driven it yet.
+pub fn start_levels_agree()
+    ensures { StartLevelsAgree }
+{}

@@ -4,6 +4,8 @@
 #[cfg(test)]
 mod board;
 #[cfg(test)]
+mod codes;
+#[cfg(test)]
 mod converter;
 #[cfg(test)]
 mod debugger;
@@ -13,6 +15,8 @@ mod libraries;
 mod lines;
 #[cfg(test)]
 mod linking;
+#[cfg(test)]
+mod lives;
 #[cfg(test)]
 mod made;
 #[cfg(test)]
@@ -25,5 +29,7 @@ mod serial;
 mod sources;
 #[cfg(test)]
 mod stimuli;
+#[cfg(test)]
+mod waveforms;
 #[cfg(test)]
 mod whole;

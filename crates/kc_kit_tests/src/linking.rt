@@ -90,6 +90,11 @@ fn objects_are_linked(rt: HostRuntime) -> Result<(), Fail> {
         ("link r --out h --reg 1AH-1FFH", EMPTY_HEX, "-"),
         ("link s --out h --stack 0", EMPTY_HEX, "-"),
         (
+            "link s a --out h --map m --stack 8",
+            NOP_HEX,
+            "piece stack 0200 6 NONAME\npiece code 2080 1 NONAME\npublic 2080 A NONAME\nstack 0200 8\nfree reg 001A 230\nfree code 2081 16255\nfree data 0208 7670\n",
+        ),
+        (
             "link a --out h --lines m --code 3000H-3FFFH",
             ":10300000FDFFFFFFFFFFFFFFFFFFFFFFFFFFFFFFD2\n:00000001FF\n",
             "3000 NONAME 3\n",
@@ -162,12 +167,19 @@ fn all_files_are_read_before_one_is_judged(rt: HostRuntime) -> Result<(), Fail> 
 #[test]
 fn a_failing_write_prints_nothing(rt: HostRuntime) -> Result<(), Fail> {
     let a = rt.alloc();
-    let line = "link 2 --out h --lines m";
-    for (writes, hex) in [(&[1], NOTHING), (&[2], NOP_HEX.as_bytes())] {
+    let line = "link 2 --out h --map m --lines l";
+    let whole = NOP_HEX.as_bytes();
+    let lines = b"2080 NONAME 2\n".as_slice();
+    for (writes, hex, lines) in [
+        (&[1], NOTHING, NOTHING),
+        (&[2], whole, NOTHING),
+        (&[3], whole, lines),
+    ] {
         let failing = Failing { writes, ..NO_FAULT };
         let mut files = objects(a, failing)?;
         assert!(rt; answers(a, &mut files, failing, line, Status::WriteFault, "")?);
         assert!(rt; holds(a, &mut files, "h", hex));
+        assert!(rt; holds(a, &mut files, "l", lines));
         assert!(rt; holds(a, &mut files, "m", NOTHING));
     }
     Ok(())

@@ -1,11 +1,11 @@
 -- Two options that stand beside one another change places.
-use Rattle.std.proofs.Common.{◌≡◌, ◌⊎◌, inl, inr, ℕ, Bool, true, false, ◌&&◌, cond, List, [], ◌∷◌, ◌++◌, Option, Some, None, refl, sym, ap, ◌∙◌, subst}
+use Rattle.std.proofs.Common.{◌≡◌, ◌⊎◌, inl, inr, ℕ, Bool, true, false, ◌&&◌, cond, List, [], ◌∷◌, ◌++◌, Option, Some, None, refl, sym, ap, ◌∙◌}
 use Rattle.std.specs.Prelude.{is_none, codes}
 use Rattle.std.specs.Str.{bytes_eq}
 use Rattle.std.proofs.lemmas.Slice.Eq.{bytes_eq-Decides}
 use Rattle.kc_kit_words.specs.declared.inputs.Role.{Role}
-use Rattle.kc_kit_words.specs.Options.{takes, value_of, are_options, role_of, with_input, inputs_of, states_in}
-use Rattle.kc_kit_words.specs.Words.{Command, placing_of, command_by, command_with}
+use Rattle.kc_kit_words.specs.Options.{takes, value_of, are_options, role_of, with_input, inputs_of}
+use Rattle.kc_kit_words.specs.Words.{command_by, command_with}
 use Rattle.kc_kit_words.specs.Order.{words_of, OptionsInAnyOrder}
 
 -- ---- names of options
@@ -129,11 +129,11 @@ twice verb (f ∷ front) back p q h =
 -- a command knows no more of its options than their values and the files for reading
 commands-alike : (verb : List ℕ) (files a b : List (List ℕ)) → ((x : List ℕ) → value_of x a ≡ value_of x b) → inputs_of verb a ≡ inputs_of verb b → command_by verb files a ≡ command_by verb files b
 commands-alike verb [] a b values inputs = refl
-commands-alike verb (f ∷ []) a b values inputs = rw (values (codes "--states"), values (codes "--out"), values (codes "--lines"), values (codes "--reg"), values (codes "--code"), values (codes "--data"), values (codes "--stack"), inputs) refl
+commands-alike verb (f ∷ []) a b values inputs = rw (values (codes "--states"), values (codes "--lives"), values (codes "--out"), values (codes "--lines"), values (codes "--map"), values (codes "--clock"), values (codes "--reg"), values (codes "--code"), values (codes "--data"), values (codes "--stack"), inputs) refl
 commands-alike verb (f ∷ g ∷ []) a b values inputs =
-    rw (values (codes "--states"), values (codes "--out"), values (codes "--lines"), values (codes "--reg"), values (codes "--code"), values (codes "--data"), values (codes "--stack"), inputs) refl
+    rw (values (codes "--states"), values (codes "--lives"), values (codes "--out"), values (codes "--lines"), values (codes "--map"), values (codes "--reg"), values (codes "--code"), values (codes "--data"), values (codes "--stack"), inputs) refl
 commands-alike verb (f ∷ g ∷ h ∷ files) a b values inputs =
-    rw (values (codes "--states"), values (codes "--out"), values (codes "--lines"), values (codes "--reg"), values (codes "--code"), values (codes "--data"), values (codes "--stack"), inputs) refl
+    rw (values (codes "--states"), values (codes "--lives"), values (codes "--out"), values (codes "--lines"), values (codes "--map"), values (codes "--reg"), values (codes "--code"), values (codes "--data"), values (codes "--stack"), inputs) refl
 
 pub in_any_order : OptionsInAnyOrder
 in_any_order verb files front back p q none = by (bytes_eq p.0 q.0) refl

@@ -1,25 +1,33 @@
 -- What a read command asks for, and what a read option sets (this kit's own).
-use Rattle.std.specs.Prelude.{◌≡◌, ℕ, ◌≤◌, ◌<◌, true, map, length, string_bytes}
+use Rattle.std.specs.Prelude.{◌≡◌, ℕ, ◌≤◌, ◌<◌, true, map, length, string_bytes, IfSome}
 use Rattle.std.specs.Option.{option_map}
 use Rattle.kc_link_place.specs.declared.ranges.Ranges.{Ranges}
 use Rattle.kc_link_place.specs.Ranges.{are_in_bounds}
+use Rattle.kc_kit_words.specs.declared.command.Beside.{Beside as ReadBeside}
 use Rattle.kc_kit_words.specs.declared.command.Command.{Command as Read}
 use Rattle.kc_kit_words.specs.declared.command.Command.TheVariants as read
+use Rattle.kc_kit_words.specs.declared.extent.Extent.{Extent}
 use Rattle.kc_kit_words.specs.Inputs.{inputs_in}
-use Rattle.kc_kit_words.specs.Values.{max_states}
-use Rattle.kc_kit_words.specs.Words.{Command, Helps, TellsVersion, Runs, Assembles, Packs, Links, RunsHex, Lists, Debugs, Generates}
+use Rattle.kc_kit_words.specs.Values.{max_states, max_lives}
+use Rattle.kc_kit_words.specs.Words.{Beside, Command, Helps, TellsVersion, Runs, Assembles, Packs, Links, RunsHex, Lists, Debugs, Generates, Dumps, Explains}
+
+-- the names of the files that are written beside a hex file
+abbrev pub beside_in : ReadBeside → Beside
+beside_in beside = record { lines = option_map (λ l. l.now) beside.lines; map = option_map (λ m. m.now) beside.map }
 
 abbrev pub asked : Read → Command
 asked read.Help = Helps
 asked read.Version = TellsVersion
-asked (read.Run run) = Runs (map string_bytes run.files.now) (inputs_in run.inputs) run.states run.placing
+asked (read.Run run) = Runs (map string_bytes run.files.now) (inputs_in run.inputs) run.extent run.placing
 asked (read.Assemble assemble) = Assembles assemble.file.now assemble.out.now
 asked (read.Pack pack) = Packs (map string_bytes pack.files.now) pack.out.now
-asked (read.Link link) = Links (map string_bytes link.files.now) (inputs_in link.inputs) link.out.now (option_map (λ l. l.now) link.lines) link.placing
-asked (read.RunHex run) = RunsHex run.file.now (inputs_in run.inputs) run.states
+asked (read.Link link) = Links (map string_bytes link.files.now) (inputs_in link.inputs) link.out.now (beside_in link.beside) link.placing
+asked (read.RunHex run) = RunsHex run.file.now (inputs_in run.inputs) run.extent
 asked (read.List list) = Lists list.file.now list.first list.last
 asked (read.Debug debug) = Debugs debug.file.now debug.script.now (inputs_in debug.inputs)
 asked (read.Generate generate) = Generates generate.number
+asked (read.Dump dump) = Dumps dump.file.now dump.out.now dump.clock
+asked (read.Explain explain) = Explains explain.code.now
 
 -- 1 to 64 files
 pub record AreFew (count : ℕ) : Type 0 where
@@ -32,11 +40,18 @@ pub record AreLinkable (count : ℕ) (placing : Ranges) : Type 0 where
   pub few : count ≤ 64
   pub bounds : are_in_bounds placing ≡ true
 
--- the number of states is within its limit, files may be linked, addresses are in order
+-- state times and lives within their limits
+pub record IsBounded (extent : Extent) : Type 0 where
+  pub states : extent.states ≤ max_states
+  pub some : IfSome extent.lives (λ n. 1 ≤ n)
+  pub few : IfSome extent.lives (λ n. n ≤ max_lives)
+
+-- a run is within its limits, files may be linked, addresses are in order, an oscillator goes
 abbrev pub IsWithin : Read → Type 0
-IsWithin (read.Run run) = (run.states ≤ max_states) × AreLinkable (length run.files.now) run.placing
+IsWithin (read.Run run) = IsBounded run.extent × AreLinkable (length run.files.now) run.placing
 IsWithin (read.Pack pack) = AreFew (length pack.files.now)
 IsWithin (read.Link link) = AreLinkable (length link.files.now) link.placing
-IsWithin (read.RunHex run) = run.states ≤ max_states
+IsWithin (read.RunHex run) = IsBounded run.extent
 IsWithin (read.List list) = (0x2000 ≤ list.first) × (list.first ≤ list.last)
+IsWithin (read.Dump dump) = 1 ≤ dump.clock
 IsWithin _ = Unit {0}

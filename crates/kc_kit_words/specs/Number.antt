@@ -22,6 +22,11 @@ abbrev pub up_to : ℕ → Option ℕ → Option ℕ
 up_to limit (Some n) = if nat_le n limit then Some n else None
 up_to limit None = None
 
+-- 0 is none
+abbrev pub from_one : Option ℕ → Option ℕ
+from_one (Some n) = if nat_le 1 n then Some n else None
+from_one None = None
+
 -- the text ends by `H`
 abbrev pub is_hex : List ℕ → Bool
 is_hex text = slice_index text (length text - 1) == 72

@@ -1,12 +1,13 @@
 -- The options of a command, each with its value (this kit's own).
 use Rattle.std.specs.Prelude.{ℕ, Bool, true, false, ◌&&◌, List, [], ◌∷◌, ◌++◌, codes, Option, Some, None, is_some, is_none, if◌then◌else◌}
-use Rattle.std.specs.Option.{option_and_then, option_map_or}
+use Rattle.std.specs.Option.{option_map, option_and_then, option_map_or, unwrap_or}
 use Rattle.std.specs.Str.{bytes_eq}
+use Rattle.kc_kit_words.specs.declared.extent.Extent.{Extent}
 use Rattle.kc_kit_words.specs.declared.inputs.Role.{Role}
 use Rattle.kc_kit_words.specs.declared.inputs.Role.TheVariants as role
 use Rattle.kc_kit_words.specs.declared.values.Form.{Form}
 use Rattle.kc_kit_words.specs.declared.values.Form.TheVariants as form
-use Rattle.kc_kit_words.specs.Values.{is_name, states_of, length_of, range_of}
+use Rattle.kc_kit_words.specs.Values.{is_name, states_of, lives_of, length_of, clock_of, range_of}
 
 -- ---- the options that each command takes, with the form of their values
 
@@ -17,16 +18,21 @@ placing_options = (codes "--reg", form.Span) ∷ (codes "--code", form.Span) ∷
 abbrev pub driving_options : List (List ℕ × Form)
 driving_options = (codes "--stim", form.Input role.Stimuli) ∷ (codes "--analog", form.Input role.Analog) ∷ []
 
+-- how far a board is run, and what drives its inputs
+abbrev pub running_options : List (List ℕ × Form)
+running_options = (codes "--states", form.States) ∷ (codes "--lives", form.Lives) ∷ driving_options
+
 abbrev pub out_option : List ℕ × Form
 out_option = (codes "--out", form.File)
 
 abbrev pub options_for : List ℕ → List (List ℕ × Form)
 options_for verb =
-    if bytes_eq verb (codes "run") then (codes "--states", form.States) ∷ driving_options ++ placing_options
+    if bytes_eq verb (codes "run") then running_options ++ placing_options
     else if bytes_eq verb (codes "asm") then out_option ∷ []
     else if bytes_eq verb (codes "lib") then out_option ∷ []
-    else if bytes_eq verb (codes "link") then out_option ∷ (codes "--lines", form.File) ∷ (codes "--lib", form.Input role.Library) ∷ placing_options
-    else if bytes_eq verb (codes "hex") then (codes "--states", form.States) ∷ driving_options
+    else if bytes_eq verb (codes "link") then out_option ∷ (codes "--lines", form.File) ∷ (codes "--map", form.File) ∷ (codes "--lib", form.Input role.Library) ∷ placing_options
+    else if bytes_eq verb (codes "hex") then running_options
+    else if bytes_eq verb (codes "vcd") then out_option ∷ (codes "--clock", form.Clock) ∷ []
     else if bytes_eq verb (codes "debug") then (codes "--lines", form.Input role.Lines) ∷ driving_options
     else []
 
@@ -40,7 +46,9 @@ form_of verb option = form_among option (options_for verb)
 
 abbrev pub has_form : Form → List ℕ → Bool
 has_form form.States value = is_some (states_of value)
+has_form form.Lives value = is_some (lives_of value)
 has_form form.Length value = is_some (length_of value)
+has_form form.Clock value = is_some (clock_of value)
 has_form form.Span value = is_some (range_of value)
 has_form form.File value = is_name value
 has_form (form.Input role) value = is_name value
@@ -85,8 +93,18 @@ inputs_of verb _ = []
 abbrev pub states_in : List (List ℕ) → Option ℕ
 states_in options = option_and_then states_of (value_of (codes "--states") options)
 
+abbrev pub lives_in : List (List ℕ) → Option ℕ
+lives_in options = option_and_then lives_of (value_of (codes "--lives") options)
+
+abbrev pub extent_in : List (List ℕ) → Option Extent
+extent_in options = option_map (λ states. record { states = states; lives = lives_in options }) (states_in options)
+
 abbrev pub range_in : List ℕ → List (List ℕ) → Option (ℕ × ℕ)
 range_in option options = option_and_then range_of (value_of option options)
+
+-- the hertz of an oscillator: 20 million without the option
+abbrev pub clock_in : List (List ℕ) → ℕ
+clock_in options = unwrap_or (option_and_then clock_of (value_of (codes "--clock") options)) 20000000
 
 abbrev pub length_in : List ℕ → List (List ℕ) → Option ℕ
 length_in option options = option_and_then length_of (value_of option options)

@@ -1,7 +1,7 @@
 -- The values of options (this kit's own).
-use Rattle.std.specs.Prelude.{ℕ, ◌+◌, Bool, not, ◌&&◌, ◌==◌, nat_lt, nat_le, List, length, take, drop, slice_index, Option, Some, None}
+use Rattle.std.specs.Prelude.{ℕ, ◌+◌, Bool, not, ◌&&◌, ◌==◌, nat_lt, nat_le, List, length, take, drop, slice_index, Option, Some, None, if◌then◌else◌}
 use Rattle.std.specs.List.{position}
-use Rattle.kc_kit_words.specs.Number.{number_of}
+use Rattle.kc_kit_words.specs.Number.{digits_from, up_to, from_one, number_of}
 
 -- the name of a file: 1 to 255 bytes, of which the first is no `-`
 abbrev pub is_name : List ℕ → Bool
@@ -14,9 +14,24 @@ max_states = 1000000000000000
 abbrev pub states_of : List ℕ → Option ℕ
 states_of word = number_of max_states word
 
+abbrev pub max_lives : ℕ
+max_lives = 1000
+
+-- a number of lives, in decimal digits
+abbrev pub lives_of : List ℕ → Option ℕ
+lives_of word = from_one (up_to max_lives (digits_from 10 0 word))
+
 -- a number of bytes
 abbrev pub length_of : List ℕ → Option ℕ
 length_of word = number_of 65535 word
+
+-- a number of hertz, 1 or more
+abbrev pub not_zero : Option ℕ → Option ℕ
+not_zero (Some n) = if n == 0 then None else Some n
+not_zero None = None
+
+abbrev pub clock_of : List ℕ → Option ℕ
+clock_of word = not_zero (number_of 4294967295 word)
 
 -- ---- a range A-B: two numbers up to 65,535 round the only `-`
 

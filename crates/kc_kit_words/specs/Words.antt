@@ -6,23 +6,31 @@ use Rattle.std.specs.Str.{bytes_eq}
 use Rattle.kc_base.specs.TextLines.{begins_with}
 use Rattle.kc_link_place.specs.declared.ranges.Ranges.{Ranges}
 use Rattle.kc_link_place.specs.Ranges.{are_in_bounds, lies_within}
+use Rattle.kc_kit_words.specs.declared.extent.Extent.{Extent}
 use Rattle.kc_kit_words.specs.declared.inputs.Role.{Role}
-use Rattle.kc_kit_words.specs.Options.{are_options, inputs_of, value_of, states_in, range_in, length_in}
+use Rattle.kc_kit_words.specs.Options.{are_options, inputs_of, value_of, clock_in, extent_in, range_in, length_in}
 use Rattle.kc_kit_words.specs.Number.{number_of}
 use Rattle.kc_kit_words.specs.Values.{is_name, range_of}
+
+-- the files that are written beside a hex file, where they are asked for
+pub record Beside : Type 0 where
+  pub lines : Option (List ℕ)
+  pub map : Option (List ℕ)
 
 -- A command. Beside its first files it may have further ones to be read, each for a role.
 pub data Command : Type 0 where
   Helps : Command
   TellsVersion : Command
-  Runs : List (List ℕ) → List (Role × List ℕ) → ℕ → Ranges → Command
+  Runs : List (List ℕ) → List (Role × List ℕ) → Extent → Ranges → Command
   Assembles : List ℕ → List ℕ → Command
   Packs : List (List ℕ) → List ℕ → Command
-  Links : List (List ℕ) → List (Role × List ℕ) → List ℕ → Option (List ℕ) → Ranges → Command
-  RunsHex : List ℕ → List (Role × List ℕ) → ℕ → Command
+  Links : List (List ℕ) → List (Role × List ℕ) → List ℕ → Beside → Ranges → Command
+  RunsHex : List ℕ → List (Role × List ℕ) → Extent → Command
   Lists : List ℕ → ℕ → ℕ → Command
   Debugs : List ℕ → List ℕ → List (Role × List ℕ) → Command
   Generates : ℕ → Command
+  Dumps : List ℕ → List ℕ → ℕ → Command
+  Explains : List ℕ → Command
 
 -- ---- files stand before the options, and an option begins with `-`
 
@@ -51,12 +59,12 @@ placing_of options = record {
 
 -- ---- each command with its files and options
 
-abbrev pub runs_by : List (List ℕ) → List (Role × List ℕ) → Option ℕ → Ranges → Option Command
+abbrev pub runs_by : List (List ℕ) → List (Role × List ℕ) → Option Extent → Ranges → Option Command
 runs_by files inputs None placing = None
-runs_by files inputs (Some states) placing = if are_in_bounds placing then Some (Runs files inputs states placing) else None
+runs_by files inputs (Some extent) placing = if are_in_bounds placing then Some (Runs files inputs extent placing) else None
 
 abbrev pub run_by : List (List ℕ) → List ℕ → List (List ℕ) → Option Command
-run_by files verb options = if are_files files then runs_by files (inputs_of verb options) (states_in options) (placing_of options) else None
+run_by files verb options = if are_files files then runs_by files (inputs_of verb options) (extent_in options) (placing_of options) else None
 
 abbrev pub assemble_by : List (List ℕ) → List (List ℕ) → Option Command
 assemble_by (file ∷ []) options = if is_name file then option_map (Assembles file) (value_of (codes "--out") options) else None
@@ -70,18 +78,30 @@ abbrev pub is_other : List ℕ → Option (List ℕ) → Bool
 is_other out None = true
 is_other out (Some lines) = not (bytes_eq lines out)
 
-abbrev pub links_by : List (List ℕ) → List (Role × List ℕ) → Option (List ℕ) → Option (List ℕ) → Ranges → Option Command
-links_by files inputs None lines placing = None
-links_by files inputs (Some out) lines placing = if is_other out lines && are_in_bounds placing then Some (Links files inputs out lines placing) else None
+abbrev pub is_apart : Option (List ℕ) → Option (List ℕ) → Bool
+is_apart None other = true
+is_apart (Some name) other = is_other name other
+
+-- the files that are written are all different ones
+abbrev pub are_apart : List ℕ → Beside → Bool
+are_apart out beside = is_apart beside.lines beside.map && is_other out beside.lines && is_other out beside.map
+
+abbrev pub links_by : List (List ℕ) → List (Role × List ℕ) → Option (List ℕ) → Beside → Ranges → Option Command
+links_by files inputs None beside placing = None
+links_by files inputs (Some out) beside placing = if are_apart out beside && are_in_bounds placing then Some (Links files inputs out beside placing) else None
+
+-- a line map, and a map of pieces and names
+abbrev pub beside_of : List (List ℕ) → Beside
+beside_of options = record { lines = value_of (codes "--lines") options; map = value_of (codes "--map") options }
 
 abbrev pub link_by : List (List ℕ) → List ℕ → List (List ℕ) → Option Command
 link_by files verb options =
     if are_files files
-    then links_by files (inputs_of verb options) (value_of (codes "--out") options) (value_of (codes "--lines") options) (placing_of options)
+    then links_by files (inputs_of verb options) (value_of (codes "--out") options) (beside_of options) (placing_of options)
     else None
 
 abbrev pub hex_of : List ℕ → List ℕ → List (List ℕ) → Option Command
-hex_of file verb options = if is_name file then option_map (RunsHex file (inputs_of verb options)) (states_in options) else None
+hex_of file verb options = if is_name file then option_map (RunsHex file (inputs_of verb options)) (extent_in options) else None
 
 abbrev pub hex_by : List (List ℕ) → List ℕ → List (List ℕ) → Option Command
 hex_by (file ∷ []) verb options = hex_of file verb options
@@ -112,6 +132,16 @@ abbrev pub generate_by : List (List ℕ) → Option Command
 generate_by (number ∷ []) = option_map Generates (number_of 65535 number)
 generate_by _ = None
 
+-- a trace, which is written as a value change dump
+abbrev pub dump_by : List (List ℕ) → List (List ℕ) → Option Command
+dump_by (file ∷ []) options = if is_name file then option_map (λ out. Dumps file out (clock_in options)) (value_of (codes "--out") options) else None
+dump_by _ options = None
+
+-- a code, or a word that is none
+abbrev pub explain_by : List (List ℕ) → Option Command
+explain_by (code ∷ []) = Some (Explains code)
+explain_by _ = None
+
 abbrev pub alone : List (List ℕ) → Command → Option Command
 alone [] command = Some command
 alone (file ∷ files) command = None
@@ -126,6 +156,8 @@ command_by verb files options =
     else if bytes_eq verb (codes "dis") then list_by files
     else if bytes_eq verb (codes "debug") then debug_by files verb options
     else if bytes_eq verb (codes "gen") then generate_by files
+    else if bytes_eq verb (codes "vcd") then dump_by files options
+    else if bytes_eq verb (codes "explain") then explain_by files
     else if bytes_eq verb (codes "--help") then alone files Helps
     else if bytes_eq verb (codes "--version") then alone files TellsVersion
     else None

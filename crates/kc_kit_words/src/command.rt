@@ -1,12 +1,13 @@
+use crate::extent::Extent;
 use crate::inputs::Inputs;
 use kc_link_place::Ranges;
 
-/// A run of 1 to 64 sources for some state times.
+/// A run of 1 to 64 sources.
 #[derive(Clone, Copy)]
 pub struct Run<'a> {
     pub files: &'a [String],
     pub inputs: Inputs<'a>,
-    pub states: u64,
+    pub extent: Extent,
     pub placing: Ranges,
 }
 
@@ -24,23 +25,30 @@ pub struct Pack<'a> {
     pub out: &'a str,
 }
 
-/// 1 to 64 objects that are linked, with what they need of a library where one is named, to a hex file, and to a line map
-/// where one is asked for.
+/// The files that are written beside a hex file, where they are asked for: a line map, and a map of pieces and names.
+#[derive(Clone, Copy)]
+pub struct Beside<'a> {
+    pub lines: Option<&'a str>,
+    pub map: Option<&'a str>,
+}
+
+/// 1 to 64 objects that are linked, with what they need of a library where one is named, to a hex file and to the files
+/// beside it.
 #[derive(Clone, Copy)]
 pub struct Link<'a> {
     pub files: &'a [String],
     pub inputs: Inputs<'a>,
     pub out: &'a str,
-    pub lines: Option<&'a str>,
+    pub beside: Beside<'a>,
     pub placing: Ranges,
 }
 
-/// A run of a hex file for some state times.
+/// A run of a hex file.
 #[derive(Clone, Copy)]
 pub struct RunHex<'a> {
     pub file: &'a str,
     pub inputs: Inputs<'a>,
-    pub states: u64,
+    pub extent: Extent,
 }
 
 /// A listing of a hex file from one address to another.
@@ -65,6 +73,20 @@ pub struct Generate {
     pub number: u16,
 }
 
+/// A trace that is written as a value change dump, of a board whose oscillator has so many hertz.
+#[derive(Clone, Copy)]
+pub struct Dump<'a> {
+    pub file: &'a str,
+    pub out: &'a str,
+    pub clock: u32,
+}
+
+/// A code that is to be explained.
+#[derive(Clone, Copy)]
+pub struct Explain<'a> {
+    pub code: &'a str,
+}
+
 /// What some words ask for.
 #[derive(Clone, Copy)]
 pub enum Command<'a> {
@@ -78,4 +100,6 @@ pub enum Command<'a> {
     List(List<'a>),
     Debug(Debug<'a>),
     Generate(Generate),
+    Dump(Dump<'a>),
+    Explain(Explain<'a>),
 }

@@ -2,6 +2,7 @@
 #![tactic(auto)]
 
 mod command;
+mod extent;
 mod inputs;
 mod numbers;
 mod options;
@@ -9,7 +10,10 @@ mod order;
 mod values;
 mod words;
 
-pub use command::{Assemble, Command, Debug, Generate, Link, List, Pack, Run, RunHex};
+pub use command::{
+    Assemble, Beside, Command, Debug, Dump, Explain, Generate, Link, List, Pack, Run, RunHex,
+};
+pub use extent::Extent;
 pub use inputs::{Input, Inputs, Role};
 pub use kc_link_place::Ranges;
 pub use numbers::number;

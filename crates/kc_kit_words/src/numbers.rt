@@ -33,6 +33,15 @@ fn digits(base: u64, text: &[u8], limit: u64) -> Option<u64>
     Some(so_far)
 }
 
+/// The number that a text of decimal digits alone stands for, up to a limit; 0 for a text of none.
+pub(crate) fn decimal(text: &[u8], limit: u64) -> Option<u64>
+    requires { limit ≤ 1000000000000000 }
+    ensures value { result ≡ up_to limit (digits_from 10 0 text.now) }
+    ensures within { IfSome result (λ n. n ≤ limit) }
+{
+    digits(10, text, limit)
+}
+
 /// The number that a text stands for, up to a limit.
 pub fn number(text: &[u8], limit: u64) -> Option<u64>
     requires { limit ≤ 1000000000000000 }

@@ -1,13 +1,15 @@
 // The words of a command line after its verb: files, and then options with their values.
-ghost use Rattle.std.specs.Prelude.{◌≡◌, ◌≤◌, ◌&&◌, is_none, map, string_bytes, length, IfSome};
-ghost use Rattle.std.specs.Option.{option_map};
+ghost use Rattle.std.specs.Prelude.{◌≡◌, ◌≤◌, ◌&&◌, is_none, map, string_bytes, length, codes, IfSome};
+ghost use Rattle.std.specs.Option.{option_map, option_and_then};
 ghost use Rattle.kc_base.specs.TextLines.{begins_with};
-ghost use Rattle.kc_kit_words.specs.Options.{placing_options, driving_options, form_among, form_of, takes, value_of, are_options, states_in, range_in, length_in};
-ghost use Rattle.kc_kit_words.specs.Values.{max_states};
+ghost use Rattle.kc_kit_words.specs.Asked.{IsBounded};
+ghost use Rattle.kc_kit_words.specs.Options.{placing_options, driving_options, running_options, form_among, form_of, takes, value_of, are_options, states_in, lives_in, extent_in, clock_in, range_in, length_in};
+ghost use Rattle.kc_kit_words.specs.Values.{clock_of, max_states, max_lives};
 ghost use Rattle.kc_kit_words.specs.Words as spec;
 
+use crate::extent::Extent;
 use crate::inputs::Role;
-use crate::values::{Form, bytes, has_form, range, states};
+use crate::values::{Form, bytes, clock, has_form, lives, range, states};
 
 fn is_option(word: &str) -> bool
     ensures { result ≡ begins_with 45 word.now }
@@ -57,30 +59,40 @@ fn driving_form(option: &str) -> Option<Form>
     }
 }
 
+// The form of the value of an option that says how far a board is run, or what drives its inputs.
+fn running_form(option: &str) -> Option<Form>
+    ensures { result ≡ form_among option.now running_options }
+{
+    match option {
+        "--states" => Some(Form::States),
+        "--lives" => Some(Form::Lives),
+        _ => driving_form(option),
+    }
+}
+
 /// The form of the value of an option, or none where the command does not take it.
 pub(crate) fn form_of(verb: &str, option: &str) -> Option<Form>
     ensures { result ≡ form_of verb.now option.now }
 {
     match verb {
-        "run" => match option {
-            "--states" => Some(Form::States),
-            _ => match driving_form(option) {
-                None => placing_form(option),
-                form => form,
-            },
+        "run" => match running_form(option) {
+            None => placing_form(option),
+            form => form,
         },
         "asm" | "lib" => match option {
             "--out" => Some(Form::File),
             _ => None,
         },
         "link" => match option {
-            "--out" | "--lines" => Some(Form::File),
+            "--out" | "--lines" | "--map" => Some(Form::File),
             "--lib" => Some(Form::Input(Role::Library)),
             _ => placing_form(option),
         },
-        "hex" => match option {
-            "--states" => Some(Form::States),
-            _ => driving_form(option),
+        "hex" => running_form(option),
+        "vcd" => match option {
+            "--out" => Some(Form::File),
+            "--clock" => Some(Form::Clock),
+            _ => None,
         },
         "debug" => match option {
             "--lines" => Some(Form::Input(Role::Lines)),
@@ -135,12 +147,50 @@ pub(crate) fn are_options(verb: &str, words: &[String]) -> bool
     left.is_empty()
 }
 
-/// How many state times a run has, where an option says it.
-pub(crate) fn states_in(words: &[String]) -> Option<u64>
+// How many state times a run has, where an option says it.
+fn states_in(words: &[String]) -> Option<u64>
     ensures value { result ≡ states_in (map string_bytes words.now) }
     ensures within { IfSome result (λ n. n ≤ max_states) }
 {
     states(value_of("--states", words)?)
+}
+
+// How many lives a run has at most, where an option says it.
+fn lives_in(words: &[String]) -> Option<u16>
+    ensures value { result ≡ lives_in (map string_bytes words.now) }
+    ensures some { IfSome result (λ n. 1 ≤ n) }
+    ensures within { IfSome result (λ n. n ≤ max_lives) }
+{
+    lives(value_of("--lives", words)?)
+}
+
+/// How far a board is run, where the options say for how many state times.
+pub(crate) fn extent_in(words: &[String]) -> Option<Extent>
+    ensures value { result ≡ extent_in (map string_bytes words.now) }
+    ensures within { IfSome result IsBounded }
+{
+    let states = states_in(words)?;
+    let lives = lives_in(words);
+    Some(Extent { states, lives })
+}
+
+// The hertz that an option says, where it stands.
+fn clock_said(words: &[String]) -> Option<u32>
+    ensures value { result ≡ option_and_then clock_of (value_of (codes "--clock") (map string_bytes words.now)) }
+    ensures some { IfSome result (λ n. 1 ≤ n) }
+{
+    clock(value_of("--clock", words)?)
+}
+
+/// The hertz of an oscillator: 20 million, where no option says another number.
+pub(crate) fn clock_in(words: &[String]) -> u32
+    ensures value { result ≡ clock_in (map string_bytes words.now) }
+    ensures some { 1 ≤ result }
+{
+    match clock_said(words) {
+        Some(clock) => clock,
+        None => 20_000_000,
+    }
 }
 
 /// The range that an option sets, where it stands.

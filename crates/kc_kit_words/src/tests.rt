@@ -1,5 +1,5 @@
 // Command lines and what they ask for.
-use crate::{Command, Input, Inputs, Ranges, Role, read_words};
+use crate::{Command, Extent, Input, Inputs, Ranges, Role, read_words};
 use std::alloc::{AllocError, Global};
 use std::test::Fail;
 
@@ -23,7 +23,7 @@ fn shown(alloc: Global, line: &str) -> Result<String, AllocError> {
             text.push_str("run")?;
             put_files(&mut text, run.files)?;
             put_inputs(&mut text, run.inputs)?;
-            put_number(alloc, &mut text, run.states)?;
+            put_extent(alloc, &mut text, run.extent)?;
             put_ranges(alloc, &mut text, &run.placing)?;
         }
         Some(Command::Assemble(assemble)) => {
@@ -41,14 +41,17 @@ fn shown(alloc: Global, line: &str) -> Result<String, AllocError> {
             put_files(&mut text, link.files)?;
             put_inputs(&mut text, link.inputs)?;
             put(&mut text, link.out)?;
-            put(&mut text, link.lines.unwrap_or("-"))?;
+            put(&mut text, link.beside.lines.unwrap_or("-"))?;
+            if let Some(map) = link.beside.map {
+                put(&mut text, map)?;
+            }
             put_ranges(alloc, &mut text, &link.placing)?;
         }
         Some(Command::RunHex(run)) => {
             text.push_str("hex")?;
             put(&mut text, run.file)?;
             put_inputs(&mut text, run.inputs)?;
-            put_number(alloc, &mut text, run.states)?;
+            put_extent(alloc, &mut text, run.extent)?;
         }
         Some(Command::List(list)) => {
             text.push_str("dis")?;
@@ -61,6 +64,16 @@ fn shown(alloc: Global, line: &str) -> Result<String, AllocError> {
             put(&mut text, debug.file)?;
             put(&mut text, debug.script)?;
             put_inputs(&mut text, debug.inputs)?;
+        }
+        Some(Command::Dump(dump)) => {
+            text.push_str("vcd")?;
+            put(&mut text, dump.file)?;
+            put(&mut text, dump.out)?;
+            put_number(alloc, &mut text, u64::from(dump.clock))?;
+        }
+        Some(Command::Explain(explain)) => {
+            text.push_str("explain")?;
+            put(&mut text, explain.code)?;
         }
         Some(Command::Generate(generate)) => {
             text.push_str("gen")?;
@@ -108,6 +121,15 @@ fn put_inputs(text: &mut String, inputs: Inputs<'_>) -> Result<(), AllocError> {
 fn put_number(alloc: Global, text: &mut String, number: u64) -> Result<(), AllocError> {
     let number = format!(in alloc; "{number}")?;
     put(text, number.as_str())
+}
+
+fn put_extent(alloc: Global, text: &mut String, extent: Extent) -> Result<(), AllocError> {
+    put_number(alloc, text, extent.states)?;
+    if let Some(lives) = extent.lives {
+        put(text, "lives")?;
+        put_number(alloc, text, u64::from(lives))?;
+    }
+    Ok(())
 }
 
 fn put_range(alloc: Global, text: &mut String, range: (u16, u16)) -> Result<(), AllocError> {
@@ -158,6 +180,8 @@ fn lines_ask_for_commands(rt: HostRuntime) -> Result<(), Fail> {
             "hex a.hex stimuli a.hex 15",
         ),
         ("hex a --analog a --states 1", "hex a analog a 1"),
+        ("hex a --lives 001 --states 1", "hex a 1 lives 1"),
+        ("run a --states 1 --lives 1000", "run a 1 lives 1000"),
         ("asm a.a96 --out a.obj", "asm a.a96 a.obj"),
         (
             "link a.obj b.obj --lines a.map --out a.hex",
@@ -168,6 +192,7 @@ fn lines_ask_for_commands(rt: HostRuntime) -> Result<(), Fail> {
             "link a.obj a.hex - code 8192 65535 stack 65535",
         ),
         ("link a.obj --out a.obj", "link a.obj a.obj -"),
+        ("link a --map m --out b --lines l", "link a b l m"),
         (
             "hex a.hex --states 1000000000000000",
             "hex a.hex 1000000000000000",
@@ -192,6 +217,11 @@ fn lines_ask_for_commands(rt: HostRuntime) -> Result<(), Fail> {
         ),
         ("gen 0FFH", "gen 255"),
         ("gen 65535", "gen 65535"),
+        ("vcd a.trc --out a.vcd", "vcd a.trc a.vcd 20000000"),
+        ("vcd a --clock 1 --out a", "vcd a a 1"),
+        ("vcd a --out b --clock 0FFFFFFFFH", "vcd a b 4294967295"),
+        ("explain E07", "explain E07"),
+        ("explain e07", "explain e07"),
     ] {
         let given = shown(a, line)?;
         assert_eq!(rt; given.as_str(), command, "{line}");
@@ -232,6 +262,8 @@ fn other_lines_ask_for_nothing(rt: HostRuntime) -> Result<(), Fail> {
         "asm a",
         "asm a --out -c",
         "link a --out b --lines b",
+        "link a --out b --map b",
+        "link a --out b --lines c --map c",
         "link a --out b --lib c --lib c",
         "link a --lib c",
         "link a --out b --reg 19H-0FFH",
@@ -245,7 +277,12 @@ fn other_lines_ask_for_nothing(rt: HostRuntime) -> Result<(), Fail> {
         "link a --out b --code 2080H-3000H-4000H",
         "link a --out b --code -3000H",
         "hex a b --states 1",
-        "hex a --states 1 --lives 2",
+        "run a --lives 2",
+        "hex a --states 1 --lives 0",
+        "hex a --states 1 --lives 2H",
+        "hex a --states 1 --lives 1001",
+        "run a --states 1 --lives 2 --lives 2",
+        "debug a b --lives 2",
         "dis a",
         "dis a 2088H-2080H",
         "dis a 1FFFH-2080H",
@@ -260,6 +297,16 @@ fn other_lines_ask_for_nothing(rt: HostRuntime) -> Result<(), Fail> {
         "gen 1 2",
         "gen 1 --states 1",
         "gen 1 --analog v",
+        "vcd a",
+        "vcd --out b",
+        "vcd a b --out c",
+        "vcd a --out b --clock 0",
+        "vcd a --out b --clock 4294967296",
+        "vcd a --out b --states 1",
+        "explain",
+        "explain E07 E08",
+        "explain -E07",
+        "explain E07 --out b",
         "lib --out b",
         "lib a",
         "lib a --out b --lib c",

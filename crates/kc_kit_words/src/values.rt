@@ -1,11 +1,11 @@
 // The values of options.
 ghost use Rattle.std.specs.Prelude.{◌≡◌, ◌≤◌, ◌<◌, ◌==◌, IfSome, position, length};
 ghost use Rattle.kc_kit_words.specs.Number.{number_of};
-ghost use Rattle.kc_kit_words.specs.Values.{is_name, max_states, states_of, length_of, range_of};
+ghost use Rattle.kc_kit_words.specs.Values.{is_name, max_states, max_lives, states_of, lives_of, length_of, clock_of, range_of};
 ghost use Rattle.kc_kit_words.specs.Options.{has_form};
 
 use crate::inputs::Role;
-use crate::numbers::number;
+use crate::numbers::{decimal, number};
 use kc_base::{after, front};
 
 /// The form of the value of an option.
@@ -13,8 +13,12 @@ use kc_base::{after, front};
 pub(crate) enum Form {
     /// A number of state times, up to 10^15.
     States,
+    /// A number of lives, in decimal digits: 1 to 1,000.
+    Lives,
     /// A number of bytes, up to 65,535.
     Length,
+    /// A number of hertz, 1 to 4,294,967,295.
+    Clock,
     /// Two addresses round a `-`.
     Span,
     /// The name of a file.
@@ -25,6 +29,9 @@ pub(crate) enum Form {
 
 /// The most state times that a run may have.
 const MAX_STATES: u64 = 1_000_000_000_000_000;
+
+/// The most lives that a run may have.
+const MAX_LIVES: u64 = 1_000;
 
 pub(crate) fn is_name(name: &str) -> bool
     ensures { result ≡ is_name name.now }
@@ -44,12 +51,33 @@ pub(crate) fn states(word: &str) -> Option<u64>
     number(word.as_bytes(), MAX_STATES)
 }
 
+/// A number of lives.
+pub(crate) fn lives(word: &str) -> Option<u16>
+    ensures value { result ≡ lives_of word.now }
+    ensures some { IfSome result (λ n. 1 ≤ n) }
+    ensures within { IfSome result (λ n. n ≤ max_lives) }
+{
+    let lives = decimal(word.as_bytes(), MAX_LIVES)?;
+    if lives >= 1 { Some(lives as u16) } else { None }
+}
+
 /// A number of 16 bits.
 pub(crate) fn short(word: &[u8]) -> Option<u16>
     ensures { result ≡ number_of 65535 word.now }
 {
     let value = number(word, 65_535)?;
     Some(value as u16)
+}
+
+/// A number of hertz.
+pub(crate) fn clock(word: &str) -> Option<u32>
+    ensures value { result ≡ clock_of word.now }
+    ensures some { IfSome result (λ n. 1 ≤ n) }
+{
+    match number(word.as_bytes(), 4_294_967_295)? {
+        0 => None,
+        hertz => Some(hertz as u32),
+    }
 }
 
 /// A number of bytes.
@@ -84,7 +112,9 @@ pub(crate) fn has_form(form: Form, value: &str) -> bool
 {
     match form {
         Form::States => states(value).is_some(),
+        Form::Lives => lives(value).is_some(),
         Form::Length => bytes(value).is_some(),
+        Form::Clock => clock(value).is_some(),
         Form::Span => range(value).is_some(),
         Form::File | Form::Input(_) => is_name(value),
     }

@@ -3,13 +3,17 @@ ghost use Rattle.std.specs.Prelude.{◌≡◌, IfSome, map, string_bytes};
 ghost use Rattle.std.specs.List.{list_all};
 ghost use Rattle.std.specs.Option.{option_map, unwrap_or};
 ghost use Rattle.kc_kit_words.specs.Values.{is_name};
-ghost use Rattle.kc_kit_words.specs.Words.{command_of, command_by, run_by, assemble_by, pack_by, link_by, hex_by, hex_of, list_by, list_of, debug_by, debug_of, generate_by, are_files, placing_of};
+ghost use Rattle.kc_kit_words.specs.Words.{command_of, command_by, run_by, assemble_by, pack_by, link_by, hex_by, hex_of, list_by, list_of, debug_by, debug_of, generate_by, dump_by, explain_by, are_files, placing_of};
 ghost use Rattle.kc_kit_words.specs.Words as spec;
-ghost use Rattle.kc_kit_words.specs.Asked.{asked, IsWithin};
+ghost use Rattle.kc_kit_words.specs.Asked.{asked, beside_in, IsWithin};
 
-use crate::command::{Assemble, Command, Debug, Generate, Link, List, Pack, Run, RunHex};
+use crate::command::{
+    Assemble, Beside, Command, Debug, Dump, Explain, Generate, Link, List, Pack, Run, RunHex,
+};
 use crate::inputs::Inputs;
-use crate::options::{are_options, count_files, length_in, range_in, states_in, value_of};
+use crate::options::{
+    are_options, clock_in, count_files, extent_in, length_in, range_in, value_of,
+};
 use crate::values::{is_name, range, short};
 use kc_link_place::Ranges;
 
@@ -65,7 +69,7 @@ fn read_run<'a>(files: &'a [String], verb: &'a str, options: &'a [String]) -> Op
     if !are_files(files) {
         return None;
     }
-    let states = states_in(options)?;
+    let extent = extent_in(options)?;
     let placing = placing(options);
     if placing.are_within_bounds() {
         Some(Command::Run(Run {
@@ -74,7 +78,7 @@ fn read_run<'a>(files: &'a [String], verb: &'a str, options: &'a [String]) -> Op
                 verb,
                 words: options,
             },
-            states,
+            extent,
             placing,
         }))
     } else {
@@ -117,9 +121,12 @@ fn read_link<'a>(files: &'a [String], verb: &'a str, options: &'a [String]) -> O
         return None;
     }
     let out = value_of("--out", options)?;
-    let lines = value_of("--lines", options);
+    let beside = Beside {
+        lines: value_of("--lines", options),
+        map: value_of("--map", options),
+    };
     let placing = placing(options);
-    if is_other(out, lines) && placing.are_within_bounds() {
+    if are_apart(out, beside) && placing.are_within_bounds() {
         Some(Command::Link(Link {
             files,
             inputs: Inputs {
@@ -127,7 +134,7 @@ fn read_link<'a>(files: &'a [String], verb: &'a str, options: &'a [String]) -> O
                 words: options,
             },
             out,
-            lines,
+            beside,
             placing,
         }))
     } else {
@@ -145,6 +152,17 @@ fn is_other(out: &str, lines: Option<&str>) -> bool
     }
 }
 
+// Whether the files that are written are all different ones.
+fn are_apart(out: &str, beside: Beside<'_>) -> bool
+    ensures { result ≡ spec.are_apart out.now (beside_in beside.entry) }
+{
+    let is_apart = match beside.lines {
+        None => true,
+        Some(lines) => is_other(lines, beside.map),
+    };
+    is_apart && is_other(out, beside.lines) && is_other(out, beside.map)
+}
+
 // A run of a hex file.
 fn hex_run<'a>(file: &'a str, verb: &'a str, options: &'a [String]) -> Option<Command<'a>>
     ensures asked { option_map asked result ≡ hex_of file.now verb.now (map string_bytes options.now) }
@@ -159,7 +177,7 @@ fn hex_run<'a>(file: &'a str, verb: &'a str, options: &'a [String]) -> Option<Co
             verb,
             words: options,
         },
-        states: states_in(options)?,
+        extent: extent_in(options)?,
     }))
 }
 
@@ -244,6 +262,35 @@ fn read_generate<'a>(files: &'a [String]) -> Option<Command<'a>>
     Some(Command::Generate(Generate { number }))
 }
 
+fn read_dump<'a>(files: &'a [String], options: &'a [String]) -> Option<Command<'a>>
+    ensures asked { option_map asked result ≡ dump_by (map string_bytes files.now) (map string_bytes options.now) }
+    ensures within { IfSome result IsWithin }
+{
+    let [file] = files else {
+        return None;
+    };
+    if !is_name(file.as_str()) {
+        return None;
+    }
+    Some(Command::Dump(Dump {
+        file: file.as_str(),
+        out: value_of("--out", options)?,
+        clock: clock_in(options),
+    }))
+}
+
+fn read_explain<'a>(files: &'a [String]) -> Option<Command<'a>>
+    ensures asked { option_map asked result ≡ explain_by (map string_bytes files.now) }
+    ensures within { IfSome result IsWithin }
+{
+    let [code] = files else {
+        return None;
+    };
+    Some(Command::Explain(Explain {
+        code: code.as_str(),
+    }))
+}
+
 // A command that is one word.
 fn alone<'a>(files: &[String], command: Command<'a>) -> Option<Command<'a>>
     requires { IsWithin command }
@@ -275,6 +322,8 @@ fn read_command<'a>(
         "dis" => read_list(files),
         "debug" => read_debug(files, verb, options),
         "gen" => read_generate(files),
+        "vcd" => read_dump(files, options),
+        "explain" => read_explain(files),
         "--help" => alone(files, Command::Help),
         "--version" => alone(files, Command::Version),
         _ => None,

@@ -6,6 +6,7 @@ use Rattle.kc_kit_files.specs.Outside.{kept}
 use Rattle.kc_kit_files.proofs.ReplyLemmas.{Replies-widen}
 use Rattle.kc_kit_words.specs.Asked.{asked}
 use Rattle.kc_kit_answer.specs.Answer.{MayAnswer}
+use Rattle.kc_kit_answer.specs.Explain.{explained}
 use Rattle.kc_kit_answer.specs.Generate.{GenerateAnswer}
 use Rattle.kc_kit_answer.specs.Jobs.{IsOf}
 use Rattle.kc_kit_answer.proofs.AnswerSteps.{holds-none, finished, prepared-of}
@@ -70,3 +71,16 @@ returns-in-Generate g c =
     (λ r e. subst (λ k. MayAnswer (Some (asked k)) told rose r) (sym c.in-Generate.is)
     ([], holds-none told, inl (prepared-of (GenerateAnswer c.in-Generate.generate.number) c.prepare_generate-prepared.result c.prepare_generate-prepared.ensures r e)))
     c.finish-in-Generate.ensures.answer
+
+pub returns-in-Dump : goal.returns-in-Dump
+returns-in-Dump g c =
+    finished g.F.Files.held g.F.Files.read_faults g.F.Files.write_faults c.args.command.now _ c.args.files.now c.prepare_dump-prepared.new.files c.finish-in-Dump.new.files c.prepare_dump-prepared.result _ _ _
+    c.in-Dump.is c.prepare_dump-prepared.ensures c.finish-in-Dump.ensures.answer c.finish-in-Dump.ensures.no_read
+
+pub returns-in-Explain : goal.returns-in-Explain
+returns-in-Explain g c =
+    let told = g.F.Files.held c.args.files.now in
+    let rose : Type 0 = Rose (g.F.Files.read_faults c.args.files.now) (g.F.Files.read_faults c.args.files.now) in
+    Replies-widen (λ (reply : Reply). reply ≡ explained c.in-Explain.explain.code.now) (MayAnswer (Some (asked c.args.command.now)) told rose) _ _ _ _ _
+    (λ r e. subst (λ k. MayAnswer (Some (asked k)) told rose r) (sym c.in-Explain.is) ([], holds-none told, inl e))
+    (c.explain_code.ensures (kept told (g.F.Files.write_faults c.args.files.now)))

@@ -1,6 +1,4 @@
-use Rattle.std.proofs.Common.{◌≡◌, ◌∙◌, ap, refl, sym, subst}
-use Rattle.kc_machine_spec.specs.Machine.{Machine}
-use Rattle.kc_machine_spec.specs.Run.{end_of}
+use Rattle.std.proofs.Common.{◌≡◌, refl, subst}
 use Rattle.kc_debug.specs.Transcript.{Debugged}
 use Rattle.kc_kit_files.specs.declared.status.Status.TheVariants as status
 use Rattle.kc_kit_files.specs.Reply.{Reply}

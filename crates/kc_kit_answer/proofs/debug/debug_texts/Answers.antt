@@ -1,4 +1,4 @@
-use Rattle.std.proofs.Common.{subst, List, ℕ, Option}
+use Rattle.std.proofs.Common.{subst, List, ℕ}
 use Rattle.kc_kit_words.specs.Inputs.{inputs_in}
 use Rattle.kc_kit_words.specs.declared.inputs.Role.TheVariants as role
 use Rattle.kc_kit_files.specs.Reply.{IsRefused}

@@ -5,7 +5,7 @@ use Rattle.kc_extra.proofs.Pairs.{same_pair}
 use Rattle.kc_serial.specs.Port.{Keeps, is_high, level_of, rxd, start}
 use Rattle.kc_serial.specs.declared.serial.Serial.{Serial}
 use Rattle.kc_block_spec.specs.Levels.{stimulated_before}
-use Rattle.kc_kit_answer.specs.Fitted.{fitted}
+use Rattle.kc_kit_answer.specs.Fitted.{units_at}
 use Rattle.kc_kit_answer.proofs.fitted.fitted_unit.Goals as goal
 
 high_again : (high : Bool) → high ≡ is_high (level_of high)
@@ -14,7 +14,7 @@ high_again false = refl
 
 pub returns-clause-unit : goal.returns-clause-unit
 returns-clause-unit c =
-    let unit = fitted (record { stimuli = c.args.stimuli.now; values = c.args.values }) in
+    let unit = units_at c.args.stimuli.now c.args.values c.args.from in
     let analog = same_pair c.of-analog.result unit.second (c.of-analog.ensures.first ∙ c.new.ensures) (c.of-analog.ensures.second ∙ c.new-2.ensures) c.of-analog.ensures.moves in
     same_pair c.of.result unit (c.of.ensures.first ∙ (c.new-3.ensures.start ∙ ap start c.rxd_level.ensures)) (c.of.ensures.second ∙ analog) c.of.ensures.moves
 

@@ -1,25 +1,31 @@
-use Rattle.std.proofs.Common.{◌∷◌, sym, subst}
-use Rattle.std.specs.Prelude.{[]}
+use Rattle.std.proofs.Common.{◌++◌, ◌∙◌}
 use Rattle.kc_kit_files.specs.Outside.{kept}
-use Rattle.kc_kit_files.specs.declared.status.Status.TheVariants as status
-use Rattle.kc_kit_answer.specs.Jobs.{AreWritten, written, maybe_written}
-use Rattle.kc_kit_answer.proofs.WriteLemmas.{written-none, written-more, written-one}
+use Rattle.kc_kit_answer.specs.Jobs.{written, maybe_written}
+use Rattle.kc_kit_answer.proofs.WriteLemmas.{written-more, written-behind, written-front}
 use Rattle.kc_kit_answer.proofs.job.write_files.Goals as goal
 
-pub returns-in-None-clause-written : goal.returns-in-None-clause-written
-returns-in-None-clause-written g c =
+pub returns-in-Done-write_some-clause-written : goal.returns-in-Done-write_some-clause-written
+returns-in-Done-write_some-clause-written g c =
     let old = kept (g.F.Files.held c.args.files.now) (g.F.Files.write_faults c.args.files.now) in
-    let new = kept (g.F.Files.held c.write_file.new.files) (g.F.Files.write_faults c.write_file.new.files) in
-    let one = rw c.deref.ensures.value at (c.write_file.ensures.written c.in-Done.is) in
-    subst (λ m. AreWritten old (written c.args.file.now ∷ maybe_written m) status.Done new) (sym c.in-None.is) (written-none old new (written c.args.file.now) one)
+    let one = kept (g.F.Files.held c.write_file.new.files) (g.F.Files.write_faults c.write_file.new.files) in
+    let two = kept (g.F.Files.held c.write_some.new.files) (g.F.Files.write_faults c.write_some.new.files) in
+    let three = kept (g.F.Files.held c.write_some-in-Done-write_some.new.files) (g.F.Files.write_faults c.write_some-in-Done-write_some.new.files) in
+    let lines = maybe_written c.args.lines.now in
+    let map = maybe_written c.args.map.now in
+    let first = rw c.deref.ensures.value at (c.write_file.ensures.written c.in-Done.is) in
+    written-more old one three (written c.args.file.now) (lines ++ map) c.write_some-in-Done-write_some.result first c.write_file.ensures.later
+    (written-behind one two three lines map c.write_some-in-Done-write_some.result c.in-Done-write_some.ensures.written c.write_some.ensures.later c.write_some-in-Done-write_some.ensures.written)
 
-pub returns-in-Some-clause-written : goal.returns-in-Some-clause-written
-returns-in-Some-clause-written g c =
+pub returns-in_default-write_some : goal.returns-in_default-write_some
+returns-in_default-write_some g c =
     let old = kept (g.F.Files.held c.args.files.now) (g.F.Files.write_faults c.args.files.now) in
-    let mid = kept (g.F.Files.held c.write_file.new.files) (g.F.Files.write_faults c.write_file.new.files) in
-    let new = kept (g.F.Files.held c.write_file-in-Some.new.files) (g.F.Files.write_faults c.write_file-in-Some.new.files) in
-    let one = rw c.deref.ensures.value at (c.write_file.ensures.written c.in-Done.is) in
-    let two = rw c.deref-in-Some.ensures.value at c.write_file-in-Some.ensures.written in
-    subst (λ m. AreWritten old (written c.args.file.now ∷ maybe_written m) c.write_file-in-Some.result new) (sym c.in-Some.is)
-    (written-more old mid new (written c.args.file.now) (written c.in-Some.more ∷ []) c.write_file-in-Some.result one c.write_file.ensures.later
-    (written-one mid new (written c.in-Some.more) c.write_file-in-Some.result c.write_file-in-Some.ensures.status two c.write_file-in-Some.ensures.others c.write_file-in-Some.ensures.failed))
+    let one = kept (g.F.Files.held c.write_file.new.files) (g.F.Files.write_faults c.write_file.new.files) in
+    let two = kept (g.F.Files.held c.write_some.new.files) (g.F.Files.write_faults c.write_some.new.files) in
+    let lines = maybe_written c.args.lines.now in
+    let map = maybe_written c.args.map.now in
+    let first = rw c.deref.ensures.value at (c.write_file.ensures.written c.in-Done.is) in
+    record {
+      written = written-more old one two (written c.args.file.now) (lines ++ map) c.write_some.result first c.write_file.ensures.later
+          (written-front one two lines map c.write_some.result c.in_default-write_some.not-Done c.write_some.ensures.written);
+      no_read = c.write_some.ensures.no_read ∙ c.write_file.ensures.no_read;
+    }

@@ -1,7 +1,7 @@
 use Rattle.std.proofs.Common.{Some, refl, map, string_bytes, length, arith}
-use Rattle.std.specs.Option.{option_map}
 use Rattle.kc_base.specs.Causes.{Rose}
 use Rattle.kc_kit_files.proofs.ReadLemmas.{stays-onward}
+use Rattle.kc_kit_words.specs.Asked.{beside_in}
 use Rattle.kc_kit_words.specs.Inputs.{inputs_in}
 use Rattle.kc_kit_words.specs.Words.{Links}
 use Rattle.kc_kit_inputs.specs.Inputs.{names_of}
@@ -16,10 +16,10 @@ returns-in-Err g c =
     let link = c.args.link.now in
     let names = map string_bytes link.files.now in
     let inputs = inputs_in link.inputs in
-    let lines = option_map (λ l. l.now) link.lines in
+    let beside = beside_in link.beside in
     let rose : Type 0 = Rose (g.F.Files.read_faults c.args.files.now) (g.F.Files.read_faults c.read_files.new.files) in
     record {
-      answer = first-missed names (names_of inputs) (Parted (length names) (LinkAnswer names inputs link.out.now lines link.placing)) (g.F.Files.held c.args.files.now) rose c.in-Err.refusal c.in-Err.ensures.read;
+      answer = first-missed names (names_of inputs) (Parted (length names) (LinkAnswer names inputs link.out.now beside link.placing)) (g.F.Files.held c.args.files.now) rose c.in-Err.refusal c.in-Err.ensures.read;
       only_read = c.read_files.ensures.stays;
     }
 
@@ -28,14 +28,14 @@ returns-in-Ok-read_inputs g c =
     let link = c.args.link.now in
     let names = map string_bytes link.files.now in
     let inputs = inputs_in link.inputs in
-    let lines = option_map (λ l. l.now) link.lines in
+    let beside = beside_in link.beside in
     let texts = texts_in c.in-Ok.texts.items in
     let more = texts_in c.in-Ok-read_inputs.inputs.items in
     let told = g.F.Files.held c.args.files.now in
     let rose : Type 0 = Rose (g.F.Files.read_faults c.args.files.now) (g.F.Files.read_faults c.read_inputs.new.files) in
     record {
-      answer = prepared-widen (LinkAnswer names inputs link.out.now lines link.placing texts more) (MayAnswer (Some (Links names inputs link.out.now lines link.placing)) told rose) c.link_texts.result
-          (λ r m. parts-then names (names_of inputs) (length names) (LinkAnswer names inputs link.out.now lines link.placing) told (g.F.Files.held c.read_files.new.files) rose texts more r c.read_files.ensures.stays.same refl
+      answer = prepared-widen (LinkAnswer names inputs link.out.now beside link.placing texts more) (MayAnswer (Some (Links names inputs link.out.now beside link.placing)) told rose) c.link_texts.result
+          (λ r m. parts-then names (names_of inputs) (length names) (LinkAnswer names inputs link.out.now beside link.placing) told (g.F.Files.held c.read_files.new.files) rose texts more r c.read_files.ensures.stays.same refl
           c.in-Ok.ensures.read c.in-Ok-read_inputs.ensures.read m)
           (rw (c.deref.ensures.value, c.deref-in-Ok-read_inputs.ensures.value) at c.link_texts.ensures);
       only_read = stays-onward g.F.Files.held g.F.Files.read_faults g.F.Files.write_faults _ _ _ c.read_files.ensures.stays c.read_inputs.ensures.stays;
@@ -46,12 +46,12 @@ returns g c =
     let link = c.args.link.now in
     let names = map string_bytes link.files.now in
     let inputs = inputs_in link.inputs in
-    let lines = option_map (λ l. l.now) link.lines in
+    let beside = beside_in link.beside in
     let told = g.F.Files.held c.args.files.now in
     let rose : Type 0 = Rose (g.F.Files.read_faults c.read_files.new.files) (g.F.Files.read_faults c.read_inputs.new.files) in
     let later : Type 0 = Rose (g.F.Files.read_faults c.args.files.now) (g.F.Files.read_faults c.read_inputs.new.files) in
     record {
-      answer = second-missed names (names_of inputs) (texts_in c.in-Ok.texts.items) (Parted (length names) (LinkAnswer names inputs link.out.now lines link.placing)) told (g.F.Files.held c.read_files.new.files) rose later c.in-Err-read_inputs.refusal
+      answer = second-missed names (names_of inputs) (texts_in c.in-Ok.texts.items) (Parted (length names) (LinkAnswer names inputs link.out.now beside link.placing)) told (g.F.Files.held c.read_files.new.files) rose later c.in-Err-read_inputs.refusal
           c.read_files.ensures.stays.same c.in-Ok.ensures.read (λ r. omega (arith, r, c.read_files.ensures.stays.later)) c.in-Err-read_inputs.ensures.read;
       only_read = stays-onward g.F.Files.held g.F.Files.read_faults g.F.Files.write_faults _ _ _ c.read_files.ensures.stays c.read_inputs.ensures.stays;
     }

@@ -1,0 +1,24 @@
+// Traces that are read again.
+ghost use Rattle.std.specs.Prelude.{◌≤◌, IfOk, IfErr, length};
+ghost use Rattle.kc_base.specs.TextLines.{text_lines};
+ghost use Rattle.kc_vcd.specs.Reading.{IsTrace};
+ghost use Rattle.kc_kit_files.specs.Reply.{IsRefused};
+ghost use Rattle.kc_kit_inputs.specs.Traces.{TellsWrongLine};
+
+use crate::input_lines::input_refusal;
+use kc_kit_files::Refusal;
+use kc_vcd::{Trace, VcdFault};
+use std::alloc::Global;
+
+/// The trace that a file holds, or the refusal of its first line that is none.
+pub fn read_trace(alloc: Global, name: &str, text: &[u8]) -> Result<Trace, Refusal>
+    requires { length text.now ≤ 1048576 }
+    ensures trace { IfOk result (λ trace. IsTrace (text_lines text.now) trace) }
+    ensures refusal { IfErr result (IsRefused (TellsWrongLine name.now text.now)) }
+{
+    match Trace::read(alloc, text) {
+        Ok(trace) => Ok(trace),
+        Err(VcdFault::BadTrace(line)) => Err(input_refusal(alloc, name, line, b"BADTRACE")),
+        Err(VcdFault::NoMemory) => Err(Refusal::NoMemory),
+    }
+}
