@@ -1,5 +1,6 @@
-//! Runs a fixed busy loop for as many state times as its word says, and prints how the run ended: `bench/run` measures by
-//! it how many state times a second the machine runs. The loop is that of `bench/busy_loop.a96`.
+//! Runs one of five fixed loops, which the first word names, for as many state times as the second says, and prints how the
+//! run ended: `bench/run` measures by it how many instructions a second the machine runs. The loops are those of
+//! `bench/loops`.
 #![tactic(auto)]
 
 ghost use Rattle.std.specs.Prelude.{◌≡◌, ◌≤◌, ◌<◌, false, IfSome};
@@ -21,15 +22,84 @@ const ORIGIN: usize = 0x80;
 /// The most state times of a run.
 const MOST_STATES: u64 = 1_000_000_000_000_000;
 
-/// The bytes of the loop, at 2080H.
-const LOOP: [u8; 32] = [
+/// The bytes of each loop at 2080H, from `bench/NAME.a96`.
+const BUSY: [u8; 32] = [
     0xA1, 0x00, 0x04, 0x18, 0x45, 0x03, 0x00, 0x22, 0x20, 0x74, 0x20, 0x24, 0xC2, 0x26, 0x20, 0xA2,
     0x26, 0x28, 0xC8, 0x28, 0xCC, 0x2A, 0x84, 0x2A, 0x22, 0xE0, 0x2C, 0x02, 0x07, 0x2E, 0x27, 0xE4,
 ];
 
-fn busy_machine(alloc: Global) -> Result<Machine<NoExtra>, NoMemory> {
+const CALLS: [u8; 68] = [
+    0xA1, 0x00, 0x04, 0x18, 0xA1, 0x00, 0x03, 0x1A, 0xA1, 0x34, 0x12, 0x20, 0xA1, 0x56, 0x00, 0x22,
+    0x4C, 0x22, 0x20, 0x24, 0xFE, 0x4C, 0x22, 0x20, 0x28, 0x8C, 0x22, 0x24, 0xFE, 0x8C, 0x22, 0x28,
+    0x09, 0x03, 0x20, 0x08, 0x02, 0x20, 0x0D, 0x04, 0x24, 0x0C, 0x04, 0x24, 0x0E, 0x01, 0x28, 0xC8,
+    0x20, 0xCC, 0x2C, 0xEF, 0x0B, 0x00, 0xC2, 0x1A, 0x2C, 0xA2, 0x1A, 0x2E, 0x64, 0x2E, 0x30, 0x27,
+    0xC7, 0x07, 0x32, 0xF0,
+];
+
+const CONDITIONS: [u8; 19] = [
+    0x07, 0x20, 0x89, 0x00, 0x80, 0x20, 0xDF, 0x00, 0xD1, 0x00, 0xD6, 0x00, 0x33, 0x20, 0x02, 0x07,
+    0x22, 0x27, 0xED,
+];
+
+const BLOCKS: [u8; 19] = [
+    0xA1, 0x00, 0x03, 0x20, 0xA1, 0x40, 0x03, 0x22, 0xA1, 0x04, 0x00, 0x24, 0xC1, 0x24, 0x20, 0x07,
+    0x26, 0x27, 0xED,
+];
+
+const STIRRING: [u8; 113] = [
+    0xA1, 0x00, 0x04, 0x18, 0xB1, 0x01, 0x14, 0xB1, 0x01, 0x0C, 0xB1, 0x00, 0x14, 0xA1, 0x1E, 0x00,
+    0x32, 0xB1, 0x30, 0x34, 0xA1, 0x28, 0x00, 0x36, 0xB1, 0x71, 0x38, 0xB0, 0x34, 0x06, 0xA0, 0x32,
+    0x04, 0xFD, 0xFD, 0xFD, 0xFD, 0xB0, 0x38, 0x06, 0xA0, 0x36, 0x04, 0xB1, 0x08, 0x08, 0xFB, 0x45,
+    0x03, 0x00, 0x22, 0x20, 0x74, 0x20, 0x24, 0xC2, 0x26, 0x20, 0xA2, 0x26, 0x28, 0xC8, 0x28, 0xCC,
+    0x2A, 0x84, 0x2A, 0x22, 0xE0, 0x2C, 0x02, 0x07, 0x2E, 0x27, 0xE4, 0xF2, 0xB0, 0x17, 0x30, 0x30,
+    0x30, 0x0D, 0x65, 0x19, 0x00, 0x32, 0x95, 0x20, 0x34, 0xB0, 0x34, 0x06, 0xA0, 0x32, 0x04, 0x31,
+    0x30, 0x0D, 0x65, 0x19, 0x00, 0x36, 0x95, 0x20, 0x38, 0xB0, 0x38, 0x06, 0xA0, 0x36, 0x04, 0xF3,
+    0xF0,
+];
+
+/// The place of the vector of the HSO event interrupt in an image, and the address of its routine in the stirring loop.
+const HSO_VECTOR: usize = 0x06;
+
+const ROUTINE: [u8; 2] = [0xCB, 0x20];
+
+/// The loops that are run.
+#[derive(Clone, Copy)]
+enum Loop {
+    Busy,
+    Calls,
+    Conditions,
+    Blocks,
+    Stirring,
+}
+
+fn loop_named(name: &str) -> Option<Loop> {
+    match name {
+        "busy" => Some(Loop::Busy),
+        "calls" => Some(Loop::Calls),
+        "conditions" => Some(Loop::Conditions),
+        "blocks" => Some(Loop::Blocks),
+        "stirring" => Some(Loop::Stirring),
+        _ => None,
+    }
+}
+
+fn image_of(alloc: Global, which: Loop) -> Result<Image, NoMemory> {
     let mut image = Image::blank(alloc)?;
-    image.put(ORIGIN, &LOOP);
+    match which {
+        Loop::Busy => image.put(ORIGIN, &BUSY),
+        Loop::Calls => image.put(ORIGIN, &CALLS),
+        Loop::Conditions => image.put(ORIGIN, &CONDITIONS),
+        Loop::Blocks => image.put(ORIGIN, &BLOCKS),
+        Loop::Stirring => {
+            image.put(ORIGIN, &STIRRING);
+            image.put(HSO_VECTOR, &ROUTINE);
+        }
+    }
+    Ok(image)
+}
+
+fn machine_of(alloc: Global, which: Loop) -> Result<Machine<NoExtra>, NoMemory> {
+    let image = image_of(alloc, which)?;
     Machine::new(alloc, image, Stimuli::none(alloc), NoExtra::new())
 }
 
@@ -53,25 +123,26 @@ fn run_loop<S: Sink, L: Ledger>(
     matches!(end, End::Spent) && machine.write_finals(End::Spent, out).is_ok()
 }
 
-// The number of state times that the first word says.
-fn states_of(rt: &HostRuntime) -> Option<u64>
-    ensures { IfSome result (λ states. states ≤ 1000000000000000) }
+// The loop that the first word names, and the number of state times that the second says.
+fn words_of(rt: &HostRuntime) -> Option<(Loop, u64)>
+    ensures { IfSome result (λ r. r.1 ≤ 1000000000000000) }
 {
     let Ok(mut words) = env::args(rt) else {
         return None;
     };
-    let word = words.nth(1)?;
+    let which = loop_named(&words.nth(1)?)?;
+    let word = words.next()?;
     match word.parse::<u64>() {
-        Ok(states) => Some(states.min(MOST_STATES)),
+        Ok(states) => Some((which, states.min(MOST_STATES))),
         Err(_) => None,
     }
 }
 
 fn main(rt: HostRuntime) -> ExitCode {
-    let Some(states) = states_of(&rt) else {
+    let Some((which, states)) = words_of(&rt) else {
         return ExitCode::from(1);
     };
-    let Ok(mut machine) = busy_machine(rt.alloc()) else {
+    let Ok(mut machine) = machine_of(rt.alloc(), which) else {
         return ExitCode::from(9);
     };
     let mut out = TraceOut::new(HostOut::new(&rt));

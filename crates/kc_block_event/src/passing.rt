@@ -15,6 +15,8 @@ use std::sync::ledger::Ledger;
 
 /// The Tick of state `now`, and its edges. Only the units that it touches are called, each three times at most: they are
 /// brought there, ticked, and asked anew.
+#[inline(never)]
+#[cold]
 pub fn pass<X: Extra, O: EdgeOut, L: Ledger>(
     lanes: &mut Lanes<X>,
     now: StateTime,

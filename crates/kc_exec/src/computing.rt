@@ -37,8 +37,9 @@ fn is_kept(op: Operation) -> bool
     !matches!(op, Operation::Compare)
 }
 
+/// Two numbers of a width: S, then A (or D), then the result to D; gives the new high byte of the PSW.
 #[tactic(auto, using(kc_exec_spec::proofs::Running::run_bind), unfolding(kc_exec_spec::specs::Computing::operate))]
-fn do_operate<B: Bus>(
+pub fn do_operate<B: Bus>(
     bus: &mut B,
     op: Operation,
     byte: bool,
@@ -85,8 +86,9 @@ fn read_changed<B: Bus>(
     }
 }
 
+/// Changes a register; gives the new high byte of the PSW.
 #[tactic(auto, using(kc_exec_spec::proofs::Running::run_bind), unfolding(kc_exec_spec::specs::Computing::alter))]
-fn do_alter<B: Bus>(
+pub fn do_alter<B: Bus>(
     bus: &mut B,
     how: Alteration,
     byte: bool,
@@ -104,8 +106,9 @@ fn do_alter<B: Bus>(
     Ok(pack(psw, flags))
 }
 
+/// Spreads the sign of the low half of D over D; gives the new high byte of the PSW.
 #[tactic(auto, using(kc_exec_spec::proofs::Running::run_bind), unfolding(kc_exec_spec::specs::Computing::extend))]
-fn do_extend<B: Bus>(bus: &mut B, byte: bool, wsr: u8, d: u8, psw: u8) -> Result<u8, Kind>
+pub fn do_extend<B: Bus>(bus: &mut B, byte: bool, wsr: u8, d: u8, psw: u8) -> Result<u8, Kind>
     ensures gives { Gives (λ x. x) result (B.held bus.new) (run B.meaning (extend byte wsr d psw) (B.held bus.old)) }
     ensures spent { B.spent bus.new + B.allowed (B.held bus.old) ≤ B.spent bus.old + B.allowed (B.held bus.new) }
     ensures same { B.lent bus.new ≡ B.lent bus.old }
@@ -130,8 +133,9 @@ fn read_count<B: Bus>(bus: &mut B, wsr: u8, operand: Operand) -> Result<u8, Kind
     }
 }
 
+/// Shifts D by a count; gives the new high byte of the PSW.
 #[tactic(auto, using(kc_exec_spec::proofs::Running::run_bind), unfolding(kc_exec_spec::specs::Computing::shift))]
-fn do_shift<B: Bus>(
+pub fn do_shift<B: Bus>(
     bus: &mut B,
     how: Shift,
     size: Size,
@@ -150,8 +154,9 @@ fn do_shift<B: Bus>(
     Ok(pack(psw, flags))
 }
 
+/// Shifts a long register left until its top bit is 1, and writes the count; gives the new high byte of the PSW.
 #[tactic(auto, using(kc_exec_spec::proofs::Running::run_bind), unfolding(kc_exec_spec::specs::Computing::normalize))]
-fn do_normalize<B: Bus>(bus: &mut B, wsr: u8, insn: &Insn, psw: u8) -> Result<u8, Kind>
+pub fn do_normalize<B: Bus>(bus: &mut B, wsr: u8, insn: &Insn, psw: u8) -> Result<u8, Kind>
     ensures gives { Gives (λ x. x) result (B.held bus.new) (run B.meaning (normalize wsr insn.now psw) (B.held bus.old)) }
     ensures spent { B.spent bus.new + B.allowed (B.held bus.old) ≤ B.spent bus.old + B.allowed (B.held bus.new) }
     ensures same { B.lent bus.new ≡ B.lent bus.old }
@@ -177,8 +182,9 @@ fn read_factor<B: Bus>(bus: &mut B, byte: bool, wsr: u8, insn: &Insn) -> Result<
     }
 }
 
+/// Writes the product of S and A (or the low half of D) to D.
 #[tactic(auto, using(kc_exec_spec::proofs::Running::run_bind), unfolding(kc_exec_spec::specs::Computing::multiply))]
-fn do_multiply<B: Bus>(
+pub fn do_multiply<B: Bus>(
     bus: &mut B,
     with_sign: bool,
     byte: bool,
@@ -195,8 +201,9 @@ fn do_multiply<B: Bus>(
     write_sized(bus, double_of(byte), wsr, last_register(insn), value)
 }
 
+/// Divides D by S; gives the new high byte of the PSW.
 #[tactic(auto, using(kc_exec_spec::proofs::Running::run_bind), unfolding(kc_exec_spec::specs::Computing::divide))]
-fn do_divide<B: Bus>(
+pub fn do_divide<B: Bus>(
     bus: &mut B,
     with_sign: bool,
     byte: bool,
@@ -215,8 +222,9 @@ fn do_divide<B: Bus>(
     Ok(pack(psw, flags))
 }
 
+/// Compares two long registers; gives the new high byte of the PSW.
 #[tactic(auto, using(kc_exec_spec::proofs::Running::run_bind), unfolding(kc_exec_spec::specs::Computing::compare_long))]
-fn do_compare_long<B: Bus>(bus: &mut B, wsr: u8, insn: &Insn, psw: u8) -> Result<u8, Kind>
+pub fn do_compare_long<B: Bus>(bus: &mut B, wsr: u8, insn: &Insn, psw: u8) -> Result<u8, Kind>
     ensures gives { Gives (λ x. x) result (B.held bus.new) (run B.meaning (compare_long wsr insn.now psw) (B.held bus.old)) }
     ensures spent { B.spent bus.new + B.allowed (B.held bus.old) ≤ B.spent bus.old + B.allowed (B.held bus.new) }
     ensures same { B.lent bus.new ≡ B.lent bus.old }

@@ -23,7 +23,8 @@ pub(crate) fn following(insn: &Insn, pc: u16) -> u16
     pc.wrapping_add(u16::from(length(insn)))
 }
 
-fn distance_of(operand: Operand) -> u16
+/// The distance of a jump, modulo 65536.
+pub fn distance_of(operand: Operand) -> u16
     ensures { result ≡ distance operand }
 {
     match operand {
@@ -60,7 +61,7 @@ fn is_held(test: Test, flags: Flags) -> bool
 }
 
 /// Whether a conditional jump is taken.
-pub(crate) fn is_met(test: Test, wanted: bool, psw: u8) -> bool
+pub fn is_met(test: Test, wanted: bool, psw: u8) -> bool
     ensures { result ≡ is_taken test wanted psw }
 {
     let held = is_held(test, unpack(psw));
@@ -75,8 +76,9 @@ fn is_bit(number: u8, n: u16) -> bool
     (n >> number) % 2 == 1
 }
 
+/// Whether a bit of a register is as it has to be.
 #[tactic(auto, using(kc_exec_spec::proofs::Running::run_bind), unfolding(kc_exec_spec::specs::Jumping::bit_jump))]
-fn is_bit_jump<B: Bus>(
+pub fn is_bit_jump<B: Bus>(
     bus: &mut B,
     set: bool,
     number: u8,
@@ -106,8 +108,9 @@ fn less_one(byte: bool, n: u16) -> u16
     }
 }
 
+/// Counts a register down; whether it is not yet 0.
 #[tactic(auto, using(kc_exec_spec::proofs::Running::run_bind), unfolding(kc_exec_spec::specs::Jumping::count_down))]
-fn is_counted<B: Bus>(bus: &mut B, byte: bool, wsr: u8, register: u8) -> Result<bool, Kind>
+pub fn is_counted<B: Bus>(bus: &mut B, byte: bool, wsr: u8, register: u8) -> Result<bool, Kind>
     ensures gives { Gives (λ x. x) result (B.held bus.new) (run B.meaning (count_down byte wsr register) (B.held bus.old)) }
     ensures spent { B.spent bus.new + B.allowed (B.held bus.old) ≤ B.spent bus.old + B.allowed (B.held bus.new) }
     ensures same { B.lent bus.new ≡ B.lent bus.old }
@@ -124,8 +127,9 @@ fn table_place(table: u16, index: u8, mask: u8) -> u16
     table.wrapping_add(2 * u16::from(index & mask))
 }
 
+/// Where TIJMP leads.
 #[tactic(auto, using(kc_exec_spec::proofs::Running::run_bind), unfolding(kc_exec_spec::specs::Jumping::table_target))]
-fn read_table<B: Bus>(bus: &mut B, wsr: u8, insn: &Insn) -> Result<u16, Kind>
+pub fn read_table<B: Bus>(bus: &mut B, wsr: u8, insn: &Insn) -> Result<u16, Kind>
     ensures gives { Gives (λ x. x) result (B.held bus.new) (run B.meaning (table_target wsr insn.now) (B.held bus.old)) }
     ensures spent { B.spent bus.new + B.allowed (B.held bus.old) ≤ B.spent bus.old + B.allowed (B.held bus.new) }
     ensures same { B.lent bus.new ≡ B.lent bus.old }
@@ -174,7 +178,7 @@ pub(crate) fn do_jump<B: Bus>(
 }
 
 /// The high byte of the PSW after a jump.
-pub(crate) fn psw_behind(route: Route, psw: u8) -> u8
+pub fn psw_behind(route: Route, psw: u8) -> u8
     ensures { result ≡ psw_after route psw }
 {
     match route {

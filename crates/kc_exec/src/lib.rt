@@ -13,7 +13,14 @@ mod runs;
 mod saving;
 
 pub use blocks::{move_word, word_states};
+pub use computing::{
+    do_alter, do_compare_long, do_divide, do_extend, do_multiply, do_normalize, do_operate,
+    do_shift,
+};
 pub use enters::{enter, trap_opcode};
+pub use jumping::{distance_of, is_bit_jump, is_counted, is_met, psw_behind, read_table};
 pub use kc_exec_spec::{After, Cpu, Words};
-pub use places::place;
+pub use moving::{do_exchange, do_load, do_load_extended, do_pop, do_push, do_store};
+pub use places::{is_operand_outside, place, stack_pointer};
+pub use plan::make_plan;
 pub use runs::perform;

@@ -10,8 +10,9 @@ use kc_exec_operands::{
 use kc_exec_spec::Movement;
 use kc_isa::Insn;
 
+/// Reads S into D.
 #[tactic(auto, using(kc_exec_spec::proofs::Running::run_bind), unfolding(kc_exec_spec::specs::Moving::load))]
-fn do_load<B: Bus>(bus: &mut B, byte: bool, wsr: u8, insn: &Insn) -> Result<(), Kind>
+pub fn do_load<B: Bus>(bus: &mut B, byte: bool, wsr: u8, insn: &Insn) -> Result<(), Kind>
     ensures gives { Gives (λ x. x) result (B.held bus.new) (run B.meaning (load byte wsr insn.now) (B.held bus.old)) }
     ensures spent { B.spent bus.new + B.allowed (B.held bus.old) ≤ B.spent bus.old + B.allowed (B.held bus.new) }
     ensures same { B.lent bus.new ≡ B.lent bus.old }
@@ -27,8 +28,14 @@ fn extend_sign(n: u16) -> u16
     if n < 0x80 { n } else { n + 0xFF00 }
 }
 
+/// Reads the byte S into the word D.
 #[tactic(auto, using(kc_exec_spec::proofs::Running::run_bind), unfolding(kc_exec_spec::specs::Moving::load_extended))]
-fn do_load_extended<B: Bus>(bus: &mut B, with_sign: bool, wsr: u8, insn: &Insn) -> Result<(), Kind>
+pub fn do_load_extended<B: Bus>(
+    bus: &mut B,
+    with_sign: bool,
+    wsr: u8,
+    insn: &Insn,
+) -> Result<(), Kind>
     ensures gives { Gives (λ x. x) result (B.held bus.new) (run B.meaning (load_extended with_sign wsr insn.now) (B.held bus.old)) }
     ensures spent { B.spent bus.new + B.allowed (B.held bus.old) ≤ B.spent bus.old + B.allowed (B.held bus.new) }
     ensures same { B.lent bus.new ≡ B.lent bus.old }
@@ -38,8 +45,9 @@ fn do_load_extended<B: Bus>(bus: &mut B, with_sign: bool, wsr: u8, insn: &Insn) 
     write_register(bus, false, wsr, insn.regs[0], value)
 }
 
+/// Writes a register to the place of S.
 #[tactic(auto, using(kc_exec_spec::proofs::Running::run_bind), unfolding(kc_exec_spec::specs::Moving::store))]
-fn do_store<B: Bus>(bus: &mut B, byte: bool, wsr: u8, insn: &Insn) -> Result<(), Kind>
+pub fn do_store<B: Bus>(bus: &mut B, byte: bool, wsr: u8, insn: &Insn) -> Result<(), Kind>
     ensures gives { Gives (λ x. x) result (B.held bus.new) (run B.meaning (store byte wsr insn.now) (B.held bus.old)) }
     ensures spent { B.spent bus.new + B.allowed (B.held bus.old) ≤ B.spent bus.old + B.allowed (B.held bus.new) }
     ensures same { B.lent bus.new ≡ B.lent bus.old }
@@ -49,8 +57,9 @@ fn do_store<B: Bus>(bus: &mut B, byte: bool, wsr: u8, insn: &Insn) -> Result<(),
     write_at(bus, byte, addr, n)
 }
 
+/// Exchanges S and D.
 #[tactic(auto, using(kc_exec_spec::proofs::Running::run_bind), unfolding(kc_exec_spec::specs::Moving::exchange))]
-fn do_exchange<B: Bus>(bus: &mut B, byte: bool, wsr: u8, insn: &Insn) -> Result<(), Kind>
+pub fn do_exchange<B: Bus>(bus: &mut B, byte: bool, wsr: u8, insn: &Insn) -> Result<(), Kind>
     ensures gives { Gives (λ x. x) result (B.held bus.new) (run B.meaning (exchange byte wsr insn.now) (B.held bus.old)) }
     ensures spent { B.spent bus.new + B.allowed (B.held bus.old) ≤ B.spent bus.old + B.allowed (B.held bus.new) }
     ensures same { B.lent bus.new ≡ B.lent bus.old }
@@ -62,8 +71,9 @@ fn do_exchange<B: Bus>(bus: &mut B, byte: bool, wsr: u8, insn: &Insn) -> Result<
     write_at(bus, byte, addr, n)
 }
 
+/// Pushes S.
 #[tactic(auto, using(kc_exec_spec::proofs::Running::run_bind), unfolding(kc_exec_spec::specs::Moving::push_source))]
-fn do_push<B: Bus>(bus: &mut B, wsr: u8, insn: &Insn) -> Result<(), Kind>
+pub fn do_push<B: Bus>(bus: &mut B, wsr: u8, insn: &Insn) -> Result<(), Kind>
     ensures gives { Gives (λ x. x) result (B.held bus.new) (run B.meaning (push_source wsr insn.now) (B.held bus.old)) }
     ensures spent { B.spent bus.new + B.allowed (B.held bus.old) ≤ B.spent bus.old + B.allowed (B.held bus.new) }
     ensures same { B.lent bus.new ≡ B.lent bus.old }
@@ -72,8 +82,9 @@ fn do_push<B: Bus>(bus: &mut B, wsr: u8, insn: &Insn) -> Result<(), Kind>
     push_word(bus, s)
 }
 
+/// Pops into the place of S.
 #[tactic(auto, using(kc_exec_spec::proofs::Running::run_bind), unfolding(kc_exec_spec::specs::Moving::pop_target))]
-fn do_pop<B: Bus>(bus: &mut B, wsr: u8, insn: &Insn) -> Result<(), Kind>
+pub fn do_pop<B: Bus>(bus: &mut B, wsr: u8, insn: &Insn) -> Result<(), Kind>
     ensures gives { Gives (λ x. x) result (B.held bus.new) (run B.meaning (pop_target wsr insn.now) (B.held bus.old)) }
     ensures spent { B.spent bus.new + B.allowed (B.held bus.old) ≤ B.spent bus.old + B.allowed (B.held bus.new) }
     ensures same { B.lent bus.new ≡ B.lent bus.old }

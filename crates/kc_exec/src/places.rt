@@ -31,6 +31,13 @@ fn glance_long<B: Bus>(bus: &B, addr: u16) -> u32
     u32::from(glance_word(bus, addr)) + 0x1_0000 * u32::from(glance_word(bus, addr + 2))
 }
 
+/// The stack pointer.
+pub fn stack_pointer<B: Bus>(bus: &B) -> u16
+    ensures { result ≡ word_seen (B.byte (B.held bus.now)) 24 }
+{
+    glance_word(bus, 0x18)
+}
+
 // The word in a pointer or base register.
 fn pointer_at<B: Bus>(bus: &B, addr: u16) -> Result<u16, Kind>
     requires { addr < 512 }
@@ -75,8 +82,14 @@ fn is_pointed_outside<B: Bus>(
     Ok(pointer.wrapping_add(offset).wrapping_add(popped) >= OUTSIDE)
 }
 
+/// Whether the address of S is outside the register file; POP counts with SP as it will be.
 #[tactic(auto, unfolding(kc_exec_spec::specs::Places::operand_outside))]
-fn is_operand_outside<B: Bus>(bus: &B, pops: bool, wsr: u8, operand: Operand) -> Result<bool, Kind>
+pub fn is_operand_outside<B: Bus>(
+    bus: &B,
+    pops: bool,
+    wsr: u8,
+    operand: Operand,
+) -> Result<bool, Kind>
     requires { IsTrue (is_wsr wsr) }
     ensures value { result ≡ operand_outside pops wsr (B.byte (B.held bus.now)) operand }
     ensures only { IfErr result (λ k. k ≡ NotThere) }
@@ -212,7 +225,7 @@ fn place_by<B: Bus>(bus: &B, plan: Plan, insn: &Insn, psw: u8, wsr: u8) -> Resul
     let shifts = shifts_to_make(bus, plan, insn, wsr)?;
     Ok(Place {
         operand_memory,
-        stack_memory: is_stack_outside(plan, glance_word(bus, 0x18)),
+        stack_memory: is_stack_outside(plan, stack_pointer(bus)),
         shifts,
         taken: will_jump(plan, psw),
     })

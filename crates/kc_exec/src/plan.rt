@@ -164,7 +164,7 @@ fn control(mnemonic: Mnemonic) -> Plan
 }
 
 /// The kind of work of an instruction.
-pub(crate) fn make_plan(mnemonic: Mnemonic) -> Plan
+pub fn make_plan(mnemonic: Mnemonic) -> Plan
     ensures { result ≡ plan_of mnemonic }
 {
     if let Some(plan) = operation(mnemonic) {

@@ -10,6 +10,7 @@ use kc_alu::{Flags, Shift, add, div, extend, logic, mul, shift, sub};
 use kc_base::Kind;
 use kc_exec_spec::{Alteration, Operation, Size};
 
+#[inline(always)]
 #[tactic(auto, unfolding(kc_alu::specs::Width::half_of))]
 fn width_of(byte: bool) -> u8
     ensures width { result ≡ width byte }
@@ -20,6 +21,7 @@ fn width_of(byte: bool) -> u8
     if byte { 8 } else { 16 }
 }
 
+#[inline(always)]
 #[tactic(auto, unfolding(kc_alu::specs::Width::half_of))]
 fn bits_of(size: Size) -> u8
     ensures width { result ≡ bits size }
@@ -34,6 +36,7 @@ fn bits_of(size: Size) -> u8
 }
 
 /// The result of an operation, and the flags.
+#[inline(always)]
 #[tactic(auto, unfolding(kc_exec_spec::specs::Operations::computed, kc_exec_spec::specs::Operations::computed_flags))]
 pub fn combine(op: Operation, byte: bool, a: u16, s: u16, flags: Flags) -> (u16, Flags)
     requires a { a < limit byte }
@@ -53,6 +56,7 @@ pub fn combine(op: Operation, byte: bool, a: u16, s: u16, flags: Flags) -> (u16,
 }
 
 /// A changed number, and the flags.
+#[inline(always)]
 #[tactic(auto, unfolding(kc_exec_spec::specs::Operations::altered, kc_exec_spec::specs::Operations::altered_flags))]
 pub fn change(how: Alteration, byte: bool, n: u16, flags: Flags) -> (u16, Flags)
     requires { n < limit byte }
@@ -68,6 +72,7 @@ pub fn change(how: Alteration, byte: bool, n: u16, flags: Flags) -> (u16, Flags)
     }
 }
 
+#[inline(always)]
 fn sum(byte: bool, a: u16, s: u16, chained: bool, flags: Flags) -> (u16, Flags)
     requires a { a < limit byte }
     requires s { s < limit byte }
@@ -78,6 +83,7 @@ fn sum(byte: bool, a: u16, s: u16, chained: bool, flags: Flags) -> (u16, Flags)
     (value as u16, flags)
 }
 
+#[inline(always)]
 fn difference(byte: bool, a: u16, s: u16, chained: bool, flags: Flags) -> (u16, Flags)
     requires a { a < limit byte }
     requires s { s < limit byte }
@@ -88,6 +94,7 @@ fn difference(byte: bool, a: u16, s: u16, chained: bool, flags: Flags) -> (u16, 
     (value as u16, flags)
 }
 
+#[inline(always)]
 fn judged(byte: bool, value: u16, flags: Flags) -> (u16, Flags)
     requires { value < limit byte }
     ensures value { result.0 ≡ value }
@@ -96,6 +103,7 @@ fn judged(byte: bool, value: u16, flags: Flags) -> (u16, Flags)
     (value, logic(width_of(byte), u32::from(value), flags))
 }
 
+#[inline(always)]
 #[tactic(auto, unfolding(kc_alu::specs::Width::half_of))]
 fn complement(byte: bool, n: u16) -> u16
     requires { n < limit byte }
@@ -105,6 +113,7 @@ fn complement(byte: bool, n: u16) -> u16
     if byte { 0xFF - n } else { 0xFFFF - n }
 }
 
+#[inline(always)]
 fn and(byte: bool, a: u16, s: u16) -> u16
     requires a { a < limit byte }
     requires s { s < limit byte }
@@ -118,6 +127,7 @@ fn and(byte: bool, a: u16, s: u16) -> u16
     }
 }
 
+#[inline(always)]
 fn or(byte: bool, a: u16, s: u16) -> u16
     requires a { a < limit byte }
     requires s { s < limit byte }
@@ -131,6 +141,7 @@ fn or(byte: bool, a: u16, s: u16) -> u16
     }
 }
 
+#[inline(always)]
 fn xor(byte: bool, a: u16, s: u16) -> u16
     requires a { a < limit byte }
     requires s { s < limit byte }
@@ -145,6 +156,7 @@ fn xor(byte: bool, a: u16, s: u16) -> u16
 }
 
 /// The sign of a number over twice its width, and the flags.
+#[inline(always)]
 pub fn spread_low(byte: bool, low: u16, flags: Flags) -> (u32, Flags)
     requires { low < limit byte }
     ensures value { result.0 ≡ spread (half_of (width byte)) low }
@@ -155,6 +167,7 @@ pub fn spread_low(byte: bool, low: u16, flags: Flags) -> (u32, Flags)
 }
 
 /// A number shifted by a count, and the flags.
+#[inline(always)]
 pub fn shift_number(how: Shift, size: Size, n: u32, count: u8, flags: Flags) -> (u32, Flags)
     requires n { n < sized_limit size }
     requires count { count ≤ 31 }
@@ -166,6 +179,7 @@ pub fn shift_number(how: Shift, size: Size, n: u32, count: u8, flags: Flags) -> 
 }
 
 /// The product of two numbers, of twice their width.
+#[inline(always)]
 pub fn times(with_sign: bool, byte: bool, a: u16, b: u16) -> u32
     requires a { a < limit byte }
     requires b { b < limit byte }
@@ -176,6 +190,7 @@ pub fn times(with_sign: bool, byte: bool, a: u16, b: u16) -> u32
 }
 
 /// A number of twice the width by one of the width; quotient and remainder, and the flags.
+#[inline(always)]
 pub fn share(
     with_sign: bool,
     byte: bool,
@@ -192,6 +207,7 @@ pub fn share(
 }
 
 /// The flags of a long number less another.
+#[inline(always)]
 #[tactic(auto, unfolding(kc_alu::specs::Width::half_of))]
 pub fn compare_longs(n: u32, s: u32, flags: Flags) -> Flags
     ensures { result ≡ difference_flags (half_of 32) n s (borrow_in false flags) false flags }

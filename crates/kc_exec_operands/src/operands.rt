@@ -8,6 +8,7 @@ use kc_base::Kind;
 use kc_bus::{Bus, window};
 use kc_isa::Operand;
 
+#[inline(always)]
 fn moved(base: u16, offset: u16) -> u16
     ensures { result ≡ at_offset base offset }
 {
@@ -15,12 +16,14 @@ fn moved(base: u16, offset: u16) -> u16
 }
 
 // A pointer behind a byte or a word.
+#[inline(always)]
 fn stepped(byte: bool, pointer: u16) -> u16
     ensures { result ≡ at_offset pointer (size byte) }
 {
     moved(pointer, if byte { 1 } else { 2 })
 }
 
+#[inline(always)]
 fn cut(byte: bool, value: u16) -> u16
     ensures value { result ≡ value % limit byte }
     ensures bound { result < limit byte }
@@ -30,6 +33,7 @@ fn cut(byte: bool, value: u16) -> u16
 
 /// Reads S, a byte or a word: its pointer or base first, and an incremented pointer is written back after the read
 /// (80C196KC User's Manual, "Addressing Modes").
+#[inline(always)]
 #[tactic(auto, using(kc_exec_spec::proofs::Running::run_bind), unfolding(kc_exec_spec::specs::Operands::source))]
 pub fn read_source<B: Bus>(bus: &mut B, byte: bool, wsr: u8, operand: Operand) -> Result<u16, Kind>
     ensures gives { Gives (λ x. x) result (B.held bus.new) (run B.meaning (source byte wsr operand) (B.held bus.old)) }
@@ -64,6 +68,7 @@ pub fn read_source<B: Bus>(bus: &mut B, byte: bool, wsr: u8, operand: Operand) -
 
 /// Finds the address of S: its pointer or base is read, and an incremented pointer written back (80C196KC User's
 /// Manual, "Addressing Modes").
+#[inline(always)]
 #[tactic(auto, using(kc_exec_spec::proofs::Running::run_bind), unfolding(kc_exec_spec::specs::Operands::target))]
 pub fn find_target<B: Bus>(bus: &mut B, byte: bool, wsr: u8, operand: Operand) -> Result<u16, Kind>
     ensures gives { Gives (λ x. x) result (B.held bus.new) (run B.meaning (target byte wsr operand) (B.held bus.old)) }

@@ -7,6 +7,7 @@ use kc_bus::{Bus, Master, window};
 use kc_exec_spec::Size;
 
 /// Reads a byte or a word at an address, which no window moves. Refused as the bus refuses it.
+#[inline(always)]
 #[tactic(auto, using(kc_exec_spec::proofs::Running::run_bind), unfolding(kc_exec_spec::specs::Parts::read_at))]
 pub fn read_at<B: Bus>(bus: &mut B, byte: bool, addr: u16) -> Result<u16, Kind>
     ensures gives { Gives (λ x. x) result (B.held bus.new) (run B.meaning (read_at byte addr) (B.held bus.old)) }
@@ -23,6 +24,7 @@ pub fn read_at<B: Bus>(bus: &mut B, byte: bool, addr: u16) -> Result<u16, Kind>
 
 /// Writes a byte (the low one of the value) or a word at an address, which no window moves. Refused as the bus
 /// refuses it.
+#[inline(always)]
 #[tactic(auto, using(kc_exec_spec::proofs::Running::run_bind), unfolding(kc_exec_spec::specs::Parts::write_at))]
 pub fn write_at<B: Bus>(bus: &mut B, byte: bool, addr: u16, value: u16) -> Result<(), Kind>
     ensures gives { Gives (λ x. x) result (B.held bus.new) (run B.meaning (write_at byte addr value) (B.held bus.old)) }
@@ -37,6 +39,7 @@ pub fn write_at<B: Bus>(bus: &mut B, byte: bool, addr: u16, value: u16) -> Resul
 }
 
 /// Reads a register byte or word of an instruction, in the window of a value of WSR.
+#[inline(always)]
 #[tactic(auto, using(kc_exec_spec::proofs::Running::run_bind), unfolding(kc_exec_spec::specs::Parts::read_register))]
 pub fn read_register<B: Bus>(bus: &mut B, byte: bool, wsr: u8, register: u8) -> Result<u16, Kind>
     ensures gives { Gives (λ x. x) result (B.held bus.new) (run B.meaning (read_register byte wsr register) (B.held bus.old)) }
@@ -49,6 +52,7 @@ pub fn read_register<B: Bus>(bus: &mut B, byte: bool, wsr: u8, register: u8) -> 
 }
 
 /// Writes a register byte or word of an instruction, in the window of a value of WSR.
+#[inline(always)]
 #[tactic(auto, using(kc_exec_spec::proofs::Running::run_bind), unfolding(kc_exec_spec::specs::Parts::write_register))]
 pub fn write_register<B: Bus>(
     bus: &mut B,
@@ -66,6 +70,7 @@ pub fn write_register<B: Bus>(
 }
 
 // The address of a long register.
+#[inline(always)]
 #[tactic(auto, using(kc_exec_spec::proofs::Running::run_bind), unfolding(kc_exec_spec::specs::Parts::long_place))]
 fn place_of_long<B: Bus>(bus: &mut B, wsr: u8, register: u8) -> Result<u16, Kind>
     ensures gives { Gives (λ x. x) result (B.held bus.new) (run B.meaning (long_place wsr register) (B.held bus.old)) }
@@ -83,6 +88,7 @@ fn place_of_long<B: Bus>(bus: &mut B, wsr: u8, register: u8) -> Result<u16, Kind
 
 /// Reads a long register, low word first. Refused as `LongAlign` before any access where it does not stand at a
 /// multiple of 4.
+#[inline(always)]
 #[tactic(auto, using(kc_exec_spec::proofs::Running::run_bind), unfolding(kc_exec_spec::specs::Parts::read_long))]
 pub fn read_long<B: Bus>(bus: &mut B, wsr: u8, register: u8) -> Result<u32, Kind>
     ensures gives { Gives (λ x. x) result (B.held bus.new) (run B.meaning (read_long wsr register) (B.held bus.old)) }
@@ -97,6 +103,7 @@ pub fn read_long<B: Bus>(bus: &mut B, wsr: u8, register: u8) -> Result<u32, Kind
 
 /// Writes a long register, low word first. Refused as `LongAlign` before any access where it does not stand at a
 /// multiple of 4.
+#[inline(always)]
 #[tactic(auto, using(kc_exec_spec::proofs::Running::run_bind), unfolding(kc_exec_spec::specs::Parts::write_long))]
 pub fn write_long<B: Bus>(bus: &mut B, wsr: u8, register: u8, value: u32) -> Result<(), Kind>
     ensures gives { Gives (λ x. x) result (B.held bus.new) (run B.meaning (write_long wsr register value) (B.held bus.old)) }
@@ -109,6 +116,7 @@ pub fn write_long<B: Bus>(bus: &mut B, wsr: u8, register: u8, value: u32) -> Res
 }
 
 /// The double of a width.
+#[inline(always)]
 pub fn double_of(byte: bool) -> Size
     ensures { result ≡ doubled byte }
 {
@@ -116,6 +124,7 @@ pub fn double_of(byte: bool) -> Size
 }
 
 /// Reads a register of a size.
+#[inline(always)]
 #[tactic(auto, using(kc_exec_spec::proofs::Running::run_bind), unfolding(kc_exec_spec::specs::Parts::read_sized))]
 pub fn read_sized<B: Bus>(bus: &mut B, size: Size, wsr: u8, register: u8) -> Result<u32, Kind>
     ensures gives { Gives (λ x. x) result (B.held bus.new) (run B.meaning (read_sized size wsr register) (B.held bus.old)) }
@@ -131,6 +140,7 @@ pub fn read_sized<B: Bus>(bus: &mut B, size: Size, wsr: u8, register: u8) -> Res
 }
 
 /// Writes a register of a size.
+#[inline(always)]
 #[tactic(auto, using(kc_exec_spec::proofs::Running::run_bind), unfolding(kc_exec_spec::specs::Parts::write_sized))]
 pub fn write_sized<B: Bus>(
     bus: &mut B,
@@ -152,6 +162,7 @@ pub fn write_sized<B: Bus>(
 }
 
 /// Reads the low half of a register of twice the width; the alignment of a long one is asked first.
+#[inline(always)]
 #[tactic(auto, using(kc_exec_spec::proofs::Running::run_bind), unfolding(kc_exec_spec::specs::Parts::read_low_half))]
 pub fn read_low_half<B: Bus>(bus: &mut B, byte: bool, wsr: u8, register: u8) -> Result<u16, Kind>
     ensures gives { Gives (λ x. x) result (B.held bus.new) (run B.meaning (read_low_half byte wsr register) (B.held bus.old)) }
@@ -167,6 +178,7 @@ pub fn read_low_half<B: Bus>(bus: &mut B, byte: bool, wsr: u8, register: u8) -> 
 }
 
 /// Pushes a word: SP less 2 is written, then the word is stored there.
+#[inline(always)]
 #[tactic(auto, using(kc_exec_spec::proofs::Running::run_bind), unfolding(kc_exec_spec::specs::Parts::push))]
 pub fn push_word<B: Bus>(bus: &mut B, value: u16) -> Result<(), Kind>
     ensures gives { Gives (λ x. x) result (B.held bus.new) (run B.meaning (push value) (B.held bus.old)) }
@@ -179,6 +191,7 @@ pub fn push_word<B: Bus>(bus: &mut B, value: u16) -> Result<(), Kind>
 }
 
 /// Pops a word: it is read, then SP plus 2 is written.
+#[inline(always)]
 #[tactic(auto, using(kc_exec_spec::proofs::Running::run_bind), unfolding(kc_exec_spec::specs::Parts::pop))]
 pub fn pop_word<B: Bus>(bus: &mut B) -> Result<u16, Kind>
     ensures gives { Gives (λ x. x) result (B.held bus.new) (run B.meaning (pop) (B.held bus.old)) }

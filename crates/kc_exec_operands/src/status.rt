@@ -5,6 +5,7 @@ ghost use Rattle.kc_exec_spec.specs.Settings.{setting_psw, setting_after};
 use kc_alu::Flags;
 use kc_exec_spec::{After, Setting};
 
+#[inline(always)]
 fn is_set(weight: u8, psw: u8) -> bool
     requires { 0 < weight }
     ensures { result ≡ has weight psw }
@@ -12,6 +13,7 @@ fn is_set(weight: u8, psw: u8) -> bool
     psw / weight % 2 == 1
 }
 
+#[inline(always)]
 fn weigh(weight: u8, set: bool) -> u8
     ensures value { result ≡ weighed weight set }
     ensures bound { result ≤ weight }
@@ -20,6 +22,7 @@ fn weigh(weight: u8, set: bool) -> u8
 }
 
 /// The flags in the high byte of the PSW (80C196KC User's Manual, "Program Status Word").
+#[inline(always)]
 #[tactic(auto, unfolding(kc_exec_spec::specs::Status::flags_of))]
 pub fn unpack(psw: u8) -> Flags
     ensures { result ≡ flags_of psw }
@@ -35,6 +38,7 @@ pub fn unpack(psw: u8) -> Flags
 }
 
 /// The high byte of the PSW with these flags.
+#[inline(always)]
 #[tactic(auto, unfolding(kc_exec_spec::specs::Status::with_flags))]
 pub fn pack(psw: u8, flags: Flags) -> u8
     ensures { result ≡ with_flags psw flags }
@@ -49,6 +53,7 @@ pub fn pack(psw: u8, flags: Flags) -> u8
 }
 
 /// The high byte of the PSW with one bit set.
+#[inline(always)]
 pub fn set_bit(setting: Setting, psw: u8) -> u8
     ensures { result ≡ setting_psw setting psw }
 {
@@ -62,6 +67,7 @@ pub fn set_bit(setting: Setting, psw: u8) -> u8
 }
 
 /// What follows the setting of a bit.
+#[inline(always)]
 pub fn follow(setting: Setting) -> After
     ensures { result ≡ setting_after setting }
 {

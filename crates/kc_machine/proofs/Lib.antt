@@ -5,3 +5,4 @@ pub mod Finishing
 pub mod Pins
 pub mod Handing
 pub mod Failing
+mod Prepared

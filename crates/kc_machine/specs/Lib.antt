@@ -1,6 +1,7 @@
 pub mod Keeping
 pub mod Bus
 pub mod BusLaws
+pub mod Prepared
 pub mod Sound
 pub mod Board
 pub mod Seen

@@ -1,5 +1,5 @@
 -- What is said of a machine that goes on activity by activity (this kit's own).
-use Rattle.std.specs.Prelude.{◌≡◌, ℕ, ◌<◌, ◌≤◌, List, ◌++◌, drop, None}
+use Rattle.std.specs.Prelude.{◌≡◌, ℕ, ◌<◌, ◌≤◌, List, ◌++◌, drop}
 use Rattle.kc_extra.specs.Further.{Further}
 use Rattle.kc_intc.specs.declared.requests.Choice.TheVariants.{Go}
 use Rattle.kc_trace.specs.declared.record.Record.{Record}

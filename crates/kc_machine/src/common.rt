@@ -1,5 +1,6 @@
 // The common board of both masters in a state.
-ghost use Rattle.std.specs.Prelude.{◌≡◌, ℕ, ◌+◌, ◌*◌, ◌<◌, ◌≤◌, ◌-◌, ◌%◌, ◌^◌, Err, IsTrue, OnOk, OnErr, vec_len, length, [], false};
+ghost use Rattle.std.specs.Prelude.{◌≡◌, ℕ, ◌+◌, ◌*◌, ◌<◌, ◌≤◌, ◌-◌, ◌%◌, ◌^◌, Err, IsTrue, OnOk, OnErr, IfOk, All, vec_len, length, [], true, false};
+ghost use Rattle.std.specs.Bool.{OnTrue};
 ghost use Rattle.kc_span.specs.Span.{after};
 ghost use Rattle.kc_exec_spec.specs.Access.{ReadByte, ReadWord, WriteByte, WriteWord, SetMasks, Accepts};
 ghost use Rattle.kc_exec_spec.specs.Window.{is_wsr};
@@ -9,26 +10,51 @@ ghost use Rattle.kc_block_spec.specs.Looking.{looked};
 ghost use Rattle.kc_machine_spec.specs.Board.{masks_of};
 ghost use Rattle.kc_machine_spec.specs.Scene.{opened, byte, put, window_at, scene_answer, after_by};
 ghost use Rattle.kc_machine_spec.specs.Machine.{taken, claimed, handed};
+ghost use Rattle.kc_exec_spec.specs.Memory.{is_rom};
 ghost use Rattle.kc_machine.specs.Keeping.{fitting, counted};
+ghost use Rattle.kc_exec_ready.specs.Preparing.{is_alone_cost};
+ghost use Rattle.kc_machine.specs.Prepared.{HasSlot, IsSlot, IsTable};
 
+use crate::choosing::fetch;
 use crate::noted::Noted;
 use crate::weights::{weigh_byte, weigh_word_read, weigh_word_written, window_for};
-use kc_base::{EdgeOut, Kind, StateTime, Steps};
+use kc_base::{EdgeOut, Kind, NoMemory, StateTime, Steps};
 use kc_block::Block;
 use kc_block_spec::Window;
 use kc_bus::{Masks, Master};
+use kc_code::{Decoded, decode};
+use kc_exec_ready::{Ready, prepare};
 use kc_extra::Extra;
+use std::alloc::Global;
 use std::sync::ledger::Ledger;
 
-/// The memory and the units of a board. After the Tick of a state they are those that the accesses of the state meet; beside
+/// The memory and the units of a board, and the instructions of its ROM that were prepared. After the Tick of a state they are those that the accesses of the state meet; beside
 /// them stand the edges of pins that these accesses have made, and how many of them have reached a unit.
 #[derive(Drop)]
 pub struct Common<X: Extra + Drop> {
     pub(crate) memory: Vec<u8>,
+    pub(crate) ready: Vec<Ready>,
     pub(crate) block: Block<X>,
     pub(crate) edges: Noted,
     pub(crate) reached: u8,
     ghost long: { vec_len memory ≡ 65536 },
+    ghost slots: { vec_len ready ≡ 0x3FFA },
+    ghost told: { IsTable ready.items memory.items },
+}
+
+/// The first address from which an instruction is prepared, and how many have a slot: all seven bytes of each stand in ROM.
+const FIRST: u16 = 0x2000;
+
+const SLOTS: usize = 0x3FFA;
+
+// No slot tells anything any more.
+fn clear(table: &mut [Ready])
+    ensures none { All (λ r. is_alone_cost r.cost ≡ true) table.new }
+    ensures count { length table.new ≡ length table.old }
+{
+    for slot in table {
+        *slot = Ready::blank();
+    }
 }
 
 fn count(reached: u8, more: u8) -> u8
@@ -45,8 +71,29 @@ fn count(reached: u8, more: u8) -> u8
 impl<X: Extra + Drop> Common<X> {
     ghost use Rattle.kc_machine.specs.Bus.{held_of};
 
+    /// The board of a memory and its units, with no instruction prepared and no access made.
+    pub(crate) fn new(
+        alloc: Global,
+        memory: Vec<u8>,
+        block: Block<X>,
+    ) -> Result<Common<X>, NoMemory>
+        requires { vec_len memory ≡ 65536 }
+        ensures memory { IfOk result (λ common. common.memory ≡ memory) }
+        ensures block { IfOk result (λ common. common.block ≡ block) }
+    {
+        let ready = vec![in alloc; Ready::blank(); SLOTS]?;
+        Ok(Common {
+            memory,
+            ready,
+            block,
+            edges: Noted::none(),
+            reached: 0,
+        })
+    }
+
     /// Brings the units past so many states from the present one on, and hands out their edges: the last of the states is
     /// that of the accesses that follow.
+    #[inline(always)]
     pub(crate) fn advance<O: EdgeOut, L: Ledger>(
         &mut self,
         from: StateTime,
@@ -69,6 +116,7 @@ impl<X: Extra + Drop> Common<X> {
     }
 
     /// The registers of the units that belong to the processor's state.
+    #[inline(always)]
     pub(crate) fn masks(&self) -> Masks
         ensures value { result ≡ masks_of self.now.block.units }
         ensures window { IsTrue (is_wsr result.wsr) }
@@ -134,13 +182,18 @@ impl<X: Extra + Drop> Common<X> {
         self.block.look(window, addr as u8)
     }
 
+    #[inline(always)]
     pub(crate) fn byte_at(&self, addr: u16) -> u8
         ensures { result ≡ byte (held_of self.now) addr }
     {
         self.memory[addr as usize]
     }
 
+    /// Writes a byte of RAM.
+    #[inline(always)]
+    #[tactic(auto, using(crate::proofs::Prepared::table_put))]
     pub(crate) fn put_byte(&mut self, addr: u16, value: u8)
+        requires { is_rom addr ≡ false }
         ensures scene { held_of self.new ≡ put (held_of self.old) addr value }
         ensures count { self.new.reached ≡ self.old.reached }
         ensures block { self.new.block ≡ self.old.block }
@@ -148,6 +201,74 @@ impl<X: Extra + Drop> Common<X> {
         self.memory[addr as usize] = value;
     }
 
+    // No instruction is prepared any more.
+    #[tactic(auto, using(crate::proofs::Prepared::table_cleared))]
+    fn forget_all(&mut self)
+        ensures none { All (λ r. is_alone_cost r.cost ≡ true) self.new.ready.items }
+        ensures memory { self.new.memory ≡ self.old.memory }
+        ensures edges { self.new.edges ≡ self.old.edges }
+        ensures count { self.new.reached ≡ self.old.reached }
+        ensures block { self.new.block ≡ self.old.block }
+    {
+        clear(&mut self.ready);
+    }
+
+    /// Changes the byte at an address, ROM too.
+    #[tactic(auto, using(crate::proofs::Prepared::table_cleared))]
+    pub(crate) fn poke(&mut self, addr: u16, value: u8)
+        ensures scene { held_of self.new ≡ put (held_of self.old) addr value }
+        ensures count { self.new.reached ≡ self.old.reached }
+        ensures block { self.new.block ≡ self.old.block }
+    {
+        self.forget_all();
+        self.memory[addr as usize] = value;
+    }
+
+    /// Whether an address has a slot in the table of prepared instructions.
+    #[inline(always)]
+    pub(crate) fn has_slot(&self, addr: u16) -> bool
+        ensures { OnTrue result (HasSlot addr) }
+    {
+        (FIRST..FIRST + SLOTS as u16).contains(&addr)
+    }
+
+    /// The instruction at an address, where it is prepared; else the blank one.
+    #[inline(always)]
+    pub(crate) fn ready_at(&self, addr: u16) -> Ready
+        requires { HasSlot addr }
+        ensures { IsSlot self.now.memory.items addr result }
+    {
+        self.ready[(addr - FIRST) as usize]
+    }
+
+    // The instruction at an address, prepared; the blank one where there is none.
+    fn prepared_at(&self, addr: u16) -> Ready
+        ensures { IsSlot self.now.memory.items addr result }
+    {
+        let bytes = fetch(&self.memory, addr);
+        match decode(bytes.as_slice()) {
+            Decoded::Insn(insn, _) => match prepare(&insn) {
+                Some(ready) => ready,
+                None => Ready::blank(),
+            },
+            Decoded::Unimplemented | Decoded::Undefined | Decoded::Short => Ready::blank(),
+        }
+    }
+
+    /// Prepares the instruction at an address, where it stands in ROM and is not prepared yet.
+    #[inline(never)]
+    #[cold]
+    #[tactic(auto, using(crate::proofs::Prepared::table_keep))]
+    pub(crate) fn look_ahead(&mut self, addr: u16)
+        ensures scene { held_of self.new ≡ held_of self.old }
+        ensures block { self.new.block ≡ self.old.block }
+    {
+        if self.has_slot(addr) && self.ready_at(addr).length == 0 {
+            self.ready[(addr - FIRST) as usize] = self.prepared_at(addr);
+        }
+    }
+
+    #[inline(always)]
     fn window(&self, by: Master) -> Window
         ensures { result ≡ window_at (held_of self.now) by }
     {
@@ -155,6 +276,8 @@ impl<X: Extra + Drop> Common<X> {
     }
 
     /// A byte read below 0018H.
+    #[inline(never)]
+    #[cold]
     pub(crate) fn read_byte<L: Ledger>(
         &mut self,
         by: Master,
@@ -177,6 +300,8 @@ impl<X: Extra + Drop> Common<X> {
     }
 
     /// A word read below 0018H.
+    #[inline(never)]
+    #[cold]
     pub(crate) fn read_word<L: Ledger>(
         &mut self,
         by: Master,
@@ -203,6 +328,8 @@ impl<X: Extra + Drop> Common<X> {
     }
 
     /// A byte write below 0018H.
+    #[inline(never)]
+    #[cold]
     pub(crate) fn write_byte<L: Ledger>(
         &mut self,
         by: Master,
@@ -233,6 +360,8 @@ impl<X: Extra + Drop> Common<X> {
     }
 
     /// A word write below 0018H.
+    #[inline(never)]
+    #[cold]
     pub(crate) fn write_word<L: Ledger>(
         &mut self,
         by: Master,

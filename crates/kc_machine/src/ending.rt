@@ -1,8 +1,10 @@
 // How activities end: their accesses, and what is printed of them.
-ghost use Rattle.std.specs.Prelude.{◌≡◌, ◌≤◌, ◌<◌, ◌+◌, ◌*◌, ◌^◌, ◌++◌, IsTrue, IfSome, None, [], ◌∷◌, option_to_list, false, true};
+ghost use Rattle.std.specs.Prelude.{◌≡◌, ◌≤◌, ◌<◌, ◌+◌, ◌*◌, ◌^◌, ◌++◌, IsTrue, IfSome, IfErr, OnOk, OnErr, None, [], ◌∷◌, option_to_list, false, true};
 ghost use Rattle.kc_isa.specs.Formed.{is_formed};
 ghost use Rattle.kc_exec_spec.specs.BlockMoves.{IsOfMove};
 ghost use Rattle.kc_exec_spec.specs.Jumping.{next_pc};
+ghost use Rattle.kc_exec_spec.specs.Plans.{plan_of};
+ghost use Rattle.kc_exec_ready.specs.Preparing.{is_free, IsReady};
 ghost use Rattle.kc_trace.specs.Printable.{CanPrint};
 ghost use Rattle.kc_machine_spec.specs.declared.doing.Activity.TheVariants.{Executes, MovesWord, Traps, Enters, SetsUp, Transfers, Idles};
 ghost use Rattle.kc_machine_spec.specs.Board.{pins};
@@ -11,9 +13,12 @@ ghost use Rattle.kc_machine_spec.specs.Passing.{stepped_of};
 ghost use Rattle.kc_machine.specs.Sound.{IsSoundActivity, IsSoundGoing, IsSoundMove, IsSoundCycle};
 
 use crate::choosing::{vector_at, vector_of};
-use crate::over::{enter_over, move_over, perform_over, serve_over, setup_over, trap_over};
+use crate::over::{
+    enter_over, move_over, perform_over, ready_over, serve_over, setup_over, trap_over,
+};
 use crate::parts::Core;
 use kc_base::{Kind, StateTime, Steps, Undefined};
+use kc_exec_ready::Ready;
 use kc_exec_spec::{After, Words};
 use kc_extra::Extra;
 use kc_isa::{Insn, Mnemonic, length, mnemonic_of};
@@ -115,8 +120,8 @@ impl<X: Extra + Drop> Core<X> {
         self.ended = next.ended;
     }
 
-    // Ends the run by an undefined use that is reported at an address.
-    fn break_off(&mut self, addr: u16, kind: Kind) -> Record
+    /// Ends the run by an undefined use that is reported at an address.
+    pub(crate) fn break_off(&mut self, addr: u16, kind: Kind) -> Record
         requires room { self.old.time < 2 ^ 63 }
         ensures machine { stepped_of (machine_of self.new) (pins self.old.time self.new.bus.edges ++ result ∷ []) (4 * self.new.bus.reached) ≡ broken (machine_of self.old) (held_of self.old.bus) addr kind }
         ensures bus { self.new.bus ≡ self.old.bus }
@@ -160,6 +165,40 @@ impl<X: Extra + Drop> Core<X> {
                 own
             }
             Err(kind) => Some(self.break_off(self.cpu.pc, kind)),
+        }
+    }
+
+    /// Does a prepared instruction in its last state. After a refusal the state is not over yet.
+    #[inline(always)]
+    pub(crate) fn execute_ready<L: Ledger>(
+        &mut self,
+        ready: &Ready,
+        steps: &mut Steps<L>,
+    ) -> Result<(), Kind>
+        requires ready { IsReady ready.now }
+        requires followed { is_free (plan_of ready.now.mnemonic) ≡ true }
+        requires begun { self.old.under_way ≡ None }
+        requires alone { self.old.going ≡ None }
+        requires unheld { self.old.held ≡ false }
+        requires lives { self.old.ended ≡ None }
+        requires room { self.old.time < 2 ^ 63 }
+        requires scene { held_of self.old.bus ≡ scene_of (machine_of self.old) }
+        ensures ok { OnOk result (stepped_of (machine_of self.new) (pins self.old.time self.new.bus.edges) (4 * self.new.bus.reached) ≡ finished X.further (Executes ready.now.insn) (machine_of self.old)) }
+        ensures err { IfErr result (λ kind. broken (machine_of self.new) (held_of self.new.bus) self.new.cpu.pc kind ≡ finished X.further (Executes ready.now.insn) (machine_of self.old)) }
+        ensures spent { steps.new ≤ steps.old + 16 * self.new.bus.reached }
+        ensures moves { self.new.bus.block.moves ≤ self.old.bus.block.moves + 16 * self.new.bus.reached }
+        ensures block { self.new.bus.block.time ≡ self.old.bus.block.time }
+        ensures time { OnOk result (self.new.time ≡ self.old.time + 1) }
+        ensures stays { OnErr result (self.new.time ≡ self.old.time) }
+        ensures over { self.new.under_way ≡ None }
+        ensures going { self.new.going ≡ None }
+    {
+        match ready_over(ready, &mut self.cpu, &mut self.bus, steps) {
+            Ok(()) => {
+                self.time += 1;
+                Ok(())
+            }
+            Err(kind) => Err(kind),
         }
     }
 

@@ -22,8 +22,9 @@ pub(crate) fn word(high: u8, low: u8) -> u16
     256 * u16::from(high) + u16::from(low)
 }
 
-// The line of the end, at a state.
-fn stopped(how: End, time: StateTime) -> Record
+/// The record of how a run has ended that stands at this state time: of a power-down or a reset that of the state before, of an
+/// undefined use that of its own.
+pub fn stopped(how: End, time: StateTime) -> Record
     requires { HasRun how time }
     ensures value { result ≡ Stopped (end_state how time) (end_number how) }
     ensures printable { CanPrint result }

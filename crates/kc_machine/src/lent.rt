@@ -54,6 +54,7 @@ impl<'a, X: Extra + Drop, L: Ledger, K: Began> Bus for Lent<'a, X, L, K> {
 
     ghost lent = { λ b. b.common.ghost_name ∷ b.steps.ghost_name ∷ b.common.now.block.time ∷ [] };
 
+    #[inline(always)]
     fn read8(&mut self, by: Master, addr: u16) -> Result<u8, Kind> {
         if addr < 0x18 {
             self.common.read_byte(by, addr, self.steps)
@@ -64,6 +65,7 @@ impl<'a, X: Extra + Drop, L: Ledger, K: Began> Bus for Lent<'a, X, L, K> {
         }
     }
 
+    #[inline(always)]
     fn read16(&mut self, by: Master, addr: u16) -> Result<u16, Kind> {
         if addr % 2 == 1 {
             Err(Kind::OddWord)
@@ -78,6 +80,7 @@ impl<'a, X: Extra + Drop, L: Ledger, K: Began> Bus for Lent<'a, X, L, K> {
         }
     }
 
+    #[inline(always)]
     fn write8(&mut self, by: Master, addr: u16, value: u8) -> Result<(), Kind> {
         if addr < 0x18 {
             self.common.write_byte(by, addr, value, self.steps)
@@ -91,6 +94,7 @@ impl<'a, X: Extra + Drop, L: Ledger, K: Began> Bus for Lent<'a, X, L, K> {
         }
     }
 
+    #[inline(always)]
     fn write16(&mut self, by: Master, addr: u16, value: u16) -> Result<(), Kind> {
         if addr % 2 == 1 {
             Err(Kind::OddWord)
@@ -107,10 +111,12 @@ impl<'a, X: Extra + Drop, L: Ledger, K: Began> Bus for Lent<'a, X, L, K> {
         }
     }
 
+    #[inline(always)]
     fn glance(&self, addr: u16) -> u8 {
         self.common.byte_at(addr)
     }
 
+    #[inline(always)]
     fn masks(&self) -> Masks {
         self.common.masks()
     }

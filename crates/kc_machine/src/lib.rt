@@ -13,6 +13,7 @@ mod parts;
 mod passing;
 mod weights;
 
+pub use finals::stopped;
 pub use kc_machine_spec::End;
 pub use machine::Machine;
 pub use passing::WriteFault;

@@ -7,7 +7,7 @@ ghost use Rattle.kc_block_spec.specs.Levels.{stimulated_before};
 ghost use Rattle.kc_block_lazy.specs.Lanes.{further_goes};
 ghost use Rattle.kc_block.specs.Lent.{IsLent};
 ghost use Rattle.kc_intc.specs.declared.requests.Choice.TheVariants.{Go};
-ghost use Rattle.kc_machine_spec.specs.Machine.{start, memory_of, asked};
+ghost use Rattle.kc_machine_spec.specs.Machine.{start, memory_of, asked, current};
 ghost use Rattle.kc_machine_spec.specs.Run.{run_to, end_of};
 ghost use Rattle.kc_machine_spec.specs.Passing.{IsIdle, activity_end};
 ghost use Rattle.kc_machine_spec.specs.Peeking.{peeked, poked};
@@ -18,14 +18,13 @@ ghost use Rattle.kc_machine.specs.Stepping.{IsBrief, IdlesFor, end_line, registe
 
 use crate::common::Common;
 use crate::finals::{put_end, put_finals, put_state, word};
-use crate::noted::Noted;
 use crate::parts::Core;
 use crate::passing::WriteFault;
 use kc_base::{Image, NoMemory, Sink, StateTime, Steps};
 use kc_block::Block;
 use kc_exec_spec::Cpu;
 use kc_extra::Extra;
-use kc_machine_spec::End;
+use kc_machine_spec::{End, UnderWay};
 use kc_stim::Stimuli;
 use kc_trace::TraceOut;
 use std::alloc::Global;
@@ -92,12 +91,7 @@ impl<X: Extra + Drop> Machine<X> {
         Ok(Machine {
             core: Core {
                 time: 0,
-                bus: Common {
-                    memory,
-                    block,
-                    edges: Noted::none(),
-                    reached: 0,
-                },
+                bus: Common::new(alloc, memory, block)?,
                 cpu: Cpu {
                     pc: 0x2080,
                     psw_high: 0,
@@ -143,6 +137,16 @@ impl<X: Extra + Drop> Machine<X> {
         ensures { IsTrue result ↔ (self.now.machine.under_way ≡ None) }
     {
         self.core.under_way.is_none()
+    }
+
+    /// The activity that has the coming state, with the states that are left of it: the one under way, or else the one that
+    /// begins.
+    pub fn current<L: Ledger>(&mut self, steps: &mut Steps<L>) -> UnderWay
+        ensures activity { result ≡ current self.old.machine }
+        ensures same { self.new ≡ self.old }
+        ensures steps { steps.new ≡ steps.old }
+    {
+        self.core.current(steps)
     }
 
     /// How the run has ended, or `None` while the machine lives.
@@ -241,7 +245,7 @@ impl<X: Extra + Drop> Machine<X> {
         ensures held { self.new.held ≡ self.old.held }
         ensures moves { self.new.moves ≡ self.old.moves }
     {
-        self.core.bus.put_byte(addr, value);
+        self.core.bus.poke(addr, value);
     }
 
     /// Writes the line that tells how the run has ended.

@@ -1,11 +1,13 @@
 // Activities over the machine's board.
-ghost use Rattle.std.specs.Prelude.{◌≡◌, ◌+◌, ◌*◌, ◌≤◌, ◌<◌, IsTrue, IfOk, None};
+ghost use Rattle.std.specs.Prelude.{◌≡◌, ◌+◌, ◌*◌, ◌≤◌, ◌<◌, IsTrue, IfOk, None, true};
 ghost use Rattle.kc_isa.specs.Formed.{is_formed};
 ghost use Rattle.kc_exec_spec.specs.Effect.{Gives, run};
 ghost use Rattle.kc_exec_spec.specs.Effects.{effect_of, Performs};
 ghost use Rattle.kc_exec_spec.specs.BlockMoves.{moved_word, IsUnderWay, IsOfMove};
 ghost use Rattle.kc_exec_spec.specs.Entering.{entry, opcode_trap, Loads};
 ghost use Rattle.kc_exec_spec.specs.Places.{place_of};
+ghost use Rattle.kc_exec_spec.specs.Plans.{plan_of};
+ghost use Rattle.kc_exec_ready.specs.Preparing.{is_free, time_at, IsReady, GoesOn};
 ghost use Rattle.kc_pts.specs.Cycles.{set_up, served, Serves};
 ghost use Rattle.kc_machine_spec.specs.Board.{masks_of};
 ghost use Rattle.kc_machine_spec.specs.Scene.{byte};
@@ -16,6 +18,7 @@ use crate::common::Common;
 use crate::lent::{Began, Lent};
 use kc_base::{Kind, Steps};
 use kc_exec::{enter, move_word, perform, place, trap_opcode};
+use kc_exec_ready::{Ready, perform_ready, time_of};
 use kc_exec_spec::{After, Cpu, Words};
 use kc_extra::Extra;
 use kc_isa::{Insn, Place};
@@ -286,4 +289,70 @@ pub(crate) fn place_over<X: Extra + Drop, L: Ledger>(
         began: PhantomData::<Brand>,
     };
     place(insn, cpu, &bus)
+}
+
+#[inline(always)]
+fn ready_from<X: Extra + Drop, L: Ledger, K: Began>(
+    ready: &Ready,
+    cpu: &mut Cpu,
+    common: &mut Common<X>,
+    steps: &mut Steps<L>,
+) -> Result<(), Kind>
+    requires unreached { common.old.reached ≡ 0 }
+    requires ready { IsReady ready.now }
+    requires followed { is_free (plan_of ready.now.mnemonic) ≡ true }
+    requires steps { steps.old ≡ K.steps }
+    requires moves { common.old.block.moves ≡ K.moves }
+    ensures effect { GoesOn result cpu.old cpu.new (held_of common.new) (run (bus_meaning X.further) (effect_of ready.now.insn cpu.old) (held_of common.old)) }
+    ensures time { common.new.block.time ≡ common.old.block.time }
+    ensures spent { steps.new ≤ steps.old + 16 * common.new.reached }
+    ensures moves { common.new.block.moves ≤ common.old.block.moves + 16 * common.new.reached }
+{
+    let mut bus = Lent {
+        common,
+        steps,
+        began: PhantomData::<K>,
+    };
+    perform_ready(ready, cpu, &mut bus)
+}
+
+/// Performs a prepared instruction over the board.
+#[inline(always)]
+pub(crate) fn ready_over<X: Extra + Drop, L: Ledger>(
+    ready: &Ready,
+    cpu: &mut Cpu,
+    common: &mut Common<X>,
+    steps: &mut Steps<L>,
+) -> Result<(), Kind>
+    requires unreached { common.old.reached ≡ 0 }
+    requires ready { IsReady ready.now }
+    requires followed { is_free (plan_of ready.now.mnemonic) ≡ true }
+    ensures effect { GoesOn result cpu.old cpu.new (held_of common.new) (run (bus_meaning X.further) (effect_of ready.now.insn cpu.old) (held_of common.old)) }
+    ensures time { common.new.block.time ≡ common.old.block.time }
+    ensures spent { steps.new ≤ steps.old + 16 * common.new.reached }
+    ensures moves { common.new.block.moves ≤ common.old.block.moves + 16 * common.new.reached }
+{
+    ready_from::<X, L, Brand>(ready, cpu, common, steps)
+}
+
+/// The states of a prepared instruction on the board, which stays as it is.
+#[inline(always)]
+pub(crate) fn time_over<X: Extra + Drop, L: Ledger>(
+    ready: &Ready,
+    cpu: Cpu,
+    common: &mut Common<X>,
+    steps: &mut Steps<L>,
+) -> Result<u8, Kind>
+    requires { IsReady ready.now }
+    ensures value { result ≡ time_at ready.now.insn cpu (masks_of common.old.block.units) (byte (held_of common.old)) }
+    ensures some { IfOk result (λ n. 0 < n) }
+    ensures common { common.new ≡ common.old }
+    ensures steps { steps.new ≡ steps.old }
+{
+    let bus = Lent {
+        common,
+        steps,
+        began: PhantomData::<Brand>,
+    };
+    time_of(ready, cpu, &bus)
 }

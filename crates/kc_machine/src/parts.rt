@@ -10,6 +10,7 @@ ghost use Rattle.kc_machine_spec.specs.Scene.{byte};
 ghost use Rattle.kc_machine_spec.specs.Machine.{breaks, placed, scene_of, pushing_states, fetches, enters, sets_up, goes_on, goes_first, asked, chosen, current};
 ghost use Rattle.kc_machine_spec.specs.Passing.{IsIdle};
 ghost use Rattle.kc_machine_spec.specs.Peeking.{peeked};
+ghost use Rattle.kc_machine.specs.Prepared.{IsBetween};
 ghost use Rattle.kc_machine.specs.Sound.{IsGoing, IsReady, IsSoundGoing};
 
 use crate::choosing::{entry_time, fetch};
@@ -160,6 +161,7 @@ impl<X: Extra + Drop> Core<X> {
     }
 
     // What the requests choose.
+    #[inline(always)]
     fn asked(&self) -> Choice
         ensures value { result ≡ asked (machine_of self.now) }
         ensures below { IsBelow15 result }
@@ -208,6 +210,24 @@ impl<X: Extra + Drop> Core<X> {
         }
     }
 
+    // Whether no request is served.
+    #[inline(always)]
+    #[tactic(auto, using(kc_intc::proofs::Greatest::nothing_wanted))]
+    fn is_unasked(&self) -> bool
+        ensures { OnTrue result (asked (machine_of self.now) ≡ Go) }
+    {
+        let requests = self.bus.block.requests();
+        requests.pending == 0 && requests.service == 0 || matches!(self.asked(), Choice::Go)
+    }
+
+    /// Whether the instruction at PC comes next: nothing is under way, goes on or is served before it.
+    #[inline(always)]
+    pub(crate) fn is_between(&self) -> bool
+        ensures { OnTrue result (IsBetween (machine_of self.now)) }
+    {
+        self.under_way.is_none() && self.going.is_none() && !self.held && self.is_unasked()
+    }
+
     /// The byte at an address, in the window that the processor sees.
     pub(crate) fn peek(&mut self, addr: u16) -> u8
         requires stands { self.old.bus.block.time ≡ self.old.time }
@@ -227,6 +247,7 @@ impl<X: Extra + Drop> Core<X> {
     }
 
     /// Whether the machine idles and no request is served.
+    #[inline(always)]
     pub(crate) fn rests(&self) -> bool
         requires { self.now.ended ≡ None }
         ensures idle { OnTrue result (IsIdle (machine_of self.now)) }

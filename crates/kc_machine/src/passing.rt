@@ -8,15 +8,21 @@ ghost use Rattle.kc_trace.specs.Trace.{out_of};
 ghost use Rattle.kc_block_spec.specs.Touch.{block_rule, touch};
 ghost use Rattle.kc_machine_spec.specs.Board.{pins, edges_in};
 ghost use Rattle.kc_intc.specs.declared.requests.Choice.TheVariants.{Go};
-ghost use Rattle.kc_machine_spec.specs.Machine.{scene_of, current, asked};
+ghost use Rattle.kc_machine_spec.specs.Machine.{scene_of, current, asked, broken};
 ghost use Rattle.kc_machine_spec.specs.Passing.{IsIdle, at, left_at, whole, activity_end};
 ghost use Rattle.kc_machine_spec.specs.Run.{run_to, end_of};
+ghost use Rattle.kc_exec_spec.specs.Plans.{plan_of};
+ghost use Rattle.kc_exec_ready.specs.Preparing as kc_ready;
+ghost use Rattle.kc_exec_ready.specs.Preparing.{is_free};
+ghost use Rattle.kc_machine.specs.Prepared.{IsBetween, HasSlot, executing};
 ghost use Rattle.kc_machine.specs.Sound.{IsGoing, IsReady, IsSoundGoing};
 ghost use Rattle.kc_machine.specs.Failing.{Passes, FailsIn};
 ghost use Rattle.kc_machine.specs.Stepping.{IsBrief, IdlesFor};
 
+use crate::over::time_over;
 use crate::parts::Core;
-use kc_base::{Edge, Sink, StateTime, Steps};
+use kc_base::{Edge, Kind, Sink, StateTime, Steps};
+use kc_exec_ready::{Ready, is_followed_freely};
 use kc_extra::Extra;
 use kc_machine_spec::{End, UnderWay};
 use kc_trace::{Record, TraceOut};
@@ -31,6 +37,7 @@ impl<X: Extra + Drop> Core<X> {
     ghost use Rattle.kc_machine.specs.Seen.{machine_of};
 
     // All units go so many states on, past the last of these states, and the edges that they give are printed.
+    #[inline(always)]
     fn advance<S: Sink, L: Ledger>(
         &mut self,
         count: u64,
@@ -52,6 +59,7 @@ impl<X: Extra + Drop> Core<X> {
     }
 
     // The edges that the accesses of a state have given are printed.
+    #[inline(always)]
     fn put_edges<S: Sink>(&self, at: StateTime, out: &mut TraceOut<S>)
         ensures { Prints (out_of S.written S.faults out.old) (pins at self.now.bus.edges) (out_of S.written S.faults out.new) }
     {
@@ -168,6 +176,7 @@ impl<X: Extra + Drop> Core<X> {
 
     // Goes on to the end of the activity, or over idle states up to where the units do something, or to `until` if that
     // comes first.
+    #[inline(always)]
     fn pass<S: Sink, L: Ledger>(
         &mut self,
         until: StateTime,
@@ -194,7 +203,89 @@ impl<X: Extra + Drop> Core<X> {
     }
 
     // Goes on to the end of the activity, or to `until` if that comes first.
+    #[inline(always)]
     fn pass_activity<S: Sink, L: Ledger>(
+        &mut self,
+        until: StateTime,
+        out: &mut TraceOut<S>,
+        steps: &mut Steps<L>,
+    )
+        requires ready { IsReady self.old }
+        requires lives { self.old.ended ≡ None }
+        requires ahead { self.old.time < until }
+        requires room { until ≤ 2 * 10 ^ 15 }
+        ensures passes { Passes X.further until (machine_of self.old) (machine_of self.new) }
+        ensures machine { machine_of self.new ≡ (run_to X.further self.new.time (machine_of self.old)).machine }
+        ensures lines { Prints (out_of S.written S.faults out.old) (run_to X.further self.new.time (machine_of self.old)).records (out_of S.written S.faults out.new) }
+        ensures ready { IsReady self.new }
+        ensures spent { steps.new ≤ steps.old + 4 * (run_to X.further self.new.time (machine_of self.old)).work }
+        ensures moves { self.new.bus.block.moves ≤ self.old.bus.block.moves + 4 * (run_to X.further self.new.time (machine_of self.old)).work }
+    {
+        if self.is_between() && self.bus.has_slot(self.cpu.pc) {
+            self.pass_slot(until, out, steps);
+        } else {
+            self.pass_other(until, out, steps);
+        }
+    }
+
+    // The same, where the instruction at PC comes next and has a slot.
+    #[inline(always)]
+    fn pass_slot<S: Sink, L: Ledger>(
+        &mut self,
+        until: StateTime,
+        out: &mut TraceOut<S>,
+        steps: &mut Steps<L>,
+    )
+        requires between { IsBetween (machine_of self.old) }
+        requires slot { HasSlot self.old.cpu.pc }
+        requires ready { IsReady self.old }
+        requires lives { self.old.ended ≡ None }
+        requires ahead { self.old.time < until }
+        requires room { until ≤ 2 * 10 ^ 15 }
+        ensures passes { Passes X.further until (machine_of self.old) (machine_of self.new) }
+        ensures machine { machine_of self.new ≡ (run_to X.further self.new.time (machine_of self.old)).machine }
+        ensures lines { Prints (out_of S.written S.faults out.old) (run_to X.further self.new.time (machine_of self.old)).records (out_of S.written S.faults out.new) }
+        ensures ready { IsReady self.new }
+        ensures spent { steps.new ≤ steps.old + 4 * (run_to X.further self.new.time (machine_of self.old)).work }
+        ensures moves { self.new.bus.block.moves ≤ self.old.bus.block.moves + 4 * (run_to X.further self.new.time (machine_of self.old)).work }
+    {
+        let ready = self.bus.ready_at(self.cpu.pc);
+        if is_followed_freely(&ready)
+            && let Ok(states) = time_over(&ready, self.cpu, &mut self.bus, steps)
+            && u64::from(states) <= until - self.time
+        {
+            self.pass_ready(&ready, states, until, out, steps);
+        } else {
+            self.pass_other(until, out, steps);
+        }
+    }
+
+    // The same, where the next activity is no prepared instruction; the instruction at PC is prepared for the next time.
+    #[inline(never)]
+    #[cold]
+    fn pass_other<S: Sink, L: Ledger>(
+        &mut self,
+        until: StateTime,
+        out: &mut TraceOut<S>,
+        steps: &mut Steps<L>,
+    )
+        requires ready { IsReady self.old }
+        requires lives { self.old.ended ≡ None }
+        requires ahead { self.old.time < until }
+        requires room { until ≤ 2 * 10 ^ 15 }
+        ensures passes { Passes X.further until (machine_of self.old) (machine_of self.new) }
+        ensures machine { machine_of self.new ≡ (run_to X.further self.new.time (machine_of self.old)).machine }
+        ensures lines { Prints (out_of S.written S.faults out.old) (run_to X.further self.new.time (machine_of self.old)).records (out_of S.written S.faults out.new) }
+        ensures ready { IsReady self.new }
+        ensures spent { steps.new ≤ steps.old + 4 * (run_to X.further self.new.time (machine_of self.old)).work }
+        ensures moves { self.new.bus.block.moves ≤ self.old.bus.block.moves + 4 * (run_to X.further self.new.time (machine_of self.old)).work }
+    {
+        self.bus.look_ahead(self.cpu.pc);
+        self.pass_any(until, out, steps);
+    }
+
+    // The same, whatever the next activity is.
+    fn pass_any<S: Sink, L: Ledger>(
         &mut self,
         until: StateTime,
         out: &mut TraceOut<S>,
@@ -213,6 +304,86 @@ impl<X: Extra + Drop> Core<X> {
     {
         let activity = self.current(steps);
         self.go_through(activity, until, out, steps);
+    }
+
+    // Ends the run by a refusal of the instruction at PC in its last state, and prints what that gives.
+    #[inline(never)]
+    #[cold]
+    fn put_refusal<S: Sink>(&mut self, kind: Kind, out: &mut TraceOut<S>)
+        requires room { self.old.time < 2 ^ 63 }
+        ensures machine { machine_of self.new ≡ (broken (machine_of self.old) (held_of self.old.bus) self.old.cpu.pc kind).machine }
+        ensures lines { Prints (out_of S.written S.faults out.old) (broken (machine_of self.old) (held_of self.old.bus) self.old.cpu.pc kind).records (out_of S.written S.faults out.new) }
+        ensures bus { self.new.bus ≡ self.old.bus }
+        ensures going { self.new.going ≡ self.old.going }
+        ensures time { self.new.time ≡ self.old.time + 1 }
+        ensures over { self.new.under_way ≡ None }
+    {
+        let state = self.time;
+        let record = self.break_off(self.cpu.pc, kind);
+        self.put_edges(state, out);
+        put_one(out, &record);
+    }
+
+    // Goes on to the end of a prepared instruction.
+    #[inline(always)]
+    fn complete_ready<S: Sink, L: Ledger>(
+        &mut self,
+        ready: &Ready,
+        states: u8,
+        out: &mut TraceOut<S>,
+        steps: &mut Steps<L>,
+    )
+        requires between { IsBetween (machine_of self.old) }
+        requires told { kc_ready.IsReady ready.now }
+        requires followed { is_free (plan_of ready.now.mnemonic) ≡ true }
+        requires some { 0 < states }
+        requires ready { IsReady self.old }
+        requires lives { self.old.ended ≡ None }
+        requires room { self.old.time + states ≤ 3 * 10 ^ 15 }
+        ensures machine { machine_of self.new ≡ (whole X.further (machine_of self.old) (executing ready.now states)).machine }
+        ensures time { self.new.time ≡ self.old.time + states }
+        ensures ready { IsReady self.new }
+        ensures lines { Prints (out_of S.written S.faults out.old) (whole X.further (machine_of self.old) (executing ready.now states)).records (out_of S.written S.faults out.new) }
+        ensures spent { steps.new ≤ steps.old + 4 * (whole X.further (machine_of self.old) (executing ready.now states)).work }
+        ensures moves { self.new.bus.block.moves ≤ self.old.bus.block.moves + 4 * (whole X.further (machine_of self.old) (executing ready.now states)).work }
+    {
+        let left = u64::from(states);
+        self.advance(left, out, steps);
+        let at = self.time;
+        match self.execute_ready(ready, steps) {
+            Ok(()) => self.put_edges(at, out),
+            Err(kind) => self.put_refusal(kind, out),
+        }
+    }
+
+    // Passes a prepared instruction that comes next.
+    #[inline(always)]
+    fn pass_ready<S: Sink, L: Ledger>(
+        &mut self,
+        ready: &Ready,
+        states: u8,
+        until: StateTime,
+        out: &mut TraceOut<S>,
+        steps: &mut Steps<L>,
+    )
+        requires between { IsBetween (machine_of self.old) }
+        requires told { kc_ready.IsReady ready.now }
+        requires followed { is_free (plan_of ready.now.mnemonic) ≡ true }
+        requires value { executing ready.now states ≡ current (machine_of self.old) }
+        requires some { 0 < states }
+        requires within { states ≤ until - self.old.time }
+        requires ready { IsReady self.old }
+        requires lives { self.old.ended ≡ None }
+        requires ahead { self.old.time < until }
+        requires room { until ≤ 2 * 10 ^ 15 }
+        ensures passes { Passes X.further until (machine_of self.old) (machine_of self.new) }
+        ensures machine { machine_of self.new ≡ (run_to X.further self.new.time (machine_of self.old)).machine }
+        ensures lines { Prints (out_of S.written S.faults out.old) (run_to X.further self.new.time (machine_of self.old)).records (out_of S.written S.faults out.new) }
+        ensures ready { IsReady self.new }
+        ensures spent { steps.new ≤ steps.old + 4 * (run_to X.further self.new.time (machine_of self.old)).work }
+        ensures moves { self.new.bus.block.moves ≤ self.old.bus.block.moves + 4 * (run_to X.further self.new.time (machine_of self.old)).work }
+    {
+        self.complete_ready(ready, states, out, steps);
     }
 
     // Goes on to the end of the current activity, or to `until` if that comes first.

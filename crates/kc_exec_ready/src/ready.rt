@@ -1,0 +1,43 @@
+ghost use Rattle.std.specs.Prelude.{◌≡◌};
+
+use crate::cost::Cost;
+use kc_exec_spec::Test;
+use kc_isa::{Insn, Mnemonic, Operand};
+
+/// An instruction with what is told of it once: its length in bytes; what its states depend on, with the test of a conditional
+/// jump and what it has to be; and its states where that does not hold (`base`) and where it holds (`other`).
+#[derive(Clone, Copy, Debug, PartialEq, Eq, Drop)]
+pub struct Ready {
+    pub insn: Insn,
+    pub mnemonic: Mnemonic,
+    pub length: u8,
+    pub cost: Cost,
+    pub test: Test,
+    pub wanted: bool,
+    pub base: u8,
+    pub other: u8,
+}
+
+impl Ready {
+    /// What tells nothing: an instruction of no bytes, after which not any activity may follow.
+    pub fn blank() -> Ready
+        ensures alone { result.cost ≡ Cost.Alone }
+        ensures none { result.length ≡ 0 }
+    {
+        Ready {
+            insn: Insn {
+                opcode: 0,
+                signed: false,
+                operand: Operand::Absent,
+                regs: [0; 3],
+            },
+            mnemonic: Mnemonic::Skip,
+            length: 0,
+            cost: Cost::Alone,
+            test: Test::Sticky,
+            wanted: false,
+            base: 0,
+            other: 0,
+        }
+    }
+}

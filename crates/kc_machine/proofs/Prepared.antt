@@ -1,0 +1,120 @@
+-- Prepared instructions: the table of them, and the activity that such an instruction is.
+use Rattle.std.proofs.Common.{◌≡◌, ◌≢◌, ℕ, zero, suc, ◌+◌, ◌*◌, ◌%◌, ◌<◌, ◌≤◌, ◌==◌, Bool, true, false, if◌then◌else◌, List, [], length, Some, None, Result, Ok, Err, refl, sym, subst, ap, ◌∙◌, append-nil, arith}
+use Rattle.std.specs.Prelude.{slice_index, slice_index_or, slice_set, replicate, All}
+use Rattle.std.proofs.lemmas.Grind.{common_steps}
+use Rattle.kc_base.specs.declared.types.Kind.{Kind}
+use Rattle.kc_isa.specs.declared.insn.Insn.{Insn}
+use Rattle.kc_isa.specs.declared.insn.Place.{Place}
+use Rattle.kc_isa.specs.declared.table.Mnemonic.{Mnemonic}
+use Rattle.kc_isa.specs.declared.table.Mnemonic.TheVariants as named
+use Rattle.kc_isa.specs.Formed.{states_of}
+use Rattle.kc_code.specs.declared.reader.Decoded.{Decoded}
+use Rattle.kc_code.specs.declared.reader.Decoded.TheVariants as says
+use Rattle.kc_code.specs.Reading.{decode_of}
+use Rattle.kc_exec_spec.specs.Memory.{is_rom}
+use Rattle.kc_exec_spec.specs.Places.{place_of, ◌>>=◌}
+use Rattle.kc_exec_spec.specs.Plans.{plan_of}
+use Rattle.kc_exec_ready.specs.declared.ready.Ready.{Ready}
+use Rattle.kc_exec_ready.specs.Preparing.{is_free, is_alone_cost, time_at, IsReady}
+use Rattle.kc_machine_spec.specs.declared.doing.Activity.TheVariants.{Executes}
+use Rattle.kc_exec_spec.specs.declared.cpu.Cpu.{Cpu}
+use Rattle.kc_machine_spec.specs.Board.{masks_of, pins}
+use Rattle.kc_machine_spec.specs.Passing.{stepped_of}
+use Rattle.kc_machine_spec.specs.Scene.{Scene, byte}
+use Rattle.kc_machine_spec.specs.Machine.{Machine, closed, free, fetched, begins, placed, fetches, chosen, current, scene_of, own_records, is_trap}
+use Rattle.kc_extra.specs.declared.extra.Extra as extra
+use Rattle.kc_machine.specs.declared.common.Common.{Common}
+use Rattle.kc_machine.specs.declared.parts.Core.{Core}
+use Rattle.kc_machine.specs.Bus.{held_of}
+use Rattle.kc_machine.specs.Seen.{machine_of}
+use Rattle.kc_machine.specs.Prepared.{insn_of, IsRead, IsSlot, IsTable, IsBetween, executing}
+
+other-byte : (bytes : List ℕ) (addr n x : ℕ) → x ≢ addr → slice_index (slice_set bytes addr n) x ≡ slice_index bytes x
+other-byte bytes addr n x other = grind (arith, common_steps)
+
+in-rom : (addr : ℕ) → is_rom addr ≡ false → 0x2000 ≤ addr → 0x6000 ≤ addr
+in-rom addr out low = grind (arith, common_steps)
+
+-- bytes that are all fetched from ROM stay as they are where another byte is written
+fetched-put : (n : ℕ) (memory : List ℕ) (addr value at : ℕ) → is_rom addr ≡ false → 0x2000 ≤ at → at + n ≤ 0x6000 → fetched n (slice_set memory addr value) at ≡ fetched n memory at
+unfolding fetched
+fetched-put zero memory addr value at out low high = refl
+fetched-put (suc n) memory addr value at out low high =
+    let other : at ≢ addr = λ same. absurd (let above : 0x6000 ≤ addr = in-rom addr out (subst (λ x. 0x2000 ≤ x) same low) in omega (arith, same)) in
+    let here : slice_index (slice_set memory addr value) at ≡ slice_index memory at = other-byte memory addr value at other in
+    let next : (at + 1) % 0x10000 ≡ at + 1 = omega arith in
+    let rest : fetched n (slice_set memory addr value) (at + 1) ≡ fetched n memory (at + 1) = fetched-put n memory addr value (at + 1) out (omega arith) (omega arith) in
+    rw (here, next, rest) refl
+
+slot-stays : (memory other : List ℕ) (at : ℕ) (r : Ready) → fetched 7 other at ≡ fetched 7 memory at → IsSlot memory at r → IsSlot other at r
+slot-stays memory other at r same h = λ some. record { ready = (h some).ready; read = ap (λ bytes. insn_of (decode_of bytes)) same ∙ (h some).read }
+
+-- a byte written outside ROM leaves the table true
+pub table_put : (table : List Ready) (memory : List ℕ) (addr value : ℕ) → is_rom addr ≡ false → IsTable table memory → IsTable table (slice_set memory addr value)
+table_put table memory addr value out told = λ k d few inside.
+    slot-stays memory (slice_set memory addr value) (0x2000 + k) (slice_index_or table k d) (fetched-put 7 memory addr value (0x2000 + k) out (omega arith) (omega arith)) (told k d few inside)
+
+slot-at : (table : List Ready) (slot k : ℕ) (r d : Ready) → slot < length table → slice_index_or (slice_set table slot r) k d ≡ (if k == slot then r else slice_index_or table k d)
+slot-at table slot k r d inside = grind (arith, common_steps)
+
+same-length : (table : List Ready) (slot : ℕ) (r : Ready) → length (slice_set table slot r) ≡ length table
+same-length table slot r = grind (arith, common_steps)
+
+chosen-slot : (memory : List ℕ) (k slot : ℕ) (r t : Ready) (same : Bool) → (k == slot) ≡ same → IsSlot memory (0x2000 + slot) r → IsSlot memory (0x2000 + k) t → IsSlot memory (0x2000 + k) (if k == slot then r else t)
+chosen-slot memory k slot r t true e a b = rw e (subst (λ x. IsSlot memory (0x2000 + x) r) (let same : slot ≡ k = grind (arith, common_steps) in same) a)
+chosen-slot memory k slot r t false e a b = rw e b
+
+-- one slot told anew leaves the table true
+pub table_keep : (table : List Ready) (memory : List ℕ) (slot : ℕ) (r : Ready) → slot < length table → IsSlot memory (0x2000 + slot) r → IsTable table memory → IsTable (slice_set table slot r) memory
+table_keep table memory slot r inside one told = λ k d few within.
+    subst (IsSlot memory (0x2000 + k)) (sym (slot-at table slot k r d inside)) (chosen-slot memory k slot r (slice_index_or table k d) (k == slot) refl one (told k d few (subst (λ n. k < n) (same-length table slot r) within)))
+
+same-slot : (n k : ℕ) (r d : Ready) → k < n → slice_index_or (replicate n r) k d ≡ r
+same-slot zero k r d few = absurd (omega arith)
+same-slot (suc n) zero r d few = refl
+same-slot (suc n) (suc k) r d few = same-slot n k r d (omega arith)
+
+-- a table that tells nothing is true of each memory
+pub table_blank : (memory : List ℕ) (n : ℕ) (r : Ready) → is_alone_cost r.cost ≡ true → IsTable (replicate n r) memory
+table_blank memory n r alone = λ k d few inside some.
+    absurd (let here : slice_index_or (replicate n r) k d ≡ r = same-slot n k r d (grind (arith, common_steps)) in cc (rw here at some))
+
+-- a table that was cleared is true of each memory
+pub table_cleared : (table : List Ready) (memory : List ℕ) → All (λ r. is_alone_cost r.cost ≡ true) table → IsTable table memory
+table_cleared table memory none = λ k d few inside some. absurd (cc (none k d inside, some))
+
+begun-so : {X : Type 0} (m : Machine X) (read : Decoded) (insn : Insn) → insn_of read ≡ Some insn → begins m read ≡ placed insn (place_of insn m.cpu (masks_of m.board.units) (byte (scene_of m)))
+begun-so m (says.Insn i length) insn h = ap (λ j. placed j (place_of j m.cpu (masks_of m.board.units) (byte (scene_of m)))) (cc h)
+begun-so m says.Unimplemented insn h = absurd (cc h)
+begun-so m says.Undefined insn h = absurd (cc h)
+begun-so m says.Short insn h = absurd (cc h)
+
+placed-so : (insn : Insn) (place : Result Place Kind) (n : ℕ) → (place >>= λ p. Ok (states_of insn p)) ≡ Ok n → placed insn place ≡ record { doing = Executes insn; left = n }
+placed-so insn (Ok p) n h = ap (λ k. record { doing = Executes insn; left = k }) (cc h)
+placed-so insn (Err k) n h = absurd (cc h)
+
+-- the next activity is the instruction that was prepared
+pub comes_next : {X : Type 0} (m : Machine X) (r : Ready) (n : ℕ) → IsBetween m → IsRead m.board.memory m.cpu.pc r → time_at r.insn m.cpu (masks_of m.board.units) (byte (scene_of m)) ≡ Ok n → executing r n ≡ current m
+unfolding chosen fetches
+comes_next m r n between there time = sym (
+    rw (between.begun, between.alone, between.free, between.none)
+    (begun-so m (decode_of (fetched 7 m.board.memory m.cpu.pc)) r.insn there.read
+    ∙ placed-so r.insn (place_of r.insn m.cpu (masks_of m.board.units) (byte (scene_of m))) n time))
+
+-- a machine between activities, a state and the accesses of an instruction later
+pub gone-on : {X : Type 0} (m : Machine X) (s : Scene X) (cpu : Cpu) → m.under_way ≡ None → m.going ≡ None → m.held ≡ false → m.ended ≡ None →
+    stepped_of (record m { time = m.time + 1; board = s.board; cpu = cpu }) (pins m.time s.edges) (4 * s.reached) ≡ closed m s cpu free []
+gone-on m s cpu begun alone unheld lives =
+    rw (begun, alone, unheld, lives, append-nil (pins m.time s.edges)) refl
+
+no-trap : (m : Mnemonic) → is_free (plan_of m) ≡ true → is_trap (Some m) ≡ false
+no-trap named.Trap h = absurd (cc h)
+no-trap m h = grind (arith, common_steps)
+
+-- no record is its own
+pub silent : (time pc : ℕ) (r : Ready) → IsReady r → is_free (plan_of r.mnemonic) ≡ true → own_records time pc r.insn ≡ []
+silent time pc r ready free = rw (ready.named, no-trap r.mnemonic free) refl
+
+-- what is prepared is no part of a machine
+pub same-machine : {X : Type 0} {d : extra.Ghosts X} (core : Core X d) (bus : Common X d) → held_of bus ≡ held_of core.bus → machine_of (record core { bus = bus }) ≡ machine_of core
+same-machine core bus same = ap (λ scene. record (machine_of core) { board = scene.board }) same

@@ -1,0 +1,44 @@
+-- Instructions of ROM that were prepared (this kit's own).
+use Rattle.std.specs.Prelude.{◌≡◌, ℕ, ◌+◌, ◌<◌, ◌≤◌, List, length, Option, Some, None, slice_index_or, false}
+use Rattle.kc_intc.specs.declared.requests.Choice.TheVariants.{Go}
+use Rattle.kc_isa.specs.declared.insn.Insn.{Insn}
+use Rattle.kc_code.specs.declared.reader.Decoded.{Decoded}
+use Rattle.kc_code.specs.declared.reader.Decoded.TheVariants.{Insn as Whole}
+use Rattle.kc_code.specs.Reading.{decode_of}
+use Rattle.kc_exec_ready.specs.declared.ready.Ready.{Ready}
+use Rattle.kc_exec_ready.specs.Preparing.{is_alone_cost, IsReady}
+use Rattle.kc_machine_spec.specs.declared.doing.Activity.TheVariants.{Executes}
+use Rattle.kc_machine_spec.specs.declared.doing.UnderWay.{UnderWay}
+use Rattle.kc_machine_spec.specs.Machine.{Machine, fetched, asked}
+
+-- the instruction that was read
+abbrev pub insn_of : Decoded → Option Insn
+insn_of (Whole insn length) = Some insn
+insn_of _ = None
+
+-- the instruction that stands at an address is this
+pub record IsRead (memory : List ℕ) (at : ℕ) (r : Ready) : Type 0 where
+  pub ready : IsReady r
+  pub read : insn_of (decode_of (fetched 7 memory at)) ≡ Some r.insn
+
+-- what is told at an address: of an instruction that any activity may follow, it is the one that stands there
+abbrev pub IsSlot : List ℕ → ℕ → Ready → Type 0
+IsSlot memory at r = is_alone_cost r.cost ≡ false → IsRead memory at r
+
+-- slot k is that of the address 2000H + k: seven bytes of ROM stand from each of these addresses on
+abbrev pub IsTable : List Ready → List ℕ → Type 0
+IsTable table memory = (k : ℕ) (d : Ready) → k < 0x3FFA → k < length table → IsSlot memory (0x2000 + k) (slice_index_or table k d)
+
+abbrev pub HasSlot : ℕ → Type 0
+HasSlot addr = (0x2000 ≤ addr) × (addr < 0x5FFA)
+
+-- nothing is under way, nothing goes on, and no request is served: the instruction at PC comes next
+pub record IsBetween {X : Type 0} (m : Machine X) : Type 0 where
+  pub begun : m.under_way ≡ None
+  pub alone : m.going ≡ None
+  pub free : m.held ≡ false
+  pub none : asked m ≡ Go
+
+-- a prepared instruction with all its states ahead
+abbrev pub executing : Ready → ℕ → UnderWay
+executing r states = record { doing = Executes r.insn; left = states }
