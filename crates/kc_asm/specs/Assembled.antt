@@ -72,5 +72,5 @@ IsAssembled source (Err faults.NoMemory) = Unit {0}
 -- the last pass over statements: their module, or the first fault
 abbrev pub IsMade : List Stmt → Result Object JudgeFault → Type 0
 IsMade stmts (Ok m) =
-    (list_all has_bytes stmts ≡ true) × (d : Draft) × (first_fault stmts ≡ None) × IsDraftOf stmts d × (length (pieces_in d) ≤ 65536) × IsModuleOf d m
+    (d : Draft) × (first_fault stmts ≡ None) × IsDraftOf stmts d × (length (pieces_in d) ≤ 65536) × IsModuleOf d m
 IsMade stmts (Err f) = (first_fault stmts ≡ Some (f.line, f.code)) ⊎ ((first_fault stmts ≡ None) × IsCrowded stmts (f.line, f.code))

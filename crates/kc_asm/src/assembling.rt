@@ -13,10 +13,10 @@ use kc_asm_outline::outline;
 use kc_asm_symbols::{externals, externals_are_few};
 use kc_base::NoMemory;
 use kc_lex::{SourceFault, lines};
-use kc_link_source_laws::characters_are_bytes;
 use kc_macro::expand;
 use kc_obj::Module;
 use kc_source::statements;
+use kc_source_laws::statements_are_of_the_text;
 use kc_source_statement::Stmt;
 use std::alloc::Global;
 
@@ -56,7 +56,6 @@ fn module_or_fault(alloc: Global, stmts: &[Stmt]) -> Result<Result<Module, Fault
             code: 17,
         }));
     }
-    characters_are_bytes(stmts);
     Ok(Ok(module_of(alloc, draft)?))
 }
 
@@ -75,6 +74,7 @@ pub fn assemble(alloc: Global, source: &[u8]) -> Result<Module, SourceFault>
     let text = expand(alloc, lines)?;
     let stmts = statements(alloc, &text)?;
     externals_are_few();
+    statements_are_of_the_text();
     match module_or_fault(alloc, &stmts) {
         Ok(Ok(module)) => Ok(module),
         Ok(Err(Fault { line, code })) => Err(SourceFault::At { line, code }),

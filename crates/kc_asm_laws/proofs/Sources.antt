@@ -1,9 +1,8 @@
 -- What is known of the statements of a text, and of the octets of their draft.
-use Rattle.std.proofs.Common.{◌≡◌, ℕ, ◌+◌, Bool, true, ◌&&◌, List, [], ◌∷◌, ◌++◌, reverse, refl, sym, ◌∙◌, subst, inl, inr, arith}
+use Rattle.std.proofs.Common.{◌≡◌, ℕ, ◌+◌, Bool, true, List, [], ◌∷◌, ◌++◌, reverse, refl, sym, ◌∙◌, subst, inl, inr, arith}
 use Rattle.std.specs.Prelude.{Some, None, slice_get, ◌⊎◌}
 use Rattle.std.specs.List.{list_all}
 use Rattle.std.proofs.lemmas.Bool.{and_parts, and_from}
-use Rattle.kc_expr.specs.Tree.{Tree, Number, Chars, Name, Here, One, Two}
 use Rattle.kc_source_statement.specs.declared.statement.Stmt.{Stmt}
 use Rattle.kc_source_statement.specs.Trees.{action_tree}
 use Rattle.kc_asm_symbols.specs.Located.{Located, first_segment, value_at}
@@ -20,7 +19,8 @@ use Rattle.kc_asm_check.specs.Judging.{first_fault, site_list, standing, place_a
 use Rattle.kc_asm_draft_laws.specs.Drafting.{IsDraftOf}
 use Rattle.kc_asm_draft_laws.specs.Stood.{HasOctets, IsOfStatement, NothingElseStands}
 use Rattle.kc_asm.specs.Assembled.{AreSaid}
-use Rattle.kc_link_source_laws.specs.Characters.{are_bytes, all_bytes, has_bytes}
+use Rattle.kc_asm.proofs.Characters.{trees_alike}
+use Rattle.kc_link_source_laws.specs.Characters.{all_bytes, has_bytes}
 use Rattle.kc_link_source_laws.proofs.Words.{IsWordAnswer}
 use Rattle.kc_link_source_laws.proofs.Meanings.{split_test, standing_test, places_are_words, has_all_bytes, meaning_word}
 use Rattle.kc_source_laws.specs.Strings.{strings_pass, items_pass, action_passes}
@@ -29,19 +29,6 @@ use Rattle.kc_source_laws.specs.Lines.{is_good_statement, is_line_of, Statements
 use Rattle.kc_asm_laws.proofs.Octets.{IsGoodOctet, AllGood, good_at, content_good}
 
 -- ---- characters are bytes
-
-tree_alike : (x : Tree) → strings_pass lines.are_bytes x ≡ are_bytes x
-unfolding strings_pass are_bytes
-tree_alike (Number n) = refl
-tree_alike (Chars cs) = refl
-tree_alike (Name n) = refl
-tree_alike Here = refl
-tree_alike (One op e) = tree_alike e
-tree_alike (Two op a b) = λ i. tree_alike a i && tree_alike b i
-
-trees_alike : (xs : List Tree) → list_all (strings_pass lines.are_bytes) xs ≡ list_all are_bytes xs
-trees_alike [] = refl
-trees_alike (x ∷ xs) = λ i. tree_alike x i && trees_alike xs i
 
 -- a statement has the number of a line, its expressions have bytes, and so have its items
 pub record AreBytes (text : List ℕ) (stmts : List Stmt) : Type 0 where

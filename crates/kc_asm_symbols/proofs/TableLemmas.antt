@@ -5,7 +5,7 @@ use Rattle.std.specs.Map.{lookup, KeepsOthers}
 use Rattle.std.specs.Str.{bytes_eq}
 use Rattle.std.specs.Global.{Vec}
 use Rattle.std.specs.Cmp.Lexicographic.{bytes_decides, nat_list_eq_equiv}
-use Rattle.kc_expr.proofs.NameLemmas.{is_named, apart}
+use Rattle.kc_base.proofs.NameLemmas.{is_named, apart}
 use Rattle.kc_asm_symbols.specs.Tables.{entry_at, updated}
 
 pub none_yet : {W : Type 0} (absent : W) (es : List (Vec ℕ × W)) → es ≡ [] → entry_at absent es ≡ (λ name. absent)

@@ -1,7 +1,11 @@
--- The fields of a line of a text file: what stands between spaces, and decimal numbers (this kit's own).
-use Rattle.std.specs.Prelude.{ℕ, ◌+◌, ◌-◌, ◌*◌, ◌==◌, nat_le, if◌then◌else◌, Bool, ◌&&◌, Option, Some, None, List, [], ◌∷◌, fold}
-use Rattle.std.specs.List.{list_all}
+-- The fields of a line of a text file: what stands between spaces, numbers, and names of pins (this kit's own).
+use Rattle.std.specs.Prelude.{ℕ, ◌+◌, ◌-◌, ◌*◌, ◌==◌, nat_le, if◌then◌else◌, Bool, ◌&&◌, Option, Some, None, Result, Ok, Err, List, [], ◌∷◌, fold, slice_index}
+use Rattle.std.specs.List.{list_all, position_from}
+use Rattle.std.specs.Str.{bytes_eq}
 use Rattle.std.specs.Char.{is_ascii_digit}
+use Rattle.hex.specs.declared.error.FromHexError.{FromHexError}
+use Rattle.hex.specs.Hex.{decode_sized}
+use Rattle.kc_base.specs.Pins.{pin_names}
 
 abbrev pub is_space : ℕ → Bool
 is_space c = c == 32
@@ -14,3 +18,23 @@ abbrev pub decimal_of : ℕ → List ℕ → Option ℕ
 decimal_of most [] = None
 decimal_of most (c ∷ digits) =
     if list_all is_ascii_digit (c ∷ digits) && nat_le (decimal_value (c ∷ digits)) most then Some (decimal_value (c ∷ digits)) else None
+
+abbrev pub word_in : Result (List ℕ) FromHexError → Option ℕ
+word_in (Ok bytes) = Some (256 * slice_index bytes 0 + slice_index bytes 1)
+word_in (Err fault) = None
+
+-- a word: four hex digits in either case
+abbrev pub word_of : List ℕ → Option ℕ
+word_of text = word_in (decode_sized text 2)
+
+abbrev pub byte_in : Result (List ℕ) FromHexError → Option ℕ
+byte_in (Ok bytes) = Some (slice_index bytes 0)
+byte_in (Err fault) = None
+
+-- a byte: two hex digits in either case
+abbrev pub byte_of : List ℕ → Option ℕ
+byte_of text = byte_in (decode_sized text 1)
+
+-- the pin of a name
+unfoldable pub pin_of : List ℕ → Option ℕ
+pin_of text = position_from (λ name. bytes_eq name text) 0 pin_names

@@ -1,4 +1,5 @@
 pub mod Bits
+pub mod ByName
 pub mod Bytes
 pub mod Causes
 pub mod Digits
@@ -6,4 +7,5 @@ pub mod Fields
 pub mod Held
 pub mod Memory
 pub mod Pins
+pub mod Series
 pub mod TextLines

@@ -1,8 +1,10 @@
-ghost use Rattle.std.specs.Prelude.{◌≡◌, ◌≤◌, ◌^◌, ◌*◌, ◌==◌, not, length, IfSome};
+ghost use Rattle.std.specs.Prelude.{◌≡◌, ◌<◌, ◌≤◌, ◌^◌, ◌+◌, ◌*◌, ◌==◌, not, length, IfSome};
 ghost use Rattle.std.specs.List.{before_first, after_first, take_while};
-ghost use Rattle.kc_base.specs.Fields.{is_space, decimal_of};
+ghost use Rattle.kc_base.specs.Fields.{is_space, decimal_of, word_of, byte_of, pin_of};
+ghost use Rattle.kc_base.specs.Pins.{IsPin};
 
 use crate::text_lines::{after, front};
+use crate::types::{PIN_COUNT, Pin};
 
 /// A number in decimal digits, at most `most`; `None` for any other text. Zeros may stand in front.
 pub fn decimal(most: u64, text: &[u8]) -> Option<u64>
@@ -42,4 +44,46 @@ pub fn split_at_space(text: &[u8]) -> (&[u8], &[u8])
     } else {
         (text, after(text, len))
     }
+}
+
+fn join(high: u8, low: u8) -> u16
+    ensures { result ≡ 256 * high + low }
+{
+    256 * u16::from(high) + u16::from(low)
+}
+
+/// A word: four hex digits in either case; `None` for any other text.
+pub fn hex_word(text: &[u8]) -> Option<u16>
+    ensures value { result ≡ word_of text.now }
+    ensures bounded { IfSome result (λ n. n < 65536) }
+{
+    let mut bytes = [0u8; 2];
+    match hex::decode_to_slice(text, &mut bytes) {
+        Ok(()) => Some(join(bytes[0], bytes[1])),
+        Err(_) => None,
+    }
+}
+
+/// A byte: two hex digits in either case; `None` for any other text.
+pub fn hex_byte(text: &[u8]) -> Option<u8>
+    ensures { result ≡ byte_of text.now }
+{
+    let mut bytes = [0u8; 1];
+    match hex::decode_to_slice(text, &mut bytes) {
+        Ok(()) => Some(bytes[0]),
+        Err(_) => None,
+    }
+}
+
+/// The number of the pin of a name; `None` for any other text.
+pub fn pin_number(text: &[u8]) -> Option<u8>
+    ensures value { result ≡ pin_of text.now }
+    ensures named { IfSome result IsPin }
+{
+    for number in 0..PIN_COUNT {
+        if Pin(number).name().as_bytes() == text {
+            return Some(number);
+        }
+    }
+    None
 }

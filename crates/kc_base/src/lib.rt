@@ -18,7 +18,7 @@ mod types;
 
 pub use digits::hex_digit;
 pub use edge_out::EdgeOut;
-pub use fields::{decimal, split_at_space};
+pub use fields::{decimal, hex_byte, hex_word, pin_number, split_at_space};
 pub use files::{FILE_LIMIT, FileFault, Files};
 pub use host::{HostFiles, HostOut};
 pub use image::{IMAGE_LEN, IMAGE_START, Image};

@@ -39,14 +39,14 @@ impl Extra for Metronome {
 
     ghost pins = { 1 ∷ [] };
 
-    fn due<L: Ledger>(&self, now: StateTime, steps: &mut Steps<L>) -> Option<StateTime> {
-        steps.add();
-        Some(now / 1000 * 1000 + 999)
-    }
-
     fn quiet_to<L: Ledger>(&mut self, _now: StateTime, _to: StateTime, steps: &mut Steps<L>) {
         steps.add();
         self.moves = self.moves.saturating_add(1);
+    }
+
+    fn due<L: Ledger>(&self, now: StateTime, steps: &mut Steps<L>) -> Option<StateTime> {
+        steps.add();
+        Some(now / 1000 * 1000 + 999)
     }
 
     fn tick<L: Ledger>(

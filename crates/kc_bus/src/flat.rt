@@ -4,8 +4,8 @@ ghost use Rattle.kc_bus.specs.Registers.{register_of, with_register, word_of, wi
 ghost use Rattle.kc_bus.specs.Blank.{blank_bytes};
 
 use crate::bus::Bus;
-use crate::map::{is_fixed, is_outside};
-use crate::windows::is_known;
+use crate::memory::{read_byte, read_word, write_byte, write_word};
+use crate::windows::{is_known, known_masks};
 use kc_base::{Kind, NoMemory};
 use kc_exec_spec::{Masks, Master};
 use std::alloc::Global;
@@ -109,10 +109,11 @@ fn written_word(masks: Masks, addr: u16, value: u16) -> Result<Masks, Kind>
 
 impl Bus for Flat {
     ghost use Rattle.std.specs.Prelude.{slice_index, length, []};
-    ghost use Rattle.kc_bus.specs.Flat.{FlatHeld, held_of, flat_meaning, put};
-    ghost use Rattle.kc_bus.specs.FlatLaws.{flat_is_lawful};
+    ghost use Rattle.kc_exec_spec.specs.declared.access.Masks.{Masks};
+    ghost use Rattle.kc_bus.specs.Beside.{Beside, put};
+    ghost use Rattle.kc_bus.specs.Flat.{held_of, flat_meaning, flat_is_lawful};
 
-    ghost Held = { FlatHeld };
+    ghost Held = { Beside Masks };
 
     ghost held = { held_of };
 
@@ -133,10 +134,8 @@ impl Bus for Flat {
     fn read8(&mut self, _by: Master, addr: u16) -> Result<u8, Kind> {
         if addr < 0x18 {
             register_at(self.masks, addr)
-        } else if is_outside(addr) {
-            Err(Kind::OutsideMap)
         } else {
-            Ok(self.bytes[addr as usize])
+            read_byte(self.bytes.as_slice(), addr)
         }
     }
 
@@ -145,43 +144,29 @@ impl Bus for Flat {
             Err(Kind::OddWord)
         } else if addr < 0x18 {
             word_at(self.masks, addr)
-        } else if is_outside(addr) {
-            Err(Kind::OutsideMap)
         } else {
-            let low = self.bytes[addr as usize];
-            let high = self.bytes[addr as usize + 1];
-            Ok(u16::from(low) + 256 * u16::from(high))
+            read_word(self.bytes.as_slice(), addr)
         }
     }
 
     fn write8(&mut self, _by: Master, addr: u16, value: u8) -> Result<(), Kind> {
         if addr < 0x18 {
             self.masks = written(self.masks, addr, value)?;
-        } else if is_outside(addr) {
-            return Err(Kind::OutsideMap);
-        } else if is_fixed(addr) {
-            return Err(Kind::RomWrite);
+            Ok(())
         } else {
-            self.bytes[addr as usize] = value;
+            write_byte(self.bytes.as_mut_slice(), addr, value)
         }
-        Ok(())
     }
 
     fn write16(&mut self, _by: Master, addr: u16, value: u16) -> Result<(), Kind> {
         if addr % 2 == 1 {
-            return Err(Kind::OddWord);
-        }
-        if addr < 0x18 {
+            Err(Kind::OddWord)
+        } else if addr < 0x18 {
             self.masks = written_word(self.masks, addr, value)?;
-        } else if is_outside(addr) {
-            return Err(Kind::OutsideMap);
-        } else if is_fixed(addr) {
-            return Err(Kind::RomWrite);
+            Ok(())
         } else {
-            self.bytes[addr as usize] = (value % 256) as u8;
-            self.bytes[addr as usize + 1] = (value / 256) as u8;
+            write_word(self.bytes.as_mut_slice(), addr, value)
         }
-        Ok(())
     }
 
     fn glance(&self, addr: u16) -> u8 {
@@ -193,10 +178,7 @@ impl Bus for Flat {
     }
 
     fn set_masks(&mut self, masks: Masks) -> Result<(), Kind> {
-        if !is_known(masks.wsr) {
-            return Err(Kind::BadWindow);
-        }
-        self.masks = masks;
+        self.masks = known_masks(masks)?;
         Ok(())
     }
 

@@ -1,5 +1,5 @@
 -- The values of a channel up to a state, and what a search among them finds.
-use Rattle.std.proofs.Common.{◌≡◌, ℕ, zero, suc, ◌-◌, ◌<◌, ◌≤◌, ◌==◌, Bool, true, false, ◌||◌, leb, inl, inr, List, [], ◌∷◌, ◌++◌, length, length-take, take, get_or, get_or-take, refl, sym, ◌∙◌, ap, arith, Option, Some, None}
+use Rattle.std.proofs.Common.{◌≡◌, ℕ, zero, suc, ◌-◌, ◌<◌, ◌≤◌, ◌==◌, Bool, false, ◌||◌, leb, inl, inr, List, [], ◌∷◌, ◌++◌, length, length-take, take, get_or, get_or-take, refl, sym, ◌∙◌, ap, arith, Option, Some, None}
 use Rattle.std.specs.Prelude.{if◌then◌else◌, slice_get, filter, Vec, All}
 use Rattle.std.specs.declared.alloc.Global.{Global}
 use Rattle.std.specs.List.{list_any}
@@ -16,23 +16,6 @@ use Rattle.kc_convert.specs.declared.sample.Sample.{Sample}
 use Rattle.kc_convert.specs.Samples.{of_channel, up_to, last_value}
 use Rattle.kc_convert.specs.Reading.{is_falling, is_twice, is_later}
 use Rattle.kc_convert.specs.Index.{IsIndexed, list_of}
-
--- the first n of a list are those up to a state, where a search ended
-pub up_to-take : (xs : List Sample) (n t : ℕ) → ((k : ℕ) (d : Sample) → k < n → k < length xs → leb (get_or xs k d).at t ≡ true) →
-    ((k : ℕ) (d : Sample) → n ≤ k → k < length xs → leb (get_or xs k d).at t ≡ false) → up_to t xs ≡ take n xs
-up_to-take [] zero t low high = refl
-up_to-take [] (suc n) t low high = refl
-up_to-take (x ∷ xs) zero t low high =
-    let off : leb x.at t ≡ false = high 0 x (omega arith) (omega arith) in
-    rw off (up_to-take xs zero t (λ k d lt within. absurd (omega arith)) (λ k d le within. high (suc k) d (omega arith) (omega arith)))
-up_to-take (x ∷ xs) (suc n) t low high =
-    let on : leb x.at t ≡ true = low 0 x (omega arith) (omega arith) in
-    rw on (ap (λ ys. x ∷ ys) (up_to-take xs n t (λ k d lt within. low (suc k) d (omega arith) (omega arith)) (λ k d le within. high (suc k) d (omega arith) (omega arith))))
-
-pub last_value-take : (xs : List Sample) (n : ℕ) (d : Sample) (v : ℕ) → n < length xs → last_value (take (suc n) xs) v ≡ (get_or xs n d).value
-last_value-take [] n d v lt = absurd (omega arith)
-last_value-take (x ∷ xs) zero d v lt = refl
-last_value-take (x ∷ xs) (suc n) d v lt = last_value-take xs n d x.value (omega arith)
 
 -- values of ten bits leave one of ten bits
 small_filter : (p : Sample → Bool) (xs : List Sample) → All (λ s. s.value ≤ 1023) xs → All (λ s. s.value ≤ 1023) (filter p xs)

@@ -1,18 +1,18 @@
 -- The values of the analogue inputs over time (this kit's own; the eight inputs are those of the 80C196KC User's Manual,
 -- "A/D Converter").
-use Rattle.std.specs.Prelude.{ℕ, ◌==◌, nat_le, List, [], ◌∷◌, filter}
+use Rattle.std.specs.Prelude.{ℕ, ◌==◌, List, filter}
+use Rattle.kc_base.specs.Series.{up_to as items_up_to, last_of}
 use Rattle.kc_convert.specs.declared.sample.Sample.{Sample}
 
 abbrev pub of_channel : ℕ → List Sample → List Sample
 of_channel channel samples = filter (λ s. s.channel == channel) samples
 
 abbrev pub up_to : ℕ → List Sample → List Sample
-up_to t samples = filter (λ s. nat_le s.at t) samples
+up_to t samples = items_up_to (λ s. s.at) t samples
 
 -- the value that these leave, one after the other
 abbrev pub last_value : List Sample → ℕ → ℕ
-last_value [] before = before
-last_value (s ∷ samples) before = last_value samples s.value
+last_value samples before = last_of (λ s. s.value) samples before
 
 -- the value of a channel in a state: the last one with this time at most, else 0
 abbrev pub value_at : List Sample → ℕ → ℕ → ℕ

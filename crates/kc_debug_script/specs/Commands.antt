@@ -2,10 +2,10 @@
 use Rattle.std.specs.Prelude.{ℕ, ◌≤◌, ◌^◌, ◌==◌, nat_le, not, if◌then◌else◌, Bool, true, ◌&&◌, ◌||◌, ◌≡◌, Option, Some, None, List, [], ◌∷◌}
 use Rattle.std.specs.Option.{option_map}
 use Rattle.std.specs.List.{before_first, after_first}
-use Rattle.kc_base.specs.Fields.{is_space}
+use Rattle.kc_base.specs.Fields.{is_space, word_of, byte_of}
 use Rattle.kc_debug_script.specs.declared.command.Command.{Command}
 use Rattle.kc_debug_script.specs.declared.command.Command.TheVariants.{Step, Go, Break, Registers, Show, Write, History, Quit}
-use Rattle.kc_debug_script.specs.Fields.{if_is, number_of, address_of, byte_of}
+use Rattle.kc_debug_script.specs.Fields.{if_is, number_of}
 
 -- memory that a script may write: from 0018H on, without 1FFEH and 1FFFH
 abbrev pub is_writable : ℕ → Bool
@@ -34,11 +34,11 @@ letter_alone c =
 -- what stands behind a letter and a space: `b A` (98), `g N` (103), `m A N` (109), `s N` (115) or `w A V` (119)
 abbrev pub letter_with : ℕ → List ℕ → Option Command
 letter_with c fields =
-    if c == 98 then option_map Break (address_of fields)
+    if c == 98 then option_map Break (word_of fields)
     else if c == 103 then option_map Go (number_of (10 ^ 15) fields)
-    else if c == 109 then shown (address_of (before_first is_space fields)) (number_of 256 (after_first is_space fields))
+    else if c == 109 then shown (word_of (before_first is_space fields)) (number_of 256 (after_first is_space fields))
     else if c == 115 then option_map Step (number_of 1000000 fields)
-    else if c == 119 then written (if_is is_writable (address_of (before_first is_space fields))) (byte_of (after_first is_space fields))
+    else if c == 119 then written (if_is is_writable (word_of (before_first is_space fields))) (byte_of (after_first is_space fields))
     else None
 
 -- the command of a line, if it is one

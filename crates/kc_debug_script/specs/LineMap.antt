@@ -2,20 +2,20 @@
 use Rattle.std.specs.Prelude.{◌≡◌, ℕ, ◌-◌, ◌<◌, ◌≤◌, ◌^◌, nat_lt, nat_le, Bool, true, ◌&&◌, Option, Some, None, Result, Ok, Err, List, [], ◌∷◌, length, find, slice_get, ◌==◌, if◌then◌else◌, All}
 use Rattle.std.specs.List.{before_first, after_first, list_any}
 use Rattle.std.specs.Char.{is_ascii_lowercase}
-use Rattle.kc_base.specs.Fields.{is_space}
+use Rattle.kc_base.specs.Fields.{is_space, word_of}
 use Rattle.kc_base.specs.TextLines.{text_lines}
 use Rattle.kc_obj.specs.Names.{is_name}
 use Rattle.kc_debug_script.specs.declared.line_map.MapEntry.{MapEntry}
 use Rattle.kc_debug_script.specs.declared.fault.DebugFault.{DebugFault}
 use Rattle.kc_debug_script.specs.declared.fault.DebugFault.TheVariants as faults
-use Rattle.kc_debug_script.specs.Fields.{if_is, number_of, address_of}
+use Rattle.kc_debug_script.specs.Fields.{if_is, number_of}
 use Rattle.kc_debug_script.specs.Reading.{said}
 
 -- ---- a line: an address, the name of a module, and a line of its source, with single spaces between them
 
--- an address in upper-case digits
+-- an address: four hex digits, in upper case
 abbrev pub map_address : List ℕ → Option ℕ
-map_address text = if list_any is_ascii_lowercase text then None else address_of text
+map_address text = if list_any is_ascii_lowercase text then None else word_of text
 
 abbrev pub map_name : List ℕ → Option (List ℕ)
 map_name text = if is_name text then Some text else None

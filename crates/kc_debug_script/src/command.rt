@@ -2,8 +2,8 @@
 ghost use Rattle.std.specs.Prelude.{◌≡◌, IfSome};
 ghost use Rattle.kc_debug_script.specs.Commands.{is_writable as may_be_written, letter_alone as alone, letter_with as with_fields, command_of, IsBounded};
 
-use crate::fields::{address, byte, number};
-use kc_base::{StateTime, split_at_space};
+use crate::fields::number;
+use kc_base::{StateTime, hex_byte, hex_word, split_at_space};
 
 /// What a line of a script asks for.
 #[derive(Clone, Copy, Debug, PartialEq, Eq, Drop)]
@@ -71,7 +71,7 @@ fn show(fields: &[u8]) -> Option<Command>
     ensures bounded { IfSome result IsBounded }
 {
     let (first, second) = split_at_space(fields);
-    let from = address(first)?;
+    let from = hex_word(first)?;
     let count = number(second, SHOW_LIMIT)? as u16;
     Some(Command::Show { from, count })
 }
@@ -81,11 +81,11 @@ fn write(fields: &[u8]) -> Option<Command>
     ensures bounded { IfSome result IsBounded }
 {
     let (first, second) = split_at_space(fields);
-    let addr = address(first)?;
+    let addr = hex_word(first)?;
     if !is_writable(addr) {
         return None;
     }
-    let value = byte(second)?;
+    let value = hex_byte(second)?;
     Some(Command::Write { addr, value })
 }
 
@@ -95,7 +95,7 @@ fn letter_with(letter: u8, fields: &[u8]) -> Option<Command>
     ensures bounded { IfSome result IsBounded }
 {
     match letter {
-        b'b' => Some(Command::Break(address(fields)?)),
+        b'b' => Some(Command::Break(hex_word(fields)?)),
         b'g' => go(fields),
         b'm' => show(fields),
         b's' => step(fields),

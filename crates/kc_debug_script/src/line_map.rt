@@ -5,8 +5,8 @@ ghost use Rattle.std.specs.Option.{option_copied};
 ghost use Rattle.kc_debug_script.specs.LineMap.{map_address as address_in_map, is_below as comes_above, may_come as is_next, entry_after, entry_of, map_of, entry_at, IsMapRead, IsOrdered};
 
 use crate::fault::DebugFault;
-use crate::fields::{address, number};
-use kc_base::{NoMemory, Text, after, first_line, front, split_at_space};
+use crate::fields::number;
+use kc_base::{NoMemory, Text, after, first_line, front, hex_word, split_at_space};
 use kc_obj::names::name_is_sound;
 use std::alloc::Global;
 use std::marker::Model;
@@ -56,7 +56,7 @@ fn map_address(text: &[u8]) -> Option<u16>
     if has_lower_case(text) {
         None
     } else {
-        address(text)
+        hex_word(text)
     }
 }
 

@@ -1,3 +1,4 @@
+pub mod Codes
 pub mod Law
 pub mod Records
 pub mod Spelling

@@ -5,8 +5,11 @@ use Rattle.hex.specs.declared.FromHexError.{FromHexError}
 use Rattle.hex.specs.Hex.{decode_of}
 use Rattle.kc_base.specs.TextLines.{text_lines}
 use Rattle.kc_base.specs.declared.image.Image.{Image}
+use Rattle.kc_hex.specs.declared.fault.HexCode.{HexCode}
+use Rattle.kc_hex.specs.declared.fault.HexCode.TheVariants as codes
 use Rattle.kc_hex.specs.declared.fault.HexFault.{HexFault}
 use Rattle.kc_hex.specs.declared.fault.HexFault.TheVariants as faults
+use Rattle.kc_hex.specs.Codes.{code_number}
 
 -- ---- a record: length, address (2, high byte first), type, data and checksum
 
@@ -35,13 +38,13 @@ is_known kind body =
 abbrev pub is_inside : ℕ → ℕ → Bool
 is_inside address len = nat_le 0x2000 address && nat_le (address + len) 0x10000
 
--- the least code of a record's faults: 2 checksum, 3 type, 4 address, 5 a record after the end
-unfoldable pub fault_of : Bool → List ℕ → Option ℕ
+-- the least code of a record's faults
+unfoldable pub fault_of : Bool → List ℕ → Option HexCode
 fault_of ended bs =
-    if not (sum bs % 256 == 0) then Some 2
-    else (if not (is_known (slice_index bs 3) (data_of bs)) then Some 3
-    else (if (slice_index bs 3 == 0) && not (is_inside (address_of bs) (length (data_of bs))) then Some 4
-    else (if ended then Some 5 else None)))
+    if not (sum bs % 256 == 0) then Some codes.Checksum
+    else (if not (is_known (slice_index bs 3) (data_of bs)) then Some codes.Type
+    else (if (slice_index bs 3 == 0) && not (is_inside (address_of bs) (length (data_of bs))) then Some codes.Address
+    else (if ended then Some codes.Behind else None)))
 
 -- ---- what a text stands for
 
@@ -57,30 +60,29 @@ after_record s bs =
     if slice_index bs 3 == 0 then (put s.0 (address_of bs - 0x2000) (data_of bs), s.1)
     else (s.0, s.1 || (slice_index bs 3 == 1))
 
-abbrev pub judged : Option ℕ → State → Result State ℕ
+abbrev pub judged : Option HexCode → State → Result State HexCode
 judged None s = Ok s
 judged (Some code) s = Err code
 
--- code 1: no form of a record
-abbrev pub recorded : State → Option (List ℕ) → Result State ℕ
-recorded s None = Err 1
+abbrev pub recorded : State → Option (List ℕ) → Result State HexCode
+recorded s None = Err codes.Form
 recorded s (Some bs) = judged (fault_of s.1 bs) (after_record s bs)
 
 -- a blank line has no effect
-unfoldable pub after_line : State → List ℕ → Result State ℕ
+unfoldable pub after_line : State → List ℕ → Result State HexCode
 after_line s line = if length line == 0 then Ok s else recorded s (record_of line)
 
--- an image, or the line and the code of the first fault
+-- an image, or the line of the first fault and the number of its code
 abbrev pub Answer : Type 0
 Answer = Result (List ℕ) (ℕ × ℕ)
 
-abbrev pub read_on : ℕ → (State → Answer) → Result State ℕ → Answer
+abbrev pub read_on : ℕ → (State → Answer) → Result State HexCode → Answer
 read_on number goes_on (Ok s) = goes_on s
-read_on number goes_on (Err code) = Err (number, code)
+read_on number goes_on (Err code) = Err (number, code_number code)
 
--- code 6: no end, told at the line after the last
+-- that there is no end is told at the line after the last
 unfoldable pub read_from : ℕ → List (List ℕ) → State → Answer
-read_from number [] s = if s.1 then Ok s.0 else Err (number, 6)
+read_from number [] s = if s.1 then Ok s.0 else Err (number, code_number codes.NoEnd)
 read_from number (l ∷ ls) s = read_on number (read_from (number + 1) ls) (after_line s l)
 
 -- the image of a text: FFH where no record says otherwise, later records over earlier ones

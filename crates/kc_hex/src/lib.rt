@@ -6,7 +6,7 @@ pub mod reading;
 pub mod round_trip;
 pub mod writing;
 
-pub use fault::HexFault;
+pub use fault::{HexCode, HexFault};
 pub use reading::read;
 pub use round_trip::written_is_read;
 pub use writing::write;

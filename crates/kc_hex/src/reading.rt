@@ -2,7 +2,7 @@ ghost use Rattle.std.specs.Prelude.{◌≡◌, ◌≤◌, ◌<◌, ◌+◌, leng
 ghost use Rattle.std.specs.Option.{option_map};
 ghost use Rattle.kc_hex.specs.Records.{data_of, address_of, record_of, is_known, is_inside, fault_of, after_record, after_line, image_of, IsRead};
 
-use crate::fault::HexFault;
+use crate::fault::{HexCode, HexFault};
 use hex::FromHexError;
 use kc_base::{IMAGE_START, Image, NoMemory, after, first_line, front};
 use std::alloc::Global;
@@ -70,20 +70,20 @@ fn fits(address: usize, len: usize) -> bool
 }
 
 #[tactic(auto, unfolding(crate::specs::Records::fault_of))]
-fn fault(ended: bool, bytes: &[u8]) -> Option<u8>
+fn fault(ended: bool, bytes: &[u8]) -> Option<HexCode>
     requires short { 5 ≤ length bytes.now }
     requires long { length bytes.now ≤ 260 }
     ensures { result ≡ fault_of ended bytes.now }
 {
     let body = body_of(bytes);
     if sum_of(bytes) % 256 != 0 {
-        Some(2)
+        Some(HexCode::Checksum)
     } else if !knows(bytes[3], body) {
-        Some(3)
+        Some(HexCode::Type)
     } else if bytes[3] == 0 && !fits(address(bytes), body.len()) {
-        Some(4)
+        Some(HexCode::Address)
     } else if ended {
-        Some(5)
+        Some(HexCode::Behind)
     } else {
         None
     }
@@ -111,14 +111,14 @@ fn take_line(
     image: &mut Image,
     ended: bool,
     line: &[u8],
-) -> Result<Result<bool, u8>, NoMemory>
+) -> Result<Result<bool, HexCode>, NoMemory>
     ensures { IfOk result (λ r. MatchResult r (λ now. after_line (image.old, ended) line.now ≡ Ok (image.new, now)) (λ code. after_line (image.old, ended) line.now ≡ Err code)) }
 {
     if line.is_empty() {
         return Ok(Ok(ended));
     }
     match record_bytes(alloc, line)? {
-        None => Ok(Err(1)),
+        None => Ok(Err(HexCode::Form)),
         Some(bytes) => match fault(ended, bytes.as_slice()) {
             Some(code) => Ok(Err(code)),
             None => {
@@ -130,8 +130,8 @@ fn take_line(
 }
 
 /// The image that a text of records stands for, FFH where no record says otherwise, or the first line that is wrong,
-/// counted from 1, with the least code of its faults: 1 no form of a record, 2 checksum, 3 type, 4 address, 5 a record
-/// after the end record, 6 no end record, told at the line after the last (Intel hexadecimal object file format).
+/// counted from 1, with the number of the least code of its faults, as `HexCode` has them; that there is no end record is told at the
+/// line after the last (Intel hexadecimal object file format).
 pub fn read(alloc: Global, bytes: &[u8]) -> Result<Image, HexFault>
     requires { length bytes.now ≤ 1048576 }
     ensures { IsRead result (image_of bytes.now) }
@@ -144,7 +144,13 @@ pub fn read(alloc: Global, bytes: &[u8]) -> Result<Image, HexFault>
         let (len, used) = first_line(rest);
         match take_line(alloc, &mut image, ended, front(rest, len)) {
             Ok(Ok(now)) => ended = now,
-            Ok(Err(code)) => return Err(HexFault::At { line: number, code }),
+            Ok(Err(code)) => {
+                let told = code.number();
+                return Err(HexFault::At {
+                    line: number,
+                    code: told,
+                });
+            }
             Err(NoMemory) => return Err(HexFault::NoMemory),
         }
         rest = after(rest, used);
@@ -153,9 +159,7 @@ pub fn read(alloc: Global, bytes: &[u8]) -> Result<Image, HexFault>
     if ended {
         Ok(image)
     } else {
-        Err(HexFault::At {
-            line: number,
-            code: 6,
-        })
+        let code = HexCode::NoEnd.number();
+        Err(HexFault::At { line: number, code })
     }
 }

@@ -1,6 +1,7 @@
 -- Where pieces are placed, every relocation fits, and the bases are those of the places.
 use Rattle.std.proofs.Common.{◌≡◌, ℕ, zero, suc, ◌+◌, List, [], ◌∷◌, Option, Some, None, refl, sym, ap, ◌∙◌, subst, arith}
 use Rattle.std.specs.Prelude.{slice_get, Result, Ok, Err}
+use Rattle.std.specs.Option.{option_or}
 use Rattle.kc_obj.specs.declared.parts.Fixup.{Fixup}
 use Rattle.kc_obj.specs.Object.{Object}
 use Rattle.kc_link_fill.specs.BaseLists.{BaseLists}
@@ -8,16 +9,15 @@ use Rattle.kc_link_fill.specs.Filled.{unfit_in}
 use Rattle.kc_link_place.specs.declared.ranges.Ranges.{Ranges}
 use Rattle.kc_link_place.specs.declared.ranges.LinkFault.{LinkFault}
 use Rattle.kc_link_place.specs.declared.ranges.LinkFault.TheVariants.{Unresolved, OverlapName, OverlapPlace, Capacity, Range, NoMemory}
-use Rattle.kc_link_place.specs.Names.{either}
 use Rattle.kc_link_place.specs.Placing.{Places, bases_of, bases_from, located, IsCause}
 use Rattle.kc_link.specs.Placed.{range_fault, unfit, unfit_by, or_fault, with_places, placed}
 
 pub unfit_same : (all : List Object) (places : Places) (n : ℕ) (ms : List Object) → unfit_by n ms (bases_from all places n ms) ≡ unfit all places n ms
 unfolding unfit unfit_by bases_from
 unfit_same all places n [] = refl
-unfit_same all places n (m ∷ ms) = ap (either (range_fault n (unfit_in (bases_of all places n m) m.fixups))) (unfit_same all places (n + 1) ms)
+unfit_same all places n (m ∷ ms) = ap (option_or (range_fault n (unfit_in (bases_of all places n m) m.fixups))) (unfit_same all places (n + 1) ms)
 
-range-none : (n : ℕ) (o : Option Fixup) (rest : Option LinkFault) → either (range_fault n o) rest ≡ None → (o ≡ None) × (rest ≡ None)
+range-none : (n : ℕ) (o : Option Fixup) (rest : Option LinkFault) → option_or (range_fault n o) rest ≡ None → (o ≡ None) × (rest ≡ None)
 range-none n None rest e = (refl, e)
 range-none n (Some f) rest e = absurd (cc e)
 

@@ -1,6 +1,7 @@
 -- Where all pieces stand, or the first broken rule of the linker, the range of relocations among them (after RL96 of the MCS-96 utilities, in outline;
 -- the order of the rules is this kit's own).
 use Rattle.std.specs.Prelude.{ℕ, ◌+◌, Option, Some, None, Result, Ok, Err, List, [], ◌∷◌}
+use Rattle.std.specs.Option.{option_or}
 use Rattle.kc_obj.specs.declared.parts.Fixup.{Fixup}
 use Rattle.kc_obj.specs.Object.{Object}
 use Rattle.kc_link_fill.specs.BaseLists.{BaseLists, bases_in}
@@ -8,7 +9,6 @@ use Rattle.kc_link_fill.specs.Filled.{unfit_in}
 use Rattle.kc_link_place.specs.declared.ranges.Ranges.{Ranges}
 use Rattle.kc_link_place.specs.declared.ranges.LinkFault.{LinkFault}
 use Rattle.kc_link_place.specs.declared.ranges.LinkFault.TheVariants.{Range}
-use Rattle.kc_link_place.specs.Names.{either}
 use Rattle.kc_link_place.specs.Placing.{Places, located, bases_of}
 
 -- a relocation whose number does not fit
@@ -19,7 +19,7 @@ range_fault index (Some f) = Some (Range index f.piece f.offset)
 -- the first of them, by module and then by order
 unfoldable pub unfit : List Object → Places → ℕ → List Object → Option LinkFault
 unfit all places index [] = None
-unfit all places index (m ∷ ms) = either (range_fault index (unfit_in (bases_of all places index m) m.fixups)) (unfit all places (index + 1) ms)
+unfit all places index (m ∷ ms) = option_or (range_fault index (unfit_in (bases_of all places index m) m.fixups)) (unfit all places (index + 1) ms)
 
 abbrev pub or_fault : Option LinkFault → Places → Result Places LinkFault
 or_fault None places = Ok places
@@ -37,4 +37,4 @@ placed ms ranges = with_places ms (located ms ranges)
 unfoldable pub unfit_by : ℕ → List Object → List BaseLists → Option LinkFault
 unfit_by index [] bs = None
 unfit_by index (m ∷ ms) [] = None
-unfit_by index (m ∷ ms) (b ∷ bs) = either (range_fault index (unfit_in (bases_in b) m.fixups)) (unfit_by (index + 1) ms bs)
+unfit_by index (m ∷ ms) (b ∷ bs) = option_or (range_fault index (unfit_in (bases_in b) m.fixups)) (unfit_by (index + 1) ms bs)

@@ -1,4 +1,3 @@
-pub mod NameLemmas
 pub mod FirstFit
 pub mod Covers
 pub mod StackLemmas

@@ -1,5 +1,6 @@
 -- Which module gives a name, and the rules on names.
-use Rattle.std.specs.Prelude.{◌≡◌, ℕ, Bool, true, false, ◌+◌, nat_lt, if◌then◌else◌, Option, Some, None, List, [], ◌∷◌}
+use Rattle.std.specs.Prelude.{◌≡◌, ℕ, Bool, false, ◌+◌, nat_lt, if◌then◌else◌, Option, Some, None, is_some, List, [], ◌∷◌}
+use Rattle.std.specs.Option.{option_or}
 use Rattle.std.specs.Str.{bytes_eq}
 use Rattle.std.specs.Map.{lookup}
 use Rattle.std.specs.Global.{Vec}
@@ -8,10 +9,6 @@ use Rattle.kc_obj.specs.declared.parts.Taken.{Taken}
 use Rattle.kc_obj.specs.Object.{Object}
 use Rattle.kc_obj.specs.Names.{is_stack_name}
 use Rattle.kc_link_place.specs.declared.names.Home.{Home}
-
-abbrev pub either : {A : Type 0} → Option A → Option A → Option A
-either None other = other
-either (Some a) other = Some a
 
 abbrev pub home : ℕ → Given → Home
 home index g = record { index = index; piece = g.piece; value = g.value }
@@ -22,20 +19,16 @@ home_among index (g ∷ gs) name = if bytes_eq g.name name then Some (home index
 
 unfoldable pub home_from : ℕ → List Object → List ℕ → Option Home
 home_from index [] name = None
-home_from index (m ∷ ms) name = either (home_among index m.publics name) (home_from (index + 1) ms name)
+home_from index (m ∷ ms) name = option_or (home_among index m.publics name) (home_from (index + 1) ms name)
 
 -- the first module that makes a name public, with the place or number that it gives
 abbrev pub home_of : List Object → List ℕ → Option Home
 home_of modules name = home_from 0 modules name
 
-abbrev pub is_some_home : Option Home → Bool
-is_some_home None = false
-is_some_home (Some h) = true
-
 -- ---- a name is taken that no module gives: STACK is given where there is a stack
 
 abbrev pub is_resolved : List Object → ℕ → List ℕ → Bool
-is_resolved modules stack name = if is_stack_name name then nat_lt 0 stack else is_some_home (home_of modules name)
+is_resolved modules stack name = if is_stack_name name then nat_lt 0 stack else is_some (home_of modules name)
 
 abbrev pub first_missing : List Object → ℕ → List Taken → Option (List ℕ)
 first_missing modules stack [] = None
@@ -43,7 +36,7 @@ first_missing modules stack (t ∷ ts) = if is_resolved modules stack t.name the
 
 unfoldable pub unresolved : List Object → ℕ → List Object → Option (List ℕ)
 unresolved modules stack [] = None
-unresolved modules stack (m ∷ ms) = either (first_missing modules stack m.externals) (unresolved modules stack ms)
+unresolved modules stack (m ∷ ms) = option_or (first_missing modules stack m.externals) (unresolved modules stack ms)
 
 -- ---- a name is given that an earlier module gives
 
@@ -57,7 +50,7 @@ first_second modules index (g ∷ gs) = if comes_later (home_of modules g.name) 
 
 unfoldable pub doubled : List Object → ℕ → List Object → Option (List ℕ)
 doubled modules index [] = None
-doubled modules index (m ∷ ms) = either (first_second modules index m.publics) (doubled modules (index + 1) ms)
+doubled modules index (m ∷ ms) = option_or (first_second modules index m.publics) (doubled modules (index + 1) ms)
 
 -- ---- the names as they are kept by hash
 

@@ -1,8 +1,8 @@
 ghost use Rattle.std.specs.Prelude.{◌≡◌, ◌+◌, ◌<◌, ◌≤◌, ℕ, List, OnOk, IfOk, length};
-ghost use Rattle.std.specs.Option.{option_copied};
+ghost use Rattle.std.specs.Option.{option_copied, option_or};
 ghost use Rattle.kc_obj.specs.Object.{Object};
 ghost use Rattle.kc_link_place.specs.Names as spec;
-ghost use Rattle.kc_link_place.specs.Names.{either, home_among, home_of, found_in, Knows, if_same, is_some_home};
+ghost use Rattle.kc_link_place.specs.Names.{home_among, home_of, found_in, Knows, if_same};
 
 use indexmap::IndexMap;
 use kc_base::{NoMemory, Text};
@@ -33,7 +33,7 @@ impl Names {
 
     // Notes the home of a name that has none.
     fn note(&mut self, alloc: Global, name: &[u8], home: Home) -> Result<(), NoMemory>
-        ensures { OnOk result ((q : List ℕ) → found_in self.new.homes.entries q ≡ either (found_in self.old.homes.entries q) (if_same name.now q home)) }
+        ensures { OnOk result ((q : List ℕ) → found_in self.new.homes.entries q ≡ option_or (found_in self.old.homes.entries q) (if_same name.now q home)) }
     {
         if self.home(name).is_none() {
             let key = Vec::from_slice(alloc, name)?;
@@ -44,7 +44,7 @@ impl Names {
 
     // Notes the public names of a module.
     fn note_all(&mut self, alloc: Global, index: usize, publics: &[Given]) -> Result<(), NoMemory>
-        ensures { OnOk result ((q : List ℕ) → found_in self.new.homes.entries q ≡ either (found_in self.old.homes.entries q) (home_among index publics.now q)) }
+        ensures { OnOk result ((q : List ℕ) → found_in self.new.homes.entries q ≡ option_or (found_in self.old.homes.entries q) (home_among index publics.now q)) }
     {
         let mut left = publics;
         while let [given, rest @ ..] = left {

@@ -13,4 +13,3 @@ pub mod OneImage
 pub mod Row
 pub mod Alone
 pub mod Sited
-pub mod Passing

@@ -1,13 +1,9 @@
-//! The image that is linked from the modules of sources decodes to their statements: laws of definitions, and a walk that
-//! shows what they ask of characters.
+//! The image that is linked from the modules of sources decodes to their statements: laws of definitions, without code.
 #![tactic(auto)]
 
 ghost use Rattle.kc_link_source_laws.specs.Linked.{LinkedImage, OneImage, OneImageOfSources, StatementsHaveSites};
 ghost use Rattle.kc_link_source_laws.specs.Worked.{WorkedSource};
 
-mod characters;
-
-pub use characters::characters_are_bytes;
 use kc_asm_check::no_fault_no_codes;
 use kc_asm_draft_laws::{
     drafts_are_drafts, drafts_are_settled, drafts_are_whole, nothing_else_stands, statements_stand,

@@ -3,3 +3,4 @@ pub mod Soundness
 pub mod RunLemmas
 pub mod Ends
 pub mod Plain
+pub mod Turns

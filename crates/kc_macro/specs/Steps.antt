@@ -12,7 +12,7 @@ use Rattle.kc_lex.specs.Kinds.{has_label}
 use Rattle.kc_macro_body.specs.Words.{unlabelled, behind_label}
 use Rattle.kc_macro_body.specs.Arguments.{arguments, definition, over_arguments}
 use Rattle.kc_macro_body.specs.Bodies.{macro_of, only}
-use Rattle.kc_macro_body.specs.ByName.{ByName}
+use Rattle.kc_base.specs.ByName.{ByName}
 use Rattle.kc_macro_body.specs.Calls.{called}
 use Rattle.kc_macro_input.specs.declared.piece.Mark.{Mark}
 use Rattle.kc_macro_input.specs.declared.piece.Mark.TheVariants.{Call, Turns, If}

@@ -1,16 +1,16 @@
-ghost use Rattle.std.specs.Prelude.{◌≡◌, ◌<◌, IfOk};
+ghost use Rattle.std.specs.Prelude.{◌≡◌, ◌<◌, IfOk, Ok};
 ghost use Rattle.kc_macro.specs.Steps as steps;
 ghost use Rattle.kc_macro_input.specs.Pieces.{innermost};
-ghost use Rattle.kc_macro_input.specs.Filled.{seen_filled};
+ghost use Rattle.kc_macro_input.specs.Filled.{seen_filled, turns_over};
 
 use crate::state::{State, Step};
 use crate::steps::{code_of, counted, least_unmatched};
 use kc_base::{NoMemory, Text};
 use kc_macro_body::Texts;
 use kc_macro_body::bodies::{nothing, only};
-use kc_macro_input::bodies::{Filled, fill_body, fill_turns, turn_body};
+use kc_macro_input::bodies::{Filled, fill_body, turn_body, turns_fault};
 use kc_macro_input::cutting::cut_off;
-use kc_macro_input::{Extent, Mark, Marks, Piece};
+use kc_macro_input::{Extent, Mark, Marks, Over, Piece};
 use std::alloc::Global;
 
 pub(crate) fn exitm_step(
@@ -112,24 +112,17 @@ pub(crate) fn rept_step(
     }
 }
 
-// Puts turns in front of the text. The first begins at once.
-fn begun(alloc: Global, state: &mut State, number: u32, text: Filled) -> Result<Step, NoMemory>
-    ensures { IfOk result (λ r. steps.next_of r state.new ≡ steps.begun state.old number (seen_filled text)) }
+// Puts turns over some arguments, of which none has a fault, in front of the text. The first begins at once.
+#[tactic(auto, using(crate::proofs::Turns::no_turn))]
+fn begun(alloc: Global, state: &mut State, number: u32, over: Over) -> Result<Step, NoMemory>
+    ensures { IfOk result (λ r. steps.next_of r state.new ≡ steps.begun state.old number (Ok (turns_over over.formals over.head over.body.items over.args))) }
 {
-    match text {
-        Err(fault) => Ok(Step::Fault {
-            line: fault.line,
-            code: fault.code,
-        }),
-        Ok(turns) => {
-            if turns.is_empty() {
-                return Ok(Step::Quiet);
-            }
-            state.ahead.put(turns)?;
-            state.ahead.next(alloc)?;
-            Ok(counted(state, number))
-        }
+    if over.args.as_slice().is_empty() {
+        return Ok(Step::Quiet);
     }
+    state.ahead.put_over(over)?;
+    state.ahead.next(alloc)?;
+    Ok(counted(state, number))
 }
 
 fn over_turns(
@@ -143,11 +136,26 @@ fn over_turns(
     ensures { IfOk result (λ r. steps.next_of r state.new ≡ steps.over_turns state.old number from.now over front.now) }
 {
     let (name, args) = over;
-    let lines = turn_body(alloc, Mark::Turns(state.left), front)?;
+    let body = turn_body(alloc, Mark::Turns(state.left), front)?;
     let head = turn_head(alloc, state.left, number, from)?;
     let formals = only(alloc, name)?;
-    let text = fill_turns(alloc, &formals, &head, lines.as_slice(), args.as_slice())?;
-    begun(alloc, state, number, text)
+    match turns_fault(alloc, &formals, body.as_slice(), args.as_slice())? {
+        Some(fault) => Ok(Step::Fault {
+            line: fault.line,
+            code: fault.code,
+        }),
+        None => begun(
+            alloc,
+            state,
+            number,
+            Over {
+                formals,
+                head,
+                body,
+                args,
+            },
+        ),
+    }
 }
 
 /// Replaces an IRP with its body by its turns.

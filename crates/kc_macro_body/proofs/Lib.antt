@@ -1,4 +1,3 @@
 pub mod ArgumentLemmas
 pub mod BodyLemmas
 pub mod FillLemmas
-pub mod NameLemmas

@@ -1,6 +1,5 @@
 pub mod Words
 pub mod Arguments
-pub mod ByName
 pub mod Bodies
 pub mod Filling
 pub mod Calls

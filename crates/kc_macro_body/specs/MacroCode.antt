@@ -7,7 +7,7 @@ use Rattle.kc_lex.specs.declared.token.Token.{Token}
 use Rattle.kc_macro_body.specs.declared.macros.Locals.{Locals}
 use Rattle.kc_macro_body.specs.declared.macros.Formals.{Formals}
 use Rattle.kc_macro_body.specs.declared.macros.Macro.{Macro}
-use Rattle.kc_macro_body.specs.ByName.{ByName, by_name_code}
+use Rattle.kc_base.specs.ByName.{ByName, by_name_code}
 
 abbrev pub kind_number : TokenKind → ℕ
 kind_number Name = 0

@@ -18,7 +18,7 @@ pub struct Places {
 impl Model for Places {
     ghost use Rattle.std.specs.Prelude.{ℕ};
     ghost use Rattle.std.specs.Coded.{coded_ℕ};
-    ghost use Rattle.kc_macro_body.specs.ByName.{ByName, by_name_code, by_name};
+    ghost use Rattle.kc_base.specs.ByName.{ByName, by_name_code, by_name};
 
     ghost Value = { ByName ℕ };
 
@@ -96,7 +96,7 @@ pub struct Macros {
 
 impl Model for Macros {
     ghost use Rattle.kc_macro_body.specs.declared.macros.Macro.{Macro};
-    ghost use Rattle.kc_macro_body.specs.ByName.{ByName, by_name_code, by_name};
+    ghost use Rattle.kc_base.specs.ByName.{ByName, by_name_code, by_name};
     ghost use Rattle.kc_macro_body.specs.MacroCode.{macro_code};
 
     ghost Value = { ByName Macro };

@@ -1,12 +1,17 @@
 -- The flat text of a stack after a push or a pop.
-use Rattle.std.proofs.Common.{◌≡◌, Bool, true, false, ◌&&◌, ℕ, zero, suc, ◌-◌, ◌<◌, ◌≤◌, sub-one, List, [], ◌∷◌, ◌++◌, map, refl, sym, ap, ◌∙◌, append_assoc, arith}
+use Rattle.std.proofs.Common.{◌≡◌, Bool, true, false, ◌&&◌, ℕ, zero, suc, ◌+◌, ◌-◌, ◌<◌, ◌≤◌, sub-one, Option, Some, None, Ok, Err, List, [], ◌∷◌, ◌++◌, length, get_or, drop, drop_of_length-le, map, refl, sym, ap, ◌∙◌, append_assoc, arith}
 use Rattle.std.specs.List.{list_all}
 use Rattle.std.proofs.lemmas.List.{append-nil, map-append}
+use Rattle.kc_lex.specs.declared.token.Token.{Token}
+use Rattle.kc_macro_body.specs.declared.macros.Formals.{Formals}
+use Rattle.kc_macro_body.specs.Filling.{filled}
 use Rattle.kc_macro_input.specs.declared.piece.Piece.{Piece}
 use Rattle.kc_macro_input.specs.declared.piece.Mark.{Mark}
 use Rattle.kc_macro_input.specs.declared.ahead.Held.{Held}
 use Rattle.kc_macro_input.specs.declared.ahead.Held.TheVariants as held
 use Rattle.kc_macro_input.specs.Ahead.{flat, pieces_of}
+use Rattle.kc_macro_input.specs.Filled.{Filled, together, all_together, single, with_tokens, fill_text, fill_piece, fill_body, lines_of, turns_over}
+use Rattle.kc_macro_input.proofs.FilledLemmas.{front_of}
 use Rattle.kc_macro_input.specs.Pieces.{repeated, comes_from}
 use Rattle.kc_macro_input.specs.Pieces.{left_out}
 
@@ -77,3 +82,45 @@ pub all_turns : (m : Mark) (n : ℕ) (ps : List Piece) → list_all (comes_from 
 unfolding repeated
 all_turns m zero ps h = refl
 all_turns m (suc n) ps h = all_append m ps (repeated n ps) h (all_turns m n ps h)
+
+-- ---- turns over some arguments
+
+pub no_over : (f : Formals) (head : Piece) (body rest : List Piece) (args : List (List Token)) (n : ℕ) → length args ≤ n → turns_over f head body (drop n args) ++ rest ≡ rest
+unfolding turns_over
+no_over f head body rest args n h = ap (λ (left : List (List Token)). turns_over f head body left ++ rest) (drop_of_length-le args {i = n} h)
+
+pub one_over : (f : Formals) (head : Piece) (body rest : List Piece) (args : List (List Token)) (n : ℕ) (arg : List Token) → n < length args → arg ≡ get_or args n arg →
+    head ∷ (lines_of (fill_body f (arg ∷ []) 0 body) ++ (turns_over f head body (drop (n + 1) args) ++ rest)) ≡ turns_over f head body (drop n args) ++ rest
+unfolding turns_over
+one_over f head body rest args n arg less is =
+    ap (λ (ps : List Piece). head ∷ ps) (sym (append_assoc (lines_of (fill_body f (arg ∷ []) 0 body)) (turns_over f head body (drop (n + 1) args)) rest))
+    ∙ ap (λ (left : List (List Token)). turns_over f head body left ++ rest) (sym (front_of args n arg less is))
+
+lines_together : (m : Mark) (x y : Filled) → list_all (comes_from m) (lines_of x) ≡ true → list_all (comes_from m) (lines_of y) ≡ true → list_all (comes_from m) (lines_of (together x y)) ≡ true
+lines_together m (Ok ps) (Ok qs) h k = all_append m ps qs h k
+lines_together m (Ok ps) (Err g) h k = refl
+lines_together m (Err f) (Ok qs) h k = refl
+lines_together m (Err f) (Err g) h k = refl
+
+-- a line that is filled comes from what it came from
+line_filled : (m : Mark) (f : Formals) (args : List (List Token)) (p : Piece) (o : Option (List Token)) → comes_from m p ≡ true → list_all (comes_from m) (lines_of (single (fill_text f args 0 p o))) ≡ true
+line_filled m f args p None h = both_and (comes_from m p) true h refl
+line_filled m f args p (Some ts) h = elim (filled f args 0 ts) as (λ r. list_all (comes_from m) (lines_of (single (with_tokens p r))) ≡ true) [
+  | Ok us ↦ both_and (comes_from m p) true h refl
+  | Err code ↦ refl
+]
+
+all_filled : (m : Mark) (f : Formals) (args : List (List Token)) (ps : List Piece) → list_all (comes_from m) ps ≡ true → list_all (comes_from m) (lines_of (fill_body f args 0 ps)) ≡ true
+unfolding all_together
+all_filled m f args [] h = refl
+all_filled m f args (p ∷ ps) h =
+    let both = and_both (comes_from m p) (list_all (comes_from m) ps) h in
+    lines_together m (single (fill_piece f args 0 p)) (fill_body f args 0 ps) (line_filled m f args p p.tokens both.0) (all_filled m f args ps both.1)
+
+pub all_over : (m : Mark) (f : Formals) (head : Piece) (body : List Piece) (args : List (List Token)) → list_all (comes_from m) (head ∷ body) ≡ true → list_all (comes_from m) (turns_over f head body args) ≡ true
+unfolding turns_over
+all_over m f head body [] h = refl
+all_over m f head body (arg ∷ args) h =
+    let both = and_both (comes_from m head) (list_all (comes_from m) body) h in
+    both_and (comes_from m head) (list_all (comes_from m) (lines_of (fill_body f (arg ∷ []) 0 body) ++ turns_over f head body args)) both.0
+    (all_append m (lines_of (fill_body f (arg ∷ []) 0 body)) (turns_over f head body args) (all_filled m f (arg ∷ []) body both.1) (all_over m f head body args h))

@@ -17,6 +17,12 @@ is_earlier f g = nat_lt f.line g.line || ((f.line == g.line) && nat_lt f.code g.
 abbrev pub lesser : BodyFault → BodyFault → BodyFault
 lesser f g = if is_earlier g f then g else f
 
+-- the lesser of two faults, of which there may be none
+abbrev pub either : Option BodyFault → Option BodyFault → Option BodyFault
+either None g = g
+either (Some f) None = Some f
+either (Some f) (Some g) = Some (lesser f g)
+
 -- lines one after the other, or the lesser of their faults
 abbrev pub together : Filled → Filled → Filled
 together (Ok ps) (Ok qs) = Ok (ps ++ qs)
@@ -56,6 +62,21 @@ fill_turn f head body arg = together (Ok (head ∷ [])) (fill_body f (arg ∷ []
 
 abbrev pub fill_turns : Formals → Piece → List Piece → List (List Token) → Filled
 fill_turns f head body args = all_together (map (fill_turn f head body) args)
+
+-- ---- what a filling gives, if it has no fault, and its fault
+
+abbrev pub lines_of : Filled → List Piece
+lines_of (Ok ps) = ps
+lines_of (Err f) = []
+
+abbrev pub fault_of : Filled → Option BodyFault
+fault_of (Ok ps) = None
+fault_of (Err f) = Some f
+
+-- the turns over some arguments, where none of their lines has a fault
+unfoldable pub turns_over : Formals → Piece → List Piece → List (List Token) → List Piece
+turns_over f head body [] = []
+turns_over f head body (arg ∷ args) = head ∷ (lines_of (fill_body f (arg ∷ []) 0 body) ++ turns_over f head body args)
 
 -- what a call answers
 abbrev pub seen_filled : Result (Vec Piece) BodyFault → Filled

@@ -1,4 +1,4 @@
-pub mod Pieces
+pub mod Ahead
 pub mod Cuts
 pub mod Filled
-pub mod Ahead
+pub mod Pieces

@@ -1,17 +1,31 @@
-ghost use Rattle.std.specs.Prelude.{◌≡◌, [], ◌∷◌, ◌++◌, ◌<◌, true, map, IfOk, length};
+ghost use Rattle.std.specs.Prelude.{◌≡◌, [], ◌∷◌, ◌++◌, ◌<◌, true, map, IfOk, length, drop};
 ghost use Rattle.std.specs.Option.{IfNone};
 ghost use Rattle.std.specs.List.{list_all};
-ghost use Rattle.kc_macro_input.specs.Ahead.{flat, put_back, pieces_of};
+ghost use Rattle.kc_macro_input.specs.Ahead.{flat, taken, put_back, pieces_of};
+ghost use Rattle.kc_macro_input.specs.Filled as filling;
+ghost use Rattle.kc_macro_input.specs.Filled.{turns_over};
 ghost use Rattle.kc_macro_input.specs.Pieces.{first_piece, left_out, repeated, marked, comes_from};
 
+use crate::bodies::{Filled, fill_over};
 use crate::piece::{Mark, Marking, Marks, Piece, copy_piece, copy_pieces};
 use kc_base::NoMemory;
 use kc_lex::Line;
+use kc_macro_body::{Formals, Texts};
 use std::alloc::Global;
 use std::marker::Model;
 
-/// A piece, or the turns of a repetition that are not yet read: each is the head and then the body.
-#[derive(Debug, Drop)]
+/// A repetition over some arguments: each turn is the head, and then the body with the argument in place of its parameter.
+#[derive(Drop)]
+pub struct Over {
+    pub formals: Formals,
+    pub head: Piece,
+    pub body: Vec<Piece>,
+    pub args: Texts,
+}
+
+/// A piece, the turns of a repetition that are not yet read, each the head and then the body, or those of a repetition over
+/// some arguments, from the argument with this number on.
+#[derive(Drop)]
 pub enum Held {
     One(Piece),
     Turns {
@@ -19,10 +33,14 @@ pub enum Held {
         body: Vec<Piece>,
         left: u16,
     },
+    Over {
+        over: Over,
+        next: usize,
+    },
 }
 
 /// The text that is still to be read, as a stack of which the last element comes first.
-#[derive(Debug, Drop)]
+#[derive(Drop)]
 pub struct Ahead {
     stack: Vec<Held>,
 }
@@ -89,24 +107,96 @@ fn put_lines(alloc: Global, stack: &mut Vec<Held>, lines: Vec<Line>) -> Result<(
 }
 
 // Takes the first piece off a text.
-#[tactic(auto, using(crate::proofs::AheadLemmas::flat_popped, crate::proofs::AheadLemmas::no_turn))]
+#[tactic(auto, using(crate::proofs::AheadLemmas::flat_popped))]
 fn take(alloc: Global, stack: &mut Vec<Held>) -> Result<Option<Piece>, NoMemory>
     ensures text { IfOk result (λ o. flat stack.old.items ≡ put_back o (flat stack.new.items)) }
     ensures none { IfOk result (λ o. IfNone o (flat stack.new.items ≡ [])) }
 {
     while let Some(held) = stack.pop() {
-        match held {
-            Held::One(piece) => return Ok(Some(piece)),
-            Held::Turns { head, body, left } => {
-                if left > 0 {
-                    let first = copy_piece(alloc, &head)?;
-                    put_turn(alloc, stack, head, body, left)?;
-                    return Ok(Some(first));
-                }
-            }
+        if let Some(first) = take_off(alloc, stack, held)? {
+            return Ok(Some(first));
         }
     }
     Ok(None)
+}
+
+// Takes the first piece off an element, if it stands for any, and puts what is left of it in front of a text.
+fn take_off(alloc: Global, stack: &mut Vec<Held>, held: Held) -> Result<Option<Piece>, NoMemory>
+    ensures text { IfOk result (λ o. taken o ++ flat stack.new.items ≡ pieces_of held ++ flat stack.old.items) }
+    ensures none { IfOk result (λ o. IfNone o (stack.new.items ≡ stack.old.items)) }
+{
+    match held {
+        Held::One(piece) => Ok(Some(piece)),
+        Held::Turns { head, body, left } => take_turn(alloc, stack, head, body, left),
+        Held::Over { over, next } => take_next(alloc, stack, over, next),
+    }
+}
+
+// Begins the first of the turns that are left.
+#[tactic(auto, using(crate::proofs::AheadLemmas::no_turn))]
+fn take_turn(
+    alloc: Global,
+    stack: &mut Vec<Held>,
+    head: Piece,
+    body: Vec<Piece>,
+    left: u16,
+) -> Result<Option<Piece>, NoMemory>
+    ensures text { IfOk result (λ o. taken o ++ flat stack.new.items ≡ repeated left (head ∷ body.items) ++ flat stack.old.items) }
+    ensures none { IfOk result (λ o. IfNone o (stack.new.items ≡ stack.old.items)) }
+{
+    if left == 0 {
+        return Ok(None);
+    }
+    let first = copy_piece(alloc, &head)?;
+    put_turn(alloc, stack, head, body, left)?;
+    Ok(Some(first))
+}
+
+// Begins the turn over the argument with this number, if there is one.
+#[tactic(auto, using(crate::proofs::AheadLemmas::no_over))]
+fn take_next(
+    alloc: Global,
+    stack: &mut Vec<Held>,
+    over: Over,
+    next: usize,
+) -> Result<Option<Piece>, NoMemory>
+    ensures text { IfOk result (λ o. taken o ++ flat stack.new.items ≡ turns_over over.formals over.head over.body.items (drop next over.args) ++ flat stack.old.items) }
+    ensures none { IfOk result (λ o. IfNone o (stack.new.items ≡ stack.old.items)) }
+{
+    if next >= over.args.as_slice().len() {
+        return Ok(None);
+    }
+    let first = copy_piece(alloc, &over.head)?;
+    put_next(alloc, stack, over, next)?;
+    Ok(Some(first))
+}
+
+fn lines_of(alloc: Global, filled: Filled) -> Vec<Piece>
+    ensures { result.items ≡ filling.lines_of (filling.seen_filled filled) }
+{
+    match filled {
+        Ok(lines) => lines,
+        Err(_) => Vec::new(alloc),
+    }
+}
+
+// Puts the body of a turn over an argument in front of a text, and before that the turns over those after it.
+#[tactic(auto, using(crate::proofs::AheadLemmas::one_over))]
+fn put_next(alloc: Global, stack: &mut Vec<Held>, over: Over, next: usize) -> Result<(), NoMemory>
+    requires { next < length over.args }
+    ensures { IfOk result (λ _. over.head ∷ flat stack.new.items ≡ turns_over over.formals over.head over.body.items (drop next over.args) ++ flat stack.old.items) }
+{
+    let arg = &over.args.as_slice()[next];
+    let turn = fill_over(alloc, &over.formals, over.body.as_slice(), arg)?;
+    let lines = lines_of(alloc, turn);
+    put_held(
+        stack,
+        Held::Over {
+            over,
+            next: next + 1,
+        },
+    )?;
+    put_pieces(stack, lines)
 }
 
 // Puts the body of a turn in front of a text, and before that the turns that are left after it.
@@ -149,13 +239,16 @@ fn put_later(
 }
 
 // Whether all that an element stands for comes from a call or repetition.
-#[tactic(auto, using(crate::proofs::AheadLemmas::all_turns))]
+#[tactic(auto, using(crate::proofs::AheadLemmas::all_turns, crate::proofs::AheadLemmas::all_over))]
 fn all_from(held: &Held, mark: Mark) -> bool
     ensures { result ≡ true → list_all (comes_from mark) (pieces_of held.now) ≡ true }
 {
     match held {
         Held::One(piece) => piece.from.has(mark),
         Held::Turns { head, body, .. } => head.from.has(mark) && all_pieces(body.as_slice(), mark),
+        Held::Over { over, .. } => {
+            over.head.from.has(mark) && all_pieces(over.body.as_slice(), mark)
+        }
     }
 }
 
@@ -270,5 +363,12 @@ impl Ahead {
         ensures { IfOk result (λ _. self.new ≡ repeated left (head ∷ body.now) ++ self.old) }
     {
         put_later(alloc, &mut self.stack, head, body, left)
+    }
+
+    /// Puts turns over some arguments in front, which are made when they are read. A turn that has a fault has no lines.
+    pub fn put_over(&mut self, over: Over) -> Result<(), NoMemory>
+        ensures { IfOk result (λ _. self.new ≡ turns_over over.formals over.head over.body.items over.args ++ self.old) }
+    {
+        put_held(&mut self.stack, Held::Over { over, next: 0 })
     }
 }

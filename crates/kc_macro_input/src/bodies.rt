@@ -1,4 +1,5 @@
-ghost use Rattle.std.specs.Prelude.{◌≡◌, map, IfOk};
+ghost use Rattle.std.specs.Prelude.{◌≡◌, [], ◌∷◌, map, IfOk};
+ghost use Rattle.kc_macro_input.specs.declared.piece.Piece.{Piece as PieceOf};
 ghost use Rattle.std.specs.List.{filter};
 ghost use Rattle.kc_macro_input.specs.Pieces as pieces;
 ghost use Rattle.kc_macro_input.specs.Filled as filling;
@@ -162,39 +163,53 @@ pub fn fill_body(
     append_filled(alloc, Ok(Vec::new(alloc)), formals, args, given, body)
 }
 
-// Appends a turn over one argument.
-#[tactic(auto, using(crate::proofs::FilledLemmas::together_assoc))]
-fn append_turn(
+// The lesser of two faults, of which there may be none.
+fn either(first: Option<BodyFault>, second: Option<BodyFault>) -> Option<BodyFault>
+    ensures { result ≡ filling.either first second }
+{
+    match (first, second) {
+        (None, second) => second,
+        (Some(first), None) => Some(first),
+        (Some(first), Some(second)) => Some(lesser(first, second)),
+    }
+}
+
+fn fault_of(filled: &Filled) -> Option<BodyFault>
+    ensures { result ≡ filling.fault_of (filling.seen_filled filled.now) }
+{
+    match filled {
+        Ok(_) => None,
+        Err(fault) => Some(*fault),
+    }
+}
+
+/// The lines of a body over one argument, or of the first line that has one, the least fault.
+pub(crate) fn fill_over(
     alloc: Global,
-    before: Filled,
     formals: &Formals,
-    head: &Piece,
     body: &[Piece],
     arg: &Tokens,
 ) -> Result<Filled, NoMemory>
-    ensures { IfOk result (λ r. filling.seen_filled r ≡ filling.together (filling.seen_filled before) (filling.fill_turn formals.now head.now body.now arg.now)) }
+    ensures { IfOk result (λ r. filling.seen_filled r ≡ filling.fill_body formals.now (arg.now ∷ []) 0 body.now) }
 {
-    let first = copy_piece(alloc, head)?;
-    let begun = add(before, Ok(first))?;
     let mut args = Texts::new(alloc);
     args.push(copy_tokens(alloc, arg.as_slice())?)?;
-    append_filled(alloc, begun, formals, args.as_slice(), 0, body)
+    fill_body(alloc, formals, args.as_slice(), 0, body)
 }
 
-/// The turns of a body over some arguments, each behind a piece that says that a turn begins.
-#[tactic(auto, using(crate::proofs::FilledLemmas::together_start))]
-pub fn fill_turns(
+/// The least fault of the turns of a body over some arguments, on the first line that has one. No turn is kept.
+pub fn turns_fault(
     alloc: Global,
     formals: &Formals,
-    head: &Piece,
     body: &[Piece],
     args: &[Tokens],
-) -> Result<Filled, NoMemory>
-    ensures { IfOk result (λ r. filling.seen_filled r ≡ filling.fill_turns formals.now head.now body.now args.now) }
+) -> Result<Option<BodyFault>, NoMemory>
+    ensures { IfOk result (λ r. (head : PieceOf) → r ≡ filling.fault_of (filling.fill_turns formals.now head body.now args.now)) }
 {
-    let mut all = Ok(Vec::new(alloc));
+    let mut found = None;
     for arg in args {
-        all = append_turn(alloc, all, formals, head, body, arg)?;
+        let turn = fill_over(alloc, formals, body, arg)?;
+        found = either(found, fault_of(&turn));
     }
-    Ok(all)
+    Ok(found)
 }

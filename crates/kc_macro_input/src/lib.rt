@@ -7,5 +7,5 @@ pub mod bodies;
 pub mod cutting;
 pub mod piece;
 
-pub use ahead::Ahead;
+pub use ahead::{Ahead, Over};
 pub use piece::{BodyFault, Extent, Mark, Marks, Piece};

@@ -9,7 +9,7 @@ use Rattle.kc_lex.specs.declared.token.Token.{Token}
 use Rattle.kc_lex.specs.Kinds.{is_name_kind}
 use Rattle.kc_macro_body.specs.declared.words.Word.TheVariants as words
 use Rattle.kc_macro_body.specs.declared.macros.Macro.{Macro}
-use Rattle.kc_macro_body.specs.ByName.{ByName}
+use Rattle.kc_base.specs.ByName.{ByName}
 use Rattle.kc_macro_body.specs.Arguments.{arguments}
 use Rattle.kc_macro_body.specs.Calls.{called, is_defining}
 use Rattle.kc_macro_body.specs.Filling.{name_token, local_name, stands_for}

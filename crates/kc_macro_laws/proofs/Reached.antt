@@ -16,7 +16,7 @@ use Rattle.kc_macro_body.specs.declared.words.Word.TheVariants as words
 use Rattle.kc_macro_body.specs.declared.macros.Formals.{Formals}
 use Rattle.kc_macro_body.specs.declared.macros.Locals.{Locals}
 use Rattle.kc_macro_body.specs.declared.macros.Macro.{Macro}
-use Rattle.kc_macro_body.specs.ByName.{ByName}
+use Rattle.kc_base.specs.ByName.{ByName}
 use Rattle.kc_macro_body.specs.Words.{unlabelled, behind_label}
 use Rattle.kc_macro_body.specs.Arguments.{arguments, definition, over_arguments}
 use Rattle.kc_macro_body.specs.Bodies.{macro_of, names_or_none, local_names, placed, with_local, no_locals, only}

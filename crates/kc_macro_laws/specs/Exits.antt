@@ -5,7 +5,7 @@ use Rattle.kc_lex.specs.declared.token.Token.{Token}
 use Rattle.kc_lex.specs.Kinds.{has_label}
 use Rattle.kc_macro_body.specs.declared.words.Word.TheVariants as words
 use Rattle.kc_macro_body.specs.declared.macros.Macro.{Macro}
-use Rattle.kc_macro_body.specs.ByName.{ByName}
+use Rattle.kc_base.specs.ByName.{ByName}
 use Rattle.kc_macro_body.specs.Words.{word_of, is_other}
 use Rattle.kc_macro_body.specs.Arguments.{arguments}
 use Rattle.kc_macro_body.specs.Calls.{called}

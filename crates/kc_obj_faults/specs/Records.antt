@@ -19,14 +19,15 @@ use Rattle.kc_obj.specs.Contents.{leaves_place, covers}
 use Rattle.kc_obj_relocation.specs.Numbers.{width}
 use Rattle.kc_obj.specs.Fixups.{may_begin, is_zero}
 use Rattle.kc_obj.specs.LineEntries.{line_follows}
+use Rattle.kc_obj_faults.specs.Codes.{out_of_range, other_spelling, no_name}
 use Rattle.kc_obj_faults.specs.Fields.{word_at, long_at, name_at, is_bad_name, noted}
 
 -- ---- 01: version and name of the module
 
 abbrev pub head_faults : ℕ → List ℕ → Option Fault → Option Fault
 head_faults at body f =
-    noted (noted f (nat_le 1 (length body) && not ((slice_index body 0 == 1) || (slice_index body 0 == 2))) at 3)
-    (nat_le 2 (length body) && is_bad_name false (drop 1 body)) (at + 1) 6
+    noted (noted f (nat_le 1 (length body) && not ((slice_index body 0 == 1) || (slice_index body 0 == 2))) at out_of_range)
+    (nat_le 2 (length body) && is_bad_name false (drop 1 body)) (at + 1) no_name
 
 abbrev pub lines_of_version : ℕ → Option (List Lines)
 lines_of_version version = if version == 1 then None else Some []
@@ -59,19 +60,19 @@ bad_length s base = not (is_relocatable s.at) && in_region s.kind base 0 && not 
 
 abbrev pub kind_faults : ℕ → Option Segment → List ℕ → Option Fault → Option Fault
 kind_faults at before body f =
-    noted (noted f (nat_le 1 (length body) && nat_lt 3 (slice_index body 0)) at 3)
-    (nat_le 2 (length body) && kind_falls before (segment_at body)) at 4
+    noted (noted f (nat_le 1 (length body) && nat_lt 3 (slice_index body 0)) at out_of_range)
+    (nat_le 2 (length body) && kind_falls before (segment_at body)) at other_spelling
 
 abbrev pub flag_faults : ℕ → Option Segment → List ℕ → Option Fault → Option Fault
 flag_faults at before body f =
-    noted (noted f (nat_le 2 (length body) && (nat_lt 1 (slice_index body 1) || ((slice_index body 1 == 1) && (slice_index body 0 == 3)))) (at + 1) 3)
-    (nat_le 2 (length body) && comes_late before (segment_at body)) (at + 1) 4
+    noted (noted f (nat_le 2 (length body) && (nat_lt 1 (slice_index body 1) || ((slice_index body 1 == 1) && (slice_index body 0 == 3)))) (at + 1) out_of_range)
+    (nat_le 2 (length body) && comes_late before (segment_at body)) (at + 1) other_spelling
 
 abbrev pub segment_faults : ℕ → Option Segment → List ℕ → Option Fault → Option Fault
 segment_faults at before body f =
     noted (noted (flag_faults at before body (kind_faults at before body f))
-    (nat_le 4 (length body) && bad_base (segment_at body) (word_at body 2)) (at + 2) 3)
-    (nat_le 6 (length body) && bad_length (segment_at body) (word_at body 2)) (at + 4) 3
+    (nat_le 4 (length body) && bad_base (segment_at body) (word_at body 2)) (at + 2) out_of_range)
+    (nat_le 6 (length body) && bad_length (segment_at body) (word_at body 2)) (at + 4) out_of_range
 
 -- ---- 05: an external
 
@@ -80,8 +81,8 @@ taken_at body = record { name = name_at body; register = slice_index body (slice
 
 abbrev pub taken_faults : ℕ → List ℕ → Option Fault → Option Fault
 taken_faults at body f =
-    noted (noted f (nat_le 1 (length body) && is_bad_name false body) at 6)
-    (nat_le (slice_index body 0 + 2) (length body) && nat_lt 1 (slice_index body (slice_index body 0 + 1))) (at + slice_index body 0 + 1) 3
+    noted (noted f (nat_le 1 (length body) && is_bad_name false body) at no_name)
+    (nat_le (slice_index body 0 + 2) (length body) && nat_lt 1 (slice_index body (slice_index body 0 + 1))) (at + slice_index body 0 + 1) out_of_range
 
 -- ---- 06: a public
 
@@ -97,9 +98,9 @@ name_falls (Some before) name = not (is_below before.name name)
 
 abbrev pub given_faults : ℕ → Option Given → ℕ → List ℕ → Option Fault → Option Fault
 given_faults at before count body f =
-    noted (noted (noted f (nat_le 1 (length body) && is_bad_name true body) at 6)
-    (nat_le (slice_index body 0 + 1) (length body) && name_falls before (name_at body)) at 4)
-    (nat_le (slice_index body 0 + 3) (length body) && not (word_at body (slice_index body 0 + 1) == 0xFFFF) && not (nat_lt (word_at body (slice_index body 0 + 1)) count)) (at + slice_index body 0 + 1) 3
+    noted (noted (noted f (nat_le 1 (length body) && is_bad_name true body) at no_name)
+    (nat_le (slice_index body 0 + 1) (length body) && name_falls before (name_at body)) at other_spelling)
+    (nat_le (slice_index body 0 + 3) (length body) && not (word_at body (slice_index body 0 + 1) == 0xFFFF) && not (nat_lt (word_at body (slice_index body 0 + 1)) count)) (at + slice_index body 0 + 1) out_of_range
 
 -- ---- 03: bytes of a code piece (len: how many bytes the record's body has)
 
@@ -116,10 +117,10 @@ run_falls (Some before) piece offset = (before.piece == piece) && not (leaves_pl
 
 abbrev pub run_faults : ℕ → Option Content → Option Segment → ℕ → List ℕ → Option Fault → Option Fault
 run_faults at before piece len body f =
-    noted (noted (noted (noted f (nat_le 2 (length body) && not (has_code piece 0)) at 3)
-    (nat_le 2 (length body) && run_piece_falls before (word_at body 0)) at 4)
-    (nat_le 4 (length body) && has_code piece 0 && not (has_code piece (word_at body 2 + (len - 4)))) (at + 2) 3)
-    (nat_le 4 (length body) && run_falls before (word_at body 0) (word_at body 2)) (at + 2) 4
+    noted (noted (noted (noted f (nat_le 2 (length body) && not (has_code piece 0)) at out_of_range)
+    (nat_le 2 (length body) && run_piece_falls before (word_at body 0)) at other_spelling)
+    (nat_le 4 (length body) && has_code piece 0 && not (has_code piece (word_at body 2 + (len - 4)))) (at + 2) out_of_range)
+    (nat_le 4 (length body) && run_falls before (word_at body 0) (word_at body 2)) (at + 2) other_spelling
 
 -- ---- 04: a relocation
 
@@ -145,15 +146,15 @@ bad_index pieces externals code index =
 
 abbrev pub target_faults : ℕ → ℕ → ℕ → List ℕ → Option Fault → Option Fault
 target_faults at pieces externals body f =
-    noted (noted f (nat_le 6 (length body) && (nat_lt 2 (slice_index body 5) || ((slice_index body 5 == 2) && nat_lt (slice_index body 4) 2))) (at + 5) 3)
-    (nat_le 8 (length body) && bad_index pieces externals (slice_index body 5) (word_at body 6)) (at + 6) 3
+    noted (noted f (nat_le 6 (length body) && (nat_lt 2 (slice_index body 5) || ((slice_index body 5 == 2) && nat_lt (slice_index body 4) 2))) (at + 5) out_of_range)
+    (nat_le 8 (length body) && bad_index pieces externals (slice_index body 5) (word_at body 6)) (at + 6) out_of_range
 
 abbrev pub fixup_place_faults : ℕ → Option Fixup → ℕ → List ℕ → Option Fault → Option Fault
 fixup_place_faults at before pieces body f =
-    noted (noted (noted (noted f (nat_le 2 (length body) && nat_le pieces (word_at body 0)) at 3)
-    (nat_le 2 (length body) && fixup_piece_falls before (word_at body 0)) at 4)
-    (nat_le 4 (length body) && fixup_falls before (word_at body 0) (word_at body 2)) (at + 2) 4)
-    (nat_le 5 (length body) && nat_lt 4 (slice_index body 4)) (at + 4) 3
+    noted (noted (noted (noted f (nat_le 2 (length body) && nat_le pieces (word_at body 0)) at out_of_range)
+    (nat_le 2 (length body) && fixup_piece_falls before (word_at body 0)) at other_spelling)
+    (nat_le 4 (length body) && fixup_falls before (word_at body 0) (word_at body 2)) (at + 2) other_spelling)
+    (nat_le 5 (length body) && nat_lt 4 (slice_index body 4)) (at + 4) out_of_range
 
 -- where in the file the byte at an offset of a piece stands (starts: where the bytes of each run begin)
 unfoldable pub place_of : List Content → List ℕ → ℕ → ℕ → Option ℕ
@@ -181,8 +182,8 @@ place_or_zero (Some place) = place
 -- the bytes of a relocation of kind 0 to 4 that stand in contents and under no earlier relocation are free
 abbrev pub byte_faults : List ℕ → Fixup → Option ℕ → Option ℕ → Option Fault → Option Fault
 byte_faults file x first second f =
-    noted (noted f (not (may_begin x.kind (byte_of_file file first))) (place_or_zero first) 4)
-    ((width x.kind == 2) && not (is_zero (byte_of_file file second))) (place_or_zero second) 4
+    noted (noted f (not (may_begin x.kind (byte_of_file file first))) (place_or_zero first) other_spelling)
+    ((width x.kind == 2) && not (is_zero (byte_of_file file second))) (place_or_zero second) other_spelling
 
 abbrev pub stands_free : List Fixup → Fixup → Option ℕ → Option ℕ → Bool
 stands_free fixups x first second =
@@ -191,7 +192,7 @@ stands_free fixups x first second =
 
 abbrev pub free_faults : ℕ → List ℕ → List Fixup → Fixup → Option ℕ → Option ℕ → Option Fault → Option Fault
 free_faults at file fixups x first second f =
-    if stands_free fixups x first second then byte_faults file x first second f else noted f true (at + 2) 3
+    if stands_free fixups x first second then byte_faults file x first second f else noted f true (at + 2) out_of_range
 
 abbrev pub under_faults : ℕ → List ℕ → ℕ → List Content → List ℕ → List Fixup → List ℕ → Option Fault → Option Fault
 under_faults at file pieces contents starts fixups body f =
@@ -211,9 +212,9 @@ entry_falls (Some before) l = (before.piece == l.piece) && not (line_follows bef
 -- (at: where the entry begins; body: from there on)
 abbrev pub entry_faults : ℕ → Option Lines → Option Segment → ℕ → List ℕ → Option Fault → Option Fault
 entry_faults at before segment piece body f =
-    noted (noted (noted f (nat_le 2 (length body) && has_code segment 0 && not (has_code segment (word_at body 0 + 1))) at 3)
-    (nat_le 2 (length body) && entry_falls before (entry_at piece body)) at 4)
-    (nat_le 6 (length body) && (long_at body 2 == 0)) (at + 2) 3
+    noted (noted (noted f (nat_le 2 (length body) && has_code segment 0 && not (has_code segment (word_at body 0 + 1))) at out_of_range)
+    (nat_le 2 (length body) && entry_falls before (entry_at piece body)) at other_spelling)
+    (nat_le 6 (length body) && (long_at body 2 == 0)) (at + 2) out_of_range
 
 -- before: the last entry so far; block: how many entries the record before has
 abbrev pub block_falls : Option Lines → ℕ → ℕ → Bool
@@ -222,5 +223,5 @@ block_falls (Some before) block piece = nat_lt piece before.piece || ((before.pi
 
 abbrev pub block_faults : ℕ → Option Lines → ℕ → Option Segment → List ℕ → Option Fault → Option Fault
 block_faults at before block segment body f =
-    noted (noted f (nat_le 2 (length body) && not (has_code segment 0)) at 3)
-    (nat_le 2 (length body) && block_falls before block (word_at body 0)) at 4
+    noted (noted f (nat_le 2 (length body) && not (has_code segment 0)) at out_of_range)
+    (nat_le 2 (length body) && block_falls before block (word_at body 0)) at other_spelling

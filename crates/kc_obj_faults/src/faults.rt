@@ -1,10 +1,44 @@
 ghost use Rattle.std.specs.Prelude.{◌≡◌};
 ghost use Rattle.kc_obj_faults.specs.declared.faults.ObjFault.TheVariants as faults;
-ghost use Rattle.kc_obj_faults.specs.Fields.{is_lesser, first_of_both, fault_at, noted};
+ghost use Rattle.kc_obj_faults.specs.Codes.{code_number};
+ghost use Rattle.kc_obj_faults.specs.Fields.{is_lesser, first_of_both, noted};
 
 use kc_base::NoMemory;
 
-/// The first fault of an object, by its offset in bytes and its code from 1 to 6, or that memory ran out.
+/// The causes by which an object is refused, as they are numbered.
+#[derive(Clone, Copy, Debug, PartialEq, Eq)]
+pub enum ObjCode {
+    /// A record of a type that may not come there.
+    WrongOrder,
+    /// The bytes end before the end record.
+    TooShort,
+    /// A field is out of its range.
+    OutOfRange,
+    /// The bytes are not the one spelling of their module.
+    OtherSpelling,
+    /// Bytes stand behind the end record.
+    BytesBehind,
+    /// What stands for a name is none.
+    NoName,
+}
+
+impl ObjCode {
+    /// The number of the code, 1 to 6.
+    pub fn number(self) -> u8
+        ensures { result ≡ code_number self }
+    {
+        match self {
+            ObjCode::WrongOrder => 1,
+            ObjCode::TooShort => 2,
+            ObjCode::OutOfRange => 3,
+            ObjCode::OtherSpelling => 4,
+            ObjCode::BytesBehind => 5,
+            ObjCode::NoName => 6,
+        }
+    }
+}
+
+/// The first fault of an object, by its offset in bytes and the number of its code, or that memory ran out.
 #[derive(Clone, Copy, Debug, PartialEq, Eq)]
 pub enum ObjFault {
     At { at: u32, code: u8 },
@@ -19,7 +53,7 @@ impl From<NoMemory> for ObjFault {
     }
 }
 
-/// A fault by its offset and its code.
+/// A fault by its offset and the number of its code.
 #[derive(Clone, Copy, Debug, PartialEq, Eq)]
 pub struct Fault {
     pub at: u32,
@@ -48,10 +82,11 @@ pub fn earlier(fault: Option<Fault>, other: Fault) -> Fault
 }
 
 /// The first of the fault so far and of one that is there where something is broken.
-pub fn note(fault: Option<Fault>, broken: bool, at: u32, code: u8) -> Option<Fault>
-    ensures { result ≡ noted fault broken at code }
+pub fn note(fault: Option<Fault>, broken: bool, at: u32, code: ObjCode) -> Option<Fault>
+    ensures { result ≡ noted fault broken at (code_number code) }
 {
     if broken {
+        let code = code.number();
         Some(earlier(fault, Fault { at, code }))
     } else {
         fault

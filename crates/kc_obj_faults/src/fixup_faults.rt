@@ -3,7 +3,7 @@
 ghost use Rattle.std.specs.Prelude.{◌≡◌, ◌<◌, ◌^◌};
 ghost use Rattle.kc_obj_faults.specs.Records.{fixup_at, fixup_piece_falls, fixup_falls, bad_index, target_faults, fixup_place_faults, byte_of_file, place_or_zero, byte_faults, stands_free, free_faults, under_faults, entry_at, entry_falls, entry_faults, block_falls, block_faults};
 
-use crate::faults::{Fault, note};
+use crate::faults::{Fault, ObjCode, note};
 use crate::fields::{byte, long, word};
 use crate::numbers::Numbers;
 use crate::runs::Runs;
@@ -36,9 +36,9 @@ pub fn target_fault(
 {
     let code = byte(body, 5);
     let bad = 2 < code || code == 2 && byte(body, 4) < 2;
-    let first = note(fault, 6 <= body.len() && bad, at + 5, 3);
+    let first = note(fault, 6 <= body.len() && bad, at + 5, ObjCode::OutOfRange);
     let wrong = index_is_bad(pieces, externals, code, word(body, 6));
-    note(first, 8 <= body.len() && wrong, at + 6, 3)
+    note(first, 8 <= body.len() && wrong, at + 6, ObjCode::OutOfRange)
 }
 
 fn piece_is_late(before: Option<Fixup>, piece: u16) -> bool
@@ -71,11 +71,31 @@ pub fn fixup_place_fault(
 {
     let piece = word(body, 0);
     let two = 2 <= body.len();
-    let first = note(fault, two && pieces <= piece as usize, at, 3);
-    let second = note(first, two && piece_is_late(before, piece), at, 4);
+    let first = note(
+        fault,
+        two && pieces <= piece as usize,
+        at,
+        ObjCode::OutOfRange,
+    );
+    let second = note(
+        first,
+        two && piece_is_late(before, piece),
+        at,
+        ObjCode::OtherSpelling,
+    );
     let late = place_is_late(before, piece, word(body, 2));
-    let third = note(second, 4 <= body.len() && late, at + 2, 4);
-    note(third, 5 <= body.len() && 4 < byte(body, 4), at + 4, 3)
+    let third = note(
+        second,
+        4 <= body.len() && late,
+        at + 2,
+        ObjCode::OtherSpelling,
+    );
+    note(
+        third,
+        5 <= body.len() && 4 < byte(body, 4),
+        at + 4,
+        ObjCode::OutOfRange,
+    )
 }
 
 fn byte_in_file(file: &[u8], place: Option<u32>) -> Option<u8>
@@ -106,9 +126,9 @@ fn byte_fault(
     ensures { result ≡ byte_faults file.now fixup first second fault }
 {
     let bad = !begins_free(fixup.kind, byte_in_file(file, first));
-    let noted = note(fault, bad, offset_of(first), 4);
+    let noted = note(fault, bad, offset_of(first), ObjCode::OtherSpelling);
     let wrong = width(fixup.kind) == 2 && !zero(byte_in_file(file, second));
-    note(noted, wrong, offset_of(second), 4)
+    note(noted, wrong, offset_of(second), ObjCode::OtherSpelling)
 }
 
 fn free(fixups: &Numbers, fixup: Fixup, first: Option<u32>, second: Option<u32>) -> bool
@@ -134,7 +154,7 @@ fn free_fault(
     if free(fixups, fixup, places.0, places.1) {
         byte_fault(file, fixup, places.0, places.1, fault)
     } else {
-        note(fault, true, at + 2, 3)
+        note(fault, true, at + 2, ObjCode::OutOfRange)
     }
 }
 
@@ -198,9 +218,19 @@ pub fn entry_fault(
 {
     let two = 2 <= body.len();
     let past = is_code(segment, 0) && !is_code(segment, entry.offset as usize + 1);
-    let first = note(fault, two && past, at, 3);
-    let second = note(first, two && entry_is_late(before, entry), at, 4);
-    note(second, 6 <= body.len() && entry.line == 0, at + 2, 3)
+    let first = note(fault, two && past, at, ObjCode::OutOfRange);
+    let second = note(
+        first,
+        two && entry_is_late(before, entry),
+        at,
+        ObjCode::OtherSpelling,
+    );
+    note(
+        second,
+        6 <= body.len() && entry.line == 0,
+        at + 2,
+        ObjCode::OutOfRange,
+    )
 }
 
 fn block_is_late(before: Option<Lines>, block: usize, piece: u16) -> bool
@@ -224,11 +254,11 @@ pub fn block_fault(
     ensures { result ≡ block_faults at before block segment body.now fault }
 {
     let two = 2 <= body.len();
-    let first = note(fault, two && !is_code(segment, 0), at, 3);
+    let first = note(fault, two && !is_code(segment, 0), at, ObjCode::OutOfRange);
     note(
         first,
         two && block_is_late(before, block, word(body, 0)),
         at,
-        4,
+        ObjCode::OtherSpelling,
     )
 }

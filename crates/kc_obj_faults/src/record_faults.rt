@@ -4,7 +4,7 @@ ghost use Rattle.std.specs.Option.{option_copied};
 ghost use Rattle.kc_obj_faults.specs.Fields.{word_at, noted};
 ghost use Rattle.kc_obj_faults.specs.Records.{head_faults, segment_at, kind_falls, comes_late, bad_base, bad_length, kind_faults, flag_faults, segment_faults, taken_faults, name_falls, given_faults, run_piece_falls, run_falls, run_faults};
 
-use crate::faults::{Fault, note};
+use crate::faults::{Fault, ObjCode, note};
 use crate::fields::{bad_name, byte, name, without, word};
 use kc_obj::names::comes_below;
 use kc_obj::pieces::{fits_region, is_code_to, number_of};
@@ -16,9 +16,9 @@ pub fn head_fault(at: u32, body: &[u8], fault: Option<Fault>) -> Option<Fault>
 {
     let version = byte(body, 0);
     let known = version == 1 || version == 2;
-    let first = note(fault, 1 <= body.len() && !known, at, 3);
+    let first = note(fault, 1 <= body.len() && !known, at, ObjCode::OutOfRange);
     let bad = 2 <= body.len() && bad_name(false, without(body, 1));
-    note(first, bad, at + 1, 6)
+    note(first, bad, at + 1, ObjCode::NoName)
 }
 
 fn falls(before: Option<Segment>, segment: Segment) -> bool
@@ -72,8 +72,18 @@ fn kind_fault(
     requires segment { segment ≡ segment_at body.now }
     ensures { result ≡ kind_faults at before body.now fault }
 {
-    let first = note(fault, 1 <= body.len() && 3 < byte(body, 0), at, 3);
-    note(first, 2 <= body.len() && falls(before, segment), at, 4)
+    let first = note(
+        fault,
+        1 <= body.len() && 3 < byte(body, 0),
+        at,
+        ObjCode::OutOfRange,
+    );
+    note(
+        first,
+        2 <= body.len() && falls(before, segment),
+        at,
+        ObjCode::OtherSpelling,
+    )
 }
 
 fn flag_fault(
@@ -89,8 +99,13 @@ fn flag_fault(
 {
     let flag = byte(body, 1);
     let bad = 1 < flag || flag == 1 && byte(body, 0) == 3;
-    let first = note(fault, 2 <= body.len() && bad, at + 1, 3);
-    note(first, 2 <= body.len() && late(before, segment), at + 1, 4)
+    let first = note(fault, 2 <= body.len() && bad, at + 1, ObjCode::OutOfRange);
+    note(
+        first,
+        2 <= body.len() && late(before, segment),
+        at + 1,
+        ObjCode::OtherSpelling,
+    )
 }
 
 pub fn segment_fault(
@@ -111,13 +126,13 @@ pub fn segment_fault(
         flag,
         4 <= body.len() && base_is_bad(segment, base),
         at + 2,
-        3,
+        ObjCode::OutOfRange,
     );
     note(
         first,
         6 <= body.len() && length_is_bad(segment, base),
         at + 4,
-        3,
+        ObjCode::OutOfRange,
     )
 }
 
@@ -126,9 +141,14 @@ pub fn taken_fault(at: u32, body: &[u8], fault: Option<Fault>) -> Option<Fault>
     ensures { result ≡ taken_faults at body.now fault }
 {
     let len = byte(body, 0) as usize;
-    let first = note(fault, 1 <= body.len() && bad_name(false, body), at, 6);
+    let first = note(
+        fault,
+        1 <= body.len() && bad_name(false, body),
+        at,
+        ObjCode::NoName,
+    );
     let bad = len + 2 <= body.len() && 1 < byte(body, len + 1);
-    note(first, bad, at + len as u32 + 1, 3)
+    note(first, bad, at + len as u32 + 1, ObjCode::OutOfRange)
 }
 
 fn name_is_late(before: Option<&Given>, name: &[u8]) -> bool
@@ -153,18 +173,23 @@ pub fn given_fault(
     let len = byte(body, 0) as usize;
     let piece = word(body, len + 1);
     let unknown = piece != 0xFFFF && !((piece as usize) < count);
-    let first = note(fault, 1 <= body.len() && bad_name(true, body), at, 6);
+    let first = note(
+        fault,
+        1 <= body.len() && bad_name(true, body),
+        at,
+        ObjCode::NoName,
+    );
     let second = note(
         first,
         len + 1 <= body.len() && name_is_late(before, name(body)),
         at,
-        4,
+        ObjCode::OtherSpelling,
     );
     note(
         second,
         len + 3 <= body.len() && unknown,
         at + len as u32 + 1,
-        3,
+        ObjCode::OutOfRange,
     )
 }
 
@@ -204,13 +229,18 @@ pub fn run_fault(
     let offset = word(body, 2);
     let code = is_code_to(segment, 0);
     let past = code && !is_code_to(segment, offset as usize + len.saturating_sub(4));
-    let first = note(fault, 2 <= body.len() && !code, at, 3);
-    let second = note(first, 2 <= body.len() && run_is_late(before, piece), at, 4);
-    let third = note(second, 4 <= body.len() && past, at + 2, 3);
+    let first = note(fault, 2 <= body.len() && !code, at, ObjCode::OutOfRange);
+    let second = note(
+        first,
+        2 <= body.len() && run_is_late(before, piece),
+        at,
+        ObjCode::OtherSpelling,
+    );
+    let third = note(second, 4 <= body.len() && past, at + 2, ObjCode::OutOfRange);
     note(
         third,
         4 <= body.len() && run_overlaps(before, piece, offset),
         at + 2,
-        4,
+        ObjCode::OtherSpelling,
     )
 }

@@ -14,6 +14,7 @@ use Rattle.kc_obj_read.specs.declared.step.Step.{Step}
 use Rattle.kc_obj_read.specs.declared.step.Step.TheVariants as steps
 use Rattle.kc_obj.specs.Object.{Object, object_of}
 use Rattle.kc_obj.specs.Pieces.{all_kept}
+use Rattle.kc_obj_faults.specs.Codes.{wrong_order, too_short, other_spelling, bytes_behind}
 use Rattle.kc_obj_faults.specs.Fields.{last_of, word_at, name_at, first_of_both, fault_at, noted}
 use Rattle.kc_obj_faults.specs.Records.{head_faults, segment_at, segment_faults, taken_at, taken_faults, given_at, given_faults, run_at, run_faults, fixup_at, fixup_place_faults, under_faults, target_faults, entry_at, entry_faults, block_faults}
 
@@ -150,12 +151,12 @@ told (Some fault) m = Err fault
 
 -- the end: nothing may stand behind it
 abbrev pub ended : Read → ℕ → ℕ → Answer
-ended r at behind = if behind == 0 then told r.fault (object_read r) else stopped r at 5
+ended r at behind = if behind == 0 then told r.fault (object_read r) else stopped r at bytes_behind
 
 -- an empty piece that nothing names is told at the end record; a fault that was found stands before it and goes first
 abbrev pub at_stage : ℕ → ℕ → Read → Read
 at_stage at kind r =
-    record r { stage = stage_of kind; fault = noted r.fault ((kind == 0x7F) && is_none r.fault && not (all_kept r.publics r.fixups 0 r.segments)) at 4 }
+    record r { stage = stage_of kind; fault = noted r.fault ((kind == 0x7F) && is_none r.fault && not (all_kept r.publics r.fixups 0 r.segments)) at other_spelling }
 
 abbrev pub behind_record : (ℕ → Read → Answer) → ℕ → ℕ → ℕ → ℕ → Read → Answer
 behind_record goes_on at kind len behind r = if kind == 0x7F then ended r at behind else goes_on (at + len) r
@@ -163,26 +164,26 @@ behind_record goes_on at kind len behind r = if kind == 0x7F then ended r at beh
 -- (at: where the body begins; body: all that the file has from there on)
 abbrev pub bodied : (ℕ → Read → Answer) → List ℕ → ℕ → ℕ → ℕ → List ℕ → Read → Answer
 bodied goes_on file at kind len body r =
-    if nat_lt (length body) len then stopped (after_record kind at len file body r) (length file) 2
+    if nat_lt (length body) len then stopped (after_record kind at len file body r) (length file) too_short
     else behind_record goes_on at kind len (length body) (after_record kind at len file (take len body) r)
 
 -- (rest: all that the file has after the type)
 abbrev pub sized : (ℕ → Read → Answer) → List ℕ → ℕ → ℕ → List ℕ → Read → Answer
 sized goes_on file at kind rest r =
-    if nat_lt (length rest) 2 then stopped r (length file) 2
+    if nat_lt (length rest) 2 then stopped r (length file) too_short
     else (if fits kind (word_at rest 0) (drop 2 rest) then bodied goes_on file (at + 3) kind (word_at rest 0) (drop 2 rest) r
-    else stopped r (at + 1) 4)
+    else stopped r (at + 1) other_spelling)
 
 -- (rest: all that the file has from the record on)
 abbrev pub typed : (ℕ → Read → Answer) → List ℕ → ℕ → List ℕ → Read → Answer
 typed goes_on file at rest r =
-    if length rest == 0 then stopped r at 2
+    if length rest == 0 then stopped r at too_short
     else (if may_come r (slice_index rest 0) then sized goes_on file at (slice_index rest 0) (drop 1 rest) (at_stage at (slice_index rest 0) r)
-    else stopped r at 1)
+    else stopped r at wrong_order)
 
 -- from an offset on, at most n records
 unfoldable pub read_on : ℕ → List ℕ → ℕ → Read → Answer
-read_on zero file at r = stopped r (length file) 2
+read_on zero file at r = stopped r (length file) too_short
 read_on (suc n) file at r = typed (read_on n file) file at (drop at file) r
 
 abbrev pub answer_of : List ℕ → Answer

@@ -8,7 +8,7 @@ use crate::reading::Reading;
 use crate::step::Step;
 use kc_base::{NoMemory, after, front};
 use kc_obj::Module;
-use kc_obj_faults::faults::ObjFault;
+use kc_obj_faults::faults::{ObjCode, ObjFault};
 use kc_obj_faults::fields::{byte, word};
 use std::alloc::Global;
 
@@ -54,7 +54,7 @@ fn end_step(at: usize, behind: usize, reading: &Reading) -> Step
     if behind == 0 {
         Step::End
     } else {
-        Step::Stop(reading.stop(at as u32, 5))
+        Step::Stop(reading.stop(at as u32, ObjCode::BytesBehind))
     }
 }
 
@@ -76,7 +76,7 @@ fn body_step(
     let body = after(file, at);
     if body.len() < len {
         reading.take_record(alloc, kind, at as u32, len, file, body)?;
-        return Ok(Step::Stop(reading.stop(file.len() as u32, 2)));
+        return Ok(Step::Stop(reading.stop(file.len() as u32, ObjCode::TooShort)));
     }
     reading.take_record(alloc, kind, at as u32, len, file, front(body, len))?;
     if kind == 0x7F {
@@ -101,13 +101,13 @@ fn length_step(
 {
     let rest = after(after(file, at), 1);
     if rest.len() < 2 {
-        return Ok(Step::Stop(reading.stop(file.len() as u32, 2)));
+        return Ok(Step::Stop(reading.stop(file.len() as u32, ObjCode::TooShort)));
     }
     let len = word(rest, 0) as usize;
     if length_fits(kind, len, after(rest, 2)) {
         body_step(alloc, file, at + 3, kind, len, reading)
     } else {
-        Ok(Step::Stop(reading.stop(at as u32 + 1, 4)))
+        Ok(Step::Stop(reading.stop(at as u32 + 1, ObjCode::OtherSpelling)))
     }
 }
 
@@ -119,14 +119,14 @@ fn step(alloc: Global, file: &[u8], at: usize, reading: &mut Reading) -> Result<
 {
     let rest = after(file, at);
     if rest.is_empty() {
-        return Ok(Step::Stop(reading.stop(at as u32, 2)));
+        return Ok(Step::Stop(reading.stop(at as u32, ObjCode::TooShort)));
     }
     let kind = rest[0];
     if reading.comes(kind) {
         reading.enter(at as u32, kind);
         length_step(alloc, file, at, kind, reading)
     } else {
-        Ok(Step::Stop(reading.stop(at as u32, 1)))
+        Ok(Step::Stop(reading.stop(at as u32, ObjCode::WrongOrder)))
     }
 }
 
@@ -152,7 +152,7 @@ fn read(alloc: Global, bytes: &[u8]) -> Result<Module, ObjFault>
             Err(NoMemory) => return Err(ObjFault::NoMemory),
         }
     }
-    let fault = reading.stop(bytes.len() as u32, 2);
+    let fault = reading.stop(bytes.len() as u32, ObjCode::TooShort);
     Err(ObjFault::At {
         at: fault.at,
         code: fault.code,
@@ -160,7 +160,7 @@ fn read(alloc: Global, bytes: &[u8]) -> Result<Module, ObjFault>
 }
 
 /// The module of which the bytes are the spelling, or the first fault by offset, of two at one offset that of the lesser
-/// code: 1 a type out of order, 2 the bytes end, 3 a field out of range, 4 not the one spelling, 5 bytes after the end, 6 no name.
+/// code, as `ObjCode` numbers them.
 pub fn decode(alloc: Global, bytes: &[u8]) -> Result<Module, ObjFault>
     requires { length bytes.now ≤ 1048576 }
     ensures fault { IsDecoded result (answer_of bytes.now) }

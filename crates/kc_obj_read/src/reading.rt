@@ -3,6 +3,7 @@ ghost use Rattle.std.specs.Prelude.{◌≡◌, ◌==◌, true, if◌then◌else�
 ghost use Rattle.std.specs.Option.{option_copied, option_map};
 ghost use Rattle.kc_obj.specs.Object.{Object, object_of};
 ghost use Rattle.kc_obj.specs.Rules.{is_module};
+ghost use Rattle.kc_obj_faults.specs.Codes.{code_number};
 ghost use Rattle.kc_obj_faults.specs.Fields.{word_at, fault_at, first_of_both};
 ghost use Rattle.kc_obj.specs.Pieces.{all_kept};
 ghost use Rattle.kc_obj_faults.specs.Records.{kind_of, segment_at, piece_of, taken_at, given_at, run_at, target_of, fixup_at, entry_at};
@@ -12,7 +13,7 @@ ghost use Rattle.kc_obj_faults.specs.Fields.{last_of};
 use kc_base::{NoMemory, Text};
 use kc_obj::pieces::are_kept;
 use kc_obj::{Content, Fixup, Given, Lines, Module, SegKind, Segment, Taken, Target};
-use kc_obj_faults::faults::{Fault, ObjFault, earlier, note};
+use kc_obj_faults::faults::{Fault, ObjCode, ObjFault, earlier, note};
 use kc_obj_faults::fields::{byte, long, name, without, word};
 use kc_obj_faults::fixup_faults::{
     Around, block_fault, entry_fault, fixup_place_fault, target_fault, under_fault,
@@ -376,13 +377,14 @@ impl Reading {
         let unnamed = kind == 0x7F
             && sound
             && !are_kept(&self.publics, self.fixups.as_slice(), &self.segments);
-        self.fault = note(self.fault, unnamed, at, 4);
+        self.fault = note(self.fault, unnamed, at, ObjCode::OtherSpelling);
         self.stage = stage_by(kind);
     }
 
-    pub(crate) fn stop(&self, at: u32, code: u8) -> Fault
-        ensures { result ≡ first_of_both self.now.fault (fault_at at code) }
+    pub(crate) fn stop(&self, at: u32, code: ObjCode) -> Fault
+        ensures { result ≡ first_of_both self.now.fault (fault_at at (code_number code)) }
     {
+        let code = code.number();
         earlier(self.fault, Fault { at, code })
     }
 

@@ -2,7 +2,7 @@ ghost use Rattle.std.specs.Prelude.{◌≡◌, IsTrue, vec_len};
 ghost use Rattle.kc_exec_spec.specs.Window.{is_wsr};
 
 use kc_base::{Kind, NoMemory};
-use kc_bus::{Bus, Masks, Master, is_fixed, is_known, is_outside};
+use kc_bus::{Bus, Masks, Master, known_masks, read_byte, read_word, write_byte, write_word};
 use std::alloc::Global;
 
 /// A bus whose registers below 0018H are bytes that keep what is written.
@@ -43,10 +43,10 @@ impl Board {
 
 impl Bus for Board {
     ghost use Rattle.std.specs.Prelude.{slice_index, length, []};
-    ghost use Rattle.kc_pts_tests.specs.Board.{BoardHeld, held_of, board_meaning, put};
-    ghost use Rattle.kc_pts_tests.specs.BoardLaws.{board_is_lawful};
+    ghost use Rattle.kc_bus.specs.Beside.{Beside, put};
+    ghost use Rattle.kc_pts_tests.specs.Board.{Kept, held_of, board_meaning, board_is_lawful};
 
-    ghost Held = { BoardHeld };
+    ghost Held = { Beside Kept };
 
     ghost held = { held_of };
 
@@ -67,10 +67,8 @@ impl Bus for Board {
     fn read8(&mut self, _by: Master, addr: u16) -> Result<u8, Kind> {
         if addr < 0x18 {
             Ok(self.registers[addr as usize])
-        } else if is_outside(addr) {
-            Err(Kind::OutsideMap)
         } else {
-            Ok(self.bytes[addr as usize])
+            read_byte(self.bytes.as_slice(), addr)
         }
     }
 
@@ -81,44 +79,30 @@ impl Bus for Board {
             let low = self.registers[addr as usize];
             let high = self.registers[addr as usize + 1];
             Ok(u16::from(low) + 256 * u16::from(high))
-        } else if is_outside(addr) {
-            Err(Kind::OutsideMap)
         } else {
-            let low = self.bytes[addr as usize];
-            let high = self.bytes[addr as usize + 1];
-            Ok(u16::from(low) + 256 * u16::from(high))
+            read_word(self.bytes.as_slice(), addr)
         }
     }
 
     fn write8(&mut self, _by: Master, addr: u16, value: u8) -> Result<(), Kind> {
         if addr < 0x18 {
             self.registers[addr as usize] = value;
-        } else if is_outside(addr) {
-            return Err(Kind::OutsideMap);
-        } else if is_fixed(addr) {
-            return Err(Kind::RomWrite);
+            Ok(())
         } else {
-            self.bytes[addr as usize] = value;
+            write_byte(self.bytes.as_mut_slice(), addr, value)
         }
-        Ok(())
     }
 
     fn write16(&mut self, _by: Master, addr: u16, value: u16) -> Result<(), Kind> {
         if addr % 2 == 1 {
-            return Err(Kind::OddWord);
-        }
-        if addr < 0x18 {
+            Err(Kind::OddWord)
+        } else if addr < 0x18 {
             self.registers[addr as usize] = (value % 256) as u8;
             self.registers[addr as usize + 1] = (value / 256) as u8;
-        } else if is_outside(addr) {
-            return Err(Kind::OutsideMap);
-        } else if is_fixed(addr) {
-            return Err(Kind::RomWrite);
+            Ok(())
         } else {
-            self.bytes[addr as usize] = (value % 256) as u8;
-            self.bytes[addr as usize + 1] = (value / 256) as u8;
+            write_word(self.bytes.as_mut_slice(), addr, value)
         }
-        Ok(())
     }
 
     fn glance(&self, addr: u16) -> u8 {
@@ -130,10 +114,7 @@ impl Bus for Board {
     }
 
     fn set_masks(&mut self, masks: Masks) -> Result<(), Kind> {
-        if !is_known(masks.wsr) {
-            return Err(Kind::BadWindow);
-        }
-        self.masks = masks;
+        self.masks = known_masks(masks)?;
         Ok(())
     }
 

@@ -10,7 +10,7 @@ use Rattle.kc_lex.specs.Kinds.{has_label, is_name_kind}
 use Rattle.kc_macro_body.specs.declared.words.Word.{Word}
 use Rattle.kc_macro_body.specs.declared.words.Word.TheVariants as words
 use Rattle.kc_macro_body.specs.declared.macros.Macro.{Macro}
-use Rattle.kc_macro_body.specs.ByName.{ByName}
+use Rattle.kc_base.specs.ByName.{ByName}
 use Rattle.kc_macro_body.specs.Words.{word_of, unlabelled, behind_label}
 use Rattle.kc_macro_body.specs.Arguments.{arguments, definition, over_arguments}
 use Rattle.kc_macro_body.specs.Bodies.{declares, depth_after, plain_lines, macro_of, only}

@@ -1,20 +1,16 @@
 -- How a trace is spelled, a line a record (this kit's own).
-use Rattle.std.specs.Prelude.{ℕ, zero, suc, ◌/◌, ◌%◌, List, [], ◌∷◌, ◌++◌, codes, decimal, flat_map}
+use Rattle.std.specs.Prelude.{ℕ, zero, suc, List, [], ◌∷◌, ◌++◌, codes, decimal, flat_map}
 use Rattle.kc_base.specs.declared.types.Kind.{Kind}
 use Rattle.kc_base.specs.declared.types.Kind.TheVariants as kind
 use Rattle.kc_base.specs.declared.types.Level.{Level}
 use Rattle.kc_base.specs.declared.types.Level.TheVariants.{Low, High}
 use Rattle.kc_base.specs.declared.types.PtsMode.{PtsMode}
 use Rattle.kc_base.specs.declared.types.PtsMode.TheVariants as mode
-use Rattle.kc_base.specs.Digits.{hex_digit}
 use Rattle.kc_base.specs.Pins.{pin_name}
 use Rattle.kc_trace.specs.declared.record.Record.{Record}
 use Rattle.kc_trace.specs.declared.record.Record.TheVariants.{Pin, Entered, Served, Undef, Stopped, Pc, Psw, Wsr, Registers}
-
 -- a number as so many hex digits
-abbrev pub hex : ℕ → ℕ → List ℕ
-hex zero n = []
-hex (suc digits) n = hex digits (n / 16) ++ hex_digit (n % 16) ∷ []
+pub use Rattle.kc_base.specs.Digits.{hex}
 
 -- the number of an undefined use
 abbrev pub kind_number : Kind → ℕ

@@ -6,7 +6,7 @@ use Rattle.kc_trace.specs.declared.record.Record.{Record}
 use Rattle.kc_trace.specs.Text.{fields_of}
 use Rattle.kc_vcd.specs.History.{time_after, IsSound, IsHistory}
 use Rattle.kc_vcd.specs.Reading.{IsFirstWrong}
-use Rattle.kc_vcd.proofs.Words.{no_lines}
+use Rattle.kc_base.proofs.Words.{no_lines}
 use Rattle.kc_vcd.proofs.Spelled.{same_line}
 
 -- the time after the last of some records

@@ -1,39 +1,9 @@
--- Pins by their names.
-use Rattle.std.proofs.Common.{◌≡◌, ℕ, zero, suc, ◌+◌, ◌<◌, Bool, true, false, eqb, ◌&&◌, Option, List, [], ◌∷◌, length, get_or, refl, ◌∙◌, ap, arith, add-zero, zero-add, Some, None, inl, inr}
-use Rattle.std.specs.List.{position_from}
-use Rattle.std.specs.Str.{bytes_eq}
+-- Pins by their names, by trying all.
+use Rattle.std.proofs.Common.{◌≡◌, ℕ, zero, suc, ◌<◌, Bool, true, false, eqb, ◌&&◌, Option, refl, ◌∙◌, ap, arith, Some, None, inl, inr}
 use Rattle.std.proofs.lemmas.Bool.{and_parts, eqb-true, cases_lt}
-use Rattle.kc_base.specs.Pins.{pin_names, pin_name, pin_count}
-use Rattle.kc_vcd.specs.Candidates.{pin_of}
-use Rattle.kc_vcd.proofs.Words.{Word, is_word, word-from}
-
--- the first element that passes
-first_at : {X : Type 0} (p : X → Bool) (i : ℕ) (xs : List X) (n : ℕ) (d : X) → n < length xs → ((k : ℕ) → k < n → p (get_or xs k d) ≡ false) →
-    p (get_or xs n d) ≡ true → position_from p i xs ≡ Some (i + n)
-first_at p i [] n d lt none is = absurd (omega arith)
-first_at p i (x ∷ xs) zero d lt none is = rw (is, add-zero) refl
-first_at p i (x ∷ xs) (suc n) d lt none is =
-    let head : p x ≡ false = none 0 (omega arith) in
-    let place : i + 1 + n ≡ i + suc n = omega arith in
-    rw head (first_at p (i + 1) xs n d (omega arith) (λ k less. none (suc k) (omega arith)) is ∙ ap (λ k. Some k) place)
-
-none_at : {X : Type 0} (p : X → Bool) (i : ℕ) (xs : List X) (d : X) → ((k : ℕ) → k < length xs → p (get_or xs k d) ≡ false) → position_from p i xs ≡ None
-none_at p i [] d none = refl
-none_at p i (x ∷ xs) d none =
-    let head : p x ≡ false = none 0 (omega arith) in
-    rw head (none_at p (i + 1) xs d (λ k less. none (suc k) (omega arith)))
-
--- the pin of the first name that is the text
-pub pin_found : (text : List ℕ) (n : ℕ) → n < pin_count → ((k : ℕ) → k < n → bytes_eq (get_or pin_names k []) text ≡ false) →
-    bytes_eq (get_or pin_names n []) text ≡ true → pin_of text ≡ Some n
-unfolding pin_of
-pin_found text n lt none is = first_at (λ name. bytes_eq name text) 0 pin_names n [] lt none is ∙ ap (λ k. Some k) (zero-add n)
-
-pub pin_none : (text : List ℕ) → ((k : ℕ) → k < pin_count → bytes_eq (get_or pin_names k []) text ≡ false) → pin_of text ≡ None
-unfolding pin_of
-pin_none text none = none_at (λ name. bytes_eq name text) 0 pin_names [] none
-
--- ---- what holds of each pin, by trying all
+use Rattle.kc_base.specs.Fields.{pin_of}
+use Rattle.kc_base.specs.Pins.{pin_name, pin_count}
+use Rattle.kc_base.proofs.Words.{Word, is_word, word-from}
 
 abbrev pub all_below : (ℕ → Bool) → ℕ → Bool
 all_below test zero = true

@@ -12,14 +12,16 @@ use Rattle.kc_base.specs.declared.types.Level.TheVariants.{Low, High}
 use Rattle.kc_base.specs.declared.types.PtsMode.{PtsMode}
 use Rattle.kc_base.specs.declared.types.PtsMode.TheVariants as mode
 use Rattle.kc_base.specs.declared.types.Undefined.{Undefined}
+use Rattle.kc_base.specs.Fields.{pin_of, word_of}
 use Rattle.kc_base.specs.Pins.{pin_name}
 use Rattle.kc_trace.specs.declared.record.Record.{Record}
 use Rattle.kc_trace.specs.declared.record.Record.TheVariants.{Pin, Entered, Served, Undef, Stopped, Pc, Psw, Wsr, Registers}
 use Rattle.kc_trace.specs.Text.{hex, kind_number, level_digit, mode_name, end_name, fields_of}
 use Rattle.kc_vcd.specs.History.{IsSound}
-use Rattle.kc_vcd.specs.Candidates.{time_of, byte_number, pin_of, level_of, mode_of, end_of, kind_of, word_of, base_of, first_of, rest_of, pin_with, pin_record, entered_with, entered_record, served_with, served_record, undefined_with, undefined_record, stopped_with, stopped_record, registers_in, registers_record, candidate_of}
-use Rattle.kc_vcd.proofs.Words.{Word, Plain, word-from, word-first, word-rest, plain-word, plain-more}
-use Rattle.kc_vcd.proofs.Numbers.{word-decimal, number-read, word-hex, word-bytes, word-read, byte-read, base-read, bytes-read}
+use Rattle.kc_vcd.specs.Candidates.{time_of, byte_number, level_of, mode_of, end_of, kind_of, base_of, first_of, rest_of, pin_with, pin_record, entered_with, entered_record, served_with, served_record, undefined_with, undefined_record, stopped_with, stopped_record, registers_in, registers_record, candidate_of}
+use Rattle.kc_base.proofs.Words.{Word, Plain, word-from, word-before, word-after, plain-word, plain-more}
+use Rattle.kc_base.proofs.Numbers.{word-decimal, number-read, word-hex, word-bytes, word-read, byte-read}
+use Rattle.kc_vcd.proofs.Numbers.{base-read, bytes-read}
 use Rattle.kc_vcd.proofs.Pins.{pin-read, pin-word}
 
 -- ---- words
@@ -111,10 +113,10 @@ time-word : (at : ℕ) → at ≤ 10 ^ 15 → Word (decimal at)
 time-word at h = word-decimal at (omega arith)
 
 time-read : (at : ℕ) (rest : List ℕ) → at ≤ 10 ^ 15 → time_of (first_of (decimal at ++ 32 ∷ rest)) ≡ Some at
-time-read at rest h = ap time_of (word-first (decimal at) rest (time-word at h)) ∙ number-read (10 ^ 15) at h (omega arith)
+time-read at rest h = ap time_of (word-before (decimal at) rest (time-word at h)) ∙ number-read (10 ^ 15) at h (omega arith)
 
 behind-time : (at : ℕ) (rest : List ℕ) → at ≤ 10 ^ 15 → rest_of (decimal at ++ 32 ∷ rest) ≡ rest
-behind-time at rest h = word-rest (decimal at) rest (time-word at h)
+behind-time at rest h = word-after (decimal at) rest (time-word at h)
 
 byte-word : (n : ℕ) → n < 256 → Word (decimal n)
 byte-word n h = word-decimal n (omega arith)
@@ -128,8 +130,8 @@ pin-line at edge is early =
     let behind = behind-time at rest early in
     let name = pin-word edge.pin.0 is in
     let time = time-read at rest early in
-    let pin = ap pin_of (ap first_of behind ∙ word-first (pin_name edge.pin.0) (level_digit edge.level ∷ []) name) ∙ pin-read edge.pin.0 is in
-    let level = ap level_of (ap rest_of behind ∙ word-rest (pin_name edge.pin.0) (level_digit edge.level ∷ []) name) ∙ level-read edge.level in
+    let pin = ap pin_of (ap first_of behind ∙ word-before (pin_name edge.pin.0) (level_digit edge.level ∷ []) name) ∙ pin-read edge.pin.0 is in
+    let level = ap level_of (ap rest_of behind ∙ word-after (pin_name edge.pin.0) (level_digit edge.level ∷ []) name) ∙ level-read edge.level in
     λ i. pin_with (time i) (pin i) (level i)
 
 entered-line : (at vector back : ℕ) → at ≤ 10 ^ 15 → vector < 256 → back < 65536 → entered_record (decimal at ++ 32 ∷ (decimal vector ++ 32 ∷ hex 4 back)) ≡ Some (Entered at vector back)
@@ -138,8 +140,8 @@ entered-line at vector back early few small =
     let behind = behind-time at rest early in
     let w = byte-word vector few in
     let time = time-read at rest early in
-    let number = ap byte_number (ap first_of behind ∙ word-first (decimal vector) (hex 4 back) w) ∙ number-byte vector few in
-    let address = ap word_of (ap rest_of behind ∙ word-rest (decimal vector) (hex 4 back) w) ∙ word-read back small in
+    let number = ap byte_number (ap first_of behind ∙ word-before (decimal vector) (hex 4 back) w) ∙ number-byte vector few in
+    let address = ap word_of (ap rest_of behind ∙ word-after (decimal vector) (hex 4 back) w) ∙ word-read back small in
     λ i. entered_with (time i) (number i) (address i)
 
 served-line : (at vector : ℕ) (m : PtsMode) (count : ℕ) → at ≤ 10 ^ 15 → vector < 256 → count < 256 →
@@ -150,10 +152,10 @@ served-line at vector m count early few least =
     let behind = behind-time at rest early in
     let w = byte-word vector few in
     let time = time-read at rest early in
-    let number = ap byte_number (ap first_of behind ∙ word-first (decimal vector) last w) ∙ number-byte vector few in
-    let third = ap rest_of behind ∙ word-rest (decimal vector) last w in
-    let how = ap mode_of (ap first_of third ∙ word-first (mode_name m) (decimal count) (mode-word m)) ∙ mode-read m in
-    let left = ap byte_number (ap rest_of third ∙ word-rest (mode_name m) (decimal count) (mode-word m)) ∙ number-byte count least in
+    let number = ap byte_number (ap first_of behind ∙ word-before (decimal vector) last w) ∙ number-byte vector few in
+    let third = ap rest_of behind ∙ word-after (decimal vector) last w in
+    let how = ap mode_of (ap first_of third ∙ word-before (mode_name m) (decimal count) (mode-word m)) ∙ mode-read m in
+    let left = ap byte_number (ap rest_of third ∙ word-after (mode_name m) (decimal count) (mode-word m)) ∙ number-byte count least in
     λ i. served_with (time i) (number i) (how i) (left i)
 
 undefined-line : (what : Undefined) → what.at ≤ 10 ^ 15 → what.addr < 65536 →
@@ -164,8 +166,8 @@ undefined-line what early small =
     let behind = behind-time what.at rest early in
     let w = byte-word (kind_number what.kind) few in
     let time = time-read what.at rest early in
-    let number = ap byte_number (ap first_of behind ∙ word-first (decimal (kind_number what.kind)) (hex 4 what.addr) w) ∙ number-byte (kind_number what.kind) few in
-    let address = ap word_of (ap rest_of behind ∙ word-rest (decimal (kind_number what.kind)) (hex 4 what.addr) w) ∙ word-read what.addr small in
+    let number = ap byte_number (ap first_of behind ∙ word-before (decimal (kind_number what.kind)) (hex 4 what.addr) w) ∙ number-byte (kind_number what.kind) few in
+    let address = ap word_of (ap rest_of behind ∙ word-after (decimal (kind_number what.kind)) (hex 4 what.addr) w) ∙ word-read what.addr small in
     let all : undefined_record (decimal what.at ++ 32 ∷ rest) ≡ Some (Undef (record { kind = kind_of (kind_number what.kind); at = what.at; addr = what.addr })) =
     λ i. undefined_with (time i) (number i) (address i) in
     all ∙ ap (λ (k : Kind). Some (Undef (record { kind = k; at = what.at; addr = what.addr }))) (kind-read what.kind)
@@ -179,8 +181,8 @@ stopped-line at how early few =
 registers-line : (base : ℕ) (bytes : List ℕ) → base < 0x1000 → decode_sized (flat_map (hex 2) bytes) 32 ≡ Ok bytes →
     registers_record (hex 3 base ++ 32 ∷ flat_map (hex 2) bytes) ≡ Some (Registers base bytes)
 registers-line base bytes small decoded =
-    let first = ap base_of (word-first (hex 3 base) (flat_map (hex 2) bytes) (word-hex 3 base)) ∙ base-read base small in
-    let second = ap (λ t. decode_sized t 32) (word-rest (hex 3 base) (flat_map (hex 2) bytes) (word-hex 3 base)) ∙ decoded in
+    let first = ap base_of (word-before (hex 3 base) (flat_map (hex 2) bytes) (word-hex 3 base)) ∙ base-read base small in
+    let second = ap (λ t. decode_sized t 32) (word-after (hex 3 base) (flat_map (hex 2) bytes) (word-hex 3 base)) ∙ decoded in
     λ i. registers_in (first i) (second i)
 
 -- ---- the record of a line

@@ -17,8 +17,8 @@ use Rattle.kc_vcd.specs.Levels.{start_level, moved_by, level_after}
 use Rattle.kc_vcd.specs.Dump.{pin_code, pin_declarations, start_lines, change_of, stamp, changes, front}
 use Rattle.kc_vcd.specs.Reader.{code_of, reached_by, digit_level, changed_by, level_told, told_with}
 use Rattle.kc_vcd.specs.Laws.{TracesAreRead, DumpsTellLevels}
-use Rattle.kc_vcd.proofs.Words.{plain_line, plain-word, no_lines}
-use Rattle.kc_vcd.proofs.Numbers.{word-decimal, value-decimal}
+use Rattle.kc_base.proofs.Words.{plain_line, plain-word, no_lines}
+use Rattle.kc_base.proofs.Numbers.{word-decimal, value-decimal}
 use Rattle.kc_vcd.proofs.Pins.{each_below, is_number, number_is}
 use Rattle.kc_vcd.proofs.Spelled.{plain}
 use Rattle.kc_vcd.proofs.Histories.{history-head, history-tail}

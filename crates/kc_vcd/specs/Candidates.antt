@@ -1,8 +1,7 @@
 -- Which record a line can be at all: if it is the line of a record, then of this one. Whether it is, spelling the record tells.
-use Rattle.std.specs.Prelude.{ℕ, ◌+◌, ◌*◌, ◌^◌, ◌==◌, nat_lt, if◌then◌else◌, Option, Some, None, Result, Ok, Err, List, [], ◌∷◌, slice_index}
-use Rattle.std.specs.List.{before_first, after_first, position_from}
+use Rattle.std.specs.Prelude.{ℕ, ◌^◌, ◌==◌, nat_lt, if◌then◌else◌, Option, Some, None, Result, Ok, Err, List, [], ◌∷◌}
+use Rattle.std.specs.List.{before_first, after_first}
 use Rattle.std.specs.Option.{option_map}
-use Rattle.std.specs.Str.{bytes_eq}
 use Rattle.hex.specs.declared.error.FromHexError.{FromHexError}
 use Rattle.hex.specs.Hex.{decode_sized}
 use Rattle.kc_base.specs.declared.types.Kind.{Kind}
@@ -11,8 +10,7 @@ use Rattle.kc_base.specs.declared.types.Level.{Level}
 use Rattle.kc_base.specs.declared.types.Level.TheVariants.{Low, High}
 use Rattle.kc_base.specs.declared.types.PtsMode.{PtsMode}
 use Rattle.kc_base.specs.declared.types.PtsMode.TheVariants as mode
-use Rattle.kc_base.specs.Fields.{is_space, decimal_of}
-use Rattle.kc_base.specs.Pins.{pin_names}
+use Rattle.kc_base.specs.Fields.{is_space, decimal_of, word_of, byte_of, pin_of}
 use Rattle.kc_trace.specs.declared.record.Record.{Record}
 use Rattle.kc_trace.specs.declared.record.Record.TheVariants.{Pin, Entered, Served, Undef, Stopped, Pc, Psw, Wsr, Registers}
 
@@ -23,9 +21,6 @@ time_of text = decimal_of (10 ^ 15) text
 
 abbrev pub byte_number : List ℕ → Option ℕ
 byte_number text = decimal_of 255 text
-
-unfoldable pub pin_of : List ℕ → Option ℕ
-pin_of text = position_from (λ name. bytes_eq name text) 0 pin_names
 
 abbrev pub level_of : List ℕ → Level
 level_of [] = Low
@@ -57,20 +52,6 @@ kind_of n =
     else if n == 12 then kind.OutsideMap
     else if n == 13 then kind.ByteAccess
     else kind.IdleKey
-
-abbrev pub word_in : Result (List ℕ) FromHexError → Option ℕ
-word_in (Ok bytes) = Some (256 * slice_index bytes 0 + slice_index bytes 1)
-word_in (Err fault) = None
-
-abbrev pub word_of : List ℕ → Option ℕ
-word_of text = word_in (decode_sized text 2)
-
-abbrev pub byte_in : Result (List ℕ) FromHexError → Option ℕ
-byte_in (Ok bytes) = Some (slice_index bytes 0)
-byte_in (Err fault) = None
-
-abbrev pub byte_of : List ℕ → Option ℕ
-byte_of text = byte_in (decode_sized text 1)
 
 abbrev pub small : Option ℕ → Option ℕ
 small None = None

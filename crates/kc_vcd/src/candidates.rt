@@ -7,8 +7,8 @@ ghost use Rattle.kc_trace.specs.Text.{fields_of};
 ghost use Rattle.kc_vcd.specs.Candidates.{candidate_of, worded as with_word, letter_record as with_letter, pin_record as pin_item, entered_record as entered_item, served_record as served_item, undefined_record as undefined_item, stopped_record as stopped_item, registers_record as registers_item};
 ghost use Rattle.kc_vcd.specs.History.{IsSound};
 
-use crate::fields::{base, byte, end, kind, level, mode, number, pin, time, word};
-use kc_base::{Edge, Pin, Undefined, front, split_at_space};
+use crate::fields::{base, end, kind, level, mode, number, time};
+use kc_base::{Edge, Pin, Undefined, front, hex_byte, hex_word, pin_number, split_at_space};
 use kc_trace::{Record, line as line_of};
 
 fn pin_record(text: &[u8]) -> Option<Record>
@@ -18,7 +18,7 @@ fn pin_record(text: &[u8]) -> Option<Record>
     let (first, rest) = split_at_space(text);
     let (second, third) = split_at_space(rest);
     let at = time(first)?;
-    let pin = Pin(pin(second)?);
+    let pin = Pin(pin_number(second)?);
     let level = level(third);
     Some(Record::Pin {
         at,
@@ -34,7 +34,7 @@ fn entered_record(text: &[u8]) -> Option<Record>
     let (second, third) = split_at_space(rest);
     let at = time(first)?;
     let vector = number(second)?;
-    let back = word(third)?;
+    let back = hex_word(third)?;
     Some(Record::Entered { at, vector, back })
 }
 
@@ -65,7 +65,7 @@ fn undefined_record(text: &[u8]) -> Option<Record>
     let (second, third) = split_at_space(rest);
     let at = time(first)?;
     let kind = kind(number(second)?);
-    let addr = word(third)?;
+    let addr = hex_word(third)?;
     Some(Record::Undef(Undefined { kind, at, addr }))
 }
 
@@ -121,9 +121,9 @@ fn worded(first: &[u8], rest: &[u8]) -> Option<Record>
 {
     match first {
         [letter] => letter_record(*letter, rest),
-        [_, _] => Some(Record::Pc(word(rest)?)),
-        [b'P', _, _] => Some(Record::Psw(word(rest)?)),
-        [_, _, _] => Some(wsr(byte(rest)?)),
+        [_, _] => Some(Record::Pc(hex_word(rest)?)),
+        [b'P', _, _] => Some(Record::Psw(hex_word(rest)?)),
+        [_, _, _] => Some(wsr(hex_byte(rest)?)),
         _ => None,
     }
 }

@@ -1,9 +1,8 @@
 // The fields of a line, as far as they can be those of a record.
-ghost use Rattle.std.specs.Prelude.{◌≡◌, ◌<◌, ◌≤◌, ◌+◌, ◌*◌, ◌^◌, IfSome};
-ghost use Rattle.kc_base.specs.Pins.{IsPin};
-ghost use Rattle.kc_vcd.specs.Candidates.{time_of, byte_number, pin_of, level_of, mode_of, end_of, kind_of, word_of, byte_of, small as below_1000, base_of};
+ghost use Rattle.std.specs.Prelude.{◌≡◌, ◌<◌, ◌≤◌, ◌^◌, IfSome};
+ghost use Rattle.kc_vcd.specs.Candidates.{time_of, byte_number, level_of, mode_of, end_of, kind_of, small as below_1000, base_of};
 
-use kc_base::{Kind, Level, PIN_COUNT, Pin, PtsMode, StateTime, decimal};
+use kc_base::{Kind, Level, PtsMode, StateTime, decimal, hex_word};
 
 /// The greatest state time of a run.
 const TIME_LIMIT: u64 = 1_000_000_000_000_000;
@@ -25,19 +24,6 @@ pub(crate) fn number(text: &[u8]) -> Option<u8>
         Some(value) => Some(value as u8),
         None => None,
     }
-}
-
-/// The pin of a name.
-pub(crate) fn pin(text: &[u8]) -> Option<u8>
-    ensures value { result ≡ pin_of text.now }
-    ensures named { IfSome result IsPin }
-{
-    for number in 0..PIN_COUNT {
-        if Pin(number).name().as_bytes() == text {
-            return Some(number);
-        }
-    }
-    None
 }
 
 pub(crate) fn level(text: &[u8]) -> Level
@@ -94,35 +80,6 @@ pub(crate) fn kind(number: u8) -> Kind
     }
 }
 
-fn join(high: u8, low: u8) -> u16
-    ensures { result ≡ 256 * high + low }
-{
-    256 * u16::from(high) + u16::from(low)
-}
-
-/// A number of sixteen bits: four hex digits.
-pub(crate) fn word(text: &[u8]) -> Option<u16>
-    ensures value { result ≡ word_of text.now }
-    ensures bounded { IfSome result (λ n. n < 65536) }
-{
-    let mut bytes = [0u8; 2];
-    match hex::decode_to_slice(text, &mut bytes) {
-        Ok(()) => Some(join(bytes[0], bytes[1])),
-        Err(_) => None,
-    }
-}
-
-/// A number of eight bits: two hex digits.
-pub(crate) fn byte(text: &[u8]) -> Option<u8>
-    ensures { result ≡ byte_of text.now }
-{
-    let mut bytes = [0u8; 1];
-    match hex::decode_to_slice(text, &mut bytes) {
-        Ok(()) => Some(bytes[0]),
-        Err(_) => None,
-    }
-}
-
 // What has three hex digits.
 fn small(value: Option<u16>) -> Option<u16>
     ensures value { result ≡ below_1000 value }
@@ -140,7 +97,7 @@ pub(crate) fn base(text: &[u8]) -> Option<u16>
     ensures bounded { IfSome result (λ n. n < 0x1000) }
 {
     match text {
-        [a, b, c] => small(word(&[b'0', *a, *b, *c])),
+        [a, b, c] => small(hex_word(&[b'0', *a, *b, *c])),
         _ => None,
     }
 }

@@ -1,6 +1,7 @@
 use Rattle.std.proofs.Common.{◌≤◌, inr, length, arith, Ok, Err}
 use Rattle.kc_source.specs.Faults.{AreStatements}
 use Rattle.kc_asm.specs.Assembled.{AreSaid, IsMade}
+use Rattle.kc_asm.proofs.Characters.{has_characters}
 use Rattle.kc_asm.proofs.Counts.{line_count, stmt_count}
 use Rattle.kc_asm.proofs.assembling.assemble.Goals as goal
 
@@ -18,7 +19,9 @@ returns-in-Ok-Ok c =
     let statements : AreStatements c.in_ok-stmts.stmts.items c.in_ok-text.text.items = rw c.deref.ensures.value at c.in_ok-stmts.ensures in
     let said : AreSaid c.args.source.now c.in_ok-stmts.stmts.items = (c.in_ok-text.text.items, (c.in_ok-lines.lines.items, c.in_ok-lines.ensures, c.in_ok-text.ensures.lines), statements) in
     let made : IsMade c.in_ok-stmts.stmts.items (Ok c.in-Ok-Ok.module) = rw (c.deref-2.ensures.value, c.in-Ok-Ok.field-0-is) at c.in-Ok-Ok.ensures in
-    record { stmts = c.in_ok-stmts.stmts.items; said = said; characters = made.0; sound = made.2; draft = made.1; drafted = made.3; few = made.4; made = made.5 }
+    let characters = has_characters c.args.source.now c.in_ok-stmts.stmts.items
+    (c.statements_are_of_the_text.ensures c.args.source.now c.in_ok-lines.lines.items c.in_ok-text.text.items c.in_ok-stmts.stmts.items c.in_ok-lines.ensures c.in_ok-text.ensures.lines statements) in
+    record { stmts = c.in_ok-stmts.stmts.items; said = said; characters = characters; sound = made.1; draft = made.0; drafted = made.2; few = made.3; made = made.4 }
 
 pub returns-in-Ok-Err : goal.returns-in-Ok-Err
 returns-in-Ok-Err c =

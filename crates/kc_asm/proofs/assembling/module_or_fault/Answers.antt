@@ -24,4 +24,4 @@ returns c =
     let told : option_map pair c.in_ok-fault.field-0 ≡ first_fault c.args.stmts.now = c.in_ok-fault.ensures in
     let sound : first_fault c.args.stmts.now ≡ None = sym told ∙ ap (option_map pair) c.in_default.is in
     let few : length (pieces_in c.in_ok-draft.draft) ≤ 65536 = omega (arith, c.piece_count.ensures, c.if-piece_count-gt-MOST_PIECES.false) in
-    (c.characters_are_bytes.ensures, c.in_ok-draft.draft, sound, c.in_ok-draft.ensures, few, c.in_ok-module_of.ensures)
+    (c.in_ok-draft.draft, sound, c.in_ok-draft.ensures, few, c.in_ok-module_of.ensures)

@@ -1,6 +1,6 @@
 use Rattle.std.proofs.Common.{◌≡◌, None, rules}
+use Rattle.kc_base.proofs.NameLemmas.{noted}
 use Rattle.kc_lib.specs.Givers.{found_in}
-use Rattle.kc_lib.proofs.GiverLemmas.{noted}
 use Rattle.kc_lib.proofs.givers.Givers.note.Goals as goal
 
 pub returns-in_ok-insert : goal.returns-in_ok-insert

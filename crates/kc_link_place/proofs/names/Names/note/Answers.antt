@@ -1,6 +1,6 @@
 use Rattle.std.proofs.Common.{◌≡◌, None, rules}
+use Rattle.kc_base.proofs.NameLemmas.{noted}
 use Rattle.kc_link_place.specs.Names.{found_in}
-use Rattle.kc_link_place.proofs.NameLemmas.{noted}
 use Rattle.kc_link_place.proofs.names.Names.note.Goals as goal
 
 pub returns-in_ok-insert : goal.returns-in_ok-insert

@@ -1,6 +1,6 @@
 use Rattle.std.proofs.Common.{sym, ap, ◌∙◌}
 use Rattle.std.specs.FinMap.{get}
-use Rattle.kc_macro_body.proofs.NameLemmas.{get_named}
+use Rattle.kc_base.proofs.NameLemmas.{get_named}
 use Rattle.kc_macro_body.proofs.macros.Macros.look.Goals as goal
 
 pub returns : goal.returns

@@ -1,6 +1,6 @@
 use Rattle.std.proofs.Common.{ap, ◌∙◌}
 use Rattle.std.specs.FinMap.{insert}
-use Rattle.kc_macro_body.proofs.NameLemmas.{one_set}
+use Rattle.kc_base.proofs.NameLemmas.{one_set}
 use Rattle.kc_macro_body.proofs.macros.Places.set.Goals as goal
 
 pub returns : goal.returns

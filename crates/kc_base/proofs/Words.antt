@@ -1,11 +1,10 @@
 -- Words between spaces, and lines.
 use Rattle.std.proofs.Common.{◌≡◌, ℕ, ◌+◌, ◌<◌, Bool, true, false, ◌&&◌, eqb, ltb, List, [], ◌∷◌, ◌++◌, length, take, drop, refl, ap, ◌∙◌, arith}
-use Rattle.std.specs.List.{position_or_len}
+use Rattle.std.specs.List.{position_or_len, before_first, after_first}
 use Rattle.std.proofs.lemmas.Bool.{ne_eqb, and_parts, ltb-true}
 use Rattle.std.proofs.Math.Seq.{take-append_seam, drop-append-add}
 use Rattle.kc_base.specs.TextLines.{text_lines}
 use Rattle.kc_base.specs.Fields.{is_space}
-use Rattle.kc_vcd.specs.Candidates.{first_of, rest_of}
 
 -- ---- words: characters above the space
 
@@ -35,11 +34,11 @@ word-end (c ∷ w) rest h =
     let other : eqb c 32 ≡ false = ne_eqb c 32 (λ e. let more : 32 < c = h.0 in omega arith) in
     rw (other, word-end w rest h.1) (omega arith)
 
-pub word-first : (w rest : List ℕ) → Word w → first_of (w ++ 32 ∷ rest) ≡ w
-word-first w rest h = ap (λ n. take n (w ++ 32 ∷ rest)) (word-end w rest h) ∙ take-append_seam w (32 ∷ rest)
+pub word-before : (w rest : List ℕ) → Word w → before_first is_space (w ++ 32 ∷ rest) ≡ w
+word-before w rest h = ap (λ n. take n (w ++ 32 ∷ rest)) (word-end w rest h) ∙ take-append_seam w (32 ∷ rest)
 
-pub word-rest : (w rest : List ℕ) → Word w → rest_of (w ++ 32 ∷ rest) ≡ rest
-word-rest w rest h = ap (λ n. drop (n + 1) (w ++ 32 ∷ rest)) (word-end w rest h) ∙ drop-append-add w (32 ∷ rest) 1
+pub word-after : (w rest : List ℕ) → Word w → after_first is_space (w ++ 32 ∷ rest) ≡ rest
+word-after w rest h = ap (λ n. drop (n + 1) (w ++ 32 ∷ rest)) (word-end w rest h) ∙ drop-append-add w (32 ∷ rest) 1
 
 -- ---- lines: characters above the ends of lines
 
