@@ -1,0 +1,4 @@
+pub mod Spotted
+pub mod Going
+pub mod Numbers
+pub mod Tallies

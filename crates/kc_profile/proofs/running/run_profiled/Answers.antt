@@ -1,0 +1,102 @@
+use Rattle.std.proofs.Common.{inl, sym, ap, ◌∙◌}
+use Rattle.std.specs.Option.{unwrap_or}
+use Rattle.kc_machine_spec.specs.declared.doing.End.TheVariants as end
+use Rattle.kc_machine_spec.specs.Run.{end_of}
+use Rattle.kc_machine_spec.proofs.Coming.{Came-lines, Came-machine, Came-cut}
+use Rattle.kc_profile.proofs.Going.{along-first, along-next, fails-later, spots-done, over-same, over-goes, always-failed}
+use Rattle.kc_profile.proofs.running.run_profiled.Goals as goal
+
+pub loop-machine-init : goal.loop-machine-init
+loop-machine-init g c = record {
+  along = along-first g.X.Extra.further _ _ _ _ _ _;
+  unbroken = c.requires.unbroken;
+}
+
+pub loop-machine-preserved : goal.loop-machine-preserved
+loop-machine-preserved g c = record {
+  along = along-next g.X.Extra.further _ _ _ _ _ _ _ _ _ _ _ _ _ _ _ _ c.loop-machine.invariant.along c.count.ensures.passed c.count.ensures.spent c.count.ensures.moves c.count.ensures.profile c.count.ensures.total;
+  unbroken = c.in_ok-count.ensures.written;
+}
+
+-- ---- the machine has ended
+
+pub returns-in-Some-clause-end : goal.returns-in-Some-clause-end
+returns-in-Some-clause-end g c =
+    let f = g.X.Extra.further in
+    let i = c.loop-machine.invariant in
+    let over = sym c.ended.ensures ∙ c.in-Some.is in
+    let same = over-same f _ _ _ _ _ _ _ _ _ _ _ c.in-Some.end i.along over in
+    sym (ap (λ o. unwrap_or o end.Spent) over) ∙ ap end_of (Came-machine f _ _ _ _ c.args.until i.along.came same)
+
+pub returns-in-Some-clause-machine : goal.returns-in-Some-clause-machine
+returns-in-Some-clause-machine g c =
+    let f = g.X.Extra.further in
+    let i = c.loop-machine.invariant in
+    let over = sym c.ended.ensures ∙ c.in-Some.is in
+    Came-machine f _ _ _ _ c.args.until i.along.came (over-same f _ _ _ _ _ _ _ _ _ _ _ c.in-Some.end i.along over)
+
+pub returns-in-Some-clause-lines : goal.returns-in-Some-clause-lines
+returns-in-Some-clause-lines g c =
+    let f = g.X.Extra.further in
+    let i = c.loop-machine.invariant in
+    let over = sym c.ended.ensures ∙ c.in-Some.is in
+    (Came-lines f _ _ _ _ c.args.until i.along.came (over-same f _ _ _ _ _ _ _ _ _ _ _ c.in-Some.end i.along over)).text
+
+pub returns-in-Some-clause-counts : goal.returns-in-Some-clause-counts
+returns-in-Some-clause-counts g c =
+    let f = g.X.Extra.further in
+    let i = c.loop-machine.invariant in
+    let over = sym c.ended.ensures ∙ c.in-Some.is in
+    (Came-lines f _ _ _ _ c.args.until i.along.came (over-same f _ _ _ _ _ _ _ _ _ _ _ c.in-Some.end i.along over)).counts i.unbroken
+
+pub returns-in-Some-clause-goes : goal.returns-in-Some-clause-goes
+returns-in-Some-clause-goes g c = λ lives ahead.
+    let f = g.X.Extra.further in
+    let i = c.loop-machine.invariant in
+    let over = sym c.ended.ensures ∙ c.in-Some.is in
+    over-goes f _ _ _ _ _ _ _ _ _ _ _ c.in-Some.end i.along over lives
+
+pub returns-in-Some-clause-all : goal.returns-in-Some-clause-all
+returns-in-Some-clause-all g c =
+    let f = g.X.Extra.further in
+    let i = c.loop-machine.invariant in
+    let over = sym c.ended.ensures ∙ c.in-Some.is in
+    spots-done f c.args.until _ _ _ _ i.along.came i.along.within (inl (c.in-Some.end, over))
+
+-- ---- the sink has failed
+
+pub returns-in_err-count-clause-lines : goal.returns-in_err-count-clause-lines
+returns-in_err-count-clause-lines g c =
+    let f = g.X.Extra.further in
+    let went = c.count.ensures in
+    let next = along-next f _ _ _ _ _ _ _ _ _ _ _ _ _ _ _ _ c.loop-machine.invariant.along went.passed went.spent went.moves went.profile went.total in
+    (Came-cut f _ _ _ _ c.args.until next.came went.passed.within c.in_err-count.ensures.fails.failed).text
+
+pub returns-in_err-count-clause-fails : goal.returns-in_err-count-clause-fails
+returns-in_err-count-clause-fails g c =
+    always-failed _ (fails-later g.X.Extra.further c.args.until _ _ _ _ _ _ c.loop-machine.invariant.along.came c.in_err-count.ensures.fails)
+
+pub returns-in_err-count-clause-stands : goal.returns-in_err-count-clause-stands
+returns-in_err-count-clause-stands g c =
+    let went = c.count.ensures in
+    (along-next g.X.Extra.further _ _ _ _ _ _ _ _ _ _ _ _ _ _ _ _ c.loop-machine.invariant.along went.passed went.spent went.moves went.profile went.total).came.machine
+
+pub returns-in_err-count-clause-spent : goal.returns-in_err-count-clause-spent
+returns-in_err-count-clause-spent g c =
+    let went = c.count.ensures in
+    (along-next g.X.Extra.further _ _ _ _ _ _ _ _ _ _ _ _ _ _ _ _ c.loop-machine.invariant.along went.passed went.spent went.moves went.profile went.total).steps
+
+pub returns-in_err-count-clause-moves : goal.returns-in_err-count-clause-moves
+returns-in_err-count-clause-moves g c =
+    let went = c.count.ensures in
+    (along-next g.X.Extra.further _ _ _ _ _ _ _ _ _ _ _ _ _ _ _ _ c.loop-machine.invariant.along went.passed went.spent went.moves went.profile went.total).moves
+
+pub returns-in_err-count-clause-profile : goal.returns-in_err-count-clause-profile
+returns-in_err-count-clause-profile g c =
+    let went = c.count.ensures in
+    (along-next g.X.Extra.further _ _ _ _ _ _ _ _ _ _ _ _ _ _ _ _ c.loop-machine.invariant.along went.passed went.spent went.moves went.profile went.total).tally
+
+pub returns-in_err-count-clause-passed : goal.returns-in_err-count-clause-passed
+returns-in_err-count-clause-passed g c =
+    let went = c.count.ensures in
+    (along-next g.X.Extra.further _ _ _ _ _ _ _ _ _ _ _ _ _ _ _ _ c.loop-machine.invariant.along went.passed went.spent went.moves went.profile went.total).states

@@ -1,0 +1,4 @@
+pub mod Spots
+pub mod Tally
+pub mod Passing
+pub mod Text

@@ -1,0 +1,215 @@
+// A run whose states are counted.
+ghost use Rattle.std.specs.Prelude.{◌≡◌, ◌+◌, ◌-◌, ◌*◌, ◌^◌, ◌<◌, ◌≤◌, max, List, ◌++◌, length, replicate, None, IfOk, OnOk, OnErr, false, true};
+ghost use Rattle.kc_trace.specs.Counting.{counted_all};
+ghost use Rattle.kc_trace.specs.Out.{Puts, Prints};
+ghost use Rattle.kc_trace.specs.Text.{text_of};
+ghost use Rattle.kc_trace.specs.Trace.{out_of};
+ghost use Rattle.kc_machine_spec.specs.Machine.{current};
+ghost use Rattle.kc_machine_spec.specs.Run.{run_to, end_of};
+ghost use Rattle.kc_machine_spec.specs.Passing.{activity_end};
+ghost use Rattle.kc_machine.specs.Failing.{FailsIn};
+ghost use Rattle.kc_machine.specs.Stepping.{IdlesFor};
+ghost use Rattle.kc_profile.specs.declared.spot.Spot as spots;
+ghost use Rattle.kc_profile.specs.Spots.{coming_spot, spots_for};
+ghost use Rattle.kc_profile.specs.Tally.{IsTallyOf, total};
+ghost use Rattle.kc_profile.specs.Passing.{Passed, LastsFor};
+
+use crate::Profile;
+use crate::spot::spot_of;
+use kc_base::{Sink, StateTime, Steps};
+use kc_extra::Extra;
+use kc_machine::{End, Machine, WriteFault};
+use kc_trace::TraceOut;
+use std::sync::ledger::Ledger;
+
+// Goes on to a state before which the machine does not end.
+fn go_to<X: Extra + Drop, S: Sink, L: Ledger>(
+    machine: &mut Machine<X>,
+    stop: StateTime,
+    out: &mut TraceOut<S>,
+    steps: &mut Steps<L>,
+) -> Result<(), WriteFault>
+    requires lives { machine.old.machine.ended ≡ None }
+    requires ahead { machine.old.machine.time < stop }
+    requires lasts { LastsFor X.further (stop - machine.old.machine.time) machine.old.machine }
+    requires room { stop ≤ 2 * 10 ^ 15 }
+    requires unbroken { out.old.failed ≡ false }
+    ensures forward { machine.old.machine.time < machine.new.machine.time }
+    ensures within { machine.new.machine.time ≤ stop }
+    ensures machine { machine.new.machine ≡ (run_to X.further machine.new.machine.time machine.old.machine).machine }
+    ensures lines { Prints (out_of S.written S.faults out.old) (run_to X.further machine.new.machine.time machine.old.machine).records (out_of S.written S.faults out.new) }
+    ensures fails { OnErr result (FailsIn X.further stop machine.old.machine (out_of S.written S.faults out.old) machine.new.machine (out_of S.written S.faults out.new)) }
+    ensures spent { steps.new ≤ steps.old + 4 * (run_to X.further machine.new.machine.time machine.old.machine).work }
+    ensures moves { machine.new.moves ≤ machine.old.moves + 4 * (run_to X.further machine.new.machine.time machine.old.machine).work }
+    ensures written { OnOk result (out.new.failed ≡ false) }
+{
+    match machine.run(stop, out, steps) {
+        Ok(_) => Ok(()),
+        Err(fault) => Err(fault),
+    }
+}
+
+// Goes on over idle states.
+fn rest<X: Extra + Drop, S: Sink, L: Ledger>(
+    machine: &mut Machine<X>,
+    stop: StateTime,
+    until: StateTime,
+    out: &mut TraceOut<S>,
+    steps: &mut Steps<L>,
+) -> Result<(), WriteFault>
+    requires ahead { machine.old.machine.time < stop }
+    requires idles { IdlesFor X.further (stop - machine.old.machine.time) machine.old.machine }
+    requires within { stop ≤ until }
+    requires room { until ≤ 2 * 10 ^ 15 }
+    requires unbroken { out.old.failed ≡ false }
+    ensures passed { Passed X.further until machine.old.machine (out_of S.written S.faults out.old) machine.new.machine (out_of S.written S.faults out.new) }
+    ensures fails { OnErr result (FailsIn X.further until machine.old.machine (out_of S.written S.faults out.old) machine.new.machine (out_of S.written S.faults out.new)) }
+    ensures spent { steps.new ≤ steps.old + 4 * (run_to X.further machine.new.machine.time machine.old.machine).work }
+    ensures moves { machine.new.moves ≤ machine.old.moves + 4 * (run_to X.further machine.new.machine.time machine.old.machine).work }
+    ensures written { OnOk result (out.new.failed ≡ false) }
+{
+    go_to(machine, stop, out, steps)
+}
+
+// Goes on to the end of the present activity, or of the next one.
+fn finish<X: Extra + Drop, S: Sink, L: Ledger>(
+    machine: &mut Machine<X>,
+    until: StateTime,
+    out: &mut TraceOut<S>,
+    steps: &mut Steps<L>,
+) -> Result<(), WriteFault>
+    requires lives { machine.old.machine.ended ≡ None }
+    requires within { activity_end machine.old.machine ≤ until }
+    requires room { until ≤ 2 * 10 ^ 15 }
+    requires unbroken { out.old.failed ≡ false }
+    ensures passed { Passed X.further until machine.old.machine (out_of S.written S.faults out.old) machine.new.machine (out_of S.written S.faults out.new) }
+    ensures fails { OnErr result (FailsIn X.further until machine.old.machine (out_of S.written S.faults out.old) machine.new.machine (out_of S.written S.faults out.new)) }
+    ensures spent { steps.new ≤ steps.old + 4 * (run_to X.further machine.new.machine.time machine.old.machine).work }
+    ensures moves { machine.new.moves ≤ machine.old.moves + 4 * (run_to X.further machine.new.machine.time machine.old.machine).work }
+    ensures written { OnOk result (out.new.failed ≡ false) }
+{
+    match machine.step_activity(out, steps) {
+        Ok(_) => Ok(()),
+        Err(fault) => Err(fault),
+    }
+}
+
+// Goes on by some states of the present activity, or of the next one, its last not among them.
+fn begin<X: Extra + Drop, S: Sink, L: Ledger>(
+    machine: &mut Machine<X>,
+    until: StateTime,
+    out: &mut TraceOut<S>,
+    steps: &mut Steps<L>,
+) -> Result<(), WriteFault>
+    requires lives { machine.old.machine.ended ≡ None }
+    requires ahead { machine.old.machine.time < until }
+    requires within { until < activity_end machine.old.machine }
+    requires room { until ≤ 2 * 10 ^ 15 }
+    requires unbroken { out.old.failed ≡ false }
+    ensures passed { Passed X.further until machine.old.machine (out_of S.written S.faults out.old) machine.new.machine (out_of S.written S.faults out.new) }
+    ensures fails { OnErr result (FailsIn X.further until machine.old.machine (out_of S.written S.faults out.old) machine.new.machine (out_of S.written S.faults out.new)) }
+    ensures spent { steps.new ≤ steps.old + 4 * (run_to X.further machine.new.machine.time machine.old.machine).work }
+    ensures moves { machine.new.moves ≤ machine.old.moves + 4 * (run_to X.further machine.new.machine.time machine.old.machine).work }
+    ensures written { OnOk result (out.new.failed ≡ false) }
+{
+    go_to(machine, until, out, steps)
+}
+
+// Goes on by states of one spot: idle states, or those of an activity that has so many left.
+fn pass<X: Extra + Drop, S: Sink, L: Ledger>(
+    machine: &mut Machine<X>,
+    left: u8,
+    until: StateTime,
+    out: &mut TraceOut<S>,
+    steps: &mut Steps<L>,
+) -> Result<(), WriteFault>
+    requires lives { machine.old.machine.ended ≡ None }
+    requires left { left ≡ (current machine.old.machine).left }
+    requires ahead { machine.old.machine.time < until }
+    requires room { until ≤ 2 * 10 ^ 15 }
+    requires unbroken { out.old.failed ≡ false }
+    ensures passed { Passed X.further until machine.old.machine (out_of S.written S.faults out.old) machine.new.machine (out_of S.written S.faults out.new) }
+    ensures fails { OnErr result (FailsIn X.further until machine.old.machine (out_of S.written S.faults out.old) machine.new.machine (out_of S.written S.faults out.new)) }
+    ensures spent { steps.new ≤ steps.old + 4 * (run_to X.further machine.new.machine.time machine.old.machine).work }
+    ensures moves { machine.new.moves ≤ machine.old.moves + 4 * (run_to X.further machine.new.machine.time machine.old.machine).work }
+    ensures written { OnOk result (out.new.failed ≡ false) }
+{
+    let now = machine.now();
+    let rested = machine.idles_to(until);
+    if now < rested {
+        rest(machine, rested, until, out, steps)
+    } else if now + u64::from(left) <= until {
+        finish(machine, until, out, steps)
+    } else {
+        begin(machine, until, out, steps)
+    }
+}
+
+// Goes on by states of one spot, and counts them.
+fn count<X: Extra + Drop, S: Sink, L: Ledger>(
+    machine: &mut Machine<X>,
+    profile: &mut Profile,
+    until: StateTime,
+    out: &mut TraceOut<S>,
+    steps: &mut Steps<L>,
+) -> Result<(), WriteFault>
+    requires lives { machine.old.machine.ended ≡ None }
+    requires ahead { machine.old.machine.time < until }
+    requires room { until ≤ 2 * 10 ^ 15 }
+    requires fits { total profile.old + (until - machine.old.machine.time) < 2 ^ 64 }
+    requires unbroken { out.old.failed ≡ false }
+    ensures passed { Passed X.further until machine.old.machine (out_of S.written S.faults out.old) machine.new.machine (out_of S.written S.faults out.new) }
+    ensures fails { OnErr result (FailsIn X.further until machine.old.machine (out_of S.written S.faults out.old) machine.new.machine (out_of S.written S.faults out.new)) }
+    ensures spent { steps.new ≤ steps.old + 4 * (run_to X.further machine.new.machine.time machine.old.machine).work }
+    ensures moves { machine.new.moves ≤ machine.old.moves + 4 * (run_to X.further machine.new.machine.time machine.old.machine).work }
+    ensures written { OnOk result (out.new.failed ≡ false) }
+    ensures profile { (before : List spots.Spot) → IsTallyOf before profile.old → IsTallyOf (before ++ replicate (machine.new.machine.time - machine.old.machine.time) (coming_spot machine.old.machine)) profile.new }
+    ensures total { total profile.new ≡ total profile.old + (machine.new.machine.time - machine.old.machine.time) }
+{
+    let activity = machine.current(steps);
+    let spot = spot_of(activity.doing, machine.pc());
+    let began = machine.now();
+    let passed = pass(machine, activity.left, until, out, steps);
+    profile.add(spot, machine.now() - began);
+    passed
+}
+
+/// Runs a machine as `Machine::run` does, and adds to a profile where each state that passes goes, of which all are counted once.
+/// Idle states are passed and counted at once, as many as there are.
+///
+/// After a fault of the sink the machine stands at the end of the activity, or of the idle state, in whose lines the sink failed,
+/// and the states up to there are counted.
+pub fn run_profiled<X: Extra + Drop, S: Sink, L: Ledger>(
+    machine: &mut Machine<X>,
+    profile: &mut Profile,
+    until: StateTime,
+    out: &mut TraceOut<S>,
+    steps: &mut Steps<L>,
+) -> Result<End, WriteFault>
+    requires until { until ≤ 2 * 10 ^ 15 }
+    requires unbroken { out.old.failed ≡ false }
+    requires room { total profile.old + until < 2 ^ 64 }
+    ensures end { IfOk result (λ end. end ≡ end_of (run_to X.further until machine.old.machine).machine) }
+    ensures machine { OnOk result (machine.new.machine ≡ (run_to X.further until machine.old.machine).machine) }
+    ensures lines { Puts (out_of S.written S.faults out.old) (text_of (run_to X.further until machine.old.machine).records) (out_of S.written S.faults out.new) }
+    ensures written { OnOk result (out.new.failed ≡ false) }
+    ensures counts { OnOk result (out.new.counts ≡ counted_all (run_to X.further until machine.old.machine).records out.old.counts) }
+    ensures fails { OnErr result (FailsIn X.further until machine.old.machine (out_of S.written S.faults out.old) machine.new.machine (out_of S.written S.faults out.new)) }
+    ensures stands { machine.new.machine ≡ (run_to X.further machine.new.machine.time machine.old.machine).machine }
+    ensures within { machine.new.machine.time ≤ max until machine.old.machine.time }
+    ensures goes { machine.old.machine.ended ≡ None → machine.old.machine.time < until → machine.old.machine.time < machine.new.machine.time }
+    ensures spent { steps.new ≤ steps.old + 4 * (run_to X.further machine.new.machine.time machine.old.machine).work }
+    ensures moves { machine.new.moves ≤ machine.old.moves + 4 * (run_to X.further machine.new.machine.time machine.old.machine).work }
+    ensures profile { (before : List spots.Spot) → IsTallyOf before profile.old → IsTallyOf (before ++ spots_for X.further (machine.new.machine.time - machine.old.machine.time) machine.old.machine) profile.new }
+    ensures all { OnOk result (spots_for X.further (until - machine.old.machine.time) machine.old.machine ≡ spots_for X.further (machine.new.machine.time - machine.old.machine.time) machine.old.machine) }
+    ensures passed { length (spots_for X.further (machine.new.machine.time - machine.old.machine.time) machine.old.machine) ≡ machine.new.machine.time - machine.old.machine.time }
+    ensures total { total profile.new ≡ total profile.old + (machine.new.machine.time - machine.old.machine.time) }
+{
+    while machine.now() < until {
+        if let Some(end) = machine.ended() {
+            return Ok(end);
+        }
+        count(machine, profile, until, out, steps)?;
+    }
+    Ok(machine.ended().unwrap_or(End::Spent))
+}
