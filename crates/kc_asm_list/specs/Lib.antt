@@ -1,0 +1,3 @@
+pub mod Spots
+pub mod Listed
+pub mod Laws

@@ -1,0 +1,38 @@
+-- The listing of a source (this kit's own).
+use Rattle.std.specs.Prelude.{◌≡◌, ◌⊎◌, ℕ, List, Some, Result, Ok, Err}
+use Rattle.std.specs.Global.{Vec}
+use Rattle.kc_lex.specs.declared.token.Line.{Line}
+use Rattle.kc_lex.specs.declared.fault.SourceFault.{SourceFault}
+use Rattle.kc_lex.specs.declared.fault.SourceFault.TheVariants as faults
+use Rattle.kc_lex.specs.Lines.{lines_of}
+use Rattle.kc_macro.specs.Expansion.{expanded}
+use Rattle.kc_source_statement.specs.declared.statement.Stmt.{Stmt}
+use Rattle.kc_source.specs.Faults.{Fault, AreStatements, faults_of, least}
+use Rattle.kc_obj.specs.Object.{Object}
+use Rattle.kc_asm_rows.specs.Rows.{listing}
+use Rattle.kc_asm_list.specs.Spots.{spots_of}
+
+-- the lines of a source, and what they expand to
+abbrev pub IsText : List ℕ → List Line → List Line → Type 0
+IsText source lines text = (lines_of source ≡ Ok lines) × (expanded lines ≡ Some (Ok text))
+
+-- the listing of a source with the bytes of a module
+pub record IsListing (source : List ℕ) (m : Object) (listed : List ℕ) : Type 0 where
+  pub lines : List Line
+  pub text : List Line
+  pub is_text : IsText source lines text
+  pub stmts : List Stmt
+  pub said : AreStatements stmts text
+  pub told : listed ≡ listing m source (spots_of lines text stmts)
+
+-- a source without statements has a fault of its lines, of its macros, or of its statements and names
+abbrev pub IsUnread : List ℕ → Fault → Type 0
+IsUnread source f =
+    (lines_of source ≡ Err f)
+    ⊎ (((lines : List Line) × (lines_of source ≡ Ok lines) × (expanded lines ≡ Some (Err f)))
+    ⊎ ((lines text : List Line) × IsText source lines text × (least (faults_of text) ≡ Some f)))
+
+abbrev pub IsListed : List ℕ → Object → Result (Vec ℕ) SourceFault → Type 0
+IsListed source m (Ok listed) = IsListing source m listed.items
+IsListed source m (Err (faults.At line code)) = IsUnread source (line, code)
+IsListed source m (Err faults.NoMemory) = Unit {0}

@@ -1,0 +1,78 @@
+// A listing that was worked by hand.
+ghost use Rattle.std.specs.Prelude.{◌≤◌, length};
+
+use crate::listing;
+use kc_base::Text;
+use kc_obj::{Content, Module, SegKind, Segment};
+use std::test::*;
+
+const SOURCE: &[u8] = b"W MACRO
+ NOP
+ ENDM
+ CSEG AT 2080H
+S: W
+ REPT 2
+ CLRC
+ ENDM
+ IF 0
+ SETC
+ ENDIF
+N EQU 5
+ DSB 1
+ END
+";
+
+const LISTING: &[u8] = b"      1                                   W MACRO
+      2                                    NOP
+      3                                    ENDM
+      4                                    CSEG AT 2080H
+      5                                   S: W
+      5 + C 2080
+      5 + C 2080 FD
+      6                                    REPT 2
+      7   C 2081 F8                        CLRC
+      7 + C 2082 F8
+      8                                    ENDM
+      9                                    IF 0
+     10                                    SETC
+     11                                    ENDIF
+     12                                   N EQU 5
+     13   C 2083                           DSB 1
+     14                                    END
+";
+
+// The module of the source: three bytes of an absolute piece.
+fn module(rt: &HostRuntime) -> Result<Module, Fail> {
+    let alloc = rt.alloc();
+    let mut segments = Vec::new(alloc);
+    segments.push(Segment {
+        kind: SegKind::Code,
+        at: Some(0x2080),
+        length: 4,
+    })?;
+    let mut contents = Vec::new(alloc);
+    contents.push(Content {
+        piece: 0,
+        offset: 0,
+        bytes: Text::of(alloc, b"\xfd\xf8\xf8").ok().ok_or("memory")?,
+    })?;
+    let made = Module::new(
+        Text::of(alloc, b"NONAME").ok().ok_or("memory")?,
+        segments,
+        Vec::new(alloc),
+        Vec::new(alloc),
+        contents,
+        Vec::new(alloc),
+        None,
+    );
+    Ok(made.ok_or("a rule is broken")?)
+}
+
+/// A call and a label before it, a repetition, lines that are left out, and a name of a value.
+#[test]
+fn expansions_are_marked(rt: HostRuntime) -> Result<(), Fail> {
+    let module = module(&rt)?;
+    let listed = listing(rt.alloc(), SOURCE, &module).ok().ok_or("a fault")?;
+    assert_eq!(rt; listed.as_slice(), LISTING);
+    Ok(())
+}

@@ -1,0 +1,101 @@
+-- A listing of a source: of each line its number, what stands there, and its text (after the list file of the MCS-96 Macro
+-- Assembler User's Guide, in outline; the rows are this kit's own).
+use Rattle.std.specs.Prelude.{ℕ, zero, suc, Bool, ◌+◌, ◌-◌, ◌||◌, ◌==◌, nat_lt, if◌then◌else◌, min, List, [], ◌∷◌, ◌++◌, length, replicate, decimal, flat_map, Option, Some, None}
+use Rattle.std.specs.List.{filter}
+use Rattle.kc_base.specs.Digits.{hex}
+use Rattle.kc_base.specs.TextLines.{text_lines}
+use Rattle.kc_obj.specs.declared.parts.SegKind.{SegKind}
+use Rattle.kc_obj.specs.declared.parts.SegKind.TheVariants.{Reg, Code, Ram, Stack}
+use Rattle.kc_obj.specs.Object.{Object}
+use Rattle.kc_asm_rows.specs.declared.spot.Spot.{Spot}
+use Rattle.kc_asm_rows.specs.Octets.{octet_text, told}
+
+-- ---- the front of a row
+
+-- a number at the right of seven columns
+abbrev pub number_text : ℕ → List ℕ
+number_text n = replicate (7 - length (decimal n)) 32 ++ decimal n
+
+abbrev pub letter : SegKind → ℕ
+letter Reg = 82
+letter Code = 67
+letter Ram = 68
+letter Stack = 83
+
+-- a `'` says that places count from the base of a relocatable piece
+abbrev pub tick : Option ℕ → ℕ
+tick None = 39
+tick (Some base) = 32
+
+-- the line, a mark, the kind of the piece, and a place
+abbrev pub front : ℕ → Spot → ℕ → List ℕ
+front mark s place = number_text s.line ++ 32 ∷ mark ∷ 32 ∷ letter s.kind ∷ tick s.at ∷ hex 4 place
+
+-- ---- bytes, eight in a row
+
+abbrev pub turn : ℕ → Spot → ℕ → ℕ → List ℕ
+turn mark s column place = if column == 8 then 10 ∷ front mark s place else []
+
+abbrev pub column_after : ℕ → ℕ
+column_after column = if column == 8 then 1 else column + 1
+
+-- so many bytes from a place on, behind others in the row
+unfoldable pub bytes_text : Object → ℕ → Spot → ℕ → ℕ → ℕ → List ℕ
+bytes_text m mark s column place zero = []
+bytes_text m mark s column place (suc n) = turn mark s column place ++ octet_text m s place ++ bytes_text m mark s (column_after column) (place + 1) n
+
+-- bytes that lead on to the place of a statement, in rows before its own
+abbrev pub filling_rows : Object → ℕ → Spot → ℕ → List ℕ
+filling_rows m mark s zero = []
+filling_rows m mark s (suc n) = front mark s s.before ++ bytes_text m mark s 0 s.before (suc n) ++ 10 ∷ []
+
+abbrev pub filling_text : Object → ℕ → Spot → List ℕ
+filling_text m mark s = filling_rows m mark s (told m s s.before s.place)
+
+-- ---- a statement: its place is told where it has a label or takes up room
+
+abbrev pub is_told : Spot → Bool
+is_told s = s.labelled || nat_lt s.before s.after
+
+-- the text of a line stands from column 42 on
+abbrev pub beside : List ℕ → List ℕ → List ℕ
+beside row [] = row
+beside row (c ∷ cs) = row ++ replicate (42 - length row) 32 ++ c ∷ cs
+
+abbrev pub bare_text : ℕ → List ℕ → List ℕ
+bare_text line words = beside (number_text line) words ++ 10 ∷ []
+
+-- the statement that the line itself is: the first eight bytes stand beside the text
+abbrev pub own_rows : Object → Spot → List ℕ → ℕ → List ℕ
+own_rows m s words n =
+    beside (front 32 s s.place ++ bytes_text m 32 s 0 s.place (min 8 n)) words ++ bytes_text m 32 s 8 (s.place + 8) (n - 8) ++ 10 ∷ []
+
+abbrev pub own_text : Object → List ℕ → Spot → List ℕ
+own_text m words s =
+    if is_told s then filling_text m 32 s ++ own_rows m s words (told m s s.place s.after) else bare_text s.line words
+
+-- a statement that an expansion makes of the line, marked by `+`
+abbrev pub made_text : Object → Spot → List ℕ
+made_text m s =
+    if is_told s then filling_text m 43 s ++ front 43 s s.place ++ bytes_text m 43 s 0 s.place (told m s s.place s.after) ++ 10 ∷ [] else []
+
+-- ---- a line, with the statements that come out of it
+
+abbrev pub all_made : Object → List Spot → List ℕ
+all_made m spots = flat_map (made_text m) spots
+
+abbrev pub line_text : Object → ℕ → List ℕ → List Spot → List ℕ
+line_text m line words [] = bare_text line words
+line_text m line words (s ∷ ss) =
+    if s.own then own_text m words s ++ all_made m ss else bare_text line words ++ all_made m (s ∷ ss)
+
+-- the statements of a line, in the order in which they come out
+abbrev pub is_on : ℕ → Spot → Bool
+is_on line s = s.line == line
+
+unfoldable pub lines_text : Object → List Spot → ℕ → List (List ℕ) → List ℕ
+lines_text m spots line [] = []
+lines_text m spots line (words ∷ rest) = line_text m line words (filter (is_on line) spots) ++ lines_text m spots (line + 1) rest
+
+abbrev pub listing : Object → List ℕ → List Spot → List ℕ
+listing m source spots = lines_text m spots 1 (text_lines source)

@@ -1,0 +1,79 @@
+//! The front of a row.
+
+ghost use Rattle.std.specs.Prelude.{◌≡◌, ◌++◌, replicate, OnOk};
+ghost use Rattle.kc_base.specs.Digits.{hex};
+ghost use Rattle.kc_asm_rows.specs.Rows as spec;
+
+use crate::spot::Spot;
+use itoa::Buffer;
+use kc_base::{NoMemory, hex_digit};
+use kc_obj::SegKind;
+
+/// Puts blanks behind a text.
+pub(crate) fn put_blanks(text: &mut Vec<u8>, count: usize) -> Result<(), NoMemory>
+    ensures { OnOk result (text.new.items ≡ text.old.items ++ replicate count 32) }
+{
+    for _blank in 0..count {
+        text.push(b' ')?;
+    }
+    Ok(())
+}
+
+/// Puts a number at the right of seven columns behind a text.
+pub(crate) fn put_number(text: &mut Vec<u8>, number: u32) -> Result<(), NoMemory>
+    ensures { OnOk result (text.new.items ≡ text.old.items ++ spec.number_text number) }
+{
+    let mut buffer = Buffer::new();
+    let digits = buffer.format(number).as_bytes();
+    put_blanks(text, 7_usize.saturating_sub(digits.len()))?;
+    text.extend_from_slice(digits)?;
+    Ok(())
+}
+
+fn letter(kind: SegKind) -> u8
+    ensures { result ≡ spec.letter kind }
+{
+    match kind {
+        SegKind::Reg => b'R',
+        SegKind::Code => b'C',
+        SegKind::Ram => b'D',
+        SegKind::Stack => b'S',
+    }
+}
+
+fn tick(at: Option<u16>) -> u8
+    ensures { result ≡ spec.tick at }
+{
+    match at {
+        None => b'\'',
+        Some(_) => b' ',
+    }
+}
+
+// Puts the four lowest hexadecimal digits of a place behind a text.
+fn put_place(text: &mut Vec<u8>, place: u64) -> Result<(), NoMemory>
+    ensures { OnOk result (text.new.items ≡ text.old.items ++ hex 4 place) }
+{
+    let second = place / 16;
+    let third = second / 16;
+    let fourth = third / 16;
+    text.push(hex_digit((fourth % 16) as u8))?;
+    text.push(hex_digit((third % 16) as u8))?;
+    text.push(hex_digit((second % 16) as u8))?;
+    text.push(hex_digit((place % 16) as u8))?;
+    Ok(())
+}
+
+/// Puts the front of a row behind a text: the line of a statement, a mark, the kind of its piece, and a place.
+pub(crate) fn put_front(
+    text: &mut Vec<u8>,
+    mark: u8,
+    spot: &Spot,
+    place: u64,
+) -> Result<(), NoMemory>
+    ensures { OnOk result (text.new.items ≡ text.old.items ++ spec.front mark spot.now place) }
+{
+    put_number(text, spot.line)?;
+    text.extend_from_slice(&[b' ', mark, b' ', letter(spot.kind), tick(spot.at)])?;
+    put_place(text, place)
+}

@@ -1,0 +1,16 @@
+//! The rows of a listing: the lines of a source with the addresses and the bytes of what stands there.
+#![tactic(auto)]
+
+mod bytes;
+mod fields;
+mod listing;
+mod octets;
+mod pieces;
+mod spot;
+mod statements;
+
+pub use listing::rows;
+pub use spot::Spot;
+
+#[cfg(test)]
+mod tests;
