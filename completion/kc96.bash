@@ -8,18 +8,18 @@ _kc96() {
         return
     fi
     case $command in
-    run) options='--states --lives --stim --analog --reg --code --data --stack' files='a96' ;;
-    asm) options='--out' files='a96' ;;
+    run) options='--states --lives --profile --stim --analog --reg --code --data --stack' files='a96' ;;
+    asm) options='--out --list' files='a96' ;;
     lib) options='--out' files='obj' ;;
     link) options='--out --lib --lines --map --reg --code --data --stack' files='obj' ;;
-    hex) options='--states --lives --stim --analog' files='hex' ;;
+    hex) options='--states --lives --profile --stim --analog' files='hex' ;;
     dis) options='' files='hex' ;;
     vcd) options='--out --clock' files='trace' ;;
     debug) options='--stim --analog --lines' files='hex' ;;
     *) return ;;
     esac
     case $before in
-    --stim | --analog | --out | --lib | --lines | --map)
+    --stim | --analog | --out | --lib | --list | --lines | --map | --profile)
         compopt -o filenames
         mapfile -t COMPREPLY < <(compgen -f -- "$word")
         return

@@ -10,7 +10,8 @@ use Rattle.kc_link_place.specs.declared.ranges.LinkFault.{LinkFault}
 use Rattle.kc_link_place.specs.declared.ranges.LinkFault.TheVariants as link
 use Rattle.kc_kit_files.specs.declared.status.Status.{Status}
 use Rattle.kc_kit_files.specs.declared.status.Status.TheVariants as status
-use Rattle.kc_explain.specs.Meanings.{is_among}
+use Rattle.kc_kit_files.specs.Notes.{too_long}
+use Rattle.kc_explain.specs.Meanings.{all_said, source_rows, input_rows, run_rows, sentence_of, is_among}
 use Rattle.kc_explain.specs.Codes.{all_codes, lettered, numbered, kind_code, status_code, stimulus_code, rule_code}
 use Rattle.kc_explain.specs.Laws.{IsExplained, FaultsAreExplained, UsesAreExplained}
 
@@ -124,6 +125,10 @@ files : IsExplained (codes "LONG")
 unfolding all_codes
 files = refl
 
+long : sentence_of (codes "LONG") ≡ too_long
+unfolding all_said source_rows input_rows run_rows
+long = refl
+
 pub faults_are_explained : FaultsAreExplained
 faults_are_explained = record {
   sources = sources;
@@ -137,6 +142,7 @@ faults_are_explained = record {
   maps = maps;
   traces = traces;
   files = files;
+  long = long;
 }
 
 pub uses_are_explained : UsesAreExplained

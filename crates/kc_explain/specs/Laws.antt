@@ -6,8 +6,9 @@ use Rattle.kc_base.specs.declared.types.Kind.{Kind}
 use Rattle.kc_stim.specs.declared.fault.StimFault.{StimFault}
 use Rattle.kc_link_place.specs.declared.ranges.LinkFault.{LinkFault}
 use Rattle.kc_kit_files.specs.declared.status.Status.{Status}
+use Rattle.kc_kit_files.specs.Notes.{too_long}
 use Rattle.kc_explain.specs.Codes.{all_codes, lettered, numbered, kind_code, status_code, stimulus_code, rule_code}
-use Rattle.kc_explain.specs.Meanings.{code_of, all_said, is_among}
+use Rattle.kc_explain.specs.Meanings.{code_of, all_said, sentence_of, is_among}
 
 abbrev pub IsExplained : List ℕ → Type 0
 IsExplained code = is_among code all_codes ≡ true
@@ -25,6 +26,7 @@ pub record FaultsAreExplained : Type 0 where
   pub maps : IsExplained (codes "BADMAP")
   pub traces : IsExplained (codes "BADTRACE")
   pub files : IsExplained (codes "LONG")
+  pub long : sentence_of (codes "LONG") ≡ too_long
 
 pub record UsesAreExplained : Type 0 where
   pub kinds : (kind : Kind) → IsExplained (kind_code kind)

@@ -1,5 +1,5 @@
 -- The meaning of a code (this kit's own). What is said of it is no matter of definitions: the sentences and examples are data.
-use Rattle.std.specs.Prelude.{◌≡◌, ℕ, Bool, true, false, Option, Some, None, List, ◌++◌, map, find}
+use Rattle.std.specs.Prelude.{◌≡◌, ℕ, Bool, true, false, Option, Some, None, List, [], ◌++◌, map, find}
 use Rattle.std.specs.List.{list_any}
 use Rattle.std.specs.Option.{option_map}
 use Rattle.std.specs.Str.{bytes_eq}
@@ -37,6 +37,14 @@ has_code code row = bytes_eq (code_of row) code
 -- the row of a code
 abbrev pub said_of : List ℕ → Option Said
 said_of code = find (has_code code) all_said
+
+-- the sentence of a row, and of a code
+abbrev pub sentence_in : Option Said → List ℕ
+sentence_in (Some row) = row.sentence
+sentence_in None = []
+
+abbrev pub sentence_of : List ℕ → List ℕ
+sentence_of code = sentence_in (said_of code)
 
 abbrev pub is_among : List ℕ → List (List ℕ) → Bool
 is_among code names = list_any (λ name. bytes_eq name code) names

@@ -10,6 +10,6 @@ mod table;
 mod tests;
 
 pub use laws::{codes_differ, faults_are_explained, uses_are_explained};
-pub use lookup::explain;
+pub use lookup::{explain, sentence};
 pub use meaning::{Example, Meaning};
 pub use printing::meaning_text;

@@ -2,16 +2,16 @@ ghost use Rattle.std.specs.Prelude.{◌≡◌, find};
 ghost use Rattle.std.specs.Option.{option_copied, option_map, option_or};
 ghost use Rattle.std.specs.Str.{bytes_eq};
 ghost use Rattle.kc_explain.specs.Codes.{all_codes};
-ghost use Rattle.kc_explain.specs.Meanings.{said, said_of, IsAnswer};
+ghost use Rattle.kc_explain.specs.Meanings.{said, said_of, sentence_of, IsAnswer};
 
 use crate::meaning::Meaning;
 use crate::table::{Row, inputs, meaning_in, runs, sources};
 
 // The first row of a code.
-fn find_in(table: &'static [Row], code: &str) -> Option<&'static Row>
+fn find_in(table: &'static [Row], code: &[u8]) -> Option<&'static Row>
     ensures { option_copied result ≡ find (λ row. bytes_eq row.0.now code.now) table.now }
 {
-    table.iter().find(|row| row.0.as_bytes() == code.as_bytes())
+    table.iter().find(|row| row.0.as_bytes() == code)
 }
 
 fn first(row: Option<&'static Row>, other: Option<&'static Row>) -> Option<&'static Row>
@@ -23,9 +23,8 @@ fn first(row: Option<&'static Row>, other: Option<&'static Row>) -> Option<&'sta
     }
 }
 
-/// The meaning of a code, as it is printed: `E07`, `O03`, `B01`, `H02`, `BADLINE`, the word of a rule of linking (`range`); with its
-/// number `kind10` for a kind of undefined use, `request3` for a request and `status4` for a status. `None` for any other text.
-pub fn explain(code: &str) -> Option<Meaning>
+// The meaning of the code that these bytes spell.
+fn meaning_of(code: &[u8]) -> Option<Meaning>
     ensures row { option_map said result ≡ said_of code.now }
     ensures answer { IsAnswer all_codes code.now (option_map said result) }
 {
@@ -36,5 +35,24 @@ pub fn explain(code: &str) -> Option<Meaning>
     match first(in_sources, others) {
         Some(row) => Some(meaning_in(row)),
         None => None,
+    }
+}
+
+/// The meaning of a code, as it is printed: `E07`, `O03`, `B01`, `H02`, `BADLINE`, the word of a rule of linking (`range`); with its
+/// number `kind10` for a kind of undefined use, `request3` for a request and `status4` for a status. `None` for any other text.
+pub fn explain(code: &str) -> Option<Meaning>
+    ensures row { option_map said result ≡ said_of code.now }
+    ensures answer { IsAnswer all_codes code.now (option_map said result) }
+{
+    meaning_of(code.as_bytes())
+}
+
+/// The sentence of a code, without its full stop; no text where these bytes spell no code.
+pub fn sentence(code: &[u8]) -> &'static str
+    ensures { result.now ≡ sentence_of code.now }
+{
+    match meaning_of(code) {
+        Some(row) => row.sentence,
+        None => "",
     }
 }

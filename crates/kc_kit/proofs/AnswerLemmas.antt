@@ -30,43 +30,50 @@ use Rattle.kc_link.specs.Placed.{placed}
 use Rattle.kc_hex.specs.Records.{image_of}
 use Rattle.kc_kit_files.specs.declared.status.Status.{Status}
 use Rattle.kc_kit_files.specs.declared.status.Status.TheVariants as status
-use Rattle.kc_kit_files.specs.Reply.{Reply, Write, says, before, joined, Then}
-use Rattle.kc_kit_files.specs.Reads.{read_of, reads_of, long_line, missing_line, FailedRead}
+use Rattle.kc_kit_files.specs.Reply.{Reply, Write, says, tells, before, joined, Then}
+use Rattle.kc_kit_files.specs.Reads.{read_of, reads_of, long_reply, missing_reply, FailedRead}
 use Rattle.kc_kit_files.specs.Outside.{Kept, Shown, OthersStay, Wrote, WroteByPart, SinkFailed, WriteFailed, IsGiven, Replies}
 use Rattle.kc_kit_files.proofs.ReplyLemmas.{given-of}
 use Rattle.kc_debug_script.specs.LineMap as maps
 use Rattle.kc_debug_script.specs.Script as scripts
 use Rattle.kc_lib.specs.declared.faults.LibFault.{LibFault}
+use Rattle.kc_lib.specs.declared.faults.LibFault.TheVariants as faults
 use Rattle.kc_lib.specs.Reading.{read_answer}
 use Rattle.kc_lib.specs.Names.{doubled}
 use Rattle.kc_kit_words.specs.declared.extent.Extent.{Extent}
 use Rattle.kc_kit_words.specs.declared.inputs.Role.{Role}
 use Rattle.kc_kit_words.specs.declared.inputs.Role.TheVariants as role
 use Rattle.kc_lib.specs.Taking.{AreTaken}
-use Rattle.kc_kit_words.specs.Words.{placing_of, Beside, Command, Helps, TellsVersion, Runs, Assembles, Packs, Links, RunsHex, Lists, Debugs, Generates, Dumps, Explains}
+use Rattle.kc_kit_words.specs.Words.{placing_of, Beside, Command, Helps, HelpsOn, TellsVersion, Runs, Profiles, Assembles, Packs, Links, RunsHex, ProfilesHex, Lists, Debugs, Generates, Dumps, Explains}
 use Rattle.kc_kit_inputs.specs.declared.driving.Driving.{Driving}
 use Rattle.kc_kit_inputs.specs.Analog.{by_bad_line, values_of}
 use Rattle.kc_kit_inputs.specs.Driving.{GivenFiles, given_for, with_drives, driving_of}
 use Rattle.kc_kit_inputs.specs.Hex.{by_image, hex_of}
 use Rattle.kc_kit_inputs.specs.Inputs.{names_of, input_for}
 use Rattle.kc_kit_inputs.specs.Library.{fault_reply, by_library, library_of}
-use Rattle.kc_kit_inputs.specs.Lines.{coded, source_line, input_line}
+use Rattle.kc_kit_inputs.specs.Library as libraries
+use Rattle.kc_kit_inputs.specs.Lines.{coded}
+use Rattle.kc_kit_inputs.specs.Notes.{source_reply, line_reply, byte_reply}
 use Rattle.kc_kit_inputs.specs.Objects.{modules_of, by_object, object_of}
 use Rattle.kc_kit_inputs.specs.Scripts.{by_lines, script_of, lines_of}
 use Rattle.kc_kit_inputs.specs.Sources.{AreModules, TellsFault, TellsFirst, IsFaultless, AreFaultless}
-use Rattle.kc_kit_inputs.specs.Stimuli.{place_of, fault_line, by_fault, drives_of}
+use Rattle.kc_kit_inputs.specs.Stimuli.{place_of, by_fault, drives_of}
+use Rattle.kc_kit_inputs.specs.Stimuli as stimulus
 use Rattle.kc_kit_answer.specs.Accepting.{Accepting, IsOneText, AreTwoTexts, told}
 use Rattle.kc_kit_answer.specs.Answer.{names_read, names_written, names_beside, OneText, TwoTexts, Parted, CommandAnswer, MayAnswer, IsAccepted, StaysBut}
-use Rattle.kc_kit_answer.specs.Assemble.{AssembleAnswer}
+use Rattle.kc_kit_answer.specs.Assemble.{AreListings, AssembleAnswer}
 use Rattle.kc_kit_answer.specs.Debug.{debugged_by, debug_reply, DebugAnswer, IsDebuggable}
 use Rattle.kc_kit_answer.specs.Dump.{DumpAnswer, IsTraceText}
 use Rattle.kc_kit_answer.specs.Explain.{explained_by, explained}
 use Rattle.kc_kit_answer.specs.Generate.{made_names, made_texts, made_given, summary_of}
 use Rattle.kc_kit_answer.specs.Hex.{HexTold, RunHexAnswer, ListingOf, ListAnswer}
 use Rattle.kc_kit_answer.specs.Lines.{link_line, member_words}
+use Rattle.kc_kit_answer.specs.Notes.{link_note}
 use Rattle.kc_kit_answer.specs.Link.{IsMap, map_writes, LinksTo, Taking, Completed, LinkAnswer, IsLinkable}
 use Rattle.kc_kit_answer.specs.Pack.{packed, PackAnswer}
 use Rattle.kc_kit_answer.specs.Places.{by_places, places_of, Placing}
+use Rattle.kc_debug_script.specs.declared.line_map.MapEntry.{MapEntry}
+use Rattle.kc_kit_answer.specs.Profile.{map_entry, DrivenWithLines, LinkedWithLines, LinesTold, ProfileAnswer, ProfileHexAnswer, profile_reply}
 use Rattle.kc_kit_answer.specs.Run.{Driven, LinkedTold, SourcesTold, RunAnswer}
 use Rattle.kc_kit_answer.specs.Lives.{board_lives, reply_over, board_reply}
 use Rattle.kc_kit_answer.specs.Running.{status_of, run_of}
@@ -102,18 +109,19 @@ pub record IsSound (names : List (List ℕ)) (r : Reply) : Type 0 where
 sound-says : (names : List (List ℕ)) (s : Status) (t : List ℕ) → is_told s ≡ true → IsSound names (says s t)
 sound-says names s t h = record { told = h; named = inl refl }
 
-sound-err : (names : List (List ℕ)) (s : Status) (t : List ℕ) (e : Reply) → is_told s ≡ true → says s t ≡ e → IsSound names e
-sound-err names s t e h k = subst (IsSound names) k (sound-says names s t h)
+-- a refusal, whatever is said of it in words
+sound-err : (names : List (List ℕ)) (r e : Reply) → is_told r.status ≡ true → r.writes ≡ [] → r ≡ e → IsSound names e
+sound-err names r e h none k = subst (IsSound names) k (record { told = h; named = inl none })
 
 ok-err : {A : Type 0} (P : Type 0) (a : A) (e : Reply) → Ok a ≡ Err e → P
 ok-err P a e h = absurd (cc)
 
 sound-read : (names : List (List ℕ)) (name : List ℕ) (content : Option (List ℕ)) (e : Reply) → read_of name content ≡ Err e → IsSound names e
-sound-read names name None e h = sound-err names status.Missing (missing_line name) e refl (let k : says status.Missing (missing_line name) ≡ e = cc in k)
+sound-read names name None e h = sound-err names (missing_reply name) e refl refl (let k : missing_reply name ≡ e = cc in k)
 sound-read names name (Some bytes) e h = by (nat_lt 1048576 (length bytes)) h
   where
-    by : (b : Bool) → cond b (Err (says status.Input (long_line name))) (Ok bytes) ≡ Err e → IsSound names e
-    by true k = sound-err names status.Input (long_line name) e refl (let f : says status.Input (long_line name) ≡ e = cc in f)
+    by : (b : Bool) → cond b (Err (long_reply name)) (Ok bytes) ≡ Err e → IsSound names e
+    by true k = sound-err names (long_reply name) e refl refl (let f : long_reply name ≡ e = cc in f)
     by false k = ok-err (IsSound names e) bytes e k
 
 sound-reads : (ns : List (List ℕ)) (names : List (List ℕ)) (contents : List (Option (List ℕ))) (e : Reply) → reads_of names contents ≡ Err e → IsSound ns e
@@ -127,7 +135,9 @@ sound-reads ns (n ∷ names) (c ∷ contents) e h = either (joined-err (read_of 
 
 sound-object : (ns : List (List ℕ)) (name : List ℕ) (x : Result Object Fault) (e : Reply) → by_object name x ≡ Err e → IsSound ns e
 sound-object ns name (Ok m) e h = ok-err (IsSound ns e) m e h
-sound-object ns name (Err fault) e h = sound-err ns status.Input (input_line name fault.at (coded (codes "O") fault.code)) e refl (let k : says status.Input (input_line name fault.at (coded (codes "O") fault.code)) ≡ e = cc in k)
+sound-object ns name (Err fault) e h =
+    let told = byte_reply name fault.at (coded (codes "O") fault.code) in
+    sound-err ns told e refl refl (let k : told ≡ e = cc in k)
 
 sound-modules : (ns : List (List ℕ)) (names texts : List (List ℕ)) (e : Reply) → modules_of object_of names texts ≡ Err e → IsSound ns e
 sound-modules ns [] texts e h = ok-err (IsSound ns e) [] e h
@@ -138,13 +148,17 @@ sound-modules ns (n ∷ names) (t ∷ texts) e h = either (joined-err (object_of
     either (inl k) f = sound-object ns n (answer_of t) e k
     either (inr k) f = f k
 
-sound-places : (ns names : List (List ℕ)) (x : Result Places LinkFault) (e : Reply) → by_places names x ≡ Err e → IsSound ns e
-sound-places ns names (Ok places) e h = ok-err (IsSound ns e) places e h
-sound-places ns names (Err fault) e h = sound-err ns status.Link (link_line names fault) e refl (let k : says status.Link (link_line names fault) ≡ e = cc in k)
+sound-places : (ns names : List (List ℕ)) (ms : List Object) (x : Result Places LinkFault) (e : Reply) → by_places names ms x ≡ Err e → IsSound ns e
+sound-places ns names ms (Ok places) e h = ok-err (IsSound ns e) places e h
+sound-places ns names ms (Err fault) e h =
+    let told = tells status.Link (link_line names fault) (link_note names ms fault) in
+    sound-err ns told e refl refl (let k : told ≡ e = cc in k)
 
-sound-hex : (ns : List (List ℕ)) (name : List ℕ) (x : Result (List ℕ) (ℕ × ℕ)) (e : Reply) → by_image name x ≡ Err e → IsSound ns e
-sound-hex ns name (Ok image) e h = ok-err (IsSound ns e) image e h
-sound-hex ns name (Err fault) e h = sound-err ns status.Input (input_line name fault.0 (coded (codes "H") fault.1)) e refl (let k : says status.Input (input_line name fault.0 (coded (codes "H") fault.1)) ≡ e = cc in k)
+sound-hex : (ns : List (List ℕ)) (name text : List ℕ) (x : Result (List ℕ) (ℕ × ℕ)) (e : Reply) → by_image name text x ≡ Err e → IsSound ns e
+sound-hex ns name text (Ok image) e h = ok-err (IsSound ns e) image e h
+sound-hex ns name text (Err fault) e h =
+    let told = line_reply name text fault.0 (coded (codes "H") fault.1) in
+    sound-err ns told e refl refl (let k : told ≡ e = cc in k)
 
 told-end : (how : End) → is_told (status_of how) ≡ true
 told-end end.Spent = refl
@@ -164,8 +178,11 @@ sound-summary ns number driving image = record { told = told-end (end_of (run_of
 
 sound-stimuli : (ns : List (List ℕ)) (name text : List ℕ) (x : Option StimFault) (e : Reply) → by_fault name text x ≡ Err e → IsSound ns e
 sound-stimuli ns name text None e h = ok-err (IsSound ns e) (fold with_item nothing (items_of text)) e h
-sound-stimuli ns name text (Some fault) e h =
-    sound-err ns status.Input (fault_line name (place_of fault)) e refl (let k : says status.Input (fault_line name (place_of fault)) ≡ e = cc in k)
+sound-stimuli ns name text (Some fault) e h = sound-at (place_of fault) (let k : stimulus.reply_at name text (place_of fault) ≡ e = cc in k)
+  where
+    sound-at : (place : Option (ℕ × List ℕ)) → stimulus.reply_at name text place ≡ e → IsSound ns e
+    sound-at None k = sound-err ns (stimulus.reply_at name text None) e refl refl k
+    sound-at (Some p) k = sound-err ns (stimulus.reply_at name text (Some p)) e refl refl k
 
 sound-drives : (ns : List (List ℕ)) (stimuli : Option (List ℕ × List ℕ)) (e : Reply) → drives_of stimuli ≡ Err e → IsSound ns e
 sound-drives ns None e h = ok-err (IsSound ns e) nothing e h
@@ -174,8 +191,8 @@ sound-drives ns (Some file) e h = sound-stimuli ns file.0 file.1 (first_fault 0 
 sound-values : (ns : List (List ℕ)) (name text : List ℕ) (x : Option ℕ) (e : Reply) → by_bad_line name text x ≡ Err e → IsSound ns e
 sound-values ns name text None e h = ok-err (IsSound ns e) (fold values.with_item [] (values.items_of text)) e h
 sound-values ns name text (Some line) e h =
-    let told = input_line name line (codes "BADANALOG") in
-    sound-err ns status.Input told e refl (let k : says status.Input told ≡ e = cc in k)
+    let told = line_reply name text line (codes "BADANALOG") in
+    sound-err ns told e refl refl (let k : told ≡ e = cc in k)
 
 sound-analog : (ns : List (List ℕ)) (analog : Option (List ℕ × List ℕ)) (e : Reply) → values_of analog ≡ Err e → IsSound ns e
 sound-analog ns None e h = let none : List Sample = [] in ok-err (IsSound ns e) none e h
@@ -191,18 +208,22 @@ sound-driving ns given e h = by (drives_of given.stimuli) refl (values_of given.
 
 sound-library : (ns : List (List ℕ)) (name : List ℕ) (x : Result (List Object) LibFault) (e : Reply) → by_library name x ≡ Err e → IsSound ns e
 sound-library ns name (Ok members) e h = ok-err (IsSound ns e) members e h
-sound-library ns name (Err fault) e h = sound-err ns status.Input (fault_reply name fault).text e refl (let k : fault_reply name fault ≡ e = cc in k)
+sound-library ns name (Err fault) e h = sound-at (libraries.place_of fault) (let k : libraries.reply_at name (libraries.place_of fault) ≡ e = cc in k)
+  where
+    sound-at : (place : Option (ℕ × ℕ)) → libraries.reply_at name place ≡ e → IsSound ns e
+    sound-at None k = sound-err ns (libraries.reply_at name None) e refl refl k
+    sound-at (Some p) k = sound-err ns (libraries.reply_at name (Some p)) e refl refl k
 
-sound-lines-of : {A : Type 0} (ns : List (List ℕ)) (code name : List ℕ) (x : Result (List A) ℕ) (e : Reply) → by_lines code name x ≡ Err e → IsSound ns e
-sound-lines-of ns code name (Ok said) e h = ok-err (IsSound ns e) said e h
-sound-lines-of ns code name (Err line) e h = sound-err ns status.Input (input_line name line code) e refl (let k : says status.Input (input_line name line code) ≡ e = cc in k)
+sound-lines-of : {A : Type 0} (ns : List (List ℕ)) (code name text : List ℕ) (x : Result (List A) ℕ) (e : Reply) → by_lines code name text x ≡ Err e → IsSound ns e
+sound-lines-of ns code name text (Ok said) e h = ok-err (IsSound ns e) said e h
+sound-lines-of ns code name text (Err line) e h = sound-err ns (line_reply name text line code) e refl refl (let k : line_reply name text line code ≡ e = cc in k)
 
 sound-script : (ns : List (List ℕ)) (script : List ℕ × List ℕ) (e : Reply) → script_of script.0 script.1 ≡ Err e → IsSound ns e
-sound-script ns script e h = sound-lines-of ns (codes "BADCOMMAND") script.0 (scripts.script_of script.1) e h
+sound-script ns script e h = sound-lines-of ns (codes "BADCOMMAND") script.0 script.1 (scripts.script_of script.1) e h
 
 sound-source-lines : (ns : List (List ℕ)) (lines : Option (List ℕ × List ℕ)) (e : Reply) → lines_of lines ≡ Err e → IsSound ns e
 sound-source-lines ns None e h = ok-err (IsSound ns e) [] e h
-sound-source-lines ns (Some file) e h = sound-lines-of ns (codes "BADMAP") file.0 (maps.map_of file.1) e h
+sound-source-lines ns (Some file) e h = sound-lines-of ns (codes "BADMAP") file.0 file.1 (maps.map_of file.1) e h
 
 sound-told : {A : Type 0} (ns : List (List ℕ)) (x : Result A Reply) (tell : A → Reply) → ((e : Reply) → x ≡ Err e → IsSound ns e) → ((a : A) → IsSound ns (tell a)) → IsSound ns (told x tell)
 sound-told ns (Ok a) tell f g = g a
@@ -215,7 +236,7 @@ sound-debug ns script lines driving image =
     (λ entries. record { told = told-end (end_of (debugged_by entries commands driving image).machine); named = inl refl }))
 
 sound-fault : (ns : List (List ℕ)) (name text : List ℕ) (r : Reply) → TellsFault name text r → IsSound ns r
-sound-fault ns name text r h = subst (IsSound ns) (sym h.3) (sound-says ns status.Source (source_line name h.0 h.1) refl)
+sound-fault ns name text r h = sound-err ns (source_reply name text h.0 h.1) r refl refl (sym h.3)
 
 sound-first : (ns names texts : List (List ℕ)) (r : Reply) → TellsFirst names texts r → IsSound ns r
 sound-first ns [] texts r h = absurd h
@@ -226,19 +247,39 @@ sound-first ns (n ∷ names) (t ∷ texts) r (inr h) = sound-first ns names text
 sound-sources : (ns names : List (List ℕ)) (given : GivenFiles) (ranges : Ranges) (texts : List (List ℕ)) (tell : Driving → List ℕ → Reply) (r : Reply) →
     ((driving : Driving) (image : List ℕ) → IsSound ns (tell driving image)) → SourcesTold names given ranges texts tell r → IsSound ns r
 sound-sources ns names given ranges texts tell r f (Ok ms, made, h) =
-    then-all (IsSound ns) (places_of names ms ranges) (Driven given (LinkedTold texts) tell ms) r (sound-places ns names (placed ms ranges))
+    then-all (IsSound ns) (places_of names ms ranges) (Driven given (LinkedTold texts) tell ms) r (sound-places ns names ms (placed ms ranges))
     (λ places e k. then-all (IsSound ns) (driving_of given) (λ d. LinkedTold texts (tell d) ms places) r (sound-driving ns given) (λ d g l. subst (IsSound ns) (sym l.told) (f d l.image)) k) h
 sound-sources ns names given ranges texts tell r f (Err e, told, h) = subst (IsSound ns) (sym h) (sound-first ns names texts e told)
+
+sound-profile : (states : ℕ) (out : List ℕ) (entries : List MapEntry) (driving : Driving) (image : List ℕ) → IsSound (out ∷ []) (profile_reply states out entries driving image)
+sound-profile states out entries driving image = record { told = told-end (end_of (run_of states driving image).machine); named = inr refl }
+
+sound-lines : (ns names : List (List ℕ)) (given : GivenFiles) (ranges : Ranges) (texts : List (List ℕ)) (tell : List MapEntry → Driving → List ℕ → Reply) (r : Reply) →
+    ((entries : List MapEntry) (driving : Driving) (image : List ℕ) → IsSound ns (tell entries driving image)) → LinesTold names given ranges texts tell r → IsSound ns r
+sound-lines ns names given ranges texts tell r f (Ok ms, made, h) =
+    then-all (IsSound ns) (places_of names ms ranges) (DrivenWithLines given (LinkedWithLines texts) tell ms) r (sound-places ns names ms (placed ms ranges))
+    (λ places e k. then-all (IsSound ns) (driving_of given) (λ d. LinkedWithLines texts (λ entries. tell entries d) ms places) r (sound-driving ns given)
+    (λ d g l. subst (IsSound ns) (sym l.told) (f (map map_entry l.entries) d l.image)) k) h
+sound-lines ns names given ranges texts tell r f (Err e, told, h) = subst (IsSound ns) (sym h) (sound-first ns names texts e told)
 
 sound-hex-told : (ns : List (List ℕ)) (name : List ℕ) (given : GivenFiles) (text : List ℕ) (tell : Driving → List ℕ → Reply) (r : Reply) →
     ((driving : Driving) (image : List ℕ) → IsSound ns (tell driving image)) → HexTold name given text tell r → IsSound ns r
 sound-hex-told ns name given text tell r f h =
-    then-all (IsSound ns) (hex_of name text) (λ image. Then (driving_of given) (λ driving reply. reply ≡ tell driving image)) r (sound-hex ns name (image_of text))
+    then-all (IsSound ns) (hex_of name text) (λ image. Then (driving_of given) (λ driving reply. reply ≡ tell driving image)) r (sound-hex ns name text (image_of text))
     (λ image e k. then-all (IsSound ns) (driving_of given) (λ driving reply. reply ≡ tell driving image) r (sound-driving ns given) (λ d g l. subst (IsSound ns) (sym l) (f d image)) k) h
 
-sound-object-of : (name out text : List ℕ) (r : Reply) → AssembleAnswer name out text r → IsSound (out ∷ []) r
-sound-object-of name out text r (Ok m, made, h) = subst (IsSound (out ∷ [])) (sym h) (record { told = refl; named = inr refl })
-sound-object-of name out text r (Err e, told, h) = subst (IsSound (out ∷ [])) (sym h) (sound-fault (out ∷ []) name text e told)
+-- the listing is written under the name that asks for it
+abbrev names_in : List Write → List (List ℕ)
+names_in writes = map (λ (w : Write). w.name) writes
+
+listing-names : (list : Option (List ℕ)) (text : List ℕ) (m : Object) (writes : List Write) → AreListings list text m writes → names_in writes ≡ option_to_list list
+listing-names None text m writes h = ap names_in h
+listing-names (Some name) text m writes h = ap names_in h.2
+
+sound-object-of : (name out : List ℕ) (list : Option (List ℕ)) (text : List ℕ) (r : Reply) → AssembleAnswer name out list text r → IsSound (out ∷ option_to_list list) r
+sound-object-of name out list text r (Ok m, made, h) =
+    subst (IsSound (out ∷ option_to_list list)) (sym h.2) (record { told = refl; named = inr (ap (λ ns. out ∷ ns) (listing-names list text m h.0 h.1)) })
+sound-object-of name out list text r (Err e, told, h) = subst (IsSound (out ∷ option_to_list list)) (sym h) (sound-fault (out ∷ option_to_list list) name text e told)
 
 sound-one : (ns : List (List ℕ)) (may : List ℕ → Reply → Type 0) (texts : List (List ℕ)) (r : Reply) → ((t : List ℕ) → may t r → IsSound ns r) → OneText may texts r → IsSound ns r
 sound-one ns may (t ∷ []) r f h = f t h
@@ -265,7 +306,7 @@ sound-links out beside ranges ms places r h = subst (IsSound (out ∷ names_besi
 sound-taking : (ns names : List (List ℕ)) (library : List ℕ) (may : List (List ℕ) → List Object → Reply → Type 0) (ms members : List Object) (r : Reply) →
     ((files : List (List ℕ)) (all : List Object) → may files all r → IsSound ns r) → Taking names library may ms members r → IsSound ns r
 sound-taking ns names library may ms members r f (Ok taken, is, h) = f (names ++ member_words library taken) (ms ++ taken) h
-sound-taking ns names library may ms members r f (Err e, is, h) = subst (IsSound ns) (sym (h ∙ is.3)) (sound-says ns status.Input _ refl)
+sound-taking ns names library may ms members r f (Err e, is, h) = sound-err ns (fault_reply library faults.TooMany) r refl refl (sym (h ∙ is.3))
 
 sound-completed : (ns names : List (List ℕ)) (library : Option (List ℕ × List ℕ)) (may : List (List ℕ) → List Object → Reply → Type 0) (ms : List Object) (r : Reply) →
     ((files : List (List ℕ)) (all : List Object) → may files all r → IsSound ns r) → Completed names library may ms r → IsSound ns r
@@ -279,11 +320,11 @@ sound-link names library out beside ranges texts r h =
     let ns = out ∷ names_beside beside in
     then-all (IsSound ns) (modules_of object_of names texts) (Completed names library (λ files. Placing files ranges (LinksTo out beside ranges))) r (sound-modules ns names texts)
     (λ ms e k. sound-completed ns names library (λ files. Placing files ranges (LinksTo out beside ranges)) ms r
-    (λ files all l. then-all (IsSound ns) (places_of files all ranges) (LinksTo out beside ranges all) r (sound-places ns files (placed all ranges)) (λ places f m. sound-links out beside ranges all places r m) l) k) h
+    (λ files all l. then-all (IsSound ns) (places_of files all ranges) (LinksTo out beside ranges all) r (sound-places ns files all (placed all ranges)) (λ places f m. sound-links out beside ranges all places r m) l) k) h
 
 sound-packed : (out : List ℕ) (ms : List Object) (double : Option (List ℕ)) → IsSound (out ∷ []) (packed out ms double)
 sound-packed out ms None = record { told = refl; named = inr refl }
-sound-packed out ms (Some name) = sound-says (out ∷ []) status.Link _ refl
+sound-packed out ms (Some name) = record { told = refl; named = inl refl }
 
 sound-pack : (names : List (List ℕ)) (out : List ℕ) (texts : List (List ℕ)) (r : Reply) → PackAnswer names out texts r → IsSound (out ∷ []) r
 sound-pack names out texts r h =
@@ -292,23 +333,36 @@ sound-pack names out texts r h =
 
 sound-dump : (name out : List ℕ) (clock : ℕ) (text : List ℕ) (r : Reply) → DumpAnswer name out clock text r → IsSound (out ∷ []) r
 sound-dump name out clock text r (Ok items, read, h) = subst (IsSound (out ∷ [])) (sym h) (record { told = refl; named = inr refl })
-sound-dump name out clock text r (Err e, told, h) = subst (IsSound (out ∷ [])) (sym (h ∙ told.2)) (sound-says (out ∷ []) status.Input (input_line name told.0 (codes "BADTRACE")) refl)
+sound-dump name out clock text r (Err e, told, h) = sound-err (out ∷ []) (line_reply name text told.0 (codes "BADTRACE")) r refl refl (sym (h ∙ told.2))
 
 sound-explained : (ns : List (List ℕ)) (code : List ℕ) (row : Option Said) → IsSound ns (explained_by code row)
 sound-explained ns code (Some row) = sound-says ns status.Done _ refl
-sound-explained ns code None = sound-says ns status.Missing _ refl
+sound-explained ns code None = record { told = refl; named = inl refl }
 
 pub sound-command : (c : Command) (contents : List (Option (List ℕ))) (r : Reply) → CommandAnswer (Some c) contents r → IsSound (names_written (Some c)) r
 sound-command Helps contents r h = subst (IsSound []) (sym h) (sound-says [] status.Done _ refl)
+sound-command (HelpsOn verb) contents r h = subst (IsSound []) (sym h) (sound-says [] status.Done _ refl)
 sound-command TellsVersion contents r h = subst (IsSound []) (sym h) (sound-says [] status.Done _ refl)
 sound-command (Runs files inputs extent placing) contents r h =
     let names = files ++ names_of inputs in
     then-all (IsSound []) (reads_of names contents) (Parted (length files) (RunAnswer files inputs extent placing)) r (sound-reads [] names contents)
     (λ texts e k. sound-sources [] files (given_for inputs (drop (length files) texts)) placing (take (length files) texts) (board_reply extent) r
     (λ driving image. sound-run [] extent driving image) k) h
-sound-command (Assembles file out) contents r h =
-    then-all (IsSound (out ∷ [])) (reads_of (file ∷ []) contents) (OneText (AssembleAnswer file out)) r (sound-reads (out ∷ []) (file ∷ []) contents)
-    (λ texts e k. sound-one (out ∷ []) (AssembleAnswer file out) texts r (λ t l. sound-object-of file out t r l) k) h
+sound-command (Profiles files inputs states placing out) contents r h =
+    let ns = out ∷ [] in
+    let names = files ++ names_of inputs in
+    then-all (IsSound ns) (reads_of names contents) (Parted (length files) (ProfileAnswer files inputs states placing out)) r (sound-reads ns names contents)
+    (λ texts e k. sound-lines ns files (given_for inputs (drop (length files) texts)) placing (take (length files) texts) (profile_reply states out) r (sound-profile states out) k) h
+sound-command (ProfilesHex file inputs states out) contents r h =
+    let ns = out ∷ [] in
+    let names = file ∷ names_of inputs in
+    then-all (IsSound ns) (reads_of names contents) (Parted 1 (λ texts more. OneText (λ text. ProfileHexAnswer file inputs states out text more) texts)) r (sound-reads ns names contents)
+    (λ texts e k. sound-one ns (λ text. ProfileHexAnswer file inputs states out text (drop 1 texts)) (take 1 texts) r
+    (λ t l. sound-hex-told ns file (given_for inputs (drop 1 texts)) t (profile_reply states out []) r (sound-profile states out []) l) k) h
+sound-command (Assembles file out list) contents r h =
+    let ns = out ∷ option_to_list list in
+    then-all (IsSound ns) (reads_of (file ∷ []) contents) (OneText (AssembleAnswer file out list)) r (sound-reads ns (file ∷ []) contents)
+    (λ texts e k. sound-one ns (AssembleAnswer file out list) texts r (λ t l. sound-object-of file out list t r l) k) h
 sound-command (Packs files out) contents r h =
     then-all (IsSound (out ∷ [])) (reads_of files contents) (PackAnswer files out) r (sound-reads (out ∷ []) files contents) (λ texts e k. sound-pack files out texts r k) h
 sound-command (Links files inputs out beside placing) contents r h =
@@ -324,7 +378,7 @@ sound-command (RunsHex file inputs extent) contents r h =
 sound-command (Lists file first last) contents r h =
     then-all (IsSound []) (reads_of (file ∷ []) contents) (OneText (ListAnswer file first last)) r (sound-reads [] (file ∷ []) contents)
     (λ texts e k. sound-one [] (ListAnswer file first last) texts r
-    (λ t l. then-all (IsSound []) (hex_of file t) (ListingOf first last) r (sound-hex [] file (image_of t)) (λ image f m. subst (IsSound []) (sym m) (sound-says [] status.Done _ refl)) l) k) h
+    (λ t l. then-all (IsSound []) (hex_of file t) (ListingOf first last) r (sound-hex [] file t (image_of t)) (λ image f m. subst (IsSound []) (sym m) (sound-says [] status.Done _ refl)) l) k) h
 sound-command (Debugs file script inputs) contents r h =
     let names = file ∷ script ∷ names_of inputs in
     then-all (IsSound []) (reads_of names contents) (Parted 2 (λ texts more. TwoTexts (λ text commands. DebugAnswer file script inputs text commands more) texts)) r (sound-reads [] names contents)
@@ -537,22 +591,33 @@ done-sources names given ranges texts tell r f a b c (Ok ms, made, h) =
     (λ places k. done-then (driving_of given) (λ d. LinkedTold texts (tell d) ms places) r (λ d l. done-told r (tell d l.image) l.told (f d l.image)) c k) (b ms made) h
 done-sources names given ranges texts tell r f a b c (Err e, told, h) = absurd (none-first names texts e a told)
 
-done-object : (name out text : List ℕ) (r : Reply) → IsFaultless text → AssembleAnswer name out text r → IsDone r.status
-done-object name out text r none (Ok m, made, h) = inl (ap (λ (k : Reply). k.status) h)
-done-object name out text r none (Err e, told, h) = absurd (no-fault name text e none told)
+done-profile : (states : ℕ) (out : List ℕ) (entries : List MapEntry) (driving : Driving) (image : List ℕ) → IsDone (profile_reply states out entries driving image).status
+done-profile states out entries driving image = done-end (end_of (run_of states driving image).machine)
 
-done-objects : (name out : List ℕ) (texts : List (List ℕ)) (r : Reply) → IsOneText IsFaultless texts → OneText (AssembleAnswer name out) texts r → IsDone r.status
-done-objects name out (t ∷ []) r a h = done-object name out t r a h
-done-objects name out [] r a h = absurd h
-done-objects name out (t ∷ u ∷ texts) r a h = absurd h
+done-lines : (names : List (List ℕ)) (given : GivenFiles) (ranges : Ranges) (texts : List (List ℕ)) (tell : List MapEntry → Driving → List ℕ → Reply) (r : Reply) → ((entries : List MapEntry) (driving : Driving) (image : List ℕ) → IsDone (tell entries driving image).status) →
+    AreFaultless texts → ((ms : List Object) → AreModules texts ms → IsOk (places_of names ms ranges)) → IsOk (driving_of given) → LinesTold names given ranges texts tell r → IsDone r.status
+done-lines names given ranges texts tell r f a b c (Ok ms, made, h) =
+    done-then (places_of names ms ranges) (DrivenWithLines given (LinkedWithLines texts) tell ms) r
+    (λ places k. done-then (driving_of given) (λ d. LinkedWithLines texts (λ entries. tell entries d) ms places) r
+    (λ d l. done-told r (tell (map map_entry l.entries) d l.image) l.told (f (map map_entry l.entries) d l.image)) c k) (b ms made) h
+done-lines names given ranges texts tell r f a b c (Err e, told, h) = absurd (none-first names texts e a told)
 
-done-hex : (name : List ℕ) (may : List ℕ → Reply → Type 0) (x : Result (List ℕ) (ℕ × ℕ)) (r : Reply) → ((image : List ℕ) → may image r → IsDone r.status) → IsOk x → Then (by_image name x) may r → IsDone r.status
-done-hex name may (Ok image) r f a h = f image h
-done-hex name may (Err fault) r f a h = absurd (let e : false ≡ true = a in cc)
+done-object : (name out : List ℕ) (list : Option (List ℕ)) (text : List ℕ) (r : Reply) → IsFaultless text → AssembleAnswer name out list text r → IsDone r.status
+done-object name out list text r none (Ok m, made, h) = inl (ap (λ (k : Reply). k.status) h.2)
+done-object name out list text r none (Err e, told, h) = absurd (no-fault name text e none told)
+
+done-objects : (name out : List ℕ) (list : Option (List ℕ)) (texts : List (List ℕ)) (r : Reply) → IsOneText IsFaultless texts → OneText (AssembleAnswer name out list) texts r → IsDone r.status
+done-objects name out list (t ∷ []) r a h = done-object name out list t r a h
+done-objects name out list [] r a h = absurd h
+done-objects name out list (t ∷ u ∷ texts) r a h = absurd h
+
+done-hex : (name text : List ℕ) (may : List ℕ → Reply → Type 0) (x : Result (List ℕ) (ℕ × ℕ)) (r : Reply) → ((image : List ℕ) → may image r → IsDone r.status) → IsOk x → Then (by_image name text x) may r → IsDone r.status
+done-hex name text may (Ok image) r f a h = f image h
+done-hex name text may (Err fault) r f a h = absurd (let e : false ≡ true = a in cc)
 
 done-one : (name : List ℕ) (may : List ℕ → Reply → Type 0) (texts : List (List ℕ)) (r : Reply) → ((image : List ℕ) → may image r → IsDone r.status) →
     IsOneText (λ text. IsOk (image_of text)) texts → OneText (λ text. Then (hex_of name text) may) texts r → IsDone r.status
-done-one name may (t ∷ []) r f a h = done-hex name may (image_of t) r f a h
+done-one name may (t ∷ []) r f a h = done-hex name t may (image_of t) r f a h
 done-one name may [] r f a h = absurd h
 done-one name may (t ∷ u ∷ texts) r f a h = absurd h
 
@@ -572,7 +637,7 @@ done-debug : (file script : List ℕ) (inputs : List (Role × List ℕ)) (text c
 done-debug file script inputs text commands texts r a h =
     let given = given_for inputs texts in
     let lines = input_for role.Lines inputs texts in
-    done-hex file (λ image. Then (driving_of given) (λ driving reply. reply ≡ debug_reply (script, commands) lines driving image)) (image_of text) r
+    done-hex file text (λ image. Then (driving_of given) (λ driving reply. reply ≡ debug_reply (script, commands) lines driving image)) (image_of text) r
     (λ image k. done-then (driving_of given) (λ driving reply. reply ≡ debug_reply (script, commands) lines driving image) r
     (λ d m. done-told r (debug_reply (script, commands) lines d image) m
     (done-step (script_of script commands) _ a.script_read (λ cs. done-step (lines_of lines) _ a.lines (λ entries. done-end (end_of (debugged_by entries cs d image).machine))))) a.driving k) a.image h
@@ -610,12 +675,22 @@ done-explained code None is a = absurd (let e : false ≡ true = sym is ∙ a in
 pub done-command : (c : Option Command) (contents : List (Option (List ℕ))) (r : Reply) → IsAccepted c contents → CommandAnswer c contents r → IsDone r.status
 done-command None contents r a h = absurd a
 done-command (Some Helps) contents r a h = inl (ap (λ (k : Reply). k.status) h)
+done-command (Some (HelpsOn verb)) contents r a h = inl (ap (λ (k : Reply). k.status) h)
 done-command (Some TellsVersion) contents r a h = inl (ap (λ (k : Reply). k.status) h)
 done-command (Some (Runs files inputs extent placing)) contents r a h =
     accepted-then _ (Parted (length files) (RunAnswer files inputs extent placing)) (reads_of (files ++ names_of inputs) contents) r
     (λ texts b k. done-sources files (given_for inputs (drop (length files) texts)) placing (take (length files) texts) (board_reply extent) r
     (λ driving image. done-run extent driving image) b.0 b.1 b.2 k) a h
-done-command (Some (Assembles file out)) contents r a h = accepted-then _ (OneText (AssembleAnswer file out)) (reads_of (file ∷ []) contents) r (λ texts b k. done-objects file out texts r b k) a h
+done-command (Some (Profiles files inputs states placing out)) contents r a h =
+    accepted-then _ (Parted (length files) (ProfileAnswer files inputs states placing out)) (reads_of (files ++ names_of inputs) contents) r
+    (λ texts b k. done-lines files (given_for inputs (drop (length files) texts)) placing (take (length files) texts) (profile_reply states out) r (done-profile states out) b.0 b.1 b.2 k) a h
+done-command (Some (ProfilesHex file inputs states out)) contents r a h =
+    accepted-then _ (Parted 1 (λ texts more. OneText (λ text. ProfileHexAnswer file inputs states out text more) texts)) (reads_of (file ∷ names_of inputs) contents) r
+    (λ texts b k. done-one file (λ image. Then (driving_of (given_for inputs (drop 1 texts))) (λ driving reply. reply ≡ profile_reply states out [] driving image)) (take 1 texts) r
+    (λ image l. done-then (driving_of (given_for inputs (drop 1 texts))) (λ driving reply. reply ≡ profile_reply states out [] driving image) r
+    (λ d m. done-told r (profile_reply states out [] d image) m (done-profile states out [] d image)) b.1 l) b.0 k) a h
+done-command (Some (Assembles file out list)) contents r a h =
+    accepted-then _ (OneText (AssembleAnswer file out list)) (reads_of (file ∷ []) contents) r (λ texts b k. done-objects file out list texts r b k) a h
 done-command (Some (Packs files out)) contents r a h =
     accepted-then _ (PackAnswer files out) (reads_of files contents) r
     (λ texts b k. accepted-then _ (λ ms reply. reply ≡ packed out ms (doubled ms)) (modules_of object_of files texts) r (λ ms c l. done-told r (packed out ms (doubled ms)) l (done-packed out ms (doubled ms) c)) b k) a h

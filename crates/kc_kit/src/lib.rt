@@ -4,5 +4,5 @@
 mod top;
 
 pub use kc_kit_answer::{HELP, VERSION};
-pub use kc_kit_files::Status;
+pub use kc_kit_files::{Ended, Status};
 pub use top::kit;

@@ -2,35 +2,51 @@
 ghost use Rattle.std.specs.Prelude.{◌≡◌, ◌≢◌, ◌⊎◌, [], false, map, string_bytes, Some, None};
 ghost use Rattle.kc_base.specs.Causes.{Rose};
 ghost use Rattle.kc_base.specs.Held.{Told};
-ghost use Rattle.kc_kit_files.specs.Outside.{Replied};
+ghost use Rattle.kc_trace.specs.Out.{Puts};
+ghost use Rattle.kc_trace.specs.Trace.{out_of};
+ghost use Rattle.kc_kit_files.specs.declared.status.Status.TheVariants as status;
+ghost use Rattle.kc_kit_files.specs.Ended.{Ends, Noted};
+ghost use Rattle.kc_kit_files.specs.Notes.{output_note};
+ghost use Rattle.kc_kit_files.specs.Outside.{Prints, Replied, kept, shown_by};
+ghost use Rattle.kc_kit_files.specs.Reply.{says};
+ghost use Rattle.kc_kit_words.specs.Usage.{usage_note};
 ghost use Rattle.kc_kit_words.specs.Words.{command_of};
 ghost use Rattle.kc_kit_words.specs.Asked.{asked, IsWithin};
 ghost use Rattle.kc_kit_answer.specs.Answer.{MayAnswerBy, IsAccepted, StaysBut, names_read, names_written};
 ghost use Rattle.kc_kit_answer.specs.Jobs.{IsDoable, IsOf, IsReady};
+ghost use Rattle.kc_kit_answer.specs.Lines.{usage_line};
 
 use kc_base::{Files, Sink};
 use kc_kit_answer::{
-    HELP, Job, VERSION, explain_code, perform, prepare_assemble, prepare_debug, prepare_dump,
-    prepare_generate, prepare_hex, prepare_link, prepare_list, prepare_pack, prepare_run,
+    Job, VERSION, explain_code, perform, prepare_assemble, prepare_debug, prepare_dump,
+    prepare_generate, prepare_hex, prepare_link, prepare_list, prepare_pack, prepare_profile,
+    prepare_profile_hex, prepare_run, tell_help, tell_help_on,
 };
-use kc_kit_files::{Refusal, Status, refuse, say};
-use kc_kit_words::{Command, read_words};
+use kc_kit_files::{Ended, Refusal, Status, refuse, say};
+use kc_kit_words::{Command, put_usage, read_words};
 use kc_trace::TraceOut;
 use std::alloc::Global;
 
 /// Does what the words ask for: reads the files that they name, prints the text of the answer, writes the files that it
-/// has, and gives its status.
-pub fn kit<F: Files, S: Sink>(
+/// has, and gives its status. What is said of a refusal in words goes to `notes`: that a write fails there changes nothing.
+pub fn kit<F: Files, S: Sink, N: Sink>(
     alloc: Global,
     words: &[String],
     files: &mut F,
     out: &mut TraceOut<S>,
+    notes: &mut TraceOut<N>,
 ) -> Status
     requires { out.old.failed ≡ false }
 
     // The status, what is printed and what the files hold afterwards are the answer, over what the files held.
     ensures answer { Replied F.held F.write_faults S.written S.faults (MayAnswerBy F.held F.read_faults (command_of (map string_bytes words.now)) files.old files.new)
         files.old out.old.sink result files.new out.new.sink }
+
+    // What is said in words is the note of the same answer, or what could not be written, or that memory is wanted, or what is
+    // wrong in words that are no command.
+    ensures notes { Noted (usage_note (map string_bytes words.now)) (MayAnswerBy F.held F.read_faults (command_of (map string_bytes words.now)) files.old files.new)
+        (kept (F.held files.old) (F.write_faults files.old)) (shown_by S.written S.faults out.old.sink) (out_of N.written N.faults notes.old) result
+        (kept (F.held files.new) (F.write_faults files.new)) (shown_by S.written S.faults out.new.sink) (out_of N.written N.faults notes.new) }
 
     // What is accepted, with no fault counted in this call, is done.
     ensures complete { Told (F.held files.old) (λ held. IsAccepted (command_of (map string_bytes words.now)) (map held (names_read (command_of (map string_bytes words.now))))
@@ -48,44 +64,78 @@ pub fn kit<F: Files, S: Sink>(
     ensures same { names_written (command_of (map string_bytes words.now)) ≡ [] → F.held files.new ≡ F.held files.old }
     ensures no_write { names_written (command_of (map string_bytes words.now)) ≡ [] → F.write_faults files.new ≡ F.write_faults files.old }
 {
-    answered(alloc, words, files, out)
+    answered(alloc, words, files, out, notes)
 }
 
-// The answer to some words.
-fn answered<F: Files, S: Sink>(
+// The answer to some words, with its note.
+fn answered<F: Files, S: Sink, N: Sink>(
     alloc: Global,
     words: &[String],
     files: &mut F,
     out: &mut TraceOut<S>,
+    notes: &mut TraceOut<N>,
 ) -> Status
     requires { out.old.failed ≡ false }
     ensures answer { Replied F.held F.write_faults S.written S.faults (MayAnswerBy F.held F.read_faults (command_of (map string_bytes words.now)) files.old files.new)
         files.old out.old.sink result files.new out.new.sink }
+    ensures notes { Noted (usage_note (map string_bytes words.now)) (MayAnswerBy F.held F.read_faults (command_of (map string_bytes words.now)) files.old files.new)
+        (kept (F.held files.old) (F.write_faults files.old)) (shown_by S.written S.faults out.old.sink) (out_of N.written N.faults notes.old) result
+        (kept (F.held files.new) (F.write_faults files.new)) (shown_by S.written S.faults out.new.sink) (out_of N.written N.faults notes.new) }
     ensures no_command { command_of (map string_bytes words.now) ≡ None → (result ≡ Status.Usage) ⊎ (result ≡ Status.WriteFault) }
 {
     match read_words(words) {
-        None => say(out, b"usage\n", Status::Usage),
-        Some(command) => done(alloc, &command, files, out),
+        None => refuse_words(words, out, notes),
+        Some(command) => {
+            let ended = done(alloc, &command, files, out);
+            ended.put_note(notes);
+            ended.status
+        }
     }
 }
 
+// The answer to words that are no command, with what is wrong in them. It takes no memory.
+fn refuse_words<S: Sink, N: Sink>(
+    words: &[String],
+    out: &mut TraceOut<S>,
+    notes: &mut TraceOut<N>,
+) -> Status
+    requires { out.old.failed ≡ false }
+    ensures reply { Prints (λ reply. reply ≡ says status.Usage usage_line) (shown_by S.written S.faults out.old.sink) result (shown_by S.written S.faults out.new.sink) }
+    ensures status { (result ≡ Status.Usage) ⊎ (result ≡ Status.WriteFault) }
+    ensures usage { result ≡ Status.Usage → Puts (out_of N.written N.faults notes.old) (usage_note (map string_bytes words.now)) (out_of N.written N.faults notes.new) }
+    ensures output { result ≡ Status.WriteFault → Puts (out_of N.written N.faults notes.old) output_note (out_of N.written N.faults notes.new) }
+{
+    let status = say(out, b"usage\n", Status::Usage);
+    if status == Status::Usage {
+        put_usage(words, notes);
+    } else {
+        Ended::by(status).put_note(notes);
+    }
+    status
+}
+
 // Does a command.
-fn done<F: Files, S: Sink>(
+fn done<'a, F: Files, S: Sink>(
     alloc: Global,
-    command: &Command<'_>,
+    command: &Command<'a>,
     files: &mut F,
     out: &mut TraceOut<S>,
-) -> Status
+) -> Ended<'a>
     requires ready { out.old.failed ≡ false }
     requires within { IsWithin command.now }
-    ensures { Replied F.held F.write_faults S.written S.faults (MayAnswerBy F.held F.read_faults (Some (asked command.now)) files.old files.new)
+    ensures { Ends F.held F.write_faults S.written S.faults (MayAnswerBy F.held F.read_faults (Some (asked command.now)) files.old files.new)
         files.old out.old.sink result files.new out.new.sink }
 {
     match command {
-        Command::Help => say(out, HELP.as_bytes(), Status::Done),
-        Command::Version => say(out, VERSION.as_bytes(), Status::Done),
+        Command::Help => Ended::by(tell_help(alloc, out)),
+        Command::HelpOn(help) => Ended::by(tell_help_on(alloc, help.verb, out)),
+        Command::Version => Ended::by(say(out, VERSION.as_bytes(), Status::Done)),
         Command::Run(run) => {
             let prepared = prepare_run(alloc, run, files);
+            finish(alloc, prepared, files, out)
+        }
+        Command::Profile(run) => {
+            let prepared = prepare_profile(alloc, run, files);
             finish(alloc, prepared, files, out)
         }
         Command::Assemble(assemble) => {
@@ -102,6 +152,10 @@ fn done<F: Files, S: Sink>(
         }
         Command::RunHex(run) => {
             let prepared = prepare_hex(alloc, run, files);
+            finish(alloc, prepared, files, out)
+        }
+        Command::ProfileHex(run) => {
+            let prepared = prepare_profile_hex(alloc, run, files);
             finish(alloc, prepared, files, out)
         }
         Command::List(list) => {
@@ -125,15 +179,15 @@ fn done<F: Files, S: Sink>(
 }
 
 // Does what is prepared, or prints its refusal.
-fn finish<F: Files, S: Sink>(
+fn finish<'a, F: Files, S: Sink>(
     alloc: Global,
-    prepared: Result<Job<'_>, Refusal>,
+    prepared: Result<Job<'a>, Refusal>,
     files: &mut F,
     out: &mut TraceOut<S>,
-) -> Status
+) -> Ended<'a>
     requires ready { out.old.failed ≡ false }
     requires doable { IsReady prepared }
-    ensures answer { Replied F.held F.write_faults S.written S.faults (IsOf prepared.entry) files.old out.old.sink result files.new out.new.sink }
+    ensures answer { Ends F.held F.write_faults S.written S.faults (IsOf prepared.entry) files.old out.old.sink result files.new out.new.sink }
     ensures no_read { F.read_faults files.new ≡ F.read_faults files.old }
 {
     match prepared {

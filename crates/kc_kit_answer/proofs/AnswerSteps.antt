@@ -3,13 +3,15 @@ use Rattle.std.proofs.Common.{◌≡◌, ◌⊎◌, inl, inr, ℕ, ◌≤◌, Li
 use Rattle.std.proofs.Math.Seq.{take-append_seam, drop-append_seam}
 use Rattle.kc_base.specs.Held.{Holding, Told}
 use Rattle.kc_base.specs.Causes.{Rose}
-use Rattle.kc_kit_files.specs.declared.status.Status.{Status}
+use Rattle.kc_kit_files.specs.declared.ended.Ended.{Ended}
 use Rattle.kc_kit_files.specs.declared.refusal.Refusal.{Refusal}
 use Rattle.kc_kit_files.specs.Reply.{Reply, before, Then, IsRefused}
 use Rattle.kc_kit_files.specs.Reads.{reads_of, Holds, FailedRead, MissedRead, MissedOne, AreHeld}
-use Rattle.kc_kit_files.specs.Outside.{Shown, kept, Replies}
+use Rattle.kc_kit_files.specs.Ended.{EndsBy}
+use Rattle.kc_kit_files.specs.Outside.{Shown, kept}
 use Rattle.kc_kit_files.proofs.ReadLemmas.{refused-widen, reads-held, Holds-held, held-one, held-both, missed-one, missed-first, missed-second}
-use Rattle.kc_kit_files.proofs.ReplyLemmas.{Replies-widen, said-refused}
+use Rattle.kc_kit_files.proofs.EndLemmas.{Ends-widen}
+use Rattle.kc_kit_files.proofs.ReplyLemmas.{said-refused}
 use Rattle.kc_kit_answer.specs.declared.job.Job.{Job}
 use Rattle.kc_kit_words.specs.declared.command.Command.{Command as Read}
 use Rattle.kc_kit_words.specs.Asked.{asked}
@@ -87,14 +89,14 @@ taking-prepared names library may ms members taken p e t h =
     (λ r m. then-ok (library_of library.0 library.1) members (Taking names library.0 may ms) r e (Ok taken, t, m)) h
 
 -- a command whose files are read and judged is finished
-pub finished : {T : Type 0} (held : T → Option Holding) (reads writes : T → ℕ) (command read : Read) (old mid new : T) (p : Result Job Refusal) (before now : Shown) (given : Status) →
-    command ≡ read → Prepares held reads writes (asked read) old p mid → Replies (IsOf p) (kept (held mid) (writes mid)) before given (kept (held new) (writes new)) now → reads new ≡ reads mid →
-    Replies (MayAnswerBy held reads (Some (asked command)) old new) (kept (held old) (writes old)) before given (kept (held new) (writes new)) now
-finished held reads writes command read old mid new p before now given is h replies e =
-    subst (λ k. Replies (MayAnswerBy held reads (Some (asked command)) old new) k before given (kept (held new) (writes new)) now) (kept-same (held mid) (held old) (writes mid) (writes old) h.only_read.same h.only_read.no_write)
-    (Replies-widen (IsOf p) (MayAnswerBy held reads (Some (asked command)) old new) (kept (held mid) (writes mid)) before given (kept (held new) (writes new)) now
+pub finished : {T : Type 0} (held : T → Option Holding) (reads writes : T → ℕ) (command read : Read) (old mid new : T) (p : Result Job Refusal) (before now : Shown) (ended : Ended) →
+    command ≡ read → Prepares held reads writes (asked read) old p mid → EndsBy (IsOf p) (kept (held mid) (writes mid)) before ended.status ended.said (kept (held new) (writes new)) now → reads new ≡ reads mid →
+    EndsBy (MayAnswerBy held reads (Some (asked command)) old new) (kept (held old) (writes old)) before ended.status ended.said (kept (held new) (writes new)) now
+finished held reads writes command read old mid new p before now ended is h ends e =
+    subst (λ k. EndsBy (MayAnswerBy held reads (Some (asked command)) old new) k before ended.status ended.said (kept (held new) (writes new)) now) (kept-same (held mid) (held old) (writes mid) (writes old) h.only_read.same h.only_read.no_write)
+    (Ends-widen (IsOf p) (MayAnswerBy held reads (Some (asked command)) old new) (kept (held mid) (writes mid)) before ended.status ended.said (kept (held new) (writes new)) now
     (λ r w. subst (λ c. MayAnswerBy held reads (Some (asked c)) old new r) (sym is)
-    (subst (λ n. MayAnswer (Some (asked read)) (held old) (Rose (reads old) n) r) (sym e) (prepared-of (MayAnswerBy held reads (Some (asked read)) old mid) p h.answer r w))) replies)
+    (subst (λ n. MayAnswer (Some (asked read)) (held old) (Rose (reads old) n) r) (sym e) (prepared-of (MayAnswerBy held reads (Some (asked read)) old mid) p h.answer r w))) ends)
 
 -- ---- names in two parts
 

@@ -1,9 +1,13 @@
 pub mod AnswerSteps
 pub mod DebugLemmas
+pub mod EndedLemmas
+pub mod HelpLemmas
+pub mod LinesLemmas
 pub mod LinkLemmas
 pub mod Listed
 pub mod LivesLemmas
 pub mod MadeLemmas
+pub mod ProfileLemmas
 pub mod RunLemmas
 pub mod SourceLemmas
 pub mod WriteLemmas

@@ -10,7 +10,7 @@ use Rattle.kc_link.specs.Placed.{placed, with_places, or_fault, unfit}
 use Rattle.kc_kit_files.specs.declared.status.Status.TheVariants as status
 use Rattle.kc_kit_files.specs.declared.refusal.Refusal.{Refusal}
 use Rattle.kc_kit_files.specs.declared.refusal.Refusal.TheVariants as refusals
-use Rattle.kc_kit_files.specs.Reply.{Reply, Write, write, says, done_writing, Then, IsRefused}
+use Rattle.kc_kit_files.specs.Reply.{Reply, Write, write, tells, done_writing, Then, IsRefused}
 use Rattle.kc_kit_words.specs.Words.{Beside}
 use Rattle.kc_hex.specs.Spelling.{spelling}
 use Rattle.kc_link.specs.Filled.{IsImage}
@@ -23,19 +23,20 @@ use Rattle.kc_kit_answer.proofs.AnswerSteps.{then-err}
 use Rattle.kc_kit_answer.specs.declared.link_lines.Members.{Members}
 use Rattle.kc_kit_answer.specs.Origins.{words_of_members, with_members}
 use Rattle.kc_kit_answer.specs.Lines.{link_line, file_at}
+use Rattle.kc_kit_answer.specs.Notes.{link_note}
 use Rattle.kc_kit_answer.specs.Places.{by_places, places_of, Placing}
 
 -- ---- linking
 
 -- a broken rule
 pub link-refused : (names : List (List ℕ)) (ms : List Object) (ranges : Ranges) (may : List Object → Places → Reply → Type 0) (fault : LinkFault) (refusal : Refusal) →
-    IsCause fault (placed ms ranges ≡ Err fault) → IsRefused (λ reply. reply ≡ says status.Link (link_line names fault)) refusal → (fault ≡ faults.NoMemory → refusal ≡ refusals.NoMemory) →
+    IsCause fault (placed ms ranges ≡ Err fault) → IsRefused (λ reply. reply ≡ tells status.Link (link_line names fault) (link_note names ms fault)) refusal → (fault ≡ faults.NoMemory → refusal ≡ refusals.NoMemory) →
     IsRefused (Placing names ranges may ms) refusal
 link-refused names ms ranges may fault refusal cause line memory = by fault refl cause
   where
     told : placed ms ranges ≡ Err fault → IsRefused (Placing names ranges may ms) refusal
-    told e = refused-widen (λ reply. reply ≡ says status.Link (link_line names fault)) (Placing names ranges may ms) refusal
-        (λ r f. then-err (places_of names ms ranges) (may ms) r (ap (by_places names) e ∙ ap Err (sym f))) line
+    told e = refused-widen (λ reply. reply ≡ tells status.Link (link_line names fault) (link_note names ms fault)) (Placing names ranges may ms) refusal
+        (λ r f. then-err (places_of names ms ranges) (may ms) r (ap (by_places names ms) e ∙ ap Err (sym f))) line
 
     by : (f : LinkFault) → fault ≡ f → IsCause f (placed ms ranges ≡ Err fault) → IsRefused (Placing names ranges may ms) refusal
     by faults.NoMemory e c = subst (IsRefused (Placing names ranges may ms)) (sym (memory e)) tt
@@ -93,7 +94,7 @@ linked-files names out beside ranges ms image bytes first second linked spelled 
       is_map = lines-at beside.lines ms ranges places first is lines;
       done = λ i. done_writing (write out (spelled i) ∷ first ++ map-at beside.map ms ranges places second is maps i);
     } in
-    subst (λ r. Then (by_places names r) (LinksTo out beside ranges ms) reply) (sym is) files
+    subst (λ r. Then (by_places names ms r) (LinksTo out beside ranges ms) reply) (sym is) files
 
 -- the word of a module's file
 abbrev file_word : Option (List ℕ) → List ℕ

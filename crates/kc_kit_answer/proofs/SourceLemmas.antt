@@ -75,7 +75,7 @@ pub linked-placing : LinkedImage → (names : List (List ℕ)) (given : GivenFil
     Placing names ranges (Driven given FilledTold tell) ms r → Placing names ranges (Driven given (LinkedTold texts) tell) ms r
 linked-placing law names given ranges texts tell ms r made h = by (placed ms ranges) refl h
   where
-    by : (x : Result Places LinkFault) → placed ms ranges ≡ x → Then (by_places names x) (Driven given FilledTold tell ms) r → Then (by_places names x) (Driven given (LinkedTold texts) tell ms) r
+    by : (x : Result Places LinkFault) → placed ms ranges ≡ x → Then (by_places names ms x) (Driven given FilledTold tell ms) r → Then (by_places names ms x) (Driven given (LinkedTold texts) tell ms) r
     by (Ok places) e k =
         then-map (driving_of given) (λ d. FilledTold (tell d) ms places) (λ d. LinkedTold texts (tell d) ms places) r
         (λ d f. record { image = f.image; is_filled = f.is_filled; is_image = image-of law texts ms ranges places f.image made e f.is_filled; told = f.told }) k

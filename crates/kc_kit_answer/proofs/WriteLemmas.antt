@@ -4,46 +4,37 @@ use Rattle.kc_base.specs.Causes.{Rose}
 use Rattle.kc_base.proofs.Growth.{Grew-nothing}
 use Rattle.kc_kit_files.specs.declared.status.Status.{Status}
 use Rattle.kc_kit_files.specs.declared.status.Status.TheVariants as status
+use Rattle.kc_kit_files.specs.declared.ended.Ended.{Ended}
+use Rattle.kc_kit_files.specs.declared.ended.Said.{Said}
+use Rattle.kc_kit_files.specs.declared.ended.Said.TheVariants as said
+use Rattle.kc_kit_files.specs.Ended.{said_in, EndsBy}
 use Rattle.kc_kit_files.specs.Reply.{Reply, Write, done_writing}
-use Rattle.kc_kit_files.specs.Outside.{Kept, Shown, Replies, Wrote, WroteByPart, WroteOne, OthersStay}
-use Rattle.kc_kit_answer.specs.Jobs.{AreWritten}
+use Rattle.kc_kit_files.specs.Outside.{Kept, Shown, Wrote, WroteByPart, RefusedAt, WroteOne, OthersStay}
+use Rattle.kc_kit_answer.specs.Jobs.{IsRefusedAt, AreWrittenBy, AreWritten}
 
--- ---- files that are written
+-- ---- one file
 
-pub written-none : (old new : Kept) (w : Write) → WroteOne old.held w new.held → AreWritten old (w ∷ []) status.Done new
-written-none old new w h = (new, h, refl)
+-- the file that is said has this name
+abbrev pub IsNamed : Said → List ℕ → Type 0
+IsNamed (said.File name) file = file ≡ name.now
+IsNamed _ file = ⊥
+
+refused-first : (old new : Kept) (w : Write) (what : Said) → IsNamed what w.name → OthersStay old.held w.name new.held → Rose old.faults new.faults → IsRefusedAt what old (w ∷ []) new
+refused-first old new w (said.File name) is others rose = (rose, inl (is, others))
+refused-first old new w said.Nothing is others rose = absurd is
+refused-first old new w (said.Refusal note) is others rose = absurd is
+
+pub written-one : (old new : Kept) (w : Write) (given : Status) (what : Said) → IsNamed what w.name → (given ≡ status.Done) ⊎ ((given ≡ status.WriteFault) ⊎ (given ≡ status.NoMemory)) → (given ≡ status.Done → WroteOne old.held w new.held) →
+    OthersStay old.held w.name new.held → (given ≡ status.WriteFault → Rose old.faults new.faults) → AreWrittenBy old (w ∷ []) given what new
+written-one old new w given what is (inl e) one others rose = subst (λ s. AreWrittenBy old (w ∷ []) s what new) (sym e) (new, one e, refl)
+written-one old new w given what is (inr (inl e)) one others rose = subst (λ s. AreWrittenBy old (w ∷ []) s what new) (sym e) (refused-first old new w what is others (rose e))
+written-one old new w given what is (inr (inr e)) one others rose = subst (λ s. AreWrittenBy old (w ∷ []) s what new) (sym e) (inl others)
+
+-- ---- some files, and then others
 
 rose-later : (a b c : ℕ) → a ≤ b → Rose b c → Rose a c
 rose-later a b c h r = omega (arith, r)
 
-pub written-more : (old mid new : Kept) (w : Write) (ws : List Write) (given : Status) → WroteOne old.held w mid.held → old.faults ≤ mid.faults → AreWritten mid ws given new → AreWritten old (w ∷ ws) given new
-written-more old mid new w ws status.Done one later h = (mid, one, h)
-written-more old mid new w ws status.WriteFault one later h = (rose-later old.faults mid.faults new.faults later h.0, inr (mid, one, h.1))
-written-more old mid new w ws status.NoMemory one later h = inr (mid, one, h)
-written-more old mid new w ws status.Usage one later h = absurd h
-written-more old mid new w ws status.Missing one later h = absurd h
-written-more old mid new w ws status.Source one later h = absurd h
-written-more old mid new w ws status.Input one later h = absurd h
-written-more old mid new w ws status.Link one later h = absurd h
-written-more old mid new w ws status.Undefined one later h = absurd h
-written-more old mid new w ws status.ReadFault one later h = absurd h
-
--- a write that is refused
-pub written-part : (old new : Kept) (w : Write) (ws : List Write) (given : Status) → (given ≡ status.WriteFault) ⊎ (given ≡ status.NoMemory) → OthersStay old.held w.name new.held → (given ≡ status.WriteFault → Rose old.faults new.faults) → AreWritten old (w ∷ ws) given new
-written-part old new w ws given (inl e) others rose = subst (λ s. AreWritten old (w ∷ ws) s new) (sym e) (rose e, inl others)
-written-part old new w ws given (inr e) others rose = subst (λ s. AreWritten old (w ∷ ws) s new) (sym e) (inl others)
-
--- one file
-pub written-one : (old new : Kept) (w : Write) (given : Status) → (given ≡ status.Done) ⊎ ((given ≡ status.WriteFault) ⊎ (given ≡ status.NoMemory)) → (given ≡ status.Done → WroteOne old.held w new.held) →
-    OthersStay old.held w.name new.held → (given ≡ status.WriteFault → Rose old.faults new.faults) → AreWritten old (w ∷ []) given new
-written-one old new w given (inl e) one others rose = subst (λ s. AreWritten old (w ∷ []) s new) (sym e) (written-none old new w (one e))
-written-one old new w given (inr k) one others rose = written-part old new w [] given k others rose
-
-pub not_done : (given : Status) → given ≢ status.Done → (given ≡ status.Done) ⊎ ((given ≡ status.WriteFault) ⊎ (given ≡ status.NoMemory)) → (given ≡ status.WriteFault) ⊎ (given ≡ status.NoMemory)
-not_done given f (inl e) = absurd (f e)
-not_done given f (inr k) = k
-
--- some files, and then others
 wrote-append : (old mid new : Kept) (ws us : List Write) → Wrote old ws mid → Wrote mid us new → Wrote old (ws ++ us) new
 wrote-append old mid new [] us all h = subst (λ (k : Kept). Wrote k us new) all h
 wrote-append old mid new (w ∷ ws) us all h = (all.0, all.1, wrote-append all.0 mid new ws us all.2 h)
@@ -57,40 +48,78 @@ part-front old new [] us h = absurd h
 part-front old new (w ∷ ws) us (inl h) = inl h
 part-front old new (w ∷ ws) us (inr h) = inr (h.0, h.1, part-front h.0 new ws us h.2)
 
-pub written-behind : (old mid new : Kept) (ws us : List Write) (given : Status) → Wrote old ws mid → old.faults ≤ mid.faults → AreWritten mid us given new → AreWritten old (ws ++ us) given new
-written-behind old mid new ws us status.Done all later h = wrote-append old mid new ws us all h
-written-behind old mid new ws us status.WriteFault all later h = (rose-later old.faults mid.faults new.faults later h.0, part-behind old mid new ws us all h.1)
-written-behind old mid new ws us status.NoMemory all later h = part-behind old mid new ws us all h
-written-behind old mid new ws us status.Usage all later h = absurd h
-written-behind old mid new ws us status.Missing all later h = absurd h
-written-behind old mid new ws us status.Source all later h = absurd h
-written-behind old mid new ws us status.Input all later h = absurd h
-written-behind old mid new ws us status.Link all later h = absurd h
-written-behind old mid new ws us status.Undefined all later h = absurd h
-written-behind old mid new ws us status.ReadFault all later h = absurd h
+at-behind : (name : List ℕ) (old mid new : Kept) (ws us : List Write) → Wrote old ws mid → RefusedAt name mid us new → RefusedAt name old (ws ++ us) new
+at-behind name old mid new [] us all h = subst (λ (k : Kept). RefusedAt name k us new) all h
+at-behind name old mid new (w ∷ ws) us all h = inr (all.0, all.1, at-behind name all.0 mid new ws us all.2 h)
 
--- one of some files is refused, and the others are not written
-pub written-front : (old new : Kept) (ws us : List Write) (given : Status) → given ≢ status.Done → AreWritten old ws given new → AreWritten old (ws ++ us) given new
-written-front old new ws us status.Done is_not h = absurd (is_not refl)
-written-front old new ws us status.WriteFault is_not h = (h.0, part-front old new ws us h.1)
-written-front old new ws us status.NoMemory is_not h = part-front old new ws us h
-written-front old new ws us status.Usage is_not h = absurd h
-written-front old new ws us status.Missing is_not h = absurd h
-written-front old new ws us status.Source is_not h = absurd h
-written-front old new ws us status.Input is_not h = absurd h
-written-front old new ws us status.Link is_not h = absurd h
-written-front old new ws us status.Undefined is_not h = absurd h
-written-front old new ws us status.ReadFault is_not h = absurd h
+at-front : (name : List ℕ) (old new : Kept) (ws us : List Write) → RefusedAt name old ws new → RefusedAt name old (ws ++ us) new
+at-front name old new [] us h = absurd h
+at-front name old new (w ∷ ws) us (inl h) = inl h
+at-front name old new (w ∷ ws) us (inr h) = inr (h.0, h.1, at-front name h.0 new ws us h.2)
 
--- the reply of files that are written
-pub Replies-written : (old new : Kept) (out : Shown) (ws : List Write) (given : Status) (may : Reply → Type 0) → may (done_writing ws) → AreWritten old ws given new → Replies may old out given new out
-Replies-written old new out ws status.Done may m h = record { reply = done_writing ws; is_answer = m; status = refl; text = Grew-nothing out.written out.written refl; files = h }
-Replies-written old new out ws status.WriteFault may m h = inr (record { reply = done_writing ws; is_answer = m; files = h.1; cause = h.0; text = refl })
-Replies-written old new out ws status.NoMemory may m h = record { text = inl refl; files = inr (done_writing ws, m, h) }
-Replies-written old new out ws status.Usage may m h = absurd h
-Replies-written old new out ws status.Missing may m h = absurd h
-Replies-written old new out ws status.Source may m h = absurd h
-Replies-written old new out ws status.Input may m h = absurd h
-Replies-written old new out ws status.Link may m h = absurd h
-Replies-written old new out ws status.Undefined may m h = absurd h
-Replies-written old new out ws status.ReadFault may m h = absurd h
+refused-behind : (old mid new : Kept) (ws us : List Write) (what : Said) → Wrote old ws mid → old.faults ≤ mid.faults → IsRefusedAt what mid us new → IsRefusedAt what old (ws ++ us) new
+refused-behind old mid new ws us (said.File name) all later h = (rose-later old.faults mid.faults new.faults later h.0, at-behind name.now old mid new ws us all h.1)
+refused-behind old mid new ws us said.Nothing all later h = absurd h
+refused-behind old mid new ws us (said.Refusal note) all later h = absurd h
+
+refused-front : (old new : Kept) (ws us : List Write) (what : Said) → IsRefusedAt what old ws new → IsRefusedAt what old (ws ++ us) new
+refused-front old new ws us (said.File name) h = (h.0, at-front name.now old new ws us h.1)
+refused-front old new ws us said.Nothing h = absurd h
+refused-front old new ws us (said.Refusal note) h = absurd h
+
+by-behind : (old mid new : Kept) (ws us : List Write) (given : Status) (what : Said) → Wrote old ws mid → old.faults ≤ mid.faults → AreWrittenBy mid us given what new → AreWrittenBy old (ws ++ us) given what new
+by-behind old mid new ws us status.Done what all later h = wrote-append old mid new ws us all h
+by-behind old mid new ws us status.WriteFault what all later h = refused-behind old mid new ws us what all later h
+by-behind old mid new ws us status.NoMemory what all later h = part-behind old mid new ws us all h
+by-behind old mid new ws us status.Usage what all later h = absurd h
+by-behind old mid new ws us status.Missing what all later h = absurd h
+by-behind old mid new ws us status.Source what all later h = absurd h
+by-behind old mid new ws us status.Input what all later h = absurd h
+by-behind old mid new ws us status.Link what all later h = absurd h
+by-behind old mid new ws us status.Undefined what all later h = absurd h
+by-behind old mid new ws us status.ReadFault what all later h = absurd h
+
+by-front : (old new : Kept) (ws us : List Write) (given : Status) (what : Said) → given ≢ status.Done → AreWrittenBy old ws given what new → AreWrittenBy old (ws ++ us) given what new
+by-front old new ws us status.Done what is_not h = absurd (is_not refl)
+by-front old new ws us status.WriteFault what is_not h = refused-front old new ws us what h
+by-front old new ws us status.NoMemory what is_not h = part-front old new ws us h
+by-front old new ws us status.Usage what is_not h = absurd h
+by-front old new ws us status.Missing what is_not h = absurd h
+by-front old new ws us status.Source what is_not h = absurd h
+by-front old new ws us status.Input what is_not h = absurd h
+by-front old new ws us status.Link what is_not h = absurd h
+by-front old new ws us status.Undefined what is_not h = absurd h
+by-front old new ws us status.ReadFault what is_not h = absurd h
+
+-- some are written, and then others
+pub written-behind : (old mid new : Kept) (ws us : List Write) (first ended : Ended) → first.status ≡ status.Done → AreWritten old ws first mid → old.faults ≤ mid.faults → AreWritten mid us ended new → AreWritten old (ws ++ us) ended new
+written-behind old mid new ws us first ended is all later h = record {
+  written = by-behind old mid new ws us ended.status ended.said (subst (λ s. AreWrittenBy old ws s first.said mid) is all.written) later h.written;
+  silent = h.silent;
+}
+
+-- one of some is refused, and the others are not written
+pub written-front : (old new : Kept) (ws us : List Write) (ended : Ended) → ended.status ≢ status.Done → AreWritten old ws ended new → AreWritten old (ws ++ us) ended new
+written-front old new ws us ended is_not h = record { written = by-front old new ws us ended.status ended.said is_not h.written; silent = h.silent }
+
+-- ---- the reply of files that are written
+
+ends-refused : (old new : Kept) (out : Shown) (ws : List Write) (what : Said) (may : Reply → Type 0) → may (done_writing ws) → IsRefusedAt what old ws new → EndsBy may old out status.WriteFault what new out
+ends-refused old new out ws (said.File name) may m h = record { reply = done_writing ws; is_answer = m; files = h.1; cause = h.0; text = Grew-nothing out.written out.written refl }
+ends-refused old new out ws said.Nothing may m h = absurd h
+ends-refused old new out ws (said.Refusal note) may m h = absurd h
+
+ends-by-written : (old new : Kept) (out : Shown) (ws : List Write) (given : Status) (what : Said) (may : Reply → Type 0) → may (done_writing ws) → said_in what ≡ [] → AreWrittenBy old ws given what new → EndsBy may old out given what new out
+ends-by-written old new out ws status.Done what may m e h = record { reply = done_writing ws; is_answer = (m, sym e); status = refl; text = Grew-nothing out.written out.written refl; files = h }
+ends-by-written old new out ws status.WriteFault what may m e h = ends-refused old new out ws what may m h
+ends-by-written old new out ws status.NoMemory what may m e h = record { text = inl refl; files = inr (done_writing ws, m, h) }
+ends-by-written old new out ws status.Usage what may m e h = absurd h
+ends-by-written old new out ws status.Missing what may m e h = absurd h
+ends-by-written old new out ws status.Source what may m e h = absurd h
+ends-by-written old new out ws status.Input what may m e h = absurd h
+ends-by-written old new out ws status.Link what may m e h = absurd h
+ends-by-written old new out ws status.Undefined what may m e h = absurd h
+ends-by-written old new out ws status.ReadFault what may m e h = absurd h
+
+pub ends-written : (old new : Kept) (out : Shown) (ws : List Write) (ended : Ended) (may : Reply → Type 0) → may (done_writing ws) → AreWritten old ws ended new → EndsBy may old out ended.status ended.said new out
+ends-written old new out ws ended may m h = ends-by-written old new out ws ended.status ended.said may m h.silent h.written

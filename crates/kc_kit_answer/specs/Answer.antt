@@ -10,7 +10,7 @@ use Rattle.kc_explain.specs.Meanings.{is_among}
 use Rattle.kc_kit_files.specs.declared.status.Status.TheVariants as status
 use Rattle.kc_kit_files.specs.Reply.{Reply, says, Then}
 use Rattle.kc_kit_files.specs.Reads.{reads_of, Holds, FailedRead}
-use Rattle.kc_kit_words.specs.Words.{Beside, Command, Helps, TellsVersion, Runs, Assembles, Packs, Links, RunsHex, Lists, Debugs, Generates, Dumps, Explains}
+use Rattle.kc_kit_words.specs.Words.{Beside, Command, Helps, HelpsOn, TellsVersion, Runs, Profiles, Assembles, Packs, Links, RunsHex, ProfilesHex, Lists, Debugs, Generates, Dumps, Explains}
 use Rattle.kc_kit_inputs.specs.Driving.{given_for, driving_of}
 use Rattle.kc_kit_inputs.specs.Inputs.{names_of}
 use Rattle.kc_kit_inputs.specs.Sources.{IsFaultless}
@@ -20,19 +20,23 @@ use Rattle.kc_kit_answer.specs.Debug.{DebugAnswer, IsDebuggable}
 use Rattle.kc_kit_answer.specs.Dump.{DumpAnswer, IsTraceText}
 use Rattle.kc_kit_answer.specs.Explain.{explained}
 use Rattle.kc_kit_answer.specs.Generate.{GenerateAnswer, IsGenerable}
+use Rattle.kc_kit_answer.specs.Help.{help_text, help_on}
 use Rattle.kc_kit_answer.specs.Hex.{RunHexAnswer, ListAnswer}
-use Rattle.kc_kit_answer.specs.Lines.{help_text, version_line, usage_line}
+use Rattle.kc_kit_answer.specs.Lines.{version_line, usage_line}
 use Rattle.kc_kit_answer.specs.Link.{LinkAnswer, AreLinkable}
 use Rattle.kc_kit_answer.specs.Pack.{PackAnswer, ArePackable}
 use Rattle.kc_kit_answer.specs.Run.{RunAnswer, AreRunnable}
+use Rattle.kc_kit_answer.specs.Profile.{ProfileAnswer, ProfileHexAnswer}
 
 -- ---- the files that a command names: those that are read, in this order, and those that are written
 
 abbrev pub names_read : Option Command → List (List ℕ)
 names_read (Some (Runs files inputs extent placing)) = files ++ names_of inputs
-names_read (Some (Assembles file out)) = file ∷ []
+names_read (Some (Assembles file out list)) = file ∷ []
 names_read (Some (Packs files out)) = files
 names_read (Some (Links files inputs out beside placing)) = files ++ names_of inputs
+names_read (Some (Profiles files inputs states placing out)) = files ++ names_of inputs
+names_read (Some (ProfilesHex file inputs states out)) = file ∷ names_of inputs
 names_read (Some (RunsHex file inputs extent)) = file ∷ names_of inputs
 names_read (Some (Lists file first last)) = file ∷ []
 names_read (Some (Debugs file script inputs)) = file ∷ script ∷ names_of inputs
@@ -44,10 +48,12 @@ abbrev pub names_beside : Beside → List (List ℕ)
 names_beside beside = option_to_list beside.lines ++ option_to_list beside.map
 
 abbrev pub names_written : Option Command → List (List ℕ)
-names_written (Some (Assembles file out)) = out ∷ []
+names_written (Some (Assembles file out list)) = out ∷ option_to_list list
 names_written (Some (Packs files out)) = out ∷ []
 names_written (Some (Links files inputs out beside placing)) = out ∷ names_beside beside
 names_written (Some (Dumps file out clock)) = out ∷ []
+names_written (Some (Profiles files inputs states placing out)) = out ∷ []
+names_written (Some (ProfilesHex file inputs states out)) = out ∷ []
 names_written _ = []
 
 -- ---- commands
@@ -70,9 +76,14 @@ Parted count may texts reply = may (take count texts) (drop count texts) reply
 abbrev pub CommandAnswer : Option Command → List (Option (List ℕ)) → Reply → Type 0
 CommandAnswer None contents reply = reply ≡ says status.Usage usage_line
 CommandAnswer (Some Helps) contents reply = reply ≡ says status.Done help_text
+CommandAnswer (Some (HelpsOn verb)) contents reply = reply ≡ says status.Done (help_on verb)
 CommandAnswer (Some TellsVersion) contents reply = reply ≡ says status.Done version_line
 CommandAnswer (Some (Runs files inputs extent placing)) contents reply = Then (reads_of (files ++ names_of inputs) contents) (Parted (length files) (RunAnswer files inputs extent placing)) reply
-CommandAnswer (Some (Assembles file out)) contents reply = Then (reads_of (file ∷ []) contents) (OneText (AssembleAnswer file out)) reply
+CommandAnswer (Some (Profiles files inputs states placing out)) contents reply =
+    Then (reads_of (files ++ names_of inputs) contents) (Parted (length files) (ProfileAnswer files inputs states placing out)) reply
+CommandAnswer (Some (ProfilesHex file inputs states out)) contents reply =
+    Then (reads_of (file ∷ names_of inputs) contents) (Parted 1 (λ texts more. OneText (λ text. ProfileHexAnswer file inputs states out text more) texts)) reply
+CommandAnswer (Some (Assembles file out list)) contents reply = Then (reads_of (file ∷ []) contents) (OneText (AssembleAnswer file out list)) reply
 CommandAnswer (Some (Packs files out)) contents reply = Then (reads_of files contents) (PackAnswer files out) reply
 CommandAnswer (Some (Links files inputs out beside placing)) contents reply =
     Then (reads_of (files ++ names_of inputs) contents) (Parted (length files) (LinkAnswer files inputs out beside placing)) reply
@@ -101,10 +112,15 @@ MayAnswerBy held reads command old new reply = MayAnswer command (held old) (Ros
 abbrev pub IsAccepted : Option Command → List (Option (List ℕ)) → Type 0
 IsAccepted None contents = ⊥
 IsAccepted (Some Helps) contents = Unit {0}
+IsAccepted (Some (HelpsOn verb)) contents = Unit {0}
 IsAccepted (Some TellsVersion) contents = Unit {0}
 IsAccepted (Some (Runs files inputs extent placing)) contents =
     Accepting (λ texts. AreRunnable files inputs placing (take (length files) texts) (drop (length files) texts)) (reads_of (files ++ names_of inputs) contents)
-IsAccepted (Some (Assembles file out)) contents = Accepting (IsOneText IsFaultless) (reads_of (file ∷ []) contents)
+IsAccepted (Some (Profiles files inputs states placing out)) contents =
+    Accepting (λ texts. AreRunnable files inputs placing (take (length files) texts) (drop (length files) texts)) (reads_of (files ++ names_of inputs) contents)
+IsAccepted (Some (ProfilesHex file inputs states out)) contents =
+    Accepting (λ texts. IsOneText (λ text. IsOk (image_of text)) (take 1 texts) × IsOk (driving_of (given_for inputs (drop 1 texts)))) (reads_of (file ∷ names_of inputs) contents)
+IsAccepted (Some (Assembles file out list)) contents = Accepting (IsOneText IsFaultless) (reads_of (file ∷ []) contents)
 IsAccepted (Some (Packs files out)) contents = Accepting (ArePackable files) (reads_of files contents)
 IsAccepted (Some (Links files inputs out beside placing)) contents =
     Accepting (λ texts. AreLinkable files inputs placing (take (length files) texts) (drop (length files) texts)) (reads_of (files ++ names_of inputs) contents)

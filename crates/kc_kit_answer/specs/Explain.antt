@@ -3,7 +3,8 @@ use Rattle.std.specs.Prelude.{ℕ, List, ◌++◌, codes, Option, Some, None}
 use Rattle.kc_explain.specs.Meanings.{Said, said_of}
 use Rattle.kc_explain.specs.Text.{meaning_text}
 use Rattle.kc_kit_files.specs.declared.status.Status.TheVariants as status
-use Rattle.kc_kit_files.specs.Reply.{Reply, says}
+use Rattle.kc_kit_files.specs.Reply.{Reply, says, tells}
+use Rattle.kc_kit_answer.specs.Notes.{no_code_note}
 
 abbrev pub no_code_line : List ℕ → List ℕ
 no_code_line code = codes "missing code " ++ code ++ codes "\n"
@@ -11,7 +12,7 @@ no_code_line code = codes "missing code " ++ code ++ codes "\n"
 -- the text of a row, or that there is no such code
 abbrev pub explained_by : List ℕ → Option Said → Reply
 explained_by code (Some row) = says status.Done (meaning_text row)
-explained_by code None = says status.Missing (no_code_line code)
+explained_by code None = tells status.Missing (no_code_line code) (no_code_note code)
 
 abbrev pub explained : List ℕ → Reply
 explained code = explained_by code (said_of code)

@@ -1,14 +1,21 @@
 -- What is left to do once a command's files are read and judged (this kit's own).
 use Rattle.std.specs.Prelude.{◌≡◌, ℕ, ◌≤◌, List, [], ◌∷◌, ◌++◌, Option, Some, None, Result, Ok, Err}
+use Rattle.std.specs.Global.{Vec}
 use Rattle.kc_code_listing.specs.Listing.{listing}
+use Rattle.kc_debug_script.specs.declared.line_map.MapEntry.{MapEntry}
 use Rattle.kc_base.specs.Causes.{Rose}
 use Rattle.kc_base.specs.Held.{Holding}
 use Rattle.kc_kit_files.specs.declared.status.Status.{Status}
 use Rattle.kc_kit_files.specs.declared.status.Status.TheVariants as status
-use Rattle.kc_kit_files.specs.Outside.{Kept, OnlyRead, Wrote, WroteByPart}
+use Rattle.kc_kit_files.specs.declared.ended.Ended.{Ended}
+use Rattle.kc_kit_files.specs.declared.ended.Said.{Said}
+use Rattle.kc_kit_files.specs.declared.ended.Said.TheVariants as said
+use Rattle.kc_kit_files.specs.Ended.{said_in}
+use Rattle.kc_kit_files.specs.Outside.{Kept, OnlyRead, Wrote, WroteByPart, RefusedAt}
 use Rattle.kc_kit_files.specs.declared.refusal.Refusal.{Refusal}
 use Rattle.kc_kit_files.specs.Reply.{Reply, Write, write, says, done_writing, IsRefused, IsSaid}
 use Rattle.kc_kit_words.specs.Asked.{IsBounded}
+use Rattle.kc_kit_words.specs.Values.{max_states}
 use Rattle.kc_kit_words.specs.Words.{Command}
 use Rattle.kc_kit_inputs.specs.declared.driving.Driving.{Driving}
 use Rattle.kc_kit_answer.specs.declared.board.Board.{Board}
@@ -19,6 +26,7 @@ use Rattle.kc_kit_answer.specs.Answer.{MayAnswerBy}
 use Rattle.kc_kit_answer.specs.Debug.{debugged_by, script_reply}
 use Rattle.kc_kit_answer.specs.Generate.{summary_of}
 use Rattle.kc_kit_answer.specs.Lives.{board_reply}
+use Rattle.kc_kit_answer.specs.Profile.{profile_reply}
 
 abbrev pub written : Output → Write
 written o = write o.name.now o.bytes.items
@@ -30,6 +38,7 @@ maybe_written (Some o) = written o ∷ []
 -- the reply of a job
 abbrev pub does : Job → Reply
 does (job.Run board extent) = board_reply extent board.driving board.image
+does (job.Profile board states entries out) = profile_reply states out.now entries.items board.driving board.image
 does (job.Count board number) = summary_of number board.driving board.image
 does (job.List image first last) = says status.Done (listing image first last)
 does (job.Debug board script lines) = script_reply (debugged_by lines script board.driving board.image)
@@ -38,6 +47,7 @@ does (job.Write file lines map) = done_writing (written file ∷ maybe_written l
 -- state times and lives within their limits, and addresses in order
 abbrev pub IsDoable : Job → Type 0
 IsDoable (job.Run board extent) = IsBounded extent
+IsDoable (job.Profile board states entries out) = states ≤ max_states
 IsDoable (job.Count board number) = Unit {0}
 IsDoable (job.List image first last) = (0x2000 ≤ first) × (first ≤ last)
 IsDoable (job.Debug board script lines) = Unit {0}
@@ -47,6 +57,11 @@ IsDoable (job.Write file lines map) = Unit {0}
 abbrev pub IsBoard : ((Driving → List ℕ → Reply) → Reply → Type 0) → Result Board Refusal → Type 0
 IsBoard answer (Ok board) = (tell : Driving → List ℕ → Reply) → answer tell (tell board.driving board.image)
 IsBoard answer (Err refusal) = (tell : Driving → List ℕ → Reply) → IsRefused (answer tell) refusal
+
+-- a board with the entries of a line map
+abbrev pub IsBoardWithLines : ((List MapEntry → Driving → List ℕ → Reply) → Reply → Type 0) → Result (Board × Vec MapEntry) Refusal → Type 0
+IsBoardWithLines answer (Ok made) = (tell : List MapEntry → Driving → List ℕ → Reply) → answer tell (tell made.1.items made.0.driving made.0.image)
+IsBoardWithLines answer (Err refusal) = (tell : List MapEntry → Driving → List ℕ → Reply) → IsRefused (answer tell) refusal
 
 -- a job or a refusal, of which the reply may be given
 abbrev pub IsPrepared : (Reply → Type 0) → Result Job Refusal → Type 0
@@ -67,9 +82,17 @@ abbrev pub IsOf : Result Job Refusal → Reply → Type 0
 IsOf (Ok job) reply = reply ≡ does job
 IsOf (Err refusal) reply = IsSaid refusal reply
 
--- files are written, all of them or some and then one that is refused
-abbrev pub AreWritten : Kept → List Write → Status → Kept → Type 0
-AreWritten before ws status.Done now = Wrote before ws now
-AreWritten before ws status.WriteFault now = Rose before.faults now.faults × WroteByPart before ws now
-AreWritten before ws status.NoMemory now = WroteByPart before ws now
-AreWritten before ws _ now = ⊥
+-- files are written, all of them or some and then one that is refused, which is said
+abbrev pub IsRefusedAt : Said → Kept → List Write → Kept → Type 0
+IsRefusedAt (said.File name) before ws now = Rose before.faults now.faults × RefusedAt name.now before ws now
+IsRefusedAt _ before ws now = ⊥
+
+abbrev pub AreWrittenBy : Kept → List Write → Status → Said → Kept → Type 0
+AreWrittenBy before ws status.Done what now = Wrote before ws now
+AreWrittenBy before ws status.WriteFault what now = IsRefusedAt what before ws now
+AreWrittenBy before ws status.NoMemory what now = WroteByPart before ws now
+AreWrittenBy before ws _ what now = ⊥
+
+pub record AreWritten (before : Kept) (ws : List Write) (ended : Ended) (now : Kept) : Type 0 where
+  pub written : AreWrittenBy before ws ended.status ended.said now
+  pub silent : said_in ended.said ≡ []

@@ -6,14 +6,17 @@ pub mod Dump
 pub mod Explain
 pub mod Fitted
 pub mod Generate
+pub mod Help
 pub mod Hex
 pub mod Jobs
 pub mod Lines
 pub mod Link
 pub mod Lives
+pub mod Notes
 pub mod Origins
 pub mod Pack
 pub mod Places
 pub mod Run
+pub mod Profile
 pub mod Running
 pub mod Watched

@@ -6,10 +6,7 @@ use Rattle.kc_link_place.specs.declared.ranges.LinkFault.TheVariants as fault
 use Rattle.kc_link_map.specs.Map.{kind_word}
 use Rattle.kc_link.specs.declared.lines.LineAt.{LineAt}
 use Rattle.kc_trace.specs.Text.{hex}
-use Rattle.kc_kit_answer.specs.declared.help.TheConstants.{HELP, VERSION}
-
-abbrev pub help_text : List ℕ
-help_text = HELP.now
+use Rattle.kc_kit_answer.specs.declared.help.TheConstants.{VERSION}
 
 abbrev pub version_line : List ℕ
 version_line = VERSION.now

@@ -5,15 +5,16 @@ use Rattle.kc_lib.specs.Format.{library_bytes}
 use Rattle.kc_lib.specs.Names.{doubled}
 use Rattle.kc_link_place.specs.declared.ranges.LinkFault.TheVariants as faults
 use Rattle.kc_kit_files.specs.declared.status.Status.TheVariants as status
-use Rattle.kc_kit_files.specs.Reply.{Reply, says, write, done_writing, Then}
+use Rattle.kc_kit_files.specs.Reply.{Reply, tells, write, done_writing, Then}
 use Rattle.kc_kit_inputs.specs.Objects.{modules_of, object_of}
 use Rattle.kc_kit_answer.specs.Accepting.{Accepting}
 use Rattle.kc_kit_answer.specs.Lines.{link_line}
+use Rattle.kc_kit_answer.specs.Notes.{link_note}
 
 -- the library of modules is written, or the first name is told that is public in two of them
 abbrev pub packed : List ℕ → List Object → Option (List ℕ) → Reply
 packed out ms None = done_writing (write out (library_bytes ms) ∷ [])
-packed out ms (Some name) = says status.Link (link_line [] (faults.OverlapName name))
+packed out ms (Some name) = tells status.Link (link_line [] (faults.OverlapName name)) (link_note [] ms (faults.OverlapName name))
 
 -- the answer to objects that were read
 abbrev pub PackAnswer : List (List ℕ) → List ℕ → List (List ℕ) → Reply → Type 0

@@ -6,16 +6,17 @@ use Rattle.kc_link_place.specs.declared.ranges.LinkFault.{LinkFault}
 use Rattle.kc_link_place.specs.Placing.{Places}
 use Rattle.kc_link.specs.Placed.{placed}
 use Rattle.kc_kit_files.specs.declared.status.Status.TheVariants as status
-use Rattle.kc_kit_files.specs.Reply.{Reply, says, Then}
+use Rattle.kc_kit_files.specs.Reply.{Reply, tells, Then}
 use Rattle.kc_kit_answer.specs.Lines.{link_line}
+use Rattle.kc_kit_answer.specs.Notes.{link_note}
 
 -- the places of modules, or the reply to the first broken rule
-abbrev pub by_places : List (List ℕ) → Result Places LinkFault → Result Places Reply
-by_places names (Ok places) = Ok places
-by_places names (Err fault) = Err (says status.Link (link_line names fault))
+abbrev pub by_places : List (List ℕ) → List Object → Result Places LinkFault → Result Places Reply
+by_places names ms (Ok places) = Ok places
+by_places names ms (Err fault) = Err (tells status.Link (link_line names fault) (link_note names ms fault))
 
 abbrev pub places_of : List (List ℕ) → List Object → Ranges → Result Places Reply
-places_of names ms ranges = by_places names (placed ms ranges)
+places_of names ms ranges = by_places names ms (placed ms ranges)
 
 -- what may be answered to modules, once they are placed
 abbrev pub Placing : List (List ℕ) → Ranges → (List Object → Places → Reply → Type 0) → List Object → Reply → Type 0

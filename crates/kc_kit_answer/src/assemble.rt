@@ -1,15 +1,17 @@
 // The command that assembles a source to an object.
-ghost use Rattle.std.specs.Prelude.{◌≤◌, length};
+ghost use Rattle.std.specs.Prelude.{◌≤◌, length, IfOk};
+ghost use Rattle.std.specs.Option.{option_map};
 ghost use Rattle.kc_kit_words.specs.Asked.{asked};
-ghost use Rattle.kc_kit_answer.specs.Assemble.{AssembleAnswer};
-ghost use Rattle.kc_kit_answer.specs.Jobs.{IsPrepared, Prepares};
+ghost use Rattle.kc_kit_answer.specs.Assemble.{AreListings, AssembleAnswer};
+ghost use Rattle.kc_kit_answer.specs.Jobs.{IsPrepared, Prepares, maybe_written};
 
 use crate::job::{Job, Output};
-use kc_base::Files;
+use kc_asm_list::listing;
+use kc_base::{Files, NoMemory};
 use kc_kit_files::{Refusal, read_file};
 use kc_kit_inputs::assemble_source;
 use kc_kit_words::{Assemble, Command};
-use kc_obj::encode;
+use kc_obj::{Module, encode};
 use std::alloc::Global;
 
 /// Reads a source and assembles the object that is to be written.
@@ -29,7 +31,7 @@ pub fn prepare_assemble<'a, F: Files>(
 // The object of the source with a text.
 fn object_text<'a>(alloc: Global, assemble: &Assemble<'a>, text: &[u8]) -> Result<Job<'a>, Refusal>
     requires { length text.now ≤ 1048576 }
-    ensures { IsPrepared (AssembleAnswer assemble.now.file.now assemble.now.out.now text.now) result }
+    ensures { IsPrepared (AssembleAnswer assemble.now.file.now assemble.now.out.now (option_map (λ l. l.now) assemble.now.list) text.now) result }
 {
     let made = match assemble_source(alloc, assemble.file, text) {
         Ok(made) => made,
@@ -42,9 +44,31 @@ fn object_text<'a>(alloc: Global, assemble: &Assemble<'a>, text: &[u8]) -> Resul
         name: assemble.out,
         bytes,
     };
-    Ok(Job::Write {
-        file,
-        lines: None,
-        map: None,
-    })
+    match listing_file(alloc, assemble, text, &made) {
+        Ok(map) => Ok(Job::Write {
+            file,
+            lines: None,
+            map,
+        }),
+        Err(NoMemory) => Err(Refusal::NoMemory),
+    }
+}
+
+// The listing of a source with its module, where one is asked for.
+fn listing_file<'a>(
+    alloc: Global,
+    assemble: &Assemble<'a>,
+    text: &[u8],
+    made: &Module,
+) -> Result<Option<Output<'a>>, NoMemory>
+    requires { length text.now ≤ 1048576 }
+    ensures { IfOk result (λ file. AreListings (option_map (λ l. l.now) assemble.now.list) text.now made.now (maybe_written file)) }
+{
+    match assemble.list {
+        None => Ok(None),
+        Some(name) => match listing(alloc, text, made) {
+            Ok(bytes) => Ok(Some(Output { name, bytes })),
+            Err(_) => Err(NoMemory),
+        },
+    }
 }

@@ -67,8 +67,8 @@ pub(crate) fn board_of_sources(
     }
 }
 
-// The board of the image that is linked from modules.
-fn board_of_modules(
+/// The board of the image that is linked from modules.
+pub(crate) fn board_of_modules(
     alloc: Global,
     names: &[String],
     modules: &[Module],
@@ -89,7 +89,7 @@ fn board_of_modules(
                 files: names,
                 members: None,
             };
-            Err(link_refusal(alloc, &origins, &fault))
+            Err(link_refusal(alloc, &origins, modules, &fault))
         }
     }
 }

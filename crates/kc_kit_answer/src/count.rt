@@ -12,8 +12,8 @@ use crate::image_run::status_of;
 use itoa::Buffer;
 use kc_base::{Failed, NoMemory, Sink, StateTime, Steps};
 use kc_kit_files::{Status, say};
-use kc_machine::End;
-use kc_trace::{Counts, Record, TraceOut, line};
+use kc_machine::{End, stopped};
+use kc_trace::{Counts, TraceOut, line};
 use std::alloc::Global;
 use std::sync::ledger::{Blank, Ledger};
 
@@ -33,28 +33,6 @@ impl Sink for Silence {
 
     fn write(&mut self, piece: &[u8]) -> Result<usize, Failed> {
         Ok(piece.len())
-    }
-}
-
-// The record of the end of a run, at a state.
-fn stopped(how: End, now: StateTime) -> Record
-    requires { HasRun how now }
-    ensures { result ≡ Stopped (end_state how now) (end_number how) }
-{
-    match how {
-        End::Spent => Record::Stopped { at: now, how: 0 },
-        End::Powerdown => Record::Stopped {
-            at: now - 1,
-            how: 1,
-        },
-        End::Reset => Record::Stopped {
-            at: now - 1,
-            how: 2,
-        },
-        End::Undefined(what) => Record::Stopped {
-            at: what.at,
-            how: 3,
-        },
     }
 }
 

@@ -1,6 +1,7 @@
 // What is left to do once a command's files are read and judged.
-ghost use Rattle.std.specs.Prelude.{◌≡◌, ◌≤◌, ◌∷◌, ◌++◌, false};
-ghost use Rattle.kc_kit_files.specs.Outside.{Replied, kept};
+ghost use Rattle.std.specs.Prelude.{◌≡◌, ◌≤◌, ◌∷◌, ◌++◌, [], false};
+ghost use Rattle.kc_kit_files.specs.Ended.{Ends};
+ghost use Rattle.kc_kit_files.specs.Outside.{kept};
 ghost use Rattle.kc_kit_answer.specs.Jobs.{AreWritten, IsDoable, does, written, maybe_written};
 
 use crate::board::Board;
@@ -8,9 +9,10 @@ use crate::count::count_board;
 use crate::debug::debug_board;
 use crate::image_run::run_board;
 use crate::list::list_image;
+use crate::profile_run::{Target, profile_board};
 use kc_base::{Files, Image, Sink};
-use kc_debug_script::{LineMap, Script};
-use kc_kit_files::{Status, write_file};
+use kc_debug_script::{LineMap, MapEntry, Script};
+use kc_kit_files::{Ended, Said, Status, write_file};
 use kc_kit_words::Extent;
 use kc_trace::TraceOut;
 use std::alloc::Global;
@@ -24,14 +26,20 @@ pub struct Output<'a> {
     pub(crate) bytes: Vec<u8>,
 }
 
-/// What is left to do: a run of a board that is printed, or of which the lines are counted, a listing of an image, a script
+/// What is left to do: a run of a board that is printed, with or without a profile that is written, or of which the lines are counted, a listing of an image, a script
 /// over a board, or files to write: a first one, and
-/// a line map and a map of pieces and names beside it.
+/// others beside it: a line map, and a map of pieces and names or the listing of a source.
 #[derive(Drop)]
 pub enum Job<'a> {
     Run {
         board: Board,
         extent: Extent,
+    },
+    Profile {
+        board: Board,
+        states: u64,
+        entries: Vec<MapEntry>,
+        out: &'a str,
     },
     Count {
         board: Board,
@@ -54,63 +62,114 @@ pub enum Job<'a> {
     },
 }
 
-/// Does a job, and gives the status.
-pub fn perform<F: Files, S: Sink>(
+/// Does a job, and gives how it has ended.
+pub fn perform<'a, F: Files, S: Sink>(
     alloc: Global,
-    job: Job<'_>,
+    job: Job<'a>,
     files: &mut F,
     out: &mut TraceOut<S>,
-) -> Status
+) -> Ended<'a>
     requires ready { out.old.failed ≡ false }
     requires doable { IsDoable job }
-    ensures answer { Replied F.held F.write_faults S.written S.faults (λ reply. reply ≡ does job.entry) files.old out.old.sink result files.new out.new.sink }
+    ensures answer { Ends F.held F.write_faults S.written S.faults (λ reply. reply ≡ does job.entry) files.old out.old.sink result files.new out.new.sink }
     ensures no_read { F.read_faults files.new ≡ F.read_faults files.old }
 {
     match job {
         Job::Run { board, extent } => {
-            run_board::<S, Brand>(alloc, board, extent, Blank::new(1), out)
+            let status = run_board::<S, Brand>(alloc, board, extent, Blank::new(1), out);
+            Ended::by(status)
         }
+        Job::Profile {
+            board,
+            states,
+            entries,
+            out: name,
+        } => profile_board::<F, S, Brand>(
+            alloc,
+            board,
+            states,
+            &entries,
+            Target { name },
+            Blank::new(1),
+            files,
+            out,
+        ),
         Job::Count { board, number } => {
-            count_board::<S, Brand>(alloc, board, number, Blank::new(1), out)
+            let status = count_board::<S, Brand>(alloc, board, number, Blank::new(1), out);
+            Ended::by(status)
         }
-        Job::List { image, first, last } => list_image(&image, first, last, out),
+        Job::List { image, first, last } => Ended::by(list_image(&image, first, last, out)),
         Job::Debug {
             board,
             script,
             lines,
-        } => debug_board::<S, Brand>(alloc, board, &script, lines, Blank::new(1), out),
+        } => {
+            let blank = Blank::new(1);
+            let status = debug_board::<S, Brand>(alloc, board, &script, lines, blank, out);
+            Ended::by(status)
+        }
         Job::Write { file, lines, map } => write_files(alloc, &file, &lines, &map, files),
     }
 }
 
+/// Writes a file.
+pub(crate) fn write_output<'a, F: Files>(
+    alloc: Global,
+    file: &Output<'a>,
+    files: &mut F,
+) -> Ended<'a>
+    ensures written { AreWritten (kept (F.held files.old) (F.write_faults files.old)) (written file.now ∷ []) result (kept (F.held files.new) (F.write_faults files.new)) }
+    ensures later { F.write_faults files.old ≤ F.write_faults files.new }
+    ensures no_read { F.read_faults files.new ≡ F.read_faults files.old }
+{
+    let status = write_file(alloc, file.name, &file.bytes, files);
+    let said = Said::File(file.name);
+    Ended { status, said }
+}
+
 // Writes a file, if there is one.
-fn write_some<F: Files>(alloc: Global, file: &Option<Output<'_>>, files: &mut F) -> Status
+fn write_some<'a, F: Files>(alloc: Global, file: &Option<Output<'a>>, files: &mut F) -> Ended<'a>
     ensures written { AreWritten (kept (F.held files.old) (F.write_faults files.old)) (maybe_written file.now) result (kept (F.held files.new) (F.write_faults files.new)) }
     ensures later { F.write_faults files.old ≤ F.write_faults files.new }
     ensures no_read { F.read_faults files.new ≡ F.read_faults files.old }
 {
     match file {
-        None => Status::Done,
-        Some(file) => write_file(alloc, file.name, &file.bytes, files),
+        None => Ended::by(Status::Done),
+        Some(file) => write_output(alloc, file, files),
+    }
+}
+
+// Writes the files beside a first one, those that there are.
+fn write_beside<'a, F: Files>(
+    alloc: Global,
+    lines: &Option<Output<'a>>,
+    map: &Option<Output<'a>>,
+    files: &mut F,
+) -> Ended<'a>
+    ensures written { AreWritten (kept (F.held files.old) (F.write_faults files.old)) (maybe_written lines.now ++ maybe_written map.now) result (kept (F.held files.new) (F.write_faults files.new)) }
+    ensures no_read { F.read_faults files.new ≡ F.read_faults files.old }
+{
+    let second = write_some(alloc, lines, files);
+    match second.status {
+        Status::Done => write_some(alloc, map, files),
+        _ => second,
     }
 }
 
 // Writes a file, and those beside it.
-fn write_files<F: Files>(
+fn write_files<'a, F: Files>(
     alloc: Global,
-    file: &Output<'_>,
-    lines: &Option<Output<'_>>,
-    map: &Option<Output<'_>>,
+    file: &Output<'a>,
+    lines: &Option<Output<'a>>,
+    map: &Option<Output<'a>>,
     files: &mut F,
-) -> Status
+) -> Ended<'a>
     ensures written { AreWritten (kept (F.held files.old) (F.write_faults files.old)) (written file.now ∷ maybe_written lines.now ++ maybe_written map.now) result (kept (F.held files.new) (F.write_faults files.new)) }
     ensures no_read { F.read_faults files.new ≡ F.read_faults files.old }
 {
-    match write_file(alloc, file.name, &file.bytes, files) {
-        Status::Done => match write_some(alloc, lines, files) {
-            Status::Done => write_some(alloc, map, files),
-            status => status,
-        },
-        status => status,
+    let first = write_output(alloc, file, files);
+    match first.status {
+        Status::Done => write_beside(alloc, lines, map, files),
+        _ => first,
     }
 }

@@ -131,7 +131,7 @@ fn link_modules<'a>(
 {
     match kc_link::link(alloc, modules, &link.placing) {
         Ok(image) => outputs(alloc, link, modules, &image),
-        Err(fault) => Err(link_refusal(alloc, origins, &fault)),
+        Err(fault) => Err(link_refusal(alloc, origins, modules, &fault)),
     }
 }
 

@@ -1,10 +1,12 @@
 // The lines of broken rules of the linker.
 ghost use Rattle.std.specs.Prelude.{◌≡◌, ◌<◌, ◌++◌, codes, decimal, IfOk, IsErr};
 ghost use Rattle.kc_kit_files.specs.declared.status.Status.TheVariants as status;
-ghost use Rattle.kc_kit_files.specs.Reply.{says, IsRefused};
+ghost use Rattle.kc_kit_files.specs.Reply.{tells, IsRefused};
 ghost use Rattle.kc_kit_answer.specs.Lines.{file_at, link_text, link_line};
+ghost use Rattle.kc_kit_answer.specs.Notes.{link_note};
 ghost use Rattle.kc_kit_answer.specs.Origins.{words_of_members, words_of};
 
+use crate::link_notes::link_note;
 use itoa::Buffer;
 use kc_base::NoMemory;
 use kc_kit_files::{Cause, Refusal, refusal_of};
@@ -57,7 +59,11 @@ fn member_at(
 }
 
 // The word that names a module's file; that of the one stack of all modules is `-`.
-fn file_at(alloc: Global, origins: &Origins<'_, '_, '_>, index: u16) -> Result<Vec<u8>, NoMemory>
+pub(crate) fn file_at(
+    alloc: Global,
+    origins: &Origins<'_, '_, '_>,
+    index: u16,
+) -> Result<Vec<u8>, NoMemory>
     ensures { IfOk result (λ text. text.items ≡ file_at (words_of origins.now) index) }
 {
     let index = usize::from(index);
@@ -77,16 +83,25 @@ fn capacity_text(alloc: Global, kind: &[u8], file: &[u8]) -> Result<Vec<u8>, NoM
     Ok(text)
 }
 
+/// The number of a piece, and an offset in it.
+pub(crate) fn place_text(alloc: Global, piece: u16, offset: u16) -> Result<Vec<u8>, NoMemory>
+    ensures { IfOk result (λ text. text.items ≡ decimal piece ++ codes " " ++ decimal offset) }
+{
+    let mut buffer = Buffer::new();
+    let mut text = Vec::from_slice(alloc, buffer.format(piece).as_bytes())?;
+    text.push(b' ')?;
+    let mut digits = Buffer::new();
+    text.extend_from_slice(digits.format(offset).as_bytes())?;
+    Ok(text)
+}
+
 fn range_text(alloc: Global, file: &[u8], piece: u16, offset: u16) -> Result<Vec<u8>, NoMemory>
     ensures { IfOk result (λ text. text.items ≡ codes "range " ++ file.now ++ codes " " ++ decimal piece ++ codes " " ++ decimal offset) }
 {
     let mut text = joined(alloc, b"range ", file)?;
+    let place = place_text(alloc, piece, offset)?;
     text.push(b' ')?;
-    let mut buffer = Buffer::new();
-    text.extend_from_slice(buffer.format(piece).as_bytes())?;
-    text.push(b' ')?;
-    let mut digits = Buffer::new();
-    text.extend_from_slice(digits.format(offset).as_bytes())?;
+    text.extend_from_slice(&place)?;
     Ok(text)
 }
 
@@ -125,13 +140,17 @@ fn link_text(
 pub(crate) fn link_refusal(
     alloc: Global,
     origins: &Origins<'_, '_, '_>,
+    modules: &[Module],
     fault: &LinkFault,
 ) -> Refusal
-    ensures line { IsRefused (λ reply. reply ≡ says status.Link (link_line (words_of origins.now) fault.now)) result }
+    ensures line { IsRefused (λ reply. reply ≡ tells status.Link (link_line (words_of origins.now) fault.now) (link_note (words_of origins.now) modules.now fault.now)) result }
     ensures memory { fault.now ≡ LinkFault.NoMemory → result ≡ Refusal.NoMemory }
 {
-    match link_text(alloc, origins, fault) {
-        Ok(text) => refusal_of(alloc, Cause::Link, b"link ", &text, b"\n"),
+    let Ok(text) = link_text(alloc, origins, fault) else {
+        return Refusal::NoMemory;
+    };
+    match link_note(alloc, origins, modules, fault) {
+        Ok(note) => refusal_of(alloc, Cause::Link, b"link ", &text, b"\n", note),
         Err(NoMemory) => Refusal::NoMemory,
     }
 }

@@ -66,7 +66,8 @@ fn pack_modules<'a>(alloc: Global, out: &'a str, modules: &[Module]) -> Result<J
                 files: &[],
                 members: None,
             };
-            Err(link_refusal(alloc, &origins, &LinkFault::OverlapName(name)))
+            let fault = LinkFault::OverlapName(name);
+            Err(link_refusal(alloc, &origins, modules, &fault))
         }
         Err(_) => Err(Refusal::NoMemory),
     }

@@ -8,16 +8,15 @@ use Rattle.std.proofs.lemmas.List.{length-replicate, length-append, length-map, 
 use Rattle.kc_base.specs.Held.{Holding, Told}
 use Rattle.kc_base.specs.declared.files.FileFault.{FileFault}
 use Rattle.kc_base.specs.declared.files.FileFault.TheVariants as fault
-use Rattle.kc_kit_files.specs.declared.status.Status.TheVariants as status
 use Rattle.kc_kit_files.specs.declared.refusal.Refusal.{Refusal}
 use Rattle.kc_kit_files.specs.declared.refusal.Refusal.TheVariants as refusals
-use Rattle.kc_kit_files.specs.Reply.{Reply, says, before, joined, status_for, IsRefused}
+use Rattle.kc_kit_files.specs.Reply.{Reply, tells, before, joined, status_for, IsRefused}
 use Rattle.kc_kit_files.specs.Outside.{OnlyRead}
-use Rattle.kc_kit_files.specs.Reads.{read_of, reads_of, missing_line, long_line, read_line, FailedRead, Holds, MissedRead, MissedOne, AllShort, AreHeld, IsUnread}
+use Rattle.kc_kit_files.specs.Reads.{read_of, reads_of, missing_reply, long_reply, read_reply, FailedRead, Holds, MissedRead, MissedOne, AllShort, AreHeld, IsUnread}
 
 -- what may be answered may be answered
 pub refused-widen : (may wide : Reply → Type 0) (refusal : Refusal) → ((r : Reply) → may r → wide r) → IsRefused may refusal → IsRefused wide refusal
-refused-widen may wide (refusals.Says cause line) f h = f (says (status_for cause) line.items) h
+refused-widen may wide (refusals.Says cause line note) f h = f (tells (status_for cause) line.items note.items) h
 refused-widen may wide refusals.NoMemory f h = tt
 
 -- files that are read again are read alone
@@ -31,7 +30,7 @@ read-short name bytes within =
     let short : nat_lt 1048576 (length bytes) ≡ false = grind (arith, nat_tests) in
     rw short refl
 
-read-long : (name bytes : List ℕ) → 1048576 < length bytes → read_of name (Some bytes) ≡ Err (says status.Input (long_line name))
+read-long : (name bytes : List ℕ) → 1048576 < length bytes → read_of name (Some bytes) ≡ Err (long_reply name)
 read-long name bytes past =
     let long : nat_lt 1048576 (length bytes) ≡ true = grind (arith, nat_tests) in
     rw long refl
@@ -39,7 +38,7 @@ read-long name bytes past =
 abbrev IsTooLong : Option (List ℕ) → Type 0
 IsTooLong held = IsSomeAnd held (λ bytes. 1048576 < length bytes)
 
-read-too_long : (name : List ℕ) (content : Option (List ℕ)) → IsTooLong content → read_of name content ≡ Err (says status.Input (long_line name))
+read-too_long : (name : List ℕ) (content : Option (List ℕ)) → IsTooLong content → read_of name content ≡ Err (long_reply name)
 read-too_long name (Some bytes) h = read-long name bytes h
 read-too_long name None h = absurd h
 
@@ -56,7 +55,7 @@ pub missed-unread : (told : Option Holding) (name : List ℕ) (rose : Type 0) (w
     (unread why ≡ unread fault.Failed → rose) →
     (r : Reply) → IsUnread name why r → MissedOne told name rose r
 missed-unread (Some held) name rose fault.Missing none long failed r h =
-    let gone : read_of name (held name) ≡ Err (says status.Missing (missing_line name)) = ap (read_of name) (none refl) in
+    let gone : read_of name (held name) ≡ Err (missing_reply name) = ap (read_of name) (none refl) in
     (held name, refl, inl (gone ∙ ap Err (sym h)))
 missed-unread None name rose fault.Missing none long failed r h = (None, tt, inl (ap Err (sym h)))
 missed-unread (Some held) name rose fault.TooLong none long failed r h = (held name, refl, inl (read-too_long name (held name) (long refl) ∙ ap Err (sym h)))
@@ -114,7 +113,7 @@ reads-stop (n ∷ ns) (t ∷ ts) name rest content contents r e short h =
     rw (read-short n t short.0) (ap (before t) (reads-stop ns ts name rest content contents r (omega (arith, e)) short.1 h))
 
 failed-stop : (names texts : List (List ℕ)) (name : List ℕ) (rest : List (List ℕ)) (content : Option (List ℕ)) (contents : List (Option (List ℕ))) (rose : Type 0) (r : Reply) →
-    length texts ≡ length names → AllShort texts → rose → r ≡ says status.ReadFault (read_line name) → FailedRead (names ++ name ∷ rest) (map Some texts ++ content ∷ contents) rose r
+    length texts ≡ length names → AllShort texts → rose → r ≡ read_reply name → FailedRead (names ++ name ∷ rest) (map Some texts ++ content ∷ contents) rose r
 failed-stop [] [] name rest content contents rose r e short g h = inl (g, h)
 failed-stop [] (t ∷ ts) name rest content contents rose r e short g h = absurd (omega (arith, e))
 failed-stop (n ∷ ns) [] name rest content contents rose r e short g h = absurd (omega (arith, e))
@@ -135,7 +134,7 @@ missed-behind told names texts name rest rose r h (content, here, why) = (map So
     by None e h one = length-append (map Some texts) (content ∷ map (λ n. None) rest) ∙ ap (λ n. n + length (content ∷ map (λ (n : List ℕ). None) rest)) (length-map texts Some ∙ e) ∙ ap (λ n. length names + suc n) (length-map rest (λ n. None)) ∙ sym (length-append names (name ∷ rest))
     by (Some held) e h one = sym (map-append held names (name ∷ rest) ∙ ap (λ l. l ++ held name ∷ map held rest) h ∙ ap (λ c. map Some texts ++ c ∷ map held rest) one)
 
-    which : (read_of name content ≡ Err r) ⊎ (rose × (r ≡ says status.ReadFault (read_line name))) →
+    which : (read_of name content ≡ Err r) ⊎ (rose × (r ≡ read_reply name)) →
         (reads_of (names ++ name ∷ rest) (map Some texts ++ content ∷ others told rest) ≡ Err r) ⊎ FailedRead (names ++ name ∷ rest) (map Some texts ++ content ∷ others told rest) rose r
     which (inl e) = inl (reads-stop names texts name rest content (others told rest) r h.count h.short e)
     which (inr g) = inr (failed-stop names texts name rest content (others told rest) rose r h.count h.short g.0 g.1)

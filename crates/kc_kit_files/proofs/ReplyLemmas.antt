@@ -9,7 +9,7 @@ use Rattle.kc_kit_files.specs.declared.refusal.Refusal.TheVariants as refusals
 use Rattle.kc_kit_files.specs.Reply.{Reply, IsRefused, IsSaid}
 use Rattle.kc_kit_files.specs.Outside.{Kept, Shown, WroteByPart, IsGiven, Replies}
 
-given-widen : (may wide : Reply → Type 0) (given : Status) (old : Kept) (before : Shown) (new : Kept) (now : Shown) → ((r : Reply) → may r → wide r) → IsGiven may given old before new now → IsGiven wide given old before new now
+pub given-widen : (may wide : Reply → Type 0) (given : Status) (old : Kept) (before : Shown) (new : Kept) (now : Shown) → ((r : Reply) → may r → wide r) → IsGiven may given old before new now → IsGiven wide given old before new now
 given-widen may wide given old before new now f h = record { reply = h.reply; is_answer = f h.reply h.is_answer; status = h.status; text = h.text; files = h.files }
 
 -- what may be answered may be answered
@@ -51,7 +51,7 @@ Replies-given may status.ReadFault old before new now f g h = h
 
 -- the reply of a refusal that may be given
 pub said-refused : (may : Reply → Type 0) (refusal : Refusal) → IsRefused may refusal → (r : Reply) → IsSaid refusal r → may r
-said-refused may (refusals.Says cause line) h r e = subst may (sym e) h
+said-refused may (refusals.Says cause line note) h r e = subst may (sym e) h
 said-refused may refusals.NoMemory h r e = absurd e
 
 -- what a reply is that a status other than those of faults gives

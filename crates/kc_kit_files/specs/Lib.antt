@@ -1,3 +1,5 @@
+pub mod Ended
+pub mod Notes
 pub mod Outside
 pub mod Reads
 pub mod Reply

@@ -48,6 +48,12 @@ abbrev pub WroteByPart : Kept → List Write → Kept → Type 0
 WroteByPart before [] now = ⊥
 WroteByPart before (w ∷ ws) now = OthersStay before.held w.name now.held ⊎ ((mid : Kept) × WroteOne before.held w mid.held × WroteByPart mid ws now)
 
+-- some of them are written, and the next write, to this name, is refused: the name may hold anything, and no other name changes
+abbrev pub RefusedAt : List ℕ → Kept → List Write → Kept → Type 0
+RefusedAt name before [] now = ⊥
+RefusedAt name before (w ∷ ws) now =
+    ((w.name ≡ name) × OthersStay before.held w.name now.held) ⊎ ((mid : Kept) × WroteOne before.held w mid.held × RefusedAt name mid ws now)
+
 -- ---- replies
 
 -- the sink has failed: a front of the text is printed, and no file is written
@@ -58,13 +64,21 @@ pub record SinkFailed (may : Reply → Type 0) (old : Kept) (before : Shown) (ne
   pub cause : Rose before.faults now.faults
   pub files : new ≡ old
 
--- a write has failed: nothing is printed
+-- a write has failed: the text is printed
 pub record WriteFailed (may : Reply → Type 0) (old : Kept) (before : Shown) (new : Kept) (now : Shown) : Type 0 where
   pub reply : Reply
   pub is_answer : may reply
   pub files : WroteByPart old reply.writes new
   pub cause : Rose old.faults new.faults
-  pub text : now.written ≡ before.written
+  pub text : Grew before.written reply.text now.written
+
+-- a write to this name has failed: the text is printed
+pub record WriteFailedAt (name : List ℕ) (may : Reply → Type 0) (old : Kept) (before : Shown) (new : Kept) (now : Shown) : Type 0 where
+  pub reply : Reply
+  pub is_answer : may reply
+  pub files : RefusedAt name old reply.writes new
+  pub cause : Rose old.faults new.faults
+  pub text : Grew before.written reply.text now.written
 
 -- want of memory: nothing is printed, or the text up to a pause; and no file is written, or one is refused
 pub record MemoryWanted (may : Reply → Type 0) (old : Kept) (before : Shown) (new : Kept) (now : Shown) : Type 0 where

@@ -7,7 +7,8 @@ use Rattle.kc_base.specs.declared.files.FileFault.{FileFault}
 use Rattle.kc_base.specs.declared.files.FileFault.TheVariants as fault
 use Rattle.kc_kit_files.specs.declared.status.Status.TheVariants as status
 use Rattle.kc_kit_files.specs.declared.refusal.Refusal.{Refusal}
-use Rattle.kc_kit_files.specs.Reply.{Reply, says, joined, IsRefused}
+use Rattle.kc_kit_files.specs.Notes.{missing_note, long_note, read_note}
+use Rattle.kc_kit_files.specs.Reply.{Reply, tells, joined, IsRefused}
 
 -- the most bytes of a file
 abbrev pub file_limit : ℕ
@@ -22,10 +23,23 @@ long_line name = codes "input " ++ name ++ codes ":0: LONG\n"
 abbrev pub read_line : List ℕ → List ℕ
 read_line name = codes "read " ++ name ++ codes "\n"
 
+-- ---- the replies to a file that is not there, that is too long, and that could not be read
+
+abbrev pub missing_reply : List ℕ → Reply
+missing_reply name = tells status.Missing (missing_line name) (missing_note name)
+
+abbrev pub long_reply : List ℕ → Reply
+long_reply name = tells status.Input (long_line name) (long_note name)
+
+abbrev pub read_reply : List ℕ → Reply
+read_reply name = tells status.ReadFault (read_line name) (read_note name)
+
+-- ---- names that are read
+
 -- the bytes that a name holds, or the reply where it holds none or too many
 abbrev pub read_of : List ℕ → Option (List ℕ) → Result (List ℕ) Reply
-read_of name None = Err (says status.Missing (missing_line name))
-read_of name (Some bytes) = if nat_lt file_limit (length bytes) then Err (says status.Input (long_line name)) else Ok bytes
+read_of name None = Err (missing_reply name)
+read_of name (Some bytes) = if nat_lt file_limit (length bytes) then Err (long_reply name) else Ok bytes
 
 -- the bytes of each name, of which the second list has what it holds; or the reply to the first that cannot be read
 abbrev pub reads_of : List (List ℕ) → List (Option (List ℕ)) → Result (List (List ℕ)) Reply
@@ -35,7 +49,7 @@ reads_of _ _ = Ok []
 -- A read has failed, where the count of failed reads rose: the files before it are held within their limit.
 abbrev pub FailedRead : List (List ℕ) → List (Option (List ℕ)) → Type 0 → Reply → Type 0
 FailedRead (name ∷ names) (content ∷ contents) rose reply =
-    (rose × (reply ≡ says status.ReadFault (read_line name))) ⊎ (IsOk (read_of name content) × FailedRead names contents rose reply)
+    (rose × (reply ≡ read_reply name)) ⊎ (IsOk (read_of name content) × FailedRead names contents rose reply)
 FailedRead _ _ rose reply = ⊥
 
 -- Names hold these contents. Files that do not tell what they hold may hold anything, and another thing at each read.
@@ -59,7 +73,7 @@ pub record AreHeld (told : Option Holding) (names : List (List ℕ)) (texts : Li
 
 -- what reading one name answers, and what reading some names does
 abbrev pub MissedOne : Option Holding → List ℕ → Type 0 → Reply → Type 0
-MissedOne told name rose reply = (content : Option (List ℕ)) × Told told (λ held. held name ≡ content) × ((read_of name content ≡ Err reply) ⊎ (rose × (reply ≡ says status.ReadFault (read_line name))))
+MissedOne told name rose reply = (content : Option (List ℕ)) × Told told (λ held. held name ≡ content) × ((read_of name content ≡ Err reply) ⊎ (rose × (reply ≡ read_reply name)))
 
 abbrev pub IsReadOne : Option Holding → List ℕ → Type 0 → Result (Vec ℕ) Refusal → Type 0
 IsReadOne told name rose (Ok bytes) = (length bytes.items ≤ file_limit) × Told told (λ held. held name ≡ Some bytes.items)
@@ -71,7 +85,7 @@ IsRead told names rose (Err refusal) = IsRefused (MissedRead told names rose) re
 
 -- what is answered to a name whose file could not be read
 abbrev pub IsUnread : List ℕ → FileFault → Reply → Type 0
-IsUnread name fault.Missing reply = reply ≡ says status.Missing (missing_line name)
-IsUnread name fault.TooLong reply = reply ≡ says status.Input (long_line name)
-IsUnread name fault.Failed reply = reply ≡ says status.ReadFault (read_line name)
+IsUnread name fault.Missing reply = reply ≡ missing_reply name
+IsUnread name fault.TooLong reply = reply ≡ long_reply name
+IsUnread name fault.Failed reply = reply ≡ read_reply name
 IsUnread name fault.NoMemory reply = ⊥

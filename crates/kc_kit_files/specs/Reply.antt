@@ -1,4 +1,5 @@
--- What a command answers: a status, a text that is printed, and files that are written, in this order (this kit's own).
+-- What a command answers: a status, a text that is printed, files that are written, in this order, and for a refusal what is said
+-- of it in words, on standard error (this kit's own).
 use Rattle.std.specs.Prelude.{◌≡◌, ℕ, List, [], ◌∷◌, Result, Ok, Err}
 use Rattle.kc_kit_files.specs.declared.status.Status.{Status}
 use Rattle.kc_kit_files.specs.declared.status.Status.TheVariants as status
@@ -22,18 +23,27 @@ pub record Reply : Type 0 where
   pub text : List ℕ
   pub pauses : List (List ℕ)
   pub writes : List Write
+  pub note : List ℕ
 
 -- this status with this text, in which there are these pauses, and no file
 abbrev pub says_with : Status → List ℕ → List (List ℕ) → Reply
-says_with status text pauses = record { status = status; text = text; pauses = pauses; writes = [] }
+says_with status text pauses = record { status = status; text = text; pauses = pauses; writes = []; note = [] }
 
 -- this status with this text at once, and no file
 abbrev pub says : Status → List ℕ → Reply
 says status text = says_with status text []
 
+-- the same with a note
+abbrev pub tells : Status → List ℕ → List ℕ → Reply
+tells status text note = record { status = status; text = text; pauses = []; writes = []; note = note }
+
+-- this status with this text, behind which memory may be wanted, and then these files
+abbrev pub says_writing : Status → List ℕ → List Write → Reply
+says_writing status text writes = record { status = status; text = text; pauses = text ∷ []; writes = writes; note = [] }
+
 -- these files, and no text
 abbrev pub done_writing : List Write → Reply
-done_writing writes = record { status = status.Done; text = []; pauses = []; writes = writes }
+done_writing writes = record { status = status.Done; text = []; pauses = []; writes = writes; note = [] }
 
 -- a step gives a value, or a reply; with the value the answer goes on
 abbrev pub Then : {A : Type 0} → Result A Reply → (A → Reply → Type 0) → Reply → Type 0
@@ -60,10 +70,10 @@ status_for cause.ReadFault = status.ReadFault
 
 -- a refusal is a reply that may be given, or want of memory
 abbrev pub IsRefused : (Reply → Type 0) → Refusal → Type 0
-IsRefused may (refusals.Says cause line) = may (says (status_for cause) line.items)
+IsRefused may (refusals.Says cause line note) = may (tells (status_for cause) line.items note.items)
 IsRefused may refusals.NoMemory = Unit {0}
 
 -- the reply of a refusal
 abbrev pub IsSaid : Refusal → Reply → Type 0
-IsSaid (refusals.Says cause line) reply = reply ≡ says (status_for cause) line.items
+IsSaid (refusals.Says cause line note) reply = reply ≡ tells (status_for cause) line.items note.items
 IsSaid refusals.NoMemory reply = ⊥

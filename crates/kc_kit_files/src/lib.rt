@@ -1,12 +1,14 @@
 //! Reading and writing named files, and what a command says of it: statuses, refusals, and what a reply does to files and output.
 #![tactic(auto)]
 
+mod ended;
 mod reading;
 mod refusal;
 mod saying;
 mod status;
 mod writing;
 
+pub use ended::{Ended, Said};
 pub use reading::{read_file, read_files};
 pub use refusal::{Cause, Refusal, refusal_of};
 pub use saying::{refuse, say};

@@ -1,7 +1,7 @@
 // Named files, read in order.
 ghost use Rattle.std.specs.Prelude.{◌≡◌, ◌++◌, ◌∷◌, [], OnOk, map, string_bytes};
 ghost use Rattle.kc_base.specs.Causes.{Rose};
-ghost use Rattle.kc_kit_files.specs.Reply.{IsRefused};
+ghost use Rattle.kc_kit_files.specs.Reply.{tells, status_for, IsRefused};
 ghost use Rattle.kc_kit_files.specs.Outside.{OnlyRead};
 ghost use Rattle.kc_kit_files.specs.Reads.{IsReadOne, IsRead, IsUnread};
 
@@ -9,15 +9,44 @@ use crate::refusal::{Cause, Refusal, refusal_of};
 use kc_base::{FileFault, Files, NoMemory};
 use std::alloc::Global;
 
+// The refusal of a file, with a line of three texts of which its name is the second, and with words behind its name.
+fn refused(
+    alloc: Global,
+    cause: Cause,
+    before: &[u8],
+    name: &[u8],
+    after: &[u8],
+    words: &[u8],
+) -> Refusal
+    ensures { IsRefused (λ reply. reply ≡ tells (status_for cause) (before.now ++ name.now ++ after.now) (name.now ++ words.now)) result }
+{
+    let Ok(mut note) = Vec::from_slice(alloc, name) else {
+        return Refusal::NoMemory;
+    };
+    match note.extend_from_slice(words) {
+        Ok(()) => refusal_of(alloc, cause, before, name, after, note),
+        Err(_) => Refusal::NoMemory,
+    }
+}
+
 // The refusal where a file cannot be read.
 fn unread(alloc: Global, name: &str, fault: FileFault) -> Refusal
     ensures { IsRefused (IsUnread name.now fault) result }
 {
     let name = name.as_bytes();
     match fault {
-        FileFault::Missing => refusal_of(alloc, Cause::Missing, b"missing ", name, b"\n"),
-        FileFault::TooLong => refusal_of(alloc, Cause::Input, b"input ", name, b":0: LONG\n"),
-        FileFault::Failed => refusal_of(alloc, Cause::ReadFault, b"read ", name, b"\n"),
+        FileFault::Missing => {
+            let words = b": error: the file is not there\n";
+            refused(alloc, Cause::Missing, b"missing ", name, b"\n", words)
+        }
+        FileFault::TooLong => {
+            let words = b": error LONG: the file has over 1,048,576 bytes\n";
+            refused(alloc, Cause::Input, b"input ", name, b":0: LONG\n", words)
+        }
+        FileFault::Failed => {
+            let words = b": error: the file could not be read\n";
+            refused(alloc, Cause::ReadFault, b"read ", name, b"\n", words)
+        }
         FileFault::NoMemory => Refusal::NoMemory,
     }
 }

@@ -1,5 +1,5 @@
 ghost use Rattle.std.specs.Prelude.{◌≡◌, ◌≢◌, ◌++◌, IfOk};
-ghost use Rattle.kc_kit_files.specs.Reply.{says, status_for, IsRefused};
+ghost use Rattle.kc_kit_files.specs.Reply.{tells, status_for, IsRefused};
 
 use crate::Status;
 use kc_base::NoMemory;
@@ -39,10 +39,14 @@ impl Cause {
     }
 }
 
-/// A command that is refused, with the line that is printed; or want of memory.
+/// A command that is refused, with the line that is printed and what is said in words; or want of memory.
 #[derive(Debug, Drop)]
 pub enum Refusal {
-    Says { cause: Cause, line: Vec<u8> },
+    Says {
+        cause: Cause,
+        line: Vec<u8>,
+        note: Vec<u8>,
+    },
     NoMemory,
 }
 
@@ -67,12 +71,19 @@ fn line_of(alloc: Global, before: &[u8], name: &[u8], after: &[u8]) -> Result<Ve
     Ok(line)
 }
 
-/// The refusal with this cause and a line of these three texts.
-pub fn refusal_of(alloc: Global, cause: Cause, before: &[u8], name: &[u8], after: &[u8]) -> Refusal
-    ensures { IsRefused (λ reply. reply ≡ says (status_for cause) (before.now ++ name.now ++ after.now)) result }
+/// The refusal with this cause, a line of these three texts, and this note.
+pub fn refusal_of(
+    alloc: Global,
+    cause: Cause,
+    before: &[u8],
+    name: &[u8],
+    after: &[u8],
+    note: Vec<u8>,
+) -> Refusal
+    ensures { IsRefused (λ reply. reply ≡ tells (status_for cause) (before.now ++ name.now ++ after.now) note.items) result }
 {
     match line_of(alloc, before, name, after) {
-        Ok(line) => Refusal::Says { cause, line },
+        Ok(line) => Refusal::Says { cause, line, note },
         Err(NoMemory) => Refusal::NoMemory,
     }
 }

@@ -1,19 +1,21 @@
 // Texts that are no trace: the lines of refusals, the help and the version.
-ghost use Rattle.std.specs.Prelude.{◌≡◌, ◌≢◌, ◌⊎◌, false};
+ghost use Rattle.std.specs.Prelude.{◌≡◌, ◌≢◌, ◌⊎◌, ℕ, List, false};
 ghost use Rattle.kc_base.specs.Causes.{Rose};
-ghost use Rattle.kc_kit_files.specs.Reply.{says, IsSaid};
+ghost use Rattle.kc_kit_files.specs.Reply.{says, tells, IsSaid};
 ghost use Rattle.kc_kit_files.specs.declared.refusal.Refusal.TheVariants as refusals;
+ghost use Rattle.kc_kit_files.specs.Ended.{EndsPrinting};
 ghost use Rattle.kc_kit_files.specs.Outside.{Prints, shown_by};
 
+use crate::ended::{Ended, Said};
 use crate::{Refusal, Status};
 use kc_base::Sink;
 use kc_trace::TraceOut;
 
-/// Prints a text, which is all that this status prints.
-pub fn say<S: Sink>(out: &mut TraceOut<S>, text: &[u8], status: Status) -> Status
+// Prints a text, which is all that this status prints, whatever is said of it in words.
+fn print<S: Sink>(out: &mut TraceOut<S>, text: &[u8], status: Status) -> Status
     requires ready { out.old.failed ≡ false }
     requires wrote { (status ≢ Status.WriteFault) × (status ≢ Status.NoMemory) }
-    ensures reply { Prints (λ reply. reply ≡ says status text.now) (shown_by S.written S.faults out.old.sink) result (shown_by S.written S.faults out.new.sink) }
+    ensures reply { (note : List ℕ) → Prints (λ reply. reply ≡ tells status text.now note) (shown_by S.written S.faults out.old.sink) result (shown_by S.written S.faults out.new.sink) }
     ensures status { (result ≡ status) ⊎ (result ≡ Status.WriteFault) }
 {
     out.put_text(text);
@@ -24,15 +26,29 @@ pub fn say<S: Sink>(out: &mut TraceOut<S>, text: &[u8], status: Status) -> Statu
     }
 }
 
-/// Prints the line of a refusal, and gives its status. It takes no memory: it answers want of memory only where the
-/// refusal is that.
-pub fn refuse<S: Sink>(out: &mut TraceOut<S>, refusal: Refusal) -> Status
+/// Prints a text, which is all that this status prints.
+pub fn say<S: Sink>(out: &mut TraceOut<S>, text: &[u8], status: Status) -> Status
+    requires ready { out.old.failed ≡ false }
+    requires wrote { (status ≢ Status.WriteFault) × (status ≢ Status.NoMemory) }
+    ensures reply { Prints (λ reply. reply ≡ says status text.now) (shown_by S.written S.faults out.old.sink) result (shown_by S.written S.faults out.new.sink) }
+    ensures status { (result ≡ status) ⊎ (result ≡ Status.WriteFault) }
+{
+    print(out, text, status)
+}
+
+/// Prints the line of a refusal, and gives how the command has ended, with the note of the refusal. It takes no memory: it
+/// answers want of memory only where the refusal is that.
+pub fn refuse<S: Sink>(out: &mut TraceOut<S>, refusal: Refusal) -> Ended<'static>
     requires { out.old.failed ≡ false }
-    ensures reply { Prints (IsSaid refusal) (shown_by S.written S.faults out.old.sink) result (shown_by S.written S.faults out.new.sink) }
-    ensures memory { result ≡ Status.NoMemory → refusal ≡ refusals.NoMemory }
+    ensures reply { EndsPrinting (IsSaid refusal) (shown_by S.written S.faults out.old.sink) result (shown_by S.written S.faults out.new.sink) }
+    ensures memory { result.status ≡ Status.NoMemory → refusal ≡ refusals.NoMemory }
 {
     match refusal {
-        Refusal::Says { cause, line } => say(out, &line, cause.status()),
-        Refusal::NoMemory => Status::NoMemory,
+        Refusal::Says { cause, line, note } => {
+            let status = print(out, &line, cause.status());
+            let said = Said::Refusal(note);
+            Ended { status, said }
+        }
+        Refusal::NoMemory => Ended::by(Status::NoMemory),
     }
 }

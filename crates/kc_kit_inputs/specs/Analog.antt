@@ -2,13 +2,12 @@
 use Rattle.std.specs.Prelude.{ℕ, List, [], codes, fold, Option, Some, None, Result, Ok, Err}
 use Rattle.kc_convert.specs.declared.sample.Sample.{Sample}
 use Rattle.kc_convert.specs.Reading.{with_item, first_bad, items_of}
-use Rattle.kc_kit_files.specs.declared.status.Status.TheVariants as status
-use Rattle.kc_kit_files.specs.Reply.{Reply, says}
-use Rattle.kc_kit_inputs.specs.Lines.{input_line}
+use Rattle.kc_kit_files.specs.Reply.{Reply}
+use Rattle.kc_kit_inputs.specs.Notes.{line_reply}
 
 abbrev pub by_bad_line : List ℕ → List ℕ → Option ℕ → Result (List Sample) Reply
 by_bad_line name text None = Ok (fold with_item [] (items_of text))
-by_bad_line name text (Some line) = Err (says status.Input (input_line name line (codes "BADANALOG")))
+by_bad_line name text (Some line) = Err (line_reply name text line (codes "BADANALOG"))
 
 -- the values of an analogue file, or the reply to its first line that is at fault
 abbrev pub analog_of : List ℕ → List ℕ → Result (List Sample) Reply

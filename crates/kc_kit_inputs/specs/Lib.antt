@@ -4,6 +4,7 @@ pub mod Hex
 pub mod Inputs
 pub mod Library
 pub mod Lines
+pub mod Notes
 pub mod Objects
 pub mod Scripts
 pub mod Sources

@@ -9,7 +9,8 @@ use Rattle.kc_lib.specs.Reading.{read_answer}
 use Rattle.kc_lib.specs.Taking.{AreTaken}
 use Rattle.kc_kit_files.specs.declared.status.Status.TheVariants as status
 use Rattle.kc_kit_files.specs.Reply.{Reply, says}
-use Rattle.kc_kit_inputs.specs.Lines.{input_line, coded}
+use Rattle.kc_kit_inputs.specs.Lines.{coded}
+use Rattle.kc_kit_inputs.specs.Notes.{byte_reply}
 
 -- the place and the number of a fault of a library; that too many members are taken has no place
 abbrev pub place_of : LibFault → Option (ℕ × ℕ)
@@ -18,13 +19,13 @@ place_of faults.TooMany = Some (0, code_number code.TooMany)
 place_of (faults.Duplicate name) = None
 place_of faults.NoMemory = None
 
-abbrev pub fault_line : List ℕ → Option (ℕ × ℕ) → List ℕ
-fault_line name (Some place) = input_line name place.0 (coded (codes "B") place.1)
-fault_line name None = []
+abbrev pub reply_at : List ℕ → Option (ℕ × ℕ) → Reply
+reply_at name (Some place) = byte_reply name place.0 (coded (codes "B") place.1)
+reply_at name None = says status.Input []
 
 -- the reply to a fault of a library
 abbrev pub fault_reply : List ℕ → LibFault → Reply
-fault_reply name fault = says status.Input (fault_line name (place_of fault))
+fault_reply name fault = reply_at name (place_of fault)
 
 abbrev pub by_library : List ℕ → Result (List Object) LibFault → Result (List Object) Reply
 by_library name (Ok members) = Ok members

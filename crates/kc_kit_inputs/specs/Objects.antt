@@ -3,9 +3,9 @@ use Rattle.std.specs.Prelude.{codes, ℕ, List, [], ◌∷◌, Result, Ok, Err}
 use Rattle.kc_obj.specs.Object.{Object}
 use Rattle.kc_obj_faults.specs.declared.faults.Fault.{Fault}
 use Rattle.kc_obj_read.specs.Reading.{answer_of}
-use Rattle.kc_kit_files.specs.declared.status.Status.TheVariants as status
-use Rattle.kc_kit_files.specs.Reply.{Reply, says, joined}
-use Rattle.kc_kit_inputs.specs.Lines.{input_line, coded}
+use Rattle.kc_kit_files.specs.Reply.{Reply, joined}
+use Rattle.kc_kit_inputs.specs.Lines.{coded}
+use Rattle.kc_kit_inputs.specs.Notes.{byte_reply}
 
 -- each file to its module, or the reply to the first with a fault
 abbrev pub modules_of : (List ℕ → List ℕ → Result Object Reply) → List (List ℕ) → List (List ℕ) → Result (List Object) Reply
@@ -14,7 +14,7 @@ modules_of module_of _ _ = Ok []
 
 abbrev pub by_object : List ℕ → Result Object Fault → Result Object Reply
 by_object name (Ok m) = Ok m
-by_object name (Err fault) = Err (says status.Input (input_line name fault.at (coded (codes "O") fault.code)))
+by_object name (Err fault) = Err (byte_reply name fault.at (coded (codes "O") fault.code))
 
 -- the module of an object
 abbrev pub object_of : List ℕ → List ℕ → Result Object Reply

@@ -4,22 +4,21 @@ use Rattle.kc_debug_script.specs.declared.command.Command.{Command}
 use Rattle.kc_debug_script.specs.declared.line_map.MapEntry.{MapEntry}
 use Rattle.kc_debug_script.specs.LineMap as maps
 use Rattle.kc_debug_script.specs.Script as scripts
-use Rattle.kc_kit_files.specs.declared.status.Status.TheVariants as status
-use Rattle.kc_kit_files.specs.Reply.{Reply, says}
-use Rattle.kc_kit_inputs.specs.Lines.{input_line}
+use Rattle.kc_kit_files.specs.Reply.{Reply}
+use Rattle.kc_kit_inputs.specs.Notes.{line_reply}
 
 -- what the lines of a file say, or the reply to the first that says nothing, with this code
-abbrev pub by_lines : {A : Type 0} → List ℕ → List ℕ → Result (List A) ℕ → Result (List A) Reply
-by_lines code name (Ok said) = Ok said
-by_lines code name (Err line) = Err (says status.Input (input_line name line code))
+abbrev pub by_lines : {A : Type 0} → List ℕ → List ℕ → List ℕ → Result (List A) ℕ → Result (List A) Reply
+by_lines code name text (Ok said) = Ok said
+by_lines code name text (Err line) = Err (line_reply name text line code)
 
 -- the commands of a script, or the reply to its first line that is none
 abbrev pub script_of : List ℕ → List ℕ → Result (List Command) Reply
-script_of name text = by_lines (codes "BADCOMMAND") name (scripts.script_of text)
+script_of name text = by_lines (codes "BADCOMMAND") name text (scripts.script_of text)
 
 -- the entries of a line map, or the reply to its first line that is none
 abbrev pub map_of : List ℕ → List ℕ → Result (List MapEntry) Reply
-map_of name text = by_lines (codes "BADMAP") name (maps.map_of text)
+map_of name text = by_lines (codes "BADMAP") name text (maps.map_of text)
 
 -- the source lines of a debugger: its line map, by its name and its text, and none without one
 abbrev pub lines_of : Option (List ℕ × List ℕ) → Result (List MapEntry) Reply

@@ -2,13 +2,12 @@
 use Rattle.std.specs.Prelude.{◌≡◌, ◌⊎◌, ℕ, List, [], ◌∷◌, Result, Ok, Err}
 use Rattle.kc_obj.specs.Object.{Object}
 use Rattle.kc_asm.specs.Assembled.{IsModule, IsFirstFault}
-use Rattle.kc_kit_files.specs.declared.status.Status.TheVariants as status
-use Rattle.kc_kit_files.specs.Reply.{Reply, says}
-use Rattle.kc_kit_inputs.specs.Lines.{source_line}
+use Rattle.kc_kit_files.specs.Reply.{Reply}
+use Rattle.kc_kit_inputs.specs.Notes.{source_reply}
 
 -- the reply names the first fault of a source
 abbrev pub TellsFault : List ℕ → List ℕ → Reply → Type 0
-TellsFault name text reply = (line : ℕ) × (code : ℕ) × IsFirstFault text (line, code) × (reply ≡ says status.Source (source_line name line code))
+TellsFault name text reply = (line : ℕ) × (code : ℕ) × IsFirstFault text (line, code) × (reply ≡ source_reply name text line code)
 
 -- the module of a source, or the reply to its first fault
 abbrev pub SourceIs : List ℕ → List ℕ → Result Object Reply → Type 0

@@ -6,7 +6,7 @@ use Rattle.kc_stim.specs.Drives.{Drives}
 use Rattle.kc_stim.specs.Reading.{nothing, with_item, first_fault, items_of}
 use Rattle.kc_kit_files.specs.declared.status.Status.TheVariants as status
 use Rattle.kc_kit_files.specs.Reply.{Reply, says}
-use Rattle.kc_kit_inputs.specs.Lines.{input_line}
+use Rattle.kc_kit_inputs.specs.Notes.{line_reply}
 
 -- the line and the code of a fault
 abbrev pub place_of : StimFault → Option (ℕ × List ℕ)
@@ -17,13 +17,13 @@ place_of (faults.Twice line) = Some (line, codes "TWICE")
 place_of (faults.TooMany line) = Some (line, codes "TOOMANY")
 place_of faults.NoMemory = None
 
-abbrev pub fault_line : List ℕ → Option (ℕ × List ℕ) → List ℕ
-fault_line name (Some place) = input_line name place.0 place.1
-fault_line name None = []
+abbrev pub reply_at : List ℕ → List ℕ → Option (ℕ × List ℕ) → Reply
+reply_at name text (Some place) = line_reply name text place.0 place.1
+reply_at name text None = says status.Input []
 
 abbrev pub by_fault : List ℕ → List ℕ → Option StimFault → Result Drives Reply
 by_fault name text None = Ok (fold with_item nothing (items_of text))
-by_fault name text (Some fault) = Err (says status.Input (fault_line name (place_of fault)))
+by_fault name text (Some fault) = Err (reply_at name text (place_of fault))
 
 -- what a stimulus file drives, or the reply to its first fault
 abbrev pub stimuli_of : List ℕ → List ℕ → Result Drives Reply

@@ -4,7 +4,7 @@ ghost use Rattle.std.specs.Option.{option_map};
 ghost use Rattle.kc_kit_files.specs.Reply.{IsRefused};
 ghost use Rattle.kc_kit_inputs.specs.Analog.{analog_of, values_of};
 
-use crate::input_lines::input_refusal;
+use crate::input_lines::line_refusal;
 use kc_convert::{Analog, AnalogFault};
 use kc_kit_files::Refusal;
 use std::alloc::Global;
@@ -17,7 +17,7 @@ fn read_analog(alloc: Global, name: &str, text: &[u8]) -> Result<Analog, Refusal
 {
     match Analog::read(alloc, text) {
         Ok(values) => Ok(values),
-        Err(AnalogFault::BadLine(line)) => Err(input_refusal(alloc, name, line, b"BADANALOG")),
+        Err(AnalogFault::BadLine(line)) => Err(line_refusal(alloc, name, text, line, b"BADANALOG")),
         Err(AnalogFault::NoMemory) => Err(Refusal::NoMemory),
     }
 }

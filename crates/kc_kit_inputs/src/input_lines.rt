@@ -1,9 +1,11 @@
 // Files that leave their form.
 ghost use Rattle.std.specs.Prelude.{◌≡◌, IfOk};
 ghost use Rattle.kc_kit_files.specs.declared.status.Status.TheVariants as status;
-ghost use Rattle.kc_kit_files.specs.Reply.{says, IsRefused};
+ghost use Rattle.kc_kit_files.specs.Reply.{tells, IsRefused};
 ghost use Rattle.kc_kit_inputs.specs.Lines.{coded, place_text, input_line};
+ghost use Rattle.kc_kit_inputs.specs.Notes.{line_reply, byte_reply};
 
+use crate::notes::{byte_note, line_note};
 use itoa::Buffer;
 use kc_base::NoMemory;
 use kc_kit_files::{Cause, Refusal, refusal_of};
@@ -34,28 +36,47 @@ pub(crate) fn place_text(alloc: Global, place: u32, code: &[u8]) -> Result<Vec<u
     Ok(text)
 }
 
-/// The refusal of a file with a fault: its place and its code.
-pub(crate) fn input_refusal(alloc: Global, name: &str, place: u32, code: &[u8]) -> Refusal
-    ensures { IsRefused (λ reply. reply ≡ says status.Input (input_line name.now place code.now)) result }
+// The refusal of a file with a fault, with a note: its place and its code.
+fn refused(alloc: Global, name: &str, place: u32, code: &[u8], note: Vec<u8>) -> Refusal
+    ensures { IsRefused (λ reply. reply ≡ tells status.Input (input_line name.now place code.now) note.items) result }
 {
     match place_text(alloc, place, code) {
-        Ok(text) => refusal_of(alloc, Cause::Input, b"input ", name.as_bytes(), &text),
+        Ok(text) => refusal_of(alloc, Cause::Input, b"input ", name.as_bytes(), &text, note),
         Err(NoMemory) => Refusal::NoMemory,
     }
 }
 
-/// The same with a code of a letter and two digits.
-pub(crate) fn coded_refusal(
+/// The refusal of a file with a fault in a line of its text: its line and its code.
+pub(crate) fn line_refusal(
+    alloc: Global,
+    name: &str,
+    text: &[u8],
+    line: u32,
+    code: &[u8],
+) -> Refusal
+    ensures { IsRefused (λ reply. reply ≡ line_reply name.now text.now line code.now) result }
+{
+    match line_note(alloc, name.as_bytes(), text, line, code) {
+        Ok(note) => refused(alloc, name, line, code, note),
+        Err(NoMemory) => Refusal::NoMemory,
+    }
+}
+
+/// The refusal of a file with a fault at a byte: its place and its code, a letter and two digits.
+pub(crate) fn byte_refusal(
     alloc: Global,
     name: &str,
     place: u32,
     letter: &[u8],
     number: u8,
 ) -> Refusal
-    ensures { IsRefused (λ reply. reply ≡ says status.Input (input_line name.now place (coded letter.now number))) result }
+    ensures { IsRefused (λ reply. reply ≡ byte_reply name.now place (coded letter.now number)) result }
 {
-    match coded(alloc, letter, number) {
-        Ok(code) => input_refusal(alloc, name, place, &code),
+    let Ok(code) = coded(alloc, letter, number) else {
+        return Refusal::NoMemory;
+    };
+    match byte_note(alloc, name.as_bytes(), place, &code) {
+        Ok(note) => refused(alloc, name, place, &code, note),
         Err(NoMemory) => Refusal::NoMemory,
     }
 }

@@ -4,7 +4,7 @@ ghost use Rattle.std.specs.Option.{option_map};
 ghost use Rattle.kc_kit_files.specs.Reply.{IsRefused};
 ghost use Rattle.kc_kit_inputs.specs.Library.{place_of, fault_reply, library_of, TakenAre};
 
-use crate::input_lines::coded_refusal;
+use crate::input_lines::byte_refusal;
 use kc_kit_files::Refusal;
 use kc_lib::{LibCode, LibFault, Library};
 use kc_obj::Module;
@@ -26,7 +26,7 @@ fn refusal_of(alloc: Global, name: &str, fault: &LibFault) -> Refusal
     ensures memory { fault.now ≡ LibFault.NoMemory → result ≡ Refusal.NoMemory }
 {
     match place_of(fault) {
-        Some((at, number)) => coded_refusal(alloc, name, at, b"B", number),
+        Some((at, number)) => byte_refusal(alloc, name, at, b"B", number),
         None => Refusal::NoMemory,
     }
 }

@@ -5,7 +5,7 @@ ghost use Rattle.kc_kit_files.specs.Reply.{IsRefused};
 ghost use Rattle.kc_kit_files.specs.Reads.{AllShort};
 ghost use Rattle.kc_kit_inputs.specs.Objects.{object_of, modules_of};
 
-use crate::input_lines::coded_refusal;
+use crate::input_lines::byte_refusal;
 use kc_base::NoMemory;
 use kc_kit_files::Refusal;
 use kc_obj::Module;
@@ -21,7 +21,7 @@ fn read_object(alloc: Global, name: &str, bytes: &[u8]) -> Result<Module, Refusa
 {
     match decode(alloc, bytes) {
         Ok(object) => Ok(object),
-        Err(ObjFault::At { at, code }) => Err(coded_refusal(alloc, name, at, b"O", code)),
+        Err(ObjFault::At { at, code }) => Err(byte_refusal(alloc, name, at, b"O", code)),
         Err(ObjFault::NoMemory) => Err(Refusal::NoMemory),
     }
 }

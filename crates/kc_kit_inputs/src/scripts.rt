@@ -4,7 +4,7 @@ ghost use Rattle.std.specs.Option.{option_map};
 ghost use Rattle.kc_kit_files.specs.Reply.{IsRefused};
 ghost use Rattle.kc_kit_inputs.specs.Scripts.{script_of, map_of, lines_of};
 
-use crate::input_lines::input_refusal;
+use crate::input_lines::line_refusal;
 use kc_debug_script::{DebugFault, LineMap, Script};
 use kc_kit_files::Refusal;
 use std::alloc::Global;
@@ -18,7 +18,7 @@ pub fn read_script(alloc: Global, name: &str, text: &[u8]) -> Result<Script, Ref
     match Script::read(alloc, text) {
         Ok(script) => Ok(script),
         Err(DebugFault::BadCommand(line)) => {
-            Err(input_refusal(alloc, name, line, b"BADCOMMAND"))
+            Err(line_refusal(alloc, name, text, line, b"BADCOMMAND"))
         }
         Err(_) => Err(Refusal::NoMemory),
     }
@@ -32,7 +32,7 @@ fn read_map(alloc: Global, name: &str, text: &[u8]) -> Result<LineMap, Refusal>
 {
     match LineMap::read(alloc, text) {
         Ok(lines) => Ok(lines),
-        Err(DebugFault::BadMap(line)) => Err(input_refusal(alloc, name, line, b"BADMAP")),
+        Err(DebugFault::BadMap(line)) => Err(line_refusal(alloc, name, text, line, b"BADMAP")),
         Err(_) => Err(Refusal::NoMemory),
     }
 }

@@ -1,14 +1,14 @@
 // Sources assembled to modules.
 ghost use Rattle.std.specs.Prelude.{◌≡◌, ◌≤◌, ◌++◌, ◌∷◌, [], codes, IfOk, IfErr, OnOk, length, map, string_bytes};
 ghost use Rattle.kc_asm.specs.Assembled.{IsModule};
-ghost use Rattle.kc_kit_files.specs.declared.status.Status.TheVariants as status;
-ghost use Rattle.kc_kit_files.specs.Reply.{says, IsRefused};
+ghost use Rattle.kc_kit_files.specs.Reply.{IsRefused};
 ghost use Rattle.kc_kit_files.specs.Reads.{AllShort};
 ghost use Rattle.kc_kit_inputs.specs.Lines as spec;
-ghost use Rattle.kc_kit_inputs.specs.Lines.{source_line};
+ghost use Rattle.kc_kit_inputs.specs.Notes.{line_note, source_reply};
 ghost use Rattle.kc_kit_inputs.specs.Sources.{AreModules, TellsFault, TellsFirst};
 
 use crate::input_lines::{coded, place_text};
+use crate::notes::line_note;
 use kc_asm::assemble;
 use kc_base::NoMemory;
 use kc_kit_files::{Cause, Refusal, refusal_of};
@@ -16,20 +16,32 @@ use kc_lex::SourceFault;
 use kc_obj::Module;
 use std::alloc::Global;
 
-// The place and the code of a fault of a source.
-fn fault_text(alloc: Global, line: u32, code: u8) -> Result<Vec<u8>, NoMemory>
-    ensures { IfOk result (λ text. text.items ≡ spec.place_text line (spec.coded (codes "E") code)) }
+// The place and the code of a fault of a source as they are printed, and its note.
+fn fault_texts(
+    alloc: Global,
+    name: &str,
+    text: &[u8],
+    line: u32,
+    number: u8,
+) -> Result<(Vec<u8>, Vec<u8>), NoMemory>
+    ensures printed { IfOk result (λ texts. texts.0.items ≡ spec.place_text line (spec.coded (codes "E") number)) }
+    ensures note { IfOk result (λ texts. texts.1.items ≡ line_note name.now text.now line (spec.coded (codes "E") number)) }
 {
-    let code = coded(alloc, b"E", code)?;
-    place_text(alloc, line, &code)
+    let code = coded(alloc, b"E", number)?;
+    let printed = place_text(alloc, line, &code)?;
+    let note = line_note(alloc, name.as_bytes(), text, line, &code)?;
+    Ok((printed, note))
 }
 
-// The refusal of a source with a fault: its line and its code.
-fn source_refusal(alloc: Global, name: &str, line: u32, code: u8) -> Refusal
-    ensures { IsRefused (λ reply. reply ≡ says status.Source (source_line name.now line code)) result }
+// The refusal of a source with a fault: its line and the number of its code.
+fn source_refusal(alloc: Global, name: &str, text: &[u8], line: u32, number: u8) -> Refusal
+    ensures { IsRefused (λ reply. reply ≡ source_reply name.now text.now line number) result }
 {
-    match fault_text(alloc, line, code) {
-        Ok(text) => refusal_of(alloc, Cause::Source, b"source ", name.as_bytes(), &text),
+    match fault_texts(alloc, name, text, line, number) {
+        Ok((printed, note)) => {
+            let name = name.as_bytes();
+            refusal_of(alloc, Cause::Source, b"source ", name, &printed, note)
+        }
         Err(NoMemory) => Refusal::NoMemory,
     }
 }
@@ -42,7 +54,7 @@ pub fn assemble_source(alloc: Global, name: &str, text: &[u8]) -> Result<Module,
 {
     match assemble(alloc, text) {
         Ok(made) => Ok(made),
-        Err(SourceFault::At { line, code }) => Err(source_refusal(alloc, name, line, code)),
+        Err(SourceFault::At { line, code }) => Err(source_refusal(alloc, name, text, line, code)),
         Err(SourceFault::NoMemory) => Err(Refusal::NoMemory),
     }
 }

@@ -5,7 +5,7 @@ ghost use Rattle.kc_kit_files.specs.declared.status.Status.TheVariants as status
 ghost use Rattle.kc_kit_files.specs.Reply.{says, IsRefused};
 ghost use Rattle.kc_kit_inputs.specs.Stimuli.{place_of, stimuli_of, drives_of};
 
-use crate::input_lines::input_refusal;
+use crate::input_lines::line_refusal;
 use kc_kit_files::Refusal;
 use kc_stim::{StimFault, Stimuli};
 use std::alloc::Global;
@@ -33,7 +33,7 @@ fn read_stimuli(alloc: Global, name: &str, text: &[u8]) -> Result<Stimuli, Refus
     match Stimuli::read(alloc, text) {
         Ok(stimuli) => Ok(stimuli),
         Err(fault) => match place_of(fault) {
-            Some((line, code)) => Err(input_refusal(alloc, name, line, code)),
+            Some((line, code)) => Err(line_refusal(alloc, name, text, line, code)),
             None => Err(Refusal::NoMemory),
         },
     }

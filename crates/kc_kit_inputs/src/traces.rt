@@ -5,7 +5,7 @@ ghost use Rattle.kc_vcd.specs.Reading.{IsTrace};
 ghost use Rattle.kc_kit_files.specs.Reply.{IsRefused};
 ghost use Rattle.kc_kit_inputs.specs.Traces.{TellsWrongLine};
 
-use crate::input_lines::input_refusal;
+use crate::input_lines::line_refusal;
 use kc_kit_files::Refusal;
 use kc_vcd::{Trace, VcdFault};
 use std::alloc::Global;
@@ -18,7 +18,7 @@ pub fn read_trace(alloc: Global, name: &str, text: &[u8]) -> Result<Trace, Refus
 {
     match Trace::read(alloc, text) {
         Ok(trace) => Ok(trace),
-        Err(VcdFault::BadTrace(line)) => Err(input_refusal(alloc, name, line, b"BADTRACE")),
+        Err(VcdFault::BadTrace(line)) => Err(line_refusal(alloc, name, text, line, b"BADTRACE")),
         Err(VcdFault::NoMemory) => Err(Refusal::NoMemory),
     }
 }

@@ -102,15 +102,15 @@ alike fits bytes linked spelled read names objects texts ms inputs input_texts r
     tell : Driving → List ℕ → Reply
     tell = board_reply extent
 
-    by : (x : Result Places LinkFault) → placed ms ranges ≡ x → Then (by_places objects x) (LinksTo file hex_alone ranges ms) (done_writing (write file hex ∷ [])) → RunAnswer names inputs extent ranges texts input_texts reply
+    by : (x : Result Places LinkFault) → placed ms ranges ≡ x → Then (by_places objects ms x) (LinksTo file hex_alone ranges ms) (done_writing (write file hex ∷ [])) → RunAnswer names inputs extent ranges texts input_texts reply
     by (Ok places) e k =
         let same : hex ≡ records.spelling k.image = ap (λ (r : Reply). first_bytes r.writes) k.done in
         let image : image_of hex ≡ Ok k.image = ap image_of same ∙ read k.image (record { len = k.is_filled.long; bytes = λ i. byte-at k.image i (bytes texts ms ranges places k.image (of-texts texts ms made) e k.is_filled) }) in
         let driven : Then (driving_of given) (λ driving reply. reply ≡ tell driving k.image) reply =
-        subst (λ (x : Result (List ℕ) (ℕ × ℕ)). Then (by_image file x) (λ image. Then (driving_of given) (λ driving reply. reply ≡ tell driving image)) reply) image h in (
+        subst (λ (x : Result (List ℕ) (ℕ × ℕ)). Then (by_image file hex x) (λ image. Then (driving_of given) (λ driving reply. reply ≡ tell driving image)) reply) image h in (
           Ok ms,
           made,
-          then-ok (places_of names ms ranges) places (Driven given (LinkedTold texts) tell ms) reply (ap (by_places names) e)
+          then-ok (places_of names ms ranges) places (Driven given (LinkedTold texts) tell ms) reply (ap (by_places names ms) e)
               (then-map (driving_of given) (λ driving reply. reply ≡ tell driving k.image) (λ driving. LinkedTold texts (tell driving) ms places) reply
               (λ d told. record { image = k.image; is_filled = k.is_filled; is_image = image-of linked texts ms ranges places k.image made e k.is_filled; told = told }) driven),
         )

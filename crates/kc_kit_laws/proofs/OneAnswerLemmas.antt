@@ -1,6 +1,6 @@
 -- A command has one answer: each step gives one thing, by the laws of texts, images, line maps and libraries.
 use Rattle.std.specs.Prelude.{codes}
-use Rattle.std.proofs.Common.{◌≡◌, inl, inr, ℕ, List, [], ◌∷◌, ◌++◌, length, take, drop, Option, Some, None, Result, Ok, Err, refl, sym, ◌∙◌, ap, subst, arith}
+use Rattle.std.proofs.Common.{◌≡◌, inl, inr, ℕ, List, [], ◌∷◌, ◌++◌, length, take, drop, Option, Some, None, Result, Ok, Err, map, refl, sym, ◌∙◌, ap, subst, arith}
 use Rattle.kc_source.specs.Faults.{Fault}
 use Rattle.kc_code_listing.specs.Listing.{listing}
 use Rattle.kc_base.specs.TextLines.{text_lines}
@@ -19,23 +19,24 @@ use Rattle.kc_link.specs.declared.lines.LineAt.{LineAt}
 use Rattle.kc_link_laws.specs.Linked.{OneLineMap}
 use Rattle.kc_asm.specs.Assembled.{IsModule}
 use Rattle.kc_asm_laws.specs.Modules.{OneAnswerOfText}
+use Rattle.kc_asm_list.specs.Laws.{OneListing}
 use Rattle.kc_kit_files.specs.declared.status.Status.TheVariants as status
 use Rattle.kc_kit_files.specs.Reply.{Reply, Write, write, says, done_writing, Then}
 use Rattle.kc_kit_files.specs.Reads.{reads_of}
 use Rattle.kc_kit_words.specs.declared.inputs.Role.{Role}
 use Rattle.kc_kit_words.specs.declared.inputs.Role.TheVariants as role
-use Rattle.kc_kit_words.specs.Words.{placing_of, Beside, Helps, TellsVersion, Runs, Assembles, Packs, Links, RunsHex, Lists, Debugs, Generates, Dumps, Explains}
+use Rattle.kc_kit_words.specs.Words.{placing_of, Beside, Helps, HelpsOn, TellsVersion, Runs, Profiles, Assembles, Packs, Links, RunsHex, ProfilesHex, Lists, Debugs, Generates, Dumps, Explains}
 use Rattle.kc_kit_inputs.specs.Hex.{hex_of}
 use Rattle.kc_kit_inputs.specs.declared.driving.Driving.{Driving}
 use Rattle.kc_kit_inputs.specs.Driving.{GivenFiles, given_for, driving_of}
 use Rattle.kc_kit_inputs.specs.Inputs.{names_of, input_for}
 use Rattle.kc_kit_inputs.specs.Library.{library_of, TakenAre}
-use Rattle.kc_kit_inputs.specs.Lines.{source_line, input_line}
+use Rattle.kc_kit_inputs.specs.Notes.{source_reply, line_reply}
 use Rattle.kc_kit_inputs.specs.Objects.{modules_of, object_of}
 use Rattle.kc_kit_inputs.specs.Sources.{TellsFault, SourceIs, AreModules, TellsFirst, SourcesAre}
 use Rattle.kc_kit_inputs.specs.Traces.{TraceIs}
 use Rattle.kc_kit_answer.specs.Answer.{OneText, TwoTexts, Parted}
-use Rattle.kc_kit_answer.specs.Assemble.{WritesObject, AssembleAnswer}
+use Rattle.kc_kit_answer.specs.Assemble.{AreListings, WritesObject, AssembleAnswer}
 use Rattle.kc_kit_answer.specs.Debug.{DebugAnswer, debug_reply}
 use Rattle.kc_kit_answer.specs.Dump.{WritesDump, DumpAnswer}
 use Rattle.kc_kit_answer.specs.Generate.{made_names, made_texts, made_given, summary_of}
@@ -44,6 +45,8 @@ use Rattle.kc_kit_answer.specs.Lines.{map_text, member_words}
 use Rattle.kc_kit_answer.specs.Link.{IsMap, map_writes, LinksTo, Taking, Completed, LinkAnswer}
 use Rattle.kc_kit_answer.specs.Pack.{packed, PackAnswer}
 use Rattle.kc_kit_answer.specs.Places.{places_of, Placing}
+use Rattle.kc_debug_script.specs.declared.line_map.MapEntry.{MapEntry}
+use Rattle.kc_kit_answer.specs.Profile.{map_entry, DrivenWithLines, LinkedWithLines, LinesTold, ProfileAnswer, ProfileHexAnswer, profile_reply}
 use Rattle.kc_kit_answer.specs.Run.{LinkedTold, Driven, SourcesTold, RunAnswer}
 use Rattle.kc_kit_answer.specs.Lives.{board_reply}
 use Rattle.kc_kit_laws.specs.OneAnswer.{OneAnswer}
@@ -87,6 +90,7 @@ pub record Laws : Type 0 where
   pub maps : OneLineMap
   pub taken : TakenOnce
   pub traces : OneReading
+  pub listings : OneListing
 
 -- ---- sources
 
@@ -97,8 +101,8 @@ abbrev refused : Reply → Result Object Reply
 refused r = Err r
 
 -- the reply to a fault
-abbrev told_of : List ℕ → Fault → Reply
-told_of name fault = says status.Source (source_line name fault.0 fault.1)
+abbrev told_of : List ℕ → List ℕ → Fault → Reply
+told_of name text fault = source_reply name text fault.0 fault.1
 
 of_ok : (m n : Object) (x y : Result Object Fault) → x ≡ Ok m → y ≡ Ok n → x ≡ y → m ≡ n
 of_ok m n x y e f g = cc (e, f, g)
@@ -118,7 +122,7 @@ module _ (law : OneAnswerOfText) where
 
   one_fault : (name text : List ℕ) → IsOne (TellsFault name text)
   one_fault name text r s h k =
-      h.3 ∙ (ap (told_of name) (of_err (h.0, h.1) (k.0, k.1) (Err (h.0, h.1)) (Err (k.0, k.1)) refl refl (law text (Err (h.0, h.1)) (Err (k.0, k.1)) h.2 k.2)) ∙ sym k.3)
+      h.3 ∙ (ap (told_of name text) (of_err (h.0, h.1) (k.0, k.1) (Err (h.0, h.1)) (Err (k.0, k.1)) refl refl (law text (Err (h.0, h.1)) (Err (k.0, k.1)) h.2 k.2)) ∙ sym k.3)
 
   one_source : (name text : List ℕ) (x y : Result Object Reply) → SourceIs name text x → SourceIs name text y → x ≡ y
   one_source name text (Ok m) (Ok n) h k = ap found (one_module text m n h k)
@@ -167,6 +171,17 @@ module _ (images : OneImage) where
   one_driven : (texts : List (List ℕ)) (given : GivenFiles) (tell : Driving → List ℕ → Reply) (ms : List Object) (places : Places) → IsOne (Driven given (LinkedTold texts) tell ms places)
   one_driven texts given tell ms places = one_then (driving_of given) (λ driving. LinkedTold texts (tell driving) ms places) (λ driving. one_linked texts (tell driving) ms places)
 
+  one_linked_lines : OneLineMap → (texts : List (List ℕ)) (tell : List MapEntry → List ℕ → Reply) (ms : List Object) (places : Places) → IsOne (LinkedWithLines texts tell ms places)
+  one_linked_lines maps texts tell ms places r s h k =
+      let image : h.image ≡ k.image = images ms places h.image k.image h.is_filled k.is_filled in
+      let lines : h.entries ≡ k.entries = maps ms places h.entries k.entries h.is_map k.is_map in
+      let both : tell (map map_entry h.entries) h.image ≡ tell (map map_entry k.entries) k.image = λ i. tell (map map_entry (lines i)) (image i) in
+      h.told ∙ (both ∙ sym k.told)
+
+  one_driven_lines : OneLineMap → (texts : List (List ℕ)) (given : GivenFiles) (tell : List MapEntry → Driving → List ℕ → Reply) (ms : List Object) (places : Places) → IsOne (DrivenWithLines given (LinkedWithLines texts) tell ms places)
+  one_driven_lines maps texts given tell ms places =
+      one_then (driving_of given) (λ driving. LinkedWithLines texts (λ entries. tell entries driving) ms places) (λ driving. one_linked_lines maps texts (λ entries. tell entries driving) ms places)
+
   one_map : OneLineMap → (lines : Option (List ℕ)) (ms : List Object) (places : Places) (ws us : List Write) → IsMap lines ms places ws → IsMap lines ms places us → ws ≡ us
   one_map maps None ms places ws us h k = h ∙ sym k
   one_map maps (Some name) ms places ws us h k =
@@ -183,14 +198,14 @@ module _ (images : OneImage) where
 
 -- ---- traces
 
-abbrev wrong_line : List ℕ → ℕ → Reply
-wrong_line name line = says status.Input (input_line name line (codes "BADTRACE"))
+abbrev wrong_line : List ℕ → List ℕ → ℕ → Reply
+wrong_line name text line = line_reply name text line (codes "BADTRACE")
 
 one_read : OneReading → (name text : List ℕ) (x y : Result (List Record) Reply) → TraceIs name text x → TraceIs name text y → x ≡ y
 one_read law name text (Ok items) (Ok others) h k = (let same : items ≡ others = law.traces (text_lines text) items others h k in λ i. Ok (same i))
 one_read law name text (Ok items) (Err r) h k = absurd (law.apart (text_lines text) items k.0 h k.1)
 one_read law name text (Err r) (Ok items) h k = absurd (law.apart (text_lines text) items h.0 k h.1)
-one_read law name text (Err r) (Err s) h k = (let same : r ≡ s = h.2 ∙ (ap (wrong_line name) (law.lines (text_lines text) h.0 k.0 h.1 k.1) ∙ sym k.2) in λ i. Err (same i))
+one_read law name text (Err r) (Err s) h k = (let same : r ≡ s = h.2 ∙ (ap (wrong_line name text) (law.lines (text_lines text) h.0 k.0 h.1 k.1) ∙ sym k.2) in λ i. Err (same i))
 
 -- ---- members of a library
 
@@ -225,8 +240,21 @@ module _ (laws : Laws) where
       one_given (SourcesAre names texts) (Placing names ranges (Driven given (LinkedTold texts) tell)) (one_sources laws.texts names texts)
       (one_placing names ranges (Driven given (LinkedTold texts) tell) (one_driven laws.images texts given tell))
 
-  one_assembled : (file out text : List ℕ) → IsOne (AssembleAnswer file out text)
-  one_assembled file out text = one_given (SourceIs file text) (WritesObject out) (one_source laws.texts file text) (λ m. one_told (done_writing (write out (objects.spelling m) ∷ [])))
+  one_told_lines : (names : List (List ℕ)) (given : GivenFiles) (ranges : Ranges) (texts : List (List ℕ)) (tell : List MapEntry → Driving → List ℕ → Reply) → IsOne (LinesTold names given ranges texts tell)
+  one_told_lines names given ranges texts tell =
+      one_given (SourcesAre names texts) (Placing names ranges (DrivenWithLines given (LinkedWithLines texts) tell)) (one_sources laws.texts names texts)
+      (one_placing names ranges (DrivenWithLines given (LinkedWithLines texts) tell) (one_driven_lines laws.images laws.maps texts given tell))
+
+  one_listed : (list : Option (List ℕ)) (text : List ℕ) (m : Object) (ws vs : List Write) → AreListings list text m ws → AreListings list text m vs → ws ≡ vs
+  one_listed None text m ws vs h k = h ∙ sym k
+  one_listed (Some name) text m ws vs h k = h.2 ∙ (ap (λ l. write name l ∷ []) (laws.listings text m h.0 k.0 h.1 k.1) ∙ sym k.2)
+
+  one_object : (out : List ℕ) (list : Option (List ℕ)) (text : List ℕ) (m : Object) → IsOne (WritesObject out list text m)
+  one_object out list text m r s h k =
+      h.2 ∙ (ap (λ ws. done_writing (write out (objects.spelling m) ∷ ws)) (one_listed list text m h.0 k.0 h.1 k.1) ∙ sym k.2)
+
+  one_assembled : (file out : List ℕ) (list : Option (List ℕ)) (text : List ℕ) → IsOne (AssembleAnswer file out list text)
+  one_assembled file out list text = one_given (SourceIs file text) (WritesObject out list text) (one_source laws.texts file text) (one_object out list text)
 
   one_link : (files : List (List ℕ)) (inputs : List (Role × List ℕ)) (out : List ℕ) (beside : Beside) (ranges : Ranges) (texts more : List (List ℕ)) → IsOne (LinkAnswer files inputs out beside ranges texts more)
   one_link files inputs out beside ranges texts more =
@@ -244,12 +272,20 @@ module _ (laws : Laws) where
   pub one_answer : OneAnswer
   one_answer None contents r s h k = h ∙ sym k
   one_answer (Some Helps) contents r s h k = h ∙ sym k
+  one_answer (Some (HelpsOn verb)) contents r s h k = h ∙ sym k
   one_answer (Some TellsVersion) contents r s h k = h ∙ sym k
   one_answer (Some (Runs files inputs extent ranges)) contents r s h k =
       one_then (reads_of (files ++ names_of inputs) contents) (Parted (length files) (RunAnswer files inputs extent ranges))
       (λ texts. one_told_sources files (given_for inputs (drop (length files) texts)) ranges (take (length files) texts) (board_reply extent)) r s h k
-  one_answer (Some (Assembles file out)) contents r s h k =
-      one_then (reads_of (file ∷ []) contents) (OneText (AssembleAnswer file out)) (one_text (AssembleAnswer file out) (one_assembled file out)) r s h k
+  one_answer (Some (Profiles files inputs states ranges out)) contents r s h k =
+      one_then (reads_of (files ++ names_of inputs) contents) (Parted (length files) (ProfileAnswer files inputs states ranges out))
+      (λ texts. one_told_lines files (given_for inputs (drop (length files) texts)) ranges (take (length files) texts) (profile_reply states out)) r s h k
+  one_answer (Some (ProfilesHex file inputs states out)) contents r s h k =
+      one_then (reads_of (file ∷ names_of inputs) contents) (Parted 1 (λ texts more. OneText (λ text. ProfileHexAnswer file inputs states out text more) texts))
+      (λ texts. one_text (λ text. ProfileHexAnswer file inputs states out text (drop 1 texts))
+      (λ text. one_hex file (given_for inputs (drop 1 texts)) text (profile_reply states out [])) (take 1 texts)) r s h k
+  one_answer (Some (Assembles file out list)) contents r s h k =
+      one_then (reads_of (file ∷ []) contents) (OneText (AssembleAnswer file out list)) (one_text (AssembleAnswer file out list) (one_assembled file out list)) r s h k
   one_answer (Some (Packs files out)) contents r s h k =
       one_then (reads_of files contents) (PackAnswer files out)
       (λ texts. one_then (modules_of object_of files texts) (λ ms reply. reply ≡ packed out ms (doubled ms)) (λ ms. one_told (packed out ms (doubled ms)))) r s h k

@@ -1,3 +1,4 @@
 pub mod Digits
 pub mod OptionLemmas
 pub mod OrderLemmas
+pub mod UsageLemmas

@@ -5,7 +5,7 @@ use Rattle.std.specs.Str.{bytes_eq}
 use Rattle.std.proofs.lemmas.List.{take_all, take-map, drop-map}
 use Rattle.kc_kit_words.specs.declared.inputs.Role.{Role}
 use Rattle.kc_kit_words.specs.Options.{takes, value_of, are_options, role_of, with_input, inputs_of}
-use Rattle.kc_kit_words.specs.Words.{command_with, command_of, count_files, hex_by, list_by, debug_by}
+use Rattle.kc_kit_words.specs.Words.{command_with, plain_command_of, count_files, hex_by, list_by, debug_by}
 
 -- the words behind the first two
 abbrev pub behind : List (String Global) → List (List ℕ)
@@ -117,7 +117,7 @@ list_by-other (a ∷ b ∷ c ∷ rest) two = refl
 
 pub command_of-verb : (ws front back : List (String Global)) (v : String Global) (n : ℕ) → 1 ≤ length ws → v ≡ get_or ws 0 v → n ≡ count_files (map string_bytes (take (length ws - 1) (drop 1 ws))) →
     front ≡ take n (take (length ws - 1) (drop 1 ws)) → back ≡ drop n (take (length ws - 1) (drop 1 ws)) →
-    command_of (map string_bytes ws) ≡ command_with (string_bytes v) (map string_bytes front) (map string_bytes back)
+    plain_command_of (map string_bytes ws) ≡ command_with (string_bytes v) (map string_bytes front) (map string_bytes back)
 command_of-verb [] front back v n some first count f b = absurd (omega (arith, some))
 command_of-verb (a ∷ ws) front back v n some first count f b =
     let whole : take (length (a ∷ ws) - 1) ws ≡ ws = take_all (length (a ∷ ws) - 1) ws (omega arith) in

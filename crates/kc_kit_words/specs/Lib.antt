@@ -3,5 +3,7 @@ pub mod Inputs
 pub mod Number
 pub mod Options
 pub mod Order
+pub mod Usage
+pub mod UsageLaw
 pub mod Values
 pub mod Words

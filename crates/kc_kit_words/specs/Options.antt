@@ -18,9 +18,9 @@ placing_options = (codes "--reg", form.Span) ∷ (codes "--code", form.Span) ∷
 abbrev pub driving_options : List (List ℕ × Form)
 driving_options = (codes "--stim", form.Input role.Stimuli) ∷ (codes "--analog", form.Input role.Analog) ∷ []
 
--- how far a board is run, and what drives its inputs
+-- how far a board is run, where its profile goes, and what drives its inputs
 abbrev pub running_options : List (List ℕ × Form)
-running_options = (codes "--states", form.States) ∷ (codes "--lives", form.Lives) ∷ driving_options
+running_options = (codes "--states", form.States) ∷ (codes "--lives", form.Lives) ∷ (codes "--profile", form.File) ∷ driving_options
 
 abbrev pub out_option : List ℕ × Form
 out_option = (codes "--out", form.File)
@@ -28,7 +28,7 @@ out_option = (codes "--out", form.File)
 abbrev pub options_for : List ℕ → List (List ℕ × Form)
 options_for verb =
     if bytes_eq verb (codes "run") then running_options ++ placing_options
-    else if bytes_eq verb (codes "asm") then out_option ∷ []
+    else if bytes_eq verb (codes "asm") then out_option ∷ (codes "--list", form.File) ∷ []
     else if bytes_eq verb (codes "lib") then out_option ∷ []
     else if bytes_eq verb (codes "link") then out_option ∷ (codes "--lines", form.File) ∷ (codes "--map", form.File) ∷ (codes "--lib", form.Input role.Library) ∷ placing_options
     else if bytes_eq verb (codes "hex") then running_options

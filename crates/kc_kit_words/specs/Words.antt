@@ -1,7 +1,7 @@
 -- What the words of a command line ask for (this kit's own).
-use Rattle.std.specs.Prelude.{ℕ, Bool, true, not, ◌&&◌, nat_le, List, [], ◌∷◌, codes, length, take, drop, Option, Some, None, if◌then◌else◌}
-use Rattle.std.specs.List.{prefix_len, list_all}
-use Rattle.std.specs.Option.{option_map, unwrap_or}
+use Rattle.std.specs.Prelude.{ℕ, Bool, true, not, is_none, ◌&&◌, nat_le, List, [], ◌∷◌, codes, length, take, drop, Option, Some, None, if◌then◌else◌}
+use Rattle.std.specs.List.{prefix_len, list_all, list_any}
+use Rattle.std.specs.Option.{option_map, option_or, unwrap_or}
 use Rattle.std.specs.Str.{bytes_eq}
 use Rattle.kc_base.specs.TextLines.{begins_with}
 use Rattle.kc_link_place.specs.declared.ranges.Ranges.{Ranges}
@@ -20,12 +20,15 @@ pub record Beside : Type 0 where
 -- A command. Beside its first files it may have further ones to be read, each for a role.
 pub data Command : Type 0 where
   Helps : Command
+  HelpsOn : List ℕ → Command
   TellsVersion : Command
   Runs : List (List ℕ) → List (Role × List ℕ) → Extent → Ranges → Command
-  Assembles : List ℕ → List ℕ → Command
+  Profiles : List (List ℕ) → List (Role × List ℕ) → ℕ → Ranges → List ℕ → Command
+  Assembles : List ℕ → List ℕ → Option (List ℕ) → Command
   Packs : List (List ℕ) → List ℕ → Command
   Links : List (List ℕ) → List (Role × List ℕ) → List ℕ → Beside → Ranges → Command
   RunsHex : List ℕ → List (Role × List ℕ) → Extent → Command
+  ProfilesHex : List ℕ → List (Role × List ℕ) → ℕ → List ℕ → Command
   Lists : List ℕ → ℕ → ℕ → Command
   Debugs : List ℕ → List ℕ → List (Role × List ℕ) → Command
   Generates : ℕ → Command
@@ -63,20 +66,34 @@ abbrev pub runs_by : List (List ℕ) → List (Role × List ℕ) → Option Exte
 runs_by files inputs None placing = None
 runs_by files inputs (Some extent) placing = if are_in_bounds placing then Some (Runs files inputs extent placing) else None
 
+-- the states of one life may be counted
+abbrev pub profiles_by : List (List ℕ) → List (Role × List ℕ) → Option Extent → Ranges → List ℕ → Option Command
+profiles_by files inputs None placing out = None
+profiles_by files inputs (Some extent) placing out = if is_none extent.lives && are_in_bounds placing then Some (Profiles files inputs extent.states placing out) else None
+
+abbrev pub run_so : Option (List ℕ) → List (List ℕ) → List (Role × List ℕ) → Option Extent → Ranges → Option Command
+run_so None files inputs extent placing = runs_by files inputs extent placing
+run_so (Some out) files inputs extent placing = profiles_by files inputs extent placing out
+
 abbrev pub run_by : List (List ℕ) → List ℕ → List (List ℕ) → Option Command
-run_by files verb options = if are_files files then runs_by files (inputs_of verb options) (extent_in options) (placing_of options) else None
-
-abbrev pub assemble_by : List (List ℕ) → List (List ℕ) → Option Command
-assemble_by (file ∷ []) options = if is_name file then option_map (Assembles file) (value_of (codes "--out") options) else None
-assemble_by _ options = None
-
-abbrev pub pack_by : List (List ℕ) → List (List ℕ) → Option Command
-pack_by files options = if are_files files then option_map (Packs files) (value_of (codes "--out") options) else None
+run_by files verb options = if are_files files then run_so (value_of (codes "--profile") options) files (inputs_of verb options) (extent_in options) (placing_of options) else None
 
 -- a second file is another one
 abbrev pub is_other : List ℕ → Option (List ℕ) → Bool
 is_other out None = true
 is_other out (Some lines) = not (bytes_eq lines out)
+
+-- an object, and a listing where it is asked for
+abbrev pub assembles_by : List ℕ → Option (List ℕ) → Option (List ℕ) → Option Command
+assembles_by file None list = None
+assembles_by file (Some out) list = if is_other out list then Some (Assembles file out list) else None
+
+abbrev pub assemble_by : List (List ℕ) → List (List ℕ) → Option Command
+assemble_by (file ∷ []) options = if is_name file then assembles_by file (value_of (codes "--out") options) (value_of (codes "--list") options) else None
+assemble_by _ options = None
+
+abbrev pub pack_by : List (List ℕ) → List (List ℕ) → Option Command
+pack_by files options = if are_files files then option_map (Packs files) (value_of (codes "--out") options) else None
 
 abbrev pub is_apart : Option (List ℕ) → Option (List ℕ) → Bool
 is_apart None other = true
@@ -100,8 +117,16 @@ link_by files verb options =
     then links_by files (inputs_of verb options) (value_of (codes "--out") options) (beside_of options) (placing_of options)
     else None
 
+abbrev pub profiles_hex_by : List ℕ → List (Role × List ℕ) → Option Extent → List ℕ → Option Command
+profiles_hex_by file inputs None out = None
+profiles_hex_by file inputs (Some extent) out = if is_none extent.lives then Some (ProfilesHex file inputs extent.states out) else None
+
+abbrev pub hex_so : Option (List ℕ) → List ℕ → List (Role × List ℕ) → Option Extent → Option Command
+hex_so None file inputs extent = option_map (RunsHex file inputs) extent
+hex_so (Some out) file inputs extent = profiles_hex_by file inputs extent out
+
 abbrev pub hex_of : List ℕ → List ℕ → List (List ℕ) → Option Command
-hex_of file verb options = if is_name file then option_map (RunsHex file (inputs_of verb options)) (extent_in options) else None
+hex_of file verb options = if is_name file then hex_so (value_of (codes "--profile") options) file (inputs_of verb options) (extent_in options) else None
 
 abbrev pub hex_by : List (List ℕ) → List ℕ → List (List ℕ) → Option Command
 hex_by (file ∷ []) verb options = hex_of file verb options
@@ -166,7 +191,23 @@ command_by verb files options =
 abbrev pub command_with : List ℕ → List (List ℕ) → List (List ℕ) → Option Command
 command_with verb files options = if are_options verb options then command_by verb files options else None
 
+-- what words ask for that ask for no help on a command
+abbrev pub plain_command_of : List (List ℕ) → Option Command
+plain_command_of [] = None
+plain_command_of (verb ∷ words) = command_with verb (files_of words) (options_of words)
+
+-- ---- help on a command: its word, and `--help`
+
+abbrev pub verbs : List (List ℕ)
+verbs = codes "run" ∷ codes "asm" ∷ codes "lib" ∷ codes "link" ∷ codes "hex" ∷ codes "dis" ∷ codes "debug" ∷ codes "gen" ∷ codes "vcd" ∷ codes "explain" ∷ []
+
+abbrev pub is_verb : List ℕ → Bool
+is_verb word = list_any (λ verb. bytes_eq word verb) verbs
+
+abbrev pub help_on : List (List ℕ) → Option Command
+help_on (verb ∷ word ∷ []) = if is_verb verb && bytes_eq word (codes "--help") then Some (HelpsOn verb) else None
+help_on _ = None
+
 -- the command of some words, or none
 abbrev pub command_of : List (List ℕ) → Option Command
-command_of [] = None
-command_of (verb ∷ words) = command_with verb (files_of words) (options_of words)
+command_of words = option_or (help_on words) (plain_command_of words)

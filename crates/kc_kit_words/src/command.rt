@@ -11,11 +11,22 @@ pub struct Run<'a> {
     pub placing: Ranges,
 }
 
-/// A source that is assembled to an object.
+/// A run of 1 to 64 sources for so many state times, of which a profile is written.
+#[derive(Clone, Copy)]
+pub struct Profile<'a> {
+    pub files: &'a [String],
+    pub inputs: Inputs<'a>,
+    pub states: u64,
+    pub placing: Ranges,
+    pub out: &'a str,
+}
+
+/// A source that is assembled to an object, and where it is asked for the listing that is written beside it.
 #[derive(Clone, Copy)]
 pub struct Assemble<'a> {
     pub file: &'a str,
     pub out: &'a str,
+    pub list: Option<&'a str>,
 }
 
 /// 1 to 64 objects that are packed into a library.
@@ -49,6 +60,15 @@ pub struct RunHex<'a> {
     pub file: &'a str,
     pub inputs: Inputs<'a>,
     pub extent: Extent,
+}
+
+/// A run of a hex file for so many state times, of which a profile is written.
+#[derive(Clone, Copy)]
+pub struct ProfileHex<'a> {
+    pub file: &'a str,
+    pub inputs: Inputs<'a>,
+    pub states: u64,
+    pub out: &'a str,
 }
 
 /// A listing of a hex file from one address to another.
@@ -87,16 +107,25 @@ pub struct Explain<'a> {
     pub code: &'a str,
 }
 
+/// A command that is told of.
+#[derive(Clone, Copy)]
+pub struct HelpOn<'a> {
+    pub verb: &'a str,
+}
+
 /// What some words ask for.
 #[derive(Clone, Copy)]
 pub enum Command<'a> {
     Help,
+    HelpOn(HelpOn<'a>),
     Version,
     Run(Run<'a>),
+    Profile(Profile<'a>),
     Assemble(Assemble<'a>),
     Pack(Pack<'a>),
     Link(Link<'a>),
     RunHex(RunHex<'a>),
+    ProfileHex(ProfileHex<'a>),
     List(List<'a>),
     Debug(Debug<'a>),
     Generate(Generate),

@@ -7,17 +7,20 @@ mod inputs;
 mod numbers;
 mod options;
 mod order;
+mod usage;
 mod values;
 mod words;
 
 pub use command::{
-    Assemble, Beside, Command, Debug, Dump, Explain, Generate, Link, List, Pack, Run, RunHex,
+    Assemble, Beside, Command, Debug, Dump, Explain, Generate, Link, List, Pack, Profile,
+    ProfileHex, Run, RunHex,
 };
 pub use extent::Extent;
 pub use inputs::{Input, Inputs, Role};
 pub use kc_link_place::Ranges;
 pub use numbers::number;
 pub use order::options_come_in_any_order;
+pub use usage::{Wrong, put_usage, wrong_where_no_command, wrong_words};
 pub use words::read_words;
 
 #[cfg(test)]

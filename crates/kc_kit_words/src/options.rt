@@ -59,13 +59,14 @@ fn driving_form(option: &str) -> Option<Form>
     }
 }
 
-// The form of the value of an option that says how far a board is run, or what drives its inputs.
+// The form of the value of an option that says how far a board is run, where its profile goes, or what drives its inputs.
 fn running_form(option: &str) -> Option<Form>
     ensures { result ≡ form_among option.now running_options }
 {
     match option {
         "--states" => Some(Form::States),
         "--lives" => Some(Form::Lives),
+        "--profile" => Some(Form::File),
         _ => driving_form(option),
     }
 }
@@ -79,7 +80,11 @@ pub(crate) fn form_of(verb: &str, option: &str) -> Option<Form>
             None => placing_form(option),
             form => form,
         },
-        "asm" | "lib" => match option {
+        "asm" => match option {
+            "--out" | "--list" => Some(Form::File),
+            _ => None,
+        },
+        "lib" => match option {
             "--out" => Some(Form::File),
             _ => None,
         },

@@ -18,6 +18,10 @@ fn shown(alloc: Global, line: &str) -> Result<String, AllocError> {
     match read_words(&words) {
         None => text.push_str("none")?,
         Some(Command::Help) => text.push_str("help")?,
+        Some(Command::HelpOn(help)) => {
+            text.push_str("help")?;
+            put(&mut text, help.verb)?;
+        }
         Some(Command::Version) => text.push_str("version")?,
         Some(Command::Run(run)) => {
             text.push_str("run")?;
@@ -26,10 +30,21 @@ fn shown(alloc: Global, line: &str) -> Result<String, AllocError> {
             put_extent(alloc, &mut text, run.extent)?;
             put_ranges(alloc, &mut text, &run.placing)?;
         }
+        Some(Command::Profile(run)) => {
+            text.push_str("profile")?;
+            put_files(&mut text, run.files)?;
+            put_inputs(&mut text, run.inputs)?;
+            put_number(alloc, &mut text, run.states)?;
+            put(&mut text, run.out)?;
+            put_ranges(alloc, &mut text, &run.placing)?;
+        }
         Some(Command::Assemble(assemble)) => {
             text.push_str("asm")?;
             put(&mut text, assemble.file)?;
             put(&mut text, assemble.out)?;
+            if let Some(list) = assemble.list {
+                put(&mut text, list)?;
+            }
         }
         Some(Command::Pack(pack)) => {
             text.push_str("lib")?;
@@ -52,6 +67,13 @@ fn shown(alloc: Global, line: &str) -> Result<String, AllocError> {
             put(&mut text, run.file)?;
             put_inputs(&mut text, run.inputs)?;
             put_extent(alloc, &mut text, run.extent)?;
+        }
+        Some(Command::ProfileHex(run)) => {
+            text.push_str("profile")?;
+            put(&mut text, run.file)?;
+            put_inputs(&mut text, run.inputs)?;
+            put_number(alloc, &mut text, run.states)?;
+            put(&mut text, run.out)?;
         }
         Some(Command::List(list)) => {
             text.push_str("dis")?;
@@ -182,7 +204,20 @@ fn lines_ask_for_commands(rt: HostRuntime) -> Result<(), Fail> {
         ("hex a --analog a --states 1", "hex a analog a 1"),
         ("hex a --lives 001 --states 1", "hex a 1 lives 1"),
         ("run a --states 1 --lives 1000", "run a 1 lives 1000"),
+        (
+            "run a b --profile p --states 1 --stack 2",
+            "profile a b 1 p stack 2",
+        ),
+        (
+            "hex a --stim s --states 1 --profile p",
+            "profile a stimuli s 1 p",
+        ),
         ("asm a.a96 --out a.obj", "asm a.a96 a.obj"),
+        (
+            "asm a.a96 --list a.lst --out a.obj",
+            "asm a.a96 a.obj a.lst",
+        ),
+        ("link --help", "help link"),
         (
             "link a.obj b.obj --lines a.map --out a.hex",
             "link a.obj b.obj a.hex a.map",
@@ -247,6 +282,11 @@ fn other_lines_ask_for_nothing(rt: HostRuntime) -> Result<(), Fail> {
         "run a --states=1",
         "run a --stim s",
         "run a --states 1 --stim",
+        "run a --states 1 --profile -p",
+        "run a --profile p",
+        "run a --states 1 --profile p --lives 1",
+        "hex a --lives 1 --states 1 --profile p",
+        "debug a s --profile p",
         "run a --states 1 --stim -s",
         "run a --states 1 --stim s --stim t",
         "run a --states 1 --analog",
@@ -260,6 +300,11 @@ fn other_lines_ask_for_nothing(rt: HostRuntime) -> Result<(), Fail> {
         "--help a",
         "asm a b --out c",
         "asm a",
+        "asm a --list b",
+        "asm a --out b --list b",
+        "asm a --help",
+        "list --help",
+        "--help --help",
         "asm a --out -c",
         "link a --out b --lines b",
         "link a --out b --map b",

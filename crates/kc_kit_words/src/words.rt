@@ -1,15 +1,18 @@
 // What the words of a command line ask for.
-ghost use Rattle.std.specs.Prelude.{◌≡◌, IfSome, map, string_bytes};
+ghost use Rattle.std.specs.Prelude.{◌≡◌, Some, IfSome, length, map, string_bytes};
 ghost use Rattle.std.specs.List.{list_all};
 ghost use Rattle.std.specs.Option.{option_map, unwrap_or};
 ghost use Rattle.kc_kit_words.specs.Values.{is_name};
-ghost use Rattle.kc_kit_words.specs.Words.{command_of, command_by, run_by, assemble_by, pack_by, link_by, hex_by, hex_of, list_by, list_of, debug_by, debug_of, generate_by, dump_by, explain_by, are_files, placing_of};
+ghost use Rattle.kc_kit_words.specs.Words.{command_of, plain_command_of, command_by, run_by, assemble_by, pack_by, link_by, hex_by, hex_of, list_by, list_of, debug_by, debug_of, generate_by, dump_by, explain_by, are_files, beside_of, placing_of};
 ghost use Rattle.kc_kit_words.specs.Words as spec;
-ghost use Rattle.kc_kit_words.specs.Asked.{asked, beside_in, IsWithin};
+ghost use Rattle.kc_kit_words.specs.Asked.{asked, beside_in, AreLinkable, IsBounded, IsWithin};
+ghost use Rattle.kc_kit_words.specs.Inputs.{inputs_in};
 
 use crate::command::{
-    Assemble, Beside, Command, Debug, Dump, Explain, Generate, Link, List, Pack, Run, RunHex,
+    Assemble, Beside, Command, Debug, Dump, Explain, Generate, HelpOn, Link, List, Pack, Profile,
+    ProfileHex, Run, RunHex,
 };
+use crate::extent::Extent;
 use crate::inputs::Inputs;
 use crate::options::{
     are_options, clock_in, count_files, extent_in, length_in, range_in, value_of,
@@ -18,9 +21,9 @@ use crate::values::{is_name, range, short};
 use kc_link_place::Ranges;
 
 /// The most files of one command.
-const MAX_FILES: usize = 64;
+pub(crate) const MAX_FILES: usize = 64;
 
-fn are_names(files: &[String]) -> bool
+pub(crate) fn are_names(files: &[String]) -> bool
     ensures { result ≡ list_all is_name (map string_bytes files.now) }
 {
     let mut left = files;
@@ -50,7 +53,7 @@ fn given(range: Option<(u16, u16)>, otherwise: (u16, u16)) -> (u16, u16)
 }
 
 // Where relocatable pieces may stand.
-fn placing(options: &[String]) -> Ranges
+pub(crate) fn placing(options: &[String]) -> Ranges
     ensures { result ≡ placing_of (map string_bytes options.now) }
 {
     let ranges = Ranges::new();
@@ -71,19 +74,54 @@ fn read_run<'a>(files: &'a [String], verb: &'a str, options: &'a [String]) -> Op
     }
     let extent = extent_in(options)?;
     let placing = placing(options);
+    let inputs = Inputs {
+        verb,
+        words: options,
+    };
     if placing.are_within_bounds() {
-        Some(Command::Run(Run {
+        run_so(
             files,
-            inputs: Inputs {
-                verb,
-                words: options,
-            },
+            inputs,
             extent,
             placing,
-        }))
+            value_of("--profile", options),
+        )
     } else {
         None
     }
+}
+
+// A run, of which a profile is written where a file is named for it; the run is one life then.
+fn run_so<'a>(
+    files: &'a [String],
+    inputs: Inputs<'a>,
+    extent: Extent,
+    placing: Ranges,
+    out: Option<&'a str>,
+) -> Option<Command<'a>>
+    requires bounded { IsBounded extent }
+    requires linkable { AreLinkable (length files.now) placing }
+    ensures asked { option_map asked result ≡ spec.run_so (option_map (λ o. o.now) out.entry) (map string_bytes files.now) (inputs_in inputs.entry) (Some extent) placing }
+    ensures within { IfSome result IsWithin }
+{
+    let Some(out) = out else {
+        return Some(Command::Run(Run {
+            files,
+            inputs,
+            extent,
+            placing,
+        }));
+    };
+    if extent.lives.is_some() {
+        return None;
+    }
+    Some(Command::Profile(Profile {
+        files,
+        inputs,
+        states: extent.states,
+        placing,
+        out,
+    }))
 }
 
 fn read_assemble<'a>(files: &'a [String], options: &'a [String]) -> Option<Command<'a>>
@@ -96,10 +134,17 @@ fn read_assemble<'a>(files: &'a [String], options: &'a [String]) -> Option<Comma
     if !is_name(file.as_str()) {
         return None;
     }
-    Some(Command::Assemble(Assemble {
-        file: file.as_str(),
-        out: value_of("--out", options)?,
-    }))
+    let out = value_of("--out", options)?;
+    let list = value_of("--list", options);
+    if is_other(out, list) {
+        Some(Command::Assemble(Assemble {
+            file: file.as_str(),
+            out,
+            list,
+        }))
+    } else {
+        None
+    }
 }
 
 fn read_pack<'a>(files: &'a [String], options: &'a [String]) -> Option<Command<'a>>
@@ -121,10 +166,7 @@ fn read_link<'a>(files: &'a [String], verb: &'a str, options: &'a [String]) -> O
         return None;
     }
     let out = value_of("--out", options)?;
-    let beside = Beside {
-        lines: value_of("--lines", options),
-        map: value_of("--map", options),
-    };
+    let beside = beside_in(options);
     let placing = placing(options);
     if are_apart(out, beside) && placing.are_within_bounds() {
         Some(Command::Link(Link {
@@ -142,8 +184,18 @@ fn read_link<'a>(files: &'a [String], verb: &'a str, options: &'a [String]) -> O
     }
 }
 
+// The files that are asked for beside a hex file.
+pub(crate) fn beside_in(options: &[String]) -> Beside<'_>
+    ensures { beside_in result ≡ beside_of (map string_bytes options.now) }
+{
+    Beside {
+        lines: value_of("--lines", options),
+        map: value_of("--map", options),
+    }
+}
+
 // Whether a second file is another one.
-fn is_other(out: &str, lines: Option<&str>) -> bool
+pub(crate) fn is_other(out: &str, lines: Option<&str>) -> bool
     ensures { result ≡ spec.is_other out.now (option_map (λ l. l.now) lines.entry) }
 {
     match lines {
@@ -153,7 +205,7 @@ fn is_other(out: &str, lines: Option<&str>) -> bool
 }
 
 // Whether the files that are written are all different ones.
-fn are_apart(out: &str, beside: Beside<'_>) -> bool
+pub(crate) fn are_apart(out: &str, beside: Beside<'_>) -> bool
     ensures { result ≡ spec.are_apart out.now (beside_in beside.entry) }
 {
     let is_apart = match beside.lines {
@@ -171,13 +223,40 @@ fn hex_run<'a>(file: &'a str, verb: &'a str, options: &'a [String]) -> Option<Co
     if !is_name(file) {
         return None;
     }
-    Some(Command::RunHex(RunHex {
+    let extent = extent_in(options)?;
+    let inputs = Inputs {
+        verb,
+        words: options,
+    };
+    hex_so(file, inputs, extent, value_of("--profile", options))
+}
+
+// A run of a hex file, of which a profile is written where a file is named for it; the run is one life then.
+fn hex_so<'a>(
+    file: &'a str,
+    inputs: Inputs<'a>,
+    extent: Extent,
+    out: Option<&'a str>,
+) -> Option<Command<'a>>
+    requires { IsBounded extent }
+    ensures asked { option_map asked result ≡ spec.hex_so (option_map (λ o. o.now) out.entry) file.now (inputs_in inputs.entry) (Some extent) }
+    ensures within { IfSome result IsWithin }
+{
+    let Some(out) = out else {
+        return Some(Command::RunHex(RunHex {
+            file,
+            inputs,
+            extent,
+        }));
+    };
+    if extent.lives.is_some() {
+        return None;
+    }
+    Some(Command::ProfileHex(ProfileHex {
         file,
-        inputs: Inputs {
-            verb,
-            words: options,
-        },
-        extent: extent_in(options)?,
+        inputs,
+        states: extent.states,
+        out,
     }))
 }
 
@@ -330,9 +409,35 @@ fn read_command<'a>(
     }
 }
 
-/// The command of some words, or none where they are no command.
-pub fn read_words(words: &[String]) -> Option<Command<'_>>
-    ensures asked { option_map asked result ≡ command_of (map string_bytes words.now) }
+// Whether a word is a command.
+fn is_verb(word: &str) -> bool
+    ensures { result ≡ spec.is_verb word.now }
+{
+    matches!(
+        word,
+        "run" | "asm" | "lib" | "link" | "hex" | "dis" | "debug" | "gen" | "vcd" | "explain"
+    )
+}
+
+// The command whose help is asked for, if it is.
+pub(crate) fn help_on(words: &[String]) -> Option<Command<'_>>
+    ensures asked { option_map asked result ≡ spec.help_on (map string_bytes words.now) }
+    ensures within { IfSome result IsWithin }
+{
+    let [verb, word] = words else {
+        return None;
+    };
+    let verb = verb.as_str();
+    if is_verb(verb) && word.as_str() == "--help" {
+        Some(Command::HelpOn(HelpOn { verb }))
+    } else {
+        None
+    }
+}
+
+// What words ask for that ask for no help on a command.
+fn read_plain(words: &[String]) -> Option<Command<'_>>
+    ensures asked { option_map asked result ≡ plain_command_of (map string_bytes words.now) }
     ensures within { IfSome result IsWithin }
 {
     let [verb, rest @ ..] = words else {
@@ -343,5 +448,16 @@ pub fn read_words(words: &[String]) -> Option<Command<'_>>
         read_command(verb.as_str(), files, options)
     } else {
         None
+    }
+}
+
+/// The command of some words, or none where they are no command.
+pub fn read_words(words: &[String]) -> Option<Command<'_>>
+    ensures asked { option_map asked result ≡ command_of (map string_bytes words.now) }
+    ensures within { IfSome result IsWithin }
+{
+    match help_on(words) {
+        None => read_plain(words),
+        help => help,
     }
 }

@@ -1,13 +1,15 @@
-use Rattle.std.proofs.Common.{◌≡◌, ◌∙◌, [], Some, inl, sym, ap, subst}
+use Rattle.std.proofs.Common.{◌≡◌, ◌∙◌, [], Some, inl, refl, sym, ap, subst}
 use Rattle.kc_base.specs.Causes.{Rose}
 use Rattle.kc_kit_files.specs.declared.status.Status.TheVariants as status
 use Rattle.kc_kit_files.specs.Reply.{Reply, says}
 use Rattle.kc_kit_files.specs.Outside.{kept}
-use Rattle.kc_kit_files.proofs.ReplyLemmas.{Replies-widen}
+use Rattle.kc_kit_files.proofs.EndLemmas.{Ends-widen}
+use Rattle.kc_kit.proofs.Ending.{printed}
 use Rattle.kc_kit_words.specs.Asked.{asked}
 use Rattle.kc_kit_answer.specs.Answer.{MayAnswer}
 use Rattle.kc_kit_answer.specs.Explain.{explained}
 use Rattle.kc_kit_answer.specs.Generate.{GenerateAnswer}
+use Rattle.kc_kit_answer.specs.Help.{help_text, help_on}
 use Rattle.kc_kit_answer.specs.Jobs.{IsOf}
 use Rattle.kc_kit_answer.proofs.AnswerSteps.{holds-none, finished, prepared-of}
 use Rattle.kc_kit.proofs.top.done.Goals as goal
@@ -16,17 +18,35 @@ pub returns-in-Help : goal.returns-in-Help
 returns-in-Help g c =
     let told = g.F.Files.held c.args.files.now in
     let rose : Type 0 = Rose (g.F.Files.read_faults c.args.files.now) (g.F.Files.read_faults c.args.files.now) in
-    Replies-widen (λ (reply : Reply). reply ≡ says status.Done c.as_bytes.result.now) (MayAnswer (Some (asked c.args.command.now)) told rose) _ _ _ _ _
-    (λ r e. subst (λ k. MayAnswer (Some (asked k)) told rose r) (sym c.in-Help.is) ([], holds-none told, inl (e ∙ ap (says status.Done) c.as_bytes.ensures.value)))
-    (c.say.ensures.reply (kept told (g.F.Files.write_faults c.args.files.now)))
+    printed (says status.Done help_text) (MayAnswer (Some (asked c.args.command.now)) told rose) _ _ c.by.result c.tell_help.result _ _ refl refl c.by.ensures.status c.by.ensures.said
+    (λ r e. subst (λ k. MayAnswer (Some (asked k)) told rose r) (sym c.in-Help.is) ([], holds-none told, inl e))
+    (c.tell_help.ensures (kept told (g.F.Files.write_faults c.args.files.now)))
+
+pub returns-in-HelpOn : goal.returns-in-HelpOn
+returns-in-HelpOn g c =
+    let told = g.F.Files.held c.args.files.now in
+    let rose : Type 0 = Rose (g.F.Files.read_faults c.args.files.now) (g.F.Files.read_faults c.args.files.now) in
+    printed (says status.Done (help_on c.in-HelpOn.help.verb.now)) (MayAnswer (Some (asked c.args.command.now)) told rose) _ _ c.by-in-HelpOn.result c.tell_help_on.result _ _ refl refl c.by-in-HelpOn.ensures.status c.by-in-HelpOn.ensures.said
+    (λ r e. subst (λ k. MayAnswer (Some (asked k)) told rose r) (sym c.in-HelpOn.is) ([], holds-none told, inl e))
+    (c.tell_help_on.ensures (kept told (g.F.Files.write_faults c.args.files.now)))
 
 pub returns-in-Version : goal.returns-in-Version
 returns-in-Version g c =
     let told = g.F.Files.held c.args.files.now in
     let rose : Type 0 = Rose (g.F.Files.read_faults c.args.files.now) (g.F.Files.read_faults c.args.files.now) in
-    Replies-widen (λ (reply : Reply). reply ≡ says status.Done c.as_bytes-in-Version.result.now) (MayAnswer (Some (asked c.args.command.now)) told rose) _ _ _ _ _
-    (λ r e. subst (λ k. MayAnswer (Some (asked k)) told rose r) (sym c.in-Version.is) ([], holds-none told, inl (e ∙ ap (says status.Done) c.as_bytes-in-Version.ensures.value)))
-    (c.say-in-Version.ensures.reply (kept told (g.F.Files.write_faults c.args.files.now)))
+    printed (says status.Done c.as_bytes.result.now) (MayAnswer (Some (asked c.args.command.now)) told rose) _ _ c.by-in-Version.result c.say.result _ _ refl refl c.by-in-Version.ensures.status c.by-in-Version.ensures.said
+    (λ r e. subst (λ k. MayAnswer (Some (asked k)) told rose r) (sym c.in-Version.is) ([], holds-none told, inl (e ∙ ap (says status.Done) c.as_bytes.ensures.value)))
+    (c.say.ensures.reply (kept told (g.F.Files.write_faults c.args.files.now)))
+
+pub returns-in-Profile : goal.returns-in-Profile
+returns-in-Profile g c =
+    finished g.F.Files.held g.F.Files.read_faults g.F.Files.write_faults c.args.command.now _ c.args.files.now c.prepare_profile-prepared.new.files c.finish-in-Profile.new.files c.prepare_profile-prepared.result _ _ _
+    c.in-Profile.is c.prepare_profile-prepared.ensures c.finish-in-Profile.ensures.answer c.finish-in-Profile.ensures.no_read
+
+pub returns-in-ProfileHex : goal.returns-in-ProfileHex
+returns-in-ProfileHex g c =
+    finished g.F.Files.held g.F.Files.read_faults g.F.Files.write_faults c.args.command.now _ c.args.files.now c.prepare_profile_hex-prepared.new.files c.finish-in-ProfileHex.new.files c.prepare_profile_hex-prepared.result _ _ _
+    c.in-ProfileHex.is c.prepare_profile_hex-prepared.ensures c.finish-in-ProfileHex.ensures.answer c.finish-in-ProfileHex.ensures.no_read
 
 pub returns-in-Run : goal.returns-in-Run
 returns-in-Run g c =
@@ -67,7 +87,7 @@ pub returns-in-Generate : goal.returns-in-Generate
 returns-in-Generate g c =
     let told = g.F.Files.held c.args.files.now in
     let rose : Type 0 = Rose (g.F.Files.read_faults c.args.files.now) (g.F.Files.read_faults c.finish-in-Generate.new.files) in
-    Replies-widen (IsOf c.prepare_generate-prepared.result) (MayAnswer (Some (asked c.args.command.now)) told rose) _ _ _ _ _
+    Ends-widen (IsOf c.prepare_generate-prepared.result) (MayAnswer (Some (asked c.args.command.now)) told rose) _ _ _ _ _ _
     (λ r e. subst (λ k. MayAnswer (Some (asked k)) told rose r) (sym c.in-Generate.is)
     ([], holds-none told, inl (prepared-of (GenerateAnswer c.in-Generate.generate.number) c.prepare_generate-prepared.result c.prepare_generate-prepared.ensures r e)))
     c.finish-in-Generate.ensures.answer
@@ -81,6 +101,6 @@ pub returns-in-Explain : goal.returns-in-Explain
 returns-in-Explain g c =
     let told = g.F.Files.held c.args.files.now in
     let rose : Type 0 = Rose (g.F.Files.read_faults c.args.files.now) (g.F.Files.read_faults c.args.files.now) in
-    Replies-widen (λ (reply : Reply). reply ≡ explained c.in-Explain.explain.code.now) (MayAnswer (Some (asked c.args.command.now)) told rose) _ _ _ _ _
+    Ends-widen (λ (reply : Reply). reply ≡ explained c.in-Explain.explain.code.now) (MayAnswer (Some (asked c.args.command.now)) told rose) _ _ _ _ _ _
     (λ r e. subst (λ k. MayAnswer (Some (asked k)) told rose r) (sym c.in-Explain.is) ([], holds-none told, inl e))
     (c.explain_code.ensures (kept told (g.F.Files.write_faults c.args.files.now)))

@@ -1,36 +1,44 @@
-use Rattle.std.proofs.Common.{◌≡◌, ◌∷◌, ◌++◌, ap, sym, ◌∙◌}
-use Rattle.kc_kit_files.specs.Reply.{Reply}
+use Rattle.std.proofs.Common.{◌≡◌, ◌∷◌, ◌++◌, ◌∙◌, refl, ap, sym}
+use Rattle.kc_code_listing.specs.Listing.{listing}
+use Rattle.kc_kit_files.specs.declared.status.Status.TheVariants as status
+use Rattle.kc_kit_files.specs.Reply.{Reply, says}
 use Rattle.kc_kit_files.specs.Outside.{kept, shown}
-use Rattle.kc_kit_files.proofs.ReplyLemmas.{Replies-widen}
 use Rattle.kc_kit_answer.specs.Debug.{debugged_by, script_reply}
-use Rattle.kc_kit_answer.specs.Hex.{ListingOf}
 use Rattle.kc_kit_answer.specs.Jobs.{does, written, maybe_written}
 use Rattle.kc_kit_answer.specs.Generate.{summary_of}
 use Rattle.kc_kit_answer.specs.Lives.{board_reply}
-use Rattle.kc_kit_answer.proofs.WriteLemmas.{Replies-written}
+use Rattle.kc_kit_answer.specs.Profile.{profile_reply}
+use Rattle.kc_kit_files.proofs.EndLemmas.{Ends-widen}
+use Rattle.kc_kit_answer.proofs.EndedLemmas.{board-printed, ends-printed}
+use Rattle.kc_kit_answer.proofs.WriteLemmas.{ends-written}
 use Rattle.kc_kit_answer.proofs.job.perform.Goals as goal
 
 pub returns-in-Run-clause-answer : goal.returns-in-Run-clause-answer
 returns-in-Run-clause-answer g c =
-    Replies-widen (λ (reply : Reply). reply ≡ board_reply c.in-Run.extent c.in-Run.board.driving c.in-Run.board.image) (λ (reply : Reply). reply ≡ does c.args.job) _ _ _ _ _ (λ r e. e ∙ sym (ap does c.in-Run.is))
-    (c.run_board.ensures (kept (g.F.Files.held c.args.files.now) (g.F.Files.write_faults c.args.files.now)))
+    ends-printed (board_reply c.in-Run.extent c.in-Run.board.driving c.in-Run.board.image) c.args.job _ _ c.by.result c.run_board-status.result _ _ (board-printed c.in-Run.extent c.in-Run.board.driving c.in-Run.board.image) (sym (ap does c.in-Run.is)) c.by.ensures.status c.by.ensures.said
+    (c.run_board-status.ensures (kept (g.F.Files.held c.args.files.now) (g.F.Files.write_faults c.args.files.now)))
 
 pub returns-in-Count-clause-answer : goal.returns-in-Count-clause-answer
 returns-in-Count-clause-answer g c =
-    Replies-widen (λ (reply : Reply). reply ≡ summary_of c.in-Count.number c.in-Count.board.driving c.in-Count.board.image) (λ (reply : Reply). reply ≡ does c.args.job) _ _ _ _ _ (λ r e. e ∙ sym (ap does c.in-Count.is))
-    (c.count_board.ensures (kept (g.F.Files.held c.args.files.now) (g.F.Files.write_faults c.args.files.now)))
+    ends-printed (summary_of c.in-Count.number c.in-Count.board.driving c.in-Count.board.image) c.args.job _ _ c.by-in-Count.result c.count_board-status.result _ _ (record { none = refl; silent = refl }) (sym (ap does c.in-Count.is)) c.by-in-Count.ensures.status c.by-in-Count.ensures.said
+    (c.count_board-status.ensures (kept (g.F.Files.held c.args.files.now) (g.F.Files.write_faults c.args.files.now)))
 
 pub returns-in-List-clause-answer : goal.returns-in-List-clause-answer
 returns-in-List-clause-answer g c =
-    Replies-widen (ListingOf c.in-List.first c.in-List.last c.in-List.image) (λ (reply : Reply). reply ≡ does c.args.job) _ _ _ _ _ (λ r e. e ∙ sym (ap does c.in-List.is))
+    ends-printed (says status.Done (listing c.in-List.image c.in-List.first c.in-List.last)) c.args.job _ _ c.by-in-List.result c.list_image.result _ _ (record { none = refl; silent = refl }) (sym (ap does c.in-List.is)) c.by-in-List.ensures.status c.by-in-List.ensures.said
     (c.list_image.ensures (kept (g.F.Files.held c.args.files.now) (g.F.Files.write_faults c.args.files.now)))
 
 pub returns-in-Debug-clause-answer : goal.returns-in-Debug-clause-answer
 returns-in-Debug-clause-answer g c =
-    Replies-widen (λ (reply : Reply). reply ≡ script_reply (debugged_by c.in-Debug.lines c.in-Debug.script c.in-Debug.board.driving c.in-Debug.board.image)) (λ (reply : Reply). reply ≡ does c.args.job) _ _ _ _ _ (λ r e. e ∙ sym (ap does c.in-Debug.is))
-    (c.debug_board.ensures (kept (g.F.Files.held c.args.files.now) (g.F.Files.write_faults c.args.files.now)))
+    ends-printed (script_reply (debugged_by c.in-Debug.lines c.in-Debug.script c.in-Debug.board.driving c.in-Debug.board.image)) c.args.job _ _ c.by-in-Debug.result c.debug_board-status.result _ _ (record { none = refl; silent = refl }) (sym (ap does c.in-Debug.is)) c.by-in-Debug.ensures.status c.by-in-Debug.ensures.said
+    (c.debug_board-status.ensures (kept (g.F.Files.held c.args.files.now) (g.F.Files.write_faults c.args.files.now)))
 
 pub returns-in-Write-clause-answer : goal.returns-in-Write-clause-answer
 returns-in-Write-clause-answer g c =
-    Replies-written _ _ (shown (g.S.Sink.written c.args.out.now.sink) (g.S.Sink.faults c.args.out.now.sink)) (written c.in-Write.file ∷ maybe_written c.in-Write.lines ++ maybe_written c.in-Write.map) _
+    ends-written _ _ (shown (g.S.Sink.written c.args.out.now.sink) (g.S.Sink.faults c.args.out.now.sink)) (written c.in-Write.file ∷ maybe_written c.in-Write.lines ++ maybe_written c.in-Write.map) c.write_files.result
     (λ (reply : Reply). reply ≡ does c.args.job) (sym (ap does c.in-Write.is)) c.write_files.ensures.written
+
+pub returns-in-Profile-clause-answer : goal.returns-in-Profile-clause-answer
+returns-in-Profile-clause-answer g c =
+    Ends-widen (λ (reply : Reply). reply ≡ profile_reply c.in-Profile.states c.in-Profile.name.now c.in-Profile.entries.items c.in-Profile.board.driving c.in-Profile.board.image) (λ (reply : Reply). reply ≡ does c.args.job) _ _
+    c.profile_board.result.status c.profile_board.result.said _ _ (λ r k. k ∙ sym (ap does c.in-Profile.is)) (rw c.deref.ensures.value at c.profile_board.ensures.reply)

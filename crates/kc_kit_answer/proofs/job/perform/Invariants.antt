@@ -8,3 +8,6 @@ ghosts-count_board g a = record { name = a.blank.name; parts = a.blank.parts }
 
 abbrev pub ghosts-debug_board : goal.ghosts-debug_board
 ghosts-debug_board g a = record { name = a.blank.name; parts = a.blank.parts }
+
+abbrev pub ghosts-profile_board : goal.ghosts-profile_board
+ghosts-profile_board g a = record { name = a.blank.name; parts = a.blank.parts }

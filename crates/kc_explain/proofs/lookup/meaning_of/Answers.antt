@@ -4,7 +4,7 @@ use Rattle.kc_explain.specs.Codes.{all_codes}
 use Rattle.kc_explain.specs.Meanings.{IsAnswer}
 use Rattle.kc_explain.proofs.Rows.{in-parts}
 use Rattle.kc_explain.proofs.Distinct.{meaning-is}
-use Rattle.kc_explain.proofs.lookup.explain.Goals as goal
+use Rattle.kc_explain.proofs.lookup.meaning_of.Goals as goal
 
 pub returns-in-Some-clause-row : goal.returns-in-Some-clause-row
 returns-in-Some-clause-row c =

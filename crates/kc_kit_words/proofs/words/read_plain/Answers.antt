@@ -2,7 +2,7 @@ use Rattle.std.proofs.Common.{◌≡◌, ◌∙◌, true, false, cond, None, ap,
 use Rattle.kc_kit_words.specs.Options.{are_options}
 use Rattle.kc_kit_words.specs.Words.{command_by}
 use Rattle.kc_kit_words.proofs.OptionLemmas.{command_of-verb}
-use Rattle.kc_kit_words.proofs.words.read_words.Goals as goal
+use Rattle.kc_kit_words.proofs.words.read_plain.Goals as goal
 
 pub returns-then-are_options-clause-asked : goal.returns-then-are_options-clause-asked
 returns-then-are_options-clause-asked c =

@@ -1,0 +1,88 @@
+-- The image of modules, and their line map.
+use Rattle.std.proofs.Common.{◌≡◌, ◌≢◌, ℕ, List, [], map, Result, Ok, Err, refl, sym, ◌∙◌, ap, subst}
+use Rattle.std.specs.Global.{Vec}
+use Rattle.kc_link_place.specs.declared.ranges.Ranges.{Ranges}
+use Rattle.kc_link_place.specs.declared.ranges.LinkFault.{LinkFault}
+use Rattle.kc_link_place.specs.Placing.{Places}
+use Rattle.kc_link.specs.declared.lines.LineAt.{LineAt}
+use Rattle.kc_link.specs.LineMap.{IsLineMap}
+use Rattle.kc_link.specs.Placed.{placed}
+use Rattle.kc_link_source_laws.specs.Linked.{LinkedImage}
+use Rattle.kc_obj.specs.Object.{Object}
+use Rattle.kc_debug_script.specs.declared.line_map.MapEntry.{MapEntry}
+use Rattle.kc_kit_files.specs.declared.status.Status.TheVariants as status
+use Rattle.kc_kit_files.specs.declared.refusal.Cause.{Cause}
+use Rattle.kc_kit_files.specs.declared.refusal.Cause.TheVariants as cause
+use Rattle.kc_kit_files.specs.declared.refusal.Refusal.{Refusal}
+use Rattle.kc_kit_files.specs.declared.refusal.Refusal.TheVariants as refusals
+use Rattle.kc_kit_files.specs.Reply.{Reply, Then, says, tells, status_for, IsRefused}
+use Rattle.kc_kit_files.proofs.ReadLemmas.{refused-widen}
+use Rattle.kc_kit_inputs.specs.declared.driving.Driving.{Driving}
+use Rattle.kc_kit_inputs.specs.Driving.{GivenFiles, driving_of}
+use Rattle.kc_kit_inputs.specs.Sources.{AreModules}
+use Rattle.kc_kit_answer.specs.declared.board.Board.{Board}
+use Rattle.kc_kit_answer.specs.Jobs.{IsBoardWithLines}
+use Rattle.kc_kit_answer.specs.Places.{by_places, Placing}
+use Rattle.kc_kit_answer.specs.Profile.{map_entry, FilledWithLines, LinkedWithLines, DrivenWithLines}
+use Rattle.kc_kit_answer.specs.Run.{Driven, FilledTold}
+use Rattle.kc_kit_answer.proofs.AnswerSteps.{then-map}
+use Rattle.kc_kit_answer.proofs.SourceLemmas.{image-of}
+
+-- what is answered by a board and its line map may be answered more widely
+pub lines-widen : (answer wide : (List MapEntry → Driving → List ℕ → Reply) → Reply → Type 0) (b : Result (Board × Vec MapEntry) Refusal) → ((tell : List MapEntry → Driving → List ℕ → Reply) (r : Reply) → answer tell r → wide tell r) →
+    IsBoardWithLines answer b → IsBoardWithLines wide b
+lines-widen answer wide (Ok made) f h = λ tell. f tell (tell made.1.items made.0.driving made.0.image) (h tell)
+lines-widen answer wide (Err refusal) f h = λ tell. refused-widen (answer tell) (wide tell) refusal (f tell) (h tell)
+
+-- the line map of the modules that the image is filled from
+pub lines-placing : (names : List (List ℕ)) (given : GivenFiles) (ranges : Ranges) (tell : List MapEntry → Driving → List ℕ → Reply) (ms : List Object) (lines : List LineAt) (at : Places) (r : Reply) → placed ms ranges ≡ Ok at → IsLineMap ms at lines →
+    Placing names ranges (Driven given FilledTold (tell (map map_entry lines))) ms r → Placing names ranges (DrivenWithLines given FilledWithLines tell) ms r
+lines-placing names given ranges tell ms lines at r is is_map h = by (placed ms ranges) refl h
+  where
+    by : (x : Result Places LinkFault) → placed ms ranges ≡ x → Then (by_places names ms x) (Driven given FilledTold (tell (map map_entry lines)) ms) r → Then (by_places names ms x) (DrivenWithLines given FilledWithLines tell ms) r
+    by (Ok places) e k =
+        let same : at ≡ places = cc in
+        then-map (driving_of given) (λ d. FilledTold (tell (map map_entry lines) d) ms places) (λ d. FilledWithLines (λ entries. tell entries d) ms places) r
+        (λ d f. record { image = f.image; is_filled = f.is_filled; entries = lines; is_map = subst (λ (p : Places). IsLineMap ms p lines) same is_map; told = f.told }) k
+    by (Err f) e k = k
+
+-- the same in the image that is linked from sources
+pub lines-linked : LinkedImage → (names : List (List ℕ)) (given : GivenFiles) (ranges : Ranges) (texts : List (List ℕ)) (tell : List MapEntry → Driving → List ℕ → Reply) (ms : List Object) (r : Reply) → AreModules texts ms →
+    Placing names ranges (DrivenWithLines given FilledWithLines tell) ms r → Placing names ranges (DrivenWithLines given (LinkedWithLines texts) tell) ms r
+lines-linked law names given ranges texts tell ms r made h = by (placed ms ranges) refl h
+  where
+    by : (x : Result Places LinkFault) → placed ms ranges ≡ x → Then (by_places names ms x) (DrivenWithLines given FilledWithLines tell ms) r → Then (by_places names ms x) (DrivenWithLines given (LinkedWithLines texts) tell ms) r
+    by (Ok places) e k =
+        then-map (driving_of given) (λ d. FilledWithLines (λ entries. tell entries d) ms places) (λ d. LinkedWithLines texts (λ entries. tell entries d) ms places) r
+        (λ d f. record { image = f.image; is_filled = f.is_filled; is_image = image-of law texts ms ranges places f.image made e f.is_filled; entries = f.entries; is_map = f.is_map; told = f.told }) k
+    by (Err f) e k = k
+
+-- ---- a refusal of a board is one of a board with its line map: it is not what a run answers
+
+done-is-none : (c : Cause) (line note : List ℕ) → tells (status_for c) line note ≢ says status.Done []
+done-is-none cause.Usage line note e = absurd (let f : status.Usage ≡ status.Done = ap (λ (r : Reply). r.status) e in cc)
+done-is-none cause.Missing line note e = absurd (let f : status.Missing ≡ status.Done = ap (λ (r : Reply). r.status) e in cc)
+done-is-none cause.Source line note e = absurd (let f : status.Source ≡ status.Done = ap (λ (r : Reply). r.status) e in cc)
+done-is-none cause.Input line note e = absurd (let f : status.Input ≡ status.Done = ap (λ (r : Reply). r.status) e in cc)
+done-is-none cause.Link line note e = absurd (let f : status.Link ≡ status.Done = ap (λ (r : Reply). r.status) e in cc)
+done-is-none cause.ReadFault line note e = absurd (let f : status.ReadFault ≡ status.Done = ap (λ (r : Reply). r.status) e in cc)
+
+-- a reply that is none of a run
+none-of-a-run : (names : List (List ℕ)) (given : GivenFiles) (ranges : Ranges) (tell : List MapEntry → Driving → List ℕ → Reply) (ms : List Object) (r : Reply) → r ≢ says status.Done [] →
+    Placing names ranges (Driven given FilledTold (λ d image. says status.Done [])) ms r → Placing names ranges (DrivenWithLines given FilledWithLines tell) ms r
+none-of-a-run names given ranges tell ms r un h = by (placed ms ranges) h
+  where
+    driven : (places : Places) (x : Result Driving Reply) → Then x (λ d. FilledTold (λ image. says status.Done []) ms places) r → Then x (λ d. FilledWithLines (λ entries. tell entries d) ms places) r
+    driven places (Ok d) k = absurd (un k.told)
+    driven places (Err e) k = k
+
+    by : (x : Result Places LinkFault) → Then (by_places names ms x) (Driven given FilledTold (λ d image. says status.Done []) ms) r → Then (by_places names ms x) (DrivenWithLines given FilledWithLines tell ms) r
+    by (Ok places) k = driven places (driving_of given) k
+    by (Err f) k = k
+
+pub refused-with-lines : (names : List (List ℕ)) (given : GivenFiles) (ranges : Ranges) (ms : List Object) (refusal : Refusal) →
+    ((tell : Driving → List ℕ → Reply) → IsRefused (Placing names ranges (Driven given FilledTold tell) ms) refusal) →
+    (tell : List MapEntry → Driving → List ℕ → Reply) → IsRefused (Placing names ranges (DrivenWithLines given FilledWithLines tell) ms) refusal
+refused-with-lines names given ranges ms (refusals.Says c line note) f tell =
+    none-of-a-run names given ranges tell ms (tells (status_for c) line.items note.items) (done-is-none c line.items note.items) (f (λ d image. says status.Done []))
+refused-with-lines names given ranges ms refusals.NoMemory f tell = tt

@@ -1,0 +1,19 @@
+use Rattle.std.proofs.Common.{map, string_bytes, subst, ℕ, List}
+use Rattle.kc_debug_script.specs.declared.line_map.MapEntry.{MapEntry}
+use Rattle.kc_kit_files.specs.Reply.{Reply, IsRefused}
+use Rattle.kc_kit_inputs.specs.declared.driving.Driving.{Driving}
+use Rattle.kc_kit_inputs.proofs.Words.{texts_in}
+use Rattle.kc_kit_answer.specs.Profile.{LinesTold, profile_reply}
+use Rattle.kc_kit_answer.proofs.profile.profile_texts.Goals as goal
+
+pub returns-in-Ok : goal.returns-in-Ok
+returns-in-Ok c =
+    let run = c.args.run.now in
+    let tell : List MapEntry → Driving → List ℕ → Reply = profile_reply run.states run.out.now in
+    (subst (λ s. LinesTold (map string_bytes run.files.now) s run.placing (texts_in c.args.texts.now) tell (tell c.in-Ok.entries.items c.in-Ok.board.driving c.in-Ok.board.image)) c.given_for-given.ensures.given (c.in-Ok.ensures tell), c.requires.within.0)
+
+pub returns-in-Err : goal.returns-in-Err
+returns-in-Err c =
+    let run = c.args.run.now in
+    let tell : List MapEntry → Driving → List ℕ → Reply = profile_reply run.states run.out.now in
+    subst (λ s. IsRefused (LinesTold (map string_bytes run.files.now) s run.placing (texts_in c.args.texts.now) tell) c.in-Err.refusal) c.given_for-given.ensures.given (c.in-Err.ensures tell)

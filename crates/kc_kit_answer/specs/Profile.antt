@@ -1,0 +1,71 @@
+-- The commands that run a board and write where its states go (this kit's own).
+use Rattle.std.specs.Prelude.{◌≡◌, ℕ, List, [], ◌∷◌, map, Result}
+use Rattle.kc_obj.specs.Object.{Object}
+use Rattle.kc_link_place.specs.declared.ranges.Ranges.{Ranges}
+use Rattle.kc_link_place.specs.Placing.{Places}
+use Rattle.kc_link.specs.declared.lines.LineAt.{LineAt}
+use Rattle.kc_link.specs.Filled.{IsFilled}
+use Rattle.kc_link.specs.LineMap.{IsLineMap}
+use Rattle.kc_debug_script.specs.declared.line_map.MapEntry.{MapEntry}
+use Rattle.kc_machine_spec.specs.Run.{end_of}
+use Rattle.kc_machine_spec.specs.Text.{trace_of}
+use Rattle.kc_profile.specs.Spots.{spots_for}
+use Rattle.kc_profile.specs.Tally.{tally_of}
+use Rattle.kc_profile.specs.Text.{profile_text}
+use Rattle.kc_kit_files.specs.Reply.{Reply, Then, write, says_writing}
+use Rattle.kc_kit_words.specs.declared.inputs.Role.{Role}
+use Rattle.kc_kit_inputs.specs.declared.driving.Driving.{Driving}
+use Rattle.kc_kit_inputs.specs.Driving.{GivenFiles, given_for, driving_of}
+use Rattle.kc_kit_inputs.specs.Sources.{SourcesAre}
+use Rattle.kc_kit_answer.specs.Fitted.{fitted_further}
+use Rattle.kc_kit_answer.specs.Hex.{HexTold}
+use Rattle.kc_kit_answer.specs.Places.{Placing}
+use Rattle.kc_kit_answer.specs.Run.{IsImageOfTexts}
+use Rattle.kc_kit_answer.specs.Running.{machine_of, run_of, status_of}
+
+-- where the states of a run go, in words, by a line map with these entries
+abbrev pub profile_of : ℕ → List MapEntry → Driving → List ℕ → List ℕ
+profile_of states entries driving image = profile_text (tally_of (spots_for fitted_further states (machine_of driving image))) entries
+
+-- how a run ended, and its text; and behind it the profile is written
+abbrev pub profile_reply : ℕ → List ℕ → List MapEntry → Driving → List ℕ → Reply
+profile_reply states out entries driving image =
+    says_writing (status_of (end_of (run_of states driving image).machine)) (trace_of (run_of states driving image)) (write out (profile_of states entries driving image) ∷ [])
+
+-- ---- a hex file, which has no line map
+
+abbrev pub ProfileHexAnswer : List ℕ → List (Role × List ℕ) → ℕ → List ℕ → List ℕ → List (List ℕ) → Reply → Type 0
+ProfileHexAnswer name inputs states out text input_texts reply = HexTold name (given_for inputs input_texts) text (profile_reply states out []) reply
+
+-- ---- sources, with the line map of their modules
+
+abbrev pub map_entry : LineAt → MapEntry
+map_entry entry = record { addr = entry.addr; name = entry.name; line = entry.line }
+
+-- in the image that is filled from modules, with their line map, the answer is this
+pub record FilledWithLines (tell : List MapEntry → List ℕ → Reply) (ms : List Object) (places : Places) (reply : Reply) : Type 0 where
+  pub image : List ℕ
+  pub is_filled : IsFilled ms places image
+  pub entries : List LineAt
+  pub is_map : IsLineMap ms places entries
+  pub told : reply ≡ tell (map map_entry entries) image
+
+-- the same in the image that is linked from sources
+pub record LinkedWithLines (texts : List (List ℕ)) (tell : List MapEntry → List ℕ → Reply) (ms : List Object) (places : Places) (reply : Reply) : Type 0 where
+  pub image : List ℕ
+  pub is_filled : IsFilled ms places image
+  pub is_image : IsImageOfTexts texts ms places image
+  pub entries : List LineAt
+  pub is_map : IsLineMap ms places entries
+  pub told : reply ≡ tell (map map_entry entries) image
+
+-- once modules are placed, it is judged what drives the inputs
+abbrev pub DrivenWithLines : GivenFiles → ((List MapEntry → List ℕ → Reply) → List Object → Places → Reply → Type 0) → (List MapEntry → Driving → List ℕ → Reply) → List Object → Places → Reply → Type 0
+DrivenWithLines given may tell ms places reply = Then (driving_of given) (λ driving. may (λ entries. tell entries driving) ms places) reply
+
+abbrev pub LinesTold : List (List ℕ) → GivenFiles → Ranges → List (List ℕ) → (List MapEntry → Driving → List ℕ → Reply) → Reply → Type 0
+LinesTold names given ranges texts tell reply =
+    (sources : Result (List Object) Reply) × SourcesAre names texts sources × Then sources (Placing names ranges (DrivenWithLines given (LinkedWithLines texts) tell)) reply
+
+abbrev pub ProfileAnswer : List (List ℕ) → List (Role × List ℕ) → ℕ → Ranges → List ℕ → List (List ℕ) → List (List ℕ) → Reply → Type 0
+ProfileAnswer names inputs states ranges out texts input_texts reply = LinesTold names (given_for inputs input_texts) ranges texts (profile_reply states out) reply

@@ -1,0 +1,122 @@
+// What is said in words of broken rules of the linker.
+ghost use Rattle.std.specs.Prelude.{◌≡◌, ◌++◌, codes, decimal, fold, None, IfOk, OnOk, slice_get};
+ghost use Rattle.std.specs.Option.{option_copied};
+ghost use Rattle.kc_kit_answer.specs.Lines.{file_at};
+ghost use Rattle.kc_kit_answer.specs.Notes.{or_later, line_among, line_in, line_text, rule_note, link_note};
+ghost use Rattle.kc_kit_answer.specs.Origins.{words_of};
+
+use crate::link_lines::{Origins, file_at, place_text};
+use itoa::Buffer;
+use kc_base::NoMemory;
+use kc_kit_inputs::put_error;
+use kc_link::LinkFault;
+use kc_link_map::{address_text, kind_word};
+use kc_obj::{Lines, Module};
+use std::alloc::Global;
+
+// The line of the last of these entries that belongs to a piece and stands at an offset or below it.
+fn line_of(piece: u16, offset: u16, entries: &[Lines]) -> Option<u32>
+    ensures { result ≡ fold (or_later piece offset) None entries.now }
+{
+    let mut found = None;
+    let mut left = entries;
+    while let [entry, rest @ ..] = left {
+        if entry.piece == piece && entry.offset <= offset {
+            found = Some(entry.line);
+        }
+        left = rest;
+    }
+    found
+}
+
+// The line of the source from which the bytes at an offset of a piece of a module come, where line entries tell it.
+fn line_among(piece: u16, offset: u16, entries: Option<&[Lines]>) -> Option<u32>
+    ensures { result ≡ line_among piece offset (option_copied entries.entry) }
+{
+    match entries {
+        Some(entries) => line_of(piece, offset, entries),
+        None => None,
+    }
+}
+
+// The same in one of some modules.
+fn line_in(piece: u16, offset: u16, modules: &[Module], index: u16) -> Option<u32>
+    ensures { result ≡ line_in piece offset (slice_get modules.now index) }
+{
+    match modules.get(usize::from(index)) {
+        Some(object) => line_among(piece, offset, object.lines()),
+        None => None,
+    }
+}
+
+// Puts a line behind the name of its file.
+fn put_line(note: &mut Vec<u8>, line: Option<u32>) -> Result<(), NoMemory>
+    ensures { OnOk result (note.new.items ≡ note.old.items ++ line_text line) }
+{
+    if let Some(line) = line {
+        let mut buffer = Buffer::new();
+        note.push(b':')?;
+        note.extend_from_slice(buffer.format(line).as_bytes())?;
+    }
+    Ok(())
+}
+
+// A rule that is broken at a place, with more of it.
+fn rule_note(alloc: Global, place: &[u8], rule: &[u8], more: &[u8]) -> Result<Vec<u8>, NoMemory>
+    ensures { IfOk result (λ note. note.items ≡ rule_note place.now rule.now more.now) }
+{
+    let mut behind = Vec::from_slice(alloc, b" ")?;
+    behind.extend_from_slice(more)?;
+    let mut note = Vec::from_slice(alloc, place)?;
+    put_error(&mut note, rule, &behind)?;
+    Ok(note)
+}
+
+// A number that does not fit, in a file where its line may be known.
+fn range_note(
+    alloc: Global,
+    file: &[u8],
+    line: Option<u32>,
+    piece: u16,
+    offset: u16,
+) -> Result<Vec<u8>, NoMemory>
+    ensures { IfOk result (λ note. note.items ≡ rule_note (file.now ++ line_text line) (codes "range") (decimal piece ++ codes " " ++ decimal offset)) }
+{
+    let mut place = Vec::from_slice(alloc, file)?;
+    put_line(&mut place, line)?;
+    let more = place_text(alloc, piece, offset)?;
+    rule_note(alloc, &place, b"range", &more)
+}
+
+/// The note of modules from these files that break a rule of the linker.
+pub(crate) fn link_note(
+    alloc: Global,
+    origins: &Origins<'_, '_, '_>,
+    modules: &[Module],
+    fault: &LinkFault,
+) -> Result<Vec<u8>, NoMemory>
+    ensures { IfOk result (λ note. note.items ≡ link_note (words_of origins.now) modules.now fault.now) }
+{
+    match fault {
+        LinkFault::Unresolved(name) => rule_note(alloc, b"kc96", b"unresolved", name.as_slice()),
+        LinkFault::OverlapName(name) => rule_note(alloc, b"kc96", b"duplicate", name.as_slice()),
+        LinkFault::OverlapPlace(place) => {
+            let at = address_text(*place);
+            rule_note(alloc, b"kc96", b"overlap", at.as_slice())
+        }
+        LinkFault::Capacity { kind, module } => {
+            let file = file_at(alloc, origins, *module)?;
+            rule_note(alloc, &file, b"capacity", kind_word(*kind))
+        }
+        LinkFault::Range {
+            module,
+            piece,
+            offset,
+        } => {
+            let file = file_at(alloc, origins, *module)?;
+            let line = line_in(*piece, *offset, modules, *module);
+            range_note(alloc, &file, line, *piece, *offset)
+        }
+        LinkFault::NoMemory => Err(NoMemory),
+    }
+}

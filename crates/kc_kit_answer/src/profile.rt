@@ -1,0 +1,181 @@
+// The commands that run a board and write where its states go.
+ghost use Rattle.std.specs.Prelude.{◌≡◌, ◌≤◌, IfOk, length, map, string_bytes};
+ghost use Rattle.kc_kit_files.specs.Reads.{AllShort};
+ghost use Rattle.kc_kit_words.specs.Asked.{asked, AreLinkable, IsWithin};
+ghost use Rattle.kc_kit_words.specs.Inputs.{inputs_in};
+ghost use Rattle.kc_kit_words.specs.Values.{max_states};
+ghost use Rattle.kc_kit_inputs.specs.Driving.{given_in, AreShort};
+ghost use Rattle.kc_kit_answer.specs.Jobs.{IsBoardWithLines, IsPrepared, Prepares};
+ghost use Rattle.kc_kit_answer.specs.Places.{Placing};
+ghost use Rattle.kc_kit_answer.specs.Profile.{map_entry, DrivenWithLines, FilledWithLines, LinesTold, ProfileAnswer, ProfileHexAnswer};
+
+use crate::board::{Board, board_of_hex, board_of_modules};
+use crate::job::Job;
+use kc_base::{Files, NoMemory};
+use kc_debug_script::MapEntry;
+use kc_kit_files::{Refusal, read_file, read_files};
+use kc_kit_inputs::{Given, assemble_sources, given_for, read_inputs};
+use kc_kit_words::{Command, Profile, ProfileHex, Ranges};
+use kc_link::{LineAt, line_map};
+use kc_link_source_laws::linked_image;
+use kc_obj::Module;
+use std::alloc::Global;
+
+// ---- a hex file
+
+/// Reads a hex file that is to be run and of which a profile is written, and what drives the inputs.
+pub fn prepare_profile_hex<'a, F: Files>(
+    alloc: Global,
+    run: &ProfileHex<'a>,
+    files: &mut F,
+) -> Result<Job<'a>, Refusal>
+    requires { IsWithin (Command.ProfileHex run.now) }
+    ensures { Prepares F.held F.read_faults F.write_faults (asked (Command.ProfileHex run.now)) files.old result files.new }
+{
+    let text = match read_file(alloc, run.file, files) {
+        Ok(text) => text,
+        Err(refusal) => return Err(refusal),
+    };
+    match read_inputs(alloc, run.inputs, files) {
+        Ok(inputs) => profile_hex(alloc, run, &text, &inputs),
+        Err(refusal) => Err(refusal),
+    }
+}
+
+// The run of the hex file with a text, over inputs with others.
+fn profile_hex<'a>(
+    alloc: Global,
+    run: &ProfileHex<'a>,
+    text: &[u8],
+    inputs: &[Vec<u8>],
+) -> Result<Job<'a>, Refusal>
+    requires states { run.now.states ≤ max_states }
+    requires short { length text.now ≤ 1048576 }
+    requires inputs { AllShort (map (λ t. t.items) inputs.now) }
+    ensures { IsPrepared (ProfileHexAnswer run.now.file.now (inputs_in run.now.inputs) run.now.states run.now.out.now text.now (map (λ t. t.items) inputs.now)) result }
+{
+    let given = given_for(run.inputs, inputs);
+    match board_of_hex(alloc, run.file, text, given) {
+        Ok(board) => Ok(Job::Profile {
+            board,
+            states: run.states,
+            entries: Vec::new(alloc),
+            out: run.out,
+        }),
+        Err(refusal) => Err(refusal),
+    }
+}
+
+// ---- sources
+
+/// Reads sources and what drives the inputs, assembles and links the image that is to be run and of which a profile is written.
+pub fn prepare_profile<'a, F: Files>(
+    alloc: Global,
+    run: &Profile<'a>,
+    files: &mut F,
+) -> Result<Job<'a>, Refusal>
+    requires { IsWithin (Command.Profile run.now) }
+    ensures { Prepares F.held F.read_faults F.write_faults (asked (Command.Profile run.now)) files.old result files.new }
+{
+    let texts = match read_files(alloc, run.files, files) {
+        Ok(texts) => texts,
+        Err(refusal) => return Err(refusal),
+    };
+    match read_inputs(alloc, run.inputs, files) {
+        Ok(inputs) => profile_texts(alloc, run, &texts, &inputs),
+        Err(refusal) => Err(refusal),
+    }
+}
+
+// The run of the sources with some texts, over inputs with others.
+fn profile_texts<'a>(
+    alloc: Global,
+    run: &Profile<'a>,
+    texts: &[Vec<u8>],
+    inputs: &[Vec<u8>],
+) -> Result<Job<'a>, Refusal>
+    requires within { IsWithin (Command.Profile run.now) }
+    requires count { length texts.now ≡ length run.now.files.now }
+    requires short { AllShort (map (λ t. t.items) texts.now) }
+    requires inputs { AllShort (map (λ t. t.items) inputs.now) }
+    ensures { IsPrepared (ProfileAnswer (map string_bytes run.now.files.now) (inputs_in run.now.inputs) run.now.states run.now.placing run.now.out.now (map (λ t. t.items) texts.now) (map (λ t. t.items) inputs.now)) result }
+{
+    let given = given_for(run.inputs, inputs);
+    match board_and_lines(alloc, run.files, texts, &run.placing, given) {
+        Ok((board, entries)) => Ok(Job::Profile {
+            board,
+            states: run.states,
+            entries,
+            out: run.out,
+        }),
+        Err(refusal) => Err(refusal),
+    }
+}
+
+// The board of the image that is linked from sources by their names and texts, with what given files drive, and the line map of
+// the modules; or the refusal of the first fault or broken rule.
+fn board_and_lines(
+    alloc: Global,
+    names: &[String],
+    texts: &[Vec<u8>],
+    placing: &Ranges,
+    given: Given<'_>,
+) -> Result<(Board, Vec<MapEntry>), Refusal>
+    requires linkable { AreLinkable (length names.now) placing.now }
+    requires count { length texts.now ≡ length names.now }
+    requires short { AllShort (map (λ t. t.items) texts.now) }
+    requires given { AreShort given }
+    ensures { IsBoardWithLines (LinesTold (map string_bytes names.now) (given_in given.entry) placing.now (map (λ t. t.items) texts.now)) result }
+{
+    linked_image();
+    match assemble_sources(alloc, names, texts) {
+        Ok(modules) => linked(alloc, names, &modules, placing, given),
+        Err(refusal) => Err(refusal),
+    }
+}
+
+// The board of the image that is linked from modules, and their line map.
+fn linked(
+    alloc: Global,
+    names: &[String],
+    modules: &[Module],
+    placing: &Ranges,
+    given: Given<'_>,
+) -> Result<(Board, Vec<MapEntry>), Refusal>
+    requires linkable { AreLinkable (length modules.now) placing.now }
+    requires given { AreShort given }
+    ensures { IsBoardWithLines (λ tell. Placing (map string_bytes names.now) placing.now (DrivenWithLines (given_in given.entry) FilledWithLines tell) modules.now) result }
+{
+    let board = match board_of_modules(alloc, names, modules, placing, given) {
+        Ok(board) => board,
+        Err(refusal) => return Err(refusal),
+    };
+    let Ok(lines) = line_map(alloc, modules, placing) else {
+        return Err(Refusal::NoMemory);
+    };
+    match entries_of(alloc, lines) {
+        Ok(entries) => Ok((board, entries)),
+        Err(NoMemory) => Err(Refusal::NoMemory),
+    }
+}
+
+fn entry_of(line: LineAt) -> MapEntry
+    ensures { result ≡ map_entry line }
+{
+    MapEntry {
+        addr: line.addr,
+        name: line.name,
+        line: line.line,
+    }
+}
+
+// The entries of a line map that are handed on.
+fn entries_of(alloc: Global, lines: Vec<LineAt>) -> Result<Vec<MapEntry>, NoMemory>
+    ensures { IfOk result (λ entries. entries.items ≡ map map_entry lines.items) }
+{
+    let mut entries = Vec::with_capacity(alloc, lines.len())?;
+    for line in lines {
+        entries.push(entry_of(line))?;
+    }
+    Ok(entries)
+}

@@ -1,0 +1,29 @@
+-- What is said in words, on standard error, of a file that cannot be read or written, of the output and of memory (this kit's own).
+use Rattle.std.specs.Prelude.{ℕ, List, ◌++◌, codes}
+
+-- what is wrong with a file, behind its name
+abbrev pub file_note : List ℕ → List ℕ → List ℕ
+file_note name what = name ++ (codes ": error: " ++ what ++ codes "\n")
+
+abbrev pub missing_note : List ℕ → List ℕ
+missing_note name = file_note name (codes "the file is not there")
+
+-- the sentence of the code LONG
+abbrev pub too_long : List ℕ
+too_long = codes "the file has over 1,048,576 bytes"
+
+abbrev pub long_note : List ℕ → List ℕ
+long_note name = name ++ (codes ": error LONG: " ++ too_long ++ codes "\n")
+
+abbrev pub read_note : List ℕ → List ℕ
+read_note name = file_note name (codes "the file could not be read")
+
+abbrev pub write_note : List ℕ → List ℕ
+write_note name = file_note name (codes "the file could not be written")
+
+-- standard output
+abbrev pub output_note : List ℕ
+output_note = codes "kc96: error: standard output could not be written\n"
+
+abbrev pub memory_note : List ℕ
+memory_note = codes "kc96: error: memory was wanted and not had\n"

@@ -1,0 +1,84 @@
+// How a command has ended, and what is said of it in words.
+ghost use Rattle.std.specs.Prelude.{◌≡◌};
+ghost use Rattle.kc_trace.specs.Out.{Puts};
+ghost use Rattle.kc_trace.specs.Trace.{out_of};
+ghost use Rattle.kc_kit_files.specs.declared.ended.Said.TheVariants as said;
+ghost use Rattle.kc_kit_files.specs.Notes.{output_note};
+ghost use Rattle.kc_kit_files.specs.Ended.{said_in, unwritten, note_in};
+
+use crate::Status;
+use kc_base::Sink;
+use kc_trace::TraceOut;
+
+/// What is said in words, beside what the status says.
+#[derive(Debug, Drop)]
+pub enum Said<'a> {
+    /// Nothing more.
+    Nothing,
+    /// Why a command is refused.
+    Refusal(Vec<u8>),
+    /// The name of the file that was to be written last.
+    File(&'a str),
+}
+
+/// How a command has ended: its status, and what is said of it.
+#[derive(Debug, Drop)]
+pub struct Ended<'a> {
+    pub status: Status,
+    pub said: Said<'a>,
+}
+
+impl<'a> Ended<'a> {
+    /// An end of which nothing is said but what its status says.
+    pub fn by(status: Status) -> Ended<'a>
+        ensures status { result.status ≡ status }
+        ensures said { result.said ≡ said.Nothing }
+    {
+        Ended {
+            status,
+            said: Said::Nothing,
+        }
+    }
+
+    /// Writes what is said of this end in words: nothing where it is done or has come to an undefined use.
+    pub fn put_note<N: Sink>(&self, notes: &mut TraceOut<N>)
+        ensures { Puts (out_of N.written N.faults notes.old) (note_in self.now) (out_of N.written N.faults notes.new) }
+    {
+        match self.status {
+            Status::NoMemory => notes.put_text(b"kc96: error: memory was wanted and not had\n"),
+            Status::WriteFault => put_unwritten(&self.said, notes),
+            _ => put_said(&self.said, notes),
+        }
+    }
+}
+
+// What is said of standard output that could not be written.
+fn put_output<N: Sink>(notes: &mut TraceOut<N>)
+    ensures { Puts (out_of N.written N.faults notes.old) output_note (out_of N.written N.faults notes.new) }
+{
+    notes.put_text(b"kc96: error: standard output could not be written\n");
+}
+
+// What is said of a write that has failed.
+fn put_unwritten<N: Sink>(what: &Said<'_>, notes: &mut TraceOut<N>)
+    ensures { Puts (out_of N.written N.faults notes.old) (unwritten what.now) (out_of N.written N.faults notes.new) }
+{
+    match what {
+        Said::File(name) => {
+            notes.put_text(name.as_bytes());
+            notes.put_text(b": error: the file could not be written\n");
+        }
+        Said::Nothing => put_output(notes),
+        Said::Refusal(_) => put_output(notes),
+    }
+}
+
+// What is said of a reply that is given.
+fn put_said<N: Sink>(what: &Said<'_>, notes: &mut TraceOut<N>)
+    ensures { Puts (out_of N.written N.faults notes.old) (said_in what.now) (out_of N.written N.faults notes.new) }
+{
+    match what {
+        Said::Refusal(note) => notes.put_text(note),
+        _ => {}
+    }
+}

@@ -1,0 +1,100 @@
+// What is said in words of a fault in a file.
+ghost use Rattle.std.specs.Prelude.{◌≡◌, ◌++◌, codes, decimal, IfOk, OnOk};
+ghost use Rattle.std.specs.Option.{option_map};
+ghost use Rattle.kc_kit_inputs.specs.Notes.{line_at, line_shown, error_text, line_note, byte_note};
+
+use itoa::Buffer;
+use kc_base::{NoMemory, after, first_line, front};
+use kc_explain::sentence;
+use std::alloc::Global;
+
+/// The line of this number of a text, from 1 on, without its end.
+fn line_at(text: &[u8], number: u32) -> Option<&[u8]>
+    ensures { option_map (λ l. l.now) result ≡ line_at text.now number }
+{
+    if number == 0 {
+        return None;
+    }
+    let mut rest = text;
+    let mut before = number - 1;
+    while !rest.is_empty() {
+        let (line, whole) = first_line(rest);
+        if before == 0 {
+            return Some(front(rest, line));
+        }
+        before -= 1;
+        rest = after(rest, whole);
+    }
+    None
+}
+
+/// Puts a code behind a note, with more behind it, and with its sentence.
+pub fn put_error(note: &mut Vec<u8>, code: &[u8], more: &[u8]) -> Result<(), NoMemory>
+    ensures { OnOk result (note.new.items ≡ note.old.items ++ error_text code.now more.now) }
+{
+    note.extend_from_slice(b": error ")?;
+    note.extend_from_slice(code)?;
+    note.extend_from_slice(more)?;
+    note.extend_from_slice(b": ")?;
+    note.extend_from_slice(sentence(code).as_bytes())?;
+    note.push(b'\n')?;
+    Ok(())
+}
+
+// Puts the line of this number behind a note.
+fn put_line(note: &mut Vec<u8>, text: &[u8], line: u32) -> Result<(), NoMemory>
+    ensures { OnOk result (note.new.items ≡ note.old.items ++ line_shown (line_at text.now line)) }
+{
+    match line_at(text, line) {
+        Some(shown) => {
+            note.extend_from_slice(shown)?;
+            note.push(b'\n')?;
+            Ok(())
+        }
+        None => Ok(()),
+    }
+}
+
+/// The note of a fault in a line of a text.
+pub(crate) fn line_note(
+    alloc: Global,
+    name: &[u8],
+    text: &[u8],
+    line: u32,
+    code: &[u8],
+) -> Result<Vec<u8>, NoMemory>
+    ensures { IfOk result (λ note. note.items ≡ line_note name.now text.now line code.now) }
+{
+    let mut note = Vec::from_slice(alloc, name)?;
+    let mut buffer = Buffer::new();
+    note.push(b':')?;
+    note.extend_from_slice(buffer.format(line).as_bytes())?;
+    put_error(&mut note, code, b"")?;
+    put_line(&mut note, text, line)?;
+    Ok(note)
+}
+
+// The place of a fault as it is told behind its code.
+fn byte_text(alloc: Global, place: u32) -> Result<Vec<u8>, NoMemory>
+    ensures { IfOk result (λ text. text.items ≡ codes " at byte " ++ decimal place) }
+{
+    let mut text = Vec::from_slice(alloc, b" at byte ")?;
+    let mut buffer = Buffer::new();
+    text.extend_from_slice(buffer.format(place).as_bytes())?;
+    Ok(text)
+}
+
+/// The note of a fault at a byte of a file.
+pub(crate) fn byte_note(
+    alloc: Global,
+    name: &[u8],
+    place: u32,
+    code: &[u8],
+) -> Result<Vec<u8>, NoMemory>
+    ensures { IfOk result (λ note. note.items ≡ byte_note name.now place code.now) }
+{
+    let mut note = Vec::from_slice(alloc, name)?;
+    let more = byte_text(alloc, place)?;
+    put_error(&mut note, code, &more)?;
+    Ok(note)
+}

@@ -1,0 +1,189 @@
+-- What is wrong in words that are no command (this kit's own): the first thing that is, by the same tables as what a command takes.
+use Rattle.std.specs.Prelude.{ℕ, nat_le, List, [], ◌∷◌, ◌++◌, codes, length, Option, Some, None, is_none, is_some, if◌then◌else◌}
+use Rattle.std.specs.List.{list_all}
+use Rattle.std.specs.Option.{option_or}
+use Rattle.std.specs.Str.{bytes_eq}
+use Rattle.kc_link_place.specs.Ranges.{are_in_bounds, lies_within}
+use Rattle.kc_kit_words.specs.declared.extent.Extent.{Extent}
+use Rattle.kc_kit_words.specs.declared.usage.Wrong.{Wrong}
+use Rattle.kc_kit_words.specs.declared.usage.Wrong.TheVariants as wrong
+use Rattle.kc_kit_words.specs.declared.values.Form.{Form}
+use Rattle.kc_kit_words.specs.Number.{number_of}
+use Rattle.kc_kit_words.specs.Options.{form_of, has_form, value_of, extent_in}
+use Rattle.kc_kit_words.specs.Values.{is_name, range_of}
+use Rattle.kc_kit_words.specs.Words.{Beside, files_of, options_of, placing_of, is_other, are_apart, beside_of, help_on}
+
+-- ---- texts
+
+abbrev pub no_command : List ℕ → List ℕ
+no_command verb = codes "unknown command " ++ verb
+
+abbrev pub no_option : List ℕ → List ℕ
+no_option option = codes "unknown option " ++ option
+
+abbrev pub no_value : List ℕ → List ℕ
+no_value option = codes "missing value of option " ++ option
+
+abbrev pub bad_value : List ℕ → List ℕ → List ℕ
+bad_value option value = codes "bad value " ++ value ++ (codes " of option " ++ option)
+
+abbrev pub twice : List ℕ → List ℕ
+twice option = codes "repeated option " ++ option
+
+abbrev pub lacks : List ℕ → List ℕ
+lacks option = codes "missing option " ++ option
+
+abbrev pub bad_range : List ℕ → List ℕ
+bad_range range = codes "bad range " ++ range
+
+abbrev pub bad_number : List ℕ → List ℕ
+bad_number number = codes "bad number " ++ number
+
+-- what is said of a wrong thing
+abbrev pub wrong_text : Wrong → List ℕ
+wrong_text wrong.NoWords = codes "no command"
+wrong_text (wrong.NoCommand verb) = no_command verb.now
+wrong_text (wrong.NoOption option) = no_option option.now
+wrong_text (wrong.NoValue option) = no_value option.now
+wrong_text (wrong.BadValue option value) = bad_value option.now value.now
+wrong_text (wrong.Twice option) = twice option.now
+wrong_text (wrong.Lacks option) = lacks option.now
+wrong_text wrong.FewFiles = codes "too few files"
+wrong_text wrong.ManyFiles = codes "too many files"
+wrong_text wrong.BadName = codes "a file's name has not 1 to 255 bytes"
+wrong_text wrong.FewWords = codes "too few words"
+wrong_text wrong.ManyWords = codes "too many words"
+wrong_text wrong.SameFile = codes "two files to write have one name"
+wrong_text wrong.MoreLives = codes "--profile does not go with --lives"
+wrong_text wrong.OutOfBounds = codes "a range is out of bounds"
+wrong_text (wrong.BadRange range) = bad_range range.now
+wrong_text (wrong.BadNumber number) = bad_number number.now
+
+-- ---- options
+
+-- an option with its value before other words: the command does not take it, its value has another form, or it stands again
+abbrev pub wrong_value : Option Form → List ℕ → List ℕ → Option (List ℕ) → Option (List ℕ)
+wrong_value None option value again = Some (no_option option)
+wrong_value (Some form) option value again =
+    if has_form form value then (if is_some again then Some (twice option) else None)
+    else Some (bad_value option value)
+
+abbrev pub wrong_last : Option Form → List ℕ → List ℕ
+wrong_last None option = no_option option
+wrong_last (Some form) option = no_value option
+
+unfoldable pub wrong_option : List ℕ → List (List ℕ) → Option (List ℕ)
+wrong_option verb [] = None
+wrong_option verb (option ∷ []) = Some (wrong_last (form_of verb option) option)
+wrong_option verb (option ∷ value ∷ words) = option_or (wrong_value (form_of verb option) option value (value_of option words)) (wrong_option verb words)
+
+abbrev pub lacks_out : List (List ℕ) → Option (List ℕ)
+lacks_out options = if is_some (value_of (codes "--out") options) then None else Some (lacks (codes "--out"))
+
+-- a run needs to know how far it goes, and a profile is of one life
+abbrev pub wrong_run : Option (List ℕ) → Option Extent → Option (List ℕ)
+wrong_run profile None = Some (lacks (codes "--states"))
+wrong_run None (Some extent) = None
+wrong_run (Some profile) (Some extent) = if is_none extent.lives then None else Some (wrong_text wrong.MoreLives)
+
+abbrev pub wrong_extent : List (List ℕ) → Option (List ℕ)
+wrong_extent options = wrong_run (value_of (codes "--profile") options) (extent_in options)
+
+abbrev pub wrong_placing : List (List ℕ) → Option (List ℕ)
+wrong_placing options = if are_in_bounds (placing_of options) then None else Some (wrong_text wrong.OutOfBounds)
+
+abbrev pub wrong_outputs : Option (List ℕ) → Beside → Option (List ℕ)
+wrong_outputs None beside = Some (lacks (codes "--out"))
+wrong_outputs (Some out) beside = if are_apart out beside then None else Some (wrong_text wrong.SameFile)
+
+abbrev pub wrong_listing : Option (List ℕ) → Option (List ℕ) → Option (List ℕ)
+wrong_listing None list = Some (lacks (codes "--out"))
+wrong_listing (Some out) list = if is_other out list then None else Some (wrong_text wrong.SameFile)
+
+-- ---- files
+
+abbrev pub wrong_name : List ℕ → Option (List ℕ)
+wrong_name file = if is_name file then None else Some (wrong_text wrong.BadName)
+
+-- 1 to 64 files
+abbrev pub wrong_files : List (List ℕ) → Option (List ℕ)
+wrong_files [] = Some (wrong_text wrong.FewFiles)
+wrong_files (file ∷ files) =
+    if nat_le (length (file ∷ files)) 64 then (if list_all is_name (file ∷ files) then None else Some (wrong_text wrong.BadName))
+    else Some (wrong_text wrong.ManyFiles)
+
+-- one file
+abbrev pub wrong_file : List (List ℕ) → Option (List ℕ)
+wrong_file [] = Some (wrong_text wrong.FewFiles)
+wrong_file (file ∷ []) = wrong_name file
+wrong_file (file ∷ other ∷ files) = Some (wrong_text wrong.ManyFiles)
+
+-- two files
+abbrev pub wrong_pair : List (List ℕ) → Option (List ℕ)
+wrong_pair (file ∷ other ∷ []) = option_or (wrong_name file) (wrong_name other)
+wrong_pair (file ∷ other ∷ third ∷ files) = Some (wrong_text wrong.ManyFiles)
+wrong_pair _ = Some (wrong_text wrong.FewFiles)
+
+-- a file and a range of addresses of an image
+abbrev pub wrong_range : List ℕ → Option (ℕ × ℕ) → Option (List ℕ)
+wrong_range word None = Some (bad_range word)
+wrong_range word (Some range) = if lies_within 0x2000 0xFFFF range then None else Some (wrong_text wrong.OutOfBounds)
+
+abbrev pub wrong_list : List (List ℕ) → Option (List ℕ)
+wrong_list (file ∷ range ∷ []) = option_or (wrong_name file) (wrong_range range (range_of range))
+wrong_list (file ∷ range ∷ word ∷ words) = Some (wrong_text wrong.ManyWords)
+wrong_list _ = Some (wrong_text wrong.FewWords)
+
+-- a number
+abbrev pub wrong_number : List (List ℕ) → Option (List ℕ)
+wrong_number [] = Some (wrong_text wrong.FewWords)
+wrong_number (number ∷ []) = if is_some (number_of 65535 number) then None else Some (bad_number number)
+wrong_number (number ∷ word ∷ words) = Some (wrong_text wrong.ManyWords)
+
+-- any word
+abbrev pub wrong_word : List (List ℕ) → Option (List ℕ)
+wrong_word [] = Some (wrong_text wrong.FewWords)
+wrong_word (word ∷ []) = None
+wrong_word (word ∷ other ∷ words) = Some (wrong_text wrong.ManyWords)
+
+-- none
+abbrev pub wrong_more : List (List ℕ) → Option (List ℕ)
+wrong_more [] = None
+wrong_more (word ∷ words) = Some (wrong_text wrong.ManyWords)
+
+-- ---- commands: the options are judged before the files
+
+abbrev pub wrong_by : List ℕ → List (List ℕ) → List (List ℕ) → Option (List ℕ) → Option (List ℕ)
+wrong_by verb files options wrong_options =
+    if bytes_eq verb (codes "run") then option_or wrong_options (option_or (wrong_files files) (option_or (wrong_extent options) (wrong_placing options)))
+    else if bytes_eq verb (codes "asm")
+    then option_or wrong_options (option_or (wrong_file files) (wrong_listing (value_of (codes "--out") options) (value_of (codes "--list") options)))
+    else if bytes_eq verb (codes "lib") then option_or wrong_options (option_or (wrong_files files) (lacks_out options))
+    else if bytes_eq verb (codes "link")
+    then option_or wrong_options (option_or (wrong_files files) (option_or (wrong_outputs (value_of (codes "--out") options) (beside_of options)) (wrong_placing options)))
+    else if bytes_eq verb (codes "hex") then option_or wrong_options (option_or (wrong_file files) (wrong_extent options))
+    else if bytes_eq verb (codes "dis") then option_or wrong_options (wrong_list files)
+    else if bytes_eq verb (codes "debug") then option_or wrong_options (wrong_pair files)
+    else if bytes_eq verb (codes "gen") then option_or wrong_options (wrong_number files)
+    else if bytes_eq verb (codes "vcd") then option_or wrong_options (option_or (wrong_file files) (lacks_out options))
+    else if bytes_eq verb (codes "explain") then option_or wrong_options (wrong_word files)
+    else if bytes_eq verb (codes "--help") then option_or wrong_options (wrong_more files)
+    else if bytes_eq verb (codes "--version") then option_or wrong_options (wrong_more files)
+    else Some (no_command verb)
+
+-- what is wrong in words that ask for no help on a command
+abbrev pub plain_usage_of : List (List ℕ) → Option (List ℕ)
+plain_usage_of [] = Some (wrong_text wrong.NoWords)
+plain_usage_of (verb ∷ words) = wrong_by verb (files_of words) (options_of words) (wrong_option verb (options_of words))
+
+-- what is wrong in some words, if anything is
+abbrev pub usage_of : List (List ℕ) → Option (List ℕ)
+usage_of words = if is_some (help_on words) then None else plain_usage_of words
+
+abbrev pub noted : Option (List ℕ) → List ℕ
+noted (Some text) = codes "kc96: error: " ++ text ++ codes "; see kc96 --help\n"
+noted None = []
+
+-- the note of some words that are no command
+abbrev pub usage_note : List (List ℕ) → List ℕ
+usage_note words = noted (usage_of words)
