@@ -22,7 +22,11 @@ mod made;
 #[cfg(test)]
 mod narrow;
 #[cfg(test)]
+mod notes;
+#[cfg(test)]
 mod outside;
+#[cfg(test)]
+mod profiles;
 #[cfg(test)]
 mod serial;
 #[cfg(test)]

@@ -57,8 +57,29 @@ pub(crate) fn answers(
     let words = words(alloc, line)?;
     let output = Vec::from_slice(alloc, failing.output)?;
     let mut out = TraceOut::new(MemSink::new(alloc, 4096, output)?);
-    let given = kit(alloc, &words, files, &mut out);
+    let mut notes = TraceOut::new(MemSink::new(alloc, 4096, Vec::new(alloc))?);
+    let given = kit(alloc, &words, files, &mut out, &mut notes);
     Ok(given == status && out.sink().written() == text.as_bytes())
+}
+
+/// Does a command line, and tells whether its status, what it prints and what it says in words are these, where these writes
+/// of the notes fail.
+pub(crate) fn says(
+    alloc: Global,
+    files: &mut MemFiles,
+    failing: Failing<'_>,
+    failing_notes: &[u64],
+    line: &str,
+    (status, text, note): (Status, &str, &str),
+) -> Result<bool, NoMemory> {
+    let words = words(alloc, line)?;
+    let output = Vec::from_slice(alloc, failing.output)?;
+    let mut out = TraceOut::new(MemSink::new(alloc, 4096, output)?);
+    let noted = Vec::from_slice(alloc, failing_notes)?;
+    let mut notes = TraceOut::new(MemSink::new(alloc, 4096, noted)?);
+    let given = kit(alloc, &words, files, &mut out, &mut notes);
+    let printed = out.sink().written() == text.as_bytes();
+    Ok(given == status && printed && notes.sink().written() == note.as_bytes())
 }
 
 /// Whether a file holds these bytes.

@@ -56,7 +56,8 @@ fn a_sink_that_takes_one_byte_of_each_write_gets_all(rt: HostRuntime) -> Result<
     let mut files = files(a, &[("a.a96", ONE_NOP)], NO_FAULT)?;
     let sink = MemSink::new(a, 4096, Vec::new(a))?;
     let mut out = TraceOut::new(Narrow { sink });
-    assert!(rt; kit(a, &words, &mut files, &mut out) == Status::Done);
+    let mut notes = TraceOut::new(MemSink::new(a, 4096, Vec::new(a))?);
+    assert!(rt; kit(a, &words, &mut files, &mut out, &mut notes) == Status::Done);
     assert!(rt; out.sink().sink.written() == text.as_bytes());
     Ok(())
 }

@@ -81,7 +81,24 @@ fn words_are_judged_before_files(rt: HostRuntime) -> Result<(), Fail> {
 fn help_and_version_are_told(rt: HostRuntime) -> Result<(), Fail> {
     let a = rt.alloc();
     let mut files = files(a, &[], FIRST_READ)?;
-    assert!(rt; answers(a, &mut files, NO_FAULT, "--help", Status::Done, HELP)?);
+    let mut help = String::new(a);
+    for (_, part) in HELP {
+        help.push_str(part)?;
+    }
+    assert!(rt;
+        answers(
+            a,
+            &mut files,
+            NO_FAULT,
+            "--help",
+            Status::Done,
+            help.as_str()
+        )?
+    );
+    let asm = "  kc96 asm NAME --out FILE        assemble the source NAME to the object FILE
+       [--list FILE]              and write its lines with the places and the bytes of what they say
+";
+    assert!(rt; answers(a, &mut files, NO_FAULT, "asm --help", Status::Done, asm)?);
     assert!(rt; answers(a, &mut files, NO_FAULT, "--version", Status::Done, VERSION)?);
     Ok(())
 }
