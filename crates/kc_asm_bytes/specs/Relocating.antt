@@ -1,6 +1,7 @@
 -- Which numbers depend on bases, what a module has in their place, and what its relocations are. A piece is relocatable,
 -- or absolute at an address (after the MCS-96 Macro Assembler User's Guide, "Relocation").
 use Rattle.std.specs.Prelude.{ℕ, Bool, true, false, ◌+◌, ◌<◌, not, ◌&&◌, ◌==◌, if◌then◌else◌, Option, Some, None}
+use Rattle.kc_lex.specs.Codes.{does_not_fit, out_of_reach}
 use Rattle.kc_expr.specs.declared.values.Base.{Base}
 use Rattle.kc_expr.specs.declared.values.Base.TheVariants.{Fixed, Absolute, Piece, External}
 use Rattle.kc_expr.specs.declared.values.Value.{Value}
@@ -49,7 +50,7 @@ relocated at piece (Second kind v) = None
 
 -- a byte (kind 1) or a distance
 abbrev pub misfit_code : ℕ → ℕ
-misfit_code kind = if kind == 1 then 12 else 19
+misfit_code kind = if kind == 1 then does_not_fit else out_of_reach
 
 -- the code of the fault where a number that depends on no base does not fit its bytes: 12 for a byte, 19 for a jump
 unfoldable pub misfit : Option ℕ → ℕ → ℕ → Octet → Option ℕ

@@ -5,6 +5,7 @@ ghost use Rattle.kc_asm_bytes.specs.Relocating as relocating;
 
 use crate::Octet;
 use kc_expr::{Base, Value};
+use kc_lex::SourceCode;
 use kc_obj_relocation::{first_part, fits, is_distance, number, reach, second_part};
 
 // The number of a value with all pieces at 0, where the next instruction begins some bytes behind a place.
@@ -70,7 +71,11 @@ pub fn misfit(at: Option<u16>, piece: u16, place: u16, octet: Octet) -> Option<u
         Octet::First { kind, value, .. } => {
             let own = !depends(kind, at, piece, value.base);
             if own && !fits(kind, number_at(kind, place, reach(kind), value)) {
-                Some(if kind == 1 { 12 } else { 19 })
+                Some(if kind == 1 {
+                    SourceCode::DoesNotFit.number()
+                } else {
+                    SourceCode::OutOfReach.number()
+                })
             } else {
                 None
             }

@@ -3,18 +3,15 @@
 use Rattle.std.specs.Prelude.{ℕ, ◌==◌, ◌||◌, if◌then◌else◌, min, List, [], ◌∷◌, ◌++◌, Option, Some, None, Ok, Err}
 use Rattle.std.specs.List.{flat_map}
 use Rattle.std.specs.Option.{option_to_list}
+use Rattle.kc_lex.specs.Codes.{not_fixed}
 use Rattle.kc_expr.specs.Tree.{Tree, Number}
-use Rattle.kc_expr.specs.Meaning.{Answer, answer_by, is_fixed}
+use Rattle.kc_expr.specs.Meaning.{Answer, answer_by, is_fixed, told_elsewhere}
 use Rattle.kc_source_statement.specs.Trees.{ItemTree, ArgTree, ActionTree, Bare, Module, Cseg, Dseg, Rseg, Sseg, Public, Extrn, Equ, Set, Define, Reserve, Org, Even, End, Operation}
 use Rattle.kc_source_statement.specs.Trees as trees
 use Rattle.kc_asm_operation.specs.Faults.{fault_of}
 use Rattle.kc_asm_emission.specs.Arguments.{Look, arguments}
 
 -- ---- expressions
-
--- the code of a fault that is told at another line
-abbrev pub told_elsewhere : ℕ
-told_elsewhere = 255
 
 abbrev pub faults_in : Answer → List ℕ
 faults_in (Ok v) = []
@@ -25,7 +22,7 @@ value_faults look x = faults_in (answer_by look x)
 
 -- where the value has to be fixed
 abbrev pub unless_fixed : Answer → List ℕ
-unless_fixed (Ok v) = if is_fixed v.base then [] else 10 ∷ []
+unless_fixed (Ok v) = if is_fixed v.base then [] else not_fixed ∷ []
 unless_fixed (Err code) = faults_in (Err code)
 
 abbrev pub fixed_faults : Look → Tree → List ℕ

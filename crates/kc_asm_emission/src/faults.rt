@@ -9,7 +9,8 @@ ghost use Rattle.kc_asm_emission.specs.Faults as faults;
 use crate::operands::arguments;
 use kc_asm_operation::fault as operand_fault;
 use kc_base::NoMemory;
-use kc_expr::{Base, Expr, Scope, Value, value_over};
+use kc_expr::{Base, Expr, Scope, TOLD_ELSEWHERE, Value, value_over};
+use kc_lex::SourceCode;
 use kc_source_statement::{Action, Arg, Item};
 use std::alloc::Global;
 
@@ -29,7 +30,11 @@ pub fn lesser(a: Option<u8>, b: Option<u8>) -> Option<u8>
 fn told(code: u8) -> Option<u8>
     ensures { result ≡ faults.least (faults.faults_in (Err code)) }
 {
-    if code == 255 { None } else { Some(code) }
+    if code == TOLD_ELSEWHERE {
+        None
+    } else {
+        Some(code)
+    }
 }
 
 #[tactic(auto, unfolding(crate::specs::Faults::least))]
@@ -49,7 +54,7 @@ fn unless_fixed(value: Value) -> Option<u8>
     if value.base == Base::Fixed {
         None
     } else {
-        Some(10)
+        Some(SourceCode::NotFixed.number())
     }
 }
 

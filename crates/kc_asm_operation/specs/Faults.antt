@@ -5,6 +5,7 @@ use Rattle.std.specs.Prelude.{ℕ, not, ◌%◌, ◌==◌, ◌||◌, nat_lt, if�
 use Rattle.kc_expr.specs.declared.values.Value.{Value}
 use Rattle.kc_lex.specs.declared.words.Operands.{Operands}
 use Rattle.kc_lex.specs.declared.words.Operands.TheVariants as operands
+use Rattle.kc_lex.specs.Codes.{not_fixed, does_not_fit}
 use Rattle.kc_asm_operation.specs.declared.argument.Argument.{Argument}
 use Rattle.kc_asm_operation.specs.declared.argument.Argument.TheVariants.{Plain, Immediate, Indirect, Increment, Indexed}
 use Rattle.kc_asm_operation.specs.Values.{is_fixed, is_external, argument}
@@ -13,11 +14,11 @@ use Rattle.kc_asm_operation.specs.Takes.{operands_for}
 -- a number that has to be fixed, and is at most a bound
 abbrev pub number_fault : ℕ → Option Value → Option ℕ
 number_fault most None = None
-number_fault most (Some v) = if is_fixed v.base then (if nat_lt most v.number then Some 12 else None) else Some 10
+number_fault most (Some v) = if is_fixed v.base then (if nat_lt most v.number then Some does_not_fit else None) else Some not_fixed
 
 abbrev pub pointer_fault : Option Value → Option ℕ
 pointer_fault None = None
-pointer_fault (Some r) = if not (r.number % 2 == 0) || is_external r.base then Some 12 else None
+pointer_fault (Some r) = if not (r.number % 2 == 0) || is_external r.base then Some does_not_fit else None
 
 abbrev pub source_fault : Argument → Option ℕ
 source_fault (Plain x) = None

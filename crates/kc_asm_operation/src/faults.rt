@@ -4,8 +4,8 @@ ghost use Rattle.kc_asm_operation.specs.Takes as takes;
 
 use crate::argument::{Argument, is_fixed, operand_at};
 use kc_expr::{Base, Value};
-use kc_lex::Operands;
 use kc_lex::words::{generic_operands_of, operands_of};
+use kc_lex::{Operands, SourceCode};
 
 fn operands_for(word: &[u8]) -> Option<Operands>
     ensures { result ≡ takes.operands_for word.now }
@@ -23,9 +23,9 @@ fn number_fault(most: u16, number: Option<Value>) -> Option<u8>
         None => None,
         Some(value) => {
             if !is_fixed(value.base) {
-                Some(10)
+                Some(SourceCode::NotFixed.number())
             } else if value.number > most {
-                Some(12)
+                Some(SourceCode::DoesNotFit.number())
             } else {
                 None
             }
@@ -40,7 +40,7 @@ fn pointer_fault(pointer: Option<Value>) -> Option<u8>
         None => None,
         Some(value) => {
             if value.number % 2 != 0 || matches!(value.base, Base::External(_)) {
-                Some(12)
+                Some(SourceCode::DoesNotFit.number())
             } else {
                 None
             }

@@ -6,6 +6,7 @@ use Rattle.kc_lex.specs.declared.token.TokenKind.{TokenKind}
 use Rattle.kc_lex.specs.declared.token.TokenKind.TheVariants as kinds
 use Rattle.kc_lex.specs.declared.token.Token.{Token}
 use Rattle.kc_lex.specs.Words.{is_reserved, is_stack}
+use Rattle.kc_lex.specs.Codes.{other_operands}
 use Rattle.kc_lex.specs.Kinds.{is_sign, is_word, begins_sign}
 use Rattle.kc_expr.specs.declared.expr.Unary.{Unary}
 use Rattle.kc_expr.specs.declared.expr.Unary.TheVariants as unary
@@ -149,5 +150,5 @@ seen tokens (Some p) = Some (tree_of p.0, drop p.1 tokens)
 -- what parse answers: the expression that is read and the place after it, or a fault where there is none
 abbrev pub IsParsed : List Token → ℕ → Result (Expr × ℕ) SourceFault → Type 0
 IsParsed tokens from (Ok p) = parsed (drop from tokens) ≡ Some (tree_of p.0, drop p.1 tokens)
-IsParsed tokens from (Err (faults.At line code)) = (line ≡ 0) × (code ≡ 14) × (parsed (drop from tokens) ≡ None)
+IsParsed tokens from (Err (faults.At line code)) = (line ≡ 0) × (code ≡ other_operands) × (parsed (drop from tokens) ≡ None)
 IsParsed tokens from (Err faults.NoMemory) = Unit {0}

@@ -5,6 +5,7 @@ use Rattle.std.specs.Prelude.{◌≡◌, ℕ, ◌+◌, ◌-◌, ◌*◌, ◌/◌
 use Rattle.std.specs.FinMap.{get}
 use Rattle.kc_lex.specs.declared.fault.SourceFault.{SourceFault}
 use Rattle.kc_lex.specs.declared.fault.SourceFault.TheVariants as faults
+use Rattle.kc_lex.specs.Codes.{not_defined, bad_number, division_by_zero, not_relocatable}
 use Rattle.kc_expr.specs.declared.values.Base.{Base}
 use Rattle.kc_expr.specs.declared.values.Base.TheVariants.{Fixed, Absolute, Piece, External}
 use Rattle.kc_expr.specs.declared.values.Tag.TheVariants.{Memory}
@@ -24,17 +25,21 @@ abbrev pub plain : ℕ → Value
 plain n = record { base = Fixed; tag = Memory; number = n }
 
 abbrev pub number_answer : ℕ → Answer
-number_answer n = if nat_lt n (2 ^ 16) then Ok (plain n) else Err 9
+number_answer n = if nat_lt n (2 ^ 16) then Ok (plain n) else Err bad_number
 
 -- the first character is the high byte
 abbrev pub chars_answer : List ℕ → Answer
-chars_answer [] = Err 9
+chars_answer [] = Err bad_number
 chars_answer (a ∷ []) = Ok (plain a)
 chars_answer (a ∷ b ∷ []) = Ok (plain (256 * a + b))
-chars_answer (a ∷ b ∷ c ∷ cs) = Err 9
+chars_answer (a ∷ b ∷ c ∷ cs) = Err bad_number
+
+-- the code of a fault that is told at another line, above all others
+abbrev pub told_elsewhere : ℕ
+told_elsewhere = 255
 
 abbrev pub found : Option Value → Answer
-found None = Err 7
+found None = Err not_defined
 found (Some v) = Ok v
 
 abbrev pub is_fixed : Base → Bool
@@ -80,27 +85,27 @@ binary_number binary.Or a b = Some (bit_or a b)
 binary_number binary.Xor a b = Some (bit_xor a b)
 
 abbrev pub divided : Option ℕ → Answer
-divided None = Err 11
+divided None = Err division_by_zero
 divided (Some n) = Ok (plain n)
 
 -- a place, moved by a plain number
 abbrev pub moved : Binary → Value → ℕ → Answer
 moved binary.Plus v n = Ok (record v { number = (v.number + n) % 65536 })
 moved binary.Minus v n = Ok (record v { number = (v.number + 65536 - n) % 65536 })
-moved op v n = Err 13
+moved op v n = Err not_relocatable
 
 -- a plain number, and a place after it
 abbrev pub moved_to : Binary → Value → ℕ → Answer
 moved_to binary.Plus v n = Ok (record v { number = (v.number + n) % 65536 })
-moved_to op v n = Err 13
+moved_to op v n = Err not_relocatable
 
 -- two places of one base have a distance
 abbrev pub distance : Binary → Value → Value → Answer
-distance binary.Minus a b = if same_base a.base b.base then Ok (record { base = Absolute; tag = Memory; number = (a.number + 65536 - b.number) % 65536 }) else Err 13
-distance op a b = Err 13
+distance binary.Minus a b = if same_base a.base b.base then Ok (record { base = Absolute; tag = Memory; number = (a.number + 65536 - b.number) % 65536 }) else Err not_relocatable
+distance op a b = Err not_relocatable
 
 unfoldable pub on_one : Unary → Value → Answer
-on_one op v = if is_fixed v.base then Ok (plain (unary_number op v.number)) else Err 13
+on_one op v = if is_fixed v.base then Ok (plain (unary_number op v.number)) else Err not_relocatable
 
 unfoldable pub on_two : Binary → Value → Value → Answer
 on_two op a b =
@@ -131,8 +136,8 @@ divides_by_zero op (Err e) = false
 
 -- a division by a fixed 0 is a fault whatever is divided
 abbrev pub by_zero : Answer → Answer
-by_zero (Ok a) = Err 11
-by_zero (Err e) = Err (min e 11)
+by_zero (Ok a) = Err division_by_zero
+by_zero (Err e) = Err (min e division_by_zero)
 
 unfoldable pub binary_answer : Binary → Answer → Answer → Answer
 binary_answer op a b = if divides_by_zero op b then by_zero a else parts_answer op a b

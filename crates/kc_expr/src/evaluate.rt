@@ -6,7 +6,7 @@ ghost use Rattle.kc_expr.specs.Meaning.{Answer, answer, answer_by, name_answer, 
 use crate::expr::{Binary, Expr, Unary};
 use crate::symbols::Symbols;
 use crate::values::{Base, Tag, Value};
-use kc_lex::SourceFault;
+use kc_lex::{SourceCode, SourceFault};
 
 /// The value of an expression over the symbols, modulo 65536, or the least code of its faults, at the line: 7 where a
 /// name has no value, 9 where a number does not fit 16 bits, 11 at a division by 0, 13 at arithmetic on places.
@@ -73,7 +73,7 @@ fn number(n: u32) -> Result<Value, u8>
     if n < 65536 {
         Ok(fixed(n as u16))
     } else {
-        Err(9)
+        Err(SourceCode::BadNumber.number())
     }
 }
 
@@ -83,7 +83,7 @@ fn chars(text: &[u8]) -> Result<Value, u8>
     match text {
         [low] => Ok(fixed(u16::from(*low))),
         [high, low] => Ok(fixed(256 * u16::from(*high) + u16::from(*low))),
-        _ => Err(9),
+        _ => Err(SourceCode::BadNumber.number()),
     }
 }
 
@@ -100,7 +100,7 @@ fn one(op: Unary, value: Value) -> Result<Value, u8>
     if value.base == Base::Fixed {
         Ok(fixed(under_one(op, value.number)))
     } else {
-        Err(13)
+        Err(SourceCode::NotRelocatable.number())
     }
 }
 
@@ -150,8 +150,8 @@ fn by_zero(left: Result<Value, u8>) -> Result<Value, u8>
     ensures { result ≡ meaning.by_zero left }
 {
     match left {
-        Ok(_) => Err(11),
-        Err(code) => Err(code.min(11)),
+        Ok(_) => Err(SourceCode::DivisionByZero.number()),
+        Err(code) => Err(code.min(SourceCode::DivisionByZero.number())),
     }
 }
 
@@ -178,7 +178,7 @@ fn two(op: Binary, a: Value, b: Value) -> Result<Value, u8>
         if b.base == Base::Fixed {
             match under_two(op, a.number, b.number) {
                 Some(number) => Ok(fixed(number)),
-                None => Err(11),
+                None => Err(SourceCode::DivisionByZero.number()),
             }
         } else {
             place_after(op, b, a.number)
@@ -199,7 +199,7 @@ fn place_after(op: Binary, place: Value, by: u16) -> Result<Value, u8>
             tag: place.tag,
             number: place.number.wrapping_add(by),
         }),
-        _ => Err(13),
+        _ => Err(SourceCode::NotRelocatable.number()),
     }
 }
 
@@ -217,7 +217,7 @@ fn place_moved(op: Binary, place: Value, by: u16) -> Result<Value, u8>
             tag: place.tag,
             number: place.number.wrapping_sub(by),
         }),
-        _ => Err(13),
+        _ => Err(SourceCode::NotRelocatable.number()),
     }
 }
 
@@ -233,10 +233,10 @@ fn between(op: Binary, a: Value, b: Value) -> Result<Value, u8>
                     number: a.number.wrapping_sub(b.number),
                 })
             } else {
-                Err(13)
+                Err(SourceCode::NotRelocatable.number())
             }
         }
-        _ => Err(13),
+        _ => Err(SourceCode::NotRelocatable.number()),
     }
 }
 

@@ -7,7 +7,7 @@ use crate::expr::{Binary, Expr, Unary};
 use crate::operators::{alone, binary_at, has_suffix, unary_at};
 use kc_base::NoMemory;
 use kc_lex::kinds::{is_sign, rest};
-use kc_lex::{SourceFault, Token};
+use kc_lex::{SourceCode, SourceFault, Token};
 use std::alloc::Global;
 
 /// The longest expression that begins at a place, and the place after it. Where none does, the fault has line 0 and
@@ -19,7 +19,10 @@ pub fn parse(alloc: Global, tokens: &[Token], from: usize) -> Result<(Expr, usiz
 {
     match level_at(alloc, tokens, from, 7) {
         Ok(Some((expr, next))) => Ok((expr, next)),
-        Ok(None) => Err(SourceFault::At { line: 0, code: 14 }),
+        Ok(None) => Err(SourceFault::At {
+            line: 0,
+            code: SourceCode::OtherOperands.number(),
+        }),
         Err(NoMemory) => Err(SourceFault::NoMemory),
     }
 }

@@ -1,19 +1,12 @@
 -- The index has each mnemonic of the instruction table, in order, with its first opcode: tried by computing. So a search in it
 -- finds what the table says.
 use Rattle.std.proofs.Common.{◌≡◌, ℕ, zero, suc, ◌+◌, ◌<◌, Bool, true, false, refl, sym, ap, subst, ◌∙◌, List, [], ◌∷◌, length, get_or, Option, Some, None, arith, inl, inr}
-use Rattle.std.specs.Prelude.{◌==◌, ◌&&◌, ◌||◌, not, if◌then◌else◌}
+use Rattle.std.specs.Prelude.{◌==◌, ◌&&◌, ◌||◌, if◌then◌else◌}
 use Rattle.std.specs.List.{list_all, list_any, HoldsAt}
-use Rattle.std.specs.List.Sorted.{IsSortedBy, IsNonDecreasingBy, IsPartitionPoint}
-use Rattle.std.specs.Ordering.{nat_cmp, is_lt, is_eq, ordering_index}
-use Rattle.std.specs.declared.cmp.Ordering.{Ordering}
-use Rattle.std.specs.declared.cmp.Ordering.TheVariants.{Less, Equal, Greater}
-use Rattle.std.specs.Cmp.Lexicographic.{slice_cmp}
+use Rattle.std.specs.declared.cmp.Ordering.TheVariants.{Equal}
 use Rattle.std.specs.Str.{bytes_eq}
 use Rattle.std.proofs.lemmas.Bool.{cases_lt}
 use Rattle.std.proofs.lemmas.Bool.Decides.{Decides-eqb}
-use Rattle.std.proofs.lemmas.Cmp.{nat_list_cmp_total}
-use Rattle.std.proofs.lemmas.List.Sorted.{searchable_from_sorted}
-use Rattle.std.proofs.lemmas.Map.Text.{is_eq-slice_cmp}
 use Rattle.std.proofs.lemmas.Slice.Eq.{bytes_eq-Decides}
 use Rattle.kc_isa.specs.declared.table.Mnemonic.TheVariants.{Skip}
 use Rattle.kc_isa.specs.Names.{Shown, name_of, row_at}
@@ -21,48 +14,16 @@ use Rattle.kc_isa.specs.Table.{plain_entry}
 use Rattle.kc_lex.specs.declared.instructions.Listed.{Listed}
 use Rattle.kc_lex.specs.declared.instructions.TheConstants.{INDEX}
 use Rattle.kc_lex.specs.declared.words.Operands.{Operands}
+use Rattle.kc_lex.proofs.SearchLemmas.{both, order, equal_text, all_at, ascends, IsParted, none_has}
 use Rattle.kc_lex.specs.Instructions.{least, is_called, has_name, first_opcode, operands_at, operands_from, operands_of, opcode_in}
-
-both : (a b : Bool) → (a && b) ≡ true → (a ≡ true) × (b ≡ true)
-both true b h = (refl, h)
-both false b h = absurd (cc h)
-
-not_true : (a : Bool) → not a ≡ true → a ≡ false
-not_true true h = absurd (cc h)
-not_true false h = refl
-
-all_at : (p : Listed → Bool) (xs : List Listed) (k : ℕ) (d : Listed) → k < length xs → list_all p xs ≡ true → p (get_or xs k d) ≡ true
-all_at p [] k d l h = absurd (omega arith)
-all_at p (x ∷ xs) zero d l h = (both _ _ h).0
-all_at p (x ∷ xs) (suc k) d l h = all_at p xs k d (omega arith) (both _ _ h).1
-
-none_any : (p : Listed → Bool) (xs : List Listed) → ((k : ℕ) (d : Listed) → k < length xs → p (get_or xs k d) ≡ false) → list_any p xs ≡ false
-none_any p [] h = refl
-none_any p (x ∷ xs) h = rw (h 0 x (omega arith)) (none_any p xs (λ k d l. h (suc k) d (omega arith)))
 
 -- ---- its order
 
 abbrev pub name : Listed → List ℕ
 name listed = name_of listed.mnemonic
 
-abbrev pub order : List ℕ → List ℕ → Ordering
-order a b = slice_cmp nat_cmp a b
-
-abbrev ascends : List Listed → Bool
-ascends [] = true
-ascends (a ∷ []) = true
-ascends (a ∷ b ∷ rest) = not (is_lt (order (name b) (name a))) && ascends (b ∷ rest)
-
-in_order : ascends INDEX ≡ true
+in_order : ascends name INDEX ≡ true
 in_order = refl
-
-is_sorted : (xs : List Listed) → ascends xs ≡ true → IsSortedBy (λ a b. is_lt (order (name a) (name b))) xs
-is_sorted [] h k d l m = absurd (omega arith)
-is_sorted (a ∷ []) h k d l m = absurd (omega arith)
-is_sorted (a ∷ b ∷ rest) h zero d l m = not_true _ (both _ _ h).0
-is_sorted (a ∷ b ∷ rest) h (suc k) d l m =
-    let next : suc (k + 1) ≡ suc k + 1 = omega arith in
-    subst (λ (n : ℕ). is_lt (order (name (get_or (a ∷ b ∷ rest) n d)) (name (get_or (b ∷ rest) k d))) ≡ false) next (is_sorted (b ∷ rest) (both _ _ h).1 k d (omega arith) (omega arith))
 
 -- ---- what it says
 
@@ -145,12 +106,6 @@ none_first word signed (Some k) e h =
 
 -- ---- what a search finds
 
-equal_text : (a b : List ℕ) → order a b ≡ Equal → a ≡ b
-equal_text a b h = (bytes_eq-Decides a b).0 (sym (is_eq-slice_cmp a b) ∙ ap is_eq h)
-
-other_text : (a b : List ℕ) (o : Ordering) → order a b ≡ o → is_eq o ≡ false → bytes_eq a b ≡ false
-other_text a b o h f = sym (is_eq-slice_cmp a b) ∙ (ap is_eq h ∙ f)
-
 right_at : (listed : Listed) (signed : Bool) → is_right listed ≡ true → first_opcode (name listed) signed ≡ opcode_in (Some listed) signed
 right_at listed false h = same-opcode _ _ (both _ _ h).0
 right_at listed true h = same-opcode _ _ (both _ _ h).1
@@ -160,17 +115,8 @@ pub searched_there : (word : List ℕ) (at : ℕ) (d : Listed) → at < length I
 searched_there word at d l h signed =
     subst (λ (w : List ℕ). first_opcode w signed ≡ opcode_in (Some (get_or INDEX at d)) signed) (equal_text (name (get_or INDEX at d)) word (h d)) (right_at (get_or INDEX at d) signed (all_at is_right INDEX at d l all_right))
 
-abbrev IsParted : List ℕ → ℕ → Type 0
-IsParted word i = IsNonDecreasingBy (λ listed. ordering_index (order (name listed) word)) INDEX →
-    IsPartitionPoint (λ listed. order (name listed) word ≡ Less) (λ listed. order (name listed) word ≡ Greater) INDEX i
-
-pub searched_none : (word : List ℕ) (i : ℕ) → IsParted word i → (signed : Bool) → first_opcode word signed ≡ None
-searched_none word i h signed =
-    let parts = h (searchable_from_sorted nat_list_cmp_total name INDEX word (is_sorted INDEX in_order)) in
-    none_first word signed (first_opcode word signed) refl (none_any (λ listed. bytes_eq (name listed) word) INDEX (λ k d l. elim (cases_lt k i) [
-      | inl less ↦ other_text (name (get_or INDEX k d)) word Less (parts.0 k d (omega arith) less) refl
-      | inr more ↦ other_text (name (get_or INDEX k d)) word Greater (parts.1 k d more l) refl
-    ]))
+pub searched_none : (word : List ℕ) (i : ℕ) → IsParted name INDEX word i → (signed : Bool) → first_opcode word signed ≡ None
+searched_none word i h signed = none_first word signed (first_opcode word signed) refl (none_has name INDEX in_order word i h)
 
 -- ---- what holds of each entry holds of each instruction
 

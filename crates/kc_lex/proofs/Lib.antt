@@ -6,3 +6,6 @@ pub mod LineLemmas
 pub mod WrittenLemmas
 pub mod ProperLemmas
 pub mod IndexLemmas
+pub mod SearchLemmas
+pub mod ReservedLemmas
+pub mod ReservedWords

@@ -1,8 +1,11 @@
 pub mod Chars
+pub mod Codes
+pub mod LineFaults
 pub mod Numbers
 pub mod Lexemes
 pub mod Lines
 pub mod Scan
 pub mod Instructions
 pub mod Words
+pub mod Reserved
 pub mod Kinds

@@ -13,6 +13,7 @@ use Rattle.kc_lex.specs.declared.token.Line.{Line}
 use Rattle.kc_lex.specs.Chars.{is_text_char, word_of, upper}
 use Rattle.kc_lex.specs.Numbers.{number_value}
 use Rattle.kc_lex.specs.Lexemes.{Lexeme, Blank, Word, Quoted, Mark, Comment, lexemes}
+use Rattle.kc_lex.specs.Codes.{no_statement, long_line, bad_number}
 
 -- ---- the tokens of a line
 
@@ -51,13 +52,13 @@ any_word p (Comment cs) = false
 -- ---- a line, or the least code of its faults
 
 abbrev pub bounded : List ℕ → Result (List Token) ℕ → Result (List Token) ℕ
-bounded line read = if nat_lt 255 (length line) then Err 3 else read
+bounded line read = if nat_lt 255 (length line) then Err long_line else read
 
 abbrev pub plain_line : List ℕ → Option (List Lexeme) → Result (List Token) ℕ
-plain_line line None = Err 1
+plain_line line None = Err no_statement
 plain_line line (Some xs) =
-    if list_any (any_word is_long_name) xs then Err 1
-    else bounded line (if list_any (any_word is_bad_number) xs then Err 9 else Ok (tokens_of xs))
+    if list_any (any_word is_long_name) xs then Err no_statement
+    else bounded line (if list_any (any_word is_bad_number) xs then Err bad_number else Ok (tokens_of xs))
 
 -- a `;` in quotes begins no comment
 abbrev pub comment_begins : Bool → ℕ → Bool
@@ -73,7 +74,7 @@ is_text_to_comment quoted (c ∷ cs) = if comment_begins quoted c then true else
 
 -- a line with `$` first has no effect, but `$INCLUDE` is a fault
 abbrev pub control_line : List ℕ → Result (List Token) ℕ
-control_line line = if not (is_text_to_comment false line) then Err 1 else bounded line (Ok [])
+control_line line = if not (is_text_to_comment false line) then Err no_statement else bounded line (Ok [])
 
 abbrev pub includes : List ℕ → Bool
 includes [] = false
@@ -81,7 +82,7 @@ includes (c ∷ cs) = bytes_eq (map to_ascii_lowercase (word_of cs)) (codes "inc
 
 unfoldable pub line_tokens : List ℕ → Result (List Token) ℕ
 line_tokens line =
-    if begins_with 36 line then (if includes line then Err 1 else control_line line)
+    if begins_with 36 line then (if includes line then Err no_statement else control_line line)
     else plain_line line (lexemes line)
 
 -- ---- all lines

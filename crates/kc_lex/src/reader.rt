@@ -3,7 +3,7 @@ ghost use Rattle.kc_base.specs.TextLines.{begins_with};
 ghost use Rattle.kc_lex.specs.Lines.{includes, comment_begins, quoted_after, is_text_to_comment, control_line, line_tokens, lines_of, IsLines, IsLineAt};
 
 use crate::chars::is_text;
-use crate::fault::SourceFault;
+use crate::fault::{SourceCode, SourceFault};
 use crate::scan::{scan, word_len};
 use crate::token::{Line, Tokens};
 use kc_base::{NoMemory, after, first_line, front};
@@ -59,9 +59,9 @@ fn control(alloc: Global, line: &[u8]) -> Result<Tokens, u8>
     ensures { result ≡ control_line line.now }
 {
     if !has_text(line) {
-        Err(1)
+        Err(SourceCode::NoStatement.number())
     } else if line.len() > 255 {
-        Err(3)
+        Err(SourceCode::LongLine.number())
     } else {
         Ok(Tokens::new(alloc))
     }
@@ -74,17 +74,17 @@ fn read_line(alloc: Global, line: &[u8]) -> Result<Result<Tokens, u8>, NoMemory>
 {
     if begins_control(line) {
         if is_include(line) {
-            return Ok(Err(1));
+            return Ok(Err(SourceCode::NoStatement.number()));
         }
         return Ok(control(alloc, line));
     }
     match scan(alloc, line)? {
-        None => Ok(Err(1)),
+        None => Ok(Err(SourceCode::NoStatement.number())),
         Some((tokens, sound)) => {
             if line.len() > 255 {
-                Ok(Err(3))
+                Ok(Err(SourceCode::LongLine.number()))
             } else if !sound {
-                Ok(Err(9))
+                Ok(Err(SourceCode::BadNumber.number()))
             } else {
                 Ok(Ok(tokens))
             }

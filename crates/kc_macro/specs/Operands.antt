@@ -4,6 +4,7 @@ use Rattle.std.specs.Prelude.{ℕ, Bool, false, ◌&&◌, ◌||◌, if◌then◌
 use Rattle.std.specs.FinMap as fm
 use Rattle.kc_lex.specs.declared.token.Token.{Token}
 use Rattle.kc_lex.specs.Kinds.{is_free_name, begins_word}
+use Rattle.kc_lex.specs.Codes.{not_fixed}
 use Rattle.kc_expr.specs.declared.values.Value.{Value}
 use Rattle.kc_expr.specs.declared.expr.Expr.{Expr}
 use Rattle.kc_expr.specs.Tree.{Tree, tree_of}
@@ -30,10 +31,10 @@ seen_tree (Some e) = Some (tree_of e)
 -- the value of an operand, which must be fixed
 abbrev pub fixed_value : Result Value ℕ → Result ℕ ℕ
 fixed_value (Err code) = Err code
-fixed_value (Ok v) = if is_fixed v.base then Ok v.number else Err 10
+fixed_value (Ok v) = if is_fixed v.base then Ok v.number else Err not_fixed
 
 abbrev pub tree_value : Option Tree → NameMap → Result ℕ ℕ
-tree_value None values = Err 10
+tree_value None values = Err not_fixed
 tree_value (Some tree) values = fixed_value (answer tree values)
 
 abbrev pub operand : List Token → NameMap → Result ℕ ℕ

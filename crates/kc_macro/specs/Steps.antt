@@ -9,6 +9,7 @@ use Rattle.kc_macro_body.specs.declared.words.Word.{Word}
 use Rattle.kc_macro_body.specs.declared.words.Word.TheVariants as words
 use Rattle.kc_macro_body.specs.declared.macros.Macro.{Macro}
 use Rattle.kc_lex.specs.Kinds.{has_label}
+use Rattle.kc_lex.specs.Codes.{no_end, many_lines, too_deep, no_match, many_arguments}
 use Rattle.kc_macro_body.specs.Words.{unlabelled, behind_label}
 use Rattle.kc_macro_body.specs.Arguments.{arguments, definition, over_arguments}
 use Rattle.kc_macro_body.specs.Bodies.{macro_of, only}
@@ -35,7 +36,7 @@ pub data Next : Type 0 where
 
 -- one more expanded line, at the line with this number
 abbrev pub counted : ℕ → State → Next
-counted number s = if s.left == 0 then Fault number 4 else Counted (record s { left = s.left - 1 })
+counted number s = if s.left == 0 then Fault number many_lines else Counted (record s { left = s.left - 1 })
 
 -- ---- the least of some codes
 
@@ -53,8 +54,8 @@ code_of (Err code) = Some code
 
 -- the least code where the end of a construct is missing
 abbrev pub least_unmatched : Option ℕ → ℕ
-least_unmatched None = 15
-least_unmatched (Some code) = min code 15
+least_unmatched None = no_match
+least_unmatched (Some code) = min code no_match
 
 -- ---- IF: at most 16, one in the other
 
@@ -64,7 +65,7 @@ if_next s number (Some code) (Some p) = Fault number code
 if_next s number None (Some p) = Quiet (record s { ahead = map (marked If) p.0 ++ p.1 })
 
 abbrev pub if_fault : List Mark → Result ℕ ℕ → Option ℕ
-if_fault from value = least (code_if (nat_le 16 (count_by is_if from)) 5) (code_of value)
+if_fault from value = least (code_if (nat_le 16 (count_by is_if from)) too_deep) (code_of value)
 
 abbrev pub if_step : State → ℕ → List Mark → Result ℕ ℕ → Next
 if_step s number from value = if_next s number (if_fault from value) (kept (not (number_of value == 0)) s.ahead)
@@ -106,8 +107,8 @@ abbrev pub over_turns : State → ℕ → List Mark → List ℕ × List (List T
 over_turns s number from f front = begun s number (fill_turns (only (f.0 ∷ [])) (turn_head s.left number from) (turn_lines s.left front) f.1)
 
 abbrev pub irp_next : State → ℕ → List Mark → Option (List ℕ × List (List Token)) → Option Cut → Next
-irp_next s number from None cut = Fault number 15
-irp_next s number from (Some f) None = Fault number 15
+irp_next s number from None cut = Fault number no_match
+irp_next s number from (Some f) None = Fault number no_match
 irp_next s number from (Some f) (Some cut) = over_turns (record s { ahead = cut.rest }) number from f cut.front
 
 abbrev pub irp_step : State → ℕ → List Mark → Option (List ℕ × List (List Token)) → Next
@@ -116,14 +117,14 @@ irp_step s number from f = irp_next s number from f (cut_at Body 0 s.ahead)
 -- ---- EXITM leaves out the rest of the innermost call or repetition, with its later turns
 
 abbrev pub exitm_step : State → ℕ → Option Mark → Next
-exitm_step s number None = Fault number 15
+exitm_step s number None = Fault number no_match
 exitm_step s number (Some m) = Quiet (record s { ahead = left_out m s.ahead })
 
 -- ---- MACRO
 
 abbrev pub macro_next : State → ℕ → Option (List ℕ × List (List ℕ)) → Option Cut → Next
-macro_next s number None cut = Fault number 15
-macro_next s number (Some d) None = Fault number 15
+macro_next s number None cut = Fault number no_match
+macro_next s number (Some d) None = Fault number no_match
 macro_next s number (Some d) (Some cut) = Quiet (record s { ahead = cut.rest; macros = fm.insert s.macros d.0 (macro_of d.1 (texts_of cut.front)) })
 
 abbrev pub macro_step : State → ℕ → Option (List ℕ × List (List ℕ)) → Next
@@ -141,10 +142,10 @@ text_code (Err f) = Some f.code
 abbrev pub call_fault : ℕ → List Mark → Macro → List (List Token) → Filled → Option ℕ
 call_fault left from m args text =
     least (text_code text)
-    (least (code_if (left == 0) 4)
-    (least (code_if (nat_le 16 (count_by is_call from)) 5)
-    (least (code_if (not m.sound) 15)
-    (code_if (nat_lt (length m.formals.params) (length args)) 16))))
+    (least (code_if (left == 0) many_lines)
+    (least (code_if (nat_le 16 (count_by is_call from)) too_deep)
+    (least (code_if (not m.sound) no_match)
+    (code_if (nat_lt (length m.formals.params) (length args)) many_arguments))))
 
 abbrev pub call_next : State → ℕ → ℕ → Option ℕ → Filled → Next
 call_next s number locals (Some code) text = Fault number code
@@ -192,10 +193,10 @@ word_step s number from ts words.Rept = rept_step s number from (operand (drop 1
 word_step s number from ts words.Irp = irp_step s number from (over_arguments (drop 1 ts))
 word_step s number from ts words.End = end_step s number ts
 word_step s number from ts words.Other = other_step s number from ts (called s.macros ts)
-word_step s number from ts words.Local = Fault number 15
-word_step s number from ts words.Else = Fault number 15
-word_step s number from ts words.Endif = Fault number 15
-word_step s number from ts words.Endm = Fault number 15
+word_step s number from ts words.Local = Fault number no_match
+word_step s number from ts words.Else = Fault number no_match
+word_step s number from ts words.Endif = Fault number no_match
+word_step s number from ts words.Endm = Fault number no_match
 
 abbrev pub is_construct : Word → Bool
 is_construct words.If = true
@@ -231,7 +232,7 @@ piece_step s labelled number from (Some ts) = line_step s labelled number from t
 
 -- a source without END is faulty at the line after its last
 abbrev pub front_step : State → List Piece → Next
-front_step s [] = Fault s.end 2
+front_step s [] = Fault s.end no_end
 front_step s (p ∷ ps) = piece_step (record s { ahead = ps; labelled = false }) s.labelled p.number p.from p.tokens
 
 abbrev pub step : State → Next

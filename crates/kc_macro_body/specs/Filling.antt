@@ -8,6 +8,7 @@ use Rattle.kc_lex.specs.declared.token.Token.{Token}
 use Rattle.kc_lex.specs.Kinds.{is_name_kind, is_sign}
 use Rattle.kc_lex.specs.Chars.{upper}
 use Rattle.kc_lex.specs.Words.{is_name_text}
+use Rattle.kc_lex.specs.Codes.{no_statement, long_line}
 use Rattle.kc_macro_body.specs.declared.macros.Formals.{Formals}
 
 -- ---- replacing
@@ -77,8 +78,8 @@ abbrev pub is_long : List Token → Bool
 is_long ts = nat_lt 255 (length ts)
 
 abbrev pub judged : Bool → Option (List Token) → Result (List Token) ℕ
-judged long None = Err 1
-judged long (Some ts) = if long then Err 3 else Ok ts
+judged long None = Err no_statement
+judged long (Some ts) = if long then Err long_line else Ok ts
 
 -- the tokens are counted before they are joined
 unfoldable pub filled : Formals → List (List Token) → ℕ → List Token → Result (List Token) ℕ

@@ -11,7 +11,7 @@ use itoa::Buffer;
 use kc_base::{NoMemory, Text};
 use kc_lex::kinds::{is_name, is_sign};
 use kc_lex::words::{is_name_text, upper};
-use kc_lex::{Token, TokenKind, Tokens};
+use kc_lex::{SourceCode, Token, TokenKind, Tokens};
 use std::alloc::Global;
 
 // Appends copies of tokens.
@@ -233,10 +233,10 @@ pub fn filled(
 {
     let line = replaced(alloc, formals, args, given, tokens)?;
     match joined(alloc, line.as_slice())? {
-        None => Ok(Err(1)),
+        None => Ok(Err(SourceCode::NoStatement.number())),
         Some(joined) => {
             if is_long(line.as_slice()) {
-                Ok(Err(3))
+                Ok(Err(SourceCode::LongLine.number()))
             } else {
                 Ok(Ok(joined))
             }

@@ -2,7 +2,7 @@
 -- there the least code. Codes: 1 no statement, 14 operands that do not fit, 23 MODULE not first, 18 an instruction or
 -- data outside a code segment, 6 a name defined twice, 8 too many names, 21 EXTRN of a name that is defined or taken,
 -- 20 PUBLIC of a name that is not defined (this kit's own).
-use Rattle.std.specs.Prelude.{◌≡◌, ℕ, ◌+◌, Bool, true, false, not, ◌&&◌, ◌||◌, ◌==◌, nat_lt, nat_le, if◌then◌else◌, List, [], ◌∷◌, ◌++◌, map, Option, Some, None, Result, Ok, Err}
+use Rattle.std.specs.Prelude.{◌≡◌, ℕ, ◌+◌, Bool, true, false, not, ◌&&◌, ◌||◌, nat_le, if◌then◌else◌, List, [], ◌∷◌, ◌++◌, map, Option, Some, None, Result, Ok, Err}
 use Rattle.std.specs.Option.{option_to_list}
 use Rattle.std.specs.List.{list_any}
 use Rattle.std.specs.Str.{bytes_eq}
@@ -10,6 +10,9 @@ use Rattle.std.specs.Global.{Vec}
 use Rattle.kc_lex.specs.declared.token.Line.{Line}
 use Rattle.kc_lex.specs.declared.fault.SourceFault.{SourceFault}
 use Rattle.kc_lex.specs.declared.fault.SourceFault.TheVariants as faults
+pub use Rattle.kc_lex.specs.LineFaults.{Fault, is_before, lesser, at_line}
+unfoldable pub use Rattle.kc_lex.specs.LineFaults.{least}
+use Rattle.kc_lex.specs.Codes.{defined_twice, many_names, outside_code, not_public, not_external, second_module}
 use Rattle.kc_source_statement.specs.declared.statement.Stmt.{Stmt}
 use Rattle.kc_source.specs.declared.uses.Use.{Use}
 use Rattle.kc_source.specs.declared.uses.UseKind.{UseKind}
@@ -17,23 +20,6 @@ use Rattle.kc_source.specs.declared.uses.UseKind.TheVariants.{Once, Again, Taken
 use Rattle.kc_source_statement.specs.Trees.{ActionTree, action_tree, Bare, Module, Cseg, Dseg, Rseg, Sseg, Public, Extrn, Equ, Set, Define, Reserve, Org, Even, End, Operation}
 use Rattle.kc_source_statement.specs.Operands.{is_nil}
 use Rattle.kc_source_statement.specs.Statements.{statement_in, label_in}
-
--- ---- faults, and the first of them
-
-abbrev pub Fault : Type 0
-Fault = ℕ × ℕ
-
-abbrev pub is_before : Fault → Fault → Bool
-is_before f g = nat_lt f.0 g.0 || ((f.0 == g.0) && nat_lt f.1 g.1)
-
-abbrev pub lesser : Option Fault → Option Fault → Option Fault
-lesser None o = o
-lesser (Some f) None = Some f
-lesser (Some f) (Some g) = if is_before g f then Some g else Some f
-
-unfoldable pub least : List Fault → Option Fault
-least [] = None
-least (f ∷ fs) = lesser (Some f) (least fs)
 
 -- ---- what each line says that is not blank
 
@@ -115,12 +101,8 @@ code_behind code (Err e) = code
 abbrev pub code_at : Bool → Bool → Result ActionTree ℕ → Option ℕ
 code_at first code (Err e) = Some e
 code_at first code (Ok a) =
-    if is_module a && not first then Some 23
-    else (if holds_bytes a && not code then Some 18 else None)
-
-abbrev pub at_line : ℕ → Option ℕ → Option Fault
-at_line line None = None
-at_line line (Some code) = Some (line, code)
+    if is_module a && not first then Some second_module
+    else (if holds_bytes a && not code then Some outside_code else None)
 
 unfoldable pub line_faults : Bool → Bool → List Said → List Fault
 line_faults first code [] = []
@@ -207,10 +189,10 @@ is_one_too_many u earlier = brings_name u earlier && nat_le 16384 (name_count ea
 
 -- the code of a use: all are all uses of the source, earlier those before it, the latest first
 abbrev pub use_code : UseKind → List ℕ → Bool → List Use → List Use → Option ℕ
-use_code Once name too_many all earlier = if is_defined name earlier then Some 6 else (if too_many then Some 8 else None)
-use_code Again name too_many all earlier = if has_use is_once name earlier then Some 6 else (if too_many then Some 8 else None)
-use_code Taken name too_many all earlier = if too_many then Some 8 else (if has_use is_taken name earlier || is_defined name all then Some 21 else None)
-use_code Given name too_many all earlier = if is_defined name all then None else Some 20
+use_code Once name too_many all earlier = if is_defined name earlier then Some defined_twice else (if too_many then Some many_names else None)
+use_code Again name too_many all earlier = if has_use is_once name earlier then Some defined_twice else (if too_many then Some many_names else None)
+use_code Taken name too_many all earlier = if too_many then Some many_names else (if has_use is_taken name earlier || is_defined name all then Some not_external else None)
+use_code Given name too_many all earlier = if is_defined name all then None else Some not_public
 
 unfoldable pub name_faults : List Use → List Use → List Use → List Fault
 name_faults all earlier [] = []

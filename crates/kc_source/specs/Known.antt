@@ -3,6 +3,7 @@ use Rattle.std.specs.Prelude.{◌≡◌, ℕ, Bool, true, false, not, ◌&&◌, 
 use Rattle.std.specs.Map.{lookup}
 use Rattle.std.specs.Str.{bytes_eq}
 use Rattle.std.specs.Global.{Vec}
+use Rattle.kc_lex.specs.Codes.{defined_twice, many_names, not_public, not_external}
 use Rattle.kc_source.specs.declared.names.Known.{Known}
 use Rattle.kc_source.specs.declared.uses.Use.{Use}
 use Rattle.kc_source.specs.declared.uses.UseKind.{UseKind}
@@ -39,7 +40,7 @@ brings kind k = (is_once kind || is_again kind || is_taken kind) && not (is_defi
 
 -- the code of a use, by what is known of its name before and in all
 abbrev pub known_code : UseKind → Known → Known → Bool → Option ℕ
-known_code Once before all too_many = if is_defined_name before then Some 6 else (if too_many then Some 8 else None)
-known_code Again before all too_many = if before.once then Some 6 else (if too_many then Some 8 else None)
-known_code Taken before all too_many = if too_many then Some 8 else (if before.taken || is_defined_name all then Some 21 else None)
-known_code Given before all too_many = if is_defined_name all then None else Some 20
+known_code Once before all too_many = if is_defined_name before then Some defined_twice else (if too_many then Some many_names else None)
+known_code Again before all too_many = if before.once then Some defined_twice else (if too_many then Some many_names else None)
+known_code Taken before all too_many = if too_many then Some many_names else (if before.taken || is_defined_name all then Some not_external else None)
+known_code Given before all too_many = if is_defined_name all then None else Some not_public

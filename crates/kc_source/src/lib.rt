@@ -1,7 +1,6 @@
 //! The statements of a source, and the first fault of reading them.
 #![tactic(auto)]
 
-mod faults;
 mod laws;
 mod names;
 mod pass;

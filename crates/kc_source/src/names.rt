@@ -3,10 +3,11 @@ ghost use Rattle.std.specs.Str.{bytes_eq};
 ghost use Rattle.kc_source.specs.Faults as faults;
 ghost use Rattle.kc_source.specs.Known as spec;
 
-use crate::faults::{at_line, lesser};
 use crate::uses::{Use, UseKind};
 use indexmap::IndexMap;
 use kc_base::NoMemory;
+use kc_lex::line_fault::{at_line, lesser};
+use kc_lex::{LineFault, SourceCode};
 use std::alloc::Global;
 
 /// What is known of a name: whether it is defined once, defined again and again, or taken.
@@ -114,7 +115,11 @@ fn brings(kind: UseKind, before: Known) -> bool
 fn or_crowded(too_many: bool) -> Option<u8>
     ensures { result ≡ (if too_many then Some 8 else None) }
 {
-    if too_many { Some(8) } else { None }
+    if too_many {
+        Some(SourceCode::ManyNames.number())
+    } else {
+        None
+    }
 }
 
 // The code of a use, by what is known of its name before and in all.
@@ -124,28 +129,34 @@ fn code(kind: UseKind, before: Known, all: Known, too_many: bool) -> Option<u8>
     match kind {
         UseKind::Once => {
             if is_defined(before) {
-                Some(6)
+                Some(SourceCode::DefinedTwice.number())
             } else {
                 or_crowded(too_many)
             }
         }
         UseKind::Again => {
             if before.once {
-                Some(6)
+                Some(SourceCode::DefinedTwice.number())
             } else {
                 or_crowded(too_many)
             }
         }
         UseKind::Taken => {
             if too_many {
-                Some(8)
+                Some(SourceCode::ManyNames.number())
             } else if before.taken || is_defined(all) {
-                Some(21)
+                Some(SourceCode::NotExternal.number())
             } else {
                 None
             }
         }
-        UseKind::Given => { if is_defined(all) { None } else { Some(20) } }
+        UseKind::Given => {
+            if is_defined(all) {
+                None
+            } else {
+                Some(SourceCode::NotPublic.number())
+            }
+        }
     }
 }
 
@@ -156,7 +167,7 @@ fn is_crowded(new: bool, count: usize) -> bool
 }
 
 /// The first fault of the uses of names.
-pub(crate) fn name_fault(alloc: Global, uses: &[Use]) -> Result<Option<(u32, u8)>, NoMemory>
+pub(crate) fn name_fault(alloc: Global, uses: &[Use]) -> Result<Option<LineFault>, NoMemory>
     ensures { IfOk result (λ o. o ≡ faults.least (faults.name_faults uses.now [] uses.now)) }
 {
     let all = table_of(alloc, uses)?;

@@ -5,11 +5,11 @@ ghost use Rattle.kc_source.specs.Passing.{IsReading};
 ghost use Rattle.kc_source_statement.specs.Trees.{action_tree};
 ghost use Rattle.kc_source.specs.Faults as spec;
 
-use crate::faults::{at_line, lesser};
 use crate::names::name_fault;
 use crate::uses::{Use, UseKind};
 use kc_base::{NoMemory, Text};
-use kc_lex::{Line, SourceFault};
+use kc_lex::line_fault::{at_line, lesser};
+use kc_lex::{Line, LineFault, SourceCode, SourceFault};
 use kc_source_statement::{Action, Stmt, read_label, read_statement};
 use std::alloc::Global;
 
@@ -47,9 +47,9 @@ fn place_code(first: bool, code: bool, action: &Action) -> Option<u8>
     ensures { result ≡ spec.code_at first code (Ok (action_tree action.now)) }
 {
     if is_module(action) && !first {
-        Some(23)
+        Some(SourceCode::SecondModule.number())
     } else if holds_bytes(action) && !code {
-        Some(18)
+        Some(SourceCode::OutsideCode.number())
     } else {
         None
     }
@@ -121,7 +121,7 @@ fn push_label(
 #[derive(Drop)]
 pub(crate) struct Pass {
     pub stmts: Vec<Stmt>,
-    pub found: Option<(u32, u8)>,
+    pub found: Option<LineFault>,
     pub first: bool,
     pub code: bool,
     pub uses: Vec<Use>,
@@ -168,7 +168,7 @@ impl Pass {
                 self.take_statement(alloc, line.number, label, action)?;
             }
             Err(code) => {
-                self.found = lesser(self.found, Some((line.number, code)));
+                self.found = lesser(self.found, at_line(line.number, Some(code)));
             }
         }
         self.first = false;
@@ -222,7 +222,7 @@ pub fn statements(alloc: Global, lines: &[Line]) -> Result<Vec<Stmt>, SourceFaul
     } = pass;
     let names = name_fault(alloc, &uses)?;
     match lesser(found, names) {
-        Some((line, code)) => Err(SourceFault::At { line, code }),
+        Some(fault) => Err(SourceFault::from(fault)),
         None => Ok(stmts),
     }
 }

@@ -9,6 +9,7 @@ use Rattle.kc_lex.specs.declared.words.Directive.{Directive}
 use Rattle.kc_lex.specs.declared.words.Directive.TheVariants as directives
 use Rattle.kc_lex.specs.Words.{operands_of, generic_operands_of, directive_of}
 use Rattle.kc_lex.specs.Kinds.{is_sign, is_word, is_name_kind, is_free_name, has_label, begins_word}
+use Rattle.kc_lex.specs.Codes.{no_statement, other_operands}
 use Rattle.kc_expr.specs.Tree.{Tree}
 use Rattle.kc_expr.specs.Grammar.{Reading, parsed}
 use Rattle.kc_source_statement.specs.Trees.{ArgTree, ActionTree}
@@ -99,11 +100,11 @@ definition_in name d ts = None
 -- ---- the words of a statement
 
 abbrev pub or_form_fault : Option ActionTree → Result ActionTree ℕ
-or_form_fault None = Err 14
+or_form_fault None = Err other_operands
 or_form_fault (Some a) = Ok a
 
 abbrev pub by_directive : Option Directive → List Token → Result ActionTree ℕ
-by_directive None ts = Err 1
+by_directive None ts = Err no_statement
 by_directive (Some d) ts = or_form_fault (directive_in d ts)
 
 -- the operands of an operation, which is an instruction or a generic branch
@@ -111,8 +112,8 @@ abbrev pub operation_of : List ℕ → Option Operands
 operation_of word = option_or (operands_of word) (generic_operands_of word)
 
 abbrev pub operation_in : List ℕ → Operands → Option (List ArgTree) → Result ActionTree ℕ
-operation_in word form None = Err 14
-operation_in word form (Some args) = if takes form args then Ok (trees.Operation word args) else Err 14
+operation_in word form None = Err other_operands
+operation_in word form (Some args) = if takes form args then Ok (trees.Operation word args) else Err other_operands
 
 abbrev pub by_operation : List ℕ → Option Operands → List Token → Result ActionTree ℕ
 by_operation word None ts = by_directive (directive_of word) ts
@@ -133,7 +134,7 @@ second_directive (t ∷ []) = None
 second_directive (t ∷ u ∷ ts) = if is_free_name t then directive_at u else None
 
 abbrev pub by_word : Token → List Token → Result ActionTree ℕ
-by_word t ts = if is_name_kind t.kind then by_operation t.text (operation_of t.text) ts else Err 1
+by_word t ts = if is_name_kind t.kind then by_operation t.text (operation_of t.text) ts else Err no_statement
 
 abbrev pub only_defining : Option Directive → Option Directive
 only_defining None = None
@@ -169,7 +170,7 @@ bars_label (Some d) = bars d
 
 -- a label before what takes none makes no statement
 abbrev pub behind_label : List Token → Result ActionTree ℕ
-behind_label ts = if bars_label (first_directive ts) || bars_label (second_directive ts) then Err 1 else action_in ts
+behind_label ts = if bars_label (first_directive ts) || bars_label (second_directive ts) then Err no_statement else action_in ts
 
 unfoldable pub statement_in : List Token → Result ActionTree ℕ
 statement_in ts = if has_label ts then behind_label (drop 2 ts) else action_in ts

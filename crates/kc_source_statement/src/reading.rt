@@ -11,7 +11,7 @@ use crate::statement::Action;
 use kc_base::{NoMemory, Text};
 use kc_lex::kinds::{has_label, is_free_name, is_name, rest};
 use kc_lex::words::{directive_of, generic_operands_of, operands_of};
-use kc_lex::{Directive, Operands, Token};
+use kc_lex::{Directive, Operands, SourceCode, Token};
 use std::alloc::Global;
 
 // An operation, or the code of its fault.
@@ -24,13 +24,13 @@ fn operation(
     ensures { IfOk result (λ r. spec.operation_in word.now.text form (operands_in tokens.now) ≡ action_read r) }
 {
     match operands(alloc, tokens)? {
-        None => Ok(Err(14)),
+        None => Ok(Err(SourceCode::OtherOperands.number())),
         Some(args) => {
             if takes(form, args.as_slice()) {
                 let name = Text::of(alloc, word.text.as_slice())?;
                 Ok(Ok(Action::Operation { name, args }))
             } else {
-                Ok(Err(14))
+                Ok(Err(SourceCode::OtherOperands.number()))
             }
         }
     }
@@ -50,7 +50,7 @@ fn by_directive(
     ensures { IfOk result (λ r. spec.by_directive first tokens.now ≡ action_read r) }
 {
     match first {
-        None => Ok(Err(1)),
+        None => Ok(Err(SourceCode::NoStatement.number())),
         Some(word) => {
             let action = directive(alloc, word, tokens)?;
             Ok(or_form_fault(action))
@@ -85,7 +85,7 @@ fn by_word(alloc: Global, word: &Token, tokens: &[Token]) -> Result<Result<Actio
     if is_name(word) {
         by_operation(alloc, word, operation_of(word.text.as_slice()), tokens)
     } else {
-        Ok(Err(1))
+        Ok(Err(SourceCode::NoStatement.number()))
     }
 }
 
@@ -221,7 +221,7 @@ fn behind_label(alloc: Global, tokens: &[Token]) -> Result<Result<Action, u8>, N
     ensures { IfOk result (λ r. spec.behind_label tokens.now ≡ action_read r) }
 {
     if bars_label(first_directive(tokens)) || bars_label(second_directive(tokens)) {
-        Ok(Err(1))
+        Ok(Err(SourceCode::NoStatement.number()))
     } else {
         action(alloc, tokens)
     }

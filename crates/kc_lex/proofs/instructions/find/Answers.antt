@@ -1,6 +1,7 @@
 use Rattle.std.proofs.Common.{rules, true, false}
 use Rattle.std.proofs.lemmas.Fn.{always_returns_same}
-use Rattle.kc_lex.proofs.IndexLemmas.{name, order, searched_there, searched_none}
+use Rattle.kc_lex.proofs.SearchLemmas.{order}
+use Rattle.kc_lex.proofs.IndexLemmas.{name, searched_there, searched_none}
 use Rattle.kc_lex.proofs.instructions.find.Goals as goal
 
 pub returns-in-Ok-clause-plain : goal.returns-in-Ok-clause-plain
