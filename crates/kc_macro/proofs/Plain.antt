@@ -23,11 +23,11 @@ none_if : (b : Bool) (o : Option Macro) → o ≡ None → cond b o None ≡ Non
 none_if true o h = h
 none_if false o h = refl
 
-none_called : (ts : List Token) → called fm.empty ts ≡ None
+pub none_called : (ts : List Token) → called fm.empty ts ≡ None
 none_called [] = refl
 none_called (t ∷ ts) = none_if (is_name_kind t.kind && not (is_defining ts)) _ (fm.get-empty _ t.text)
 
-other_is : (w : Word) → is_other w ≡ true → w ≡ words.Other
+pub other_is : (w : Word) → is_other w ≡ true → w ≡ words.Other
 other_is words.Other h = refl
 other_is words.Macro h = absurd (cc)
 other_is words.Local h = absurd (cc)
@@ -50,7 +50,7 @@ plain_two : (s : State) (number : ℕ) (t u : Token) (us : List Token) (b : Bool
 plain_two s number t u us true none e = rw (e, none us) refl
 plain_two s number t u us false none e = plain_bare s number (t ∷ u ∷ us) (none (t ∷ u ∷ us)) e
 
-plain_out : (s : State) (number : ℕ) (ts : List Token) → ((us : List Token) → called s.macros us ≡ None) → word_of ts ≡ words.Other → line_step s false number [] ts ≡ plain_step s number ts
+pub plain_out : (s : State) (number : ℕ) (ts : List Token) → ((us : List Token) → called s.macros us ≡ None) → word_of ts ≡ words.Other → line_step s false number [] ts ≡ plain_step s number ts
 unfolding line_step word_of
 plain_out s number [] none e = plain_bare s number [] (none []) e
 plain_out s number (t ∷ []) none e = plain_bare s number (t ∷ []) (none (t ∷ [])) e
@@ -61,7 +61,7 @@ end_two : (s : State) (number : ℕ) (t u : Token) (us : List Token) (b : Bool) 
 end_two s number t u us true none e = rw (e, none us) refl
 end_two s number t u us false none e = ap (word_step s number [] (t ∷ u ∷ us)) e
 
-end_out : (s : State) (number : ℕ) (ts : List Token) → ((us : List Token) → called s.macros us ≡ None) → word_of ts ≡ words.End → line_step s false number [] ts ≡ end_step s number ts
+pub end_out : (s : State) (number : ℕ) (ts : List Token) → ((us : List Token) → called s.macros us ≡ None) → word_of ts ≡ words.End → line_step s false number [] ts ≡ end_step s number ts
 unfolding line_step word_of
 end_out s number [] none e = ap (word_step s number [] []) e
 end_out s number (t ∷ []) none e = ap (word_step s number [] (t ∷ [])) e
@@ -69,16 +69,16 @@ end_out s number (t ∷ u ∷ us) none e = end_two s number t u us (is_free_name
 
 -- ---- all lines
 
-abbrev before : List Line → List Line → NameMap → ℕ → ℕ → State
+abbrev pub before : List Line → List Line → NameMap → ℕ → ℕ → State
 before done lines values left last = record { done = done; ahead = map first_piece lines; macros = fm.empty; values = values; given = 0; labelled = false; left = left; end = last }
 
-some_left : (left n : ℕ) → n < left → (left == 0) ≡ false
+pub some_left : (left n : ℕ) → n < left → (left == 0) ≡ false
 some_left left n h = grind arith
 
-counted_some : (number : ℕ) (s : State) → (s.left == 0) ≡ false → counted number s ≡ Counted (record s { left = s.left - 1 })
+pub counted_some : (number : ℕ) (s : State) → (s.left == 0) ≡ false → counted number s ≡ Counted (record s { left = s.left - 1 })
 counted_some number s h = rw h refl
 
-and_both : (a b : Bool) → (a && b) ≡ true → (a ≡ true) × (b ≡ true)
+pub and_both : (a b : Bool) → (a && b) ≡ true → (a ≡ true) × (b ≡ true)
 and_both true true h = (refl, refl)
 and_both true false h = absurd (cc)
 and_both false b h = absurd (cc)

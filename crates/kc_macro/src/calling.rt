@@ -8,7 +8,7 @@ ghost use Rattle.kc_macro_body.specs.Calls as calls;
 use crate::state::{State, Step};
 use crate::steps::{code_if, least, plain_step};
 use kc_base::{NoMemory, Text};
-use kc_lex::{Token, Tokens};
+use kc_lex::{SourceCode, Token, Tokens};
 use kc_macro_body::arguments::arguments;
 use kc_macro_body::bodies::macro_of;
 use kc_macro_body::calls::called;
@@ -41,12 +41,12 @@ pub(crate) fn macro_step(
     match definition {
         None => Ok(Step::Fault {
             line: number,
-            code: 15,
+            code: SourceCode::NoMatch.number(),
         }),
         Some((name, params)) => match cut_off(alloc, &mut state.ahead, Extent::Body)? {
             None => Ok(Step::Fault {
                 line: number,
-                code: 15,
+                code: SourceCode::NoMatch.number(),
             }),
             Some((front, _)) => {
                 let body = texts(alloc, front.as_slice())?;
@@ -77,10 +77,19 @@ fn text_code(text: &Filled) -> Option<u8>
 fn call_fault(left: u32, from: &Marks, item: &Macro, args: &[Tokens], text: &Filled) -> Option<u8>
     ensures { result ≡ steps.call_fault left from.now item.now args.now (seen_filled text.now) }
 {
-    let many = code_if(item.formals.params.as_slice().len() < args.len(), 16);
-    let unsound = least(code_if(!item.sound, 15), many);
-    let deep = least(code_if(16 <= from.calls(), 5), unsound);
-    least(text_code(text), least(code_if(left == 0, 4), deep))
+    let many = code_if(
+        item.formals.params.as_slice().len() < args.len(),
+        SourceCode::ManyArguments.number(),
+    );
+    let unsound = least(code_if(!item.sound, SourceCode::NoMatch.number()), many);
+    let deep = least(
+        code_if(16 <= from.calls(), SourceCode::TooDeep.number()),
+        unsound,
+    );
+    least(
+        text_code(text),
+        least(code_if(left == 0, SourceCode::ManyLines.number()), deep),
+    )
 }
 
 fn call_text(

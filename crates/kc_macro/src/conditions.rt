@@ -5,6 +5,7 @@ ghost use Rattle.kc_macro.specs.Operands as operands;
 use crate::state::{State, Step};
 use crate::steps::{code_if, code_of, least, least_unmatched};
 use kc_base::NoMemory;
+use kc_lex::SourceCode;
 use kc_macro_input::cutting::keep;
 use kc_macro_input::{Mark, Marks};
 use std::alloc::Global;
@@ -27,7 +28,10 @@ pub(crate) fn if_step(
 ) -> Result<Step, NoMemory>
     ensures { IfOk result (λ r. steps.next_of r state.new ≡ steps.if_step state.old number from.now value) }
 {
-    let fault = least(code_if(16 <= from.ifs(), 5), code_of(value));
+    let fault = least(
+        code_if(16 <= from.ifs(), SourceCode::TooDeep.number()),
+        code_of(value),
+    );
     match keep(alloc, &mut state.ahead, number_of(value) != 0)? {
         None => Ok(Step::Fault {
             line: number,

@@ -6,6 +6,7 @@ ghost use Rattle.kc_macro_input.specs.Filled.{seen_filled, turns_over};
 use crate::state::{State, Step};
 use crate::steps::{code_of, counted, least_unmatched};
 use kc_base::{NoMemory, Text};
+use kc_lex::SourceCode;
 use kc_macro_body::Texts;
 use kc_macro_body::bodies::{nothing, only};
 use kc_macro_input::bodies::{Filled, fill_body, turn_body, turns_fault};
@@ -24,7 +25,7 @@ pub(crate) fn exitm_step(
     match from.innermost() {
         None => Ok(Step::Fault {
             line: number,
-            code: 15,
+            code: SourceCode::NoMatch.number(),
         }),
         Some(mark) => {
             state.ahead.leave_out(alloc, mark)?;
@@ -171,12 +172,12 @@ pub(crate) fn irp_step(
     match over {
         None => Ok(Step::Fault {
             line: number,
-            code: 15,
+            code: SourceCode::NoMatch.number(),
         }),
         Some(over) => match cut_off(alloc, &mut state.ahead, Extent::Body)? {
             None => Ok(Step::Fault {
                 line: number,
-                code: 15,
+                code: SourceCode::NoMatch.number(),
             }),
             Some((front, _)) => over_turns(alloc, state, number, from, over, front.as_slice()),
         },

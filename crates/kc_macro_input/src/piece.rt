@@ -165,6 +165,13 @@ impl Marks {
         Ok(Marks { items })
     }
 
+    /// The marks, the innermost first.
+    pub fn as_slice(&self) -> &[Mark]
+        ensures { result.now ≡ self.now }
+    {
+        self.items.as_slice()
+    }
+
     /// Whether these are the same marks.
     pub fn is_same(&self, other: &Marks) -> bool
         ensures same { result ≡ true → self.now ≡ other.now }

@@ -1,0 +1,4 @@
+pub mod Course
+pub mod Grown
+pub mod Agreement
+pub mod Plain

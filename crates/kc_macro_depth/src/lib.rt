@@ -1,0 +1,10 @@
+//! How deep the lines of an expansion stand in calls and repetitions.
+#![tactic(auto)]
+
+pub mod laws;
+mod telling;
+
+pub use telling::depths;
+
+#[cfg(test)]
+mod tests;
