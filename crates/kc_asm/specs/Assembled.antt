@@ -6,6 +6,7 @@ use Rattle.std.specs.List.{list_all}
 use Rattle.kc_lex.specs.declared.token.Line.{Line}
 use Rattle.kc_lex.specs.declared.fault.SourceFault.{SourceFault}
 use Rattle.kc_lex.specs.declared.fault.SourceFault.TheVariants as faults
+use Rattle.kc_lex.specs.Codes.{past_the_end}
 use Rattle.kc_lex.specs.Lines.{lines_of}
 use Rattle.kc_macro.specs.Expansion.{expanded}
 use Rattle.kc_source_statement.specs.declared.statement.Stmt.{Stmt}
@@ -33,7 +34,7 @@ last_line line [] = line
 last_line line (s ∷ ss) = last_line s.line ss
 
 abbrev pub IsCrowded : List Stmt → Fault → Type 0
-IsCrowded stmts f = (d : Draft) × IsDraftOf stmts d × (65536 < length (pieces_in d)) × (f ≡ (last_line 0 stmts, 17))
+IsCrowded stmts f = (d : Draft) × IsDraftOf stmts d × (65536 < length (pieces_in d)) × (f ≡ (last_line 0 stmts, past_the_end))
 
 -- the faults of each pass where those before it have none
 abbrev pub FaultOfLines : List ℕ → Fault → Type 0

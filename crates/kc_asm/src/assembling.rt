@@ -10,9 +10,9 @@ use kc_asm_draft_laws::drafts_are_drafts;
 use kc_asm_layout::layout;
 use kc_asm_module::{module_of, piece_count};
 use kc_asm_outline::outline;
-use kc_asm_symbols::{externals, externals_are_few};
+use kc_asm_symbols::{Names, externals, externals_are_few};
 use kc_base::NoMemory;
-use kc_lex::{SourceFault, lines};
+use kc_lex::{SourceCode, SourceFault, lines};
 use kc_macro::expand;
 use kc_obj::Module;
 use kc_source::statements;
@@ -43,17 +43,19 @@ fn module_or_fault(alloc: Global, stmts: &[Stmt]) -> Result<Result<Module, Fault
     ensures { IfOk result (λ r. spec.IsMade stmts.now r) }
 {
     let taken = externals(alloc, stmts)?;
-    let notes = outline(alloc, stmts, &taken)?;
+    let names = Names::new(alloc, stmts, &taken)?;
+    let notes = outline(alloc, stmts, &names)?;
     let sites = layout(alloc, &notes)?;
-    if let Some(fault) = judge(alloc, stmts, &sites, &taken)? {
-        return Ok(Err(fault));
-    }
-    let draft = draft(alloc, stmts, &sites, taken)?;
+    let checked = match judge(alloc, stmts, &sites, &names)? {
+        Ok(checked) => checked,
+        Err(fault) => return Ok(Err(fault)),
+    };
+    let draft = draft(alloc, stmts, &sites, taken, checked)?;
     drafts_are_drafts();
     if piece_count(&draft) > MOST_PIECES {
         return Ok(Err(Fault {
             line: last_line(stmts),
-            code: 17,
+            code: SourceCode::PastTheEnd.number(),
         }));
     }
     Ok(Ok(module_of(alloc, draft)?))

@@ -1,21 +1,18 @@
 -- A walk over the statements, one statement at a time.
-use Rattle.std.proofs.Common.{◌≡◌, ◌⊎◌, inl, inr, ℕ, ◌+◌, ◌%◌, ◌<◌, ◌≤◌, List, [], ◌∷◌, ◌++◌, length, drop, get_or, arith, refl, sym, ap, subst, ◌∙◌}
+use Rattle.std.proofs.Common.{◌≡◌, ℕ, ◌+◌, ◌%◌, ◌<◌, ◌≤◌, List, [], ◌∷◌, ◌++◌, reverse, map, length, drop, get_or, append_assoc, arith, refl, sym, ap, subst, ◌∙◌}
 use Rattle.std.specs.Prelude.{Option, Some, None, slice_get}
-use Rattle.std.proofs.lemmas.List.{drop_all}
-use Rattle.std.proofs.lemmas.Option.{slice_get_within, get_or_from_slice_get, slice_get_cases}
+use Rattle.std.proofs.lemmas.List.{drop_all, append-nil, reverse-append, reverse-reverse}
+use Rattle.std.proofs.lemmas.Option.{slice_get_within, get_or_from_slice_get}
 use Rattle.std.specs.Option.{option_map, option_to_list}
 use Rattle.kc_expr.specs.declared.values.Value.{Value}
 use Rattle.kc_expr.specs.Meaning.{Answer}
-use Rattle.kc_obj.specs.declared.parts.Taken.{Taken}
 use Rattle.kc_source_statement.specs.declared.statement.Stmt.{Stmt}
 use Rattle.kc_source_statement.specs.Trees.{action_tree}
 use Rattle.kc_source.specs.Faults.{Fault, at_line, least as first, lesser as lesser_fault}
 use Rattle.kc_source.proofs.FaultLemmas.{lesser_none, lesser_assoc, least_append as first_append}
 use Rattle.kc_asm_symbols.specs.declared.meanings.Meanings.{Meanings}
 use Rattle.kc_asm_symbols.specs.declared.segments.Segment.{Segment}
-use Rattle.kc_asm_symbols.specs.Located.{Located, located, located_by, listed, place_values, located_from, located_at, segment_after, base_of, tag_of, value_at}
-use Rattle.kc_asm_symbols.specs.Externals.{externals}
-use Rattle.kc_asm_symbols.proofs.ValueLemmas.{located_listed}
+use Rattle.kc_asm_symbols.specs.Located.{Located, located, located_from, located_at, segment_after, base_of, tag_of, value_at}
 use Rattle.kc_asm_symbols.specs.Meanings.{meaning, in_all}
 use Rattle.kc_asm_symbols.specs.Walk.{at_statement, IsAt, IsBehind}
 use Rattle.kc_asm_emission.specs.Faults.{lesser, least}
@@ -23,10 +20,12 @@ use Rattle.kc_asm_emission.proofs.FaultLemmas.{least_append}
 use Rattle.kc_asm_layout.specs.declared.site.Site.{Site}
 use Rattle.kc_asm_check.specs.declared.walk.Walk.{Walk}
 use Rattle.kc_asm_check.specs.Codes.{Regions, first_regions, regions_after, stack_after, public_faults, telling_faults}
+use Rattle.kc_asm_check.specs.Checked.{seen_put}
 use Rattle.kc_asm_check.specs.Pairs.{pair}
+use Rattle.kc_asm_check.specs.Putting.{Put, put_of, puts_from, stack_from}
 use Rattle.kc_asm_check.proofs.NameLemmas.{front_of}
 use Rattle.kc_asm_check.specs.Walk.{stood}
-use Rattle.kc_asm_check.specs.Judging.{own_codes, codes_of, faults_from, place_at, place_in, site_list, standing, first_fault}
+use Rattle.kc_asm_check.specs.Judging.{own_codes, codes_of, faults_from, place_at, place_in, site_list, first_fault}
 
 -- ---- values of places
 
@@ -52,11 +51,15 @@ codes_joined m all before l regions sum s own public telling rest code at is_own
 
 -- ---- the statements that are left
 
--- those before, the latest first, have been passed, and their faults and those of the rest have this one as their least
-pub record Passing (w : Walk) (all rest : List Located) (ss : List Site) (whole : Option Fault) : Type 0 where
+-- those before, the latest first, have been passed: their faults and those of the rest have this one as their least, and
+-- what they put and ask for and the rest does is this
+pub record Passing (w : Walk) (all rest : List Located) (ss : List Site) (whole : Option Fault) (puts : List Put) (stack : ℕ) : Type 0 where
   pub before : List Located
+  pub split : all ≡ reverse before ++ rest
   pub behind : IsBehind w.meanings all before
   pub so_far : lesser_fault (option_map pair w.found) (first (faults_from all w.regions.items w.sum before rest ss)) ≡ whole
+  pub given : map seen_put w.puts.items ++ puts_from all before rest ss ≡ puts
+  pub summed : stack_from all w.sum before rest ≡ stack
 
 first_option : (o : Option Fault) → first (option_to_list o) ≡ o
 unfolding first
@@ -79,24 +82,44 @@ one_judged : (all before : List Located) (regions : Regions) (sum : ℕ) (l : Lo
 unfolding faults_from
 one_judged all before regions sum l rest s ss = first_of (fault_of all before regions sum l s) (others all before regions sum l rest ss)
 
+one_put : (all before : List Located) (l : Located) (rest : List Located) (s : Site) (ss : List Site)
+    → puts_from all before (l ∷ rest) (s ∷ ss) ≡ put_of (meaning all before l) l s ∷ puts_from all (l ∷ before) rest ss
+unfolding puts_from
+one_put all before l rest s ss = refl
+
+one_summed : (all before : List Located) (l : Located) (rest : List Located) (sum : ℕ)
+    → stack_from all sum before (l ∷ rest) ≡ stack_from all (stack_after (meaning all before l) sum l.action) (l ∷ before) rest
+unfolding stack_from
+one_summed all before l rest sum = refl
+
+-- one more has been passed
+further : (all before rest : List Located) (l : Located) → all ≡ reverse before ++ l ∷ rest → all ≡ reverse (l ∷ before) ++ rest
+further all before rest l split =
+    split ∙ sym (append_assoc (reverse before) (l ∷ []) rest) ∙ ap (λ (ls : List Located). ls ++ rest) (sym (reverse-append (l ∷ []) before))
+
 -- v is before the statement, u at it, w behind it
-passes : (v u w : Walk) (all rest : List Located) (l : Located) (s : Site) (ss : List Site) (whole : Option Fault)
+passes : (v u w : Walk) (all rest : List Located) (l : Located) (s : Site) (ss : List Site) (whole : Option Fault) (puts : List Put) (stack : ℕ)
     → ((before : List Located) → IsBehind v.meanings all before → IsAt u.meanings all before l)
     → ((before : List Located) → IsBehind v.meanings all before
     → option_map pair u.found ≡ lesser_fault (option_map pair v.found) (fault_of all before v.regions.items v.sum l s))
+    → map seen_put u.puts.items ≡ map seen_put v.puts.items ++ put_of (at_statement u.meanings) l s ∷ []
     → u.regions.items ≡ v.regions.items → u.sum ≡ v.sum
     → ((before : List Located) → IsAt u.meanings all before l → IsBehind w.meanings all (l ∷ before))
     → w.regions.items ≡ regions_after (at_statement u.meanings) u.regions.items l.action
     → w.sum ≡ stack_after (at_statement u.meanings) u.sum l.action
     → w.found ≡ u.found
-    → Passing v all (l ∷ rest) (s ∷ ss) whole → Passing w all rest ss whole
-passes v u w all rest l s ss whole at found regions sum behind regions_behind sum_behind found_behind p =
+    → w.puts.items ≡ u.puts.items
+    → Passing v all (l ∷ rest) (s ∷ ss) whole puts stack → Passing w all rest ss whole puts stack
+passes v u w all rest l s ss whole puts stack at found put regions sum behind regions_behind sum_behind found_behind puts_behind p =
     let here = at p.before p.behind in
     let look = meaning all p.before l in
     let new_regions : w.regions.items ≡ regions_after look v.regions.items l.action = regions_behind ∙ (λ i. regions_after (here.means i) (regions i) l.action) in
     let new_sum : w.sum ≡ stack_after look v.sum l.action = sum_behind ∙ (λ i. stack_after (here.means i) (sum i) l.action) in
+    let new_puts : map seen_put w.puts.items ≡ map seen_put v.puts.items ++ put_of look l s ∷ []
+    = ap (map seen_put) puts_behind ∙ put ∙ ap (λ (look : List ℕ → Answer). map seen_put v.puts.items ++ put_of look l s ∷ []) here.means in
     record {
       before = l ∷ p.before;
+      split = further all p.before rest l p.split;
       behind = behind p.before here;
       so_far =
           (λ i. lesser_fault (option_map pair (found_behind i)) (first (faults_from all (new_regions i) (new_sum i) (l ∷ p.before) rest ss)))
@@ -104,25 +127,30 @@ passes v u w all rest l s ss whole at found regions sum behind regions_behind su
           ∙ lesser_assoc (option_map pair v.found) (fault_of all p.before v.regions.items v.sum l s) (first (others all p.before v.regions.items v.sum l rest ss))
           ∙ ap (lesser_fault (option_map pair v.found)) (sym (one_judged all p.before v.regions.items v.sum l rest s ss))
           ∙ p.so_far;
+      given =
+          ap (λ (ps : List Put). ps ++ puts_from all (l ∷ p.before) rest ss) new_puts
+          ∙ append_assoc (map seen_put v.puts.items) (put_of look l s ∷ []) (puts_from all (l ∷ p.before) rest ss)
+          ∙ ap (λ (ps : List Put). map seen_put v.puts.items ++ ps) (sym (one_put all p.before l rest s ss))
+          ∙ p.given;
+      summed = ap (λ (n : ℕ). stack_from all n (l ∷ p.before) rest) new_sum ∙ sym (one_summed all p.before l rest v.sum) ∙ p.summed;
     }
 
-no_statement : (all before : List Located) (regions : Regions) (sum : ℕ) (ss : List Site) → first (faults_from all regions sum before [] ss) ≡ None
+-- ---- with no statement left
+
+no_fault_left : (all before : List Located) (regions : Regions) (sum : ℕ) (ss : List Site) → first (faults_from all regions sum before [] ss) ≡ None
 unfolding faults_from first
-no_statement all before regions sum ss = refl
+no_fault_left all before regions sum ss = refl
 
-no_site : (all before : List Located) (regions : Regions) (sum : ℕ) (rest : List Located) → first (faults_from all regions sum before rest []) ≡ None
-unfolding faults_from first
-no_site all before regions sum [] = refl
-no_site all before regions sum (l ∷ rest) = refl
+no_put_left : (all before : List Located) (ss : List Site) → puts_from all before [] ss ≡ []
+unfolding puts_from
+no_put_left all before ss = refl
 
--- with no statement left, or no site
-ends : (w : Walk) (all : List Located) (ss : List Site) (whole : Option Fault) → Passing w all [] ss whole → option_map pair w.found ≡ whole
-ends w all ss whole p =
-    sym (lesser_none (option_map pair w.found)) ∙ ap (lesser_fault (option_map pair w.found)) (sym (no_statement all p.before w.regions.items w.sum ss)) ∙ p.so_far
+no_sum_left : (all before : List Located) (sum : ℕ) → stack_from all sum before [] ≡ sum
+unfolding stack_from
+no_sum_left all before sum = refl
 
-stops : (w : Walk) (all rest : List Located) (whole : Option Fault) → Passing w all rest [] whole → option_map pair w.found ≡ whole
-stops w all rest whole p =
-    sym (lesser_none (option_map pair w.found)) ∙ ap (lesser_fault (option_map pair w.found)) (sym (no_site all p.before w.regions.items w.sum rest)) ∙ p.so_far
+all_before : (all before : List Located) → all ≡ reverse before ++ [] → before ≡ reverse all
+all_before all before split = sym (reverse-reverse before) ∙ ap reverse (sym (split ∙ append-nil (reverse before)))
 
 -- ---- the i-th statement and its site
 
@@ -130,13 +158,6 @@ site_front : (ss : List Site) (i : ℕ) (s : Site) → slice_get ss i ≡ Some s
 site_front ss i s is =
     let within : i < length ss = slice_get_within ss i s is in
     front_of ss i s s within (sym (get_or_from_slice_get ss i s s is))
-
-no_more_sites : (ss : List Site) (i : ℕ) → slice_get ss i ≡ None → drop i ss ≡ []
-no_more_sites ss i none = past (slice_get_cases ss i).1
-  where
-    past : (((x : Site) × (i < length ss) × (slice_get ss i ≡ Some x) × (get_or ss i x ≡ x)) ⊎ ((length ss ≤ i) × (slice_get ss i ≡ None))) → drop i ss ≡ []
-    past (inl found) = absurd (let e : None ≡ Some found.0 = sym none ∙ found.2 in cc)
-    past (inr behind) = drop_all i ss behind.0
 
 one_located : (values : ℕ → Segment → Value) (i : ℕ) (g : Segment) (s : Stmt) (ss : List Stmt)
     → located_from values i g (s ∷ ss) ≡ located_at g (values i g) s ∷ located_from values (i + 1) (segment_after g (action_tree s.action)) ss
@@ -163,45 +184,63 @@ no_more_statements places i g stmts past = ap (located_from (λ i g. value_at g 
 abbrev pub left_from : (ℕ → ℕ) → ℕ → Segment → List Stmt → List Located
 left_from places i g stmts = located_from (λ i g. value_at g (places i)) i g (drop i stmts)
 
-pub stops_at : (w : Walk) (all rest : List Located) (sites : List Site) (i : ℕ) (whole : Option Fault) → slice_get sites i ≡ None
-    → Passing w all rest (drop i sites) whole → option_map pair w.found ≡ whole
-stops_at w all rest sites i whole none p =
-    stops w all rest whole (subst (λ (ss : List Site). Passing w all rest ss whole) (no_more_sites sites i none) p)
+-- before the first statement
+pub starts : (w : Walk) (all : List Located) (ss : List Site) → IsBehind w.meanings all [] → w.sum ≡ 0 → w.puts.items ≡ []
+    → Passing w all all ss (lesser_fault (option_map pair w.found) (first (faults_from all w.regions.items 0 [] all ss))) (puts_from all [] all ss) (stack_from all 0 [] all)
+starts w all ss behind sum puts = record {
+  before = [];
+  split = refl;
+  behind = behind;
+  so_far = ap (λ (n : ℕ). lesser_fault (option_map pair w.found) (first (faults_from all w.regions.items n [] all ss))) sum;
+  given = ap (λ ps. map seen_put ps ++ puts_from all [] all ss) puts;
+  summed = ap (λ (n : ℕ). stack_from all n [] all) sum;
+}
 
-pub ends_at : (w : Walk) (all : List Located) (places : ℕ → ℕ) (i : ℕ) (g : Segment) (stmts : List Stmt) (ss : List Site) (whole : Option Fault)
-    → length stmts ≤ i → Passing w all (left_from places i g stmts) ss whole → option_map pair w.found ≡ whole
-ends_at w all places i g stmts ss whole past p =
-    ends w all ss whole (subst (λ (ls : List Located). Passing w all ls ss whole) (no_more_statements places i g stmts past) p)
+-- behind the last one
+pub record Passed (w : Walk) (all : List Located) (whole : Option Fault) (puts : List Put) (stack : ℕ) : Type 0 where
+  pub found : option_map pair w.found ≡ whole
+  pub puts_given : map seen_put w.puts.items ≡ puts
+  pub summed : w.sum ≡ stack
+  pub behind : IsBehind w.meanings all (reverse all)
 
-pub passes_at : (v u w : Walk) (all : List Located) (i : ℕ) (g h : Segment) (stmts : List Stmt) (stmt : Stmt) (sites : List Site) (s : Site) (whole : Option Fault)
+ends : (w : Walk) (all : List Located) (ss : List Site) (whole : Option Fault) (puts : List Put) (stack : ℕ) → Passing w all [] ss whole puts stack → Passed w all whole puts stack
+ends w all ss whole puts stack p = record {
+  found = sym (lesser_none (option_map pair w.found)) ∙ ap (lesser_fault (option_map pair w.found)) (sym (no_fault_left all p.before w.regions.items w.sum ss)) ∙ p.so_far;
+  puts_given = sym (append-nil (map seen_put w.puts.items)) ∙ ap (λ (ps : List Put). map seen_put w.puts.items ++ ps) (sym (no_put_left all p.before ss)) ∙ p.given;
+  summed = sym (no_sum_left all p.before w.sum) ∙ p.summed;
+  behind = subst (λ (before : List Located). IsBehind w.meanings all before) (all_before all p.before p.split) p.behind;
+}
+
+pub ends_at : (w : Walk) (all : List Located) (places : ℕ → ℕ) (i : ℕ) (g : Segment) (stmts : List Stmt) (ss : List Site) (whole : Option Fault) (puts : List Put) (stack : ℕ)
+    → length stmts ≤ i → Passing w all (left_from places i g stmts) ss whole puts stack → Passed w all whole puts stack
+ends_at w all places i g stmts ss whole puts stack past p =
+    ends w all ss whole puts stack (subst (λ (ls : List Located). Passing w all ls ss whole puts stack) (no_more_statements places i g stmts past) p)
+
+pub passes_at : (v u w : Walk) (all : List Located) (i : ℕ) (g h : Segment) (stmts : List Stmt) (stmt : Stmt) (sites : List Site) (s : Site) (whole : Option Fault) (puts : List Put) (stack : ℕ)
     → i < length stmts → stmt ≡ get_or stmts i stmt → slice_get sites i ≡ Some s → h ≡ segment_after g (action_tree stmt.action)
     → ((before : List Located) → IsBehind v.meanings all before → IsAt u.meanings all before (stood g stmt s))
     → ((before : List Located) → IsBehind v.meanings all before
     → option_map pair u.found ≡ lesser_fault (option_map pair v.found) (fault_of all before v.regions.items v.sum (stood g stmt s) s))
+    → map seen_put u.puts.items ≡ map seen_put v.puts.items ++ put_of (at_statement u.meanings) (stood g stmt s) s ∷ []
     → u.regions.items ≡ v.regions.items → u.sum ≡ v.sum
     → ((before : List Located) (l : Located) → IsAt u.meanings all before l → l.action ≡ action_tree stmt.action → IsBehind w.meanings all (l ∷ before))
     → w.regions.items ≡ regions_after (at_statement u.meanings) u.regions.items (action_tree stmt.action)
     → w.sum ≡ stack_after (at_statement u.meanings) u.sum (action_tree stmt.action)
     → w.found ≡ u.found
-    → Passing v all (left_from (place_at sites) i g stmts) (drop i sites) whole → Passing w all (left_from (place_at sites) (i + 1) h stmts) (drop (i + 1) sites) whole
-passes_at v u w all i g h stmts stmt sites s whole within is site moved at found regions sum behind regions_behind sum_behind found_behind p =
+    → w.puts.items ≡ u.puts.items
+    → Passing v all (left_from (place_at sites) i g stmts) (drop i sites) whole puts stack
+    → Passing w all (left_from (place_at sites) (i + 1) h stmts) (drop (i + 1) sites) whole puts stack
+passes_at v u w all i g h stmts stmt sites s whole puts stack within is site moved at found put regions sum behind regions_behind sum_behind found_behind puts_behind p =
     let rest = left_from (place_at sites) (i + 1) (segment_after g (action_tree stmt.action)) stmts in
     let left : left_from (place_at sites) i g stmts ≡ stood g stmt s ∷ rest = statement_front (place_at sites) i g stmts stmt s.place (ap place_in site) within is in
-    let front : Passing v all (stood g stmt s ∷ rest) (s ∷ drop (i + 1) sites) whole
-    = subst (λ (ls : List Located). Passing v all ls (s ∷ drop (i + 1) sites) whole) left
-    (subst (λ (ss : List Site). Passing v all (left_from (place_at sites) i g stmts) ss whole) (site_front sites i s site) p) in
-    subst (λ (k : Segment). Passing w all (left_from (place_at sites) (i + 1) k stmts) (drop (i + 1) sites) whole) (sym moved)
-    (passes v u w all rest (stood g stmt s) s (drop (i + 1) sites) whole at found regions sum
-    (λ before here. behind before (stood g stmt s) here refl) regions_behind sum_behind found_behind front)
+    let front : Passing v all (stood g stmt s ∷ rest) (s ∷ drop (i + 1) sites) whole puts stack
+    = subst (λ (ls : List Located). Passing v all ls (s ∷ drop (i + 1) sites) whole puts stack) left
+    (subst (λ (ss : List Site). Passing v all (left_from (place_at sites) i g stmts) ss whole puts stack) (site_front sites i s site) p) in
+    subst (λ (k : Segment). Passing w all (left_from (place_at sites) (i + 1) k stmts) (drop (i + 1) sites) whole puts stack) (sym moved)
+    (passes v u w all rest (stood g stmt s) s (drop (i + 1) sites) whole puts stack at found put regions sum
+    (λ before here. behind before (stood g stmt s) here refl) regions_behind sum_behind found_behind puts_behind front)
 
 -- ---- from the first statement on
-
--- the externals do not depend on places
-pub externals_listed : (stmts : List Stmt) (sites : List Site) (values : List Value) (taken : List Taken) → sites ≡ site_list stmts → length values ≡ length stmts
-    → values ≡ place_values (located (place_at sites) stmts) → taken ≡ externals (standing stmts) → taken ≡ externals (located_by (listed values) stmts)
-externals_listed stmts sites values taken laid count same is =
-    is ∙ (λ i. externals (located (place_at (sym laid i)) stmts))
-    ∙ ap externals (sym (located_listed (λ i g. value_at g (place_at sites i)) values stmts count (sym same)))
 
 pub whole_of : (stmts : List Stmt) (sites : List Site) (regions : Regions) (found : Option Fault) → sites ≡ site_list stmts → regions ≡ first_regions
     → found ≡ lesser_fault None (first (faults_from (located (place_at sites) stmts) regions 0 [] (located (place_at sites) stmts) sites))

@@ -6,12 +6,11 @@
 use Rattle.std.specs.Prelude.{ℕ, ◌+◌, ◌-◌, Bool, true, false, not, ◌&&◌, ◌==◌, nat_lt, nat_le, if◌then◌else◌, List, [], ◌∷◌, ◌++◌, Option, Some, None, unwrap_or, Ok, Err, slice_get, is_some, is_none}
 use Rattle.std.specs.List.{flat_map, list_all}
 use Rattle.std.specs.Option.{option_to_list}
+use Rattle.kc_lex.specs.Codes.{no_statement, past_the_end, outside_code, out_of_reach, not_public, outside_region, no_label}
 use Rattle.kc_obj.specs.declared.parts.SegKind.{SegKind}
 use Rattle.kc_obj.specs.declared.parts.SegKind.TheVariants.{Reg, Code, Ram}
 use Rattle.kc_obj.specs.Names.{is_name, is_stack_name}
 use Rattle.kc_obj.specs.Pieces.{in_region}
-use Rattle.kc_expr.specs.declared.values.Base.{Base}
-use Rattle.kc_expr.specs.declared.values.Base.TheVariants.{Fixed, Absolute, Piece, External}
 use Rattle.kc_expr.specs.Tree.{Tree}
 use Rattle.kc_expr.specs.Meaning.{Answer}
 use Rattle.kc_source_statement.specs.Trees.{ArgTree, ActionTree, Bare, Module, Cseg, Dseg, Rseg, Sseg, Public, Extrn, Equ, Set, Define, Reserve, Org, End, Operation}
@@ -58,7 +57,7 @@ has_target look args = has_value look (target args)
 
 -- a target without a value has that fault alone
 abbrev pub branch_faults : Look → Body → ActionTree → List ℕ
-branch_faults look b (Operation word args) = when (counts_from_nothing b && has_target look args) 24
+branch_faults look b (Operation word args) = when (counts_from_nothing b && has_target look args) no_label
 branch_faults look b action = []
 
 -- ---- numbers that do not fit
@@ -66,7 +65,7 @@ branch_faults look b action = []
 -- a jump is not judged where its target has no value
 abbrev pub judged : Bool → Option ℕ → Option ℕ
 judged jumps None = None
-judged jumps (Some code) = if not jumps && (code == 19) then None else Some code
+judged jumps (Some code) = if not jumps && (code == out_of_reach) then None else Some code
 
 -- octets stand at places one by one, in a piece that is absolute at an address or relocatable
 unfoldable pub misfits : Bool → Option ℕ → ℕ → ℕ → List Octet → List ℕ
@@ -121,8 +120,8 @@ leaves kind (Some at) end = not (in_region kind at (end - at))
 
 abbrev pub end_faults : Regions → Segment → Site → List ℕ
 end_faults regions g s =
-    when (nat_lt (most_of g) s.after) 17
-    ++ when (nat_lt s.before s.after && leaves g.kind (unwrap_or (slice_get regions g.piece) None) s.after) 22
+    when (nat_lt (most_of g) s.after) past_the_end
+    ++ when (nat_lt s.before s.after && leaves g.kind (unwrap_or (slice_get regions g.piece) None) s.after) outside_region
 
 -- of ORG backwards
 abbrev pub is_below : Option ℕ → ℕ → Bool
@@ -130,7 +129,7 @@ is_below None place = false
 is_below (Some to) place = nat_lt to place
 
 abbrev pub back_faults : Look → ActionTree → ℕ → List ℕ
-back_faults look (Org x) place = when (is_below (fixed_of look x) place) 17
+back_faults look (Org x) place = when (is_below (fixed_of look x) place) past_the_end
 back_faults look action place = []
 
 -- an absolute piece that a statement opens: its kind, and its address if that has a value
@@ -150,7 +149,7 @@ is_outside kind (Some at) = not (in_region kind at 0)
 
 abbrev pub opening_faults : Option (SegKind × Option ℕ) → List ℕ
 opening_faults None = []
-opening_faults (Some o) = when (is_outside o.0 o.1) 22
+opening_faults (Some o) = when (is_outside o.0 o.1) outside_region
 
 abbrev pub region_at : SegKind → Option ℕ → Option ℕ
 region_at kind None = None
@@ -164,7 +163,7 @@ abbrev pub regions_after : Look → Regions → ActionTree → Regions
 regions_after look regions action = with_region (opening look action) regions
 
 abbrev pub label_faults : Option (List ℕ) → ℕ → List ℕ
-label_faults label place = when (is_some label && nat_lt 65535 place) 17
+label_faults label place = when (is_some label && nat_lt 65535 place) past_the_end
 
 abbrev pub goes_on_faults : Regions → ActionTree → Segment → Site → List ℕ
 goes_on_faults regions action g s = if goes_on action then end_faults regions g s else []
@@ -191,7 +190,7 @@ stack_after look sum action = sum + unwrap_or (stack_bytes look action) 0
 
 -- of the statement with which the sum passes 65,535
 abbrev pub stack_faults : Look → ℕ → ActionTree → List ℕ
-stack_faults look sum action = when (nat_le sum 65535 && nat_lt 65535 (stack_after look sum action)) 17
+stack_faults look sum action = when (nat_le sum 65535 && nat_lt 65535 (stack_after look sum action)) past_the_end
 
 -- ---- public names
 
@@ -200,7 +199,7 @@ counts_from_external (Ok v) = is_external v.base
 counts_from_external (Err code) = false
 
 abbrev pub name_faults : (List ℕ → Answer) → List ℕ → List ℕ
-name_faults last name = when (counts_from_external (last name)) 20
+name_faults last name = when (counts_from_external (last name)) not_public
 
 abbrev pub public_faults : (List ℕ → Answer) → ActionTree → List ℕ
 public_faults last (Public names) = flat_map (name_faults last) names
@@ -220,7 +219,7 @@ tells (Public names) = list_all is_public names
 tells action = true
 
 abbrev pub telling_faults : ℕ → ActionTree → List ℕ
-telling_faults line action = when (not (nat_lt 0 line && tells action)) 1
+telling_faults line action = when (not (nat_lt 0 line && tells action)) no_statement
 
 -- an instruction or data outside code
 abbrev pub is_octets : Content → Bool
@@ -232,4 +231,4 @@ is_code Code = true
 is_code kind = false
 
 abbrev pub segment_faults : SegKind → Content → List ℕ
-segment_faults kind c = when (not (is_code kind) && is_octets c) 18
+segment_faults kind c = when (not (is_code kind) && is_octets c) outside_code

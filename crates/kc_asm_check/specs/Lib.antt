@@ -1,5 +1,7 @@
 pub mod Codes
 pub mod Pairs
 pub mod Judging
+pub mod Putting
+pub mod Checked
 pub mod Walk
 pub mod Laws

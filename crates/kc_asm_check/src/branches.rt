@@ -9,6 +9,7 @@ use crate::codes::when;
 use kc_asm_emission::value_of;
 use kc_asm_outline::{Anchor, Body, target};
 use kc_expr::Scope;
+use kc_lex::SourceCode;
 use kc_source_statement::{Action, Arg};
 
 fn is_nothing(anchor: Anchor) -> bool
@@ -46,9 +47,9 @@ pub(crate) fn branch_fault<S: Scope>(body: Body, action: &Action, scope: &S) -> 
     match action {
         Action::Operation { args, .. } => when(
             counts_from_nothing(body) && has_target(args.as_slice(), scope),
-            24,
+            SourceCode::NoLabel.number(),
         ),
-        _ => when(false, 24),
+        _ => when(false, SourceCode::NoLabel.number()),
     }
 }
 

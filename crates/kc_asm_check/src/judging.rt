@@ -1,17 +1,20 @@
-ghost use Rattle.std.specs.Prelude.{◌≡◌, ◌≤◌, length, IfOk};
+ghost use Rattle.std.specs.Prelude.{◌≡◌, ◌≤◌, List, None, reverse, map, length, IfOk};
 ghost use Rattle.std.specs.Option.{option_map};
-ghost use Rattle.kc_asm_symbols.specs.Externals.{externals};
+ghost use Rattle.kc_asm_symbols.specs.Walk.{AreNamesOf, IsBehind};
+ghost use Rattle.kc_asm_check.specs.Checked.{seen_put, IsJudged};
 ghost use Rattle.kc_asm_check.specs.Codes as codes;
 ghost use Rattle.kc_asm_check.specs.Pairs.{pair};
 ghost use Rattle.kc_asm_check.specs.Judging as spec;
+ghost use Rattle.kc_asm_check.specs.Putting.{puts_of, stack_of};
 
+use crate::checked::Checked;
 use crate::fault::Fault;
 use crate::sites::values_of;
 use crate::walk::Walk;
 use kc_asm_layout::Site;
-use kc_asm_symbols::{Meanings, Segment};
+use kc_asm_outline::outlines_have_lengths;
+use kc_asm_symbols::{Meanings, Names, Segment};
 use kc_base::NoMemory;
-use kc_obj::Taken;
 use kc_source_statement::Stmt;
 use std::alloc::Global;
 
@@ -26,31 +29,58 @@ fn first_regions(alloc: Global) -> Result<Vec<Option<u16>>, NoMemory>
     Ok(regions)
 }
 
-/// The first fault of the values and places of a module's statements: of the least line that has one the least code.
+// What a walk behind the last statement has found.
+fn judged(walk: Walk, stmts: &[Stmt]) -> Result<Checked, Fault>
+    requires found { option_map pair walk.found ≡ spec.first_fault stmts.now }
+    requires puts { map seen_put walk.puts.items ≡ puts_of stmts.now }
+    requires stack { walk.sum ≡ stack_of stmts.now }
+    requires meanings { IsBehind walk.meanings (spec.standing stmts.now) (reverse (spec.standing stmts.now)) }
+    requires each { length stmts.now ≤ length (spec.site_list stmts.now) }
+    ensures { IsJudged stmts.now result }
+{
+    let Walk {
+        meanings,
+        sum,
+        found,
+        puts,
+        ..
+    } = walk;
+    match found {
+        Some(fault) => Err(fault),
+        None => Ok(Checked {
+            puts,
+            stack: sum as u16,
+            meanings,
+        }),
+    }
+}
+
+/// What the statements of a module put, its bytes of stack and what names mean in it; or else the first fault of its values
+/// and places: of the least line that has one the least code.
 ///
-/// `sites` tells where each of the statements stands, as the layout of their outline does, and `taken` the externals in
-/// order. The codes: 7, 9, 10, 11, 12, 13 for values and operands; 12 also for a number that does not fit its byte, and 19 for
+/// `sites` tells where each of the statements stands, as the layout of their outline does, and `names` are their names.
+/// The codes: 7, 9, 10, 11, 12, 13 for values and operands; 12 also for a number that does not fit its byte, and 19 for
 /// a jump that does not reach, where they depend on no base; 24 for a generic branch to what is no label, no external and not
 /// `$`, with a fixed distance or none; 17 for ORG backwards, a label past FFFFH, a piece that is too long, and stack over
 /// 65,535 bytes; 22 for an absolute piece outside the regions of its kind; 20 for a public name that counts from an external.
 /// Statements that were read without a fault have neither 18, an instruction or data outside code, nor 1, for a line or a
 /// name that no object can tell. (MCS-96 Macro Assembler User's Guide, "Assembler Directives"; the codes are this kit's own.)
 ///
-/// `NoMemory`: memory ran out. That is the only error.
+/// `NoMemory`: memory ran out. That is the only other error.
 pub fn judge(
     alloc: Global,
     stmts: &[Stmt],
     sites: &[Site],
-    taken: &[Taken],
-) -> Result<Option<Fault>, NoMemory>
+    names: &Names,
+) -> Result<Result<Checked, Fault>, NoMemory>
     requires count { length stmts.now ≤ 65536 }
     requires sites { sites.now ≡ spec.site_list stmts.now }
-    requires taken { taken.now ≡ externals (spec.standing stmts.now) }
-    requires few { length taken.now ≤ 65536 }
-    ensures { IfOk result (λ f. option_map pair f ≡ spec.first_fault stmts.now) }
+    requires names { AreNamesOf names.now stmts.now }
+    ensures { IfOk result (λ r. IsJudged stmts.now r) }
 {
+    outlines_have_lengths();
     let values = values_of(alloc, stmts, sites)?;
-    let meanings = Meanings::new(alloc, stmts, &values, taken)?;
+    let meanings = Meanings::new(alloc, names, stmts, &values)?;
     let regions = first_regions(alloc)?;
     let mut walk = Walk {
         meanings,
@@ -58,7 +88,8 @@ pub fn judge(
         regions,
         sum: 0,
         found: None,
+        puts: Vec::new(alloc),
     };
     walk.pass(alloc, stmts, sites)?;
-    Ok(walk.found)
+    Ok(judged(walk, stmts))
 }

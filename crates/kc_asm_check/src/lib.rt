@@ -1,7 +1,8 @@
-//! The first fault of the values and places of a module's statements.
+//! The first fault of the values and places of a module's statements, or what they put where they stand.
 #![tactic(auto)]
 
 mod branches;
+mod checked;
 mod codes;
 mod fault;
 mod judging;
@@ -9,9 +10,11 @@ mod laws;
 mod module;
 mod octets;
 mod places;
+mod putting;
 mod sites;
 mod walk;
 
+pub use checked::{Checked, Put};
 pub use fault::Fault;
 pub use judging::judge;
 pub use laws::no_fault_no_codes;

@@ -19,6 +19,7 @@ use kc_asm_emission::fixed_of;
 use kc_asm_symbols::Meanings;
 use kc_base::Text;
 use kc_expr::{Base, Expr, Scope, Value};
+use kc_lex::SourceCode;
 use kc_obj::names::{is_stack, name_is_sound};
 use kc_source_statement::Action;
 
@@ -55,7 +56,10 @@ pub(crate) fn stack_fault<S: Scope>(sum: u64, action: &Action, scope: &S) -> Opt
     requires { sum + 65536 < 2 ^ 64 }
     ensures { result ≡ least (spec.stack_faults (S.answers scope.now) sum (action_tree action.now)) }
 {
-    when(sum <= 65535 && 65535 < stack_after(sum, action, scope), 17)
+    when(
+        sum <= 65535 && 65535 < stack_after(sum, action, scope),
+        SourceCode::PastTheEnd.number(),
+    )
 }
 
 fn is_external(base: Base) -> bool
@@ -79,7 +83,10 @@ fn counts_from_external(answer: Result<Value, u8>) -> bool
 fn name_fault(name: &Text, meanings: &Meanings) -> Option<u8>
     ensures { (all before : List Located) → IsBehind meanings.now all before → result ≡ least (spec.name_faults (in_all all) name.now) }
 {
-    when(counts_from_external(meanings.last(name.as_slice())), 20)
+    when(
+        counts_from_external(meanings.last(name.as_slice())),
+        SourceCode::NotPublic.number(),
+    )
 }
 
 fn names_fault(names: &[Text], meanings: &Meanings) -> Option<u8>
@@ -98,7 +105,7 @@ pub(crate) fn public_fault(action: &Action, meanings: &Meanings) -> Option<u8>
 {
     match action {
         Action::Public(names) => names_fault(names.as_slice(), meanings),
-        _ => when(false, 20),
+        _ => when(false, SourceCode::NotPublic.number()),
     }
 }
 
@@ -138,5 +145,8 @@ fn tells(action: &Action) -> bool
 pub(crate) fn telling_fault(line: u32, action: &Action) -> Option<u8>
     ensures { result ≡ least (spec.telling_faults line (action_tree action.now)) }
 {
-    when(!(line > 0 && tells(action)), 1)
+    when(
+        !(line > 0 && tells(action)),
+        SourceCode::NoStatement.number(),
+    )
 }

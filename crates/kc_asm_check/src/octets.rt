@@ -12,6 +12,7 @@ use kc_asm_emission::Content;
 use kc_asm_emission::faults::lesser;
 use kc_asm_symbols::Segment;
 use kc_expr::Base;
+use kc_lex::SourceCode;
 use kc_obj::SegKind;
 
 // A jump is not judged where its target has no value.
@@ -19,7 +20,7 @@ fn judged(jumps: bool, code: Option<u8>) -> Option<u8>
     ensures { result ≡ spec.judged jumps code }
 {
     match code {
-        Some(19) => if jumps { code } else { None },
+        Some(known) if known == SourceCode::OutOfReach.number() && !jumps => None,
         _ => code,
     }
 }
@@ -88,7 +89,7 @@ pub(crate) fn content_fault(
             (place % 65536) as u16,
             octets.as_slice(),
         ),
-        _ => when(false, 12),
+        _ => when(false, SourceCode::DoesNotFit.number()),
     }
 }
 
@@ -98,6 +99,6 @@ pub(crate) fn segment_fault(kind: SegKind, content: &Content) -> Option<u8>
 {
     when(
         kind != SegKind::Code && matches!(content, Content::Octets(_)),
-        18,
+        SourceCode::OutsideCode.number(),
     )
 }

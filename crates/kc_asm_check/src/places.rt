@@ -15,6 +15,7 @@ use kc_asm_layout::Site;
 use kc_asm_symbols::Segment;
 use kc_base::{NoMemory, Text};
 use kc_expr::{Expr, Scope};
+use kc_lex::SourceCode;
 use kc_obj::SegKind;
 use kc_obj::pieces::fits_region;
 use kc_source_statement::Action;
@@ -74,10 +75,13 @@ fn end_fault(regions: &[Option<u16>], segment: Segment, site: &Site) -> Option<u
 {
     let region = region_of(regions, segment.piece);
     lesser(
-        when(most_of(segment) < site.after, 17),
+        when(
+            most_of(segment) < site.after,
+            SourceCode::PastTheEnd.number(),
+        ),
         when(
             site.before < site.after && leaves(segment.kind, region, site.after),
-            22,
+            SourceCode::OutsideRegion.number(),
         ),
     )
 }
@@ -96,8 +100,11 @@ fn back_fault<S: Scope>(action: &Action, place: u64, scope: &S) -> Option<u8>
     ensures { result ≡ least (spec.back_faults (S.answers scope.now) (action_tree action.now) place) }
 {
     match action {
-        Action::Org(to) => when(is_below(fixed_of(to, scope), place), 17),
-        _ => when(false, 17),
+        Action::Org(to) => when(
+            is_below(fixed_of(to, scope), place),
+            SourceCode::PastTheEnd.number(),
+        ),
+        _ => when(false, SourceCode::PastTheEnd.number()),
     }
 }
 
@@ -138,8 +145,11 @@ fn opening_fault(opening: Opening) -> Option<u8>
     ensures { result ≡ least (spec.opening_faults opening) }
 {
     match opening {
-        None => when(false, 22),
-        Some((kind, address)) => when(is_outside(kind, address), 22),
+        None => when(false, SourceCode::OutsideRegion.number()),
+        Some((kind, address)) => when(
+            is_outside(kind, address),
+            SourceCode::OutsideRegion.number(),
+        ),
     }
 }
 
@@ -173,7 +183,10 @@ pub(crate) fn push_region<S: Scope>(
 fn label_fault(label: &Option<Text>, place: u64) -> Option<u8>
     ensures { result ≡ least (spec.label_faults label.now place) }
 {
-    when(label.is_some() && place > 65535, 17)
+    when(
+        label.is_some() && place > 65535,
+        SourceCode::PastTheEnd.number(),
+    )
 }
 
 fn goes_on_fault(
@@ -187,7 +200,7 @@ fn goes_on_fault(
     if goes_on(action) {
         end_fault(regions, segment, site)
     } else {
-        when(false, 17)
+        when(false, SourceCode::PastTheEnd.number())
     }
 }
 

@@ -11,7 +11,7 @@ use kc_expr::Value;
 use kc_source_statement::Stmt;
 use std::alloc::Global;
 
-pub(crate) fn site_at(sites: &[Site], number: usize) -> Option<Site>
+fn site_at(sites: &[Site], number: usize) -> Option<Site>
     ensures { result ≡ slice_get sites.now number }
 {
     match sites.get(number) {

@@ -3,7 +3,7 @@ ghost use Rattle.std.specs.Prelude.{◌≤◌, length};
 use super::*;
 use kc_asm_layout::layout;
 use kc_asm_outline::outline;
-use kc_asm_symbols::externals;
+use kc_asm_symbols::{Names, externals};
 use kc_lex::lines;
 use kc_source::statements;
 use std::alloc::Global;
@@ -67,9 +67,14 @@ fn first_fault(alloc: Global, source: &str) -> Option<Option<Fault>> {
     if stmts.len() > 65536 || taken.len() > 65536 {
         return None;
     }
-    let notes = outline(alloc, &stmts, &taken).ok()?;
+    let names = Names::new(alloc, &stmts, &taken).ok()?;
+    let notes = outline(alloc, &stmts, &names).ok()?;
     let sites = layout(alloc, &notes).ok()?;
-    judge(alloc, &stmts, &sites, &taken).ok()
+    match judge(alloc, &stmts, &sites, &names) {
+        Ok(Ok(_)) => Some(None),
+        Ok(Err(fault)) => Some(Some(fault)),
+        Err(_) => None,
+    }
 }
 
 #[test]

@@ -1,14 +1,12 @@
 -- Bytes that lead on to a place.
-use Rattle.std.proofs.Common.{◌≡◌, ℕ, zero, suc, ◌+◌, refl, subst, sym, arith}
+use Rattle.std.proofs.Common.{◌≡◌, ℕ, zero, suc, ◌+◌, refl, arith}
 use Rattle.std.specs.Prelude.{replicate, List}
 use Rattle.kc_obj.specs.declared.parts.SegKind.{SegKind}
 use Rattle.kc_obj.specs.declared.parts.SegKind.TheVariants.{Reg, Code, Ram, Stack}
 use Rattle.kc_asm_bytes.specs.declared.octet.Octet.{Octet}
 use Rattle.kc_asm_bytes.specs.declared.octet.Octet.TheVariants.{Plain}
 use Rattle.kc_asm_piece.specs.Tape.{Tape, put, laid}
-use Rattle.kc_asm_emission.specs.Content.{Content}
 use Rattle.kc_asm_draft_laws.specs.Drafting.{led}
-use Rattle.kc_asm_draft_laws.specs.Writable.{HasRoom}
 
 abbrev filling : ℕ → List Octet
 filling n = replicate n (Plain 255)
@@ -31,7 +29,3 @@ led_length Code n t = laid_length n t
 led_length Reg n t = refl
 led_length Ram n t = refl
 led_length Stack n t = refl
-
-pub room_behind : (m n place : ℕ) (c d : Content) → m ≡ n → c ≡ d → HasRoom n d place → HasRoom m c place
-room_behind m n place c d size same room =
-    subst (λ (k : ℕ). HasRoom k c place) (sym size) (subst (λ (x : Content). HasRoom n x place) (sym same) room)

@@ -1,5 +1,5 @@
--- A walk over the statements that writes each of them.
-use Rattle.std.proofs.Common.{◌≡◌, ℕ, ◌+◌, ◌<◌, ◌≤◌, List, [], ◌∷◌, length, drop, get_or, refl, sym, ap, subst, ◌∙◌}
+-- A walk over the statements that writes what each of them puts.
+use Rattle.std.proofs.Common.{◌≡◌, ℕ, ◌+◌, ◌<◌, ◌≤◌, List, [], ◌∷◌, map, length, drop, get_or, refl, sym, ap, subst, ◌∙◌, arith}
 use Rattle.std.specs.Prelude.{slice_get, Some}
 use Rattle.std.proofs.lemmas.List.{drop_all}
 use Rattle.std.proofs.lemmas.Option.{slice_get_within, get_or_from_slice_get}
@@ -9,73 +9,68 @@ use Rattle.kc_source_statement.specs.Trees.{action_tree}
 use Rattle.kc_asm_symbols.specs.declared.segments.Segment.{Segment}
 use Rattle.kc_asm_symbols.specs.Located.{Located, located_at, located_from, segment_after, value_at}
 use Rattle.kc_asm_symbols.specs.Meanings.{meaning}
-use Rattle.kc_asm_symbols.specs.Walk.{at_statement, IsAt, IsBehind}
 use Rattle.kc_asm_symbols.proofs.ExternalLemmas.{front}
-use Rattle.kc_expr.specs.Meaning.{Answer}
 use Rattle.kc_asm_layout.specs.declared.site.Site.{Site}
 use Rattle.kc_asm_piece.specs.Tape.{Tape}
-use Rattle.kc_asm_check.specs.Codes.{stack_after}
+use Rattle.kc_asm_check.specs.declared.checked.Put.{Put as Made}
+use Rattle.kc_asm_check.specs.Checked.{seen_put}
 use Rattle.kc_asm_check.specs.Judging.{place_at, place_in}
+use Rattle.kc_asm_check.specs.Putting.{Put, put_of, puts_from}
 use Rattle.kc_asm_check.specs.Walk.{stood}
-use Rattle.kc_asm_draft_laws.specs.Drafting.{parts_after, parts_from, stack_from}
+use Rattle.kc_asm_draft_laws.specs.Drafting.{parts_with, parts_after, parts_from}
 use Rattle.kc_asm_draft_laws.specs.Writable.{IsWritable, AllWritable}
 use Rattle.kc_asm_draft.specs.declared.drafting.Drafting.{Drafting}
 
--- the statements that are left write, behind what stands, what all of them write
-pub record Drafted (w : Drafting) (all rest : List Located) (ss : List Site) (parts : List Tape) (stack : ℕ) : Type 0 where
+-- what is left is what the statements that are left put, and they write, behind what stands, what all of them write
+pub record Drafted (w : Drafting) (all rest : List Located) (ss : List Site) (ps : List Made) (parts : List Tape) : Type 0 where
   pub before : List Located
-  pub behind : IsBehind w.meanings all before
+  pub given : map seen_put ps ≡ puts_from all before rest ss
   pub writable : AllWritable all before rest ss w.parts.items
   pub written : parts_from all before rest ss w.parts.items ≡ parts
-  pub summed : stack_from all w.stack before rest ≡ stack
+
+one_put : (all before : List Located) (l : Located) (rest : List Located) (s : Site) (ss : List Site)
+    → puts_from all before (l ∷ rest) (s ∷ ss) ≡ put_of (meaning all before l) l s ∷ puts_from all (l ∷ before) rest ss
+unfolding puts_from
+one_put all before l rest s ss = refl
 
 one_written : (all before : List Located) (l : Located) (rest : List Located) (s : Site) (ss : List Site) (parts : List Tape)
     → parts_from all before (l ∷ rest) (s ∷ ss) parts ≡ parts_from all (l ∷ before) rest ss (parts_after (meaning all before l) l s parts)
 unfolding parts_from
 one_written all before l rest s ss parts = refl
 
-one_summed : (all before : List Located) (l : Located) (rest : List Located) (sum : ℕ)
-    → stack_from all sum before (l ∷ rest) ≡ stack_from all (stack_after (meaning all before l) sum l.action) (l ∷ before) rest
-unfolding stack_from
-one_summed all before l rest sum = refl
-
 none_written : (all before : List Located) (ss : List Site) (parts : List Tape) → parts_from all before [] ss parts ≡ parts
 unfolding parts_from
 none_written all before ss parts = refl
 
-none_summed : (all before : List Located) (sum : ℕ) → stack_from all sum before [] ≡ sum
-unfolding stack_from
-none_summed all before sum = refl
+-- the first of what is left is what the statement puts
 
--- v is before the statement, u at it, w behind it
+its_put : (v : Drafting) (all rest : List Located) (l : Located) (s : Site) (ss : List Site) (p : Made) (ps : List Made) (parts : List Tape)
+    → (d : Drafted v all (l ∷ rest) (s ∷ ss) (p ∷ ps) parts) → seen_put p ≡ put_of (meaning all d.before l) l s
+its_put v all rest l s ss p ps parts d = ap (λ (qs : List Put). get_or qs 0 (seen_put p)) (d.given ∙ one_put all d.before l rest s ss)
 
-writable_here : (v u : Drafting) (all rest : List Located) (l : Located) (s : Site) (ss : List Site) (parts : List Tape) (stack : ℕ)
-    → ((before : List Located) → IsBehind v.meanings all before → IsAt u.meanings all before l)
-    → u.parts.items ≡ v.parts.items
-    → Drafted v all (l ∷ rest) (s ∷ ss) parts stack → IsWritable (at_statement u.meanings) l s u.parts.items
-writable_here v u all rest l s ss parts stack at same p =
-    let here = at p.before p.behind in
-    subst (λ (look : List ℕ → Answer). IsWritable look l s u.parts.items) (sym here.means)
-    (subst (λ (ts : List Tape). IsWritable (meaning all p.before l) l s ts) (sym same) p.writable.0)
+others_put : (v : Drafting) (all rest : List Located) (l : Located) (s : Site) (ss : List Site) (p : Made) (ps : List Made) (parts : List Tape)
+    → (d : Drafted v all (l ∷ rest) (s ∷ ss) (p ∷ ps) parts) → map seen_put ps ≡ puts_from all (l ∷ d.before) rest ss
+others_put v all rest l s ss p ps parts d = ap (drop 1) (d.given ∙ one_put all d.before l rest s ss)
 
-passes : (v u w : Drafting) (all rest : List Located) (l : Located) (s : Site) (ss : List Site) (parts : List Tape) (stack : ℕ)
-    → ((before : List Located) → IsBehind v.meanings all before → IsAt u.meanings all before l)
-    → u.parts.items ≡ v.parts.items → u.stack ≡ v.stack
-    → ((before : List Located) → IsAt u.meanings all before l → IsBehind w.meanings all (l ∷ before))
-    → w.parts.items ≡ parts_after (at_statement u.meanings) l s u.parts.items
-    → w.stack ≡ stack_after (at_statement u.meanings) u.stack l.action
-    → Drafted v all (l ∷ rest) (s ∷ ss) parts stack → Drafted w all rest ss parts stack
-passes v u w all rest l s ss parts stack at same_parts same_stack behind new_parts new_stack p =
-    let here = at p.before p.behind in
-    let look = meaning all p.before l in
-    let written : w.parts.items ≡ parts_after look l s v.parts.items = new_parts ∙ (λ i. parts_after (here.means i) l s (same_parts i)) in
-    let summed : w.stack ≡ stack_after look v.stack l.action = new_stack ∙ (λ i. stack_after (here.means i) (same_stack i) l.action) in
+-- v is before the statement, w behind it
+
+writable_here : (v : Drafting) (all rest : List Located) (l : Located) (s : Site) (ss : List Site) (p : Made) (ps : List Made) (parts : List Tape)
+    → Drafted v all (l ∷ rest) (s ∷ ss) (p ∷ ps) parts → IsWritable (seen_put p) l s v.parts.items
+writable_here v all rest l s ss p ps parts d =
+    subst (λ (q : Put). IsWritable q l s v.parts.items) (sym (its_put v all rest l s ss p ps parts d)) d.writable.0
+
+passes : (v w : Drafting) (all rest : List Located) (l : Located) (s : Site) (ss : List Site) (p : Made) (ps : List Made) (parts : List Tape)
+    → w.parts.items ≡ parts_with (seen_put p) l s v.parts.items
+    → Drafted v all (l ∷ rest) (s ∷ ss) (p ∷ ps) parts → Drafted w all rest ss ps parts
+passes v w all rest l s ss p ps parts new d =
+    let look = meaning all d.before l in
+    let written : w.parts.items ≡ parts_after look l s v.parts.items
+    = new ∙ ap (λ (q : Put). parts_with q l s v.parts.items) (its_put v all rest l s ss p ps parts d) in
     record {
-      before = l ∷ p.before;
-      behind = behind p.before here;
-      writable = subst (λ (ts : List Tape). AllWritable all (l ∷ p.before) rest ss ts) (sym written) p.writable.1;
-      written = ap (parts_from all (l ∷ p.before) rest ss) written ∙ sym (one_written all p.before l rest s ss v.parts.items) ∙ p.written;
-      summed = ap (λ (sum : ℕ). stack_from all sum (l ∷ p.before) rest) summed ∙ sym (one_summed all p.before l rest v.stack) ∙ p.summed;
+      before = l ∷ d.before;
+      given = others_put v all rest l s ss p ps parts d;
+      writable = subst (λ (ts : List Tape). AllWritable all (l ∷ d.before) rest ss ts) (sym written) d.writable.1;
+      written = ap (parts_from all (l ∷ d.before) rest ss) written ∙ sym (one_written all d.before l rest s ss v.parts.items) ∙ d.written;
     }
 
 -- ---- the walk, by numbers
@@ -100,42 +95,50 @@ statement_front sites i g stmts stmt s within is site =
 site_front : (ss : List Site) (i : ℕ) (s : Site) → slice_get ss i ≡ Some s → drop i ss ≡ s ∷ drop (i + 1) ss
 site_front ss i s is = front ss i s (slice_get_within ss i s is) (sym (get_or_from_slice_get ss i s s is))
 
-fronts : (v : Drafting) (all : List Located) (i : ℕ) (g : Segment) (stmts : List Stmt) (stmt : Stmt) (sites : List Site) (s : Site) (parts : List Tape) (stack : ℕ)
-    → i < length stmts → stmt ≡ get_or stmts i stmt → slice_get sites i ≡ Some s
-    → Drafted v all (left_from (place_at sites) i g stmts) (drop i sites) parts stack
-    → Drafted v all (stood g stmt s ∷ left_from (place_at sites) (i + 1) (segment_after g (action_tree stmt.action)) stmts) (s ∷ drop (i + 1) sites) parts stack
-fronts v all i g stmts stmt sites s parts stack within is site p =
-    subst (λ (ls : List Located). Drafted v all ls (s ∷ drop (i + 1) sites) parts stack) (statement_front sites i g stmts stmt s within is site)
-    (subst (λ (ss : List Site). Drafted v all (left_from (place_at sites) i g stmts) ss parts stack) (site_front sites i s site) p)
+-- the i-th statement, its site and what it puts
+pub record IsTurn (stmts : List Stmt) (sites : List Site) (ps : List Made) (i : ℕ) (stmt : Stmt) (s : Site) (p : Made) : Type 0 where
+  pub within : i < length stmts
+  pub statement : stmt ≡ get_or stmts i stmt
+  pub site : slice_get sites i ≡ Some s
+  pub some : i < length ps
+  pub put : p ≡ get_or ps i p
 
--- the i-th statement and its site, in the segment k that is that before it
-pub writable_at : (v u : Drafting) (all : List Located) (i : ℕ) (g k : Segment) (stmts : List Stmt) (stmt : Stmt) (sites : List Site) (s : Site) (parts : List Tape) (stack : ℕ)
-    → i < length stmts → stmt ≡ get_or stmts i stmt → slice_get sites i ≡ Some s
-    → ((before : List Located) → IsBehind v.meanings all before → IsAt u.meanings all before (stood g stmt s))
-    → u.parts.items ≡ v.parts.items
-    → k ≡ g
-    → Drafted v all (left_from (place_at sites) i g stmts) (drop i sites) parts stack → IsWritable (at_statement u.meanings) (stood k stmt s) s u.parts.items
-writable_at v u all i g k stmts stmt sites s parts stack within is site at same there p =
-    subst (λ (h : Segment). IsWritable (at_statement u.meanings) (stood h stmt s) s u.parts.items) (sym there)
-    (writable_here v u all (left_from (place_at sites) (i + 1) (segment_after g (action_tree stmt.action)) stmts) (stood g stmt s) s (drop (i + 1) sites) parts stack at same
-    (fronts v all i g stmts stmt sites s parts stack within is site p))
+pub turn_of : (stmts : List Stmt) (sites : List Site) (ps : List Made) (i n : ℕ) (stmt : Stmt) (s : Site) (p : Made)
+    → stmt ≡ get_or stmts i stmt → slice_get sites i ≡ Some s → length ps ≡ length stmts → i ≡ n → (n < length ps) × (p ≡ get_or ps n p)
+    → IsTurn stmts sites ps i stmt s p
+turn_of stmts sites ps i n stmt s p is site each index turn = record {
+  within = omega (arith, turn.0, index, each);
+  statement = is;
+  site = site;
+  some = omega (arith, turn.0, index);
+  put = turn.1 ∙ ap (λ (k : ℕ). get_or ps k p) (sym index);
+}
 
-pub passes_at : (v u w : Drafting) (all : List Located) (i : ℕ) (g h k : Segment) (stmts : List Stmt) (stmt : Stmt) (sites : List Site) (s : Site) (parts : List Tape) (stack : ℕ)
-    → i < length stmts → stmt ≡ get_or stmts i stmt → slice_get sites i ≡ Some s → h ≡ segment_after g (action_tree stmt.action)
-    → ((before : List Located) → IsBehind v.meanings all before → IsAt u.meanings all before (stood g stmt s))
-    → u.parts.items ≡ v.parts.items → u.stack ≡ v.stack
-    → ((before : List Located) (l : Located) → IsAt u.meanings all before l → l.action ≡ action_tree stmt.action → IsBehind w.meanings all (l ∷ before))
-    → k ≡ g
-    → w.parts.items ≡ parts_after (at_statement u.meanings) (stood k stmt s) s u.parts.items
-    → w.stack ≡ stack_after (at_statement u.meanings) u.stack (action_tree stmt.action)
-    → Drafted v all (left_from (place_at sites) i g stmts) (drop i sites) parts stack
-    → Drafted w all (left_from (place_at sites) (i + 1) h stmts) (drop (i + 1) sites) parts stack
-passes_at v u w all i g h k stmts stmt sites s parts stack within is site moved at same_parts same_stack behind there new_parts new_stack p =
-    subst (λ (f : Segment). Drafted w all (left_from (place_at sites) (i + 1) f stmts) (drop (i + 1) sites) parts stack) (sym moved)
-    (passes v u w all (left_from (place_at sites) (i + 1) (segment_after g (action_tree stmt.action)) stmts) (stood g stmt s) s (drop (i + 1) sites) parts stack
-    at same_parts same_stack (λ before here. behind before (stood g stmt s) here refl)
-    (new_parts ∙ ap (λ (f : Segment). parts_after (at_statement u.meanings) (stood f stmt s) s u.parts.items) there) new_stack
-    (fronts v all i g stmts stmt sites s parts stack within is site p))
+fronts : (v : Drafting) (all : List Located) (g : Segment) (stmts : List Stmt) (sites : List Site) (ps : List Made) (i : ℕ) (stmt : Stmt) (s : Site) (p : Made) (parts : List Tape)
+    → IsTurn stmts sites ps i stmt s p
+    → Drafted v all (left_from (place_at sites) i g stmts) (drop i sites) (drop i ps) parts
+    → Drafted v all (stood g stmt s ∷ left_from (place_at sites) (i + 1) (segment_after g (action_tree stmt.action)) stmts) (s ∷ drop (i + 1) sites) (p ∷ drop (i + 1) ps) parts
+fronts v all g stmts sites ps i stmt s p parts t d =
+    subst (λ (ls : List Located). Drafted v all ls (s ∷ drop (i + 1) sites) (p ∷ drop (i + 1) ps) parts) (statement_front sites i g stmts stmt s t.within t.statement t.site)
+    (subst (λ (ss : List Site). Drafted v all (left_from (place_at sites) i g stmts) ss (p ∷ drop (i + 1) ps) parts) (site_front sites i s t.site)
+    (subst (λ (qs : List Made). Drafted v all (left_from (place_at sites) i g stmts) (drop i sites) qs parts) (front ps i p t.some t.put) d))
+
+pub writable_at : (v : Drafting) (all : List Located) (g : Segment) (stmts : List Stmt) (sites : List Site) (ps : List Made) (i : ℕ) (stmt : Stmt) (s : Site) (p : Made) (parts : List Tape)
+    → IsTurn stmts sites ps i stmt s p
+    → Drafted v all (left_from (place_at sites) i g stmts) (drop i sites) (drop i ps) parts → IsWritable (seen_put p) (stood g stmt s) s v.parts.items
+writable_at v all g stmts sites ps i stmt s p parts t d =
+    writable_here v all (left_from (place_at sites) (i + 1) (segment_after g (action_tree stmt.action)) stmts) (stood g stmt s) s (drop (i + 1) sites) p (drop (i + 1) ps) parts
+    (fronts v all g stmts sites ps i stmt s p parts t d)
+
+pub passes_at : (v w : Drafting) (all : List Located) (g h : Segment) (stmts : List Stmt) (sites : List Site) (ps : List Made) (i : ℕ) (stmt : Stmt) (s : Site) (p : Made) (parts : List Tape)
+    → IsTurn stmts sites ps i stmt s p → h ≡ segment_after g (action_tree stmt.action)
+    → w.parts.items ≡ parts_with (seen_put p) (stood g stmt s) s v.parts.items
+    → Drafted v all (left_from (place_at sites) i g stmts) (drop i sites) (drop i ps) parts
+    → Drafted w all (left_from (place_at sites) (i + 1) h stmts) (drop (i + 1) sites) (drop (i + 1) ps) parts
+passes_at v w all g h stmts sites ps i stmt s p parts t moved new d =
+    subst (λ (f : Segment). Drafted w all (left_from (place_at sites) (i + 1) f stmts) (drop (i + 1) sites) (drop (i + 1) ps) parts) (sym moved)
+    (passes v w all (left_from (place_at sites) (i + 1) (segment_after g (action_tree stmt.action)) stmts) (stood g stmt s) s (drop (i + 1) sites) p (drop (i + 1) ps) parts new
+    (fronts v all g stmts sites ps i stmt s p parts t d))
 
 -- ---- behind the last statement
 
@@ -143,14 +146,8 @@ no_more_statements : (sites : List Site) (i : ℕ) (g : Segment) (stmts : List S
 unfolding located_from
 no_more_statements sites i g stmts past = ap (located_from (λ i g. value_at g (place_at sites i)) i g) (drop_all i stmts past)
 
-pub written_all : (w : Drafting) (all : List Located) (i : ℕ) (g : Segment) (stmts : List Stmt) (sites ss : List Site) (parts : List Tape) (stack : ℕ) → length stmts ≤ i
-    → Drafted w all (left_from (place_at sites) i g stmts) ss parts stack → w.parts.items ≡ parts
-written_all w all i g stmts sites ss parts stack past p =
-    sym (none_written all p.before ss w.parts.items)
-    ∙ ap (λ (ls : List Located). parts_from all p.before ls ss w.parts.items) (sym (no_more_statements sites i g stmts past)) ∙ p.written
-
-pub summed_all : (w : Drafting) (all : List Located) (i : ℕ) (g : Segment) (stmts : List Stmt) (sites ss : List Site) (parts : List Tape) (stack : ℕ) → length stmts ≤ i
-    → Drafted w all (left_from (place_at sites) i g stmts) ss parts stack → w.stack ≡ stack
-summed_all w all i g stmts sites ss parts stack past p =
-    sym (none_summed all p.before w.stack)
-    ∙ ap (stack_from all w.stack p.before) (sym (no_more_statements sites i g stmts past)) ∙ p.summed
+pub written_all : (w : Drafting) (all : List Located) (i : ℕ) (g : Segment) (stmts : List Stmt) (sites ss : List Site) (ps : List Made) (parts : List Tape) → length stmts ≤ i
+    → Drafted w all (left_from (place_at sites) i g stmts) ss ps parts → w.parts.items ≡ parts
+written_all w all i g stmts sites ss ps parts past d =
+    sym (none_written all d.before ss w.parts.items)
+    ∙ ap (λ (ls : List Located). parts_from all d.before ls ss w.parts.items) (sym (no_more_statements sites i g stmts past)) ∙ d.written

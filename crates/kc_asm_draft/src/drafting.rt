@@ -1,12 +1,12 @@
 //! The walk over the statements that writes a draft.
 
-ghost use Rattle.std.specs.Prelude.{◌≡◌, ◌≤◌, ◌<◌, ◌+◌, ◌^◌, List, [], ◌∷◌, None, length, IfOk, OnOk};
+ghost use Rattle.std.specs.Prelude.{◌≡◌, ◌≤◌, ◌<◌, ◌+◌, ◌^◌, [], None, map, length, IfOk, OnOk};
 ghost use Rattle.kc_source_statement.specs.Trees.{action_tree};
-ghost use Rattle.kc_asm_symbols.specs.Located.{Located, located, first_segment, segment_after};
+ghost use Rattle.kc_asm_symbols.specs.Located.{located, first_segment, segment_after};
 ghost use Rattle.kc_asm_symbols.specs.Externals.{externals};
-ghost use Rattle.kc_asm_symbols.specs.Walk.{at_statement, IsAt, IsBehind};
-ghost use Rattle.kc_asm_check.specs.Codes.{stack_after as following_stack};
+ghost use Rattle.kc_asm_check.specs.Checked.{seen_put, IsChecked};
 ghost use Rattle.kc_asm_check.specs.Judging.{first_fault, place_at, site_list, standing};
+ghost use Rattle.kc_asm_check.specs.Putting.{puts_from};
 ghost use Rattle.kc_asm_check.specs.Walk.{stood};
 ghost use Rattle.kc_asm_draft_laws.specs.Drafting as spec;
 ghost use Rattle.kc_asm_draft_laws.specs.Writable.{AllWritable, IsWritable};
@@ -14,78 +14,57 @@ ghost use Rattle.kc_asm_draft_laws.specs.Writable.{AllWritable, IsWritable};
 use crate::naming::name_of;
 use crate::pieces::{first_parts, pass};
 use crate::publics::publics_of;
-use kc_asm_check::{no_fault_no_codes, stack_after, value_at, values_of};
+use kc_asm_check::{Checked, Put};
 use kc_asm_draft_laws::parts_are_writable;
 use kc_asm_layout::Site;
+use kc_asm_outline::outlines_have_lengths;
 use kc_asm_piece::{Draft, Part};
-use kc_asm_symbols::{Meanings, Segment};
+use kc_asm_symbols::Segment;
 use kc_base::{NoMemory, Text};
 use kc_obj::Taken;
 use kc_source_statement::Stmt;
 use std::alloc::Global;
 
-/// What names mean and the segment at a statement, the pieces and the bytes of stack before it.
+/// The segment at a statement, and the pieces before it.
 #[derive(Drop)]
 pub(crate) struct Drafting {
-    pub meanings: Meanings,
     pub segment: Segment,
     pub parts: Vec<Part>,
-    pub stack: u64,
 }
 
 impl Drafting {
-    // Enters the next statement.
-    fn enter(&mut self, stmt: &Stmt, site: &Site)
-        ensures at { (all before : List Located) → IsBehind self.old.meanings all before → IsAt self.new.meanings all before (stood self.old.segment stmt.now site.now) }
-        ensures segment { self.new.segment ≡ self.old.segment }
-        ensures parts { self.new.parts.items ≡ self.old.parts.items }
-        ensures stack { self.new.stack ≡ self.old.stack }
-    {
-        let here = value_at(self.segment, site.place);
-        self.meanings.enter(stmt, here);
-    }
-
-    // Writes the statement that it is at, and leaves it.
-    fn leave(&mut self, alloc: Global, stmt: &Stmt, site: &Site) -> Result<(), NoMemory>
-        requires writable { IsWritable (at_statement self.old.meanings) (stood self.old.segment stmt.now site.now) site.now self.old.parts.items }
-        requires stack { self.old.stack + 65536 < 2 ^ 64 }
+    // Writes what the next statement puts.
+    fn write(&mut self, alloc: Global, stmt: &Stmt, site: &Site, what: &Put) -> Result<(), NoMemory>
+        requires writable { IsWritable (seen_put what.now) (stood self.old.segment stmt.now site.now) site.now self.old.parts.items }
         requires pieces { self.old.segment.count + 1 < 2 ^ 64 }
-        ensures behind { OnOk result ((all before : List Located) (l : Located) → IsAt self.old.meanings all before l → l.action ≡ action_tree stmt.now.action → IsBehind self.new.meanings all (l ∷ before)) }
-        ensures parts { OnOk result (self.new.parts.items ≡ spec.parts_after (at_statement self.old.meanings) (stood self.old.segment stmt.now site.now) site.now self.old.parts.items) }
-        ensures stack { OnOk result (self.new.stack ≡ following_stack (at_statement self.old.meanings) self.old.stack (action_tree stmt.now.action)) }
+        ensures parts { OnOk result (self.new.parts.items ≡ spec.parts_with (seen_put what.now) (stood self.old.segment stmt.now site.now) site.now self.old.parts.items) }
         ensures segment { OnOk result (self.new.segment ≡ segment_after self.old.segment (action_tree stmt.now.action)) }
-        ensures few { OnOk result (self.new.stack ≤ self.old.stack + 65535) }
     {
-        pass(
-            alloc,
-            &mut self.parts,
-            self.segment,
-            stmt,
-            site,
-            &self.meanings,
-        )?;
-        self.stack = stack_after(self.stack, &stmt.action, &self.meanings);
+        pass(alloc, &mut self.parts, self.segment, stmt, site, what)?;
         self.segment = self.segment.after(&stmt.action);
-        self.meanings.leave(alloc, stmt)?;
         Ok(())
     }
 
-    // Writes all statements, from before the first of them, where each has its site.
-    fn write_all(&mut self, alloc: Global, stmts: &[Stmt], sites: &[Site]) -> Result<(), NoMemory>
+    // Writes what all statements put, from before the first of them, where each has its site. What is written is freed.
+    fn write_all(
+        &mut self,
+        alloc: Global,
+        stmts: &[Stmt],
+        sites: &[Site],
+        puts: Vec<Put>,
+    ) -> Result<(), NoMemory>
         requires count { length stmts.now ≤ 65536 }
         requires each { length stmts.now ≤ length sites.now }
+        requires each_put { length puts.items ≡ length stmts.now }
         requires segment { self.old.segment ≡ first_segment }
-        requires stack { self.old.stack ≡ 0 }
-        requires behind { IsBehind self.old.meanings (located (place_at sites.now) stmts.now) [] }
+        requires puts { map seen_put puts.items ≡ puts_from (located (place_at sites.now) stmts.now) [] (located (place_at sites.now) stmts.now) sites.now }
         requires writable { AllWritable (located (place_at sites.now) stmts.now) [] (located (place_at sites.now) stmts.now) sites.now self.old.parts.items }
-        ensures parts { OnOk result (self.new.parts.items ≡ spec.parts_from (located (place_at sites.now) stmts.now) [] (located (place_at sites.now) stmts.now) sites.now self.old.parts.items) }
-        ensures stack { OnOk result (self.new.stack ≡ spec.stack_from (located (place_at sites.now) stmts.now) 0 [] (located (place_at sites.now) stmts.now)) }
+        ensures { OnOk result (self.new.parts.items ≡ spec.parts_from (located (place_at sites.now) stmts.now) [] (located (place_at sites.now) stmts.now) sites.now self.old.parts.items) }
     {
-        for i in 0..stmts.len() {
-            let stmt = &stmts[i];
-            let site = &sites[i];
-            self.enter(stmt, site);
-            self.leave(alloc, stmt, site)?;
+        let mut i = 0;
+        for what in puts {
+            self.write(alloc, &stmts[i], &sites[i], &what)?;
+            i += 1;
         }
         Ok(())
     }
@@ -97,31 +76,33 @@ fn drafted(
     stmts: &[Stmt],
     sites: &[Site],
     taken: Vec<Taken>,
+    checked: Checked,
 ) -> Result<Draft, NoMemory>
     requires count { length stmts.now ≤ 65536 }
     requires sites { sites.now ≡ site_list stmts.now }
     requires taken { taken.items ≡ externals (standing stmts.now) }
-    requires few { length taken.items ≤ 65536 }
+    requires checked { IsChecked stmts.now checked }
     requires writable { AllWritable (standing stmts.now) [] (standing stmts.now) (site_list stmts.now) spec.first_parts }
-    requires stack { spec.stack_from (standing stmts.now) 0 [] (standing stmts.now) ≤ 65535 }
     ensures { IfOk result (λ d. spec.IsDraftOf stmts.now d) }
 {
-    let values = values_of(alloc, stmts, sites)?;
-    let meanings = Meanings::new(alloc, stmts, &values, &taken)?;
+    outlines_have_lengths();
+    let Checked {
+        puts,
+        stack,
+        meanings,
+    } = checked;
     let name = Text::of(alloc, name_of(stmts))?;
     let publics = publics_of(alloc, stmts, &meanings)?;
     let mut drafting = Drafting {
-        meanings,
         segment: Segment::first(),
         parts: first_parts(alloc)?,
-        stack: 0,
     };
-    drafting.write_all(alloc, stmts, sites)?;
-    let Drafting { parts, stack, .. } = drafting;
+    drafting.write_all(alloc, stmts, sites, puts)?;
+    let Drafting { parts, .. } = drafting;
     Ok(Draft {
         name,
         parts,
-        stack: stack as u16,
+        stack,
         externals: taken,
         publics,
     })
@@ -130,10 +111,10 @@ fn drafted(
 /// The draft of a module whose statements have no fault, at most 65,536 of them: the bytes that they write, its name, its
 /// stack in bytes, and its external and public names.
 ///
-/// `sites` tells where each statement stands, as the layout of their outline does, and `taken` the externals in order, which
-/// become those of the draft. In code FFH stands where a statement leads on to an even place; elsewhere nothing stands
-/// there. A name that PUBLIC gives more than once stands once. (MCS-96 Macro Assembler User's Guide, "Assembler
-/// Directives".)
+/// `sites` tells where each statement stands, as the layout of their outline does, `taken` the externals in order, which
+/// become those of the draft, and `checked` what their check hands on: it is freed as it is written. In code FFH stands where
+/// a statement leads on to an even place; elsewhere nothing stands there. A name that PUBLIC gives more than once stands
+/// once. (MCS-96 Macro Assembler User's Guide, "Assembler Directives".)
 ///
 /// `NoMemory`: memory ran out. That is the only error.
 pub fn draft(
@@ -141,15 +122,15 @@ pub fn draft(
     stmts: &[Stmt],
     sites: &[Site],
     taken: Vec<Taken>,
+    checked: Checked,
 ) -> Result<Draft, NoMemory>
     requires count { length stmts.now ≤ 65536 }
     requires sites { sites.now ≡ site_list stmts.now }
     requires taken { taken.items ≡ externals (standing stmts.now) }
-    requires few { length taken.items ≤ 65536 }
     requires sound { first_fault stmts.now ≡ None }
+    requires checked { IsChecked stmts.now checked }
     ensures { IfOk result (λ d. spec.IsDraftOf stmts.now d) }
 {
-    no_fault_no_codes();
     parts_are_writable();
-    drafted(alloc, stmts, sites, taken)
+    drafted(alloc, stmts, sites, taken, checked)
 }

@@ -2,18 +2,17 @@
 
 ghost use Rattle.std.specs.Prelude.{◌≡◌, IfOk, OnOk};
 ghost use Rattle.kc_source_statement.specs.Trees.{action_tree};
-ghost use Rattle.kc_asm_outline.specs.Outline.{opens as opened};
+ghost use Rattle.kc_asm_check.specs.Checked.{seen_put};
 ghost use Rattle.kc_asm_check.specs.Walk.{stood};
 ghost use Rattle.kc_asm_draft_laws.specs.Drafting as spec;
 ghost use Rattle.kc_asm_draft_laws.specs.Writable.{IsWritable};
 
 use crate::writing::write;
+use kc_asm_check::Put;
 use kc_asm_layout::Site;
-use kc_asm_outline::opens;
 use kc_asm_piece::Part;
 use kc_asm_symbols::Segment;
 use kc_base::NoMemory;
-use kc_expr::Scope;
 use kc_obj::SegKind;
 use kc_source_statement::{Action, Stmt};
 use std::alloc::Global;
@@ -41,34 +40,40 @@ fn kind_opened(action: &Action) -> SegKind
     }
 }
 
-// The absolute piece that a statement opens, if it opens one.
-fn open<S: Scope>(
+// The absolute piece that a statement opens at an address, if it opens one.
+fn open(
     alloc: Global,
     parts: &mut Vec<Part>,
-    action: &Action,
-    scope: &S,
+    kind: SegKind,
+    opens: Option<u16>,
 ) -> Result<(), NoMemory>
-    ensures { OnOk result (parts.new.items ≡ spec.with_opened (spec.kind_opened (action_tree action.now)) (opened (S.answers scope.now) (action_tree action.now)) parts.old.items) }
+    ensures { OnOk result (parts.new.items ≡ spec.with_opened kind opens parts.old.items) }
 {
-    if let Some(address) = opens(action, scope) {
-        parts.push(Part::new(alloc, kind_opened(action), Some(address)))?;
+    if let Some(address) = opens {
+        parts.push(Part::new(alloc, kind, Some(address)))?;
     }
     Ok(())
 }
 
-/// The pieces behind a statement in a segment at its site, over what names mean there.
-pub(crate) fn pass<S: Scope>(
+/// The pieces behind a statement in a segment at its site, which puts this.
+pub(crate) fn pass(
     alloc: Global,
     parts: &mut Vec<Part>,
     segment: Segment,
     stmt: &Stmt,
     site: &Site,
-    scope: &S,
+    what: &Put,
 ) -> Result<(), NoMemory>
-    requires { IsWritable (S.answers scope.now) (stood segment stmt.now site.now) site.now parts.old.items }
-    ensures { OnOk result (parts.new.items ≡ spec.parts_after (S.answers scope.now) (stood segment stmt.now site.now) site.now parts.old.items) }
+    requires { IsWritable (seen_put what.now) (stood segment stmt.now site.now) site.now parts.old.items }
+    ensures { OnOk result (parts.new.items ≡ spec.parts_with (seen_put what.now) (stood segment stmt.now site.now) site.now parts.old.items) }
 {
-    write(alloc, &mut parts[segment.piece], segment, stmt, site, scope)?;
-    open(alloc, parts, &stmt.action, scope)?;
+    write(
+        &mut parts[segment.piece],
+        segment,
+        stmt,
+        site,
+        &what.content,
+    )?;
+    open(alloc, parts, kind_opened(&stmt.action), what.opens)?;
     Ok(())
 }

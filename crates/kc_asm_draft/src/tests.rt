@@ -5,7 +5,7 @@ use kc_asm_check::judge;
 use kc_asm_layout::layout;
 use kc_asm_outline::outline;
 use kc_asm_piece::{Draft, Part};
-use kc_asm_symbols::externals;
+use kc_asm_symbols::{Names, externals};
 use kc_base::NoMemory;
 use kc_expr::{Base, Tag, Value};
 use kc_lex::lines;
@@ -130,10 +130,11 @@ fn draft_of(alloc: Global, source: &str) -> Option<Draft> {
     if stmts.len() > 65536 || taken.len() > 65536 {
         return None;
     }
-    let notes = outline(alloc, &stmts, &taken).ok()?;
+    let names = Names::new(alloc, &stmts, &taken).ok()?;
+    let notes = outline(alloc, &stmts, &names).ok()?;
     let sites = layout(alloc, &notes).ok()?;
-    match judge(alloc, &stmts, &sites, &taken) {
-        Ok(None) => draft(alloc, &stmts, &sites, taken).ok(),
+    match judge(alloc, &stmts, &sites, &names) {
+        Ok(Ok(checked)) => draft(alloc, &stmts, &sites, taken, checked).ok(),
         _ => None,
     }
 }

@@ -5,19 +5,16 @@ ghost use Rattle.kc_asm_emission.specs.Seen.{seen};
 ghost use Rattle.kc_asm_check.specs.Walk.{stood};
 ghost use Rattle.kc_asm_draft_laws.specs.Drafting as spec;
 ghost use Rattle.kc_asm_draft_laws.specs.Writable.{HasRoom};
-ghost use Rattle.kc_asm_draft.specs.Writing.{StatementFits};
+ghost use Rattle.kc_asm_draft.specs.Writing.{ContentFits};
 
 use kc_asm_bytes::Octet;
-use kc_asm_check::value_at;
-use kc_asm_emission::{Content, content_of};
+use kc_asm_emission::Content;
 use kc_asm_layout::Site;
 use kc_asm_piece::Part;
 use kc_asm_symbols::Segment;
 use kc_base::NoMemory;
-use kc_expr::Scope;
 use kc_obj::SegKind;
 use kc_source_statement::Stmt;
-use std::alloc::Global;
 
 /// What stands in code where nothing else does.
 const FILLING: u8 = 0xFF;
@@ -75,21 +72,18 @@ fn put(
     }
 }
 
-/// Writes a statement in a segment at its site, at the end of its piece, over what names mean there.
-pub(crate) fn write<S: Scope>(
-    alloc: Global,
+/// Writes the content of a statement in a segment at its site, at the end of its piece.
+pub(crate) fn write(
     part: &mut Part,
     segment: Segment,
     stmt: &Stmt,
     site: &Site,
-    scope: &S,
+    content: &Content,
 ) -> Result<(), NoMemory>
-    requires { StatementFits (S.answers scope.now) (stood segment stmt.now site.now) site.now part.old.length }
-    ensures { OnOk result (part.new ≡ spec.tape_after (S.answers scope.now) (stood segment stmt.now site.now) site.now part.old) }
+    requires { ContentFits (seen content.now) site.now part.old.length }
+    ensures { OnOk result (part.new ≡ spec.tape_with (seen content.now) (stood segment stmt.now site.now) site.now part.old) }
 {
-    let here = value_at(segment, site.place);
-    let content = content_of(alloc, &stmt.action, site.form, here, scope)?;
     lead(part, segment.kind, site.place - site.before)?;
-    put(part, stmt.line, segment.kind, site.place, &content)?;
+    put(part, stmt.line, segment.kind, site.place, content)?;
     Ok(())
 }

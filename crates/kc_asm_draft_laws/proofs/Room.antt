@@ -10,6 +10,7 @@ use Rattle.kc_asm_check.specs.Codes.{Regions, regions_after, stack_after}
 use Rattle.kc_asm_check.specs.Judging.{standing, site_list}
 use Rattle.kc_asm_check.specs.Codes.{first_regions}
 use Rattle.kc_asm_check.specs.Laws.{SoundStatements}
+use Rattle.kc_asm_check.specs.Putting.{put_of}
 use Rattle.kc_asm_draft_laws.specs.Drafting.{parts_after, first_parts}
 use Rattle.kc_asm_draft_laws.specs.Writable.{IsWritable, AllWritable, PartsAreWritable}
 use Rattle.kc_asm_draft_laws.proofs.Standing.{Fits, fits}
@@ -19,7 +20,7 @@ pub step_fits : (all before : List Located) (regions : Regions) (sum : ℕ) (l :
     → Fits (content (meaning all before l) s.form l.here l.action) s h.t
 step_fits all before regions sum l s parts h = fits (meaning all before l) (in_all all) regions sum l s h.t h.stands h.faultless
 
-writable : (all before : List Located) (regions : Regions) (sum : ℕ) (l : Located) (s : Site) (parts : List Tape) → IsStep all before regions sum l s parts → IsWritable (meaning all before l) l s parts
+writable : (all before : List Located) (regions : Regions) (sum : ℕ) (l : Located) (s : Site) (parts : List Tape) → IsStep all before regions sum l s parts → IsWritable (put_of (meaning all before l) l s) l s parts
 writable all before regions sum l s parts h =
     let f = step_fits all before regions sum l s parts h in
     record { t = h.t; part = h.part; kind = h.stands.kind; forward = f.forward; gap = f.gap; room = f.room }

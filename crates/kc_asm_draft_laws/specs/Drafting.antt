@@ -17,10 +17,9 @@ use Rattle.kc_asm_piece.specs.declared.draft.Public.{Public as Given}
 use Rattle.kc_asm_piece.specs.Tape.{Tape, blank, laid, skipped, written}
 use Rattle.kc_asm_emission.specs.Arguments.{Look}
 use Rattle.kc_asm_emission.specs.Content.{Content, Nothing, Octets, Reserved, Upto, Even, content}
-use Rattle.kc_asm_outline.specs.Outline.{opens}
 use Rattle.kc_asm_layout.specs.declared.site.Site.{Site}
-use Rattle.kc_asm_check.specs.Codes.{stack_after}
 use Rattle.kc_asm_check.specs.Judging.{site_list, standing}
+use Rattle.kc_asm_check.specs.Putting.{Put, put_of, stack_of}
 
 -- ---- pieces
 
@@ -37,9 +36,11 @@ put_content line kind place (Reserved n) t = skipped n t
 put_content line kind place (Upto to) t = skipped (to - place) t
 put_content line kind place Even t = led kind (place % 2) t
 
+abbrev pub tape_with : Content → Located → Site → Tape → Tape
+tape_with c l s t = put_content l.line l.segment.kind s.place c (led l.segment.kind (s.place - s.before) t)
+
 abbrev pub tape_after : Look → Located → Site → Tape → Tape
-tape_after look l s t =
-    put_content l.line l.segment.kind s.place (content look s.form l.here l.action) (led l.segment.kind (s.place - s.before) t)
+tape_after look l s t = tape_with (content look s.form l.here l.action) l s t
 
 abbrev pub kind_opened : ActionTree → SegKind
 kind_opened (Cseg at) = Code
@@ -54,11 +55,14 @@ with_opened kind (Some address) parts = parts ++ blank kind (Some address) ∷ [
 abbrev pub first_tape : Tape
 first_tape = blank Code None
 
--- the pieces behind a statement
+-- the pieces behind a statement that puts this
+abbrev pub parts_with : Put → Located → Site → List Tape → List Tape
+parts_with p l s parts =
+    with_opened (kind_opened l.action) p.opens
+    (slice_set parts l.segment.piece (tape_with p.content l s (unwrap_or (slice_get parts l.segment.piece) first_tape)))
+
 abbrev pub parts_after : Look → Located → Site → List Tape → List Tape
-parts_after look l s parts =
-    with_opened (kind_opened l.action) (opens look l.action)
-    (slice_set parts l.segment.piece (tape_after look l s (unwrap_or (slice_get parts l.segment.piece) first_tape)))
+parts_after look l s parts = parts_with (put_of look l s) l s parts
 
 unfoldable pub parts_from : List Located → List Located → List Located → List Site → List Tape → List Tape
 parts_from all before [] ss parts = parts
@@ -69,11 +73,7 @@ parts_from all before (l ∷ ls) (s ∷ ss) parts =
 abbrev pub first_parts : List Tape
 first_parts = blank Reg None ∷ blank Code None ∷ blank Ram None ∷ []
 
--- ---- the stack, the name, public names
-
-unfoldable pub stack_from : List Located → ℕ → List Located → List Located → ℕ
-stack_from all sum before [] = sum
-stack_from all sum before (l ∷ ls) = stack_from all (stack_after (meaning all before l) sum l.action) (l ∷ before) ls
+-- ---- the name, public names
 
 -- the name in MODULE, else NONAME
 abbrev pub name_or : Option (List ℕ) → List ℕ → List ℕ
@@ -115,6 +115,6 @@ publics_of last (n ∷ ns) = given_as n (last n) ++ publics_of last ns
 pub record IsDraftOf (stmts : List Stmt) (d : Draft) : Type 0 where
   pub name : d.name ≡ name_of (standing stmts)
   pub parts : d.parts.items ≡ parts_from (standing stmts) [] (standing stmts) (site_list stmts) first_parts
-  pub stack : d.stack ≡ stack_from (standing stmts) 0 [] (standing stmts)
+  pub stack : d.stack ≡ stack_of stmts
   pub externals : d.externals.items ≡ externals (standing stmts)
   pub publics : d.publics.items ≡ publics_of (in_all (standing stmts)) (distinct_from [] (all_given (standing stmts)))

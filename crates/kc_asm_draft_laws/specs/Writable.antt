@@ -4,10 +4,10 @@ use Rattle.kc_source_statement.specs.declared.statement.Stmt.{Stmt}
 use Rattle.kc_asm_symbols.specs.Located.{Located}
 use Rattle.kc_asm_symbols.specs.Meanings.{meaning}
 use Rattle.kc_asm_piece.specs.Tape.{Tape}
-use Rattle.kc_asm_emission.specs.Arguments.{Look}
-use Rattle.kc_asm_emission.specs.Content.{Content, Nothing, Octets, Reserved, Upto, Even, content}
+use Rattle.kc_asm_emission.specs.Content.{Content, Nothing, Octets, Reserved, Upto, Even}
 use Rattle.kc_asm_layout.specs.declared.site.Site.{Site}
 use Rattle.kc_asm_check.specs.Judging.{first_fault, site_list, standing}
+use Rattle.kc_asm_check.specs.Putting.{Put, put_of}
 use Rattle.kc_asm_draft_laws.specs.Drafting.{parts_after, first_parts}
 
 -- so many bytes, behind a number of others, have room
@@ -18,20 +18,20 @@ HasRoom size (Reserved n) place = size + n ≤ 65536
 HasRoom size (Upto to) place = (place ≤ to) × (size + (to - place) ≤ 65536)
 HasRoom size Even place = size + place % 2 ≤ 65536
 
--- what a statement writes behind a piece of its kind has room there
-pub record IsWritable (look : Look) (l : Located) (s : Site) (parts : List Tape) : Type 0 where
+-- what a statement puts behind a piece of its kind has room there
+pub record IsWritable (p : Put) (l : Located) (s : Site) (parts : List Tape) : Type 0 where
   pub t : Tape
   pub part : slice_get parts l.segment.piece ≡ Some t
   pub kind : t.kind ≡ l.segment.kind
   pub forward : s.before ≤ s.place
   pub gap : t.length + (s.place - s.before) ≤ 65536
-  pub room : HasRoom (t.length + (s.place - s.before)) (content look s.form l.here l.action) s.place
+  pub room : HasRoom (t.length + (s.place - s.before)) p.content s.place
 
 abbrev pub AllWritable : List Located → List Located → List Located → List Site → List Tape → Type 0
 AllWritable all before [] ss parts = Unit {0}
 AllWritable all before (l ∷ ls) [] parts = ⊥
 AllWritable all before (l ∷ ls) (s ∷ ss) parts =
-    IsWritable (meaning all before l) l s parts × AllWritable all (l ∷ before) ls ss (parts_after (meaning all before l) l s parts)
+    IsWritable (put_of (meaning all before l) l s) l s parts × AllWritable all (l ∷ before) ls ss (parts_after (meaning all before l) l s parts)
 
 abbrev pub PartsAreWritable : Type 0
 PartsAreWritable =

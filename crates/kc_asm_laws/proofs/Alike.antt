@@ -26,7 +26,8 @@ use Rattle.kc_asm_outline.specs.declared.note.Note.{Note}
 use Rattle.kc_asm_layout.specs.declared.site.Site.{Site}
 use Rattle.kc_asm_layout.specs.Text.{layout}
 use Rattle.kc_asm_check.specs.Judging.{site_list, standing, place_at}
-use Rattle.kc_asm_draft_laws.specs.Drafting.{name_of, parts_from, first_parts, stack_from, all_given, distinct_from, publics_of, IsDraftOf}
+use Rattle.kc_asm_check.specs.Putting.{stack_from}
+use Rattle.kc_asm_draft_laws.specs.Drafting.{name_of, parts_from, first_parts, all_given, distinct_from, publics_of, IsDraftOf}
 use Rattle.kc_asm.specs.Assembled.{IsText, AreSaid}
 use Rattle.kc_asm_laws.specs.Modules.{OneModuleOfText}
 
@@ -60,7 +61,7 @@ module _ (ss ts : List Stmt) (same : map stmt_said ss ≡ map stmt_said ts) wher
   owns : located_by on_its_own ss ≡ located_by on_its_own ts
   owns = located_alike on_its_own 0 first_segment ss ts same
 
-  outline_alike : outline ss ≡ outline ts
+  pub outline_alike : outline ss ≡ outline ts
   outline_alike = λ i. notes_from (zeros i) (owns i) [] [] (zeros i) (owns i)
 
   pub sites_alike : site_list ss ≡ site_list ts

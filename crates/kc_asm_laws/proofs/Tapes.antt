@@ -29,7 +29,8 @@ use Rattle.kc_asm_layout.specs.declared.site.Site.{Site}
 use Rattle.kc_asm_check.specs.Codes.{Regions, regions_after, stack_after, branch_faults, place_faults}
 use Rattle.kc_asm_check.specs.Judging.{own_codes, put_faults}
 use Rattle.kc_asm_check.specs.Laws.{AreSound}
-use Rattle.kc_asm_draft_laws.specs.Drafting.{led, put_content, tape_after, kind_opened, with_opened, first_tape, parts_after, parts_from, first_parts, stack_from}
+use Rattle.kc_asm_check.specs.Putting.{stack_from}
+use Rattle.kc_asm_draft_laws.specs.Drafting.{led, put_content, tape_after, kind_opened, with_opened, first_tape, parts_after, parts_from, first_parts}
 use Rattle.kc_asm_draft_laws.specs.Writable.{AllWritable}
 use Rattle.kc_asm_draft_laws.proofs.Lists.{nothing_left}
 use Rattle.kc_asm_draft_laws.proofs.Faultless.{unless}

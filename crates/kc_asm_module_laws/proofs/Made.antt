@@ -15,7 +15,8 @@ use Rattle.kc_asm_symbols.specs.Located.{first_segment, segment_after, value_at,
 use Rattle.kc_asm_symbols.specs.Meanings.{in_all}
 use Rattle.kc_asm_piece.specs.declared.draft.Draft.{Draft}
 use Rattle.kc_asm_check.specs.Judging.{site_list, standing, place_at}
-use Rattle.kc_asm_draft_laws.specs.Drafting.{name_of, parts_from, first_parts, stack_from, all_given, distinct_from, publics_of, IsDraftOf}
+use Rattle.kc_asm_check.specs.Putting.{stack_from}
+use Rattle.kc_asm_draft_laws.specs.Drafting.{name_of, parts_from, first_parts, all_given, distinct_from, publics_of, IsDraftOf}
 use Rattle.kc_asm.specs.Assembled.{IsText, AreSaid}
 use Rattle.kc_asm_draft_laws.proofs.Lists.{nothing_left}
 use Rattle.kc_asm_laws.specs.Exists.{FaultlessAreRead, FaultlessHaveModules}

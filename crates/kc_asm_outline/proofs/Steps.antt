@@ -1,35 +1,18 @@
 -- A walk over the statements with all of them at 0 and with each as a base of its own, one statement at a time.
-use Rattle.std.proofs.Common.{◌≡◌, ℕ, zero, suc, ◌+◌, ◌<◌, ◌≤◌, Bool, false, ◌||◌, List, [], ◌∷◌, ◌++◌, length, drop, refl, sym, ap, subst, ◌∙◌, append_assoc, arith}
+use Rattle.std.proofs.Common.{◌≡◌, ℕ, zero, suc, ◌+◌, ◌<◌, ◌≤◌, List, [], ◌∷◌, ◌++◌, length, drop, refl, sym, ap, subst, ◌∙◌, append_assoc, arith}
 use Rattle.std.proofs.lemmas.List.{append-nil}
 use Rattle.std.proofs.Math.ListN.{drop_of_length-le}
-use Rattle.kc_obj.specs.declared.parts.Taken.{Taken}
 use Rattle.kc_expr.specs.declared.values.Value.{Value}
 use Rattle.kc_source_statement.specs.declared.statement.Stmt.{Stmt}
 use Rattle.kc_source_statement.specs.Trees.{action_tree}
 use Rattle.kc_asm_symbols.specs.declared.meanings.Meanings.{Meanings}
 use Rattle.kc_asm_symbols.specs.declared.segments.Segment.{Segment}
-use Rattle.kc_asm_symbols.specs.Externals.{declared, externals, externals_from, statement_uses_stack}
-use Rattle.kc_asm_symbols.specs.Located.{Located, located_by, located_from, located_at, listed, place_values, segment_after, first_segment}
+use Rattle.kc_asm_symbols.specs.Located.{Located, located_by, located_from, located_at, place_values, segment_after, first_segment}
 use Rattle.kc_asm_symbols.specs.Meanings.{meaning}
 use Rattle.kc_asm_symbols.specs.Walk.{IsBehind, IsAt, at_statement}
-use Rattle.kc_asm_symbols.proofs.ExternalLemmas.{one_declared, none_declared}
-use Rattle.kc_asm_symbols.proofs.ValueLemmas.{value_more, located_listed}
+use Rattle.kc_asm_symbols.proofs.ValueLemmas.{value_more}
 use Rattle.kc_asm_outline.specs.declared.note.Note.{Note}
 use Rattle.kc_asm_outline.specs.Outline.{at_zero, on_its_own, note_of, notes_from, outline}
-
--- ---- externals do not depend on where statements stand
-
-externals_stay_from : (values others : ℕ → Segment → Value) (i : ℕ) (g : Segment) (used : Bool) (ss : List Stmt)
-    → externals_from used (located_from values i g ss) ≡ externals_from used (located_from others i g ss)
-externals_stay_from values others i g used [] = none_declared values i g used ∙ sym (none_declared others i g used)
-externals_stay_from values others i g used (s ∷ ss) =
-    let a = action_tree s.action in
-    one_declared values i g used s ss
-    ∙ ap (λ rest. declared used g.kind a ++ rest) (externals_stay_from values others (i + 1) (segment_after g a) (used || statement_uses_stack a) ss)
-    ∙ sym (one_declared others i g used s ss)
-
-pub externals_stay : (values others : ℕ → Segment → Value) (ss : List Stmt) → externals (located_by values ss) ≡ externals (located_by others ss)
-externals_stay values others ss = externals_stay_from values others 0 first_segment false ss
 
 -- ---- the values of own places
 
@@ -142,11 +125,6 @@ walk_more look looking looked own owning owned notes more n i g h stmts rest s v
       so_far = note_more zeros owns walked.before walked.passed notes more i g h s rest n (outline stmts) moved grown
           (is ∙ (λ j. note_of (at_l.means j) (at_m.means j) (located_at g (zero_at j) s))) walked.so_far;
     }
-
--- the externals of the module, by a list of the values of places
-pub taken_listed : (at : ℕ → Segment → Value) (vs : List Value) (ss : List Stmt) (ts : List Taken) → ts ≡ externals (located_by at_zero ss) → length vs ≡ length ss
-    → vs ≡ place_values (located_by at ss) → ts ≡ externals (located_by (listed vs) ss)
-taken_listed at vs ss ts taken long same = taken ∙ externals_stay at_zero at ss ∙ ap externals (sym (located_listed at vs ss long (sym same)))
 
 pub walk_ends : (look own : Meanings) (notes : List Note) (i : ℕ) (g : Segment) (stmts : List Stmt) → length stmts ≤ i → Walked look own notes i g stmts (drop i stmts) → notes ≡ outline stmts
 walk_ends look own notes i g stmts past w =

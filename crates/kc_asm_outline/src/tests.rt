@@ -1,5 +1,5 @@
 use super::*;
-use kc_asm_symbols::{Segment, externals};
+use kc_asm_symbols::{Names, Segment, externals};
 use kc_base::NoMemory;
 use kc_branch::BranchKind;
 use kc_lex::lines;
@@ -274,7 +274,8 @@ fn notes(alloc: Global) -> Option<Vec<Note>> {
     if stmts.len() > 65536 || taken.len() > 65536 {
         return None;
     }
-    outline(alloc, &stmts, &taken).ok()
+    let names = Names::new(alloc, &stmts, &taken).ok()?;
+    outline(alloc, &stmts, &names).ok()
 }
 
 #[test]

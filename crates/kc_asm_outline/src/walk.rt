@@ -1,15 +1,14 @@
 ghost use Rattle.std.specs.Prelude.{◌≡◌, ◌<◌, ◌≤◌, ◌^◌, ℕ, length, IfOk};
 ghost use Rattle.kc_asm_symbols.specs.declared.segments.Segment.{Segment as SegmentOf};
 ghost use Rattle.kc_asm_symbols.specs.Located.{located_by, place_values};
-ghost use Rattle.kc_asm_symbols.specs.Externals.{externals};
+ghost use Rattle.kc_asm_symbols.specs.Walk.{AreNamesOf};
 ghost use Rattle.kc_asm_outline.specs.Outline as spec;
 
 use crate::note::Note;
 use crate::notes::note_of;
-use kc_asm_symbols::{Meanings, Segment};
+use kc_asm_symbols::{Meanings, Names, Segment};
 use kc_base::NoMemory;
 use kc_expr::{Base, Tag, Value};
-use kc_obj::Taken;
 use kc_source_statement::Stmt;
 use std::alloc::Global;
 
@@ -53,20 +52,19 @@ fn owns(alloc: Global, stmts: &[Stmt]) -> Result<Vec<Value>, NoMemory>
     Ok(values)
 }
 
-/// The outline of a module: a note for each of its statements, of which there are at most 65,536, where `taken` are its
-/// externals. It is the same wherever the statements stand. (MCS-96 Macro Assembler User's Guide, "Segments and the
+/// The outline of a module: a note for each of its statements, of which there are at most 65,536, where `names` are its
+/// names. It is the same wherever the statements stand. (MCS-96 Macro Assembler User's Guide, "Segments and the
 /// Location Counter" and "Generic Branches".)
-pub fn outline(alloc: Global, stmts: &[Stmt], taken: &[Taken]) -> Result<Vec<Note>, NoMemory>
+pub fn outline(alloc: Global, stmts: &[Stmt], names: &Names) -> Result<Vec<Note>, NoMemory>
     requires statements { length stmts.now ≤ 65536 }
-    requires taken { taken.now ≡ externals (located_by spec.at_zero stmts.now) }
-    requires few { length taken.now ≤ 65536 }
+    requires names { AreNamesOf names.now stmts.now }
     ensures notes { IfOk result (λ v. v.items ≡ spec.outline stmts.now) }
     ensures count { IfOk result (λ v. length v.items ≡ length stmts.now) }
 {
     let at_zero = zeros(alloc, stmts)?;
     let on_their_own = owns(alloc, stmts)?;
-    let mut look = Meanings::new(alloc, stmts, at_zero.as_slice(), taken)?;
-    let mut own = Meanings::new(alloc, stmts, on_their_own.as_slice(), taken)?;
+    let mut look = Meanings::new(alloc, names, stmts, at_zero.as_slice())?;
+    let mut own = Meanings::new(alloc, names, stmts, on_their_own.as_slice())?;
     let mut notes = Vec::new(alloc);
     let mut segment = Segment::first();
     for i in 0..stmts.len() {

@@ -1,5 +1,5 @@
 -- The values of places of statements, one statement at a time, and by a list of them.
-use Rattle.std.proofs.Common.{◌≡◌, ℕ, zero, suc, ◌+◌, ◌<◌, ◌≤◌, List, [], ◌∷◌, ◌++◌, length, drop, get_or, refl, sym, ap, ◌∙◌, append_assoc, arith}
+use Rattle.std.proofs.Common.{◌≡◌, ℕ, zero, suc, ◌+◌, ◌<◌, ◌≤◌, List, [], ◌∷◌, ◌++◌, length, map, drop, get_or, refl, sym, ap, ◌∙◌, append_assoc, arith}
 use Rattle.std.proofs.lemmas.List.{append-nil}
 use Rattle.std.proofs.Math.Seq.{drop-cons}
 use Rattle.std.proofs.Math.ListN.{drop_of_length-le}
@@ -15,6 +15,12 @@ pub any_default : {X : Type 0} (xs : List X) (i : ℕ) (d e : X) → i < length 
 any_default [] i d e within = absurd (omega arith)
 any_default (x ∷ xs) zero d e within = refl
 any_default (x ∷ xs) (suc i) d e within = any_default xs i d e (omega arith)
+
+-- what is made of an element that is there
+pub one_of : {X Y : Type 0} (f : X → Y) (xs : List X) (i : ℕ) (d : Y) (x : X) → i < length xs → x ≡ get_or xs i x → get_or (map f xs) i d ≡ f x
+one_of f [] i d x within is = absurd (omega arith)
+one_of f (y ∷ ys) zero d x within is = ap f (sym is)
+one_of f (y ∷ ys) (suc i) d x within is = one_of f ys i d x (omega arith) is
 
 -- ---- one statement more
 

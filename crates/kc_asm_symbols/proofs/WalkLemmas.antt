@@ -12,10 +12,10 @@ use Rattle.kc_source_statement.specs.Trees.{action_tree}
 use Rattle.kc_asm_symbols.specs.declared.earlier.Earlier.{Earlier}
 use Rattle.kc_asm_symbols.specs.declared.meanings.Meanings.{Meanings}
 use Rattle.kc_asm_symbols.specs.declared.segments.Segment.{Segment}
-use Rattle.kc_asm_symbols.specs.Tables.{answers, updated, no_name}
+use Rattle.kc_asm_symbols.specs.Tables.{answers, no_name}
 use Rattle.kc_asm_symbols.specs.Located.{Located, located_by, located_from, located_at, listed, segment_after, first_segment}
 use Rattle.kc_asm_symbols.specs.Meanings.{behind, external_answer, earlier, is_set, is_set_by, with_set, in_all, meaning, throughout, is_definition}
-use Rattle.kc_asm_symbols.specs.Walk.{at_statement, IsEarlier, IsBehind}
+use Rattle.kc_asm_symbols.specs.Walk.{at_statement, shared, IsEarlier, IsBehind}
 
 -- ---- one statement
 
@@ -32,11 +32,11 @@ one_earlier : (all before : List Located) (l : Located) → earlier all (l ∷ b
 unfolding earlier
 one_earlier all before l = refl
 
-pub goes_behind : (e f : Earlier) (all before : List Located) (l : Located) → IsEarlier e all before → answers f.taken ≡ answers e.taken
-    → answers f.latest ≡ behind (answers e.taken) l.action l.here (answers e.latest) → IsEarlier f all (l ∷ before)
-goes_behind e f all before l is taken latest =
+pub goes_behind : (e f : Earlier) (all before : List Located) (l : Located) → IsEarlier e all before → f.names ≡ e.names
+    → answers (shared f.names).numbers f.latest ≡ behind (answers (shared e.names).numbers (shared e.names).taken) l.action l.here (answers (shared e.names).numbers e.latest) → IsEarlier f all (l ∷ before)
+goes_behind e f all before l is names latest =
     record {
-      external = taken ∙ is.external;
+      external = ap (λ n. answers (shared n).numbers (shared n).taken) names ∙ is.external;
       latest = latest ∙ (λ i. behind (is.external i) l.action l.here (is.latest i)) ∙ sym (one_earlier all before l);
     }
 
@@ -58,10 +58,10 @@ starts e all is = record { before = []; is = is; whole = append_none (reverse al
 reverse_front : (l : Located) (ls before : List Located) → reverse ls ++ (l ∷ before) ≡ reverse (l ∷ ls) ++ before
 reverse_front l ls before = sym (ap (λ (xs : List Located). xs ++ before) (reverse-append (l ∷ []) ls) ∙ append_assoc (reverse ls) (l ∷ []) before)
 
-passes : (e f : Earlier) (all rest : List Located) (l : Located) → answers f.taken ≡ answers e.taken
-    → answers f.latest ≡ behind (answers e.taken) l.action l.here (answers e.latest) → Passing e all (l ∷ rest) → Passing f all rest
-passes e f all rest l taken latest p =
-    record { before = l ∷ p.before; is = goes_behind e f all p.before l p.is taken latest; whole = reverse_front l rest p.before ∙ p.whole }
+passes : (e f : Earlier) (all rest : List Located) (l : Located) → f.names ≡ e.names
+    → answers (shared f.names).numbers f.latest ≡ behind (answers (shared e.names).numbers (shared e.names).taken) l.action l.here (answers (shared e.names).numbers e.latest) → Passing e all (l ∷ rest) → Passing f all rest
+passes e f all rest l names latest p =
+    record { before = l ∷ p.before; is = goes_behind e f all p.before l p.is names latest; whole = reverse_front l rest p.before ∙ p.whole }
 
 no_rest : (e : Earlier) (all : List Located) → Passing e all [] → IsEarlier e all (reverse all)
 no_rest e all p = subst (λ (ls : List Located). IsEarlier e all ls) p.whole p.is
@@ -74,15 +74,15 @@ pub record Walking (e : Earlier) (vs : List Value) (all : List Located) (i : ℕ
 pub walk_starts : (e : Earlier) (vs : List Value) (ss : List Stmt) → IsEarlier e (located_by (listed vs) ss) [] → Walking e vs (located_by (listed vs) ss) 0 ss
 walk_starts e vs ss is = record { segment = first_segment; passing = starts e (located_by (listed vs) ss) is }
 
-pub walks : (e f : Earlier) (vs : List Value) (all : List Located) (i : ℕ) (v : Value) (s : Stmt) (ss : List Stmt) → v ≡ get_or vs i (plain 0) → answers f.taken ≡ answers e.taken
-    → answers f.latest ≡ behind (answers e.taken) (action_tree s.action) v (answers e.latest) → Walking e vs all i (s ∷ ss) → Walking f vs all (i + 1) ss
-walks e f vs all i v s ss value taken latest w =
+pub walks : (e f : Earlier) (vs : List Value) (all : List Located) (i : ℕ) (v : Value) (s : Stmt) (ss : List Stmt) → v ≡ get_or vs i (plain 0) → f.names ≡ e.names
+    → answers (shared f.names).numbers f.latest ≡ behind (answers (shared e.names).numbers (shared e.names).taken) (action_tree s.action) v (answers (shared e.names).numbers e.latest) → Walking e vs all i (s ∷ ss) → Walking f vs all (i + 1) ss
+walks e f vs all i v s ss value names latest w =
     let g = w.segment in
     let a = action_tree s.action in
     record {
       segment = segment_after g a;
-      passing = passes e f all (located_from (listed vs) (i + 1) (segment_after g a) ss) (located_at g (get_or vs i (plain 0)) s) taken
-          (latest ∙ ap (λ u. behind (answers e.taken) a u (answers e.latest)) value)
+      passing = passes e f all (located_from (listed vs) (i + 1) (segment_after g a) ss) (located_at g (get_or vs i (plain 0)) s) names
+          (latest ∙ ap (λ u. behind (answers (shared e.names).numbers (shared e.names).taken) a u (answers (shared e.names).numbers e.latest)) value)
           (subst (λ (ls : List Located). Passing e all ls) (one_located (listed vs) i g s ss) w.passing);
     }
 
@@ -122,13 +122,6 @@ set_all values i ss look past so_far =
     let each : (q : List ℕ) → look q ≡ is_set (located_by values ss) q
     = λ q. ap (λ rest. set_in rest q || look q) (sym (drop_of_length-le ss past)) ∙ so_far q ∙ set_located values 0 first_segment ss q in
     λ j q. each q j
-
-pub marks_one : (name : List ℕ) (look : List ℕ → Bool) → updated name true look ≡ (λ q. bytes_eq q name || look q)
-marks_one name look = λ i q. or_test (bytes_eq q name) (look q) i
-  where
-    or_test : (a b : Bool) → cond a true b ≡ (a || b)
-    or_test true b = refl
-    or_test false b = refl
 
 -- ---- at a statement
 

@@ -3,6 +3,7 @@
 use Rattle.std.specs.Prelude.{ℕ, ◌+◌, Bool, true, false, not, ◌&&◌, ◌||◌, if◌then◌else◌, List, [], ◌∷◌, ◌++◌, map, codes, Option, Some, None, Ok, Err}
 use Rattle.std.specs.List.{list_any}
 use Rattle.std.specs.Str.{bytes_eq}
+use Rattle.kc_lex.specs.Codes.{not_defined}
 use Rattle.kc_obj.specs.declared.parts.SegKind.{SegKind}
 use Rattle.kc_obj.specs.declared.parts.SegKind.TheVariants.{Reg, Code, Ram, Stack}
 use Rattle.kc_obj.specs.declared.parts.Taken.{Taken}
@@ -99,7 +100,7 @@ tag_of_taken t = if t.register then Register else Memory
 
 -- the external with this name, where the first of the list has this number
 unfoldable pub external_in : ℕ → List Taken → List ℕ → Answer
-external_in n [] name = Err 7
+external_in n [] name = Err not_defined
 external_in n (t ∷ ts) name =
     if bytes_eq name t.name then Ok (record { base = External n; tag = tag_of_taken t; number = 0 })
     else external_in (n + 1) ts name

@@ -4,16 +4,13 @@
 use Rattle.std.specs.Prelude.{ℕ, Bool, true, false, ◌||◌, if◌then◌else◌, List, [], ◌∷◌, reverse, Option, Some, None, Ok, Err}
 use Rattle.std.specs.List.{list_any}
 use Rattle.std.specs.Str.{bytes_eq}
+use Rattle.kc_lex.specs.Codes.{not_defined}
 use Rattle.kc_expr.specs.declared.values.Value.{Value}
 use Rattle.kc_expr.specs.Tree.{Tree}
-use Rattle.kc_expr.specs.Meaning.{Answer, answer_by, here}
+use Rattle.kc_expr.specs.Meaning.{Answer, answer_by, here, told_elsewhere}
 use Rattle.kc_source_statement.specs.Trees.{ActionTree, Bare, Module, Cseg, Dseg, Rseg, Sseg, Public, Extrn, Equ, Set, Define, Reserve, Org, Even, End, Operation}
 use Rattle.kc_asm_symbols.specs.Located.{Located}
 use Rattle.kc_asm_symbols.specs.Externals.{externals, external_in, stack_name, declared_names}
-
--- the code of a fault that is told at another line
-abbrev pub told_elsewhere : ℕ
-told_elsewhere = 255
 
 abbrev pub or_told : Answer → Answer
 or_told (Ok v) = Ok v
@@ -26,7 +23,7 @@ is_label name None = false
 is_label name (Some label) = bytes_eq name label
 
 unfoldable pub label_answer : List Located → List ℕ → Answer
-label_answer [] name = Err 7
+label_answer [] name = Err not_defined
 label_answer (l ∷ ls) name = if is_label name l.label then Ok l.here else label_answer ls name
 
 -- of two answers the first that is a value
@@ -86,6 +83,10 @@ earlier all (l ∷ before) = behind (external_answer all) l.action l.here (earli
 -- a label where it stands, if no earlier label has its name
 abbrev pub with_label : Option (List ℕ) → Value → (List ℕ → Answer) → List ℕ → Answer
 with_label label place look name = first_of (look name) (if is_label name label then Ok place else look name)
+
+-- a name that EQU or SET defines at a place
+abbrev pub with_defined : List ℕ → Tree → Value → (List ℕ → Answer) → List ℕ → Answer
+with_defined defined x place look name = by_definition (if bytes_eq name defined then Some x else None) (with_here place look) (look name)
 
 -- names that EXTRN takes
 abbrev pub with_taken : (List ℕ → Answer) → List (List ℕ) → (List ℕ → Answer) → List ℕ → Answer

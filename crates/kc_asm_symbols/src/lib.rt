@@ -5,6 +5,8 @@ mod earlier;
 mod external_names;
 mod laws;
 mod meanings;
+mod names;
+mod numbers;
 mod places;
 mod segments;
 mod table;
@@ -14,6 +16,7 @@ pub use laws::{
     bases_are_known, externals_are_few, meanings_are_alike, meanings_do_not_depend_on_places,
 };
 pub use meanings::Meanings;
+pub use names::Names;
 pub use places::place_values;
 pub use segments::Segment;
 pub use table::Marks;

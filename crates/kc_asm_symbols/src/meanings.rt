@@ -5,16 +5,15 @@ ghost use Rattle.kc_source_statement.specs.Trees.{action_tree};
 ghost use Rattle.kc_expr.specs.declared.values.Value.{Value};
 ghost use Rattle.kc_asm_symbols.specs.declared.segments.Segment.{Segment};
 ghost use Rattle.kc_asm_symbols.specs.Located.{Located, located_by, located_at, place_values, listed};
-ghost use Rattle.kc_asm_symbols.specs.Externals.{externals};
-ghost use Rattle.kc_asm_symbols.specs.Tables.{is_marked};
 ghost use Rattle.kc_asm_symbols.specs.Meanings as spec;
-ghost use Rattle.kc_asm_symbols.specs.Walk.{at_statement, IsEarlier, IsBehind, IsAt};
+ghost use Rattle.kc_asm_symbols.specs.Walk.{at_statement, AreNamesOf, IsEarlier, IsBehind, IsAt};
 
 use crate::earlier::{Earlier, is_here};
-use crate::table::{Marks, Table};
+use crate::names::Names;
+use crate::numbers::Found;
+use crate::table::Table;
 use kc_base::NoMemory;
 use kc_expr::{Expr, Scope, Value, value_over};
-use kc_obj::Taken;
 use kc_source_statement::{Action, Stmt};
 use std::alloc::Global;
 
@@ -27,26 +26,6 @@ fn is_definition(action: &Action) -> bool
     }
 }
 
-fn mark_set(marks: &mut Marks, alloc: Global, action: &Action) -> Result<(), NoMemory>
-    ensures { OnOk result (is_marked marks.new ≡ spec.with_set (action_tree action.now) (is_marked marks.old)) }
-{
-    match action {
-        Action::Set(name, _) => marks.mark(alloc, name.as_slice()),
-        _ => Ok(()),
-    }
-}
-
-// The names that SET defines.
-fn set_names(alloc: Global, stmts: &[Stmt]) -> Result<Marks, NoMemory>
-    ensures { IfOk result (λ m. (values : ℕ → Segment → Value) → is_marked m ≡ spec.is_set (located_by values stmts.now)) }
-{
-    let mut marks = Marks::new(alloc);
-    for stmt in stmts {
-        mark_set(&mut marks, alloc, &stmt.action)?;
-    }
-    Ok(marks)
-}
-
 // What names mean by all statements.
 fn through(
     earlier: Earlier,
@@ -56,7 +35,8 @@ fn through(
 ) -> Result<Earlier, NoMemory>
     requires values { length values.now ≡ length stmts.now }
     requires earlier { IsEarlier earlier (located_by (listed values.now) stmts.now) [] }
-    ensures { IfOk result (λ e. IsEarlier e (located_by (listed values.now) stmts.now) (reverse (located_by (listed values.now) stmts.now))) }
+    ensures earlier { IfOk result (λ e. IsEarlier e (located_by (listed values.now) stmts.now) (reverse (located_by (listed values.now) stmts.now))) }
+    ensures names { IfOk result (λ e. e.names ≡ earlier.names) }
 {
     let mut earlier = earlier;
     for i in 0..stmts.len() {
@@ -76,7 +56,6 @@ fn through(
 pub struct Meanings {
     earlier: Earlier,
     last: Table,
-    set: Marks,
     defines: bool,
 }
 
@@ -85,41 +64,36 @@ impl Scope for Meanings {
 
     fn look(&self, name: &[u8]) -> Result<Value, u8> {
         if is_here(name) {
-            Ok(self.earlier.here)
-        } else if self.defines || self.set.has(name) {
-            self.earlier.latest.look(name)
+            return Ok(self.earlier.here);
+        }
+        let Found { number, is_set } = self.earlier.names.numbers().find(name);
+        if self.defines || is_set {
+            self.earlier.latest.look(number, name)
         } else {
-            self.last.look(name)
+            self.last.look(number, name)
         }
     }
 }
 
 impl Meanings {
-    /// Before the first of the statements, where the places of all have these values, as `place_values` gives them, and
-    /// `taken` are the externals.
+    /// Before the first of the statements, whose names are `names`, where the places of all have these values, as
+    /// `place_values` gives them.
     pub fn new(
         alloc: Global,
+        names: &Names,
         stmts: &[Stmt],
         values: &[Value],
-        taken: &[Taken],
     ) -> Result<Meanings, NoMemory>
+        requires names { AreNamesOf names.now stmts.now }
         requires values { length values.now ≡ length stmts.now }
-        requires taken { taken.now ≡ externals (located_by (listed values.now) stmts.now) }
-        requires few { length taken.now ≤ 65536 }
         ensures { IfOk result (λ m. (at : ℕ → Segment → Value) → place_values (located_by at stmts.now) ≡ values.now → IsBehind m (located_by at stmts.now) []) }
     {
-        let first = Earlier::new(alloc, stmts, values, taken)?;
-        let Earlier {
-            taken: _,
-            latest,
-            here: _,
-        } = through(first, alloc, stmts, values)?;
-        let set = set_names(alloc, stmts)?;
-        let earlier = Earlier::new(alloc, stmts, values, taken)?;
+        let first = Earlier::new(alloc, names, stmts, values)?;
+        let through = through(first, alloc, stmts, values)?;
+        let earlier = Earlier::new(alloc, names, stmts, values)?;
         Ok(Meanings {
             earlier,
-            last: latest,
-            set,
+            last: through.latest,
             defines: false,
         })
     }
@@ -152,6 +126,7 @@ impl Meanings {
     pub fn last(&self, name: &[u8]) -> Result<Value, u8>
         ensures { (all before : List Located) → IsBehind self.now all before → result ≡ spec.in_all all name.now }
     {
-        self.last.look(name)
+        self.last
+            .look(self.earlier.names.numbers().number(name), name)
     }
 }

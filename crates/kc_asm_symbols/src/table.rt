@@ -1,45 +1,90 @@
-ghost use Rattle.std.specs.Prelude.{◌≡◌, true, OnOk};
-ghost use Rattle.kc_asm_symbols.specs.Tables.{answers, is_marked, nothing, no_name, updated};
+ghost use Rattle.std.specs.Prelude.{◌≡◌, true, length, IfOk, OnOk};
+ghost use Rattle.kc_asm_symbols.specs.declared.numbers.Numbers.{Numbers as NumbersOf};
+ghost use Rattle.kc_asm_symbols.specs.Tables.{answer_at, answers, cell, is_marked, nothing, no_name, number_of, other_answers, updated};
 
 use indexmap::IndexMap;
 use kc_base::NoMemory;
 use kc_expr::Value;
+use kc_lex::SourceCode;
 use std::alloc::Global;
 
-/// Names with what they mean: a value, or the code of a fault. A name that is not here means nothing, which is code 7.
+/// Names with what they mean: a value, or the code of a fault. Those that have numbers stand by them, others by
+/// themselves. A name that is not here means nothing, which is code 7.
 #[derive(Drop)]
 pub(crate) struct Table {
-    map: IndexMap<Vec<u8>, Result<Value, u8>>,
+    numbered: Vec<Result<Value, u8>>,
+    others: IndexMap<Vec<u8>, Result<Value, u8>>,
 }
 
 impl Table {
-    pub(crate) fn new(alloc: Global) -> Table
-        ensures { answers result ≡ nothing }
+    /// No name means anything; so many have numbers.
+    pub(crate) fn new(alloc: Global, count: usize) -> Result<Table, NoMemory>
+        ensures nothing { IfOk result (λ t. (numbers : NumbersOf) → answers numbers t ≡ nothing) }
+        ensures count { IfOk result (λ t. length t.numbered.items ≡ count) }
     {
-        Table {
-            map: IndexMap::new(alloc),
+        let numbered = vec![in alloc; Err(SourceCode::NotDefined.number()); count]?;
+        Ok(Table {
+            numbered,
+            others: IndexMap::new(alloc),
+        })
+    }
+
+    fn cell(&self, number: Option<usize>) -> Option<Result<Value, u8>>
+        ensures { result ≡ cell self.now number }
+    {
+        match number {
+            None => None,
+            Some(number) => self.numbered.get(number).copied(),
         }
     }
 
-    pub(crate) fn look(&self, name: &[u8]) -> Result<Value, u8>
-        ensures { result ≡ answers self.now name.now }
+    /// What a name with this number means.
+    pub(crate) fn look(&self, number: Option<usize>, name: &[u8]) -> Result<Value, u8>
+        ensures { result ≡ answer_at self.now number name.now }
     {
-        match self.map.get(name) {
-            None => Err(7),
-            Some(answer) => *answer,
+        match self.cell(number) {
+            Some(answer) => answer,
+            None => match self.others.get(name) {
+                None => Err(SourceCode::NotDefined.number()),
+                Some(answer) => *answer,
+            },
         }
     }
 
+    /// Sets what a name with this number means.
     pub(crate) fn set(
+        &mut self,
+        alloc: Global,
+        number: Option<usize>,
+        name: &[u8],
+        answer: Result<Value, u8>,
+    ) -> Result<(), NoMemory>
+        ensures { OnOk result ((numbers : NumbersOf) → number ≡ number_of numbers name.now → answers numbers self.new ≡ updated name.now answer (answers numbers self.old)) }
+    {
+        match number {
+            Some(number) => {
+                if number < self.numbered.len() {
+                    self.numbered[number] = answer;
+                } else {
+                    self.set_other(alloc, name, answer)?;
+                }
+            }
+            None => self.set_other(alloc, name, answer)?,
+        }
+        Ok(())
+    }
+
+    fn set_other(
         &mut self,
         alloc: Global,
         name: &[u8],
         answer: Result<Value, u8>,
     ) -> Result<(), NoMemory>
-        ensures { OnOk result (answers self.new ≡ updated name.now answer (answers self.old)) }
+        ensures others { OnOk result (other_answers self.new ≡ updated name.now answer (other_answers self.old)) }
+        ensures numbered { OnOk result (self.new.numbered ≡ self.old.numbered) }
     {
         let key = Vec::from_slice(alloc, name)?;
-        self.map.insert(key, answer)?;
+        self.others.insert(key, answer)?;
         Ok(())
     }
 }

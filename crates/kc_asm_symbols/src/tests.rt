@@ -73,7 +73,8 @@ fn entered(rt: &HostRuntime, index: usize) -> Option<Meanings> {
         return None;
     }
     let values = place_values(rt.alloc(), &stmts, &PLACES).ok()?;
-    let mut meanings = Meanings::new(rt.alloc(), &stmts, &values, &taken).ok()?;
+    let names = Names::new(rt.alloc(), &stmts, &taken).ok()?;
+    let mut meanings = Meanings::new(rt.alloc(), &names, &stmts, &values).ok()?;
     for i in 0..stmts.len() {
         let stmt = &stmts[i];
         meanings.enter(stmt, *values.get(i)?);

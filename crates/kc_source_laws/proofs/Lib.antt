@@ -1,4 +1,5 @@
 pub mod Tests
+pub mod Counts
 pub mod Reading
 pub mod Filling
 pub mod Expanding

@@ -2,7 +2,7 @@ use Rattle.std.proofs.Common.{◌≤◌, inr, length, arith, Ok, Err}
 use Rattle.kc_source.specs.Faults.{AreStatements}
 use Rattle.kc_asm.specs.Assembled.{AreSaid, IsMade}
 use Rattle.kc_asm.proofs.Characters.{has_characters}
-use Rattle.kc_asm.proofs.Counts.{line_count, stmt_count}
+use Rattle.kc_source_laws.proofs.Counts.{line_count, stmt_count}
 use Rattle.kc_asm.proofs.assembling.assemble.Goals as goal
 
 pub expand-requires : goal.expand-requires

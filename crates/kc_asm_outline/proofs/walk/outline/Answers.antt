@@ -4,18 +4,8 @@ use Rattle.kc_source_statement.specs.Trees.{action_tree}
 use Rattle.kc_asm_symbols.proofs.SegmentLemmas.{few_pieces}
 use Rattle.kc_asm_symbols.proofs.ExternalLemmas.{front}
 use Rattle.kc_asm_outline.specs.Outline.{at_zero, on_its_own}
-use Rattle.kc_asm_outline.proofs.Steps.{Walked, taken_listed, walk_starts, walk_more, walk_ends, note_count}
+use Rattle.kc_asm_outline.proofs.Steps.{Walked, walk_starts, walk_more, walk_ends, note_count}
 use Rattle.kc_asm_outline.proofs.walk.outline.Goals as goal
-
-pub new-requires-clause-taken : goal.new-requires-clause-taken
-new-requires-clause-taken c =
-    taken_listed at_zero c.as_slice.result.now c.args.stmts.now c.args.taken.now c.requires.taken (ap length c.as_slice.ensures.value ∙ c.in_ok-at_zero.ensures.count)
-    (c.as_slice.ensures.value ∙ c.in_ok-at_zero.ensures.values)
-
-pub new-requires-2-clause-taken : goal.new-requires-2-clause-taken
-new-requires-2-clause-taken c =
-    taken_listed on_its_own c.as_slice-2.result.now c.args.stmts.now c.args.taken.now c.requires.taken (ap length c.as_slice-2.ensures.value ∙ c.in_ok-on_their_own.ensures.count)
-    (c.as_slice-2.ensures.value ∙ c.in_ok-on_their_own.ensures.values)
 
 pub loop-i-init : goal.loop-i-init
 loop-i-init c =

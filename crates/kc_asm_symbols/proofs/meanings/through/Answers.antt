@@ -1,4 +1,4 @@
-use Rattle.std.proofs.Common.{◌≡◌, ◌+◌, ◌∷◌, List, drop, get_or, ap, subst, ◌∙◌, arith}
+use Rattle.std.proofs.Common.{◌≡◌, ◌+◌, ◌∷◌, List, drop, get_or, refl, subst, ◌∙◌, arith}
 use Rattle.kc_expr.specs.declared.values.Base.TheVariants.{Fixed}
 use Rattle.kc_expr.specs.declared.values.Tag.TheVariants.{Register}
 use Rattle.kc_expr.specs.declared.values.Value.{Value}
@@ -8,13 +8,14 @@ use Rattle.kc_source_statement.specs.Trees.{action_tree}
 use Rattle.kc_asm_symbols.specs.Tables.{answers}
 use Rattle.kc_asm_symbols.specs.Located.{located_by, listed}
 use Rattle.kc_asm_symbols.specs.Meanings.{behind}
+use Rattle.kc_asm_symbols.specs.Walk.{shared}
 use Rattle.kc_asm_symbols.proofs.ExternalLemmas.{front}
 use Rattle.kc_asm_symbols.proofs.ValueLemmas.{any_default}
 use Rattle.kc_asm_symbols.proofs.WalkLemmas.{Walking, walk_starts, walks, walked}
 use Rattle.kc_asm_symbols.proofs.meanings.through.Goals as goal
 
 pub loop-i-init : goal.loop-i-init
-loop-i-init c = walk_starts c.args.earlier c.args.values.now c.args.stmts.now c.requires.earlier
+loop-i-init c = record { names = refl; walking = walk_starts c.args.earlier c.args.values.now c.args.stmts.now c.requires.earlier }
 
 pub loop-i-preserved : goal.loop-i-preserved
 loop-i-preserved c =
@@ -30,10 +31,14 @@ loop-i-preserved c =
     let a = action_tree s.action in
     let split : drop i stmts ≡ s ∷ drop (i + 1) stmts = front stmts i s c.loop-i-test.true c.index-stmts-i.is in
     let value : v ≡ get_or values i (plain 0) = any_default values i absent (plain 0) (omega (arith, c.requires.values, c.loop-i-test.true)) in
-    let taken : answers f.taken ≡ answers e.taken = c.in_ok-leave.ensures.taken ∙ ap answers c.enter.ensures.taken in
-    let latest : answers f.latest ≡ behind (answers e.taken) a v (answers e.latest)
-    = c.in_ok-leave.ensures.latest ∙ (λ j. behind (answers (c.enter.ensures.taken j)) a (c.enter.ensures.here j) (answers (c.enter.ensures.latest j))) in
-    walks e f values all i v s (drop (i + 1) stmts) value taken latest (subst (λ (ss : List Stmt). Walking e values all i ss) split c.loop-i.invariant)
+    let names : f.names ≡ e.names = c.in_ok-leave.ensures.names ∙ c.enter.ensures.names in
+    let latest : answers (shared f.names).numbers f.latest ≡ behind (answers (shared e.names).numbers (shared e.names).taken) a v (answers (shared e.names).numbers e.latest)
+    = c.in_ok-leave.ensures.latest
+    ∙ (λ j. let n = c.enter.ensures.names j in behind (answers (shared n).numbers (shared n).taken) a (c.enter.ensures.here j) (answers (shared n).numbers (c.enter.ensures.latest j))) in
+    record {
+      names = names ∙ c.loop-i.invariant.names;
+      walking = walks e f values all i v s (drop (i + 1) stmts) value names latest (subst (λ (ss : List Stmt). Walking e values all i ss) split c.loop-i.invariant.walking);
+    }
 
-pub returns : goal.returns
-returns c = walked c.loop-i.earlier c.args.values.now c.loop-i.i c.args.stmts.now (located_by (listed c.args.values.now) c.args.stmts.now) c.loop-i-test.false c.loop-i.invariant
+pub returns-clause-earlier : goal.returns-clause-earlier
+returns-clause-earlier c = walked c.loop-i.earlier c.args.values.now c.loop-i.i c.args.stmts.now (located_by (listed c.args.values.now) c.args.stmts.now) c.loop-i-test.false c.loop-i.invariant.walking

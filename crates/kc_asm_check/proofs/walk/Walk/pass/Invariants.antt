@@ -1,19 +1,19 @@
 use Rattle.std.proofs.Common.{◌+◌, ◌*◌, ◌≤◌, [], drop}
 use Rattle.std.specs.Option.{option_map}
 use Rattle.kc_source.specs.Faults.{least, lesser}
-use Rattle.kc_asm_symbols.specs.Located.{located, located_from, value_at}
-use Rattle.kc_asm_symbols.specs.Walk.{IsBehind}
+use Rattle.kc_asm_symbols.specs.Located.{located}
 use Rattle.kc_asm_check.specs.Pairs.{pair}
 use Rattle.kc_asm_check.specs.Judging.{faults_from, place_at}
-use Rattle.kc_asm_check.proofs.WalkLemmas.{Passing}
+use Rattle.kc_asm_check.specs.Putting.{puts_from, stack_from}
+use Rattle.kc_asm_check.proofs.WalkLemmas.{Passing, left_from}
 use Rattle.kc_asm_check.proofs.walk.Walk.pass.Given as goal
 
 abbrev pub invariant-loop-i : goal.invariant-loop-i
 invariant-loop-i l = record {
   pieces : l.self.segment.count ≤ l.i + 3;
   bytes : l.self.sum ≤ 65535 * l.i;
-  passing : IsBehind l.fn.self.meanings (located (place_at l.sites) l.stmts) []
-      → Passing l.self (located (place_at l.sites) l.stmts)
-      (located_from (λ i g. value_at g (place_at l.sites i)) l.i l.self.segment (drop l.i l.stmts)) (drop l.i l.sites)
-      (lesser (option_map pair l.fn.self.found) (least (faults_from (located (place_at l.sites) l.stmts) l.fn.self.regions.items 0 [] (located (place_at l.sites) l.stmts) l.sites)));
+  passing : Passing l.self (located (place_at l.sites) l.stmts) (left_from (place_at l.sites) l.i l.self.segment l.stmts) (drop l.i l.sites)
+      (lesser (option_map pair l.fn.self.found) (least (faults_from (located (place_at l.sites) l.stmts) l.fn.self.regions.items 0 [] (located (place_at l.sites) l.stmts) l.sites)))
+      (puts_from (located (place_at l.sites) l.stmts) [] (located (place_at l.sites) l.stmts) l.sites)
+      (stack_from (located (place_at l.sites) l.stmts) 0 [] (located (place_at l.sites) l.stmts));
 }

@@ -1,56 +1,73 @@
-use Rattle.std.proofs.Common.{◌≡◌, ◌<◌, length, ap, ◌∙◌, arith}
+use Rattle.std.proofs.Common.{◌<◌, ◌≤◌, length, ◌∙◌, arith}
+use Rattle.std.proofs.lemmas.Iterator.Adapters.{YieldsList-from_vec}
+use Rattle.std.proofs.lemmas.Iterator.Consumers.{YieldsList-turn, YieldsList-end}
+use Rattle.std.proofs.lemmas.List.{length_push}
 use Rattle.std.proofs.lemmas.Option.{slice_get-get_or}
 use Rattle.kc_source_statement.specs.Trees.{action_tree}
-use Rattle.kc_asm_symbols.specs.declared.segments.Segment.{Segment}
-use Rattle.kc_asm_symbols.specs.Located.{located, segment_after}
+use Rattle.kc_asm_symbols.specs.Located.{located}
 use Rattle.kc_asm_symbols.proofs.SegmentLemmas.{few_pieces}
 use Rattle.kc_asm_check.specs.Judging.{place_at}
-use Rattle.kc_asm_draft.proofs.PassLemmas.{writable_at, passes_at, written_all, summed_all}
+use Rattle.kc_asm_draft.proofs.PassLemmas.{turn_of, writable_at, passes_at, written_all}
 use Rattle.kc_asm_draft.proofs.drafting.Drafting.write_all.Goals as goal
 
-pub leave-requires-clause-writable : goal.leave-requires-clause-writable
-leave-requires-clause-writable c =
-    let i = c.loop-i.i in
+pub write-requires-clause-writable : goal.write-requires-clause-writable
+write-requires-clause-writable c =
+    let i = c.loop-what.i in
     let stmts = c.args.stmts.now in
     let sites = c.args.sites.now in
-    let v = c.loop-i.self in
-    let u = c.enter.new.self in
-    let all = located (place_at sites) stmts in
-    let within : i < length sites = omega (arith, c.loop-i-test.true, c.requires.each) in
-    writable_at v u all i v.segment u.segment stmts c.index-stmts-i.result sites _ _ _ c.loop-i-test.true c.index-stmts-i.is
-    (slice_get-get_or sites i _ within)
-    (c.enter.ensures.at all) c.enter.ensures.parts c.enter.ensures.segment c.loop-i.invariant.so_far
+    let puts = c.args.puts.items in
+    let begun = c.into_iter-what-iterator.ensures.into_iter_gives in
+    let here = YieldsList-turn (YieldsList-from_vec {s = c.into_iter-what-iterator.result} puts begun.0 (begun.1 ∙ c.args.puts.ok.0)) c.loop-what.yielded c.loop-what.what-iterator c.loop-what.yielded_by c.next.result c.next.new.self c.in-Some.what c.in-Some.is c.next.ensures.steps in
+    let within : i < length sites = omega (arith, here.0, c.loop-what.invariant.index, c.requires.each_put, c.requires.each) in
+    writable_at c.loop-what.self (located (place_at sites) stmts) c.loop-what.self.segment stmts sites puts i c.index-stmts-i.result _ c.in-Some.what _
+    (turn_of stmts sites puts i _ c.index-stmts-i.result _ c.in-Some.what c.index-stmts-i.is (slice_get-get_or sites i _ within) c.requires.each_put c.loop-what.invariant.index here)
+    c.loop-what.invariant.so_far
 
-pub loop-i-preserved : goal.loop-i-preserved
-loop-i-preserved c =
-    let i = c.loop-i.i in
+pub loop-what-preserved-in_ok-write : goal.loop-what-preserved-in_ok-write
+loop-what-preserved-in_ok-write c =
+    let i = c.loop-what.i in
     let stmts = c.args.stmts.now in
     let sites = c.args.sites.now in
-    let stmt = c.index-stmts-i.result in
-    let a = action_tree stmt.action in
-    let v = c.loop-i.self in
-    let u = c.enter.new.self in
-    let w = c.leave.new.self in
-    let all = located (place_at sites) stmts in
-    let within : i < length sites = omega (arith, c.loop-i-test.true, c.requires.each) in
-    let segment : w.segment ≡ segment_after v.segment a = c.in_ok-leave.ensures.segment ∙ ap (λ (g : Segment). segment_after g a) c.enter.ensures.segment in
-    let bytes = c.loop-i.invariant.bytes in
+    let puts = c.args.puts.items in
+    let v = c.loop-what.self in
+    let w = c.write.new.self in
+    let a = action_tree c.index-stmts-i.result.action in
+    let begun = c.into_iter-what-iterator.ensures.into_iter_gives in
+    let here = YieldsList-turn (YieldsList-from_vec {s = c.into_iter-what-iterator.result} puts begun.0 (begun.1 ∙ c.args.puts.ok.0)) c.loop-what.yielded c.loop-what.what-iterator c.loop-what.yielded_by c.next.result c.next.new.self c.in-Some.what c.in-Some.is c.next.ensures.steps in
+    let within : i < length sites = omega (arith, here.0, c.loop-what.invariant.index, c.requires.each_put, c.requires.each) in
     record {
-      pieces = few_pieces v.segment w.segment a i segment c.loop-i.invariant.pieces;
-      bytes = omega (arith, c.in_ok-leave.ensures.few, c.enter.ensures.stack, bytes);
-      so_far = passes_at v u w all i v.segment w.segment u.segment stmts stmt sites _ _ _ c.loop-i-test.true c.index-stmts-i.is
-          (slice_get-get_or sites i _ within) segment
-          (c.enter.ensures.at all) c.enter.ensures.parts c.enter.ensures.stack (c.in_ok-leave.ensures.behind all)
-          c.enter.ensures.segment c.in_ok-leave.ensures.parts c.in_ok-leave.ensures.stack
-          c.loop-i.invariant.so_far;
+      index = omega (arith, c.loop-what.invariant.index, length_push c.loop-what.yielded c.in-Some.what);
+      pieces = few_pieces v.segment w.segment a i c.in_ok-write.ensures.segment c.loop-what.invariant.pieces;
+      so_far = passes_at v w (located (place_at sites) stmts) v.segment w.segment stmts sites puts i c.index-stmts-i.result _ c.in-Some.what _
+          (turn_of stmts sites puts i _ c.index-stmts-i.result _ c.in-Some.what c.index-stmts-i.is (slice_get-get_or sites i _ within) c.requires.each_put c.loop-what.invariant.index here)
+          c.in_ok-write.ensures.segment c.in_ok-write.ensures.parts c.loop-what.invariant.so_far;
     }
 
-pub returns-clause-parts : goal.returns-clause-parts
-returns-clause-parts c =
-    written_all c.loop-i.self (located (place_at c.args.sites.now) c.args.stmts.now) c.loop-i.i c.loop-i.self.segment c.args.stmts.now c.args.sites.now _ _ _
-    c.loop-i-test.false c.loop-i.invariant.so_far
+pub loop-what-preserved : goal.loop-what-preserved
+loop-what-preserved c =
+    let i = c.loop-what.i in
+    let stmts = c.args.stmts.now in
+    let sites = c.args.sites.now in
+    let puts = c.args.puts.items in
+    let v = c.loop-what.self in
+    let w = c.write.new.self in
+    let a = action_tree c.index-stmts-i.result.action in
+    let begun = c.into_iter-what-iterator.ensures.into_iter_gives in
+    let here = YieldsList-turn (YieldsList-from_vec {s = c.into_iter-what-iterator.result} puts begun.0 (begun.1 ∙ c.args.puts.ok.0)) c.loop-what.yielded c.loop-what.what-iterator c.loop-what.yielded_by c.next.result c.next.new.self c.in-Some.what c.in-Some.is c.next.ensures.steps in
+    let within : i < length sites = omega (arith, here.0, c.loop-what.invariant.index, c.requires.each_put, c.requires.each) in
+    record {
+      index = omega (arith, c.loop-what.invariant.index, length_push c.loop-what.yielded c.in-Some.what);
+      pieces = few_pieces v.segment w.segment a i c.in_ok-write.ensures.segment c.loop-what.invariant.pieces;
+      so_far = passes_at v w (located (place_at sites) stmts) v.segment w.segment stmts sites puts i c.index-stmts-i.result _ c.in-Some.what _
+          (turn_of stmts sites puts i _ c.index-stmts-i.result _ c.in-Some.what c.index-stmts-i.is (slice_get-get_or sites i _ within) c.requires.each_put c.loop-what.invariant.index here)
+          c.in_ok-write.ensures.segment c.in_ok-write.ensures.parts c.loop-what.invariant.so_far;
+    }
 
-pub returns-clause-stack : goal.returns-clause-stack
-returns-clause-stack c =
-    summed_all c.loop-i.self (located (place_at c.args.sites.now) c.args.stmts.now) c.loop-i.i c.loop-i.self.segment c.args.stmts.now c.args.sites.now _ _ _
-    c.loop-i-test.false c.loop-i.invariant.so_far
+pub returns : goal.returns
+returns c =
+    let stmts = c.args.stmts.now in
+    let begun = c.into_iter-what-iterator.ensures.into_iter_gives in
+    let done = YieldsList-end (YieldsList-from_vec {s = c.into_iter-what-iterator.result} c.args.puts.items begun.0 (begun.1 ∙ c.args.puts.ok.0)) c.loop-what.yielded c.loop-what.what-iterator c.loop-what.yielded_by c.next.result c.next.new.self c.in-None.is c.next.ensures.steps in
+    let past : length stmts ≤ c.loop-what.i = omega (arith, done.1, c.loop-what.invariant.index, c.requires.each_put) in
+    written_all c.loop-what.self (located (place_at c.args.sites.now) stmts) c.loop-what.i c.loop-what.self.segment stmts c.args.sites.now _ _ _
+    past c.loop-what.invariant.so_far
