@@ -1,3 +1,2 @@
 pub mod Spots
 pub mod Listed
-pub mod Laws

@@ -6,6 +6,7 @@ use Rattle.kc_lex.specs.declared.fault.SourceFault.{SourceFault}
 use Rattle.kc_lex.specs.declared.fault.SourceFault.TheVariants as faults
 use Rattle.kc_lex.specs.Lines.{lines_of}
 use Rattle.kc_macro.specs.Expansion.{expanded}
+use Rattle.kc_macro_depth.specs.Depths.{depths_of}
 use Rattle.kc_source_statement.specs.declared.statement.Stmt.{Stmt}
 use Rattle.kc_source.specs.Faults.{Fault, AreStatements, faults_of, least}
 use Rattle.kc_obj.specs.Object.{Object}
@@ -21,9 +22,11 @@ pub record IsListing (source : List ℕ) (m : Object) (listed : List ℕ) : Type
   pub lines : List Line
   pub text : List Line
   pub is_text : IsText source lines text
+  pub depths : List ℕ
+  pub deep : depths_of lines ≡ Some (Ok depths)
   pub stmts : List Stmt
   pub said : AreStatements stmts text
-  pub told : listed ≡ listing m source (spots_of lines text stmts)
+  pub told : listed ≡ listing m source (spots_of text depths stmts)
 
 -- a source without statements has a fault of its lines, of its macros, or of its statements and names
 abbrev pub IsUnread : List ℕ → Fault → Type 0

@@ -6,6 +6,7 @@ use kc_asm_rows::rows;
 use kc_asm_symbols::externals_are_few;
 use kc_lex::{SourceFault, lines};
 use kc_macro::expand;
+use kc_macro_depth::depths;
 use kc_obj::Module;
 use kc_source::statements;
 use std::alloc::Global;
@@ -18,12 +19,13 @@ pub fn listing(alloc: Global, source: &[u8], object: &Module) -> Result<Vec<u8>,
     requires { length source.now ≤ 1048576 }
     ensures { spec.IsListed source.now object.now result }
 {
-    let own = lines(alloc, source)?;
     let read = lines(alloc, source)?;
+    let again = lines(alloc, source)?;
     let text = expand(alloc, read)?;
+    let deep = depths(alloc, again)?;
     let stmts = statements(alloc, &text)?;
     externals_are_few();
-    let spots = spots_of(alloc, &own, &text, &stmts)?;
+    let spots = spots_of(alloc, &text, &deep, &stmts)?;
     let listed = rows(alloc, source, object, spots)?;
     Ok(listed)
 }

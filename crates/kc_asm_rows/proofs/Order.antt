@@ -63,7 +63,7 @@ sorted_rises (s ∷ ss) from up first =
     (first s (omega arith), sorted_rises ss s.line (λ i j d le lt. up (suc i) (suc j) d (omega (arith, le)) (omega (arith, lt))) (λ d lt. up 0 1 d (omega arith) (omega (arith, lt))))
 
 abbrev on_line : ℕ → Spot
-on_line line = record { line = line; own = true; labelled = true; kind = Code; piece = 0; at = None; before = 0; place = 0; after = 0 }
+on_line line = record { line = line; depth = 0; labelled = true; kind = Code; piece = 0; at = None; before = 0; place = 0; after = 0 }
 
 is_before : (x y : ℕ) → is_lt (nat_cmp x y) ≡ nat_lt x y
 is_before x y = by (nat_lt x y) (x == y)

@@ -8,17 +8,17 @@ use Rattle.kc_asm_rows.specs.Octets.{octet_text}
 use Rattle.kc_base.specs.TextLines.{text_lines}
 use Rattle.kc_asm_rows.specs.Rows.{bytes_text, turn, column_after, is_on, line_text, lines_text}
 
-pub one_more : (m : Object) (mark : ℕ) (s : Spot) (column place n : ℕ) → 0 < n
-    → bytes_text m mark s column place n ≡ turn mark s column place ++ octet_text m s place ++ bytes_text m mark s (column_after column) (place + 1) (n - 1)
+pub one_more : (m : Object) (s : Spot) (column place n : ℕ) → 0 < n
+    → bytes_text m s column place n ≡ turn s column place ++ octet_text m s place ++ bytes_text m s (column_after column) (place + 1) (n - 1)
 unfolding bytes_text
-one_more m mark s column place zero lt = absurd (omega (arith, lt))
-one_more m mark s column place (suc n) lt =
+one_more m s column place zero lt = absurd (omega (arith, lt))
+one_more m s column place (suc n) lt =
     let less : suc n - 1 ≡ n = omega arith in
     rw less refl
 
-pub no_more : (m : Object) (mark : ℕ) (s : Spot) (column place : ℕ) → bytes_text m mark s column place 0 ≡ []
+pub no_more : (m : Object) (s : Spot) (column place : ℕ) → bytes_text m s column place 0 ≡ []
 unfolding bytes_text
-no_more m mark s column place = refl
+no_more m s column place = refl
 
 -- lines from one on have the same rows where the same statements are on each of them
 pub agree : (m : Object) (xs ys : List Spot) (from : ℕ) → ((n : ℕ) → from ≤ n → filter (is_on n) xs ≡ filter (is_on n) ys) → (ls : List (List ℕ)) → lines_text m xs from ls ≡ lines_text m ys from ls

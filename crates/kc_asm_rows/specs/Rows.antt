@@ -27,30 +27,35 @@ abbrev pub tick : Option ℕ → ℕ
 tick None = 39
 tick (Some base) = 32
 
--- the line, a mark, the kind of the piece, and a place
-abbrev pub front : ℕ → Spot → ℕ → List ℕ
-front mark s place = number_text s.line ++ 32 ∷ mark ∷ 32 ∷ letter s.kind ∷ tick s.at ∷ hex 4 place
+-- a statement that an expansion makes has `+` and its depth: of how many calls and repetitions, one in the other, it comes
+abbrev pub depth_text : ℕ → List ℕ
+depth_text zero = 32 ∷ 32 ∷ []
+depth_text (suc n) = 43 ∷ decimal (suc n)
+
+-- the line, the depth, the kind of the piece, and a place
+abbrev pub front : Spot → ℕ → List ℕ
+front s place = number_text s.line ++ 32 ∷ depth_text s.depth ++ 32 ∷ letter s.kind ∷ tick s.at ∷ hex 4 place
 
 -- ---- bytes, eight in a row
 
-abbrev pub turn : ℕ → Spot → ℕ → ℕ → List ℕ
-turn mark s column place = if column == 8 then 10 ∷ front mark s place else []
+abbrev pub turn : Spot → ℕ → ℕ → List ℕ
+turn s column place = if column == 8 then 10 ∷ front s place else []
 
 abbrev pub column_after : ℕ → ℕ
 column_after column = if column == 8 then 1 else column + 1
 
 -- so many bytes from a place on, behind others in the row
-unfoldable pub bytes_text : Object → ℕ → Spot → ℕ → ℕ → ℕ → List ℕ
-bytes_text m mark s column place zero = []
-bytes_text m mark s column place (suc n) = turn mark s column place ++ octet_text m s place ++ bytes_text m mark s (column_after column) (place + 1) n
+unfoldable pub bytes_text : Object → Spot → ℕ → ℕ → ℕ → List ℕ
+bytes_text m s column place zero = []
+bytes_text m s column place (suc n) = turn s column place ++ octet_text m s place ++ bytes_text m s (column_after column) (place + 1) n
 
 -- bytes that lead on to the place of a statement, in rows before its own
-abbrev pub filling_rows : Object → ℕ → Spot → ℕ → List ℕ
-filling_rows m mark s zero = []
-filling_rows m mark s (suc n) = front mark s s.before ++ bytes_text m mark s 0 s.before (suc n) ++ 10 ∷ []
+abbrev pub filling_rows : Object → Spot → ℕ → List ℕ
+filling_rows m s zero = []
+filling_rows m s (suc n) = front s s.before ++ bytes_text m s 0 s.before (suc n) ++ 10 ∷ []
 
-abbrev pub filling_text : Object → ℕ → Spot → List ℕ
-filling_text m mark s = filling_rows m mark s (told m s s.before s.place)
+abbrev pub filling_text : Object → Spot → List ℕ
+filling_text m s = filling_rows m s (told m s s.before s.place)
 
 -- ---- a statement: its place is told where it has a label or takes up room
 
@@ -68,18 +73,18 @@ bare_text line words = beside (number_text line) words ++ 10 ∷ []
 -- the statement that the line itself is: the first eight bytes stand beside the text
 abbrev pub own_rows : Object → Spot → List ℕ → ℕ → List ℕ
 own_rows m s words n =
-    beside (front 32 s s.place ++ bytes_text m 32 s 0 s.place (min 8 n)) words ++ bytes_text m 32 s 8 (s.place + 8) (n - 8) ++ 10 ∷ []
+    beside (front s s.place ++ bytes_text m s 0 s.place (min 8 n)) words ++ bytes_text m s 8 (s.place + 8) (n - 8) ++ 10 ∷ []
 
 abbrev pub own_text : Object → List ℕ → Spot → List ℕ
 own_text m words s =
-    if is_told s then filling_text m 32 s ++ own_rows m s words (told m s s.place s.after) else bare_text s.line words
+    if is_told s then filling_text m s ++ own_rows m s words (told m s s.place s.after) else bare_text s.line words
 
--- a statement that an expansion makes of the line, marked by `+`
+-- a statement that an expansion makes of the line
 abbrev pub made_text : Object → Spot → List ℕ
 made_text m s =
-    if is_told s then filling_text m 43 s ++ front 43 s s.place ++ bytes_text m 43 s 0 s.place (told m s s.place s.after) ++ 10 ∷ [] else []
+    if is_told s then filling_text m s ++ front s s.place ++ bytes_text m s 0 s.place (told m s s.place s.after) ++ 10 ∷ [] else []
 
--- ---- a line, with the statements that come out of it
+-- ---- a line, with the statements that come out of it: the line itself, or the label before a call, comes out first
 
 abbrev pub all_made : Object → List Spot → List ℕ
 all_made m spots = flat_map (made_text m) spots
@@ -87,7 +92,7 @@ all_made m spots = flat_map (made_text m) spots
 abbrev pub line_text : Object → ℕ → List ℕ → List Spot → List ℕ
 line_text m line words [] = bare_text line words
 line_text m line words (s ∷ ss) =
-    if s.own then own_text m words s ++ all_made m ss else bare_text line words ++ all_made m (s ∷ ss)
+    if s.depth == 0 then own_text m words s ++ all_made m ss else bare_text line words ++ all_made m (s ∷ ss)
 
 -- the statements of a line, in the order in which they come out
 abbrev pub is_on : ℕ → Spot → Bool

@@ -13,18 +13,12 @@ use kc_obj::Module;
 const IN_A_ROW: u8 = 8;
 
 // Begins a row at a place, where the one before is full.
-fn put_turn(
-    text: &mut Vec<u8>,
-    mark: u8,
-    spot: &Spot,
-    column: u8,
-    place: u64,
-) -> Result<(), NoMemory>
-    ensures { OnOk result (text.new.items ≡ text.old.items ++ spec.turn mark spot.now column place) }
+fn put_turn(text: &mut Vec<u8>, spot: &Spot, column: u8, place: u64) -> Result<(), NoMemory>
+    ensures { OnOk result (text.new.items ≡ text.old.items ++ spec.turn spot.now column place) }
 {
     if column == IN_A_ROW {
         text.push(b'\n')?;
-        put_front(text, mark, spot, place)
+        put_front(text, spot, place)
     } else {
         Ok(())
     }
@@ -43,7 +37,6 @@ fn column_after(column: u8) -> u8
 pub(crate) fn put_bytes(
     text: &mut Vec<u8>,
     object: &Module,
-    mark: u8,
     spot: &Spot,
     columns: u8,
     place: u64,
@@ -51,13 +44,13 @@ pub(crate) fn put_bytes(
 ) -> Result<(), NoMemory>
     requires columns { columns < 9 }
     requires within { place + count < 2 ^ 64 }
-    ensures { OnOk result (text.new.items ≡ text.old.items ++ spec.bytes_text object.now mark spot.now columns place count) }
+    ensures { OnOk result (text.new.items ≡ text.old.items ++ spec.bytes_text object.now spot.now columns place count) }
 {
     let mut column = columns;
     let mut at = place;
     let mut left = count;
     while left > 0 {
-        put_turn(text, mark, spot, column, at)?;
+        put_turn(text, spot, column, at)?;
         put_octet(text, object, spot, at)?;
         column = column_after(column);
         at += 1;
@@ -67,20 +60,15 @@ pub(crate) fn put_bytes(
 }
 
 /// Puts the rows of the bytes that lead on to the place of a statement behind a text.
-pub(crate) fn put_filling(
-    text: &mut Vec<u8>,
-    object: &Module,
-    mark: u8,
-    spot: &Spot,
-) -> Result<(), NoMemory>
-    ensures { OnOk result (text.new.items ≡ text.old.items ++ spec.filling_text object.now mark spot.now) }
+pub(crate) fn put_filling(text: &mut Vec<u8>, object: &Module, spot: &Spot) -> Result<(), NoMemory>
+    ensures { OnOk result (text.new.items ≡ text.old.items ++ spec.filling_text object.now spot.now) }
 {
     let count = told(object, spot, spot.before, spot.place);
     if count == 0 {
         return Ok(());
     }
-    put_front(text, mark, spot, spot.before)?;
-    put_bytes(text, object, mark, spot, 0, spot.before, count)?;
+    put_front(text, spot, spot.before)?;
+    put_bytes(text, object, spot, 0, spot.before, count)?;
     text.push(b'\n')?;
     Ok(())
 }

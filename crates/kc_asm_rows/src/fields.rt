@@ -64,16 +64,27 @@ fn put_place(text: &mut Vec<u8>, place: u64) -> Result<(), NoMemory>
     Ok(())
 }
 
-/// Puts the front of a row behind a text: the line of a statement, a mark, the kind of its piece, and a place.
-pub(crate) fn put_front(
-    text: &mut Vec<u8>,
-    mark: u8,
-    spot: &Spot,
-    place: u64,
-) -> Result<(), NoMemory>
-    ensures { OnOk result (text.new.items ≡ text.old.items ++ spec.front mark spot.now place) }
+// Puts how deep a statement stands behind a text.
+fn put_depth(text: &mut Vec<u8>, depth: u32) -> Result<(), NoMemory>
+    ensures { OnOk result (text.new.items ≡ text.old.items ++ spec.depth_text depth) }
+{
+    if depth == 0 {
+        text.extend_from_slice(b"  ")?;
+        return Ok(());
+    }
+    let mut buffer = Buffer::new();
+    text.push(b'+')?;
+    text.extend_from_slice(buffer.format(depth).as_bytes())?;
+    Ok(())
+}
+
+/// Puts the front of a row behind a text: the line and the depth of a statement, the kind of its piece, and a place.
+pub(crate) fn put_front(text: &mut Vec<u8>, spot: &Spot, place: u64) -> Result<(), NoMemory>
+    ensures { OnOk result (text.new.items ≡ text.old.items ++ spec.front spot.now place) }
 {
     put_number(text, spot.line)?;
-    text.extend_from_slice(&[b' ', mark, b' ', letter(spot.kind), tick(spot.at)])?;
+    text.push(b' ')?;
+    put_depth(text, spot.depth)?;
+    text.extend_from_slice(&[b' ', letter(spot.kind), tick(spot.at)])?;
     put_place(text, place)
 }

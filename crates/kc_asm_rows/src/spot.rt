@@ -1,14 +1,14 @@
 use kc_obj::SegKind;
 
-/// Where a statement of a source stands: its line, from 1; whether it is this line itself, and not what a macro, REPT or IRP
-/// makes of it; whether it has a label; the kind and the number of its piece, as the source opens it (the pieces 0, 1 and 2
-/// are the relocatable registers, code and data; absolute ones follow), and its address `at` where it is absolute. Then, as
-/// offsets or in an absolute piece as addresses: where the piece ended before the statement, the place of the statement,
-/// which is that of its label and of `$`, and where the piece ends behind it.
+/// Where a statement of a source stands: its line, from 1; its depth, that is from how many calls of macros and repetitions,
+/// one in the other, it comes, 0 of the line itself; whether it has a label; the kind and the number of its piece, as the
+/// source opens it (the pieces 0, 1 and 2 are the relocatable registers, code and data; absolute ones follow), and its
+/// address `at` where it is absolute. Then, as offsets or in an absolute piece as addresses: where the piece ended before the
+/// statement, the place of the statement, which is that of its label and of `$`, and where the piece ends behind it.
 #[derive(Clone, Copy, Debug, PartialEq, Eq)]
 pub struct Spot {
     pub line: u32,
-    pub own: bool,
+    pub depth: u32,
     pub labelled: bool,
     pub kind: SegKind,
     pub piece: u32,

@@ -15,12 +15,6 @@ use std::alloc::Global;
 /// The column at which the text of a line begins.
 const TEXT_COLUMN: usize = 42;
 
-/// The mark of a line's own statement.
-const OWN: u8 = b' ';
-
-/// The mark of a statement that an expansion makes of a line.
-const MADE: u8 = b'+';
-
 fn is_told(spot: &Spot) -> bool
     ensures { result ≡ spec.is_told spot.now }
 {
@@ -60,10 +54,10 @@ pub(crate) fn put_bare(
 #[tactic(auto, using(crate::proofs::Steps::no_more))]
 fn put_rest(text: &mut Vec<u8>, object: &Module, spot: &Spot, count: u64) -> Result<(), NoMemory>
     requires { spot.now.place + count < 2 ^ 64 }
-    ensures { OnOk result (text.new.items ≡ text.old.items ++ spec.bytes_text object.now 32 spot.now 8 (spot.now.place + 8) (count - 8)) }
+    ensures { OnOk result (text.new.items ≡ text.old.items ++ spec.bytes_text object.now spot.now 8 (spot.now.place + 8) (count - 8)) }
 {
     if count > 8 {
-        put_bytes(text, object, OWN, spot, 8, spot.place + 8, count - 8)
+        put_bytes(text, object, spot, 8, spot.place + 8, count - 8)
     } else {
         Ok(())
     }
@@ -82,8 +76,8 @@ fn put_rows(
     let count = told(object, spot, spot.place, spot.after);
     let first = count.min(8);
     let mut row = Vec::new(alloc);
-    put_front(&mut row, OWN, spot, spot.place)?;
-    put_bytes(&mut row, object, OWN, spot, 0, spot.place, first)?;
+    put_front(&mut row, spot, spot.place)?;
+    put_bytes(&mut row, object, spot, 0, spot.place, first)?;
     put_beside(text, &row, words)?;
     put_rest(text, object, spot, count)?;
     text.push(b'\n')?;
@@ -101,7 +95,7 @@ pub(crate) fn put_own(
     ensures { OnOk result (text.new.items ≡ text.old.items ++ spec.own_text object.now words.now spot.now) }
 {
     if is_told(spot) {
-        put_filling(text, object, OWN, spot)?;
+        put_filling(text, object, spot)?;
         put_rows(alloc, text, object, words, spot)
     } else {
         put_bare(alloc, text, spot.line, words)
@@ -116,9 +110,9 @@ fn put_made(text: &mut Vec<u8>, object: &Module, spot: &Spot) -> Result<(), NoMe
         return Ok(());
     }
     let count = told(object, spot, spot.place, spot.after);
-    put_filling(text, object, MADE, spot)?;
-    put_front(text, MADE, spot, spot.place)?;
-    put_bytes(text, object, MADE, spot, 0, spot.place, count)?;
+    put_filling(text, object, spot)?;
+    put_front(text, spot, spot.place)?;
+    put_bytes(text, object, spot, 0, spot.place, count)?;
     text.push(b'\n')?;
     Ok(())
 }

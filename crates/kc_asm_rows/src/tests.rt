@@ -70,7 +70,11 @@ fn module(rt: &HostRuntime) -> Result<Module, Fail> {
 fn spot(line: u32, piece: u32, labelled: bool, before: u64, place: u64, after: u64) -> Spot {
     Spot {
         line,
-        own: line != 6,
+        depth: match (line, before) {
+            (6, 4) => 1,
+            (6, _) => 12,
+            _ => 0,
+        },
         labelled,
         kind: if piece == 0 {
             SegKind::Reg
@@ -101,24 +105,24 @@ END: END
 
 const LISTING: &[u8] = b"      1                                   ; pulse
       2                                    RSEG
-      3   R'0000                          A: DSW 1
+      3    R'0000                         A: DSW 1
       4                                    CSEG
-      5   C'0000 A1*00*00*00              L: LD A,#T
+      5    C'0000 A1*00*00*00             L: LD A,#T
       6                                    DELAY
-      6 + C'0004 FD
-      6 + C'0005 FD
-      7   C'0006 01 02 03 04 05 06 07 08   DCB 1,2,3,4,5,6,7,8,9
-      7   C'000E 09
-      8   C'000F FF
-      8   C'0010*00*00                    T: DCW L
+      6 +1 C'0004 FD
+      6 +12 C'0005 FD
+      7    C'0006 01 02 03 04 05 06 07 08  DCB 1,2,3,4,5,6,7,8,9
+      7    C'000E 09
+      8    C'000F FF
+      8    C'0010*00*00                   T: DCW L
       9                                    CSEG AT 2080H
      10
-     11   C 2080 F0                        RET
-     12   C 2081                          END: END
+     11    C 2080 F0                       RET
+     12    C 2081                         END: END
 ";
 
-/// Registers without bytes, relocated bytes, two statements of one call, a row that is full, filling before a word, and a
-/// label alone in an absolute piece. The statements of line 6 stand behind a later one, and still in their order.
+/// Registers without bytes, relocated bytes, statements of a call at two depths, a row that is full, filling before a word,
+/// and a label alone in an absolute piece. The statements of line 6 stand behind a later one, and still in their order.
 #[test]
 fn a_listing_has_each_line_and_each_byte(rt: HostRuntime) -> Result<(), Fail> {
     let module = module(&rt)?;

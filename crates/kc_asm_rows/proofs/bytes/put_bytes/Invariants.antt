@@ -6,7 +6,7 @@ abbrev pub invariant-loop-left : goal.invariant-loop-left
 invariant-loop-left l = record {
   columns : l.column < 9;
   within : l.at + l.left ≡ l.place + l.count;
-  goes_on : l.text.items ++ spec.bytes_text l.object l.mark l.spot l.column l.at l.left ≡ l.initial.text.items ++ spec.bytes_text l.object l.mark l.spot l.columns l.place l.count;
+  goes_on : l.text.items ++ spec.bytes_text l.object l.spot l.column l.at l.left ≡ l.initial.text.items ++ spec.bytes_text l.object l.spot l.columns l.place l.count;
 }
 
 abbrev pub decreases-loop-left : goal.decreases-loop-left

@@ -6,5 +6,5 @@ use Rattle.kc_asm_rows.proofs.statements.put_rest.Goals as goal
 pub returns-else-count-gt8 : goal.returns-else-count-gt8
 returns-else-count-gt8 c =
     let zero : c.args.count - 8 ≡ 0 = omega (arith, c.if-count-gt8.false) in
-    let last = no_more c.args.object.now 32 c.args.spot.now 8 (c.args.spot.now.place + 8) in
+    let last = no_more c.args.object.now c.args.spot.now 8 (c.args.spot.now.place + 8) in
     grind (arith, common_steps, zero, last)

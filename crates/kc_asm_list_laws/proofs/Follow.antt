@@ -19,7 +19,7 @@ use Rattle.kc_asm_layout.specs.Places.{no_bytes, begun, end_of, ends_after, addr
 use Rattle.kc_asm_layout.specs.Text.{statement_forms, text}
 use Rattle.kc_asm_rows.specs.declared.spot.Spot.{Spot}
 use Rattle.kc_asm_list.specs.Spots.{spot_of, spots_from}
-use Rattle.kc_asm_list.specs.Laws.{is_of, Follow, FollowFromStart, StretchesFollow}
+use Rattle.kc_asm_list_laws.specs.Laws.{is_of, Follow, FollowFromStart, StretchesFollow}
 
 -- ---- where pieces end, behind a statement
 
@@ -159,14 +159,14 @@ module _ (list : List (Option ℕ)) (piece : ℕ) where
   abbrev Told : ℕ → List Spot → Type 0
   Told from ss = Follow from ss × AreAt ss
 
-  step : (lines : List Line) (l : Line) (f : Form) (ends : List ℕ) (n : Note) (ss : List Spot) → n.segment.piece < length ends
+  step : (l : Line) (d : ℕ) (f : Form) (ends : List ℕ) (n : Note) (ss : List Spot) → n.segment.piece < length ends
       → ((a : ℕ) → n.opens ≡ Some a → piece ≡ length ends → begins list piece ≡ a)
       → Told (start list piece (ends_after f ends n)) (filter (is_of piece) ss)
-      → Told (start list piece ends) (filter (is_of piece) (spot_of lines l n (site_of list f ends n) ∷ ss))
-  step lines l f ends n ss within opened_at more = by (n.segment.piece == piece) refl
+      → Told (start list piece ends) (filter (is_of piece) (spot_of l d n (site_of list f ends n) ∷ ss))
+  step l d f ends n ss within opened_at more = by (n.segment.piece == piece) refl
     where
       by : (b : Bool) → (n.segment.piece == piece) ≡ b
-          → Told (start list piece ends) (if b then spot_of lines l n (site_of list f ends n) ∷ filter (is_of piece) ss else filter (is_of piece) ss)
+          → Told (start list piece ends) (if b then spot_of l d n (site_of list f ends n) ∷ filter (is_of piece) ss else filter (is_of piece) ss)
       by true is =
           let same : n.segment.piece ≡ piece = eqb-true n.segment.piece piece is in
           let inside : piece < length ends = omega (arith, same, within) in
@@ -179,18 +179,18 @@ module _ (list : List (Option ℕ)) (piece : ℕ) where
           let other : piece ≢ n.segment.piece = λ e. absurd (let same : (n.segment.piece == piece) ≡ true = grind (arith, nat_tests, e) in cc (sym same ∙ is)) in
           subst (λ k. Told k (filter (is_of piece) ss)) (passes list piece ends n.segment.piece (end_of f ends n) n.opens other opened_at) more
 
-  follows : (lines text : List Line) (fs : List Form) (ends : List ℕ) (g : Segment) (opens : Option ℕ) (ns : List Note)
+  follows : (text : List Line) (ds : List ℕ) (fs : List Form) (ends : List ℕ) (g : Segment) (opens : Option ℕ) (ns : List Note)
       → Before g opens ends → numbered_after g opens ns ≡ true → drop (length ends) list ≡ opened ns
-      → Told (start list piece ends) (filter (is_of piece) (spots_from lines text ns (sites_from list fs ends ns)))
+      → Told (start list piece ends) (filter (is_of piece) (spots_from text ds ns (sites_from list fs ends ns)))
   unfolding spots_from sites_from numbered_after opened
-  follows lines [] fs ends g opens ns b num rest = (tt, tt)
-  follows lines (l ∷ ls) fs ends g opens [] b num rest = by (is_nil l.tokens) (follows lines ls fs ends g opens [] b num rest)
+  follows [] ds fs ends g opens ns b num rest = (tt, tt)
+  follows (l ∷ ls) ds fs ends g opens [] b num rest = by (is_nil l.tokens) (follows ls (drop 1 ds) fs ends g opens [] b num rest)
     where
-      by : (blank : Bool) → Told (start list piece ends) (filter (is_of piece) (spots_from lines ls [] []))
-          → Told (start list piece ends) (filter (is_of piece) (if blank then spots_from lines ls [] [] else spots_from lines ls [] []))
+      by : (blank : Bool) → Told (start list piece ends) (filter (is_of piece) (spots_from ls (drop 1 ds) [] []))
+          → Told (start list piece ends) (filter (is_of piece) (if blank then spots_from ls (drop 1 ds) [] [] else spots_from ls (drop 1 ds) [] []))
       by true h = h
       by false h = h
-  follows lines (l ∷ ls) fs ends g opens (n ∷ ns) b num rest =
+  follows (l ∷ ls) ds fs ends g opens (n ∷ ns) b num rest =
       let parts = and_parts (may_follow g opens n.segment && aligns_well n) (numbered_after n.segment n.opens ns) num in
       let at = next g n.segment opens ends b (and_parts (may_follow g opens n.segment) (aligns_well n) parts.0).0 in
       let f = head_form fs in
@@ -199,13 +199,13 @@ module _ (list : List (Option ℕ)) (piece : ℕ) where
         many = omega (arith, at.1, b.count, b.many);
         within = omega (arith, at.0, at.1);
       } in
-      by (is_nil l.tokens) (follows lines ls fs ends g opens (n ∷ ns) b num rest)
-      (step lines l f ends n (spots_from lines ls ns (sites_from list (drop 1 fs) (ends_after f ends n) ns)) at.0 (opened_here list piece ends n.opens (opened ns) rest)
-      (follows lines ls (drop 1 fs) (ends_after f ends n) n.segment n.opens ns behind parts.1 (left list ends n.segment.piece (end_of f ends n) n.opens (opened ns) rest)))
+      by (is_nil l.tokens) (follows ls (drop 1 ds) fs ends g opens (n ∷ ns) b num rest)
+      (step l (slice_index ds 0) f ends n (spots_from ls (drop 1 ds) ns (sites_from list (drop 1 fs) (ends_after f ends n) ns)) at.0 (opened_here list piece ends n.opens (opened ns) rest)
+      (follows ls (drop 1 ds) (drop 1 fs) (ends_after f ends n) n.segment n.opens ns behind parts.1 (left list ends n.segment.piece (end_of f ends n) n.opens (opened ns) rest)))
     where
-      by : (blank : Bool) → Told (start list piece ends) (filter (is_of piece) (spots_from lines ls (n ∷ ns) (sites_from list fs ends (n ∷ ns))))
-          → Told (start list piece ends) (filter (is_of piece) (spot_of lines l n (site_of list (head_form fs) ends n) ∷ spots_from lines ls ns (sites_from list (drop 1 fs) (ends_after (head_form fs) ends n) ns)))
-          → Told (start list piece ends) (filter (is_of piece) (if blank then spots_from lines ls (n ∷ ns) (sites_from list fs ends (n ∷ ns)) else spot_of lines l n (site_of list (head_form fs) ends n) ∷ spots_from lines ls ns (sites_from list (drop 1 fs) (ends_after (head_form fs) ends n) ns)))
+      by : (blank : Bool) → Told (start list piece ends) (filter (is_of piece) (spots_from ls (drop 1 ds) (n ∷ ns) (sites_from list fs ends (n ∷ ns))))
+          → Told (start list piece ends) (filter (is_of piece) (spot_of l (slice_index ds 0) n (site_of list (head_form fs) ends n) ∷ spots_from ls (drop 1 ds) ns (sites_from list (drop 1 fs) (ends_after (head_form fs) ends n) ns)))
+          → Told (start list piece ends) (filter (is_of piece) (if blank then spots_from ls (drop 1 ds) (n ∷ ns) (sites_from list fs ends (n ∷ ns)) else spot_of l (slice_index ds 0) n (site_of list (head_form fs) ends n) ∷ spots_from ls (drop 1 ds) ns (sites_from list (drop 1 fs) (ends_after (head_form fs) ends n) ns)))
       by true h k = h
       by false h k = k
 
@@ -219,14 +219,14 @@ first_start ns (suc zero) = refl
 first_start ns (suc (suc zero)) = refl
 first_start ns (suc (suc (suc k))) = start_out (addresses ns) (suc (suc (suc k))) no_bytes (omega arith)
 
-all_follow : (lines out : List Line) (ns : List Note) (fs : List Form) (piece : ℕ) → IsNumbered ns
-    → FollowFromStart (filter (is_of piece) (spots_from lines out ns (sites_from (addresses ns) fs no_bytes ns)))
-all_follow lines out ns fs piece numbered =
+all_follow : (out : List Line) (ds : List ℕ) (ns : List Note) (fs : List Form) (piece : ℕ) → IsNumbered ns
+    → FollowFromStart (filter (is_of piece) (spots_from out ds ns (sites_from (addresses ns) fs no_bytes ns)))
+all_follow out ds ns fs piece numbered =
     let begun_well : Before first_segment None no_bytes = record { count = refl; many = omega arith; within = omega arith } in
-    let told = follows (addresses ns) piece lines out fs no_bytes first_segment None ns begun_well numbered refl in
-    let spots = filter (is_of piece) (spots_from lines out ns (sites_from (addresses ns) fs no_bytes ns)) in
+    let told = follows (addresses ns) piece out ds fs no_bytes first_segment None ns begun_well numbered refl in
+    let spots = filter (is_of piece) (spots_from out ds ns (sites_from (addresses ns) fs no_bytes ns)) in
     from_start (addresses ns) piece spots (subst (λ k. Told (addresses ns) piece k spots) (first_start ns piece) told)
 
 pub stretches_follow : OutlinesAreNumbered → StretchesFollow
-stretches_follow numbered lines out stmts piece =
-    all_follow lines out (outline stmts) (statement_forms (forms (text (outline stmts))) (outline stmts)) piece (numbered stmts)
+stretches_follow numbered out ds stmts piece =
+    all_follow out ds (outline stmts) (statement_forms (forms (text (outline stmts))) (outline stmts)) piece (numbered stmts)

@@ -28,4 +28,4 @@ FollowFromStart [] = Unit {0}
 FollowFromStart (s ∷ ss) = Follow (unwrap_or s.at 0) (s ∷ ss)
 
 abbrev pub StretchesFollow : Type 0
-StretchesFollow = (lines text : List Line) (stmts : List Stmt) (piece : ℕ) → FollowFromStart (filter (is_of piece) (spots_of lines text stmts))
+StretchesFollow = (text : List Line) (depths : List ℕ) (stmts : List Stmt) (piece : ℕ) → FollowFromStart (filter (is_of piece) (spots_of text depths stmts))

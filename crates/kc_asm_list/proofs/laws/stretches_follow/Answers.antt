@@ -1,5 +1,0 @@
-use Rattle.kc_asm_list.proofs.Follow as follow
-use Rattle.kc_asm_list.proofs.laws.stretches_follow.Goals as goal
-
-pub returns : goal.returns
-returns c = follow.stretches_follow c.outlines_are_numbered.ensures

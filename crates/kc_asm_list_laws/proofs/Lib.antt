@@ -1,0 +1,7 @@
+mod Tapes
+mod Pieces
+mod Counted
+mod AllSpots
+mod Once
+mod One
+mod Follow
