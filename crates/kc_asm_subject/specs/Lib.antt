@@ -1,0 +1,4 @@
+pub mod Uses
+pub mod Values
+pub mod Seeking
+pub mod Subject
