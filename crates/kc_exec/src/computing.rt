@@ -15,12 +15,14 @@ use kc_exec_operands::{
 use kc_exec_spec::{Alteration, Computation, Operation, Size};
 use kc_isa::{Insn, Operand};
 
+#[inline(always)]
 fn is_with_a(insn: &Insn) -> bool
     ensures { result ≡ has_a insn.now }
 {
     insn.opcode < 0x60
 }
 
+#[inline(always)]
 fn last_register(insn: &Insn) -> u8
     ensures { result ≡ destination insn.now }
 {
@@ -31,6 +33,7 @@ fn last_register(insn: &Insn) -> u8
     }
 }
 
+#[inline(always)]
 fn is_kept(op: Operation) -> bool
     ensures { result ≡ writes_result op }
 {
@@ -38,6 +41,7 @@ fn is_kept(op: Operation) -> bool
 }
 
 /// Two numbers of a width: S, then A (or D), then the result to D; gives the new high byte of the PSW.
+#[inline(always)]
 #[tactic(auto, using(kc_exec_spec::proofs::Running::run_bind), unfolding(kc_exec_spec::specs::Computing::operate))]
 pub fn do_operate<B: Bus>(
     bus: &mut B,
@@ -60,12 +64,14 @@ pub fn do_operate<B: Bus>(
     Ok(pack(psw, flags))
 }
 
+#[inline(always)]
 fn is_read(how: Alteration) -> bool
     ensures { result ≡ reads_register how }
 {
     !matches!(how, Alteration::Clear)
 }
 
+#[inline(always)]
 #[tactic(auto, using(kc_exec_spec::proofs::Running::run_bind), unfolding(kc_exec_spec::specs::Computing::read_altered))]
 fn read_changed<B: Bus>(
     bus: &mut B,
@@ -87,6 +93,7 @@ fn read_changed<B: Bus>(
 }
 
 /// Changes a register; gives the new high byte of the PSW.
+#[inline(always)]
 #[tactic(auto, using(kc_exec_spec::proofs::Running::run_bind), unfolding(kc_exec_spec::specs::Computing::alter))]
 pub fn do_alter<B: Bus>(
     bus: &mut B,
@@ -107,6 +114,7 @@ pub fn do_alter<B: Bus>(
 }
 
 /// Spreads the sign of the low half of D over D; gives the new high byte of the PSW.
+#[inline(always)]
 #[tactic(auto, using(kc_exec_spec::proofs::Running::run_bind), unfolding(kc_exec_spec::specs::Computing::extend))]
 pub fn do_extend<B: Bus>(bus: &mut B, byte: bool, wsr: u8, d: u8, psw: u8) -> Result<u8, Kind>
     ensures gives { Gives (λ x. x) result (B.held bus.new) (run B.meaning (extend byte wsr d psw) (B.held bus.old)) }
@@ -119,6 +127,7 @@ pub fn do_extend<B: Bus>(bus: &mut B, byte: bool, wsr: u8, d: u8, psw: u8) -> Re
     Ok(pack(psw, flags))
 }
 
+#[inline(always)]
 #[tactic(auto, using(kc_exec_spec::proofs::Running::run_bind), unfolding(kc_exec_spec::specs::Computing::shift_count))]
 fn read_count<B: Bus>(bus: &mut B, wsr: u8, operand: Operand) -> Result<u8, Kind>
     ensures gives { Gives (λ x. x) result (B.held bus.new) (run B.meaning (shift_count wsr operand) (B.held bus.old)) }
@@ -134,6 +143,7 @@ fn read_count<B: Bus>(bus: &mut B, wsr: u8, operand: Operand) -> Result<u8, Kind
 }
 
 /// Shifts D by a count; gives the new high byte of the PSW.
+#[inline(always)]
 #[tactic(auto, using(kc_exec_spec::proofs::Running::run_bind), unfolding(kc_exec_spec::specs::Computing::shift))]
 pub fn do_shift<B: Bus>(
     bus: &mut B,
@@ -155,6 +165,7 @@ pub fn do_shift<B: Bus>(
 }
 
 /// Shifts a long register left until its top bit is 1, and writes the count; gives the new high byte of the PSW.
+#[inline(always)]
 #[tactic(auto, using(kc_exec_spec::proofs::Running::run_bind), unfolding(kc_exec_spec::specs::Computing::normalize))]
 pub fn do_normalize<B: Bus>(bus: &mut B, wsr: u8, insn: &Insn, psw: u8) -> Result<u8, Kind>
     ensures gives { Gives (λ x. x) result (B.held bus.new) (run B.meaning (normalize wsr insn.now psw) (B.held bus.old)) }
@@ -168,6 +179,7 @@ pub fn do_normalize<B: Bus>(bus: &mut B, wsr: u8, insn: &Insn, psw: u8) -> Resul
     Ok(pack(psw, flags))
 }
 
+#[inline(always)]
 #[tactic(auto, using(kc_exec_spec::proofs::Running::run_bind), unfolding(kc_exec_spec::specs::Computing::factor))]
 fn read_factor<B: Bus>(bus: &mut B, byte: bool, wsr: u8, insn: &Insn) -> Result<u16, Kind>
     ensures gives { Gives (λ x. x) result (B.held bus.new) (run B.meaning (factor byte wsr insn.now) (B.held bus.old)) }
@@ -183,6 +195,7 @@ fn read_factor<B: Bus>(bus: &mut B, byte: bool, wsr: u8, insn: &Insn) -> Result<
 }
 
 /// Writes the product of S and A (or the low half of D) to D.
+#[inline(always)]
 #[tactic(auto, using(kc_exec_spec::proofs::Running::run_bind), unfolding(kc_exec_spec::specs::Computing::multiply))]
 pub fn do_multiply<B: Bus>(
     bus: &mut B,
@@ -202,6 +215,7 @@ pub fn do_multiply<B: Bus>(
 }
 
 /// Divides D by S; gives the new high byte of the PSW.
+#[inline(always)]
 #[tactic(auto, using(kc_exec_spec::proofs::Running::run_bind), unfolding(kc_exec_spec::specs::Computing::divide))]
 pub fn do_divide<B: Bus>(
     bus: &mut B,
@@ -223,6 +237,7 @@ pub fn do_divide<B: Bus>(
 }
 
 /// Compares two long registers; gives the new high byte of the PSW.
+#[inline(always)]
 #[tactic(auto, using(kc_exec_spec::proofs::Running::run_bind), unfolding(kc_exec_spec::specs::Computing::compare_long))]
 pub fn do_compare_long<B: Bus>(bus: &mut B, wsr: u8, insn: &Insn, psw: u8) -> Result<u8, Kind>
     ensures gives { Gives (λ x. x) result (B.held bus.new) (run B.meaning (compare_long wsr insn.now psw) (B.held bus.old)) }

@@ -24,6 +24,7 @@ pub(crate) fn following(insn: &Insn, pc: u16) -> u16
 }
 
 /// The distance of a jump, modulo 65536.
+#[inline(always)]
 pub fn distance_of(operand: Operand) -> u16
     ensures { result ≡ distance operand }
 {
@@ -45,6 +46,7 @@ fn branch(taken: bool, insn: &Insn, pc: u16) -> u16
     }
 }
 
+#[inline(always)]
 fn is_held(test: Test, flags: Flags) -> bool
     ensures { result ≡ holds test flags }
 {
@@ -61,6 +63,7 @@ fn is_held(test: Test, flags: Flags) -> bool
 }
 
 /// Whether a conditional jump is taken.
+#[inline(always)]
 pub fn is_met(test: Test, wanted: bool, psw: u8) -> bool
     ensures { result ≡ is_taken test wanted psw }
 {
@@ -68,6 +71,7 @@ pub fn is_met(test: Test, wanted: bool, psw: u8) -> bool
     if wanted { held } else { !held }
 }
 
+#[inline(always)]
 fn is_bit(number: u8, n: u16) -> bool
     requires number { number < 8 }
     requires byte { n < 256 }
@@ -77,6 +81,7 @@ fn is_bit(number: u8, n: u16) -> bool
 }
 
 /// Whether a bit of a register is as it has to be.
+#[inline(always)]
 #[tactic(auto, using(kc_exec_spec::proofs::Running::run_bind), unfolding(kc_exec_spec::specs::Jumping::bit_jump))]
 pub fn is_bit_jump<B: Bus>(
     bus: &mut B,
@@ -95,6 +100,7 @@ pub fn is_bit_jump<B: Bus>(
     Ok(if set { found } else { !found })
 }
 
+#[inline(always)]
 fn less_one(byte: bool, n: u16) -> u16
     requires { n < limit byte }
     ensures { result ≡ (n + limit byte - 1) % limit byte }
@@ -109,6 +115,7 @@ fn less_one(byte: bool, n: u16) -> u16
 }
 
 /// Counts a register down; whether it is not yet 0.
+#[inline(always)]
 #[tactic(auto, using(kc_exec_spec::proofs::Running::run_bind), unfolding(kc_exec_spec::specs::Jumping::count_down))]
 pub fn is_counted<B: Bus>(bus: &mut B, byte: bool, wsr: u8, register: u8) -> Result<bool, Kind>
     ensures gives { Gives (λ x. x) result (B.held bus.new) (run B.meaning (count_down byte wsr register) (B.held bus.old)) }
@@ -121,6 +128,7 @@ pub fn is_counted<B: Bus>(bus: &mut B, byte: bool, wsr: u8, register: u8) -> Res
     Ok(less != 0)
 }
 
+#[inline(always)]
 fn table_place(table: u16, index: u8, mask: u8) -> u16
     ensures { result ≡ at_offset table (2 * bit_and index mask) }
 {
@@ -128,6 +136,7 @@ fn table_place(table: u16, index: u8, mask: u8) -> u16
 }
 
 /// Where TIJMP leads.
+#[inline(always)]
 #[tactic(auto, using(kc_exec_spec::proofs::Running::run_bind), unfolding(kc_exec_spec::specs::Jumping::table_target))]
 pub fn read_table<B: Bus>(bus: &mut B, wsr: u8, insn: &Insn) -> Result<u16, Kind>
     ensures gives { Gives (λ x. x) result (B.held bus.new) (run B.meaning (table_target wsr insn.now) (B.held bus.old)) }
@@ -178,6 +187,7 @@ pub(crate) fn do_jump<B: Bus>(
 }
 
 /// The high byte of the PSW after a jump.
+#[inline(always)]
 pub fn psw_behind(route: Route, psw: u8) -> u8
     ensures { result ≡ psw_after route psw }
 {

@@ -21,6 +21,6 @@ pub use enters::{enter, trap_opcode};
 pub use jumping::{distance_of, is_bit_jump, is_counted, is_met, psw_behind, read_table};
 pub use kc_exec_spec::{After, Cpu, Words};
 pub use moving::{do_exchange, do_load, do_load_extended, do_pop, do_push, do_store};
-pub use places::{is_operand_outside, place, stack_pointer};
+pub use places::{is_operand_outside, is_popping, is_pushing, place, stack_pointer};
 pub use plan::make_plan;
 pub use runs::perform;

@@ -11,6 +11,7 @@ use kc_exec_spec::Movement;
 use kc_isa::Insn;
 
 /// Reads S into D.
+#[inline(always)]
 #[tactic(auto, using(kc_exec_spec::proofs::Running::run_bind), unfolding(kc_exec_spec::specs::Moving::load))]
 pub fn do_load<B: Bus>(bus: &mut B, byte: bool, wsr: u8, insn: &Insn) -> Result<(), Kind>
     ensures gives { Gives (λ x. x) result (B.held bus.new) (run B.meaning (load byte wsr insn.now) (B.held bus.old)) }
@@ -29,6 +30,7 @@ fn extend_sign(n: u16) -> u16
 }
 
 /// Reads the byte S into the word D.
+#[inline(always)]
 #[tactic(auto, using(kc_exec_spec::proofs::Running::run_bind), unfolding(kc_exec_spec::specs::Moving::load_extended))]
 pub fn do_load_extended<B: Bus>(
     bus: &mut B,
@@ -46,6 +48,7 @@ pub fn do_load_extended<B: Bus>(
 }
 
 /// Writes a register to the place of S.
+#[inline(always)]
 #[tactic(auto, using(kc_exec_spec::proofs::Running::run_bind), unfolding(kc_exec_spec::specs::Moving::store))]
 pub fn do_store<B: Bus>(bus: &mut B, byte: bool, wsr: u8, insn: &Insn) -> Result<(), Kind>
     ensures gives { Gives (λ x. x) result (B.held bus.new) (run B.meaning (store byte wsr insn.now) (B.held bus.old)) }
@@ -58,6 +61,7 @@ pub fn do_store<B: Bus>(bus: &mut B, byte: bool, wsr: u8, insn: &Insn) -> Result
 }
 
 /// Exchanges S and D.
+#[inline(always)]
 #[tactic(auto, using(kc_exec_spec::proofs::Running::run_bind), unfolding(kc_exec_spec::specs::Moving::exchange))]
 pub fn do_exchange<B: Bus>(bus: &mut B, byte: bool, wsr: u8, insn: &Insn) -> Result<(), Kind>
     ensures gives { Gives (λ x. x) result (B.held bus.new) (run B.meaning (exchange byte wsr insn.now) (B.held bus.old)) }
@@ -72,6 +76,7 @@ pub fn do_exchange<B: Bus>(bus: &mut B, byte: bool, wsr: u8, insn: &Insn) -> Res
 }
 
 /// Pushes S.
+#[inline(always)]
 #[tactic(auto, using(kc_exec_spec::proofs::Running::run_bind), unfolding(kc_exec_spec::specs::Moving::push_source))]
 pub fn do_push<B: Bus>(bus: &mut B, wsr: u8, insn: &Insn) -> Result<(), Kind>
     ensures gives { Gives (λ x. x) result (B.held bus.new) (run B.meaning (push_source wsr insn.now) (B.held bus.old)) }
@@ -83,6 +88,7 @@ pub fn do_push<B: Bus>(bus: &mut B, wsr: u8, insn: &Insn) -> Result<(), Kind>
 }
 
 /// Pops into the place of S.
+#[inline(always)]
 #[tactic(auto, using(kc_exec_spec::proofs::Running::run_bind), unfolding(kc_exec_spec::specs::Moving::pop_target))]
 pub fn do_pop<B: Bus>(bus: &mut B, wsr: u8, insn: &Insn) -> Result<(), Kind>
     ensures gives { Gives (λ x. x) result (B.held bus.new) (run B.meaning (pop_target wsr insn.now) (B.held bus.old)) }

@@ -15,6 +15,7 @@ use kc_isa::{Insn, Operand, Place, mnemonic_of};
 
 const OUTSIDE: u16 = 0x200;
 
+#[inline(always)]
 fn glance_word<B: Bus>(bus: &B, addr: u16) -> u16
     requires low { 24 ≤ addr }
     requires high { addr < 1024 }
@@ -32,6 +33,7 @@ fn glance_long<B: Bus>(bus: &B, addr: u16) -> u32
 }
 
 /// The stack pointer.
+#[inline(always)]
 pub fn stack_pointer<B: Bus>(bus: &B) -> u16
     ensures { result ≡ word_seen (B.byte (B.held bus.now)) 24 }
 {
@@ -39,6 +41,7 @@ pub fn stack_pointer<B: Bus>(bus: &B) -> u16
 }
 
 // The word in a pointer or base register.
+#[inline(always)]
 fn pointer_at<B: Bus>(bus: &B, addr: u16) -> Result<u16, Kind>
     requires { addr < 512 }
     ensures value { result ≡ or_register addr (word_seen (B.byte (B.held bus.now)) addr) }
@@ -64,6 +67,7 @@ fn count_at<B: Bus>(bus: &B, addr: u16) -> Result<u8, Kind>
     }
 }
 
+#[inline(always)]
 #[tactic(auto, unfolding(kc_exec_spec::specs::Places::is_outside_at))]
 fn is_pointed_outside<B: Bus>(
     bus: &B,
@@ -108,7 +112,8 @@ pub fn is_operand_outside<B: Bus>(
     }
 }
 
-fn is_pushing(plan: Plan) -> bool
+/// Whether the plan puts bytes on the stack.
+pub fn is_pushing(plan: Plan) -> bool
     ensures { result ≡ is_push plan }
 {
     matches!(
@@ -120,7 +125,8 @@ fn is_pushing(plan: Plan) -> bool
     )
 }
 
-fn is_popping(plan: Plan) -> bool
+/// Whether the plan takes bytes from the stack.
+pub fn is_popping(plan: Plan) -> bool
     ensures { result ≡ is_pop plan }
 {
     matches!(

@@ -2,13 +2,12 @@
 ghost use Rattle.std.specs.Prelude.{◌≡◌, ◌≤◌, ◌<◌, IfSome, IfNone, IsTrue, None};
 ghost use Rattle.kc_isa.specs.Formed.{is_formed};
 ghost use Rattle.kc_isa.specs.Names.{mnemonic_at};
-ghost use Rattle.kc_exec_spec.specs.Places.{is_push, is_pop};
 ghost use Rattle.kc_exec_ready.specs.Preparing.{is_pointing, is_counting, told_count, is_normalize, is_conditional, is_free, is_free_setting, cost_among, cost_of, place_when, test_of, ready_of, IsReady};
 
 use crate::cost::Cost;
 use crate::ready::Ready;
-use kc_exec::make_plan;
-use kc_exec_spec::{Computation, Movement, Plan, Route, Saving, Setting, Test};
+use kc_exec::{is_popping, is_pushing, make_plan};
+use kc_exec_spec::{Computation, Plan, Route, Setting, Test};
 use kc_isa::{Insn, Mnemonic, Operand, Place, length, mnemonic_of, states};
 
 fn is_pointing(operand: Operand) -> bool
@@ -75,29 +74,6 @@ fn is_free(plan: Plan) -> bool
         Plan::Set(bit) => is_free_setting(bit),
         Plan::Save(_) | Plan::BlockMove(_) | Plan::Trap | Plan::Idle | Plan::Reset => false,
     }
-}
-
-fn is_pushing(plan: Plan) -> bool
-    ensures { result ≡ is_push plan }
-{
-    matches!(
-        plan,
-        Plan::Move(Movement::Push)
-            | Plan::Jump(Route::Call)
-            | Plan::Save(Saving::PushStatus | Saving::PushAll)
-            | Plan::Trap
-    )
-}
-
-fn is_popping(plan: Plan) -> bool
-    ensures { result ≡ is_pop plan }
-{
-    matches!(
-        plan,
-        Plan::Move(Movement::Pop)
-            | Plan::Jump(Route::Return)
-            | Plan::Save(Saving::PopStatus | Saving::PopAll)
-    )
 }
 
 fn cost_among(points: bool, pushes: bool, pops: bool, when: bool) -> Cost

@@ -32,6 +32,13 @@ IsTable table memory = (k : ℕ) (d : Ready) → k < 0x3FFA → k < length table
 abbrev pub HasSlot : ℕ → Type 0
 HasSlot addr = (0x2000 ≤ addr) × (addr < 0x5FFA)
 
+-- the machine lives, nothing is under way, and nothing goes on or is held
+pub record IsFree {X : Type 0} (m : Machine X) : Type 0 where
+  pub begun : m.under_way ≡ None
+  pub alone : m.going ≡ None
+  pub unheld : m.held ≡ false
+  pub lives : m.ended ≡ None
+
 -- nothing is under way, nothing goes on, and no request is served: the instruction at PC comes next
 pub record IsBetween {X : Type 0} (m : Machine X) : Type 0 where
   pub begun : m.under_way ≡ None

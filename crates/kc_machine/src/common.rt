@@ -318,10 +318,10 @@ impl<X: Extra + Drop> Common<X> {
         ensures steps { self.new.reached < 64 → steps.new + 16 * self.old.reached ≤ steps.old + 16 * self.new.reached }
         ensures moves { self.new.reached < 64 → self.new.block.moves + 16 * self.old.reached ≤ self.old.block.moves + 16 * self.new.reached }
     {
-        let window = self.window(by);
         if addr < 2 {
             return Ok(0);
         }
+        let window = self.window(by);
         let value = self.block.read16_here(window, addr as u8, steps)?;
         self.reached = count(self.reached, weigh_word_read(window, addr));
         Ok(value)
@@ -379,10 +379,10 @@ impl<X: Extra + Drop> Common<X> {
         ensures steps { self.new.reached < 64 → steps.new + 16 * self.old.reached ≤ steps.old + 16 * self.new.reached }
         ensures moves { self.new.reached < 64 → self.new.block.moves + 16 * self.old.reached ≤ self.old.block.moves + 16 * self.new.reached }
     {
-        let window = self.window(by);
         if addr < 2 {
             return Ok(());
         }
+        let window = self.window(by);
         match self
             .block
             .write16_here(window, addr as u8, value, &mut self.edges, steps)

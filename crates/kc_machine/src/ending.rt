@@ -192,6 +192,8 @@ impl<X: Extra + Drop> Core<X> {
         ensures stays { OnErr result (self.new.time ≡ self.old.time) }
         ensures over { self.new.under_way ≡ None }
         ensures going { self.new.going ≡ None }
+        ensures unheld { self.new.held ≡ false }
+        ensures lives { self.new.ended ≡ None }
     {
         match ready_over(ready, &mut self.cpu, &mut self.bus, steps) {
             Ok(()) => {

@@ -1,6 +1,7 @@
 // The edges of pins that the accesses of a state make.
 ghost use Rattle.std.specs.Prelude.{◌≡◌, []};
 ghost use Rattle.std.specs.List.{All};
+ghost use Rattle.std.specs.Bool.{OnTrue};
 ghost use Rattle.kc_trace.specs.Printable.{HasName};
 
 use arrayvec::ArrayVec;
@@ -34,6 +35,14 @@ impl Noted {
         Noted {
             edges: ArrayVec::new(),
         }
+    }
+
+    /// Whether there is no edge.
+    #[inline(always)]
+    pub(crate) fn is_empty(&self) -> bool
+        ensures { OnTrue result (self.now ≡ []) }
+    {
+        self.edges.is_empty()
     }
 
     /// Forgets all edges, and leaves the room for them as it is.

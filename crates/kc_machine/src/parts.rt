@@ -10,7 +10,7 @@ ghost use Rattle.kc_machine_spec.specs.Scene.{byte};
 ghost use Rattle.kc_machine_spec.specs.Machine.{breaks, placed, scene_of, pushing_states, fetches, enters, sets_up, goes_on, goes_first, asked, chosen, current};
 ghost use Rattle.kc_machine_spec.specs.Passing.{IsIdle};
 ghost use Rattle.kc_machine_spec.specs.Peeking.{peeked};
-ghost use Rattle.kc_machine.specs.Prepared.{IsBetween};
+ghost use Rattle.kc_machine.specs.Prepared.{IsBetween, IsFree, HasSlot};
 ghost use Rattle.kc_machine.specs.Sound.{IsGoing, IsReady, IsSoundGoing};
 
 use crate::choosing::{entry_time, fetch};
@@ -220,12 +220,24 @@ impl<X: Extra + Drop> Core<X> {
         requests.pending == 0 && requests.service == 0 || matches!(self.asked(), Choice::Go)
     }
 
-    /// Whether the instruction at PC comes next: nothing is under way, goes on or is served before it.
+    /// Whether the machine lives and nothing is under way, goes on or is held: the instruction at PC comes next, unless a
+    /// request is served.
     #[inline(always)]
-    pub(crate) fn is_between(&self) -> bool
-        ensures { OnTrue result (IsBetween (machine_of self.now)) }
+    pub(crate) fn is_free(&self) -> bool
+        ensures { OnTrue result (IsFree (machine_of self.now)) }
     {
-        self.under_way.is_none() && self.going.is_none() && !self.held && self.is_unasked()
+        self.under_way.is_none() && self.going.is_none() && !self.held && self.ended.is_none()
+    }
+
+    /// Whether the instruction at PC comes next and has a slot, where `free` says that the machine is known to be free.
+    #[inline(always)]
+    pub(crate) fn comes_next(&self, free: bool) -> bool
+        requires { OnTrue free (IsFree (machine_of self.now)) }
+        ensures between { OnTrue result (IsBetween (machine_of self.now)) }
+        ensures lives { OnTrue result (self.now.ended ≡ None) }
+        ensures slot { OnTrue result (HasSlot self.now.cpu.pc) }
+    {
+        free && self.is_unasked() && self.bus.has_slot(self.cpu.pc)
     }
 
     /// The byte at an address, in the window that the processor sees.

@@ -1,6 +1,7 @@
 // How the machine passes whole activities, and spans of idle states, at once.
 ghost use Rattle.std.specs.Prelude.{◌≡◌, ◌≤◌, ◌<◌, ◌+◌, ◌-◌, ◌*◌, ◌^◌, ℕ, ◌++◌, IfSome, IfOk, OnOk, OnErr, None, [], option_to_list, max, true, false};
 ghost use Rattle.std.specs.List.{All};
+ghost use Rattle.std.specs.Bool.{OnTrue};
 ghost use Rattle.kc_span.specs.Span.{after, QuietFor};
 ghost use Rattle.kc_trace.specs.Out.{IsPut, Prints};
 ghost use Rattle.kc_trace.specs.Printable.{CanPrint, HasName};
@@ -14,7 +15,7 @@ ghost use Rattle.kc_machine_spec.specs.Run.{run_to, end_of};
 ghost use Rattle.kc_exec_spec.specs.Plans.{plan_of};
 ghost use Rattle.kc_exec_ready.specs.Preparing as kc_ready;
 ghost use Rattle.kc_exec_ready.specs.Preparing.{is_free};
-ghost use Rattle.kc_machine.specs.Prepared.{IsBetween, HasSlot, executing};
+ghost use Rattle.kc_machine.specs.Prepared.{IsBetween, IsFree, HasSlot, executing};
 ghost use Rattle.kc_machine.specs.Sound.{IsGoing, IsReady, IsSoundGoing};
 ghost use Rattle.kc_machine.specs.Failing.{Passes, FailsIn};
 ghost use Rattle.kc_machine.specs.Stepping.{IsBrief, IdlesFor};
@@ -63,6 +64,9 @@ impl<X: Extra + Drop> Core<X> {
     fn put_edges<S: Sink>(&self, at: StateTime, out: &mut TraceOut<S>)
         ensures { Prints (out_of S.written S.faults out.old) (pins at self.now.bus.edges) (out_of S.written S.faults out.new) }
     {
+        if self.bus.edges.is_empty() {
+            return;
+        }
         put_pins(self.bus.edges.as_slice(), at, out);
     }
 
@@ -175,9 +179,41 @@ impl<X: Extra + Drop> Core<X> {
     }
 
     // Goes on to the end of the activity, or over idle states up to where the units do something, or to `until` if that
-    // comes first.
+    // comes first. `free` says that the machine is known to be free, and the answer that it is so again: a row of prepared
+    // instructions asks for no more between two of them than whether a request is served.
     #[inline(always)]
     fn pass<S: Sink, L: Ledger>(
+        &mut self,
+        free: bool,
+        until: StateTime,
+        out: &mut TraceOut<S>,
+        steps: &mut Steps<L>,
+    ) -> bool
+        requires free { OnTrue free (IsFree (machine_of self.old)) }
+        requires ready { IsReady self.old }
+        requires lives { self.old.ended ≡ None }
+        requires ahead { self.old.time < until }
+        requires room { until ≤ 2 * 10 ^ 15 }
+        ensures passes { Passes X.further until (machine_of self.old) (machine_of self.new) }
+        ensures machine { machine_of self.new ≡ (run_to X.further self.new.time (machine_of self.old)).machine }
+        ensures lines { Prints (out_of S.written S.faults out.old) (run_to X.further self.new.time (machine_of self.old)).records (out_of S.written S.faults out.new) }
+        ensures ready { IsReady self.new }
+        ensures spent { steps.new ≤ steps.old + 4 * (run_to X.further self.new.time (machine_of self.old)).work }
+        ensures moves { self.new.bus.block.moves ≤ self.old.bus.block.moves + 4 * (run_to X.further self.new.time (machine_of self.old)).work }
+        ensures free { OnTrue result (IsFree (machine_of self.new)) }
+    {
+        if self.comes_next(free) {
+            self.pass_slot(until, out, steps)
+        } else {
+            self.pass_slowly(until, out, steps);
+            self.is_free()
+        }
+    }
+
+    // The same, whatever is known of the machine.
+    #[inline(never)]
+    #[cold]
+    fn pass_slowly<S: Sink, L: Ledger>(
         &mut self,
         until: StateTime,
         out: &mut TraceOut<S>,
@@ -198,32 +234,6 @@ impl<X: Extra + Drop> Core<X> {
             let end = self.rest_end(until);
             self.rest(end, out, steps);
         } else {
-            self.pass_activity(until, out, steps);
-        }
-    }
-
-    // Goes on to the end of the activity, or to `until` if that comes first.
-    #[inline(always)]
-    fn pass_activity<S: Sink, L: Ledger>(
-        &mut self,
-        until: StateTime,
-        out: &mut TraceOut<S>,
-        steps: &mut Steps<L>,
-    )
-        requires ready { IsReady self.old }
-        requires lives { self.old.ended ≡ None }
-        requires ahead { self.old.time < until }
-        requires room { until ≤ 2 * 10 ^ 15 }
-        ensures passes { Passes X.further until (machine_of self.old) (machine_of self.new) }
-        ensures machine { machine_of self.new ≡ (run_to X.further self.new.time (machine_of self.old)).machine }
-        ensures lines { Prints (out_of S.written S.faults out.old) (run_to X.further self.new.time (machine_of self.old)).records (out_of S.written S.faults out.new) }
-        ensures ready { IsReady self.new }
-        ensures spent { steps.new ≤ steps.old + 4 * (run_to X.further self.new.time (machine_of self.old)).work }
-        ensures moves { self.new.bus.block.moves ≤ self.old.bus.block.moves + 4 * (run_to X.further self.new.time (machine_of self.old)).work }
-    {
-        if self.is_between() && self.bus.has_slot(self.cpu.pc) {
-            self.pass_slot(until, out, steps);
-        } else {
             self.pass_other(until, out, steps);
         }
     }
@@ -235,7 +245,7 @@ impl<X: Extra + Drop> Core<X> {
         until: StateTime,
         out: &mut TraceOut<S>,
         steps: &mut Steps<L>,
-    )
+    ) -> bool
         requires between { IsBetween (machine_of self.old) }
         requires slot { HasSlot self.old.cpu.pc }
         requires ready { IsReady self.old }
@@ -248,15 +258,17 @@ impl<X: Extra + Drop> Core<X> {
         ensures ready { IsReady self.new }
         ensures spent { steps.new ≤ steps.old + 4 * (run_to X.further self.new.time (machine_of self.old)).work }
         ensures moves { self.new.bus.block.moves ≤ self.old.bus.block.moves + 4 * (run_to X.further self.new.time (machine_of self.old)).work }
+        ensures free { OnTrue result (IsFree (machine_of self.new)) }
     {
         let ready = self.bus.ready_at(self.cpu.pc);
         if is_followed_freely(&ready)
             && let Ok(states) = time_over(&ready, self.cpu, &mut self.bus, steps)
             && u64::from(states) <= until - self.time
         {
-            self.pass_ready(&ready, states, until, out, steps);
+            self.pass_ready(&ready, states, until, out, steps)
         } else {
             self.pass_other(until, out, steps);
+            self.is_free()
         }
     }
 
@@ -324,7 +336,7 @@ impl<X: Extra + Drop> Core<X> {
         put_one(out, &record);
     }
 
-    // Goes on to the end of a prepared instruction.
+    // Goes on to the end of a prepared instruction. Answers whether the machine is free again.
     #[inline(always)]
     fn complete_ready<S: Sink, L: Ledger>(
         &mut self,
@@ -332,7 +344,7 @@ impl<X: Extra + Drop> Core<X> {
         states: u8,
         out: &mut TraceOut<S>,
         steps: &mut Steps<L>,
-    )
+    ) -> bool
         requires between { IsBetween (machine_of self.old) }
         requires told { kc_ready.IsReady ready.now }
         requires followed { is_free (plan_of ready.now.mnemonic) ≡ true }
@@ -346,13 +358,20 @@ impl<X: Extra + Drop> Core<X> {
         ensures lines { Prints (out_of S.written S.faults out.old) (whole X.further (machine_of self.old) (executing ready.now states)).records (out_of S.written S.faults out.new) }
         ensures spent { steps.new ≤ steps.old + 4 * (whole X.further (machine_of self.old) (executing ready.now states)).work }
         ensures moves { self.new.bus.block.moves ≤ self.old.bus.block.moves + 4 * (whole X.further (machine_of self.old) (executing ready.now states)).work }
+        ensures free { OnTrue result (IsFree (machine_of self.new)) }
     {
         let left = u64::from(states);
         self.advance(left, out, steps);
         let at = self.time;
         match self.execute_ready(ready, steps) {
-            Ok(()) => self.put_edges(at, out),
-            Err(kind) => self.put_refusal(kind, out),
+            Ok(()) => {
+                self.put_edges(at, out);
+                true
+            }
+            Err(kind) => {
+                self.put_refusal(kind, out);
+                false
+            }
         }
     }
 
@@ -365,7 +384,7 @@ impl<X: Extra + Drop> Core<X> {
         until: StateTime,
         out: &mut TraceOut<S>,
         steps: &mut Steps<L>,
-    )
+    ) -> bool
         requires between { IsBetween (machine_of self.old) }
         requires told { kc_ready.IsReady ready.now }
         requires followed { is_free (plan_of ready.now.mnemonic) ≡ true }
@@ -382,8 +401,9 @@ impl<X: Extra + Drop> Core<X> {
         ensures ready { IsReady self.new }
         ensures spent { steps.new ≤ steps.old + 4 * (run_to X.further self.new.time (machine_of self.old)).work }
         ensures moves { self.new.bus.block.moves ≤ self.old.bus.block.moves + 4 * (run_to X.further self.new.time (machine_of self.old)).work }
+        ensures free { OnTrue result (IsFree (machine_of self.new)) }
     {
-        self.complete_ready(ready, states, out, steps);
+        self.complete_ready(ready, states, out, steps)
     }
 
     // Goes on to the end of the current activity, or to `until` if that comes first.
@@ -437,11 +457,12 @@ impl<X: Extra + Drop> Core<X> {
         ensures spent { steps.new ≤ steps.old + 4 * (run_to X.further self.new.time (machine_of self.old)).work }
         ensures moves { self.new.bus.block.moves ≤ self.old.bus.block.moves + 4 * (run_to X.further self.new.time (machine_of self.old)).work }
     {
+        let mut free = self.is_free();
         while self.time < until {
-            if let Some(end) = self.ended {
+            if let Some(end) = self.ended_unless(free) {
                 return Ok(end);
             }
-            self.pass(until, out, steps);
+            free = self.pass(free, until, out, steps);
             if out.failed() {
                 return Err(WriteFault);
             }
@@ -497,6 +518,15 @@ impl<X: Extra + Drop> Core<X> {
         Ok(self.ended)
     }
 
+    // How the run has ended, which it has not where the machine is known to be free.
+    #[inline(always)]
+    fn ended_unless(&self, free: bool) -> Option<End>
+        requires { OnTrue free (IsFree (machine_of self.now)) }
+        ensures { result ≡ self.now.ended }
+    {
+        if free { None } else { self.ended }
+    }
+
     // How the run has ended so far.
     fn end(&self) -> End
         ensures { result ≡ end_of (machine_of self.now) }
@@ -508,6 +538,8 @@ impl<X: Extra + Drop> Core<X> {
     }
 }
 // The edges of pins in a state are printed.
+#[inline(never)]
+#[cold]
 fn put_pins<S: Sink>(edges: &[Edge], at: StateTime, out: &mut TraceOut<S>)
     requires { All HasName edges.now }
     ensures { Prints (out_of S.written S.faults out.old) (pins at edges.now) (out_of S.written S.faults out.new) }

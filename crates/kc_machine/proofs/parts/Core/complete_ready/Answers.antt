@@ -76,3 +76,11 @@ returns-in-Err-clause-moves g c =
     let ticks = rw c.from-left.ensures at c.advance.ensures.moves in
     let same = moves-same c.execute_ready.new.self.bus c.put_refusal.new.self.bus c.put_refusal.ensures.bus in
     omega (arith, work, ticks, c.execute_ready.ensures.moves, same)
+
+pub returns-in-Ok-clause-free : goal.returns-in-Ok-clause-free
+returns-in-Ok-clause-free g c = record {
+  begun = c.execute_ready.ensures.over;
+  alone = c.execute_ready.ensures.going;
+  unheld = c.execute_ready.ensures.unheld;
+  lives = c.execute_ready.ensures.lives;
+}

@@ -1,6 +1,8 @@
 use Rattle.std.proofs.Common.{◌≡◌, ◌-◌, ◌+◌, ◌*◌, ◌≤◌, max, false}
 use Rattle.kc_machine_spec.specs.Run.{run_to}
 use Rattle.kc_machine_spec.proofs.Coming.{Came}
+use Rattle.std.specs.Bool.{OnTrue}
+use Rattle.kc_machine.specs.Prepared.{IsFree}
 use Rattle.kc_machine.specs.Sound.{IsReady}
 use Rattle.kc_trace.specs.Trace.{out_of}
 use Rattle.kc_machine.specs.Seen.{machine_of}
@@ -14,6 +16,7 @@ invariant-loop-self g l = record {
   spent : l.steps ≤ l.initial.steps + 4 * (run_to g.X.Extra.further l.self.time (machine_of l.initial.self)).work;
   moves : l.self.bus.block.moves ≤ l.initial.self.bus.block.moves + 4 * (run_to g.X.Extra.further l.self.time (machine_of l.initial.self)).work;
   ready : IsReady l.self;
+  free : OnTrue l.free (IsFree (machine_of l.self));
 }
 
 abbrev pub decreases-loop-self : goal.decreases-loop-self

@@ -10,7 +10,7 @@ use Rattle.kc_machine_spec.specs.Run.{run_to}
 use Rattle.kc_machine_spec.proofs.Idle.{run_to-rests}
 use Rattle.kc_machine.specs.Seen.{machine_of}
 use Rattle.kc_machine.proofs.Failing.{passes-idle}
-use Rattle.kc_machine.proofs.parts.Core.pass.Goals as goal
+use Rattle.kc_machine.proofs.parts.Core.pass_slowly.Goals as goal
 
 pub returns-then-rests-clause-passes : goal.returns-then-rests-clause-passes
 returns-then-rests-clause-passes g c =
