@@ -1,10 +1,10 @@
 -- Which codes there are, and how they are spelled (this kit's own).
-use Rattle.std.specs.Prelude.{ℕ, ◌+◌, ◌/◌, ◌%◌, List, [], ◌∷◌, ◌++◌, codes, map, nat_lt, if◌then◌else◌}
+use Rattle.std.specs.Prelude.{ℕ, ◌+◌, ◌/◌, ◌%◌, List, [], ◌∷◌, ◌++◌, Option, Some, None, codes, map, nat_lt, if◌then◌else◌}
 use Rattle.std.specs.List.{range_with_len}
 use Rattle.kc_base.specs.declared.types.Kind.{Kind}
 use Rattle.kc_trace.specs.Text.{kind_number}
 use Rattle.kc_stim.specs.declared.fault.StimFault.{StimFault}
-use Rattle.kc_stim.specs.declared.fault.StimFault.TheVariants as stim
+use Rattle.kc_stim.specs.Faults.{place_of}
 use Rattle.kc_link_place.specs.declared.ranges.LinkFault.{LinkFault}
 use Rattle.kc_link_place.specs.declared.ranges.LinkFault.TheVariants as link
 use Rattle.kc_kit_files.specs.declared.status.Status.{Status}
@@ -40,13 +40,12 @@ status_number status.NoMemory = 9
 abbrev pub status_code : Status → List ℕ
 status_code given = numbered (codes "status") (status_number given)
 
+abbrev pub code_at : Option (ℕ × List ℕ) → List ℕ
+code_at (Some place) = place.1
+code_at None = status_code status.NoMemory
+
 abbrev pub stimulus_code : StimFault → List ℕ
-stimulus_code (stim.BadLine line) = codes "BADLINE"
-stimulus_code (stim.Wired line) = codes "WIRED"
-stimulus_code (stim.Falling line) = codes "FALLING"
-stimulus_code (stim.Twice line) = codes "TWICE"
-stimulus_code (stim.TooMany line) = codes "TOOMANY"
-stimulus_code stim.NoMemory = status_code status.NoMemory
+stimulus_code fault = code_at (place_of fault)
 
 abbrev pub rule_code : LinkFault → List ℕ
 rule_code (link.Unresolved name) = codes "unresolved"

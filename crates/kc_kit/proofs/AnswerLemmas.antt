@@ -44,31 +44,33 @@ use Rattle.kc_kit_words.specs.declared.extent.Extent.{Extent}
 use Rattle.kc_kit_words.specs.declared.inputs.Role.{Role}
 use Rattle.kc_kit_words.specs.declared.inputs.Role.TheVariants as role
 use Rattle.kc_lib.specs.Taking.{AreTaken}
-use Rattle.kc_kit_words.specs.Words.{placing_of, Beside, Command, Helps, HelpsOn, TellsVersion, Runs, Profiles, Assembles, Packs, Links, RunsHex, ProfilesHex, Lists, Debugs, Generates, Dumps, Explains}
+use Rattle.kc_kit_words.specs.Commands.{Beside, Command, Helps, HelpsOn, TellsVersion, Runs, Profiles, Assembles, Packs, Links, RunsHex, ProfilesHex, Lists, Debugs, Generates, Dumps, Explains, names_of, names_read, names_written, names_beside}
+use Rattle.kc_kit_words.specs.Words.{placing_of}
 use Rattle.kc_kit_inputs.specs.declared.driving.Driving.{Driving}
 use Rattle.kc_kit_inputs.specs.Analog.{by_bad_line, values_of}
 use Rattle.kc_kit_inputs.specs.Driving.{GivenFiles, given_for, with_drives, driving_of}
 use Rattle.kc_kit_inputs.specs.Hex.{by_image, hex_of}
-use Rattle.kc_kit_inputs.specs.Inputs.{names_of, input_for}
+use Rattle.kc_kit_inputs.specs.Inputs.{input_for}
 use Rattle.kc_kit_inputs.specs.Library.{fault_reply, by_library, library_of}
 use Rattle.kc_kit_inputs.specs.Library as libraries
 use Rattle.kc_kit_inputs.specs.Lines.{coded}
-use Rattle.kc_kit_inputs.specs.Notes.{source_reply, line_reply, byte_reply}
+use Rattle.kc_kit_inputs.specs.Replies.{source_reply, line_reply, byte_reply}
 use Rattle.kc_kit_inputs.specs.Objects.{modules_of, by_object, object_of}
 use Rattle.kc_kit_inputs.specs.Scripts.{by_lines, script_of, lines_of}
 use Rattle.kc_kit_inputs.specs.Sources.{AreModules, TellsFault, TellsFirst, IsFaultless, AreFaultless}
-use Rattle.kc_kit_inputs.specs.Stimuli.{place_of, by_fault, drives_of}
+use Rattle.kc_stim.specs.Faults.{place_of}
+use Rattle.kc_kit_inputs.specs.Stimuli.{by_fault, drives_of}
 use Rattle.kc_kit_inputs.specs.Stimuli as stimulus
 use Rattle.kc_kit_answer.specs.Accepting.{Accepting, IsOneText, AreTwoTexts, told}
-use Rattle.kc_kit_answer.specs.Answer.{names_read, names_written, names_beside, OneText, TwoTexts, Parted, CommandAnswer, MayAnswer, IsAccepted, StaysBut}
+use Rattle.kc_kit_answer.specs.Answer.{OneText, TwoTexts, Parted, CommandAnswer, MayAnswer, IsAccepted, StaysBut}
 use Rattle.kc_kit_answer.specs.Assemble.{AreListings, AssembleAnswer}
 use Rattle.kc_kit_answer.specs.Debug.{debugged_by, debug_reply, DebugAnswer, IsDebuggable}
 use Rattle.kc_kit_answer.specs.Dump.{DumpAnswer, IsTraceText}
 use Rattle.kc_kit_answer.specs.Explain.{explained_by, explained}
 use Rattle.kc_kit_answer.specs.Generate.{made_names, made_texts, made_given, summary_of}
 use Rattle.kc_kit_answer.specs.Hex.{HexTold, RunHexAnswer, ListingOf, ListAnswer}
-use Rattle.kc_kit_answer.specs.Lines.{link_line, member_words}
-use Rattle.kc_kit_answer.specs.Notes.{link_note}
+use Rattle.kc_kit_notes.specs.Rules.{link_line, member_words}
+use Rattle.kc_kit_notes.specs.RuleNotes.{link_note}
 use Rattle.kc_kit_answer.specs.Link.{IsMap, map_writes, LinksTo, Taking, Completed, LinkAnswer, IsLinkable}
 use Rattle.kc_kit_answer.specs.Pack.{packed, PackAnswer}
 use Rattle.kc_kit_answer.specs.Places.{by_places, places_of, Placing}
@@ -322,14 +324,14 @@ sound-link names library out beside ranges texts r h =
     (λ ms e k. sound-completed ns names library (λ files. Placing files ranges (LinksTo out beside ranges)) ms r
     (λ files all l. then-all (IsSound ns) (places_of files all ranges) (LinksTo out beside ranges all) r (sound-places ns files all (placed all ranges)) (λ places f m. sound-links out beside ranges all places r m) l) k) h
 
-sound-packed : (out : List ℕ) (ms : List Object) (double : Option (List ℕ)) → IsSound (out ∷ []) (packed out ms double)
-sound-packed out ms None = record { told = refl; named = inr refl }
-sound-packed out ms (Some name) = record { told = refl; named = inl refl }
+sound-packed : (names : List (List ℕ)) (out : List ℕ) (ms : List Object) (double : Option (List ℕ)) → IsSound (out ∷ []) (packed names out ms double)
+sound-packed names out ms None = record { told = refl; named = inr refl }
+sound-packed names out ms (Some name) = record { told = refl; named = inl refl }
 
 sound-pack : (names : List (List ℕ)) (out : List ℕ) (texts : List (List ℕ)) (r : Reply) → PackAnswer names out texts r → IsSound (out ∷ []) r
 sound-pack names out texts r h =
-    then-all (IsSound (out ∷ [])) (modules_of object_of names texts) (λ ms reply. reply ≡ packed out ms (doubled ms)) r (sound-modules (out ∷ []) names texts)
-    (λ ms e k. subst (IsSound (out ∷ [])) (sym k) (sound-packed out ms (doubled ms))) h
+    then-all (IsSound (out ∷ [])) (modules_of object_of names texts) (λ ms reply. reply ≡ packed names out ms (doubled ms)) r (sound-modules (out ∷ []) names texts)
+    (λ ms e k. subst (IsSound (out ∷ [])) (sym k) (sound-packed names out ms (doubled ms))) h
 
 sound-dump : (name out : List ℕ) (clock : ℕ) (text : List ℕ) (r : Reply) → DumpAnswer name out clock text r → IsSound (out ∷ []) r
 sound-dump name out clock text r (Ok items, read, h) = subst (IsSound (out ∷ [])) (sym h) (record { told = refl; named = inr refl })
@@ -658,9 +660,9 @@ done-completed names (Some library) out beside ranges ms r a h =
     accepted-then _ (Taking names library.0 (λ files. Placing files ranges (LinksTo out beside ranges)) ms) (library_of library.0 library.1) r
     (λ members b k. done-taking names library.0 out beside ranges ms members r b k) a h
 
-done-packed : (out : List ℕ) (ms : List Object) (double : Option (List ℕ)) → double ≡ None → IsDone (packed out ms double).status
-done-packed out ms None e = inl refl
-done-packed out ms (Some name) e = absurd (cc)
+done-packed : (names : List (List ℕ)) (out : List ℕ) (ms : List Object) (double : Option (List ℕ)) → double ≡ None → IsDone (packed names out ms double).status
+done-packed names out ms None e = inl refl
+done-packed names out ms (Some name) e = absurd (cc)
 
 done-dump : (name out : List ℕ) (clock : ℕ) (texts : List (List ℕ)) (r : Reply) → IsOneText IsTraceText texts → OneText (DumpAnswer name out clock) texts r → IsDone r.status
 done-dump name out clock (t ∷ []) r a (Ok items, read, h) = inl (ap (λ (k : Reply). k.status) h)
@@ -693,7 +695,7 @@ done-command (Some (Assembles file out list)) contents r a h =
     accepted-then _ (OneText (AssembleAnswer file out list)) (reads_of (file ∷ []) contents) r (λ texts b k. done-objects file out list texts r b k) a h
 done-command (Some (Packs files out)) contents r a h =
     accepted-then _ (PackAnswer files out) (reads_of files contents) r
-    (λ texts b k. accepted-then _ (λ ms reply. reply ≡ packed out ms (doubled ms)) (modules_of object_of files texts) r (λ ms c l. done-told r (packed out ms (doubled ms)) l (done-packed out ms (doubled ms) c)) b k) a h
+    (λ texts b k. accepted-then _ (λ ms reply. reply ≡ packed files out ms (doubled ms)) (modules_of object_of files texts) r (λ ms c l. done-told r (packed files out ms (doubled ms)) l (done-packed files out ms (doubled ms) c)) b k) a h
 done-command (Some (Links files inputs out beside placing)) contents r a h =
     accepted-then _ (Parted (length files) (LinkAnswer files inputs out beside placing)) (reads_of (files ++ names_of inputs) contents) r
     (λ texts b k. accepted-then _ (Completed files (input_for role.Library inputs (drop (length files) texts)) (λ names. Placing names placing (LinksTo out beside placing))) (modules_of object_of files (take (length files) texts)) r

@@ -9,7 +9,7 @@ use Rattle.kc_kit_files.specs.Reply.{Reply}
 use Rattle.kc_kit_files.specs.Outside.{Kept, Shown, Replies}
 use Rattle.kc_kit_files.specs.Ended.{EndsBy}
 use Rattle.kc_kit_files.proofs.EndLemmas.{Ends-widen, ends-by}
-use Rattle.kc_kit_words.specs.Words.{Command}
+use Rattle.kc_kit_words.specs.Commands.{Command}
 use Rattle.kc_kit_answer.specs.Answer.{MayAnswer}
 use Rattle.kc_kit.proofs.AnswerLemmas.{may-usage}
 

@@ -12,7 +12,8 @@ ghost use Rattle.kc_kit_files.specs.Reply.{says};
 ghost use Rattle.kc_kit_words.specs.Usage.{usage_note};
 ghost use Rattle.kc_kit_words.specs.Words.{command_of};
 ghost use Rattle.kc_kit_words.specs.Asked.{asked, IsWithin};
-ghost use Rattle.kc_kit_answer.specs.Answer.{MayAnswerBy, IsAccepted, StaysBut, names_read, names_written};
+ghost use Rattle.kc_kit_words.specs.Commands.{names_read, names_written};
+ghost use Rattle.kc_kit_answer.specs.Answer.{MayAnswerBy, IsAccepted, StaysBut};
 ghost use Rattle.kc_kit_answer.specs.Jobs.{IsDoable, IsOf, IsReady};
 ghost use Rattle.kc_kit_answer.specs.Lines.{usage_line};
 

@@ -1,6 +1,6 @@
--- Modules that break a rule of the linker, and the words that name their files.
-use Rattle.std.proofs.Common.{◌≡◌, ℕ, zero, suc, ◌<◌, ◌≤◌, List, [], ◌∷◌, length, get_or, string_bytes, String, Global, Option, Some, None, Ok, Err, refl, sym, ◌∙◌, ap, subst, arith}
-use Rattle.std.specs.Prelude.{slice_get, Result}
+-- Modules that break a rule of the linker, and the files of those that are linked.
+use Rattle.std.proofs.Common.{◌≡◌, ℕ, List, [], ◌∷◌, ◌++◌, Option, Some, None, Ok, Err, refl, sym, ◌∙◌, ap, subst}
+use Rattle.std.specs.Prelude.{Result}
 use Rattle.kc_obj.specs.Object.{Object}
 use Rattle.kc_link_place.specs.declared.ranges.Ranges.{Ranges}
 use Rattle.kc_link_place.specs.declared.ranges.LinkFault.{LinkFault}
@@ -11,19 +11,14 @@ use Rattle.kc_kit_files.specs.declared.status.Status.TheVariants as status
 use Rattle.kc_kit_files.specs.declared.refusal.Refusal.{Refusal}
 use Rattle.kc_kit_files.specs.declared.refusal.Refusal.TheVariants as refusals
 use Rattle.kc_kit_files.specs.Reply.{Reply, Write, write, tells, done_writing, Then, IsRefused}
-use Rattle.kc_kit_words.specs.Words.{Beside}
+use Rattle.kc_kit_words.specs.Commands.{Beside}
 use Rattle.kc_hex.specs.Spelling.{spelling}
 use Rattle.kc_link.specs.Filled.{IsImage}
 use Rattle.kc_kit_answer.specs.Link.{IsMap, LinksTo, AreLineMaps, AreMaps, map_writes}
 use Rattle.kc_kit_files.proofs.ReadLemmas.{refused-widen}
-use Rattle.std.specs.Prelude.{◌-◌, ◌++◌}
-use Rattle.std.proofs.lemmas.List.{append-nil}
-use Rattle.kc_kit_inputs.proofs.Words.{names_in, name-get, length-names}
 use Rattle.kc_kit_answer.proofs.AnswerSteps.{then-err}
-use Rattle.kc_kit_answer.specs.declared.link_lines.Members.{Members}
-use Rattle.kc_kit_answer.specs.Origins.{words_of_members, with_members}
-use Rattle.kc_kit_answer.specs.Lines.{link_line, file_at}
-use Rattle.kc_kit_answer.specs.Notes.{link_note}
+use Rattle.kc_kit_notes.specs.Rules.{link_line}
+use Rattle.kc_kit_notes.specs.RuleNotes.{link_note}
 use Rattle.kc_kit_answer.specs.Places.{by_places, places_of, Placing}
 
 -- ---- linking
@@ -95,32 +90,3 @@ linked-files names out beside ranges ms image bytes first second linked spelled 
       done = λ i. done_writing (write out (spelled i) ∷ first ++ map-at beside.map ms ranges places second is maps i);
     } in
     subst (λ r. Then (by_places names ms r) (LinksTo out beside ranges ms) reply) (sym is) files
-
--- the word of a module's file
-abbrev file_word : Option (List ℕ) → List ℕ
-file_word word = elim word [ None ↦ 45 ∷ [] | Some name ↦ name ]
-
-slice-front : (names more : List (List ℕ)) (i : ℕ) → i < length names → slice_get (names ++ more) i ≡ slice_get names i
-slice-front [] more i h = absurd (omega (arith, h))
-slice-front (a ∷ names) more zero h = refl
-slice-front (a ∷ names) more (suc i) h = slice-front names more i (omega (arith, h))
-
-slice-behind : (names more : List (List ℕ)) (i : ℕ) → length names ≤ i → slice_get (names ++ more) i ≡ slice_get more (i - length names)
-slice-behind [] more i h = ap (slice_get more) (let e : i ≡ i - length {A = List ℕ} [] = omega arith in e)
-slice-behind (a ∷ names) more zero h = absurd (omega (arith, h))
-slice-behind (a ∷ names) more (suc i) h = slice-behind names more i (omega (arith, h)) ∙ ap (slice_get more) (let e : i - length names ≡ suc i - length (a ∷ names) = omega arith in e)
-
-members-behind : (names : List (List ℕ)) (members : Option Members) → with_members names members ≡ names ++ words_of_members members
-members-behind names None = sym (append-nil names)
-members-behind names (Some members) = refl
-
-pub file-there : (ws : List (String Global)) (members : Option Members) (i : ℕ) (w : String Global) → i < length ws → w ≡ get_or ws i w → file_at (with_members (names_in ws) members) i ≡ string_bytes w
-file-there ws members i w h e =
-    ap (λ names. file_at names i) (members-behind (names_in ws) members)
-    ∙ ap file_word (slice-front (names_in ws) (words_of_members members) i (omega (arith, h, length-names ws)) ∙ name-get ws i w h e)
-
-pub file-behind : (ws : List (String Global)) (members : Option Members) (i : ℕ) → length ws ≤ i → file_at (with_members (names_in ws) members) i ≡ file_at (words_of_members members) (i - length ws)
-file-behind ws members i h =
-    ap (λ names. file_at names i) (members-behind (names_in ws) members)
-    ∙ ap file_word (slice-behind (names_in ws) (words_of_members members) i (omega (arith, h, length-names ws)))
-    ∙ ap (λ n. file_at (words_of_members members) (i - n)) (length-names ws)

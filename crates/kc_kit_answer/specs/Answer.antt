@@ -1,7 +1,6 @@
 -- What the kit answers to a command line over what the files hold (this kit's own).
 use Rattle.std.specs.Prelude.{◌≡◌, true, ◌≢◌, ◌⊎◌, ℕ, List, [], ◌∷◌, ◌++◌, length, take, drop, Option, Some, None}
 use Rattle.std.specs.Result.{IsOk}
-use Rattle.std.specs.Option.{option_to_list}
 use Rattle.kc_base.specs.Causes.{Rose}
 use Rattle.kc_base.specs.Held.{Holding}
 use Rattle.kc_hex.specs.Records.{image_of}
@@ -10,9 +9,8 @@ use Rattle.kc_explain.specs.Meanings.{is_among}
 use Rattle.kc_kit_files.specs.declared.status.Status.TheVariants as status
 use Rattle.kc_kit_files.specs.Reply.{Reply, says, Then}
 use Rattle.kc_kit_files.specs.Reads.{reads_of, Holds, FailedRead}
-use Rattle.kc_kit_words.specs.Words.{Beside, Command, Helps, HelpsOn, TellsVersion, Runs, Profiles, Assembles, Packs, Links, RunsHex, ProfilesHex, Lists, Debugs, Generates, Dumps, Explains}
+use Rattle.kc_kit_words.specs.Commands.{Beside, Command, Helps, HelpsOn, TellsVersion, Runs, Profiles, Assembles, Packs, Links, RunsHex, ProfilesHex, Lists, Debugs, Generates, Dumps, Explains, names_of, names_read}
 use Rattle.kc_kit_inputs.specs.Driving.{given_for, driving_of}
-use Rattle.kc_kit_inputs.specs.Inputs.{names_of}
 use Rattle.kc_kit_inputs.specs.Sources.{IsFaultless}
 use Rattle.kc_kit_answer.specs.Accepting.{Accepting, IsOneText, AreTwoTexts}
 use Rattle.kc_kit_answer.specs.Assemble.{AssembleAnswer}
@@ -27,34 +25,6 @@ use Rattle.kc_kit_answer.specs.Link.{LinkAnswer, AreLinkable}
 use Rattle.kc_kit_answer.specs.Pack.{PackAnswer, ArePackable}
 use Rattle.kc_kit_answer.specs.Run.{RunAnswer, AreRunnable}
 use Rattle.kc_kit_answer.specs.Profile.{ProfileAnswer, ProfileHexAnswer}
-
--- ---- the files that a command names: those that are read, in this order, and those that are written
-
-abbrev pub names_read : Option Command → List (List ℕ)
-names_read (Some (Runs files inputs extent placing)) = files ++ names_of inputs
-names_read (Some (Assembles file out list)) = file ∷ []
-names_read (Some (Packs files out)) = files
-names_read (Some (Links files inputs out beside placing)) = files ++ names_of inputs
-names_read (Some (Profiles files inputs states placing out)) = files ++ names_of inputs
-names_read (Some (ProfilesHex file inputs states out)) = file ∷ names_of inputs
-names_read (Some (RunsHex file inputs extent)) = file ∷ names_of inputs
-names_read (Some (Lists file first last)) = file ∷ []
-names_read (Some (Debugs file script inputs)) = file ∷ script ∷ names_of inputs
-names_read (Some (Dumps file out clock)) = file ∷ []
-names_read _ = []
-
--- the files beside a hex file
-abbrev pub names_beside : Beside → List (List ℕ)
-names_beside beside = option_to_list beside.lines ++ option_to_list beside.map
-
-abbrev pub names_written : Option Command → List (List ℕ)
-names_written (Some (Assembles file out list)) = out ∷ option_to_list list
-names_written (Some (Packs files out)) = out ∷ []
-names_written (Some (Links files inputs out beside placing)) = out ∷ names_beside beside
-names_written (Some (Dumps file out clock)) = out ∷ []
-names_written (Some (Profiles files inputs states placing out)) = out ∷ []
-names_written (Some (ProfilesHex file inputs states out)) = out ∷ []
-names_written _ = []
 
 -- ---- commands
 

@@ -4,10 +4,13 @@ use Rattle.kc_explain.specs.Meanings.{Said, said_of}
 use Rattle.kc_explain.specs.Text.{meaning_text}
 use Rattle.kc_kit_files.specs.declared.status.Status.TheVariants as status
 use Rattle.kc_kit_files.specs.Reply.{Reply, says, tells}
-use Rattle.kc_kit_answer.specs.Notes.{no_code_note}
 
 abbrev pub no_code_line : List ℕ → List ℕ
 no_code_line code = codes "missing code " ++ code ++ codes "\n"
+
+-- what is said in words of a code that is none
+abbrev pub no_code_note : List ℕ → List ℕ
+no_code_note code = codes "kc96: error: there is no code " ++ code ++ codes "\n"
 
 -- the text of a row, or that there is no such code
 abbrev pub explained_by : List ℕ → Option Said → Reply

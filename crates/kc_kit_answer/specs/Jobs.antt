@@ -16,7 +16,7 @@ use Rattle.kc_kit_files.specs.declared.refusal.Refusal.{Refusal}
 use Rattle.kc_kit_files.specs.Reply.{Reply, Write, write, says, done_writing, IsRefused, IsSaid}
 use Rattle.kc_kit_words.specs.Asked.{IsBounded}
 use Rattle.kc_kit_words.specs.Values.{max_states}
-use Rattle.kc_kit_words.specs.Words.{Command}
+use Rattle.kc_kit_words.specs.Commands.{Command}
 use Rattle.kc_kit_inputs.specs.declared.driving.Driving.{Driving}
 use Rattle.kc_kit_answer.specs.declared.board.Board.{Board}
 use Rattle.kc_kit_answer.specs.declared.job.Job.{Job}

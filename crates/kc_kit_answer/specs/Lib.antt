@@ -12,8 +12,6 @@ pub mod Jobs
 pub mod Lines
 pub mod Link
 pub mod Lives
-pub mod Notes
-pub mod Origins
 pub mod Pack
 pub mod Places
 pub mod Run

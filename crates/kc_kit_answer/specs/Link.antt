@@ -13,14 +13,15 @@ use Rattle.kc_link.specs.Filled.{IsFilled}
 use Rattle.kc_link.specs.LineMap.{IsLineMap}
 use Rattle.kc_hex.specs.Spelling.{spelling}
 use Rattle.kc_kit_files.specs.Reply.{Reply, Write, write, done_writing, Then}
-use Rattle.kc_kit_words.specs.Words.{Beside}
+use Rattle.kc_kit_words.specs.Commands.{Beside}
 use Rattle.kc_kit_words.specs.declared.inputs.Role.{Role}
 use Rattle.kc_kit_words.specs.declared.inputs.Role.TheVariants as role
 use Rattle.kc_kit_inputs.specs.Inputs.{input_for}
 use Rattle.kc_kit_inputs.specs.Library.{library_of, TakenAre}
 use Rattle.kc_kit_inputs.specs.Objects.{modules_of, object_of}
 use Rattle.kc_kit_answer.specs.Accepting.{Accepting}
-use Rattle.kc_kit_answer.specs.Lines.{member_words, map_text}
+use Rattle.kc_kit_notes.specs.Rules.{member_words}
+use Rattle.kc_kit_answer.specs.Lines.{map_text}
 use Rattle.kc_kit_answer.specs.Places.{places_of, Placing}
 
 -- the line map, where one is asked for

@@ -8,17 +8,17 @@ use Rattle.kc_kit_files.specs.declared.status.Status.TheVariants as status
 use Rattle.kc_kit_files.specs.Reply.{Reply, tells, write, done_writing, Then}
 use Rattle.kc_kit_inputs.specs.Objects.{modules_of, object_of}
 use Rattle.kc_kit_answer.specs.Accepting.{Accepting}
-use Rattle.kc_kit_answer.specs.Lines.{link_line}
-use Rattle.kc_kit_answer.specs.Notes.{link_note}
+use Rattle.kc_kit_notes.specs.Rules.{link_line}
+use Rattle.kc_kit_notes.specs.RuleNotes.{link_note}
 
 -- the library of modules is written, or the first name is told that is public in two of them
-abbrev pub packed : List ℕ → List Object → Option (List ℕ) → Reply
-packed out ms None = done_writing (write out (library_bytes ms) ∷ [])
-packed out ms (Some name) = tells status.Link (link_line [] (faults.OverlapName name)) (link_note [] ms (faults.OverlapName name))
+abbrev pub packed : List (List ℕ) → List ℕ → List Object → Option (List ℕ) → Reply
+packed names out ms None = done_writing (write out (library_bytes ms) ∷ [])
+packed names out ms (Some name) = tells status.Link (link_line names (faults.OverlapName name)) (link_note names ms (faults.OverlapName name))
 
 -- the answer to objects that were read
 abbrev pub PackAnswer : List (List ℕ) → List ℕ → List (List ℕ) → Reply → Type 0
-PackAnswer names out texts reply = Then (modules_of object_of names texts) (λ ms reply. reply ≡ packed out ms (doubled ms)) reply
+PackAnswer names out texts reply = Then (modules_of object_of names texts) (λ ms reply. reply ≡ packed names out ms (doubled ms)) reply
 
 -- what is accepted: no name is public in two of the objects
 abbrev pub ArePackable : List (List ℕ) → List (List ℕ) → Type 0

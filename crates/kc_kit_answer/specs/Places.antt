@@ -7,8 +7,8 @@ use Rattle.kc_link_place.specs.Placing.{Places}
 use Rattle.kc_link.specs.Placed.{placed}
 use Rattle.kc_kit_files.specs.declared.status.Status.TheVariants as status
 use Rattle.kc_kit_files.specs.Reply.{Reply, tells, Then}
-use Rattle.kc_kit_answer.specs.Lines.{link_line}
-use Rattle.kc_kit_answer.specs.Notes.{link_note}
+use Rattle.kc_kit_notes.specs.Rules.{link_line}
+use Rattle.kc_kit_notes.specs.RuleNotes.{link_note}
 
 -- the places of modules, or the reply to the first broken rule
 abbrev pub by_places : List (List ℕ) → List Object → Result Places LinkFault → Result Places Reply

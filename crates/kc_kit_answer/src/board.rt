@@ -8,10 +8,10 @@ ghost use Rattle.kc_kit_answer.specs.Jobs.{IsBoard};
 ghost use Rattle.kc_kit_answer.specs.Places.{Placing};
 ghost use Rattle.kc_kit_answer.specs.Run.{Driven, FilledTold, SourcesTold};
 
-use crate::link_lines::{Origins, link_refusal};
 use kc_base::Image;
 use kc_kit_files::Refusal;
 use kc_kit_inputs::{Driving, Given, assemble_sources, driving_in, image_of};
+use kc_kit_notes::{Origins, link_refusal};
 use kc_kit_words::Ranges;
 use kc_link_source_laws::linked_image;
 use kc_obj::Module;

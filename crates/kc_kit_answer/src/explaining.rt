@@ -4,8 +4,7 @@ ghost use Rattle.kc_kit_files.specs.declared.status.Status.TheVariants as status
 ghost use Rattle.kc_kit_files.specs.Ended.{EndsPrinting};
 ghost use Rattle.kc_kit_files.specs.Outside.{shown_by};
 ghost use Rattle.kc_kit_files.specs.Reply.{tells, IsRefused};
-ghost use Rattle.kc_kit_answer.specs.Explain.{explained, no_code_line};
-ghost use Rattle.kc_kit_answer.specs.Notes.{no_code_note};
+ghost use Rattle.kc_kit_answer.specs.Explain.{explained, no_code_line, no_code_note};
 
 use kc_base::{NoMemory, Sink};
 use kc_explain::{explain, meaning_text};

@@ -16,8 +16,6 @@ mod image_run;
 mod job;
 mod line_map;
 mod link;
-mod link_lines;
-mod link_notes;
 mod list;
 mod lives_run;
 mod pack;

@@ -11,15 +11,15 @@ ghost use Rattle.kc_kit_words.specs.Inputs.{inputs_in};
 ghost use Rattle.kc_kit_answer.specs.Jobs.{IsPrepared, Prepares, maybe_written};
 ghost use Rattle.kc_kit_answer.specs.Lines.{map_text};
 ghost use Rattle.kc_kit_answer.specs.Link.{Completed, LinkAnswer, LinksTo, AreLineMaps, AreMaps};
-ghost use Rattle.kc_kit_answer.specs.Origins.{words_of};
+ghost use Rattle.kc_kit_notes.specs.Origins.{words_of};
 ghost use Rattle.kc_kit_answer.specs.Places.{Placing};
 
 use crate::job::{Job, Output};
 use crate::line_map::map_text;
-use crate::link_lines::{Members, Origins, link_refusal};
 use kc_base::{Files, Image, NoMemory};
 use kc_kit_files::{Refusal, read_files};
 use kc_kit_inputs::{input_for, read_inputs, read_library, read_objects, take_members};
+use kc_kit_notes::{Members, Origins, link_refusal};
 use kc_kit_words::{Command, Link, Role};
 use kc_link::line_map;
 use kc_link_map::link_map;

@@ -8,10 +8,10 @@ ghost use Rattle.kc_kit_answer.specs.Jobs.{IsPrepared, Prepares};
 ghost use Rattle.kc_kit_answer.specs.Pack.{PackAnswer, packed};
 
 use crate::job::{Job, Output};
-use crate::link_lines::{Origins, link_refusal};
 use kc_base::Files;
 use kc_kit_files::{Refusal, read_files};
 use kc_kit_inputs::read_objects;
+use kc_kit_notes::{Origins, link_refusal};
 use kc_kit_words::{Command, Pack};
 use kc_lib::LibFault;
 use kc_link::LinkFault;
@@ -41,20 +41,23 @@ fn pack_texts<'a>(alloc: Global, pack: &Pack<'a>, texts: &[Vec<u8>]) -> Result<J
     ensures { IsPrepared (PackAnswer (map string_bytes pack.now.files.now) pack.now.out.now (map (λ t. t.items) texts.now)) result }
 {
     match read_objects(alloc, pack.files, texts) {
-        Ok(modules) => pack_modules(alloc, pack.out, &modules),
+        Ok(modules) => pack_modules(alloc, pack, &modules),
         Err(refusal) => Err(refusal),
     }
 }
 
-// Packs modules.
-fn pack_modules<'a>(alloc: Global, out: &'a str, modules: &[Module]) -> Result<Job<'a>, Refusal>
+// Packs modules, one of each file.
+fn pack_modules<'a>(alloc: Global, pack: &Pack<'a>, modules: &[Module]) -> Result<Job<'a>, Refusal>
     requires few { AreFew (length modules.now) }
     requires short { All (λ m. length (spelling m) < 2 ^ 32) modules.now }
-    ensures { IsPrepared (λ reply. reply ≡ packed out.now modules.now (doubled modules.now)) result }
+    ensures { IsPrepared (λ reply. reply ≡ packed (map string_bytes pack.now.files.now) pack.now.out.now modules.now (doubled modules.now)) result }
 {
     match kc_lib::pack(alloc, modules) {
         Ok(bytes) => {
-            let file = Output { name: out, bytes };
+            let file = Output {
+                name: pack.out,
+                bytes,
+            };
             Ok(Job::Write {
                 file,
                 lines: None,
@@ -63,7 +66,7 @@ fn pack_modules<'a>(alloc: Global, out: &'a str, modules: &[Module]) -> Result<J
         }
         Err(LibFault::Duplicate(name)) => {
             let origins = Origins {
-                files: &[],
+                files: pack.files,
                 members: None,
             };
             let fault = LinkFault::OverlapName(name);

@@ -3,7 +3,7 @@ use Rattle.std.specs.Prelude.{ℕ, List, [], codes, fold, Option, Some, None, Re
 use Rattle.kc_convert.specs.declared.sample.Sample.{Sample}
 use Rattle.kc_convert.specs.Reading.{with_item, first_bad, items_of}
 use Rattle.kc_kit_files.specs.Reply.{Reply}
-use Rattle.kc_kit_inputs.specs.Notes.{line_reply}
+use Rattle.kc_kit_inputs.specs.Replies.{line_reply}
 
 abbrev pub by_bad_line : List ℕ → List ℕ → Option ℕ → Result (List Sample) Reply
 by_bad_line name text None = Ok (fold with_item [] (items_of text))

@@ -3,7 +3,7 @@ use Rattle.std.specs.Prelude.{codes, ℕ, List, Result, Ok, Err}
 use Rattle.kc_hex.specs.Records.{image_of}
 use Rattle.kc_kit_files.specs.Reply.{Reply}
 use Rattle.kc_kit_inputs.specs.Lines.{coded}
-use Rattle.kc_kit_inputs.specs.Notes.{line_reply}
+use Rattle.kc_kit_inputs.specs.Replies.{line_reply}
 
 abbrev pub by_image : List ℕ → List ℕ → Result (List ℕ) (ℕ × ℕ) → Result (List ℕ) Reply
 by_image name text (Ok image) = Ok image

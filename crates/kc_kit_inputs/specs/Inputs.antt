@@ -1,11 +1,7 @@
 -- The files that options name for reading, each for a role (this kit's own).
-use Rattle.std.specs.Prelude.{ℕ, Bool, true, false, List, ◌∷◌, map, Option, Some, None, if◌then◌else◌}
+use Rattle.std.specs.Prelude.{ℕ, Bool, true, false, List, ◌∷◌, Option, Some, None, if◌then◌else◌}
 use Rattle.kc_kit_words.specs.declared.inputs.Role.{Role}
 use Rattle.kc_kit_words.specs.declared.inputs.Role.TheVariants as role
-
--- the names of these files
-abbrev pub names_of : List (Role × List ℕ) → List (List ℕ)
-names_of inputs = map (λ i. i.1) inputs
 
 abbrev pub is_role : Role → Role → Bool
 is_role role.Stimuli role.Stimuli = true

@@ -4,8 +4,8 @@ pub mod Hex
 pub mod Inputs
 pub mod Library
 pub mod Lines
-pub mod Notes
 pub mod Objects
+pub mod Replies
 pub mod Scripts
 pub mod Sources
 pub mod Stimuli

@@ -10,7 +10,7 @@ use Rattle.kc_lib.specs.Taking.{AreTaken}
 use Rattle.kc_kit_files.specs.declared.status.Status.TheVariants as status
 use Rattle.kc_kit_files.specs.Reply.{Reply, says}
 use Rattle.kc_kit_inputs.specs.Lines.{coded}
-use Rattle.kc_kit_inputs.specs.Notes.{byte_reply}
+use Rattle.kc_kit_inputs.specs.Replies.{byte_reply}
 
 -- the place and the number of a fault of a library; that too many members are taken has no place
 abbrev pub place_of : LibFault → Option (ℕ × ℕ)

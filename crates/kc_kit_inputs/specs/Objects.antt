@@ -5,7 +5,7 @@ use Rattle.kc_obj_faults.specs.declared.faults.Fault.{Fault}
 use Rattle.kc_obj_read.specs.Reading.{answer_of}
 use Rattle.kc_kit_files.specs.Reply.{Reply, joined}
 use Rattle.kc_kit_inputs.specs.Lines.{coded}
-use Rattle.kc_kit_inputs.specs.Notes.{byte_reply}
+use Rattle.kc_kit_inputs.specs.Replies.{byte_reply}
 
 -- each file to its module, or the reply to the first with a fault
 abbrev pub modules_of : (List ℕ → List ℕ → Result Object Reply) → List (List ℕ) → List (List ℕ) → Result (List Object) Reply

@@ -5,7 +5,7 @@ use Rattle.kc_debug_script.specs.declared.line_map.MapEntry.{MapEntry}
 use Rattle.kc_debug_script.specs.LineMap as maps
 use Rattle.kc_debug_script.specs.Script as scripts
 use Rattle.kc_kit_files.specs.Reply.{Reply}
-use Rattle.kc_kit_inputs.specs.Notes.{line_reply}
+use Rattle.kc_kit_inputs.specs.Replies.{line_reply}
 
 -- what the lines of a file say, or the reply to the first that says nothing, with this code
 abbrev pub by_lines : {A : Type 0} → List ℕ → List ℕ → List ℕ → Result (List A) ℕ → Result (List A) Reply

@@ -3,7 +3,7 @@ use Rattle.std.specs.Prelude.{◌≡◌, ◌⊎◌, ℕ, List, [], ◌∷◌, Re
 use Rattle.kc_obj.specs.Object.{Object}
 use Rattle.kc_asm.specs.Assembled.{IsModule, IsFirstFault}
 use Rattle.kc_kit_files.specs.Reply.{Reply}
-use Rattle.kc_kit_inputs.specs.Notes.{source_reply}
+use Rattle.kc_kit_inputs.specs.Replies.{source_reply}
 
 -- the reply names the first fault of a source
 abbrev pub TellsFault : List ℕ → List ℕ → Reply → Type 0

@@ -1,21 +1,12 @@
 -- Stimulus files, and what drives the inputs (this kit's own).
-use Rattle.std.specs.Prelude.{ℕ, List, [], codes, fold, Option, Some, None, Result, Ok, Err}
+use Rattle.std.specs.Prelude.{ℕ, List, [], fold, Option, Some, None, Result, Ok, Err}
 use Rattle.kc_stim.specs.declared.fault.StimFault.{StimFault}
-use Rattle.kc_stim.specs.declared.fault.StimFault.TheVariants as faults
+use Rattle.kc_stim.specs.Faults.{place_of}
 use Rattle.kc_stim.specs.Drives.{Drives}
 use Rattle.kc_stim.specs.Reading.{nothing, with_item, first_fault, items_of}
 use Rattle.kc_kit_files.specs.declared.status.Status.TheVariants as status
 use Rattle.kc_kit_files.specs.Reply.{Reply, says}
-use Rattle.kc_kit_inputs.specs.Notes.{line_reply}
-
--- the line and the code of a fault
-abbrev pub place_of : StimFault → Option (ℕ × List ℕ)
-place_of (faults.BadLine line) = Some (line, codes "BADLINE")
-place_of (faults.Wired line) = Some (line, codes "WIRED")
-place_of (faults.Falling line) = Some (line, codes "FALLING")
-place_of (faults.Twice line) = Some (line, codes "TWICE")
-place_of (faults.TooMany line) = Some (line, codes "TOOMANY")
-place_of faults.NoMemory = None
+use Rattle.kc_kit_inputs.specs.Replies.{line_reply}
 
 abbrev pub reply_at : List ℕ → List ℕ → Option (ℕ × List ℕ) → Reply
 reply_at name text (Some place) = line_reply name text place.0 place.1

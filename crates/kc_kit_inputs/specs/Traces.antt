@@ -4,7 +4,7 @@ use Rattle.kc_base.specs.TextLines.{text_lines}
 use Rattle.kc_trace.specs.declared.record.Record.{Record}
 use Rattle.kc_vcd.specs.Reading.{IsTrace, IsFirstWrong}
 use Rattle.kc_kit_files.specs.Reply.{Reply}
-use Rattle.kc_kit_inputs.specs.Notes.{line_reply}
+use Rattle.kc_kit_inputs.specs.Replies.{line_reply}
 
 -- the reply to the first line with which a text is no trace
 abbrev pub TellsWrongLine : List ℕ → List ℕ → Reply → Type 0

@@ -3,7 +3,7 @@ ghost use Rattle.std.specs.Prelude.{◌≡◌, ◌≤◌, codes, Ok, Err, IfOk, 
 ghost use Rattle.kc_kit_files.specs.Reply.{IsRefused};
 ghost use Rattle.kc_kit_inputs.specs.Hex.{hex_of};
 ghost use Rattle.kc_kit_inputs.specs.Lines.{coded};
-ghost use Rattle.kc_kit_inputs.specs.Notes.{line_reply};
+ghost use Rattle.kc_kit_inputs.specs.Replies.{line_reply};
 
 use crate::input_lines::{coded, line_refusal};
 use kc_base::{Image, NoMemory};

@@ -3,12 +3,12 @@ ghost use Rattle.std.specs.Prelude.{◌≡◌, IfOk};
 ghost use Rattle.kc_kit_files.specs.declared.status.Status.TheVariants as status;
 ghost use Rattle.kc_kit_files.specs.Reply.{tells, IsRefused};
 ghost use Rattle.kc_kit_inputs.specs.Lines.{coded, place_text, input_line};
-ghost use Rattle.kc_kit_inputs.specs.Notes.{line_reply, byte_reply};
+ghost use Rattle.kc_kit_inputs.specs.Replies.{line_reply, byte_reply};
 
-use crate::notes::{byte_note, line_note};
 use itoa::Buffer;
 use kc_base::NoMemory;
 use kc_kit_files::{Cause, Refusal, refusal_of};
+use kc_kit_notes::{byte_note, line_note};
 use std::alloc::Global;
 
 /// A code of a letter and two digits.

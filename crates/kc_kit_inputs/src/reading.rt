@@ -5,7 +5,8 @@ ghost use Rattle.kc_base.specs.Causes.{Rose};
 ghost use Rattle.kc_kit_files.specs.Outside.{OnlyRead};
 ghost use Rattle.kc_kit_files.specs.Reads.{IsRead, AllShort};
 ghost use Rattle.kc_kit_words.specs.Inputs.{inputs_in};
-ghost use Rattle.kc_kit_inputs.specs.Inputs.{names_of, input_for};
+ghost use Rattle.kc_kit_words.specs.Commands.{names_of};
+ghost use Rattle.kc_kit_inputs.specs.Inputs.{input_for};
 ghost use Rattle.kc_kit_inputs.specs.Inputs as spec;
 
 use kc_base::{Files, NoMemory};

@@ -4,19 +4,22 @@ ghost use Rattle.kc_asm.specs.Assembled.{IsModule};
 ghost use Rattle.kc_kit_files.specs.Reply.{IsRefused};
 ghost use Rattle.kc_kit_files.specs.Reads.{AllShort};
 ghost use Rattle.kc_kit_inputs.specs.Lines as spec;
-ghost use Rattle.kc_kit_inputs.specs.Notes.{line_note, source_reply};
+ghost use Rattle.kc_kit_inputs.specs.Replies.{source_reply};
+ghost use Rattle.kc_asm_subject.specs.Subject.{subject_of};
+ghost use Rattle.kc_kit_notes.specs.Subjects.{source_note};
 ghost use Rattle.kc_kit_inputs.specs.Sources.{AreModules, TellsFault, TellsFirst};
 
 use crate::input_lines::{coded, place_text};
-use crate::notes::line_note;
 use kc_asm::assemble;
+use kc_asm_subject::subject;
 use kc_base::NoMemory;
 use kc_kit_files::{Cause, Refusal, refusal_of};
+use kc_kit_notes::source_note;
 use kc_lex::SourceFault;
 use kc_obj::Module;
 use std::alloc::Global;
 
-// The place and the code of a fault of a source as they are printed, and its note.
+// The place and the code of a fault of a source as they are printed, and its note, with the name that the fault is about.
 fn fault_texts(
     alloc: Global,
     name: &str,
@@ -24,17 +27,26 @@ fn fault_texts(
     line: u32,
     number: u8,
 ) -> Result<(Vec<u8>, Vec<u8>), NoMemory>
+    requires { length text.now ≤ 1048576 }
     ensures printed { IfOk result (λ texts. texts.0.items ≡ spec.place_text line (spec.coded (codes "E") number)) }
-    ensures note { IfOk result (λ texts. texts.1.items ≡ line_note name.now text.now line (spec.coded (codes "E") number)) }
+    ensures note { IfOk result (λ texts. texts.1.items ≡ source_note name.now text.now line (spec.coded (codes "E") number) number (subject_of text.now line number)) }
 {
     let code = coded(alloc, b"E", number)?;
     let printed = place_text(alloc, line, &code)?;
-    let note = line_note(alloc, name.as_bytes(), text, line, &code)?;
+    let name = name.as_bytes();
+    let note = match subject(alloc, text, line, number)? {
+        Some(about) => {
+            let about = Some(about.as_slice());
+            source_note(alloc, name, text, line, &code, number, about)?
+        }
+        None => source_note(alloc, name, text, line, &code, number, None)?,
+    };
     Ok((printed, note))
 }
 
 // The refusal of a source with a fault: its line and the number of its code.
 fn source_refusal(alloc: Global, name: &str, text: &[u8], line: u32, number: u8) -> Refusal
+    requires { length text.now ≤ 1048576 }
     ensures { IsRefused (λ reply. reply ≡ source_reply name.now text.now line number) result }
 {
     match fault_texts(alloc, name, text, line, number) {

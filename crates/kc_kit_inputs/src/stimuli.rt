@@ -3,26 +3,12 @@ ghost use Rattle.std.specs.Prelude.{◌≡◌, ◌≤◌, Ok, Err, IfOk, IfErr, 
 ghost use Rattle.std.specs.Option.{option_map};
 ghost use Rattle.kc_kit_files.specs.declared.status.Status.TheVariants as status;
 ghost use Rattle.kc_kit_files.specs.Reply.{says, IsRefused};
-ghost use Rattle.kc_kit_inputs.specs.Stimuli.{place_of, stimuli_of, drives_of};
+ghost use Rattle.kc_kit_inputs.specs.Stimuli.{stimuli_of, drives_of};
 
 use crate::input_lines::line_refusal;
 use kc_kit_files::Refusal;
-use kc_stim::{StimFault, Stimuli};
+use kc_stim::Stimuli;
 use std::alloc::Global;
-
-// The line and the code of a fault; none for want of memory.
-fn place_of(fault: StimFault) -> Option<(u32, &'static [u8])>
-    ensures { option_map (λ p. (p.0, p.1.now)) result ≡ place_of fault }
-{
-    match fault {
-        StimFault::BadLine(line) => Some((line, b"BADLINE")),
-        StimFault::Wired(line) => Some((line, b"WIRED")),
-        StimFault::Falling(line) => Some((line, b"FALLING")),
-        StimFault::Twice(line) => Some((line, b"TWICE")),
-        StimFault::TooMany(line) => Some((line, b"TOOMANY")),
-        StimFault::NoMemory => None,
-    }
-}
 
 // The stimuli that a text says, or the refusal of its first fault.
 fn read_stimuli(alloc: Global, name: &str, text: &[u8]) -> Result<Stimuli, Refusal>
@@ -32,7 +18,7 @@ fn read_stimuli(alloc: Global, name: &str, text: &[u8]) -> Result<Stimuli, Refus
 {
     match Stimuli::read(alloc, text) {
         Ok(stimuli) => Ok(stimuli),
-        Err(fault) => match place_of(fault) {
+        Err(fault) => match fault.place() {
             Some((line, code)) => Err(line_refusal(alloc, name, text, line, code)),
             None => Err(Refusal::NoMemory),
         },

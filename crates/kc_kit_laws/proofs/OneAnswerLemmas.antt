@@ -19,19 +19,20 @@ use Rattle.kc_link.specs.declared.lines.LineAt.{LineAt}
 use Rattle.kc_link_laws.specs.Linked.{OneLineMap}
 use Rattle.kc_asm.specs.Assembled.{IsModule}
 use Rattle.kc_asm_laws.specs.Modules.{OneAnswerOfText}
-use Rattle.kc_asm_list.specs.Laws.{OneListing}
+use Rattle.kc_asm_list_laws.specs.Laws.{OneListing}
 use Rattle.kc_kit_files.specs.declared.status.Status.TheVariants as status
 use Rattle.kc_kit_files.specs.Reply.{Reply, Write, write, says, done_writing, Then}
 use Rattle.kc_kit_files.specs.Reads.{reads_of}
 use Rattle.kc_kit_words.specs.declared.inputs.Role.{Role}
 use Rattle.kc_kit_words.specs.declared.inputs.Role.TheVariants as role
-use Rattle.kc_kit_words.specs.Words.{placing_of, Beside, Helps, HelpsOn, TellsVersion, Runs, Profiles, Assembles, Packs, Links, RunsHex, ProfilesHex, Lists, Debugs, Generates, Dumps, Explains}
+use Rattle.kc_kit_words.specs.Commands.{Beside, Helps, HelpsOn, TellsVersion, Runs, Profiles, Assembles, Packs, Links, RunsHex, ProfilesHex, Lists, Debugs, Generates, Dumps, Explains, names_of}
+use Rattle.kc_kit_words.specs.Words.{placing_of}
 use Rattle.kc_kit_inputs.specs.Hex.{hex_of}
 use Rattle.kc_kit_inputs.specs.declared.driving.Driving.{Driving}
 use Rattle.kc_kit_inputs.specs.Driving.{GivenFiles, given_for, driving_of}
-use Rattle.kc_kit_inputs.specs.Inputs.{names_of, input_for}
+use Rattle.kc_kit_inputs.specs.Inputs.{input_for}
 use Rattle.kc_kit_inputs.specs.Library.{library_of, TakenAre}
-use Rattle.kc_kit_inputs.specs.Notes.{source_reply, line_reply}
+use Rattle.kc_kit_inputs.specs.Replies.{source_reply, line_reply}
 use Rattle.kc_kit_inputs.specs.Objects.{modules_of, object_of}
 use Rattle.kc_kit_inputs.specs.Sources.{TellsFault, SourceIs, AreModules, TellsFirst, SourcesAre}
 use Rattle.kc_kit_inputs.specs.Traces.{TraceIs}
@@ -41,7 +42,8 @@ use Rattle.kc_kit_answer.specs.Debug.{DebugAnswer, debug_reply}
 use Rattle.kc_kit_answer.specs.Dump.{WritesDump, DumpAnswer}
 use Rattle.kc_kit_answer.specs.Generate.{made_names, made_texts, made_given, summary_of}
 use Rattle.kc_kit_answer.specs.Hex.{HexTold, RunHexAnswer, ListAnswer, ListingOf}
-use Rattle.kc_kit_answer.specs.Lines.{map_text, member_words}
+use Rattle.kc_kit_notes.specs.Rules.{member_words}
+use Rattle.kc_kit_answer.specs.Lines.{map_text}
 use Rattle.kc_kit_answer.specs.Link.{IsMap, map_writes, LinksTo, Taking, Completed, LinkAnswer}
 use Rattle.kc_kit_answer.specs.Pack.{packed, PackAnswer}
 use Rattle.kc_kit_answer.specs.Places.{places_of, Placing}
@@ -288,7 +290,7 @@ module _ (laws : Laws) where
       one_then (reads_of (file ∷ []) contents) (OneText (AssembleAnswer file out list)) (one_text (AssembleAnswer file out list) (one_assembled file out list)) r s h k
   one_answer (Some (Packs files out)) contents r s h k =
       one_then (reads_of files contents) (PackAnswer files out)
-      (λ texts. one_then (modules_of object_of files texts) (λ ms reply. reply ≡ packed out ms (doubled ms)) (λ ms. one_told (packed out ms (doubled ms)))) r s h k
+      (λ texts. one_then (modules_of object_of files texts) (λ ms reply. reply ≡ packed files out ms (doubled ms)) (λ ms. one_told (packed files out ms (doubled ms)))) r s h k
   one_answer (Some (Links files inputs out beside ranges)) contents r s h k =
       one_then (reads_of (files ++ names_of inputs) contents) (Parted (length files) (LinkAnswer files inputs out beside ranges))
       (λ texts. one_link files inputs out beside ranges (take (length files) texts) (drop (length files) texts)) r s h k

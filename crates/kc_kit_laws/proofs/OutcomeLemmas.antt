@@ -7,8 +7,8 @@ use Rattle.kc_kit_files.specs.Reply.{Reply, Write}
 use Rattle.kc_kit_files.specs.Reads.{FailedRead}
 use Rattle.kc_kit_files.specs.Outside.{Kept, Shown, WroteOne, Wrote, IsGiven}
 use Rattle.kc_kit_files.proofs.ReplyLemmas.{given-of}
-use Rattle.kc_kit_words.specs.Words.{Command}
-use Rattle.kc_kit_answer.specs.Answer.{names_read, CommandAnswer, MayAnswer}
+use Rattle.kc_kit_words.specs.Commands.{Command, names_read}
+use Rattle.kc_kit_answer.specs.Answer.{CommandAnswer, MayAnswer}
 use Rattle.kc_kit_laws.specs.OneAnswer.{OneAnswer, IsCall, HoldSame, OneOutcome}
 
 -- ---- replies

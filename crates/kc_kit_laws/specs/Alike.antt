@@ -8,7 +8,7 @@ use Rattle.kc_link_place.specs.declared.ranges.Ranges.{Ranges}
 use Rattle.kc_kit_files.specs.Reply.{Reply, write, done_writing}
 use Rattle.kc_kit_words.specs.declared.extent.Extent.{Extent}
 use Rattle.kc_kit_words.specs.declared.inputs.Role.{Role}
-use Rattle.kc_kit_words.specs.Words.{Beside}
+use Rattle.kc_kit_words.specs.Commands.{Beside}
 use Rattle.kc_kit_answer.specs.Hex.{RunHexAnswer}
 use Rattle.kc_kit_answer.specs.Link.{LinkAnswer}
 use Rattle.kc_kit_answer.specs.Run.{RunAnswer}

@@ -6,7 +6,7 @@ use Rattle.kc_kit_files.specs.declared.status.Status.{Status}
 use Rattle.kc_kit_files.specs.declared.status.Status.TheVariants.{NoMemory, WriteFault}
 use Rattle.kc_kit_files.specs.Reply.{Reply}
 use Rattle.kc_kit_files.specs.Outside.{Kept, Shown, Replies}
-use Rattle.kc_kit_words.specs.Words.{Command}
+use Rattle.kc_kit_words.specs.Commands.{Command}
 use Rattle.kc_kit_answer.specs.Answer.{CommandAnswer, MayAnswer}
 
 -- two replies to a command over the same contents of the files that it reads are the same: their status, text and files

@@ -6,7 +6,7 @@ ghost use Rattle.kc_kit_laws.specs.OneAnswer.{OneAnswer, OneOutcome};
 ghost use Rattle.kc_kit_laws.specs.StartLevels.{StartLevelsAgree};
 
 use kc_asm_laws::{filled_are_bytes, modules_fit, one_answer_of_text};
-use kc_asm_list::one_listing;
+use kc_asm_list_laws::one_listing;
 use kc_hex::written_is_read;
 use kc_lib::laws::taken_once;
 use kc_link::one_image;

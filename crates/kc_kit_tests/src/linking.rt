@@ -1,5 +1,5 @@
 // Linking as a command, over files and a sink in memory. The objects and the answers are those of an independent model.
-use crate::lines::{Failing, NO_FAULT, NOTHING, answers, files, holds};
+use crate::lines::{Failing, NO_FAULT, NOTHING, answers, files, holds, says};
 use kc_base::{MemFiles, NoMemory};
 use kc_kit::Status;
 use std::alloc::{AllocError, Global};
@@ -109,30 +109,86 @@ fn objects_are_linked(rt: HostRuntime) -> Result<(), Fail> {
     Ok(())
 }
 
+// Each with what is said of it: the rule, and the files of the modules that it is about.
 #[test]
 fn broken_rules_are_told_and_nothing_is_written(rt: HostRuntime) -> Result<(), Fail> {
     let a = rt.alloc();
-    for (line, status, text) in [
+    for (line, said) in [
         (
-            "link x --out h --lines m",
-            Status::Link,
-            "link unresolved X\n",
+            "link 1 x x --out h --lines m",
+            (
+                Status::Link,
+                "link unresolved X\n",
+                "kc96: error unresolved X in x x: a module takes a name that no module gives; or takes STACK, and there is no stack\n",
+            ),
         ),
-        ("link a b --out h", Status::Link, "link duplicate A\n"),
-        ("link c c --out h", Status::Link, "link overlap 2100\n"),
-        ("link r --out h", Status::Link, "link capacity reg r\n"),
-        ("link t u --out h", Status::Link, "link range t 0 1\n"),
+        (
+            "link a 1 b --out h",
+            (
+                Status::Link,
+                "link duplicate A\n",
+                "kc96: error duplicate A in a b: two modules give one name\n",
+            ),
+        ),
+        (
+            "lib b u a --out h",
+            (
+                Status::Link,
+                "link duplicate A\n",
+                "kc96: error duplicate A in b a: two modules give one name\n",
+            ),
+        ),
+        (
+            "link c 1 c --out h",
+            (
+                Status::Link,
+                "link overlap 2100\n",
+                "kc96: error overlap 2100 in c c: two absolute pieces have this address\n",
+            ),
+        ),
+        (
+            "link r --out h",
+            (
+                Status::Link,
+                "link capacity reg r\n",
+                "r: error capacity reg: a piece has no room in the range of its kind\n",
+            ),
+        ),
+        (
+            "link t u --out h",
+            (
+                Status::Link,
+                "link range t 0 1\n",
+                "t:3: error range 0 1: a number does not fit the bytes at this offset of a piece\n",
+            ),
+        ),
         (
             "link s --out h --stack 8000",
-            Status::Link,
-            "link capacity stack -\n",
+            (
+                Status::Link,
+                "link capacity stack -\n",
+                "-: error capacity stack: a piece has no room in the range of its kind\n",
+            ),
         ),
-        ("link 1 z y --out h", Status::Missing, "missing z\n"),
-        ("link 1 --out h --lines h", Status::Usage, "usage\n"),
+        (
+            "link 1 z y --out h",
+            (
+                Status::Missing,
+                "missing z\n",
+                "z: error: the file is not there\n",
+            ),
+        ),
+        (
+            "link 1 --out h --lines h",
+            (
+                Status::Usage,
+                "usage\n",
+                "kc96: error: two files to write have one name; see kc96 --help\n",
+            ),
+        ),
     ] {
         let mut files = objects(a, NO_FAULT)?;
-        let right = answers(a, &mut files, NO_FAULT, line, status, text)?;
-        assert!(rt; right, "{line}");
+        assert!(rt; says(a, &mut files, NO_FAULT, &[], line, said)?, "{line}");
         assert!(rt; holds(a, &mut files, "h", NOTHING), "{line}");
         assert!(rt; holds(a, &mut files, "m", NOTHING), "{line}");
     }

@@ -10,7 +10,7 @@ type Row = (
     (Status, &'static str, &'static str),
 );
 
-static FILES: [Row; 9] = [
+static FILES: [Row; 11] = [
     (
         ("b.a96", ""),
         "run a.a96 --states 1",
@@ -39,7 +39,25 @@ static FILES: [Row; 9] = [
         (
             Status::Source,
             "source a.a96:5: E07\n",
-            "a.a96:5: error E07: a name is not defined; or IF or REPT asks for one that has no fixed value yet\n M\n",
+            "a.a96:5: error E07: the name SPEED is not defined\n M\n",
+        ),
+    ),
+    (
+        ("a.a96", " CSEG\nA: NOP\nA: NOP\n END\n"),
+        "asm a.a96 --out a.o",
+        (
+            Status::Source,
+            "source a.a96:3: E06\n",
+            "a.a96:3: error E06: the name A is defined twice\nA: NOP\n",
+        ),
+    ),
+    (
+        ("a.a96", " CSEG\n NOP\n PUBLIC NOWHERE\n END\n"),
+        "asm a.a96 --out a.o",
+        (
+            Status::Source,
+            "source a.a96:3: E20\n",
+            "a.a96:3: error E20: PUBLIC of NOWHERE, which is not defined here or counts from an external\n PUBLIC NOWHERE\n",
         ),
     ),
     (
@@ -87,7 +105,7 @@ static FILES: [Row; 9] = [
         (
             Status::Link,
             "link unresolved SPEED\n",
-            "kc96: error unresolved SPEED: a module takes a name that no module gives; or takes STACK, and there is no stack\n",
+            "kc96: error unresolved SPEED in a.a96: a module takes a name that no module gives; or takes STACK, and there is no stack\n",
         ),
     ),
     (
@@ -101,7 +119,7 @@ static FILES: [Row; 9] = [
     ),
 ];
 
-static USAGE: [(&str, &str); 20] = [
+static USAGE: [(&str, &str); 26] = [
     ("", "no command"),
     ("walk", "unknown command walk"),
     ("walk --states 1", "unknown command walk"),
@@ -131,6 +149,30 @@ static USAGE: [(&str, &str); 20] = [
     ),
     ("dis a.hex 2080H", "bad range 2080H"),
     ("gen 65536", "bad number 65536"),
+    (
+        "run --states 10 main.a96",
+        "files come first, before options: main.a96",
+    ),
+    (
+        "run --states 10 main.a96 --lives 2",
+        "files come first, before options: main.a96",
+    ),
+    (
+        "asm a.a96 --out a.a96",
+        "a file that is read would be overwritten: a.a96",
+    ),
+    (
+        "hex a.hex --states 1 --stim s --profile s",
+        "a file that is read would be overwritten: s",
+    ),
+    (
+        "link a.o b.o --out c --lines d --map b.o",
+        "a file that is read would be overwritten: b.o",
+    ),
+    (
+        "lib a.o b.o --out b.o",
+        "a file that is read would be overwritten: b.o",
+    ),
 ];
 
 #[test]

@@ -1,9 +1,11 @@
 -- The words of a command line as strings: options are taken in pairs with their values.
 use Rattle.std.proofs.Common.{◌≡◌, ℕ, Bool, true, false, ◌&&◌, cond, List, [], ◌∷◌, length, take, drop, map, get_or, string_bytes, String, Global, ◌-◌, ◌≤◌, ◌<◌, arith, Option, Some, None, refl, sym, ap, ◌∙◌}
-use Rattle.std.specs.Prelude.{is_none, nat_eq}
+use Rattle.std.specs.Prelude.{◌||◌, is_none, is_some, nat_eq}
+use Rattle.std.specs.List.{list_any}
 use Rattle.std.specs.Str.{bytes_eq}
 use Rattle.std.proofs.lemmas.List.{take_all, take-map, drop-map}
 use Rattle.kc_kit_words.specs.declared.inputs.Role.{Role}
+use Rattle.kc_kit_words.specs.Commands.{names_of}
 use Rattle.kc_kit_words.specs.Options.{takes, value_of, are_options, role_of, with_input, inputs_of}
 use Rattle.kc_kit_words.specs.Words.{command_with, plain_command_of, count_files, hex_by, list_by, debug_by}
 
@@ -93,6 +95,20 @@ unfolding inputs_of
 inputs_of-short verb [] h = refl
 inputs_of-short verb (a ∷ []) h = refl
 inputs_of-short verb (a ∷ b ∷ ws) h = absurd (omega (arith, h))
+
+-- whether one of them has a name
+pub is_named-first : (verb option value name : List ℕ) (ws : List (String Global)) (x y : String Global) (b : Bool) → 2 ≤ length ws → x ≡ get_or ws 0 x → y ≡ get_or ws 1 y → option ≡ string_bytes x → value ≡ string_bytes y →
+    (is_some (role_of verb option) && bytes_eq value name) ≡ b →
+    list_any (λ n. bytes_eq n name) (names_of (inputs_of verb (map string_bytes ws))) ≡ (b || list_any (λ n. bytes_eq n name) (names_of (inputs_of verb (behind ws))))
+is_named-first verb option value name ws x y b two f g e h is =
+    ap (λ i. list_any (λ n. bytes_eq n name) (names_of i)) (inputs_of-first verb option value (role_of verb option) ws x y two f g e h refl)
+    ∙ by (role_of verb option) ∙ ap (λ t. t || list_any (λ n. bytes_eq n name) (names_of (inputs_of verb (behind ws)))) is
+  where
+    by : (role : Option Role) →
+        list_any (λ n. bytes_eq n name) (names_of (with_input role value (inputs_of verb (behind ws))))
+        ≡ ((is_some role && bytes_eq value name) || list_any (λ n. bytes_eq n name) (names_of (inputs_of verb (behind ws))))
+    by None = refl
+    by (Some role) = refl
 
 -- ---- a hex file is one word, a listing has two, and so has a debugger
 

@@ -5,6 +5,7 @@ use Rattle.std.specs.Str.{bytes_eq}
 use Rattle.std.proofs.lemmas.Slice.Eq.{bytes_eq-Decides}
 use Rattle.kc_kit_words.specs.declared.inputs.Role.{Role}
 use Rattle.kc_kit_words.specs.Options.{takes, value_of, are_options, role_of, with_input, inputs_of}
+use Rattle.kc_kit_words.specs.Commands.{sparing}
 use Rattle.kc_kit_words.specs.Words.{command_by, command_with}
 use Rattle.kc_kit_words.specs.Order.{words_of, OptionsInAnyOrder}
 
@@ -146,8 +147,8 @@ in_any_order verb files front back p q none = by (bytes_eq p.0 q.0) refl
 
     by : (t : Bool) → bytes_eq p.0 q.0 ≡ t → command_with verb files a ≡ command_with verb files b
     by false e =
-        ap (λ o. cond o (command_by verb files a) None) (options-alike verb front back p q e)
-        ∙ ap (λ k. cond (are_options verb b) k None) (commands-alike verb files a b (values-alike front back p q e) (inputs-alike verb front back p q none))
+        ap (λ o. cond o (sparing (command_by verb files a)) None) (options-alike verb front back p q e)
+        ∙ ap (λ k. cond (are_options verb b) (sparing k) None) (commands-alike verb files a b (values-alike front back p q e) (inputs-alike verb front back p q none))
     by true e =
-        ap (λ o. cond o (command_by verb files a) None) (twice verb front back p q (is-same q.0 p.0 (sym (same p.0 q.0 e))))
-        ∙ sym (ap (λ o. cond o (command_by verb files b) None) (twice verb front back q p e))
+        ap (λ o. cond o (sparing (command_by verb files a)) None) (twice verb front back p q (is-same q.0 p.0 (sym (same p.0 q.0 e))))
+        ∙ sym (ap (λ o. cond o (sparing (command_by verb files b)) None) (twice verb front back q p e))

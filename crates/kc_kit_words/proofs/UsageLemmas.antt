@@ -13,9 +13,10 @@ use Rattle.kc_kit_words.specs.declared.usage.Wrong.TheVariants as wrong
 use Rattle.kc_kit_words.specs.Number.{number_of}
 use Rattle.kc_kit_words.specs.Options.{form_of, has_form, value_of, are_options, inputs_of, extent_in}
 use Rattle.kc_kit_words.specs.Values.{is_name, range_of}
-use Rattle.kc_kit_words.specs.Usage.{wrong_text, no_command, no_option, bad_value, bad_range, bad_number, twice, lacks, wrong_value, wrong_last, wrong_option, lacks_out, wrong_run, wrong_extent, wrong_listing, wrong_placing, wrong_outputs, wrong_name, wrong_files, wrong_file, wrong_pair, wrong_range, wrong_list, wrong_number, wrong_word, wrong_more, wrong_by, plain_usage_of, usage_of}
+use Rattle.kc_kit_words.specs.Usage.{wrong_text, no_command, no_option, bad_value, bad_range, bad_number, twice, lacks, wrong_value, wrong_last, wrong_option, lacks_out, wrong_run, wrong_extent, wrong_listing, wrong_placing, wrong_outputs, wrong_name, wrong_files, wrong_file, wrong_pair, wrong_range, wrong_list, wrong_number, wrong_word, wrong_more, wrong_by, wrong_with, wrong_writes, overwrites, plain_usage_of, usage_of}
 use Rattle.kc_kit_words.specs.UsageLaw.{WrongWhereNoCommand}
-use Rattle.kc_kit_words.specs.Words.{Beside, Command, Helps, TellsVersion, Runs, Profiles, Assembles, Packs, Links, RunsHex, ProfilesHex, Lists, Debugs, Generates, Dumps, Explains, count_files, files_of, options_of, are_files, placing_of, is_other, are_apart, beside_of, run_so, run_by, assembles_by, assemble_by, pack_by, links_by, link_by, hex_so, hex_by, lists_by, list_by, debug_by, generate_by, dump_by, explain_by, alone, command_by, command_with, help_on, plain_command_of, command_of}
+use Rattle.kc_kit_words.specs.Commands.{Beside, Command, Helps, TellsVersion, Runs, Profiles, Assembles, Packs, Links, RunsHex, ProfilesHex, Lists, Debugs, Generates, Dumps, Explains, overwritten, sparing}
+use Rattle.kc_kit_words.specs.Words.{count_files, files_of, options_of, are_files, placing_of, is_other, are_apart, beside_of, run_so, run_by, assembles_by, assemble_by, pack_by, links_by, link_by, hex_so, hex_by, lists_by, list_by, debug_by, generate_by, dump_by, explain_by, alone, command_by, command_with, help_on, plain_command_of, command_of}
 use Rattle.kc_kit_words.proofs.OptionLemmas.{behind}
 
 -- ---- options, in pairs with their values
@@ -52,7 +53,7 @@ wrong_option-none verb (a ∷ ws) h = absurd (omega (arith, h))
 
 pub plain_usage-verb : (ws front back : List (String Global)) (v : String Global) (n : ℕ) → 1 ≤ length ws → v ≡ get_or ws 0 v → n ≡ count_files (map string_bytes (take (length ws - 1) (drop 1 ws))) →
     front ≡ take n (take (length ws - 1) (drop 1 ws)) → back ≡ drop n (take (length ws - 1) (drop 1 ws)) →
-    plain_usage_of (map string_bytes ws) ≡ wrong_by (string_bytes v) (map string_bytes front) (map string_bytes back) (wrong_option (string_bytes v) (map string_bytes back))
+    plain_usage_of (map string_bytes ws) ≡ wrong_with (string_bytes v) (map string_bytes front) (map string_bytes back)
 plain_usage-verb [] front back v n some first count f b = absurd (omega (arith, some))
 plain_usage-verb (a ∷ ws) front back v n some first count f b =
     let whole : take (length (a ∷ ws) - 1) ws ≡ ws = take_all (length (a ∷ ws) - 1) ws (omega arith) in
@@ -270,10 +271,26 @@ verbs-agree verb files options w b e =
     (choose (bytes_eq verb (codes "--version")) _ _ b _ _ (gate w _ b _ e (alone-agrees files TellsVersion))
     (other-verb b (no_command verb) None refl))))))))))))
 
+-- and a command that would write over what it reads is none
+spared : (w : Option (List ℕ)) (b : Bool) (c : Option Command) → is_some w ≡ is_none (cond b c None) → is_some (option_or w (wrong_writes c)) ≡ is_none (cond b (sparing c) None)
+spared (Some t) true None e = refl
+spared (Some t) true (Some k) e = absurd (cc)
+spared (Some t) false c e = refl
+spared None true None e = absurd (cc)
+spared None true (Some k) e = by (overwritten (Some k))
+  where
+    by : (o : Option (List ℕ)) → is_some (option_map overwrites o) ≡ is_none (cond (is_none o) (Some k) None)
+    by None = refl
+    by (Some name) = refl
+spared None false c e = absurd (cc)
+
 plain-agrees : (words : List (List ℕ)) → is_some (plain_usage_of words) ≡ is_none (plain_command_of words)
 plain-agrees [] = refl
 plain-agrees (verb ∷ words) =
-    verbs-agree verb (files_of words) (options_of words) (wrong_option verb (options_of words)) (are_options verb (options_of words)) (options-agree verb (options_of words))
+    let options = options_of words in
+    let w = wrong_by verb (files_of words) options (wrong_option verb options) in
+    spared w (are_options verb options) (command_by verb (files_of words) options)
+    (verbs-agree verb (files_of words) options (wrong_option verb options) (are_options verb options) (options-agree verb options))
 
 -- help on a command is a command
 help-agrees : (help c : Option Command) (w : Option (List ℕ)) → is_some w ≡ is_none c → is_some (cond (is_some help) None w) ≡ is_none (option_or help c)

@@ -9,7 +9,7 @@ use Rattle.kc_kit_words.specs.declared.command.Command.TheVariants as read
 use Rattle.kc_kit_words.specs.declared.extent.Extent.{Extent}
 use Rattle.kc_kit_words.specs.Inputs.{inputs_in}
 use Rattle.kc_kit_words.specs.Values.{max_states, max_lives}
-use Rattle.kc_kit_words.specs.Words.{Beside, Command, Helps, HelpsOn, TellsVersion, Runs, Profiles, Assembles, Packs, Links, RunsHex, ProfilesHex, Lists, Debugs, Generates, Dumps, Explains}
+use Rattle.kc_kit_words.specs.Commands.{Beside, Command, Helps, HelpsOn, TellsVersion, Runs, Profiles, Assembles, Packs, Links, RunsHex, ProfilesHex, Lists, Debugs, Generates, Dumps, Explains}
 
 -- the names of the files that are written beside a hex file
 abbrev pub beside_in : ReadBeside → Beside

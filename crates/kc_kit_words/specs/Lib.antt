@@ -1,4 +1,5 @@
 pub mod Asked
+pub mod Commands
 pub mod Inputs
 pub mod Number
 pub mod Options

@@ -1,8 +1,9 @@
 -- What is wrong in words that are no command (this kit's own): the first thing that is, by the same tables as what a command takes.
 use Rattle.std.specs.Prelude.{ℕ, nat_le, List, [], ◌∷◌, ◌++◌, codes, length, Option, Some, None, is_none, is_some, if◌then◌else◌}
 use Rattle.std.specs.List.{list_all}
-use Rattle.std.specs.Option.{option_or}
+use Rattle.std.specs.Option.{option_map, option_or}
 use Rattle.std.specs.Str.{bytes_eq}
+use Rattle.kc_base.specs.TextLines.{begins_with}
 use Rattle.kc_link_place.specs.Ranges.{are_in_bounds, lies_within}
 use Rattle.kc_kit_words.specs.declared.extent.Extent.{Extent}
 use Rattle.kc_kit_words.specs.declared.usage.Wrong.{Wrong}
@@ -11,7 +12,8 @@ use Rattle.kc_kit_words.specs.declared.values.Form.{Form}
 use Rattle.kc_kit_words.specs.Number.{number_of}
 use Rattle.kc_kit_words.specs.Options.{form_of, has_form, value_of, extent_in}
 use Rattle.kc_kit_words.specs.Values.{is_name, range_of}
-use Rattle.kc_kit_words.specs.Words.{Beside, files_of, options_of, placing_of, is_other, are_apart, beside_of, help_on}
+use Rattle.kc_kit_words.specs.Commands.{Beside, Command, overwritten}
+use Rattle.kc_kit_words.specs.Words.{files_of, options_of, placing_of, is_other, are_apart, beside_of, command_by, help_on}
 
 -- ---- texts
 
@@ -20,6 +22,9 @@ no_command verb = codes "unknown command " ++ verb
 
 abbrev pub no_option : List ℕ → List ℕ
 no_option option = codes "unknown option " ++ option
+
+abbrev pub misplaced : List ℕ → List ℕ
+misplaced word = codes "files come first, before options: " ++ word
 
 abbrev pub no_value : List ℕ → List ℕ
 no_value option = codes "missing value of option " ++ option
@@ -33,6 +38,9 @@ twice option = codes "repeated option " ++ option
 abbrev pub lacks : List ℕ → List ℕ
 lacks option = codes "missing option " ++ option
 
+abbrev pub overwrites : List ℕ → List ℕ
+overwrites name = codes "a file that is read would be overwritten: " ++ name
+
 abbrev pub bad_range : List ℕ → List ℕ
 bad_range range = codes "bad range " ++ range
 
@@ -44,6 +52,7 @@ abbrev pub wrong_text : Wrong → List ℕ
 wrong_text wrong.NoWords = codes "no command"
 wrong_text (wrong.NoCommand verb) = no_command verb.now
 wrong_text (wrong.NoOption option) = no_option option.now
+wrong_text (wrong.Misplaced word) = misplaced word.now
 wrong_text (wrong.NoValue option) = no_value option.now
 wrong_text (wrong.BadValue option value) = bad_value option.now value.now
 wrong_text (wrong.Twice option) = twice option.now
@@ -54,6 +63,7 @@ wrong_text wrong.BadName = codes "a file's name has not 1 to 255 bytes"
 wrong_text wrong.FewWords = codes "too few words"
 wrong_text wrong.ManyWords = codes "too many words"
 wrong_text wrong.SameFile = codes "two files to write have one name"
+wrong_text (wrong.Overwrites name) = overwrites name.now
 wrong_text wrong.MoreLives = codes "--profile does not go with --lives"
 wrong_text wrong.OutOfBounds = codes "a range is out of bounds"
 wrong_text (wrong.BadRange range) = bad_range range.now
@@ -61,15 +71,19 @@ wrong_text (wrong.BadNumber number) = bad_number number.now
 
 -- ---- options
 
+-- a word where an option stands that the command does not take: it begins as an option does, or it is a file behind options
+abbrev pub unknown : List ℕ → List ℕ
+unknown word = if begins_with 45 word then no_option word else misplaced word
+
 -- an option with its value before other words: the command does not take it, its value has another form, or it stands again
 abbrev pub wrong_value : Option Form → List ℕ → List ℕ → Option (List ℕ) → Option (List ℕ)
-wrong_value None option value again = Some (no_option option)
+wrong_value None option value again = Some (unknown option)
 wrong_value (Some form) option value again =
     if has_form form value then (if is_some again then Some (twice option) else None)
     else Some (bad_value option value)
 
 abbrev pub wrong_last : Option Form → List ℕ → List ℕ
-wrong_last None option = no_option option
+wrong_last None option = unknown option
 wrong_last (Some form) option = no_value option
 
 unfoldable pub wrong_option : List ℕ → List (List ℕ) → Option (List ℕ)
@@ -171,10 +185,17 @@ wrong_by verb files options wrong_options =
     else if bytes_eq verb (codes "--version") then option_or wrong_options (wrong_more files)
     else Some (no_command verb)
 
+-- what is asked for would write over a file that it reads
+abbrev pub wrong_writes : Option Command → Option (List ℕ)
+wrong_writes command = option_map overwrites (overwritten command)
+
+abbrev pub wrong_with : List ℕ → List (List ℕ) → List (List ℕ) → Option (List ℕ)
+wrong_with verb files options = option_or (wrong_by verb files options (wrong_option verb options)) (wrong_writes (command_by verb files options))
+
 -- what is wrong in words that ask for no help on a command
 abbrev pub plain_usage_of : List (List ℕ) → Option (List ℕ)
 plain_usage_of [] = Some (wrong_text wrong.NoWords)
-plain_usage_of (verb ∷ words) = wrong_by verb (files_of words) (options_of words) (wrong_option verb (options_of words))
+plain_usage_of (verb ∷ words) = wrong_with verb (files_of words) (options_of words)
 
 -- what is wrong in some words, if anything is
 abbrev pub usage_of : List (List ℕ) → Option (List ℕ)

@@ -8,32 +8,10 @@ use Rattle.kc_link_place.specs.declared.ranges.Ranges.{Ranges}
 use Rattle.kc_link_place.specs.Ranges.{are_in_bounds, lies_within}
 use Rattle.kc_kit_words.specs.declared.extent.Extent.{Extent}
 use Rattle.kc_kit_words.specs.declared.inputs.Role.{Role}
+use Rattle.kc_kit_words.specs.Commands.{Beside, Command, Helps, HelpsOn, TellsVersion, Runs, Profiles, Assembles, Packs, Links, RunsHex, ProfilesHex, Lists, Debugs, Generates, Dumps, Explains, sparing}
 use Rattle.kc_kit_words.specs.Options.{are_options, inputs_of, value_of, clock_in, extent_in, range_in, length_in}
 use Rattle.kc_kit_words.specs.Number.{number_of}
 use Rattle.kc_kit_words.specs.Values.{is_name, range_of}
-
--- the files that are written beside a hex file, where they are asked for
-pub record Beside : Type 0 where
-  pub lines : Option (List ℕ)
-  pub map : Option (List ℕ)
-
--- A command. Beside its first files it may have further ones to be read, each for a role.
-pub data Command : Type 0 where
-  Helps : Command
-  HelpsOn : List ℕ → Command
-  TellsVersion : Command
-  Runs : List (List ℕ) → List (Role × List ℕ) → Extent → Ranges → Command
-  Profiles : List (List ℕ) → List (Role × List ℕ) → ℕ → Ranges → List ℕ → Command
-  Assembles : List ℕ → List ℕ → Option (List ℕ) → Command
-  Packs : List (List ℕ) → List ℕ → Command
-  Links : List (List ℕ) → List (Role × List ℕ) → List ℕ → Beside → Ranges → Command
-  RunsHex : List ℕ → List (Role × List ℕ) → Extent → Command
-  ProfilesHex : List ℕ → List (Role × List ℕ) → ℕ → List ℕ → Command
-  Lists : List ℕ → ℕ → ℕ → Command
-  Debugs : List ℕ → List ℕ → List (Role × List ℕ) → Command
-  Generates : ℕ → Command
-  Dumps : List ℕ → List ℕ → ℕ → Command
-  Explains : List ℕ → Command
 
 -- ---- files stand before the options, and an option begins with `-`
 
@@ -187,9 +165,9 @@ command_by verb files options =
     else if bytes_eq verb (codes "--version") then alone files TellsVersion
     else None
 
--- the command of words whose options it takes
+-- the command of words whose options it takes; it writes no file that it reads
 abbrev pub command_with : List ℕ → List (List ℕ) → List (List ℕ) → Option Command
-command_with verb files options = if are_options verb options then command_by verb files options else None
+command_with verb files options = if are_options verb options then sparing (command_by verb files options) else None
 
 -- what words ask for that ask for no help on a command
 abbrev pub plain_command_of : List (List ℕ) → Option Command

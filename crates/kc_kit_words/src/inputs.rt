@@ -34,8 +34,8 @@ pub struct Inputs<'a> {
     pub(crate) words: &'a [String],
 }
 
-// The role of the file that an option names for reading; none where it names none.
-fn role_of(verb: &str, option: &str) -> Option<Role>
+/// The role of the file that an option names for reading; none where it names none.
+pub(crate) fn role_of(verb: &str, option: &str) -> Option<Role>
     ensures { result ≡ role_of verb.now option.now }
 {
     match form_of(verb, option) {

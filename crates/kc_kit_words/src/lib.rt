@@ -7,6 +7,7 @@ mod inputs;
 mod numbers;
 mod options;
 mod order;
+mod overwriting;
 mod usage;
 mod values;
 mod words;

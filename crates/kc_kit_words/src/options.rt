@@ -11,7 +11,8 @@ use crate::extent::Extent;
 use crate::inputs::Role;
 use crate::values::{Form, bytes, clock, has_form, lives, range, states};
 
-fn is_option(word: &str) -> bool
+/// Whether a word stands where an option does: it begins with `-`.
+pub(crate) fn is_option(word: &str) -> bool
     ensures { result ≡ begins_with 45 word.now }
 {
     match word.as_bytes().first() {

@@ -3,16 +3,21 @@ ghost use Rattle.std.specs.Prelude.{◌≡◌, ◌++◌, codes, map, string_byte
 ghost use Rattle.std.specs.Option.{option_map, option_or};
 ghost use Rattle.kc_trace.specs.Out.{Puts};
 ghost use Rattle.kc_trace.specs.Trace.{out_of};
+ghost use Rattle.kc_kit_words.specs.Asked.{asked};
 ghost use Rattle.kc_kit_words.specs.Options.{form_of, value_of};
-ghost use Rattle.kc_kit_words.specs.Usage.{wrong_text, bad_value, wrong_value, wrong_last, wrong_option, lacks_out, wrong_extent, wrong_listing, wrong_placing, wrong_outputs, wrong_name, wrong_files, wrong_file, wrong_pair, wrong_range, wrong_list, wrong_number, wrong_word, wrong_more, wrong_by, plain_usage_of, usage_of, usage_note};
+ghost use Rattle.kc_kit_words.specs.Usage.{wrong_text, bad_value, unknown, wrong_writes, wrong_value, wrong_last, wrong_option, lacks_out, wrong_extent, wrong_listing, wrong_placing, wrong_outputs, wrong_name, wrong_files, wrong_file, wrong_pair, wrong_range, wrong_list, wrong_number, wrong_word, wrong_more, wrong_by, plain_usage_of, usage_of, usage_note};
 ghost use Rattle.kc_kit_words.specs.UsageLaw.{WrongWhereNoCommand};
 ghost use Rattle.kc_kit_words.specs.Values.{range_of};
 ghost use Rattle.kc_kit_words.specs.Words.{beside_of};
 
+use crate::command::Command;
 use crate::extent::Extent;
-use crate::options::{count_files, extent_in, form_of, value_of};
+use crate::options::{count_files, extent_in, form_of, is_option, value_of};
+use crate::overwriting::overwritten;
 use crate::values::{has_form, is_name, range, short};
-use crate::words::{MAX_FILES, are_apart, are_names, beside_in, help_on, is_other, placing};
+use crate::words::{
+    MAX_FILES, are_apart, are_names, beside_in, help_on, is_other, placing, read_command,
+};
 use kc_base::Sink;
 use kc_trace::TraceOut;
 
@@ -25,6 +30,8 @@ pub enum Wrong<'a> {
     NoCommand(&'a str),
     /// The command takes no such option.
     NoOption(&'a str),
+    /// The word stands where an option does, and is none.
+    Misplaced(&'a str),
     /// The option stands last, and has no value.
     NoValue(&'a str),
     /// The value of an option has not its form.
@@ -41,6 +48,8 @@ pub enum Wrong<'a> {
     ManyWords,
     /// Two files that are written have one name.
     SameFile,
+    /// A file is to be written that is read too.
+    Overwrites(&'a str),
     /// A profile of more lives than one.
     MoreLives,
     /// A range of addresses is out of its bounds.
@@ -76,6 +85,7 @@ impl Wrong<'_> {
             Wrong::NoWords => notes.put_text(b"no command"),
             Wrong::NoCommand(verb) => put_word(notes, "unknown command ", verb),
             Wrong::NoOption(option) => put_word(notes, "unknown option ", option),
+            Wrong::Misplaced(word) => put_word(notes, "files come first, before options: ", word),
             Wrong::NoValue(option) => put_word(notes, "missing value of option ", option),
             Wrong::BadValue { option, value } => put_bad_value(notes, option, value),
             Wrong::Twice(option) => put_word(notes, "repeated option ", option),
@@ -86,6 +96,9 @@ impl Wrong<'_> {
             Wrong::FewWords => notes.put_text(b"too few words"),
             Wrong::ManyWords => notes.put_text(b"too many words"),
             Wrong::SameFile => notes.put_text(b"two files to write have one name"),
+            Wrong::Overwrites(name) => {
+                put_word(notes, "a file that is read would be overwritten: ", name);
+            }
             Wrong::MoreLives => notes.put_text(b"--profile does not go with --lives"),
             Wrong::OutOfBounds => notes.put_text(b"a range is out of bounds"),
             Wrong::BadRange(range) => put_word(notes, "bad range ", range),
@@ -104,6 +117,17 @@ fn first<'a>(wrong: Option<Wrong<'a>>, other: Option<Wrong<'a>>) -> Option<Wrong
     }
 }
 
+// What is wrong with a word that is no option of the command, where one stands.
+fn unknown(word: &str) -> Wrong<'_>
+    ensures { wrong_text result ≡ unknown word.now }
+{
+    if is_option(word) {
+        Wrong::NoOption(word)
+    } else {
+        Wrong::Misplaced(word)
+    }
+}
+
 // What is wrong with an option and its value before other words.
 fn wrong_value<'a>(
     verb: &str,
@@ -114,7 +138,7 @@ fn wrong_value<'a>(
     ensures { option_map wrong_text result ≡ wrong_value (form_of verb.now option.now) option.now value.now (value_of option.now (map string_bytes behind.now)) }
 {
     match form_of(verb, option) {
-        None => Some(Wrong::NoOption(option)),
+        None => Some(unknown(option)),
         Some(form) => {
             if !has_form(form, value) {
                 Some(Wrong::BadValue { option, value })
@@ -132,7 +156,7 @@ fn wrong_last<'a>(verb: &str, option: &'a str) -> Wrong<'a>
     ensures { wrong_text result ≡ wrong_last (form_of verb.now option.now) option.now }
 {
     match form_of(verb, option) {
-        None => Wrong::NoOption(option),
+        None => unknown(option),
         Some(_) => Wrong::NoValue(option),
     }
 }
@@ -377,6 +401,17 @@ fn wrong_by<'a>(verb: &'a str, files: &'a [String], options: &'a [String]) -> Op
     }
 }
 
+// What is wrong with a command that writes over a file that it reads.
+fn wrong_writes<'a>(command: Option<Command<'a>>) -> Option<Wrong<'a>>
+    ensures { option_map wrong_text result ≡ wrong_writes (option_map asked command.entry) }
+{
+    let command = command?;
+    match overwritten(&command) {
+        Some(name) => Some(Wrong::Overwrites(name)),
+        None => None,
+    }
+}
+
 // The first thing that is wrong in words that ask for no help on a command.
 fn wrong_plain(words: &[String]) -> Option<Wrong<'_>>
     ensures { option_map wrong_text result ≡ plain_usage_of (map string_bytes words.now) }
@@ -385,7 +420,11 @@ fn wrong_plain(words: &[String]) -> Option<Wrong<'_>>
         return Some(Wrong::NoWords);
     };
     let (files, options) = rest.split_at(count_files(rest));
-    wrong_by(verb.as_str(), files, options)
+    let verb = verb.as_str();
+    first(
+        wrong_by(verb, files, options),
+        wrong_writes(read_command(verb, files, options)),
+    )
 }
 
 /// The first thing that is wrong in some words; `None` where they are a command.

@@ -17,6 +17,7 @@ use crate::inputs::Inputs;
 use crate::options::{
     are_options, clock_in, count_files, extent_in, length_in, range_in, value_of,
 };
+use crate::overwriting::sparing;
 use crate::values::{is_name, range, short};
 use kc_link_place::Ranges;
 
@@ -383,8 +384,8 @@ fn alone<'a>(files: &[String], command: Command<'a>) -> Option<Command<'a>>
     }
 }
 
-// The command of a verb with its files and options, all of which it takes.
-fn read_command<'a>(
+/// The command of a verb with its files and options, all of which it takes.
+pub(crate) fn read_command<'a>(
     verb: &'a str,
     files: &'a [String],
     options: &'a [String],
@@ -445,7 +446,7 @@ fn read_plain(words: &[String]) -> Option<Command<'_>>
     };
     let (files, options) = rest.split_at(count_files(rest));
     if are_options(verb.as_str(), options) {
-        read_command(verb.as_str(), files, options)
+        sparing(read_command(verb.as_str(), files, options))
     } else {
         None
     }

@@ -3,7 +3,8 @@ use Rattle.kc_base.specs.Causes.{Rose}
 use Rattle.kc_kit_files.specs.declared.status.Status.TheVariants as status
 use Rattle.kc_kit_files.specs.Outside.{Kept, kept, shown}
 use Rattle.kc_kit_words.specs.Words.{command_of}
-use Rattle.kc_kit_answer.specs.Answer.{MayAnswer, names_written}
+use Rattle.kc_kit_words.specs.Commands.{names_written}
+use Rattle.kc_kit_answer.specs.Answer.{MayAnswer}
 use Rattle.kc_kit.proofs.AnswerLemmas.{done-of, may-usage, may-read, may-named, status-of, fault-of, ends-of, ends-same, ends-stay}
 use Rattle.kc_kit.proofs.top.kit.Goals as goal
 

@@ -2,7 +2,7 @@ use Rattle.std.proofs.Common.{ℕ, List, Some}
 use Rattle.std.specs.Prelude.{Option}
 use Rattle.std.specs.Option.{option_map}
 use Rattle.kc_base.specs.Causes.{Rose}
-use Rattle.kc_kit_words.specs.Words.{Assembles}
+use Rattle.kc_kit_words.specs.Commands.{Assembles}
 use Rattle.kc_kit_answer.specs.Answer.{MayAnswer, OneText}
 use Rattle.kc_kit_answer.specs.Assemble.{AssembleAnswer}
 use Rattle.kc_kit_answer.proofs.AnswerSteps.{one-then, one-missed, prepared-widen}

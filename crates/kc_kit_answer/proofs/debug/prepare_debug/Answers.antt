@@ -3,11 +3,10 @@ use Rattle.kc_base.specs.Causes.{Rose}
 use Rattle.kc_kit_files.specs.Reply.{Reply}
 use Rattle.kc_kit_files.proofs.ReadLemmas.{stays-onward}
 use Rattle.kc_kit_words.specs.Inputs.{inputs_in}
-use Rattle.kc_kit_words.specs.Words.{Debugs}
+use Rattle.kc_kit_words.specs.Commands.{Debugs, names_of}
 use Rattle.kc_kit_answer.specs.Answer.{MayAnswer, TwoTexts, Parted}
 use Rattle.kc_kit_answer.specs.Debug.{DebugAnswer}
-use Rattle.kc_kit_inputs.specs.Inputs.{names_of}
-use Rattle.kc_kit_inputs.proofs.Words.{texts_in}
+use Rattle.kc_kit_notes.proofs.Words.{texts_in}
 use Rattle.kc_kit_answer.proofs.AnswerSteps.{first-missed, second-missed, parts-then, prepared-widen}
 use Rattle.kc_kit_answer.proofs.debug.prepare_debug.Goals as goal
 

@@ -1,6 +1,6 @@
 use Rattle.std.proofs.Common.{Some}
 use Rattle.kc_base.specs.Causes.{Rose}
-use Rattle.kc_kit_words.specs.Words.{Dumps}
+use Rattle.kc_kit_words.specs.Commands.{Dumps}
 use Rattle.kc_kit_answer.specs.Answer.{MayAnswer, OneText}
 use Rattle.kc_kit_answer.specs.Dump.{DumpAnswer}
 use Rattle.kc_kit_answer.proofs.AnswerSteps.{one-then, one-missed, prepared-widen}

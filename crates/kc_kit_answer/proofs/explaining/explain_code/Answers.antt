@@ -6,7 +6,7 @@ use Rattle.kc_kit_files.proofs.EndLemmas.{Ends-widen, ends-by}
 use Rattle.kc_kit_files.proofs.ReplyLemmas.{said-refused}
 use Rattle.kc_explain.specs.Meanings.{said}
 use Rattle.kc_kit_answer.specs.Explain.{no_code_line, explained, explained_by}
-use Rattle.kc_kit_answer.specs.Notes.{no_code_note}
+use Rattle.kc_kit_answer.specs.Explain.{no_code_note}
 use Rattle.kc_kit_answer.proofs.explaining.explain_code.Goals as goal
 
 pub returns-in-Ok : goal.returns-in-Ok

@@ -1,8 +1,8 @@
 use Rattle.std.proofs.Common.{map, string_bytes}
 use Rattle.std.specs.Prelude.{Some}
 use Rattle.kc_base.specs.Causes.{Rose}
-use Rattle.kc_kit_words.specs.Words.{Packs}
-use Rattle.kc_kit_inputs.proofs.Words.{texts_in}
+use Rattle.kc_kit_words.specs.Commands.{Packs}
+use Rattle.kc_kit_notes.proofs.Words.{texts_in}
 use Rattle.kc_kit_answer.specs.Answer.{MayAnswer}
 use Rattle.kc_kit_answer.specs.Pack.{PackAnswer}
 use Rattle.kc_kit_answer.proofs.AnswerSteps.{held-then, prepared-widen}

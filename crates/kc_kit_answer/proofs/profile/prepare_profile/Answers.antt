@@ -2,11 +2,10 @@ use Rattle.std.proofs.Common.{Some, refl, map, string_bytes, length, arith}
 use Rattle.kc_base.specs.Causes.{Rose}
 use Rattle.kc_kit_files.proofs.ReadLemmas.{stays-onward}
 use Rattle.kc_kit_words.specs.Inputs.{inputs_in}
-use Rattle.kc_kit_words.specs.Words.{Profiles}
+use Rattle.kc_kit_words.specs.Commands.{Profiles, names_of}
 use Rattle.kc_kit_answer.specs.Answer.{MayAnswer, Parted}
 use Rattle.kc_kit_answer.specs.Profile.{ProfileAnswer}
-use Rattle.kc_kit_inputs.specs.Inputs.{names_of}
-use Rattle.kc_kit_inputs.proofs.Words.{texts_in}
+use Rattle.kc_kit_notes.proofs.Words.{texts_in}
 use Rattle.kc_kit_answer.proofs.AnswerSteps.{first-missed, second-missed, parts-then, prepared-widen}
 use Rattle.kc_kit_answer.proofs.profile.prepare_profile.Goals as goal
 

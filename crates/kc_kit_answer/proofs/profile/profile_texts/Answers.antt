@@ -2,7 +2,7 @@ use Rattle.std.proofs.Common.{map, string_bytes, subst, ℕ, List}
 use Rattle.kc_debug_script.specs.declared.line_map.MapEntry.{MapEntry}
 use Rattle.kc_kit_files.specs.Reply.{Reply, IsRefused}
 use Rattle.kc_kit_inputs.specs.declared.driving.Driving.{Driving}
-use Rattle.kc_kit_inputs.proofs.Words.{texts_in}
+use Rattle.kc_kit_notes.proofs.Words.{texts_in}
 use Rattle.kc_kit_answer.specs.Profile.{LinesTold, profile_reply}
 use Rattle.kc_kit_answer.proofs.profile.profile_texts.Goals as goal
 

@@ -2,11 +2,10 @@ use Rattle.std.proofs.Common.{Some, refl, map, string_bytes, length, arith}
 use Rattle.kc_base.specs.Causes.{Rose}
 use Rattle.kc_kit_files.proofs.ReadLemmas.{stays-onward}
 use Rattle.kc_kit_words.specs.Inputs.{inputs_in}
-use Rattle.kc_kit_words.specs.Words.{Runs}
+use Rattle.kc_kit_words.specs.Commands.{Runs, names_of}
 use Rattle.kc_kit_answer.specs.Answer.{MayAnswer, Parted}
 use Rattle.kc_kit_answer.specs.Run.{RunAnswer}
-use Rattle.kc_kit_inputs.specs.Inputs.{names_of}
-use Rattle.kc_kit_inputs.proofs.Words.{texts_in}
+use Rattle.kc_kit_notes.proofs.Words.{texts_in}
 use Rattle.kc_kit_answer.proofs.AnswerSteps.{first-missed, second-missed, parts-then, prepared-widen}
 use Rattle.kc_kit_answer.proofs.run.prepare_run.Goals as goal
 

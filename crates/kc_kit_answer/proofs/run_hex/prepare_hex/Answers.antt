@@ -4,11 +4,10 @@ use Rattle.kc_kit_files.specs.Reads.{MissedOne, MissedRead}
 use Rattle.kc_kit_files.specs.Reply.{Reply}
 use Rattle.kc_kit_files.proofs.ReadLemmas.{refused-widen, held-one, missed-one, stays-onward}
 use Rattle.kc_kit_words.specs.Inputs.{inputs_in}
-use Rattle.kc_kit_words.specs.Words.{RunsHex}
+use Rattle.kc_kit_words.specs.Commands.{RunsHex, names_of}
 use Rattle.kc_kit_answer.specs.Answer.{MayAnswer, OneText, Parted}
 use Rattle.kc_kit_answer.specs.Hex.{RunHexAnswer}
-use Rattle.kc_kit_inputs.specs.Inputs.{names_of}
-use Rattle.kc_kit_inputs.proofs.Words.{texts_in}
+use Rattle.kc_kit_notes.proofs.Words.{texts_in}
 use Rattle.kc_kit_answer.proofs.AnswerSteps.{first-missed, second-missed, parts-then, prepared-widen}
 use Rattle.kc_kit_answer.proofs.run_hex.prepare_hex.Goals as goal
 

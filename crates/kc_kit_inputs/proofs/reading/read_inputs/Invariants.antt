@@ -2,7 +2,7 @@ use Rattle.std.proofs.Common.{◌≡◌, ℕ, List, ◌++◌, length, map}
 use Rattle.kc_kit_files.specs.Outside.{OnlyRead}
 use Rattle.kc_kit_files.specs.Reads.{AreHeld}
 use Rattle.kc_kit_words.specs.Inputs.{inputs_in}
-use Rattle.kc_kit_inputs.specs.Inputs.{names_of}
+use Rattle.kc_kit_words.specs.Commands.{names_of}
 use Rattle.kc_kit_inputs.proofs.reading.read_inputs.Given as goal
 
 abbrev pub invariant-loop-input : goal.invariant-loop-input

@@ -1,8 +1,9 @@
 use Rattle.std.proofs.Common.{◌≡◌, ◌∙◌, Some, None, Err, sym, ap}
 use Rattle.kc_kit_files.specs.Reply.{Reply, IsRefused}
 use Rattle.kc_kit_files.proofs.ReadLemmas.{refused-widen}
-use Rattle.kc_kit_inputs.specs.Notes.{line_reply}
-use Rattle.kc_kit_inputs.specs.Stimuli.{place_of, reply_at, stimuli_of}
+use Rattle.kc_kit_inputs.specs.Replies.{line_reply}
+use Rattle.kc_stim.specs.Faults.{place_of}
+use Rattle.kc_kit_inputs.specs.Stimuli.{reply_at, stimuli_of}
 use Rattle.kc_kit_inputs.proofs.InputLemmas.{stimuli-refused}
 use Rattle.kc_kit_inputs.proofs.stimuli.read_stimuli.Goals as goal
 

@@ -2,8 +2,8 @@ use Rattle.std.proofs.Common.{◌≡◌, ◌-◌, ◌∙◌, cond, false, length
 use Rattle.std.specs.Prelude.{nat_eq, slice_get}
 use Rattle.std.proofs.lemmas.Bool.Decides.{nat_tests}
 use Rattle.kc_base.specs.TextLines.{text_lines}
-use Rattle.kc_kit_inputs.proofs.NoteLemmas.{no-line}
-use Rattle.kc_kit_inputs.proofs.notes.line_at.Goals as goal
+use Rattle.kc_kit_notes.proofs.NoteLemmas.{no-line}
+use Rattle.kc_kit_notes.proofs.notes.line_at.Goals as goal
 
 pub returns : goal.returns
 returns c =

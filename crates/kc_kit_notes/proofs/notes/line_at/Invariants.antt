@@ -1,7 +1,7 @@
 use Rattle.std.proofs.Common.{◌≡◌, ◌-◌, length}
 use Rattle.std.specs.Prelude.{slice_get}
 use Rattle.kc_base.specs.TextLines.{text_lines}
-use Rattle.kc_kit_inputs.proofs.notes.line_at.Given as goal
+use Rattle.kc_kit_notes.proofs.notes.line_at.Given as goal
 
 abbrev pub invariant-loop-rest : goal.invariant-loop-rest
 invariant-loop-rest l = slice_get (text_lines l.text) (l.number - 1) ≡ slice_get (text_lines l.rest) l.before

@@ -1,8 +1,8 @@
 -- What the files of modules that are linked show (this kit's own).
 use Rattle.std.specs.Prelude.{ℕ, List, [], ◌++◌, map, string_bytes, Option, Some, None}
-use Rattle.kc_kit_answer.specs.declared.link_lines.Members.{Members}
-use Rattle.kc_kit_answer.specs.declared.link_lines.Origins.{Origins}
-use Rattle.kc_kit_answer.specs.Lines.{member_words}
+use Rattle.kc_kit_notes.specs.declared.origins.Members.{Members}
+use Rattle.kc_kit_notes.specs.declared.origins.Origins.{Origins}
+use Rattle.kc_kit_notes.specs.Rules.{member_words}
 
 -- the words that name taken members
 abbrev pub words_of_members : Option Members → List (List ℕ)

@@ -1,7 +1,7 @@
 // What is said in words of a fault in a file.
 ghost use Rattle.std.specs.Prelude.{◌≡◌, ◌++◌, codes, decimal, IfOk, OnOk};
 ghost use Rattle.std.specs.Option.{option_map};
-ghost use Rattle.kc_kit_inputs.specs.Notes.{line_at, line_shown, error_text, line_note, byte_note};
+ghost use Rattle.kc_kit_notes.specs.Notes.{line_at, line_shown, error_text, line_note, byte_note};
 
 use itoa::Buffer;
 use kc_base::{NoMemory, after, first_line, front};
@@ -29,7 +29,7 @@ fn line_at(text: &[u8], number: u32) -> Option<&[u8]>
 }
 
 /// Puts a code behind a note, with more behind it, and with its sentence.
-pub fn put_error(note: &mut Vec<u8>, code: &[u8], more: &[u8]) -> Result<(), NoMemory>
+pub(crate) fn put_error(note: &mut Vec<u8>, code: &[u8], more: &[u8]) -> Result<(), NoMemory>
     ensures { OnOk result (note.new.items ≡ note.old.items ++ error_text code.now more.now) }
 {
     note.extend_from_slice(b": error ")?;
@@ -41,8 +41,8 @@ pub fn put_error(note: &mut Vec<u8>, code: &[u8], more: &[u8]) -> Result<(), NoM
     Ok(())
 }
 
-// Puts the line of this number behind a note.
-fn put_line(note: &mut Vec<u8>, text: &[u8], line: u32) -> Result<(), NoMemory>
+/// Puts the line of this number behind a note.
+pub(crate) fn put_line(note: &mut Vec<u8>, text: &[u8], line: u32) -> Result<(), NoMemory>
     ensures { OnOk result (note.new.items ≡ note.old.items ++ line_shown (line_at text.now line)) }
 {
     match line_at(text, line) {
@@ -56,7 +56,7 @@ fn put_line(note: &mut Vec<u8>, text: &[u8], line: u32) -> Result<(), NoMemory>
 }
 
 /// The note of a fault in a line of a text.
-pub(crate) fn line_note(
+pub fn line_note(
     alloc: Global,
     name: &[u8],
     text: &[u8],
@@ -85,12 +85,7 @@ fn byte_text(alloc: Global, place: u32) -> Result<Vec<u8>, NoMemory>
 }
 
 /// The note of a fault at a byte of a file.
-pub(crate) fn byte_note(
-    alloc: Global,
-    name: &[u8],
-    place: u32,
-    code: &[u8],
-) -> Result<Vec<u8>, NoMemory>
+pub fn byte_note(alloc: Global, name: &[u8], place: u32, code: &[u8]) -> Result<Vec<u8>, NoMemory>
     ensures { IfOk result (λ note. note.items ≡ byte_note name.now place code.now) }
 {
     let mut note = Vec::from_slice(alloc, name)?;

@@ -1,16 +1,18 @@
 // What is said in words of broken rules of the linker.
 ghost use Rattle.std.specs.Prelude.{◌≡◌, ◌++◌, codes, decimal, fold, None, IfOk, OnOk, slice_get};
 ghost use Rattle.std.specs.Option.{option_copied};
-ghost use Rattle.kc_kit_answer.specs.Lines.{file_at};
-ghost use Rattle.kc_kit_answer.specs.Notes.{or_later, line_among, line_in, line_text, rule_note, link_note};
-ghost use Rattle.kc_kit_answer.specs.Origins.{words_of};
+ghost use Rattle.kc_kit_notes.specs.Rules.{file_at};
+ghost use Rattle.kc_kit_notes.specs.RuleNotes.{or_later, line_among, line_in, line_text, rule_note, link_note};
+ghost use Rattle.kc_kit_notes.specs.Origins.{words_of};
 
-use crate::link_lines::{Origins, file_at, place_text};
+use crate::notes::put_error;
+use crate::origins::{Origins, file_at, joined};
+use crate::rule_files::in_files;
+use crate::rule_lines::place_text;
 use itoa::Buffer;
 use kc_base::NoMemory;
-use kc_kit_inputs::put_error;
-use kc_link::LinkFault;
 use kc_link_map::{address_text, kind_word};
+use kc_link_place::LinkFault;
 use kc_obj::{Lines, Module};
 use std::alloc::Global;
 
@@ -72,6 +74,14 @@ fn rule_note(alloc: Global, place: &[u8], rule: &[u8], more: &[u8]) -> Result<Ve
     Ok(note)
 }
 
+// A rule that is broken by a name or at an address, in these files.
+fn files_note(alloc: Global, rule: &[u8], what: &[u8], files: &[u8]) -> Result<Vec<u8>, NoMemory>
+    ensures { IfOk result (λ note. note.items ≡ rule_note (codes "kc96") rule.now (what.now ++ files.now)) }
+{
+    let more = joined(alloc, what, files)?;
+    rule_note(alloc, b"kc96", rule, &more)
+}
+
 // A number that does not fit, in a file where its line may be known.
 fn range_note(
     alloc: Global,
@@ -98,14 +108,20 @@ pub(crate) fn link_note(
     ensures { IfOk result (λ note. note.items ≡ link_note (words_of origins.now) modules.now fault.now) }
 {
     match fault {
-        LinkFault::Unresolved(name) => rule_note(alloc, b"kc96", b"unresolved", name.as_slice()),
-        LinkFault::OverlapName(name) => rule_note(alloc, b"kc96", b"duplicate", name.as_slice()),
+        LinkFault::Unresolved(name) => {
+            let files = in_files(alloc, origins, modules, fault)?;
+            files_note(alloc, b"unresolved", name.as_slice(), &files)
+        }
+        LinkFault::OverlapName(name) => {
+            let files = in_files(alloc, origins, modules, fault)?;
+            files_note(alloc, b"duplicate", name.as_slice(), &files)
+        }
         LinkFault::OverlapPlace(place) => {
-            let at = address_text(*place);
-            rule_note(alloc, b"kc96", b"overlap", at.as_slice())
+            let files = in_files(alloc, origins, modules, fault)?;
+            files_note(alloc, b"overlap", address_text(*place).as_slice(), &files)
         }
         LinkFault::Capacity { kind, module } => {
-            let file = file_at(alloc, origins, *module)?;
+            let file = file_at(alloc, origins, usize::from(*module))?;
             rule_note(alloc, &file, b"capacity", kind_word(*kind))
         }
         LinkFault::Range {
@@ -113,7 +129,7 @@ pub(crate) fn link_note(
             piece,
             offset,
         } => {
-            let file = file_at(alloc, origins, *module)?;
+            let file = file_at(alloc, origins, usize::from(*module))?;
             let line = line_in(*piece, *offset, modules, *module);
             range_note(alloc, &file, line, *piece, *offset)
         }

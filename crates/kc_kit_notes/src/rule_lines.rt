@@ -2,77 +2,19 @@
 ghost use Rattle.std.specs.Prelude.{◌≡◌, ◌<◌, ◌++◌, codes, decimal, IfOk, IsErr};
 ghost use Rattle.kc_kit_files.specs.declared.status.Status.TheVariants as status;
 ghost use Rattle.kc_kit_files.specs.Reply.{tells, IsRefused};
-ghost use Rattle.kc_kit_answer.specs.Lines.{file_at, link_text, link_line};
-ghost use Rattle.kc_kit_answer.specs.Notes.{link_note};
-ghost use Rattle.kc_kit_answer.specs.Origins.{words_of_members, words_of};
+ghost use Rattle.kc_kit_notes.specs.Rules.{link_text, link_line};
+ghost use Rattle.kc_kit_notes.specs.RuleNotes.{link_note};
+ghost use Rattle.kc_kit_notes.specs.Origins.{words_of};
 
-use crate::link_notes::link_note;
+use crate::origins::{Origins, file_at, joined};
+use crate::rule_notes::link_note;
 use itoa::Buffer;
 use kc_base::NoMemory;
 use kc_kit_files::{Cause, Refusal, refusal_of};
-use kc_link::LinkFault;
 use kc_link_map::{address_text, kind_word};
+use kc_link_place::LinkFault;
 use kc_obj::Module;
 use std::alloc::Global;
-
-fn joined(alloc: Global, before: &[u8], after: &[u8]) -> Result<Vec<u8>, NoMemory>
-    ensures { IfOk result (λ text. text.items ≡ before.now ++ after.now) }
-{
-    let mut text = Vec::from_slice(alloc, before)?;
-    text.extend_from_slice(after)?;
-    Ok(text)
-}
-
-/// Members that are taken from a library of this name.
-#[derive(Clone, Copy)]
-pub(crate) struct Members<'l, 't> {
-    pub(crate) library: &'l str,
-    pub(crate) taken: &'t [Module],
-}
-
-/// Where modules come from that are linked: their files in order, and behind them members of a library.
-#[derive(Clone, Copy)]
-pub(crate) struct Origins<'f, 'l, 't> {
-    pub(crate) files: &'f [String],
-    pub(crate) members: Option<Members<'l, 't>>,
-}
-
-// The word that names a taken member: that of its library, a colon, and its own.
-fn member_at(
-    alloc: Global,
-    members: Option<Members<'_, '_>>,
-    index: usize,
-) -> Result<Vec<u8>, NoMemory>
-    ensures { IfOk result (λ text. text.items ≡ file_at (words_of_members members.entry) index) }
-{
-    let Some(members) = members else {
-        return Ok(Vec::from_slice(alloc, b"-")?);
-    };
-    match members.taken.get(index) {
-        Some(taken) => {
-            let mut text = joined(alloc, members.library.as_bytes(), b":")?;
-            text.extend_from_slice(taken.name().as_slice())?;
-            Ok(text)
-        }
-        None => Ok(Vec::from_slice(alloc, b"-")?),
-    }
-}
-
-// The word that names a module's file; that of the one stack of all modules is `-`.
-pub(crate) fn file_at(
-    alloc: Global,
-    origins: &Origins<'_, '_, '_>,
-    index: u16,
-) -> Result<Vec<u8>, NoMemory>
-    ensures { IfOk result (λ text. text.items ≡ file_at (words_of origins.now) index) }
-{
-    let index = usize::from(index);
-    if index < origins.files.len() {
-        Ok(Vec::from_slice(alloc, origins.files[index].as_bytes())?)
-    } else {
-        member_at(alloc, origins.members, index - origins.files.len())
-    }
-}
 
 fn capacity_text(alloc: Global, kind: &[u8], file: &[u8]) -> Result<Vec<u8>, NoMemory>
     ensures { IfOk result (λ text. text.items ≡ codes "capacity " ++ kind.now ++ codes " " ++ file.now) }
@@ -121,7 +63,7 @@ fn link_text(
             joined(alloc, b"overlap ", address_text(*place).as_slice())
         }
         LinkFault::Capacity { kind, module } => {
-            let file = file_at(alloc, origins, *module)?;
+            let file = file_at(alloc, origins, usize::from(*module))?;
             capacity_text(alloc, kind_word(*kind), &file)
         }
         LinkFault::Range {
@@ -129,7 +71,7 @@ fn link_text(
             piece,
             offset,
         } => {
-            let file = file_at(alloc, origins, *module)?;
+            let file = file_at(alloc, origins, usize::from(*module))?;
             range_text(alloc, &file, *piece, *offset)
         }
         LinkFault::NoMemory => Err(NoMemory),
@@ -137,7 +79,7 @@ fn link_text(
 }
 
 /// The refusal of modules from these files that break a rule of the linker.
-pub(crate) fn link_refusal(
+pub fn link_refusal(
     alloc: Global,
     origins: &Origins<'_, '_, '_>,
     modules: &[Module],

@@ -1,7 +1,7 @@
 use Rattle.std.proofs.Common.{◌≡◌, None, length}
 use Rattle.std.specs.Prelude.{fold}
-use Rattle.kc_kit_answer.specs.Notes.{or_later}
-use Rattle.kc_kit_answer.proofs.link_notes.line_of.Given as goal
+use Rattle.kc_kit_notes.specs.RuleNotes.{or_later}
+use Rattle.kc_kit_notes.proofs.rule_notes.line_of.Given as goal
 
 abbrev pub invariant-loop-left : goal.invariant-loop-left
 invariant-loop-left l = fold (or_later l.piece l.offset) None l.fn.entries ≡ fold (or_later l.piece l.offset) l.found l.left

@@ -3,9 +3,6 @@
 use Rattle.std.specs.Prelude.{ℕ, ◌-◌, ◌==◌, List, [], ◌++◌, codes, decimal, Option, Some, None, slice_get, if◌then◌else◌}
 use Rattle.kc_base.specs.TextLines.{text_lines}
 use Rattle.kc_explain.specs.Meanings.{sentence_of}
-use Rattle.kc_kit_files.specs.declared.status.Status.TheVariants as status
-use Rattle.kc_kit_files.specs.Reply.{Reply, tells}
-use Rattle.kc_kit_inputs.specs.Lines.{source_line, input_line, coded}
 
 -- the line of this number, from 1 on
 abbrev pub line_at : List ℕ → ℕ → Option (List ℕ)
@@ -15,23 +12,16 @@ abbrev pub line_shown : Option (List ℕ) → List ℕ
 line_shown (Some line) = line ++ codes "\n"
 line_shown None = []
 
--- a code and its sentence
+-- a code with more behind it, and a sentence
+abbrev pub error_saying : List ℕ → List ℕ → List ℕ → List ℕ
+error_saying code more sentence = codes ": error " ++ code ++ more ++ codes ": " ++ sentence ++ codes "\n"
+
+-- that of the code
 abbrev pub error_text : List ℕ → List ℕ → List ℕ
-error_text code more = codes ": error " ++ code ++ more ++ codes ": " ++ sentence_of code ++ codes "\n"
+error_text code more = error_saying code more (sentence_of code)
 
 abbrev pub line_note : List ℕ → List ℕ → ℕ → List ℕ → List ℕ
 line_note name text line code = name ++ codes ":" ++ decimal line ++ error_text code [] ++ line_shown (line_at text line)
 
 abbrev pub byte_note : List ℕ → ℕ → List ℕ → List ℕ
 byte_note name place code = name ++ error_text code (codes " at byte " ++ decimal place)
-
--- ---- the replies to a source, to another file that has lines, and to one that has none: by the place and the code of their fault
-
-abbrev pub source_reply : List ℕ → List ℕ → ℕ → ℕ → Reply
-source_reply name text line code = tells status.Source (source_line name line code) (line_note name text line (coded (codes "E") code))
-
-abbrev pub line_reply : List ℕ → List ℕ → ℕ → List ℕ → Reply
-line_reply name text line code = tells status.Input (input_line name line code) (line_note name text line code)
-
-abbrev pub byte_reply : List ℕ → ℕ → List ℕ → Reply
-byte_reply name place code = tells status.Input (input_line name place code) (byte_note name place code)

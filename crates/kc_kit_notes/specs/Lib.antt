@@ -1,0 +1,5 @@
+pub mod Notes
+pub mod Origins
+pub mod RuleNotes
+pub mod Rules
+pub mod Subjects

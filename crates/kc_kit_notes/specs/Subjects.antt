@@ -1,0 +1,26 @@
+-- What is said in words of the first fault of a source: where it is about a name, its sentence has the name (this kit's own).
+use Rattle.std.specs.Prelude.{ℕ, ◌==◌, List, [], ◌++◌, codes, decimal, Option, Some, None, if◌then◌else◌}
+use Rattle.kc_explain.specs.Meanings.{sentence_of}
+use Rattle.kc_kit_notes.specs.Notes.{error_saying, line_at, line_shown}
+
+-- the words before a name and behind it, by the number of the code
+abbrev pub around : ℕ → Option (List ℕ × List ℕ)
+around number =
+    if number == 6 then Some (codes "the name ", codes " is defined twice")
+    else if number == 7 then Some (codes "the name ", codes " is not defined")
+    else if number == 20 then Some (codes "PUBLIC of ", codes ", which is not defined here or counts from an external")
+    else if number == 21 then Some (codes "EXTRN of ", codes ", which is defined here or taken already")
+    else None
+
+abbrev pub sentence_round : List ℕ → Option (List ℕ × List ℕ) → List ℕ → List ℕ
+sentence_round code (Some words) name = words.0 ++ name ++ words.1
+sentence_round code None name = sentence_of code
+
+-- the sentence of a fault with this code, which may be about a name
+abbrev pub sentence_about : List ℕ → ℕ → Option (List ℕ) → List ℕ
+sentence_about code number (Some name) = sentence_round code (around number) name
+sentence_about code number None = sentence_of code
+
+abbrev pub source_note : List ℕ → List ℕ → ℕ → List ℕ → ℕ → Option (List ℕ) → List ℕ
+source_note name text line code number subject =
+    name ++ codes ":" ++ decimal line ++ error_saying code [] (sentence_about code number subject) ++ line_shown (line_at text line)

@@ -1,0 +1,99 @@
+// What is said in words of the first fault of a source.
+ghost use Rattle.std.specs.Prelude.{◌≡◌, ◌++◌, [], IfOk, OnOk};
+ghost use Rattle.std.specs.Option.{option_map};
+ghost use Rattle.kc_kit_notes.specs.Notes.{error_saying};
+ghost use Rattle.kc_kit_notes.specs.Subjects.{around, sentence_round, sentence_about, source_note};
+
+use crate::notes::put_line;
+use itoa::Buffer;
+use kc_base::NoMemory;
+use kc_explain::sentence;
+use std::alloc::Global;
+
+// The words before a name and behind it, in the sentence of a code that is about one.
+fn around(number: u8) -> Option<(&'static str, &'static str)>
+    ensures { option_map (λ w. (w.0.now, w.1.now)) result ≡ around number }
+{
+    match number {
+        6 => Some(("the name ", " is defined twice")),
+        7 => Some(("the name ", " is not defined")),
+        20 => Some((
+            "PUBLIC of ",
+            ", which is not defined here or counts from an external",
+        )),
+        21 => Some(("EXTRN of ", ", which is defined here or taken already")),
+        _ => None,
+    }
+}
+
+// Puts the sentence of a code about this name.
+fn put_round(note: &mut Vec<u8>, code: &[u8], number: u8, name: &[u8]) -> Result<(), NoMemory>
+    ensures { OnOk result (note.new.items ≡ note.old.items ++ sentence_round code.now (around number) name.now) }
+{
+    match around(number) {
+        Some((before, behind)) => {
+            note.extend_from_slice(before.as_bytes())?;
+            note.extend_from_slice(name)?;
+            note.extend_from_slice(behind.as_bytes())?;
+        }
+        None => note.extend_from_slice(sentence(code).as_bytes())?,
+    }
+    Ok(())
+}
+
+// Puts the sentence of a code, which may be about a name.
+fn put_sentence(
+    note: &mut Vec<u8>,
+    code: &[u8],
+    number: u8,
+    subject: Option<&[u8]>,
+) -> Result<(), NoMemory>
+    ensures { OnOk result (note.new.items ≡ note.old.items ++ sentence_about code.now number (option_map (λ n. n.now) subject.entry)) }
+{
+    match subject {
+        Some(name) => put_round(note, code, number, name),
+        None => {
+            note.extend_from_slice(sentence(code).as_bytes())?;
+            Ok(())
+        }
+    }
+}
+
+// Puts a code behind a note, with its sentence.
+fn put_fault(
+    note: &mut Vec<u8>,
+    code: &[u8],
+    number: u8,
+    subject: Option<&[u8]>,
+) -> Result<(), NoMemory>
+    ensures { OnOk result (note.new.items ≡ note.old.items ++ error_saying code.now [] (sentence_about code.now number (option_map (λ n. n.now) subject.entry))) }
+{
+    note.extend_from_slice(b": error ")?;
+    note.extend_from_slice(code)?;
+    note.extend_from_slice(b": ")?;
+    put_sentence(note, code, number, subject)?;
+    note.push(b'\n')?;
+    Ok(())
+}
+
+/// The note of the first fault of a source, at a line of its text: a code and its number, and the name that it is about, where it
+/// is about one.
+pub fn source_note(
+    alloc: Global,
+    name: &[u8],
+    text: &[u8],
+    line: u32,
+    code: &[u8],
+    number: u8,
+    subject: Option<&[u8]>,
+) -> Result<Vec<u8>, NoMemory>
+    ensures { IfOk result (λ note. note.items ≡ source_note name.now text.now line code.now number (option_map (λ n. n.now) subject.entry)) }
+{
+    let mut note = Vec::from_slice(alloc, name)?;
+    let mut buffer = Buffer::new();
+    note.push(b':')?;
+    note.extend_from_slice(buffer.format(line).as_bytes())?;
+    put_fault(&mut note, code, number, subject)?;
+    put_line(&mut note, text, line)?;
+    Ok(note)
+}
