@@ -11,6 +11,7 @@ use kc_expr::{Base, Tag, Value};
 use kc_lex::lines;
 use kc_obj::SegKind;
 use kc_source::statements;
+use kc_source_statement::Stmt;
 use std::alloc::Global;
 use std::test::*;
 
@@ -120,23 +121,28 @@ static PUBLICS: [(&str, Base, Tag, u16); 3] = [
     ("R", Base::Piece(0), Tag::Register, 0),
 ];
 
+/// The draft of statements, if they have no fault.
+fn draft_by(alloc: Global, stmts: &[Stmt]) -> Result<Option<Draft>, NoMemory> {
+    let taken = externals(alloc, stmts)?;
+    if stmts.len() > 65536 || taken.len() > 65536 {
+        return Ok(None);
+    }
+    let names = Names::new(alloc, stmts, &taken)?;
+    let notes = outline(alloc, stmts, &names)?;
+    let sites = layout(alloc, &notes)?;
+    match judge(alloc, stmts, &sites, &names)? {
+        Ok(checked) => Ok(Some(draft(alloc, stmts, &sites, taken, checked)?)),
+        Err(_) => Ok(None),
+    }
+}
+
 fn draft_of(alloc: Global, source: &str) -> Option<Draft> {
     if source.len() > 60000 {
         return None;
     }
     let lines = lines(alloc, source.as_bytes()).ok()?;
     let stmts = statements(alloc, &lines).ok()?;
-    let taken = externals(alloc, &stmts).ok()?;
-    if stmts.len() > 65536 || taken.len() > 65536 {
-        return None;
-    }
-    let names = Names::new(alloc, &stmts, &taken).ok()?;
-    let notes = outline(alloc, &stmts, &names).ok()?;
-    let sites = layout(alloc, &notes).ok()?;
-    match judge(alloc, &stmts, &sites, &names) {
-        Ok(Ok(checked)) => draft(alloc, &stmts, &sites, taken, checked).ok(),
-        _ => None,
-    }
+    draft_by(alloc, &stmts).ok()?
 }
 
 fn cells(alloc: Global, parts: &[Part]) -> Result<Vec<(usize, u16, Octet)>, NoMemory> {
