@@ -14,6 +14,24 @@ pub fn window(wsr: u8, register: u8) -> Result<u16, Kind>
     ensures unknown { OnErr result (is_wsr wsr ≡ false) }
     ensures bound { IfOk result (λ addr. addr < 512) }
 {
+    match wsr {
+        0 | 1 | 15 => Ok(u16::from(register)),
+        _ => {
+            let addr = other_window(wsr, register)?;
+            Ok(addr)
+        }
+    }
+}
+
+// The same out of line, where the window may be a vertical one.
+#[cold]
+#[inline(never)]
+fn other_window(wsr: u8, register: u8) -> Result<u16, Kind>
+    ensures address { result ≡ window_of wsr register }
+    ensures known { OnOk result (IsTrue (is_wsr wsr)) }
+    ensures unknown { OnErr result (is_wsr wsr ≡ false) }
+    ensures bound { IfOk result (λ addr. addr < 512) }
+{
     let place = u16::from(register);
     match wsr {
         0 | 1 | 15 => Ok(place),

@@ -1,4 +1,5 @@
 ghost use Rattle.std.specs.Prelude.{◌≡◌, ◌+◌, ◌≤◌, ◌<◌, ◌%◌, IfOk, IsTrue, false};
+ghost use Rattle.kc_isa.specs.declared.insn.Operand.TheVariants.{Increment, Long};
 ghost use Rattle.kc_exec_spec.specs.Effect.{Gives, run};
 ghost use Rattle.kc_exec_spec.specs.Parts.{limit};
 ghost use Rattle.kc_exec_spec.specs.Operands.{size, at_offset, source, target};
@@ -31,6 +32,40 @@ fn cut(byte: bool, value: u16) -> u16
     if byte { value % 0x100 } else { value }
 }
 
+// Reads S at a pointer, which is then written back, incremented.
+#[inline(never)]
+#[tactic(auto, using(kc_exec_spec::proofs::Running::run_bind), unfolding(kc_exec_spec::specs::Operands::source))]
+fn read_increment<B: Bus>(bus: &mut B, byte: bool, wsr: u8, register: u8) -> Result<u16, Kind>
+    ensures gives { Gives (λ x. x) result (B.held bus.new) (run B.meaning (source byte wsr (Increment register)) (B.held bus.old)) }
+    ensures spent { B.spent bus.new + B.allowed (B.held bus.old) ≤ B.spent bus.old + B.allowed (B.held bus.new) }
+    ensures same { B.lent bus.new ≡ B.lent bus.old }
+    ensures bound { IfOk result (λ n. n < limit byte) }
+{
+    let place = read_register(bus, false, wsr, register)?;
+    let value = read_at(bus, byte, place)?;
+    write_register(bus, false, wsr, register, stepped(byte, place))?;
+    Ok(value)
+}
+
+// Reads S at an offset from a base.
+#[inline(never)]
+#[tactic(auto, using(kc_exec_spec::proofs::Running::run_bind), unfolding(kc_exec_spec::specs::Operands::source))]
+fn read_indexed<B: Bus>(
+    bus: &mut B,
+    byte: bool,
+    wsr: u8,
+    base: u8,
+    offset: u16,
+) -> Result<u16, Kind>
+    ensures gives { Gives (λ x. x) result (B.held bus.new) (run B.meaning (source byte wsr (Long base offset)) (B.held bus.old)) }
+    ensures spent { B.spent bus.new + B.allowed (B.held bus.old) ≤ B.spent bus.old + B.allowed (B.held bus.new) }
+    ensures same { B.lent bus.new ≡ B.lent bus.old }
+    ensures bound { IfOk result (λ n. n < limit byte) }
+{
+    let pointer = read_register(bus, false, wsr, base)?;
+    read_at(bus, byte, moved(pointer, offset))
+}
+
 /// Reads S, a byte or a word: its pointer or base first, and an incremented pointer is written back after the read
 /// (80C196KC User's Manual, "Addressing Modes").
 #[inline(always)]
@@ -48,22 +83,44 @@ pub fn read_source<B: Bus>(bus: &mut B, byte: bool, wsr: u8, operand: Operand) -
             let pointer = read_register(bus, false, wsr, register)?;
             read_at(bus, byte, pointer)
         }
-        Operand::Increment(register) => {
-            let place = read_register(bus, false, wsr, register)?;
-            let value = read_at(bus, byte, place)?;
-            write_register(bus, false, wsr, register, stepped(byte, place))?;
-            Ok(value)
-        }
+        Operand::Increment(register) => read_increment(bus, byte, wsr, register),
         Operand::Short { base, offset } => {
-            let pointer = read_register(bus, false, wsr, base)?;
-            read_at(bus, byte, moved(pointer, i16::from(offset).cast_unsigned()))
+            read_indexed(bus, byte, wsr, base, i16::from(offset).cast_unsigned())
         }
-        Operand::Long { base, offset } => {
-            let pointer = read_register(bus, false, wsr, base)?;
-            read_at(bus, byte, moved(pointer, offset))
-        }
+        Operand::Long { base, offset } => read_indexed(bus, byte, wsr, base, offset),
         Operand::Absent | Operand::Count(_) | Operand::Disp(_) => Ok(0),
     }
+}
+
+// Finds the address at a pointer, which is written back, incremented.
+#[inline(never)]
+#[tactic(auto, using(kc_exec_spec::proofs::Running::run_bind), unfolding(kc_exec_spec::specs::Operands::target))]
+fn find_increment<B: Bus>(bus: &mut B, byte: bool, wsr: u8, register: u8) -> Result<u16, Kind>
+    ensures gives { Gives (λ x. x) result (B.held bus.new) (run B.meaning (target byte wsr (Increment register)) (B.held bus.old)) }
+    ensures spent { B.spent bus.new + B.allowed (B.held bus.old) ≤ B.spent bus.old + B.allowed (B.held bus.new) }
+    ensures same { B.lent bus.new ≡ B.lent bus.old }
+{
+    let pointer = read_register(bus, false, wsr, register)?;
+    write_register(bus, false, wsr, register, stepped(byte, pointer))?;
+    Ok(pointer)
+}
+
+// Finds the address at an offset from a base.
+#[inline(never)]
+#[tactic(auto, using(kc_exec_spec::proofs::Running::run_bind), unfolding(kc_exec_spec::specs::Operands::target))]
+fn find_indexed<B: Bus>(
+    bus: &mut B,
+    byte: bool,
+    wsr: u8,
+    base: u8,
+    offset: u16,
+) -> Result<u16, Kind>
+    ensures gives { Gives (λ x. x) result (B.held bus.new) (run B.meaning (target byte wsr (Long base offset)) (B.held bus.old)) }
+    ensures spent { B.spent bus.new + B.allowed (B.held bus.old) ≤ B.spent bus.old + B.allowed (B.held bus.new) }
+    ensures same { B.lent bus.new ≡ B.lent bus.old }
+{
+    let pointer = read_register(bus, false, wsr, base)?;
+    Ok(moved(pointer, offset))
 }
 
 /// Finds the address of S: its pointer or base is read, and an incremented pointer written back (80C196KC User's
@@ -78,19 +135,11 @@ pub fn find_target<B: Bus>(bus: &mut B, byte: bool, wsr: u8, operand: Operand) -
     match operand {
         Operand::Reg(register) => window(wsr, register),
         Operand::Indirect(register) => read_register(bus, false, wsr, register),
-        Operand::Increment(register) => {
-            let pointer = read_register(bus, false, wsr, register)?;
-            write_register(bus, false, wsr, register, stepped(byte, pointer))?;
-            Ok(pointer)
-        }
+        Operand::Increment(register) => find_increment(bus, byte, wsr, register),
         Operand::Short { base, offset } => {
-            let pointer = read_register(bus, false, wsr, base)?;
-            Ok(moved(pointer, i16::from(offset).cast_unsigned()))
+            find_indexed(bus, byte, wsr, base, i16::from(offset).cast_unsigned())
         }
-        Operand::Long { base, offset } => {
-            let pointer = read_register(bus, false, wsr, base)?;
-            Ok(moved(pointer, offset))
-        }
+        Operand::Long { base, offset } => find_indexed(bus, byte, wsr, base, offset),
         Operand::Absent | Operand::Imm(_) | Operand::Count(_) | Operand::Disp(_) => Ok(0),
     }
 }

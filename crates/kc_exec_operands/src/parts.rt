@@ -47,6 +47,23 @@ pub fn read_register<B: Bus>(bus: &mut B, byte: bool, wsr: u8, register: u8) -> 
     ensures same { B.lent bus.new ≡ B.lent bus.old }
     ensures bound { IfOk result (λ n. n < limit byte) }
 {
+    if wsr == 0 {
+        read_at(bus, byte, u16::from(register))
+    } else {
+        read_in_window(bus, byte, wsr, register)
+    }
+}
+
+// The same out of line, where a window may be open.
+#[cold]
+#[inline(never)]
+#[tactic(auto, using(kc_exec_spec::proofs::Running::run_bind), unfolding(kc_exec_spec::specs::Parts::read_register))]
+fn read_in_window<B: Bus>(bus: &mut B, byte: bool, wsr: u8, register: u8) -> Result<u16, Kind>
+    ensures gives { Gives (λ x. x) result (B.held bus.new) (run B.meaning (read_register byte wsr register) (B.held bus.old)) }
+    ensures spent { B.spent bus.new + B.allowed (B.held bus.old) ≤ B.spent bus.old + B.allowed (B.held bus.new) }
+    ensures same { B.lent bus.new ≡ B.lent bus.old }
+    ensures bound { IfOk result (λ n. n < limit byte) }
+{
     let addr = window(wsr, register)?;
     read_at(bus, byte, addr)
 }
@@ -55,6 +72,28 @@ pub fn read_register<B: Bus>(bus: &mut B, byte: bool, wsr: u8, register: u8) -> 
 #[inline(always)]
 #[tactic(auto, using(kc_exec_spec::proofs::Running::run_bind), unfolding(kc_exec_spec::specs::Parts::write_register))]
 pub fn write_register<B: Bus>(
+    bus: &mut B,
+    byte: bool,
+    wsr: u8,
+    register: u8,
+    value: u16,
+) -> Result<(), Kind>
+    ensures gives { Gives (λ x. x) result (B.held bus.new) (run B.meaning (write_register byte wsr register value) (B.held bus.old)) }
+    ensures spent { B.spent bus.new + B.allowed (B.held bus.old) ≤ B.spent bus.old + B.allowed (B.held bus.new) }
+    ensures same { B.lent bus.new ≡ B.lent bus.old }
+{
+    if wsr == 0 {
+        write_at(bus, byte, u16::from(register), value)
+    } else {
+        write_in_window(bus, byte, wsr, register, value)
+    }
+}
+
+// The same out of line, where a window may be open.
+#[cold]
+#[inline(never)]
+#[tactic(auto, using(kc_exec_spec::proofs::Running::run_bind), unfolding(kc_exec_spec::specs::Parts::write_register))]
+fn write_in_window<B: Bus>(
     bus: &mut B,
     byte: bool,
     wsr: u8,
