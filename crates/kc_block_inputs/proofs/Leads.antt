@@ -1,9 +1,12 @@
 -- Edges that are handed out one after the other.
-use Rattle.std.proofs.Common.{◌≡◌, ℕ, ◌+◌, ◌<◌, List, [], ◌∷◌, ◌++◌, length, take, get_or, subst, sym, ◌∙◌, ap, add-one}
+use Rattle.std.proofs.Common.{◌≡◌, ℕ, ◌+◌, ◌<◌, zero, suc, ◌==◌, false, List, [], ◌∷◌, ◌++◌, length, take, get_or, refl, subst, sym, ◌∙◌, ap, add-one}
+use Rattle.std.specs.Int.Bits.{bit_xor, xor_self}
+use Rattle.std.proofs.lemmas.Nat.Bits.{bit_at-zero}
 use Rattle.std.proofs.Math.Seq.{take-suc}
 use Rattle.std.proofs.lemmas.List.{map-append}
+use Rattle.kc_base.specs.Bits.{bit}
 use Rattle.kc_base.specs.declared.types.Edge.{Edge}
-use Rattle.kc_block_spec.specs.Levels.{edges_below, edge_at}
+use Rattle.kc_block_spec.specs.Levels.{edges_below, edges_between, edge_at}
 use Rattle.kc_block_spec.specs.Touch.{in_state}
 use Rattle.kc_block_spec.specs.Leading.{Leads}
 
@@ -24,3 +27,17 @@ edges_taken es k t d lt =
     ap (λ n. in_state t (take n es)) (add-one k)
     ∙ ap (in_state t) (take-suc es k d lt)
     ∙ map-append (λ edge. (t, edge)) (take k es) (get_or es k d ∷ [])
+
+none_at : (x n : ℕ) → edge_at x x n ≡ []
+none_at x n =
+    let off : bit (bit_xor x x) n ≡ false = ap (λ v. bit v n) (xor_self x) ∙ ap (λ v. v == 1) (bit_at-zero n) in
+    rw off refl
+
+none_below : (x n : ℕ) → edges_below x x n ≡ []
+unfolding edges_below
+none_below x zero = refl
+none_below x (suc n) = rw (none_below x n, none_at x n) refl
+
+-- the same levels have no edge between them
+pub none_between : {O : Type 0} (led : O → ℕ → Edge → O → Type 0) (o : O) (old new t : ℕ) → old ≡ new → Leads led o (in_state t (edges_between old new)) o
+none_between led o old new t same = subst (λ x. Leads led o (in_state t (edges_between old x)) o) same (rw (none_below old 18) refl)

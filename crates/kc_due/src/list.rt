@@ -1,18 +1,16 @@
-//! Sixteen nodes in one array, linked by index in order of time.
-ghost use Rattle.std.specs.Prelude.{◌≡◌, ℕ, ◌+◌, ◌*◌, ◌<◌, ◌≤◌, ◌↔◌, ◌≢◌, IsTrue, replicate, Option, Some, None, slice_set, List, length, map};
+//! Sixteen times, and the first of them, which is sought anew only where the slot that had it has lost it.
+ghost use Rattle.std.specs.Prelude.{◌≡◌, ℕ, ◌+◌, ◌*◌, ◌<◌, ◌≤◌, ◌↔◌, ◌≢◌, IsTrue, replicate, Some, None, slice_set, length};
 ghost use Rattle.kc_due.specs.Due.{Times, at_slot, IsFirst};
-ghost use Rattle.kc_due.specs.Links.{IsNext, Stands, IsLinked, times_of, node as node_at};
-ghost use Rattle.kc_due.specs.Links.{IsBefore, IsBeforeIn};
+ghost use Rattle.kc_due.specs.Firsts.{IsFirstBelow, IsInside};
 
-use crate::node::Node;
 use kc_base::StateTime;
 use std::marker::Model;
 
 /// The due times of sixteen slots. Contracts see the list of what each slot has.
 #[derive(Drop)]
 pub struct DueList {
-    nodes: [Node; 16],
-    head: u8,
+    times: [Option<StateTime>; 16],
+    first: Option<(u8, StateTime)>,
 }
 
 impl Model for DueList {
@@ -20,21 +18,22 @@ impl Model for DueList {
 
     ghost Value = { Times };
 
-    ghost use Rattle.kc_due.specs.Links.{IsLinked, times_of};
+    ghost use Rattle.kc_due.specs.Firsts.{IsKept};
 
-    ghost view = { λ d. times_of d.nodes };
+    ghost view = { λ d. d.times };
 
-    ghost invariant = { λ d. IsLinked d.nodes d.head };
+    ghost invariant = { λ d. IsKept d.times d.first };
 }
 
 impl DueList {
     /// No slot has a time.
+    #[tactic(auto, using(crate::proofs::Firsts::blank))]
     pub fn new() -> DueList
         ensures { result ≡ replicate 16 None }
     {
         DueList {
-            nodes: [Node { at: None, next: 16 }; 16],
-            head: 16,
+            times: [None; 16],
+            first: None,
         }
     }
 
@@ -43,135 +42,125 @@ impl DueList {
         requires { slot < 16 }
         ensures { result ≡ at_slot self.now slot }
     {
-        self.nodes[slot as usize].at
+        self.times[slot as usize]
     }
 
     /// A least time with its slot, of equal times the least slot; None where no slot has a time.
     pub fn first(&self) -> Option<(u8, StateTime)>
         ensures { IsFirst self.now result }
     {
-        if self.head < 16 {
-            match self.nodes[self.head as usize].at {
-                Some(at) => Some((self.head, at)),
-                None => None,
-            }
-        } else {
-            None
-        }
+        self.first
     }
 
     /// Takes the slot's time away, if it has one; the other slots keep theirs.
+    #[tactic(auto, using(crate::proofs::Firsts::slot_here, crate::proofs::Firsts::slot_other, crate::proofs::Firsts::kept))]
     pub fn clear(&mut self, slot: u8)
         requires { slot < 16 }
         ensures whole { self.new ≡ slice_set self.old slot None }
         ensures here { at_slot self.new slot ≡ None }
         ensures others { (k : ℕ) → k ≢ slot → at_slot self.new k ≡ at_slot self.old k }
     {
-        self.head = taken_out(&mut self.nodes, self.head, slot);
+        self.times[slot as usize] = None;
+        self.first = first_without(&self.times, self.first, slot);
     }
 
     /// Gives the slot a time, in place of the one that it has; the other slots keep theirs.
+    #[tactic(auto, using(crate::proofs::Firsts::slot_here, crate::proofs::Firsts::slot_other, crate::proofs::Firsts::kept))]
     pub fn set(&mut self, slot: u8, at: StateTime)
         requires { slot < 16 }
         ensures whole { self.new ≡ slice_set self.old slot (Some at) }
         ensures here { at_slot self.new slot ≡ Some at }
         ensures others { (k : ℕ) → k ≢ slot → at_slot self.new k ≡ at_slot self.old k }
     {
-        let head = taken_out(&mut self.nodes, self.head, slot);
-        self.head = put_in(&mut self.nodes, head, slot, at);
+        self.times[slot as usize] = Some(at);
+        self.first = first_with(&self.times, self.first, slot, at);
     }
 }
 
-/// Whether the one place comes before the other, in order of time and slot.
-fn is_sooner(at: StateTime, slot: u8, other: StateTime, other_slot: u8) -> bool
+/// Whether the one place is not after the other, in order of time and slot.
+fn is_not_after(at: StateTime, slot: u8, other: StateTime, other_slot: u8) -> bool
     requires slot { slot < 16 }
     requires other { other_slot < 16 }
-    ensures { IsTrue result ↔ (at * 16 + slot < other * 16 + other_slot) }
+    ensures { IsTrue result ↔ (at * 16 + slot ≤ other * 16 + other_slot) }
 {
-    at < other || at == other && slot < other_slot
+    at < other || at == other && slot <= other_slot
 }
 
-/// Of the first `k + 1` nodes the last one before a place, where `best` is that of the first `k`.
-fn later(nodes: &[Node; 16], best: Option<u8>, k: u8, at: StateTime, slot: u8) -> Option<u8>
-    requires slot { slot < 16 }
-    requires node { k < 16 }
-    requires best { IsBeforeIn nodes.now k (at * 16 + slot) best }
-    ensures { IsBeforeIn nodes.now (k + 1) (at * 16 + slot) result }
+/// The first of `k + 1` slots, where `best` is that of the first `k`.
+#[tactic(auto, using(crate::proofs::Firsts::skipped, crate::proofs::Firsts::fresh, crate::proofs::Firsts::sooner, crate::proofs::Firsts::later))]
+fn earlier(
+    times: &[Option<StateTime>; 16],
+    best: Option<(u8, StateTime)>,
+    k: u8,
+) -> Option<(u8, StateTime)>
+    requires slot { k < 16 }
+    requires best { IsFirstBelow times.now k best }
+    ensures { IsFirstBelow times.now (k + 1) result }
 {
-    let Some(time) = nodes[k as usize].at else {
+    let Some(time) = times[k as usize] else {
         return best;
     };
-    if !is_sooner(time, k, at, slot) {
-        return best;
-    }
-    let Some(b) = best else {
-        return Some(k);
+    let Some(found) = best else {
+        return Some((k, time));
     };
-    let Some(other) = nodes[b as usize].at else {
-        return Some(k);
-    };
-    if is_sooner(time, k, other, b) {
-        Some(b)
+    if time < found.1 {
+        Some((k, time))
     } else {
-        Some(k)
+        best
     }
 }
 
-/// The last node before a place.
-fn before(nodes: &[Node; 16], at: StateTime, slot: u8) -> Option<u8>
-    requires { slot < 16 }
-    ensures { IsBefore nodes.now (at * 16 + slot) result }
+/// The first of all slots.
+fn earliest(times: &[Option<StateTime>; 16]) -> Option<(u8, StateTime)>
+    ensures { IsFirst times.now result }
 {
     let mut best = None;
     for k in 0..16u8 {
-        best = later(nodes, best, k, at, slot);
+        best = earlier(times, best, k);
     }
     best
 }
 
-/// Takes a slot's node out of the list, if it has a time; gives the new head.
-fn taken_out(nodes: &mut [Node; 16], head: u8, slot: u8) -> u8
+/// The first of the slots, one of which has been given a time; `first` was the first before.
+#[tactic(auto, using(crate::proofs::Firsts::set_alone, crate::proofs::Firsts::set_sooner, crate::proofs::Firsts::set_later))]
+fn first_with(
+    times: &[Option<StateTime>; 16],
+    first: Option<(u8, StateTime)>,
+    slot: u8,
+    at: StateTime,
+) -> Option<(u8, StateTime)>
     requires slot { slot < 16 }
-    requires linked { IsLinked nodes.old head }
-    ensures linked { IsLinked nodes.new result }
-    ensures times { times_of nodes.new ≡ slice_set (times_of nodes.old) slot None }
+    requires inside { IsInside first }
+    ensures { (old : Times) → length old ≡ 16 → IsFirst old first → times.now ≡ slice_set old slot (Some at) → IsFirst times.now result }
 {
-    let Node { at, next } = nodes[slot as usize];
-    let Some(at) = at else {
-        return head;
+    let Some(found) = first else {
+        return Some((slot, at));
     };
-    let found = before(nodes, at, slot);
-    nodes[slot as usize].at = None;
-    match found {
-        Some(b) => {
-            nodes[b as usize].next = next;
-            head
-        }
-        None => next,
+    if is_not_after(at, slot, found.1, found.0) {
+        Some((slot, at))
+    } else if found.0 == slot {
+        earliest(times)
+    } else {
+        first
     }
 }
 
-/// Puts a slot that has no time into the list; gives the new head.
-fn put_in(nodes: &mut [Node; 16], head: u8, slot: u8, at: StateTime) -> u8
-    requires slot { slot < 16 }
-    requires linked { IsLinked nodes.old head }
-    requires empty { (node_at nodes.old slot).at ≡ None }
-    ensures linked { IsLinked nodes.new result }
-    ensures times { times_of nodes.new ≡ slice_set (times_of nodes.old) slot (Some at) }
+/// The first of the slots, one of which has lost its time; `first` was the first before.
+#[tactic(auto, using(crate::proofs::Firsts::clear_none, crate::proofs::Firsts::clear_other))]
+fn first_without(
+    times: &[Option<StateTime>; 16],
+    first: Option<(u8, StateTime)>,
+    slot: u8,
+) -> Option<(u8, StateTime)>
+    requires { slot < 16 }
+    ensures { (old : Times) → length old ≡ 16 → IsFirst old first → times.now ≡ slice_set old slot None → IsFirst times.now result }
 {
-    match before(nodes, at, slot) {
-        Some(b) => {
-            let next = nodes[b as usize].next;
-            nodes[slot as usize] = Node { at: Some(at), next };
-            nodes[b as usize].next = slot;
-            head
-        }
-        None => {
-            nodes[slot as usize] = Node {
-                at: Some(at),
-                next: head,
-            };
-            slot
-        }
+    let Some(found) = first else {
+        return None;
+    };
+    if found.0 == slot {
+        earliest(times)
+    } else {
+        first
     }
 }

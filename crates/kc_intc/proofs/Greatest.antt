@@ -1,7 +1,9 @@
 -- The greatest number that passes a test.
-use Rattle.std.proofs.Common.{◌≡◌, ℕ, zero, suc, ◌+◌, ◌<◌, ◌≤◌, ◌==◌, ◌&&◌, ◌||◌, not, Bool, true, false, Option, Some, None, if◌then◌else◌, MatchOption, ◌⊎◌, inl, inr, refl, ap, ◌∙◌, add-one, arith}
+use Rattle.std.proofs.Common.{◌≡◌, ℕ, zero, suc, min, max, sym, ◌+◌, ◌<◌, ◌≤◌, ◌==◌, ◌&&◌, ◌||◌, not, Bool, true, false, Option, Some, None, if◌then◌else◌, MatchOption, ◌⊎◌, inl, inr, refl, ap, ◌∙◌, add-one, arith}
 use Rattle.std.proofs.lemmas.Bool.{cases_lt}
-use Rattle.std.proofs.lemmas.Nat.Bits.{bit_at-zero}
+use Rattle.std.specs.Prelude.{bit_and, bit_or}
+use Rattle.std.specs.Int.{bit_at}
+use Rattle.std.proofs.lemmas.Nat.Bits.{bit_at-zero, bit_at_and, bit_at_or}
 use Rattle.kc_base.specs.Bits.{bit}
 use Rattle.kc_intc.specs.declared.requests.Requests.{Requests}
 use Rattle.kc_intc.specs.declared.requests.Choice.TheVariants.{Transfer, Enter, Go}
@@ -47,19 +49,61 @@ greatest_none test (suc n) fails = rw (fails n) (greatest_none test n fails)
 bit-zero : (set k : ℕ) → set ≡ 0 → bit set k ≡ false
 bit-zero set k e = ap (λ s. bit s k) e ∙ ap (λ n. n == 1) (bit_at-zero k)
 
+both : (b : Bool) → (b && false) ≡ false
+both true = refl
+both false = refl
+
+neither : (a b : Bool) → or_else Transfer (if a then None else None) (or_else Enter (if b then None else None) Go) ≡ Go
+neither true true = refl
+neither true false = refl
+neither false true = refl
+neither false false = refl
+
 pub nothing_wanted : (pse enabled : Bool) (r : Requests) → r.pending ≡ 0 → r.service ≡ 0 → choice_of pse enabled r ≡ Go
 nothing_wanted pse enabled r p s =
     let cycles : greatest (wants_cycle r) 15 ≡ None = greatest_none (wants_cycle r) 15 (λ k. ap (λ b. b && (bit r.mask k && bit r.select k)) (bit-zero r.pending k p)) in
     let entries : greatest (wants_entry r) 15 ≡ None = greatest_none (wants_entry r) 15 (λ k. ap (λ b. bit r.mask k && (b || (bit r.pending k && not (bit r.select k)))) (bit-zero r.service k s) ∙ ap (λ b. bit r.mask k && (b && not (bit r.select k))) (bit-zero r.pending k p) ∙ both (bit r.mask k)) in
     let nmi : bit r.pending 15 ≡ false = bit-zero r.pending 15 p in
     rw (nmi, cycles, entries) (neither pse enabled)
-  where
-    both : (b : Bool) → (b && false) ≡ false
-    both true = refl
-    both false = refl
 
-    neither : (a b : Bool) → or_else Transfer (if a then None else None) (or_else Enter (if b then None else None) Go) ≡ Go
-    neither true true = refl
-    neither true false = refl
-    neither false true = refl
-    neither false false = refl
+no_bit : (v : ℕ) → v ≡ 0 → (v == 1) ≡ false
+no_bit v e = ap (λ n. n == 1) e
+
+either_none : (p s m t : ℕ) → min (max p s) (max m t) ≡ 0 → ((p ≡ 0) × (s ≡ 0)) ⊎ (m ≡ 0)
+either_none p s m t e = elim (cases_lt 0 m) [ inl some ↦ inl (omega arith, omega arith) | inr none ↦ inr (omega arith) ]
+
+-- a bit of the requests, and of those that are masked in or among others
+masked_bits : (r : Requests) (t k : ℕ) → bit_and (bit_or r.pending r.service) (bit_or r.mask t) ≡ 0 →
+    min (max (bit_at r.pending k) (bit_at r.service k)) (max (bit_at r.mask k) (bit_at t k)) ≡ 0
+masked_bits r t k e =
+    let all : bit_at (bit_and (bit_or r.pending r.service) (bit_or r.mask t)) k ≡ 0 = ap (λ v. bit_at v k) e ∙ bit_at-zero k in
+    let parts = bit_at_and (bit_or r.pending r.service) (bit_or r.mask t) k
+    ∙ ap (λ v. min v (bit_at (bit_or r.mask t) k)) (bit_at_or r.pending r.service k)
+    ∙ ap (λ v. min (max (bit_at r.pending k) (bit_at r.service k)) v) (bit_at_or r.mask t k) in
+    sym parts ∙ all
+
+cycle_fails : (r : Requests) (t k : ℕ) → bit_and (bit_or r.pending r.service) (bit_or r.mask t) ≡ 0 → wants_cycle r k ≡ false
+cycle_fails r t k e = by (either_none (bit_at r.pending k) (bit_at r.service k) (bit_at r.mask k) (bit_at t k) (masked_bits r t k e))
+  where
+    by : ((bit_at r.pending k ≡ 0) × (bit_at r.service k ≡ 0)) ⊎ (bit_at r.mask k ≡ 0) → wants_cycle r k ≡ false
+    by (inl none) = ap (λ b. b && (bit r.mask k && bit r.select k)) (no_bit (bit_at r.pending k) none.0)
+    by (inr none) = ap (λ b. bit r.pending k && (b && bit r.select k)) (no_bit (bit_at r.mask k) none) ∙ both (bit r.pending k)
+
+entry_fails : (r : Requests) (t k : ℕ) → bit_and (bit_or r.pending r.service) (bit_or r.mask t) ≡ 0 → wants_entry r k ≡ false
+entry_fails r t k e = by (either_none (bit_at r.pending k) (bit_at r.service k) (bit_at r.mask k) (bit_at t k) (masked_bits r t k e))
+  where
+    by : ((bit_at r.pending k ≡ 0) × (bit_at r.service k ≡ 0)) ⊎ (bit_at r.mask k ≡ 0) → wants_entry r k ≡ false
+    by (inl none) = ap (λ b. bit r.mask k && (b || (bit r.pending k && not (bit r.select k)))) (no_bit (bit_at r.service k) none.1)
+        ∙ ap (λ b. bit r.mask k && (b && not (bit r.select k))) (no_bit (bit_at r.pending k) none.0)
+        ∙ both (bit r.mask k)
+    by (inr none) = ap (λ b. b && (bit r.service k || (bit r.pending k && not (bit r.select k)))) (no_bit (bit_at r.mask k) none)
+
+-- none of the requests is masked in, and none is NMI
+pub nothing_masked_in : (pse enabled : Bool) (r : Requests) → bit_and (bit_or r.pending r.service) (bit_or r.mask 0x8000) ≡ 0 → choice_of pse enabled r ≡ Go
+nothing_masked_in pse enabled r e =
+    let cycles : greatest (wants_cycle r) 15 ≡ None = greatest_none (wants_cycle r) 15 (λ k. cycle_fails r 0x8000 k e) in
+    let entries : greatest (wants_entry r) 15 ≡ None = greatest_none (wants_entry r) 15 (λ k. entry_fails r 0x8000 k e) in
+    let top : bit_at 0x8000 15 ≡ 1 = refl in
+    let none : min (max (bit_at r.pending 15) (bit_at r.service 15)) (max (bit_at r.mask 15) (bit_at 0x8000 15)) ≡ 0 = masked_bits r 0x8000 15 e in
+    let nmi : bit r.pending 15 ≡ false = no_bit (bit_at r.pending 15) (omega arith) in
+    rw (nmi, cycles, entries) (neither pse enabled)

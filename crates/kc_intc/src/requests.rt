@@ -18,6 +18,9 @@ pub struct Requests {
     pub service: u16,
 }
 
+/// The request of NMI, which is not masked.
+const NMI: u16 = 0x8000;
+
 /// What is served before the program goes on.
 #[derive(Clone, Copy, Debug, PartialEq, Eq)]
 pub enum Choice {
@@ -61,12 +64,12 @@ impl Requests {
     }
 
     /// What is served next, where `pse` is the bit PSE of the PSW and `enabled` its bit I.
-    #[tactic(auto, using(crate::proofs::Greatest::nothing_wanted))]
+    #[tactic(auto, using(crate::proofs::Greatest::nothing_masked_in))]
     pub fn choose(&self, pse: bool, enabled: bool) -> Choice
         ensures value { result ≡ choice_of pse enabled self.now }
         ensures below { IsBelow15 result }
     {
-        if self.pending == 0 && self.service == 0 {
+        if (self.pending | self.service) & (self.mask | NMI) == 0 {
             return Choice::Go;
         }
         if is_in(self.pending, 15) {
