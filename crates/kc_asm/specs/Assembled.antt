@@ -15,7 +15,6 @@ use Rattle.kc_source.specs.Faults.{Fault, AreStatements}
 use Rattle.kc_obj.specs.Object.{Object}
 use Rattle.kc_asm_piece.specs.declared.draft.Draft.{Draft}
 use Rattle.kc_asm_module.specs.ModuleOf.{IsModuleOf, pieces_in}
-use Rattle.kc_asm_check.specs.declared.fault.Fault.{Fault as JudgeFault}
 use Rattle.kc_asm_check.specs.Judging.{first_fault}
 use Rattle.kc_asm_draft_laws.specs.Drafting.{IsDraftOf}
 use Rattle.kc_link_source_laws.specs.Characters.{has_bytes}
@@ -71,7 +70,7 @@ IsAssembled source (Err (faults.At line code)) = IsFirstFault source (line, code
 IsAssembled source (Err faults.NoMemory) = Unit {0}
 
 -- the last pass over statements: their module, or the first fault
-abbrev pub IsMade : List Stmt → Result Object JudgeFault → Type 0
+abbrev pub IsMade : List Stmt → Result Object Fault → Type 0
 IsMade stmts (Ok m) =
     (d : Draft) × (first_fault stmts ≡ None) × IsDraftOf stmts d × (length (pieces_in d) ≤ 65536) × IsModuleOf d m
-IsMade stmts (Err f) = (first_fault stmts ≡ Some (f.line, f.code)) ⊎ ((first_fault stmts ≡ None) × IsCrowded stmts (f.line, f.code))
+IsMade stmts (Err f) = (first_fault stmts ≡ Some f) ⊎ ((first_fault stmts ≡ None) × IsCrowded stmts f)

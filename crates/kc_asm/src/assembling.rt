@@ -4,7 +4,7 @@ ghost use Rattle.kc_asm_symbols.specs.Externals.{externals};
 ghost use Rattle.kc_asm_check.specs.Judging.{standing};
 ghost use Rattle.kc_asm.specs.Assembled as spec;
 
-use kc_asm_check::{Fault, judge};
+use kc_asm_check::judge;
 use kc_asm_draft::draft;
 use kc_asm_draft_laws::drafts_are_drafts;
 use kc_asm_layout::layout;
@@ -12,7 +12,7 @@ use kc_asm_module::{module_of, piece_count};
 use kc_asm_outline::outline;
 use kc_asm_symbols::{Names, externals, externals_are_few};
 use kc_base::NoMemory;
-use kc_lex::{SourceCode, SourceFault, lines};
+use kc_lex::{LineFault, SourceCode, SourceFault, lines};
 use kc_macro::expand;
 use kc_obj::Module;
 use kc_source::statements;
@@ -37,7 +37,7 @@ fn last_line(stmts: &[Stmt]) -> u32
 }
 
 // The module of statements, or the first fault of their values and places.
-fn module_or_fault(alloc: Global, stmts: &[Stmt]) -> Result<Result<Module, Fault>, NoMemory>
+fn module_or_fault(alloc: Global, stmts: &[Stmt]) -> Result<Result<Module, LineFault>, NoMemory>
     requires few { length stmts.now ≤ 65536 }
     requires few_externals { length (externals (standing stmts.now)) ≤ 65536 }
     ensures { IfOk result (λ r. spec.IsMade stmts.now r) }
@@ -53,7 +53,7 @@ fn module_or_fault(alloc: Global, stmts: &[Stmt]) -> Result<Result<Module, Fault
     let draft = draft(alloc, stmts, &sites, taken, checked)?;
     drafts_are_drafts();
     if piece_count(&draft) > MOST_PIECES {
-        return Ok(Err(Fault {
+        return Ok(Err(LineFault {
             line: last_line(stmts),
             code: SourceCode::PastTheEnd.number(),
         }));
@@ -79,7 +79,7 @@ pub fn assemble(alloc: Global, source: &[u8]) -> Result<Module, SourceFault>
     statements_are_of_the_text();
     match module_or_fault(alloc, &stmts) {
         Ok(Ok(module)) => Ok(module),
-        Ok(Err(Fault { line, code })) => Err(SourceFault::At { line, code }),
+        Ok(Err(fault)) => Err(SourceFault::from(fault)),
         Err(NoMemory) => Err(SourceFault::NoMemory),
     }
 }

@@ -110,7 +110,7 @@ from_statement own action (Some x) to distance t h = by_answer (answer_by own x)
     by_answer (Ok v) e k =
         let b = statement_base v.base v.number to distance k in
         record { x = x; target = t; value = v; is = e; base = b.0; number = b.1 }
-    by_answer (Err code) e k = absurd (cc k)
+    by_answer (Err fault) e k = absurd (cc k)
 
 from_external : (own : Look) (action : ActionTree) (o : Option Tree) → target_of action ≡ o → anchor_of own o ≡ anchor.External → FromExternal own action
 from_external own action None t h = absurd (cc h)
@@ -120,7 +120,7 @@ from_external own action (Some x) t h = by_answer (answer_by own x) refl h
     by_answer (Ok v) e k =
         let b = external_base v.base v.number k in
         record { x = x; target = t; value = v; is = e; external = b.0; base = b.1 }
-    by_answer (Err code) e k = absurd (cc k)
+    by_answer (Err fault) e k = absurd (cc k)
 
 -- ---- numbers
 
@@ -166,13 +166,13 @@ statement_counted : (all : List Located) (to : ℕ) (distance : ℤ) (v : Value)
     → Counted all to a distance
 statement_counted all to distance v (Ok w) base signed told =
     counted_from all to v.number distance w told.word signed (subst (λ (b : Base). Tells (here_at all) b v.number w) base told.tells)
-statement_counted all to distance v (Err code) base signed told = absurd told.tells
+statement_counted all to distance v (Err fault) base signed told = absurd told.tells
 
 external_counted : (all : List Located) (e : ℕ) (v : Value) (a : Answer) → v.base ≡ External e → IsTold (here_at all) (Ok v) a → CountsFromExternal a
 external_counted all e v (Ok w) base told =
     let same : IsSame (External e) v.number w = subst (λ (b : Base). Tells (here_at all) b v.number w) base told.tells in
     record { value = w; is = refl; external = e; base = same.base }
-external_counted all e v (Err code) base told = absurd told.tells
+external_counted all e v (Err fault) base told = absurd told.tells
 
 -- ---- the note of a statement
 

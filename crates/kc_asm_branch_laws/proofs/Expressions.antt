@@ -3,11 +3,14 @@ use Rattle.std.proofs.Common.{◌≡◌, ℕ, ◌+◌, ◌-◌, ◌%◌, ◌<◌
 use Rattle.std.specs.Prelude.{◌==◌, nat_lt, Ok, Err}
 use Rattle.std.proofs.lemmas.Bool.{and_parts, eqb-true}
 use Rattle.std.proofs.lemmas.Bool.Decides.{nat_tests}
+use Rattle.kc_lex.specs.declared.fault.SourceCode.TheVariants as code
 use Rattle.kc_expr.specs.declared.values.Base.{Base}
 use Rattle.kc_expr.specs.declared.values.Base.TheVariants.{Fixed, Absolute, Piece, External}
 use Rattle.kc_expr.specs.declared.values.Tag.{Tag}
 use Rattle.kc_expr.specs.declared.values.Tag.TheVariants.{Memory}
 use Rattle.kc_expr.specs.declared.values.Value.{Value}
+use Rattle.kc_expr.specs.declared.values.NoValue.{NoValue}
+use Rattle.kc_expr.specs.declared.values.NoValue.TheVariants.{Fault}
 use Rattle.kc_expr.specs.declared.expr.Unary.{Unary}
 use Rattle.kc_expr.specs.declared.expr.Binary.{Binary}
 use Rattle.kc_expr.specs.declared.expr.Binary.TheVariants.{Plus, Minus}
@@ -37,12 +40,12 @@ Tells place (External e) n w = IsSame (External e) n w
 
 abbrev pub TellsValue : (ℕ → Value) → Value → Answer → Type 0
 TellsValue place v (Ok w) = Tells place v.base v.number w
-TellsValue place v (Err code) = ⊥
+TellsValue place v (Err fault) = ⊥
 
 -- a fault with own bases tells nothing
 abbrev pub TellsAnswer : (ℕ → Value) → Answer → Answer → Type 0
 TellsAnswer place (Ok v) b = TellsValue place v b
-TellsAnswer place (Err code) b = Unit {0}
+TellsAnswer place (Err fault) b = Unit {0}
 
 -- a value of this base and this tag
 abbrev at : Base → Tag → ℕ → Value
@@ -126,7 +129,7 @@ module _ (place : ℕ → Value) where
 
   -- ---- two places
 
-  if_tells : (s : Bool) (v : Value) (a : Answer) → (s ≡ true → TellsAnswer place (Ok v) a) → TellsAnswer place (cond s (Ok v) (Err 13)) a
+  if_tells : (s : Bool) (v : Value) (a : Answer) → (s ≡ true → TellsAnswer place (Ok v) a) → TellsAnswer place (cond s (Ok v) (Err (Fault code.NotRelocatable))) a
   if_tells true v a h = h refl
   if_tells false v a h = tt
 
@@ -136,7 +139,7 @@ module _ (place : ℕ → Value) where
   distance_is k w x moves same number =
       let v = at Absolute Memory ((w.number + 65536 - x.number) % 65536) in
       let test : same_base w.base x.base ≡ true = ap (same_base w.base) same ∙ own_base w.base moves in
-      subst (λ (a : Answer). TellsAnswer place (Ok (at Absolute Memory k)) a) (ap (λ s. cond s (Ok v) (Err 13)) (sym test)) (record { base = refl; number = number })
+      subst (λ (a : Answer). TellsAnswer place (Ok (at Absolute Memory k)) a) (ap (λ s. cond s (Ok v) (Err (Fault code.NotRelocatable))) (sym test)) (record { base = refl; number = number })
 
   apart_tells : (b c : Base) (t u : Tag) (n m : ℕ) (w x : Value) → is_fixed b ≡ false → is_fixed c ≡ false → m < 65536 → Tells place b n w → Tells place c m x
       → TellsAnswer place (distance Minus (at b t n) (at c u m)) (distance Minus w x)
@@ -207,18 +210,18 @@ module _ (place : ℕ → Value) where
   same_zero op b t n w h =
       zero_by (is_division op) (is_fixed b) n w.number (fixed_number b n w h) ∙ ap (λ f. is_division op && f && (w.number == 0)) (sym (same_fixed b n w h))
 
-  quotient_tells : (s : Bool) (a b : Answer) → TellsAnswer place a b → TellsAnswer place (cond s (Err 11) a) (cond s (Err 11) b)
+  quotient_tells : (s : Bool) (a b : Answer) → TellsAnswer place a b → TellsAnswer place (cond s (Err (Fault code.DivisionByZero)) a) (cond s (Err (Fault code.DivisionByZero)) b)
   quotient_tells true a b h = tt
   quotient_tells false a b h = h
 
-  fault_tells : (s : Bool) (e f : ℕ) (a : Answer) → TellsAnswer place (cond s (Err e) (Err f)) a
+  fault_tells : (s : Bool) (e f : NoValue) (a : Answer) → TellsAnswer place (cond s (Err e) (Err f)) a
   fault_tells true e f a = tt
   fault_tells false e f a = tt
 
   binary_tells : (op : Binary) (a c b d : Answer) → IsWordAnswer b → TellsAnswer place a c → TellsAnswer place b d → TellsAnswer place (binary_answer op a b) (binary_answer op c d)
   unfolding binary_answer
   binary_tells op (Ok v) (Ok w) (Ok u) (Ok x) less h g =
-      subst (λ (s : Bool). TellsAnswer place (binary_answer op (Ok v) (Ok u)) (cond s (Err 11) (on_two op w x))) (same_zero op u.base u.tag u.number x g)
+      subst (λ (s : Bool). TellsAnswer place (binary_answer op (Ok v) (Ok u)) (cond s (Err (Fault code.DivisionByZero)) (on_two op w x))) (same_zero op u.base u.tag u.number x g)
       (quotient_tells (divides_by_zero op (Ok u)) (on_two op v u) (on_two op w x) (two_tells op v.base u.base v.tag u.tag v.number u.number w x less h g))
   binary_tells op (Ok v) (Ok w) (Ok u) (Err f) less h g = absurd g
   binary_tells op (Ok v) (Ok w) (Err e) d less h g = tt
@@ -228,9 +231,9 @@ module _ (place : ℕ → Value) where
 
   -- ---- the whole expression
 
-  literal_tells : (s : Bool) (n code : ℕ) → TellsAnswer place (cond s (Ok (plain n)) (Err code)) (cond s (Ok (plain n)) (Err code))
-  literal_tells true n code = record { base = refl; number = refl }
-  literal_tells false n code = tt
+  literal_tells : (s : Bool) (n : ℕ) (f : NoValue) → TellsAnswer place (cond s (Ok (plain n)) (Err f)) (cond s (Ok (plain n)) (Err f))
+  literal_tells true n f = record { base = refl; number = refl }
+  literal_tells false n f = tt
 
   chars_tell : (cs : List ℕ) → TellsAnswer place (chars_answer cs) (chars_answer cs)
   chars_tell [] = tt
@@ -241,7 +244,7 @@ module _ (place : ℕ → Value) where
   pub answer_tells : (own look : List ℕ → Answer) → ((q : List ℕ) → IsWordAnswer (own q)) → ((q : List ℕ) → TellsAnswer place (own q) (look q))
       → (x : Tree) → are_bytes x ≡ true → TellsAnswer place (answer_by own x) (answer_by look x)
   unfolding answer_by are_bytes
-  answer_tells own look words names (Number n) e = literal_tells (nat_lt n 65536) n 9
+  answer_tells own look words names (Number n) e = literal_tells (nat_lt n 65536) n (Fault code.BadNumber)
   answer_tells own look words names (Chars cs) e = chars_tell cs
   answer_tells own look words names (Name n) e = names n
   answer_tells own look words names Here e = names here

@@ -1,9 +1,9 @@
 -- No least code, no code; no least fault, no fault of any statement.
-use Rattle.std.proofs.Common.{◌≡◌, ℕ, List, [], ◌∷◌, ◌++◌, refl, arith}
+use Rattle.std.proofs.Common.{◌≡◌, ℕ, List, [], ◌∷◌, ◌++◌, refl}
 use Rattle.std.specs.Prelude.{Option, Some, None}
 use Rattle.std.specs.Option.{option_to_list}
-use Rattle.kc_source.specs.Faults as faults
-use Rattle.kc_source.specs.Faults.{Fault, at_line, is_before}
+use Rattle.kc_lex.specs.LineFaults.{Fault, at_line}
+use Rattle.kc_lex.proofs.FaultLemmas.{no_least}
 use Rattle.kc_asm_symbols.specs.Located.{Located}
 use Rattle.kc_asm_symbols.specs.Meanings.{meaning, in_all}
 use Rattle.kc_asm_emission.specs.Faults.{lesser, least}
@@ -20,15 +20,6 @@ pub no_code : (codes : List ℕ) → least codes ≡ None → codes ≡ []
 unfolding least
 no_code [] e = refl
 no_code (c ∷ cs) e = absurd (lesser_some c (least cs) e)
-
-earlier_some : (f : Fault) (o : Option Fault) → faults.lesser (Some f) o ≡ None → ⊥
-earlier_some f None e = cc
-earlier_some f (Some g) e = grind arith
-
-no_fault : (fs : List Fault) → faults.least fs ≡ None → fs ≡ []
-unfolding faults.least
-no_fault [] e = refl
-no_fault (f ∷ fs) e = absurd (earlier_some f (faults.least fs) e)
 
 -- a statement's codes, and the faults behind it
 none_at : (line : ℕ) (code : Option ℕ) (fs : List Fault) → option_to_list (at_line line code) ++ fs ≡ [] → (code ≡ None) × (fs ≡ [])
@@ -47,4 +38,4 @@ are_sound all regions sum before (l ∷ ls) (s ∷ ss) e =
 
 pub sound_statements : SoundStatements
 sound_statements stmts none =
-    are_sound (standing stmts) first_regions 0 [] (standing stmts) (site_list stmts) (no_fault _ none)
+    are_sound (standing stmts) first_regions 0 [] (standing stmts) (site_list stmts) (no_least _ none)

@@ -3,13 +3,13 @@ use Rattle.std.proofs.Common.{◌≡◌, ℕ, ◌+◌, ◌%◌, ◌<◌, ◌≤�
 use Rattle.std.specs.Prelude.{Option, Some, None, slice_get}
 use Rattle.std.proofs.lemmas.List.{drop_all, append-nil, reverse-append, reverse-reverse}
 use Rattle.std.proofs.lemmas.Option.{slice_get_within, get_or_from_slice_get}
-use Rattle.std.specs.Option.{option_map, option_to_list}
+use Rattle.std.specs.Option.{option_to_list}
+use Rattle.kc_lex.specs.LineFaults.{Fault, at_line, least as first, lesser as lesser_fault}
+use Rattle.kc_lex.proofs.FaultLemmas.{lesser_none, lesser_assoc, least_append as first_append}
 use Rattle.kc_expr.specs.declared.values.Value.{Value}
 use Rattle.kc_expr.specs.Meaning.{Answer}
 use Rattle.kc_source_statement.specs.declared.statement.Stmt.{Stmt}
 use Rattle.kc_source_statement.specs.Trees.{action_tree}
-use Rattle.kc_source.specs.Faults.{Fault, at_line, least as first, lesser as lesser_fault}
-use Rattle.kc_source.proofs.FaultLemmas.{lesser_none, lesser_assoc, least_append as first_append}
 use Rattle.kc_asm_symbols.specs.declared.meanings.Meanings.{Meanings}
 use Rattle.kc_asm_symbols.specs.declared.segments.Segment.{Segment}
 use Rattle.kc_asm_symbols.specs.Located.{Located, located, located_from, located_at, segment_after, base_of, tag_of, value_at}
@@ -21,7 +21,6 @@ use Rattle.kc_asm_layout.specs.declared.site.Site.{Site}
 use Rattle.kc_asm_check.specs.declared.walk.Walk.{Walk}
 use Rattle.kc_asm_check.specs.Codes.{Regions, first_regions, regions_after, stack_after, public_faults, telling_faults}
 use Rattle.kc_asm_check.specs.Checked.{seen_put}
-use Rattle.kc_asm_check.specs.Pairs.{pair}
 use Rattle.kc_asm_check.specs.Putting.{Put, put_of, puts_from, stack_from}
 use Rattle.kc_asm_check.proofs.NameLemmas.{front_of}
 use Rattle.kc_asm_check.specs.Walk.{stood}
@@ -57,7 +56,7 @@ pub record Passing (w : Walk) (all rest : List Located) (ss : List Site) (whole 
   pub before : List Located
   pub split : all ≡ reverse before ++ rest
   pub behind : IsBehind w.meanings all before
-  pub so_far : lesser_fault (option_map pair w.found) (first (faults_from all w.regions.items w.sum before rest ss)) ≡ whole
+  pub so_far : lesser_fault w.found (first (faults_from all w.regions.items w.sum before rest ss)) ≡ whole
   pub given : map seen_put w.puts.items ++ puts_from all before rest ss ≡ puts
   pub summed : stack_from all w.sum before rest ≡ stack
 
@@ -101,7 +100,7 @@ further all before rest l split =
 passes : (v u w : Walk) (all rest : List Located) (l : Located) (s : Site) (ss : List Site) (whole : Option Fault) (puts : List Put) (stack : ℕ)
     → ((before : List Located) → IsBehind v.meanings all before → IsAt u.meanings all before l)
     → ((before : List Located) → IsBehind v.meanings all before
-    → option_map pair u.found ≡ lesser_fault (option_map pair v.found) (fault_of all before v.regions.items v.sum l s))
+    → u.found ≡ lesser_fault v.found (fault_of all before v.regions.items v.sum l s))
     → map seen_put u.puts.items ≡ map seen_put v.puts.items ++ put_of (at_statement u.meanings) l s ∷ []
     → u.regions.items ≡ v.regions.items → u.sum ≡ v.sum
     → ((before : List Located) → IsAt u.meanings all before l → IsBehind w.meanings all (l ∷ before))
@@ -122,10 +121,10 @@ passes v u w all rest l s ss whole puts stack at found put regions sum behind re
       split = further all p.before rest l p.split;
       behind = behind p.before here;
       so_far =
-          (λ i. lesser_fault (option_map pair (found_behind i)) (first (faults_from all (new_regions i) (new_sum i) (l ∷ p.before) rest ss)))
+          (λ i. lesser_fault (found_behind i) (first (faults_from all (new_regions i) (new_sum i) (l ∷ p.before) rest ss)))
           ∙ ap (λ (f : Option Fault). lesser_fault f (first (others all p.before v.regions.items v.sum l rest ss))) (found p.before p.behind)
-          ∙ lesser_assoc (option_map pair v.found) (fault_of all p.before v.regions.items v.sum l s) (first (others all p.before v.regions.items v.sum l rest ss))
-          ∙ ap (lesser_fault (option_map pair v.found)) (sym (one_judged all p.before v.regions.items v.sum l rest s ss))
+          ∙ lesser_assoc v.found (fault_of all p.before v.regions.items v.sum l s) (first (others all p.before v.regions.items v.sum l rest ss))
+          ∙ ap (lesser_fault v.found) (sym (one_judged all p.before v.regions.items v.sum l rest s ss))
           ∙ p.so_far;
       given =
           ap (λ (ps : List Put). ps ++ puts_from all (l ∷ p.before) rest ss) new_puts
@@ -186,26 +185,26 @@ left_from places i g stmts = located_from (λ i g. value_at g (places i)) i g (d
 
 -- before the first statement
 pub starts : (w : Walk) (all : List Located) (ss : List Site) → IsBehind w.meanings all [] → w.sum ≡ 0 → w.puts.items ≡ []
-    → Passing w all all ss (lesser_fault (option_map pair w.found) (first (faults_from all w.regions.items 0 [] all ss))) (puts_from all [] all ss) (stack_from all 0 [] all)
+    → Passing w all all ss (lesser_fault w.found (first (faults_from all w.regions.items 0 [] all ss))) (puts_from all [] all ss) (stack_from all 0 [] all)
 starts w all ss behind sum puts = record {
   before = [];
   split = refl;
   behind = behind;
-  so_far = ap (λ (n : ℕ). lesser_fault (option_map pair w.found) (first (faults_from all w.regions.items n [] all ss))) sum;
+  so_far = ap (λ (n : ℕ). lesser_fault w.found (first (faults_from all w.regions.items n [] all ss))) sum;
   given = ap (λ ps. map seen_put ps ++ puts_from all [] all ss) puts;
   summed = ap (λ (n : ℕ). stack_from all n [] all) sum;
 }
 
 -- behind the last one
 pub record Passed (w : Walk) (all : List Located) (whole : Option Fault) (puts : List Put) (stack : ℕ) : Type 0 where
-  pub found : option_map pair w.found ≡ whole
+  pub found : w.found ≡ whole
   pub puts_given : map seen_put w.puts.items ≡ puts
   pub summed : w.sum ≡ stack
   pub behind : IsBehind w.meanings all (reverse all)
 
 ends : (w : Walk) (all : List Located) (ss : List Site) (whole : Option Fault) (puts : List Put) (stack : ℕ) → Passing w all [] ss whole puts stack → Passed w all whole puts stack
 ends w all ss whole puts stack p = record {
-  found = sym (lesser_none (option_map pair w.found)) ∙ ap (lesser_fault (option_map pair w.found)) (sym (no_fault_left all p.before w.regions.items w.sum ss)) ∙ p.so_far;
+  found = sym (lesser_none w.found) ∙ ap (lesser_fault w.found) (sym (no_fault_left all p.before w.regions.items w.sum ss)) ∙ p.so_far;
   puts_given = sym (append-nil (map seen_put w.puts.items)) ∙ ap (λ (ps : List Put). map seen_put w.puts.items ++ ps) (sym (no_put_left all p.before ss)) ∙ p.given;
   summed = sym (no_sum_left all p.before w.sum) ∙ p.summed;
   behind = subst (λ (before : List Located). IsBehind w.meanings all before) (all_before all p.before p.split) p.behind;
@@ -220,7 +219,7 @@ pub passes_at : (v u w : Walk) (all : List Located) (i : ℕ) (g h : Segment) (s
     → i < length stmts → stmt ≡ get_or stmts i stmt → slice_get sites i ≡ Some s → h ≡ segment_after g (action_tree stmt.action)
     → ((before : List Located) → IsBehind v.meanings all before → IsAt u.meanings all before (stood g stmt s))
     → ((before : List Located) → IsBehind v.meanings all before
-    → option_map pair u.found ≡ lesser_fault (option_map pair v.found) (fault_of all before v.regions.items v.sum (stood g stmt s) s))
+    → u.found ≡ lesser_fault v.found (fault_of all before v.regions.items v.sum (stood g stmt s) s))
     → map seen_put u.puts.items ≡ map seen_put v.puts.items ++ put_of (at_statement u.meanings) (stood g stmt s) s ∷ []
     → u.regions.items ≡ v.regions.items → u.sum ≡ v.sum
     → ((before : List Located) (l : Located) → IsAt u.meanings all before l → l.action ≡ action_tree stmt.action → IsBehind w.meanings all (l ∷ before))

@@ -1,14 +1,13 @@
 -- What the check of a module answers: its first fault; or, where it has none, what its statements put, the bytes of its stack,
 -- and what names mean by all statements.
 use Rattle.std.specs.Prelude.{◌≡◌, List, reverse, map, Some, None, Result, Ok, Err}
+use Rattle.kc_lex.specs.LineFaults.{Fault}
 use Rattle.kc_source_statement.specs.declared.statement.Stmt.{Stmt}
 use Rattle.kc_asm_symbols.specs.Walk.{IsBehind}
 use Rattle.kc_asm_emission.specs.Seen.{seen}
 use Rattle.kc_asm_check.specs.declared.checked.Checked.{Checked}
 use Rattle.kc_asm_check.specs.declared.checked.Put.{Put as Made}
-use Rattle.kc_asm_check.specs.declared.fault.Fault.{Fault}
 use Rattle.kc_asm_check.specs.Judging.{first_fault, standing}
-use Rattle.kc_asm_check.specs.Pairs.{pair}
 use Rattle.kc_asm_check.specs.Putting.{Put, puts_of, stack_of}
 
 abbrev pub seen_put : Made → Put
@@ -21,4 +20,4 @@ pub record IsChecked (stmts : List Stmt) (c : Checked) : Type 0 where
 
 abbrev pub IsJudged : List Stmt → Result Checked Fault → Type 0
 IsJudged stmts (Ok c) = (first_fault stmts ≡ None) × IsChecked stmts c
-IsJudged stmts (Err f) = first_fault stmts ≡ Some (pair f)
+IsJudged stmts (Err f) = first_fault stmts ≡ Some f

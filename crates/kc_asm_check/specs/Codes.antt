@@ -196,7 +196,7 @@ stack_faults look sum action = when (nat_le sum 65535 && nat_lt 65535 (stack_aft
 
 abbrev pub counts_from_external : Answer → Bool
 counts_from_external (Ok v) = is_external v.base
-counts_from_external (Err code) = false
+counts_from_external (Err fault) = false
 
 abbrev pub name_faults : (List ℕ → Answer) → List ℕ → List ℕ
 name_faults last name = when (counts_from_external (last name)) not_public

@@ -2,10 +2,10 @@
 -- code (after the MCS-96 Macro Assembler User's Guide, "Assembler Directives"; the order is this kit's own).
 use Rattle.std.specs.Prelude.{ℕ, List, [], ◌∷◌, ◌++◌, Option, Some, None, slice_get}
 use Rattle.std.specs.Option.{option_to_list}
+use Rattle.kc_lex.specs.LineFaults.{Fault, at_line, least}
 use Rattle.kc_expr.specs.Meaning.{Answer}
 use Rattle.kc_source_statement.specs.declared.statement.Stmt.{Stmt}
 use Rattle.kc_source_statement.specs.Trees.{ActionTree}
-use Rattle.kc_source.specs.Faults.{Fault, at_line, least}
 use Rattle.kc_asm_symbols.specs.declared.segments.Segment.{Segment}
 use Rattle.kc_asm_symbols.specs.Located.{Located, located}
 use Rattle.kc_asm_symbols.specs.Meanings.{meaning, in_all}

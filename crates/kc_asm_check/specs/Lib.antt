@@ -1,5 +1,4 @@
 pub mod Codes
-pub mod Pairs
 pub mod Judging
 pub mod Putting
 pub mod Checked

@@ -1,20 +1,18 @@
 ghost use Rattle.std.specs.Prelude.{◌≡◌, ◌≤◌, List, None, reverse, map, length, IfOk};
-ghost use Rattle.std.specs.Option.{option_map};
 ghost use Rattle.kc_asm_symbols.specs.Walk.{AreNamesOf, IsBehind};
 ghost use Rattle.kc_asm_check.specs.Checked.{seen_put, IsJudged};
 ghost use Rattle.kc_asm_check.specs.Codes as codes;
-ghost use Rattle.kc_asm_check.specs.Pairs.{pair};
 ghost use Rattle.kc_asm_check.specs.Judging as spec;
 ghost use Rattle.kc_asm_check.specs.Putting.{puts_of, stack_of};
 
 use crate::checked::Checked;
-use crate::fault::Fault;
 use crate::sites::values_of;
 use crate::walk::Walk;
 use kc_asm_layout::Site;
 use kc_asm_outline::outlines_have_lengths;
 use kc_asm_symbols::{Meanings, Names, Segment};
 use kc_base::NoMemory;
+use kc_lex::LineFault;
 use kc_source_statement::Stmt;
 use std::alloc::Global;
 
@@ -30,8 +28,8 @@ fn first_regions(alloc: Global) -> Result<Vec<Option<u16>>, NoMemory>
 }
 
 // What a walk behind the last statement has found.
-fn judged(walk: Walk, stmts: &[Stmt]) -> Result<Checked, Fault>
-    requires found { option_map pair walk.found ≡ spec.first_fault stmts.now }
+fn judged(walk: Walk, stmts: &[Stmt]) -> Result<Checked, LineFault>
+    requires found { walk.found ≡ spec.first_fault stmts.now }
     requires puts { map seen_put walk.puts.items ≡ puts_of stmts.now }
     requires stack { walk.sum ≡ stack_of stmts.now }
     requires meanings { IsBehind walk.meanings (spec.standing stmts.now) (reverse (spec.standing stmts.now)) }
@@ -72,7 +70,7 @@ pub fn judge(
     stmts: &[Stmt],
     sites: &[Site],
     names: &Names,
-) -> Result<Result<Checked, Fault>, NoMemory>
+) -> Result<Result<Checked, LineFault>, NoMemory>
     requires count { length stmts.now ≤ 65536 }
     requires sites { sites.now ≡ spec.site_list stmts.now }
     requires names { AreNamesOf names.now stmts.now }

@@ -4,7 +4,6 @@
 mod branches;
 mod checked;
 mod codes;
-mod fault;
 mod judging;
 mod laws;
 mod module;
@@ -15,7 +14,6 @@ mod sites;
 mod walk;
 
 pub use checked::{Checked, Put};
-pub use fault::Fault;
 pub use judging::judge;
 pub use laws::no_fault_no_codes;
 pub use module::stack_after;

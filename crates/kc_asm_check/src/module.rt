@@ -18,7 +18,7 @@ use kc_asm_emission::faults::lesser;
 use kc_asm_emission::fixed_of;
 use kc_asm_symbols::Meanings;
 use kc_base::Text;
-use kc_expr::{Base, Expr, Scope, Value};
+use kc_expr::{Base, Expr, NoValue, Scope, Value};
 use kc_lex::SourceCode;
 use kc_obj::names::{is_stack, name_is_sound};
 use kc_source_statement::Action;
@@ -71,7 +71,7 @@ fn is_external(base: Base) -> bool
     }
 }
 
-fn counts_from_external(answer: Result<Value, u8>) -> bool
+fn counts_from_external(answer: Result<Value, NoValue>) -> bool
     ensures { result ≡ spec.counts_from_external answer }
 {
     match answer {

@@ -4,7 +4,7 @@ use super::*;
 use kc_asm_layout::layout;
 use kc_asm_outline::outline;
 use kc_asm_symbols::{Names, externals};
-use kc_lex::lines;
+use kc_lex::{LineFault, lines};
 use kc_source::statements;
 use std::alloc::Global;
 use std::test::*;
@@ -56,7 +56,7 @@ static FAULTS: [(&str, Option<(u32, u8)>); 36] = [
 ];
 
 /// The first fault of the source, if its lines and statements have none.
-fn first_fault(alloc: Global, source: &str) -> Option<Option<Fault>> {
+fn first_fault(alloc: Global, source: &str) -> Option<Option<LineFault>> {
     let bytes = source.as_bytes();
     if bytes.len() > 1048576 {
         return None;
@@ -80,7 +80,7 @@ fn first_fault(alloc: Global, source: &str) -> Option<Option<Fault>> {
 #[test]
 fn first_faults(rt: HostRuntime) {
     for &(source, expected) in &FAULTS {
-        let expected = expected.map(|(line, code)| Fault { line, code });
+        let expected = expected.map(|(line, code)| LineFault { line, code });
         assert!(rt;
             first_fault(rt.alloc(), source) == Some(expected),
             "{source}"

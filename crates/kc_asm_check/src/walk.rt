@@ -1,9 +1,8 @@
 //! A walk over the statements, which judges each where it stands.
 
 ghost use Rattle.std.specs.Prelude.{◌≡◌, ◌+◌, ◌<◌, ◌≤◌, ◌^◌, List, [], ◌∷◌, ◌++◌, reverse, map, length, IfOk, OnOk};
-ghost use Rattle.std.specs.Option.{option_map};
+ghost use Rattle.kc_lex.specs.LineFaults as faults;
 ghost use Rattle.kc_source_statement.specs.Trees.{action_tree};
-ghost use Rattle.kc_source.specs.Faults as faults;
 ghost use Rattle.kc_asm_symbols.specs.Located.{Located, located, first_segment, segment_after};
 ghost use Rattle.kc_asm_symbols.specs.Meanings.{meaning, in_all};
 ghost use Rattle.kc_asm_symbols.specs.Walk.{at_statement, IsBehind, IsAt};
@@ -11,14 +10,12 @@ ghost use Rattle.kc_asm_emission.specs.Faults.{least};
 ghost use Rattle.kc_asm_emission.specs.Seen.{seen};
 ghost use Rattle.kc_asm_check.specs.Checked.{seen_put};
 ghost use Rattle.kc_asm_check.specs.Codes.{regions_after as following_regions, stack_after as following_sum};
-ghost use Rattle.kc_asm_check.specs.Pairs.{pair};
 ghost use Rattle.kc_asm_check.specs.Putting.{put_of as put_there, puts_from, stack_from};
 ghost use Rattle.kc_asm_check.specs.Walk.{stood};
 ghost use Rattle.kc_asm_check.specs.Judging as spec;
 
 use crate::branches::{branch_fault, judges_jumps};
 use crate::checked::Put;
-use crate::fault::{Fault, at_line, lesser as lesser_fault};
 use crate::module::{public_fault, stack_after, stack_fault, telling_fault};
 use crate::octets::{content_fault, segment_fault};
 use crate::places::{place_fault, push_region};
@@ -30,6 +27,8 @@ use kc_asm_layout::Site;
 use kc_asm_symbols::{Meanings, Segment};
 use kc_base::NoMemory;
 use kc_expr::Scope;
+use kc_lex::LineFault;
+use kc_lex::line_fault::{at_line, lesser as lesser_fault};
 use kc_source_statement::{Action, Stmt};
 use std::alloc::Global;
 
@@ -59,7 +58,7 @@ pub(crate) struct Walk {
     pub segment: Segment,
     pub regions: Vec<Option<u16>>,
     pub sum: u64,
-    pub found: Option<Fault>,
+    pub found: Option<LineFault>,
     pub puts: Vec<Put>,
 }
 
@@ -110,7 +109,7 @@ impl Walk {
     pub(crate) fn enter(&mut self, alloc: Global, stmt: &Stmt, site: &Site) -> Result<(), NoMemory>
         requires { self.old.sum + 65536 < 2 ^ 64 }
         ensures at { OnOk result ((all before : List Located) → IsBehind self.old.meanings all before → IsAt self.new.meanings all before (stood self.old.segment stmt.now site.now)) }
-        ensures found { OnOk result ((all before : List Located) → IsBehind self.old.meanings all before → option_map pair self.new.found ≡ faults.lesser (option_map pair self.old.found) (faults.at_line stmt.now.line (least (spec.codes_of (meaning all before (stood self.old.segment stmt.now site.now)) (in_all all) self.old.regions.items self.old.sum (stood self.old.segment stmt.now site.now) site.now)))) }
+        ensures found { OnOk result ((all before : List Located) → IsBehind self.old.meanings all before → self.new.found ≡ faults.lesser self.old.found (faults.at_line stmt.now.line (least (spec.codes_of (meaning all before (stood self.old.segment stmt.now site.now)) (in_all all) self.old.regions.items self.old.sum (stood self.old.segment stmt.now site.now) site.now)))) }
         ensures puts { OnOk result (map seen_put self.new.puts.items ≡ map seen_put self.old.puts.items ++ put_there (at_statement self.new.meanings) (stood self.old.segment stmt.now site.now) site.now ∷ []) }
         ensures segment { OnOk result (self.new.segment ≡ self.old.segment) }
         ensures regions { OnOk result (self.new.regions.items ≡ self.old.regions.items) }
@@ -156,7 +155,7 @@ impl Walk {
         requires sum { self.old.sum ≡ 0 }
         requires puts { self.old.puts.items ≡ [] }
         requires behind { IsBehind self.old.meanings (located (spec.place_at sites.now) stmts.now) [] }
-        ensures found { OnOk result (option_map pair self.new.found ≡ faults.lesser (option_map pair self.old.found) (faults.least (spec.faults_from (located (spec.place_at sites.now) stmts.now) self.old.regions.items 0 [] (located (spec.place_at sites.now) stmts.now) sites.now))) }
+        ensures found { OnOk result (self.new.found ≡ faults.lesser self.old.found (faults.least (spec.faults_from (located (spec.place_at sites.now) stmts.now) self.old.regions.items 0 [] (located (spec.place_at sites.now) stmts.now) sites.now))) }
         ensures puts { OnOk result (map seen_put self.new.puts.items ≡ puts_from (located (spec.place_at sites.now) stmts.now) [] (located (spec.place_at sites.now) stmts.now) sites.now) }
         ensures sum { OnOk result (self.new.sum ≡ stack_from (located (spec.place_at sites.now) stmts.now) 0 [] (located (spec.place_at sites.now) stmts.now)) }
         ensures behind { OnOk result (IsBehind self.new.meanings (located (spec.place_at sites.now) stmts.now) (reverse (located (spec.place_at sites.now) stmts.now))) }

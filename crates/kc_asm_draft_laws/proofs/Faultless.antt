@@ -4,8 +4,10 @@ use Rattle.std.specs.Prelude.{Option, Some, None, unwrap_or, Ok, Err, slice_get,
 use Rattle.std.proofs.lemmas.Bool.Decides.{nat_tests}
 use Rattle.kc_obj.specs.declared.parts.SegKind.{SegKind}
 use Rattle.kc_expr.specs.declared.values.Value.{Value}
+use Rattle.kc_expr.specs.declared.values.NoValue.TheVariants.{Fault, ToldElsewhere}
 use Rattle.kc_expr.specs.Tree.{Tree}
 use Rattle.kc_expr.specs.Meaning.{Answer, answer_by, is_fixed}
+use Rattle.kc_expr.proofs.UntoldLemmas.{AreUntold, expression_untold, is_told}
 use Rattle.kc_source_statement.specs.Trees.{ActionTree}
 use Rattle.kc_source_statement.specs.Trees as trees
 use Rattle.kc_asm_symbols.specs.declared.segments.Segment.{Segment}
@@ -19,7 +21,6 @@ use Rattle.kc_asm_layout.specs.declared.site.Site.{Site}
 use Rattle.kc_asm_check.specs.Codes.{Regions, when, branch_faults, octet_faults, place_faults, public_faults, telling_faults, segment_faults, label_faults, goes_on, goes_on_faults, end_faults, back_faults, is_below, opening_faults, opening, most_of, leaves}
 use Rattle.kc_asm_check.specs.Judging.{own_codes, codes_of, put_faults}
 use Rattle.kc_asm_draft_laws.proofs.Lists.{nothing_left}
-use Rattle.kc_asm_draft_laws.proofs.Untold.{AreUntold, expression_untold, is_told}
 
 pub record IsFaultless (look : Look) (last : List ℕ → Answer) (regions : Regions) (sum : ℕ) (l : Located) (s : Site) : Type 0 where
   pub values : faults_of look l.action ≡ []
@@ -140,11 +141,8 @@ fixed_value (Ok v) h e = (v.number, by (is_fixed v.base) e)
     by : (b : Bool) → cond {A = List ℕ} b [] (10 ∷ []) ≡ [] → cond b (Some v.number) None ≡ Some v.number
     by true e = refl
     by false e = absurd (cc e)
-fixed_value (Err code) h e = absurd (by (eqb code 255) h e)
-  where
-    by : (b : Bool) → b ≡ false → cond b [] (code ∷ []) ≡ [] → ⊥
-    by true h e = cc
-    by false h e = cc
+fixed_value (Err (Fault code)) h e = absurd cc
+fixed_value (Err ToldElsewhere) h e = absurd cc
 
 pub fixed_number : (look : Look) → AreUntold look → (x : Tree) → fixed_faults look x ≡ [] → (n : ℕ) × (fixed_of look x ≡ Some n)
 fixed_number look h x e = fixed_value (answer_by look x) (expression_untold look h x) e

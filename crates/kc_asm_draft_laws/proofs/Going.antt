@@ -8,6 +8,7 @@ use Rattle.kc_obj.specs.declared.parts.SegKind.TheVariants.{Reg, Code, Ram, Stac
 use Rattle.kc_obj.specs.Pieces.{kind_number, in_region}
 use Rattle.kc_expr.specs.Tree.{Tree}
 use Rattle.kc_expr.specs.Meaning.{Answer}
+use Rattle.kc_expr.proofs.UntoldLemmas.{AreUntold}
 use Rattle.kc_source_statement.specs.Trees.{ActionTree}
 use Rattle.kc_source_statement.specs.Trees as trees
 use Rattle.kc_asm_symbols.specs.declared.segments.Segment.{Segment}
@@ -31,7 +32,6 @@ use Rattle.kc_asm_layout.specs.Places.{Ends, begun, passed, end_of, address_adde
 use Rattle.kc_asm_check.specs.Codes.{Regions, opening, opening_of, opening_faults, is_outside, region_at, with_region, regions_after}
 use Rattle.kc_asm_draft_laws.specs.Drafting.{led, tape_after, kind_opened, with_opened}
 use Rattle.kc_asm_draft_laws.proofs.Lists.{same_element, no_element, front_at, last_at, set_itself, index_at, all_at, all_set, all_pushed, mapped_at, mapped_set, mapped_same, mapped_pushed, mapped_length}
-use Rattle.kc_asm_draft_laws.proofs.Untold.{AreUntold}
 use Rattle.kc_asm_draft_laws.proofs.Faultless.{IsFaultless, unless, fixed_number}
 use Rattle.kc_asm_draft_laws.proofs.Taping.{size_at, Extends, led_extends, put_extends, both_extend}
 use Rattle.kc_asm_draft_laws.proofs.Standing.{end_of_tape, at_of, IsOwn, Holds, IsWell, passed_by, StandsAt, Fits, fits, not_false}

@@ -127,7 +127,7 @@ module _ (last : List ℕ → Answer) where
 
     one_public : (n : List ℕ) (a : Answer) → is_public n ≡ true → not (counts_from_external a) ≡ true → is_known (base_exists count) a ≡ true → list_all drafts.is_public (given_as n a) ≡ true
     one_public n (Ok v) h f k = (λ i. (h i && given_base v.base f k i) && true)
-    one_public n (Err code) h f k = refl
+    one_public n (Err fault) h f k = refl
 
     pub publics_are : (ns : List (List ℕ)) → list_all is_good ns ≡ true → list_all drafts.is_public (publics_of last ns) ≡ true
     unfolding publics_of
@@ -169,7 +169,7 @@ module _ (last : List ℕ → Answer) where
   no_other : (p : Given) (n : List ℕ) (a : Answer) (rest : List Given) → bytes_eq p.name n ≡ false → AllByRecursion (λ q. is_same_name p q ≡ false) rest
       → AllByRecursion (λ q. is_same_name p q ≡ false) (given_as n a ++ rest)
   no_other p n (Ok v) rest e h = (e, h)
-  no_other p n (Err code) rest e h = h
+  no_other p n (Err fault) rest e h = h
 
   not_again : (p : Given) (seen ns : List (List ℕ)) → IsSeen p.name seen → AllByRecursion (λ q. is_same_name p q ≡ false) (publics_of last (distinct_from seen ns))
   unfolding publics_of distinct_from
@@ -189,7 +189,7 @@ module _ (last : List ℕ → Answer) where
     where
       with : (a : Answer) → IsDistinct is_same_name (publics_of last (distinct_from (n ∷ seen) ns)) → IsDistinct is_same_name (given_as n a ++ publics_of last (distinct_from (n ∷ seen) ns))
       with (Ok v) g = (not_again (record { name = n; value = v }) (n ∷ seen) ns (now_seen n seen), g)
-      with (Err code) g = g
+      with (Err fault) g = g
 
       by : (b : Bool) → IsDistinct is_same_name (publics_of last (distinct_from seen ns)) → IsDistinct is_same_name (publics_of last (distinct_from (n ∷ seen) ns))
           → IsDistinct is_same_name (publics_of last (cond b (distinct_from seen ns) (n ∷ distinct_from (n ∷ seen) ns)))

@@ -4,6 +4,7 @@ use Rattle.std.specs.Prelude.{Option, Some, None, slice_get, is_none}
 use Rattle.std.specs.List.{AllByRecursion, flat_map}
 use Rattle.std.specs.Option.{option_to_list}
 use Rattle.kc_expr.specs.Meaning.{Answer}
+use Rattle.kc_expr.proofs.UntoldLemmas.{AreUntold}
 use Rattle.kc_obj.specs.declared.parts.SegKind.{SegKind}
 use Rattle.kc_obj.specs.declared.parts.SegKind.TheVariants.{Code}
 use Rattle.kc_obj.specs.Pieces.{kind_number}
@@ -30,7 +31,7 @@ use Rattle.kc_asm_check.specs.Judging.{standing, site_list}
 use Rattle.kc_asm_check.specs.Laws.{SoundStatements}
 use Rattle.kc_asm_draft_laws.specs.Sound.{DraftsAreSettled}
 use Rattle.kc_asm_draft_laws.proofs.Lists.{no_element, same_element, nothing_left, all_at}
-use Rattle.kc_asm_draft_laws.proofs.Untold.{AreUntold, HasValue, value_of_expression}
+use Rattle.kc_asm_draft_laws.proofs.Untold.{HasValue, value_of_expression}
 use Rattle.kc_asm_draft_laws.proofs.Standing.{IsOwn}
 use Rattle.kc_asm_draft_laws.proofs.Walking.{walked}
 use Rattle.kc_asm_draft_laws.proofs.Room.{step_fits}

@@ -4,6 +4,7 @@ use Rattle.std.specs.Prelude.{Option, Some, None, unwrap_or, slice_get, slice_se
 use Rattle.std.specs.List.{AllByRecursion}
 use Rattle.kc_obj.specs.declared.parts.SegKind.TheVariants.{Code}
 use Rattle.kc_expr.specs.declared.values.Value.{Value}
+use Rattle.kc_expr.proofs.UntoldLemmas.{AreUntold}
 use Rattle.kc_source_statement.specs.declared.statement.Stmt.{Stmt}
 use Rattle.kc_source_statement.specs.Trees.{action_tree}
 use Rattle.kc_asm_symbols.specs.declared.segments.Segment.{Segment}
@@ -24,7 +25,7 @@ use Rattle.kc_asm_check.specs.Judging.{codes_of, first_fault, site_list, place_a
 use Rattle.kc_asm_check.specs.Laws.{AreSound, SoundStatements}
 use Rattle.kc_asm_draft_laws.specs.Drafting.{tape_after, kind_opened, with_opened, first_tape, parts_after, parts_from, first_parts}
 use Rattle.kc_asm_draft_laws.proofs.Lists.{seam}
-use Rattle.kc_asm_draft_laws.proofs.Untold.{AreUntold, none_before, one_more_untold, meaning_untold, reverse_front}
+use Rattle.kc_asm_draft_laws.proofs.Untold.{none_before, one_more_untold, meaning_untold, reverse_front}
 use Rattle.kc_asm_draft_laws.proofs.Faultless.{IsFaultless, faultless}
 use Rattle.kc_asm_draft_laws.proofs.Standing.{IsWell, StandsAt}
 use Rattle.kc_asm_draft_laws.proofs.Going.{head_of, AreHeads, Standing, stands, written, goes_on_behind}

@@ -104,7 +104,7 @@ distinct_from seen (n ∷ ns) = if list_any (bytes_eq n) seen then distinct_from
 -- with the values that they have by all statements
 abbrev pub given_as : List ℕ → Answer → List Given
 given_as name (Ok v) = record { name = name; value = v } ∷ []
-given_as name (Err code) = []
+given_as name (Err fault) = []
 
 unfoldable pub publics_of : (List ℕ → Answer) → List (List ℕ) → List Given
 publics_of last [] = []

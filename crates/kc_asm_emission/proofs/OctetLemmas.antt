@@ -337,7 +337,7 @@ module _ (known : Base → Bool) (fixed : known bases.Fixed ≡ true) where
 module _ (known : Base → Bool) (fixed : known bases.Fixed ≡ true) (absolute : known bases.Absolute ≡ true) (look : contents.Look) (names : (name : List ℕ) → is_known known (look name) ≡ true) where
   in_known : (a : Answer) → is_known known a ≡ true → Known known (contents.value_in a)
   in_known (Ok v) h = h
-  in_known (Err code) h = tt
+  in_known (Err fault) h = tt
 
   of_known : (x : Tree) → Known known (contents.value_of look x)
   of_known x = in_known (answer_by look x) (answer_known known fixed absolute look names x)

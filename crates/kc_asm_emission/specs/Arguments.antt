@@ -16,7 +16,7 @@ Look = List ℕ → Answer
 -- the value, where there is no fault
 abbrev pub value_in : Answer → Option Value
 value_in (Ok v) = Some v
-value_in (Err code) = None
+value_in (Err fault) = None
 
 abbrev pub value_of : Look → Tree → Option Value
 value_of look x = value_in (answer_by look x)
@@ -24,7 +24,7 @@ value_of look x = value_in (answer_by look x)
 -- the number, where it counts from nothing
 abbrev pub fixed_in : Answer → Option ℕ
 fixed_in (Ok v) = if is_fixed v.base then Some v.number else None
-fixed_in (Err code) = None
+fixed_in (Err fault) = None
 
 abbrev pub fixed_of : Look → Tree → Option ℕ
 fixed_of look x = fixed_in (answer_by look x)

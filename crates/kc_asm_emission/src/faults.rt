@@ -1,4 +1,4 @@
-ghost use Rattle.std.specs.Prelude.{◌≡◌, Ok, Err, map, IfOk};
+ghost use Rattle.std.specs.Prelude.{◌≡◌, Ok, map, IfOk};
 ghost use Rattle.std.specs.List.{flat_map};
 ghost use Rattle.kc_expr.specs.Tree.{tree_of};
 ghost use Rattle.kc_source_statement.specs.Trees.{item_tree, arg_tree, action_tree};
@@ -9,7 +9,7 @@ ghost use Rattle.kc_asm_emission.specs.Faults as faults;
 use crate::operands::arguments;
 use kc_asm_operation::fault as operand_fault;
 use kc_base::NoMemory;
-use kc_expr::{Base, Expr, Scope, TOLD_ELSEWHERE, Value, value_over};
+use kc_expr::{Base, Expr, NoValue, Scope, Value, value_over};
 use kc_lex::SourceCode;
 use kc_source_statement::{Action, Arg, Item};
 use std::alloc::Global;
@@ -27,13 +27,12 @@ pub fn lesser(a: Option<u8>, b: Option<u8>) -> Option<u8>
 
 // The code of a fault that is told here.
 #[tactic(auto, unfolding(crate::specs::Faults::least))]
-fn told(code: u8) -> Option<u8>
-    ensures { result ≡ faults.least (faults.faults_in (Err code)) }
+fn told(fault: NoValue) -> Option<u8>
+    ensures { result ≡ faults.least (faults.told_here fault) }
 {
-    if code == TOLD_ELSEWHERE {
-        None
-    } else {
-        Some(code)
+    match fault {
+        NoValue::Fault(code) => Some(code.number()),
+        NoValue::ToldElsewhere => None,
     }
 }
 
@@ -43,7 +42,7 @@ fn value_fault<S: Scope>(expr: &Expr, scope: &S) -> Option<u8>
 {
     match value_over(expr, scope) {
         Ok(_) => None,
-        Err(code) => told(code),
+        Err(fault) => told(fault),
     }
 }
 
@@ -64,7 +63,7 @@ fn fixed_fault<S: Scope>(expr: &Expr, scope: &S) -> Option<u8>
 {
     match value_over(expr, scope) {
         Ok(value) => unless_fixed(value),
-        Err(code) => told(code),
+        Err(fault) => told(fault),
     }
 }
 
@@ -153,7 +152,7 @@ fn operation_fault<S: Scope>(
 
 /// The least code of the faults of a statement's values, over what names mean where it stands: those of its expressions (7
 /// for a name without value, 9 for a number over 16 bits that is no item of DCL, 11 for a division by 0, 13 for arithmetic on
-/// places; 255 for a fault that is told at another line is none here); 10 where a value has to be fixed and is not, in AT,
+/// places; one that is told where a name is defined is none here); 10 where a value has to be fixed and is not, in AT,
 /// SSEG, STACKSIZE, ORG and what is reserved, as the number of a bit or of shifts; 12 for operands that do not fit.
 /// (MCS-96 Macro Assembler User's Guide, "Expressions" and "Operands"; the codes are this kit's own.)
 #[tactic(auto, unfolding(crate::specs::Faults::least))]

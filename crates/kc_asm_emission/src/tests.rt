@@ -1,10 +1,11 @@
 ghost use Rattle.std.specs.Prelude.{Err};
+ghost use Rattle.kc_expr.specs.declared.values.NoValue.TheVariants.{ToldElsewhere};
 
 use super::*;
 use kc_asm_bytes::Octet;
 use kc_base::{NoMemory, Text};
 use kc_branch::Form;
-use kc_expr::{Base, Scope, Symbols, Tag, Value};
+use kc_expr::{Base, NoValue, Scope, Symbols, Tag, Value};
 use kc_lex::lines;
 use kc_obj::SegKind;
 use kc_source_statement::{Action, read_statement};
@@ -121,10 +122,10 @@ fn said(alloc: Global, text: &str) -> Option<Action> {
 struct Elsewhere;
 
 impl Scope for Elsewhere {
-    ghost answers = { λ _ _. Err 255 };
+    ghost answers = { λ _ _. Err ToldElsewhere };
 
-    fn look(&self, _name: &[u8]) -> Result<Value, u8> {
-        Err(255)
+    fn look(&self, _name: &[u8]) -> Result<Value, NoValue> {
+        Err(NoValue::ToldElsewhere)
     }
 }
 

@@ -255,7 +255,7 @@ is_word n = nat_lt n 0x10000
 
 given_word : (name : List ℕ) (a : Answer) → IsWordAnswer a → list_all (λ p. is_word p.value.number) (given_as name a) ≡ true
 given_word name (Ok v) h = and_from (is_word v.number) true (less v.number 0x10000 h) refl
-given_word name (Err code) h = refl
+given_word name (Err fault) h = refl
 
 publics_words : (last : List ℕ → Answer) → ((q : List ℕ) → IsWordAnswer (last q)) → (names : List (List ℕ)) → list_all (λ p. is_word p.value.number) (publics_of last names) ≡ true
 unfolding publics_of

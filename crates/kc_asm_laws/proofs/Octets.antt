@@ -80,7 +80,7 @@ IsWordValue (Some v) = v.number < 65536
 
 value_word : (a : Answer) → IsWordAnswer a → IsWordValue (emitted.value_in a)
 value_word (Ok v) h = h
-value_word (Err code) h = tt
+value_word (Err fault) h = tt
 
 zero_word : (x : Option Value) → IsWordValue x → (or_zero x).number < 65536
 zero_word None h = omega arith

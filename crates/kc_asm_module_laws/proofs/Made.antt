@@ -1,13 +1,14 @@
 -- A text without a fault has statements, a draft and a module.
-use Rattle.std.proofs.Common.{◌≡◌, ℕ, suc, ◌+◌, ◌<◌, ◌≤◌, ◌^◌, Bool, true, false, cond, List, [], ◌∷◌, ◌++◌, length, refl, sym, ap, ◌∙◌, arith}
-use Rattle.std.specs.Prelude.{Option, Some, None}
+use Rattle.std.proofs.Common.{◌≡◌, ℕ, suc, ◌+◌, ◌<◌, ◌≤◌, ◌^◌, true, List, [], ◌∷◌, ◌++◌, length, refl, sym, ap, ◌∙◌, arith}
+use Rattle.std.specs.Prelude.{None}
 use Rattle.std.proofs.lemmas.List.{length-map}
 use Rattle.kc_expr.specs.declared.values.Value.{Value}
 use Rattle.kc_lex.specs.declared.token.Line.{Line}
+use Rattle.kc_lex.proofs.FaultLemmas.{no_least}
 use Rattle.kc_source_statement.specs.declared.statement.Stmt.{Stmt}
 use Rattle.kc_source_statement.specs.Trees.{action_tree}
 use Rattle.kc_source.specs.Clear.{NamesAreClear}
-use Rattle.kc_source.specs.Faults.{Fault, stmt_said, all_said, all_uses, is_before, lesser, least, line_faults, name_faults, faults_of, AreStatements}
+use Rattle.kc_source.specs.Faults.{stmt_said, all_said, all_uses, least, line_faults, name_faults, faults_of, AreStatements}
 use Rattle.kc_asm_symbols.specs.Few.{ExternalsAreFew}
 use Rattle.kc_asm_symbols.specs.Externals.{externals}
 use Rattle.kc_asm_symbols.specs.declared.segments.Segment.{Segment}
@@ -24,19 +25,6 @@ use Rattle.kc_asm_module_laws.specs.Made.{TextsHaveModules}
 use Rattle.kc_asm_module_laws.proofs.Values.{vec_of, made}
 use Rattle.kc_asm_module_laws.proofs.Lines.{few_lines, few_said, few_parts}
 use Rattle.kc_asm_module_laws.proofs.Publics.{few_publics}
-
-some_or_some : (b : Bool) (f g : Fault) → cond b (Some g) (Some f) ≡ None → ⊥
-some_or_some true f g e = cc e
-some_or_some false f g e = cc e
-
-lesser_some : (f : Fault) (o : Option Fault) → lesser (Some f) o ≡ None → ⊥
-lesser_some f None e = cc e
-lesser_some f (Some g) e = some_or_some (is_before g f) f g e
-
-no_faults : (fs : List Fault) → least fs ≡ None → fs ≡ []
-unfolding least
-no_faults [] e = refl
-no_faults (f ∷ fs) e = absurd (lesser_some f (least fs) e)
 
 located_length : (values : ℕ → Segment → Value) (i : ℕ) (g : Segment) (ss : List Stmt) → length (located_from values i g ss) ≡ length ss
 unfolding located_from
@@ -57,7 +45,7 @@ pub record Drafted (text : List ℕ) : Type 0 where
 pub drafted : ExternalsAreFew → NamesAreClear → (text : List ℕ) (out : List Line) → IsText text out → least (faults_of out) ≡ None → Drafted text
 unfolding faults_of
 drafted few clear text out t sound =
-    let faults : line_faults true true (all_said out) ≡ [] = (nothing_left (line_faults true true (all_said out)) (name_faults (all_uses (all_said out)) [] (all_uses (all_said out))) (no_faults (line_faults true true (all_said out) ++ name_faults (all_uses (all_said out)) [] (all_uses (all_said out))) sound)).0 in
+    let faults : line_faults true true (all_said out) ≡ [] = (nothing_left (line_faults true true (all_said out)) (name_faults (all_uses (all_said out)) [] (all_uses (all_said out))) (no_least (line_faults true true (all_said out) ++ name_faults (all_uses (all_said out)) [] (all_uses (all_said out))) sound)).0 in
     let k = made true true (all_said out) faults in
     let are : AreStatements k.stmts out = record { sound = sound; said_by = k.same } in
     let lines : length out ≤ 65535 = few_lines t.0 out t.2 in

@@ -265,7 +265,7 @@ given_defined law ls sound q h =
 
 given_one : (name : List ℕ) (a : Answer) → length (given_as name a) ≤ 1
 given_one name (Ok v) = omega arith
-given_one name (Err code) = omega arith
+given_one name (Err fault) = omega arith
 
 publics_few : (last : List ℕ → Answer) (names : List (List ℕ)) → length (publics_of last names) ≤ length names
 unfolding publics_of

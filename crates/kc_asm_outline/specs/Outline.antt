@@ -48,7 +48,7 @@ anchor_by Absolute distance = anchor.Nothing
 
 abbrev pub anchor_in : Answer → Anchor
 anchor_in (Ok v) = anchor_by v.base v.number
-anchor_in (Err code) = anchor.Nothing
+anchor_in (Err fault) = anchor.Nothing
 
 abbrev pub plain : ArgTree → Option Tree
 plain (trees.Plain x) = Some x

@@ -6,7 +6,7 @@ ghost use Rattle.kc_asm_outline.specs.Outline as spec;
 
 use crate::note::Anchor;
 use kc_asm_emission::fixed_of;
-use kc_expr::{Base, Expr, Scope, Value, value_over};
+use kc_expr::{Base, Expr, NoValue, Scope, Value, value_over};
 use kc_source_statement::{Action, Arg};
 
 fn anchor_by(base: Base, number: u16) -> Anchor
@@ -22,7 +22,7 @@ fn anchor_by(base: Base, number: u16) -> Anchor
     }
 }
 
-fn anchor_in(answer: Result<Value, u8>) -> Anchor
+fn anchor_in(answer: Result<Value, NoValue>) -> Anchor
     ensures { result ≡ spec.anchor_in answer }
 {
     match answer {

@@ -1,8 +1,10 @@
 -- The name that a statement is refused for: the first name of its expressions that means nothing there, or the first public
 -- name that counts from an external (after the MCS-96 Macro Assembler User's Guide, "Expressions" and "PUBLIC").
-use Rattle.std.specs.Prelude.{ℕ, Bool, false, ◌==◌, if◌then◌else◌, List, [], ◌∷◌, Option, Some, None, Ok, Err}
+use Rattle.std.specs.Prelude.{ℕ, Bool, true, false, ◌==◌, if◌then◌else◌, List, [], ◌∷◌, Option, Some, None, Ok, Err}
 use Rattle.std.specs.Option.{option_or}
+use Rattle.kc_lex.specs.declared.fault.SourceCode.TheVariants.{NotDefined}
 use Rattle.kc_lex.specs.Codes.{not_defined, not_public}
+use Rattle.kc_expr.specs.declared.values.NoValue.TheVariants.{Fault}
 use Rattle.kc_expr.specs.Tree.{Tree, Number, Chars, Name, Here, One, Two}
 use Rattle.kc_expr.specs.Meaning.{Answer}
 use Rattle.kc_source_statement.specs.Trees.{ActionTree, Public}
@@ -13,8 +15,8 @@ use Rattle.kc_asm_emission.specs.Arguments.{Look}
 use Rattle.kc_asm_check.specs.Codes.{counts_from_external}
 
 abbrev pub means_nothing : Answer → Bool
-means_nothing (Ok v) = false
-means_nothing (Err code) = code == not_defined
+means_nothing (Err (Fault NotDefined)) = true
+means_nothing answer = false
 
 -- the first name of an expression, from the left, that means nothing
 unfoldable pub unknown_in : Look → Tree → Option (List ℕ)

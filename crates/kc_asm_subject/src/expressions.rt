@@ -8,18 +8,15 @@ ghost use Rattle.kc_asm_symbols.specs.Externals.{optional_tree, arg_trees, item_
 ghost use Rattle.kc_asm_subject.specs.Values as spec;
 
 use kc_base::{NoMemory, Text};
-use kc_expr::{Expr, Scope, Value};
+use kc_expr::{Expr, NoValue, Scope, Value};
 use kc_lex::SourceCode;
 use kc_source_statement::{Action, Arg, Item};
 use std::alloc::Global;
 
-fn means_nothing(answer: Result<Value, u8>) -> bool
+fn means_nothing(answer: Result<Value, NoValue>) -> bool
     ensures { result ≡ spec.means_nothing answer }
 {
-    match answer {
-        Ok(_) => false,
-        Err(code) => code == SourceCode::NotDefined.number(),
-    }
+    matches!(answer, Err(NoValue::Fault(SourceCode::NotDefined)))
 }
 
 #[tactic(auto, unfolding(crate::specs::Values::unknown_in))]

@@ -13,12 +13,12 @@ ghost use Rattle.kc_asm_subject.specs.Values as spec;
 use crate::expressions::unknown;
 use kc_asm_symbols::{Meanings, Names, Segment, externals, place_values};
 use kc_base::{NoMemory, Text};
-use kc_expr::{Base, Value};
+use kc_expr::{Base, NoValue, Value};
 use kc_lex::SourceCode;
 use kc_source_statement::{Action, Stmt};
 use std::alloc::Global;
 
-fn is_foreign(answer: Result<Value, u8>) -> bool
+fn is_foreign(answer: Result<Value, NoValue>) -> bool
     ensures { result ≡ counts_from_external answer }
 {
     match answer {

@@ -6,9 +6,11 @@ use Rattle.std.specs.Str.{bytes_eq}
 use Rattle.std.specs.Cmp.Lexicographic.{bytes_decides}
 use Rattle.std.proofs.Math.Seq.{drop-cons, drop-length}
 use Rattle.std.proofs.Math.ListN.{drop_of_length-le}
+use Rattle.kc_lex.specs.declared.fault.SourceCode.TheVariants.{NotDefined}
 use Rattle.kc_obj.specs.declared.parts.Taken.{Taken}
 use Rattle.kc_expr.specs.declared.values.Base.TheVariants.{External}
 use Rattle.kc_expr.specs.declared.values.Value.{Value}
+use Rattle.kc_expr.specs.declared.values.NoValue.TheVariants.{Fault}
 use Rattle.kc_expr.specs.Tree.{Tree}
 use Rattle.kc_expr.specs.Meaning.{Answer, answer_by, plain}
 use Rattle.kc_source_statement.specs.declared.statement.Stmt.{Stmt}
@@ -42,20 +44,20 @@ external_more ts left n t v look next follows within is value so_far grown =
 
 -- ---- labels
 
--- an answer whose fault is code 7
+-- an answer whose fault is that the name means nothing
 abbrev pub cleaned : Answer → Answer
 cleaned (Ok v) = Ok v
-cleaned (Err code) = Err 7
+cleaned (Err fault) = Err (Fault NotDefined)
 
 first_of_label : (a : Answer) (b : Bool) (v : Value) (rest : Answer) → first_of (first_of a (cond b (Ok v) a)) rest ≡ first_of a (cond b (Ok v) rest)
 first_of_label (Ok w) b v rest = refl
-first_of_label (Err code) true v rest = refl
-first_of_label (Err code) false v rest = refl
+first_of_label (Err fault) true v rest = refl
+first_of_label (Err fault) false v rest = refl
 
 clean_label : (a : Answer) (b : Bool) (v : Value) → cleaned a ≡ a → cleaned (first_of a (cond b (Ok v) a)) ≡ first_of a (cond b (Ok v) a)
 clean_label (Ok w) b v e = refl
-clean_label (Err code) true v e = refl
-clean_label (Err code) false v e = e
+clean_label (Err fault) true v e = refl
+clean_label (Err fault) false v e = e
 
 one_label : (values : ℕ → Segment → Value) (i : ℕ) (g : Segment) (s : Stmt) (ss : List Stmt) (q : List ℕ)
     → label_answer (located_from values i g (s ∷ ss)) q ≡ cond (is_label q s.label) (Ok (values i g)) (label_answer (located_from values (i + 1) (segment_after g (action_tree s.action)) ss) q)
@@ -87,19 +89,19 @@ label_more vs i v s ss look next all value grown l =
 pub clean_more : (label : Option (List ℕ)) (v : Value) (look next : List ℕ → Answer) → next ≡ with_label label v look → ((q : List ℕ) → cleaned (look q) ≡ look q) → (q : List ℕ) → cleaned (next q) ≡ next q
 clean_more label v look next grown clean q = subst (λ (f : List ℕ → Answer). cleaned (f q) ≡ f q) (sym grown) (clean_label (look q) (is_label q label) v (clean q))
 
-no_label : (values : ℕ → Segment → Value) (i : ℕ) (g : Segment) (q : List ℕ) → label_answer (located_from values i g []) q ≡ Err 7
+no_label : (values : ℕ → Segment → Value) (i : ℕ) (g : Segment) (q : List ℕ) → label_answer (located_from values i g []) q ≡ Err (Fault NotDefined)
 unfolding label_answer located_from
 no_label values i g q = refl
 
-first_or_seven : (a : Answer) → first_of a (Err 7) ≡ cleaned a
-first_or_seven (Ok v) = refl
-first_or_seven (Err code) = refl
+first_or_none : (a : Answer) → first_of a (Err (Fault NotDefined)) ≡ cleaned a
+first_or_none (Ok v) = refl
+first_or_none (Err fault) = refl
 
 pub all_labels : (vs : List Value) (i : ℕ) (ss : List Stmt) (look all : List ℕ → Answer) → length ss ≤ i → ((q : List ℕ) → cleaned (look q) ≡ look q)
     → Labelling vs i (drop i ss) look all → look ≡ all
 all_labels vs i ss look all past clean l =
     let each : (q : List ℕ) → look q ≡ all q
-    = λ q. sym (clean q) ∙ sym (first_or_seven (look q)) ∙ ap (first_of (look q)) (sym (no_label (listed vs) i l.segment q))
+    = λ q. sym (clean q) ∙ sym (first_or_none (look q)) ∙ ap (first_of (look q)) (sym (no_label (listed vs) i l.segment q))
     ∙ ap (λ rest. first_of (look q) (label_answer (located_from (listed vs) i l.segment rest) q)) (sym (drop_of_length-le ss past)) ∙ l.so_far q in
     λ j q. each q j
 

@@ -7,13 +7,14 @@ use Rattle.std.proofs.lemmas.List.{length-map}
 use Rattle.std.proofs.lemmas.Bool.Decides.{nat_tests}
 use Rattle.kc_obj.specs.declared.parts.SegKind.{SegKind}
 use Rattle.kc_expr.specs.declared.values.Value.{Value}
+use Rattle.kc_lex.proofs.FaultLemmas.{no_least}
 use Rattle.kc_source_statement.specs.declared.statement.Stmt.{Stmt}
 use Rattle.kc_source_statement.specs.Trees.{ActionTree, action_tree, Bare, Module, Cseg, Dseg, Rseg, Sseg, Public, Extrn, Equ, Set, Define, Reserve, Org, Even, End, Operation}
 use Rattle.kc_source.specs.declared.uses.Use.{Use}
 use Rattle.kc_source.specs.declared.uses.UseKind.{UseKind}
 use Rattle.kc_source.specs.declared.uses.UseKind.TheVariants.{Once, Again, Given}
 use Rattle.kc_source.specs.declared.uses.UseKind.TheVariants as uses
-use Rattle.kc_source.specs.Faults.{Fault, is_before, lesser, least, at_line, has_use, is_once, is_again, is_taken, is_defined, brings_name, name_count, is_one_too_many, use_code, name_faults, line_faults, faults_of, all_said, use_of, label_uses, action_uses, uses_of, all_uses, stmt_said}
+use Rattle.kc_source.specs.Faults.{at_line, has_use, is_once, is_again, is_taken, is_defined, brings_name, name_count, is_one_too_many, use_code, name_faults, line_faults, faults_of, all_said, use_of, label_uses, action_uses, uses_of, all_uses, stmt_said}
 use Rattle.kc_asm_symbols.specs.declared.segments.Segment.{Segment}
 use Rattle.kc_asm_symbols.specs.Located.{located_from, segment_after, first_segment}
 use Rattle.kc_asm_symbols.specs.Externals.{declared_names, declared, statement_uses_stack, is_register_kind, taken, stack_name, externals_from}
@@ -95,19 +96,6 @@ externals_length used values i g (s ∷ ss) =
     omega (arith, rest, both, here, uses, of_one, takes_label s.line s.label, takes_action s.line a)
 
 -- ---- no more names than 16,384
-
-some_or_some : (b : Bool) (f g : Fault) → cond b (Some g) (Some f) ≡ None → ⊥
-some_or_some true f g e = cc
-some_or_some false f g e = cc
-
-lesser_some : (f : Fault) (o : Option Fault) → lesser (Some f) o ≡ None → ⊥
-lesser_some f None e = cc
-lesser_some f (Some g) e = some_or_some (is_before g f) f g e
-
-no_least : (fs : List Fault) → least fs ≡ None → fs ≡ []
-unfolding least
-no_least [] e = refl
-no_least (f ∷ fs) e = absurd (lesser_some f (least fs) e)
 
 both_empty : {A : Type 0} (xs ys : List A) → xs ++ ys ≡ [] → (xs ≡ []) × (ys ≡ [])
 both_empty [] ys e = (refl, e)

@@ -49,7 +49,7 @@ module _ (known : Base → Bool) (fixed : known Fixed ≡ true) (absolute : know
 
   told_known : (a : Answer) → is_known known a ≡ true → is_known known (or_told a) ≡ true
   told_known (Ok v) h = h
-  told_known (Err code) h = refl
+  told_known (Err fault) h = refl
 
   one_external_known : (n : ℕ) (t : Taken) (ts : List Taken) (q : List ℕ) → known (External n) ≡ true → is_known known (external_in (n + 1) ts q) ≡ true → is_known known (external_in n (t ∷ ts) q) ≡ true
   unfolding external_in

@@ -9,7 +9,10 @@ use Rattle.std.specs.Str.{bytes_eq}
 use Rattle.std.specs.Global.{Vec}
 use Rattle.std.specs.Cmp.Lexicographic.{bytes_decides, nat_list_eq_equiv}
 use Rattle.kc_base.proofs.NameLemmas.{is_named, apart}
+use Rattle.kc_lex.specs.declared.fault.SourceCode.TheVariants.{NotDefined}
 use Rattle.kc_expr.specs.declared.values.Value.{Value}
+use Rattle.kc_expr.specs.declared.values.NoValue.{NoValue}
+use Rattle.kc_expr.specs.declared.values.NoValue.TheVariants.{Fault}
 use Rattle.kc_expr.specs.Meaning.{Answer}
 use Rattle.kc_asm_symbols.specs.declared.numbers.Numbers.{Numbers}
 use Rattle.kc_asm_symbols.specs.declared.table.Table.{Table}
@@ -56,9 +59,9 @@ pub numbered_set : (numbers : Numbers) (s t : Table) (n : ℕ) (name : List ℕ)
     → t.numbered.items ≡ set s.numbered.items n a → t.others.entries ≡ s.others.entries → answers numbers t ≡ updated name a (answers numbers s)
 numbered_set numbers s t n name a within is items others =
     let xs = s.numbered.items in
-    let rest : List ℕ → Answer = entry_at (Err 7) s.others.entries in
+    let rest : List ℕ → Answer = entry_at (Err (Fault NotDefined)) s.others.entries in
     let reads : (q : List ℕ) → answers numbers t q ≡ at_number (set xs n a) (number_of numbers q) (rest q)
-    = λ q. by_number t (number_of numbers q) q ∙ (λ i. at_number (items i) (number_of numbers q) (entry_at (Err 7) (others i) q)) in
+    = λ q. by_number t (number_of numbers q) q ∙ (λ i. at_number (items i) (number_of numbers q) (entry_at (Err (Fault NotDefined)) (others i) q)) in
     let same : (q : List ℕ) → q ≡ name → at_number (set xs n a) (number_of numbers q) (rest q) ≡ a
     = λ q e. ap (λ o. at_number (set xs n a) o (rest q)) (ap (number_of numbers) e ∙ sym is) ∙ unwrap_or-slice_get (set xs n a) n (rest q) ∙ get_or-set_same xs n a (rest q) within in
     let other : (q : List ℕ) → bytes_eq q name ≡ false → (o : Option ℕ) → number_of numbers q ≡ o → at_number (set xs n a) o (rest q) ≡ at_number xs o (rest q)
@@ -79,7 +82,7 @@ numbered_set numbers s t n name a within is items others =
     at_number xs None rest = rest
     at_number xs (Some m) rest = unwrap_or (slice_get xs m) rest
 
-    by_number : (t : Table) (o : Option ℕ) (q : List ℕ) → answer_at t o q ≡ at_number t.numbered.items o (entry_at (Err 7) t.others.entries q)
+    by_number : (t : Table) (o : Option ℕ) (q : List ℕ) → answer_at t o q ≡ at_number t.numbered.items o (entry_at (Err (Fault NotDefined)) t.others.entries q)
     by_number t None q = refl
     by_number t (Some m) q = refl
 
@@ -105,8 +108,8 @@ other_set numbers s t number name a is none items others =
 -- ---- labels
 
 -- a label that means nothing yet is set
-pub label_set : (name : List ℕ) (v : Value) (code : ℕ) (look next : List ℕ → Answer) → look name ≡ Err code → next ≡ updated name (Ok v) look → next ≡ with_label (Some name) v look
-label_set name v code look next none grown =
+pub label_set : (name : List ℕ) (v : Value) (fault : NoValue) (look next : List ℕ → Answer) → look name ≡ Err fault → next ≡ updated name (Ok v) look → next ≡ with_label (Some name) v look
+label_set name v fault look next none grown =
     let each : (q : List ℕ) → updated name (Ok v) look q ≡ with_label (Some name) v look q
     = λ q. elim (bytes_eq q name) as (λ b. bytes_eq q name ≡ b → cond b (Ok v) (look q) ≡ first_of (look q) (cond b (Ok v) (look q))) [
       | true ↦ λ e. sym (ap (λ a. first_of a (Ok v)) (ap look ((bytes_decides q name).0 e) ∙ none))
@@ -116,4 +119,4 @@ label_set name v code look next none grown =
   where
     idle : (a : Answer) → a ≡ first_of a a
     idle (Ok w) = refl
-    idle (Err code) = refl
+    idle (Err fault) = refl

@@ -3,13 +3,14 @@
 use Rattle.std.specs.Prelude.{ℕ, ◌+◌, Bool, true, false, not, ◌&&◌, ◌||◌, if◌then◌else◌, List, [], ◌∷◌, ◌++◌, map, codes, Option, Some, None, Ok, Err}
 use Rattle.std.specs.List.{list_any}
 use Rattle.std.specs.Str.{bytes_eq}
-use Rattle.kc_lex.specs.Codes.{not_defined}
+use Rattle.kc_lex.specs.declared.fault.SourceCode.TheVariants.{NotDefined}
 use Rattle.kc_obj.specs.declared.parts.SegKind.{SegKind}
 use Rattle.kc_obj.specs.declared.parts.SegKind.TheVariants.{Reg, Code, Ram, Stack}
 use Rattle.kc_obj.specs.declared.parts.Taken.{Taken}
 use Rattle.kc_expr.specs.declared.values.Base.TheVariants.{External}
 use Rattle.kc_expr.specs.declared.values.Tag.{Tag}
 use Rattle.kc_expr.specs.declared.values.Tag.TheVariants.{Register, Memory}
+use Rattle.kc_expr.specs.declared.values.NoValue.TheVariants.{Fault}
 use Rattle.kc_expr.specs.Tree.{Tree, Number, Chars, Name, Here, One, Two}
 use Rattle.kc_expr.specs.Meaning.{Answer}
 use Rattle.kc_source_statement.specs.Trees.{ActionTree, ArgTree, ItemTree}
@@ -100,7 +101,7 @@ tag_of_taken t = if t.register then Register else Memory
 
 -- the external with this name, where the first of the list has this number
 unfoldable pub external_in : ℕ → List Taken → List ℕ → Answer
-external_in n [] name = Err not_defined
+external_in n [] name = Err (Fault NotDefined)
 external_in n (t ∷ ts) name =
     if bytes_eq name t.name then Ok (record { base = External n; tag = tag_of_taken t; number = 0 })
     else external_in (n + 1) ts name

@@ -1,20 +1,21 @@
 -- What names mean at a statement. EQU and SET use names of earlier lines and any labels; every other statement uses all
 -- names of the module, and of a name that SET defines the latest value before it. A fault of a definition is told there
--- alone: at a use its code is above all others (after the MCS-96 Macro Assembler User's Guide, "EQU and SET").
+-- alone: at a use the name has no value, but that is no fault (after the MCS-96 Macro Assembler User's Guide, "EQU and SET").
 use Rattle.std.specs.Prelude.{ℕ, Bool, true, false, ◌||◌, if◌then◌else◌, List, [], ◌∷◌, reverse, Option, Some, None, Ok, Err}
 use Rattle.std.specs.List.{list_any}
 use Rattle.std.specs.Str.{bytes_eq}
-use Rattle.kc_lex.specs.Codes.{not_defined}
+use Rattle.kc_lex.specs.declared.fault.SourceCode.TheVariants.{NotDefined}
 use Rattle.kc_expr.specs.declared.values.Value.{Value}
+use Rattle.kc_expr.specs.declared.values.NoValue.TheVariants.{Fault, ToldElsewhere}
 use Rattle.kc_expr.specs.Tree.{Tree}
-use Rattle.kc_expr.specs.Meaning.{Answer, answer_by, here, told_elsewhere}
+use Rattle.kc_expr.specs.Meaning.{Answer, answer_by, here}
 use Rattle.kc_source_statement.specs.Trees.{ActionTree, Bare, Module, Cseg, Dseg, Rseg, Sseg, Public, Extrn, Equ, Set, Define, Reserve, Org, Even, End, Operation}
 use Rattle.kc_asm_symbols.specs.Located.{Located}
 use Rattle.kc_asm_symbols.specs.Externals.{externals, external_in, stack_name, declared_names}
 
 abbrev pub or_told : Answer → Answer
 or_told (Ok v) = Ok v
-or_told (Err code) = Err told_elsewhere
+or_told (Err fault) = Err ToldElsewhere
 
 -- ---- names that mean the same at every line: labels, and STACK
 
@@ -23,13 +24,13 @@ is_label name None = false
 is_label name (Some label) = bytes_eq name label
 
 unfoldable pub label_answer : List Located → List ℕ → Answer
-label_answer [] name = Err not_defined
+label_answer [] name = Err (Fault NotDefined)
 label_answer (l ∷ ls) name = if is_label name l.label then Ok l.here else label_answer ls name
 
 -- of two answers the first that is a value
 abbrev pub first_of : Answer → Answer → Answer
 first_of (Ok v) rest = Ok v
-first_of (Err code) rest = rest
+first_of (Err fault) rest = rest
 
 abbrev pub external_answer : List Located → List ℕ → Answer
 external_answer all = external_in 0 (externals all)

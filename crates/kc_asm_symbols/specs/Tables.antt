@@ -3,7 +3,8 @@ use Rattle.std.specs.Prelude.{ℕ, Bool, false, if◌then◌else◌, List, Optio
 use Rattle.std.specs.Map.{keys_of, lookup}
 use Rattle.std.specs.Str.{bytes_eq}
 use Rattle.std.specs.Global.{Vec}
-use Rattle.kc_lex.specs.Codes.{not_defined}
+use Rattle.kc_lex.specs.declared.fault.SourceCode.TheVariants.{NotDefined}
+use Rattle.kc_expr.specs.declared.values.NoValue.TheVariants.{Fault}
 use Rattle.kc_expr.specs.Meaning.{Answer}
 use Rattle.kc_asm_symbols.specs.declared.numbers.Numbers.{Numbers}
 use Rattle.kc_asm_symbols.specs.declared.table.Table.{Table}
@@ -35,7 +36,7 @@ cell t (Some number) = slice_get t.numbered.items number
 
 -- what a table has of names by themselves
 abbrev pub other_answers : Table → List ℕ → Answer
-other_answers t name = entry_at (Err not_defined) t.others.entries name
+other_answers t name = entry_at (Err (Fault NotDefined)) t.others.entries name
 
 -- what a table has of a name with this number; a name that is not in it means nothing
 abbrev pub answer_at : Table → Option ℕ → List ℕ → Answer
@@ -48,7 +49,7 @@ abbrev pub is_marked : Marks → List ℕ → Bool
 is_marked m name = entry_at false m.map.entries name
 
 abbrev pub nothing : List ℕ → Answer
-nothing name = Err not_defined
+nothing name = Err (Fault NotDefined)
 
 abbrev pub no_name : List ℕ → Bool
 no_name name = false

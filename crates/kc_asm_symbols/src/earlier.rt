@@ -13,7 +13,7 @@ use crate::names::Names;
 use crate::segments::Segment;
 use crate::table::Table;
 use kc_base::{NoMemory, Text};
-use kc_expr::{Expr, Scope, TOLD_ELSEWHERE, Value, value_over};
+use kc_expr::{Expr, NoValue, Scope, Value, value_over};
 use kc_source_statement::{Action, Stmt};
 use std::alloc::Global;
 
@@ -37,7 +37,7 @@ pub(crate) struct Earlier {
 impl Scope for Earlier {
     ghost answers = { at_definition };
 
-    fn look(&self, name: &[u8]) -> Result<Value, u8> {
+    fn look(&self, name: &[u8]) -> Result<Value, NoValue> {
         if is_here(name) {
             Ok(self.here)
         } else {
@@ -86,12 +86,12 @@ fn label_table(
     Ok(table)
 }
 
-fn told(answer: Result<Value, u8>) -> Result<Value, u8>
+fn told(answer: Result<Value, NoValue>) -> Result<Value, NoValue>
     ensures { result ≡ or_told answer }
 {
     match answer {
         Ok(value) => Ok(value),
-        Err(_) => Err(TOLD_ELSEWHERE),
+        Err(_) => Err(NoValue::ToldElsewhere),
     }
 }
 

@@ -2,13 +2,13 @@ ghost use Rattle.kc_asm_symbols.specs.Alike.{MeaningsAreAlike, MeaningsDoNotDepe
 ghost use Rattle.kc_asm_symbols.specs.Few.{ExternalsAreFew};
 ghost use Rattle.kc_asm_symbols.specs.Known.{BasesAreKnown};
 
-/// Where the values of all places are alike, names answer alike: the same code, or values of one base and one tag, and of
+/// Where the values of all places are alike, names answer alike: the same fault, or values of one base and one tag, and of
 /// one number where it is fixed.
 pub fn meanings_are_alike()
     ensures { MeaningsAreAlike }
 {}
 
-/// Wherever the statements stand, an expression of one has the same code, or values of one base and one tag, and of one
+/// Wherever the statements stand, an expression of one has the same fault, or values of one base and one tag, and of one
 /// number where it is fixed: so the sizes of statements do not depend on the places of labels.
 pub fn meanings_do_not_depend_on_places()
     ensures { MeaningsDoNotDependOnPlaces }

@@ -13,7 +13,7 @@ use crate::names::Names;
 use crate::numbers::Found;
 use crate::table::Table;
 use kc_base::NoMemory;
-use kc_expr::{Expr, Scope, Value, value_over};
+use kc_expr::{Expr, NoValue, Scope, Value, value_over};
 use kc_source_statement::{Action, Stmt};
 use std::alloc::Global;
 
@@ -48,10 +48,10 @@ fn through(
 }
 
 /// What names mean at each statement of a module, in a walk over the statements, which enters each and leaves it. In the
-/// statement where it is, a name answers its value or a code: 7 where it means nothing there, and 255, above all other
-/// codes, where its own definition has a fault, which is told at that line alone. EQU and SET use names of earlier lines
-/// and any labels, other statements all names of the module, and of a name that SET defines the latest value before
-/// them. (MCS-96 Macro Assembler User's Guide, "EQU and SET".)
+/// statement where it is, a name answers its value, or why it has none: it is not defined where it means nothing there, and
+/// the fault is told elsewhere where its own definition has one. EQU and SET use names of earlier lines and any labels, other
+/// statements all names of the module, and of a name that SET defines the latest value before them. (MCS-96 Macro Assembler
+/// User's Guide, "EQU and SET".)
 #[derive(Drop)]
 pub struct Meanings {
     earlier: Earlier,
@@ -62,7 +62,7 @@ pub struct Meanings {
 impl Scope for Meanings {
     ghost answers = { at_statement };
 
-    fn look(&self, name: &[u8]) -> Result<Value, u8> {
+    fn look(&self, name: &[u8]) -> Result<Value, NoValue> {
         if is_here(name) {
             return Ok(self.earlier.here);
         }
@@ -114,16 +114,16 @@ impl Meanings {
         Ok(())
     }
 
-    /// The value of an expression of the statement, or the least code of its faults.
-    pub fn value(&self, expr: &Expr) -> Result<Value, u8>
+    /// The value of an expression of the statement, or the one of its faults that has the least code.
+    pub fn value(&self, expr: &Expr) -> Result<Value, NoValue>
         ensures { (all before : List Located) (l : Located) → IsAt self.now all before l → result ≡ answer_by (spec.meaning all before l) (tree_of expr.now) }
     {
         value_over(expr, self)
     }
 
-    /// What a name means by all statements, as a public name does: 7 where it means nothing, 255 where its definition
-    /// has a fault.
-    pub fn last(&self, name: &[u8]) -> Result<Value, u8>
+    /// What a name means by all statements, as a public name does: its value, or that it is not defined, or that its
+    /// definition has a fault, which is told there.
+    pub fn last(&self, name: &[u8]) -> Result<Value, NoValue>
         ensures { (all before : List Located) → IsBehind self.now all before → result ≡ spec.in_all all name.now }
     {
         self.last

@@ -4,16 +4,16 @@ ghost use Rattle.kc_asm_symbols.specs.Tables.{answer_at, answers, cell, is_marke
 
 use indexmap::IndexMap;
 use kc_base::NoMemory;
-use kc_expr::Value;
+use kc_expr::{NoValue, Value};
 use kc_lex::SourceCode;
 use std::alloc::Global;
 
-/// Names with what they mean: a value, or the code of a fault. Those that have numbers stand by them, others by
-/// themselves. A name that is not here means nothing, which is code 7.
+/// Names with what they mean: a value, or why they have none. Those that have numbers stand by them, others by themselves.
+/// A name that is not here means nothing.
 #[derive(Drop)]
 pub(crate) struct Table {
-    numbered: Vec<Result<Value, u8>>,
-    others: IndexMap<Vec<u8>, Result<Value, u8>>,
+    numbered: Vec<Result<Value, NoValue>>,
+    others: IndexMap<Vec<u8>, Result<Value, NoValue>>,
 }
 
 impl Table {
@@ -22,14 +22,14 @@ impl Table {
         ensures nothing { IfOk result (λ t. (numbers : NumbersOf) → answers numbers t ≡ nothing) }
         ensures count { IfOk result (λ t. length t.numbered.items ≡ count) }
     {
-        let numbered = vec![in alloc; Err(SourceCode::NotDefined.number()); count]?;
+        let numbered = vec![in alloc; Err(NoValue::Fault(SourceCode::NotDefined)); count]?;
         Ok(Table {
             numbered,
             others: IndexMap::new(alloc),
         })
     }
 
-    fn cell(&self, number: Option<usize>) -> Option<Result<Value, u8>>
+    fn cell(&self, number: Option<usize>) -> Option<Result<Value, NoValue>>
         ensures { result ≡ cell self.now number }
     {
         match number {
@@ -39,13 +39,13 @@ impl Table {
     }
 
     /// What a name with this number means.
-    pub(crate) fn look(&self, number: Option<usize>, name: &[u8]) -> Result<Value, u8>
+    pub(crate) fn look(&self, number: Option<usize>, name: &[u8]) -> Result<Value, NoValue>
         ensures { result ≡ answer_at self.now number name.now }
     {
         match self.cell(number) {
             Some(answer) => answer,
             None => match self.others.get(name) {
-                None => Err(SourceCode::NotDefined.number()),
+                None => Err(NoValue::Fault(SourceCode::NotDefined)),
                 Some(answer) => *answer,
             },
         }
@@ -57,7 +57,7 @@ impl Table {
         alloc: Global,
         number: Option<usize>,
         name: &[u8],
-        answer: Result<Value, u8>,
+        answer: Result<Value, NoValue>,
     ) -> Result<(), NoMemory>
         ensures { OnOk result ((numbers : NumbersOf) → number ≡ number_of numbers name.now → answers numbers self.new ≡ updated name.now answer (answers numbers self.old)) }
     {
@@ -78,7 +78,7 @@ impl Table {
         &mut self,
         alloc: Global,
         name: &[u8],
-        answer: Result<Value, u8>,
+        answer: Result<Value, NoValue>,
     ) -> Result<(), NoMemory>
         ensures others { OnOk result (other_answers self.new ≡ updated name.now answer (other_answers self.old)) }
         ensures numbered { OnOk result (self.new.numbered ≡ self.old.numbered) }

@@ -1,8 +1,8 @@
 ghost use Rattle.std.specs.Prelude.{◌≤◌, length};
 
 use super::*;
-use kc_expr::{Base, Expr, Scope, Tag};
-use kc_lex::lines;
+use kc_expr::{Base, Expr, NoValue, Scope, Tag};
+use kc_lex::{SourceCode, lines};
 use kc_source::statements;
 use std::test::*;
 
@@ -33,22 +33,22 @@ static PLACES: [u32; 19] = [
 ];
 
 /// What a name means at the statement with this number.
-type Meant = (usize, &'static str, Result<(Base, Tag, u16), u8>);
+type Meant = (usize, &'static str, Result<(Base, Tag, u16), NoValue>);
 
 static MEANT: [Meant; 26] = [
-    (0, "V", Err(7)),
+    (0, "V", Err(NoValue::Fault(SourceCode::NotDefined))),
     (2, "$", Ok((Base::Absolute, Tag::Memory, 8320))),
     (2, "LATER", Ok((Base::Piece(1), Tag::Memory, 2))),
-    (3, "B", Err(7)),
+    (3, "B", Err(NoValue::Fault(SourceCode::NotDefined))),
     (3, "LATER", Ok((Base::Piece(1), Tag::Memory, 2))),
     (3, "START", Ok((Base::Absolute, Tag::Memory, 8320))),
     (3, "STACK", Ok((Base::External(1), Tag::Memory, 0))),
-    (4, "A", Err(255)),
-    (4, "B", Err(7)),
+    (4, "A", Err(NoValue::ToldElsewhere)),
+    (4, "B", Err(NoValue::Fault(SourceCode::NotDefined))),
     (5, "B", Ok((Base::Fixed, Tag::Memory, 5))),
-    (5, "X", Err(7)),
-    (6, "C", Err(255)),
-    (7, "A", Err(255)),
+    (5, "X", Err(NoValue::Fault(SourceCode::NotDefined))),
+    (6, "C", Err(NoValue::ToldElsewhere)),
+    (7, "A", Err(NoValue::ToldElsewhere)),
     (7, "V", Ok((Base::Fixed, Tag::Memory, 1))),
     (7, "W", Ok((Base::Piece(0), Tag::Register, 1))),
     (7, "X", Ok((Base::External(0), Tag::Register, 0))),
@@ -60,8 +60,8 @@ static MEANT: [Meant; 26] = [
     (15, "Y", Ok((Base::External(2), Tag::Memory, 0))),
     (17, "W", Ok((Base::Piece(0), Tag::Register, 1))),
     (17, "X", Ok((Base::External(0), Tag::Register, 0))),
-    (18, "D", Err(255)),
-    (18, "NO", Err(7)),
+    (18, "D", Err(NoValue::ToldElsewhere)),
+    (18, "NO", Err(NoValue::Fault(SourceCode::NotDefined))),
 ];
 
 // In the statement with this number.
@@ -120,5 +120,5 @@ fn values_and_publics(rt: HostRuntime) {
     assert!(rt; here.base == Base::Absolute && here.number == 8320);
     let last = meanings.last(b"V").expect(&rt, "it has a value");
     assert!(rt; last.base == Base::Fixed && last.number == 2);
-    assert!(rt; meanings.last(b"A") == Err(255));
+    assert!(rt; meanings.last(b"A") == Err(NoValue::ToldElsewhere));
 }

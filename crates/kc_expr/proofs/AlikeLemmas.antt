@@ -1,21 +1,23 @@
 -- Expressions over answers that are alike.
 use Rattle.std.proofs.Common.{◌≡◌, ℕ, ◌+◌, ◌-◌, ◌%◌, Bool, true, false, cond, ◌&&◌, List, refl, sym, ap, subst, ◌∙◌}
-use Rattle.std.specs.Prelude.{◌==◌, min, Ok, Err}
+use Rattle.std.specs.Prelude.{◌==◌, Ok, Err}
+use Rattle.kc_lex.specs.declared.fault.SourceCode.TheVariants as code
 use Rattle.kc_expr.specs.declared.values.Base.{Base}
 use Rattle.kc_expr.specs.declared.values.Base.TheVariants.{Absolute}
 use Rattle.kc_expr.specs.declared.values.Tag.{Tag}
 use Rattle.kc_expr.specs.declared.values.Tag.TheVariants.{Memory}
 use Rattle.kc_expr.specs.declared.values.Value.{Value}
+use Rattle.kc_expr.specs.declared.values.NoValue.TheVariants.{Fault}
 use Rattle.kc_expr.specs.declared.expr.Unary.{Unary}
 use Rattle.kc_expr.specs.declared.expr.Binary.{Binary}
 use Rattle.kc_expr.specs.declared.expr.Binary.TheVariants.{Times, Over, Mod, Shl, Shr, Plus, Minus, Eq, Ne, Lt, Le, Gt, Ge, And, Or, Xor}
 use Rattle.kc_expr.specs.Tree.{Tree, Number, Chars, Name, Here, One, Two}
-use Rattle.kc_expr.specs.Meaning.{Answer, plain, is_fixed, same_base, unary_number, binary_number, divided, moved, moved_to, distance, on_one, on_two, unary_answer, parts_answer, is_division, divides_by_zero, by_zero, binary_answer, here, answer_by}
+use Rattle.kc_expr.specs.Meaning.{Answer, plain, is_fixed, same_base, unary_number, binary_number, divided, moved, moved_to, distance, on_one, on_two, unary_answer, parts_answer, is_division, divides_by_zero, lesser, by_zero, binary_answer, here, answer_by}
 use Rattle.kc_expr.specs.Alike.{AreAlikeValues, AreAlike}
 
 pub alike_same : (a : Answer) → AreAlike a a
 alike_same (Ok v) = record { base = refl; tag = refl; number = λ _. refl }
-alike_same (Err code) = refl
+alike_same (Err fault) = refl
 
 pub alike : (a b : Answer) → a ≡ b → AreAlike a b
 alike a b e = subst (λ (x : Answer). AreAlike a x) e (alike_same a)
@@ -37,7 +39,7 @@ other v w same = λ i. record { base = same.base i; tag = same.tag i; number = w
 
 -- ---- one operand
 
-one_by : (x : Bool) (op : Unary) (m n : ℕ) → (x ≡ true → m ≡ n) → AreAlike (cond x (Ok (plain (unary_number op m))) (Err 13)) (cond x (Ok (plain (unary_number op n))) (Err 13))
+one_by : (x : Bool) (op : Unary) (m n : ℕ) → (x ≡ true → m ≡ n) → AreAlike (cond x (Ok (plain (unary_number op m))) (Err (Fault code.NotRelocatable))) (cond x (Ok (plain (unary_number op n))) (Err (Fault code.NotRelocatable)))
 one_by true op m n same = alike (Ok (plain (unary_number op m))) (Ok (plain (unary_number op n))) (ap (λ k. Ok (plain (unary_number op k))) (same refl))
 one_by false op m n same = refl
 
@@ -89,7 +91,7 @@ moved_alike And b t n k m place = refl
 moved_alike Or b t n k m place = refl
 moved_alike Xor b t n k m place = refl
 
-apart_by : (x : Bool) (m n : ℕ) (t : Tag) → AreAlike (cond x (Ok (at Absolute t m)) (Err 13)) (cond x (Ok (at Absolute t n)) (Err 13))
+apart_by : (x : Bool) (m n : ℕ) (t : Tag) → AreAlike (cond x (Ok (at Absolute t m)) (Err (Fault code.NotRelocatable))) (cond x (Ok (at Absolute t n)) (Err (Fault code.NotRelocatable)))
 apart_by true m n t = places_alike Absolute t m n refl
 apart_by false m n t = refl
 
@@ -136,13 +138,13 @@ parts_alike op (Err e) (Ok c) b d first second = absurd first
 parts_alike op (Err e) (Err g) (Ok b) (Ok d) first second = first
 parts_alike op (Err e) (Err g) (Ok b) (Err f) first second = absurd second
 parts_alike op (Err e) (Err g) (Err f) (Ok d) first second = absurd second
-parts_alike op (Err e) (Err g) (Err f) (Err h) first second = λ i. min (first i) (second i)
+parts_alike op (Err e) (Err g) (Err f) (Err h) first second = λ i. lesser (first i) (second i)
 
 zero_alike : (a b : Answer) → AreAlike a b → AreAlike (by_zero a) (by_zero b)
 zero_alike (Ok v) (Ok w) same = refl
 zero_alike (Ok v) (Err d) same = absurd same
 zero_alike (Err c) (Ok w) same = absurd same
-zero_alike (Err c) (Err d) same = ap (λ e. min e 11) same
+zero_alike (Err c) (Err d) same = ap (λ e. lesser e (Fault code.DivisionByZero)) same
 
 zero_by : (x y : Bool) (m n : ℕ) → (y ≡ true → m ≡ n) → (x && y && (m == 0)) ≡ (x && y && (n == 0))
 zero_by true true m n same = ap (λ k. k == 0) (same refl)

@@ -1,10 +1,12 @@
 -- The values of expressions count from nothing that their names do not count from.
 use Rattle.std.proofs.Common.{◌≡◌, ℕ, ◌+◌, ◌-◌, ◌%◌, Bool, true, false, cond, List, [], ◌∷◌, refl}
 use Rattle.std.specs.Prelude.{nat_lt, Option, Some, None, Ok, Err}
+use Rattle.kc_lex.specs.declared.fault.SourceCode.TheVariants as code
 use Rattle.kc_expr.specs.declared.values.Base.{Base}
 use Rattle.kc_expr.specs.declared.values.Base.TheVariants as bases
 use Rattle.kc_expr.specs.declared.values.Tag.TheVariants.{Memory}
 use Rattle.kc_expr.specs.declared.values.Value.{Value}
+use Rattle.kc_expr.specs.declared.values.NoValue.TheVariants.{Fault}
 use Rattle.kc_expr.specs.declared.expr.Unary.{Unary}
 use Rattle.kc_expr.specs.declared.expr.Binary.{Binary}
 use Rattle.kc_expr.specs.declared.expr.Binary.TheVariants.{Plus, Minus}
@@ -18,7 +20,7 @@ module _ (known : Base → Bool) (fixed : known bases.Fixed ≡ true) (absolute 
   either false a b h k = k
 
   number_known : (n : ℕ) → is_known known (number_answer n) ≡ true
-  number_known n = either (nat_lt n 65536) (Ok (plain n)) (Err 9) fixed refl
+  number_known n = either (nat_lt n 65536) (Ok (plain n)) (Err (Fault code.BadNumber)) fixed refl
 
   chars_known : (cs : List ℕ) → is_known known (chars_answer cs) ≡ true
   chars_known [] = refl
@@ -28,11 +30,11 @@ module _ (known : Base → Bool) (fixed : known bases.Fixed ≡ true) (absolute 
 
   one_known : (op : Unary) (v : Value) → is_known known (on_one op v) ≡ true
   unfolding on_one
-  one_known op v = either (is_fixed v.base) (Ok (plain (unary_number op v.number))) (Err 13) fixed refl
+  one_known op v = either (is_fixed v.base) (Ok (plain (unary_number op v.number))) (Err (Fault code.NotRelocatable)) fixed refl
 
   unary_known : (op : Unary) (a : Answer) → is_known known (unary_answer op a) ≡ true
   unary_known op (Ok v) = one_known op v
-  unary_known op (Err code) = refl
+  unary_known op (Err fault) = refl
 
   divided_known : (n : Option ℕ) → is_known known (divided n) ≡ true
   divided_known None = refl
@@ -48,7 +50,7 @@ module _ (known : Base → Bool) (fixed : known bases.Fixed ≡ true) (absolute 
   moved_to_known op v n h = refl
 
   distance_known : (op : Binary) (a b : Value) → is_known known (distance op a b) ≡ true
-  distance_known Minus a b = either (same_base a.base b.base) (Ok (record { base = bases.Absolute; tag = Memory; number = (a.number + 65536 - b.number) % 65536 })) (Err 13) absolute refl
+  distance_known Minus a b = either (same_base a.base b.base) (Ok (record { base = bases.Absolute; tag = Memory; number = (a.number + 65536 - b.number) % 65536 })) (Err (Fault code.NotRelocatable)) absolute refl
   distance_known op a b = refl
 
   two_known : (op : Binary) (a b : Value) → known a.base ≡ true → known b.base ≡ true → is_known known (on_two op a b) ≡ true

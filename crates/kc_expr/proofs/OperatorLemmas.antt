@@ -14,7 +14,7 @@ use Rattle.kc_expr.specs.declared.expr.Unary.TheVariants as unary
 use Rattle.kc_expr.specs.declared.expr.Binary.{Binary}
 use Rattle.kc_expr.specs.declared.expr.Binary.TheVariants as binary
 use Rattle.kc_expr.specs.Tree.{Tree}
-use Rattle.kc_expr.specs.Grammar.{unary_at, multiplying, adding, comparing, either, binary_at, alone}
+use Rattle.kc_expr.specs.Grammar.{unary_at, multiplying, adding, comparing, meeting, either, binary_at, alone}
 
 -- ---- a token that is a certain sign or word
 
@@ -90,7 +90,7 @@ chooses P a b t op =
     chain (P t) (is_word (codes "OR") t) binary.Or _ op (λ y. by_word P (codes "OR") t y (a t.value)) (
     chain (P t) (is_word (codes "XOR") t) binary.Xor _ op (λ y. by_word P (codes "XOR") t y (b t.value)) (no_op (P t) op None refl))
 
-meets : (P : Token → Type 0) → ((v : ℕ) → P (word (codes "AND") v)) → (t : Token) (op : Binary) → cond (is_word (codes "AND") t) (Some binary.And) None ≡ Some op → P t
+meets : (P : Token → Type 0) → ((v : ℕ) → P (word (codes "AND") v)) → (t : Token) (op : Binary) → meeting t ≡ Some op → P t
 meets P a t op = chain (P t) (is_word (codes "AND") t) binary.And _ op (λ y. by_word P (codes "AND") t y (a t.value)) (no_op (P t) op None refl)
 
 -- ---- a binary operator is none of a tighter level, and no colon
@@ -121,7 +121,7 @@ tight4 : (t : Token) (op : Binary) → comparing t ≡ Some op → is_tight 4 t 
 unfolding no_binary_below binary_at
 tight4 = compares (λ t. is_tight 4 t ≡ true) (λ v. refl) (λ v. refl) (λ v. refl) (λ v. refl) (λ v. refl) (λ v. refl)
 
-tight6 : (t : Token) (op : Binary) → cond (is_word (codes "AND") t) (Some binary.And) None ≡ Some op → is_tight 6 t ≡ true
+tight6 : (t : Token) (op : Binary) → meeting t ≡ Some op → is_tight 6 t ≡ true
 unfolding no_binary_below binary_at
 tight6 = meets (λ t. is_tight 6 t ≡ true) (λ v. refl)
 
@@ -135,7 +135,7 @@ operator_tight l t op =
     level_chain (is_tight l t ≡ true) (eqb l 2) (multiplying t) _ op (λ y h. at_level l 2 t y (tight2 t op h)) (
     level_chain (is_tight l t ≡ true) (eqb l 3) (adding t) _ op (λ y h. at_level l 3 t y (tight3 t op h)) (
     level_chain (is_tight l t ≡ true) (eqb l 4) (comparing t) _ op (λ y h. at_level l 4 t y (tight4 t op h)) (
-    level_chain (is_tight l t ≡ true) (eqb l 6) (cond (is_word (codes "AND") t) (Some binary.And) None) _ op (λ y h. at_level l 6 t y (tight6 t op h)) (
+    level_chain (is_tight l t ≡ true) (eqb l 6) (meeting t) _ op (λ y h. at_level l 6 t y (tight6 t op h)) (
     level_chain (is_tight l t ≡ true) (eqb l 7) (either t) _ op (λ y h. at_level l 7 t y (tight7 t op h)) (no_op (is_tight l t ≡ true) op None refl)))))
 
 none_is : (o : Option Binary) → is_none o ≡ true → o ≡ None
@@ -166,7 +166,7 @@ binary_breaks l t op h =
     let parts = both (no_binary_below l t) (not (is_sign 58 t)) (operator_tight l t op h) in
     record { no_colon = not_true (is_sign 58 t) parts.1; loose = below l t parts.0 }
 
-all_none : (a b c d e : Bool) (n : Option Binary) → cond a n (cond b n (cond c n (cond d n (cond e n n)))) ≡ n
+pub all_none : (a b c d e : Bool) (n : Option Binary) → cond a n (cond b n (cond c n (cond d n (cond e n n)))) ≡ n
 all_none true b c d e n = refl
 all_none false true c d e n = refl
 all_none false false true d e n = refl

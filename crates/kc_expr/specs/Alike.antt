@@ -1,4 +1,4 @@
--- Answers that are alike: the same code, or values of one base and one tag, and of one number where it is fixed. What
+-- Answers that are alike: the same fault, or values of one base and one tag, and of one number where it is fixed. What
 -- moves with its piece has such answers wherever it stands (after the MCS-96 Macro Assembler User's Guide, "Relocatable
 -- Expressions").
 use Rattle.std.specs.Prelude.{◌≡◌, ℕ, true, List, Ok, Err}
@@ -13,9 +13,9 @@ pub record AreAlikeValues (v w : Value) : Type 0 where
 
 abbrev pub AreAlike : Answer → Answer → Type 0
 AreAlike (Ok v) (Ok w) = AreAlikeValues v w
-AreAlike (Ok v) (Err code) = ⊥
-AreAlike (Err code) (Ok w) = ⊥
-AreAlike (Err code) (Err other) = code ≡ other
+AreAlike (Ok v) (Err fault) = ⊥
+AreAlike (Err fault) (Ok w) = ⊥
+AreAlike (Err fault) (Err other) = fault ≡ other
 
 abbrev pub AllAlike : (List ℕ → Answer) → (List ℕ → Answer) → Type 0
 AllAlike look other = (name : List ℕ) → AreAlike (look name) (other name)

@@ -53,12 +53,15 @@ comparing t =
 abbrev pub either : Token → Option Binary
 either t = if is_word (codes "OR") t then Some binary.Or else (if is_word (codes "XOR") t then Some binary.Xor else None)
 
+abbrev pub meeting : Token → Option Binary
+meeting t = if is_word (codes "AND") t then Some binary.And else None
+
 unfoldable pub binary_at : ℕ → Token → Option Binary
 binary_at level t =
     if level == 2 then multiplying t
     else (if level == 3 then adding t
     else (if level == 4 then comparing t
-    else (if level == 6 then (if is_word (codes "AND") t then Some binary.And else None)
+    else (if level == 6 then meeting t
     else (if level == 7 then either t
     else None))))
 

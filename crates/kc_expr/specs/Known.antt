@@ -9,7 +9,7 @@ use Rattle.kc_expr.specs.Meaning.{Answer, answer_by}
 -- an answer counts from a base that is known
 abbrev pub is_known : (Base → Bool) → Answer → Bool
 is_known known (Ok v) = known v.base
-is_known known (Err code) = true
+is_known known (Err fault) = true
 
 -- where all names count from known bases, so do all expressions
 abbrev pub ExpressionsAreKnown : Type 0

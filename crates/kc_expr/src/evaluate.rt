@@ -5,7 +5,7 @@ ghost use Rattle.kc_expr.specs.Meaning.{Answer, answer, answer_by, name_answer, 
 
 use crate::expr::{Binary, Expr, Unary};
 use crate::symbols::Symbols;
-use crate::values::{Base, Tag, Value};
+use crate::values::{Base, NoValue, Tag, Value};
 use kc_lex::{SourceCode, SourceFault};
 
 /// The value of an expression over the symbols, modulo 65536, or the least code of its faults, at the line: 7 where a
@@ -15,29 +15,34 @@ pub fn value(expr: &Expr, symbols: &Symbols, line: u32) -> Result<Value, SourceF
 {
     match value_over(expr, symbols) {
         Ok(value) => Ok(value),
-        Err(code) => Err(SourceFault::At { line, code }),
+        Err(NoValue::Fault(code)) => Err(SourceFault::At {
+            line,
+            code: code.number(),
+        }),
+        Err(NoValue::ToldElsewhere) => unreachable!(),
     }
 }
 
-/// What names mean where an expression stands: each answers a value, or the code of a fault.
+/// What names mean where an expression stands: each answers a value, or why it has none.
 pub trait Scope {
     ghost answers: { Self → List ℕ → Answer };
 
-    fn look(&self, name: &[u8]) -> Result<Value, u8>
+    fn look(&self, name: &[u8]) -> Result<Value, NoValue>
         ensures { result ≡ answers self.now name.now };
 }
 
 impl Scope for Symbols {
     ghost answers = { name_answer };
 
-    fn look(&self, name: &[u8]) -> Result<Value, u8> {
+    fn look(&self, name: &[u8]) -> Result<Value, NoValue> {
         known(Symbols::look(self, name))
     }
 }
 
-/// The value of an expression over what its names answer, or the least code of its faults.
+/// The value of an expression over what its names answer, or the one of its faults that has the least code; a fault that is
+/// told elsewhere only where it has no other.
 #[tactic(auto, unfolding(crate::specs::Meaning::answer_by))]
-pub fn value_over<S: Scope>(expr: &Expr, names: &S) -> Result<Value, u8>
+pub fn value_over<S: Scope>(expr: &Expr, names: &S) -> Result<Value, NoValue>
     ensures { result ≡ answer_by (S.answers names.now) (tree_of expr.now) }
 {
     match expr {
@@ -67,40 +72,40 @@ fn fixed(number: u16) -> Value
     }
 }
 
-fn number(n: u32) -> Result<Value, u8>
+fn number(n: u32) -> Result<Value, NoValue>
     ensures { result ≡ number_answer n }
 {
     if n < 65536 {
         Ok(fixed(n as u16))
     } else {
-        Err(SourceCode::BadNumber.number())
+        Err(NoValue::Fault(SourceCode::BadNumber))
     }
 }
 
-fn chars(text: &[u8]) -> Result<Value, u8>
+fn chars(text: &[u8]) -> Result<Value, NoValue>
     ensures { result ≡ chars_answer text.now }
 {
     match text {
         [low] => Ok(fixed(u16::from(*low))),
         [high, low] => Ok(fixed(256 * u16::from(*high) + u16::from(*low))),
-        _ => Err(SourceCode::BadNumber.number()),
+        _ => Err(NoValue::Fault(SourceCode::BadNumber)),
     }
 }
 
-fn known(value: Option<Value>) -> Result<Value, u8>
+fn known(value: Option<Value>) -> Result<Value, NoValue>
     ensures { result ≡ found value }
 {
-    value.ok_or(7)
+    value.ok_or(NoValue::Fault(SourceCode::NotDefined))
 }
 
 #[tactic(auto, unfolding(crate::specs::Meaning::on_one))]
-fn one(op: Unary, value: Value) -> Result<Value, u8>
+fn one(op: Unary, value: Value) -> Result<Value, NoValue>
     ensures { result ≡ on_one op value }
 {
     if value.base == Base::Fixed {
         Ok(fixed(under_one(op, value.number)))
     } else {
-        Err(SourceCode::NotRelocatable.number())
+        Err(NoValue::Fault(SourceCode::NotRelocatable))
     }
 }
 
@@ -118,7 +123,11 @@ fn under_one(op: Unary, n: u16) -> u16
 }
 
 #[tactic(auto, unfolding(crate::specs::Meaning::binary_answer))]
-fn both(op: Binary, left: Result<Value, u8>, right: Result<Value, u8>) -> Result<Value, u8>
+fn both(
+    op: Binary,
+    left: Result<Value, NoValue>,
+    right: Result<Value, NoValue>,
+) -> Result<Value, NoValue>
     ensures { result ≡ binary_answer op left right }
 {
     if divides_by_zero(op, right) {
@@ -137,7 +146,7 @@ fn is_division(op: Binary) -> bool
     }
 }
 
-fn divides_by_zero(op: Binary, right: Result<Value, u8>) -> bool
+fn divides_by_zero(op: Binary, right: Result<Value, NoValue>) -> bool
     ensures { result ≡ meaning.divides_by_zero op right }
 {
     match right {
@@ -146,39 +155,65 @@ fn divides_by_zero(op: Binary, right: Result<Value, u8>) -> bool
     }
 }
 
-fn by_zero(left: Result<Value, u8>) -> Result<Value, u8>
-    ensures { result ≡ meaning.by_zero left }
+#[tactic(auto, unfolding(crate::specs::Meaning::lesser_code))]
+fn lesser_code(first: SourceCode, second: SourceCode) -> SourceCode
+    ensures { result ≡ meaning.lesser_code first second }
 {
-    match left {
-        Ok(_) => Err(SourceCode::DivisionByZero.number()),
-        Err(code) => Err(code.min(SourceCode::DivisionByZero.number())),
+    if second.number() < first.number() {
+        second
+    } else {
+        first
     }
 }
 
-fn parts(op: Binary, left: Result<Value, u8>, right: Result<Value, u8>) -> Result<Value, u8>
+// Of two faults the one of the lesser code.
+fn lesser(first: NoValue, second: NoValue) -> NoValue
+    ensures { result ≡ meaning.lesser first second }
+{
+    match (first, second) {
+        (NoValue::Fault(a), NoValue::Fault(b)) => NoValue::Fault(lesser_code(a, b)),
+        (NoValue::Fault(_), NoValue::ToldElsewhere) => first,
+        (NoValue::ToldElsewhere, other) => other,
+    }
+}
+
+fn by_zero(left: Result<Value, NoValue>) -> Result<Value, NoValue>
+    ensures { result ≡ meaning.by_zero left }
+{
+    match left {
+        Ok(_) => Err(NoValue::Fault(SourceCode::DivisionByZero)),
+        Err(fault) => Err(lesser(fault, NoValue::Fault(SourceCode::DivisionByZero))),
+    }
+}
+
+fn parts(
+    op: Binary,
+    left: Result<Value, NoValue>,
+    right: Result<Value, NoValue>,
+) -> Result<Value, NoValue>
     ensures { result ≡ meaning.parts_answer op left right }
 {
     match left {
         Ok(a) => match right {
             Ok(b) => two(op, a, b),
-            Err(code) => Err(code),
+            Err(fault) => Err(fault),
         },
-        Err(code) => match right {
-            Ok(_) => Err(code),
-            Err(other) => Err(code.min(other)),
+        Err(fault) => match right {
+            Ok(_) => Err(fault),
+            Err(other) => Err(lesser(fault, other)),
         },
     }
 }
 
 #[tactic(auto, unfolding(crate::specs::Meaning::on_two))]
-fn two(op: Binary, a: Value, b: Value) -> Result<Value, u8>
+fn two(op: Binary, a: Value, b: Value) -> Result<Value, NoValue>
     ensures { result ≡ on_two op a b }
 {
     if a.base == Base::Fixed {
         if b.base == Base::Fixed {
             match under_two(op, a.number, b.number) {
                 Some(number) => Ok(fixed(number)),
-                None => Err(SourceCode::DivisionByZero.number()),
+                None => Err(NoValue::Fault(SourceCode::DivisionByZero)),
             }
         } else {
             place_after(op, b, a.number)
@@ -190,7 +225,7 @@ fn two(op: Binary, a: Value, b: Value) -> Result<Value, u8>
     }
 }
 
-fn place_after(op: Binary, place: Value, by: u16) -> Result<Value, u8>
+fn place_after(op: Binary, place: Value, by: u16) -> Result<Value, NoValue>
     ensures { result ≡ moved_to op place by }
 {
     match op {
@@ -199,11 +234,11 @@ fn place_after(op: Binary, place: Value, by: u16) -> Result<Value, u8>
             tag: place.tag,
             number: place.number.wrapping_add(by),
         }),
-        _ => Err(SourceCode::NotRelocatable.number()),
+        _ => Err(NoValue::Fault(SourceCode::NotRelocatable)),
     }
 }
 
-fn place_moved(op: Binary, place: Value, by: u16) -> Result<Value, u8>
+fn place_moved(op: Binary, place: Value, by: u16) -> Result<Value, NoValue>
     ensures { result ≡ moved op place by }
 {
     match op {
@@ -217,11 +252,11 @@ fn place_moved(op: Binary, place: Value, by: u16) -> Result<Value, u8>
             tag: place.tag,
             number: place.number.wrapping_sub(by),
         }),
-        _ => Err(SourceCode::NotRelocatable.number()),
+        _ => Err(NoValue::Fault(SourceCode::NotRelocatable)),
     }
 }
 
-fn between(op: Binary, a: Value, b: Value) -> Result<Value, u8>
+fn between(op: Binary, a: Value, b: Value) -> Result<Value, NoValue>
     ensures { result ≡ distance op a b }
 {
     match op {
@@ -233,10 +268,10 @@ fn between(op: Binary, a: Value, b: Value) -> Result<Value, u8>
                     number: a.number.wrapping_sub(b.number),
                 })
             } else {
-                Err(SourceCode::NotRelocatable.number())
+                Err(NoValue::Fault(SourceCode::NotRelocatable))
             }
         }
-        _ => Err(SourceCode::NotRelocatable.number()),
+        _ => Err(NoValue::Fault(SourceCode::NotRelocatable)),
     }
 }
 

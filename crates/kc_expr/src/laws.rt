@@ -1,7 +1,7 @@
 ghost use Rattle.kc_expr.specs.Alike.{ExpressionsAreAlike};
 ghost use Rattle.kc_expr.specs.Known.{ExpressionsAreKnown};
 
-/// Where all names answer alike, so do all expressions: the same code, or values of one base and one tag, and of one
+/// Where all names answer alike, so do all expressions: the same fault, or values of one base and one tag, and of one
 /// number where it is fixed.
 pub fn expressions_are_alike()
     ensures { ExpressionsAreAlike }

@@ -16,7 +16,7 @@ pub use laws::{expressions_are_alike, expressions_are_known};
 pub use operators::is_type;
 pub use parser::parse;
 pub use symbols::Symbols;
-pub use values::{Base, TOLD_ELSEWHERE, Tag, Value};
+pub use values::{Base, NoValue, Tag, Value};
 
 #[cfg(test)]
 mod tests;

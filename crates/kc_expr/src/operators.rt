@@ -1,7 +1,8 @@
-ghost use Rattle.std.specs.Prelude.{◌≡◌, ◌≤◌, ◌∷◌, [], length, drop, IfOk, codes};
+ghost use Rattle.std.specs.Prelude.{◌≡◌, ℕ, ◌≤◌, ◌∷◌, [], length, drop, IfOk, codes};
 ghost use Rattle.std.specs.Option.{option_map};
 ghost use Rattle.kc_expr.specs.Tree.{tree_of};
 ghost use Rattle.kc_expr.specs.Grammar as grammar;
+ghost use Rattle.kc_expr.specs.Climb.{at_level};
 
 use crate::expr::{Binary, Expr, Unary};
 use kc_base::{NoMemory, Text};
@@ -10,19 +11,20 @@ use kc_lex::words::{is_reserved, is_stack};
 use kc_lex::{Token, TokenKind};
 use std::alloc::Global;
 
-pub(crate) fn unary_at(level: u8, token: &Token) -> Option<Unary>
-    ensures { result ≡ grammar.unary_at level token.now }
+/// The operator before an operand that a token is, and its level.
+pub(crate) fn unary_of(token: &Token) -> Option<(Unary, u8)>
+    ensures { (level : ℕ) → grammar.unary_at level token.now ≡ at_level level result }
 {
-    if level == 1 && is_word(token, b"LOW") {
-        Some(Unary::Low)
-    } else if level == 1 && is_word(token, b"HIGH") {
-        Some(Unary::High)
-    } else if level == 1 && is_sign(token, b'+') {
-        Some(Unary::Plus)
-    } else if level == 1 && is_sign(token, b'-') {
-        Some(Unary::Minus)
-    } else if level == 5 && is_word(token, b"NOT") {
-        Some(Unary::Not)
+    if is_word(token, b"LOW") {
+        Some((Unary::Low, 1))
+    } else if is_word(token, b"HIGH") {
+        Some((Unary::High, 1))
+    } else if is_sign(token, b'+') {
+        Some((Unary::Plus, 1))
+    } else if is_sign(token, b'-') {
+        Some((Unary::Minus, 1))
+    } else if is_word(token, b"NOT") {
+        Some((Unary::Not, 5))
     } else {
         None
     }
@@ -90,24 +92,30 @@ fn either(token: &Token) -> Option<Binary>
     }
 }
 
-#[tactic(auto, unfolding(crate::specs::Grammar::binary_at))]
-pub(crate) fn binary_at(level: u8, token: &Token) -> Option<Binary>
-    ensures { result ≡ grammar.binary_at level token.now }
+fn meeting(token: &Token) -> Option<Binary>
+    ensures { result ≡ grammar.meeting token.now }
 {
-    if level == 2 {
-        multiplying(token)
-    } else if level == 3 {
-        adding(token)
-    } else if level == 4 {
-        comparing(token)
-    } else if level == 6 {
-        if is_word(token, b"AND") {
-            Some(Binary::And)
-        } else {
-            None
-        }
-    } else if level == 7 {
-        either(token)
+    if is_word(token, b"AND") {
+        Some(Binary::And)
+    } else {
+        None
+    }
+}
+
+/// The operator between two operands that a token is, and its level.
+pub(crate) fn binary_of(token: &Token) -> Option<(Binary, u8)>
+    ensures { (level : ℕ) → grammar.binary_at level token.now ≡ at_level level result }
+{
+    if let Some(op) = adding(token) {
+        Some((op, 3))
+    } else if let Some(op) = multiplying(token) {
+        Some((op, 2))
+    } else if let Some(op) = comparing(token) {
+        Some((op, 4))
+    } else if let Some(op) = meeting(token) {
+        Some((op, 6))
+    } else if let Some(op) = either(token) {
+        Some((op, 7))
     } else {
         None
     }

@@ -1,10 +1,11 @@
 ghost use Rattle.std.specs.Prelude.{◌≡◌, ℕ, suc, ◌+◌, ◌-◌, ◌*◌, ◌<◌, ◌≤◌, true, false, length, drop, Some, None, IfOk, IfSome, OnOk, IsSome, slice_index};
 ghost use Rattle.kc_lex.specs.Kinds.{begins_sign};
 ghost use Rattle.kc_expr.specs.Tree.{tree_of};
-ghost use Rattle.kc_expr.specs.Grammar.{unary_first, binary_first, longest, extended, past_suffix, prefixed, seen, IsParsed};
+ghost use Rattle.kc_expr.specs.Grammar.{unary_first, binary_first, longest, past_suffix, seen, IsParsed};
+ghost use Rattle.kc_expr.specs.Climb.{at_level, climbed, AreEnough};
 
 use crate::expr::{Binary, Expr, Unary};
-use crate::operators::{alone, binary_at, has_suffix, unary_at};
+use crate::operators::{alone, binary_of, has_suffix, unary_of};
 use kc_base::NoMemory;
 use kc_lex::kinds::{is_sign, rest};
 use kc_lex::{SourceCode, SourceFault, Token};
@@ -27,7 +28,7 @@ pub fn parse(alloc: Global, tokens: &[Token], from: usize) -> Result<(Expr, usiz
     }
 }
 
-// The longest expression of a level.
+// The longest expression of a level: an operand, or an operator before one, and what goes on with it.
 #[cycle(parse)]
 fn level_at(
     alloc: Global,
@@ -40,40 +41,22 @@ fn level_at(
     ensures read { IfOk result (λ o. (n : ℕ) → 16 * (length tokens.now - at) + 2 * level ≤ n → longest (suc n) level (drop at tokens.now) ≡ seen tokens.now o) }
     ensures within { IfOk result (λ o. IfSome o (λ p. (at < p.1) × (p.1 ≤ length tokens.now))) }
 {
-    if level == 0 {
-        return primary_at(alloc, tokens, at);
-    }
     match unary_op(tokens, at, level) {
-        Some(op) => prefix_at(alloc, tokens, at, level, op),
-        None => match level_at(alloc, tokens, at, level - 1)? {
+        Some((op, own)) => match level_at(alloc, tokens, at + 1, own)? {
             None => Ok(None),
-            Some((left, next)) => extend(alloc, tokens, next, level, left),
+            Some((operand, next)) => {
+                let operand = Box::new(alloc, operand)?;
+                let whole = climb(alloc, tokens, next, own, level, Expr::Unary(op, operand))?;
+                Ok(Some(whole))
+            }
         },
-    }
-}
-
-// An operator, and its operand.
-#[cycle(parse)]
-fn prefix_at(
-    alloc: Global,
-    tokens: &[Token],
-    at: usize,
-    level: u8,
-    op: Unary,
-) -> Result<Option<(Expr, usize)>, NoMemory>
-    requires within { at < length tokens.now }
-    requires loose { 1 ≤ level }
-    requires level { level ≤ 7 }
-    requires op { unary_first level (drop at tokens.now) ≡ Some op }
-    ensures read { IfOk result (λ o. (n : ℕ) → 16 * (length tokens.now - at) + 2 * level ≤ n → longest (suc n) level (drop at tokens.now) ≡ seen tokens.now o) }
-    ensures within { IfOk result (λ o. IfSome o (λ p. (at < p.1) × (p.1 ≤ length tokens.now))) }
-{
-    match level_at(alloc, tokens, at + 1, level)? {
-        None => Ok(None),
-        Some((operand, next)) => {
-            let operand = Box::new(alloc, operand)?;
-            Ok(Some((Expr::Unary(op, operand), next)))
-        }
+        None => match primary_at(alloc, tokens, at)? {
+            None => Ok(None),
+            Some((left, next)) => {
+                let whole = climb(alloc, tokens, next, 0, level, left)?;
+                Ok(Some(whole))
+            }
+        },
     }
 }
 
@@ -110,30 +93,31 @@ fn primary_at(alloc: Global, tokens: &[Token], at: usize) -> Result<Option<(Expr
     }
 }
 
-// Goes on to the right with the operators of the level.
+// Goes on to the right with the operators that are looser than a level, up to another level.
 #[cycle(parse)]
-fn extend(
+fn climb(
     alloc: Global,
     tokens: &[Token],
     at: usize,
+    tight: u8,
     level: u8,
     left: Expr,
-) -> Result<Option<(Expr, usize)>, NoMemory>
+) -> Result<(Expr, usize), NoMemory>
     requires within { at ≤ length tokens.now }
-    requires loose { 1 ≤ level }
+    requires tight { tight ≤ level }
     requires level { level ≤ 7 }
-    ensures read { IfOk result (λ o. (n : ℕ) → 16 * (length tokens.now - at) + 2 * level ≤ n → extended (suc n) level (tree_of left) (drop at tokens.now) ≡ seen tokens.now o) }
-    ensures within { IfOk result (λ o. IfSome o (λ p. (at ≤ p.1) × (p.1 ≤ length tokens.now))) }
+    ensures read { IfOk result (λ p. (steps : ℕ → ℕ) → AreEnough steps tight level (length tokens.now - at) → climbed steps tight (level - tight) (Some (tree_of left, drop at tokens.now)) ≡ Some (tree_of p.0, drop p.1 tokens.now)) }
+    ensures within { IfOk result (λ p. (at ≤ p.1) × (p.1 ≤ length tokens.now)) }
 {
-    match binary_op(tokens, at, level) {
-        None => Ok(Some((left, at))),
-        Some(op) => match level_at(alloc, tokens, at + 1, level - 1)? {
-            None => Ok(Some((left, at))),
+    match binary_op(tokens, at, tight, level) {
+        None => Ok((left, at)),
+        Some((op, own)) => match level_at(alloc, tokens, at + 1, own - 1)? {
+            None => Ok((left, at)),
             Some((right, next)) => {
                 let left = Box::new(alloc, left)?;
                 let right = Box::new(alloc, right)?;
                 let both = Expr::Binary(op, left, right);
-                extend(alloc, tokens, next, level, both)
+                climb(alloc, tokens, next, own - 1, level, both)
             }
         },
     }
@@ -150,25 +134,30 @@ fn begins(tokens: &[Token], at: usize, sign: u8) -> bool
     }
 }
 
-fn unary_op(tokens: &[Token], at: usize, level: u8) -> Option<Unary>
+// The operator before an operand that stands at a place, and its level, if it is of the level or tighter.
+fn unary_op(tokens: &[Token], at: usize, level: u8) -> Option<(Unary, u8)>
     requires { at ≤ length tokens.now }
-    ensures value { result ≡ unary_first level (drop at tokens.now) }
+    ensures value { (l : ℕ) → l ≤ level → unary_first l (drop at tokens.now) ≡ at_level l result }
     ensures within { IfSome result (λ _. at < length tokens.now) }
+    ensures level { IfSome result (λ p. p.1 ≤ level) }
 {
     match rest(tokens, at) {
         [] => None,
-        [first, ..] => unary_at(level, first),
+        [first, ..] => unary_of(first).filter(|found| found.1 <= level),
     }
 }
 
-fn binary_op(tokens: &[Token], at: usize, level: u8) -> Option<Binary>
+// The operator between two operands that stands at a place, and its level, if that is between the two.
+fn binary_op(tokens: &[Token], at: usize, tight: u8, level: u8) -> Option<(Binary, u8)>
     requires { at ≤ length tokens.now }
-    ensures value { result ≡ binary_first level (drop at tokens.now) }
+    ensures value { (l : ℕ) → tight < l → l ≤ level → binary_first l (drop at tokens.now) ≡ at_level l result }
     ensures within { IfSome result (λ _. at < length tokens.now) }
+    ensures tight { IfSome result (λ p. tight < p.1) }
+    ensures level { IfSome result (λ p. p.1 ≤ level) }
 {
     match rest(tokens, at) {
         [] => None,
-        [first, ..] => binary_at(level, first),
+        [first, ..] => binary_of(first).filter(|found| tight < found.1 && found.1 <= level),
     }
 }
 

@@ -11,10 +11,11 @@ use Rattle.std.proofs.lemmas.Slice.Eq.{bytes_eq-Decides}
 use Rattle.kc_isa.specs.declared.table.Mnemonic.TheVariants.{Skip}
 use Rattle.kc_isa.specs.Names.{Shown, name_of, row_at}
 use Rattle.kc_isa.specs.Table.{plain_entry}
+use Rattle.kc_lex.specs.Chars.{is_short_word}
 use Rattle.kc_lex.specs.declared.instructions.Listed.{Listed}
 use Rattle.kc_lex.specs.declared.instructions.TheConstants.{INDEX}
 use Rattle.kc_lex.specs.declared.words.Operands.{Operands}
-use Rattle.kc_lex.proofs.SearchLemmas.{both, order, equal_text, all_at, ascends, IsParted, none_has}
+use Rattle.kc_lex.proofs.SearchLemmas.{both, order, equal_text, all_at, ascends, IsParted, none_has, none_such}
 use Rattle.kc_lex.specs.Instructions.{least, is_called, has_name, first_opcode, operands_at, operands_from, operands_of, opcode_in}
 
 -- ---- its order
@@ -117,6 +118,12 @@ searched_there word at d l h signed =
 
 pub searched_none : (word : List ℕ) (i : ℕ) → IsParted name INDEX word i → (signed : Bool) → first_opcode word signed ≡ None
 searched_none word i h signed = none_first word signed (first_opcode word signed) refl (none_has name INDEX in_order word i h)
+
+all_short : list_all (λ listed. is_short_word (name listed)) INDEX ≡ true
+all_short = refl
+
+pub unlike_none : (word : List ℕ) → is_short_word word ≡ false → (signed : Bool) → first_opcode word signed ≡ None
+unlike_none word h signed = none_first word signed (first_opcode word signed) refl (none_such is_short_word name INDEX word all_short h)
 
 -- ---- what holds of each entry holds of each instruction
 

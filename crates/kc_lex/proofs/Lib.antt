@@ -9,3 +9,4 @@ pub mod IndexLemmas
 pub mod SearchLemmas
 pub mod ReservedLemmas
 pub mod ReservedWords
+pub mod FaultLemmas

@@ -3,15 +3,16 @@
 use Rattle.std.proofs.Common.{◌≡◌, ℕ, zero, suc, ◌<◌, Bool, true, false, refl, sym, ap, subst, ◌∙◌, List, [], ◌∷◌, length, get_or, map, Option, Some, None, arith}
 use Rattle.std.specs.Prelude.{codes, not, ◌&&◌, ◌||◌}
 use Rattle.std.specs.Ordering.{is_lt}
-use Rattle.std.specs.List.{list_any, HoldsAt}
+use Rattle.std.specs.List.{list_all, list_any, HoldsAt}
 use Rattle.std.specs.declared.cmp.Ordering.TheVariants.{Equal}
 use Rattle.std.specs.Str.{bytes_eq}
 use Rattle.std.proofs.lemmas.Slice.Eq.{bytes_eq-Decides}
 use Rattle.kc_lex.specs.declared.reserved.Word.{Word}
+use Rattle.kc_lex.specs.Chars.{is_short_word}
 use Rattle.kc_lex.specs.Words.{is_operator_word, is_generic_conditional, generic_operands_of, data_directive, module_directive, macro_directive, directive_of, is_stack}
 use Rattle.kc_lex.specs.Reserved.{word_list}
 use Rattle.kc_lex.specs.Reserved as reserved
-use Rattle.kc_lex.proofs.SearchLemmas.{order, equal_text, ascends, IsParted, none_has}
+use Rattle.kc_lex.proofs.SearchLemmas.{order, equal_text, ascends, IsParted, none_has, none_such}
 
 abbrev pub Entry : Type 0
 Entry = List ℕ × Word
@@ -77,6 +78,12 @@ no_directive word h = rw (no_module word h, no_data word h, no_macro word h) ref
 
 says_none : (word : List ℕ) → is_listed word ≡ false → Says word None
 says_none word h = record { operator = no_operator word h; condition = no_condition word h; branch = no_branch word h; directive = no_directive word h; stack = absent (codes "STACK") word refl h }
+
+all_short : list_all (λ e. is_short_word (name e)) word_list ≡ true
+all_short = refl
+
+pub says_unlike : (word : List ℕ) → is_short_word word ≡ false → Says word None
+says_unlike word h = says_none word (none_such is_short_word name word_list word all_short h)
 
 -- ---- what a search finds in a list of entries that stand for those of the index
 

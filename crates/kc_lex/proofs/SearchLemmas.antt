@@ -31,6 +31,12 @@ equal_text a b h = (bytes_eq-Decides a b).0 (sym (is_eq-slice_cmp a b) ∙ ap is
 other_text : (a b : List ℕ) (o : Ordering) → order a b ≡ o → is_eq o ≡ false → bytes_eq a b ≡ false
 other_text a b o h f = sym (is_eq-slice_cmp a b) ∙ (ap is_eq h ∙ f)
 
+unlike : (p : List ℕ → Bool) (name word : List ℕ) (t : Bool) → bytes_eq name word ≡ t → p name ≡ true → p word ≡ false → bytes_eq name word ≡ false
+unlike p name word false e h g = e
+unlike p name word true e h g =
+    let there : p word ≡ true = subst (λ (w : List ℕ). p w ≡ true) ((bytes_eq-Decides name word).0 e) h in
+    absurd (cc (there, g))
+
 module _ {X : Type 0} where
   pub all_at : (p : X → Bool) (xs : List X) (k : ℕ) (d : X) → k < length xs → list_all p xs ≡ true → p (get_or xs k d) ≡ true
   all_at p [] k d l h = absurd (omega arith)
@@ -40,6 +46,11 @@ module _ {X : Type 0} where
   none_any : (p : X → Bool) (xs : List X) → ((k : ℕ) (d : X) → k < length xs → p (get_or xs k d) ≡ false) → list_any p xs ≡ false
   none_any p [] h = refl
   none_any p (x ∷ xs) h = rw (h 0 x (omega arith)) (none_any p xs (λ k d l. h (suc k) d (omega arith)))
+
+  -- what each text of the list is, and the word is not
+  pub none_such : (p : List ℕ → Bool) (name : X → List ℕ) (xs : List X) (word : List ℕ) → list_all (λ x. p (name x)) xs ≡ true → p word ≡ false → list_any (λ x. bytes_eq (name x) word) xs ≡ false
+  none_such p name [] word h g = refl
+  none_such p name (x ∷ xs) word h g = rw (unlike p (name x) word (bytes_eq (name x) word) refl (both _ _ h).0 g) (none_such p name xs word (both _ _ h).1 g)
 
   abbrev pub ascends : (X → List ℕ) → List X → Bool
   ascends name [] = true

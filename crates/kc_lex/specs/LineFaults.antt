@@ -8,10 +8,15 @@ Fault = ℕ × ℕ
 abbrev pub is_before : Fault → Fault → Bool
 is_before f g = nat_lt f.0 g.0 || ((f.0 == g.0) && nat_lt f.1 g.1)
 
+-- of two faults the one that comes first
+abbrev pub first_of : Fault → Fault → Fault
+first_of f g = if is_before g f then g else f
+
+-- of two faults, of which there may be none
 abbrev pub lesser : Option Fault → Option Fault → Option Fault
 lesser None o = o
 lesser (Some f) None = Some f
-lesser (Some f) (Some g) = if is_before g f then Some g else Some f
+lesser (Some f) (Some g) = Some (first_of f g)
 
 unfoldable pub least : List Fault → Option Fault
 least [] = None

@@ -2,6 +2,7 @@ ghost use Rattle.std.specs.Prelude.{◌≡◌, true, false};
 ghost use Rattle.kc_isa.specs.Names.{shown_row};
 ghost use Rattle.kc_lex.specs.Instructions as instructions;
 
+use crate::chars::{compared, is_short_word};
 use crate::words::Operands;
 use kc_isa::{Group, Mnemonic, Shape, row_of};
 
@@ -144,7 +145,10 @@ fn find(word: &[u8]) -> Option<Listed>
     ensures plain { instructions.first_opcode word.now false ≡ instructions.opcode_in result false }
     ensures signed { instructions.first_opcode word.now true ≡ instructions.opcode_in result true }
 {
-    match INDEX.binary_search_by(|listed| listed.mnemonic.name().as_bytes().cmp(word)) {
+    if !is_short_word(word) {
+        return None;
+    }
+    match INDEX.binary_search_by(|listed| compared(listed.mnemonic.name().as_bytes(), word)) {
         Ok(at) => Some(INDEX[at]),
         Err(_) => None,
     }

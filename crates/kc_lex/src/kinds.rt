@@ -1,14 +1,24 @@
-ghost use Rattle.std.specs.Prelude.{◌≡◌, ◌≤◌, ◌<◌, true, length, drop, take};
+ghost use Rattle.std.specs.Prelude.{◌≡◌, [], ◌∷◌, ◌≤◌, ◌<◌, true, length, drop, take};
+ghost use Rattle.std.specs.Str.{bytes_eq};
 ghost use Rattle.kc_lex.specs.Kinds as kinds;
 
 use crate::token::{Token, TokenKind};
 use crate::words::is_reserved;
 
+fn is_alone(text: &[u8], sign: u8) -> bool
+    ensures { result ≡ bytes_eq text.now (sign ∷ []) }
+{
+    match text {
+        [only] => *only == sign,
+        _ => false,
+    }
+}
+
 /// Whether a token is this sign.
 pub fn is_sign(token: &Token, sign: u8) -> bool
     ensures { result ≡ kinds.is_sign sign token.now }
 {
-    matches!(token.kind, TokenKind::Sign) && token.text.as_slice() == [sign].as_slice()
+    matches!(token.kind, TokenKind::Sign) && is_alone(token.text.as_slice(), sign)
 }
 
 /// Whether a token is this word, given in upper case.

@@ -27,6 +27,13 @@ impl LineFault {
     {
         self.line < other.line || (self.line == other.line && self.code < other.code)
     }
+
+    /// Of two faults the one that comes first.
+    pub fn first_of(self, other: LineFault) -> LineFault
+        ensures { result ≡ spec.first_of self other }
+    {
+        if other.is_before(self) { other } else { self }
+    }
 }
 
 /// Of two faults the one that comes first, if there is one.
@@ -34,7 +41,7 @@ pub fn lesser(first: Option<LineFault>, second: Option<LineFault>) -> Option<Lin
     ensures { result ≡ spec.lesser first second }
 {
     match (first, second) {
-        (Some(f), Some(g)) => Some(if g.is_before(f) { g } else { f }),
+        (Some(f), Some(g)) => Some(f.first_of(g)),
         (Some(f), None) => Some(f),
         (None, second) => second,
     }

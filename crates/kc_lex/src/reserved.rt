@@ -2,6 +2,7 @@ ghost use Rattle.std.specs.Prelude.{◌≡◌, map};
 ghost use Rattle.kc_lex.specs.Words as words;
 ghost use Rattle.kc_lex.specs.Reserved as reserved;
 
+use crate::chars::{compared, is_short_word};
 use crate::words::{Directive, Operands};
 
 /// What a reserved word is that is no instruction, or not only one.
@@ -97,8 +98,11 @@ pub(crate) fn find(word: &[u8]) -> Option<Word>
     ensures directive { words.directive_of word.now ≡ reserved.directive_in result }
     ensures stack { words.is_stack word.now ≡ reserved.is_stack result }
 {
+    if !is_short_word(word) {
+        return None;
+    }
     let words = all_words();
-    match words.binary_search_by(|entry| entry.0.as_bytes().cmp(word)) {
+    match words.binary_search_by(|entry| compared(entry.0.as_bytes(), word)) {
         Ok(at) => Some(words[at].1),
         Err(_) => None,
     }

@@ -123,7 +123,7 @@ operation_is look word args h = by (operands_of word) (generic_operands_of word)
 
 in_word : (a : Answer) → IsWordAnswer a → IsWord (value_in a)
 in_word (Ok v) h = h
-in_word (Err code) h = tt
+in_word (Err fault) h = tt
 
 module _ (look : Look) (names : (q : List ℕ) → IsWordAnswer (look q)) where
   value_word : (x : Tree) → are_bytes x ≡ true → IsWord (value_of look x)

@@ -58,7 +58,7 @@ word n h = grind (arith, nat_tests, h)
 
 told_word : (a : Answer) → IsWordAnswer a → IsWordAnswer (or_told a)
 told_word (Ok v) h = h
-told_word (Err code) h = tt
+told_word (Err fault) h = tt
 
 external_in_word : (n : ℕ) (ts : List Taken) (q : List ℕ) → IsWordAnswer (external_in n ts q)
 unfolding external_in

@@ -6,9 +6,11 @@ use Rattle.std.proofs.Math.Nat.{div-le_self, mod-le}
 use Rattle.std.proofs.lemmas.Nat.{and_le_l, or_lt, xor_lt}
 use Rattle.std.proofs.lemmas.Bool.{and_parts}
 use Rattle.std.proofs.lemmas.Bool.Decides.{nat_tests}
+use Rattle.kc_lex.specs.declared.fault.SourceCode.TheVariants as code
 use Rattle.kc_expr.specs.declared.values.Base.TheVariants as bases
 use Rattle.kc_expr.specs.declared.values.Tag.TheVariants.{Memory}
 use Rattle.kc_expr.specs.declared.values.Value.{Value}
+use Rattle.kc_expr.specs.declared.values.NoValue.TheVariants.{Fault}
 use Rattle.kc_expr.specs.declared.expr.Unary.{Unary}
 use Rattle.kc_expr.specs.declared.expr.Unary.TheVariants as unary
 use Rattle.kc_expr.specs.declared.expr.Binary.{Binary}
@@ -19,7 +21,7 @@ use Rattle.kc_link_source_laws.specs.Characters.{are_bytes}
 
 abbrev pub IsWordAnswer : Answer → Type 0
 IsWordAnswer (Ok v) = v.number < 65536
-IsWordAnswer (Err code) = Unit {0}
+IsWordAnswer (Err fault) = Unit {0}
 
 pub either : (x : Bool) (a b : Answer) → IsWordAnswer a → IsWordAnswer b → IsWordAnswer (cond x a b)
 either true a b h k = h
@@ -28,7 +30,7 @@ either false a b h k = k
 number_word : (n : ℕ) → IsWordAnswer (number_answer n)
 number_word n = by (nat_lt n 65536) refl
   where
-    by : (t : Bool) → nat_lt n 65536 ≡ t → IsWordAnswer (cond t (Ok (plain n)) (Err 9))
+    by : (t : Bool) → nat_lt n 65536 ≡ t → IsWordAnswer (cond t (Ok (plain n)) (Err (Fault code.BadNumber)))
     by true e = grind (arith, nat_tests, e)
     by false e = tt
 
@@ -86,11 +88,11 @@ binary_word binary.Xor a b h k = xor_lt 16 a b h k
 
 one_word : (op : Unary) (v : Value) → v.number < 65536 → IsWordAnswer (on_one op v)
 unfolding on_one
-one_word op v h = either (is_fixed v.base) (Ok (plain (unary_number op v.number))) (Err 13) (unary_word op v.number h) tt
+one_word op v h = either (is_fixed v.base) (Ok (plain (unary_number op v.number))) (Err (Fault code.NotRelocatable)) (unary_word op v.number h) tt
 
 unary_answer_word : (op : Unary) (a : Answer) → IsWordAnswer a → IsWordAnswer (unary_answer op a)
 unary_answer_word op (Ok v) h = one_word op v h
-unary_answer_word op (Err code) h = tt
+unary_answer_word op (Err fault) h = tt
 
 divided_word : (n : Option ℕ) → IsWordOption n → IsWordAnswer (divided n)
 divided_word None h = tt
@@ -106,7 +108,7 @@ moved_to_word binary.Plus v n = omega arith
 moved_to_word op v n = tt
 
 distance_word : (op : Binary) (a b : Value) → IsWordAnswer (distance op a b)
-distance_word binary.Minus a b = either (same_base a.base b.base) (Ok (record { base = bases.Absolute; tag = Memory; number = (a.number + 65536 - b.number) % 65536 })) (Err 13) (omega arith) tt
+distance_word binary.Minus a b = either (same_base a.base b.base) (Ok (record { base = bases.Absolute; tag = Memory; number = (a.number + 65536 - b.number) % 65536 })) (Err (Fault code.NotRelocatable)) (omega arith) tt
 distance_word op a b = tt
 
 two_word : (op : Binary) (a b : Value) → a.number < 65536 → b.number < 65536 → IsWordAnswer (on_two op a b)

@@ -1,11 +1,11 @@
 -- The first turn over some arguments is begun.
 use Rattle.std.proofs.Common.{◌≡◌, ℕ, ◌<◌, Option, Some, None, List, [], ◌∷◌, ◌++◌, length, Ok, refl, sym, ap, ◌∙◌, arith}
 use Rattle.kc_lex.specs.declared.token.Token.{Token}
+use Rattle.kc_lex.specs.LineFaults.{Fault as LineFault}
 use Rattle.kc_macro_body.specs.declared.macros.Formals.{Formals}
 use Rattle.kc_macro_body.specs.Bodies.{only}
 use Rattle.kc_macro_input.specs.declared.piece.Mark.{Mark}
 use Rattle.kc_macro_input.specs.declared.piece.Piece.{Piece}
-use Rattle.kc_macro_input.specs.declared.piece.BodyFault.{BodyFault}
 use Rattle.kc_macro_input.specs.Ahead.{put_back}
 use Rattle.kc_macro_input.specs.Filled.{fill_turns, fault_of, turns_over}
 use Rattle.kc_macro_input.proofs.FilledLemmas.{sound_turns, turns_some, turns_none}
@@ -34,7 +34,7 @@ pub no_turn : (s : State) (number : ℕ) (f : Formals) (head : Piece) (body : Li
 no_turn s number f head body args none = sym (ap (λ (ts : List Piece). begun s number (Ok ts)) (turns_none f head body args none))
 
 -- turns without a fault are what is begun over the lines of a body
-pub over_begun : (s : State) (number : ℕ) (from : List Mark) (over : List ℕ × List (List Token)) (front : List Piece) (f : Formals) (head : Piece) (body : List Piece) (found : Option BodyFault) →
+pub over_begun : (s : State) (number : ℕ) (from : List Mark) (over : List ℕ × List (List Token)) (front : List Piece) (f : Formals) (head : Piece) (body : List Piece) (found : Option LineFault) →
     f ≡ only (over.0 ∷ []) → head ≡ turn_head s.left number from → body ≡ turn_lines s.left front → found ≡ fault_of (fill_turns f head body over.1) → found ≡ None →
     begun s number (Ok (turns_over f head body over.1)) ≡ over_turns s number from over front
 over_begun s number from over front f head body found is_f is_head is_body is none =

@@ -4,12 +4,12 @@ use Rattle.std.specs.Prelude.{ℕ, Bool, false, ◌&&◌, ◌||◌, if◌then◌
 use Rattle.std.specs.FinMap as fm
 use Rattle.kc_lex.specs.declared.token.Token.{Token}
 use Rattle.kc_lex.specs.Kinds.{is_free_name, begins_word}
-use Rattle.kc_lex.specs.Codes.{not_fixed}
-use Rattle.kc_expr.specs.declared.values.Value.{Value}
+use Rattle.kc_lex.specs.Codes.{code_number, not_fixed}
+use Rattle.kc_expr.specs.declared.values.NoValue.TheVariants.{Fault, ToldElsewhere}
 use Rattle.kc_expr.specs.declared.expr.Expr.{Expr}
 use Rattle.kc_expr.specs.Tree.{Tree, tree_of}
 use Rattle.kc_expr.specs.Names.{NameMap}
-use Rattle.kc_expr.specs.Meaning.{answer, is_fixed}
+use Rattle.kc_expr.specs.Meaning.{Answer, answer, is_fixed}
 use Rattle.kc_expr.specs.Grammar.{parsed}
 
 -- the expression that tokens are as a whole
@@ -28,10 +28,11 @@ abbrev pub seen_tree : Option Expr → Option Tree
 seen_tree None = None
 seen_tree (Some e) = Some (tree_of e)
 
--- the value of an operand, which must be fixed
-abbrev pub fixed_value : Result Value ℕ → Result ℕ ℕ
-fixed_value (Err code) = Err code
+-- the value of an operand, which must be fixed; here, where names have values or none, nothing is told elsewhere
+abbrev pub fixed_value : Answer → Result ℕ ℕ
 fixed_value (Ok v) = if is_fixed v.base then Ok v.number else Err not_fixed
+fixed_value (Err (Fault code)) = Err (code_number code)
+fixed_value (Err ToldElsewhere) = Err not_fixed
 
 abbrev pub tree_value : Option Tree → NameMap → Result ℕ ℕ
 tree_value None values = Err not_fixed
@@ -47,8 +48,8 @@ number_of (Err code) = 0
 -- ---- EQU and SET
 
 -- the value that EQU or SET gives to a name; a malformed line gives none, and a value that is not fixed takes the earlier one away
-abbrev pub fixed_name : List ℕ → Result Value ℕ → NameMap → NameMap
-fixed_name n (Err code) values = fm.remove values n
+abbrev pub fixed_name : List ℕ → Answer → NameMap → NameMap
+fixed_name n (Err fault) values = fm.remove values n
 fixed_name n (Ok v) values = if is_fixed v.base then fm.insert values n v else fm.remove values n
 
 abbrev pub named_by : List ℕ → Option Tree → NameMap → NameMap

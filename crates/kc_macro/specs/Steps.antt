@@ -81,7 +81,7 @@ turn_head left number from = record { number = number; from = Turns left ∷ fro
 
 -- so many turns of the same lines
 abbrev pub same_turns : State → ℕ → List Mark → ℕ → Filled → Next
-same_turns s number from n (Err f) = Fault f.line f.code
+same_turns s number from n (Err f) = Fault f.0 f.1
 same_turns s number from n (Ok ps) = counted number (record s { ahead = ps ++ (repeated (n - 1) (turn_head s.left number from ∷ ps) ++ s.ahead) })
 
 abbrev pub turns_of : State → ℕ → List Mark → ℕ → List Piece → Next
@@ -99,7 +99,7 @@ rept_step s number from value = rept_next s number from value (cut_at Body 0 s.a
 
 -- the turns over some arguments
 abbrev pub begun : State → ℕ → Filled → Next
-begun s number (Err f) = Fault f.line f.code
+begun s number (Err f) = Fault f.0 f.1
 begun s number (Ok []) = Quiet s
 begun s number (Ok (head ∷ ps)) = counted number (record s { ahead = ps ++ s.ahead })
 
@@ -137,7 +137,7 @@ call_text left given number from m args = fill_body m.formals args given (map (b
 
 abbrev pub text_code : Filled → Option ℕ
 text_code (Ok ps) = None
-text_code (Err f) = Some f.code
+text_code (Err f) = Some f.1
 
 abbrev pub call_fault : ℕ → List Mark → Macro → List (List Token) → Filled → Option ℕ
 call_fault left from m args text =
@@ -149,7 +149,7 @@ call_fault left from m args text =
 
 abbrev pub call_next : State → ℕ → ℕ → Option ℕ → Filled → Next
 call_next s number locals (Some code) text = Fault number code
-call_next s number locals None (Err f) = Fault number f.code
+call_next s number locals None (Err f) = Fault number f.1
 call_next s number locals None (Ok ps) = Counted (record s { ahead = ps ++ s.ahead; left = s.left - 1; given = s.given + locals })
 
 abbrev pub call_step : State → ℕ → List Mark → Macro → List (List Token) → Next

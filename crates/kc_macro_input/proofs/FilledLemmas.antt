@@ -1,28 +1,12 @@
 -- Lines that are put together one after the other, as loops find them.
-use Rattle.std.proofs.Common.{◌≡◌, ℕ, suc, ◌+◌, ◌<◌, Bool, true, false, Option, Some, None, List, [], ◌∷◌, map, length, get_or, drop, drop-cons, add-one, Ok, Err, refl, sym, ap, ◌∙◌, append_assoc, arith}
+use Rattle.std.proofs.Common.{◌≡◌, ℕ, suc, ◌+◌, ◌<◌, Option, Some, None, List, [], ◌∷◌, map, length, get_or, drop, drop-cons, add-one, Ok, Err, refl, sym, ap, ◌∙◌, append_assoc, arith}
 use Rattle.std.proofs.lemmas.List.{append-nil}
 use Rattle.kc_lex.specs.declared.token.Token.{Token}
+use Rattle.kc_lex.specs.LineFaults.{Fault, lesser}
+use Rattle.kc_lex.proofs.FaultLemmas.{first_assoc, lesser_none, lesser_assoc}
 use Rattle.kc_macro_body.specs.declared.macros.Formals.{Formals}
 use Rattle.kc_macro_input.specs.declared.piece.Piece.{Piece}
-use Rattle.kc_macro_input.specs.declared.piece.BodyFault.{BodyFault}
-use Rattle.kc_macro_input.specs.Filled.{Filled, is_earlier, lesser, either, together, all_together, fill_body, fill_turn, fill_turns, lines_of, fault_of, turns_over}
-
--- ---- the order of faults
-
-earlier_trans : (f g h : BodyFault) → is_earlier f g ≡ true → is_earlier g h ≡ true → is_earlier f h ≡ true
-earlier_trans f g h p q = grind arith
-
-not_earlier_trans : (f g h : BodyFault) → is_earlier g f ≡ false → is_earlier h g ≡ false → is_earlier h f ≡ false
-not_earlier_trans f g h p q = grind arith
-
-lesser_cases : (f g h : BodyFault) (a b : Bool) → is_earlier g f ≡ a → is_earlier h g ≡ b → lesser (lesser f g) h ≡ lesser f (lesser g h)
-lesser_cases f g h true true p q = rw (p, q, earlier_trans h g f q p) refl
-lesser_cases f g h true false p q = rw (p, q, p) refl
-lesser_cases f g h false true p q = rw (p, q) refl
-lesser_cases f g h false false p q = rw (p, q, not_earlier_trans f g h p q, p) refl
-
-lesser_assoc : (f g h : BodyFault) → lesser (lesser f g) h ≡ lesser f (lesser g h)
-lesser_assoc f g h = lesser_cases f g h (is_earlier g f) (is_earlier h g) refl refl
+use Rattle.kc_macro_input.specs.Filled.{Filled, together, all_together, fill_body, fill_turn, fill_turns, lines_of, fault_of, turns_over}
 
 pub together_assoc : (x y z : Filled) → together (together x y) z ≡ together x (together y z)
 together_assoc (Ok ps) (Ok qs) (Ok rs) = ap (λ (xs : List Piece). Ok xs) (append_assoc ps qs rs)
@@ -32,7 +16,7 @@ together_assoc (Ok ps) (Err g) (Err h) = refl
 together_assoc (Err f) (Ok qs) (Ok rs) = refl
 together_assoc (Err f) (Ok qs) (Err h) = refl
 together_assoc (Err f) (Err g) (Ok rs) = refl
-together_assoc (Err f) (Err g) (Err h) = ap (λ (x : BodyFault). Err x) (lesser_assoc f g h)
+together_assoc (Err f) (Err g) (Err h) = ap (λ (x : Fault). Err x) (first_assoc f g h)
 
 -- ---- loops
 
@@ -55,17 +39,7 @@ front_of xs i x h e = rw add-one (drop-cons xs i x h ∙ ap (λ y. y ∷ drop (s
 
 -- ---- faults alone
 
-pub either_none : (f : Option BodyFault) → either f None ≡ f
-either_none None = refl
-either_none (Some f) = refl
-
-either_assoc : (f g h : Option BodyFault) → either (either f g) h ≡ either f (either g h)
-either_assoc None g h = refl
-either_assoc (Some f) None h = refl
-either_assoc (Some f) (Some g) None = refl
-either_assoc (Some f) (Some g) (Some h) = ap (λ (x : BodyFault). Some x) (lesser_assoc f g h)
-
-fault_together : (x y : Filled) → fault_of (together x y) ≡ either (fault_of x) (fault_of y)
+fault_together : (x y : Filled) → fault_of (together x y) ≡ lesser (fault_of x) (fault_of y)
 fault_together (Ok ps) (Ok qs) = refl
 fault_together (Ok ps) (Err g) = refl
 fault_together (Err f) (Ok qs) = refl
@@ -73,31 +47,31 @@ fault_together (Err f) (Err g) = refl
 
 -- the fault of the turns over some arguments, by that of the first and those of the others
 fault_turns : (f : Formals) (head : Piece) (body : List Piece) (arg : List Token) (args : List (List Token)) →
-    fault_of (fill_turns f head body (arg ∷ args)) ≡ either (fault_of (fill_body f (arg ∷ []) 0 body)) (fault_of (fill_turns f head body args))
+    fault_of (fill_turns f head body (arg ∷ args)) ≡ lesser (fault_of (fill_body f (arg ∷ []) 0 body)) (fault_of (fill_turns f head body args))
 unfolding all_together
 fault_turns f head body arg args =
     fault_together (fill_turn f head body arg) (fill_turns f head body args)
-    ∙ ap (λ (g : Option BodyFault). either g (fault_of (fill_turns f head body args))) (fault_together (Ok (head ∷ [])) (fill_body f (arg ∷ []) 0 body))
+    ∙ ap (λ (g : Option Fault). lesser g (fault_of (fill_turns f head body args))) (fault_together (Ok (head ∷ [])) (fill_body f (arg ∷ []) 0 body))
 
-pub faults_end : (f : Formals) (head : Piece) (body : List Piece) (rest : List (List Token)) (found all : Option BodyFault) → rest ≡ [] →
-    either found (fault_of (fill_turns f head body rest)) ≡ all → found ≡ all
+pub faults_end : (f : Formals) (head : Piece) (body : List Piece) (rest : List (List Token)) (found all : Option Fault) → rest ≡ [] →
+    lesser found (fault_of (fill_turns f head body rest)) ≡ all → found ≡ all
 unfolding all_together
 faults_end f head body rest found all e so_far =
-    sym (ap (λ (args : List (List Token)). either found (fault_of (fill_turns f head body args))) e ∙ either_none found) ∙ so_far
+    sym (ap (λ (args : List (List Token)). lesser found (fault_of (fill_turns f head body args))) e ∙ lesser_none found) ∙ so_far
 
-pub faults_more : (f : Formals) (head : Piece) (body : List Piece) (arg : List Token) (args rest : List (List Token)) (found more all : Option BodyFault) → rest ≡ arg ∷ args →
-    more ≡ either found (fault_of (fill_body f (arg ∷ []) 0 body)) → either found (fault_of (fill_turns f head body rest)) ≡ all → either more (fault_of (fill_turns f head body args)) ≡ all
+pub faults_more : (f : Formals) (head : Piece) (body : List Piece) (arg : List Token) (args rest : List (List Token)) (found more all : Option Fault) → rest ≡ arg ∷ args →
+    more ≡ lesser found (fault_of (fill_body f (arg ∷ []) 0 body)) → lesser found (fault_of (fill_turns f head body rest)) ≡ all → lesser more (fault_of (fill_turns f head body args)) ≡ all
 faults_more f head body arg args rest found more all e is so_far =
-    ap (λ (g : Option BodyFault). either g (fault_of (fill_turns f head body args))) is
-    ∙ either_assoc found (fault_of (fill_body f (arg ∷ []) 0 body)) (fault_of (fill_turns f head body args))
-    ∙ ap (either found) (sym (fault_turns f head body arg args))
-    ∙ ap (λ (rs : List (List Token)). either found (fault_of (fill_turns f head body rs))) (sym e) ∙ so_far
+    ap (λ (g : Option Fault). lesser g (fault_of (fill_turns f head body args))) is
+    ∙ lesser_assoc found (fault_of (fill_body f (arg ∷ []) 0 body)) (fault_of (fill_turns f head body args))
+    ∙ ap (lesser found) (sym (fault_turns f head body arg args))
+    ∙ ap (λ (rs : List (List Token)). lesser found (fault_of (fill_turns f head body rs))) (sym e) ∙ so_far
 
 -- ---- turns without a fault
 
-pub faulty : (x : Filled) (f : BodyFault) → fault_of x ≡ Some f → x ≡ Err f
+pub faulty : (x : Filled) (f : Fault) → fault_of x ≡ Some f → x ≡ Err f
 faulty (Ok ps) f h = absurd (cc h)
-faulty (Err g) f h = let same : g ≡ f = cc h in ap (λ (k : BodyFault). Err k) same
+faulty (Err g) f h = let same : g ≡ f = cc h in ap (λ (k : Fault). Err k) same
 
 sound : (x : Filled) → fault_of x ≡ None → x ≡ Ok (lines_of x)
 sound (Ok ps) h = refl

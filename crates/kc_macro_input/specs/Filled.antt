@@ -1,34 +1,22 @@
 -- The lines of a body with what stands for their parameters, or the first fault of `&` and of long lines: of the least
 -- line the least code.
-use Rattle.std.specs.Prelude.{ℕ, Bool, ◌&&◌, ◌||◌, ◌==◌, nat_lt, if◌then◌else◌, List, [], ◌∷◌, ◌++◌, map, Option, Some, None, Result, Ok, Err}
+use Rattle.std.specs.Prelude.{ℕ, List, [], ◌∷◌, ◌++◌, map, Option, Some, None, Result, Ok, Err}
 use Rattle.std.specs.Global.{Vec}
 use Rattle.kc_lex.specs.declared.token.Token.{Token}
+use Rattle.kc_lex.specs.LineFaults.{Fault, first_of}
 use Rattle.kc_macro_body.specs.declared.macros.Formals.{Formals}
 use Rattle.kc_macro_body.specs.Filling.{filled}
 use Rattle.kc_macro_input.specs.declared.piece.Piece.{Piece}
-use Rattle.kc_macro_input.specs.declared.piece.BodyFault.{BodyFault}
 
 abbrev pub Filled : Type 0
-Filled = Result (List Piece) BodyFault
+Filled = Result (List Piece) Fault
 
-abbrev pub is_earlier : BodyFault → BodyFault → Bool
-is_earlier f g = nat_lt f.line g.line || ((f.line == g.line) && nat_lt f.code g.code)
-
-abbrev pub lesser : BodyFault → BodyFault → BodyFault
-lesser f g = if is_earlier g f then g else f
-
--- the lesser of two faults, of which there may be none
-abbrev pub either : Option BodyFault → Option BodyFault → Option BodyFault
-either None g = g
-either (Some f) None = Some f
-either (Some f) (Some g) = Some (lesser f g)
-
--- lines one after the other, or the lesser of their faults
+-- lines one after the other, or the first of their faults
 abbrev pub together : Filled → Filled → Filled
 together (Ok ps) (Ok qs) = Ok (ps ++ qs)
 together (Ok ps) (Err g) = Err g
 together (Err f) (Ok qs) = Err f
-together (Err f) (Err g) = Err (lesser f g)
+together (Err f) (Err g) = Err (first_of f g)
 
 unfoldable pub all_together : List Filled → Filled
 all_together [] = Ok []
@@ -36,20 +24,20 @@ all_together (x ∷ xs) = together x (all_together xs)
 
 -- ---- a line, and a body
 
-abbrev pub single : Result Piece BodyFault → Filled
+abbrev pub single : Result Piece Fault → Filled
 single (Ok p) = Ok (p ∷ [])
 single (Err f) = Err f
 
-abbrev pub with_tokens : Piece → Result (List Token) ℕ → Result Piece BodyFault
+abbrev pub with_tokens : Piece → Result (List Token) ℕ → Result Piece Fault
 with_tokens p (Ok ts) = Ok (record p { tokens = Some ts })
-with_tokens p (Err code) = Err (record { line = p.number; code = code })
+with_tokens p (Err code) = Err (p.number, code)
 
 -- where a turn begins nothing is replaced
-abbrev pub fill_text : Formals → List (List Token) → ℕ → Piece → Option (List Token) → Result Piece BodyFault
+abbrev pub fill_text : Formals → List (List Token) → ℕ → Piece → Option (List Token) → Result Piece Fault
 fill_text f args given p None = Ok p
 fill_text f args given p (Some ts) = with_tokens p (filled f args given ts)
 
-abbrev pub fill_piece : Formals → List (List Token) → ℕ → Piece → Result Piece BodyFault
+abbrev pub fill_piece : Formals → List (List Token) → ℕ → Piece → Result Piece Fault
 fill_piece f args given p = fill_text f args given p p.tokens
 
 abbrev pub fill_body : Formals → List (List Token) → ℕ → List Piece → Filled
@@ -69,7 +57,7 @@ abbrev pub lines_of : Filled → List Piece
 lines_of (Ok ps) = ps
 lines_of (Err f) = []
 
-abbrev pub fault_of : Filled → Option BodyFault
+abbrev pub fault_of : Filled → Option Fault
 fault_of (Ok ps) = None
 fault_of (Err f) = Some f
 
@@ -79,6 +67,6 @@ turns_over f head body [] = []
 turns_over f head body (arg ∷ args) = head ∷ (lines_of (fill_body f (arg ∷ []) 0 body) ++ turns_over f head body args)
 
 -- what a call answers
-abbrev pub seen_filled : Result (Vec Piece) BodyFault → Filled
+abbrev pub seen_filled : Result (Vec Piece) Fault → Filled
 seen_filled (Ok v) = Ok v.items
 seen_filled (Err f) = Err f

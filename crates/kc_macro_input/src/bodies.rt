@@ -4,16 +4,17 @@ ghost use Rattle.std.specs.List.{filter};
 ghost use Rattle.kc_macro_input.specs.Pieces as pieces;
 ghost use Rattle.kc_macro_input.specs.Filled as filling;
 
-use crate::piece::{BodyFault, Mark, Marking, Marks, Piece, copy_piece};
+use crate::piece::{Mark, Marking, Marks, Piece, copy_piece};
 use kc_base::NoMemory;
-use kc_lex::Tokens;
+use kc_lex::line_fault::lesser;
+use kc_lex::{LineFault, Tokens};
 use kc_macro_body::copying::copy_tokens;
 use kc_macro_body::filling::filled;
 use kc_macro_body::{Formals, Texts};
 use std::alloc::Global;
 
 /// The lines of a body, or the first of its faults.
-pub type Filled = Result<Vec<Piece>, BodyFault>;
+pub type Filled = Result<Vec<Piece>, LineFault>;
 
 /// The lines of a body, each with a mark in front.
 pub fn turn_body(alloc: Global, mark: Mark, front: &[Piece]) -> Result<Vec<Piece>, NoMemory>
@@ -68,24 +69,8 @@ pub fn body_lines(
     Ok(body)
 }
 
-fn is_earlier(first: BodyFault, second: BodyFault) -> bool
-    ensures { result ≡ filling.is_earlier first second }
-{
-    first.line < second.line || (first.line == second.line && first.code < second.code)
-}
-
-fn lesser(first: BodyFault, second: BodyFault) -> BodyFault
-    ensures { result ≡ filling.lesser first second }
-{
-    if is_earlier(second, first) {
-        second
-    } else {
-        first
-    }
-}
-
 // Appends a line, or notes its fault.
-fn add(body: Filled, piece: Result<Piece, BodyFault>) -> Result<Filled, NoMemory>
+fn add(body: Filled, piece: Result<Piece, LineFault>) -> Result<Filled, NoMemory>
     ensures { IfOk result (λ r. filling.seen_filled r ≡ filling.together (filling.seen_filled body) (filling.single piece)) }
 {
     match body {
@@ -99,7 +84,7 @@ fn add(body: Filled, piece: Result<Piece, BodyFault>) -> Result<Filled, NoMemory
         },
         Err(first) => match piece {
             Ok(_) => Ok(Err(first)),
-            Err(second) => Ok(Err(lesser(first, second))),
+            Err(second) => Ok(Err(first.first_of(second))),
         },
     }
 }
@@ -110,7 +95,7 @@ fn fill_piece(
     args: &[Tokens],
     given: u64,
     piece: &Piece,
-) -> Result<Result<Piece, BodyFault>, NoMemory>
+) -> Result<Result<Piece, LineFault>, NoMemory>
     ensures { IfOk result (λ r. r ≡ filling.fill_piece formals.now args.now given piece.now) }
 {
     match &piece.tokens {
@@ -121,7 +106,7 @@ fn fill_piece(
                 from: piece.from.copy()?,
                 tokens: Some(tokens),
             })),
-            Err(code) => Ok(Err(BodyFault {
+            Err(code) => Ok(Err(LineFault {
                 line: piece.number,
                 code,
             })),
@@ -163,18 +148,7 @@ pub fn fill_body(
     append_filled(alloc, Ok(Vec::new(alloc)), formals, args, given, body)
 }
 
-// The lesser of two faults, of which there may be none.
-fn either(first: Option<BodyFault>, second: Option<BodyFault>) -> Option<BodyFault>
-    ensures { result ≡ filling.either first second }
-{
-    match (first, second) {
-        (None, second) => second,
-        (Some(first), None) => Some(first),
-        (Some(first), Some(second)) => Some(lesser(first, second)),
-    }
-}
-
-fn fault_of(filled: &Filled) -> Option<BodyFault>
+fn fault_of(filled: &Filled) -> Option<LineFault>
     ensures { result ≡ filling.fault_of (filling.seen_filled filled.now) }
 {
     match filled {
@@ -203,13 +177,13 @@ pub fn turns_fault(
     formals: &Formals,
     body: &[Piece],
     args: &[Tokens],
-) -> Result<Option<BodyFault>, NoMemory>
+) -> Result<Option<LineFault>, NoMemory>
     ensures { IfOk result (λ r. (head : PieceOf) → r ≡ filling.fault_of (filling.fill_turns formals.now head body.now args.now)) }
 {
     let mut found = None;
     for arg in args {
         let turn = fill_over(alloc, formals, body, arg)?;
-        found = either(found, fault_of(&turn));
+        found = lesser(found, fault_of(&turn));
     }
     Ok(found)
 }

@@ -8,4 +8,4 @@ pub mod cutting;
 pub mod piece;
 
 pub use ahead::{Ahead, Over};
-pub use piece::{BodyFault, Extent, Mark, Marks, Piece};
+pub use piece::{Extent, Mark, Marks, Piece};

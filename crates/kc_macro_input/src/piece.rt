@@ -41,13 +41,6 @@ pub struct Piece {
     pub tokens: Option<Tokens>,
 }
 
-/// A fault of a body: its line and its code.
-#[derive(Clone, Copy, Debug, PartialEq, Eq)]
-pub struct BodyFault {
-    pub line: u32,
-    pub code: u8,
-}
-
 /// What is taken off the text: a body up to its ENDM, the part of an IF up to its ELSE or ENDIF, or all up to its ENDIF.
 #[derive(Clone, Copy, Debug, PartialEq, Eq)]
 pub enum Extent {

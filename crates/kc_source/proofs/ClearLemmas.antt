@@ -2,24 +2,12 @@
 use Rattle.std.proofs.Common.{◌≡◌, ℕ, Bool, true, false, cond, ◌||◌, ◌&&◌, List, [], ◌∷◌, ◌++◌, Option, Some, None, refl, sym, ap, ◌∙◌}
 use Rattle.std.specs.Option.{option_to_list}
 use Rattle.std.specs.Str.{bytes_eq}
+use Rattle.kc_lex.proofs.FaultLemmas.{no_least}
 use Rattle.kc_source.specs.declared.uses.Use.{Use}
 use Rattle.kc_source.specs.declared.uses.UseKind.{UseKind}
 use Rattle.kc_source.specs.declared.uses.UseKind.TheVariants.{Once, Again, Taken, Given}
-use Rattle.kc_source.specs.Faults.{Fault, is_before, lesser, least, at_line, has_use, is_once, is_again, is_taken, is_defined, is_one_too_many, use_code, name_faults, line_faults, faults_of, all_said, all_uses}
+use Rattle.kc_source.specs.Faults.{at_line, has_use, is_once, is_again, is_taken, is_defined, is_one_too_many, use_code, name_faults, line_faults, faults_of, all_said, all_uses}
 use Rattle.kc_source.specs.Clear.{IsClear, NamesAreClear}
-
-some_or_some : (b : Bool) (f g : Fault) → cond b (Some g) (Some f) ≡ None → ⊥
-some_or_some true f g e = cc
-some_or_some false f g e = cc
-
-lesser_some : (f : Fault) (o : Option Fault) → lesser (Some f) o ≡ None → ⊥
-lesser_some f None e = cc
-lesser_some f (Some g) e = some_or_some (is_before g f) f g e
-
-no_least : (fs : List Fault) → least fs ≡ None → fs ≡ []
-unfolding least
-no_least [] e = refl
-no_least (f ∷ fs) e = absurd (lesser_some f (least fs) e)
 
 second_empty : {A : Type 0} (xs ys : List A) → xs ++ ys ≡ [] → ys ≡ []
 second_empty [] ys e = e

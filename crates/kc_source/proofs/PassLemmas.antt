@@ -7,7 +7,7 @@ use Rattle.kc_source.specs.declared.pass.Pass.{Pass}
 use Rattle.kc_source_statement.specs.Operands.{is_nil}
 use Rattle.kc_source.specs.Faults.{Fault, lesser, least, Said, said, all_said, code_at, code_behind, at_line, line_faults, uses_of, all_uses, name_faults, faults_of, stmt_said}
 use Rattle.kc_source.specs.Passing.{IsReading}
-use Rattle.kc_source.proofs.FaultLemmas.{lesser_none, lesser_assoc, least_append, least_one, nothing_found}
+use Rattle.kc_lex.proofs.FaultLemmas.{lesser_none, lesser_assoc, least_append, least_one, nothing_found}
 
 blank : (l : Line) (ls : List Line) → is_nil l.tokens ≡ true → all_said (l ∷ ls) ≡ all_said ls
 unfolding all_said

@@ -12,7 +12,7 @@ use Rattle.kc_source.specs.declared.uses.UseKind.{UseKind}
 use Rattle.kc_source.specs.declared.uses.UseKind.TheVariants.{Once, Again, Taken, Given}
 use Rattle.kc_source.specs.Faults.{Fault, lesser, least, at_line, has_use, brings_name, name_count, is_one_too_many, use_code, name_faults}
 use Rattle.kc_source.specs.Known.{nothing, known_at, joined, summary, IsTable, brings, known_code}
-use Rattle.kc_source.proofs.FaultLemmas.{lesser_assoc, least_one}
+use Rattle.kc_lex.proofs.FaultLemmas.{lesser_assoc, least_one}
 
 -- ---- the entries of a map
 

@@ -1,6 +1,7 @@
-use Rattle.std.proofs.Common.{◌≤◌, inr, length, arith, Ok, Err}
+use Rattle.std.proofs.Common.{◌≤◌, inr, length, sym, subst, arith, Ok, Err}
+use Rattle.kc_lex.specs.declared.fault.SourceFault.{SourceFault}
 use Rattle.kc_source.specs.Faults.{AreStatements}
-use Rattle.kc_asm.specs.Assembled.{AreSaid, IsMade}
+use Rattle.kc_asm.specs.Assembled.{AreSaid, IsMade, IsAssembled}
 use Rattle.kc_asm.proofs.Characters.{has_characters}
 use Rattle.kc_source_laws.proofs.Counts.{line_count, stmt_count}
 use Rattle.kc_asm.proofs.assembling.assemble.Goals as goal
@@ -27,5 +28,5 @@ pub returns-in-Ok-Err : goal.returns-in-Ok-Err
 returns-in-Ok-Err c =
     let statements : AreStatements c.in_ok-stmts.stmts.items c.in_ok-text.text.items = rw c.deref.ensures.value at c.in_ok-stmts.ensures in
     let said : AreSaid c.args.source.now c.in_ok-stmts.stmts.items = (c.in_ok-text.text.items, (c.in_ok-lines.lines.items, c.in_ok-lines.ensures, c.in_ok-text.ensures.lines), statements) in
-    let told : IsMade c.in_ok-stmts.stmts.items (Err c.in-Ok-Err.field-0-0) = rw (c.deref-2.ensures.value, c.in-Ok-Err.field-0-is) at c.in-Ok-Err.ensures in
-    inr (inr (inr (c.in_ok-stmts.stmts.items, said, told)))
+    let told : IsMade c.in_ok-stmts.stmts.items (Err c.in-Ok-Err.fault) = rw (c.deref-2.ensures.value, c.in-Ok-Err.field-0-is) at c.in-Ok-Err.ensures in
+    subst (λ (e : SourceFault). IsAssembled c.args.source.now (Err e)) (sym c.from.ensures) (inr (inr (inr (c.in_ok-stmts.stmts.items, said, told))))

@@ -1,7 +1,7 @@
 use Rattle.std.proofs.Common.{◌<◌, ◌≤◌, inr, Result, length, subst, arith}
 use Rattle.kc_asm_check.specs.Checked.{IsJudged}
 use Rattle.kc_asm_check.specs.declared.checked.Checked.{Checked}
-use Rattle.kc_asm_check.specs.declared.fault.Fault.{Fault}
+use Rattle.kc_lex.specs.LineFaults.{Fault}
 use Rattle.kc_asm_module.specs.ModuleOf.{pieces_in}
 use Rattle.kc_asm.proofs.assembling.module_or_fault.Goals as goal
 

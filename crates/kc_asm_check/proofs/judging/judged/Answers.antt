@@ -1,9 +1,7 @@
 use Rattle.std.proofs.Common.{◌≡◌, ◌≤◌, [], sym, ap, ◌∙◌, length, arith}
 use Rattle.std.specs.Prelude.{None}
-use Rattle.std.specs.Option.{option_map}
 use Rattle.kc_asm_check.specs.Codes.{first_regions}
 use Rattle.kc_asm_check.specs.Judging.{first_fault, site_list, standing}
-use Rattle.kc_asm_check.specs.Pairs.{pair}
 use Rattle.kc_asm_check.specs.Putting.{stack_of}
 use Rattle.kc_asm_check.proofs.CountLemmas.{standing_count}
 use Rattle.kc_asm_check.proofs.SoundLemmas.{sound_statements}
@@ -13,7 +11,7 @@ use Rattle.kc_asm_check.proofs.judging.judged.Goals as goal
 pub overflow_cast-result : goal.overflow_cast-result
 overflow_cast-result c =
     let stmts = c.args.stmts.now in
-    let sound : first_fault stmts ≡ None = sym c.requires.found ∙ ap (option_map pair) c.in-None.is in
+    let sound : first_fault stmts ≡ None = sym c.requires.found ∙ c.in-None.is in
     let count : length (standing stmts) ≡ length stmts = standing_count stmts in
     let each : length (standing stmts) ≤ length (site_list stmts) = omega (arith, count, c.requires.each) in
     let few : stack_of stmts ≤ 65535

@@ -1,7 +1,7 @@
-use Rattle.std.proofs.Common.{rules}
+use Rattle.std.proofs.Common.{rules, sym}
 use Rattle.std.proofs.lemmas.Fn.{always_returns_same}
 use Rattle.kc_lex.proofs.SearchLemmas.{order}
-use Rattle.kc_lex.proofs.ReservedLemmas.{found_there, found_none}
+use Rattle.kc_lex.proofs.ReservedLemmas.{found_there, found_none, says_unlike}
 use Rattle.kc_lex.proofs.reserved.find.Goals as goal
 
 pub returns-in-Ok-clause-operator : goal.returns-in-Ok-clause-operator
@@ -53,3 +53,18 @@ pub returns-in-Err-clause-stack : goal.returns-in-Err-clause-stack
 returns-in-Err-clause-stack c =
     let parted = c.in-Err.ensures.position (λ entry. order entry.0.now c.args.word.now) (always_returns_same _ _ _ (λ a r f called. search rules)) in
     (found_none (λ entry. (entry.0.now, entry.1)) _ c.all_words-words.ensures c.args.word.now c.in-Err.field-0 parted).stack
+
+pub returns-then-not-is_short_word-clause-operator : goal.returns-then-not-is_short_word-clause-operator
+returns-then-not-is_short_word-clause-operator c = (says_unlike c.args.word.now (sym c.if-not-is_short_word.ensures)).operator
+
+pub returns-then-not-is_short_word-clause-condition : goal.returns-then-not-is_short_word-clause-condition
+returns-then-not-is_short_word-clause-condition c = (says_unlike c.args.word.now (sym c.if-not-is_short_word.ensures)).condition
+
+pub returns-then-not-is_short_word-clause-branch : goal.returns-then-not-is_short_word-clause-branch
+returns-then-not-is_short_word-clause-branch c = (says_unlike c.args.word.now (sym c.if-not-is_short_word.ensures)).branch
+
+pub returns-then-not-is_short_word-clause-directive : goal.returns-then-not-is_short_word-clause-directive
+returns-then-not-is_short_word-clause-directive c = (says_unlike c.args.word.now (sym c.if-not-is_short_word.ensures)).directive
+
+pub returns-then-not-is_short_word-clause-stack : goal.returns-then-not-is_short_word-clause-stack
+returns-then-not-is_short_word-clause-stack c = (says_unlike c.args.word.now (sym c.if-not-is_short_word.ensures)).stack

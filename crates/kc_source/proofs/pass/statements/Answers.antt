@@ -1,7 +1,7 @@
 use Rattle.std.proofs.Common.{◌≡◌, [], Err, sym, ap, subst, ◌∙◌}
 use Rattle.kc_lex.specs.declared.fault.SourceFault.{SourceFault}
 use Rattle.kc_source.specs.Faults.{least, name_faults, faults_of, IsStatements}
-use Rattle.kc_source.proofs.FaultLemmas.{nothing_found}
+use Rattle.kc_lex.proofs.FaultLemmas.{nothing_found}
 use Rattle.kc_source.proofs.PassLemmas.{first_fault, all_stmts}
 use Rattle.kc_source.proofs.pass.statements.Goals as goal
 

@@ -1,10 +1,8 @@
 use Rattle.std.proofs.Common.{◌∙◌, ap, subst}
-use Rattle.std.specs.Option.{option_map}
-use Rattle.kc_source.specs.Faults as faults
+use Rattle.kc_lex.specs.LineFaults as faults
 use Rattle.kc_expr.specs.declared.values.Value.{Value}
 use Rattle.kc_asm_symbols.specs.Located.{located_at}
 use Rattle.kc_asm_symbols.specs.Walk.{IsAt}
-use Rattle.kc_asm_check.specs.Pairs.{pair}
 use Rattle.kc_asm_check.proofs.walk.Walk.enter.Goals as goal
 
 pub returns-clause-at : goal.returns-clause-at
@@ -15,5 +13,5 @@ returns-clause-at c = λ all before behind.
 pub returns-clause-found : goal.returns-clause-found
 returns-clause-found c = λ all before behind.
     c.lesser-self.ensures
-    ∙ ap (faults.lesser (option_map pair c.args.self.now.found))
+    ∙ ap (faults.lesser c.args.self.now.found)
     (c.at_line.ensures ∙ ap (faults.at_line c.args.stmt.now.line) (c.in_ok-code.ensures all before (returns-clause-at c all before behind)))

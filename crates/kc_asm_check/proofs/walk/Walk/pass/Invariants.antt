@@ -1,8 +1,6 @@
 use Rattle.std.proofs.Common.{◌+◌, ◌*◌, ◌≤◌, [], drop}
-use Rattle.std.specs.Option.{option_map}
-use Rattle.kc_source.specs.Faults.{least, lesser}
+use Rattle.kc_lex.specs.LineFaults.{least, lesser}
 use Rattle.kc_asm_symbols.specs.Located.{located}
-use Rattle.kc_asm_check.specs.Pairs.{pair}
 use Rattle.kc_asm_check.specs.Judging.{faults_from, place_at}
 use Rattle.kc_asm_check.specs.Putting.{puts_from, stack_from}
 use Rattle.kc_asm_check.proofs.WalkLemmas.{Passing, left_from}
@@ -13,7 +11,7 @@ invariant-loop-i l = record {
   pieces : l.self.segment.count ≤ l.i + 3;
   bytes : l.self.sum ≤ 65535 * l.i;
   passing : Passing l.self (located (place_at l.sites) l.stmts) (left_from (place_at l.sites) l.i l.self.segment l.stmts) (drop l.i l.sites)
-      (lesser (option_map pair l.fn.self.found) (least (faults_from (located (place_at l.sites) l.stmts) l.fn.self.regions.items 0 [] (located (place_at l.sites) l.stmts) l.sites)))
+      (lesser l.fn.self.found (least (faults_from (located (place_at l.sites) l.stmts) l.fn.self.regions.items 0 [] (located (place_at l.sites) l.stmts) l.sites)))
       (puts_from (located (place_at l.sites) l.stmts) [] (located (place_at l.sites) l.stmts) l.sites)
       (stack_from (located (place_at l.sites) l.stmts) 0 [] (located (place_at l.sites) l.stmts));
 }
