@@ -1,5 +1,3 @@
-pub mod Watching
-pub mod WatchLaws
 pub mod Life
 pub mod Spans
 pub mod Lives

@@ -64,10 +64,12 @@ use Rattle.kc_kit_inputs.specs.Stimuli as stimulus
 use Rattle.kc_kit_answer.specs.Accepting.{Accepting, IsOneText, AreTwoTexts, told}
 use Rattle.kc_kit_answer.specs.Answer.{OneText, TwoTexts, Parted, CommandAnswer, MayAnswer, IsAccepted, StaysBut}
 use Rattle.kc_kit_answer.specs.Assemble.{AreListings, AssembleAnswer}
-use Rattle.kc_kit_answer.specs.Debug.{debugged_by, debug_reply, DebugAnswer, IsDebuggable}
+use Rattle.kc_kit_running.specs.Scripted.{debugged_by}
+use Rattle.kc_kit_answer.specs.Debug.{debug_reply, DebugAnswer, IsDebuggable}
 use Rattle.kc_kit_answer.specs.Dump.{DumpAnswer, IsTraceText}
 use Rattle.kc_kit_answer.specs.Explain.{explained_by, explained}
-use Rattle.kc_kit_answer.specs.Generate.{made_names, made_texts, made_given, summary_of}
+use Rattle.kc_kit_running.specs.Counted.{summary_of}
+use Rattle.kc_kit_answer.specs.Generate.{made_names, made_texts, made_given}
 use Rattle.kc_kit_answer.specs.Hex.{HexTold, RunHexAnswer, ListingOf, ListAnswer}
 use Rattle.kc_kit_notes.specs.Rules.{link_line, member_words}
 use Rattle.kc_kit_notes.specs.RuleNotes.{link_note}
@@ -75,10 +77,11 @@ use Rattle.kc_kit_answer.specs.Link.{IsMap, map_writes, LinksTo, Taking, Complet
 use Rattle.kc_kit_answer.specs.Pack.{packed, PackAnswer}
 use Rattle.kc_kit_answer.specs.Places.{by_places, places_of, Placing}
 use Rattle.kc_debug_script.specs.declared.line_map.MapEntry.{MapEntry}
-use Rattle.kc_kit_answer.specs.Profile.{map_entry, DrivenWithLines, LinkedWithLines, LinesTold, ProfileAnswer, ProfileHexAnswer, profile_reply}
+use Rattle.kc_kit_running.specs.Profiled.{profile_reply}
+use Rattle.kc_kit_answer.specs.Profile.{map_entry, DrivenWithLines, LinkedWithLines, LinesTold, ProfileAnswer, ProfileHexAnswer}
 use Rattle.kc_kit_answer.specs.Run.{Driven, LinkedTold, SourcesTold, RunAnswer}
-use Rattle.kc_kit_answer.specs.Lives.{board_lives, reply_over, board_reply}
-use Rattle.kc_kit_answer.specs.Running.{status_of, run_of}
+use Rattle.kc_kit_running.specs.Lives.{board_lives, reply_over, board_reply}
+use Rattle.kc_kit_running.specs.Running.{status_of, run_of}
 
 -- ---- steps
 

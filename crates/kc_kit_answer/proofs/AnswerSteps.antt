@@ -22,7 +22,7 @@ use Rattle.kc_kit_notes.specs.Rules.{member_words}
 use Rattle.kc_kit_answer.specs.Link.{Taking, Completed}
 use Rattle.kc_kit_answer.specs.Answer.{OneText, Parted, MayAnswer, MayAnswerBy}
 use Rattle.kc_kit_inputs.specs.declared.driving.Driving.{Driving}
-use Rattle.kc_kit_answer.specs.declared.board.Board.{Board}
+use Rattle.kc_kit_running.specs.declared.board.Board.{Board}
 use Rattle.kc_kit_answer.specs.Jobs.{IsBoard, does, IsPrepared, Prepares, IsReady, IsOf}
 
 -- ---- steps

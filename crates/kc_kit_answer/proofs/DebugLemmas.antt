@@ -1,29 +1,20 @@
 -- A script that is judged and carried out.
-use Rattle.std.proofs.Common.{◌≡◌, inl, ℕ, ◌≤◌, List, [], ◌∷◌, length, Option, Result, Ok, Err, refl, ap, subst, ◌∙◌}
+use Rattle.std.proofs.Common.{◌≡◌, ℕ, ◌≤◌, List, [], ◌∷◌, length, Option, Result, Ok, Err, ap, subst, ◌∙◌}
 use Rattle.std.specs.Prelude.{Some}
 use Rattle.kc_base.specs.Held.{Holding, Told}
-use Rattle.kc_base.specs.Causes.{Rose, Grew, GrewByPart}
-use Rattle.kc_machine_spec.specs.declared.doing.End.{End}
-use Rattle.kc_machine_spec.specs.declared.doing.End.TheVariants as end
-use Rattle.kc_machine_spec.specs.Machine.{Machine}
-use Rattle.kc_machine_spec.specs.Run.{end_of}
 use Rattle.kc_debug_script.specs.declared.command.Command.{Command}
 use Rattle.kc_debug_script.specs.declared.line_map.MapEntry.{MapEntry}
-use Rattle.kc_debug.specs.Transcript.{Debugged, transcript}
-use Rattle.kc_kit_files.specs.declared.status.Status.TheVariants as status
 use Rattle.kc_kit_files.specs.declared.refusal.Refusal.{Refusal}
 use Rattle.kc_kit_files.specs.Reply.{Reply, IsRefused}
-use Rattle.kc_kit_files.specs.Outside.{Kept, Shown, Replies}
 use Rattle.kc_kit_files.specs.Reads.{AreHeld, MissedOne, MissedRead}
 use Rattle.kc_kit_files.proofs.ReadLemmas.{refused-widen, held-one, held-both, missed-one, missed-first, missed-second}
 use Rattle.kc_kit_inputs.specs.declared.driving.Driving.{Driving}
 use Rattle.kc_kit_inputs.specs.Driving.{GivenFiles}
 use Rattle.kc_kit_inputs.specs.Scripts.{script_of, lines_of}
 use Rattle.kc_kit_answer.specs.Accepting.{told}
-use Rattle.kc_kit_answer.specs.Debug.{debugged_by, debug_reply, script_reply}
+use Rattle.kc_kit_running.specs.Scripted.{debugged_by, script_reply}
+use Rattle.kc_kit_answer.specs.Debug.{debug_reply}
 use Rattle.kc_kit_answer.specs.Hex.{HexTold}
-use Rattle.kc_kit_answer.specs.Fitted.{FittedUnit, fitted_further}
-use Rattle.kc_kit_answer.specs.Running.{machine_of, status_of}
 
 -- ---- two names that are read
 
@@ -77,23 +68,3 @@ pub script-carried : (name text : List ℕ) (given : GivenFiles) (script : List 
 script-carried name text given script lines driving image commands entries board e f =
     subst (HexTold name given text (debug_reply script lines))
     (with-commands script lines driving image commands e ∙ told-ok (lines_of lines) entries (λ entries. script_reply (debugged_by entries commands driving image)) f) (board (debug_reply script lines))
-
--- ---- a script that is carried out
-
--- what stands of a script over the machine and the lines of a session
-abbrev pub carried : List MapEntry → List Command → Machine FittedUnit → Debugged FittedUnit
-carried lines commands m = transcript fitted_further lines commands m
-
-pub carried-start : (session lines : List MapEntry) (commands : List Command) (m : Machine FittedUnit) (driving : Driving) (image : List ℕ) → session ≡ lines → m ≡ machine_of driving image → carried session commands m ≡ debugged_by lines commands driving image
-carried-start session lines commands m driving image e f = ap (λ l. carried l commands m) e ∙ ap (carried lines commands) f
-
--- with its text whole
-pub script-whole : {X : Type 0} (d : Debugged X) (may : Reply → Type 0) (files : Kept) (old new : Shown) (how : End) → may (script_reply d) → how ≡ end_of d.machine → Grew old.written d.text new.written → Replies may files old (status_of how) files new
-script-whole d may files old new end.Spent m e h = record { reply = script_reply d; is_answer = m; status = ap status_of e; text = h; files = refl }
-script-whole d may files old new end.Powerdown m e h = record { reply = script_reply d; is_answer = m; status = ap status_of e; text = h; files = refl }
-script-whole d may files old new end.Reset m e h = record { reply = script_reply d; is_answer = m; status = ap status_of e; text = h; files = refl }
-script-whole d may files old new (end.Undefined what) m e h = record { reply = script_reply d; is_answer = m; status = ap status_of e; text = h; files = refl }
-
--- with a front of it, where the sink has failed
-pub script-part : {X : Type 0} (d : Debugged X) (may : Reply → Type 0) (files : Kept) (old new : Shown) → may (script_reply d) → GrewByPart old.written d.text new.written → Rose old.faults new.faults → Replies may files old status.WriteFault files new
-script-part d may files old new m h c = inl (record { reply = script_reply d; is_answer = m; text = h; cause = c; files = refl })

@@ -11,7 +11,7 @@ use Rattle.kc_kit_words.specs.declared.extent.Extent.{Extent}
 use Rattle.kc_kit_inputs.specs.declared.driving.Driving.{Driving}
 use Rattle.kc_kit_answer.specs.declared.job.Job.{Job}
 use Rattle.kc_kit_answer.specs.Jobs.{does}
-use Rattle.kc_kit_answer.specs.Lives.{reply_over, board_reply}
+use Rattle.kc_kit_running.specs.Lives.{reply_over, board_reply}
 
 pub record IsPrinted (reply : Reply) : Type 0 where
   pub none : reply.writes ≡ []

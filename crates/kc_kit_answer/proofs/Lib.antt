@@ -5,9 +5,6 @@ pub mod HelpLemmas
 pub mod LinesLemmas
 pub mod LinkLemmas
 pub mod Listed
-pub mod LivesLemmas
 pub mod MadeLemmas
-pub mod ProfileLemmas
-pub mod RunLemmas
 pub mod SourceLemmas
 pub mod WriteLemmas

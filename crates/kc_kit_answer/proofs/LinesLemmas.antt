@@ -20,7 +20,7 @@ use Rattle.kc_kit_files.proofs.ReadLemmas.{refused-widen}
 use Rattle.kc_kit_inputs.specs.declared.driving.Driving.{Driving}
 use Rattle.kc_kit_inputs.specs.Driving.{GivenFiles, driving_of}
 use Rattle.kc_kit_inputs.specs.Sources.{AreModules}
-use Rattle.kc_kit_answer.specs.declared.board.Board.{Board}
+use Rattle.kc_kit_running.specs.declared.board.Board.{Board}
 use Rattle.kc_kit_answer.specs.Jobs.{IsBoardWithLines}
 use Rattle.kc_kit_answer.specs.Places.{by_places, Placing}
 use Rattle.kc_kit_answer.specs.Profile.{map_entry, FilledWithLines, LinkedWithLines, DrivenWithLines}

@@ -1,5 +1,5 @@
 -- Files that are written.
-use Rattle.std.proofs.Common.{◌≡◌, ◌≢◌, ◌⊎◌, inl, inr, ℕ, ◌≤◌, List, [], ◌∷◌, ◌++◌, refl, sym, subst, arith}
+use Rattle.std.proofs.Common.{◌≡◌, ◌≢◌, inl, inr, ℕ, ◌≤◌, List, [], ◌∷◌, ◌++◌, refl, sym, subst, arith}
 use Rattle.kc_base.specs.Causes.{Rose}
 use Rattle.kc_base.proofs.Growth.{Grew-nothing}
 use Rattle.kc_kit_files.specs.declared.status.Status.{Status}
@@ -9,26 +9,8 @@ use Rattle.kc_kit_files.specs.declared.ended.Said.{Said}
 use Rattle.kc_kit_files.specs.declared.ended.Said.TheVariants as said
 use Rattle.kc_kit_files.specs.Ended.{said_in, EndsBy}
 use Rattle.kc_kit_files.specs.Reply.{Reply, Write, done_writing}
-use Rattle.kc_kit_files.specs.Outside.{Kept, Shown, Wrote, WroteByPart, RefusedAt, WroteOne, OthersStay}
-use Rattle.kc_kit_answer.specs.Jobs.{IsRefusedAt, AreWrittenBy, AreWritten}
-
--- ---- one file
-
--- the file that is said has this name
-abbrev pub IsNamed : Said → List ℕ → Type 0
-IsNamed (said.File name) file = file ≡ name.now
-IsNamed _ file = ⊥
-
-refused-first : (old new : Kept) (w : Write) (what : Said) → IsNamed what w.name → OthersStay old.held w.name new.held → Rose old.faults new.faults → IsRefusedAt what old (w ∷ []) new
-refused-first old new w (said.File name) is others rose = (rose, inl (is, others))
-refused-first old new w said.Nothing is others rose = absurd is
-refused-first old new w (said.Refusal note) is others rose = absurd is
-
-pub written-one : (old new : Kept) (w : Write) (given : Status) (what : Said) → IsNamed what w.name → (given ≡ status.Done) ⊎ ((given ≡ status.WriteFault) ⊎ (given ≡ status.NoMemory)) → (given ≡ status.Done → WroteOne old.held w new.held) →
-    OthersStay old.held w.name new.held → (given ≡ status.WriteFault → Rose old.faults new.faults) → AreWrittenBy old (w ∷ []) given what new
-written-one old new w given what is (inl e) one others rose = subst (λ s. AreWrittenBy old (w ∷ []) s what new) (sym e) (new, one e, refl)
-written-one old new w given what is (inr (inl e)) one others rose = subst (λ s. AreWrittenBy old (w ∷ []) s what new) (sym e) (refused-first old new w what is others (rose e))
-written-one old new w given what is (inr (inr e)) one others rose = subst (λ s. AreWrittenBy old (w ∷ []) s what new) (sym e) (inl others)
+use Rattle.kc_kit_files.specs.Outside.{Kept, Shown, Wrote, WroteByPart, RefusedAt}
+use Rattle.kc_kit_running.specs.Writing.{IsRefusedAt, AreWrittenBy, AreWritten}
 
 -- ---- some files, and then others
 

@@ -2,29 +2,16 @@
 use Rattle.std.specs.Prelude.{ℕ, List, Option}
 use Rattle.std.specs.Result.{IsOk}
 use Rattle.kc_hex.specs.Records.{image_of}
-use Rattle.kc_machine_spec.specs.Run.{end_of}
-use Rattle.kc_debug_script.specs.declared.command.Command.{Command}
-use Rattle.kc_debug_script.specs.declared.line_map.MapEntry.{MapEntry}
-use Rattle.kc_debug.specs.Transcript.{Debugged, transcript}
-use Rattle.kc_kit_files.specs.Reply.{Reply, says}
+use Rattle.kc_kit_files.specs.Reply.{Reply}
 use Rattle.kc_kit_words.specs.declared.inputs.Role.{Role}
 use Rattle.kc_kit_words.specs.declared.inputs.Role.TheVariants as role
 use Rattle.kc_kit_inputs.specs.declared.driving.Driving.{Driving}
 use Rattle.kc_kit_inputs.specs.Driving.{given_for, driving_of}
 use Rattle.kc_kit_inputs.specs.Inputs.{input_for}
 use Rattle.kc_kit_inputs.specs.Scripts.{script_of, lines_of}
+use Rattle.kc_kit_running.specs.Scripted.{debugged_by, script_reply}
 use Rattle.kc_kit_answer.specs.Accepting.{told}
 use Rattle.kc_kit_answer.specs.Hex.{HexTold}
-use Rattle.kc_kit_answer.specs.Fitted.{FittedUnit, fitted_further}
-use Rattle.kc_kit_answer.specs.Running.{machine_of, status_of}
-
--- the reply of a script that was carried out: how its machine stands when the script ends, and the transcript
-abbrev pub script_reply : {X : Type 0} → Debugged X → Reply
-script_reply d = says (status_of (end_of d.machine)) d.text
-
--- commands over the machine of an image that was reset, where these drive the inputs; with the entries of a line map
-abbrev pub debugged_by : List MapEntry → List Command → Driving → List ℕ → Debugged FittedUnit
-debugged_by lines commands driving image = transcript fitted_further lines commands (machine_of driving image)
 
 -- with an image and what drives the inputs, the script is judged, then the line map, and then the script is carried out
 abbrev pub debug_reply : List ℕ × List ℕ → Option (List ℕ × List ℕ) → Driving → List ℕ → Reply

@@ -8,7 +8,7 @@ use Rattle.kc_kit_words.specs.declared.inputs.Role.{Role}
 use Rattle.kc_kit_inputs.specs.declared.driving.Driving.{Driving}
 use Rattle.kc_kit_inputs.specs.Driving.{GivenFiles, given_for, driving_of}
 use Rattle.kc_kit_inputs.specs.Hex.{hex_of}
-use Rattle.kc_kit_answer.specs.Lives.{board_reply}
+use Rattle.kc_kit_running.specs.Lives.{board_reply}
 
 -- the image of a hex file is judged, then what drives the inputs, and with both the answer is this
 abbrev pub HexTold : List ℕ → GivenFiles → List ℕ → (Driving → List ℕ → Reply) → Reply → Type 0

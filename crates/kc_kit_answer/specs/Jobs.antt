@@ -3,33 +3,25 @@ use Rattle.std.specs.Prelude.{◌≡◌, ℕ, ◌≤◌, List, [], ◌∷◌, �
 use Rattle.std.specs.Global.{Vec}
 use Rattle.kc_code_listing.specs.Listing.{listing}
 use Rattle.kc_debug_script.specs.declared.line_map.MapEntry.{MapEntry}
-use Rattle.kc_base.specs.Causes.{Rose}
 use Rattle.kc_base.specs.Held.{Holding}
-use Rattle.kc_kit_files.specs.declared.status.Status.{Status}
 use Rattle.kc_kit_files.specs.declared.status.Status.TheVariants as status
-use Rattle.kc_kit_files.specs.declared.ended.Ended.{Ended}
-use Rattle.kc_kit_files.specs.declared.ended.Said.{Said}
-use Rattle.kc_kit_files.specs.declared.ended.Said.TheVariants as said
-use Rattle.kc_kit_files.specs.Ended.{said_in}
-use Rattle.kc_kit_files.specs.Outside.{Kept, OnlyRead, Wrote, WroteByPart, RefusedAt}
+use Rattle.kc_kit_files.specs.Outside.{OnlyRead}
 use Rattle.kc_kit_files.specs.declared.refusal.Refusal.{Refusal}
-use Rattle.kc_kit_files.specs.Reply.{Reply, Write, write, says, done_writing, IsRefused, IsSaid}
+use Rattle.kc_kit_files.specs.Reply.{Reply, Write, says, done_writing, IsRefused, IsSaid}
 use Rattle.kc_kit_words.specs.Asked.{IsBounded}
 use Rattle.kc_kit_words.specs.Values.{max_states}
 use Rattle.kc_kit_words.specs.Commands.{Command}
 use Rattle.kc_kit_inputs.specs.declared.driving.Driving.{Driving}
-use Rattle.kc_kit_answer.specs.declared.board.Board.{Board}
+use Rattle.kc_kit_running.specs.declared.board.Board.{Board}
 use Rattle.kc_kit_answer.specs.declared.job.Job.{Job}
 use Rattle.kc_kit_answer.specs.declared.job.Job.TheVariants as job
-use Rattle.kc_kit_answer.specs.declared.job.Output.{Output}
+use Rattle.kc_kit_running.specs.declared.output.Output.{Output}
 use Rattle.kc_kit_answer.specs.Answer.{MayAnswerBy}
-use Rattle.kc_kit_answer.specs.Debug.{debugged_by, script_reply}
-use Rattle.kc_kit_answer.specs.Generate.{summary_of}
-use Rattle.kc_kit_answer.specs.Lives.{board_reply}
-use Rattle.kc_kit_answer.specs.Profile.{profile_reply}
-
-abbrev pub written : Output → Write
-written o = write o.name.now o.bytes.items
+use Rattle.kc_kit_running.specs.Scripted.{debugged_by, script_reply}
+use Rattle.kc_kit_running.specs.Counted.{summary_of}
+use Rattle.kc_kit_running.specs.Lives.{board_reply}
+use Rattle.kc_kit_running.specs.Profiled.{profile_reply}
+use Rattle.kc_kit_running.specs.Writing.{written}
 
 abbrev pub maybe_written : Option Output → List Write
 maybe_written None = []
@@ -81,18 +73,3 @@ IsReady (Err refusal) = Unit {0}
 abbrev pub IsOf : Result Job Refusal → Reply → Type 0
 IsOf (Ok job) reply = reply ≡ does job
 IsOf (Err refusal) reply = IsSaid refusal reply
-
--- files are written, all of them or some and then one that is refused, which is said
-abbrev pub IsRefusedAt : Said → Kept → List Write → Kept → Type 0
-IsRefusedAt (said.File name) before ws now = Rose before.faults now.faults × RefusedAt name.now before ws now
-IsRefusedAt _ before ws now = ⊥
-
-abbrev pub AreWrittenBy : Kept → List Write → Status → Said → Kept → Type 0
-AreWrittenBy before ws status.Done what now = Wrote before ws now
-AreWrittenBy before ws status.WriteFault what now = IsRefusedAt what before ws now
-AreWrittenBy before ws status.NoMemory what now = WroteByPart before ws now
-AreWrittenBy before ws _ what now = ⊥
-
-pub record AreWritten (before : Kept) (ws : List Write) (ended : Ended) (now : Kept) : Type 0 where
-  pub written : AreWrittenBy before ws ended.status ended.said now
-  pub silent : said_in ended.said ≡ []

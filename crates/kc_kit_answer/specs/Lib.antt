@@ -4,17 +4,13 @@ pub mod Assemble
 pub mod Debug
 pub mod Dump
 pub mod Explain
-pub mod Fitted
 pub mod Generate
 pub mod Help
 pub mod Hex
 pub mod Jobs
 pub mod Lines
 pub mod Link
-pub mod Lives
 pub mod Pack
 pub mod Places
 pub mod Run
 pub mod Profile
-pub mod Running
-pub mod Watched

@@ -1,5 +1,5 @@
 -- The commands that run a board and write where its states go (this kit's own).
-use Rattle.std.specs.Prelude.{◌≡◌, ℕ, List, [], ◌∷◌, map, Result}
+use Rattle.std.specs.Prelude.{◌≡◌, ℕ, List, [], map, Result}
 use Rattle.kc_obj.specs.Object.{Object}
 use Rattle.kc_link_place.specs.declared.ranges.Ranges.{Ranges}
 use Rattle.kc_link_place.specs.Placing.{Places}
@@ -7,30 +7,15 @@ use Rattle.kc_link.specs.declared.lines.LineAt.{LineAt}
 use Rattle.kc_link.specs.Filled.{IsFilled}
 use Rattle.kc_link.specs.LineMap.{IsLineMap}
 use Rattle.kc_debug_script.specs.declared.line_map.MapEntry.{MapEntry}
-use Rattle.kc_machine_spec.specs.Run.{end_of}
-use Rattle.kc_machine_spec.specs.Text.{trace_of}
-use Rattle.kc_profile.specs.Spots.{spots_for}
-use Rattle.kc_profile.specs.Tally.{tally_of}
-use Rattle.kc_profile.specs.Text.{profile_text}
-use Rattle.kc_kit_files.specs.Reply.{Reply, Then, write, says_writing}
+use Rattle.kc_kit_files.specs.Reply.{Reply, Then}
 use Rattle.kc_kit_words.specs.declared.inputs.Role.{Role}
 use Rattle.kc_kit_inputs.specs.declared.driving.Driving.{Driving}
 use Rattle.kc_kit_inputs.specs.Driving.{GivenFiles, given_for, driving_of}
 use Rattle.kc_kit_inputs.specs.Sources.{SourcesAre}
-use Rattle.kc_kit_answer.specs.Fitted.{fitted_further}
+use Rattle.kc_kit_running.specs.Profiled.{profile_reply}
 use Rattle.kc_kit_answer.specs.Hex.{HexTold}
 use Rattle.kc_kit_answer.specs.Places.{Placing}
 use Rattle.kc_kit_answer.specs.Run.{IsImageOfTexts}
-use Rattle.kc_kit_answer.specs.Running.{machine_of, run_of, status_of}
-
--- where the states of a run go, in words, by a line map with these entries
-abbrev pub profile_of : ℕ → List MapEntry → Driving → List ℕ → List ℕ
-profile_of states entries driving image = profile_text (tally_of (spots_for fitted_further states (machine_of driving image))) entries
-
--- how a run ended, and its text; and behind it the profile is written
-abbrev pub profile_reply : ℕ → List ℕ → List MapEntry → Driving → List ℕ → Reply
-profile_reply states out entries driving image =
-    says_writing (status_of (end_of (run_of states driving image).machine)) (trace_of (run_of states driving image)) (write out (profile_of states entries driving image) ∷ [])
 
 -- ---- a hex file, which has no line map
 

@@ -21,7 +21,7 @@ use Rattle.kc_kit_inputs.specs.declared.driving.Driving.{Driving}
 use Rattle.kc_kit_inputs.specs.Driving.{GivenFiles, given_for, driving_of}
 use Rattle.kc_kit_inputs.specs.Sources.{AreModules, SourcesAre, AreFaultless}
 use Rattle.kc_kit_answer.specs.Places.{places_of, Placing}
-use Rattle.kc_kit_answer.specs.Lives.{board_reply}
+use Rattle.kc_kit_running.specs.Lives.{board_reply}
 
 -- the statements of sources, and the drafts of their modules
 abbrev pub AreDrafted : List (List ℕ) → List (List Stmt) → List Draft → List Object → Type 0

@@ -5,11 +5,12 @@ ghost use Rattle.kc_kit_words.specs.Asked.{asked};
 ghost use Rattle.kc_kit_answer.specs.Assemble.{AreListings, AssembleAnswer};
 ghost use Rattle.kc_kit_answer.specs.Jobs.{IsPrepared, Prepares, maybe_written};
 
-use crate::job::{Job, Output};
+use crate::job::Job;
 use kc_asm_list::listing;
 use kc_base::{Files, NoMemory};
 use kc_kit_files::{Refusal, read_file};
 use kc_kit_inputs::assemble_source;
+use kc_kit_running::Output;
 use kc_kit_words::{Assemble, Command};
 use kc_obj::{Module, encode};
 use std::alloc::Global;

@@ -8,21 +8,14 @@ ghost use Rattle.kc_kit_answer.specs.Jobs.{IsBoard};
 ghost use Rattle.kc_kit_answer.specs.Places.{Placing};
 ghost use Rattle.kc_kit_answer.specs.Run.{Driven, FilledTold, SourcesTold};
 
-use kc_base::Image;
 use kc_kit_files::Refusal;
-use kc_kit_inputs::{Driving, Given, assemble_sources, driving_in, image_of};
+use kc_kit_inputs::{Given, assemble_sources, driving_in, image_of};
 use kc_kit_notes::{Origins, link_refusal};
+use kc_kit_running::Board;
 use kc_kit_words::Ranges;
 use kc_link_source_laws::linked_image;
 use kc_obj::Module;
 use std::alloc::Global;
-
-/// A board: the image that its memory holds, and what drives its inputs.
-#[derive(Drop)]
-pub struct Board {
-    pub(crate) image: Image,
-    pub(crate) driving: Driving,
-}
 
 /// The board of a hex file by its name and its text, with what given files drive; or the refusal of the first fault.
 pub(crate) fn board_of_hex(

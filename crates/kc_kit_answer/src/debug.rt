@@ -1,27 +1,21 @@
 // The command that debugs a hex file by a script.
-ghost use Rattle.std.specs.Prelude.{◌≡◌, ◌≤◌, ◌∷◌, [], false, IfOk, IfErr, length, map};
+ghost use Rattle.std.specs.Prelude.{◌≤◌, ◌∷◌, [], IfOk, IfErr, length, map};
 ghost use Rattle.kc_base.specs.Causes.{Rose};
-ghost use Rattle.kc_kit_files.specs.Outside.{OnlyRead, Prints, shown_by};
+ghost use Rattle.kc_kit_files.specs.Outside.{OnlyRead};
 ghost use Rattle.kc_kit_files.specs.Reads.{AllShort, AreHeld, MissedRead};
 ghost use Rattle.kc_kit_files.specs.Reply.{IsRefused};
 ghost use Rattle.kc_kit_words.specs.Asked.{asked};
 ghost use Rattle.kc_kit_words.specs.Inputs.{inputs_in};
-ghost use Rattle.kc_kit_answer.specs.Debug.{debugged_by, script_reply, DebugAnswer};
+ghost use Rattle.kc_kit_answer.specs.Debug.{DebugAnswer};
 ghost use Rattle.kc_kit_answer.specs.Jobs.{IsPrepared, Prepares};
 
-use crate::board::{Board, board_of_hex};
-use crate::fitted::fitted_machine;
-use crate::image_run::status_of;
+use crate::board::board_of_hex;
 use crate::job::Job;
-use kc_base::{Files, Sink, Steps};
-use kc_debug::Session;
-use kc_debug_script::{LineMap, Script};
-use kc_kit_files::{Refusal, Status, read_file};
+use kc_base::Files;
+use kc_kit_files::{Refusal, read_file};
 use kc_kit_inputs::{given_for, input_for, lines_in, read_inputs, read_script};
 use kc_kit_words::{Command, Debug, Role};
-use kc_trace::TraceOut;
 use std::alloc::Global;
-use std::sync::ledger::{Blank, Ledger};
 
 // The bytes of two files, read in this order, or the refusal of the first that cannot be read.
 fn read_both<F: Files>(
@@ -91,33 +85,5 @@ fn debug_texts<'a>(
             lines,
         }),
         Err(refusal) => Err(refusal),
-    }
-}
-
-/// Carries out a script over a board, and prints its transcript.
-pub(crate) fn debug_board<S: Sink, L: Ledger>(
-    alloc: Global,
-    board: Board,
-    script: &Script,
-    lines: LineMap,
-    blank: Blank,
-    out: &mut TraceOut<S>,
-) -> Status
-    requires ready { out.old.failed ≡ false }
-    requires name { blank.name ≡ L.name }
-    requires parts { blank.parts ≡ L.parts }
-    requires whole { blank.parts ≡ 1 }
-    ensures { Prints (λ reply. reply ≡ script_reply (debugged_by lines script.now board.driving board.image)) (shown_by S.written S.faults out.old.sink) result (shown_by S.written S.faults out.new.sink) }
-{
-    let Ok(mut machine) = fitted_machine(alloc, board) else {
-        return Status::NoMemory;
-    };
-    let Ok(mut session) = Session::with_lines(alloc, lines) else {
-        return Status::NoMemory;
-    };
-    let mut steps = Steps::<L>::new(blank);
-    match session.run_script(script, &mut machine, out, &mut steps) {
-        Ok(end) => status_of(end),
-        Err(_) => Status::WriteFault,
     }
 }

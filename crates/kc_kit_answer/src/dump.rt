@@ -4,10 +4,11 @@ ghost use Rattle.kc_kit_words.specs.Asked.{asked, IsWithin};
 ghost use Rattle.kc_kit_answer.specs.Dump.{DumpAnswer};
 ghost use Rattle.kc_kit_answer.specs.Jobs.{IsPrepared, Prepares};
 
-use crate::job::{Job, Output};
+use crate::job::Job;
 use kc_base::Files;
 use kc_kit_files::{Refusal, read_file};
 use kc_kit_inputs::read_trace;
+use kc_kit_running::Output;
 use kc_kit_words::{Command, Dump};
 use std::alloc::Global;
 

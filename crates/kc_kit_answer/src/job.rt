@@ -1,30 +1,22 @@
 // What is left to do once a command's files are read and judged.
-ghost use Rattle.std.specs.Prelude.{◌≡◌, ◌≤◌, ◌∷◌, ◌++◌, [], false};
+ghost use Rattle.std.specs.Prelude.{◌≡◌, ◌≤◌, ◌∷◌, ◌++◌, false};
 ghost use Rattle.kc_kit_files.specs.Ended.{Ends};
 ghost use Rattle.kc_kit_files.specs.Outside.{kept};
-ghost use Rattle.kc_kit_answer.specs.Jobs.{AreWritten, IsDoable, does, written, maybe_written};
+ghost use Rattle.kc_kit_running.specs.Writing.{AreWritten, written};
+ghost use Rattle.kc_kit_answer.specs.Jobs.{IsDoable, does, maybe_written};
 
-use crate::board::Board;
-use crate::count::count_board;
-use crate::debug::debug_board;
-use crate::image_run::run_board;
 use crate::list::list_image;
-use crate::profile_run::{Target, profile_board};
 use kc_base::{Files, Image, Sink};
 use kc_debug_script::{LineMap, MapEntry, Script};
-use kc_kit_files::{Ended, Said, Status, write_file};
+use kc_kit_files::{Ended, Status};
+use kc_kit_running::{
+    Board, Output, Target, count_board, debug_board, profile_board, run_board, write_output,
+};
 use kc_kit_words::Extent;
 use kc_trace::TraceOut;
 use std::alloc::Global;
 use std::marker::Brand;
 use std::sync::ledger::Blank;
-
-/// A file that is to be written.
-#[derive(Drop)]
-pub struct Output<'a> {
-    pub(crate) name: &'a str,
-    pub(crate) bytes: Vec<u8>,
-}
 
 /// What is left to do: a run of a board that is printed, with or without a profile that is written, or of which the lines are counted, a listing of an image, a script
 /// over a board, or files to write: a first one, and
@@ -110,21 +102,6 @@ pub fn perform<'a, F: Files, S: Sink>(
         }
         Job::Write { file, lines, map } => write_files(alloc, &file, &lines, &map, files),
     }
-}
-
-/// Writes a file.
-pub(crate) fn write_output<'a, F: Files>(
-    alloc: Global,
-    file: &Output<'a>,
-    files: &mut F,
-) -> Ended<'a>
-    ensures written { AreWritten (kept (F.held files.old) (F.write_faults files.old)) (written file.now ∷ []) result (kept (F.held files.new) (F.write_faults files.new)) }
-    ensures later { F.write_faults files.old ≤ F.write_faults files.new }
-    ensures no_read { F.read_faults files.new ≡ F.read_faults files.old }
-{
-    let status = write_file(alloc, file.name, &file.bytes, files);
-    let said = Said::File(file.name);
-    Ended { status, said }
 }
 
 // Writes a file, if there is one.

@@ -3,36 +3,29 @@
 
 mod assemble;
 mod board;
-mod count;
 mod debug;
 mod dump;
 mod explaining;
-mod fitted;
-mod fitting;
 mod generate;
 mod help;
 mod helping;
-mod image_run;
 mod job;
 mod line_map;
 mod link;
 mod list;
-mod lives_run;
 mod pack;
 mod profile;
-mod profile_run;
 mod run;
 mod run_hex;
 
 pub use assemble::prepare_assemble;
-pub use board::Board;
 pub use debug::prepare_debug;
 pub use dump::prepare_dump;
 pub use explaining::explain_code;
 pub use generate::prepare_generate;
 pub use help::{HELP, VERSION};
 pub use helping::{tell_help, tell_help_on};
-pub use job::{Job, Output, perform};
+pub use job::{Job, perform};
 pub use link::prepare_link;
 pub use list::prepare_list;
 pub use pack::prepare_pack;

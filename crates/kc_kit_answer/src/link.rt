@@ -14,12 +14,13 @@ ghost use Rattle.kc_kit_answer.specs.Link.{Completed, LinkAnswer, LinksTo, AreLi
 ghost use Rattle.kc_kit_notes.specs.Origins.{words_of};
 ghost use Rattle.kc_kit_answer.specs.Places.{Placing};
 
-use crate::job::{Job, Output};
+use crate::job::Job;
 use crate::line_map::map_text;
 use kc_base::{Files, Image, NoMemory};
 use kc_kit_files::{Refusal, read_files};
 use kc_kit_inputs::{input_for, read_inputs, read_library, read_objects, take_members};
 use kc_kit_notes::{Members, Origins, link_refusal};
+use kc_kit_running::Output;
 use kc_kit_words::{Command, Link, Role};
 use kc_link::line_map;
 use kc_link_map::link_map;

@@ -7,11 +7,12 @@ ghost use Rattle.kc_kit_words.specs.Asked.{asked, AreFew, IsWithin};
 ghost use Rattle.kc_kit_answer.specs.Jobs.{IsPrepared, Prepares};
 ghost use Rattle.kc_kit_answer.specs.Pack.{PackAnswer, packed};
 
-use crate::job::{Job, Output};
+use crate::job::Job;
 use kc_base::Files;
 use kc_kit_files::{Refusal, read_files};
 use kc_kit_inputs::read_objects;
 use kc_kit_notes::{Origins, link_refusal};
+use kc_kit_running::Output;
 use kc_kit_words::{Command, Pack};
 use kc_lib::LibFault;
 use kc_link::LinkFault;

@@ -9,12 +9,13 @@ ghost use Rattle.kc_kit_answer.specs.Jobs.{IsBoardWithLines, IsPrepared, Prepare
 ghost use Rattle.kc_kit_answer.specs.Places.{Placing};
 ghost use Rattle.kc_kit_answer.specs.Profile.{map_entry, DrivenWithLines, FilledWithLines, LinesTold, ProfileAnswer, ProfileHexAnswer};
 
-use crate::board::{Board, board_of_hex, board_of_modules};
+use crate::board::{board_of_hex, board_of_modules};
 use crate::job::Job;
 use kc_base::{Files, NoMemory};
 use kc_debug_script::MapEntry;
 use kc_kit_files::{Refusal, read_file, read_files};
 use kc_kit_inputs::{Given, assemble_sources, given_for, read_inputs};
+use kc_kit_running::Board;
 use kc_kit_words::{Command, Profile, ProfileHex, Ranges};
 use kc_link::{LineAt, line_map};
 use kc_link_source_laws::linked_image;

@@ -30,7 +30,7 @@ use Rattle.kc_kit_inputs.specs.Sources.{AreModules}
 use Rattle.kc_kit_answer.specs.Link.{Completed, LinksTo}
 use Rattle.kc_kit_answer.specs.Places.{by_places, places_of, Placing}
 use Rattle.kc_kit_answer.specs.Run.{Driven, LinkedTold, RunAnswer}
-use Rattle.kc_kit_answer.specs.Lives.{board_reply}
+use Rattle.kc_kit_running.specs.Lives.{board_reply}
 use Rattle.kc_kit_answer.proofs.AnswerSteps.{then-ok, then-map}
 use Rattle.kc_kit_answer.proofs.SourceLemmas.{image-of}
 use Rattle.kc_kit_laws.specs.Alike.{hex_alone, RunsAlike}

@@ -40,7 +40,8 @@ use Rattle.kc_kit_answer.specs.Answer.{OneText, TwoTexts, Parted}
 use Rattle.kc_kit_answer.specs.Assemble.{AreListings, WritesObject, AssembleAnswer}
 use Rattle.kc_kit_answer.specs.Debug.{DebugAnswer, debug_reply}
 use Rattle.kc_kit_answer.specs.Dump.{WritesDump, DumpAnswer}
-use Rattle.kc_kit_answer.specs.Generate.{made_names, made_texts, made_given, summary_of}
+use Rattle.kc_kit_running.specs.Counted.{summary_of}
+use Rattle.kc_kit_answer.specs.Generate.{made_names, made_texts, made_given}
 use Rattle.kc_kit_answer.specs.Hex.{HexTold, RunHexAnswer, ListAnswer, ListingOf}
 use Rattle.kc_kit_notes.specs.Rules.{member_words}
 use Rattle.kc_kit_answer.specs.Lines.{map_text}
@@ -48,9 +49,10 @@ use Rattle.kc_kit_answer.specs.Link.{IsMap, map_writes, LinksTo, Taking, Complet
 use Rattle.kc_kit_answer.specs.Pack.{packed, PackAnswer}
 use Rattle.kc_kit_answer.specs.Places.{places_of, Placing}
 use Rattle.kc_debug_script.specs.declared.line_map.MapEntry.{MapEntry}
-use Rattle.kc_kit_answer.specs.Profile.{map_entry, DrivenWithLines, LinkedWithLines, LinesTold, ProfileAnswer, ProfileHexAnswer, profile_reply}
+use Rattle.kc_kit_running.specs.Profiled.{profile_reply}
+use Rattle.kc_kit_answer.specs.Profile.{map_entry, DrivenWithLines, LinkedWithLines, LinesTold, ProfileAnswer, ProfileHexAnswer}
 use Rattle.kc_kit_answer.specs.Run.{LinkedTold, Driven, SourcesTold, RunAnswer}
-use Rattle.kc_kit_answer.specs.Lives.{board_reply}
+use Rattle.kc_kit_running.specs.Lives.{board_reply}
 use Rattle.kc_kit_laws.specs.OneAnswer.{OneAnswer}
 
 -- ---- steps

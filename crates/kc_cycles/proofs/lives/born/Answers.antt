@@ -2,7 +2,7 @@ use Rattle.std.proofs.Common.{refl, sym, ◌∙◌, ap, subst}
 use Rattle.std.specs.Prelude.{bit_xor}
 use Rattle.kc_stim.specs.Drives.{driven_from}
 use Rattle.kc_block_spec.specs.Levels.{stimulated_before}
-use Rattle.kc_cycles.specs.declared.watchdog.Watchdog.{Watchdog}
+use Rattle.kc_watchdog.specs.declared.watchdog.Watchdog.{Watchdog}
 use Rattle.kc_cycles.proofs.Fitted.{room-left, apart-none, made-unit, made-machine}
 use Rattle.kc_cycles.proofs.lives.born.Goals as goal
 
@@ -22,7 +22,7 @@ returns-clause-unit g c =
     made-unit (λ w. w.machine) (g.M.Maker.made c.args.maker.now c.args.stimuli.now c.args.from) _ _ _ c.new-2.result
     (record {
       first = ap g.M.X.Extra.plain c.of.ensures.first ∙ c.in_ok-unit.ensures.value;
-      second = ap (λ (w : Watchdog). record w { moves = 0 }) (c.of.ensures.second ∙ c.new.ensures);
+      second = ap (λ (w : Watchdog). record w { idle = record { moves = 0 } }) (c.of.ensures.second ∙ c.new.ensures);
       moves = refl;
     })
     c.new-2.ensures.machine

@@ -1,7 +1,7 @@
 use Rattle.std.proofs.Common.{◌∙◌, ap, map, string_bytes}
 use Rattle.kc_kit_files.specs.Reply.{IsRefused}
 use Rattle.kc_kit_notes.proofs.Words.{texts_in}
-use Rattle.kc_kit_answer.specs.Generate.{summary_of}
+use Rattle.kc_kit_running.specs.Counted.{summary_of}
 use Rattle.kc_kit_answer.specs.Run.{SourcesTold}
 use Rattle.kc_kit_answer.proofs.MadeLemmas.{same-input, default-ranges}
 use Rattle.kc_kit_answer.proofs.generate.prepare_generate.Goals as goal

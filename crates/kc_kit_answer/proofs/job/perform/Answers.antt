@@ -3,11 +3,12 @@ use Rattle.kc_code_listing.specs.Listing.{listing}
 use Rattle.kc_kit_files.specs.declared.status.Status.TheVariants as status
 use Rattle.kc_kit_files.specs.Reply.{Reply, says}
 use Rattle.kc_kit_files.specs.Outside.{kept, shown}
-use Rattle.kc_kit_answer.specs.Debug.{debugged_by, script_reply}
-use Rattle.kc_kit_answer.specs.Jobs.{does, written, maybe_written}
-use Rattle.kc_kit_answer.specs.Generate.{summary_of}
-use Rattle.kc_kit_answer.specs.Lives.{board_reply}
-use Rattle.kc_kit_answer.specs.Profile.{profile_reply}
+use Rattle.kc_kit_running.specs.Scripted.{debugged_by, script_reply}
+use Rattle.kc_kit_running.specs.Writing.{written}
+use Rattle.kc_kit_answer.specs.Jobs.{does, maybe_written}
+use Rattle.kc_kit_running.specs.Counted.{summary_of}
+use Rattle.kc_kit_running.specs.Lives.{board_reply}
+use Rattle.kc_kit_running.specs.Profiled.{profile_reply}
 use Rattle.kc_kit_files.proofs.EndLemmas.{Ends-widen}
 use Rattle.kc_kit_answer.proofs.EndedLemmas.{board-printed, ends-printed}
 use Rattle.kc_kit_answer.proofs.WriteLemmas.{ends-written}

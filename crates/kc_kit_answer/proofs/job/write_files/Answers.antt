@@ -1,6 +1,7 @@
 use Rattle.std.proofs.Common.{◌∷◌, ◌++◌, []}
 use Rattle.kc_kit_files.specs.Outside.{kept}
-use Rattle.kc_kit_answer.specs.Jobs.{written, maybe_written}
+use Rattle.kc_kit_running.specs.Writing.{written}
+use Rattle.kc_kit_answer.specs.Jobs.{maybe_written}
 use Rattle.kc_kit_answer.proofs.WriteLemmas.{written-behind}
 use Rattle.kc_kit_answer.proofs.job.write_files.Goals as goal
 

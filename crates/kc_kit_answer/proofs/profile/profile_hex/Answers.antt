@@ -6,7 +6,7 @@ use Rattle.kc_kit_words.specs.Inputs.{inputs_in}
 use Rattle.kc_kit_inputs.specs.Driving.{given_for}
 use Rattle.kc_kit_notes.proofs.Words.{texts_in}
 use Rattle.kc_kit_answer.specs.Hex.{HexTold}
-use Rattle.kc_kit_answer.specs.Profile.{profile_reply}
+use Rattle.kc_kit_running.specs.Profiled.{profile_reply}
 use Rattle.kc_kit_answer.proofs.profile.profile_hex.Goals as goal
 
 pub returns-in-Ok : goal.returns-in-Ok

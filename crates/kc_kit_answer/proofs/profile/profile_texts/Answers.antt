@@ -3,7 +3,8 @@ use Rattle.kc_debug_script.specs.declared.line_map.MapEntry.{MapEntry}
 use Rattle.kc_kit_files.specs.Reply.{Reply, IsRefused}
 use Rattle.kc_kit_inputs.specs.declared.driving.Driving.{Driving}
 use Rattle.kc_kit_notes.proofs.Words.{texts_in}
-use Rattle.kc_kit_answer.specs.Profile.{LinesTold, profile_reply}
+use Rattle.kc_kit_running.specs.Profiled.{profile_reply}
+use Rattle.kc_kit_answer.specs.Profile.{LinesTold}
 use Rattle.kc_kit_answer.proofs.profile.profile_texts.Goals as goal
 
 pub returns-in-Ok : goal.returns-in-Ok

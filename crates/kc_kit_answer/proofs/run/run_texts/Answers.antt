@@ -3,7 +3,7 @@ use Rattle.kc_kit_files.specs.Reply.{Reply, IsRefused}
 use Rattle.kc_kit_inputs.specs.declared.driving.Driving.{Driving}
 use Rattle.kc_kit_notes.proofs.Words.{texts_in}
 use Rattle.kc_kit_answer.specs.Run.{SourcesTold}
-use Rattle.kc_kit_answer.specs.Lives.{board_reply}
+use Rattle.kc_kit_running.specs.Lives.{board_reply}
 use Rattle.kc_kit_answer.proofs.run.run_texts.Goals as goal
 
 pub returns-in-Ok : goal.returns-in-Ok

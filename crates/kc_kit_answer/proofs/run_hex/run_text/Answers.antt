@@ -2,7 +2,7 @@ use Rattle.std.proofs.Common.{subst, ℕ, List}
 use Rattle.kc_kit_files.specs.Reply.{Reply, IsRefused}
 use Rattle.kc_kit_inputs.specs.declared.driving.Driving.{Driving}
 use Rattle.kc_kit_answer.specs.Hex.{HexTold}
-use Rattle.kc_kit_answer.specs.Lives.{board_reply}
+use Rattle.kc_kit_running.specs.Lives.{board_reply}
 use Rattle.kc_kit_answer.proofs.run_hex.run_text.Goals as goal
 
 pub returns-in-Ok : goal.returns-in-Ok

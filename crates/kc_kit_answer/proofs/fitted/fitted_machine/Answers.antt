@@ -1,4 +1,0 @@
-use Rattle.kc_kit_answer.proofs.fitted.fitted_machine.Goals as goal
-
-pub new-requires : goal.new-requires
-new-requires c = λ edges. c.fitted_unit-unit.ensures.agrees edges

@@ -1,0 +1,5 @@
+pub mod LivesLemmas
+pub mod ProfileLemmas
+pub mod RunLemmas
+pub mod ScriptLemmas
+pub mod WritingLemmas

@@ -1,0 +1,104 @@
+// A run of which the lines are counted.
+ghost use Rattle.std.specs.Prelude.{◌≡◌, ◌<◌, ◌++◌, List, ℕ, Option, None, false, length, IfOk, OnOk};
+ghost use Rattle.kc_trace.specs.Text.{line_of};
+ghost use Rattle.kc_trace.specs.declared.record.Record.TheVariants.{Stopped};
+ghost use Rattle.kc_machine_spec.specs.Text.{end_state, end_number, HasRun};
+ghost use Rattle.kc_kit_files.specs.Outside.{Prints, shown_by};
+ghost use Rattle.kc_kit_running.specs.Counted.{counts_text, numbered, summary_of};
+
+use crate::board::Board;
+use crate::fitted::fitted_machine;
+use crate::image_run::status_of;
+use itoa::Buffer;
+use kc_base::{Failed, NoMemory, Sink, StateTime, Steps};
+use kc_kit_files::{Status, say};
+use kc_machine::{End, stopped};
+use kc_trace::{Counts, TraceOut, line};
+use std::alloc::Global;
+use std::sync::ledger::{Blank, Ledger};
+
+/// How many state times a made input runs.
+const STATES: StateTime = 1_000_000;
+
+/// A sink that takes all and tells nothing.
+#[derive(Drop)]
+struct Silence;
+
+impl Sink for Silence {
+    ghost use Rattle.std.specs.Prelude.{None};
+
+    ghost written = { λ _. None };
+
+    ghost faults = { λ _. 0 };
+
+    fn write(&mut self, piece: &[u8]) -> Result<usize, Failed> {
+        Ok(piece.len())
+    }
+}
+
+fn put_number(text: &mut Vec<u8>, word: &[u8], number: u64) -> Result<(), NoMemory>
+    ensures { OnOk result (text.new.items ≡ text.old.items ++ numbered word.now number) }
+{
+    let mut buffer = Buffer::new();
+    text.extend_from_slice(word)?;
+    text.push(b' ')?;
+    text.extend_from_slice(buffer.format(number).as_bytes())?;
+    text.push(b'\n')?;
+    Ok(())
+}
+
+// The number of an input, and the counts of its run.
+fn counts_text(alloc: Global, number: u16, counts: Counts) -> Result<Vec<u8>, NoMemory>
+    ensures { IfOk result (λ text. text.items ≡ counts_text number counts) }
+{
+    let mut text = Vec::new(alloc);
+    put_number(&mut text, b"gen", u64::from(number))?;
+    put_number(&mut text, b"P", counts.pins)?;
+    put_number(&mut text, b"I", counts.entries)?;
+    put_number(&mut text, b"S", counts.cycles)?;
+    Ok(text)
+}
+
+// The counts of a run, and its end.
+fn summary(
+    alloc: Global,
+    number: u16,
+    counts: Counts,
+    how: End,
+    now: StateTime,
+) -> Result<Vec<u8>, NoMemory>
+    requires { HasRun how now }
+    ensures { IfOk result (λ text. text.items ≡ counts_text number counts ++ line_of (Stopped (end_state how now) (end_number how))) }
+{
+    let mut text = counts_text(alloc, number, counts)?;
+    text.extend_from_slice(line(&stopped(how, now)).as_slice())?;
+    Ok(text)
+}
+
+/// Runs the board of a made input, and prints how many edges, entries and cycles its run had, and how it has ended.
+pub fn count_board<S: Sink, L: Ledger>(
+    alloc: Global,
+    board: Board,
+    number: u16,
+    blank: Blank,
+    out: &mut TraceOut<S>,
+) -> Status
+    requires ready { out.old.failed ≡ false }
+    requires name { blank.name ≡ L.name }
+    requires parts { blank.parts ≡ L.parts }
+    requires whole { blank.parts ≡ 1 }
+    ensures { Prints (λ reply. reply ≡ summary_of number board.driving board.image) (shown_by S.written S.faults out.old.sink) result (shown_by S.written S.faults out.new.sink) }
+{
+    let Ok(mut machine) = fitted_machine(alloc, board) else {
+        return Status::NoMemory;
+    };
+    let mut steps = Steps::<L>::new(blank);
+    let mut trace = TraceOut::new(Silence);
+    let Ok(end) = machine.run(STATES, &mut trace, &mut steps) else {
+        return Status::NoMemory;
+    };
+    match summary(alloc, number, trace.counts(), end, machine.now()) {
+        Ok(text) => say(out, &text, status_of(end)),
+        Err(NoMemory) => Status::NoMemory,
+    }
+}

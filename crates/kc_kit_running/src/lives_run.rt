@@ -1,0 +1,47 @@
+// A run of an image that goes on after a reset.
+ghost use Rattle.std.specs.Prelude.{◌≡◌, ◌≤◌, false};
+ghost use Rattle.kc_kit_files.specs.Outside.{Prints, shown_by};
+ghost use Rattle.kc_kit_words.specs.Values.{max_states, max_lives};
+ghost use Rattle.kc_kit_running.specs.Lives.{board_lives, lives_reply};
+
+use crate::board::Board;
+use crate::fitting::Fitting;
+use crate::image_run::status_of;
+use kc_base::{Sink, Steps};
+use kc_cycles::{LivesFault, run_lives};
+use kc_kit_files::Status;
+use kc_kit_inputs::Driving;
+use kc_trace::TraceOut;
+use std::alloc::Global;
+use std::sync::ledger::{Blank, Ledger};
+
+/// Runs a board over at most so many lives, and prints their traces.
+pub(crate) fn run_board_lives<S: Sink, L: Ledger>(
+    alloc: Global,
+    board: Board,
+    states: u64,
+    lives: u16,
+    blank: Blank,
+    out: &mut TraceOut<S>,
+) -> Status
+    requires ready { out.old.failed ≡ false }
+    requires states { states ≤ max_states }
+    requires some { 1 ≤ lives }
+    requires few { lives ≤ max_lives }
+    requires name { blank.name ≡ L.name }
+    requires parts { blank.parts ≡ L.parts }
+    requires whole { blank.parts ≡ 1 }
+    ensures { Prints (λ reply. reply ≡ lives_reply (board_lives lives states board.driving board.image)) (shown_by S.written S.faults out.old.sink) result (shown_by S.written S.faults out.new.sink) }
+{
+    let Board { image, driving } = board;
+    let Driving { stimuli, values } = driving;
+    let fitting = Fitting { values };
+    let mut steps = Steps::<L>::new(blank);
+    match run_lives(
+        alloc, &image, &stimuli, &fitting, states, lives, out, &mut steps,
+    ) {
+        Ok(end) => status_of(end),
+        Err(LivesFault::WriteFault) => Status::WriteFault,
+        Err(LivesFault::NoMemory) => Status::NoMemory,
+    }
+}

@@ -1,0 +1,8 @@
+//! The watchdog of the board, a further unit: two values written to its register feed it, and it has a deadline from then on.
+#![tactic(auto)]
+
+#[cfg(test)]
+mod tests;
+mod watchdog;
+
+pub use watchdog::{PATIENCE, Watchdog};
