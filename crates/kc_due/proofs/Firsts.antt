@@ -3,8 +3,8 @@ use Rattle.std.proofs.Common.{◌≡◌, ◌≢◌, ℕ, zero, suc, ◌+◌, ◌
 use Rattle.std.proofs.lemmas.Bool.{cases_eq, cases_lt}
 use Rattle.std.proofs.lemmas.List.{get_or-set_same, get_or-set_other, length-set}
 use Rattle.std.specs.Prelude.{slice_set, replicate}
-use Rattle.kc_due.specs.Due.{Times, at_slot, IsFirst}
-use Rattle.kc_due.specs.Firsts.{IsFirstBelow, IsKept}
+use Rattle.kc_due.specs.Due.{Times, at_slot, IsFirst, IsFirstBelow}
+use Rattle.kc_due.specs.Firsts.{IsKept}
 
 same_time : {a b : ℕ} → ◌≡◌ {A = Option ℕ} (Some a) (Some b) → a ≡ b
 same_time e = cc

@@ -8,9 +8,13 @@ Times = List (Option ℕ)
 abbrev pub at_slot : Times → ℕ → Option ℕ
 at_slot times slot = slice_index_or times slot None
 
--- a least time, of equals the least slot; None where no slot has a time
+-- of the slots below a limit, the one with the least time, of equals the least slot; None where none of them has a time
+abbrev pub IsFirstBelow : Times → ℕ → Option (ℕ × ℕ) → Type 0
+IsFirstBelow times n None = (k : ℕ) → k < n → at_slot times k ≡ None
+IsFirstBelow times n (Some found) =
+    (found.0 < n) × (at_slot times found.0 ≡ Some found.1)
+    × ((k time : ℕ) → k < n → at_slot times k ≡ Some time → (found.1 < time) ⊎ ((found.1 ≡ time) × (found.0 ≤ k)))
+
+-- of all slots
 abbrev pub IsFirst : Times → Option (ℕ × ℕ) → Type 0
-IsFirst times None = (k : ℕ) → k < 16 → at_slot times k ≡ None
-IsFirst times (Some found) =
-    (found.0 < 16) × (at_slot times found.0 ≡ Some found.1)
-    × ((k time : ℕ) → k < 16 → at_slot times k ≡ Some time → (found.1 < time) ⊎ ((found.1 ≡ time) × (found.0 ≤ k)))
+IsFirst times first = IsFirstBelow times 16 first

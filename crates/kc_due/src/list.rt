@@ -1,7 +1,7 @@
 //! Sixteen times, and the first of them, which is sought anew only where the slot that had it has lost it.
 ghost use Rattle.std.specs.Prelude.{◌≡◌, ℕ, ◌+◌, ◌*◌, ◌<◌, ◌≤◌, ◌↔◌, ◌≢◌, IsTrue, replicate, Some, None, slice_set, length};
-ghost use Rattle.kc_due.specs.Due.{Times, at_slot, IsFirst};
-ghost use Rattle.kc_due.specs.Firsts.{IsFirstBelow, IsInside};
+ghost use Rattle.kc_due.specs.Due.{Times, at_slot, IsFirst, IsFirstBelow};
+ghost use Rattle.kc_due.specs.Firsts.{IsInside};
 
 use kc_base::StateTime;
 use std::marker::Model;

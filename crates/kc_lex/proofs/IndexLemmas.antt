@@ -12,8 +12,8 @@ use Rattle.kc_isa.specs.declared.table.Mnemonic.TheVariants.{Skip}
 use Rattle.kc_isa.specs.Names.{Shown, name_of, row_at}
 use Rattle.kc_isa.specs.Table.{plain_entry}
 use Rattle.kc_lex.specs.Chars.{is_short_word}
-use Rattle.kc_lex.specs.declared.instructions.Listed.{Listed}
-use Rattle.kc_lex.specs.declared.instructions.TheConstants.{INDEX}
+use Rattle.kc_isa.specs.declared.table.Listed.{Listed}
+use Rattle.kc_isa.specs.declared.table.TheConstants.{INDEX}
 use Rattle.kc_lex.specs.declared.words.Operands.{Operands}
 use Rattle.kc_lex.proofs.SearchLemmas.{both, order, equal_text, all_at, ascends, IsParted, none_has, none_such}
 use Rattle.kc_lex.specs.Instructions.{least, is_called, has_name, first_opcode, operands_at, operands_from, operands_of, opcode_in}

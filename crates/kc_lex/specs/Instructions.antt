@@ -9,7 +9,7 @@ use Rattle.kc_isa.specs.declared.table.Shape.TheVariants.{Nothing, One, Two, Fou
 use Rattle.kc_isa.specs.declared.table.Group.{Group}
 use Rattle.kc_isa.specs.declared.table.Group.TheVariants.{Jump}
 use Rattle.kc_isa.specs.Names.{Shown, row_at}
-use Rattle.kc_lex.specs.declared.instructions.Listed.{Listed}
+use Rattle.kc_isa.specs.declared.table.Listed.{Listed}
 use Rattle.kc_lex.specs.declared.words.Operands.{Operands}
 use Rattle.kc_lex.specs.declared.words.Operands.TheVariants as operands
 

@@ -1,4 +1,4 @@
-use Rattle.kc_due.specs.Firsts.{IsFirstBelow}
+use Rattle.kc_due.specs.Due.{IsFirstBelow}
 use Rattle.kc_due.proofs.list.earliest.Given as goal
 
 abbrev pub invariant-loop-k : goal.invariant-loop-k
