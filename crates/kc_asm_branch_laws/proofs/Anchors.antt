@@ -12,7 +12,7 @@ use Rattle.kc_expr.specs.declared.values.Value.{Value}
 use Rattle.kc_expr.specs.Tree.{Tree}
 use Rattle.kc_expr.specs.Meaning.{Answer, answer_by, is_fixed}
 use Rattle.kc_source_statement.specs.declared.statement.Stmt.{Stmt}
-use Rattle.kc_source_statement.specs.Trees.{ActionTree, ArgTree, Bare, Module, Cseg, Dseg, Rseg, Sseg, Public, Extrn, Equ, Set, Define, Reserve, Org, Even, End, Operation}
+use Rattle.kc_source_statement.specs.Trees.{ActionTree, ArgTree, Even, Operation}
 use Rattle.kc_source_statement.specs.Trees as trees
 use Rattle.kc_asm_symbols.specs.Located.{Located, located, located_by, value_at, first_segment}
 use Rattle.kc_asm_symbols.specs.Externals.{arg_trees, all_trees}

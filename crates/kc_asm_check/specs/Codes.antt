@@ -13,7 +13,7 @@ use Rattle.kc_obj.specs.Names.{is_name, is_stack_name}
 use Rattle.kc_obj.specs.Pieces.{in_region}
 use Rattle.kc_expr.specs.Tree.{Tree}
 use Rattle.kc_expr.specs.Meaning.{Answer}
-use Rattle.kc_source_statement.specs.Trees.{ArgTree, ActionTree, Bare, Module, Cseg, Dseg, Rseg, Sseg, Public, Extrn, Equ, Set, Define, Reserve, Org, End, Operation}
+use Rattle.kc_source_statement.specs.Trees.{ArgTree, ActionTree, Module, Cseg, Dseg, Rseg, Sseg, Public, Extrn, Define, Reserve, Org, Operation}
 use Rattle.kc_source_statement.specs.Trees as trees
 use Rattle.kc_asm_symbols.specs.declared.segments.Segment.{Segment}
 use Rattle.kc_asm_symbols.specs.Located.{is_absolute}

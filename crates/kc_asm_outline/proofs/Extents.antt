@@ -4,7 +4,7 @@ use Rattle.std.specs.Prelude.{min, Option, Some, None, unwrap_or}
 use Rattle.kc_expr.specs.declared.values.Value.{Value}
 use Rattle.kc_expr.specs.Alike.{AllAlike}
 use Rattle.kc_expr.specs.Tree.{Tree}
-use Rattle.kc_source_statement.specs.Trees.{ActionTree, ArgTree}
+use Rattle.kc_source_statement.specs.Trees.{ActionTree}
 use Rattle.kc_source_statement.specs.Trees as trees
 use Rattle.kc_branch.specs.declared.piece.Form.{Form}
 use Rattle.kc_branch.specs.declared.piece.Form.TheVariants.{First, Second, Third}

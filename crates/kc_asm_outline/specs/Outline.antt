@@ -10,7 +10,7 @@ use Rattle.kc_expr.specs.declared.values.Value.{Value}
 use Rattle.kc_expr.specs.Tree.{Tree}
 use Rattle.kc_expr.specs.Meaning.{Answer, answer_by}
 use Rattle.kc_source_statement.specs.declared.statement.Stmt.{Stmt}
-use Rattle.kc_source_statement.specs.Trees.{ArgTree, ActionTree, Bare, Module, Cseg, Dseg, Rseg, Sseg, Public, Extrn, Equ, Set, Define, Reserve, Org, Even, End, Operation}
+use Rattle.kc_source_statement.specs.Trees.{ArgTree, ActionTree, Cseg, Dseg, Rseg, Even, Operation}
 use Rattle.kc_source_statement.specs.Trees as trees
 use Rattle.kc_asm_symbols.specs.declared.segments.Segment.{Segment}
 use Rattle.kc_asm_symbols.specs.Located.{Located, located_by, value_at}

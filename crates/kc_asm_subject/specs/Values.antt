@@ -1,6 +1,6 @@
 -- The name that a statement is refused for: the first name of its expressions that means nothing there, or the first public
 -- name that counts from an external (after the MCS-96 Macro Assembler User's Guide, "Expressions" and "PUBLIC").
-use Rattle.std.specs.Prelude.{ℕ, Bool, true, false, ◌==◌, if◌then◌else◌, List, [], ◌∷◌, Option, Some, None, Ok, Err}
+use Rattle.std.specs.Prelude.{ℕ, Bool, true, false, ◌==◌, if◌then◌else◌, List, [], ◌∷◌, Option, Some, None, Err}
 use Rattle.std.specs.Option.{option_or}
 use Rattle.kc_lex.specs.declared.fault.SourceCode.TheVariants.{NotDefined}
 use Rattle.kc_lex.specs.Codes.{not_defined, not_public}

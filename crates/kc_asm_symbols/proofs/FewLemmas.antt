@@ -14,6 +14,7 @@ use Rattle.kc_source.specs.declared.uses.Use.{Use}
 use Rattle.kc_source.specs.declared.uses.UseKind.{UseKind}
 use Rattle.kc_source.specs.declared.uses.UseKind.TheVariants.{Once, Again, Given}
 use Rattle.kc_source.specs.declared.uses.UseKind.TheVariants as uses
+use Rattle.kc_source.proofs.ClearLemmas.{no_code_at}
 use Rattle.kc_source.specs.Faults.{at_line, has_use, is_once, is_again, is_taken, is_defined, brings_name, name_count, is_one_too_many, use_code, name_faults, line_faults, faults_of, all_said, use_of, label_uses, action_uses, uses_of, all_uses, stmt_said}
 use Rattle.kc_asm_symbols.specs.declared.segments.Segment.{Segment}
 use Rattle.kc_asm_symbols.specs.Located.{located_from, segment_after, first_segment}
@@ -100,10 +101,6 @@ externals_length used values i g (s ∷ ss) =
 both_empty : {A : Type 0} (xs ys : List A) → xs ++ ys ≡ [] → (xs ≡ []) × (ys ≡ [])
 both_empty [] ys e = (refl, e)
 both_empty (x ∷ xs) ys e = absurd cc
-
-no_code_at : (line : ℕ) (o : Option ℕ) → option_to_list (at_line line o) ≡ [] → o ≡ None
-no_code_at line None e = refl
-no_code_at line (Some code) e = absurd cc
 
 not_first : (b : Bool) (x : ℕ) (o : Option ℕ) → cond b (Some x) o ≡ None → (b ≡ false) × (o ≡ None)
 not_first true x o e = absurd cc

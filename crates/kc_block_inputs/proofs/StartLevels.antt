@@ -3,7 +3,7 @@ use Rattle.std.proofs.Common.{◌≡◌, ℕ, ◌<◌, ◌==◌, Bool, true, fal
 use Rattle.std.specs.Prelude.{is_none}
 use Rattle.kc_base.specs.Bits.{bit}
 use Rattle.kc_base.specs.Pins.{pin_count}
-use Rattle.kc_stim.specs.Drives.{Drives, start_of, wire_to}
+use Rattle.kc_stim.specs.Drives.{Drives, start_of}
 use Rattle.kc_stim.specs.Fields.{is_input, is_wire_input}
 use Rattle.kc_stim.specs.Proper.{AreProper, is_driven}
 use Rattle.kc_hso.specs.Cam.{weight}

@@ -1,5 +1,5 @@
 -- The due state of the whole block.
-use Rattle.std.proofs.Common.{◌≡◌, ℕ, ◌+◌, ◌-◌, ◌<◌, ◌≤◌, true, false, not, sym, ◌∙◌, ap, subst, arith, Option, Some, None, Bool, List, ◌==◌, inl, inr}
+use Rattle.std.proofs.Common.{◌≡◌, ℕ, ◌+◌, ◌-◌, ◌<◌, ◌≤◌, true, false, not, sym, ◌∙◌, ap, subst, arith, Option, Some, None, Bool, ◌==◌, inl, inr}
 use Rattle.std.specs.Prelude.{is_some, if◌then◌else◌}
 use Rattle.std.proofs.lemmas.Bool.{false≢true, cases_eq, eq-eqb}
 use Rattle.kc_span.specs.Span.{after}

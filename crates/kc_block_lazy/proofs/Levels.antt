@@ -1,5 +1,5 @@
 -- The levels of the inputs while no slot comes.
-use Rattle.std.proofs.Common.{◌≢◌, max, true, inl, inr, ◌≡◌, ℕ, zero, suc, ◌+◌, ◌-◌, ◌<◌, ◌≤◌, ◌==◌, Bool, false, ◌&&◌, ◌||◌, refl, sym, ◌∙◌, ap, arith, Option, Some, None, List, add-zero, add-suc}
+use Rattle.std.proofs.Common.{◌≢◌, max, true, inl, inr, ◌≡◌, ℕ, zero, suc, ◌+◌, ◌-◌, ◌<◌, ◌≤◌, ◌==◌, Bool, false, ◌&&◌, ◌||◌, refl, sym, ◌∙◌, ap, arith, Option, Some, None, add-zero, add-suc}
 use Rattle.std.specs.Prelude.{nat_le, is_none, bit_or}
 use Rattle.std.specs.Int.{bit_at}
 use Rattle.std.proofs.lemmas.Nat.Bits.{bit_at_or}

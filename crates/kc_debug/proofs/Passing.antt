@@ -25,7 +25,7 @@ use Rattle.kc_debug.specs.Stops.{activity_states, is_at_break, states_at_once}
 use Rattle.kc_debug.specs.Passing.{IsKept, Passed, Told, Stood, Spends}
 use Rattle.kc_debug.specs.Stands.{FailsWithin}
 use Rattle.kc_debug.proofs.Last.{last-append, last-same}
-use Rattle.kc_debug.proofs.Begins.{run-none, machine-add, begun-none, begun-add, begun-ended, begun-activity}
+use Rattle.kc_debug.proofs.Begins.{run-none, begun-none, begun-add, begun-ended, begun-activity}
 
 -- a machine that is not at its first state has run
 has_run : (how : End) (time : ℕ) → 0 < time → HasRun how time

@@ -13,10 +13,10 @@ use Rattle.kc_kit_words.specs.declared.usage.Wrong.TheVariants as wrong
 use Rattle.kc_kit_words.specs.Number.{number_of}
 use Rattle.kc_kit_words.specs.Options.{form_of, has_form, value_of, are_options, inputs_of, extent_in}
 use Rattle.kc_kit_words.specs.Values.{is_name, range_of}
-use Rattle.kc_kit_words.specs.Usage.{wrong_text, no_command, no_option, bad_value, bad_range, bad_number, twice, lacks, wrong_value, wrong_last, wrong_option, lacks_out, wrong_run, wrong_extent, wrong_listing, wrong_placing, wrong_outputs, wrong_name, wrong_files, wrong_file, wrong_pair, wrong_range, wrong_list, wrong_number, wrong_word, wrong_more, wrong_by, wrong_with, wrong_writes, overwrites, plain_usage_of, usage_of}
+use Rattle.kc_kit_words.specs.Usage.{wrong_text, no_command, bad_value, bad_number, twice, lacks, wrong_value, wrong_last, wrong_option, lacks_out, wrong_run, wrong_extent, wrong_listing, wrong_placing, wrong_outputs, wrong_name, wrong_files, wrong_file, wrong_pair, wrong_range, wrong_list, wrong_number, wrong_word, wrong_more, wrong_by, wrong_with, wrong_writes, overwrites, plain_usage_of}
 use Rattle.kc_kit_words.specs.UsageLaw.{WrongWhereNoCommand}
-use Rattle.kc_kit_words.specs.Commands.{Beside, Command, Helps, TellsVersion, Runs, Profiles, Assembles, Packs, Links, RunsHex, ProfilesHex, Lists, Debugs, Generates, Dumps, Explains, overwritten, sparing}
-use Rattle.kc_kit_words.specs.Words.{count_files, files_of, options_of, are_files, placing_of, is_other, are_apart, beside_of, run_so, run_by, assembles_by, assemble_by, pack_by, links_by, link_by, hex_so, hex_by, lists_by, list_by, debug_by, generate_by, dump_by, explain_by, alone, command_by, command_with, help_on, plain_command_of, command_of}
+use Rattle.kc_kit_words.specs.Commands.{Command, Helps, TellsVersion, Runs, Profiles, Assembles, Packs, Links, ProfilesHex, Lists, Debugs, Generates, overwritten, sparing}
+use Rattle.kc_kit_words.specs.Words.{count_files, files_of, options_of, are_files, placing_of, is_other, are_apart, beside_of, run_so, run_by, assembles_by, assemble_by, pack_by, links_by, link_by, hex_so, hex_by, lists_by, list_by, debug_by, generate_by, dump_by, explain_by, alone, command_by, help_on, plain_command_of}
 use Rattle.kc_kit_words.proofs.OptionLemmas.{behind}
 
 -- ---- options, in pairs with their values

@@ -1,6 +1,6 @@
 -- A fault of an object stands no further than twice its length and 4, so that its place in a library can be told.
-use Rattle.std.proofs.Common.{◌≡◌, ℕ, zero, suc, ◌+◌, ◌-◌, ◌*◌, ◌/◌, ◌<◌, ◌≤◌, Bool, true, false, not, ◌&&◌, ◌||◌, cond, List, [], ◌∷◌, ◌++◌, length, take, drop, Option, Some, None, Result, Ok, Err, refl, sym, subst, arith}
-use Rattle.std.specs.Prelude.{slice_index, slice_get, nat_le, nat_lt, ◌==◌, if◌then◌else◌, is_none, is_some}
+use Rattle.std.proofs.Common.{◌≡◌, ℕ, zero, suc, ◌+◌, ◌-◌, ◌*◌, ◌/◌, ◌<◌, ◌≤◌, Bool, true, false, not, ◌&&◌, List, [], ◌∷◌, ◌++◌, length, take, drop, Option, Some, None, Ok, Err, refl, subst, arith}
+use Rattle.std.specs.Prelude.{slice_index, slice_get, nat_le, nat_lt, ◌==◌, if◌then◌else◌, is_none}
 use Rattle.std.proofs.lemmas.Bool.{and_parts, leb-true, ltb-true, ltb-false, eqb-false}
 use Rattle.std.proofs.lemmas.List.{length-drop}
 use Rattle.kc_obj.specs.declared.parts.Segment.{Segment}
@@ -17,8 +17,8 @@ use Rattle.kc_obj_faults.specs.declared.faults.Fault.{Fault}
 use Rattle.kc_obj_faults.specs.declared.faults.ObjFault.{ObjFault}
 use Rattle.kc_obj_faults.specs.declared.faults.ObjFault.TheVariants as faults
 use Rattle.kc_obj_faults.specs.Fields.{is_lesser, first_of_both, fault_at, noted, word_at, last_of}
-use Rattle.kc_obj_faults.specs.Records.{head_faults, kind_faults, flag_faults, segment_faults, taken_faults, given_faults, run_faults, run_at, target_faults, fixup_place_faults, byte_of_file, place_of, place_or_zero, byte_faults, stands_free, free_faults, under_faults, fixup_at, entry_faults, block_faults}
-use Rattle.kc_obj_read.specs.Reading.{Read, Answer, nothing_read, object_read, fits, after_head, after_segment, after_taken, after_given, after_run, after_fixup, after_entry, after_entries, opened_block, after_block, after_record, stopped, told, ended, at_stage, behind_record, bodied, sized, may_come, typed, read_on, answer_of, IsDecoded}
+use Rattle.kc_obj_faults.specs.Records.{head_faults, segment_faults, taken_faults, given_faults, run_faults, run_at, target_faults, fixup_place_faults, byte_of_file, place_of, place_or_zero, byte_faults, stands_free, free_faults, under_faults, fixup_at, entry_faults, block_faults}
+use Rattle.kc_obj_read.specs.Reading.{Read, Answer, nothing_read, object_read, fits, after_run, after_fixup, after_entry, after_entries, opened_block, after_block, after_record, stopped, told, ended, at_stage, behind_record, bodied, sized, may_come, typed, read_on, answer_of, IsDecoded}
 
 -- ---- one fault more (n: how far a fault can stand)
 

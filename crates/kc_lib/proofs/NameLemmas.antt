@@ -1,17 +1,17 @@
 -- The first name that is public in a second module.
-use Rattle.std.proofs.Common.{◌≡◌, ℕ, zero, suc, ◌+◌, ◌<◌, ◌≤◌, ◌⊎◌, inl, inr, Bool, true, false, ◌||◌, List, [], ◌∷◌, ◌++◌, length, get_or, take, drop, Option, Some, None, refl, sym, ap, subst, ◌∙◌, append_assoc, append-nil, add-one, arith}
+use Rattle.std.proofs.Common.{◌≡◌, ℕ, suc, ◌+◌, ◌<◌, ◌≤◌, ◌⊎◌, inl, inr, Bool, true, false, List, [], ◌∷◌, ◌++◌, length, get_or, take, drop, Option, Some, None, refl, sym, ap, subst, ◌∙◌, append_assoc, append-nil, arith}
 use Rattle.std.specs.Prelude.{slice_get, if◌then◌else◌}
 use Rattle.std.specs.List.{list_any}
 use Rattle.std.specs.Option.{option_or}
 use Rattle.std.specs.Str.{bytes_eq}
 use Rattle.std.specs.Cmp.Lexicographic.{bytes_decides}
-use Rattle.std.proofs.lemmas.Bool.{or_cases, or_left, both_ways}
+use Rattle.std.proofs.lemmas.Bool.{or_cases, both_ways}
 use Rattle.std.proofs.lemmas.List.{drop_more, take_more, drop_all}
 use Rattle.std.proofs.lemmas.Option.{slice_get_within}
 use Rattle.kc_obj.specs.declared.parts.Given.{Given}
 use Rattle.kc_obj.specs.Object.{Object}
 use Rattle.kc_lib.specs.Names.{gives, is_given, GivenOnce, second_of, doubled_behind, doubled, IsFirstDouble}
-use Rattle.kc_lib.proofs.Places.{Found, found, any_at, get_left, get_seam, get_push}
+use Rattle.kc_lib.proofs.Places.{found, any_at, get_left, get_seam, get_push}
 
 -- ---- the publics of one module
 

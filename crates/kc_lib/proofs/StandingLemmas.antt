@@ -1,14 +1,14 @@
 -- The search for the members that modules need.
-use Rattle.std.proofs.Common.{◌≡◌, ℕ, zero, suc, ◌+◌, ◌-◌, ◌<◌, ◌≤◌, ◌≢◌, ◌⊎◌, inl, inr, Bool, true, false, not, ◌||◌, List, [], ◌∷◌, ◌++◌, length, get_or, set, drop, add-one, replicate, Option, Some, None, refl, sym, ap, subst, ◌∙◌, arith}
+use Rattle.std.proofs.Common.{◌≡◌, ℕ, zero, suc, ◌+◌, ◌-◌, ◌<◌, ◌≤◌, ◌⊎◌, inl, inr, Bool, true, false, ◌||◌, List, [], ◌∷◌, ◌++◌, length, get_or, set, drop, replicate, Option, Some, None, refl, sym, ap, subst, ◌∙◌, arith}
 use Rattle.std.specs.Prelude.{slice_get, if◌then◌else◌, nat_lt}
-use Rattle.std.specs.List.{list_any, position, position_or_len}
+use Rattle.std.specs.List.{list_any, position_or_len}
 use Rattle.std.specs.Str.{bytes_eq}
 use Rattle.std.specs.Cmp.Lexicographic.{bytes_decides}
-use Rattle.std.proofs.lemmas.Bool.{or_cases, or_left, or_right, or_from, both_ways, cases_eq, ltb-true, lt-ltb}
+use Rattle.std.proofs.lemmas.Bool.{or_cases, or_left, or_right, both_ways, cases_eq, lt-ltb}
 use Rattle.std.proofs.lemmas.List.Folds.{list_any-append}
 use Rattle.std.proofs.lemmas.List.{length-set, length-replicate, drop_more, drop_all}
 use Rattle.std.proofs.lemmas.List.Quantifiers.{position-Some}
-use Rattle.std.proofs.lemmas.Option.{slice_get_within, slice_get-get_or, slice_get_past}
+use Rattle.std.proofs.lemmas.Option.{slice_get_within, slice_get-get_or}
 use Rattle.kc_obj.specs.declared.parts.Taken.{Taken}
 use Rattle.kc_obj.specs.Object.{Object}
 use Rattle.kc_obj.specs.Names.{is_stack_name}
@@ -16,10 +16,10 @@ use Rattle.kc_lib.specs.declared.taking.Standing.{Standing}
 use Rattle.kc_lib.specs.declared.taking.Standing.TheVariants.{Out, Called, Settled}
 use Rattle.kc_lib.specs.Names.{takes, gives, is_taken, is_given, GivenOnce}
 use Rattle.kc_lib.specs.Givers.{giver_of}
-use Rattle.kc_lib.specs.Taking.{chosen_from, chosen, Closed, Contains, IsLeast, AreTaken}
+use Rattle.kc_lib.specs.Taking.{chosen_from, chosen, Closed, IsLeast, AreTaken}
 use Rattle.kc_lib.specs.Standings.{is_needed, is_in, needed, called_if_out, called, called_all, called_by, is_called, first_called, work_of, work, AreAnswered, IsUnderWay}
-use Rattle.kc_lib.proofs.Places.{Found, found, any_at, set_same, set_other}
-use Rattle.kc_lib.proofs.GiverLemmas.{Giver, giver_is, has_giver}
+use Rattle.kc_lib.proofs.Places.{any_at, set_same, set_other}
+use Rattle.kc_lib.proofs.GiverLemmas.{giver_is, has_giver}
 
 -- ---- work
 

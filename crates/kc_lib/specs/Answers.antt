@@ -3,7 +3,7 @@ use Rattle.std.specs.Prelude.{◌≡◌, ℕ, ◌+◌, ◌<◌, ◌≤◌, Optio
 use Rattle.std.specs.Global.{Vec}
 use Rattle.kc_obj.specs.Object.{Object}
 use Rattle.kc_lib.specs.declared.faults.LibFault.{LibFault}
-use Rattle.kc_lib.specs.declared.faults.LibFault.TheVariants.{At, Duplicate, TooMany, NoMemory}
+use Rattle.kc_lib.specs.declared.faults.LibFault.TheVariants.{Duplicate, TooMany, NoMemory}
 use Rattle.kc_lib.specs.Names.{doubled}
 use Rattle.kc_lib.specs.Format.{library_bytes, IsMember, IsLibrary}
 use Rattle.kc_lib.specs.Taking.{AreTaken}

@@ -1,5 +1,5 @@
 -- Laws of libraries, for those who reason about what is read and taken.
-use Rattle.std.specs.Prelude.{◌≡◌, ℕ, Option, Some, None, Ok, List}
+use Rattle.std.specs.Prelude.{◌≡◌, ℕ, Some, None, Ok, List}
 use Rattle.kc_base.specs.Bytes.{IsBytes}
 use Rattle.kc_obj.specs.Object.{Object}
 use Rattle.kc_lib.specs.Names.{GivenOnce, doubled, IsFirstDouble}

@@ -8,7 +8,6 @@ use Rattle.kc_obj_faults.specs.Fields.{long_at}
 use Rattle.kc_obj_read.specs.Reading.{answer_of}
 use Rattle.kc_lib.specs.declared.faults.LibFault.{LibFault}
 use Rattle.kc_lib.specs.declared.faults.LibFault.TheVariants.{At}
-use Rattle.kc_lib.specs.declared.faults.LibCode.{LibCode}
 use Rattle.kc_lib.specs.declared.faults.LibCode.TheVariants as code
 use Rattle.kc_lib.specs.Names.{second_of}
 

@@ -1,5 +1,5 @@
 -- How far each member is while the needed ones are sought.
-use Rattle.std.specs.Prelude.{◌≡◌, ℕ, ◌+◌, Bool, true, false, ◌||◌, if◌then◌else◌, Option, Some, None, List, [], ◌∷◌, length, slice_get, slice_set, position}
+use Rattle.std.specs.Prelude.{◌≡◌, ℕ, ◌+◌, Bool, true, false, ◌||◌, if◌then◌else◌, Option, Some, None, List, [], ◌∷◌, slice_get, slice_set, position}
 use Rattle.kc_obj.specs.declared.parts.Taken.{Taken}
 use Rattle.kc_obj.specs.Object.{Object}
 use Rattle.kc_obj.specs.Names.{is_stack_name}

@@ -11,7 +11,7 @@ use Rattle.kc_lex.specs.Words.{operands_of, generic_operands_of}
 use Rattle.kc_expr.specs.Tree.{Tree}
 use Rattle.kc_expr.specs.Meaning.{Answer, answer_by}
 use Rattle.kc_source_statement.specs.declared.statement.Stmt.{Stmt}
-use Rattle.kc_source_statement.specs.Trees.{ArgTree, ActionTree, action_tree}
+use Rattle.kc_source_statement.specs.Trees.{ArgTree, action_tree}
 use Rattle.kc_source_statement.specs.Trees as trees
 use Rattle.kc_source_statement.specs.Operands as tree
 use Rattle.kc_source_statement.specs.Operands.{is_nil}

@@ -1,6 +1,6 @@
 -- The law of the format: the bytes that are read as a module are the one spelling of that module, and the spelling of
 -- each module is read as it (this kit's own).
-use Rattle.std.specs.Prelude.{◌≡◌, ℕ, ◌<◌, Bool, true, ◌&&◌, nat_lt, Option, Some, None, Result, Ok, Err, List, [], ◌∷◌}
+use Rattle.std.specs.Prelude.{◌≡◌, ℕ, Bool, true, ◌&&◌, nat_lt, Option, Some, None, Result, Ok, Err, List}
 use Rattle.std.specs.List.{list_all}
 use Rattle.kc_base.specs.Bytes.{IsBytes}
 use Rattle.kc_obj.specs.declared.parts.Fixup.{Fixup}

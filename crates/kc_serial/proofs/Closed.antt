@@ -1,8 +1,8 @@
 -- A rule that goes on by a closed form as long as it is quiet.
-use Rattle.std.proofs.Common.{◌≡◌, ℕ, zero, suc, ◌+◌, ◌-◌, ◌<◌, ◌≤◌, Bool, true, false, refl, sym, ◌∙◌, ap, subst, arith, inl, inr, Option, Some, None}
+use Rattle.std.proofs.Common.{◌≡◌, ℕ, zero, suc, ◌+◌, ◌-◌, ◌<◌, Bool, true, sym, ◌∙◌, ap, subst, arith, inl, inr, Option, Some, None}
 use Rattle.std.specs.Option.{option_map}
 use Rattle.std.proofs.lemmas.Bool.{cases_lt}
-use Rattle.kc_span.specs.Span.{Rule, after, QuietFor, DueAt, IsDue}
+use Rattle.kc_span.specs.Span.{Rule, after, QuietFor, IsDue}
 use Rattle.kc_span.proofs.SpanLaws.{after-zero, after-suc}
 use Rattle.kc_serial.specs.Quiet.{Before}
 

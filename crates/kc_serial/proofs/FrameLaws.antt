@@ -1,11 +1,11 @@
 -- A frame over a span, and what of a state is heard outside.
-use Rattle.std.proofs.Common.{◌≡◌, ℕ, zero, suc, ◌+◌, ◌-◌, ◌*◌, ◌/◌, ◌<◌, ◌≤◌, ◌==◌, max, Bool, true, false, not, ◌&&◌, refl, sym, ◌∙◌, ap, subst, arith, inl, inr, Option, Some, None, add-zero, add-suc, add-one}
-use Rattle.std.specs.Prelude.{nat_le, if◌then◌else◌}
+use Rattle.std.proofs.Common.{◌≡◌, ℕ, zero, suc, ◌+◌, ◌-◌, ◌*◌, ◌/◌, ◌<◌, ◌≤◌, ◌==◌, Bool, true, false, not, ◌&&◌, refl, sym, ◌∙◌, ap, subst, arith, inl, inr, Option, Some, add-zero, add-suc, add-one}
+use Rattle.std.specs.Prelude.{if◌then◌else◌}
 use Rattle.std.proofs.lemmas.Bool.{cases_lt, cases_Bool, and_from, and_parts, and_left, and_right, not-true, not_from_true, not_from_false, le-leb, lt-leb, leb-false, false≢true}
 use Rattle.std.proofs.lemmas.Nat.{div_below, mul-le}
 use Rattle.std.proofs.Math.Nat.{suc-mul, lt-div-mul-add, zero-div}
 use Rattle.kc_extra.specs.Further.{is_empty}
-use Rattle.kc_serial.specs.Frames.{bit_length, frame_level, shown, is_over, ends, begun_of, sending_after, waiting_after}
+use Rattle.kc_serial.specs.Frames.{bit_length, frame_level, shown, is_over, ends, begun_of, sending_after}
 use Rattle.kc_serial.specs.Port.{requests, txd_edges}
 use Rattle.kc_serial.specs.Spans.{older_sending, SendingFits}
 use Rattle.kc_serial.specs.Quiet.{keeps_level, is_quiet_sending, SendingBefore}

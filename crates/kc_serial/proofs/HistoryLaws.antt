@@ -1,16 +1,16 @@
 -- A reception by the levels of RXD at its sample states.
-use Rattle.std.proofs.Common.{◌≡◌, ℕ, zero, suc, ◌+◌, ◌-◌, ◌*◌, ◌/◌, ◌%◌, ◌<◌, ◌≤◌, ◌==◌, Bool, true, false, not, ◌&&◌, List, [], ◌∷◌, refl, sym, ◌∙◌, ap, subst, arith, inl, inr, Option, Some, None, add-zero, add-suc, add-one}
+use Rattle.std.proofs.Common.{◌≡◌, ℕ, zero, suc, ◌+◌, ◌-◌, ◌*◌, ◌/◌, ◌%◌, ◌<◌, ◌≤◌, ◌==◌, Bool, true, false, ◌&&◌, List, [], ◌∷◌, refl, sym, ◌∙◌, ap, subst, arith, inl, inr, Option, Some, None, add-zero, add-suc, add-one}
 use Rattle.std.specs.Prelude.{nat_lt, if◌then◌else◌, fold}
-use Rattle.std.proofs.lemmas.Bool.{cases_lt, cases_Bool, and_parts, false≢true, lt-ltb, le-ltb, lt-leb, le-leb, ne_eqb, leb-true, leb-false}
+use Rattle.std.proofs.lemmas.Bool.{cases_lt, cases_Bool, and_parts, lt-ltb, le-ltb, lt-leb, le-leb, ne_eqb, leb-true, leb-false}
 use Rattle.std.proofs.lemmas.Nat.{div-add-mod', le-div}
-use Rattle.std.proofs.Math.Nat.{mod-eq_of_lt, div-eq_of_lt, suc-mul}
+use Rattle.std.proofs.Math.Nat.{mod-eq_of_lt, div-eq_of_lt}
 use Rattle.kc_extra.specs.Two.{either_holds}
 use Rattle.kc_serial.specs.Frames.{bit_length, shown, ends, begun, begun_of, is_over, sending_after}
 use Rattle.kc_serial.specs.Samples.{half_bit, is_sample, is_complete, shifted, sampled, with_sample, reception_after}
 use Rattle.kc_serial.specs.Port.{ticked, receives, is_on}
 use Rattle.kc_serial.specs.Registers.{sbuf, baud_rate, sp_con, is_readable, is_writable, after_read, after_write, queued, with_byte, with_rate, with_control}
 use Rattle.kc_serial.specs.Spans.{bits_by}
-use Rattle.kc_serial.specs.History.{Access, accessed, Driven, level_before, falls, port_at, LevelsAreKept, sample_state, number_of, byte_levels, IsReceived, ReceivedBytesAreSamples, FramesAreShown}
+use Rattle.kc_serial.specs.History.{Access, accessed, Driven, falls, port_at, LevelsAreKept, sample_state, number_of, ReceivedBytesAreSamples, FramesAreShown}
 use Rattle.kc_serial.specs.declared.receiving.Reception.{Reception}
 use Rattle.kc_serial.specs.declared.sending.Frame.{Frame}
 use Rattle.kc_serial.specs.declared.sending.Sending.{Sending}

@@ -1,5 +1,5 @@
 -- The serial port over a span in which RXD has no edge.
-use Rattle.std.proofs.Common.{◌≡◌, ℕ, suc, ◌+◌, ◌-◌, ◌<◌, ◌≤◌, Bool, true, false, not, ◌&&◌, ◌||◌, refl, sym, ◌∙◌, ap, subst, arith, inl, inr, min, Option, Some, None}
+use Rattle.std.proofs.Common.{◌≡◌, ℕ, suc, ◌+◌, ◌-◌, ◌<◌, Bool, true, false, not, ◌&&◌, ◌||◌, ◌∙◌, ap, subst, arith, inl, inr, min, Option, Some, None}
 use Rattle.std.specs.Prelude.{if◌then◌else◌}
 use Rattle.std.specs.Option.{option_map}
 use Rattle.std.proofs.lemmas.Bool.{cases_lt, and_from, and_parts, and_left, and_right, not-true}
@@ -10,9 +10,9 @@ use Rattle.kc_extra.specs.Joined.{least_of}
 use Rattle.kc_serial.specs.declared.serial.Flags.{Flags}
 use Rattle.kc_serial.specs.declared.serial.Serial.{Serial}
 use Rattle.kc_serial.specs.declared.sending.Sending.{Sending}
-use Rattle.kc_serial.specs.Frames.{waiting_after, ends}
-use Rattle.kc_serial.specs.Samples.{completes, received_after}
-use Rattle.kc_serial.specs.Port.{out, rested, flags_after}
+use Rattle.kc_serial.specs.Frames.{ends}
+use Rattle.kc_serial.specs.Samples.{completes}
+use Rattle.kc_serial.specs.Port.{out, rested}
 use Rattle.kc_serial.specs.Spans.{older, older_sending, older_reception, SendingFits, ReceptionFits}
 use Rattle.kc_serial.specs.Quiet.{is_quiet_sending, Before, SendingBefore, ReceptionBefore}
 use Rattle.kc_serial.proofs.Closed.{closed_quiet, ages_quiet, due_from}

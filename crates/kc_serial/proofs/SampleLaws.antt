@@ -1,11 +1,11 @@
 -- A reception over a span in which RXD keeps its level.
-use Rattle.std.proofs.Common.{◌≡◌, ℕ, zero, suc, ◌+◌, ◌-◌, ◌*◌, ◌/◌, ◌%◌, ◌^◌, ◌<◌, ◌≤◌, ◌==◌, max, Bool, true, false, not, ◌&&◌, refl, sym, ◌∙◌, ap, subst, arith, inl, inr, Option, Some, None, add-zero, add-suc, add-one}
+use Rattle.std.proofs.Common.{◌≡◌, ℕ, zero, suc, ◌+◌, ◌-◌, ◌*◌, ◌/◌, ◌%◌, ◌^◌, ◌<◌, ◌≤◌, ◌==◌, Bool, true, false, not, ◌&&◌, refl, sym, ◌∙◌, ap, subst, arith, inl, inr, Option, Some, None, add-suc, add-one}
 use Rattle.std.specs.Prelude.{nat_lt, nat_le, if◌then◌else◌}
 use Rattle.std.proofs.lemmas.Nat.{le-div, shr_le}
-use Rattle.std.proofs.lemmas.Bool.{cases_lt, cases_Bool, and_from, and_parts, not-true, eqb-false, ne_eqb, lt-ltb, le-ltb, le-leb, lt-leb, false_from_ne_true, ltb-true, leb-true, leb-false, false≢true}
+use Rattle.std.proofs.lemmas.Bool.{cases_lt, cases_Bool, and_from, and_parts, not-true, eqb-false, ne_eqb, lt-ltb, le-ltb, le-leb, false_from_ne_true, ltb-true, leb-true, leb-false, false≢true}
 use Rattle.std.proofs.Math.Nat.{mod-eq_of_lt, div-eq_of_lt}
 use Rattle.kc_serial.specs.Frames.{bit_length}
-use Rattle.kc_serial.specs.Samples.{half_bit, is_sample, with_sample, is_complete, completes, sampled, shifted, reception_after, received_after}
+use Rattle.kc_serial.specs.Samples.{half_bit, is_sample, is_complete, completes, sampled, shifted, reception_after, received_after}
 use Rattle.kc_serial.specs.Spans.{bits_by, shifted_by, starts_within, older_reception, ReceptionFits}
 use Rattle.kc_serial.specs.declared.receiving.Reception.{Reception}
 use Rattle.kc_serial.proofs.Quotients.{quotient_later, taken_next, taken_below}

@@ -5,7 +5,6 @@ use Rattle.kc_serial.specs.Frames.{bit_length, frame_level, is_over}
 use Rattle.kc_serial.specs.Samples.{completes}
 use Rattle.kc_serial.specs.Port.{txd_edges}
 use Rattle.kc_serial.specs.Spans.{older_sending, older_reception}
-use Rattle.kc_serial.specs.declared.sending.Frame.{Frame}
 use Rattle.kc_serial.specs.declared.receiving.Reception.{Reception}
 use Rattle.kc_serial.specs.declared.sending.Sending.{Sending}
 use Rattle.kc_serial.specs.declared.sending.Sending.TheVariants.{Idle, Next, Busy}

@@ -1,6 +1,6 @@
 -- The samples of a reception (80C196KC User's Manual, "Serial Port"; that each bit has one sample, half a bit after its
 -- start, is this kit's own).
-use Rattle.std.specs.Prelude.{ℕ, ◌+◌, ◌*◌, ◌/◌, ◌%◌, ◌==◌, Bool, false, ◌&&◌, nat_le, nat_lt, if◌then◌else◌, Option, Some, None}
+use Rattle.std.specs.Prelude.{ℕ, ◌+◌, ◌*◌, ◌/◌, ◌%◌, ◌==◌, Bool, false, nat_le, nat_lt, if◌then◌else◌, Option, Some, None}
 use Rattle.kc_serial.specs.Frames.{bit_length}
 use Rattle.kc_serial.specs.declared.receiving.Reception.{Reception}
 

@@ -17,7 +17,7 @@ first_empty : {A : Type 0} (xs ys : List A) → xs ++ ys ≡ [] → xs ≡ []
 first_empty [] ys e = refl
 first_empty (x ∷ xs) ys e = absurd cc
 
-no_code_at : (line : ℕ) (o : Option ℕ) → option_to_list (at_line line o) ≡ [] → o ≡ None
+pub no_code_at : (line : ℕ) (o : Option ℕ) → option_to_list (at_line line o) ≡ [] → o ≡ None
 no_code_at line None e = refl
 no_code_at line (Some code) e = absurd cc
 

@@ -1,4 +1,3 @@
-pub mod FaultLemmas
 pub mod TableLemmas
 pub mod PassLemmas
 pub mod ClearLemmas

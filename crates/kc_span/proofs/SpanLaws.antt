@@ -1,7 +1,7 @@
 -- Laws of spans that every unit and the block use.
-use Rattle.std.proofs.Common.{◌≡◌, ℕ, zero, suc, ◌+◌, ◌-◌, ◌<◌, ◌≤◌, refl, sym, ◌∙◌, ap, arith, add-zero, add-suc, add_assoc, add-one}
+use Rattle.std.proofs.Common.{◌≡◌, ℕ, zero, suc, ◌+◌, ◌-◌, ◌<◌, ◌≤◌, refl, ◌∙◌, arith, add-zero, add-suc, add_assoc}
 use Rattle.std.proofs.Common.{subst, Option, Some, None, true, false}
-use Rattle.kc_span.specs.Span.{Rule, after, QuietFor, IsDue, DueAt}
+use Rattle.kc_span.specs.Span.{Rule, after, QuietFor, IsDue}
 
 pub after-zero : {D : Type 0} (rule : Rule D) (from : ℕ) (d : D) → after rule from 0 d ≡ d
 unfolding after

@@ -1,4 +1,4 @@
-use Rattle.std.proofs.Common.{◌≡◌, ◌≤◌, [], sym, ap, ◌∙◌, length, arith}
+use Rattle.std.proofs.Common.{◌≡◌, ◌≤◌, [], sym, ◌∙◌, length, arith}
 use Rattle.std.specs.Prelude.{None}
 use Rattle.kc_asm_check.specs.Codes.{first_regions}
 use Rattle.kc_asm_check.specs.Judging.{first_fault, site_list, standing}

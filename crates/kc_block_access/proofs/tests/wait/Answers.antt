@@ -1,5 +1,4 @@
 use Rattle.std.proofs.Common.{arith, ◌≤◌}
-use Rattle.kc_block_lazy.specs.Lanes.{IsFurther}
 use Rattle.kc_block_lazy.proofs.Spans.{goes_on}
 use Rattle.kc_block_lanes.specs.Standing.{standing}
 use Rattle.kc_block_access.proofs.tests.wait.Goals as goal

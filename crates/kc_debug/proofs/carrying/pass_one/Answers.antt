@@ -1,4 +1,4 @@
-use Rattle.std.proofs.Common.{sym, subst, ◌∙◌, arith}
+use Rattle.std.proofs.Common.{sym, subst, arith}
 use Rattle.kc_trace.specs.Trace.{out_of}
 use Rattle.kc_debug.specs.Passing.{Passed, Spends}
 use Rattle.kc_debug.proofs.Passing.{at-once-near, at-once-far, is-far}

@@ -1,4 +1,4 @@
-use Rattle.std.proofs.Common.{map, string_bytes, sym, subst, List, ℕ}
+use Rattle.std.proofs.Common.{map, string_bytes, sym, subst, List}
 use Rattle.kc_debug_script.specs.declared.line_map.MapEntry.{MapEntry}
 use Rattle.kc_kit_inputs.specs.Driving.{given_in}
 use Rattle.kc_kit_answer.specs.Places.{Placing}

@@ -1,4 +1,4 @@
-use Rattle.std.proofs.Common.{◌≡◌, ◌∙◌, ◌-◌, ap, sym}
+use Rattle.std.proofs.Common.{◌∙◌, ◌-◌, ap, sym}
 use Rattle.kc_machine_spec.specs.Machine.{Machine, Stepped}
 use Rattle.kc_machine_spec.specs.Run.{run_to, end_of}
 use Rattle.kc_kit_files.specs.declared.status.Status.TheVariants as status

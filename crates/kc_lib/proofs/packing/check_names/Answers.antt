@@ -1,7 +1,5 @@
-use Rattle.std.proofs.Common.{◌≡◌, ◌∙◌, sym, None, Some, ap, List, take, length, arith}
-use Rattle.std.proofs.lemmas.List.{length-take-le, take_more}
-use Rattle.kc_obj.specs.declared.parts.Given.{Given}
-use Rattle.kc_obj.specs.Object.{Object}
+use Rattle.std.proofs.Common.{◌≡◌, ◌∙◌, sym, None, Some, ap, take, length, arith}
+use Rattle.std.proofs.lemmas.List.{length-take-le}
 use Rattle.kc_lib.specs.Names.{second_of}
 use Rattle.kc_lib.proofs.GiverLemmas.{knows_next}
 use Rattle.kc_lib.proofs.NameLemmas.{doubled_step, doubled_stop, doubled_end}

@@ -1,4 +1,4 @@
-use Rattle.std.proofs.Common.{◌≡◌, ◌<◌, ◌≤◌, ◌^◌, List, ℕ, length, ap, arith}
+use Rattle.std.proofs.Common.{◌≡◌, ◌≤◌, List, ℕ, length, ap, arith}
 use Rattle.kc_obj.specs.Spelling.{spelling}
 use Rattle.kc_lib.proofs.tests.member.Goals as goal
 

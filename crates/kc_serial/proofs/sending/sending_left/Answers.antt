@@ -1,4 +1,4 @@
-use Rattle.std.proofs.Common.{◌≡◌, ℕ, ◌+◌, ◌-◌, ◌*◌, ◌/◌, ◌<◌, ◌≤◌, true, false, subst, sym, ◌∙◌, ap, Some}
+use Rattle.std.proofs.Common.{◌≡◌, ℕ, ◌+◌, ◌-◌, ◌*◌, ◌/◌, ◌<◌, ◌≤◌, true, subst, sym, ◌∙◌, ap, Some}
 use Rattle.kc_serial.specs.Frames.{bit_length}
 use Rattle.kc_serial.specs.Quiet.{keeps_level, SendingBefore}
 use Rattle.kc_serial.specs.declared.sending.Sending.TheVariants.{Busy}

@@ -1,7 +1,5 @@
-use Rattle.std.proofs.Common.{ap, subst}
-use Rattle.std.specs.Prelude.{ℕ, List, OnOk, Result, Ok, Err}
-use Rattle.std.specs.List.{list_any}
-use Rattle.std.specs.Str.{bytes_eq}
+use Rattle.std.proofs.Common.{subst}
+use Rattle.std.specs.Prelude.{List, OnOk, Result, Ok, Err}
 use Rattle.kc_obj.specs.declared.parts.Given.{Given}
 use Rattle.kc_base.specs.declared.types.NoMemory.{NoMemory}
 use Rattle.kc_lib.proofs.GiverLemmas.{IsNoted, knows_more}

@@ -1,4 +1,4 @@
-use Rattle.std.proofs.Common.{◌≡◌, List, length}
+use Rattle.std.proofs.Common.{List}
 use Rattle.kc_obj.specs.Object.{Object}
 use Rattle.kc_lib.specs.Names.{GivenOnce}
 use Rattle.kc_lib.specs.Givers.{Knows}

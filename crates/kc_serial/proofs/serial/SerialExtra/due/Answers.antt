@@ -1,4 +1,4 @@
-use Rattle.std.proofs.Common.{◌≡◌, ℕ, ◌+◌, subst, sym, ◌∙◌, Some, None}
+use Rattle.std.proofs.Common.{◌≡◌, ◌+◌, subst, sym, ◌∙◌, Some, None}
 use Rattle.std.specs.Option.{option_map}
 use Rattle.kc_span.specs.Span.{IsDue}
 use Rattle.kc_extra.specs.Joined.{least_of}

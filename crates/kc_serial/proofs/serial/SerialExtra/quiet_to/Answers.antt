@@ -1,5 +1,4 @@
-use Rattle.std.proofs.Common.{◌-◌, ◌≤◌, sym, ◌∙◌, arith}
-use Rattle.kc_serial.specs.declared.serial.Serial.{Serial}
+use Rattle.std.proofs.Common.{◌-◌, sym, ◌∙◌, arith}
 use Rattle.kc_serial.proofs.PortLaws.{port_after, port_fits}
 use Rattle.kc_serial.proofs.serial.SerialExtra.quiet_to.Goals as goal
 
