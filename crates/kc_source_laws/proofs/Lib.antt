@@ -1,7 +1,6 @@
 pub mod Tests
 pub mod Counts
 pub mod Reading
-pub mod Filling
 pub mod Expanding
 pub mod Strings
 pub mod Statements

@@ -1,19 +1,19 @@
 -- The characters of the lines of a text are bytes.
-use Rattle.std.proofs.Common.{◌≡◌, ℕ, suc, ◌+◌, ◌-◌, ◌<◌, ◌≤◌, Bool, true, false, ◌&&◌, ◌||◌, ◌==◌, not, cond, List, [], ◌∷◌, length, Option, Some, None, Result, Ok, Err, refl, arith}
+use Rattle.std.proofs.Common.{◌≡◌, ℕ, suc, ◌+◌, ◌-◌, ◌<◌, ◌≤◌, Bool, true, false, ◌&&◌, ◌||◌, ◌==◌, cond, List, [], ◌∷◌, length, refl, arith}
 use Rattle.std.specs.Prelude.{nat_lt, nat_le, unwrap_or}
 use Rattle.std.specs.List.{list_all, list_any}
 use Rattle.std.specs.Char.{to_ascii_uppercase}
 use Rattle.std.proofs.lemmas.Bool.{and_parts, and_from}
 use Rattle.std.proofs.lemmas.Bool.Decides.{nat_tests}
 use Rattle.kc_base.specs.TextLines.{begins_with, with_first, text_lines}
-use Rattle.kc_lex.specs.declared.token.Token.{Token}
 use Rattle.kc_lex.specs.declared.token.TokenKind.TheVariants as kinds
 use Rattle.kc_lex.specs.Chars.{is_text_char, is_word_char, is_sign, signs, upper}
 use Rattle.kc_lex.specs.Numbers.{number_value}
-use Rattle.kc_lex.specs.Lexemes.{Lexeme, Blank, Word, Quoted, Mark, Comment, lexemes, is_proper, may_precede, all_proper}
-use Rattle.kc_lex.specs.Lines.{is_number, word_token, tokens_of, is_long_name, is_bad_number, any_word, bounded, plain_line, is_text_to_comment, control_line, includes, line_tokens, Answer, and_lines, lines_from}
+use Rattle.kc_lex.specs.Lexemes.{Lexeme, Blank, Word, Quoted, Mark, Comment, all_proper}
+use Rattle.kc_lex.specs.Lines.{is_number, word_token, tokens_of, lines_from}
+use Rattle.kc_macro_names.proofs.Reading.{LexemesAreProper, lexeme_rest, lines_pass}
 use Rattle.kc_source_laws.specs.Lines.{are_bytes, has_bytes, is_good, is_line_of, LinesAreOfTheText}
-use Rattle.kc_source_laws.proofs.Tests.{HoldsOk, ok_at, one_ok, all_map}
+use Rattle.kc_source_laws.proofs.Tests.{ok_at, all_map}
 
 -- ---- characters
 
@@ -29,7 +29,7 @@ upper_byte c h = elim (nat_lt c 97) as (λ b. nat_lt (cond b c (cond (nat_lt c 1
 pub upper_bytes : (cs : List ℕ) → are_bytes cs ≡ true → are_bytes (upper cs) ≡ true
 upper_bytes cs h = all_map is_byte is_byte to_ascii_uppercase cs upper_byte h
 
-word_byte : (c : ℕ) → is_word_char c ≡ true → nat_lt c 256 ≡ true
+pub word_byte : (c : ℕ) → is_word_char c ≡ true → nat_lt c 256 ≡ true
 word_byte c h = grind (arith, nat_tests)
 
 text_byte : (c : ℕ) → is_text_char c ≡ true → nat_lt c 256 ≡ true
@@ -48,7 +48,7 @@ one_of_bytes c (s ∷ ss) h k =
 sign_byte : (c : ℕ) → is_sign c ≡ true → nat_lt c 256 ≡ true
 sign_byte c h = one_of_bytes c signs h refl
 
-every_byte : (p : ℕ → Bool) → ((c : ℕ) → p c ≡ true → nat_lt c 256 ≡ true) → (cs : List ℕ) → list_all p cs ≡ true → are_bytes cs ≡ true
+pub every_byte : (p : ℕ → Bool) → ((c : ℕ) → p c ≡ true → nat_lt c 256 ≡ true) → (cs : List ℕ) → list_all p cs ≡ true → are_bytes cs ≡ true
 every_byte p each [] h = refl
 every_byte p each (c ∷ cs) h =
     let both : (p c ≡ true) × (list_all p cs ≡ true) = and_parts (p c) (list_all p cs) h in
@@ -62,12 +62,6 @@ word_bytes w h =
       | true ↦ upper_bytes w h
       | false ↦ upper_bytes w h
     ]
-
-lexeme_rest : (x : Lexeme) (xs : List Lexeme) → all_proper (x ∷ xs) ≡ true → (is_proper x ≡ true) × (all_proper xs ≡ true)
-unfolding all_proper
-lexeme_rest x xs h =
-    let first : (is_proper x ≡ true) × ((may_precede x xs && all_proper xs) ≡ true) = and_parts (is_proper x) (may_precede x xs && all_proper xs) h in
-    (first.0, (and_parts (may_precede x xs) (all_proper xs) first.1).1)
 
 tokens_bytes : (xs : List Lexeme) → all_proper xs ≡ true → list_all has_bytes (tokens_of xs) ≡ true
 tokens_bytes [] h = refl
@@ -86,43 +80,7 @@ tokens_bytes (Comment cs ∷ xs) h = tokens_bytes xs (lexeme_rest (Comment cs) x
 
 -- ---- lines
 
-abbrev LineIs : Result (List Token) ℕ → Type 0
-LineIs r = HoldsOk (list_all has_bytes) r
-
-bounded_line : (line : List ℕ) (r : Result (List Token) ℕ) → LineIs r → LineIs (bounded line r)
-bounded_line line r h = one_ok (list_all has_bytes) (nat_lt 255 (length line)) (Err 3) r tt h
-
-plain_bytes : (line : List ℕ) (o : Option (List Lexeme)) → ((xs : List Lexeme) → o ≡ Some xs → all_proper xs ≡ true) → LineIs (plain_line line o)
-plain_bytes line None proper = tt
-plain_bytes line (Some xs) proper =
-    one_ok (list_all has_bytes) (list_any (any_word is_long_name) xs) (Err 1) (bounded line (cond (list_any (any_word is_bad_number) xs) (Err 9) (Ok (tokens_of xs)))) tt
-    (bounded_line line (cond (list_any (any_word is_bad_number) xs) (Err 9) (Ok (tokens_of xs)))
-    (one_ok (list_all has_bytes) (list_any (any_word is_bad_number) xs) (Err 9) (Ok (tokens_of xs)) tt (tokens_bytes xs (proper xs refl))))
-
-control_bytes : (line : List ℕ) → LineIs (control_line line)
-control_bytes line = one_ok (list_all has_bytes) (not (is_text_to_comment false line)) (Err 1) (bounded line (Ok [])) tt (bounded_line line (Ok []) refl)
-
-module _ (law : (line : List ℕ) (xs : List Lexeme) → lexemes line ≡ Some xs → all_proper xs ≡ true) where
-  line_bytes : (line : List ℕ) → LineIs (line_tokens line)
-  unfolding line_tokens
-  line_bytes line =
-      one_ok (list_all has_bytes) (begins_with 36 line) (cond (includes line) (Err 1) (control_line line)) (plain_line line (lexemes line))
-      (one_ok (list_all has_bytes) (includes line) (Err 1) (control_line line) tt (control_bytes line))
-      (plain_bytes line (lexemes line) (law line))
-
-  and_good : (numbers : ℕ → Bool) (number : ℕ) (r : Result (List Token) ℕ) (rest : Answer) → numbers number ≡ true → LineIs r → HoldsOk (list_all (is_good numbers)) rest → HoldsOk (list_all (is_good numbers)) (and_lines number r rest)
-  and_good numbers number (Ok ts) (Ok ls) n h k = and_from (numbers number && list_all has_bytes ts) (list_all (is_good numbers) ls) (and_from (numbers number) (list_all has_bytes ts) n h) k
-  and_good numbers number (Ok ts) (Err f) n h k = tt
-  and_good numbers number (Err code) rest n h k = tt
-
-  from_good : (numbers : ℕ → Bool) (number : ℕ) (ls : List (List ℕ)) → ((k : ℕ) → k < length ls → numbers (number + k) ≡ true) → HoldsOk (list_all (is_good numbers)) (lines_from number ls)
-  unfolding lines_from
-  from_good numbers number [] each = refl
-  from_good numbers number (l ∷ ls) each =
-      let here : numbers number ≡ true = (let q : number + 0 ≡ number = omega arith in rw q at (each 0 (omega arith))) in
-      and_good numbers number (line_tokens l) (lines_from (number + 1) ls) here (line_bytes l)
-      (from_good numbers (number + 1) ls (λ k h. let q : (number + 1) + k ≡ number + suc k = omega arith in rw q (each (suc k) (omega (arith, h)))))
-
+module _ (law : LexemesAreProper) where
   first_length : (c : ℕ) (ls : List (List ℕ)) → length (with_first c ls) ≤ suc (length ls)
   first_length c [] = omega arith
   first_length c (l ∷ ls) = omega arith
@@ -144,7 +102,7 @@ module _ (law : (line : List ℕ) (xs : List Lexeme) → lexemes line ≡ Some x
   pub lines_are_of_the_text : LinesAreOfTheText
   lines_are_of_the_text text lines e =
       ok_at (list_all (is_good (is_line_of text))) (lines_from 1 (text_lines text)) lines
-      (from_good (is_line_of text) 1 (text_lines text) (λ k h. let few = few_lines text in numbered k (omega (arith, h, few)))) e
+      (lines_pass law (is_line_of text) has_bytes (λ xs p short. tokens_bytes xs p) 1 (text_lines text) (λ k h. let few = few_lines text in numbered k (omega (arith, h, few)))) e
     where
       numbered : (k : ℕ) → k < length text → is_line_of text (1 + k) ≡ true
       numbered k h = and_from (nat_lt 0 (1 + k)) (nat_le (1 + k) (length text)) (grind (arith, nat_tests)) (grind (arith, nat_tests, h))

@@ -5,6 +5,7 @@ ghost use Rattle.kc_source_laws.specs.Lines.{ExpansionKeepsLines, LinesAreOfTheT
 ghost use Rattle.kc_source_laws.specs.Strings.{StringsStandOnTheLine};
 
 use kc_lex::grammar::lexemes_are_proper;
+use kc_macro_names::{expansion_ends_at_a_place, expansion_keeps_tests};
 use kc_source_statement::operands_have_forms;
 
 /// What holds of the text of each token of a line holds of each string of its statement.
@@ -25,7 +26,10 @@ pub fn lines_are_of_the_text()
 /// bytes where those of the source are.
 pub fn expansion_keeps_lines()
     ensures { ExpansionKeepsLines }
-{}
+{
+    expansion_ends_at_a_place();
+    expansion_keeps_tests();
+}
 
 /// A statement has the number of a line, and its strings are bytes where the characters of the line are.
 pub fn statements_keep_lines()

@@ -1,0 +1,14 @@
+//! The line of a macro's body that the first fault of a source comes from.
+#![tactic(auto)]
+
+mod alike;
+mod finding;
+mod first;
+mod seeking;
+mod telling;
+mod written;
+
+pub use finding::cause;
+
+#[cfg(test)]
+mod tests;

@@ -1,0 +1,5 @@
+use Rattle.kc_asm_earlier_laws.proofs.Telling.{texts_are_told}
+use Rattle.kc_asm_earlier_laws.proofs.texts_are_told.Goals as goal
+
+pub returns : goal.returns
+returns c = texts_are_told c.lines_are_of_the_text.ensures c.lines_have_names.ensures c.expansion_keeps_tests.ensures

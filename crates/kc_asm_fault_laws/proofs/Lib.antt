@@ -1,0 +1,16 @@
+pub mod Reading
+pub mod Filling
+pub mod Expanding
+pub mod Least
+pub mod Statements
+pub mod Values
+pub mod Lines
+pub mod Others
+pub mod Uses
+pub mod Unknown
+pub mod Names
+pub mod Codes
+pub mod Seen
+pub mod Moved
+pub mod Subjects
+pub mod Standing

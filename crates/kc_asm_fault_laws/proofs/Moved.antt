@@ -1,0 +1,105 @@
+-- What names mean by all statements does not depend on where these stand: it has the same fault, or a value of the same base.
+use Rattle.std.proofs.Common.{◌≡◌, ℕ, ◌+◌, Bool, true, false, cond, ◌||◌, List, [], ◌∷◌, ◌++◌, reverse, refl, sym, ap, subst, ◌∙◌}
+use Rattle.std.specs.Prelude.{Option, Some, None, Ok, Err}
+use Rattle.std.specs.Str.{bytes_eq}
+use Rattle.std.proofs.lemmas.List.{reverse-append}
+use Rattle.kc_expr.specs.declared.values.Value.{Value}
+use Rattle.kc_expr.specs.Tree.{Tree}
+use Rattle.kc_expr.specs.Meaning.{Answer, answer_by, here}
+use Rattle.kc_expr.specs.Alike.{AreAlikeValues, AreAlike}
+use Rattle.kc_expr.proofs.AlikeLemmas.{alike, expressions_alike}
+use Rattle.kc_source_statement.specs.declared.statement.Stmt.{Stmt}
+use Rattle.kc_source_statement.specs.Trees.{ActionTree, action_tree}
+use Rattle.kc_asm_symbols.specs.declared.segments.Segment.{Segment}
+use Rattle.kc_asm_symbols.specs.Located.{Located, located_by, located_from, segment_after, first_segment}
+use Rattle.kc_asm_symbols.specs.Externals.{declared, statement_uses_stack, externals_from, external_in, stack_name}
+use Rattle.kc_asm_symbols.specs.Meanings.{or_told, is_label, label_answer, external_answer, with_here, is_taken_by, defines, by_definition, behind, earlier, in_all}
+
+-- a statement, and the same at another place
+record IsMoved (l m : Located) : Type 0 where
+  label : l.label ≡ m.label
+  action : l.action ≡ m.action
+  segment : l.segment ≡ m.segment
+  here : AreAlikeValues l.here m.here
+
+data AreMoved : List Located → List Located → Type 0 where
+  none : AreMoved [] []
+  more : {l m : Located} {ls ms : List Located} → IsMoved l m → AreMoved ls ms → AreMoved (l ∷ ls) (m ∷ ms)
+
+located_moved : (values others : ℕ → Segment → Value) → ((i : ℕ) (g : Segment) → AreAlikeValues (values i g) (others i g)) → (i : ℕ) (g : Segment) (ss : List Stmt)
+    → AreMoved (located_from values i g ss) (located_from others i g ss)
+unfolding located_from
+located_moved values others same i g [] = none
+located_moved values others same i g (s ∷ ss) =
+    more (record { label = refl; action = refl; segment = refl; here = same i g }) (located_moved values others same (i + 1) (segment_after g (action_tree s.action)) ss)
+
+-- ---- parts of lists
+
+joined : {ls ms ks js : List Located} → AreMoved ls ms → AreMoved ks js → AreMoved (ls ++ ks) (ms ++ js)
+joined none rest = rest
+joined (more one ones) rest = more one (joined ones rest)
+
+reverse_one : (l : Located) (ls : List Located) → reverse ls ++ l ∷ [] ≡ reverse (l ∷ ls)
+reverse_one l ls = sym (reverse-append (l ∷ []) ls)
+
+reversed : {ls ms : List Located} → AreMoved ls ms → AreMoved (reverse ls) (reverse ms)
+reversed none = none
+reversed (more {l} {m} {ls} {ms} one ones) =
+    subst (λ (ks : List Located). AreMoved ks (reverse (m ∷ ms))) (reverse_one l ls)
+    (subst (λ (ks : List Located). AreMoved (reverse ls ++ l ∷ []) ks) (reverse_one m ms) (joined (reversed ones) (more one none)))
+
+-- ---- externals and labels
+
+externals_moved : (used : Bool) {ls ms : List Located} → AreMoved ls ms → externals_from used ls ≡ externals_from used ms
+unfolding externals_from
+externals_moved used none = refl
+externals_moved used (more {l} {m} {ls} {ms} one ones) =
+    (λ i. declared used (one.segment i).kind (one.action i) ++ externals_from (used || statement_uses_stack (one.action i)) ls)
+    ∙ ap (λ rest. declared used m.segment.kind m.action ++ rest) (externals_moved (used || statement_uses_stack m.action) ones)
+
+same_test : (x : Bool) (a b c d : Answer) → AreAlike a c → AreAlike b d → AreAlike (cond x a b) (cond x c d)
+same_test true a b c d first second = first
+same_test false a b c d first second = second
+
+labels_moved : {ls ms : List Located} → AreMoved ls ms → (q : List ℕ) → AreAlike (label_answer ls q) (label_answer ms q)
+unfolding label_answer
+labels_moved none q = refl
+labels_moved (more {l} {m} {ls} {ms} one ones) q =
+    subst (λ (o : Option (List ℕ)). AreAlike (cond (is_label q l.label) (Ok l.here) (label_answer ls q)) (cond (is_label q o) (Ok m.here) (label_answer ms q))) one.label
+    (same_test (is_label q l.label) (Ok l.here) (label_answer ls q) (Ok m.here) (label_answer ms q) one.here (labels_moved ones q))
+
+-- ---- what names mean
+
+external_moved : {all others : List Located} → AreMoved all others → (q : List ℕ) → AreAlike (external_answer all q) (external_answer others q)
+external_moved {all} {others} a q = alike (external_answer all q) (external_answer others q) (ap (λ ts. external_in 0 ts q) (externals_moved false a))
+
+told : (a b : Answer) → AreAlike a b → AreAlike (or_told a) (or_told b)
+told (Ok v) (Ok w) same = same
+told (Ok v) (Err d) same = absurd same
+told (Err c) (Ok w) same = absurd same
+told (Err c) (Err d) same = refl
+
+definition_moved : (o : Option Tree) (look at : List ℕ → Answer) (a b : Answer) → ((q : List ℕ) → AreAlike (look q) (at q)) → AreAlike a b → AreAlike (by_definition o look a) (by_definition o at b)
+definition_moved None look at a b same rest = rest
+definition_moved (Some x) look at a b same rest = told (answer_by look x) (answer_by at x) (expressions_alike look at same x)
+
+here_moved : (l m : Located) (look at : List ℕ → Answer) → IsMoved l m → ((q : List ℕ) → AreAlike (look q) (at q)) → (q : List ℕ) → AreAlike (with_here l.here look q) (with_here m.here at q)
+here_moved l m look at one same q = same_test (bytes_eq q here) (Ok l.here) (look q) (Ok m.here) (at q) one.here (same q)
+
+earlier_moved : {all others : List Located} → AreMoved all others → {before passed : List Located} → AreMoved before passed → (q : List ℕ) → AreAlike (earlier all before q) (earlier others passed q)
+unfolding earlier
+earlier_moved {all} {others} a none q =
+    same_test (bytes_eq q stack_name) (external_answer all q) (label_answer all q) (external_answer others q) (label_answer others q) (external_moved a q) (labels_moved a q)
+earlier_moved {all} {others} a (more {l} {m} {ls} {ms} one ones) q =
+    subst (λ (action : ActionTree). AreAlike (behind (external_answer all) l.action l.here (earlier all ls) q) (behind (external_answer others) action m.here (earlier others ms) q)) one.action
+    (same_test (is_taken_by l.action q) (external_answer all q) (by_definition (defines l.action q) (with_here l.here (earlier all ls)) (earlier all ls q))
+    (external_answer others q) (by_definition (defines l.action q) (with_here m.here (earlier others ms)) (earlier others ms q))
+    (external_moved a q)
+    (definition_moved (defines l.action q) (with_here l.here (earlier all ls)) (with_here m.here (earlier others ms)) (earlier all ls q) (earlier others ms q)
+    (here_moved l m (earlier all ls) (earlier others ms) one (λ n. earlier_moved a ones n)) (earlier_moved a ones q)))
+
+pub all_alike : (values others : ℕ → Segment → Value) → ((i : ℕ) (g : Segment) → AreAlikeValues (values i g) (others i g)) → (stmts : List Stmt) (q : List ℕ)
+    → AreAlike (in_all (located_by values stmts) q) (in_all (located_by others stmts) q)
+all_alike values others same stmts q =
+    let moved = located_moved values others same 0 first_segment stmts in
+    earlier_moved moved (reversed moved) q
