@@ -241,7 +241,7 @@ sound-debug ns script lines driving image =
     (λ entries. record { told = told-end (end_of (debugged_by entries commands driving image).machine); named = inl refl }))
 
 sound-fault : (ns : List (List ℕ)) (name text : List ℕ) (r : Reply) → TellsFault name text r → IsSound ns r
-sound-fault ns name text r h = sound-err ns (source_reply name text h.0 h.1) r refl refl (sym h.3)
+sound-fault ns name text r h = sound-err ns (source_reply name text h.0 h.1 h.3.0) r refl refl (sym h.3.2)
 
 sound-first : (ns names texts : List (List ℕ)) (r : Reply) → TellsFirst names texts r → IsSound ns r
 sound-first ns [] texts r h = absurd h

@@ -1,13 +1,18 @@
 -- Sources that are judged in their order (this kit's own; the first fault of a source is that of the assembler).
-use Rattle.std.specs.Prelude.{◌≡◌, ◌⊎◌, ℕ, List, [], ◌∷◌, Result, Ok, Err}
+use Rattle.std.specs.Prelude.{◌≡◌, ◌⊎◌, ℕ, List, [], ◌∷◌, Option, Result, Ok, Err}
 use Rattle.kc_obj.specs.Object.{Object}
 use Rattle.kc_asm.specs.Assembled.{IsModule, IsFirstFault}
+use Rattle.kc_asm_cause.specs.Cause.{IsCause}
 use Rattle.kc_kit_files.specs.Reply.{Reply}
 use Rattle.kc_kit_inputs.specs.Replies.{source_reply}
 
+-- the reply names this fault of a source, with the line of a macro's body that has it, where one has it
+abbrev pub Tells : List ℕ → List ℕ → ℕ → ℕ → Reply → Type 0
+Tells name text line code reply = (cause : Option ℕ) × IsCause text line code cause × (reply ≡ source_reply name text line code cause)
+
 -- the reply names the first fault of a source
 abbrev pub TellsFault : List ℕ → List ℕ → Reply → Type 0
-TellsFault name text reply = (line : ℕ) × (code : ℕ) × IsFirstFault text (line, code) × (reply ≡ source_reply name text line code)
+TellsFault name text reply = (line : ℕ) × (code : ℕ) × IsFirstFault text (line, code) × Tells name text line code reply
 
 -- the module of a source, or the reply to its first fault
 abbrev pub SourceIs : List ℕ → List ℕ → Result Object Reply → Type 0

@@ -4,56 +4,81 @@ ghost use Rattle.kc_asm.specs.Assembled.{IsModule};
 ghost use Rattle.kc_kit_files.specs.Reply.{IsRefused};
 ghost use Rattle.kc_kit_files.specs.Reads.{AllShort};
 ghost use Rattle.kc_kit_inputs.specs.Lines as spec;
-ghost use Rattle.kc_kit_inputs.specs.Replies.{source_reply};
+ghost use Rattle.kc_asm_cause.specs.Cause.{IsCause};
 ghost use Rattle.kc_asm_subject.specs.Subject.{subject_of};
-ghost use Rattle.kc_kit_notes.specs.Subjects.{source_note};
-ghost use Rattle.kc_kit_inputs.specs.Sources.{AreModules, TellsFault, TellsFirst};
+ghost use Rattle.kc_kit_notes.specs.Subjects.{source_note, body_note};
+ghost use Rattle.kc_kit_inputs.specs.Sources.{AreModules, Tells, TellsFault, TellsFirst};
 
 use crate::input_lines::{coded, place_text};
 use kc_asm::assemble;
+use kc_asm_cause::cause;
 use kc_asm_subject::subject;
 use kc_base::NoMemory;
 use kc_kit_files::{Cause, Refusal, refusal_of};
-use kc_kit_notes::source_note;
+use kc_kit_notes::{put_body_line, source_note};
 use kc_lex::SourceFault;
 use kc_obj::Module;
 use std::alloc::Global;
 
-// The place and the code of a fault of a source as they are printed, and its note, with the name that the fault is about.
-fn fault_texts(
+// The note of a fault of a source, with the name that it is about, and the line of a macro's body that has it.
+fn fault_note(
     alloc: Global,
-    name: &str,
+    name: &[u8],
     text: &[u8],
     line: u32,
     number: u8,
-) -> Result<(Vec<u8>, Vec<u8>), NoMemory>
+    code: &[u8],
+) -> Result<(Vec<u8>, Option<u32>), NoMemory>
+    requires { length text.now ≤ 1048576 }
+    ensures cause { IfOk result (λ told. IsCause text.now line number told.1) }
+    ensures note { IfOk result (λ told. told.0.items ≡ source_note name.now text.now line code.now number (subject_of text.now line number) ++ body_note name.now text.now told.1) }
+{
+    let mut note = match subject(alloc, text, line, number)? {
+        Some(about) => {
+            let about = Some(about.as_slice());
+            source_note(alloc, name, text, line, code, number, about)?
+        }
+        None => source_note(alloc, name, text, line, code, number, None)?,
+    };
+    let body_line = cause(alloc, text, line, number)?;
+    put_body_line(&mut note, name, text, body_line)?;
+    Ok((note, body_line))
+}
+
+// The place and the code of a fault of a source as they are printed, its note, and the line of a macro's body that has it.
+fn fault_texts(
+    alloc: Global,
+    name: &[u8],
+    text: &[u8],
+    line: u32,
+    number: u8,
+) -> Result<(Vec<u8>, (Vec<u8>, Option<u32>)), NoMemory>
     requires { length text.now ≤ 1048576 }
     ensures printed { IfOk result (λ texts. texts.0.items ≡ spec.place_text line (spec.coded (codes "E") number)) }
-    ensures note { IfOk result (λ texts. texts.1.items ≡ source_note name.now text.now line (spec.coded (codes "E") number) number (subject_of text.now line number)) }
+    ensures cause { IfOk result (λ texts. IsCause text.now line number texts.1.1) }
+    ensures note { IfOk result (λ texts. texts.1.0.items ≡ source_note name.now text.now line (spec.coded (codes "E") number) number (subject_of text.now line number) ++ body_note name.now text.now texts.1.1) }
 {
     let code = coded(alloc, b"E", number)?;
     let printed = place_text(alloc, line, &code)?;
-    let name = name.as_bytes();
-    let note = match subject(alloc, text, line, number)? {
-        Some(about) => {
-            let about = Some(about.as_slice());
-            source_note(alloc, name, text, line, &code, number, about)?
-        }
-        None => source_note(alloc, name, text, line, &code, number, None)?,
-    };
-    Ok((printed, note))
+    let told = fault_note(alloc, name, text, line, number, &code)?;
+    Ok((printed, told))
 }
 
 // The refusal of a source with a fault: its line and the number of its code.
 fn source_refusal(alloc: Global, name: &str, text: &[u8], line: u32, number: u8) -> Refusal
     requires { length text.now ≤ 1048576 }
-    ensures { IsRefused (λ reply. reply ≡ source_reply name.now text.now line number) result }
+    ensures { IsRefused (Tells name.now text.now line number) result }
 {
+    let name = name.as_bytes();
     match fault_texts(alloc, name, text, line, number) {
-        Ok((printed, note)) => {
-            let name = name.as_bytes();
-            refusal_of(alloc, Cause::Source, b"source ", name, &printed, note)
-        }
+        Ok((printed, (note, _))) => refusal_of(
+            alloc,
+            Cause::Source,
+            b"source ",
+            name,
+            &printed,
+            note,
+        ),
         Err(NoMemory) => Refusal::NoMemory,
     }
 }

@@ -18,6 +18,8 @@ use Rattle.kc_link.specs.Laws.{OneImage}
 use Rattle.kc_link.specs.declared.lines.LineAt.{LineAt}
 use Rattle.kc_link_laws.specs.Linked.{OneLineMap}
 use Rattle.kc_asm.specs.Assembled.{IsModule}
+use Rattle.kc_asm_cause.specs.Cause.{IsCause}
+use Rattle.kc_asm_cause_laws.specs.OneCause.{OneCause}
 use Rattle.kc_asm_laws.specs.Modules.{OneAnswerOfText}
 use Rattle.kc_asm_list_laws.specs.Laws.{OneListing}
 use Rattle.kc_kit_files.specs.declared.status.Status.TheVariants as status
@@ -34,7 +36,7 @@ use Rattle.kc_kit_inputs.specs.Inputs.{input_for}
 use Rattle.kc_kit_inputs.specs.Library.{library_of, TakenAre}
 use Rattle.kc_kit_inputs.specs.Replies.{source_reply, line_reply}
 use Rattle.kc_kit_inputs.specs.Objects.{modules_of, object_of}
-use Rattle.kc_kit_inputs.specs.Sources.{TellsFault, SourceIs, AreModules, TellsFirst, SourcesAre}
+use Rattle.kc_kit_inputs.specs.Sources.{Tells, TellsFault, SourceIs, AreModules, TellsFirst, SourcesAre}
 use Rattle.kc_kit_inputs.specs.Traces.{TraceIs}
 use Rattle.kc_kit_answer.specs.Answer.{OneText, TwoTexts, Parted}
 use Rattle.kc_kit_answer.specs.Assemble.{AreListings, WritesObject, AssembleAnswer}
@@ -95,6 +97,7 @@ pub record Laws : Type 0 where
   pub taken : TakenOnce
   pub traces : OneReading
   pub listings : OneListing
+  pub causes : OneCause
 
 -- ---- sources
 
@@ -105,8 +108,8 @@ abbrev refused : Reply → Result Object Reply
 refused r = Err r
 
 -- the reply to a fault
-abbrev told_of : List ℕ → List ℕ → Fault → Reply
-told_of name text fault = source_reply name text fault.0 fault.1
+abbrev told_of : List ℕ → List ℕ → Fault → Option ℕ → Reply
+told_of name text fault cause = source_reply name text fault.0 fault.1 cause
 
 of_ok : (m n : Object) (x y : Result Object Fault) → x ≡ Ok m → y ≡ Ok n → x ≡ y → m ≡ n
 of_ok m n x y e f g = cc (e, f, g)
@@ -117,16 +120,21 @@ of_err d e x y f g h = cc (f, g, h)
 ok_or_err : (m : Object) (d : Fault) (x y : Result Object Fault) → x ≡ Ok m → y ≡ Err d → x ≡ y → ⊥
 ok_or_err m d x y e f g = cc (e, f, g)
 
-module _ (law : OneAnswerOfText) where
+module _ (law : OneAnswerOfText) (causes : OneCause) where
   one_module : (text : List ℕ) (m n : Object) → IsModule text m → IsModule text n → m ≡ n
   one_module text m n h k = of_ok m n (Ok m) (Ok n) refl refl (law text (Ok m) (Ok n) h k)
 
   no_fault : (name text : List ℕ) (m : Object) (r : Reply) → IsModule text m → TellsFault name text r → ⊥
   no_fault name text m r h k = ok_or_err m (k.0, k.1) (Ok m) (Err (k.0, k.1)) refl refl (law text (Ok m) (Err (k.0, k.1)) h k.2)
 
+  told_once : (name text : List ℕ) (f g : Fault) (r s : Reply) → f ≡ g → Tells name text f.0 f.1 r → Tells name text g.0 g.1 s → r ≡ s
+  told_once name text f g r s e h k =
+      let there : Tells name text g.0 g.1 r = subst (λ (d : Fault). Tells name text d.0 d.1 r) e h in
+      there.2 ∙ (ap (told_of name text g) (causes text g.0 g.1 there.0 k.0 there.1 k.1) ∙ sym k.2)
+
   one_fault : (name text : List ℕ) → IsOne (TellsFault name text)
   one_fault name text r s h k =
-      h.3 ∙ (ap (told_of name text) (of_err (h.0, h.1) (k.0, k.1) (Err (h.0, h.1)) (Err (k.0, k.1)) refl refl (law text (Err (h.0, h.1)) (Err (k.0, k.1)) h.2 k.2)) ∙ sym k.3)
+      told_once name text (h.0, h.1) (k.0, k.1) r s (of_err (h.0, h.1) (k.0, k.1) (Err (h.0, h.1)) (Err (k.0, k.1)) refl refl (law text (Err (h.0, h.1)) (Err (k.0, k.1)) h.2 k.2)) h.3 k.3
 
   one_source : (name text : List ℕ) (x y : Result Object Reply) → SourceIs name text x → SourceIs name text y → x ≡ y
   one_source name text (Ok m) (Ok n) h k = ap found (one_module text m n h k)
@@ -241,12 +249,12 @@ one_completed law names (Some library) may one ms =
 module _ (laws : Laws) where
   one_told_sources : (names : List (List ℕ)) (given : GivenFiles) (ranges : Ranges) (texts : List (List ℕ)) (tell : Driving → List ℕ → Reply) → IsOne (SourcesTold names given ranges texts tell)
   one_told_sources names given ranges texts tell =
-      one_given (SourcesAre names texts) (Placing names ranges (Driven given (LinkedTold texts) tell)) (one_sources laws.texts names texts)
+      one_given (SourcesAre names texts) (Placing names ranges (Driven given (LinkedTold texts) tell)) (one_sources laws.texts laws.causes names texts)
       (one_placing names ranges (Driven given (LinkedTold texts) tell) (one_driven laws.images texts given tell))
 
   one_told_lines : (names : List (List ℕ)) (given : GivenFiles) (ranges : Ranges) (texts : List (List ℕ)) (tell : List MapEntry → Driving → List ℕ → Reply) → IsOne (LinesTold names given ranges texts tell)
   one_told_lines names given ranges texts tell =
-      one_given (SourcesAre names texts) (Placing names ranges (DrivenWithLines given (LinkedWithLines texts) tell)) (one_sources laws.texts names texts)
+      one_given (SourcesAre names texts) (Placing names ranges (DrivenWithLines given (LinkedWithLines texts) tell)) (one_sources laws.texts laws.causes names texts)
       (one_placing names ranges (DrivenWithLines given (LinkedWithLines texts) tell) (one_driven_lines laws.images laws.maps texts given tell))
 
   one_listed : (list : Option (List ℕ)) (text : List ℕ) (m : Object) (ws vs : List Write) → AreListings list text m ws → AreListings list text m vs → ws ≡ vs
@@ -258,7 +266,7 @@ module _ (laws : Laws) where
       h.2 ∙ (ap (λ ws. done_writing (write out (objects.spelling m) ∷ ws)) (one_listed list text m h.0 k.0 h.1 k.1) ∙ sym k.2)
 
   one_assembled : (file out : List ℕ) (list : Option (List ℕ)) (text : List ℕ) → IsOne (AssembleAnswer file out list text)
-  one_assembled file out list text = one_given (SourceIs file text) (WritesObject out list text) (one_source laws.texts file text) (one_object out list text)
+  one_assembled file out list text = one_given (SourceIs file text) (WritesObject out list text) (one_source laws.texts laws.causes file text) (one_object out list text)
 
   one_link : (files : List (List ℕ)) (inputs : List (Role × List ℕ)) (out : List ℕ) (beside : Beside) (ranges : Ranges) (texts more : List (List ℕ)) → IsOne (LinkAnswer files inputs out beside ranges texts more)
   one_link files inputs out beside ranges texts more =

@@ -5,6 +5,7 @@ ghost use Rattle.kc_kit_laws.specs.Alike.{RunsAlike};
 ghost use Rattle.kc_kit_laws.specs.OneAnswer.{OneAnswer, OneOutcome};
 ghost use Rattle.kc_kit_laws.specs.StartLevels.{StartLevelsAgree};
 
+use kc_asm_cause_laws::one_cause;
 use kc_asm_laws::{filled_are_bytes, modules_fit, one_answer_of_text};
 use kc_asm_list_laws::one_listing;
 use kc_hex::written_is_read;
@@ -37,6 +38,7 @@ pub fn one_answer()
     taken_once();
     one_reading();
     one_listing();
+    one_cause();
 }
 
 /// Calls with the same words, over files that hold the same, give the same status, print the same and leave the same in the

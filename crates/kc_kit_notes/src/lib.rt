@@ -11,4 +11,4 @@ mod subjects;
 pub use notes::{byte_note, line_note};
 pub use origins::{Members, Origins};
 pub use rule_lines::link_refusal;
-pub use subjects::source_note;
+pub use subjects::{put_body_line, source_note};

@@ -2,7 +2,7 @@
 ghost use Rattle.std.specs.Prelude.{◌≡◌, ◌++◌, [], IfOk, OnOk};
 ghost use Rattle.std.specs.Option.{option_map};
 ghost use Rattle.kc_kit_notes.specs.Notes.{error_saying};
-ghost use Rattle.kc_kit_notes.specs.Subjects.{around, sentence_round, sentence_about, source_note};
+ghost use Rattle.kc_kit_notes.specs.Subjects.{around, sentence_round, sentence_about, source_note, body_place, body_note};
 
 use crate::notes::put_line;
 use itoa::Buffer;
@@ -96,4 +96,35 @@ pub fn source_note(
     put_fault(&mut note, code, number, subject)?;
     put_line(&mut note, text, line)?;
     Ok(note)
+}
+
+// Puts where a line of a macro's body stands.
+fn put_place(note: &mut Vec<u8>, name: &[u8], line: u32) -> Result<(), NoMemory>
+    ensures { OnOk result (note.new.items ≡ note.old.items ++ body_place name.now line) }
+{
+    let mut buffer = Buffer::new();
+    note.extend_from_slice(name)?;
+    note.push(b':')?;
+    note.extend_from_slice(buffer.format(line).as_bytes())?;
+    note.extend_from_slice(b": note: it was written here\n")?;
+    Ok(())
+}
+
+/// Puts behind a note the line of a macro's body that has the fault, where one has it.
+pub fn put_body_line(
+    note: &mut Vec<u8>,
+    name: &[u8],
+    text: &[u8],
+    line: Option<u32>,
+) -> Result<(), NoMemory>
+    ensures { OnOk result (note.new.items ≡ note.old.items ++ body_note name.now text.now line) }
+{
+    match line {
+        Some(line) => {
+            put_place(note, name, line)?;
+            put_line(note, text, line)?;
+            Ok(())
+        }
+        None => Ok(()),
+    }
 }

@@ -29,7 +29,7 @@ static FILES: [Row; 11] = [
             "a.a96:3: error E01: a line is no statement, or has a character that stands nowhere, a string without its end or a name of over 31 characters\nL LD 20H\n",
         ),
     ),
-    // the line of the call is told of a fault in a macro, and no line where the last one is passed
+    // of a fault in a macro the line of the call is told, and that of the body
     (
         (
             "a.a96",
@@ -39,7 +39,7 @@ static FILES: [Row; 11] = [
         (
             Status::Source,
             "source a.a96:5: E07\n",
-            "a.a96:5: error E07: the name SPEED is not defined\n M\n",
+            "a.a96:5: error E07: the name SPEED is not defined\n M\na.a96:2: note: it was written here\n LD 20H,#SPEED\n",
         ),
     ),
     (
