@@ -52,6 +52,10 @@ FaultOfValues source f =
 abbrev pub IsFirstFault : List ℕ → Fault → Type 0
 IsFirstFault source f = FaultOfLines source f ⊎ (FaultOfMacros source f ⊎ (FaultOfStatements source f ⊎ FaultOfValues source f))
 
+-- a source without a fault
+abbrev pub IsFaultless : List ℕ → Type 0
+IsFaultless source = (line code : ℕ) → ¬ IsFirstFault source (line, code)
+
 -- the module of a source without a fault
 pub record IsModule (source : List ℕ) (m : Object) : Type 0 where
   pub stmts : List Stmt

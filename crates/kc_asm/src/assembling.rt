@@ -1,12 +1,14 @@
 ghost use Rattle.std.specs.Prelude.{◌≡◌, ◌≤◌, length, IfOk};
 ghost use Rattle.kc_obj.specs.Object.{Object};
 ghost use Rattle.kc_asm_symbols.specs.Externals.{externals};
+ghost use Rattle.kc_asm_symbols.specs.Told.{AreReadWell};
 ghost use Rattle.kc_asm_check.specs.Judging.{standing};
 ghost use Rattle.kc_asm.specs.Assembled as spec;
 
 use kc_asm_check::judge;
 use kc_asm_draft::draft;
 use kc_asm_draft_laws::drafts_are_drafts;
+use kc_asm_earlier_laws::sources_are_read_well;
 use kc_asm_layout::layout;
 use kc_asm_module::{module_of, piece_count};
 use kc_asm_outline::outline;
@@ -38,6 +40,7 @@ fn last_line(stmts: &[Stmt]) -> u32
 
 // The module of statements, or the first fault of their values and places.
 fn module_or_fault(alloc: Global, stmts: &[Stmt]) -> Result<Result<Module, LineFault>, NoMemory>
+    requires read { AreReadWell stmts.now }
     requires few { length stmts.now ≤ 65536 }
     requires few_externals { length (externals (standing stmts.now)) ≤ 65536 }
     ensures { IfOk result (λ r. spec.IsMade stmts.now r) }
@@ -77,6 +80,7 @@ pub fn assemble(alloc: Global, source: &[u8]) -> Result<Module, SourceFault>
     let stmts = statements(alloc, &text)?;
     externals_are_few();
     statements_are_of_the_text();
+    sources_are_read_well();
     match module_or_fault(alloc, &stmts) {
         Ok(Ok(module)) => Ok(module),
         Ok(Err(fault)) => Err(SourceFault::from(fault)),

@@ -5,8 +5,7 @@ use Rattle.kc_lex.specs.declared.token.TokenKind.{TokenKind}
 use Rattle.kc_lex.specs.declared.token.TokenKind.TheVariants as kinds
 use Rattle.kc_lex.specs.declared.token.Token.{Token}
 use Rattle.kc_lex.specs.declared.token.Line.{Line}
-use Rattle.kc_lex.specs.Kinds.{is_sign_kind, is_name_kind, is_chars_kind}
-use Rattle.kc_asm_cause.specs.Written.{is_number_kind}
+use Rattle.kc_lex.specs.Kinds.{is_sign_kind, is_name_kind, is_number_kind, is_chars_kind}
 
 abbrev pub is_kind : TokenKind → TokenKind → Bool
 is_kind kinds.Name k = is_name_kind k

@@ -1,17 +1,9 @@
 -- Where the lines of an expansion were written (this kit's own). Expansion does not read the value of a token that is no
 -- number: there each of these tokens keeps the number of the line that it stands on.
-use Rattle.std.specs.Prelude.{ℕ, Bool, true, false, not, ◌&&◌, ◌==◌, if◌then◌else◌, List, [], ◌∷◌, drop, map, Option, Some, None}
-use Rattle.kc_lex.specs.declared.token.TokenKind.{TokenKind}
-use Rattle.kc_lex.specs.declared.token.TokenKind.TheVariants as kinds
+use Rattle.std.specs.Prelude.{ℕ, Bool, not, ◌&&◌, ◌==◌, if◌then◌else◌, List, [], ◌∷◌, drop, map, Option, Some, None}
 use Rattle.kc_lex.specs.declared.token.Token.{Token}
 use Rattle.kc_lex.specs.declared.token.Line.{Line}
-use Rattle.kc_lex.specs.Kinds.{has_label}
-
-abbrev pub is_number_kind : TokenKind → Bool
-is_number_kind kinds.Number = true
-is_number_kind kinds.Name = false
-is_number_kind kinds.Chars = false
-is_number_kind kinds.Sign = false
+use Rattle.kc_lex.specs.Kinds.{is_number_kind, has_label}
 
 -- ---- the lines of a source, marked
 

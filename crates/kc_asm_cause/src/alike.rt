@@ -3,26 +3,15 @@
 ghost use Rattle.std.specs.Prelude.{◌≡◌};
 ghost use Rattle.kc_asm_cause.specs.Alike as spec;
 
-use crate::written::is_number;
-use kc_lex::{Line, Token, TokenKind};
-
-fn is_kind(first: TokenKind, second: TokenKind) -> bool
-    ensures { result ≡ spec.is_kind first second }
-{
-    match first {
-        TokenKind::Name => matches!(second, TokenKind::Name),
-        TokenKind::Number => matches!(second, TokenKind::Number),
-        TokenKind::Chars => matches!(second, TokenKind::Chars),
-        TokenKind::Sign => matches!(second, TokenKind::Sign),
-    }
-}
+use kc_lex::kinds::is_number;
+use kc_lex::{Line, Token};
 
 fn is_alike(first: &Token, second: &Token) -> bool
     ensures { result ≡ spec.is_alike first.now second.now }
 {
-    is_kind(first.kind, second.kind)
+    first.kind == second.kind
         && first.text.as_slice() == second.text.as_slice()
-        && (!is_number(first.kind) || first.value == second.value)
+        && (!is_number(first) || first.value == second.value)
 }
 
 #[tactic(auto, unfolding(crate::specs::Alike::are_alike))]

@@ -4,15 +4,9 @@ ghost use Rattle.std.specs.Prelude.{◌≡◌, map, IfOk};
 ghost use Rattle.kc_asm_cause.specs.Written as spec;
 
 use kc_base::{NoMemory, Text};
-use kc_lex::kinds::{has_label, rest};
-use kc_lex::{Line, Token, TokenKind, Tokens};
+use kc_lex::kinds::{has_label, is_number, rest};
+use kc_lex::{Line, Token, Tokens};
 use std::alloc::Global;
-
-pub(crate) fn is_number(kind: TokenKind) -> bool
-    ensures { result ≡ spec.is_number_kind kind }
-{
-    matches!(kind, TokenKind::Number)
-}
 
 fn marked_token(alloc: Global, number: u32, token: &Token) -> Result<Token, NoMemory>
     ensures { IfOk result (λ t. t ≡ spec.marked_token number token.now) }
@@ -20,7 +14,7 @@ fn marked_token(alloc: Global, number: u32, token: &Token) -> Result<Token, NoMe
     Ok(Token {
         kind: token.kind,
         text: Text::of(alloc, token.text.as_slice())?,
-        value: if is_number(token.kind) {
+        value: if is_number(token) {
             token.value
         } else {
             number
@@ -64,7 +58,7 @@ fn first_mark(tokens: &[Token]) -> Option<u32>
 {
     let mut left = tokens;
     while let [token, rest @ ..] = left {
-        if !is_number(token.kind) && token.value != 0 {
+        if !is_number(token) && token.value != 0 {
             return Some(token.value);
         }
         left = rest;

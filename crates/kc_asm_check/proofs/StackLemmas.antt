@@ -8,8 +8,8 @@ use Rattle.kc_asm_layout.specs.declared.site.Site.{Site}
 use Rattle.kc_asm_emission.specs.Arguments.{Look}
 use Rattle.kc_asm_emission.specs.Content.{content}
 use Rattle.kc_asm_emission.specs.Faults as values
-use Rattle.kc_asm_check.specs.Codes.{Regions, when, branch_faults, place_faults, stack_faults, stack_after, regions_after}
-use Rattle.kc_asm_check.specs.Judging.{own_codes, codes_of, put_faults}
+use Rattle.kc_asm_check.specs.Codes.{Regions, when, branch_faults, octet_faults, place_faults, stack_faults, stack_after, regions_after}
+use Rattle.kc_asm_check.specs.Judging.{own_codes, codes_of}
 use Rattle.kc_asm_check.specs.Laws.{AreSound}
 use Rattle.kc_asm_check.specs.Putting.{stack_from}
 
@@ -26,7 +26,7 @@ no_back (x ∷ xs) ys e = absurd (cc)
 no_stack_code : (look last : Look) (regions : Regions) (sum : ℕ) (l : Located) (s : Site) → codes_of look last regions sum l s ≡ [] → stack_faults look sum l.action ≡ []
 no_stack_code look last regions sum l s none =
     no_back (place_faults regions look l.label l.action l.segment s) _
-    (no_back (put_faults look l.action l.segment s (content look s.form l.here l.action)) _
+    (no_back (octet_faults look l.action l.segment s (content look s.form l.here l.action)) _
     (no_back (branch_faults look s.body l.action) _
     (no_back (values.faults_of look l.action) _
     (no_front (own_codes look regions sum l s) _ none))))

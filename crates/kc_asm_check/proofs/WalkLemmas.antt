@@ -19,7 +19,7 @@ use Rattle.kc_asm_emission.specs.Faults.{lesser, least}
 use Rattle.kc_asm_emission.proofs.FaultLemmas.{least_append}
 use Rattle.kc_asm_layout.specs.declared.site.Site.{Site}
 use Rattle.kc_asm_check.specs.declared.walk.Walk.{Walk}
-use Rattle.kc_asm_check.specs.Codes.{Regions, first_regions, regions_after, stack_after, public_faults, telling_faults}
+use Rattle.kc_asm_check.specs.Codes.{Regions, first_regions, regions_after, stack_after, public_faults}
 use Rattle.kc_asm_check.specs.Checked.{seen_put}
 use Rattle.kc_asm_check.specs.Putting.{Put, put_of, puts_from, stack_from}
 use Rattle.kc_asm_check.proofs.NameLemmas.{front_of}
@@ -36,17 +36,14 @@ same_value g place = ap (λ (n : ℕ). record { base = base_of g; tag = tag_of g
 
 -- ---- the codes of one statement
 
-pub codes_joined : (m : Meanings) (all before : List Located) (l : Located) (regions : Regions) (sum : ℕ) (s : Site) (own public telling rest code : Option ℕ)
+pub codes_joined : (m : Meanings) (all before : List Located) (l : Located) (regions : Regions) (sum : ℕ) (s : Site) (own public code : Option ℕ)
     → IsAt m all before l → own ≡ least (own_codes (at_statement m) regions sum l s) → public ≡ least (public_faults (in_all all) l.action)
-    → telling ≡ least (telling_faults l.line l.action) → rest ≡ lesser public telling → code ≡ lesser own rest
+    → code ≡ lesser own public
     → code ≡ least (codes_of (meaning all before l) (in_all all) regions sum l s)
-codes_joined m all before l regions sum s own public telling rest code at is_own is_public is_telling is_rest is_code =
+codes_joined m all before l regions sum s own public code at is_own is_public is_code =
     let mine : own ≡ least (own_codes (meaning all before l) regions sum l s)
     = is_own ∙ ap (λ (look : List ℕ → Answer). least (own_codes look regions sum l s)) at.means in
-    let others : rest ≡ least (public_faults (in_all all) l.action ++ telling_faults l.line l.action)
-    = is_rest ∙ (λ i. lesser (is_public i) (is_telling i)) ∙ sym (least_append (public_faults (in_all all) l.action) (telling_faults l.line l.action)) in
-    is_code ∙ (λ i. lesser (mine i) (others i))
-    ∙ sym (least_append (own_codes (meaning all before l) regions sum l s) (public_faults (in_all all) l.action ++ telling_faults l.line l.action))
+    is_code ∙ (λ i. lesser (mine i) (is_public i)) ∙ sym (least_append (own_codes (meaning all before l) regions sum l s) (public_faults (in_all all) l.action))
 
 -- ---- the statements that are left
 

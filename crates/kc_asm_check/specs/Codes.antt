@@ -1,19 +1,18 @@
 -- The faults of one statement, where it stands: those of its values; 24 for a generic branch whose target counts from no
 -- label, no external and not from `$`; 12 and 19 for numbers that do not fit where they depend on no base; 17 for ORG
 -- backwards, a place past the end of memory, or a stack past 65,535 bytes; 22 outside the regions of absolute pieces; 20 for
--- a public name that counts from an external; 18 for an instruction or data outside code; 1 for what no object can tell
--- (after the MCS-96 Macro Assembler User's Guide, "Assembler Directives"; regions and codes are this kit's own).
+-- a public name that counts from an external (after the MCS-96 Macro Assembler User's Guide, "Assembler Directives"; regions and
+-- codes are this kit's own).
 use Rattle.std.specs.Prelude.{ℕ, ◌+◌, ◌-◌, Bool, true, false, not, ◌&&◌, ◌==◌, nat_lt, nat_le, if◌then◌else◌, List, [], ◌∷◌, ◌++◌, Option, Some, None, unwrap_or, Ok, Err, slice_get, is_some, is_none}
-use Rattle.std.specs.List.{flat_map, list_all}
+use Rattle.std.specs.List.{flat_map}
 use Rattle.std.specs.Option.{option_to_list}
-use Rattle.kc_lex.specs.Codes.{no_statement, past_the_end, outside_code, out_of_reach, not_public, outside_region, no_label}
+use Rattle.kc_lex.specs.Codes.{past_the_end, out_of_reach, not_public, outside_region, no_label}
 use Rattle.kc_obj.specs.declared.parts.SegKind.{SegKind}
 use Rattle.kc_obj.specs.declared.parts.SegKind.TheVariants.{Reg, Code, Ram}
-use Rattle.kc_obj.specs.Names.{is_name, is_stack_name}
 use Rattle.kc_obj.specs.Pieces.{in_region}
 use Rattle.kc_expr.specs.Tree.{Tree}
 use Rattle.kc_expr.specs.Meaning.{Answer}
-use Rattle.kc_source_statement.specs.Trees.{ArgTree, ActionTree, Module, Cseg, Dseg, Rseg, Sseg, Public, Extrn, Define, Reserve, Org, Operation}
+use Rattle.kc_source_statement.specs.Trees.{ArgTree, ActionTree, Module, Cseg, Dseg, Rseg, Sseg, Public, Define, Reserve, Org, Operation}
 use Rattle.kc_source_statement.specs.Trees as trees
 use Rattle.kc_asm_symbols.specs.declared.segments.Segment.{Segment}
 use Rattle.kc_asm_symbols.specs.Located.{is_absolute}
@@ -89,6 +88,7 @@ abbrev pub judges_jumps : Look → ActionTree → Bool
 judges_jumps look (Operation word args) = not (lacks_target look args)
 judges_jumps look action = true
 
+-- those of the octets that a statement puts where it stands
 abbrev pub octet_faults : Look → ActionTree → Segment → Site → Content → List ℕ
 octet_faults look action g s c = content_faults (judges_jumps look action) s.address g.piece s.place c
 
@@ -204,31 +204,3 @@ name_faults last name = when (counts_from_external (last name)) not_public
 abbrev pub public_faults : (List ℕ → Answer) → ActionTree → List ℕ
 public_faults last (Public names) = flat_map (name_faults last) names
 public_faults last action = []
-
--- ---- what an object can tell: lines from 1, names of at most 31 characters. Lines and statements that were read without
--- a fault are so already
-
-abbrev pub is_public : List ℕ → Bool
-is_public name = is_name name && not (is_stack_name name)
-
-abbrev pub tells : ActionTree → Bool
-tells (Module None stack) = true
-tells (Module (Some name) stack) = is_name name
-tells (Extrn names) = list_all is_name names
-tells (Public names) = list_all is_public names
-tells action = true
-
-abbrev pub telling_faults : ℕ → ActionTree → List ℕ
-telling_faults line action = when (not (nat_lt 0 line && tells action)) no_statement
-
--- an instruction or data outside code
-abbrev pub is_octets : Content → Bool
-is_octets (Octets os) = true
-is_octets c = false
-
-abbrev pub is_code : SegKind → Bool
-is_code Code = true
-is_code kind = false
-
-abbrev pub segment_faults : SegKind → Content → List ℕ
-segment_faults kind c = when (not (is_code kind) && is_octets c) outside_code

@@ -5,37 +5,30 @@ use Rattle.std.specs.Option.{option_to_list}
 use Rattle.kc_lex.specs.LineFaults.{Fault, at_line, least}
 use Rattle.kc_expr.specs.Meaning.{Answer}
 use Rattle.kc_source_statement.specs.declared.statement.Stmt.{Stmt}
-use Rattle.kc_source_statement.specs.Trees.{ActionTree}
-use Rattle.kc_asm_symbols.specs.declared.segments.Segment.{Segment}
 use Rattle.kc_asm_symbols.specs.Located.{Located, located}
 use Rattle.kc_asm_symbols.specs.Meanings.{meaning, in_all}
 use Rattle.kc_asm_emission.specs.Arguments.{Look}
-use Rattle.kc_asm_emission.specs.Content.{Content, content}
+use Rattle.kc_asm_emission.specs.Content.{content}
 use Rattle.kc_asm_emission.specs.Faults as values
 use Rattle.kc_asm_outline.specs.Outline.{outline}
 use Rattle.kc_asm_layout.specs.declared.site.Site.{Site}
 use Rattle.kc_asm_layout.specs.Text.{layout}
-use Rattle.kc_asm_check.specs.Codes.{Regions, first_regions, branch_faults, octet_faults, place_faults, regions_after, stack_after, stack_faults, public_faults, telling_faults, segment_faults}
+use Rattle.kc_asm_check.specs.Codes.{Regions, first_regions, branch_faults, octet_faults, place_faults, regions_after, stack_after, stack_faults, public_faults}
 
 -- ---- one statement
-
--- those of the octets that it puts where it stands
-abbrev pub put_faults : Look → ActionTree → Segment → Site → Content → List ℕ
-put_faults look action g s c = octet_faults look action g s c ++ segment_faults g.kind c
 
 -- by what names mean there, and the bytes of stack before it
 abbrev pub own_codes : Look → Regions → ℕ → Located → Site → List ℕ
 own_codes look regions sum l s =
     values.faults_of look l.action
     ++ (branch_faults look s.body l.action
-    ++ (put_faults look l.action l.segment s (content look s.form l.here l.action)
+    ++ (octet_faults look l.action l.segment s (content look s.form l.here l.action)
     ++ (place_faults regions look l.label l.action l.segment s
     ++ stack_faults look sum l.action)))
 
 -- last is what names mean by all statements
 abbrev pub codes_of : Look → (List ℕ → Answer) → Regions → ℕ → Located → Site → List ℕ
-codes_of look last regions sum l s =
-    own_codes look regions sum l s ++ (public_faults last l.action ++ telling_faults l.line l.action)
+codes_of look last regions sum l s = own_codes look regions sum l s ++ public_faults last l.action
 
 -- ---- all of them: all are the statements of the module, before those before one, the latest first
 

@@ -61,8 +61,9 @@ fn judged(walk: Walk, stmts: &[Stmt]) -> Result<Checked, LineFault>
 /// a jump that does not reach, where they depend on no base; 24 for a generic branch to what is no label, no external and not
 /// `$`, with a fixed distance or none; 17 for ORG backwards, a label past FFFFH, a piece that is too long, and stack over
 /// 65,535 bytes; 22 for an absolute piece outside the regions of its kind; 20 for a public name that counts from an external.
-/// Statements that were read without a fault have neither 18, an instruction or data outside code, nor 1, for a line or a
-/// name that no object can tell. (MCS-96 Macro Assembler User's Guide, "Assembler Directives"; the codes are this kit's own.)
+/// Instructions and data outside code, and lines and names that no object can tell, are no faults here: statements that were
+/// read without a fault have none of them, as `sources_are_read_well` says. (MCS-96 Macro Assembler User's Guide, "Assembler
+/// Directives"; the codes are this kit's own.)
 ///
 /// `NoMemory`: memory ran out. That is the only other error.
 pub fn judge(

@@ -1,11 +1,10 @@
-//! What a statement adds to the stack, its public names, and what an object can tell of it.
+//! What a statement adds to the stack, and its public names.
 
-ghost use Rattle.std.specs.Prelude.{◌≡◌, ◌+◌, ◌≤◌, ◌<◌, ◌^◌, not, ◌&&◌, List, unwrap_or};
-ghost use Rattle.std.specs.List.{flat_map, list_all};
+ghost use Rattle.std.specs.Prelude.{◌≡◌, ◌+◌, ◌≤◌, ◌<◌, ◌^◌, List, unwrap_or};
+ghost use Rattle.std.specs.List.{flat_map};
 ghost use Rattle.std.specs.Option.{option_map};
 ghost use Rattle.kc_expr.specs.Tree.{tree_of};
 ghost use Rattle.kc_source_statement.specs.Trees.{action_tree};
-ghost use Rattle.kc_obj.specs.Names.{is_name, is_stack_name};
 ghost use Rattle.kc_asm_symbols.specs.Located.{Located};
 ghost use Rattle.kc_asm_symbols.specs.Meanings.{in_all};
 ghost use Rattle.kc_asm_symbols.specs.Walk.{IsBehind};
@@ -20,7 +19,6 @@ use kc_asm_symbols::Meanings;
 use kc_base::Text;
 use kc_expr::{Base, Expr, NoValue, Scope, Value};
 use kc_lex::SourceCode;
-use kc_obj::names::{is_stack, name_is_sound};
 use kc_source_statement::Action;
 
 fn stack_part<S: Scope>(stack: &Option<Expr>, scope: &S) -> Option<u16>
@@ -107,46 +105,4 @@ pub(crate) fn public_fault(action: &Action, meanings: &Meanings) -> Option<u8>
         Action::Public(names) => names_fault(names.as_slice(), meanings),
         _ => when(false, SourceCode::NotPublic.number()),
     }
-}
-
-fn is_public(name: &[u8]) -> bool
-    ensures { result ≡ spec.is_public name.now }
-{
-    name_is_sound(name) && !is_stack(name)
-}
-
-fn are_names(names: &[Text]) -> bool
-    ensures { result ≡ list_all is_name names.now }
-{
-    names.iter().all(|name| name_is_sound(name.as_slice()))
-}
-
-fn are_public(names: &[Text]) -> bool
-    ensures { result ≡ list_all spec.is_public names.now }
-{
-    names.iter().all(|name| is_public(name.as_slice()))
-}
-
-fn tells(action: &Action) -> bool
-    ensures { result ≡ spec.tells (action_tree action.now) }
-{
-    match action {
-        Action::Module {
-            name: Some(name),
-            ..
-        } => name_is_sound(name.as_slice()),
-        Action::Extrn(names) => are_names(names.as_slice()),
-        Action::Public(names) => are_public(names.as_slice()),
-        _ => true,
-    }
-}
-
-// 1 for what no object can tell.
-pub(crate) fn telling_fault(line: u32, action: &Action) -> Option<u8>
-    ensures { result ≡ least (spec.telling_faults line (action_tree action.now)) }
-{
-    when(
-        !(line > 0 && tells(action)),
-        SourceCode::NoStatement.number(),
-    )
 }

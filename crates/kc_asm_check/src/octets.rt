@@ -1,19 +1,22 @@
 //! Numbers that do not fit their bytes.
 
 ghost use Rattle.std.specs.Prelude.{◌≡◌, ◌%◌};
+ghost use Rattle.kc_source_statement.specs.Trees.{action_tree};
 ghost use Rattle.kc_asm_bytes.specs.Relocating.{is_piece, misfit as misfit_at};
 ghost use Rattle.kc_asm_emission.specs.Faults.{least};
 ghost use Rattle.kc_asm_emission.specs.Seen.{seen};
 ghost use Rattle.kc_asm_check.specs.Codes as spec;
 
+use crate::branches::judges_jumps;
 use crate::codes::when;
 use kc_asm_bytes::{Octet, misfit};
 use kc_asm_emission::Content;
 use kc_asm_emission::faults::lesser;
+use kc_asm_layout::Site;
 use kc_asm_symbols::Segment;
-use kc_expr::Base;
+use kc_expr::{Base, Scope};
 use kc_lex::SourceCode;
-use kc_obj::SegKind;
+use kc_source_statement::Action;
 
 // A jump is not judged where its target has no value.
 fn judged(jumps: bool, code: Option<u8>) -> Option<u8>
@@ -72,7 +75,7 @@ fn misfits(
 
 // 12 and 19 for numbers that do not fit. The place counts modulo 65536.
 #[tactic(auto, using(crate::proofs::OctetLemmas::modulo))]
-pub(crate) fn content_fault(
+fn content_fault(
     jumps: bool,
     address: Option<u16>,
     segment: Segment,
@@ -93,12 +96,16 @@ pub(crate) fn content_fault(
     }
 }
 
-// 18 for an instruction or data outside code.
-pub(crate) fn segment_fault(kind: SegKind, content: &Content) -> Option<u8>
-    ensures { result ≡ least (spec.segment_faults kind (seen content.now)) }
+// Those of the octets that a statement puts where it stands.
+pub(crate) fn octet_fault<S: Scope>(
+    content: &Content,
+    action: &Action,
+    segment: Segment,
+    site: &Site,
+    scope: &S,
+) -> Option<u8>
+    ensures { result ≡ least (spec.octet_faults (S.answers scope.now) (action_tree action.now) segment site.now (seen content.now)) }
 {
-    when(
-        kind != SegKind::Code && matches!(content, Content::Octets(_)),
-        SourceCode::OutsideCode.number(),
-    )
+    let jumps = judges_jumps(action, scope);
+    content_fault(jumps, site.address, segment, site.place, content)
 }

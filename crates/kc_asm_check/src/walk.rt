@@ -7,48 +7,28 @@ ghost use Rattle.kc_asm_symbols.specs.Located.{Located, located, first_segment, 
 ghost use Rattle.kc_asm_symbols.specs.Meanings.{meaning, in_all};
 ghost use Rattle.kc_asm_symbols.specs.Walk.{at_statement, IsBehind, IsAt};
 ghost use Rattle.kc_asm_emission.specs.Faults.{least};
-ghost use Rattle.kc_asm_emission.specs.Seen.{seen};
 ghost use Rattle.kc_asm_check.specs.Checked.{seen_put};
 ghost use Rattle.kc_asm_check.specs.Codes.{regions_after as following_regions, stack_after as following_sum};
 ghost use Rattle.kc_asm_check.specs.Putting.{put_of as put_there, puts_from, stack_from};
 ghost use Rattle.kc_asm_check.specs.Walk.{stood};
 ghost use Rattle.kc_asm_check.specs.Judging as spec;
 
-use crate::branches::{branch_fault, judges_jumps};
+use crate::branches::branch_fault;
 use crate::checked::Put;
-use crate::module::{public_fault, stack_after, stack_fault, telling_fault};
-use crate::octets::{content_fault, segment_fault};
+use crate::module::{public_fault, stack_after, stack_fault};
+use crate::octets::octet_fault;
 use crate::places::{place_fault, push_region};
 use crate::putting::put_of;
 use crate::sites::value_at;
+use kc_asm_emission::fault;
 use kc_asm_emission::faults::lesser;
-use kc_asm_emission::{Content, fault};
 use kc_asm_layout::Site;
 use kc_asm_symbols::{Meanings, Segment};
 use kc_base::NoMemory;
-use kc_expr::Scope;
 use kc_lex::LineFault;
 use kc_lex::line_fault::{at_line, lesser as lesser_fault};
-use kc_source_statement::{Action, Stmt};
+use kc_source_statement::Stmt;
 use std::alloc::Global;
-
-// The faults of what a statement puts where it stands.
-#[tactic(auto, using(kc_asm_emission::proofs::FaultLemmas::least_append))]
-fn put_fault<S: Scope>(
-    content: &Content,
-    action: &Action,
-    segment: Segment,
-    site: &Site,
-    scope: &S,
-) -> Option<u8>
-    ensures { result ≡ least (spec.put_faults (S.answers scope.now) (action_tree action.now) segment site.now (seen content.now)) }
-{
-    let jumps = judges_jumps(action, scope);
-    lesser(
-        content_fault(jumps, site.address, segment, site.place, content),
-        segment_fault(segment.kind, content),
-    )
-}
 
 /// What names mean and the segment at a statement, the regions of the pieces and the bytes of stack before it, and the
 /// first fault and what statements put so far.
@@ -80,11 +60,14 @@ impl Walk {
         let scope = &self.meanings;
         let values = fault(alloc, action, scope)?;
         let branch = branch_fault(site.body, action, scope);
-        let put = put_fault(&put.content, action, self.segment, site, scope);
+        let octets = octet_fault(&put.content, action, self.segment, site, scope);
         let regions = self.regions.as_slice();
         let places = place_fault(regions, &stmt.label, action, self.segment, site, scope);
         let stack = stack_fault(self.sum, action, scope);
-        Ok(lesser(values, lesser(branch, lesser(put, lesser(places, stack)))))
+        Ok(lesser(
+            values,
+            lesser(branch, lesser(octets, lesser(places, stack))),
+        ))
     }
 
     // The least code of the statement that the walk is at.
@@ -101,8 +84,7 @@ impl Walk {
     {
         let own = self.own_code(alloc, stmt, site, put)?;
         let public = public_fault(&stmt.action, &self.meanings);
-        let telling = telling_fault(stmt.line, &stmt.action);
-        Ok(lesser(own, lesser(public, telling)))
+        Ok(lesser(own, public))
     }
 
     /// Enters the next statement, judges it, and keeps what it puts.

@@ -28,6 +28,7 @@ use Rattle.kc_asm_draft_laws.proofs.Lists.{same_element}
 use Rattle.kc_asm_draft_laws.proofs.Standing.{Holds, IsWell}
 use Rattle.kc_asm_draft_laws.proofs.Going.{Head, head_of, is_absolute_head, AreHeads}
 use Rattle.kc_asm_draft_laws.proofs.Walking.{walked}
+use Rattle.kc_asm_draft_laws.proofs.Read.{standing_well}
 use Rattle.kc_asm_draft_laws.proofs.Octets.{names_known, all_parts}
 use Rattle.kc_asm_draft_laws.proofs.Naming.{all_tell, is_named, externals_are, all_good, distinct_good, publics_are, publics_distinct}
 
@@ -73,12 +74,13 @@ all_stand (a ∷ b ∷ c ∷ ts) h w =
 -- ---- the whole
 
 pub drafts_drafts : WrittenStands → ContentsArePaired → ContentsAreOctets → BasesAreKnown → OutlinesStay → OutlinesHaveLengths → SoundStatements → DraftsAreDrafts
-drafts_drafts written paired octets bases stay lengths statements stmts d none drafted count =
+drafts_drafts written paired octets bases stay lengths statements stmts d read none drafted count =
     let all = standing stmts in
     let last = in_all all in
     let w = walked stay lengths statements stmts none in
     let known = names_known bases stmts in
-    let telling = all_tell all first_regions 0 [] all (site_list stmts) first_parts w.steps in
+    let well = standing_well stmts read in
+    let telling = all_tell all first_regions 0 [] all (site_list stmts) first_parts w.steps well.told in
     let names = distinct_from [] (all_given all) in
     record {
       name = ap is_name drafted.name ∙ is_named last all telling;
@@ -88,6 +90,6 @@ drafts_drafts written paired octets bases stay lengths statements stmts d none d
       places = ap stand_well drafted.parts ∙ all_stand _ w.done.heads w.done.wells;
       parts =
           subst (λ (ts : List Taken). AllByRecursion (IsPart (length ts)) d.parts.items) (sym drafted.externals)
-          (subst (AllByRecursion (IsPart (length (externals all)))) (sym drafted.parts) (all_parts (length (externals all)) written paired octets all known first_regions all (site_list stmts) w.steps));
+          (subst (AllByRecursion (IsPart (length (externals all)))) (sym drafted.parts) (all_parts (length (externals all)) written paired octets all known well.told well.in_code first_regions all (site_list stmts) w.steps));
       count = count;
     }

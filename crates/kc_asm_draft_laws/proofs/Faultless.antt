@@ -18,34 +18,30 @@ use Rattle.kc_asm_emission.specs.Arguments.{Look, fixed_of, fixed_in}
 use Rattle.kc_asm_emission.specs.Content.{Content, Nothing, Upto, content, upto, reserved}
 use Rattle.kc_asm_emission.specs.Faults.{faults_of, fixed_faults, unless_fixed}
 use Rattle.kc_asm_layout.specs.declared.site.Site.{Site}
-use Rattle.kc_asm_check.specs.Codes.{Regions, when, branch_faults, octet_faults, place_faults, public_faults, telling_faults, segment_faults, label_faults, goes_on, goes_on_faults, end_faults, back_faults, is_below, opening_faults, opening, most_of, leaves}
-use Rattle.kc_asm_check.specs.Judging.{own_codes, codes_of, put_faults}
+use Rattle.kc_asm_check.specs.Codes.{Regions, when, branch_faults, octet_faults, place_faults, public_faults, label_faults, goes_on, goes_on_faults, end_faults, back_faults, is_below, opening_faults, opening, most_of, leaves}
+use Rattle.kc_asm_check.specs.Judging.{own_codes, codes_of}
 use Rattle.kc_asm_draft_laws.proofs.Lists.{nothing_left}
 
 pub record IsFaultless (look : Look) (last : List ℕ → Answer) (regions : Regions) (sum : ℕ) (l : Located) (s : Site) : Type 0 where
   pub values : faults_of look l.action ≡ []
   pub octets : octet_faults look l.action l.segment s (content look s.form l.here l.action) ≡ []
-  pub segment : segment_faults l.segment.kind (content look s.form l.here l.action) ≡ []
   pub ends : goes_on_faults regions l.action l.segment s ≡ []
   pub back : back_faults look l.action s.before ≡ []
   pub opens : opening_faults (opening look l.action) ≡ []
   pub publics : public_faults last l.action ≡ []
-  pub tells : telling_faults l.line l.action ≡ []
 
 pub faultless : (look : Look) (last : List ℕ → Answer) (regions : Regions) (sum : ℕ) (l : Located) (s : Site) → codes_of look last regions sum l s ≡ [] → IsFaultless look last regions sum l s
 faultless look last regions sum l s e =
     let c = content look s.form l.here l.action in
     let own = nothing_left (own_codes look regions sum l s) _ e in
-    let told = nothing_left (public_faults last l.action) _ own.1 in
     let a = nothing_left (faults_of look l.action) _ own.0 in
     let b = nothing_left (branch_faults look s.body l.action) _ a.1 in
-    let p = nothing_left (put_faults look l.action l.segment s c) _ b.1 in
-    let q = nothing_left (octet_faults look l.action l.segment s c) _ p.0 in
-    let r = nothing_left (place_faults regions look l.label l.action l.segment s) _ p.1 in
+    let o = nothing_left (octet_faults look l.action l.segment s c) _ b.1 in
+    let r = nothing_left (place_faults regions look l.label l.action l.segment s) _ o.1 in
     let t = nothing_left (label_faults l.label s.place) _ r.0 in
     let u = nothing_left (goes_on_faults regions l.action l.segment s) _ t.1 in
     let v = nothing_left (back_faults look l.action s.before) _ u.1 in
-    record { values = a.0; octets = q.0; segment = q.1; ends = u.0; back = v.0; opens = v.1; publics = told.0; tells = told.1 }
+    record { values = a.0; octets = o.0; ends = u.0; back = v.0; opens = v.1; publics = own.1 }
 
 pub unless : (b : Bool) (code : ℕ) → when b code ≡ [] → b ≡ false
 unless true code e = absurd (cc e)

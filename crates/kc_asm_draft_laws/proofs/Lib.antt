@@ -9,6 +9,7 @@ pub mod Room
 pub mod Keeping
 pub mod Whole
 pub mod Settling
+pub mod Read
 pub mod Octets
 pub mod Naming
 pub mod Drafts

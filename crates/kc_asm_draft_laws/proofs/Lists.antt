@@ -1,7 +1,10 @@
--- Elements of lists that are read, set and mapped.
-use Rattle.std.proofs.Common.{◌≡◌, ℕ, zero, suc, List, [], ◌∷◌, ◌++◌, map, set, length, get_or, refl, sym, ap, ◌∙◌, subst}
+-- Elements of lists that are read, set, mapped and tested.
+use Rattle.std.proofs.Common.{◌≡◌, ℕ, zero, suc, Bool, true, List, [], ◌∷◌, ◌++◌, map, set, reverse, length, get_or, refl, sym, ap, ◌∙◌, subst}
 use Rattle.std.specs.Prelude.{Some, None, slice_get}
-use Rattle.std.specs.List.{AllByRecursion}
+use Rattle.std.specs.List.{list_all, AllByRecursion}
+use Rattle.std.proofs.lemmas.Bool.{and_parts}
+use Rattle.std.proofs.lemmas.List.Folds.{list_all-append}
+use Rattle.kc_asm_symbols.proofs.KnownLemmas.{test_reverse}
 
 module _ {A : Type 0} where
   pub no_element : (x : A) → None ≡ Some x → ⊥
@@ -70,6 +73,13 @@ module _ {A B : Type 0} (f : A → B) where
   pub mapped_length : (xs : List A) → length (map f xs) ≡ length xs
   mapped_length [] = refl
   mapped_length (x ∷ xs) = ap suc (mapped_length xs)
+
+-- a test of all elements holds of one of them and of those before it, the latest first
+pub split_test : {X : Type 0} (p : X → Bool) (all before after : List X) (l : X) → list_all p all ≡ true → all ≡ reverse before ++ l ∷ after → (list_all p before ≡ true) × (p l ≡ true)
+split_test p all before after l h whole =
+    let split = sym (list_all-append p (reverse before) (l ∷ after)) ∙ ap (list_all p) (sym whole) ∙ h in
+    let parts = and_parts (list_all p (reverse before)) (list_all p (l ∷ after)) split in
+    (test_reverse p before parts.0, (and_parts (p l) (list_all p after) parts.1).0)
 
 -- two lists that are empty together
 pub nothing_left : {A : Type 0} (xs ys : List A) → xs ++ ys ≡ [] → (xs ≡ []) × (ys ≡ [])

@@ -11,12 +11,14 @@ use Rattle.kc_expr.specs.declared.values.Base.TheVariants.{Fixed, Absolute, Piec
 use Rattle.kc_expr.specs.Meaning.{Answer}
 use Rattle.kc_expr.specs.Known.{is_known}
 use Rattle.kc_obj.specs.declared.parts.Taken.{Taken}
-use Rattle.kc_obj.specs.Names.{is_name}
+use Rattle.kc_obj.specs.Names.{is_name, is_stack_name}
 use Rattle.kc_source_statement.specs.Trees.{ActionTree}
 use Rattle.kc_source_statement.specs.Trees as trees
+use Rattle.kc_source_statement.specs.Formed.{names_said}
 use Rattle.kc_asm_symbols.specs.Located.{Located}
 use Rattle.kc_asm_symbols.specs.Externals.{externals_from, declared, declared_names, taken, is_register_kind, statement_uses_stack, stack_name}
 use Rattle.kc_asm_symbols.specs.Meanings.{meaning, in_all}
+use Rattle.kc_asm_symbols.specs.Told.{is_public}
 use Rattle.kc_asm_piece.specs.declared.draft.Public.{Public as Given}
 use Rattle.kc_asm_piece.specs.Tape.{Tape}
 use Rattle.kc_asm_module.specs.Drafts.{base_exists, is_given_base}
@@ -24,46 +26,57 @@ use Rattle.kc_asm_module.specs.Drafts as drafts
 use Rattle.kc_asm_module.specs.Publics.{is_same_name}
 use Rattle.kc_asm_layout.specs.declared.site.Site.{Site}
 use Rattle.kc_asm_operation.specs.Values.{is_external}
-use Rattle.kc_asm_check.specs.Codes.{Regions, regions_after, stack_after, counts_from_external, name_faults, public_faults, is_public, tells}
+use Rattle.kc_asm_check.specs.Codes.{Regions, regions_after, stack_after, counts_from_external, name_faults, public_faults}
 use Rattle.kc_asm_draft_laws.specs.Drafting.{parts_after, name_by, name_of, given_by, all_given, distinct_from, given_as, publics_of}
 use Rattle.kc_asm_draft_laws.proofs.Lists.{nothing_left}
 use Rattle.kc_asm_draft_laws.proofs.Faultless.{unless}
 use Rattle.kc_asm_draft_laws.proofs.Walking.{AllSteps}
-use Rattle.kc_asm_draft_laws.proofs.Octets.{told_parts}
+use Rattle.kc_asm_draft_laws.proofs.Read.{can_tell, names_told}
 
 -- what an object can tell of a statement
 pub record IsTelling (last : List ℕ → Answer) (l : Located) : Type 0 where
-  pub tells : tells l.action ≡ true
+  pub names : list_all is_public (names_said l.action) ≡ true
   pub publics : public_faults last l.action ≡ []
 
 pub all_tell : (all : List Located) (regions : Regions) (sum : ℕ) (before ls : List Located) (ss : List Site) (parts : List Tape) → AllSteps all regions sum before ls ss parts
-    → AllByRecursion (IsTelling (in_all all)) ls
+    → list_all can_tell ls ≡ true → AllByRecursion (IsTelling (in_all all)) ls
 unfolding AllSteps
-all_tell all regions sum before [] ss parts h = tt
-all_tell all regions sum before (l ∷ ls) [] parts h = absurd h
-all_tell all regions sum before (l ∷ ls) (s ∷ ss) parts h =
-    let look = meaning all before l in (
-      record { tells = (told_parts l.line (tells l.action) h.0.faultless.tells).1; publics = h.0.faultless.publics },
-      all_tell all (regions_after look regions l.action) (stack_after look sum l.action) (l ∷ before) ls ss (parts_after look l s parts) h.1,
+all_tell all regions sum before [] ss parts h told = tt
+all_tell all regions sum before (l ∷ ls) [] parts h told = absurd h
+all_tell all regions sum before (l ∷ ls) (s ∷ ss) parts h told =
+    let look = meaning all before l in
+    let both = and_parts (can_tell l) (list_all can_tell ls) told in (
+      record { names = names_told l both.0; publics = h.0.faultless.publics },
+      all_tell all (regions_after look regions l.action) (stack_after look sum l.action) (l ∷ before) ls ss (parts_after look l s parts) h.1 both.1,
     )
+
+-- a public name is a name
+public_name : (n : List ℕ) → is_public n ≡ true → is_name n ≡ true
+public_name n h = (and_parts (is_name n) (not (is_stack_name n)) h).0
+
+public_names : (ns : List (List ℕ)) → list_all is_public ns ≡ true → list_all is_name ns ≡ true
+public_names [] h = refl
+public_names (n ∷ ns) h =
+    let both = and_parts (is_public n) (list_all is_public ns) h in
+    (λ i. public_name n both.0 i && public_names ns both.1 i)
 
 -- ---- the name of the module
 
-named_by : (action : ActionTree) (other : List ℕ) → tells action ≡ true → is_name other ≡ true → is_name (name_by action other) ≡ true
+named_by : (action : ActionTree) (other : List ℕ) → list_all is_public (names_said action) ≡ true → is_name other ≡ true → is_name (name_by action other) ≡ true
 named_by (trees.Module None stack) other h k = k
-named_by (trees.Module (Some name) stack) other h k = h
+named_by (trees.Module (Some name) stack) other h k = public_name name (and_parts (is_public name) true h).0
 named_by _ other h k = k
 
 module _ (last : List ℕ → Answer) where
   pub is_named : (ls : List Located) → AllByRecursion (IsTelling last) ls → is_name (name_of ls) ≡ true
   unfolding name_of
   is_named [] h = refl
-  is_named (l ∷ ls) h = named_by l.action (name_of ls) h.0.tells (is_named ls h.1)
+  is_named (l ∷ ls) h = named_by l.action (name_of ls) h.0.names (is_named ls h.1)
 
   -- ---- externals
 
-  declared_are : (action : ActionTree) → tells action ≡ true → list_all is_name (declared_names action) ≡ true
-  declared_are (trees.Extrn names) h = h
+  declared_are : (action : ActionTree) → list_all is_public (names_said action) ≡ true → list_all is_name (declared_names action) ≡ true
+  declared_are (trees.Extrn names) h = public_names names h
   declared_are _ h = refl
 
   stack_is : (b : Bool) → list_all (λ (t : Taken). is_name t.name) (cond b (taken false stack_name ∷ []) []) ≡ true
@@ -79,7 +92,7 @@ module _ (last : List ℕ → Answer) where
       let p : Taken → Bool = λ t. is_name t.name in
       list_all-append p (declared used l.segment.kind l.action) (externals_from (used || statement_uses_stack l.action) ls)
       ∙ (λ i. (list_all-append p names stack
-      ∙ (λ j. (list_all-map p (taken (is_register_kind l.segment.kind)) (declared_names l.action) ∙ declared_are l.action h.0.tells) j && stack_is (statement_uses_stack l.action && not used) j)) i
+      ∙ (λ j. (list_all-map p (taken (is_register_kind l.segment.kind)) (declared_names l.action) ∙ declared_are l.action h.0.names) j && stack_is (statement_uses_stack l.action && not used) j)) i
       && externals_are (used || statement_uses_stack l.action) ls h.1 i)
 
   -- ---- public names
@@ -96,14 +109,14 @@ module _ (last : List ℕ → Answer) where
       let none : counts_from_external (last n) ≡ false = unless (counts_from_external (last n)) 20 rest.0 in
       (λ i. (parts.0 i && not (none i)) && good_names ns parts.1 rest.1 i)
 
-  good_given : (action : ActionTree) → tells action ≡ true → public_faults last action ≡ [] → list_all is_good (given_by action) ≡ true
+  good_given : (action : ActionTree) → list_all is_public (names_said action) ≡ true → public_faults last action ≡ [] → list_all is_good (given_by action) ≡ true
   good_given (trees.Public names) h e = good_names names h e
   good_given _ h e = refl
 
   pub all_good : (ls : List Located) → AllByRecursion (IsTelling last) ls → list_all is_good (all_given ls) ≡ true
   unfolding all_given
   all_good [] h = refl
-  all_good (l ∷ ls) h = list_all-append is_good (given_by l.action) (all_given ls) ∙ (λ i. good_given l.action h.0.tells h.0.publics i && all_good ls h.1 i)
+  all_good (l ∷ ls) h = list_all-append is_good (given_by l.action) (all_given ls) ∙ (λ i. good_given l.action h.0.names h.0.publics i && all_good ls h.1 i)
 
   pub distinct_good : (seen ns : List (List ℕ)) → list_all is_good ns ≡ true → list_all is_good (distinct_from seen ns) ≡ true
   unfolding distinct_from

@@ -1,5 +1,5 @@
 -- What the octets of a source without a fault are: whole numbers from bases that exist, in code.
-use Rattle.std.proofs.Common.{◌≡◌, ℕ, ◌+◌, ◌<◌, Bool, true, false, not, ◌&&◌, ◌||◌, cond, eqb, ltb, leb, eq-eqb, List, [], ◌∷◌, ◌++◌, length, refl, sym, ap, ◌∙◌, subst, append_assoc, append-nil, arith}
+use Rattle.std.proofs.Common.{◌≡◌, ℕ, ◌+◌, ◌<◌, Bool, true, false, ◌&&◌, ◌||◌, cond, eqb, ltb, leb, eq-eqb, List, [], ◌∷◌, ◌++◌, length, refl, sym, ap, ◌∙◌, subst, append_assoc, append-nil, arith}
 use Rattle.std.specs.Prelude.{Option, Some, None, ◌==◌, nat_lt, nat_le}
 use Rattle.std.specs.List.{list_all, AllByRecursion}
 use Rattle.std.proofs.lemmas.Bool.{and_parts}
@@ -10,7 +10,7 @@ use Rattle.kc_expr.specs.declared.values.Base.TheVariants.{Absolute, Piece, Exte
 use Rattle.kc_expr.specs.declared.values.Value.{Value}
 use Rattle.kc_expr.specs.Meaning.{here}
 use Rattle.kc_obj.specs.declared.parts.SegKind.{SegKind}
-use Rattle.kc_obj.specs.declared.parts.SegKind.TheVariants.{Reg, Code, Ram, Stack}
+use Rattle.kc_obj.specs.declared.parts.SegKind.TheVariants.{Code}
 use Rattle.kc_obj.specs.Pieces.{kind_number}
 use Rattle.kc_obj_relocation.specs.Numbers.{width}
 use Rattle.kc_obj.specs.Fixups.{may_begin}
@@ -23,6 +23,7 @@ use Rattle.kc_asm_symbols.specs.Located.{Located, located_from, value_at, base_o
 use Rattle.kc_asm_symbols.specs.Externals.{externals}
 use Rattle.kc_asm_symbols.specs.Meanings.{meaning}
 use Rattle.kc_asm_symbols.specs.Known.{MeaningsAreKnown, BasesAreKnown}
+use Rattle.kc_asm_symbols.specs.Told.{stands_well}
 use Rattle.kc_asm_encoding.specs.Pairs.{Pending, opens, IsPairedFrom, IsPaired}
 use Rattle.kc_asm_piece.specs.declared.part.Cell.{Cell}
 use Rattle.kc_asm_piece.specs.declared.part.Mark.{Mark}
@@ -32,15 +33,16 @@ use Rattle.kc_asm_module.specs.Drafts.{base_exists, is_octet, BeginsWithSecond, 
 use Rattle.kc_asm_emission.specs.Bases as said
 use Rattle.kc_asm_emission.specs.Bases.{ContentsAreOctets}
 use Rattle.kc_asm_emission.specs.Pairing.{ArePaired, ContentsArePaired}
-use Rattle.kc_asm_emission.specs.Content.{Content, Octets, content}
+use Rattle.kc_asm_emission.specs.Content.{Octets, content}
 use Rattle.kc_asm_layout.specs.declared.site.Site.{Site}
-use Rattle.kc_asm_check.specs.Codes.{Regions, when, is_code, segment_faults, tells}
+use Rattle.kc_asm_check.specs.Codes.{Regions}
 use Rattle.kc_asm_check.specs.Judging.{standing, site_list, place_at}
 use Rattle.kc_asm_draft_laws.specs.Drafting.{first_parts, parts_from}
-use Rattle.kc_asm_draft_laws.proofs.Faultless.{unless}
+use Rattle.kc_asm_draft_laws.proofs.Lists.{split_test}
 use Rattle.kc_asm_draft_laws.proofs.Taping.{written_extends}
 use Rattle.kc_asm_draft_laws.proofs.Walking.{AllSteps}
 use Rattle.kc_asm_draft_laws.proofs.Keeping.{IsAhead, kept}
+use Rattle.kc_asm_draft_laws.proofs.Read.{can_tell, line_told, code_alone}
 
 -- ---- cells one after the other
 
@@ -133,28 +135,12 @@ names_known known stmts =
 
 -- ---- code
 
-code_alone : (kind : SegKind) (c : Content) (os : List Octet) → c ≡ Octets os → segment_faults kind c ≡ [] → kind ≡ Code
-code_alone kind c os is e = by kind (ap (λ (d : Content). segment_faults kind d) (sym is) ∙ e)
-  where
-    by : (kind : SegKind) → when (not (is_code kind) && true) 18 ≡ [] → kind ≡ Code
-    by Code e = refl
-    by Reg e = absurd (cc e)
-    by Ram e = absurd (cc e)
-    by Stack e = absurd (cc e)
-
 in_code : (t : Tape) → t.kind ≡ Code → holds_code t ≡ true
 in_code t e = ap (λ (k : SegKind). eqb (kind_number k) 1 || ((length t.cells == 0) && (length t.marks == 0))) e
 
 or_true : (b : Bool) → (b || true) ≡ true
 or_true true = refl
 or_true false = refl
-
-pub told_parts : (line : ℕ) (told : Bool) → when (not (nat_lt 0 line && told)) 1 ≡ [] → (nat_lt 0 line ≡ true) × (told ≡ true)
-told_parts line told e = and_parts (nat_lt 0 line) told (by (nat_lt 0 line && told) (unless _ 1 e))
-  where
-    by : (b : Bool) → not b ≡ false → b ≡ true
-    by true e = refl
-    by false e = absurd (cc e)
 
 -- ---- parts
 
@@ -182,7 +168,8 @@ module _ (count : ℕ) where
   marked line (o ∷ os) t h k =
       list_all-append (λ (m : Mark). nat_lt 0 m.line) t.marks (mark t.length line ∷ []) ∙ (λ i. k i && (h i && true))
 
-  module _ (written_stands : WrittenStands) (paired : ContentsArePaired) (octets : ContentsAreOctets) (all : List Located) (known : MeaningsAreKnown (base_exists count) all) where
+  module _ (written_stands : WrittenStands) (paired : ContentsArePaired) (octets : ContentsAreOctets) (all : List Located) (known : MeaningsAreKnown (base_exists count) all)
+      (told : list_all can_tell all ≡ true) (well : list_all stands_well all ≡ true) where
     written_part : (before : List Located) (regions : Regions) (sum : ℕ) (l : Located) (s : Site) (parts : List Tape) (u : Tape) → IsAhead all before regions sum l s parts u → IsPart count u
         → (os : List Octet) → content (meaning all before l) s.form l.here l.action ≡ Octets os → IsPart count (written l.line os u)
     written_part before regions sum l s parts u a h os is =
@@ -191,13 +178,13 @@ module _ (count : ℕ) where
         let place : base_exists count l.here.base ≡ true = names here in
         let bytes : list_all (said.is_octet (base_exists count)) os ≡ true = subst (said.AreOctets (base_exists count)) is (octets (base_exists count) refl refl look names s.form l.here place l.action) in
         let pairs : IsPaired os = subst ArePaired is (paired look s.form l.here l.action) in
-        let code : l.segment.kind ≡ Code = code_alone l.segment.kind (content look s.form l.here l.action) os is a.step.faultless.segment in
+        let code : l.segment.kind ≡ Code = code_alone look s.form l os (split_test stands_well all before a.step.after l well a.step.split).1 is in
         let kind : (written l.line os u).kind ≡ Code = (written_extends l.line os u).kind ∙ a.behind.kind ∙ a.step.stands.kind ∙ code in
-        let line = told_parts l.line (tells l.action) a.step.faultless.tells in
+        let line : nat_lt 0 l.line ≡ true = line_told l (split_test can_tell all before a.step.after l told a.step.split).1 in
         record {
           code = in_code (written l.line os u) kind;
           octets = subst (AreOctets count) (sym (written_cells l.line os u)) (joined count u.cells (numbered u.length os) h.octets (whole_numbers count u.length None os (same_octets count os bytes) pairs));
-          lines = ap (λ (ms : List Mark). list_all (λ m. nat_lt 0 m.line) ms) (written_stands u a.is l.line os).1 ∙ marked l.line os u line.0 h.lines;
+          lines = ap (λ (ms : List Mark). list_all (λ m. nat_lt 0 m.line) ms) (written_stands u a.is l.line os).1 ∙ marked l.line os u line h.lines;
         }
 
     only_parts : (ts : List Tape) → AllByRecursion (λ t. (is_tape t ≡ true) × IsPart count t) ts → AllByRecursion (IsPart count) ts

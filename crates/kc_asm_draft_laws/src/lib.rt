@@ -21,7 +21,8 @@ pub fn parts_are_writable()
     no_fault_no_codes();
 }
 
-/// The draft of a source without a fault can be made into a module, where that has at most 65,536 pieces.
+/// The draft of a source without a fault, whose statements an object can tell and whose bytes stand in code, can be made into a
+/// module, where that has at most 65,536 pieces.
 pub fn drafts_are_drafts()
     ensures { DraftsAreDrafts }
 {

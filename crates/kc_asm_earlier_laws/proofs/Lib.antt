@@ -1,4 +1,2 @@
 pub mod Places
 pub mod Telling
-pub mod Codes
-pub mod Coming

@@ -10,13 +10,10 @@ use Rattle.kc_source_statement.specs.declared.statement.Stmt.{Stmt}
 use Rattle.kc_source_statement.specs.Trees.{ActionTree, action_tree}
 use Rattle.kc_source_statement.specs.Trees as trees
 use Rattle.kc_source.specs.Faults.{is_module, holds_bytes, code_after, code_at, line_faults, name_faults, all_said, all_uses, faults_of, stmt_said}
-use Rattle.kc_branch.specs.declared.piece.Form.{Form}
 use Rattle.kc_asm_symbols.specs.declared.segments.Segment.{Segment}
 use Rattle.kc_asm_symbols.specs.Located.{located_from, segment_after, first_segment}
-use Rattle.kc_asm_emission.specs.Arguments.{Look, fixed_of}
-use Rattle.kc_asm_emission.specs.Content.{content, reserved, upto}
-use Rattle.kc_asm_check.specs.Codes.{when, is_code, is_octets}
-use Rattle.kc_asm_earlier_laws.specs.Places.{stands_well, BytesStandInCode, NoBytesOutsideCode}
+use Rattle.kc_asm_symbols.specs.Told.{is_code, stands_well}
+use Rattle.kc_asm_earlier_laws.specs.Places.{BytesStandInCode}
 
 -- ---- the pass
 
@@ -77,40 +74,3 @@ bytes_stand_in_code lines stmts are values =
     let none : faults_of lines ≡ [] = no_least (faults_of lines) are.sound in
     let parts = both_nil (line_faults true true (all_said lines)) (name_faults (all_uses (all_said lines)) [] (all_uses (all_said lines))) none in
     stand_well values 0 first_segment true true stmts refl (ap (line_faults true true) are.said_by ∙ parts.0)
-
--- ---- what a statement puts
-
-reserved_none : (size : ℕ) (o : Option ℕ) → is_octets (reserved size o) ≡ false
-reserved_none size None = refl
-reserved_none size (Some n) = refl
-
-upto_none : (o : Option ℕ) → is_octets (upto o) ≡ false
-upto_none None = refl
-upto_none (Some n) = refl
-
--- what holds no bytes puts none
-puts_none : (look : Look) (form : Form) (place : Value) (a : ActionTree) → holds_bytes a ≡ false → is_octets (content look form place a) ≡ false
-puts_none look form place (trees.Define size items) e = absurd (let f : true ≡ false = e in cc)
-puts_none look form place (trees.Operation word args) e = absurd (let f : true ≡ false = e in cc)
-puts_none look form place (trees.Reserve size count) e = reserved_none size (fixed_of look count)
-puts_none look form place (trees.Org x) e = upto_none (fixed_of look x)
-puts_none look form place trees.Even e = refl
-puts_none look form place trees.Bare e = refl
-puts_none look form place (trees.Module name stack) e = refl
-puts_none look form place (trees.Cseg at) e = refl
-puts_none look form place (trees.Dseg at) e = refl
-puts_none look form place (trees.Rseg at) e = refl
-puts_none look form place (trees.Sseg size) e = refl
-puts_none look form place (trees.Public names) e = refl
-puts_none look form place (trees.Extrn names) e = refl
-puts_none look form place (trees.Equ name x) e = refl
-puts_none look form place (trees.Set name x) e = refl
-puts_none look form place trees.End e = refl
-
-pub no_bytes_outside_code : NoBytesOutsideCode
-no_bytes_outside_code l well look form = by (holds_bytes l.action) (is_code l.segment.kind) (is_octets (content look form l.here l.action)) well (puts_none look form l.here l.action)
-  where
-    by : (h c o : Bool) → (not h || c) ≡ true → (h ≡ false → o ≡ false) → when (not c && o) 18 ≡ []
-    by h true o e f = refl
-    by true false o e f = absurd (cc)
-    by false false o e f = ap (λ (b : Bool). when b 18) (f refl)

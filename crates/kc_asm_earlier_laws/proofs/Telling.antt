@@ -1,6 +1,6 @@
 -- The names of statements are words of their lines.
-use Rattle.std.proofs.Common.{◌≡◌, ℕ, Bool, true, false, not, ◌&&◌, ◌||◌, cond, List, [], ◌∷◌, ◌++◌, map, Some, None, refl, ap}
-use Rattle.std.specs.Prelude.{nat_lt, nat_le, length}
+use Rattle.std.proofs.Common.{◌≡◌, ℕ, Bool, true, false, not, ◌&&◌, ◌||◌, cond, List, [], ◌∷◌, ◌++◌, map, refl}
+use Rattle.std.specs.Prelude.{nat_lt, nat_le, length, is_some}
 use Rattle.std.specs.List.{list_all}
 use Rattle.std.specs.Option.{option_to_list}
 use Rattle.std.proofs.lemmas.Bool.{and_parts, and_from}
@@ -8,22 +8,19 @@ use Rattle.kc_lex.specs.declared.token.Token.{Token}
 use Rattle.kc_lex.specs.declared.token.Line.{Line}
 use Rattle.kc_lex.specs.Kinds.{is_name_kind, is_free_name}
 use Rattle.kc_lex.specs.Words.{is_operator_word, operands_of, generic_operands_of, directive_of, is_stack, is_reserved}
-use Rattle.std.specs.Prelude.{is_some}
 use Rattle.kc_obj.specs.Names.{is_name, is_stack_name}
+use Rattle.kc_macro_names.specs.Ends.{ExpansionEndsAtAPlace}
 use Rattle.kc_macro_names.specs.Kept.{ExpansionKeepsTests}
-use Rattle.kc_macro_names.specs.Names.{is_named, has_names, LinesHaveNames}
-use Rattle.kc_macro_names.proofs.Tests.{all_split}
+use Rattle.kc_macro_names.specs.Names.{is_named, has_names, LinesHaveNames, LocalNamesAreFew}
 use Rattle.kc_macro_names.proofs.Names.{names_pass}
 use Rattle.kc_source_statement.specs.declared.statement.Stmt.{Stmt}
-use Rattle.kc_source_statement.specs.Trees.{ActionTree, action_tree}
-use Rattle.kc_source_statement.specs.Trees as trees
 use Rattle.kc_source_statement.specs.Operands.{is_nil}
 use Rattle.kc_source_statement.specs.Statements.{statement_in, label_in}
-use Rattle.kc_source_statement.specs.Formed.{names_said, names_read, free_names_are, NamesStandOnTheLine}
+use Rattle.kc_source_statement.specs.Formed.{names_read, free_names_are, NamesStandOnTheLine}
 use Rattle.kc_source.specs.Faults.{Said, said, all_said, stmt_said}
 use Rattle.kc_source_laws.specs.Lines.{is_line_of, is_good, has_bytes, LinesAreOfTheText}
-use Rattle.kc_asm_check.specs.Codes.{when, is_public, tells}
-use Rattle.kc_asm_earlier_laws.specs.Telling.{is_told_line, TextsAreTold, names_of, is_told, StatementsAreTold, NothingUntold}
+use Rattle.kc_asm_symbols.specs.Told.{is_public, is_told}
+use Rattle.kc_asm_earlier_laws.specs.Telling.{is_told_line, TextsAreTold, StatementsAreTold}
 
 -- ---- words
 
@@ -83,45 +80,6 @@ back (s ∷ ss) h =
 pub statements_are_told : NamesStandOnTheLine → StatementsAreTold
 statements_are_told law lines stmts h are = back stmts (rw are.said_by (all_told law lines h))
 
--- ---- what the check tells
-
-public_name : (n : List ℕ) → is_public n ≡ true → is_name n ≡ true
-public_name n h = (and_parts (is_name n) (not (is_stack_name n)) h).0
-
-public_names : (ns : List (List ℕ)) → list_all is_public ns ≡ true → list_all is_name ns ≡ true
-public_names [] h = refl
-public_names (n ∷ ns) h =
-    let both : (is_public n ≡ true) × (list_all is_public ns ≡ true) = and_parts (is_public n) (list_all is_public ns) h in
-    and_from (is_name n) (list_all is_name ns) (public_name n both.0) (public_names ns both.1)
-
-action_tells : (a : ActionTree) → list_all is_public (names_said a) ≡ true → tells a ≡ true
-action_tells (trees.Module None stack) h = refl
-action_tells (trees.Module (Some name) stack) h = public_name name (and_parts (is_public name) true h).0
-action_tells (trees.Extrn names) h = public_names names h
-action_tells (trees.Public names) h = h
-action_tells trees.Bare h = refl
-action_tells (trees.Cseg at) h = refl
-action_tells (trees.Dseg at) h = refl
-action_tells (trees.Rseg at) h = refl
-action_tells (trees.Sseg size) h = refl
-action_tells (trees.Equ name x) h = refl
-action_tells (trees.Set name x) h = refl
-action_tells (trees.Define size items) h = refl
-action_tells (trees.Reserve size x) h = refl
-action_tells (trees.Org x) h = refl
-action_tells trees.Even h = refl
-action_tells trees.End h = refl
-action_tells (trees.Operation name args) h = refl
-
-pub told_tells : (s : Stmt) → is_told s ≡ true → (nat_lt 0 s.line && tells (action_tree s.action)) ≡ true
-told_tells s h =
-    let both : (nat_lt 0 s.line ≡ true) × (list_all is_public (names_of s) ≡ true) = and_parts (nat_lt 0 s.line) (list_all is_public (names_of s)) h in
-    let names : (list_all is_public (option_to_list s.label) ≡ true) × (list_all is_public (names_said (action_tree s.action)) ≡ true) = all_split is_public (option_to_list s.label) (names_said (action_tree s.action)) both.1 in
-    and_from (nat_lt 0 s.line) (tells (action_tree s.action)) both.0 (action_tells (action_tree s.action) names.1)
-
-pub nothing_untold : NothingUntold
-nothing_untold s h = ap (λ (b : Bool). when (not b) 1) (told_tells s h)
-
 -- ---- texts
 
 -- numbers from 1, and words that are names
@@ -133,8 +91,9 @@ lines_told numbers first (l ∷ ls) h k =
     let number : numbers l.number ≡ true = (and_parts (numbers l.number) (list_all has_bytes l.tokens) good.0).0 in
     and_from (is_told_line l) (list_all is_told_line ls) (and_from (nat_lt 0 l.number) (has_names l) (first l.number number) named.0) (lines_told numbers first ls good.1 named.1)
 
-pub texts_are_told : LinesAreOfTheText → LinesHaveNames → ExpansionKeepsTests → TextsAreTold
-texts_are_told numbered named keep source text is =
-    let first : list_all is_told_line is.lines ≡ true =
-    lines_told (is_line_of source) (λ n h. (and_parts (nat_lt 0 n) (nat_le n (length source)) h).0) is.lines (numbered source is.lines is.read) (named source is.lines is.read) in
-    keep (nat_lt 0) is_named is.lines text is.last is.ends (names_pass is.last.given is.few) first
+pub texts_are_told : LinesAreOfTheText → LinesHaveNames → ExpansionEndsAtAPlace → ExpansionKeepsTests → LocalNamesAreFew → TextsAreTold
+texts_are_told numbered named ends keep few source lines text read expands =
+    let first : list_all is_told_line lines ≡ true =
+    lines_told (is_line_of source) (λ n h. (and_parts (nat_lt 0 n) (nat_le n (length source)) h).0) lines (numbered source lines read) (named source lines read) in
+    let last = ends lines text expands in
+    keep (nat_lt 0) is_named lines text last.0 last.1 (names_pass last.0.given (few lines text last.0 last.1)) first

@@ -1,12 +1,14 @@
-//! What the passes before the check of values leave of a text, and that two codes of the check cannot come there: laws of
-//! definitions, without code.
+//! What the passes over lines, macros, statements and names make sure of, so that the check of values has no code for it: laws
+//! of definitions, without code.
 #![tactic(auto)]
 
-ghost use Rattle.kc_asm_earlier_laws.specs.Places.{BytesStandInCode, NoBytesOutsideCode};
-ghost use Rattle.kc_asm_earlier_laws.specs.Telling.{NothingUntold, StatementsAreTold, TextsAreTold};
-ghost use Rattle.kc_asm_earlier_laws.specs.Coming.{EarlierCodesDoNotCome, OutsideCodeDoesNotCome};
+ghost use Rattle.kc_asm_earlier_laws.specs.Places.{BytesStandInCode};
+ghost use Rattle.kc_asm_earlier_laws.specs.Telling.{StatementsAreTold, TextsAreTold};
+ghost use Rattle.kc_asm_earlier_laws.specs.Read.{SourcesAreReadWell};
 
-use kc_macro_names::{expansion_keeps_tests, lines_have_names};
+use kc_macro_names::{
+    expansion_ends_at_a_place, expansion_keeps_tests, lines_have_names, local_names_are_few,
+};
 use kc_source_laws::lines_are_of_the_text;
 use kc_source_statement::names_stand_on_the_line;
 
@@ -15,18 +17,15 @@ pub fn bytes_stand_in_code()
     ensures { BytesStandInCode }
 {}
 
-/// A statement that stands so puts no bytes outside code, whatever names mean.
-pub fn no_bytes_outside_code()
-    ensures { NoBytesOutsideCode }
-{}
-
-/// The lines of a text have numbers from 1, and their words are names, with fewer than 10^29 LOCAL names given.
+/// The lines of a text have numbers from 1, and their words are names.
 pub fn texts_are_told()
     ensures { TextsAreTold }
 {
     lines_are_of_the_text();
     lines_have_names();
+    expansion_ends_at_a_place();
     expansion_keeps_tests();
+    local_names_are_few();
 }
 
 /// A statement has the number of its line, and its names are words of the line.
@@ -36,26 +35,12 @@ pub fn statements_are_told()
     names_stand_on_the_line();
 }
 
-/// Of such a statement the check tells nothing that no object can tell.
-pub fn nothing_untold()
-    ensures { NothingUntold }
-{}
-
-/// Where statements have no fault, the first fault of values and places is not an instruction or data outside code.
-pub fn outside_code_does_not_come()
-    ensures { OutsideCodeDoesNotCome }
+/// Where a source and its statements have no fault, an object can tell each statement, and each instruction and all data stand
+/// in segments of code.
+pub fn sources_are_read_well()
+    ensures { SourcesAreReadWell }
 {
     bytes_stand_in_code();
-    no_bytes_outside_code();
-}
-
-/// Where a text and its statements have no fault, it is neither that nor what no object can tell, with fewer than 10^29 LOCAL
-/// names given.
-pub fn earlier_codes_do_not_come()
-    ensures { EarlierCodesDoNotCome }
-{
-    bytes_stand_in_code();
-    no_bytes_outside_code();
     texts_are_told();
     statements_are_told();
 }

@@ -30,7 +30,7 @@ unfolding least
 least_option None = refl
 least_option (Some m) = refl
 
-least_none : least [] ≡ None
+pub least_none : least [] ≡ None
 unfolding least
 least_none = refl
 

@@ -3,3 +3,4 @@ pub mod FaultLemmas
 pub mod Stays
 pub mod PairLemmas
 pub mod OctetLemmas
+pub mod ValueLemmas

@@ -1,6 +1,7 @@
 -- The values of a statement's expressions, over what each name answers
 -- (after the MCS-96 Macro Assembler User's Guide, "Expressions" and "Operands").
-use Rattle.std.specs.Prelude.{ℕ, List, map, if◌then◌else◌, Option, Some, None, Ok, Err}
+use Rattle.std.specs.Prelude.{ℕ, Bool, ◌&&◌, List, map, if◌then◌else◌, Option, Some, None, Ok, Err}
+use Rattle.std.specs.Option.{is_some}
 use Rattle.kc_expr.specs.declared.values.Value.{Value}
 use Rattle.kc_expr.specs.Tree.{Tree}
 use Rattle.kc_expr.specs.Meaning.{Answer, answer_by, is_fixed}
@@ -39,3 +40,11 @@ argument look (trees.Indexed x r) = Indexed (value_of look x) (value_of look r)
 
 abbrev pub arguments : Look → List ArgTree → List Argument
 arguments look args = map (argument look) args
+
+-- whether each of its expressions has a value
+abbrev pub has_values : Argument → Bool
+has_values (Plain v) = is_some v
+has_values (Immediate v) = is_some v
+has_values (Indirect r) = is_some r
+has_values (Increment r) = is_some r
+has_values (Indexed v r) = is_some v && is_some r

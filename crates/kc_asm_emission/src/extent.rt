@@ -10,6 +10,7 @@ ghost use Rattle.kc_asm_emission.specs.Seen.{most, counted};
 use crate::operands::arguments;
 use crate::values::fixed_of;
 use kc_asm_encoding::length;
+use kc_asm_operation::Argument;
 use kc_base::NoMemory;
 use kc_branch::Form;
 use kc_expr::{Scope, Value};
@@ -49,7 +50,14 @@ fn data_length(size: u8, items: &[Item]) -> u32
     count
 }
 
-fn operation_length<S: Scope>(
+/// How many bytes an operation has whose operands have these values, wherever it stands.
+pub fn operation_length(word: &[u8], args: &[Argument], form: Form) -> u32
+    ensures { (place : Value) → result ≡ min (length (all_octets (instructions word.now args.now form place))) most }
+{
+    u32::from(length(word, args, form))
+}
+
+fn length_over<S: Scope>(
     alloc: Global,
     word: &[u8],
     args: &[Arg],
@@ -59,7 +67,7 @@ fn operation_length<S: Scope>(
     ensures { IfOk result (λ n. (place : Value) → n ≡ min (length (all_octets (instructions word.now (arguments.arguments (S.answers scope.now) (map arg_tree args.now)) form place))) most) }
 {
     let args = arguments(alloc, args, scope)?;
-    Ok(u32::from(length(word, args.as_slice(), form)))
+    Ok(operation_length(word, args.as_slice(), form))
 }
 
 fn reserved(size: u8, count: Option<u16>) -> Extent
@@ -96,7 +104,7 @@ pub fn extent_of<S: Scope>(
         Action::Org(to) => Ok(upto(fixed_of(to, scope))),
         Action::Even => Ok(Extent::Even),
         Action::Operation { name, args } => {
-            let count = operation_length(alloc, name.as_slice(), args.as_slice(), form, scope)?;
+            let count = length_over(alloc, name.as_slice(), args.as_slice(), form, scope)?;
             Ok(Extent::Bytes(count))
         }
         _ => Ok(Extent::Bytes(0)),

@@ -1,13 +1,14 @@
 ghost use Rattle.std.specs.Prelude.{◌≡◌, Ok, map, IfOk};
-ghost use Rattle.std.specs.List.{flat_map};
+ghost use Rattle.std.specs.List.{flat_map, list_all};
 ghost use Rattle.kc_expr.specs.Tree.{tree_of};
 ghost use Rattle.kc_source_statement.specs.Trees.{item_tree, arg_tree, action_tree};
 ghost use Rattle.std.specs.Option.{option_map};
 ghost use Rattle.kc_source_statement.specs.Trees as trees;
+ghost use Rattle.kc_asm_emission.specs.Arguments as arguments;
 ghost use Rattle.kc_asm_emission.specs.Faults as faults;
 
 use crate::operands::arguments;
-use kc_asm_operation::fault as operand_fault;
+use kc_asm_operation::{Argument, fault as operand_fault};
 use kc_base::NoMemory;
 use kc_expr::{Base, Expr, NoValue, Scope, Value, value_over};
 use kc_lex::SourceCode;
@@ -134,6 +135,37 @@ fn operands_fault<S: Scope>(args: &[Arg], scope: &S) -> Option<u8>
     code
 }
 
+// Whether each expression of an operand has a value.
+fn has_values(arg: Argument) -> bool
+    ensures { result ≡ arguments.has_values arg }
+{
+    match arg {
+        Argument::Plain(value)
+        | Argument::Immediate(value)
+        | Argument::Indirect(value)
+        | Argument::Increment(value) => value.is_some(),
+        Argument::Indexed(value, register) => value.is_some() && register.is_some(),
+    }
+}
+
+fn have_values(args: &[Argument]) -> bool
+    ensures { result ≡ list_all arguments.has_values args.now }
+{
+    args.iter().all(|arg| has_values(*arg))
+}
+
+// Where the values are known. None of them lacks where there is no fault.
+fn values_fault<S: Scope>(args: &[Arg], values: &[Argument], scope: &S) -> Option<u8>
+    requires { values.now ≡ arguments.arguments (S.answers scope.now) (map arg_tree args.now) }
+    ensures { result ≡ faults.least (flat_map (faults.operand_faults (S.answers scope.now)) (map arg_tree args.now)) }
+{
+    if have_values(values) {
+        None
+    } else {
+        operands_fault(args, scope)
+    }
+}
+
 #[tactic(auto, using(crate::proofs::FaultLemmas::least_append, crate::proofs::FaultLemmas::least_option))]
 fn operation_fault<S: Scope>(
     alloc: Global,
@@ -145,7 +177,7 @@ fn operation_fault<S: Scope>(
 {
     let values = arguments(alloc, args, scope)?;
     Ok(lesser(
-        operands_fault(args, scope),
+        values_fault(args, values.as_slice(), scope),
         operand_fault(word, values.as_slice()),
     ))
 }

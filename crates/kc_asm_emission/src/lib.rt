@@ -15,7 +15,7 @@ pub mod values;
 pub use alignment::{alignment_of, gap};
 pub use chosen::content_of;
 pub use content::Content;
-pub use extent::{Extent, extent_of};
+pub use extent::{Extent, extent_of, operation_length};
 pub use faults::fault;
 pub use laws::{contents_are_octets, contents_are_paired, extents_stay};
 pub use operands::arguments;

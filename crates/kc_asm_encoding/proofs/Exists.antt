@@ -10,6 +10,7 @@ use Rattle.kc_isa.specs.declared.table.Shape.{Shape}
 use Rattle.kc_isa.specs.declared.table.Shape.TheVariants.{Nothing, One, Two, Four, FourOne, FourTwo, Exchange, CountOne, Near, Conditional, BitTest, Loop, TableJump, Far, Key}
 use Rattle.kc_isa.specs.Names.{Shown, row_at}
 use Rattle.kc_lex.specs.Words.{is_one_of}
+use Rattle.kc_lex.specs.Takes.{is_plain, is_immediate, is_indexed}
 use Rattle.kc_lex.proofs.IndexLemmas.{least-passes}
 use Rattle.kc_lex.specs.Instructions.{least}
 use Rattle.kc_asm_operation.specs.declared.argument.Argument.{Argument}
@@ -17,7 +18,7 @@ use Rattle.kc_asm_operation.specs.declared.argument.Argument.TheVariants.{Plain,
 use Rattle.kc_asm_operation.specs.declared.word.Worded.{Worded}
 use Rattle.kc_asm_operation.specs.Values.{is_fixed, is_direct, value_of, bit_of}
 use Rattle.kc_asm_operation.specs.Sources.{mode}
-use Rattle.kc_asm_operation.specs.Takes.{is_plain, is_immediate, is_indexed}
+use Rattle.kc_asm_operation.specs.Takes.{notation}
 use Rattle.kc_asm_operation.specs.Opcodes.{operand_count, low_bits, wanted_bits, is_row_for, is_opcode_for, opcode_of}
 use Rattle.kc_asm_operation.specs.Instructions.{laid, instruction_at, signed_instruction, instruction}
 use Rattle.kc_asm_encoding.proofs.Search.{opcode-passes, opcode-finds}
@@ -188,14 +189,14 @@ mode_among (Indirect r) = refl
 mode_among (Increment r) = refl
 mode_among (Indexed x r) = refl
 
-pub place_among : (a : Argument) → not (is_immediate a) ≡ true → is_among (0 ∷ 2 ∷ 3 ∷ []) (mode a) ≡ true
+pub place_among : (a : Argument) → not (is_immediate (notation a)) ≡ true → is_among (0 ∷ 2 ∷ 3 ∷ []) (mode a) ≡ true
 place_among (Plain x) h = plain_mode x (is_direct x) (0 ∷ 2 ∷ 3 ∷ []) refl refl refl
 place_among (Immediate x) h = absurd (cc h)
 place_among (Indirect r) h = refl
 place_among (Increment r) h = refl
 place_among (Indexed x r) h = refl
 
-pub exchange_among : (a : Argument) → (is_plain a || is_indexed a) ≡ true → is_among (0 ∷ 3 ∷ []) (mode a) ≡ true
+pub exchange_among : (a : Argument) → (is_plain (notation a) || is_indexed (notation a)) ≡ true → is_among (0 ∷ 3 ∷ []) (mode a) ≡ true
 exchange_among (Plain x) h = plain_mode x (is_direct x) (0 ∷ 3 ∷ []) refl refl refl
 exchange_among (Immediate x) h = absurd (cc h)
 exchange_among (Indirect r) h = absurd (cc h)

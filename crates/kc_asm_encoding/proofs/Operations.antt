@@ -1,6 +1,7 @@
 -- An operation is written in full by lines that the table has.
-use Rattle.std.proofs.Common.{◌≡◌, ℕ, Bool, true, false, List, [], ◌∷◌, ◌++◌, length, refl, sym, ◌∙◌, subst, Option, Some, None, ◌⊎◌, inl, inr}
+use Rattle.std.proofs.Common.{◌≡◌, ℕ, Bool, true, false, List, [], ◌∷◌, ◌++◌, length, map, refl, sym, ap, ◌∙◌, subst, Option, Some, None, ◌⊎◌, inl, inr}
 use Rattle.std.specs.Prelude.{◌&&◌, ◌||◌, not, if◌then◌else◌, codes}
+use Rattle.std.specs.Option.{option_or}
 use Rattle.std.specs.Str.{bytes_eq}
 use Rattle.std.proofs.lemmas.Slice.Eq.{bytes_eq-Decides}
 use Rattle.kc_expr.specs.declared.values.Value.{Value}
@@ -11,7 +12,8 @@ use Rattle.kc_isa.specs.Table.{plain_entry}
 use Rattle.kc_lex.specs.declared.words.Operands.{Operands}
 use Rattle.kc_lex.specs.declared.words.Operands.TheVariants as operands
 use Rattle.kc_lex.specs.Instructions.{least, first_opcode, operands_of}
-use Rattle.kc_lex.specs.Words.{is_one_of, is_generic_conditional, generic_operands_of}
+use Rattle.kc_lex.specs.Words.{is_one_of, is_generic_conditional, generic_operands_of, operands_for}
+use Rattle.kc_lex.specs.Takes.{is_plain, is_immediate, is_indexed, takes, suits}
 use Rattle.kc_asm_operation.specs.declared.argument.Argument.{Argument}
 use Rattle.kc_asm_operation.specs.declared.argument.Argument.TheVariants.{Plain}
 use Rattle.kc_branch.specs.declared.piece.Form.{Form}
@@ -20,7 +22,7 @@ use Rattle.kc_branch.specs.declared.piece.BranchKind.{BranchKind}
 use Rattle.kc_branch.specs.declared.piece.BranchKind.TheVariants.{Jump, Call, Conditional, BitTest}
 use Rattle.kc_asm_operation.specs.declared.word.Worded.{Worded}
 use Rattle.kc_asm_operation.specs.Values.{argument}
-use Rattle.kc_asm_operation.specs.Takes.{is_plain, is_immediate, is_indexed, takes, operands_for, is_operation}
+use Rattle.kc_asm_operation.specs.Takes.{notation, is_operation}
 use Rattle.kc_asm_operation.specs.Opcodes.{operand_count, source_of, wanted_bits}
 use Rattle.kc_asm_operation.specs.Branches.{Line, line, tested, over, plain_branch, branch_kind, branch_lines, jump_of, inverse_of, in_full}
 use Rattle.kc_asm_operation.specs.Instructions.{instruction, listed, all_lines, instructions}
@@ -48,7 +50,7 @@ IsCount operands.Branch n = 1 ≡ n
 IsCount operands.Table n = 3 ≡ n
 IsCount operands.Key n = 1 ≡ n
 
-takes_count : (form : Operands) (args : List Argument) → takes form args ≡ true → IsCount form (length args)
+takes_count : (form : Operands) (args : List Argument) → takes form (map notation args) ≡ true → IsCount form (length args)
 takes_count operands.Nothing [] h = refl
 takes_count form [] h = absurd (cc h)
 takes_count operands.One (a ∷ []) h = refl
@@ -70,21 +72,21 @@ takes_count operands.Table (a ∷ b ∷ c ∷ []) h = refl
 takes_count form (a ∷ b ∷ c ∷ []) h = absurd (cc h)
 takes_count form (a ∷ b ∷ c ∷ d ∷ rest) h = absurd (cc h)
 
-place_takes : (args : List Argument) → takes operands.Place args ≡ true → not (is_immediate (argument args 0)) ≡ true
+place_takes : (args : List Argument) → takes operands.Place (map notation args) ≡ true → not (is_immediate (notation (argument args 0))) ≡ true
 place_takes [] h = absurd (cc h)
 place_takes (a ∷ []) h = h
 place_takes (a ∷ b ∷ []) h = absurd (cc h)
 place_takes (a ∷ b ∷ c ∷ []) h = absurd (cc h)
 place_takes (a ∷ b ∷ c ∷ d ∷ rest) h = absurd (cc h)
 
-store_takes : (args : List Argument) → takes operands.Store args ≡ true → not (is_immediate (argument args 1)) ≡ true
+store_takes : (args : List Argument) → takes operands.Store (map notation args) ≡ true → not (is_immediate (notation (argument args 1))) ≡ true
 store_takes [] h = absurd (cc h)
 store_takes (a ∷ []) h = absurd (cc h)
 store_takes (a ∷ b ∷ []) h = (both _ _ h).1
 store_takes (a ∷ b ∷ c ∷ []) h = absurd (cc h)
 store_takes (a ∷ b ∷ c ∷ d ∷ rest) h = absurd (cc h)
 
-exchange_takes : (args : List Argument) → takes operands.Exchange args ≡ true → (is_plain (argument args 1) || is_indexed (argument args 1)) ≡ true
+exchange_takes : (args : List Argument) → takes operands.Exchange (map notation args) ≡ true → (is_plain (notation (argument args 1)) || is_indexed (notation (argument args 1))) ≡ true
 exchange_takes [] h = absurd (cc h)
 exchange_takes (a ∷ []) h = absurd (cc h)
 exchange_takes (a ∷ b ∷ []) h = (both _ _ h).1
@@ -114,7 +116,7 @@ one_found w args r n =
     (λ r1. either near (far || conditional) r1 (IsFound w args) (λ a. alike shapes.Near w args a n refl)
     (λ r2. either far conditional r2 (IsFound w args) (λ a. alike shapes.Far w args a n refl) (λ a. alike shapes.Conditional w args a n refl)))
 
-by_rows : (w : List ℕ) (args : List Argument) (form : Operands) → rows_for w form ≡ true → takes form args ≡ true → IsFound w args
+by_rows : (w : List ℕ) (args : List Argument) (form : Operands) → rows_for w form ≡ true → takes form (map notation args) ≡ true → IsFound w args
 by_rows w args operands.Nothing r t = alike shapes.Nothing w args r (takes_count operands.Nothing args t) refl
 by_rows w args operands.One r t = one_found w args r (takes_count operands.One args t)
 by_rows w args operands.Source r t = found_among w args shapes.Four Modes r (takes_count operands.Source args t) (mode_among (source_of shapes.Four args))
@@ -132,7 +134,7 @@ by_rows w args operands.Branch r t = alike shapes.One w args r (takes_count oper
 by_rows w args operands.Table r t = alike shapes.TableJump w args r (takes_count operands.Table args t) refl
 by_rows w args operands.Key r t = alike shapes.Key w args r (takes_count operands.Key args t) refl
 
-plain_forms : (w : List ℕ) (args : List Argument) (form : Operands) → operands_of w ≡ Some form → takes form args ≡ true → IsFound w args
+plain_forms : (w : List ℕ) (args : List Argument) (form : Operands) → operands_of w ≡ Some form → takes form (map notation args) ≡ true → IsFound w args
 plain_forms w args form e h = by_rows w args form (operand_rows w form e) h
 
 -- ---- generic branches
@@ -220,17 +222,17 @@ no_operands w args true t e h =
     absurd (cc (e, f))
 no_operands w args false t e h = none_generic w args h t
 
-no_takes : (w : List ℕ) (args : List Argument) → operands_for w ≡ None → is_operation w args ≡ false
-no_takes w args e = rw (e, is_operation) refl
+pub no_takes : (w : List ℕ) (args : List Argument) → operands_for w ≡ None → is_operation w args ≡ false
+no_takes w args e = ap (λ (o : Option Operands). suits o (map notation args)) e
 
-form_takes : (w : List ℕ) (args : List Argument) (form : Operands) → operands_for w ≡ Some form → is_operation w args ≡ takes form args
-form_takes w args form e = rw (e, is_operation) refl
+pub form_takes : (w : List ℕ) (args : List Argument) (form : Operands) → operands_for w ≡ Some form → is_operation w args ≡ takes form (map notation args)
+form_takes w args form e = ap (λ (o : Option Operands). suits o (map notation args)) e
 
 no_form : (w : List ℕ) → operands_of w ≡ None → generic_operands_of w ≡ None → operands_for w ≡ None
-no_form w e f = rw (e, operands_for) f
+no_form w e f = ap (λ (o : Option Operands). option_or o (generic_operands_of w)) e ∙ f
 
 pub some_form : (w : List ℕ) (form : Operands) → operands_of w ≡ Some form → operands_for w ≡ Some form
-some_form w form e = rw (e, operands_for) refl
+some_form w form e = ap (λ (o : Option Operands). option_or o (generic_operands_of w)) e
 
 with_operands : (w : List ℕ) (args : List Argument) (o : Option Operands) → operands_of w ≡ o → branch_kind w args ≡ None → is_operation w args ≡ true → IsFound w args
 with_operands w args None e k h =

@@ -1,6 +1,7 @@
 -- Where the operands have no fault, pointers are even.
-use Rattle.std.proofs.Common.{◌≡◌, ℕ, ◌-◌, ◌%◌, Bool, true, false, List, [], ◌∷◌, length, refl, sym, ap, ◌∙◌, subst, Option, Some, None, arith, ◌⊎◌, inl, inr}
+use Rattle.std.proofs.Common.{◌≡◌, ℕ, ◌-◌, ◌%◌, Bool, true, false, List, [], ◌∷◌, length, map, refl, sym, ap, ◌∙◌, subst, Option, Some, None, arith, ◌⊎◌, inl, inr}
 use Rattle.std.specs.Prelude.{◌==◌, ◌||◌, not, if◌then◌else◌, codes}
+use Rattle.std.specs.Option.{option_or}
 use Rattle.std.specs.Str.{bytes_eq}
 use Rattle.std.proofs.lemmas.Bool.Decides.{Decides-eqb}
 use Rattle.std.proofs.lemmas.Slice.Eq.{bytes_eq-Decides}
@@ -11,7 +12,8 @@ use Rattle.kc_isa.specs.declared.table.Shape.{Shape}
 use Rattle.kc_isa.specs.declared.table.Shape.TheVariants as shapes
 use Rattle.kc_lex.specs.declared.words.Operands.{Operands}
 use Rattle.kc_lex.specs.declared.words.Operands.TheVariants as operands
-use Rattle.kc_lex.specs.Words.{is_one_of, operands_of, is_generic_conditional, generic_operands_of}
+use Rattle.kc_lex.specs.Words.{is_one_of, operands_of, is_generic_conditional, generic_operands_of, operands_for}
+use Rattle.kc_lex.specs.Takes.{is_plain, is_immediate, takes}
 use Rattle.kc_obj_relocation.specs.Numbers.{Bases}
 use Rattle.kc_asm_bytes.specs.Filling.{base_address, address}
 use Rattle.kc_asm_operation.specs.declared.argument.Argument.{Argument}
@@ -23,7 +25,7 @@ use Rattle.kc_branch.specs.declared.piece.BranchKind.TheVariants.{Jump, Call, Co
 use Rattle.kc_asm_operation.specs.declared.word.Worded.{Worded}
 use Rattle.kc_asm_operation.specs.Values.{or_zero, is_external, is_direct, is_short, argument}
 use Rattle.kc_asm_operation.specs.Sources.{plain_source, indexed_source, source}
-use Rattle.kc_asm_operation.specs.Takes.{is_plain, is_immediate, takes, operands_for, is_operation}
+use Rattle.kc_asm_operation.specs.Takes.{notation, is_operation}
 use Rattle.kc_asm_operation.specs.Opcodes.{operand_count}
 use Rattle.kc_asm_operation.specs.Branches.{Line, line, branch_kind, branch_lines, in_full}
 use Rattle.kc_asm_operation.specs.Instructions.{operand_for, instructions}
@@ -33,7 +35,7 @@ use Rattle.kc_asm_encoding.proofs.Found.{IsLaid, laid_count, both}
 use Rattle.kc_asm_encoding.proofs.Rows
 use Rattle.kc_asm_encoding.proofs.Rows.{has_one_shape, branch_is_br}
 use Rattle.kc_asm_encoding.proofs.Exists.{one_of}
-use Rattle.kc_asm_encoding.proofs.Operations.{single, IsWordOf, branch_word}
+use Rattle.kc_asm_encoding.proofs.Operations.{single, IsWordOf, branch_word, no_takes, form_takes}
 use Rattle.kc_asm_encoding.proofs.Lengths.{shape_of, sjmp, scall, ljmp, lcall, jump_shape, inverse_shape, test_shape, inverse_test_shape}
 use Rattle.kc_asm_encoding.proofs.Evens.{EachLine, each_line}
 
@@ -112,21 +114,21 @@ laid_even b h word args w (inr s) l =
 
 -- ---- the last operand
 
-plain_none : (a : Argument) → is_plain a ≡ true → source_fault a ≡ None
+plain_none : (a : Argument) → is_plain (notation a) ≡ true → source_fault a ≡ None
 plain_none (Plain x) h = refl
 plain_none (Immediate x) h = absurd (cc h)
 plain_none (Indirect r) h = absurd (cc h)
 plain_none (Increment r) h = absurd (cc h)
 plain_none (Indexed x r) h = absurd (cc h)
 
-immediate_none : (a : Argument) → is_immediate a ≡ true → source_fault a ≡ None
+immediate_none : (a : Argument) → is_immediate (notation a) ≡ true → source_fault a ≡ None
 immediate_none (Immediate x) h = refl
 immediate_none (Plain x) h = absurd (cc h)
 immediate_none (Indirect r) h = absurd (cc h)
 immediate_none (Increment r) h = absurd (cc h)
 immediate_none (Indexed x r) h = absurd (cc h)
 
-count_none : (a : Argument) → (is_plain a || is_immediate a) ≡ true → source_fault a ≡ None
+count_none : (a : Argument) → (is_plain (notation a) || is_immediate (notation a)) ≡ true → source_fault a ≡ None
 count_none (Plain x) h = refl
 count_none (Immediate x) h = refl
 count_none (Indirect r) h = absurd (cc h)
@@ -136,7 +138,7 @@ count_none (Indexed x r) h = absurd (cc h)
 abbrev last : List Argument → Argument
 last args = argument args (length args - 1)
 
-last_fault : (form : Operands) (args : List Argument) → takes form args ≡ true → operands_fault form args ≡ None → (form ≡ operands.Branch → ⊥) → source_fault (last args) ≡ None
+last_fault : (form : Operands) (args : List Argument) → takes form (map notation args) ≡ true → operands_fault form args ≡ None → (form ≡ operands.Branch → ⊥) → source_fault (last args) ≡ None
 last_fault form [] h f n = refl
 last_fault operands.One (a ∷ []) h f n = plain_none a h
 last_fault operands.Source (a ∷ []) h f n = f
@@ -171,7 +173,7 @@ not_generic w e = three (is_generic_conditional w) (bytes_eq w (codes "CALL")) (
     three false false true h = absurd (cc h)
     three false false false h = absurd (cc h)
 
-form_at : (w : List ℕ) (form : Operands) (o : Option Operands) → operands_of w ≡ o → (elim o as (λ _. Option Operands) [ Some f ↦ Some f | None ↦ generic_operands_of w ]) ≡ Some form →
+form_at : (w : List ℕ) (form : Operands) (o : Option Operands) → operands_of w ≡ o → option_or o (generic_operands_of w) ≡ Some form →
     (operands_of w ≡ Some form) ⊎ (generic_operands_of w ≡ Some form)
 form_at w form None e h = inr h
 form_at w form (Some f) e h = inl (e ∙ h)
@@ -180,20 +182,14 @@ no_branch : (w : List ℕ) (form : Operands) → bytes_eq w (codes "BR") ≡ fal
 no_branch w form t (inl e) f = not_branch w t (e ∙ ap (λ (o : Operands). Some o) f)
 no_branch w form t (inr e) f = not_generic w (e ∙ ap (λ (o : Operands). Some o) f)
 
-takes_it : (w : List ℕ) (args : List Argument) (form : Operands) → operands_for w ≡ Some form → is_operation w args ≡ takes form args
-takes_it w args form e = rw (e, is_operation) refl
-
-takes_none_of : (w : List ℕ) (args : List Argument) → operands_for w ≡ None → is_operation w args ≡ false
-takes_none_of w args e = rw (e, is_operation) refl
-
 fault_it : (w : List ℕ) (args : List Argument) (form : Operands) → operands_for w ≡ Some form → fault_of w args ≡ operands_fault form args
 unfolding fault_of
 fault_it w args form e = rw (e, fault_of) refl
 
 harmless_form : (w : List ℕ) (args : List Argument) (o : Option Operands) → operands_for w ≡ o → is_operation w args ≡ true → fault_of w args ≡ None → bytes_eq w (codes "BR") ≡ false → IsHarmless w args
-harmless_form w args None e h f t = let g : is_operation w args ≡ false = takes_none_of w args e in absurd (cc (g, h))
+harmless_form w args None e h f t = let g : is_operation w args ≡ false = no_takes w args e in absurd (cc (g, h))
 harmless_form w args (Some form) e h f t =
-    inl (last_fault form args (sym (takes_it w args form e) ∙ h) (sym (fault_it w args form e) ∙ f) (no_branch w form t (form_at w form (operands_of w) refl e)))
+    inl (last_fault form args (sym (form_takes w args form e) ∙ h) (sym (fault_it w args form e) ∙ f) (no_branch w form t (form_at w form (operands_of w) refl e)))
 
 harmless : (w : List ℕ) (args : List Argument) (t : Bool) → bytes_eq w (codes "BR") ≡ t → is_operation w args ≡ true → fault_of w args ≡ None → IsHarmless w args
 harmless w args true t h f = inr (shapes.One, (tt, one_of (has_one_shape shapes.One) Rows.branch_words w Rows.branch_shape (single w (codes "BR") t)))

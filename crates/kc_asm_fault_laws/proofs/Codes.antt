@@ -6,6 +6,7 @@ use Rattle.std.specs.Option.{option_to_list}
 use Rattle.std.proofs.lemmas.Bool.{and_from}
 use Rattle.kc_lex.specs.declared.words.Operands.{Operands}
 use Rattle.kc_lex.specs.declared.words.Operands.TheVariants as operands
+use Rattle.kc_lex.specs.Words.{operands_for}
 use Rattle.kc_obj.specs.declared.parts.SegKind.{SegKind}
 use Rattle.kc_expr.specs.declared.values.Value.{Value}
 use Rattle.kc_source_statement.specs.Trees.{ActionTree}
@@ -17,14 +18,12 @@ use Rattle.kc_asm_bytes.specs.Relocating.{misfit, misfit_code}
 use Rattle.kc_asm_operation.specs.declared.argument.Argument.{Argument}
 use Rattle.kc_asm_operation.specs.declared.argument.Argument.TheVariants.{Plain, Immediate, Indirect, Increment, Indexed}
 use Rattle.kc_asm_operation.specs.Values.{is_fixed, is_external, argument}
-use Rattle.kc_asm_operation.specs.Takes.{operands_for}
 use Rattle.kc_asm_operation.specs.Faults.{number_fault, pointer_fault, source_fault, count_fault, bit_fault, operands_fault, fault_of}
 use Rattle.kc_asm_emission.specs.Arguments.{Look, fixed_of}
 use Rattle.kc_asm_emission.specs.Content.{Content, Octets}
 use Rattle.kc_asm_outline.specs.declared.note.Body.{Body}
 use Rattle.kc_asm_layout.specs.declared.site.Site.{Site}
-use Rattle.kc_asm_check.specs.Codes.{when, counts_from_nothing, has_target, branch_faults, judged, misfits, content_faults, judges_jumps, octet_faults, goes_on, most_of, Regions, leaves, end_faults, is_below, back_faults, opening, is_outside, opening_faults, label_faults, goes_on_faults, place_faults, stack_after, stack_faults, tells, telling_faults, is_code, is_octets, segment_faults}
-use Rattle.kc_asm_check.specs.Judging.{put_faults}
+use Rattle.kc_asm_check.specs.Codes.{when, counts_from_nothing, has_target, branch_faults, judged, misfits, content_faults, judges_jumps, octet_faults, goes_on, most_of, Regions, leaves, end_faults, is_below, back_faults, opening, is_outside, opening_faults, label_faults, goes_on_faults, place_faults, stack_after, stack_faults}
 use Rattle.kc_source_laws.proofs.Tests.{Holds, either, all_join}
 use Rattle.kc_asm_fault_laws.proofs.Others.{is_other, option_holds}
 
@@ -116,10 +115,8 @@ content_other : (jumps : Bool) (address : Option ℕ) (piece place : ℕ) (c : C
 content_other jumps address piece place (Octets os) = misfits_other jumps address piece place os
 content_other jumps address piece place c = refl
 
-pub put_other : (look : Look) (action : ActionTree) (g : Segment) (s : Site) (c : Content) → AreOther (put_faults look action g s c)
-put_other look action g s c =
-    join (octet_faults look action g s c) (segment_faults g.kind c)
-    (content_other (judges_jumps look action) s.address g.piece s.place c) (when_other (not (is_code g.kind) && is_octets c) 18 refl)
+pub octet_other : (look : Look) (action : ActionTree) (g : Segment) (s : Site) (c : Content) → AreOther (octet_faults look action g s c)
+octet_other look action g s c = content_other (judges_jumps look action) s.address g.piece s.place c
 
 -- ---- places and the stack
 
@@ -148,6 +145,3 @@ place_other regions look label action g s =
 
 pub stack_other : (look : Look) (sum : ℕ) (action : ActionTree) → AreOther (stack_faults look sum action)
 stack_other look sum action = when_other (nat_le sum 65535 && nat_lt 65535 (stack_after look sum action)) 17 refl
-
-pub telling_other : (line : ℕ) (action : ActionTree) → AreOther (telling_faults line action)
-telling_other line action = when_other (not (nat_lt 0 line && tells action)) 1 refl

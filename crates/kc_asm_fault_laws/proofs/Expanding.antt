@@ -147,7 +147,7 @@ module _ (numbers : ℕ → Bool) (last : ℕ) where
 
   call_at : (s : State) (number : ℕ) (from : List Mark) (m : Macro) (args : List (List Token)) → IsAt s → numbers number ≡ true → NextAt (call_step s number from m args)
   call_at s number from m args h e =
-      call_next_at s number m.formals.locals.count (call_fault s.left from m args (call_text s.left s.given number from m args)) (call_text s.left s.given number from m args) h e
+      call_next_at s number m.formals.locals.count (call_fault s.left s.given from m args (call_text s.left s.given number from m args)) (call_text s.left s.given number from m args) h e
       (body_at numbers m.formals args s.given (map (body_line number (Call s.left ∷ from)) m.body) (body_lines_at number (Call s.left ∷ from) m.body e))
 
   -- ---- lines that come out

@@ -11,6 +11,5 @@ pub mod Unknown
 pub mod Names
 pub mod Codes
 pub mod Seen
-pub mod Moved
 pub mod Subjects
 pub mod Standing

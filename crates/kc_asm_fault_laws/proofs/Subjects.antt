@@ -23,14 +23,15 @@ use Rattle.kc_asm_symbols.specs.Alike.{MeaningsAreAlike}
 use Rattle.kc_asm_symbols.specs.Externals.{action_trees}
 use Rattle.kc_asm_symbols.specs.Located.{Located, located_by, located_from, located_at, segment_after, first_segment, value_at, base_of, is_absolute}
 use Rattle.kc_asm_symbols.specs.Meanings.{meaning, in_all}
+use Rattle.kc_asm_symbols.proofs.PlaceLemmas.{all_alike}
 use Rattle.kc_asm_operation.specs.Values.{is_external}
 use Rattle.kc_asm_emission.specs.Arguments.{Look}
 use Rattle.kc_asm_emission.specs.Content.{content}
 use Rattle.kc_asm_emission.specs.Faults as values
 use Rattle.kc_asm_outline.specs.Outline.{at_zero}
 use Rattle.kc_asm_layout.specs.declared.site.Site.{Site}
-use Rattle.kc_asm_check.specs.Codes.{Regions, first_regions, branch_faults, place_faults, regions_after, stack_after, stack_faults, counts_from_external, public_faults, telling_faults}
-use Rattle.kc_asm_check.specs.Judging.{put_faults, own_codes, codes_of, faults_from, faults_in, first_fault, site_list, place_at}
+use Rattle.kc_asm_check.specs.Codes.{Regions, first_regions, branch_faults, octet_faults, place_faults, regions_after, stack_after, stack_faults, counts_from_external, public_faults}
+use Rattle.kc_asm_check.specs.Judging.{own_codes, codes_of, faults_from, faults_in, first_fault, site_list, place_at}
 use Rattle.kc_asm.specs.Assembled.{IsCrowded}
 use Rattle.kc_asm_subject.specs.Uses.{used_at}
 use Rattle.kc_asm_subject.specs.Values.{means_nothing, unknown_in, unknown_among, foreign_among, public_names, subject_in, subject_on, subject_from, subject_at}
@@ -43,9 +44,8 @@ use Rattle.kc_asm_fault_laws.proofs.Others.{is_other, not_both, all_weaker, hold
 use Rattle.kc_asm_fault_laws.proofs.Uses.{use_is_named}
 use Rattle.kc_asm_fault_laws.proofs.Unknown.{IsTame}
 use Rattle.kc_asm_fault_laws.proofs.Names.{meaning_tame}
-use Rattle.kc_asm_fault_laws.proofs.Codes.{branch_other, put_other, place_other, stack_other, telling_other}
+use Rattle.kc_asm_fault_laws.proofs.Codes.{branch_other, octet_other, place_other, stack_other}
 use Rattle.kc_asm_fault_laws.proofs.Seen.{is_seen, is_given, statement_seen, publics_given}
-use Rattle.kc_asm_fault_laws.proofs.Moved.{all_alike}
 
 -- ---- names that answer alike: as many mean nothing, and as many count from an external
 
@@ -116,19 +116,17 @@ module _ (look last : Look) (other final : Look) (names : AllAlike look other) (
   codes_named regions sum l s tame =
       let p = named_in other final l.action in
       let branches = branch_faults look s.body l.action in
-      let puts = put_faults look l.action l.segment s (content look s.form l.here l.action) in
+      let octets = octet_faults look l.action l.segment s (content look s.form l.here l.action) in
       let places = place_faults regions look l.label l.action l.segment s in
       let stack = stack_faults look sum l.action in
-      all_join p (own_codes look regions sum l s) (public_faults last l.action ++ telling_faults l.line l.action)
-      (all_join p (values.faults_of look l.action) (branches ++ (puts ++ (places ++ stack)))
+      all_join p (own_codes look regions sum l s) (public_faults last l.action)
+      (all_join p (values.faults_of look l.action) (branches ++ (octets ++ (places ++ stack)))
       (all_weaker (is_seen (is_some (unknown_among look (action_trees l.action)))) p (values.faults_of look l.action) (λ c k. seen_named l.action c k) (statement_seen look tame l.action))
-      (other_named l.action (branches ++ (puts ++ (places ++ stack)))
-      (all_join is_other branches (puts ++ (places ++ stack)) (branch_other look s.body l.action)
-      (all_join is_other puts (places ++ stack) (put_other look l.action l.segment s (content look s.form l.here l.action))
+      (other_named l.action (branches ++ (octets ++ (places ++ stack)))
+      (all_join is_other branches (octets ++ (places ++ stack)) (branch_other look s.body l.action)
+      (all_join is_other octets (places ++ stack) (octet_other look l.action l.segment s (content look s.form l.here l.action))
       (all_join is_other places stack (place_other regions look l.label l.action l.segment s) (stack_other look sum l.action))))))
-      (all_join p (public_faults last l.action) (telling_faults l.line l.action)
       (all_weaker (is_given (is_some (foreign_among last (public_names l.action)))) p (public_faults last l.action) (λ c k. public_named l.action c k) (publics_given last l.action))
-      (other_named l.action (telling_faults l.line l.action) (telling_other l.line l.action)))
 
 -- ---- the statements where they stand, and with each at 0
 

@@ -1,5 +1,5 @@
 -- A fault of names has the name of a use; the other faults of statements are about no name.
-use Rattle.std.proofs.Common.{◌≡◌, ℕ, Bool, true, false, ◌&&◌, ◌||◌, cond, List, [], ◌∷◌, drop, Option, Some, None, Result, Ok, Err, inl, inr, refl, subst}
+use Rattle.std.proofs.Common.{◌≡◌, ℕ, Bool, true, false, ◌&&◌, ◌||◌, cond, List, [], ◌∷◌, map, drop, Option, Some, None, Result, Ok, Err, inl, inr, refl, subst}
 use Rattle.std.specs.Prelude.{not, ◌==◌, is_some, ◌⊎◌}
 use Rattle.std.specs.List.{list_all}
 use Rattle.std.proofs.lemmas.Bool.{and_parts, and_from, or_cases, or_left, or_right, eq-eqb}
@@ -8,12 +8,13 @@ use Rattle.kc_lex.specs.declared.token.Line.{Line}
 use Rattle.kc_lex.specs.declared.words.Directive.{Directive}
 use Rattle.kc_lex.specs.declared.words.Operands.{Operands}
 use Rattle.kc_lex.specs.Kinds.{is_name_kind, has_label}
-use Rattle.kc_lex.specs.Words.{directive_of}
+use Rattle.kc_lex.specs.Words.{operands_for, directive_of}
+use Rattle.kc_lex.specs.Takes.{takes}
 use Rattle.kc_lex.specs.LineFaults.{Fault, least}
-use Rattle.kc_source_statement.specs.Trees.{ActionTree, ArgTree}
+use Rattle.kc_source_statement.specs.Trees.{ActionTree, ArgTree, notation}
 use Rattle.kc_source_statement.specs.Trees as trees
-use Rattle.kc_source_statement.specs.Operands.{is_nil, takes, operands_in}
-use Rattle.kc_source_statement.specs.Statements.{directive_in, definition_in, or_form_fault, by_directive, operation_of, operation_in, by_operation, first_directive, second_directive, only_defining, by_first, action_in, bars_label, behind_label, statement_in}
+use Rattle.kc_source_statement.specs.Operands.{is_nil, operands_in}
+use Rattle.kc_source_statement.specs.Statements.{directive_in, definition_in, or_form_fault, by_directive, operation_in, by_operation, first_directive, second_directive, only_defining, by_first, action_in, bars_label, behind_label, statement_in}
 use Rattle.kc_source.specs.declared.uses.Use.{Use}
 use Rattle.kc_source.specs.declared.uses.UseKind.{UseKind}
 use Rattle.kc_source.specs.declared.uses.UseKind.TheVariants.{Once, Again, Taken, Given}
@@ -47,14 +48,14 @@ by_directive_other (Some d) ts = or_other (directive_in d ts)
 
 operation_other : (word : List ℕ) (form : Operands) (o : Option (List ArgTree)) → IsOther (operation_in word form o)
 operation_other word form None = refl
-operation_other word form (Some args) = one_other (takes form args) (Ok (trees.Operation word args)) (Err 14) refl refl
+operation_other word form (Some args) = one_other (takes form (map notation args)) (Ok (trees.Operation word args)) (Err 14) refl refl
 
 by_operation_other : (word : List ℕ) (o : Option Operands) (ts : List Token) → IsOther (by_operation word o ts)
 by_operation_other word None ts = by_directive_other (directive_of word) ts
 by_operation_other word (Some form) ts = operation_other word form (operands_in ts)
 
 by_first_other : (t : Token) (o : Option Directive) (ts : List Token) → IsOther (by_first t o ts)
-by_first_other t None ts = one_other (is_name_kind t.kind) (by_operation t.text (operation_of t.text) ts) (Err 1) (by_operation_other t.text (operation_of t.text) ts) refl
+by_first_other t None ts = one_other (is_name_kind t.kind) (by_operation t.text (operands_for t.text) ts) (Err 1) (by_operation_other t.text (operands_for t.text) ts) refl
 by_first_other t (Some d) ts = or_other (definition_in t.text d (drop 1 ts))
 
 action_other : (ts : List Token) → IsOther (action_in ts)

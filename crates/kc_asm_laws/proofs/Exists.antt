@@ -18,9 +18,11 @@ use Rattle.kc_asm_check.specs.Laws.{SoundStatements}
 use Rattle.kc_asm_draft_laws.specs.Drafting.{first_parts, IsDraftOf}
 use Rattle.kc_asm_draft_laws.specs.Sound.{DraftsAreDrafts, DraftsAreWhole}
 use Rattle.kc_asm_draft_laws.specs.Writable.{PartsAreWritable}
-use Rattle.kc_asm.specs.Assembled.{IsText, AreSaid, last_line}
+use Rattle.kc_asm.specs.Assembled.{IsText, AreSaid, IsFaultless, last_line}
+use Rattle.kc_asm.proofs.Said.{said_well}
 use Rattle.kc_source_laws.specs.Lines.{StatementsAreOfTheText}
-use Rattle.kc_asm_laws.specs.Exists.{IsFaultless, FaultlessAreRead, FaultlessHaveModules}
+use Rattle.kc_asm_earlier_laws.specs.Read.{SourcesAreReadWell}
+use Rattle.kc_asm_laws.specs.Exists.{FaultlessAreRead, FaultlessHaveModules}
 use Rattle.kc_asm_laws.proofs.Sources.{said_bytes}
 use Rattle.kc_asm_laws.proofs.Sorted.{sorted, sorted_same, sorted_ordered}
 use Rattle.kc_asm_laws.proofs.Tapes.{stack_small}
@@ -47,6 +49,7 @@ faultless_are_read ends text none = of_lines (lines_of text) refl
 
 pub record Laws : Type 0 where
   pub of_text : StatementsAreOfTheText
+  pub read : SourcesAreReadWell
   pub drafts : DraftsAreDrafts
   pub whole : DraftsAreWhole
   pub writable : PartsAreWritable
@@ -73,7 +76,7 @@ pub faultless_have_modules : Laws → FaultlessHaveModules
 faultless_have_modules laws text stmts d none said drafted =
     let sound = no_fault text stmts d none said drafted in
     let few = few_pieces text stmts d none said drafted in
-    let draft : IsDraft d = laws.drafts stmts d sound drafted few in
+    let draft : IsDraft d = laws.drafts stmts d (said_well laws.read text stmts said) sound drafted few in
     let tapes = (laws.whole stmts d sound drafted).tapes in
     let small = stack_small (standing stmts) first_regions 0 [] (standing stmts) (site_list stmts) first_parts (laws.sound stmts sound) (laws.writable stmts sound) (omega arith) in
     let stack : d.stack < 65536 = (let same = drafted.stack in omega (arith, small, same)) in

@@ -25,8 +25,10 @@ use Rattle.kc_link_draft_laws.specs.Linked as drafts
 use Rattle.kc_asm_draft_laws.specs.Sound.{DraftsAreDrafts, DraftsAreWhole}
 use Rattle.kc_asm_draft_laws.specs.Stood.{NothingElseStands}
 use Rattle.kc_asm.specs.Assembled.{AreSaid, IsModule}
+use Rattle.kc_asm.proofs.Said.{said_well}
 use Rattle.kc_link_source_laws.specs.Linked.{IsSource, AreSources, LinkedImage, OneImage}
 use Rattle.kc_source_laws.specs.Lines.{StatementsAreOfTheText}
+use Rattle.kc_asm_earlier_laws.specs.Read.{SourcesAreReadWell}
 use Rattle.kc_asm_laws.specs.Modules.{OneModuleOfText}
 use Rattle.kc_asm_laws.specs.Images.{AreModulesOf, IsLinkedOf, FilledIsLinked, LinkedIsFilled, OneImageOfTexts, OneLinkedImageOfTexts, FilledAreBytes}
 use Rattle.kc_asm_laws.proofs.Filling.{fill_byte, octet_is, each_at}
@@ -41,15 +43,24 @@ record Behind (texts : List (List ℕ)) (ms : List Object) : Type 0 where
   drafts : List Draft
   are : AreSources sources drafts ms
 
-source_of : (text : List ℕ) (m : Object) (is : IsModule text m) → IsSource is.stmts is.draft m
-source_of text m is = record { lines = is.said.0; read = is.said.2; characters = is.characters; sound = is.sound; drafted = is.drafted; few = is.few; made = is.made }
+source_of : SourcesAreReadWell → (text : List ℕ) (m : Object) (is : IsModule text m) → IsSource is.stmts is.draft m
+source_of law text m is = record {
+  lines = is.said.0;
+  read = is.said.2;
+  characters = is.characters;
+  well = said_well law text is.stmts is.said;
+  sound = is.sound;
+  drafted = is.drafted;
+  few = is.few;
+  made = is.made;
+}
 
 tail_of : (text : List ℕ) (texts : List (List ℕ)) (m : Object) (ms : List Object) → AreModulesOf (text ∷ texts) (m ∷ ms) → AreModulesOf texts ms
 tail_of text texts m ms a = record { count = (let n = a.count in omega (arith, n)); of = λ i u x e f. a.of (suc i) u x e f }
 
 -- a text and its module more
-with_one : (t : List ℕ) (texts : List (List ℕ)) (m : Object) (ms : List Object) → IsModule t m → Behind texts ms → Behind (t ∷ texts) (m ∷ ms)
-with_one t texts m ms is more = record {
+with_one : SourcesAreReadWell → (t : List ℕ) (texts : List (List ℕ)) (m : Object) (ms : List Object) → IsModule t m → Behind texts ms → Behind (t ∷ texts) (m ∷ ms)
+with_one law t texts m ms is more = record {
   sources = is.stmts ∷ more.sources;
   count = ap suc more.count;
   said = says;
@@ -69,20 +80,20 @@ with_one t texts m ms is more = record {
         let one : is.stmts ≡ stmts = cc e in
         let two : is.draft ≡ d = cc f in
         let three : m ≡ n = cc g in
-        subst (λ (x : List Stmt). IsSource x d n) one (subst (λ (x : Draft). IsSource is.stmts x n) two (subst (λ (x : Object). IsSource is.stmts is.draft x) three (source_of t m is)))
+        subst (λ (x : List Stmt). IsSource x d n) one (subst (λ (x : Draft). IsSource is.stmts x n) two (subst (λ (x : Object). IsSource is.stmts is.draft x) three (source_of law t m is)))
     each (suc i) stmts d n e f g = more.are.of i stmts d n e f g
 
-behind : (texts : List (List ℕ)) (ms : List Object) → AreModulesOf texts ms → Behind texts ms
-behind [] [] a = record {
+behind : SourcesAreReadWell → (texts : List (List ℕ)) (ms : List Object) → AreModulesOf texts ms → Behind texts ms
+behind law [] [] a = record {
   sources = [];
   count = refl;
   said = λ i text stmts e f. absurd (cc e);
   drafts = [];
   are = record { drafts_count = refl; modules_count = refl; of = λ i stmts d m e f g. absurd (cc e) };
 }
-behind [] (m ∷ ms) a = absurd (let n = a.count in omega (arith, n))
-behind (t ∷ texts) [] a = absurd (let n = a.count in omega (arith, n))
-behind (t ∷ texts) (m ∷ ms) a = with_one t texts m ms (a.of 0 t m refl refl) (behind texts ms (tail_of t texts m ms a))
+behind law [] (m ∷ ms) a = absurd (let n = a.count in omega (arith, n))
+behind law (t ∷ texts) [] a = absurd (let n = a.count in omega (arith, n))
+behind law (t ∷ texts) (m ∷ ms) a = with_one law t texts m ms (a.of 0 t m refl refl) (behind law texts ms (tail_of t texts m ms a))
 
 get_some : {A : Type 0} (xs : List A) (i : ℕ) → i < length xs → (x : A) × (slice_get xs i ≡ Some x)
 get_some [] i h = absurd (omega arith)
@@ -99,6 +110,7 @@ pub record Laws : Type 0 where
   pub words : NumbersAreWords
   pub nothing_else : NothingElseStands
   pub of_text : StatementsAreOfTheText
+  pub read : SourcesAreReadWell
   pub drafts : DraftsAreDrafts
   pub whole : DraftsAreWhole
   pub linked : DraftsAreLinked
@@ -107,7 +119,7 @@ module _ (laws : Laws) where
   are_modules : (texts : List (List ℕ)) (ms : List Object) (k : Behind texts ms) → drafts.AreModulesOf k.drafts ms
   are_modules texts ms k = record {
     count = sym k.are.drafts_count ∙ k.are.modules_count;
-    are_drafts = λ i d e. (let a = at i d e in laws.drafts a.0 d (is i d e).sound (is i d e).drafted (is i d e).few);
+    are_drafts = λ i d e. (let a = at i d e in laws.drafts a.0 d (is i d e).well (is i d e).sound (is i d e).drafted (is i d e).few);
     are_whole = λ i d e. (let a = at i d e in laws.whole a.0 d (is i d e).sound (is i d e).drafted);
     of = λ i d m e f. (let a = at i d e in (k.are.of i a.0 d m a.1 e f).made);
   }
@@ -125,7 +137,7 @@ module _ (laws : Laws) where
   filled_are_bytes texts ms ranges places image are ok filled = all_bytes image (λ place v e. by place v e (nat_lt v 256) refl)
     where
       k : Behind texts ms
-      k = behind texts ms are
+      k = behind laws.read texts ms are
 
       of : drafts.AreModulesOf k.drafts ms
       of = are_modules texts ms k
@@ -166,9 +178,9 @@ module _ (laws : Laws) where
 
 -- ---- the linked image
 
-pub filled_is_linked : FilledAreBytes → LinkedImage → FilledIsLinked
-filled_is_linked bytes law texts ranges image h =
-    let k = behind texts h.modules h.are in
+pub filled_is_linked : FilledAreBytes → LinkedImage → SourcesAreReadWell → FilledIsLinked
+filled_is_linked bytes law read texts ranges image h =
+    let k = behind read texts h.modules h.are in
     record {
       bytes = bytes texts h.modules ranges h.places image h.are h.placed h.filled;
       sources = k.sources;

@@ -52,9 +52,11 @@ use Rattle.kc_asm_draft_laws.specs.Sound.{DraftsAreDrafts}
 use Rattle.kc_asm_draft_laws.specs.Stood.{NothingElseStands}
 use Rattle.kc_asm_draft_laws.specs.Writable.{PartsAreWritable}
 use Rattle.kc_asm.specs.Assembled.{IsModule}
+use Rattle.kc_asm.proofs.Said.{said_well}
 use Rattle.kc_link_source_laws.proofs.Words.{IsWordAnswer}
 use Rattle.kc_link_source_laws.proofs.Meanings.{places_are_words, in_all_word}
 use Rattle.kc_source_laws.specs.Lines.{is_line_of, StatementsAreOfTheText}
+use Rattle.kc_asm_earlier_laws.specs.Read.{SourcesAreReadWell}
 use Rattle.kc_source_laws.proofs.Tests.{all_join, all_map}
 use Rattle.kc_asm_laws.specs.Modules.{ModulesFit}
 use Rattle.kc_asm_laws.proofs.Octets.{IsGoodOctet}
@@ -266,6 +268,7 @@ publics_words last h (n ∷ ns) = all_join (λ (p : Public). is_word p.value.num
 
 pub record Laws : Type 0 where
   pub of_text : StatementsAreOfTheText
+  pub read : SourcesAreReadWell
   pub words : NumbersAreWords
   pub nothing_else : NothingElseStands
   pub drafts : DraftsAreDrafts
@@ -278,7 +281,7 @@ module _ (laws : Laws) (text : List ℕ) (m : Object) (short_text : length text 
   bytes = said_bytes laws.of_text text is.stmts is.said
 
   draft : IsDraft is.draft
-  draft = laws.drafts is.stmts is.draft is.sound is.drafted is.few
+  draft = laws.drafts is.stmts is.draft (said_well laws.read text is.stmts is.said) is.sound is.drafted is.few
 
   stack : is.draft.stack < 65536
   stack =

@@ -26,8 +26,8 @@ use Rattle.kc_asm_emission.specs.Content.{Content, Nothing, Octets, Reserved, Up
 use Rattle.kc_asm_emission.specs.Faults.{faults_of}
 use Rattle.kc_asm_outline.specs.Outline.{opens}
 use Rattle.kc_asm_layout.specs.declared.site.Site.{Site}
-use Rattle.kc_asm_check.specs.Codes.{Regions, regions_after, stack_after, branch_faults, place_faults}
-use Rattle.kc_asm_check.specs.Judging.{own_codes, put_faults}
+use Rattle.kc_asm_check.specs.Codes.{Regions, regions_after, stack_after, branch_faults, octet_faults, place_faults}
+use Rattle.kc_asm_check.specs.Judging.{own_codes}
 use Rattle.kc_asm_check.specs.Laws.{AreSound}
 use Rattle.kc_asm_check.specs.Putting.{stack_from}
 use Rattle.kc_asm_draft_laws.specs.Drafting.{led, put_content, tape_after, kind_opened, with_opened, first_tape, parts_after, parts_from, first_parts}
@@ -199,7 +199,7 @@ stack_small all regions sum before (l ∷ ls) (s ∷ ss) parts sound room small 
     let own = (nothing_left (own_codes look regions sum l s) _ sound.0).0 in
     let a = nothing_left (faults_of look l.action) _ own in
     let b = nothing_left (branch_faults look s.body l.action) _ a.1 in
-    let c = nothing_left (put_faults look l.action l.segment s (content look s.form l.here l.action)) _ b.1 in
+    let c = nothing_left (octet_faults look l.action l.segment s (content look s.form l.here l.action)) _ b.1 in
     let d = nothing_left (place_faults regions look l.label l.action l.segment s) _ c.1 in
     let none : (nat_le sum 65535 && nat_lt 65535 (stack_after look sum l.action)) ≡ false = unless (nat_le sum 65535 && nat_lt 65535 (stack_after look sum l.action)) 17 d.1 in
     stack_small all (regions_after look regions l.action) (stack_after look sum l.action) (l ∷ before) ls ss (parts_after look l s parts) sound.1 room.1

@@ -6,10 +6,7 @@ use Rattle.kc_source.specs.Faults.{least, faults_of}
 use Rattle.kc_obj.specs.Object.{Object}
 use Rattle.kc_asm_piece.specs.declared.draft.Draft.{Draft}
 use Rattle.kc_asm_draft_laws.specs.Drafting.{IsDraftOf}
-use Rattle.kc_asm.specs.Assembled.{IsText, AreSaid, IsFirstFault, IsModule}
-
-abbrev pub IsFaultless : List ℕ → Type 0
-IsFaultless text = (line code : ℕ) → ¬ IsFirstFault text (line, code)
+use Rattle.kc_asm.specs.Assembled.{IsText, AreSaid, IsFaultless, IsModule}
 
 -- the lines that macros, repetitions and conditions leave of it, of which none has a fault
 abbrev pub FaultlessAreRead : Type 0

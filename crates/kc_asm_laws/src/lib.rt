@@ -9,6 +9,7 @@ use kc_asm_check::no_fault_no_codes;
 use kc_asm_draft_laws::{
     drafts_are_drafts, drafts_are_whole, nothing_else_stands, parts_are_writable,
 };
+use kc_asm_earlier_laws::sources_are_read_well;
 use kc_asm_encoding::laws::numbers_are_words;
 use kc_asm_module::one_module;
 use kc_asm_symbols::externals_are_few;
@@ -24,6 +25,7 @@ pub fn modules_fit()
     ensures { ModulesFit }
 {
     statements_are_of_the_text();
+    sources_are_read_well();
     numbers_are_words();
     nothing_else_stands();
     drafts_are_drafts();
@@ -54,6 +56,7 @@ pub fn filled_are_bytes()
     numbers_are_words();
     nothing_else_stands();
     statements_are_of_the_text();
+    sources_are_read_well();
     drafts_are_drafts();
     drafts_are_whole();
     drafts_are_linked();
@@ -65,6 +68,7 @@ pub fn filled_is_linked()
 {
     filled_are_bytes();
     linked_image();
+    sources_are_read_well();
 }
 
 /// No other image is linked, where the ranges are within their bounds.
@@ -105,6 +109,7 @@ pub fn faultless_have_modules()
     ensures { FaultlessHaveModules }
 {
     statements_are_of_the_text();
+    sources_are_read_well();
     drafts_are_drafts();
     drafts_are_whole();
     parts_are_writable();

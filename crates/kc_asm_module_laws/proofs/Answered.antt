@@ -11,8 +11,8 @@ use Rattle.kc_obj.specs.Object.{Object}
 use Rattle.kc_asm_symbols.specs.Few.{ExternalsAreFew}
 use Rattle.kc_asm_module.specs.ModuleOf.{pieces_in}
 use Rattle.kc_asm_check.specs.Judging.{first_fault}
-use Rattle.kc_asm.specs.Assembled.{IsText, IsFirstFault, IsModule, last_line}
-use Rattle.kc_asm_laws.specs.Exists.{IsFaultless, FaultlessHaveModules}
+use Rattle.kc_asm.specs.Assembled.{IsText, IsFirstFault, IsFaultless, IsModule, last_line}
+use Rattle.kc_asm_laws.specs.Exists.{FaultlessHaveModules}
 use Rattle.kc_asm_laws.specs.Modules.{IsAnswer}
 use Rattle.kc_asm_laws.proofs.OneAnswer.{of_values, no_fault}
 use Rattle.kc_asm_module_laws.specs.Made.{TextsAreAnswered}

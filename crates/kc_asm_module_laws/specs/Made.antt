@@ -9,8 +9,7 @@ use Rattle.kc_link.specs.declared.lines.LineAt.{LineAt}
 use Rattle.kc_link.specs.Placed.{placed}
 use Rattle.kc_link.specs.Filled.{IsFilled}
 use Rattle.kc_link.specs.LineMap.{IsLineMap}
-use Rattle.kc_asm.specs.Assembled.{IsModule}
-use Rattle.kc_asm_laws.specs.Exists.{IsFaultless}
+use Rattle.kc_asm.specs.Assembled.{IsFaultless, IsModule}
 use Rattle.kc_asm_laws.specs.Modules.{IsAnswer}
 use Rattle.kc_asm_laws.specs.Images.{AreModulesOf}
 

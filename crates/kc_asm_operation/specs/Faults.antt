@@ -5,11 +5,11 @@ use Rattle.std.specs.Prelude.{ℕ, not, ◌%◌, ◌==◌, ◌||◌, nat_lt, if�
 use Rattle.kc_expr.specs.declared.values.Value.{Value}
 use Rattle.kc_lex.specs.declared.words.Operands.{Operands}
 use Rattle.kc_lex.specs.declared.words.Operands.TheVariants as operands
+use Rattle.kc_lex.specs.Words.{operands_for}
 use Rattle.kc_lex.specs.Codes.{not_fixed, does_not_fit}
 use Rattle.kc_asm_operation.specs.declared.argument.Argument.{Argument}
 use Rattle.kc_asm_operation.specs.declared.argument.Argument.TheVariants.{Plain, Immediate, Indirect, Increment, Indexed}
 use Rattle.kc_asm_operation.specs.Values.{is_fixed, is_external, argument}
-use Rattle.kc_asm_operation.specs.Takes.{operands_for}
 
 -- a number that has to be fixed, and is at most a bound
 abbrev pub number_fault : ℕ → Option Value → Option ℕ

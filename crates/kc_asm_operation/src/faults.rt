@@ -1,20 +1,10 @@
 ghost use Rattle.std.specs.Prelude.{◌≡◌};
 ghost use Rattle.kc_asm_operation.specs.Faults as faults;
-ghost use Rattle.kc_asm_operation.specs.Takes as takes;
 
 use crate::argument::{Argument, is_fixed, operand_at};
 use kc_expr::{Base, Value};
-use kc_lex::words::{generic_operands_of, operands_of};
+use kc_lex::words::operands_for;
 use kc_lex::{Operands, SourceCode};
-
-fn operands_for(word: &[u8]) -> Option<Operands>
-    ensures { result ≡ takes.operands_for word.now }
-{
-    match operands_of(word) {
-        Some(form) => Some(form),
-        None => generic_operands_of(word),
-    }
-}
 
 fn number_fault(most: u16, number: Option<Value>) -> Option<u8>
     ensures { result ≡ faults.number_fault most number }

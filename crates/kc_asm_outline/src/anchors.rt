@@ -53,22 +53,13 @@ fn plain(arg: &Arg) -> Option<&Expr>
     }
 }
 
-fn anchor_at<S: Scope>(args: &[Arg], own: &S) -> Anchor
+// What the target of a generic branch counts from, where each statement is a base of its own.
+pub(crate) fn anchor_at<S: Scope>(args: &[Arg], own: &S) -> Anchor
     ensures { result ≡ spec.anchor_of (S.answers own.now) (spec.target (map arg_tree args.now)) }
 {
     match target(args) {
         Some(expr) => anchor_in(value_over(expr, own)),
         None => Anchor::Nothing,
-    }
-}
-
-// What the target of a generic branch counts from, where each statement is a base of its own.
-pub(crate) fn anchor_of<S: Scope>(action: &Action, own: &S) -> Anchor
-    ensures { result ≡ spec.anchor_of (S.answers own.now) (spec.target_of (action_tree action.now)) }
-{
-    match action {
-        Action::Operation { args, .. } => anchor_at(args.as_slice(), own),
-        _ => Anchor::Nothing,
     }
 }
 

@@ -1,18 +1,19 @@
-ghost use Rattle.std.specs.Prelude.{◌≡◌, IfOk};
+ghost use Rattle.std.specs.Prelude.{◌≡◌, map, IfOk};
 ghost use Rattle.kc_expr.specs.declared.values.Value.{Value as ValueOf};
-ghost use Rattle.kc_source_statement.specs.Trees.{action_tree};
+ghost use Rattle.kc_source_statement.specs.Trees.{arg_tree, action_tree};
+ghost use Rattle.kc_source_statement.specs.Trees as trees;
 ghost use Rattle.kc_asm_symbols.specs.Located.{located_at};
 ghost use Rattle.kc_asm_outline.specs.Outline as spec;
 
-use crate::anchors::{anchor_of, opens};
+use crate::anchors::{anchor_at, opens};
 use crate::note::{Body, Note};
-use kc_asm_emission::{Extent, alignment_of, arguments, extent_of};
+use kc_asm_emission::{Extent, alignment_of, arguments, extent_of, operation_length};
 use kc_asm_operation::branch_kind;
 use kc_asm_symbols::Segment;
 use kc_base::NoMemory;
-use kc_branch::{BranchKind, Form};
+use kc_branch::Form;
 use kc_expr::{Scope, Value};
-use kc_source_statement::{Action, Stmt};
+use kc_source_statement::{Action, Arg, Stmt};
 use std::alloc::Global;
 
 fn body_of(extent: Extent) -> Body
@@ -32,20 +33,26 @@ fn plain_body<S: Scope>(alloc: Global, action: &Action, look: &S) -> Result<Body
     Ok(body_of(extent))
 }
 
-// The kind of the generic branch that a statement is, if it is one.
-fn branch_of<S: Scope>(
+// An operation is a generic branch or goes on by so many bytes, as its operands have it.
+fn operation_body<S: Scope, T: Scope>(
     alloc: Global,
-    action: &Action,
+    word: &[u8],
+    args: &[Arg],
     look: &S,
-) -> Result<Option<BranchKind>, NoMemory>
-    ensures { IfOk result (λ k. k ≡ spec.branch_of (S.answers look.now) (action_tree action.now)) }
+    own: &T,
+) -> Result<Body, NoMemory>
+    ensures { IfOk result (λ b. (here : ValueOf) → b ≡ spec.body_in (S.answers look.now) (T.answers own.now) here (trees.Operation word.now (map arg_tree args.now))) }
 {
-    match action {
-        Action::Operation { name, args } => {
-            let values = arguments(alloc, args.as_slice(), look)?;
-            Ok(branch_kind(name.as_slice(), values.as_slice()))
+    let values = arguments(alloc, args, look)?;
+    match branch_kind(word, values.as_slice()) {
+        Some(kind) => Ok(Body::Branch {
+            kind,
+            anchor: anchor_at(args, own),
+        }),
+        None => {
+            let count = operation_length(word, values.as_slice(), Form::First);
+            Ok(Body::Bytes(count))
         }
-        _ => Ok(None),
     }
 }
 
@@ -57,12 +64,15 @@ fn body_in<S: Scope, T: Scope>(
 ) -> Result<Body, NoMemory>
     ensures { IfOk result (λ b. (here : ValueOf) → b ≡ spec.body_in (S.answers look.now) (T.answers own.now) here (action_tree action.now)) }
 {
-    match branch_of(alloc, action, look)? {
-        Some(kind) => Ok(Body::Branch {
-            kind,
-            anchor: anchor_of(action, own),
-        }),
-        None => plain_body(alloc, action, look),
+    match action {
+        Action::Operation { name, args } => operation_body(
+            alloc,
+            name.as_slice(),
+            args.as_slice(),
+            look,
+            own,
+        ),
+        _ => plain_body(alloc, action, look),
     }
 }
 

@@ -3,6 +3,7 @@
 ghost use Rattle.std.specs.Prelude.{◌≡◌, ℕ, ◌++◌, ◌∷◌, [], List, Some, None, ◌||◌, if◌then◌else◌, map, false, IfOk, OnOk};
 ghost use Rattle.std.specs.Option.{option_or};
 ghost use Rattle.kc_lex.specs.Codes.{code_number};
+ghost use Rattle.kc_source_statement.specs.Statements.{label_in, statement_in};
 ghost use Rattle.kc_source_statement.specs.Trees.{action_tree, action_read};
 ghost use Rattle.kc_source.specs.declared.uses.Use.{Use};
 ghost use Rattle.kc_source.specs.Faults.{is_defined, use_code, use_of, label_uses, action_uses, read_uses, uses_of, said, all_said, all_uses};
@@ -219,15 +220,28 @@ impl Search {
         }
     }
 
+    // Over the label of a line.
+    fn pass_first(&mut self, alloc: Global, line: &Line) -> Result<(), NoMemory>
+        ensures { OnOk result ((at code : ℕ) (all rest whole : List Use) → IsSeeking self.old at code all (label_uses line.now.number (label_in line.now.tokens) ++ rest) whole → IsSeeking self.new at code all rest whole) }
+    {
+        let label = read_label(alloc, line.tokens.as_slice())?;
+        self.pass_label(alloc, line.number, &label)
+    }
+
+    // Over what stands behind it.
+    fn pass_behind(&mut self, alloc: Global, line: &Line) -> Result<(), NoMemory>
+        ensures { OnOk result ((at code : ℕ) (all rest whole : List Use) → IsSeeking self.old at code all (read_uses line.now.number (statement_in line.now.tokens) ++ rest) whole → IsSeeking self.new at code all rest whole) }
+    {
+        let read = read_statement(alloc, line.tokens.as_slice())?;
+        self.pass_read(alloc, line.number, &read)
+    }
+
     // Over a line that is not blank.
     fn pass_words(&mut self, alloc: Global, line: &Line) -> Result<(), NoMemory>
         ensures { OnOk result ((at code : ℕ) (all rest whole : List Use) → IsSeeking self.old at code all (uses_of (said line.now) ++ rest) whole → IsSeeking self.new at code all rest whole) }
     {
-        let tokens = line.tokens.as_slice();
-        let label = read_label(alloc, tokens)?;
-        let read = read_statement(alloc, tokens)?;
-        self.pass_label(alloc, line.number, &label)?;
-        self.pass_read(alloc, line.number, &read)?;
+        self.pass_first(alloc, line)?;
+        self.pass_behind(alloc, line)?;
         Ok(())
     }
 

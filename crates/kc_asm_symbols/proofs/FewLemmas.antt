@@ -4,17 +4,18 @@ use Rattle.std.specs.Prelude.{map, nat_le, Option, Some, None}
 use Rattle.std.specs.Option.{option_to_list}
 use Rattle.std.specs.Str.{bytes_eq}
 use Rattle.std.proofs.lemmas.List.{length-map}
+use Rattle.std.proofs.lemmas.Bool.{or_parts}
 use Rattle.std.proofs.lemmas.Bool.Decides.{nat_tests}
 use Rattle.kc_obj.specs.declared.parts.SegKind.{SegKind}
 use Rattle.kc_expr.specs.declared.values.Value.{Value}
-use Rattle.kc_lex.proofs.FaultLemmas.{no_least}
+use Rattle.kc_lex.proofs.FaultLemmas.{no_least, nothing_left, no_code_at}
 use Rattle.kc_source_statement.specs.declared.statement.Stmt.{Stmt}
 use Rattle.kc_source_statement.specs.Trees.{ActionTree, action_tree, Bare, Module, Cseg, Dseg, Rseg, Sseg, Public, Extrn, Equ, Set, Define, Reserve, Org, Even, End, Operation}
 use Rattle.kc_source.specs.declared.uses.Use.{Use}
 use Rattle.kc_source.specs.declared.uses.UseKind.{UseKind}
 use Rattle.kc_source.specs.declared.uses.UseKind.TheVariants.{Once, Again, Given}
 use Rattle.kc_source.specs.declared.uses.UseKind.TheVariants as uses
-use Rattle.kc_source.proofs.ClearLemmas.{no_code_at}
+use Rattle.kc_source.proofs.ClearLemmas.{not_first, not_second}
 use Rattle.kc_source.specs.Faults.{at_line, has_use, is_once, is_again, is_taken, is_defined, brings_name, name_count, is_one_too_many, use_code, name_faults, line_faults, faults_of, all_said, use_of, label_uses, action_uses, uses_of, all_uses, stmt_said}
 use Rattle.kc_asm_symbols.specs.declared.segments.Segment.{Segment}
 use Rattle.kc_asm_symbols.specs.Located.{located_from, segment_after, first_segment}
@@ -98,18 +99,6 @@ externals_length used values i g (s ∷ ss) =
 
 -- ---- no more names than 16,384
 
-both_empty : {A : Type 0} (xs ys : List A) → xs ++ ys ≡ [] → (xs ≡ []) × (ys ≡ [])
-both_empty [] ys e = (refl, e)
-both_empty (x ∷ xs) ys e = absurd cc
-
-not_first : (b : Bool) (x : ℕ) (o : Option ℕ) → cond b (Some x) o ≡ None → (b ≡ false) × (o ≡ None)
-not_first true x o e = absurd cc
-not_first false x o e = (refl, e)
-
-neither : (a b : Bool) → (a || b) ≡ false → (a ≡ false) × (b ≡ false)
-neither true b e = absurd cc
-neither false b e = (refl, e)
-
 parts : (a b c d e f : Bool) → ((a || b) || (c || d)) ≡ false → (e || f) ≡ false → (((a || e) || (c || f)) ≡ false) × ((b || d) ≡ false)
 parts true b c d e f p q = absurd cc
 parts false true c d e f p q = absurd cc
@@ -141,18 +130,19 @@ few_by : (kind : UseKind) (line : ℕ) (name : List ℕ) (all earlier : List Use
     → let u : Use = record { line = line; name = name; kind = kind } in (takes_one kind + name_count earlier ≤ name_count earlier + cond (brings_name u earlier) 1 0) × (name_count earlier + cond (brings_name u earlier) 1 0 ≤ 16384)
 few_by Once line name all earlier code kept within =
     let u : Use = record { line = line; name = name; kind = Once } in
-    let many : is_one_too_many u earlier ≡ false = (not_first (is_one_too_many u earlier) 8 None (not_first (is_defined name earlier) 6 (cond (is_one_too_many u earlier) (Some 8) None) code).1).0 in
+    let many : is_one_too_many u earlier ≡ false = not_first (is_one_too_many u earlier) 8 None (not_second (is_defined name earlier) 6 (cond (is_one_too_many u earlier) (Some 8) None) code) in
     (omega arith, bounded (brings_name u earlier) (name_count earlier) many within)
 few_by Again line name all earlier code kept within =
     let u : Use = record { line = line; name = name; kind = Again } in
-    let many : is_one_too_many u earlier ≡ false = (not_first (is_one_too_many u earlier) 8 None (not_first (has_use is_once name earlier) 6 (cond (is_one_too_many u earlier) (Some 8) None) code).1).0 in
+    let many : is_one_too_many u earlier ≡ false = not_first (is_one_too_many u earlier) 8 None (not_second (has_use is_once name earlier) 6 (cond (is_one_too_many u earlier) (Some 8) None) code) in
     (omega arith, bounded (brings_name u earlier) (name_count earlier) many within)
 few_by uses.Taken line name all earlier code kept within =
     let u : Use = record { line = line; name = name; kind = uses.Taken } in
-    let many = not_first (is_one_too_many u earlier) 8 (cond (has_use is_taken name earlier || is_defined name all) (Some 21) None) code in
-    let free = neither (has_use is_taken name earlier) (is_defined name all) (not_first (has_use is_taken name earlier || is_defined name all) 21 None many.1).0 in
+    let refused = cond (has_use is_taken name earlier || is_defined name all) (Some 21) None in
+    let many : is_one_too_many u earlier ≡ false = not_first (is_one_too_many u earlier) 8 refused code in
+    let free = or_parts (has_use is_taken name earlier) (is_defined name all) (not_first (has_use is_taken name earlier || is_defined name all) 21 None (not_second (is_one_too_many u earlier) 8 refused code)) in
     let brings : brings_name u earlier ≡ true = brings_taken (is_defined name earlier) (has_use is_taken name earlier) (kept free.1) free.0 in
-    (brought (name_count earlier) (brings_name u earlier) brings, bounded (brings_name u earlier) (name_count earlier) many.0 within)
+    (brought (name_count earlier) (brings_name u earlier) brings, bounded (brings_name u earlier) (name_count earlier) many within)
 few_by Given line name all earlier code kept within = (omega arith, omega arith)
 
 few_names : (all earlier us : List Use) → name_faults all earlier us ≡ [] → name_count earlier ≤ 16384 → ((name : List ℕ) → is_defined name all ≡ false → (is_defined name earlier ≡ false) × (is_defined name us ≡ false))
@@ -160,8 +150,9 @@ few_names : (all earlier us : List Use) → name_faults all earlier us ≡ [] �
 unfolding name_faults has_use
 few_names all earlier [] none within kept = omega arith
 few_names all earlier (u ∷ us) none within kept =
-    let both = both_empty (option_to_list (at_line u.line (use_code u.kind u.name (is_one_too_many u earlier) all earlier))) (name_faults all (u ∷ earlier) us) none in
-    let one = few_by u.kind u.line u.name all earlier (no_code_at u.line (use_code u.kind u.name (is_one_too_many u earlier) all earlier) both.0) (λ e. (kept u.name e).0) within in
+    let code = use_code u.kind u.name (is_one_too_many u earlier) all earlier in
+    let both = nothing_left (option_to_list (at_line u.line code)) (name_faults all (u ∷ earlier) us) none in
+    let one = few_by u.kind u.line u.name all earlier (no_code_at u.line code both.0) (λ e. (kept u.name e).0) within in
     let count = counted u earlier in
     let bound : name_count (u ∷ earlier) ≤ 16384 = omega (arith, one.1, count) in
     let rest = few_names all (u ∷ earlier) us both.1 bound (λ name e.
@@ -176,7 +167,7 @@ pub externals_are_few : ExternalsAreFew
 unfolding faults_of has_use
 externals_are_few ls stmts values are =
     let all = all_uses (all_said ls) in
-    let none : name_faults all [] all ≡ [] = (both_empty (line_faults true true (all_said ls)) (name_faults all [] all) (no_least (line_faults true true (all_said ls) ++ name_faults all [] all) are.sound)).1 in
+    let none : name_faults all [] all ≡ [] = (nothing_left (line_faults true true (all_said ls)) (name_faults all [] all) (no_least (line_faults true true (all_said ls) ++ name_faults all [] all) are.sound)).1 in
     let few : takes all + name_count [] ≤ 16384 = few_names all [] all none (omega (arith, no_names)) (λ name e. (refl, e)) in
     let same : takes (all_uses (map stmt_said stmts)) ≡ takes all = ap (λ ss. takes (all_uses ss)) are.said_by in
     let long : length (externals_from false (located_from values 0 first_segment stmts)) ≤ takes (all_uses (map stmt_said stmts)) + 1 = externals_length false values 0 first_segment stmts in

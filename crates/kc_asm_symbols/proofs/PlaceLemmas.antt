@@ -120,6 +120,12 @@ earlier_moved {all} {others} a (more {l} {m} {ls} {ms} one ones) q =
     (definition_moved (defines l.action q) (with_here l.here (earlier all ls)) (with_here m.here (earlier others ms)) (earlier all ls q) (earlier others ms q)
     (here_moved l m (earlier all ls) (earlier others ms) one (λ n. earlier_moved a ones n)) (earlier_moved a ones q)))
 
+pub all_alike : (values others : ℕ → Segment → Value) → ((i : ℕ) (g : Segment) → AreAlikeValues (values i g) (others i g)) → (stmts : List Stmt) (q : List ℕ)
+    → AreAlike (in_all (located_by values stmts) q) (in_all (located_by others stmts) q)
+all_alike values others same stmts q =
+    let moved = located_moved values others same 0 first_segment stmts in
+    earlier_moved moved (reversed moved) q
+
 throughout_moved : {all others before passed : List Located} → AreMoved all others → AreMoved before passed → (q : List ℕ) → AreAlike (throughout all before q) (throughout others passed q)
 throughout_moved {all} {others} {before} {passed} a ones q =
     subst (λ (b : Bool). AreAlike (throughout all before q) (cond b (earlier others passed q) (in_all others q))) (sets_moved a q)

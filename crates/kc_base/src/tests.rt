@@ -79,7 +79,7 @@ fn texts_have_lines(rt: HostRuntime) -> Result<(), Fail> {
     assert!(rt; text.as_slice() == b"abc".as_slice());
     assert!(rt; front(b"abc", 2) == b"ab".as_slice());
     assert!(rt; after(b"abc", 2) == b"c".as_slice());
-    let again = Text::from_vec(text.into_vec());
+    let again = Text::from_vec(text.into_vec()?);
     assert!(rt; again.as_slice() == b"abc".as_slice());
     Ok(())
 }

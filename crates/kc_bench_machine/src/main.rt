@@ -3,9 +3,11 @@
 //! `bench/loops`.
 #![tactic(auto)]
 
-ghost use Rattle.std.specs.Prelude.{◌≡◌, ◌≤◌, ◌<◌, false, IfSome};
+ghost use Rattle.std.specs.Prelude.{◌≡◌, ◌≤◌, ◌<◌, false, IfSome, OnOk, OnErr, None};
+ghost use Rattle.kc_base.specs.Causes.{Rose};
 
-use kc_base::{HostOut, Image, NoMemory, Sink, Steps};
+use arrayvec::ArrayVec;
+use kc_base::{Failed, HostOut, Image, NoMemory, Sink, Steps, put_all};
 use kc_extra::NoExtra;
 use kc_machine::{End, Machine};
 use kc_stim::Stimuli;
@@ -61,6 +63,48 @@ const STIRRING: [u8; 113] = [
 const HSO_VECTOR: usize = 0x06;
 
 const ROUTINE: [u8; 2] = [0xCB, 0x20];
+
+/// Lines on their way to a sink: they are gathered, so that it is asked once for many of them.
+#[derive(Drop)]
+struct Gathered<S> {
+    sink: S,
+    lines: ArrayVec<u8, 8192>,
+}
+
+impl<S: Sink> Gathered<S> {
+    // The sink takes what was gathered.
+    fn hand_on(&mut self) -> Result<(), Failed>
+        ensures failed { OnErr result (Rose (S.faults self.old.sink) (S.faults self.new.sink)) }
+        ensures calm { OnOk result (S.faults self.new.sink ≡ S.faults self.old.sink) }
+        ensures later { S.faults self.old.sink ≤ S.faults self.new.sink }
+    {
+        put_all(&mut self.sink, self.lines.as_slice())?;
+        self.lines.clear();
+        Ok(())
+    }
+}
+
+/// Where lines are gathered. What there is no room for goes to the sink behind those that were gathered.
+#[derive(Drop)]
+struct Lines<'a, S: Sink> {
+    gathered: &'a mut Gathered<S>,
+}
+
+impl<'a, S: Sink> Sink for Lines<'a, S> {
+    ghost written = { λ _. None };
+
+    ghost faults = { λ l. S.faults l.gathered.now.sink };
+
+    fn write(&mut self, piece: &[u8]) -> Result<usize, Failed> {
+        if self.gathered.lines.remaining_capacity() < piece.len() {
+            self.gathered.hand_on()?;
+        }
+        match self.gathered.lines.try_extend_from_slice(piece) {
+            Ok(()) => Ok(piece.len()),
+            Err(_) => self.gathered.sink.write(piece),
+        }
+    }
+}
 
 /// The loops that are run.
 #[derive(Clone, Copy)]
@@ -145,8 +189,15 @@ fn main(rt: HostRuntime) -> ExitCode {
     let Ok(mut machine) = machine_of(rt.alloc(), which) else {
         return ExitCode::from(9);
     };
-    let mut out = TraceOut::new(HostOut::new(&rt));
-    if run_loop::<_, Brand>(&mut machine, states, &mut out, Blank::new(1)) {
+    let mut gathered = Gathered {
+        sink: HostOut::new(&rt),
+        lines: ArrayVec::new(),
+    };
+    let mut out = TraceOut::new(Lines {
+        gathered: &mut gathered,
+    });
+    let ran = run_loop::<_, Brand>(&mut machine, states, &mut out, Blank::new(1));
+    if ran && gathered.hand_on().is_ok() {
         ExitCode::SUCCESS
     } else {
         ExitCode::from(8)

@@ -1,14 +1,14 @@
 -- Proofs of what an access leaves of the lanes.
-use Rattle.std.proofs.Common.{◌≡◌, ℕ, zero, suc, ◌-◌, ◌<◌, Bool, refl, sym, ◌∙◌, ap, subst, arith, Option, bit_or, bit_xor}
+use Rattle.std.proofs.Common.{◌≡◌, ℕ, zero, suc, ◌+◌, ◌-◌, ◌<◌, Bool, Some, None, refl, sym, ◌∙◌, ap, subst, arith, Option, bit_or, bit_xor}
 use Rattle.kc_base.specs.Bits.{bit}
-use Rattle.kc_span.specs.Span.{IsDue, after}
+use Rattle.kc_span.specs.Span.{IsDue, QuietFor, after}
 use Rattle.kc_span.proofs.SpanLaws.{after-zero, after-suc}
 use Rattle.kc_due.specs.Due.{Times, at_slot}
 use Rattle.kc_stim.specs.Drives.{IsNextEdge}
 use Rattle.kc_timers.specs.T2.{T2, timer2_rule}
 use Rattle.kc_timers.specs.declared.T2Control.{T2Control}
 use Rattle.kc_timers.proofs.T2Laws.{view_tells}
-use Rattle.kc_hso.specs.Cam.{Cam}
+use Rattle.kc_hso.specs.Cam.{Cam, cam_rule}
 use Rattle.kc_hso.proofs.Kept.{quiet_keeps}
 use Rattle.kc_hsi.specs.Input.{hsi_rule}
 use Rattle.kc_hsi.proofs.QuietSpans.{quiet_after}
@@ -21,11 +21,33 @@ use Rattle.kc_block_spec.specs.Control.{control_of}
 use Rattle.kc_block_spec.specs.Laws.{flag_rule}
 use Rattle.kc_block_lazy.specs.Lanes.{Lanes, flag_goes, timer2_goes, line, hso_goes, further_goes, shown_units, levels_ahead, wire_slot, IsFurther, IsLazy}
 use Rattle.kc_block_lazy.proofs.Spans.{agrees_after}
-use Rattle.kc_block_access.specs.Left.{IsLeft, AreSameButTwo, UnreadLeft, FlagLeft, HsiLeft, FurtherLeft, HsoLeft, TimersLeft, GateLeft, StandingTells}
+use Rattle.kc_block_access.specs.Left.{IsLeft, AreSameButTwo, UnreadLeft, FlagLeft, HsiLeft, FurtherLeft, HsoLeft, CommandLeft, TimersLeft, GateLeft, StandingTells}
 
 captured_stays : (control : T2Control) (from n : ℕ) (d : T2) → (after (timer2_rule control) from n d).captured ≡ d.captured
 captured_stays control from zero d = ap (λ e. e.captured) (after-zero (timer2_rule control) from d)
 captured_stays control from (suc n) d = ap (λ e. e.captured) (after-suc (timer2_rule control) from n d) ∙ captured_stays control from n d
+
+-- HSO_COMMAND stays through Ticks, whatever it is
+command_stays : (line : ℕ → ℕ) (from n value : ℕ) (d : Cam) → after (cam_rule line) from n (record d { command = value }) ≡ record (after (cam_rule line) from n d) { command = value }
+command_stays line from zero value d =
+    after-zero (cam_rule line) from (record d { command = value })
+    ∙ ap (λ (e : Cam). record e { command = value }) (sym (after-zero (cam_rule line) from d))
+command_stays line from (suc n) value d =
+    after-suc (cam_rule line) from n (record d { command = value })
+    ∙ ap ((cam_rule line).step (from + n)) (command_stays line from n value d)
+    ∙ ap (λ (e : Cam). record e { command = value }) (sym (after-suc (cam_rule line) from n d))
+
+command_quiet : (line : ℕ → ℕ) (from n value : ℕ) (d : Cam) → QuietFor (cam_rule line) from n d → QuietFor (cam_rule line) from n (record d { command = value })
+command_quiet line from n value d quiet = λ k few. ap ((cam_rule line).quiet (from + k)) (command_stays line from k value d) ∙ quiet k few
+
+-- so HSO is due as before
+command_due : (line : ℕ → ℕ) (from value : ℕ) (d : Cam) (slot : Option ℕ) → IsDue (cam_rule line) from d slot → IsDue (cam_rule line) from (record d { command = value }) slot
+command_due line from value d None never = λ n. command_quiet line from n value d (never n)
+command_due line from value d (Some u) due = record {
+  later = due.later;
+  before = command_quiet line from (u - from) value d due.before;
+  loud = ap ((cam_rule line).quiet u) (command_stays line from (u - from) value d) ∙ due.loud;
+}
 
 module _ {X : Type 0} (f : Further X) (agrees : ℕ → ℕ → X → Type 0) where
   pub standing_tells : StandingTells f agrees
@@ -151,6 +173,30 @@ module _ {X : Type 0} (f : Further X) (agrees : ℕ → ℕ → X → Type 0) wh
       spare = λ slot from to. same slot (λ e. omega arith) ∙ is.spare slot from to;
     };
     shows = ap (λ c. record (shown_units f h now) { hso = c }) (asked_shows (hso_goes h) now d);
+  }
+
+  pub command_left : CommandLeft f agrees
+  command_left h now value is = record {
+    lazy = record {
+      timer2 = is.timer2;
+      hso = record {
+        first = is.hso.first;
+        due = command_due (line h) h.hso.at value h.hso.kept (at_slot h.due 1) is.hso.due;
+        later = is.hso.later;
+      };
+      hsi = is.hsi;
+      further = is.further;
+      flag = is.flag;
+      stimuli = is.stimuli;
+      wires = is.wires;
+      proper = is.proper;
+      held = is.held;
+      order = is.order;
+      value = is.value;
+      agreed = is.agreed;
+      spare = is.spare;
+    };
+    shows = ap (λ c. record (shown_units f h now) { hso = c }) (command_stays (line h) h.hso.at (now - h.hso.at) value h.hso.kept);
   }
 
   controlled_left : (h : Lanes X) (now ioc0 ioc2 ioc3 : ℕ) (d : T2) (c : Cam) (times : Times) → IsLazy f agrees h now → AreSameButTwo 0 1 h.due times →

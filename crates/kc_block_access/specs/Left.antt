@@ -76,6 +76,12 @@ module _ {X : Type 0} (f : Further X) (agrees : ℕ → ℕ → X → Type 0) wh
       d.latches ≡ (shown (hso_goes h) h.hso now).latches →
       IsLeft f agrees now (record h { hso = lane_at now d; due = times }) (record (shown_units f h now) { hso = d })
 
+  -- HSO_COMMAND, which no Tick reads: HSO stands where it stood, and is due as before
+  abbrev pub CommandLeft : Type 0
+  CommandLeft = (h : Lanes X) (now value : ℕ) → IsLazy f agrees h now →
+      IsLeft f agrees now (record h { hso = record h.hso { kept = record h.hso.kept { command = value } } })
+      (record (shown_units f h now) { hso = record (shown (hso_goes h) h.hso now) { command = value } })
+
   -- Timer 2 with HSO, under other control bits; the latches stay
   abbrev pub TimersLeft : Type 0
   TimersLeft = (h : Lanes X) (now : ℕ) (s : Steady) (d : T2) (c : Cam) (times : Times) → IsLazy f agrees h now → AreSameButTwo 0 1 h.due times →

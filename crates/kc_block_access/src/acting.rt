@@ -146,23 +146,14 @@ pub(crate) fn write_ioc3<X: Extra, L: Ledger>(
     lanes.ask_timers(now, steps);
 }
 
-/// A write of HSO_COMMAND.
-pub(crate) fn write_hso_command<X: Extra, L: Ledger>(
-    lanes: &mut Lanes<X>,
-    now: StateTime,
-    value: u8,
-    steps: &mut Steps<L>,
-)
-    requires bound { now ≤ 3 * 10 ^ 15 }
-    requires lazy { IsLazy X.further X.agrees (standing X.plain lanes.old) now }
+/// A write of HSO_COMMAND, which no Tick reads: HSO stays in the state where it stands, and is due as before.
+pub(crate) fn write_hso_command<X: Extra>(lanes: &mut Lanes<X>, now: StateTime, value: u8)
+    requires { IsLazy X.further X.agrees (standing X.plain lanes.old) now }
     ensures left { let u = shown_units X.further (standing X.plain lanes.old) now in
         IsLeft X.further X.agrees now (standing X.plain lanes.new) (record u { hso = record u.hso { command = value } }) }
-    ensures steps { steps.new ≡ steps.old + 2 }
-    ensures moves { moves_of X.moved lanes.new ≤ moves_of X.moved lanes.old + 1 }
+    ensures moves { moves_of X.moved lanes.new ≡ moves_of X.moved lanes.old }
 {
-    lanes.bring_hso(now, steps);
     lanes.hso.unit.command(value);
-    lanes.ask_hso(now, steps);
 }
 
 /// A write of HSO_TIME, which was found to load.

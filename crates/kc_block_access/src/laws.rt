@@ -1,4 +1,4 @@
-ghost use Rattle.kc_block_access.specs.Left.{UnreadLeft, FlagLeft, HsiLeft, FurtherLeft, HsoLeft, TimersLeft, GateLeft, StandingTells};
+ghost use Rattle.kc_block_access.specs.Left.{UnreadLeft, FlagLeft, HsiLeft, FurtherLeft, HsoLeft, CommandLeft, TimersLeft, GateLeft, StandingTells};
 
 use kc_extra::Extra;
 
@@ -9,6 +9,7 @@ pub fn what_is_left_is_lazy<X: Extra>()
     ensures hsi { HsiLeft X.further X.agrees }
     ensures further { FurtherLeft X.further X.agrees }
     ensures hso { HsoLeft X.further X.agrees }
+    ensures command { CommandLeft X.further X.agrees }
     ensures timers { TimersLeft X.further X.agrees }
     ensures gate { GateLeft X.further X.agrees }
 {}

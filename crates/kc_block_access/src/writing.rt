@@ -130,7 +130,7 @@ fn write_named<X: Extra, L: Ledger>(
 {
     match register {
         WritableByte::HsiMode => write_hsi_mode(lanes, now, value, steps),
-        WritableByte::HsoCommand => write_hso_command(lanes, now, value, steps),
+        WritableByte::HsoCommand => write_hso_command(lanes, now, value),
         WritableByte::Ioc0 => write_ioc0(lanes, now, value, steps),
         WritableByte::Ioc1 => write_ioc1(lanes, now, value),
         WritableByte::Ioc2 => write_ioc2(lanes, now, value, steps),

@@ -1,5 +1,5 @@
 -- Masks of inputs, pin by pin.
-use Rattle.std.proofs.Common.{◌≡◌, ℕ, zero, suc, ◌+◌, ◌-◌, ◌^◌, ◌<◌, ◌≤◌, ◌==◌, Bool, true, false, ◌&&◌, refl, sym, ◌∙◌, ap, arith, Option, Some, None, inl, inr, min, max, add-zero, add-suc, add-one}
+use Rattle.std.proofs.Common.{◌≡◌, ℕ, zero, suc, ◌+◌, ◌-◌, ◌^◌, ◌<◌, ◌≤◌, ◌==◌, Bool, true, false, ◌&&◌, refl, sym, ◌∙◌, ap, arith, Option, Some, None, inl, inr, min, max, add-zero, add-suc, add-one, List, [], ◌∷◌, length}
 use Rattle.std.specs.Prelude.{nat_lt, is_some, is_none, bit_and, bit_or}
 use Rattle.std.specs.Int.{bit_at, bit_not}
 use Rattle.std.proofs.Common.{w64}
@@ -74,6 +74,19 @@ module _ (d : Drives) (proper : AreProper d) (q : Option ℕ → Bool) (none : q
 
   pub wires_above : mask_of (λ pin. q (wire_to d.wires pin)) pin_count ≡ mask_of (λ pin. q (wire_to d.wires pin)) 25
   wires_above = mask_rest (λ pin. q (wire_to d.wires pin)) 25 16 (λ i le lt. ap q (no_wire d i proper (high_pin i le)) ∙ none)
+
+not-none : (n : ℕ) → (suc n == 0) ≡ false
+not-none n = grind arith
+
+no-list : {A : Type 0} (xs : List A) → (length xs == 0) ≡ true → xs ≡ []
+no-list [] none = refl
+no-list (x ∷ xs) none = absurd (false≢true (sym (not-none (length xs)) ∙ none))
+
+-- where there is no wire, no pin passes
+pub no_wires : (d : Drives) (q : Option ℕ → Bool) → q None ≡ false → (length d.wires == 0) ≡ true → 0 ≡ mask_of (λ pin. q (wire_to d.wires pin)) pin_count
+no_wires d q none empty = sym (
+    mask_rest (λ pin. q (wire_to d.wires pin)) 0 pin_count (λ i le lt. ap (λ ws. q (wire_to ws i)) (no-list d.wires empty) ∙ none)
+    ∙ mask_start (λ pin. q (wire_to d.wires pin)))
 
 -- the levels of the inputs without a wire
 module _ (d : Drives) (t outs : ℕ) where

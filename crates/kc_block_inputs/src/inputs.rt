@@ -70,6 +70,9 @@ pub fn wired(stimuli: &Stimuli, outputs: u8) -> u64
     requires { AreProper stimuli.now }
     ensures { result ≡ wired_from stimuli.now outputs }
 {
+    if stimuli.has_no_wire() {
+        return 0;
+    }
     let mut mask = 0;
     for pin in FIRST_WIRED..AFTER_WIRED {
         mask = with_pin(mask, pin, follows(stimuli, pin, outputs));
@@ -88,6 +91,9 @@ pub fn wired_inputs(stimuli: &Stimuli) -> u64
     requires { AreProper stimuli.now }
     ensures { result ≡ inputs_with_wires stimuli.now }
 {
+    if stimuli.has_no_wire() {
+        return 0;
+    }
     let mut mask = 0;
     for pin in FIRST_WIRED..AFTER_WIRED {
         mask = with_pin(mask, pin, has_wire(stimuli, pin));

@@ -1,4 +1,4 @@
-ghost use Rattle.std.specs.Prelude.{◌≡◌, ◌+◌, ◌*◌, ◌<◌, ◌≤◌, ◌^◌, IsTrue, IfOk, vec_len, false};
+ghost use Rattle.std.specs.Prelude.{◌≡◌, ◌+◌, ◌*◌, ◌/◌, ◌%◌, ◌<◌, ◌≤◌, ◌^◌, IsTrue, IfOk, vec_len, false};
 ghost use Rattle.kc_exec_spec.specs.Window.{is_wsr};
 ghost use Rattle.kc_bus.specs.Registers.{register_of, with_register, word_of, with_word};
 ghost use Rattle.kc_bus.specs.Blank.{blank_bytes};
@@ -20,6 +20,7 @@ pub struct Flat {
 }
 
 impl Flat {
+    ghost use Rattle.kc_bus.specs.Beside.{put};
     ghost use Rattle.kc_bus.specs.Flat.{held_of, start};
 
     /// Bytes are 0 below 2000H and FFH from there on; the masks are 0.
@@ -34,6 +35,14 @@ impl Flat {
                 wsr: 0,
             },
         })
+    }
+
+    /// Puts a word into memory, ROM too.
+    pub fn poke(&mut self, addr: u16, value: u16)
+        ensures { held_of self.new ≡ put (put (held_of self.old) addr (value % 256)) ((addr + 1) % 65536) (value / 256) }
+    {
+        self.bytes[addr as usize] = (value % 256) as u8;
+        self.bytes[addr.wrapping_add(1) as usize] = (value / 256) as u8;
     }
 }
 

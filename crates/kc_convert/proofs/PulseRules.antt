@@ -1,10 +1,9 @@
 -- The three pulse-width outputs by themselves: each goes on by its own rule.
 use Rattle.std.proofs.Common.{◌≡◌, ℕ, true, ◌&&◌, refl, sym, ◌∙◌, ap, Option, List, [], ◌∷◌, ◌++◌}
-use Rattle.kc_span.specs.Span.{Rule, after, IsDue}
+use Rattle.kc_span.specs.Span.{Rule, after, IsDue, least_of}
 use Rattle.kc_span.proofs.SpanLaws.{after-still}
 use Rattle.kc_base.specs.declared.types.Edge.{Edge}
 use Rattle.kc_extra.specs.Further.{further_rule, is_silent, is_empty}
-use Rattle.kc_extra.specs.Joined.{least_of}
 use Rattle.kc_extra.specs.Two.{after_part, due_both}
 use Rattle.kc_convert.specs.declared.pulses.Output.{Output}
 use Rattle.kc_convert.specs.declared.pulses.Pulses.{Pulses}

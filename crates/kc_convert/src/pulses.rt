@@ -1,13 +1,13 @@
 ghost use Rattle.std.specs.Prelude.{◌≡◌, ℕ, ◌+◌, ◌-◌, ◌*◌, ◌/◌, ◌%◌, ◌≤◌, ◌<◌, ◌^◌, ◌++◌, Bool, List, Option, false, is_some, bit_xor, length, if◌then◌else◌};
 ghost use Rattle.kc_span.specs.Span.{after, QuietFor, IsDue};
 ghost use Rattle.kc_extra.specs.Further.{further_rule};
-ghost use Rattle.kc_extra.specs.Joined.{least_of};
 ghost use Rattle.kc_extra.specs.Pins.{AreFew, MoveSome};
 ghost use Rattle.kc_convert.specs.Pulsing.{level as level_in, level_before as level_before_in, taken_over, edge_between, output_edges, output_rule, new_output, new_pulses, is_width as is_width_at, pulses_further, pulse_pins};
 ghost use Rattle.kc_convert.specs.PulseSpans.{periods_before as begun_before, width_after, output_after};
 
 use kc_base::{Edge, IntSet, Level, Pin, StateTime, Steps};
 use kc_extra::{Extra, ExtraOut, Moved};
+use kc_span::earlier;
 use std::sync::ledger::Ledger;
 
 /// How many states a period lasts.
@@ -72,17 +72,6 @@ fn push_edge(moved: &mut Moved, pin: u8, before: bool, high: bool)
             pin: Pin(pin),
             level,
         });
-    }
-}
-
-/// The earlier of two states, where there is one.
-fn earlier(a: Option<StateTime>, b: Option<StateTime>) -> Option<StateTime>
-    ensures { result ≡ least_of a b }
-{
-    match (a, b) {
-        (None, b) => b,
-        (a, None) => a,
-        (Some(a), Some(b)) => Some(a.min(b)),
     }
 }
 

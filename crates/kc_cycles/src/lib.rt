@@ -5,8 +5,6 @@ mod life;
 mod lives;
 mod maker;
 mod restart;
-#[cfg(test)]
-mod tests;
 
 pub use lives::{LivesFault, run_lives};
 pub use maker::Maker;

@@ -6,8 +6,6 @@ mod carrying;
 mod lines;
 mod session;
 mod showing;
-#[cfg(test)]
-mod tests;
 
 pub use kc_debug_script::{DebugFault, LineMap, Script};
 pub use kc_machine::End;

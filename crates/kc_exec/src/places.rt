@@ -87,6 +87,7 @@ fn is_pointed_outside<B: Bus>(
 }
 
 /// Whether the address of S is outside the register file; POP counts with SP as it will be.
+#[inline(always)]
 #[tactic(auto, unfolding(kc_exec_spec::specs::Places::operand_outside))]
 pub fn is_operand_outside<B: Bus>(
     bus: &B,

@@ -77,17 +77,18 @@ pub fn read_source<B: Bus>(bus: &mut B, byte: bool, wsr: u8, operand: Operand) -
     ensures bound { IfOk result (λ n. n < limit byte) }
 {
     match operand {
-        Operand::Reg(register) => read_register(bus, byte, wsr, register),
+        Operand::Reg(register) => Ok(read_register(bus, byte, wsr, register)?),
         Operand::Imm(value) => Ok(cut(byte, value)),
         Operand::Indirect(register) => {
             let pointer = read_register(bus, false, wsr, register)?;
-            read_at(bus, byte, pointer)
+            Ok(read_at(bus, byte, pointer)?)
         }
-        Operand::Increment(register) => read_increment(bus, byte, wsr, register),
+        Operand::Increment(register) => Ok(read_increment(bus, byte, wsr, register)?),
         Operand::Short { base, offset } => {
-            read_indexed(bus, byte, wsr, base, i16::from(offset).cast_unsigned())
+            let offset = i16::from(offset).cast_unsigned();
+            Ok(read_indexed(bus, byte, wsr, base, offset)?)
         }
-        Operand::Long { base, offset } => read_indexed(bus, byte, wsr, base, offset),
+        Operand::Long { base, offset } => Ok(read_indexed(bus, byte, wsr, base, offset)?),
         Operand::Absent | Operand::Count(_) | Operand::Disp(_) => Ok(0),
     }
 }
@@ -133,13 +134,14 @@ pub fn find_target<B: Bus>(bus: &mut B, byte: bool, wsr: u8, operand: Operand) -
     ensures same { B.lent bus.new ≡ B.lent bus.old }
 {
     match operand {
-        Operand::Reg(register) => window(wsr, register),
-        Operand::Indirect(register) => read_register(bus, false, wsr, register),
-        Operand::Increment(register) => find_increment(bus, byte, wsr, register),
+        Operand::Reg(register) => Ok(window(wsr, register)?),
+        Operand::Indirect(register) => Ok(read_register(bus, false, wsr, register)?),
+        Operand::Increment(register) => Ok(find_increment(bus, byte, wsr, register)?),
         Operand::Short { base, offset } => {
-            find_indexed(bus, byte, wsr, base, i16::from(offset).cast_unsigned())
+            let offset = i16::from(offset).cast_unsigned();
+            Ok(find_indexed(bus, byte, wsr, base, offset)?)
         }
-        Operand::Long { base, offset } => find_indexed(bus, byte, wsr, base, offset),
+        Operand::Long { base, offset } => Ok(find_indexed(bus, byte, wsr, base, offset)?),
         Operand::Absent | Operand::Imm(_) | Operand::Count(_) | Operand::Disp(_) => Ok(0),
     }
 }

@@ -50,7 +50,7 @@ pub fn read_register<B: Bus>(bus: &mut B, byte: bool, wsr: u8, register: u8) -> 
     if wsr == 0 {
         read_at(bus, byte, u16::from(register))
     } else {
-        read_in_window(bus, byte, wsr, register)
+        Ok(read_in_window(bus, byte, wsr, register)?)
     }
 }
 
@@ -85,7 +85,8 @@ pub fn write_register<B: Bus>(
     if wsr == 0 {
         write_at(bus, byte, u16::from(register), value)
     } else {
-        write_in_window(bus, byte, wsr, register, value)
+        write_in_window(bus, byte, wsr, register, value)?;
+        Ok(())
     }
 }
 

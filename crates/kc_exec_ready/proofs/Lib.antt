@@ -1,1 +1,2 @@
+mod Fixed
 mod Told

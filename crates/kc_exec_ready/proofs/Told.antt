@@ -20,7 +20,7 @@ use Rattle.kc_exec_spec.specs.Plans.{plan_of}
 use Rattle.kc_exec_spec.specs.Places.{is_outside, word_seen, operand_outside, is_push, is_pop, is_pop_target, stack_outside, count_seen, shifts_seen, jump_taken, planned_place, place_of, ◌>>=◌}
 use Rattle.kc_exec_ready.specs.declared.cost.Cost.TheVariants as cost
 use Rattle.kc_exec_ready.specs.declared.ready.Ready.{Ready}
-use Rattle.kc_exec_ready.specs.Preparing.{is_pointing, is_counting, told_count, is_normalize, is_conditional, is_free, cost_among, cost_of, place_when, test_of, holds_at, is_simple, is_alone_cost, ready_of, told_at, time_at, IsReady}
+use Rattle.kc_exec_ready.specs.Preparing.{is_pointing, is_counting, told_count, is_normalize, is_conditional, is_free, cost_among, cost_of, place_when, test_of, holds_at, is_simple, ready_of, told_at, time_at, IsReady}
 
 shifts-plain : (plan : Plan) (i : Insn) (wsr : ℕ) (byte : ℕ → ℕ) → is_normalize plan ≡ false → shifts_seen plan i wsr byte ≡ count_seen wsr byte i.operand
 shifts-plain (Compute (Operate op byte)) i wsr bytes h = refl
@@ -143,22 +143,21 @@ told-by false true false true plan i psw wsr byte a b c d s h = absurd (cc h)
 told-by false false true true plan i psw wsr byte a b c d s h = absurd (cc h)
 
 -- the same by the cost of a kind of work with an operand
-told-at : (free normal counting : Bool) (plan : Plan) (i : Insn) (psw wsr : ℕ) (byte : ℕ → ℕ) →
-    is_free plan ≡ free → is_normalize plan ≡ normal → is_counting i.operand ≡ counting →
+told-at : (normal counting : Bool) (plan : Plan) (i : Insn) (psw wsr : ℕ) (byte : ℕ → ℕ) →
+    is_normalize plan ≡ normal → is_counting i.operand ≡ counting →
     is_simple (cost_of plan i.operand) ≡ true →
     planned_place plan i psw wsr byte ≡ (holds_at (cost_of plan i.operand) plan i.operand psw wsr byte >>= λ holds. Ok (place_when (cost_of plan i.operand) (told_count i.operand) holds))
-told-at false normal counting plan i psw wsr byte f n c h = absurd (cc (rw f at h))
-told-at true true counting plan i psw wsr byte f n c h = absurd (cc (rw (f, n) at h))
-told-at true false true plan i psw wsr byte f n c h = absurd (cc (rw (f, n, c) at h))
-told-at true false false plan i psw wsr byte f n c h =
-    let cost-is : cost_of plan i.operand ≡ cost_among (is_pointing i.operand) (is_push plan) (is_pop plan) (is_conditional plan) = rw (f, n, c) refl in
+told-at true counting plan i psw wsr byte n c h = absurd (cc (rw n at h))
+told-at false true plan i psw wsr byte n c h = absurd (cc (rw (n, c) at h))
+told-at false false plan i psw wsr byte n c h =
+    let cost-is : cost_of plan i.operand ≡ cost_among (is_pointing i.operand) (is_push plan) (is_pop plan) (is_conditional plan) = rw (n, c) refl in
     let simple : is_simple (cost_among (is_pointing i.operand) (is_push plan) (is_pop plan) (is_conditional plan)) ≡ true = ap is_simple (sym cost-is) ∙ h in
     told-by (is_pointing i.operand) (is_push plan) (is_pop plan) (is_conditional plan) plan i psw wsr byte refl refl refl refl (shifts-plain plan i wsr byte n ∙ count-told i.operand wsr byte c) simple
     ∙ ap (λ k. holds_at k plan i.operand psw wsr byte >>= λ holds. Ok (place_when k (told_count i.operand) holds)) (sym cost-is)
 
 place-told : (plan : Plan) (i : Insn) (psw wsr : ℕ) (byte : ℕ → ℕ) → is_simple (cost_of plan i.operand) ≡ true →
     planned_place plan i psw wsr byte ≡ (holds_at (cost_of plan i.operand) plan i.operand psw wsr byte >>= λ holds. Ok (place_when (cost_of plan i.operand) (told_count i.operand) holds))
-place-told plan i psw wsr byte h = told-at (is_free plan) (is_normalize plan) (is_counting i.operand) plan i psw wsr byte refl refl refl h
+place-told plan i psw wsr byte h = told-at (is_normalize plan) (is_counting i.operand) plan i psw wsr byte refl refl h
 
 place-planned : (i : Insn) (m : Mnemonic) (cpu : Cpu) (masks : Masks) (byte : ℕ → ℕ) → mnemonic_at i.opcode i.signed ≡ Some m → place_of i cpu masks byte ≡ planned_place (plan_of m) i cpu.psw_high masks.wsr byte
 unfolding place_of
@@ -184,30 +183,10 @@ time_told r cpu masks byte ready h =
     ∙ timed r (holds_at (cost_of plan r.insn.operand) plan r.insn.operand cpu.psw_high masks.wsr byte) (place_when (cost_of plan r.insn.operand) (told_count r.insn.operand)) base-is other-is
     ∙ ap (λ k. holds_at k plan r.insn.operand cpu.psw_high masks.wsr byte >>= λ holds. Ok (if holds then r.other else r.base)) (sym cost-is)
 
-never-alone : (points pushes pops when : Bool) → is_alone_cost (cost_among points pushes pops when) ≡ false
-never-alone false false false false = refl
-never-alone true false false false = refl
-never-alone false true false false = refl
-never-alone false false true false = refl
-never-alone false false false true = refl
-never-alone true true pops when = refl
-never-alone true false true when = refl
-never-alone true false false true = refl
-never-alone false true true when = refl
-never-alone false true false true = refl
-never-alone false false true true = refl
-
-alone-at : (free held : Bool) (plan : Plan) (o : Operand) → is_free plan ≡ free → (is_normalize plan || is_counting o) ≡ held → not (is_alone_cost (cost_of plan o)) ≡ is_free plan
-alone-at false held plan o f h = rw f refl
-alone-at true true plan o f h = rw (f, h) refl
-alone-at true false plan o f h = rw (f, h, never-alone (is_pointing o) (is_push plan) (is_pop plan) (is_conditional plan)) refl
-
--- an instruction that any activity may follow is told by its cost
-pub free_told : (r : Ready) → IsReady r → not (is_alone_cost r.cost) ≡ is_free (plan_of r.mnemonic)
+-- whether any activity may follow an instruction that was prepared
+pub free_told : (r : Ready) → IsReady r → r.free ≡ is_free (plan_of r.mnemonic)
 unfolding ready_of
-free_told r ready =
-    ap (λ (x : Ready). not (is_alone_cost x.cost)) ready.told
-    ∙ alone-at (is_free (plan_of r.mnemonic)) (is_normalize (plan_of r.mnemonic) || is_counting r.insn.operand) (plan_of r.mnemonic) r.insn.operand refl refl
+free_told r ready = ap (λ (x : Ready). x.free) ready.told
 
 -- what is told of a well-formed instruction under its own mnemonic
 pub told_so : (m : Mnemonic) (i : Insn) (r : Ready) → IsTrue (is_formed i) → mnemonic_at i.opcode i.signed ≡ Some m → r ≡ ready_of m i → 0 < r.base → 0 < r.other → IsReady r
@@ -233,10 +212,9 @@ conditional-of true true pops false h = absurd (cc h)
 conditional-of true false true false h = absurd (cc h)
 conditional-of false true true false h = absurd (cc h)
 
-when-at : (free held : Bool) (plan : Plan) (o : Operand) → is_free plan ≡ free → (is_normalize plan || is_counting o) ≡ held → cost_of plan o ≡ cost.When → is_conditional plan ≡ true
-when-at false held plan o f e h = absurd (cc (rw f at h))
-when-at true true plan o f e h = absurd (cc (rw (f, e) at h))
-when-at true false plan o f e h = conditional-of (is_pointing o) (is_push plan) (is_pop plan) (is_conditional plan) (rw (f, e) at h)
+when-at : (held : Bool) (plan : Plan) (o : Operand) → (is_normalize plan || is_counting o) ≡ held → cost_of plan o ≡ cost.When → is_conditional plan ≡ true
+when-at true plan o e h = absurd (cc (rw e at h))
+when-at false plan o e h = conditional-of (is_pointing o) (is_push plan) (is_pop plan) (is_conditional plan) (rw e at h)
 
 taken-so : (plan : Plan) (psw : ℕ) → is_conditional plan ≡ true → is_taken (test_of plan).0 (test_of plan).1 psw ≡ jump_taken plan psw
 taken-so (Compute how) psw h = absurd (cc h)
@@ -266,4 +244,4 @@ when_told r psw ready h =
     let wanted-is : r.wanted ≡ (test_of plan).1 = ap (λ (x : Ready). x.wanted) ready.told in
     ap (λ t. is_taken t r.wanted psw) test-is
     ∙ ap (λ w. is_taken (test_of plan).0 w psw) wanted-is
-    ∙ taken-so plan psw (when-at (is_free plan) (is_normalize plan || is_counting r.insn.operand) plan r.insn.operand refl refl (sym cost-is ∙ h))
+    ∙ taken-so plan psw (when-at (is_normalize plan || is_counting r.insn.operand) plan r.insn.operand refl (sym cost-is ∙ h))

@@ -1,5 +1,5 @@
 -- What is told of an instruction once, before it is performed many times (this kit's own).
-use Rattle.std.specs.Prelude.{◌≡◌, ℕ, Bool, true, false, not, ◌+◌, ◌%◌, ◌<◌, nat_lt, ◌||◌, if◌then◌else◌, Some, Result, Ok, Err, IsTrue}
+use Rattle.std.specs.Prelude.{◌≡◌, ℕ, Bool, true, false, not, ◌+◌, ◌%◌, ◌<◌, nat_lt, ◌==◌, ◌&&◌, ◌||◌, if◌then◌else◌, Some, Result, Ok, Err, IsTrue}
 use Rattle.kc_base.specs.declared.types.Kind.{Kind}
 use Rattle.kc_isa.specs.declared.insn.Insn.{Insn}
 use Rattle.kc_isa.specs.declared.insn.Operand.{Operand}
@@ -78,8 +78,7 @@ cost_among _ _ _ _ = cost.Placed
 -- what the states of an instruction depend on beside itself
 abbrev pub cost_of : Plan → Operand → Cost
 cost_of plan o =
-    if not (is_free plan) then cost.Alone
-    else if is_normalize plan || is_counting o then cost.Placed
+    if is_normalize plan || is_counting o then cost.Placed
     else cost_among (is_pointing o) (is_push plan) (is_pop plan) (is_conditional plan)
 
 -- the place of an instruction where what its states depend on holds, or does not hold
@@ -101,16 +100,11 @@ holds_at _ plan o psw wsr byte = Ok false
 -- one condition tells the states, or none is needed
 abbrev pub is_simple : Cost → Bool
 is_simple cost.Placed = false
-is_simple cost.Alone = false
 is_simple _ = true
 
 -- the states, where it was found whether the condition holds
 abbrev pub told_at : Ready → Result Bool Kind → Result ℕ Kind
 told_at r found = found >>= λ holds. Ok (if holds then r.other else r.base)
-
-abbrev pub is_alone_cost : Cost → Bool
-is_alone_cost cost.Alone = true
-is_alone_cost _ = false
 
 -- the test of a conditional jump and what it has to be
 abbrev pub test_of : Plan → Test × Bool
@@ -122,6 +116,7 @@ unfoldable pub ready_of : Mnemonic → Insn → Ready
 ready_of m i = record {
   insn = i;
   mnemonic = m;
+  free = is_free (plan_of m);
   length = length_of i;
   cost = cost_of (plan_of m) i.operand;
   test = (test_of (plan_of m)).0;
@@ -129,6 +124,10 @@ ready_of m i = record {
   base = states_of i (place_when (cost_of (plan_of m) i.operand) (told_count i.operand) false);
   other = states_of i (place_when (cost_of (plan_of m) i.operand) (told_count i.operand) true);
 }
+
+-- nothing is told: an instruction of no bytes, after which not any activity may follow
+abbrev pub is_blank : Ready → Bool
+is_blank r = not r.free && r.length == 0
 
 -- a well-formed instruction with what is told of it
 pub record IsReady (r : Ready) : Type 0 where

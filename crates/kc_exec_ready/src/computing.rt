@@ -1,11 +1,11 @@
 // What instructions do over a bus, with the address after them at hand: those that compute.
 ghost use Rattle.std.specs.Prelude.{◌≡◌, ◌+◌, ◌≤◌};
-ghost use Rattle.kc_exec_spec.specs.declared.cpu.After.TheVariants.{Next};
 ghost use Rattle.kc_exec_spec.specs.declared.plan.Plan.TheVariants.{Compute as Computes};
 ghost use Rattle.kc_exec_spec.specs.declared.plan.Computation.TheVariants as computes;
-ghost use Rattle.kc_exec_spec.specs.Effect.{Gives, run};
+ghost use Rattle.kc_exec_spec.specs.Effect.{run};
 ghost use Rattle.kc_exec_spec.specs.Effects.{planned};
 ghost use Rattle.kc_exec_spec.specs.Jumping.{next_pc};
+ghost use Rattle.kc_exec_ready.specs.Preparing.{GoesOn};
 
 use crate::here::Here;
 use kc_alu::Shift;
@@ -18,17 +18,6 @@ use kc_exec::{
 use kc_exec_spec::{Alteration, Cpu, Operation, Size};
 use kc_isa::Insn;
 
-/// The registers after an instruction that keeps the PSW.
-#[inline(always)]
-pub(crate) fn kept(here: Here) -> Cpu
-    ensures { result ≡ record { pc = here.next; psw_high = here.cpu.psw_high } }
-{
-    Cpu {
-        pc: here.next,
-        psw_high: here.cpu.psw_high,
-    }
-}
-
 #[inline(always)]
 #[tactic(auto, using(kc_exec_spec::proofs::Running::run_bind), unfolding(kc_exec_spec::specs::Effects::planned, kc_exec_spec::specs::Computing::compute))]
 pub(crate) fn operate<B: Bus>(
@@ -37,17 +26,16 @@ pub(crate) fn operate<B: Bus>(
     byte: bool,
     insn: &Insn,
     here: Here,
-) -> Result<Cpu, Kind>
-    requires { here.next ≡ next_pc insn.now here.cpu.pc }
-    ensures gives { Gives (λ cpu. (Next, cpu)) result (B.held bus.new) (run B.meaning (planned (Computes (computes.Operate op byte)) insn.now here.wsr here.cpu) (B.held bus.old)) }
+    cpu: &mut Cpu,
+) -> Result<(), Kind>
+    requires { here.next ≡ next_pc insn.now cpu.old.pc }
+    ensures effect { GoesOn result cpu.old cpu.new (B.held bus.new) (run B.meaning (planned (Computes (computes.Operate op byte)) insn.now here.wsr cpu.old) (B.held bus.old)) }
     ensures spent { B.spent bus.new + B.allowed (B.held bus.old) ≤ B.spent bus.old + B.allowed (B.held bus.new) }
     ensures same { B.lent bus.new ≡ B.lent bus.old }
 {
-    let psw_high = do_operate(bus, op, byte, here.wsr, insn, here.cpu.psw_high)?;
-    Ok(Cpu {
-        pc: here.next,
-        psw_high,
-    })
+    cpu.psw_high = do_operate(bus, op, byte, here.wsr, insn, cpu.psw_high)?;
+    cpu.pc = here.next;
+    Ok(())
 }
 
 #[inline(always)]
@@ -58,32 +46,35 @@ pub(crate) fn alter<B: Bus>(
     byte: bool,
     insn: &Insn,
     here: Here,
-) -> Result<Cpu, Kind>
-    requires { here.next ≡ next_pc insn.now here.cpu.pc }
-    ensures gives { Gives (λ cpu. (Next, cpu)) result (B.held bus.new) (run B.meaning (planned (Computes (computes.Alter how byte)) insn.now here.wsr here.cpu) (B.held bus.old)) }
+    cpu: &mut Cpu,
+) -> Result<(), Kind>
+    requires { here.next ≡ next_pc insn.now cpu.old.pc }
+    ensures effect { GoesOn result cpu.old cpu.new (B.held bus.new) (run B.meaning (planned (Computes (computes.Alter how byte)) insn.now here.wsr cpu.old) (B.held bus.old)) }
     ensures spent { B.spent bus.new + B.allowed (B.held bus.old) ≤ B.spent bus.old + B.allowed (B.held bus.new) }
     ensures same { B.lent bus.new ≡ B.lent bus.old }
 {
-    let psw_high = do_alter(bus, how, byte, here.wsr, insn.regs[0], here.cpu.psw_high)?;
-    Ok(Cpu {
-        pc: here.next,
-        psw_high,
-    })
+    cpu.psw_high = do_alter(bus, how, byte, here.wsr, insn.regs[0], cpu.psw_high)?;
+    cpu.pc = here.next;
+    Ok(())
 }
 
 #[inline(always)]
 #[tactic(auto, using(kc_exec_spec::proofs::Running::run_bind), unfolding(kc_exec_spec::specs::Effects::planned, kc_exec_spec::specs::Computing::compute))]
-pub(crate) fn extend<B: Bus>(bus: &mut B, byte: bool, insn: &Insn, here: Here) -> Result<Cpu, Kind>
-    requires { here.next ≡ next_pc insn.now here.cpu.pc }
-    ensures gives { Gives (λ cpu. (Next, cpu)) result (B.held bus.new) (run B.meaning (planned (Computes (computes.Extend byte)) insn.now here.wsr here.cpu) (B.held bus.old)) }
+pub(crate) fn extend<B: Bus>(
+    bus: &mut B,
+    byte: bool,
+    insn: &Insn,
+    here: Here,
+    cpu: &mut Cpu,
+) -> Result<(), Kind>
+    requires { here.next ≡ next_pc insn.now cpu.old.pc }
+    ensures effect { GoesOn result cpu.old cpu.new (B.held bus.new) (run B.meaning (planned (Computes (computes.Extend byte)) insn.now here.wsr cpu.old) (B.held bus.old)) }
     ensures spent { B.spent bus.new + B.allowed (B.held bus.old) ≤ B.spent bus.old + B.allowed (B.held bus.new) }
     ensures same { B.lent bus.new ≡ B.lent bus.old }
 {
-    let psw_high = do_extend(bus, byte, here.wsr, insn.regs[0], here.cpu.psw_high)?;
-    Ok(Cpu {
-        pc: here.next,
-        psw_high,
-    })
+    cpu.psw_high = do_extend(bus, byte, here.wsr, insn.regs[0], cpu.psw_high)?;
+    cpu.pc = here.next;
+    Ok(())
 }
 
 #[inline(always)]
@@ -94,32 +85,34 @@ pub(crate) fn shift<B: Bus>(
     size: Size,
     insn: &Insn,
     here: Here,
-) -> Result<Cpu, Kind>
-    requires { here.next ≡ next_pc insn.now here.cpu.pc }
-    ensures gives { Gives (λ cpu. (Next, cpu)) result (B.held bus.new) (run B.meaning (planned (Computes (computes.Shift how size)) insn.now here.wsr here.cpu) (B.held bus.old)) }
+    cpu: &mut Cpu,
+) -> Result<(), Kind>
+    requires { here.next ≡ next_pc insn.now cpu.old.pc }
+    ensures effect { GoesOn result cpu.old cpu.new (B.held bus.new) (run B.meaning (planned (Computes (computes.Shift how size)) insn.now here.wsr cpu.old) (B.held bus.old)) }
     ensures spent { B.spent bus.new + B.allowed (B.held bus.old) ≤ B.spent bus.old + B.allowed (B.held bus.new) }
     ensures same { B.lent bus.new ≡ B.lent bus.old }
 {
-    let psw_high = do_shift(bus, how, size, here.wsr, insn, here.cpu.psw_high)?;
-    Ok(Cpu {
-        pc: here.next,
-        psw_high,
-    })
+    cpu.psw_high = do_shift(bus, how, size, here.wsr, insn, cpu.psw_high)?;
+    cpu.pc = here.next;
+    Ok(())
 }
 
 #[inline(always)]
 #[tactic(auto, using(kc_exec_spec::proofs::Running::run_bind), unfolding(kc_exec_spec::specs::Effects::planned, kc_exec_spec::specs::Computing::compute))]
-pub(crate) fn normalize<B: Bus>(bus: &mut B, insn: &Insn, here: Here) -> Result<Cpu, Kind>
-    requires { here.next ≡ next_pc insn.now here.cpu.pc }
-    ensures gives { Gives (λ cpu. (Next, cpu)) result (B.held bus.new) (run B.meaning (planned (Computes computes.Normalize) insn.now here.wsr here.cpu) (B.held bus.old)) }
+pub(crate) fn normalize<B: Bus>(
+    bus: &mut B,
+    insn: &Insn,
+    here: Here,
+    cpu: &mut Cpu,
+) -> Result<(), Kind>
+    requires { here.next ≡ next_pc insn.now cpu.old.pc }
+    ensures effect { GoesOn result cpu.old cpu.new (B.held bus.new) (run B.meaning (planned (Computes computes.Normalize) insn.now here.wsr cpu.old) (B.held bus.old)) }
     ensures spent { B.spent bus.new + B.allowed (B.held bus.old) ≤ B.spent bus.old + B.allowed (B.held bus.new) }
     ensures same { B.lent bus.new ≡ B.lent bus.old }
 {
-    let psw_high = do_normalize(bus, here.wsr, insn, here.cpu.psw_high)?;
-    Ok(Cpu {
-        pc: here.next,
-        psw_high,
-    })
+    cpu.psw_high = do_normalize(bus, here.wsr, insn, cpu.psw_high)?;
+    cpu.pc = here.next;
+    Ok(())
 }
 
 #[inline(always)]
@@ -130,14 +123,16 @@ pub(crate) fn multiply<B: Bus>(
     byte: bool,
     insn: &Insn,
     here: Here,
-) -> Result<Cpu, Kind>
-    requires { here.next ≡ next_pc insn.now here.cpu.pc }
-    ensures gives { Gives (λ cpu. (Next, cpu)) result (B.held bus.new) (run B.meaning (planned (Computes (computes.Multiply with_sign byte)) insn.now here.wsr here.cpu) (B.held bus.old)) }
+    cpu: &mut Cpu,
+) -> Result<(), Kind>
+    requires { here.next ≡ next_pc insn.now cpu.old.pc }
+    ensures effect { GoesOn result cpu.old cpu.new (B.held bus.new) (run B.meaning (planned (Computes (computes.Multiply with_sign byte)) insn.now here.wsr cpu.old) (B.held bus.old)) }
     ensures spent { B.spent bus.new + B.allowed (B.held bus.old) ≤ B.spent bus.old + B.allowed (B.held bus.new) }
     ensures same { B.lent bus.new ≡ B.lent bus.old }
 {
     do_multiply(bus, with_sign, byte, here.wsr, insn)?;
-    Ok(kept(here))
+    cpu.pc = here.next;
+    Ok(())
 }
 
 #[inline(always)]
@@ -148,30 +143,32 @@ pub(crate) fn divide<B: Bus>(
     byte: bool,
     insn: &Insn,
     here: Here,
-) -> Result<Cpu, Kind>
-    requires { here.next ≡ next_pc insn.now here.cpu.pc }
-    ensures gives { Gives (λ cpu. (Next, cpu)) result (B.held bus.new) (run B.meaning (planned (Computes (computes.Divide with_sign byte)) insn.now here.wsr here.cpu) (B.held bus.old)) }
+    cpu: &mut Cpu,
+) -> Result<(), Kind>
+    requires { here.next ≡ next_pc insn.now cpu.old.pc }
+    ensures effect { GoesOn result cpu.old cpu.new (B.held bus.new) (run B.meaning (planned (Computes (computes.Divide with_sign byte)) insn.now here.wsr cpu.old) (B.held bus.old)) }
     ensures spent { B.spent bus.new + B.allowed (B.held bus.old) ≤ B.spent bus.old + B.allowed (B.held bus.new) }
     ensures same { B.lent bus.new ≡ B.lent bus.old }
 {
-    let psw_high = do_divide(bus, with_sign, byte, here.wsr, insn, here.cpu.psw_high)?;
-    Ok(Cpu {
-        pc: here.next,
-        psw_high,
-    })
+    cpu.psw_high = do_divide(bus, with_sign, byte, here.wsr, insn, cpu.psw_high)?;
+    cpu.pc = here.next;
+    Ok(())
 }
 
 #[inline(always)]
 #[tactic(auto, using(kc_exec_spec::proofs::Running::run_bind), unfolding(kc_exec_spec::specs::Effects::planned, kc_exec_spec::specs::Computing::compute))]
-pub(crate) fn compare_long<B: Bus>(bus: &mut B, insn: &Insn, here: Here) -> Result<Cpu, Kind>
-    requires { here.next ≡ next_pc insn.now here.cpu.pc }
-    ensures gives { Gives (λ cpu. (Next, cpu)) result (B.held bus.new) (run B.meaning (planned (Computes computes.CompareLong) insn.now here.wsr here.cpu) (B.held bus.old)) }
+pub(crate) fn compare_long<B: Bus>(
+    bus: &mut B,
+    insn: &Insn,
+    here: Here,
+    cpu: &mut Cpu,
+) -> Result<(), Kind>
+    requires { here.next ≡ next_pc insn.now cpu.old.pc }
+    ensures effect { GoesOn result cpu.old cpu.new (B.held bus.new) (run B.meaning (planned (Computes computes.CompareLong) insn.now here.wsr cpu.old) (B.held bus.old)) }
     ensures spent { B.spent bus.new + B.allowed (B.held bus.old) ≤ B.spent bus.old + B.allowed (B.held bus.new) }
     ensures same { B.lent bus.new ≡ B.lent bus.old }
 {
-    let psw_high = do_compare_long(bus, here.wsr, insn, here.cpu.psw_high)?;
-    Ok(Cpu {
-        pc: here.next,
-        psw_high,
-    })
+    cpu.psw_high = do_compare_long(bus, here.wsr, insn, cpu.psw_high)?;
+    cpu.pc = here.next;
+    Ok(())
 }

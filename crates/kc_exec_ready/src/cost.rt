@@ -1,6 +1,5 @@
 /// What the states of an instruction depend on beside itself: nothing; whether S is outside the register file; whether the
-/// stack is, for what pushes and for what pops; whether a jump is taken; or its whole place. `Alone` is an instruction after
-/// which not any activity may follow.
+/// stack is, for what pushes and for what pops; whether a jump is taken; or its whole place.
 #[derive(Clone, Copy, Debug, PartialEq, Eq, Drop)]
 pub enum Cost {
     Fixed,
@@ -9,5 +8,4 @@ pub enum Cost {
     Pops,
     When,
     Placed,
-    Alone,
 }

@@ -1,11 +1,11 @@
 // What instructions do over a bus, with the address after them at hand: those that lead elsewhere.
 ghost use Rattle.std.specs.Prelude.{◌≡◌, ◌+◌, ◌≤◌, ◌%◌};
-ghost use Rattle.kc_exec_spec.specs.declared.cpu.After.TheVariants.{Next};
 ghost use Rattle.kc_exec_spec.specs.declared.plan.Plan.TheVariants.{Jump as Goes};
 ghost use Rattle.kc_exec_spec.specs.declared.plan.Route.TheVariants as goes;
-ghost use Rattle.kc_exec_spec.specs.Effect.{Gives, run};
+ghost use Rattle.kc_exec_spec.specs.Effect.{run};
 ghost use Rattle.kc_exec_spec.specs.Effects.{planned};
 ghost use Rattle.kc_exec_spec.specs.Jumping.{next_pc, branch_pc};
+ghost use Rattle.kc_exec_ready.specs.Preparing.{GoesOn};
 
 use crate::here::Here;
 use kc_base::Kind;
@@ -15,21 +15,10 @@ use kc_exec_operands::{pop_word, push_word, read_register};
 use kc_exec_spec::{Cpu, Route, Test};
 use kc_isa::Insn;
 
-/// The registers after an instruction that keeps the PSW and leads to an address.
 #[inline(always)]
-fn arrived(here: Here, pc: u16) -> Cpu
-    ensures { result ≡ record { pc = pc; psw_high = here.cpu.psw_high } }
-{
-    Cpu {
-        pc,
-        psw_high: here.cpu.psw_high,
-    }
-}
-
-#[inline(always)]
-fn branched(here: Here, taken: bool, insn: &Insn) -> u16
-    requires { here.next ≡ next_pc insn.now here.cpu.pc }
-    ensures { result ≡ branch_pc taken insn.now here.cpu.pc }
+fn branched(here: Here, taken: bool, insn: &Insn, cpu: &Cpu) -> u16
+    requires { here.next ≡ next_pc insn.now cpu.now.pc }
+    ensures { result ≡ branch_pc taken insn.now cpu.now.pc }
 {
     if taken {
         here.next.wrapping_add(distance_of(insn.operand))
@@ -40,37 +29,45 @@ fn branched(here: Here, taken: bool, insn: &Insn) -> u16
 
 #[inline(always)]
 #[tactic(auto, using(kc_exec_spec::proofs::Running::run_bind), unfolding(kc_exec_spec::specs::Effects::planned, kc_exec_spec::specs::Jumping::goes))]
-pub(crate) fn go<B: Bus>(bus: &mut B, insn: &Insn, here: Here) -> Result<Cpu, Kind>
-    requires { here.next ≡ next_pc insn.now here.cpu.pc }
-    ensures gives { Gives (λ cpu. (Next, cpu)) result (B.held bus.new) (run B.meaning (planned (Goes goes.Always) insn.now here.wsr here.cpu) (B.held bus.old)) }
+pub(crate) fn go<B: Bus>(bus: &mut B, insn: &Insn, here: Here, cpu: &mut Cpu) -> Result<(), Kind>
+    requires { here.next ≡ next_pc insn.now cpu.old.pc }
+    ensures effect { GoesOn result cpu.old cpu.new (B.held bus.new) (run B.meaning (planned (Goes goes.Always) insn.now here.wsr cpu.old) (B.held bus.old)) }
     ensures spent { B.spent bus.new + B.allowed (B.held bus.old) ≤ B.spent bus.old + B.allowed (B.held bus.new) }
     ensures same { B.lent bus.new ≡ B.lent bus.old }
 {
-    Ok(arrived(here, branched(here, true, insn)))
+    cpu.pc = branched(here, true, insn, cpu);
+    Ok(())
 }
 
 #[inline(always)]
 #[tactic(auto, using(kc_exec_spec::proofs::Running::run_bind), unfolding(kc_exec_spec::specs::Effects::planned, kc_exec_spec::specs::Jumping::goes))]
-pub(crate) fn call<B: Bus>(bus: &mut B, insn: &Insn, here: Here) -> Result<Cpu, Kind>
-    requires { here.next ≡ next_pc insn.now here.cpu.pc }
-    ensures gives { Gives (λ cpu. (Next, cpu)) result (B.held bus.new) (run B.meaning (planned (Goes goes.Call) insn.now here.wsr here.cpu) (B.held bus.old)) }
+pub(crate) fn call<B: Bus>(bus: &mut B, insn: &Insn, here: Here, cpu: &mut Cpu) -> Result<(), Kind>
+    requires { here.next ≡ next_pc insn.now cpu.old.pc }
+    ensures effect { GoesOn result cpu.old cpu.new (B.held bus.new) (run B.meaning (planned (Goes goes.Call) insn.now here.wsr cpu.old) (B.held bus.old)) }
     ensures spent { B.spent bus.new + B.allowed (B.held bus.old) ≤ B.spent bus.old + B.allowed (B.held bus.new) }
     ensures same { B.lent bus.new ≡ B.lent bus.old }
 {
     push_word(bus, here.next)?;
-    Ok(arrived(here, branched(here, true, insn)))
+    cpu.pc = branched(here, true, insn, cpu);
+    Ok(())
 }
 
 #[inline(always)]
 #[tactic(auto, using(kc_exec_spec::proofs::Running::run_bind), unfolding(kc_exec_spec::specs::Effects::planned, kc_exec_spec::specs::Jumping::goes))]
-pub(crate) fn come_back<B: Bus>(bus: &mut B, insn: &Insn, here: Here) -> Result<Cpu, Kind>
-    requires { here.next ≡ next_pc insn.now here.cpu.pc }
-    ensures gives { Gives (λ cpu. (Next, cpu)) result (B.held bus.new) (run B.meaning (planned (Goes goes.Return) insn.now here.wsr here.cpu) (B.held bus.old)) }
+pub(crate) fn come_back<B: Bus>(
+    bus: &mut B,
+    insn: &Insn,
+    here: Here,
+    cpu: &mut Cpu,
+) -> Result<(), Kind>
+    requires { here.next ≡ next_pc insn.now cpu.old.pc }
+    ensures effect { GoesOn result cpu.old cpu.new (B.held bus.new) (run B.meaning (planned (Goes goes.Return) insn.now here.wsr cpu.old) (B.held bus.old)) }
     ensures spent { B.spent bus.new + B.allowed (B.held bus.old) ≤ B.spent bus.old + B.allowed (B.held bus.new) }
     ensures same { B.lent bus.new ≡ B.lent bus.old }
 {
     let pc = pop_word(bus)?;
-    Ok(arrived(here, pc))
+    cpu.pc = pc;
+    Ok(())
 }
 
 #[inline(always)]
@@ -81,17 +78,17 @@ pub(crate) fn go_where<B: Bus>(
     wanted: bool,
     insn: &Insn,
     here: Here,
-) -> Result<Cpu, Kind>
-    requires { here.next ≡ next_pc insn.now here.cpu.pc }
-    ensures gives { Gives (λ cpu. (Next, cpu)) result (B.held bus.new) (run B.meaning (planned (Goes (goes.When test wanted)) insn.now here.wsr here.cpu) (B.held bus.old)) }
+    cpu: &mut Cpu,
+) -> Result<(), Kind>
+    requires { here.next ≡ next_pc insn.now cpu.old.pc }
+    ensures effect { GoesOn result cpu.old cpu.new (B.held bus.new) (run B.meaning (planned (Goes (goes.When test wanted)) insn.now here.wsr cpu.old) (B.held bus.old)) }
     ensures spent { B.spent bus.new + B.allowed (B.held bus.old) ≤ B.spent bus.old + B.allowed (B.held bus.new) }
     ensures same { B.lent bus.new ≡ B.lent bus.old }
 {
-    let taken = is_met(test, wanted, here.cpu.psw_high);
-    Ok(Cpu {
-        pc: branched(here, taken, insn),
-        psw_high: psw_behind(Route::When(test, wanted), here.cpu.psw_high),
-    })
+    let taken = is_met(test, wanted, cpu.psw_high);
+    cpu.pc = branched(here, taken, insn, cpu);
+    cpu.psw_high = psw_behind(Route::When(test, wanted), cpu.psw_high);
+    Ok(())
 }
 
 #[inline(always)]
@@ -101,14 +98,16 @@ pub(crate) fn go_on_bit<B: Bus>(
     set: bool,
     insn: &Insn,
     here: Here,
-) -> Result<Cpu, Kind>
-    requires { here.next ≡ next_pc insn.now here.cpu.pc }
-    ensures gives { Gives (λ cpu. (Next, cpu)) result (B.held bus.new) (run B.meaning (planned (Goes (goes.Bit set)) insn.now here.wsr here.cpu) (B.held bus.old)) }
+    cpu: &mut Cpu,
+) -> Result<(), Kind>
+    requires { here.next ≡ next_pc insn.now cpu.old.pc }
+    ensures effect { GoesOn result cpu.old cpu.new (B.held bus.new) (run B.meaning (planned (Goes (goes.Bit set)) insn.now here.wsr cpu.old) (B.held bus.old)) }
     ensures spent { B.spent bus.new + B.allowed (B.held bus.old) ≤ B.spent bus.old + B.allowed (B.held bus.new) }
     ensures same { B.lent bus.new ≡ B.lent bus.old }
 {
     let taken = is_bit_jump(bus, set, insn.opcode % 8, here.wsr, insn.regs[0])?;
-    Ok(arrived(here, branched(here, taken, insn)))
+    cpu.pc = branched(here, taken, insn, cpu);
+    Ok(())
 }
 
 #[inline(always)]
@@ -118,36 +117,50 @@ pub(crate) fn count_down<B: Bus>(
     byte: bool,
     insn: &Insn,
     here: Here,
-) -> Result<Cpu, Kind>
-    requires { here.next ≡ next_pc insn.now here.cpu.pc }
-    ensures gives { Gives (λ cpu. (Next, cpu)) result (B.held bus.new) (run B.meaning (planned (Goes (goes.CountDown byte)) insn.now here.wsr here.cpu) (B.held bus.old)) }
+    cpu: &mut Cpu,
+) -> Result<(), Kind>
+    requires { here.next ≡ next_pc insn.now cpu.old.pc }
+    ensures effect { GoesOn result cpu.old cpu.new (B.held bus.new) (run B.meaning (planned (Goes (goes.CountDown byte)) insn.now here.wsr cpu.old) (B.held bus.old)) }
     ensures spent { B.spent bus.new + B.allowed (B.held bus.old) ≤ B.spent bus.old + B.allowed (B.held bus.new) }
     ensures same { B.lent bus.new ≡ B.lent bus.old }
 {
     let taken = is_counted(bus, byte, here.wsr, insn.regs[0])?;
-    Ok(arrived(here, branched(here, taken, insn)))
+    cpu.pc = branched(here, taken, insn, cpu);
+    Ok(())
 }
 
 #[inline(always)]
 #[tactic(auto, using(kc_exec_spec::proofs::Running::run_bind), unfolding(kc_exec_spec::specs::Effects::planned, kc_exec_spec::specs::Jumping::goes))]
-pub(crate) fn go_by_table<B: Bus>(bus: &mut B, insn: &Insn, here: Here) -> Result<Cpu, Kind>
-    requires { here.next ≡ next_pc insn.now here.cpu.pc }
-    ensures gives { Gives (λ cpu. (Next, cpu)) result (B.held bus.new) (run B.meaning (planned (Goes goes.Table) insn.now here.wsr here.cpu) (B.held bus.old)) }
+pub(crate) fn go_by_table<B: Bus>(
+    bus: &mut B,
+    insn: &Insn,
+    here: Here,
+    cpu: &mut Cpu,
+) -> Result<(), Kind>
+    requires { here.next ≡ next_pc insn.now cpu.old.pc }
+    ensures effect { GoesOn result cpu.old cpu.new (B.held bus.new) (run B.meaning (planned (Goes goes.Table) insn.now here.wsr cpu.old) (B.held bus.old)) }
     ensures spent { B.spent bus.new + B.allowed (B.held bus.old) ≤ B.spent bus.old + B.allowed (B.held bus.new) }
     ensures same { B.lent bus.new ≡ B.lent bus.old }
 {
     let pc = read_table(bus, here.wsr, insn)?;
-    Ok(arrived(here, pc))
+    cpu.pc = pc;
+    Ok(())
 }
 
 #[inline(always)]
 #[tactic(auto, using(kc_exec_spec::proofs::Running::run_bind), unfolding(kc_exec_spec::specs::Effects::planned, kc_exec_spec::specs::Jumping::goes))]
-pub(crate) fn go_by_register<B: Bus>(bus: &mut B, insn: &Insn, here: Here) -> Result<Cpu, Kind>
-    requires { here.next ≡ next_pc insn.now here.cpu.pc }
-    ensures gives { Gives (λ cpu. (Next, cpu)) result (B.held bus.new) (run B.meaning (planned (Goes goes.Register) insn.now here.wsr here.cpu) (B.held bus.old)) }
+pub(crate) fn go_by_register<B: Bus>(
+    bus: &mut B,
+    insn: &Insn,
+    here: Here,
+    cpu: &mut Cpu,
+) -> Result<(), Kind>
+    requires { here.next ≡ next_pc insn.now cpu.old.pc }
+    ensures effect { GoesOn result cpu.old cpu.new (B.held bus.new) (run B.meaning (planned (Goes goes.Register) insn.now here.wsr cpu.old) (B.held bus.old)) }
     ensures spent { B.spent bus.new + B.allowed (B.held bus.old) ≤ B.spent bus.old + B.allowed (B.held bus.new) }
     ensures same { B.lent bus.new ≡ B.lent bus.old }
 {
     let pc = read_register(bus, false, here.wsr, insn.regs[0])?;
-    Ok(arrived(here, pc))
+    cpu.pc = pc;
+    Ok(())
 }

@@ -16,4 +16,4 @@ pub use cost::Cost;
 pub use preparing::prepare;
 pub use ready::Ready;
 pub use rows::perform_ready;
-pub use timing::{is_followed_freely, time_of};
+pub use timing::{is_followed_freely, is_told, time_of, told_time_of};

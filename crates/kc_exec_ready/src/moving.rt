@@ -1,13 +1,12 @@
 // What instructions do over a bus, with the address after them at hand: those that move a number.
 ghost use Rattle.std.specs.Prelude.{◌≡◌, ◌+◌, ◌≤◌};
-ghost use Rattle.kc_exec_spec.specs.declared.cpu.After.TheVariants.{Next};
 ghost use Rattle.kc_exec_spec.specs.declared.plan.Plan.TheVariants.{Move as Moves};
 ghost use Rattle.kc_exec_spec.specs.declared.plan.Movement.TheVariants as moves;
-ghost use Rattle.kc_exec_spec.specs.Effect.{Gives, run};
+ghost use Rattle.kc_exec_spec.specs.Effect.{run};
 ghost use Rattle.kc_exec_spec.specs.Effects.{planned};
 ghost use Rattle.kc_exec_spec.specs.Jumping.{next_pc};
+ghost use Rattle.kc_exec_ready.specs.Preparing.{GoesOn};
 
-use crate::computing::kept;
 use crate::here::Here;
 use kc_base::Kind;
 use kc_bus::Bus;
@@ -17,50 +16,76 @@ use kc_isa::Insn;
 
 #[inline(always)]
 #[tactic(auto, using(kc_exec_spec::proofs::Running::run_bind), unfolding(kc_exec_spec::specs::Effects::planned, kc_exec_spec::specs::Moving::move_data))]
-pub(crate) fn load<B: Bus>(bus: &mut B, byte: bool, insn: &Insn, here: Here) -> Result<Cpu, Kind>
-    requires { here.next ≡ next_pc insn.now here.cpu.pc }
-    ensures gives { Gives (λ cpu. (Next, cpu)) result (B.held bus.new) (run B.meaning (planned (Moves (moves.Load byte)) insn.now here.wsr here.cpu) (B.held bus.old)) }
+pub(crate) fn load<B: Bus>(
+    bus: &mut B,
+    byte: bool,
+    insn: &Insn,
+    here: Here,
+    cpu: &mut Cpu,
+) -> Result<(), Kind>
+    requires { here.next ≡ next_pc insn.now cpu.old.pc }
+    ensures effect { GoesOn result cpu.old cpu.new (B.held bus.new) (run B.meaning (planned (Moves (moves.Load byte)) insn.now here.wsr cpu.old) (B.held bus.old)) }
     ensures spent { B.spent bus.new + B.allowed (B.held bus.old) ≤ B.spent bus.old + B.allowed (B.held bus.new) }
     ensures same { B.lent bus.new ≡ B.lent bus.old }
 {
     do_load(bus, byte, here.wsr, insn)?;
-    Ok(kept(here))
+    cpu.pc = here.next;
+    Ok(())
 }
 
 #[inline(always)]
 #[tactic(auto, using(kc_exec_spec::proofs::Running::run_bind), unfolding(kc_exec_spec::specs::Effects::planned, kc_exec_spec::specs::Moving::move_data))]
-pub(crate) fn load_zeros<B: Bus>(bus: &mut B, insn: &Insn, here: Here) -> Result<Cpu, Kind>
-    requires { here.next ≡ next_pc insn.now here.cpu.pc }
-    ensures gives { Gives (λ cpu. (Next, cpu)) result (B.held bus.new) (run B.meaning (planned (Moves moves.ZeroExtend) insn.now here.wsr here.cpu) (B.held bus.old)) }
+pub(crate) fn load_zeros<B: Bus>(
+    bus: &mut B,
+    insn: &Insn,
+    here: Here,
+    cpu: &mut Cpu,
+) -> Result<(), Kind>
+    requires { here.next ≡ next_pc insn.now cpu.old.pc }
+    ensures effect { GoesOn result cpu.old cpu.new (B.held bus.new) (run B.meaning (planned (Moves moves.ZeroExtend) insn.now here.wsr cpu.old) (B.held bus.old)) }
     ensures spent { B.spent bus.new + B.allowed (B.held bus.old) ≤ B.spent bus.old + B.allowed (B.held bus.new) }
     ensures same { B.lent bus.new ≡ B.lent bus.old }
 {
     do_load_extended(bus, false, here.wsr, insn)?;
-    Ok(kept(here))
+    cpu.pc = here.next;
+    Ok(())
 }
 
 #[inline(always)]
 #[tactic(auto, using(kc_exec_spec::proofs::Running::run_bind), unfolding(kc_exec_spec::specs::Effects::planned, kc_exec_spec::specs::Moving::move_data))]
-pub(crate) fn load_sign<B: Bus>(bus: &mut B, insn: &Insn, here: Here) -> Result<Cpu, Kind>
-    requires { here.next ≡ next_pc insn.now here.cpu.pc }
-    ensures gives { Gives (λ cpu. (Next, cpu)) result (B.held bus.new) (run B.meaning (planned (Moves moves.SignExtend) insn.now here.wsr here.cpu) (B.held bus.old)) }
+pub(crate) fn load_sign<B: Bus>(
+    bus: &mut B,
+    insn: &Insn,
+    here: Here,
+    cpu: &mut Cpu,
+) -> Result<(), Kind>
+    requires { here.next ≡ next_pc insn.now cpu.old.pc }
+    ensures effect { GoesOn result cpu.old cpu.new (B.held bus.new) (run B.meaning (planned (Moves moves.SignExtend) insn.now here.wsr cpu.old) (B.held bus.old)) }
     ensures spent { B.spent bus.new + B.allowed (B.held bus.old) ≤ B.spent bus.old + B.allowed (B.held bus.new) }
     ensures same { B.lent bus.new ≡ B.lent bus.old }
 {
     do_load_extended(bus, true, here.wsr, insn)?;
-    Ok(kept(here))
+    cpu.pc = here.next;
+    Ok(())
 }
 
 #[inline(always)]
 #[tactic(auto, using(kc_exec_spec::proofs::Running::run_bind), unfolding(kc_exec_spec::specs::Effects::planned, kc_exec_spec::specs::Moving::move_data))]
-pub(crate) fn store<B: Bus>(bus: &mut B, byte: bool, insn: &Insn, here: Here) -> Result<Cpu, Kind>
-    requires { here.next ≡ next_pc insn.now here.cpu.pc }
-    ensures gives { Gives (λ cpu. (Next, cpu)) result (B.held bus.new) (run B.meaning (planned (Moves (moves.Store byte)) insn.now here.wsr here.cpu) (B.held bus.old)) }
+pub(crate) fn store<B: Bus>(
+    bus: &mut B,
+    byte: bool,
+    insn: &Insn,
+    here: Here,
+    cpu: &mut Cpu,
+) -> Result<(), Kind>
+    requires { here.next ≡ next_pc insn.now cpu.old.pc }
+    ensures effect { GoesOn result cpu.old cpu.new (B.held bus.new) (run B.meaning (planned (Moves (moves.Store byte)) insn.now here.wsr cpu.old) (B.held bus.old)) }
     ensures spent { B.spent bus.new + B.allowed (B.held bus.old) ≤ B.spent bus.old + B.allowed (B.held bus.new) }
     ensures same { B.lent bus.new ≡ B.lent bus.old }
 {
     do_store(bus, byte, here.wsr, insn)?;
-    Ok(kept(here))
+    cpu.pc = here.next;
+    Ok(())
 }
 
 #[inline(always)]
@@ -70,36 +95,40 @@ pub(crate) fn exchange<B: Bus>(
     byte: bool,
     insn: &Insn,
     here: Here,
-) -> Result<Cpu, Kind>
-    requires { here.next ≡ next_pc insn.now here.cpu.pc }
-    ensures gives { Gives (λ cpu. (Next, cpu)) result (B.held bus.new) (run B.meaning (planned (Moves (moves.Exchange byte)) insn.now here.wsr here.cpu) (B.held bus.old)) }
+    cpu: &mut Cpu,
+) -> Result<(), Kind>
+    requires { here.next ≡ next_pc insn.now cpu.old.pc }
+    ensures effect { GoesOn result cpu.old cpu.new (B.held bus.new) (run B.meaning (planned (Moves (moves.Exchange byte)) insn.now here.wsr cpu.old) (B.held bus.old)) }
     ensures spent { B.spent bus.new + B.allowed (B.held bus.old) ≤ B.spent bus.old + B.allowed (B.held bus.new) }
     ensures same { B.lent bus.new ≡ B.lent bus.old }
 {
     do_exchange(bus, byte, here.wsr, insn)?;
-    Ok(kept(here))
+    cpu.pc = here.next;
+    Ok(())
 }
 
 #[inline(always)]
 #[tactic(auto, using(kc_exec_spec::proofs::Running::run_bind), unfolding(kc_exec_spec::specs::Effects::planned, kc_exec_spec::specs::Moving::move_data))]
-pub(crate) fn push<B: Bus>(bus: &mut B, insn: &Insn, here: Here) -> Result<Cpu, Kind>
-    requires { here.next ≡ next_pc insn.now here.cpu.pc }
-    ensures gives { Gives (λ cpu. (Next, cpu)) result (B.held bus.new) (run B.meaning (planned (Moves moves.Push) insn.now here.wsr here.cpu) (B.held bus.old)) }
+pub(crate) fn push<B: Bus>(bus: &mut B, insn: &Insn, here: Here, cpu: &mut Cpu) -> Result<(), Kind>
+    requires { here.next ≡ next_pc insn.now cpu.old.pc }
+    ensures effect { GoesOn result cpu.old cpu.new (B.held bus.new) (run B.meaning (planned (Moves moves.Push) insn.now here.wsr cpu.old) (B.held bus.old)) }
     ensures spent { B.spent bus.new + B.allowed (B.held bus.old) ≤ B.spent bus.old + B.allowed (B.held bus.new) }
     ensures same { B.lent bus.new ≡ B.lent bus.old }
 {
     do_push(bus, here.wsr, insn)?;
-    Ok(kept(here))
+    cpu.pc = here.next;
+    Ok(())
 }
 
 #[inline(always)]
 #[tactic(auto, using(kc_exec_spec::proofs::Running::run_bind), unfolding(kc_exec_spec::specs::Effects::planned, kc_exec_spec::specs::Moving::move_data))]
-pub(crate) fn pop<B: Bus>(bus: &mut B, insn: &Insn, here: Here) -> Result<Cpu, Kind>
-    requires { here.next ≡ next_pc insn.now here.cpu.pc }
-    ensures gives { Gives (λ cpu. (Next, cpu)) result (B.held bus.new) (run B.meaning (planned (Moves moves.Pop) insn.now here.wsr here.cpu) (B.held bus.old)) }
+pub(crate) fn pop<B: Bus>(bus: &mut B, insn: &Insn, here: Here, cpu: &mut Cpu) -> Result<(), Kind>
+    requires { here.next ≡ next_pc insn.now cpu.old.pc }
+    ensures effect { GoesOn result cpu.old cpu.new (B.held bus.new) (run B.meaning (planned (Moves moves.Pop) insn.now here.wsr cpu.old) (B.held bus.old)) }
     ensures spent { B.spent bus.new + B.allowed (B.held bus.old) ≤ B.spent bus.old + B.allowed (B.held bus.new) }
     ensures same { B.lent bus.new ≡ B.lent bus.old }
 {
     do_pop(bus, here.wsr, insn)?;
-    Ok(kept(here))
+    cpu.pc = here.next;
+    Ok(())
 }

@@ -92,9 +92,7 @@ fn cost_among(points: bool, pushes: bool, pops: bool, when: bool) -> Cost
 fn cost_of(plan: Plan, operand: Operand) -> Cost
     ensures { result ≡ cost_of plan operand }
 {
-    if !is_free(plan) {
-        Cost::Alone
-    } else if is_normalize(plan) || is_counting(operand) {
+    if is_normalize(plan) || is_counting(operand) {
         Cost::Placed
     } else {
         cost_among(
@@ -121,7 +119,7 @@ fn place_when(cost: Cost, shifts: u8, holds: bool) -> Place
         Cost::Points => place.operand_memory = holds,
         Cost::Pushes | Cost::Pops => place.stack_memory = holds,
         Cost::When => place.taken = holds,
-        Cost::Fixed | Cost::Placed | Cost::Alone => {}
+        Cost::Fixed | Cost::Placed => {}
     }
     place
 }
@@ -149,6 +147,7 @@ fn made_ready(insn: &Insn, mnemonic: Mnemonic) -> Ready
     Ready {
         insn: *insn,
         mnemonic,
+        free: is_free(plan),
         length: length(insn),
         cost,
         test,

@@ -1,15 +1,18 @@
-ghost use Rattle.std.specs.Prelude.{◌≡◌};
+ghost use Rattle.std.specs.Prelude.{◌≡◌, true};
+ghost use Rattle.kc_exec_ready.specs.Preparing.{is_blank};
 
 use crate::cost::Cost;
 use kc_exec_spec::Test;
 use kc_isa::{Insn, Mnemonic, Operand};
 
-/// An instruction with what is told of it once: its length in bytes; what its states depend on, with the test of a conditional
-/// jump and what it has to be; and its states where that does not hold (`base`) and where it holds (`other`).
+/// An instruction with what is told of it once: whether any activity may follow (`free`); its length in bytes; what its states
+/// depend on, with the test of a conditional jump and what it has to be; and its states where that does not hold (`base`) and
+/// where it holds (`other`).
 #[derive(Clone, Copy, Debug, PartialEq, Eq, Drop)]
 pub struct Ready {
     pub insn: Insn,
     pub mnemonic: Mnemonic,
+    pub free: bool,
     pub length: u8,
     pub cost: Cost,
     pub test: Test,
@@ -21,8 +24,7 @@ pub struct Ready {
 impl Ready {
     /// What tells nothing: an instruction of no bytes, after which not any activity may follow.
     pub fn blank() -> Ready
-        ensures alone { result.cost ≡ Cost.Alone }
-        ensures none { result.length ≡ 0 }
+        ensures { is_blank result ≡ true }
     {
         Ready {
             insn: Insn {
@@ -32,12 +34,20 @@ impl Ready {
                 regs: [0; 3],
             },
             mnemonic: Mnemonic::Skip,
+            free: false,
             length: 0,
-            cost: Cost::Alone,
+            cost: Cost::Fixed,
             test: Test::Sticky,
             wanted: false,
             base: 0,
             other: 0,
         }
+    }
+
+    /// Whether nothing is told.
+    pub fn is_blank(&self) -> bool
+        ensures { result ≡ is_blank self.now }
+    {
+        !self.free && self.length == 0
     }
 }

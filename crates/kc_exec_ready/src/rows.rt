@@ -1,8 +1,7 @@
 // A prepared instruction is performed by one match on its mnemonic.
 ghost use Rattle.std.specs.Prelude.{◌≡◌, ◌+◌, ◌≤◌, true};
-ghost use Rattle.kc_exec_spec.specs.declared.cpu.After.TheVariants.{Next};
 ghost use Rattle.kc_exec_spec.specs.declared.plan.Plan.TheVariants.{Set as Sets};
-ghost use Rattle.kc_exec_spec.specs.Effect.{Gives, run};
+ghost use Rattle.kc_exec_spec.specs.Effect.{run};
 ghost use Rattle.kc_exec_spec.specs.Effects.{planned, effect_of};
 ghost use Rattle.kc_exec_spec.specs.Jumping.{next_pc};
 ghost use Rattle.kc_exec_spec.specs.Plans.{plan_of};
@@ -24,16 +23,21 @@ use kc_isa::{Insn, Mnemonic};
 
 #[inline(always)]
 #[tactic(auto, unfolding(kc_exec_spec::specs::Effects::planned))]
-fn set<B: Bus>(bus: &mut B, bit: Setting, insn: &Insn, here: Here) -> Result<Cpu, Kind>
+fn set<B: Bus>(
+    bus: &mut B,
+    bit: Setting,
+    insn: &Insn,
+    here: Here,
+    cpu: &mut Cpu,
+) -> Result<(), Kind>
     requires free { is_free_setting bit ≡ true }
-    requires next { here.next ≡ next_pc insn.now here.cpu.pc }
-    ensures gives { Gives (λ cpu. (Next, cpu)) result (B.held bus.new) (run B.meaning (planned (Sets bit) insn.now here.wsr here.cpu) (B.held bus.old)) }
+    requires next { here.next ≡ next_pc insn.now cpu.old.pc }
+    ensures effect { GoesOn result cpu.old cpu.new (B.held bus.new) (run B.meaning (planned (Sets bit) insn.now here.wsr cpu.old) (B.held bus.old)) }
     ensures same { bus.new ≡ bus.old }
 {
-    Ok(Cpu {
-        pc: here.next,
-        psw_high: set_bit(bit, here.cpu.psw_high),
-    })
+    cpu.pc = here.next;
+    cpu.psw_high = set_bit(bit, cpu.psw_high);
+    Ok(())
 }
 
 // One arm for each mnemonic: what is in none of them does nothing, or is followed by what not any activity is.
@@ -42,101 +46,143 @@ fn perform_row<B: Bus>(
     mnemonic: Mnemonic,
     insn: &Insn,
     here: Here,
+    cpu: &mut Cpu,
     bus: &mut B,
-) -> Result<Cpu, Kind>
+) -> Result<(), Kind>
     requires free { is_free (plan_of mnemonic) ≡ true }
-    requires next { here.next ≡ next_pc insn.now here.cpu.pc }
-    ensures gives { Gives (λ cpu. (Next, cpu)) result (B.held bus.new) (run B.meaning (planned (plan_of mnemonic) insn.now here.wsr here.cpu) (B.held bus.old)) }
+    requires next { here.next ≡ next_pc insn.now cpu.old.pc }
+    ensures effect { GoesOn result cpu.old cpu.new (B.held bus.new) (run B.meaning (planned (plan_of mnemonic) insn.now here.wsr cpu.old) (B.held bus.old)) }
     ensures spent { B.spent bus.new + B.allowed (B.held bus.old) ≤ B.spent bus.old + B.allowed (B.held bus.new) }
     ensures same { B.lent bus.new ≡ B.lent bus.old }
 {
     match mnemonic {
-        Mnemonic::Add => operate(bus, Operation::Add, false, insn, here),
-        Mnemonic::Addb => operate(bus, Operation::Add, true, insn, here),
-        Mnemonic::Addc => operate(bus, Operation::AddCarry, false, insn, here),
-        Mnemonic::Addcb => operate(bus, Operation::AddCarry, true, insn, here),
-        Mnemonic::Sub => operate(bus, Operation::Sub, false, insn, here),
-        Mnemonic::Subb => operate(bus, Operation::Sub, true, insn, here),
-        Mnemonic::Subc => operate(bus, Operation::SubBorrow, false, insn, here),
-        Mnemonic::Subcb => operate(bus, Operation::SubBorrow, true, insn, here),
-        Mnemonic::Cmp => operate(bus, Operation::Compare, false, insn, here),
-        Mnemonic::Cmpb => operate(bus, Operation::Compare, true, insn, here),
-        Mnemonic::And => operate(bus, Operation::And, false, insn, here),
-        Mnemonic::Andb => operate(bus, Operation::And, true, insn, here),
-        Mnemonic::Or => operate(bus, Operation::Or, false, insn, here),
-        Mnemonic::Orb => operate(bus, Operation::Or, true, insn, here),
-        Mnemonic::Xor => operate(bus, Operation::Xor, false, insn, here),
-        Mnemonic::Xorb => operate(bus, Operation::Xor, true, insn, here),
-        Mnemonic::Clr => alter(bus, Alteration::Clear, false, insn, here),
-        Mnemonic::Clrb => alter(bus, Alteration::Clear, true, insn, here),
-        Mnemonic::Not => alter(bus, Alteration::Complement, false, insn, here),
-        Mnemonic::Notb => alter(bus, Alteration::Complement, true, insn, here),
-        Mnemonic::Neg => alter(bus, Alteration::Negate, false, insn, here),
-        Mnemonic::Negb => alter(bus, Alteration::Negate, true, insn, here),
-        Mnemonic::Inc => alter(bus, Alteration::Increment, false, insn, here),
-        Mnemonic::Incb => alter(bus, Alteration::Increment, true, insn, here),
-        Mnemonic::Dec => alter(bus, Alteration::Decrement, false, insn, here),
-        Mnemonic::Decb => alter(bus, Alteration::Decrement, true, insn, here),
-        Mnemonic::Shl => shift(bus, Shift::Left, Size::Word, insn, here),
-        Mnemonic::Shlb => shift(bus, Shift::Left, Size::Byte, insn, here),
-        Mnemonic::Shll => shift(bus, Shift::Left, Size::Long, insn, here),
-        Mnemonic::Shr => shift(bus, Shift::Right, Size::Word, insn, here),
-        Mnemonic::Shrb => shift(bus, Shift::Right, Size::Byte, insn, here),
-        Mnemonic::Shrl => shift(bus, Shift::Right, Size::Long, insn, here),
-        Mnemonic::Shra => shift(bus, Shift::Signed, Size::Word, insn, here),
-        Mnemonic::Shrab => shift(bus, Shift::Signed, Size::Byte, insn, here),
-        Mnemonic::Shral => shift(bus, Shift::Signed, Size::Long, insn, here),
-        Mnemonic::Ext => extend(bus, false, insn, here),
-        Mnemonic::Extb => extend(bus, true, insn, here),
-        Mnemonic::Norml => normalize(bus, insn, here),
-        Mnemonic::Mulu => multiply(bus, false, false, insn, here),
-        Mnemonic::Mulub => multiply(bus, false, true, insn, here),
-        Mnemonic::Mul => multiply(bus, true, false, insn, here),
-        Mnemonic::Mulb => multiply(bus, true, true, insn, here),
-        Mnemonic::Divu => divide(bus, false, false, insn, here),
-        Mnemonic::Divub => divide(bus, false, true, insn, here),
-        Mnemonic::Div => divide(bus, true, false, insn, here),
-        Mnemonic::Divb => divide(bus, true, true, insn, here),
-        Mnemonic::Cmpl => compare_long(bus, insn, here),
-        Mnemonic::Ld => load(bus, false, insn, here),
-        Mnemonic::Ldb => load(bus, true, insn, here),
-        Mnemonic::Ldbze => load_zeros(bus, insn, here),
-        Mnemonic::Ldbse => load_sign(bus, insn, here),
-        Mnemonic::St => store(bus, false, insn, here),
-        Mnemonic::Stb => store(bus, true, insn, here),
-        Mnemonic::Xch => exchange(bus, false, insn, here),
-        Mnemonic::Xchb => exchange(bus, true, insn, here),
-        Mnemonic::Push => push(bus, insn, here),
-        Mnemonic::Pop => pop(bus, insn, here),
-        Mnemonic::Sjmp | Mnemonic::Ljmp => go(bus, insn, here),
-        Mnemonic::Scall | Mnemonic::Lcall => call(bus, insn, here),
-        Mnemonic::Ret => come_back(bus, insn, here),
-        Mnemonic::Jbs => go_on_bit(bus, true, insn, here),
-        Mnemonic::Jbc => go_on_bit(bus, false, insn, here),
-        Mnemonic::Djnz => count_down(bus, true, insn, here),
-        Mnemonic::Djnzw => count_down(bus, false, insn, here),
-        Mnemonic::Br => go_by_register(bus, insn, here),
-        Mnemonic::Tijmp => go_by_table(bus, insn, here),
-        Mnemonic::Jst => go_where(bus, Test::Sticky, true, insn, here),
-        Mnemonic::Jnst => go_where(bus, Test::Sticky, false, insn, here),
-        Mnemonic::Jh => go_where(bus, Test::Higher, true, insn, here),
-        Mnemonic::Jnh => go_where(bus, Test::Higher, false, insn, here),
-        Mnemonic::Jle => go_where(bus, Test::LessOrEqual, true, insn, here),
-        Mnemonic::Jgt => go_where(bus, Test::LessOrEqual, false, insn, here),
-        Mnemonic::Jc => go_where(bus, Test::Carry, true, insn, here),
-        Mnemonic::Jnc => go_where(bus, Test::Carry, false, insn, here),
-        Mnemonic::Jvt => go_where(bus, Test::OverflowTrap, true, insn, here),
-        Mnemonic::Jnvt => go_where(bus, Test::OverflowTrap, false, insn, here),
-        Mnemonic::Jv => go_where(bus, Test::Overflow, true, insn, here),
-        Mnemonic::Jnv => go_where(bus, Test::Overflow, false, insn, here),
-        Mnemonic::Jlt => go_where(bus, Test::Less, true, insn, here),
-        Mnemonic::Jge => go_where(bus, Test::Less, false, insn, here),
-        Mnemonic::Je => go_where(bus, Test::Equal, true, insn, here),
-        Mnemonic::Jne => go_where(bus, Test::Equal, false, insn, here),
-        Mnemonic::Clrc => set(bus, Setting::Carry(false), insn, here),
-        Mnemonic::Setc => set(bus, Setting::Carry(true), insn, here),
-        Mnemonic::Clrvt => set(bus, Setting::NoOverflowTrap, insn, here),
-        _ => set(bus, Setting::Nothing, insn, here),
+        Mnemonic::Add => operate(bus, Operation::Add, false, insn, here, cpu),
+        Mnemonic::Addb => operate(bus, Operation::Add, true, insn, here, cpu),
+        Mnemonic::Addc => operate(bus, Operation::AddCarry, false, insn, here, cpu),
+        Mnemonic::Addcb => operate(bus, Operation::AddCarry, true, insn, here, cpu),
+        Mnemonic::Sub => operate(bus, Operation::Sub, false, insn, here, cpu),
+        Mnemonic::Subb => operate(bus, Operation::Sub, true, insn, here, cpu),
+        Mnemonic::Subc => operate(bus, Operation::SubBorrow, false, insn, here, cpu),
+        Mnemonic::Subcb => operate(bus, Operation::SubBorrow, true, insn, here, cpu),
+        Mnemonic::Cmp => operate(bus, Operation::Compare, false, insn, here, cpu),
+        Mnemonic::Cmpb => operate(bus, Operation::Compare, true, insn, here, cpu),
+        Mnemonic::And => operate(bus, Operation::And, false, insn, here, cpu),
+        Mnemonic::Andb => operate(bus, Operation::And, true, insn, here, cpu),
+        Mnemonic::Or => operate(bus, Operation::Or, false, insn, here, cpu),
+        Mnemonic::Orb => operate(bus, Operation::Or, true, insn, here, cpu),
+        Mnemonic::Xor => operate(bus, Operation::Xor, false, insn, here, cpu),
+        Mnemonic::Xorb => operate(bus, Operation::Xor, true, insn, here, cpu),
+        Mnemonic::Clr => alter(bus, Alteration::Clear, false, insn, here, cpu),
+        Mnemonic::Clrb => alter(bus, Alteration::Clear, true, insn, here, cpu),
+        Mnemonic::Not => alter(bus, Alteration::Complement, false, insn, here, cpu),
+        Mnemonic::Notb => alter(bus, Alteration::Complement, true, insn, here, cpu),
+        Mnemonic::Neg => alter(bus, Alteration::Negate, false, insn, here, cpu),
+        Mnemonic::Negb => alter(bus, Alteration::Negate, true, insn, here, cpu),
+        Mnemonic::Inc => alter(bus, Alteration::Increment, false, insn, here, cpu),
+        Mnemonic::Incb => alter(bus, Alteration::Increment, true, insn, here, cpu),
+        Mnemonic::Dec => alter(bus, Alteration::Decrement, false, insn, here, cpu),
+        Mnemonic::Decb => alter(bus, Alteration::Decrement, true, insn, here, cpu),
+        Mnemonic::Shl => shift(bus, Shift::Left, Size::Word, insn, here, cpu),
+        Mnemonic::Shlb => shift(bus, Shift::Left, Size::Byte, insn, here, cpu),
+        Mnemonic::Shll => shift(bus, Shift::Left, Size::Long, insn, here, cpu),
+        Mnemonic::Shr => shift(bus, Shift::Right, Size::Word, insn, here, cpu),
+        Mnemonic::Shrb => shift(bus, Shift::Right, Size::Byte, insn, here, cpu),
+        Mnemonic::Shrl => shift(bus, Shift::Right, Size::Long, insn, here, cpu),
+        Mnemonic::Shra => shift(bus, Shift::Signed, Size::Word, insn, here, cpu),
+        Mnemonic::Shrab => shift(bus, Shift::Signed, Size::Byte, insn, here, cpu),
+        Mnemonic::Shral => shift(bus, Shift::Signed, Size::Long, insn, here, cpu),
+        Mnemonic::Ext => extend(bus, false, insn, here, cpu),
+        Mnemonic::Extb => extend(bus, true, insn, here, cpu),
+        Mnemonic::Norml => normalize(bus, insn, here, cpu),
+        Mnemonic::Mulu => multiply(bus, false, false, insn, here, cpu),
+        Mnemonic::Mulub => multiply(bus, false, true, insn, here, cpu),
+        Mnemonic::Mul => multiply(bus, true, false, insn, here, cpu),
+        Mnemonic::Mulb => multiply(bus, true, true, insn, here, cpu),
+        Mnemonic::Divu => divide(bus, false, false, insn, here, cpu),
+        Mnemonic::Divub => divide(bus, false, true, insn, here, cpu),
+        Mnemonic::Div => divide(bus, true, false, insn, here, cpu),
+        Mnemonic::Divb => divide(bus, true, true, insn, here, cpu),
+        Mnemonic::Cmpl => compare_long(bus, insn, here, cpu),
+        Mnemonic::Ld => load(bus, false, insn, here, cpu),
+        Mnemonic::Ldb => load(bus, true, insn, here, cpu),
+        Mnemonic::Ldbze => load_zeros(bus, insn, here, cpu),
+        Mnemonic::Ldbse => load_sign(bus, insn, here, cpu),
+        Mnemonic::St => store(bus, false, insn, here, cpu),
+        Mnemonic::Stb => store(bus, true, insn, here, cpu),
+        Mnemonic::Xch => exchange(bus, false, insn, here, cpu),
+        Mnemonic::Xchb => exchange(bus, true, insn, here, cpu),
+        Mnemonic::Push => push(bus, insn, here, cpu),
+        Mnemonic::Pop => pop(bus, insn, here, cpu),
+        Mnemonic::Sjmp | Mnemonic::Ljmp => go(bus, insn, here, cpu),
+        Mnemonic::Scall | Mnemonic::Lcall => call(bus, insn, here, cpu),
+        Mnemonic::Ret => come_back(bus, insn, here, cpu),
+        Mnemonic::Jbs => go_on_bit(bus, true, insn, here, cpu),
+        Mnemonic::Jbc => go_on_bit(bus, false, insn, here, cpu),
+        Mnemonic::Djnz => count_down(bus, true, insn, here, cpu),
+        Mnemonic::Djnzw => count_down(bus, false, insn, here, cpu),
+        Mnemonic::Br => go_by_register(bus, insn, here, cpu),
+        Mnemonic::Tijmp => go_by_table(bus, insn, here, cpu),
+        Mnemonic::Jst => go_where(bus, Test::Sticky, true, insn, here, cpu),
+        Mnemonic::Jnst => go_where(bus, Test::Sticky, false, insn, here, cpu),
+        Mnemonic::Jh => go_where(bus, Test::Higher, true, insn, here, cpu),
+        Mnemonic::Jnh => go_where(bus, Test::Higher, false, insn, here, cpu),
+        Mnemonic::Jle => go_where(bus, Test::LessOrEqual, true, insn, here, cpu),
+        Mnemonic::Jgt => go_where(bus, Test::LessOrEqual, false, insn, here, cpu),
+        Mnemonic::Jc => go_where(bus, Test::Carry, true, insn, here, cpu),
+        Mnemonic::Jnc => go_where(bus, Test::Carry, false, insn, here, cpu),
+        Mnemonic::Jvt => go_where(bus, Test::OverflowTrap, true, insn, here, cpu),
+        Mnemonic::Jnvt => go_where(bus, Test::OverflowTrap, false, insn, here, cpu),
+        Mnemonic::Jv => go_where(bus, Test::Overflow, true, insn, here, cpu),
+        Mnemonic::Jnv => go_where(bus, Test::Overflow, false, insn, here, cpu),
+        Mnemonic::Jlt => go_where(bus, Test::Less, true, insn, here, cpu),
+        Mnemonic::Jge => go_where(bus, Test::Less, false, insn, here, cpu),
+        Mnemonic::Je => go_where(bus, Test::Equal, true, insn, here, cpu),
+        Mnemonic::Jne => go_where(bus, Test::Equal, false, insn, here, cpu),
+        Mnemonic::Clrc => set(bus, Setting::Carry(false), insn, here, cpu),
+        Mnemonic::Setc => set(bus, Setting::Carry(true), insn, here, cpu),
+        Mnemonic::Clrvt => set(bus, Setting::NoOverflowTrap, insn, here, cpu),
+        _ => set(bus, Setting::Nothing, insn, here, cpu),
+    }
+}
+
+// The same out of line, where a window may be open.
+#[cold]
+#[inline(never)]
+fn perform_in_window<B: Bus>(
+    mnemonic: Mnemonic,
+    insn: &Insn,
+    here: Here,
+    cpu: &mut Cpu,
+    bus: &mut B,
+) -> Result<(), Kind>
+    requires free { is_free (plan_of mnemonic) ≡ true }
+    requires next { here.next ≡ next_pc insn.now cpu.old.pc }
+    ensures effect { GoesOn result cpu.old cpu.new (B.held bus.new) (run B.meaning (planned (plan_of mnemonic) insn.now here.wsr cpu.old) (B.held bus.old)) }
+    ensures spent { B.spent bus.new + B.allowed (B.held bus.old) ≤ B.spent bus.old + B.allowed (B.held bus.new) }
+    ensures same { B.lent bus.new ≡ B.lent bus.old }
+{
+    perform_row(mnemonic, insn, here, cpu, bus)
+}
+
+// The same, with WSR asked once.
+#[inline(always)]
+fn perform_here<B: Bus>(
+    mnemonic: Mnemonic,
+    insn: &Insn,
+    here: Here,
+    cpu: &mut Cpu,
+    bus: &mut B,
+) -> Result<(), Kind>
+    requires free { is_free (plan_of mnemonic) ≡ true }
+    requires next { here.next ≡ next_pc insn.now cpu.old.pc }
+    ensures effect { GoesOn result cpu.old cpu.new (B.held bus.new) (run B.meaning (planned (plan_of mnemonic) insn.now here.wsr cpu.old) (B.held bus.old)) }
+    ensures spent { B.spent bus.new + B.allowed (B.held bus.old) ≤ B.spent bus.old + B.allowed (B.held bus.new) }
+    ensures same { B.lent bus.new ≡ B.lent bus.old }
+{
+    if here.wsr == 0 {
+        perform_row(mnemonic, insn, here, cpu, bus)
+    } else {
+        Ok(perform_in_window(mnemonic, insn, here, cpu, bus)?)
     }
 }
 
@@ -152,10 +198,8 @@ pub fn perform_ready<B: Bus>(ready: &Ready, cpu: &mut Cpu, bus: &mut B) -> Resul
     ensures same { B.lent bus.new ≡ B.lent bus.old }
 {
     let here = Here {
-        cpu: *cpu,
         next: cpu.pc.wrapping_add(u16::from(ready.length)),
         wsr: bus.masks().wsr,
     };
-    *cpu = perform_row(ready.mnemonic, &ready.insn, here, bus)?;
-    Ok(())
+    perform_here(ready.mnemonic, &ready.insn, here, cpu, bus)
 }

@@ -57,7 +57,8 @@ use Rattle.kc_kit_inputs.specs.Lines.{coded}
 use Rattle.kc_kit_inputs.specs.Replies.{source_reply, line_reply, byte_reply}
 use Rattle.kc_kit_inputs.specs.Objects.{modules_of, by_object, object_of}
 use Rattle.kc_kit_inputs.specs.Scripts.{by_lines, script_of, lines_of}
-use Rattle.kc_kit_inputs.specs.Sources.{AreModules, TellsFault, TellsFirst, IsFaultless, AreFaultless}
+use Rattle.kc_asm.specs.Assembled.{IsFaultless}
+use Rattle.kc_kit_inputs.specs.Sources.{AreModules, TellsFault, TellsFirst, AreFaultless}
 use Rattle.kc_stim.specs.Faults.{place_of}
 use Rattle.kc_kit_inputs.specs.Stimuli.{by_fault, drives_of}
 use Rattle.kc_kit_inputs.specs.Stimuli as stimulus

@@ -8,6 +8,7 @@ use Rattle.kc_link.specs.declared.lines.LineAt.{LineAt}
 use Rattle.kc_link.specs.LineMap.{IsLineMap}
 use Rattle.kc_link.specs.Placed.{placed}
 use Rattle.kc_link_source_laws.specs.Linked.{LinkedImage}
+use Rattle.kc_asm_earlier_laws.specs.Read.{SourcesAreReadWell}
 use Rattle.kc_obj.specs.Object.{Object}
 use Rattle.kc_debug_script.specs.declared.line_map.MapEntry.{MapEntry}
 use Rattle.kc_kit_files.specs.declared.status.Status.TheVariants as status
@@ -47,14 +48,14 @@ lines-placing names given ranges tell ms lines at r is is_map h = by (placed ms 
     by (Err f) e k = k
 
 -- the same in the image that is linked from sources
-pub lines-linked : LinkedImage → (names : List (List ℕ)) (given : GivenFiles) (ranges : Ranges) (texts : List (List ℕ)) (tell : List MapEntry → Driving → List ℕ → Reply) (ms : List Object) (r : Reply) → AreModules texts ms →
+pub lines-linked : SourcesAreReadWell → LinkedImage → (names : List (List ℕ)) (given : GivenFiles) (ranges : Ranges) (texts : List (List ℕ)) (tell : List MapEntry → Driving → List ℕ → Reply) (ms : List Object) (r : Reply) → AreModules texts ms →
     Placing names ranges (DrivenWithLines given FilledWithLines tell) ms r → Placing names ranges (DrivenWithLines given (LinkedWithLines texts) tell) ms r
-lines-linked law names given ranges texts tell ms r made h = by (placed ms ranges) refl h
+lines-linked read law names given ranges texts tell ms r made h = by (placed ms ranges) refl h
   where
     by : (x : Result Places LinkFault) → placed ms ranges ≡ x → Then (by_places names ms x) (DrivenWithLines given FilledWithLines tell ms) r → Then (by_places names ms x) (DrivenWithLines given (LinkedWithLines texts) tell ms) r
     by (Ok places) e k =
         then-map (driving_of given) (λ d. FilledWithLines (λ entries. tell entries d) ms places) (λ d. LinkedWithLines texts (λ entries. tell entries d) ms places) r
-        (λ d f. record { image = f.image; is_filled = f.is_filled; is_image = image-of law texts ms ranges places f.image made e f.is_filled; entries = f.entries; is_map = f.is_map; told = f.told }) k
+        (λ d f. record { image = f.image; is_filled = f.is_filled; is_image = image-of read law texts ms ranges places f.image made e f.is_filled; entries = f.entries; is_map = f.is_map; told = f.told }) k
     by (Err f) e k = k
 
 -- ---- a refusal of a board is one of a board with its line map: it is not what a run answers

@@ -4,6 +4,7 @@ use Rattle.std.specs.Result.{IsOk}
 use Rattle.kc_base.specs.Causes.{Rose}
 use Rattle.kc_base.specs.Held.{Holding}
 use Rattle.kc_hex.specs.Records.{image_of}
+use Rattle.kc_asm.specs.Assembled.{IsFaultless}
 use Rattle.kc_explain.specs.Codes.{all_codes}
 use Rattle.kc_explain.specs.Meanings.{is_among}
 use Rattle.kc_kit_files.specs.declared.status.Status.TheVariants as status
@@ -11,7 +12,6 @@ use Rattle.kc_kit_files.specs.Reply.{Reply, says, Then}
 use Rattle.kc_kit_files.specs.Reads.{reads_of, Holds, FailedRead}
 use Rattle.kc_kit_words.specs.Commands.{Command, Helps, HelpsOn, TellsVersion, Runs, Profiles, Assembles, Packs, Links, RunsHex, ProfilesHex, Lists, Debugs, Generates, Dumps, Explains, names_of, names_read}
 use Rattle.kc_kit_inputs.specs.Driving.{given_for, driving_of}
-use Rattle.kc_kit_inputs.specs.Sources.{IsFaultless}
 use Rattle.kc_kit_answer.specs.Accepting.{Accepting, IsOneText, AreTwoTexts}
 use Rattle.kc_kit_answer.specs.Assemble.{AssembleAnswer}
 use Rattle.kc_kit_answer.specs.Debug.{DebugAnswer, IsDebuggable}

@@ -8,6 +8,7 @@ ghost use Rattle.kc_kit_answer.specs.Jobs.{IsBoard};
 ghost use Rattle.kc_kit_answer.specs.Places.{Placing};
 ghost use Rattle.kc_kit_answer.specs.Run.{Driven, FilledTold, SourcesTold};
 
+use kc_asm_earlier_laws::sources_are_read_well;
 use kc_kit_files::Refusal;
 use kc_kit_inputs::{Given, assemble_sources, driving_in, image_of};
 use kc_kit_notes::{Origins, link_refusal};
@@ -53,6 +54,7 @@ pub(crate) fn board_of_sources(
     requires given { AreShort given }
     ensures { IsBoard (SourcesTold (map string_bytes names.now) (given_in given.entry) placing.now (map (λ t. t.items) texts.now)) result }
 {
+    sources_are_read_well();
     linked_image();
     match assemble_sources(alloc, names, texts) {
         Ok(modules) => board_of_modules(alloc, names, &modules, placing, given),

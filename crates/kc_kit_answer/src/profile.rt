@@ -11,6 +11,7 @@ ghost use Rattle.kc_kit_answer.specs.Profile.{map_entry, DrivenWithLines, Filled
 
 use crate::board::{board_of_hex, board_of_modules};
 use crate::job::Job;
+use kc_asm_earlier_laws::sources_are_read_well;
 use kc_base::{Files, NoMemory};
 use kc_debug_script::MapEntry;
 use kc_kit_files::{Refusal, read_file, read_files};
@@ -128,6 +129,7 @@ fn board_and_lines(
     requires given { AreShort given }
     ensures { IsBoardWithLines (LinesTold (map string_bytes names.now) (given_in given.entry) placing.now (map (λ t. t.items) texts.now)) result }
 {
+    sources_are_read_well();
     linked_image();
     match assemble_sources(alloc, names, texts) {
         Ok(modules) => linked(alloc, names, &modules, placing, given),

@@ -1,7 +1,7 @@
 -- Sources that are judged in their order (this kit's own; the first fault of a source is that of the assembler).
 use Rattle.std.specs.Prelude.{◌≡◌, ◌⊎◌, ℕ, List, [], ◌∷◌, Option, Result, Ok, Err}
 use Rattle.kc_obj.specs.Object.{Object}
-use Rattle.kc_asm.specs.Assembled.{IsModule, IsFirstFault}
+use Rattle.kc_asm.specs.Assembled.{IsModule, IsFirstFault, IsFaultless}
 use Rattle.kc_asm_cause.specs.Cause.{IsCause}
 use Rattle.kc_kit_files.specs.Reply.{Reply}
 use Rattle.kc_kit_inputs.specs.Replies.{source_reply}
@@ -36,9 +36,6 @@ SourcesAre names texts (Ok ms) = AreModules texts ms
 SourcesAre names texts (Err reply) = TellsFirst names texts reply
 
 -- ---- sources without a fault
-
-abbrev pub IsFaultless : List ℕ → Type 0
-IsFaultless text = (line code : ℕ) → ¬ IsFirstFault text (line, code)
 
 abbrev pub AreFaultless : List (List ℕ) → Type 0
 AreFaultless [] = Unit {0}

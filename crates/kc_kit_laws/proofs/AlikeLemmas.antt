@@ -17,6 +17,7 @@ use Rattle.kc_hex.specs.Law.{WrittenIsRead}
 use Rattle.kc_hex.specs.Records.{image_of}
 use Rattle.kc_hex.specs.Spelling as records
 use Rattle.kc_link_source_laws.specs.Linked.{LinkedImage}
+use Rattle.kc_asm_earlier_laws.specs.Read.{SourcesAreReadWell}
 use Rattle.kc_asm.specs.Assembled.{IsModule}
 use Rattle.kc_asm_laws.specs.Modules.{ModulesFit}
 use Rattle.kc_asm_laws.specs.Images.{AreModulesOf, FilledAreBytes}
@@ -91,8 +92,8 @@ byte-at [] k h = omega arith
 byte-at (b ∷ bs) zero h = h.0
 byte-at (b ∷ bs) (suc k) h = byte-at bs k h.1
 
-pub alike : ModulesFit → FilledAreBytes → LinkedImage → SpelledIsDecoded → WrittenIsRead → RunsAlike
-alike fits bytes linked spelled read names objects texts ms inputs input_texts ranges extent file hex reply made small count l h =
+pub alike : ModulesFit → FilledAreBytes → SourcesAreReadWell → LinkedImage → SpelledIsDecoded → WrittenIsRead → RunsAlike
+alike fits bytes well linked spelled read names objects texts ms inputs input_texts ranges extent file hex reply made small count l h =
     by (placed ms ranges) refl
     (subst (λ (x : Result (List Object) Reply). Then x (Completed objects None (λ files. Placing files ranges (LinksTo file hex_alone ranges))) (done_writing (write file hex ∷ []))) (objects-read spelled objects texts ms made (all-fit fits texts ms made small) count) l)
   where
@@ -112,6 +113,6 @@ alike fits bytes linked spelled read names objects texts ms inputs input_texts r
           made,
           then-ok (places_of names ms ranges) places (Driven given (LinkedTold texts) tell ms) reply (ap (by_places names ms) e)
               (then-map (driving_of given) (λ driving reply. reply ≡ tell driving k.image) (λ driving. LinkedTold texts (tell driving) ms places) reply
-              (λ d told. record { image = k.image; is_filled = k.is_filled; is_image = image-of linked texts ms ranges places k.image made e k.is_filled; told = told }) driven),
+              (λ d told. record { image = k.image; is_filled = k.is_filled; is_image = image-of well linked texts ms ranges places k.image made e k.is_filled; told = told }) driven),
         )
     by (Err f) e k = absurd (let g : status.Done ≡ status.Link = ap (λ (r : Reply). r.status) k in cc)

@@ -6,6 +6,7 @@ ghost use Rattle.kc_kit_laws.specs.OneAnswer.{OneAnswer, OneOutcome};
 ghost use Rattle.kc_kit_laws.specs.StartLevels.{StartLevelsAgree};
 
 use kc_asm_cause_laws::one_cause;
+use kc_asm_earlier_laws::sources_are_read_well;
 use kc_asm_laws::{filled_are_bytes, modules_fit, one_answer_of_text};
 use kc_asm_list_laws::one_listing;
 use kc_hex::written_is_read;
@@ -23,6 +24,7 @@ pub fn runs_are_alike()
 {
     modules_fit();
     filled_are_bytes();
+    sources_are_read_well();
     linked_image();
     spelled_is_decoded();
     written_is_read();

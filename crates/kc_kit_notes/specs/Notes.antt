@@ -12,6 +12,10 @@ abbrev pub line_shown : Option (List ℕ) → List ℕ
 line_shown (Some line) = line ++ codes "\n"
 line_shown None = []
 
+-- the number of a line, behind the name of its file
+abbrev pub number_text : ℕ → List ℕ
+number_text line = codes ":" ++ decimal line
+
 -- a code with more behind it, and a sentence
 abbrev pub error_saying : List ℕ → List ℕ → List ℕ → List ℕ
 error_saying code more sentence = codes ": error " ++ code ++ more ++ codes ": " ++ sentence ++ codes "\n"
@@ -21,7 +25,7 @@ abbrev pub error_text : List ℕ → List ℕ → List ℕ
 error_text code more = error_saying code more (sentence_of code)
 
 abbrev pub line_note : List ℕ → List ℕ → ℕ → List ℕ → List ℕ
-line_note name text line code = name ++ codes ":" ++ decimal line ++ error_text code [] ++ line_shown (line_at text line)
+line_note name text line code = name ++ number_text line ++ error_text code [] ++ line_shown (line_at text line)
 
 abbrev pub byte_note : List ℕ → ℕ → List ℕ → List ℕ
 byte_note name place code = name ++ error_text code (codes " at byte " ++ decimal place)

@@ -9,7 +9,7 @@ use Rattle.kc_link_place.specs.declared.ranges.LinkFault.{LinkFault}
 use Rattle.kc_link_place.specs.declared.ranges.LinkFault.TheVariants as fault
 use Rattle.kc_link_map.specs.Map.{kind_word}
 use Rattle.kc_trace.specs.Text.{hex}
-use Rattle.kc_kit_notes.specs.Notes.{error_text}
+use Rattle.kc_kit_notes.specs.Notes.{number_text, error_text}
 use Rattle.kc_kit_notes.specs.Rules.{file_at}
 
 -- ---- from which line of its source the bytes at an offset of a piece come: that of the greatest entry of the piece at or below it.
@@ -29,7 +29,7 @@ line_in piece offset None = None
 
 -- behind the name of a file
 abbrev pub line_text : Option ℕ → List ℕ
-line_text (Some line) = codes ":" ++ decimal line
+line_text (Some line) = number_text line
 line_text None = []
 
 -- ---- the modules that a rule is about: those that take the name, that give it, or that have the address in an absolute piece

@@ -1,7 +1,7 @@
 // What is said in words of a fault in a file.
 ghost use Rattle.std.specs.Prelude.{◌≡◌, ◌++◌, codes, decimal, IfOk, OnOk};
 ghost use Rattle.std.specs.Option.{option_map};
-ghost use Rattle.kc_kit_notes.specs.Notes.{line_at, line_shown, error_text, line_note, byte_note};
+ghost use Rattle.kc_kit_notes.specs.Notes.{line_at, line_shown, number_text, error_text, line_note, byte_note};
 
 use itoa::Buffer;
 use kc_base::{NoMemory, after, first_line, front};
@@ -26,6 +26,16 @@ fn line_at(text: &[u8], number: u32) -> Option<&[u8]>
         rest = after(rest, whole);
     }
     None
+}
+
+/// Puts the number of a line behind the name of its file.
+pub(crate) fn put_number(note: &mut Vec<u8>, line: u32) -> Result<(), NoMemory>
+    ensures { OnOk result (note.new.items ≡ note.old.items ++ number_text line) }
+{
+    let mut buffer = Buffer::new();
+    note.push(b':')?;
+    note.extend_from_slice(buffer.format(line).as_bytes())?;
+    Ok(())
 }
 
 /// Puts a code behind a note, with more behind it, and with its sentence.
@@ -66,9 +76,7 @@ pub fn line_note(
     ensures { IfOk result (λ note. note.items ≡ line_note name.now text.now line code.now) }
 {
     let mut note = Vec::from_slice(alloc, name)?;
-    let mut buffer = Buffer::new();
-    note.push(b':')?;
-    note.extend_from_slice(buffer.format(line).as_bytes())?;
+    put_number(&mut note, line)?;
     put_error(&mut note, code, b"")?;
     put_line(&mut note, text, line)?;
     Ok(note)

@@ -5,11 +5,10 @@ ghost use Rattle.kc_kit_notes.specs.Rules.{file_at};
 ghost use Rattle.kc_kit_notes.specs.RuleNotes.{or_later, line_among, line_in, line_text, rule_note, link_note};
 ghost use Rattle.kc_kit_notes.specs.Origins.{words_of};
 
-use crate::notes::put_error;
+use crate::notes::{put_error, put_number};
 use crate::origins::{Origins, file_at, joined};
 use crate::rule_files::in_files;
 use crate::rule_lines::place_text;
-use itoa::Buffer;
 use kc_base::NoMemory;
 use kc_link_map::{address_text, kind_word};
 use kc_link_place::LinkFault;
@@ -56,9 +55,7 @@ fn put_line(note: &mut Vec<u8>, line: Option<u32>) -> Result<(), NoMemory>
     ensures { OnOk result (note.new.items ≡ note.old.items ++ line_text line) }
 {
     if let Some(line) = line {
-        let mut buffer = Buffer::new();
-        note.push(b':')?;
-        note.extend_from_slice(buffer.format(line).as_bytes())?;
+        put_number(note, line)?;
     }
     Ok(())
 }

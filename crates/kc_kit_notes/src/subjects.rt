@@ -4,8 +4,7 @@ ghost use Rattle.std.specs.Option.{option_map};
 ghost use Rattle.kc_kit_notes.specs.Notes.{error_saying};
 ghost use Rattle.kc_kit_notes.specs.Subjects.{around, sentence_round, sentence_about, source_note, body_place, body_note};
 
-use crate::notes::put_line;
-use itoa::Buffer;
+use crate::notes::{put_line, put_number};
 use kc_base::NoMemory;
 use kc_explain::sentence;
 use std::alloc::Global;
@@ -90,9 +89,7 @@ pub fn source_note(
     ensures { IfOk result (λ note. note.items ≡ source_note name.now text.now line code.now number (option_map (λ n. n.now) subject.entry)) }
 {
     let mut note = Vec::from_slice(alloc, name)?;
-    let mut buffer = Buffer::new();
-    note.push(b':')?;
-    note.extend_from_slice(buffer.format(line).as_bytes())?;
+    put_number(&mut note, line)?;
     put_fault(&mut note, code, number, subject)?;
     put_line(&mut note, text, line)?;
     Ok(note)
@@ -102,10 +99,8 @@ pub fn source_note(
 fn put_place(note: &mut Vec<u8>, name: &[u8], line: u32) -> Result<(), NoMemory>
     ensures { OnOk result (note.new.items ≡ note.old.items ++ body_place name.now line) }
 {
-    let mut buffer = Buffer::new();
     note.extend_from_slice(name)?;
-    note.push(b':')?;
-    note.extend_from_slice(buffer.format(line).as_bytes())?;
+    put_number(note, line)?;
     note.extend_from_slice(b": note: it was written here\n")?;
     Ok(())
 }

@@ -2,7 +2,7 @@
 use Rattle.std.proofs.Common.{◌≡◌, ℕ, Bool, true, false, ◌&&◌, ◌||◌, eqb, ltb, List, [], ◌∷◌, ◌++◌, Option, Some, None, refl, sym, ap, ◌∙◌, arith}
 use Rattle.std.specs.Option.{option_to_list}
 use Rattle.std.proofs.lemmas.Bool.Decides.{nat_tests}
-use Rattle.kc_lex.specs.LineFaults.{Fault, is_before, first_of, lesser, least}
+use Rattle.kc_lex.specs.LineFaults.{Fault, at_line, is_before, first_of, lesser, least}
 
 -- an order of two numbers, the first weighing more
 trans : (a b c d e k : ℕ) → (ltb c a || (eqb c a && ltb d b)) ≡ true → (ltb e c || (eqb e c && ltb k d)) ≡ true → (ltb e a || (eqb e a && ltb k b)) ≡ true
@@ -54,3 +54,12 @@ pub no_least : (fs : List Fault) → least fs ≡ None → fs ≡ []
 unfolding least
 no_least [] e = refl
 no_least (f ∷ fs) e = absurd (none_first f (least fs) e)
+
+-- where two parts have none, neither has one
+pub nothing_left : {A : Type 0} (xs ys : List A) → xs ++ ys ≡ [] → (xs ≡ []) × (ys ≡ [])
+nothing_left [] ys e = (refl, e)
+nothing_left (x ∷ xs) ys e = absurd cc
+
+pub no_code_at : (line : ℕ) (o : Option ℕ) → option_to_list (at_line line o) ≡ [] → o ≡ None
+no_code_at line None e = refl
+no_code_at line (Some code) e = absurd cc

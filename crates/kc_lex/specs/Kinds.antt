@@ -18,6 +18,12 @@ is_name_kind kinds.Sign = false
 is_name_kind kinds.Number = false
 is_name_kind kinds.Chars = false
 
+abbrev pub is_number_kind : TokenKind → Bool
+is_number_kind kinds.Number = true
+is_number_kind kinds.Name = false
+is_number_kind kinds.Chars = false
+is_number_kind kinds.Sign = false
+
 abbrev pub is_chars_kind : TokenKind → Bool
 is_chars_kind kinds.Chars = true
 is_chars_kind kinds.Name = false

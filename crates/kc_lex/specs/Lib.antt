@@ -7,5 +7,6 @@ pub mod Lines
 pub mod Scan
 pub mod Instructions
 pub mod Words
+pub mod Takes
 pub mod Reserved
 pub mod Kinds

@@ -1,6 +1,7 @@
 -- The words of the language that are no names, and what operands each operation takes (after the MCS-96 Macro Assembler User's Guide, "Reserved Words"; the list is this kit's own).
 use Rattle.std.specs.Prelude.{ℕ, Bool, false, not, ◌&&◌, ◌||◌, nat_le, if◌then◌else◌, List, [], ◌∷◌, length, Option, Some, None, is_some, codes}
 use Rattle.std.specs.List.{list_any, list_all}
+use Rattle.std.specs.Option.{option_or}
 use Rattle.std.specs.Str.{bytes_eq}
 use Rattle.std.specs.Char.{is_ascii_digit}
 use Rattle.kc_lex.specs.declared.words.Directive.{Directive}
@@ -32,6 +33,10 @@ generic_operands_of w =
     else (if bytes_eq w (codes "CALL") then Some operands.One
     else (if is_one_of (codes "BBC" ∷ codes "BBS" ∷ []) w then Some operands.Triple
     else None))
+
+-- the operands of an operation, which is an instruction or a generic branch
+abbrev pub operands_for : List ℕ → Option Operands
+operands_for w = option_or (operands_of w) (generic_operands_of w)
 
 -- ---- directives
 

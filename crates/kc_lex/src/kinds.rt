@@ -35,6 +35,13 @@ pub fn is_name(token: &Token) -> bool
     matches!(token.kind, TokenKind::Name)
 }
 
+/// Whether a token is a number.
+pub fn is_number(token: &Token) -> bool
+    ensures { result ≡ kinds.is_number_kind token.now.kind }
+{
+    matches!(token.kind, TokenKind::Number)
+}
+
 /// Whether a token is a string.
 pub fn is_chars(token: &Token) -> bool
     ensures { result ≡ kinds.is_chars_kind token.now.kind }

@@ -19,7 +19,7 @@ pub use instructions::first_opcode;
 pub use line_fault::LineFault;
 pub use reader::lines;
 pub use token::{Line, Token, TokenKind, Tokens};
-pub use words::{Directive, Operands};
+pub use words::{Directive, Notation, Operands};
 
 #[cfg(test)]
 mod tests;

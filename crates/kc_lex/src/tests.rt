@@ -3,7 +3,8 @@ ghost use Rattle.std.specs.Prelude.{◌≤◌, length};
 use super::*;
 use crate::kinds::{begins_sign, begins_word, front, has_label, is_chars, is_free_name, rest};
 use crate::words::{
-    directive_of, generic_operands_of, is_name_text, is_reserved, operands_of, upper,
+    directive_of, generic_operands_of, is_name_text, is_reserved, operands_for, operands_of, takes,
+    upper,
 };
 use std::test::*;
 
@@ -86,8 +87,23 @@ fn words_of_the_language(rt: HostRuntime) -> Result<(), Fail> {
     assert_eq!(rt; operands_of(b"TIJMP"), Some(Operands::Table));
     assert_eq!(rt; operands_of(b"BNE"), None);
     assert_eq!(rt; generic_operands_of(b"BNE"), Some(Operands::One));
+    assert_eq!(rt; operands_for(b"BNE"), Some(Operands::One));
+    assert_eq!(rt; operands_for(b"BR"), Some(Operands::Branch));
+    assert_eq!(rt; operands_for(b"EQU"), None);
     assert_eq!(rt; directive_of(b"DSL"), Some(Directive::Dsl));
     assert!(rt; !is_name_text(b"1A") && !is_name_text(b""));
     assert_eq!(rt; upper(rt.alloc(), b"a_9z")?.as_slice(), b"A_9Z".as_slice());
     Ok(())
+}
+
+#[test]
+fn operands_that_are_taken(rt: HostRuntime) {
+    let number = [Notation::Plain, Notation::Immediate];
+    let table = [Notation::Plain, Notation::Indirect, Notation::Immediate];
+    assert!(rt; takes(Operands::Nothing, &[]) && !takes(Operands::Two, &[]));
+    assert!(rt; takes(Operands::Branch, &[Notation::Indirect]));
+    assert!(rt; !takes(Operands::Branch, &[Notation::Increment]));
+    assert!(rt; takes(Operands::Two, &number) && takes(Operands::Shift, &number));
+    assert!(rt; !takes(Operands::Store, &number) && !takes(Operands::Exchange, &number));
+    assert!(rt; takes(Operands::Table, &table) && !takes(Operands::Triple, &table));
 }

@@ -1,9 +1,10 @@
 ghost use Rattle.std.specs.Prelude.{◌≡◌, IfOk};
 ghost use Rattle.std.specs.List.{list_all};
 ghost use Rattle.kc_lex.specs.Chars as chars;
+ghost use Rattle.kc_lex.specs.Takes as spec;
 ghost use Rattle.kc_lex.specs.Words as words;
 
-use crate::chars::{in_upper, is_word};
+use crate::chars::is_word;
 pub use crate::instructions::operands_of;
 use crate::reserved::{Word, find};
 use kc_base::{NoMemory, Text};
@@ -40,6 +41,21 @@ pub enum Operands {
     Table,
     /// `#x`
     Key,
+}
+
+/// How an operand is written, which tells its mode of addressing. (MCS-96 Macro Assembler User's Guide, "Operands".)
+#[derive(Clone, Copy, Debug, PartialEq, Eq)]
+pub enum Notation {
+    /// `x`: direct, or an address in memory
+    Plain,
+    /// `#x`: immediate
+    Immediate,
+    /// `[reg]`: indirect
+    Indirect,
+    /// `[reg]+`: indirect with autoincrement
+    Increment,
+    /// `x[reg]`: indexed
+    Indexed,
 }
 
 /// The words that begin a statement that is no operation, or stand behind a name.
@@ -100,6 +116,97 @@ pub fn generic_operands_of(word: &[u8]) -> Option<Operands>
     }
 }
 
+/// The operands that an operation takes, which is an instruction or a generic branch, or none where the word in upper case
+/// is neither.
+pub fn operands_for(word: &[u8]) -> Option<Operands>
+    ensures { result ≡ words.operands_for word.now }
+{
+    match operands_of(word) {
+        Some(form) => Some(form),
+        None => generic_operands_of(word),
+    }
+}
+
+fn is_plain(operand: Notation) -> bool
+    ensures { result ≡ spec.is_plain operand }
+{
+    matches!(operand, Notation::Plain)
+}
+
+fn is_immediate(operand: Notation) -> bool
+    ensures { result ≡ spec.is_immediate operand }
+{
+    matches!(operand, Notation::Immediate)
+}
+
+fn is_indirect(operand: Notation) -> bool
+    ensures { result ≡ spec.is_indirect operand }
+{
+    matches!(operand, Notation::Indirect)
+}
+
+fn is_indexed(operand: Notation) -> bool
+    ensures { result ≡ spec.is_indexed operand }
+{
+    matches!(operand, Notation::Indexed)
+}
+
+fn takes_none(form: Operands) -> bool
+    ensures { result ≡ spec.takes_none form }
+{
+    matches!(form, Operands::Nothing)
+}
+
+fn takes_one(form: Operands, a: Notation) -> bool
+    ensures { result ≡ spec.takes_one form a }
+{
+    match form {
+        Operands::One => is_plain(a),
+        Operands::Source => true,
+        Operands::Place => !is_immediate(a),
+        Operands::Branch => is_plain(a) || is_indirect(a),
+        Operands::Key => is_immediate(a),
+        _ => false,
+    }
+}
+
+fn takes_two(form: Operands, a: Notation, b: Notation) -> bool
+    ensures { result ≡ spec.takes_two form a b }
+{
+    match form {
+        Operands::Two | Operands::TwoOrThree => is_plain(a),
+        Operands::Store => is_plain(a) && !is_immediate(b),
+        Operands::Exchange => is_plain(a) && (is_plain(b) || is_indexed(b)),
+        Operands::Shift => is_plain(a) && (is_plain(b) || is_immediate(b)),
+        Operands::Pair => is_plain(a) && is_plain(b),
+        _ => false,
+    }
+}
+
+fn takes_three(form: Operands, a: Notation, b: Notation, c: Notation) -> bool
+    ensures { result ≡ spec.takes_three form a b c }
+{
+    match form {
+        Operands::TwoOrThree => is_plain(a) && is_plain(b),
+        Operands::Triple => is_plain(a) && is_plain(b) && is_plain(c),
+        Operands::Table => is_plain(a) && is_indirect(b) && is_immediate(c),
+        _ => false,
+    }
+}
+
+/// Whether an operation with operands of this form takes those that are written so.
+pub fn takes(form: Operands, written: &[Notation]) -> bool
+    ensures { result ≡ spec.takes form written.now }
+{
+    match written {
+        [] => takes_none(form),
+        [a] => takes_one(form, *a),
+        [a, b] => takes_two(form, *a, *b),
+        [a, b, c] => takes_three(form, *a, *b, *c),
+        _ => false,
+    }
+}
+
 /// The directive that a word in upper case is, or none.
 pub fn directive_of(word: &[u8]) -> Option<Directive>
     ensures { result ≡ words.directive_of word.now }
@@ -150,6 +257,5 @@ pub fn is_name_text(text: &[u8]) -> bool
 pub fn upper(alloc: Global, text: &[u8]) -> Result<Text, NoMemory>
     ensures { IfOk result (λ t. t ≡ chars.upper text.now) }
 {
-    let upper = in_upper(alloc, text)?;
-    Ok(Text::from_vec(upper))
+    Text::in_upper(alloc, text)
 }

@@ -70,7 +70,7 @@ record IsBased (image : List ℕ) (c : Bases) (d : Draft) : Type 0 where
 
 module _ (laws : Laws) (more : DraftLaws) where
   is_draft : (stmts : List Stmt) (d : Draft) (m : Object) → IsSource stmts d m → IsDraft d
-  is_draft stmts d m source = more.drafts stmts d source.sound source.drafted source.few
+  is_draft stmts d m source = more.drafts stmts d source.well source.sound source.drafted source.few
 
   statement_stands : (image : List ℕ) (c : Bases) (stmts : List Stmt) (d : Draft) (m : Object) (before : List Located) (l : Located) (s : Site)
       → IsSource stmts d m → IsBased image c d → RelocatableEven c m → IsStatement stmts before l s → Stands image c stmts d before l s

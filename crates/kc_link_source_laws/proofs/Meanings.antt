@@ -1,11 +1,10 @@
 -- What names mean are words where characters are bytes.
-use Rattle.std.proofs.Common.{◌≡◌, ℕ, ◌+◌, ◌%◌, ◌<◌, Bool, true, false, cond, ◌&&◌, List, [], ◌∷◌, ◌++◌, reverse, refl, sym, ap, ◌∙◌, arith}
+use Rattle.std.proofs.Common.{◌≡◌, ℕ, ◌+◌, ◌%◌, ◌<◌, Bool, true, false, cond, ◌&&◌, List, [], ◌∷◌, ◌++◌, reverse, refl, arith}
 use Rattle.std.specs.Prelude.{Option, Some, None, Ok, Err, nat_lt}
 use Rattle.std.specs.List.{list_all}
 use Rattle.std.specs.Str.{bytes_eq}
 use Rattle.std.proofs.lemmas.Bool.{and_parts}
 use Rattle.std.proofs.lemmas.Bool.Decides.{nat_tests}
-use Rattle.std.proofs.lemmas.List.Folds.{list_all-append}
 use Rattle.kc_expr.specs.declared.values.Base.TheVariants.{External}
 use Rattle.kc_expr.specs.declared.values.Value.{Value}
 use Rattle.kc_expr.specs.Tree.{Tree}
@@ -17,27 +16,18 @@ use Rattle.kc_asm_symbols.specs.declared.segments.Segment.{Segment}
 use Rattle.kc_asm_symbols.specs.Located.{Located, segment_after, value_at, located_from}
 use Rattle.kc_asm_symbols.specs.Externals.{externals, external_in, tag_of_taken, stack_name}
 use Rattle.kc_asm_symbols.specs.Meanings.{or_told, is_label, label_answer, external_answer, with_here, is_taken_by, defines, by_definition, earlier, is_set, is_definition, in_all, throughout, meaning}
-use Rattle.kc_asm_symbols.proofs.KnownLemmas.{test_reverse, reverse_test}
+use Rattle.kc_asm_symbols.proofs.KnownLemmas.{reverse_test}
+pub use Rattle.kc_asm_draft_laws.proofs.Lists.{split_test}
+use Rattle.kc_asm_draft_laws.proofs.Read.{located_test}
 use Rattle.kc_link_source_laws.specs.Characters.{are_bytes, all_bytes}
 use Rattle.kc_link_source_laws.proofs.Words.{IsWordAnswer, either, answer_word}
 
 -- ---- tests of lists
 
--- a test of all statements holds of one of them and of those before it
-pub split_test : {X : Type 0} (p : X → Bool) (all before after : List X) (l : X) → list_all p all ≡ true → all ≡ reverse before ++ l ∷ after → (list_all p before ≡ true) × (p l ≡ true)
-split_test p all before after l h whole =
-    let split = sym (list_all-append p (reverse before) (l ∷ after)) ∙ ap (list_all p) (sym whole) ∙ h in
-    let parts = and_parts (list_all p (reverse before)) (list_all p (l ∷ after)) split in
-    (test_reverse p before parts.0, (and_parts (p l) (list_all p after) parts.1).0)
-
--- what holds of all statements holds of them where they stand
+-- what holds of the actions of all statements holds of them where they stand
 pub standing_test : (p : ActionTree → Bool) (values : ℕ → Segment → Value) (i : ℕ) (g : Segment) (stmts : List Stmt)
     → list_all (λ s. p (action_tree s.action)) stmts ≡ true → list_all (λ l. p l.action) (located_from values i g stmts) ≡ true
-unfolding located_from
-standing_test p values i g [] h = refl
-standing_test p values i g (s ∷ stmts) h =
-    let parts = and_parts (p (action_tree s.action)) (list_all (λ (x : Stmt). p (action_tree x.action)) stmts) h in
-    λ k. parts.0 k && standing_test p values (i + 1) (segment_after g (action_tree s.action)) stmts parts.1 k
+standing_test p values i g stmts h = located_test (λ line label action. p action) values i g stmts h
 
 -- ---- places
 

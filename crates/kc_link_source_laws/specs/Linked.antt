@@ -13,6 +13,7 @@ use Rattle.kc_source.specs.Faults.{AreStatements}
 use Rattle.kc_asm_symbols.specs.declared.segments.Segment.{Segment}
 use Rattle.kc_asm_symbols.specs.Located.{Located, is_absolute}
 use Rattle.kc_asm_symbols.specs.Meanings.{meaning}
+use Rattle.kc_asm_symbols.specs.Told.{AreReadWell}
 use Rattle.kc_obj.specs.Object.{Object}
 use Rattle.kc_obj_relocation.specs.Numbers.{Bases}
 use Rattle.kc_asm_piece.specs.declared.draft.Draft.{Draft}
@@ -36,6 +37,8 @@ pub record IsSource (stmts : List Stmt) (d : Draft) (m : Object) : Type 0 where
   pub lines : List Line
   pub read : AreStatements stmts lines
   pub characters : list_all has_bytes stmts ≡ true
+  -- where an object can tell each of them, and bytes stand in code
+  pub well : AreReadWell stmts
   -- where no value and no place has a fault
   pub sound : first_fault stmts ≡ None
   pub drafted : IsDraftOf stmts d

@@ -15,19 +15,20 @@ use Rattle.kc_exec_spec.specs.Memory.{is_rom}
 use Rattle.kc_exec_spec.specs.Places.{place_of, ◌>>=◌}
 use Rattle.kc_exec_spec.specs.Plans.{plan_of}
 use Rattle.kc_exec_ready.specs.declared.ready.Ready.{Ready}
-use Rattle.kc_exec_ready.specs.Preparing.{is_free, is_alone_cost, time_at, IsReady}
+use Rattle.kc_intc.specs.declared.requests.Choice.TheVariants.{Go}
+use Rattle.kc_exec_ready.specs.Preparing.{is_free, is_blank, time_at, IsReady}
 use Rattle.kc_machine_spec.specs.declared.doing.Activity.TheVariants.{Executes}
 use Rattle.kc_exec_spec.specs.declared.cpu.Cpu.{Cpu}
 use Rattle.kc_machine_spec.specs.Board.{masks_of, pins}
 use Rattle.kc_machine_spec.specs.Passing.{stepped_of}
 use Rattle.kc_machine_spec.specs.Scene.{Scene, byte}
-use Rattle.kc_machine_spec.specs.Machine.{Machine, closed, free, fetched, begins, placed, fetches, chosen, current, scene_of, own_records, is_trap}
+use Rattle.kc_machine_spec.specs.Machine.{Machine, closed, free, fetched, begins, breaks, placed, fetches, chosen, current, asked, scene_of, own_records, is_trap}
 use Rattle.kc_extra.specs.declared.extra.Extra as extra
 use Rattle.kc_machine.specs.declared.common.Common.{Common}
 use Rattle.kc_machine.specs.declared.parts.Core.{Core}
 use Rattle.kc_machine.specs.Bus.{held_of}
 use Rattle.kc_machine.specs.Seen.{machine_of}
-use Rattle.kc_machine.specs.Prepared.{insn_of, IsRead, IsSlot, IsTable, IsBetween, executing}
+use Rattle.kc_machine.specs.Prepared.{insn_of, IsRead, IsSlot, IsTable, IsFree, IsBetween, executing}
 
 other-byte : (bytes : List ℕ) (addr n x : ℕ) → x ≢ addr → slice_index (slice_set bytes addr n) x ≡ slice_index bytes x
 other-byte bytes addr n x other = grind (arith, common_steps)
@@ -75,12 +76,12 @@ same-slot (suc n) zero r d few = refl
 same-slot (suc n) (suc k) r d few = same-slot n k r d (omega arith)
 
 -- a table that tells nothing is true of each memory
-pub table_blank : (memory : List ℕ) (n : ℕ) (r : Ready) → is_alone_cost r.cost ≡ true → IsTable (replicate n r) memory
-table_blank memory n r alone = λ k d few inside some.
-    absurd (let here : slice_index_or (replicate n r) k d ≡ r = same-slot n k r d (grind (arith, common_steps)) in cc (rw here at some))
+pub table_blank : (memory : List ℕ) (n : ℕ) (r : Ready) → is_blank r ≡ true → IsTable (replicate n r) memory
+table_blank memory n r blank = λ k d few inside some.
+    absurd (let here : slice_index_or (replicate n r) k d ≡ r = same-slot n k r d (grind (arith, common_steps)) in cc (blank, (rw here at some)))
 
 -- a table that was cleared is true of each memory
-pub table_cleared : (table : List Ready) (memory : List ℕ) → All (λ r. is_alone_cost r.cost ≡ true) table → IsTable table memory
+pub table_cleared : (table : List Ready) (memory : List ℕ) → All (λ r. is_blank r ≡ true) table → IsTable table memory
 table_cleared table memory none = λ k d few inside some. absurd (cc (none k d inside, some))
 
 begun-so : {X : Type 0} (m : Machine X) (read : Decoded) (insn : Insn) → insn_of read ≡ Some insn → begins m read ≡ placed insn (place_of insn m.cpu (masks_of m.board.units) (byte (scene_of m)))
@@ -93,19 +94,49 @@ placed-so : (insn : Insn) (place : Result Place Kind) (n : ℕ) → (place >>= �
 placed-so insn (Ok p) n h = ap (λ k. record { doing = Executes insn; left = k }) (cc h)
 placed-so insn (Err k) n h = absurd (cc h)
 
--- the next activity is the instruction that was prepared
+-- so many states are those of its place
+pub placed_for : (insn : Insn) (place : Result Place Kind) (n : ℕ) → Ok n ≡ (place >>= λ p. Ok (states_of insn p)) → record { doing = Executes insn; left = n } ≡ placed insn place
+placed_for insn place n h = sym (placed-so insn place n (sym h))
+
+-- and it has none where its place is refused
+pub placed_not : (insn : Insn) (place : Result Place Kind) (kind : Kind) → Err kind ≡ (place >>= λ p. Ok (states_of insn p)) → breaks kind ≡ placed insn place
+placed_not insn (Ok p) kind h = absurd (cc h)
+placed_not insn (Err k) kind h = ap breaks (cc h)
+
+-- the instruction that was read comes next
+pub read_so : {X : Type 0} (m : Machine X) (r : Ready) → IsRead m.board.memory m.cpu.pc r → placed r.insn (place_of r.insn m.cpu (masks_of m.board.units) (byte (scene_of m))) ≡ fetches m
+unfolding fetches
+read_so m r there = sym (begun-so m (decode_of (fetched 7 m.board.memory m.cpu.pc)) r.insn there.read)
+
+-- between two activities an instruction is held for
+pub held_between : {X : Type 0} (m : Machine X) → m.under_way ≡ None → m.going ≡ None → m.held ≡ true → IsBetween m
+held_between m begun alone held = record { begun = begun; alone = alone; none = λ unheld. absurd (cc (held, unheld)) }
+
+-- or no request is served
+pub free_between : {X : Type 0} (m : Machine X) → IsFree m → asked m ≡ Go → IsBetween m
+free_between m is none = record { begun = is.begun; alone = is.alone; none = λ unheld. none }
+
+-- the next activity is the instruction at PC, whether it is held for or no request is served
+fetches-next : {X : Type 0} (m : Machine X) (held : Bool) → m.held ≡ held → IsBetween m → current m ≡ fetches m
+unfolding chosen
+fetches-next m true h between = rw (between.begun, between.alone, h) refl
+fetches-next m false h between = rw (between.begun, between.alone, h, between.none h) refl
+
+-- the next activity is the instruction that is told, at its place
+pub told_next : {X : Type 0} (m : Machine X) (r : Ready) → IsBetween m → IsRead m.board.memory m.cpu.pc r → placed r.insn (place_of r.insn m.cpu (masks_of m.board.units) (byte (scene_of m))) ≡ current m
+told_next m r between there = read_so m r there ∙ sym (fetches-next m m.held refl between)
+
+-- and it has these states
 pub comes_next : {X : Type 0} (m : Machine X) (r : Ready) (n : ℕ) → IsBetween m → IsRead m.board.memory m.cpu.pc r → time_at r.insn m.cpu (masks_of m.board.units) (byte (scene_of m)) ≡ Ok n → executing r n ≡ current m
-unfolding chosen fetches
-comes_next m r n between there time = sym (
-    rw (between.begun, between.alone, between.free, between.none)
-    (begun-so m (decode_of (fetched 7 m.board.memory m.cpu.pc)) r.insn there.read
-    ∙ placed-so r.insn (place_of r.insn m.cpu (masks_of m.board.units) (byte (scene_of m))) n time))
+comes_next m r n between there time =
+    placed_for r.insn (place_of r.insn m.cpu (masks_of m.board.units) (byte (scene_of m))) n (sym time)
+    ∙ told_next m r between there
 
 -- a machine between activities, a state and the accesses of an instruction later
-pub gone-on : {X : Type 0} (m : Machine X) (s : Scene X) (cpu : Cpu) → m.under_way ≡ None → m.going ≡ None → m.held ≡ false → m.ended ≡ None →
-    stepped_of (record m { time = m.time + 1; board = s.board; cpu = cpu }) (pins m.time s.edges) (4 * s.reached) ≡ closed m s cpu free []
-gone-on m s cpu begun alone unheld lives =
-    rw (begun, alone, unheld, lives, append-nil (pins m.time s.edges)) refl
+pub gone-on : {X : Type 0} (m : Machine X) (s : Scene X) (cpu : Cpu) → m.under_way ≡ None → m.going ≡ None → m.ended ≡ None →
+    stepped_of (record m { time = m.time + 1; board = s.board; cpu = cpu; held = false }) (pins m.time s.edges) (4 * s.reached) ≡ closed m s cpu free []
+gone-on m s cpu begun alone lives =
+    rw (begun, alone, lives, append-nil (pins m.time s.edges)) refl
 
 no-trap : (m : Mnemonic) → is_free (plan_of m) ≡ true → is_trap (Some m) ≡ false
 no-trap named.Trap h = absurd (cc h)

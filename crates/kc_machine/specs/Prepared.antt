@@ -6,7 +6,7 @@ use Rattle.kc_code.specs.declared.reader.Decoded.{Decoded}
 use Rattle.kc_code.specs.declared.reader.Decoded.TheVariants.{Insn as Whole}
 use Rattle.kc_code.specs.Reading.{decode_of}
 use Rattle.kc_exec_ready.specs.declared.ready.Ready.{Ready}
-use Rattle.kc_exec_ready.specs.Preparing.{is_alone_cost, IsReady}
+use Rattle.kc_exec_ready.specs.Preparing.{is_blank, IsReady}
 use Rattle.kc_machine_spec.specs.declared.doing.Activity.TheVariants.{Executes}
 use Rattle.kc_machine_spec.specs.declared.doing.UnderWay.{UnderWay}
 use Rattle.kc_machine_spec.specs.Machine.{Machine, fetched, asked}
@@ -21,9 +21,9 @@ pub record IsRead (memory : List ℕ) (at : ℕ) (r : Ready) : Type 0 where
   pub ready : IsReady r
   pub read : insn_of (decode_of (fetched 7 memory at)) ≡ Some r.insn
 
--- what is told at an address: of an instruction that any activity may follow, it is the one that stands there
+-- what is told at an address: nothing, or the instruction that stands there
 abbrev pub IsSlot : List ℕ → ℕ → Ready → Type 0
-IsSlot memory at r = is_alone_cost r.cost ≡ false → IsRead memory at r
+IsSlot memory at r = is_blank r ≡ false → IsRead memory at r
 
 -- slot k is that of the address 2000H + k: seven bytes of ROM stand from each of these addresses on
 abbrev pub IsTable : List Ready → List ℕ → Type 0
@@ -32,19 +32,19 @@ IsTable table memory = (k : ℕ) (d : Ready) → k < 0x3FFA → k < length table
 abbrev pub HasSlot : ℕ → Type 0
 HasSlot addr = (0x2000 ≤ addr) × (addr < 0x5FFA)
 
--- the machine lives, nothing is under way, and nothing goes on or is held
+-- the machine lives, nothing is under way or goes on, and no instruction is held for
 pub record IsFree {X : Type 0} (m : Machine X) : Type 0 where
   pub begun : m.under_way ≡ None
   pub alone : m.going ≡ None
   pub unheld : m.held ≡ false
   pub lives : m.ended ≡ None
 
--- nothing is under way, nothing goes on, and no request is served: the instruction at PC comes next
+-- nothing is under way, nothing goes on, and no request is served, or none may be since an instruction is held for: the
+-- instruction at PC comes next
 pub record IsBetween {X : Type 0} (m : Machine X) : Type 0 where
   pub begun : m.under_way ≡ None
   pub alone : m.going ≡ None
-  pub free : m.held ≡ false
-  pub none : asked m ≡ Go
+  pub none : m.held ≡ false → asked m ≡ Go
 
 -- a prepared instruction with all its states ahead
 abbrev pub executing : Ready → ℕ → UnderWay

@@ -1,5 +1,5 @@
 // The common board of both masters in a state.
-ghost use Rattle.std.specs.Prelude.{◌≡◌, ℕ, ◌+◌, ◌*◌, ◌<◌, ◌≤◌, ◌-◌, ◌%◌, ◌^◌, Err, IsTrue, OnOk, OnErr, IfOk, All, vec_len, length, [], true, false};
+ghost use Rattle.std.specs.Prelude.{◌≡◌, ℕ, ◌+◌, ◌*◌, ◌<◌, ◌≤◌, ◌-◌, ◌%◌, ◌^◌, Err, IsTrue, OnOk, OnErr, IfOk, All, vec_len, length, [], true, false, IfSome};
 ghost use Rattle.std.specs.Bool.{OnTrue};
 ghost use Rattle.kc_span.specs.Span.{after};
 ghost use Rattle.kc_exec_spec.specs.Access.{ReadByte, ReadWord, WriteByte, WriteWord, SetMasks, Accepts};
@@ -12,8 +12,8 @@ ghost use Rattle.kc_machine_spec.specs.Scene.{opened, byte, put, window_at, scen
 ghost use Rattle.kc_machine_spec.specs.Machine.{taken, claimed, handed};
 ghost use Rattle.kc_exec_spec.specs.Memory.{is_rom};
 ghost use Rattle.kc_machine.specs.Keeping.{fitting, counted};
-ghost use Rattle.kc_exec_ready.specs.Preparing.{is_alone_cost};
-ghost use Rattle.kc_machine.specs.Prepared.{HasSlot, IsSlot, IsTable};
+ghost use Rattle.kc_exec_ready.specs.Preparing.{is_blank};
+ghost use Rattle.kc_machine.specs.Prepared.{HasSlot, IsRead, IsSlot, IsTable};
 
 use crate::choosing::fetch;
 use crate::noted::Noted;
@@ -49,7 +49,7 @@ const SLOTS: usize = 0x3FFA;
 
 // No slot tells anything any more.
 fn clear(table: &mut [Ready])
-    ensures none { All (λ r. is_alone_cost r.cost ≡ true) table.new }
+    ensures none { All (λ r. is_blank r ≡ true) table.new }
     ensures count { length table.new ≡ length table.old }
 {
     for slot in table {
@@ -204,7 +204,7 @@ impl<X: Extra + Drop> Common<X> {
     // No instruction is prepared any more.
     #[tactic(auto, using(crate::proofs::Prepared::table_cleared))]
     fn forget_all(&mut self)
-        ensures none { All (λ r. is_alone_cost r.cost ≡ true) self.new.ready.items }
+        ensures none { All (λ r. is_blank r ≡ true) self.new.ready.items }
         ensures memory { self.new.memory ≡ self.old.memory }
         ensures edges { self.new.edges ≡ self.old.edges }
         ensures count { self.new.reached ≡ self.old.reached }
@@ -241,6 +241,17 @@ impl<X: Extra + Drop> Common<X> {
         self.ready[(addr - FIRST) as usize]
     }
 
+    /// The instruction at an address, where it is prepared.
+    pub(crate) fn known_at(&self, addr: u16) -> Option<Ready>
+        ensures { IfSome result (IsRead self.now.memory.items addr) }
+    {
+        if !self.has_slot(addr) {
+            return None;
+        }
+        let ready = self.ready_at(addr);
+        if ready.is_blank() { None } else { Some(ready) }
+    }
+
     // The instruction at an address, prepared; the blank one where there is none.
     fn prepared_at(&self, addr: u16) -> Ready
         ensures { IsSlot self.now.memory.items addr result }
@@ -263,7 +274,7 @@ impl<X: Extra + Drop> Common<X> {
         ensures scene { held_of self.new ≡ held_of self.old }
         ensures block { self.new.block ≡ self.old.block }
     {
-        if self.has_slot(addr) && self.ready_at(addr).length == 0 {
+        if self.has_slot(addr) && self.ready_at(addr).is_blank() {
             self.ready[(addr - FIRST) as usize] = self.prepared_at(addr);
         }
     }
@@ -325,6 +336,27 @@ impl<X: Extra + Drop> Common<X> {
         let value = self.block.read16_here(window, addr as u8, steps)?;
         self.reached = count(self.reached, weigh_word_read(window, addr));
         Ok(value)
+    }
+
+    /// The same in line: the room for the answer is cleared where such a word is read, and nowhere else.
+    #[inline(always)]
+    pub(crate) fn read_word_here<L: Ledger>(
+        &mut self,
+        by: Master,
+        addr: u16,
+        steps: &mut Steps<L>,
+    ) -> Result<u16, Kind>
+        requires register { addr < 24 }
+        requires even { addr % 2 ≡ 0 }
+        ensures answer { scene_answer X.further (held_of self.old) (ReadWord by addr) ≡ result }
+        ensures ok { OnOk result (after_by X.further fitting (held_of self.old) (ReadWord by addr) ≡ held_of self.new) }
+        ensures err { OnErr result (held_of self.old ≡ held_of self.new) }
+        ensures time { self.new.block.time ≡ self.old.block.time }
+        ensures later { self.old.reached ≤ self.new.reached }
+        ensures steps { self.new.reached < 64 → steps.new + 16 * self.old.reached ≤ steps.old + 16 * self.new.reached }
+        ensures moves { self.new.reached < 64 → self.new.block.moves + 16 * self.old.reached ≤ self.old.block.moves + 16 * self.new.reached }
+    {
+        self.read_word(by, addr, steps)
     }
 
     /// A byte write below 0018H.

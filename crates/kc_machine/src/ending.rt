@@ -179,7 +179,6 @@ impl<X: Extra + Drop> Core<X> {
         requires followed { is_free (plan_of ready.now.mnemonic) ≡ true }
         requires begun { self.old.under_way ≡ None }
         requires alone { self.old.going ≡ None }
-        requires unheld { self.old.held ≡ false }
         requires lives { self.old.ended ≡ None }
         requires room { self.old.time < 2 ^ 63 }
         requires scene { held_of self.old.bus ≡ scene_of (machine_of self.old) }
@@ -192,12 +191,13 @@ impl<X: Extra + Drop> Core<X> {
         ensures stays { OnErr result (self.new.time ≡ self.old.time) }
         ensures over { self.new.under_way ≡ None }
         ensures going { self.new.going ≡ None }
-        ensures unheld { self.new.held ≡ false }
+        ensures unheld { OnOk result (self.new.held ≡ false) }
         ensures lives { self.new.ended ≡ None }
     {
         match ready_over(ready, &mut self.cpu, &mut self.bus, steps) {
             Ok(()) => {
                 self.time += 1;
+                self.held = false;
                 Ok(())
             }
             Err(kind) => Err(kind),

@@ -57,7 +57,7 @@ impl<'a, X: Extra + Drop, L: Ledger, K: Began> Bus for Lent<'a, X, L, K> {
     #[inline(always)]
     fn read8(&mut self, by: Master, addr: u16) -> Result<u8, Kind> {
         if addr < 0x18 {
-            self.common.read_byte(by, addr, self.steps)
+            Ok(self.common.read_byte(by, addr, self.steps)?)
         } else if is_outside(addr) {
             Err(Kind::OutsideMap)
         } else {
@@ -70,7 +70,7 @@ impl<'a, X: Extra + Drop, L: Ledger, K: Began> Bus for Lent<'a, X, L, K> {
         if addr % 2 == 1 {
             Err(Kind::OddWord)
         } else if addr < 0x18 {
-            self.common.read_word(by, addr, self.steps)
+            Ok(self.common.read_word_here(by, addr, self.steps)?)
         } else if is_outside(addr) {
             Err(Kind::OutsideMap)
         } else {
@@ -83,7 +83,8 @@ impl<'a, X: Extra + Drop, L: Ledger, K: Began> Bus for Lent<'a, X, L, K> {
     #[inline(always)]
     fn write8(&mut self, by: Master, addr: u16, value: u8) -> Result<(), Kind> {
         if addr < 0x18 {
-            self.common.write_byte(by, addr, value, self.steps)
+            self.common.write_byte(by, addr, value, self.steps)?;
+            Ok(())
         } else if is_outside(addr) {
             Err(Kind::OutsideMap)
         } else if is_fixed(addr) {
@@ -99,7 +100,8 @@ impl<'a, X: Extra + Drop, L: Ledger, K: Began> Bus for Lent<'a, X, L, K> {
         if addr % 2 == 1 {
             Err(Kind::OddWord)
         } else if addr < 0x18 {
-            self.common.write_word(by, addr, value, self.steps)
+            self.common.write_word(by, addr, value, self.steps)?;
+            Ok(())
         } else if is_outside(addr) {
             Err(Kind::OutsideMap)
         } else if is_fixed(addr) {

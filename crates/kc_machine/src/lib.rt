@@ -17,6 +17,3 @@ pub use finals::stopped;
 pub use kc_machine_spec::End;
 pub use machine::Machine;
 pub use passing::WriteFault;
-
-#[cfg(test)]
-mod tests;

@@ -7,7 +7,7 @@ ghost use Rattle.kc_exec_spec.specs.BlockMoves.{moved_word, IsUnderWay, IsOfMove
 ghost use Rattle.kc_exec_spec.specs.Entering.{entry, opcode_trap, Loads};
 ghost use Rattle.kc_exec_spec.specs.Places.{place_of};
 ghost use Rattle.kc_exec_spec.specs.Plans.{plan_of};
-ghost use Rattle.kc_exec_ready.specs.Preparing.{is_free, time_at, IsReady, GoesOn};
+ghost use Rattle.kc_exec_ready.specs.Preparing.{is_free, is_simple, time_at, IsReady, GoesOn};
 ghost use Rattle.kc_pts.specs.Cycles.{set_up, served, Serves};
 ghost use Rattle.kc_machine_spec.specs.Board.{masks_of};
 ghost use Rattle.kc_machine_spec.specs.Scene.{byte};
@@ -18,7 +18,7 @@ use crate::common::Common;
 use crate::lent::{Began, Lent};
 use kc_base::{Kind, Steps};
 use kc_exec::{enter, move_word, perform, place, trap_opcode};
-use kc_exec_ready::{Ready, perform_ready, time_of};
+use kc_exec_ready::{Ready, is_told, perform_ready, time_of, told_time_of};
 use kc_exec_spec::{After, Cpu, Words};
 use kc_extra::Extra;
 use kc_isa::{Insn, Place};
@@ -335,6 +335,52 @@ pub(crate) fn ready_over<X: Extra + Drop, L: Ledger>(
     ready_from::<X, L, Brand>(ready, cpu, common, steps)
 }
 
+/// The same where the whole place is asked.
+#[inline(never)]
+#[cold]
+fn placed_time_over<X: Extra + Drop, L: Ledger>(
+    ready: Ready,
+    cpu: Cpu,
+    common: &mut Common<X>,
+    steps: &mut Steps<L>,
+) -> Result<u8, Kind>
+    requires { IsReady ready }
+    ensures value { result ≡ time_at ready.insn cpu (masks_of common.old.block.units) (byte (held_of common.old)) }
+    ensures some { IfOk result (λ n. 0 < n) }
+    ensures common { common.new ≡ common.old }
+    ensures steps { steps.new ≡ steps.old }
+{
+    let bus = Lent {
+        common,
+        steps,
+        began: PhantomData::<Brand>,
+    };
+    time_of(&ready, cpu, &bus)
+}
+
+/// The same where one condition at most tells them.
+#[inline(always)]
+fn told_time_over<X: Extra + Drop, L: Ledger>(
+    ready: &Ready,
+    cpu: Cpu,
+    common: &mut Common<X>,
+    steps: &mut Steps<L>,
+) -> Result<u8, Kind>
+    requires ready { IsReady ready.now }
+    requires told { is_simple ready.now.cost ≡ true }
+    ensures value { result ≡ time_at ready.now.insn cpu (masks_of common.old.block.units) (byte (held_of common.old)) }
+    ensures some { IfOk result (λ n. 0 < n) }
+    ensures common { common.new ≡ common.old }
+    ensures steps { steps.new ≡ steps.old }
+{
+    let bus = Lent {
+        common,
+        steps,
+        began: PhantomData::<Brand>,
+    };
+    told_time_of(ready, cpu, &bus)
+}
+
 /// The states of a prepared instruction on the board, which stays as it is.
 #[inline(always)]
 pub(crate) fn time_over<X: Extra + Drop, L: Ledger>(
@@ -349,10 +395,9 @@ pub(crate) fn time_over<X: Extra + Drop, L: Ledger>(
     ensures common { common.new ≡ common.old }
     ensures steps { steps.new ≡ steps.old }
 {
-    let bus = Lent {
-        common,
-        steps,
-        began: PhantomData::<Brand>,
-    };
-    time_of(ready, cpu, &bus)
+    if is_told(ready) {
+        told_time_over(ready, cpu, common, steps)
+    } else {
+        Ok(placed_time_over(*ready, cpu, common, steps)?)
+    }
 }

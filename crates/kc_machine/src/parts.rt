@@ -10,17 +10,19 @@ ghost use Rattle.kc_machine_spec.specs.Scene.{byte};
 ghost use Rattle.kc_machine_spec.specs.Machine.{breaks, placed, scene_of, pushing_states, fetches, enters, sets_up, goes_on, goes_first, asked, chosen, current};
 ghost use Rattle.kc_machine_spec.specs.Passing.{IsIdle};
 ghost use Rattle.kc_machine_spec.specs.Peeking.{peeked};
+ghost use Rattle.kc_exec_ready.specs.Preparing as kc_ready;
 ghost use Rattle.kc_machine.specs.Prepared.{IsBetween, IsFree, HasSlot};
 ghost use Rattle.kc_machine.specs.Sound.{IsGoing, IsReady, IsSoundGoing};
 
 use crate::choosing::{entry_time, fetch};
 use crate::common::Common;
-use crate::over::place_over;
+use crate::over::{place_over, time_over};
 use crate::weights::window_for;
 use kc_base::{Kind, StateTime, Steps};
 use kc_bus::{Master, is_outside};
 use kc_code::{Decoded, decode};
 use kc_exec::word_states;
+use kc_exec_ready::Ready;
 use kc_exec_spec::Cpu;
 use kc_extra::Extra;
 use kc_intc::Choice;
@@ -115,9 +117,30 @@ impl<X: Extra + Drop> Core<X> {
         }
     }
 
-    // The next instruction.
+    /// A prepared instruction at its place.
+    pub(crate) fn placed_ready<L: Ledger>(
+        &mut self,
+        ready: &Ready,
+        steps: &mut Steps<L>,
+    ) -> UnderWay
+        requires { kc_ready.IsReady ready.now }
+        ensures value { result ≡ placed ready.now.insn (place_of ready.now.insn (machine_of self.old).cpu (masks_of (machine_of self.old).board.units) (byte (scene_of (machine_of self.old)))) }
+        ensures going { IsGoing result }
+        ensures same { self.new ≡ self.old }
+        ensures steps { steps.new ≡ steps.old }
+    {
+        match time_over(ready, self.cpu, &mut self.bus, steps) {
+            Ok(left) => UnderWay {
+                doing: Activity::Executes(ready.insn),
+                left,
+            },
+            Err(kind) => broken_off(kind),
+        }
+    }
+
+    // The next instruction, by the bytes that stand at PC.
     #[tactic(auto, unfolding(kc_machine_spec::specs::Machine::fetches))]
-    fn instruction<L: Ledger>(&mut self, steps: &mut Steps<L>) -> UnderWay
+    fn read_instruction<L: Ledger>(&mut self, steps: &mut Steps<L>) -> UnderWay
         ensures value { result ≡ fetches (machine_of self.old) }
         ensures going { IsGoing result }
         ensures same { self.new ≡ self.old }
@@ -132,6 +155,19 @@ impl<X: Extra + Drop> Core<X> {
             },
             Decoded::Undefined => broken_off(Kind::Opcode),
             Decoded::Short => broken_off(Kind::OutsideMap),
+        }
+    }
+
+    // The next instruction.
+    fn instruction<L: Ledger>(&mut self, steps: &mut Steps<L>) -> UnderWay
+        ensures value { result ≡ fetches (machine_of self.old) }
+        ensures going { IsGoing result }
+        ensures same { self.new ≡ self.old }
+        ensures steps { steps.new ≡ steps.old }
+    {
+        match self.bus.known_at(self.cpu.pc) {
+            Some(ready) => self.placed_ready(&ready, steps),
+            None => self.read_instruction(steps),
         }
     }
 
@@ -229,15 +265,26 @@ impl<X: Extra + Drop> Core<X> {
         self.under_way.is_none() && self.going.is_none() && !self.held && self.ended.is_none()
     }
 
+    // Whether an instruction is held for, and nothing else comes before it.
+    #[inline(always)]
+    #[tactic(auto, using(crate::proofs::Prepared::held_between))]
+    fn holds(&self) -> bool
+        ensures between { OnTrue result (IsBetween (machine_of self.now)) }
+        ensures lives { OnTrue result (self.now.ended ≡ None) }
+    {
+        self.held && self.under_way.is_none() && self.going.is_none() && self.ended.is_none()
+    }
+
     /// Whether the instruction at PC comes next and has a slot, where `free` says that the machine is known to be free.
     #[inline(always)]
+    #[tactic(auto, using(crate::proofs::Prepared::free_between))]
     pub(crate) fn comes_next(&self, free: bool) -> bool
         requires { OnTrue free (IsFree (machine_of self.now)) }
         ensures between { OnTrue result (IsBetween (machine_of self.now)) }
         ensures lives { OnTrue result (self.now.ended ≡ None) }
         ensures slot { OnTrue result (HasSlot self.now.cpu.pc) }
     {
-        free && self.is_unasked() && self.bus.has_slot(self.cpu.pc)
+        (free && self.is_unasked() || self.holds()) && self.bus.has_slot(self.cpu.pc)
     }
 
     /// The byte at an address, in the window that the processor sees.

@@ -55,8 +55,9 @@ impl<X: Extra + Drop> Core<X> {
         ensures spent { steps.new ≤ steps.old + 4 * touch X.further self.old.time count self.old.bus.block.units }
         ensures moves { self.new.bus.block.moves ≤ self.old.bus.block.moves + 4 * touch X.further self.old.time count self.old.bus.block.units }
     {
+        let last = self.time + (count - 1);
         self.bus.advance(self.time, count, out, steps);
-        self.time += count - 1;
+        self.time = last;
     }
 
     // The edges that the accesses of a state have given are printed.
@@ -261,14 +262,48 @@ impl<X: Extra + Drop> Core<X> {
         ensures free { OnTrue result (IsFree (machine_of self.new)) }
     {
         let ready = self.bus.ready_at(self.cpu.pc);
-        if is_followed_freely(&ready)
-            && let Ok(states) = time_over(&ready, self.cpu, &mut self.bus, steps)
+        if !is_followed_freely(&ready) {
+            self.pass_alone(until, out, steps);
+            return self.is_free();
+        }
+        if let Ok(states) = time_over(&ready, self.cpu, &mut self.bus, steps)
             && u64::from(states) <= until - self.time
         {
             self.pass_ready(&ready, states, until, out, steps)
         } else {
             self.pass_other(until, out, steps);
             self.is_free()
+        }
+    }
+
+    // The same, where not any activity may follow the instruction that comes next, or nothing is told of it.
+    #[inline(never)]
+    #[cold]
+    fn pass_alone<S: Sink, L: Ledger>(
+        &mut self,
+        until: StateTime,
+        out: &mut TraceOut<S>,
+        steps: &mut Steps<L>,
+    )
+        requires between { IsBetween (machine_of self.old) }
+        requires slot { HasSlot self.old.cpu.pc }
+        requires ready { IsReady self.old }
+        requires lives { self.old.ended ≡ None }
+        requires ahead { self.old.time < until }
+        requires room { until ≤ 2 * 10 ^ 15 }
+        ensures passes { Passes X.further until (machine_of self.old) (machine_of self.new) }
+        ensures machine { machine_of self.new ≡ (run_to X.further self.new.time (machine_of self.old)).machine }
+        ensures lines { Prints (out_of S.written S.faults out.old) (run_to X.further self.new.time (machine_of self.old)).records (out_of S.written S.faults out.new) }
+        ensures ready { IsReady self.new }
+        ensures spent { steps.new ≤ steps.old + 4 * (run_to X.further self.new.time (machine_of self.old)).work }
+        ensures moves { self.new.bus.block.moves ≤ self.old.bus.block.moves + 4 * (run_to X.further self.new.time (machine_of self.old)).work }
+    {
+        let ready = self.bus.ready_at(self.cpu.pc);
+        if ready.is_blank() {
+            self.pass_other(until, out, steps);
+        } else {
+            let activity = self.placed_ready(&ready, steps);
+            self.go_through(activity, until, out, steps);
         }
     }
 

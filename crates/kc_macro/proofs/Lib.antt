@@ -1,3 +1,4 @@
+pub mod CallLemmas
 pub mod OperandLemmas
 pub mod Soundness
 pub mod RunLemmas

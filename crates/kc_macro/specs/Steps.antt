@@ -1,6 +1,6 @@
 -- One rewriting of the text ahead: its first piece is replaced by what it stands for, or comes out (after the MCS-96 Macro
 -- Assembler User's Guide, "Macros" and "Conditional Assembly"; the codes of faults are this kit's own).
-use Rattle.std.specs.Prelude.{◌≡◌, ℕ, suc, ◌+◌, ◌-◌, ◌≤◌, Bool, true, false, not, ◌||◌, ◌==◌, nat_lt, nat_le, if◌then◌else◌, List, [], ◌∷◌, ◌++◌, length, drop, take, map, count_by, min, Option, Some, None, is_some, Result, Ok, Err}
+use Rattle.std.specs.Prelude.{◌≡◌, ℕ, suc, ◌+◌, ◌-◌, ◌^◌, ◌≤◌, Bool, true, false, not, ◌&&◌, ◌||◌, ◌==◌, nat_lt, nat_le, if◌then◌else◌, List, [], ◌∷◌, ◌++◌, length, drop, take, map, count_by, min, Option, Some, None, is_some, Result, Ok, Err}
 use Rattle.std.specs.List.{filter}
 use Rattle.std.specs.FinMap as fm
 use Rattle.kc_lex.specs.declared.token.Token.{Token}
@@ -9,7 +9,7 @@ use Rattle.kc_macro_body.specs.declared.words.Word.{Word}
 use Rattle.kc_macro_body.specs.declared.words.Word.TheVariants as words
 use Rattle.kc_macro_body.specs.declared.macros.Macro.{Macro}
 use Rattle.kc_lex.specs.Kinds.{has_label}
-use Rattle.kc_lex.specs.Codes.{no_end, many_lines, too_deep, no_match, many_arguments}
+use Rattle.kc_lex.specs.Codes.{no_statement, no_end, many_lines, too_deep, no_match, many_arguments}
 use Rattle.kc_macro_body.specs.Words.{unlabelled, behind_label}
 use Rattle.kc_macro_body.specs.Arguments.{arguments, definition, over_arguments}
 use Rattle.kc_macro_body.specs.Bodies.{macro_of, only}
@@ -139,13 +139,18 @@ abbrev pub text_code : Filled → Option ℕ
 text_code (Ok ps) = None
 text_code (Err f) = Some f.1
 
-abbrev pub call_fault : ℕ → List Mark → Macro → List (List Token) → Filled → Option ℕ
-call_fault left from m args text =
+-- a name has at most 31 characters: one for a LOCAL name has two and up to 29 digits
+abbrev pub names_run_out : (given count : ℕ) → Bool
+names_run_out given count = nat_lt 0 count && nat_le (10 ^ 29) (given + count)
+
+abbrev pub call_fault : ℕ → ℕ → List Mark → Macro → List (List Token) → Filled → Option ℕ
+call_fault left given from m args text =
     least (text_code text)
     (least (code_if (left == 0) many_lines)
     (least (code_if (nat_le 16 (count_by is_call from)) too_deep)
     (least (code_if (not m.sound) no_match)
-    (code_if (nat_lt (length m.formals.params) (length args)) many_arguments))))
+    (least (code_if (nat_lt (length m.formals.params) (length args)) many_arguments)
+    (code_if (names_run_out given m.formals.locals.count) no_statement)))))
 
 abbrev pub call_next : State → ℕ → ℕ → Option ℕ → Filled → Next
 call_next s number locals (Some code) text = Fault number code
@@ -155,7 +160,7 @@ call_next s number locals None (Ok ps) = Counted (record s { ahead = ps ++ s.ahe
 abbrev pub call_step : State → ℕ → List Mark → Macro → List (List Token) → Next
 call_step s number from m args =
     let text = call_text s.left s.given number from m args in
-    call_next s number m.formals.locals.count (call_fault s.left from m args text) text
+    call_next s number m.formals.locals.count (call_fault s.left s.given from m args text) text
 
 -- ---- lines that come out
 

@@ -1,4 +1,4 @@
-ghost use Rattle.std.specs.Prelude.{◌≡◌, ◌+◌, IfOk, drop};
+ghost use Rattle.std.specs.Prelude.{◌≡◌, ℕ, ◌+◌, false, IfOk, drop};
 ghost use Rattle.kc_macro.specs.Steps as steps;
 ghost use Rattle.std.specs.Option.{IfSome};
 ghost use Rattle.kc_macro_input.specs.Filled.{seen_filled};
@@ -74,8 +74,9 @@ fn text_code(text: &Filled) -> Option<u8>
     }
 }
 
+// The least code of a call's faults, where names do not run out.
 fn call_fault(left: u32, from: &Marks, item: &Macro, args: &[Tokens], text: &Filled) -> Option<u8>
-    ensures { result ≡ steps.call_fault left from.now item.now args.now (seen_filled text.now) }
+    ensures { (given : ℕ) → steps.names_run_out given item.now.formals.locals.count ≡ false → result ≡ steps.call_fault left given from.now item.now args.now (seen_filled text.now) }
 {
     let many = code_if(
         item.formals.params.as_slice().len() < args.len(),
@@ -108,6 +109,13 @@ fn call_text(
     fill_body(alloc, &item.formals, args, given, lines.as_slice())
 }
 
+fn locals_of(item: &Macro) -> u64
+    ensures { result ≡ item.now.formals.locals.count }
+{
+    item.formals.locals.count
+}
+
+// Counted in 64 bits, names do not run out: their numbers have at most 20 digits.
 fn call_of(
     alloc: Global,
     left: u32,
@@ -118,16 +126,17 @@ fn call_of(
     tokens: &[Token],
 ) -> Result<Call, NoMemory>
     ensures text { IfOk result (λ c. seen_filled c.text ≡ steps.call_text left given number from.now item.now (arguments.arguments (drop 1 tokens.now))) }
-    ensures fault { IfOk result (λ c. c.fault ≡ steps.call_fault left from.now item.now (arguments.arguments (drop 1 tokens.now)) (seen_filled c.text)) }
+    ensures fault { IfOk result (λ c. c.fault ≡ steps.call_fault left given from.now item.now (arguments.arguments (drop 1 tokens.now)) (seen_filled c.text)) }
     ensures locals { IfOk result (λ c. c.locals ≡ item.now.formals.locals.count) }
 {
+    let locals = locals_of(item);
     let args = arguments(alloc, behind_first(tokens))?;
     let text = call_text(alloc, left, given, number, from, item, args.as_slice())?;
     let fault = call_fault(left, from, item, args.as_slice(), &text);
     Ok(Call {
         text,
         fault,
-        locals: item.formals.locals.count,
+        locals,
     })
 }
 

@@ -41,7 +41,8 @@ impl Places {
     pub fn set(&mut self, name: Text, place: u64) -> Result<(), NoMemory>
         ensures { OnOk result (self.new ≡ map.insert self.old name place) }
     {
-        self.map.insert(name.into_vec(), place)?;
+        let key = name.into_vec()?;
+        self.map.insert(key, place)?;
         Ok(())
     }
 
@@ -120,7 +121,8 @@ impl Macros {
     pub fn define(&mut self, name: Text, item: Macro) -> Result<(), NoMemory>
         ensures { OnOk result (self.new ≡ map.insert self.old name item) }
     {
-        self.map.insert(name.into_vec(), item)?;
+        let key = name.into_vec()?;
+        self.map.insert(key, item)?;
         Ok(())
     }
 

@@ -22,7 +22,7 @@ use Rattle.kc_macro_input.specs.Cuts.{cut_at, kept}
 use Rattle.kc_macro_input.specs.Filled.{Filled, together, all_together, fill_body, fill_turns}
 use Rattle.kc_macro.specs.declared.state.State.{State}
 use Rattle.kc_macro.specs.Operands.{operand}
-use Rattle.kc_macro.specs.Steps.{Fault, Counted, counted, least, code_if, turn_lines, turn_head, rept_next, irp_next, begun, if_next, call_text, call_next, word_step, line_step, labelled_step, step}
+use Rattle.kc_macro.specs.Steps.{Fault, Counted, counted, least, code_if, turn_lines, turn_head, rept_next, irp_next, begun, if_next, call_text, names_run_out, call_next, word_step, line_step, labelled_step, step}
 use Rattle.kc_macro.specs.Expansion.{run_out}
 use Rattle.kc_macro_laws.specs.Course.{at_text, on_text, matched, one_counted, is_older, HasOldMarks, IsTooDeep}
 use Rattle.kc_macro_laws.specs.Constructs.{is_exitm, has_no_exitm, Block, text_of, IsBlock, IsJoined, ReptIsCopies, IrpIsCopies, MacroIsDefined, IsCall, CallIsItsBody, IfElseIsItsPart, IfIsItsPart}
@@ -266,26 +266,26 @@ body_lines : (m : Mark) (number : ℕ) (from : List Mark) (ls : List (List Token
 body_lines m number from [] = refl
 body_lines m number from (l ∷ ls) = ap (λ ps. body_line number (m ∷ from) l ∷ ps) (body_lines m number from ls)
 
-call_first : (s : State) (number : ℕ) (from : List Mark) (tokens : List Token) (rest : List Piece) (m : Macro) (copy : List Piece) → IsCall s tokens m →
+call_first : (s : State) (number : ℕ) (from : List Mark) (tokens : List Token) (rest : List Piece) (m : Macro) (copy : List Piece) → IsCall s tokens m → names_run_out s.given m.formals.locals.count ≡ false →
     fill_body m.formals (arguments (drop 1 tokens)) s.given (map (body_line number from) m.body) ≡ Ok copy →
     step (at_text s (body_line number from tokens ∷ rest))
     ≡ call_next (on_text s rest) number m.formals.locals.count (least (code_if (s.left == 0) 4) (least (code_if (nat_le 16 (count_by is_call from)) 5) None)) (Ok (map (marked (Call s.left)) copy))
-call_first s number from tokens rest m copy is filled =
+call_first s number from tokens rest m copy is names filled =
     let text : call_text s.left s.given number from m (arguments (drop 1 tokens)) ≡ Ok (map (marked (Call s.left)) copy) =
     rw (body_lines (Call s.left) number from m.body) (body_marked (Call s.left) m.formals (arguments (drop 1 tokens)) s.given (map (body_line number from) m.body) copy filled) in
     let few : nat_lt (length m.formals.params) (length (arguments (drop 1 tokens))) ≡ false = le-ltb (length m.formals.params) (length (arguments (drop 1 tokens))) is.few in
-    word_first s number from tokens rest words.Other is.first ∙ rw (is.named, text, is.sound, few) refl
+    word_first s number from tokens rest words.Other is.first ∙ rw (is.named, text, is.sound, few, names) refl
 
 -- the place behind a call
 abbrev pub called_on : State → List Piece → Macro → State
 called_on s ps m = record (on_text s ps) { left = s.left - 1; given = s.given + m.formals.locals.count }
 
-pub call_copy : (s : State) (number : ℕ) (from : List Mark) (tokens : List Token) (rest : List Piece) (m : Macro) (copy qs : List Piece) → IsCall s tokens m →
+pub call_copy : (s : State) (number : ℕ) (from : List Mark) (tokens : List Token) (rest : List Piece) (m : Macro) (copy qs : List Piece) → IsCall s tokens m → names_run_out s.given m.formals.locals.count ≡ false →
     fill_body m.formals (arguments (drop 1 tokens)) s.given (map (body_line number from) m.body) ≡ Ok copy →
     (0 < s.left → AnswerPairs (Call s.left) (run_out (called_on s (map (marked (Call s.left)) copy ++ rest) m)) (run_out (called_on s qs m))) →
     (run_out (at_text s (body_line number from tokens ∷ rest)) ≡ run_out (record (on_text s (one_counted number from ∷ qs)) { given = s.given + m.formals.locals.count }))
     ⊎ IsTooDeep (run_out (at_text s (body_line number from tokens ∷ rest)))
-call_copy s number from tokens rest m copy qs is filled later = choice (s.left == 0) (nat_le 16 (count_by is_call from)) refl (call_first s number from tokens rest m copy is filled) refl
+call_copy s number from tokens rest m copy qs is names filled later = choice (s.left == 0) (nat_le 16 (count_by is_call from)) refl (call_first s number from tokens rest m copy is names filled) refl
   where
     a : State
     a = at_text s (body_line number from tokens ∷ rest)
@@ -310,12 +310,12 @@ call_copy s number from tokens rest m copy qs is filled later = choice (s.left =
     choice false true e f g = inr (number, after_fault a number 5 f)
     choice false false e f g = turned (later (some_left s.left e)) (after_counted a t f) (after_counted c (called_on s qs m) (g ∙ rw e refl))
 
-call_body : (s : State) (number : ℕ) (from : List Mark) (tokens : List Token) (rest : List Piece) (m : Macro) (copy : List Piece) → IsCall s tokens m → HasOldMarks (at_text s (body_line number from tokens ∷ rest)) →
+call_body : (s : State) (number : ℕ) (from : List Mark) (tokens : List Token) (rest : List Piece) (m : Macro) (copy : List Piece) → IsCall s tokens m → names_run_out s.given m.formals.locals.count ≡ false → HasOldMarks (at_text s (body_line number from tokens ∷ rest)) →
     fill_body m.formals (arguments (drop 1 tokens)) s.given (map (body_line number from) m.body) ≡ Ok copy → has_no_exitm copy ≡ true →
     (run_out (at_text s (body_line number from tokens ∷ rest)) ≡ run_out (record (on_text s (one_counted number from ∷ (copy ++ rest))) { given = s.given + m.formals.locals.count }))
     ⊎ IsTooDeep (run_out (at_text s (body_line number from tokens ∷ rest)))
-call_body s number from tokens rest m copy is old filled calm =
-    call_copy s number from tokens rest m copy (copy ++ rest) is filled
+call_body s number from tokens rest m copy is names old filled calm =
+    call_copy s number from tokens rest m copy (copy ++ rest) is names filled
     (λ some. answers_alike (Call s.left) (called_on s (map (marked (Call s.left)) copy ++ rest) m) (copy ++ rest) (record {
       pairs = front_of (Call s.left) false _ _ (pairs_append (Calm (Call s.left)) (map (marked (Call s.left)) copy) copy rest rest (marked_pairs (Call s.left) copy calm)
           (old_pairs s.left (Call s.left) rest (call_is_new s.left) (and_parts _ _ old).1));

@@ -158,8 +158,8 @@ some_left : (n : ℕ) → 0 < n → (n == 0) ≡ false
 some_left n h = grind arith
 
 pub exitm_in_a_call : ExitmInACall
-exitm_in_a_call s number from tokens rest m front last back is old filled out exit =
-    call_copy s number from tokens rest m (front ++ last ∷ back) (front ++ rest) is filled
+exitm_in_a_call s number from tokens rest m front last back is names old filled out exit =
+    call_copy s number from tokens rest m (front ++ last ∷ back) (front ++ rest) is names filled
     (λ some. inl (sym (to_the_exit (Call s.left) s.left front last back rest (called_on s rest m) (own_call s.left (some_left s.left some)) out exit
     (old_none (Call s.left) s.left rest (own_call s.left (some_left s.left some)) (and_parts _ _ old).1))))
 

@@ -100,7 +100,7 @@ call_gives s t tokens m c = kinds c.goes
     text = call_text s.left s.given c.number c.from m (arguments (drop 1 tokens))
 
     fault : Option ℕ
-    fault = call_fault s.left c.from m (arguments (drop 1 tokens)) text
+    fault = call_fault s.left s.given c.from m (arguments (drop 1 tokens)) text
 
     kinds : Goes s t → t.given ≡ s.given + m.formals.locals.count
     kinds (inl e) = absurd (not_quiet (on_text s c.rest) c.number m.formals.locals.count fault text t (sym (call_is s t tokens m c) ∙ e))
@@ -109,8 +109,12 @@ call_gives s t tokens m c = kinds c.goes
 call_fine : (s t : State) (tokens : List Token) (m : Macro) → Calls s tokens m t → IsFine m
 call_fine s t tokens m c = called_fine s.macros tokens m (reached_good s c.reached).macros c.call.named
 
+-- all names that are given by then have a number that is read back
+call_names_few : (s t : State) (tokens : List Token) (m : Macro) → Calls s tokens m t → t.given < 10 ^ 64
+call_names_few s t tokens m c = let few : t.given < 10 ^ 29 = (goes_good s t (reached_good s c.reached) c.goes).0.few in omega arith
+
 pub calls_have_their_own_names : CallsHaveTheirOwnNames
-calls_have_their_own_names s t u v tokens later m w a b c leads d small is other e =
+calls_have_their_own_names s t u v tokens later m w a b c leads d is other e =
     let k : (k : ℕ) × (fm.get m.formals.locals.places a.text ≡ Some k) = local_place m a is in
     let j : (k : ℕ) × (fm.get w.formals.locals.places b.text ≡ Some k) = local_place w b other in
     let fine : IsFine m = call_fine s t tokens m c in
@@ -120,17 +124,19 @@ calls_have_their_own_names s t u v tokens later m w a b c leads d small is other
     let first : t.given ≡ s.given + m.formals.locals.count = call_gives s t tokens m c in
     let second : v.given ≡ u.given + w.formals.locals.count = call_gives u v later w d in
     let on : t.given ≤ u.given = (leads_good t u (goes_good s t (reached_good s c.reached) c.goes).0 leads).1 in
+    let small : v.given < 10 ^ 64 = call_names_few u v later w d in
     names_apart (s.given + k.0 + 1) (u.given + j.0 + 1) (omega arith) (omega arith)
     (sym (local_stands m (arguments (drop 1 tokens)) s.given a k.0 fine is k.1) ∙ e ∙ local_stands w (arguments (drop 1 later)) u.given b j.0 fine_too other j.1)
 
 pub locals_have_their_own_names : LocalsHaveTheirOwnNames
-locals_have_their_own_names s t tokens m a b c small is other apart e =
+locals_have_their_own_names s t tokens m a b c is other apart e =
     let k : (k : ℕ) × (fm.get m.formals.locals.places a.text ≡ Some k) = local_place m a is in
     let j : (k : ℕ) × (fm.get m.formals.locals.places b.text ≡ Some k) = local_place m b other in
     let fine : IsFine m = call_fine s t tokens m c in
     let few : k.0 < m.formals.locals.count = fine.below a.text k.0 k.1 in
     let few_too : j.0 < m.formals.locals.count = fine.below b.text j.0 j.1 in
     let first : t.given ≡ s.given + m.formals.locals.count = call_gives s t tokens m c in
+    let small : t.given < 10 ^ 64 = call_names_few s t tokens m c in
     let same : name_token (local_name (s.given + k.0 + 1)) ∷ [] ≡ name_token (local_name (s.given + j.0 + 1)) ∷ [] =
     sym (local_stands m (arguments (drop 1 tokens)) s.given a k.0 fine is k.1) ∙ e ∙ local_stands m (arguments (drop 1 tokens)) s.given b j.0 fine other j.1 in
     elim (cases_order k.0 j.0) [

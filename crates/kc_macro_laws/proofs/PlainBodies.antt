@@ -108,4 +108,4 @@ plain_call_is_its_lines s number from name rest lines first named kept old =
     let call : IsCall s (name ∷ []) (record { formals = only []; sound = true; body = lines }) = record { first = first; named = named ∙ ap (λ (m : Macro). Some m) macro; sound = refl; few = omega arith } in
     subst (λ n. (run_out (at_text s (body_line number from (name ∷ []) ∷ rest)) ≡ run_out (record (on_text s (one_counted number from ∷ (map (body_line number from) lines ++ rest))) { given = n })) ⊎ IsTooDeep (run_out (at_text s (body_line number from (name ∷ []) ∷ rest))))
     (add-zero s.given)
-    (call_is_its_body s number from (name ∷ []) rest (record { formals = only []; sound = true; body = lines }) (map (body_line number from) lines) call old (body_stays s.given number from lines kept) (no_exits number from lines kept))
+    (call_is_its_body s number from (name ∷ []) rest (record { formals = only []; sound = true; body = lines }) (map (body_line number from) lines) call refl old (body_stays s.given number from lines kept) (no_exits number from lines kept))

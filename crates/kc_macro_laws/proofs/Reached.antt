@@ -1,16 +1,18 @@
 -- What holds at each place that the rewriting of a source comes to.
-use Rattle.std.proofs.Common.{◌≡◌, ℕ, zero, suc, ◌+◌, ◌-◌, ◌<◌, ◌≤◌, ◌==◌, Bool, true, false, ◌&&◌, ◌||◌, cond, List, [], ◌∷◌, ◌++◌, map, drop, take, Option, Some, None, Result, Ok, Err, inl, inr, refl, sym, ap, ◌∙◌, subst, arith, append_assoc}
+use Rattle.std.proofs.Common.{◌≡◌, ℕ, zero, suc, ◌+◌, ◌-◌, ◌^◌, ◌<◌, ◌≤◌, ◌==◌, Bool, true, false, not, ◌&&◌, ◌||◌, cond, List, [], ◌∷◌, ◌++◌, length, map, drop, take, Option, Some, None, Result, Ok, Err, inl, inr, refl, sym, ap, ◌∙◌, subst, arith, append_assoc}
 use Rattle.std.proofs.lemmas.List.{append-nil}
-use Rattle.std.specs.Prelude.{position, is_some}
+use Rattle.std.specs.Prelude.{position, is_some, count_by, nat_le, nat_lt}
 use Rattle.std.specs.List.{list_all, filter}
 use Rattle.std.specs.Str.{bytes_eq}
 use Rattle.std.specs.Cmp.Lexicographic.{nat_list_cmp_total, bytes_decides}
 use Rattle.std.specs.FinMap as fm
 use Rattle.std.proofs.lemmas.Bool.{and_parts, lt-ltb, ltb-true, ne_eqb, eq-eqb}
+use Rattle.std.proofs.lemmas.Bool.Decides.{nat_tests}
 use Rattle.std.proofs.lemmas.Map.Text.{is_eq-slice_cmp}
 use Rattle.kc_lex.specs.declared.token.Token.{Token}
 use Rattle.kc_lex.specs.declared.token.Line.{Line}
 use Rattle.kc_lex.specs.Kinds.{has_label}
+use Rattle.kc_lex.specs.Codes.{no_statement, many_lines, too_deep, no_match, many_arguments}
 use Rattle.kc_macro_body.specs.declared.words.Word.{Word}
 use Rattle.kc_macro_body.specs.declared.words.Word.TheVariants as words
 use Rattle.kc_macro_body.specs.declared.macros.Formals.{Formals}
@@ -27,12 +29,12 @@ use Rattle.kc_macro_input.specs.declared.piece.Piece.{Piece}
 use Rattle.kc_macro_input.specs.declared.piece.Extent.{Extent}
 use Rattle.kc_macro_input.specs.declared.piece.Extent.TheVariants.{Body, Part, Condition}
 use Rattle.kc_macro_body.specs.Words.{is_endif}
-use Rattle.kc_macro_input.specs.Pieces.{innermost, same_mark, marked, left_out, first_piece, body_line, is_line, texts_of, word_at, repeated}
+use Rattle.kc_macro_input.specs.Pieces.{is_call, innermost, same_mark, marked, left_out, first_piece, body_line, is_line, texts_of, word_at, repeated}
 use Rattle.kc_macro_input.specs.Cuts.{ends, depth_after, Cut, cut_at, after_piece, kept_before, second_part, else_part, kept_of, kept}
 use Rattle.kc_macro_input.specs.Filled.{Filled, fill_body, fill_turns}
 use Rattle.kc_macro.specs.declared.state.State.{State}
 use Rattle.kc_macro.specs.Operands.{operand, noted}
-use Rattle.kc_macro.specs.Steps.{Next, Fault, Ended, Quiet, Counted, counted, if_next, turn_lines, turn_head, same_turns, turns_of, rept_next, begun, irp_next, exitm_step, macro_next, call_text, call_next, call_step, call_fault, emitted, plain_step, ended, end_step, label_step, other_step, word_step, is_end, is_replaced, labelled_step, line_step, piece_step, front_step, least, code_if, step}
+use Rattle.kc_macro.specs.Steps.{Next, Fault, Ended, Quiet, Counted, counted, if_next, turn_lines, turn_head, same_turns, turns_of, rept_next, begun, irp_next, exitm_step, macro_next, call_text, names_run_out, call_next, call_step, call_fault, emitted, plain_step, ended, end_step, label_step, other_step, word_step, is_end, is_replaced, labelled_step, line_step, piece_step, front_step, least, code_if, text_code, step}
 use Rattle.kc_macro.specs.Expansion.{start}
 use Rattle.kc_macro_laws.specs.Course.{Goes, GoesBy, Leads, IsReached, is_older}
 use Rattle.kc_macro_laws.proofs.Constructs.{all_append}
@@ -120,6 +122,7 @@ pub record IsGood (s : State) : Type 0 where
   pub old : IsOld s.left s.ahead
   pub tidy : Tidy s.ahead
   pub macros : AllFine s.macros
+  pub few : s.given < 10 ^ 29
 
 -- the next place is good too, and no fewer LOCAL names are given
 abbrev NextGood : ℕ → Next → Type 0
@@ -211,7 +214,7 @@ counted_good number given s le h = choice (s.left == 0) refl
     choice false e = (h e, le)
 
 less_good : (s : State) → IsGood s → IsGood (record s { left = s.left - 1 })
-less_good s h = record { old = old_less s.left s.ahead h.old; tidy = h.tidy; macros = h.macros }
+less_good s h = record { old = old_less s.left s.ahead h.old; tidy = h.tidy; macros = h.macros; few = h.few }
 
 -- ---- new marks
 
@@ -253,6 +256,7 @@ new_good x s ps own new h = record {
   old = old_append (s.left - 1) ps s.ahead (new_old x s.left ps own new) (old_less s.left s.ahead h.old);
   tidy = tidy_new x s.left ps s.ahead own new h.old h.tidy;
   macros = h.macros;
+  few = h.few;
 }
 
 -- lines that are filled keep their marks
@@ -326,7 +330,7 @@ turns_good s number n from front h old k =
 
 -- a place with a part of the text
 part_good : (s : State) (qs : List Piece) → Sub qs s.ahead → IsGood s → IsGood (record s { ahead = qs })
-part_good s qs k h = record { old = old_sub s.left qs s.ahead k h.old; tidy = tidy_sub qs s.ahead k h.tidy; macros = h.macros }
+part_good s qs k h = record { old = old_sub s.left qs s.ahead k h.old; tidy = tidy_sub qs s.ahead k h.tidy; macros = h.macros; few = h.few }
 
 rept_good : (s : State) (number : ℕ) (from : List Mark) (value : Result ℕ ℕ) (o : Option Cut) → IsGood s → list_all (is_older s.left) from ≡ true → CutIs s.ahead o → NextGood s.given (rept_next s number from value o)
 rept_good s number from value None h old k = tt
@@ -355,7 +359,7 @@ macro_good s number None o h k = tt
 macro_good s number (Some d) None h k = tt
 macro_good s number (Some d) (Some cut) h k =
     let rest : IsGood (record s { ahead = cut.rest }) = part_good s cut.rest (rest_sub s.ahead cut k) h in
-    (record { old = rest.old; tidy = rest.tidy; macros = insert_fine s.macros d.0 (macro_of d.1 (texts_of cut.front)) h.macros (macro_fine d.1 (texts_of cut.front)) }, omega arith)
+    (record { old = rest.old; tidy = rest.tidy; macros = insert_fine s.macros d.0 (macro_of d.1 (texts_of cut.front)) h.macros (macro_fine d.1 (texts_of cut.front)); few = h.few }, omega arith)
 
 if_good : (s : State) (number : ℕ) (fault : Option ℕ) (o : Option (List Piece × List Piece)) → IsGood s → KeptSub s.ahead o → NextGood s.given (if_next s number fault o)
 if_good s number fault None h k = tt
@@ -363,14 +367,14 @@ if_good s number (Some code) (Some p) h k = tt
 if_good s number None (Some p) h k =
     let part : IsGood (record s { ahead = p.0 ++ p.1 }) = part_good s (p.0 ++ p.1) k h in
     let parts : IsOld s.left p.0 × IsOld s.left p.1 = all_append (λ q. list_all (is_older s.left) q.from) p.0 p.1 part.old in
-    (record { old = old_append s.left (map (marked If) p.0) p.1 (old_if s.left p.0 parts.0) parts.1; tidy = tidy_if p.0 p.1 part.tidy; macros = h.macros }, omega arith)
+    (record { old = old_append s.left (map (marked If) p.0) p.1 (old_if s.left p.0 parts.0) parts.1; tidy = tidy_if p.0 p.1 part.tidy; macros = h.macros; few = h.few }, omega arith)
 
-call_good : (s : State) (number locals : ℕ) (fault : Option ℕ) (text : Filled) → IsGood s → (fault ≡ None → (s.left == 0) ≡ false) → FilledNew (Call s.left) s.left text → NextGood s.given (call_next s number locals fault text)
-call_good s number locals (Some code) text h some new = tt
-call_good s number locals None (Err f) h some new = tt
-call_good s number locals None (Ok ps) h some new =
-    let next : IsGood (record s { ahead = ps ++ s.ahead; left = s.left - 1 }) = new_good (Call s.left) s ps (own_call s.left (some refl)) new h in
-    (record { old = next.old; tidy = next.tidy; macros = next.macros }, omega arith)
+call_good : (s : State) (number locals : ℕ) (fault : Option ℕ) (text : Filled) → IsGood s → (fault ≡ None → ((s.left == 0) ≡ false) × (s.given + locals < 10 ^ 29)) → FilledNew (Call s.left) s.left text → NextGood s.given (call_next s number locals fault text)
+call_good s number locals (Some code) text h goes new = tt
+call_good s number locals None (Err f) h goes new = tt
+call_good s number locals None (Ok ps) h goes new =
+    let next : IsGood (record s { ahead = ps ++ s.ahead; left = s.left - 1 }) = new_good (Call s.left) s ps (own_call s.left (goes refl).0) new h in
+    (record { old = next.old; tidy = next.tidy; macros = next.macros; few = (goes refl).1 }, omega arith)
 
 none_both : (c d : Option ℕ) → least c d ≡ None → (c ≡ None) × (d ≡ None)
 none_both None d e = (refl, e)
@@ -381,16 +385,34 @@ none_if : (b : Bool) (code : ℕ) → code_if b code ≡ None → b ≡ false
 none_if true code e = absurd (cc)
 none_if false code e = refl
 
+none_second_last : (a b c d e f : Option ℕ) → least a (least b (least c (least d (least e f)))) ≡ None → (b ≡ None) × (f ≡ None)
+none_second_last a b c d e f h =
+    let second : (b ≡ None) × (least c (least d (least e f)) ≡ None) = none_both b (least c (least d (least e f))) (none_both a (least b (least c (least d (least e f)))) h).1 in
+    let fourth : (d ≡ None) × (least e f ≡ None) = none_both d (least e f) (none_both c (least d (least e f)) second.1).1 in
+    (second.0, (none_both e f fourth.1).1)
+
+-- a call whose names do not run out leaves few given
+few_given : (given count : ℕ) → given < 10 ^ 29 → names_run_out given count ≡ false → given + count < 10 ^ 29
+few_given given count h e = grind (arith, nat_tests)
+
+-- a call without a fault has a line left, and names
+call_goes : (left given : ℕ) (from : List Mark) (m : Macro) (args : List (List Token)) (text : Filled) → given < 10 ^ 29 → call_fault left given from m args text ≡ None →
+    ((left == 0) ≡ false) × (given + m.formals.locals.count < 10 ^ 29)
+call_goes left given from m args text few e =
+    let parts = none_second_last (text_code text) (code_if (left == 0) many_lines) (code_if (nat_le 16 (count_by is_call from)) too_deep) (code_if (not m.sound) no_match) (code_if (nat_lt (length m.formals.params) (length args)) many_arguments)
+    (code_if (names_run_out given m.formals.locals.count) no_statement) e in
+    (none_if (left == 0) many_lines parts.0, few_given given m.formals.locals.count few (none_if (names_run_out given m.formals.locals.count) no_statement parts.1))
+
 call_step_good : (s : State) (number : ℕ) (from : List Mark) (m : Macro) (args : List (List Token)) → IsGood s → list_all (is_older s.left) from ≡ true → NextGood s.given (call_step s number from m args)
 call_step_good s number from m args h old =
-    call_good s number m.formals.locals.count (call_fault s.left from m args (call_text s.left s.given number from m args)) (call_text s.left s.given number from m args) h
-    (λ e. none_if (s.left == 0) 4 (none_both _ _ (none_both _ _ e).1).0)
+    call_good s number m.formals.locals.count (call_fault s.left s.given from m args (call_text s.left s.given number from m args)) (call_text s.left s.given number from m args) h
+    (call_goes s.left s.given from m args (call_text s.left s.given number from m args) h.few)
     (body_new (Call s.left) s.left m.formals args s.given (map (body_line number (Call s.left ∷ from)) m.body) (call_lines_new (Call s.left) s.left number from m.body old))
 
 -- ---- lines that come out
 
 plain_good : (s : State) (number : ℕ) (ts : List Token) → IsGood s → NextGood s.given (plain_step s number ts)
-plain_good s number ts h = counted_good number s.given (emitted number ts (record s { values = noted ts s.values })) (omega arith) (λ _. less_good (emitted number ts (record s { values = noted ts s.values })) (record { old = h.old; tidy = h.tidy; macros = h.macros }))
+plain_good s number ts h = counted_good number s.given (emitted number ts (record s { values = noted ts s.values })) (omega arith) (λ _. less_good (emitted number ts (record s { values = noted ts s.values })) (record { old = h.old; tidy = h.tidy; macros = h.macros; few = h.few }))
 
 ended_good : (given : ℕ) (n : Next) → NextGood given (ended n)
 ended_good given (Fault line code) = tt
@@ -419,7 +441,7 @@ label_good : (s : State) (number : ℕ) (from : List Mark) (ts : List Token) →
 label_good s number from ts h old runs =
     counted_good number s.given (emitted number (take 2 ts) (record s { ahead = record { number = number; from = from; tokens = Some (drop 2 ts) } ∷ s.ahead; labelled = true })) (omega arith)
     (λ _. less_good (emitted number (take 2 ts) (record s { ahead = record { number = number; from = from; tokens = Some (drop 2 ts) } ∷ s.ahead; labelled = true }))
-    (record { old = both_true _ _ old h.old; tidy = (runs, h.tidy); macros = h.macros }))
+    (record { old = both_true _ _ old h.old; tidy = (runs, h.tidy); macros = h.macros; few = h.few }))
 
 labelled_good : (s : State) (number : ℕ) (from : List Mark) (ts : List Token) → IsGood s → list_all (is_older s.left) from ≡ true → ((m : Mark) → innermost from ≡ Some m → Runs m s.ahead) → NextGood s.given (labelled_step s number from ts)
 labelled_good s number from ts h old runs =
@@ -444,14 +466,14 @@ piece_good : (s : State) (labelled : Bool) (number : ℕ) (from : List Mark) (o 
 piece_good s labelled number from None h old runs = counted_good number s.given s (omega arith) (λ _. less_good s h)
 piece_good s labelled number from (Some ts) h old runs = line_good s labelled number from ts h old runs
 
-front_good : (s : State) (ps : List Piece) → IsOld s.left ps → Tidy ps → AllFine s.macros → NextGood s.given (front_step s ps)
-front_good s [] old tidy fine = tt
-front_good s (p ∷ ps) old tidy fine =
+front_good : (s : State) (ps : List Piece) → IsOld s.left ps → Tidy ps → AllFine s.macros → s.given < 10 ^ 29 → NextGood s.given (front_step s ps)
+front_good s [] old tidy fine few = tt
+front_good s (p ∷ ps) old tidy fine few =
     let both : (is_old s.left p ≡ true) × IsOld s.left ps = and_parts _ _ old in
-    piece_good (record s { ahead = ps; labelled = false }) s.labelled p.number p.from p.tokens (record { old = both.1; tidy = tidy.1; macros = fine }) both.0 tidy.0
+    piece_good (record s { ahead = ps; labelled = false }) s.labelled p.number p.from p.tokens (record { old = both.1; tidy = tidy.1; macros = fine; few = few }) both.0 tidy.0
 
 step_good : (s : State) → IsGood s → NextGood s.given (step s)
-step_good s h = front_good s s.ahead h.old h.tidy h.macros
+step_good s h = front_good s s.ahead h.old h.tidy h.macros h.few
 
 -- ---- along the way
 
@@ -479,7 +501,7 @@ first_tidy [] = tt
 first_tidy (l ∷ ls) = ((λ m e. absurd (cc)), first_tidy ls)
 
 start_good : (lines : List Line) → IsGood (start lines)
-start_good lines = record { old = first_old 65535 lines; tidy = first_tidy lines; macros = λ n m e. absurd (nothing n m e) }
+start_good lines = record { old = first_old 65535 lines; tidy = first_tidy lines; macros = λ n m e. absurd (nothing n m e); few = omega arith }
   where
     nothing : (n : List ℕ) (m : Macro) → fm.get (start lines).macros n ≡ Some m → ⊥
     nothing n m e = let none : fm.get (start lines).macros n ≡ None = fm.get-empty _ n in cc

@@ -6,6 +6,7 @@ use Rattle.std.specs.FinMap as fm
 use Rattle.std.proofs.lemmas.Bool.{cases_lt, leb-true, leb-false}
 use Rattle.kc_lex.specs.declared.token.Token.{Token}
 use Rattle.kc_lex.specs.Kinds.{has_label, is_word}
+use Rattle.kc_lex.specs.Codes.{no_statement, no_match, many_arguments}
 use Rattle.kc_macro_body.specs.declared.words.Word.{Word}
 use Rattle.kc_macro_body.specs.declared.words.Word.TheVariants as words
 use Rattle.kc_macro_body.specs.declared.macros.Macro.{Macro}
@@ -22,7 +23,7 @@ use Rattle.kc_macro_input.specs.Cuts.{Cut}
 use Rattle.kc_macro_input.specs.Filled.{Filled, fill_body, fill_turns}
 use Rattle.kc_macro.specs.declared.state.State.{State}
 use Rattle.kc_macro.specs.Operands.{operand, number_of, noted}
-use Rattle.kc_macro.specs.Steps.{Next, Fault, Ended, Quiet, Counted, counted, least, code_if, code_of, if_next, if_fault, turn_lines, turn_head, same_turns, turns_of, rept_next, begun, irp_next, exitm_step, macro_next, call_text, text_code, call_fault, call_next, call_step, emitted, plain_step, ended, end_step, label_step, other_step, word_step, is_end, is_replaced, labelled_step, line_step, piece_step, front_step, step}
+use Rattle.kc_macro.specs.Steps.{Next, Fault, Ended, Quiet, Counted, counted, least, code_if, code_of, if_next, if_fault, turn_lines, turn_head, same_turns, turns_of, rept_next, begun, irp_next, exitm_step, macro_next, call_text, text_code, names_run_out, call_fault, call_next, call_step, emitted, plain_step, ended, end_step, label_step, other_step, word_step, is_end, is_replaced, labelled_step, line_step, piece_step, front_step, step}
 use Rattle.kc_macro_laws.specs.Constructs.{is_exitm}
 use Rattle.kc_macro_laws.proofs.Marks.{Alike, FewerOf, alike_on, apart}
 use Rattle.kc_macro_laws.proofs.Pairs.{Pairs, Twin, Calm, Within, within_calm, SameTokens, pairs_append, pairs_repeated, pairs_map, pairs_lines, pairs_texts, pairs_left}
@@ -273,12 +274,9 @@ call_lines x left number xs ys [] above marks = tt
 call_lines x left number xs ys (l ∷ ls) above marks =
     (record { twin = record { number = refl; tokens = refl; marks = alike_on x (Call left) xs ys marks }; other = call_new x left above }, call_lines x left number xs ys ls above marks)
 
--- the faults of a call but for those of its text and of its depth
-abbrev others : Bool → Bool → Option ℕ
-others unsound many = least (code_if unsound 15) (code_if many 16)
-
-abbrev faults : Option ℕ → Bool → Bool → Bool → Bool → Option ℕ
-faults text none deep unsound many = least text (least (code_if none 4) (least (code_if deep 5) (others unsound many)))
+-- the faults of a call: of its text, of the lines that are left, of its depth, and others
+abbrev faults : Option ℕ → Bool → Bool → Option ℕ → Option ℕ
+faults text none deep others = least text (least (code_if none 4) (least (code_if deep 5) others))
 
 call_same : (x : Mark) (s : State) (number locals : ℕ) (fault : Option ℕ) (a b : Filled) (qs : List Piece) → IsAbove x s.left → FilledPairs (Calm x) a b → Pairs (Calm x) s.ahead qs →
     NextPairs x (call_next s number locals fault a) (call_next (with_text s qs) number locals fault b)
@@ -294,41 +292,36 @@ two_faults : (x : Mark) (s u : State) (number locals c d : ℕ) (a b : Filled) �
 two_faults x s u number locals c d a b deep (inl e) = inl (rw e refl)
 two_faults x s u number locals c d a b deep (inr e) = inr (deep, e)
 
-lesser_four : (k : ℕ) → (k ≡ k) ⊎ (k ≡ 5)
-lesser_four k = inl refl
-
-lesser_five : (k n : ℕ) → 5 ≤ n → (min k 5 ≡ min k n) ⊎ (min k 5 ≡ 5)
-lesser_five k n le = elim (cases_lt 5 k) [ inl more ↦ inr (omega arith) | inr few ↦ inl (omega arith) ]
-
 lesser_none : (k : ℕ) → (min k 5 ≡ k) ⊎ (min k 5 ≡ 5)
 lesser_none k = elim (cases_lt 5 k) [ inl more ↦ inr (omega arith) | inr few ↦ inl (omega arith) ]
 
-call_deep : (x : Mark) (s : State) (number locals : ℕ) (text : Option ℕ) (none unsound many : Bool) (a b : Filled) (qs : List Piece) → is_deep x ≡ true →
-    NextPairs x (call_next s number locals (faults text none true unsound many) a) (call_next (with_text s qs) number locals (faults text none false unsound many) b)
-call_deep x s number locals None true true true a b qs deep = inl refl
-call_deep x s number locals None true true false a b qs deep = inl refl
-call_deep x s number locals None true false true a b qs deep = inl refl
-call_deep x s number locals None true false false a b qs deep = inl refl
-call_deep x s number locals None false true true a b qs deep = inr (deep, refl)
-call_deep x s number locals None false true false a b qs deep = inr (deep, refl)
-call_deep x s number locals None false false true a b qs deep = inr (deep, refl)
-call_deep x s number locals None false false false a b qs deep = inr (deep, refl)
-call_deep x s number locals (Some k) true true true a b qs deep = inl refl
-call_deep x s number locals (Some k) true true false a b qs deep = inl refl
-call_deep x s number locals (Some k) true false true a b qs deep = inl refl
-call_deep x s number locals (Some k) true false false a b qs deep = inl refl
-call_deep x s number locals (Some k) false true true a b qs deep = two_faults x s (with_text s qs) number locals (min k 5) (min k 15) a b deep (lesser_five k 15 (omega arith))
-call_deep x s number locals (Some k) false true false a b qs deep = two_faults x s (with_text s qs) number locals (min k 5) (min k 15) a b deep (lesser_five k 15 (omega arith))
-call_deep x s number locals (Some k) false false true a b qs deep = two_faults x s (with_text s qs) number locals (min k 5) (min k 16) a b deep (lesser_five k 16 (omega arith))
-call_deep x s number locals (Some k) false false false a b qs deep = two_faults x s (with_text s qs) number locals (min k 5) k a b deep (lesser_none k)
+lesser_other : (d : ℕ) → (min 5 d ≡ d) ⊎ (min 5 d ≡ 5)
+lesser_other d = elim (cases_lt 5 d) [ inl more ↦ inr (omega arith) | inr few ↦ inl (omega arith) ]
 
-call_counts : (x : Mark) (s : State) (number locals : ℕ) (text : Option ℕ) (none unsound many : Bool) (a b : Filled) (qs : List Piece) (n m : ℕ) (t u : Bool) → nat_le 16 n ≡ t → nat_le 16 m ≡ u → is_deep x ≡ true → m ≤ n →
+lesser_both : (k d : ℕ) → (min k (min 5 d) ≡ min k d) ⊎ (min k (min 5 d) ≡ 5)
+lesser_both k d = elim (cases_lt 5 d) [ inl more ↦ elim (cases_lt 5 k) [ inl many ↦ inr (omega arith) | inr few ↦ inl (omega arith) ] | inr few ↦ inl (omega arith) ]
+
+lesser_four : (d : ℕ) → min 4 (min 5 d) ≡ min 4 d
+lesser_four d = omega arith
+
+call_deep : (x : Mark) (s : State) (number locals : ℕ) (text : Option ℕ) (none : Bool) (others : Option ℕ) (a b : Filled) (qs : List Piece) → is_deep x ≡ true →
+    NextPairs x (call_next s number locals (faults text none true others) a) (call_next (with_text s qs) number locals (faults text none false others) b)
+call_deep x s number locals None true None a b qs deep = inl refl
+call_deep x s number locals None true (Some d) a b qs deep = two_faults x s (with_text s qs) number locals (min 4 (min 5 d)) (min 4 d) a b deep (inl (lesser_four d))
+call_deep x s number locals None false None a b qs deep = inr (deep, refl)
+call_deep x s number locals None false (Some d) a b qs deep = two_faults x s (with_text s qs) number locals (min 5 d) d a b deep (lesser_other d)
+call_deep x s number locals (Some k) true None a b qs deep = inl refl
+call_deep x s number locals (Some k) true (Some d) a b qs deep = two_faults x s (with_text s qs) number locals (min k (min 4 (min 5 d))) (min k (min 4 d)) a b deep (inl (ap (min k) (lesser_four d)))
+call_deep x s number locals (Some k) false None a b qs deep = two_faults x s (with_text s qs) number locals (min k 5) k a b deep (lesser_none k)
+call_deep x s number locals (Some k) false (Some d) a b qs deep = two_faults x s (with_text s qs) number locals (min k (min 5 d)) (min k d) a b deep (lesser_both k d)
+
+call_counts : (x : Mark) (s : State) (number locals : ℕ) (text : Option ℕ) (none : Bool) (others : Option ℕ) (a b : Filled) (qs : List Piece) (n m : ℕ) (t u : Bool) → nat_le 16 n ≡ t → nat_le 16 m ≡ u → is_deep x ≡ true → m ≤ n →
     IsAbove x s.left → FilledPairs (Calm x) a b → Pairs (Calm x) s.ahead qs →
-    NextPairs x (call_next s number locals (faults text none t unsound many) a) (call_next (with_text s qs) number locals (faults text none u unsound many) b)
-call_counts x s number locals text none unsound many a b qs n m true true e f deep le above h k = call_same x s number locals (faults text none true unsound many) a b qs above h k
-call_counts x s number locals text none unsound many a b qs n m false false e f deep le above h k = call_same x s number locals (faults text none false unsound many) a b qs above h k
-call_counts x s number locals text none unsound many a b qs n m false true e f deep le above h k = absurd (no_more n m le e f)
-call_counts x s number locals text none unsound many a b qs n m true false e f deep le above h k = call_deep x s number locals text none unsound many a b qs deep
+    NextPairs x (call_next s number locals (faults text none t others) a) (call_next (with_text s qs) number locals (faults text none u others) b)
+call_counts x s number locals text none others a b qs n m true true e f deep le above h k = call_same x s number locals (faults text none true others) a b qs above h k
+call_counts x s number locals text none others a b qs n m false false e f deep le above h k = call_same x s number locals (faults text none false others) a b qs above h k
+call_counts x s number locals text none others a b qs n m false true e f deep le above h k = absurd (no_more n m le e f)
+call_counts x s number locals text none others a b qs n m true false e f deep le above h k = call_deep x s number locals text none others a b qs deep
 
 text_codes : (x : Mark) (a b : Filled) → FilledPairs (Calm x) a b → text_code b ≡ text_code a
 text_codes x (Ok ps) (Ok qs) h = refl
@@ -337,10 +330,11 @@ text_codes x (Err f) (Ok qs) h = absurd h
 text_codes x (Err f) (Err g) h = rw h refl
 
 call_fewer : (x : Mark) (s : State) (number : ℕ) (xs ys : List Mark) (m : Macro) (args : List (List Token)) (a b : Filled) (qs : List Piece) → FewerOf is_call x xs ys → IsAbove x s.left → FilledPairs (Calm x) a b → Pairs (Calm x) s.ahead qs →
-    NextPairs x (call_next s number m.formals.locals.count (call_fault s.left xs m args a) a) (call_next (with_text s qs) number m.formals.locals.count (call_fault s.left ys m args b) b)
-call_fewer x s number xs ys m args a b qs (inl e) above h k = rw (e, text_codes x a b h) (call_same x s number m.formals.locals.count (call_fault s.left xs m args a) a b qs above h k)
+    NextPairs x (call_next s number m.formals.locals.count (call_fault s.left s.given xs m args a) a) (call_next (with_text s qs) number m.formals.locals.count (call_fault s.left s.given ys m args b) b)
+call_fewer x s number xs ys m args a b qs (inl e) above h k = rw (e, text_codes x a b h) (call_same x s number m.formals.locals.count (call_fault s.left s.given xs m args a) a b qs above h k)
 call_fewer x s number xs ys m args a b qs (inr f) above h k =
-    rw (text_codes x a b h) (call_counts x s number m.formals.locals.count (text_code a) (s.left == 0) (not m.sound) (nat_lt (length m.formals.params) (length args)) a b qs
+    rw (text_codes x a b h) (call_counts x s number m.formals.locals.count (text_code a) (s.left == 0)
+    (least (code_if (not m.sound) no_match) (least (code_if (nat_lt (length m.formals.params) (length args)) many_arguments) (code_if (names_run_out s.given m.formals.locals.count) no_statement))) a b qs
     (count_by is_call xs) (count_by is_call ys) (nat_le 16 (count_by is_call xs)) (nat_le 16 (count_by is_call ys)) refl refl (deep_call x f.0) f.1 above h k)
 
 call_pairs : (x : Mark) (s : State) (number : ℕ) (xs ys : List Mark) (m : Macro) (args : List (List Token)) (qs : List Piece) → Alike x xs ys → IsAbove x s.left → Pairs (Calm x) s.ahead qs →

@@ -18,6 +18,7 @@ use Rattle.kc_macro_input.specs.Pieces.{body_line, is_line, texts_of, word_at, r
 use Rattle.kc_macro_input.specs.Filled.{fill_body, fill_turns}
 use Rattle.kc_macro.specs.declared.state.State.{State}
 use Rattle.kc_macro.specs.Operands.{operand}
+use Rattle.kc_macro.specs.Steps.{names_run_out}
 use Rattle.kc_macro.specs.Expansion.{run_out}
 use Rattle.kc_macro_laws.specs.Course.{at_text, on_text, matched, one_counted, HasOldMarks, IsTooDeep}
 use Rattle.kc_macro_laws.specs.Nests.{Is, IsWholeBody, IsWholePart}
@@ -81,10 +82,10 @@ pub record IsCall (s : State) (tokens : List Token) (m : Macro) : Type 0 where
   pub sound : m.sound ≡ true
   pub few : length (arguments (drop 1 tokens)) ≤ length m.formals.params
 
--- a call is its body with the arguments and LOCAL names in it, and counts as one more line
+-- a call whose LOCAL names do not run out is its body with the arguments and LOCAL names in it, and counts as one more line
 abbrev pub CallIsItsBody : Type 0
 CallIsItsBody = (s : State) (number : ℕ) (from : List Mark) (tokens : List Token) (rest : List Piece) (m : Macro) (copy : List Piece) →
-    IsCall s tokens m → HasOldMarks (at_text s (body_line number from tokens ∷ rest)) →
+    IsCall s tokens m → names_run_out s.given m.formals.locals.count ≡ false → HasOldMarks (at_text s (body_line number from tokens ∷ rest)) →
     fill_body m.formals (arguments (drop 1 tokens)) s.given (map (body_line number from) m.body) ≡ Ok copy → has_no_exitm copy ≡ true →
     (run_out (at_text s (body_line number from tokens ∷ rest))
     ≡ run_out (record (on_text s (one_counted number from ∷ (copy ++ rest))) { given = s.given + m.formals.locals.count }))

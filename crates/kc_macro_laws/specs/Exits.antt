@@ -15,6 +15,7 @@ use Rattle.kc_macro_input.specs.Pieces.{innermost, comes_from, body_line}
 use Rattle.kc_macro_input.specs.Filled.{fill_body}
 use Rattle.kc_macro.specs.declared.state.State.{State}
 use Rattle.kc_macro.specs.Operands.{operand}
+use Rattle.kc_macro.specs.Steps.{names_run_out}
 use Rattle.kc_macro.specs.Expansion.{run_out}
 use Rattle.kc_macro_laws.specs.Course.{IsReached, at_text, on_text, matched, one_counted, HasOldMarks, IsTooDeep}
 use Rattle.kc_macro_laws.specs.Nests.{Is}
@@ -45,10 +46,10 @@ are_plain macros (Some ts) = is_other (word_of ts) && not (is_some (called macro
 abbrev pub come_out : ByName Macro → List Piece → Type 0
 come_out macros ps = list_all (λ p. are_plain macros p.tokens) ps ≡ true
 
--- a call comes to no more than what stands before its EXITM
+-- a call whose LOCAL names do not run out comes to no more than what stands before its EXITM
 abbrev pub ExitmInACall : Type 0
 ExitmInACall = (s : State) (number : ℕ) (from : List Mark) (tokens : List Token) (rest : List Piece) (m : Macro) (front : List Piece) (last : Piece) (back : List Piece) →
-    IsCall s tokens m → HasOldMarks (at_text s (body_line number from tokens ∷ rest)) →
+    IsCall s tokens m → names_run_out s.given m.formals.locals.count ≡ false → HasOldMarks (at_text s (body_line number from tokens ∷ rest)) →
     fill_body m.formals (arguments (drop 1 tokens)) s.given (map (body_line number from) m.body) ≡ Ok (front ++ last ∷ back) →
     come_out s.macros front → Is is_exitm last →
     (run_out (at_text s (body_line number from tokens ∷ rest))

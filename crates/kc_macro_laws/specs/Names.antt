@@ -1,5 +1,5 @@
 -- The names that stand for LOCAL names: each call has its own (after the MCS-96 Macro Assembler User's Guide, "Macros").
-use Rattle.std.specs.Prelude.{◌≡◌, ◌≢◌, ℕ, ◌<◌, ◌^◌, true, List, ◌∷◌, drop, is_some}
+use Rattle.std.specs.Prelude.{◌≡◌, ◌≢◌, ℕ, true, List, ◌∷◌, drop, is_some}
 use Rattle.std.specs.FinMap as fm
 use Rattle.kc_lex.specs.declared.token.Token.{Token}
 use Rattle.kc_lex.specs.Kinds.{is_name_kind}
@@ -32,12 +32,12 @@ pub record IsLocal (m : Macro) (t : Token) : Type 0 where
 abbrev pub in_call : State → List Token → Macro → Token → List Token
 in_call s tokens m t = stands_for m.formals (arguments (drop 1 tokens)) s.given t
 
--- of two calls, one after the other, with fewer than 10 ^ 64 names given, no LOCAL name has the same name
+-- of two calls, one after the other, no LOCAL name has the same name
 abbrev pub CallsHaveTheirOwnNames : Type 0
 CallsHaveTheirOwnNames = (s t u v : State) (tokens later : List Token) (m w : Macro) (a b : Token) → Calls s tokens m t → Leads t u → Calls u later w v →
-    v.given < 10 ^ 64 → IsLocal m a → IsLocal w b → in_call s tokens m a ≢ in_call u later w b
+    IsLocal m a → IsLocal w b → in_call s tokens m a ≢ in_call u later w b
 
 -- and in one call no two LOCAL names
 abbrev pub LocalsHaveTheirOwnNames : Type 0
-LocalsHaveTheirOwnNames = (s t : State) (tokens : List Token) (m : Macro) (a b : Token) → Calls s tokens m t → t.given < 10 ^ 64 →
+LocalsHaveTheirOwnNames = (s t : State) (tokens : List Token) (m : Macro) (a b : Token) → Calls s tokens m t →
     IsLocal m a → IsLocal m b → a.text ≢ b.text → in_call s tokens m a ≢ in_call s tokens m b

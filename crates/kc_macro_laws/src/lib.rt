@@ -33,7 +33,8 @@ pub fn macro_is_defined()
     ensures { MacroIsDefined }
 {}
 
-/// A call is the body of its macro with the arguments and LOCAL names in it, and one more line, or macros stand too deep.
+/// A call is the body of its macro with the arguments and LOCAL names in it, and one more line, or macros stand too deep, where
+/// LOCAL names do not run out.
 pub fn call_is_its_body()
     ensures { CallIsItsBody }
 {}

@@ -31,6 +31,7 @@ use Rattle.kc_macro_laws.proofs.Reached.{IsFine, AllFine, IsGood, goes_good, lea
 use Rattle.kc_macro_laws.specs.Course.{Goes, GoesBy}
 use Rattle.kc_macro_names.specs.Ends.{EndsAt}
 use Rattle.kc_macro_names.specs.Kept.{line_passes, NamesPass, ExpansionKeepsTests}
+use Rattle.kc_macro_names.specs.Names.{LocalNamesAreFew}
 use Rattle.kc_macro_names.proofs.Tests.{all_split, all_join, all_drop, all_take, all_map, Holds}
 use Rattle.kc_macro_names.proofs.Filling.{LocalsPass, only_pass, arguments_pass, over_passes, over_pass, text_passes, piece_passes, FilledPasses, body_pass, turns_pass}
 
@@ -75,6 +76,15 @@ called_holds P macros (t ∷ ts) m all e = choice (is_name_kind t.kind && not (i
     choice : (b : Bool) → cond b (fm.get macros t.text) None ≡ Some m → P m
     choice true f = all t.text m f
     choice false f = absurd (cc)
+
+-- ---- places
+
+start_good : (lines : List Line) → IsGood (start lines)
+unfolding GoesBy
+start_good lines = reached_good (start lines) (lines, (0, refl))
+
+ends_good : (lines out : List Line) (s : State) → EndsAt lines s out → IsGood s
+ends_good lines out s at = reached_good s (lines, at.leads)
 
 -- ---- texts
 
@@ -224,7 +234,7 @@ module _ (numbers : ℕ → Bool) (test : Token → Bool) (limit : ℕ) (made : 
 
   call_step_fit : (s : State) (number : ℕ) (from : List Mark) (m : Macro) (args : List (List Token)) → IsFit s → numbers number ≡ true → IsFine m → BodyPasses test m → list_all (list_all test) args ≡ true → NextBound (call_step s number from m args)
   call_step_fit s number from m args h e fine b k =
-      call_fit s number m.formals.locals.count (call_fault s.left from m args (call_text s.left s.given number from m args)) (call_text s.left s.given number from m args) h
+      call_fit s number m.formals.locals.count (call_fault s.left s.given from m args (call_text s.left s.given number from m args)) (call_text s.left s.given number from m args) h
       (λ few. body_pass numbers test made.of_joins m.formals args s.given (map (body_line number (Call s.left ∷ from)) m.body) (locals_pass m s.given fine few) k (body_lines_passing number (Call s.left ∷ from) m.body e b))
 
   emitted_done : (number : ℕ) (ts : List Token) (done : List Line) → list_all (line_passes numbers test) done ≡ true → numbers number ≡ true → list_all test ts ≡ true →
@@ -332,15 +342,14 @@ module _ (numbers : ℕ → Bool) (test : Token → Bool) (limit : ℕ) (made : 
       nothing : (n : List ℕ) (m : Macro) → fm.get (start lines).macros n ≡ Some m → ⊥
       nothing n m e = let none : fm.get (start lines).macros n ≡ None = fm.get-empty _ n in cc
 
-  start_good : (lines : List Line) → IsGood (start lines)
-  unfolding GoesBy
-  start_good lines = reached_good (start lines) (lines, (0, refl))
-
   keeps : (lines out : List Line) (s : State) → EndsAt lines s out → s.given ≤ limit → list_all (line_passes numbers test) lines ≡ true → list_all (line_passes numbers test) out ≡ true
   keeps lines out s at few h =
       let there : IsFit s = by_fit at.leads.0 (start lines) s (start_fit lines h) (start_good lines) at.leads.1 few in
-      let fine : IsGood s = (leads_good (start lines) s (start_good lines) at.leads).0 in
+      let fine : IsGood s = ends_good lines out s at in
       subst NextBound at.ends (step_fit s there fine.macros)
+
+pub local_names_are_few : LocalNamesAreFew
+local_names_are_few lines out s at = (ends_good lines out s at).few
 
 pub expansion_keeps_tests : ExpansionKeepsTests
 expansion_keeps_tests numbers test lines out s at made h = keeps numbers test s.given made lines out s at (omega arith) h

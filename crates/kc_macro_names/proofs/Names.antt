@@ -22,7 +22,7 @@ use Rattle.kc_macro_names.specs.Kept.{NamesPass}
 use Rattle.kc_macro_names.specs.Names.{is_named, has_names, LinesHaveNames, ExpansionMakesNames}
 use Rattle.kc_macro_names.proofs.Reading.{LexemesAreProper, lexeme_rest, lines_pass}
 use Rattle.kc_macro_names.proofs.Tests.{all_join, all_map, ok_at}
-use Rattle.kc_macro_names.proofs.Expanding.{expansion_keeps_tests}
+use Rattle.kc_macro_names.proofs.Expanding.{local_names_are_few, expansion_keeps_tests}
 
 -- ---- names in upper case
 
@@ -99,7 +99,7 @@ pub names_pass : (given : ℕ) → given < 10 ^ 29 → NamesPass is_named given
 names_pass given few = record { of_joins = upper_name; of_locals = λ n less. local_is_name n (omega arith) }
 
 pub expansion_makes_names : ExpansionMakesNames
-expansion_makes_names lines out s at few h = expansion_keeps_tests (λ n. true) is_named lines out s at (names_pass s.given few) h
+expansion_makes_names lines out s at h = expansion_keeps_tests (λ n. true) is_named lines out s at (names_pass s.given (local_names_are_few lines out s at)) h
 
 -- ---- the words of a text
 

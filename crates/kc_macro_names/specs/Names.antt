@@ -20,7 +20,10 @@ has_names l = list_all is_named l.tokens
 abbrev pub LinesHaveNames : Type 0
 LinesHaveNames = (text : List ℕ) (lines : List Line) → lines_of text ≡ Ok lines → list_all has_names lines ≡ true
 
--- a name that is given for a LOCAL name has two characters more than its number, or six
 abbrev pub ExpansionMakesNames : Type 0
 ExpansionMakesNames =
-    (lines out : List Line) (s : State) → EndsAt lines s out → s.given < 10 ^ 29 → list_all has_names lines ≡ true → list_all has_names out ≡ true
+    (lines out : List Line) (s : State) → EndsAt lines s out → list_all has_names lines ≡ true → list_all has_names out ≡ true
+
+-- a name that is given for a LOCAL name has two characters more than its number, or six
+abbrev pub LocalNamesAreFew : Type 0
+LocalNamesAreFew = (lines out : List Line) (s : State) → EndsAt lines s out → s.given < 10 ^ 29

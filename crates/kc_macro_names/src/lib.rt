@@ -3,7 +3,7 @@
 
 ghost use Rattle.kc_macro_names.specs.Ends.{ExpansionEndsAtAPlace};
 ghost use Rattle.kc_macro_names.specs.Kept.{ExpansionKeepsTests};
-ghost use Rattle.kc_macro_names.specs.Names.{ExpansionMakesNames, LinesHaveNames};
+ghost use Rattle.kc_macro_names.specs.Names.{ExpansionMakesNames, LinesHaveNames, LocalNamesAreFew};
 
 use kc_lex::grammar::lexemes_are_proper;
 
@@ -24,7 +24,12 @@ pub fn lines_have_names()
     lexemes_are_proper();
 }
 
-/// Each word that comes out is a name where those of the source are, with fewer than 10^29 LOCAL names given.
+/// Names for LOCAL names do not run out: those that an expansion without a fault gives have at most 31 characters.
+pub fn local_names_are_few()
+    ensures { LocalNamesAreFew }
+{}
+
+/// Each word that comes out is a name where those of the source are.
 pub fn expansion_makes_names()
     ensures { ExpansionMakesNames }
 {}

@@ -6,8 +6,6 @@ mod profile;
 mod running;
 mod spot;
 mod telling;
-#[cfg(test)]
-mod tests;
 
 pub use laws::tallies_are_one;
 pub use profile::Profile;

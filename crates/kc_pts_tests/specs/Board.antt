@@ -1,6 +1,6 @@
 -- A small bus of the tests: each byte below 0018H is a register that keeps what is written.
 use Rattle.std.specs.Prelude.{◌≡◌, ℕ, ◌+◌, ◌*◌, ◌/◌, ◌%◌, if◌then◌else◌, Result, Ok, Err, List, length, slice_index, slice_set}
-use Rattle.std.proofs.Common.{arith, refl}
+use Rattle.std.proofs.Common.{refl}
 use Rattle.kc_base.specs.declared.types.Kind.{Kind}
 use Rattle.kc_base.specs.declared.types.Kind.TheVariants.{BadWindow}
 use Rattle.kc_exec_spec.specs.declared.access.Masks.{Masks}
@@ -10,14 +10,18 @@ use Rattle.kc_exec_spec.specs.Memory.{IsLawful}
 use Rattle.kc_exec_spec.specs.Window.{is_wsr}
 use Rattle.kc_bus.specs.Beside.{Beside, beside, put}
 use Rattle.kc_bus.specs.BesideLaws.{beside_is_lawful}
+use Rattle.kc_bus.specs.Flat as flat
 use Rattle.kc_pts_tests.specs.declared.board.Board.{Board}
 
 pub record Kept : Type 0 where
   pub bytes : List ℕ
   pub masks : Masks
 
+-- what its memory and its registers hold
 abbrev pub held_of : Board → Beside Kept
-held_of board = record { bytes = board.bytes.items; registers = record { bytes = board.registers.items; masks = board.masks } }
+held_of board =
+    let memory = flat.held_of board.memory in
+    record { bytes = memory.bytes; registers = record { bytes = board.registers.items; masks = memory.registers } }
 
 abbrev pub keep : Kept → ℕ → ℕ → Kept
 keep k addr n = record { bytes = slice_set k.bytes addr n; masks = k.masks }
@@ -43,4 +47,4 @@ abbrev pub board_meaning : Meaning (Beside Kept)
 board_meaning = beside kept_registers
 
 pub board_is_lawful : IsLawful held_of board_meaning (λ h. length h.bytes ≡ 65536) (λ h addr. slice_index h.bytes addr) put
-board_is_lawful = beside_is_lawful held_of kept_registers (λ board. omega (arith, board.bytes.ok.0, board.long)) (λ k m. refl) (λ k m. refl)
+board_is_lawful = beside_is_lawful held_of kept_registers (λ board. flat.flat_is_lawful.whole board.memory) (λ k m. refl) (λ k m. refl)

@@ -1,43 +1,30 @@
-ghost use Rattle.std.specs.Prelude.{◌≡◌, IsTrue, vec_len};
-ghost use Rattle.kc_exec_spec.specs.Window.{is_wsr};
+ghost use Rattle.std.specs.Prelude.{◌≡◌, vec_len};
 
 use kc_base::{Kind, NoMemory};
-use kc_bus::{Bus, Masks, Master, known_masks, read_byte, read_word, write_byte, write_word};
+use kc_bus::{Bus, Flat, Masks, Master};
 use std::alloc::Global;
 
 /// A bus whose registers below 0018H are bytes that keep what is written.
 #[derive(Drop)]
 pub struct Board {
-    bytes: Vec<u8>,
+    memory: Flat,
     registers: Vec<u8>,
-    masks: Masks,
-    ghost long: { vec_len bytes ≡ 65536 },
     ghost registered: { vec_len registers ≡ 65536 },
-    ghost window: { IsTrue (is_wsr masks.wsr) },
 }
 
 const SIZE: usize = 65_536;
 
 impl Board {
-    /// A board of zeros.
+    /// Registers of zeros.
     pub fn new(alloc: Global) -> Result<Board, NoMemory> {
-        let bytes = vec![in alloc; 0u8; SIZE]?;
+        let memory = Flat::new(alloc)?;
         let registers = vec![in alloc; 0u8; SIZE]?;
-        Ok(Board {
-            bytes,
-            registers,
-            masks: Masks {
-                int_mask: 0,
-                int_mask1: 0,
-                wsr: 0,
-            },
-        })
+        Ok(Board { memory, registers })
     }
 
     /// Puts a word into memory, ROM too.
     pub fn poke(&mut self, addr: u16, value: u16) {
-        self.bytes[addr as usize] = (value % 256) as u8;
-        self.bytes[addr.wrapping_add(1) as usize] = (value / 256) as u8;
+        self.memory.poke(addr, value);
     }
 }
 
@@ -64,58 +51,53 @@ impl Bus for Board {
 
     ghost lent = { λ _. [] };
 
-    fn read8(&mut self, _by: Master, addr: u16) -> Result<u8, Kind> {
+    fn read8(&mut self, by: Master, addr: u16) -> Result<u8, Kind> {
         if addr < 0x18 {
             Ok(self.registers[addr as usize])
         } else {
-            read_byte(self.bytes.as_slice(), addr)
+            self.memory.read8(by, addr)
         }
     }
 
-    fn read16(&mut self, _by: Master, addr: u16) -> Result<u16, Kind> {
-        if addr % 2 == 1 {
-            Err(Kind::OddWord)
-        } else if addr < 0x18 {
+    fn read16(&mut self, by: Master, addr: u16) -> Result<u16, Kind> {
+        if addr < 0x18 && addr % 2 == 0 {
             let low = self.registers[addr as usize];
             let high = self.registers[addr as usize + 1];
             Ok(u16::from(low) + 256 * u16::from(high))
         } else {
-            read_word(self.bytes.as_slice(), addr)
+            self.memory.read16(by, addr)
         }
     }
 
-    fn write8(&mut self, _by: Master, addr: u16, value: u8) -> Result<(), Kind> {
+    fn write8(&mut self, by: Master, addr: u16, value: u8) -> Result<(), Kind> {
         if addr < 0x18 {
             self.registers[addr as usize] = value;
             Ok(())
         } else {
-            write_byte(self.bytes.as_mut_slice(), addr, value)
+            self.memory.write8(by, addr, value)
         }
     }
 
-    fn write16(&mut self, _by: Master, addr: u16, value: u16) -> Result<(), Kind> {
-        if addr % 2 == 1 {
-            Err(Kind::OddWord)
-        } else if addr < 0x18 {
+    fn write16(&mut self, by: Master, addr: u16, value: u16) -> Result<(), Kind> {
+        if addr < 0x18 && addr % 2 == 0 {
             self.registers[addr as usize] = (value % 256) as u8;
             self.registers[addr as usize + 1] = (value / 256) as u8;
             Ok(())
         } else {
-            write_word(self.bytes.as_mut_slice(), addr, value)
+            self.memory.write16(by, addr, value)
         }
     }
 
     fn glance(&self, addr: u16) -> u8 {
-        self.bytes[addr as usize]
+        self.memory.glance(addr)
     }
 
     fn masks(&self) -> Masks {
-        self.masks
+        self.memory.masks()
     }
 
     fn set_masks(&mut self, masks: Masks) -> Result<(), Kind> {
-        self.masks = known_masks(masks)?;
-        Ok(())
+        self.memory.set_masks(masks)
     }
 
     ghost lawful = { board_is_lawful };

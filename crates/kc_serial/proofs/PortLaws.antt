@@ -1,12 +1,12 @@
 -- The serial port over a span in which RXD has no edge.
-use Rattle.std.proofs.Common.{◌≡◌, ℕ, suc, ◌+◌, ◌-◌, ◌<◌, Bool, true, false, not, ◌&&◌, ◌||◌, ◌∙◌, ap, subst, arith, inl, inr, min, Option, Some, None}
+use Rattle.std.proofs.Common.{◌≡◌, ℕ, suc, ◌+◌, ◌-◌, ◌<◌, Bool, true, false, not, ◌&&◌, ◌||◌, ◌∙◌, ap, arith, Option, Some, None}
 use Rattle.std.specs.Prelude.{if◌then◌else◌}
 use Rattle.std.specs.Option.{option_map}
-use Rattle.std.proofs.lemmas.Bool.{cases_lt, and_from, and_parts, and_left, and_right, not-true}
+use Rattle.std.proofs.lemmas.Bool.{and_from, and_parts, and_left, and_right, not-true}
 use Rattle.std.proofs.Math.Bool.{or-false}
-use Rattle.kc_span.specs.Span.{Rule, after, QuietFor, IsDue}
+use Rattle.kc_span.specs.Span.{Rule, after, QuietFor, IsDue, least_of}
+use Rattle.kc_span.proofs.SpanLaws.{least_holds}
 use Rattle.kc_extra.specs.Further.{further_rule, is_silent}
-use Rattle.kc_extra.specs.Joined.{least_of}
 use Rattle.kc_serial.specs.declared.serial.Flags.{Flags}
 use Rattle.kc_serial.specs.declared.serial.Serial.{Serial}
 use Rattle.kc_serial.specs.declared.sending.Sending.{Sending}
@@ -71,14 +71,10 @@ module _ (d : Serial) where
   before_both None None p q = λ k. and_from _ _ (p k) (q k)
   before_both None (Some n) p q = (λ k lt. and_from _ _ (p k) (q.0 k lt), and_right _ _ q.1)
   before_both (Some m) None p q = (λ k lt. and_from _ _ (p.0 k lt) (q k), and_left _ _ p.1)
-  before_both (Some m) (Some n) p q = elim (cases_lt m n) [
-    | inl first ↦
-        let least : m ≡ min m n = omega arith in
-        subst (λ i. Before is_quiet (Some i)) least (λ k lt. and_from _ _ (p.0 k lt) (q.0 k (omega arith)), and_left _ _ p.1)
-    | inr second ↦
-        let least : n ≡ min m n = omega arith in
-        subst (λ i. Before is_quiet (Some i)) least (λ k lt. and_from _ _ (p.0 k (omega arith)) (q.0 k lt), and_right _ _ q.1)
-  ]
+  before_both (Some m) (Some n) p q =
+      least_holds (λ at. Before is_quiet at) m n
+      (λ first. (λ k lt. and_from _ _ (p.0 k lt) (q.0 k (omega arith)), and_left _ _ p.1))
+      (λ second. (λ k lt. and_from _ _ (p.0 k (omega arith)) (q.0 k lt), and_right _ _ q.1))
 
   pub port_due : (now : ℕ) (x y : Option ℕ) → SendingBefore d.sending x → ReceptionBefore d.rxd d.reception y →
       IsDue port_rule now d (option_map (λ n. now + n) (least_of x y))

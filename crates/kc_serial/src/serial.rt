@@ -18,6 +18,7 @@ use crate::sending::{
 };
 use kc_base::{Edge, IntSet, Level, Pin, StateTime, Steps};
 use kc_extra::{Extra, ExtraOut, Moved};
+use kc_span::earlier;
 use std::sync::ledger::Ledger;
 
 /// The pin on which bytes are sent.
@@ -119,19 +120,7 @@ fn txd_edges(old: bool, new: bool) -> Moved
     moved
 }
 
-/// The earlier of two spans of states, where there is one.
-fn shorter(a: Option<u64>, b: Option<u64>) -> Option<u64>
-    ensures { result ≡ least_of a b }
-{
-    match (a, b) {
-        (None, b) => b,
-        (a, None) => a,
-        (Some(a), Some(b)) => Some(a.min(b)),
-    }
-}
-
 ghost use Rattle.kc_base.specs.Bits.{bit as has_pin};
-ghost use Rattle.kc_extra.specs.Joined.{least_of};
 
 impl Extra for Serial {
     ghost plain = { λ x. record x { moves = 0 } };
@@ -148,7 +137,7 @@ impl Extra for Serial {
         steps.add();
         let sending = sending_left(self.sending);
         let receiving = reception_left(self.rxd, self.reception);
-        match shorter(sending, receiving) {
+        match earlier(sending, receiving) {
             Some(states) => Some(now + states),
             None => None,
         }

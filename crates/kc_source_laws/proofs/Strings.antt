@@ -1,5 +1,5 @@
 -- The strings of a statement stand on its line.
-use Rattle.std.proofs.Common.{◌≡◌, ℕ, Bool, true, false, cond, ◌||◌, ◌&&◌, List, [], ◌∷◌, ◌++◌, drop, ◌==◌, Option, Some, None, Result, Ok, Err, refl}
+use Rattle.std.proofs.Common.{◌≡◌, ℕ, Bool, true, false, cond, ◌||◌, ◌&&◌, List, [], ◌∷◌, ◌++◌, map, drop, ◌==◌, Option, Some, None, Result, Ok, Err, refl}
 use Rattle.std.specs.Option.{option_map}
 use Rattle.std.specs.List.{list_all}
 use Rattle.std.proofs.lemmas.Bool.{and_parts, and_from}
@@ -10,16 +10,17 @@ use Rattle.kc_lex.specs.declared.words.Operands.{Operands}
 use Rattle.kc_lex.specs.declared.words.Directive.{Directive}
 use Rattle.kc_lex.specs.declared.words.Directive.TheVariants as directives
 use Rattle.kc_lex.specs.Kinds.{is_sign, is_name_kind, is_chars_kind, has_label, begins_word}
-use Rattle.kc_lex.specs.Words.{directive_of}
+use Rattle.kc_lex.specs.Words.{operands_for, directive_of}
+use Rattle.kc_lex.specs.Takes.{takes}
 use Rattle.kc_expr.specs.Tree.{Tree, Chars, Name, Here}
 use Rattle.kc_expr.specs.Grammar.{Reading, of_kind, alone, names_value, is_short, parsed}
 use Rattle.kc_expr.specs.Derives.{Derives, from_token, from_group, from_tighter, from_unary, from_binary, IsLongest}
 use Rattle.kc_expr.proofs.Longest.{parsed_is_longest}
-use Rattle.kc_source_statement.specs.Trees.{ItemTree, ArgTree, ActionTree}
+use Rattle.kc_source_statement.specs.Trees.{ItemTree, ArgTree, ActionTree, notation}
 use Rattle.kc_source_statement.specs.Trees as trees
-use Rattle.kc_source_statement.specs.Operands.{is_nil, whole, in_first, parts, and_some, all_some, operand, operands_in, string_of, string_or, item, items_in, names_in, takes}
+use Rattle.kc_source_statement.specs.Operands.{is_nil, whole, in_first, parts, and_some, all_some, operand, operands_in, string_of, string_or, item, items_in, names_in}
 use Rattle.kc_source_statement.specs.Forms.{IsOperand, is_plain, is_immediate, is_indirect, is_increment, is_indexed, OperandsHaveForms}
-use Rattle.kc_source_statement.specs.Statements.{segment_in, stack_in, is_stack_part, is_end_of_group, grouped_whole, past_main, module_in, defined_in, directive_in, definition_in, or_form_fault, by_directive, operation_of, operation_in, by_operation, by_first, only_defining, second_directive, action_in, bars_label, first_directive, behind_label, statement_in}
+use Rattle.kc_source_statement.specs.Statements.{segment_in, stack_in, is_stack_part, is_end_of_group, grouped_whole, past_main, module_in, defined_in, directive_in, definition_in, or_form_fault, by_directive, operation_in, by_operation, by_first, only_defining, second_directive, action_in, bars_label, first_directive, behind_label, statement_in}
 use Rattle.kc_source_statement.proofs.OperandLemmas.{whole_has_form}
 use Rattle.kc_asm_symbols.specs.Externals.{optional_tree, arg_trees, item_trees, all_trees}
 use Rattle.kc_source_laws.specs.Strings.{strings_pass, item_passes, action_passes, read_passes, StringsStandOnTheLine}
@@ -288,14 +289,14 @@ module _ (test : List ℕ → Bool) where
 
     operation_reads : (word : List ℕ) (form : Operands) (o : Option (List ArgTree)) → Holds (list_all arg_passes) o → Reads (operation_in word form o)
     operation_reads word form None h = refl
-    operation_reads word form (Some args) h = one_reads (takes form args) (Ok (trees.Operation word args)) (Err 14) (operation_passes word args h) refl
+    operation_reads word form (Some args) h = one_reads (takes form (map notation args)) (Ok (trees.Operation word args)) (Err 14) (operation_passes word args h) refl
 
     by_operation_reads : (word : List ℕ) (o : Option Operands) (ts : List Token) → pass ts → Reads (by_operation word o ts)
     by_operation_reads word None ts h = by_directive_reads (directive_of word) ts h
     by_operation_reads word (Some form) ts h = operation_reads word form (operands_in ts) (operands_pass ts h)
 
     by_first_reads : (t : Token) (o : Option Directive) (ts : List Token) → pass ts → Reads (by_first t o ts)
-    by_first_reads t None ts h = one_reads (is_name_kind t.kind) (by_operation t.text (operation_of t.text) ts) (Err 1) (by_operation_reads t.text (operation_of t.text) ts h) refl
+    by_first_reads t None ts h = one_reads (is_name_kind t.kind) (by_operation t.text (operands_for t.text) ts) (Err 1) (by_operation_reads t.text (operands_for t.text) ts h) refl
     by_first_reads t (Some d) ts h = or_reads (definition_in t.text d (drop 1 ts)) (definition_passes t.text d (drop 1 ts) (all_drop passes 1 ts h))
 
     action_reads : (ts : List Token) → pass ts → Reads (action_in ts)

@@ -1,5 +1,5 @@
 -- Statements as they are read have their forms, and their names stand on the line.
-use Rattle.std.proofs.Common.{◌≡◌, ℕ, zero, suc, Bool, true, false, cond, ◌||◌, ◌&&◌, not, List, [], ◌∷◌, ◌++◌, drop, Option, Some, None, Result, Ok, Err, refl, ap}
+use Rattle.std.proofs.Common.{◌≡◌, ℕ, zero, suc, Bool, true, false, cond, ◌||◌, ◌&&◌, not, List, [], ◌∷◌, ◌++◌, map, drop, Option, Some, None, Result, Ok, Err, refl, ap}
 use Rattle.std.specs.Option.{option_map, option_to_list}
 use Rattle.std.specs.List.{list_all}
 use Rattle.kc_lex.specs.declared.token.Token.{Token}
@@ -7,14 +7,15 @@ use Rattle.kc_lex.specs.declared.words.Operands.{Operands}
 use Rattle.kc_lex.specs.declared.words.Directive.{Directive}
 use Rattle.kc_lex.specs.declared.words.Directive.TheVariants as directives
 use Rattle.kc_lex.specs.Kinds.{is_sign, is_name_kind, is_free_name, has_label}
-use Rattle.kc_lex.specs.Words.{directive_of}
+use Rattle.kc_lex.specs.Words.{operands_for, directive_of}
+use Rattle.kc_lex.specs.Takes.{takes, suits}
 use Rattle.kc_expr.specs.Tree.{Tree}
 use Rattle.kc_expr.specs.Grammar.{is_type}
-use Rattle.kc_source_statement.specs.Trees.{ArgTree, ActionTree}
+use Rattle.kc_source_statement.specs.Trees.{ArgTree, ActionTree, notation}
 use Rattle.kc_source_statement.specs.Trees as trees
-use Rattle.kc_source_statement.specs.Operands.{is_nil, whole, in_first, parts, and_some, all_some, item, items_in, string_or, free_text, name_in, names_in, takes, operands_in}
-use Rattle.kc_source_statement.specs.Statements.{segment_in, stack_in, past_main, module_in, defined_in, directive_in, definition_in, or_form_fault, by_directive, operation_of, operation_in, by_operation, by_word, by_first, only_defining, directive_at, second_directive, action_in, bars_label, first_directive, behind_label, statement_in, label_in}
-use Rattle.kc_source_statement.specs.Formed.{is_formed, IsFormed, is_value, suits, names_said, names_read, StatementsAreFormed, NamesStandOnTheLine}
+use Rattle.kc_source_statement.specs.Operands.{is_nil, whole, in_first, parts, and_some, all_some, item, items_in, string_or, free_text, name_in, names_in, operands_in}
+use Rattle.kc_source_statement.specs.Statements.{segment_in, stack_in, past_main, module_in, defined_in, directive_in, definition_in, or_form_fault, by_directive, operation_in, by_operation, by_word, by_first, only_defining, directive_at, second_directive, action_in, bars_label, first_directive, behind_label, statement_in, label_in}
+use Rattle.kc_source_statement.specs.Formed.{is_formed, IsFormed, is_value, names_said, names_read, StatementsAreFormed, NamesStandOnTheLine}
 
 -- ---- what holds of a value, where there is one
 
@@ -149,20 +150,20 @@ by_directive_formed : (d : Option Directive) (ts : List Token) → IsFormed (by_
 by_directive_formed None ts = tt
 by_directive_formed (Some d) ts = or_formed (directive_in d ts) (directive_formed d ts)
 
-if_taken : (word : List ℕ) (args : List ArgTree) (b : Bool) → suits (operation_of word) args ≡ b → IsFormed (cond b (Ok (trees.Operation word args)) (Err 14))
+if_taken : (word : List ℕ) (args : List ArgTree) (b : Bool) → suits (operands_for word) (map notation args) ≡ b → IsFormed (cond b (Ok (trees.Operation word args)) (Err 14))
 if_taken word args true e = e
 if_taken word args false e = tt
 
-operation_formed : (word : List ℕ) (form : Operands) (o : Option (List ArgTree)) → operation_of word ≡ Some form → IsFormed (operation_in word form o)
+operation_formed : (word : List ℕ) (form : Operands) (o : Option (List ArgTree)) → operands_for word ≡ Some form → IsFormed (operation_in word form o)
 operation_formed word form None e = tt
-operation_formed word form (Some args) e = if_taken word args (takes form args) (ap (λ f. suits f args) e)
+operation_formed word form (Some args) e = if_taken word args (takes form (map notation args)) (ap (λ f. suits f (map notation args)) e)
 
-by_operation_formed : (word : List ℕ) (o : Option Operands) (ts : List Token) → operation_of word ≡ o → IsFormed (by_operation word o ts)
+by_operation_formed : (word : List ℕ) (o : Option Operands) (ts : List Token) → operands_for word ≡ o → IsFormed (by_operation word o ts)
 by_operation_formed word None ts e = by_directive_formed (directive_of word) ts
 by_operation_formed word (Some form) ts e = operation_formed word form (operands_in ts) e
 
 by_word_formed : (t : Token) (ts : List Token) → IsFormed (by_word t ts)
-by_word_formed t ts = one_of (is_name_kind t.kind) (by_operation t.text (operation_of t.text) ts) (Err 1) (by_operation_formed t.text (operation_of t.text) ts refl) tt
+by_word_formed t ts = one_of (is_name_kind t.kind) (by_operation t.text (operands_for t.text) ts) (Err 1) (by_operation_formed t.text (operands_for t.text) ts refl) tt
 
 by_first_formed : (t : Token) (d : Option Directive) (ts : List Token) → IsFormed (by_first t d ts)
 by_first_formed t None ts = by_word_formed t ts
@@ -309,7 +310,7 @@ by_directive_named test (Some d) ts h = or_named test (directive_in d ts) (direc
 
 operation_named : (test : List ℕ → Bool) (word : List ℕ) (form : Operands) (o : Option (List ArgTree)) → IsNamed test (operation_in word form o)
 operation_named test word form None = refl
-operation_named test word form (Some args) = one_named test (takes form args) (Ok (trees.Operation word args)) (Err 14) refl refl
+operation_named test word form (Some args) = one_named test (takes form (map notation args)) (Ok (trees.Operation word args)) (Err 14) refl refl
 
 by_operation_named : (test : List ℕ → Bool) (word : List ℕ) (o : Option Operands) (ts : List Token) → list_all (free_is test) ts ≡ true → IsNamed test (by_operation word o ts)
 by_operation_named test word None ts h = by_directive_named test (directive_of word) ts h
@@ -329,7 +330,7 @@ of_free test false name e h = absurd cc
 
 by_first_named : (test : List ℕ → Bool) (t : Token) (o : Option Directive) (ts : List Token) → only_defining (second_directive (t ∷ ts)) ≡ o → list_all (free_is test) (t ∷ ts) ≡ true → IsNamed test (by_first t o ts)
 by_first_named test t None ts e h =
-    one_named test (is_name_kind t.kind) (by_operation t.text (operation_of t.text) ts) (Err 1) (by_operation_named test t.text (operation_of t.text) ts (right (free_is test t) (list_all (free_is test) ts) h)) refl
+    one_named test (is_name_kind t.kind) (by_operation t.text (operands_for t.text) ts) (Err 1) (by_operation_named test t.text (operands_for t.text) ts (right (free_is test t) (list_all (free_is test) ts) h)) refl
 by_first_named test t (Some d) ts e h =
     or_named test (definition_in t.text d (drop 1 ts))
     (definition_named test t.text d (drop 1 ts) (of_free test (is_free_name t) t.text (defines_free t ts d e) (left (free_is test t) (list_all (free_is test) ts) h)))

@@ -1,15 +1,15 @@
 -- What can be relied on of a statement: its operation is one, with operands that it takes; data and reserved items have 1, 2
 -- or 4 bytes, and a string is an item of bytes; and every name in it stands on its line as a free name.
-use Rattle.std.specs.Prelude.{◌≡◌, ℕ, Bool, true, false, not, ◌&&◌, ◌||◌, ◌==◌, List, [], ◌∷◌, ◌++◌, Option, Some, None, Result, Ok, Err}
+use Rattle.std.specs.Prelude.{◌≡◌, ℕ, Bool, true, false, not, ◌&&◌, ◌||◌, ◌==◌, List, [], ◌∷◌, ◌++◌, map, Result, Ok, Err}
 use Rattle.std.specs.Option.{option_to_list}
 use Rattle.std.specs.List.{list_all}
 use Rattle.kc_lex.specs.declared.token.Token.{Token}
-use Rattle.kc_lex.specs.declared.words.Operands.{Operands}
+use Rattle.kc_lex.specs.Words.{operands_for}
+use Rattle.kc_lex.specs.Takes.{suits}
 use Rattle.kc_lex.specs.Kinds.{is_free_name}
-use Rattle.kc_source_statement.specs.Trees.{ItemTree, ArgTree, ActionTree, Bare, Module, Cseg, Dseg, Rseg, Sseg, Public, Extrn, Equ, Set, Define, Reserve, Org, Even, End, Operation}
+use Rattle.kc_source_statement.specs.Trees.{ItemTree, ActionTree, notation, Bare, Module, Cseg, Dseg, Rseg, Sseg, Public, Extrn, Equ, Set, Define, Reserve, Org, Even, End, Operation}
 use Rattle.kc_source_statement.specs.Trees as trees
-use Rattle.kc_source_statement.specs.Operands.{takes}
-use Rattle.kc_source_statement.specs.Statements.{operation_of, statement_in, label_in}
+use Rattle.kc_source_statement.specs.Statements.{statement_in, label_in}
 
 -- ---- forms
 
@@ -20,13 +20,8 @@ abbrev pub is_value : ItemTree → Bool
 is_value (trees.Value x) = true
 is_value (trees.Chars cs) = false
 
--- an operation that takes these operands
-abbrev pub suits : Option Operands → List ArgTree → Bool
-suits None args = false
-suits (Some form) args = takes form args
-
 abbrev pub is_formed : ActionTree → Bool
-is_formed (Operation word args) = suits (operation_of word) args
+is_formed (Operation word args) = suits (operands_for word) (map notation args)
 is_formed (Define size items) = is_item_size size && ((size == 1) || list_all is_value items)
 is_formed (Reserve size x) = is_item_size size
 is_formed Bare = true

@@ -1,10 +1,8 @@
--- The parts of a statement: expressions, operands, items and names, and which operands an operation takes (after the
--- MCS-96 Macro Assembler User's Guide, "Instruction Operands"; the exact forms are this kit's own).
-use Rattle.std.specs.Prelude.{ℕ, Bool, true, false, not, ◌&&◌, ◌||◌, ◌==◌, if◌then◌else◌, List, [], ◌∷◌, length, drop, Option, Some, None}
+-- The parts of a statement: expressions, operands, items and names (after the MCS-96 Macro Assembler User's Guide,
+-- "Instruction Operands"; the exact forms are this kit's own).
+use Rattle.std.specs.Prelude.{ℕ, Bool, false, ◌&&◌, ◌==◌, if◌then◌else◌, List, [], ◌∷◌, length, drop, Option, Some, None}
 use Rattle.std.specs.Option.{option_map}
 use Rattle.kc_lex.specs.declared.token.Token.{Token}
-use Rattle.kc_lex.specs.declared.words.Operands.{Operands}
-use Rattle.kc_lex.specs.declared.words.Operands.TheVariants as operands
 use Rattle.kc_lex.specs.Kinds.{is_sign, is_free_name, is_chars_kind, begins_sign}
 use Rattle.kc_expr.specs.Tree.{Tree}
 use Rattle.kc_expr.specs.Grammar.{Reading, parsed, is_type}
@@ -116,67 +114,3 @@ name_in typed (t ∷ u ∷ v ∷ w ∷ ts) = None
 
 abbrev pub names_in : Bool → List Token → Option (List (List ℕ))
 names_in typed ts = all_some (name_in typed) (parts ts)
-
--- ---- which operands an operation takes
-
-abbrev pub is_plain : ArgTree → Bool
-is_plain (Plain x) = true
-is_plain (Immediate x) = false
-is_plain (Indirect r) = false
-is_plain (Increment r) = false
-is_plain (Indexed x r) = false
-
-abbrev pub is_immediate : ArgTree → Bool
-is_immediate (Immediate x) = true
-is_immediate (Plain x) = false
-is_immediate (Indirect r) = false
-is_immediate (Increment r) = false
-is_immediate (Indexed x r) = false
-
-abbrev pub is_indirect : ArgTree → Bool
-is_indirect (Indirect r) = true
-is_indirect (Plain x) = false
-is_indirect (Immediate x) = false
-is_indirect (Increment r) = false
-is_indirect (Indexed x r) = false
-
-abbrev pub is_indexed : ArgTree → Bool
-is_indexed (Indexed x r) = true
-is_indexed (Plain x) = false
-is_indexed (Immediate x) = false
-is_indexed (Indirect r) = false
-is_indexed (Increment r) = false
-
-abbrev pub takes_none : Operands → Bool
-takes_none operands.Nothing = true
-takes_none form = false
-
-abbrev pub takes_one : Operands → ArgTree → Bool
-takes_one operands.One a = is_plain a
-takes_one operands.Source a = true
-takes_one operands.Place a = not (is_immediate a)
-takes_one operands.Branch a = is_plain a || is_indirect a
-takes_one operands.Key a = is_immediate a
-takes_one form a = false
-
-abbrev pub takes_two : Operands → ArgTree → ArgTree → Bool
-takes_two operands.Two a b = is_plain a
-takes_two operands.TwoOrThree a b = is_plain a
-takes_two operands.Store a b = is_plain a && not (is_immediate b)
-takes_two operands.Exchange a b = is_plain a && (is_plain b || is_indexed b)
-takes_two operands.Shift a b = is_plain a && (is_plain b || is_immediate b)
-takes_two operands.Pair a b = is_plain a && is_plain b
-takes_two form a b = false
-
-abbrev pub takes_three : Operands → ArgTree → ArgTree → ArgTree → Bool
-takes_three operands.TwoOrThree a b c = is_plain a && is_plain b
-takes_three operands.Triple a b c = is_plain a && is_plain b && is_plain c
-takes_three operands.Table a b c = is_plain a && is_indirect b && is_immediate c
-takes_three form a b c = false
-
-abbrev pub takes : Operands → List ArgTree → Bool
-takes form [] = takes_none form
-takes form (a ∷ []) = takes_one form a
-takes form (a ∷ b ∷ []) = takes_two form a b
-takes form (a ∷ b ∷ c ∷ []) = takes_three form a b c
-takes form (a ∷ b ∷ c ∷ d ∷ rest) = false

@@ -1,20 +1,21 @@
 -- Statements by the table of the language: a line's label, and what the words behind it say, or the code of its fault:
 -- 1 for what is no statement, 14 for a statement that has not its form (after the MCS-96 Macro Assembler User's Guide,
 -- "Assembler Directives"; the exact forms and the codes are this kit's own).
-use Rattle.std.specs.Prelude.{ℕ, Bool, true, false, ◌&&◌, ◌||◌, ◌==◌, if◌then◌else◌, List, [], ◌∷◌, drop, Option, Some, None, Result, Ok, Err, codes}
-use Rattle.std.specs.Option.{option_map, option_or}
+use Rattle.std.specs.Prelude.{ℕ, Bool, true, false, ◌&&◌, ◌||◌, ◌==◌, if◌then◌else◌, List, [], ◌∷◌, map, drop, Option, Some, None, Result, Ok, Err, codes}
+use Rattle.std.specs.Option.{option_map}
 use Rattle.kc_lex.specs.declared.token.Token.{Token}
 use Rattle.kc_lex.specs.declared.words.Operands.{Operands}
 use Rattle.kc_lex.specs.declared.words.Directive.{Directive}
 use Rattle.kc_lex.specs.declared.words.Directive.TheVariants as directives
-use Rattle.kc_lex.specs.Words.{operands_of, generic_operands_of, directive_of}
+use Rattle.kc_lex.specs.Words.{operands_for, directive_of}
+use Rattle.kc_lex.specs.Takes.{takes}
 use Rattle.kc_lex.specs.Kinds.{is_sign, is_word, is_name_kind, is_free_name, has_label, begins_word}
 use Rattle.kc_lex.specs.Codes.{no_statement, other_operands}
 use Rattle.kc_expr.specs.Tree.{Tree}
 use Rattle.kc_expr.specs.Grammar.{Reading, parsed}
-use Rattle.kc_source_statement.specs.Trees.{ArgTree, ActionTree}
+use Rattle.kc_source_statement.specs.Trees.{ArgTree, ActionTree, notation}
 use Rattle.kc_source_statement.specs.Trees as trees
-use Rattle.kc_source_statement.specs.Operands.{is_nil, whole, operands_in, items_in, names_in, takes}
+use Rattle.kc_source_statement.specs.Operands.{is_nil, whole, operands_in, items_in, names_in}
 
 -- ---- the form of each directive, by what stands behind its word
 
@@ -107,13 +108,9 @@ abbrev pub by_directive : Option Directive → List Token → Result ActionTree 
 by_directive None ts = Err no_statement
 by_directive (Some d) ts = or_form_fault (directive_in d ts)
 
--- the operands of an operation, which is an instruction or a generic branch
-abbrev pub operation_of : List ℕ → Option Operands
-operation_of word = option_or (operands_of word) (generic_operands_of word)
-
 abbrev pub operation_in : List ℕ → Operands → Option (List ArgTree) → Result ActionTree ℕ
 operation_in word form None = Err other_operands
-operation_in word form (Some args) = if takes form args then Ok (trees.Operation word args) else Err other_operands
+operation_in word form (Some args) = if takes form (map notation args) then Ok (trees.Operation word args) else Err other_operands
 
 abbrev pub by_operation : List ℕ → Option Operands → List Token → Result ActionTree ℕ
 by_operation word None ts = by_directive (directive_of word) ts
@@ -134,7 +131,7 @@ second_directive (t ∷ []) = None
 second_directive (t ∷ u ∷ ts) = if is_free_name t then directive_at u else None
 
 abbrev pub by_word : Token → List Token → Result ActionTree ℕ
-by_word t ts = if is_name_kind t.kind then by_operation t.text (operation_of t.text) ts else Err no_statement
+by_word t ts = if is_name_kind t.kind then by_operation t.text (operands_for t.text) ts else Err no_statement
 
 abbrev pub only_defining : Option Directive → Option Directive
 only_defining None = None

@@ -1,6 +1,8 @@
 -- Statements as data, without where their expressions lie in memory.
 use Rattle.std.specs.Prelude.{ℕ, List, Option, Result, Ok, Err, map}
 use Rattle.std.specs.Option.{option_map}
+use Rattle.kc_lex.specs.declared.words.Notation.{Notation}
+use Rattle.kc_lex.specs.declared.words.Notation.TheVariants as notations
 use Rattle.kc_expr.specs.Tree.{Tree, tree_of}
 use Rattle.kc_source_statement.specs.declared.statement.Item.{Item}
 use Rattle.kc_source_statement.specs.declared.statement.Item.TheVariants as item
@@ -48,6 +50,14 @@ arg_tree (arg.Immediate e) = Immediate (tree_of e)
 arg_tree (arg.Indirect e) = Indirect (tree_of e)
 arg_tree (arg.Increment e) = Increment (tree_of e)
 arg_tree (arg.Indexed e r) = Indexed (tree_of e) (tree_of r)
+
+-- how an operand is written
+abbrev pub notation : ArgTree → Notation
+notation (Plain x) = notations.Plain
+notation (Immediate x) = notations.Immediate
+notation (Indirect r) = notations.Indirect
+notation (Increment r) = notations.Increment
+notation (Indexed x r) = notations.Indexed
 
 abbrev pub action_tree : Action → ActionTree
 action_tree action.Bare = Bare

@@ -2,14 +2,17 @@ ghost use Rattle.std.specs.Prelude.{◌≡◌, ◌≤◌, ◌<◌, length, drop,
 ghost use Rattle.std.specs.Option.{option_map};
 ghost use Rattle.kc_expr.specs.Tree.{tree_of};
 ghost use Rattle.kc_expr.specs.Grammar.{parsed, seen};
+ghost use Rattle.kc_lex.specs.Takes.{takes};
 ghost use Rattle.kc_source_statement.specs.Trees.{arg_tree, item_tree, Immediate};
+ghost use Rattle.kc_source_statement.specs.Trees as trees;
 ghost use Rattle.kc_source_statement.specs.Operands as spec;
 
 use crate::statement::{Arg, Item};
 use kc_base::{NoMemory, Text};
 use kc_expr::{Expr, is_type, parse};
 use kc_lex::kinds::{begins_sign, is_chars, is_free_name, is_sign, rest};
-use kc_lex::{Operands, SourceFault, Token};
+use kc_lex::words::takes;
+use kc_lex::{Notation, Operands, SourceFault, Token};
 use std::alloc::Global;
 
 // The longest expression at the front, and how many tokens it takes.
@@ -223,98 +226,27 @@ pub(crate) fn name(alloc: Global, typed: bool, tokens: &[Token]) -> Result<Optio
     }
 }
 
-fn is_plain(arg: &Arg) -> bool
-    ensures { result ≡ spec.is_plain (arg_tree arg.now) }
+fn notation(arg: &Arg) -> Notation
+    ensures { result ≡ trees.notation (arg_tree arg.now) }
 {
     match arg {
-        Arg::Plain(_) => true,
-        _ => false,
+        Arg::Plain(_) => Notation::Plain,
+        Arg::Immediate(_) => Notation::Immediate,
+        Arg::Indirect(_) => Notation::Indirect,
+        Arg::Increment(_) => Notation::Increment,
+        Arg::Indexed(_, _) => Notation::Indexed,
     }
 }
 
-fn is_immediate(arg: &Arg) -> bool
-    ensures { result ≡ spec.is_immediate (arg_tree arg.now) }
-{
-    match arg {
-        Arg::Immediate(_) => true,
-        _ => false,
-    }
-}
-
-fn is_indirect(arg: &Arg) -> bool
-    ensures { result ≡ spec.is_indirect (arg_tree arg.now) }
-{
-    match arg {
-        Arg::Indirect(_) => true,
-        _ => false,
-    }
-}
-
-fn is_indexed(arg: &Arg) -> bool
-    ensures { result ≡ spec.is_indexed (arg_tree arg.now) }
-{
-    match arg {
-        Arg::Indexed(_, _) => true,
-        _ => false,
-    }
-}
-
-fn takes_none(form: Operands) -> bool
-    ensures { result ≡ spec.takes_none form }
-{
-    match form {
-        Operands::Nothing => true,
-        _ => false,
-    }
-}
-
-fn takes_one(form: Operands, a: &Arg) -> bool
-    ensures { result ≡ spec.takes_one form (arg_tree a.now) }
-{
-    match form {
-        Operands::One => is_plain(a),
-        Operands::Source => true,
-        Operands::Place => !is_immediate(a),
-        Operands::Branch => is_plain(a) || is_indirect(a),
-        Operands::Key => is_immediate(a),
-        _ => false,
-    }
-}
-
-fn takes_two(form: Operands, a: &Arg, b: &Arg) -> bool
-    ensures { result ≡ spec.takes_two form (arg_tree a.now) (arg_tree b.now) }
-{
-    match form {
-        Operands::Two => is_plain(a),
-        Operands::TwoOrThree => is_plain(a),
-        Operands::Store => is_plain(a) && !is_immediate(b),
-        Operands::Exchange => is_plain(a) && (is_plain(b) || is_indexed(b)),
-        Operands::Shift => is_plain(a) && (is_plain(b) || is_immediate(b)),
-        Operands::Pair => is_plain(a) && is_plain(b),
-        _ => false,
-    }
-}
-
-fn takes_three(form: Operands, a: &Arg, b: &Arg, c: &Arg) -> bool
-    ensures { result ≡ spec.takes_three form (arg_tree a.now) (arg_tree b.now) (arg_tree c.now) }
-{
-    match form {
-        Operands::TwoOrThree => is_plain(a) && is_plain(b),
-        Operands::Triple => is_plain(a) && is_plain(b) && is_plain(c),
-        Operands::Table => is_plain(a) && is_indirect(b) && is_immediate(c),
-        _ => false,
-    }
-}
-
-/// Whether an operation of this form takes the operands.
-pub(crate) fn takes(form: Operands, args: &[Arg]) -> bool
-    ensures { result ≡ spec.takes form (map arg_tree args.now) }
+/// Whether an operation with operands of this form takes these.
+pub(crate) fn are_taken(form: Operands, args: &[Arg]) -> bool
+    ensures { result ≡ takes form (map trees.notation (map arg_tree args.now)) }
 {
     match args {
-        [] => takes_none(form),
-        [a] => takes_one(form, a),
-        [a, b] => takes_two(form, a, b),
-        [a, b, c] => takes_three(form, a, b, c),
+        [] => takes(form, &[]),
+        [a] => takes(form, &[notation(a)]),
+        [a, b] => takes(form, &[notation(a), notation(b)]),
+        [a, b, c] => takes(form, &[notation(a), notation(b), notation(c)]),
         _ => false,
     }
 }

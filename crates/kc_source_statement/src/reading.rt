@@ -5,12 +5,12 @@ ghost use Rattle.kc_source_statement.specs.Operands.{operands_in};
 ghost use Rattle.kc_source_statement.specs.Statements as spec;
 
 use crate::forms::{definition, directive};
-use crate::operands::takes;
+use crate::operands::are_taken;
 use crate::parts::operands;
 use crate::statement::Action;
 use kc_base::{NoMemory, Text};
 use kc_lex::kinds::{has_label, is_free_name, is_name, rest};
-use kc_lex::words::{directive_of, generic_operands_of, operands_of};
+use kc_lex::words::{directive_of, operands_for};
 use kc_lex::{Directive, Operands, SourceCode, Token};
 use std::alloc::Global;
 
@@ -26,7 +26,7 @@ fn operation(
     match operands(alloc, tokens)? {
         None => Ok(Err(SourceCode::OtherOperands.number())),
         Some(args) => {
-            if takes(form, args.as_slice()) {
+            if are_taken(form, args.as_slice()) {
                 let name = Text::of(alloc, word.text.as_slice())?;
                 Ok(Ok(Action::Operation { name, args }))
             } else {
@@ -72,18 +72,11 @@ fn by_operation(
     }
 }
 
-// The operands of an instruction or a generic branch.
-fn operation_of(word: &[u8]) -> Option<Operands>
-    ensures { result ≡ spec.operation_of word.now }
-{
-    operands_of(word).or(generic_operands_of(word))
-}
-
 fn by_word(alloc: Global, word: &Token, tokens: &[Token]) -> Result<Result<Action, u8>, NoMemory>
     ensures { IfOk result (λ r. spec.by_word word.now tokens.now ≡ action_read r) }
 {
     if is_name(word) {
-        by_operation(alloc, word, operation_of(word.text.as_slice()), tokens)
+        by_operation(alloc, word, operands_for(word.text.as_slice()), tokens)
     } else {
         Ok(Err(SourceCode::NoStatement.number()))
     }
@@ -113,8 +106,9 @@ fn second_directive(tokens: &[Token]) -> Option<Directive>
 {
     match tokens {
         [first, second, ..] => {
+            let directive = directive_at(second)?;
             if is_free_name(first) {
-                directive_at(second)
+                Some(directive)
             } else {
                 None
             }

@@ -1,7 +1,8 @@
 -- Laws of spans that every unit and the block use.
 use Rattle.std.proofs.Common.{◌≡◌, ℕ, zero, suc, ◌+◌, ◌-◌, ◌<◌, ◌≤◌, refl, ◌∙◌, arith, add-zero, add-suc, add_assoc}
-use Rattle.std.proofs.Common.{subst, Option, Some, None, true, false}
-use Rattle.kc_span.specs.Span.{Rule, after, QuietFor, IsDue}
+use Rattle.std.proofs.Common.{subst, Option, Some, None, true, false, inl, inr, min}
+use Rattle.std.proofs.lemmas.Bool.{cases_lt}
+use Rattle.kc_span.specs.Span.{Rule, after, QuietFor, IsDue, least_of}
 
 pub after-zero : {D : Type 0} (rule : Rule D) (from : ℕ) (d : D) → after rule from 0 d ≡ d
 unfolding after
@@ -55,6 +56,13 @@ loud_at rule from d None t never e = cc
 loud_at rule from d (Some u) t due e =
     let same : u ≡ t = cc in
     subst (λ s. rule.quiet s (after rule from (s - from) d) ≡ false) same due.loud
+
+-- what holds of whichever of two states comes first holds of the earlier of both
+pub least_holds : (P : Option ℕ → Type 0) (u v : ℕ) → (u < v → P (Some u)) → (v ≤ u → P (Some v)) → P (least_of (Some u) (Some v))
+least_holds P u v first second = elim (cases_lt u v) [
+  | inl lt ↦ let e : u ≡ min u v = omega arith in subst (λ w. P (Some w)) e (first lt)
+  | inr le ↦ let e : v ≡ min u v = omega arith in subst (λ w. P (Some w)) e (second le)
+]
 
 -- a span of no state
 pub after-none : {D : Type 0} (rule : Rule D) (from : ℕ) (d : D) → after rule from (from - from) d ≡ d

@@ -4,6 +4,7 @@ use Rattle.kc_asm_laws.proofs.modules_fit.Goals as goal
 pub returns : goal.returns
 returns c = modules_fit (record {
   of_text = c.statements_are_of_the_text.ensures;
+  read = c.sources_are_read_well.ensures;
   words = c.numbers_are_words.ensures;
   nothing_else = c.nothing_else_stands.ensures;
   drafts = c.drafts_are_drafts.ensures;

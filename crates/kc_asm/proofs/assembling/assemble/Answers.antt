@@ -1,8 +1,10 @@
 use Rattle.std.proofs.Common.{◌≤◌, inr, length, sym, subst, arith, Ok, Err}
 use Rattle.kc_lex.specs.declared.fault.SourceFault.{SourceFault}
 use Rattle.kc_source.specs.Faults.{AreStatements}
+use Rattle.kc_asm_symbols.specs.Told.{AreReadWell}
 use Rattle.kc_asm.specs.Assembled.{AreSaid, IsMade, IsAssembled}
 use Rattle.kc_asm.proofs.Characters.{has_characters}
+use Rattle.kc_asm.proofs.Said.{said_well}
 use Rattle.kc_source_laws.proofs.Counts.{line_count, stmt_count}
 use Rattle.kc_asm.proofs.assembling.assemble.Goals as goal
 
@@ -14,6 +16,13 @@ module_or_fault-requires-clause-few c =
     let text : length c.deref.result.now ≤ 65535 = rw c.deref.ensures.value c.in_ok-text.ensures.few in
     let few : length c.in_ok-stmts.stmts.items ≤ 65536 = omega (arith, text, stmt_count c.in_ok-stmts.stmts.items c.deref.result.now c.in_ok-stmts.ensures) in
     rw c.deref-2.ensures.value few
+
+pub module_or_fault-requires-clause-read : goal.module_or_fault-requires-clause-read
+module_or_fault-requires-clause-read c =
+    let statements : AreStatements c.in_ok-stmts.stmts.items c.in_ok-text.text.items = rw c.deref.ensures.value at c.in_ok-stmts.ensures in
+    let said : AreSaid c.args.source.now c.in_ok-stmts.stmts.items = (c.in_ok-text.text.items, (c.in_ok-lines.lines.items, c.in_ok-lines.ensures, c.in_ok-text.ensures.lines), statements) in
+    let read : AreReadWell c.in_ok-stmts.stmts.items = said_well c.sources_are_read_well.ensures c.args.source.now c.in_ok-stmts.stmts.items said in
+    rw c.deref-2.ensures.value read
 
 pub returns-in-Ok-Ok : goal.returns-in-Ok-Ok
 returns-in-Ok-Ok c =

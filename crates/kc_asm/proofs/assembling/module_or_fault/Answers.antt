@@ -15,7 +15,7 @@ pub module_of-requires : goal.module_of-requires
 module_of-requires c =
     let judged = subst (λ (r : Result Checked Fault). IsJudged c.args.stmts.now r) c.in-Ok.is c.in_ok-checked.ensures in
     let few : length (pieces_in c.in_ok-draft.draft) ≤ 65536 = omega (arith, c.piece_count.ensures, c.if-piece_count-gt-MOST_PIECES.false) in
-    c.drafts_are_drafts.ensures c.args.stmts.now c.in_ok-draft.draft judged.0 c.in_ok-draft.ensures few
+    c.drafts_are_drafts.ensures c.args.stmts.now c.in_ok-draft.draft c.requires.read judged.0 c.in_ok-draft.ensures few
 
 pub returns : goal.returns
 returns c =

@@ -1,10 +1,17 @@
-use Rattle.std.proofs.Common.{refl, ap}
-use Rattle.kc_block_access.proofs.Acts.{hso_act}
+use Rattle.std.proofs.Common.{sym, subst}
+use Rattle.kc_span.specs.Span.{Counted}
+use Rattle.kc_hso.specs.Cam.{Cam}
+use Rattle.kc_block_lane.specs.Lane.{lane_at}
+use Rattle.kc_block_lazy.specs.Lanes.{shown_units}
+use Rattle.kc_block_lanes.specs.Standing.{standing}
+use Rattle.kc_block_access.specs.Left.{IsLeft}
+use Rattle.kc_block_access.proofs.Left.{command_left}
 use Rattle.kc_block_access.proofs.acting.write_hso_command.Goals as goal
 
 pub returns-clause-left : goal.returns-clause-left
 returns-clause-left g c =
-    hso_act g.X.Extra.further g.X.Extra.agrees g.X.Extra.plain c.args.lanes.now c.bring_hso.new.self c.ask_hso.new.self c.args.now
-    (λ i. record i { command = c.args.value }) c.command.new.self
-    (record { lazy = c.bring_hso.ensures.lazy; shows = c.bring_hso.ensures.shows }) c.bring_hso.ensures.standing
-    (ap (λ u. u.inner) c.command.ensures) (λ d. refl) c.ask_hso.ensures.rest c.ask_hso.ensures.others c.ask_hso.ensures.due
+    let h = standing g.X.Extra.plain c.args.lanes.now in
+    let u = shown_units g.X.Extra.further h c.args.now in
+    subst (λ (unit : Counted Cam). IsLeft g.X.Extra.further g.X.Extra.agrees c.args.now (record h { hso = lane_at h.hso.at unit.inner }) (record u { hso = record u.hso { command = c.args.value } }))
+    (sym c.command.ensures)
+    (command_left g.X.Extra.further g.X.Extra.agrees h c.args.now c.args.value c.requires)

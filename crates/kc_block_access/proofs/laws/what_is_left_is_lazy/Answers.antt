@@ -1,4 +1,4 @@
-use Rattle.kc_block_access.proofs.Left.{unread_left, flag_left, hsi_left, further_left, hso_left, timers_left, gate_left}
+use Rattle.kc_block_access.proofs.Left.{unread_left, flag_left, hsi_left, further_left, hso_left, command_left, timers_left, gate_left}
 use Rattle.kc_block_access.proofs.laws.what_is_left_is_lazy.Goals as goal
 
 pub returns-clause-unread : goal.returns-clause-unread
@@ -21,6 +21,9 @@ returns-clause-further g c = further_left g.X.Extra.further g.X.Extra.agrees (re
 
 pub returns-clause-hso : goal.returns-clause-hso
 returns-clause-hso g c = hso_left g.X.Extra.further g.X.Extra.agrees
+
+pub returns-clause-command : goal.returns-clause-command
+returns-clause-command g c = command_left g.X.Extra.further g.X.Extra.agrees
 
 pub returns-clause-timers : goal.returns-clause-timers
 returns-clause-timers g c = timers_left g.X.Extra.further g.X.Extra.agrees

@@ -3,8 +3,11 @@ use Rattle.std.specs.Prelude.{bit_or}
 use Rattle.kc_stim.specs.Drives.{wire_to}
 use Rattle.kc_hso.specs.Cam.{weight}
 use Rattle.kc_block_spec.specs.Levels.{mask_of, follows}
-use Rattle.kc_block_inputs.proofs.InputMasks.{mask_next, wires_below, wires_above}
+use Rattle.kc_block_inputs.proofs.InputMasks.{mask_next, wires_below, wires_above, no_wires}
 use Rattle.kc_block_inputs.proofs.inputs.wired.Goals as goal
+
+pub returns-then-has_no_wire : goal.returns-then-has_no_wire
+returns-then-has_no_wire c = no_wires c.args.stimuli.now (λ o. follows o c.args.outputs) refl (sym c.has_no_wire.ensures ∙ c.if-has_no_wire.true)
 
 pub loop-pin-init : goal.loop-pin-init
 loop-pin-init c = sym (wires_below c.args.stimuli.now c.requires (λ o. follows o c.args.outputs) refl)

@@ -15,7 +15,7 @@ returns-in-Ok c =
     let given = given_in c.args.given in
     let texts = texts_in c.args.texts.now in
     board-widen (λ tell. Placing names c.args.placing.now (Driven given FilledTold tell) c.in-Ok.modules.items) (SourcesTold names given c.args.placing.now texts) c.board_of_modules.result
-    (λ tell r m. (Ok c.in-Ok.modules.items, c.in-Ok.ensures.made, linked-placing c.linked_image.ensures names given c.args.placing.now texts tell c.in-Ok.modules.items r c.in-Ok.ensures.made m))
+    (λ tell r m. (Ok c.in-Ok.modules.items, c.in-Ok.ensures.made, linked-placing c.sources_are_read_well.ensures c.linked_image.ensures names given c.args.placing.now texts tell c.in-Ok.modules.items r c.in-Ok.ensures.made m))
     (rw c.deref.ensures.value at c.board_of_modules.ensures)
 
 pub returns-in-Err : goal.returns-in-Err

@@ -14,7 +14,7 @@ returns-in-Ok c =
     let given = given_in c.args.given in
     let texts = texts_in c.args.texts.now in
     lines-widen (λ tell. Placing names c.args.placing.now (DrivenWithLines given FilledWithLines tell) c.in-Ok.modules.items) (LinesTold names given c.args.placing.now texts) c.linked.result
-    (λ tell r m. (Ok c.in-Ok.modules.items, c.in-Ok.ensures.made, lines-linked c.linked_image.ensures names given c.args.placing.now texts tell c.in-Ok.modules.items r c.in-Ok.ensures.made m))
+    (λ tell r m. (Ok c.in-Ok.modules.items, c.in-Ok.ensures.made, lines-linked c.sources_are_read_well.ensures c.linked_image.ensures names given c.args.placing.now texts tell c.in-Ok.modules.items r c.in-Ok.ensures.made m))
     (rw c.deref.ensures.value at c.linked.ensures)
 
 pub returns-in-Err : goal.returns-in-Err

@@ -1,7 +1,7 @@
 use Rattle.std.proofs.Common.{◌≡◌, true}
 use Rattle.std.specs.List.{AllWithin}
-use Rattle.kc_exec_ready.specs.Preparing.{is_alone_cost}
+use Rattle.kc_exec_ready.specs.Preparing.{is_blank}
 use Rattle.kc_machine.proofs.common.clear.Given as goal
 
 abbrev pub invariant-loop-slot : goal.invariant-loop-slot
-invariant-loop-slot l = AllWithin (λ r. is_alone_cost r.cost ≡ true) l.slot-items 0 l.slot-index
+invariant-loop-slot l = AllWithin (λ r. is_blank r ≡ true) l.slot-items 0 l.slot-index

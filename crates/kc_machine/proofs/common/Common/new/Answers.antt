@@ -1,4 +1,4 @@
-use Rattle.std.proofs.Common.{rules, sym, subst}
+use Rattle.std.proofs.Common.{sym, subst}
 use Rattle.kc_machine.specs.Prepared.{IsTable}
 use Rattle.kc_machine.proofs.Prepared.{table_blank}
 use Rattle.kc_machine.proofs.common.Common.new.Goals as goal
@@ -6,4 +6,4 @@ use Rattle.kc_machine.proofs.common.Common.new.Goals as goal
 pub invariant_of-result-clause-told : goal.invariant_of-result-clause-told
 invariant_of-result-clause-told g c =
     subst (λ items. IsTable items c.args.memory.items) (sym (c.in_ok-ready.ensures.items_if_clones_equal (λ y h. h)))
-    (table_blank c.args.memory.items 0x3FFA c.blank.result (search rules))
+    (table_blank c.args.memory.items 0x3FFA c.blank.result c.blank.ensures)

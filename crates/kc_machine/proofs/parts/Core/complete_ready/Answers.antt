@@ -47,9 +47,6 @@ execute_ready-requires-clause-begun g c = ap (λ (m : Machine _). m.under_way) c
 pub execute_ready-requires-clause-alone : goal.execute_ready-requires-clause-alone
 execute_ready-requires-clause-alone g c = ap (λ (m : Machine _). m.going) c.advance.ensures.machine ∙ c.requires.between.alone
 
-pub execute_ready-requires-clause-unheld : goal.execute_ready-requires-clause-unheld
-execute_ready-requires-clause-unheld g c = ap (λ (m : Machine _). m.held) c.advance.ensures.machine ∙ c.requires.between.free
-
 pub returns-in-Err-clause-machine : goal.returns-in-Err-clause-machine
 returns-in-Err-clause-machine g c =
     let led = c.in-Err.ensures.err ∙ ap (finished g.X.Extra.further (Executes c.args.ready.now.insn)) (rw c.from-left.ensures at c.advance.ensures.machine) in
@@ -81,6 +78,6 @@ pub returns-in-Ok-clause-free : goal.returns-in-Ok-clause-free
 returns-in-Ok-clause-free g c = record {
   begun = c.execute_ready.ensures.over;
   alone = c.execute_ready.ensures.going;
-  unheld = c.execute_ready.ensures.unheld;
+  unheld = c.in-Ok.ensures.unheld;
   lives = c.execute_ready.ensures.lives;
 }

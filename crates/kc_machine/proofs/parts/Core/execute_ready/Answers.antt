@@ -16,7 +16,7 @@ returns-in-Ok-clause-ok g c =
     let s = held_of c.ready_over.new.common in
     let led : run (bus_meaning g.X.Extra.further) (effect_of i m.cpu) (scene_of m) ≡ Done (Next, c.ready_over.new.cpu) s =
     ap (run (bus_meaning g.X.Extra.further) (effect_of i m.cpu)) (sym c.requires.scene) ∙ c.in-Ok.ensures.effect in
-    gone-on m s c.ready_over.new.cpu c.requires.begun c.requires.alone c.requires.unheld c.requires.lives
+    gone-on m s c.ready_over.new.cpu c.requires.begun c.requires.alone c.requires.lives
     ∙ ap (closed m s c.ready_over.new.cpu free) (sym (silent m.time m.cpu.pc c.args.ready.now c.requires.ready c.requires.followed))
     ∙ executed g.X.Extra.further i m s Next c.ready_over.new.cpu led
 

@@ -1,4 +1,4 @@
-use Rattle.std.proofs.Common.{not, ap, sym, ◌∙◌}
+use Rattle.std.proofs.Common.{ap, sym, ◌∙◌}
 use Rattle.kc_machine_spec.specs.Machine.{current}
 use Rattle.kc_machine.specs.Bus.{held_of}
 use Rattle.kc_machine.specs.Seen.{machine_of}
@@ -7,5 +7,5 @@ use Rattle.kc_machine.proofs.parts.Core.pass_slot.Goals as goal
 
 pub pass_ready-requires-clause-value : goal.pass_ready-requires-clause-value
 pass_ready-requires-clause-value g c =
-    comes_next (machine_of c.args.self.now) c.ready_at-ready.result c.in-Ok.states c.requires.between (c.ready_at-ready.ensures (c.is_followed_freely.ensures.cost ∙ ap not c.if-is_followed_freely.true)) (sym c.in-Ok.ensures.value)
+    comes_next (machine_of c.args.self.now) c.ready_at-ready.result c.in-Ok.states c.requires.between (c.ready_at-ready.ensures (rw c.if-not-is_followed_freely.false at c.is_followed_freely.ensures.told)) (sym c.in-Ok.ensures.value)
     ∙ ap current (sym (same-machine c.args.self.now c.time_over.new.common (ap held_of c.time_over.ensures.common)))

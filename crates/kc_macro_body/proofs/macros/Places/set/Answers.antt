@@ -5,5 +5,5 @@ use Rattle.kc_macro_body.proofs.macros.Places.set.Goals as goal
 
 pub returns : goal.returns
 returns c =
-    one_set c.self.inside.map.entries c.insert.new.self.entries c.into_vec.result c.args.place c.in_ok-insert.ensures.updates.1 c.in_ok-insert.ensures.updates.3
-    ∙ ap (λ m. insert m c.into_vec.result.items c.args.place) c.self.view_is ∙ ap (λ n. insert c.args.self.now n c.args.place) c.into_vec.ensures
+    one_set c.self.inside.map.entries c.insert.new.self.entries c.in_ok-key.key c.args.place c.in_ok-insert.ensures.updates.1 c.in_ok-insert.ensures.updates.3
+    ∙ ap (λ m. insert m c.in_ok-key.key.items c.args.place) c.self.view_is ∙ ap (λ n. insert c.args.self.now n c.args.place) c.in_ok-key.ensures

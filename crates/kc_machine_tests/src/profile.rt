@@ -1,0 +1,131 @@
+// A program that is entered, served and idle, with the numbers of a model in another language.
+ghost use Rattle.std.specs.Prelude.{◌≡◌, ◌+◌, ◌<◌, ◌≤◌, false, OnOk};
+ghost use Rattle.kc_profile.specs.Tally.{total};
+
+use crate::board::machine_of;
+use kc_base::{MemSink, Steps, Text};
+use kc_debug_script::MapEntry;
+use kc_extra::NoExtra;
+use kc_machine::Machine;
+use kc_profile::{Profile, Spot, run_profiled};
+use kc_trace::TraceOut;
+use std::alloc::Global;
+use std::marker::Brand;
+use std::sync::ledger::{Blank, Ledger};
+use std::test::Fail;
+
+// At 2080H: LD 18H,#100H; LDB 8H,#20H; LDB 9H,#20H; EI; NOP; DI; LDB 14H,#1; LD 4H,#20H; LDB 14H,#0; LD 40H,#0201H;
+// LD 42H,#50H; LD 44H,#60H; LD 46H,#3; EPTS; EI; LDB 9H,#20H; NOP; LD 34H,#70H; LD 36H,#78H; LD 38H,#3; BMOV 34H,38H; IDLPD #1
+const MAIN: &[u8] = &[
+    0xA1, 0x00, 0x01, 0x18, 0xB1, 0x20, 0x08, 0xB1, 0x20, 0x09, 0xFB, 0xFD, 0xFA, 0xB1, 0x01, 0x14,
+    0xA1, 0x20, 0x00, 0x04, 0xB1, 0x00, 0x14, 0xA1, 0x01, 0x02, 0x40, 0xA1, 0x50, 0x00, 0x42, 0xA1,
+    0x60, 0x00, 0x44, 0xA1, 0x03, 0x00, 0x46, 0xED, 0xFB, 0xB1, 0x20, 0x09, 0xFD, 0xA1, 0x70, 0x00,
+    0x34, 0xA1, 0x78, 0x00, 0x36, 0xA1, 0x03, 0x00, 0x38, 0xC1, 0x38, 0x34, 0xF6, 0x01,
+];
+
+// At 2100H: NOP; RET
+const HANDLER: &[u8] = &[0xFD, 0xF0];
+
+const TEXT: &[u8] = b"at 2080 5
+at 2084 5
+at 2087 5
+at 208A 2
+at 208B 2
+at 208C 2
+at 208D 5
+at 2090 5
+at 2094 5
+at 2097 5
+at 209B 5
+at 209F 5
+at 20A3 5
+at 20A7 2
+at 20A8 2
+at 20A9 5
+at 20AC 2
+at 20AD 5
+at 20B1 5
+at 20B5 5
+at 20B9 30
+at 20BC 8
+at 2100 4
+at 2101 22
+entry 5 24
+server 5 33
+idle 797
+line MAIN 8 5
+line MAIN 9 77
+line LIB 3 38
+line MAIN 20 26
+";
+
+// The vectors of the handler, and of the server's block at 40H.
+const PARTS: [(u16, &[u8]); 4] = [
+    (0x200A, &[0x00, 0x21]),
+    (0x204A, &[0x40, 0x00]),
+    (0x2080, MAIN),
+    (0x2100, HANDLER),
+];
+
+// Goes on to a state, 1,000 at most, from a machine whose states are counted.
+fn go<L: Ledger>(
+    machine: &mut Machine<NoExtra>,
+    profile: &mut Profile,
+    until: u64,
+    out: &mut TraceOut<MemSink>,
+    steps: &mut Steps<L>,
+) -> Result<(), Fail>
+    requires until { until ≤ 1000 }
+    requires unbroken { out.old.failed ≡ false }
+    requires time { machine.old.machine.time ≤ 1000 }
+    requires counted { total profile.old ≤ 1000 }
+    ensures unbroken { OnOk result (out.new.failed ≡ false) }
+    ensures time { machine.new.machine.time ≤ 1000 }
+    ensures counted { total profile.new ≤ total profile.old + 1000 }
+{
+    match run_profiled(machine, profile, until, out, steps) {
+        Ok(_) => Ok(()),
+        Err(_) => Err("the sink failed".into()),
+    }
+}
+
+// The profile of the first 1,000 states, in two runs of which the first ends within an activity.
+fn counted<L: Ledger>(alloc: Global, blank: Blank) -> Result<Profile, Fail>
+    requires name { blank.name ≡ L.name }
+    requires parts { blank.parts ≡ L.parts }
+    requires whole { 0 < blank.parts }
+{
+    let mut machine = machine_of(alloc, &PARTS)?;
+    let mut profile = Profile::new(alloc)?;
+    let mut out = TraceOut::new(MemSink::new(alloc, 4096, Vec::new(alloc))?);
+    let mut steps = Steps::<L>::new(blank);
+    go(&mut machine, &mut profile, 97, &mut out, &mut steps)?;
+    go(&mut machine, &mut profile, 1000, &mut out, &mut steps)?;
+    Ok(profile)
+}
+
+fn entry(alloc: Global, addr: u16, name: &[u8], line: u32) -> Result<MapEntry, Fail> {
+    let name = Text::of(alloc, name)?;
+    Ok(MapEntry { addr, name, line })
+}
+
+#[test]
+fn states_are_counted(rt: HostRuntime) -> Result<(), Fail> {
+    let alloc = rt.alloc();
+    let profile = counted::<Brand>(alloc, Blank::new(1))?;
+    let entries = [
+        entry(alloc, 0x2080, b"MAIN", 8)?,
+        entry(alloc, 0x2084, b"MAIN", 9)?,
+        entry(alloc, 0x2087, b"MAIN", 9)?,
+        entry(alloc, 0x20B9, b"LIB", 3)?,
+        entry(alloc, 0x2100, b"MAIN", 20)?,
+        entry(alloc, 0x2102, b"MAIN", 21)?,
+    ];
+    let text = profile.text(alloc, &entries)?;
+    assert_eq!(rt; text.as_slice(), TEXT);
+    assert_eq!(rt; profile.states(Spot::At(0x20B9)), 30);
+    assert_eq!(rt; profile.states(Spot::Entry(5)), 24);
+    assert_eq!(rt; profile.states(Spot::Server(5)), 33);
+    assert_eq!(rt; profile.states(Spot::Idle), 797);
+    Ok(())
+}
