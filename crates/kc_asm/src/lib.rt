@@ -4,6 +4,3 @@
 mod assembling;
 
 pub use assembling::assemble;
-
-#[cfg(test)]
-mod tests;

@@ -16,6 +16,7 @@ use Rattle.kc_asm_symbols.specs.declared.segments.Segment.{Segment}
 use Rattle.kc_asm_symbols.specs.Located.{Located, located, located_by, located_from, is_absolute, base_of, value_at, segment_after, first_segment}
 use Rattle.kc_asm_symbols.specs.Externals.{declared, statement_uses_stack, externals, externals_from, external_in, tag_of_taken, stack_name}
 use Rattle.kc_asm_symbols.specs.Meanings.{or_told, is_label, label_answer, external_answer, with_here, is_taken_by, defines, by_definition, behind, earlier, is_set, is_set_by, is_definition, in_all, throughout, meaning}
+use Rattle.kc_asm_symbols.proofs.PlaceLemmas.{place_is_no_number}
 use Rattle.kc_asm_outline.specs.Outline.{on_its_own}
 use Rattle.kc_link_source_laws.specs.Characters.{are_bytes, all_bytes, has_bytes}
 use Rattle.kc_link_source_laws.proofs.Words.{IsWordAnswer, answer_word}
@@ -198,13 +199,6 @@ here_in (Some l) = l.here
 
 abbrev pub here_at : List Located → ℕ → Value
 here_at all number = here_in (slice_get all number)
-
-place_is_no_number : (g : Segment) → is_fixed (base_of g) ≡ false
-place_is_no_number g = by_test (is_absolute g)
-  where
-    by_test : (b : Bool) → is_fixed (cond b Absolute (Piece g.piece)) ≡ false
-    by_test true = refl
-    by_test false = refl
 
 no_further : (p : ℕ) → p % 65536 ≡ (p % 65536 + 0) % 65536
 no_further p = omega arith

@@ -6,6 +6,3 @@ pub mod relocating;
 
 pub use octet::Octet;
 pub use relocating::{depends, misfit, relocated, shown};
-
-#[cfg(test)]
-mod tests;

@@ -9,6 +9,3 @@ mod telling;
 mod written;
 
 pub use finding::cause;
-
-#[cfg(test)]
-mod tests;

@@ -15,6 +15,7 @@ use Rattle.kc_asm_symbols.specs.declared.segments.Segment.{Segment}
 use Rattle.kc_asm_symbols.specs.Located.{Located, located, located_from, located_at, segment_after, base_of, tag_of, value_at}
 use Rattle.kc_asm_symbols.specs.Meanings.{meaning, in_all}
 use Rattle.kc_asm_symbols.specs.Walk.{at_statement, IsAt, IsBehind}
+use Rattle.kc_asm_symbols.proofs.WalkLemmas.{one_located, further}
 use Rattle.kc_asm_emission.specs.Faults.{lesser, least}
 use Rattle.kc_asm_emission.proofs.FaultLemmas.{least_append}
 use Rattle.kc_asm_layout.specs.declared.site.Site.{Site}
@@ -78,7 +79,7 @@ one_judged : (all before : List Located) (regions : Regions) (sum : ℕ) (l : Lo
 unfolding faults_from
 one_judged all before regions sum l rest s ss = first_of (fault_of all before regions sum l s) (others all before regions sum l rest ss)
 
-one_put : (all before : List Located) (l : Located) (rest : List Located) (s : Site) (ss : List Site)
+pub one_put : (all before : List Located) (l : Located) (rest : List Located) (s : Site) (ss : List Site)
     → puts_from all before (l ∷ rest) (s ∷ ss) ≡ put_of (meaning all before l) l s ∷ puts_from all (l ∷ before) rest ss
 unfolding puts_from
 one_put all before l rest s ss = refl
@@ -89,10 +90,6 @@ unfolding stack_from
 one_summed all before l rest sum = refl
 
 -- one more has been passed
-further : (all before rest : List Located) (l : Located) → all ≡ reverse before ++ l ∷ rest → all ≡ reverse (l ∷ before) ++ rest
-further all before rest l split =
-    split ∙ sym (append_assoc (reverse before) (l ∷ []) rest) ∙ ap (λ (ls : List Located). ls ++ rest) (sym (reverse-append (l ∷ []) before))
-
 -- v is before the statement, u at it, w behind it
 passes : (v u w : Walk) (all rest : List Located) (l : Located) (s : Site) (ss : List Site) (whole : Option Fault) (puts : List Put) (stack : ℕ)
     → ((before : List Located) → IsBehind v.meanings all before → IsAt u.meanings all before l)
@@ -154,11 +151,6 @@ site_front : (ss : List Site) (i : ℕ) (s : Site) → slice_get ss i ≡ Some s
 site_front ss i s is =
     let within : i < length ss = slice_get_within ss i s is in
     front_of ss i s s within (sym (get_or_from_slice_get ss i s s is))
-
-one_located : (values : ℕ → Segment → Value) (i : ℕ) (g : Segment) (s : Stmt) (ss : List Stmt)
-    → located_from values i g (s ∷ ss) ≡ located_at g (values i g) s ∷ located_from values (i + 1) (segment_after g (action_tree s.action)) ss
-unfolding located_from
-one_located values i g s ss = refl
 
 statement_front : (places : ℕ → ℕ) (i : ℕ) (g : Segment) (stmts : List Stmt) (stmt : Stmt) (place : ℕ) → places i ≡ place
     → i < length stmts → stmt ≡ get_or stmts i stmt

@@ -18,6 +18,3 @@ pub use judging::judge;
 pub use laws::no_fault_no_codes;
 pub use module::stack_after;
 pub use sites::{value_at, values_of};
-
-#[cfg(test)]
-mod tests;

@@ -5,10 +5,11 @@ use Rattle.std.proofs.lemmas.List.{drop_all}
 use Rattle.kc_expr.specs.declared.values.Value.{Value}
 use Rattle.kc_source_statement.specs.declared.statement.Stmt.{Stmt}
 use Rattle.kc_source_statement.specs.Trees.{action_tree}
+use Rattle.kc_source_statement.specs.Formed.{given_names}
 use Rattle.kc_asm_symbols.specs.declared.segments.Segment.{Segment}
 use Rattle.kc_asm_symbols.specs.Located.{located_from, segment_after}
 use Rattle.kc_asm_symbols.proofs.ExternalLemmas.{front}
-use Rattle.kc_asm_draft_laws.specs.Drafting.{name_by, name_of, given_by, all_given}
+use Rattle.kc_asm_draft_laws.specs.Drafting.{name_by, name_of, all_given}
 
 -- ---- the name
 
@@ -37,18 +38,18 @@ named_never ss i past = ap name_in (drop_all i ss past)
 
 unfoldable pub given_in : List Stmt → List (List ℕ)
 given_in [] = []
-given_in (s ∷ ss) = given_by (action_tree s.action) ++ given_in ss
+given_in (s ∷ ss) = given_names (action_tree s.action) ++ given_in ss
 
 pub given_everywhere : (values : ℕ → Segment → Value) (i : ℕ) (g : Segment) (ss : List Stmt) → all_given (located_from values i g ss) ≡ given_in ss
 unfolding located_from all_given given_in
 given_everywhere values i g [] = refl
-given_everywhere values i g (s ∷ ss) = ap (λ ns. given_by (action_tree s.action) ++ ns) (given_everywhere values (i + 1) (segment_after g (action_tree s.action)) ss)
+given_everywhere values i g (s ∷ ss) = ap (λ ns. given_names (action_tree s.action) ++ ns) (given_everywhere values (i + 1) (segment_after g (action_tree s.action)) ss)
 
-given_one : (s : Stmt) (ss : List Stmt) → given_in (s ∷ ss) ≡ given_by (action_tree s.action) ++ given_in ss
+given_one : (s : Stmt) (ss : List Stmt) → given_in (s ∷ ss) ≡ given_names (action_tree s.action) ++ given_in ss
 unfolding given_in
 given_one s ss = refl
 
-pub given_at : (ss : List Stmt) (i : ℕ) (s : Stmt) → i < length ss → s ≡ get_or ss i s → given_in (drop i ss) ≡ given_by (action_tree s.action) ++ given_in (drop (i + 1) ss)
+pub given_at : (ss : List Stmt) (i : ℕ) (s : Stmt) → i < length ss → s ≡ get_or ss i s → given_in (drop i ss) ≡ given_names (action_tree s.action) ++ given_in (drop (i + 1) ss)
 given_at ss i s within is = ap given_in (front ss i s within is) ∙ given_one s (drop (i + 1) ss)
 
 pub given_no_more : (ss : List Stmt) (i : ℕ) → length ss ≤ i → given_in (drop i ss) ≡ []

@@ -10,6 +10,7 @@ use Rattle.kc_asm_symbols.specs.declared.segments.Segment.{Segment}
 use Rattle.kc_asm_symbols.specs.Located.{Located, located_at, located_from, segment_after, value_at}
 use Rattle.kc_asm_symbols.specs.Meanings.{meaning}
 use Rattle.kc_asm_symbols.proofs.ExternalLemmas.{front}
+use Rattle.kc_asm_symbols.proofs.WalkLemmas.{one_located}
 use Rattle.kc_asm_layout.specs.declared.site.Site.{Site}
 use Rattle.kc_asm_piece.specs.Tape.{Tape}
 use Rattle.kc_asm_check.specs.declared.checked.Put.{Put as Made}
@@ -17,6 +18,7 @@ use Rattle.kc_asm_check.specs.Checked.{seen_put}
 use Rattle.kc_asm_check.specs.Judging.{place_at, place_in}
 use Rattle.kc_asm_check.specs.Putting.{Put, put_of, puts_from}
 use Rattle.kc_asm_check.specs.Walk.{stood}
+use Rattle.kc_asm_check.proofs.WalkLemmas.{one_put}
 use Rattle.kc_asm_draft_laws.specs.Drafting.{parts_with, parts_after, parts_from}
 use Rattle.kc_asm_draft_laws.specs.Writable.{IsWritable, AllWritable}
 use Rattle.kc_asm_draft.specs.declared.drafting.Drafting.{Drafting}
@@ -27,11 +29,6 @@ pub record Drafted (w : Drafting) (all rest : List Located) (ss : List Site) (ps
   pub given : map seen_put ps ≡ puts_from all before rest ss
   pub writable : AllWritable all before rest ss w.parts.items
   pub written : parts_from all before rest ss w.parts.items ≡ parts
-
-one_put : (all before : List Located) (l : Located) (rest : List Located) (s : Site) (ss : List Site)
-    → puts_from all before (l ∷ rest) (s ∷ ss) ≡ put_of (meaning all before l) l s ∷ puts_from all (l ∷ before) rest ss
-unfolding puts_from
-one_put all before l rest s ss = refl
 
 one_written : (all before : List Located) (l : Located) (rest : List Located) (s : Site) (ss : List Site) (parts : List Tape)
     → parts_from all before (l ∷ rest) (s ∷ ss) parts ≡ parts_from all (l ∷ before) rest ss (parts_after (meaning all before l) l s parts)
@@ -78,11 +75,6 @@ passes v w all rest l s ss p ps parts new d =
 -- the statements that are left, in the segment that is in force
 abbrev pub left_from : (ℕ → ℕ) → ℕ → Segment → List Stmt → List Located
 left_from places i g stmts = located_from (λ i g. value_at g (places i)) i g (drop i stmts)
-
-one_located : (values : ℕ → Segment → Value) (i : ℕ) (g : Segment) (s : Stmt) (ss : List Stmt)
-    → located_from values i g (s ∷ ss) ≡ located_at g (values i g) s ∷ located_from values (i + 1) (segment_after g (action_tree s.action)) ss
-unfolding located_from
-one_located values i g s ss = refl
 
 statement_front : (sites : List Site) (i : ℕ) (g : Segment) (stmts : List Stmt) (stmt : Stmt) (s : Site) → i < length stmts → stmt ≡ get_or stmts i stmt
     → slice_get sites i ≡ Some s

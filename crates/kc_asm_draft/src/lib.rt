@@ -8,6 +8,3 @@ mod publics;
 mod writing;
 
 pub use drafting::draft;
-
-#[cfg(test)]
-mod tests;

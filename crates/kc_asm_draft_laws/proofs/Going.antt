@@ -12,7 +12,7 @@ use Rattle.kc_expr.proofs.UntoldLemmas.{AreUntold}
 use Rattle.kc_source_statement.specs.Trees.{ActionTree}
 use Rattle.kc_source_statement.specs.Trees as trees
 use Rattle.kc_asm_symbols.specs.declared.segments.Segment.{Segment}
-use Rattle.kc_asm_symbols.specs.Located.{Located, piece_of_kind, opened as segment_opened, segment_after}
+use Rattle.kc_asm_symbols.specs.Located.{Located, opened as segment_opened, segment_after}
 use Rattle.kc_asm_symbols.specs.Meanings.{meaning}
 use Rattle.kc_branch.specs.declared.piece.Form.{Form}
 use Rattle.kc_branch.specs.Forms.{size}
@@ -82,7 +82,7 @@ relocatable_at parts kind piece is below e =
       own = subst (λ (at : Option ℕ). IsOwn piece (b.0).kind at) (sym a) (is ∙ sym (ap kind_number k), below);
     }
 
-relocatable : (parts : List Tape) → AreHeads (map head_of parts) → (kind : SegKind) → is_stack kind ≡ false → HasPiece parts (piece_of_kind kind) kind
+relocatable : (parts : List Tape) → AreHeads (map head_of parts) → (kind : SegKind) → is_stack kind ≡ false → HasPiece parts (kind_number kind) kind
 relocatable parts h Reg e = relocatable_at parts Reg 0 refl (omega arith) (ap (λ (hs : List Head). slice_get hs 0) h.first)
 relocatable parts h Code e = relocatable_at parts Code 1 refl (omega arith) (ap (λ (hs : List Head). slice_get hs 1) h.first)
 relocatable parts h Ram e = relocatable_at parts Ram 2 refl (omega arith) (ap (λ (hs : List Head). slice_get hs 2) h.first)

@@ -12,11 +12,12 @@ use Rattle.kc_expr.specs.Meaning.{Answer}
 use Rattle.kc_expr.specs.Known.{is_known}
 use Rattle.kc_obj.specs.declared.parts.Taken.{Taken}
 use Rattle.kc_obj.specs.Names.{is_name, is_stack_name}
+use Rattle.kc_obj.specs.Pieces.{is_register_kind}
 use Rattle.kc_source_statement.specs.Trees.{ActionTree}
 use Rattle.kc_source_statement.specs.Trees as trees
-use Rattle.kc_source_statement.specs.Formed.{names_said}
+use Rattle.kc_source_statement.specs.Formed.{names_said, given_names}
 use Rattle.kc_asm_symbols.specs.Located.{Located}
-use Rattle.kc_asm_symbols.specs.Externals.{externals_from, declared, declared_names, taken, is_register_kind, statement_uses_stack, stack_name}
+use Rattle.kc_asm_symbols.specs.Externals.{externals_from, declared, declared_names, taken, statement_uses_stack, stack_name}
 use Rattle.kc_asm_symbols.specs.Meanings.{meaning, in_all}
 use Rattle.kc_asm_symbols.specs.Told.{is_public}
 use Rattle.kc_asm_piece.specs.declared.draft.Public.{Public as Given}
@@ -27,7 +28,7 @@ use Rattle.kc_asm_module.specs.Publics.{is_same_name}
 use Rattle.kc_asm_layout.specs.declared.site.Site.{Site}
 use Rattle.kc_asm_operation.specs.Values.{is_external}
 use Rattle.kc_asm_check.specs.Codes.{Regions, regions_after, stack_after, counts_from_external, name_faults, public_faults}
-use Rattle.kc_asm_draft_laws.specs.Drafting.{parts_after, name_by, name_of, given_by, all_given, distinct_from, given_as, publics_of}
+use Rattle.kc_asm_draft_laws.specs.Drafting.{parts_after, name_by, name_of, all_given, distinct_from, given_as, publics_of}
 use Rattle.kc_asm_draft_laws.proofs.Lists.{nothing_left}
 use Rattle.kc_asm_draft_laws.proofs.Faultless.{unless}
 use Rattle.kc_asm_draft_laws.proofs.Walking.{AllSteps}
@@ -109,14 +110,14 @@ module _ (last : List ℕ → Answer) where
       let none : counts_from_external (last n) ≡ false = unless (counts_from_external (last n)) 20 rest.0 in
       (λ i. (parts.0 i && not (none i)) && good_names ns parts.1 rest.1 i)
 
-  good_given : (action : ActionTree) → list_all is_public (names_said action) ≡ true → public_faults last action ≡ [] → list_all is_good (given_by action) ≡ true
+  good_given : (action : ActionTree) → list_all is_public (names_said action) ≡ true → public_faults last action ≡ [] → list_all is_good (given_names action) ≡ true
   good_given (trees.Public names) h e = good_names names h e
   good_given _ h e = refl
 
   pub all_good : (ls : List Located) → AllByRecursion (IsTelling last) ls → list_all is_good (all_given ls) ≡ true
   unfolding all_given
   all_good [] h = refl
-  all_good (l ∷ ls) h = list_all-append is_good (given_by l.action) (all_given ls) ∙ (λ i. good_given l.action h.0.names h.0.publics i && all_good ls h.1 i)
+  all_good (l ∷ ls) h = list_all-append is_good (given_names l.action) (all_given ls) ∙ (λ i. good_given l.action h.0.names h.0.publics i && all_good ls h.1 i)
 
   pub distinct_good : (seen ns : List (List ℕ)) → list_all is_good ns ≡ true → list_all is_good (distinct_from seen ns) ≡ true
   unfolding distinct_from

@@ -10,6 +10,7 @@ use Rattle.kc_source_statement.specs.Trees.{action_tree}
 use Rattle.kc_asm_symbols.specs.declared.segments.Segment.{Segment}
 use Rattle.kc_asm_symbols.specs.Located.{Located, located_at, located_from, value_at, first_segment, segment_after}
 use Rattle.kc_asm_symbols.specs.Meanings.{meaning, in_all, earlier}
+use Rattle.kc_asm_symbols.proofs.WalkLemmas.{located_length, further}
 use Rattle.kc_branch.specs.declared.piece.Form.{Form}
 use Rattle.kc_branch.specs.Forms.{head_form, forms}
 use Rattle.kc_asm_piece.specs.Tape.{Tape, blank}
@@ -71,9 +72,6 @@ all_untold all regions sum before (l ∷ ls) (s ∷ ss) e sound h =
     (one_more_untold all before l h f.values))
 
 -- ---- the walk
-
-further : (all before after : List Located) (l : Located) → all ≡ reverse before ++ l ∷ after → all ≡ reverse (l ∷ before) ++ after
-further all before after l whole = whole ∙ reverse_front l before after
 
 module _ (all : List Located) (list : List (Option ℕ)) (whole : List Note) (values : ℕ → Segment → Value)
     (noted : (before after : List Located) (l : Located) → all ≡ reverse before ++ l ∷ after → (n : Note) → slice_get whole (length before) ≡ Some n → IsNoteOf n all before l)
@@ -143,15 +141,10 @@ module _ (all : List Located) (list : List (Option ℕ)) (whole : List Note) (va
 
 -- ---- a whole source
 
-sites_length : (list : List (Option ℕ)) (fs : List Form) (ends : Ends) (notes : List Note) → length (sites_from list fs ends notes) ≡ length notes
+pub sites_length : (list : List (Option ℕ)) (fs : List Form) (ends : Ends) (notes : List Note) → length (sites_from list fs ends notes) ≡ length notes
 unfolding sites_from
 sites_length list fs ends [] = refl
 sites_length list fs ends (n ∷ notes) = ap suc (sites_length list (drop 1 fs) (ends_after (head_form fs) ends n) notes)
-
-located_length : (values : ℕ → Segment → Value) (i : ℕ) (g : Segment) (ss : List Stmt) → length (located_from values i g ss) ≡ length ss
-unfolding located_from
-located_length values i g [] = refl
-located_length values i g (s ∷ ss) = ap suc (located_length values (i + 1) (segment_after g (action_tree s.action)) ss)
 
 first_standing : (notes : List Note) → Standing first_segment no_bytes first_regions (addresses notes) notes first_parts
 first_standing notes = record {

@@ -7,7 +7,8 @@ use Rattle.kc_obj.specs.declared.parts.SegKind.{SegKind}
 use Rattle.kc_obj.specs.declared.parts.SegKind.TheVariants.{Reg, Code, Ram, Stack}
 use Rattle.kc_expr.specs.Meaning.{Answer}
 use Rattle.kc_source_statement.specs.declared.statement.Stmt.{Stmt}
-use Rattle.kc_source_statement.specs.Trees.{ActionTree, Module, Cseg, Dseg, Rseg, Public}
+use Rattle.kc_source_statement.specs.Trees.{ActionTree, Module, Cseg, Dseg, Rseg}
+use Rattle.kc_source_statement.specs.Formed.{given_names}
 use Rattle.kc_asm_symbols.specs.Located.{Located}
 use Rattle.kc_asm_symbols.specs.Externals.{externals}
 use Rattle.kc_asm_symbols.specs.Meanings.{meaning, in_all}
@@ -89,13 +90,9 @@ name_of [] = codes "NONAME"
 name_of (l ∷ ls) = name_by l.action (name_of ls)
 
 -- the names that PUBLIC gives, each where it is given first
-abbrev pub given_by : ActionTree → List (List ℕ)
-given_by (Public names) = names
-given_by action = []
-
 unfoldable pub all_given : List Located → List (List ℕ)
 all_given [] = []
-all_given (l ∷ ls) = given_by l.action ++ all_given ls
+all_given (l ∷ ls) = given_names l.action ++ all_given ls
 
 unfoldable pub distinct_from : List (List ℕ) → List (List ℕ) → List (List ℕ)
 distinct_from seen [] = []

@@ -8,7 +8,7 @@ use Rattle.kc_expr.specs.declared.values.Base.{Base}
 use Rattle.kc_expr.specs.declared.values.Base.TheVariants as bases
 use Rattle.kc_expr.specs.declared.values.Value.{Value}
 use Rattle.kc_expr.specs.Tree.{Tree, Number, Chars, Name, Here, One, Two}
-use Rattle.kc_expr.specs.Meaning.{Answer, answer_by}
+use Rattle.kc_expr.specs.Meaning.{Answer, answer_by, plain}
 use Rattle.kc_expr.specs.Known.{is_known}
 use Rattle.kc_expr.proofs.KnownLemmas.{answer_known}
 use Rattle.kc_source_statement.specs.Trees.{ItemTree, ArgTree, ActionTree}
@@ -35,7 +35,7 @@ use Rattle.kc_branch.specs.declared.piece.BranchKind.TheVariants as kinds
 use Rattle.kc_asm_operation.specs.declared.word.Word.{Word}
 use Rattle.kc_asm_operation.specs.declared.word.Word.TheVariants.{Absent, Register, Immediate, Indirect, Increment, Short, Long, Count, Jump}
 use Rattle.kc_asm_operation.specs.declared.word.Worded.{Worded}
-use Rattle.kc_asm_operation.specs.Values.{fixed as plain, or_zero, moved, is_direct, is_short, argument, value_of}
+use Rattle.kc_asm_operation.specs.Values.{or_zero, moved, is_direct, is_short, argument, value_of}
 use Rattle.kc_asm_operation.specs.Opcodes.{low_bits, wanted_bits}
 use Rattle.kc_asm_operation.specs.Sources.{plain_source, indexed_source, source}
 use Rattle.kc_asm_operation.specs.Branches.{Line, line, branch_kind, branch_lines, in_full}
@@ -44,6 +44,7 @@ use Rattle.kc_asm_encoding.specs.Octets.{byte_of, word_of, immediate_octets, jum
 use Rattle.kc_asm_encoding.specs.Suits.{EachOf}
 use Rattle.kc_asm_encoding.proofs.Found.{IsLaid}
 use Rattle.kc_asm_encoding.proofs.Lengths.{not_some}
+use Rattle.kc_asm_encoding.proofs.Most.{is_near, near_signed, none_signed, is_high, high_is_near}
 use Rattle.kc_asm_encoding.proofs.Evens.{EachLine, each_line}
 use Rattle.kc_asm_emission.specs.Arguments as contents
 use Rattle.kc_asm_emission.specs.Content.{long_octets, item_octets, data_octets, reserved, upto, content}
@@ -74,26 +75,15 @@ all-drop p (suc n) (x ∷ xs) h = all-drop p n xs (both (p x) (list_all p xs) h)
 
 -- ---- jumps of 11 bits
 
-abbrev is_near : Shape → Bool
-is_near shapes.Near = true
-is_near shape = false
-
 abbrev is_jump : ℕ → Bool
 is_jump opcode = (opcode == 32) || (opcode == 40)
 
 abbrev near_other : ℕ → Bool
 near_other opcode = elim (row_at opcode false) [ None ↦ false | Some row ↦ is_near row.shape && ((opcode % 8 == 0) && not (is_jump opcode)) ]
 
-abbrev near_signed : ℕ → Bool
-near_signed opcode = elim (row_at opcode true) [ None ↦ false | Some row ↦ is_near row.shape ]
-
 none_other : not (is_some (least near_other 256 0)) ≡ true
 unfolding least row_at plain_entry
 none_other = refl
-
-none_signed : not (is_some (least near_signed 256 0)) ≡ true
-unfolding least row_at
-none_signed = refl
 
 true-or-not : (t : Bool) → (t ≡ false → ⊥) → t ≡ true
 true-or-not true h = refl
@@ -111,14 +101,6 @@ near_jump opcode false row b e n z =
 near_bits : (shape : Shape) (opcode : ℕ) (args : List Argument) → is_near shape ≡ true → (low_bits shape opcode == wanted_bits shape args) ≡ true → (opcode % 8 == 0) ≡ true
 near_bits shapes.Near opcode args n h = h
 near_bits shape opcode args n h = absurd (cc n)
-
-abbrev is_high : Bytes → Bool
-is_high Distance11 = true
-is_high form = false
-
-high_is_near : (shape : Shape) → is_high (layout_of shape).form ≡ true → is_near shape ≡ true
-high_is_near shapes.Near h = refl
-high_is_near shape h = absurd (cc h)
 
 -- ---- values
 

@@ -1,22 +1,16 @@
 -- To which places statements go first: words and long words stand at even places, and what DSL reserves among registers at
 -- places divisible by 4 (after the MCS-96 Macro Assembler User's Guide, "Data Definition" and "Storage Reservation"; 80C196KC
 -- User's Manual, "Long-Words").
-use Rattle.std.specs.Prelude.{ℕ, Bool, true, false, ◌-◌, ◌%◌, ◌==◌, ◌&&◌, nat_le, if◌then◌else◌}
+use Rattle.std.specs.Prelude.{ℕ, ◌-◌, ◌%◌, ◌==◌, ◌&&◌, nat_le, if◌then◌else◌}
 use Rattle.kc_obj.specs.declared.parts.SegKind.{SegKind}
-use Rattle.kc_obj.specs.declared.parts.SegKind.TheVariants.{Reg, Code, Ram, Stack}
+use Rattle.kc_obj.specs.Pieces.{is_register_kind}
 use Rattle.kc_source_statement.specs.Trees.{ActionTree, Bare, Module, Cseg, Dseg, Rseg, Sseg, Public, Extrn, Equ, Set, Define, Reserve, Org, Even, End, Operation}
-
-abbrev pub is_registers : SegKind → Bool
-is_registers Reg = true
-is_registers Code = false
-is_registers Ram = false
-is_registers Stack = false
 
 -- the place of the statement, in a segment of a kind, is divisible by this; EVEN goes on to an even place itself
 abbrev pub alignment : SegKind → ActionTree → ℕ
 alignment kind (Define size items) = if nat_le size 1 then 1 else 2
 alignment kind (Reserve size count) =
-    if nat_le size 1 then 1 else if (size == 4) && is_registers kind then 4 else 2
+    if nat_le size 1 then 1 else if (size == 4) && is_register_kind kind then 4 else 2
 alignment kind Bare = 1
 alignment kind (Module name stack) = 1
 alignment kind (Cseg at) = 1

@@ -3,6 +3,7 @@ ghost use Rattle.kc_source_statement.specs.Trees.{action_tree};
 ghost use Rattle.kc_asm_emission.specs.Alignment as alignment;
 
 use kc_obj::SegKind;
+use kc_obj::pieces::is_register;
 use kc_source_statement::Action;
 
 /// What the place of a statement, in a segment of this kind, is divisible by: 2 for words and long words, 4 for what DSL
@@ -17,7 +18,7 @@ pub fn alignment_of(kind: SegKind, action: &Action) -> u32
         Action::Reserve(size, _) => {
             if *size <= 1 {
                 1
-            } else if *size == 4 && kind == SegKind::Reg {
+            } else if *size == 4 && is_register(kind) {
                 4
             } else {
                 2

@@ -20,6 +20,3 @@ pub use faults::fault;
 pub use laws::{contents_are_octets, contents_are_paired, extents_stay};
 pub use operands::arguments;
 pub use values::{fixed_of, value_of};
-
-#[cfg(test)]
-mod tests;

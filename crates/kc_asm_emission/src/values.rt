@@ -3,8 +3,7 @@ ghost use Rattle.kc_expr.specs.Tree.{tree_of};
 ghost use Rattle.kc_asm_emission.specs.Arguments as arguments;
 ghost use Rattle.kc_asm_operation.specs.Values.{or_zero};
 
-use kc_asm_operation::fixed;
-use kc_expr::{Base, Expr, Scope, Value, value_over};
+use kc_expr::{Base, Expr, Scope, Value, fixed, value_over};
 
 /// The value of an expression over what names mean, where it has no fault.
 pub fn value_of<S: Scope>(expr: &Expr, scope: &S) -> Option<Value>

@@ -41,12 +41,12 @@ or_zero_word : (x : Option Value) → IsWord x → (or_zero x).number < 65536
 or_zero_word None h = omega arith
 or_zero_word (Some v) h = h
 
-argument_words : (args : List Argument) (n : ℕ) → AllWords args → AreWords (argument args n)
+pub argument_words : (args : List Argument) (n : ℕ) → AllWords args → AreWords (argument args n)
 argument_words [] n h = tt
 argument_words (a ∷ args) zero h = h.0
 argument_words (a ∷ args) (suc n) h = argument_words args n h.1
 
-value_word : (a : Argument) → AreWords a → (value_of a).number < 65536
+pub value_word : (a : Argument) → AreWords a → (value_of a).number < 65536
 value_word (Plain x) h = or_zero_word x h
 value_word (Immediate x) h = or_zero_word x h
 value_word (Indirect r) h = or_zero_word r h
@@ -94,7 +94,7 @@ laid_words word args w h l = subst (λ (v : Worded). HasWords v.operand) l.is (o
 over_words : (here : Value) (n : ℕ) → AreWords (over here n)
 over_words here n = omega arith
 
-abbrev Words : List ℕ → List Argument → Type 0
+abbrev pub Words : List ℕ → List Argument → Type 0
 Words word args = AllWords args
 
 branch_words : (kind : BranchKind) (word : List ℕ) (args : List Argument) (form : Form) (here : Value) → AllWords args → EachLine Words (branch_lines kind word args form here)
@@ -111,7 +111,7 @@ branch_words BitTest word args First here h = ((argument_words args 0 h, (argume
 branch_words BitTest word args Second here h = ((argument_words args 0 h, (argument_words args 1 h, (over_words here 5, tt))), ((argument_words args 2 h, tt), tt))
 branch_words BitTest word args Third here h = ((argument_words args 0 h, (argument_words args 1 h, (over_words here 6, tt))), ((argument_words args 2 h, tt), tt))
 
-full_words : (word : List ℕ) (args : List Argument) (form : Form) (here : Value) (k : Option BranchKind) → AllWords args →
+pub full_words : (word : List ℕ) (args : List Argument) (form : Form) (here : Value) (k : Option BranchKind) → AllWords args →
     EachLine Words (elim k as (λ _. List Line) [ None ↦ line word args ∷ [] | Some kind ↦ branch_lines kind word args form here ])
 full_words word args form here None h = (h, tt)
 full_words word args form here (Some kind) h = branch_words kind word args form here h

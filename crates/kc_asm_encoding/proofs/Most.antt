@@ -135,7 +135,7 @@ length_most word args form here = length_most_at word args form here (branch_kin
 
 -- ---- room
 
-abbrev is_near : Shape → Bool
+abbrev pub is_near : Shape → Bool
 is_near shapes.Near = true
 is_near shape = false
 
@@ -143,14 +143,14 @@ is_near shape = false
 abbrev near_high : ℕ → Bool
 near_high opcode = elim (row_at opcode false) [ None ↦ false | Some row ↦ is_near row.shape && not (nat_lt opcode 48) ]
 
-abbrev near_signed : ℕ → Bool
+abbrev pub near_signed : ℕ → Bool
 near_signed opcode = elim (row_at opcode true) [ None ↦ false | Some row ↦ is_near row.shape ]
 
 none_high : not (is_some (least near_high 256 0)) ≡ true
 unfolding least row_at plain_entry
 none_high = refl
 
-none_signed : not (is_some (least near_signed 256 0)) ≡ true
+pub none_signed : not (is_some (least near_signed 256 0)) ≡ true
 unfolding least row_at
 none_signed = refl
 
@@ -226,7 +226,7 @@ room_operand place form byte (Long base offset) = (room_first place 1 (moved bas
 room_operand place form byte (Count v) = (room_first place 1 v, tt)
 room_operand place form byte (Jump v) = room_jump place form v
 
-abbrev is_high : Form → Bool
+abbrev pub is_high : Form → Bool
 is_high Distance11 = true
 is_high form = false
 
@@ -235,7 +235,7 @@ room_opcode place Distance11 opcode (Jump v) h = omega (arith, h refl, high_part
 room_opcode place Distance11 opcode o h = tt
 room_opcode place form opcode o h = tt
 
-high_is_near : (shape : Shape) → is_high (layout_of shape).form ≡ true → is_near shape ≡ true
+pub high_is_near : (shape : Shape) → is_high (layout_of shape).form ≡ true → is_near shape ≡ true
 high_is_near shapes.Near h = refl
 high_is_near shape h = absurd (cc h)
 

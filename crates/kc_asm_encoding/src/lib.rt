@@ -5,6 +5,3 @@ pub mod laws;
 pub mod octets;
 
 pub use octets::{length, octets_of};
-
-#[cfg(test)]
-mod tests;

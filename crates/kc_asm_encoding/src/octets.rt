@@ -8,9 +8,9 @@ ghost use Rattle.kc_asm_encoding.specs.Octets as octets;
 
 use arrayvec::ArrayVec;
 use kc_asm_bytes::Octet;
-use kc_asm_operation::{Argument, Word, Worded, fixed, instructions, moved};
+use kc_asm_operation::{Argument, Word, Worded, instructions, moved};
 use kc_branch::Form;
-use kc_expr::Value;
+use kc_expr::{Value, fixed};
 use kc_isa::{Form as Bytes, is_byte_wide, layout_for, row_of};
 
 fn byte_of(value: Value) -> Octet

@@ -11,12 +11,13 @@ use Rattle.kc_expr.specs.Tree.{Tree, Number, Chars, Name, Here, One, Two}
 use Rattle.kc_expr.specs.Meaning.{Answer, is_fixed, answer_by}
 use Rattle.kc_source_statement.specs.Trees.{ItemTree, ArgTree, ActionTree}
 use Rattle.kc_source_statement.specs.Trees as trees
+use Rattle.kc_source_statement.specs.Formed.{given_names}
 use Rattle.kc_asm_symbols.specs.Externals.{arg_trees, item_trees, all_trees, action_trees}
 use Rattle.kc_asm_operation.specs.Faults.{fault_of}
 use Rattle.kc_asm_emission.specs.Arguments.{Look, arguments}
 use Rattle.kc_asm_emission.specs.Faults.{faults_in, value_faults, unless_fixed, fixed_faults, part_faults, long_faults, item_faults, operand_faults, faults_of}
 use Rattle.kc_asm_check.specs.Codes.{when, counts_from_external, name_faults, public_faults}
-use Rattle.kc_asm_subject.specs.Values.{unknown_in, unknown_among, foreign_among, public_names}
+use Rattle.kc_asm_subject.specs.Values.{unknown_in, unknown_among, foreign_among}
 use Rattle.kc_source_laws.proofs.Tests.{all_join}
 use Rattle.kc_asm_fault_laws.proofs.Others.{is_other, all_weaker, option_holds, or_more, or_first, or_second}
 use Rattle.kc_asm_fault_laws.proofs.Unknown.{IsTame, IsToldBy, tree_told}
@@ -178,6 +179,6 @@ names_given last (n ∷ ns) = by (counts_from_external (last n)) (names_given la
     by true h = given_more (is_some (foreign_among last ns)) true (flat_map (name_faults last) ns) (λ k. refl) h
     by false h = h
 
-pub publics_given : (last : Look) (action : ActionTree) → AreGiven (is_some (foreign_among last (public_names action))) (public_faults last action)
+pub publics_given : (last : Look) (action : ActionTree) → AreGiven (is_some (foreign_among last (given_names action))) (public_faults last action)
 publics_given last (trees.Public names) = names_given last names
 publics_given last action = refl

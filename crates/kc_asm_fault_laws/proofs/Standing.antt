@@ -14,6 +14,7 @@ use Rattle.kc_lex.specs.Lines.{lines_of}
 use Rattle.kc_expr.specs.Tree.{Tree, Number, Chars, Name, Here, One, Two}
 use Rattle.kc_macro.specs.Expansion.{Answer, expanded}
 use Rattle.kc_source_statement.specs.Trees.{ActionTree, Bare, Module, Cseg, Dseg, Rseg, Sseg, Public, Extrn, Equ, Set, Define, Reserve, Org, Even, End, Operation}
+use Rattle.kc_source_statement.specs.Formed.{given_names}
 use Rattle.kc_source.specs.declared.uses.Use.{Use}
 use Rattle.kc_source.specs.declared.uses.UseKind.TheVariants.{Given}
 use Rattle.kc_source.specs.Faults.{Said, use_of, label_uses, action_uses, read_uses, uses_of, all_uses, all_said, use_code, faults_of}
@@ -24,7 +25,7 @@ use Rattle.kc_asm_symbols.specs.Meanings.{meaning, in_all}
 use Rattle.kc_asm_emission.specs.Arguments.{Look}
 use Rattle.kc_asm_check.specs.Codes.{counts_from_external}
 use Rattle.kc_asm_subject.specs.Uses.{is_code, is_refused, used_from}
-use Rattle.kc_asm_subject.specs.Values.{means_nothing, unknown_in, unknown_among, foreign_among, public_names, subject_in, subject_on, subject_from}
+use Rattle.kc_asm_subject.specs.Values.{means_nothing, unknown_in, unknown_among, foreign_among, subject_in, subject_on, subject_from}
 use Rattle.kc_asm_subject.specs.Subject.{action_in, standing_at_zero, at_zero_from, by_fault, in_text, in_lines}
 use Rattle.kc_asm_fault_laws.specs.Standing.{has_name, computes_with, has_word, IsNameAt, SubjectsStandAtTheirLines}
 use Rattle.kc_asm_fault_laws.proofs.Statements.{use_at, said_uses_at}
@@ -136,7 +137,7 @@ none_foreign : (last : Look) (name : List ℕ) → foreign_among last [] ≡ Som
 unfolding foreign_among
 none_foreign last name e = cc e
 
-given_stands : (last : Look) (line : ℕ) (action : ActionTree) (name : List ℕ) → foreign_among last (public_names action) ≡ Some name → list_any (λ u. bytes_eq name u.name) (action_uses line action) ≡ true
+given_stands : (last : Look) (line : ℕ) (action : ActionTree) (name : List ℕ) → foreign_among last (given_names action) ≡ Some name → list_any (λ u. bytes_eq name u.name) (action_uses line action) ≡ true
 given_stands last line (Public ns) name e = foreign_stands last line ns name e
 given_stands last line Bare name e = absurd (none_foreign last name e)
 given_stands last line (Module n stack) name e = absurd (none_foreign last name e)
@@ -165,18 +166,18 @@ read_stands code look last line label r name e = by_defined (code == not_defined
     defined (Ok a) f = among_stands look (action_trees a) name f
     defined (Err c) f = absurd (none_among look name f)
 
-    given : (s : Result ActionTree ℕ) → foreign_among last (public_names (action_in s)) ≡ Some name → list_any (λ u. bytes_eq name u.name) (read_uses line s) ≡ true
+    given : (s : Result ActionTree ℕ) → foreign_among last (given_names (action_in s)) ≡ Some name → list_any (λ u. bytes_eq name u.name) (read_uses line s) ≡ true
     given (Ok a) f = given_stands last line a name f
     given (Err c) f = absurd (none_foreign last name f)
 
-    by_given : (b : Bool) → cond b (foreign_among last (public_names (action_in r))) None ≡ Some name → (used || computes_with name r) ≡ true
+    by_given : (b : Bool) → cond b (foreign_among last (given_names (action_in r))) None ≡ Some name → (used || computes_with name r) ≡ true
     by_given true f =
         or_left used (computes_with name r)
         (list_any-append (λ u. bytes_eq name u.name) (label_uses line label) (read_uses line r)
         ∙ or_right (list_any (λ u. bytes_eq name u.name) (label_uses line label)) (list_any (λ u. bytes_eq name u.name) (read_uses line r)) (given r f))
     by_given false f = absurd (cc f)
 
-    by_defined : (b : Bool) → cond b (unknown_among look (action_trees (action_in r))) (cond (code == not_public) (foreign_among last (public_names (action_in r))) None) ≡ Some name → (used || computes_with name r) ≡ true
+    by_defined : (b : Bool) → cond b (unknown_among look (action_trees (action_in r))) (cond (code == not_public) (foreign_among last (given_names (action_in r))) None) ≡ Some name → (used || computes_with name r) ≡ true
     by_defined true f = or_right used (computes_with name r) (defined r f)
     by_defined false f = by_given (code == not_public) f
 

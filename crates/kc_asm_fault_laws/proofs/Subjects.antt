@@ -17,6 +17,7 @@ use Rattle.kc_expr.specs.Tree.{Tree, Number, Chars, Name, Here, One, Two}
 use Rattle.kc_expr.specs.Meaning.{Answer, is_fixed}
 use Rattle.kc_source_statement.specs.declared.statement.Stmt.{Stmt}
 use Rattle.kc_source_statement.specs.Trees.{ActionTree, action_tree}
+use Rattle.kc_source_statement.specs.Formed.{given_names}
 use Rattle.kc_source.specs.Faults.{all_said, all_uses}
 use Rattle.kc_asm_symbols.specs.declared.segments.Segment.{Segment}
 use Rattle.kc_asm_symbols.specs.Alike.{MeaningsAreAlike}
@@ -24,17 +25,19 @@ use Rattle.kc_asm_symbols.specs.Externals.{action_trees}
 use Rattle.kc_asm_symbols.specs.Located.{Located, located_by, located_from, located_at, segment_after, first_segment, value_at, base_of, is_absolute}
 use Rattle.kc_asm_symbols.specs.Meanings.{meaning, in_all}
 use Rattle.kc_asm_symbols.proofs.PlaceLemmas.{all_alike}
+use Rattle.kc_asm_symbols.proofs.WalkLemmas.{further}
 use Rattle.kc_asm_operation.specs.Values.{is_external}
 use Rattle.kc_asm_emission.specs.Arguments.{Look}
 use Rattle.kc_asm_emission.specs.Content.{content}
 use Rattle.kc_asm_emission.specs.Faults as values
 use Rattle.kc_asm_outline.specs.Outline.{at_zero}
+use Rattle.kc_asm_outline.proofs.Stays.{place_is_no_number}
 use Rattle.kc_asm_layout.specs.declared.site.Site.{Site}
 use Rattle.kc_asm_check.specs.Codes.{Regions, first_regions, branch_faults, octet_faults, place_faults, regions_after, stack_after, stack_faults, counts_from_external, public_faults}
 use Rattle.kc_asm_check.specs.Judging.{own_codes, codes_of, faults_from, faults_in, first_fault, site_list, place_at}
 use Rattle.kc_asm.specs.Assembled.{IsCrowded}
 use Rattle.kc_asm_subject.specs.Uses.{used_at}
-use Rattle.kc_asm_subject.specs.Values.{means_nothing, unknown_in, unknown_among, foreign_among, public_names, subject_in, subject_on, subject_from, subject_at}
+use Rattle.kc_asm_subject.specs.Values.{means_nothing, unknown_in, unknown_among, foreign_among, subject_in, subject_on, subject_from, subject_at}
 use Rattle.kc_asm_subject.specs.Subject.{subject_of}
 use Rattle.kc_asm_subject.proofs.Whole.{of_uses, of_values}
 use Rattle.kc_source_laws.proofs.Tests.{holds_at, all_join}
@@ -90,7 +93,7 @@ defined_named : (look last : Look) (action : ActionTree) (code : ℕ) → (code 
     → is_some (subject_in code look last action) ≡ true
 defined_named look last action code e h = rw e h
 
-given_named : (look last : Look) (action : ActionTree) (code : ℕ) → (code == not_public) ≡ true → is_some (foreign_among last (public_names action)) ≡ true
+given_named : (look last : Look) (action : ActionTree) (code : ℕ) → (code == not_public) ≡ true → is_some (foreign_among last (given_names action)) ≡ true
     → is_some (subject_in code look last action) ≡ true
 given_named look last action code e h =
     let same : 20 ≡ code = sym (eqb-true code 20 e) in
@@ -103,11 +106,11 @@ module _ (look last : Look) (other final : Look) (names : AllAlike look other) (
       let both = and_parts (code == not_defined) (is_some (unknown_among look (action_trees action))) k in
       defined_named other final action code both.0 (ap is_some (sym (among_alike look other names (action_trees action))) ∙ both.1)) h
 
-  public_named : (action : ActionTree) (code : ℕ) → is_given (is_some (foreign_among last (public_names action))) code ≡ true → named_in other final action code ≡ true
+  public_named : (action : ActionTree) (code : ℕ) → is_given (is_some (foreign_among last (given_names action))) code ≡ true → named_in other final action code ≡ true
   public_named action code h =
-      let both = and_parts (code == not_public) (is_some (foreign_among last (public_names action))) h in
+      let both = and_parts (code == not_public) (is_some (foreign_among last (given_names action))) h in
       or_right (is_other code) (is_some (subject_in code other final action))
-      (given_named other final action code both.0 (ap is_some (sym (foreign_alike last final finals (public_names action))) ∙ both.1))
+      (given_named other final action code both.0 (ap is_some (sym (foreign_alike last final finals (given_names action))) ∙ both.1))
 
   other_named : (action : ActionTree) (cs : List ℕ) → list_all is_other cs ≡ true → list_all (named_in other final action) cs ≡ true
   other_named action cs h = all_weaker is_other (named_in other final action) cs (λ c k. or_left (is_other c) (is_some (subject_in c other final action)) k) h
@@ -126,19 +129,9 @@ module _ (look last : Look) (other final : Look) (names : AllAlike look other) (
       (all_join is_other branches (octets ++ (places ++ stack)) (branch_other look s.body l.action)
       (all_join is_other octets (places ++ stack) (octet_other look l.action l.segment s (content look s.form l.here l.action))
       (all_join is_other places stack (place_other regions look l.label l.action l.segment s) (stack_other look sum l.action))))))
-      (all_weaker (is_given (is_some (foreign_among last (public_names l.action)))) p (public_faults last l.action) (λ c k. public_named l.action c k) (publics_given last l.action))
+      (all_weaker (is_given (is_some (foreign_among last (given_names l.action)))) p (public_faults last l.action) (λ c k. public_named l.action c k) (publics_given last l.action))
 
 -- ---- the statements where they stand, and with each at 0
-
-place_is_no_number : (g : Segment) → is_fixed (base_of g) ≡ true → ⊥
-place_is_no_number g e = by_test (is_absolute g) e
-  where
-    by_test : (b : Bool) → is_fixed (cond b Absolute (Piece g.piece)) ≡ true → ⊥
-    by_test true e = cc
-    by_test false e = cc
-
-further : (all before after : List Located) (l : Located) → all ≡ reverse before ++ l ∷ after → all ≡ reverse (l ∷ before) ++ after
-further all before after l whole = whole ∙ sym (append_assoc (reverse before) (l ∷ []) after) ∙ ap (λ (ls : List Located). ls ++ after) (sym (reverse-append (l ∷ []) before))
 
 on_line : (line : ℕ) (o : Option (List ℕ)) → is_some o ≡ true → is_some (cond (line == line) o None) ≡ true
 on_line line o h = rw (eq-eqb line line refl) h

@@ -24,6 +24,7 @@ use Rattle.kc_obj.specs.Contents.{content_end, content_is_sound, content_at}
 use Rattle.kc_obj.specs.Fixups.{target_exists, fixup_is_sound, fixup_follows, fixups_in_order, fixup_at, may_begin, has_room}
 use Rattle.kc_obj.specs.LineEntries.{line_is_sound, lines_are_sound}
 use Rattle.kc_obj.specs.Rules.{is_module, contents_are_sound, fixups_are_sound}
+use Rattle.kc_obj.proofs.RoomLemmas.{rest_in_order, next_follows}
 use Rattle.kc_obj_relocation.specs.Numbers.{width}
 use Rattle.kc_obj_read.specs.Law.{target_fits, fixup_fits, line_fits, lines_fit, numbers_fit}
 use Rattle.kc_asm_symbols.specs.Few.{ExternalsAreFew}
@@ -116,15 +117,6 @@ before_next p o w q r l h = grind (arith, nat_tests)
 
 apart : (p o q r : ℕ) → (nat_lt p q || ((p == q) && nat_lt o r)) ≡ true → ((p == q) && (o == r)) ≡ false
 apart p o q r h = grind (arith, nat_tests)
-
-rest_in_order : (f : Fixup) (fs : List Fixup) → fixups_in_order (f ∷ fs) ≡ true → fixups_in_order fs ≡ true
-unfolding fixups_in_order
-rest_in_order f [] h = refl
-rest_in_order f (g ∷ fs) h = (and_parts (fixup_follows f g) (fixups_in_order (g ∷ fs)) h).1
-
-next_follows : (f g : Fixup) (fs : List Fixup) → fixups_in_order (f ∷ g ∷ fs) ≡ true → fixup_follows f g ≡ true
-unfolding fixups_in_order
-next_follows f g fs h = (and_parts (fixup_follows f g) (fixups_in_order (g ∷ fs)) h).0
 
 later : (f : Fixup) (fs : List Fixup) (j : ℕ) (g : Fixup) → fixups_in_order (f ∷ fs) ≡ true → slice_get fs j ≡ Some g → (nat_lt f.piece g.piece || ((f.piece == g.piece) && nat_lt f.offset g.offset)) ≡ true
 later f [] j g h e = absurd (cc e)

@@ -23,22 +23,18 @@ use Rattle.kc_source_statement.specs.Trees as trees
 use Rattle.kc_asm_bytes.specs.declared.octet.Octet.{Octet}
 use Rattle.kc_asm_bytes.specs.declared.octet.Octet.TheVariants as octets
 use Rattle.kc_branch.specs.declared.piece.Form.{Form as Branch}
-use Rattle.kc_branch.specs.declared.piece.Form.TheVariants as branches
-use Rattle.kc_branch.specs.declared.piece.BranchKind.{BranchKind}
-use Rattle.kc_branch.specs.declared.piece.BranchKind.TheVariants.{Jump, Call, Conditional, BitTest}
 use Rattle.kc_asm_operation.specs.declared.argument.Argument.{Argument}
-use Rattle.kc_asm_operation.specs.declared.argument.Argument.TheVariants as arguments
 use Rattle.kc_asm_operation.specs.declared.word.Word.{Word}
 use Rattle.kc_asm_operation.specs.declared.word.Word.TheVariants as words
 use Rattle.kc_asm_operation.specs.declared.word.Worded.{Worded}
 use Rattle.kc_asm_operation.specs.Values.{or_zero, moved, argument, value_of}
-use Rattle.kc_asm_operation.specs.Branches.{Line, line, over, branch_kind, branch_lines, in_full}
+use Rattle.kc_asm_operation.specs.Branches.{branch_kind, in_full}
 use Rattle.kc_asm_operation.specs.Instructions.{regs_for, instructions}
 use Rattle.kc_asm_encoding.specs.Octets.{byte_of, word_of, immediate_octets, jump_octets, operand_octets, opcode_octet, laid_octets, row_octets, worded_octets, all_octets}
 use Rattle.kc_asm_encoding.specs.Suits.{HasWords, EachOf, IsWord, AreWords, AllWords}
 use Rattle.kc_asm_encoding.specs.Laws.{NumbersAreWords}
 use Rattle.kc_asm_encoding.proofs.Found.{IsLaid}
-use Rattle.kc_asm_encoding.proofs.Evens.{EachLine, each_line}
+use Rattle.kc_asm_encoding.proofs.Evens.{each_line, argument_words, value_word, Words, full_words}
 use Rattle.kc_asm_symbols.specs.Externals.{all_trees, arg_trees, item_trees}
 use Rattle.kc_asm_emission.specs.Arguments as emitted
 use Rattle.kc_asm_emission.specs.Content.{Octets, long_octets, value_octets, data_octets, content, reserved, upto}
@@ -136,24 +132,8 @@ abbrev AreWordRegs : List Value → Type 0
 AreWordRegs [] = Unit {0}
 AreWordRegs (v ∷ vs) = (v.number < 65536) × AreWordRegs vs
 
-or_zero_is_word : (x : Option Value) → IsWord x → (or_zero x).number < 65536
-or_zero_is_word None h = omega arith
-or_zero_is_word (Some v) h = h
-
-argument_words : (args : List Argument) (n : ℕ) → AllWords args → AreWords (argument args n)
-argument_words [] n h = tt
-argument_words (a ∷ args) zero h = h.0
-argument_words (a ∷ args) (suc n) h = argument_words args n h.1
-
-argument_value : (a : Argument) → AreWords a → (value_of a).number < 65536
-argument_value (arguments.Plain x) h = or_zero_is_word x h
-argument_value (arguments.Immediate x) h = or_zero_is_word x h
-argument_value (arguments.Indirect r) h = or_zero_is_word r h
-argument_value (arguments.Increment r) h = or_zero_is_word r h
-argument_value (arguments.Indexed x r) h = or_zero_is_word x h.0
-
 at_place : (args : List Argument) (n : ℕ) → AllWords args → (value_of (argument args n)).number < 65536
-at_place args n h = argument_value (argument args n) (argument_words args n h)
+at_place args n h = value_word (argument args n) (argument_words args n h)
 
 zero_is_word : 0 < 65536
 zero_is_word = omega arith
@@ -182,31 +162,6 @@ record IsSmall (w : Worded) : Type 0 where
 
 laid_small : (word : List ℕ) (args : List Argument) (w : Worded) → AllWords args → IsLaid word args w → IsSmall w
 laid_small word args w h l = subst IsSmall l.is (record { opcode = l.below; regs = regs_words l.row.shape args h })
-
-abbrev Words : List ℕ → List Argument → Type 0
-Words word args = AllWords args
-
-over_words : (here : Value) (n : ℕ) → AreWords (over here n)
-over_words here n = omega arith
-
-branch_words : (kind : BranchKind) (word : List ℕ) (args : List Argument) (form : Branch) (here : Value) → AllWords args → EachLine Words (branch_lines kind word args form here)
-branch_words Jump word args branches.First here h = ((argument_words args 0 h, tt), tt)
-branch_words Jump word args branches.Second here h = ((argument_words args 0 h, tt), tt)
-branch_words Jump word args branches.Third here h = ((argument_words args 0 h, tt), tt)
-branch_words Call word args branches.First here h = ((argument_words args 0 h, tt), tt)
-branch_words Call word args branches.Second here h = ((argument_words args 0 h, tt), tt)
-branch_words Call word args branches.Third here h = ((argument_words args 0 h, tt), tt)
-branch_words Conditional word args branches.First here h = ((argument_words args 0 h, tt), tt)
-branch_words Conditional word args branches.Second here h = ((over_words here 4, tt), ((argument_words args 0 h, tt), tt))
-branch_words Conditional word args branches.Third here h = ((over_words here 5, tt), ((argument_words args 0 h, tt), tt))
-branch_words BitTest word args branches.First here h = ((argument_words args 0 h, (argument_words args 1 h, (argument_words args 2 h, tt))), tt)
-branch_words BitTest word args branches.Second here h = ((argument_words args 0 h, (argument_words args 1 h, (over_words here 5, tt))), ((argument_words args 2 h, tt), tt))
-branch_words BitTest word args branches.Third here h = ((argument_words args 0 h, (argument_words args 1 h, (over_words here 6, tt))), ((argument_words args 2 h, tt), tt))
-
-full_words : (word : List ℕ) (args : List Argument) (form : Branch) (here : Value) (k : Option BranchKind) → AllWords args →
-    EachLine Words (elim k as (λ _. List Line) [ None ↦ line word args ∷ [] | Some kind ↦ branch_lines kind word args form here ])
-full_words word args form here None h = (h, tt)
-full_words word args form here (Some kind) h = branch_words kind word args form here h
 
 all_small : (word : List ℕ) (args : List Argument) (form : Branch) (here : Value) → AllWords args → EachOf IsSmall (instructions word args form here)
 unfolding instructions

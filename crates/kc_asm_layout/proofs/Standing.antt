@@ -7,11 +7,9 @@ use Rattle.std.proofs.lemmas.Bool.Decides.{nat_tests, eqb_tells}
 use Rattle.std.proofs.lemmas.Grind.{common_steps, get_or-set_at}
 use Rattle.std.proofs.lemmas.List.{length-append, get_or-set_other}
 use Rattle.std.proofs.Math.ListN.{length-set}
-use Rattle.kc_obj.specs.declared.parts.SegKind.{SegKind}
-use Rattle.kc_obj.specs.declared.parts.SegKind.TheVariants.{Reg, Code, Ram, Stack}
 use Rattle.kc_obj.specs.Pieces.{kind_number}
 use Rattle.kc_asm_symbols.specs.declared.segments.Segment.{Segment}
-use Rattle.kc_asm_symbols.specs.Located.{piece_of_kind, first_segment}
+use Rattle.kc_asm_symbols.specs.Located.{first_segment}
 use Rattle.kc_asm_layout.specs.Places.{begun}
 use Rattle.kc_asm_outline.specs.Numbered.{may_follow, is_same_piece, is_relocatable}
 
@@ -39,12 +37,6 @@ pub record Keeps (p k q j : ℕ) : Type 0 where
   pub main_code : (p ≡ 1 → k ≡ 1) → q ≡ 1 → j ≡ 1
   pub code : (k ≡ 1 → p < 3 → p ≡ 1) → j ≡ 1 → q < 3 → q ≡ 1
 
-by_kind : (kind : SegKind) (q : ℕ) → q ≡ piece_of_kind kind → (q ≡ kind_number kind)
-by_kind Reg q e = e
-by_kind Code q e = e
-by_kind Ram q e = e
-by_kind Stack q e = e
-
 relocatable : (q j p k : ℕ) → (not (leb 3 q)) ≡ true → q ≡ j → Keeps p k q j
 relocatable q j p k r e =
     let below : q < 3 = grind (arith, nat_tests) in
@@ -66,8 +58,8 @@ kept g h e = elim (either (is_same_piece g h) (is_relocatable h) e) [
       let both = and_parts (eqb g.piece h.piece) (eqb (kind_number g.kind) (kind_number h.kind)) s in
       same h.piece (kind_number h.kind) g.piece (kind_number g.kind) (sym (eqb_same g.piece h.piece both.0)) (sym (eqb_same (kind_number g.kind) (kind_number h.kind) both.1))
   | inr r ↦
-      let both = and_parts (not (leb 3 h.piece)) (eqb h.piece (piece_of_kind h.kind)) r in
-      relocatable h.piece (kind_number h.kind) g.piece (kind_number g.kind) both.0 (by_kind h.kind h.piece (eqb_same h.piece (piece_of_kind h.kind) both.1))
+      let both = and_parts (not (leb 3 h.piece)) (eqb h.piece (kind_number h.kind)) r in
+      relocatable h.piece (kind_number h.kind) g.piece (kind_number g.kind) both.0 (eqb_same h.piece (kind_number h.kind) both.1)
 ]
 
 -- ---- behind a statement at whose end its piece ends at v, and with first forms at w

@@ -12,6 +12,3 @@ mod text;
 pub use laws::{branches_reach, other_branches_are_long};
 pub use laying::layout;
 pub use site::Site;
-
-#[cfg(test)]
-mod tests;

@@ -5,6 +5,3 @@ mod listed;
 mod spots;
 
 pub use listed::listing;
-
-#[cfg(test)]
-mod tests;

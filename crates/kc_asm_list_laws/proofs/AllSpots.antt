@@ -75,15 +75,5 @@ module _ (all : List Located) (whole : List Note)
 
 -- ---- how many there are
 
-pub sites_length : (list : List (Option ℕ)) (fs : List Form) (ends : Ends) (ns : List Note) → length (sites_from list fs ends ns) ≡ length ns
-unfolding sites_from
-sites_length list fs ends [] = refl
-sites_length list fs ends (n ∷ ns) = ap suc (sites_length list (drop 1 fs) (ends_after (head_form fs) ends n) ns)
-
-pub located_length : (values : ℕ → Segment → Value) (i : ℕ) (g : Segment) (stmts : List Stmt) → length (located_from values i g stmts) ≡ length stmts
-unfolding located_from
-located_length values i g [] = refl
-located_length values i g (s ∷ stmts) = ap suc (located_length values (i + 1) (segment_after g (action_tree s.action)) stmts)
-
 pub said_length : (stmts : List Stmt) (text : List Line) → AreStatements stmts text → length (all_said text) ≡ length stmts
 said_length stmts text a = sym (λ i. length (a.said_by i)) ∙ mapped_length stmt_said stmts

@@ -27,7 +27,7 @@ use Rattle.kc_asm_check.specs.Laws.{SoundStatements}
 use Rattle.kc_asm_draft_laws.specs.Drafting.{parts_from, first_parts, IsDraftOf}
 use Rattle.kc_asm_draft_laws.proofs.Lists.{all_at}
 use Rattle.kc_asm_draft_laws.proofs.Going.{head_of, AreHeads}
-use Rattle.kc_asm_draft_laws.proofs.Walking.{walked}
+use Rattle.kc_asm_draft_laws.proofs.Walking.{walked, sites_length}
 use Rattle.kc_asm_draft_laws.proofs.Keeping.{kept}
 use Rattle.kc_asm_laws.proofs.Alike.{standing_alike, sites_alike, draft_alike}
 use Rattle.kc_asm_list.specs.Spots.{spots_of}
@@ -35,7 +35,8 @@ use Rattle.kc_asm_list_laws.specs.Shown.{shows, EachByteIsShownOnce}
 use Rattle.kc_asm_list_laws.proofs.One.{one_text}
 use Rattle.kc_asm_list_laws.proofs.Pieces.{number_in, IsOwnKind, pieces_are}
 use Rattle.kc_asm_list_laws.proofs.Counted.{Anything, seen, counted_once}
-use Rattle.kc_asm_list_laws.proofs.AllSpots.{spots_counted, segments_alike, sites_length, located_length, said_length}
+use Rattle.kc_asm_symbols.proofs.WalkLemmas.{located_length}
+use Rattle.kc_asm_list_laws.proofs.AllSpots.{spots_counted, segments_alike, said_length}
 
 -- a byte of a module is an octet of a piece
 

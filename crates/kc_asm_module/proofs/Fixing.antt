@@ -8,6 +8,7 @@ use Rattle.kc_obj.specs.declared.parts.Fixup.{Fixup}
 use Rattle.kc_obj.specs.Contents.{content_at, is_from}
 use Rattle.kc_obj_relocation.specs.Numbers.{width}
 use Rattle.kc_obj.specs.Fixups.{fixup_at, fixup_follows, fixups_in_order, may_begin, is_zero, has_room}
+use Rattle.kc_obj.proofs.RoomLemmas.{from_joined}
 use Rattle.kc_asm_module.specs.declared.puts.Put.{Put}
 use Rattle.kc_asm_module.specs.Runs.{listed, fixups_of}
 use Rattle.kc_asm_module.proofs.RunBytes.{is_at, put_byte}
@@ -37,9 +38,6 @@ is_after p o (Some f) q = is_from p o q.piece q.offset
 abbrev are_after : ℕ → ℕ → List Put → Bool
 are_after p o [] = true
 are_after p o (q ∷ qs) = is_after p o q.fixup q && are_after p o qs
-
-from_joined : (p o q r s t : ℕ) → is_from p o q r ≡ true → is_from q r s t ≡ true → is_from p o s t ≡ true
-from_joined p o q r s t h k = grind (arith, nat_tests)
 
 one_after : (p o : ℕ) (f : Option Fixup) (q : Put) → is_from p o q.piece q.offset ≡ true → is_after p o f q ≡ true
 one_after p o None q h = refl

@@ -9,6 +9,7 @@ use Rattle.kc_obj.specs.declared.parts.Segment.{Segment}
 use Rattle.kc_obj.specs.declared.parts.Fixup.{Fixup}
 use Rattle.kc_obj.specs.declared.parts.Lines.{Lines}
 use Rattle.kc_obj.specs.Contents.{is_from}
+use Rattle.kc_obj.proofs.RoomLemmas.{from_joined}
 use Rattle.kc_asm_bytes.specs.declared.octet.Octet.{Octet}
 use Rattle.kc_asm_piece.specs.declared.part.Cell.{Cell}
 use Rattle.kc_asm_piece.specs.Tape.{Tape, rise, is_tape, cell_offsets, cell_at}
@@ -54,9 +55,6 @@ pub gathered_is : (number : ℕ → ℕ) (ts : List Tape) → added_all number t
 gathered_is number ts = added_is number ts [] [] []
 
 -- ---- places rise
-
-from_joined : (p o q r s t : ℕ) → is_from p o q r ≡ true → is_from q r s t ≡ true → is_from p o s t ≡ true
-from_joined p o q r s t h k = grind (arith, nat_tests)
 
 pub rises_weaker : (p o q r : ℕ) (qs : List Put) → is_from p o q r ≡ true → rises q r qs ≡ true → rises p o qs ≡ true
 rises_weaker p o q r [] h k = refl

@@ -14,6 +14,5 @@ pub mod OneContents
 pub mod OneFixups
 pub mod OneModule
 pub mod Counting
-pub mod Working
 pub mod Numbering
 pub mod Totals

@@ -7,16 +7,12 @@ use Rattle.kc_obj.specs.declared.parts.Content.{Content}
 use Rattle.kc_obj.specs.declared.parts.Segment.{Segment}
 use Rattle.kc_obj.specs.Contents.{content_end, content_is_sound, content_follows, contents_in_order, covers, content_at, is_from}
 use Rattle.kc_obj.specs.Pieces.{has_code}
+use Rattle.kc_obj.proofs.ContentLemmas.{ordered_rest}
 
 -- the first run, if there is one, stands at a place or after it
 abbrev start_from : ℕ → ℕ → List Content → Bool
 start_from piece offset [] = true
 start_from piece offset (c ∷ cs) = is_from piece offset c.piece c.offset
-
-rest_ordered : (c : Content) (cs : List Content) → contents_in_order (c ∷ cs) ≡ true → contents_in_order cs ≡ true
-unfolding contents_in_order
-rest_ordered c [] h = refl
-rest_ordered c (d ∷ cs) h = (and_parts (content_follows c d) (contents_in_order (d ∷ cs)) h).1
 
 from_leaving : (p e q r : ℕ) (full : Bool) → (ltb p q || (eqb p q && (ltb e r || (eqb e r && full)))) ≡ true → (ltb p q || (eqb p q && leb e r)) ≡ true
 from_leaving p e q r true h = grind (arith, nat_tests)
@@ -48,7 +44,7 @@ unfolding content_at
 none_before [] a b p o ordered start h = refl
 none_before (c ∷ cs) a b p o ordered start h =
     rw (before_first a b c.piece c.offset (length c.bytes) p o start h)
-    (none_before cs c.piece (content_end c) p o (rest_ordered c cs ordered) (rest_from c cs ordered) (before_rest a b c.piece c.offset (content_end c) p o start (omega arith) h))
+    (none_before cs c.piece (content_end c) p o (ordered_rest c cs ordered) (rest_from c cs ordered) (before_rest a b c.piece c.offset (content_end c) p o start (omega arith) h))
 
 -- ---- what stands in the first run
 
@@ -112,7 +108,7 @@ nothing_behind : (c : Content) (cs : List Content) → length c.bytes < 1024 →
 unfolding content_at
 nothing_behind c cs lt ordered =
     rw (past_first c.piece c.offset (length c.bytes) c.piece)
-    (none_before cs c.piece (content_end c + 1) c.piece (content_end c) (rest_ordered c cs ordered) (rest_after c cs lt ordered) (not_from_next c.piece (content_end c)))
+    (none_before cs c.piece (content_end c + 1) c.piece (content_end c) (ordered_rest c cs ordered) (rest_after c cs lt ordered) (not_from_next c.piece (content_end c)))
 
 not_longer : (c : Content) (cs : List Content) (d : Content) (ds : List Content) → c.piece ≡ d.piece → c.offset ≡ d.offset → length d.bytes ≤ 1024 → contents_in_order (c ∷ cs) ≡ true → Same (c ∷ cs) (d ∷ ds) → length c.bytes < length d.bytes → ⊥
 not_longer c cs d ds e f le ordered same lt =
@@ -130,7 +126,7 @@ unfolding content_at
 rest_there c cs p o h = rw h refl
 
 rest_none : (c : Content) (cs : List Content) (p o : ℕ) → contents_in_order (c ∷ cs) ≡ true → covers c p o ≡ true → content_at cs p o ≡ None
-rest_none c cs p o ordered h = none_before cs c.piece (content_end c) p o (rest_ordered c cs ordered) (rest_from c cs ordered) (covered c.piece c.offset (length c.bytes) p o h)
+rest_none c cs p o ordered h = none_before cs c.piece (content_end c) p o (ordered_rest c cs ordered) (rest_from c cs ordered) (covered c.piece c.offset (length c.bytes) p o h)
 
 same_rest : (c d : Content) (cs ds : List Content) → c ≡ d → contents_in_order (c ∷ cs) ≡ true → contents_in_order (d ∷ ds) ≡ true → Same (c ∷ cs) (d ∷ ds) → Same cs ds
 same_rest c d cs ds e ordered other same p o = by (covers c p o) refl
@@ -194,5 +190,5 @@ one_contents segments (c ∷ cs) (d ∷ ds) sound ordered sound_d ordered_d same
     let parts = and_parts (content_is_sound segments c) (list_all (content_is_sound segments) cs) sound in
     let others = and_parts (content_is_sound segments d) (list_all (content_is_sound segments) ds) sound_d in
     let first : c ≡ d = first_same c d cs ds (sound_length segments c parts.0) (sound_length segments d others.0) ordered ordered_d same in
-    let rest : cs ≡ ds = one_contents segments cs ds parts.1 (rest_ordered c cs ordered) others.1 (rest_ordered d ds ordered_d) (same_rest c d cs ds first ordered ordered_d same) in
+    let rest : cs ≡ ds = one_contents segments cs ds parts.1 (ordered_rest c cs ordered) others.1 (ordered_rest d ds ordered_d) (same_rest c d cs ds first ordered ordered_d same) in
     (λ i. first i ∷ rest i)

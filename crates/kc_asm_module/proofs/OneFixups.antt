@@ -12,17 +12,13 @@ use Rattle.kc_obj.specs.Contents.{is_from}
 use Rattle.kc_obj_relocation.specs.Numbers.{width}
 use Rattle.kc_obj.specs.Fixups.{fixup_at, fixup_follows, fixups_in_order}
 use Rattle.kc_obj.specs.Rules.{publics_in_order}
+use Rattle.kc_obj.proofs.RoomLemmas.{rest_in_order}
 
 -- ---- relocations
 
 abbrev start_from : ℕ → ℕ → List Fixup → Bool
 start_from piece offset [] = true
 start_from piece offset (f ∷ fs) = is_from piece offset f.piece f.offset
-
-rest_ordered : (f : Fixup) (fs : List Fixup) → fixups_in_order (f ∷ fs) ≡ true → fixups_in_order fs ≡ true
-unfolding fixups_in_order
-rest_ordered f [] h = refl
-rest_ordered f (g ∷ fs) h = (and_parts (fixup_follows f g) (fixups_in_order (g ∷ fs)) h).1
 
 some_width : (kind : ℕ) → 0 < width kind
 some_width kind = by (eqb kind 1 || eqb kind 2) (width kind) refl
@@ -49,7 +45,7 @@ none_before : (fs : List Fixup) (a b p o : ℕ) → fixups_in_order fs ≡ true 
 unfolding fixup_at
 none_before [] a b p o ordered start h = refl
 none_before (f ∷ fs) a b p o ordered start h =
-    rw (before_first a b f.piece f.offset p o start h) (none_before fs f.piece (f.offset + 1) p o (rest_ordered f fs ordered) (rest_from f fs ordered) (before_rest a b f.piece f.offset p o start h))
+    rw (before_first a b f.piece f.offset p o start h) (none_before fs f.piece (f.offset + 1) p o (rest_in_order f fs ordered) (rest_from f fs ordered) (before_rest a b f.piece f.offset p o start h))
 
 abbrev Same : List Fixup → List Fixup → Type 0
 Same fs gs = (p o : ℕ) → fixup_at fs p o ≡ fixup_at gs p o
@@ -96,7 +92,7 @@ past : (q r p o : ℕ) → (eqb q p && eqb r o) ≡ true → is_from q (r + 1) p
 past q r p o h = grind (arith, nat_tests)
 
 rest_none : (f : Fixup) (fs : List Fixup) (p o : ℕ) → fixups_in_order (f ∷ fs) ≡ true → (eqb f.piece p && eqb f.offset o) ≡ true → fixup_at fs p o ≡ None
-rest_none f fs p o ordered h = none_before fs f.piece (f.offset + 1) p o (rest_ordered f fs ordered) (rest_from f fs ordered) (past f.piece f.offset p o h)
+rest_none f fs p o ordered h = none_before fs f.piece (f.offset + 1) p o (rest_in_order f fs ordered) (rest_from f fs ordered) (past f.piece f.offset p o h)
 
 same_rest : (f g : Fixup) (fs gs : List Fixup) → f ≡ g → fixups_in_order (f ∷ fs) ≡ true → fixups_in_order (g ∷ gs) ≡ true → Same (f ∷ fs) (g ∷ gs) → Same fs gs
 same_rest f g fs gs e ordered other same p o = by (eqb f.piece p && eqb f.offset o) refl
@@ -115,7 +111,7 @@ one_fixups [] (g ∷ gs) a b same = absurd (some_none g (fixup_at [] g.piece g.o
 one_fixups (f ∷ fs) [] a b same = absurd (some_none f (fixup_at [] f.piece f.offset) (sym (same f.piece f.offset) ∙ first_there f fs) (nowhere f.piece f.offset))
 one_fixups (f ∷ fs) (g ∷ gs) ordered other same =
     let first : f ≡ g = first_same f g fs gs ordered other same in
-    let rest : fs ≡ gs = one_fixups fs gs (rest_ordered f fs ordered) (rest_ordered g gs other) (same_rest f g fs gs first ordered other same) in
+    let rest : fs ≡ gs = one_fixups fs gs (rest_in_order f fs ordered) (rest_in_order g gs other) (same_rest f g fs gs first ordered other same) in
     (λ i. first i ∷ rest i)
 
 -- ---- public names

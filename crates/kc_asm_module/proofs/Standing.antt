@@ -12,6 +12,7 @@ use Rattle.kc_obj.specs.Pieces.{kind_number, has_code, is_placed}
 use Rattle.kc_obj.specs.Contents.{is_from}
 use Rattle.kc_obj.specs.Fixups.{fixup_is_sound}
 use Rattle.kc_obj.specs.LineEntries.{line_is_sound, line_follows, lines_in_order}
+use Rattle.kc_obj.proofs.RoomLemmas.{from_joined}
 use Rattle.kc_asm_piece.specs.declared.part.Cell.{Cell}
 use Rattle.kc_asm_piece.specs.declared.part.Mark.{Mark}
 use Rattle.kc_asm_piece.specs.Tape.{Tape, is_tape, rise, mark_offsets}
@@ -164,9 +165,6 @@ module _ (number : ℕ → ℕ) (segments : List Segment) (externals : List Take
 abbrev line_rises : ℕ → ℕ → List Lines → Bool
 line_rises piece offset [] = true
 line_rises piece offset (l ∷ ls) = is_from piece offset l.piece l.offset && line_rises l.piece (l.offset + 1) ls
-
-from_joined : (p o q r s t : ℕ) → is_from p o q r ≡ true → is_from q r s t ≡ true → is_from p o s t ≡ true
-from_joined p o q r s t h k = grind (arith, nat_tests)
 
 line_weaker : (p o q r : ℕ) (ls : List Lines) → is_from p o q r ≡ true → line_rises q r ls ≡ true → line_rises p o ls ≡ true
 line_weaker p o q r [] h k = refl

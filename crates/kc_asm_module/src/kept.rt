@@ -8,6 +8,7 @@ use kc_asm_bytes::{Octet, relocated};
 use kc_asm_piece::{Part, Public};
 use kc_expr::Base;
 use kc_obj::SegKind;
+use kc_obj::pieces::number_of as kind_number;
 
 /// Which of the relocatable parts are pieces of the module.
 #[derive(Clone, Copy, Debug, PartialEq, Eq)]
@@ -21,12 +22,7 @@ pub struct Kept {
 pub(crate) fn own_number(kind: SegKind) -> u16
     ensures { result ≡ pieces.kind_number kind }
 {
-    match kind {
-        SegKind::Reg => 0,
-        SegKind::Code => 1,
-        SegKind::Ram => 2,
-        SegKind::Stack => 3,
-    }
+    u16::from(kind_number(kind))
 }
 
 // The number of the piece that a relocatable part is: how many pieces stand before it.

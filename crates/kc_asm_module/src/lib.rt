@@ -14,6 +14,3 @@ pub use count::piece_count;
 pub use kept::Kept;
 pub use laws::{absolute_alike, few_pieces, numbers_stand, one_module};
 pub use making::module_of;
-
-#[cfg(test)]
-mod tests;

@@ -14,6 +14,7 @@ use Rattle.kc_asm_symbols.specs.Externals.{externals}
 use Rattle.kc_asm_symbols.specs.declared.segments.Segment.{Segment}
 use Rattle.kc_asm_symbols.specs.Located.{first_segment, segment_after, value_at, located_from}
 use Rattle.kc_asm_symbols.specs.Meanings.{in_all}
+use Rattle.kc_asm_symbols.proofs.WalkLemmas.{located_length}
 use Rattle.kc_asm_piece.specs.declared.draft.Draft.{Draft}
 use Rattle.kc_asm_check.specs.Judging.{site_list, standing, place_at}
 use Rattle.kc_asm_check.specs.Putting.{stack_from}
@@ -25,11 +26,6 @@ use Rattle.kc_asm_module_laws.specs.Made.{TextsHaveModules}
 use Rattle.kc_asm_module_laws.proofs.Values.{vec_of, made}
 use Rattle.kc_asm_module_laws.proofs.Lines.{few_lines, few_said, few_parts}
 use Rattle.kc_asm_module_laws.proofs.Publics.{few_publics}
-
-located_length : (values : ℕ → Segment → Value) (i : ℕ) (g : Segment) (ss : List Stmt) → length (located_from values i g ss) ≡ length ss
-unfolding located_from
-located_length values i g [] = refl
-located_length values i g (s ∷ ss) = ap suc (located_length values (i + 1) (segment_after g (action_tree s.action)) ss)
 
 -- what few things are in memory
 small : (n m : ℕ) → n ≤ m → m ≤ 1000000 → n < 2 ^ 63

@@ -12,6 +12,7 @@ use Rattle.kc_expr.specs.Meaning.{Answer}
 use Rattle.kc_source_statement.specs.declared.statement.Stmt.{Stmt}
 use Rattle.kc_source_statement.specs.Trees.{ActionTree, action_tree}
 use Rattle.kc_source_statement.specs.Trees as trees
+use Rattle.kc_source_statement.specs.Formed.{given_names}
 use Rattle.kc_source.specs.declared.uses.Use.{Use}
 use Rattle.kc_source.specs.declared.uses.UseKind.{UseKind}
 use Rattle.kc_source.specs.declared.uses.UseKind.TheVariants.{Once, Again, Taken, Given}
@@ -19,7 +20,7 @@ use Rattle.kc_source.specs.Clear.{IsClear, NamesAreClear}
 use Rattle.kc_source.specs.Faults.{Said, stmt_said, all_said, use_of, label_uses, action_uses, read_uses, uses_of, all_uses, is_once, is_again, has_use, is_defined, least, faults_of}
 use Rattle.kc_asm_symbols.specs.declared.segments.Segment.{Segment}
 use Rattle.kc_asm_symbols.specs.Located.{segment_after, located_from}
-use Rattle.kc_asm_draft_laws.specs.Drafting.{given_by, all_given, distinct_from, given_as, publics_of}
+use Rattle.kc_asm_draft_laws.specs.Drafting.{all_given, distinct_from, given_as, publics_of}
 
 -- ---- equal names
 
@@ -218,7 +219,7 @@ named_given line q (n ∷ ns) h = by (bytes_eq q n) h (λ g. named_given line q 
     by true g f = refl
     by false g f = f g
 
-action_given : (line : ℕ) (a : ActionTree) (q : List ℕ) → list_any (bytes_eq q) (given_by a) ≡ true → is_given q (action_uses line a) ≡ true
+action_given : (line : ℕ) (a : ActionTree) (q : List ℕ) → list_any (bytes_eq q) (given_names a) ≡ true → is_given q (action_uses line a) ≡ true
 action_given line (trees.Public names) q h = named_given line q names h
 action_given line (trees.Equ name x) q h = absurd (cc h)
 action_given line (trees.Set name x) q h = absurd (cc h)
@@ -247,10 +248,10 @@ all_are_given values i g (s ∷ ss) q h =
     let a = action_tree s.action in
     let p : Use → Bool = λ u. gives u.kind && bytes_eq q u.name in
     let rest = all_are_given values (i + 1) (segment_after g a) ss q in
-    let both : (list_any (bytes_eq q) (given_by a) || list_any (bytes_eq q) (all_given (located_from values (i + 1) (segment_after g a) ss))) ≡ true =
-    names_join q (given_by a) (all_given (located_from values (i + 1) (segment_after g a) ss)) h in
+    let both : (list_any (bytes_eq q) (given_names a) || list_any (bytes_eq q) (all_given (located_from values (i + 1) (segment_after g a) ss))) ≡ true =
+    names_join q (given_names a) (all_given (located_from values (i + 1) (segment_after g a) ss)) h in
     any_join p (uses_of (stmt_said s)) (all_uses (map stmt_said ss))
-    ∙ either_true (list_any (bytes_eq q) (given_by a)) (list_any (bytes_eq q) (all_given (located_from values (i + 1) (segment_after g a) ss))) both ((list_any p (uses_of (stmt_said s)) || list_any p (all_uses (map stmt_said ss))) ≡ true)
+    ∙ either_true (list_any (bytes_eq q) (given_names a)) (list_any (bytes_eq q) (all_given (located_from values (i + 1) (segment_after g a) ss))) both ((list_any p (uses_of (stmt_said s)) || list_any p (all_uses (map stmt_said ss))) ≡ true)
     (λ e. or_left (list_any p (uses_of (stmt_said s))) (list_any p (all_uses (map stmt_said ss))) (any_join p (label_uses s.line s.label) (action_uses s.line a) ∙ or_right (list_any p (label_uses s.line s.label)) (list_any p (action_uses s.line a)) (action_given s.line a q e)))
     (λ e. or_right (list_any p (uses_of (stmt_said s))) (list_any p (all_uses (map stmt_said ss))) (rest e))
 

@@ -3,6 +3,7 @@
 use Rattle.std.specs.Prelude.{ℕ, Bool, true, false, Option, Some, None, List, [], ◌∷◌, ◌++◌}
 use Rattle.std.specs.Option.{option_map}
 use Rattle.kc_expr.specs.declared.values.Value.{Value}
+use Rattle.kc_expr.specs.Meaning.{plain}
 use Rattle.kc_isa.specs.declared.table.Shape.{Shape}
 use Rattle.kc_isa.specs.declared.table.Shape.TheVariants as shapes
 use Rattle.kc_isa.specs.Names.{row_at}
@@ -11,19 +12,19 @@ use Rattle.kc_branch.specs.declared.piece.Form.{Form}
 use Rattle.kc_asm_operation.specs.declared.word.Word.{Word}
 use Rattle.kc_asm_operation.specs.declared.word.Word.TheVariants.{Absent, Immediate, Count, Jump}
 use Rattle.kc_asm_operation.specs.declared.word.Worded.{Worded}
-use Rattle.kc_asm_operation.specs.Values.{fixed, argument, value_of}
+use Rattle.kc_asm_operation.specs.Values.{argument, value_of}
 use Rattle.kc_asm_operation.specs.Sources.{source}
 use Rattle.kc_asm_operation.specs.Opcodes.{source_of, opcode_of}
 use Rattle.kc_asm_operation.specs.Branches.{Line, in_full}
 
 abbrev pub no_regs : List Value
-no_regs = fixed 0 ∷ fixed 0 ∷ fixed 0 ∷ []
+no_regs = plain 0 ∷ plain 0 ∷ plain 0 ∷ []
 
 abbrev pub one_reg : Value → List Value
-one_reg a = a ∷ fixed 0 ∷ fixed 0 ∷ []
+one_reg a = a ∷ plain 0 ∷ plain 0 ∷ []
 
 abbrev pub two_regs : Value → Value → List Value
-two_regs a b = a ∷ b ∷ fixed 0 ∷ []
+two_regs a b = a ∷ b ∷ plain 0 ∷ []
 
 -- the operands stand destination first in the source, and last in the bytes
 abbrev pub operand_for : Shape → List Argument → Word

@@ -4,11 +4,12 @@
 use Rattle.std.specs.Prelude.{ℕ, ◌%◌, if◌then◌else◌, Option}
 use Rattle.std.specs.Int.{w8, cast_signed}
 use Rattle.kc_expr.specs.declared.values.Value.{Value}
+use Rattle.kc_expr.specs.Meaning.{plain}
 use Rattle.kc_asm_operation.specs.declared.argument.Argument.{Argument}
 use Rattle.kc_asm_operation.specs.declared.argument.Argument.TheVariants as arguments
 use Rattle.kc_asm_operation.specs.declared.word.Word.{Word}
 use Rattle.kc_asm_operation.specs.declared.word.Word.TheVariants.{Register, Immediate, Indirect, Increment, Short, Long}
-use Rattle.kc_asm_operation.specs.Values.{fixed, or_zero, is_direct, is_short}
+use Rattle.kc_asm_operation.specs.Values.{or_zero, is_direct, is_short}
 
 -- the two low bits of the opcode: register, number, pointer, index
 abbrev pub mode : Argument → ℕ
@@ -19,7 +20,7 @@ mode (arguments.Increment r) = 2
 mode (arguments.Indexed x r) = 3
 
 abbrev pub plain_source : Option Value → Word
-plain_source x = if is_direct x then Register (or_zero x) else Long (fixed 0) (or_zero x)
+plain_source x = if is_direct x then Register (or_zero x) else Long (plain 0) (or_zero x)
 
 abbrev pub indexed_source : Option Value → Option Value → Word
 indexed_source x r =

@@ -5,6 +5,7 @@ use Rattle.kc_expr.specs.declared.values.Base.TheVariants.{Fixed, Absolute, Piec
 use Rattle.kc_expr.specs.declared.values.Tag.{Tag}
 use Rattle.kc_expr.specs.declared.values.Tag.TheVariants.{Register, Memory}
 use Rattle.kc_expr.specs.declared.values.Value.{Value}
+use Rattle.kc_expr.specs.Meaning.{plain}
 use Rattle.kc_asm_operation.specs.declared.argument.Argument.{Argument}
 use Rattle.kc_asm_operation.specs.declared.argument.Argument.TheVariants.{Plain, Immediate, Indirect, Increment, Indexed}
 
@@ -24,16 +25,13 @@ abbrev pub is_register : Tag → Bool
 is_register Register = true
 is_register Memory = false
 
-abbrev pub fixed : ℕ → Value
-fixed n = record { base = Fixed; tag = Memory; number = n }
-
 -- some bytes behind a value
 abbrev pub moved : Value → ℕ → Value
 moved v n = record v { number = (v.number + n) % 65536 }
 
 -- a value that is missing counts as 0
 abbrev pub or_zero : Option Value → Value
-or_zero None = fixed 0
+or_zero None = plain 0
 or_zero (Some v) = v
 
 -- a plain operand that is in the register file

@@ -3,7 +3,7 @@ ghost use Rattle.kc_asm_operation.specs.Values as values;
 ghost use Rattle.kc_asm_operation.specs.Sources as sources;
 
 use crate::word::Word;
-use kc_expr::{Base, Tag, Value};
+use kc_expr::{Base, Tag, Value, fixed};
 
 /// An operand as it is written: `x`, `#x`, `[reg]`, `[reg]+` or `x[reg]`. `None` stands for an expression without a value,
 /// whose fault is told elsewhere. (MCS-96 Macro Assembler User's Guide, "Operands".)
@@ -14,17 +14,6 @@ pub enum Argument {
     Indirect(Option<Value>),
     Increment(Option<Value>),
     Indexed(Option<Value>, Option<Value>),
-}
-
-/// A number that counts from nothing.
-pub fn fixed(number: u16) -> Value
-    ensures { result ≡ values.fixed number }
-{
-    Value {
-        base: Base::Fixed,
-        tag: Tag::Memory,
-        number,
-    }
 }
 
 /// Some bytes behind a value, modulo 65536.

@@ -3,13 +3,13 @@ ghost use Rattle.arrayvec.specs.ArrayVec.{array_vec_len};
 ghost use Rattle.kc_asm_operation.specs.Branches as branches;
 ghost use Rattle.kc_asm_operation.specs.Instructions as instructions;
 
-use crate::argument::{Argument, fixed, moved, operand_at, source, value_of};
+use crate::argument::{Argument, moved, operand_at, source, value_of};
 use crate::branch::{branch_kind, inverse_of, jump_of};
 use crate::opcode::{opcode_of, source_of};
 use crate::word::{Word, Worded};
 use arrayvec::ArrayVec;
 use kc_branch::{BranchKind, Form, branch_length};
-use kc_expr::Value;
+use kc_expr::{Value, fixed};
 use kc_isa::{Shape, row_of};
 
 fn operand_for(shape: Shape, args: &[Argument]) -> Word

@@ -9,11 +9,8 @@ pub mod instruction;
 mod opcode;
 pub mod word;
 
-pub use argument::{Argument, fixed, moved};
+pub use argument::{Argument, moved};
 pub use branch::branch_kind;
 pub use faults::fault;
 pub use instruction::instructions;
 pub use word::{Word, Worded};
-
-#[cfg(test)]
-mod tests;

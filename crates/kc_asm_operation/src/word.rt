@@ -1,8 +1,7 @@
 ghost use Rattle.std.specs.Prelude.{◌≡◌};
 ghost use Rattle.kc_asm_operation.specs.Instructions as instructions;
 
-use crate::argument::fixed;
-use kc_expr::Value;
+use kc_expr::{Value, fixed};
 
 /// The operand of an instruction, with values in the places of its numbers: `Short` and `Long` are an index behind a
 /// register, `Count` is a number of shifts or its register, `Jump` the target of a jump.

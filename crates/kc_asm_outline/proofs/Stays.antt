@@ -13,6 +13,7 @@ use Rattle.kc_asm_symbols.specs.declared.segments.Segment.{Segment}
 use Rattle.kc_asm_symbols.specs.Alike.{MeaningsAreAlike}
 use Rattle.kc_asm_symbols.specs.Located.{Located, located, located_by, located_from, located_at, segment_after, first_segment, value_at, base_of, is_absolute}
 use Rattle.kc_asm_symbols.specs.Meanings.{meaning}
+use Rattle.kc_asm_symbols.proofs.WalkLemmas.{further}
 use Rattle.kc_asm_encoding.specs.Laws.{BranchesHaveLengths}
 use Rattle.kc_asm_emission.specs.Alignment.{alignment}
 use Rattle.kc_asm_emission.specs.Content.{content, extent_of}
@@ -47,9 +48,6 @@ no_some a e = cc
 
 some_same : {A : Type 0} (a b : A) → Some a ≡ Some b → b ≡ a
 some_same a b e = cc
-
-further : (all before after : List Located) (l : Located) → all ≡ reverse before ++ l ∷ after → all ≡ reverse (l ∷ before) ++ after
-further all before after l whole = whole ∙ sym (append_assoc (reverse before) (l ∷ []) after) ∙ ap (λ (ls : List Located). ls ++ after) (sym (reverse-append (l ∷ []) before))
 
 noted_from : (zeros owns before passed : List Located) (i : ℕ) (g : Segment) (ss : List Stmt) (number : ℕ) (n : Note)
     → zeros ≡ reverse before ++ located_from at_zero i g ss → owns ≡ reverse passed ++ located_from on_its_own i g ss → length before ≡ length passed
@@ -114,7 +112,7 @@ same_statement values others stmts before passed after rest l m here there long 
 
 -- ---- places
 
-place_is_no_number : (g : Segment) → is_fixed (base_of g) ≡ true → ⊥
+pub place_is_no_number : (g : Segment) → is_fixed (base_of g) ≡ true → ⊥
 place_is_no_number g e = by_test (is_absolute g) e
   where
     by_test : (b : Bool) → is_fixed (cond b Absolute (Piece g.piece)) ≡ true → ⊥

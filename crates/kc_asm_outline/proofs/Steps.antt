@@ -11,6 +11,7 @@ use Rattle.kc_asm_symbols.specs.Located.{Located, located_by, located_from, loca
 use Rattle.kc_asm_symbols.specs.Meanings.{meaning}
 use Rattle.kc_asm_symbols.specs.Walk.{IsBehind, IsAt, at_statement}
 use Rattle.kc_asm_symbols.proofs.ValueLemmas.{value_more}
+use Rattle.kc_asm_symbols.proofs.WalkLemmas.{one_located, none_located}
 use Rattle.kc_asm_outline.specs.declared.note.Note.{Note}
 use Rattle.kc_asm_outline.specs.Outline.{at_zero, on_its_own, note_of, notes_from, outline}
 
@@ -46,15 +47,6 @@ zeros_from i g ss = located_from at_zero i g ss
 
 abbrev pub owns_from : ℕ → Segment → List Stmt → List Located
 owns_from i g ss = located_from on_its_own i g ss
-
-one_located : (values : ℕ → Segment → Value) (i : ℕ) (g : Segment) (s : Stmt) (ss : List Stmt)
-    → located_from values i g (s ∷ ss) ≡ located_at g (values i g) s ∷ located_from values (i + 1) (segment_after g (action_tree s.action)) ss
-unfolding located_from
-one_located values i g s ss = refl
-
-none_located : (values : ℕ → Segment → Value) (i : ℕ) (g : Segment) → located_from values i g [] ≡ []
-unfolding located_from
-none_located values i g = refl
 
 one_note : (zeros owns before passed ls ms : List Located) (l m : Located)
     → notes_from zeros owns before passed (l ∷ ls) (m ∷ ms) ≡ note_of (meaning zeros before l) (meaning owns passed m) l ∷ notes_from zeros owns (l ∷ before) (m ∷ passed) ls ms

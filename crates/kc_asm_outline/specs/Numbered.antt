@@ -4,7 +4,7 @@
 use Rattle.std.specs.Prelude.{◌≡◌, ℕ, ◌+◌, Bool, true, ◌&&◌, ◌||◌, not, ◌==◌, if◌then◌else◌, List, [], ◌∷◌, Option, Some, None}
 use Rattle.kc_obj.specs.Pieces.{kind_number}
 use Rattle.kc_asm_symbols.specs.declared.segments.Segment.{Segment}
-use Rattle.kc_asm_symbols.specs.Located.{first_segment, is_absolute, piece_of_kind}
+use Rattle.kc_asm_symbols.specs.Located.{first_segment, is_absolute}
 use Rattle.kc_asm_outline.specs.declared.note.Note.{Note}
 
 abbrev pub is_code : Segment → Bool
@@ -15,7 +15,7 @@ is_same_piece g h = (g.piece == h.piece) && (kind_number g.kind == kind_number h
 
 -- one of the three relocatable pieces, with the kind of its number
 abbrev pub is_relocatable : Segment → Bool
-is_relocatable g = not (is_absolute g) && (g.piece == piece_of_kind g.kind)
+is_relocatable g = not (is_absolute g) && (g.piece == kind_number g.kind)
 
 -- behind a statement in a segment, which opens an absolute piece or none: the same piece is still in force, or a relocatable
 -- one, or the one that was opened

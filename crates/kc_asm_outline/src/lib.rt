@@ -11,6 +11,3 @@ pub use anchors::{opens, target};
 pub use laws::{outlines_are_numbered, outlines_have_lengths, outlines_stay};
 pub use note::{Anchor, Body, Note};
 pub use walk::outline;
-
-#[cfg(test)]
-mod tests;

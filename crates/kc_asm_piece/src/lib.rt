@@ -9,6 +9,3 @@ mod part;
 pub use draft::{Draft, Public};
 pub use laws::{put_stands, written_stands};
 pub use part::{Cell, Mark, Part};
-
-#[cfg(test)]
-mod tests;

@@ -1,14 +1,13 @@
 -- What a module has where a statement stands (after the list file of the MCS-96 Macro Assembler User's Guide, in outline).
-use Rattle.std.specs.Prelude.{ℕ, suc, Bool, ◌+◌, ◌-◌, ◌==◌, ◌&&◌, nat_lt, nat_le, if◌then◌else◌, List, [], ◌∷◌, Option, Some, None, is_some, unwrap_or}
+use Rattle.std.specs.Prelude.{ℕ, suc, Bool, ◌+◌, ◌-◌, ◌==◌, ◌&&◌, nat_lt, if◌then◌else◌, List, [], ◌∷◌, Option, Some, None, is_some, unwrap_or}
 use Rattle.std.specs.List.{list_any, prefix_len}
 use Rattle.kc_base.specs.Digits.{hex}
 use Rattle.kc_obj.specs.declared.parts.SegKind.{SegKind}
 use Rattle.kc_obj.specs.declared.parts.Segment.{Segment}
-use Rattle.kc_obj.specs.declared.parts.Fixup.{Fixup}
 use Rattle.kc_obj.specs.Object.{Object}
 use Rattle.kc_obj.specs.Pieces.{kind_number, is_relocatable}
 use Rattle.kc_obj.specs.Contents.{content_at}
-use Rattle.kc_obj_relocation.specs.Numbers.{width}
+use Rattle.kc_obj.specs.Fixups.{fills}
 use Rattle.kc_asm_rows.specs.declared.spot.Spot.{Spot}
 
 -- ---- its piece: the relocatable pieces of a module stand first, one of a kind, and the absolute ones as the source opens them
@@ -32,10 +31,7 @@ offset_of s place = place - unwrap_or s.at 0
 abbrev pub byte_at : Object → Spot → ℕ → Option ℕ
 byte_at m s place = content_at m.contents (piece_of m.segments s) (offset_of s place)
 
--- a relocation fills in the byte at an offset of a piece
-abbrev pub fills : ℕ → ℕ → Fixup → Bool
-fills piece offset f = (f.piece == piece) && nat_le f.offset offset && nat_lt offset (f.offset + width f.kind)
-
+-- a relocation fills in the byte at a place
 abbrev pub is_filled : Object → Spot → ℕ → Bool
 is_filled m s place = list_any (fills (piece_of m.segments s) (offset_of s place)) m.fixups
 

@@ -11,6 +11,3 @@ mod statements;
 
 pub use listing::rows;
 pub use spot::Spot;
-
-#[cfg(test)]
-mod tests;

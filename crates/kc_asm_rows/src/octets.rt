@@ -3,6 +3,7 @@
 ghost use Rattle.std.specs.Prelude.{◌≡◌, ◌++◌, ◌-◌, ◌≤◌, OnOk};
 ghost use Rattle.kc_base.specs.Digits.{hex};
 ghost use Rattle.kc_obj.specs.Contents as stands;
+ghost use Rattle.kc_obj.specs.Fixups as relocations;
 ghost use Rattle.kc_asm_rows.specs.Octets as spec;
 
 use crate::pieces::piece_of;
@@ -50,7 +51,7 @@ fn byte_at(object: &Module, spot: &Spot, place: u64) -> Option<u8>
 }
 
 fn fills(piece: usize, offset: usize, fixup: Fixup) -> bool
-    ensures { result ≡ spec.fills piece offset fixup }
+    ensures { result ≡ relocations.fills piece offset fixup }
 {
     let first = usize::from(fixup.offset);
     let end = first + usize::from(width(fixup.kind));

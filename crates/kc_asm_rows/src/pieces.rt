@@ -6,18 +6,8 @@ ghost use Rattle.kc_obj.specs.Pieces as pieces;
 ghost use Rattle.kc_asm_rows.specs.Octets as spec;
 
 use crate::spot::Spot;
+use kc_obj::pieces::number_of as kind_number;
 use kc_obj::{SegKind, Segment};
-
-fn kind_number(kind: SegKind) -> u8
-    ensures { result ≡ pieces.kind_number kind }
-{
-    match kind {
-        SegKind::Reg => 0,
-        SegKind::Code => 1,
-        SegKind::Ram => 2,
-        SegKind::Stack => 3,
-    }
-}
 
 fn is_relocatable(segment: Segment) -> bool
     ensures { result ≡ pieces.is_relocatable segment.at }

@@ -7,7 +7,8 @@ use Rattle.kc_lex.specs.Codes.{not_defined, not_public}
 use Rattle.kc_expr.specs.declared.values.NoValue.TheVariants.{Fault}
 use Rattle.kc_expr.specs.Tree.{Tree, Number, Chars, Name, Here, One, Two}
 use Rattle.kc_expr.specs.Meaning.{Answer}
-use Rattle.kc_source_statement.specs.Trees.{ActionTree, Public}
+use Rattle.kc_source_statement.specs.Trees.{ActionTree}
+use Rattle.kc_source_statement.specs.Formed.{given_names}
 use Rattle.kc_asm_symbols.specs.Located.{Located}
 use Rattle.kc_asm_symbols.specs.Externals.{action_trees}
 use Rattle.kc_asm_symbols.specs.Meanings.{meaning, in_all}
@@ -36,16 +37,12 @@ unfoldable pub foreign_among : Look → List (List ℕ) → Option (List ℕ)
 foreign_among last [] = None
 foreign_among last (n ∷ ns) = if counts_from_external (last n) then Some n else foreign_among last ns
 
-abbrev pub public_names : ActionTree → List (List ℕ)
-public_names (Public names) = names
-public_names action = []
-
 -- ---- a statement, by what names mean in it and what they mean by all statements
 
 abbrev pub subject_in : ℕ → Look → Look → ActionTree → Option (List ℕ)
 subject_in code look last action =
     if code == not_defined then unknown_among look (action_trees action)
-    else if code == not_public then foreign_among last (public_names action)
+    else if code == not_public then foreign_among last (given_names action)
     else None
 
 abbrev pub subject_on : ℕ → ℕ → List Located → List Located → Located → Option (List ℕ)

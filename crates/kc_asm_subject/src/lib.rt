@@ -7,6 +7,3 @@ mod telling;
 mod values;
 
 pub use telling::subject;
-
-#[cfg(test)]
-mod tests;

@@ -1,6 +1,7 @@
 //! The first name of the statements at a line that means nothing, or may not be public.
 
 ghost use Rattle.std.specs.Prelude.{◌≡◌, ◌≤◌, List, [], length, IfOk};
+ghost use Rattle.kc_source_statement.specs.Formed.{given_names};
 ghost use Rattle.kc_source_statement.specs.Trees.{action_tree};
 ghost use Rattle.kc_asm_symbols.specs.Located.{Located, located_by};
 ghost use Rattle.kc_asm_symbols.specs.Externals.{externals};
@@ -43,7 +44,7 @@ fn foreign(alloc: Global, names: &[Text], meanings: &Meanings) -> Result<Option<
 
 #[tactic(auto, unfolding(crate::specs::Values::foreign_among))]
 fn foreign_in(alloc: Global, action: &Action, meanings: &Meanings) -> Result<Option<Text>, NoMemory>
-    ensures { IfOk result (λ o. (all before : List Located) → IsBehind meanings.now all before → o ≡ spec.foreign_among (in_all all) (spec.public_names (action_tree action.now))) }
+    ensures { IfOk result (λ o. (all before : List Located) → IsBehind meanings.now all before → o ≡ spec.foreign_among (in_all all) (given_names (action_tree action.now))) }
 {
     match action {
         Action::Public(names) => foreign(alloc, names.as_slice(), meanings),

@@ -7,6 +7,7 @@ use Rattle.std.proofs.lemmas.List.{length-map}
 use Rattle.std.proofs.lemmas.Bool.{or_parts}
 use Rattle.std.proofs.lemmas.Bool.Decides.{nat_tests}
 use Rattle.kc_obj.specs.declared.parts.SegKind.{SegKind}
+use Rattle.kc_obj.specs.Pieces.{is_register_kind}
 use Rattle.kc_expr.specs.declared.values.Value.{Value}
 use Rattle.kc_lex.proofs.FaultLemmas.{no_least, nothing_left, no_code_at}
 use Rattle.kc_source_statement.specs.declared.statement.Stmt.{Stmt}
@@ -19,7 +20,7 @@ use Rattle.kc_source.proofs.ClearLemmas.{not_first, not_second}
 use Rattle.kc_source.specs.Faults.{at_line, has_use, is_once, is_again, is_taken, is_defined, brings_name, name_count, is_one_too_many, use_code, name_faults, line_faults, faults_of, all_said, use_of, label_uses, action_uses, uses_of, all_uses, stmt_said}
 use Rattle.kc_asm_symbols.specs.declared.segments.Segment.{Segment}
 use Rattle.kc_asm_symbols.specs.Located.{located_from, segment_after, first_segment}
-use Rattle.kc_asm_symbols.specs.Externals.{declared_names, declared, statement_uses_stack, is_register_kind, taken, stack_name, externals_from}
+use Rattle.kc_asm_symbols.specs.Externals.{declared_names, declared, statement_uses_stack, taken, stack_name, externals_from}
 use Rattle.kc_asm_symbols.specs.Few.{ExternalsAreFew}
 
 -- ---- uses that take a name

@@ -155,7 +155,7 @@ meanings_alike values others same stmts before passed after rest l m here there 
 
 -- ---- places in pieces
 
-place_is_no_number : (g : Segment) → is_fixed (base_of g) ≡ false
+pub place_is_no_number : (g : Segment) → is_fixed (base_of g) ≡ false
 place_is_no_number g = by_test (is_absolute g)
   where
     by_test : (b : Bool) → is_fixed (cond b Absolute (Piece g.piece)) ≡ false

@@ -1,5 +1,5 @@
 -- A walk over the statements, one statement at a time.
-use Rattle.std.proofs.Common.{◌≡◌, ℕ, ◌+◌, ◌≤◌, Bool, true, false, cond, ◌||◌, List, [], ◌∷◌, ◌++◌, reverse, length, drop, get_or, refl, sym, ap, subst, ◌∙◌, append_assoc}
+use Rattle.std.proofs.Common.{◌≡◌, ℕ, suc, ◌+◌, ◌≤◌, Bool, true, false, cond, ◌||◌, List, [], ◌∷◌, ◌++◌, reverse, length, drop, get_or, refl, sym, ap, subst, ◌∙◌, append_assoc}
 use Rattle.std.specs.Prelude.{Ok}
 use Rattle.std.specs.List.{list_any}
 use Rattle.std.specs.Str.{bytes_eq}
@@ -19,14 +19,23 @@ use Rattle.kc_asm_symbols.specs.Walk.{at_statement, shared, IsEarlier, IsBehind}
 
 -- ---- one statement
 
-one_located : (values : ℕ → Segment → Value) (i : ℕ) (g : Segment) (s : Stmt) (ss : List Stmt)
+pub one_located : (values : ℕ → Segment → Value) (i : ℕ) (g : Segment) (s : Stmt) (ss : List Stmt)
     → located_from values i g (s ∷ ss) ≡ located_at g (values i g) s ∷ located_from values (i + 1) (segment_after g (action_tree s.action)) ss
 unfolding located_from
 one_located values i g s ss = refl
 
-none_located : (values : ℕ → Segment → Value) (i : ℕ) (g : Segment) → located_from values i g [] ≡ []
+pub none_located : (values : ℕ → Segment → Value) (i : ℕ) (g : Segment) → located_from values i g [] ≡ []
 unfolding located_from
 none_located values i g = refl
+
+pub located_length : (values : ℕ → Segment → Value) (i : ℕ) (g : Segment) (ss : List Stmt) → length (located_from values i g ss) ≡ length ss
+unfolding located_from
+located_length values i g [] = refl
+located_length values i g (s ∷ ss) = ap suc (located_length values (i + 1) (segment_after g (action_tree s.action)) ss)
+
+-- one statement further on
+pub further : (all before after : List Located) (l : Located) → all ≡ reverse before ++ l ∷ after → all ≡ reverse (l ∷ before) ++ after
+further all before after l whole = whole ∙ sym (append_assoc (reverse before) (l ∷ []) after) ∙ ap (λ (ls : List Located). ls ++ after) (sym (reverse-append (l ∷ []) before))
 
 one_earlier : (all before : List Located) (l : Located) → earlier all (l ∷ before) ≡ behind (external_answer all) l.action l.here (earlier all before)
 unfolding earlier

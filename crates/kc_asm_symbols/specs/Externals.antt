@@ -1,12 +1,12 @@
 -- The externals of a module: the names that EXTRN takes, in the order of their declaration, and STACK, the address after
 -- the stack, where it is first used (after the MCS-96 Macro Assembler User's Guide, "EXTRN" and "SSEG").
-use Rattle.std.specs.Prelude.{ℕ, ◌+◌, Bool, true, false, not, ◌&&◌, ◌||◌, if◌then◌else◌, List, [], ◌∷◌, ◌++◌, map, codes, Option, Some, None, Ok, Err}
+use Rattle.std.specs.Prelude.{ℕ, ◌+◌, Bool, false, not, ◌&&◌, ◌||◌, if◌then◌else◌, List, [], ◌∷◌, ◌++◌, map, codes, Option, Some, None, Ok, Err}
 use Rattle.std.specs.List.{list_any}
 use Rattle.std.specs.Str.{bytes_eq}
 use Rattle.kc_lex.specs.declared.fault.SourceCode.TheVariants.{NotDefined}
 use Rattle.kc_obj.specs.declared.parts.SegKind.{SegKind}
-use Rattle.kc_obj.specs.declared.parts.SegKind.TheVariants.{Reg, Code, Ram, Stack}
 use Rattle.kc_obj.specs.declared.parts.Taken.{Taken}
+use Rattle.kc_obj.specs.Pieces.{is_register_kind}
 use Rattle.kc_expr.specs.declared.values.Base.TheVariants.{External}
 use Rattle.kc_expr.specs.declared.values.Tag.{Tag}
 use Rattle.kc_expr.specs.declared.values.Tag.TheVariants.{Register, Memory}
@@ -64,12 +64,6 @@ action_trees (trees.Operation name args) = all_trees arg_trees args
 action_trees _ = []
 
 -- ---- the list of externals
-
-abbrev pub is_register_kind : SegKind → Bool
-is_register_kind Reg = true
-is_register_kind Code = false
-is_register_kind Ram = false
-is_register_kind Stack = false
 
 abbrev pub taken : Bool → List ℕ → Taken
 taken register name = record { name = name; register = register }

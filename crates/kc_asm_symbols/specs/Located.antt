@@ -3,6 +3,7 @@
 use Rattle.std.specs.Prelude.{ℕ, Bool, ◌+◌, ◌%◌, nat_le, if◌then◌else◌, List, [], ◌∷◌, map, get_or, Option, Some, None}
 use Rattle.kc_obj.specs.declared.parts.SegKind.{SegKind}
 use Rattle.kc_obj.specs.declared.parts.SegKind.TheVariants.{Reg, Code, Ram, Stack}
+use Rattle.kc_obj.specs.Pieces.{kind_number}
 use Rattle.kc_expr.specs.declared.values.Base.{Base}
 use Rattle.kc_expr.specs.declared.values.Base.TheVariants.{Absolute, Piece}
 use Rattle.kc_expr.specs.declared.values.Tag.{Tag}
@@ -20,15 +21,9 @@ use Rattle.kc_asm_symbols.specs.declared.segments.Segment.{Segment}
 abbrev pub first_segment : Segment
 first_segment = record { piece = 1; kind = Code; count = 3 }
 
-abbrev pub piece_of_kind : SegKind → ℕ
-piece_of_kind Reg = 0
-piece_of_kind Code = 1
-piece_of_kind Ram = 2
-piece_of_kind Stack = 3
-
 -- the module's piece of a kind, or a new absolute one
 abbrev pub opened : SegKind → Option Tree → Segment → Segment
-opened kind None g = record g { piece = piece_of_kind kind; kind = kind }
+opened kind None g = record g { piece = kind_number kind; kind = kind }
 opened kind (Some at) g = record { piece = g.count; kind = kind; count = g.count + 1 }
 
 abbrev pub segment_after : Segment → ActionTree → Segment

@@ -12,6 +12,7 @@ use crate::segments::Segment;
 use kc_base::{NoMemory, Text};
 use kc_expr::Expr;
 use kc_lex::words::is_stack;
+use kc_obj::pieces::is_register;
 use kc_obj::{SegKind, Taken};
 use kc_source_statement::{Action, Arg, Item, Stmt};
 use std::alloc::Global;
@@ -98,15 +99,6 @@ fn statement_uses(action: &Action) -> bool
     }
 }
 
-fn is_register_kind(kind: SegKind) -> bool
-    ensures { result ≡ spec.is_register_kind kind }
-{
-    match kind {
-        SegKind::Reg => true,
-        _ => false,
-    }
-}
-
 fn push_name(
     taken: &mut Vec<Taken>,
     alloc: Global,
@@ -146,7 +138,7 @@ fn push_declared(
     ensures used { IfOk result (λ u. u ≡ (used || spec.statement_uses_stack (action_tree action.now))) }
 {
     match action {
-        Action::Extrn(names) => push_names(taken, alloc, is_register_kind(kind), names.as_slice())?,
+        Action::Extrn(names) => push_names(taken, alloc, is_register(kind), names.as_slice())?,
         _ => (),
     }
     if statement_uses(action) && !used {

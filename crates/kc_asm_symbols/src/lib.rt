@@ -20,6 +20,3 @@ pub use names::Names;
 pub use places::place_values;
 pub use segments::Segment;
 pub use table::Marks;
-
-#[cfg(test)]
-mod tests;

@@ -6,6 +6,7 @@ ghost use Rattle.kc_asm_symbols.specs.Located as spec;
 
 use kc_expr::{Base, Expr, Tag, Value};
 use kc_obj::SegKind;
+use kc_obj::pieces::number_of;
 use kc_source_statement::Action;
 
 /// The segment in force at a statement: the number and the kind of its piece, and how many pieces there are so far. The
@@ -51,7 +52,7 @@ impl Segment {
     {
         match at {
             None => Segment {
-                piece: piece_of_kind(kind),
+                piece: usize::from(number_of(kind)),
                 kind,
                 count: self.count,
             },
@@ -89,17 +90,6 @@ impl Segment {
         } else {
             Base::Piece(self.piece as u16)
         }
-    }
-}
-
-fn piece_of_kind(kind: SegKind) -> usize
-    ensures { result ≡ spec.piece_of_kind kind }
-{
-    match kind {
-        SegKind::Reg => 0,
-        SegKind::Code => 1,
-        SegKind::Ram => 2,
-        SegKind::Stack => 3,
     }
 }
 

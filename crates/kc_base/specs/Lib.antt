@@ -5,6 +5,7 @@ pub mod Causes
 pub mod Digits
 pub mod Fields
 pub mod Held
+pub mod Levels
 pub mod Memory
 pub mod Pins
 pub mod Series

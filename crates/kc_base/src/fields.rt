@@ -1,10 +1,13 @@
 ghost use Rattle.std.specs.Prelude.{◌≡◌, ◌<◌, ◌≤◌, ◌^◌, ◌+◌, ◌*◌, ◌==◌, not, length, IfSome};
 ghost use Rattle.std.specs.List.{before_first, after_first, take_while};
-ghost use Rattle.kc_base.specs.Fields.{is_space, decimal_of, word_of, byte_of, pin_of};
+ghost use Rattle.kc_base.specs.Fields.{is_space, decimal_of, time_of, word_of, byte_of, pin_of};
 ghost use Rattle.kc_base.specs.Pins.{IsPin};
 
 use crate::text_lines::{after, front};
-use crate::types::{PIN_COUNT, Pin};
+use crate::types::{PIN_COUNT, Pin, StateTime};
+
+/// The greatest state time that a line of a text file may have.
+const TIME_LIMIT: u64 = 1_000_000_000_000_000;
 
 /// A number in decimal digits, at most `most`; `None` for any other text. Zeros may stand in front.
 pub fn decimal(most: u64, text: &[u8]) -> Option<u64>
@@ -23,6 +26,14 @@ pub fn decimal(most: u64, text: &[u8]) -> Option<u64>
         value = (10 * value + u64::from(*digit - b'0')).min(most + 1);
     }
     if value <= most { Some(value) } else { None }
+}
+
+/// A state time: decimal digits, 10^15 at most; `None` for any other text.
+pub fn state_time(text: &[u8]) -> Option<StateTime>
+    ensures value { result ≡ time_of text.now }
+    ensures bounded { IfSome result (λ n. n ≤ 10 ^ 15) }
+{
+    decimal(TIME_LIMIT, text)
 }
 
 // How many characters stand before the first space.

@@ -1,6 +1,7 @@
 //! What every part of the kit speaks of: state times, pins, undefined uses, texts, images, files and sinks.
 #![tactic(auto)]
 
+mod bits;
 mod digits;
 mod edge_out;
 mod fields;
@@ -16,9 +17,10 @@ mod text;
 mod text_lines;
 mod types;
 
+pub use bits::{bit, weight};
 pub use digits::hex_digit;
 pub use edge_out::EdgeOut;
-pub use fields::{decimal, hex_byte, hex_word, pin_number, split_at_space};
+pub use fields::{decimal, hex_byte, hex_word, pin_number, split_at_space, state_time};
 pub use files::{FILE_LIMIT, FileFault, Files};
 pub use host::{HostFiles, HostOut};
 pub use image::{IMAGE_LEN, IMAGE_START, Image};

@@ -1,4 +1,5 @@
 ghost use Rattle.std.specs.Prelude.{◌≡◌, ◌≤◌, length};
+ghost use Rattle.kc_base.specs.Levels.{level_of, is_high as is_high_level};
 ghost use Rattle.kc_base.specs.Pins.{pin_name, IsPin};
 
 use std::alloc::{AllocError, AllocFailed};
@@ -75,6 +76,22 @@ pub enum Level {
     #[default]
     Low,
     High,
+}
+
+impl Level {
+    /// The level of a pin that is high, or is not.
+    pub fn of(high: bool) -> Level
+        ensures { result ≡ level_of high }
+    {
+        if high { Level::High } else { Level::Low }
+    }
+
+    /// Whether it is the high one.
+    pub fn is_high(self) -> bool
+        ensures { result ≡ is_high_level self }
+    {
+        self == Level::High
+    }
 }
 
 /// A pin that takes a level.

@@ -5,8 +5,6 @@
 mod accesses;
 mod block;
 mod lent;
-#[cfg(test)]
-mod tests;
 mod timed;
 
 pub use block::Block;

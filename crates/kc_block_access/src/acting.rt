@@ -11,8 +11,8 @@ ghost use Rattle.kc_block_access.specs.Left.{IsLeft};
 
 use crate::registers::number;
 use crate::steadying::steady_with;
-use crate::values::{bit, state_before};
-use kc_base::{StateTime, Steps};
+use crate::values::state_before;
+use kc_base::{StateTime, Steps, bit};
 use kc_block_lanes::Lanes;
 use kc_block_spec::{Window, WritableByte};
 use kc_extra::Extra;

@@ -9,8 +9,6 @@ mod reading;
 mod registers;
 mod seeing;
 mod steadying;
-#[cfg(test)]
-mod tests;
 mod values;
 mod writing;
 

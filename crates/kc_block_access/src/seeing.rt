@@ -7,9 +7,9 @@ ghost use Rattle.kc_block_spec.specs.Looking.{levels_shown as levels_seen};
 ghost use Rattle.kc_block_lazy.specs.Lanes.{shown_units, IsLazy};
 ghost use Rattle.kc_block_lanes.specs.Standing.{standing};
 
-use crate::values::{hsi_pins, ios1, port0, port1, port2};
+use crate::values::{ios1, port0, port1, port2};
 use kc_base::StateTime;
-use kc_block_inputs::{stimulated, wired_inputs};
+use kc_block_inputs::{hsi_bits, stimulated, wired_inputs};
 use kc_block_lanes::{Lanes, has_overflowed};
 use kc_block_spec::{ReadableByte, ReadableWord, Steady};
 use kc_extra::Extra;
@@ -61,7 +61,7 @@ pub(crate) fn byte_at<X: Extra>(
         ReadableByte::IntPend => (steady.requests.pending % 256) as u8,
         ReadableByte::IntPend1 => (steady.requests.pending / 256) as u8,
         ReadableByte::Wsr => steady.wsr,
-        ReadableByte::HsiStatus => hsi_status(lanes, hsi_pins(steady.levels), now),
+        ReadableByte::HsiStatus => hsi_status(lanes, hsi_bits(steady.levels), now),
         ReadableByte::Port0 => port0(steady.levels),
         ReadableByte::Port1 => port1(steady),
         ReadableByte::Port2 => port2(steady),

@@ -1,38 +1,11 @@
 //! What registers read that hold no unit's data: ports and pins.
 ghost use Rattle.std.specs.Prelude.{◌≡◌, ◌+◌, ◌-◌, ◌%◌, ◌<◌, ◌≤◌, bit_and};
-ghost use Rattle.kc_base.specs.Bits.{bit as bit_of};
-ghost use Rattle.kc_hso.specs.Cam.{weight as weight_of};
-ghost use Rattle.kc_block_spec.specs.Control.{hsi_bits};
+ghost use Rattle.kc_base.specs.Bits.{weight as weight_of};
 ghost use Rattle.kc_block_spec.specs.Reading.{port0_levels, port1_levels, port2_read};
 
-use kc_base::StateTime;
+use kc_base::{StateTime, bit, weight};
 use kc_block_inputs::has_pin;
 use kc_block_spec::Steady;
-
-/// A bit of a register by its weight.
-pub(crate) fn weight(is: bool, value: u8) -> u8
-    ensures { result ≡ weight_of is value }
-{
-    if is { value } else { 0 }
-}
-
-/// Bit n of a register.
-pub(crate) fn bit(value: u8, n: u8) -> bool
-    requires { n < 8 }
-    ensures { result ≡ bit_of value n }
-{
-    (value >> n) % 2 == 1
-}
-
-/// The levels of HSI0 to HSI3 as the low four bits.
-pub(crate) fn hsi_pins(levels: u64) -> u8
-    ensures { result ≡ hsi_bits levels }
-{
-    weight(has_pin(levels, 18), 1)
-        + weight(has_pin(levels, 19), 2)
-        + weight(has_pin(levels, 20), 4)
-        + weight(has_pin(levels, 21), 8)
-}
 
 /// IOS1: its bits 0 to 4, Timer 1's overflow, and the bits of HSI.
 pub(crate) fn ios1(low: u8, overflowed: bool, flags: u8) -> u8

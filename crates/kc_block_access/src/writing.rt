@@ -18,24 +18,17 @@ use crate::acting::{
 };
 use crate::registers::{is_half_written, number, writable_byte, writable_word};
 use crate::steadying::steady_with;
-use crate::values::bit;
-use kc_base::{Kind, StateTime, Steps};
+use kc_base::{Kind, StateTime, Steps, bit};
 use kc_block_lanes::Lanes;
 use kc_block_spec::{Window, WritableByte, WritableWord};
+use kc_bus::is_known;
 use kc_extra::Extra;
 use std::sync::ledger::Ledger;
-
-/// Whether a value of WSR is in the profile: 0, 1, 15, 40H to 4FH, 20H to 27H, 10H to 13H.
-fn is_wsr(value: u8) -> bool
-    ensures { result ≡ in_profile value }
-{
-    matches!(value, 0 | 1 | 15 | 0x40..=0x4F | 0x20..=0x27 | 0x10..=0x13)
-}
 
 fn wsr_refusal(value: u8) -> Option<Kind>
     ensures { result ≡ (if in_profile value then None else Some Kind.BadWindow) }
 {
-    if is_wsr(value) {
+    if is_known(value) {
         None
     } else {
         Some(Kind::BadWindow)

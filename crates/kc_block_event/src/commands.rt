@@ -1,7 +1,8 @@
 // What a fired command of HSO does outside its latches.
-ghost use Rattle.std.specs.Prelude.{◌≡◌, ◌<◌};
-ghost use Rattle.kc_base.specs.Bits.{bit as bit_of};
+ghost use Rattle.std.specs.Prelude.{◌≡◌};
 ghost use Rattle.kc_block_spec.specs.Fired.{resets as is_reset, starts as is_start, fired_ios1, fired_ios2, fired_request};
+
+use kc_base::bit;
 
 /// Whether it resets Timer 2.
 pub(crate) fn resets(fired: Option<u8>) -> bool
@@ -59,13 +60,6 @@ pub(crate) fn ios2_bits(fired: Option<u8>) -> u8
         },
         None => 0,
     }
-}
-
-fn bit(value: u8, n: u8) -> bool
-    requires { n < 8 }
-    ensures { result ≡ bit_of value n }
-{
-    (value >> n) % 2 == 1
 }
 
 /// The request that it raises, if its bit 4 is 1.

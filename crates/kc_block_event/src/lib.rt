@@ -12,6 +12,3 @@ mod units;
 
 pub use advancing::advance;
 pub use passing::pass;
-
-#[cfg(test)]
-mod tests;

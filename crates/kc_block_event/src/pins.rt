@@ -1,10 +1,11 @@
 // Which edges reach Timer 2 and HSI.
 ghost use Rattle.std.specs.Prelude.{◌≡◌, ◌<◌};
-ghost use Rattle.kc_block_spec.specs.Control.{timer2_inputs as inputs_of, hsi_bits as hsi_bits_of, hsi_enabled as hsi_enabled_by};
+ghost use Rattle.kc_block_spec.specs.Control.{timer2_inputs as inputs_of, hsi_enabled as hsi_enabled_by};
 ghost use Rattle.kc_block_lazy.specs.Events.{has_timer2_edge as timer2_edge_in, has_hsi_edge as hsi_edge_in};
 
 use crate::commands::resets;
-use kc_block_inputs::has_pin;
+use kc_base::weight;
+use kc_block_inputs::{has_pin, hsi_bits};
 use kc_block_spec::Steady;
 use kc_hsi::PinEdges;
 use kc_timers::{T2Control, T2Inputs};
@@ -48,24 +49,6 @@ pub(crate) fn timer2_inputs(control: T2Control, inputs: Inputs, fired: Option<u8
         reset: control.reset_on && has_pin(inputs.rise, reset) || resets(fired),
         capture: has_pin(inputs.rise, 27),
     }
-}
-
-fn weight(is: bool, value: u8) -> u8
-    ensures { result ≡ weight_of is value }
-{
-    if is { value } else { 0 }
-}
-
-ghost use Rattle.kc_hso.specs.Cam.{weight as weight_of};
-
-/// HSI0 to HSI3 as the low four bits.
-fn hsi_bits(pins: u64) -> u8
-    ensures { result ≡ hsi_bits_of pins }
-{
-    weight(has_pin(pins, 18), 1)
-        + weight(has_pin(pins, 19), 2)
-        + weight(has_pin(pins, 20), 4)
-        + weight(has_pin(pins, 21), 8)
 }
 
 /// The pins of HSI that IOC0 enables.

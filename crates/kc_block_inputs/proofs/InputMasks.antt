@@ -6,13 +6,14 @@ use Rattle.std.proofs.Common.{w64}
 use Rattle.std.proofs.lemmas.Nat.Bits.{bit_at_or, bit_at_and, bit_at_not, same_from_bits}
 use Rattle.std.proofs.lemmas.Bool.{false≢true, and_left, and_right, or_from, cases_lt, false_from_ne_true, lt-leb, lt-ltb, le-ltb}
 use lib.Bits.{or_zero_r}
+use Rattle.kc_base.specs.Bits.{weight}
+use Rattle.kc_base.specs.Levels.{is_high}
 use Rattle.kc_base.specs.Pins.{pin_count}
 use Rattle.kc_stim.specs.Drives.{Drives, level_before, wire_to}
 use Rattle.kc_stim.specs.Fields.{is_input, is_wire_input}
 use Rattle.kc_stim.specs.Proper.{AreProper, is_driven}
 use Rattle.kc_stim.proofs.Proper.{wires_lead_from_outputs}
-use Rattle.kc_hso.specs.Cam.{weight}
-use Rattle.kc_block_spec.specs.Levels.{mask_of, is_high, follows, stimulated_before, wired}
+use Rattle.kc_block_spec.specs.Levels.{mask_of, follows, stimulated_before, wired}
 use Rattle.kc_block_spec.specs.Looking.{wired_inputs}
 use Rattle.kc_block_spec.proofs.Masks.{mask_bit, mask_same}
 

@@ -1,13 +1,13 @@
 -- The levels of the inputs before state 0.
 use Rattle.std.proofs.Common.{◌≡◌, ℕ, ◌<◌, ◌==◌, Bool, true, false, ◌&&◌, refl, ◌∙◌, ap, arith, Option, []}
 use Rattle.std.specs.Prelude.{is_none}
-use Rattle.kc_base.specs.Bits.{bit}
+use Rattle.kc_base.specs.Bits.{bit, weight}
+use Rattle.kc_base.specs.Levels.{is_high}
 use Rattle.kc_base.specs.Pins.{pin_count}
 use Rattle.kc_stim.specs.Drives.{Drives, start_of}
 use Rattle.kc_stim.specs.Fields.{is_input, is_wire_input}
 use Rattle.kc_stim.specs.Proper.{AreProper, is_driven}
-use Rattle.kc_hso.specs.Cam.{weight}
-use Rattle.kc_block_spec.specs.Levels.{is_high, stimulated_before}
+use Rattle.kc_block_spec.specs.Levels.{stimulated_before}
 use Rattle.kc_block_spec.proofs.Masks.{mask_bit}
 use Rattle.kc_block_inputs.proofs.InputMasks.{no_wire}
 

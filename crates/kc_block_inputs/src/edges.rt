@@ -2,7 +2,7 @@
 ghost use Rattle.std.specs.Prelude.{◌≡◌, ℕ, ◌<◌, List, ◌++◌, All};
 ghost use Rattle.kc_base.specs.Pins.{IsPin};
 ghost use Rattle.kc_base.specs.declared.types.Edge.{Edge as AnEdge};
-ghost use Rattle.kc_block_spec.specs.Levels.{level_of as level_when, edge_at, edges_between};
+ghost use Rattle.kc_block_spec.specs.Levels.{edge_at, edges_between};
 ghost use Rattle.kc_block_spec.specs.Touch.{in_state};
 ghost use Rattle.kc_block_spec.specs.Leading.{Leads};
 
@@ -17,19 +17,13 @@ pub fn edges_lead_on<O: EdgeOut>()
     ensures { (o q p : O) (xs ys : List (ℕ × AnEdge)) → Leads O.led o xs q → Leads O.led q ys p → Leads O.led o (xs ++ ys) p }
 {}
 
-fn level_of(high: bool) -> Level
-    ensures { result ≡ level_when high }
-{
-    if high { Level::High } else { Level::Low }
-}
-
 // Hands out the edge of a pin, if it has one.
 fn lead_edge<O: EdgeOut>(old: u64, new: u64, pin: u8, at: StateTime, out: &mut O)
     requires { pin < 18 }
     ensures { Leads O.led out.old (in_state at (edge_at old new pin)) out.new }
 {
     if has_pin(old ^ new, pin) {
-        let level = level_of(has_pin(new, pin));
+        let level = Level::of(has_pin(new, pin));
         out.edge(
             at,
             Edge {

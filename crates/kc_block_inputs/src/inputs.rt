@@ -1,12 +1,13 @@
 // The levels of the inputs, from stimuli and from wires.
 ghost use Rattle.std.specs.Prelude.{◌≡◌, ℕ, ◌<◌, ◌&&◌, bit_or, is_some};
+ghost use Rattle.kc_base.specs.Levels.{is_high};
 ghost use Rattle.kc_stim.specs.Drives.{level_at, start_of, wire_to};
 ghost use Rattle.kc_stim.specs.Proper.{AreProper, is_driven as driven};
-ghost use Rattle.kc_block_spec.specs.Levels.{is_high, follows as follows_output, stimulated as stimulated_at, stimulated_before, wired as wired_from};
+ghost use Rattle.kc_block_spec.specs.Levels.{follows as follows_output, stimulated as stimulated_at, stimulated_before, wired as wired_from};
 ghost use Rattle.kc_block_spec.specs.Looking.{wired_inputs as inputs_with_wires};
 
 use crate::masks::with_pin;
-use kc_base::{Level, PIN_COUNT, Pin, StateTime};
+use kc_base::{PIN_COUNT, Pin, StateTime, bit};
 use kc_stim::{Stimuli, is_input};
 
 /// The first input that may be wired, HSI0, and the one after the last, EXTINT.
@@ -24,7 +25,7 @@ fn is_driven(stimuli: &Stimuli, pin: u8) -> bool
 fn is_stimulated(stimuli: &Stimuli, pin: u8, at: StateTime) -> bool
     ensures { result ≡ (driven stimuli.now pin && is_high (level_at stimuli.now.stimuli pin at)) }
 {
-    is_driven(stimuli, pin) && stimuli.level(Pin(pin), at) == Level::High
+    is_driven(stimuli, pin) && stimuli.level(Pin(pin), at).is_high()
 }
 
 /// The inputs without a wire that are high in state `at`.
@@ -41,7 +42,7 @@ pub fn stimulated(stimuli: &Stimuli, at: StateTime) -> u64
 fn starts_driven_high(stimuli: &Stimuli, pin: u8) -> bool
     ensures { result ≡ (driven stimuli.now pin && is_high (start_of stimuli.now.stimuli.start pin)) }
 {
-    is_driven(stimuli, pin) && stimuli.start(Pin(pin)) == Level::High
+    is_driven(stimuli, pin) && stimuli.start(Pin(pin)).is_high()
 }
 
 /// The inputs without a wire that are high before state 0.
@@ -60,7 +61,7 @@ fn follows(stimuli: &Stimuli, pin: u8, outputs: u8) -> bool
     ensures { result ≡ follows_output (wire_to stimuli.now.wires pin) outputs }
 {
     match stimuli.wire(Pin(pin)) {
-        Some(output) => (outputs >> output) % 2 == 1,
+        Some(output) => bit(outputs, output),
         None => false,
     }
 }

@@ -1,6 +1,7 @@
 // The levels of the outputs.
 ghost use Rattle.std.specs.Prelude.{◌≡◌, ◌<◌, ◌^◌};
-ghost use Rattle.kc_hso.specs.Cam.{latch_bits as latch_bits_of, weight as weight_of};
+ghost use Rattle.kc_base.specs.Bits.{weight as weight_of};
+ghost use Rattle.kc_hso.specs.Cam.{latch_bits as latch_bits_of};
 ghost use Rattle.kc_block_spec.specs.Levels.{outputs as outputs_of, printed as printed_of};
 
 use crate::masks::has_pin;

@@ -11,4 +11,4 @@ pub use edges::{edges_lead_on, lead_all, lead_edges};
 pub use inputs::{start_levels, stimulated, unwired, wired, wired_inputs};
 pub use latches::{outputs, printed};
 pub use laws::rxd_starts_high;
-pub use masks::has_pin;
+pub use masks::{has_pin, hsi_bits};

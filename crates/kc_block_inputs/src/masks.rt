@@ -1,7 +1,9 @@
 // Masks of pins.
 ghost use Rattle.std.specs.Prelude.{◌≡◌, ◌<◌, ◌^◌, bit_or};
-ghost use Rattle.kc_base.specs.Bits.{bit};
-ghost use Rattle.kc_hso.specs.Cam.{weight};
+ghost use Rattle.kc_base.specs.Bits.{bit, weight};
+ghost use Rattle.kc_block_spec.specs.Control.{hsi_bits as hsi_bits_of};
+
+use kc_base::weight;
 
 /// Whether a mask has a pin.
 pub fn has_pin(mask: u64, pin: u8) -> bool
@@ -9,6 +11,16 @@ pub fn has_pin(mask: u64, pin: u8) -> bool
     ensures { result ≡ bit mask pin }
 {
     (mask >> pin) % 2 == 1
+}
+
+/// The levels of HSI0 to HSI3, or their edges, as the low four bits.
+pub fn hsi_bits(pins: u64) -> u8
+    ensures { result ≡ hsi_bits_of pins }
+{
+    weight(has_pin(pins, 18), 1)
+        + weight(has_pin(pins, 19), 2)
+        + weight(has_pin(pins, 20), 4)
+        + weight(has_pin(pins, 21), 8)
 }
 
 /// A mask with a pin where it is high.

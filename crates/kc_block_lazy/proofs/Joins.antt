@@ -3,6 +3,7 @@ use Rattle.std.proofs.Common.{◌≡◌, ℕ, ◌+◌, ◌<◌, ◌≤◌, ◌==
 use Rattle.std.specs.Prelude.{if◌then◌else◌}
 use Rattle.std.proofs.lemmas.Bool.{or_parts, eqb-true, not-false, false≢true}
 use Rattle.kc_span.specs.Span.{Rule}
+use Rattle.kc_base.specs.Levels.{is_high}
 use Rattle.kc_base.specs.Pins.{pin_count}
 use Rattle.kc_stim.specs.Drives.{Drives, level_before}
 use Rattle.kc_stim.specs.Proper.{is_driven}
@@ -12,10 +13,11 @@ use Rattle.kc_timers.specs.T2 as t2
 use Rattle.kc_hso.specs.Cam.{cam_rule}
 use Rattle.kc_hsi.specs.Input.{hsi_rule}
 use Rattle.kc_extra.specs.Further.{Further}
+use Rattle.kc_extra.specs.Two.{either_holds}
 use Rattle.kc_due.specs.Due.{Times, at_slot}
 use Rattle.kc_block_lane.specs.Lane.{Lane, shown}
 use Rattle.kc_block_lane.proofs.Lanes.{asked, asked_shows}
-use Rattle.kc_block_spec.specs.Levels.{is_high, stimulated, stimulated_before, wired, outputs, levels_at}
+use Rattle.kc_block_spec.specs.Levels.{stimulated, stimulated_before, wired, outputs, levels_at}
 use Rattle.kc_block_spec.specs.Fired.{starts}
 use Rattle.kc_block_spec.specs.Control.{control_of}
 use Rattle.kc_block_spec.specs.Tick.{edges_at, fired_at, control_at, timer2_inputs_at, tick}
@@ -67,10 +69,6 @@ kept_either : {D : Type 0} (P : D → Type 0) (touched : Bool) (now : ℕ) (d : 
 kept_either P true now d lane new old = new refl
 kept_either P false now d lane new old = old refl
 
-started_either : {X : Type 0} (P : X → Type 0) (b : Bool) (x y : X) → P x → P y → P (if b then x else y)
-started_either P true x y p q = p
-started_either P false x y p q = q
-
 before_next : (drives : Drives) (now : ℕ) → stimulated drives now ≡ stimulated_before drives (now + 1)
 before_next drives now = mask_same _ _ pin_count (λ pin lt.
     ap (λ l. is_driven drives pin && is_high l) (sym (before-suc drives.stimuli pin now) ∙ ap (λ t. level_before drives.stimuli pin t) (sym (add-one now))))
@@ -104,7 +102,7 @@ module _ {X : Type 0} (f : Further X) (agrees : ℕ → ℕ → X → Type 0) (k
       let edges = edges_at now (shown_units f h now) in
       let d = (shown_units f h now).further in
       let stepped : agrees m (bit_xor levels m) (f.step now levels edges d) = keeps.keeps now levels edges m d (further_agrees f agrees keeps h now is) in
-      started_either (agrees m (bit_xor levels m)) (starts (fired_at now (shown_units f h now))) (f.started now (f.step now levels edges d)) (f.step now levels edges d)
+      either_holds (agrees m (bit_xor levels m)) (starts (fired_at now (shown_units f h now))) (f.started now (f.step now levels edges d)) (f.step now levels edges d)
       (keeps.start_keeps now m (bit_xor levels m) (f.step now levels edges d) stepped) stepped
 
   agreed_before : further_touched f now (shown_units f h now) ≡ false → (m : ℕ) → agrees m (bit_xor (ticked f h now).steady.levels m) h.further.kept

@@ -4,6 +4,8 @@ use Rattle.std.specs.Prelude.{nat_le, is_none, bit_or}
 use Rattle.std.specs.Int.{bit_at}
 use Rattle.std.proofs.lemmas.Nat.Bits.{bit_at_or}
 use Rattle.std.proofs.lemmas.Bool.{ne_eqb, false≢true, and_parts, or_cases, cases_Bool, leb-true, eqb-true}
+use Rattle.kc_base.specs.Bits.{weight}
+use Rattle.kc_base.specs.Levels.{is_high}
 use Rattle.kc_stim.specs.Drives.{Drives, Stimulation, level_at, level_before, wire_to, IsStill, IsNextEdge}
 use Rattle.kc_stim.specs.Proper.{is_driven, AreProper}
 use Rattle.kc_stim.specs.Fields.{is_input}
@@ -11,8 +13,7 @@ use Rattle.kc_stim.proofs.Proper.{edges_are_of_driven_inputs}
 use Rattle.kc_base.specs.Pins.{pin_count}
 use Rattle.kc_base.specs.declared.types.Level.{Level}
 use Rattle.kc_base.specs.declared.types.Level.TheVariants.{Low, High}
-use Rattle.kc_hso.specs.Cam.{weight}
-use Rattle.kc_block_spec.specs.Levels.{mask_of, is_high, follows, stimulated, stimulated_before, wired}
+use Rattle.kc_block_spec.specs.Levels.{mask_of, follows, stimulated, stimulated_before, wired}
 use Rattle.kc_block_spec.proofs.Masks.{mask_same, mask_bit}
 
 -- the states of a span without an edge by stimuli

@@ -2,6 +2,7 @@
 use Rattle.std.proofs.Common.{◌≡◌, ℕ, zero, suc, ◌+◌, ◌-◌, ◌<◌, ◌≤◌, ◌==◌, Bool, true, false, not, refl, sym, ◌∙◌, ap, arith, Option, Some, [], ◌++◌, subst, inl, inr, bit_or, bit_xor, add-zero, zero-add}
 use Rattle.std.proofs.lemmas.Bool.{cases_Bool, eqb-true, false≢true, cases_eq, eq-eqb}
 use lib.Bits.{xor_self}
+use Rattle.kc_base.specs.Levels.{is_high}
 use Rattle.kc_span.specs.Span.{Rule, after}
 use Rattle.kc_span.proofs.SpanLaws.{after-zero, after-suc}
 use Rattle.kc_stim.specs.Drives.{Drives, level_at, level_before, IsNextEdge}
@@ -19,7 +20,7 @@ use Rattle.kc_block_lane.proofs.Lanes.{next, calm, event, waits}
 use Rattle.kc_span.proofs.SpanLaws.{quiet_until}
 use Rattle.kc_block_spec.specs.declared.steady.Steady.{Steady}
 use Rattle.kc_block_spec.specs.Units.{Units}
-use Rattle.kc_block_spec.specs.Levels.{levels_at, is_high, stimulated, stimulated_before, wired, outputs}
+use Rattle.kc_block_spec.specs.Levels.{levels_at, stimulated, stimulated_before, wired, outputs}
 use Rattle.kc_block_spec.specs.Tick.{tick}
 use Rattle.kc_block_spec.specs.Touch.{in_state, worked, touched, block_rule, touch, edges_of}
 use Rattle.kc_block_spec.specs.Laws.{rested, IsCalm}

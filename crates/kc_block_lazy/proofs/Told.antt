@@ -5,8 +5,6 @@ use Rattle.std.proofs.lemmas.Bool.{or_parts, and_parts, eqb-true, not-false, fal
 use lib.Bits.{or_zero_r, xor_self}
 use Rattle.kc_base.specs.Bits.{bit}
 use Rattle.kc_span.specs.Span.{Rule}
-use Rattle.kc_timers.specs.declared.T2Control.{T2Control}
-use Rattle.kc_timers.specs.declared.T2Inputs.{T2Inputs}
 use Rattle.kc_timers.specs.T2 as t2
 use Rattle.kc_hso.specs.declared.cam.Entry.{Entry}
 use Rattle.kc_hso.specs.Cam as cam
@@ -18,32 +16,18 @@ use Rattle.kc_extra.specs.declared.outcome.ExtraOut.{ExtraOut}
 use Rattle.kc_due.specs.Due.{at_slot}
 use Rattle.kc_block_lane.specs.Lane.{Lane, shown, is_due_in, IsLane}
 use Rattle.kc_block_lane.proofs.Lanes.{event}
-use Rattle.kc_block_spec.specs.declared.steady.Steady.{Steady}
 use Rattle.kc_block_spec.specs.Units.{Units}
 use Rattle.kc_block_spec.specs.Levels.{levels_at, printed, edges_between}
 use Rattle.kc_block_spec.specs.Fired.{resets, starts}
-use Rattle.kc_block_spec.specs.Control.{control_of, timer2_inputs, hsi_bits, hsi_enabled}
+use Rattle.kc_block_spec.specs.Control.{control_of, hsi_bits, hsi_enabled}
 use Rattle.kc_block_spec.specs.Tick.{edges_at, rises_at, fired_at, control_at, timer2_inputs_at, timer2_out_at, hsi_edges_at, further_out_at}
 use Rattle.kc_block_spec.specs.Touch.{hso_works, hsi_works, further_works, timer2_touched, hso_touched}
-use Rattle.kc_block_spec.proofs.Quiet.{same_masks, either_off, edges_none}
-use Rattle.kc_block_spec.proofs.Rows.{same_bit, no_bit}
+use Rattle.kc_block_spec.proofs.Quiet.{same_masks, edges_none}
+use Rattle.kc_block_spec.proofs.Rests.{latches_stay}
+use Rattle.kc_block_spec.proofs.Rows.{same_bit, no_bit, inputs_off, same_control, bits_off}
 use Rattle.kc_block_lazy.specs.Lanes.{flag_goes, timer2_goes, hso_goes, further_goes, shown_units, IsFurther}
 use Rattle.kc_block_lazy.specs.Events.{has_timer2_edge, has_hsi_edge, TouchesAreTold, UntouchedAreSilent, FurtherAgrees}
 use Rattle.kc_block_lazy.proofs.Spans.{agrees_after}
-
-no_inputs : (control : T2Control) (edges rise : ℕ) (fired : Option ℕ) → bit edges 19 ≡ false → bit edges 22 ≡ false → bit rise 18 ≡ false → bit rise 23 ≡ false →
-    bit rise 27 ≡ false → resets fired ≡ false → timer2_inputs control edges rise fired ≡ t2.no_inputs
-no_inputs control edges rise fired a b c d e r = rw (a, b, c, d, e, r, either_off control.hsi1, either_off control.reset_hsi0) (by control.reset_on)
-  where
-    by : (on : Bool) → ◌≡◌ {A = T2Inputs} (record { clock = false; reset = (on && false) || false; capture = false }) t2.no_inputs
-    by true = refl
-    by false = refl
-
-no_pins : (pins : ℕ) → bit pins 18 ≡ false → bit pins 19 ≡ false → bit pins 20 ≡ false → bit pins 21 ≡ false → hsi_bits pins ≡ 0
-no_pins pins a b c d = rw (a, b, c, d) refl
-
-same_control : (s : Steady) (a b : ℕ) → bit a 26 ≡ bit b 26 → control_of s a ≡ control_of s b
-same_control s a b same = rw same refl
 
 -- without an edge, and without a reset, Timer 2 overflows as it does by itself
 module _ {X : Type 0} (t : ℕ) (u : Units X) where
@@ -59,7 +43,7 @@ module _ {X : Type 0} (t : ℕ) (u : Units X) where
       let control : control_at t u ≡ control_of u.steady u.steady.levels =
       same_control u.steady (levels_at t u) u.steady.levels (same_bit (levels_at t u) u.steady.levels 26 ups.0) in
       let inputs : timer2_inputs_at t u ≡ t2.no_inputs =
-      no_inputs (control_at t u) e (rises_at t u) (fired_at t u) hsis.1 clocks.0
+      inputs_off (control_at t u) e (rises_at t u) (fired_at t u) hsis.1 clocks.0
       (no_bit e (levels_at t u) 18 hsis.0) (no_bit e (levels_at t u) 23 clocks.1) (no_bit e (levels_at t u) 27 ups.1) no_reset in
       ap (λ i. t2.overflows (control_at t u) i t u.timer2) inputs ∙ ap (λ c. t2.overflows c t2.no_inputs t u.timer2) control
 
@@ -70,7 +54,7 @@ module _ {X : Type 0} (t : ℕ) (u : Units X) where
       let low = or_parts (bit e 18) (bit e 19) pins.0 in
       let high = or_parts (bit e 20) (bit e 21) pins.1 in
       let masks : (m : ℕ) → hsi_bits (bit_and e m) ≡ 0 =
-      λ m. no_pins (bit_and e m) (no_bit e m 18 low.0) (no_bit e m 19 low.1) (no_bit e m 20 high.0) (no_bit e m 21 high.1) in
+      λ m. bits_off (bit_and e m) (no_bit e m 18 low.0) (no_bit e m 19 low.1) (no_bit e m 20 high.0) (no_bit e m 21 high.1) in
       let edges : hsi_edges_at t u ≡ no_edges_with (hsi_enabled u.steady.ioc0) =
       λ i. record { rising = masks (levels_at t u) i; falling = masks u.steady.levels i; enabled = hsi_enabled u.steady.ioc0 } in
       ap (λ x. hsi.is_push t (hsi.gathered_with x u.hsi)) edges
@@ -171,10 +155,6 @@ silent_is o silent =
     none : {T : Type 0} (xs : List T) → is_empty xs ≡ true → xs ≡ []
     none [] e = refl
     none (x ∷ xs) e = absurd (false≢true e)
-
-latches_stay : (o : Option Entry) (t v : ℕ) (latches : List Bool) → cam.fires o t v ≡ false → cam.latches_after o t v latches ≡ latches
-latches_stay None t v latches quiet = refl
-latches_stay (Some entry) t v latches quiet = rw quiet refl
 
 pub untouched_are_silent : {X : Type 0} → UntouchedAreSilent X
 untouched_are_silent f now u =

@@ -1,9 +1,10 @@
 -- How many edges a change gives, and how many units a Tick touches.
 use Rattle.std.proofs.Common.{◌≡◌, ℕ, zero, suc, ◌+◌, ◌≤◌, Bool, true, false, [], ◌∷◌, ◌++◌, length, length-append, arith, bit_xor}
 use Rattle.std.specs.Prelude.{if◌then◌else◌}
+use Rattle.kc_base.specs.Levels.{level_of}
 use Rattle.kc_base.specs.declared.types.Edge.{Edge}
 use Rattle.kc_base.specs.Bits.{bit}
-use Rattle.kc_block_spec.specs.Levels.{level_of, edge_at, edges_below}
+use Rattle.kc_block_spec.specs.Levels.{edge_at, edges_below}
 use Rattle.kc_block_spec.specs.Touch.{one_if, timer2_touched, hso_touched, hsi_touched, further_touched, touched}
 use Rattle.kc_block_spec.specs.Laws.{EighteenEdges, FourTouched}
 

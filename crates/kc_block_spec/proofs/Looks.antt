@@ -7,17 +7,17 @@ use Rattle.std.proofs.lemmas.Nat.Bits.{bit_at_and, bit_at_or, same_from_bits_bel
 use lib.Bits.{or_lt, and_lt}
 use lib.Pow.{pow_pos}
 use Rattle.std.proofs.Math.Nat.{pow-suc}
-use Rattle.kc_base.specs.Bits.{bit}
+use Rattle.kc_base.specs.Bits.{bit, weight}
+use Rattle.kc_base.specs.Levels.{is_high}
 use Rattle.kc_base.specs.Pins.{pin_count}
 use Rattle.kc_base.specs.declared.types.Kind.{Kind}
 use Rattle.kc_base.specs.declared.types.Kind.TheVariants.{NoRegister, ByteAccess}
 use Rattle.kc_stim.specs.Drives.{wire_to, level_before}
 use Rattle.kc_stim.specs.Proper.{is_driven}
 use Rattle.kc_stim.specs.Fields.{is_input}
-use Rattle.kc_hso.specs.Cam.{weight}
 use Rattle.kc_block_spec.specs.declared.registers.ReadableByte.{ReadableByte}
 use Rattle.kc_block_spec.specs.declared.registers.ReadableWord.{ReadableWord}
-use Rattle.kc_block_spec.specs.Levels.{mask_of, is_high, follows, stimulated, stimulated_before}
+use Rattle.kc_block_spec.specs.Levels.{mask_of, follows, stimulated, stimulated_before}
 use Rattle.kc_block_spec.specs.Registers.{window_number, bytes_read, words_read, row_at}
 use Rattle.kc_block_spec.specs.Reading.{byte_value, word_value}
 use Rattle.kc_block_spec.specs.Accesses.{or_no_register, byte_read_as, word_read_as}

@@ -3,7 +3,7 @@ use Rattle.std.proofs.Common.{◌≡◌, ◌≢◌, ℕ, zero, suc, ◌^◌, ◌
 use Rattle.std.specs.Int.{bit_at}
 use Rattle.std.proofs.lemmas.Nat.Bits.{bit_at-zero, bit_at_or, bit_at-pow_same, bit_at-pow_other}
 use Rattle.std.proofs.lemmas.Bool.{cases_eq}
-use Rattle.kc_hso.specs.Cam.{weight}
+use Rattle.kc_base.specs.Bits.{weight}
 use Rattle.kc_block_spec.specs.Levels.{mask_of}
 
 weight_here : (b : Bool) (n : ℕ) → bit_at (weight b (2 ^ n)) n ≡ weight b 1

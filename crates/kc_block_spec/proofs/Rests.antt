@@ -30,7 +30,7 @@ no_command : (o : Option Entry) (t v : ℕ) → cam.fires o t v ≡ false → ca
 no_command None t v quiet = refl
 no_command (Some entry) t v quiet = rw quiet refl
 
-latches_stay : (o : Option Entry) (t v : ℕ) (latches : List Bool) → cam.fires o t v ≡ false → cam.latches_after o t v latches ≡ latches
+pub latches_stay : (o : Option Entry) (t v : ℕ) (latches : List Bool) → cam.fires o t v ≡ false → cam.latches_after o t v latches ≡ latches
 latches_stay None t v latches quiet = refl
 latches_stay (Some entry) t v latches quiet = rw quiet refl
 

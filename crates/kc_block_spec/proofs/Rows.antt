@@ -43,7 +43,7 @@ no_bit a b n off =
     let not_one : bit_at a n ≡ 1 → ⊥ = eqb-false (bit_at a n) 1 off in
     ne_eqb (bit_at (bit_and a b) n) 1 (λ e. omega arith)
 
-inputs_off : (control : T2Control) (edges rise : ℕ) (fired : Option ℕ) → bit edges 19 ≡ false → bit edges 22 ≡ false → bit rise 18 ≡ false → bit rise 23 ≡ false →
+pub inputs_off : (control : T2Control) (edges rise : ℕ) (fired : Option ℕ) → bit edges 19 ≡ false → bit edges 22 ≡ false → bit rise 18 ≡ false → bit rise 23 ≡ false →
     bit rise 27 ≡ false → resets fired ≡ false → timer2_inputs control edges rise fired ≡ t2.no_inputs
 inputs_off control edges rise fired a b c d e r = rw (a, b, c, d, e, r, either_off control.hsi1, either_off control.reset_hsi0) (by control.reset_on)
   where
@@ -51,10 +51,10 @@ inputs_off control edges rise fired a b c d e r = rw (a, b, c, d, e, r, either_o
     by true = refl
     by false = refl
 
-same_control : (s : Steady) (a b : ℕ) → bit a 26 ≡ bit b 26 → control_of s a ≡ control_of s b
+pub same_control : (s : Steady) (a b : ℕ) → bit a 26 ≡ bit b 26 → control_of s a ≡ control_of s b
 same_control s a b same = rw same refl
 
-bits_off : (pins : ℕ) → bit pins 18 ≡ false → bit pins 19 ≡ false → bit pins 20 ≡ false → bit pins 21 ≡ false → hsi_bits pins ≡ 0
+pub bits_off : (pins : ℕ) → bit pins 18 ≡ false → bit pins 19 ≡ false → bit pins 20 ≡ false → bit pins 21 ≡ false → hsi_bits pins ≡ 0
 bits_off pins a b c d = rw (a, b, c, d) refl
 
 module _ {X : Type 0} (f : Further X) (t : ℕ) (u : Units X) where

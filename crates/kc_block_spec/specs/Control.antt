@@ -1,9 +1,8 @@
 -- How the registers choose what reaches Timer 2 and HSI (80C196KC User's Manual, "Timer 2", "High-Speed Input").
 use Rattle.std.specs.Prelude.{ℕ, ◌+◌, ◌&&◌, ◌||◌, if◌then◌else◌, Option}
-use Rattle.kc_base.specs.Bits.{bit}
+use Rattle.kc_base.specs.Bits.{bit, weight}
 use Rattle.kc_timers.specs.declared.T2Control.{T2Control}
 use Rattle.kc_timers.specs.declared.T2Inputs.{T2Inputs}
-use Rattle.kc_hso.specs.Cam.{weight}
 use Rattle.kc_hsi.specs.declared.pins.PinEdges.{PinEdges}
 use Rattle.kc_block_spec.specs.declared.steady.Steady.{Steady}
 use Rattle.kc_block_spec.specs.Fired.{resets}

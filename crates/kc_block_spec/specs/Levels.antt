@@ -1,14 +1,13 @@
 -- The levels of pins as masks, bit n pin n (80C196KC User's Manual, "Pin Descriptions", "I/O Ports"; that a wired input
 -- takes the level that its output had as the state begins is this kit's own).
-use Rattle.std.specs.Prelude.{ℕ, zero, suc, ◌+◌, ◌*◌, ◌^◌, Bool, true, false, ◌&&◌, if◌then◌else◌, Option, Some, None, List, [], ◌∷◌, ◌++◌, bit_and, bit_or, bit_xor}
-use Rattle.kc_base.specs.Bits.{bit}
+use Rattle.std.specs.Prelude.{ℕ, zero, suc, ◌+◌, ◌*◌, ◌^◌, Bool, false, ◌&&◌, if◌then◌else◌, Option, Some, None, List, [], ◌∷◌, ◌++◌, bit_and, bit_or, bit_xor}
+use Rattle.kc_base.specs.Bits.{bit, weight}
+use Rattle.kc_base.specs.Levels.{level_of, is_high}
 use Rattle.kc_base.specs.Pins.{pin_count}
 use Rattle.kc_base.specs.declared.types.Edge.{Edge}
-use Rattle.kc_base.specs.declared.types.Level.{Level}
-use Rattle.kc_base.specs.declared.types.Level.TheVariants.{Low, High}
 use Rattle.kc_stim.specs.Drives.{Drives, level_at, level_before, wire_to}
 use Rattle.kc_stim.specs.Proper.{is_driven}
-use Rattle.kc_hso.specs.Cam.{Cam, latch_bits, weight}
+use Rattle.kc_hso.specs.Cam.{Cam, latch_bits}
 use Rattle.kc_block_spec.specs.declared.steady.Steady.{Steady}
 use Rattle.kc_block_spec.specs.Units.{Units}
 
@@ -27,10 +26,6 @@ printed steady cam =
     outputs steady cam + 64 * steady.port1
     + weight (bit steady.port2 0) 0x4000 + weight (bit steady.port2 5) 0x8000
     + weight (bit steady.port2 6) 0x10000 + weight (bit steady.port2 7) 0x20000
-
-abbrev pub is_high : Level → Bool
-is_high Low = false
-is_high High = true
 
 -- the inputs without a wire that are high in a state
 abbrev pub stimulated : Drives → ℕ → ℕ
@@ -51,9 +46,6 @@ wired drives outs = mask_of (λ pin. follows (wire_to drives.wires pin) outs) pi
 -- the levels of the inputs in state t, from the outputs as it begins
 abbrev pub levels_at : {X : Type 0} → ℕ → Units X → ℕ
 levels_at t u = bit_or (stimulated u.drives t) (wired u.drives (outputs u.steady u.hso))
-
-abbrev pub level_of : Bool → Level
-level_of high = if high then High else Low
 
 abbrev pub edge_at : ℕ → ℕ → ℕ → List Edge
 edge_at old new n = if bit (bit_xor old new) n then record { pin = record { 0 = n }; level = level_of (bit new n) } ∷ [] else []

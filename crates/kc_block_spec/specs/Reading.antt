@@ -1,9 +1,9 @@
 -- What special function registers read, and what a read takes away (80C196KC User's Manual, "Special Function Registers", "I/O
 -- Ports", "I/O Status Registers").
 use Rattle.std.specs.Prelude.{ℕ, ◌+◌, ◌/◌, ◌%◌, ◌^◌, false, ◌&&◌, bit_and}
-use Rattle.kc_base.specs.Bits.{bit}
+use Rattle.kc_base.specs.Bits.{bit, weight}
 use Rattle.kc_span.specs.Timer1.{timer1_of}
-use Rattle.kc_hso.specs.Cam.{ios0_of, weight}
+use Rattle.kc_hso.specs.Cam.{ios0_of}
 use Rattle.kc_hsi.specs.Input.{status_of, flags_of}
 use Rattle.kc_block_spec.specs.declared.steady.Steady.{Steady}
 use Rattle.kc_block_spec.specs.declared.registers.ReadableByte.{ReadableByte}

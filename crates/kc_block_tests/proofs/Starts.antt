@@ -1,12 +1,12 @@
 -- HSI3 is low before state 0, be it wired or not.
 use Rattle.std.proofs.Common.{[], ◌≡◌, ◌==◌, Bool, true, false, ◌&&◌, refl, ◌∙◌, ap, arith}
 use Rattle.std.specs.Int.{bit_at}
-use Rattle.kc_base.specs.Bits.{bit}
+use Rattle.kc_base.specs.Bits.{bit, weight}
+use Rattle.kc_base.specs.Levels.{is_high}
 use Rattle.kc_base.specs.Pins.{pin_count}
 use Rattle.kc_stim.specs.Drives.{Drives, level_before, start_of}
 use Rattle.kc_stim.specs.Proper.{is_driven}
-use Rattle.kc_hso.specs.Cam.{weight}
-use Rattle.kc_block_spec.specs.Levels.{stimulated_before, is_high}
+use Rattle.kc_block_spec.specs.Levels.{stimulated_before}
 use Rattle.kc_block_spec.proofs.Masks.{mask_bit}
 use Rattle.kc_block_tests.specs.Blinking.{new_beacon, beacon_agrees}
 use Rattle.kc_block_tests.specs.BlinkingLaws.{twice}

@@ -10,6 +10,3 @@ mod stretch;
 pub use branch::branch_length;
 pub use piece::{BranchKind, Form, Piece};
 pub use rounds::sizes;
-
-#[cfg(test)]
-mod tests;

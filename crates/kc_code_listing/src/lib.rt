@@ -4,6 +4,3 @@
 mod listing;
 
 pub use listing::{Line, line_at};
-
-#[cfg(test)]
-mod tests;

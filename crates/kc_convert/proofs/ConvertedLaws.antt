@@ -6,7 +6,7 @@ use Rattle.kc_span.specs.Span.{Counted}
 use Rattle.kc_convert.specs.declared.sample.Sample.{Sample}
 use Rattle.kc_convert.specs.Samples.{value_at}
 use Rattle.kc_convert.specs.Converting.{Converting, new_converter, sample_time, conversion_time, ends_at, sample_of, converted_in, begun_in, is_low, goes, channel_in, converter_further}
-use Rattle.kc_convert.specs.Histories.{Access, Driven, accessed, started_if, data_at}
+use Rattle.kc_extra.specs.Histories.{Access, Driven, accessed, started_if, data_at}
 use Rattle.kc_convert.specs.Converted.{selected_by, selected_before, begun_by, begins, IsLast, IsWhole, IsConverted, converter_at, ResultsAreConverted, EndsAreTold}
 
 some_same : (m n : ℕ) → Some m ≡ Some n → m ≡ n

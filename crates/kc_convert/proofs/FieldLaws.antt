@@ -4,12 +4,12 @@ use Rattle.std.specs.Prelude.{if◌then◌else◌, nat_le}
 use Rattle.std.specs.List.{list_all, before_first}
 use Rattle.std.proofs.lemmas.Bool.{cases_Bool, and_parts, leb-true}
 use Rattle.std.specs.Char.{is_ascii_digit}
-use Rattle.kc_base.specs.Fields.{is_space, decimal_value, decimal_of}
+use Rattle.kc_base.specs.Fields.{is_space, second_of, third_of, time_of, decimal_value, decimal_of}
 use Rattle.kc_convert.specs.declared.sample.Sample.{Sample}
 use Rattle.kc_convert.specs.declared.sample.Item.{Item}
 use Rattle.kc_convert.specs.declared.sample.Item.TheVariants.{Blank, Sampled, Wrong}
-use Rattle.kc_convert.specs.Fields.{time_of, channel_of, value_of}
-use Rattle.kc_convert.specs.Lines.{second_of, third_of, sampled, sample_line, item_of}
+use Rattle.kc_convert.specs.Fields.{channel_of, value_of}
+use Rattle.kc_convert.specs.Lines.{sampled, sample_line, item_of}
 
 -- a number is at most what it may be
 pub number_small : (most : ℕ) (text : List ℕ) (n : ℕ) → decimal_of most text ≡ Some n → n ≤ most

@@ -5,7 +5,7 @@ use Rattle.kc_span.specs.Span.{Counted}
 use Rattle.kc_convert.specs.declared.sample.Sample.{Sample}
 use Rattle.kc_convert.specs.Samples.{value_at}
 use Rattle.kc_convert.specs.Converting.{Converting, new_converter, converter_further, converter_out, is_low, goes, channel_in, sample_time, conversion_time}
-use Rattle.kc_convert.specs.Histories.{Access, Driven, data_at}
+use Rattle.kc_extra.specs.Histories.{Access, Driven, data_at}
 
 abbrev pub is_command : Access → Bool
 is_command a = a.is_write && is_low a.window a.sfr

@@ -1,10 +1,6 @@
 -- The fields of a line of an analogue file (this kit's own).
-use Rattle.std.specs.Prelude.{ℕ, ◌-◌, ◌^◌, nat_le, if◌then◌else◌, ◌&&◌, Option, Some, None, List, [], ◌∷◌}
+use Rattle.std.specs.Prelude.{ℕ, ◌-◌, nat_le, if◌then◌else◌, ◌&&◌, Option, Some, None, List, [], ◌∷◌}
 use Rattle.kc_base.specs.Fields.{decimal_of}
-
--- a state time, 10^15 at most
-abbrev pub time_of : List ℕ → Option ℕ
-time_of text = decimal_of (10 ^ 15) text
 
 -- one digit, 0 to 7
 abbrev pub channel_of : List ℕ → Option ℕ

@@ -10,6 +10,5 @@ pub mod ConverterLaws
 pub mod Pulsing
 pub mod PulseSpans
 pub mod PulseLaws
-pub mod Histories
 pub mod Converted
 pub mod Pulse

@@ -1,17 +1,9 @@
 -- What a line of an analogue file is (this kit's own).
 use Rattle.std.specs.Prelude.{ℕ, ◌==◌, if◌then◌else◌, Option, Some, None, List, [], ◌∷◌}
-use Rattle.std.specs.List.{before_first, after_first}
-use Rattle.kc_base.specs.Fields.{is_space}
+use Rattle.kc_base.specs.Fields.{first_of, second_of, third_of, time_of}
 use Rattle.kc_convert.specs.declared.sample.Item.{Item}
 use Rattle.kc_convert.specs.declared.sample.Item.TheVariants.{Blank, Sampled, Wrong}
-use Rattle.kc_convert.specs.Fields.{time_of, channel_of, value_of}
-
--- what stands between the first and the second space, and after the second
-abbrev pub second_of : List ℕ → List ℕ
-second_of line = before_first is_space (after_first is_space line)
-
-abbrev pub third_of : List ℕ → List ℕ
-third_of line = after_first is_space (after_first is_space line)
+use Rattle.kc_convert.specs.Fields.{channel_of, value_of}
 
 abbrev pub sampled : Option ℕ → Option ℕ → Option ℕ → Item
 sampled None channel value = Wrong
@@ -20,7 +12,7 @@ sampled (Some t) (Some c) None = Wrong
 sampled (Some t) (Some c) (Some v) = Sampled (record { at = t; channel = c; value = v })
 
 abbrev pub sample_line : List ℕ → Item
-sample_line cs = sampled (time_of (before_first is_space cs)) (channel_of (second_of cs)) (value_of (third_of cs))
+sample_line cs = sampled (time_of (first_of cs)) (channel_of (second_of cs)) (value_of (third_of cs))
 
 -- A value is `@` with a time, a channel, the value; between them stands one space. Lines without a character, and those that
 -- begin with `;`, are blank.

@@ -5,7 +5,7 @@ ghost use Rattle.kc_extra.specs.Pins.{AreFew, MoveSome};
 ghost use Rattle.kc_convert.specs.Converting.{new_converter, begun_in, commanded, low_byte, high_byte, is_low as is_low_byte, is_high as is_high_byte, goes as goes_by, converter_further};
 
 use crate::analog::Analog;
-use kc_base::{IntSet, StateTime, Steps};
+use kc_base::{IntSet, StateTime, Steps, bit};
 use kc_extra::{Extra, ExtraOut, Moved};
 use std::marker::Model;
 use std::sync::ledger::Ledger;
@@ -68,7 +68,7 @@ fn is_high(window: u8, sfr: u8) -> bool
 fn goes(value: u8) -> bool
     ensures { result ≡ goes_by value }
 {
-    (value >> 3) % 2 == 1
+    bit(value, 3)
 }
 
 impl Converter {

@@ -1,21 +1,11 @@
 // The fields of a line of an analogue file.
 ghost use Rattle.std.specs.Prelude.{◌≡◌};
-ghost use Rattle.kc_convert.specs.Fields.{time_of, channel_of, value_of};
+ghost use Rattle.kc_convert.specs.Fields.{channel_of, value_of};
 
-use kc_base::{StateTime, decimal};
-
-/// The greatest state time of a value.
-const TIME_LIMIT: u64 = 1_000_000_000_000_000;
+use kc_base::decimal;
 
 /// The greatest value.
 const VALUE_LIMIT: u64 = 1023;
-
-/// A state time.
-pub(crate) fn time(text: &[u8]) -> Option<StateTime>
-    ensures { result ≡ time_of text.now }
-{
-    decimal(TIME_LIMIT, text)
-}
 
 /// A channel, one digit.
 pub(crate) fn channel(text: &[u8]) -> Option<u8>

@@ -2,9 +2,9 @@
 ghost use Rattle.std.specs.Prelude.{◌≡◌};
 ghost use Rattle.kc_convert.specs.Lines.{item_of, sample_line as sample_item};
 
-use crate::fields::{channel, time, value};
+use crate::fields::{channel, value};
 use crate::sample::{Item, Sample};
-use kc_base::split_at_space;
+use kc_base::{split_at_space, state_time};
 
 // The rest of a line after its `@`.
 fn sample_line(text: &[u8]) -> Item
@@ -12,7 +12,7 @@ fn sample_line(text: &[u8]) -> Item
 {
     let (first, rest) = split_at_space(text);
     let (second, third) = split_at_space(rest);
-    match (time(first), channel(second), value(third)) {
+    match (state_time(first), channel(second), value(third)) {
         (Some(at), Some(channel), Some(value)) => Item::Sampled(Sample { at, channel, value }),
         _ => Item::Wrong,
     }

@@ -7,27 +7,12 @@ use Rattle.kc_machine_spec.specs.declared.doing.UnderWay.{UnderWay}
 use Rattle.kc_machine_spec.specs.Machine.{Machine, Stepped, current}
 use Rattle.kc_machine_spec.specs.Run.{still, run_for}
 use Rattle.kc_machine_spec.specs.Passing.{passed}
-use Rattle.kc_machine_spec.proofs.Runs.{run_for-ended, run_for-add, run_for-cut, waits}
+use Rattle.kc_machine_spec.proofs.Runs.{run_for-ended, run_for-add, run_for-cut, waits, run-none, machine-add, machine-suc}
 use Rattle.kc_debug.specs.Activities.{beginning, unless_over, begun_for}
 use Rattle.kc_debug.specs.Stops.{is_at_break, states_of_activities, states_to_break}
 use Rattle.kc_debug.specs.Passing.{IsClear}
 
 module _ {X : Type 0} (f : Further X) where
-  -- ---- runs
-
-  pub run-none : (m : Machine X) → run_for f 0 m ≡ still m
-  unfolding run_for
-  run-none m = refl
-
-  -- the machine of a run in two parts
-  pub machine-add : (a b : ℕ) (m : Machine X) → (run_for f (a + b) m).machine ≡ (run_for f b (run_for f a m).machine).machine
-  machine-add a b m = ap (λ (s : Stepped X). s.machine) (run_for-add f a b m)
-
-  pub machine-suc : (b : ℕ) (m : Machine X) → (run_for f (suc b) m).machine ≡ (run_for f b (run_for f 1 m).machine).machine
-  machine-suc b m =
-      let e : suc b ≡ 1 + b = omega arith in
-      ap (λ n. (run_for f n m).machine) e ∙ machine-add 1 b m
-
   -- ---- activities
 
   pub begun-none : (m : Machine X) → begun_for f 0 m ≡ []
@@ -53,7 +38,7 @@ module _ {X : Type 0} (f : Further X) where
   pub begun-add : (a b : ℕ) (m : Machine X) → begun_for f (a + b) m ≡ begun_for f a m ++ begun_for f b (run_for f a m).machine
   begun-add zero b m =
       ap (λ n. begun_for f n m) (zero-add b)
-      ∙ ap (λ (s : Stepped X). begun_for f b s.machine) (sym (run-none m))
+      ∙ ap (λ (s : Stepped X). begun_for f b s.machine) (sym (run-none f m))
       ∙ ap (λ xs. xs ++ begun_for f b (run_for f 0 m).machine) (sym (begun-none m))
   begun-add (suc a) b m = by_end m.ended refl (begun-add a b (run_for f 1 m).machine)
     where
@@ -71,7 +56,7 @@ module _ {X : Type 0} (f : Further X) where
           ∙ ap (λ xs. beginning m ++ xs) rest
           ∙ sym (append_assoc (beginning m) (begun_for f a next) (begun_for f b (run_for f a next).machine))
           ∙ ap (λ xs. xs ++ begun_for f b (run_for f a next).machine) (sym (begun-lives a m e))
-          ∙ ap (λ k. begun_for f (suc a) m ++ begun_for f b k) (sym (machine-suc a m))
+          ∙ ap (λ k. begun_for f (suc a) m ++ begun_for f b k) (sym (machine-suc f a m))
 
   -- nothing begins while an activity is under way
   begun-waits : (k : ℕ) (m : Machine X) (a : UnderWay) → m.ended ≡ None → m.under_way ≡ Some a → k ≤ a.left → begun_for f k m ≡ []
@@ -122,7 +107,7 @@ module _ {X : Type 0} (f : Further X) where
       let e : 0 + k ≡ k = omega arith in
       let z : (i : ℕ) → i ≡ 0 + i = λ i. omega arith in
       ap (λ i. states_to_break f breaks i m) e
-      ∙ ap (λ (s : Stepped X). states_to_break f breaks k s.machine) (sym (run-none m))
+      ∙ ap (λ (s : Stepped X). states_to_break f breaks k s.machine) (sym (run-none f m))
       ∙ z (states_to_break f breaks k (run_for f 0 m).machine)
   break-later breaks (suc n) k m clear =
       let e : suc n + k ≡ suc (n + k) = omega arith in
@@ -130,9 +115,9 @@ module _ {X : Type 0} (f : Further X) where
       let z : (i : ℕ) → suc (n + i) ≡ suc n + i = λ i. omega arith in
       ap (λ i. states_to_break f breaks i m) e
       ∙ break-suc breaks (n + k) m false (clear 1 (omega arith) (omega arith))
-      ∙ ap suc (break-later breaks n k next (λ i some few. ap (is_at_break breaks) (sym (machine-suc i m)) ∙ clear (suc i) (omega arith) (omega arith)))
+      ∙ ap suc (break-later breaks n k next (λ i some few. ap (is_at_break breaks) (sym (machine-suc f i m)) ∙ clear (suc i) (omega arith) (omega arith)))
       ∙ z (states_to_break f breaks k (run_for f n next).machine)
-      ∙ ap (λ x. suc n + states_to_break f breaks k x) (sym (machine-suc n m))
+      ∙ ap (λ x. suc n + states_to_break f breaks k x) (sym (machine-suc f n m))
 
   -- within an activity there is no stop
   within-clear : (breaks : List ℕ) (i : ℕ) (m : Machine X) → m.ended ≡ None → 0 < i → i < (current m).left → is_at_break breaks (run_for f i m).machine ≡ false
@@ -158,7 +143,7 @@ module _ {X : Type 0} (f : Further X) where
       let e : n + k ≡ (n - 1) + suc k = omega arith in
       let last : (n - 1) + 1 ≡ n = omega arith in
       let mid : Machine X = (run_for f (n - 1) m).machine in
-      let end : (run_for f 1 mid).machine ≡ x = sym (machine-add (n - 1) 1 m) ∙ ap (λ i. (run_for f i m).machine) last ∙ sym is in
+      let end : (run_for f 1 mid).machine ≡ x = sym (machine-add f (n - 1) 1 m) ∙ ap (λ i. (run_for f i m).machine) last ∙ sym is in
       ap (λ i. states_to_break f breaks i m) e
       ∙ break-later breaks (n - 1) (suc k) m (λ i some within. clear i some (omega arith))
       ∙ ap (λ i. (n - 1) + i) (break-suc breaks k mid true (ap (is_at_break breaks) end ∙ there))

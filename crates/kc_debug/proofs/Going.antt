@@ -22,7 +22,7 @@ use Rattle.kc_debug.specs.declared.session.Sitting.{Sitting}
 use Rattle.kc_debug.specs.Sitting.{seen}
 use Rattle.kc_debug.specs.Stands.{at_once_in, bytes_of, bytes_shown, states_of, work_in, work_of, FailsIn, StandsIn}
 use Rattle.kc_debug.specs.Transcript.{Debugged, untouched, after_command, debugged, quits, transcript}
-use Rattle.kc_debug.proofs.Begins.{run-none}
+use Rattle.kc_machine_spec.proofs.Runs.{run-none}
 use Rattle.kc_debug.proofs.Scripts.{kept_of, GoesOn, alike, debugged-nil, debugged-quit, debugged-more, debugged-text}
 
 pub goes_on : (c : Command) → quits c ≡ false → GoesOn c

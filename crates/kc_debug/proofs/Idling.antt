@@ -21,7 +21,8 @@ use Rattle.kc_debug.specs.Stops.{activity_states, states_at_once, states_of_acti
 use Rattle.kc_debug.specs.Passing.{IsKept, IsClear, Stood}
 use Rattle.kc_debug.specs.Stands.{FailsWithin}
 use Rattle.kc_debug.proofs.Last.{last-append}
-use Rattle.kc_debug.proofs.Begins.{run-none, machine-add, machine-suc, begun-none, begun-add, begun-one, states-more}
+use Rattle.kc_machine_spec.proofs.Runs.{run-none, machine-add, machine-suc}
+use Rattle.kc_debug.proofs.Begins.{begun-none, begun-add, begun-one, states-more}
 
 -- the idle states from a state on, at a program counter
 abbrev pub idle_states : ℕ → ℕ → ℕ → List Begun

@@ -16,7 +16,7 @@ use Rattle.kc_machine_spec.specs.declared.doing.UnderWay.{UnderWay}
 use Rattle.kc_machine_spec.specs.Machine.{Machine, Stepped, current}
 use Rattle.kc_machine_spec.specs.Passing.{activity_end}
 use Rattle.kc_machine_spec.specs.Run.{still, and_then, run_for, run_to}
-use Rattle.kc_machine_spec.proofs.Runs.{run_for-ended, run_for-add, run_for-has_run}
+use Rattle.kc_machine_spec.proofs.Runs.{run_for-ended, run_for-add, run_for-has_run, run-none}
 use Rattle.kc_machine.specs.Board.{Whole}
 use Rattle.kc_machine.specs.Stepping.{IsBrief}
 use Rattle.kc_debug.specs.declared.activities.Begun.{Begun}
@@ -25,7 +25,7 @@ use Rattle.kc_debug.specs.Stops.{activity_states, is_at_break, states_at_once}
 use Rattle.kc_debug.specs.Passing.{IsKept, Passed, Told, Stood, Spends}
 use Rattle.kc_debug.specs.Stands.{FailsWithin}
 use Rattle.kc_debug.proofs.Last.{last-append, last-same}
-use Rattle.kc_debug.proofs.Begins.{run-none, begun-none, begun-add, begun-ended, begun-activity}
+use Rattle.kc_debug.proofs.Begins.{begun-none, begun-add, begun-ended, begun-activity}
 
 -- a machine that is not at its first state has run
 has_run : (how : End) (time : ℕ) → 0 < time → HasRun how time
@@ -304,25 +304,3 @@ module _ {X : Type 0} (f : Further X) where
         few = omega (arith, fails.few, fits);
         machine = fails.machine;
       }
-
--- what follows where a call has failed
-pub on-fault : {A E : Type 0} {P Q : Type 0} (r : Result A E) → OnErr r P → (P → Q) → OnErr r Q
-on-fault (Ok a) p h = tt
-on-fault (Err e) p h = h p
-
--- what is so in any case is so where a call has failed
-pub always-failed : {A E : Type 0} {P : Type 0} (r : Result A E) → P → OnErr r P
-always-failed (Ok a) p = tt
-always-failed (Err e) p = p
-
--- what is so in any case is so where a call is Ok
-pub always : {A E : Type 0} {P : Type 0} (r : Result A E) → P → OnOk r P
-always (Ok a) p = p
-always (Err e) p = tt
-
--- lines that were put whole, or at which the sink has failed
-pub printed : (o : Out) (xs : List Record) (p : Out) → Puts o (text_of xs) p → p.counts ≡ counted_all xs o.counts → Prints o xs p
-printed o xs p text counts = record { text = text; counts = λ e. counts }
-
-pub broken-off : (o : Out) (xs : List Record) (p : Out) → Puts o (text_of xs) p → p.failed ≡ true → Prints o xs p
-broken-off o xs p text failed = record { text = text; counts = λ e. absurd (let t : true ≡ false = sym failed ∙ e in cc) }

@@ -1,53 +1,17 @@
 // The lines of a debugger, each made in place, with no memory.
-ghost use Rattle.std.specs.Prelude.{◌≡◌, ◌+◌, ◌≤◌, ◌<◌, ◌++◌, ◌∷◌, [], length, decimal, codes};
+ghost use Rattle.std.specs.Prelude.{◌≡◌, ◌+◌, ◌≤◌, ◌<◌, ◌++◌, ◌∷◌, [], decimal, codes};
 ghost use Rattle.arrayvec.specs.ArrayVec.{array_vec_len};
-ghost use Rattle.kc_trace.specs.Text.{hex};
 ghost use Rattle.kc_debug.specs.Lines.{memory_line as line_of_memory, shown_bytes, stand_line as line_of_stand, state_fields};
 
 use crate::activities::Begun;
 use arrayvec::ArrayVec;
-use itoa::Buffer;
-use kc_base::{StateTime, hex_digit};
+use kc_base::StateTime;
 use kc_extra::Extra;
 use kc_machine::Machine;
+use kc_trace::{LineBytes, put_decimal, put_hex, put_text};
 
-/// A line, with the byte that ends it.
-pub(crate) type Line = ArrayVec<u8, 128>;
-
-fn put_text(line: &mut Line, text: &[u8])
-    requires { array_vec_len line.old + length text.now ≤ 128 }
-    ensures items { line.new.items ≡ line.old.items ++ text.now }
-    ensures len { array_vec_len line.new ≡ array_vec_len line.old + length text.now }
-{
-    match line.try_extend_from_slice(text) {
-        Ok(()) => {}
-        Err(_) => unreachable!(),
-    }
-}
-
-fn put_decimal(line: &mut Line, number: u64)
-    requires { array_vec_len line.old + 20 ≤ 128 }
-    ensures items { line.new.items ≡ line.old.items ++ decimal number }
-    ensures len { array_vec_len line.new ≤ array_vec_len line.old + 20 }
-{
-    let mut buffer = Buffer::new();
-    put_text(line, buffer.format(number).as_bytes());
-}
-
-// So many upper-case hex digits of a number.
-fn put_hex(line: &mut Line, digits: u8, number: u16)
-    requires { array_vec_len line.old + digits ≤ 128 }
-    ensures items { line.new.items ≡ line.old.items ++ hex digits number }
-    ensures len { array_vec_len line.new ≡ array_vec_len line.old + digits }
-{
-    if digits > 0 {
-        put_hex(line, digits - 1, number / 16);
-        line.push(hex_digit((number % 16) as u8));
-    }
-}
-
-fn put_state(line: &mut Line, at: StateTime, pc: u16)
-    requires { array_vec_len line.old + 25 ≤ 128 }
+fn put_state(line: &mut LineBytes, at: StateTime, pc: u16)
+    requires { array_vec_len line.old + 25 ≤ 160 }
     ensures items { line.new.items ≡ line.old.items ++ state_fields at pc }
     ensures len { array_vec_len line.new ≤ array_vec_len line.old + 25 }
 {
@@ -57,7 +21,7 @@ fn put_state(line: &mut Line, at: StateTime, pc: u16)
 }
 
 /// The line of where a machine stands.
-pub(crate) fn stand_line<X: Extra + Drop>(machine: &Machine<X>) -> Line
+pub(crate) fn stand_line<X: Extra + Drop>(machine: &Machine<X>) -> LineBytes
     ensures { result.items ≡ line_of_stand machine.now.machine }
 {
     let mut line = ArrayVec::new();
@@ -68,7 +32,7 @@ pub(crate) fn stand_line<X: Extra + Drop>(machine: &Machine<X>) -> Line
 }
 
 /// The line of an activity, without its source line and its end.
-pub(crate) fn activity_fields(begun: &Begun) -> Line
+pub(crate) fn activity_fields(begun: &Begun) -> LineBytes
     ensures { result.items ≡ codes "A " ++ state_fields begun.now.at begun.now.pc }
 {
     let mut line = ArrayVec::new();
@@ -78,7 +42,7 @@ pub(crate) fn activity_fields(begun: &Begun) -> Line
 }
 
 /// The number of a source line, behind its module.
-pub(crate) fn line_number(number: u32) -> Line
+pub(crate) fn line_number(number: u32) -> LineBytes
     ensures { result.items ≡ codes ":" ++ decimal number }
 {
     let mut line = ArrayVec::new();
@@ -88,9 +52,9 @@ pub(crate) fn line_number(number: u32) -> Line
 }
 
 // So many bytes from an address on, as a machine shows them.
-fn put_bytes<X: Extra + Drop>(line: &mut Line, machine: &mut Machine<X>, from: u16, count: u16)
+fn put_bytes<X: Extra + Drop>(line: &mut LineBytes, machine: &mut Machine<X>, from: u16, count: u16)
     requires count { count ≤ 16 }
-    requires room { array_vec_len line.old + 32 < 128 }
+    requires room { array_vec_len line.old + 32 < 160 }
     ensures items { line.new.items ≡ line.old.items ++ shown_bytes X.further machine.old.machine from count }
     ensures len { array_vec_len line.new ≤ array_vec_len line.old + 32 }
     ensures same { machine.new.machine ≡ machine.old.machine }
@@ -103,7 +67,11 @@ fn put_bytes<X: Extra + Drop>(line: &mut Line, machine: &mut Machine<X>, from: u
 }
 
 /// The line of some bytes of memory, 16 at most.
-pub(crate) fn memory_line<X: Extra + Drop>(machine: &mut Machine<X>, from: u16, count: u16) -> Line
+pub(crate) fn memory_line<X: Extra + Drop>(
+    machine: &mut Machine<X>,
+    from: u16,
+    count: u16,
+) -> LineBytes
     requires count { count ≤ 16 }
     ensures items { result.items ≡ line_of_memory X.further machine.old.machine from count }
     ensures same { machine.new.machine ≡ machine.old.machine }

@@ -57,7 +57,7 @@ pub(crate) fn tell_stand<X: Extra + Drop, S: Sink>(
 {
     tell_end(before, machine, out)?;
     out.put_text(stand_line(machine).as_slice());
-    written(out)
+    out.written()
 }
 
 /// Shows so many bytes from an address on.
@@ -79,7 +79,7 @@ pub(crate) fn show<X: Extra + Drop, S: Sink>(
         let line = memory_line(machine, from.wrapping_add(first), (count - first).min(16));
         out.put_text(line.as_slice());
     }
-    written(out)
+    out.written()
 }
 
 // Tells the source line of an address, where there is one.
@@ -129,17 +129,5 @@ pub(crate) fn tell_history<X: Extra + Drop, S: Sink>(
             None => {}
         }
     }
-    written(out)
-}
-
-/// Whether all was written.
-pub(crate) fn written<S: Sink>(out: &TraceOut<S>) -> Result<(), WriteFault>
-    ensures written { OnOk result (out.now.failed ≡ false) }
-    ensures failed { OnErr result (out.now.failed ≡ true) }
-{
-    if out.failed() {
-        Err(WriteFault)
-    } else {
-        Ok(())
-    }
+    out.written()
 }

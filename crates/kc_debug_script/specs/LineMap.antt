@@ -1,8 +1,8 @@
 -- A line map: from which line of which module the bytes at an address come (this kit's own).
 use Rattle.std.specs.Prelude.{◌≡◌, ℕ, ◌-◌, ◌<◌, ◌≤◌, ◌^◌, nat_lt, nat_le, Bool, true, ◌&&◌, Option, Some, None, Result, Ok, Err, List, [], ◌∷◌, length, find, slice_get, ◌==◌, if◌then◌else◌, All}
-use Rattle.std.specs.List.{before_first, after_first, list_any}
+use Rattle.std.specs.List.{list_any}
 use Rattle.std.specs.Char.{is_ascii_lowercase}
-use Rattle.kc_base.specs.Fields.{is_space, word_of}
+use Rattle.kc_base.specs.Fields.{first_of, second_of, third_of, word_of}
 use Rattle.kc_base.specs.TextLines.{text_lines}
 use Rattle.kc_obj.specs.Names.{is_name}
 use Rattle.kc_debug_script.specs.declared.line_map.MapEntry.{MapEntry}
@@ -26,12 +26,9 @@ entry_with (Some addr) None line = None
 entry_with (Some addr) (Some name) None = None
 entry_with (Some addr) (Some name) (Some line) = Some (record { addr = addr; name = name; line = line })
 
-abbrev pub after_space : List ℕ → List ℕ
-after_space text = after_first is_space text
-
 abbrev pub entry_of : List ℕ → Option MapEntry
 entry_of text =
-    entry_with (map_address (before_first is_space text)) (map_name (before_first is_space (after_space text))) (number_of (2 ^ 32 - 1) (after_space (after_space text)))
+    entry_with (map_address (first_of text)) (map_name (second_of text)) (number_of (2 ^ 32 - 1) (third_of text))
 
 -- ---- a map: addresses from 2000H on, each above the one before
 

@@ -7,8 +7,6 @@ mod fields;
 mod laws;
 mod line_map;
 mod script;
-#[cfg(test)]
-mod tests;
 
 pub use command::Command;
 pub use fault::DebugFault;

@@ -42,7 +42,7 @@ use Rattle.kc_exec_spec.specs.Entering.{entry, trap}
 use Rattle.kc_exec_spec.specs.Effects.{planned, effect_of}
 
 -- more are allowed
-AtMost-more : {A : Type 0} (n k : ℕ) (t : Effect A) → n ≤ k → AtMost n t → AtMost k t
+pub AtMost-more : {A : Type 0} (n k : ℕ) (t : Effect A) → n ≤ k → AtMost n t → AtMost k t
 AtMost-more n k (End a) le h = tt
 AtMost-more n k (Undefined kind) le h = tt
 AtMost-more n k (Look next) le h = λ m. AtMost-more n k (next m) le (h m)
@@ -81,7 +81,7 @@ write_register-most : (byte : Bool) (wsr r n : ℕ) → AtMost 1 (write_register
 unfolding write_register
 write_register-most byte wsr r n = AtMost-bind 0 1 (or_undefined (window_of wsr r)) _ (or_undefined-most (window_of wsr r)) (λ addr. write_at-most byte addr n)
 
-if-most : {A : Type 0} (n : ℕ) (b : Bool) (t u : Effect A) → AtMost n t → AtMost n u → AtMost n (if b then t else u)
+pub if-most : {A : Type 0} (n : ℕ) (b : Bool) (t u : Effect A) → AtMost n t → AtMost n u → AtMost n (if b then t else u)
 if-most n true t u h k = h
 if-most n false t u h k = k
 

@@ -6,8 +6,6 @@ mod lookup;
 mod meaning;
 mod printing;
 mod table;
-#[cfg(test)]
-mod tests;
 
 pub use laws::{codes_differ, faults_are_explained, uses_are_explained};
 pub use lookup::{explain, sentence};

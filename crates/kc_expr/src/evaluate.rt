@@ -62,7 +62,8 @@ pub fn value_over<S: Scope>(expr: &Expr, names: &S) -> Result<Value, NoValue>
     }
 }
 
-fn fixed(number: u16) -> Value
+/// A number that counts from nothing.
+pub fn fixed(number: u16) -> Value
     ensures { result ≡ plain number }
 {
     Value {

@@ -10,13 +10,10 @@ pub mod parser;
 pub mod symbols;
 pub mod values;
 
-pub use evaluate::{Scope, value, value_over};
+pub use evaluate::{Scope, fixed, value, value_over};
 pub use expr::{Binary, Expr, Unary};
 pub use laws::{expressions_are_alike, expressions_are_known};
 pub use operators::is_type;
 pub use parser::parse;
 pub use symbols::Symbols;
 pub use values::{Base, NoValue, Tag, Value};
-
-#[cfg(test)]
-mod tests;

@@ -4,8 +4,6 @@
 mod edges;
 mod random;
 mod sources;
-#[cfg(test)]
-mod tests;
 
 pub use edges::stimuli;
 pub use sources::program;

@@ -10,6 +10,3 @@ pub use fault::{HexCode, HexFault};
 pub use reading::read;
 pub use round_trip::written_is_read;
 pub use writing::write;
-
-#[cfg(test)]
-mod tests;

@@ -2,6 +2,7 @@
 -- asking (this kit's own). What each says of itself stands with its crate, and what two say together with `Pair`.
 use Rattle.std.proofs.Common.{ℕ, List, refl, arith}
 use Rattle.kc_base.specs.Bits.{bit}
+use Rattle.kc_base.specs.Levels.{level_of}
 use Rattle.kc_base.specs.declared.types.Level.{Level}
 use Rattle.kc_span.specs.Span.{Counted}
 use Rattle.kc_stim.specs.Drives.{Drives, driven_from}
@@ -10,7 +11,7 @@ use Rattle.kc_extra.specs.declared.extra.Extra as extra
 use Rattle.kc_extra.specs.declared.pair.Pair.{Pair}
 use Rattle.kc_extra.specs.contracts.pair.Pair as pair_type
 use Rattle.kc_extra.specs.contracts.pair_unit.PairExtra.TheImpl as pair
-use Rattle.kc_serial.specs.Port.{rxd, level_of, start as start_of_port}
+use Rattle.kc_serial.specs.Port.{rxd, start as start_of_port}
 use Rattle.kc_serial.specs.declared.serial.Serial.{Serial}
 use Rattle.kc_serial.specs.contracts.serial.Serial as serial_type
 use Rattle.kc_serial.specs.contracts.serial.SerialExtra.TheImpl as serial

@@ -25,11 +25,7 @@ pub(crate) type FittedUnit = Pair<Serial, Pair<Converter, Pulses>>;
 fn rxd_level(stimuli: &Stimuli) -> Level
     ensures { result ≡ rxd_before stimuli.now }
 {
-    if has_pin(start_levels(stimuli), RXD) {
-        Level::High
-    } else {
-        Level::Low
-    }
+    Level::of(has_pin(start_levels(stimuli), RXD))
 }
 
 /// The units before the first state of a run, where these drive the inputs: the pins from their state 0 on, the analogue

@@ -23,6 +23,3 @@ pub use numbers::number;
 pub use order::options_come_in_any_order;
 pub use usage::{Wrong, put_usage, wrong_where_no_command, wrong_words};
 pub use words::read_words;
-
-#[cfg(test)]
-mod tests;

@@ -4,6 +4,7 @@ pub mod LineFaults
 pub mod Numbers
 pub mod Lexemes
 pub mod Lines
+pub mod Lists
 pub mod Scan
 pub mod Instructions
 pub mod Words

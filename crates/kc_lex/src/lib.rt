@@ -20,6 +20,3 @@ pub use line_fault::LineFault;
 pub use reader::lines;
 pub use token::{Line, Token, TokenKind, Tokens};
 pub use words::{Directive, Notation, Operands};
-
-#[cfg(test)]
-mod tests;

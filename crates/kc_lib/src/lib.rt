@@ -13,6 +13,3 @@ mod taking;
 pub use faults::{LibCode, LibFault};
 pub use library::Library;
 pub use packing::pack;
-
-#[cfg(test)]
-mod tests;

@@ -11,17 +11,12 @@ use Rattle.kc_obj.specs.declared.parts.Segment.{Segment}
 use Rattle.kc_obj.specs.declared.parts.Content.{Content}
 use Rattle.kc_obj.specs.Pieces.{kind_number, has_code}
 use Rattle.kc_obj.specs.Contents.{content_end, content_is_sound, content_follows, contents_in_order, covers, content_at, is_over}
+use Rattle.kc_obj.proofs.ContentLemmas.{over_covers, over_from, ordered_rest}
 
 -- ---- on plain numbers: a run at offset f of piece q that ends before e
 
-over_covers : (q f e p o : ℕ) → (ltb q p || (eqb q p && leb e o)) ≡ true → (eqb q p && leb f o && ltb o e) ≡ false
-over_covers q f e p o h = grind (arith, nat_tests)
-
 over_further : (q e p o k : ℕ) → (ltb q p || (eqb q p && leb e o)) ≡ true → (ltb q p || (eqb q p && leb e (o + k))) ≡ true
 over_further q e p o k h = grind (arith, nat_tests)
-
-over_from : (q e p o r s : ℕ) → (ltb q p || (eqb q p && leb e o)) ≡ true → (ltb p r || (eqb p r && leb o s)) ≡ true → (ltb q r || (eqb q r && leb e s)) ≡ true
-over_from q e p o r s h k = grind (arith, nat_tests)
 
 over_next : (q e r g : ℕ) (full : Bool) → (ltb q r || (eqb q r && (ltb e g || (eqb e g && full)))) ≡ true → (ltb q r || (eqb q r && leb e g)) ≡ true
 over_next q e r g true k = grind (arith, nat_tests)
@@ -38,11 +33,6 @@ covered_parts q f e p o h = (grind (arith, nat_tests, h), grind (arith, nat_test
 
 -- ---- runs
 
-rest_in_order : (c : Content) (cs : List Content) → contents_in_order (c ∷ cs) ≡ true → contents_in_order cs ≡ true
-unfolding contents_in_order
-rest_in_order c [] h = refl
-rest_in_order c (d ∷ cs) h = (and_parts (content_follows c d) (contents_in_order (d ∷ cs)) h).1
-
 next_over : (c d : Content) (cs : List Content) → contents_in_order (c ∷ d ∷ cs) ≡ true → is_over c d.piece d.offset ≡ true
 unfolding contents_in_order
 next_over c d cs h = over_next c.piece (content_end c) d.piece d.offset (eqb (length c.bytes) 1024) (and_parts (content_follows c d) (contents_in_order (d ∷ cs)) h).0
@@ -52,7 +42,7 @@ over_later : (c : Content) (cs : List Content) (j : ℕ) (d : Content) → conte
 over_later c [] j d h e = absurd (cc e)
 over_later c (x ∷ cs) zero d h e = let f : x ≡ d = cc e in subst (λ (y : Content). is_over c y.piece y.offset ≡ true) f (next_over c x cs h)
 over_later c (x ∷ cs) (suc j) d h e =
-    let more : is_over x d.piece d.offset ≡ true = over_later x cs j d (rest_in_order c (x ∷ cs) h) e in
+    let more : is_over x d.piece d.offset ≡ true = over_later x cs j d (ordered_rest c (x ∷ cs) h) e in
     over_from c.piece (content_end c) x.piece x.offset d.piece d.offset (next_over c x cs h) (end_over x.piece x.offset (content_end x) d.piece d.offset (omega arith) more)
 
 byte_here : (bytes : List ℕ) (f k : ℕ) → k < length bytes → slice_get bytes ((f + k) - f) ≡ Some (slice_index bytes k)
@@ -68,7 +58,7 @@ run_byte (x ∷ cs) zero c k h e l =
 run_byte (x ∷ cs) (suc j) c k h e l =
     let o : is_over x c.piece c.offset ≡ true = over_later x cs j c h e in
     let n : covers x c.piece (c.offset + k) ≡ false = over_covers x.piece x.offset (content_end x) c.piece (c.offset + k) (over_further x.piece (content_end x) c.piece c.offset k o) in
-    rw n (run_byte cs j c k (rest_in_order x cs h) e l)
+    rw n (run_byte cs j c k (ordered_rest x cs h) e l)
 
 -- ---- code pieces
 

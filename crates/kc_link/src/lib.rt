@@ -10,6 +10,3 @@ pub use kc_link_place::{LinkFault, Ranges};
 pub use laws::{absolute_pieces_stand, one_image, relocations_fit};
 pub use lines::{LineAt, line_map};
 pub use linking::link;
-
-#[cfg(test)]
-mod tests;

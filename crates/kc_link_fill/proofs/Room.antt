@@ -10,7 +10,8 @@ use Rattle.kc_obj.specs.Contents.{content_at}
 use Rattle.kc_obj.specs.Fixups.{fixups_in_order, has_room, may_begin, is_zero, fixup_at}
 use Rattle.kc_obj_relocation.specs.Numbers.{Bases, first_part, second_part, width}
 use Rattle.kc_link_fill.specs.Filled.{fixup_number, first_of_fixup, second_of_fixup, second_at, is_fit, unfit_in}
-use Rattle.kc_link_fill.proofs.Sorted.{rest_in_order, next_follows, none_behind}
+use Rattle.kc_obj.proofs.RoomLemmas.{rest_in_order, next_follows}
+use Rattle.kc_link_fill.proofs.Sorted.{none_behind}
 
 pub record IsThere (cs : List Content) (b : Bases) (p k : ℕ) (f : Fixup) : Type 0 where
   pub room : has_room cs f ≡ true

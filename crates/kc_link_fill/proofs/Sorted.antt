@@ -11,6 +11,7 @@ use Rattle.std.proofs.lemmas.Option.{slice_get_past, slice_get_read}
 use Rattle.kc_obj.specs.declared.parts.Fixup.{Fixup}
 use Rattle.kc_obj_relocation.specs.Numbers.{width}
 use Rattle.kc_obj.specs.Fixups.{fixup_follows, fixups_in_order, fixup_at}
+use Rattle.kc_obj.proofs.RoomLemmas.{rest_in_order, next_follows}
 use Rattle.kc_link_fill.specs.Filled.{is_before, if_there}
 
 -- ---- on plain numbers: a relocation at offset o of piece q with another one at r of s behind it
@@ -34,15 +35,6 @@ behind_step : (q o w s r p k : ℕ) → (ltb q s || (eqb q s && leb (o + w) r)) 
 behind_step q o w s r p k h t = grind (arith, nat_tests)
 
 -- ---- on relocations
-
-pub rest_in_order : (f : Fixup) (fs : List Fixup) → fixups_in_order (f ∷ fs) ≡ true → fixups_in_order fs ≡ true
-unfolding fixups_in_order
-rest_in_order f [] h = refl
-rest_in_order f (g ∷ fs) h = (and_parts (fixup_follows f g) (fixups_in_order (g ∷ fs)) h).1
-
-pub next_follows : (f g : Fixup) (fs : List Fixup) → fixups_in_order (f ∷ g ∷ fs) ≡ true → fixup_follows f g ≡ true
-unfolding fixups_in_order
-next_follows f g fs h = (and_parts (fixup_follows f g) (fixups_in_order (g ∷ fs)) h).0
 
 pub partitioned : (p k : ℕ) (fs : List Fixup) → fixups_in_order fs ≡ true → IsPartitionedBy (is_before p k) fs
 partitioned p k [] h i j d le lt t = absurd (omega arith)

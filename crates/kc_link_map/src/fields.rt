@@ -43,7 +43,7 @@ pub(crate) fn put_address(text: &mut Vec<u8>, address: u16) -> Result<(), NoMemo
 }
 
 /// Puts a number in decimal behind a text.
-pub(crate) fn put_number(text: &mut Vec<u8>, number: u32) -> Result<(), NoMemory>
+pub fn put_number(text: &mut Vec<u8>, number: u64) -> Result<(), NoMemory>
     ensures { OnOk result (text.new.items ≡ text.old.items ++ decimal number) }
 {
     let mut buffer = Buffer::new();

@@ -82,7 +82,7 @@ fn put_run(text: &mut Vec<u8>, word: &[u8], end: u32, length: u32) -> Result<(),
     text.push(b' ')?;
     put_address(text, (end - length) as u16)?;
     text.push(b' ')?;
-    put_number(text, length)?;
+    put_number(text, u64::from(length))?;
     text.push(b'\n')?;
     Ok(())
 }

@@ -13,6 +13,7 @@ use Rattle.kc_exec_spec.specs.declared.cpu.After.TheVariants.{Next}
 use Rattle.kc_exec_spec.specs.Entering.{Loads}
 use Rattle.kc_exec_ready.specs.Preparing.{GoesOn}
 use Rattle.kc_exec_spec.specs.Accesses.{AtMost}
+use Rattle.kc_exec_spec.proofs.Counting.{AtMost-more}
 use Rattle.kc_pts.specs.declared.cycle.Cycle.{Cycle}
 use Rattle.kc_pts.specs.Cycles.{set_up, served, Serves}
 use Rattle.kc_pts.proofs.Counts.{setup_accesses, transfer_accesses}
@@ -182,17 +183,8 @@ module _ {X : Type 0} (f : Further X) where
   loaded-few t s h result old new few e =
       subst (λ (x : Scene X). x.reached ≤ s.reached + 16) (loaded result old new h (run (bus_meaning f) t s) e) (few-counted f 8 t s few)
 
--- more accesses are allowed
-more-allowed : {A : Type 0} (n k : ℕ) (t : Effect A) → n ≤ k → AtMost n t → AtMost k t
-more-allowed n k (End a) le h = tt
-more-allowed n k (Undefined kind) le h = tt
-more-allowed n k (Look next) le h = λ m. more-allowed n k (next m) le (h m)
-more-allowed n k (Ask r next) le h =
-    let some : 0 < n = h.0 in
-    (omega arith, λ x. more-allowed (n - 1) (k - 1) (next x) (omega arith) (h.1 x))
-
 pub setup-most : (n : ℕ) → AtMost 8 (set_up n)
-setup-most n = more-allowed 6 8 (set_up n) (omega arith) (setup_accesses n)
+setup-most n = AtMost-more 6 8 (set_up n) (omega arith) (setup_accesses n)
 
 prepared : {H : Type 0} (result : Result Cycle Kind) (h : H) (outcome : Outcome Cycle H) → Gives (λ x. x) result h outcome → left_by outcome ≡ h
 prepared (Ok cycle) h outcome e = ap left_by e

@@ -15,5 +15,5 @@ mod weights;
 
 pub use finals::stopped;
 pub use kc_machine_spec::End;
+pub use kc_trace::WriteFault;
 pub use machine::Machine;
-pub use passing::WriteFault;

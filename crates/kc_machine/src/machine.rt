@@ -19,14 +19,13 @@ ghost use Rattle.kc_machine.specs.Stepping.{IsBrief, IdlesFor, end_line, registe
 use crate::common::Common;
 use crate::finals::{put_end, put_finals, put_state, word};
 use crate::parts::Core;
-use crate::passing::WriteFault;
 use kc_base::{Image, NoMemory, Sink, StateTime, Steps};
 use kc_block::Block;
 use kc_exec_spec::Cpu;
 use kc_extra::Extra;
 use kc_machine_spec::{End, UnderWay};
 use kc_stim::Stimuli;
-use kc_trace::TraceOut;
+use kc_trace::{TraceOut, WriteFault};
 use std::alloc::Global;
 use std::marker::Model;
 use std::sync::ledger::Ledger;
@@ -57,18 +56,6 @@ fn first_memory(alloc: Global, image: &Image) -> Result<Vec<u8>, NoMemory>
     let mut bytes = vec![in alloc; 0u8; 0x2000]?;
     bytes.extend_from_slice(image.as_slice())?;
     Ok(bytes)
-}
-
-// Whether all was written.
-fn written<S: Sink>(out: &TraceOut<S>) -> Result<(), WriteFault>
-    ensures written { OnOk result (out.now.failed ≡ false) }
-    ensures failed { OnErr result (out.now.failed ≡ true) }
-{
-    if out.failed() {
-        Err(WriteFault)
-    } else {
-        Ok(())
-    }
 }
 
 impl<X: Extra + Drop> Machine<X> {
@@ -257,7 +244,7 @@ impl<X: Extra + Drop> Machine<X> {
         ensures failed { OnErr result (out.new.failed ≡ true) }
     {
         put_end(&self.core, how, out);
-        written(out)
+        out.written()
     }
 
     /// Writes the lines of the registers.
@@ -268,7 +255,7 @@ impl<X: Extra + Drop> Machine<X> {
         ensures failed { OnErr result (out.new.failed ≡ true) }
     {
         put_state(&self.core, out);
-        written(out)
+        out.written()
     }
 
     /// Writes the lines of the end: how the run has ended, and the registers.
@@ -280,6 +267,6 @@ impl<X: Extra + Drop> Machine<X> {
         ensures failed { OnErr result (out.new.failed ≡ true) }
     {
         put_finals(&self.core, how, out);
-        written(out)
+        out.written()
     }
 }

@@ -26,12 +26,8 @@ use kc_base::{Edge, Kind, Sink, StateTime, Steps};
 use kc_exec_ready::{Ready, is_followed_freely};
 use kc_extra::Extra;
 use kc_machine_spec::{End, UnderWay};
-use kc_trace::{Record, TraceOut};
+use kc_trace::{Record, TraceOut, WriteFault};
 use std::sync::ledger::Ledger;
-
-/// The sink has failed.
-#[derive(Clone, Copy, Debug, PartialEq, Eq)]
-pub struct WriteFault;
 
 impl<X: Extra + Drop> Core<X> {
     ghost use Rattle.kc_machine.specs.Bus.{held_of};

@@ -1,3 +1,4 @@
 pub mod Runs
 pub mod Idle
 pub mod Coming
+pub mod Calls

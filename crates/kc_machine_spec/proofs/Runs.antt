@@ -128,6 +128,20 @@ module _ {X : Type 0} (f : Further X) where
   run_for-add zero b m = ap (λ k. run_for f k m) (zero-add b) ∙ sym (nothing-before (run_for f b m))
   run_for-add (suc a) b m = add_step a b m m.ended refl (λ n. run_for-add a b n)
 
+  -- no state
+  pub run-none : (m : Machine X) → run_for f 0 m ≡ still m
+  unfolding run_for
+  run-none m = refl
+
+  -- the machine of a run in two parts
+  pub machine-add : (a b : ℕ) (m : Machine X) → (run_for f (a + b) m).machine ≡ (run_for f b (run_for f a m).machine).machine
+  machine-add a b m = ap (λ (s : Stepped X). s.machine) (run_for-add a b m)
+
+  pub machine-suc : (b : ℕ) (m : Machine X) → (run_for f (suc b) m).machine ≡ (run_for f b (run_for f 1 m).machine).machine
+  machine-suc b m =
+      let e : suc b ≡ 1 + b = omega arith in
+      ap (λ n. (run_for f n m).machine) e ∙ machine-add 1 b m
+
   -- one state of an activity that isn't the last
   stepped-waiting : (m : Machine X) (a : UnderWay) → a.left ≢ 1 → stepped f m a ≡ before (pins m.time (tick f m.time m.board.units).edges) (touched f m.time m.board.units) (waiting a (with_units m (tick f m.time m.board.units).units))
   unfolding stepped

@@ -4,6 +4,7 @@ use Rattle.std.specs.Prelude.{ℕ, Bool, false, ◌&&◌, ◌||◌, if◌then◌
 use Rattle.std.specs.FinMap as fm
 use Rattle.kc_lex.specs.declared.token.Token.{Token}
 use Rattle.kc_lex.specs.Kinds.{is_free_name, begins_word}
+use Rattle.kc_lex.specs.Lists.{first_text}
 use Rattle.kc_lex.specs.Codes.{code_number, not_fixed}
 use Rattle.kc_expr.specs.declared.values.NoValue.TheVariants.{Fault, ToldElsewhere}
 use Rattle.kc_expr.specs.declared.expr.Expr.{Expr}
@@ -60,9 +61,5 @@ abbrev pub is_valued : List Token → Bool
 is_valued [] = false
 is_valued (n ∷ ts) = is_free_name n && (begins_word (codes "EQU") ts || begins_word (codes "SET") ts)
 
-abbrev pub first_name : List Token → List ℕ
-first_name [] = []
-first_name (t ∷ ts) = t.text
-
 unfoldable pub noted : List Token → NameMap → NameMap
-noted ts values = if is_valued ts then named_by (first_name ts) (whole_tree (drop 2 ts)) values else values
+noted ts values = if is_valued ts then named_by (first_text ts) (whole_tree (drop 2 ts)) values else values

@@ -10,24 +10,13 @@ use crate::steps::{code_if, least, plain_step};
 use kc_base::{NoMemory, Text};
 use kc_lex::{SourceCode, Token, Tokens};
 use kc_macro_body::arguments::arguments;
-use kc_macro_body::bodies::macro_of;
+use kc_macro_body::bodies::{behind_first, macro_of};
 use kc_macro_body::calls::called;
 use kc_macro_body::{Macro, Names};
 use kc_macro_input::bodies::{Filled, body_lines, fill_body, texts};
 use kc_macro_input::cutting::cut_off;
 use kc_macro_input::{Extent, Mark, Marks};
 use std::alloc::Global;
-
-/// The tokens behind the first.
-pub(crate) fn behind_first(tokens: &[Token]) -> &[Token]
-    ensures { result.now ≡ drop 1 tokens.now }
-{
-    if tokens.is_empty() {
-        tokens
-    } else {
-        tokens.split_at(1).1
-    }
-}
 
 /// Takes a definition with its body off the text, and notes the macro.
 pub(crate) fn macro_step(

@@ -3,7 +3,8 @@ use Rattle.std.proofs.Common.{Bool, ◌≡◌, ℕ, suc, true, false, cond, ◌&
 use Rattle.std.proofs.lemmas.List.{append-nil}
 use Rattle.kc_lex.specs.declared.token.Token.{Token}
 use Rattle.kc_lex.specs.Kinds.{is_sign, is_free_name}
-use Rattle.kc_macro_body.specs.Arguments.{at_first, group_depth, split_at_commas, ungrouped, closes, is_nothing, arguments, names_at, in_front}
+use Rattle.kc_lex.specs.Lists.{in_first}
+use Rattle.kc_macro_body.specs.Arguments.{group_depth, split_at_commas, ungrouped, closes, is_nothing, arguments, names_at, in_front}
 
 -- ---- arguments
 
@@ -12,11 +13,11 @@ abbrev pub with_last : List Token → List (List Token) → List (List Token)
 with_last ts [] = ts ∷ []
 with_last ts (a ∷ rest) = (ts ++ a) ∷ rest
 
-regroup : (last : List Token) (t : Token) (xs : List (List Token)) → with_last last (at_first t xs) ≡ with_last (last ++ t ∷ []) xs
+regroup : (last : List Token) (t : Token) (xs : List (List Token)) → with_last last (in_first t xs) ≡ with_last (last ++ t ∷ []) xs
 regroup last t [] = refl
 regroup last t (a ∷ rest) = ap (λ (ts : List Token). ts ∷ rest) (sym (append_assoc last (t ∷ []) a))
 
-none_last : (t : Token) (xs : List (List Token)) → with_last [] (at_first t xs) ≡ at_first t xs
+none_last : (t : Token) (xs : List (List Token)) → with_last [] (in_first t xs) ≡ in_first t xs
 none_last t [] = refl
 none_last t (a ∷ rest) = refl
 
@@ -24,7 +25,7 @@ pub split_start : (d : ℕ) (ts : List Token) → with_last [] (split_at_commas 
 unfolding split_at_commas
 split_start d [] = refl
 split_start d (t ∷ ts) =
-    elim (is_sign 44 t && (d == 0)) as (λ b. with_last [] (cond b ([] ∷ split_at_commas d ts) (at_first t (split_at_commas (group_depth t d) ts))) ≡ cond b ([] ∷ split_at_commas d ts) (at_first t (split_at_commas (group_depth t d) ts))) [
+    elim (is_sign 44 t && (d == 0)) as (λ b. with_last [] (cond b ([] ∷ split_at_commas d ts) (in_first t (split_at_commas (group_depth t d) ts))) ≡ cond b ([] ∷ split_at_commas d ts) (in_first t (split_at_commas (group_depth t d) ts))) [
       | true ↦ refl
       | false ↦ none_last t (split_at_commas (group_depth t d) ts)
     ]
@@ -41,7 +42,7 @@ pub split_more : (d : ℕ) (t : Token) (ts rest last : List Token) (texts all : 
     → texts ++ map ungrouped (with_last (last ++ t ∷ []) (split_at_commas (group_depth t d) ts)) ≡ all
 unfolding split_at_commas
 split_more d t ts rest last texts all e h so_far =
-    let one : split_at_commas d rest ≡ at_first t (split_at_commas (group_depth t d) ts) = ap (split_at_commas d) e ∙ rw h refl in
+    let one : split_at_commas d rest ≡ in_first t (split_at_commas (group_depth t d) ts) = ap (split_at_commas d) e ∙ rw h refl in
     ap (λ xs. texts ++ map ungrouped xs) (sym (regroup last t (split_at_commas (group_depth t d) ts))) ∙ ap (λ xs. texts ++ map ungrouped (with_last last xs)) (sym one) ∙ so_far
 
 pub split_end : (d : ℕ) (last : List Token) (texts all : List (List Token)) → texts ++ map ungrouped (with_last last (split_at_commas d [])) ≡ all → texts ++ ungrouped last ∷ [] ≡ all

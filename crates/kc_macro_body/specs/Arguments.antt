@@ -2,13 +2,9 @@
 use Rattle.std.specs.Prelude.{ℕ, ◌+◌, ◌-◌, Bool, true, false, ◌&&◌, ◌==◌, if◌then◌else◌, List, [], ◌∷◌, drop, take, length, map, Option, Some, None, codes}
 use Rattle.kc_lex.specs.declared.token.Token.{Token}
 use Rattle.kc_lex.specs.Kinds.{is_word, is_sign, is_free_name}
+use Rattle.kc_lex.specs.Lists.{in_first}
 
 -- ---- arguments: commas outside `<` and `>` stand between them
-
--- a token in front of the first of some arguments
-abbrev pub at_first : Token → List (List Token) → List (List Token)
-at_first t [] = (t ∷ []) ∷ []
-at_first t (a ∷ later) = (t ∷ a) ∷ later
 
 -- in how many groups a token leaves the text; a `>` of no group is a token like others
 abbrev pub group_depth : Token → ℕ → ℕ
@@ -18,7 +14,7 @@ unfoldable pub split_at_commas : ℕ → List Token → List (List Token)
 split_at_commas depth [] = [] ∷ []
 split_at_commas depth (t ∷ ts) =
     if is_sign 44 t && (depth == 0) then [] ∷ split_at_commas depth ts
-    else at_first t (split_at_commas (group_depth t depth) ts)
+    else in_first t (split_at_commas (group_depth t depth) ts)
 
 abbrev pub is_nothing : List Token → Bool
 is_nothing [] = true

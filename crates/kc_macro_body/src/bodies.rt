@@ -49,7 +49,8 @@ fn plain_lines(alloc: Global, lines: &[Tokens]) -> Result<Texts, NoMemory>
     Ok(plain)
 }
 
-fn behind_first(tokens: &[Token]) -> &[Token]
+/// The tokens behind the first.
+pub fn behind_first(tokens: &[Token]) -> &[Token]
     ensures { result.now ≡ drop 1 tokens.now }
 {
     if tokens.is_empty() {

@@ -5,6 +5,3 @@ pub mod laws;
 mod telling;
 
 pub use telling::depths;
-
-#[cfg(test)]
-mod tests;

@@ -9,8 +9,9 @@ use Rattle.kc_lex.specs.declared.token.Token.{Token}
 use Rattle.kc_lex.specs.Chars.{upper}
 use Rattle.kc_lex.specs.Kinds.{is_name_kind, is_free_name, is_sign}
 use Rattle.kc_lex.specs.Words.{is_name_text}
+use Rattle.kc_lex.specs.Lists.{in_first}
 use Rattle.kc_macro_body.specs.declared.macros.Formals.{Formals}
-use Rattle.kc_macro_body.specs.Arguments.{at_first, group_depth, split_at_commas, is_group, inside, ungrouped, arguments, over_arguments}
+use Rattle.kc_macro_body.specs.Arguments.{group_depth, split_at_commas, is_group, inside, ungrouped, arguments, over_arguments}
 use Rattle.kc_macro_body.specs.Bodies.{only}
 use Rattle.kc_macro_body.specs.Filling.{name_token, local_name, local_or, argument_or, stands_for, replaced, is_join, one_name, before, joined_on, joined_with, joined, is_long, judged, filled}
 use Rattle.kc_macro_input.specs.declared.piece.Piece.{Piece}
@@ -61,7 +62,7 @@ module _ (test : Token → Bool) where
 
   -- ---- arguments
 
-  first_pass : (t : Token) (args : List (List Token)) → test t ≡ true → list_all all_pass args ≡ true → list_all all_pass (at_first t args) ≡ true
+  first_pass : (t : Token) (args : List (List Token)) → test t ≡ true → list_all all_pass args ≡ true → list_all all_pass (in_first t args) ≡ true
   first_pass t [] h k = and_from (all_pass (t ∷ [])) true (one_token t h) refl
   first_pass t (a ∷ later) h k =
       let both : (all_pass a ≡ true) × (list_all all_pass later ≡ true) = and_parts (all_pass a) (list_all all_pass later) k in
@@ -72,7 +73,7 @@ module _ (test : Token → Bool) where
   split_pass depth [] h = refl
   split_pass depth (t ∷ ts) h =
       let both : (test t ≡ true) × (all_pass ts ≡ true) = and_parts (test t) (all_pass ts) h in
-      elim (is_sign 44 t && (depth == 0)) as (λ b. list_all all_pass (cond b ([] ∷ split_at_commas depth ts) (at_first t (split_at_commas (group_depth t depth) ts))) ≡ true) [
+      elim (is_sign 44 t && (depth == 0)) as (λ b. list_all all_pass (cond b ([] ∷ split_at_commas depth ts) (in_first t (split_at_commas (group_depth t depth) ts))) ≡ true) [
         | true ↦ split_pass depth ts both.1
         | false ↦ first_pass t (split_at_commas (group_depth t depth) ts) both.0 (split_pass (group_depth t depth) ts both.1)
       ]

@@ -8,10 +8,10 @@ use Rattle.kc_obj.specs.Contents.{content_end, content_follows, contents_in_orde
 
 -- ---- on plain numbers: a run at offset f of piece q that ends before e
 
-over_covers : (q f e p o : ℕ) → (ltb q p || (eqb q p && leb e o)) ≡ true → (eqb q p && leb f o && ltb o e) ≡ false
+pub over_covers : (q f e p o : ℕ) → (ltb q p || (eqb q p && leb e o)) ≡ true → (eqb q p && leb f o && ltb o e) ≡ false
 over_covers q f e p o h = grind (arith, nat_tests)
 
-over_from : (q e p o r s : ℕ) → (ltb q p || (eqb q p && leb e o)) ≡ true → (ltb p r || (eqb p r && leb o s)) ≡ true → (ltb q r || (eqb q r && leb e s)) ≡ true
+pub over_from : (q e p o r s : ℕ) → (ltb q p || (eqb q p && leb e o)) ≡ true → (ltb p r || (eqb p r && leb o s)) ≡ true → (ltb q r || (eqb q r && leb e s)) ≡ true
 over_from q e p o r s h k = grind (arith, nat_tests)
 
 -- the place is in front of the run

@@ -18,7 +18,7 @@ from_next p o = grind (arith, nat_tests)
 from_following : (p o w q r : ℕ) → (ltb p q || (eqb p q && leb (o + w) r)) ≡ true → is_from p o q r ≡ true
 from_following p o w q r h = grind (arith, nat_tests)
 
-from_joined : (p o q r s t : ℕ) → is_from p o q r ≡ true → is_from q r s t ≡ true → is_from p o s t ≡ true
+pub from_joined : (p o q r s t : ℕ) → is_from p o q r ≡ true → is_from q r s t ≡ true → is_from p o s t ≡ true
 from_joined p o q r s t h k = grind (arith, nat_tests)
 
 pub rest_in_order : (f : Fixup) (fs : List Fixup) → fixups_in_order (f ∷ fs) ≡ true → fixups_in_order fs ≡ true
@@ -26,7 +26,7 @@ unfolding fixups_in_order
 rest_in_order f [] h = refl
 rest_in_order f (g ∷ fs) h = (and_parts (fixup_follows f g) (fixups_in_order (g ∷ fs)) h).1
 
-next_follows : (f g : Fixup) (fs : List Fixup) → fixups_in_order (f ∷ g ∷ fs) ≡ true → fixup_follows f g ≡ true
+pub next_follows : (f g : Fixup) (fs : List Fixup) → fixups_in_order (f ∷ g ∷ fs) ≡ true → fixup_follows f g ≡ true
 unfolding fixups_in_order
 next_follows f g fs h = (and_parts (fixup_follows f g) (fixups_in_order (g ∷ fs)) h).0
 

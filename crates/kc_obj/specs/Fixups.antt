@@ -32,6 +32,10 @@ unfoldable pub fixup_at : List Fixup → ℕ → ℕ → Option Fixup
 fixup_at [] piece offset = None
 fixup_at (f ∷ fs) piece offset = if (f.piece == piece) && (f.offset == offset) then Some f else fixup_at fs piece offset
 
+-- it fills in the byte at an offset of a piece
+abbrev pub fills : ℕ → ℕ → Fixup → Bool
+fills piece offset f = (f.piece == piece) && nat_le f.offset offset && nat_lt offset (f.offset + width f.kind)
+
 -- what the first byte under a number holds: 0, or the opcode of a jump of 11 bits
 abbrev pub may_begin : ℕ → Option ℕ → Bool
 may_begin kind None = false

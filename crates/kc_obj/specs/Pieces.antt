@@ -15,6 +15,12 @@ kind_number Code = 1
 kind_number Ram = 2
 kind_number Stack = 3
 
+abbrev pub is_register_kind : SegKind → Bool
+is_register_kind Reg = true
+is_register_kind Code = false
+is_register_kind Ram = false
+is_register_kind Stack = false
+
 -- within addresses low to high with the whole length
 abbrev pub lies_in : ℕ → ℕ → ℕ → ℕ → Bool
 lies_in low high base len = nat_le low base && nat_le base high && nat_le (base + len) (high + 1)

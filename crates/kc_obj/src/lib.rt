@@ -14,6 +14,3 @@ mod writing;
 pub use module::Module;
 pub use parts::{Content, Fixup, Given, Lines, SegKind, Segment, Taken, Target};
 pub use writing::encode;
-
-#[cfg(test)]
-mod tests;

@@ -1,7 +1,7 @@
 ghost use Rattle.std.specs.Prelude.{◌≡◌, ◌<◌, ◌≤◌, ◌+◌, length};
 ghost use Rattle.std.specs.List.{list_any};
 ghost use Rattle.std.specs.Option.{option_copied};
-ghost use Rattle.kc_obj.specs.Pieces.{kind_number, lies_in, in_region, is_placed, segment_follows, segments_in_order, is_piece, targets_piece, is_named, is_empty, is_kept, all_kept, has_code};
+ghost use Rattle.kc_obj.specs.Pieces.{kind_number, is_register_kind, lies_in, in_region, is_placed, segment_follows, segments_in_order, is_piece, targets_piece, is_named, is_empty, is_kept, all_kept, has_code};
 
 use crate::parts::{Fixup, Given, SegKind, Segment, Target};
 
@@ -14,6 +14,16 @@ pub fn number_of(kind: SegKind) -> u8
         SegKind::Code => 1,
         SegKind::Ram => 2,
         SegKind::Stack => 3,
+    }
+}
+
+/// Whether pieces of this kind are of registers.
+pub fn is_register(kind: SegKind) -> bool
+    ensures { result ≡ is_register_kind kind }
+{
+    match kind {
+        SegKind::Reg => true,
+        SegKind::Code | SegKind::Ram | SegKind::Stack => false,
     }
 }
 

@@ -10,7 +10,8 @@ use Rattle.kc_obj.specs.declared.parts.Content.{Content}
 use Rattle.kc_obj.specs.declared.parts.Fixup.{Fixup}
 use Rattle.kc_obj.specs.Contents.{covers}
 use Rattle.kc_obj_relocation.specs.Numbers.{width}
-use Rattle.kc_obj_faults.specs.Records.{place_of, is_over, is_under}
+use Rattle.kc_obj.specs.Fixups.{fills}
+use Rattle.kc_obj_faults.specs.Records.{place_of, is_under}
 use Rattle.kc_obj_faults.specs.Places.{same_place, or_else, place_in_run, PutsRun, IsTable, Covers, CoversNumber, HasCovered}
 
 -- on plain numbers: the byte behind n bytes of a run
@@ -79,17 +80,17 @@ table_push old new cs starts c start table puts =
 
 -- ---- the bytes under relocations
 
-under_push : (fs : List Fixup) (x : Fixup) (p o : ℕ) → is_under (fs ++ x ∷ []) p o ≡ (is_under fs p o || is_over p o x)
-under_push [] x p o = or_last (is_over p o x)
+under_push : (fs : List Fixup) (x : Fixup) (p o : ℕ) → is_under (fs ++ x ∷ []) p o ≡ (is_under fs p o || fills p o x)
+under_push [] x p o = or_last (fills p o x)
   where
     or_last : (b : Bool) → (b || false) ≡ (false || b)
     or_last true = refl
     or_last false = refl
 under_push (f ∷ fs) x p o =
-    elim (is_over p o f) as (λ b. (b || is_under (fs ++ x ∷ []) p o) ≡ ((b || is_under fs p o) || is_over p o x)) [ true ↦ refl | false ↦ under_push fs x p o ]
+    elim (fills p o f) as (λ b. (b || is_under (fs ++ x ∷ []) p o) ≡ ((b || is_under fs p o) || fills p o x)) [ true ↦ refl | false ↦ under_push fs x p o ]
 
 pub covered_push : {S : Type 0} (old new : HashSet (ℕ × ℕ) S) (fs : List Fixup) (x : Fixup) → HasCovered old fs → CoversNumber old new x → HasCovered new (fs ++ x ∷ [])
-covered_push old new fs x has covers p o = covers p o ∙ ap (λ b. b || is_over p o x) (has p o) ∙ sym (under_push fs x p o)
+covered_push old new fs x has covers p o = covers p o ∙ ap (λ b. b || fills p o x) (has p o) ∙ sym (under_push fs x p o)
 
 pub covered_none : {S : Type 0} (under : HashSet (ℕ × ℕ) S) (fs : List Fixup) → under.keys ≡ [] → fs ≡ [] → HasCovered under fs
 covered_none {S} under fs empty none p o = none_in under p o empty ∙ ap (λ (xs : List Fixup). is_under xs p o) (sym none)

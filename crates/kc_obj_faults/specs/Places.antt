@@ -4,7 +4,8 @@ use Rattle.std.specs.HashMap.{HashMap, get}
 use Rattle.std.specs.HashSet.{HashSet, contains}
 use Rattle.kc_obj.specs.declared.parts.Content.{Content}
 use Rattle.kc_obj.specs.declared.parts.Fixup.{Fixup}
-use Rattle.kc_obj_faults.specs.Records.{place_of, is_over, is_under}
+use Rattle.kc_obj.specs.Fixups.{fills}
+use Rattle.kc_obj_faults.specs.Records.{place_of, is_under}
 
 -- a byte by the number of its piece and its offset
 abbrev pub same_place : ℕ × ℕ → ℕ × ℕ → Bool
@@ -48,7 +49,7 @@ Covers old new piece offset = (p o : ℕ) → contains same_place new (p, o) ≡
 
 -- the bytes under one more relocation are in the set
 abbrev pub CoversNumber : {S : Type 0} → HashSet (ℕ × ℕ) S → HashSet (ℕ × ℕ) S → Fixup → Type 0
-CoversNumber old new x = (p o : ℕ) → contains same_place new (p, o) ≡ (contains same_place old (p, o) || is_over p o x)
+CoversNumber old new x = (p o : ℕ) → contains same_place new (p, o) ≡ (contains same_place old (p, o) || fills p o x)
 
 -- the set has the bytes under all relocations
 abbrev pub HasCovered : {S : Type 0} → HashSet (ℕ × ℕ) S → List Fixup → Type 0

@@ -17,7 +17,7 @@ use Rattle.kc_obj.specs.Names.{is_below}
 use Rattle.kc_obj.specs.Pieces.{kind_number, in_region, is_relocatable, has_code}
 use Rattle.kc_obj.specs.Contents.{leaves_place, covers}
 use Rattle.kc_obj_relocation.specs.Numbers.{width}
-use Rattle.kc_obj.specs.Fixups.{may_begin, is_zero}
+use Rattle.kc_obj.specs.Fixups.{fills, may_begin, is_zero}
 use Rattle.kc_obj.specs.LineEntries.{line_follows}
 use Rattle.kc_obj_faults.specs.Codes.{out_of_range, other_spelling, no_name}
 use Rattle.kc_obj_faults.specs.Fields.{word_at, long_at, name_at, is_bad_name, noted}
@@ -164,11 +164,8 @@ place_of (c ∷ cs) (start ∷ starts) piece offset =
     if covers c piece offset then Some (start + (offset - c.offset)) else place_of cs starts piece offset
 
 -- the bytes of a relocation have an offset of a piece among them
-abbrev pub is_over : ℕ → ℕ → Fixup → Bool
-is_over piece offset f = (f.piece == piece) && nat_le f.offset offset && nat_lt offset (f.offset + width f.kind)
-
 abbrev pub is_under : List Fixup → ℕ → ℕ → Bool
-is_under fixups piece offset = list_any (is_over piece offset) fixups
+is_under fixups piece offset = list_any (fills piece offset) fixups
 
 -- the byte at a place of the file
 abbrev pub byte_of_file : List ℕ → Option ℕ → Option ℕ

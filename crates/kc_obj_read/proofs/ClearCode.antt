@@ -10,13 +10,13 @@ use Rattle.kc_obj.specs.declared.parts.Fixup.{Fixup}
 use Rattle.kc_obj.specs.Pieces.{has_code}
 use Rattle.kc_obj.specs.Contents.{content_is_sound, content_follows, content_at}
 use Rattle.kc_obj_relocation.specs.Numbers.{width}
-use Rattle.kc_obj.specs.Fixups.{target_exists, fixup_is_sound, fixup_follows, may_begin, is_zero, has_room}
+use Rattle.kc_obj.specs.Fixups.{target_exists, fixup_is_sound, fixup_follows, fills, may_begin, is_zero, has_room}
 use Rattle.kc_obj.specs.Spelling.{content_body, target_bytes, fixup_body}
 use Rattle.kc_obj_faults.specs.declared.faults.Fault.{Fault}
 use Rattle.kc_obj_faults.specs.Fields.{word_at, noted}
 use Rattle.kc_base.specs.Bytes.{IsBytes}
 use Rattle.kc_obj_read.specs.Law.{target_fits, fixup_fits}
-use Rattle.kc_obj_faults.specs.Records.{run_at, run_piece_falls, run_falls, run_faults, target_of, fixup_at, fixup_piece_falls, fixup_falls, bad_index, fixup_place_faults, place_of, is_over, is_under, byte_of_file, place_or_zero, byte_faults, stands_free, free_faults, under_faults}
+use Rattle.kc_obj_faults.specs.Records.{run_at, run_piece_falls, run_falls, run_faults, target_of, fixup_at, fixup_piece_falls, fixup_falls, bad_index, fixup_place_faults, place_of, is_under, byte_of_file, place_or_zero, byte_faults, stands_free, free_faults, under_faults}
 use Rattle.kc_obj_read.specs.Reading.{Read, fixup_faults}
 use Rattle.kc_obj_faults.specs.Fields.{last_of}
 use Rattle.kc_obj_read.proofs.Bytes.{word_again, word_below}
@@ -126,7 +126,7 @@ over_next p q o r w h k l = grind (arith, nat_tests)
 
 fixup_after : (fixups : List Fixup) (before : Option Fixup) (x : Fixup) → last_of fixups ≡ before → fixup_piece_falls before x.piece ≡ false → fixup_falls before x.piece x.offset ≡ false → is_under fixups x.piece x.offset ≡ false → AfterLast fixup_follows before x
 fixup_after fixups None x last h k under = tt
-fixup_after fixups (Some b) x last h k under = over_next b.piece x.piece b.offset x.offset (width b.kind) h k (none_last (is_over x.piece x.offset) fixups b under last)
+fixup_after fixups (Some b) x last h k under = over_next b.piece x.piece b.offset x.offset (width b.kind) h k (none_last (fills x.piece x.offset) fixups b under last)
 
 target_exact : (segments : List Segment) (externals : List Taken) (kind t i j : ℕ) → i < 256 → j < 256 → (nat_lt 2 t || ((t == 2) && nat_lt kind 2)) ≡ false → bad_index (length segments) (length externals) t (i + 256 * j) ≡ false
     → (target_exists segments externals kind (target_of t (i + 256 * j)) ≡ true) × (target_bytes (target_of t (i + 256 * j)) ≡ t ∷ i ∷ j ∷ []) × (target_fits (target_of t (i + 256 * j)) ≡ true)

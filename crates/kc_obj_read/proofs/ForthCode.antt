@@ -14,13 +14,13 @@ use Rattle.kc_obj.specs.declared.parts.Target.TheVariants as targets
 use Rattle.kc_obj.specs.Pieces.{has_code}
 use Rattle.kc_obj.specs.Contents.{content_at}
 use Rattle.kc_obj_relocation.specs.Numbers.{width}
-use Rattle.kc_obj.specs.Fixups.{target_exists, fixup_is_sound, fixup_follows, fixups_in_order, may_begin, is_zero, has_room}
+use Rattle.kc_obj.specs.Fixups.{target_exists, fixup_is_sound, fixup_follows, fixups_in_order, fills, may_begin, is_zero, has_room}
 use Rattle.kc_obj.specs.LineEntries.{line_is_sound, line_follows, lines_in_order}
 use Rattle.kc_obj.specs.Spelling.{word_bytes, target_bytes, fixup_body, entry_bytes}
 use Rattle.kc_obj_faults.specs.declared.faults.Fault.{Fault}
 use Rattle.kc_obj_faults.specs.Fields.{word_at, long_at, noted}
 use Rattle.kc_obj_read.specs.Law.{target_fits, fixup_fits, line_fits}
-use Rattle.kc_obj_faults.specs.Records.{target_of, fixup_at, fixup_piece_falls, fixup_falls, bad_index, fixup_place_faults, place_of, is_over, is_under, byte_of_file, place_or_zero, byte_faults, stands_free, free_faults, under_faults, entry_at, entry_falls, entry_faults, block_falls}
+use Rattle.kc_obj_faults.specs.Records.{target_of, fixup_at, fixup_piece_falls, fixup_falls, bad_index, fixup_place_faults, place_of, is_under, byte_of_file, place_or_zero, byte_faults, stands_free, free_faults, under_faults, entry_at, entry_falls, entry_faults, block_falls}
 use Rattle.kc_obj_read.specs.Reading.{Read, fixup_faults, after_entry, after_entries, opened_faults, opened_block, after_block, fits_lines}
 use Rattle.kc_obj_faults.specs.Fields.{last_of}
 use Rattle.kc_obj_read.proofs.ClearCode.{PlacesHold}
@@ -63,7 +63,7 @@ none_over : (fs : List Fixup) (x : Fixup) (o : ℕ) → fixups_in_order (fs ++ x
 unfolding fixups_in_order
 none_over [] x o h le = refl
 none_over (f ∷ fs) x o h le =
-    or_from (is_over x.piece o f) (is_under fs x.piece o) (not_over f.piece f.offset x.piece x.offset (width f.kind) o (follows_all f fs x h) le) (none_over fs x o (rest fs h) le)
+    or_from (fills x.piece o f) (is_under fs x.piece o) (not_over f.piece f.offset x.piece x.offset (width f.kind) o (follows_all f fs x h) le) (none_over fs x o (rest fs h) le)
   where
     rest : (gs : List Fixup) → fixups_in_order (f ∷ (gs ++ x ∷ [])) ≡ true → fixups_in_order (gs ++ x ∷ []) ≡ true
     rest [] k = refl

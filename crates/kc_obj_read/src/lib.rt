@@ -8,6 +8,3 @@ mod step;
 
 pub use decoding::decode;
 pub use kc_obj_faults::faults::ObjFault;
-
-#[cfg(test)]
-mod tests;

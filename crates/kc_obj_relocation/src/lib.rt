@@ -84,6 +84,3 @@ pub fn second_part(kind: u8, number: u16) -> u8
         (number / 256) as u8
     }
 }
-
-#[cfg(test)]
-mod tests;

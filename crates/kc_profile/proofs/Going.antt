@@ -23,18 +23,6 @@ use Rattle.kc_profile.specs.Tally.{Tally, IsTallyOf, total}
 use Rattle.kc_profile.specs.Passing.{LastsFor, Passed}
 use Rattle.kc_profile.proofs.Spotted.{spots-none, spots-ended, spots-add, spots-activity, end-stays, end-idle}
 
--- what follows where a call has failed
-pub on-fault : {A E : Type 0} {P Q : Type 0} (r : Result A E) → OnErr r P → (P → Q) → OnErr r Q
-on-fault (Ok a) p h = tt
-on-fault (Err e) p h = h p
-
--- lines that were put whole, or at which the sink has failed
-pub printed : (o : Out) (xs : List Record) (p : Out) → Puts o (text_of xs) p → p.counts ≡ counted_all xs o.counts → Prints o xs p
-printed o xs p text counts = record { text = text; counts = λ e. counts }
-
-pub broken-off : (o : Out) (xs : List Record) (p : Out) → Puts o (text_of xs) p → p.failed ≡ true → Prints o xs p
-broken-off o xs p text failed = record { text = text; counts = λ e. absurd (let t : true ≡ false = sym failed ∙ e in cc) }
-
 module _ {X : Type 0} (f : Further X) where
   -- ---- some states
 
@@ -213,8 +201,3 @@ module _ {X : Type 0} (f : Further X) where
         let same : m ≡ m0 = along-same until m0 o0 t0 s0 v0 m o t s v along none in
         absurd (let e : None ≡ Some how = sym lives ∙ ap (λ (k : Machine X). k.ended) (sym same) ∙ over in cc)
   ]
-
--- what is so in any case is so where a call has failed
-pub always-failed : {A E : Type 0} {P : Type 0} (r : Result A E) → P → OnErr r P
-always-failed (Ok a) p = tt
-always-failed (Err e) p = p

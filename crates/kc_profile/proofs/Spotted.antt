@@ -11,7 +11,7 @@ use Rattle.kc_machine_spec.specs.declared.doing.UnderWay.{UnderWay}
 use Rattle.kc_machine_spec.specs.Machine.{Machine, Stepped, current, current_of, chosen, asked, serves, goes_on, goes_first, fetches}
 use Rattle.kc_machine_spec.specs.Passing.{passed, activity_end, IsIdle}
 use Rattle.kc_machine_spec.specs.Run.{still, run_for, run_to}
-use Rattle.kc_machine_spec.proofs.Runs.{run_for-ended, run_for-add, run_for-cut, waits}
+use Rattle.kc_machine_spec.proofs.Runs.{run_for-ended, run_for-add, run_for-cut, waits, run-none, machine-add, machine-suc}
 use Rattle.kc_machine_spec.proofs.Idle.{one_more}
 use Rattle.kc_machine.specs.Stepping.{IdlesFor}
 use Rattle.kc_profile.specs.declared.spot.Spot.{Spot}
@@ -20,20 +20,6 @@ use Rattle.kc_profile.specs.Spots.{spot_of, coming_spot, unless_over, spots_for}
 use Rattle.kc_profile.specs.Passing.{LastsFor}
 
 module _ {X : Type 0} (f : Further X) where
-  -- ---- runs
-
-  pub run-none : (m : Machine X) → run_for f 0 m ≡ still m
-  unfolding run_for
-  run-none m = refl
-
-  machine-add : (a b : ℕ) (m : Machine X) → (run_for f (a + b) m).machine ≡ (run_for f b (run_for f a m).machine).machine
-  machine-add a b m = ap (λ (s : Stepped X). s.machine) (run_for-add f a b m)
-
-  machine-suc : (b : ℕ) (m : Machine X) → (run_for f (suc b) m).machine ≡ (run_for f b (run_for f 1 m).machine).machine
-  machine-suc b m =
-      let e : suc b ≡ 1 + b = omega arith in
-      ap (λ n. (run_for f n m).machine) e ∙ machine-add 1 b m
-
   -- ---- spots
 
   pub spots-none : (m : Machine X) → spots_for f 0 m ≡ []
@@ -59,7 +45,7 @@ module _ {X : Type 0} (f : Further X) where
   pub spots-add : (a b : ℕ) (m : Machine X) → spots_for f (a + b) m ≡ spots_for f a m ++ spots_for f b (run_for f a m).machine
   spots-add zero b m =
       ap (λ n. spots_for f n m) (zero-add b)
-      ∙ ap (λ (s : Stepped X). spots_for f b s.machine) (sym (run-none m))
+      ∙ ap (λ (s : Stepped X). spots_for f b s.machine) (sym (run-none f m))
       ∙ ap (λ xs. xs ++ spots_for f b (run_for f 0 m).machine) (sym (spots-none m))
   spots-add (suc a) b m = by_end m.ended refl (spots-add a b (run_for f 1 m).machine)
     where
@@ -76,7 +62,7 @@ module _ {X : Type 0} (f : Further X) where
           ∙ spots-lives (a + b) m e
           ∙ ap (λ xs. coming_spot m ∷ xs) rest
           ∙ ap (λ xs. xs ++ spots_for f b (run_for f a next).machine) (sym (spots-lives a m e))
-          ∙ ap (λ k. spots_for f (suc a) m ++ spots_for f b k) (sym (machine-suc a m))
+          ∙ ap (λ k. spots_for f (suc a) m ++ spots_for f b k) (sym (machine-suc f a m))
 
   -- ---- one activity
 
@@ -111,7 +97,7 @@ module _ {X : Type 0} (f : Further X) where
   pub lasts-activity : (n : ℕ) (m : Machine X) → m.ended ≡ None → n < (current m).left → LastsFor f n m
   lasts-activity n m lives few zero within =
       let e : m.time ≡ m.time + 0 = omega arith in
-      ap (λ (s : Stepped X). s.machine.time) (run-none m) ∙ e
+      ap (λ (s : Stepped X). s.machine.time) (run-none f m) ∙ e
   lasts-activity n m lives few (suc k) within = ap (λ (s : Stepped X). s.machine.time) (run_for-cut f (suc k) m (current m) lives refl (omega arith) (omega arith))
 
   -- where an activity ends is told in each of its states
@@ -123,7 +109,7 @@ module _ {X : Type 0} (f : Further X) where
         ∙ (let e : (m.time + n) + ((current m).left - n) ≡ activity_end m = omega arith in e)
     | inr same ↦
         let e : began - m.time ≡ 0 = omega arith in
-        ap (λ i. activity_end (run_for f i m).machine) e ∙ ap (λ (s : Stepped X). activity_end s.machine) (run-none m)
+        ap (λ i. activity_end (run_for f i m).machine) e ∙ ap (λ (s : Stepped X). activity_end s.machine) (run-none f m)
   ]
 
   -- ---- idle states
@@ -143,7 +129,7 @@ module _ {X : Type 0} (f : Further X) where
   pub lasts-idle : (n : ℕ) (m : Machine X) → IdlesFor f n m → LastsFor f n m
   lasts-idle n m idles zero within =
       let e : m.time ≡ m.time + 0 = omega arith in
-      ap (λ (s : Stepped X). s.machine.time) (run-none m) ∙ e
+      ap (λ (s : Stepped X). s.machine.time) (run-none f m) ∙ e
   lasts-idle n m idles (suc k) within =
       let before = lasts-idle n m idles k (omega arith) in
       let here = idles k (omega arith) in
@@ -151,12 +137,12 @@ module _ {X : Type 0} (f : Further X) where
       let e : suc k ≡ k + 1 = omega arith in
       let time : mid.time + 1 ≡ m.time + suc k = omega (arith, before) in
       ap (λ i. (run_for f i m).machine.time) e
-      ∙ ap (λ (x : Machine X). x.time) (machine-add k 1 m)
+      ∙ ap (λ (x : Machine X). x.time) (machine-add f k 1 m)
       ∙ ap (λ (s : Stepped X). s.machine.time) (one_more f mid here.0 here.1)
       ∙ time
 
   idle-first : (n : ℕ) (m : Machine X) → IdlesFor f n m → 0 < n → IsIdle m × (asked m ≡ Go)
-  idle-first n m idles some = subst (λ (x : Machine X). IsIdle x × (asked x ≡ Go)) (ap (λ (s : Stepped X). s.machine) (run-none m)) (idles 0 some)
+  idle-first n m idles some = subst (λ (x : Machine X). IsIdle x × (asked x ≡ Go)) (ap (λ (s : Stepped X). s.machine) (run-none f m)) (idles 0 some)
 
   pub lives-idle : (n : ℕ) (m : Machine X) → IdlesFor f n m → 0 < n → m.ended ≡ None
   lives-idle n m idles some = (idle-first n m idles some).0.lives

@@ -3,23 +3,13 @@ ghost use Rattle.std.specs.Prelude.{◌≡◌, ◌+◌, ◌^◌, ◌<◌, ◌≤
 ghost use Rattle.kc_profile.specs.Text as spec;
 
 use crate::Profile;
-use itoa::Buffer;
 use kc_base::NoMemory;
 use kc_debug_script::MapEntry;
-use kc_link_map::address_text;
+use kc_link_map::{address_text, put_number};
 use std::alloc::Global;
 
 /// How many addresses there are.
 const ADDRESSES: u32 = 0x10000;
-
-// Puts a number in decimal behind a text.
-fn put_number(text: &mut Vec<u8>, number: u64) -> Result<(), NoMemory>
-    ensures { OnOk result (text.new.items ≡ text.old.items ++ decimal number) }
-{
-    let mut buffer = Buffer::new();
-    text.extend_from_slice(buffer.format(number).as_bytes())?;
-    Ok(())
-}
 
 // Puts a blank, a number of states and the end of a line.
 fn put_states(text: &mut Vec<u8>, states: u64) -> Result<(), NoMemory>

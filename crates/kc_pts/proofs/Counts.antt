@@ -1,25 +1,16 @@
 -- No setup makes more than six accesses, no transfer with its end more than eight.
-use Rattle.std.proofs.Common.{ℕ, Bool, true, false, ◌+◌, ◌*◌, ◌-◌, ◌%◌, ◌<◌, ◌≤◌, ◌==◌, if◌then◌else◌, Option, Some, None, arith}
+use Rattle.std.proofs.Common.{ℕ, Bool, true, false, ◌+◌, ◌*◌, ◌%◌, ◌==◌, if◌then◌else◌, Option, Some, None, arith}
 use Rattle.kc_base.specs.Bits.{bit}
 use Rattle.kc_base.specs.declared.types.Kind.TheVariants.{BadPts}
 use Rattle.kc_base.specs.declared.types.PtsMode.{PtsMode}
 use Rattle.kc_base.specs.declared.types.PtsMode.TheVariants.{Single, Block, Hsi, Hso, Scan}
-use Rattle.kc_exec_spec.specs.Effect.{Effect, End, Undefined, Look, Ask, ◌>>=◌}
+use Rattle.kc_exec_spec.specs.Effect.{Effect, End, Undefined, ◌>>=◌}
 use Rattle.kc_exec_spec.specs.Accesses.{AtMost}
-use Rattle.kc_exec_spec.proofs.Counting.{AtMost-bind}
+use Rattle.kc_exec_spec.proofs.Counting.{AtMost-more, AtMost-bind, if-most}
 use Rattle.kc_pts.specs.declared.cycle.Cycle.{Cycle}
 use Rattle.kc_pts.specs.Server.{read_byte, read_word, write_byte, write_word}
 use Rattle.kc_pts.specs.Cycles.{vector_of, is_block, mode_of, transfers_of, or_bad, read_block, set_up, moved_by, copy_byte, copy_word, copy, take_event, load_event, scan, transferred_in, transferred, new_count, write_if, finished, ended_if_last}
 use Rattle.kc_pts.specs.Counts.{SetupAccesses, TransferAccesses}
-
--- more are allowed
-more-allowed : {A : Type 0} (n k : ℕ) (t : Effect A) → n ≤ k → AtMost n t → AtMost k t
-more-allowed n k (End a) le h = tt
-more-allowed n k (Undefined kind) le h = tt
-more-allowed n k (Look next) le h = λ m. more-allowed n k (next m) le (h m)
-more-allowed n k (Ask r next) le h =
-    let some : 0 < n = h.0 in
-    (omega arith, λ x. more-allowed (n - 1) (k - 1) (next x) (omega arith) (h.1 x))
 
 read_byte-most : (addr : ℕ) → AtMost 1 (read_byte addr)
 unfolding read_byte
@@ -42,10 +33,6 @@ or_bad-most None = tt
 or_bad-most (Some a) = tt
 
 -- one of two effects
-either-most : {A : Type 0} (n : ℕ) (b : Bool) (s t : Effect A) → AtMost n s → AtMost n t → AtMost n (if b then s else t)
-either-most n true s t p q = p
-either-most n false s t p q = q
-
 write_if-most : (b : Bool) (addr n : ℕ) → AtMost 1 (write_if b addr n)
 write_if-most true addr n = write_word-most addr n
 write_if-most false addr n = tt
@@ -74,7 +61,7 @@ copy-most : (cycle : Cycle) → AtMost 2 (copy cycle)
 unfolding copy copy_byte copy_word
 copy-most cycle =
     AtMost-bind 2 0 (if bit cycle.control 4 then copy_byte cycle.source cycle.target else copy_word cycle.source cycle.target) _
-    (either-most 2 (bit cycle.control 4) (copy_byte cycle.source cycle.target) (copy_word cycle.source cycle.target)
+    (if-most 2 (bit cycle.control 4) (copy_byte cycle.source cycle.target) (copy_word cycle.source cycle.target)
     (AtMost-bind 1 1 (read_byte cycle.source) _ (read_byte-most cycle.source) (λ n. write_byte-most cycle.target n))
     (AtMost-bind 1 1 (read_word cycle.source) _ (read_word-most cycle.source) (λ n. write_word-most cycle.target n)))
     (λ u. tt)
@@ -105,10 +92,10 @@ scan-most cycle =
     AtMost-bind 1 0 (write_byte 2 (command % 256)) _ (write_byte-most 2 (command % 256)) (λ given. tt)))))
 
 transferred-most : (mode : PtsMode) (cycle : Cycle) → AtMost 5 (transferred_in mode cycle)
-transferred-most Single cycle = more-allowed 2 5 (copy cycle) (omega arith) (copy-most cycle)
-transferred-most Block cycle = more-allowed 2 5 (copy cycle) (omega arith) (copy-most cycle)
-transferred-most Hsi cycle = more-allowed 4 5 (take_event cycle) (omega arith) (take_event-most cycle)
-transferred-most Hso cycle = more-allowed 4 5 (load_event cycle) (omega arith) (load_event-most cycle)
+transferred-most Single cycle = AtMost-more 2 5 (copy cycle) (omega arith) (copy-most cycle)
+transferred-most Block cycle = AtMost-more 2 5 (copy cycle) (omega arith) (copy-most cycle)
+transferred-most Hsi cycle = AtMost-more 4 5 (take_event cycle) (omega arith) (take_event-most cycle)
+transferred-most Hso cycle = AtMost-more 4 5 (load_event cycle) (omega arith) (load_event-most cycle)
 transferred-most Scan cycle = scan-most cycle
 
 finished-most : (cycle : Cycle) → AtMost 3 (finished cycle)
@@ -120,7 +107,7 @@ finished-most cycle =
 
 ended-most : (cycle : Cycle) → AtMost 3 (ended_if_last cycle)
 ended-most cycle =
-    either-most 3 (cycle.left == 0) (finished cycle >>= λ count. End (cycle, Some count)) (End (cycle, None))
+    if-most 3 (cycle.left == 0) (finished cycle >>= λ count. End (cycle, Some count)) (End (cycle, None))
     (AtMost-bind 3 0 (finished cycle) _ (finished-most cycle) (λ count. tt)) tt
 
 pub transfer_accesses : TransferAccesses

@@ -5,12 +5,14 @@ use Rattle.std.proofs.lemmas.Bool.{cases_lt, cases_Bool, and_parts, lt-ltb, le-l
 use Rattle.std.proofs.lemmas.Nat.{div-add-mod', le-div}
 use Rattle.std.proofs.Math.Nat.{mod-eq_of_lt, div-eq_of_lt}
 use Rattle.kc_extra.specs.Two.{either_holds}
+use Rattle.kc_extra.specs.Histories.{Access, accessed}
 use Rattle.kc_serial.specs.Frames.{bit_length, shown, ends, begun, begun_of, is_over, sending_after}
 use Rattle.kc_serial.specs.Samples.{half_bit, is_sample, is_complete, shifted, sampled, with_sample, reception_after}
 use Rattle.kc_serial.specs.Port.{ticked, receives, is_on}
 use Rattle.kc_serial.specs.Registers.{sbuf, baud_rate, sp_con, is_readable, is_writable, after_read, after_write, queued, with_byte, with_rate, with_control}
 use Rattle.kc_serial.specs.Spans.{bits_by}
-use Rattle.kc_serial.specs.History.{Access, accessed, Driven, falls, port_at, LevelsAreKept, sample_state, number_of, ReceivedBytesAreSamples, FramesAreShown}
+use Rattle.kc_serial.specs.Unit.{serial_further}
+use Rattle.kc_serial.specs.History.{Driven, falls, port_at, LevelsAreKept, sample_state, number_of, ReceivedBytesAreSamples, FramesAreShown}
 use Rattle.kc_serial.specs.declared.receiving.Reception.{Reception}
 use Rattle.kc_serial.specs.declared.sending.Frame.{Frame}
 use Rattle.kc_serial.specs.declared.sending.Sending.{Sending}
@@ -28,8 +30,8 @@ queued_level byte Idle d = refl
 queued_level byte (Next other) d = refl
 queued_level byte (Busy frame) d = refl
 
-access_level : (d : Serial) (a : Access) → (accessed d a).rxd ≡ d.rxd
-access_level d a =
+access_level : (t : ℕ) (d : Serial) (a : Access) → (accessed serial_further t d a).rxd ≡ d.rxd
+access_level t d a =
     let P = λ (e : Serial). e.rxd ≡ d.rxd in
     either_holds P a.is_write (after_write a.window a.sfr a.value d) (after_read a.window a.sfr d)
     (either_holds P (is_writable a.window a.sfr) _ d
@@ -39,14 +41,14 @@ access_level d a =
     refl)
     (either_holds P (is_readable a.window a.sfr && (a.sfr == sp_con)) _ d refl refl)
 
-accesses_level : (accesses : List Access) (d : Serial) → (fold accessed d accesses).rxd ≡ d.rxd
-accesses_level [] d = refl
-accesses_level (a ∷ accesses) d = accesses_level accesses (accessed d a) ∙ access_level d a
+accesses_level : (t : ℕ) (accesses : List Access) (d : Serial) → (fold (accessed serial_further t) d accesses).rxd ≡ d.rxd
+accesses_level t [] d = refl
+accesses_level t (a ∷ accesses) d = accesses_level t accesses (accessed serial_further t d a) ∙ access_level t d a
 
 pub levels_kept : LevelsAreKept
 unfolding port_at
 levels_kept h zero = refl
-levels_kept h (suc t) = accesses_level (h.accesses t) (ticked (h.levels t) (falls h t) (port_at h t))
+levels_kept h (suc t) = accesses_level t (h.accesses t) (ticked (h.levels t) (falls h t) (port_at h t))
 
 -- a reception that is under way after an access was so before
 abbrev Since : Serial → Serial → Type 0
@@ -61,8 +63,8 @@ kept_if : (may : Bool) (o : Option Reception) (r : Reception) → (if may then o
 kept_if true o r e = e
 kept_if false o r e = absurd (cc)
 
-access_since : (d : Serial) (a : Access) → Since d (accessed d a)
-access_since d a =
+access_since : (t : ℕ) (d : Serial) (a : Access) → Since d (accessed serial_further t d a)
+access_since t d a =
     either_holds (Since d) a.is_write (after_write a.window a.sfr a.value d) (after_read a.window a.sfr d)
     (either_holds (Since d) (is_writable a.window a.sfr) _ d
     (either_holds (Since d) (a.sfr == sbuf) (with_byte a.value d) _
@@ -71,9 +73,9 @@ access_since d a =
     (λ r e. e))
     (either_holds (Since d) (is_readable a.window a.sfr && (a.sfr == sp_con)) _ d (λ r e. e) (λ r e. e))
 
-accesses_since : (accesses : List Access) (d : Serial) → Since d (fold accessed d accesses)
-accesses_since [] d = λ r e. e
-accesses_since (a ∷ accesses) d = λ r e. access_since d a r (accesses_since accesses (accessed d a) r e)
+accesses_since : (t : ℕ) (accesses : List Access) (d : Serial) → Since d (fold (accessed serial_further t) d accesses)
+accesses_since t [] d = λ r e. e
+accesses_since t (a ∷ accesses) d = λ r e. access_since t d a r (accesses_since t accesses (accessed serial_further t d a) r e)
 
 -- a frame under way stays so
 abbrev Stays : Serial → Serial → Type 0
@@ -87,8 +89,8 @@ queued_stays byte Idle d is = λ frame e. absurd (idle_is_not frame (sym is ∙ 
 queued_stays byte (Next other) d is = λ frame e. e
 queued_stays byte (Busy old) d is = λ frame e. e
 
-access_stays : (d : Serial) (a : Access) → Stays d (accessed d a)
-access_stays d a =
+access_stays : (t : ℕ) (d : Serial) (a : Access) → Stays d (accessed serial_further t d a)
+access_stays t d a =
     either_holds (Stays d) a.is_write (after_write a.window a.sfr a.value d) (after_read a.window a.sfr d)
     (either_holds (Stays d) (is_writable a.window a.sfr) _ d
     (either_holds (Stays d) (a.sfr == sbuf) (with_byte a.value d) _
@@ -97,9 +99,9 @@ access_stays d a =
     (λ frame e. e))
     (either_holds (Stays d) (is_readable a.window a.sfr && (a.sfr == sp_con)) _ d (λ frame e. e) (λ frame e. e))
 
-accesses_stay : (accesses : List Access) (d : Serial) → Stays d (fold accessed d accesses)
-accesses_stay [] d = λ frame e. e
-accesses_stay (a ∷ accesses) d = λ frame e. accesses_stay accesses (accessed d a) frame (access_stays d a frame e)
+accesses_stay : (t : ℕ) (accesses : List Access) (d : Serial) → Stays d (fold (accessed serial_further t) d accesses)
+accesses_stay t [] d = λ frame e. e
+accesses_stay t (a ∷ accesses) d = λ frame e. accesses_stay t accesses (accessed serial_further t d a) frame (access_stays t d a frame e)
 
 frame_goes_on : (h : Driven) (t byte rate age : ℕ) → age + 1 < 10 * bit_length rate →
     (port_at h t).sending ≡ Busy (record { byte = byte; rate = rate; age = age }) →
@@ -107,7 +109,7 @@ frame_goes_on : (h : Driven) (t byte rate age : ℕ) → age + 1 < 10 * bit_leng
 unfolding port_at
 frame_goes_on h t byte rate age young is =
     let on : is_over (record { byte = byte; rate = rate; age = age }) ≡ false = lt-leb (10 * bit_length rate) (age + 1) young in
-    accesses_stay (h.accesses t) (ticked (h.levels t) (falls h t) (port_at h t)) (record { byte = byte; rate = rate; age = age + 1 })
+    accesses_stay t (h.accesses t) (ticked (h.levels t) (falls h t) (port_at h t)) (record { byte = byte; rate = rate; age = age + 1 })
     (ap (sending_after (port_at h t).rate (port_at h t).waiting) is
     ∙ ap (λ s. if s then begun_of (port_at h t).rate (port_at h t).waiting else Busy (record { byte = byte; rate = rate; age = age + 1 })) on)
 
@@ -282,7 +284,7 @@ port_under h zero r e = absurd (cc)
 port_under h (suc t) r e =
     ticked_under h t (port_at h t).rate (falls h t && receives (port_at h t).control) (port_at h t).reception refl
     (λ on. and_parts (falls h t) (receives (port_at h t).control) on) (port_under h t) r
-    (accesses_since (h.accesses t) (ticked (h.levels t) (falls h t) (port_at h t)) r e)
+    (accesses_since t (h.accesses t) (ticked (h.levels t) (falls h t) (port_at h t)) r e)
 
 -- eight samples make the number with these bits
 eight_bits : (a b c d e f g h : Bool) →

@@ -1,23 +1,15 @@
 -- The serial port over all states, from the accesses so far and the levels of RXD (this kit's own).
 use Rattle.std.specs.Prelude.{◌≡◌, ℕ, ◌+◌, ◌*◌, ◌/◌, ◌<◌, Bool, true, false, not, ◌&&◌, if◌then◌else◌, Some, List, [], ◌∷◌, map, fold}
 use Rattle.std.proofs.Common.{zero, suc}
+use Rattle.kc_base.specs.Levels.{is_high}
 use Rattle.kc_base.specs.declared.types.Level.{Level}
+use Rattle.kc_extra.specs.Histories.{Access, accessed}
 use Rattle.kc_serial.specs.Frames.{bit_length, frame_level, shown, ends, begun}
 use Rattle.kc_serial.specs.Samples.{half_bit, is_complete}
-use Rattle.kc_serial.specs.Port.{ticked, receives, is_high, start}
-use Rattle.kc_serial.specs.Registers.{after_read, after_write}
+use Rattle.kc_serial.specs.Port.{ticked, receives, start}
+use Rattle.kc_serial.specs.Unit.{serial_further}
 use Rattle.kc_serial.specs.declared.receiving.Reception.{Reception}
 use Rattle.kc_serial.specs.declared.serial.Serial.{Serial}
-
--- a write of a value, or a read
-pub record Access : Type 0 where
-  pub is_write : Bool
-  pub window : ℕ
-  pub sfr : ℕ
-  pub value : ℕ
-
-abbrev pub accessed : Serial → Access → Serial
-accessed d a = if a.is_write then after_write a.window a.sfr a.value d else after_read a.window a.sfr d
 
 -- the levels of RXD before state 0 and in each state, and the accesses of each state in their order
 pub record Driven : Type 0 where
@@ -35,7 +27,7 @@ falls h t = level_before h t && not (h.levels t)
 -- the port as state t begins; in each state the accesses come after the Tick
 unfoldable pub port_at : Driven → ℕ → Serial
 port_at h zero = start h.before
-port_at h (suc t) = fold accessed (ticked (h.levels t) (falls h t) (port_at h t)) (h.accesses t)
+port_at h (suc t) = fold (accessed serial_further t) (ticked (h.levels t) (falls h t) (port_at h t)) (h.accesses t)
 
 -- the level that the port keeps is that of the state before
 abbrev pub LevelsAreKept : Type 0

@@ -2,6 +2,7 @@
 -- the order inside a state are this kit's own).
 use Rattle.std.specs.Prelude.{◌≡◌, ℕ, ◌%◌, ◌==◌, Bool, true, false, not, ◌&&◌, ◌||◌, if◌then◌else◌, List, [], ◌∷◌, None, bit_or, bit_xor}
 use Rattle.kc_base.specs.Bits.{bit}
+use Rattle.kc_base.specs.Levels.{is_high}
 use Rattle.kc_base.specs.declared.types.Edge.{Edge}
 use Rattle.kc_base.specs.declared.types.Level.{Level}
 use Rattle.kc_base.specs.declared.types.Level.TheVariants.{Low, High}
@@ -52,13 +53,6 @@ txd = 36
 
 abbrev pub rxd : ℕ
 rxd = 37
-
-abbrev pub level_of : Bool → Level
-level_of high = if high then High else Low
-
-abbrev pub is_high : Level → Bool
-is_high Low = false
-is_high High = true
 
 -- TXD has an edge where it shows another level than before
 abbrev pub txd_edges : Bool → Bool → List Edge

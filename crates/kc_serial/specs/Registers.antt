@@ -1,6 +1,7 @@
 -- The registers of the serial port, all in window 0 (80C196KC User's Manual, "Serial Port"; that the rate takes its low byte
 -- first is the manual's, what a port that is off does with a byte is this kit's own).
 use Rattle.std.specs.Prelude.{ℕ, ◌+◌, ◌*◌, ◌/◌, ◌==◌, Bool, false, ◌&&◌, ◌||◌, is_none, if◌then◌else◌, Option, Some, None}
+use Rattle.kc_base.specs.Bits.{weight}
 use Rattle.kc_serial.specs.Port.{is_on, receives}
 use Rattle.kc_serial.specs.declared.sending.Sending.{Sending}
 use Rattle.kc_serial.specs.declared.sending.Sending.TheVariants.{Idle, Next, Busy}
@@ -21,9 +22,6 @@ is_readable window sfr = (window == 0) && ((sfr == sbuf) || (sfr == sp_con))
 
 abbrev pub is_writable : ℕ → ℕ → Bool
 is_writable window sfr = (window == 0) && ((sfr == sbuf) || ((sfr == baud_rate) || (sfr == sp_con)))
-
-abbrev pub weight : Bool → ℕ → ℕ
-weight is n = if is then n else 0
 
 -- SP_STAT: RI, TI, FE, no byte waits, OE
 abbrev pub status : Serial → ℕ

@@ -1,10 +1,11 @@
 // The registers of the serial port, all in window 0.
 ghost use Rattle.std.specs.Prelude.{◌≡◌, ◌+◌, ◌*◌, ◌<◌, ◌≤◌};
 ghost use Rattle.kc_serial.specs.Port.{is_on as is_on_by, receives as receives_by};
-ghost use Rattle.kc_serial.specs.Registers.{is_readable as readable, is_writable as writable, status as status_of, weight as weight_of, with_byte as byte_queued, with_rate as rate_set, with_control as control_set};
+ghost use Rattle.kc_serial.specs.Registers.{is_readable as readable, is_writable as writable, status as status_of, with_byte as byte_queued, with_rate as rate_set, with_control as control_set};
 
 use crate::sending::Sending;
 use crate::serial::Serial;
+use kc_base::{bit, weight};
 
 /// The byte to be sent, and the last one received.
 pub(crate) const SBUF: u8 = 0x07;
@@ -37,13 +38,7 @@ fn is_on(control: u8) -> bool
 pub(crate) fn receives(control: u8) -> bool
     ensures { result ≡ receives_by control }
 {
-    is_on(control) && (control >> 3) % 2 == 1
-}
-
-fn weight(is: bool, value: u8) -> u8
-    ensures { result ≡ weight_of is value }
-{
-    if is { value } else { 0 }
+    is_on(control) && bit(control, 3)
 }
 
 /// SP_STAT.

@@ -1,8 +1,9 @@
 ghost use Rattle.std.specs.Prelude.{◌≡◌, ℕ, ◌+◌, ◌-◌, ◌*◌, ◌≤◌, ◌^◌, ◌%◌, ◌∷◌, Bool, List, [], Option, false, is_some, bit_xor};
+ghost use Rattle.kc_base.specs.Levels.{is_high as is_high_level};
 ghost use Rattle.kc_span.specs.Span.{after, QuietFor, IsDue, one_more};
 ghost use Rattle.kc_extra.specs.Further.{Further, further_rule};
 ghost use Rattle.kc_extra.specs.Pins.{AreFew, MoveSome};
-ghost use Rattle.kc_serial.specs.Port.{start as start_of, is_high as is_high_level, requests as requests_of, flags_after as flags_set, txd_edges as edges_of_txd, Keeps};
+ghost use Rattle.kc_serial.specs.Port.{start as start_of, requests as requests_of, flags_after as flags_set, txd_edges as edges_of_txd, Keeps};
 ghost use Rattle.kc_serial.specs.Registers.{is_readable as readable, is_writable as writable};
 ghost use Rattle.kc_serial.specs.Unit.{serial_further};
 
@@ -64,16 +65,10 @@ impl Serial {
             waiting: None,
             sending: Sending::Idle,
             reception: None,
-            rxd: is_high(rxd),
+            rxd: rxd.is_high(),
             moves: 0,
         }
     }
-}
-
-fn is_high(level: Level) -> bool
-    ensures { result ≡ is_high_level level }
-{
-    level == Level::High
 }
 
 fn is_rxd(mask: u64) -> bool

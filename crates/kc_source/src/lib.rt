@@ -9,6 +9,3 @@ pub mod uses;
 pub use kc_source_statement::{Action, Arg, Args, Item, Items, Names, Stmt};
 pub use laws::names_are_clear;
 pub use pass::statements;
-
-#[cfg(test)]
-mod tests;

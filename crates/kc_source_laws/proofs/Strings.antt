@@ -12,13 +12,14 @@ use Rattle.kc_lex.specs.declared.words.Directive.TheVariants as directives
 use Rattle.kc_lex.specs.Kinds.{is_sign, is_name_kind, is_chars_kind, has_label, begins_word}
 use Rattle.kc_lex.specs.Words.{operands_for, directive_of}
 use Rattle.kc_lex.specs.Takes.{takes}
+use Rattle.kc_lex.specs.Lists.{in_first}
 use Rattle.kc_expr.specs.Tree.{Tree, Chars, Name, Here}
 use Rattle.kc_expr.specs.Grammar.{Reading, of_kind, alone, names_value, is_short, parsed}
 use Rattle.kc_expr.specs.Derives.{Derives, from_token, from_group, from_tighter, from_unary, from_binary, IsLongest}
 use Rattle.kc_expr.proofs.Longest.{parsed_is_longest}
 use Rattle.kc_source_statement.specs.Trees.{ItemTree, ArgTree, ActionTree, notation}
 use Rattle.kc_source_statement.specs.Trees as trees
-use Rattle.kc_source_statement.specs.Operands.{is_nil, whole, in_first, parts, and_some, all_some, operand, operands_in, string_of, string_or, item, items_in, names_in}
+use Rattle.kc_source_statement.specs.Operands.{is_nil, whole, parts, and_some, all_some, operand, operands_in, string_of, string_or, item, items_in, names_in}
 use Rattle.kc_source_statement.specs.Forms.{IsOperand, is_plain, is_immediate, is_indirect, is_increment, is_indexed, OperandsHaveForms}
 use Rattle.kc_source_statement.specs.Statements.{segment_in, stack_in, is_stack_part, is_end_of_group, grouped_whole, past_main, module_in, defined_in, directive_in, definition_in, or_form_fault, by_directive, operation_in, by_operation, by_first, only_defining, second_directive, action_in, bars_label, first_directive, behind_label, statement_in}
 use Rattle.kc_source_statement.proofs.OperandLemmas.{whole_has_form}

@@ -9,11 +9,12 @@ use Rattle.kc_lex.specs.declared.words.Directive.TheVariants as directives
 use Rattle.kc_lex.specs.Kinds.{is_sign, is_name_kind, is_free_name, has_label}
 use Rattle.kc_lex.specs.Words.{operands_for, directive_of}
 use Rattle.kc_lex.specs.Takes.{takes, suits}
+use Rattle.kc_lex.specs.Lists.{in_first}
 use Rattle.kc_expr.specs.Tree.{Tree}
 use Rattle.kc_expr.specs.Grammar.{is_type}
 use Rattle.kc_source_statement.specs.Trees.{ArgTree, ActionTree, notation}
 use Rattle.kc_source_statement.specs.Trees as trees
-use Rattle.kc_source_statement.specs.Operands.{is_nil, whole, in_first, parts, and_some, all_some, item, items_in, string_or, free_text, name_in, names_in, operands_in}
+use Rattle.kc_source_statement.specs.Operands.{is_nil, whole, parts, and_some, all_some, item, items_in, string_or, free_text, name_in, names_in, operands_in}
 use Rattle.kc_source_statement.specs.Statements.{segment_in, stack_in, past_main, module_in, defined_in, directive_in, definition_in, or_form_fault, by_directive, operation_in, by_operation, by_word, by_first, only_defining, directive_at, second_directive, action_in, bars_label, first_directive, behind_label, statement_in, label_in}
 use Rattle.kc_source_statement.specs.Formed.{is_formed, IsFormed, is_value, names_said, names_read, StatementsAreFormed, NamesStandOnTheLine}
 

@@ -6,7 +6,8 @@ use Rattle.std.proofs.lemmas.List.Sums.{take_while-cons}
 use Rattle.std.proofs.Math.ListN.{drop_of_length-le}
 use Rattle.kc_lex.specs.declared.token.Token.{Token}
 use Rattle.kc_lex.specs.Kinds.{is_sign}
-use Rattle.kc_source_statement.specs.Operands.{in_first, parts, and_some, all_some}
+use Rattle.kc_lex.specs.Lists.{in_first}
+use Rattle.kc_source_statement.specs.Operands.{parts, and_some, all_some}
 
 abbrev pub no_comma : Token → Bool
 no_comma t = not (is_sign 44 t)

@@ -62,6 +62,11 @@ names_said Even = []
 names_said End = []
 names_said (Operation name args) = []
 
+-- those that it gives
+abbrev pub given_names : ActionTree → List (List ℕ)
+given_names (Public names) = names
+given_names action = []
+
 abbrev pub names_read : Result ActionTree ℕ → List (List ℕ)
 names_read (Ok a) = names_said a
 names_read (Err e) = []

@@ -4,6 +4,7 @@ use Rattle.std.specs.Prelude.{ℕ, Bool, false, ◌&&◌, ◌==◌, if◌then◌
 use Rattle.std.specs.Option.{option_map}
 use Rattle.kc_lex.specs.declared.token.Token.{Token}
 use Rattle.kc_lex.specs.Kinds.{is_sign, is_free_name, is_chars_kind, begins_sign}
+use Rattle.kc_lex.specs.Lists.{in_first}
 use Rattle.kc_expr.specs.Tree.{Tree}
 use Rattle.kc_expr.specs.Grammar.{Reading, parsed, is_type}
 use Rattle.kc_source_statement.specs.Trees.{ItemTree, ArgTree, Plain, Immediate, Indirect, Increment, Indexed}
@@ -22,10 +23,6 @@ unfoldable pub whole : List Token → Option Tree
 whole ts = taken_whole (parsed ts)
 
 -- ---- lists: the parts between commas
-
-abbrev pub in_first : Token → List (List Token) → List (List Token)
-in_first t [] = (t ∷ []) ∷ []
-in_first t (p ∷ ps) = (t ∷ p) ∷ ps
 
 unfoldable pub parts : List Token → List (List Token)
 parts [] = [] ∷ []

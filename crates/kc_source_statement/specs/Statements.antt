@@ -10,6 +10,7 @@ use Rattle.kc_lex.specs.declared.words.Directive.TheVariants as directives
 use Rattle.kc_lex.specs.Words.{operands_for, directive_of}
 use Rattle.kc_lex.specs.Takes.{takes}
 use Rattle.kc_lex.specs.Kinds.{is_sign, is_word, is_name_kind, is_free_name, has_label, begins_word}
+use Rattle.kc_lex.specs.Lists.{first_text}
 use Rattle.kc_lex.specs.Codes.{no_statement, other_operands}
 use Rattle.kc_expr.specs.Tree.{Tree}
 use Rattle.kc_expr.specs.Grammar.{Reading, parsed}
@@ -171,10 +172,6 @@ behind_label ts = if bars_label (first_directive ts) || bars_label (second_direc
 
 unfoldable pub statement_in : List Token → Result ActionTree ℕ
 statement_in ts = if has_label ts then behind_label (drop 2 ts) else action_in ts
-
-abbrev pub first_text : List Token → List ℕ
-first_text [] = []
-first_text (t ∷ ts) = t.text
 
 unfoldable pub label_in : List Token → Option (List ℕ)
 label_in ts = if has_label ts then Some (first_text ts) else None

@@ -13,6 +13,3 @@ pub use laws::{names_stand_on_the_line, operands_have_forms, statements_are_form
 pub use lists::{Args, Items, Names};
 pub use reading::{read_label, read_statement};
 pub use statement::{Action, Arg, Item, Stmt};
-
-#[cfg(test)]
-mod tests;

@@ -1,5 +1,6 @@
 ghost use Rattle.std.specs.Prelude.{◌≡◌, ◌≤◌, length, drop, true, IfOk};
 ghost use Rattle.std.specs.Option.{option_map};
+ghost use Rattle.kc_lex.specs.Lists.{first_text as first_text_of};
 ghost use Rattle.kc_source_statement.specs.Trees.{action_tree, action_read};
 ghost use Rattle.kc_source_statement.specs.Operands.{operands_in};
 ghost use Rattle.kc_source_statement.specs.Statements as spec;
@@ -236,7 +237,7 @@ pub fn read_statement(alloc: Global, tokens: &[Token]) -> Result<Result<Action, 
 }
 
 fn first_text(tokens: &[Token]) -> &[u8]
-    ensures { result.now ≡ spec.first_text tokens.now }
+    ensures { result.now ≡ first_text_of tokens.now }
 {
     match tokens {
         [] => b"",

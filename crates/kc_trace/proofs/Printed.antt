@@ -77,3 +77,10 @@ Prints-longer a xs ys b over h = record {
   text = subst (λ text. Puts a text b) (sym (text_of-append xs ys)) (Puts-longer a (text_of xs) (text_of ys) b over h.text);
   counts = λ e. absurd (let t : true ≡ false = sym over ∙ e in cc);
 }
+
+-- lines that were put whole, or at which the sink has failed
+pub printed : (o : Out) (xs : List Record) (p : Out) → Puts o (text_of xs) p → p.counts ≡ counted_all xs o.counts → Prints o xs p
+printed o xs p text counts = record { text = text; counts = λ e. counts }
+
+pub broken-off : (o : Out) (xs : List Record) (p : Out) → Puts o (text_of xs) p → p.failed ≡ true → Prints o xs p
+broken-off o xs p text failed = record { text = text; counts = λ e. absurd (let t : true ≡ false = sym failed ∙ e in cc) }

@@ -9,8 +9,8 @@ mod trace;
 
 pub use laws::{records_join, texts_join};
 pub use record::Record;
-pub use spelling::line;
-pub use trace::{Counts, TraceOut};
+pub use spelling::{LineBytes, level_digit, line, put_decimal, put_hex, put_text};
+pub use trace::{Counts, TraceOut, WriteFault};
 
 #[cfg(test)]
 mod tests;

@@ -10,9 +10,12 @@ use arrayvec::ArrayVec;
 use itoa::Buffer;
 use kc_base::{Edge, Kind, Level, PtsMode, Undefined, hex_digit};
 
-type Line = ArrayVec<u8, 160>;
+/// A line that is made in place, with the byte that ends it.
+pub type LineBytes = ArrayVec<u8, 160>;
 
-fn put_text(line: &mut Line, text: &[u8])
+/// Puts a text behind a line.
+#[inline(always)]
+pub fn put_text(line: &mut LineBytes, text: &[u8])
     requires { array_vec_len line.old + length text.now ≤ 160 }
     ensures items { line.new.items ≡ line.old.items ++ text.now }
     ensures len { array_vec_len line.new ≡ array_vec_len line.old + length text.now }
@@ -23,7 +26,8 @@ fn put_text(line: &mut Line, text: &[u8])
     }
 }
 
-fn put_decimal(line: &mut Line, number: u64)
+/// Puts a number in decimal behind a line.
+pub fn put_decimal(line: &mut LineBytes, number: u64)
     requires { array_vec_len line.old + 20 ≤ 160 }
     ensures items { line.new.items ≡ line.old.items ++ decimal number }
     ensures len { array_vec_len line.new ≤ array_vec_len line.old + 20 }
@@ -32,8 +36,8 @@ fn put_decimal(line: &mut Line, number: u64)
     put_text(line, buffer.format(number).as_bytes());
 }
 
-/// So many upper-case hex digits of a number.
-fn put_hex(line: &mut Line, digits: u8, number: u16)
+/// Puts so many upper-case hex digits of a number behind a line.
+pub fn put_hex(line: &mut LineBytes, digits: u8, number: u16)
     requires { array_vec_len line.old + digits ≤ 160 }
     ensures items { line.new.items ≡ line.old.items ++ hex digits number }
     ensures len { array_vec_len line.new ≡ array_vec_len line.old + digits }
@@ -44,7 +48,7 @@ fn put_hex(line: &mut Line, digits: u8, number: u16)
     }
 }
 
-fn put_bytes(line: &mut Line, bytes: &[u8; 32])
+fn put_bytes(line: &mut LineBytes, bytes: &[u8; 32])
     requires { array_vec_len line.old + 64 ≤ 160 }
     ensures items { line.new.items ≡ line.old.items ++ flat_map (hex 2) bytes.now }
     ensures len { array_vec_len line.new ≡ array_vec_len line.old + 64 }
@@ -100,7 +104,8 @@ fn kind_number(kind: Kind) -> u64
     }
 }
 
-fn level_digit(level: Level) -> u8
+/// The digit of a level in a line: 0 or 1.
+pub fn level_digit(level: Level) -> u8
     ensures { result ≡ level_digit level }
 {
     match level {
@@ -109,123 +114,127 @@ fn level_digit(level: Level) -> u8
     }
 }
 
-fn pin_fields(at: u64, edge: Edge) -> Line
-    requires { IsPin edge.pin.0 }
-    ensures items { result.items ≡ codes "P " ++ decimal at ++ codes " " ++ pin_name edge.pin.0 ++ codes " " ++ level_digit edge.level ∷ [] }
-    ensures room { array_vec_len result < 160 }
+fn pin_fields(line: &mut LineBytes, at: u64, edge: Edge)
+    requires pin { IsPin edge.pin.0 }
+    requires empty { array_vec_len line.old ≡ 0 }
+    ensures items { line.new.items ≡ line.old.items ++ codes "P " ++ decimal at ++ codes " " ++ pin_name edge.pin.0 ++ codes " " ++ level_digit edge.level ∷ [] }
+    ensures room { array_vec_len line.new < 160 }
 {
-    let mut line = ArrayVec::new();
-    put_text(&mut line, b"P ");
-    put_decimal(&mut line, at);
-    put_text(&mut line, b" ");
-    put_text(&mut line, edge.pin.name().as_bytes());
-    put_text(&mut line, b" ");
+    put_text(line, b"P ");
+    put_decimal(line, at);
+    put_text(line, b" ");
+    put_text(line, edge.pin.name().as_bytes());
+    put_text(line, b" ");
     line.push(level_digit(edge.level));
-    line
 }
 
-fn entered_fields(at: u64, vector: u8, back: u16) -> Line
-    ensures items { result.items ≡ codes "I " ++ decimal at ++ codes " " ++ decimal vector ++ codes " " ++ hex 4 back }
-    ensures room { array_vec_len result < 160 }
+fn entered_fields(line: &mut LineBytes, at: u64, vector: u8, back: u16)
+    requires empty { array_vec_len line.old ≡ 0 }
+    ensures items { line.new.items ≡ line.old.items ++ codes "I " ++ decimal at ++ codes " " ++ decimal vector ++ codes " " ++ hex 4 back }
+    ensures room { array_vec_len line.new < 160 }
 {
-    let mut line = ArrayVec::new();
-    put_text(&mut line, b"I ");
-    put_decimal(&mut line, at);
-    put_text(&mut line, b" ");
-    put_decimal(&mut line, u64::from(vector));
-    put_text(&mut line, b" ");
-    put_hex(&mut line, 4, back);
-    line
+    put_text(line, b"I ");
+    put_decimal(line, at);
+    put_text(line, b" ");
+    put_decimal(line, u64::from(vector));
+    put_text(line, b" ");
+    put_hex(line, 4, back);
 }
 
-fn served_fields(at: u64, vector: u8, mode: PtsMode, count: u8) -> Line
-    ensures items { result.items ≡ codes "S " ++ decimal at ++ codes " " ++ decimal vector ++ codes " " ++ mode_name mode ++ codes " " ++ decimal count }
-    ensures room { array_vec_len result < 160 }
+fn served_fields(line: &mut LineBytes, at: u64, vector: u8, mode: PtsMode, count: u8)
+    requires empty { array_vec_len line.old ≡ 0 }
+    ensures items { line.new.items ≡ line.old.items ++ codes "S " ++ decimal at ++ codes " " ++ decimal vector ++ codes " " ++ mode_name mode ++ codes " " ++ decimal count }
+    ensures room { array_vec_len line.new < 160 }
 {
-    let mut line = ArrayVec::new();
-    put_text(&mut line, b"S ");
-    put_decimal(&mut line, at);
-    put_text(&mut line, b" ");
-    put_decimal(&mut line, u64::from(vector));
-    put_text(&mut line, b" ");
-    put_text(&mut line, mode_name(mode).as_bytes());
-    put_text(&mut line, b" ");
-    put_decimal(&mut line, u64::from(count));
-    line
+    put_text(line, b"S ");
+    put_decimal(line, at);
+    put_text(line, b" ");
+    put_decimal(line, u64::from(vector));
+    put_text(line, b" ");
+    put_text(line, mode_name(mode).as_bytes());
+    put_text(line, b" ");
+    put_decimal(line, u64::from(count));
 }
 
-fn undefined_fields(what: Undefined) -> Line
-    ensures items { result.items ≡ codes "U " ++ decimal what.at ++ codes " " ++ decimal (kind_number what.kind) ++ codes " " ++ hex 4 what.addr }
-    ensures room { array_vec_len result < 160 }
+fn undefined_fields(line: &mut LineBytes, what: Undefined)
+    requires empty { array_vec_len line.old ≡ 0 }
+    ensures items { line.new.items ≡ line.old.items ++ codes "U " ++ decimal what.at ++ codes " " ++ decimal (kind_number what.kind) ++ codes " " ++ hex 4 what.addr }
+    ensures room { array_vec_len line.new < 160 }
 {
-    let mut line = ArrayVec::new();
-    put_text(&mut line, b"U ");
-    put_decimal(&mut line, what.at);
-    put_text(&mut line, b" ");
-    put_decimal(&mut line, kind_number(what.kind));
-    put_text(&mut line, b" ");
-    put_hex(&mut line, 4, what.addr);
-    line
+    put_text(line, b"U ");
+    put_decimal(line, what.at);
+    put_text(line, b" ");
+    put_decimal(line, kind_number(what.kind));
+    put_text(line, b" ");
+    put_hex(line, 4, what.addr);
 }
 
-fn stopped_fields(at: u64, how: u8) -> Line
-    ensures items { result.items ≡ codes "X " ++ decimal at ++ codes " " ++ end_name how }
-    ensures room { array_vec_len result < 160 }
+fn stopped_fields(line: &mut LineBytes, at: u64, how: u8)
+    requires empty { array_vec_len line.old ≡ 0 }
+    ensures items { line.new.items ≡ line.old.items ++ codes "X " ++ decimal at ++ codes " " ++ end_name how }
+    ensures room { array_vec_len line.new < 160 }
 {
-    let mut line = ArrayVec::new();
-    put_text(&mut line, b"X ");
-    put_decimal(&mut line, at);
-    put_text(&mut line, b" ");
-    put_text(&mut line, end_name(how).as_bytes());
-    line
+    put_text(line, b"X ");
+    put_decimal(line, at);
+    put_text(line, b" ");
+    put_text(line, end_name(how).as_bytes());
 }
 
-fn named_fields(name: &[u8], digits: u8, value: u16) -> Line
+fn named_fields(line: &mut LineBytes, name: &[u8], digits: u8, value: u16)
     requires name { length name.now ≤ 4 }
     requires digits { digits ≤ 4 }
-    ensures items { result.items ≡ name.now ++ hex digits value }
-    ensures room { array_vec_len result < 160 }
+    requires empty { array_vec_len line.old ≡ 0 }
+    ensures items { line.new.items ≡ line.old.items ++ name.now ++ hex digits value }
+    ensures room { array_vec_len line.new < 160 }
 {
-    let mut line = ArrayVec::new();
-    put_text(&mut line, name);
-    put_hex(&mut line, digits, value);
-    line
+    put_text(line, name);
+    put_hex(line, digits, value);
 }
 
-fn registers_fields(base: u16, bytes: &[u8; 32]) -> Line
-    ensures items { result.items ≡ codes "R " ++ hex 3 base ++ codes " " ++ flat_map (hex 2) bytes.now }
-    ensures room { array_vec_len result < 160 }
+fn registers_fields(line: &mut LineBytes, base: u16, bytes: &[u8; 32])
+    requires empty { array_vec_len line.old ≡ 0 }
+    ensures items { line.new.items ≡ line.old.items ++ codes "R " ++ hex 3 base ++ codes " " ++ flat_map (hex 2) bytes.now }
+    ensures room { array_vec_len line.new < 160 }
 {
-    let mut line = ArrayVec::new();
-    put_text(&mut line, b"R ");
-    put_hex(&mut line, 3, base);
-    put_text(&mut line, b" ");
-    put_bytes(&mut line, bytes);
-    line
+    put_text(line, b"R ");
+    put_hex(line, 3, base);
+    put_text(line, b" ");
+    put_bytes(line, bytes);
 }
 
 #[tactic(auto, unfolding(crate::specs::Text::fields_of))]
-fn fields(item: &Record) -> Line
-    requires { CanPrint item.now }
-    ensures items { result.items ≡ fields_of item.now }
-    ensures room { array_vec_len result < 160 }
+fn put_fields(line: &mut LineBytes, item: &Record)
+    requires printable { CanPrint item.now }
+    requires empty { array_vec_len line.old ≡ 0 }
+    ensures items { line.new.items ≡ line.old.items ++ fields_of item.now }
+    ensures room { array_vec_len line.new < 160 }
 {
     match item {
-        Record::Pin { at, edge } => pin_fields(*at, *edge),
-        Record::Entered { at, vector, back } => entered_fields(*at, *vector, *back),
+        Record::Pin { at, edge } => pin_fields(line, *at, *edge),
+        Record::Entered { at, vector, back } => entered_fields(line, *at, *vector, *back),
         Record::Served {
             at,
             vector,
             mode,
             count,
-        } => served_fields(*at, *vector, *mode, *count),
-        Record::Undef(what) => undefined_fields(*what),
-        Record::Stopped { at, how } => stopped_fields(*at, *how),
-        Record::Pc(value) => named_fields(b"PC ", 4, *value),
-        Record::Psw(value) => named_fields(b"PSW ", 4, *value),
-        Record::Wsr(value) => named_fields(b"WSR ", 2, u16::from(*value)),
-        Record::Registers { base, bytes } => registers_fields(*base, bytes),
+        } => served_fields(line, *at, *vector, *mode, *count),
+        Record::Undef(what) => undefined_fields(line, *what),
+        Record::Stopped { at, how } => stopped_fields(line, *at, *how),
+        Record::Pc(value) => named_fields(line, b"PC ", 4, *value),
+        Record::Psw(value) => named_fields(line, b"PSW ", 4, *value),
+        Record::Wsr(value) => named_fields(line, b"WSR ", 2, u16::from(*value)),
+        Record::Registers { base, bytes } => registers_fields(line, *base, bytes),
     }
+}
+
+/// Puts the line of a record, with the byte that ends it, where nothing stands yet.
+pub(crate) fn put_line(line: &mut LineBytes, item: &Record)
+    requires empty { array_vec_len line.old ≡ 0 }
+    requires printable { CanPrint item.now }
+    ensures { line.new.items ≡ line.old.items ++ line_of item.now }
+{
+    put_fields(line, item);
+    line.push(b'\n');
 }
 
 /// The line of a record, with the byte that ends it.
@@ -233,7 +242,7 @@ pub fn line(item: &Record) -> ArrayVec<u8, 160>
     requires { CanPrint item.now }
     ensures { result.items ≡ line_of item.now }
 {
-    let mut line = fields(item);
-    line.push(b'\n');
+    let mut line = ArrayVec::new();
+    put_line(&mut line, item);
     line
 }

@@ -1,10 +1,11 @@
-ghost use Rattle.std.specs.Prelude.{◌≡◌, ◌+◌, ◌^◌, ◌-◌, min, true, false};
+ghost use Rattle.std.specs.Prelude.{◌≡◌, ◌+◌, ◌^◌, ◌-◌, min, true, false, OnOk, OnErr};
 ghost use Rattle.kc_trace.specs.Text.{line_of};
 ghost use Rattle.kc_trace.specs.Printable.{CanPrint};
 ghost use Rattle.kc_trace.specs.Out.{Puts};
 ghost use Rattle.kc_trace.specs.Counting.{counted, counted_unless};
 
-use crate::{Record, line};
+use crate::Record;
+use crate::spelling::{LineBytes, put_line};
 use kc_base::{Sink, put_all};
 
 /// How many records of three kinds were put while the sink had not failed; each number stands still at its type's end.
@@ -43,6 +44,10 @@ impl Counts {
     }
 }
 
+/// The sink has failed.
+#[derive(Clone, Copy, Debug, PartialEq, Eq)]
+pub struct WriteFault;
+
 /// Writes the lines of a trace to a sink, up to its first fault.
 #[derive(Drop)]
 pub struct TraceOut<S> {
@@ -76,6 +81,14 @@ impl<S: Sink> TraceOut<S> {
         ensures { result ≡ self.now.failed }
     {
         self.failed
+    }
+
+    /// Whether all was written; the fault, where the sink has failed.
+    pub fn written(&self) -> Result<(), WriteFault>
+        ensures written { OnOk result (self.now.failed ≡ false) }
+        ensures failed { OnErr result (self.now.failed ≡ true) }
+    {
+        if self.failed { Err(WriteFault) } else { Ok(()) }
     }
 
     /// The sink.
@@ -115,7 +128,8 @@ impl<S: Sink> TraceOut<S> {
         if !self.failed {
             self.counts = self.counts.with(item);
         }
-        let text = line(item);
+        let mut text = LineBytes::new();
+        put_line(&mut text, item);
         self.put_text(text.as_slice());
     }
 }

@@ -12,13 +12,13 @@ use Rattle.kc_base.specs.declared.types.Level.TheVariants.{Low, High}
 use Rattle.kc_base.specs.declared.types.PtsMode.{PtsMode}
 use Rattle.kc_base.specs.declared.types.PtsMode.TheVariants as mode
 use Rattle.kc_base.specs.declared.types.Undefined.{Undefined}
-use Rattle.kc_base.specs.Fields.{pin_of, word_of}
+use Rattle.kc_base.specs.Fields.{first_of, rest_of, time_of, pin_of, word_of}
 use Rattle.kc_base.specs.Pins.{pin_name}
 use Rattle.kc_trace.specs.declared.record.Record.{Record}
 use Rattle.kc_trace.specs.declared.record.Record.TheVariants.{Pin, Entered, Served, Undef, Stopped, Pc, Psw, Wsr, Registers}
 use Rattle.kc_trace.specs.Text.{hex, kind_number, level_digit, mode_name, end_name, fields_of}
 use Rattle.kc_vcd.specs.History.{IsSound}
-use Rattle.kc_vcd.specs.Candidates.{time_of, byte_number, level_of, mode_of, end_of, kind_of, base_of, first_of, rest_of, pin_with, pin_record, entered_with, entered_record, served_with, served_record, undefined_with, undefined_record, stopped_with, stopped_record, registers_in, registers_record, candidate_of}
+use Rattle.kc_vcd.specs.Candidates.{byte_number, level_of, mode_of, end_of, kind_of, base_of, pin_with, pin_record, entered_with, entered_record, served_with, served_record, undefined_with, undefined_record, stopped_with, stopped_record, registers_in, registers_record, candidate_of}
 use Rattle.kc_base.proofs.Words.{Word, Plain, word-from, word-before, word-after, plain-word, plain-more}
 use Rattle.kc_base.proofs.Numbers.{word-decimal, number-read, word-hex, word-bytes, word-read, byte-read}
 use Rattle.kc_vcd.proofs.Numbers.{base-read, bytes-read}

@@ -1,6 +1,5 @@
 -- Which record a line can be at all: if it is the line of a record, then of this one. Whether it is, spelling the record tells.
-use Rattle.std.specs.Prelude.{ℕ, ◌^◌, ◌==◌, nat_lt, if◌then◌else◌, Option, Some, None, Result, Ok, Err, List, [], ◌∷◌}
-use Rattle.std.specs.List.{before_first, after_first}
+use Rattle.std.specs.Prelude.{ℕ, ◌==◌, nat_lt, if◌then◌else◌, Option, Some, None, Result, Ok, Err, List, [], ◌∷◌}
 use Rattle.std.specs.Option.{option_map}
 use Rattle.hex.specs.declared.error.FromHexError.{FromHexError}
 use Rattle.hex.specs.Hex.{decode_sized}
@@ -10,14 +9,11 @@ use Rattle.kc_base.specs.declared.types.Level.{Level}
 use Rattle.kc_base.specs.declared.types.Level.TheVariants.{Low, High}
 use Rattle.kc_base.specs.declared.types.PtsMode.{PtsMode}
 use Rattle.kc_base.specs.declared.types.PtsMode.TheVariants as mode
-use Rattle.kc_base.specs.Fields.{is_space, decimal_of, word_of, byte_of, pin_of}
+use Rattle.kc_base.specs.Fields.{decimal_of, time_of, first_of, rest_of, word_of, byte_of, pin_of}
 use Rattle.kc_trace.specs.declared.record.Record.{Record}
 use Rattle.kc_trace.specs.declared.record.Record.TheVariants.{Pin, Entered, Served, Undef, Stopped, Pc, Psw, Wsr, Registers}
 
 -- ---- fields
-
-abbrev pub time_of : List ℕ → Option ℕ
-time_of text = decimal_of (10 ^ 15) text
 
 abbrev pub byte_number : List ℕ → Option ℕ
 byte_number text = decimal_of 255 text
@@ -63,12 +59,6 @@ base_of (a ∷ b ∷ c ∷ []) = small (word_of (48 ∷ a ∷ b ∷ c ∷ []))
 base_of _ = None
 
 -- ---- lines: a word, and what stands behind the space after it
-
-abbrev pub first_of : List ℕ → List ℕ
-first_of text = before_first is_space text
-
-abbrev pub rest_of : List ℕ → List ℕ
-rest_of text = after_first is_space text
 
 abbrev pub pin_with : Option ℕ → Option ℕ → Level → Option Record
 pin_with None pin level = None

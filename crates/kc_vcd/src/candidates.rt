@@ -7,8 +7,10 @@ ghost use Rattle.kc_trace.specs.Text.{fields_of};
 ghost use Rattle.kc_vcd.specs.Candidates.{candidate_of, worded as with_word, letter_record as with_letter, pin_record as pin_item, entered_record as entered_item, served_record as served_item, undefined_record as undefined_item, stopped_record as stopped_item, registers_record as registers_item};
 ghost use Rattle.kc_vcd.specs.History.{IsSound};
 
-use crate::fields::{base, end, kind, level, mode, number, time};
-use kc_base::{Edge, Pin, Undefined, front, hex_byte, hex_word, pin_number, split_at_space};
+use crate::fields::{base, end, kind, level, mode, number};
+use kc_base::{
+    Edge, Pin, Undefined, front, hex_byte, hex_word, pin_number, split_at_space, state_time,
+};
 use kc_trace::{Record, line as line_of};
 
 fn pin_record(text: &[u8]) -> Option<Record>
@@ -17,7 +19,7 @@ fn pin_record(text: &[u8]) -> Option<Record>
 {
     let (first, rest) = split_at_space(text);
     let (second, third) = split_at_space(rest);
-    let at = time(first)?;
+    let at = state_time(first)?;
     let pin = Pin(pin_number(second)?);
     let level = level(third);
     Some(Record::Pin {
@@ -32,7 +34,7 @@ fn entered_record(text: &[u8]) -> Option<Record>
 {
     let (first, rest) = split_at_space(text);
     let (second, third) = split_at_space(rest);
-    let at = time(first)?;
+    let at = state_time(first)?;
     let vector = number(second)?;
     let back = hex_word(third)?;
     Some(Record::Entered { at, vector, back })
@@ -45,7 +47,7 @@ fn served_record(text: &[u8]) -> Option<Record>
     let (first, rest) = split_at_space(text);
     let (second, rest) = split_at_space(rest);
     let (third, fourth) = split_at_space(rest);
-    let at = time(first)?;
+    let at = state_time(first)?;
     let vector = number(second)?;
     let mode = mode(third);
     let count = number(fourth)?;
@@ -63,7 +65,7 @@ fn undefined_record(text: &[u8]) -> Option<Record>
 {
     let (first, rest) = split_at_space(text);
     let (second, third) = split_at_space(rest);
-    let at = time(first)?;
+    let at = state_time(first)?;
     let kind = kind(number(second)?);
     let addr = hex_word(third)?;
     Some(Record::Undef(Undefined { kind, at, addr }))
@@ -74,7 +76,7 @@ fn stopped_record(text: &[u8]) -> Option<Record>
     ensures sound { IfSome result IsSound }
 {
     let (first, rest) = split_at_space(text);
-    let at = time(first)?;
+    let at = state_time(first)?;
     let how = end(rest);
     Some(Record::Stopped { at, how })
 }

@@ -5,11 +5,11 @@ ghost use Rattle.kc_trace.specs.Printable.{CanPrint};
 ghost use Rattle.kc_vcd.specs.History.{IsHistory};
 ghost use Rattle.kc_vcd.specs.Dump.{state_length as picoseconds, pin_code as code_of_pin, declaration, pin_declarations, event_declarations, start_lines, change_of, stamp, record_text, changes, front as front_text, dump_of};
 
-use crate::levels::{digit, start_level};
+use crate::levels::start_level;
 use crate::trace::{Trace, time_after};
 use itoa::Buffer;
 use kc_base::{NoMemory, PIN_COUNT, Pin, StateTime};
-use kc_trace::Record;
+use kc_trace::{Record, level_digit};
 use std::alloc::Global;
 
 const HEAD: &[u8] = b"$comment kc96: inputs are not in a trace and stand as before state 0 $end
@@ -80,7 +80,7 @@ fn put_start(text: &mut Vec<u8>) -> Result<(), NoMemory>
     ensures { OnOk result (text.new.items ≡ text.old.items ++ start_lines pin_count) }
 {
     for pin in 0..PIN_COUNT {
-        put(text, &[digit(start_level(pin)), pin_code(pin), b'\n'])?;
+        put(text, &[level_digit(start_level(pin)), pin_code(pin), b'\n'])?;
     }
     Ok(())
 }
@@ -123,7 +123,12 @@ fn put_change(text: &mut Vec<u8>, item: &Record) -> Result<(), NoMemory>
     ensures { OnOk result (text.new.items ≡ text.old.items ++ change_of item.now) }
 {
     match item {
-        Record::Pin { edge, .. } => { put(text, &[digit(edge.level), pin_code(edge.pin.0), b'\n']) }
+        Record::Pin { edge, .. } => {
+            put(
+                text,
+                &[level_digit(edge.level), pin_code(edge.pin.0), b'\n'],
+            )
+        }
         Record::Entered { .. } => put(text, b"1j\n"),
         Record::Served { .. } => put(text, b"1k\n"),
         Record::Undef(_) => put(text, b"1l\n"),

@@ -1,19 +1,8 @@
 // The fields of a line, as far as they can be those of a record.
-ghost use Rattle.std.specs.Prelude.{◌≡◌, ◌<◌, ◌≤◌, ◌^◌, IfSome};
-ghost use Rattle.kc_vcd.specs.Candidates.{time_of, byte_number, level_of, mode_of, end_of, kind_of, small as below_1000, base_of};
+ghost use Rattle.std.specs.Prelude.{◌≡◌, ◌<◌, IfSome};
+ghost use Rattle.kc_vcd.specs.Candidates.{byte_number, level_of, mode_of, end_of, kind_of, small as below_1000, base_of};
 
-use kc_base::{Kind, Level, PtsMode, StateTime, decimal, hex_word};
-
-/// The greatest state time of a run.
-const TIME_LIMIT: u64 = 1_000_000_000_000_000;
-
-/// A state time: decimal digits, 10^15 at most.
-pub(crate) fn time(text: &[u8]) -> Option<StateTime>
-    ensures value { result ≡ time_of text.now }
-    ensures bounded { IfSome result (λ n. n ≤ 10 ^ 15) }
-{
-    decimal(TIME_LIMIT, text)
-}
+use kc_base::{Kind, Level, PtsMode, decimal, hex_word};
 
 /// A number of eight bits: decimal digits.
 pub(crate) fn number(text: &[u8]) -> Option<u8>

@@ -1,9 +1,10 @@
 use Rattle.std.proofs.Common.{◌&&◌, ◌^◌, sym, ◌∙◌, ap}
 use Rattle.std.specs.Prelude.{bit_or}
+use Rattle.kc_base.specs.Bits.{weight}
+use Rattle.kc_base.specs.Levels.{is_high}
 use Rattle.kc_stim.specs.Drives.{start_of}
 use Rattle.kc_stim.specs.Proper.{is_driven}
-use Rattle.kc_hso.specs.Cam.{weight}
-use Rattle.kc_block_spec.specs.Levels.{mask_of, is_high}
+use Rattle.kc_block_spec.specs.Levels.{mask_of}
 use Rattle.kc_block_inputs.proofs.InputMasks.{mask_next, mask_start}
 use Rattle.kc_block_inputs.proofs.inputs.start_levels.Goals as goal
 

@@ -1,7 +1,8 @@
 use Rattle.std.proofs.Common.{◌≡◌, ◌&&◌}
+use Rattle.kc_base.specs.Levels.{is_high}
 use Rattle.kc_stim.specs.Drives.{start_of}
 use Rattle.kc_stim.specs.Proper.{is_driven}
-use Rattle.kc_block_spec.specs.Levels.{mask_of, is_high}
+use Rattle.kc_block_spec.specs.Levels.{mask_of}
 use Rattle.kc_block_inputs.proofs.inputs.start_levels.Given as goal
 
 abbrev pub invariant-loop-pin : goal.invariant-loop-pin

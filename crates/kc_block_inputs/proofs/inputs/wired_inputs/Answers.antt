@@ -1,7 +1,7 @@
 use Rattle.std.proofs.Common.{◌≡◌, ◌^◌, refl, sym, ◌∙◌, ap, arith}
 use Rattle.std.specs.Prelude.{is_some, bit_or}
+use Rattle.kc_base.specs.Bits.{weight}
 use Rattle.kc_stim.specs.Drives.{wire_to}
-use Rattle.kc_hso.specs.Cam.{weight}
 use Rattle.kc_block_spec.specs.Levels.{mask_of}
 use Rattle.kc_block_inputs.proofs.InputMasks.{mask_next, wires_below, wires_above, no_wires}
 use Rattle.kc_block_inputs.proofs.inputs.wired_inputs.Goals as goal

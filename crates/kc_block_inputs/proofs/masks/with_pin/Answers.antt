@@ -1,7 +1,7 @@
 use Rattle.std.proofs.Common.{◌^◌, sym, ◌∙◌, ap}
 use Rattle.std.specs.Prelude.{bit_or}
 use lib.Bits.{or_zero_r}
-use Rattle.kc_hso.specs.Cam.{weight}
+use Rattle.kc_base.specs.Bits.{weight}
 use Rattle.kc_block_inputs.proofs.masks.with_pin.Goals as goal
 
 pub returns-else-high : goal.returns-else-high

@@ -1,7 +1,8 @@
 use Rattle.std.proofs.Common.{◌≡◌, ℕ, ◌+◌, ◌-◌, sym, ap, ◌∙◌, arith}
 use Rattle.kc_debug.specs.Stops.{states_at_once, states_to_break, states_of_run}
 use Rattle.kc_debug.proofs.Begins.{break-none, break-past, break-there, break-any}
-use Rattle.kc_debug.proofs.Passing.{some_end, none_end, along-kept, along-first, along-lines, along-next, along-over, along-cut, along-done, spends-none, spends-add, spends-within, always-failed, fails-later}
+use Rattle.kc_machine_spec.proofs.Calls.{always-failed}
+use Rattle.kc_debug.proofs.Passing.{some_end, none_end, along-kept, along-first, along-lines, along-next, along-over, along-cut, along-done, spends-none, spends-add, spends-within, fails-later}
 use Rattle.kc_debug.proofs.carrying.go.Goals as goal
 
 pub loop-machine-init : goal.loop-machine-init

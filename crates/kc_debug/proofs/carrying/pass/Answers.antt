@@ -2,7 +2,8 @@ use Rattle.std.proofs.Common.{◌-◌, arith}
 use Rattle.kc_debug.specs.Stops.{states_at_once}
 use Rattle.kc_debug.proofs.Begins.{activity-clear}
 use Rattle.kc_debug.proofs.Idling.{idles-at-once}
-use Rattle.kc_debug.proofs.Passing.{activity-told, activity-stood, always, on-fault, fails-first}
+use Rattle.kc_machine_spec.proofs.Calls.{always, on-fault}
+use Rattle.kc_debug.proofs.Passing.{activity-told, activity-stood, fails-first}
 use Rattle.kc_debug.proofs.carrying.pass.Goals as goal
 
 pub returns-then-now-end-clause-passed : goal.returns-then-now-end-clause-passed

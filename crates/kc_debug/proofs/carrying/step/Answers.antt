@@ -1,7 +1,8 @@
 use Rattle.std.proofs.Common.{◌≡◌, ℕ, ◌+◌, sym, ap, ◌∙◌, arith}
 use Rattle.kc_debug.specs.Stops.{activity_states, states_of_activities}
 use Rattle.kc_debug.proofs.Begins.{states-none}
-use Rattle.kc_debug.proofs.Passing.{some_end, none_end, along-kept, along-first, along-lines, along-next, along-over, along-cut, along-done, spends-none, spends-add, spends-within, always-failed, fails-later}
+use Rattle.kc_machine_spec.proofs.Calls.{always-failed}
+use Rattle.kc_debug.proofs.Passing.{some_end, none_end, along-kept, along-first, along-lines, along-next, along-over, along-cut, along-done, spends-none, spends-add, spends-within, fails-later}
 use Rattle.kc_debug.proofs.carrying.step.Goals as goal
 
 pub loop-left-init : goal.loop-left-init

@@ -1,6 +1,7 @@
 use Rattle.std.proofs.Common.{ℕ, ◌+◌, ◌*◌, ◌≤◌, sym, subst}
 use Rattle.kc_machine_spec.specs.Run.{run_to}
-use Rattle.kc_profile.proofs.Going.{printed, broken-off, activity-passed, fails-activity}
+use Rattle.kc_trace.proofs.Printed.{printed, broken-off}
+use Rattle.kc_profile.proofs.Going.{activity-passed, fails-activity}
 use Rattle.kc_profile.proofs.running.finish.Goals as goal
 
 pub returns-in-Ok-clause-passed : goal.returns-in-Ok-clause-passed

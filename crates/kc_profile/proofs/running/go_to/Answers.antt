@@ -1,5 +1,6 @@
 use Rattle.std.proofs.Common.{arith}
-use Rattle.kc_profile.proofs.Going.{printed, ran-lines, fails-lines}
+use Rattle.kc_trace.proofs.Printed.{printed}
+use Rattle.kc_profile.proofs.Going.{ran-lines, fails-lines}
 use Rattle.kc_profile.proofs.running.go_to.Goals as goal
 
 pub returns-in-Ok-clause-lines : goal.returns-in-Ok-clause-lines

@@ -1,6 +1,7 @@
 use Rattle.std.proofs.Common.{◌-◌, arith}
 use Rattle.kc_profile.proofs.Spotted.{lasts-idle, lives-idle, spots-idle}
-use Rattle.kc_profile.proofs.Going.{on-fault, fails-idle}
+use Rattle.kc_machine_spec.proofs.Calls.{on-fault}
+use Rattle.kc_profile.proofs.Going.{fails-idle}
 use Rattle.kc_profile.proofs.running.rest.Goals as goal
 
 pub go_to-requires-clause-lives : goal.go_to-requires-clause-lives

@@ -3,7 +3,8 @@ use Rattle.std.specs.Option.{unwrap_or}
 use Rattle.kc_machine_spec.specs.declared.doing.End.TheVariants as end
 use Rattle.kc_machine_spec.specs.Run.{end_of}
 use Rattle.kc_machine_spec.proofs.Coming.{Came-lines, Came-machine, Came-cut}
-use Rattle.kc_profile.proofs.Going.{along-first, along-next, fails-later, spots-done, over-same, over-goes, always-failed}
+use Rattle.kc_machine_spec.proofs.Calls.{always-failed}
+use Rattle.kc_profile.proofs.Going.{along-first, along-next, fails-later, spots-done, over-same, over-goes}
 use Rattle.kc_profile.proofs.running.run_profiled.Goals as goal
 
 pub loop-machine-init : goal.loop-machine-init

@@ -11,9 +11,9 @@ pub loop-pin-preserved : goal.loop-pin-preserved
 loop-pin-preserved c =
     let before = c.args.text.now.items in
     let done = c.loop-pin.pin in
-    let level = c.digit.ensures ∙ ap level_digit c.start_level.ensures in
+    let level = c.level_digit.ensures ∙ ap level_digit c.start_level.ensures in
     c.in_ok-put.ensures
-    ∙ ap (λ t. t ++ c.digit.result ∷ c.pin_code.result ∷ 10 ∷ []) c.loop-pin.invariant
+    ∙ ap (λ t. t ++ c.level_digit.result ∷ c.pin_code.result ∷ 10 ∷ []) c.loop-pin.invariant
     ∙ (λ i. (before ++ start_lines done) ++ level i ∷ c.pin_code.ensures i ∷ 10 ∷ [])
     ∙ append_assoc before (start_lines done) (start_line done)
     ∙ ap (λ t. before ++ t) (sym (starts-more done))

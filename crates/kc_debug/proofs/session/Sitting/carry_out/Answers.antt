@@ -4,7 +4,7 @@ use Rattle.kc_debug.specs.Sitting.{seen}
 use Rattle.kc_debug.specs.Stands.{at_once_in, states_of, FailsIn}
 use Rattle.kc_debug.specs.Stops.{activity_states}
 use Rattle.kc_debug.specs.Transcript.{after_command}
-use Rattle.kc_debug.proofs.Passing.{on-fault}
+use Rattle.kc_machine_spec.proofs.Calls.{on-fault}
 use Rattle.kc_debug.proofs.Going.{fails-said}
 use Rattle.kc_debug.proofs.session.Sitting.carry_out.Goals as goal
 

@@ -1,6 +1,6 @@
 use Rattle.std.proofs.Common.{sym, ap, ◌∙◌, arith}
 use Rattle.kc_debug.proofs.Going.{goes_on, is_quit, going-first, going-next, going-cut, going-quit, going-done, going-stands, paid-first, paid-next, paid-steps, paid-moves}
-use Rattle.kc_debug.proofs.Passing.{always-failed}
+use Rattle.kc_machine_spec.proofs.Calls.{always-failed}
 use Rattle.kc_debug.proofs.session.Sitting.carry_out_all.Goals as goal
 
 pub loop-index-init : goal.loop-index-init

@@ -10,7 +10,8 @@ use Rattle.kc_debug.specs.Passing.{Spends}
 use Rattle.kc_debug.specs.Stands.{FailsWithin}
 use Rattle.kc_debug.specs.Stops.{states_at_once, states_of_run}
 use Rattle.kc_debug.specs.Transcript.{new_end}
-use Rattle.kc_debug.proofs.Passing.{ran, always-failed, on-fault}
+use Rattle.kc_machine_spec.proofs.Calls.{always-failed, on-fault}
+use Rattle.kc_debug.proofs.Passing.{ran}
 use Rattle.kc_debug.proofs.session.Sitting.go.Goals as goal
 
 pub returns-in_err-go-clause-text : goal.returns-in_err-go-clause-text

@@ -8,7 +8,8 @@ use Rattle.kc_machine_spec.specs.Run.{run_for}
 use Rattle.kc_debug.specs.Lines.{stand_line}
 use Rattle.kc_debug.specs.Stops.{states_of_activities}
 use Rattle.kc_debug.specs.Transcript.{new_end}
-use Rattle.kc_debug.proofs.Passing.{ran, always-failed, on-fault}
+use Rattle.kc_machine_spec.proofs.Calls.{always-failed, on-fault}
+use Rattle.kc_debug.proofs.Passing.{ran}
 use Rattle.kc_debug.proofs.session.Sitting.step.Goals as goal
 
 pub returns-in_err-step-clause-text : goal.returns-in_err-step-clause-text

@@ -1,0 +1,292 @@
+use kc_asm_outline::{Anchor, Body, Note, opens, outline};
+use kc_asm_symbols::{Names, Segment, externals};
+use kc_base::NoMemory;
+use kc_branch::BranchKind;
+use kc_lex::lines;
+use kc_obj::SegKind;
+use kc_source::statements;
+use std::alloc::Global;
+use std::test::*;
+
+const MAIN: Segment = Segment {
+    piece: 1,
+    kind: SegKind::Code,
+    count: 3,
+};
+
+const FIRST_ABSOLUTE: Segment = Segment {
+    piece: 3,
+    kind: SegKind::Code,
+    count: 4,
+};
+
+const SECOND_ABSOLUTE: Segment = Segment {
+    piece: 4,
+    kind: SegKind::Code,
+    count: 5,
+};
+
+const REGISTERS: Segment = Segment {
+    piece: 0,
+    kind: SegKind::Reg,
+    count: 5,
+};
+
+const THIRD_ABSOLUTE: Segment = Segment {
+    piece: 5,
+    kind: SegKind::Reg,
+    count: 6,
+};
+
+const DATA: Segment = Segment {
+    piece: 2,
+    kind: SegKind::Ram,
+    count: 6,
+};
+
+/// The lines of a source, each with its segment, what its place is divisible by, its body, and the address that it opens.
+type Case = (&'static str, Segment, u32, Body, Option<u16>);
+
+static CASES: [Case; 39] = [
+    ("M MODULE", MAIN, 1, Body::Bytes(0), None),
+    (" EXTRN X", MAIN, 1, Body::Bytes(0), None),
+    (" PUBLIC A", MAIN, 1, Body::Bytes(0), None),
+    ("A: NOP", MAIN, 1, Body::Bytes(1), None),
+    (
+        " BR A",
+        MAIN,
+        1,
+        Body::Branch {
+            kind: BranchKind::Jump,
+            anchor: Anchor::Statement {
+                number: 3,
+                distance: 0,
+            },
+        },
+        None,
+    ),
+    (
+        " BR B+5",
+        MAIN,
+        1,
+        Body::Branch {
+            kind: BranchKind::Jump,
+            anchor: Anchor::Statement {
+                number: 22,
+                distance: 5,
+            },
+        },
+        None,
+    ),
+    (
+        " CALL A-200",
+        MAIN,
+        1,
+        Body::Branch {
+            kind: BranchKind::Call,
+            anchor: Anchor::Statement {
+                number: 3,
+                distance: -200,
+            },
+        },
+        None,
+    ),
+    (
+        " BNE $-3",
+        MAIN,
+        1,
+        Body::Branch {
+            kind: BranchKind::Conditional,
+            anchor: Anchor::Statement {
+                number: 7,
+                distance: -3,
+            },
+        },
+        None,
+    ),
+    ("C EQU B-1", MAIN, 1, Body::Bytes(0), None),
+    ("V SET A", MAIN, 1, Body::Bytes(0), None),
+    ("W EQU $+2", MAIN, 1, Body::Bytes(0), None),
+    (
+        " BE C",
+        MAIN,
+        1,
+        Body::Branch {
+            kind: BranchKind::Conditional,
+            anchor: Anchor::Statement {
+                number: 22,
+                distance: -1,
+            },
+        },
+        None,
+    ),
+    (
+        " BH V+1",
+        MAIN,
+        1,
+        Body::Branch {
+            kind: BranchKind::Conditional,
+            anchor: Anchor::Statement {
+                number: 3,
+                distance: 1,
+            },
+        },
+        None,
+    ),
+    ("V SET B", MAIN, 1, Body::Bytes(0), None),
+    (
+        " BBS 20H,3,V",
+        MAIN,
+        1,
+        Body::Branch {
+            kind: BranchKind::BitTest,
+            anchor: Anchor::Statement {
+                number: 22,
+                distance: 0,
+            },
+        },
+        None,
+    ),
+    (
+        " BR W",
+        MAIN,
+        1,
+        Body::Branch {
+            kind: BranchKind::Jump,
+            anchor: Anchor::Statement {
+                number: 10,
+                distance: 2,
+            },
+        },
+        None,
+    ),
+    (
+        " BR X+2",
+        MAIN,
+        1,
+        Body::Branch {
+            kind: BranchKind::Jump,
+            anchor: Anchor::External,
+        },
+        None,
+    ),
+    (
+        " CALL STACK",
+        MAIN,
+        1,
+        Body::Branch {
+            kind: BranchKind::Call,
+            anchor: Anchor::External,
+        },
+        None,
+    ),
+    (
+        " BE B-A",
+        MAIN,
+        1,
+        Body::Branch {
+            kind: BranchKind::Conditional,
+            anchor: Anchor::Nothing,
+        },
+        None,
+    ),
+    (
+        " BV 2100H",
+        MAIN,
+        1,
+        Body::Branch {
+            kind: BranchKind::Conditional,
+            anchor: Anchor::Nothing,
+        },
+        None,
+    ),
+    (
+        " BR UNKNOWN",
+        MAIN,
+        1,
+        Body::Branch {
+            kind: BranchKind::Jump,
+            anchor: Anchor::Nothing,
+        },
+        None,
+    ),
+    (" BR [20H]", MAIN, 1, Body::Bytes(2), None),
+    ("B: DCW 1,2", MAIN, 2, Body::Bytes(4), None),
+    (" LD 20H,A", MAIN, 1, Body::Bytes(5), None),
+    (" LD R,#A-B", MAIN, 1, Body::Bytes(4), None),
+    (" ORG 40H", MAIN, 1, Body::Upto(64), None),
+    (" EVEN", MAIN, 1, Body::Even, None),
+    (" CSEG AT 2080H", MAIN, 1, Body::Bytes(0), Some(8320)),
+    (
+        "D: BR A",
+        FIRST_ABSOLUTE,
+        1,
+        Body::Branch {
+            kind: BranchKind::Jump,
+            anchor: Anchor::Statement {
+                number: 3,
+                distance: 0,
+            },
+        },
+        None,
+    ),
+    (
+        " BE D-1",
+        FIRST_ABSOLUTE,
+        1,
+        Body::Branch {
+            kind: BranchKind::Conditional,
+            anchor: Anchor::Statement {
+                number: 28,
+                distance: -1,
+            },
+        },
+        None,
+    ),
+    (" CSEG AT A", FIRST_ABSOLUTE, 1, Body::Bytes(0), Some(0)),
+    (" RSEG", SECOND_ABSOLUTE, 1, Body::Bytes(0), None),
+    ("R: DSL 3", REGISTERS, 4, Body::Bytes(12), None),
+    (" DSB A", REGISTERS, 1, Body::Bytes(0), None),
+    (" RSEG AT 10+20", REGISTERS, 1, Body::Bytes(0), Some(30)),
+    (" DSL 1", THIRD_ABSOLUTE, 4, Body::Bytes(4), None),
+    (" DSEG", THIRD_ABSOLUTE, 1, Body::Bytes(0), None),
+    (" DSL 2", DATA, 2, Body::Bytes(8), None),
+    (" END", DATA, 1, Body::Bytes(0), None),
+];
+
+fn source(alloc: Global) -> Result<String, NoMemory> {
+    let mut text = String::new(alloc);
+    for case in &CASES {
+        text.push_str(case.0)?;
+        text.push_str("\n")?;
+    }
+    Ok(text)
+}
+
+fn notes(alloc: Global) -> Option<Vec<Note>> {
+    let text = source(alloc).ok()?;
+    if text.len() > 60000 {
+        return None;
+    }
+    let lines = lines(alloc, text.as_bytes()).ok()?;
+    let stmts = statements(alloc, &lines).ok()?;
+    let taken = externals(alloc, &stmts).ok()?;
+    if stmts.len() > 65536 || taken.len() > 65536 {
+        return None;
+    }
+    let names = Names::new(alloc, &stmts, &taken).ok()?;
+    outline(alloc, &stmts, &names).ok()
+}
+
+#[test]
+fn notes_of_statements(rt: HostRuntime) {
+    let notes = notes(rt.alloc()).expect(&rt, "the source has no fault of its names");
+    assert!(rt; notes.len() == CASES.len());
+    for (note, case) in notes.iter().zip(&CASES) {
+        let &(line, segment, alignment, body, opens) = case;
+        assert!(rt; note.segment == segment, "segment of {line}");
+        assert!(rt; note.alignment == alignment, "alignment of {line}");
+        assert!(rt; note.body == body, "body of {line}");
+        assert!(rt; note.opens == opens, "address of {line}");
+    }
+}
