@@ -49,6 +49,9 @@ greatest_none test (suc n) fails = rw (fails n) (greatest_none test n fails)
 bit-zero : (set k : ℕ) → set ≡ 0 → bit set k ≡ false
 bit-zero set k e = ap (λ s. bit s k) e ∙ ap (λ n. n == 1) (bit_at-zero k)
 
+pub none_of_zero : (set : ℕ) → set ≡ 0 → greatest (bit set) 15 ≡ None
+none_of_zero set e = greatest_none (bit set) 15 (λ k. bit-zero set k e)
+
 both : (b : Bool) → (b && false) ≡ false
 both true = refl
 both false = refl
@@ -58,13 +61,6 @@ neither true true = refl
 neither true false = refl
 neither false true = refl
 neither false false = refl
-
-pub nothing_wanted : (pse enabled : Bool) (r : Requests) → r.pending ≡ 0 → r.service ≡ 0 → choice_of pse enabled r ≡ Go
-nothing_wanted pse enabled r p s =
-    let cycles : greatest (wants_cycle r) 15 ≡ None = greatest_none (wants_cycle r) 15 (λ k. ap (λ b. b && (bit r.mask k && bit r.select k)) (bit-zero r.pending k p)) in
-    let entries : greatest (wants_entry r) 15 ≡ None = greatest_none (wants_entry r) 15 (λ k. ap (λ b. bit r.mask k && (b || (bit r.pending k && not (bit r.select k)))) (bit-zero r.service k s) ∙ ap (λ b. bit r.mask k && (b && not (bit r.select k))) (bit-zero r.pending k p) ∙ both (bit r.mask k)) in
-    let nmi : bit r.pending 15 ≡ false = bit-zero r.pending 15 p in
-    rw (nmi, cycles, entries) (neither pse enabled)
 
 no_bit : (v : ℕ) → v ≡ 0 → (v == 1) ≡ false
 no_bit v e = ap (λ n. n == 1) e

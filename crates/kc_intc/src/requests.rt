@@ -55,6 +55,25 @@ fn with_request(n: u8, set: u16) -> u16
     set | 1 << n
 }
 
+// The highest request of a set, NMI not among them.
+#[tactic(auto, using(crate::proofs::Greatest::greatest_more, crate::proofs::Greatest::none_of_zero), unfolding(crate::specs::Choosing::greatest))]
+fn highest(set: u16) -> Option<u8>
+    ensures value { result ≡ greatest (bit set) 15 }
+    ensures below { IfSome result (λ n. n < 15) }
+{
+    if set == 0 {
+        return None;
+    }
+    let mut n = 15;
+    while n > 0 {
+        n -= 1;
+        if is_in(set, n) {
+            return Some(n);
+        }
+    }
+    None
+}
+
 impl Requests {
     /// Adds these requests to the pending ones.
     pub fn raise(&mut self, set: IntSet)
@@ -114,48 +133,21 @@ impl Requests {
         self.service = with_request(n, self.service);
     }
 
-    fn wants_cycle(&self, n: u8) -> bool
-        requires { n < 16 }
-        ensures { result ≡ wants_cycle self.now n }
-    {
-        is_in(self.pending, n) & is_in(self.mask, n) & is_in(self.select, n)
-    }
-
-    fn wants_entry(&self, n: u8) -> bool
-        requires { n < 16 }
-        ensures { result ≡ wants_entry self.now n }
-    {
-        is_in(self.mask, n)
-            & (is_in(self.service, n) | is_in(self.pending, n) & !is_in(self.select, n))
-    }
-
     // The request that the transfer server serves next.
-    #[tactic(auto, using(crate::proofs::Greatest::greatest_more), unfolding(crate::specs::Choosing::greatest))]
+    #[tactic(auto, using(crate::proofs::Sets::cycles))]
     fn cycle(&self) -> Option<u8>
         ensures value { result ≡ greatest (wants_cycle self.now) 15 }
         ensures below { IfSome result (λ n. n < 15) }
     {
-        let mut found = None;
-        for n in 0..15 {
-            if self.wants_cycle(n) {
-                found = Some(n);
-            }
-        }
-        found
+        highest(self.pending & self.mask & self.select)
     }
 
     // The request that is entered next.
-    #[tactic(auto, using(crate::proofs::Greatest::greatest_more), unfolding(crate::specs::Choosing::greatest))]
+    #[tactic(auto, using(crate::proofs::Sets::entries))]
     fn entry(&self) -> Option<u8>
         ensures value { result ≡ greatest (wants_entry self.now) 15 }
         ensures below { IfSome result (λ n. n < 15) }
     {
-        let mut found = None;
-        for n in 0..15 {
-            if self.wants_entry(n) {
-                found = Some(n);
-            }
-        }
-        found
+        highest(self.mask & (self.service | self.pending & !self.select))
     }
 }
