@@ -24,3 +24,4 @@ pub use moving::{do_exchange, do_load, do_load_extended, do_pop, do_push, do_sto
 pub use places::{is_operand_outside, is_popping, is_pushing, place, stack_pointer};
 pub use plan::make_plan;
 pub use runs::perform;
+pub use saving::do_save;

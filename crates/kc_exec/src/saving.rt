@@ -95,7 +95,7 @@ fn do_pop_all<B: Bus>(bus: &mut B) -> Result<u8, Kind>
 
 /// Saves or restores the PSW and more; gives its new high byte.
 #[tactic(auto, using(kc_exec_spec::proofs::Running::run_bind), unfolding(kc_exec_spec::specs::Saving::save))]
-pub(crate) fn do_save<B: Bus>(bus: &mut B, how: Saving, psw: u8) -> Result<u8, Kind>
+pub fn do_save<B: Bus>(bus: &mut B, how: Saving, psw: u8) -> Result<u8, Kind>
     ensures gives { Gives (λ x. x) result (B.held bus.new) (run B.meaning (save how psw) (B.held bus.old)) }
     ensures spent { B.spent bus.new + B.allowed (B.held bus.old) ≤ B.spent bus.old + B.allowed (B.held bus.new) }
     ensures same { B.lent bus.new ≡ B.lent bus.old }
