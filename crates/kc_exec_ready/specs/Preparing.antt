@@ -10,9 +10,9 @@ use Rattle.kc_isa.specs.Names.{mnemonic_at}
 use Rattle.kc_isa.specs.Formed.{is_formed, length_of, states_of}
 use Rattle.kc_exec_spec.specs.declared.cpu.Cpu.{Cpu}
 use Rattle.kc_exec_spec.specs.declared.cpu.After.{After}
-use Rattle.kc_exec_spec.specs.declared.cpu.After.TheVariants.{Next}
+use Rattle.kc_exec_spec.specs.declared.cpu.After.TheVariants.{Next, Held}
 use Rattle.kc_exec_spec.specs.declared.plan.Plan.{Plan}
-use Rattle.kc_exec_spec.specs.declared.plan.Plan.TheVariants.{Compute, Move, Jump, Set}
+use Rattle.kc_exec_spec.specs.declared.plan.Plan.TheVariants.{Compute, Move, Jump, Save, Set}
 use Rattle.kc_exec_spec.specs.declared.plan.Computation.TheVariants.{Normalize}
 use Rattle.kc_exec_spec.specs.declared.plan.Route.TheVariants.{When}
 use Rattle.kc_exec_spec.specs.declared.plan.Setting.{Setting}
@@ -58,11 +58,12 @@ is_free_setting (Interrupts set) = false
 is_free_setting (Transfers set) = false
 is_free_setting _ = true
 
--- any activity may follow
+-- the program goes on: any activity may follow, or, after what saves or restores the PSW, an instruction
 abbrev pub is_free : Plan → Bool
 is_free (Compute how) = true
 is_free (Move how) = true
 is_free (Jump route) = true
+is_free (Save how) = true
 is_free (Set bit) = is_free_setting bit
 is_free _ = false
 
@@ -125,7 +126,7 @@ ready_of m i = record {
   other = states_of i (place_when (cost_of (plan_of m) i.operand) (told_count i.operand) true);
 }
 
--- nothing is told: an instruction of no bytes, after which not any activity may follow
+-- nothing is told: an instruction of no bytes, after which the program does not go on
 abbrev pub is_blank : Ready → Bool
 is_blank r = not r.free && r.length == 0
 
@@ -142,7 +143,8 @@ pub record IsReady (r : Ready) : Type 0 where
 abbrev pub time_at : Insn → Cpu → Masks → (ℕ → ℕ) → Result ℕ Kind
 time_at i cpu masks byte = place_of i cpu masks byte >>= λ place. Ok (states_of i place)
 
--- a call ended so, and any activity may follow; a refusal leaves the registers as they were
-abbrev pub GoesOn : {H : Type 0} → Result (Unit {0}) Kind → Cpu → Cpu → H → Outcome (After × Cpu) H → Type 0
-GoesOn (Ok u) old new h outcome = outcome ≡ Done (Next, new) h
+-- a call ended so, and says whether an instruction has to follow, or any activity may; a refusal leaves the registers as they
+-- were
+abbrev pub GoesOn : {H : Type 0} → Result Bool Kind → Cpu → Cpu → H → Outcome (After × Cpu) H → Type 0
+GoesOn (Ok held) old new h outcome = outcome ≡ Done (if held then Held else Next, new) h
 GoesOn (Err k) old new h outcome = (outcome ≡ Refused k h) × (new ≡ old)

@@ -27,7 +27,7 @@ pub(crate) fn operate<B: Bus>(
     insn: &Insn,
     here: Here,
     cpu: &mut Cpu,
-) -> Result<(), Kind>
+) -> Result<bool, Kind>
     requires { here.next ≡ next_pc insn.now cpu.old.pc }
     ensures effect { GoesOn result cpu.old cpu.new (B.held bus.new) (run B.meaning (planned (Computes (computes.Operate op byte)) insn.now here.wsr cpu.old) (B.held bus.old)) }
     ensures spent { B.spent bus.new + B.allowed (B.held bus.old) ≤ B.spent bus.old + B.allowed (B.held bus.new) }
@@ -35,7 +35,7 @@ pub(crate) fn operate<B: Bus>(
 {
     cpu.psw_high = do_operate(bus, op, byte, here.wsr, insn, cpu.psw_high)?;
     cpu.pc = here.next;
-    Ok(())
+    Ok(false)
 }
 
 #[inline(always)]
@@ -47,7 +47,7 @@ pub(crate) fn alter<B: Bus>(
     insn: &Insn,
     here: Here,
     cpu: &mut Cpu,
-) -> Result<(), Kind>
+) -> Result<bool, Kind>
     requires { here.next ≡ next_pc insn.now cpu.old.pc }
     ensures effect { GoesOn result cpu.old cpu.new (B.held bus.new) (run B.meaning (planned (Computes (computes.Alter how byte)) insn.now here.wsr cpu.old) (B.held bus.old)) }
     ensures spent { B.spent bus.new + B.allowed (B.held bus.old) ≤ B.spent bus.old + B.allowed (B.held bus.new) }
@@ -55,7 +55,7 @@ pub(crate) fn alter<B: Bus>(
 {
     cpu.psw_high = do_alter(bus, how, byte, here.wsr, insn.regs[0], cpu.psw_high)?;
     cpu.pc = here.next;
-    Ok(())
+    Ok(false)
 }
 
 #[inline(always)]
@@ -66,7 +66,7 @@ pub(crate) fn extend<B: Bus>(
     insn: &Insn,
     here: Here,
     cpu: &mut Cpu,
-) -> Result<(), Kind>
+) -> Result<bool, Kind>
     requires { here.next ≡ next_pc insn.now cpu.old.pc }
     ensures effect { GoesOn result cpu.old cpu.new (B.held bus.new) (run B.meaning (planned (Computes (computes.Extend byte)) insn.now here.wsr cpu.old) (B.held bus.old)) }
     ensures spent { B.spent bus.new + B.allowed (B.held bus.old) ≤ B.spent bus.old + B.allowed (B.held bus.new) }
@@ -74,7 +74,7 @@ pub(crate) fn extend<B: Bus>(
 {
     cpu.psw_high = do_extend(bus, byte, here.wsr, insn.regs[0], cpu.psw_high)?;
     cpu.pc = here.next;
-    Ok(())
+    Ok(false)
 }
 
 #[inline(always)]
@@ -86,7 +86,7 @@ pub(crate) fn shift<B: Bus>(
     insn: &Insn,
     here: Here,
     cpu: &mut Cpu,
-) -> Result<(), Kind>
+) -> Result<bool, Kind>
     requires { here.next ≡ next_pc insn.now cpu.old.pc }
     ensures effect { GoesOn result cpu.old cpu.new (B.held bus.new) (run B.meaning (planned (Computes (computes.Shift how size)) insn.now here.wsr cpu.old) (B.held bus.old)) }
     ensures spent { B.spent bus.new + B.allowed (B.held bus.old) ≤ B.spent bus.old + B.allowed (B.held bus.new) }
@@ -94,7 +94,7 @@ pub(crate) fn shift<B: Bus>(
 {
     cpu.psw_high = do_shift(bus, how, size, here.wsr, insn, cpu.psw_high)?;
     cpu.pc = here.next;
-    Ok(())
+    Ok(false)
 }
 
 #[inline(always)]
@@ -104,7 +104,7 @@ pub(crate) fn normalize<B: Bus>(
     insn: &Insn,
     here: Here,
     cpu: &mut Cpu,
-) -> Result<(), Kind>
+) -> Result<bool, Kind>
     requires { here.next ≡ next_pc insn.now cpu.old.pc }
     ensures effect { GoesOn result cpu.old cpu.new (B.held bus.new) (run B.meaning (planned (Computes computes.Normalize) insn.now here.wsr cpu.old) (B.held bus.old)) }
     ensures spent { B.spent bus.new + B.allowed (B.held bus.old) ≤ B.spent bus.old + B.allowed (B.held bus.new) }
@@ -112,7 +112,7 @@ pub(crate) fn normalize<B: Bus>(
 {
     cpu.psw_high = do_normalize(bus, here.wsr, insn, cpu.psw_high)?;
     cpu.pc = here.next;
-    Ok(())
+    Ok(false)
 }
 
 #[inline(always)]
@@ -124,7 +124,7 @@ pub(crate) fn multiply<B: Bus>(
     insn: &Insn,
     here: Here,
     cpu: &mut Cpu,
-) -> Result<(), Kind>
+) -> Result<bool, Kind>
     requires { here.next ≡ next_pc insn.now cpu.old.pc }
     ensures effect { GoesOn result cpu.old cpu.new (B.held bus.new) (run B.meaning (planned (Computes (computes.Multiply with_sign byte)) insn.now here.wsr cpu.old) (B.held bus.old)) }
     ensures spent { B.spent bus.new + B.allowed (B.held bus.old) ≤ B.spent bus.old + B.allowed (B.held bus.new) }
@@ -132,7 +132,7 @@ pub(crate) fn multiply<B: Bus>(
 {
     do_multiply(bus, with_sign, byte, here.wsr, insn)?;
     cpu.pc = here.next;
-    Ok(())
+    Ok(false)
 }
 
 #[inline(always)]
@@ -144,7 +144,7 @@ pub(crate) fn divide<B: Bus>(
     insn: &Insn,
     here: Here,
     cpu: &mut Cpu,
-) -> Result<(), Kind>
+) -> Result<bool, Kind>
     requires { here.next ≡ next_pc insn.now cpu.old.pc }
     ensures effect { GoesOn result cpu.old cpu.new (B.held bus.new) (run B.meaning (planned (Computes (computes.Divide with_sign byte)) insn.now here.wsr cpu.old) (B.held bus.old)) }
     ensures spent { B.spent bus.new + B.allowed (B.held bus.old) ≤ B.spent bus.old + B.allowed (B.held bus.new) }
@@ -152,7 +152,7 @@ pub(crate) fn divide<B: Bus>(
 {
     cpu.psw_high = do_divide(bus, with_sign, byte, here.wsr, insn, cpu.psw_high)?;
     cpu.pc = here.next;
-    Ok(())
+    Ok(false)
 }
 
 #[inline(always)]
@@ -162,7 +162,7 @@ pub(crate) fn compare_long<B: Bus>(
     insn: &Insn,
     here: Here,
     cpu: &mut Cpu,
-) -> Result<(), Kind>
+) -> Result<bool, Kind>
     requires { here.next ≡ next_pc insn.now cpu.old.pc }
     ensures effect { GoesOn result cpu.old cpu.new (B.held bus.new) (run B.meaning (planned (Computes computes.CompareLong) insn.now here.wsr cpu.old) (B.held bus.old)) }
     ensures spent { B.spent bus.new + B.allowed (B.held bus.old) ≤ B.spent bus.old + B.allowed (B.held bus.new) }
@@ -170,5 +170,5 @@ pub(crate) fn compare_long<B: Bus>(
 {
     cpu.psw_high = do_compare_long(bus, here.wsr, insn, cpu.psw_high)?;
     cpu.pc = here.next;
-    Ok(())
+    Ok(false)
 }

@@ -29,19 +29,24 @@ fn branched(here: Here, taken: bool, insn: &Insn, cpu: &Cpu) -> u16
 
 #[inline(always)]
 #[tactic(auto, using(kc_exec_spec::proofs::Running::run_bind), unfolding(kc_exec_spec::specs::Effects::planned, kc_exec_spec::specs::Jumping::goes))]
-pub(crate) fn go<B: Bus>(bus: &mut B, insn: &Insn, here: Here, cpu: &mut Cpu) -> Result<(), Kind>
+pub(crate) fn go<B: Bus>(bus: &mut B, insn: &Insn, here: Here, cpu: &mut Cpu) -> Result<bool, Kind>
     requires { here.next ≡ next_pc insn.now cpu.old.pc }
     ensures effect { GoesOn result cpu.old cpu.new (B.held bus.new) (run B.meaning (planned (Goes goes.Always) insn.now here.wsr cpu.old) (B.held bus.old)) }
     ensures spent { B.spent bus.new + B.allowed (B.held bus.old) ≤ B.spent bus.old + B.allowed (B.held bus.new) }
     ensures same { B.lent bus.new ≡ B.lent bus.old }
 {
     cpu.pc = branched(here, true, insn, cpu);
-    Ok(())
+    Ok(false)
 }
 
 #[inline(always)]
 #[tactic(auto, using(kc_exec_spec::proofs::Running::run_bind), unfolding(kc_exec_spec::specs::Effects::planned, kc_exec_spec::specs::Jumping::goes))]
-pub(crate) fn call<B: Bus>(bus: &mut B, insn: &Insn, here: Here, cpu: &mut Cpu) -> Result<(), Kind>
+pub(crate) fn call<B: Bus>(
+    bus: &mut B,
+    insn: &Insn,
+    here: Here,
+    cpu: &mut Cpu,
+) -> Result<bool, Kind>
     requires { here.next ≡ next_pc insn.now cpu.old.pc }
     ensures effect { GoesOn result cpu.old cpu.new (B.held bus.new) (run B.meaning (planned (Goes goes.Call) insn.now here.wsr cpu.old) (B.held bus.old)) }
     ensures spent { B.spent bus.new + B.allowed (B.held bus.old) ≤ B.spent bus.old + B.allowed (B.held bus.new) }
@@ -49,7 +54,7 @@ pub(crate) fn call<B: Bus>(bus: &mut B, insn: &Insn, here: Here, cpu: &mut Cpu) 
 {
     push_word(bus, here.next)?;
     cpu.pc = branched(here, true, insn, cpu);
-    Ok(())
+    Ok(false)
 }
 
 #[inline(always)]
@@ -59,7 +64,7 @@ pub(crate) fn come_back<B: Bus>(
     insn: &Insn,
     here: Here,
     cpu: &mut Cpu,
-) -> Result<(), Kind>
+) -> Result<bool, Kind>
     requires { here.next ≡ next_pc insn.now cpu.old.pc }
     ensures effect { GoesOn result cpu.old cpu.new (B.held bus.new) (run B.meaning (planned (Goes goes.Return) insn.now here.wsr cpu.old) (B.held bus.old)) }
     ensures spent { B.spent bus.new + B.allowed (B.held bus.old) ≤ B.spent bus.old + B.allowed (B.held bus.new) }
@@ -67,7 +72,7 @@ pub(crate) fn come_back<B: Bus>(
 {
     let pc = pop_word(bus)?;
     cpu.pc = pc;
-    Ok(())
+    Ok(false)
 }
 
 #[inline(always)]
@@ -79,7 +84,7 @@ pub(crate) fn go_where<B: Bus>(
     insn: &Insn,
     here: Here,
     cpu: &mut Cpu,
-) -> Result<(), Kind>
+) -> Result<bool, Kind>
     requires { here.next ≡ next_pc insn.now cpu.old.pc }
     ensures effect { GoesOn result cpu.old cpu.new (B.held bus.new) (run B.meaning (planned (Goes (goes.When test wanted)) insn.now here.wsr cpu.old) (B.held bus.old)) }
     ensures spent { B.spent bus.new + B.allowed (B.held bus.old) ≤ B.spent bus.old + B.allowed (B.held bus.new) }
@@ -88,7 +93,7 @@ pub(crate) fn go_where<B: Bus>(
     let taken = is_met(test, wanted, cpu.psw_high);
     cpu.pc = branched(here, taken, insn, cpu);
     cpu.psw_high = psw_behind(Route::When(test, wanted), cpu.psw_high);
-    Ok(())
+    Ok(false)
 }
 
 #[inline(always)]
@@ -99,7 +104,7 @@ pub(crate) fn go_on_bit<B: Bus>(
     insn: &Insn,
     here: Here,
     cpu: &mut Cpu,
-) -> Result<(), Kind>
+) -> Result<bool, Kind>
     requires { here.next ≡ next_pc insn.now cpu.old.pc }
     ensures effect { GoesOn result cpu.old cpu.new (B.held bus.new) (run B.meaning (planned (Goes (goes.Bit set)) insn.now here.wsr cpu.old) (B.held bus.old)) }
     ensures spent { B.spent bus.new + B.allowed (B.held bus.old) ≤ B.spent bus.old + B.allowed (B.held bus.new) }
@@ -107,7 +112,7 @@ pub(crate) fn go_on_bit<B: Bus>(
 {
     let taken = is_bit_jump(bus, set, insn.opcode % 8, here.wsr, insn.regs[0])?;
     cpu.pc = branched(here, taken, insn, cpu);
-    Ok(())
+    Ok(false)
 }
 
 #[inline(always)]
@@ -118,7 +123,7 @@ pub(crate) fn count_down<B: Bus>(
     insn: &Insn,
     here: Here,
     cpu: &mut Cpu,
-) -> Result<(), Kind>
+) -> Result<bool, Kind>
     requires { here.next ≡ next_pc insn.now cpu.old.pc }
     ensures effect { GoesOn result cpu.old cpu.new (B.held bus.new) (run B.meaning (planned (Goes (goes.CountDown byte)) insn.now here.wsr cpu.old) (B.held bus.old)) }
     ensures spent { B.spent bus.new + B.allowed (B.held bus.old) ≤ B.spent bus.old + B.allowed (B.held bus.new) }
@@ -126,7 +131,7 @@ pub(crate) fn count_down<B: Bus>(
 {
     let taken = is_counted(bus, byte, here.wsr, insn.regs[0])?;
     cpu.pc = branched(here, taken, insn, cpu);
-    Ok(())
+    Ok(false)
 }
 
 #[inline(always)]
@@ -136,7 +141,7 @@ pub(crate) fn go_by_table<B: Bus>(
     insn: &Insn,
     here: Here,
     cpu: &mut Cpu,
-) -> Result<(), Kind>
+) -> Result<bool, Kind>
     requires { here.next ≡ next_pc insn.now cpu.old.pc }
     ensures effect { GoesOn result cpu.old cpu.new (B.held bus.new) (run B.meaning (planned (Goes goes.Table) insn.now here.wsr cpu.old) (B.held bus.old)) }
     ensures spent { B.spent bus.new + B.allowed (B.held bus.old) ≤ B.spent bus.old + B.allowed (B.held bus.new) }
@@ -144,7 +149,7 @@ pub(crate) fn go_by_table<B: Bus>(
 {
     let pc = read_table(bus, here.wsr, insn)?;
     cpu.pc = pc;
-    Ok(())
+    Ok(false)
 }
 
 #[inline(always)]
@@ -154,7 +159,7 @@ pub(crate) fn go_by_register<B: Bus>(
     insn: &Insn,
     here: Here,
     cpu: &mut Cpu,
-) -> Result<(), Kind>
+) -> Result<bool, Kind>
     requires { here.next ≡ next_pc insn.now cpu.old.pc }
     ensures effect { GoesOn result cpu.old cpu.new (B.held bus.new) (run B.meaning (planned (Goes goes.Register) insn.now here.wsr cpu.old) (B.held bus.old)) }
     ensures spent { B.spent bus.new + B.allowed (B.held bus.old) ≤ B.spent bus.old + B.allowed (B.held bus.new) }
@@ -162,5 +167,5 @@ pub(crate) fn go_by_register<B: Bus>(
 {
     let pc = read_register(bus, false, here.wsr, insn.regs[0])?;
     cpu.pc = pc;
-    Ok(())
+    Ok(false)
 }

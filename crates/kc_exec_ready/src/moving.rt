@@ -22,7 +22,7 @@ pub(crate) fn load<B: Bus>(
     insn: &Insn,
     here: Here,
     cpu: &mut Cpu,
-) -> Result<(), Kind>
+) -> Result<bool, Kind>
     requires { here.next ≡ next_pc insn.now cpu.old.pc }
     ensures effect { GoesOn result cpu.old cpu.new (B.held bus.new) (run B.meaning (planned (Moves (moves.Load byte)) insn.now here.wsr cpu.old) (B.held bus.old)) }
     ensures spent { B.spent bus.new + B.allowed (B.held bus.old) ≤ B.spent bus.old + B.allowed (B.held bus.new) }
@@ -30,7 +30,7 @@ pub(crate) fn load<B: Bus>(
 {
     do_load(bus, byte, here.wsr, insn)?;
     cpu.pc = here.next;
-    Ok(())
+    Ok(false)
 }
 
 #[inline(always)]
@@ -40,7 +40,7 @@ pub(crate) fn load_zeros<B: Bus>(
     insn: &Insn,
     here: Here,
     cpu: &mut Cpu,
-) -> Result<(), Kind>
+) -> Result<bool, Kind>
     requires { here.next ≡ next_pc insn.now cpu.old.pc }
     ensures effect { GoesOn result cpu.old cpu.new (B.held bus.new) (run B.meaning (planned (Moves moves.ZeroExtend) insn.now here.wsr cpu.old) (B.held bus.old)) }
     ensures spent { B.spent bus.new + B.allowed (B.held bus.old) ≤ B.spent bus.old + B.allowed (B.held bus.new) }
@@ -48,7 +48,7 @@ pub(crate) fn load_zeros<B: Bus>(
 {
     do_load_extended(bus, false, here.wsr, insn)?;
     cpu.pc = here.next;
-    Ok(())
+    Ok(false)
 }
 
 #[inline(always)]
@@ -58,7 +58,7 @@ pub(crate) fn load_sign<B: Bus>(
     insn: &Insn,
     here: Here,
     cpu: &mut Cpu,
-) -> Result<(), Kind>
+) -> Result<bool, Kind>
     requires { here.next ≡ next_pc insn.now cpu.old.pc }
     ensures effect { GoesOn result cpu.old cpu.new (B.held bus.new) (run B.meaning (planned (Moves moves.SignExtend) insn.now here.wsr cpu.old) (B.held bus.old)) }
     ensures spent { B.spent bus.new + B.allowed (B.held bus.old) ≤ B.spent bus.old + B.allowed (B.held bus.new) }
@@ -66,7 +66,7 @@ pub(crate) fn load_sign<B: Bus>(
 {
     do_load_extended(bus, true, here.wsr, insn)?;
     cpu.pc = here.next;
-    Ok(())
+    Ok(false)
 }
 
 #[inline(always)]
@@ -77,7 +77,7 @@ pub(crate) fn store<B: Bus>(
     insn: &Insn,
     here: Here,
     cpu: &mut Cpu,
-) -> Result<(), Kind>
+) -> Result<bool, Kind>
     requires { here.next ≡ next_pc insn.now cpu.old.pc }
     ensures effect { GoesOn result cpu.old cpu.new (B.held bus.new) (run B.meaning (planned (Moves (moves.Store byte)) insn.now here.wsr cpu.old) (B.held bus.old)) }
     ensures spent { B.spent bus.new + B.allowed (B.held bus.old) ≤ B.spent bus.old + B.allowed (B.held bus.new) }
@@ -85,7 +85,7 @@ pub(crate) fn store<B: Bus>(
 {
     do_store(bus, byte, here.wsr, insn)?;
     cpu.pc = here.next;
-    Ok(())
+    Ok(false)
 }
 
 #[inline(always)]
@@ -96,7 +96,7 @@ pub(crate) fn exchange<B: Bus>(
     insn: &Insn,
     here: Here,
     cpu: &mut Cpu,
-) -> Result<(), Kind>
+) -> Result<bool, Kind>
     requires { here.next ≡ next_pc insn.now cpu.old.pc }
     ensures effect { GoesOn result cpu.old cpu.new (B.held bus.new) (run B.meaning (planned (Moves (moves.Exchange byte)) insn.now here.wsr cpu.old) (B.held bus.old)) }
     ensures spent { B.spent bus.new + B.allowed (B.held bus.old) ≤ B.spent bus.old + B.allowed (B.held bus.new) }
@@ -104,12 +104,17 @@ pub(crate) fn exchange<B: Bus>(
 {
     do_exchange(bus, byte, here.wsr, insn)?;
     cpu.pc = here.next;
-    Ok(())
+    Ok(false)
 }
 
 #[inline(always)]
 #[tactic(auto, using(kc_exec_spec::proofs::Running::run_bind), unfolding(kc_exec_spec::specs::Effects::planned, kc_exec_spec::specs::Moving::move_data))]
-pub(crate) fn push<B: Bus>(bus: &mut B, insn: &Insn, here: Here, cpu: &mut Cpu) -> Result<(), Kind>
+pub(crate) fn push<B: Bus>(
+    bus: &mut B,
+    insn: &Insn,
+    here: Here,
+    cpu: &mut Cpu,
+) -> Result<bool, Kind>
     requires { here.next ≡ next_pc insn.now cpu.old.pc }
     ensures effect { GoesOn result cpu.old cpu.new (B.held bus.new) (run B.meaning (planned (Moves moves.Push) insn.now here.wsr cpu.old) (B.held bus.old)) }
     ensures spent { B.spent bus.new + B.allowed (B.held bus.old) ≤ B.spent bus.old + B.allowed (B.held bus.new) }
@@ -117,12 +122,12 @@ pub(crate) fn push<B: Bus>(bus: &mut B, insn: &Insn, here: Here, cpu: &mut Cpu) 
 {
     do_push(bus, here.wsr, insn)?;
     cpu.pc = here.next;
-    Ok(())
+    Ok(false)
 }
 
 #[inline(always)]
 #[tactic(auto, using(kc_exec_spec::proofs::Running::run_bind), unfolding(kc_exec_spec::specs::Effects::planned, kc_exec_spec::specs::Moving::move_data))]
-pub(crate) fn pop<B: Bus>(bus: &mut B, insn: &Insn, here: Here, cpu: &mut Cpu) -> Result<(), Kind>
+pub(crate) fn pop<B: Bus>(bus: &mut B, insn: &Insn, here: Here, cpu: &mut Cpu) -> Result<bool, Kind>
     requires { here.next ≡ next_pc insn.now cpu.old.pc }
     ensures effect { GoesOn result cpu.old cpu.new (B.held bus.new) (run B.meaning (planned (Moves moves.Pop) insn.now here.wsr cpu.old) (B.held bus.old)) }
     ensures spent { B.spent bus.new + B.allowed (B.held bus.old) ≤ B.spent bus.old + B.allowed (B.held bus.new) }
@@ -130,5 +135,5 @@ pub(crate) fn pop<B: Bus>(bus: &mut B, insn: &Insn, here: Here, cpu: &mut Cpu) -
 {
     do_pop(bus, here.wsr, insn)?;
     cpu.pc = here.next;
-    Ok(())
+    Ok(false)
 }

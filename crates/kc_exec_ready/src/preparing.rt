@@ -70,9 +70,9 @@ fn is_free(plan: Plan) -> bool
     ensures { result ≡ is_free plan }
 {
     match plan {
-        Plan::Compute(_) | Plan::Move(_) | Plan::Jump(_) => true,
+        Plan::Compute(_) | Plan::Move(_) | Plan::Jump(_) | Plan::Save(_) => true,
         Plan::Set(bit) => is_free_setting(bit),
-        Plan::Save(_) | Plan::BlockMove(_) | Plan::Trap | Plan::Idle | Plan::Reset => false,
+        Plan::BlockMove(_) | Plan::Trap | Plan::Idle | Plan::Reset => false,
     }
 }
 

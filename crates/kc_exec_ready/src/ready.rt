@@ -5,9 +5,9 @@ use crate::cost::Cost;
 use kc_exec_spec::Test;
 use kc_isa::{Insn, Mnemonic, Operand};
 
-/// An instruction with what is told of it once: whether any activity may follow (`free`); its length in bytes; what its states
-/// depend on, with the test of a conditional jump and what it has to be; and its states where that does not hold (`base`) and
-/// where it holds (`other`).
+/// An instruction with what is told of it once: whether the program goes on after it (`free`); its length in bytes; what its
+/// states depend on, with the test of a conditional jump and what it has to be; and its states where that does not hold (`base`)
+/// and where it holds (`other`).
 #[derive(Clone, Copy, Debug, PartialEq, Eq, Drop)]
 pub struct Ready {
     pub insn: Insn,
@@ -22,7 +22,7 @@ pub struct Ready {
 }
 
 impl Ready {
-    /// What tells nothing: an instruction of no bytes, after which not any activity may follow.
+    /// What tells nothing: an instruction of no bytes, after which the program does not go on.
     pub fn blank() -> Ready
         ensures { is_blank result ≡ true }
     {

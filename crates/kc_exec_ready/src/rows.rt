@@ -1,6 +1,6 @@
 // A prepared instruction is performed by one match on its mnemonic.
 ghost use Rattle.std.specs.Prelude.{◌≡◌, ◌+◌, ◌≤◌, true};
-ghost use Rattle.kc_exec_spec.specs.declared.plan.Plan.TheVariants.{Set as Sets};
+ghost use Rattle.kc_exec_spec.specs.declared.plan.Plan.TheVariants.{Save as Saves, Set as Sets};
 ghost use Rattle.kc_exec_spec.specs.Effect.{run};
 ghost use Rattle.kc_exec_spec.specs.Effects.{planned, effect_of};
 ghost use Rattle.kc_exec_spec.specs.Jumping.{next_pc};
@@ -17,9 +17,29 @@ use crate::ready::Ready;
 use kc_alu::Shift;
 use kc_base::Kind;
 use kc_bus::Bus;
+use kc_exec::do_save;
 use kc_exec_operands::set_bit;
-use kc_exec_spec::{Alteration, Cpu, Operation, Setting, Size, Test};
+use kc_exec_spec::{Alteration, Cpu, Operation, Saving, Setting, Size, Test};
 use kc_isa::{Insn, Mnemonic};
+
+#[inline(always)]
+#[tactic(auto, using(kc_exec_spec::proofs::Running::run_bind), unfolding(kc_exec_spec::specs::Effects::planned))]
+fn save<B: Bus>(
+    bus: &mut B,
+    how: Saving,
+    insn: &Insn,
+    here: Here,
+    cpu: &mut Cpu,
+) -> Result<bool, Kind>
+    requires { here.next ≡ next_pc insn.now cpu.old.pc }
+    ensures effect { GoesOn result cpu.old cpu.new (B.held bus.new) (run B.meaning (planned (Saves how) insn.now here.wsr cpu.old) (B.held bus.old)) }
+    ensures spent { B.spent bus.new + B.allowed (B.held bus.old) ≤ B.spent bus.old + B.allowed (B.held bus.new) }
+    ensures same { B.lent bus.new ≡ B.lent bus.old }
+{
+    cpu.psw_high = do_save(bus, how, cpu.psw_high)?;
+    cpu.pc = here.next;
+    Ok(true)
+}
 
 #[inline(always)]
 #[tactic(auto, unfolding(kc_exec_spec::specs::Effects::planned))]
@@ -29,7 +49,7 @@ fn set<B: Bus>(
     insn: &Insn,
     here: Here,
     cpu: &mut Cpu,
-) -> Result<(), Kind>
+) -> Result<bool, Kind>
     requires free { is_free_setting bit ≡ true }
     requires next { here.next ≡ next_pc insn.now cpu.old.pc }
     ensures effect { GoesOn result cpu.old cpu.new (B.held bus.new) (run B.meaning (planned (Sets bit) insn.now here.wsr cpu.old) (B.held bus.old)) }
@@ -37,10 +57,11 @@ fn set<B: Bus>(
 {
     cpu.pc = here.next;
     cpu.psw_high = set_bit(bit, cpu.psw_high);
-    Ok(())
+    Ok(false)
 }
 
-// One arm for each mnemonic: what is in none of them does nothing, or is followed by what not any activity is.
+// One arm for each mnemonic: what is in none of them does nothing, or the program does not go on after it. Each answers whether
+// an instruction has to follow, or any activity may.
 #[inline(always)]
 fn perform_row<B: Bus>(
     mnemonic: Mnemonic,
@@ -48,7 +69,7 @@ fn perform_row<B: Bus>(
     here: Here,
     cpu: &mut Cpu,
     bus: &mut B,
-) -> Result<(), Kind>
+) -> Result<bool, Kind>
     requires free { is_free (plan_of mnemonic) ≡ true }
     requires next { here.next ≡ next_pc insn.now cpu.old.pc }
     ensures effect { GoesOn result cpu.old cpu.new (B.held bus.new) (run B.meaning (planned (plan_of mnemonic) insn.now here.wsr cpu.old) (B.held bus.old)) }
@@ -138,6 +159,10 @@ fn perform_row<B: Bus>(
         Mnemonic::Jge => go_where(bus, Test::Less, false, insn, here, cpu),
         Mnemonic::Je => go_where(bus, Test::Equal, true, insn, here, cpu),
         Mnemonic::Jne => go_where(bus, Test::Equal, false, insn, here, cpu),
+        Mnemonic::Pushf => save(bus, Saving::PushStatus, insn, here, cpu),
+        Mnemonic::Popf => save(bus, Saving::PopStatus, insn, here, cpu),
+        Mnemonic::Pusha => save(bus, Saving::PushAll, insn, here, cpu),
+        Mnemonic::Popa => save(bus, Saving::PopAll, insn, here, cpu),
         Mnemonic::Clrc => set(bus, Setting::Carry(false), insn, here, cpu),
         Mnemonic::Setc => set(bus, Setting::Carry(true), insn, here, cpu),
         Mnemonic::Clrvt => set(bus, Setting::NoOverflowTrap, insn, here, cpu),
@@ -154,7 +179,7 @@ fn perform_in_window<B: Bus>(
     here: Here,
     cpu: &mut Cpu,
     bus: &mut B,
-) -> Result<(), Kind>
+) -> Result<bool, Kind>
     requires free { is_free (plan_of mnemonic) ≡ true }
     requires next { here.next ≡ next_pc insn.now cpu.old.pc }
     ensures effect { GoesOn result cpu.old cpu.new (B.held bus.new) (run B.meaning (planned (plan_of mnemonic) insn.now here.wsr cpu.old) (B.held bus.old)) }
@@ -172,7 +197,7 @@ fn perform_here<B: Bus>(
     here: Here,
     cpu: &mut Cpu,
     bus: &mut B,
-) -> Result<(), Kind>
+) -> Result<bool, Kind>
     requires free { is_free (plan_of mnemonic) ≡ true }
     requires next { here.next ≡ next_pc insn.now cpu.old.pc }
     ensures effect { GoesOn result cpu.old cpu.new (B.held bus.new) (run B.meaning (planned (plan_of mnemonic) insn.now here.wsr cpu.old) (B.held bus.old)) }
@@ -186,11 +211,11 @@ fn perform_here<B: Bus>(
     }
 }
 
-/// Performs a prepared instruction at `cpu.pc` after which any activity may follow. After a refusal the bus is as after the
-/// accesses before the refused one, and the registers are as before.
+/// Performs a prepared instruction at `cpu.pc` after which the program goes on; answers whether an instruction has to follow, or
+/// any activity may. After a refusal the bus is as after the accesses before the refused one, and the registers are as before.
 #[inline(always)]
 #[tactic(auto, unfolding(kc_exec_spec::specs::Effects::effect_of, crate::specs::Preparing::ready_of))]
-pub fn perform_ready<B: Bus>(ready: &Ready, cpu: &mut Cpu, bus: &mut B) -> Result<(), Kind>
+pub fn perform_ready<B: Bus>(ready: &Ready, cpu: &mut Cpu, bus: &mut B) -> Result<bool, Kind>
     requires ready { IsReady ready.now }
     requires free { is_free (plan_of ready.now.mnemonic) ≡ true }
     ensures effect { GoesOn result cpu.old cpu.new (B.held bus.new) (run B.meaning (effect_of ready.now.insn cpu.old) (B.held bus.old)) }

@@ -15,7 +15,7 @@ use kc_exec::{is_met, is_operand_outside, place, stack_pointer};
 use kc_exec_spec::Cpu;
 use kc_isa::states;
 
-/// Whether any activity may follow the instruction.
+/// Whether the program goes on after the instruction: any activity may follow, or an instruction has to.
 #[inline(always)]
 pub fn is_followed_freely(ready: &Ready) -> bool
     ensures value { result ≡ ready.now.free }
