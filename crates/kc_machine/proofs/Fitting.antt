@@ -9,7 +9,7 @@ use Rattle.kc_exec_spec.specs.Access.{Access, ReadByte, ReadWord, WriteByte, Wri
 use Rattle.kc_exec_spec.specs.Effect.{Effect, End, Undefined, Look, Ask, Outcome, Done, Refused, Gives, answered, run}
 use Rattle.kc_exec_spec.specs.declared.cpu.After.{After}
 use Rattle.kc_exec_spec.specs.Effects.{Performs}
-use Rattle.kc_exec_spec.specs.declared.cpu.After.TheVariants.{Next}
+use Rattle.kc_exec_spec.specs.declared.cpu.After.TheVariants.{Next, Held}
 use Rattle.kc_exec_spec.specs.Entering.{Loads}
 use Rattle.kc_exec_ready.specs.Preparing.{GoesOn}
 use Rattle.kc_exec_spec.specs.Accesses.{AtMost}
@@ -175,8 +175,8 @@ module _ {X : Type 0} (f : Further X) where
   performed-few t s h result old new few e =
       subst (λ (x : Scene X). x.reached ≤ s.reached + 16) (performed result old new h (run (bus_meaning f) t s) e) (few-counted f 8 t s few)
 
-  pub went-few : (t : Effect (After × Cpu)) (s h : Scene X) (result : Result (Unit {0}) Kind) (old new : Cpu) → AtMost 8 t → GoesOn result old new h (run (bus_meaning f) t s) → h.reached ≤ s.reached + 16
-  went-few t s h (Ok u) old new few e = performed-few t s h (Ok Next) old new few e
+  pub went-few : (t : Effect (After × Cpu)) (s h : Scene X) (result : Result Bool Kind) (old new : Cpu) → AtMost 8 t → GoesOn result old new h (run (bus_meaning f) t s) → h.reached ≤ s.reached + 16
+  went-few t s h (Ok held) old new few e = performed-few t s h (Ok (if held then Held else Next)) old new few e
   went-few t s h (Err k) old new few e = performed-few t s h (Err k) old new few e
 
   pub loaded-few : (t : Effect ℕ) (s h : Scene X) (result : Result (Unit {0}) Kind) (old new : Cpu) → AtMost 8 t → Loads result old new h (run (bus_meaning f) t s) → h.reached ≤ s.reached + 16

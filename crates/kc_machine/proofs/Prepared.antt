@@ -1,6 +1,7 @@
 -- Prepared instructions: the table of them, and the activity that such an instruction is.
 use Rattle.std.proofs.Common.{◌≡◌, ◌≢◌, ℕ, zero, suc, ◌+◌, ◌*◌, ◌%◌, ◌<◌, ◌≤◌, ◌==◌, Bool, true, false, if◌then◌else◌, List, [], length, Some, None, Result, Ok, Err, refl, sym, subst, ap, ◌∙◌, append-nil, arith}
-use Rattle.std.specs.Prelude.{slice_index, slice_index_or, slice_set, replicate, All}
+use Rattle.std.specs.Prelude.{slice_index, slice_index_or, slice_set, replicate, All, bit_or}
+use Rattle.std.specs.Int.Bits.{and_zero_l}
 use Rattle.std.proofs.lemmas.Grind.{common_steps}
 use Rattle.kc_base.specs.declared.types.Kind.{Kind}
 use Rattle.kc_isa.specs.declared.insn.Insn.{Insn}
@@ -16,13 +17,17 @@ use Rattle.kc_exec_spec.specs.Places.{place_of, ◌>>=◌}
 use Rattle.kc_exec_spec.specs.Plans.{plan_of}
 use Rattle.kc_exec_ready.specs.declared.ready.Ready.{Ready}
 use Rattle.kc_intc.specs.declared.requests.Choice.TheVariants.{Go}
+use Rattle.kc_intc.specs.declared.requests.Requests.{Requests}
+use Rattle.kc_intc.specs.Choosing.{choice_of}
+use Rattle.kc_intc.proofs.Greatest.{nothing_masked_in}
 use Rattle.kc_exec_ready.specs.Preparing.{is_free, is_blank, time_at, IsReady}
 use Rattle.kc_machine_spec.specs.declared.doing.Activity.TheVariants.{Executes}
 use Rattle.kc_exec_spec.specs.declared.cpu.Cpu.{Cpu}
+use Rattle.kc_exec_spec.specs.declared.cpu.After.TheVariants.{Next, Held}
 use Rattle.kc_machine_spec.specs.Board.{masks_of, pins}
 use Rattle.kc_machine_spec.specs.Passing.{stepped_of}
 use Rattle.kc_machine_spec.specs.Scene.{Scene, byte}
-use Rattle.kc_machine_spec.specs.Machine.{Machine, closed, free, fetched, begins, breaks, placed, fetches, chosen, current, asked, scene_of, own_records, is_trap}
+use Rattle.kc_machine_spec.specs.Machine.{Machine, closed, next_after, fetched, begins, breaks, placed, fetches, chosen, current, asked, scene_of, own_records, is_trap}
 use Rattle.kc_extra.specs.declared.extra.Extra as extra
 use Rattle.kc_machine.specs.declared.common.Common.{Common}
 use Rattle.kc_machine.specs.declared.parts.Core.{Core}
@@ -108,6 +113,11 @@ pub read_so : {X : Type 0} (m : Machine X) (r : Ready) → IsRead m.board.memory
 unfolding fetches
 read_so m r there = sym (begun-so m (decode_of (fetched 7 m.board.memory m.cpu.pc)) r.insn there.read)
 
+-- no request is served where none is pending and none has come from the transfer server
+pub nothing_wanted : (pse enabled : Bool) (r : Requests) → r.pending ≡ 0 → r.service ≡ 0 → choice_of pse enabled r ≡ Go
+nothing_wanted pse enabled r pending service =
+    nothing_masked_in pse enabled r (rw (pending, service) (and_zero_l (bit_or r.mask 0x8000)))
+
 -- between two activities an instruction is held for
 pub held_between : {X : Type 0} (m : Machine X) → m.under_way ≡ None → m.going ≡ None → m.held ≡ true → IsBetween m
 held_between m begun alone held = record { begun = begun; alone = alone; none = λ unheld. absurd (cc (held, unheld)) }
@@ -132,11 +142,16 @@ comes_next m r n between there time =
     placed_for r.insn (place_of r.insn m.cpu (masks_of m.board.units) (byte (scene_of m))) n (sym time)
     ∙ told_next m r between there
 
+-- whether an instruction has to follow, or any activity may
+followed-by : (insn : Insn) (held : Bool) → next_after insn (if held then Held else Next) ≡ record { held = held; going = None; ended = None }
+followed-by insn true = refl
+followed-by insn false = refl
+
 -- a machine between activities, a state and the accesses of an instruction later
-pub gone-on : {X : Type 0} (m : Machine X) (s : Scene X) (cpu : Cpu) → m.under_way ≡ None → m.going ≡ None → m.ended ≡ None →
-    stepped_of (record m { time = m.time + 1; board = s.board; cpu = cpu; held = false }) (pins m.time s.edges) (4 * s.reached) ≡ closed m s cpu free []
-gone-on m s cpu begun alone lives =
-    rw (begun, alone, lives, append-nil (pins m.time s.edges)) refl
+pub gone-on : {X : Type 0} (m : Machine X) (insn : Insn) (s : Scene X) (cpu : Cpu) (held : Bool) → m.under_way ≡ None → m.going ≡ None → m.ended ≡ None →
+    stepped_of (record m { time = m.time + 1; board = s.board; cpu = cpu; held = held }) (pins m.time s.edges) (4 * s.reached) ≡ closed m s cpu (next_after insn (if held then Held else Next)) []
+gone-on m insn s cpu held begun alone lives =
+    rw (begun, alone, lives, followed-by insn held, append-nil (pins m.time s.edges)) refl
 
 no-trap : (m : Mnemonic) → is_free (plan_of m) ≡ true → is_trap (Some m) ≡ false
 no-trap named.Trap h = absurd (cc h)

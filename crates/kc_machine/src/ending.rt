@@ -1,5 +1,5 @@
 // How activities end: their accesses, and what is printed of them.
-ghost use Rattle.std.specs.Prelude.{◌≡◌, ◌≤◌, ◌<◌, ◌+◌, ◌*◌, ◌^◌, ◌++◌, IsTrue, IfSome, IfErr, OnOk, OnErr, None, [], ◌∷◌, option_to_list, false, true};
+ghost use Rattle.std.specs.Prelude.{◌≡◌, ◌≤◌, ◌<◌, ◌+◌, ◌*◌, ◌^◌, ◌++◌, IsTrue, IfSome, IfOk, IfErr, OnOk, OnErr, None, [], ◌∷◌, option_to_list, false, true};
 ghost use Rattle.kc_isa.specs.Formed.{is_formed};
 ghost use Rattle.kc_exec_spec.specs.BlockMoves.{IsOfMove};
 ghost use Rattle.kc_exec_spec.specs.Jumping.{next_pc};
@@ -168,13 +168,14 @@ impl<X: Extra + Drop> Core<X> {
         }
     }
 
-    /// Does a prepared instruction in its last state. After a refusal the state is not over yet.
+    /// Does a prepared instruction in its last state; answers whether an instruction has to follow, or any activity may. After a
+    /// refusal the state is not over yet.
     #[inline(always)]
     pub(crate) fn execute_ready<L: Ledger>(
         &mut self,
         ready: &Ready,
         steps: &mut Steps<L>,
-    ) -> Result<(), Kind>
+    ) -> Result<bool, Kind>
         requires ready { IsReady ready.now }
         requires followed { is_free (plan_of ready.now.mnemonic) ≡ true }
         requires begun { self.old.under_way ≡ None }
@@ -191,14 +192,14 @@ impl<X: Extra + Drop> Core<X> {
         ensures stays { OnErr result (self.new.time ≡ self.old.time) }
         ensures over { self.new.under_way ≡ None }
         ensures going { self.new.going ≡ None }
-        ensures unheld { OnOk result (self.new.held ≡ false) }
+        ensures held { IfOk result (λ held. self.new.held ≡ held) }
         ensures lives { self.new.ended ≡ None }
     {
         match ready_over(ready, &mut self.cpu, &mut self.bus, steps) {
-            Ok(()) => {
+            Ok(held) => {
                 self.time += 1;
-                self.held = false;
-                Ok(())
+                self.held = held;
+                Ok(held)
             }
             Err(kind) => Err(kind),
         }

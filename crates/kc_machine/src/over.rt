@@ -297,7 +297,7 @@ fn ready_from<X: Extra + Drop, L: Ledger, K: Began>(
     cpu: &mut Cpu,
     common: &mut Common<X>,
     steps: &mut Steps<L>,
-) -> Result<(), Kind>
+) -> Result<bool, Kind>
     requires unreached { common.old.reached ≡ 0 }
     requires ready { IsReady ready.now }
     requires followed { is_free (plan_of ready.now.mnemonic) ≡ true }
@@ -316,14 +316,14 @@ fn ready_from<X: Extra + Drop, L: Ledger, K: Began>(
     perform_ready(ready, cpu, &mut bus)
 }
 
-/// Performs a prepared instruction over the board.
+/// Performs a prepared instruction over the board; answers whether an instruction has to follow, or any activity may.
 #[inline(always)]
 pub(crate) fn ready_over<X: Extra + Drop, L: Ledger>(
     ready: &Ready,
     cpu: &mut Cpu,
     common: &mut Common<X>,
     steps: &mut Steps<L>,
-) -> Result<(), Kind>
+) -> Result<bool, Kind>
     requires unreached { common.old.reached ≡ 0 }
     requires ready { IsReady ready.now }
     requires followed { is_free (plan_of ready.now.mnemonic) ≡ true }

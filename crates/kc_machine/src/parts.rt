@@ -248,7 +248,7 @@ impl<X: Extra + Drop> Core<X> {
 
     // Whether no request is served.
     #[inline(always)]
-    #[tactic(auto, using(kc_intc::proofs::Greatest::nothing_wanted))]
+    #[tactic(auto, using(crate::proofs::Prepared::nothing_wanted))]
     fn is_unasked(&self) -> bool
         ensures { OnTrue result (asked (machine_of self.now) ≡ Go) }
     {

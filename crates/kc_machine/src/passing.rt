@@ -272,7 +272,7 @@ impl<X: Extra + Drop> Core<X> {
         }
     }
 
-    // The same, where not any activity may follow the instruction that comes next, or nothing is told of it.
+    // The same, where the program does not go on after the instruction that comes next, or nothing is told of it.
     #[inline(never)]
     #[cold]
     fn pass_alone<S: Sink, L: Ledger>(
@@ -395,9 +395,9 @@ impl<X: Extra + Drop> Core<X> {
         self.advance(left, out, steps);
         let at = self.time;
         match self.execute_ready(ready, steps) {
-            Ok(()) => {
+            Ok(held) => {
                 self.put_edges(at, out);
-                true
+                !held
             }
             Err(kind) => {
                 self.put_refusal(kind, out);

@@ -1,4 +1,4 @@
-use Rattle.std.proofs.Common.{◌≡◌, ◌++◌, ◌∙◌, ap, subst, List, arith}
+use Rattle.std.proofs.Common.{◌≡◌, ◌++◌, ◌∙◌, not, ap, subst, List, arith}
 use Rattle.kc_trace.specs.declared.record.Record.{Record}
 use Rattle.kc_machine_spec.specs.declared.doing.Activity.TheVariants.{Executes}
 use Rattle.kc_machine_spec.specs.Board.{pins, edges_in}
@@ -8,7 +8,9 @@ use Rattle.kc_trace.proofs.Printed.{Prints-append}
 use Rattle.kc_trace.specs.Trace.{out_of}
 use Rattle.kc_extra.specs.declared.extra.Extra as extra
 use Rattle.kc_machine.specs.declared.common.Common.{Common}
+use Rattle.std.proofs.lemmas.Bool.{OnTrue_from, not-true}
 use Rattle.kc_machine.specs.Bus.{held_of}
+use Rattle.kc_machine.specs.Prepared.{IsFree}
 use Rattle.kc_machine.specs.Seen.{machine_of}
 use Rattle.kc_machine.proofs.parts.Core.complete_ready.Goals as goal
 
@@ -75,9 +77,9 @@ returns-in-Err-clause-moves g c =
     omega (arith, work, ticks, c.execute_ready.ensures.moves, same)
 
 pub returns-in-Ok-clause-free : goal.returns-in-Ok-clause-free
-returns-in-Ok-clause-free g c = record {
+returns-in-Ok-clause-free g c = OnTrue_from (not c.in-Ok.held) (IsFree (machine_of c.execute_ready.new.self)) (λ free. record {
   begun = c.execute_ready.ensures.over;
   alone = c.execute_ready.ensures.going;
-  unheld = c.in-Ok.ensures.unheld;
+  unheld = c.in-Ok.ensures.held ∙ not-true c.in-Ok.held free;
   lives = c.execute_ready.ensures.lives;
-}
+})

@@ -1,8 +1,8 @@
-use Rattle.std.proofs.Common.{◌≡◌, ◌∙◌, ap, sym}
-use Rattle.kc_exec_spec.specs.declared.cpu.After.TheVariants.{Next}
+use Rattle.std.proofs.Common.{◌≡◌, ◌∙◌, if◌then◌else◌, ap, sym}
+use Rattle.kc_exec_spec.specs.declared.cpu.After.TheVariants.{Next, Held}
 use Rattle.kc_exec_spec.specs.Effect.{Done, Refused, run}
 use Rattle.kc_exec_spec.specs.Effects.{effect_of}
-use Rattle.kc_machine_spec.specs.Machine.{scene_of, closed, broken, free}
+use Rattle.kc_machine_spec.specs.Machine.{scene_of, closed, broken, next_after}
 use Rattle.kc_machine.specs.Bus.{bus_meaning, held_of}
 use Rattle.kc_machine.specs.Seen.{machine_of}
 use Rattle.kc_machine.proofs.Finishing.{executed, execute-refused}
@@ -14,11 +14,12 @@ returns-in-Ok-clause-ok g c =
     let m = machine_of c.args.self.now in
     let i = c.args.ready.now.insn in
     let s = held_of c.ready_over.new.common in
-    let led : run (bus_meaning g.X.Extra.further) (effect_of i m.cpu) (scene_of m) ≡ Done (Next, c.ready_over.new.cpu) s =
+    let after = if c.in-Ok.held then Held else Next in
+    let led : run (bus_meaning g.X.Extra.further) (effect_of i m.cpu) (scene_of m) ≡ Done (if c.in-Ok.held then Held else Next, c.ready_over.new.cpu) s =
     ap (run (bus_meaning g.X.Extra.further) (effect_of i m.cpu)) (sym c.requires.scene) ∙ c.in-Ok.ensures.effect in
-    gone-on m s c.ready_over.new.cpu c.requires.begun c.requires.alone c.requires.lives
-    ∙ ap (closed m s c.ready_over.new.cpu free) (sym (silent m.time m.cpu.pc c.args.ready.now c.requires.ready c.requires.followed))
-    ∙ executed g.X.Extra.further i m s Next c.ready_over.new.cpu led
+    gone-on m i s c.ready_over.new.cpu c.in-Ok.held c.requires.begun c.requires.alone c.requires.lives
+    ∙ ap (closed m s c.ready_over.new.cpu (next_after i after)) (sym (silent m.time m.cpu.pc c.args.ready.now c.requires.ready c.requires.followed))
+    ∙ executed g.X.Extra.further i m s after c.ready_over.new.cpu led
 
 pub returns-in-Err-clause-err : goal.returns-in-Err-clause-err
 returns-in-Err-clause-err g c =
