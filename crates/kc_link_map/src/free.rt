@@ -68,6 +68,20 @@ fn is_free(placed: &Placed, modules: &[Module], stack: StackAt, address: u32) ->
     !covers(stack.first, stack.size, address) && !modules_cover(placed, modules, address)
 }
 
+// Puts the line of so many free addresses from one on.
+fn put_line(text: &mut Vec<u8>, word: &[u8], first: u16, length: u32) -> Result<(), NoMemory>
+    ensures { OnOk result (text.new.items ≡ text.old.items ++ map.free_line word.now (record { first = first; length = length })) }
+{
+    text.extend_from_slice(b"free ")?;
+    text.extend_from_slice(word)?;
+    text.push(b' ')?;
+    put_address(text, first)?;
+    text.push(b' ')?;
+    put_number(text, u64::from(length))?;
+    text.push(b'\n')?;
+    Ok(())
+}
+
 // Puts the line of a run of free addresses that ends before an address, if it is one.
 fn put_run(text: &mut Vec<u8>, word: &[u8], end: u32, length: u32) -> Result<(), NoMemory>
     requires within { end ≤ 65536 }
@@ -77,14 +91,7 @@ fn put_run(text: &mut Vec<u8>, word: &[u8], end: u32, length: u32) -> Result<(),
     if length == 0 {
         return Ok(());
     }
-    text.extend_from_slice(b"free ")?;
-    text.extend_from_slice(word)?;
-    text.push(b' ')?;
-    put_address(text, (end - length) as u16)?;
-    text.push(b' ')?;
-    put_number(text, u64::from(length))?;
-    text.push(b'\n')?;
-    Ok(())
+    put_line(text, word, (end - length) as u16, length)
 }
 
 /// Puts the lines of the free addresses of a range behind a text.
