@@ -2,6 +2,7 @@
 
 ghost use Rattle.std.specs.Prelude.{◌≡◌, ◌++◌, ◌∷◌, [], ℕ, List, IfOk, OnOk};
 ghost use Rattle.kc_expr.specs.declared.values.Value.{Value};
+ghost use Rattle.kc_source_statement.specs.Formed.{given_names};
 ghost use Rattle.kc_source_statement.specs.Trees.{action_tree};
 ghost use Rattle.kc_asm_symbols.specs.declared.segments.Segment.{Segment};
 ghost use Rattle.kc_asm_symbols.specs.Located.{Located, located_by};
@@ -71,7 +72,7 @@ impl Publics {
         action: &Action,
         meanings: &Meanings,
     ) -> Result<(), NoMemory>
-        ensures { OnOk result ((all before : List Located) (rest : List (List ℕ)) → IsBehind meanings.now all before → self.new.items.items ++ given_from (in_all all) (is_marked self.new.seen) rest ≡ self.old.items.items ++ given_from (in_all all) (is_marked self.old.seen) (spec.given_by (action_tree action.now) ++ rest)) }
+        ensures { OnOk result ((all before : List Located) (rest : List (List ℕ)) → IsBehind meanings.now all before → self.new.items.items ++ given_from (in_all all) (is_marked self.new.seen) rest ≡ self.old.items.items ++ given_from (in_all all) (is_marked self.old.seen) (given_names (action_tree action.now) ++ rest)) }
     {
         match action {
             Action::Public(names) => self.give_all(alloc, names.as_slice(), meanings),
