@@ -74,9 +74,9 @@ abbrev IsWordValue : Option Value → Type 0
 IsWordValue None = Unit {0}
 IsWordValue (Some v) = v.number < 65536
 
-value_word : (a : Answer) → IsWordAnswer a → IsWordValue (emitted.value_in a)
-value_word (Ok v) h = h
-value_word (Err fault) h = tt
+answered_word : (a : Answer) → IsWordAnswer a → IsWordValue (emitted.value_in a)
+answered_word (Ok v) h = h
+answered_word (Err fault) h = tt
 
 zero_word : (x : Option Value) → IsWordValue x → (or_zero x).number < 65536
 zero_word None h = omega arith
@@ -86,7 +86,7 @@ abbrev AreAnswered : emitted.Look → Type 0
 AreAnswered look = (name : List ℕ) → IsWordAnswer (look name)
 
 tree_word : (look : emitted.Look) → AreAnswered look → (x : Tree) → are_bytes x ≡ true → IsWordValue (emitted.value_of look x)
-tree_word look names x h = value_word (answer_by look x) (answer_word look names x h)
+tree_word look names x h = answered_word (answer_by look x) (answer_word look names x h)
 
 -- ---- data
 
