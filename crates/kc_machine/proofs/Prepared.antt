@@ -27,7 +27,7 @@ use Rattle.kc_exec_spec.specs.declared.cpu.After.TheVariants.{Next, Held}
 use Rattle.kc_machine_spec.specs.Board.{masks_of, pins}
 use Rattle.kc_machine_spec.specs.Passing.{stepped_of}
 use Rattle.kc_machine_spec.specs.Scene.{Scene, byte}
-use Rattle.kc_machine_spec.specs.Machine.{Machine, closed, next_after, fetched, begins, breaks, placed, fetches, chosen, current, asked, scene_of, own_records, is_trap}
+use Rattle.kc_machine_spec.specs.Machine.{Machine, closed, next_after, fetched, begins, breaks, placed, fetches, serves, chosen, current, asked, scene_of, own_records, is_trap}
 use Rattle.kc_extra.specs.declared.extra.Extra as extra
 use Rattle.kc_machine.specs.declared.common.Common.{Common}
 use Rattle.kc_machine.specs.declared.parts.Core.{Core}
@@ -125,6 +125,11 @@ held_between m begun alone held = record { begun = begun; alone = alone; none = 
 -- or no request is served
 pub free_between : {X : Type 0} (m : Machine X) → IsFree m → asked m ≡ Go → IsBetween m
 free_between m is none = record { begun = is.begun; alone = is.alone; none = λ unheld. none }
+
+-- the next activity of a free machine is what its requests choose
+pub free_serves : {X : Type 0} (m : Machine X) → IsFree m → serves m (asked m) ≡ current m
+unfolding chosen
+free_serves m is = rw (is.begun, is.alone, is.unheld) refl
 
 -- the next activity is the instruction at PC, whether it is held for or no request is served
 fetches-next : {X : Type 0} (m : Machine X) (held : Bool) → m.held ≡ held → IsBetween m → current m ≡ fetches m

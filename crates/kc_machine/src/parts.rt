@@ -1,13 +1,13 @@
 // The machine's parts, and which activity comes next.
 ghost use Rattle.std.specs.Prelude.{◌≡◌, ◌+◌, ◌<◌, ◌≤◌, true, None, IsTrue};
-ghost use Rattle.std.specs.Bool.{OnTrue};
+ghost use Rattle.std.specs.Bool.{OnTrue, OnFalse};
 ghost use Rattle.kc_intc.specs.declared.requests.Choice.TheVariants.{Go};
 ghost use Rattle.kc_isa.specs.Formed.{is_formed};
 ghost use Rattle.kc_exec_spec.specs.Places.{place_of};
 ghost use Rattle.kc_intc.specs.Choosing.{IsBelow15};
 ghost use Rattle.kc_machine_spec.specs.Board.{masks_of, word_at};
 ghost use Rattle.kc_machine_spec.specs.Scene.{byte};
-ghost use Rattle.kc_machine_spec.specs.Machine.{breaks, placed, scene_of, pushing_states, fetches, enters, sets_up, goes_on, goes_first, asked, chosen, current};
+ghost use Rattle.kc_machine_spec.specs.Machine.{breaks, placed, scene_of, pushing_states, fetches, enters, sets_up, goes_on, goes_first, asked, serves, chosen, current};
 ghost use Rattle.kc_machine_spec.specs.Passing.{IsIdle};
 ghost use Rattle.kc_machine_spec.specs.Peeking.{peeked};
 ghost use Rattle.kc_exec_ready.specs.Preparing as kc_ready;
@@ -209,6 +209,23 @@ impl<X: Extra + Drop> Core<X> {
             .choose(psw / 4 % 2 == 1, psw / 2 % 2 == 1)
     }
 
+    /// An entry or a cycle of the transfer server, as the requests choose, or what goes on.
+    pub(crate) fn serves<L: Ledger>(&mut self, choice: Choice, steps: &mut Steps<L>) -> UnderWay
+        requires between { IsSoundGoing self.old.going }
+        requires below { IsBelow15 choice }
+        ensures value { result ≡ serves (machine_of self.old) choice }
+        ensures going { IsGoing result }
+        ensures same { self.new ≡ self.old }
+        ensures steps { steps.new ≡ steps.old }
+    {
+        match choice {
+            Choice::Nmi => self.entry(15),
+            Choice::Enter(number) => self.entry(number),
+            Choice::Transfer(number) => setup(number),
+            Choice::Go => self.go_on(steps),
+        }
+    }
+
     // The activity that comes next.
     #[tactic(auto, unfolding(kc_machine_spec::specs::Machine::chosen))]
     fn chosen<L: Ledger>(&mut self, steps: &mut Steps<L>) -> UnderWay
@@ -224,12 +241,8 @@ impl<X: Extra + Drop> Core<X> {
         if self.held {
             return self.instruction(steps);
         }
-        match self.asked() {
-            Choice::Nmi => self.entry(15),
-            Choice::Enter(number) => self.entry(number),
-            Choice::Transfer(number) => setup(number),
-            Choice::Go => self.go_on(steps),
-        }
+        let choice = self.asked();
+        self.serves(choice, steps)
     }
 
     /// The activity that has the coming state.
@@ -246,14 +259,20 @@ impl<X: Extra + Drop> Core<X> {
         }
     }
 
-    // Whether no request is served.
+    /// What the requests choose, where the machine is known to be free; else nothing, and no request is looked for.
     #[inline(always)]
     #[tactic(auto, using(crate::proofs::Prepared::nothing_wanted))]
-    fn is_unasked(&self) -> bool
-        ensures { OnTrue result (asked (machine_of self.now) ≡ Go) }
+    pub(crate) fn asked_if(&self, free: bool) -> Choice
+        ensures free { OnTrue free (result ≡ asked (machine_of self.now)) }
+        ensures other { OnFalse free (result ≡ Go) }
+        ensures below { IsBelow15 result }
     {
         let requests = self.bus.block.requests();
-        requests.pending == 0 && requests.service == 0 || matches!(self.asked(), Choice::Go)
+        if !free || requests.pending == 0 && requests.service == 0 {
+            Choice::Go
+        } else {
+            self.asked()
+        }
     }
 
     /// Whether the machine lives and nothing is under way, goes on or is held: the instruction at PC comes next, unless a
@@ -275,16 +294,18 @@ impl<X: Extra + Drop> Core<X> {
         self.held && self.under_way.is_none() && self.going.is_none() && self.ended.is_none()
     }
 
-    /// Whether the instruction at PC comes next and has a slot, where `free` says that the machine is known to be free.
+    /// Whether the instruction at PC comes next and has a slot, where `free` says that the machine is known to be free, and no
+    /// request is served of one that is.
     #[inline(always)]
     #[tactic(auto, using(crate::proofs::Prepared::free_between))]
     pub(crate) fn comes_next(&self, free: bool) -> bool
-        requires { OnTrue free (IsFree (machine_of self.now)) }
+        requires free { OnTrue free (IsFree (machine_of self.now)) }
+        requires asked { OnTrue free (asked (machine_of self.now) ≡ Go) }
         ensures between { OnTrue result (IsBetween (machine_of self.now)) }
         ensures lives { OnTrue result (self.now.ended ≡ None) }
         ensures slot { OnTrue result (HasSlot self.now.cpu.pc) }
     {
-        (free && self.is_unasked() || self.holds()) && self.bus.has_slot(self.cpu.pc)
+        (free || self.holds()) && self.bus.has_slot(self.cpu.pc)
     }
 
     /// The byte at an address, in the window that the processor sees.

@@ -9,6 +9,7 @@ ghost use Rattle.kc_trace.specs.Trace.{out_of};
 ghost use Rattle.kc_block_spec.specs.Touch.{block_rule, touch};
 ghost use Rattle.kc_machine_spec.specs.Board.{pins, edges_in};
 ghost use Rattle.kc_intc.specs.declared.requests.Choice.TheVariants.{Go};
+ghost use Rattle.kc_intc.specs.Choosing.{IsBelow15};
 ghost use Rattle.kc_machine_spec.specs.Machine.{scene_of, current, asked, broken};
 ghost use Rattle.kc_machine_spec.specs.Passing.{IsIdle, at, left_at, whole, activity_end};
 ghost use Rattle.kc_machine_spec.specs.Run.{run_to, end_of};
@@ -25,6 +26,7 @@ use crate::parts::Core;
 use kc_base::{Edge, Kind, Sink, StateTime, Steps};
 use kc_exec_ready::{Ready, is_followed_freely};
 use kc_extra::Extra;
+use kc_intc::Choice;
 use kc_machine_spec::{End, UnderWay};
 use kc_trace::{Record, TraceOut, WriteFault};
 use std::sync::ledger::Ledger;
@@ -199,12 +201,71 @@ impl<X: Extra + Drop> Core<X> {
         ensures moves { self.new.bus.block.moves ≤ self.old.bus.block.moves + 4 * (run_to X.further self.new.time (machine_of self.old)).work }
         ensures free { OnTrue result (IsFree (machine_of self.new)) }
     {
+        let choice = self.asked_if(free);
+        if matches!(choice, Choice::Go) {
+            self.pass_unasked(free, until, out, steps)
+        } else {
+            self.pass_served(choice, until, out, steps);
+            self.is_free()
+        }
+    }
+
+    // The same, where no request is served if the machine is known to be free.
+    #[inline(always)]
+    fn pass_unasked<S: Sink, L: Ledger>(
+        &mut self,
+        free: bool,
+        until: StateTime,
+        out: &mut TraceOut<S>,
+        steps: &mut Steps<L>,
+    ) -> bool
+        requires free { OnTrue free (IsFree (machine_of self.old)) }
+        requires asked { OnTrue free (asked (machine_of self.old) ≡ Go) }
+        requires ready { IsReady self.old }
+        requires lives { self.old.ended ≡ None }
+        requires ahead { self.old.time < until }
+        requires room { until ≤ 2 * 10 ^ 15 }
+        ensures passes { Passes X.further until (machine_of self.old) (machine_of self.new) }
+        ensures machine { machine_of self.new ≡ (run_to X.further self.new.time (machine_of self.old)).machine }
+        ensures lines { Prints (out_of S.written S.faults out.old) (run_to X.further self.new.time (machine_of self.old)).records (out_of S.written S.faults out.new) }
+        ensures ready { IsReady self.new }
+        ensures spent { steps.new ≤ steps.old + 4 * (run_to X.further self.new.time (machine_of self.old)).work }
+        ensures moves { self.new.bus.block.moves ≤ self.old.bus.block.moves + 4 * (run_to X.further self.new.time (machine_of self.old)).work }
+        ensures free { OnTrue result (IsFree (machine_of self.new)) }
+    {
         if self.comes_next(free) {
             self.pass_slot(until, out, steps)
         } else {
             self.pass_slowly(until, out, steps);
             self.is_free()
         }
+    }
+
+    // The same, where the machine is free and its requests choose so.
+    #[inline(never)]
+    #[cold]
+    fn pass_served<S: Sink, L: Ledger>(
+        &mut self,
+        choice: Choice,
+        until: StateTime,
+        out: &mut TraceOut<S>,
+        steps: &mut Steps<L>,
+    )
+        requires free { IsFree (machine_of self.old) }
+        requires choice { choice ≡ asked (machine_of self.old) }
+        requires below { IsBelow15 choice }
+        requires ready { IsReady self.old }
+        requires ahead { self.old.time < until }
+        requires room { until ≤ 2 * 10 ^ 15 }
+        ensures passes { Passes X.further until (machine_of self.old) (machine_of self.new) }
+        ensures machine { machine_of self.new ≡ (run_to X.further self.new.time (machine_of self.old)).machine }
+        ensures lines { Prints (out_of S.written S.faults out.old) (run_to X.further self.new.time (machine_of self.old)).records (out_of S.written S.faults out.new) }
+        ensures ready { IsReady self.new }
+        ensures spent { steps.new ≤ steps.old + 4 * (run_to X.further self.new.time (machine_of self.old)).work }
+        ensures moves { self.new.bus.block.moves ≤ self.old.bus.block.moves + 4 * (run_to X.further self.new.time (machine_of self.old)).work }
+    {
+        let activity = self.serves(choice, steps);
+        self.go_through(activity, until, out, steps);
     }
 
     // The same, whatever is known of the machine.
