@@ -1,4 +1,4 @@
-use kc_asm_operation::{Argument, Word, Worded, branch_kind, fault, fixed, instructions, moved};
+use kc_asm_operation::{Argument, Word, Worded, branch_kind, fault, instructions, moved};
 use kc_branch::{BranchKind, Form, branch_length};
 use kc_expr::{Base, Tag, Value, fixed};
 use std::test::*;
