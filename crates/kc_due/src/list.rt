@@ -10,7 +10,8 @@ use std::marker::Model;
 #[derive(Drop)]
 pub struct DueList {
     times: [Option<StateTime>; 16],
-    first: Option<(u8, StateTime)>,
+    // (the slot is as wide as its time: so the pair has no bytes between that are copied)
+    first: Option<(u64, StateTime)>,
 }
 
 impl Model for DueList {
@@ -49,7 +50,10 @@ impl DueList {
     pub fn first(&self) -> Option<(u8, StateTime)>
         ensures { IsFirst self.now result }
     {
-        self.first
+        match self.first {
+            Some((slot, at)) => Some((slot as u8, at)),
+            None => None,
+        }
     }
 
     /// Takes the slot's time away, if it has one; the other slots keep theirs.
@@ -61,7 +65,7 @@ impl DueList {
         ensures others { (k : ℕ) → k ≢ slot → at_slot self.new k ≡ at_slot self.old k }
     {
         self.times[slot as usize] = None;
-        self.first = first_without(&self.times, self.first, slot);
+        self.first = first_without(&self.times, self.first, u64::from(slot));
     }
 
     /// Gives the slot a time, in place of the one that it has; the other slots keep theirs.
@@ -73,12 +77,12 @@ impl DueList {
         ensures others { (k : ℕ) → k ≢ slot → at_slot self.new k ≡ at_slot self.old k }
     {
         self.times[slot as usize] = Some(at);
-        self.first = first_with(&self.times, self.first, slot, at);
+        self.first = first_with(&self.times, self.first, u64::from(slot), at);
     }
 }
 
 /// Whether the one place is not after the other, in order of time and slot.
-fn is_not_after(at: StateTime, slot: u8, other: StateTime, other_slot: u8) -> bool
+fn is_not_after(at: StateTime, slot: u64, other: StateTime, other_slot: u64) -> bool
     requires slot { slot < 16 }
     requires other { other_slot < 16 }
     ensures { IsTrue result ↔ (at * 16 + slot ≤ other * 16 + other_slot) }
@@ -90,9 +94,9 @@ fn is_not_after(at: StateTime, slot: u8, other: StateTime, other_slot: u8) -> bo
 #[tactic(auto, using(crate::proofs::Firsts::skipped, crate::proofs::Firsts::fresh, crate::proofs::Firsts::sooner, crate::proofs::Firsts::later))]
 fn earlier(
     times: &[Option<StateTime>; 16],
-    best: Option<(u8, StateTime)>,
-    k: u8,
-) -> Option<(u8, StateTime)>
+    best: Option<(u64, StateTime)>,
+    k: u64,
+) -> Option<(u64, StateTime)>
     requires slot { k < 16 }
     requires best { IsFirstBelow times.now k best }
     ensures { IsFirstBelow times.now (k + 1) result }
@@ -111,11 +115,11 @@ fn earlier(
 }
 
 /// The first of all slots.
-fn earliest(times: &[Option<StateTime>; 16]) -> Option<(u8, StateTime)>
+fn earliest(times: &[Option<StateTime>; 16]) -> Option<(u64, StateTime)>
     ensures { IsFirst times.now result }
 {
     let mut best = None;
-    for k in 0..16u8 {
+    for k in 0..16u64 {
         best = earlier(times, best, k);
     }
     best
@@ -125,10 +129,10 @@ fn earliest(times: &[Option<StateTime>; 16]) -> Option<(u8, StateTime)>
 #[tactic(auto, using(crate::proofs::Firsts::set_alone, crate::proofs::Firsts::set_sooner, crate::proofs::Firsts::set_later))]
 fn first_with(
     times: &[Option<StateTime>; 16],
-    first: Option<(u8, StateTime)>,
-    slot: u8,
+    first: Option<(u64, StateTime)>,
+    slot: u64,
     at: StateTime,
-) -> Option<(u8, StateTime)>
+) -> Option<(u64, StateTime)>
     requires slot { slot < 16 }
     requires inside { IsInside first }
     ensures { (old : Times) → length old ≡ 16 → IsFirst old first → times.now ≡ slice_set old slot (Some at) → IsFirst times.now result }
@@ -149,9 +153,9 @@ fn first_with(
 #[tactic(auto, using(crate::proofs::Firsts::clear_none, crate::proofs::Firsts::clear_other))]
 fn first_without(
     times: &[Option<StateTime>; 16],
-    first: Option<(u8, StateTime)>,
-    slot: u8,
-) -> Option<(u8, StateTime)>
+    first: Option<(u64, StateTime)>,
+    slot: u64,
+) -> Option<(u64, StateTime)>
     requires { slot < 16 }
     ensures { (old : Times) → length old ≡ 16 → IsFirst old first → times.now ≡ slice_set old slot None → IsFirst times.now result }
 {
