@@ -1,9 +1,12 @@
 -- Edges that are handed out one after the other.
-use Rattle.std.proofs.Common.{◌≡◌, ℕ, ◌+◌, ◌<◌, zero, suc, ◌==◌, false, List, [], ◌∷◌, ◌++◌, length, take, get_or, refl, subst, sym, ◌∙◌, ap, add-one}
-use Rattle.std.specs.Int.Bits.{bit_xor, xor_self}
-use Rattle.std.proofs.lemmas.Nat.Bits.{bit_at-zero}
+use Rattle.std.proofs.Common.{◌≡◌, ℕ, ◌+◌, ◌-◌, ◌*◌, ◌/◌, ◌%◌, ◌^◌, ◌<◌, ◌≤◌, zero, suc, ◌==◌, inl, inr, false, List, [], ◌∷◌, ◌++◌, length, take, get_or, refl, subst, sym, ◌∙◌, ap, add-one, arith}
+use Rattle.std.specs.Int.Bits.{bit_xor}
+use Rattle.std.proofs.lemmas.Nat.Bits.{bit_at_above}
+use Rattle.std.proofs.lemmas.Nat.{div-add-mod', pow_pos}
+use Rattle.std.proofs.Math.Nat.{mod-lt}
 use Rattle.std.proofs.Math.Seq.{take-suc}
-use Rattle.std.proofs.lemmas.List.{map-append}
+use Rattle.std.proofs.lemmas.Bool.{cases_lt}
+use Rattle.std.proofs.lemmas.List.{map-append, append-nil}
 use Rattle.kc_base.specs.Bits.{bit}
 use Rattle.kc_base.specs.declared.types.Edge.{Edge}
 use Rattle.kc_block_spec.specs.Levels.{edges_below, edges_between, edge_at}
@@ -28,16 +31,28 @@ edges_taken es k t d lt =
     ∙ ap (in_state t) (take-suc es k d lt)
     ∙ map-append (λ edge. (t, edge)) (take k es) (get_or es k d ∷ [])
 
-none_at : (x n : ℕ) → edge_at x x n ≡ []
-none_at x n =
-    let off : bit (bit_xor x x) n ≡ false = ap (λ v. bit v n) (xor_self x) ∙ ap (λ v. v == 1) (bit_at-zero n) in
+-- a pin above those that differ
+none_at : (old new pin n : ℕ) → bit_xor old new < 2 ^ pin → pin ≤ n → edge_at old new n ≡ []
+none_at old new pin n small above =
+    let off : bit (bit_xor old new) n ≡ false = ap (λ v. v == 1) (bit_at_above (bit_xor old new) pin n small above) in
     rw off refl
 
-none_below : (x n : ℕ) → edges_below x x n ≡ []
+none_from : (old new pin n : ℕ) → bit_xor old new < 2 ^ pin → pin ≤ n → edges_below old new n ≡ edges_below old new pin
 unfolding edges_below
-none_below x zero = refl
-none_below x (suc n) = rw (none_below x n, none_at x n) refl
+none_from old new pin zero small within = let e : 0 ≡ pin = omega (arith, within) in ap (edges_below old new) e
+none_from old new pin (suc n) small within = elim (cases_lt n pin) [
+  | inl low ↦ let e : suc n ≡ pin = omega (arith, low, within) in ap (edges_below old new) e
+  | inr high ↦ rw (none_at old new pin n small high) (append-nil (edges_below old new n) ∙ none_from old new pin n small high)
+]
 
--- the same levels have no edge between them
-pub none_between : {O : Type 0} (led : O → ℕ → Edge → O → Type 0) (o : O) (old new t : ℕ) → old ≡ new → Leads led o (in_state t (edges_between old new)) o
-none_between led o old new t same = subst (λ x. Leads led o (in_state t (edges_between old x)) o) same (rw (none_below old 18) refl)
+-- a number of which nothing is left when it is shifted
+is_small : (x pin : ℕ) → x / 2 ^ pin ≡ 0 → x < 2 ^ pin
+is_small x pin none =
+    let whole : x / 2 ^ pin * 2 ^ pin + x % 2 ^ pin ≡ x = div-add-mod' x (2 ^ pin) in
+    let left : 0 * 2 ^ pin + x % 2 ^ pin ≡ x = subst (λ q. q * 2 ^ pin + x % 2 ^ pin ≡ x) none whole in
+    let rest : x % 2 ^ pin ≡ x = omega (arith, left) in
+    subst (λ v. v < 2 ^ pin) rest (mod-lt x (pow_pos pin))
+
+-- where nothing differs from a pin on, the edges below it are all of them
+pub all_below : (old new pin : ℕ) → pin ≤ 18 → (bit_xor old new) / 2 ^ pin ≡ 0 → edges_below old new pin ≡ edges_between old new
+all_below old new pin within none = sym (none_from old new pin 18 (is_small (bit_xor old new) pin none) within)

@@ -35,15 +35,14 @@ fn lead_edge<O: EdgeOut>(old: u64, new: u64, pin: u8, at: StateTime, out: &mut O
 }
 
 /// Hands out the edges of the printed pins, in the order of the pins, where `old` and `new` differ.
-#[tactic(auto, using(crate::proofs::Leads::none_between))]
 pub fn lead_edges<O: EdgeOut>(old: u64, new: u64, at: StateTime, out: &mut O)
     ensures { Leads O.led out.old (in_state at (edges_between old new)) out.new }
 {
-    if old == new {
-        return;
-    }
-    for pin in 0..PRINTED {
+    let differ = old ^ new;
+    let mut pin = 0;
+    while pin < PRINTED && differ >> pin != 0 {
         lead_edge(old, new, pin, at, out);
+        pin += 1;
     }
 }
 
