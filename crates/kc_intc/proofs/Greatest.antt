@@ -3,7 +3,7 @@ use Rattle.std.proofs.Common.{◌≡◌, ℕ, zero, suc, min, max, sym, ◌+◌,
 use Rattle.std.proofs.lemmas.Bool.{cases_lt}
 use Rattle.std.specs.Prelude.{bit_and, bit_or}
 use Rattle.std.specs.Int.{bit_at}
-use Rattle.std.proofs.lemmas.Nat.Bits.{bit_at-zero, bit_at_and, bit_at_or}
+use Rattle.std.proofs.lemmas.Nat.Bits.{bit_at-zero, bit_at_and, bit_at_or, bit_at_above}
 use Rattle.kc_base.specs.Bits.{bit}
 use Rattle.kc_intc.specs.declared.requests.Requests.{Requests}
 use Rattle.kc_intc.specs.declared.requests.Choice.TheVariants.{Transfer, Enter, Go}
@@ -51,6 +51,18 @@ bit-zero set k e = ap (λ s. bit s k) e ∙ ap (λ n. n == 1) (bit_at-zero k)
 
 pub none_of_zero : (set : ℕ) → set ≡ 0 → greatest (bit set) 15 ≡ None
 none_of_zero set e = greatest_none (bit set) 15 (λ k. bit-zero set k e)
+
+-- where all from a number on fail, the greatest is below it
+all_below : (test : ℕ → Bool) (low n : ℕ) → ((k : ℕ) → low ≤ k → test k ≡ false) → low ≤ n → greatest test n ≡ greatest test low
+unfolding greatest
+all_below test low zero fails within = let e : 0 ≡ low = omega (arith, within) in ap (greatest test) e
+all_below test low (suc n) fails within = elim (cases_lt n low) [
+  | inl less ↦ let e : suc n ≡ low = omega (arith, less, within) in ap (greatest test) e
+  | inr more ↦ rw (fails n more) (all_below test low n fails more)
+]
+
+pub of_low_byte : (set : ℕ) → set < 256 → greatest (bit set) 15 ≡ greatest (bit set) 8
+of_low_byte set low = all_below (bit set) 8 15 (λ k more. ap (λ v. v == 1) (bit_at_above set 8 k low more)) (omega arith)
 
 both : (b : Bool) → (b && false) ≡ false
 both true = refl

@@ -56,7 +56,7 @@ fn with_request(n: u8, set: u16) -> u16
 }
 
 // The highest request of a set, NMI not among them.
-#[tactic(auto, using(crate::proofs::Greatest::greatest_more, crate::proofs::Greatest::none_of_zero), unfolding(crate::specs::Choosing::greatest))]
+#[tactic(auto, using(crate::proofs::Greatest::greatest_more, crate::proofs::Greatest::none_of_zero, crate::proofs::Greatest::of_low_byte), unfolding(crate::specs::Choosing::greatest))]
 fn highest(set: u16) -> Option<u8>
     ensures value { result ≡ greatest (bit set) 15 }
     ensures below { IfSome result (λ n. n < 15) }
@@ -64,7 +64,7 @@ fn highest(set: u16) -> Option<u8>
     if set == 0 {
         return None;
     }
-    let mut n = 15;
+    let mut n = if set < 256 { 8 } else { 15 };
     while n > 0 {
         n -= 1;
         if is_in(set, n) {
