@@ -5,7 +5,7 @@ ghost use Rattle.kc_kit_answer.specs.Lines.{map_line, map_text};
 use itoa::Buffer;
 use kc_base::NoMemory;
 use kc_link::LineAt;
-use kc_link_map::address_text;
+use kc_trace::address_text;
 use std::alloc::Global;
 
 fn put_line(text: &mut Vec<u8>, entry: &LineAt) -> Result<(), NoMemory>

@@ -11,9 +11,10 @@ use crate::rule_notes::link_note;
 use itoa::Buffer;
 use kc_base::NoMemory;
 use kc_kit_files::{Cause, Refusal, refusal_of};
-use kc_link_map::{address_text, kind_word};
+use kc_link_map::kind_word;
 use kc_link_place::LinkFault;
 use kc_obj::Module;
+use kc_trace::address_text;
 use std::alloc::Global;
 
 fn capacity_text(alloc: Global, kind: &[u8], file: &[u8]) -> Result<Vec<u8>, NoMemory>

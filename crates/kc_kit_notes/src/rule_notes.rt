@@ -10,9 +10,10 @@ use crate::origins::{Origins, file_at, joined};
 use crate::rule_files::in_files;
 use crate::rule_lines::place_text;
 use kc_base::NoMemory;
-use kc_link_map::{address_text, kind_word};
+use kc_link_map::kind_word;
 use kc_link_place::LinkFault;
 use kc_obj::{Lines, Module};
+use kc_trace::address_text;
 use std::alloc::Global;
 
 // The line of the last of these entries that belongs to a piece and stands at an offset or below it.

@@ -4,23 +4,9 @@ ghost use Rattle.kc_trace.specs.Text.{hex};
 ghost use Rattle.kc_link_map.specs.Map as spec;
 
 use itoa::Buffer;
-use kc_base::{NoMemory, hex_digit};
+use kc_base::NoMemory;
 use kc_obj::SegKind;
-
-/// An address as four upper-case hex digits.
-pub fn address_text(address: u16) -> [u8; 4]
-    ensures { result ≡ hex 4 address }
-{
-    let second = address / 16;
-    let third = second / 16;
-    let fourth = third / 16;
-    [
-        hex_digit((fourth % 16) as u8),
-        hex_digit((third % 16) as u8),
-        hex_digit((second % 16) as u8),
-        hex_digit((address % 16) as u8),
-    ]
-}
+use kc_trace::address_text;
 
 /// The word for a kind of piece, as refusals and maps have it.
 pub fn kind_word(kind: SegKind) -> &'static [u8]

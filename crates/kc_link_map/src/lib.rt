@@ -7,6 +7,6 @@ mod laws;
 mod map;
 mod modules;
 
-pub use fields::{address_text, kind_word, put_number};
+pub use fields::{kind_word, put_number};
 pub use laws::free_runs_are_free;
 pub use map::link_map;

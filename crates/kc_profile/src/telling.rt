@@ -5,7 +5,8 @@ ghost use Rattle.kc_profile.specs.Text as spec;
 use crate::Profile;
 use kc_base::NoMemory;
 use kc_debug_script::MapEntry;
-use kc_link_map::{address_text, put_number};
+use kc_link_map::put_number;
+use kc_trace::address_text;
 use std::alloc::Global;
 
 /// How many addresses there are.

@@ -36,13 +36,30 @@ pub fn put_decimal(line: &mut LineBytes, number: u64)
     put_text(line, buffer.format(number).as_bytes());
 }
 
+/// An address as four upper-case hex digits.
+pub fn address_text(address: u16) -> [u8; 4]
+    ensures { result ≡ hex 4 address }
+{
+    let second = address / 16;
+    let third = second / 16;
+    let fourth = third / 16;
+    [
+        hex_digit((fourth % 16) as u8),
+        hex_digit((third % 16) as u8),
+        hex_digit((second % 16) as u8),
+        hex_digit((address % 16) as u8),
+    ]
+}
+
 /// Puts so many upper-case hex digits of a number behind a line.
 pub fn put_hex(line: &mut LineBytes, digits: u8, number: u16)
     requires { array_vec_len line.old + digits ≤ 160 }
     ensures items { line.new.items ≡ line.old.items ++ hex digits number }
     ensures len { array_vec_len line.new ≡ array_vec_len line.old + digits }
 {
-    if digits > 0 {
+    if digits == 4 {
+        put_text(line, address_text(number).as_slice());
+    } else if digits > 0 {
         put_hex(line, digits - 1, number / 16);
         line.push(hex_digit((number % 16) as u8));
     }
