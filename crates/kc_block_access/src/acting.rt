@@ -1,7 +1,9 @@
 //! What accesses do to the units that they concern: those are brought to the present state, changed, and asked anew when they
 //! are due.
-ghost use Rattle.std.specs.Prelude.{◌≡◌, ◌+◌, ◌-◌, ◌*◌, ◌≤◌, ◌<◌, ◌^◌, false, None};
+ghost use Rattle.std.specs.Prelude.{◌≡◌, ◌≢◌, ℕ, ◌+◌, ◌-◌, ◌*◌, ◌≤◌, ◌<◌, ◌^◌, false, None};
 ghost use Rattle.kc_base.specs.Bits.{bit as bit_of};
+ghost use Rattle.kc_span.specs.Span.{least_of};
+ghost use Rattle.kc_due.specs.Due.{at_slot};
 ghost use Rattle.kc_hso.specs.Cam.{load_refusal, with_load};
 ghost use Rattle.kc_block_spec.specs.Registers.{window_number};
 ghost use Rattle.kc_block_spec.specs.Writing.{reset_by as reset_when, emptied_by as emptied_when, steady_with as steady_after};
@@ -15,8 +17,10 @@ use crate::values::state_before;
 use kc_base::{StateTime, Steps, bit};
 use kc_block_lanes::Lanes;
 use kc_block_spec::{Window, WritableByte};
+use kc_due::DueList;
 use kc_extra::Extra;
 use kc_hso::Hso;
+use kc_span::earlier;
 use kc_timers::Timer2;
 use std::sync::ledger::Ledger;
 
@@ -156,7 +160,17 @@ pub(crate) fn write_hso_command<X: Extra>(lanes: &mut Lanes<X>, now: StateTime, 
     lanes.hso.unit.command(value);
 }
 
-/// A write of HSO_TIME, which was found to load.
+/// HSO is due where it was, or at this state, if that is earlier.
+fn hasten_hso(due: &mut DueList, visit: Option<StateTime>)
+    ensures here { at_slot due.new 1 ≡ least_of (at_slot due.old 1) visit }
+    ensures others { (k : ℕ) → k ≢ 1 → at_slot due.new k ≡ at_slot due.old k }
+{
+    if let Some(at) = earlier(due.time_of(1), visit) {
+        due.set(1, at);
+    }
+}
+
+/// A write of HSO_TIME, which was found to load: HSO is due as before, or where an empty slot takes what was loaded.
 pub(crate) fn load_hso<X: Extra, L: Ledger>(
     lanes: &mut Lanes<X>,
     now: StateTime,
@@ -173,8 +187,9 @@ pub(crate) fn load_hso<X: Extra, L: Ledger>(
 {
     lanes.bring_hso(now, steps);
     let fast = bit(lanes.steady.ioc2, 0);
+    let visit = lanes.hso.unit.first_empty(now, steps);
     let _ = lanes.hso.unit.load_time(time, fast);
-    lanes.ask_hso(now, steps);
+    hasten_hso(&mut lanes.due, visit);
 }
 
 /// A write of HSI_MODE.

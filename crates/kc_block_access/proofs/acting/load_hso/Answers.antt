@@ -1,10 +1,13 @@
-use Rattle.std.proofs.Common.{◌≡◌, refl, ap, sym, ◌∙◌, Option, Some, None, Result, Ok, Err}
+use Rattle.std.proofs.Common.{◌≡◌, refl, ap, sym, subst, ◌∙◌, Option, Some, None, Result, Ok, Err}
 use Rattle.std.specs.Prelude.{IfErr, OnOk}
 use Rattle.kc_base.specs.declared.types.Kind.{Kind}
-use Rattle.kc_block_lazy.specs.Lanes.{shown_units}
+use Rattle.kc_span.specs.Span.{IsDue, least_of}
+use Rattle.kc_due.specs.Due.{at_slot}
+use Rattle.kc_block_lazy.specs.Lanes.{line, hso_goes, shown_units}
 use Rattle.kc_block_lanes.specs.Standing.{standing}
 use Rattle.kc_base.specs.Bits.{bit}
 use Rattle.kc_hso.specs.Cam.{load_refusal, with_load}
+use Rattle.kc_hso.proofs.Loading.{loads_due}
 use Rattle.kc_block_access.proofs.Acts.{hso_act}
 use Rattle.kc_block_access.proofs.acting.load_hso.Goals as goal
 
@@ -23,7 +26,18 @@ returns-clause-left g c =
     ∙ (λ j. load_refusal (sym kept j) (bit (sym steady j).ioc2 0)) ∙ c.requires.loads in
     let loads = loaded c.load_time.result (c.load_time.new.self ≡ record before.hso.unit { inner = with_load c.args.time before.hso.unit.inner })
     (load_refusal before.hso.unit.inner c.bit-fast.result) c.load_time.ensures.refused c.load_time.ensures.ok none in
-    hso_act g.X.Extra.further g.X.Extra.agrees g.X.Extra.plain c.args.lanes.now before c.ask_hso.new.self c.args.now
-    (with_load c.args.time) c.load_time.new.self
+    let unit = c.load_time.new.self in
+    let rule = hso_goes (standing g.X.Extra.plain before) in
+    let there : before.hso.at ≡ c.args.now = ap (λ l. l.hso.at) c.bring_hso.ensures.standing in
+    let was : IsDue rule c.args.now before.hso.unit.inner (at_slot before.due 1) =
+    subst (λ at. IsDue rule at before.hso.unit.inner (at_slot before.due 1)) there c.bring_hso.ensures.lazy.hso.due in
+    let is : IsDue rule c.args.now (with_load c.args.time before.hso.unit.inner) (least_of (at_slot before.due 1) c.first_empty-visit.result) =
+    loads_due (line (standing g.X.Extra.plain before)) c.args.now c.args.time before.hso.unit.inner (at_slot before.due 1) c.first_empty-visit.result was c.first_empty-visit.ensures.first in
+    let slot : IsDue rule c.args.now (with_load c.args.time before.hso.unit.inner) (at_slot c.hasten_hso.new.due 1) =
+    subst (IsDue rule c.args.now (with_load c.args.time before.hso.unit.inner)) (sym c.hasten_hso.ensures.here) is in
+    let due : IsDue rule c.args.now unit.inner (at_slot c.hasten_hso.new.due 1) =
+    subst (λ d. IsDue rule c.args.now d (at_slot c.hasten_hso.new.due 1)) (sym (ap (λ u. u.inner) loads)) slot in
+    hso_act g.X.Extra.further g.X.Extra.agrees g.X.Extra.plain c.args.lanes.now before (record before { hso = record before.hso { unit = unit }; due = c.hasten_hso.new.due }) c.args.now
+    (with_load c.args.time) unit
     (record { lazy = c.bring_hso.ensures.lazy; shows = c.bring_hso.ensures.shows }) c.bring_hso.ensures.standing
-    (ap (λ u. u.inner) loads) (λ d. refl) c.ask_hso.ensures.rest c.ask_hso.ensures.others c.ask_hso.ensures.due
+    (ap (λ u. u.inner) loads) (λ d. refl) refl c.hasten_hso.ensures.others due
