@@ -168,13 +168,23 @@ fn are_bytes(octets: &[Octet], bytes: &[u8]) -> bool {
             .all(|(octet, expected)| byte(*octet) == *expected)
 }
 
+fn content(alloc: Global, action: &Action, names: &Symbols) -> Option<Content> {
+    let here = place(Base::Absolute, Tag::Memory, 0x2080);
+    content_of(alloc, action, Form::Third, here, names).ok()
+}
+
+/// Whether a statement puts these bytes; one that puts none has none.
+fn puts(content: &Content, bytes: &[u8]) -> bool {
+    match content {
+        Content::Octets(octets) => are_bytes(octets.as_slice(), bytes),
+        _ => bytes.len() == 0,
+    }
+}
+
 fn has_bytes(alloc: Global, text: &str, names: &Symbols, bytes: &[u8]) -> Option<bool> {
     let action = said(alloc, text)?;
-    let here = place(Base::Absolute, Tag::Memory, 0x2080);
-    match content_of(alloc, &action, Form::Third, here, names).ok()? {
-        Content::Octets(octets) => Some(are_bytes(octets.as_slice(), bytes)),
-        _ => Some(bytes.len() == 0),
-    }
+    let content = content(alloc, &action, names)?;
+    Some(puts(&content, bytes))
 }
 
 fn extent(alloc: Global, text: &str, names: &Symbols) -> Option<Extent> {
