@@ -16,7 +16,8 @@ use Rattle.kc_lex.specs.Instructions.{least}
 use Rattle.kc_asm_operation.specs.declared.argument.Argument.{Argument}
 use Rattle.kc_asm_operation.specs.declared.argument.Argument.TheVariants.{Plain, Immediate, Indirect, Increment, Indexed}
 use Rattle.kc_asm_operation.specs.declared.word.Worded.{Worded}
-use Rattle.kc_asm_operation.specs.Values.{is_fixed, is_direct, value_of, bit_of}
+use Rattle.kc_expr.specs.Meaning.{is_fixed}
+use Rattle.kc_asm_operation.specs.Values.{is_direct, value_of, bit_of}
 use Rattle.kc_asm_operation.specs.Sources.{mode}
 use Rattle.kc_asm_operation.specs.Takes.{notation}
 use Rattle.kc_asm_operation.specs.Opcodes.{operand_count, low_bits, wanted_bits, is_row_for, is_opcode_for, opcode_of}

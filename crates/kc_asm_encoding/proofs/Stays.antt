@@ -26,7 +26,8 @@ use Rattle.kc_branch.specs.declared.piece.BranchKind.{BranchKind}
 use Rattle.kc_asm_operation.specs.declared.word.Word.{Word}
 use Rattle.kc_asm_operation.specs.declared.word.Word.TheVariants as words
 use Rattle.kc_asm_operation.specs.declared.word.Worded.{Worded}
-use Rattle.kc_asm_operation.specs.Values.{is_fixed, or_zero, is_direct, is_short, argument, value_of, bit_of}
+use Rattle.kc_expr.specs.Meaning.{is_fixed}
+use Rattle.kc_asm_operation.specs.Values.{or_zero, is_direct, is_short, argument, value_of, bit_of}
 use Rattle.kc_asm_operation.specs.Sources.{mode, plain_source, indexed_source, source}
 use Rattle.kc_asm_operation.specs.Opcodes.{wanted_bits, is_row_for, is_opcode_for, opcode_of}
 use Rattle.kc_asm_operation.specs.Branches.{Line, line, plain_branch, branch_kind, in_full}

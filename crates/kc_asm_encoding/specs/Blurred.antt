@@ -1,9 +1,9 @@
 -- Operands without the numbers that are not fixed: those change while the places of labels are sought.
 use Rattle.std.specs.Prelude.{if◌then◌else◌, Option, Some, None}
 use Rattle.kc_expr.specs.declared.values.Value.{Value}
+use Rattle.kc_expr.specs.Meaning.{is_fixed}
 use Rattle.kc_asm_operation.specs.declared.argument.Argument.{Argument}
 use Rattle.kc_asm_operation.specs.declared.argument.Argument.TheVariants.{Plain, Immediate, Indirect, Increment, Indexed}
-use Rattle.kc_asm_operation.specs.Values.{is_fixed}
 
 abbrev pub blurred_value : Option Value → Option Value
 blurred_value None = None

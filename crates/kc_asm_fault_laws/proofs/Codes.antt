@@ -17,7 +17,8 @@ use Rattle.kc_asm_bytes.specs.declared.octet.Octet.TheVariants.{Plain as PlainOc
 use Rattle.kc_asm_bytes.specs.Relocating.{misfit, misfit_code}
 use Rattle.kc_asm_operation.specs.declared.argument.Argument.{Argument}
 use Rattle.kc_asm_operation.specs.declared.argument.Argument.TheVariants.{Plain, Immediate, Indirect, Increment, Indexed}
-use Rattle.kc_asm_operation.specs.Values.{is_fixed, is_external, argument}
+use Rattle.kc_expr.specs.Meaning.{is_fixed}
+use Rattle.kc_asm_operation.specs.Values.{is_external, argument}
 use Rattle.kc_asm_operation.specs.Faults.{number_fault, pointer_fault, source_fault, count_fault, bit_fault, operands_fault, fault_of}
 use Rattle.kc_asm_emission.specs.Arguments.{Look, fixed_of}
 use Rattle.kc_asm_emission.specs.Content.{Content, Octets}

@@ -9,7 +9,8 @@ use Rattle.kc_lex.specs.Words.{operands_for}
 use Rattle.kc_lex.specs.Codes.{not_fixed, does_not_fit}
 use Rattle.kc_asm_operation.specs.declared.argument.Argument.{Argument}
 use Rattle.kc_asm_operation.specs.declared.argument.Argument.TheVariants.{Plain, Immediate, Indirect, Increment, Indexed}
-use Rattle.kc_asm_operation.specs.Values.{is_fixed, is_external, argument}
+use Rattle.kc_expr.specs.Meaning.{is_fixed}
+use Rattle.kc_asm_operation.specs.Values.{is_external, argument}
 
 -- a number that has to be fixed, and is at most a bound
 abbrev pub number_fault : ℕ → Option Value → Option ℕ

@@ -5,15 +5,9 @@ use Rattle.kc_expr.specs.declared.values.Base.TheVariants.{Fixed, Absolute, Piec
 use Rattle.kc_expr.specs.declared.values.Tag.{Tag}
 use Rattle.kc_expr.specs.declared.values.Tag.TheVariants.{Register, Memory}
 use Rattle.kc_expr.specs.declared.values.Value.{Value}
-use Rattle.kc_expr.specs.Meaning.{plain}
+use Rattle.kc_expr.specs.Meaning.{plain, is_fixed}
 use Rattle.kc_asm_operation.specs.declared.argument.Argument.{Argument}
 use Rattle.kc_asm_operation.specs.declared.argument.Argument.TheVariants.{Plain, Immediate, Indirect, Increment, Indexed}
-
-abbrev pub is_fixed : Base → Bool
-is_fixed Fixed = true
-is_fixed Absolute = false
-is_fixed (Piece p) = false
-is_fixed (External e) = false
 
 abbrev pub is_external : Base → Bool
 is_external Fixed = false

@@ -3,7 +3,7 @@ ghost use Rattle.kc_asm_operation.specs.Values as values;
 ghost use Rattle.kc_asm_operation.specs.Sources as sources;
 
 use crate::word::Word;
-use kc_expr::{Base, Tag, Value, fixed};
+use kc_expr::{Tag, Value, fixed, is_fixed};
 
 /// An operand as it is written: `x`, `#x`, `[reg]`, `[reg]+` or `x[reg]`. `None` stands for an expression without a value,
 /// whose fault is told elsewhere. (MCS-96 Macro Assembler User's Guide, "Operands".)
@@ -34,12 +34,6 @@ pub(crate) fn or_zero(value: Option<Value>) -> Value
         Some(value) => value,
         None => fixed(0),
     }
-}
-
-pub(crate) fn is_fixed(base: Base) -> bool
-    ensures { result ≡ values.is_fixed base }
-{
-    matches!(base, Base::Fixed)
 }
 
 fn is_direct(value: Option<Value>) -> bool

@@ -1,8 +1,8 @@
 ghost use Rattle.std.specs.Prelude.{◌≡◌};
 ghost use Rattle.kc_asm_operation.specs.Faults as faults;
 
-use crate::argument::{Argument, is_fixed, operand_at};
-use kc_expr::{Base, Value};
+use crate::argument::{Argument, operand_at};
+use kc_expr::{Base, Value, is_fixed};
 use kc_lex::words::operands_for;
 use kc_lex::{Operands, SourceCode};
 

@@ -1,3 +1,4 @@
+pub mod BitLemmas
 pub mod ByteLemmas
 mod Faults
 pub mod Growth

@@ -4,6 +4,7 @@ pub mod Bytes
 pub mod Causes
 pub mod Digits
 pub mod Fields
+pub mod Fresh
 pub mod Held
 pub mod Levels
 pub mod Memory

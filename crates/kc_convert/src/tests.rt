@@ -1,4 +1,5 @@
-ghost use Rattle.std.specs.Prelude.{◌≡◌, ◌<◌, ◌≤◌, ◌*◌, ◌^◌};
+ghost use Rattle.std.specs.Prelude.{◌≤◌, ◌*◌, ◌^◌};
+ghost use Rattle.kc_base.specs.Fresh.{IsFresh};
 
 use crate::{Analog, AnalogFault, Converter, Pulses};
 use kc_base::{Level, StateTime, Steps};
@@ -129,9 +130,7 @@ fn result(converter: &mut Converter, now: StateTime) -> (Option<u8>, Option<u8>)
 
 // Channel 2 is 777 in state 1018 alone; state 0 of the converter is state 1000.
 fn converts<L: Ledger>(rt: &impl Abort, values: Analog, blank: Blank)
-    requires name { blank.name ≡ L.name }
-    requires parts { blank.parts ≡ L.parts }
-    requires whole { 0 < L.parts }
+    requires fresh { IsFresh blank L.name L.parts }
 {
     let mut steps = Steps::<L>::new(blank);
     let mut converter = Converter::new(values, 1000);
@@ -227,9 +226,7 @@ fn pulses_are_due<L: Ledger>(rt: &impl Abort, steps: &mut Steps<L>) {
 }
 
 fn pulses<L: Ledger>(rt: &impl Abort, blank: Blank)
-    requires name { blank.name ≡ L.name }
-    requires parts { blank.parts ≡ L.parts }
-    requires whole { 0 < L.parts }
+    requires fresh { IsFresh blank L.name L.parts }
 {
     let mut steps = Steps::<L>::new(blank);
     for phase in [0u8, 1, 128, 254, 255] {
@@ -247,9 +244,7 @@ fn a_width_is_taken_over_at_the_start_of_a_period(rt: HostRuntime) {
 
 // Both as one unit: a conversion that ends in a state in which two outputs rise.
 fn joins<L: Ledger>(rt: &impl Abort, values: Analog, blank: Blank)
-    requires name { blank.name ≡ L.name }
-    requires parts { blank.parts ≡ L.parts }
-    requires whole { 0 < L.parts }
+    requires fresh { IsFresh blank L.name L.parts }
 {
     let mut steps = Steps::<L>::new(blank);
     let mut pair = Pair::of(Converter::new(values, 0), Pulses::new());

@@ -1,8 +1,9 @@
-ghost use Rattle.std.specs.Prelude.{◌≡◌, ◌+◌, ◌-◌, ◌*◌, ◌≤◌, ◌<◌, ◌^◌, IfOk, IsTrue};
+ghost use Rattle.std.specs.Prelude.{◌≡◌, ◌+◌, ◌-◌, ◌*◌, ◌<◌, ◌^◌, IfOk, IsTrue};
 ghost use Rattle.kc_isa.specs.Formed.{is_formed};
 ghost use Rattle.kc_exec_spec.specs.Effect.{Gives, run};
 ghost use Rattle.kc_exec_spec.specs.BlockMoves.{set_up, after_words, cpu_after_words, less_one, write_pointers, write_count, move_one, moved_word, word_states_of, IsUnderWay, IsOfMove};
 ghost use Rattle.kc_exec_spec.specs.Effects.{Performs};
+ghost use Rattle.kc_bus.specs.Counting.{KeepsCount};
 
 use crate::jumping::following;
 use kc_base::Kind;
@@ -20,8 +21,7 @@ pub(crate) fn start_words<B: Bus>(
     insn: &Insn,
 ) -> Result<Words, Kind>
     ensures gives { Gives (λ x. x) result (B.held bus.new) (run B.meaning (set_up interruptible wsr insn.now) (B.held bus.old)) }
-    ensures spent { B.spent bus.new + B.allowed (B.held bus.old) ≤ B.spent bus.old + B.allowed (B.held bus.new) }
-    ensures same { B.lent bus.new ≡ B.lent bus.old }
+    ensures count { KeepsCount B.spent B.held B.allowed B.lent bus.old bus.new }
     ensures all { IfOk result (λ w. w.left ≡ w.count) }
     ensures kind { IfOk result (λ w. w.interruptible ≡ interruptible) }
 {
@@ -84,8 +84,7 @@ fn joined(low: u16, high: u16) -> u32
 #[tactic(auto, using(kc_exec_spec::proofs::Running::run_bind), unfolding(kc_exec_spec::specs::BlockMoves::write_pointers))]
 fn put_pointers<B: Bus>(bus: &mut B, wsr: u8, insn: &Insn, words: Words) -> Result<(), Kind>
     ensures gives { Gives (λ x. x) result (B.held bus.new) (run B.meaning (write_pointers wsr insn.now words) (B.held bus.old)) }
-    ensures spent { B.spent bus.new + B.allowed (B.held bus.old) ≤ B.spent bus.old + B.allowed (B.held bus.new) }
-    ensures same { B.lent bus.new ≡ B.lent bus.old }
+    ensures count { KeepsCount B.spent B.held B.allowed B.lent bus.old bus.new }
 {
     if words.interruptible || words.left == 0 {
         write_long(bus, wsr, insn.regs[1], joined(words.source, words.target))
@@ -97,8 +96,7 @@ fn put_pointers<B: Bus>(bus: &mut B, wsr: u8, insn: &Insn, words: Words) -> Resu
 #[tactic(auto, using(kc_exec_spec::proofs::Running::run_bind), unfolding(kc_exec_spec::specs::BlockMoves::write_count))]
 fn put_count<B: Bus>(bus: &mut B, wsr: u8, insn: &Insn, words: Words) -> Result<(), Kind>
     ensures gives { Gives (λ x. x) result (B.held bus.new) (run B.meaning (write_count wsr insn.now words) (B.held bus.old)) }
-    ensures spent { B.spent bus.new + B.allowed (B.held bus.old) ≤ B.spent bus.old + B.allowed (B.held bus.new) }
-    ensures same { B.lent bus.new ≡ B.lent bus.old }
+    ensures count { KeepsCount B.spent B.held B.allowed B.lent bus.old bus.new }
 {
     if !words.interruptible {
         return Ok(());
@@ -115,8 +113,7 @@ fn put_count<B: Bus>(bus: &mut B, wsr: u8, insn: &Insn, words: Words) -> Result<
 fn do_word<B: Bus>(bus: &mut B, wsr: u8, insn: &Insn, words: Words) -> Result<(), Kind>
     requires { 0 < words.left }
     ensures gives { Gives (λ x. x) result (B.held bus.new) (run B.meaning (move_one wsr insn.now words) (B.held bus.old)) }
-    ensures spent { B.spent bus.new + B.allowed (B.held bus.old) ≤ B.spent bus.old + B.allowed (B.held bus.new) }
-    ensures same { B.lent bus.new ≡ B.lent bus.old }
+    ensures count { KeepsCount B.spent B.held B.allowed B.lent bus.old bus.new }
 {
     let n = read_at(bus, false, words.source)?;
     write_at(bus, false, words.target, n)?;
@@ -138,8 +135,7 @@ pub fn move_word<B: Bus>(
     requires under_way { IsUnderWay insn.now words }
     ensures effect { Performs result cpu.old cpu.new (B.held bus.new) (run B.meaning (moved_word insn.now words cpu.old) (B.held bus.old)) }
     ensures rest { IfOk result (λ after. IsOfMove insn.now after) }
-    ensures spent { B.spent bus.new + B.allowed (B.held bus.old) ≤ B.spent bus.old + B.allowed (B.held bus.new) }
-    ensures same { B.lent bus.new ≡ B.lent bus.old }
+    ensures count { KeepsCount B.spent B.held B.allowed B.lent bus.old bus.new }
 {
     let wsr = bus.masks().wsr;
     do_word(bus, wsr, insn, words)?;

@@ -1,8 +1,9 @@
-ghost use Rattle.std.specs.Prelude.{◌≡◌, ◌+◌, ◌≤◌, ◌<◌, IfOk};
+ghost use Rattle.std.specs.Prelude.{◌≡◌, ◌≤◌, ◌<◌, IfOk};
 ghost use Rattle.kc_exec_spec.specs.Effect.{Gives, run};
 ghost use Rattle.kc_exec_spec.specs.Parts.{limit};
 ghost use Rattle.kc_exec_spec.specs.Operations.{writes_result, reads_register};
 ghost use Rattle.kc_exec_spec.specs.Computing.{has_a, destination, operate, read_altered, alter, extend, shift_count, shift, normalize, factor, multiply, divide, compare_long, compute};
+ghost use Rattle.kc_bus.specs.Counting.{KeepsCount};
 
 use kc_alu::{Shift, normalize};
 use kc_base::Kind;
@@ -52,8 +53,7 @@ pub fn do_operate<B: Bus>(
     psw: u8,
 ) -> Result<u8, Kind>
     ensures gives { Gives (λ x. x) result (B.held bus.new) (run B.meaning (operate op byte wsr insn.now psw) (B.held bus.old)) }
-    ensures spent { B.spent bus.new + B.allowed (B.held bus.old) ≤ B.spent bus.old + B.allowed (B.held bus.new) }
-    ensures same { B.lent bus.new ≡ B.lent bus.old }
+    ensures count { KeepsCount B.spent B.held B.allowed B.lent bus.old bus.new }
 {
     let s = read_source(bus, byte, wsr, insn.operand)?;
     let n = read_register(bus, byte, wsr, insn.regs[0])?;
@@ -81,8 +81,7 @@ fn read_changed<B: Bus>(
     d: u8,
 ) -> Result<u16, Kind>
     ensures gives { Gives (λ x. x) result (B.held bus.new) (run B.meaning (read_altered how byte wsr d) (B.held bus.old)) }
-    ensures spent { B.spent bus.new + B.allowed (B.held bus.old) ≤ B.spent bus.old + B.allowed (B.held bus.new) }
-    ensures same { B.lent bus.new ≡ B.lent bus.old }
+    ensures count { KeepsCount B.spent B.held B.allowed B.lent bus.old bus.new }
     ensures bound { IfOk result (λ n. n < limit byte) }
 {
     if is_read(how) {
@@ -104,8 +103,7 @@ pub fn do_alter<B: Bus>(
     psw: u8,
 ) -> Result<u8, Kind>
     ensures gives { Gives (λ x. x) result (B.held bus.new) (run B.meaning (alter how byte wsr d psw) (B.held bus.old)) }
-    ensures spent { B.spent bus.new + B.allowed (B.held bus.old) ≤ B.spent bus.old + B.allowed (B.held bus.new) }
-    ensures same { B.lent bus.new ≡ B.lent bus.old }
+    ensures count { KeepsCount B.spent B.held B.allowed B.lent bus.old bus.new }
 {
     let n = read_changed(bus, how, byte, wsr, d)?;
     let (value, flags) = change(how, byte, n, unpack(psw));
@@ -118,8 +116,7 @@ pub fn do_alter<B: Bus>(
 #[tactic(auto, using(kc_exec_spec::proofs::Running::run_bind), unfolding(kc_exec_spec::specs::Computing::extend))]
 pub fn do_extend<B: Bus>(bus: &mut B, byte: bool, wsr: u8, d: u8, psw: u8) -> Result<u8, Kind>
     ensures gives { Gives (λ x. x) result (B.held bus.new) (run B.meaning (extend byte wsr d psw) (B.held bus.old)) }
-    ensures spent { B.spent bus.new + B.allowed (B.held bus.old) ≤ B.spent bus.old + B.allowed (B.held bus.new) }
-    ensures same { B.lent bus.new ≡ B.lent bus.old }
+    ensures count { KeepsCount B.spent B.held B.allowed B.lent bus.old bus.new }
 {
     let n = read_low_half(bus, byte, wsr, d)?;
     let (value, flags) = spread_low(byte, n, unpack(psw));
@@ -131,8 +128,7 @@ pub fn do_extend<B: Bus>(bus: &mut B, byte: bool, wsr: u8, d: u8, psw: u8) -> Re
 #[tactic(auto, using(kc_exec_spec::proofs::Running::run_bind), unfolding(kc_exec_spec::specs::Computing::shift_count))]
 fn read_count<B: Bus>(bus: &mut B, wsr: u8, operand: Operand) -> Result<u8, Kind>
     ensures gives { Gives (λ x. x) result (B.held bus.new) (run B.meaning (shift_count wsr operand) (B.held bus.old)) }
-    ensures spent { B.spent bus.new + B.allowed (B.held bus.old) ≤ B.spent bus.old + B.allowed (B.held bus.new) }
-    ensures same { B.lent bus.new ≡ B.lent bus.old }
+    ensures count { KeepsCount B.spent B.held B.allowed B.lent bus.old bus.new }
     ensures bound { IfOk result (λ n. n ≤ 31) }
 {
     match operand {
@@ -154,8 +150,7 @@ pub fn do_shift<B: Bus>(
     psw: u8,
 ) -> Result<u8, Kind>
     ensures gives { Gives (λ x. x) result (B.held bus.new) (run B.meaning (shift how size wsr insn.now psw) (B.held bus.old)) }
-    ensures spent { B.spent bus.new + B.allowed (B.held bus.old) ≤ B.spent bus.old + B.allowed (B.held bus.new) }
-    ensures same { B.lent bus.new ≡ B.lent bus.old }
+    ensures count { KeepsCount B.spent B.held B.allowed B.lent bus.old bus.new }
 {
     let count = read_count(bus, wsr, insn.operand)?;
     let n = read_sized(bus, size, wsr, insn.regs[0])?;
@@ -169,8 +164,7 @@ pub fn do_shift<B: Bus>(
 #[tactic(auto, using(kc_exec_spec::proofs::Running::run_bind), unfolding(kc_exec_spec::specs::Computing::normalize))]
 pub fn do_normalize<B: Bus>(bus: &mut B, wsr: u8, insn: &Insn, psw: u8) -> Result<u8, Kind>
     ensures gives { Gives (λ x. x) result (B.held bus.new) (run B.meaning (normalize wsr insn.now psw) (B.held bus.old)) }
-    ensures spent { B.spent bus.new + B.allowed (B.held bus.old) ≤ B.spent bus.old + B.allowed (B.held bus.new) }
-    ensures same { B.lent bus.new ≡ B.lent bus.old }
+    ensures count { KeepsCount B.spent B.held B.allowed B.lent bus.old bus.new }
 {
     let n = read_long(bus, wsr, insn.regs[1])?;
     let (value, count, flags) = normalize(n, unpack(psw));
@@ -183,8 +177,7 @@ pub fn do_normalize<B: Bus>(bus: &mut B, wsr: u8, insn: &Insn, psw: u8) -> Resul
 #[tactic(auto, using(kc_exec_spec::proofs::Running::run_bind), unfolding(kc_exec_spec::specs::Computing::factor))]
 fn read_factor<B: Bus>(bus: &mut B, byte: bool, wsr: u8, insn: &Insn) -> Result<u16, Kind>
     ensures gives { Gives (λ x. x) result (B.held bus.new) (run B.meaning (factor byte wsr insn.now) (B.held bus.old)) }
-    ensures spent { B.spent bus.new + B.allowed (B.held bus.old) ≤ B.spent bus.old + B.allowed (B.held bus.new) }
-    ensures same { B.lent bus.new ≡ B.lent bus.old }
+    ensures count { KeepsCount B.spent B.held B.allowed B.lent bus.old bus.new }
     ensures bound { IfOk result (λ n. n < limit byte) }
 {
     if is_with_a(insn) {
@@ -205,8 +198,7 @@ pub fn do_multiply<B: Bus>(
     insn: &Insn,
 ) -> Result<(), Kind>
     ensures gives { Gives (λ x. x) result (B.held bus.new) (run B.meaning (multiply with_sign byte wsr insn.now) (B.held bus.old)) }
-    ensures spent { B.spent bus.new + B.allowed (B.held bus.old) ≤ B.spent bus.old + B.allowed (B.held bus.new) }
-    ensures same { B.lent bus.new ≡ B.lent bus.old }
+    ensures count { KeepsCount B.spent B.held B.allowed B.lent bus.old bus.new }
 {
     let s = read_source(bus, byte, wsr, insn.operand)?;
     let n = read_factor(bus, byte, wsr, insn)?;
@@ -226,8 +218,7 @@ pub fn do_divide<B: Bus>(
     psw: u8,
 ) -> Result<u8, Kind>
     ensures gives { Gives (λ x. x) result (B.held bus.new) (run B.meaning (divide with_sign byte wsr insn.now psw) (B.held bus.old)) }
-    ensures spent { B.spent bus.new + B.allowed (B.held bus.old) ≤ B.spent bus.old + B.allowed (B.held bus.new) }
-    ensures same { B.lent bus.new ≡ B.lent bus.old }
+    ensures count { KeepsCount B.spent B.held B.allowed B.lent bus.old bus.new }
 {
     let s = read_source(bus, byte, wsr, insn.operand)?;
     let n = read_sized(bus, double_of(byte), wsr, insn.regs[0])?;
@@ -241,8 +232,7 @@ pub fn do_divide<B: Bus>(
 #[tactic(auto, using(kc_exec_spec::proofs::Running::run_bind), unfolding(kc_exec_spec::specs::Computing::compare_long))]
 pub fn do_compare_long<B: Bus>(bus: &mut B, wsr: u8, insn: &Insn, psw: u8) -> Result<u8, Kind>
     ensures gives { Gives (λ x. x) result (B.held bus.new) (run B.meaning (compare_long wsr insn.now psw) (B.held bus.old)) }
-    ensures spent { B.spent bus.new + B.allowed (B.held bus.old) ≤ B.spent bus.old + B.allowed (B.held bus.new) }
-    ensures same { B.lent bus.new ≡ B.lent bus.old }
+    ensures count { KeepsCount B.spent B.held B.allowed B.lent bus.old bus.new }
 {
     let s = read_long(bus, wsr, insn.regs[0])?;
     let n = read_long(bus, wsr, insn.regs[1])?;
@@ -259,8 +249,7 @@ pub(crate) fn do_compute<B: Bus>(
     psw: u8,
 ) -> Result<u8, Kind>
     ensures gives { Gives (λ x. x) result (B.held bus.new) (run B.meaning (compute how wsr insn.now psw) (B.held bus.old)) }
-    ensures spent { B.spent bus.new + B.allowed (B.held bus.old) ≤ B.spent bus.old + B.allowed (B.held bus.new) }
-    ensures same { B.lent bus.new ≡ B.lent bus.old }
+    ensures count { KeepsCount B.spent B.held B.allowed B.lent bus.old bus.new }
 {
     match how {
         Computation::Operate(op, byte) => do_operate(bus, op, byte, wsr, insn, psw),

@@ -1,10 +1,11 @@
-ghost use Rattle.std.specs.Prelude.{◌≡◌, ◌+◌, ◌-◌, ◌*◌, ◌%◌, ◌^◌, ◌≤◌, ◌<◌, IsTrue, bit_and};
+ghost use Rattle.std.specs.Prelude.{◌≡◌, ◌+◌, ◌-◌, ◌*◌, ◌%◌, ◌^◌, ◌<◌, IsTrue, bit_and};
 ghost use Rattle.kc_isa.specs.Formed.{is_formed};
 ghost use Rattle.kc_exec_spec.specs.Effect.{Gives, run};
 ghost use Rattle.kc_exec_spec.specs.Status.{has};
 ghost use Rattle.kc_exec_spec.specs.Parts.{limit};
 ghost use Rattle.kc_exec_spec.specs.Operands.{at_offset};
 ghost use Rattle.kc_exec_spec.specs.Jumping.{next_pc, jump_pc, branch_pc, distance, holds, is_taken, bit_jump, count_down, table_target, goes, psw_after};
+ghost use Rattle.kc_bus.specs.Counting.{KeepsCount};
 
 use kc_alu::Flags;
 use kc_base::Kind;
@@ -92,8 +93,7 @@ pub fn is_bit_jump<B: Bus>(
 ) -> Result<bool, Kind>
     requires { number < 8 }
     ensures gives { Gives (λ x. x) result (B.held bus.new) (run B.meaning (bit_jump set number wsr register) (B.held bus.old)) }
-    ensures spent { B.spent bus.new + B.allowed (B.held bus.old) ≤ B.spent bus.old + B.allowed (B.held bus.new) }
-    ensures same { B.lent bus.new ≡ B.lent bus.old }
+    ensures count { KeepsCount B.spent B.held B.allowed B.lent bus.old bus.new }
 {
     let n = read_register(bus, true, wsr, register)?;
     let found = is_bit(number, n);
@@ -119,8 +119,7 @@ fn less_one(byte: bool, n: u16) -> u16
 #[tactic(auto, using(kc_exec_spec::proofs::Running::run_bind), unfolding(kc_exec_spec::specs::Jumping::count_down))]
 pub fn is_counted<B: Bus>(bus: &mut B, byte: bool, wsr: u8, register: u8) -> Result<bool, Kind>
     ensures gives { Gives (λ x. x) result (B.held bus.new) (run B.meaning (count_down byte wsr register) (B.held bus.old)) }
-    ensures spent { B.spent bus.new + B.allowed (B.held bus.old) ≤ B.spent bus.old + B.allowed (B.held bus.new) }
-    ensures same { B.lent bus.new ≡ B.lent bus.old }
+    ensures count { KeepsCount B.spent B.held B.allowed B.lent bus.old bus.new }
 {
     let n = read_register(bus, byte, wsr, register)?;
     let less = less_one(byte, n);
@@ -140,8 +139,7 @@ fn table_place(table: u16, index: u8, mask: u8) -> u16
 #[tactic(auto, using(kc_exec_spec::proofs::Running::run_bind), unfolding(kc_exec_spec::specs::Jumping::table_target))]
 pub fn read_table<B: Bus>(bus: &mut B, wsr: u8, insn: &Insn) -> Result<u16, Kind>
     ensures gives { Gives (λ x. x) result (B.held bus.new) (run B.meaning (table_target wsr insn.now) (B.held bus.old)) }
-    ensures spent { B.spent bus.new + B.allowed (B.held bus.old) ≤ B.spent bus.old + B.allowed (B.held bus.new) }
-    ensures same { B.lent bus.new ≡ B.lent bus.old }
+    ensures count { KeepsCount B.spent B.held B.allowed B.lent bus.old bus.new }
 {
     let pointer = read_register(bus, false, wsr, insn.regs[0])?;
     let index = read_at(bus, true, pointer)? as u8;
@@ -160,8 +158,7 @@ pub(crate) fn do_jump<B: Bus>(
 ) -> Result<u16, Kind>
     requires { IsTrue (is_formed insn.now) }
     ensures gives { Gives (λ x. x) result (B.held bus.new) (run B.meaning (goes route wsr insn.now cpu) (B.held bus.old)) }
-    ensures spent { B.spent bus.new + B.allowed (B.held bus.old) ≤ B.spent bus.old + B.allowed (B.held bus.new) }
-    ensures same { B.lent bus.new ≡ B.lent bus.old }
+    ensures count { KeepsCount B.spent B.held B.allowed B.lent bus.old bus.new }
 {
     match route {
         Route::Always => Ok(branch(true, insn, cpu.pc)),

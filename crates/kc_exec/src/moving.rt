@@ -1,6 +1,7 @@
-ghost use Rattle.std.specs.Prelude.{◌≡◌, ◌+◌, ◌≤◌, ◌<◌};
+ghost use Rattle.std.specs.Prelude.{◌≡◌, ◌<◌};
 ghost use Rattle.kc_exec_spec.specs.Effect.{Gives, run};
 ghost use Rattle.kc_exec_spec.specs.Moving.{load, sign_extended, load_extended, store, exchange, push_source, pop_target, move_data};
+ghost use Rattle.kc_bus.specs.Counting.{KeepsCount};
 
 use kc_base::Kind;
 use kc_bus::Bus;
@@ -15,8 +16,7 @@ use kc_isa::Insn;
 #[tactic(auto, using(kc_exec_spec::proofs::Running::run_bind), unfolding(kc_exec_spec::specs::Moving::load))]
 pub fn do_load<B: Bus>(bus: &mut B, byte: bool, wsr: u8, insn: &Insn) -> Result<(), Kind>
     ensures gives { Gives (λ x. x) result (B.held bus.new) (run B.meaning (load byte wsr insn.now) (B.held bus.old)) }
-    ensures spent { B.spent bus.new + B.allowed (B.held bus.old) ≤ B.spent bus.old + B.allowed (B.held bus.new) }
-    ensures same { B.lent bus.new ≡ B.lent bus.old }
+    ensures count { KeepsCount B.spent B.held B.allowed B.lent bus.old bus.new }
 {
     let s = read_source(bus, byte, wsr, insn.operand)?;
     write_register(bus, byte, wsr, insn.regs[0], s)
@@ -39,8 +39,7 @@ pub fn do_load_extended<B: Bus>(
     insn: &Insn,
 ) -> Result<(), Kind>
     ensures gives { Gives (λ x. x) result (B.held bus.new) (run B.meaning (load_extended with_sign wsr insn.now) (B.held bus.old)) }
-    ensures spent { B.spent bus.new + B.allowed (B.held bus.old) ≤ B.spent bus.old + B.allowed (B.held bus.new) }
-    ensures same { B.lent bus.new ≡ B.lent bus.old }
+    ensures count { KeepsCount B.spent B.held B.allowed B.lent bus.old bus.new }
 {
     let s = read_source(bus, true, wsr, insn.operand)?;
     let value = if with_sign { extend_sign(s) } else { s };
@@ -52,8 +51,7 @@ pub fn do_load_extended<B: Bus>(
 #[tactic(auto, using(kc_exec_spec::proofs::Running::run_bind), unfolding(kc_exec_spec::specs::Moving::store))]
 pub fn do_store<B: Bus>(bus: &mut B, byte: bool, wsr: u8, insn: &Insn) -> Result<(), Kind>
     ensures gives { Gives (λ x. x) result (B.held bus.new) (run B.meaning (store byte wsr insn.now) (B.held bus.old)) }
-    ensures spent { B.spent bus.new + B.allowed (B.held bus.old) ≤ B.spent bus.old + B.allowed (B.held bus.new) }
-    ensures same { B.lent bus.new ≡ B.lent bus.old }
+    ensures count { KeepsCount B.spent B.held B.allowed B.lent bus.old bus.new }
 {
     let n = read_register(bus, byte, wsr, insn.regs[0])?;
     let addr = find_target(bus, byte, wsr, insn.operand)?;
@@ -65,8 +63,7 @@ pub fn do_store<B: Bus>(bus: &mut B, byte: bool, wsr: u8, insn: &Insn) -> Result
 #[tactic(auto, using(kc_exec_spec::proofs::Running::run_bind), unfolding(kc_exec_spec::specs::Moving::exchange))]
 pub fn do_exchange<B: Bus>(bus: &mut B, byte: bool, wsr: u8, insn: &Insn) -> Result<(), Kind>
     ensures gives { Gives (λ x. x) result (B.held bus.new) (run B.meaning (exchange byte wsr insn.now) (B.held bus.old)) }
-    ensures spent { B.spent bus.new + B.allowed (B.held bus.old) ≤ B.spent bus.old + B.allowed (B.held bus.new) }
-    ensures same { B.lent bus.new ≡ B.lent bus.old }
+    ensures count { KeepsCount B.spent B.held B.allowed B.lent bus.old bus.new }
 {
     let addr = find_target(bus, byte, wsr, insn.operand)?;
     let s = read_at(bus, byte, addr)?;
@@ -80,8 +77,7 @@ pub fn do_exchange<B: Bus>(bus: &mut B, byte: bool, wsr: u8, insn: &Insn) -> Res
 #[tactic(auto, using(kc_exec_spec::proofs::Running::run_bind), unfolding(kc_exec_spec::specs::Moving::push_source))]
 pub fn do_push<B: Bus>(bus: &mut B, wsr: u8, insn: &Insn) -> Result<(), Kind>
     ensures gives { Gives (λ x. x) result (B.held bus.new) (run B.meaning (push_source wsr insn.now) (B.held bus.old)) }
-    ensures spent { B.spent bus.new + B.allowed (B.held bus.old) ≤ B.spent bus.old + B.allowed (B.held bus.new) }
-    ensures same { B.lent bus.new ≡ B.lent bus.old }
+    ensures count { KeepsCount B.spent B.held B.allowed B.lent bus.old bus.new }
 {
     let s = read_source(bus, false, wsr, insn.operand)?;
     push_word(bus, s)
@@ -92,8 +88,7 @@ pub fn do_push<B: Bus>(bus: &mut B, wsr: u8, insn: &Insn) -> Result<(), Kind>
 #[tactic(auto, using(kc_exec_spec::proofs::Running::run_bind), unfolding(kc_exec_spec::specs::Moving::pop_target))]
 pub fn do_pop<B: Bus>(bus: &mut B, wsr: u8, insn: &Insn) -> Result<(), Kind>
     ensures gives { Gives (λ x. x) result (B.held bus.new) (run B.meaning (pop_target wsr insn.now) (B.held bus.old)) }
-    ensures spent { B.spent bus.new + B.allowed (B.held bus.old) ≤ B.spent bus.old + B.allowed (B.held bus.new) }
-    ensures same { B.lent bus.new ≡ B.lent bus.old }
+    ensures count { KeepsCount B.spent B.held B.allowed B.lent bus.old bus.new }
 {
     let n = pop_word(bus)?;
     let addr = find_target(bus, false, wsr, insn.operand)?;
@@ -104,8 +99,7 @@ pub fn do_pop<B: Bus>(bus: &mut B, wsr: u8, insn: &Insn) -> Result<(), Kind>
 #[tactic(auto, using(kc_exec_spec::proofs::Running::run_bind), unfolding(kc_exec_spec::specs::Moving::move_data))]
 pub(crate) fn do_move<B: Bus>(bus: &mut B, how: Movement, wsr: u8, insn: &Insn) -> Result<(), Kind>
     ensures gives { Gives (λ x. x) result (B.held bus.new) (run B.meaning (move_data how wsr insn.now) (B.held bus.old)) }
-    ensures spent { B.spent bus.new + B.allowed (B.held bus.old) ≤ B.spent bus.old + B.allowed (B.held bus.new) }
-    ensures same { B.lent bus.new ≡ B.lent bus.old }
+    ensures count { KeepsCount B.spent B.held B.allowed B.lent bus.old bus.new }
 {
     match how {
         Movement::Load(byte) => do_load(bus, byte, wsr, insn),

@@ -1,9 +1,10 @@
-ghost use Rattle.std.specs.Prelude.{◌≡◌, ◌+◌, ◌≤◌, ◌<◌, IsTrue, IfOk};
+ghost use Rattle.std.specs.Prelude.{◌≡◌, ◌<◌, IsTrue, IfOk};
 ghost use Rattle.kc_exec_spec.specs.Effect.{Gives, run};
 ghost use Rattle.kc_isa.specs.Formed.{is_formed};
 ghost use Rattle.kc_exec_spec.specs.Settings.{idle_after};
 ghost use Rattle.kc_exec_spec.specs.BlockMoves.{IsOfMove, IsOfPlan};
 ghost use Rattle.kc_exec_spec.specs.Effects.{planned, effect_of, Performs};
+ghost use Rattle.kc_bus.specs.Counting.{KeepsCount};
 
 use crate::blocks::{cpu_behind, follow_words, start_words};
 use crate::computing::do_compute;
@@ -38,8 +39,7 @@ fn work<B: Bus>(
 ) -> Result<(After, Cpu), Kind>
     requires { IsTrue (is_formed insn.now) }
     ensures gives { Gives (λ x. x) result (B.held bus.new) (run B.meaning (planned plan insn.now wsr cpu) (B.held bus.old)) }
-    ensures spent { B.spent bus.new + B.allowed (B.held bus.old) ≤ B.spent bus.old + B.allowed (B.held bus.new) }
-    ensures same { B.lent bus.new ≡ B.lent bus.old }
+    ensures count { KeepsCount B.spent B.held B.allowed B.lent bus.old bus.new }
     ensures words { IfOk result (λ r. IsOfPlan plan r.0) }
 {
     let next = following(insn, cpu.pc);
@@ -74,8 +74,7 @@ pub fn perform<B: Bus>(insn: &Insn, cpu: &mut Cpu, bus: &mut B) -> Result<After,
     requires { IsTrue (is_formed insn.now) }
     ensures effect { Performs result cpu.old cpu.new (B.held bus.new) (run B.meaning (effect_of insn.now cpu.old) (B.held bus.old)) }
     ensures words { IfOk result (λ after. IsOfMove insn.now after) }
-    ensures spent { B.spent bus.new + B.allowed (B.held bus.old) ≤ B.spent bus.old + B.allowed (B.held bus.new) }
-    ensures same { B.lent bus.new ≡ B.lent bus.old }
+    ensures count { KeepsCount B.spent B.held B.allowed B.lent bus.old bus.new }
 {
     let Some(mnemonic) = mnemonic_of(insn.opcode, insn.signed) else {
         return Err(Kind::Opcode);

@@ -1,6 +1,7 @@
-ghost use Rattle.std.specs.Prelude.{◌≡◌, ◌+◌, ◌≤◌};
+ghost use Rattle.std.specs.Prelude.{◌≡◌};
 ghost use Rattle.kc_exec_spec.specs.Effect.{Gives, run};
 ghost use Rattle.kc_exec_spec.specs.Saving.{push_status, pop_status, push_masks, pop_masks, push_all, pop_all, save};
+ghost use Rattle.kc_bus.specs.Counting.{KeepsCount};
 
 use kc_base::Kind;
 use kc_bus::{Bus, Masks};
@@ -10,8 +11,7 @@ use kc_exec_spec::Saving;
 #[tactic(auto, using(kc_exec_spec::proofs::Running::run_bind), unfolding(kc_exec_spec::specs::Saving::push_status))]
 fn do_push_status<B: Bus>(bus: &mut B, psw: u8) -> Result<(), Kind>
     ensures gives { Gives (λ x. x) result (B.held bus.new) (run B.meaning (push_status psw) (B.held bus.old)) }
-    ensures spent { B.spent bus.new + B.allowed (B.held bus.old) ≤ B.spent bus.old + B.allowed (B.held bus.new) }
-    ensures same { B.lent bus.new ≡ B.lent bus.old }
+    ensures count { KeepsCount B.spent B.held B.allowed B.lent bus.old bus.new }
 {
     let mask = bus.masks().int_mask;
     push_word(bus, 0x100 * u16::from(psw) + u16::from(mask))?;
@@ -26,8 +26,7 @@ fn do_push_status<B: Bus>(bus: &mut B, psw: u8) -> Result<(), Kind>
 #[tactic(auto, using(kc_exec_spec::proofs::Running::run_bind), unfolding(kc_exec_spec::specs::Saving::pop_status))]
 fn do_pop_status<B: Bus>(bus: &mut B) -> Result<u8, Kind>
     ensures gives { Gives (λ x. x) result (B.held bus.new) (run B.meaning (pop_status) (B.held bus.old)) }
-    ensures spent { B.spent bus.new + B.allowed (B.held bus.old) ≤ B.spent bus.old + B.allowed (B.held bus.new) }
-    ensures same { B.lent bus.new ≡ B.lent bus.old }
+    ensures count { KeepsCount B.spent B.held B.allowed B.lent bus.old bus.new }
 {
     let n = pop_word(bus)?;
     let masks = bus.masks();
@@ -42,8 +41,7 @@ fn do_pop_status<B: Bus>(bus: &mut B) -> Result<u8, Kind>
 #[tactic(auto, using(kc_exec_spec::proofs::Running::run_bind), unfolding(kc_exec_spec::specs::Saving::push_masks))]
 fn do_push_masks<B: Bus>(bus: &mut B) -> Result<(), Kind>
     ensures gives { Gives (λ x. x) result (B.held bus.new) (run B.meaning (push_masks) (B.held bus.old)) }
-    ensures spent { B.spent bus.new + B.allowed (B.held bus.old) ≤ B.spent bus.old + B.allowed (B.held bus.new) }
-    ensures same { B.lent bus.new ≡ B.lent bus.old }
+    ensures count { KeepsCount B.spent B.held B.allowed B.lent bus.old bus.new }
 {
     let masks = bus.masks();
     push_word(
@@ -61,8 +59,7 @@ fn do_push_masks<B: Bus>(bus: &mut B) -> Result<(), Kind>
 #[tactic(auto, using(kc_exec_spec::proofs::Running::run_bind), unfolding(kc_exec_spec::specs::Saving::pop_masks))]
 fn do_pop_masks<B: Bus>(bus: &mut B) -> Result<(), Kind>
     ensures gives { Gives (λ x. x) result (B.held bus.new) (run B.meaning (pop_masks) (B.held bus.old)) }
-    ensures spent { B.spent bus.new + B.allowed (B.held bus.old) ≤ B.spent bus.old + B.allowed (B.held bus.new) }
-    ensures same { B.lent bus.new ≡ B.lent bus.old }
+    ensures count { KeepsCount B.spent B.held B.allowed B.lent bus.old bus.new }
 {
     let n = pop_word(bus)?;
     let masks = bus.masks();
@@ -76,8 +73,7 @@ fn do_pop_masks<B: Bus>(bus: &mut B) -> Result<(), Kind>
 #[tactic(auto, using(kc_exec_spec::proofs::Running::run_bind), unfolding(kc_exec_spec::specs::Saving::push_all))]
 fn do_push_all<B: Bus>(bus: &mut B, psw: u8) -> Result<(), Kind>
     ensures gives { Gives (λ x. x) result (B.held bus.new) (run B.meaning (push_all psw) (B.held bus.old)) }
-    ensures spent { B.spent bus.new + B.allowed (B.held bus.old) ≤ B.spent bus.old + B.allowed (B.held bus.new) }
-    ensures same { B.lent bus.new ≡ B.lent bus.old }
+    ensures count { KeepsCount B.spent B.held B.allowed B.lent bus.old bus.new }
 {
     do_push_status(bus, psw)?;
     do_push_masks(bus)
@@ -86,8 +82,7 @@ fn do_push_all<B: Bus>(bus: &mut B, psw: u8) -> Result<(), Kind>
 #[tactic(auto, using(kc_exec_spec::proofs::Running::run_bind), unfolding(kc_exec_spec::specs::Saving::pop_all))]
 fn do_pop_all<B: Bus>(bus: &mut B) -> Result<u8, Kind>
     ensures gives { Gives (λ x. x) result (B.held bus.new) (run B.meaning (pop_all) (B.held bus.old)) }
-    ensures spent { B.spent bus.new + B.allowed (B.held bus.old) ≤ B.spent bus.old + B.allowed (B.held bus.new) }
-    ensures same { B.lent bus.new ≡ B.lent bus.old }
+    ensures count { KeepsCount B.spent B.held B.allowed B.lent bus.old bus.new }
 {
     do_pop_masks(bus)?;
     do_pop_status(bus)
@@ -97,8 +92,7 @@ fn do_pop_all<B: Bus>(bus: &mut B) -> Result<u8, Kind>
 #[tactic(auto, using(kc_exec_spec::proofs::Running::run_bind), unfolding(kc_exec_spec::specs::Saving::save))]
 pub fn do_save<B: Bus>(bus: &mut B, how: Saving, psw: u8) -> Result<u8, Kind>
     ensures gives { Gives (λ x. x) result (B.held bus.new) (run B.meaning (save how psw) (B.held bus.old)) }
-    ensures spent { B.spent bus.new + B.allowed (B.held bus.old) ≤ B.spent bus.old + B.allowed (B.held bus.new) }
-    ensures same { B.lent bus.new ≡ B.lent bus.old }
+    ensures count { KeepsCount B.spent B.held B.allowed B.lent bus.old bus.new }
 {
     match how {
         Saving::PushStatus => {

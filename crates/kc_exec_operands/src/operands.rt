@@ -1,8 +1,9 @@
-ghost use Rattle.std.specs.Prelude.{◌≡◌, ◌+◌, ◌≤◌, ◌<◌, ◌%◌, IfOk, IsTrue, false};
+ghost use Rattle.std.specs.Prelude.{◌≡◌, ◌<◌, ◌%◌, IfOk, IsTrue, false};
 ghost use Rattle.kc_isa.specs.declared.insn.Operand.TheVariants.{Increment, Long};
 ghost use Rattle.kc_exec_spec.specs.Effect.{Gives, run};
 ghost use Rattle.kc_exec_spec.specs.Parts.{limit};
 ghost use Rattle.kc_exec_spec.specs.Operands.{size, at_offset, source, target};
+ghost use Rattle.kc_bus.specs.Counting.{KeepsCount};
 
 use crate::parts::{read_at, read_register, write_register};
 use kc_base::Kind;
@@ -37,8 +38,7 @@ fn cut(byte: bool, value: u16) -> u16
 #[tactic(auto, using(kc_exec_spec::proofs::Running::run_bind), unfolding(kc_exec_spec::specs::Operands::source))]
 fn read_increment<B: Bus>(bus: &mut B, byte: bool, wsr: u8, register: u8) -> Result<u16, Kind>
     ensures gives { Gives (λ x. x) result (B.held bus.new) (run B.meaning (source byte wsr (Increment register)) (B.held bus.old)) }
-    ensures spent { B.spent bus.new + B.allowed (B.held bus.old) ≤ B.spent bus.old + B.allowed (B.held bus.new) }
-    ensures same { B.lent bus.new ≡ B.lent bus.old }
+    ensures count { KeepsCount B.spent B.held B.allowed B.lent bus.old bus.new }
     ensures bound { IfOk result (λ n. n < limit byte) }
 {
     let place = read_register(bus, false, wsr, register)?;
@@ -58,8 +58,7 @@ fn read_indexed<B: Bus>(
     offset: u16,
 ) -> Result<u16, Kind>
     ensures gives { Gives (λ x. x) result (B.held bus.new) (run B.meaning (source byte wsr (Long base offset)) (B.held bus.old)) }
-    ensures spent { B.spent bus.new + B.allowed (B.held bus.old) ≤ B.spent bus.old + B.allowed (B.held bus.new) }
-    ensures same { B.lent bus.new ≡ B.lent bus.old }
+    ensures count { KeepsCount B.spent B.held B.allowed B.lent bus.old bus.new }
     ensures bound { IfOk result (λ n. n < limit byte) }
 {
     let pointer = read_register(bus, false, wsr, base)?;
@@ -72,8 +71,7 @@ fn read_indexed<B: Bus>(
 #[tactic(auto, using(kc_exec_spec::proofs::Running::run_bind), unfolding(kc_exec_spec::specs::Operands::source))]
 pub fn read_source<B: Bus>(bus: &mut B, byte: bool, wsr: u8, operand: Operand) -> Result<u16, Kind>
     ensures gives { Gives (λ x. x) result (B.held bus.new) (run B.meaning (source byte wsr operand) (B.held bus.old)) }
-    ensures spent { B.spent bus.new + B.allowed (B.held bus.old) ≤ B.spent bus.old + B.allowed (B.held bus.new) }
-    ensures same { B.lent bus.new ≡ B.lent bus.old }
+    ensures count { KeepsCount B.spent B.held B.allowed B.lent bus.old bus.new }
     ensures bound { IfOk result (λ n. n < limit byte) }
 {
     match operand {
@@ -98,8 +96,7 @@ pub fn read_source<B: Bus>(bus: &mut B, byte: bool, wsr: u8, operand: Operand) -
 #[tactic(auto, using(kc_exec_spec::proofs::Running::run_bind), unfolding(kc_exec_spec::specs::Operands::target))]
 fn find_increment<B: Bus>(bus: &mut B, byte: bool, wsr: u8, register: u8) -> Result<u16, Kind>
     ensures gives { Gives (λ x. x) result (B.held bus.new) (run B.meaning (target byte wsr (Increment register)) (B.held bus.old)) }
-    ensures spent { B.spent bus.new + B.allowed (B.held bus.old) ≤ B.spent bus.old + B.allowed (B.held bus.new) }
-    ensures same { B.lent bus.new ≡ B.lent bus.old }
+    ensures count { KeepsCount B.spent B.held B.allowed B.lent bus.old bus.new }
 {
     let pointer = read_register(bus, false, wsr, register)?;
     write_register(bus, false, wsr, register, stepped(byte, pointer))?;
@@ -117,8 +114,7 @@ fn find_indexed<B: Bus>(
     offset: u16,
 ) -> Result<u16, Kind>
     ensures gives { Gives (λ x. x) result (B.held bus.new) (run B.meaning (target byte wsr (Long base offset)) (B.held bus.old)) }
-    ensures spent { B.spent bus.new + B.allowed (B.held bus.old) ≤ B.spent bus.old + B.allowed (B.held bus.new) }
-    ensures same { B.lent bus.new ≡ B.lent bus.old }
+    ensures count { KeepsCount B.spent B.held B.allowed B.lent bus.old bus.new }
 {
     let pointer = read_register(bus, false, wsr, base)?;
     Ok(moved(pointer, offset))
@@ -130,8 +126,7 @@ fn find_indexed<B: Bus>(
 #[tactic(auto, using(kc_exec_spec::proofs::Running::run_bind), unfolding(kc_exec_spec::specs::Operands::target))]
 pub fn find_target<B: Bus>(bus: &mut B, byte: bool, wsr: u8, operand: Operand) -> Result<u16, Kind>
     ensures gives { Gives (λ x. x) result (B.held bus.new) (run B.meaning (target byte wsr operand) (B.held bus.old)) }
-    ensures spent { B.spent bus.new + B.allowed (B.held bus.old) ≤ B.spent bus.old + B.allowed (B.held bus.new) }
-    ensures same { B.lent bus.new ≡ B.lent bus.old }
+    ensures count { KeepsCount B.spent B.held B.allowed B.lent bus.old bus.new }
 {
     match operand {
         Operand::Reg(register) => Ok(window(wsr, register)?),

@@ -1,6 +1,7 @@
-ghost use Rattle.std.specs.Prelude.{◌≡◌, ◌+◌, ◌≤◌, ◌<◌, IfOk, IsTrue, false};
+ghost use Rattle.std.specs.Prelude.{◌≡◌, ◌+◌, ◌<◌, IfOk, IsTrue, false};
 ghost use Rattle.kc_exec_spec.specs.Effect.{Gives, run};
 ghost use Rattle.kc_exec_spec.specs.Parts.{limit, sized_limit, doubled, read_at, write_at, read_register, write_register, long_place, read_long, write_long, read_sized, write_sized, read_low_half, push, pop};
+ghost use Rattle.kc_bus.specs.Counting.{KeepsCount};
 
 use kc_base::Kind;
 use kc_bus::{Bus, Master, window};
@@ -11,8 +12,7 @@ use kc_exec_spec::Size;
 #[tactic(auto, using(kc_exec_spec::proofs::Running::run_bind), unfolding(kc_exec_spec::specs::Parts::read_at))]
 pub fn read_at<B: Bus>(bus: &mut B, byte: bool, addr: u16) -> Result<u16, Kind>
     ensures gives { Gives (λ x. x) result (B.held bus.new) (run B.meaning (read_at byte addr) (B.held bus.old)) }
-    ensures spent { B.spent bus.new + B.allowed (B.held bus.old) ≤ B.spent bus.old + B.allowed (B.held bus.new) }
-    ensures same { B.lent bus.new ≡ B.lent bus.old }
+    ensures count { KeepsCount B.spent B.held B.allowed B.lent bus.old bus.new }
     ensures bound { IfOk result (λ n. n < limit byte) }
 {
     if byte {
@@ -28,8 +28,7 @@ pub fn read_at<B: Bus>(bus: &mut B, byte: bool, addr: u16) -> Result<u16, Kind>
 #[tactic(auto, using(kc_exec_spec::proofs::Running::run_bind), unfolding(kc_exec_spec::specs::Parts::write_at))]
 pub fn write_at<B: Bus>(bus: &mut B, byte: bool, addr: u16, value: u16) -> Result<(), Kind>
     ensures gives { Gives (λ x. x) result (B.held bus.new) (run B.meaning (write_at byte addr value) (B.held bus.old)) }
-    ensures spent { B.spent bus.new + B.allowed (B.held bus.old) ≤ B.spent bus.old + B.allowed (B.held bus.new) }
-    ensures same { B.lent bus.new ≡ B.lent bus.old }
+    ensures count { KeepsCount B.spent B.held B.allowed B.lent bus.old bus.new }
 {
     if byte {
         bus.write8(Master::Cpu, addr, (value % 256) as u8)
@@ -43,8 +42,7 @@ pub fn write_at<B: Bus>(bus: &mut B, byte: bool, addr: u16, value: u16) -> Resul
 #[tactic(auto, using(kc_exec_spec::proofs::Running::run_bind), unfolding(kc_exec_spec::specs::Parts::read_register))]
 pub fn read_register<B: Bus>(bus: &mut B, byte: bool, wsr: u8, register: u8) -> Result<u16, Kind>
     ensures gives { Gives (λ x. x) result (B.held bus.new) (run B.meaning (read_register byte wsr register) (B.held bus.old)) }
-    ensures spent { B.spent bus.new + B.allowed (B.held bus.old) ≤ B.spent bus.old + B.allowed (B.held bus.new) }
-    ensures same { B.lent bus.new ≡ B.lent bus.old }
+    ensures count { KeepsCount B.spent B.held B.allowed B.lent bus.old bus.new }
     ensures bound { IfOk result (λ n. n < limit byte) }
 {
     if wsr == 0 {
@@ -60,8 +58,7 @@ pub fn read_register<B: Bus>(bus: &mut B, byte: bool, wsr: u8, register: u8) -> 
 #[tactic(auto, using(kc_exec_spec::proofs::Running::run_bind), unfolding(kc_exec_spec::specs::Parts::read_register))]
 fn read_in_window<B: Bus>(bus: &mut B, byte: bool, wsr: u8, register: u8) -> Result<u16, Kind>
     ensures gives { Gives (λ x. x) result (B.held bus.new) (run B.meaning (read_register byte wsr register) (B.held bus.old)) }
-    ensures spent { B.spent bus.new + B.allowed (B.held bus.old) ≤ B.spent bus.old + B.allowed (B.held bus.new) }
-    ensures same { B.lent bus.new ≡ B.lent bus.old }
+    ensures count { KeepsCount B.spent B.held B.allowed B.lent bus.old bus.new }
     ensures bound { IfOk result (λ n. n < limit byte) }
 {
     let addr = window(wsr, register)?;
@@ -79,8 +76,7 @@ pub fn write_register<B: Bus>(
     value: u16,
 ) -> Result<(), Kind>
     ensures gives { Gives (λ x. x) result (B.held bus.new) (run B.meaning (write_register byte wsr register value) (B.held bus.old)) }
-    ensures spent { B.spent bus.new + B.allowed (B.held bus.old) ≤ B.spent bus.old + B.allowed (B.held bus.new) }
-    ensures same { B.lent bus.new ≡ B.lent bus.old }
+    ensures count { KeepsCount B.spent B.held B.allowed B.lent bus.old bus.new }
 {
     if wsr == 0 {
         write_at(bus, byte, u16::from(register), value)
@@ -102,8 +98,7 @@ fn write_in_window<B: Bus>(
     value: u16,
 ) -> Result<(), Kind>
     ensures gives { Gives (λ x. x) result (B.held bus.new) (run B.meaning (write_register byte wsr register value) (B.held bus.old)) }
-    ensures spent { B.spent bus.new + B.allowed (B.held bus.old) ≤ B.spent bus.old + B.allowed (B.held bus.new) }
-    ensures same { B.lent bus.new ≡ B.lent bus.old }
+    ensures count { KeepsCount B.spent B.held B.allowed B.lent bus.old bus.new }
 {
     let addr = window(wsr, register)?;
     write_at(bus, byte, addr, value)
@@ -114,8 +109,7 @@ fn write_in_window<B: Bus>(
 #[tactic(auto, using(kc_exec_spec::proofs::Running::run_bind), unfolding(kc_exec_spec::specs::Parts::long_place))]
 fn place_of_long<B: Bus>(bus: &mut B, wsr: u8, register: u8) -> Result<u16, Kind>
     ensures gives { Gives (λ x. x) result (B.held bus.new) (run B.meaning (long_place wsr register) (B.held bus.old)) }
-    ensures spent { B.spent bus.new + B.allowed (B.held bus.old) ≤ B.spent bus.old + B.allowed (B.held bus.new) }
-    ensures same { B.lent bus.new ≡ B.lent bus.old }
+    ensures count { KeepsCount B.spent B.held B.allowed B.lent bus.old bus.new }
     ensures bound { IfOk result (λ addr. addr + 3 < 0x10000) }
 {
     let addr = window(wsr, register)?;
@@ -132,8 +126,7 @@ fn place_of_long<B: Bus>(bus: &mut B, wsr: u8, register: u8) -> Result<u16, Kind
 #[tactic(auto, using(kc_exec_spec::proofs::Running::run_bind), unfolding(kc_exec_spec::specs::Parts::read_long))]
 pub fn read_long<B: Bus>(bus: &mut B, wsr: u8, register: u8) -> Result<u32, Kind>
     ensures gives { Gives (λ x. x) result (B.held bus.new) (run B.meaning (read_long wsr register) (B.held bus.old)) }
-    ensures spent { B.spent bus.new + B.allowed (B.held bus.old) ≤ B.spent bus.old + B.allowed (B.held bus.new) }
-    ensures same { B.lent bus.new ≡ B.lent bus.old }
+    ensures count { KeepsCount B.spent B.held B.allowed B.lent bus.old bus.new }
 {
     let addr = place_of_long(bus, wsr, register)?;
     let low = read_at(bus, false, addr)?;
@@ -147,8 +140,7 @@ pub fn read_long<B: Bus>(bus: &mut B, wsr: u8, register: u8) -> Result<u32, Kind
 #[tactic(auto, using(kc_exec_spec::proofs::Running::run_bind), unfolding(kc_exec_spec::specs::Parts::write_long))]
 pub fn write_long<B: Bus>(bus: &mut B, wsr: u8, register: u8, value: u32) -> Result<(), Kind>
     ensures gives { Gives (λ x. x) result (B.held bus.new) (run B.meaning (write_long wsr register value) (B.held bus.old)) }
-    ensures spent { B.spent bus.new + B.allowed (B.held bus.old) ≤ B.spent bus.old + B.allowed (B.held bus.new) }
-    ensures same { B.lent bus.new ≡ B.lent bus.old }
+    ensures count { KeepsCount B.spent B.held B.allowed B.lent bus.old bus.new }
 {
     let addr = place_of_long(bus, wsr, register)?;
     write_at(bus, false, addr, (value % 0x1_0000) as u16)?;
@@ -168,8 +160,7 @@ pub fn double_of(byte: bool) -> Size
 #[tactic(auto, using(kc_exec_spec::proofs::Running::run_bind), unfolding(kc_exec_spec::specs::Parts::read_sized))]
 pub fn read_sized<B: Bus>(bus: &mut B, size: Size, wsr: u8, register: u8) -> Result<u32, Kind>
     ensures gives { Gives (λ x. x) result (B.held bus.new) (run B.meaning (read_sized size wsr register) (B.held bus.old)) }
-    ensures spent { B.spent bus.new + B.allowed (B.held bus.old) ≤ B.spent bus.old + B.allowed (B.held bus.new) }
-    ensures same { B.lent bus.new ≡ B.lent bus.old }
+    ensures count { KeepsCount B.spent B.held B.allowed B.lent bus.old bus.new }
     ensures bound { IfOk result (λ n. n < sized_limit size) }
 {
     match size {
@@ -191,8 +182,7 @@ pub fn write_sized<B: Bus>(
 ) -> Result<(), Kind>
     requires { value < sized_limit size }
     ensures gives { Gives (λ x. x) result (B.held bus.new) (run B.meaning (write_sized size wsr register value) (B.held bus.old)) }
-    ensures spent { B.spent bus.new + B.allowed (B.held bus.old) ≤ B.spent bus.old + B.allowed (B.held bus.new) }
-    ensures same { B.lent bus.new ≡ B.lent bus.old }
+    ensures count { KeepsCount B.spent B.held B.allowed B.lent bus.old bus.new }
 {
     match size {
         Size::Byte => write_register(bus, true, wsr, register, value as u16),
@@ -206,8 +196,7 @@ pub fn write_sized<B: Bus>(
 #[tactic(auto, using(kc_exec_spec::proofs::Running::run_bind), unfolding(kc_exec_spec::specs::Parts::read_low_half))]
 pub fn read_low_half<B: Bus>(bus: &mut B, byte: bool, wsr: u8, register: u8) -> Result<u16, Kind>
     ensures gives { Gives (λ x. x) result (B.held bus.new) (run B.meaning (read_low_half byte wsr register) (B.held bus.old)) }
-    ensures spent { B.spent bus.new + B.allowed (B.held bus.old) ≤ B.spent bus.old + B.allowed (B.held bus.new) }
-    ensures same { B.lent bus.new ≡ B.lent bus.old }
+    ensures count { KeepsCount B.spent B.held B.allowed B.lent bus.old bus.new }
     ensures bound { IfOk result (λ n. n < limit byte) }
 {
     if byte {
@@ -222,8 +211,7 @@ pub fn read_low_half<B: Bus>(bus: &mut B, byte: bool, wsr: u8, register: u8) -> 
 #[tactic(auto, using(kc_exec_spec::proofs::Running::run_bind), unfolding(kc_exec_spec::specs::Parts::push))]
 pub fn push_word<B: Bus>(bus: &mut B, value: u16) -> Result<(), Kind>
     ensures gives { Gives (λ x. x) result (B.held bus.new) (run B.meaning (push value) (B.held bus.old)) }
-    ensures spent { B.spent bus.new + B.allowed (B.held bus.old) ≤ B.spent bus.old + B.allowed (B.held bus.new) }
-    ensures same { B.lent bus.new ≡ B.lent bus.old }
+    ensures count { KeepsCount B.spent B.held B.allowed B.lent bus.old bus.new }
 {
     let sp = read_at(bus, false, 0x18)?.wrapping_sub(2);
     write_at(bus, false, 0x18, sp)?;
@@ -235,8 +223,7 @@ pub fn push_word<B: Bus>(bus: &mut B, value: u16) -> Result<(), Kind>
 #[tactic(auto, using(kc_exec_spec::proofs::Running::run_bind), unfolding(kc_exec_spec::specs::Parts::pop))]
 pub fn pop_word<B: Bus>(bus: &mut B) -> Result<u16, Kind>
     ensures gives { Gives (λ x. x) result (B.held bus.new) (run B.meaning (pop) (B.held bus.old)) }
-    ensures spent { B.spent bus.new + B.allowed (B.held bus.old) ≤ B.spent bus.old + B.allowed (B.held bus.new) }
-    ensures same { B.lent bus.new ≡ B.lent bus.old }
+    ensures count { KeepsCount B.spent B.held B.allowed B.lent bus.old bus.new }
 {
     let sp = read_at(bus, false, 0x18)?;
     let value = read_at(bus, false, sp)?;

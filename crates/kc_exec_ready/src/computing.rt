@@ -1,10 +1,11 @@
 // What instructions do over a bus, with the address after them at hand: those that compute.
-ghost use Rattle.std.specs.Prelude.{◌≡◌, ◌+◌, ◌≤◌};
+ghost use Rattle.std.specs.Prelude.{◌≡◌};
 ghost use Rattle.kc_exec_spec.specs.declared.plan.Plan.TheVariants.{Compute as Computes};
 ghost use Rattle.kc_exec_spec.specs.declared.plan.Computation.TheVariants as computes;
 ghost use Rattle.kc_exec_spec.specs.Effect.{run};
 ghost use Rattle.kc_exec_spec.specs.Effects.{planned};
 ghost use Rattle.kc_exec_spec.specs.Jumping.{next_pc};
+ghost use Rattle.kc_bus.specs.Counting.{KeepsCount};
 ghost use Rattle.kc_exec_ready.specs.Preparing.{GoesOn};
 
 use crate::here::Here;
@@ -30,8 +31,7 @@ pub(crate) fn operate<B: Bus>(
 ) -> Result<bool, Kind>
     requires { here.next ≡ next_pc insn.now cpu.old.pc }
     ensures effect { GoesOn result cpu.old cpu.new (B.held bus.new) (run B.meaning (planned (Computes (computes.Operate op byte)) insn.now here.wsr cpu.old) (B.held bus.old)) }
-    ensures spent { B.spent bus.new + B.allowed (B.held bus.old) ≤ B.spent bus.old + B.allowed (B.held bus.new) }
-    ensures same { B.lent bus.new ≡ B.lent bus.old }
+    ensures count { KeepsCount B.spent B.held B.allowed B.lent bus.old bus.new }
 {
     cpu.psw_high = do_operate(bus, op, byte, here.wsr, insn, cpu.psw_high)?;
     cpu.pc = here.next;
@@ -50,8 +50,7 @@ pub(crate) fn alter<B: Bus>(
 ) -> Result<bool, Kind>
     requires { here.next ≡ next_pc insn.now cpu.old.pc }
     ensures effect { GoesOn result cpu.old cpu.new (B.held bus.new) (run B.meaning (planned (Computes (computes.Alter how byte)) insn.now here.wsr cpu.old) (B.held bus.old)) }
-    ensures spent { B.spent bus.new + B.allowed (B.held bus.old) ≤ B.spent bus.old + B.allowed (B.held bus.new) }
-    ensures same { B.lent bus.new ≡ B.lent bus.old }
+    ensures count { KeepsCount B.spent B.held B.allowed B.lent bus.old bus.new }
 {
     cpu.psw_high = do_alter(bus, how, byte, here.wsr, insn.regs[0], cpu.psw_high)?;
     cpu.pc = here.next;
@@ -69,8 +68,7 @@ pub(crate) fn extend<B: Bus>(
 ) -> Result<bool, Kind>
     requires { here.next ≡ next_pc insn.now cpu.old.pc }
     ensures effect { GoesOn result cpu.old cpu.new (B.held bus.new) (run B.meaning (planned (Computes (computes.Extend byte)) insn.now here.wsr cpu.old) (B.held bus.old)) }
-    ensures spent { B.spent bus.new + B.allowed (B.held bus.old) ≤ B.spent bus.old + B.allowed (B.held bus.new) }
-    ensures same { B.lent bus.new ≡ B.lent bus.old }
+    ensures count { KeepsCount B.spent B.held B.allowed B.lent bus.old bus.new }
 {
     cpu.psw_high = do_extend(bus, byte, here.wsr, insn.regs[0], cpu.psw_high)?;
     cpu.pc = here.next;
@@ -89,8 +87,7 @@ pub(crate) fn shift<B: Bus>(
 ) -> Result<bool, Kind>
     requires { here.next ≡ next_pc insn.now cpu.old.pc }
     ensures effect { GoesOn result cpu.old cpu.new (B.held bus.new) (run B.meaning (planned (Computes (computes.Shift how size)) insn.now here.wsr cpu.old) (B.held bus.old)) }
-    ensures spent { B.spent bus.new + B.allowed (B.held bus.old) ≤ B.spent bus.old + B.allowed (B.held bus.new) }
-    ensures same { B.lent bus.new ≡ B.lent bus.old }
+    ensures count { KeepsCount B.spent B.held B.allowed B.lent bus.old bus.new }
 {
     cpu.psw_high = do_shift(bus, how, size, here.wsr, insn, cpu.psw_high)?;
     cpu.pc = here.next;
@@ -107,8 +104,7 @@ pub(crate) fn normalize<B: Bus>(
 ) -> Result<bool, Kind>
     requires { here.next ≡ next_pc insn.now cpu.old.pc }
     ensures effect { GoesOn result cpu.old cpu.new (B.held bus.new) (run B.meaning (planned (Computes computes.Normalize) insn.now here.wsr cpu.old) (B.held bus.old)) }
-    ensures spent { B.spent bus.new + B.allowed (B.held bus.old) ≤ B.spent bus.old + B.allowed (B.held bus.new) }
-    ensures same { B.lent bus.new ≡ B.lent bus.old }
+    ensures count { KeepsCount B.spent B.held B.allowed B.lent bus.old bus.new }
 {
     cpu.psw_high = do_normalize(bus, here.wsr, insn, cpu.psw_high)?;
     cpu.pc = here.next;
@@ -127,8 +123,7 @@ pub(crate) fn multiply<B: Bus>(
 ) -> Result<bool, Kind>
     requires { here.next ≡ next_pc insn.now cpu.old.pc }
     ensures effect { GoesOn result cpu.old cpu.new (B.held bus.new) (run B.meaning (planned (Computes (computes.Multiply with_sign byte)) insn.now here.wsr cpu.old) (B.held bus.old)) }
-    ensures spent { B.spent bus.new + B.allowed (B.held bus.old) ≤ B.spent bus.old + B.allowed (B.held bus.new) }
-    ensures same { B.lent bus.new ≡ B.lent bus.old }
+    ensures count { KeepsCount B.spent B.held B.allowed B.lent bus.old bus.new }
 {
     do_multiply(bus, with_sign, byte, here.wsr, insn)?;
     cpu.pc = here.next;
@@ -147,8 +142,7 @@ pub(crate) fn divide<B: Bus>(
 ) -> Result<bool, Kind>
     requires { here.next ≡ next_pc insn.now cpu.old.pc }
     ensures effect { GoesOn result cpu.old cpu.new (B.held bus.new) (run B.meaning (planned (Computes (computes.Divide with_sign byte)) insn.now here.wsr cpu.old) (B.held bus.old)) }
-    ensures spent { B.spent bus.new + B.allowed (B.held bus.old) ≤ B.spent bus.old + B.allowed (B.held bus.new) }
-    ensures same { B.lent bus.new ≡ B.lent bus.old }
+    ensures count { KeepsCount B.spent B.held B.allowed B.lent bus.old bus.new }
 {
     cpu.psw_high = do_divide(bus, with_sign, byte, here.wsr, insn, cpu.psw_high)?;
     cpu.pc = here.next;
@@ -165,8 +159,7 @@ pub(crate) fn compare_long<B: Bus>(
 ) -> Result<bool, Kind>
     requires { here.next ≡ next_pc insn.now cpu.old.pc }
     ensures effect { GoesOn result cpu.old cpu.new (B.held bus.new) (run B.meaning (planned (Computes computes.CompareLong) insn.now here.wsr cpu.old) (B.held bus.old)) }
-    ensures spent { B.spent bus.new + B.allowed (B.held bus.old) ≤ B.spent bus.old + B.allowed (B.held bus.new) }
-    ensures same { B.lent bus.new ≡ B.lent bus.old }
+    ensures count { KeepsCount B.spent B.held B.allowed B.lent bus.old bus.new }
 {
     cpu.psw_high = do_compare_long(bus, here.wsr, insn, cpu.psw_high)?;
     cpu.pc = here.next;

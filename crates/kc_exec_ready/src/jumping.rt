@@ -1,10 +1,11 @@
 // What instructions do over a bus, with the address after them at hand: those that lead elsewhere.
-ghost use Rattle.std.specs.Prelude.{◌≡◌, ◌+◌, ◌≤◌, ◌%◌};
+ghost use Rattle.std.specs.Prelude.{◌≡◌, ◌%◌};
 ghost use Rattle.kc_exec_spec.specs.declared.plan.Plan.TheVariants.{Jump as Goes};
 ghost use Rattle.kc_exec_spec.specs.declared.plan.Route.TheVariants as goes;
 ghost use Rattle.kc_exec_spec.specs.Effect.{run};
 ghost use Rattle.kc_exec_spec.specs.Effects.{planned};
 ghost use Rattle.kc_exec_spec.specs.Jumping.{next_pc, branch_pc};
+ghost use Rattle.kc_bus.specs.Counting.{KeepsCount};
 ghost use Rattle.kc_exec_ready.specs.Preparing.{GoesOn};
 
 use crate::here::Here;
@@ -32,8 +33,7 @@ fn branched(here: Here, taken: bool, insn: &Insn, cpu: &Cpu) -> u16
 pub(crate) fn go<B: Bus>(bus: &mut B, insn: &Insn, here: Here, cpu: &mut Cpu) -> Result<bool, Kind>
     requires { here.next ≡ next_pc insn.now cpu.old.pc }
     ensures effect { GoesOn result cpu.old cpu.new (B.held bus.new) (run B.meaning (planned (Goes goes.Always) insn.now here.wsr cpu.old) (B.held bus.old)) }
-    ensures spent { B.spent bus.new + B.allowed (B.held bus.old) ≤ B.spent bus.old + B.allowed (B.held bus.new) }
-    ensures same { B.lent bus.new ≡ B.lent bus.old }
+    ensures count { KeepsCount B.spent B.held B.allowed B.lent bus.old bus.new }
 {
     cpu.pc = branched(here, true, insn, cpu);
     Ok(false)
@@ -49,8 +49,7 @@ pub(crate) fn call<B: Bus>(
 ) -> Result<bool, Kind>
     requires { here.next ≡ next_pc insn.now cpu.old.pc }
     ensures effect { GoesOn result cpu.old cpu.new (B.held bus.new) (run B.meaning (planned (Goes goes.Call) insn.now here.wsr cpu.old) (B.held bus.old)) }
-    ensures spent { B.spent bus.new + B.allowed (B.held bus.old) ≤ B.spent bus.old + B.allowed (B.held bus.new) }
-    ensures same { B.lent bus.new ≡ B.lent bus.old }
+    ensures count { KeepsCount B.spent B.held B.allowed B.lent bus.old bus.new }
 {
     push_word(bus, here.next)?;
     cpu.pc = branched(here, true, insn, cpu);
@@ -67,8 +66,7 @@ pub(crate) fn come_back<B: Bus>(
 ) -> Result<bool, Kind>
     requires { here.next ≡ next_pc insn.now cpu.old.pc }
     ensures effect { GoesOn result cpu.old cpu.new (B.held bus.new) (run B.meaning (planned (Goes goes.Return) insn.now here.wsr cpu.old) (B.held bus.old)) }
-    ensures spent { B.spent bus.new + B.allowed (B.held bus.old) ≤ B.spent bus.old + B.allowed (B.held bus.new) }
-    ensures same { B.lent bus.new ≡ B.lent bus.old }
+    ensures count { KeepsCount B.spent B.held B.allowed B.lent bus.old bus.new }
 {
     let pc = pop_word(bus)?;
     cpu.pc = pc;
@@ -87,8 +85,7 @@ pub(crate) fn go_where<B: Bus>(
 ) -> Result<bool, Kind>
     requires { here.next ≡ next_pc insn.now cpu.old.pc }
     ensures effect { GoesOn result cpu.old cpu.new (B.held bus.new) (run B.meaning (planned (Goes (goes.When test wanted)) insn.now here.wsr cpu.old) (B.held bus.old)) }
-    ensures spent { B.spent bus.new + B.allowed (B.held bus.old) ≤ B.spent bus.old + B.allowed (B.held bus.new) }
-    ensures same { B.lent bus.new ≡ B.lent bus.old }
+    ensures count { KeepsCount B.spent B.held B.allowed B.lent bus.old bus.new }
 {
     let taken = is_met(test, wanted, cpu.psw_high);
     cpu.pc = branched(here, taken, insn, cpu);
@@ -107,8 +104,7 @@ pub(crate) fn go_on_bit<B: Bus>(
 ) -> Result<bool, Kind>
     requires { here.next ≡ next_pc insn.now cpu.old.pc }
     ensures effect { GoesOn result cpu.old cpu.new (B.held bus.new) (run B.meaning (planned (Goes (goes.Bit set)) insn.now here.wsr cpu.old) (B.held bus.old)) }
-    ensures spent { B.spent bus.new + B.allowed (B.held bus.old) ≤ B.spent bus.old + B.allowed (B.held bus.new) }
-    ensures same { B.lent bus.new ≡ B.lent bus.old }
+    ensures count { KeepsCount B.spent B.held B.allowed B.lent bus.old bus.new }
 {
     let taken = is_bit_jump(bus, set, insn.opcode % 8, here.wsr, insn.regs[0])?;
     cpu.pc = branched(here, taken, insn, cpu);
@@ -126,8 +122,7 @@ pub(crate) fn count_down<B: Bus>(
 ) -> Result<bool, Kind>
     requires { here.next ≡ next_pc insn.now cpu.old.pc }
     ensures effect { GoesOn result cpu.old cpu.new (B.held bus.new) (run B.meaning (planned (Goes (goes.CountDown byte)) insn.now here.wsr cpu.old) (B.held bus.old)) }
-    ensures spent { B.spent bus.new + B.allowed (B.held bus.old) ≤ B.spent bus.old + B.allowed (B.held bus.new) }
-    ensures same { B.lent bus.new ≡ B.lent bus.old }
+    ensures count { KeepsCount B.spent B.held B.allowed B.lent bus.old bus.new }
 {
     let taken = is_counted(bus, byte, here.wsr, insn.regs[0])?;
     cpu.pc = branched(here, taken, insn, cpu);
@@ -144,8 +139,7 @@ pub(crate) fn go_by_table<B: Bus>(
 ) -> Result<bool, Kind>
     requires { here.next ≡ next_pc insn.now cpu.old.pc }
     ensures effect { GoesOn result cpu.old cpu.new (B.held bus.new) (run B.meaning (planned (Goes goes.Table) insn.now here.wsr cpu.old) (B.held bus.old)) }
-    ensures spent { B.spent bus.new + B.allowed (B.held bus.old) ≤ B.spent bus.old + B.allowed (B.held bus.new) }
-    ensures same { B.lent bus.new ≡ B.lent bus.old }
+    ensures count { KeepsCount B.spent B.held B.allowed B.lent bus.old bus.new }
 {
     let pc = read_table(bus, here.wsr, insn)?;
     cpu.pc = pc;
@@ -162,8 +156,7 @@ pub(crate) fn go_by_register<B: Bus>(
 ) -> Result<bool, Kind>
     requires { here.next ≡ next_pc insn.now cpu.old.pc }
     ensures effect { GoesOn result cpu.old cpu.new (B.held bus.new) (run B.meaning (planned (Goes goes.Register) insn.now here.wsr cpu.old) (B.held bus.old)) }
-    ensures spent { B.spent bus.new + B.allowed (B.held bus.old) ≤ B.spent bus.old + B.allowed (B.held bus.new) }
-    ensures same { B.lent bus.new ≡ B.lent bus.old }
+    ensures count { KeepsCount B.spent B.held B.allowed B.lent bus.old bus.new }
 {
     let pc = read_register(bus, false, here.wsr, insn.regs[0])?;
     cpu.pc = pc;

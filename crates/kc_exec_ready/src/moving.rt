@@ -1,10 +1,11 @@
 // What instructions do over a bus, with the address after them at hand: those that move a number.
-ghost use Rattle.std.specs.Prelude.{◌≡◌, ◌+◌, ◌≤◌};
+ghost use Rattle.std.specs.Prelude.{◌≡◌};
 ghost use Rattle.kc_exec_spec.specs.declared.plan.Plan.TheVariants.{Move as Moves};
 ghost use Rattle.kc_exec_spec.specs.declared.plan.Movement.TheVariants as moves;
 ghost use Rattle.kc_exec_spec.specs.Effect.{run};
 ghost use Rattle.kc_exec_spec.specs.Effects.{planned};
 ghost use Rattle.kc_exec_spec.specs.Jumping.{next_pc};
+ghost use Rattle.kc_bus.specs.Counting.{KeepsCount};
 ghost use Rattle.kc_exec_ready.specs.Preparing.{GoesOn};
 
 use crate::here::Here;
@@ -25,8 +26,7 @@ pub(crate) fn load<B: Bus>(
 ) -> Result<bool, Kind>
     requires { here.next ≡ next_pc insn.now cpu.old.pc }
     ensures effect { GoesOn result cpu.old cpu.new (B.held bus.new) (run B.meaning (planned (Moves (moves.Load byte)) insn.now here.wsr cpu.old) (B.held bus.old)) }
-    ensures spent { B.spent bus.new + B.allowed (B.held bus.old) ≤ B.spent bus.old + B.allowed (B.held bus.new) }
-    ensures same { B.lent bus.new ≡ B.lent bus.old }
+    ensures count { KeepsCount B.spent B.held B.allowed B.lent bus.old bus.new }
 {
     do_load(bus, byte, here.wsr, insn)?;
     cpu.pc = here.next;
@@ -43,8 +43,7 @@ pub(crate) fn load_zeros<B: Bus>(
 ) -> Result<bool, Kind>
     requires { here.next ≡ next_pc insn.now cpu.old.pc }
     ensures effect { GoesOn result cpu.old cpu.new (B.held bus.new) (run B.meaning (planned (Moves moves.ZeroExtend) insn.now here.wsr cpu.old) (B.held bus.old)) }
-    ensures spent { B.spent bus.new + B.allowed (B.held bus.old) ≤ B.spent bus.old + B.allowed (B.held bus.new) }
-    ensures same { B.lent bus.new ≡ B.lent bus.old }
+    ensures count { KeepsCount B.spent B.held B.allowed B.lent bus.old bus.new }
 {
     do_load_extended(bus, false, here.wsr, insn)?;
     cpu.pc = here.next;
@@ -61,8 +60,7 @@ pub(crate) fn load_sign<B: Bus>(
 ) -> Result<bool, Kind>
     requires { here.next ≡ next_pc insn.now cpu.old.pc }
     ensures effect { GoesOn result cpu.old cpu.new (B.held bus.new) (run B.meaning (planned (Moves moves.SignExtend) insn.now here.wsr cpu.old) (B.held bus.old)) }
-    ensures spent { B.spent bus.new + B.allowed (B.held bus.old) ≤ B.spent bus.old + B.allowed (B.held bus.new) }
-    ensures same { B.lent bus.new ≡ B.lent bus.old }
+    ensures count { KeepsCount B.spent B.held B.allowed B.lent bus.old bus.new }
 {
     do_load_extended(bus, true, here.wsr, insn)?;
     cpu.pc = here.next;
@@ -80,8 +78,7 @@ pub(crate) fn store<B: Bus>(
 ) -> Result<bool, Kind>
     requires { here.next ≡ next_pc insn.now cpu.old.pc }
     ensures effect { GoesOn result cpu.old cpu.new (B.held bus.new) (run B.meaning (planned (Moves (moves.Store byte)) insn.now here.wsr cpu.old) (B.held bus.old)) }
-    ensures spent { B.spent bus.new + B.allowed (B.held bus.old) ≤ B.spent bus.old + B.allowed (B.held bus.new) }
-    ensures same { B.lent bus.new ≡ B.lent bus.old }
+    ensures count { KeepsCount B.spent B.held B.allowed B.lent bus.old bus.new }
 {
     do_store(bus, byte, here.wsr, insn)?;
     cpu.pc = here.next;
@@ -99,8 +96,7 @@ pub(crate) fn exchange<B: Bus>(
 ) -> Result<bool, Kind>
     requires { here.next ≡ next_pc insn.now cpu.old.pc }
     ensures effect { GoesOn result cpu.old cpu.new (B.held bus.new) (run B.meaning (planned (Moves (moves.Exchange byte)) insn.now here.wsr cpu.old) (B.held bus.old)) }
-    ensures spent { B.spent bus.new + B.allowed (B.held bus.old) ≤ B.spent bus.old + B.allowed (B.held bus.new) }
-    ensures same { B.lent bus.new ≡ B.lent bus.old }
+    ensures count { KeepsCount B.spent B.held B.allowed B.lent bus.old bus.new }
 {
     do_exchange(bus, byte, here.wsr, insn)?;
     cpu.pc = here.next;
@@ -117,8 +113,7 @@ pub(crate) fn push<B: Bus>(
 ) -> Result<bool, Kind>
     requires { here.next ≡ next_pc insn.now cpu.old.pc }
     ensures effect { GoesOn result cpu.old cpu.new (B.held bus.new) (run B.meaning (planned (Moves moves.Push) insn.now here.wsr cpu.old) (B.held bus.old)) }
-    ensures spent { B.spent bus.new + B.allowed (B.held bus.old) ≤ B.spent bus.old + B.allowed (B.held bus.new) }
-    ensures same { B.lent bus.new ≡ B.lent bus.old }
+    ensures count { KeepsCount B.spent B.held B.allowed B.lent bus.old bus.new }
 {
     do_push(bus, here.wsr, insn)?;
     cpu.pc = here.next;
@@ -130,8 +125,7 @@ pub(crate) fn push<B: Bus>(
 pub(crate) fn pop<B: Bus>(bus: &mut B, insn: &Insn, here: Here, cpu: &mut Cpu) -> Result<bool, Kind>
     requires { here.next ≡ next_pc insn.now cpu.old.pc }
     ensures effect { GoesOn result cpu.old cpu.new (B.held bus.new) (run B.meaning (planned (Moves moves.Pop) insn.now here.wsr cpu.old) (B.held bus.old)) }
-    ensures spent { B.spent bus.new + B.allowed (B.held bus.old) ≤ B.spent bus.old + B.allowed (B.held bus.new) }
-    ensures same { B.lent bus.new ≡ B.lent bus.old }
+    ensures count { KeepsCount B.spent B.held B.allowed B.lent bus.old bus.new }
 {
     do_pop(bus, here.wsr, insn)?;
     cpu.pc = here.next;

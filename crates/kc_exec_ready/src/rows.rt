@@ -1,10 +1,11 @@
 // A prepared instruction is performed by one match on its mnemonic.
-ghost use Rattle.std.specs.Prelude.{◌≡◌, ◌+◌, ◌≤◌, true};
+ghost use Rattle.std.specs.Prelude.{◌≡◌, true};
 ghost use Rattle.kc_exec_spec.specs.declared.plan.Plan.TheVariants.{Save as Saves, Set as Sets};
 ghost use Rattle.kc_exec_spec.specs.Effect.{run};
 ghost use Rattle.kc_exec_spec.specs.Effects.{planned, effect_of};
 ghost use Rattle.kc_exec_spec.specs.Jumping.{next_pc};
 ghost use Rattle.kc_exec_spec.specs.Plans.{plan_of};
+ghost use Rattle.kc_bus.specs.Counting.{KeepsCount};
 ghost use Rattle.kc_exec_ready.specs.Preparing.{is_free, is_free_setting, IsReady, GoesOn, ready_of};
 
 use crate::computing::{alter, compare_long, divide, extend, multiply, normalize, operate, shift};
@@ -33,8 +34,7 @@ fn save<B: Bus>(
 ) -> Result<bool, Kind>
     requires { here.next ≡ next_pc insn.now cpu.old.pc }
     ensures effect { GoesOn result cpu.old cpu.new (B.held bus.new) (run B.meaning (planned (Saves how) insn.now here.wsr cpu.old) (B.held bus.old)) }
-    ensures spent { B.spent bus.new + B.allowed (B.held bus.old) ≤ B.spent bus.old + B.allowed (B.held bus.new) }
-    ensures same { B.lent bus.new ≡ B.lent bus.old }
+    ensures count { KeepsCount B.spent B.held B.allowed B.lent bus.old bus.new }
 {
     cpu.psw_high = do_save(bus, how, cpu.psw_high)?;
     cpu.pc = here.next;
@@ -73,8 +73,7 @@ fn perform_row<B: Bus>(
     requires free { is_free (plan_of mnemonic) ≡ true }
     requires next { here.next ≡ next_pc insn.now cpu.old.pc }
     ensures effect { GoesOn result cpu.old cpu.new (B.held bus.new) (run B.meaning (planned (plan_of mnemonic) insn.now here.wsr cpu.old) (B.held bus.old)) }
-    ensures spent { B.spent bus.new + B.allowed (B.held bus.old) ≤ B.spent bus.old + B.allowed (B.held bus.new) }
-    ensures same { B.lent bus.new ≡ B.lent bus.old }
+    ensures count { KeepsCount B.spent B.held B.allowed B.lent bus.old bus.new }
 {
     match mnemonic {
         Mnemonic::Add => operate(bus, Operation::Add, false, insn, here, cpu),
@@ -183,8 +182,7 @@ fn perform_in_window<B: Bus>(
     requires free { is_free (plan_of mnemonic) ≡ true }
     requires next { here.next ≡ next_pc insn.now cpu.old.pc }
     ensures effect { GoesOn result cpu.old cpu.new (B.held bus.new) (run B.meaning (planned (plan_of mnemonic) insn.now here.wsr cpu.old) (B.held bus.old)) }
-    ensures spent { B.spent bus.new + B.allowed (B.held bus.old) ≤ B.spent bus.old + B.allowed (B.held bus.new) }
-    ensures same { B.lent bus.new ≡ B.lent bus.old }
+    ensures count { KeepsCount B.spent B.held B.allowed B.lent bus.old bus.new }
 {
     perform_row(mnemonic, insn, here, cpu, bus)
 }
@@ -201,8 +199,7 @@ fn perform_here<B: Bus>(
     requires free { is_free (plan_of mnemonic) ≡ true }
     requires next { here.next ≡ next_pc insn.now cpu.old.pc }
     ensures effect { GoesOn result cpu.old cpu.new (B.held bus.new) (run B.meaning (planned (plan_of mnemonic) insn.now here.wsr cpu.old) (B.held bus.old)) }
-    ensures spent { B.spent bus.new + B.allowed (B.held bus.old) ≤ B.spent bus.old + B.allowed (B.held bus.new) }
-    ensures same { B.lent bus.new ≡ B.lent bus.old }
+    ensures count { KeepsCount B.spent B.held B.allowed B.lent bus.old bus.new }
 {
     if here.wsr == 0 {
         perform_row(mnemonic, insn, here, cpu, bus)
@@ -219,8 +216,7 @@ pub fn perform_ready<B: Bus>(ready: &Ready, cpu: &mut Cpu, bus: &mut B) -> Resul
     requires ready { IsReady ready.now }
     requires free { is_free (plan_of ready.now.mnemonic) ≡ true }
     ensures effect { GoesOn result cpu.old cpu.new (B.held bus.new) (run B.meaning (effect_of ready.now.insn cpu.old) (B.held bus.old)) }
-    ensures spent { B.spent bus.new + B.allowed (B.held bus.old) ≤ B.spent bus.old + B.allowed (B.held bus.new) }
-    ensures same { B.lent bus.new ≡ B.lent bus.old }
+    ensures count { KeepsCount B.spent B.held B.allowed B.lent bus.old bus.new }
 {
     let here = Here {
         next: cpu.pc.wrapping_add(u16::from(ready.length)),

@@ -73,6 +73,13 @@ pub fn fixed(number: u16) -> Value
     }
 }
 
+/// Whether a value counts from nothing: its number is known before anything is placed.
+pub fn is_fixed(base: Base) -> bool
+    ensures { result ≡ meaning.is_fixed base }
+{
+    matches!(base, Base::Fixed)
+}
+
 fn number(n: u32) -> Result<Value, NoValue>
     ensures { result ≡ number_answer n }
 {

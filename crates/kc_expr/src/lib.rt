@@ -10,7 +10,7 @@ pub mod parser;
 pub mod symbols;
 pub mod values;
 
-pub use evaluate::{Scope, fixed, value, value_over};
+pub use evaluate::{Scope, fixed, is_fixed, value, value_over};
 pub use expr::{Binary, Expr, Unary};
 pub use laws::{expressions_are_alike, expressions_are_known};
 pub use operators::is_type;

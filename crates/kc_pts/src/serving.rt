@@ -1,5 +1,6 @@
-ghost use Rattle.std.specs.Prelude.{◌≡◌, ◌+◌, ◌≤◌, ◌<◌, IfOk, None, true};
+ghost use Rattle.std.specs.Prelude.{◌≡◌, ◌<◌, IfOk, None, true};
 ghost use Rattle.kc_exec_spec.specs.Effect.{run};
+ghost use Rattle.kc_bus.specs.Counting.{KeepsCount};
 ghost use Rattle.kc_pts.specs.Cycles.{is_block, served, Serves};
 
 use crate::cycle::{Cycle, Left};
@@ -17,8 +18,7 @@ pub fn serve<B: Bus>(cycle: &mut Cycle, bus: &mut B) -> Result<Option<u8>, Kind>
     ensures effect { Serves result cycle.old cycle.new (B.held bus.new) (run B.meaning (served cycle.old) (B.held bus.old)) }
     ensures block { cycle.new.block ≡ cycle.old.block }
     ensures more { IfOk result (λ count. count ≡ None → 0 < cycle.new.left) }
-    ensures spent { B.spent bus.new + B.allowed (B.held bus.old) ≤ B.spent bus.old + B.allowed (B.held bus.new) }
-    ensures same { B.lent bus.new ≡ B.lent bus.old }
+    ensures count { KeepsCount B.spent B.held B.allowed B.lent bus.old bus.new }
 {
     match transfer(cycle, bus) {
         Ok(Left::More) => Ok(None),

@@ -1,4 +1,5 @@
-ghost use Rattle.std.specs.Prelude.{◌≡◌, ◌+◌, ◌<◌, ◌≤◌, ◌*◌, ◌^◌, bit_xor};
+ghost use Rattle.std.specs.Prelude.{◌≡◌, ◌+◌, ◌≤◌, ◌*◌, ◌^◌, bit_xor};
+ghost use Rattle.kc_base.specs.Fresh.{IsFresh};
 ghost use Rattle.kc_base.specs.Bits.{bit};
 
 use crate::Serial;
@@ -60,9 +61,7 @@ fn level(high: bool) -> Level {
 fn sends<L: Ledger>(rt: &impl Abort, rate: u8, bit: u64, end: u64, blank: Blank)
     requires some { 8 ≤ bit }
     requires bound { end ≤ 1000 }
-    requires name { blank.name ≡ L.name }
-    requires parts { blank.parts ≡ L.parts }
-    requires whole { 0 < L.parts }
+    requires fresh { IsFresh blank L.name L.parts }
 {
     let mut steps = Steps::<L>::new(blank);
     let mut port = port_at(rate, 1);
@@ -95,9 +94,7 @@ fn a_byte_is_sent_at_a_third_of_it(rt: HostRuntime) {
 
 // 0FH, and 81H in place of 33H; or nothing behind 0FH, where the port is turned off.
 fn waits<L: Ledger>(rt: &impl Abort, off: bool, blank: Blank)
-    requires name { blank.name ≡ L.name }
-    requires parts { blank.parts ≡ L.parts }
-    requires some { 0 < L.parts }
+    requires fresh { IsFresh blank L.name L.parts }
 {
     let mut steps = Steps::<L>::new(blank);
     let mut port = port_at(0, 1);
@@ -139,9 +136,7 @@ fn a_port_turned_off_loses_the_byte_that_waits(rt: HostRuntime) {
 
 // RXD changes each 8 states from 100 to 172; from 300 on it is low.
 fn receives<L: Ledger>(rt: &impl Abort, blank: Blank)
-    requires name { blank.name ≡ L.name }
-    requires parts { blank.parts ≡ L.parts }
-    requires some { 0 < L.parts }
+    requires fresh { IsFresh blank L.name L.parts }
 {
     let mut steps = Steps::<L>::new(blank);
     let mut port = port_at(0, 9);
@@ -171,9 +166,7 @@ fn a_byte_is_received_and_framing_and_overrun_are_told(rt: HostRuntime) {
 
 // At each of ten rates each byte goes from one port to another, whose RXD is the TXD of the first.
 fn carries<L: Ledger>(rt: &impl Abort, blank: Blank)
-    requires name { blank.name ≡ L.name }
-    requires parts { blank.parts ≡ L.parts }
-    requires some { 0 < L.parts }
+    requires fresh { IsFresh blank L.name L.parts }
 {
     let mut steps = Steps::<L>::new(blank);
     for rate in 0..10u8 {

@@ -1,4 +1,4 @@
-ghost use Rattle.std.specs.Prelude.{◌≡◌, ◌<◌};
+ghost use Rattle.kc_base.specs.Fresh.{IsFresh};
 
 use crate::{T2Control, T2Inputs, T2Out, Timer2, timer1, timer1_due};
 use kc_base::Steps;
@@ -81,9 +81,7 @@ fn timer1_reads_and_overflows(rt: HostRuntime) {
 }
 
 fn ticks<L: Ledger>(rt: &impl Abort, blank: Blank)
-    requires name { blank.name ≡ L.name }
-    requires parts { blank.parts ≡ L.parts }
-    requires some { 0 < L.parts }
+    requires fresh { IsFresh blank L.name L.parts }
 {
     let mut steps = Steps::<L>::new(blank);
     for (control, inputs, now, before, after, captured, out) in [
@@ -110,9 +108,7 @@ fn one_tick(rt: HostRuntime) {
 }
 
 fn dues<L: Ledger>(rt: &impl Abort, blank: Blank)
-    requires name { blank.name ≡ L.name }
-    requires parts { blank.parts ≡ L.parts }
-    requires some { 0 < L.parts }
+    requires fresh { IsFresh blank L.name L.parts }
 {
     let mut steps = Steps::<L>::new(blank);
     for (control, now, value, due) in [
@@ -137,9 +133,7 @@ fn next_overflow(rt: HostRuntime) {
 
 // Two hundred thousand spans of 524,280 states each.
 fn spans<L: Ledger>(rt: &impl Abort, blank: Blank)
-    requires name { blank.name ≡ L.name }
-    requires parts { blank.parts ≡ L.parts }
-    requires some { 0 < L.parts }
+    requires fresh { IsFresh blank L.name L.parts }
 {
     let mut steps = Steps::<L>::new(blank);
     let mut timer = Timer2::new();
