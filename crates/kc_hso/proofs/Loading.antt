@@ -1,13 +1,17 @@
 -- A load leaves all but the holding register, and so HSO does the same up to where an empty slot takes it.
-use Rattle.std.proofs.Common.{◌≡◌, ℕ, zero, suc, ◌+◌, ◌-◌, ◌%◌, ◌<◌, ◌≤◌, Bool, true, false, not, ◌||◌, refl, sym, ◌∙◌, ap, subst, arith, Option, Some, None, List, [], ◌∷◌, map}
-use Rattle.std.specs.Prelude.{slice_index_or, is_none}
+use Rattle.std.proofs.Common.{◌≡◌, ℕ, zero, suc, ◌+◌, ◌-◌, ◌%◌, ◌<◌, ◌≤◌, true, false, refl, sym, ◌∙◌, ap, subst, arith, Option, Some, None, List, [], ◌∷◌, map, length}
+use Rattle.std.specs.Prelude.{slice_index_or, is_none, is_some}
 use Rattle.kc_span.specs.Span.{after, QuietFor, IsDue, least_of}
 use Rattle.kc_span.proofs.SpanLaws.{after-zero, after-suc, least_holds}
+use Rattle.kc_timers.specs.declared.T2View.{T2View}
+use Rattle.kc_timers.specs.T2.{value_at}
 use Rattle.kc_hso.specs.declared.cam.Entry.{Entry}
 use Rattle.kc_hso.specs.declared.cam.Held.{Held}
-use Rattle.kc_hso.specs.Cam.{Cam, cam_rule, slot_at}
+use Rattle.kc_hso.specs.Cam.{Cam, cam_rule, hso_rule, slot_at}
 use Rattle.kc_hso.specs.Kept.{command_of}
 use Rattle.kc_hso.specs.Loading.{IsFirstEmpty, LoadsAreDue}
+use Rattle.kc_hso.specs.Visits.{IsDueOutside}
+use Rattle.kc_hso.proofs.DueTimes.{hso_due}
 use Rattle.kc_hso.proofs.Kept.{quiet_keeps}
 
 -- a slot is empty where it has no command
@@ -104,3 +108,24 @@ module _ (line : ℕ → ℕ) (held : Held) where
 
 pub loads_due : LoadsAreDue
 loads_due line from time d due visit is first = held_due line (record { command = d.command; time = time }) from d due visit is first
+
+-- when the memory is due, by its entries alone where nothing is held, and else by the first empty slot too
+module _ (view : T2View) (from : ℕ) (d : Cam) (due : Option ℕ) (eight : length d.slots ≡ 8) (entries : IsDueOutside view from (record d { holding = None }) 0 due) where
+  abbrev entries_due : IsDue (hso_rule view from) from (record d { holding = None }) due
+  entries_due = hso_due view from (record d { holding = None }) due eight entries
+
+  pub idle_due : is_some d.holding ≡ false → IsDue (hso_rule view from) from d due
+  idle_due none = by d.holding refl
+    where
+      by : (o : Option Held) → d.holding ≡ o → IsDue (hso_rule view from) from d due
+      by None e = subst (λ h. IsDue (hso_rule view from) from (record d { holding = h }) due) (sym e) entries_due
+      by (Some held) e = absurd (cc)
+
+  pub loaded_due : (visit : Option ℕ) → is_some d.holding ≡ true → IsFirstEmpty from d.slots visit → IsDue (hso_rule view from) from d (least_of due visit)
+  loaded_due visit some first = by d.holding refl
+    where
+      by : (o : Option Held) → d.holding ≡ o → IsDue (hso_rule view from) from d (least_of due visit)
+      by None e = absurd (cc)
+      by (Some held) e =
+          subst (λ h. IsDue (hso_rule view from) from (record d { holding = h }) (least_of due visit)) (sym e)
+          (held_due (value_at view from) held from (record d { holding = None }) due visit entries_due first)
