@@ -4,7 +4,7 @@ use Rattle.std.proofs.lemmas.Bool.{cases_eq, cases_lt}
 use Rattle.std.proofs.lemmas.List.{get_or-set_same, get_or-set_other, length-set}
 use Rattle.std.specs.Prelude.{slice_set, replicate}
 use Rattle.kc_due.specs.Due.{Times, at_slot, IsFirst, IsFirstBelow}
-use Rattle.kc_due.specs.Firsts.{IsKept}
+use Rattle.kc_due.specs.Firsts.{IsKept, AreBlankFrom}
 
 same_time : {a b : ℕ} → ◌≡◌ {A = Option ℕ} (Some a) (Some b) → a ≡ b
 same_time e = cc
@@ -145,13 +145,35 @@ slot_here old new slot at lt long e = ap (λ m. at_slot m slot) e ∙ here_is ol
 pub slot_other : (old new : Times) (slot k : ℕ) (at : Option ℕ) → k ≢ slot → new ≡ slice_set old slot at → at_slot new k ≡ at_slot old k
 slot_other old new slot k at other e = ap (λ m. at_slot m k) e ∙ other_is old slot k at other
 
-pub kept : (old : Times) (slot : ℕ) (at : Option ℕ) (first : Option (ℕ × ℕ)) → length old ≡ 16 → IsFirst (slice_set old slot at) first → IsKept (slice_set old slot at) first
-kept old slot at first long is = record { sixteen = length-set old slot at ∙ long; least = is }
+pub kept : (old : Times) (slot : ℕ) (at : Option ℕ) (first : Option (ℕ × ℕ)) (used : ℕ) → length old ≡ 16 → IsFirst (slice_set old slot at) first → used ≤ 16 →
+    AreBlankFrom used (slice_set old slot at) → IsKept (slice_set old slot at) first used
+kept old slot at first used long is some blank = record { sixteen = length-set old slot at ∙ long; least = is; some = some; blank = blank }
+
+-- the first of the slots that are used is the first of all
+pub of_all : (times : Times) (used : ℕ) (best : Option (ℕ × ℕ)) → used ≤ 16 → AreBlankFrom used times → IsFirstBelow times used best → IsFirst times best
+of_all times used None some blank none = λ k kt. elim (cases_lt k used) [ inl low ↦ none k low | inr high ↦ blank k high ]
+of_all times used (Some found) some blank first = (
+  omega (arith, first.0),
+  first.1,
+  λ k time kt is. elim (cases_lt k used) [
+    | inl low ↦ first.2 k time low is
+    | inr high ↦ let no : at_slot times k ≡ None = blank k high in absurd (cc)
+  ],
+)
+
+pub blank_without : (old : Times) (slot used : ℕ) → slot < 16 → length old ≡ 16 → AreBlankFrom used old → AreBlankFrom used (slice_set old slot None)
+blank_without old slot used lt long blank = λ k above. elim (cases_eq k slot) [
+  | inl same ↦ ap (at_slot (slice_set old slot None)) same ∙ here_is old slot None lt long
+  | inr different ↦ other_is old slot k None different ∙ blank k above
+]
+
+pub blank_with : (old : Times) (slot at used more : ℕ) → used ≤ more → slot < more → AreBlankFrom used old → AreBlankFrom more (slice_set old slot (Some at))
+blank_with old slot at used more grows holds blank = λ k above. other_is old slot k (Some at) (λ e. omega (arith, above, holds)) ∙ blank k (omega (arith, above, grows))
 
 none_of : (n k : ℕ) → at_slot (replicate n None) k ≡ None
 none_of zero k = refl
 none_of (suc n) zero = refl
 none_of (suc n) (suc k) = none_of n k
 
-pub blank : IsKept (replicate 16 None) None
-blank = record { sixteen = refl; least = λ k kt. none_of 16 k }
+pub blank : IsKept (replicate 16 None) None 0
+blank = record { sixteen = refl; least = λ k kt. none_of 16 k; some = omega arith; blank = λ k above. none_of 16 k }

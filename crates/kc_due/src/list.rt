@@ -1,7 +1,7 @@
 //! Sixteen times, and the first of them, which is sought anew only where the slot that had it has lost it.
 ghost use Rattle.std.specs.Prelude.{◌≡◌, ℕ, ◌+◌, ◌*◌, ◌<◌, ◌≤◌, ◌↔◌, ◌≢◌, IsTrue, replicate, Some, None, slice_set, length};
 ghost use Rattle.kc_due.specs.Due.{Times, at_slot, IsFirst, IsFirstBelow};
-ghost use Rattle.kc_due.specs.Firsts.{IsInside};
+ghost use Rattle.kc_due.specs.Firsts.{IsInside, AreBlankFrom};
 
 use kc_base::StateTime;
 use std::marker::Model;
@@ -12,6 +12,8 @@ pub struct DueList {
     times: [Option<StateTime>; 16],
     // (the slot is as wide as its time: so the pair has no bytes between that are copied)
     first: Option<(u64, StateTime)>,
+    // (no slot from here on was ever given a time: none is looked for there)
+    used: u64,
 }
 
 impl Model for DueList {
@@ -23,7 +25,7 @@ impl Model for DueList {
 
     ghost view = { λ d. d.times };
 
-    ghost invariant = { λ d. IsKept d.times d.first };
+    ghost invariant = { λ d. IsKept d.times d.first d.used };
 }
 
 impl DueList {
@@ -35,6 +37,7 @@ impl DueList {
         DueList {
             times: [None; 16],
             first: None,
+            used: 0,
         }
     }
 
@@ -57,7 +60,7 @@ impl DueList {
     }
 
     /// Takes the slot's time away, if it has one; the other slots keep theirs.
-    #[tactic(auto, using(crate::proofs::Firsts::slot_here, crate::proofs::Firsts::slot_other, crate::proofs::Firsts::kept))]
+    #[tactic(auto, using(crate::proofs::Firsts::slot_here, crate::proofs::Firsts::slot_other, crate::proofs::Firsts::kept, crate::proofs::Firsts::blank_without))]
     pub fn clear(&mut self, slot: u8)
         requires { slot < 16 }
         ensures whole { self.new ≡ slice_set self.old slot None }
@@ -65,11 +68,11 @@ impl DueList {
         ensures others { (k : ℕ) → k ≢ slot → at_slot self.new k ≡ at_slot self.old k }
     {
         self.times[slot as usize] = None;
-        self.first = first_without(&self.times, self.first, u64::from(slot));
+        self.first = first_without(&self.times, self.used, self.first, u64::from(slot));
     }
 
     /// Gives the slot a time, in place of the one that it has; the other slots keep theirs.
-    #[tactic(auto, using(crate::proofs::Firsts::slot_here, crate::proofs::Firsts::slot_other, crate::proofs::Firsts::kept))]
+    #[tactic(auto, using(crate::proofs::Firsts::slot_here, crate::proofs::Firsts::slot_other, crate::proofs::Firsts::kept, crate::proofs::Firsts::blank_with))]
     pub fn set(&mut self, slot: u8, at: StateTime)
         requires { slot < 16 }
         ensures whole { self.new ≡ slice_set self.old slot (Some at) }
@@ -77,7 +80,8 @@ impl DueList {
         ensures others { (k : ℕ) → k ≢ slot → at_slot self.new k ≡ at_slot self.old k }
     {
         self.times[slot as usize] = Some(at);
-        self.first = first_with(&self.times, self.first, u64::from(slot), at);
+        self.used = used_with(self.used, u64::from(slot));
+        self.first = first_with(&self.times, self.used, self.first, u64::from(slot), at);
     }
 }
 
@@ -114,12 +118,25 @@ fn earlier(
     }
 }
 
+/// How many slots are used, where one more is.
+fn used_with(used: u64, slot: u64) -> u64
+    requires { slot < 16 }
+    ensures grows { used ≤ result }
+    ensures holds { slot < result }
+    ensures within { used ≤ 16 → result ≤ 16 }
+{
+    if slot < used { used } else { slot + 1 }
+}
+
 /// The first of all slots.
-fn earliest(times: &[Option<StateTime>; 16]) -> Option<(u64, StateTime)>
+#[tactic(auto, using(crate::proofs::Firsts::of_all))]
+fn earliest(times: &[Option<StateTime>; 16], used: u64) -> Option<(u64, StateTime)>
+    requires some { used ≤ 16 }
+    requires blank { AreBlankFrom used times.now }
     ensures { IsFirst times.now result }
 {
     let mut best = None;
-    for k in 0..16u64 {
+    for k in 0..used {
         best = earlier(times, best, k);
     }
     best
@@ -129,12 +146,15 @@ fn earliest(times: &[Option<StateTime>; 16]) -> Option<(u64, StateTime)>
 #[tactic(auto, using(crate::proofs::Firsts::set_alone, crate::proofs::Firsts::set_sooner, crate::proofs::Firsts::set_later))]
 fn first_with(
     times: &[Option<StateTime>; 16],
+    used: u64,
     first: Option<(u64, StateTime)>,
     slot: u64,
     at: StateTime,
 ) -> Option<(u64, StateTime)>
     requires slot { slot < 16 }
     requires inside { IsInside first }
+    requires some { used ≤ 16 }
+    requires blank { AreBlankFrom used times.now }
     ensures { (old : Times) → length old ≡ 16 → IsFirst old first → times.now ≡ slice_set old slot (Some at) → IsFirst times.now result }
 {
     let Some(found) = first else {
@@ -143,7 +163,7 @@ fn first_with(
     if is_not_after(at, slot, found.1, found.0) {
         Some((slot, at))
     } else if found.0 == slot {
-        earliest(times)
+        earliest(times, used)
     } else {
         first
     }
@@ -153,17 +173,20 @@ fn first_with(
 #[tactic(auto, using(crate::proofs::Firsts::clear_none, crate::proofs::Firsts::clear_other))]
 fn first_without(
     times: &[Option<StateTime>; 16],
+    used: u64,
     first: Option<(u64, StateTime)>,
     slot: u64,
 ) -> Option<(u64, StateTime)>
-    requires { slot < 16 }
+    requires slot { slot < 16 }
+    requires some { used ≤ 16 }
+    requires blank { AreBlankFrom used times.now }
     ensures { (old : Times) → length old ≡ 16 → IsFirst old first → times.now ≡ slice_set old slot None → IsFirst times.now result }
 {
     let Some(found) = first else {
         return None;
     };
     if found.0 == slot {
-        earliest(times)
+        earliest(times, used)
     } else {
         first
     }
