@@ -12,10 +12,10 @@ use Rattle.kc_block_spec.specs.declared.steady.Steady.{Steady}
 use Rattle.kc_block_spec.specs.Units.{Units}
 use Rattle.kc_block_spec.specs.Laws.{flag_rule}
 use Rattle.kc_block_lazy.specs.Lanes as lazy
-use Rattle.kc_block_lazy.specs.Lanes.{flag_goes, timer2_goes, hso_goes, further_goes, shown_units, levels_ahead, wire_slot, IsFurther, IsLazy}
+use Rattle.kc_block_lazy.specs.Lanes.{flag_goes, timer2_goes, hso_goes, further_goes, shown_units, levels_ahead, wire_slot, IsFurther, IsLazy, IsLeft}
 use Rattle.kc_block_lanes.specs.declared.lanes.Lanes.{Lanes}
 use Rattle.kc_block_lanes.specs.Standing.{standing}
-use Rattle.kc_block_access.specs.Left.{IsLeft, AreSameBut, AreSameButTwo, AreGatedAlike}
+use Rattle.kc_block_access.specs.Left.{AreSameBut, AreSameButTwo, AreGatedAlike}
 use Rattle.kc_block_access.proofs.Left.{unread_left, flag_left, hsi_left, further_left, hso_left, timers_left, gate_left}
 
 module _ {X : Type 0} (f : Further X) (agrees : ℕ → ℕ → X → Type 0) (plain : X → X) where

@@ -19,9 +19,9 @@ use Rattle.kc_block_spec.specs.declared.steady.Steady.{Steady}
 use Rattle.kc_block_spec.specs.Levels.{stimulated_before, wired, outputs}
 use Rattle.kc_block_spec.specs.Control.{control_of}
 use Rattle.kc_block_spec.specs.Laws.{flag_rule}
-use Rattle.kc_block_lazy.specs.Lanes.{Lanes, flag_goes, timer2_goes, line, hso_goes, further_goes, shown_units, levels_ahead, wire_slot, IsFurther, IsLazy}
+use Rattle.kc_block_lazy.specs.Lanes.{Lanes, flag_goes, timer2_goes, line, hso_goes, further_goes, shown_units, levels_ahead, wire_slot, IsFurther, IsLazy, IsLeft}
 use Rattle.kc_block_lazy.proofs.Spans.{agrees_after}
-use Rattle.kc_block_access.specs.Left.{IsLeft, AreSameButTwo, UnreadLeft, FlagLeft, HsiLeft, FurtherLeft, HsoLeft, CommandLeft, TimersLeft, GateLeft, StandingTells}
+use Rattle.kc_block_access.specs.Left.{AreSameButTwo, UnreadLeft, FlagLeft, HsiLeft, FurtherLeft, HsoLeft, CommandLeft, TimersLeft, GateLeft, StandingTells}
 
 captured_stays : (control : T2Control) (from n : ℕ) (d : T2) → (after (timer2_rule control) from n d).captured ≡ d.captured
 captured_stays control from zero d = ap (λ e. e.captured) (after-zero (timer2_rule control) from d)

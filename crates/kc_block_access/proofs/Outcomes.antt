@@ -12,9 +12,9 @@ use Rattle.kc_block_spec.specs.Units.{Units}
 use Rattle.kc_block_spec.specs.Writing.{steady_with, with_byte}
 use Rattle.kc_block_spec.specs.RegisterLaws.{refusal, IsMildRead}
 use Rattle.kc_block_spec.proofs.Named.{if_ok}
-use Rattle.kc_block_lazy.specs.Lanes.{Lanes}
+use Rattle.kc_block_lazy.specs.Lanes.{Lanes, IsLeft}
 use Rattle.kc_block_access.specs.Costs.{is_plain}
-use Rattle.kc_block_access.specs.Left.{IsLeft, AreUnread}
+use Rattle.kc_block_access.specs.Left.{AreUnread}
 
 -- what refuses is the error
 pub refused_is : {A : Type 0} (r : Result A Kind) (kind : Kind) → Some kind ≡ refusal r → Err kind ≡ r

@@ -10,8 +10,7 @@ use Rattle.kc_block_spec.specs.Accesses.{byte_written, word_written, word_writte
 use Rattle.kc_block_spec.specs.RegisterLaws.{refusal, first_refusal}
 use Rattle.kc_block_spec.proofs.Tables.{row_none}
 use Rattle.kc_block_spec.proofs.Named.{both_bytes_written_are_asked, if_ok_then}
-use Rattle.kc_block_lazy.specs.Lanes.{Lanes, shown_units}
-use Rattle.kc_block_access.specs.Left.{IsLeft}
+use Rattle.kc_block_lazy.specs.Lanes.{Lanes, shown_units, IsLeft}
 use Rattle.kc_block_access.proofs.Outcomes.{weaker}
 
 module _ {X : Type 0} (f : Further X) (agrees : ℕ → ℕ → X → Type 0) (t : ℕ) (w : Window) (u : Units X) (addr n : ℕ) (two : row_at (words_written w) addr ≡ None) where

@@ -11,15 +11,9 @@ use Rattle.kc_hsi.specs.Input.{Input, hsi_rule}
 use Rattle.kc_extra.specs.Further.{Further}
 use Rattle.kc_block_lane.specs.Lane.{shown, lane_at}
 use Rattle.kc_block_spec.specs.declared.steady.Steady.{Steady}
-use Rattle.kc_block_spec.specs.Units.{Units}
 use Rattle.kc_block_spec.specs.Control.{control_of}
 use Rattle.kc_block_spec.specs.Laws.{flag_rule}
-use Rattle.kc_block_lazy.specs.Lanes.{Lanes, flag_goes, timer2_goes, hso_goes, further_goes, shown_units, levels_ahead, wire_slot, IsLazy}
-
--- lanes in the present state that show these units
-pub record IsLeft {X : Type 0} (f : Further X) (agrees : ℕ → ℕ → X → Type 0) (now : ℕ) (h : Lanes X) (units : Units X) : Type 0 where
-  pub lazy : IsLazy f agrees h now
-  pub shows : shown_units f h now ≡ units
+use Rattle.kc_block_lazy.specs.Lanes.{Lanes, flag_goes, timer2_goes, hso_goes, further_goes, shown_units, levels_ahead, wire_slot, IsLazy, IsLeft}
 
 -- every slot but one has the time that it had
 abbrev pub AreSameBut : ℕ → Times → Times → Type 0

@@ -5,11 +5,11 @@ ghost use Rattle.kc_base.specs.Bits.{bit as bit_of};
 ghost use Rattle.kc_span.specs.Span.{least_of};
 ghost use Rattle.kc_due.specs.Due.{at_slot};
 ghost use Rattle.kc_hso.specs.Cam.{load_refusal, with_load};
+ghost use Rattle.kc_block_spec.specs.Costs.{Costs};
 ghost use Rattle.kc_block_spec.specs.Registers.{window_number};
 ghost use Rattle.kc_block_spec.specs.Writing.{reset_by as reset_when, emptied_by as emptied_when, steady_with as steady_after};
-ghost use Rattle.kc_block_lazy.specs.Lanes.{shown_units, IsLazy};
+ghost use Rattle.kc_block_lazy.specs.Lanes.{shown_units, IsLazy, IsLeft, IsPresent};
 ghost use Rattle.kc_block_lanes.specs.Standing.{standing, moves_of};
-ghost use Rattle.kc_block_access.specs.Left.{IsLeft};
 
 use crate::registers::number;
 use crate::steadying::steady_with;
@@ -26,8 +26,7 @@ use std::sync::ledger::Ledger;
 
 /// A read of IOS1 clears its bits 0 to 5.
 pub(crate) fn clear_ios1<X: Extra>(lanes: &mut Lanes<X>, now: StateTime)
-    requires bound { now ≤ 3 * 10 ^ 15 }
-    requires lazy { IsLazy X.further X.agrees (standing X.plain lanes.old) now }
+    requires present { IsPresent X.further X.agrees (standing X.plain lanes.old) now }
     ensures left { let u = shown_units X.further (standing X.plain lanes.old) now in
         IsLeft X.further X.agrees now (standing X.plain lanes.new) (record u { steady = record u.steady { ios1 = 0 }; overflowed = false }) }
     ensures moves { moves_of X.moved lanes.new ≡ moves_of X.moved lanes.old }
@@ -40,8 +39,7 @@ pub(crate) fn clear_ios1<X: Extra>(lanes: &mut Lanes<X>, now: StateTime)
 
 /// A write of IOC1 gates outputs, and says whether Timer 1's overflow is a request.
 pub(crate) fn write_ioc1<X: Extra>(lanes: &mut Lanes<X>, now: StateTime, value: u8)
-    requires bound { now ≤ 3 * 10 ^ 15 }
-    requires lazy { IsLazy X.further X.agrees (standing X.plain lanes.old) now }
+    requires present { IsPresent X.further X.agrees (standing X.plain lanes.old) now }
     ensures left { let u = shown_units X.further (standing X.plain lanes.old) now in
         IsLeft X.further X.agrees now (standing X.plain lanes.new) (record u { steady = steady_after u.steady WritableByte.Ioc1 value }) }
     ensures moves { moves_of X.moved lanes.new ≡ moves_of X.moved lanes.old }
@@ -59,12 +57,10 @@ pub(crate) fn write_timer2<X: Extra, L: Ledger>(
     value: u16,
     steps: &mut Steps<L>,
 )
-    requires bound { now ≤ 3 * 10 ^ 15 }
-    requires lazy { IsLazy X.further X.agrees (standing X.plain lanes.old) now }
+    requires present { IsPresent X.further X.agrees (standing X.plain lanes.old) now }
     ensures left { let u = shown_units X.further (standing X.plain lanes.old) now in
         IsLeft X.further X.agrees now (standing X.plain lanes.new) (record u { timer2 = record u.timer2 { value = value } }) }
-    ensures steps { steps.new ≡ steps.old + 4 }
-    ensures moves { moves_of X.moved lanes.new ≤ moves_of X.moved lanes.old + 2 }
+    ensures costs { Costs 4 2 steps.old steps.new (moves_of X.moved lanes.old) (moves_of X.moved lanes.new) }
 {
     lanes.bring_timers(now, steps);
     lanes.timer2.unit.write(value);
@@ -87,13 +83,11 @@ pub(crate) fn write_ioc0<X: Extra, L: Ledger>(
     value: u8,
     steps: &mut Steps<L>,
 )
-    requires bound { now ≤ 3 * 10 ^ 15 }
-    requires lazy { IsLazy X.further X.agrees (standing X.plain lanes.old) now }
+    requires present { IsPresent X.further X.agrees (standing X.plain lanes.old) now }
     ensures left { let u = shown_units X.further (standing X.plain lanes.old) now in
         IsLeft X.further X.agrees now (standing X.plain lanes.new)
         (record u { steady = steady_after u.steady WritableByte.Ioc0 value; timer2 = reset_when value u.timer2 }) }
-    ensures steps { steps.new ≡ steps.old + 4 }
-    ensures moves { moves_of X.moved lanes.new ≤ moves_of X.moved lanes.old + 2 }
+    ensures costs { Costs 4 2 steps.old steps.new (moves_of X.moved lanes.old) (moves_of X.moved lanes.new) }
 {
     lanes.bring_timers(now, steps);
     lanes.steady = steady_with(&lanes.steady, WritableByte::Ioc0, value);
@@ -117,13 +111,11 @@ pub(crate) fn write_ioc2<X: Extra, L: Ledger>(
     value: u8,
     steps: &mut Steps<L>,
 )
-    requires bound { now ≤ 3 * 10 ^ 15 }
-    requires lazy { IsLazy X.further X.agrees (standing X.plain lanes.old) now }
+    requires present { IsPresent X.further X.agrees (standing X.plain lanes.old) now }
     ensures left { let u = shown_units X.further (standing X.plain lanes.old) now in
         IsLeft X.further X.agrees now (standing X.plain lanes.new)
         (record u { steady = steady_after u.steady WritableByte.Ioc2 value; hso = emptied_when value u.hso }) }
-    ensures steps { steps.new ≡ steps.old + 4 }
-    ensures moves { moves_of X.moved lanes.new ≤ moves_of X.moved lanes.old + 2 }
+    ensures costs { Costs 4 2 steps.old steps.new (moves_of X.moved lanes.old) (moves_of X.moved lanes.new) }
 {
     lanes.bring_timers(now, steps);
     lanes.steady = steady_with(&lanes.steady, WritableByte::Ioc2, value);
@@ -138,12 +130,10 @@ pub(crate) fn write_ioc3<X: Extra, L: Ledger>(
     value: u8,
     steps: &mut Steps<L>,
 )
-    requires bound { now ≤ 3 * 10 ^ 15 }
-    requires lazy { IsLazy X.further X.agrees (standing X.plain lanes.old) now }
+    requires present { IsPresent X.further X.agrees (standing X.plain lanes.old) now }
     ensures left { let u = shown_units X.further (standing X.plain lanes.old) now in
         IsLeft X.further X.agrees now (standing X.plain lanes.new) (record u { steady = steady_after u.steady WritableByte.Ioc3 value }) }
-    ensures steps { steps.new ≡ steps.old + 4 }
-    ensures moves { moves_of X.moved lanes.new ≤ moves_of X.moved lanes.old + 2 }
+    ensures costs { Costs 4 2 steps.old steps.new (moves_of X.moved lanes.old) (moves_of X.moved lanes.new) }
 {
     lanes.bring_timers(now, steps);
     lanes.steady = steady_with(&lanes.steady, WritableByte::Ioc3, value);
@@ -177,13 +167,11 @@ pub(crate) fn load_hso<X: Extra, L: Ledger>(
     time: u16,
     steps: &mut Steps<L>,
 )
-    requires bound { now ≤ 3 * 10 ^ 15 }
-    requires lazy { IsLazy X.further X.agrees (standing X.plain lanes.old) now }
+    requires present { IsPresent X.further X.agrees (standing X.plain lanes.old) now }
     requires loads { load_refusal (shown_units X.further (standing X.plain lanes.old) now).hso (bit_of lanes.old.steady.ioc2 0) ≡ None }
     ensures left { let u = shown_units X.further (standing X.plain lanes.old) now in
         IsLeft X.further X.agrees now (standing X.plain lanes.new) (record u { hso = with_load time u.hso }) }
-    ensures steps { steps.new ≡ steps.old + 2 }
-    ensures moves { moves_of X.moved lanes.new ≤ moves_of X.moved lanes.old + 1 }
+    ensures costs { Costs 2 1 steps.old steps.new (moves_of X.moved lanes.old) (moves_of X.moved lanes.new) }
 {
     lanes.bring_hso(now, steps);
     let fast = bit(lanes.steady.ioc2, 0);
@@ -199,12 +187,10 @@ pub(crate) fn write_hsi_mode<X: Extra, L: Ledger>(
     value: u8,
     steps: &mut Steps<L>,
 )
-    requires bound { now ≤ 3 * 10 ^ 15 }
-    requires lazy { IsLazy X.further X.agrees (standing X.plain lanes.old) now }
+    requires present { IsPresent X.further X.agrees (standing X.plain lanes.old) now }
     ensures left { let u = shown_units X.further (standing X.plain lanes.old) now in
         IsLeft X.further X.agrees now (standing X.plain lanes.new) (record u { hsi = record u.hsi { mode = value } }) }
-    ensures steps { steps.new ≡ steps.old + 2 }
-    ensures moves { moves_of X.moved lanes.new ≤ moves_of X.moved lanes.old + 1 }
+    ensures costs { Costs 2 1 steps.old steps.new (moves_of X.moved lanes.old) (moves_of X.moved lanes.new) }
 {
     lanes.bring_hsi(now, steps);
     lanes.hsi.unit.set_mode(value);
@@ -217,13 +203,11 @@ pub(crate) fn take_hsi_time<X: Extra, L: Ledger>(
     now: StateTime,
     steps: &mut Steps<L>,
 ) -> u16
-    requires bound { now ≤ 3 * 10 ^ 15 }
-    requires lazy { IsLazy X.further X.agrees (standing X.plain lanes.old) now }
+    requires present { IsPresent X.further X.agrees (standing X.plain lanes.old) now }
     ensures time { result ≡ (shown_units X.further (standing X.plain lanes.old) now).hsi.held.time }
     ensures left { let u = shown_units X.further (standing X.plain lanes.old) now in
         IsLeft X.further X.agrees now (standing X.plain lanes.new) (record u { hsi = record u.hsi { loaded = false } }) }
-    ensures steps { steps.new ≡ steps.old + 2 }
-    ensures moves { moves_of X.moved lanes.new ≤ moves_of X.moved lanes.old + 1 }
+    ensures costs { Costs 2 1 steps.old steps.new (moves_of X.moved lanes.old) (moves_of X.moved lanes.new) }
 {
     lanes.bring_hsi(now, steps);
     let time = lanes.hsi.unit.read_time();
@@ -239,15 +223,13 @@ pub(crate) fn read_further<X: Extra, L: Ledger>(
     sfr: u8,
     steps: &mut Steps<L>,
 ) -> Option<u8>
-    requires bound { now ≤ 3 * 10 ^ 15 }
-    requires lazy { IsLazy X.further X.agrees (standing X.plain lanes.old) now }
+    requires present { IsPresent X.further X.agrees (standing X.plain lanes.old) now }
     ensures answer { let u = shown_units X.further (standing X.plain lanes.old) now in
         result ≡ X.further.answer (window_number window) sfr (now - 1) u.further }
     ensures left { let u = shown_units X.further (standing X.plain lanes.old) now in
         IsLeft X.further X.agrees now (standing X.plain lanes.new)
         (record u { further = X.further.after_read (window_number window) sfr (now - 1) u.further }) }
-    ensures steps { steps.new ≡ steps.old + 2 }
-    ensures moves { moves_of X.moved lanes.new ≤ moves_of X.moved lanes.old + 1 }
+    ensures costs { Costs 2 1 steps.old steps.new (moves_of X.moved lanes.old) (moves_of X.moved lanes.new) }
 {
     lanes.bring_further(now, steps);
     let answer = lanes
@@ -267,13 +249,11 @@ pub(crate) fn write_further<X: Extra, L: Ledger>(
     value: u8,
     steps: &mut Steps<L>,
 )
-    requires bound { now ≤ 3 * 10 ^ 15 }
-    requires lazy { IsLazy X.further X.agrees (standing X.plain lanes.old) now }
+    requires present { IsPresent X.further X.agrees (standing X.plain lanes.old) now }
     ensures left { let u = shown_units X.further (standing X.plain lanes.old) now in
         IsLeft X.further X.agrees now (standing X.plain lanes.new)
         (record u { further = X.further.after_write (window_number window) sfr value (now - 1) u.further }) }
-    ensures steps { steps.new ≡ steps.old + 2 }
-    ensures moves { moves_of X.moved lanes.new ≤ moves_of X.moved lanes.old + 1 }
+    ensures costs { Costs 2 1 steps.old steps.new (moves_of X.moved lanes.old) (moves_of X.moved lanes.new) }
 {
     lanes.bring_further(now, steps);
     let _ = lanes

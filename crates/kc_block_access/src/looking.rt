@@ -1,9 +1,10 @@
 //! What a register shows at the start of the present state.
-ghost use Rattle.std.specs.Prelude.{◌≡◌, ◌+◌, ◌*◌, ◌≤◌, ◌<◌, ◌^◌};
+ghost use Rattle.std.specs.Prelude.{◌≡◌, ◌+◌, ◌*◌, ◌≤◌, ◌^◌};
 ghost use Rattle.std.specs.Option.{unwrap_or};
+ghost use Rattle.kc_base.specs.Fresh.{IsFresh};
 ghost use Rattle.kc_block_spec.specs.Registers.{window_number};
 ghost use Rattle.kc_block_spec.specs.Looking.{half_at, looked};
-ghost use Rattle.kc_block_lazy.specs.Lanes.{shown_units, IsLazy};
+ghost use Rattle.kc_block_lazy.specs.Lanes.{shown_units, IsLazy, IsPresent};
 ghost use Rattle.kc_block_lanes.specs.Standing.{standing, moves_of};
 
 use crate::registers::{number, readable_byte, readable_word};
@@ -28,11 +29,8 @@ fn half(sfr: u8, word: u16) -> u8
 
 // Brings the further unit to the present state, with a counter of its own.
 fn bring_further<X: Extra, L: Ledger>(lanes: &mut Lanes<X>, now: StateTime, blank: Blank)
-    requires bound { now ≤ 3 * 10 ^ 15 }
-    requires lazy { IsLazy X.further X.agrees (standing X.plain lanes.old) now }
-    requires name { blank.name ≡ L.name }
-    requires parts { blank.parts ≡ L.parts }
-    requires some { 0 < L.parts }
+    requires present { IsPresent X.further X.agrees (standing X.plain lanes.old) now }
+    requires fresh { IsFresh blank L.name L.parts }
     ensures lazy { IsLazy X.further X.agrees (standing X.plain lanes.new) now }
     ensures shows { shown_units X.further (standing X.plain lanes.new) now ≡ shown_units X.further (standing X.plain lanes.old) now }
     ensures there { X.plain lanes.new.further.unit ≡ (shown_units X.further (standing X.plain lanes.old) now).further }
@@ -44,8 +42,7 @@ fn bring_further<X: Extra, L: Ledger>(lanes: &mut Lanes<X>, now: StateTime, blan
 
 // What the further unit shows, 0 where it has no such register.
 fn look_further<X: Extra>(lanes: &mut Lanes<X>, now: StateTime, window: Window, sfr: u8) -> u8
-    requires bound { now ≤ 3 * 10 ^ 15 }
-    requires lazy { IsLazy X.further X.agrees (standing X.plain lanes.old) now }
+    requires present { IsPresent X.further X.agrees (standing X.plain lanes.old) now }
     ensures value { let u = shown_units X.further (standing X.plain lanes.old) now in
         result ≡ unwrap_or (X.further.answer (window_number window) sfr now u.further) 0 }
     ensures lazy { IsLazy X.further X.agrees (standing X.plain lanes.new) now }
@@ -64,8 +61,7 @@ fn look_further<X: Extra>(lanes: &mut Lanes<X>, now: StateTime, window: Window, 
 /// where the read is undefined. An input without a wire shows its stimuli in `now`, a wired one its level in the state before.
 /// It counts no call; the further unit may be moved.
 pub fn look<X: Extra>(lanes: &mut Lanes<X>, now: StateTime, window: Window, sfr: u8) -> u8
-    requires bound { now ≤ 3 * 10 ^ 15 }
-    requires lazy { IsLazy X.further X.agrees (standing X.plain lanes.old) now }
+    requires present { IsPresent X.further X.agrees (standing X.plain lanes.old) now }
     ensures value { result ≡ looked X.further now window (shown_units X.further (standing X.plain lanes.old) now) sfr }
     ensures lazy { IsLazy X.further X.agrees (standing X.plain lanes.new) now }
     ensures shows { shown_units X.further (standing X.plain lanes.new) now ≡ shown_units X.further (standing X.plain lanes.old) now }

@@ -6,9 +6,9 @@ ghost use Rattle.kc_block_spec.specs.Registers.{row_at, words_read};
 ghost use Rattle.kc_block_spec.specs.Reading.{byte_value, after_byte, word_value, after_word};
 ghost use Rattle.kc_block_spec.specs.Accesses.{byte_read, after_byte_read, word_read, after_word_read};
 ghost use Rattle.kc_block_spec.specs.RegisterLaws.{refusal};
-ghost use Rattle.kc_block_lazy.specs.Lanes.{shown_units, IsLazy};
+ghost use Rattle.kc_block_lazy.specs.Lanes.{shown_units, IsLazy, IsLeft, IsPresent};
 ghost use Rattle.kc_block_lanes.specs.Standing.{standing, moves_of};
-ghost use Rattle.kc_block_access.specs.Left.{IsLeft};
+ghost use Rattle.kc_block_spec.specs.Costs.{CostsAtMost, RefusesFreely};
 ghost use Rattle.kc_block_access.specs.Costs.{byte_calls, word_calls};
 
 use crate::acting::{clear_ios1, read_further, take_hsi_time};
@@ -40,8 +40,7 @@ fn read_refusal<X: Extra>(lanes: &Lanes<X>, now: StateTime, window: Window, sfr:
 
 // What a byte read of a register leaves.
 fn take_byte<X: Extra>(lanes: &mut Lanes<X>, now: StateTime, register: ReadableByte)
-    requires bound { now ≤ 3 * 10 ^ 15 }
-    requires lazy { IsLazy X.further X.agrees (standing X.plain lanes.old) now }
+    requires present { IsPresent X.further X.agrees (standing X.plain lanes.old) now }
     ensures left { IsLeft X.further X.agrees now (standing X.plain lanes.new) (after_byte (shown_units X.further (standing X.plain lanes.old) now) register) }
     ensures moves { moves_of X.moved lanes.new ≡ moves_of X.moved lanes.old }
 {
@@ -53,8 +52,7 @@ fn take_byte<X: Extra>(lanes: &mut Lanes<X>, now: StateTime, register: ReadableB
 }
 
 fn read_named<X: Extra>(lanes: &mut Lanes<X>, now: StateTime, register: ReadableByte) -> u8
-    requires bound { now ≤ 3 * 10 ^ 15 }
-    requires lazy { IsLazy X.further X.agrees (standing X.plain lanes.old) now }
+    requires present { IsPresent X.further X.agrees (standing X.plain lanes.old) now }
     ensures value { result ≡ byte_value (shown_units X.further (standing X.plain lanes.old) now) register }
     ensures left { IsLeft X.further X.agrees now (standing X.plain lanes.new) (after_byte (shown_units X.further (standing X.plain lanes.old) now) register) }
     ensures moves { moves_of X.moved lanes.new ≡ moves_of X.moved lanes.old }
@@ -73,14 +71,12 @@ fn read_byte<X: Extra, L: Ledger>(
     sfr: u8,
     steps: &mut Steps<L>,
 ) -> u8
-    requires bound { now ≤ 3 * 10 ^ 15 }
-    requires lazy { IsLazy X.further X.agrees (standing X.plain lanes.old) now }
+    requires present { IsPresent X.further X.agrees (standing X.plain lanes.old) now }
     requires defined { refusal (byte_read X.further (now - 1) window (shown_units X.further (standing X.plain lanes.old) now) sfr) ≡ None }
     ensures value { byte_read X.further (now - 1) window (shown_units X.further (standing X.plain lanes.old) now) sfr ≡ Ok result }
     ensures left { IsLeft X.further X.agrees now (standing X.plain lanes.new)
         (after_byte_read X.further (now - 1) window (shown_units X.further (standing X.plain lanes.old) now) sfr) }
-    ensures steps { steps.new ≤ steps.old + byte_calls sfr }
-    ensures moves { moves_of X.moved lanes.new ≤ moves_of X.moved lanes.old + byte_calls sfr }
+    ensures costs { CostsAtMost (byte_calls sfr) steps.old steps.new (moves_of X.moved lanes.old) (moves_of X.moved lanes.new) }
 {
     match readable_byte(window, sfr) {
         Some(register) => read_named(lanes, now, register),
@@ -98,18 +94,15 @@ pub fn read8<X: Extra, L: Ledger>(
     sfr: u8,
     steps: &mut Steps<L>,
 ) -> Result<u8, Kind>
-    requires bound { now ≤ 3 * 10 ^ 15 }
-    requires lazy { IsLazy X.further X.agrees (standing X.plain lanes.old) now }
+    requires present { IsPresent X.further X.agrees (standing X.plain lanes.old) now }
     requires profile { is_wsr lanes.old.steady.wsr ≡ true }
     ensures answer { result ≡ byte_read X.further (now - 1) window (shown_units X.further (standing X.plain lanes.old) now) sfr }
     ensures lazy { IsLazy X.further X.agrees (standing X.plain lanes.new) now }
     ensures profile { is_wsr lanes.new.steady.wsr ≡ true }
     ensures units { OnOk result (shown_units X.further (standing X.plain lanes.new) now
         ≡ after_byte_read X.further (now - 1) window (shown_units X.further (standing X.plain lanes.old) now) sfr) }
-    ensures refused { OnErr result (lanes.new ≡ lanes.old) }
-    ensures no_call { OnErr result (steps.new ≡ steps.old) }
-    ensures steps { steps.new ≤ steps.old + byte_calls sfr }
-    ensures moves { moves_of X.moved lanes.new ≤ moves_of X.moved lanes.old + byte_calls sfr }
+    ensures refused { RefusesFreely result lanes.old lanes.new steps.old steps.new }
+    ensures costs { CostsAtMost (byte_calls sfr) steps.old steps.new (moves_of X.moved lanes.old) (moves_of X.moved lanes.new) }
 {
     if let Some(kind) = read_refusal(lanes, now, window, sfr) {
         return Err(kind);
@@ -124,8 +117,7 @@ fn read_word<X: Extra, L: Ledger>(
     register: ReadableWord,
     steps: &mut Steps<L>,
 ) -> u16
-    requires bound { now ≤ 3 * 10 ^ 15 }
-    requires lazy { IsLazy X.further X.agrees (standing X.plain lanes.old) now }
+    requires present { IsPresent X.further X.agrees (standing X.plain lanes.old) now }
     ensures value { result ≡ word_value (now - 1) (shown_units X.further (standing X.plain lanes.old) now) register }
     ensures left { IsLeft X.further X.agrees now (standing X.plain lanes.new) (after_word (shown_units X.further (standing X.plain lanes.old) now) register) }
     ensures steps { steps.new ≤ steps.old + 2 }
@@ -145,17 +137,14 @@ fn read_two<X: Extra, L: Ledger>(
     sfr: u8,
     steps: &mut Steps<L>,
 ) -> Result<u16, Kind>
-    requires bound { now ≤ 3 * 10 ^ 15 }
+    requires present { IsPresent X.further X.agrees (standing X.plain lanes.old) now }
     requires byte { sfr < 24 }
-    requires lazy { IsLazy X.further X.agrees (standing X.plain lanes.old) now }
     requires two { row_at (words_read window) sfr ≡ None }
     ensures answer { result ≡ word_read X.further (now - 1) window (shown_units X.further (standing X.plain lanes.old) now) sfr }
     ensures left { OnOk result (IsLeft X.further X.agrees now (standing X.plain lanes.new)
         (after_word_read X.further (now - 1) window (shown_units X.further (standing X.plain lanes.old) now) sfr)) }
-    ensures refused { OnErr result (lanes.new ≡ lanes.old) }
-    ensures no_call { OnErr result (steps.new ≡ steps.old) }
-    ensures steps { steps.new ≤ steps.old + word_calls sfr }
-    ensures moves { moves_of X.moved lanes.new ≤ moves_of X.moved lanes.old + word_calls sfr }
+    ensures refused { RefusesFreely result lanes.old lanes.new steps.old steps.new }
+    ensures costs { CostsAtMost (word_calls sfr) steps.old steps.new (moves_of X.moved lanes.old) (moves_of X.moved lanes.new) }
 {
     if let Some(kind) = read_refusal(lanes, now, window, sfr) {
         return Err(kind);
@@ -178,19 +167,16 @@ pub fn read16<X: Extra, L: Ledger>(
     sfr: u8,
     steps: &mut Steps<L>,
 ) -> Result<u16, Kind>
-    requires bound { now ≤ 3 * 10 ^ 15 }
+    requires present { IsPresent X.further X.agrees (standing X.plain lanes.old) now }
     requires byte { sfr < 24 }
-    requires lazy { IsLazy X.further X.agrees (standing X.plain lanes.old) now }
     requires profile { is_wsr lanes.old.steady.wsr ≡ true }
     ensures answer { result ≡ word_read X.further (now - 1) window (shown_units X.further (standing X.plain lanes.old) now) sfr }
     ensures lazy { IsLazy X.further X.agrees (standing X.plain lanes.new) now }
     ensures profile { is_wsr lanes.new.steady.wsr ≡ true }
     ensures units { OnOk result (shown_units X.further (standing X.plain lanes.new) now
         ≡ after_word_read X.further (now - 1) window (shown_units X.further (standing X.plain lanes.old) now) sfr) }
-    ensures refused { OnErr result (lanes.new ≡ lanes.old) }
-    ensures no_call { OnErr result (steps.new ≡ steps.old) }
-    ensures steps { steps.new ≤ steps.old + word_calls sfr }
-    ensures moves { moves_of X.moved lanes.new ≤ moves_of X.moved lanes.old + word_calls sfr }
+    ensures refused { RefusesFreely result lanes.old lanes.new steps.old steps.new }
+    ensures costs { CostsAtMost (word_calls sfr) steps.old steps.new (moves_of X.moved lanes.old) (moves_of X.moved lanes.new) }
 {
     match readable_word(window, sfr) {
         Some(register) => Ok(read_word(lanes, now, register, steps)),

@@ -4,7 +4,7 @@ ghost use Rattle.kc_hsi.specs.Input.{status_of, flags_of};
 ghost use Rattle.kc_hso.specs.Cam.{ios0_of};
 ghost use Rattle.kc_block_spec.specs.Reading.{byte_value, word_value};
 ghost use Rattle.kc_block_spec.specs.Looking.{levels_shown as levels_seen};
-ghost use Rattle.kc_block_lazy.specs.Lanes.{shown_units, IsLazy};
+ghost use Rattle.kc_block_lazy.specs.Lanes.{shown_units, IsLazy, IsPresent};
 ghost use Rattle.kc_block_lanes.specs.Standing.{standing};
 
 use crate::values::{ios1, port0, port1, port2};
@@ -79,8 +79,7 @@ pub(crate) fn word_at<X: Extra>(
     t: StateTime,
     register: ReadableWord,
 ) -> u16
-    requires bound { now ≤ 3 * 10 ^ 15 }
-    requires lazy { IsLazy X.further X.agrees (standing X.plain lanes.now) now }
+    requires present { IsPresent X.further X.agrees (standing X.plain lanes.now) now }
     ensures { result ≡ word_value t (shown_units X.further (standing X.plain lanes.now) now) register }
 {
     match register {

@@ -7,9 +7,9 @@ ghost use Rattle.kc_block_spec.specs.Registers.{row_at, words_written};
 ghost use Rattle.kc_block_spec.specs.Writing.{with_byte, with_word};
 ghost use Rattle.kc_block_spec.specs.Accesses.{byte_written, word_written};
 ghost use Rattle.kc_block_spec.specs.RegisterLaws.{refusal};
-ghost use Rattle.kc_block_lazy.specs.Lanes.{shown_units, IsLazy};
+ghost use Rattle.kc_block_lazy.specs.Lanes.{shown_units, IsLazy, IsLeft, IsPresent};
 ghost use Rattle.kc_block_lanes.specs.Standing.{standing, moves_of};
-ghost use Rattle.kc_block_access.specs.Left.{IsLeft};
+ghost use Rattle.kc_block_spec.specs.Costs.{CostsAtMost, RefusesFreely};
 ghost use Rattle.kc_block_access.specs.Costs.{is_plain as has_no_unit, named_calls, byte_calls, word_calls};
 
 use crate::acting::{
@@ -114,12 +114,10 @@ fn write_named<X: Extra, L: Ledger>(
     value: u8,
     steps: &mut Steps<L>,
 )
-    requires bound { now ≤ 3 * 10 ^ 15 }
-    requires lazy { IsLazy X.further X.agrees (standing X.plain lanes.old) now }
+    requires present { IsPresent X.further X.agrees (standing X.plain lanes.old) now }
     ensures left { IfOk (with_byte (shown_units X.further (standing X.plain lanes.old) now) register value)
         (IsLeft X.further X.agrees now (standing X.plain lanes.new)) }
-    ensures steps { steps.new ≤ steps.old + named_calls register }
-    ensures moves { moves_of X.moved lanes.new ≤ moves_of X.moved lanes.old + named_calls register }
+    ensures costs { CostsAtMost (named_calls register) steps.old steps.new (moves_of X.moved lanes.old) (moves_of X.moved lanes.new) }
 {
     match register {
         WritableByte::HsiMode => write_hsi_mode(lanes, now, value, steps),
@@ -141,12 +139,10 @@ fn write_byte<X: Extra, L: Ledger>(
     value: u8,
     steps: &mut Steps<L>,
 )
-    requires bound { now ≤ 3 * 10 ^ 15 }
-    requires lazy { IsLazy X.further X.agrees (standing X.plain lanes.old) now }
+    requires present { IsPresent X.further X.agrees (standing X.plain lanes.old) now }
     ensures left { IfOk (byte_written X.further (now - 1) window (shown_units X.further (standing X.plain lanes.old) now) sfr value)
         (IsLeft X.further X.agrees now (standing X.plain lanes.new)) }
-    ensures steps { steps.new ≤ steps.old + byte_calls sfr }
-    ensures moves { moves_of X.moved lanes.new ≤ moves_of X.moved lanes.old + byte_calls sfr }
+    ensures costs { CostsAtMost (byte_calls sfr) steps.old steps.new (moves_of X.moved lanes.old) (moves_of X.moved lanes.new) }
 {
     match writable_byte(window, sfr) {
         Some(register) => write_named(lanes, now, register, value, steps),
@@ -166,8 +162,7 @@ pub fn write8<X: Extra, L: Ledger>(
     value: u8,
     steps: &mut Steps<L>,
 ) -> Result<(), Kind>
-    requires bound { now ≤ 3 * 10 ^ 15 }
-    requires lazy { IsLazy X.further X.agrees (standing X.plain lanes.old) now }
+    requires present { IsPresent X.further X.agrees (standing X.plain lanes.old) now }
     requires profile { in_profile lanes.old.steady.wsr ≡ true }
     ensures answer { refusal result
         ≡ refusal (byte_written X.further (now - 1) window (shown_units X.further (standing X.plain lanes.old) now) sfr value) }
@@ -175,10 +170,8 @@ pub fn write8<X: Extra, L: Ledger>(
         (λ units. shown_units X.further (standing X.plain lanes.new) now ≡ units) }
     ensures lazy { IsLazy X.further X.agrees (standing X.plain lanes.new) now }
     ensures profile { in_profile lanes.new.steady.wsr ≡ true }
-    ensures refused { OnErr result (lanes.new ≡ lanes.old) }
-    ensures no_call { OnErr result (steps.new ≡ steps.old) }
-    ensures steps { steps.new ≤ steps.old + byte_calls sfr }
-    ensures moves { moves_of X.moved lanes.new ≤ moves_of X.moved lanes.old + byte_calls sfr }
+    ensures refused { RefusesFreely result lanes.old lanes.new steps.old steps.new }
+    ensures costs { CostsAtMost (byte_calls sfr) steps.old steps.new (moves_of X.moved lanes.old) (moves_of X.moved lanes.new) }
 {
     if let Some(kind) = write_refusal(lanes, now, window, sfr, value) {
         return Err(kind);
@@ -211,8 +204,7 @@ fn write_word<X: Extra, L: Ledger>(
     value: u16,
     steps: &mut Steps<L>,
 )
-    requires bound { now ≤ 3 * 10 ^ 15 }
-    requires lazy { IsLazy X.further X.agrees (standing X.plain lanes.old) now }
+    requires present { IsPresent X.further X.agrees (standing X.plain lanes.old) now }
     requires defined { refusal (with_word (shown_units X.further (standing X.plain lanes.old) now) register value) ≡ None }
     ensures left { IfOk (with_word (shown_units X.further (standing X.plain lanes.old) now) register value)
         (IsLeft X.further X.agrees now (standing X.plain lanes.new)) }
@@ -235,13 +227,11 @@ fn write_one<X: Extra, L: Ledger>(
     value: u16,
     steps: &mut Steps<L>,
 ) -> Result<(), Kind>
-    requires bound { now ≤ 3 * 10 ^ 15 }
-    requires lazy { IsLazy X.further X.agrees (standing X.plain lanes.old) now }
+    requires present { IsPresent X.further X.agrees (standing X.plain lanes.old) now }
     ensures answer { refusal result ≡ refusal (with_word (shown_units X.further (standing X.plain lanes.old) now) register value) }
     ensures left { IfOk (with_word (shown_units X.further (standing X.plain lanes.old) now) register value)
         (IsLeft X.further X.agrees now (standing X.plain lanes.new)) }
-    ensures refused { OnErr result (lanes.new ≡ lanes.old) }
-    ensures no_call { OnErr result (steps.new ≡ steps.old) }
+    ensures refused { RefusesFreely result lanes.old lanes.new steps.old steps.new }
     ensures steps { steps.new ≤ steps.old + 4 }
     ensures moves { moves_of X.moved lanes.new ≤ moves_of X.moved lanes.old + 2 }
 {
@@ -261,18 +251,15 @@ fn write_two<X: Extra, L: Ledger>(
     value: u16,
     steps: &mut Steps<L>,
 ) -> Result<(), Kind>
-    requires bound { now ≤ 3 * 10 ^ 15 }
+    requires present { IsPresent X.further X.agrees (standing X.plain lanes.old) now }
     requires byte { sfr < 24 }
-    requires lazy { IsLazy X.further X.agrees (standing X.plain lanes.old) now }
     requires two { row_at (words_written window) sfr ≡ None }
     ensures answer { refusal result
         ≡ refusal (word_written X.further (now - 1) window (shown_units X.further (standing X.plain lanes.old) now) sfr value) }
     ensures left { IfOk (word_written X.further (now - 1) window (shown_units X.further (standing X.plain lanes.old) now) sfr value)
         (IsLeft X.further X.agrees now (standing X.plain lanes.new)) }
-    ensures refused { OnErr result (lanes.new ≡ lanes.old) }
-    ensures no_call { OnErr result (steps.new ≡ steps.old) }
-    ensures steps { steps.new ≤ steps.old + word_calls sfr }
-    ensures moves { moves_of X.moved lanes.new ≤ moves_of X.moved lanes.old + word_calls sfr }
+    ensures refused { RefusesFreely result lanes.old lanes.new steps.old steps.new }
+    ensures costs { CostsAtMost (word_calls sfr) steps.old steps.new (moves_of X.moved lanes.old) (moves_of X.moved lanes.new) }
 {
     let low = (value % 256) as u8;
     let high = (value / 256) as u8;
@@ -299,9 +286,8 @@ pub fn write16<X: Extra, L: Ledger>(
     value: u16,
     steps: &mut Steps<L>,
 ) -> Result<(), Kind>
-    requires bound { now ≤ 3 * 10 ^ 15 }
+    requires present { IsPresent X.further X.agrees (standing X.plain lanes.old) now }
     requires byte { sfr < 24 }
-    requires lazy { IsLazy X.further X.agrees (standing X.plain lanes.old) now }
     requires profile { in_profile lanes.old.steady.wsr ≡ true }
     ensures answer { refusal result
         ≡ refusal (word_written X.further (now - 1) window (shown_units X.further (standing X.plain lanes.old) now) sfr value) }
@@ -309,10 +295,8 @@ pub fn write16<X: Extra, L: Ledger>(
         (λ units. shown_units X.further (standing X.plain lanes.new) now ≡ units) }
     ensures lazy { IsLazy X.further X.agrees (standing X.plain lanes.new) now }
     ensures profile { in_profile lanes.new.steady.wsr ≡ true }
-    ensures refused { OnErr result (lanes.new ≡ lanes.old) }
-    ensures no_call { OnErr result (steps.new ≡ steps.old) }
-    ensures steps { steps.new ≤ steps.old + word_calls sfr }
-    ensures moves { moves_of X.moved lanes.new ≤ moves_of X.moved lanes.old + word_calls sfr }
+    ensures refused { RefusesFreely result lanes.old lanes.new steps.old steps.new }
+    ensures costs { CostsAtMost (word_calls sfr) steps.old steps.new (moves_of X.moved lanes.old) (moves_of X.moved lanes.new) }
 {
     match writable_word(window, sfr) {
         Some(register) => write_one(lanes, now, register, value, steps),

@@ -1,6 +1,7 @@
 // The way from one event to the next.
 ghost use Rattle.std.specs.Prelude.{◌≡◌, ℕ, ◌+◌, ◌-◌, ◌*◌, ◌<◌, ◌≤◌, ◌^◌};
 ghost use Rattle.kc_span.specs.Span.{after};
+ghost use Rattle.kc_block_spec.specs.Costs.{CostsAtMost};
 ghost use Rattle.kc_block_spec.specs.Touch.{block_rule, touch, edges_of};
 ghost use Rattle.kc_block_spec.specs.Leading.{Leads};
 ghost use Rattle.kc_block_lazy.specs.Lanes.{shown_units, IsLazy};
@@ -28,8 +29,7 @@ fn go<X: Extra, O: EdgeOut, L: Ledger>(
     ensures lazy { IsLazy X.further X.agrees (standing X.plain lanes.new) result }
     ensures units { shown_units X.further (standing X.plain lanes.new) result ≡ after (block_rule X.further) now (result - now) (shown_units X.further (standing X.plain lanes.old) now) }
     ensures edges { Leads O.led out.old (edges_of X.further now (result - now) (shown_units X.further (standing X.plain lanes.old) now)) out.new }
-    ensures steps { steps.new ≤ steps.old + 4 * touch X.further now (result - now) (shown_units X.further (standing X.plain lanes.old) now) }
-    ensures moves { moves_of X.moved lanes.new ≤ moves_of X.moved lanes.old + 4 * touch X.further now (result - now) (shown_units X.further (standing X.plain lanes.old) now) }
+    ensures costs { CostsAtMost (4 * touch X.further now (result - now) (shown_units X.further (standing X.plain lanes.old) now)) steps.old steps.new (moves_of X.moved lanes.old) (moves_of X.moved lanes.new) }
 {
     let at = lanes.next();
     if at >= to {
@@ -54,8 +54,7 @@ pub fn advance<X: Extra, O: EdgeOut, L: Ledger>(
     ensures lazy { IsLazy X.further X.agrees (standing X.plain lanes.new) to }
     ensures units { shown_units X.further (standing X.plain lanes.new) to ≡ after (block_rule X.further) now (to - now) (shown_units X.further (standing X.plain lanes.old) now) }
     ensures edges { Leads O.led out.old (edges_of X.further now (to - now) (shown_units X.further (standing X.plain lanes.old) now)) out.new }
-    ensures steps { steps.new ≤ steps.old + 4 * touch X.further now (to - now) (shown_units X.further (standing X.plain lanes.old) now) }
-    ensures moves { moves_of X.moved lanes.new ≤ moves_of X.moved lanes.old + 4 * touch X.further now (to - now) (shown_units X.further (standing X.plain lanes.old) now) }
+    ensures costs { CostsAtMost (4 * touch X.further now (to - now) (shown_units X.further (standing X.plain lanes.old) now)) steps.old steps.new (moves_of X.moved lanes.old) (moves_of X.moved lanes.new) }
 {
     let mut time = now;
     while time < to {

@@ -1,9 +1,10 @@
 // One event of the block.
 ghost use Rattle.std.specs.Prelude.{◌≡◌, ℕ, ◌+◌, ◌*◌, ◌≤◌, ◌^◌};
+ghost use Rattle.kc_block_spec.specs.Costs.{CostsAtMost};
 ghost use Rattle.kc_block_spec.specs.Tick.{tick};
 ghost use Rattle.kc_block_spec.specs.Touch.{in_state, touched as touched_in};
 ghost use Rattle.kc_block_spec.specs.Leading.{Leads};
-ghost use Rattle.kc_block_lazy.specs.Lanes.{shown_units, IsLazy};
+ghost use Rattle.kc_block_lazy.specs.Lanes.{shown_units, IsLazy, IsPresent};
 ghost use Rattle.kc_block_lanes.specs.Standing.{standing, moves_of};
 
 use crate::asks::ask_touched;
@@ -23,13 +24,11 @@ pub fn pass<X: Extra, O: EdgeOut, L: Ledger>(
     out: &mut O,
     steps: &mut Steps<L>,
 )
-    requires bound { now ≤ 3 * 10 ^ 15 }
-    requires lazy { IsLazy X.further X.agrees (standing X.plain lanes.old) now }
+    requires present { IsPresent X.further X.agrees (standing X.plain lanes.old) now }
     ensures lazy { IsLazy X.further X.agrees (standing X.plain lanes.new) (now + 1) }
     ensures units { shown_units X.further (standing X.plain lanes.new) (now + 1) ≡ (tick X.further now (shown_units X.further (standing X.plain lanes.old) now)).units }
     ensures edges { Leads O.led out.old (in_state now (tick X.further now (shown_units X.further (standing X.plain lanes.old) now)).edges) out.new }
-    ensures steps { steps.new ≤ steps.old + 4 * touched_in X.further now (shown_units X.further (standing X.plain lanes.old) now) }
-    ensures moves { moves_of X.moved lanes.new ≤ moves_of X.moved lanes.old + 4 * touched_in X.further now (shown_units X.further (standing X.plain lanes.old) now) }
+    ensures costs { CostsAtMost (4 * touched_in X.further now (shown_units X.further (standing X.plain lanes.old) now)) steps.old steps.new (moves_of X.moved lanes.old) (moves_of X.moved lanes.new) }
 {
     let touched = tick_all(lanes, now, out, steps);
     ask_touched(lanes, touched, now + 1, steps);

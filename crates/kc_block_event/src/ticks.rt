@@ -1,9 +1,10 @@
 // The Tick of all units.
 ghost use Rattle.std.specs.Prelude.{◌≡◌, ℕ, ◌+◌, ◌*◌, ◌≤◌, ◌^◌};
+ghost use Rattle.kc_block_spec.specs.Costs.{Costs};
 ghost use Rattle.kc_block_spec.specs.Tick.{tick};
 ghost use Rattle.kc_block_spec.specs.Touch.{in_state, touched as touched_in};
 ghost use Rattle.kc_block_spec.specs.Leading.{Leads};
-ghost use Rattle.kc_block_lazy.specs.Lanes.{shown_units, IsLazy};
+ghost use Rattle.kc_block_lazy.specs.Lanes.{shown_units, IsLazy, IsPresent};
 ghost use Rattle.kc_block_lazy.specs.Events.{ticked_lanes};
 ghost use Rattle.kc_block_lanes.specs.Standing.{standing, moves_of};
 ghost use Rattle.kc_block_event.specs.Ticking.{inputs_at, touched_by, given_in};
@@ -53,14 +54,12 @@ fn tick_lanes<X: Extra, O: EdgeOut, L: Ledger>(
     out: &mut O,
     steps: &mut Steps<L>,
 ) -> Given
-    requires bound { now ≤ 3 * 10 ^ 15 }
-    requires lazy { IsLazy X.further X.agrees (standing X.plain lanes.old) now }
+    requires present { IsPresent X.further X.agrees (standing X.plain lanes.old) now }
     requires inputs { inputs ≡ inputs_at now (shown_units X.further (standing X.plain lanes.old) now) }
     ensures lanes { standing X.plain lanes.new ≡ record (ticked_lanes X.further (standing X.plain lanes.old) now) { steady = lanes.old.steady } }
     ensures given { result ≡ given_in X.further (standing X.plain lanes.old) now }
     ensures edges { Leads O.led out.old (in_state now (tick X.further now (shown_units X.further (standing X.plain lanes.old) now)).edges) out.new }
-    ensures steps { steps.new ≡ steps.old + 2 * touched_in X.further now (shown_units X.further (standing X.plain lanes.old) now) }
-    ensures moves { moves_of X.moved lanes.new ≤ moves_of X.moved lanes.old + 2 * touched_in X.further now (shown_units X.further (standing X.plain lanes.old) now) }
+    ensures costs { Costs (2 * touched_in X.further now (shown_units X.further (standing X.plain lanes.old) now)) (2 * touched_in X.further now (shown_units X.further (standing X.plain lanes.old) now)) steps.old steps.new (moves_of X.moved lanes.old) (moves_of X.moved lanes.new) }
 {
     let Inputs { levels, edges, .. } = inputs;
     let before = control(&lanes.steady, lanes.steady.levels);
@@ -116,13 +115,11 @@ pub(crate) fn tick_all<X: Extra, O: EdgeOut, L: Ledger>(
     out: &mut O,
     steps: &mut Steps<L>,
 ) -> Touched
-    requires bound { now ≤ 3 * 10 ^ 15 }
-    requires lazy { IsLazy X.further X.agrees (standing X.plain lanes.old) now }
+    requires present { IsPresent X.further X.agrees (standing X.plain lanes.old) now }
     ensures lanes { standing X.plain lanes.new ≡ ticked_lanes X.further (standing X.plain lanes.old) now }
     ensures touched { result ≡ touched_by X.further (standing X.plain lanes.old) now }
     ensures edges { Leads O.led out.old (in_state now (tick X.further now (shown_units X.further (standing X.plain lanes.old) now)).edges) out.new }
-    ensures steps { steps.new ≡ steps.old + 2 * touched_in X.further now (shown_units X.further (standing X.plain lanes.old) now) }
-    ensures moves { moves_of X.moved lanes.new ≤ moves_of X.moved lanes.old + 2 * touched_in X.further now (shown_units X.further (standing X.plain lanes.old) now) }
+    ensures costs { Costs (2 * touched_in X.further now (shown_units X.further (standing X.plain lanes.old) now)) (2 * touched_in X.further now (shown_units X.further (standing X.plain lanes.old) now)) steps.old steps.new (moves_of X.moved lanes.old) (moves_of X.moved lanes.new) }
 {
     let inputs = inputs_in(lanes, now);
     let given = tick_lanes(lanes, inputs, now, out, steps);

@@ -6,6 +6,7 @@ ghost use Rattle.kc_timers.specs.T2.{timer2_rule, tick_of as timer2_tick_of, out
 ghost use Rattle.kc_hso.specs.Cam.{hso_rule, tick_of as hso_tick_of, out_of as hso_out_of};
 ghost use Rattle.kc_hsi.specs.Input.{hsi_rule, tick_of as hsi_tick_of, out_of as hsi_out_of};
 ghost use Rattle.kc_block_lane.specs.Lane.{lane_at, shown};
+ghost use Rattle.kc_block_spec.specs.Costs.{Costs};
 ghost use Rattle.kc_block_spec.specs.Levels.{printed as printed_of, edges_between};
 ghost use Rattle.kc_block_spec.specs.Touch.{in_state};
 ghost use Rattle.kc_block_spec.specs.Leading.{Leads};
@@ -44,8 +45,7 @@ pub(crate) fn tick_hso<O: EdgeOut, L: Ledger>(
         result ≡ (if touched then (hso_out_of now value (shown (hso_rule seen lane.old.at) old now)).command else None) }
     ensures edges { let d = shown (hso_rule seen lane.old.at) (lane_at lane.old.at lane.old.unit.inner) now in
         Leads O.led out.old (if touched then in_state now (edges_between (printed_of steady.now d) (printed_of steady.now (hso_tick_of (bit steady.now.ioc2 6) now value d))) else []) out.new }
-    ensures steps { steps.new ≡ steps.old + (if touched then 2 else 0) }
-    ensures moves { lane.new.unit.moves ≤ lane.old.unit.moves + (if touched then 2 else 0) }
+    ensures costs { Costs (if touched then 2 else 0) (if touched then 2 else 0) steps.old steps.new (lane.old.unit.moves) (lane.new.unit.moves) }
 {
     if !touched {
         return None;
@@ -76,8 +76,7 @@ pub(crate) fn tick_timer2<L: Ledger>(
         lane_at lane.new.at lane.new.unit.inner ≡ moved_lane touched now (timer2_tick_of control inputs now (shown (timer2_rule before) old now)) old }
     ensures out { let old = lane_at lane.old.at lane.old.unit.inner in
         result ≡ (if touched then timer2_out_of control inputs now (shown (timer2_rule before) old now) else record { overflow = false; captured = false }) }
-    ensures steps { steps.new ≡ steps.old + (if touched then 2 else 0) }
-    ensures moves { lane.new.unit.moves ≤ lane.old.unit.moves + (if touched then 2 else 0) }
+    ensures costs { Costs (if touched then 2 else 0) (if touched then 2 else 0) steps.old steps.new (lane.old.unit.moves) (lane.new.unit.moves) }
 {
     if !touched {
         return T2Out {
@@ -105,8 +104,7 @@ pub(crate) fn tick_hsi<L: Ledger>(
         lane_at lane.new.at lane.new.unit.inner ≡ moved_lane touched now (hsi_tick_of edges now (shown hsi_rule old now)) old }
     ensures out { let old = lane_at lane.old.at lane.old.unit.inner in
         result ≡ (if touched then hsi_out_of edges now (shown hsi_rule old now) else record { loaded = false; fourth = false; sixth = false }) }
-    ensures steps { steps.new ≡ steps.old + (if touched then 2 else 0) }
-    ensures moves { lane.new.unit.moves ≤ lane.old.unit.moves + (if touched then 2 else 0) }
+    ensures costs { Costs (if touched then 2 else 0) (if touched then 2 else 0) steps.old steps.new (lane.old.unit.moves) (lane.new.unit.moves) }
 {
     if !touched {
         return HsiOut {
@@ -147,8 +145,7 @@ pub(crate) fn tick_further<X: Extra, O: EdgeOut, L: Ledger>(
         result ≡ (if touched then (X.further.out now levels edges (shown (further_goes X.further) old now)).raised else record { 0 = 0 }) }
     ensures edges { let old = lane_at lane.old.at (X.plain lane.old.unit) in
         Leads O.led out.old (if touched then in_state now (X.further.out now levels edges (shown (further_goes X.further) old now)).moved else []) out.new }
-    ensures steps { steps.new ≡ steps.old + (if touched then 2 else 0) }
-    ensures moves { X.moved lane.new.unit ≤ X.moved lane.old.unit + (if touched then 2 else 0) }
+    ensures costs { Costs (if touched then 2 else 0) (if touched then 2 else 0) steps.old steps.new (X.moved lane.old.unit) (X.moved lane.new.unit) }
 {
     if !touched {
         return IntSet(0);

@@ -15,7 +15,7 @@ use Rattle.kc_stim.specs.Proper.{AreProper, is_driven}
 use Rattle.kc_stim.proofs.Proper.{wires_lead_from_outputs}
 use Rattle.kc_block_spec.specs.Levels.{mask_of, follows, stimulated_before, wired}
 use Rattle.kc_block_spec.specs.Looking.{wired_inputs}
-use Rattle.kc_block_spec.proofs.Masks.{mask_bit, mask_same}
+use Rattle.kc_block_spec.proofs.Masks.{mask_bit, mask_above}
 
 -- one pin more
 pub mask_next : (test : ℕ → Bool) (n : ℕ) → mask_of test (n + 1) ≡ bit_or (mask_of test n) (weight (test n) (2 ^ n))
@@ -33,20 +33,6 @@ mask_rest test n zero none = rw add-zero refl
 mask_rest test n (suc k) none =
     rw (add-suc n k, none (n + k) (omega arith) (omega arith), or_zero_r (mask_of test (n + k)))
     (mask_rest test n k (λ i le lt. none i le (omega arith)))
-
--- no bit from the number on
-mask_above : (test : ℕ → Bool) (n k : ℕ) → n ≤ k → bit_at (mask_of test n) k ≡ 0
-mask_above test n k le =
-    let some : ℕ → Bool = λ i. test i && nat_lt i n in
-    let off : (i : ℕ) → n ≤ i → some i ≡ false = λ i later. and_right (test i) (nat_lt i n) (le-ltb i n later) in
-    let same : mask_of test n ≡ mask_of some n = mask_same test some n (λ i lt. ap (λ b. b) (sym (ap (λ b. test i && b) (lt-ltb i n lt) ∙ and_true (test i)))) in
-    let parts : n + (suc k - n) ≡ suc k = omega arith in
-    let more : mask_of some (suc k) ≡ mask_of some n = ap (mask_of some) (sym parts) ∙ mask_rest some n (suc k - n) (λ i later lt. off i later) in
-    ap (λ m. bit_at m k) (same ∙ sym more) ∙ mask_bit some (suc k) k (omega arith) ∙ ap (λ b. weight b 1) (off k le)
-  where
-    and_true : (b : Bool) → (b && true) ≡ b
-    and_true true = refl
-    and_true false = refl
 
 -- an input that may not be wired has no wire
 pub no_wire : (d : Drives) (pin : ℕ) → AreProper d → is_wire_input pin ≡ false → wire_to d.wires pin ≡ None

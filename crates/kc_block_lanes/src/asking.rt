@@ -1,5 +1,5 @@
 // Units asked anew when they are next due, and the slots of stimuli and wires.
-ghost use Rattle.std.specs.Prelude.{◌≡◌, ◌≢◌, ℕ, ◌*◌, ◌≤◌, ◌^◌, ◌+◌, ◌<◌};
+ghost use Rattle.std.specs.Prelude.{◌≡◌, ◌≢◌, ℕ, ◌*◌, ◌≤◌, ◌^◌, ◌+◌, ◌<◌, ◌==◌, not};
 ghost use Rattle.kc_span.specs.Span.{IsDue};
 ghost use Rattle.kc_due.specs.Due.{at_slot};
 ghost use Rattle.kc_stim.specs.Drives.{IsNextEdge};
@@ -117,13 +117,25 @@ impl<X: Extra> Lanes<X> {
         ensures rest { self.new ≡ record self.old { due = self.new.due } }
         ensures others { (k : ℕ) → k ≢ 6 → at_slot self.new.due k ≡ at_slot self.old.due k }
     {
-        let own = unwired(&self.stimuli, self.steady.levels);
-        let ahead = own | wired(&self.stimuli, outputs(&self.steady, &self.hso.unit));
-        let at = if ahead == self.steady.levels {
-            None
-        } else {
+        let at = if self.wires_differ(now) {
             Some(now)
+        } else {
+            None
         };
         set_slot(&mut self.due, 6, at);
+    }
+
+    // Whether the level of a wired input is not that of its output; there is none where nothing is wired.
+    fn wires_differ(&self, now: StateTime) -> bool
+        requires proper { AreProper self.now.stimuli }
+        requires held { AreHeld self.now.stimuli self.now.steady.levels now }
+        ensures { result ≡ not (levels_ahead (standing X.plain self.now) now == self.now.steady.levels) }
+    {
+        if self.stimuli.has_no_wire() {
+            return false;
+        }
+        let own = unwired(&self.stimuli, self.steady.levels);
+        let ahead = own | wired(&self.stimuli, outputs(&self.steady, &self.hso.unit));
+        ahead != self.steady.levels
     }
 }

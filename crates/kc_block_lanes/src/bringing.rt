@@ -3,7 +3,8 @@ ghost use Rattle.std.specs.Prelude.{◌≡◌, ℕ, ◌*◌, ◌≤◌, ◌^◌,
 ghost use Rattle.kc_span.specs.Span.{one_more};
 ghost use Rattle.kc_hsi.specs.Input.{hsi_rule};
 ghost use Rattle.kc_block_lane.specs.Lane.{brought_to};
-ghost use Rattle.kc_block_lazy.specs.Lanes.{flag_goes, timer2_goes, hso_goes, further_goes, shown_units, IsLazy};
+ghost use Rattle.kc_block_spec.specs.Costs.{Costs};
+ghost use Rattle.kc_block_lazy.specs.Lanes.{flag_goes, timer2_goes, hso_goes, further_goes, shown_units, IsLazy, IsPresent, IsLeft};
 ghost use Rattle.kc_block_lanes.specs.Standing.{standing, moves_of};
 
 use crate::lanes::Lanes;
@@ -18,17 +19,14 @@ const TIMER1_TURN: u64 = 524_288;
 impl<X: Extra> Lanes<X> {
     /// Brings HSO to the start of state `now`.
     pub fn bring_hso<L: Ledger>(&mut self, now: StateTime, steps: &mut Steps<L>)
-        requires bound { now ≤ 3 * 10 ^ 15 }
-        requires lazy { IsLazy X.further X.agrees (standing X.plain self.old) now }
-        ensures lazy { IsLazy X.further X.agrees (standing X.plain self.new) now }
-        ensures shows { shown_units X.further (standing X.plain self.new) now ≡ shown_units X.further (standing X.plain self.old) now }
+        requires present { IsPresent X.further X.agrees (standing X.plain self.old) now }
+        ensures left { IsLeft X.further X.agrees now (standing X.plain self.new) (shown_units X.further (standing X.plain self.old) now) }
         ensures standing { standing X.plain self.new ≡ record (standing X.plain self.old) {
           hso = brought_to (hso_goes (standing X.plain self.old)) now (standing X.plain self.old).hso;
         } }
         ensures rest { self.new ≡ record self.old { hso = self.new.hso } }
         ensures moved { self.new.hso.unit.moves ≡ one_more self.old.hso.unit.moves }
-        ensures moves { moves_of X.moved self.new ≤ moves_of X.moved self.old + 1 }
-        ensures steps { steps.new ≡ steps.old + 1 }
+        ensures costs { Costs 1 1 steps.old steps.new (moves_of X.moved self.old) (moves_of X.moved self.new) }
     {
         let seen = self.view(self.hso.at);
         self.hso.unit.quiet_to(self.hso.at, now, seen, steps);
@@ -37,10 +35,8 @@ impl<X: Extra> Lanes<X> {
 
     /// Brings Timer 2, and HSO which sees it, to the start of state `now`.
     pub fn bring_timers<L: Ledger>(&mut self, now: StateTime, steps: &mut Steps<L>)
-        requires bound { now ≤ 3 * 10 ^ 15 }
-        requires lazy { IsLazy X.further X.agrees (standing X.plain self.old) now }
-        ensures lazy { IsLazy X.further X.agrees (standing X.plain self.new) now }
-        ensures shows { shown_units X.further (standing X.plain self.new) now ≡ shown_units X.further (standing X.plain self.old) now }
+        requires present { IsPresent X.further X.agrees (standing X.plain self.old) now }
+        ensures left { IsLeft X.further X.agrees now (standing X.plain self.new) (shown_units X.further (standing X.plain self.old) now) }
         ensures standing { standing X.plain self.new ≡ record (standing X.plain self.old) {
           timer2 = brought_to (timer2_goes (standing X.plain self.old)) now (standing X.plain self.old).timer2;
           hso = brought_to (hso_goes (standing X.plain self.old)) now (standing X.plain self.old).hso;
@@ -48,8 +44,7 @@ impl<X: Extra> Lanes<X> {
         ensures rest { self.new ≡ record self.old { timer2 = self.new.timer2; hso = self.new.hso } }
         ensures timer2_moved { self.new.timer2.unit.moves ≡ one_more self.old.timer2.unit.moves }
         ensures hso_moved { self.new.hso.unit.moves ≡ one_more self.old.hso.unit.moves }
-        ensures moves { moves_of X.moved self.new ≤ moves_of X.moved self.old + 2 }
-        ensures steps { steps.new ≡ steps.old + 2 }
+        ensures costs { Costs 2 2 steps.old steps.new (moves_of X.moved self.old) (moves_of X.moved self.new) }
     {
         self.bring_hso(now, steps);
         let control = control(&self.steady, self.steady.levels);
@@ -61,17 +56,14 @@ impl<X: Extra> Lanes<X> {
 
     /// Brings HSI to the start of state `now`.
     pub fn bring_hsi<L: Ledger>(&mut self, now: StateTime, steps: &mut Steps<L>)
-        requires bound { now ≤ 3 * 10 ^ 15 }
-        requires lazy { IsLazy X.further X.agrees (standing X.plain self.old) now }
-        ensures lazy { IsLazy X.further X.agrees (standing X.plain self.new) now }
-        ensures shows { shown_units X.further (standing X.plain self.new) now ≡ shown_units X.further (standing X.plain self.old) now }
+        requires present { IsPresent X.further X.agrees (standing X.plain self.old) now }
+        ensures left { IsLeft X.further X.agrees now (standing X.plain self.new) (shown_units X.further (standing X.plain self.old) now) }
         ensures standing { standing X.plain self.new ≡ record (standing X.plain self.old) {
           hsi = brought_to hsi_rule now (standing X.plain self.old).hsi;
         } }
         ensures rest { self.new ≡ record self.old { hsi = self.new.hsi } }
         ensures moved { self.new.hsi.unit.moves ≡ one_more self.old.hsi.unit.moves }
-        ensures moves { moves_of X.moved self.new ≤ moves_of X.moved self.old + 1 }
-        ensures steps { steps.new ≡ steps.old + 1 }
+        ensures costs { Costs 1 1 steps.old steps.new (moves_of X.moved self.old) (moves_of X.moved self.new) }
     {
         self.hsi.unit.quiet_to(self.hsi.at, now, steps);
         self.hsi.at = now;
@@ -79,17 +71,14 @@ impl<X: Extra> Lanes<X> {
 
     /// Brings the further unit to the start of state `now`.
     pub fn bring_further<L: Ledger>(&mut self, now: StateTime, steps: &mut Steps<L>)
-        requires bound { now ≤ 3 * 10 ^ 15 }
-        requires lazy { IsLazy X.further X.agrees (standing X.plain self.old) now }
-        ensures lazy { IsLazy X.further X.agrees (standing X.plain self.new) now }
-        ensures shows { shown_units X.further (standing X.plain self.new) now ≡ shown_units X.further (standing X.plain self.old) now }
+        requires present { IsPresent X.further X.agrees (standing X.plain self.old) now }
+        ensures left { IsLeft X.further X.agrees now (standing X.plain self.new) (shown_units X.further (standing X.plain self.old) now) }
         ensures standing { standing X.plain self.new ≡ record (standing X.plain self.old) {
           further = brought_to (further_goes X.further) now (standing X.plain self.old).further;
         } }
         ensures rest { self.new ≡ record self.old { further = self.new.further } }
         ensures moved { X.moved self.new.further.unit ≡ one_more (X.moved self.old.further.unit) }
-        ensures moves { moves_of X.moved self.new ≤ moves_of X.moved self.old + 1 }
-        ensures steps { steps.new ≡ steps.old + 1 }
+        ensures costs { Costs 1 1 steps.old steps.new (moves_of X.moved self.old) (moves_of X.moved self.new) }
     {
         self.further.unit.quiet_to(self.further.at, now, steps);
         self.further.at = now;
@@ -98,8 +87,7 @@ impl<X: Extra> Lanes<X> {
     /// Brings bit 5 of IOS1 to the start of state `now`, by arithmetic.
     pub fn bring_flag(&mut self, now: StateTime)
         requires lazy { IsLazy X.further X.agrees (standing X.plain self.old) now }
-        ensures lazy { IsLazy X.further X.agrees (standing X.plain self.new) now }
-        ensures shows { shown_units X.further (standing X.plain self.new) now ≡ shown_units X.further (standing X.plain self.old) now }
+        ensures left { IsLeft X.further X.agrees now (standing X.plain self.new) (shown_units X.further (standing X.plain self.old) now) }
         ensures rest { self.new ≡ record self.old { flag = self.new.flag } }
         ensures standing { standing X.plain self.new ≡ record (standing X.plain self.old) {
           flag = brought_to (flag_goes (standing X.plain self.old)) now (standing X.plain self.old).flag;

@@ -25,6 +25,10 @@ pub(crate) fn set_slot(due: &mut DueList, slot: u8, at: Option<StateTime>)
 {
     match at {
         Some(at) => due.set(slot, at),
-        None => due.clear(slot),
+        None => {
+            if due.time_of(slot).is_some() {
+                due.clear(slot);
+            }
+        }
     }
 }

@@ -1,5 +1,6 @@
 // The units at the start of state 0.
 ghost use Rattle.std.specs.Prelude.{◌≡◌, ◌≢◌, ℕ, ◌<◌, ◌≤◌, IfOk, None, bit_xor};
+ghost use Rattle.kc_base.specs.Fresh.{IsFresh};
 ghost use Rattle.kc_span.specs.Span.{IsDue};
 ghost use Rattle.kc_due.specs.Due.{at_slot};
 ghost use Rattle.kc_block_spec.specs.Levels.{stimulated_before};
@@ -45,9 +46,7 @@ ghost use Rattle.kc_block_spec.specs.Start.{first_steady as steady_at_start};
 
 /// Asks when all are due from state 0 on, with a counter of its own.
 fn ask_all<X: Extra, L: Ledger>(lanes: &mut Lanes<X>, blank: Blank)
-    requires name { blank.name ≡ L.name }
-    requires parts { blank.parts ≡ L.parts }
-    requires some { 0 < L.parts }
+    requires fresh { IsFresh blank L.name L.parts }
     requires timer2 { lanes.old.timer2.at ≡ 0 }
     requires levels { lanes.old.steady.levels ≡ stimulated_before lanes.old.stimuli 0 }
     requires empty { (slot : ℕ) → slot < 16 → at_slot lanes.old.due slot ≡ None }

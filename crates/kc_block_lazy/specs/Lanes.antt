@@ -1,5 +1,5 @@
 -- The units as the block keeps them, each at a state of its own, and as it shows them (this kit's own).
-use Rattle.std.specs.Prelude.{◌≡◌, ℕ, ◌<◌, ◌≤◌, ◌==◌, Bool, if◌then◌else◌, Option, Some, None, bit_or, bit_xor}
+use Rattle.std.specs.Prelude.{◌≡◌, ℕ, ◌*◌, ◌^◌, ◌<◌, ◌≤◌, ◌==◌, Bool, if◌then◌else◌, Option, Some, None, bit_or, bit_xor}
 use Rattle.kc_base.specs.Bits.{bit}
 use Rattle.kc_span.specs.Span.{Rule}
 use Rattle.kc_due.specs.Due.{Times, at_slot}
@@ -93,6 +93,16 @@ pub record IsLazy {X : Type 0} (f : Further X) (agrees : ℕ → ℕ → X → T
   pub agreed : (m : ℕ) → agrees m (bit_xor h.steady.levels m) h.further.kept
   -- the slots from 7 on are of no use
   pub spare : (slot : ℕ) → 7 ≤ slot → slot < 16 → at_slot h.due slot ≡ None
+
+-- lanes in the present state, past which no run goes
+pub record IsPresent {X : Type 0} (f : Further X) (agrees : ℕ → ℕ → X → Type 0) (h : Lanes X) (now : ℕ) : Type 0 where
+  pub bound : now ≤ 3 * 10 ^ 15
+  pub lazy : IsLazy f agrees h now
+
+-- lanes in the present state that show these units
+pub record IsLeft {X : Type 0} (f : Further X) (agrees : ℕ → ℕ → X → Type 0) (now : ℕ) (h : Lanes X) (units : Units X) : Type 0 where
+  pub lazy : IsLazy f agrees h now
+  pub shows : shown_units f h now ≡ units
 
 -- each of the seven slots has a later time, or none
 abbrev pub IsAhead : {X : Type 0} → Lanes X → ℕ → Type 0

@@ -14,7 +14,8 @@ weight_there : (b : Bool) (n k : ℕ) → k ≢ n → bit_at (weight b (2 ^ n)) 
 weight_there true n k other = bit_at-pow_other n k other
 weight_there false n k other = bit_at-zero k
 
-mask_above : (test : ℕ → Bool) (n k : ℕ) → n ≤ k → bit_at (mask_of test n) k ≡ 0
+-- no bit from the number on
+pub mask_above : (test : ℕ → Bool) (n k : ℕ) → n ≤ k → bit_at (mask_of test n) k ≡ 0
 unfolding mask_of
 mask_above test zero k le = bit_at-zero k
 mask_above test (suc n) k le =

@@ -14,3 +14,4 @@ pub mod Looking
 pub mod RegisterLaws
 pub mod Leading
 pub mod Start
+pub mod Costs

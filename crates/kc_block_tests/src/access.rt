@@ -1,4 +1,5 @@
-ghost use Rattle.std.specs.Prelude.{◌≡◌, ◌<◌, true};
+ghost use Rattle.std.specs.Prelude.{◌≡◌, true};
+ghost use Rattle.kc_base.specs.Fresh.{IsFresh};
 ghost use Rattle.kc_exec_spec.specs.Window.{is_wsr};
 ghost use Rattle.kc_block_lazy.specs.Lanes.{IsLazy};
 ghost use Rattle.kc_block_lanes.specs.Standing.{standing};
@@ -113,9 +114,7 @@ fn reads_of_words<X: Extra, L: Ledger>(
 fn accesses<X: Extra, L: Ledger>(rt: &impl Abort, mut lanes: Lanes<X>, blank: Blank) -> Lanes<X>
     requires lazy { IsLazy X.further X.agrees (standing X.plain lanes) NOW }
     requires profile { is_wsr lanes.steady.wsr ≡ true }
-    requires name { blank.name ≡ L.name }
-    requires parts { blank.parts ≡ L.parts }
-    requires some { 0 < L.parts }
+    requires fresh { IsFresh blank L.name L.parts }
 {
     let lent = &mut lanes;
     let mut steps = Steps::<L>::new(blank);

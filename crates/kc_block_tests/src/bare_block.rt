@@ -1,4 +1,5 @@
-ghost use Rattle.std.specs.Prelude.{◌≡◌, ◌<◌, ◌≤◌, ◌*◌, ◌^◌, length};
+ghost use Rattle.std.specs.Prelude.{◌≤◌, ◌*◌, ◌^◌, length};
+ghost use Rattle.kc_base.specs.Fresh.{IsFresh};
 
 use Does::{IsDue, Looks, Refuses, Shows, ShowsWord, Writes, WritesWord};
 use Level::{High, Low};
@@ -105,9 +106,7 @@ fn made<L: Ledger>(
     out: &mut Seen,
     blank: Blank,
 )
-    requires name { blank.name ≡ L.name }
-    requires parts { blank.parts ≡ L.parts }
-    requires some { 0 < L.parts }
+    requires fresh { IsFresh blank L.name L.parts }
 {
     let mut steps = Steps::<L>::new(blank);
     for row in rows {

@@ -1,5 +1,6 @@
 // A block that has a beacon: what it shows, what it lends, and that the one leads to the other.
-ghost use Rattle.std.specs.Prelude.{◌≡◌, ◌<◌};
+ghost use Rattle.std.specs.Prelude.{◌≡◌};
+ghost use Rattle.kc_base.specs.Fresh.{IsFresh};
 
 use crate::beacon::Beacon;
 use kc_base::{Kind, MemSink, StateTime, Steps};
@@ -35,9 +36,7 @@ fn lends<L: Ledger>(
     blank: Blank,
 )
     requires new { block.old.time ≡ 0 }
-    requires name { blank.name ≡ L.name }
-    requires parts { blank.parts ≡ L.parts }
-    requires some { 0 < L.parts }
+    requires fresh { IsFresh blank L.name L.parts }
 {
     let mut steps = Steps::<L>::new(blank);
     block.advance(10, out, &mut steps);

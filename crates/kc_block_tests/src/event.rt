@@ -1,4 +1,5 @@
-ghost use Rattle.std.specs.Prelude.{◌≡◌, ◌+◌, ◌*◌, ◌<◌, ◌≤◌, ◌^◌};
+ghost use Rattle.std.specs.Prelude.{◌≡◌, ◌+◌, ◌*◌, ◌≤◌, ◌^◌};
+ghost use Rattle.kc_base.specs.Fresh.{IsFresh};
 ghost use Rattle.kc_block_lazy.specs.Lanes.{IsLazy};
 ghost use Rattle.kc_block_lanes.specs.Standing.{standing};
 
@@ -64,9 +65,7 @@ fn load<X: Extra, L: Ledger>(
 
 // Two locked entries on Timer 2: at 1000 HSO0 rises, at 2000 it falls. The slots are looked at in states 6 and 0 modulo 8.
 fn locked_entries<X: Extra + Drop, L: Ledger>(rt: &impl Abort, mut lanes: Lanes<X>, blank: Blank)
-    requires name { blank.name ≡ L.name }
-    requires parts { blank.parts ≡ L.parts }
-    requires some { 0 < L.parts }
+    requires fresh { IsFresh blank L.name L.parts }
     requires lazy { IsLazy X.further X.agrees (standing X.plain lanes) 0 }
 {
     let mut steps = Steps::<L>::new(blank);

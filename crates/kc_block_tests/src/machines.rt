@@ -1,5 +1,6 @@
 // Machines that have a beacon, alone and in a pair: each row has to come out the same.
-ghost use Rattle.std.specs.Prelude.{◌≡◌, ◌≤◌, ◌<◌, ◌^◌, ◌*◌, false, length};
+ghost use Rattle.std.specs.Prelude.{◌≡◌, ◌≤◌, ◌^◌, ◌*◌, false, length};
+ghost use Rattle.kc_base.specs.Fresh.{IsFresh};
 ghost use Rattle.kc_block_tests.specs.Starting.{FitsEachBoard};
 
 use crate::beacon::Beacon;
@@ -33,9 +34,7 @@ fn run<X: Extra + Drop, L: Ledger>(
     out: &mut TraceOut<MemSink>,
     blank: Blank,
 ) -> bool
-    requires name { blank.name ≡ L.name }
-    requires parts { blank.parts ≡ L.parts }
-    requires some { 0 < L.parts }
+    requires fresh { IsFresh blank L.name L.parts }
     requires unbroken { out.old.failed ≡ false }
     requires until { until ≤ 2 * 10 ^ 15 }
 {

@@ -4,5 +4,5 @@ use Rattle.kc_block_access.proofs.acting.clear_ios1.Goals as goal
 pub returns-clause-left : goal.returns-clause-left
 returns-clause-left g c =
     flag_act g.X.Extra.further g.X.Extra.agrees g.X.Extra.plain c.args.lanes.now c.bring_flag.new.self c.ask_flag.new.self c.args.now
-    (record { lazy = c.bring_flag.ensures.lazy; shows = c.bring_flag.ensures.shows }) c.bring_flag.ensures.standing
+    (record { lazy = c.bring_flag.ensures.left.lazy; shows = c.bring_flag.ensures.left.shows }) c.bring_flag.ensures.standing
     c.ask_flag.ensures.rest c.ask_flag.ensures.others c.ask_flag.ensures.due

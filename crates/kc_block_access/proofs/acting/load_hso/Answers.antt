@@ -30,7 +30,7 @@ returns-clause-left g c =
     let rule = hso_goes (standing g.X.Extra.plain before) in
     let there : before.hso.at ≡ c.args.now = ap (λ l. l.hso.at) c.bring_hso.ensures.standing in
     let was : IsDue rule c.args.now before.hso.unit.inner (at_slot before.due 1) =
-    subst (λ at. IsDue rule at before.hso.unit.inner (at_slot before.due 1)) there c.bring_hso.ensures.lazy.hso.due in
+    subst (λ at. IsDue rule at before.hso.unit.inner (at_slot before.due 1)) there c.bring_hso.ensures.left.lazy.hso.due in
     let is : IsDue rule c.args.now (with_load c.args.time before.hso.unit.inner) (least_of (at_slot before.due 1) c.first_empty-visit.result) =
     loads_due (line (standing g.X.Extra.plain before)) c.args.now c.args.time before.hso.unit.inner (at_slot before.due 1) c.first_empty-visit.result was c.first_empty-visit.ensures.first in
     let slot : IsDue rule c.args.now (with_load c.args.time before.hso.unit.inner) (at_slot c.hasten_hso.new.due 1) =
@@ -39,5 +39,5 @@ returns-clause-left g c =
     subst (λ d. IsDue rule c.args.now d (at_slot c.hasten_hso.new.due 1)) (sym (ap (λ u. u.inner) loads)) slot in
     hso_act g.X.Extra.further g.X.Extra.agrees g.X.Extra.plain c.args.lanes.now before (record before { hso = record before.hso { unit = unit }; due = c.hasten_hso.new.due }) c.args.now
     (with_load c.args.time) unit
-    (record { lazy = c.bring_hso.ensures.lazy; shows = c.bring_hso.ensures.shows }) c.bring_hso.ensures.standing
+    (record { lazy = c.bring_hso.ensures.left.lazy; shows = c.bring_hso.ensures.left.shows }) c.bring_hso.ensures.standing
     (ap (λ u. u.inner) loads) (λ d. refl) refl c.hasten_hso.ensures.others due

@@ -2,9 +2,8 @@ use Rattle.std.proofs.Common.{sym, subst}
 use Rattle.kc_span.specs.Span.{Counted}
 use Rattle.kc_hso.specs.Cam.{Cam}
 use Rattle.kc_block_lane.specs.Lane.{lane_at}
-use Rattle.kc_block_lazy.specs.Lanes.{shown_units}
+use Rattle.kc_block_lazy.specs.Lanes.{shown_units, IsLeft}
 use Rattle.kc_block_lanes.specs.Standing.{standing}
-use Rattle.kc_block_access.specs.Left.{IsLeft}
 use Rattle.kc_block_access.proofs.Left.{command_left}
 use Rattle.kc_block_access.proofs.acting.write_hso_command.Goals as goal
 

@@ -7,6 +7,6 @@ returns-clause-left g c =
     timers_act g.X.Extra.further g.X.Extra.agrees g.X.Extra.plain c.args.lanes.now c.bring_timers.new.self c.ask_timers.new.self c.args.now
     (λ s. s) (λ t. record t { value = c.args.value }) (λ d. d)
     c.bring_timers.new.self.steady c.write.new.self c.bring_timers.new.self.hso.unit
-    (record { lazy = c.bring_timers.ensures.lazy; shows = c.bring_timers.ensures.shows }) c.bring_timers.ensures.standing
+    (record { lazy = c.bring_timers.ensures.left.lazy; shows = c.bring_timers.ensures.left.shows }) c.bring_timers.ensures.standing
     (λ s. refl) refl (ap (λ u. u.inner) c.write.ensures) (omega arith)
     refl (λ d. refl) c.ask_timers.ensures.rest c.ask_timers.ensures.others c.ask_timers.ensures.timer2 c.ask_timers.ensures.hso

@@ -5,9 +5,8 @@ use Rattle.kc_block_spec.specs.Registers.{row_at, words_written}
 use Rattle.kc_block_spec.specs.Accesses.{word_written, word_written_as}
 use Rattle.kc_block_spec.specs.Writing.{with_word}
 use Rattle.kc_block_spec.proofs.Named.{writes_keep_profile}
-use Rattle.kc_block_lazy.specs.Lanes.{shown_units, IsLazy}
+use Rattle.kc_block_lazy.specs.Lanes.{shown_units, IsLazy, IsLeft}
 use Rattle.kc_block_lanes.specs.Standing.{standing}
-use Rattle.kc_block_access.specs.Left.{IsLeft}
 use Rattle.kc_block_access.proofs.Outcomes.{profile_left, both_of, either_way, weaker}
 use Rattle.kc_block_access.proofs.writing.write16.Goals as goal
 
@@ -16,8 +15,8 @@ returns-in-Some-clause-lazy g c =
     let new = standing g.X.Extra.plain c.write_one.new.lanes in
     either_way c.write_one.result (with_word (shown_units g.X.Extra.further (standing g.X.Extra.plain c.args.lanes.now) c.args.now) c.in-Some.register c.args.value)
     (IsLeft g.X.Extra.further g.X.Extra.agrees c.args.now new) (c.write_one.new.lanes ≡ c.args.lanes.now) (IsLazy g.X.Extra.further g.X.Extra.agrees new c.args.now)
-    c.write_one.ensures.answer c.write_one.ensures.left c.write_one.ensures.refused (λ u left. left.lazy)
-    (λ same. subst (λ l. IsLazy g.X.Extra.further g.X.Extra.agrees (standing g.X.Extra.plain l) c.args.now) (sym same) c.requires.lazy)
+    c.write_one.ensures.answer c.write_one.ensures.left c.write_one.ensures.refused.same (λ u left. left.lazy)
+    (λ same. subst (λ l. IsLazy g.X.Extra.further g.X.Extra.agrees (standing g.X.Extra.plain l) c.args.now) (sym same) c.requires.present.lazy)
 
 pub returns-in-Some-clause-profile : goal.returns-in-Some-clause-profile
 returns-in-Some-clause-profile g c =
@@ -29,7 +28,7 @@ returns-in-Some-clause-profile g c =
     let keeps = subst (λ r. IfOk (word_written_as g.X.Extra.further (c.args.now - 1) c.args.window u c.args.sfr c.args.value r) (λ v. is_wsr v.steady.wsr ≡ true)) row
     (writes_keep_profile g.X.Extra.further (c.args.now - 1) c.args.window u c.args.sfr c.args.value c.requires.profile).1 in
     either_way c.write_one.result one (λ v. left v × (is_wsr v.steady.wsr ≡ true)) (c.write_one.new.lanes ≡ c.args.lanes.now) (is_wsr c.write_one.new.lanes.steady.wsr ≡ true)
-    c.write_one.ensures.answer (both_of left (λ v. is_wsr v.steady.wsr ≡ true) one c.write_one.ensures.left keeps) c.write_one.ensures.refused
+    c.write_one.ensures.answer (both_of left (λ v. is_wsr v.steady.wsr ≡ true) one c.write_one.ensures.left keeps) c.write_one.ensures.refused.same
     (λ v both. profile_left g.X.Extra.further g.X.Extra.agrees c.args.now new v both.0 both.1)
     (λ same. ap (λ l. is_wsr l.steady.wsr) same ∙ c.requires.profile)
 
@@ -44,8 +43,8 @@ returns-in-None-clause-lazy g c =
     let new = standing g.X.Extra.plain c.write_two.new.lanes in
     either_way c.write_two.result (word_written g.X.Extra.further (c.args.now - 1) c.args.window (shown_units g.X.Extra.further (standing g.X.Extra.plain c.args.lanes.now) c.args.now) c.args.sfr c.args.value)
     (IsLeft g.X.Extra.further g.X.Extra.agrees c.args.now new) (c.write_two.new.lanes ≡ c.args.lanes.now) (IsLazy g.X.Extra.further g.X.Extra.agrees new c.args.now)
-    c.write_two.ensures.answer c.write_two.ensures.left c.write_two.ensures.refused (λ u left. left.lazy)
-    (λ same. subst (λ l. IsLazy g.X.Extra.further g.X.Extra.agrees (standing g.X.Extra.plain l) c.args.now) (sym same) c.requires.lazy)
+    c.write_two.ensures.answer c.write_two.ensures.left c.write_two.ensures.refused.same (λ u left. left.lazy)
+    (λ same. subst (λ l. IsLazy g.X.Extra.further g.X.Extra.agrees (standing g.X.Extra.plain l) c.args.now) (sym same) c.requires.present.lazy)
 
 pub returns-in-None-clause-profile : goal.returns-in-None-clause-profile
 returns-in-None-clause-profile g c =
@@ -55,6 +54,6 @@ returns-in-None-clause-profile g c =
     let two = word_written g.X.Extra.further (c.args.now - 1) c.args.window u c.args.sfr c.args.value in
     either_way c.write_two.result two (λ v. left v × (is_wsr v.steady.wsr ≡ true)) (c.write_two.new.lanes ≡ c.args.lanes.now) (is_wsr c.write_two.new.lanes.steady.wsr ≡ true)
     c.write_two.ensures.answer (both_of left (λ v. is_wsr v.steady.wsr ≡ true) two c.write_two.ensures.left
-    (writes_keep_profile g.X.Extra.further (c.args.now - 1) c.args.window u c.args.sfr c.args.value c.requires.profile).1) c.write_two.ensures.refused
+    (writes_keep_profile g.X.Extra.further (c.args.now - 1) c.args.window u c.args.sfr c.args.value c.requires.profile).1) c.write_two.ensures.refused.same
     (λ v both. profile_left g.X.Extra.further g.X.Extra.agrees c.args.now new v both.0 both.1)
     (λ same. ap (λ l. is_wsr l.steady.wsr) same ∙ c.requires.profile)

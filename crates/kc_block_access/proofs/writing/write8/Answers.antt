@@ -2,9 +2,8 @@ use Rattle.std.proofs.Common.{◌≡◌, true, sym, ◌∙◌, ◌-◌}
 use Rattle.kc_exec_spec.specs.Window.{is_wsr}
 use Rattle.kc_block_spec.specs.Accesses.{byte_written}
 use Rattle.kc_block_spec.proofs.Named.{writes_keep_profile}
-use Rattle.kc_block_lazy.specs.Lanes.{shown_units}
+use Rattle.kc_block_lazy.specs.Lanes.{shown_units, IsLeft}
 use Rattle.kc_block_lanes.specs.Standing.{standing}
-use Rattle.kc_block_access.specs.Left.{IsLeft}
 use Rattle.kc_block_access.proofs.Outcomes.{answer_of, none_of_refused, profile_left}
 use Rattle.kc_block_access.proofs.writing.write8.Goals as goal
 

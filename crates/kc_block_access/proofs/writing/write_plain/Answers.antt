@@ -2,9 +2,8 @@ use Rattle.std.proofs.Common.{sym, subst}
 use Rattle.std.specs.Prelude.{IfOk}
 use Rattle.kc_block_spec.specs.declared.steady.Steady.{Steady}
 use Rattle.kc_block_spec.specs.Writing.{steady_with, with_byte}
-use Rattle.kc_block_lazy.specs.Lanes.{shown_units}
+use Rattle.kc_block_lazy.specs.Lanes.{shown_units, IsLeft}
 use Rattle.kc_block_lanes.specs.Standing.{standing}
-use Rattle.kc_block_access.specs.Left.{IsLeft}
 use Rattle.kc_block_access.proofs.Left.{unread_left}
 use Rattle.kc_block_access.proofs.Outcomes.{plain_written, plain_unread}
 use Rattle.kc_block_access.proofs.writing.write_plain.Goals as goal

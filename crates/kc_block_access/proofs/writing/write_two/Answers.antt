@@ -1,8 +1,7 @@
 use Rattle.std.proofs.Common.{sym, ◌∙◌, Some, None, ◌-◌, ◌%◌}
 use Rattle.kc_block_spec.specs.Accesses.{byte_written, word_written}
-use Rattle.kc_block_lazy.specs.Lanes.{shown_units}
+use Rattle.kc_block_lazy.specs.Lanes.{shown_units, IsLeft}
 use Rattle.kc_block_lanes.specs.Standing.{standing}
-use Rattle.kc_block_access.specs.Left.{IsLeft}
 use Rattle.kc_block_access.proofs.Outcomes.{answer_of, none_of_refused}
 use Rattle.kc_block_access.proofs.Words.{refused_low, refused_high, two_left}
 use Rattle.kc_block_access.proofs.writing.write_two.Goals as goal
@@ -29,11 +28,16 @@ returns-in-Some-write_refusal-clause-left g c =
     (refused_high g.X.Extra.further g.X.Extra.agrees (c.args.now - 1) c.args.window (shown_units g.X.Extra.further (standing g.X.Extra.plain c.args.lanes.now) c.args.now) c.args.sfr c.args.value c.requires.two (Some c.in-Some-write_refusal.kind)
     (sym c.in_default.is ∙ c.write_refusal.ensures (c.args.now - 1)) (sym c.in-Some-write_refusal.is ∙ c.write_refusal-2.ensures (c.args.now - 1)))
 
-pub write_byte-requires-2-clause-lazy : goal.write_byte-requires-2-clause-lazy
-write_byte-requires-2-clause-lazy g c =
+pub write_byte-requires-2 : goal.write_byte-requires-2
+write_byte-requires-2 g c =
     let low = byte_written g.X.Extra.further (c.args.now - 1) c.args.window (shown_units g.X.Extra.further (standing g.X.Extra.plain c.args.lanes.now) c.args.now) c.args.sfr (c.args.value % 256) in
     let left = IsLeft g.X.Extra.further g.X.Extra.agrees c.args.now (standing g.X.Extra.plain c.write_byte.new.lanes) in
-    (answer_of left left low (sym (c.write_refusal.ensures (c.args.now - 1)) ∙ c.in_default.is) c.write_byte.ensures.left c.write_byte.ensures.left).1.lazy
+    record {
+      present = record {
+        bound = c.requires.present.bound;
+        lazy = (answer_of left left low (sym (c.write_refusal.ensures (c.args.now - 1)) ∙ c.in_default.is) c.write_byte.ensures.left c.write_byte.ensures.left).1.lazy;
+      };
+    }
 
 pub returns-clause-answer : goal.returns-clause-answer
 returns-clause-answer g c =

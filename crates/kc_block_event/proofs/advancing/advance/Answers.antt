@@ -48,8 +48,8 @@ loop-time-preserved g c =
           subst (λ es. Leads led c.args.out.now es c.go-time.new.out)
           (ap (λ x. edges_of f now (mid - now) u ++ edges_of f mid (end - mid) x) at ∙ sym (edges-over f now mid end u le le'))
           (leads_on led _ _ _ _ _ before.edges one.edges);
-      steps = omega (arith, all, same, before.steps, one.steps);
-      moves = omega (arith, all, same, before.moves, one.moves);
+      steps = omega (arith, all, same, before.steps, one.costs.spent);
+      moves = omega (arith, all, same, before.moves, one.costs.moves);
     }
 
 pub returns-clause-lazy : goal.returns-clause-lazy

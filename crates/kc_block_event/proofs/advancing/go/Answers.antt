@@ -22,11 +22,16 @@ returns-then-at-to-clause-units g c = still_units g.X.Extra.further g.X.Extra.ag
 pub returns-then-at-to-clause-edges : goal.returns-then-at-to-clause-edges
 returns-then-at-to-clause-edges g c = subst (λ es. Leads g.O.EdgeOut.led c.args.out.now es c.args.out.now) (sym (no_edges g.X.Extra.further g.X.Extra.agrees (record { rests = g.met.X.Extra.rests; rests_out = g.met.X.Extra.rests_out; rest_keeps = g.met.X.Extra.rest_keeps; keeps = g.met.X.Extra.keeps; start_keeps = g.met.X.Extra.start_keeps }) (standing g.X.Extra.plain c.args.lanes.now) c.args.now c.args.to c.requires.lazy (omega arith) (up_to_end g c))) refl
 
-pub pass-requires-clause-lazy : goal.pass-requires-clause-lazy
-pass-requires-clause-lazy g c =
-    still_lazy g.X.Extra.further g.X.Extra.agrees (record { rests = g.met.X.Extra.rests; rests_out = g.met.X.Extra.rests_out; rest_keeps = g.met.X.Extra.rest_keeps; keeps = g.met.X.Extra.keeps; start_keeps = g.met.X.Extra.start_keeps }) (standing g.X.Extra.plain c.args.lanes.now) c.args.now c.next-at.result c.requires.lazy
-    (due_not_before (block_rule g.X.Extra.further) c.args.now (shown_units g.X.Extra.further (standing g.X.Extra.plain c.args.lanes.now) c.args.now) c.next-at.result (c.next-at.ensures.due c.args.now c.requires.lazy) (omega arith))
-    (c.next-at.ensures.up_to c.args.now c.requires.lazy)
+pub pass-requires : goal.pass-requires
+pass-requires g c = record {
+  present = record {
+    bound = omega (arith, c.requires.bound);
+    lazy =
+        still_lazy g.X.Extra.further g.X.Extra.agrees (record { rests = g.met.X.Extra.rests; rests_out = g.met.X.Extra.rests_out; rest_keeps = g.met.X.Extra.rest_keeps; keeps = g.met.X.Extra.keeps; start_keeps = g.met.X.Extra.start_keeps }) (standing g.X.Extra.plain c.args.lanes.now) c.args.now c.next-at.result c.requires.lazy
+        (due_not_before (block_rule g.X.Extra.further) c.args.now (shown_units g.X.Extra.further (standing g.X.Extra.plain c.args.lanes.now) c.args.now) c.next-at.result (c.next-at.ensures.due c.args.now c.requires.lazy) (omega arith))
+        (c.next-at.ensures.up_to c.args.now c.requires.lazy);
+  };
+}
 
 not_before : (g : Over) (c : goal.After-pass g) → c.args.now ≤ c.next-at.result
 not_before g c =
@@ -38,10 +43,8 @@ returns-clause-units g c = c.pass.ensures.units ∙ units_past g.X.Extra.further
 pub returns-clause-edges : goal.returns-clause-edges
 returns-clause-edges g c = subst (λ es. Leads g.O.EdgeOut.led c.args.out.now es c.pass.new.out) (edges_past g.X.Extra.further g.X.Extra.agrees (record { rests = g.met.X.Extra.rests; rests_out = g.met.X.Extra.rests_out; rest_keeps = g.met.X.Extra.rest_keeps; keeps = g.met.X.Extra.keeps; start_keeps = g.met.X.Extra.start_keeps }) (standing g.X.Extra.plain c.args.lanes.now) c.args.now c.next-at.result c.requires.lazy (not_before g c) (c.next-at.ensures.up_to c.args.now c.requires.lazy)) c.pass.ensures.edges
 
-pub returns-clause-steps : goal.returns-clause-steps
-returns-clause-steps g c =
-    subst (λ n. c.pass.new.steps ≤ c.args.steps.now + 4 * n) (touch_past g.X.Extra.further g.X.Extra.agrees (record { rests = g.met.X.Extra.rests; rests_out = g.met.X.Extra.rests_out; rest_keeps = g.met.X.Extra.rest_keeps; keeps = g.met.X.Extra.keeps; start_keeps = g.met.X.Extra.start_keeps }) (standing g.X.Extra.plain c.args.lanes.now) c.args.now c.next-at.result c.requires.lazy (not_before g c) (c.next-at.ensures.up_to c.args.now c.requires.lazy)) c.pass.ensures.steps
-
-pub returns-clause-moves : goal.returns-clause-moves
-returns-clause-moves g c =
-    subst (λ n. moves_of g.X.Extra.moved c.pass.new.lanes ≤ moves_of g.X.Extra.moved c.args.lanes.now + 4 * n) (touch_past g.X.Extra.further g.X.Extra.agrees (record { rests = g.met.X.Extra.rests; rests_out = g.met.X.Extra.rests_out; rest_keeps = g.met.X.Extra.rest_keeps; keeps = g.met.X.Extra.keeps; start_keeps = g.met.X.Extra.start_keeps }) (standing g.X.Extra.plain c.args.lanes.now) c.args.now c.next-at.result c.requires.lazy (not_before g c) (c.next-at.ensures.up_to c.args.now c.requires.lazy)) c.pass.ensures.moves
+pub returns-clause-costs : goal.returns-clause-costs
+returns-clause-costs g c = record {
+  spent = subst (λ n. c.pass.new.steps ≤ c.args.steps.now + 4 * n) (touch_past g.X.Extra.further g.X.Extra.agrees (record { rests = g.met.X.Extra.rests; rests_out = g.met.X.Extra.rests_out; rest_keeps = g.met.X.Extra.rest_keeps; keeps = g.met.X.Extra.keeps; start_keeps = g.met.X.Extra.start_keeps }) (standing g.X.Extra.plain c.args.lanes.now) c.args.now c.next-at.result c.requires.lazy (not_before g c) (c.next-at.ensures.up_to c.args.now c.requires.lazy)) c.pass.ensures.costs.spent;
+  moves = subst (λ n. moves_of g.X.Extra.moved c.pass.new.lanes ≤ moves_of g.X.Extra.moved c.args.lanes.now + 4 * n) (touch_past g.X.Extra.further g.X.Extra.agrees (record { rests = g.met.X.Extra.rests; rests_out = g.met.X.Extra.rests_out; rest_keeps = g.met.X.Extra.rest_keeps; keeps = g.met.X.Extra.keeps; start_keeps = g.met.X.Extra.start_keeps }) (standing g.X.Extra.plain c.args.lanes.now) c.args.now c.next-at.result c.requires.lazy (not_before g c) (c.next-at.ensures.up_to c.args.now c.requires.lazy)) c.pass.ensures.costs.moves;
+}

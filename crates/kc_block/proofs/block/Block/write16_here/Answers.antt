@@ -13,13 +13,13 @@ returns-clause-kind g c =
     c.self.view_is (kind_of c.write16-written.result _ c.write16-written.ensures.answer)
 
 pub returns-clause-steps : goal.returns-clause-steps
-returns-clause-steps g c = let few = word_few c.args.sfr in omega (arith, c.write16-written.ensures.steps)
+returns-clause-steps g c = let few = word_few c.args.sfr in omega (arith, c.write16-written.ensures.costs.spent)
 
 pub returns-clause-moves : goal.returns-clause-moves
 returns-clause-moves g c =
     let few = word_few c.args.sfr in
     let seen = ap (λ s. s.moves) c.self.view_is in
-    omega (arith, c.write16-written.ensures.moves)
+    omega (arith, c.write16-written.ensures.costs.moves)
 
 pub returns-clause-ok : goal.returns-clause-ok
 returns-clause-ok g c =

@@ -7,19 +7,17 @@ use Rattle.kc_block_lazy.proofs.Bringing.{timer2_brought, timer2_brought_shows}
 use Rattle.kc_block_lanes.specs.Standing.{standing}
 use Rattle.kc_block_lanes.proofs.lanes.Lanes.bring_timers.Goals as goal
 
-pub returns-clause-lazy : goal.returns-clause-lazy
-returns-clause-lazy g c =
-    let mid = standing g.X.Extra.plain c.bring_hso.new.self in
-    let timer2 = c.bring_hso.new.self.timer2 in
-    let inner = c.quiet_to.ensures.inner ∙ ap (λ k. after (timer2_rule k) timer2.at (c.args.now - timer2.at) timer2.unit.inner) c.control-control.ensures in
-    subst (λ h. IsLazy g.X.Extra.further g.X.Extra.agrees h c.args.now) (sym (ap (λ d. record mid { timer2 = lane_at c.args.now d }) inner))
-    (timer2_brought g.X.Extra.further g.X.Extra.agrees (record { rests = g.met.X.Extra.rests; rests_out = g.met.X.Extra.rests_out; rest_keeps = g.met.X.Extra.rest_keeps; keeps = g.met.X.Extra.keeps; start_keeps = g.met.X.Extra.start_keeps }) mid c.args.now c.bring_hso.ensures.lazy (ap (λ h. h.hso.at) c.bring_hso.ensures.standing))
-
-pub returns-clause-shows : goal.returns-clause-shows
-returns-clause-shows g c =
-    let mid = standing g.X.Extra.plain c.bring_hso.new.self in
-    let timer2 = c.bring_hso.new.self.timer2 in
-    let inner = c.quiet_to.ensures.inner ∙ ap (λ k. after (timer2_rule k) timer2.at (c.args.now - timer2.at) timer2.unit.inner) c.control-control.ensures in
-    ap (λ h. shown_units g.X.Extra.further h c.args.now) (ap (λ d. record mid { timer2 = lane_at c.args.now d }) inner)
-    ∙ timer2_brought_shows g.X.Extra.further g.X.Extra.agrees (record { rests = g.met.X.Extra.rests; rests_out = g.met.X.Extra.rests_out; rest_keeps = g.met.X.Extra.rest_keeps; keeps = g.met.X.Extra.keeps; start_keeps = g.met.X.Extra.start_keeps }) mid c.args.now c.bring_hso.ensures.lazy (ap (λ h. h.hso.at) c.bring_hso.ensures.standing)
-    ∙ c.bring_hso.ensures.shows
+pub returns-clause-left : goal.returns-clause-left
+returns-clause-left g c = record {
+  lazy = let mid = standing g.X.Extra.plain c.bring_hso.new.self in
+      let timer2 = c.bring_hso.new.self.timer2 in
+      let inner = c.quiet_to.ensures.inner ∙ ap (λ k. after (timer2_rule k) timer2.at (c.args.now - timer2.at) timer2.unit.inner) c.control-control.ensures in
+      subst (λ h. IsLazy g.X.Extra.further g.X.Extra.agrees h c.args.now) (sym (ap (λ d. record mid { timer2 = lane_at c.args.now d }) inner))
+      (timer2_brought g.X.Extra.further g.X.Extra.agrees (record { rests = g.met.X.Extra.rests; rests_out = g.met.X.Extra.rests_out; rest_keeps = g.met.X.Extra.rest_keeps; keeps = g.met.X.Extra.keeps; start_keeps = g.met.X.Extra.start_keeps }) mid c.args.now c.bring_hso.ensures.left.lazy (ap (λ h. h.hso.at) c.bring_hso.ensures.standing));
+  shows = let mid = standing g.X.Extra.plain c.bring_hso.new.self in
+      let timer2 = c.bring_hso.new.self.timer2 in
+      let inner = c.quiet_to.ensures.inner ∙ ap (λ k. after (timer2_rule k) timer2.at (c.args.now - timer2.at) timer2.unit.inner) c.control-control.ensures in
+      ap (λ h. shown_units g.X.Extra.further h c.args.now) (ap (λ d. record mid { timer2 = lane_at c.args.now d }) inner)
+      ∙ timer2_brought_shows g.X.Extra.further g.X.Extra.agrees (record { rests = g.met.X.Extra.rests; rests_out = g.met.X.Extra.rests_out; rest_keeps = g.met.X.Extra.rest_keeps; keeps = g.met.X.Extra.keeps; start_keeps = g.met.X.Extra.start_keeps }) mid c.args.now c.bring_hso.ensures.left.lazy (ap (λ h. h.hso.at) c.bring_hso.ensures.standing)
+      ∙ c.bring_hso.ensures.left.shows;
+}
