@@ -3,7 +3,8 @@
 //! `bench/loops`.
 #![tactic(auto)]
 
-ghost use Rattle.std.specs.Prelude.{◌≡◌, ◌≤◌, ◌<◌, false, IfSome, OnOk, OnErr, None};
+ghost use Rattle.std.specs.Prelude.{◌≡◌, ◌≤◌, false, IfSome, OnOk, OnErr, None};
+ghost use Rattle.kc_base.specs.Fresh.{IsFresh};
 ghost use Rattle.kc_base.specs.Causes.{Rose};
 
 use arrayvec::ArrayVec;
@@ -154,9 +155,7 @@ fn run_loop<S: Sink, L: Ledger>(
     out: &mut TraceOut<S>,
     blank: Blank,
 ) -> bool
-    requires name { blank.name ≡ L.name }
-    requires parts { blank.parts ≡ L.parts }
-    requires whole { 0 < blank.parts }
+    requires fresh { IsFresh blank L.name L.parts }
     requires unbroken { out.old.failed ≡ false }
     requires states { states ≤ 2000000000000000 }
 {

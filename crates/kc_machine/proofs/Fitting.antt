@@ -27,6 +27,7 @@ use Rattle.kc_machine_spec.specs.Board.{Board, masks_of, with_masks}
 use Rattle.kc_machine_spec.specs.Scene.{Scene, all_kept, opened, with_units, window_at, byte_weight, word_weight, put, kept, scene_answer, after_by, scene_meaning}
 use Rattle.kc_machine.specs.Keeping.{all_noted, while_counted, fitting}
 use Rattle.kc_machine.specs.Bus.{bus_meaning}
+use Rattle.kc_block_spec.specs.Costs.{CostsAtMost}
 
 -- an access gives eighteen edges at most
 latch_edges-short : {X : Type 0} (old new : Units X) → length (latch_edges old new) ≤ 18
@@ -204,14 +205,10 @@ module _ {X : Type 0} (f : Further X) where
       subst (λ (x : Scene X). x.reached ≤ s.reached + 16) (transferred result cycle new h (run (bus_meaning f) (served cycle) s) e) (few-counted f 8 (served cycle) s (transfer_accesses cycle))
 
 -- both numbers, while the count goes on
-pub record Both (count a b a0 b0 : ℕ) : Type 0 where
-  pub steps : a ≤ a0 + 16 * count
-  pub moves : b ≤ b0 + 16 * count
-
-pub spent-both : (count before a b a0 b0 ka kb : ℕ) → before ≡ 0 → a0 ≡ ka → b0 ≡ kb → count ≤ before + 16 → while_counted count (max (a + kb) (b + ka)) + 16 * before ≤ while_counted before (max (a0 + kb) (b0 + ka)) + 16 * count → Both count a b a0 b0
+pub spent-both : (count before a b a0 b0 ka kb : ℕ) → before ≡ 0 → a0 ≡ ka → b0 ≡ kb → count ≤ before + 16 → while_counted count (max (a + kb) (b + ka)) + 16 * before ≤ while_counted before (max (a0 + kb) (b0 + ka)) + 16 * count → CostsAtMost (16 * count) a0 a b0 b
 spent-both count before a b a0 b0 ka kb none ea eb few h =
     let some : nat_lt count 64 ≡ true = grind (arith, nat_tests) in
     let first : nat_lt before 64 ≡ true = grind (arith, nat_tests) in
     let one : max (a + kb) (b + ka) + 16 * before ≤ while_counted before (max (a0 + kb) (b0 + ka)) + 16 * count = subst (λ t. (if t then max (a + kb) (b + ka) else 0) + 16 * before ≤ while_counted before (max (a0 + kb) (b0 + ka)) + 16 * count) some h in
     let real : max (a + kb) (b + ka) + 16 * before ≤ max (a0 + kb) (b0 + ka) + 16 * count = subst (λ t. max (a + kb) (b + ka) + 16 * before ≤ (if t then max (a0 + kb) (b0 + ka) else 0) + 16 * count) first one in
-    record { steps = omega arith; moves = omega arith }
+    record { spent = omega arith; moves = omega arith }

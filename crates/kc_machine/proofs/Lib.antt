@@ -5,4 +5,5 @@ pub mod Finishing
 pub mod Pins
 pub mod Handing
 pub mod Failing
+pub mod Going
 mod Prepared

@@ -7,3 +7,5 @@ pub mod Board
 pub mod Seen
 pub mod Failing
 pub mod Stepping
+pub mod Accessing
+pub mod Passing

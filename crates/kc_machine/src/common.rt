@@ -70,6 +70,8 @@ fn count(reached: u8, more: u8) -> u8
 
 impl<X: Extra + Drop> Common<X> {
     ghost use Rattle.kc_machine.specs.Bus.{held_of};
+    ghost use Rattle.kc_block_spec.specs.Costs.{CostsAtMost};
+    ghost use Rattle.kc_machine.specs.Accessing.{ReachesNone, CountsAccess};
 
     /// The board of a memory and its units, with no instruction prepared and no access made.
     pub(crate) fn new(
@@ -107,8 +109,7 @@ impl<X: Extra + Drop> Common<X> {
         ensures edges { Leads O.led out.old (edges_of X.further from count self.old.block.units) out.new }
         ensures scene { held_of self.new ≡ opened (from + (count - 1)) (record { units = after (block_rule X.further) from count self.old.block.units; memory = self.old.memory.items }) }
         ensures time { self.new.block.time ≡ from + count }
-        ensures steps { steps.new ≤ steps.old + 4 * touch X.further from count self.old.block.units }
-        ensures moves { self.new.block.moves ≤ self.old.block.moves + 4 * touch X.further from count self.old.block.units }
+        ensures costs { CostsAtMost (4 * touch X.further from count self.old.block.units) steps.old steps.new self.old.block.moves self.new.block.moves }
     {
         self.block.advance(from + count, out, steps);
         self.edges.forget();
@@ -133,9 +134,7 @@ impl<X: Extra + Drop> Common<X> {
     pub(crate) fn take(&mut self, number: u8)
         requires { number < 16 }
         ensures scene { held_of self.new ≡ taken number (held_of self.old) }
-        ensures count { self.new.reached ≡ self.old.reached }
-        ensures time { self.new.block.time ≡ self.old.block.time }
-        ensures moves { self.new.block.moves ≡ self.old.block.moves }
+        ensures none { ReachesNone self.old self.new }
     {
         let mut requests = self.block.requests();
         requests.entered(number);
@@ -146,9 +145,7 @@ impl<X: Extra + Drop> Common<X> {
     pub(crate) fn claim(&mut self, number: u8)
         requires { number < 16 }
         ensures scene { held_of self.new ≡ claimed number (held_of self.old) }
-        ensures count { self.new.reached ≡ self.old.reached }
-        ensures time { self.new.block.time ≡ self.old.block.time }
-        ensures moves { self.new.block.moves ≡ self.old.block.moves }
+        ensures none { ReachesNone self.old self.new }
     {
         let mut requests = self.block.requests();
         requests.taken(number);
@@ -159,9 +156,7 @@ impl<X: Extra + Drop> Common<X> {
     pub(crate) fn hand(&mut self, number: u8, count: u8)
         requires { number < 16 }
         ensures scene { held_of self.new ≡ handed number count (held_of self.old) }
-        ensures count { self.new.reached ≡ self.old.reached }
-        ensures time { self.new.block.time ≡ self.old.block.time }
-        ensures moves { self.new.block.moves ≡ self.old.block.moves }
+        ensures none { ReachesNone self.old self.new }
     {
         if count == 0 {
             let mut requests = self.block.requests();
@@ -299,10 +294,7 @@ impl<X: Extra + Drop> Common<X> {
         ensures answer { scene_answer X.further (held_of self.old) (ReadByte by addr) ≡ result }
         ensures ok { OnOk result (after_by X.further fitting (held_of self.old) (ReadByte by addr) ≡ held_of self.new) }
         ensures err { OnErr result (held_of self.old ≡ held_of self.new) }
-        ensures time { self.new.block.time ≡ self.old.block.time }
-        ensures later { self.old.reached ≤ self.new.reached }
-        ensures steps { self.new.reached < 64 → steps.new + 16 * self.old.reached ≤ steps.old + 16 * self.new.reached }
-        ensures moves { self.new.reached < 64 → self.new.block.moves + 16 * self.old.reached ≤ self.old.block.moves + 16 * self.new.reached }
+        ensures counts { CountsAccess self.old self.new steps.old steps.new }
     {
         let window = self.window(by);
         let value = self.block.read8_here(window, addr as u8, steps)?;
@@ -324,10 +316,7 @@ impl<X: Extra + Drop> Common<X> {
         ensures answer { scene_answer X.further (held_of self.old) (ReadWord by addr) ≡ result }
         ensures ok { OnOk result (after_by X.further fitting (held_of self.old) (ReadWord by addr) ≡ held_of self.new) }
         ensures err { OnErr result (held_of self.old ≡ held_of self.new) }
-        ensures time { self.new.block.time ≡ self.old.block.time }
-        ensures later { self.old.reached ≤ self.new.reached }
-        ensures steps { self.new.reached < 64 → steps.new + 16 * self.old.reached ≤ steps.old + 16 * self.new.reached }
-        ensures moves { self.new.reached < 64 → self.new.block.moves + 16 * self.old.reached ≤ self.old.block.moves + 16 * self.new.reached }
+        ensures counts { CountsAccess self.old self.new steps.old steps.new }
     {
         if addr < 2 {
             return Ok(0);
@@ -351,10 +340,7 @@ impl<X: Extra + Drop> Common<X> {
         ensures answer { scene_answer X.further (held_of self.old) (ReadWord by addr) ≡ result }
         ensures ok { OnOk result (after_by X.further fitting (held_of self.old) (ReadWord by addr) ≡ held_of self.new) }
         ensures err { OnErr result (held_of self.old ≡ held_of self.new) }
-        ensures time { self.new.block.time ≡ self.old.block.time }
-        ensures later { self.old.reached ≤ self.new.reached }
-        ensures steps { self.new.reached < 64 → steps.new + 16 * self.old.reached ≤ steps.old + 16 * self.new.reached }
-        ensures moves { self.new.reached < 64 → self.new.block.moves + 16 * self.old.reached ≤ self.old.block.moves + 16 * self.new.reached }
+        ensures counts { CountsAccess self.old self.new steps.old steps.new }
     {
         self.read_word(by, addr, steps)
     }
@@ -373,10 +359,7 @@ impl<X: Extra + Drop> Common<X> {
         ensures answer { Accepts result (scene_answer X.further (held_of self.old) (WriteByte by addr value)) }
         ensures ok { OnOk result (after_by X.further fitting (held_of self.old) (WriteByte by addr value) ≡ held_of self.new) }
         ensures err { OnErr result (held_of self.old ≡ held_of self.new) }
-        ensures time { self.new.block.time ≡ self.old.block.time }
-        ensures later { self.old.reached ≤ self.new.reached }
-        ensures steps { self.new.reached < 64 → steps.new + 16 * self.old.reached ≤ steps.old + 16 * self.new.reached }
-        ensures moves { self.new.reached < 64 → self.new.block.moves + 16 * self.old.reached ≤ self.old.block.moves + 16 * self.new.reached }
+        ensures counts { CountsAccess self.old self.new steps.old steps.new }
     {
         let window = self.window(by);
         match self
@@ -406,10 +389,7 @@ impl<X: Extra + Drop> Common<X> {
         ensures answer { Accepts result (scene_answer X.further (held_of self.old) (WriteWord by addr value)) }
         ensures ok { OnOk result (after_by X.further fitting (held_of self.old) (WriteWord by addr value) ≡ held_of self.new) }
         ensures err { OnErr result (held_of self.old ≡ held_of self.new) }
-        ensures time { self.new.block.time ≡ self.old.block.time }
-        ensures later { self.old.reached ≤ self.new.reached }
-        ensures steps { self.new.reached < 64 → steps.new + 16 * self.old.reached ≤ steps.old + 16 * self.new.reached }
-        ensures moves { self.new.reached < 64 → self.new.block.moves + 16 * self.old.reached ≤ self.old.block.moves + 16 * self.new.reached }
+        ensures counts { CountsAccess self.old self.new steps.old steps.new }
     {
         if addr < 2 {
             return Ok(());
@@ -431,9 +411,7 @@ impl<X: Extra + Drop> Common<X> {
     pub(crate) fn set_masks(&mut self, masks: Masks)
         requires { IsTrue (is_wsr masks.wsr) }
         ensures scene { after_by X.further fitting (held_of self.old) (SetMasks masks) ≡ held_of self.new }
-        ensures count { self.new.reached ≡ self.old.reached }
-        ensures time { self.new.block.time ≡ self.old.block.time }
-        ensures moves { self.new.block.moves ≡ self.old.block.moves }
+        ensures none { ReachesNone self.old self.new }
     {
         let mut requests = self.block.requests();
         requests.mask = u16::from(masks.int_mask) + 256 * u16::from(masks.int_mask1);

@@ -1,5 +1,5 @@
 // How activities end: their accesses, and what is printed of them.
-ghost use Rattle.std.specs.Prelude.{◌≡◌, ◌≤◌, ◌<◌, ◌+◌, ◌*◌, ◌^◌, ◌++◌, IsTrue, IfSome, IfOk, IfErr, OnOk, OnErr, None, [], ◌∷◌, option_to_list, false, true};
+ghost use Rattle.std.specs.Prelude.{◌≡◌, ◌<◌, ◌+◌, ◌*◌, ◌^◌, ◌++◌, IsTrue, IfSome, IfOk, IfErr, OnOk, OnErr, None, [], ◌∷◌, option_to_list, false, true};
 ghost use Rattle.kc_isa.specs.Formed.{is_formed};
 ghost use Rattle.kc_exec_spec.specs.BlockMoves.{IsOfMove};
 ghost use Rattle.kc_exec_spec.specs.Jumping.{next_pc};
@@ -10,6 +10,8 @@ ghost use Rattle.kc_machine_spec.specs.declared.doing.Activity.TheVariants.{Exec
 ghost use Rattle.kc_machine_spec.specs.Board.{pins};
 ghost use Rattle.kc_machine_spec.specs.Machine.{next_after, own_records, finished, broken, holding, idling, serving, scene_of};
 ghost use Rattle.kc_machine_spec.specs.Passing.{stepped_of};
+ghost use Rattle.kc_machine.specs.Accessing.{WithinState};
+ghost use Rattle.kc_machine.specs.Passing.{IsInLastState, IsOver};
 ghost use Rattle.kc_machine.specs.Sound.{IsSoundActivity, IsSoundGoing, IsSoundMove, IsSoundCycle};
 
 use crate::choosing::{vector_at, vector_of};
@@ -146,17 +148,9 @@ impl<X: Extra + Drop> Core<X> {
     // Does an instruction in its last state; tells what is printed behind the edges.
     fn execute<L: Ledger>(&mut self, insn: &Insn, steps: &mut Steps<L>) -> Option<Record>
         requires sound { IsTrue (is_formed insn.now) }
-        requires room { self.old.time < 2 ^ 63 }
-        requires between { IsSoundGoing self.old.going }
-        requires scene { held_of self.old.bus ≡ scene_of (machine_of self.old) }
-        ensures machine { stepped_of (machine_of self.new) (pins self.old.time self.new.bus.edges ++ option_to_list result) (4 * self.new.bus.reached) ≡ finished X.further (Executes insn.now) (machine_of self.old) }
-        ensures spent { steps.new ≤ steps.old + 16 * self.new.bus.reached }
-        ensures moves { self.new.bus.block.moves ≤ self.old.bus.block.moves + 16 * self.new.bus.reached }
-        ensures block { self.new.bus.block.time ≡ self.old.bus.block.time }
-        ensures time { self.new.time ≡ self.old.time + 1 }
-        ensures over { self.new.under_way ≡ None }
-        ensures between { IsSoundGoing self.new.going }
-        ensures printable { IfSome result CanPrint }
+        requires last { IsInLastState self.old }
+        ensures over { IsOver X.further (Executes insn.now) self.old self.new result }
+        ensures within { WithinState self.old.bus self.new.bus steps.old steps.new }
     {
         let own = own_record(self.time, self.cpu.pc, insn);
         match perform_over(insn, &mut self.cpu, &mut self.bus, steps) {
@@ -185,9 +179,7 @@ impl<X: Extra + Drop> Core<X> {
         requires scene { held_of self.old.bus ≡ scene_of (machine_of self.old) }
         ensures ok { OnOk result (stepped_of (machine_of self.new) (pins self.old.time self.new.bus.edges) (4 * self.new.bus.reached) ≡ finished X.further (Executes ready.now.insn) (machine_of self.old)) }
         ensures err { IfErr result (λ kind. broken (machine_of self.new) (held_of self.new.bus) self.new.cpu.pc kind ≡ finished X.further (Executes ready.now.insn) (machine_of self.old)) }
-        ensures spent { steps.new ≤ steps.old + 16 * self.new.bus.reached }
-        ensures moves { self.new.bus.block.moves ≤ self.old.bus.block.moves + 16 * self.new.bus.reached }
-        ensures block { self.new.bus.block.time ≡ self.old.bus.block.time }
+        ensures within { WithinState self.old.bus self.new.bus steps.old steps.new }
         ensures time { OnOk result (self.new.time ≡ self.old.time + 1) }
         ensures stays { OnErr result (self.new.time ≡ self.old.time) }
         ensures over { self.new.under_way ≡ None }
@@ -213,17 +205,9 @@ impl<X: Extra + Drop> Core<X> {
         steps: &mut Steps<L>,
     ) -> Option<Record>
         requires sound { IsSoundMove insn.now words }
-        requires room { self.old.time < 2 ^ 63 }
-        requires between { IsSoundGoing self.old.going }
-        requires scene { held_of self.old.bus ≡ scene_of (machine_of self.old) }
-        ensures machine { stepped_of (machine_of self.new) (pins self.old.time self.new.bus.edges ++ option_to_list result) (4 * self.new.bus.reached) ≡ finished X.further (MovesWord insn.now words) (machine_of self.old) }
-        ensures spent { steps.new ≤ steps.old + 16 * self.new.bus.reached }
-        ensures moves { self.new.bus.block.moves ≤ self.old.bus.block.moves + 16 * self.new.bus.reached }
-        ensures block { self.new.bus.block.time ≡ self.old.bus.block.time }
-        ensures time { self.new.time ≡ self.old.time + 1 }
-        ensures over { self.new.under_way ≡ None }
-        ensures between { IsSoundGoing self.new.going }
-        ensures printable { IfSome result CanPrint }
+        requires last { IsInLastState self.old }
+        ensures over { IsOver X.further (MovesWord insn.now words) self.old self.new result }
+        ensures within { WithinState self.old.bus self.new.bus steps.old steps.new }
     {
         match move_over(insn, words, &mut self.cpu, &mut self.bus, steps) {
             Ok(after) => {
@@ -236,17 +220,9 @@ impl<X: Extra + Drop> Core<X> {
 
     // Takes the trap of an opcode that no instruction has, in its last state; tells what is printed behind the edges.
     fn trap<L: Ledger>(&mut self, steps: &mut Steps<L>) -> Option<Record>
-        requires room { self.old.time < 2 ^ 63 }
-        requires between { IsSoundGoing self.old.going }
-        requires scene { held_of self.old.bus ≡ scene_of (machine_of self.old) }
-        ensures machine { stepped_of (machine_of self.new) (pins self.old.time self.new.bus.edges ++ option_to_list result) (4 * self.new.bus.reached) ≡ finished X.further Traps (machine_of self.old) }
-        ensures spent { steps.new ≤ steps.old + 16 * self.new.bus.reached }
-        ensures moves { self.new.bus.block.moves ≤ self.old.bus.block.moves + 16 * self.new.bus.reached }
-        ensures block { self.new.bus.block.time ≡ self.old.bus.block.time }
-        ensures time { self.new.time ≡ self.old.time + 1 }
-        ensures over { self.new.under_way ≡ None }
-        ensures between { IsSoundGoing self.new.going }
-        ensures printable { IfSome result CanPrint }
+        requires last { IsInLastState self.old }
+        ensures over { IsOver X.further Traps self.old self.new result }
+        ensures within { WithinState self.old.bus self.new.bus steps.old steps.new }
     {
         let at = self.time;
         let back = self.cpu.pc.wrapping_add(1);
@@ -266,17 +242,9 @@ impl<X: Extra + Drop> Core<X> {
     // Enters through the vector of a request in its last state; tells what is printed behind the edges.
     fn enter<L: Ledger>(&mut self, number: u8, steps: &mut Steps<L>) -> Option<Record>
         requires number { number < 16 }
-        requires room { self.old.time < 2 ^ 63 }
-        requires between { IsSoundGoing self.old.going }
-        requires scene { held_of self.old.bus ≡ scene_of (machine_of self.old) }
-        ensures machine { stepped_of (machine_of self.new) (pins self.old.time self.new.bus.edges ++ option_to_list result) (4 * self.new.bus.reached) ≡ finished X.further (Enters number) (machine_of self.old) }
-        ensures spent { steps.new ≤ steps.old + 16 * self.new.bus.reached }
-        ensures moves { self.new.bus.block.moves ≤ self.old.bus.block.moves + 16 * self.new.bus.reached }
-        ensures block { self.new.bus.block.time ≡ self.old.bus.block.time }
-        ensures time { self.new.time ≡ self.old.time + 1 }
-        ensures over { self.new.under_way ≡ None }
-        ensures between { IsSoundGoing self.new.going }
-        ensures printable { IfSome result CanPrint }
+        requires last { IsInLastState self.old }
+        ensures over { IsOver X.further (Enters number) self.old self.new result }
+        ensures within { WithinState self.old.bus self.new.bus steps.old steps.new }
     {
         let at = self.time;
         let back = self.cpu.pc;
@@ -297,17 +265,9 @@ impl<X: Extra + Drop> Core<X> {
     // Sets up a cycle of the transfer server in its last state; tells what is printed behind the edges.
     fn set_up<L: Ledger>(&mut self, number: u8, steps: &mut Steps<L>) -> Option<Record>
         requires number { number < 15 }
-        requires room { self.old.time < 2 ^ 63 }
-        requires between { IsSoundGoing self.old.going }
-        requires scene { held_of self.old.bus ≡ scene_of (machine_of self.old) }
-        ensures machine { stepped_of (machine_of self.new) (pins self.old.time self.new.bus.edges ++ option_to_list result) (4 * self.new.bus.reached) ≡ finished X.further (SetsUp number) (machine_of self.old) }
-        ensures spent { steps.new ≤ steps.old + 16 * self.new.bus.reached }
-        ensures moves { self.new.bus.block.moves ≤ self.old.bus.block.moves + 16 * self.new.bus.reached }
-        ensures block { self.new.bus.block.time ≡ self.old.bus.block.time }
-        ensures time { self.new.time ≡ self.old.time + 1 }
-        ensures over { self.new.under_way ≡ None }
-        ensures between { IsSoundGoing self.new.going }
-        ensures printable { IfSome result CanPrint }
+        requires last { IsInLastState self.old }
+        ensures over { IsOver X.further (SetsUp number) self.old self.new result }
+        ensures within { WithinState self.old.bus self.new.bus steps.old steps.new }
     {
         match setup_over(number, &mut self.bus, steps) {
             Ok(cycle) => {
@@ -327,17 +287,9 @@ impl<X: Extra + Drop> Core<X> {
         steps: &mut Steps<L>,
     ) -> Option<Record>
         requires cycle { IsSoundCycle number cycle }
-        requires room { self.old.time < 2 ^ 63 }
-        requires between { IsSoundGoing self.old.going }
-        requires scene { held_of self.old.bus ≡ scene_of (machine_of self.old) }
-        ensures machine { stepped_of (machine_of self.new) (pins self.old.time self.new.bus.edges ++ option_to_list result) (4 * self.new.bus.reached) ≡ finished X.further (Transfers number cycle) (machine_of self.old) }
-        ensures spent { steps.new ≤ steps.old + 16 * self.new.bus.reached }
-        ensures moves { self.new.bus.block.moves ≤ self.old.bus.block.moves + 16 * self.new.bus.reached }
-        ensures block { self.new.bus.block.time ≡ self.old.bus.block.time }
-        ensures time { self.new.time ≡ self.old.time + 1 }
-        ensures over { self.new.under_way ≡ None }
-        ensures between { IsSoundGoing self.new.going }
-        ensures printable { IfSome result CanPrint }
+        requires last { IsInLastState self.old }
+        ensures over { IsOver X.further (Transfers number cycle) self.old self.new result }
+        ensures within { WithinState self.old.bus self.new.bus steps.old steps.new }
     {
         let at = self.time;
         let mut next = cycle;
@@ -364,12 +316,8 @@ impl<X: Extra + Drop> Core<X> {
     fn stay(&mut self) -> Option<Record>
         requires room { self.old.time < 2 ^ 63 }
         requires scene { held_of self.old.bus ≡ scene_of (machine_of self.old) }
-        ensures machine { stepped_of (machine_of self.new) (pins self.old.time self.new.bus.edges ++ option_to_list result) (4 * self.new.bus.reached) ≡ finished X.further Idles (machine_of self.old) }
+        ensures over { IsOver X.further Idles self.old self.new result }
         ensures bus { self.new.bus ≡ self.old.bus }
-        ensures time { self.new.time ≡ self.old.time + 1 }
-        ensures over { self.new.under_way ≡ None }
-        ensures between { IsSoundGoing self.new.going }
-        ensures printable { IfSome result CanPrint }
     {
         self.close(idle());
         None
@@ -382,17 +330,9 @@ impl<X: Extra + Drop> Core<X> {
         steps: &mut Steps<L>,
     ) -> Option<Record>
         requires sound { IsSoundActivity doing }
-        requires room { self.old.time < 2 ^ 63 }
-        requires between { IsSoundGoing self.old.going }
-        requires scene { held_of self.old.bus ≡ scene_of (machine_of self.old) }
-        ensures machine { stepped_of (machine_of self.new) (pins self.old.time self.new.bus.edges ++ option_to_list result) (4 * self.new.bus.reached) ≡ finished X.further doing (machine_of self.old) }
-        ensures spent { steps.new ≤ steps.old + 16 * self.new.bus.reached }
-        ensures moves { self.new.bus.block.moves ≤ self.old.bus.block.moves + 16 * self.new.bus.reached }
-        ensures block { self.new.bus.block.time ≡ self.old.bus.block.time }
-        ensures time { self.new.time ≡ self.old.time + 1 }
-        ensures over { self.new.under_way ≡ None }
-        ensures between { IsSoundGoing self.new.going }
-        ensures printable { IfSome result CanPrint }
+        requires last { IsInLastState self.old }
+        ensures over { IsOver X.further doing self.old self.new result }
+        ensures within { WithinState self.old.bus self.new.bus steps.old steps.new }
     {
         match doing {
             Activity::Executes(insn) => self.execute(&insn, steps),

@@ -1,5 +1,5 @@
 // Activities over the machine's board.
-ghost use Rattle.std.specs.Prelude.{◌≡◌, ◌+◌, ◌*◌, ◌≤◌, ◌<◌, IsTrue, IfOk, None, true};
+ghost use Rattle.std.specs.Prelude.{◌≡◌, ◌≤◌, ◌<◌, IsTrue, IfOk, None, true};
 ghost use Rattle.kc_isa.specs.Formed.{is_formed};
 ghost use Rattle.kc_exec_spec.specs.Effect.{Gives, run};
 ghost use Rattle.kc_exec_spec.specs.Effects.{effect_of, Performs};
@@ -13,6 +13,7 @@ ghost use Rattle.kc_machine_spec.specs.Board.{masks_of};
 ghost use Rattle.kc_machine_spec.specs.Scene.{byte};
 ghost use Rattle.kc_machine.specs.Bus.{held_of, bus_meaning};
 ghost use Rattle.kc_machine.specs.Sound.{IsSoundCycle};
+ghost use Rattle.kc_machine.specs.Accessing.{BeganAt, WithinState};
 
 use crate::common::Common;
 use crate::lent::{Began, Lent};
@@ -32,15 +33,11 @@ fn perform_from<X: Extra + Drop, L: Ledger, K: Began>(
     common: &mut Common<X>,
     steps: &mut Steps<L>,
 ) -> Result<After, Kind>
-    requires unreached { common.old.reached ≡ 0 }
+    requires began { BeganAt K.steps K.moves common.old steps.old }
     requires formed { IsTrue (is_formed insn.now) }
-    requires steps { steps.old ≡ K.steps }
-    requires moves { common.old.block.moves ≡ K.moves }
     ensures effect { Performs result cpu.old cpu.new (held_of common.new) (run (bus_meaning X.further) (effect_of insn.now cpu.old) (held_of common.old)) }
     ensures words { IfOk result (λ after. IsOfMove insn.now after) }
-    ensures time { common.new.block.time ≡ common.old.block.time }
-    ensures spent { steps.new ≤ steps.old + 16 * common.new.reached }
-    ensures moves { common.new.block.moves ≤ common.old.block.moves + 16 * common.new.reached }
+    ensures within { WithinState common.old common.new steps.old steps.new }
 {
     let mut bus = Lent {
         common,
@@ -61,9 +58,7 @@ pub(crate) fn perform_over<X: Extra + Drop, L: Ledger>(
     requires formed { IsTrue (is_formed insn.now) }
     ensures effect { Performs result cpu.old cpu.new (held_of common.new) (run (bus_meaning X.further) (effect_of insn.now cpu.old) (held_of common.old)) }
     ensures words { IfOk result (λ after. IsOfMove insn.now after) }
-    ensures time { common.new.block.time ≡ common.old.block.time }
-    ensures spent { steps.new ≤ steps.old + 16 * common.new.reached }
-    ensures moves { common.new.block.moves ≤ common.old.block.moves + 16 * common.new.reached }
+    ensures within { WithinState common.old common.new steps.old steps.new }
 {
     perform_from::<X, L, Brand>(insn, cpu, common, steps)
 }
@@ -75,16 +70,12 @@ fn move_from<X: Extra + Drop, L: Ledger, K: Began>(
     common: &mut Common<X>,
     steps: &mut Steps<L>,
 ) -> Result<After, Kind>
-    requires unreached { common.old.reached ≡ 0 }
+    requires began { BeganAt K.steps K.moves common.old steps.old }
     requires formed { IsTrue (is_formed insn.now) }
     requires under_way { IsUnderWay insn.now words }
-    requires steps { steps.old ≡ K.steps }
-    requires moves { common.old.block.moves ≡ K.moves }
     ensures effect { Performs result cpu.old cpu.new (held_of common.new) (run (bus_meaning X.further) (moved_word insn.now words cpu.old) (held_of common.old)) }
     ensures words { IfOk result (λ after. IsOfMove insn.now after) }
-    ensures time { common.new.block.time ≡ common.old.block.time }
-    ensures spent { steps.new ≤ steps.old + 16 * common.new.reached }
-    ensures moves { common.new.block.moves ≤ common.old.block.moves + 16 * common.new.reached }
+    ensures within { WithinState common.old common.new steps.old steps.new }
 {
     let mut bus = Lent {
         common,
@@ -107,9 +98,7 @@ pub(crate) fn move_over<X: Extra + Drop, L: Ledger>(
     requires under_way { IsUnderWay insn.now words }
     ensures effect { Performs result cpu.old cpu.new (held_of common.new) (run (bus_meaning X.further) (moved_word insn.now words cpu.old) (held_of common.old)) }
     ensures words { IfOk result (λ after. IsOfMove insn.now after) }
-    ensures time { common.new.block.time ≡ common.old.block.time }
-    ensures spent { steps.new ≤ steps.old + 16 * common.new.reached }
-    ensures moves { common.new.block.moves ≤ common.old.block.moves + 16 * common.new.reached }
+    ensures within { WithinState common.old common.new steps.old steps.new }
 {
     move_from::<X, L, Brand>(insn, words, cpu, common, steps)
 }
@@ -120,13 +109,9 @@ fn enter_from<X: Extra + Drop, L: Ledger, K: Began>(
     common: &mut Common<X>,
     steps: &mut Steps<L>,
 ) -> Result<(), Kind>
-    requires unreached { common.old.reached ≡ 0 }
-    requires steps { steps.old ≡ K.steps }
-    requires moves { common.old.block.moves ≡ K.moves }
+    requires began { BeganAt K.steps K.moves common.old steps.old }
     ensures effect { Loads result cpu.old cpu.new (held_of common.new) (run (bus_meaning X.further) (entry vector cpu.old.pc) (held_of common.old)) }
-    ensures time { common.new.block.time ≡ common.old.block.time }
-    ensures spent { steps.new ≤ steps.old + 16 * common.new.reached }
-    ensures moves { common.new.block.moves ≤ common.old.block.moves + 16 * common.new.reached }
+    ensures within { WithinState common.old common.new steps.old steps.new }
 {
     let mut bus = Lent {
         common,
@@ -145,9 +130,7 @@ pub(crate) fn enter_over<X: Extra + Drop, L: Ledger>(
 ) -> Result<(), Kind>
     requires unreached { common.old.reached ≡ 0 }
     ensures effect { Loads result cpu.old cpu.new (held_of common.new) (run (bus_meaning X.further) (entry vector cpu.old.pc) (held_of common.old)) }
-    ensures time { common.new.block.time ≡ common.old.block.time }
-    ensures spent { steps.new ≤ steps.old + 16 * common.new.reached }
-    ensures moves { common.new.block.moves ≤ common.old.block.moves + 16 * common.new.reached }
+    ensures within { WithinState common.old common.new steps.old steps.new }
 {
     enter_from::<X, L, Brand>(vector, cpu, common, steps)
 }
@@ -157,13 +140,9 @@ fn trap_from<X: Extra + Drop, L: Ledger, K: Began>(
     common: &mut Common<X>,
     steps: &mut Steps<L>,
 ) -> Result<(), Kind>
-    requires unreached { common.old.reached ≡ 0 }
-    requires steps { steps.old ≡ K.steps }
-    requires moves { common.old.block.moves ≡ K.moves }
+    requires began { BeganAt K.steps K.moves common.old steps.old }
     ensures effect { Loads result cpu.old cpu.new (held_of common.new) (run (bus_meaning X.further) (opcode_trap cpu.old.pc) (held_of common.old)) }
-    ensures time { common.new.block.time ≡ common.old.block.time }
-    ensures spent { steps.new ≤ steps.old + 16 * common.new.reached }
-    ensures moves { common.new.block.moves ≤ common.old.block.moves + 16 * common.new.reached }
+    ensures within { WithinState common.old common.new steps.old steps.new }
 {
     let mut bus = Lent {
         common,
@@ -181,9 +160,7 @@ pub(crate) fn trap_over<X: Extra + Drop, L: Ledger>(
 ) -> Result<(), Kind>
     requires unreached { common.old.reached ≡ 0 }
     ensures effect { Loads result cpu.old cpu.new (held_of common.new) (run (bus_meaning X.further) (opcode_trap cpu.old.pc) (held_of common.old)) }
-    ensures time { common.new.block.time ≡ common.old.block.time }
-    ensures spent { steps.new ≤ steps.old + 16 * common.new.reached }
-    ensures moves { common.new.block.moves ≤ common.old.block.moves + 16 * common.new.reached }
+    ensures within { WithinState common.old common.new steps.old steps.new }
 {
     trap_from::<X, L, Brand>(cpu, common, steps)
 }
@@ -193,15 +170,11 @@ fn setup_from<X: Extra + Drop, L: Ledger, K: Began>(
     common: &mut Common<X>,
     steps: &mut Steps<L>,
 ) -> Result<Cycle, Kind>
-    requires unreached { common.old.reached ≡ 0 }
+    requires began { BeganAt K.steps K.moves common.old steps.old }
     requires number { number < 15 }
-    requires steps { steps.old ≡ K.steps }
-    requires moves { common.old.block.moves ≡ K.moves }
     ensures gives { Gives (λ x. x) result (held_of common.new) (run (bus_meaning X.further) (set_up number) (held_of common.old)) }
     ensures sound { IfOk result (λ cycle. IsSoundCycle number cycle) }
-    ensures time { common.new.block.time ≡ common.old.block.time }
-    ensures spent { steps.new ≤ steps.old + 16 * common.new.reached }
-    ensures moves { common.new.block.moves ≤ common.old.block.moves + 16 * common.new.reached }
+    ensures within { WithinState common.old common.new steps.old steps.new }
 {
     let mut bus = Lent {
         common,
@@ -221,9 +194,7 @@ pub(crate) fn setup_over<X: Extra + Drop, L: Ledger>(
     requires number { number < 15 }
     ensures gives { Gives (λ x. x) result (held_of common.new) (run (bus_meaning X.further) (set_up number) (held_of common.old)) }
     ensures sound { IfOk result (λ cycle. IsSoundCycle number cycle) }
-    ensures time { common.new.block.time ≡ common.old.block.time }
-    ensures spent { steps.new ≤ steps.old + 16 * common.new.reached }
-    ensures moves { common.new.block.moves ≤ common.old.block.moves + 16 * common.new.reached }
+    ensures within { WithinState common.old common.new steps.old steps.new }
 {
     setup_from::<X, L, Brand>(number, common, steps)
 }
@@ -234,15 +205,11 @@ fn serve_from<X: Extra + Drop, L: Ledger, K: Began>(
     common: &mut Common<X>,
     steps: &mut Steps<L>,
 ) -> Result<Option<u8>, Kind>
-    requires unreached { common.old.reached ≡ 0 }
+    requires began { BeganAt K.steps K.moves common.old steps.old }
     requires sound { IsSoundCycle number cycle.old }
-    requires steps { steps.old ≡ K.steps }
-    requires moves { common.old.block.moves ≡ K.moves }
     ensures effect { Serves result cycle.old cycle.new (held_of common.new) (run (bus_meaning X.further) (served cycle.old) (held_of common.old)) }
     ensures sound { IfOk result (λ count. count ≡ None → IsSoundCycle number cycle.new) }
-    ensures time { common.new.block.time ≡ common.old.block.time }
-    ensures spent { steps.new ≤ steps.old + 16 * common.new.reached }
-    ensures moves { common.new.block.moves ≤ common.old.block.moves + 16 * common.new.reached }
+    ensures within { WithinState common.old common.new steps.old steps.new }
 {
     let mut bus = Lent {
         common,
@@ -263,9 +230,7 @@ pub(crate) fn serve_over<X: Extra + Drop, L: Ledger>(
     requires sound { IsSoundCycle number cycle.old }
     ensures effect { Serves result cycle.old cycle.new (held_of common.new) (run (bus_meaning X.further) (served cycle.old) (held_of common.old)) }
     ensures sound { IfOk result (λ count. count ≡ None → IsSoundCycle number cycle.new) }
-    ensures time { common.new.block.time ≡ common.old.block.time }
-    ensures spent { steps.new ≤ steps.old + 16 * common.new.reached }
-    ensures moves { common.new.block.moves ≤ common.old.block.moves + 16 * common.new.reached }
+    ensures within { WithinState common.old common.new steps.old steps.new }
 {
     serve_from::<X, L, Brand>(number, cycle, common, steps)
 }
@@ -298,15 +263,11 @@ fn ready_from<X: Extra + Drop, L: Ledger, K: Began>(
     common: &mut Common<X>,
     steps: &mut Steps<L>,
 ) -> Result<bool, Kind>
-    requires unreached { common.old.reached ≡ 0 }
+    requires began { BeganAt K.steps K.moves common.old steps.old }
     requires ready { IsReady ready.now }
     requires followed { is_free (plan_of ready.now.mnemonic) ≡ true }
-    requires steps { steps.old ≡ K.steps }
-    requires moves { common.old.block.moves ≡ K.moves }
     ensures effect { GoesOn result cpu.old cpu.new (held_of common.new) (run (bus_meaning X.further) (effect_of ready.now.insn cpu.old) (held_of common.old)) }
-    ensures time { common.new.block.time ≡ common.old.block.time }
-    ensures spent { steps.new ≤ steps.old + 16 * common.new.reached }
-    ensures moves { common.new.block.moves ≤ common.old.block.moves + 16 * common.new.reached }
+    ensures within { WithinState common.old common.new steps.old steps.new }
 {
     let mut bus = Lent {
         common,
@@ -328,9 +289,7 @@ pub(crate) fn ready_over<X: Extra + Drop, L: Ledger>(
     requires ready { IsReady ready.now }
     requires followed { is_free (plan_of ready.now.mnemonic) ≡ true }
     ensures effect { GoesOn result cpu.old cpu.new (held_of common.new) (run (bus_meaning X.further) (effect_of ready.now.insn cpu.old) (held_of common.old)) }
-    ensures time { common.new.block.time ≡ common.old.block.time }
-    ensures spent { steps.new ≤ steps.old + 16 * common.new.reached }
-    ensures moves { common.new.block.moves ≤ common.old.block.moves + 16 * common.new.reached }
+    ensures within { WithinState common.old common.new steps.old steps.new }
 {
     ready_from::<X, L, Brand>(ready, cpu, common, steps)
 }

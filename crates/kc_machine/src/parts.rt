@@ -11,6 +11,7 @@ ghost use Rattle.kc_machine_spec.specs.Machine.{breaks, placed, scene_of, pushin
 ghost use Rattle.kc_machine_spec.specs.Passing.{IsIdle};
 ghost use Rattle.kc_machine_spec.specs.Peeking.{peeked};
 ghost use Rattle.kc_exec_ready.specs.Preparing as kc_ready;
+ghost use Rattle.kc_machine.specs.Passing.{Tells};
 ghost use Rattle.kc_machine.specs.Prepared.{IsBetween, IsFree, HasSlot};
 ghost use Rattle.kc_machine.specs.Sound.{IsGoing, IsReady, IsSoundGoing};
 
@@ -103,10 +104,7 @@ impl<X: Extra + Drop> Core<X> {
     // An instruction at its place.
     fn placed<L: Ledger>(&mut self, insn: Insn, steps: &mut Steps<L>) -> UnderWay
         requires { IsTrue (is_formed insn) }
-        ensures value { result ≡ placed insn (place_of insn (machine_of self.old).cpu (masks_of (machine_of self.old).board.units) (byte (scene_of (machine_of self.old)))) }
-        ensures going { IsGoing result }
-        ensures same { self.new ≡ self.old }
-        ensures steps { steps.new ≡ steps.old }
+        ensures tells { Tells (placed insn (place_of insn (machine_of self.old).cpu (masks_of (machine_of self.old).board.units) (byte (scene_of (machine_of self.old))))) result self.old self.new steps.old steps.new }
     {
         match place_over(&insn, &self.cpu, &mut self.bus, steps) {
             Ok(place) => UnderWay {
@@ -124,10 +122,7 @@ impl<X: Extra + Drop> Core<X> {
         steps: &mut Steps<L>,
     ) -> UnderWay
         requires { kc_ready.IsReady ready.now }
-        ensures value { result ≡ placed ready.now.insn (place_of ready.now.insn (machine_of self.old).cpu (masks_of (machine_of self.old).board.units) (byte (scene_of (machine_of self.old)))) }
-        ensures going { IsGoing result }
-        ensures same { self.new ≡ self.old }
-        ensures steps { steps.new ≡ steps.old }
+        ensures tells { Tells (placed ready.now.insn (place_of ready.now.insn (machine_of self.old).cpu (masks_of (machine_of self.old).board.units) (byte (scene_of (machine_of self.old))))) result self.old self.new steps.old steps.new }
     {
         match time_over(ready, self.cpu, &mut self.bus, steps) {
             Ok(left) => UnderWay {
@@ -141,10 +136,7 @@ impl<X: Extra + Drop> Core<X> {
     // The next instruction, by the bytes that stand at PC.
     #[tactic(auto, unfolding(kc_machine_spec::specs::Machine::fetches))]
     fn read_instruction<L: Ledger>(&mut self, steps: &mut Steps<L>) -> UnderWay
-        ensures value { result ≡ fetches (machine_of self.old) }
-        ensures going { IsGoing result }
-        ensures same { self.new ≡ self.old }
-        ensures steps { steps.new ≡ steps.old }
+        ensures tells { Tells (fetches (machine_of self.old)) result self.old self.new steps.old steps.new }
     {
         let bytes = fetch(&self.bus.memory, self.cpu.pc);
         match decode(bytes.as_slice()) {
@@ -160,10 +152,7 @@ impl<X: Extra + Drop> Core<X> {
 
     // The next instruction.
     fn instruction<L: Ledger>(&mut self, steps: &mut Steps<L>) -> UnderWay
-        ensures value { result ≡ fetches (machine_of self.old) }
-        ensures going { IsGoing result }
-        ensures same { self.new ≡ self.old }
-        ensures steps { steps.new ≡ steps.old }
+        ensures tells { Tells (fetches (machine_of self.old)) result self.old self.new steps.old steps.new }
     {
         match self.bus.known_at(self.cpu.pc) {
             Some(ready) => self.placed_ready(&ready, steps),
@@ -174,10 +163,7 @@ impl<X: Extra + Drop> Core<X> {
     // What goes on where no request is served.
     fn go_on<L: Ledger>(&mut self, steps: &mut Steps<L>) -> UnderWay
         requires { IsSoundGoing self.old.going }
-        ensures value { result ≡ goes_on (machine_of self.old) self.old.going }
-        ensures going { IsGoing result }
-        ensures same { self.new ≡ self.old }
-        ensures steps { steps.new ≡ steps.old }
+        ensures tells { Tells (goes_on (machine_of self.old) self.old.going) result self.old self.new steps.old steps.new }
     {
         match self.going {
             Some(Going::Moving(insn, words)) => UnderWay {
@@ -213,10 +199,7 @@ impl<X: Extra + Drop> Core<X> {
     pub(crate) fn serves<L: Ledger>(&mut self, choice: Choice, steps: &mut Steps<L>) -> UnderWay
         requires between { IsSoundGoing self.old.going }
         requires below { IsBelow15 choice }
-        ensures value { result ≡ serves (machine_of self.old) choice }
-        ensures going { IsGoing result }
-        ensures same { self.new ≡ self.old }
-        ensures steps { steps.new ≡ steps.old }
+        ensures tells { Tells (serves (machine_of self.old) choice) result self.old self.new steps.old steps.new }
     {
         match choice {
             Choice::Nmi => self.entry(15),
@@ -230,10 +213,7 @@ impl<X: Extra + Drop> Core<X> {
     #[tactic(auto, unfolding(kc_machine_spec::specs::Machine::chosen))]
     fn chosen<L: Ledger>(&mut self, steps: &mut Steps<L>) -> UnderWay
         requires { IsSoundGoing self.old.going }
-        ensures value { result ≡ chosen (machine_of self.old) }
-        ensures going { IsGoing result }
-        ensures same { self.new ≡ self.old }
-        ensures steps { steps.new ≡ steps.old }
+        ensures tells { Tells (chosen (machine_of self.old)) result self.old self.new steps.old steps.new }
     {
         if goes_first(self.going) {
             return self.go_on(steps);
@@ -248,10 +228,7 @@ impl<X: Extra + Drop> Core<X> {
     /// The activity that has the coming state.
     pub(crate) fn current<L: Ledger>(&mut self, steps: &mut Steps<L>) -> UnderWay
         requires { IsReady self.old }
-        ensures value { result ≡ current (machine_of self.old) }
-        ensures going { IsGoing result }
-        ensures same { self.new ≡ self.old }
-        ensures steps { steps.new ≡ steps.old }
+        ensures tells { Tells (current (machine_of self.old)) result self.old self.new steps.old steps.new }
     {
         match self.under_way {
             Some(activity) => activity,

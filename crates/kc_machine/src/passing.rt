@@ -2,24 +2,26 @@
 ghost use Rattle.std.specs.Prelude.{◌≡◌, ◌≤◌, ◌<◌, ◌+◌, ◌-◌, ◌*◌, ◌^◌, ℕ, ◌++◌, IfSome, IfOk, OnOk, OnErr, None, [], option_to_list, max, true, false};
 ghost use Rattle.std.specs.List.{All};
 ghost use Rattle.std.specs.Bool.{OnTrue};
-ghost use Rattle.kc_span.specs.Span.{after, QuietFor};
+ghost use Rattle.kc_span.specs.Span.{QuietFor};
 ghost use Rattle.kc_trace.specs.Out.{IsPut, Prints};
 ghost use Rattle.kc_trace.specs.Printable.{CanPrint, HasName};
 ghost use Rattle.kc_trace.specs.Trace.{out_of};
-ghost use Rattle.kc_block_spec.specs.Touch.{block_rule, touch};
-ghost use Rattle.kc_machine_spec.specs.Board.{pins, edges_in};
+ghost use Rattle.kc_block_spec.specs.Touch.{block_rule};
+ghost use Rattle.kc_machine_spec.specs.Board.{pins};
 ghost use Rattle.kc_intc.specs.declared.requests.Choice.TheVariants.{Go};
 ghost use Rattle.kc_intc.specs.Choosing.{IsBelow15};
 ghost use Rattle.kc_machine_spec.specs.Machine.{scene_of, current, asked, broken};
-ghost use Rattle.kc_machine_spec.specs.Passing.{IsIdle, at, left_at, whole, activity_end};
+ghost use Rattle.kc_machine_spec.specs.Passing.{IsIdle, left_at, whole, activity_end};
 ghost use Rattle.kc_machine_spec.specs.Run.{run_to, end_of};
 ghost use Rattle.kc_exec_spec.specs.Plans.{plan_of};
 ghost use Rattle.kc_exec_ready.specs.Preparing as kc_ready;
 ghost use Rattle.kc_exec_ready.specs.Preparing.{is_free};
 ghost use Rattle.kc_machine.specs.Prepared.{IsBetween, IsFree, HasSlot, executing};
 ghost use Rattle.kc_machine.specs.Sound.{IsGoing, IsReady, IsSoundGoing};
-ghost use Rattle.kc_machine.specs.Failing.{Passes, FailsIn};
+ghost use Rattle.kc_machine.specs.Failing.{FailsIn};
 ghost use Rattle.kc_machine.specs.Stepping.{IsBrief, IdlesFor};
+ghost use Rattle.kc_block_spec.specs.Costs.{CostsAtMost};
+ghost use Rattle.kc_machine.specs.Passing.{ticks_to, GoesAs, MayPass, PassesAs};
 
 use crate::over::time_over;
 use crate::parts::Core;
@@ -46,12 +48,9 @@ impl<X: Extra + Drop> Core<X> {
         requires some { 0 < count }
         requires room { self.old.time + count ≤ 3 * 10 ^ 15 }
         requires stands { self.old.bus.block.time ≡ self.old.time }
-        ensures machine { machine_of self.new ≡ at (machine_of self.old) (self.old.time + (count - 1)) (after (block_rule X.further) self.old.time count self.old.bus.block.units) self.old.under_way }
+        ensures goes { GoesAs (ticks_to X.further (machine_of self.old) (self.old.time + (count - 1)) count self.old.under_way) self.old self.new (out_of S.written S.faults out.old) (out_of S.written S.faults out.new) steps.old steps.new }
         ensures scene { held_of self.new.bus ≡ scene_of (machine_of self.new) }
-        ensures lines { Prints (out_of S.written S.faults out.old) (edges_in X.further self.old.time count self.old.bus.block.units) (out_of S.written S.faults out.new) }
         ensures past { self.new.bus.block.time ≡ self.old.time + count }
-        ensures spent { steps.new ≤ steps.old + 4 * touch X.further self.old.time count self.old.bus.block.units }
-        ensures moves { self.new.bus.block.moves ≤ self.old.bus.block.moves + 4 * touch X.further self.old.time count self.old.bus.block.units }
     {
         let last = self.time + (count - 1);
         self.bus.advance(self.time, count, out, steps);
@@ -82,11 +81,8 @@ impl<X: Extra + Drop> Core<X> {
         requires room { until ≤ 3 * 10 ^ 15 }
         requires sound { IsGoing activity }
         requires ready { IsReady self.old }
-        ensures machine { machine_of self.new ≡ at (machine_of self.old) until (after (block_rule X.further) self.old.time (until - self.old.time) self.old.bus.block.units) (left_at activity (activity.left - (until - self.old.time))) }
-        ensures lines { Prints (out_of S.written S.faults out.old) (edges_in X.further self.old.time (until - self.old.time) self.old.bus.block.units) (out_of S.written S.faults out.new) }
+        ensures goes { GoesAs (ticks_to X.further (machine_of self.old) until (until - self.old.time) (left_at activity (activity.left - (until - self.old.time)))) self.old self.new (out_of S.written S.faults out.old) (out_of S.written S.faults out.new) steps.old steps.new }
         ensures ready { IsReady self.new }
-        ensures spent { steps.new ≤ steps.old + 4 * touch X.further self.old.time (until - self.old.time) self.old.bus.block.units }
-        ensures moves { self.new.bus.block.moves ≤ self.old.bus.block.moves + 4 * touch X.further self.old.time (until - self.old.time) self.old.bus.block.units }
     {
         let states = until - self.time;
         self.advance(states, out, steps);
@@ -107,11 +103,8 @@ impl<X: Extra + Drop> Core<X> {
         requires some { self.old.time < until }
         requires room { until ≤ 3 * 10 ^ 15 }
         requires ready { IsReady self.old }
-        ensures machine { machine_of self.new ≡ at (machine_of self.old) until (after (block_rule X.further) self.old.time (until - self.old.time) self.old.bus.block.units) self.old.under_way }
-        ensures lines { Prints (out_of S.written S.faults out.old) (edges_in X.further self.old.time (until - self.old.time) self.old.bus.block.units) (out_of S.written S.faults out.new) }
+        ensures goes { GoesAs (ticks_to X.further (machine_of self.old) until (until - self.old.time) self.old.under_way) self.old self.new (out_of S.written S.faults out.old) (out_of S.written S.faults out.new) steps.old steps.new }
         ensures ready { IsReady self.new }
-        ensures spent { steps.new ≤ steps.old + 4 * touch X.further self.old.time (until - self.old.time) self.old.bus.block.units }
-        ensures moves { self.new.bus.block.moves ≤ self.old.bus.block.moves + 4 * touch X.further self.old.time (until - self.old.time) self.old.bus.block.units }
     {
         self.advance(until - self.time, out, steps);
         self.time = until;
@@ -127,12 +120,9 @@ impl<X: Extra + Drop> Core<X> {
         requires going { IsGoing activity }
         requires ready { IsReady self.old }
         requires room { self.old.time + activity.left ≤ 3 * 10 ^ 15 }
-        ensures machine { machine_of self.new ≡ (whole X.further (machine_of self.old) activity).machine }
+        ensures goes { GoesAs (whole X.further (machine_of self.old) activity) self.old self.new (out_of S.written S.faults out.old) (out_of S.written S.faults out.new) steps.old steps.new }
         ensures time { self.new.time ≡ self.old.time + activity.left }
         ensures ready { IsReady self.new }
-        ensures lines { Prints (out_of S.written S.faults out.old) (whole X.further (machine_of self.old) activity).records (out_of S.written S.faults out.new) }
-        ensures spent { steps.new ≤ steps.old + 4 * (whole X.further (machine_of self.old) activity).work }
-        ensures moves { self.new.bus.block.moves ≤ self.old.bus.block.moves + 4 * (whole X.further (machine_of self.old) activity).work }
     {
         let left = u64::from(activity.left);
         self.advance(left, out, steps);
@@ -189,16 +179,8 @@ impl<X: Extra + Drop> Core<X> {
         steps: &mut Steps<L>,
     ) -> bool
         requires free { OnTrue free (IsFree (machine_of self.old)) }
-        requires ready { IsReady self.old }
-        requires lives { self.old.ended ≡ None }
-        requires ahead { self.old.time < until }
-        requires room { until ≤ 2 * 10 ^ 15 }
-        ensures passes { Passes X.further until (machine_of self.old) (machine_of self.new) }
-        ensures machine { machine_of self.new ≡ (run_to X.further self.new.time (machine_of self.old)).machine }
-        ensures lines { Prints (out_of S.written S.faults out.old) (run_to X.further self.new.time (machine_of self.old)).records (out_of S.written S.faults out.new) }
-        ensures ready { IsReady self.new }
-        ensures spent { steps.new ≤ steps.old + 4 * (run_to X.further self.new.time (machine_of self.old)).work }
-        ensures moves { self.new.bus.block.moves ≤ self.old.bus.block.moves + 4 * (run_to X.further self.new.time (machine_of self.old)).work }
+        requires may { MayPass until self.old }
+        ensures passed { PassesAs X.further until self.old self.new (out_of S.written S.faults out.old) (out_of S.written S.faults out.new) steps.old steps.new }
         ensures free { OnTrue result (IsFree (machine_of self.new)) }
     {
         let choice = self.asked_if(free);
@@ -221,16 +203,8 @@ impl<X: Extra + Drop> Core<X> {
     ) -> bool
         requires free { OnTrue free (IsFree (machine_of self.old)) }
         requires asked { OnTrue free (asked (machine_of self.old) ≡ Go) }
-        requires ready { IsReady self.old }
-        requires lives { self.old.ended ≡ None }
-        requires ahead { self.old.time < until }
-        requires room { until ≤ 2 * 10 ^ 15 }
-        ensures passes { Passes X.further until (machine_of self.old) (machine_of self.new) }
-        ensures machine { machine_of self.new ≡ (run_to X.further self.new.time (machine_of self.old)).machine }
-        ensures lines { Prints (out_of S.written S.faults out.old) (run_to X.further self.new.time (machine_of self.old)).records (out_of S.written S.faults out.new) }
-        ensures ready { IsReady self.new }
-        ensures spent { steps.new ≤ steps.old + 4 * (run_to X.further self.new.time (machine_of self.old)).work }
-        ensures moves { self.new.bus.block.moves ≤ self.old.bus.block.moves + 4 * (run_to X.further self.new.time (machine_of self.old)).work }
+        requires may { MayPass until self.old }
+        ensures passed { PassesAs X.further until self.old self.new (out_of S.written S.faults out.old) (out_of S.written S.faults out.new) steps.old steps.new }
         ensures free { OnTrue result (IsFree (machine_of self.new)) }
     {
         if self.comes_next(free) {
@@ -254,15 +228,8 @@ impl<X: Extra + Drop> Core<X> {
         requires free { IsFree (machine_of self.old) }
         requires choice { choice ≡ asked (machine_of self.old) }
         requires below { IsBelow15 choice }
-        requires ready { IsReady self.old }
-        requires ahead { self.old.time < until }
-        requires room { until ≤ 2 * 10 ^ 15 }
-        ensures passes { Passes X.further until (machine_of self.old) (machine_of self.new) }
-        ensures machine { machine_of self.new ≡ (run_to X.further self.new.time (machine_of self.old)).machine }
-        ensures lines { Prints (out_of S.written S.faults out.old) (run_to X.further self.new.time (machine_of self.old)).records (out_of S.written S.faults out.new) }
-        ensures ready { IsReady self.new }
-        ensures spent { steps.new ≤ steps.old + 4 * (run_to X.further self.new.time (machine_of self.old)).work }
-        ensures moves { self.new.bus.block.moves ≤ self.old.bus.block.moves + 4 * (run_to X.further self.new.time (machine_of self.old)).work }
+        requires may { MayPass until self.old }
+        ensures passed { PassesAs X.further until self.old self.new (out_of S.written S.faults out.old) (out_of S.written S.faults out.new) steps.old steps.new }
     {
         let activity = self.serves(choice, steps);
         self.go_through(activity, until, out, steps);
@@ -277,16 +244,8 @@ impl<X: Extra + Drop> Core<X> {
         out: &mut TraceOut<S>,
         steps: &mut Steps<L>,
     )
-        requires ready { IsReady self.old }
-        requires lives { self.old.ended ≡ None }
-        requires ahead { self.old.time < until }
-        requires room { until ≤ 2 * 10 ^ 15 }
-        ensures passes { Passes X.further until (machine_of self.old) (machine_of self.new) }
-        ensures machine { machine_of self.new ≡ (run_to X.further self.new.time (machine_of self.old)).machine }
-        ensures lines { Prints (out_of S.written S.faults out.old) (run_to X.further self.new.time (machine_of self.old)).records (out_of S.written S.faults out.new) }
-        ensures ready { IsReady self.new }
-        ensures spent { steps.new ≤ steps.old + 4 * (run_to X.further self.new.time (machine_of self.old)).work }
-        ensures moves { self.new.bus.block.moves ≤ self.old.bus.block.moves + 4 * (run_to X.further self.new.time (machine_of self.old)).work }
+        requires may { MayPass until self.old }
+        ensures passed { PassesAs X.further until self.old self.new (out_of S.written S.faults out.old) (out_of S.written S.faults out.new) steps.old steps.new }
     {
         if self.rests() {
             let end = self.rest_end(until);
@@ -306,16 +265,8 @@ impl<X: Extra + Drop> Core<X> {
     ) -> bool
         requires between { IsBetween (machine_of self.old) }
         requires slot { HasSlot self.old.cpu.pc }
-        requires ready { IsReady self.old }
-        requires lives { self.old.ended ≡ None }
-        requires ahead { self.old.time < until }
-        requires room { until ≤ 2 * 10 ^ 15 }
-        ensures passes { Passes X.further until (machine_of self.old) (machine_of self.new) }
-        ensures machine { machine_of self.new ≡ (run_to X.further self.new.time (machine_of self.old)).machine }
-        ensures lines { Prints (out_of S.written S.faults out.old) (run_to X.further self.new.time (machine_of self.old)).records (out_of S.written S.faults out.new) }
-        ensures ready { IsReady self.new }
-        ensures spent { steps.new ≤ steps.old + 4 * (run_to X.further self.new.time (machine_of self.old)).work }
-        ensures moves { self.new.bus.block.moves ≤ self.old.bus.block.moves + 4 * (run_to X.further self.new.time (machine_of self.old)).work }
+        requires may { MayPass until self.old }
+        ensures passed { PassesAs X.further until self.old self.new (out_of S.written S.faults out.old) (out_of S.written S.faults out.new) steps.old steps.new }
         ensures free { OnTrue result (IsFree (machine_of self.new)) }
     {
         let ready = self.bus.ready_at(self.cpu.pc);
@@ -344,16 +295,8 @@ impl<X: Extra + Drop> Core<X> {
     )
         requires between { IsBetween (machine_of self.old) }
         requires slot { HasSlot self.old.cpu.pc }
-        requires ready { IsReady self.old }
-        requires lives { self.old.ended ≡ None }
-        requires ahead { self.old.time < until }
-        requires room { until ≤ 2 * 10 ^ 15 }
-        ensures passes { Passes X.further until (machine_of self.old) (machine_of self.new) }
-        ensures machine { machine_of self.new ≡ (run_to X.further self.new.time (machine_of self.old)).machine }
-        ensures lines { Prints (out_of S.written S.faults out.old) (run_to X.further self.new.time (machine_of self.old)).records (out_of S.written S.faults out.new) }
-        ensures ready { IsReady self.new }
-        ensures spent { steps.new ≤ steps.old + 4 * (run_to X.further self.new.time (machine_of self.old)).work }
-        ensures moves { self.new.bus.block.moves ≤ self.old.bus.block.moves + 4 * (run_to X.further self.new.time (machine_of self.old)).work }
+        requires may { MayPass until self.old }
+        ensures passed { PassesAs X.further until self.old self.new (out_of S.written S.faults out.old) (out_of S.written S.faults out.new) steps.old steps.new }
     {
         let ready = self.bus.ready_at(self.cpu.pc);
         if ready.is_blank() {
@@ -373,16 +316,8 @@ impl<X: Extra + Drop> Core<X> {
         out: &mut TraceOut<S>,
         steps: &mut Steps<L>,
     )
-        requires ready { IsReady self.old }
-        requires lives { self.old.ended ≡ None }
-        requires ahead { self.old.time < until }
-        requires room { until ≤ 2 * 10 ^ 15 }
-        ensures passes { Passes X.further until (machine_of self.old) (machine_of self.new) }
-        ensures machine { machine_of self.new ≡ (run_to X.further self.new.time (machine_of self.old)).machine }
-        ensures lines { Prints (out_of S.written S.faults out.old) (run_to X.further self.new.time (machine_of self.old)).records (out_of S.written S.faults out.new) }
-        ensures ready { IsReady self.new }
-        ensures spent { steps.new ≤ steps.old + 4 * (run_to X.further self.new.time (machine_of self.old)).work }
-        ensures moves { self.new.bus.block.moves ≤ self.old.bus.block.moves + 4 * (run_to X.further self.new.time (machine_of self.old)).work }
+        requires may { MayPass until self.old }
+        ensures passed { PassesAs X.further until self.old self.new (out_of S.written S.faults out.old) (out_of S.written S.faults out.new) steps.old steps.new }
     {
         self.bus.look_ahead(self.cpu.pc);
         self.pass_any(until, out, steps);
@@ -395,16 +330,8 @@ impl<X: Extra + Drop> Core<X> {
         out: &mut TraceOut<S>,
         steps: &mut Steps<L>,
     )
-        requires ready { IsReady self.old }
-        requires lives { self.old.ended ≡ None }
-        requires ahead { self.old.time < until }
-        requires room { until ≤ 2 * 10 ^ 15 }
-        ensures passes { Passes X.further until (machine_of self.old) (machine_of self.new) }
-        ensures machine { machine_of self.new ≡ (run_to X.further self.new.time (machine_of self.old)).machine }
-        ensures lines { Prints (out_of S.written S.faults out.old) (run_to X.further self.new.time (machine_of self.old)).records (out_of S.written S.faults out.new) }
-        ensures ready { IsReady self.new }
-        ensures spent { steps.new ≤ steps.old + 4 * (run_to X.further self.new.time (machine_of self.old)).work }
-        ensures moves { self.new.bus.block.moves ≤ self.old.bus.block.moves + 4 * (run_to X.further self.new.time (machine_of self.old)).work }
+        requires may { MayPass until self.old }
+        ensures passed { PassesAs X.further until self.old self.new (out_of S.written S.faults out.old) (out_of S.written S.faults out.new) steps.old steps.new }
     {
         let activity = self.current(steps);
         self.go_through(activity, until, out, steps);
@@ -444,12 +371,9 @@ impl<X: Extra + Drop> Core<X> {
         requires ready { IsReady self.old }
         requires lives { self.old.ended ≡ None }
         requires room { self.old.time + states ≤ 3 * 10 ^ 15 }
-        ensures machine { machine_of self.new ≡ (whole X.further (machine_of self.old) (executing ready.now states)).machine }
+        ensures goes { GoesAs (whole X.further (machine_of self.old) (executing ready.now states)) self.old self.new (out_of S.written S.faults out.old) (out_of S.written S.faults out.new) steps.old steps.new }
         ensures time { self.new.time ≡ self.old.time + states }
         ensures ready { IsReady self.new }
-        ensures lines { Prints (out_of S.written S.faults out.old) (whole X.further (machine_of self.old) (executing ready.now states)).records (out_of S.written S.faults out.new) }
-        ensures spent { steps.new ≤ steps.old + 4 * (whole X.further (machine_of self.old) (executing ready.now states)).work }
-        ensures moves { self.new.bus.block.moves ≤ self.old.bus.block.moves + 4 * (whole X.further (machine_of self.old) (executing ready.now states)).work }
         ensures free { OnTrue result (IsFree (machine_of self.new)) }
     {
         let left = u64::from(states);
@@ -483,16 +407,8 @@ impl<X: Extra + Drop> Core<X> {
         requires value { executing ready.now states ≡ current (machine_of self.old) }
         requires some { 0 < states }
         requires within { states ≤ until - self.old.time }
-        requires ready { IsReady self.old }
-        requires lives { self.old.ended ≡ None }
-        requires ahead { self.old.time < until }
-        requires room { until ≤ 2 * 10 ^ 15 }
-        ensures passes { Passes X.further until (machine_of self.old) (machine_of self.new) }
-        ensures machine { machine_of self.new ≡ (run_to X.further self.new.time (machine_of self.old)).machine }
-        ensures lines { Prints (out_of S.written S.faults out.old) (run_to X.further self.new.time (machine_of self.old)).records (out_of S.written S.faults out.new) }
-        ensures ready { IsReady self.new }
-        ensures spent { steps.new ≤ steps.old + 4 * (run_to X.further self.new.time (machine_of self.old)).work }
-        ensures moves { self.new.bus.block.moves ≤ self.old.bus.block.moves + 4 * (run_to X.further self.new.time (machine_of self.old)).work }
+        requires may { MayPass until self.old }
+        ensures passed { PassesAs X.further until self.old self.new (out_of S.written S.faults out.old) (out_of S.written S.faults out.new) steps.old steps.new }
         ensures free { OnTrue result (IsFree (machine_of self.new)) }
     {
         self.complete_ready(ready, states, out, steps)
@@ -508,16 +424,8 @@ impl<X: Extra + Drop> Core<X> {
     )
         requires value { activity ≡ current (machine_of self.old) }
         requires going { IsGoing activity }
-        requires ready { IsReady self.old }
-        requires lives { self.old.ended ≡ None }
-        requires ahead { self.old.time < until }
-        requires room { until ≤ 2 * 10 ^ 15 }
-        ensures passes { Passes X.further until (machine_of self.old) (machine_of self.new) }
-        ensures machine { machine_of self.new ≡ (run_to X.further self.new.time (machine_of self.old)).machine }
-        ensures lines { Prints (out_of S.written S.faults out.old) (run_to X.further self.new.time (machine_of self.old)).records (out_of S.written S.faults out.new) }
-        ensures ready { IsReady self.new }
-        ensures spent { steps.new ≤ steps.old + 4 * (run_to X.further self.new.time (machine_of self.old)).work }
-        ensures moves { self.new.bus.block.moves ≤ self.old.bus.block.moves + 4 * (run_to X.further self.new.time (machine_of self.old)).work }
+        requires may { MayPass until self.old }
+        ensures passed { PassesAs X.further until self.old self.new (out_of S.written S.faults out.old) (out_of S.written S.faults out.new) steps.old steps.new }
     {
         let ahead = until - self.time;
         if ahead < u64::from(activity.left) {
@@ -546,8 +454,7 @@ impl<X: Extra + Drop> Core<X> {
         ensures within { self.new.time ≤ max until self.old.time }
         ensures goes { self.old.ended ≡ None → self.old.time < until → self.old.time < self.new.time }
         ensures ready { IsReady self.new }
-        ensures spent { steps.new ≤ steps.old + 4 * (run_to X.further self.new.time (machine_of self.old)).work }
-        ensures moves { self.new.bus.block.moves ≤ self.old.bus.block.moves + 4 * (run_to X.further self.new.time (machine_of self.old)).work }
+        ensures costs { CostsAtMost (4 * (run_to X.further self.new.time (machine_of self.old)).work) steps.old steps.new self.old.bus.block.moves self.new.bus.block.moves }
     {
         let mut free = self.is_free();
         while self.time < until {
@@ -567,14 +474,9 @@ impl<X: Extra + Drop> Core<X> {
         requires ready { IsReady self.old }
         requires lives { self.old.ended ≡ None }
         requires room { self.old.time ≤ 2 * 10 ^ 15 }
-        ensures passes { Passes X.further (activity_end (machine_of self.old)) (machine_of self.old) (machine_of self.new) }
-        ensures machine { machine_of self.new ≡ (run_to X.further (activity_end (machine_of self.old)) (machine_of self.old)).machine }
-        ensures lines { Prints (out_of S.written S.faults out.old) (run_to X.further (activity_end (machine_of self.old)) (machine_of self.old)).records (out_of S.written S.faults out.new) }
+        ensures passed { PassesAs X.further (activity_end (machine_of self.old)) self.old self.new (out_of S.written S.faults out.old) (out_of S.written S.faults out.new) steps.old steps.new }
         ensures time { self.new.time ≡ activity_end (machine_of self.old) }
         ensures states { IsBrief (machine_of self.old) }
-        ensures ready { IsReady self.new }
-        ensures spent { steps.new ≤ steps.old + 4 * (run_to X.further (activity_end (machine_of self.old)) (machine_of self.old)).work }
-        ensures moves { self.new.bus.block.moves ≤ self.old.bus.block.moves + 4 * (run_to X.further (activity_end (machine_of self.old)) (machine_of self.old)).work }
     {
         let activity = self.current(steps);
         self.complete(activity, out, steps);
@@ -592,13 +494,10 @@ impl<X: Extra + Drop> Core<X> {
         ensures end { IfOk result (λ end. end ≡ (run_to X.further (activity_end (machine_of self.old)) (machine_of self.old)).machine.ended) }
         ensures states { self.old.ended ≡ None → IsBrief (machine_of self.old) }
         ensures time { self.old.ended ≡ None → self.new.time ≡ activity_end (machine_of self.old) }
-        ensures machine { machine_of self.new ≡ (run_to X.further (activity_end (machine_of self.old)) (machine_of self.old)).machine }
-        ensures lines { Prints (out_of S.written S.faults out.old) (run_to X.further (activity_end (machine_of self.old)) (machine_of self.old)).records (out_of S.written S.faults out.new) }
+        ensures goes { GoesAs (run_to X.further (activity_end (machine_of self.old)) (machine_of self.old)) self.old self.new (out_of S.written S.faults out.old) (out_of S.written S.faults out.new) steps.old steps.new }
         ensures written { OnOk result (out.new.failed ≡ false) }
         ensures fails { OnErr result (FailsIn X.further (activity_end (machine_of self.old)) (machine_of self.old) (out_of S.written S.faults out.old) (machine_of self.new) (out_of S.written S.faults out.new)) }
         ensures ready { IsReady self.new }
-        ensures spent { steps.new ≤ steps.old + 4 * (run_to X.further (activity_end (machine_of self.old)) (machine_of self.old)).work }
-        ensures moves { self.new.bus.block.moves ≤ self.old.bus.block.moves + 4 * (run_to X.further (activity_end (machine_of self.old)) (machine_of self.old)).work }
     {
         if let Some(end) = self.ended {
             return Ok(Some(end));

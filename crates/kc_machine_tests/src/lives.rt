@@ -1,5 +1,6 @@
 // Lives of a board, one after the other.
-ghost use Rattle.std.specs.Prelude.{◌≡◌, ◌≤◌, ◌<◌, false, refl, length};
+ghost use Rattle.std.specs.Prelude.{◌≡◌, ◌≤◌, false, refl, length};
+ghost use Rattle.kc_base.specs.Fresh.{IsFresh};
 
 use crate::board::image_of;
 use kc_base::{MemSink, NoMemory, StateTime, Steps};
@@ -175,9 +176,7 @@ fn run<M: Maker, L: Ledger>(
     out: &mut TraceOut<MemSink>,
     blank: Blank,
 ) -> Result<Result<End, LivesFault>, Fail>
-    requires name { blank.name ≡ L.name }
-    requires parts { blank.parts ≡ L.parts }
-    requires some { 0 < L.parts }
+    requires fresh { IsFresh blank L.name L.parts }
     requires unbroken { out.old.failed ≡ false }
 {
     if row.stimuli.len() > 100 || row.until > 1_000_000 {

@@ -1,5 +1,6 @@
 // A program that is entered, served and idle, with the numbers of a model in another language.
-ghost use Rattle.std.specs.Prelude.{◌≡◌, ◌+◌, ◌<◌, ◌≤◌, false, OnOk};
+ghost use Rattle.std.specs.Prelude.{◌≡◌, ◌+◌, ◌≤◌, false, OnOk};
+ghost use Rattle.kc_base.specs.Fresh.{IsFresh};
 ghost use Rattle.kc_profile.specs.Tally.{total};
 
 use crate::board::machine_of;
@@ -91,9 +92,7 @@ fn go<L: Ledger>(
 
 // The profile of the first 1,000 states, in two runs of which the first ends within an activity.
 fn counted<L: Ledger>(alloc: Global, blank: Blank) -> Result<Profile, Fail>
-    requires name { blank.name ≡ L.name }
-    requires parts { blank.parts ≡ L.parts }
-    requires whole { 0 < blank.parts }
+    requires fresh { IsFresh blank L.name L.parts }
 {
     let mut machine = machine_of(alloc, &PARTS)?;
     let mut profile = Profile::new(alloc)?;

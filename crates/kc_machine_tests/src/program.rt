@@ -1,5 +1,6 @@
 // A program of all groups of instructions, against an independent model of the chip.
-ghost use Rattle.std.specs.Prelude.{◌≡◌, ◌<◌};
+ghost use Rattle.std.specs.Prelude.{◌<◌};
+ghost use Rattle.kc_base.specs.Fresh.{IsFresh};
 
 use crate::board::machine_of;
 use kc_base::{MemSink, Steps};
@@ -282,9 +283,7 @@ fn changes<L: Ledger>(
     until: u64,
     blank: Blank,
 ) -> Result<String, Fail>
-    requires name { blank.name ≡ L.name }
-    requires parts { blank.parts ≡ L.parts }
-    requires whole { 0 < blank.parts }
+    requires fresh { IsFresh blank L.name L.parts }
     requires until { until < 1000 }
 {
     let mut steps: Steps<L> = Steps::new(blank);

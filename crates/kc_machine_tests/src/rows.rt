@@ -1,5 +1,6 @@
 // Small programs, each with the lines that it has to print.
-ghost use Rattle.std.specs.Prelude.{◌≡◌, ◌*◌, ◌^◌, ◌≤◌, ◌<◌, false};
+ghost use Rattle.std.specs.Prelude.{◌≡◌, ◌*◌, ◌^◌, ◌≤◌, false};
+ghost use Rattle.kc_base.specs.Fresh.{IsFresh};
 
 use crate::board::machine_of;
 use kc_base::{MemSink, NoMemory, StateTime, Steps};
@@ -20,9 +21,7 @@ fn run_counted<L: Ledger>(
     out: &mut TraceOut<MemSink>,
     blank: Blank,
 ) -> bool
-    requires name { blank.name ≡ L.name }
-    requires parts { blank.parts ≡ L.parts }
-    requires whole { 0 < blank.parts }
+    requires fresh { IsFresh blank L.name L.parts }
     requires unbroken { out.old.failed ≡ false }
     requires until { until ≤ 2 * 10 ^ 15 }
 {

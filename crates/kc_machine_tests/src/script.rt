@@ -1,5 +1,6 @@
 // Scripts that are carried out. Expected lines are those of a model in another language.
-ghost use Rattle.std.specs.Prelude.{◌≡◌, ◌<◌, ◌≤◌, length, false};
+ghost use Rattle.std.specs.Prelude.{◌≡◌, ◌≤◌, length, false};
+ghost use Rattle.kc_base.specs.Fresh.{IsFresh};
 
 use crate::board::machine_of;
 use kc_base::{MemSink, Steps};
@@ -26,9 +27,7 @@ fn run_counted<L: Ledger>(
 ) -> bool
     requires start { machine.old.machine.time ≡ 0 }
     requires unbroken { out.old.failed ≡ false }
-    requires name { blank.name ≡ L.name }
-    requires parts { blank.parts ≡ L.parts }
-    requires whole { 0 < blank.parts }
+    requires fresh { IsFresh blank L.name L.parts }
 {
     let mut steps = Steps::<L>::new(blank);
     session.run_script(script, machine, out, &mut steps).is_ok()

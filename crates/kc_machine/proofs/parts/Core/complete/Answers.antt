@@ -8,28 +8,19 @@ use Rattle.kc_trace.proofs.Printed.{Prints-append}
 use Rattle.kc_trace.specs.Trace.{out_of}
 use Rattle.kc_machine.proofs.parts.Core.complete.Goals as goal
 
-pub returns-clause-machine : goal.returns-clause-machine
-returns-clause-machine g c =
-    ap (λ (s : Stepped _). s.machine) (c.finish-last.ensures.machine ∙ ap (finished g.X.Extra.further c.args.activity.doing) (rw c.from-left.ensures at c.advance.ensures.machine))
-
-pub returns-clause-lines : goal.returns-clause-lines
-returns-clause-lines g c =
-    let led = c.finish-last.ensures.machine ∙ ap (finished g.X.Extra.further c.args.activity.doing) (rw c.from-left.ensures at c.advance.ensures.machine) in
+pub returns-clause-goes : goal.returns-clause-goes
+returns-clause-goes g c =
+    let led = c.finish-last.ensures.over.machine ∙ ap (finished g.X.Extra.further c.args.activity.doing) (rw c.from-left.ensures at c.advance.ensures.goes.machine) in
     let edges : List Record = edges_in g.X.Extra.further c.args.self.now.time c.args.activity.left c.args.self.now.bus.block.units in
-    subst (λ (s : Stepped _). Prints (out_of g.S.Sink.written g.S.Sink.faults c.args.out.now) (edges ++ s.records) (out_of g.S.Sink.written g.S.Sink.faults c.put_last.new.out)) led
-    (Prints-append _ edges _ (pins c.advance.new.self.time c.finish-last.new.self.bus.edges ++ option_to_list c.finish-last.result) _ (rw c.from-left.ensures at c.advance.ensures.lines)
-    (Prints-append _ (pins c.advance.new.self.time c.finish-last.new.self.bus.edges) _ (option_to_list c.finish-last.result) _ c.put_edges.ensures c.put_last.ensures))
-
-pub returns-clause-spent : goal.returns-clause-spent
-returns-clause-spent g c =
-    let led = c.finish-last.ensures.machine ∙ ap (finished g.X.Extra.further c.args.activity.doing) (rw c.from-left.ensures at c.advance.ensures.machine) in
     let work = ap (λ (s : Stepped _). s.work) led in
-    let ticks = rw c.from-left.ensures at c.advance.ensures.spent in
-    omega (arith, work, ticks, c.finish-last.ensures.spent)
-
-pub returns-clause-moves : goal.returns-clause-moves
-returns-clause-moves g c =
-    let led = c.finish-last.ensures.machine ∙ ap (finished g.X.Extra.further c.args.activity.doing) (rw c.from-left.ensures at c.advance.ensures.machine) in
-    let work = ap (λ (s : Stepped _). s.work) led in
-    let ticks = rw c.from-left.ensures at c.advance.ensures.moves in
-    omega (arith, work, ticks, c.finish-last.ensures.moves)
+    let ticks = rw c.from-left.ensures at c.advance.ensures.goes.costs in
+    record {
+      machine = ap (λ (s : Stepped _). s.machine) led;
+      lines = subst (λ (s : Stepped _). Prints (out_of g.S.Sink.written g.S.Sink.faults c.args.out.now) (edges ++ s.records) (out_of g.S.Sink.written g.S.Sink.faults c.put_last.new.out)) led
+          (Prints-append _ edges _ (pins c.advance.new.self.time c.finish-last.new.self.bus.edges ++ option_to_list c.finish-last.result) _ (rw c.from-left.ensures at c.advance.ensures.goes.lines)
+          (Prints-append _ (pins c.advance.new.self.time c.finish-last.new.self.bus.edges) _ (option_to_list c.finish-last.result) _ c.put_edges.ensures c.put_last.ensures));
+      costs = record {
+        spent = omega (arith, work, ticks.spent, c.finish-last.ensures.within.costs.spent);
+        moves = omega (arith, work, ticks.moves, c.finish-last.ensures.within.costs.moves);
+      };
+    }

@@ -1,4 +1,5 @@
-use Rattle.std.proofs.Common.{◌≡◌, ◌∙◌, ◌++◌, ◌*◌, ap, sym}
+use Rattle.std.proofs.Common.{◌≡◌, ◌∙◌, ◌++◌, ◌*◌, ap, sym, rules, arith}
+use Rattle.std.proofs.lemmas.Grind.{common_steps}
 use Rattle.std.specs.Prelude.{option_to_list}
 use Rattle.kc_exec_spec.specs.Effect.{Done, Refused, run}
 use Rattle.kc_exec_spec.specs.Effects.{effect_of}
@@ -11,23 +12,37 @@ use Rattle.kc_machine.specs.Seen.{machine_of}
 use Rattle.kc_machine.proofs.Finishing.{executed, execute-refused}
 use Rattle.kc_machine.proofs.parts.Core.execute.Goals as goal
 
-pub returns-in-Ok-clause-machine : goal.returns-in-Ok-clause-machine
-returns-in-Ok-clause-machine g c =
+pub returns-in-Ok-clause-over : goal.returns-in-Ok-clause-over
+returns-in-Ok-clause-over g c =
     let m = machine_of c.args.self.now in
     let s = held_of c.perform_over.new.common in
     let led : run (bus_meaning g.X.Extra.further) (effect_of c.args.insn.now m.cpu) (scene_of m) ≡ Done (c.in-Ok.after, c.perform_over.new.cpu) s =
-    ap (run (bus_meaning g.X.Extra.further) (effect_of c.args.insn.now m.cpu)) (sym c.requires.scene) ∙ c.in-Ok.ensures.effect in
-    ap (λ (core : Core _ _). stepped_of (machine_of core) (pins m.time core.bus.edges ++ option_to_list c.own_record-own.result) (4 * core.bus.reached)) c.close.ensures
-    ∙ ap (λ next. closed m s c.perform_over.new.cpu next (option_to_list c.own_record-own.result)) c.follow.ensures.value
-    ∙ ap (λ records. closed m s c.perform_over.new.cpu (next_after c.args.insn.now c.in-Ok.after) records) c.own_record-own.ensures.value
-    ∙ executed g.X.Extra.further c.args.insn.now m s c.in-Ok.after c.perform_over.new.cpu led
+    ap (run (bus_meaning g.X.Extra.further) (effect_of c.args.insn.now m.cpu)) (sym c.requires.last.scene) ∙ c.in-Ok.ensures.effect in
+    record {
+      machine =
+          ap (λ (core : Core _ _). stepped_of (machine_of core) (pins m.time core.bus.edges ++ option_to_list c.own_record-own.result) (4 * core.bus.reached)) c.close.ensures
+          ∙ ap (λ next. closed m s c.perform_over.new.cpu next (option_to_list c.own_record-own.result)) c.follow.ensures.value
+          ∙ ap (λ records. closed m s c.perform_over.new.cpu (next_after c.args.insn.now c.in-Ok.after) records) c.own_record-own.ensures.value
+          ∙ executed g.X.Extra.further c.args.insn.now m s c.in-Ok.after c.perform_over.new.cpu led;
+      time = first_of (search rules, grind (arith, common_steps));
+      over = first_of (search rules, grind (arith, common_steps));
+      between = first_of (search rules, grind (arith, common_steps));
+      printable = first_of (search rules, grind (arith, common_steps));
+    }
 
-pub returns-in-Err-clause-machine : goal.returns-in-Err-clause-machine
-returns-in-Err-clause-machine g c =
+pub returns-in-Err-clause-over : goal.returns-in-Err-clause-over
+returns-in-Err-clause-over g c =
     let m = machine_of c.args.self.now in
     let s = held_of c.perform_over.new.common in
     let led : run (bus_meaning g.X.Extra.further) (effect_of c.args.insn.now m.cpu) (scene_of m) ≡ Refused c.in-Err.kind s =
-    ap (run (bus_meaning g.X.Extra.further) (effect_of c.args.insn.now m.cpu)) (sym c.requires.scene) ∙ c.in-Err.ensures.effect.0 in
-    c.break_off.ensures.machine
-    ∙ ap (λ cpu. broken (record m { cpu = cpu }) s cpu.pc c.in-Err.kind) c.in-Err.ensures.effect.1
-    ∙ execute-refused g.X.Extra.further c.args.insn.now m s c.in-Err.kind led
+    ap (run (bus_meaning g.X.Extra.further) (effect_of c.args.insn.now m.cpu)) (sym c.requires.last.scene) ∙ c.in-Err.ensures.effect.0 in
+    record {
+      machine =
+          c.break_off.ensures.machine
+          ∙ ap (λ cpu. broken (record m { cpu = cpu }) s cpu.pc c.in-Err.kind) c.in-Err.ensures.effect.1
+          ∙ execute-refused g.X.Extra.further c.args.insn.now m s c.in-Err.kind led;
+      time = first_of (search rules, grind (arith, common_steps));
+      over = first_of (search rules, grind (arith, common_steps));
+      between = first_of (search rules, grind (arith, common_steps));
+      printable = first_of (search rules, grind (arith, common_steps));
+    }

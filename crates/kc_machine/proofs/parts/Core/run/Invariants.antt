@@ -1,7 +1,8 @@
-use Rattle.std.proofs.Common.{◌≡◌, ◌-◌, ◌+◌, ◌*◌, ◌≤◌, max, false}
+use Rattle.std.proofs.Common.{◌≡◌, ◌-◌, ◌*◌, ◌≤◌, max, false}
 use Rattle.kc_machine_spec.specs.Run.{run_to}
 use Rattle.kc_machine_spec.proofs.Coming.{Came}
 use Rattle.std.specs.Bool.{OnTrue}
+use Rattle.kc_block_spec.specs.Costs.{CostsAtMost}
 use Rattle.kc_machine.specs.Prepared.{IsFree}
 use Rattle.kc_machine.specs.Sound.{IsReady}
 use Rattle.kc_trace.specs.Trace.{out_of}
@@ -13,8 +14,7 @@ invariant-loop-self g l = record {
   came : Came g.X.Extra.further (machine_of l.initial.self) (out_of g.S.Sink.written g.S.Sink.faults l.initial.out) (machine_of l.self) (out_of g.S.Sink.written g.S.Sink.faults l.out);
   within : l.self.time ≤ max l.until l.initial.self.time;
   unbroken : l.out.failed ≡ false;
-  spent : l.steps ≤ l.initial.steps + 4 * (run_to g.X.Extra.further l.self.time (machine_of l.initial.self)).work;
-  moves : l.self.bus.block.moves ≤ l.initial.self.bus.block.moves + 4 * (run_to g.X.Extra.further l.self.time (machine_of l.initial.self)).work;
+  costs : CostsAtMost (4 * (run_to g.X.Extra.further l.self.time (machine_of l.initial.self)).work) l.initial.steps l.steps l.initial.self.bus.block.moves l.self.bus.block.moves;
   ready : IsReady l.self;
   free : OnTrue l.free (IsFree (machine_of l.self));
 }
