@@ -1,4 +1,5 @@
 pub mod Activities
+pub mod Faults
 pub mod Stops
 pub mod Lines
 pub mod Transcript

@@ -6,6 +6,7 @@ ghost use Rattle.kc_machine_spec.specs.Run.{end_of};
 ghost use Rattle.kc_debug_script.specs.Commands.{IsBounded};
 ghost use Rattle.kc_debug_script.specs.declared.fault.DebugFault.TheVariants as faults;
 ghost use Rattle.kc_debug_script.specs.Script.{is_break, AreBounded};
+ghost use Rattle.kc_debug.specs.Faults.{TellsFault};
 ghost use Rattle.kc_debug.specs.Passing.{IsKept, Gone, Spends};
 ghost use Rattle.kc_debug.specs.Stops.{activity_states, states_at_once, states_of_activities, states_of_run};
 ghost use Rattle.kc_debug.specs.Transcript.{after_command, gone_for, quits, transcript, untouched};
@@ -94,8 +95,7 @@ impl Sitting {
         ensures time { machine.new.machine.time ≤ machine.old.machine.time + 255 * count }
         ensures capacity { self.new.begun.capacity ≡ 33 }
         ensures breaks { self.new.breaks ≡ self.old.breaks }
-        ensures written { OnOk result (out.new.failed ≡ false) }
-        ensures failed { OnErr result (out.new.failed ≡ true) }
+        ensures fault { TellsFault result out.new.failed }
     {
         let before = machine.ended();
         step(&mut self.begun, count, machine, out, steps)?;
@@ -120,8 +120,7 @@ impl Sitting {
         ensures time { machine.new.machine.time ≤ max until machine.old.machine.time }
         ensures capacity { self.new.begun.capacity ≡ 33 }
         ensures breaks { self.new.breaks ≡ self.old.breaks }
-        ensures written { OnOk result (out.new.failed ≡ false) }
-        ensures failed { OnErr result (out.new.failed ≡ true) }
+        ensures fault { TellsFault result out.new.failed }
     {
         let before = machine.ended();
         go(
@@ -158,8 +157,7 @@ impl Sitting {
         ensures moves { machine.new.moves ≤ machine.old.moves + (4 * work_in X.further command (seen machine.old.machine self.old) + bytes_of command) }
         ensures time { machine.new.machine.time ≤ max (10 ^ 15) machine.old.machine.time + 255000000 }
         ensures capacity { self.new.begun.capacity ≡ 33 }
-        ensures written { OnOk result (out.new.failed ≡ false) }
-        ensures failed { OnErr result (out.new.failed ≡ true) }
+        ensures fault { TellsFault result out.new.failed }
     {
         match command {
             Command::Step(count) => self.step(count, machine, out, steps),
@@ -199,8 +197,7 @@ impl Sitting {
         ensures spent { steps.new ≤ steps.old + 4 * work_of X.further lines.now commands.now (untouched machine.old.machine) }
         ensures moves { machine.new.moves ≤ machine.old.moves + (4 * work_of X.further lines.now commands.now (untouched machine.old.machine) + bytes_shown commands.now) }
         ensures capacity { self.new.begun.capacity ≡ 33 }
-        ensures written { OnOk result (out.new.failed ≡ false) }
-        ensures failed { OnErr result (out.new.failed ≡ true) }
+        ensures fault { TellsFault result out.new.failed }
     {
         for index in 0..commands.len() {
             let command = command_at(commands, index);

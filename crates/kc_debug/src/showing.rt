@@ -1,5 +1,5 @@
 // The commands that show something.
-ghost use Rattle.std.specs.Prelude.{◌≡◌, ◌+◌, ◌-◌, ◌<◌, ◌≤◌, ◌++◌, None, IfSome, OnOk, OnErr, Option, false, true, flat_map};
+ghost use Rattle.std.specs.Prelude.{◌≡◌, ◌+◌, ◌-◌, ◌<◌, ◌≤◌, ◌++◌, None, IfSome, Option, false, flat_map};
 ghost use Rattle.circular_buffer.specs.Buffer.{keep_last};
 ghost use Rattle.kc_trace.specs.Out.{Puts};
 ghost use Rattle.kc_trace.specs.Text.{text_of};
@@ -7,6 +7,7 @@ ghost use Rattle.kc_trace.specs.Trace.{out_of};
 ghost use Rattle.kc_machine_spec.specs.Text.{HasRun};
 ghost use Rattle.kc_debug_script.specs.LineMap.{entry_at};
 ghost use Rattle.kc_debug.specs.Activities.{finished};
+ghost use Rattle.kc_debug.specs.Faults.{TellsFault};
 ghost use Rattle.kc_debug.specs.Lines.{activity_line as line_of_activity, memory_lines, source_place, stand_line as line_of_stand};
 ghost use Rattle.kc_debug.specs.Transcript.{history_length, new_end};
 
@@ -31,8 +32,7 @@ fn tell_end<X: Extra + Drop, S: Sink>(
     requires unbroken { out.old.failed ≡ false }
     requires ran { before ≡ None → IfSome machine.now.machine.ended (λ how. HasRun how machine.now.machine.time) }
     ensures text { Puts (out_of S.written S.faults out.old) (text_of (new_end before machine.now.machine)) (out_of S.written S.faults out.new) }
-    ensures written { OnOk result (out.new.failed ≡ false) }
-    ensures failed { OnErr result (out.new.failed ≡ true) }
+    ensures fault { TellsFault result out.new.failed }
 {
     match before {
         Some(_) => Ok(()),
@@ -52,8 +52,7 @@ pub(crate) fn tell_stand<X: Extra + Drop, S: Sink>(
     requires unbroken { out.old.failed ≡ false }
     requires ran { before ≡ None → IfSome machine.now.machine.ended (λ how. HasRun how machine.now.machine.time) }
     ensures text { Puts (out_of S.written S.faults out.old) (text_of (new_end before machine.now.machine) ++ line_of_stand machine.now.machine) (out_of S.written S.faults out.new) }
-    ensures written { OnOk result (out.new.failed ≡ false) }
-    ensures failed { OnErr result (out.new.failed ≡ true) }
+    ensures fault { TellsFault result out.new.failed }
 {
     tell_end(before, machine, out)?;
     out.put_text(stand_line(machine).as_slice());
@@ -71,8 +70,7 @@ pub(crate) fn show<X: Extra + Drop, S: Sink>(
     ensures text { Puts (out_of S.written S.faults out.old) (memory_lines X.further machine.old.machine from count) (out_of S.written S.faults out.new) }
     ensures same { machine.new.machine ≡ machine.old.machine }
     ensures moves { machine.new.moves ≤ machine.old.moves + count }
-    ensures written { OnOk result (out.new.failed ≡ false) }
-    ensures failed { OnErr result (out.new.failed ≡ true) }
+    ensures fault { TellsFault result out.new.failed }
 {
     for row in 0..(count + 15) / 16 {
         let first = 16 * row;
@@ -113,8 +111,7 @@ pub(crate) fn tell_history<X: Extra + Drop, S: Sink>(
     out: &mut TraceOut<S>,
 ) -> Result<(), WriteFault>
     ensures text { Puts (out_of S.written S.faults out.old) (flat_map (line_of_activity lines.now) (keep_last history_length (finished machine.now.machine.under_way begun.now.items))) (out_of S.written S.faults out.new) }
-    ensures written { OnOk result (out.new.failed ≡ false) }
-    ensures failed { OnErr result (out.new.failed ≡ true) }
+    ensures fault { TellsFault result out.new.failed }
 {
     let len = begun.len();
     let done = if machine.between() {

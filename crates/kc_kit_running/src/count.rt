@@ -1,5 +1,6 @@
 // A run of which the lines are counted.
-ghost use Rattle.std.specs.Prelude.{◌≡◌, ◌<◌, ◌++◌, List, ℕ, Option, None, false, length, IfOk, OnOk};
+ghost use Rattle.std.specs.Prelude.{◌≡◌, ◌++◌, List, ℕ, Option, None, false, length, IfOk, OnOk};
+ghost use Rattle.kc_base.specs.Fresh.{IsFresh};
 ghost use Rattle.kc_trace.specs.Text.{line_of};
 ghost use Rattle.kc_trace.specs.declared.record.Record.TheVariants.{Stopped};
 ghost use Rattle.kc_machine_spec.specs.Text.{end_state, end_number, HasRun};
@@ -84,8 +85,7 @@ pub fn count_board<S: Sink, L: Ledger>(
     out: &mut TraceOut<S>,
 ) -> Status
     requires ready { out.old.failed ≡ false }
-    requires name { blank.name ≡ L.name }
-    requires parts { blank.parts ≡ L.parts }
+    requires fresh { IsFresh blank L.name L.parts }
     requires whole { blank.parts ≡ 1 }
     ensures { Prints (λ reply. reply ≡ summary_of number board.driving board.image) (shown_by S.written S.faults out.old.sink) result (shown_by S.written S.faults out.new.sink) }
 {

@@ -1,5 +1,6 @@
 // A run of an image as a script says.
 ghost use Rattle.std.specs.Prelude.{◌≡◌, false};
+ghost use Rattle.kc_base.specs.Fresh.{IsFresh};
 ghost use Rattle.kc_kit_files.specs.Outside.{Prints, shown_by};
 ghost use Rattle.kc_kit_running.specs.Scripted.{debugged_by, script_reply};
 
@@ -24,8 +25,7 @@ pub fn debug_board<S: Sink, L: Ledger>(
     out: &mut TraceOut<S>,
 ) -> Status
     requires ready { out.old.failed ≡ false }
-    requires name { blank.name ≡ L.name }
-    requires parts { blank.parts ≡ L.parts }
+    requires fresh { IsFresh blank L.name L.parts }
     requires whole { blank.parts ≡ 1 }
     ensures { Prints (λ reply. reply ≡ script_reply (debugged_by lines script.now board.driving board.image)) (shown_by S.written S.faults out.old.sink) result (shown_by S.written S.faults out.new.sink) }
 {

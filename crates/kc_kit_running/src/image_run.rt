@@ -1,5 +1,6 @@
 // A run of an image.
 ghost use Rattle.std.specs.Prelude.{◌≡◌, ◌≤◌, false};
+ghost use Rattle.kc_base.specs.Fresh.{IsFresh};
 ghost use Rattle.kc_kit_files.specs.Outside.{Prints, shown_by};
 ghost use Rattle.kc_kit_words.specs.Values.{max_states};
 ghost use Rattle.kc_kit_words.specs.Asked.{IsBounded};
@@ -27,8 +28,7 @@ pub fn run_board<S: Sink, L: Ledger>(
 ) -> Status
     requires ready { out.old.failed ≡ false }
     requires bounded { IsBounded extent }
-    requires name { blank.name ≡ L.name }
-    requires parts { blank.parts ≡ L.parts }
+    requires fresh { IsFresh blank L.name L.parts }
     requires whole { blank.parts ≡ 1 }
     ensures { Prints (λ reply. reply ≡ board_reply extent board.driving board.image) (shown_by S.written S.faults out.old.sink) result (shown_by S.written S.faults out.new.sink) }
 {
@@ -48,8 +48,7 @@ fn run_once<S: Sink, L: Ledger>(
 ) -> Status
     requires ready { out.old.failed ≡ false }
     requires states { states ≤ max_states }
-    requires name { blank.name ≡ L.name }
-    requires parts { blank.parts ≡ L.parts }
+    requires fresh { IsFresh blank L.name L.parts }
     requires whole { blank.parts ≡ 1 }
     ensures { Prints (λ reply. reply ≡ run_reply (run_of states board.driving board.image)) (shown_by S.written S.faults out.old.sink) result (shown_by S.written S.faults out.new.sink) }
 {

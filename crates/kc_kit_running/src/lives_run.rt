@@ -1,5 +1,6 @@
 // A run of an image that goes on after a reset.
 ghost use Rattle.std.specs.Prelude.{◌≡◌, ◌≤◌, false};
+ghost use Rattle.kc_base.specs.Fresh.{IsFresh};
 ghost use Rattle.kc_kit_files.specs.Outside.{Prints, shown_by};
 ghost use Rattle.kc_kit_words.specs.Values.{max_states, max_lives};
 ghost use Rattle.kc_kit_running.specs.Lives.{board_lives, lives_reply};
@@ -28,8 +29,7 @@ pub(crate) fn run_board_lives<S: Sink, L: Ledger>(
     requires states { states ≤ max_states }
     requires some { 1 ≤ lives }
     requires few { lives ≤ max_lives }
-    requires name { blank.name ≡ L.name }
-    requires parts { blank.parts ≡ L.parts }
+    requires fresh { IsFresh blank L.name L.parts }
     requires whole { blank.parts ≡ 1 }
     ensures { Prints (λ reply. reply ≡ lives_reply (board_lives lives states board.driving board.image)) (shown_by S.written S.faults out.old.sink) result (shown_by S.written S.faults out.new.sink) }
 {

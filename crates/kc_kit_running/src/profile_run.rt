@@ -1,5 +1,6 @@
 // A run of an image whose states are counted.
 ghost use Rattle.std.specs.Prelude.{◌≡◌, ◌≤◌, ◌∷◌, [], false};
+ghost use Rattle.kc_base.specs.Fresh.{IsFresh};
 ghost use Rattle.kc_profile.specs.Text.{profile_text};
 ghost use Rattle.kc_kit_files.specs.Reply.{write};
 ghost use Rattle.kc_kit_files.specs.Outside.{kept};
@@ -39,8 +40,7 @@ pub fn profile_board<'a, F: Files, S: Sink, L: Ledger>(
 ) -> Ended<'a>
     requires ready { out.old.failed ≡ false }
     requires states { states ≤ max_states }
-    requires name { blank.name ≡ L.name }
-    requires parts { blank.parts ≡ L.parts }
+    requires fresh { IsFresh blank L.name L.parts }
     requires whole { blank.parts ≡ 1 }
     ensures reply { Ends F.held F.write_faults S.written S.faults (λ reply. reply ≡ profile_reply states target.entry.name.now entries.now board.driving board.image) files.old out.old.sink result files.new out.new.sink }
     ensures no_read { F.read_faults files.new ≡ F.read_faults files.old }

@@ -1,13 +1,10 @@
 -- A run that is counted, on its way.
-use Rattle.std.proofs.Common.{◌≡◌, ℕ, ◌+◌, ◌-◌, ◌*◌, ◌<◌, ◌≤◌, min, max, ◌⊎◌, inl, inr, true, false, List, [], ◌++◌, length, Some, None, Result, Ok, Err, OnErr, refl, sym, ap, subst, ◌∙◌, append_assoc, append-nil, length-append, arith}
+use Rattle.std.proofs.Common.{◌≡◌, ℕ, ◌+◌, ◌-◌, ◌*◌, ◌<◌, ◌≤◌, min, max, ◌⊎◌, inl, inr, List, [], ◌++◌, length, Some, None, refl, sym, ap, subst, ◌∙◌, append_assoc, append-nil, length-append, arith}
 use Rattle.std.specs.Prelude.{replicate}
 use Rattle.std.proofs.lemmas.Bool.{cases_lt}
 use Rattle.std.proofs.lemmas.List.{length-replicate}
 use Rattle.kc_extra.specs.Further.{Further}
-use Rattle.kc_trace.specs.declared.record.Record.{Record}
-use Rattle.kc_trace.specs.Counting.{counted_all}
-use Rattle.kc_trace.specs.Out.{Out, Puts, Prints}
-use Rattle.kc_trace.specs.Text.{text_of}
+use Rattle.kc_trace.specs.Out.{Out, Prints}
 use Rattle.kc_trace.proofs.Printed.{Prints-append}
 use Rattle.kc_machine_spec.specs.declared.doing.End.{End}
 use Rattle.kc_machine_spec.specs.Machine.{Machine, Stepped}

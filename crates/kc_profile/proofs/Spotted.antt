@@ -10,8 +10,8 @@ use Rattle.kc_machine_spec.specs.declared.doing.End.{End}
 use Rattle.kc_machine_spec.specs.declared.doing.UnderWay.{UnderWay}
 use Rattle.kc_machine_spec.specs.Machine.{Machine, Stepped, current, current_of, chosen, asked, serves, goes_on, goes_first, fetches}
 use Rattle.kc_machine_spec.specs.Passing.{passed, activity_end, IsIdle}
-use Rattle.kc_machine_spec.specs.Run.{still, run_for, run_to}
-use Rattle.kc_machine_spec.proofs.Runs.{run_for-ended, run_for-add, run_for-cut, waits, run-none, machine-add, machine-suc}
+use Rattle.kc_machine_spec.specs.Run.{run_for, run_to}
+use Rattle.kc_machine_spec.proofs.Runs.{run_for-ended, run_for-cut, waits, run-none, machine-add, machine-suc}
 use Rattle.kc_machine_spec.proofs.Idle.{one_more}
 use Rattle.kc_machine.specs.Stepping.{IdlesFor}
 use Rattle.kc_profile.specs.declared.spot.Spot.{Spot}

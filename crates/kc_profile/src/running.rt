@@ -12,7 +12,7 @@ ghost use Rattle.kc_machine.specs.Stepping.{IdlesFor};
 ghost use Rattle.kc_profile.specs.declared.spot.Spot as spots;
 ghost use Rattle.kc_profile.specs.Spots.{coming_spot, spots_for};
 ghost use Rattle.kc_profile.specs.Tally.{IsTallyOf, total};
-ghost use Rattle.kc_profile.specs.Passing.{Passed, LastsFor};
+ghost use Rattle.kc_profile.specs.Passing.{Went, LastsFor};
 
 use crate::Profile;
 use crate::spot::spot_of;
@@ -62,11 +62,7 @@ fn rest<X: Extra + Drop, S: Sink, L: Ledger>(
     requires within { stop ≤ until }
     requires room { until ≤ 2 * 10 ^ 15 }
     requires unbroken { out.old.failed ≡ false }
-    ensures passed { Passed X.further until machine.old.machine (out_of S.written S.faults out.old) machine.new.machine (out_of S.written S.faults out.new) }
-    ensures fails { OnErr result (FailsIn X.further until machine.old.machine (out_of S.written S.faults out.old) machine.new.machine (out_of S.written S.faults out.new)) }
-    ensures spent { steps.new ≤ steps.old + 4 * (run_to X.further machine.new.machine.time machine.old.machine).work }
-    ensures moves { machine.new.moves ≤ machine.old.moves + 4 * (run_to X.further machine.new.machine.time machine.old.machine).work }
-    ensures written { OnOk result (out.new.failed ≡ false) }
+    ensures went { Went X.further until result machine.old (out_of S.written S.faults out.old) steps.old machine.new (out_of S.written S.faults out.new) steps.new }
 {
     go_to(machine, stop, out, steps)
 }
@@ -82,11 +78,7 @@ fn finish<X: Extra + Drop, S: Sink, L: Ledger>(
     requires within { activity_end machine.old.machine ≤ until }
     requires room { until ≤ 2 * 10 ^ 15 }
     requires unbroken { out.old.failed ≡ false }
-    ensures passed { Passed X.further until machine.old.machine (out_of S.written S.faults out.old) machine.new.machine (out_of S.written S.faults out.new) }
-    ensures fails { OnErr result (FailsIn X.further until machine.old.machine (out_of S.written S.faults out.old) machine.new.machine (out_of S.written S.faults out.new)) }
-    ensures spent { steps.new ≤ steps.old + 4 * (run_to X.further machine.new.machine.time machine.old.machine).work }
-    ensures moves { machine.new.moves ≤ machine.old.moves + 4 * (run_to X.further machine.new.machine.time machine.old.machine).work }
-    ensures written { OnOk result (out.new.failed ≡ false) }
+    ensures went { Went X.further until result machine.old (out_of S.written S.faults out.old) steps.old machine.new (out_of S.written S.faults out.new) steps.new }
 {
     match machine.step_activity(out, steps) {
         Ok(_) => Ok(()),
@@ -106,11 +98,7 @@ fn begin<X: Extra + Drop, S: Sink, L: Ledger>(
     requires within { until < activity_end machine.old.machine }
     requires room { until ≤ 2 * 10 ^ 15 }
     requires unbroken { out.old.failed ≡ false }
-    ensures passed { Passed X.further until machine.old.machine (out_of S.written S.faults out.old) machine.new.machine (out_of S.written S.faults out.new) }
-    ensures fails { OnErr result (FailsIn X.further until machine.old.machine (out_of S.written S.faults out.old) machine.new.machine (out_of S.written S.faults out.new)) }
-    ensures spent { steps.new ≤ steps.old + 4 * (run_to X.further machine.new.machine.time machine.old.machine).work }
-    ensures moves { machine.new.moves ≤ machine.old.moves + 4 * (run_to X.further machine.new.machine.time machine.old.machine).work }
-    ensures written { OnOk result (out.new.failed ≡ false) }
+    ensures went { Went X.further until result machine.old (out_of S.written S.faults out.old) steps.old machine.new (out_of S.written S.faults out.new) steps.new }
 {
     go_to(machine, until, out, steps)
 }
@@ -128,11 +116,7 @@ fn pass<X: Extra + Drop, S: Sink, L: Ledger>(
     requires ahead { machine.old.machine.time < until }
     requires room { until ≤ 2 * 10 ^ 15 }
     requires unbroken { out.old.failed ≡ false }
-    ensures passed { Passed X.further until machine.old.machine (out_of S.written S.faults out.old) machine.new.machine (out_of S.written S.faults out.new) }
-    ensures fails { OnErr result (FailsIn X.further until machine.old.machine (out_of S.written S.faults out.old) machine.new.machine (out_of S.written S.faults out.new)) }
-    ensures spent { steps.new ≤ steps.old + 4 * (run_to X.further machine.new.machine.time machine.old.machine).work }
-    ensures moves { machine.new.moves ≤ machine.old.moves + 4 * (run_to X.further machine.new.machine.time machine.old.machine).work }
-    ensures written { OnOk result (out.new.failed ≡ false) }
+    ensures went { Went X.further until result machine.old (out_of S.written S.faults out.old) steps.old machine.new (out_of S.written S.faults out.new) steps.new }
 {
     let now = machine.now();
     let rested = machine.idles_to(until);
@@ -158,11 +142,7 @@ fn count<X: Extra + Drop, S: Sink, L: Ledger>(
     requires room { until ≤ 2 * 10 ^ 15 }
     requires fits { total profile.old + (until - machine.old.machine.time) < 2 ^ 64 }
     requires unbroken { out.old.failed ≡ false }
-    ensures passed { Passed X.further until machine.old.machine (out_of S.written S.faults out.old) machine.new.machine (out_of S.written S.faults out.new) }
-    ensures fails { OnErr result (FailsIn X.further until machine.old.machine (out_of S.written S.faults out.old) machine.new.machine (out_of S.written S.faults out.new)) }
-    ensures spent { steps.new ≤ steps.old + 4 * (run_to X.further machine.new.machine.time machine.old.machine).work }
-    ensures moves { machine.new.moves ≤ machine.old.moves + 4 * (run_to X.further machine.new.machine.time machine.old.machine).work }
-    ensures written { OnOk result (out.new.failed ≡ false) }
+    ensures went { Went X.further until result machine.old (out_of S.written S.faults out.old) steps.old machine.new (out_of S.written S.faults out.new) steps.new }
     ensures profile { (before : List spots.Spot) → IsTallyOf before profile.old → IsTallyOf (before ++ replicate (machine.new.machine.time - machine.old.machine.time) (coming_spot machine.old.machine)) profile.new }
     ensures total { total profile.new ≡ total profile.old + (machine.new.machine.time - machine.old.machine.time) }
 {

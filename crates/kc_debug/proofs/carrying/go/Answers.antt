@@ -44,7 +44,7 @@ returns-in_err-pass-clause-lines g c =
     let sum : c.args.until - m.time ≡ n + (c.args.until - m.time - n) = omega (arith, c.pass.ensures.passed.1) in
     let rest = break-any f c.args.breaks.now n (c.args.until - m.time - n) m told.some c.pass.ensures.passed.2 in
     let all : states_of_run f c.args.breaks.now c.args.until m ≡ n + rest.0 = ap (λ k. states_to_break f c.args.breaks.now k m) sum ∙ rest.1 in
-    along-cut f _ _ (i.states + n) rest.0 _ _ (along-lines f _ _ _ i.states n m _ _ _ i.along told.lines) c.in_err-pass.ensures.failed (omega (arith, i.rest, all))
+    along-cut f _ _ (i.states + n) rest.0 _ _ (along-lines f _ _ _ i.states n m _ _ _ i.along told.lines) c.in_err-pass.ensures.fault.failed (omega (arith, i.rest, all))
 
 pub returns-then-is_at_break-clause-lines : goal.returns-then-is_at_break-clause-lines
 returns-then-is_at_break-clause-lines g c =
@@ -93,7 +93,7 @@ loop-machine-preserved g c =
       spent = spends-add f i.states n _ _ _ _ _ _ i.along.machine i.spent c.in_ok-pass.ensures.passed.5;
       rest = omega (arith, i.rest, all);
       time = omega (arith, i.time, stood.time, c.in_ok-pass.ensures.passed.1);
-      unbroken = c.in_ok-pass.ensures.written;
+      unbroken = c.in_ok-pass.ensures.fault.written;
     }
 
 pub returns-clause-lines : goal.returns-clause-lines

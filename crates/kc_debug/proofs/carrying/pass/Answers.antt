@@ -29,7 +29,7 @@ returns-else-now-end-clause-passed g c =
       c.pass_one.ensures.few,
       activity-clear f c.args.breaks.now n m c.requires.lives one.few,
       activity-told f n m _ _ _ _ _ c.requires.lives one,
-      on-fault c.pass_one.result c.pass_one.ensures.failed (fails-first f (states_at_once c.args.until) m _ _ _ _ _ one c.requires.unbroken),
+      on-fault c.pass_one.result c.pass_one.ensures.fault.failed (fails-first f (states_at_once c.args.until) m _ _ _ _ _ one c.requires.unbroken),
       c.pass_one.ensures.spent,
       always c.pass_one.result (activity-stood f n m _ _ _ _ _ one),
     )

@@ -20,7 +20,7 @@ returns-in-Err-pass_activity-clause-passed g c =
     let m = c.args.machine.now.machine in
     let x = c.pass_activity.new.machine.machine in
     let passed = c.pass_activity.ensures.passed in
-    ((current m).left, states_of_activities f (c.args.left - 1) x, states-more f c.args.left (c.args.left - 1) m x (omega (arith, c.requires.some)) passed.machine, activity-told f (current m).left m _ _ x _ _ c.requires.lives passed, fails-first f activity_states m _ _ x _ _ passed c.requires.unbroken c.in-Err-pass_activity.ensures.failed, c.pass_activity.ensures.spent, tt)
+    ((current m).left, states_of_activities f (c.args.left - 1) x, states-more f c.args.left (c.args.left - 1) m x (omega (arith, c.requires.some)) passed.machine, activity-told f (current m).left m _ _ x _ _ c.requires.lives passed, fails-first f activity_states m _ _ x _ _ passed c.requires.unbroken c.in-Err-pass_activity.ensures.fault.failed, c.pass_activity.ensures.spent, tt)
 
 pub returns-in-Ok-clause-passed : goal.returns-in-Ok-clause-passed
 returns-in-Ok-clause-passed g c =

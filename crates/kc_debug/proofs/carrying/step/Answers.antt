@@ -41,7 +41,7 @@ returns-in_err-passed-clause-lines g c =
     let i = c.loop-left.invariant in
     let m = c.loop-left.machine.machine in
     let passed = c.pass_some.ensures.passed in
-    along-cut f _ _ (i.states + passed.0) passed.1 _ _ (along-lines f _ _ _ i.states passed.0 m _ _ _ i.along passed.3.lines) c.in_err-passed.ensures.failed (omega (arith, i.rest, passed.2))
+    along-cut f _ _ (i.states + passed.0) passed.1 _ _ (along-lines f _ _ _ i.states passed.0 m _ _ _ i.along passed.3.lines) c.in_err-passed.ensures.fault.failed (omega (arith, i.rest, passed.2))
 
 pub loop-left-preserved : goal.loop-left-preserved
 loop-left-preserved g c =
@@ -58,7 +58,7 @@ loop-left-preserved g c =
       rest = omega (arith, i.rest, passed.2, passed.6.1);
       time = omega (arith, i.time, some);
       few = omega (arith, i.few, some);
-      unbroken = c.in_ok-passed.ensures.written;
+      unbroken = c.in_ok-passed.ensures.fault.written;
     }
 
 pub returns-clause-lines : goal.returns-clause-lines

@@ -11,4 +11,4 @@ returns-clause-text g c =
     Puts-append _ _ a _ q c.tell_end.ensures.text (subst (λ xs. Puts a xs q) (c.as_slice.ensures.value ∙ c.stand_line.ensures) c.put_text.ensures.text)
 
 pub returns-in_err-tell_end-clause-text : goal.returns-in_err-tell_end-clause-text
-returns-in_err-tell_end-clause-text g c = Puts-longer _ _ _ _ c.in_err-tell_end.ensures.failed c.tell_end.ensures.text
+returns-in_err-tell_end-clause-text g c = Puts-longer _ _ _ _ c.in_err-tell_end.ensures.fault.failed c.tell_end.ensures.text

@@ -10,20 +10,22 @@ go_to-requires-clause-lives g c = lives-idle g.X.Extra.further _ c.args.machine.
 pub go_to-requires-clause-lasts : goal.go_to-requires-clause-lasts
 go_to-requires-clause-lasts g c = lasts-idle g.X.Extra.further _ c.args.machine.now.machine c.requires.idles
 
-pub returns-clause-passed : goal.returns-clause-passed
-returns-clause-passed g c =
+pub returns : goal.returns
+returns g c =
     let m = c.args.machine.now.machine in
     let n = c.go_to.new.machine.machine in
     let went = c.go_to.ensures in
     record {
-      forward = went.forward;
-      within = omega (arith, went.within, c.requires.within);
-      machine = went.machine;
-      lines = went.lines;
-      spots = spots-idle g.X.Extra.further (c.args.stop - m.time) (n.time - m.time) m c.requires.idles (omega (arith, went.forward)) (omega (arith, went.within));
+      went = record {
+        passed = record {
+          forward = went.forward;
+          within = omega (arith, went.within, c.requires.within);
+          machine = went.machine;
+          lines = went.lines;
+          spots = spots-idle g.X.Extra.further (c.args.stop - m.time) (n.time - m.time) m c.requires.idles (omega (arith, went.forward)) (omega (arith, went.within));
+        };
+        fails = on-fault c.go_to.result went.fails (fails-idle g.X.Extra.further c.args.stop c.args.until m _ n _ c.requires.idles c.requires.within went.within);
+        costs = record { spent = went.spent; moves = went.moves };
+        written = went.written;
+      };
     }
-
-pub returns-clause-fails : goal.returns-clause-fails
-returns-clause-fails g c =
-    on-fault c.go_to.result c.go_to.ensures.fails
-    (fails-idle g.X.Extra.further c.args.stop c.args.until c.args.machine.now.machine _ c.go_to.new.machine.machine _ c.requires.idles c.requires.within c.go_to.ensures.within)

@@ -15,8 +15,8 @@ loop-machine-init g c = record {
 
 pub loop-machine-preserved : goal.loop-machine-preserved
 loop-machine-preserved g c = record {
-  along = along-next g.X.Extra.further _ _ _ _ _ _ _ _ _ _ _ _ _ _ _ _ c.loop-machine.invariant.along c.count.ensures.passed c.count.ensures.spent c.count.ensures.moves c.count.ensures.profile c.count.ensures.total;
-  unbroken = c.in_ok-count.ensures.written;
+  along = along-next g.X.Extra.further _ _ _ _ _ _ _ _ _ _ _ _ _ _ _ _ c.loop-machine.invariant.along c.count.ensures.went.passed c.count.ensures.went.costs.spent c.count.ensures.went.costs.moves c.count.ensures.profile c.count.ensures.total;
+  unbroken = c.in_ok-count.ensures.went.written;
 }
 
 -- ---- the machine has ended
@@ -69,35 +69,35 @@ returns-in-Some-clause-all g c =
 pub returns-in_err-count-clause-lines : goal.returns-in_err-count-clause-lines
 returns-in_err-count-clause-lines g c =
     let f = g.X.Extra.further in
-    let went = c.count.ensures in
-    let next = along-next f _ _ _ _ _ _ _ _ _ _ _ _ _ _ _ _ c.loop-machine.invariant.along went.passed went.spent went.moves went.profile went.total in
-    (Came-cut f _ _ _ _ c.args.until next.came went.passed.within c.in_err-count.ensures.fails.failed).text
+    let told = c.count.ensures in
+    let next = along-next f _ _ _ _ _ _ _ _ _ _ _ _ _ _ _ _ c.loop-machine.invariant.along told.went.passed told.went.costs.spent told.went.costs.moves told.profile told.total in
+    (Came-cut f _ _ _ _ c.args.until next.came told.went.passed.within c.in_err-count.ensures.went.fails.failed).text
 
 pub returns-in_err-count-clause-fails : goal.returns-in_err-count-clause-fails
 returns-in_err-count-clause-fails g c =
-    always-failed _ (fails-later g.X.Extra.further c.args.until _ _ _ _ _ _ c.loop-machine.invariant.along.came c.in_err-count.ensures.fails)
+    always-failed _ (fails-later g.X.Extra.further c.args.until _ _ _ _ _ _ c.loop-machine.invariant.along.came c.in_err-count.ensures.went.fails)
 
 pub returns-in_err-count-clause-stands : goal.returns-in_err-count-clause-stands
 returns-in_err-count-clause-stands g c =
-    let went = c.count.ensures in
-    (along-next g.X.Extra.further _ _ _ _ _ _ _ _ _ _ _ _ _ _ _ _ c.loop-machine.invariant.along went.passed went.spent went.moves went.profile went.total).came.machine
+    let told = c.count.ensures in
+    (along-next g.X.Extra.further _ _ _ _ _ _ _ _ _ _ _ _ _ _ _ _ c.loop-machine.invariant.along told.went.passed told.went.costs.spent told.went.costs.moves told.profile told.total).came.machine
 
 pub returns-in_err-count-clause-spent : goal.returns-in_err-count-clause-spent
 returns-in_err-count-clause-spent g c =
-    let went = c.count.ensures in
-    (along-next g.X.Extra.further _ _ _ _ _ _ _ _ _ _ _ _ _ _ _ _ c.loop-machine.invariant.along went.passed went.spent went.moves went.profile went.total).steps
+    let told = c.count.ensures in
+    (along-next g.X.Extra.further _ _ _ _ _ _ _ _ _ _ _ _ _ _ _ _ c.loop-machine.invariant.along told.went.passed told.went.costs.spent told.went.costs.moves told.profile told.total).steps
 
 pub returns-in_err-count-clause-moves : goal.returns-in_err-count-clause-moves
 returns-in_err-count-clause-moves g c =
-    let went = c.count.ensures in
-    (along-next g.X.Extra.further _ _ _ _ _ _ _ _ _ _ _ _ _ _ _ _ c.loop-machine.invariant.along went.passed went.spent went.moves went.profile went.total).moves
+    let told = c.count.ensures in
+    (along-next g.X.Extra.further _ _ _ _ _ _ _ _ _ _ _ _ _ _ _ _ c.loop-machine.invariant.along told.went.passed told.went.costs.spent told.went.costs.moves told.profile told.total).moves
 
 pub returns-in_err-count-clause-profile : goal.returns-in_err-count-clause-profile
 returns-in_err-count-clause-profile g c =
-    let went = c.count.ensures in
-    (along-next g.X.Extra.further _ _ _ _ _ _ _ _ _ _ _ _ _ _ _ _ c.loop-machine.invariant.along went.passed went.spent went.moves went.profile went.total).tally
+    let told = c.count.ensures in
+    (along-next g.X.Extra.further _ _ _ _ _ _ _ _ _ _ _ _ _ _ _ _ c.loop-machine.invariant.along told.went.passed told.went.costs.spent told.went.costs.moves told.profile told.total).tally
 
 pub returns-in_err-count-clause-passed : goal.returns-in_err-count-clause-passed
 returns-in_err-count-clause-passed g c =
-    let went = c.count.ensures in
-    (along-next g.X.Extra.further _ _ _ _ _ _ _ _ _ _ _ _ _ _ _ _ c.loop-machine.invariant.along went.passed went.spent went.moves went.profile went.total).states
+    let told = c.count.ensures in
+    (along-next g.X.Extra.further _ _ _ _ _ _ _ _ _ _ _ _ _ _ _ _ c.loop-machine.invariant.along told.went.passed told.went.costs.spent told.went.costs.moves told.profile told.total).states

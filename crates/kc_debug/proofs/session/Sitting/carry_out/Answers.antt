@@ -27,7 +27,7 @@ returns-in-Show-clause-fails g c =
     let d = seen m c.args.self.now in
     let o = out_of g.S.Sink.written g.S.Sink.faults c.args.out.now in
     let p = out_of g.S.Sink.written g.S.Sink.faults c.show.new.out in
-    on-fault c.show.result c.show.ensures.failed (λ failed.
+    on-fault c.show.result c.show.ensures.fault.failed (λ failed.
     subst (λ k. FailsIn f (at_once_in k) (states_of f k d) (after_command f c.args.lines.now k d).text m o n p) (sym c.in-Show.is)
     (fails-said f activity_states _ m o n p c.show.ensures.same c.requires.unbroken c.show.ensures.text failed))
 
@@ -38,6 +38,6 @@ returns-in-History-clause-fails g c =
     let d = seen m c.args.self.now in
     let o = out_of g.S.Sink.written g.S.Sink.faults c.args.out.now in
     let p = out_of g.S.Sink.written g.S.Sink.faults c.tell_history.new.out in
-    on-fault c.tell_history.result c.tell_history.ensures.failed (λ failed.
+    on-fault c.tell_history.result c.tell_history.ensures.fault.failed (λ failed.
     subst (λ k. FailsIn f (at_once_in k) (states_of f k d) (after_command f c.args.lines.now k d).text m o m p) (sym c.in-History.is)
     (fails-said f activity_states _ m o m p refl c.requires.unbroken c.tell_history.ensures.text failed))

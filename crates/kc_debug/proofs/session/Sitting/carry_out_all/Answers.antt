@@ -25,7 +25,7 @@ pub returns-in_err-carry_out-clause-text : goal.returns-in_err-carry_out-clause-
 returns-in_err-carry_out-clause-text g c =
     let here = c.command_at-command.ensures.here in
     going-cut g.X.Extra.further c.args.lines.now c.args.commands.now _ _ _ _ _ _ c.command_at-command.result _ c.loop-index.invariant.going here
-    (goes_on c.command_at-command.result (sym c.is_quit.ensures ∙ c.if-is_quit.false)) c.carry_out.ensures.text c.in_err-carry_out.ensures.failed
+    (goes_on c.command_at-command.result (sym c.is_quit.ensures ∙ c.if-is_quit.false)) c.carry_out.ensures.text c.in_err-carry_out.ensures.fault.failed
 
 pub loop-index-preserved : goal.loop-index-preserved
 loop-index-preserved g c =
@@ -38,7 +38,7 @@ loop-index-preserved g c =
       paid = paid-next g.X.Extra.further c.args.lines.now c.args.commands.now _ _ _ _ _ _ c.command_at-command.result _ _ _ _ _ _ c.loop-index.invariant.going here
           (sym c.is_quit.ensures ∙ c.if-is_quit.false) c.loop-index.invariant.paid c.carry_out.ensures.spent c.carry_out.ensures.moves;
       capacity = c.carry_out.ensures.capacity;
-      unbroken = c.in_ok-carry_out.ensures.written;
+      unbroken = c.in_ok-carry_out.ensures.fault.written;
     }
 
 pub returns-clause-text : goal.returns-clause-text

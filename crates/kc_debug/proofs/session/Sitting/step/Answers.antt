@@ -13,7 +13,7 @@ use Rattle.kc_debug.proofs.Passing.{ran}
 use Rattle.kc_debug.proofs.session.Sitting.step.Goals as goal
 
 pub returns-in_err-step-clause-text : goal.returns-in_err-step-clause-text
-returns-in_err-step-clause-text g c = Puts-longer _ _ _ _ c.in_err-step.ensures.failed c.step.ensures.lines.text
+returns-in_err-step-clause-text g c = Puts-longer _ _ _ _ c.in_err-step.ensures.fault.failed c.step.ensures.lines.text
 
 pub tell_stand-requires-clause-ran : goal.tell_stand-requires-clause-ran
 tell_stand-requires-clause-ran g c = λ lives. ran g.X.Extra.further _ c.args.machine.now.machine c.step.new.machine.machine c.in_ok-step.ensures.gone.machine (sym c.ended-before.ensures ∙ lives)
@@ -38,10 +38,10 @@ returns-clause-fails g c =
     let q = out_of g.S.Sink.written g.S.Sink.faults c.tell_stand.new.out in
     let there = (run_for f (states_of_activities f c.args.count m) m).machine in
     let text = subst (λ o. Puts p (text_of (new_end o n) ++ stand_line n) q) c.ended-before.ensures c.tell_stand.ensures.text in
-    on-fault c.tell_stand.result c.tell_stand.ensures.failed (λ failed. inr (record {
+    on-fault c.tell_stand.result c.tell_stand.ensures.fault.failed (λ failed. inr (record {
       mid = p;
       whole = c.step.ensures.lines;
-      unbroken = c.in_ok-step.ensures.written;
+      unbroken = c.in_ok-step.ensures.fault.written;
       rest = text_of (new_end m.ended there) ++ stand_line there;
       says = refl;
       part = subst (λ (x : Machine _). Puts p (text_of (new_end m.ended x) ++ stand_line x) q) c.in_ok-step.ensures.gone.machine text;
