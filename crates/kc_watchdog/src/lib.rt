@@ -1,8 +1,6 @@
 //! The watchdog of the board, a further unit: two values written to its register feed it, and it has a deadline from then on.
 #![tactic(auto)]
 
-#[cfg(test)]
-mod tests;
 mod watchdog;
 
 pub use watchdog::{PATIENCE, Watchdog};
