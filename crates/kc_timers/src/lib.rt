@@ -10,8 +10,6 @@ ghost use Rattle.kc_timers.specs.T2.{T2, timer2_rule, value_at, view_of};
 
 use kc_base::StateTime;
 
-#[cfg(test)]
-mod tests;
 mod timer2;
 
 pub use timer2::Timer2;

@@ -2,8 +2,6 @@
 #![tactic(auto)]
 
 mod laws;
-#[cfg(test)]
-mod tests;
 mod watchdog;
 
 pub use laws::deadlines_are_of_last_feedings;
