@@ -1,5 +1,5 @@
 /// A horizontal window over the special function registers, by its value of WSR.
-#[derive(Clone, Copy, Drop)]
+#[derive(Clone, Copy, PartialEq, Eq, Drop)]
 pub enum Window {
     Window0,
     Window1,

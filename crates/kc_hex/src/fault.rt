@@ -38,7 +38,7 @@ impl HexCode {
 }
 
 /// The first fault of a hex text, by its line from 1 and the number of its code, or that memory ran out.
-#[derive(Clone, Copy)]
+#[derive(Clone, Copy, PartialEq, Eq)]
 pub enum HexFault {
     At { line: u32, code: u8 },
     NoMemory,

@@ -7,7 +7,7 @@ use kc_obj::{Module, SegKind, Segment};
 use std::alloc::Global;
 
 /// A piece of a module: the numbers of both, its kind, and its length in bytes.
-#[derive(Clone, Copy)]
+#[derive(Clone, Copy, PartialEq, Eq)]
 pub struct Piece {
     pub index: u16,
     pub number: usize,

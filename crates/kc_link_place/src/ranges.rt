@@ -6,7 +6,7 @@ use kc_obj::SegKind;
 
 /// Where relocatable pieces may stand: the first and the last address for registers, code, and data with the stack.
 /// `stack` is the length of the stack in bytes, where it is not the sum of all stack pieces.
-#[derive(Clone, Copy)]
+#[derive(Clone, Copy, PartialEq, Eq)]
 pub struct Ranges {
     pub reg: (u16, u16),
     pub code: (u16, u16),

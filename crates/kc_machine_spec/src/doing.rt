@@ -26,7 +26,7 @@ pub enum Activity {
 
 /// What goes on between activities: a block move with the words that are left, idling, or a cycle of the transfer server for
 /// the request of this number.
-#[derive(Clone, Copy, Drop)]
+#[derive(Clone, Copy, PartialEq, Eq, Drop)]
 pub enum Going {
     Moving(Insn, Words),
     Idling,
@@ -41,7 +41,7 @@ pub struct UnderWay {
 }
 
 /// How a run ends.
-#[derive(Clone, Copy, Drop)]
+#[derive(Clone, Copy, PartialEq, Eq, Drop)]
 pub enum End {
     Spent,
     Powerdown,
@@ -50,7 +50,7 @@ pub enum End {
 }
 
 /// How the machine goes on after an activity.
-#[derive(Clone, Copy, Drop)]
+#[derive(Clone, Copy, PartialEq, Eq, Drop)]
 pub struct Next {
     /// The next activity is an instruction.
     pub held: bool,

@@ -42,7 +42,7 @@ pub struct Piece {
 }
 
 /// What is taken off the text: a body up to its ENDM, the part of an IF up to its ELSE or ENDIF, or all up to its ENDIF.
-#[derive(Clone, Copy)]
+#[derive(Clone, Copy, PartialEq, Eq)]
 pub enum Extent {
     Body,
     Part,

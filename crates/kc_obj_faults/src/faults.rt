@@ -39,7 +39,7 @@ impl ObjCode {
 }
 
 /// The first fault of an object, by its offset in bytes and the number of its code, or that memory ran out.
-#[derive(Clone, Copy)]
+#[derive(Clone, Copy, PartialEq, Eq)]
 pub enum ObjFault {
     At { at: u32, code: u8 },
     NoMemory,
@@ -54,7 +54,7 @@ impl From<NoMemory> for ObjFault {
 }
 
 /// A fault by its offset and the number of its code.
-#[derive(Clone, Copy)]
+#[derive(Clone, Copy, PartialEq, Eq)]
 pub struct Fault {
     pub at: u32,
     pub code: u8,

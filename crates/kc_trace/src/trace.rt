@@ -45,7 +45,7 @@ impl Counts {
 }
 
 /// The sink has failed.
-#[derive(Clone, Copy)]
+#[derive(Clone, Copy, PartialEq, Eq)]
 pub struct WriteFault;
 
 /// Writes the lines of a trace to a sink, up to its first fault.
