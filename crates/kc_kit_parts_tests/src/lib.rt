@@ -1,11 +1,6 @@
-//! Tests of the words of command lines, of codes, of inputs that are made and of scripts, over the public calls of each crate.
+//! Tests of inputs that are made, which no command prints, over the public calls of their crate. What words ask for, what codes mean
+//! and what scripts do stands in the rows of `tests/`.
 #![tactic(auto)]
 
 #[cfg(test)]
 mod made_inputs;
-#[cfg(test)]
-mod meanings;
-#[cfg(test)]
-mod script;
-#[cfg(test)]
-mod words;
