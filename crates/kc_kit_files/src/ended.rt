@@ -11,7 +11,7 @@ use kc_base::Sink;
 use kc_trace::TraceOut;
 
 /// What is said in words, beside what the status says.
-#[derive(Debug, Drop)]
+#[derive(Drop)]
 pub enum Said<'a> {
     /// Nothing more.
     Nothing,
@@ -22,7 +22,7 @@ pub enum Said<'a> {
 }
 
 /// How a command has ended: its status, and what is said of it.
-#[derive(Debug, Drop)]
+#[derive(Drop)]
 pub struct Ended<'a> {
     pub status: Status,
     pub said: Said<'a>,

@@ -22,7 +22,7 @@ use kc_base::Sink;
 use kc_trace::TraceOut;
 
 /// What is wrong in words that are no command.
-#[derive(Clone, Copy, Debug, PartialEq, Eq)]
+#[derive(Clone, Copy, PartialEq, Eq)]
 pub enum Wrong<'a> {
     /// There are no words.
     NoWords,
