@@ -50,7 +50,7 @@ fn texts_that_are_no_trace_are_refused_with_their_line(rt: HostRuntime) {
         (b"PC 8E\n", Some(1)),
     ];
     for (text, line) in rows {
-        assert_eq!(rt; fault_of(rt.alloc(), text), line.map(VcdFault::BadTrace));
+        assert!(rt; fault_of(rt.alloc(), text) == line.map(VcdFault::BadTrace));
     }
 }
 

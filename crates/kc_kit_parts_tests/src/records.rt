@@ -101,11 +101,8 @@ fn a_trace_stops_at_the_first_fault(rt: HostRuntime) -> Result<(), std::test::Fa
         put_three(&mut out);
         let counts = out.counts();
         assert!(rt; out.sink().written() == text.as_bytes());
-        assert_eq!(rt;
-            (counts.pins, counts.entries, counts.cycles),
-            (pins, entries, cycles)
-        );
-        assert_eq!(rt; out.failed(), failed);
+        assert!(rt; (counts.pins, counts.entries, counts.cycles) == (pins, entries, cycles));
+        assert!(rt; out.failed() == failed);
     }
     Ok(())
 }

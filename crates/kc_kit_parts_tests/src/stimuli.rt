@@ -44,7 +44,7 @@ fn each_fault_comes_at_its_line(rt: HostRuntime) {
         (b"@5 HSI0 1\n@4 HSI0 x\n", Some(StimFault::BadLine(2))),
     ];
     for (bytes, fault) in rows {
-        assert_eq!(rt; fault_of(rt.alloc(), bytes), fault);
+        assert!(rt; fault_of(rt.alloc(), bytes) == fault);
     }
 }
 
@@ -54,10 +54,10 @@ fn wires_are_not_counted_and_the_65537th_stimulus_is_refused(rt: HostRuntime) ->
     for n in 0..65_536u32 {
         write!(text, "@{n} P00 {}\n", n % 2)?;
     }
-    assert_eq!(rt; fault_of(rt.alloc(), text.as_bytes()), None);
+    assert!(rt; fault_of(rt.alloc(), text.as_bytes()) == None);
     text.push_str("@65536 P01 1\n")?;
     let refused = Some(StimFault::TooMany(65_538));
-    assert_eq!(rt; fault_of(rt.alloc(), text.as_bytes()), refused);
+    assert!(rt; fault_of(rt.alloc(), text.as_bytes()) == refused);
     Ok(())
 }
 
@@ -75,25 +75,17 @@ fn levels_edges_and_wires_of_a_file(rt: HostRuntime) -> Result<(), Fail> {
         (40, true, false),
     ];
     for (at, port_high, input_high) in levels {
-        assert_eq!(rt;
-            stimuli.level(port, at) == Level::High,
-            port_high,
-            "at {at}"
-        );
-        assert_eq!(rt;
-            stimuli.level(input, at) == Level::High,
-            input_high,
-            "at {at}"
-        );
+        assert!(rt; stimuli.level(port, at).is_high() == port_high, "at {at}");
+        assert!(rt; stimuli.level(input, at).is_high() == input_high, "at {at}");
     }
     assert!(rt; stimuli.level(Pin(26), 0) == Level::High);
-    assert_eq!(rt; stimuli.next_edge(0), Some(10));
-    assert_eq!(rt; stimuli.next_edge(11), Some(20));
-    assert_eq!(rt; stimuli.next_edge(21), Some(40));
-    assert_eq!(rt; stimuli.next_edge(41), None);
-    assert_eq!(rt; stimuli.wire(Pin(24)), Some(5));
-    assert_eq!(rt; stimuli.wire(input), None);
-    assert_eq!(rt; Stimuli::none(rt.alloc()).next_edge(0), None);
+    assert!(rt; stimuli.next_edge(0) == Some(10));
+    assert!(rt; stimuli.next_edge(11) == Some(20));
+    assert!(rt; stimuli.next_edge(21) == Some(40));
+    assert!(rt; stimuli.next_edge(41) == None);
+    assert!(rt; stimuli.wire(Pin(24)) == Some(5));
+    assert!(rt; stimuli.wire(input) == None);
+    assert!(rt; Stimuli::none(rt.alloc()).next_edge(0) == None);
     Ok(())
 }
 
@@ -113,16 +105,16 @@ fn a_life_begins_in_the_middle_of_stimuli(rt: HostRuntime) -> Result<(), Fail> {
     ];
     for (at, port_high, input_high, edge) in rows {
         let later = stimuli.after(rt.alloc(), at)?;
-        assert_eq!(rt; later.start(port) == Level::High, port_high);
-        assert_eq!(rt; later.start(input) == Level::High, input_high);
-        assert_eq!(rt; later.next_edge(0), edge);
-        assert_eq!(rt; later.wire(Pin(24)), Some(5));
+        assert!(rt; later.start(port).is_high() == port_high);
+        assert!(rt; later.start(input).is_high() == input_high);
+        assert!(rt; later.next_edge(0) == edge);
+        assert!(rt; later.wire(Pin(24)) == Some(5));
     }
     let twice = stimuli.after(rt.alloc(), 15)?.after(rt.alloc(), 10)?;
-    assert_eq!(rt; twice.start(port), Level::Low);
-    assert_eq!(rt; twice.start(input), Level::High);
-    assert_eq!(rt; twice.level(input, 14), Level::High);
-    assert_eq!(rt; twice.level(input, 15), Level::Low);
-    assert_eq!(rt; twice.start(Pin(37)), Level::High);
+    assert!(rt; twice.start(port) == Level::Low);
+    assert!(rt; twice.start(input) == Level::High);
+    assert!(rt; twice.level(input, 14) == Level::High);
+    assert!(rt; twice.level(input, 15) == Level::Low);
+    assert!(rt; twice.start(Pin(37)) == Level::High);
     Ok(())
 }

@@ -55,7 +55,7 @@ fn each_fault_comes_at_its_line(rt: HostRuntime) {
         (b"@5 0 1\n\n@6 0 x\n@4 0 1\n", Some(3)),
     ];
     for (bytes, line) in rows {
-        assert_eq!(rt; bad_line(rt.alloc(), bytes), line);
+        assert!(rt; bad_line(rt.alloc(), bytes) == line);
     }
 }
 
@@ -65,9 +65,9 @@ fn the_65537th_value_is_refused(rt: HostRuntime) -> Result<(), Fail> {
     for n in 0..65_536u32 {
         write!(text, "@{n} 0 {}\n", n % 1024)?;
     }
-    assert_eq!(rt; bad_line(rt.alloc(), text.as_bytes()), None);
+    assert!(rt; bad_line(rt.alloc(), text.as_bytes()) == None);
     text.push_str("@65536 1 1\n")?;
-    assert_eq!(rt; bad_line(rt.alloc(), text.as_bytes()), Some(65_538));
+    assert!(rt; bad_line(rt.alloc(), text.as_bytes()) == Some(65_538));
     Ok(())
 }
 
@@ -89,10 +89,10 @@ fn a_value_stands_until_the_next_one_of_its_channel(rt: HostRuntime) -> Result<(
         (7, 20, 0),
     ];
     for (channel, at, value) in rows {
-        assert_eq!(rt; first.value(channel, at), value, "at {at}");
-        assert_eq!(rt; values.value(channel, at), value, "at {at}");
+        assert!(rt; first.value(channel, at) == value, "at {at}");
+        assert!(rt; values.value(channel, at) == value, "at {at}");
     }
-    assert_eq!(rt; Analog::none(rt.alloc()).value(2, 10), 0);
+    assert!(rt; Analog::none(rt.alloc()).value(2, 10) == 0);
     Ok(())
 }
 
@@ -132,29 +132,29 @@ fn result(converter: &mut Converter, now: StateTime) -> (Option<u8>, Option<u8>)
 fn converts<L: Ledger>(rt: &impl Abort, values: Analog, steps: &mut Steps<L>) {
     let mut converter = Converter::new(values, 1000);
     assert!(rt; converter.write(0, COMMAND, 0x0A, 10));
-    assert_eq!(rt; result(&mut converter, 10), (Some(0x0A), Some(0)));
+    assert!(rt; result(&mut converter, 10) == (Some(0x0A), Some(0)));
     for t in 11..90u64 {
-        assert_eq!(rt; raised(&mut converter, t, steps), 0, "at {t}");
+        assert!(rt; raised(&mut converter, t, steps) == 0, "at {t}");
     }
-    assert_eq!(rt; result(&mut converter, 89), (Some(0x0A), Some(0)));
-    assert_eq!(rt; raised(&mut converter, 90, steps), 2);
-    assert_eq!(rt; result(&mut converter, 90), (Some(0x42), Some(0xC2)));
+    assert!(rt; result(&mut converter, 89) == (Some(0x0A), Some(0)));
+    assert!(rt; raised(&mut converter, 90, steps) == 2);
+    assert!(rt; result(&mut converter, 90) == (Some(0x42), Some(0xC2)));
     // In the state in which one ends the next begins, and is itself ended before its result.
     converter.write(0, COMMAND, 0x0B, 90);
-    assert_eq!(rt; result(&mut converter, 90), (Some(0x4B), Some(0xC2)));
+    assert!(rt; result(&mut converter, 90) == (Some(0x4B), Some(0xC2)));
     converter.start(169);
-    assert_eq!(rt; ended(&mut converter, 170, steps), 249);
-    assert_eq!(rt; result(&mut converter, 249), (Some(0xC3), Some(0xFF)));
+    assert!(rt; ended(&mut converter, 170, steps) == 249);
+    assert!(rt; result(&mut converter, 249) == (Some(0xC3), Some(0xFF)));
     // A command without GO begins nothing, but says the channel of the next start.
     converter.write(0, COMMAND, 0xF2, 250);
-    assert_eq!(rt; ended(&mut converter, 251, steps), 0);
-    assert_eq!(rt; result(&mut converter, 251), (Some(0xC3), Some(0xFF)));
+    assert!(rt; ended(&mut converter, 251, steps) == 0);
+    assert!(rt; result(&mut converter, 251) == (Some(0xC3), Some(0xFF)));
     converter.start(300);
     converter.write(0, COMMAND, 0xF1, 300);
-    assert_eq!(rt; ended(&mut converter, 301, steps), 380);
-    assert_eq!(rt; result(&mut converter, 381), (Some(0x82), Some(1)));
+    assert!(rt; ended(&mut converter, 301, steps) == 380);
+    assert!(rt; result(&mut converter, 381) == (Some(0x82), Some(1)));
     assert!(rt; !converter.write(1, COMMAND, 0x0A, 381));
-    assert_eq!(rt; converter.look(0, WIDTH, 381), None);
+    assert!(rt; converter.look(0, WIDTH, 381) == None);
 }
 
 // The edge of a state of the first output: its level, if it has one.
@@ -179,7 +179,7 @@ fn pulses_from<L: Ledger>(rt: &impl Abort, width: u8, phase: u8, steps: &mut Ste
             place if t >= 256 && place == u64::from(width) && width > 0 => Some(Level::Low),
             _ => None,
         };
-        assert_eq!(rt; edge(&mut pulses, t, steps), wanted, "at {t}");
+        assert!(rt; edge(&mut pulses, t, steps) == wanted, "at {t}");
     }
 }
 
@@ -203,14 +203,14 @@ fn edge_from<L: Ledger>(pulses: &mut Pulses, now: StateTime, steps: &mut Steps<L
 // Width 4 from state 256 on, by the edges alone, and none any more.
 fn pulses_are_due<L: Ledger>(rt: &impl Abort, steps: &mut Steps<L>) {
     let mut pulses = Pulses::new();
-    assert_eq!(rt; edge_from(&mut pulses, 0, steps), 0);
+    assert!(rt; edge_from(&mut pulses, 0, steps) == 0);
     pulses.write(0, WIDTH, 4, 3);
-    assert_eq!(rt; edge_from(&mut pulses, 4, steps), 256);
-    assert_eq!(rt; edge_from(&mut pulses, 257, steps), 260);
-    assert_eq!(rt; edge_from(&mut pulses, 261, steps), 512);
+    assert!(rt; edge_from(&mut pulses, 4, steps) == 256);
+    assert!(rt; edge_from(&mut pulses, 257, steps) == 260);
+    assert!(rt; edge_from(&mut pulses, 261, steps) == 512);
     pulses.write(0, WIDTH, 0, 512);
-    assert_eq!(rt; edge_from(&mut pulses, 513, steps), 516);
-    assert_eq!(rt; edge_from(&mut pulses, 517, steps), 0);
+    assert!(rt; edge_from(&mut pulses, 513, steps) == 516);
+    assert!(rt; edge_from(&mut pulses, 517, steps) == 0);
 }
 
 fn pulses<L: Ledger>(rt: &impl Abort, steps: &mut Steps<L>) {
@@ -230,22 +230,22 @@ fn joins<L: Ledger>(rt: &impl Abort, values: Analog, steps: &mut Steps<L>) {
     assert!(rt; pair.write(0, COMMAND, 0x09, 176));
     match pair.due(177, steps) {
         Some(due) if due <= 1000 => {
-            assert_eq!(rt; due, 256);
+            assert!(rt; due == 256);
             pair.quiet_to(177, due, steps);
         }
         _ => panic!(rt; "nothing is due"),
     }
     let out = pair.tick(256, 0, 0, steps);
-    assert_eq!(rt; out.raised.0, 2);
+    assert!(rt; out.raised.0 == 2);
     match out.moved.as_slice() {
         [first, third] => {
-            assert_eq!(rt; (first.pin.0, third.pin.0), (38, 40));
+            assert!(rt; (first.pin.0, third.pin.0) == (38, 40));
             assert!(rt; first.level == Level::High && third.level == Level::High);
         }
         _ => panic!(rt; "no two edges"),
     }
-    assert_eq!(rt; pair.due(257, steps), Some(257));
-    assert_eq!(rt; pair.look(0, COMMAND, 257), Some(0x41));
+    assert!(rt; pair.due(257, steps) == Some(257));
+    assert!(rt; pair.look(0, COMMAND, 257) == Some(0x41));
 }
 
 fn all<L: Ledger>(rt: &impl Abort, values: [Analog; 2], blank: Blank)
