@@ -1,5 +1,5 @@
-//! Tests of files and sinks, stimuli, the lines of a trace, dumps, the words of command lines, codes, inputs that are made and
-//! scripts, over the public calls of each crate.
+//! Tests of files and sinks, stimuli, the lines of a trace, dumps and inputs that are made, over the public calls of each crate. What
+//! words ask for, what codes mean and what scripts do stands in the rows of `tests/`.
 #![tactic(auto)]
 
 #[cfg(test)]
@@ -9,12 +9,6 @@ mod files;
 #[cfg(test)]
 mod made_inputs;
 #[cfg(test)]
-mod meanings;
-#[cfg(test)]
 mod records;
 #[cfg(test)]
-mod script;
-#[cfg(test)]
 mod stimuli;
-#[cfg(test)]
-mod words;
