@@ -50,9 +50,7 @@ fn run<L: Ledger>(
     let image = image_of(alloc, &[(0x2080, &[0xFF])])?;
     let stimuli = Stimuli::none(alloc);
     let mut steps = Steps::<L>::new(blank);
-    Ok(run_lives(
-        alloc, &image, &stimuli, &Scarce, 10, 2, out, &mut steps,
-    ))
+    Ok(run_lives(alloc, &image, &stimuli, &Scarce, 10, 2, out, &mut steps))
 }
 
 #[test]

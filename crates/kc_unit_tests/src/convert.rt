@@ -2,9 +2,8 @@ ghost use Rattle.std.specs.Prelude.{◌≤◌, ◌*◌, ◌^◌};
 ghost use Rattle.kc_base.specs.Fresh.{IsFresh};
 
 use kc_base::{Level, StateTime, Steps};
-use kc_convert::{Analog, AnalogFault, Converter, Pulses};
+use kc_convert::{Analog, Converter, Pulses};
 use kc_extra::{Extra, Pair};
-use std::alloc::Global;
 use std::marker::Brand;
 use std::process::Abort;
 use std::sync::ledger::{Blank, Ledger};
@@ -15,61 +14,6 @@ const COMMAND: u8 = 0x02;
 const RESULT_HIGH: u8 = 0x03;
 
 const WIDTH: u8 = 0x17;
-
-// The line at which a file is refused; 0 for want of memory, and for a file that is too long to be read.
-fn bad_line(alloc: Global, bytes: &[u8]) -> Option<u32> {
-    if bytes.len() > 1_048_576 {
-        return Some(0);
-    }
-    match Analog::read(alloc, bytes) {
-        Ok(_) => None,
-        Err(AnalogFault::BadLine(line)) => Some(line),
-        Err(AnalogFault::NoMemory) => Some(0),
-    }
-}
-
-#[test]
-fn each_fault_comes_at_its_line(rt: HostRuntime) {
-    let rows: [(&[u8], Option<u32>); 22] = [
-        (b"", None),
-        (b"@5 0 1", None),
-        (b"; no line\n\n@007 7 0001023\r\n", None),
-        (b"@1000000000000000 0 0\n", None),
-        (b"@5 0 1\n@5 1 1\n@6 0 1\n", None),
-        (b"@1000000000000001 0 0\n", Some(1)),
-        (b"@5 0 1\r", Some(1)),
-        (b"@5  0 1\n", Some(1)),
-        (b"@5 0 1 \n", Some(1)),
-        (b"@5 8 1\n", Some(1)),
-        (b"@5 00 1\n", Some(1)),
-        (b"@5 0 1024\n", Some(1)),
-        (b"@5 0 1H\n", Some(1)),
-        (b"@ 0 1\n", Some(1)),
-        (b"@5 0\n", Some(1)),
-        (b"5 0 1\n", Some(1)),
-        (b" \n", Some(1)),
-        (b" ; no line\n", Some(1)),
-        (b"@5 0 1\n@4 1 1\n", Some(2)),
-        (b"@5 0 1\n@5 0 1\n", Some(2)),
-        (b"\n@5 0 1\n@5 1 1\n@5 0 2\n", Some(4)),
-        (b"@5 0 1\n\n@6 0 x\n@4 0 1\n", Some(3)),
-    ];
-    for (bytes, line) in rows {
-        assert!(rt; bad_line(rt.alloc(), bytes) == line);
-    }
-}
-
-#[test]
-fn the_65537th_value_is_refused(rt: HostRuntime) -> Result<(), Fail> {
-    let mut text = String::from_str(rt.alloc(), "; values\n")?;
-    for n in 0..65_536u32 {
-        write!(text, "@{n} 0 {}\n", n % 1024)?;
-    }
-    assert!(rt; bad_line(rt.alloc(), text.as_bytes()) == None);
-    text.push_str("@65536 1 1\n")?;
-    assert!(rt; bad_line(rt.alloc(), text.as_bytes()) == Some(65_538));
-    Ok(())
-}
 
 #[test]
 fn a_value_stands_until_the_next_one_of_its_channel(rt: HostRuntime) -> Result<(), Fail> {
