@@ -1,9 +1,7 @@
-//! Tests of files and sinks, stimuli, the lines of a trace, dumps and inputs that are made, over the public calls of each crate. What
-//! words ask for, what codes mean and what scripts do stands in the rows of `tests/`.
+//! Tests of files and sinks, the levels of stimuli, a trace whose sink fails and inputs that are made, over the public calls of each
+//! crate. What words ask for, what codes mean, what scripts do and which inputs are refused stands in the rows of `tests/`.
 #![tactic(auto)]
 
-#[cfg(test)]
-mod dumps;
 #[cfg(test)]
 mod files;
 #[cfg(test)]
