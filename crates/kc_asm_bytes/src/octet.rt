@@ -7,7 +7,7 @@ use kc_expr::Value;
 /// distance of 8 bits, 3 of 11 bits, 4 of 16 bits. `start` is what stands in the first byte beside the number: the opcode
 /// of a jump of 11 bits, else 0.
 /// (80C196KC User's Manual, "Instruction Format".)
-#[derive(Clone, Copy, Debug, PartialEq, Eq)]
+#[derive(Clone, Copy, PartialEq, Eq)]
 pub enum Octet {
     Plain(u8),
     First { kind: u8, start: u8, value: Value },

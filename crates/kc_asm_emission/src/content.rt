@@ -2,7 +2,7 @@ use kc_asm_bytes::Octet;
 
 /// What a statement puts into its piece: octets; a number of bytes that it reserves; or nothing. ORG goes on to a place, an
 /// address in an absolute piece, else an offset; EVEN goes on to an even place.
-#[derive(Debug, Drop)]
+#[derive(Drop)]
 pub enum Content {
     Nothing,
     Octets(Vec<Octet>),

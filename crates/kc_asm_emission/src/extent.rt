@@ -19,7 +19,7 @@ use std::alloc::Global;
 
 /// How far a statement goes on behind its place: so many bytes, or to a place as ORG says, an address in an absolute piece,
 /// else an offset, or to an even place.
-#[derive(Clone, Copy, Debug, PartialEq, Eq)]
+#[derive(Clone, Copy, PartialEq, Eq)]
 pub enum Extent {
     Bytes(u32),
     Upto(u16),

@@ -11,7 +11,7 @@ use kc_obj::SegKind;
 use kc_obj::pieces::number_of as kind_number;
 
 /// Which of the relocatable parts are pieces of the module.
-#[derive(Clone, Copy, Debug, PartialEq, Eq)]
+#[derive(Clone, Copy, PartialEq, Eq)]
 pub struct Kept {
     pub registers: bool,
     pub code: bool,

@@ -13,7 +13,7 @@ use kc_expr::{Base, Value};
 use kc_obj::{Fixup, Lines, Target};
 
 /// A byte of the module at its place, with the relocation that begins there.
-#[derive(Clone, Copy, Debug, PartialEq, Eq)]
+#[derive(Clone, Copy)]
 pub struct Put {
     pub piece: u16,
     pub offset: u16,

@@ -7,7 +7,7 @@ use kc_expr::{Tag, Value, fixed, is_fixed};
 
 /// An operand as it is written: `x`, `#x`, `[reg]`, `[reg]+` or `x[reg]`. `None` stands for an expression without a value,
 /// whose fault is told elsewhere. (MCS-96 Macro Assembler User's Guide, "Operands".)
-#[derive(Clone, Copy, Debug, PartialEq, Eq)]
+#[derive(Clone, Copy, PartialEq, Eq)]
 pub enum Argument {
     Plain(Option<Value>),
     Immediate(Option<Value>),

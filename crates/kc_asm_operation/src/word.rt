@@ -6,7 +6,7 @@ use kc_expr::{Value, fixed};
 /// The operand of an instruction, with values in the places of its numbers: `Short` and `Long` are an index behind a
 /// register, `Count` is a number of shifts or its register, `Jump` the target of a jump.
 /// (80C196KC User's Manual, "Addressing Modes".)
-#[derive(Clone, Copy, Debug, PartialEq, Eq)]
+#[derive(Clone, Copy, PartialEq, Eq)]
 pub enum Word {
     Absent,
     Register(Value),
@@ -21,7 +21,7 @@ pub enum Word {
 
 /// An instruction with values in the places of its numbers: `signed` where FEH stands before it, and in `regs` the other
 /// bytes in their order, the rest 0.
-#[derive(Clone, Copy, Debug, PartialEq, Eq)]
+#[derive(Clone, Copy, PartialEq, Eq)]
 pub struct Worded {
     pub opcode: u8,
     pub signed: bool,

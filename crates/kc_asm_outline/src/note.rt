@@ -3,7 +3,7 @@ use kc_branch::BranchKind;
 
 /// What the target of a generic branch counts from: the place of a statement, by its number from 0, with a distance in bytes
 /// from there; an external; or neither of them, as a number or a difference of labels.
-#[derive(Clone, Copy, Debug, PartialEq, Eq)]
+#[derive(Clone, Copy, PartialEq, Eq)]
 pub enum Anchor {
     Statement { number: u16, distance: i16 },
     External,
@@ -12,7 +12,7 @@ pub enum Anchor {
 
 /// How far a statement goes on behind its place: so many bytes, to a place as ORG says, to an even place, or as a generic
 /// branch, whose bytes depend on its form.
-#[derive(Clone, Copy, Debug, PartialEq, Eq)]
+#[derive(Clone, Copy, PartialEq, Eq)]
 pub enum Body {
     Bytes(u32),
     Upto(u16),
@@ -22,7 +22,7 @@ pub enum Body {
 
 /// What of a statement tells where statements stand: the segment in force, what its place is divisible by, how far it goes
 /// on, and the address of the absolute piece that it opens, if it opens one.
-#[derive(Clone, Copy, Debug, PartialEq, Eq)]
+#[derive(Clone, Copy, PartialEq, Eq)]
 pub struct Note {
     pub segment: Segment,
     pub alignment: u32,

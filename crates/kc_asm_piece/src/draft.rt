@@ -4,7 +4,7 @@ use kc_expr::Value;
 use kc_obj::Taken;
 
 /// A name that the module gives, with its value.
-#[derive(Debug, Drop)]
+#[derive(Drop)]
 pub struct Public {
     pub name: Text,
     pub value: Value,
@@ -13,7 +13,7 @@ pub struct Public {
 /// What a source says before its module is made. The first three parts are the relocatable registers, code and data, which
 /// values have as their bases 0, 1 and 2; the others are the absolute ones, in their order. The stack is in bytes. The
 /// externals are in the order of their declaration, and values have their indices; the public names are in any order.
-#[derive(Debug, Drop)]
+#[derive(Drop)]
 pub struct Draft {
     pub name: Text,
     pub parts: Vec<Part>,

@@ -8,14 +8,14 @@ use std::alloc::Global;
 use std::marker::Model;
 
 /// What stands at an offset of a part.
-#[derive(Clone, Copy, Debug, PartialEq, Eq)]
+#[derive(Clone, Copy)]
 pub struct Cell {
     pub offset: u16,
     pub octet: Octet,
 }
 
 /// The offset where the octets of the statement on a line begin.
-#[derive(Clone, Copy, Debug, PartialEq, Eq)]
+#[derive(Clone, Copy)]
 pub struct Mark {
     pub offset: u16,
     pub line: u32,
@@ -23,7 +23,7 @@ pub struct Mark {
 
 /// A piece of a module while it is written: its kind, its address if it is absolute, its length in bytes, and what stands
 /// at its offsets. What is reserved or passed over has a length and takes no memory.
-#[derive(Debug, Drop)]
+#[derive(Drop)]
 pub struct Part {
     kind: SegKind,
     at: Option<u16>,

@@ -5,7 +5,7 @@ use kc_obj::SegKind;
 /// source opens it (the pieces 0, 1 and 2 are the relocatable registers, code and data; absolute ones follow), and its
 /// address `at` where it is absolute. Then, as offsets or in an absolute piece as addresses: where the piece ended before the
 /// statement, the place of the statement, which is that of its label and of `$`, and where the piece ends behind it.
-#[derive(Clone, Copy, Debug, PartialEq, Eq)]
+#[derive(Clone, Copy, PartialEq, Eq)]
 pub struct Spot {
     pub line: u32,
     pub depth: u32,

@@ -12,7 +12,7 @@ use kc_source_statement::Action;
 /// The segment in force at a statement: the number and the kind of its piece, and how many pieces there are so far. The
 /// pieces 0 (registers), 1 (code) and 2 (data) are relocatable; absolute ones follow in the order of the source.
 /// (MCS-96 Macro Assembler User's Guide, "Segments and the Location Counter".)
-#[derive(Clone, Copy, Debug, PartialEq, Eq)]
+#[derive(Clone, Copy, PartialEq, Eq)]
 pub struct Segment {
     pub piece: usize,
     pub kind: SegKind,

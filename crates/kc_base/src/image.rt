@@ -11,7 +11,7 @@ pub const IMAGE_START: u16 = 0x2000;
 pub const IMAGE_LEN: usize = 57_344;
 
 /// The bytes from 2000H to FFFFH.
-#[derive(Debug, Drop)]
+#[derive(Drop)]
 pub struct Image {
     bytes: Vec<u8>,
 }

@@ -35,6 +35,3 @@ pub use text_lines::{after, first_line, front};
 pub use types::{
     Edge, IntSet, Kind, Level, NoMemory, PIN_COUNT, Pin, PtsMode, StateTime, Undefined,
 };
-
-#[cfg(test)]
-mod tests;

@@ -7,7 +7,7 @@ use std::alloc::Global;
 use std::marker::Model;
 
 /// Some bytes: a name, or the characters of a string. Up to 16 of them need no allocation.
-#[derive(Debug, Drop)]
+#[derive(Drop)]
 pub struct Text {
     bytes: SmallVec<u8, 16>,
 }

@@ -13,7 +13,7 @@ pub const PIN_COUNT: u8 = 41;
 /// A pin of the board by its number: 0-5 HSO0 to HSO5, 6-13 P10 to P17, 14 P20, 15 P25, 16 P26, 17 P27,
 /// 18-21 HSI0 to HSI3, 22 T2CLK, 23 T2RST, 24 EXTINT, 25 NMI, 26 T2UD, 27 T2CAP, 28-35 P00 to P07,
 /// 36 TXD, 37 RXD, 38-40 PWM0 to PWM2.
-#[derive(Clone, Copy, Debug, Default, PartialEq, Eq)]
+#[derive(Clone, Copy, Default, PartialEq, Eq)]
 pub struct Pin(pub u8);
 
 impl Pin {
@@ -71,7 +71,7 @@ impl Pin {
 }
 
 /// The logic level of a pin.
-#[derive(Clone, Copy, Debug, Default, PartialEq, Eq)]
+#[derive(Clone, Copy, Default, PartialEq, Eq)]
 pub enum Level {
     #[default]
     Low,
@@ -95,18 +95,18 @@ impl Level {
 }
 
 /// A pin that takes a level.
-#[derive(Clone, Copy, Debug, Default, PartialEq, Eq)]
+#[derive(Clone, Copy, Default, PartialEq, Eq)]
 pub struct Edge {
     pub pin: Pin,
     pub level: Level,
 }
 
 /// A set of interrupt requests: bit n is the request of vector n.
-#[derive(Clone, Copy, Debug, PartialEq, Eq)]
+#[derive(Clone, Copy, PartialEq, Eq)]
 pub struct IntSet(pub u16);
 
 /// The kinds of undefined use, in the order of their numbers from 1.
-#[derive(Clone, Copy, Debug, PartialEq, Eq)]
+#[derive(Clone, Copy, PartialEq, Eq)]
 pub enum Kind {
     OddWord,
     LongAlign,
@@ -125,7 +125,7 @@ pub enum Kind {
 }
 
 /// An undefined use, with the state in which it came and the address that is reported.
-#[derive(Clone, Copy, Debug, PartialEq, Eq)]
+#[derive(Clone, Copy, PartialEq, Eq)]
 pub struct Undefined {
     pub kind: Kind,
     pub at: StateTime,
@@ -134,7 +134,7 @@ pub struct Undefined {
 
 /// The modes of the peripheral transaction server, by the mode field of PTSCON
 /// (80C196KC User's Manual, "Peripheral Transaction Server"; `Hsi`, `Hso` and `Scan` in this kit's own layout).
-#[derive(Clone, Copy, Debug, PartialEq, Eq)]
+#[derive(Clone, Copy, PartialEq, Eq)]
 pub enum PtsMode {
     Single,
     Block,

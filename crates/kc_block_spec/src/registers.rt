@@ -1,5 +1,5 @@
 /// A horizontal window over the special function registers, by its value of WSR.
-#[derive(Clone, Copy, Debug, PartialEq, Eq, Drop)]
+#[derive(Clone, Copy, PartialEq, Eq, Drop)]
 pub enum Window {
     Window0,
     Window1,
@@ -7,7 +7,7 @@ pub enum Window {
 }
 
 /// A special function register that is read as a byte (80C196KC User's Manual, "Special Function Registers").
-#[derive(Clone, Copy, Debug, PartialEq, Eq, Drop)]
+#[derive(Clone, Copy, Drop)]
 pub enum ReadableByte {
     /// Reads 0.
     Zeros,
@@ -27,7 +27,7 @@ pub enum ReadableByte {
 }
 
 /// A special function register that is written as a byte.
-#[derive(Clone, Copy, Debug, PartialEq, Eq, Drop)]
+#[derive(Clone, Copy, Drop)]
 pub enum WritableByte {
     /// Ignores writes.
     Zeros,
@@ -47,7 +47,7 @@ pub enum WritableByte {
 }
 
 /// A special function register that is read as a word.
-#[derive(Clone, Copy, Debug, PartialEq, Eq, Drop)]
+#[derive(Clone, Copy, Drop)]
 pub enum ReadableWord {
     HsiTime,
     Timer1,
@@ -58,7 +58,7 @@ pub enum ReadableWord {
 }
 
 /// A special function register that is written as a word.
-#[derive(Clone, Copy, Debug, PartialEq, Eq, Drop)]
+#[derive(Clone, Copy, Drop)]
 pub enum WritableWord {
     HsoTime,
     Timer2,

@@ -1,7 +1,7 @@
 //! The pieces that a module's text is made of, and the forms of a generic branch.
 
 /// What a statement leaves in a segment, as far as places go.
-#[derive(Clone, Copy, Debug, PartialEq, Eq)]
+#[derive(Clone, Copy, PartialEq, Eq)]
 pub enum Piece {
     /// So many bytes.
     Bytes(u16),
@@ -18,7 +18,7 @@ pub enum Piece {
 }
 
 /// What a generic branch stands for: BR; CALL; a conditional jump, as BE; a jump on a bit, BBC or BBS.
-#[derive(Clone, Copy, Debug, PartialEq, Eq)]
+#[derive(Clone, Copy, PartialEq, Eq)]
 pub enum BranchKind {
     Jump,
     Call,
@@ -28,7 +28,7 @@ pub enum BranchKind {
 
 /// The form of a generic branch, shortest first. Of a jump or call: the short instruction, then twice the long one. Of a
 /// conditional jump or one on a bit: the instruction itself, the inverse one over SJMP, the inverse one over LJMP.
-#[derive(Clone, Copy, Debug, PartialEq, Eq)]
+#[derive(Clone, Copy, PartialEq, Eq)]
 pub enum Form {
     First,
     Second,

@@ -11,8 +11,6 @@ mod laws;
 mod lines;
 mod pulses;
 mod sample;
-#[cfg(test)]
-mod tests;
 
 pub use analog::Analog;
 pub use converter::Converter;

@@ -27,7 +27,7 @@ const PWM1: u8 = 39;
 const PWM2: u8 = 40;
 
 /// An output by its widths: the last one written, and the one in force.
-#[derive(Clone, Copy, Debug, Default, PartialEq, Eq)]
+#[derive(Clone, Copy, Default)]
 pub struct Output {
     pub written: u8,
     pub in_force: u8,

@@ -1,7 +1,7 @@
 use kc_base::StateTime;
 
 /// A value that an analogue input takes at a state time.
-#[derive(Clone, Copy, Debug, PartialEq, Eq)]
+#[derive(Clone, Copy, PartialEq, Eq)]
 pub struct Sample {
     pub at: StateTime,
     pub channel: u8,
@@ -9,7 +9,7 @@ pub struct Sample {
 }
 
 /// What a line of an analogue file is.
-#[derive(Clone, Copy, Debug, PartialEq, Eq)]
+#[derive(Clone, Copy, PartialEq, Eq)]
 pub(crate) enum Item {
     Blank,
     Sampled(Sample),

@@ -11,7 +11,7 @@ use kc_extra::Extra;
 use kc_machine::Machine;
 
 /// An activity: the state in which it began, and the program counter there.
-#[derive(Clone, Copy, Debug, PartialEq, Eq, Drop)]
+#[derive(Clone, Copy, Drop)]
 pub(crate) struct Begun {
     pub(crate) at: StateTime,
     pub(crate) pc: u16,

@@ -6,7 +6,7 @@ use crate::fields::number;
 use kc_base::{StateTime, hex_byte, hex_word, split_at_space};
 
 /// What a line of a script asks for.
-#[derive(Clone, Copy, Debug, PartialEq, Eq, Drop)]
+#[derive(Clone, Copy, PartialEq, Eq, Drop)]
 pub enum Command {
     /// So many activities, 1 to 1,000,000.
     Step(u32),

@@ -18,7 +18,7 @@ const FIRST_ADDRESS: u16 = 0x2000;
 const LINE_LIMIT: u64 = 4_294_967_295;
 
 /// The bytes at this address come from this line of the source of the module with this name.
-#[derive(Debug, Drop)]
+#[derive(Drop)]
 pub struct MapEntry {
     pub addr: u16,
     pub name: Text,

@@ -1,5 +1,5 @@
 /// Where an instruction is performed: the address after it, and WSR.
-#[derive(Clone, Copy, Debug, PartialEq, Eq, Drop)]
+#[derive(Clone, Copy, PartialEq, Eq, Drop)]
 pub(crate) struct Here {
     pub(crate) next: u16,
     pub(crate) wsr: u8,

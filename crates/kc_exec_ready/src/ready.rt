@@ -8,7 +8,7 @@ use kc_isa::{Insn, Mnemonic, Operand};
 /// An instruction with what is told of it once: whether the program goes on after it (`free`); its length in bytes; what its
 /// states depend on, with the test of a conditional jump and what it has to be; and its states where that does not hold (`base`)
 /// and where it holds (`other`).
-#[derive(Clone, Copy, Debug, PartialEq, Eq, Drop)]
+#[derive(Clone, Copy, Drop)]
 pub struct Ready {
     pub insn: Insn,
     pub mnemonic: Mnemonic,

@@ -5,7 +5,7 @@ ghost use Rattle.kc_hex.specs.declared.fault.HexFault.TheVariants as faults;
 use kc_base::NoMemory;
 
 /// The causes by which a hex text is refused, as they are numbered.
-#[derive(Clone, Copy, Debug, PartialEq, Eq)]
+#[derive(Clone, Copy)]
 pub enum HexCode {
     /// A line is no record.
     Form,
@@ -38,7 +38,7 @@ impl HexCode {
 }
 
 /// The first fault of a hex text, by its line from 1 and the number of its code, or that memory ran out.
-#[derive(Clone, Copy, Debug, PartialEq, Eq)]
+#[derive(Clone, Copy, PartialEq, Eq)]
 pub enum HexFault {
     At { line: u32, code: u8 },
     NoMemory,

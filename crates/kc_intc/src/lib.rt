@@ -6,6 +6,3 @@ mod requests;
 
 pub use laws::{bits_of_changed_sets, greatest_is_greatest};
 pub use requests::{Choice, Requests};
-
-#[cfg(test)]
-mod tests;

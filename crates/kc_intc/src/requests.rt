@@ -10,7 +10,7 @@ use kc_base::IntSet;
 ///
 /// `pending` is INT_PEND (low byte) and INT_PEND1, `mask` INT_MASK and INT_MASK1, `select` PTSSEL, `service` PTSSRV
 /// (80C196KC User's Manual, "Interrupts" and "Peripheral Transaction Server").
-#[derive(Clone, Copy, Debug, Default, PartialEq, Eq)]
+#[derive(Clone, Copy, Default, PartialEq, Eq)]
 pub struct Requests {
     pub pending: u16,
     pub mask: u16,
@@ -22,7 +22,7 @@ pub struct Requests {
 const NMI: u16 = 0x8000;
 
 /// What is served before the program goes on.
-#[derive(Clone, Copy, Debug, PartialEq, Eq)]
+#[derive(Clone, Copy, PartialEq, Eq)]
 pub enum Choice {
     /// NMI is entered.
     Nmi,

@@ -12,7 +12,7 @@ use kc_kit_shown::tell_shown;
 use kc_trace::TraceOut;
 
 /// What is said in words, beside what the status says.
-#[derive(Debug, Drop)]
+#[derive(Drop)]
 pub enum Said<'a> {
     /// Nothing more.
     Nothing,
@@ -23,7 +23,7 @@ pub enum Said<'a> {
 }
 
 /// How a command has ended: its status, and what is said of it.
-#[derive(Debug, Drop)]
+#[derive(Drop)]
 pub struct Ended<'a> {
     pub status: Status,
     pub said: Said<'a>,

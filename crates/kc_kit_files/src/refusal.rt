@@ -6,7 +6,7 @@ use kc_base::NoMemory;
 use std::alloc::Global;
 
 /// Why a command is refused.
-#[derive(Clone, Copy, Debug, PartialEq, Eq)]
+#[derive(Clone, Copy)]
 pub enum Cause {
     /// The words are no command.
     Usage,
@@ -40,7 +40,7 @@ impl Cause {
 }
 
 /// A command that is refused, with the line that is printed and what is said in words; or want of memory.
-#[derive(Debug, Drop)]
+#[derive(Drop)]
 pub enum Refusal {
     Says {
         cause: Cause,

@@ -24,7 +24,7 @@ use kc_kit_shown::tell_word;
 use kc_trace::TraceOut;
 
 /// What is wrong in words that are no command.
-#[derive(Clone, Copy, Debug, PartialEq, Eq)]
+#[derive(Clone, Copy, PartialEq, Eq)]
 pub enum Wrong<'a> {
     /// There are no words.
     NoWords,

@@ -4,7 +4,7 @@ ghost use Rattle.kc_lex.specs.LineFaults as spec;
 use std::marker::Model;
 
 /// A fault of a source: its line, from 1, and its code.
-#[derive(Clone, Copy, Debug, PartialEq, Eq)]
+#[derive(Clone, Copy, PartialEq, Eq)]
 pub struct LineFault {
     pub line: u32,
     pub code: u8,

@@ -6,7 +6,7 @@ use crate::chars::{compared, is_short_word};
 use crate::words::{Directive, Operands};
 
 /// What a reserved word is that is no instruction, or not only one.
-#[derive(Clone, Copy, Debug)]
+#[derive(Clone, Copy)]
 pub(crate) enum Word {
     Operator,
     /// A generic branch on a condition.

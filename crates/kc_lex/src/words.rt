@@ -11,7 +11,7 @@ use kc_base::{NoMemory, Text};
 use std::alloc::Global;
 
 /// The operands that an operation takes. `x` is a plain expression, `S` any operand.
-#[derive(Clone, Copy, Debug, PartialEq, Eq)]
+#[derive(Clone, Copy, PartialEq, Eq)]
 pub enum Operands {
     /// none
     Nothing,
@@ -44,7 +44,7 @@ pub enum Operands {
 }
 
 /// How an operand is written, which tells its mode of addressing. (MCS-96 Macro Assembler User's Guide, "Operands".)
-#[derive(Clone, Copy, Debug, PartialEq, Eq)]
+#[derive(Clone, Copy, PartialEq, Eq)]
 pub enum Notation {
     /// `x`: direct, or an address in memory
     Plain,
@@ -59,7 +59,7 @@ pub enum Notation {
 }
 
 /// The words that begin a statement that is no operation, or stand behind a name.
-#[derive(Clone, Copy, Debug, PartialEq, Eq)]
+#[derive(Clone, Copy, PartialEq, Eq)]
 pub enum Directive {
     Module,
     Cseg,

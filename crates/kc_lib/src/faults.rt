@@ -4,7 +4,7 @@ ghost use Rattle.kc_lib.specs.Codes.{code_number};
 use kc_base::{NoMemory, Text};
 
 /// The causes by which a library is refused, as they are numbered.
-#[derive(Clone, Copy, Debug, PartialEq, Eq)]
+#[derive(Clone, Copy)]
 pub enum LibCode {
     /// A wrong first byte, or a number of members that is not 1 to 64.
     Head,
@@ -37,7 +37,7 @@ impl LibCode {
 }
 
 /// Why there is no library, or why nothing is taken from it.
-#[derive(Debug, Drop)]
+#[derive(Drop)]
 pub enum LibFault {
     /// Bytes are no library: the first fault, at its place in bytes.
     At { at: u32, code: LibCode },

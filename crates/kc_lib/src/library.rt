@@ -13,7 +13,7 @@ use std::marker::Model;
 const MODULES: usize = 64;
 
 /// A library that was read: its modules in their order.
-#[derive(Debug, Drop)]
+#[derive(Drop)]
 pub struct Library {
     members: Vec<Module>,
 }

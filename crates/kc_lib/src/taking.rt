@@ -15,7 +15,7 @@ use kc_obj::{Module, Taken};
 use std::alloc::Global;
 
 /// How far a member is: not needed so far, needed with its externals still to be looked at, or done.
-#[derive(Clone, Copy, Debug, PartialEq, Eq)]
+#[derive(Clone, Copy, PartialEq, Eq)]
 pub(crate) enum Standing {
     Out,
     Called,

@@ -12,7 +12,7 @@ use kc_obj::{Lines, Module};
 use std::alloc::Global;
 
 /// The bytes at this address come from this line of the module with this name.
-#[derive(Debug, Drop)]
+#[derive(Drop)]
 pub struct LineAt {
     pub addr: u16,
     pub name: Text,

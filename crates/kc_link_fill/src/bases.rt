@@ -4,7 +4,7 @@ ghost use Rattle.kc_link_fill.specs.BaseLists.{bases_in};
 use std::marker::Model;
 
 /// What the numbers of a module count from: the address of each of its pieces, and the number of each of its externals.
-#[derive(Debug, Drop)]
+#[derive(Drop)]
 pub struct Bases {
     pieces: Vec<u16>,
     externals: Vec<u16>,

@@ -9,7 +9,7 @@ use kc_base::NoMemory;
 use kc_obj::SegKind;
 
 /// Free addresses, from the first one up to the end, which is not among them.
-#[derive(Clone, Copy, Debug, PartialEq, Eq)]
+#[derive(Clone, Copy)]
 pub struct Gap {
     pub from: u32,
     pub end: u32,

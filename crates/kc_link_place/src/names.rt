@@ -10,7 +10,7 @@ use kc_obj::{Given, Module, Taken};
 use std::alloc::Global;
 
 /// Where a name is public: the number of the module, and a place in one of its pieces or a number alone.
-#[derive(Clone, Copy, Debug, PartialEq, Eq)]
+#[derive(Clone, Copy)]
 pub struct Home {
     pub index: usize,
     pub piece: Option<u16>,

@@ -7,7 +7,7 @@ use kc_obj::{Module, SegKind, Segment};
 use std::alloc::Global;
 
 /// A piece of a module: the numbers of both, its kind, and its length in bytes.
-#[derive(Clone, Copy, Debug, PartialEq, Eq)]
+#[derive(Clone, Copy, PartialEq, Eq)]
 pub struct Piece {
     pub index: u16,
     pub number: usize,
@@ -16,7 +16,7 @@ pub struct Piece {
 }
 
 /// A piece that stands at an address.
-#[derive(Clone, Copy, Debug, PartialEq, Eq)]
+#[derive(Clone, Copy)]
 pub struct Stand {
     pub piece: Piece,
     pub at: u16,

@@ -12,7 +12,7 @@ use kc_obj::SegKind;
 use std::alloc::Global;
 
 /// Why a piece has no place.
-#[derive(Clone, Copy, Debug, PartialEq, Eq)]
+#[derive(Clone, Copy)]
 pub(crate) enum NoPlace {
     NoRoom(Piece),
     NoMemoryLeft,

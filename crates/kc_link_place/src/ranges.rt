@@ -6,7 +6,7 @@ use kc_obj::SegKind;
 
 /// Where relocatable pieces may stand: the first and the last address for registers, code, and data with the stack.
 /// `stack` is the length of the stack in bytes, where it is not the sum of all stack pieces.
-#[derive(Clone, Copy, Debug, PartialEq, Eq)]
+#[derive(Clone, Copy, PartialEq, Eq)]
 pub struct Ranges {
     pub reg: (u16, u16),
     pub code: (u16, u16),
@@ -46,7 +46,7 @@ fn lies(low: u16, high: u16, range: (u16, u16)) -> bool
 }
 
 /// The first rule of the linker that is broken, or want of memory.
-#[derive(Debug, Drop)]
+#[derive(Drop)]
 pub enum LinkFault {
     /// No module makes this name public.
     Unresolved(Text),

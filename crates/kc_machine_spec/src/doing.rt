@@ -4,7 +4,7 @@ use kc_isa::Insn;
 use kc_pts::Cycle;
 
 /// What goes on in some states.
-#[derive(Clone, Copy, Debug, PartialEq, Eq, Drop)]
+#[derive(Clone, Copy, Drop)]
 pub enum Activity {
     /// An instruction.
     Executes(Insn),
@@ -26,7 +26,7 @@ pub enum Activity {
 
 /// What goes on between activities: a block move with the words that are left, idling, or a cycle of the transfer server for
 /// the request of this number.
-#[derive(Clone, Copy, Debug, PartialEq, Eq, Drop)]
+#[derive(Clone, Copy, PartialEq, Eq, Drop)]
 pub enum Going {
     Moving(Insn, Words),
     Idling,
@@ -34,14 +34,14 @@ pub enum Going {
 }
 
 /// An activity with the number of its states that are left.
-#[derive(Clone, Copy, Debug, PartialEq, Eq, Drop)]
+#[derive(Clone, Copy, Drop)]
 pub struct UnderWay {
     pub doing: Activity,
     pub left: u8,
 }
 
 /// How a run ends.
-#[derive(Clone, Copy, Debug, PartialEq, Eq, Drop)]
+#[derive(Clone, Copy, PartialEq, Eq, Drop)]
 pub enum End {
     Spent,
     Powerdown,
@@ -50,7 +50,7 @@ pub enum End {
 }
 
 /// How the machine goes on after an activity.
-#[derive(Clone, Copy, Debug, PartialEq, Eq, Drop)]
+#[derive(Clone, Copy, PartialEq, Eq, Drop)]
 pub struct Next {
     /// The next activity is an instruction.
     pub held: bool,

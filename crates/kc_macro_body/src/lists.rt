@@ -6,7 +6,7 @@ use std::alloc::Global;
 use std::marker::Model;
 
 /// A list of names, as that of the parameters of a macro.
-#[derive(Debug, Drop)]
+#[derive(Drop)]
 pub struct Names {
     items: Vec<Text>,
 }
@@ -46,7 +46,7 @@ impl Names {
 }
 
 /// Lists of tokens: the lines of a body, or the arguments of a call.
-#[derive(Debug, Drop)]
+#[derive(Drop)]
 pub struct Texts {
     items: Vec<Tokens>,
 }

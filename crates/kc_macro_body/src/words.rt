@@ -5,7 +5,7 @@ use kc_lex::Token;
 use kc_lex::kinds::{begins_word, has_label, is_name, is_word};
 
 /// As which word a line is matched.
-#[derive(Clone, Copy, Debug, PartialEq, Eq)]
+#[derive(Clone, Copy, PartialEq, Eq)]
 pub enum Word {
     Macro,
     Local,

@@ -10,7 +10,7 @@ use std::marker::Model;
 use std::rc::Rc;
 
 /// From what a line comes: a macro call or a repetition, each with a number of its own, or an IF.
-#[derive(Clone, Copy, Debug, PartialEq, Eq)]
+#[derive(Clone, Copy)]
 pub enum Mark {
     Call(u32),
     Turns(u32),
@@ -19,7 +19,7 @@ pub enum Mark {
 
 /// The calls, repetitions and IFs from which a line comes, the innermost first. Lines that come from the same ones share
 /// them.
-#[derive(Debug, Drop)]
+#[derive(Drop)]
 pub struct Marks {
     items: Rc<Vec<Mark>>,
 }
@@ -34,7 +34,7 @@ impl Model for Marks {
 }
 
 /// A line of the text that is still to be read, or with no tokens the place where a turn of a repetition begins.
-#[derive(Debug, Drop)]
+#[derive(Drop)]
 pub struct Piece {
     pub number: u32,
     pub from: Marks,
@@ -42,7 +42,7 @@ pub struct Piece {
 }
 
 /// What is taken off the text: a body up to its ENDM, the part of an IF up to its ELSE or ENDIF, or all up to its ENDIF.
-#[derive(Clone, Copy, Debug, PartialEq, Eq)]
+#[derive(Clone, Copy, PartialEq, Eq)]
 pub enum Extent {
     Body,
     Part,

@@ -12,7 +12,7 @@ use std::marker::Model;
 
 /// An object module that keeps the rules of the format. It has line entries in version 2 of the format, and none in
 /// version 1.
-#[derive(Debug, Drop)]
+#[derive(Drop)]
 pub struct Module {
     name: Text,
     segments: Vec<Segment>,

@@ -1,7 +1,7 @@
 use kc_base::Text;
 
 /// The kind of a piece of memory: registers (RSEG), code (CSEG), data (DSEG) or stack (SSEG), as the MCS-96 tools name them.
-#[derive(Clone, Copy, Debug, PartialEq, Eq)]
+#[derive(Clone, Copy, PartialEq, Eq)]
 pub enum SegKind {
     Reg,
     Code,
@@ -10,7 +10,7 @@ pub enum SegKind {
 }
 
 /// A piece of a module: absolute at an address, or relocatable. The length is in bytes.
-#[derive(Clone, Copy, Debug, PartialEq, Eq)]
+#[derive(Clone, Copy, PartialEq, Eq)]
 pub struct Segment {
     pub kind: SegKind,
     pub at: Option<u16>,
@@ -18,14 +18,14 @@ pub struct Segment {
 }
 
 /// A name that the module takes from another one.
-#[derive(Debug, Drop)]
+#[derive(Drop)]
 pub struct Taken {
     pub name: Text,
     pub register: bool,
 }
 
 /// A public name: a place in the piece with this number, or a number alone.
-#[derive(Debug, Drop)]
+#[derive(Drop)]
 pub struct Given {
     pub name: Text,
     pub piece: Option<u16>,
@@ -33,7 +33,7 @@ pub struct Given {
 }
 
 /// Bytes that stand in a piece from an offset on.
-#[derive(Debug, Drop)]
+#[derive(Drop)]
 pub struct Content {
     pub piece: u16,
     pub offset: u16,
@@ -41,7 +41,7 @@ pub struct Content {
 }
 
 /// What a relocation counts from: the base of a piece, the value of an external, or 0.
-#[derive(Clone, Copy, Debug, PartialEq, Eq)]
+#[derive(Clone, Copy, PartialEq, Eq)]
 pub enum Target {
     Piece(u16),
     External(u16),
@@ -50,7 +50,7 @@ pub enum Target {
 
 /// A number that is filled in when the bases are known, at an offset of a piece. The kinds: 0 word, 1 byte,
 /// 2 displacement of 8 bits, 3 displacement of 11 bits from the opcode on, 4 displacement of 16 bits.
-#[derive(Clone, Copy, Debug, PartialEq, Eq)]
+#[derive(Clone, Copy, PartialEq, Eq)]
 pub struct Fixup {
     pub piece: u16,
     pub offset: u16,
@@ -60,7 +60,7 @@ pub struct Fixup {
 }
 
 /// The line of the source from which the bytes at an offset of a piece come.
-#[derive(Clone, Copy, Debug, PartialEq, Eq)]
+#[derive(Clone, Copy, PartialEq, Eq)]
 pub struct Lines {
     pub piece: u16,
     pub offset: u16,

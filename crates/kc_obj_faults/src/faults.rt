@@ -6,7 +6,7 @@ ghost use Rattle.kc_obj_faults.specs.Fields.{is_lesser, first_of_both, noted};
 use kc_base::NoMemory;
 
 /// The causes by which an object is refused, as they are numbered.
-#[derive(Clone, Copy, Debug, PartialEq, Eq)]
+#[derive(Clone, Copy)]
 pub enum ObjCode {
     /// A record of a type that may not come there.
     WrongOrder,
@@ -39,7 +39,7 @@ impl ObjCode {
 }
 
 /// The first fault of an object, by its offset in bytes and the number of its code, or that memory ran out.
-#[derive(Clone, Copy, Debug, PartialEq, Eq)]
+#[derive(Clone, Copy, PartialEq, Eq)]
 pub enum ObjFault {
     At { at: u32, code: u8 },
     NoMemory,
@@ -54,7 +54,7 @@ impl From<NoMemory> for ObjFault {
 }
 
 /// A fault by its offset and the number of its code.
-#[derive(Clone, Copy, Debug, PartialEq, Eq)]
+#[derive(Clone, Copy, PartialEq, Eq)]
 pub struct Fault {
     pub at: u32,
     pub code: u8,

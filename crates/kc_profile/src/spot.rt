@@ -4,7 +4,7 @@ ghost use Rattle.kc_profile.specs.Spots.{spot_of};
 use kc_machine_spec::Activity;
 
 /// Where a state of a run goes.
-#[derive(Clone, Copy, Debug, PartialEq, Eq, Drop)]
+#[derive(Clone, Copy, PartialEq, Eq, Drop)]
 pub enum Spot {
     /// An instruction, a word of a block move, a trap, or an undefined use that is found at the start, at this address.
     At(u16),

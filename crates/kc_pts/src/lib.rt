@@ -7,8 +7,6 @@ mod laws;
 mod server;
 mod serving;
 mod setups;
-#[cfg(test)]
-mod tests;
 mod transfers;
 
 pub use cycle::{Cycle, Left};

@@ -7,8 +7,6 @@ mod receiving;
 mod registers;
 mod sending;
 mod serial;
-#[cfg(test)]
-mod tests;
 
 pub use laws::{frames_are_shown, levels_are_kept, received_bytes_are_samples};
 pub use receiving::Reception;

@@ -8,7 +8,7 @@ use crate::sending::bit_length;
 
 /// A reception under way: the rate at its start, the states since its edge, and the bits that it has taken, of which each
 /// new one enters from above.
-#[derive(Clone, Copy, Debug, PartialEq, Eq)]
+#[derive(Clone, Copy)]
 pub struct Reception {
     pub rate: u16,
     pub age: u32,

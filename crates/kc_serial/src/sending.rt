@@ -5,7 +5,7 @@ ghost use Rattle.kc_serial.specs.Spans.{older_sending as older_by, SendingFits};
 ghost use Rattle.kc_serial.specs.Quiet.{keeps_level as keeps, SendingBefore};
 
 /// A frame under way: its byte, the rate at its start, and the states since then.
-#[derive(Clone, Copy, Debug, PartialEq, Eq)]
+#[derive(Clone, Copy)]
 pub struct Frame {
     pub byte: u8,
     pub rate: u16,
@@ -13,7 +13,7 @@ pub struct Frame {
 }
 
 /// What is sent: nothing, a byte whose frame begins in the next state, or a frame under way.
-#[derive(Clone, Copy, Debug, PartialEq, Eq)]
+#[derive(Clone, Copy)]
 pub enum Sending {
     Idle,
     Next(u8),

@@ -29,7 +29,7 @@ const TXD: u8 = 36;
 const RXD: u8 = 37;
 
 /// The flags of SP_STAT that a read of it clears: RI, TI, FE and OE.
-#[derive(Clone, Copy, Debug, Default, PartialEq, Eq)]
+#[derive(Clone, Copy, Default, PartialEq, Eq)]
 pub struct Flags {
     pub received: bool,
     pub sent: bool,

@@ -1,7 +1,7 @@
 use kc_base::Text;
 
 /// How a statement uses a name.
-#[derive(Clone, Copy, Debug, PartialEq, Eq)]
+#[derive(Clone, Copy)]
 pub enum UseKind {
     /// defined for once, as a label or by EQU
     Once,
@@ -14,7 +14,7 @@ pub enum UseKind {
 }
 
 /// The use of a name on a line.
-#[derive(Debug, Drop)]
+#[derive(Drop)]
 pub struct Use {
     pub line: u32,
     pub name: Text,

@@ -6,7 +6,7 @@ use std::alloc::Global;
 use std::marker::Model;
 
 /// A list of names.
-#[derive(Debug, Drop)]
+#[derive(Drop)]
 pub struct Names {
     names: Vec<Text>,
 }
@@ -47,7 +47,7 @@ impl Names {
 }
 
 /// A list of data items.
-#[derive(Debug, Drop)]
+#[derive(Drop)]
 pub struct Items {
     items: Vec<Item>,
 }
@@ -93,7 +93,7 @@ impl Items {
 }
 
 /// A list of operands.
-#[derive(Debug, Drop)]
+#[derive(Drop)]
 pub struct Args {
     args: Vec<Arg>,
 }

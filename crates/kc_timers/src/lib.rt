@@ -10,8 +10,6 @@ ghost use Rattle.kc_timers.specs.T2.{T2, timer2_rule, value_at, view_of};
 
 use kc_base::StateTime;
 
-#[cfg(test)]
-mod tests;
 mod timer2;
 
 pub use timer2::Timer2;
@@ -19,7 +17,7 @@ pub use timer2::Timer2;
 /// How Timer 2 is clocked and reset: `internal` is IOC3.0, `fast` IOC2.0, `down` IOC2.1 together with the level of T2UD.
 /// By `hsi1` (IOC0.7), `reset_on` (IOC0.3) and `reset_hsi0` (IOC0.5) the block chooses the pins that clock and reset the
 /// timer; the timer itself does not look at these three.
-#[derive(Clone, Copy, Debug, Default, PartialEq, Eq)]
+#[derive(Clone, Copy, PartialEq, Eq)]
 pub struct T2Control {
     pub hsi1: bool,
     pub internal: bool,
@@ -31,7 +29,7 @@ pub struct T2Control {
 
 /// What reaches Timer 2 in one Tick: an edge of the chosen clock pin, a reset by the chosen and enabled pin or by HSO, a
 /// rising T2CAP.
-#[derive(Clone, Copy, Debug, Default, PartialEq, Eq)]
+#[derive(Clone, Copy, PartialEq, Eq)]
 pub struct T2Inputs {
     pub clock: bool,
     pub reset: bool,
@@ -39,14 +37,14 @@ pub struct T2Inputs {
 }
 
 /// What a Tick of Timer 2 gave: whether it passed between FFFFH and 0, and whether it copied its value into T2CAPTURE.
-#[derive(Clone, Copy, Debug, Default, PartialEq, Eq)]
+#[derive(Clone, Copy, PartialEq, Eq)]
 pub struct T2Out {
     pub overflow: bool,
     pub captured: bool,
 }
 
 /// Timer 2 as HSO sees it. `every` says in how many states a count comes by itself: 0 (never, unless an edge comes), 8 or 1.
-#[derive(Clone, Copy, Debug, Default, PartialEq, Eq)]
+#[derive(Clone, Copy, PartialEq, Eq)]
 pub struct T2View {
     pub value: u16,
     pub every: u8,

@@ -11,6 +11,3 @@ pub use laws::{records_join, texts_join};
 pub use record::Record;
 pub use spelling::{LineBytes, address_text, level_digit, line, put_decimal, put_hex, put_text};
 pub use trace::{Counts, TraceOut, WriteFault};
-
-#[cfg(test)]
-mod tests;

@@ -1,7 +1,7 @@
 use kc_base::{Edge, PtsMode, StateTime, Undefined};
 
 /// What is printed as one line of a trace. Times are state times, `back` and `base` addresses.
-#[derive(Clone, Copy, Debug, PartialEq, Eq)]
+#[derive(Clone, Copy, PartialEq, Eq)]
 pub enum Record {
     /// The printed level of a pin changes.
     Pin {

@@ -9,7 +9,7 @@ use crate::spelling::{LineBytes, put_line};
 use kc_base::{Sink, put_all};
 
 /// How many records of three kinds were put while the sink had not failed; each number stands still at its type's end.
-#[derive(Clone, Copy, Debug, Default, PartialEq, Eq)]
+#[derive(Clone, Copy)]
 pub struct Counts {
     pub pins: u64,
     pub entries: u64,
@@ -45,7 +45,7 @@ impl Counts {
 }
 
 /// The sink has failed.
-#[derive(Clone, Copy, Debug, PartialEq, Eq)]
+#[derive(Clone, Copy, PartialEq, Eq)]
 pub struct WriteFault;
 
 /// Writes the lines of a trace to a sink, up to its first fault.

@@ -7,8 +7,6 @@ mod fault;
 mod fields;
 mod laws;
 mod levels;
-#[cfg(test)]
-mod tests;
 mod trace;
 
 pub use dumping::dump;

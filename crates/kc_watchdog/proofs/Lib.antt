@@ -1,1 +1,2 @@
 mod Never
+mod FeedingLaws
