@@ -192,11 +192,10 @@ fn joins<L: Ledger>(rt: &impl Abort, values: Analog, steps: &mut Steps<L>) {
     assert!(rt; pair.look(0, COMMAND, 257) == Some(0x41));
 }
 
-fn all<L: Ledger>(rt: &impl Abort, values: [Analog; 2], blank: Blank)
+fn all<L: Ledger>(rt: &impl Abort, one: Analog, other: Analog, blank: Blank)
     requires fresh { IsFresh blank L.name L.parts }
 {
     let mut steps = Steps::<L>::new(blank);
-    let [one, other] = values;
     converts(rt, one, &mut steps);
     pulses(rt, &mut steps);
     joins(rt, other, &mut steps);
@@ -208,6 +207,6 @@ fn conversions_and_pulses(rt: HostRuntime) -> Result<(), Fail> {
     let second: &[u8] = b"@0 1 513\n";
     let one = Analog::read(rt.alloc(), first).ok().ok_or("no memory")?;
     let other = Analog::read(rt.alloc(), second).ok().ok_or("no memory")?;
-    all::<Brand>(&rt, [one, other], Blank::new(1));
+    all::<Brand>(&rt, one, other, Blank::new(1));
     Ok(())
 }

@@ -28,14 +28,18 @@ static LONG_SUMS: [(bool, u32, u32, bool, &str, u32, &str); 9] = [
     (true, 0x80000000, 0x00000000, true, "", 0x7FFFFFFF, "NVTC"),
 ];
 
+fn sum_of(is_difference: bool, a: u32, b: u32, chained: bool, before: Flags) -> (u32, Flags) {
+    if is_difference {
+        sub(32, a, b, chained, before)
+    } else {
+        add(32, a, b, chained, before)
+    }
+}
+
 #[test]
 fn long_words_have_sums_and_differences(rt: HostRuntime) {
     for &(is_difference, a, b, chained, before, value, after) in &LONG_SUMS {
-        let found = if is_difference {
-            sub(32, a, b, chained, set(before))
-        } else {
-            add(32, a, b, chained, set(before))
-        };
+        let found = sum_of(is_difference, a, b, chained, set(before));
         assert!(rt; found == (value, set(after)), "{a}, {b}");
     }
     assert!(rt; logic(32, 0x80000000, set("")) == set("N"));
