@@ -95,18 +95,27 @@ fn names_at_each_statement(rt: HostRuntime) {
         assert!(rt; parts == *meant, "{name} at {index}");
     }
     let meanings = entered(&rt, 2).expect(&rt, "the source is read");
-    let here = meanings.value(&Expr::Here).expect(&rt, "it has a place");
+    let here = meanings
+        .value(&Expr::Here)
+        .ok()
+        .expect(&rt, "it has a place");
     assert!(rt; here.base == Base::Absolute && here.number == 8320);
-    let last = meanings.last(b"V").expect(&rt, "it has a value");
+    let last = meanings.last(b"V").ok().expect(&rt, "it has a value");
     assert!(rt; last.base == Base::Fixed && last.number == 2);
     assert!(rt; meanings.last(b"A") == Err(NoValue::ToldElsewhere));
 }
 
 #[test]
 fn externals_in_order(rt: HostRuntime) {
-    let lines = lines(rt.alloc(), SOURCE.as_bytes()).expect(&rt, "the lines are read");
-    let stmts = statements(rt.alloc(), &lines).expect(&rt, "the source has no fault");
-    let taken = externals(rt.alloc(), &stmts).expect(&rt, "there is memory");
+    let lines = lines(rt.alloc(), SOURCE.as_bytes())
+        .ok()
+        .expect(&rt, "the lines are read");
+    let stmts = statements(rt.alloc(), &lines)
+        .ok()
+        .expect(&rt, "the source has no fault");
+    let taken = externals(rt.alloc(), &stmts)
+        .ok()
+        .expect(&rt, "there is memory");
     assert!(rt; taken.len() == 3);
     for (one, &(name, register)) in taken
         .iter()
