@@ -55,6 +55,15 @@ fn names(alloc: Global) -> Result<Symbols, NoMemory> {
     Ok(symbols)
 }
 
+/// The byte with all pieces at 0.
+fn byte(octet: Octet) -> u8 {
+    match octet {
+        Octet::Plain(byte) => byte,
+        Octet::First { start, value, .. } => start | (value.number % 256) as u8,
+        Octet::Second { value, .. } => (value.number / 256) as u8,
+    }
+}
+
 fn extent(alloc: Global, text: &str, names: &Symbols) -> Option<Extent> {
     extent_of(alloc, &said(alloc, text)?, Form::Third, names).ok()
 }
@@ -85,8 +94,10 @@ fn statements_with_names_without_a_value(rt: HostRuntime) -> Result<(), NoMemory
         );
     }
     let octets = match content(rt.alloc(), " DCB Q,2", &names) {
-        Some(Content::Octets(octets)) => octets.as_slice()
-            == [Octet::Plain(0), Octet::Plain(2)].as_slice(),
+        Some(Content::Octets(octets)) => match octets.as_slice() {
+            [first, second] => byte(*first) == 0 && byte(*second) == 2,
+            _ => false,
+        },
         _ => false,
     };
     assert!(rt; octets);
