@@ -1,26 +1,32 @@
-# `make` proves and builds the program (tools/build), `make install PREFIX=..` installs it with its page and its completion,
-# `make check` is the whole gate.
+# `make` builds the program without its proofs (tools/build), `make proved` proves and builds it (tools/prove), which then takes its
+# place; `make install PREFIX=..` installs the proved program, or else the other one, with its page and its completion, `make dist`
+# packs the proved one for machines without the toolchain (tools/dist), `make check` is the whole gate.
 PREFIX = /usr/local
 DESTDIR =
+export PREFIX DESTDIR
 
-program = crates/kc96/out/kc96
-bin = $(DESTDIR)$(PREFIX)/bin
-man = $(DESTDIR)$(PREFIX)/share/man/man1
-completions = $(DESTDIR)$(PREFIX)/share/bash-completion/completions
-
-.PHONY: all install uninstall check
+.PHONY: all proved install uninstall dist check
 
 all:
-	tools/build
+	@tools/build
 
-install: all
-	install -d "$(bin)" "$(man)" "$(completions)"
-	install -m 755 $(program) "$(bin)/kc96"
-	install -m 644 man/kc96.1 "$(man)/kc96.1"
-	install -m 644 completion/kc96.bash "$(completions)/kc96"
+proved:
+	@tools/prove
+
+install:
+	@kind=$$(tools/build --launch) && \
+	echo "kc96: installing the $$kind program below $$DESTDIR$$PREFIX" && \
+	install -d "$$DESTDIR$$PREFIX/bin" "$$DESTDIR$$PREFIX/share/man/man1" "$$DESTDIR$$PREFIX/share/bash-completion/completions" && \
+	install -m 755 "out/$$kind/kc96" "$$DESTDIR$$PREFIX/bin/kc96" && \
+	install -m 644 man/kc96.1 "$$DESTDIR$$PREFIX/share/man/man1/kc96.1" && \
+	install -m 644 completion/kc96.bash "$$DESTDIR$$PREFIX/share/bash-completion/completions/kc96"
 
 uninstall:
-	rm -f "$(bin)/kc96" "$(man)/kc96.1" "$(completions)/kc96"
+	rm -f "$$DESTDIR$$PREFIX/bin/kc96" "$$DESTDIR$$PREFIX/share/man/man1/kc96.1" \
+	    "$$DESTDIR$$PREFIX/share/bash-completion/completions/kc96"
+
+dist:
+	@tools/dist
 
 check:
 	bash .ci/run

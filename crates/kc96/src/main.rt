@@ -1,40 +1,70 @@
 //! The kit's program: its words, the real files, standard output and standard error, and the status.
 #![tactic(auto)]
 
-use kc_base::{HostFiles, HostOut, Sink};
+use kc_base::{HostFiles, HostNotes, HostOut, Sink};
 use kc_kit::{Ended, Status, kit};
 use kc_trace::TraceOut;
 use std::env;
-use std::io::ErrorKind;
-use std::process::ExitCode;
+use std::io::{self, ErrorKind};
+use std::process::{self, ExitCode};
 
-// Want of memory before there are words.
-fn wanted<N: Sink>(notes: &mut TraceOut<N>) -> ExitCode {
-    Ended::by(Status::NoMemory).put_note(notes);
-    ExitCode::from(Status::NoMemory as u8)
+// The words behind the program's name. One that is no text is an error.
+fn words_of(rt: &HostRuntime) -> io::Result<Vec<String>> {
+    let mut words = Vec::new(rt.alloc());
+    for word in env::args(rt)?.skip(1) {
+        words.push(word)?;
+    }
+    Ok(words)
+}
+
+// Says what stood in the way of a file that could not be written.
+fn put_hindrance<N: Sink>(rt: &HostRuntime, error: io::Error, notes: &mut TraceOut<N>) {
+    if let Ok(text) = format!(in rt.alloc(); "kc96: note: {error}\n") {
+        notes.put_text(text.as_bytes());
+    }
+}
+
+// The answer to some words over the real files, and whether anyone may hear of it: not where the reader of the output has gone.
+fn answered<N: Sink>(
+    rt: &HostRuntime,
+    words: &[String],
+    notes: &mut TraceOut<N>,
+) -> (Status, bool) {
+    let mut files = HostFiles::new(rt, process::id(rt.process()));
+    let mut out = TraceOut::new(HostOut::new(rt));
+    let status = kit(rt.alloc(), words, &mut files, &mut out, notes);
+    if let Some(error) = files.hindrance() {
+        put_hindrance(rt, error, notes);
+    }
+    (status, !out.sink().is_unread())
+}
+
+// The answer where a word is no text: it is no command, as no words are.
+fn without_text<N: Sink>(rt: &HostRuntime, notes: &mut TraceOut<N>) -> (Status, bool) {
+    let standard_error = rt.stderr();
+    let mut unsaid = TraceOut::new(HostNotes::new(rt.alloc(), &standard_error));
+    let (status, is_heard) = answered(rt, &[], &mut unsaid);
+    if status == Status::Usage {
+        notes.put_text(b"kc96: error: a word is not UTF-8; see kc96 --help\n");
+    } else {
+        Ended::by(status).put_note(notes);
+    }
+    (status, is_heard)
 }
 
 fn main(rt: HostRuntime) -> ExitCode {
-    let alloc = rt.alloc();
     let standard_error = rt.stderr();
-    let mut notes = TraceOut::new(HostOut::new(&standard_error));
-    let mut words = Vec::new(alloc);
-    match env::args(&rt) {
-        Ok(args) => {
-            for word in args.skip(1) {
-                if words.push(word).is_err() {
-                    return wanted(&mut notes);
-                }
-            }
+    let mut notes = TraceOut::new(HostNotes::new(rt.alloc(), &standard_error));
+    let (status, is_heard) = match words_of(&rt) {
+        Ok(words) => answered(&rt, &words, &mut notes),
+        Err(error) if error.kind() == ErrorKind::InvalidData => without_text(&rt, &mut notes),
+        Err(_) => {
+            Ended::by(Status::NoMemory).put_note(&mut notes);
+            (Status::NoMemory, true)
         }
-        Err(error) => {
-            // (words that are no text are no command, as none are)
-            if error.kind() != ErrorKind::InvalidData {
-                return wanted(&mut notes);
-            }
-        }
+    };
+    if is_heard {
+        notes.sink().show();
     }
-    let mut files = HostFiles::new(&rt);
-    let mut out = TraceOut::new(HostOut::new(&rt));
-    ExitCode::from(kit(alloc, &words, &mut files, &mut out, &mut notes) as u8)
+    ExitCode::from(status as u8)
 }

@@ -1,3 +1,4 @@
+// What statements are to the steps behind the outline.
 use kc_asm_outline::{Anchor, Body, Note, opens, outline};
 use kc_asm_symbols::{Names, Segment, externals};
 use kc_base::NoMemory;

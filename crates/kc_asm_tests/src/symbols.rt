@@ -94,6 +94,12 @@ fn names_at_each_statement(rt: HostRuntime) {
         let parts = found.map(|value| (value.base, value.tag, value.number));
         assert!(rt; parts == *meant, "{name} at {index}");
     }
+    let meanings = entered(&rt, 2).expect(&rt, "the source is read");
+    let here = meanings.value(&Expr::Here).expect(&rt, "it has a place");
+    assert!(rt; here.base == Base::Absolute && here.number == 8320);
+    let last = meanings.last(b"V").expect(&rt, "it has a value");
+    assert!(rt; last.base == Base::Fixed && last.number == 2);
+    assert!(rt; meanings.last(b"A") == Err(NoValue::ToldElsewhere));
 }
 
 #[test]
@@ -111,14 +117,4 @@ fn externals_in_order(rt: HostRuntime) {
             "{name}"
         );
     }
-}
-
-#[test]
-fn values_and_publics(rt: HostRuntime) {
-    let meanings = entered(&rt, 2).expect(&rt, "the source is read");
-    let here = meanings.value(&Expr::Here).expect(&rt, "it has a place");
-    assert!(rt; here.base == Base::Absolute && here.number == 8320);
-    let last = meanings.last(b"V").expect(&rt, "it has a value");
-    assert!(rt; last.base == Base::Fixed && last.number == 2);
-    assert!(rt; meanings.last(b"A") == Err(NoValue::ToldElsewhere));
 }

@@ -3,7 +3,7 @@ ghost use Rattle.std.specs.Prelude.{◌≤◌, length, IfOk};
 
 use crate::{FILE_LIMIT, FileFault};
 use std::alloc::Global;
-use std::fs;
+use std::fs::{self, OpenFile};
 use std::io::{ErrorKind, Read};
 use std::rt::Files as FileSystem;
 
@@ -21,8 +21,8 @@ fn fault_of(kind: ErrorKind) -> FileFault {
     }
 }
 
-/// The bytes of a plain file of up to the limit. What is no plain file (a folder, a pipe, a device) is missing, and is not opened,
-/// since that may wait for ever.
+/// The bytes of a plain file of up to the limit. What is no plain file (a folder, a pipe, a device) is missing: it is not opened,
+/// since that may wait for ever, and where it has taken the place of a plain file just before that is opened, it is not read.
 pub(crate) fn read_plain<R: FileSystem>(
     system: &R,
     alloc: Global,
@@ -39,7 +39,23 @@ pub(crate) fn read_plain<R: FileSystem>(
         Err(error) => return Err(fault_of(error.kind())),
     }
     match fs::open(system, name) {
-        Ok(file) => read_all(alloc, file),
+        Ok(file) => read_opened(alloc, file),
+        Err(error) => Err(fault_of(error.kind())),
+    }
+}
+
+// The bytes of what was opened, where that is a plain file.
+fn read_opened<F: Read + OpenFile + Drop>(alloc: Global, file: F) -> Result<Vec<u8>, FileFault>
+    ensures { IfOk result (λ bytes. length bytes.items ≤ 1048576) }
+{
+    match file.metadata() {
+        Ok(found) => {
+            if found.is_file() {
+                read_all(alloc, file)
+            } else {
+                Err(FileFault::Missing)
+            }
+        }
         Err(error) => Err(fault_of(error.kind())),
     }
 }
@@ -62,7 +78,11 @@ fn read_all<F: Read + Drop>(alloc: Global, file: F) -> Result<Vec<u8>, FileFault
                     return Err(FileFault::NoMemory);
                 }
             }
-            Err(error) => return Err(fault_of(error.kind())),
+            Err(error) => {
+                if error.kind() != ErrorKind::Interrupted {
+                    return Err(fault_of(error.kind()));
+                }
+            }
         }
     }
     Err(FileFault::Failed)

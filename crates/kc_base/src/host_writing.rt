@@ -1,13 +1,16 @@
 // Real files, written whole or not at all.
+use crate::host_beside::{name_beside, remove_left};
 use std::alloc::{AllocError, Global};
-use std::fs::{self, OpenOptions};
-use std::io::{ErrorKind, Write};
+use std::fs::{self, OpenFile, OpenOptions, Permissions};
+use std::io::{self, ErrorKind, Write};
+use std::os::unix::fs::{OpenOptionsExt, PermissionsExt};
 use std::path::PathBuf;
+use std::random::RandomSource;
 use std::rt::Files as FileSystem;
 
 /// What stands in the way of a write.
 pub(crate) enum Stop {
-    Broken,
+    Broken(io::Error),
     NoMemory,
 }
 
@@ -17,111 +20,208 @@ impl From<AllocError> for Stop {
     }
 }
 
+impl From<io::Error> for Stop {
+    fn from(error: io::Error) -> Stop {
+        match error.kind() {
+            ErrorKind::OutOfMemory => Stop::NoMemory,
+            _ => Stop::Broken(error),
+        }
+    }
+}
+
+/// Where files are written, and the number of the process that writes them.
+#[derive(Drop)]
+pub(crate) struct Place<'a, R: FileSystem> {
+    pub(crate) system: &'a R,
+    pub(crate) alloc: Global,
+    pub(crate) process: u32,
+}
+
+// A folder that takes a file, and the rights that the file is to have, where one has the name.
+#[derive(Drop)]
+struct Target<'n, F> {
+    name: &'n str,
+    folder: Option<F>,
+    rights: Option<u32>,
+}
+
 /// Makes a file hold these bytes. A plain file is written beside its place and then takes it in one step, with the rights of the one
 /// before it: where something fails, the old one stands as it was. What is no plain file (a device, a pipe) is written into, and so
-/// is a file whose folder takes no new one.
-pub(crate) fn write_whole<R: FileSystem>(
-    system: &R,
-    alloc: Global,
+/// is a file whose folder takes no new one. What is written has reached the device, where the system says so of it.
+pub(crate) fn write_whole<R: FileSystem + RandomSource>(
+    place: &Place<'_, R>,
     name: &str,
     bytes: &[u8],
 ) -> Result<(), Stop> {
-    match fs::metadata(system, name) {
-        Ok(found) => {
-            if !found.is_file() {
-                return write_into(system, name, bytes);
-            }
-            match system.canonicalize(alloc, name) {
-                Ok(real) => replace(system, alloc, real.as_str(), bytes, true),
-                Err(_) => write_into(system, name, bytes),
-            }
-        }
-        Err(error) => {
-            if error.kind() == ErrorKind::NotFound && fs::symlink_metadata(system, name).is_err() {
-                replace(system, alloc, name, bytes, false)
-            } else {
-                // (a link that leads nowhere gets its file)
-                write_into(system, name, bytes)
-            }
-        }
+    match fs::metadata(place.system, name) {
+        Ok(found) if found.is_file() => write_over(place, name, bytes),
+        Ok(_) => write_into(place.system, name, bytes),
+        Err(error) if error.kind() == ErrorKind::NotFound => write_new(place, name, bytes),
+        Err(error) => Err(Stop::from(error)),
+    }
+}
+
+// Makes a name under which no file stands hold these bytes. A link that leads nowhere gets its file.
+fn write_new<R: FileSystem + RandomSource>(
+    place: &Place<'_, R>,
+    name: &str,
+    bytes: &[u8],
+) -> Result<(), Stop> {
+    match fs::symlink_metadata(place.system, name) {
+        Ok(_) => write_into(place.system, name, bytes),
+        Err(error) if error.kind() == ErrorKind::NotFound => replace(place, name, bytes, None),
+        Err(error) => Err(Stop::from(error)),
+    }
+}
+
+// Writes over a plain file, which has to be one that may be written. A link stays, and its file is written.
+fn write_over<R: FileSystem + RandomSource>(
+    place: &Place<'_, R>,
+    name: &str,
+    bytes: &[u8],
+) -> Result<(), Stop> {
+    let rights = Some(rights_of(place.system, name)?);
+    if !fs::symlink_metadata(place.system, name)?.is_symlink() {
+        return replace(place, name, bytes, rights);
+    }
+    match place.system.canonicalize(place.alloc, name) {
+        Ok(real) => replace(place, real.as_str(), bytes, rights),
+        Err(_) => write_into(place.system, name, bytes),
+    }
+}
+
+// The rights of a file that may be written. One that nobody may write is refused to everyone.
+fn rights_of<R: FileSystem>(system: &R, name: &str) -> io::Result<u32> {
+    let file = OpenOptions::new().write(true).open(system, name)?;
+    let rights = file.metadata()?.permissions();
+    if rights.readonly() {
+        return Err(io::Error::from(ErrorKind::PermissionDenied));
+    }
+    Ok(rights.mode() & 0o777)
+}
+
+// Sees that what was written to a file or a folder has reached the device. A pipe or a terminal knows no such thing.
+fn settle<F: OpenFile>(file: &F) -> io::Result<()> {
+    match file.sync_all() {
+        Ok(()) => Ok(()),
+        Err(error) => match error.kind() {
+            ErrorKind::InvalidInput | ErrorKind::Unsupported => Ok(()),
+            _ => Err(error),
+        },
     }
 }
 
 fn write_into<R: FileSystem>(system: &R, name: &str, bytes: &[u8]) -> Result<(), Stop> {
-    match fs::write(system, name, bytes) {
-        Ok(()) => Ok(()),
-        Err(_) => Err(Stop::Broken),
+    let mut file = fs::create(system, name)?;
+    file.write_all(bytes)?;
+    settle(&file)?;
+    Ok(())
+}
+
+// The folder of a name, to be settled later. One that may not be read is not settled.
+fn open_folder<R: FileSystem>(system: &R, folder: &str) -> io::Result<Option<R::File>> {
+    match fs::open(system, folder) {
+        Ok(file) => Ok(Some(file)),
+        Err(error) => match error.kind() {
+            ErrorKind::PermissionDenied => Ok(None),
+            _ => Err(error),
+        },
     }
 }
 
-// Names of files that are being written, beside the place that they are to take. More than one command may write there.
-const NAMES: [&str; 8] = [
-    ".kc96-0.new",
-    ".kc96-1.new",
-    ".kc96-2.new",
-    ".kc96-3.new",
-    ".kc96-4.new",
-    ".kc96-5.new",
-    ".kc96-6.new",
-    ".kc96-7.new",
-];
+// How often a file is begun beside a place, before the write is given up.
+const TURNS: u64 = 64;
 
-// Writes a new file beside the name and gives it the name; `was`: a file has the name now.
-fn replace<R: FileSystem>(
-    system: &R,
-    alloc: Global,
+// Writes a new file beside the name and gives it the name, with these rights where a file has it now.
+fn replace<R: FileSystem + RandomSource>(
+    place: &Place<'_, R>,
     name: &str,
     bytes: &[u8],
-    was: bool,
+    rights: Option<u32>,
 ) -> Result<(), Stop> {
-    let mut beside = PathBuf::from_str(alloc, name)?;
-    for other in NAMES {
-        beside.set_file_name(other)?;
-        match OpenOptions::new()
-            .write(true)
-            .create_new(true)
-            .open(system, &beside)
-        {
-            Ok(file) => return fill_and_rename(system, file, &beside, name, bytes, was),
-            Err(error) => match error.kind() {
-                ErrorKind::AlreadyExists => (),
-                ErrorKind::PermissionDenied if was => return write_into(system, name, bytes),
-                _ => return Err(Stop::Broken),
-            },
+    let mut folder = PathBuf::from_str(place.alloc, name)?;
+    folder.set_file_name(".")?;
+    remove_left(place.system, place.alloc, place.process, folder.as_str());
+    let target = Target {
+        name,
+        folder: open_folder(place.system, folder.as_str())?,
+        rights,
+    };
+    for turn in 0..TURNS {
+        if put_beside(place, &target, bytes, turn)? {
+            return Ok(());
         }
     }
-    Err(Stop::Broken)
+    Err(Stop::Broken(io::Error::from(ErrorKind::AlreadyExists)))
 }
 
-// Fills a new file and gives it the name, or removes it.
-fn fill_and_rename<R: FileSystem, F: Write + Drop>(
-    system: &R,
-    file: F,
-    beside: &PathBuf,
-    name: &str,
+// Opens a file that was not there. With rights it has at most these from the start.
+fn begin<R: FileSystem>(system: &R, beside: &PathBuf, rights: Option<u32>) -> io::Result<R::File> {
+    let mut options = OpenOptions::new();
+    options.write(true).create_new(true);
+    if let Some(rights) = rights {
+        options.mode(rights);
+    }
+    options.open(system, beside)
+}
+
+// Writes a new file beside a target and gives it the name. Whether it is done: another may have the new file's name, or take it away.
+fn put_beside<R: FileSystem + RandomSource>(
+    place: &Place<'_, R>,
+    target: &Target<'_, R::File>,
     bytes: &[u8],
-    was: bool,
-) -> Result<(), Stop> {
-    let mut file = file;
-    let is_whole = file.write_all(bytes).is_ok();
-    drop(file);
-    if is_whole
-        && has_rights(system, beside, name, was)
-        && fs::rename(system, beside, name).is_ok()
-    {
-        return Ok(());
+    turn: u64,
+) -> Result<bool, Stop> {
+    let other = name_beside(place.system, place.alloc, place.process, turn)?;
+    let mut beside = PathBuf::from_str(place.alloc, target.name)?;
+    beside.set_file_name(other.as_str())?;
+    match begin(place.system, &beside, target.rights) {
+        Ok(file) => take_name(place.system, file, &beside, target, bytes),
+        Err(error) => match error.kind() {
+            ErrorKind::AlreadyExists => Ok(false),
+            ErrorKind::PermissionDenied | ErrorKind::ReadOnlyFilesystem
+                if target.rights.is_some() => {
+                write_into(place.system, target.name, bytes)?;
+                Ok(true)
+            }
+            _ => Err(Stop::from(error)),
+        },
     }
-    let _ = fs::remove_file(system, beside);
-    Err(Stop::Broken)
 }
 
-// Gives a new file the rights of the one that has the name, if there is one.
-fn has_rights<R: FileSystem>(system: &R, beside: &PathBuf, name: &str, was: bool) -> bool {
-    if !was {
-        return true;
+// Fills a new file and gives it the name of a target, or removes it.
+fn take_name<R: FileSystem>(
+    system: &R,
+    file: R::File,
+    beside: &PathBuf,
+    target: &Target<'_, R::File>,
+    bytes: &[u8],
+) -> Result<bool, Stop> {
+    if let Err(error) = fill(file, bytes, target.rights) {
+        let _ = fs::remove_file(system, beside);
+        return Err(Stop::from(error));
     }
-    match fs::metadata(system, name) {
-        Ok(found) => fs::set_permissions(system, beside, found.permissions()).is_ok(),
-        Err(_) => false,
+    if let Err(error) = fs::rename(system, beside, target.name) {
+        let _ = fs::remove_file(system, beside);
+        return match error.kind() {
+            ErrorKind::NotFound => Ok(false),
+            _ => Err(Stop::from(error)),
+        };
     }
+    if let Some(folder) = &target.folder {
+        settle(folder)?;
+    }
+    Ok(true)
+}
+
+// Writes and settles a new file, with exactly these rights.
+fn fill<F: Write + OpenFile + Drop>(file: F, bytes: &[u8], rights: Option<u32>) -> io::Result<()> {
+    let mut file = file;
+    file.write_all(bytes)?;
+    if let Some(rights) = rights {
+        if file.metadata()?.permissions().mode() & 0o777 != rights {
+            file.set_permissions(Permissions::from_mode(rights))?;
+        }
+    }
+    settle(&file)
 }

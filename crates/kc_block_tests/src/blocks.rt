@@ -40,42 +40,30 @@ fn lends<L: Ledger>(
 {
     let mut steps = Steps::<L>::new(blank);
     block.advance(10, out, &mut steps);
-    assert_eq!(rt; block.due(), u64::MAX);
+    assert!(rt; block.due() == u64::MAX);
     // The period is written in state 9, and ends in 109 and 209.
-    assert_eq!(rt;
-        block.write8_here(Window::Window0, 0x02, 100, out, &mut steps),
-        Ok(())
-    );
-    assert_eq!(rt; block.due(), 109);
+    assert!(rt; block.write8_here(Window::Window0, 0x02, 100, out, &mut steps) == Ok(()));
+    assert!(rt; block.due() == 109);
     for (state, shown) in [(10, 100), (60, 50), (109, 1), (110, 100), (209, 1)] {
         assert!(rt; block.time() <= state);
         block.advance(state, out, &mut steps);
-        assert_eq!(rt; left(rt, block), (shown, u64::from(shown)));
+        assert!(rt; left(rt, block) == (shown, u64::from(shown)));
     }
-    assert_eq!(rt; block.due(), 209);
-    assert_eq!(rt; block.requests().pending, 64);
+    assert!(rt; block.due() == 209);
+    assert!(rt; block.requests().pending == 64);
     // A read of the lamps tells once that a period has ended; a look does not take it away.
     for shown in [0x82, 0x02] {
-        assert_eq!(rt; block.look(Window::Window1, 0x16), shown);
-        assert_eq!(rt;
-            block.read8_here(Window::Window1, 0x16, &mut steps),
-            Ok(shown)
-        );
+        assert!(rt; block.look(Window::Window1, 0x16) == shown);
+        assert!(rt; block.read8_here(Window::Window1, 0x16, &mut steps) == Ok(shown));
     }
-    assert_eq!(rt;
-        block.read8_here(Window::Window15, 0x16, &mut steps),
-        Err(Kind::NoRegister)
-    );
-    assert_eq!(rt;
-        block.read8_here(Window::Window1, 0x02, &mut steps),
-        Err(Kind::NoRegister)
-    );
-    assert_eq!(rt; block.look(Window::Window15, 0x16), 0);
+    assert!(rt; block.read8_here(Window::Window15, 0x16, &mut steps) == Err(Kind::NoRegister));
+    assert!(rt; block.read8_here(Window::Window1, 0x02, &mut steps) == Err(Kind::NoRegister));
+    assert!(rt; block.look(Window::Window15, 0x16) == 0);
     // The beacon was not moved state by state; the other lent units are as at the start.
     assert!(rt; block.extra().moves() < 100);
-    assert_eq!(rt; block.timer2().value(), 0);
-    assert_eq!(rt; block.hso().moves(), 0);
-    assert_eq!(rt; block.hsi().moves(), 0);
+    assert!(rt; block.timer2().value() == 0);
+    assert!(rt; block.hso().moves() == 0);
+    assert!(rt; block.hsi().moves() == 0);
     for unit in 0..4 {
         assert!(rt; block.standing(unit) <= 209);
     }

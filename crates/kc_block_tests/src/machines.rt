@@ -69,41 +69,23 @@ fn is_right<X: Extra + Drop>(alloc: Global, row: &Row, extra: X) -> Result<bool,
     Ok(ran && printed && held)
 }
 
+// A beacon alone, and as either of a pair.
 #[test]
-fn a_machine_with_a_beacon(rt: HostRuntime) -> Result<(), Fail> {
+fn machines_with_a_beacon(rt: HostRuntime) -> Result<(), Fail> {
     for row in &ROWS {
+        let first = Pair::of(Beacon::new(), NoExtra::new());
+        let second = Pair::of(NoExtra::new(), Beacon::new());
         assert!(rt; is_right(rt.alloc(), row, Beacon::new())?, "{}", row.shows);
+        assert!(rt; is_right(rt.alloc(), row, first)?, "{}", row.shows);
+        assert!(rt; is_right(rt.alloc(), row, second)?, "{}", row.shows);
     }
-    Ok(())
-}
-
-#[test]
-fn a_machine_with_a_beacon_as_the_first_of_a_pair(rt: HostRuntime) -> Result<(), Fail> {
-    for row in &ROWS {
-        let pair = Pair::of(Beacon::new(), NoExtra::new());
-        assert!(rt; is_right(rt.alloc(), row, pair)?, "{}", row.shows);
-    }
-    Ok(())
-}
-
-#[test]
-fn a_machine_with_a_beacon_as_the_second_of_a_pair(rt: HostRuntime) -> Result<(), Fail> {
-    for row in &ROWS {
-        let pair = Pair::of(NoExtra::new(), Beacon::new());
-        assert!(rt; is_right(rt.alloc(), row, pair)?, "{}", row.shows);
-    }
-    Ok(())
-}
-
-#[test]
-fn a_machine_with_a_pair_of_two(rt: HostRuntime) -> Result<(), Fail> {
     let one = Pair::of(Beacon::new(), Metronome::new());
+    let other = Pair::of(Metronome::new(), Beacon::new());
     assert!(rt;
         is_right(rt.alloc(), &ROW_OF_TWO, one)?,
         "{}",
         ROW_OF_TWO.shows
     );
-    let other = Pair::of(Metronome::new(), Beacon::new());
     assert!(rt;
         is_right(rt.alloc(), &ROW_OF_TWO, other)?,
         "{}",

@@ -1,9 +1,11 @@
 // Pins, texts, files and sinks by examples that were worked by hand.
 use kc_base::{
-    FILE_LIMIT, FileFault, Files, HostFiles, HostOut, Image, MemFiles, MemSink, PIN_COUNT, Pin,
-    Sink, Text, after, first_line, front, put_all,
+    FILE_LIMIT, FileFault, Files, HostFiles, HostNotes, HostOut, Image, MemFiles, MemSink,
+    PIN_COUNT, Pin, Sink, Text, after, first_line, front, put_all,
 };
 use std::alloc::{AllocError, Global};
+use std::io::ErrorKind;
+use std::process;
 use std::test::Fail;
 
 fn numbers(alloc: Global, items: &[u64]) -> Result<Vec<u64>, AllocError> {
@@ -99,14 +101,16 @@ fn an_image_keeps_its_bytes(rt: HostRuntime) -> Result<(), Fail> {
 #[test]
 fn host_files_are_read_and_written(rt: HostRuntime) -> Result<(), Fail> {
     let a = rt.alloc();
-    let mut files = HostFiles::new(&rt);
+    let mut files = HostFiles::new(&rt, process::id(rt.process()));
     assert!(rt; files.write(a, "kc_base_host.tmp", b"bytes") == Ok(()));
     assert!(rt; files.read(a, "kc_base_host.tmp")?.as_slice() == b"bytes".as_slice());
     assert!(rt; files.read(a, "kc_base_none.tmp").err() == Some(FileFault::Missing));
     assert!(rt; files.read(a, ".").err() == Some(FileFault::Missing));
     assert!(rt; files.read(a, "kc_base_host.tmp/x").err() == Some(FileFault::Missing));
     assert!(rt; files.read(a, "/dev/zero").err() == Some(FileFault::Missing));
+    assert!(rt; files.hindrance().is_none());
     assert!(rt; files.write(a, "kc_base_none/x", b"lost") == Err(FileFault::Failed));
+    assert!(rt; files.hindrance().map(|e| e.kind()) == Some(ErrorKind::NotFound));
     assert!(rt; files.write(a, "kc_base_host.tmp", b"new") == Ok(()));
     assert!(rt; files.read(a, "kc_base_host.tmp")?.as_slice() == b"new".as_slice());
     std::fs::remove_file(&rt, "kc_base_host.tmp")?;
@@ -117,4 +121,8 @@ fn host_files_are_read_and_written(rt: HostRuntime) -> Result<(), Fail> {
 fn host_output_takes_bytes(rt: HostRuntime) {
     let mut out = HostOut::new(&rt);
     assert!(rt; put_all(&mut out, b"kc_base\n").is_ok());
+    assert!(rt; !out.is_unread());
+    let mut notes = HostNotes::new(rt.alloc(), &rt);
+    assert!(rt; put_all(&mut notes, b"kc_base\n").is_ok());
+    notes.show();
 }

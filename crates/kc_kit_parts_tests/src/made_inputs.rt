@@ -46,7 +46,7 @@ fn part_of(alloc: Global, number: u16, part: u8) -> Result<Vec<u8>, Fail>
 
 // Part 3 are the stimuli.
 #[test]
-fn texts_have_their_lengths_and_checksums(rt: HostRuntime) -> Result<(), Fail> {
+fn texts_have_their_lengths_checksums_and_lines(rt: HostRuntime) -> Result<(), Fail> {
     let rows: [(u16, u8, usize, u32); 12] = [
         (0, 0, 200, 0x7FA9_2D17),
         (0, 1, 173, 0x1468_27E0),
@@ -64,14 +64,9 @@ fn texts_have_their_lengths_and_checksums(rt: HostRuntime) -> Result<(), Fail> {
     for (number, part, len, sum) in rows {
         assert!(rt; part < 4);
         let text = part_of(rt.alloc(), number, part)?;
-        assert_eq!(rt; text.len(), len, "part {part} of {number}");
-        assert_eq!(rt; checksum(text.as_slice()), sum, "part {part} of {number}");
+        assert!(rt; text.len() == len, "part {part} of {number}");
+        assert!(rt; checksum(text.as_slice()) == sum, "part {part} of {number}");
     }
-    Ok(())
-}
-
-#[test]
-fn lines_stand_at_their_places(rt: HostRuntime) -> Result<(), Fail> {
     let rows: [(u16, u8, u32, &[u8]); 14] = [
         (7, 0, 8, b" LD 18H,#STACK"),
         (7, 1, 11, b" HSO 36H,17"),
@@ -91,9 +86,8 @@ fn lines_stand_at_their_places(rt: HostRuntime) -> Result<(), Fail> {
     for (number, part, place, line) in rows {
         assert!(rt; part < 4);
         let text = part_of(rt.alloc(), number, part)?;
-        assert_eq!(rt;
-            line_of(text.as_slice(), place),
-            Some(line),
+        assert!(rt;
+            line_of(text.as_slice(), place) == Some(line),
             "line {place} of part {part} of {number}"
         );
     }

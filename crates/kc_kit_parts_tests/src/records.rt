@@ -1,61 +1,6 @@
-use kc_base::{Edge, EdgeOut, Kind, Level, MemSink, NoMemory, Pin, PtsMode, Undefined};
-use kc_trace::{Record, TraceOut, line};
+use kc_base::{Edge, EdgeOut, Level, MemSink, NoMemory, Pin, PtsMode};
+use kc_trace::{Record, TraceOut};
 use std::alloc::Global;
-
-#[test]
-fn records_are_spelled_as_lines(rt: HostRuntime) {
-    let high = Edge {
-        pin: Pin(16),
-        level: Level::High,
-    };
-    let mut bytes = [0u8; 32];
-    bytes[24] = 0xFE;
-    let table = [
-        (Record::Pin { at: 82, edge: high }, "P 82 P26 1\n"),
-        (
-            Record::Entered {
-                at: 92,
-                vector: 7,
-                back: 0x20A2,
-            },
-            "I 92 7 20A2\n",
-        ),
-        (
-            Record::Served {
-                at: 145,
-                vector: 2,
-                mode: PtsMode::Hsi,
-                count: 1,
-            },
-            "S 145 2 hsi 1\n",
-        ),
-        (
-            Record::Undef(Undefined {
-                kind: Kind::DivZero,
-                at: 23,
-                addr: 0x2080,
-            }),
-            "U 23 10 2080\n",
-        ),
-        (
-            Record::Stopped {
-                at: 1_000_000_000_000,
-                how: 0,
-            },
-            "X 1000000000000 spent\n",
-        ),
-        (Record::Pc(0x208E), "PC 208E\n"),
-        (Record::Psw(0x0680), "PSW 0680\n"),
-        (Record::Wsr(0x48), "WSR 48\n"),
-        (
-            Record::Registers { base: 0x1E0, bytes },
-            "R 1E0 000000000000000000000000000000000000000000000000FE00000000000000\n",
-        ),
-    ];
-    for (item, text) in table {
-        assert!(rt; line(&item).as_slice() == text.as_bytes());
-    }
-}
 
 fn put_three(out: &mut TraceOut<MemSink>) {
     let low = Edge {
@@ -101,11 +46,8 @@ fn a_trace_stops_at_the_first_fault(rt: HostRuntime) -> Result<(), std::test::Fa
         put_three(&mut out);
         let counts = out.counts();
         assert!(rt; out.sink().written() == text.as_bytes());
-        assert_eq!(rt;
-            (counts.pins, counts.entries, counts.cycles),
-            (pins, entries, cycles)
-        );
-        assert_eq!(rt; out.failed(), failed);
+        assert!(rt; (counts.pins, counts.entries, counts.cycles) == (pins, entries, cycles));
+        assert!(rt; out.failed() == failed);
     }
     Ok(())
 }

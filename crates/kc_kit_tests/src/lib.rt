@@ -1,39 +1,8 @@
-//! Tests of whole command lines, over files and a sink in memory.
+//! Tests of what no real file shows: calls of files and sinks that fail, and a sink that takes little. What command lines do over
+//! files that are read and written stands in the rows of `tests/`.
 #![tactic(auto)]
 
 #[cfg(test)]
-mod board;
-#[cfg(test)]
-mod codes;
-#[cfg(test)]
-mod converter;
-#[cfg(test)]
-mod debugger;
-#[cfg(test)]
-mod libraries;
-#[cfg(test)]
-mod lines;
-#[cfg(test)]
-mod linking;
-#[cfg(test)]
-mod lives;
-#[cfg(test)]
-mod made;
+mod faults;
 #[cfg(test)]
 mod narrow;
-#[cfg(test)]
-mod notes;
-#[cfg(test)]
-mod outside;
-#[cfg(test)]
-mod profiles;
-#[cfg(test)]
-mod serial;
-#[cfg(test)]
-mod sources;
-#[cfg(test)]
-mod stimuli;
-#[cfg(test)]
-mod waveforms;
-#[cfg(test)]
-mod whole;

@@ -1,4 +1,5 @@
-//! Tests of the machine, of its lives, of its profile and of the debugger's scripts, over boards without a further unit.
+//! Tests of what no command shows of the machine: no memory for a life, states that are counted over two runs, and a debugger
+//! whose output fails; over boards without a further unit.
 #![tactic(auto)]
 
 #[cfg(test)]
@@ -7,9 +8,5 @@ mod board;
 mod lives;
 #[cfg(test)]
 mod profile;
-#[cfg(test)]
-mod program;
-#[cfg(test)]
-mod rows;
 #[cfg(test)]
 mod script;

@@ -2,9 +2,8 @@ ghost use Rattle.std.specs.Prelude.{◌≤◌, ◌*◌, ◌^◌};
 ghost use Rattle.kc_base.specs.Fresh.{IsFresh};
 
 use kc_base::{Level, StateTime, Steps};
-use kc_convert::{Analog, AnalogFault, Converter, Pulses};
+use kc_convert::{Analog, Converter, Pulses};
 use kc_extra::{Extra, Pair};
-use std::alloc::Global;
 use std::marker::Brand;
 use std::process::Abort;
 use std::sync::ledger::{Blank, Ledger};
@@ -15,61 +14,6 @@ const COMMAND: u8 = 0x02;
 const RESULT_HIGH: u8 = 0x03;
 
 const WIDTH: u8 = 0x17;
-
-// The line at which a file is refused; 0 for want of memory, and for a file that is too long to be read.
-fn bad_line(alloc: Global, bytes: &[u8]) -> Option<u32> {
-    if bytes.len() > 1_048_576 {
-        return Some(0);
-    }
-    match Analog::read(alloc, bytes) {
-        Ok(_) => None,
-        Err(AnalogFault::BadLine(line)) => Some(line),
-        Err(AnalogFault::NoMemory) => Some(0),
-    }
-}
-
-#[test]
-fn each_fault_comes_at_its_line(rt: HostRuntime) {
-    let rows: [(&[u8], Option<u32>); 22] = [
-        (b"", None),
-        (b"@5 0 1", None),
-        (b"; no line\n\n@007 7 0001023\r\n", None),
-        (b"@1000000000000000 0 0\n", None),
-        (b"@5 0 1\n@5 1 1\n@6 0 1\n", None),
-        (b"@1000000000000001 0 0\n", Some(1)),
-        (b"@5 0 1\r", Some(1)),
-        (b"@5  0 1\n", Some(1)),
-        (b"@5 0 1 \n", Some(1)),
-        (b"@5 8 1\n", Some(1)),
-        (b"@5 00 1\n", Some(1)),
-        (b"@5 0 1024\n", Some(1)),
-        (b"@5 0 1H\n", Some(1)),
-        (b"@ 0 1\n", Some(1)),
-        (b"@5 0\n", Some(1)),
-        (b"5 0 1\n", Some(1)),
-        (b" \n", Some(1)),
-        (b" ; no line\n", Some(1)),
-        (b"@5 0 1\n@4 1 1\n", Some(2)),
-        (b"@5 0 1\n@5 0 1\n", Some(2)),
-        (b"\n@5 0 1\n@5 1 1\n@5 0 2\n", Some(4)),
-        (b"@5 0 1\n\n@6 0 x\n@4 0 1\n", Some(3)),
-    ];
-    for (bytes, line) in rows {
-        assert_eq!(rt; bad_line(rt.alloc(), bytes), line);
-    }
-}
-
-#[test]
-fn the_65537th_value_is_refused(rt: HostRuntime) -> Result<(), Fail> {
-    let mut text = String::from_str(rt.alloc(), "; values\n")?;
-    for n in 0..65_536u32 {
-        write!(text, "@{n} 0 {}\n", n % 1024)?;
-    }
-    assert_eq!(rt; bad_line(rt.alloc(), text.as_bytes()), None);
-    text.push_str("@65536 1 1\n")?;
-    assert_eq!(rt; bad_line(rt.alloc(), text.as_bytes()), Some(65_538));
-    Ok(())
-}
 
 #[test]
 fn a_value_stands_until_the_next_one_of_its_channel(rt: HostRuntime) -> Result<(), Fail> {
@@ -89,10 +33,10 @@ fn a_value_stands_until_the_next_one_of_its_channel(rt: HostRuntime) -> Result<(
         (7, 20, 0),
     ];
     for (channel, at, value) in rows {
-        assert_eq!(rt; first.value(channel, at), value, "at {at}");
-        assert_eq!(rt; values.value(channel, at), value, "at {at}");
+        assert!(rt; first.value(channel, at) == value, "at {at}");
+        assert!(rt; values.value(channel, at) == value, "at {at}");
     }
-    assert_eq!(rt; Analog::none(rt.alloc()).value(2, 10), 0);
+    assert!(rt; Analog::none(rt.alloc()).value(2, 10) == 0);
     Ok(())
 }
 
@@ -132,29 +76,29 @@ fn result(converter: &mut Converter, now: StateTime) -> (Option<u8>, Option<u8>)
 fn converts<L: Ledger>(rt: &impl Abort, values: Analog, steps: &mut Steps<L>) {
     let mut converter = Converter::new(values, 1000);
     assert!(rt; converter.write(0, COMMAND, 0x0A, 10));
-    assert_eq!(rt; result(&mut converter, 10), (Some(0x0A), Some(0)));
+    assert!(rt; result(&mut converter, 10) == (Some(0x0A), Some(0)));
     for t in 11..90u64 {
-        assert_eq!(rt; raised(&mut converter, t, steps), 0, "at {t}");
+        assert!(rt; raised(&mut converter, t, steps) == 0, "at {t}");
     }
-    assert_eq!(rt; result(&mut converter, 89), (Some(0x0A), Some(0)));
-    assert_eq!(rt; raised(&mut converter, 90, steps), 2);
-    assert_eq!(rt; result(&mut converter, 90), (Some(0x42), Some(0xC2)));
+    assert!(rt; result(&mut converter, 89) == (Some(0x0A), Some(0)));
+    assert!(rt; raised(&mut converter, 90, steps) == 2);
+    assert!(rt; result(&mut converter, 90) == (Some(0x42), Some(0xC2)));
     // In the state in which one ends the next begins, and is itself ended before its result.
     converter.write(0, COMMAND, 0x0B, 90);
-    assert_eq!(rt; result(&mut converter, 90), (Some(0x4B), Some(0xC2)));
+    assert!(rt; result(&mut converter, 90) == (Some(0x4B), Some(0xC2)));
     converter.start(169);
-    assert_eq!(rt; ended(&mut converter, 170, steps), 249);
-    assert_eq!(rt; result(&mut converter, 249), (Some(0xC3), Some(0xFF)));
+    assert!(rt; ended(&mut converter, 170, steps) == 249);
+    assert!(rt; result(&mut converter, 249) == (Some(0xC3), Some(0xFF)));
     // A command without GO begins nothing, but says the channel of the next start.
     converter.write(0, COMMAND, 0xF2, 250);
-    assert_eq!(rt; ended(&mut converter, 251, steps), 0);
-    assert_eq!(rt; result(&mut converter, 251), (Some(0xC3), Some(0xFF)));
+    assert!(rt; ended(&mut converter, 251, steps) == 0);
+    assert!(rt; result(&mut converter, 251) == (Some(0xC3), Some(0xFF)));
     converter.start(300);
     converter.write(0, COMMAND, 0xF1, 300);
-    assert_eq!(rt; ended(&mut converter, 301, steps), 380);
-    assert_eq!(rt; result(&mut converter, 381), (Some(0x82), Some(1)));
+    assert!(rt; ended(&mut converter, 301, steps) == 380);
+    assert!(rt; result(&mut converter, 381) == (Some(0x82), Some(1)));
     assert!(rt; !converter.write(1, COMMAND, 0x0A, 381));
-    assert_eq!(rt; converter.look(0, WIDTH, 381), None);
+    assert!(rt; converter.look(0, WIDTH, 381) == None);
 }
 
 // The edge of a state of the first output: its level, if it has one.
@@ -179,7 +123,7 @@ fn pulses_from<L: Ledger>(rt: &impl Abort, width: u8, phase: u8, steps: &mut Ste
             place if t >= 256 && place == u64::from(width) && width > 0 => Some(Level::Low),
             _ => None,
         };
-        assert_eq!(rt; edge(&mut pulses, t, steps), wanted, "at {t}");
+        assert!(rt; edge(&mut pulses, t, steps) == wanted, "at {t}");
     }
 }
 
@@ -203,14 +147,14 @@ fn edge_from<L: Ledger>(pulses: &mut Pulses, now: StateTime, steps: &mut Steps<L
 // Width 4 from state 256 on, by the edges alone, and none any more.
 fn pulses_are_due<L: Ledger>(rt: &impl Abort, steps: &mut Steps<L>) {
     let mut pulses = Pulses::new();
-    assert_eq!(rt; edge_from(&mut pulses, 0, steps), 0);
+    assert!(rt; edge_from(&mut pulses, 0, steps) == 0);
     pulses.write(0, WIDTH, 4, 3);
-    assert_eq!(rt; edge_from(&mut pulses, 4, steps), 256);
-    assert_eq!(rt; edge_from(&mut pulses, 257, steps), 260);
-    assert_eq!(rt; edge_from(&mut pulses, 261, steps), 512);
+    assert!(rt; edge_from(&mut pulses, 4, steps) == 256);
+    assert!(rt; edge_from(&mut pulses, 257, steps) == 260);
+    assert!(rt; edge_from(&mut pulses, 261, steps) == 512);
     pulses.write(0, WIDTH, 0, 512);
-    assert_eq!(rt; edge_from(&mut pulses, 513, steps), 516);
-    assert_eq!(rt; edge_from(&mut pulses, 517, steps), 0);
+    assert!(rt; edge_from(&mut pulses, 513, steps) == 516);
+    assert!(rt; edge_from(&mut pulses, 517, steps) == 0);
 }
 
 fn pulses<L: Ledger>(rt: &impl Abort, steps: &mut Steps<L>) {
@@ -230,22 +174,22 @@ fn joins<L: Ledger>(rt: &impl Abort, values: Analog, steps: &mut Steps<L>) {
     assert!(rt; pair.write(0, COMMAND, 0x09, 176));
     match pair.due(177, steps) {
         Some(due) if due <= 1000 => {
-            assert_eq!(rt; due, 256);
+            assert!(rt; due == 256);
             pair.quiet_to(177, due, steps);
         }
         _ => panic!(rt; "nothing is due"),
     }
     let out = pair.tick(256, 0, 0, steps);
-    assert_eq!(rt; out.raised.0, 2);
+    assert!(rt; out.raised.0 == 2);
     match out.moved.as_slice() {
         [first, third] => {
-            assert_eq!(rt; (first.pin.0, third.pin.0), (38, 40));
+            assert!(rt; (first.pin.0, third.pin.0) == (38, 40));
             assert!(rt; first.level == Level::High && third.level == Level::High);
         }
         _ => panic!(rt; "no two edges"),
     }
-    assert_eq!(rt; pair.due(257, steps), Some(257));
-    assert_eq!(rt; pair.look(0, COMMAND, 257), Some(0x41));
+    assert!(rt; pair.due(257, steps) == Some(257));
+    assert!(rt; pair.look(0, COMMAND, 257) == Some(0x41));
 }
 
 fn all<L: Ledger>(rt: &impl Abort, values: [Analog; 2], blank: Blank)

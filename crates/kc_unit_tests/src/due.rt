@@ -3,7 +3,7 @@ use kc_due::DueList;
 #[test]
 fn first_after_each_change(rt: HostRuntime) {
     let mut list = DueList::new();
-    assert_eq!(rt; list.first(), None);
+    assert!(rt; list.first() == None);
     for (slot, at, first) in [
         (3, Some(50), Some((3, 50))),
         (7, Some(20), Some((7, 20))),
@@ -21,8 +21,8 @@ fn first_after_each_change(rt: HostRuntime) {
             Some(at) => list.set(slot, at),
             None => list.clear(slot),
         }
-        assert_eq!(rt; list.time_of(slot), at);
-        assert_eq!(rt; list.first(), first);
+        assert!(rt; list.time_of(slot) == at);
+        assert!(rt; list.first() == first);
     }
 }
 
@@ -34,8 +34,8 @@ fn sixteen_slots_in_order_of_time(rt: HostRuntime) {
     }
     for time in 0..16u8 {
         let slot = (time * 13 + 9) % 16;
-        assert_eq!(rt; list.first(), Some((slot, time as u64)));
+        assert!(rt; list.first() == Some((slot, time as u64)));
         list.clear(slot);
     }
-    assert_eq!(rt; list.first(), None);
+    assert!(rt; list.first() == None);
 }

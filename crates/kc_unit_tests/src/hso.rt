@@ -50,18 +50,18 @@ fn spans<L: Ledger>(rt: &impl Abort, steps: &mut Steps<L>) {
     for _ in 0..200_000u32 {
         let mut hso = Hso::new();
         hso.command(0x00);
-        assert_eq!(rt; hso.load_time(0xFFFF, false), Ok(()));
-        assert_eq!(rt; hso.tick(0, 0, false, steps), LOADED);
+        assert!(rt; hso.load_time(0xFFFF, false) == Ok(()));
+        assert!(rt; hso.tick(0, 0, false, steps) == LOADED);
         assert!(rt; goes_to(&mut hso, 1, 524_280, STANDING, steps));
-        assert_eq!(rt; hso.tick(524_280, 0, false, steps), fired);
+        assert!(rt; hso.tick(524_280, 0, false, steps) == fired);
     }
     let mut hso = Hso::new();
     hso.command(0x40);
-    assert_eq!(rt; hso.load_time(5, false), Ok(()));
-    assert_eq!(rt; hso.tick(0, 0, false, steps), LOADED);
+    assert!(rt; hso.load_time(5, false) == Ok(()));
+    assert!(rt; hso.tick(0, 0, false, steps) == LOADED);
     assert!(rt; goes_to(&mut hso, 1, 1_000_000_000_000_000, STANDING, steps));
-    assert_eq!(rt; hso.ios0(), 0);
-    assert_eq!(rt; hso.moves(), 2);
+    assert!(rt; hso.ios0() == 0);
+    assert!(rt; hso.moves() == 2);
 }
 
 /// The next state from `now` on in which the unit fires, if it does before state 10^10; the unit is then past it.
@@ -147,13 +147,13 @@ fn fire_states<L: Ledger>(rt: &impl Abort, steps: &mut Steps<L>) {
         let first = T2View { value, every, down };
         let mut hso = Hso::new();
         hso.command(command);
-        assert_eq!(rt; hso.load_time(time, false), Ok(()));
-        assert_eq!(rt; hso.tick(load, value, keep, steps), LOADED);
+        assert!(rt; hso.load_time(time, false) == Ok(()));
+        assert!(rt; hso.tick(load, value, keep, steps) == LOADED);
         let mut now: StateTime = load + 1;
         for state in fired {
             assert!(rt; now < 10_000_000_000);
             let t2 = seen_at(first, now);
-            assert_eq!(rt; next_fired(rt, &mut hso, now, t2, keep, steps), state);
+            assert!(rt; next_fired(rt, &mut hso, now, t2, keep, steps) == state);
             now = match state {
                 Some(at) => at + 1,
                 None => now,
@@ -166,30 +166,30 @@ fn fire_states<L: Ledger>(rt: &impl Abort, steps: &mut Steps<L>) {
 fn full<L: Ledger>(rt: &impl Abort, steps: &mut Steps<L>) {
     let mut hso = Hso::new();
     hso.command(0x26);
-    assert_eq!(rt; hso.load_time(0, false), Ok(()));
-    assert_eq!(rt; hso.ios0(), 0xC0);
-    assert_eq!(rt; hso.tick(0, 0, false, steps), LOADED);
+    assert!(rt; hso.load_time(0, false) == Ok(()));
+    assert!(rt; hso.ios0() == 0xC0);
+    assert!(rt; hso.tick(0, 0, false, steps) == LOADED);
     assert!(rt; hso.tick(524_288, 0, false, steps).command == Some(0x26));
-    assert_eq!(rt; hso.ios0(), 0x03);
+    assert!(rt; hso.ios0() == 0x03);
     assert!(rt; hso.latch(1));
     assert!(rt; !hso.has_timer2());
     hso.command(0x40);
     for slot in 0..8u64 {
-        assert_eq!(rt; hso.load_time(9, false), Ok(()));
+        assert!(rt; hso.load_time(9, false) == Ok(()));
         assert!(rt; hso.has_timer2());
-        assert_eq!(rt; hso.tick(slot, 0, false, steps), LOADED);
+        assert!(rt; hso.tick(slot, 0, false, steps) == LOADED);
     }
-    assert_eq!(rt; hso.ios0(), 0x43);
-    assert_eq!(rt; hso.load_time(9, true), Err(Kind::FastTimer2));
+    assert!(rt; hso.ios0() == 0x43);
+    assert!(rt; hso.load_time(9, true) == Err(Kind::FastTimer2));
     hso.command(0x4C);
-    assert_eq!(rt; hso.load_time(9, true), Err(Kind::Channel));
+    assert!(rt; hso.load_time(9, true) == Err(Kind::Channel));
     hso.command(0x00);
-    assert_eq!(rt; hso.load_time(9, true), Ok(()));
+    assert!(rt; hso.load_time(9, true) == Ok(()));
     hso.command(0x4C);
-    assert_eq!(rt; hso.load_time(9, true), Err(Kind::HoldingFull));
-    assert_eq!(rt; hso.ios0(), 0xC3);
+    assert!(rt; hso.load_time(9, true) == Err(Kind::HoldingFull));
+    assert!(rt; hso.ios0() == 0xC3);
     hso.clear();
-    assert_eq!(rt; hso.ios0(), 0x03);
+    assert!(rt; hso.ios0() == 0x03);
     assert!(rt; !hso.has_timer2());
 }
 

@@ -43,7 +43,7 @@ fn requests_are_chosen_in_order(rt: HostRuntime) {
         (requests(0, 0xFFFF, 0xFFFF, 0x8000), true, true, Choice::Go),
     ];
     for (given, pse, enabled, want) in table {
-        assert_eq!(rt; given.choose(pse, enabled), want);
+        assert!(rt; given.choose(pse, enabled) == want);
     }
 }
 
@@ -51,13 +51,13 @@ fn requests_are_chosen_in_order(rt: HostRuntime) {
 fn requests_change_one_bit(rt: HostRuntime) {
     let mut all = requests(0x8000, 3, 0x84, 0x80);
     all.raise(IntSet(0x0005));
-    assert_eq!(rt; all, requests(0x8005, 3, 0x84, 0x80));
+    assert!(rt; all == requests(0x8005, 3, 0x84, 0x80));
     all.taken(2);
-    assert_eq!(rt; all, requests(0x8001, 3, 0x84, 0x80));
+    assert!(rt; all == requests(0x8001, 3, 0x84, 0x80));
     all.ended(2);
-    assert_eq!(rt; all, requests(0x8001, 3, 0x80, 0x84));
+    assert!(rt; all == requests(0x8001, 3, 0x80, 0x84));
     all.entered(7);
-    assert_eq!(rt; all, requests(0x8001, 3, 0x80, 0x04));
+    assert!(rt; all == requests(0x8001, 3, 0x80, 0x04));
     all.entered(15);
-    assert_eq!(rt; all, requests(0x0001, 3, 0x80, 0x04));
+    assert!(rt; all == requests(0x0001, 3, 0x80, 0x04));
 }

@@ -1,8 +1,6 @@
-//! Tests of the units of the board and of the transfer server, each over the public calls of its crate; and a bus whose
-//! special function registers keep what is written.
+//! Tests of the units of the board, each over the public calls of its crate, and of what no program shows of instructions.
 #![tactic(auto)]
 
-mod board;
 #[cfg(test)]
 mod convert;
 #[cfg(test)]
@@ -14,11 +12,9 @@ mod hsi;
 #[cfg(test)]
 mod hso;
 #[cfg(test)]
+mod instructions;
+#[cfg(test)]
 mod intc;
-#[cfg(test)]
-mod modes;
-#[cfg(test)]
-mod pts;
 #[cfg(test)]
 mod serial;
 #[cfg(test)]

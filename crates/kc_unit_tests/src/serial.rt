@@ -143,7 +143,7 @@ fn receives<L: Ledger>(rt: &impl Abort, steps: &mut Steps<L>) {
     let mut port = Wired::at_rate(0, 9);
     for t in 100..177u64 {
         let (raised, _) = port.state(t, t % 16 >= 12 || t % 16 < 4, steps);
-        assert_eq!(rt; raised, if t == 176 { 0x240 } else { 0 }, "at {t}");
+        assert!(rt; raised == (if t == 176 { 0x240 } else { 0 }), "at {t}");
     }
     assert!(rt; port.port.look(0, CONTROL, 177) == Some(0x48));
     assert!(rt; port.take(SBUF) == Some(0x55));

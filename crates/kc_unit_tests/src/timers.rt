@@ -75,8 +75,8 @@ fn timer1_reads_and_overflows(rt: HostRuntime) {
         (524288, 0, 1048575),
         (1_000_000_000_000_000, 53248, 1_000_000_000_098_303),
     ] {
-        assert_eq!(rt; timer1(t), value);
-        assert_eq!(rt; timer1_due(t), due);
+        assert!(rt; timer1(t) == value);
+        assert!(rt; timer1_due(t) == due);
     }
 }
 
@@ -92,10 +92,10 @@ fn ticks<L: Ledger>(rt: &impl Abort, steps: &mut Steps<L>) {
     ] {
         let mut timer = Timer2::new();
         timer.write(before);
-        assert_eq!(rt; timer.tick(now, control, inputs, steps), out);
-        assert_eq!(rt; timer.value(), after);
-        assert_eq!(rt; timer.captured(), captured);
-        assert_eq!(rt; timer.moves(), 1);
+        assert!(rt; timer.tick(now, control, inputs, steps) == out);
+        assert!(rt; timer.value() == after);
+        assert!(rt; timer.captured() == captured);
+        assert!(rt; timer.moves() == 1);
     }
 }
 
@@ -109,10 +109,10 @@ fn dues<L: Ledger>(rt: &impl Abort, steps: &mut Steps<L>) {
     ] {
         let mut timer = Timer2::new();
         timer.write(value);
-        assert_eq!(rt; timer.due(now, control, steps), due);
-        assert_eq!(rt; timer.moves(), 0);
+        assert!(rt; timer.due(now, control, steps) == due);
+        assert!(rt; timer.moves() == 0);
     }
-    assert_eq!(rt; Timer2::new().view(SLOW).value_at(0, 17), 2);
+    assert!(rt; Timer2::new().view(SLOW).value_at(0, 17) == 2);
 }
 
 // Two hundred thousand spans of 524,280 states each.
@@ -121,9 +121,9 @@ fn spans<L: Ledger>(rt: &impl Abort, steps: &mut Steps<L>) {
     for _ in 0..200_000u32 {
         timer.write(0);
         timer.quiet_to(0, 524_280, SLOW, steps);
-        assert_eq!(rt; timer.value(), 65535);
+        assert!(rt; timer.value() == 65535);
     }
-    assert_eq!(rt; timer.moves(), 200_000);
+    assert!(rt; timer.moves() == 200_000);
 }
 
 fn all<L: Ledger>(rt: &impl Abort, blank: Blank)

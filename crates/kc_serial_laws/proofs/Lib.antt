@@ -1,0 +1,8 @@
+mod AccessLaws
+mod WaitLaws
+mod ScheduleLaws
+mod UniqueLaws
+mod LineLaws
+mod ReceptionLaws
+mod ToldLaws
+mod WorkedLaws

@@ -1,0 +1,5 @@
+use Rattle.kc_serial_laws.proofs.ToldLaws.{ends_requested}
+use Rattle.kc_serial_laws.proofs.ends_are_requested.Goals as goal
+
+pub returns : goal.returns
+returns c = ends_requested

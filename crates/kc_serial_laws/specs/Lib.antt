@@ -1,0 +1,5 @@
+pub mod Accesses
+pub mod Schedules
+pub mod Receptions
+pub mod Told
+pub mod Worked
