@@ -1,7 +1,40 @@
-# Completion of kc96's words for bash: the commands, the options that a command takes and that do not stand yet, and files.
+# Completion of kc96's words for bash: the commands, the options that a command takes, that do not stand yet and that go with those
+# that do, and files.
+
+# Offers the folders and the files whose names begin as a word does: those that end as a kind does, or all where none is given. Names
+# come from globs and not from lines, so that one with a newline stays whole.
+_kc96_files() {
+    local begins=$1 kind=$2 home= file options
+    begins=${begins#[\"\']}
+    [[ $1 == \'* ]] || begins=${begins//\\/}
+    if [[ $begins == "~/"* ]]; then
+        home=$HOME
+        begins=$HOME${begins#"~"}
+    fi
+    options=$(shopt -p nullglob failglob)
+    shopt -s nullglob
+    shopt -u failglob
+    for file in "$begins"*; do
+        if [[ -z $kind || -d $file || $file == *."$kind" ]]; then
+            [[ -z $home ]] || file="~${file#"$home"}"
+            COMPREPLY+=("$file")
+        fi
+    done
+    eval "$options"
+}
+
+# Whether a word stands on the line already, beside the one that is completed.
+_kc96_stands() {
+    local at
+    for at in "${!COMP_WORDS[@]}"; do
+        [[ $at -eq $COMP_CWORD || ${COMP_WORDS[at]} != "$1" ]] || return 0
+    done
+    return 1
+}
+
 _kc96() {
     local word=${COMP_WORDS[COMP_CWORD]} before=${COMP_WORDS[COMP_CWORD - 1]} command=${COMP_WORDS[1]}
-    local options files option given left=
+    local options files option left=
     COMPREPLY=()
     if [ "$COMP_CWORD" -eq 1 ]; then
         mapfile -t COMPREPLY < <(compgen -W 'run asm lib link hex dis debug vcd gen explain --help --version' -- "$word")
@@ -21,15 +54,17 @@ _kc96() {
     case $before in
     --stim | --analog | --out | --lib | --list | --lines | --map | --profile)
         compopt -o filenames
-        mapfile -t COMPREPLY < <(compgen -f -- "$word")
+        _kc96_files "$word"
         return
         ;;
     --states | --lives | --clock | --reg | --code | --data | --stack) return ;;
     esac
     for option in $options; do
-        given=
-        [[ " ${COMP_WORDS[*]:2:COMP_CWORD-2} " != *" $option "* ]] || given=1
-        [ -n "$given" ] || left="$left $option"
+        _kc96_stands "$option" && continue
+        # A profile is of one life.
+        [[ $option != --lives ]] || ! _kc96_stands --profile || continue
+        [[ $option != --profile ]] || ! _kc96_stands --lives || continue
+        left="$left $option"
     done
     if [[ $word == -* ]]; then
         mapfile -t COMPREPLY < <(compgen -W "$left" -- "$word")
@@ -37,7 +72,7 @@ _kc96() {
     fi
     compopt -o filenames 2>/dev/null
     # Files of the command's kind and folders; any file where none is of that kind.
-    mapfile -t COMPREPLY < <(compgen -d -- "$word"; compgen -f -X "!*.$files" -- "$word")
-    [ "${#COMPREPLY[@]}" -gt 0 ] || mapfile -t COMPREPLY < <(compgen -f -- "$word")
+    _kc96_files "$word" "$files"
+    [ "${#COMPREPLY[@]}" -gt 0 ] || _kc96_files "$word"
 }
 complete -F _kc96 kc96

@@ -2,6 +2,7 @@
 use Rattle.std.specs.Prelude.{ℕ, List, ◌++◌, codes, Option, Some, None}
 use Rattle.kc_explain.specs.Meanings.{Said, said_of}
 use Rattle.kc_explain.specs.Text.{meaning_text}
+use Rattle.kc_kit_shown.specs.Shown.{word_shown}
 use Rattle.kc_kit_files.specs.declared.status.Status.TheVariants as status
 use Rattle.kc_kit_files.specs.Reply.{Reply, says, tells}
 
@@ -10,7 +11,7 @@ no_code_line code = codes "missing code " ++ code ++ codes "\n"
 
 -- what is said in words of a code that is none
 abbrev pub no_code_note : List ℕ → List ℕ
-no_code_note code = codes "kc96: error: there is no code " ++ code ++ codes "\n"
+no_code_note code = codes "kc96: error: there is no code " ++ word_shown code ++ codes "\n"
 
 -- the text of a row, or that there is no such code
 abbrev pub explained_by : List ℕ → Option Said → Reply

@@ -9,6 +9,7 @@ ghost use Rattle.kc_kit_answer.specs.Explain.{explained, no_code_line, no_code_n
 use kc_base::{NoMemory, Sink};
 use kc_explain::{explain, meaning_text};
 use kc_kit_files::{Cause, Ended, Refusal, Status, refusal_of, refuse, say};
+use kc_kit_shown::put_word;
 use kc_trace::TraceOut;
 use std::alloc::Global;
 
@@ -17,7 +18,7 @@ fn no_code_note(alloc: Global, code: &[u8]) -> Result<Vec<u8>, NoMemory>
     ensures { IfOk result (λ note. note.items ≡ no_code_note code.now) }
 {
     let mut note = Vec::from_slice(alloc, b"kc96: error: there is no code ")?;
-    note.extend_from_slice(code)?;
+    put_word(&mut note, code)?;
     note.push(b'\n')?;
     Ok(note)
 }

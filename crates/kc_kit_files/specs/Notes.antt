@@ -1,9 +1,10 @@
 -- What is said in words, on standard error, of a file that cannot be read or written, of the output and of memory (this kit's own).
 use Rattle.std.specs.Prelude.{ℕ, List, ◌++◌, codes}
+use Rattle.kc_kit_shown.specs.Shown.{shown}
 
 -- what is wrong with a file, behind its name
 abbrev pub file_note : List ℕ → List ℕ → List ℕ
-file_note name what = name ++ (codes ": error: " ++ what ++ codes "\n")
+file_note name what = shown name ++ (codes ": error: " ++ what ++ codes "\n")
 
 abbrev pub missing_note : List ℕ → List ℕ
 missing_note name = file_note name (codes "the file is not there")
@@ -13,7 +14,7 @@ abbrev pub too_long : List ℕ
 too_long = codes "the file has over 1,048,576 bytes"
 
 abbrev pub long_note : List ℕ → List ℕ
-long_note name = name ++ (codes ": error LONG: " ++ too_long ++ codes "\n")
+long_note name = shown name ++ (codes ": error LONG: " ++ too_long ++ codes "\n")
 
 abbrev pub read_note : List ℕ → List ℕ
 read_note name = file_note name (codes "the file could not be read")

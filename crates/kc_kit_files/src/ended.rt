@@ -8,6 +8,7 @@ ghost use Rattle.kc_kit_files.specs.Ended.{said_in, unwritten, note_in};
 
 use crate::Status;
 use kc_base::Sink;
+use kc_kit_shown::tell_shown;
 use kc_trace::TraceOut;
 
 /// What is said in words, beside what the status says.
@@ -65,7 +66,7 @@ fn put_unwritten<N: Sink>(what: &Said<'_>, notes: &mut TraceOut<N>)
 {
     match what {
         Said::File(name) => {
-            notes.put_text(name.as_bytes());
+            tell_shown(notes, name.as_bytes());
             notes.put_text(b": error: the file could not be written\n");
         }
         Said::Nothing => put_output(notes),

@@ -3,10 +3,12 @@ ghost use Rattle.std.specs.Prelude.{◌≡◌, ◌++◌, ◌∷◌, [], OnOk, ma
 ghost use Rattle.kc_base.specs.Causes.{Rose};
 ghost use Rattle.kc_kit_files.specs.Reply.{tells, status_for, IsRefused};
 ghost use Rattle.kc_kit_files.specs.Outside.{OnlyRead};
+ghost use Rattle.kc_kit_shown.specs.Shown.{shown};
 ghost use Rattle.kc_kit_files.specs.Reads.{IsReadOne, IsRead, IsUnread};
 
 use crate::refusal::{Cause, Refusal, refusal_of};
 use kc_base::{FileFault, Files, NoMemory};
+use kc_kit_shown::shown;
 use std::alloc::Global;
 
 // The refusal of a file, with a line of three texts of which its name is the second, and with words behind its name.
@@ -18,9 +20,9 @@ fn refused(
     after: &[u8],
     words: &[u8],
 ) -> Refusal
-    ensures { IsRefused (λ reply. reply ≡ tells (status_for cause) (before.now ++ name.now ++ after.now) (name.now ++ words.now)) result }
+    ensures { IsRefused (λ reply. reply ≡ tells (status_for cause) (before.now ++ name.now ++ after.now) (shown name.now ++ words.now)) result }
 {
-    let Ok(mut note) = Vec::from_slice(alloc, name) else {
+    let Ok(mut note) = shown(alloc, name) else {
         return Refusal::NoMemory;
     };
     match note.extend_from_slice(words) {

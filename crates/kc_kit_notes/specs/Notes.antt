@@ -3,13 +3,14 @@
 use Rattle.std.specs.Prelude.{ℕ, ◌-◌, ◌==◌, List, [], ◌++◌, codes, decimal, Option, Some, None, slice_get, if◌then◌else◌}
 use Rattle.kc_base.specs.TextLines.{text_lines}
 use Rattle.kc_explain.specs.Meanings.{sentence_of}
+use Rattle.kc_kit_shown.specs.Shown.{shown}
 
 -- the line of this number, from 1 on
 abbrev pub line_at : List ℕ → ℕ → Option (List ℕ)
 line_at text number = if number == 0 then None else slice_get (text_lines text) (number - 1)
 
 abbrev pub line_shown : Option (List ℕ) → List ℕ
-line_shown (Some line) = line ++ codes "\n"
+line_shown (Some line) = shown line ++ codes "\n"
 line_shown None = []
 
 -- the number of a line, behind the name of its file
@@ -25,7 +26,7 @@ abbrev pub error_text : List ℕ → List ℕ → List ℕ
 error_text code more = error_saying code more (sentence_of code)
 
 abbrev pub line_note : List ℕ → List ℕ → ℕ → List ℕ → List ℕ
-line_note name text line code = name ++ number_text line ++ error_text code [] ++ line_shown (line_at text line)
+line_note name text line code = shown name ++ number_text line ++ error_text code [] ++ line_shown (line_at text line)
 
 abbrev pub byte_note : List ℕ → ℕ → List ℕ → List ℕ
-byte_note name place code = name ++ error_text code (codes " at byte " ++ decimal place)
+byte_note name place code = shown name ++ error_text code (codes " at byte " ++ decimal place)

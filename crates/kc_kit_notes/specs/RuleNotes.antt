@@ -9,6 +9,7 @@ use Rattle.kc_link_place.specs.declared.ranges.LinkFault.{LinkFault}
 use Rattle.kc_link_place.specs.declared.ranges.LinkFault.TheVariants as fault
 use Rattle.kc_link_map.specs.Map.{kind_word}
 use Rattle.kc_trace.specs.Text.{hex}
+use Rattle.kc_kit_shown.specs.Shown.{shown}
 use Rattle.kc_kit_notes.specs.Notes.{number_text, error_text}
 use Rattle.kc_kit_notes.specs.Rules.{file_at}
 
@@ -54,7 +55,7 @@ in_files names fault ms = codes " in" ++ files_from names fault 0 ms
 -- ---- notes
 
 abbrev pub rule_note : List ℕ → List ℕ → List ℕ → List ℕ
-rule_note place rule more = place ++ error_text rule (codes " " ++ more)
+rule_note place rule more = shown place ++ error_text rule (codes " " ++ shown more)
 
 abbrev pub link_note : List (List ℕ) → List Object → LinkFault → List ℕ
 link_note names ms (fault.Unresolved name) = rule_note (codes "kc96") (codes "unresolved") (name ++ in_files names (fault.Unresolved name) ms)

@@ -6,6 +6,7 @@ ghost use Rattle.kc_kit_notes.specs.Notes.{line_at, line_shown, number_text, err
 use itoa::Buffer;
 use kc_base::{NoMemory, after, first_line, front};
 use kc_explain::sentence;
+use kc_kit_shown::{put_shown, shown};
 use std::alloc::Global;
 
 /// The line of this number of a text, from 1 on, without its end.
@@ -57,7 +58,7 @@ pub(crate) fn put_line(note: &mut Vec<u8>, text: &[u8], line: u32) -> Result<(),
 {
     match line_at(text, line) {
         Some(shown) => {
-            note.extend_from_slice(shown)?;
+            put_shown(note, shown)?;
             note.push(b'\n')?;
             Ok(())
         }
@@ -75,7 +76,7 @@ pub fn line_note(
 ) -> Result<Vec<u8>, NoMemory>
     ensures { IfOk result (λ note. note.items ≡ line_note name.now text.now line code.now) }
 {
-    let mut note = Vec::from_slice(alloc, name)?;
+    let mut note = shown(alloc, name)?;
     put_number(&mut note, line)?;
     put_error(&mut note, code, b"")?;
     put_line(&mut note, text, line)?;
@@ -96,7 +97,7 @@ fn byte_text(alloc: Global, place: u32) -> Result<Vec<u8>, NoMemory>
 pub fn byte_note(alloc: Global, name: &[u8], place: u32, code: &[u8]) -> Result<Vec<u8>, NoMemory>
     ensures { IfOk result (λ note. note.items ≡ byte_note name.now place code.now) }
 {
-    let mut note = Vec::from_slice(alloc, name)?;
+    let mut note = shown(alloc, name)?;
     let more = byte_text(alloc, place)?;
     put_error(&mut note, code, &more)?;
     Ok(note)

@@ -10,6 +10,7 @@ use crate::origins::{Origins, file_at, joined};
 use crate::rule_files::in_files;
 use crate::rule_lines::place_text;
 use kc_base::NoMemory;
+use kc_kit_shown::{put_shown, shown};
 use kc_link_map::kind_word;
 use kc_link_place::LinkFault;
 use kc_obj::{Lines, Module};
@@ -66,8 +67,8 @@ fn rule_note(alloc: Global, place: &[u8], rule: &[u8], more: &[u8]) -> Result<Ve
     ensures { IfOk result (λ note. note.items ≡ rule_note place.now rule.now more.now) }
 {
     let mut behind = Vec::from_slice(alloc, b" ")?;
-    behind.extend_from_slice(more)?;
-    let mut note = Vec::from_slice(alloc, place)?;
+    put_shown(&mut behind, more)?;
+    let mut note = shown(alloc, place)?;
     put_error(&mut note, rule, &behind)?;
     Ok(note)
 }

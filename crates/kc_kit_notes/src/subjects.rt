@@ -7,6 +7,7 @@ ghost use Rattle.kc_kit_notes.specs.Subjects.{around, sentence_round, sentence_a
 use crate::notes::{put_line, put_number};
 use kc_base::NoMemory;
 use kc_explain::sentence;
+use kc_kit_shown::{put_shown, shown};
 use std::alloc::Global;
 
 // The words before a name and behind it, in the sentence of a code that is about one.
@@ -88,7 +89,7 @@ pub fn source_note(
 ) -> Result<Vec<u8>, NoMemory>
     ensures { IfOk result (λ note. note.items ≡ source_note name.now text.now line code.now number (option_map (λ n. n.now) subject.entry)) }
 {
-    let mut note = Vec::from_slice(alloc, name)?;
+    let mut note = shown(alloc, name)?;
     put_number(&mut note, line)?;
     put_fault(&mut note, code, number, subject)?;
     put_line(&mut note, text, line)?;
@@ -99,7 +100,7 @@ pub fn source_note(
 fn put_place(note: &mut Vec<u8>, name: &[u8], line: u32) -> Result<(), NoMemory>
     ensures { OnOk result (note.new.items ≡ note.old.items ++ body_place name.now line) }
 {
-    note.extend_from_slice(name)?;
+    put_shown(note, name)?;
     put_number(note, line)?;
     note.extend_from_slice(b": note: it was written here\n")?;
     Ok(())

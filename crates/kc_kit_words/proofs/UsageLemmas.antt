@@ -77,6 +77,13 @@ list-many (a ∷ []) h = absurd (omega (arith, h))
 list-many (a ∷ b ∷ []) h = absurd (omega (arith, h))
 list-many (a ∷ b ∷ c ∷ words) h = refl
 
+-- ---- a number is one word
+
+pub number-many : (words : List (List ℕ)) → 2 ≤ length words → wrong_number words ≡ Some (wrong_text wrong.ManyWords)
+number-many [] h = absurd (omega (arith, h))
+number-many (a ∷ []) h = absurd (omega (arith, h))
+number-many (a ∷ b ∷ words) h = refl
+
 -- ---- something is wrong exactly where there is no command
 
 -- an option with its value

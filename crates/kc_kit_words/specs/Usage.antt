@@ -5,6 +5,7 @@ use Rattle.std.specs.Option.{option_map, option_or}
 use Rattle.std.specs.Str.{bytes_eq}
 use Rattle.kc_base.specs.TextLines.{begins_with}
 use Rattle.kc_link_place.specs.Ranges.{are_in_bounds, lies_within}
+use Rattle.kc_kit_shown.specs.Shown.{word_shown}
 use Rattle.kc_kit_words.specs.declared.extent.Extent.{Extent}
 use Rattle.kc_kit_words.specs.declared.usage.Wrong.{Wrong}
 use Rattle.kc_kit_words.specs.declared.usage.Wrong.TheVariants as wrong
@@ -15,37 +16,37 @@ use Rattle.kc_kit_words.specs.Values.{is_name, range_of}
 use Rattle.kc_kit_words.specs.Commands.{Beside, Command, overwritten}
 use Rattle.kc_kit_words.specs.Words.{files_of, options_of, placing_of, is_other, are_apart, beside_of, command_by, help_on}
 
--- ---- texts
+-- ---- texts, in which a word that was given stands as it is shown
 
 abbrev pub no_command : List ℕ → List ℕ
-no_command verb = codes "unknown command " ++ verb
+no_command verb = codes "unknown command " ++ word_shown verb
 
 abbrev pub no_option : List ℕ → List ℕ
-no_option option = codes "unknown option " ++ option
+no_option option = codes "unknown option " ++ word_shown option
 
 abbrev pub misplaced : List ℕ → List ℕ
-misplaced word = codes "files come first, before options: " ++ word
+misplaced word = codes "files come first, before options: " ++ word_shown word
 
 abbrev pub no_value : List ℕ → List ℕ
-no_value option = codes "missing value of option " ++ option
+no_value option = codes "missing value of option " ++ word_shown option
 
 abbrev pub bad_value : List ℕ → List ℕ → List ℕ
-bad_value option value = codes "bad value " ++ value ++ (codes " of option " ++ option)
+bad_value option value = codes "bad value " ++ word_shown value ++ (codes " of option " ++ word_shown option)
 
 abbrev pub twice : List ℕ → List ℕ
-twice option = codes "repeated option " ++ option
+twice option = codes "repeated option " ++ word_shown option
 
 abbrev pub lacks : List ℕ → List ℕ
 lacks option = codes "missing option " ++ option
 
 abbrev pub overwrites : List ℕ → List ℕ
-overwrites name = codes "a file that is read would be overwritten: " ++ name
+overwrites name = codes "a file that is read would be overwritten: " ++ word_shown name
 
 abbrev pub bad_range : List ℕ → List ℕ
-bad_range range = codes "bad range " ++ range
+bad_range range = codes "bad range " ++ word_shown range
 
 abbrev pub bad_number : List ℕ → List ℕ
-bad_number number = codes "bad number " ++ number
+bad_number number = codes "bad number " ++ word_shown number
 
 -- what is said of a wrong thing
 abbrev pub wrong_text : Wrong → List ℕ

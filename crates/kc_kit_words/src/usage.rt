@@ -3,9 +3,10 @@ ghost use Rattle.std.specs.Prelude.{◌≡◌, ◌++◌, codes, map, string_byte
 ghost use Rattle.std.specs.Option.{option_map, option_or};
 ghost use Rattle.kc_trace.specs.Out.{Puts};
 ghost use Rattle.kc_trace.specs.Trace.{out_of};
+ghost use Rattle.kc_kit_shown.specs.Shown.{word_shown};
 ghost use Rattle.kc_kit_words.specs.Asked.{asked};
 ghost use Rattle.kc_kit_words.specs.Options.{form_of, value_of};
-ghost use Rattle.kc_kit_words.specs.Usage.{wrong_text, bad_value, unknown, wrong_writes, wrong_value, wrong_last, wrong_option, lacks_out, wrong_extent, wrong_listing, wrong_placing, wrong_outputs, wrong_name, wrong_files, wrong_file, wrong_pair, wrong_range, wrong_list, wrong_number, wrong_word, wrong_more, wrong_by, plain_usage_of, usage_of, usage_note};
+ghost use Rattle.kc_kit_words.specs.Usage.{wrong_text, bad_value, lacks, unknown, wrong_writes, wrong_value, wrong_last, wrong_option, lacks_out, wrong_extent, wrong_listing, wrong_placing, wrong_outputs, wrong_name, wrong_files, wrong_file, wrong_pair, wrong_range, wrong_list, wrong_number, wrong_word, wrong_more, wrong_by, plain_usage_of, usage_of, usage_note};
 ghost use Rattle.kc_kit_words.specs.UsageLaw.{WrongWhereNoCommand};
 ghost use Rattle.kc_kit_words.specs.Values.{range_of};
 ghost use Rattle.kc_kit_words.specs.Words.{beside_of};
@@ -19,6 +20,7 @@ use crate::words::{
     MAX_FILES, are_apart, are_names, beside_in, help_on, is_other, placing, read_command,
 };
 use kc_base::Sink;
+use kc_kit_shown::tell_word;
 use kc_trace::TraceOut;
 
 /// What is wrong in words that are no command.
@@ -60,12 +62,20 @@ pub enum Wrong<'a> {
     BadNumber(&'a str),
 }
 
-// Puts a text, and a word behind it.
+// Puts a text, and a word behind it, as it is shown.
 fn put_word<N: Sink>(notes: &mut TraceOut<N>, text: &str, word: &str)
-    ensures { Puts (out_of N.written N.faults notes.old) (text.now ++ word.now) (out_of N.written N.faults notes.new) }
+    ensures { Puts (out_of N.written N.faults notes.old) (text.now ++ word_shown word.now) (out_of N.written N.faults notes.new) }
 {
     notes.put_text(text.as_bytes());
-    notes.put_text(word.as_bytes());
+    tell_word(notes, word.as_bytes());
+}
+
+// Puts an option that is missing.
+fn put_lack<N: Sink>(notes: &mut TraceOut<N>, option: &str)
+    ensures { Puts (out_of N.written N.faults notes.old) (lacks option.now) (out_of N.written N.faults notes.new) }
+{
+    notes.put_text(b"missing option ");
+    notes.put_text(option.as_bytes());
 }
 
 // Puts what is said of a bad value.
@@ -89,7 +99,7 @@ impl Wrong<'_> {
             Wrong::NoValue(option) => put_word(notes, "missing value of option ", option),
             Wrong::BadValue { option, value } => put_bad_value(notes, option, value),
             Wrong::Twice(option) => put_word(notes, "repeated option ", option),
-            Wrong::Lacks(option) => put_word(notes, "missing option ", option),
+            Wrong::Lacks(option) => put_lack(notes, option),
             Wrong::FewFiles => notes.put_text(b"too few files"),
             Wrong::ManyFiles => notes.put_text(b"too many files"),
             Wrong::BadName => notes.put_text(b"a file's name has not 1 to 255 bytes"),
