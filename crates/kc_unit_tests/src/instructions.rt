@@ -28,6 +28,7 @@ static LONG_SUMS: [(bool, u32, u32, bool, &str, u32, &str); 9] = [
     (true, 0x80000000, 0x00000000, true, "", 0x7FFFFFFF, "NVTC"),
 ];
 
+#[tactic(auto, unfolding(kc_alu::specs::Width::half_of))]
 fn sum_of(is_difference: bool, a: u32, b: u32, chained: bool, before: Flags) -> (u32, Flags) {
     if is_difference {
         sub(32, a, b, chained, before)
@@ -37,6 +38,7 @@ fn sum_of(is_difference: bool, a: u32, b: u32, chained: bool, before: Flags) -> 
 }
 
 #[test]
+#[tactic(auto, unfolding(kc_alu::specs::Width::half_of))]
 fn long_words_have_sums_and_differences(rt: HostRuntime) {
     for &(is_difference, a, b, chained, before, value, after) in &LONG_SUMS {
         let found = sum_of(is_difference, a, b, chained, set(before));
