@@ -46,12 +46,8 @@ impl DueList {
     pub fn first(&self) -> Option<(u8, StateTime)>
         ensures { IsFirst self.now result }
     {
-        let Some(slot) = self.links.head else {
-            return None;
-        };
-        let Some(at) = self.links.nodes[slot as usize].at else {
-            return None;
-        };
+        let slot = self.links.head?;
+        let at = self.links.nodes[slot as usize].at?;
         Some((slot, at))
     }
 
