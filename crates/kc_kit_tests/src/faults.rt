@@ -1,4 +1,6 @@
 // Calls that fail, at each place where one can. The texts were worked by hand.
+ghost use Rattle.std.specs.Prelude.{◌≡◌, false, IfOk};
+
 use crate::narrow::Narrow;
 use kc_base::{Files, MemFiles, MemSink, NoMemory};
 use kc_kit::{Status, kit};
@@ -368,7 +370,9 @@ fn numbers(fails: Fails) -> (u64, u64, u64, u64) {
     }
 }
 
-fn sink(alloc: Global, failing: u64) -> Result<TraceOut<MemSink>, NoMemory> {
+fn sink(alloc: Global, failing: u64) -> Result<TraceOut<MemSink>, NoMemory>
+    ensures { IfOk result (λ out. out.failed ≡ false) }
+{
     let failing = Vec::from_slice(alloc, &[failing])?;
     Ok(TraceOut::new(MemSink::new(alloc, 4096, failing)?))
 }
