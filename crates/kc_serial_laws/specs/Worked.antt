@@ -24,7 +24,7 @@ levels_of rate byte (suc n) = frame_level byte (n / bit_length rate)
 abbrev pub driven : ℕ → ℕ → Driven
 driven rate byte = record { before = High; levels = levels_of rate byte; accesses = settings rate }
 
--- It is received half a bit after its stop bit has begun: RI is set, and neither FE nor OE.
+-- It is received half a bit after its stop bit has begun: RI is set, and FE is not.
 pub record IsCarried (rate byte : ℕ) : Type 0 where
   pub completes : Completes (driven rate byte) (catches_of (driven rate byte)) 1 (sample_state 1 rate 9)
   pub received : (port_at (driven rate byte) (suc (sample_state 1 rate 9))).received ≡ byte
