@@ -6,7 +6,7 @@ use Rattle.kc_obj.specs.Object.{Object}
 use Rattle.kc_link_place.specs.Placing.{Places}
 use Rattle.kc_link_place.specs.Ranges.{are_in_bounds}
 use Rattle.kc_link_place.specs.declared.ranges.Ranges.{Ranges}
-use Rattle.kc_link_map.specs.Free.{covers, modules_cover, is_free, run, free_runs}
+use Rattle.kc_link_map.specs.Free.{Run, covers, modules_cover, is_free, run, free_runs}
 use Rattle.kc_link_map.specs.Map.{free_lines, range_text}
 
 -- ---- one address
