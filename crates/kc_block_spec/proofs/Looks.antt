@@ -1,5 +1,5 @@
 -- What a look shows is what a read would answer.
-use Rattle.std.proofs.Common.{◌≡◌, ℕ, zero, suc, ◌-◌, ◌*◌, ◌%◌, ◌^◌, ◌<◌, Bool, true, false, ◌&&◌, ◌||◌, refl, sym, ◌∙◌, ap, arith, lit<, bit_and, bit_or, min, max, Option, Some, None, Result, Ok, Err}
+use Rattle.std.proofs.Common.{◌≡◌, ℕ, zero, suc, ◌-◌, ◌*◌, ◌%◌, ◌==◌, ◌^◌, ◌<◌, Bool, true, false, ◌&&◌, ◌||◌, refl, sym, ◌∙◌, ap, arith, lit<, bit_and, bit_or, min, max, Option, Some, None, Result, Ok, Err}
 use Rattle.std.specs.Prelude.{is_some, is_none, if◌then◌else◌}
 use Rattle.std.specs.Int.{bit_at}
 use Rattle.std.specs.Option.{unwrap_or}
@@ -11,7 +11,7 @@ use Rattle.kc_base.specs.Bits.{bit, weight}
 use Rattle.kc_base.specs.Levels.{is_high}
 use Rattle.kc_base.specs.Pins.{pin_count}
 use Rattle.kc_base.specs.declared.types.Kind.{Kind}
-use Rattle.kc_base.specs.declared.types.Kind.TheVariants.{NoRegister, ByteAccess}
+use Rattle.kc_base.specs.declared.types.Kind.TheVariants.{OddWord, NoRegister, ByteAccess}
 use Rattle.kc_stim.specs.Drives.{wire_to, level_before}
 use Rattle.kc_stim.specs.Proper.{is_driven}
 use Rattle.kc_stim.specs.Fields.{is_input}
@@ -107,6 +107,10 @@ unanswered : (answer : Option ℕ) → or_no_register answer ≡ Err NoRegister 
 unanswered (Some m) e = cc
 unanswered None e = refl
 
+even_of : (odd : Bool) (r : Result ℕ Kind) (n : ℕ) → (if odd then Err OddWord else r) ≡ Ok n → r ≡ Ok n
+even_of true r n e = cc
+even_of false r n e = e
+
 never_half : {P : Type 0} (answer : Option ℕ) → or_no_register answer ≡ Err ByteAccess → P
 never_half (Some m) e = cc
 never_half None e = cc
@@ -117,7 +121,7 @@ looks_are_reads f t w u addr shown =
     ap (λ levels. look_byte f t w (with_levels u levels) addr (row_at (bytes_read w) addr)) shown in
     record {
       byte = λ n e. as_is ∙ byte (row_at (bytes_read w) addr) n e;
-      half = λ n e word. as_is ∙ half (row_at (bytes_read w) addr) n e word;
+      half = λ n e word. as_is ∙ half (row_at (bytes_read w) addr) n e (even_of ((addr - addr % 2) % 2 == 1) (word_read_as f t w u (addr - addr % 2) (row_at (words_read w) (addr - addr % 2))) n word);
       none = λ e. as_is ∙ none (row_at (bytes_read w) addr) e;
     }
   where

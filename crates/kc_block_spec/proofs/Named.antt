@@ -1,12 +1,12 @@
 -- Proofs of what the register tables come to.
-use Rattle.std.proofs.Common.{◌≡◌, ℕ, ◌+◌, ◌*◌, ◌/◌, ◌%◌, Bool, true, false, ◌&&◌, refl, sym, ◌∙◌, ap, subst, arith, Option, Some, None, Result, Ok, Err, []}
+use Rattle.std.proofs.Common.{◌≡◌, ℕ, ◌+◌, ◌*◌, ◌/◌, ◌%◌, ◌==◌, Bool, true, false, ◌&&◌, refl, sym, ◌∙◌, ap, subst, arith, Option, Some, None, Result, Ok, Err, []}
 use Rattle.std.specs.Prelude.{is_some, IfOk, if◌then◌else◌}
 use Rattle.std.specs.List.{All, AllByRecursion}
 use Rattle.std.proofs.lemmas.Bool.{false≢true, false_from_ne_true}
 use Rattle.std.proofs.lemmas.List.Elements.{All-from_recursion}
 use Rattle.kc_base.specs.Bits.{bit}
 use Rattle.kc_base.specs.declared.types.Kind.{Kind}
-use Rattle.kc_base.specs.declared.types.Kind.TheVariants.{NoRegister, ByteAccess, FastTimer2, BadWindow}
+use Rattle.kc_base.specs.declared.types.Kind.TheVariants.{OddWord, NoRegister, ByteAccess, FastTimer2, BadWindow}
 use Rattle.kc_exec_spec.specs.Window.{is_wsr}
 use Rattle.kc_hso.specs.Cam as cam
 use Rattle.kc_hso.specs.Cam.{has_timer2_of, load_refusal, with_load}
@@ -26,8 +26,8 @@ use Rattle.kc_block_spec.specs.Levels.{printed, edges_between}
 use Rattle.kc_block_spec.specs.Registers.{window_number, bytes_read, bytes_written, words_read, words_written, row_at, is_half}
 use Rattle.kc_block_spec.specs.Reading.{byte_value, word_value, after_byte, after_word}
 use Rattle.kc_block_spec.specs.Writing.{with_byte, with_word, loaded_unless}
-use Rattle.kc_block_spec.specs.Accesses.{◌>>=◌, or_no_register, latch_edges, other_read, other_written, byte_read, after_byte_read, byte_read_as, after_byte_read_as, byte_written_as, byte_written, word_read, after_word_read, after_word_read_as, word_read_as, word_written, word_written_as}
-use Rattle.kc_block_spec.specs.RegisterLaws.{AnswersWhereReadable, NamedRegistersAnswer, UnnamedReads, UnnamedWrites, refusal, first_refusal, BothBytesReadAreAsked, BothBytesWrittenAreAsked, AreReadAlike, IsMildRead, ReadsAreMild, WritesKeepProfile, moves_pins, OtherWritesMoveNoPin}
+use Rattle.kc_block_spec.specs.Accesses.{◌>>=◌, or_no_register, latch_edges, other_read, other_written, byte_read, after_byte_read, byte_read_as, after_byte_read_as, byte_written_as, byte_written, word_read, even_word_read, after_word_read, after_even_word_read, after_word_read_as, word_read_as, word_written, even_word_written, word_written_as}
+use Rattle.kc_block_spec.specs.RegisterLaws.{AnswersWhereReadable, Names, NamedRegistersAnswer, UnnamedReads, UnnamedWrites, refusal, first_refusal, OddWordsAreRefused, BothBytesReadAreAsked, BothBytesWrittenAreAsked, AreReadAlike, IsMildRead, ReadsAreMild, WritesKeepProfile, moves_pins, OtherWritesMoveNoPin}
 use Rattle.kc_block_spec.proofs.Quiet.{edges_none}
 use Rattle.kc_block_spec.proofs.Tables.{none_row, row_law, AreEven, half_found, half_none}
 
@@ -156,8 +156,23 @@ bound_ok : {A B : Type 0} (r : Result A Kind) (g : A → B) → refusal (r >>= �
 bound_ok (Ok a) g = refl
 bound_ok (Err kind) g = refl
 
-pub both_bytes_read_are_asked : {X : Type 0} → BothBytesReadAreAsked X
-both_bytes_read_are_asked f answers t w u addr unnamed =
+-- a word is refused at an odd address, and is what stands there at an even one
+at_odd : {A : Type 0} (addr : ℕ) (x y : A) → addr % 2 ≡ 1 → (if addr % 2 == 1 then x else y) ≡ x
+at_odd addr x y odd = rw odd refl
+
+at_even : {A : Type 0} (addr : ℕ) (x y : A) → addr % 2 ≡ 0 → (if addr % 2 == 1 then x else y) ≡ y
+at_even addr x y even = rw even refl
+
+pub odd_words_are_refused : {X : Type 0} → OddWordsAreRefused X
+odd_words_are_refused f t w u addr n odd = record {
+  read = at_odd addr _ _ odd;
+  after_read = at_odd addr _ _ odd;
+  written = at_odd addr _ _ odd;
+}
+
+pub even_bytes_read_are_asked : {X : Type 0} (f : Further X) → AnswersWhereReadable f → (t : ℕ) (w : Window) (u : Units X) (addr : ℕ) → (Names (words_read w) addr → ⊥) →
+    refusal (even_word_read f t w u addr) ≡ first_refusal (refusal (byte_read f t w u addr)) (refusal (byte_read f t w u (addr + 1)))
+even_bytes_read_are_asked f answers t w u addr unnamed =
     let row : row_at (words_read w) addr ≡ None = none_row (words_read w) addr unnamed in
     ap (λ r. refusal (word_read_as f t w u addr r)) row ∙ by (byte_read f t w u addr)
   where
@@ -246,8 +261,10 @@ high_refusal_same f t w u mid addr low high e = by (row_at (bytes_written w) (ad
         let address : addr ≡ 10 = omega (arith, at.1) in
         low_keeps_entries f t u mid low (subst (λ a. byte_written f t Window0 u a low ≡ Ok mid) address (subst (λ w. byte_written f t w u addr low ≡ Ok mid) at.0 e)))
 
-pub both_bytes_written_are_asked : {X : Type 0} → BothBytesWrittenAreAsked X
-both_bytes_written_are_asked f t w u addr n unnamed =
+pub even_bytes_written_are_asked : {X : Type 0} (f : Further X) (t : ℕ) (w : Window) (u : Units X) (addr n : ℕ) → (Names (words_written w) addr → ⊥) →
+    refusal (even_word_written f t w u addr n)
+    ≡ first_refusal (refusal (byte_written f t w u addr (n % 256))) (refusal (byte_written f t w u (addr + 1) (n / 256)))
+even_bytes_written_are_asked f t w u addr n unnamed =
     let row : row_at (words_written w) addr ≡ None = none_row (words_written w) addr unnamed in
     ap (λ r. refusal (word_written_as f t w u addr n r)) row ∙ by (byte_written f t w u addr (n % 256)) refl
   where
@@ -256,6 +273,14 @@ both_bytes_written_are_asked f t w u addr n unnamed =
         ≡ first_refusal (refusal low) (refusal (byte_written f t w u (addr + 1) (n / 256)))
     by (Err kind) e = refl
     by (Ok mid) e = high_refusal_same f t w u mid addr (n % 256) (n / 256) e
+
+pub both_bytes_read_are_asked : {X : Type 0} → BothBytesReadAreAsked X
+both_bytes_read_are_asked f answers t w u addr even unnamed =
+    ap refusal (at_even addr (Err OddWord) (even_word_read f t w u addr) even) ∙ even_bytes_read_are_asked f answers t w u addr unnamed
+
+pub both_bytes_written_are_asked : {X : Type 0} → BothBytesWrittenAreAsked X
+both_bytes_written_are_asked f t w u addr n even unnamed =
+    ap refusal (at_even addr (Err OddWord) (even_word_written f t w u addr n) even) ∙ even_bytes_written_are_asked f t w u addr n unnamed
 
 -- a read changes little
 alike_then : {X : Type 0} (u v x : Units X) → AreReadAlike u v → AreReadAlike v x → AreReadAlike u x
@@ -293,14 +318,21 @@ read_alike {X = X} f t w u addr = by (row_at (bytes_read w) addr)
     by (Some r) = byte_alike u r
     by None = half (is_half (words_read w) addr) (f.after_read (window_number w) addr t u.further)
 
-pub reads_are_mild : {X : Type 0} → ReadsAreMild X
-reads_are_mild f t w u addr = (mild u _ (read_alike f t w u addr), mild u _ (by (row_at (words_read w) addr)))
+pub even_reads_are_mild : {X : Type 0} (f : Further X) (t : ℕ) (w : Window) (u : Units X) (addr : ℕ) → IsMildRead u (after_even_word_read f t w u addr)
+even_reads_are_mild f t w u addr = mild u _ (by (row_at (words_read w) addr))
   where
     by : (row : Option ReadableWord) → AreReadAlike u (after_word_read_as f t w u addr row)
     by (Some r) = word_alike u r
     by None =
         alike_then u (after_byte_read f t w u addr) (after_byte_read f t w (after_byte_read f t w u addr) (addr + 1))
         (read_alike f t w u addr) (read_alike f t w (after_byte_read f t w u addr) (addr + 1))
+
+pub reads_are_mild : {X : Type 0} → ReadsAreMild X
+reads_are_mild f t w u addr = (mild u _ (read_alike f t w u addr), either (addr % 2 == 1))
+  where
+    either : (odd : Bool) → IsMildRead u (if odd then u else after_even_word_read f t w u addr)
+    either true = mild u u refl
+    either false = even_reads_are_mild f t w u addr
 
 -- a fact of what a choice between an answer and a refusal leaves
 pub if_ok : {A : Type 0} (P : A → Type 0) (c : Bool) (a : A) (kind : Kind) → (c ≡ true → P a) → IfOk (if c then Ok a else Err kind) P
@@ -310,6 +342,10 @@ if_ok P false a kind holds = tt
 if_not_ok : {A : Type 0} (P : A → Type 0) (c : Bool) (a : A) (kind : Kind) → P a → IfOk (if c then Err kind else Ok a) P
 if_not_ok P true a kind holds = tt
 if_not_ok P false a kind holds = holds
+
+unless_refused : {A : Type 0} (P : A → Type 0) (c : Bool) (kind : Kind) (r : Result A Kind) → IfOk r P → IfOk (if c then Err kind else r) P
+unless_refused P true kind r holds = tt
+unless_refused P false kind r holds = holds
 
 pub if_ok_then : {A : Type 0} (P : A → Type 0) (r : Result A Kind) (next : A → Result A Kind) → IfOk r (λ a. IfOk (next a) P) → IfOk (r >>= next) P
 if_ok_then P (Ok a) next holds = holds
@@ -335,7 +371,7 @@ module _ {X : Type 0} (f : Further X) (t : ℕ) (w : Window) (P : Units X → Ty
       by None e = either (is_half (words_written w) addr) (f.writable (window_number w) addr) (f.after_write (window_number w) addr n t u.further)
 
   word_holds : (u : Units X) (addr n : ℕ) → ((r : WritableWord) → IfOk (with_word u r n) P) →
-      IfOk (byte_written f t w u addr (n % 256)) (λ mid. IfOk (byte_written f t w mid (addr + 1) (n / 256)) P) → IfOk (word_written f t w u addr n) P
+      IfOk (byte_written f t w u addr (n % 256)) (λ mid. IfOk (byte_written f t w mid (addr + 1) (n / 256)) P) → IfOk (even_word_written f t w u addr n) P
   word_holds u addr n named two = by (row_at (words_written w) addr)
     where
       by : (row : Option WritableWord) → IfOk (word_written_as f t w u addr n row) P
@@ -372,15 +408,20 @@ word_keeps_wsr f t w u writes_word.Timer2 n is = is
 word_keeps_wsr f t w u writes_word.PtsSelect n is = is
 word_keeps_wsr f t w u writes_word.PtsService n is = is
 
+byte_keeps_profile : {X : Type 0} (f : Further X) (t : ℕ) (w : Window) (u : Units X) (addr n : ℕ) → HasProfile u → IfOk (byte_written f t w u addr n) HasProfile
+byte_keeps_profile f t w u addr n is = byte_holds f t w HasProfile u addr n (λ r e. byte_keeps_wsr u r n is) (λ d. is)
+
+pub even_writes_keep_profile : {X : Type 0} (f : Further X) (t : ℕ) (w : Window) (u : Units X) (addr n : ℕ) → is_wsr u.steady.wsr ≡ true →
+    IfOk (even_word_written f t w u addr n) (λ new. is_wsr new.steady.wsr ≡ true)
+even_writes_keep_profile f t w u addr n is =
+    word_holds f t w HasProfile u addr n (λ r. word_keeps_wsr f t w u r n is)
+    (if_ok_weaker HasProfile _ (byte_written f t w u addr (n % 256)) (λ mid holds. byte_keeps_profile f t w mid (addr + 1) (n / 256) holds) (byte_keeps_profile f t w u addr (n % 256) is))
+
 pub writes_keep_profile : {X : Type 0} → WritesKeepProfile X
-writes_keep_profile {X = X} f t w u addr n is = (
-  byte u addr n is,
-  word_holds f t w HasProfile u addr n (λ r. word_keeps_wsr f t w u r n is)
-      (if_ok_weaker HasProfile _ (byte_written f t w u addr (n % 256)) (λ mid holds. byte mid (addr + 1) (n / 256) holds) (byte u addr (n % 256) is)),
+writes_keep_profile f t w u addr n is = (
+  byte_keeps_profile f t w u addr n is,
+  unless_refused HasProfile (addr % 2 == 1) OddWord (even_word_written f t w u addr n) (even_writes_keep_profile f t w u addr n is),
 )
-  where
-    byte : (u : Units X) (addr n : ℕ) → HasProfile u → IfOk (byte_written f t w u addr n) HasProfile
-    byte u addr n is = byte_holds f t w HasProfile u addr n (λ r e. byte_keeps_wsr u r n is) (λ d. is)
 
 -- the printed pins after a write
 abbrev AreShownAlike : {X : Type 0} → Units X → Units X → Type 0
@@ -438,10 +479,11 @@ pub other_writes_move_no_pin : {X : Type 0} → OtherWritesMoveNoPin X
 other_writes_move_no_pin {X = X} f t w u addr n low = (
   if_ok_weaker (AreShownAlike u) _ (byte_written f t w u addr n) no_edge (byte u addr n low),
   λ high. if_ok_weaker (AreShownAlike u) _ (word_written f t w u addr n) no_edge
+      (unless_refused (AreShownAlike u) (addr % 2 == 1) OddWord (even_word_written f t w u addr n)
       (word_holds f t w (AreShownAlike u) u addr n (λ r. word_shows_alike f t w u r n)
       (if_ok_weaker (AreShownAlike u) _ (byte_written f t w u addr (n % 256))
       (λ mid alike. if_ok_weaker (AreShownAlike mid) (AreShownAlike u) (byte_written f t w mid (addr + 1) (n / 256)) (λ new again. again ∙ alike) (byte mid (addr + 1) (n / 256) high))
-      (byte u addr (n % 256) low))),
+      (byte u addr (n % 256) low)))),
 )
   where
     no_edge : (new : Units X) → AreShownAlike u new → latch_edges u new ≡ []

@@ -1,10 +1,10 @@
 -- An access below 0018H in state t, after the Tick of that state: its answer or refusal, and what it leaves (80C196KC User's
 -- Manual, "Special Function Registers"; the order in which registers, halves of words and the further unit are asked is this
 -- kit's own).
-use Rattle.std.specs.Prelude.{ℕ, ◌+◌, ◌*◌, ◌/◌, ◌%◌, Option, Some, None, Result, Ok, Err, List, if◌then◌else◌}
+use Rattle.std.specs.Prelude.{ℕ, ◌+◌, ◌*◌, ◌/◌, ◌%◌, ◌==◌, Option, Some, None, Result, Ok, Err, List, if◌then◌else◌}
 use Rattle.kc_base.specs.declared.types.Edge.{Edge}
 use Rattle.kc_base.specs.declared.types.Kind.{Kind}
-use Rattle.kc_base.specs.declared.types.Kind.TheVariants.{NoRegister, ByteAccess}
+use Rattle.kc_base.specs.declared.types.Kind.TheVariants.{OddWord, NoRegister, ByteAccess}
 use Rattle.kc_extra.specs.Further.{Further}
 use Rattle.kc_block_spec.specs.declared.registers.Window.{Window}
 use Rattle.kc_block_spec.specs.declared.registers.ReadableByte.{ReadableByte}
@@ -80,19 +80,29 @@ module _ {X : Type 0} (f : Further X) where
   word_read_as t w u addr (Some r) = Ok (word_value t u r)
   word_read_as t w u addr None = two_bytes_read t w u addr
 
+  abbrev pub even_word_read : ℕ → Window → Units X → ℕ → Result ℕ Kind
+  even_word_read t w u addr = word_read_as t w u addr (row_at (words_read w) addr)
+
+  -- a word stands at an even address: at an odd one an access is refused, and changes nothing
   abbrev pub word_read : ℕ → Window → Units X → ℕ → Result ℕ Kind
-  word_read t w u addr = word_read_as t w u addr (row_at (words_read w) addr)
+  word_read t w u addr = if addr % 2 == 1 then Err OddWord else even_word_read t w u addr
 
   abbrev pub after_word_read_as : ℕ → Window → Units X → ℕ → Option ReadableWord → Units X
   after_word_read_as t w u addr (Some r) = after_word u r
   after_word_read_as t w u addr None = after_byte_read t w (after_byte_read t w u addr) (addr + 1)
 
+  abbrev pub after_even_word_read : ℕ → Window → Units X → ℕ → Units X
+  after_even_word_read t w u addr = after_word_read_as t w u addr (row_at (words_read w) addr)
+
   abbrev pub after_word_read : ℕ → Window → Units X → ℕ → Units X
-  after_word_read t w u addr = after_word_read_as t w u addr (row_at (words_read w) addr)
+  after_word_read t w u addr = if addr % 2 == 1 then u else after_even_word_read t w u addr
 
   abbrev pub word_written_as : ℕ → Window → Units X → ℕ → ℕ → Option WritableWord → Result (Units X) Kind
   word_written_as t w u addr n (Some r) = with_word u r n
   word_written_as t w u addr n None = byte_written t w u addr (n % 256) >>= λ mid. byte_written t w mid (addr + 1) (n / 256)
 
+  abbrev pub even_word_written : ℕ → Window → Units X → ℕ → ℕ → Result (Units X) Kind
+  even_word_written t w u addr n = word_written_as t w u addr n (row_at (words_written w) addr)
+
   abbrev pub word_written : ℕ → Window → Units X → ℕ → ℕ → Result (Units X) Kind
-  word_written t w u addr n = word_written_as t w u addr n (row_at (words_written w) addr)
+  word_written t w u addr n = if addr % 2 == 1 then Err OddWord else even_word_written t w u addr n

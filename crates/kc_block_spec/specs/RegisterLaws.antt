@@ -3,7 +3,7 @@
 use Rattle.std.specs.Prelude.{◌≡◌, ◌⊎◌, ℕ, ◌+◌, ◌-◌, ◌/◌, ◌%◌, ◌==◌, Bool, true, false, ◌||◌, is_some, Option, Some, None, Result, Ok, Err, IfOk, List, [], All, bit_or}
 use Rattle.std.specs.List.{Contains}
 use Rattle.kc_base.specs.declared.types.Kind.{Kind}
-use Rattle.kc_base.specs.declared.types.Kind.TheVariants.{NoRegister, ByteAccess}
+use Rattle.kc_base.specs.declared.types.Kind.TheVariants.{OddWord, NoRegister, ByteAccess}
 use Rattle.kc_exec_spec.specs.Window.{is_wsr}
 use Rattle.kc_stim.specs.Drives.{IsStill}
 use Rattle.kc_extra.specs.Further.{Further}
@@ -72,15 +72,24 @@ abbrev pub first_refusal : Option Kind → Option Kind → Option Kind
 first_refusal (Some kind) other = Some kind
 first_refusal None other = other
 
--- A word that is no word register asks both its bytes before either acts: it is refused as its low byte is, else as its high
--- byte is, both as the units stand when it begins.
+-- a word at an odd address is refused, whatever stands there, and changes nothing
+pub record IsOddWord {X : Type 0} (f : Further X) (t : ℕ) (w : Window) (u : Units X) (addr n : ℕ) : Type 0 where
+  pub read : word_read f t w u addr ≡ Err OddWord
+  pub after_read : after_word_read f t w u addr ≡ u
+  pub written : word_written f t w u addr n ≡ Err OddWord
+
+abbrev pub OddWordsAreRefused : Type 0 → Type 0
+OddWordsAreRefused X = (f : Further X) (t : ℕ) (w : Window) (u : Units X) (addr n : ℕ) → addr % 2 ≡ 1 → IsOddWord f t w u addr n
+
+-- A word at an even address that is no word register asks both its bytes before either acts: it is refused as its low byte is,
+-- else as its high byte is, both as the units stand when it begins.
 abbrev pub BothBytesReadAreAsked : Type 0 → Type 0
-BothBytesReadAreAsked X = (f : Further X) → AnswersWhereReadable f → (t : ℕ) (w : Window) (u : Units X) (addr : ℕ) →
+BothBytesReadAreAsked X = (f : Further X) → AnswersWhereReadable f → (t : ℕ) (w : Window) (u : Units X) (addr : ℕ) → addr % 2 ≡ 0 →
     (Names (words_read w) addr → ⊥) →
     refusal (word_read f t w u addr) ≡ first_refusal (refusal (byte_read f t w u addr)) (refusal (byte_read f t w u (addr + 1)))
 
 abbrev pub BothBytesWrittenAreAsked : Type 0 → Type 0
-BothBytesWrittenAreAsked X = (f : Further X) (t : ℕ) (w : Window) (u : Units X) (addr n : ℕ) →
+BothBytesWrittenAreAsked X = (f : Further X) (t : ℕ) (w : Window) (u : Units X) (addr n : ℕ) → addr % 2 ≡ 0 →
     (Names (words_written w) addr → ⊥) →
     refusal (word_written f t w u addr n)
     ≡ first_refusal (refusal (byte_written f t w u addr (n % 256))) (refusal (byte_written f t w u (addr + 1) (n / 256)))

@@ -10,8 +10,8 @@ mod registers;
 mod steady;
 
 pub use register_laws::{
-    both_bytes_are_asked, looks_are_reads, named_registers_answer, other_writes_move_no_pin,
-    reads_are_mild, unnamed_bytes_are_refused, writes_keep_profile,
+    both_bytes_are_asked, looks_are_reads, named_registers_answer, odd_words_are_refused,
+    other_writes_move_no_pin, reads_are_mild, unnamed_bytes_are_refused, writes_keep_profile,
 };
 pub use registers::{ReadableByte, ReadableWord, Window, WritableByte, WritableWord};
 pub use steady::Steady;

@@ -1,4 +1,4 @@
-ghost use Rattle.kc_block_spec.specs.RegisterLaws.{NamedRegistersAnswer, UnnamedReads, UnnamedWrites, BothBytesReadAreAsked, BothBytesWrittenAreAsked, ReadsAreMild, WritesKeepProfile, OtherWritesMoveNoPin, LooksAreReads, LevelsShownStay};
+ghost use Rattle.kc_block_spec.specs.RegisterLaws.{NamedRegistersAnswer, UnnamedReads, UnnamedWrites, OddWordsAreRefused, BothBytesReadAreAsked, BothBytesWrittenAreAsked, ReadsAreMild, WritesKeepProfile, OtherWritesMoveNoPin, LooksAreReads, LevelsShownStay};
 
 /// Each register that a table names answers at its address.
 pub fn named_registers_answer<X>()
@@ -11,7 +11,12 @@ pub fn unnamed_bytes_are_refused<X>()
     ensures writes { UnnamedWrites X }
 {}
 
-/// A word access that is two bytes asks both before either acts.
+/// A word access at an odd address is refused as `OddWord`, and changes nothing.
+pub fn odd_words_are_refused<X>()
+    ensures { OddWordsAreRefused X }
+{}
+
+/// A word access at an even address that is two bytes asks both before either acts.
 pub fn both_bytes_are_asked<X>()
     ensures reads { BothBytesReadAreAsked X }
     ensures writes { BothBytesWrittenAreAsked X }

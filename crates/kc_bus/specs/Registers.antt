@@ -1,5 +1,5 @@
--- The registers that a bus without units has: 00H and 01H, and the three masks.
-use Rattle.std.specs.Prelude.{ℕ, ◌+◌, ◌*◌, ◌/◌, ◌%◌, ◌==◌, nat_lt, if◌then◌else◌, Result, Ok, Err}
+-- The registers that a bus without units has: the three masks, and no other, not even 00H and 01H.
+use Rattle.std.specs.Prelude.{ℕ, ◌+◌, ◌*◌, ◌/◌, ◌%◌, ◌==◌, if◌then◌else◌, Result, Ok, Err}
 use Rattle.kc_base.specs.declared.types.Kind.{Kind}
 use Rattle.kc_base.specs.declared.types.Kind.TheVariants.{NoRegister, BadWindow}
 use Rattle.kc_exec_spec.specs.declared.access.Masks.{Masks}
@@ -8,8 +8,7 @@ use Rattle.kc_exec_spec.specs.Window.{is_wsr}
 -- a byte read of a register
 abbrev pub register_of : Masks → ℕ → Result ℕ Kind
 register_of m addr =
-    if nat_lt addr 2 then Ok 0
-    else if addr == 8 then Ok m.int_mask
+    if addr == 8 then Ok m.int_mask
     else if addr == 0x13 then Ok m.int_mask1
     else if addr == 0x14 then Ok m.wsr
     else Err NoRegister
@@ -17,8 +16,7 @@ register_of m addr =
 -- the masks after a byte write of a register
 abbrev pub with_register : Masks → ℕ → ℕ → Result Masks Kind
 with_register m addr n =
-    if nat_lt addr 2 then Ok m
-    else if addr == 8 then Ok (record m { int_mask = n })
+    if addr == 8 then Ok (record m { int_mask = n })
     else if addr == 0x13 then Ok (record m { int_mask1 = n })
     else if addr == 0x14 then (if is_wsr n then Ok (record m { wsr = n }) else Err BadWindow)
     else Err NoRegister

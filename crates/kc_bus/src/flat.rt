@@ -10,7 +10,7 @@ use kc_base::{Kind, NoMemory};
 use kc_exec_spec::{Masks, Master};
 use std::alloc::Global;
 
-/// A bus whose special function registers other than the three masks are all `NoRegister`.
+/// A bus whose special function registers other than the three masks are all `NoRegister`, 00H and 01H too.
 #[derive(Drop)]
 pub struct Flat {
     bytes: Vec<u8>,
@@ -65,7 +65,6 @@ fn register_at(masks: Masks, addr: u16) -> Result<u8, Kind>
     ensures { result ≡ register_of masks addr }
 {
     match addr {
-        0 | 1 => Ok(0),
         0x08 => Ok(masks.int_mask),
         0x13 => Ok(masks.int_mask1),
         0x14 => Ok(masks.wsr),
@@ -79,7 +78,6 @@ fn written(masks: Masks, addr: u16, value: u8) -> Result<Masks, Kind>
     ensures window { IfOk result (λ m. IsTrue (is_wsr m.wsr)) }
 {
     match addr {
-        0 | 1 => Ok(masks),
         0x08 => Ok(Masks {
             int_mask: value,
             ..masks
