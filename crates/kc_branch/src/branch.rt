@@ -1,6 +1,6 @@
 //! One branch: its length and its reach in each form.
 
-ghost use Rattle.std.specs.Prelude.{◌≡◌, ◌+ℤ◌, ◌-ℤ◌, pos, ◌≤◌};
+ghost use Rattle.std.specs.Prelude.{◌≡◌, ◌+ℤ◌, ◌-ℤ◌, pos, ◌≤◌, ◌^◌};
 ghost use Rattle.kc_branch.specs.Forms as spec;
 ghost use Rattle.kc_branch.specs.Layouts as layouts;
 
@@ -75,8 +75,10 @@ pub(crate) fn longer(form: Form) -> Form
 }
 
 // How far a target is from the end of a branch.
-pub(crate) fn away(to: u64, distance: i16, end: u64) -> i128
+pub(crate) fn away(to: u128, distance: i16, end: u128) -> i128
+    requires start { to ≤ 2 ^ 80 }
+    requires end { end ≤ 2 ^ 80 }
     ensures { result ≡ ((pos to +ℤ distance) -ℤ pos end) }
 {
-    i128::from(to) + i128::from(distance) - i128::from(end)
+    to as i128 + i128::from(distance) - end as i128
 }

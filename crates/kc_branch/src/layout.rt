@@ -1,6 +1,6 @@
 //! Pieces with their forms, as a tree: places are found and forms are changed on the way from its root to a leaf.
 
-ghost use Rattle.std.specs.Prelude.{◌≡◌, ◌+◌, ◌*◌, ◌<◌, ◌^◌, ◌++◌, ℕ, length, slice_index, IfOk, OnOk};
+ghost use Rattle.std.specs.Prelude.{◌≡◌, ◌+◌, ◌*◌, ◌<◌, ◌≤◌, ◌^◌, ◌++◌, ℕ, length, slice_index, IfOk, OnOk};
 ghost use Rattle.kc_branch.specs.Forms as spec;
 ghost use Rattle.kc_branch.specs.Layouts as layouts;
 
@@ -29,10 +29,11 @@ impl Layout {
     }
 
     // The place before the piece `index`, or behind the last piece, where the first is at `here`; 0 past that.
-    pub(crate) fn place(&self, here: u64, index: usize) -> u64
+    pub(crate) fn place(&self, here: u128, index: usize) -> u128
         requires laid { layouts.IsLaid self.now }
-        requires fits { here + 65536 * length (layouts.items self.now) < 2 ^ 62 }
-        ensures { result ≡ slice_index (layouts.stands (layouts.items self.now) here) index }
+        requires fits { here + 65536 * length (layouts.items self.now) < 2 ^ 80 }
+        ensures value { result ≡ slice_index (layouts.stands (layouts.items self.now) here) index }
+        ensures bound { result ≤ here + 65536 * length (layouts.items self.now) }
     {
         match self {
             Layout::Leaf(piece, form, _) => match index {
@@ -108,7 +109,7 @@ fn start_form(piece: &Piece) -> Form
 fn fork(alloc: Global, left: Layout, right: Layout) -> Result<Layout, NoMemory>
     requires first { layouts.IsLaid left }
     requires second { layouts.IsLaid right }
-    requires few { length (layouts.items left) + length (layouts.items right) < 2 ^ 41 }
+    requires few { length (layouts.items left) + length (layouts.items right) < 2 ^ 63 }
     ensures items { IfOk result (λ t. layouts.items t ≡ layouts.items left ++ layouts.items right) }
     ensures stirred { IfOk result (λ t. layouts.stirred t ≡ layouts.stirred left ++ layouts.stirred right) }
     ensures laid { IfOk result layouts.IsLaid }
@@ -128,7 +129,7 @@ pub(crate) fn start(
     count: usize,
 ) -> Result<Layout, NoMemory>
     requires some { 0 < length pieces.now }
-    requires few { at + length pieces.now < 2 ^ 40 }
+    requires few { at + length pieces.now < 2 ^ 63 }
     ensures items { IfOk result (λ t. layouts.items t ≡ layouts.begun pieces.now) }
     ensures stirred { IfOk result (λ t. layouts.stirred t ≡ layouts.all_stirred pieces.now) }
     ensures laid { IfOk result layouts.IsLaid }

@@ -13,9 +13,6 @@ use crate::stretch::{Stretch, end_from, end_of, joined, of_piece, only_moves};
 use kc_base::NoMemory;
 use std::alloc::Global;
 
-// More pieces than any memory holds.
-const MOST_PIECES: usize = 1 << 40;
-
 // Whether the branch at the index `at` reaches its target.
 #[tactic(auto, using(crate::proofs::Resting::free_spans))]
 fn reaches(
@@ -26,8 +23,8 @@ fn reaches(
     at: usize,
 ) -> bool
     requires laid { layouts.IsLaid layout.now }
-    requires few { length (layouts.items layout.now) < 2 ^ 40 }
-    requires within { at < 2 ^ 40 }
+    requires few { length (layouts.items layout.now) < 2 ^ 63 }
+    requires within { at < 2 ^ 63 }
     ensures { let places = layouts.stands (layouts.items layout.now) 0 in result ≡ spec.reaches places kind target form (slice_index places (at + 1)) }
 {
     match target {
@@ -50,8 +47,8 @@ fn reaches(
 // The same of a piece; one that is no branch has nothing to reach.
 fn piece_reaches(layout: &Layout, piece: &Piece, form: Form, at: usize) -> bool
     requires laid { layouts.IsLaid layout.now }
-    requires few { length (layouts.items layout.now) < 2 ^ 40 }
-    requires within { at < 2 ^ 40 }
+    requires few { length (layouts.items layout.now) < 2 ^ 63 }
+    requires within { at < 2 ^ 63 }
     ensures { let places = layouts.stands (layouts.items layout.now) 0 in result ≡ spec.piece_reaches places piece.now form (slice_index places (at + 1)) }
 {
     match *piece {
@@ -89,8 +86,8 @@ fn both(alloc: Global, left: Raises, right: Raises) -> Result<Raises, NoMemory>
 // Which branches of a part do not reach in the whole layout; its first piece is the piece `at`.
 fn look(alloc: Global, part: &Layout, whole: &Layout, at: usize) -> Result<Raises, NoMemory>
     requires whole_laid { layouts.IsLaid whole.now }
-    requires whole_few { length (layouts.items whole.now) < 2 ^ 40 }
-    requires few { at + length (layouts.items part.now) < 2 ^ 40 }
+    requires whole_few { length (layouts.items whole.now) < 2 ^ 63 }
+    requires few { at + length (layouts.items part.now) < 2 ^ 63 }
     requires laid { layouts.IsLaid part.now }
     requires spanned { layouts.IsSpanned (length (layouts.items whole.now)) part.now at }
     requires at_rest { layouts.AreAtRest (length (layouts.items whole.now)) (layouts.stirred whole.now) (layouts.stands (layouts.items whole.now) 0) part.now at }
@@ -129,19 +126,19 @@ fn sides<'a>(raises: &'a Raises, keep: &'a Raises) -> (&'a Raises, &'a Raises)
 }
 
 // Whether nothing changes in a stretch but its place.
-fn is_quiet(known: &Stretch, raises: &Raises, old: u64, new: u64) -> bool
+fn is_quiet(known: &Stretch, raises: &Raises, old: u128, new: u128) -> bool
     ensures { result ≡ layouts.is_quiet known.now raises.now old new }
 {
     is_keep(raises) && !known.stirred && only_moves(known, old, new)
 }
 
 // Gives the raised branches their next form. The layout began at `old`, and now begins at `new`.
-fn raise(layout: &mut Layout, raises: &Raises, at: usize, count: usize, old: u64, new: u64)
+fn raise(layout: &mut Layout, raises: &Raises, at: usize, count: usize, old: u128, new: u128)
     requires laid { layouts.IsLaid layout.old }
     requires spanned { layouts.IsSpanned count layout.old at }
-    requires few { at + length (layouts.items layout.old) < 2 ^ 40 }
-    requires old_fits { old + 65536 * length (layouts.items layout.old) < 2 ^ 62 }
-    requires new_fits { new + 65536 * length (layouts.items layout.old) < 2 ^ 62 }
+    requires few { at + length (layouts.items layout.old) < 2 ^ 63 }
+    requires old_fits { old + 65536 * length (layouts.items layout.old) < 2 ^ 80 }
+    requires new_fits { new + 65536 * length (layouts.items layout.old) < 2 ^ 80 }
     ensures items { layouts.items layout.new ≡ layouts.items_by layout.old raises.now }
     ensures few { length (layouts.items layout.new) ≡ length (layouts.items layout.old) }
     ensures laid { layouts.IsLaid layout.new }
@@ -212,9 +209,6 @@ pub fn sizes(alloc: Global, pieces: &[Piece]) -> Result<Vec<Form>, NoMemory>
     ensures reach { IfOk result (λ v. laws.settles pieces.now v.items ≡ true) }
     ensures least { IfOk result (λ v. laws.IsLeast pieces.now v.items) }
 {
-    if pieces.len() >= MOST_PIECES {
-        return Err(NoMemory);
-    }
     let mut forms = Vec::new(alloc);
     if pieces.is_empty() {
         return Ok(forms);

@@ -14,9 +14,9 @@ pub(crate) struct Stretch {
     // How many pieces it has.
     pub(crate) count: usize,
     // Where it ends if it begins at the place 0.
-    pub(crate) even_end: u64,
+    pub(crate) even_end: u128,
     // Where it ends if it begins at the place 1.
-    pub(crate) odd_end: u64,
+    pub(crate) odd_end: u128,
     // Whether one of its pieces is an At.
     pub(crate) has_at: bool,
     // Whether one of its pieces is an Even.
@@ -30,23 +30,23 @@ pub(crate) struct Stretch {
 }
 
 // The place after a piece.
-pub(crate) fn end_of(piece: &Piece, form: Form, here: u64) -> u64
-    requires { here < 2 ^ 62 }
+pub(crate) fn end_of(piece: &Piece, form: Form, here: u128) -> u128
+    requires { here < 2 ^ 80 }
     ensures value { result ≡ spec.end_of piece.now form here }
     ensures bound { result ≤ here + 65536 }
 {
     match *piece {
-        Piece::Bytes(count) => here + u64::from(count),
+        Piece::Bytes(count) => here + u128::from(count),
         Piece::Even => here + here % 2,
-        Piece::At(place) => u64::from(place),
-        Piece::Branch { kind, .. } => here + u64::from(size(kind, form)),
+        Piece::At(place) => u128::from(place),
+        Piece::Branch { kind, .. } => here + u128::from(size(kind, form)),
     }
 }
 
 // The place after a stretch.
-pub(crate) fn end_from(known: &Stretch, here: u64) -> u64
+pub(crate) fn end_from(known: &Stretch, here: u128) -> u128
     requires short { layouts.IsShort known.now }
-    requires fits { here + 65536 * known.now.count < 2 ^ 62 }
+    requires fits { here + 65536 * known.now.count < 2 ^ 80 }
     ensures value { result ≡ layouts.end_from known.now here }
     ensures bound { result ≤ here + 65536 * known.now.count }
 {
@@ -94,7 +94,7 @@ fn is_even(piece: &Piece) -> bool
 
 // A stretch of one piece.
 pub(crate) fn of_piece(piece: &Piece, form: Form, at: usize, count: usize, stirred: bool) -> Stretch
-    requires { at < 2 ^ 40 }
+    requires { at < 2 ^ 63 }
     ensures value { result ≡ layouts.of_piece count piece.now form at stirred }
     ensures short { layouts.IsShort result }
 {
@@ -115,7 +115,7 @@ pub(crate) fn of_piece(piece: &Piece, form: Form, at: usize, count: usize, stirr
 pub(crate) fn joined(left: &Stretch, right: &Stretch) -> Stretch
     requires first { layouts.IsShort left.now }
     requires second { layouts.IsShort right.now }
-    requires fits { left.now.count + right.now.count < 2 ^ 41 }
+    requires fits { left.now.count + right.now.count < 2 ^ 63 }
     ensures value { result ≡ layouts.joined left.now right.now }
     ensures short { layouts.IsShort result }
 {
@@ -132,7 +132,7 @@ pub(crate) fn joined(left: &Stretch, right: &Stretch) -> Stretch
 }
 
 // Whether each piece keeps its length if the stretch begins elsewhere.
-pub(crate) fn only_moves(known: &Stretch, old: u64, new: u64) -> bool
+pub(crate) fn only_moves(known: &Stretch, old: u128, new: u128) -> bool
     ensures { result ≡ layouts.only_moves known.now old new }
 {
     old == new || !known.has_at && (!known.has_even || old % 2 == new % 2)
