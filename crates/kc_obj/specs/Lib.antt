@@ -5,4 +5,6 @@ pub mod Names
 pub mod Object
 pub mod Pieces
 pub mod Rules
+pub mod Spelled
 pub mod Spelling
+pub mod Widths

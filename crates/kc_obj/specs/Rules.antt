@@ -1,5 +1,5 @@
 -- The rules that a module keeps (this kit's own).
-use Rattle.std.specs.Prelude.{ℕ, Bool, true, not, ◌&&◌, nat_lt, if◌then◌else◌, Option, Some, None, List, [], ◌∷◌, length}
+use Rattle.std.specs.Prelude.{◌≡◌, ℕ, Bool, true, not, ◌&&◌, nat_lt, if◌then◌else◌, Option, Some, None, List, [], ◌∷◌, length}
 use Rattle.std.specs.List.{list_all}
 use Rattle.kc_obj.specs.declared.parts.Segment.{Segment}
 use Rattle.kc_obj.specs.declared.parts.Taken.{Taken}
@@ -12,6 +12,7 @@ use Rattle.kc_obj.specs.Contents.{content_is_sound, contents_in_order}
 use Rattle.kc_obj.specs.Fixups.{fixup_is_sound, fixups_in_order, has_room}
 use Rattle.kc_obj.specs.LineEntries.{lines_are_sound}
 use Rattle.kc_obj.specs.Object.{Object}
+use Rattle.kc_obj.specs.Widths.{numbers_fit}
 
 -- absolute pieces within their regions, pieces in order, and no empty piece that nothing names
 abbrev pub segments_are_sound : List Segment → List Given → List Fixup → Bool
@@ -57,3 +58,8 @@ is_module m =
 -- the module, where it keeps the rules
 abbrev pub checked : Object → Option Object
 checked m = if is_module m then Some m else None
+
+-- what is true of each module: the rules, and that its numbers fit
+pub record IsSound (m : Object) : Type 0 where
+  pub rules : is_module m ≡ true
+  pub numbers : numbers_fit m ≡ true

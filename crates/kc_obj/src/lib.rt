@@ -9,6 +9,7 @@ pub mod names;
 mod parts;
 pub mod pieces;
 mod rules;
+mod widths;
 mod writing;
 
 pub use module::Module;

@@ -2,16 +2,18 @@ ghost use Rattle.std.specs.Prelude.{◌≡◌, true, length};
 ghost use Rattle.std.specs.Option.{option_map, option_copied};
 ghost use Rattle.kc_obj.specs.Object.{object_of};
 ghost use Rattle.kc_obj.specs.Rules.{checked, is_module};
+ghost use Rattle.kc_obj.specs.Widths.{numbers_fit};
 
 use crate::line_entries::lines_sound;
 use crate::names::name_is_sound;
 use crate::parts::{Content, Fixup, Given, Lines, Segment, Taken};
 use crate::rules::{contents_sound, externals_sound, fixups_sound, publics_sound, segments_sound};
+use crate::widths;
 use kc_base::Text;
 use std::marker::Model;
 
-/// An object module that keeps the rules of the format. It has line entries in version 2 of the format, and none in
-/// version 1.
+/// An object module that keeps the rules of the format, and whose numbers fit the fields of its object. It has line entries
+/// in version 2 of the format, and none in version 1.
 #[derive(Drop)]
 pub struct Module {
     name: Text,
@@ -24,14 +26,13 @@ pub struct Module {
 }
 
 impl Model for Module {
-    ghost use Rattle.std.specs.Prelude.{◌≡◌, true};
     ghost use Rattle.std.specs.Option.{option_map, option_copied};
     ghost use Rattle.kc_obj.specs.Object.{Object, object_of};
-    ghost use Rattle.kc_obj.specs.Rules.{is_module};
+    ghost use Rattle.kc_obj.specs.Rules.{IsSound};
 
     ghost Value = { Object };
 
-    ghost invariant = { λ m. is_module (object_of m.name m.segments.items m.externals.items m.publics.items m.contents.items m.fixups.items (option_map (λ v. v.items) m.lines)) ≡ true };
+    ghost invariant = { λ m. IsSound (object_of m.name m.segments.items m.externals.items m.publics.items m.contents.items m.fixups.items (option_map (λ v. v.items) m.lines)) };
 
     ghost view = { λ m. object_of m.name m.segments.items m.externals.items m.publics.items m.contents.items m.fixups.items (option_map (λ v. v.items) m.lines) };
 }
@@ -60,6 +61,11 @@ impl Module {
                 None => true,
                 Some(entries) => lines_sound(pieces, entries),
             };
+        widths::segments(pieces);
+        widths::publics(&publics);
+        widths::contents(&contents);
+        widths::fixups(&fixups);
+        widths::lines(&lines);
         if sound {
             Some(Module {
                 name,
@@ -130,6 +136,13 @@ impl Module {
     /// Each module keeps the rules of the format. It does nothing when it runs.
     pub fn keeps_rules(&self)
         ensures { is_module self.now ≡ true }
+    {
+        let _ = &self.name;
+    }
+
+    /// The numbers of each module fit the fields of its object. It does nothing when it runs.
+    pub fn has_room(&self)
+        ensures { numbers_fit self.now ≡ true }
     {
         let _ = &self.name;
     }

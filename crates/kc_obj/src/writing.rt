@@ -1,6 +1,7 @@
 ghost use Rattle.std.specs.Prelude.{◌≡◌, ◌++◌, [], OnOk, IfOk};
 ghost use Rattle.std.specs.List.{flat_map};
 ghost use Rattle.std.specs.Option.{option_copied};
+ghost use Rattle.kc_obj.specs.Spelled.{IsSpelled};
 ghost use Rattle.kc_obj.specs.Spelling.{word_bytes, long_bytes, record_bytes, name_bytes, version_of, head_body, base_bytes, segment_body, tag_of, taken_body, piece_number, given_body, content_body, target_bytes, fixup_body, entry_bytes, segment_record, taken_record, given_record, content_record, fixup_record, block_record, takes_entry, block_records, line_records, spelling};
 
 use crate::module::Module;
@@ -291,10 +292,13 @@ fn put_line_records(
 
 /// The one spelling of a module: its name, pieces, externals, publics, contents, relocations, line entries and the
 /// end, as records of a type byte, the length of the body in 2 bytes, low byte first, and the body. Version 1 where the
-/// module has no line entries, else version 2.
+/// module has no line entries, else version 2. They are read as that module.
 pub fn encode(alloc: Global, module: &Module) -> Result<Vec<u8>, NoMemory>
-    ensures { IfOk result (λ v. v.items ≡ spelling «module».now) }
+    ensures bytes { IfOk result (λ v. v.items ≡ spelling «module».now) }
+    ensures spelled { IfOk result (λ v. IsSpelled v.items «module».now) }
 {
+    module.keeps_rules();
+    module.has_room();
     let body = head(alloc, module)?;
     let mut out = Vec::new(alloc);
     put_record(&mut out, 0x01, body.as_slice())?;
