@@ -1,5 +1,5 @@
 -- The fields of a record's body, and how the faults of an object are told (this kit's own format and codes).
-use Rattle.std.specs.Prelude.{ℕ, Bool, false, not, ◌+◌, ◌-◌, ◌*◌, ◌==◌, ◌&&◌, ◌||◌, nat_lt, nat_le, if◌then◌else◌, Option, Some, None, List, [], ◌∷◌, length, take, drop, slice_index, slice_get}
+use Rattle.std.specs.Prelude.{◌≡◌, ℕ, Bool, false, not, All, Contains, ◌+◌, ◌-◌, ◌*◌, ◌==◌, ◌&&◌, ◌||◌, nat_lt, nat_le, if◌then◌else◌, Option, Some, None, List, [], ◌∷◌, length, take, drop, slice_index, slice_get}
 use Rattle.std.specs.List.{list_all}
 use Rattle.kc_obj_faults.specs.declared.faults.Fault.{Fault}
 use Rattle.kc_obj.specs.Names.{is_digit, is_name_char, is_stack_name}
@@ -44,5 +44,20 @@ first_of_both (Some a) b = if is_lesser b a then b else a
 abbrev pub fault_at : ℕ → ℕ → Fault
 fault_at at code = record { at = at; code = code }
 
-abbrev pub noted : Option Fault → Bool → ℕ → ℕ → Option Fault
+-- ---- how faults are taken down: what was found before, whether a rule is broken, the offset and the code
+
+abbrev pub Noting : Type 0 → Type 0
+Noting C = C → Bool → ℕ → ℕ → C
+
+-- the first alone
+abbrev pub noted : Noting (Option Fault)
 noted fault broken at code = if broken then Some (first_of_both fault (fault_at at code)) else fault
+
+-- each
+abbrev pub listed : Noting (List Fault)
+listed faults broken at code = if broken then fault_at at code ∷ faults else faults
+
+-- a fault is one of these, and none of them comes before it
+pub record IsFirst (fault : Fault) (faults : List Fault) : Type 0 where
+  pub is_one : Contains faults fault
+  pub least : All (λ other. is_lesser other fault ≡ false) faults

@@ -1,8 +1,8 @@
 -- The faults of each record, and the part that it gives (this kit's own format and codes). Of a record, `at` is where its
 -- body begins in the file, and the body is as much as the file has of it: a field is judged where all of it is there.
+-- `note` takes a fault down, where a rule is broken.
 use Rattle.std.specs.Prelude.{ℕ, Bool, true, false, not, ◌+◌, ◌-◌, ◌==◌, ◌&&◌, ◌||◌, nat_lt, nat_le, if◌then◌else◌, Option, Some, None, is_some, List, [], ◌∷◌, length, drop, slice_index, slice_get}
 use Rattle.std.specs.List.{list_any}
-use Rattle.kc_obj_faults.specs.declared.faults.Fault.{Fault}
 use Rattle.kc_obj.specs.declared.parts.SegKind.{SegKind}
 use Rattle.kc_obj.specs.declared.parts.SegKind.TheVariants.{Reg, Code, Ram, Stack}
 use Rattle.kc_obj.specs.declared.parts.Segment.{Segment}
@@ -20,13 +20,13 @@ use Rattle.kc_obj_relocation.specs.Numbers.{width}
 use Rattle.kc_obj.specs.Fixups.{fills, may_begin, is_zero}
 use Rattle.kc_obj.specs.LineEntries.{line_follows}
 use Rattle.kc_obj_faults.specs.Codes.{out_of_range, other_spelling, no_name}
-use Rattle.kc_obj_faults.specs.Fields.{word_at, long_at, name_at, is_bad_name, noted}
+use Rattle.kc_obj_faults.specs.Fields.{word_at, long_at, name_at, is_bad_name, Noting}
 
 -- ---- 01: version and name of the module
 
-abbrev pub head_faults : ℕ → List ℕ → Option Fault → Option Fault
-head_faults at body f =
-    noted (noted f (nat_le 1 (length body) && not ((slice_index body 0 == 1) || (slice_index body 0 == 2))) at out_of_range)
+abbrev pub head_faults : {C : Type 0} → Noting C → ℕ → List ℕ → C → C
+head_faults note at body f =
+    note (note f (nat_le 1 (length body) && not ((slice_index body 0 == 1) || (slice_index body 0 == 2))) at out_of_range)
     (nat_le 2 (length body) && is_bad_name false (drop 1 body)) (at + 1) no_name
 
 abbrev pub lines_of_version : ℕ → Option (List Lines)
@@ -58,19 +58,19 @@ bad_base s base = if is_relocatable s.at then not (base == 0) else not (in_regio
 abbrev pub bad_length : Segment → ℕ → Bool
 bad_length s base = not (is_relocatable s.at) && in_region s.kind base 0 && not (in_region s.kind base s.length)
 
-abbrev pub kind_faults : ℕ → Option Segment → List ℕ → Option Fault → Option Fault
-kind_faults at before body f =
-    noted (noted f (nat_le 1 (length body) && nat_lt 3 (slice_index body 0)) at out_of_range)
+abbrev pub kind_faults : {C : Type 0} → Noting C → ℕ → Option Segment → List ℕ → C → C
+kind_faults note at before body f =
+    note (note f (nat_le 1 (length body) && nat_lt 3 (slice_index body 0)) at out_of_range)
     (nat_le 2 (length body) && kind_falls before (segment_at body)) at other_spelling
 
-abbrev pub flag_faults : ℕ → Option Segment → List ℕ → Option Fault → Option Fault
-flag_faults at before body f =
-    noted (noted f (nat_le 2 (length body) && (nat_lt 1 (slice_index body 1) || ((slice_index body 1 == 1) && (slice_index body 0 == 3)))) (at + 1) out_of_range)
+abbrev pub flag_faults : {C : Type 0} → Noting C → ℕ → Option Segment → List ℕ → C → C
+flag_faults note at before body f =
+    note (note f (nat_le 2 (length body) && (nat_lt 1 (slice_index body 1) || ((slice_index body 1 == 1) && (slice_index body 0 == 3)))) (at + 1) out_of_range)
     (nat_le 2 (length body) && comes_late before (segment_at body)) (at + 1) other_spelling
 
-abbrev pub segment_faults : ℕ → Option Segment → List ℕ → Option Fault → Option Fault
-segment_faults at before body f =
-    noted (noted (flag_faults at before body (kind_faults at before body f))
+abbrev pub segment_faults : {C : Type 0} → Noting C → ℕ → Option Segment → List ℕ → C → C
+segment_faults note at before body f =
+    note (note (flag_faults note at before body (kind_faults note at before body f))
     (nat_le 4 (length body) && bad_base (segment_at body) (word_at body 2)) (at + 2) out_of_range)
     (nat_le 6 (length body) && bad_length (segment_at body) (word_at body 2)) (at + 4) out_of_range
 
@@ -79,9 +79,9 @@ segment_faults at before body f =
 abbrev pub taken_at : List ℕ → Taken
 taken_at body = record { name = name_at body; register = slice_index body (slice_index body 0 + 1) == 0 }
 
-abbrev pub taken_faults : ℕ → List ℕ → Option Fault → Option Fault
-taken_faults at body f =
-    noted (noted f (nat_le 1 (length body) && is_bad_name false body) at no_name)
+abbrev pub taken_faults : {C : Type 0} → Noting C → ℕ → List ℕ → C → C
+taken_faults note at body f =
+    note (note f (nat_le 1 (length body) && is_bad_name false body) at no_name)
     (nat_le (slice_index body 0 + 2) (length body) && nat_lt 1 (slice_index body (slice_index body 0 + 1))) (at + slice_index body 0 + 1) out_of_range
 
 -- ---- 06: a public
@@ -96,9 +96,9 @@ abbrev pub name_falls : Option Given → List ℕ → Bool
 name_falls None name = false
 name_falls (Some before) name = not (is_below before.name name)
 
-abbrev pub given_faults : ℕ → Option Given → ℕ → List ℕ → Option Fault → Option Fault
-given_faults at before count body f =
-    noted (noted (noted f (nat_le 1 (length body) && is_bad_name true body) at no_name)
+abbrev pub given_faults : {C : Type 0} → Noting C → ℕ → Option Given → ℕ → List ℕ → C → C
+given_faults note at before count body f =
+    note (note (note f (nat_le 1 (length body) && is_bad_name true body) at no_name)
     (nat_le (slice_index body 0 + 1) (length body) && name_falls before (name_at body)) at other_spelling)
     (nat_le (slice_index body 0 + 3) (length body) && not (word_at body (slice_index body 0 + 1) == 0xFFFF) && not (nat_lt (word_at body (slice_index body 0 + 1)) count)) (at + slice_index body 0 + 1) out_of_range
 
@@ -115,9 +115,9 @@ abbrev pub run_falls : Option Content → ℕ → ℕ → Bool
 run_falls None piece offset = false
 run_falls (Some before) piece offset = (before.piece == piece) && not (leaves_place before piece offset)
 
-abbrev pub run_faults : ℕ → Option Content → Option Segment → ℕ → List ℕ → Option Fault → Option Fault
-run_faults at before piece len body f =
-    noted (noted (noted (noted f (nat_le 2 (length body) && not (has_code piece 0)) at out_of_range)
+abbrev pub run_faults : {C : Type 0} → Noting C → ℕ → Option Content → Option Segment → ℕ → List ℕ → C → C
+run_faults note at before piece len body f =
+    note (note (note (note f (nat_le 2 (length body) && not (has_code piece 0)) at out_of_range)
     (nat_le 2 (length body) && run_piece_falls before (word_at body 0)) at other_spelling)
     (nat_le 4 (length body) && has_code piece 0 && not (has_code piece (word_at body 2 + (len - 4)))) (at + 2) out_of_range)
     (nat_le 4 (length body) && run_falls before (word_at body 0) (word_at body 2)) (at + 2) other_spelling
@@ -144,14 +144,14 @@ abbrev pub bad_index : ℕ → ℕ → ℕ → ℕ → Bool
 bad_index pieces externals code index =
     if code == 0 then nat_le pieces index else (if code == 1 then nat_le externals index else ((code == 2) && not (index == 0)))
 
-abbrev pub target_faults : ℕ → ℕ → ℕ → List ℕ → Option Fault → Option Fault
-target_faults at pieces externals body f =
-    noted (noted f (nat_le 6 (length body) && (nat_lt 2 (slice_index body 5) || ((slice_index body 5 == 2) && nat_lt (slice_index body 4) 2))) (at + 5) out_of_range)
+abbrev pub target_faults : {C : Type 0} → Noting C → ℕ → ℕ → ℕ → List ℕ → C → C
+target_faults note at pieces externals body f =
+    note (note f (nat_le 6 (length body) && (nat_lt 2 (slice_index body 5) || ((slice_index body 5 == 2) && nat_lt (slice_index body 4) 2))) (at + 5) out_of_range)
     (nat_le 8 (length body) && bad_index pieces externals (slice_index body 5) (word_at body 6)) (at + 6) out_of_range
 
-abbrev pub fixup_place_faults : ℕ → Option Fixup → ℕ → List ℕ → Option Fault → Option Fault
-fixup_place_faults at before pieces body f =
-    noted (noted (noted (noted f (nat_le 2 (length body) && nat_le pieces (word_at body 0)) at out_of_range)
+abbrev pub fixup_place_faults : {C : Type 0} → Noting C → ℕ → Option Fixup → ℕ → List ℕ → C → C
+fixup_place_faults note at before pieces body f =
+    note (note (note (note f (nat_le 2 (length body) && nat_le pieces (word_at body 0)) at out_of_range)
     (nat_le 2 (length body) && fixup_piece_falls before (word_at body 0)) at other_spelling)
     (nat_le 4 (length body) && fixup_falls before (word_at body 0) (word_at body 2)) (at + 2) other_spelling)
     (nat_le 5 (length body) && nat_lt 4 (slice_index body 4)) (at + 4) out_of_range
@@ -177,9 +177,9 @@ place_or_zero None = 0
 place_or_zero (Some place) = place
 
 -- the bytes of a relocation of kind 0 to 4 that stand in contents and under no earlier relocation are free
-abbrev pub byte_faults : List ℕ → Fixup → Option ℕ → Option ℕ → Option Fault → Option Fault
-byte_faults file x first second f =
-    noted (noted f (not (may_begin x.kind (byte_of_file file first))) (place_or_zero first) other_spelling)
+abbrev pub byte_faults : {C : Type 0} → Noting C → List ℕ → Fixup → Option ℕ → Option ℕ → C → C
+byte_faults note file x first second f =
+    note (note f (not (may_begin x.kind (byte_of_file file first))) (place_or_zero first) other_spelling)
     ((width x.kind == 2) && not (is_zero (byte_of_file file second))) (place_or_zero second) other_spelling
 
 abbrev pub stands_free : List Fixup → Fixup → Option ℕ → Option ℕ → Bool
@@ -187,14 +187,14 @@ stands_free fixups x first second =
     is_some first && not (is_under fixups x.piece x.offset)
     && ((width x.kind == 1) || (is_some second && not (is_under fixups x.piece (x.offset + 1))))
 
-abbrev pub free_faults : ℕ → List ℕ → List Fixup → Fixup → Option ℕ → Option ℕ → Option Fault → Option Fault
-free_faults at file fixups x first second f =
-    if stands_free fixups x first second then byte_faults file x first second f else noted f true (at + 2) out_of_range
+abbrev pub free_faults : {C : Type 0} → Noting C → ℕ → List ℕ → List Fixup → Fixup → Option ℕ → Option ℕ → C → C
+free_faults note at file fixups x first second f =
+    if stands_free fixups x first second then byte_faults note file x first second f else note f true (at + 2) out_of_range
 
-abbrev pub under_faults : ℕ → List ℕ → ℕ → List Content → List ℕ → List Fixup → List ℕ → Option Fault → Option Fault
-under_faults at file pieces contents starts fixups body f =
+abbrev pub under_faults : {C : Type 0} → Noting C → ℕ → List ℕ → ℕ → List Content → List ℕ → List Fixup → List ℕ → C → C
+under_faults note at file pieces contents starts fixups body f =
     if nat_le 5 (length body) && nat_le (slice_index body 4) 4 && nat_lt (word_at body 0) pieces
-    then free_faults at file fixups (fixup_at body) (place_of contents starts (word_at body 0) (word_at body 2)) (place_of contents starts (word_at body 0) (word_at body 2 + 1)) f
+    then free_faults note at file fixups (fixup_at body) (place_of contents starts (word_at body 0) (word_at body 2)) (place_of contents starts (word_at body 0) (word_at body 2 + 1)) f
     else f
 
 -- ---- 07: line entries
@@ -207,9 +207,9 @@ entry_falls None l = false
 entry_falls (Some before) l = (before.piece == l.piece) && not (line_follows before l)
 
 -- (at: where the entry begins; body: from there on)
-abbrev pub entry_faults : ℕ → Option Lines → Option Segment → ℕ → List ℕ → Option Fault → Option Fault
-entry_faults at before segment piece body f =
-    noted (noted (noted f (nat_le 2 (length body) && has_code segment 0 && not (has_code segment (word_at body 0 + 1))) at out_of_range)
+abbrev pub entry_faults : {C : Type 0} → Noting C → ℕ → Option Lines → Option Segment → ℕ → List ℕ → C → C
+entry_faults note at before segment piece body f =
+    note (note (note f (nat_le 2 (length body) && has_code segment 0 && not (has_code segment (word_at body 0 + 1))) at out_of_range)
     (nat_le 2 (length body) && entry_falls before (entry_at piece body)) at other_spelling)
     (nat_le 6 (length body) && (long_at body 2 == 0)) (at + 2) out_of_range
 
@@ -218,7 +218,7 @@ abbrev pub block_falls : Option Lines → ℕ → ℕ → Bool
 block_falls None block piece = false
 block_falls (Some before) block piece = nat_lt piece before.piece || ((before.piece == piece) && not (block == 1024))
 
-abbrev pub block_faults : ℕ → Option Lines → ℕ → Option Segment → List ℕ → Option Fault → Option Fault
-block_faults at before block segment body f =
-    noted (noted f (nat_le 2 (length body) && not (has_code segment 0)) at out_of_range)
+abbrev pub block_faults : {C : Type 0} → Noting C → ℕ → Option Lines → ℕ → Option Segment → List ℕ → C → C
+block_faults note at before block segment body f =
+    note (note f (nat_le 2 (length body) && not (has_code segment 0)) at out_of_range)
     (nat_le 2 (length body) && block_falls before block (word_at body 0)) at other_spelling

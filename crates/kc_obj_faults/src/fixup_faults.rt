@@ -2,6 +2,7 @@
 // body, or the entry, begins in the file.
 ghost use Rattle.std.specs.Prelude.{◌≡◌, ◌<◌, ◌^◌};
 ghost use Rattle.kc_obj_faults.specs.Records.{fixup_at, fixup_piece_falls, fixup_falls, bad_index, target_faults, fixup_place_faults, byte_of_file, place_or_zero, byte_faults, stands_free, free_faults, under_faults, entry_at, entry_falls, entry_faults, block_falls, block_faults};
+ghost use Rattle.kc_obj_faults.specs.Fields.{noted};
 
 use crate::faults::{Fault, ObjCode, note};
 use crate::fields::{byte, long, word};
@@ -32,7 +33,7 @@ pub fn target_fault(
     fault: Option<Fault>,
 ) -> Option<Fault>
     requires { at < 2 ^ 31 }
-    ensures { result ≡ target_faults at pieces externals body.now fault }
+    ensures { result ≡ target_faults noted at pieces externals body.now fault }
 {
     let code = byte(body, 5);
     let bad = 2 < code || code == 2 && byte(body, 4) < 2;
@@ -67,7 +68,7 @@ pub fn fixup_place_fault(
     fault: Option<Fault>,
 ) -> Option<Fault>
     requires { at < 2 ^ 31 }
-    ensures { result ≡ fixup_place_faults at before pieces body.now fault }
+    ensures { result ≡ fixup_place_faults noted at before pieces body.now fault }
 {
     let piece = word(body, 0);
     let two = 2 <= body.len();
@@ -123,12 +124,12 @@ fn byte_fault(
     second: Option<u32>,
     fault: Option<Fault>,
 ) -> Option<Fault>
-    ensures { result ≡ byte_faults file.now fixup first second fault }
+    ensures { result ≡ byte_faults noted file.now fixup first second fault }
 {
     let bad = !begins_free(fixup.kind, byte_in_file(file, first));
-    let noted = note(fault, bad, offset_of(first), ObjCode::OtherSpelling);
+    let so_far = note(fault, bad, offset_of(first), ObjCode::OtherSpelling);
     let wrong = width(fixup.kind) == 2 && !zero(byte_in_file(file, second));
-    note(noted, wrong, offset_of(second), ObjCode::OtherSpelling)
+    note(so_far, wrong, offset_of(second), ObjCode::OtherSpelling)
 }
 
 fn free(fixups: &Numbers, fixup: Fixup, first: Option<u32>, second: Option<u32>) -> bool
@@ -149,7 +150,7 @@ fn free_fault(
     fault: Option<Fault>,
 ) -> Option<Fault>
     requires { at < 2 ^ 31 }
-    ensures { result ≡ free_faults at file.now fixups.now fixup places.0 places.1 fault }
+    ensures { result ≡ free_faults noted at file.now fixups.now fixup places.0 places.1 fault }
 {
     if free(fixups, fixup, places.0, places.1) {
         byte_fault(file, fixup, places.0, places.1, fault)
@@ -176,7 +177,7 @@ pub fn under_fault(
 ) -> Option<Fault>
     requires at { at < 2 ^ 31 }
     requires fixup { fixup ≡ fixup_at body.now }
-    ensures { result ≡ under_faults at around.entry.file.now pieces around.entry.runs.now.contents around.entry.runs.now.starts around.entry.fixups.now body.now fault }
+    ensures { result ≡ under_faults noted at around.entry.file.now pieces around.entry.runs.now.contents around.entry.runs.now.starts around.entry.fixups.now body.now fault }
 {
     let asked = 5 <= body.len() && byte(body, 4) <= 4 && (word(body, 0) as usize) < pieces;
     if !asked {
@@ -214,7 +215,7 @@ pub fn entry_fault(
 ) -> Option<Fault>
     requires at { at < 2 ^ 31 }
     requires entry { entry ≡ entry_at entry.piece body.now }
-    ensures { result ≡ entry_faults at before segment entry.piece body.now fault }
+    ensures { result ≡ entry_faults noted at before segment entry.piece body.now fault }
 {
     let two = 2 <= body.len();
     let past = is_code(segment, 0) && !is_code(segment, entry.offset as usize + 1);
@@ -251,7 +252,7 @@ pub fn block_fault(
     fault: Option<Fault>,
 ) -> Option<Fault>
     requires { at < 2 ^ 31 }
-    ensures { result ≡ block_faults at before block segment body.now fault }
+    ensures { result ≡ block_faults noted at before block segment body.now fault }
 {
     let two = 2 <= body.len();
     let first = note(fault, two && !is_code(segment, 0), at, ObjCode::OutOfRange);

@@ -12,7 +12,7 @@ use kc_obj::{Content, Given, Segment, contents};
 
 pub fn head_fault(at: u32, body: &[u8], fault: Option<Fault>) -> Option<Fault>
     requires { at < 2 ^ 31 }
-    ensures { result ≡ head_faults at body.now fault }
+    ensures { result ≡ head_faults noted at body.now fault }
 {
     let version = byte(body, 0);
     let known = version == 1 || version == 2;
@@ -70,7 +70,7 @@ fn kind_fault(
 ) -> Option<Fault>
     requires at { at < 2 ^ 31 }
     requires segment { segment ≡ segment_at body.now }
-    ensures { result ≡ kind_faults at before body.now fault }
+    ensures { result ≡ kind_faults noted at before body.now fault }
 {
     let first = note(
         fault,
@@ -95,7 +95,7 @@ fn flag_fault(
 ) -> Option<Fault>
     requires at { at < 2 ^ 31 }
     requires segment { segment ≡ segment_at body.now }
-    ensures { result ≡ flag_faults at before body.now fault }
+    ensures { result ≡ flag_faults noted at before body.now fault }
 {
     let flag = byte(body, 1);
     let bad = 1 < flag || flag == 1 && byte(body, 0) == 3;
@@ -117,7 +117,7 @@ pub fn segment_fault(
 ) -> Option<Fault>
     requires at { at < 2 ^ 31 }
     requires segment { segment ≡ segment_at body.now }
-    ensures { result ≡ segment_faults at before body.now fault }
+    ensures { result ≡ segment_faults noted at before body.now fault }
 {
     let base = word(body, 2);
     let kind = kind_fault(at, before, segment, body, fault);
@@ -138,7 +138,7 @@ pub fn segment_fault(
 
 pub fn taken_fault(at: u32, body: &[u8], fault: Option<Fault>) -> Option<Fault>
     requires { at < 2 ^ 31 }
-    ensures { result ≡ taken_faults at body.now fault }
+    ensures { result ≡ taken_faults noted at body.now fault }
 {
     let len = byte(body, 0) as usize;
     let first = note(
@@ -168,7 +168,7 @@ pub fn given_fault(
     fault: Option<Fault>,
 ) -> Option<Fault>
     requires { at < 2 ^ 31 }
-    ensures { result ≡ given_faults at (option_copied before.entry) count body.now fault }
+    ensures { result ≡ given_faults noted at (option_copied before.entry) count body.now fault }
 {
     let len = byte(body, 0) as usize;
     let piece = word(body, len + 1);
@@ -223,7 +223,7 @@ pub fn run_fault(
 ) -> Option<Fault>
     requires at { at < 2 ^ 31 }
     requires len { len < 65536 }
-    ensures { result ≡ run_faults at (option_copied before.entry) (option_copied segment.entry) len body.now fault }
+    ensures { result ≡ run_faults noted at (option_copied before.entry) (option_copied segment.entry) len body.now fault }
 {
     let piece = word(body, 0);
     let offset = word(body, 2);

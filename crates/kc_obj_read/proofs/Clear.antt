@@ -85,15 +85,15 @@ kind_spelled a h =
       | inr p ↦ elim p [ inl e ↦ rw e refl | inr e ↦ rw e refl ]
     ]
 
-piece_here : (at : ℕ) (before : Option Segment) (a b c d e g : ℕ) (f : Option Fault) → IsBytes (a ∷ b ∷ c ∷ d ∷ e ∷ g ∷ []) → segment_faults at before (a ∷ b ∷ c ∷ d ∷ e ∷ g ∷ []) f ≡ None
+piece_here : (at : ℕ) (before : Option Segment) (a b c d e g : ℕ) (f : Option Fault) → IsBytes (a ∷ b ∷ c ∷ d ∷ e ∷ g ∷ []) → segment_faults noted at before (a ∷ b ∷ c ∷ d ∷ e ∷ g ∷ []) f ≡ None
     → (f ≡ None) × Piece before (a ∷ b ∷ c ∷ d ∷ e ∷ g ∷ [])
 piece_here at before a b c d e g f h clear =
     let body = a ∷ b ∷ c ∷ d ∷ e ∷ g ∷ [] in
     let s = segment_at body in
-    let n6 = noted_none (noted (flag_faults at before body (kind_faults at before body f)) (bad_base s (c + 256 * d)) (at + 2) 3) (bad_length s (c + 256 * d)) (at + 4) 3 clear in
-    let n5 = noted_none (flag_faults at before body (kind_faults at before body f)) (bad_base s (c + 256 * d)) (at + 2) 3 n6.0 in
-    let n4 = noted_none (noted (kind_faults at before body f) (nat_lt 1 b || ((b == 1) && (a == 3))) (at + 1) 3) (comes_late before s) (at + 1) 4 n5.0 in
-    let n3 = noted_none (kind_faults at before body f) (nat_lt 1 b || ((b == 1) && (a == 3))) (at + 1) 3 n4.0 in
+    let n6 = noted_none (noted (flag_faults noted at before body (kind_faults noted at before body f)) (bad_base s (c + 256 * d)) (at + 2) 3) (bad_length s (c + 256 * d)) (at + 4) 3 clear in
+    let n5 = noted_none (flag_faults noted at before body (kind_faults noted at before body f)) (bad_base s (c + 256 * d)) (at + 2) 3 n6.0 in
+    let n4 = noted_none (noted (kind_faults noted at before body f) (nat_lt 1 b || ((b == 1) && (a == 3))) (at + 1) 3) (comes_late before s) (at + 1) 4 n5.0 in
+    let n3 = noted_none (kind_faults noted at before body f) (nat_lt 1 b || ((b == 1) && (a == 3))) (at + 1) 3 n4.0 in
     let n2 = noted_none (noted f (nat_lt 3 a) at 3) (kind_falls before s) at 4 n3.0 in
     let n1 = noted_none f (nat_lt 3 a) at 3 n2.0 in
     let flag = (or_parts (nat_lt 1 b) ((b == 1) && (a == 3)) n3.1).0 in
@@ -121,11 +121,11 @@ piece_here at before a b c d e g f h clear =
     ] in
     (n1.0, here)
 
-pub piece_clear : (at : ℕ) (before : Option Segment) (body : List ℕ) (f : Option Fault) → length body ≡ 6 → IsBytes body → segment_faults at before body f ≡ None → (f ≡ None) × Piece before body
+pub piece_clear : (at : ℕ) (before : Option Segment) (body : List ℕ) (f : Option Fault) → length body ≡ 6 → IsBytes body → segment_faults noted at before body f ≡ None → (f ≡ None) × Piece before body
 piece_clear at before body f len h clear =
     let same = six body len in
     let bytes = subst IsBytes same h in
-    let quiet = subst (λ (b : List ℕ). segment_faults at before b f ≡ None) same clear in
+    let quiet = subst (λ (b : List ℕ). segment_faults noted at before b f ≡ None) same clear in
     subst (λ (b : List ℕ). (f ≡ None) × Piece before b) (sym same) (piece_here at before _ _ _ _ _ _ f bytes quiet)
 
 -- ---- names
@@ -170,7 +170,7 @@ pub record Head (body : List ℕ) : Type 0 where
 version_is : (v : ℕ) → not ((v == 1) || (v == 2)) ≡ false → (v ≡ 1) ⊎ (v ≡ 2)
 version_is v h = grind (arith, nat_tests)
 
-pub head_clear : (at : ℕ) (body : List ℕ) (f : Option Fault) → length body ≡ 1 + slice_index body 1 + 1 + 0 → head_faults at body f ≡ None → (f ≡ None) × Head body
+pub head_clear : (at : ℕ) (body : List ℕ) (f : Option Fault) → length body ≡ 1 + slice_index body 1 + 1 + 0 → head_faults noted at body f ≡ None → (f ≡ None) × Head body
 head_clear at [] f len clear = absurd (omega arith)
 head_clear at (v ∷ []) f len clear = absurd (omega arith)
 head_clear at (v ∷ n ∷ xs) f len clear =
@@ -192,7 +192,7 @@ tag_again zero h = refl
 tag_again (suc zero) h = refl
 tag_again (suc (suc t)) h = absurd (omega (arith, ltb-false))
 
-pub external_clear : (at : ℕ) (body : List ℕ) (f : Option Fault) → length body ≡ slice_index body 0 + 1 + 1 → taken_faults at body f ≡ None → (f ≡ None) × External body
+pub external_clear : (at : ℕ) (body : List ℕ) (f : Option Fault) → length body ≡ slice_index body 0 + 1 + 1 → taken_faults noted at body f ≡ None → (f ≡ None) × External body
 external_clear at [] f len clear = absurd (omega arith)
 external_clear at (n ∷ xs) f len clear =
     let body = n ∷ xs in
@@ -257,7 +257,7 @@ piece_number_again p =
       | false ↦ λ e. refl
     ] refl
 
-pub public_clear : (at : ℕ) (before : Option Given) (count : ℕ) (body : List ℕ) (f : Option Fault) → length body ≡ slice_index body 0 + 1 + 4 → IsBytes body → given_faults at before count body f ≡ None → (f ≡ None) × Public before count body
+pub public_clear : (at : ℕ) (before : Option Given) (count : ℕ) (body : List ℕ) (f : Option Fault) → length body ≡ slice_index body 0 + 1 + 4 → IsBytes body → given_faults noted at before count body f ≡ None → (f ≡ None) × Public before count body
 public_clear at before count [] f len h clear = absurd (omega arith)
 public_clear at before count (n ∷ xs) f len h clear =
     let body = n ∷ xs in

@@ -15,7 +15,7 @@ use Rattle.kc_obj.specs.Spelling.{content_body, target_bytes, fixup_body}
 use Rattle.kc_obj_faults.specs.declared.faults.Fault.{Fault}
 use Rattle.kc_obj_faults.specs.Fields.{word_at, noted}
 use Rattle.kc_base.specs.Bytes.{IsBytes}
-use Rattle.kc_obj_read.specs.Law.{target_fits, fixup_fits}
+use Rattle.kc_obj.specs.Widths.{target_fits, fixup_fits}
 use Rattle.kc_obj_faults.specs.Records.{run_at, run_piece_falls, run_falls, run_faults, target_of, fixup_at, fixup_piece_falls, fixup_falls, bad_index, fixup_place_faults, place_of, is_under, byte_of_file, place_or_zero, byte_faults, stands_free, free_faults, under_faults}
 use Rattle.kc_obj_read.specs.Reading.{Read, fixup_faults}
 use Rattle.kc_obj_faults.specs.Fields.{last_of}
@@ -40,7 +40,7 @@ run_after None c h k = tt
 run_after (Some b) c h k = leaves b.piece c.piece (nat_lt (b.offset + length b.bytes) c.offset || ((b.offset + length b.bytes == c.offset) && (length b.bytes == 1024))) h k
 
 pub run_clear : (at : ℕ) (before : Option Content) (segments : List Segment) (len : ℕ) (body : List ℕ) (f : Option Fault) → (nat_le 5 len && nat_le len 1028) ≡ true → length body ≡ len → IsBytes body
-    → run_faults at before (slice_get segments (word_at body 0)) len body f ≡ None → (f ≡ None) × Run before segments body
+    → run_faults noted at before (slice_get segments (word_at body 0)) len body f ≡ None → (f ≡ None) × Run before segments body
 run_clear at before segments len [] f fit is h clear = absurd (omega (arith, leb-true, (and_parts (nat_le 5 len) (nat_le len 1028) fit).0))
 run_clear at before segments len (a ∷ []) f fit is h clear = absurd (omega (arith, leb-true, (and_parts (nat_le 5 len) (nat_le len 1028) fit).0))
 run_clear at before segments len (a ∷ b ∷ []) f fit is h clear = absurd (omega (arith, leb-true, (and_parts (nat_le 5 len) (nat_le len 1028) fit).0))
@@ -101,10 +101,10 @@ pub record Number (segments : List Segment) (externals : List Taken) (contents :
 abbrev pub PlacesHold : List ℕ → List Content → List ℕ → Type 0
 PlacesHold file contents starts = (p o : ℕ) → byte_of_file file (place_of contents starts p o) ≡ content_at contents p o
 
-pub free_clear : (at : ℕ) (file : List ℕ) (fixups : List Fixup) (x : Fixup) (first second : Option ℕ) (f : Option Fault) → free_faults at file fixups x first second f ≡ None
+pub free_clear : (at : ℕ) (file : List ℕ) (fixups : List Fixup) (x : Fixup) (first second : Option ℕ) (f : Option Fault) → free_faults noted at file fixups x first second f ≡ None
     → (f ≡ None) × (is_under fixups x.piece x.offset ≡ false) × (may_begin x.kind (byte_of_file file first) ≡ true) × (((width x.kind == 2) && not (is_zero (byte_of_file file second))) ≡ false)
 free_clear at file fixups x first second f clear =
-    elim (stands_free fixups x first second) as (λ b. stands_free fixups x first second ≡ b → cond b (byte_faults file x first second f) (noted f true (at + 2) 3) ≡ None → (f ≡ None) × (is_under fixups x.piece x.offset ≡ false) × (may_begin x.kind (byte_of_file file first) ≡ true) × (((width x.kind == 2) && not (is_zero (byte_of_file file second))) ≡ false)) [
+    elim (stands_free fixups x first second) as (λ b. stands_free fixups x first second ≡ b → cond b (byte_faults noted file x first second f) (noted f true (at + 2) 3) ≡ None → (f ≡ None) × (is_under fixups x.piece x.offset ≡ false) × (may_begin x.kind (byte_of_file file first) ≡ true) × (((width x.kind == 2) && not (is_zero (byte_of_file file second))) ≡ false)) [
       | true ↦ λ e quiet.
           let o = x.offset in
           let begins = may_begin x.kind (byte_of_file file first) in
@@ -142,7 +142,7 @@ target_exact segments externals kind (suc (suc zero)) i j hi hj h k =
 target_exact segments externals kind (suc (suc (suc t))) i j hi hj h k = absurd (grind (arith, nat_tests))
 
 module _ (at : ℕ) (file : List ℕ) (r : Read) (a b c d k t i j e g : ℕ) (bytes : IsBytes (a ∷ b ∷ c ∷ d ∷ k ∷ t ∷ i ∷ j ∷ e ∷ g ∷ [])) (hold : PlacesHold file r.contents r.starts)
-    (clear : fixup_faults at file (a ∷ b ∷ c ∷ d ∷ k ∷ t ∷ i ∷ j ∷ e ∷ g ∷ []) r ≡ None) where
+    (clear : fixup_faults noted at file (a ∷ b ∷ c ∷ d ∷ k ∷ t ∷ i ∷ j ∷ e ∷ g ∷ []) r ≡ None) where
   abbrev body : List ℕ
   body = a ∷ b ∷ c ∷ d ∷ k ∷ t ∷ i ∷ j ∷ e ∷ g ∷ []
 
@@ -153,10 +153,10 @@ module _ (at : ℕ) (file : List ℕ) (r : Read) (a b c d k t i j e g : ℕ) (by
   pieces = length r.segments
 
   abbrev place : Option Fault
-  place = fixup_place_faults at (last_of r.fixups) pieces body r.fault
+  place = fixup_place_faults noted at (last_of r.fixups) pieces body r.fault
 
   abbrev under : Option Fault
-  under = under_faults at file pieces r.contents r.starts r.fixups body place
+  under = under_faults noted at file pieces r.contents r.starts r.fixups body place
 
   abbrev first : Option ℕ
   first = place_of r.contents r.starts x.piece x.offset
@@ -171,7 +171,7 @@ module _ (at : ℕ) (file : List ℕ) (r : Read) (a b c d k t i j e g : ℕ) (by
       (n1.0, n1.1, n2.1)
 
   -- a kind or a piece that there is not is told by itself
-  place_none : (asked_for : Bool) → cond asked_for (free_faults at file r.fixups x first second place) place ≡ None → place ≡ None
+  place_none : (asked_for : Bool) → cond asked_for (free_faults noted at file r.fixups x first second place) place ≡ None → place ≡ None
   place_none true h = (free_clear at file r.fixups x first second place h).0
   place_none false h = h
 
@@ -192,8 +192,8 @@ module _ (at : ℕ) (file : List ℕ) (r : Read) (a b c d k t i j e g : ℕ) (by
   known : nat_le k 4 ≡ true
   known = le-leb k 4 (ltb-false 4 k place_clear.4)
 
-  free : free_faults at file r.fixups x first second place ≡ None
-  free = (λ n. cond (sym known n && sym in_pieces n) (free_faults at file r.fixups x first second place) place) ∙ target_clear.0
+  free : free_faults noted at file r.fixups x first second place ≡ None
+  free = (λ n. cond (sym known n && sym in_pieces n) (free_faults noted at file r.fixups x first second place) place) ∙ target_clear.0
 
   pub number_here : (r.fault ≡ None) × Number r.segments r.externals r.contents (last_of r.fixups) body
   number_here =
@@ -214,10 +214,10 @@ module _ (at : ℕ) (file : List ℕ) (r : Read) (a b c d k t i j e g : ℕ) (by
         },
       )
 
-pub number_clear : (at : ℕ) (file : List ℕ) (r : Read) (body : List ℕ) → length body ≡ 10 → IsBytes body → PlacesHold file r.contents r.starts → fixup_faults at file body r ≡ None
+pub number_clear : (at : ℕ) (file : List ℕ) (r : Read) (body : List ℕ) → length body ≡ 10 → IsBytes body → PlacesHold file r.contents r.starts → fixup_faults noted at file body r ≡ None
     → (r.fault ≡ None) × Number r.segments r.externals r.contents (last_of r.fixups) body
 number_clear at file r body len h hold clear =
     let same = ten body len in
     let bytes = subst IsBytes same h in
-    let quiet = subst (λ (b : List ℕ). fixup_faults at file b r ≡ None) same clear in
+    let quiet = subst (λ (b : List ℕ). fixup_faults noted at file b r ≡ None) same clear in
     subst (λ (b : List ℕ). (r.fault ≡ None) × Number r.segments r.externals r.contents (last_of r.fixups) b) (sym same) (number_here at file r _ _ _ _ _ _ _ _ _ _ bytes hold quiet)

@@ -12,7 +12,7 @@ use Rattle.kc_obj.specs.Spelling.{word_bytes, long_bytes, entry_bytes, block_rec
 use Rattle.kc_obj_faults.specs.declared.faults.Fault.{Fault}
 use Rattle.kc_obj_faults.specs.Fields.{word_at, long_at, noted}
 use Rattle.kc_base.specs.Bytes.{IsBytes}
-use Rattle.kc_obj_read.specs.Law.{line_fits}
+use Rattle.kc_obj.specs.Widths.{line_fits}
 use Rattle.kc_obj_faults.specs.Records.{entry_at, entry_falls, entry_faults, block_falls}
 use Rattle.kc_obj_read.specs.Reading.{Read, after_entry, after_entries, opened_block, after_block, fits_lines}
 use Rattle.kc_obj_faults.specs.Fields.{last_of}
@@ -54,7 +54,7 @@ pub record Entry (segments : List Segment) (before : Option Lines) (piece : ℕ)
   pub follows : AfterLast line_follows before (entry_at piece body)
 
 pub entry_clear : (at : ℕ) (before : Option Lines) (segments : List Segment) (segment : Option Segment) (piece a b c d e g : ℕ) (rest : List ℕ) (f : Option Fault) → IsBytes (a ∷ b ∷ c ∷ d ∷ e ∷ g ∷ rest) → piece < 65536
-    → segment ≡ slice_get segments piece → has_code segment 0 ≡ true → NotBelow before piece → entry_faults at before segment piece (a ∷ b ∷ c ∷ d ∷ e ∷ g ∷ rest) f ≡ None → Entry segments before piece (a ∷ b ∷ c ∷ d ∷ e ∷ g ∷ rest)
+    → segment ≡ slice_get segments piece → has_code segment 0 ≡ true → NotBelow before piece → entry_faults noted at before segment piece (a ∷ b ∷ c ∷ d ∷ e ∷ g ∷ rest) f ≡ None → Entry segments before piece (a ∷ b ∷ c ∷ d ∷ e ∷ g ∷ rest)
 entry_clear at before segments segment piece a b c d e g rest f h low is code below clear =
     let body = a ∷ b ∷ c ∷ d ∷ e ∷ g ∷ rest in
     let l = entry_at piece body in
@@ -77,23 +77,23 @@ entry_clear at before segments segment piece a b c d e g rest f h low is code be
     positive_line zero k = absurd (cc k)
     positive_line (suc n) k = omega arith
 
-pub entry_none : (at : ℕ) (before : Option Lines) (segment : Option Segment) (piece : ℕ) (body : List ℕ) (f : Option Fault) → entry_faults at before segment piece body f ≡ None → f ≡ None
+pub entry_none : (at : ℕ) (before : Option Lines) (segment : Option Segment) (piece : ℕ) (body : List ℕ) (f : Option Fault) → entry_faults noted at before segment piece body f ≡ None → f ≡ None
 entry_none at before segment piece body f clear =
     let l = entry_at piece body in
     let n3 = noted_none (noted (noted f (nat_le 2 (length body) && has_code segment 0 && not (has_code segment (word_at body 0 + 1))) at 3) (nat_le 2 (length body) && entry_falls before l) at 4) (nat_le 6 (length body) && (long_at body 2 == 0)) (at + 2) 3 clear in
     let n2 = noted_none (noted f (nat_le 2 (length body) && has_code segment 0 && not (has_code segment (word_at body 0 + 1))) at 3) (nat_le 2 (length body) && entry_falls before l) at 4 n3.0 in
     (noted_none f (nat_le 2 (length body) && has_code segment 0 && not (has_code segment (word_at body 0 + 1))) at 3 n2.0).0
 
-pub entries_none : (n at : ℕ) (segment : Option Segment) (piece : ℕ) (body : List ℕ) (r : Read) → (after_entries n at segment piece body r).fault ≡ None → r.fault ≡ None
+pub entries_none : (n at : ℕ) (segment : Option Segment) (piece : ℕ) (body : List ℕ) (r : Read) → (after_entries noted n at segment piece body r).fault ≡ None → r.fault ≡ None
 unfolding after_entries
 entries_none zero at segment piece body r clear = clear
-entries_none (suc n) at segment piece body r clear = entry_none at (last_of r.lines) segment piece body r.fault (entries_none n (at + 6) segment piece (drop 6 body) (after_entry at segment piece body r) clear)
+entries_none (suc n) at segment piece body r clear = entry_none at (last_of r.lines) segment piece body r.fault (entries_none n (at + 6) segment piece (drop 6 body) (after_entry noted at segment piece body r) clear)
 
 -- ---- all entries of a record
 
 pub record Added (n at : ℕ) (segment : Option Segment) (piece : ℕ) (body : List ℕ) (r : Read) : Type 0 where
   pub fault : r.fault ≡ None
-  pub read : after_entries n at segment piece body r ≡ record r { lines = r.lines ++ entries n piece body; fault = None }
+  pub read : after_entries noted n at segment piece body r ≡ record r { lines = r.lines ++ entries n piece body; fault = None }
   pub sound : list_all (line_is_sound r.segments) (entries n piece body) ≡ true
   pub narrow : list_all line_fits (entries n piece body) ≡ true
   pub same : list_all (λ l. l.piece == piece) (entries n piece body) ≡ true
@@ -106,7 +106,7 @@ no_body [] h = refl
 no_body (b ∷ body) h = absurd (omega arith)
 
 pub entries_clear : (n at : ℕ) (segment : Option Segment) (piece : ℕ) (body : List ℕ) (r : Read) → length body ≡ 6 * n → IsBytes body → piece < 65536 → segment ≡ slice_get r.segments piece → has_code segment 0 ≡ true
-    → lines_in_order r.lines ≡ true → NotBelow (last_of r.lines) piece → (after_entries n at segment piece body r).fault ≡ None → Added n at segment piece body r
+    → lines_in_order r.lines ≡ true → NotBelow (last_of r.lines) piece → (after_entries noted n at segment piece body r).fault ≡ None → Added n at segment piece body r
 unfolding after_entries entries
 entries_clear zero at segment piece body r len h low is code ordered below clear =
     record {
@@ -128,7 +128,7 @@ entries_clear (suc n) at segment piece (a ∷ b ∷ c ∷ d ∷ e ∷ []) r len 
 entries_clear (suc n) at segment piece (a ∷ b ∷ c ∷ d ∷ e ∷ g ∷ rest) r len h low is code ordered below clear =
     let body = a ∷ b ∷ c ∷ d ∷ e ∷ g ∷ rest in
     let l = entry_at piece body in
-    let now = after_entry at segment piece body r in
+    let now = after_entry noted at segment piece body r in
     let quiet : now.fault ≡ None = entries_none n (at + 6) segment piece rest now clear in
     let here = entry_clear at (last_of r.lines) r.segments segment piece a b c d e g rest r.fault h low is code below quiet in
     let next_ordered : lines_in_order (r.lines ++ l ∷ []) ≡ true = lines_push r.lines l ordered here.follows in
@@ -170,13 +170,13 @@ not_below : (before : Option Lines) (block piece : ℕ) → block_falls before b
 not_below None block piece h = tt
 not_below (Some b) block piece h = (or_parts (nat_lt piece b.piece) ((b.piece == piece) && not (block == 1024)) h).0
 
-pub block_none : (at len : ℕ) (body : List ℕ) (r : Read) → (after_block at len body r).fault ≡ None → r.fault ≡ None
+pub block_none : (at len : ℕ) (body : List ℕ) (r : Read) → (after_block noted at len body r).fault ≡ None → r.fault ≡ None
 block_none at len body r clear =
-    let quiet = entries_none ((len - 2) / 6) (at + 2) (slice_get r.segments (word_at body 0)) (word_at body 0) (drop 2 body) (opened_block at body r) clear in
+    let quiet = entries_none ((len - 2) / 6) (at + 2) (slice_get r.segments (word_at body 0)) (word_at body 0) (drop 2 body) (opened_block noted at body r) clear in
     let n2 = noted_none (noted r.fault (nat_le 2 (length body) && not (has_code (slice_get r.segments (word_at body 0)) 0)) at 3) (nat_le 2 (length body) && block_falls (last_of r.lines) r.block (word_at body 0)) at 4 quiet in
     (noted_none r.fault (nat_le 2 (length body) && not (has_code (slice_get r.segments (word_at body 0)) 0)) at 3 n2.0).0
 
-pub block_clear : (at len : ℕ) (body : List ℕ) (r : Read) → fits_lines len ≡ true → length body ≡ len → IsBytes body → lines_in_order r.lines ≡ true → (after_block at len body r).fault ≡ None → Block len body r (after_block at len body r)
+pub block_clear : (at len : ℕ) (body : List ℕ) (r : Read) → fits_lines len ≡ true → length body ≡ len → IsBytes body → lines_in_order r.lines ≡ true → (after_block noted at len body r).fault ≡ None → Block len body r (after_block noted at len body r)
 block_clear at len [] r fit is h ordered clear = absurd (omega (arith, leb-true, (and_parts (nat_le 8 len) ((len - 2) / 6 * 6 == len - 2) (and_parts (nat_le 8 len && ((len - 2) / 6 * 6 == len - 2)) (nat_le ((len - 2) / 6) 1024) fit).0).0))
 block_clear at len (a ∷ []) r fit is h ordered clear = absurd (omega (arith, leb-true, (and_parts (nat_le 8 len) ((len - 2) / 6 * 6 == len - 2) (and_parts (nat_le 8 len && ((len - 2) / 6 * 6 == len - 2)) (nat_le ((len - 2) / 6) 1024) fit).0).0))
 block_clear at len (a ∷ b ∷ xs) r fit is h ordered clear =
@@ -190,13 +190,13 @@ block_clear at len (a ∷ b ∷ xs) r fit is h ordered clear =
     let exact : n * 6 ≡ len - 2 = eqb-true (n * 6) (len - 2) f1.1 in
     let few : n ≤ 1024 = leb-true n 1024 f2.1 in
     let size : length xs ≡ 6 * n = omega arith in
-    let quiet = entries_none n (at + 2) segment piece xs (opened_block at body r) clear in
+    let quiet = entries_none n (at + 2) segment piece xs (opened_block noted at body r) clear in
     let two : nat_le 2 (length body) ≡ true = le-leb 2 (length body) (omega arith) in
     let n2 = noted_none (noted r.fault (nat_le 2 (length body) && not (has_code segment 0)) at 3) (nat_le 2 (length body) && block_falls (last_of r.lines) r.block piece) at 4 quiet in
     let n1 = noted_none r.fault (nat_le 2 (length body) && not (has_code segment 0)) at 3 n2.0 in
     let code : has_code segment 0 ≡ true = not-false (has_code segment 0) (asked (nat_le 2 (length body)) (not (has_code segment 0)) two n1.1) in
     let begins = asked (nat_le 2 (length body)) (block_falls (last_of r.lines) r.block piece) two n2.1 in
-    let added = entries_clear n (at + 2) segment piece xs (opened_block at body r) size h.1.1 (word_below a b h.0 h.1.0) refl code ordered (not_below (last_of r.lines) r.block piece begins) clear in
+    let added = entries_clear n (at + 2) segment piece xs (opened_block noted at body r) size h.1.1 (word_below a b h.0 h.1.0) refl code ordered (not_below (last_of r.lines) r.block piece begins) clear in
     let shape = some_first n piece xs (omega arith) in
     let first = entry_at piece xs in
     let rest = entries (n - 1) piece (drop 6 xs) in

@@ -14,10 +14,11 @@ use Rattle.kc_obj.specs.Fixups.{fixup_is_sound, fixups_in_order, has_room}
 use Rattle.kc_obj.specs.LineEntries.{line_is_sound, lines_in_order, lines_are_sound}
 use Rattle.kc_obj.specs.Spelling.{record_bytes}
 use Rattle.kc_obj_faults.specs.declared.faults.Fault.{Fault}
-use Rattle.kc_obj_faults.specs.Fields.{word_at}
-use Rattle.kc_obj_read.specs.Reading.{Read, Answer, nothing_read, object_read, stage_of, may_come, fits_name, fits, after_head, after_record, stopped, told, ended, at_stage, behind_record, bodied, sized, typed, read_on, answer_of}
+use Rattle.kc_obj_faults.specs.Fields.{word_at, noted}
+use Rattle.kc_obj_read.specs.Reading.{Read, Answer, nothing_read, object_read, stage_of, may_come, fits_name, fits, after_head, after_record, stopped, told, ended, at_stage, behind_record, bodied, sized, typed, read_on, answer_of, first_fault}
 use Rattle.kc_base.specs.Bytes.{IsBytes}
-use Rattle.kc_obj_read.specs.Law.{IsSpelled, fixup_fits, lines_fit, numbers_fit}
+use Rattle.kc_obj.specs.Widths.{fixup_fits, lines_fit, numbers_fit}
+use Rattle.kc_obj.specs.Spelled.{IsSpelled}
 use Rattle.kc_obj_read.proofs.Bytes.{record_here, bytes_drop, bytes_take}
 use Rattle.kc_obj_read.proofs.Good.{Rules, Good, head_good, enter_good, segment_good, external_good, public_good, run_good, fixup_good, lines_good}
 use Rattle.kc_obj_read.proofs.Unmarred.{record_none, stage_none}
@@ -33,7 +34,7 @@ not_second : (b : Bool) (x y : Answer) (m : Object) → (y ≡ Ok m → ⊥) →
 not_second true x y m never h = (refl, h)
 not_second false x y m never h = absurd (never h)
 
-stop_is_no_module : (r : Read) (at code : ℕ) (m : Object) → stopped r at code ≡ Ok m → ⊥
+stop_is_no_module : (r : Read) (at code : ℕ) (m : Object) → stopped first_fault r at code ≡ Ok m → ⊥
 stop_is_no_module r at code m h = cc h
 
 told_ok : (f : Option Fault) (m x : Object) → told f m ≡ Ok x → (f ≡ None) × (m ≡ x)
@@ -45,27 +46,27 @@ record Whole (goes_on : ℕ → Read → Answer) (file : List ℕ) (at : ℕ) (r
   pub long : 2 ≤ length (drop 1 rest)
   pub fit : fits (slice_index rest 0) (word_at (drop 1 rest) 0) (drop 2 (drop 1 rest)) ≡ true
   pub within : word_at (drop 1 rest) 0 ≤ length (drop 2 (drop 1 rest))
-  pub behind : behind_record goes_on (at + 3) (slice_index rest 0) (word_at (drop 1 rest) 0) (length (drop 2 (drop 1 rest)))
-      (after_record (slice_index rest 0) (at + 3) (word_at (drop 1 rest) 0) file (take (word_at (drop 1 rest) 0) (drop 2 (drop 1 rest))) (at_stage at (slice_index rest 0) r)) ≡ Ok m
+  pub behind : behind_record first_fault goes_on (at + 3) (slice_index rest 0) (word_at (drop 1 rest) 0) (length (drop 2 (drop 1 rest)))
+      (after_record noted (slice_index rest 0) (at + 3) (word_at (drop 1 rest) 0) file (take (word_at (drop 1 rest) 0) (drop 2 (drop 1 rest))) (at_stage first_fault at (slice_index rest 0) r)) ≡ Ok m
 
-whole_record : (goes_on : ℕ → Read → Answer) (file : List ℕ) (at : ℕ) (rest : List ℕ) (r : Read) (m : Object) → typed goes_on file at rest r ≡ Ok m → Whole goes_on file at rest r m
+whole_record : (goes_on : ℕ → Read → Answer) (file : List ℕ) (at : ℕ) (rest : List ℕ) (r : Read) (m : Object) → typed first_fault goes_on file at rest r ≡ Ok m → Whole goes_on file at rest r m
 whole_record goes_on file at rest r m h =
     let kind = slice_index rest 0 in
     let len = word_at (drop 1 rest) 0 in
     let body = drop 2 (drop 1 rest) in
-    let entered = at_stage at kind r in
-    let some = not_first (length rest == 0) (stopped r at 2) (cond (may_come r kind) (sized goes_on file at kind (drop 1 rest) entered) (stopped r at 1)) m (stop_is_no_module r at 2 m) h in
-    let comes = not_second (may_come r kind) (sized goes_on file at kind (drop 1 rest) entered) (stopped r at 1) m (stop_is_no_module r at 1 m) some.1 in
-    let long = not_first (nat_lt (length (drop 1 rest)) 2) (stopped entered (length file) 2) (cond (fits kind len body) (bodied goes_on file (at + 3) kind len body entered) (stopped entered (at + 1) 4)) m (stop_is_no_module entered (length file) 2 m) comes.1 in
-    let fit = not_second (fits kind len body) (bodied goes_on file (at + 3) kind len body entered) (stopped entered (at + 1) 4) m (stop_is_no_module entered (at + 1) 4 m) long.1 in
-    let short = after_record kind (at + 3) len file body entered in
-    let full = after_record kind (at + 3) len file (take len body) entered in
-    let within = not_first (nat_lt (length body) len) (stopped short (length file) 2) (behind_record goes_on (at + 3) kind len (length body) full) m (stop_is_no_module short (length file) 2 m) fit.1 in
+    let entered = at_stage first_fault at kind r in
+    let some = not_first (length rest == 0) (stopped first_fault r at 2) (cond (may_come r kind) (sized first_fault goes_on file at kind (drop 1 rest) entered) (stopped first_fault r at 1)) m (stop_is_no_module r at 2 m) h in
+    let comes = not_second (may_come r kind) (sized first_fault goes_on file at kind (drop 1 rest) entered) (stopped first_fault r at 1) m (stop_is_no_module r at 1 m) some.1 in
+    let long = not_first (nat_lt (length (drop 1 rest)) 2) (stopped first_fault entered (length file) 2) (cond (fits kind len body) (bodied first_fault goes_on file (at + 3) kind len body entered) (stopped first_fault entered (at + 1) 4)) m (stop_is_no_module entered (length file) 2 m) comes.1 in
+    let fit = not_second (fits kind len body) (bodied first_fault goes_on file (at + 3) kind len body entered) (stopped first_fault entered (at + 1) 4) m (stop_is_no_module entered (at + 1) 4 m) long.1 in
+    let short = after_record noted kind (at + 3) len file body entered in
+    let full = after_record noted kind (at + 3) len file (take len body) entered in
+    let within = not_first (nat_lt (length body) len) (stopped first_fault short (length file) 2) (behind_record first_fault goes_on (at + 3) kind len (length body) full) m (stop_is_no_module short (length file) 2 m) fit.1 in
     record { comes = comes.0; long = ltb-false (length (drop 1 rest)) 2 long.0; fit = fit.0; within = ltb-false (length body) len within.0; behind = within.1 }
 
 -- ---- no fault was noted
 
-pub read_none : (n : ℕ) (file : List ℕ) (at : ℕ) (r : Read) (m : Object) → read_on n file at r ≡ Ok m → r.fault ≡ None
+pub read_none : (n : ℕ) (file : List ℕ) (at : ℕ) (r : Read) (m : Object) → read_on first_fault n file at r ≡ Ok m → r.fault ≡ None
 unfolding read_on
 read_none zero file at r m h = absurd (cc h)
 read_none (suc n) file at r m h =
@@ -73,12 +74,12 @@ read_none (suc n) file at r m h =
     let kind = slice_index rest 0 in
     let len = word_at (drop 1 rest) 0 in
     let behind = length (drop 2 (drop 1 rest)) in
-    let w = whole_record (read_on n file) file at rest r m h in
-    let entered = at_stage at kind r in
-    let now = after_record kind (at + 3) len file (take len (drop 2 (drop 1 rest))) entered in
+    let w = whole_record (read_on first_fault n file) file at rest r m h in
+    let entered = at_stage first_fault at kind r in
+    let now = after_record noted kind (at + 3) len file (take len (drop 2 (drop 1 rest))) entered in
     let clear : now.fault ≡ None =
-    elim (kind == 0x7F) as (λ b. cond b (ended now (at + 3) behind) (read_on n file (at + 3 + len) now) ≡ Ok m → now.fault ≡ None) [
-      | true ↦ λ k. (told_ok now.fault (object_read now) m (not_second (behind == 0) (told now.fault (object_read now)) (stopped now (at + 3) 5) m (stop_is_no_module now (at + 3) 5 m) k).1).0
+    elim (kind == 0x7F) as (λ b. cond b (ended first_fault now (at + 3) behind) (read_on first_fault n file (at + 3 + len) now) ≡ Ok m → now.fault ≡ None) [
+      | true ↦ λ k. (told_ok now.fault (object_read now) m (not_second (behind == 0) (told now.fault (object_read now)) (stopped first_fault now (at + 3) 5) m (stop_is_no_module now (at + 3) 5 m) k).1).0
       | false ↦ λ k. read_none n file (at + 3 + len) now m k
     ] w.behind in
     (stage_none at kind r (record_none kind (at + 3) len file (take len (drop 2 (drop 1 rest))) entered clear)).0
@@ -151,18 +152,18 @@ known kind h =
     ] h
 
 pub record Ready (file : List ℕ) (at len : ℕ) (behind : List ℕ) (r : Read) (kind : ℕ) : Type 0 where
-  pub good : Good file at (at_stage at kind r)
+  pub good : Good file at (at_stage first_fault at kind r)
   pub lines : (r.has_lines || not (kind == 0x07)) ≡ true
   pub fit : fits kind len behind ≡ true
   pub within : len ≤ length behind
   pub behind_is : behind ≡ drop (at + 3) file
   pub bytes : IsBytes (take len behind)
   pub next : take (at + 3 + len) file ≡ take at file ++ record_bytes kind (take len behind)
-  pub clear : (after_record kind (at + 3) len file (take len behind) (at_stage at kind r)).fault ≡ None
+  pub clear : (after_record noted kind (at + 3) len file (take len behind) (at_stage first_fault at kind r)).fault ≡ None
 
 module _ (file : List ℕ) (at len : ℕ) (behind : List ℕ) (r : Read) where
   abbrev Next : ℕ → Type 0
-  Next kind = Good file (at + 3 + len) (after_record kind (at + 3) len file (take len behind) (at_stage at kind r))
+  Next kind = Good file (at + 3 + len) (after_record noted kind (at + 3) len file (take len behind) (at_stage first_fault at kind r))
 
   abbrev body : List ℕ
   body = take len behind
@@ -171,26 +172,26 @@ module _ (file : List ℕ) (at len : ℕ) (behind : List ℕ) (r : Read) where
   to = at + 3 + len
 
   piece_step : Ready file at len behind r 0x02 → Next 0x02
-  piece_step w = segment_good file at to (at + 3) body (at_stage at 0x02 r) w.good w.bytes refl (length-take-le len behind w.within ∙ eqb-true len 6 w.fit) w.next w.clear
+  piece_step w = segment_good file at to (at + 3) body (at_stage first_fault at 0x02 r) w.good w.bytes refl (length-take-le len behind w.within ∙ eqb-true len 6 w.fit) w.next w.clear
 
   external_step : Ready file at len behind r 0x05 → Next 0x05
-  external_step w = external_good file at to (at + 3) body (at_stage at 0x05 r) w.good w.bytes refl (omega (arith, name_fits 0 1 len behind w.within w.fit)) w.next w.clear
+  external_step w = external_good file at to (at + 3) body (at_stage first_fault at 0x05 r) w.good w.bytes refl (omega (arith, name_fits 0 1 len behind w.within w.fit)) w.next w.clear
 
   public_step : Ready file at len behind r 0x06 → Next 0x06
-  public_step w = public_good file at to (at + 3) body (at_stage at 0x06 r) w.good w.bytes refl (omega (arith, name_fits 0 4 len behind w.within w.fit)) w.next w.clear
+  public_step w = public_good file at to (at + 3) body (at_stage first_fault at 0x06 r) w.good w.bytes refl (omega (arith, name_fits 0 4 len behind w.within w.fit)) w.next w.clear
 
   run_step : Ready file at len behind r 0x03 → Next 0x03
-  run_step w = run_good file at to (at + 3) body (at_stage at 0x03 r) w.good w.bytes len refl w.fit (length-take-le len behind w.within) (ap (take len) w.behind_is) w.next w.clear
+  run_step w = run_good file at to (at + 3) body (at_stage first_fault at 0x03 r) w.good w.bytes len refl w.fit (length-take-le len behind w.within) (ap (take len) w.behind_is) w.next w.clear
 
   number_step : Ready file at len behind r 0x04 → Next 0x04
-  number_step w = fixup_good file at to (at + 3) body (at_stage at 0x04 r) w.good w.bytes refl (length-take-le len behind w.within ∙ eqb-true len 10 w.fit) w.next w.clear
+  number_step w = fixup_good file at to (at + 3) body (at_stage first_fault at 0x04 r) w.good w.bytes refl (length-take-le len behind w.within ∙ eqb-true len 10 w.fit) w.next w.clear
 
   has : (b : Bool) → (b || false) ≡ true → b ≡ true
   has true h = refl
   has false h = h
 
   entries_step : Ready file at len behind r 0x07 → Next 0x07
-  entries_step w = lines_good file at to (at + 3) body (at_stage at 0x07 r) w.good w.bytes len refl (has r.has_lines w.lines) w.fit (length-take-le len behind w.within) w.next w.clear
+  entries_step w = lines_good file at to (at + 3) body (at_stage first_fault at 0x07 r) w.good w.bytes len refl (has r.has_lines w.lines) w.fit (length-take-le len behind w.within) w.next w.clear
 
   pub good_step : (kind : ℕ) → Known kind → (kind == 0x7F) ≡ false → Ready file at len behind r kind → Next kind
   good_step kind (Piece e) more w = subst Next (sym e) (piece_step (subst (Ready file at len behind r) e w))
@@ -267,7 +268,7 @@ end_spelled file at len behind r w none =
         lines_ordered = good.rules.lines_ordered;
         lines_narrow = good.rules.lines_narrow;
       }) kept;
-      numbers = rules_fit (at_stage at 0x7F r) good.rules;
+      numbers = rules_fit (at_stage first_fault at 0x7F r) good.rules;
       spelled = (λ i. good.spelled i ++ record_bytes 0x7F []) ∙ (λ i. take at file ++ record_bytes 0x7F (take (sym empty i) behind)) ∙ sym w.next ∙ ap (λ n. take (at + 3 + n) file) empty ∙ whole;
     }
 
@@ -281,7 +282,7 @@ later_types (suc s) x y h k =
       | false ↦ λ e q. q
     ] refl k
 
-reads : (n : ℕ) (file : List ℕ) (at : ℕ) (r : Read) (m : Object) → IsBytes file → Good file at r → read_on n file at r ≡ Ok m → IsSpelled file m
+reads : (n : ℕ) (file : List ℕ) (at : ℕ) (r : Read) (m : Object) → IsBytes file → Good file at r → read_on first_fault n file at r ≡ Ok m → IsSpelled file m
 unfolding read_on
 reads zero file at r m bytes good h = absurd (cc h)
 reads (suc n) file at r m bytes good h =
@@ -289,9 +290,9 @@ reads (suc n) file at r m bytes good h =
     let kind = slice_index rest 0 in
     let len = word_at (drop 1 rest) 0 in
     let behind = drop 2 (drop 1 rest) in
-    let w = whole_record (read_on n file) file at rest r m h in
-    let entered = at_stage at kind r in
-    let now = after_record kind (at + 3) len file (take len behind) entered in
+    let w = whole_record (read_on first_fault n file) file at rest r m h in
+    let entered = at_stage first_fault at kind r in
+    let now = after_record noted kind (at + 3) len file (take len behind) entered in
     let comes = later_types r.stage (kind == 0x01) (nat_le 2 (stage_of kind) && nat_le r.stage (stage_of kind) && (r.has_lines || not (kind == 0x07))) good.begun w.comes in
     let c2 = and_parts (nat_le 2 (stage_of kind) && nat_le r.stage (stage_of kind)) (r.has_lines || not (kind == 0x07)) comes in
     let c1 = and_parts (nat_le 2 (stage_of kind)) (nat_le r.stage (stage_of kind)) c2.0 in
@@ -306,12 +307,12 @@ reads (suc n) file at r m bytes good h =
       next = taken_on file at bytes w.long w.within;
       clear = clear;
     } in
-    elim (kind == 0x7F) as (λ b. (kind == 0x7F) ≡ b → cond b (ended now (at + 3) (length behind)) (read_on n file (at + 3 + len) now) ≡ Ok m → IsSpelled file m) [
+    elim (kind == 0x7F) as (λ b. (kind == 0x7F) ≡ b → cond b (ended first_fault now (at + 3) (length behind)) (read_on first_fault n file (at + 3 + len) now) ≡ Ok m → IsSpelled file m) [
       | true ↦ λ e k.
-          let end = not_second (length behind == 0) (told now.fault (object_read now)) (stopped now (at + 3) 5) m (stop_is_no_module now (at + 3) 5 m) k in
+          let end = not_second (length behind == 0) (told now.fault (object_read now)) (stopped first_fault now (at + 3) 5) m (stop_is_no_module now (at + 3) 5 m) k in
           let is = told_ok now.fault (object_read now) m end.1 in
           let same : kind ≡ 0x7F = eqb-true kind 0x7F e in
-          let object : object_read r ≡ m = ap (λ k. object_read (after_record k (at + 3) len file (take len behind) (at_stage at k r))) (sym same) ∙ is.1 in
+          let object : object_read r ≡ m = ap (λ k. object_read (after_record noted k (at + 3) len file (take len behind) (at_stage first_fault at k r))) (sym same) ∙ is.1 in
           subst (IsSpelled file) object (end_spelled file at len behind r (subst (Ready file at len behind r) same (ready is.0)) end.0)
       | false ↦ λ e k. reads n file (at + 3 + len) now m bytes (good_step file at len behind r kind (known kind c1.0) e (ready (read_none n file (at + 3 + len) now m k))) k
     ] refl w.behind
@@ -319,16 +320,16 @@ reads (suc n) file at r m bytes good h =
 pub decoded_spelled : (bytes : List ℕ) (m : Object) → IsBytes bytes → answer_of bytes ≡ Ok m → IsSpelled bytes m
 unfolding read_on
 decoded_spelled file m bytes answer =
-    let h : read_on (suc (length file)) file 0 nothing_read ≡ Ok m = ap (λ n. read_on n file 0 nothing_read) (sym (add-one (length file))) ∙ answer in
+    let h : read_on first_fault (suc (length file)) file 0 nothing_read ≡ Ok m = ap (λ n. read_on first_fault n file 0 nothing_read) (sym (add-one (length file))) ∙ answer in
     let n = length file in
     let kind = slice_index file 0 in
     let len = word_at (drop 1 file) 0 in
     let behind = drop 2 (drop 1 file) in
-    let w = whole_record (read_on n file) file 0 file nothing_read m h in
+    let w = whole_record (read_on first_fault n file) file 0 file nothing_read m h in
     let same : kind ≡ 0x01 = eqb-true kind 0x01 w.comes in
     let body = take len behind in
-    let now = after_head 3 body (at_stage 0 0x01 nothing_read) in
-    let on : read_on n file (3 + len) now ≡ Ok m = subst (λ k. behind_record (read_on n file) 3 k len (length behind) (after_record k 3 len file body (at_stage 0 k nothing_read)) ≡ Ok m) same w.behind in
+    let now = after_head noted 3 body (at_stage first_fault 0 0x01 nothing_read) in
+    let on : read_on first_fault n file (3 + len) now ≡ Ok m = subst (λ k. behind_record first_fault (read_on first_fault n file) 3 k len (length behind) (after_record noted k 3 len file body (at_stage first_fault 0 k nothing_read)) ≡ Ok m) same w.behind in
     let fit : fits_name 1 0 len behind ≡ true = subst (λ k. fits k len behind ≡ true) same w.fit in
     let next : take (3 + len) file ≡ record_bytes 0x01 body = taken_on file 0 bytes w.long w.within ∙ ap (λ k. record_bytes k body) same in
     let good : Good file (3 + len) now = head_good file (3 + len) body (name_fits 1 0 len behind w.within fit) next (read_none n file (3 + len) now m on) in

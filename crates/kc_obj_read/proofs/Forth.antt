@@ -109,7 +109,7 @@ based_forth kind (Some base) len placed narrow =
 pub record PieceForth (at : ℕ) (before : Option Segment) (s : Segment) (f : Option Fault) : Type 0 where
   pub length : length (segment_body s) ≡ 6
   pub again : segment_at (segment_body s) ≡ s
-  pub clear : segment_faults at before (segment_body s) f ≡ None
+  pub clear : segment_faults noted at before (segment_body s) f ≡ None
 
 pub piece_forth : (at : ℕ) (before : Option Segment) (s : Segment) (f : Option Fault) → is_placed s ≡ true → nat_lt s.length 0x10000 ≡ true → AfterLast segment_follows before s → f ≡ None → PieceForth at before s f
 piece_forth at before s f placed narrow follows none =
@@ -118,11 +118,11 @@ piece_forth at before s f placed narrow follows none =
     let falls = falls_not before s follows in
     let c1 = clear_noted f (nat_le 1 (length body) && nat_lt 3 (slice_index body 0)) at 3 none (and_right (nat_le 1 (length body)) (nat_lt 3 (slice_index body 0)) (kind_known s.kind)) in
     let c2 = clear_noted (noted f (nat_le 1 (length body) && nat_lt 3 (slice_index body 0)) at 3) (nat_le 2 (length body) && kind_falls before (segment_at body)) at 4 c1 (and_right (nat_le 2 (length body)) (kind_falls before (segment_at body)) (ap (kind_falls before) b.again ∙ falls.0)) in
-    let kind = kind_faults at before body f in
+    let kind = kind_faults noted at before body f in
     let broken = nat_lt 1 (slice_index body 1) || ((slice_index body 1 == 1) && (slice_index body 0 == 3)) in
     let c3 = clear_noted kind (nat_le 2 (length body) && broken) (at + 1) 3 c2 (and_right (nat_le 2 (length body)) broken b.flag) in
     let c4 = clear_noted (noted kind (nat_le 2 (length body) && broken) (at + 1) 3) (nat_le 2 (length body) && comes_late before (segment_at body)) (at + 1) 4 c3 (and_right (nat_le 2 (length body)) (comes_late before (segment_at body)) (ap (comes_late before) b.again ∙ falls.1)) in
-    let flag = flag_faults at before body kind in
+    let flag = flag_faults noted at before body kind in
     let base = bad_base (segment_at body) (word_at body 2) in
     let end = bad_length (segment_at body) (word_at body 2) in
     let c5 = clear_noted flag (nat_le 4 (length body) && base) (at + 2) 3 c4 (and_right (nat_le 4 (length body)) base (ap (λ t. bad_base t (word_at body 2)) b.again ∙ b.base)) in
@@ -171,7 +171,7 @@ name_forth public name rest h stack =
 
 -- ---- 01
 
-pub head_forth : (at v : ℕ) (name : List ℕ) (f : Option Fault) → ((v ≡ 1) ⊎ (v ≡ 2)) → is_name name ≡ true → f ≡ None → head_faults at (v ∷ name_bytes name) f ≡ None
+pub head_forth : (at v : ℕ) (name : List ℕ) (f : Option Fault) → ((v ≡ 1) ⊎ (v ≡ 2)) → is_name name ≡ true → f ≡ None → head_faults noted at (v ∷ name_bytes name) f ≡ None
 head_forth at v name f version h none =
     let body = v ∷ name_bytes name in
     let n : NameForth false name [] = name_forth false name [] h refl in
@@ -185,7 +185,7 @@ head_forth at v name f version h none =
 pub record ExternalForth (at : ℕ) (t : Taken) (f : Option Fault) : Type 0 where
   pub size : length (taken_body t) ≡ slice_index (taken_body t) 0 + 1 + 1
   pub again : taken_at (taken_body t) ≡ t
-  pub clear : taken_faults at (taken_body t) f ≡ None
+  pub clear : taken_faults noted at (taken_body t) f ≡ None
 
 tag_small : (r : Bool) → (nat_lt 1 (tag_of r) ≡ false) × ((tag_of r == 0) ≡ r)
 tag_small true = (refl, refl)
@@ -211,7 +211,7 @@ external_forth at t f h none =
 pub record PublicForth (at : ℕ) (before : Option Given) (count : ℕ) (g : Given) (f : Option Fault) : Type 0 where
   pub size : length (given_body g) ≡ slice_index (given_body g) 0 + 1 + 4
   pub again : given_at (given_body g) ≡ g
-  pub clear : given_faults at before count (given_body g) f ≡ None
+  pub clear : given_faults noted at before count (given_body g) f ≡ None
 
 piece_back : (count : ℕ) (piece : Option ℕ) → names_piece count piece ≡ true → (piece_number piece < 0x10000) × (piece_of (piece_number piece) ≡ piece) × ((not (piece_number piece == 0xFFFF) && not (nat_lt (piece_number piece) count)) ≡ false)
 piece_back count None h = (omega arith, refl, refl)
@@ -266,7 +266,7 @@ pub record RunForth (at : ℕ) (before : Option Content) (segments : List Segmen
   pub size : length (content_body c) ≡ 4 + length c.bytes
   pub fit : (nat_le 5 (length (content_body c)) && nat_le (length (content_body c)) 1028) ≡ true
   pub again : run_at (content_body c) ≡ c
-  pub clear : run_faults at before (slice_get segments (word_at (content_body c) 0)) (length (content_body c)) (content_body c) f ≡ None
+  pub clear : run_faults noted at before (slice_get segments (word_at (content_body c) 0)) (length (content_body c)) (content_body c) f ≡ None
 
 run_not_late : (before : Option Content) (c : Content) → AfterLast content_follows before c → (run_piece_falls before c.piece ≡ false) × (run_falls before c.piece c.offset ≡ false)
 run_not_late None c h = (refl, refl)

@@ -19,7 +19,7 @@ use Rattle.kc_obj.specs.LineEntries.{line_is_sound, line_follows, lines_in_order
 use Rattle.kc_obj.specs.Spelling.{word_bytes, target_bytes, fixup_body, entry_bytes}
 use Rattle.kc_obj_faults.specs.declared.faults.Fault.{Fault}
 use Rattle.kc_obj_faults.specs.Fields.{word_at, long_at, noted}
-use Rattle.kc_obj_read.specs.Law.{target_fits, fixup_fits, line_fits}
+use Rattle.kc_obj.specs.Widths.{target_fits, fixup_fits, line_fits}
 use Rattle.kc_obj_faults.specs.Records.{target_of, fixup_at, fixup_piece_falls, fixup_falls, bad_index, fixup_place_faults, place_of, is_under, byte_of_file, place_or_zero, byte_faults, stands_free, free_faults, under_faults, entry_at, entry_falls, entry_faults, block_falls}
 use Rattle.kc_obj_read.specs.Reading.{Read, fixup_faults, after_entry, after_entries, opened_faults, opened_block, after_block, fits_lines}
 use Rattle.kc_obj_faults.specs.Fields.{last_of}
@@ -96,7 +96,7 @@ second_zero kind z h =
     elim ((kind == 1) || (kind == 2)) as (λ b. ((cond b 1 2 == 1) || z) ≡ true → ((cond b 1 2 == 2) && not z) ≡ false) [ true ↦ λ k. refl | false ↦ λ k. not_from_true z k ] h
 
 free_forth : (at : ℕ) (file : List ℕ) (fixups : List Fixup) (x : Fixup) (first second : Option ℕ) (f : Option Fault) → f ≡ None → fixups_in_order (fixups ++ x ∷ []) ≡ true → may_begin x.kind (byte_of_file file first) ≡ true
-    → ((width x.kind == 1) || is_zero (byte_of_file file second)) ≡ true → free_faults at file fixups x first second f ≡ None
+    → ((width x.kind == 1) || is_zero (byte_of_file file second)) ≡ true → free_faults noted at file fixups x first second f ≡ None
 free_forth at file fixups x first second f none ordered begins ends =
     let under : is_under fixups x.piece x.offset ≡ false = none_over fixups x x.offset ordered (omega arith) in
     let under_next : is_under fixups x.piece (x.offset + 1) ≡ false = none_over fixups x (x.offset + 1) ordered (omega arith) in
@@ -107,13 +107,13 @@ free_forth at file fixups x first second f none ordered begins ends =
     let bad = not (may_begin x.kind (byte_of_file file first)) in
     let wrong = (width x.kind == 2) && not (is_zero (byte_of_file file second)) in
     let c1 = clear_noted f bad (place_or_zero first) 4 none (not_from_true (may_begin x.kind (byte_of_file file first)) begins) in
-    let quiet : byte_faults file x first second f ≡ None = clear_noted (noted f bad (place_or_zero first) 4) wrong (place_or_zero second) 4 c1 (second_zero x.kind (is_zero (byte_of_file file second)) ends) in
-    ap (λ b. cond b (byte_faults file x first second f) (noted f true (at + 2) 3)) ok ∙ quiet
+    let quiet : byte_faults noted file x first second f ≡ None = clear_noted (noted f bad (place_or_zero first) 4) wrong (place_or_zero second) 4 c1 (second_zero x.kind (is_zero (byte_of_file file second)) ends) in
+    ap (λ b. cond b (byte_faults noted file x first second f) (noted f true (at + 2) 3)) ok ∙ quiet
 
 pub record NumberForth (at : ℕ) (file : List ℕ) (r : Read) (x : Fixup) : Type 0 where
   pub size : length (fixup_body x) ≡ 10
   pub again : fixup_at (fixup_body x) ≡ x
-  pub clear : fixup_faults at file (fixup_body x) r ≡ None
+  pub clear : fixup_faults noted at file (fixup_body x) r ≡ None
 
 pub number_forth : (at : ℕ) (file : List ℕ) (r : Read) (x : Fixup) → r.fault ≡ None → PlacesHold file r.contents r.starts → fixup_is_sound r.segments r.externals x ≡ true → fixup_fits x ≡ true → fixups_in_order (r.fixups ++ x ∷ []) ≡ true → has_room r.contents x ≡ true → NumberForth at file r x
 unfolding fixups_in_order
@@ -142,20 +142,20 @@ number_forth at file r x none hold sound narrow ordered room =
     let c1 = clear_noted r.fault first at 3 none (and_right (nat_le 2 (length body)) (nat_le pieces (word_at body 0)) (ap (nat_le pieces) p ∙ lt-leb pieces x.piece (ltb-true x.piece pieces s1.0))) in
     let c2 = clear_noted (noted r.fault first at 3) second at 4 c1 (and_right (nat_le 2 (length body)) (fixup_piece_falls before (word_at body 0)) (ap (fixup_piece_falls before) p ∙ late.0)) in
     let c3 = clear_noted (noted (noted r.fault first at 3) second at 4) third (at + 2) 4 c2 (and_right (nat_le 4 (length body)) (fixup_falls before (word_at body 0) (word_at body 2)) ((λ n. fixup_falls before (p n) (o n)) ∙ late.1)) in
-    let place = fixup_place_faults at before pieces body r.fault in
+    let place = fixup_place_faults noted at before pieces body r.fault in
     let c4 : place ≡ None = clear_noted (noted (noted (noted r.fault first at 3) second at 4) third (at + 2) 4) fourth (at + 4) 3 c3 (and_right (nat_le 5 (length body)) (nat_lt 4 x.kind) (le-ltb 4 x.kind (leb-true x.kind 4 s1.1))) in
     let begins : may_begin x.kind (byte_of_file file (place_of r.contents r.starts x.piece x.offset)) ≡ true = ap (may_begin x.kind) (hold x.piece x.offset) ∙ rm.0 in
     let ends : ((width x.kind == 1) || is_zero (byte_of_file file (place_of r.contents r.starts x.piece (x.offset + 1)))) ≡ true = ap (λ y. (width x.kind == 1) || is_zero y) (hold x.piece (x.offset + 1)) ∙ rm.1 in
-    let free : free_faults at file r.fixups x (place_of r.contents r.starts x.piece x.offset) (place_of r.contents r.starts x.piece (x.offset + 1)) place ≡ None = free_forth at file r.fixups x (place_of r.contents r.starts x.piece x.offset) (place_of r.contents r.starts x.piece (x.offset + 1)) place c4 ordered begins ends in
-    let free_body : free_faults at file r.fixups (fixup_at body) (place_of r.contents r.starts (word_at body 0) (word_at body 2)) (place_of r.contents r.starts (word_at body 0) (word_at body 2 + 1)) place ≡ None =
-    (λ n. free_faults at file r.fixups (again n) (place_of r.contents r.starts (p n) (o n)) (place_of r.contents r.starts (p n) (o n + 1)) place) ∙ free in
-    let under = under_faults at file pieces r.contents r.starts r.fixups body place in
-    let under_clear : under ≡ None = either (nat_le 5 (length body) && nat_le x.kind 4 && nat_lt (word_at body 0) pieces) (free_faults at file r.fixups (fixup_at body) (place_of r.contents r.starts (word_at body 0) (word_at body 2)) (place_of r.contents r.starts (word_at body 0) (word_at body 2 + 1)) place) place free_body c4 in
+    let free : free_faults noted at file r.fixups x (place_of r.contents r.starts x.piece x.offset) (place_of r.contents r.starts x.piece (x.offset + 1)) place ≡ None = free_forth at file r.fixups x (place_of r.contents r.starts x.piece x.offset) (place_of r.contents r.starts x.piece (x.offset + 1)) place c4 ordered begins ends in
+    let free_body : free_faults noted at file r.fixups (fixup_at body) (place_of r.contents r.starts (word_at body 0) (word_at body 2)) (place_of r.contents r.starts (word_at body 0) (word_at body 2 + 1)) place ≡ None =
+    (λ n. free_faults noted at file r.fixups (again n) (place_of r.contents r.starts (p n) (o n)) (place_of r.contents r.starts (p n) (o n + 1)) place) ∙ free in
+    let under = under_faults noted at file pieces r.contents r.starts r.fixups body place in
+    let under_clear : under ≡ None = either (nat_le 5 (length body) && nat_le x.kind 4 && nat_lt (word_at body 0) pieces) (free_faults noted at file r.fixups (fixup_at body) (place_of r.contents r.starts (word_at body 0) (word_at body 2)) (place_of r.contents r.starts (word_at body 0) (word_at body 2 + 1)) place) place free_body c4 in
     let bad = nat_lt 2 t.code || ((t.code == 2) && nat_lt x.kind 2) in
     let wrong = bad_index pieces (length r.externals) t.code (word_at body 6) in
     let c5 = clear_noted under (nat_le 6 (length body) && bad) (at + 5) 3 under_clear (and_right (nat_le 6 (length body)) bad t.known) in
-    let c6 : fixup_faults at file body r ≡ None = clear_noted (noted under (nat_le 6 (length body) && bad) (at + 5) 3) (nat_le 8 (length body) && wrong) (at + 6) 3 c5 (and_right (nat_le 8 (length body)) wrong (ap (bad_index pieces (length r.externals) t.code) i ∙ t.exact)) in
-    record { size = ap length shape; again = ap fixup_at shape ∙ again; clear = ap (λ b. fixup_faults at file b r) shape ∙ c6 }
+    let c6 : fixup_faults noted at file body r ≡ None = clear_noted (noted under (nat_le 6 (length body) && bad) (at + 5) 3) (nat_le 8 (length body) && wrong) (at + 6) 3 c5 (and_right (nat_le 8 (length body)) wrong (ap (bad_index pieces (length r.externals) t.code) i ∙ t.exact)) in
+    record { size = ap length shape; again = ap fixup_at shape ∙ again; clear = ap (λ b. fixup_faults noted at file b r) shape ∙ c6 }
   where
     either : (b : Bool) (f g : Option Fault) → f ≡ None → g ≡ None → cond b f g ≡ None
     either true f g h k = h
@@ -172,7 +172,7 @@ line_not_late (Some b) l h = and_right (b.piece == l.piece) (not (line_follows b
 
 record EntryForth (at : ℕ) (before : Option Lines) (segment : Option Segment) (piece : ℕ) (l : Lines) (rest : List ℕ) (f : Option Fault) : Type 0 where
   pub again : entry_at piece (entry_bytes l ++ rest) ≡ l
-  pub clear : entry_faults at before segment piece (entry_bytes l ++ rest) f ≡ None
+  pub clear : entry_faults noted at before segment piece (entry_bytes l ++ rest) f ≡ None
 
 entry_forth : (at : ℕ) (before : Option Lines) (segments : List Segment) (piece : ℕ) (l : Lines) (rest : List ℕ) (f : Option Fault) → f ≡ None → l.piece ≡ piece → line_is_sound segments l ≡ true → line_fits l ≡ true → AfterLast line_follows before l
     → EntryForth at before (slice_get segments piece) piece l rest f
@@ -198,7 +198,7 @@ entry_forth at before segments piece l rest f none same sound narrow follows =
     not_zero k h = grind (arith, nat_tests)
 
 pub entries_forth : (ls : List Lines) (at piece : ℕ) (r : Read) → r.fault ≡ None → list_all (λ l. l.piece == piece) ls ≡ true → list_all (line_is_sound r.segments) ls ≡ true → list_all line_fits ls ≡ true → lines_in_order (r.lines ++ ls) ≡ true
-    → after_entries (length ls) at (slice_get r.segments piece) piece (flat_map entry_bytes ls) r ≡ record r { lines = r.lines ++ ls }
+    → after_entries noted (length ls) at (slice_get r.segments piece) piece (flat_map entry_bytes ls) r ≡ record r { lines = r.lines ++ ls }
 unfolding after_entries lines_in_order
 entries_forth [] at piece r none same sound narrow ordered = λ i. record r { lines = sym (append-nil r.lines) i }
 entries_forth (l ∷ ls) at piece r none same sound narrow ordered =
@@ -209,15 +209,15 @@ entries_forth (l ∷ ls) at piece r none same sound narrow ordered =
     let e : EntryForth at (last_of r.lines) (slice_get r.segments piece) piece l rest r.fault = entry_forth at (last_of r.lines) r.segments piece l rest r.fault none (eqb-true l.piece piece s.0) so.0 na.0 (ordered_last line_follows lines_in_order refl (λ x y xs. refl) r.lines l ls ordered) in
     let shape : (r.lines ++ l ∷ []) ++ ls ≡ r.lines ++ l ∷ ls = append_assoc r.lines (l ∷ []) ls in
     let now = record r { lines = r.lines ++ l ∷ [] } in
-    let one : after_entry at (slice_get r.segments piece) piece (entry_bytes l ++ rest) r ≡ now = λ i. record r { lines = r.lines ++ e.again i ∷ []; fault = (e.clear ∙ sym none) i } in
-    ap (λ q. after_entries (length ls) (at + 6) (slice_get r.segments piece) piece rest q) one
+    let one : after_entry noted at (slice_get r.segments piece) piece (entry_bytes l ++ rest) r ≡ now = λ i. record r { lines = r.lines ++ e.again i ∷ []; fault = (e.clear ∙ sym none) i } in
+    ap (λ q. after_entries noted (length ls) (at + 6) (slice_get r.segments piece) piece rest q) one
     ∙ entries_forth ls (at + 6) piece now none s.1 so.1 na.1 (ap lines_in_order shape ∙ ordered)
     ∙ (λ i. record r { lines = shape i })
 
 pub record BlockForth (at : ℕ) (r : Read) (body : List ℕ) (ls : List Lines) : Type 0 where
   pub fit : fits_lines (length body) ≡ true
   pub size : length body ≡ 2 + 6 * length ls
-  pub read : after_block at (length body) body r ≡ record r { lines = r.lines ++ ls; block = length ls }
+  pub read : after_block noted at (length body) body r ≡ record r { lines = r.lines ++ ls; block = length ls }
 
 entries_size : (ls : List Lines) → length (flat_map entry_bytes ls) ≡ 6 * length ls
 entries_size [] = refl
@@ -240,10 +240,10 @@ block_forth at r l ls piece none low same sound narrow ordered few begins =
     let first = nat_le 2 (length body) && not (has_code (slice_get r.segments (word_at body 0)) 0) in
     let second = nat_le 2 (length body) && block_falls (last_of r.lines) r.block (word_at body 0) in
     let c1 = clear_noted r.fault first at 3 none (and_right (nat_le 2 (length body)) (not (has_code (slice_get r.segments (word_at body 0)) 0)) (not_from_true (has_code (slice_get r.segments (word_at body 0)) 0) code)) in
-    let c2 : opened_faults at body r ≡ None = clear_noted (noted r.fault first at 3) second at 4 c1 (and_right (nat_le 2 (length body)) (block_falls (last_of r.lines) r.block (word_at body 0)) (ap (block_falls (last_of r.lines) r.block) p ∙ begins)) in
-    let opened : opened_block at body r ≡ r = λ i. record r { fault = (c2 ∙ sym none) i } in
-    let entries : after_entries ((length body - 2) / 6) (at + 2) (slice_get r.segments (word_at body 0)) (word_at body 0) (flat_map entry_bytes (l ∷ ls)) (opened_block at body r) ≡ record r { lines = r.lines ++ l ∷ ls } =
-    (λ i. after_entries (count i) (at + 2) (slice_get r.segments (p i)) (p i) (flat_map entry_bytes (l ∷ ls)) (opened i)) ∙ entries_forth (l ∷ ls) (at + 2) piece r none same sound narrow ordered in
+    let c2 : opened_faults noted at body r ≡ None = clear_noted (noted r.fault first at 3) second at 4 c1 (and_right (nat_le 2 (length body)) (block_falls (last_of r.lines) r.block (word_at body 0)) (ap (block_falls (last_of r.lines) r.block) p ∙ begins)) in
+    let opened : opened_block noted at body r ≡ r = λ i. record r { fault = (c2 ∙ sym none) i } in
+    let entries : after_entries noted ((length body - 2) / 6) (at + 2) (slice_get r.segments (word_at body 0)) (word_at body 0) (flat_map entry_bytes (l ∷ ls)) (opened_block noted at body r) ≡ record r { lines = r.lines ++ l ∷ ls } =
+    (λ i. after_entries noted (count i) (at + 2) (slice_get r.segments (p i)) (p i) (flat_map entry_bytes (l ∷ ls)) (opened i)) ∙ entries_forth (l ∷ ls) (at + 2) piece r none same sound narrow ordered in
     record {
       fit = and_from (nat_le 8 (length body) && ((length body - 2) / 6 * 6 == length body - 2)) (nat_le ((length body - 2) / 6) 1024) (and_from (nat_le 8 (length body)) ((length body - 2) / 6 * 6 == length body - 2) (le-leb 8 (length body) (omega arith)) (eq-eqb ((length body - 2) / 6 * 6) (length body - 2) back)) (le-leb ((length body - 2) / 6) 1024 (omega arith));
       size = size;

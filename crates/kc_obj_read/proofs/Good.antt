@@ -16,10 +16,10 @@ use Rattle.kc_obj.specs.Fixups.{fixup_is_sound, fixup_follows, fixups_in_order, 
 use Rattle.kc_obj.specs.LineEntries.{line_is_sound, lines_in_order}
 use Rattle.kc_obj.specs.Spelling.{record_bytes, name_bytes, version_of, head_body, segment_record, taken_record, given_record, content_record, fixup_record, block_records, line_records}
 use Rattle.kc_base.specs.Bytes.{IsBytes}
-use Rattle.kc_obj_read.specs.Law.{fixup_fits, line_fits}
-use Rattle.kc_obj_faults.specs.Fields.{word_at, name_at}
+use Rattle.kc_obj.specs.Widths.{fixup_fits, line_fits}
+use Rattle.kc_obj_faults.specs.Fields.{word_at, name_at, noted}
 use Rattle.kc_obj_faults.specs.Records.{segment_at, taken_at, given_at, run_at, fixup_at}
-use Rattle.kc_obj_read.specs.Reading.{Read, object_read, stage_of, at_stage, fits_lines, nothing_read, after_head, after_segment, after_taken, after_given, after_run, after_fixup, after_block}
+use Rattle.kc_obj_read.specs.Reading.{Read, object_read, stage_of, at_stage, fits_lines, nothing_read, after_head, after_segment, after_taken, after_given, after_run, after_fixup, after_block, first_fault}
 use Rattle.kc_obj_faults.specs.Fields.{last_of}
 use Rattle.kc_obj_read.proofs.Clear.{head_clear, piece_clear, external_clear, public_clear}
 use Rattle.kc_obj_read.proofs.ClearCode.{PlacesHold, run_clear, number_clear}
@@ -120,7 +120,7 @@ module _ (file : List ℕ) (at to base : ℕ) (body : List ℕ) (r : Read) (good
   abbrev rules : Rules r
   rules = good.rules
 
-  pub segment_good : r.stage ≡ 2 → length body ≡ 6 → take to file ≡ take at file ++ record_bytes 0x02 body → (after_segment base body r).fault ≡ None → Good file to (after_segment base body r)
+  pub segment_good : r.stage ≡ 2 → length body ≡ 6 → take to file ≡ take at file ++ record_bytes 0x02 body → (after_segment noted base body r).fault ≡ None → Good file to (after_segment noted base body r)
   unfolding segments_in_order
   segment_good stage len next clear =
       let here = piece_clear base (last_of r.segments) body r.fault len bytes clear in
@@ -166,7 +166,7 @@ module _ (file : List ℕ) (at to base : ℕ) (body : List ℕ) (r : Read) (good
         block = good.block;
       }
 
-  pub external_good : r.stage ≡ 3 → length body ≡ slice_index body 0 + 1 + 1 → take to file ≡ take at file ++ record_bytes 0x05 body → (after_taken base body r).fault ≡ None → Good file to (after_taken base body r)
+  pub external_good : r.stage ≡ 3 → length body ≡ slice_index body 0 + 1 + 1 → take to file ≡ take at file ++ record_bytes 0x05 body → (after_taken noted base body r).fault ≡ None → Good file to (after_taken noted base body r)
   external_good stage len next clear =
       let here = external_clear base body r.fault len clear in
       let no_publics : r.publics ≡ [] = good.later.publics (omega arith) in
@@ -210,7 +210,7 @@ module _ (file : List ℕ) (at to base : ℕ) (body : List ℕ) (r : Read) (good
         block = good.block;
       }
 
-  pub public_good : r.stage ≡ 4 → length body ≡ slice_index body 0 + 1 + 4 → take to file ≡ take at file ++ record_bytes 0x06 body → (after_given base body r).fault ≡ None → Good file to (after_given base body r)
+  pub public_good : r.stage ≡ 4 → length body ≡ slice_index body 0 + 1 + 4 → take to file ≡ take at file ++ record_bytes 0x06 body → (after_given noted base body r).fault ≡ None → Good file to (after_given noted base body r)
   unfolding publics_in_order
   public_good stage len next clear =
       let here = public_clear base (last_of r.publics) (length r.segments) body r.fault len bytes clear in
@@ -253,7 +253,7 @@ module _ (file : List ℕ) (at to base : ℕ) (body : List ℕ) (r : Read) (good
         block = good.block;
       }
 
-  pub run_good : (len : ℕ) → r.stage ≡ 5 → (nat_le 5 len && nat_le len 1028) ≡ true → length body ≡ len → body ≡ take len (drop base file) → take to file ≡ take at file ++ record_bytes 0x03 body → (after_run base len body r).fault ≡ None → Good file to (after_run base len body r)
+  pub run_good : (len : ℕ) → r.stage ≡ 5 → (nat_le 5 len && nat_le len 1028) ≡ true → length body ≡ len → body ≡ take len (drop base file) → take to file ≡ take at file ++ record_bytes 0x03 body → (after_run noted base len body r).fault ≡ None → Good file to (after_run noted base len body r)
   unfolding contents_in_order
   run_good len stage fit size is next clear =
       let here = run_clear base (last_of r.contents) r.segments len body r.fault fit size bytes clear in
@@ -301,7 +301,7 @@ module _ (file : List ℕ) (at to base : ℕ) (body : List ℕ) (r : Read) (good
         block = good.block;
       }
 
-  pub fixup_good : r.stage ≡ 6 → length body ≡ 10 → take to file ≡ take at file ++ record_bytes 0x04 body → (after_fixup base file body r).fault ≡ None → Good file to (after_fixup base file body r)
+  pub fixup_good : r.stage ≡ 6 → length body ≡ 10 → take to file ≡ take at file ++ record_bytes 0x04 body → (after_fixup noted base file body r).fault ≡ None → Good file to (after_fixup noted base file body r)
   unfolding fixups_in_order
   fixup_good stage len next clear =
       let here = number_clear base file r body len bytes good.hold clear in
@@ -342,7 +342,7 @@ module _ (file : List ℕ) (at to base : ℕ) (body : List ℕ) (r : Read) (good
         block = good.block;
       }
 
-  pub lines_good : (len : ℕ) → r.stage ≡ 7 → r.has_lines ≡ true → fits_lines len ≡ true → length body ≡ len → take to file ≡ take at file ++ record_bytes 0x07 body → (after_block base len body r).fault ≡ None → Good file to (after_block base len body r)
+  pub lines_good : (len : ℕ) → r.stage ≡ 7 → r.has_lines ≡ true → fits_lines len ≡ true → length body ≡ len → take to file ≡ take at file ++ record_bytes 0x07 body → (after_block noted base len body r).fault ≡ None → Good file to (after_block noted base len body r)
   lines_good len stage has fit size next clear =
       let here = block_clear base len body r fit size bytes rules.lines_ordered clear in
       let new = here.first ∷ here.rest in
@@ -399,7 +399,7 @@ first_open : OpenIs [] 0
 unfolding opened_of
 first_open l = refl
 
-pub head_good : (file : List ℕ) (to : ℕ) (body : List ℕ) → length body ≡ 1 + slice_index body 1 + 1 + 0 → take to file ≡ record_bytes 0x01 body → (after_head 3 body (at_stage 0 0x01 nothing_read)).fault ≡ None → Good file to (after_head 3 body (at_stage 0 0x01 nothing_read))
+pub head_good : (file : List ℕ) (to : ℕ) (body : List ℕ) → length body ≡ 1 + slice_index body 1 + 1 + 0 → take to file ≡ record_bytes 0x01 body → (after_head noted 3 body (at_stage first_fault 0 0x01 nothing_read)).fault ≡ None → Good file to (after_head noted 3 body (at_stage first_fault 0 0x01 nothing_read))
 unfolding segments_in_order publics_in_order contents_in_order fixups_in_order lines_in_order
 head_good file to body len next clear =
     let here = head_clear 3 body None len clear in
@@ -435,7 +435,7 @@ head_good file to body len next clear =
 
 -- ---- on to a type
 
-pub enter_good : (file : List ℕ) (at kind : ℕ) (r : Read) → Good file at r → nat_le r.stage (stage_of kind) ≡ true → (at_stage at kind r).fault ≡ None → Good file at (at_stage at kind r)
+pub enter_good : (file : List ℕ) (at kind : ℕ) (r : Read) → Good file at r → nat_le r.stage (stage_of kind) ≡ true → (at_stage first_fault at kind r).fault ≡ None → Good file at (at_stage first_fault at kind r)
 enter_good file at kind r good up clear =
     let le : r.stage ≤ stage_of kind = leb-true r.stage (stage_of kind) up in
     record {

@@ -7,10 +7,13 @@ pub mod Forth
 pub mod ForthCode
 pub mod Good
 pub mod Holding
+pub mod Least
 pub mod Decoded
 pub mod Onward
 pub mod Order
 pub mod Spelled
+pub mod Seen
 pub mod StepLemmas
 pub mod Telling
 pub mod Unmarred
+pub mod Within

@@ -16,9 +16,9 @@ use Rattle.kc_obj.specs.Rules.{given_is_sound, publics_in_order}
 use Rattle.kc_obj.specs.Contents.{content_is_sound, content_follows, contents_in_order}
 use Rattle.kc_obj.specs.Fixups.{fixup_is_sound, fixup_follows, fixups_in_order, has_room}
 use Rattle.kc_obj.specs.Spelling.{record_bytes, segment_body, taken_body, given_body, content_body, fixup_body, segment_record, taken_record, given_record, content_record, fixup_record}
-use Rattle.kc_obj_read.specs.Law.{fixup_fits}
-use Rattle.kc_obj_read.specs.Reading.{Read, Answer, stage_of, may_come, fits_name, fits, after_record, stopped, ended, at_stage, behind_record, typed, read_on}
-use Rattle.kc_obj_faults.specs.Fields.{last_of}
+use Rattle.kc_obj.specs.Widths.{fixup_fits}
+use Rattle.kc_obj_read.specs.Reading.{Read, Answer, stage_of, may_come, fits_name, fits, after_record, stopped, ended, at_stage, behind_record, typed, read_on, first_fault}
+use Rattle.kc_obj_faults.specs.Fields.{last_of, noted}
 use Rattle.kc_obj_read.proofs.ClearCode.{PlacesHold}
 use Rattle.kc_obj_read.proofs.Holding.{get_drop, get_take, hold_push}
 use Rattle.kc_obj_read.proofs.Order.{ordered_last, ordered_front}
@@ -36,12 +36,12 @@ ways false true false false e s t u v w x ha hb hc hd he = absurd (cc hd)
 ways false true false true true s t u v w x ha hb hc hd he = absurd (cc he)
 
 pub record_on : (goes_on : ℕ → Read → Answer) (file : List ℕ) (at : ℕ) (r : Read) (kind : ℕ) (body rest : List ℕ) → length body < 0x10000 → may_come r kind ≡ true → fits kind (length body) (body ++ rest) ≡ true
-    → typed goes_on file at (record_bytes kind body ++ rest) r ≡ behind_record goes_on (at + 3) kind (length body) (length (body ++ rest)) (after_record kind (at + 3) (length body) file body (at_stage at kind r))
+    → typed first_fault goes_on file at (record_bytes kind body ++ rest) r ≡ behind_record first_fault goes_on (at + 3) kind (length body) (length (body ++ rest)) (after_record noted kind (at + 3) (length body) file body (at_stage first_fault at kind r))
 record_on goes_on file at r kind body rest low comes fit =
     let all = record_bytes kind body ++ rest in
     let lo = length body % 256 in
     let hi = length body / 256 % 256 in
-    let entered = at_stage at kind r in
+    let entered = at_stage first_fault at kind r in
     let more = body ++ rest in
     let word : lo + 256 * hi ≡ length body = word_back (length body) low in
     let front : take (lo + 256 * hi) more ≡ body = ap (λ n. take n more) word ∙ take_at body rest (length body) refl in
@@ -50,9 +50,9 @@ record_on goes_on file at r kind body rest low comes fit =
     let fitting : fits kind (lo + 256 * hi) more ≡ true = ap (λ n. fits kind n more) word ∙ fit in
     let whole : nat_lt (length more) (lo + 256 * hi) ≡ false = le-ltb (length more) (lo + 256 * hi) (omega (arith, length-append body rest)) in
     ways (length all == 0) (may_come r kind) (nat_lt (length (lo ∷ hi ∷ more)) 2) (fits kind (lo + 256 * hi) more) (nat_lt (length more) (lo + 256 * hi))
-    (stopped r at 2) (stopped entered (length file) 2) (stopped (after_record kind (at + 3) (lo + 256 * hi) file more entered) (length file) 2) (stopped entered (at + 1) 4) (stopped r at 1)
-    (behind_record goes_on (at + 3) kind (lo + 256 * hi) (length more) (after_record kind (at + 3) (lo + 256 * hi) file (take (lo + 256 * hi) more) entered)) some comes two fitting whole
-    ∙ (λ i. behind_record goes_on (at + 3) kind (word i) (length more) (after_record kind (at + 3) (word i) file (front i) entered))
+    (stopped first_fault r at 2) (stopped first_fault entered (length file) 2) (stopped first_fault (after_record noted kind (at + 3) (lo + 256 * hi) file more entered) (length file) 2) (stopped first_fault entered (at + 1) 4) (stopped first_fault r at 1)
+    (behind_record first_fault goes_on (at + 3) kind (lo + 256 * hi) (length more) (after_record noted kind (at + 3) (lo + 256 * hi) file (take (lo + 256 * hi) more) entered)) some comes two fitting whole
+    ∙ (λ i. behind_record first_fault goes_on (at + 3) kind (word i) (length more) (after_record noted kind (at + 3) (word i) file (front i) entered))
 
 pub drop_on : (file : List ℕ) (at kind : ℕ) (body rest : List ℕ) → drop at file ≡ record_bytes kind body ++ rest → drop (at + 3 + length body) file ≡ rest
 drop_on file at kind body rest is =
@@ -63,14 +63,14 @@ pub record Came (file rest : List ℕ) (n at : ℕ) (r : Read) (Q : Read → Typ
   pub more : ℕ
   pub place : ℕ
   pub now : Read
-  pub same : read_on n file at r ≡ read_on more file place now
+  pub same : read_on first_fault n file at r ≡ read_on first_fault more file place now
   pub rest_is : drop place file ≡ rest
   pub fuel : length rest < more
   pub holds : Q now
 
 -- a record that is not the end
 pub one_on : (file : List ℕ) (n at : ℕ) (r : Read) (kind : ℕ) (body rest : List ℕ) (Q : Read → Type 0) (next : Read) → drop at file ≡ record_bytes kind body ++ rest → length (record_bytes kind body ++ rest) < n
-    → length body < 0x10000 → may_come r kind ≡ true → fits kind (length body) (body ++ rest) ≡ true → (kind == 0x7F) ≡ false → after_record kind (at + 3) (length body) file body (at_stage at kind r) ≡ next → Q next → Came file rest n at r Q
+    → length body < 0x10000 → may_come r kind ≡ true → fits kind (length body) (body ++ rest) ≡ true → (kind == 0x7F) ≡ false → after_record noted kind (at + 3) (length body) file body (at_stage first_fault at kind r) ≡ next → Q next → Came file rest n at r Q
 unfolding read_on
 one_on file zero at r kind body rest Q next is fuel low comes fit more_comes becomes holds = absurd (omega arith)
 one_on file (suc n) at r kind body rest Q next is fuel low comes fit more_comes becomes holds =
@@ -78,15 +78,15 @@ one_on file (suc n) at r kind body rest Q next is fuel low comes fit more_comes 
       more = n;
       place = at + 3 + length body;
       now = next;
-      same = ap (λ t. typed (read_on n file) file at t r) is ∙ record_on (read_on n file) file at r kind body rest low comes fit
-          ∙ (λ i. cond (more_comes i) (ended_now) (read_on n file (at + 3 + length body) (becomes i)));
+      same = ap (λ t. typed first_fault (read_on first_fault n file) file at t r) is ∙ record_on (read_on first_fault n file) file at r kind body rest low comes fit
+          ∙ (λ i. cond (more_comes i) (ended_now) (read_on first_fault n file (at + 3 + length body) (becomes i)));
       rest_is = drop_on file at kind body rest is;
       fuel = omega (arith, length-append body rest);
       holds = holds;
     }
   where
     ended_now : Answer
-    ended_now = ended (after_record kind (at + 3) (length body) file body (at_stage at kind r)) (at + 3) (length (body ++ rest))
+    ended_now = ended first_fault (after_record noted kind (at + 3) (length body) file body (at_stage first_fault at kind r)) (at + 3) (length (body ++ rest))
 
 -- one after the other
 pub list_on : {X : Type 0} (file : List ℕ) (spelled : X → List ℕ) (Q : Read → List X → Type 0)

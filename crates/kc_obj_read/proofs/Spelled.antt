@@ -20,9 +20,10 @@ use Rattle.kc_obj.specs.Fixups.{fixup_is_sound, fixups_in_order, has_room}
 use Rattle.kc_obj.specs.LineEntries.{line_is_sound, line_follows, lines_in_order, lines_are_sound}
 use Rattle.kc_obj.specs.Spelling.{word_bytes, name_bytes, record_bytes, head_body, version_of, entry_bytes, segment_record, taken_record, given_record, content_record, fixup_record, block_record, takes_entry, block_records, line_records, spelling}
 use Rattle.kc_obj_faults.specs.Fields.{name_at, first_of_both, fault_at}
-use Rattle.kc_obj_read.specs.Law.{IsSpelled, fixup_fits, line_fits, lines_fit, numbers_fit}
+use Rattle.kc_obj.specs.Widths.{fixup_fits, line_fits, lines_fit, numbers_fit}
+use Rattle.kc_obj.specs.Spelled.{IsSpelled}
 use Rattle.kc_obj_faults.specs.Records.{block_falls}
-use Rattle.kc_obj_read.specs.Reading.{Read, nothing_read, object_read, told, typed, read_on, answer_of}
+use Rattle.kc_obj_read.specs.Reading.{Read, nothing_read, object_read, told, typed, read_on, answer_of, first_fault}
 use Rattle.kc_obj_faults.specs.Fields.{last_of}
 use Rattle.kc_obj_read.proofs.Order.{AfterLast, ordered_last, ordered_prefix, all_first, all_second, all_push, last_append, last_passes}
 use Rattle.kc_obj_read.proofs.Holding.{hold_none}
@@ -145,15 +146,15 @@ lines_on m file (l ∷ ls) has sound ordered narrow n at r rest is fuel parts no
 
 -- ---- the end
 
-end_on : (file : List ℕ) (n at : ℕ) (r : Read) (m : Object) → drop at file ≡ record_bytes 0x7F [] → 0 < n → 1 ≤ r.stage → r.stage ≤ 7 → r.fault ≡ None → all_kept r.publics r.fixups 0 r.segments ≡ true → object_read r ≡ m → read_on n file at r ≡ Ok m
+end_on : (file : List ℕ) (n at : ℕ) (r : Read) (m : Object) → drop at file ≡ record_bytes 0x7F [] → 0 < n → 1 ≤ r.stage → r.stage ≤ 7 → r.fault ≡ None → all_kept r.publics r.fixups 0 r.segments ≡ true → object_read r ≡ m → read_on first_fault n file at r ≡ Ok m
 unfolding read_on
 end_on file zero at r m is fuel begun stage none kept object = absurd (omega arith)
 end_on file (suc n) at r m is fuel begun stage none kept object =
     let kept_all = all_kept r.publics r.fixups 0 r.segments in
     let clear : (cond (is_none r.fault && not kept_all) (Some (first_of_both r.fault (fault_at at 4))) r.fault) ≡ None =
     ap (λ f. cond (is_none f && not kept_all) (Some (first_of_both f (fault_at at 4))) f) none ∙ ap (λ b. cond (not b) (Some (fault_at at 4)) None) kept in
-    ap (λ t. typed (read_on n file) file at t r) is
-    ∙ record_on (read_on n file) file at r 0x7F [] [] (omega arith) (comes_later r 0x7F begun refl (omega arith) (either r.has_lines)) refl
+    ap (λ t. typed first_fault (read_on first_fault n file) file at t r) is
+    ∙ record_on (read_on first_fault n file) file at r 0x7F [] [] (omega arith) (comes_later r 0x7F begun refl (omega arith) (either r.has_lines)) refl
     ∙ (λ i. told (clear i) (object i))
   where
     either : (b : Bool) → (b || true) ≡ true
@@ -277,14 +278,14 @@ parts_of : (m : Object) (file : List ℕ) (r : Read) → Has m file 6 [] [] [] [
 parts_of m file r h =
     record { begun = h.begun; stage = omega (arith, h.stage); fault = h.fault; name = h.name; has_lines = h.has_lines; segments = sym (append-nil r.segments) ∙ h.segments; externals = sym (append-nil r.externals) ∙ h.externals; publics = sym (append-nil r.publics) ∙ h.publics; contents = sym (append-nil r.contents) ∙ h.contents; fixups = sym (append-nil r.fixups) ∙ h.fixups }
 
-end_parts : (m : Object) (file : List ℕ) (n at : ℕ) (r : Read) → Parts m r → all_kept m.publics m.fixups 0 m.segments ≡ true → cond r.has_lines (Some r.lines) None ≡ m.lines → drop at file ≡ record_bytes 0x7F [] → 0 < n → read_on n file at r ≡ Ok m
+end_parts : (m : Object) (file : List ℕ) (n at : ℕ) (r : Read) → Parts m r → all_kept m.publics m.fixups 0 m.segments ≡ true → cond r.has_lines (Some r.lines) None ≡ m.lines → drop at file ≡ record_bytes 0x7F [] → 0 < n → read_on first_fault n file at r ≡ Ok m
 end_parts m file n at r parts kept lines is fuel =
     end_on file n at r m is fuel parts.begun parts.stage parts.fault ((λ i. all_kept (parts.publics i) (parts.fixups i) 0 (parts.segments i)) ∙ kept)
     (λ i. record { name = parts.name i; segments = parts.segments i; externals = parts.externals i; publics = parts.publics i; contents = parts.contents i; fixups = parts.fixups i; lines = lines i })
 
 -- line entries and the end
 lines_end : (m : Object) (file : List ℕ) (lines : Option (List Lines)) → m.lines ≡ lines → lines_are_sound m.segments lines ≡ true → lines_fit lines ≡ true → all_kept m.publics m.fixups 0 m.segments ≡ true
-    → (n at : ℕ) (r : Read) → Parts m r → r.lines ≡ [] → drop at file ≡ line_records lines ++ record_bytes 0x7F [] → length (line_records lines ++ record_bytes 0x7F []) < n → read_on n file at r ≡ Ok m
+    → (n at : ℕ) (r : Read) → Parts m r → r.lines ≡ [] → drop at file ≡ line_records lines ++ record_bytes 0x7F [] → length (line_records lines ++ record_bytes 0x7F []) < n → read_on first_fault n file at r ≡ Ok m
 lines_end m file None has sound narrow kept n at r parts none is fuel =
     end_parts m file n at r parts kept (ap (λ q. cond q (Some r.lines) None) (parts.has_lines ∙ ap is_some has) ∙ sym has) is (omega arith)
 lines_end m file (Some all) has sound narrow kept n at r parts none is fuel =
@@ -298,7 +299,7 @@ module _ (m : Object) (module_sound : is_module m ≡ true) (numbers : numbers_f
   sound = sound_parts m module_sound numbers
 
   abbrev ReadOn : ℕ → ℕ → Read → Type 0
-  ReadOn n at r = read_on n file at r ≡ Ok m
+  ReadOn n at r = read_on first_fault n file at r ≡ Ok m
 
   -- what is left of the file
   abbrev Left : ℕ → ℕ → List ℕ → Type 0
@@ -356,4 +357,4 @@ module _ (m : Object) (module_sound : is_module m ≡ true) (numbers : numbers_f
 
 pub spelled_decoded : (bytes : List ℕ) (m : Object) → IsSpelled bytes m → answer_of bytes ≡ Ok m
 spelled_decoded bytes m h =
-    ap (λ n. read_on n bytes 0 nothing_read) (add-one (length bytes)) ∙ read_again m h.sound h.numbers bytes (sym h.spelled)
+    ap (λ n. read_on first_fault n bytes 0 nothing_read) (add-one (length bytes)) ∙ read_again m h.sound h.numbers bytes (sym h.spelled)

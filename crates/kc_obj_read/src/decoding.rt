@@ -1,8 +1,8 @@
 // An object read record by record.
 ghost use Rattle.std.specs.Prelude.{◌≡◌, ◌<◌, ◌≤◌, ◌+◌, ◌-◌, ◌*◌, ◌/◌, ◌^◌, ◌==◌, ℕ, List, length, drop, take, IfOk};
 ghost use Rattle.kc_obj_faults.specs.Fields.{word_at};
-ghost use Rattle.kc_obj_read.specs.Reading.{Read, Answer, fits_name, fits_lines, fits, ended, behind_record, bodied, sized, typed, step_answer, answer_of, IsWithin, IsDecoded};
-ghost use Rattle.kc_obj_read.specs.Law.{TellsSpelling};
+ghost use Rattle.kc_obj_read.specs.Reading.{Read, Answer, fits_name, fits_lines, fits, ended, behind_record, bodied, sized, typed, step_answer, answer_of, IsWithin, IsDecoded, first_fault};
+ghost use Rattle.kc_obj_read.specs.Law.{TellsSpelling, ReportsFirst};
 
 use crate::reading::Reading;
 use crate::step::Step;
@@ -48,7 +48,7 @@ fn length_fits(kind: u8, len: usize, body: &[u8]) -> bool
 
 fn end_step(at: usize, behind: usize, reading: &Reading) -> Step
     requires { at < 2 ^ 29 }
-    ensures step { (goes_on : ℕ → Read → Answer) → ended reading.now at behind ≡ step_answer goes_on result reading.now }
+    ensures step { (goes_on : ℕ → Read → Answer) → ended first_fault reading.now at behind ≡ step_answer goes_on result reading.now }
     ensures within { (len : ℕ) → IsWithin len result }
 {
     if behind == 0 {
@@ -70,7 +70,7 @@ fn body_step(
     requires file { length file.now ≤ 1048576 }
     requires at { at ≤ length file.now }
     requires len { len < 65536 }
-    ensures step { IfOk result (λ s. (goes_on : ℕ → Read → Answer) → bodied goes_on file.now at kind len (drop at file.now) reading.old ≡ step_answer goes_on s reading.new) }
+    ensures step { IfOk result (λ s. (goes_on : ℕ → Read → Answer) → bodied first_fault goes_on file.now at kind len (drop at file.now) reading.old ≡ step_answer goes_on s reading.new) }
     ensures within { IfOk result (λ s. IsWithin (length file.now) s) }
 {
     let body = after(file, at);
@@ -96,7 +96,7 @@ fn length_step(
 ) -> Result<Step, NoMemory>
     requires file { length file.now ≤ 1048576 }
     requires at { at < length file.now }
-    ensures step { IfOk result (λ s. (goes_on : ℕ → Read → Answer) → sized goes_on file.now at kind (drop 1 (drop at file.now)) reading.old ≡ step_answer goes_on s reading.new) }
+    ensures step { IfOk result (λ s. (goes_on : ℕ → Read → Answer) → sized first_fault goes_on file.now at kind (drop 1 (drop at file.now)) reading.old ≡ step_answer goes_on s reading.new) }
     ensures within { IfOk result (λ s. IsWithin (length file.now) s) }
 {
     let rest = after(after(file, at), 1);
@@ -114,7 +114,7 @@ fn length_step(
 fn step(alloc: Global, file: &[u8], at: usize, reading: &mut Reading) -> Result<Step, NoMemory>
     requires file { length file.now ≤ 1048576 }
     requires at { at ≤ length file.now }
-    ensures step { IfOk result (λ s. (goes_on : ℕ → Read → Answer) → typed goes_on file.now at (drop at file.now) reading.old ≡ step_answer goes_on s reading.new) }
+    ensures step { IfOk result (λ s. (goes_on : ℕ → Read → Answer) → typed first_fault goes_on file.now at (drop at file.now) reading.old ≡ step_answer goes_on s reading.new) }
     ensures within { IfOk result (λ s. IsWithin (length file.now) s) }
 {
     let rest = after(file, at);
@@ -159,12 +159,13 @@ fn read(alloc: Global, bytes: &[u8]) -> Result<Module, ObjFault>
     })
 }
 
-/// The module of which the bytes are the spelling, or the first fault by offset, of two at one offset that of the lesser
-/// code, as `ObjCode` numbers them.
+/// The module of which the bytes are the spelling, or of all their faults the first by offset, of two at one offset that of
+/// the lesser code, as `ObjCode` numbers them. It stands within the bytes or at their end.
 pub fn decode(alloc: Global, bytes: &[u8]) -> Result<Module, ObjFault>
     requires { length bytes.now ≤ 1048576 }
     ensures fault { IsDecoded result (answer_of bytes.now) }
     ensures spelling { TellsSpelling bytes.now result }
+    ensures first { ReportsFirst bytes.now result }
 {
     read(alloc, bytes)
 }

@@ -4,10 +4,10 @@ ghost use Rattle.std.specs.Option.{option_copied, option_map};
 ghost use Rattle.kc_obj.specs.Object.{Object, object_of};
 ghost use Rattle.kc_obj.specs.Rules.{is_module};
 ghost use Rattle.kc_obj_faults.specs.Codes.{code_number};
-ghost use Rattle.kc_obj_faults.specs.Fields.{word_at, fault_at, first_of_both};
+ghost use Rattle.kc_obj_faults.specs.Fields.{word_at, fault_at, first_of_both, noted};
 ghost use Rattle.kc_obj.specs.Pieces.{all_kept};
 ghost use Rattle.kc_obj_faults.specs.Records.{kind_of, segment_at, piece_of, taken_at, given_at, run_at, target_of, fixup_at, entry_at};
-ghost use Rattle.kc_obj_read.specs.Reading.{nothing_read, after_head, after_segment, after_taken, after_given, new_run_faults, after_run, fixup_faults, after_fixup, after_entry, after_entries, opened_faults, after_block, after_record, may_come, at_stage, stage_of, told, object_read, IsDecoded};
+ghost use Rattle.kc_obj_read.specs.Reading.{nothing_read, after_head, after_segment, after_taken, after_given, new_run_faults, after_run, fixup_faults, after_fixup, after_entry, after_entries, opened_faults, after_block, after_record, may_come, at_stage, stage_of, told, object_read, IsDecoded, first_fault};
 ghost use Rattle.kc_obj_faults.specs.Fields.{last_of};
 
 use kc_base::{NoMemory, Text};
@@ -170,7 +170,7 @@ impl Reading {
 
     fn take_head(&mut self, alloc: Global, at: u32, body: &[u8]) -> Result<(), NoMemory>
         requires { at < 2 ^ 31 }
-        ensures { OnOk result (self.new ≡ after_head at body.now self.old) }
+        ensures { OnOk result (self.new ≡ after_head noted at body.now self.old) }
     {
         let text = Text::of(alloc, name(without(body, 1)))?;
         self.fault = head_fault(at, body, self.fault);
@@ -181,7 +181,7 @@ impl Reading {
 
     fn take_segment(&mut self, at: u32, body: &[u8]) -> Result<(), NoMemory>
         requires { at < 2 ^ 31 }
-        ensures { OnOk result (self.new ≡ after_segment at body.now self.old) }
+        ensures { OnOk result (self.new ≡ after_segment noted at body.now self.old) }
     {
         let segment = segment_by(body);
         let before = self.segments.last().copied();
@@ -192,7 +192,7 @@ impl Reading {
 
     fn take_external(&mut self, alloc: Global, at: u32, body: &[u8]) -> Result<(), NoMemory>
         requires { at < 2 ^ 31 }
-        ensures { OnOk result (self.new ≡ after_taken at body.now self.old) }
+        ensures { OnOk result (self.new ≡ after_taken noted at body.now self.old) }
     {
         let taken = taken_by(alloc, body)?;
         self.fault = taken_fault(at, body, self.fault);
@@ -202,7 +202,7 @@ impl Reading {
 
     fn take_public(&mut self, alloc: Global, at: u32, body: &[u8]) -> Result<(), NoMemory>
         requires { at < 2 ^ 31 }
-        ensures { OnOk result (self.new ≡ after_given at body.now self.old) }
+        ensures { OnOk result (self.new ≡ after_given noted at body.now self.old) }
     {
         let given = given_by(alloc, body)?;
         let count = self.segments.len();
@@ -215,7 +215,7 @@ impl Reading {
         requires at { at < 2 ^ 30 }
         requires len { len < 65536 }
         requires piece { piece ≡ word_at body.now 0 }
-        ensures { result ≡ new_run_faults at len body.now self.now }
+        ensures { result ≡ new_run_faults noted at len body.now self.now }
     {
         let segment = self.segments.get(piece as usize);
         run_fault(at, self.runs.last(), segment, len, body, self.fault)
@@ -225,7 +225,7 @@ impl Reading {
         requires at { at < 2 ^ 30 }
         requires len { len < 65536 }
         requires body { length body.now ≤ 1048576 }
-        ensures { OnOk result (self.new ≡ after_run at len body.now self.old) }
+        ensures { OnOk result (self.new ≡ after_run noted at len body.now self.old) }
     {
         let run = run_by(alloc, body)?;
         self.fault = self.new_run_fault(at, word(body, 0), len, body);
@@ -235,7 +235,7 @@ impl Reading {
     fn fixup_fault(&self, at: u32, file: &[u8], fixup: Fixup, body: &[u8]) -> Option<Fault>
         requires at { at < 2 ^ 30 }
         requires fixup { fixup ≡ fixup_at body.now }
-        ensures { result ≡ fixup_faults at file.now body.now self.now }
+        ensures { result ≡ fixup_faults noted at file.now body.now self.now }
     {
         let pieces = self.segments.len();
         let around = Around {
@@ -251,7 +251,7 @@ impl Reading {
 
     fn take_fixup(&mut self, at: u32, file: &[u8], body: &[u8]) -> Result<(), NoMemory>
         requires { at < 2 ^ 30 }
-        ensures { OnOk result (self.new ≡ after_fixup at file.now body.now self.old) }
+        ensures { OnOk result (self.new ≡ after_fixup noted at file.now body.now self.old) }
     {
         let fixup = fixup_by(body);
         self.fault = self.fixup_fault(at, file, fixup, body);
@@ -266,7 +266,7 @@ impl Reading {
         body: &[u8],
     ) -> Result<(), NoMemory>
         requires { at < 2 ^ 31 }
-        ensures { OnOk result (self.new ≡ after_entry at segment piece body.now self.old) }
+        ensures { OnOk result (self.new ≡ after_entry noted at segment piece body.now self.old) }
     {
         let entry = entry_by(piece, body);
         let before = self.lines.last().copied();
@@ -286,7 +286,7 @@ impl Reading {
     ) -> Result<(), NoMemory>
         requires at { at < 2 ^ 30 }
         requires count { count ≤ 65536 }
-        ensures { OnOk result (self.new ≡ after_entries count at segment piece body.now self.old) }
+        ensures { OnOk result (self.new ≡ after_entries noted count at segment piece body.now self.old) }
     {
         let mut left = count;
         let mut place = at;
@@ -312,7 +312,7 @@ impl Reading {
     fn opened_fault(&self, at: u32, segment: Option<Segment>, body: &[u8]) -> Option<Fault>
         requires at { at < 2 ^ 29 }
         requires segment { segment ≡ slice_get self.now.segments (word_at body.now 0) }
-        ensures { result ≡ opened_faults at body.now self.now }
+        ensures { result ≡ opened_faults noted at body.now self.now }
     {
         let before = self.lines.last().copied();
         block_fault(at, before, self.block, segment, body, self.fault)
@@ -321,7 +321,7 @@ impl Reading {
     fn take_block(&mut self, at: u32, len: usize, body: &[u8]) -> Result<(), NoMemory>
         requires at { at < 2 ^ 29 }
         requires len { len < 65536 }
-        ensures { OnOk result (self.new ≡ after_block at len body.now self.old) }
+        ensures { OnOk result (self.new ≡ after_block noted at len body.now self.old) }
     {
         let piece = word(body, 0);
         let segment = self.segment_of(piece);
@@ -345,7 +345,7 @@ impl Reading {
         requires at { at < 2 ^ 29 }
         requires len { len < 65536 }
         requires body { length body.now ≤ 1048576 }
-        ensures { OnOk result (self.new ≡ after_record kind at len file.now body.now self.old) }
+        ensures { OnOk result (self.new ≡ after_record noted kind at len file.now body.now self.old) }
     {
         match kind {
             0x01 => self.take_head(alloc, at, body),
@@ -371,7 +371,7 @@ impl Reading {
 
     // Comes to the records of a type; at the end each empty piece must be named.
     pub(crate) fn enter(&mut self, at: u32, kind: u8)
-        ensures { self.new ≡ at_stage at kind self.old }
+        ensures { self.new ≡ at_stage first_fault at kind self.old }
     {
         let sound = self.fault.is_none();
         let unnamed = kind == 0x7F

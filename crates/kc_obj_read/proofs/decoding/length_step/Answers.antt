@@ -1,7 +1,7 @@
 use Rattle.std.proofs.Common.{◌≡◌, ℕ, ◌+◌, ◌≤◌, List, length, drop, true, sym, ap, ◌∙◌, arith}
 use Rattle.kc_obj_read.specs.declared.step.Step.{Step}
 use Rattle.kc_obj_faults.specs.Fields.{word_at}
-use Rattle.kc_obj_read.specs.Reading.{Read, Answer, fits, bodied, sized, step_answer}
+use Rattle.kc_obj_read.specs.Reading.{Read, Answer, fits, bodied, sized, step_answer, first_fault}
 use Rattle.kc_obj_read.proofs.StepLemmas.{sized_on, if_ok_map}
 use Rattle.kc_obj_read.proofs.decoding.length_step.Goals as goal
 
@@ -16,7 +16,7 @@ returns-then-length_fits-clause-step c =
     let fit : fits c.args.kind (word_at (drop 1 (drop c.args.at file)) 0) (drop 2 (drop 1 (drop c.args.at file))) ≡ true = (λ i. fits c.args.kind (sym len_is i) (sym body_is i)) ∙ sym c.length_fits.ensures ∙ c.if-length_fits.true in
     let now = c.body_step.new.reading in
     if_ok_map c.body_step.result
-    (λ (s : Step). (goes_on : ℕ → Read → Answer) → bodied goes_on file (c.args.at + 3) c.args.kind c.word-len.result (drop (c.args.at + 3) file) c.args.reading.now ≡ step_answer goes_on s now)
-    (λ (s : Step). (goes_on : ℕ → Read → Answer) → sized goes_on file c.args.at c.args.kind rest c.args.reading.now ≡ step_answer goes_on s now)
+    (λ (s : Step). (goes_on : ℕ → Read → Answer) → bodied first_fault goes_on file (c.args.at + 3) c.args.kind c.word-len.result (drop (c.args.at + 3) file) c.args.reading.now ≡ step_answer goes_on s now)
+    (λ (s : Step). (goes_on : ℕ → Read → Answer) → sized first_fault goes_on file c.args.at c.args.kind rest c.args.reading.now ≡ step_answer goes_on s now)
     (λ s h goes_on. sized_on file c.args.at c.args.kind c.word-len.result c.args.reading.now more fit len_is goes_on ∙ h goes_on)
     c.body_step.ensures.step

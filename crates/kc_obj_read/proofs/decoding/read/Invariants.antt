@@ -1,10 +1,10 @@
 use Rattle.std.proofs.Common.{◌≡◌, ◌≤◌, length}
-use Rattle.kc_obj_read.specs.Reading.{read_on, answer_of}
+use Rattle.kc_obj_read.specs.Reading.{read_on, answer_of, first_fault}
 use Rattle.kc_obj_read.proofs.decoding.read.Given as goal
 
 abbrev pub invariant-loop-left : goal.invariant-loop-left
 invariant-loop-left l = record {
-  read : read_on l.left l.bytes l.at l.reading ≡ answer_of l.bytes;
+  read : read_on first_fault l.left l.bytes l.at l.reading ≡ answer_of l.bytes;
   within : l.at ≤ length l.bytes;
 }
 
