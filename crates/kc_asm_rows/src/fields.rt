@@ -7,7 +7,7 @@ ghost use Rattle.kc_asm_rows.specs.Rows as spec;
 use crate::spot::Spot;
 use itoa::Buffer;
 use kc_base::{NoMemory, hex_digit};
-use kc_obj::SegKind;
+use kc_obj_module::SegKind;
 
 /// Puts blanks behind a text.
 pub(crate) fn put_blanks(text: &mut Vec<u8>, count: usize) -> Result<(), NoMemory>

@@ -2,14 +2,14 @@
 
 ghost use Rattle.std.specs.Prelude.{◌≡◌, ◌++◌, ◌-◌, ◌≤◌, OnOk};
 ghost use Rattle.kc_base.specs.Digits.{hex};
-ghost use Rattle.kc_obj.specs.Contents as stands;
-ghost use Rattle.kc_obj.specs.Fixups as relocations;
+ghost use Rattle.kc_obj_module.specs.Contents as stands;
+ghost use Rattle.kc_obj_module.specs.Fixups as relocations;
 ghost use Rattle.kc_asm_rows.specs.Octets as spec;
 
 use crate::pieces::piece_of;
 use crate::spot::Spot;
 use kc_base::{NoMemory, hex_digit};
-use kc_obj::{Content, Fixup, Module};
+use kc_obj_module::{Content, Fixup, Module};
 use kc_obj_relocation::width;
 
 fn covers(content: &Content, piece: usize, offset: usize) -> bool
@@ -21,7 +21,7 @@ fn covers(content: &Content, piece: usize, offset: usize) -> bool
 }
 
 // The byte at an offset of a piece, if one stands there.
-#[tactic(auto, unfolding(kc_obj::specs::Contents::content_at))]
+#[tactic(auto, unfolding(kc_obj_module::specs::Contents::content_at))]
 fn content_at(contents: &[Content], piece: usize, offset: usize) -> Option<u8>
     ensures { result ≡ stands.content_at contents.now piece offset }
 {

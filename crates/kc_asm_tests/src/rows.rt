@@ -3,7 +3,7 @@ ghost use Rattle.std.specs.Prelude.{◌≤◌, length};
 
 use kc_asm_rows::{Spot, rows};
 use kc_base::Text;
-use kc_obj::{Content, Module, SegKind, Segment};
+use kc_obj_module::{Content, Module, SegKind, Segment};
 use std::test::*;
 
 // Three bytes of relocatable code.

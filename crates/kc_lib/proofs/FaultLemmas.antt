@@ -3,22 +3,22 @@ use Rattle.std.proofs.Common.{◌≡◌, ℕ, zero, suc, ◌+◌, ◌-◌, ◌*�
 use Rattle.std.specs.Prelude.{slice_index, slice_get, nat_le, nat_lt, ◌==◌, if◌then◌else◌, is_none}
 use Rattle.std.proofs.lemmas.Bool.{and_parts, leb-true, ltb-true, ltb-false, eqb-false}
 use Rattle.std.proofs.lemmas.List.{length-drop}
-use Rattle.kc_obj.specs.declared.parts.Segment.{Segment}
-use Rattle.kc_obj.specs.declared.parts.Given.{Given}
-use Rattle.kc_obj.specs.declared.parts.Content.{Content}
-use Rattle.kc_obj.specs.declared.parts.Fixup.{Fixup}
-use Rattle.kc_obj.specs.declared.parts.Lines.{Lines}
-use Rattle.kc_obj.specs.Contents.{covers, content_end}
-use Rattle.kc_obj.specs.Fixups.{may_begin, is_zero}
-use Rattle.kc_obj.specs.Pieces.{all_kept}
+use Rattle.kc_obj_module.specs.declared.parts.Segment.{Segment}
+use Rattle.kc_obj_module.specs.declared.parts.Given.{Given}
+use Rattle.kc_obj_module.specs.declared.parts.Content.{Content}
+use Rattle.kc_obj_module.specs.declared.parts.Fixup.{Fixup}
+use Rattle.kc_obj_module.specs.declared.parts.Lines.{Lines}
+use Rattle.kc_obj_module.specs.Contents.{covers, content_end}
+use Rattle.kc_obj_module.specs.Fixups.{may_begin, is_zero}
+use Rattle.kc_obj_module.specs.Pieces.{all_kept}
 use Rattle.kc_obj_relocation.specs.Numbers.{width}
-use Rattle.kc_obj.specs.Object.{Object}
-use Rattle.kc_obj_faults.specs.declared.faults.Fault.{Fault}
-use Rattle.kc_obj_faults.specs.declared.faults.ObjFault.{ObjFault}
-use Rattle.kc_obj_faults.specs.declared.faults.ObjFault.TheVariants as faults
-use Rattle.kc_obj_faults.specs.Fields.{is_lesser, first_of_both, fault_at, noted, word_at, last_of}
-use Rattle.kc_obj_faults.specs.Records.{head_faults, segment_faults, taken_faults, given_faults, run_faults, run_at, target_faults, fixup_place_faults, byte_of_file, place_of, place_or_zero, byte_faults, stands_free, free_faults, under_faults, fixup_at, entry_faults, block_faults}
-use Rattle.kc_obj_read.specs.Reading.{Read, Answer, nothing_read, object_read, fits, after_run, after_fixup, after_entry, after_entries, opened_block, after_block, after_record, stopped, told, ended, at_stage, behind_record, bodied, sized, may_come, typed, read_on, answer_of, IsDecoded}
+use Rattle.kc_obj_module.specs.Object.{Object}
+use Rattle.kc_obj_fields.specs.declared.faults.Fault.{Fault}
+use Rattle.kc_obj_fields.specs.declared.faults.ObjFault.{ObjFault}
+use Rattle.kc_obj_fields.specs.declared.faults.ObjFault.TheVariants as faults
+use Rattle.kc_obj_fields.specs.Fields.{is_lesser, first_of_both, fault_at, noted, word_at, last_of}
+use Rattle.kc_obj_fields.specs.Records.{head_faults, segment_faults, taken_faults, given_faults, run_faults, run_at, target_faults, fixup_place_faults, byte_of_file, place_of, place_or_zero, byte_faults, stands_free, free_faults, under_faults, fixup_at, entry_faults, block_faults}
+use Rattle.kc_obj.specs.Reading.{Read, Answer, nothing_read, object_read, fits, after_run, after_fixup, after_entry, after_entries, opened_block, after_block, after_record, stopped, told, ended, at_stage, behind_record, bodied, sized, may_come, typed, read_on, answer_of, IsDecoded}
 
 -- ---- one fault more (n: how far a fault can stand)
 

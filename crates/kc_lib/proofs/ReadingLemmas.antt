@@ -7,15 +7,15 @@ use Rattle.std.proofs.lemmas.Bool.{and_parts, and_from, le-leb, lt-leb, leb-true
 use Rattle.std.proofs.lemmas.List.{length-append, length-take-le, take_at, drop_at, take-append-drop, nil_from_length}
 use Rattle.std.specs.Global.{Vec}
 use Rattle.kc_base.specs.Bytes.{IsBytes}
-use Rattle.kc_obj.specs.Object.{Object}
-use Rattle.kc_obj.specs.Spelling.{long_bytes, spelling}
-use Rattle.kc_obj_faults.specs.declared.faults.Fault.{Fault}
-use Rattle.kc_obj_faults.specs.Fields.{long_at}
-use Rattle.kc_obj_read.specs.Reading.{answer_of}
-use Rattle.kc_obj_read.specs.Law.{IsSpelled}
-use Rattle.kc_obj_read.proofs.Bytes.{bytes_drop, bytes_take}
-use Rattle.kc_obj_read.proofs.Decoded.{decoded_spelled}
-use Rattle.kc_obj_read.proofs.Spelled.{spelled_decoded}
+use Rattle.kc_obj_module.specs.Object.{Object}
+use Rattle.kc_obj_module.specs.Spelling.{long_bytes, spelling}
+use Rattle.kc_obj_fields.specs.declared.faults.Fault.{Fault}
+use Rattle.kc_obj_fields.specs.Fields.{long_at}
+use Rattle.kc_obj.specs.Reading.{answer_of}
+use Rattle.kc_obj.specs.Law.{IsSpelled}
+use Rattle.kc_obj.proofs.Bytes.{bytes_drop, bytes_take}
+use Rattle.kc_obj.proofs.Decoded.{decoded_spelled}
+use Rattle.kc_obj.proofs.Spelled.{spelled_decoded}
 use Rattle.kc_lib.specs.declared.faults.LibFault.{LibFault}
 use Rattle.kc_lib.specs.declared.faults.LibFault.TheVariants.{At, Duplicate, TooMany, NoMemory}
 use Rattle.kc_lib.specs.declared.faults.LibCode.TheVariants as code

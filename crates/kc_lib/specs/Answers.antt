@@ -1,7 +1,7 @@
 -- What the calls of a library answer.
 use Rattle.std.specs.Prelude.{◌≡◌, ℕ, ◌+◌, ◌<◌, ◌≤◌, Option, Some, None, Result, Ok, Err, All, List, length}
 use Rattle.std.specs.Global.{Vec}
-use Rattle.kc_obj.specs.Object.{Object}
+use Rattle.kc_obj_module.specs.Object.{Object}
 use Rattle.kc_lib.specs.declared.faults.LibFault.{LibFault}
 use Rattle.kc_lib.specs.declared.faults.LibFault.TheVariants.{Duplicate, TooMany, NoMemory}
 use Rattle.kc_lib.specs.Names.{doubled}

@@ -2,9 +2,9 @@
 -- byte first) and the object (this kit's own format).
 use Rattle.std.specs.Prelude.{◌≡◌, ℕ, ◌<◌, ◌≤◌, ◌^◌, Bool, ◌&&◌, nat_le, is_none, All, List, [], ◌∷◌, ◌++◌, length}
 use Rattle.std.specs.List.{flat_map}
-use Rattle.kc_obj.specs.Object.{Object}
-use Rattle.kc_obj.specs.Spelling.{long_bytes, spelling}
-use Rattle.kc_obj_read.specs.Law.{IsSpelled}
+use Rattle.kc_obj_module.specs.Object.{Object}
+use Rattle.kc_obj_module.specs.Spelling.{long_bytes, spelling}
+use Rattle.kc_obj.specs.Law.{IsSpelled}
 use Rattle.kc_lib.specs.Names.{GivenOnce, doubled}
 
 abbrev pub member_bytes : Object → List ℕ

@@ -1,6 +1,6 @@
 // Modules packed into a library.
 ghost use Rattle.std.specs.Prelude.{◌≡◌, ◌<◌, ◌≤◌, ◌^◌, ◌++◌, OnOk, IfOk, All, length};
-ghost use Rattle.kc_obj.specs.Spelling.{long_bytes, spelling};
+ghost use Rattle.kc_obj_module.specs.Spelling.{long_bytes, spelling};
 ghost use Rattle.kc_lib.specs.Format.{member_bytes, library_bytes};
 ghost use Rattle.kc_lib.specs.Names as named;
 ghost use Rattle.kc_lib.specs.Answers.{IsPacked, TellsPacked, IsOnce};
@@ -8,7 +8,7 @@ ghost use Rattle.kc_lib.specs.Answers.{IsPacked, TellsPacked, IsOnce};
 use crate::faults::LibFault;
 use crate::givers::Givers;
 use kc_base::{NoMemory, Text};
-use kc_obj::{Module, encode};
+use kc_obj_module::{Module, encode};
 use std::alloc::Global;
 
 // Refuses modules of which two give a name.

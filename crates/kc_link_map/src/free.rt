@@ -6,7 +6,7 @@ ghost use Rattle.kc_link_map.specs.Map as map;
 use crate::fields::{put_address, put_number};
 use kc_base::NoMemory;
 use kc_link_place::Placed;
-use kc_obj::{Module, SegKind, Segment};
+use kc_obj_module::{Module, SegKind, Segment};
 
 /// The stack: its first address and its length in bytes.
 #[derive(Clone, Copy)]

@@ -9,7 +9,7 @@ use crate::free::{StackAt, put_free};
 use crate::modules::{put_all_pieces, put_all_publics};
 use kc_base::NoMemory;
 use kc_link_place::{LinkFault, Placed, Ranges, locate, stack_size};
-use kc_obj::Module;
+use kc_obj_module::Module;
 use std::alloc::Global;
 
 fn stack_of(placed: &Placed, size: u32) -> StackAt

@@ -1,10 +1,2 @@
-pub mod Contents
-pub mod Fixups
-pub mod LineEntries
-pub mod Names
-pub mod Object
-pub mod Pieces
-pub mod Rules
-pub mod Spelled
-pub mod Spelling
-pub mod Widths
+pub mod Law
+pub mod Reading

@@ -1,5 +1,5 @@
 use Rattle.std.proofs.Common.{◌≡◌, length}
-use Rattle.kc_obj.specs.Contents as stands
+use Rattle.kc_obj_module.specs.Contents as stands
 use Rattle.kc_asm_rows.proofs.octets.content_at.Given as goal
 
 abbrev pub invariant-loop-left : goal.invariant-loop-left

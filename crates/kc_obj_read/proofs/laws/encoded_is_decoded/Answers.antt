@@ -1,7 +1,0 @@
-use Rattle.std.proofs.Common.{refl}
-use Rattle.kc_obj.specs.Spelling.{spelling}
-use Rattle.kc_obj_read.proofs.Spelled.{spelled_decoded}
-use Rattle.kc_obj_read.proofs.laws.encoded_is_decoded.Goals as goal
-
-pub returns : goal.returns
-returns c = spelled_decoded (spelling c.args.module.now) c.args.module.now (record { sound = c.keeps_rules.ensures; numbers = c.has_room.ensures; spelled = refl })
