@@ -18,7 +18,7 @@ use kc_source_statement::Stmt;
 use std::alloc::Global;
 
 // Where a statement stands.
-fn spot_of(line: &Line, depth: u32, note: &Note, site: &Site) -> Spot
+fn spot_of(line: &Line, depth: usize, note: &Note, site: &Site) -> Spot
     requires { IsBounded note.now }
     ensures { result ≡ spec.spot_of line.now depth note.now site.now }
 {
@@ -35,7 +35,7 @@ fn spot_of(line: &Line, depth: u32, note: &Note, site: &Site) -> Spot
     }
 }
 
-fn first_depth(depths: &[u32]) -> u32
+fn first_depth(depths: &[usize]) -> usize
     ensures { result ≡ slice_index depths.now 0 }
 {
     depths.first().copied().unwrap_or(0)
@@ -45,7 +45,7 @@ fn first_depth(depths: &[u32]) -> u32
 fn put_first(
     spots: &mut Vec<Spot>,
     line: &Line,
-    depths: &[u32],
+    depths: &[usize],
     notes: &[Note],
     sites: &[Site],
 ) -> Result<(), NoMemory>
@@ -78,7 +78,7 @@ fn behind<T>(items: &[T]) -> &[T]
 fn spots_from(
     alloc: Global,
     text: &[Line],
-    depths: &[u32],
+    depths: &[usize],
     notes: &[Note],
     sites: &[Site],
 ) -> Result<Vec<Spot>, NoMemory>
@@ -106,7 +106,7 @@ fn spots_from(
 pub(crate) fn spots_of(
     alloc: Global,
     text: &[Line],
-    depths: &[u32],
+    depths: &[usize],
     stmts: &[Stmt],
 ) -> Result<Vec<Spot>, NoMemory>
     requires few { length stmts.now ≤ 65536 }
