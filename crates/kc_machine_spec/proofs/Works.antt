@@ -215,5 +215,9 @@ module _ {X : Type 0} (f : Further X) where
   touch_is_within_work (suc n) m = by m.ended refl (touch_is_within_work n (step f m).machine)
     where
       by : (ended : Option Ending) → m.ended ≡ ended → (run_for f n (step f m).machine).touch ≤ 4 * work_for f n (step f m).machine → (run_for f (suc n) m).touch ≤ 4 * work_for f (suc n) m
-      by (Some how) e rest = rw e (omega arith)
-      by None e rest = let one = stepped-within m (current m) in rw e (omega (arith, one, rest))
+      by (Some how) e rest = let none = ap (λ (s : Stepped X). s.touch) (run_for-ended f (suc n) m how e) in omega (arith, none)
+      by None e rest =
+          let goes = ap (λ (s : Stepped X). s.touch) (run_for-suc f n m e) in
+          let more = work-suc n m e in
+          let one = step-within m in
+          omega (arith, goes, more, one, rest)
