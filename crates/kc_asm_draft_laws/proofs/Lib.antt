@@ -14,4 +14,3 @@ pub mod Octets
 pub mod Naming
 pub mod Drafts
 pub mod Stood
-mod Few

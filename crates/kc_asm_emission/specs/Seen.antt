@@ -14,11 +14,11 @@ seen (made.Reserved n) = Reserved n
 seen (made.Upto place) = Upto place
 seen made.Even = Even
 
--- the most bytes of one statement that are counted: no statement of a source has as many
+-- the most that a number of 32 bits counts
 abbrev pub most : ℕ
-most = 16777215
+most = 4294967295
 
--- a count stops there
+-- a count of 32 bits stops at its greatest number
 abbrev pub counted : Extent → Extent
 counted (extent.Bytes n) = extent.Bytes (min n most)
 counted (extent.Upto place) = extent.Upto place

@@ -1,8 +1,6 @@
 //! How many pieces of text stand before the place of each statement.
 
 ghost use Rattle.std.specs.Prelude.{◌≡◌, ◌+◌, ◌*◌, ◌≤◌, ◌<◌, ◌^◌, length, IfOk};
-ghost use Rattle.kc_asm_emission.specs.Seen.{most};
-ghost use Rattle.kc_asm_outline.specs.Bounds.{AreBounded, IsBounded};
 ghost use Rattle.kc_asm_layout.specs.Text as spec;
 
 use crate::text::{behind_gap, is_code, is_main, next_gap};
@@ -13,20 +11,19 @@ use std::alloc::Global;
 // The most bytes of a piece of text.
 const MOST: u32 = 65535;
 
-fn bytes_length(count: u32) -> u32
-    requires { count ≤ most }
+fn bytes_length(count: u32) -> u64
     ensures value { result ≡ length (spec.bytes_text count) }
-    ensures bound { result ≤ 257 }
+    ensures bound { result ≤ 65538 }
 {
-    count / MOST + 1
+    u64::from(count / MOST) + 1
 }
 
-fn lead_length(gap: u8, note: &Note) -> u32
+fn lead_length(gap: u32, note: &Note) -> u64
     ensures value { result ≡ length (spec.lead gap note.now) }
-    ensures bound { result ≤ 257 }
+    ensures bound { result ≤ 65538 }
 {
     if !is_code(note.segment) {
-        bytes_length(u32::from(gap))
+        bytes_length(gap)
     } else if note.alignment == 2 {
         1
     } else {
@@ -34,10 +31,9 @@ fn lead_length(gap: u8, note: &Note) -> u32
     }
 }
 
-fn body_length(note: &Note) -> u32
-    requires { IsBounded note.now }
+fn body_length(note: &Note) -> u64
     ensures value { result ≡ length (spec.body_text spec.nowhere note.now.segment note.now.body) }
-    ensures bound { result ≤ 257 }
+    ensures bound { result ≤ 65538 }
 {
     match note.body {
         Body::Bytes(count) => bytes_length(count),
@@ -45,18 +41,16 @@ fn body_length(note: &Note) -> u32
     }
 }
 
-fn own_length(gap: u8, note: &Note) -> u32
-    requires { IsBounded note.now }
+fn own_length(gap: u32, note: &Note) -> u64
     ensures value { result ≡ length (spec.own_text spec.nowhere gap note.now) }
-    ensures bound { result ≤ 514 }
+    ensures bound { result ≤ 131076 }
 {
     lead_length(gap, note) + body_length(note)
 }
 
-fn main_length(gap: u8, note: &Note) -> u32
-    requires { IsBounded note.now }
+fn main_length(gap: u32, note: &Note) -> u64
     ensures value { result ≡ length (spec.main_text spec.nowhere gap note.now) }
-    ensures bound { result ≤ 514 }
+    ensures bound { result ≤ 131076 }
 {
     if is_main(note.segment) {
         own_length(gap, note)
@@ -65,25 +59,24 @@ fn main_length(gap: u8, note: &Note) -> u32
     }
 }
 
-fn absolute_length(gap: u8, note: &Note) -> u32
-    requires { IsBounded note.now }
+fn absolute_length(gap: u32, note: &Note) -> u64
     ensures value { result ≡ length (spec.absolute_text spec.nowhere gap note.now) }
-    ensures bound { result ≤ 515 }
+    ensures bound { result ≤ 131077 }
 {
     let own = if note.segment.is_absolute() {
         own_length(gap, note)
     } else {
         0
     };
-    own + u32::from(note.opens.is_some())
+    own + u64::from(note.opens.is_some())
 }
 
 // How many pieces of text the relocatable code has.
 #[tactic(auto, unfolding(crate::specs::Text::text_by))]
-fn whole_main_length(gaps: &[u8], notes: &[Note]) -> u32
-    requires { AreBounded notes.now }
+fn whole_main_length(gaps: &[u32], notes: &[Note]) -> u64
+    requires { length notes.now ≤ 65536 }
     ensures value { result ≡ length (spec.text_by (spec.main_text spec.nowhere) gaps.now notes.now) }
-    ensures bound { result ≤ 2 ^ 26 }
+    ensures bound { result ≤ 2 ^ 34 }
 {
     let mut count = 0;
     let mut later = gaps;
@@ -94,9 +87,9 @@ fn whole_main_length(gaps: &[u8], notes: &[Note]) -> u32
     count
 }
 
-fn position(main: u32, absolute: u32, gap: u8, note: &Note) -> u32
-    requires main { main ≤ 2 ^ 30 }
-    requires absolute { absolute ≤ 2 ^ 30 }
+fn position(main: u64, absolute: u64, gap: u32, note: &Note) -> u64
+    requires main { main ≤ 2 ^ 62 }
+    requires absolute { absolute ≤ 2 ^ 62 }
     ensures { result ≡ spec.position main absolute gap note.now }
 {
     if is_main(note.segment) {
@@ -110,8 +103,8 @@ fn position(main: u32, absolute: u32, gap: u8, note: &Note) -> u32
 
 // For each statement, how many pieces of text stand before its place.
 #[tactic(auto, unfolding(crate::specs::Text::positions_from))]
-pub(crate) fn positions(alloc: Global, gaps: &[u8], notes: &[Note]) -> Result<Vec<u32>, NoMemory>
-    requires { AreBounded notes.now }
+pub(crate) fn positions(alloc: Global, gaps: &[u32], notes: &[Note]) -> Result<Vec<u64>, NoMemory>
+    requires { length notes.now ≤ 65536 }
     ensures { IfOk result (λ v. v.items ≡ spec.positions gaps.now notes.now) }
 {
     let mut positions = Vec::new(alloc);

@@ -48,31 +48,35 @@ fn segment_at(notes: &[Note], number: u16) -> Segment
     }
 }
 
-// How many pieces of text stand before the place of a statement.
-fn position_at(positions: &[u32], number: u16) -> u32
-    ensures { result ≡ slice_index positions.now number }
+// The place of a statement in the text, with a distance. No memory holds more pieces of text than 32 bits count.
+fn place_in(positions: &[u64], number: u16, distance: i16) -> Result<Option<(u32, i16)>, NoMemory>
+    ensures { IfOk result (λ t. t ≡ Some (slice_index positions.now number, distance)) }
 {
-    positions.get(usize::from(number)).copied().unwrap_or(0)
+    let position = positions.get(usize::from(number)).copied().unwrap_or(0);
+    match u32::try_from(position) {
+        Ok(place) => Ok(Some((place, distance))),
+        Err(_) => Err(NoMemory),
+    }
 }
 
 // What the target of a branch is in the text, by the segment of the branch.
 fn target_in(
-    positions: &[u32],
+    positions: &[u64],
     notes: &[Note],
     segment: Segment,
     anchor: Anchor,
-) -> Option<(u32, i16)>
-    ensures { result ≡ spec.target_in positions.now notes.now segment anchor }
+) -> Result<Option<(u32, i16)>, NoMemory>
+    ensures { IfOk result (λ t. t ≡ spec.target_in positions.now notes.now segment anchor) }
 {
     match anchor {
         Anchor::Statement { number, distance } => {
             if is_same_base(segment, segment_at(notes, number)) {
-                Some((position_at(positions, number), distance))
+                place_in(positions, number, distance)
             } else {
-                None
+                Ok(None)
             }
         }
-        Anchor::External | Anchor::Nothing => None,
+        Anchor::External | Anchor::Nothing => Ok(None),
     }
 }
 
@@ -90,11 +94,11 @@ fn push_bytes(text: &mut Vec<Piece>, count: u32) -> Result<(), NoMemory>
 }
 
 // What leads to the place of a statement.
-fn push_lead(text: &mut Vec<Piece>, gap: u8, note: &Note) -> Result<(), NoMemory>
+fn push_lead(text: &mut Vec<Piece>, gap: u32, note: &Note) -> Result<(), NoMemory>
     ensures { IfOk result (λ _. text.new.items ≡ text.old.items ++ spec.lead gap note.now) }
 {
     if !is_code(note.segment) {
-        return push_bytes(text, u32::from(gap));
+        return push_bytes(text, gap);
     }
     if note.alignment == 2 {
         text.push(Piece::Even)?;
@@ -104,27 +108,25 @@ fn push_lead(text: &mut Vec<Piece>, gap: u8, note: &Note) -> Result<(), NoMemory
 
 // A branch, which outside code keeps its first form.
 fn branch_text(
-    positions: &[u32],
+    positions: &[u64],
     notes: &[Note],
     segment: Segment,
     kind: BranchKind,
     anchor: Anchor,
-) -> Piece
-    ensures { result ∷ [] ≡ spec.body_text (spec.target_in positions.now notes.now) segment (Branch kind anchor) }
+) -> Result<Piece, NoMemory>
+    ensures { IfOk result (λ p. p ∷ [] ≡ spec.body_text (spec.target_in positions.now notes.now) segment (Branch kind anchor)) }
 {
     if is_code(segment) {
-        Piece::Branch {
-            kind,
-            target: target_in(positions, notes, segment, anchor),
-        }
+        let target = target_in(positions, notes, segment, anchor)?;
+        Ok(Piece::Branch { kind, target })
     } else {
-        Piece::Bytes(branch_length(kind, Form::First))
+        Ok(Piece::Bytes(branch_length(kind, Form::First)))
     }
 }
 
 fn push_body(
     text: &mut Vec<Piece>,
-    positions: &[u32],
+    positions: &[u64],
     notes: &[Note],
     note: &Note,
 ) -> Result<(), NoMemory>
@@ -141,7 +143,8 @@ fn push_body(
             Ok(())
         }
         Body::Branch { kind, anchor } => {
-            text.push(branch_text(positions, notes, note.segment, kind, anchor))?;
+            let piece = branch_text(positions, notes, note.segment, kind, anchor)?;
+            text.push(piece)?;
             Ok(())
         }
     }
@@ -149,9 +152,9 @@ fn push_body(
 
 fn push_own(
     text: &mut Vec<Piece>,
-    positions: &[u32],
+    positions: &[u64],
     notes: &[Note],
-    gap: u8,
+    gap: u32,
     note: &Note,
 ) -> Result<(), NoMemory>
     ensures { IfOk result (λ _. text.new.items ≡ text.old.items ++ spec.own_text (spec.target_in positions.now notes.now) gap note.now) }
@@ -162,9 +165,9 @@ fn push_own(
 
 fn push_main(
     text: &mut Vec<Piece>,
-    positions: &[u32],
+    positions: &[u64],
     notes: &[Note],
-    gap: u8,
+    gap: u32,
     note: &Note,
 ) -> Result<(), NoMemory>
     ensures { IfOk result (λ _. text.new.items ≡ text.old.items ++ spec.main_text (spec.target_in positions.now notes.now) gap note.now) }
@@ -177,9 +180,9 @@ fn push_main(
 
 fn push_absolute(
     text: &mut Vec<Piece>,
-    positions: &[u32],
+    positions: &[u64],
     notes: &[Note],
-    gap: u8,
+    gap: u32,
     note: &Note,
 ) -> Result<(), NoMemory>
     ensures { IfOk result (λ _. text.new.items ≡ text.old.items ++ spec.absolute_text (spec.target_in positions.now notes.now) gap note.now) }
@@ -195,7 +198,7 @@ fn push_absolute(
 
 // ---- all statements, with the gap before each
 
-pub(crate) fn next_gap(gaps: &[u8]) -> u8
+pub(crate) fn next_gap(gaps: &[u32]) -> u32
     ensures { result ≡ spec.next_gap gaps.now }
 {
     match gaps {
@@ -204,7 +207,7 @@ pub(crate) fn next_gap(gaps: &[u8]) -> u8
     }
 }
 
-pub(crate) fn behind_gap(gaps: &[u8]) -> &[u8]
+pub(crate) fn behind_gap(gaps: &[u32]) -> &[u32]
     ensures { result.now ≡ drop 1 gaps.now }
 {
     match gaps {
@@ -216,8 +219,8 @@ pub(crate) fn behind_gap(gaps: &[u8]) -> &[u8]
 #[tactic(auto, unfolding(crate::specs::Text::text_by))]
 fn push_all_main(
     text: &mut Vec<Piece>,
-    positions: &[u32],
-    gaps: &[u8],
+    positions: &[u64],
+    gaps: &[u32],
     notes: &[Note],
 ) -> Result<(), NoMemory>
     ensures { IfOk result (λ _. text.new.items ≡ text.old.items ++ spec.text_by (spec.main_text (spec.target_in positions.now notes.now)) gaps.now notes.now) }
@@ -233,8 +236,8 @@ fn push_all_main(
 #[tactic(auto, unfolding(crate::specs::Text::text_by))]
 fn push_all_absolute(
     text: &mut Vec<Piece>,
-    positions: &[u32],
-    gaps: &[u8],
+    positions: &[u64],
+    gaps: &[u32],
     notes: &[Note],
 ) -> Result<(), NoMemory>
     ensures { IfOk result (λ _. text.new.items ≡ text.old.items ++ spec.text_by (spec.absolute_text (spec.target_in positions.now notes.now)) gaps.now notes.now) }
@@ -250,8 +253,8 @@ fn push_all_absolute(
 // The relocatable code, and then the absolute pieces.
 pub(crate) fn text(
     alloc: Global,
-    positions: &[u32],
-    gaps: &[u8],
+    positions: &[u64],
+    gaps: &[u32],
     notes: &[Note],
 ) -> Result<Vec<Piece>, NoMemory>
     ensures { IfOk result (λ v. v.items ≡ spec.whole_text (spec.target_in positions.now notes.now) gaps.now notes.now) }

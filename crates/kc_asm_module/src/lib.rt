@@ -1,6 +1,7 @@
 //! The module that the pieces of a source are.
 #![tactic(auto)]
 
+mod count;
 mod gather;
 mod kept;
 mod laws;
@@ -9,6 +10,7 @@ mod publics;
 mod puts;
 mod runs;
 
+pub use count::piece_count;
 pub use kept::Kept;
 pub use laws::{absolute_alike, few_pieces, numbers_stand, one_module};
 pub use making::module_of;

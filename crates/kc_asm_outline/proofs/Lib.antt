@@ -1,5 +1,4 @@
 pub mod Steps
 pub mod Numbers
-pub mod BoundLemmas
-mod Extents
+pub mod Extents
 pub mod Stays

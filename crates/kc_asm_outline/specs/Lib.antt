@@ -1,4 +1,3 @@
 pub mod Outline
 pub mod Numbered
-pub mod Bounds
 pub mod Laws

@@ -10,8 +10,6 @@ mod outline;
 #[cfg(test)]
 mod rows;
 #[cfg(test)]
-mod sources;
-#[cfg(test)]
 mod symbols;
 #[cfg(test)]
 mod without_value;

@@ -1,6 +1,5 @@
 pub mod Tests
 pub mod Counts
-pub mod Expanded
 pub mod Reading
 pub mod Expanding
 pub mod Strings
