@@ -26,7 +26,7 @@ use Rattle.kc_obj_module.specs.LineEntries.{line_is_sound, lines_are_sound}
 use Rattle.kc_obj_module.specs.Rules.{is_module, contents_are_sound, fixups_are_sound}
 use Rattle.kc_obj_module.proofs.RoomLemmas.{rest_in_order, next_follows}
 use Rattle.kc_obj_relocation.specs.Numbers.{width}
-use Rattle.kc_obj.specs.Law.{target_fits, fixup_fits, line_fits, lines_fit, numbers_fit}
+use Rattle.kc_obj_module.specs.Widths.{target_fits, fixup_fits, line_fits, lines_fit, numbers_fit}
 use Rattle.kc_asm_symbols.specs.Few.{ExternalsAreFew}
 use Rattle.kc_asm_symbols.specs.Externals.{externals}
 use Rattle.kc_asm_symbols.specs.Located.{first_segment, value_at}

@@ -1,2 +1,4 @@
+mod Kept
 mod Order
+mod Sorted
 mod Steps

@@ -65,7 +65,7 @@ fn put_place(text: &mut Vec<u8>, place: u64) -> Result<(), NoMemory>
 }
 
 // Puts how deep a statement stands behind a text.
-fn put_depth(text: &mut Vec<u8>, depth: u32) -> Result<(), NoMemory>
+fn put_depth(text: &mut Vec<u8>, depth: usize) -> Result<(), NoMemory>
     ensures { OnOk result (text.new.items ≡ text.old.items ++ spec.depth_text depth) }
 {
     if depth == 0 {

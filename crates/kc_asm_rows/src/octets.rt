@@ -1,9 +1,11 @@
 //! The bytes of a module where a statement stands.
 
-ghost use Rattle.std.specs.Prelude.{◌≡◌, ◌++◌, ◌-◌, ◌≤◌, OnOk};
+ghost use Rattle.std.specs.Prelude.{◌≡◌, ◌++◌, ◌+◌, ◌-◌, ◌≤◌, ◌==◌, ◌&&◌, ◌||◌, nat_lt, nat_le, true, OnOk};
+ghost use Rattle.std.specs.List.{list_any};
 ghost use Rattle.kc_base.specs.Digits.{hex};
 ghost use Rattle.kc_obj_module.specs.Contents as stands;
 ghost use Rattle.kc_obj_module.specs.Fixups as relocations;
+ghost use Rattle.kc_obj_relocation.specs.Numbers as numbers;
 ghost use Rattle.kc_asm_rows.specs.Octets as spec;
 
 use crate::pieces::piece_of;
@@ -12,28 +14,42 @@ use kc_base::{NoMemory, hex_digit};
 use kc_obj_module::{Content, Fixup, Module};
 use kc_obj_relocation::width;
 
-fn covers(content: &Content, piece: usize, offset: usize) -> bool
-    ensures { result ≡ stands.covers content.now piece offset }
+fn end_of(content: &Content) -> usize
+    ensures { result ≡ stands.content_end content.now }
 {
-    let first = usize::from(content.offset);
-    let end = first + content.bytes.as_slice().len();
-    usize::from(content.piece) == piece && first <= offset && offset < end
+    usize::from(content.offset) + content.bytes.as_slice().len()
 }
 
-// The byte at an offset of a piece, if one stands there.
-#[tactic(auto, unfolding(kc_obj_module::specs::Contents::content_at))]
+// Whether the whole run stands before an offset of a piece.
+fn is_over(content: &Content, piece: usize, offset: usize) -> bool
+    ensures { result ≡ stands.is_over content.now piece offset }
+{
+    let own = usize::from(content.piece);
+    own < piece || own == piece && end_of(content) <= offset
+}
+
+// The byte that a run has at an offset of a piece.
+fn byte_of(content: &Content, piece: usize, offset: usize) -> Option<u8>
+    ensures { result ≡ stands.byte_of content.now piece offset }
+{
+    let first = usize::from(content.offset);
+    if usize::from(content.piece) == piece && first <= offset && offset < end_of(content) {
+        content.bytes.as_slice().get(offset - first).copied()
+    } else {
+        None
+    }
+}
+
+// The byte at an offset of a piece, if one stands there. Runs stand by rising place.
 fn content_at(contents: &[Content], piece: usize, offset: usize) -> Option<u8>
+    requires { stands.contents_in_order contents.now ≡ true }
     ensures { result ≡ stands.content_at contents.now piece offset }
 {
-    let mut left = contents;
-    while let [content, rest @ ..] = left {
-        if covers(content, piece, offset) {
-            let behind = offset - usize::from(content.offset);
-            return content.bytes.as_slice().get(behind).copied();
-        }
-        left = rest;
+    let at = contents.partition_point(|c| is_over(c, piece, offset));
+    match contents.get(at) {
+        None => None,
+        Some(content) => byte_of(content, piece, offset),
     }
-    None
 }
 
 fn offset_of(spot: &Spot, place: u64) -> usize
@@ -46,24 +62,50 @@ fn offset_of(spot: &Spot, place: u64) -> usize
 fn byte_at(object: &Module, spot: &Spot, place: u64) -> Option<u8>
     ensures { result ≡ spec.byte_at object.now spot.now place }
 {
+    object.keeps_rules();
     let piece = piece_of(object.segments(), spot);
     content_at(object.contents(), piece, offset_of(spot, place))
+}
+
+fn end_of_fixup(fixup: Fixup) -> usize
+    ensures { result ≡ fixup.offset + numbers.width fixup.kind }
+{
+    usize::from(fixup.offset) + usize::from(width(fixup.kind))
+}
+
+// Whether all bytes of a relocation stand before an offset of a piece.
+fn is_past(piece: usize, offset: usize, fixup: Fixup) -> bool
+    ensures { result ≡ (nat_lt fixup.piece piece || ((fixup.piece == piece) && nat_le (fixup.offset + numbers.width fixup.kind) offset)) }
+{
+    let own = usize::from(fixup.piece);
+    own < piece || own == piece && end_of_fixup(fixup) <= offset
 }
 
 fn fills(piece: usize, offset: usize, fixup: Fixup) -> bool
     ensures { result ≡ relocations.fills piece offset fixup }
 {
     let first = usize::from(fixup.offset);
-    let end = first + usize::from(width(fixup.kind));
-    usize::from(fixup.piece) == piece && first <= offset && offset < end
+    usize::from(fixup.piece) == piece && first <= offset && offset < end_of_fixup(fixup)
+}
+
+// Whether one of the relocations fills in the byte at an offset of a piece. They stand by rising place.
+fn fill(fixups: &[Fixup], piece: usize, offset: usize) -> bool
+    requires { relocations.fixups_in_order fixups.now ≡ true }
+    ensures { result ≡ list_any (relocations.fills piece offset) fixups.now }
+{
+    let at = fixups.partition_point(|f| is_past(piece, offset, *f));
+    match fixups.get(at) {
+        None => false,
+        Some(fixup) => fills(piece, offset, *fixup),
+    }
 }
 
 fn is_filled(object: &Module, spot: &Spot, place: u64) -> bool
     ensures { result ≡ spec.is_filled object.now spot.now place }
 {
+    object.keeps_rules();
     let piece = piece_of(object.segments(), spot);
-    let offset = offset_of(spot, place);
-    object.fixups().iter().any(|f| fills(piece, offset, *f))
+    fill(object.fixups(), piece, offset_of(spot, place))
 }
 
 fn put_byte(text: &mut Vec<u8>, filled: bool, byte: u8) -> Result<(), NoMemory>

@@ -8,7 +8,7 @@ use kc_obj_module::SegKind;
 #[derive(Clone, Copy, PartialEq, Eq)]
 pub struct Spot {
     pub line: u32,
-    pub depth: u32,
+    pub depth: usize,
     pub labelled: bool,
     pub kind: SegKind,
     pub piece: u32,

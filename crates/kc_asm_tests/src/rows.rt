@@ -34,7 +34,7 @@ fn module(rt: &HostRuntime) -> Result<Module, Fail> {
 }
 
 // A statement of one byte at a place.
-fn spot(line: u32, depth: u32, offset: u32) -> Spot {
+fn spot(line: u32, depth: usize, offset: u32) -> Spot {
     let place = u64::from(offset);
     Spot {
         line,

@@ -1,4 +1,4 @@
-ghost use Rattle.std.specs.Prelude.{◌≡◌, ℕ, ◌+◌, ◌-◌, ◌*◌, ◌≤◌, ◌<◌, ◌^◌, ◌%◌, OnOk, OnErr, IfOk, IfErr, Ok, Err, is_some, true};
+ghost use Rattle.std.specs.Prelude.{◌≡◌, ℕ, ◌+◌, ◌-◌, ◌*◌, ◌≤◌, ◌<◌, ◌^◌, OnOk, OnErr, IfOk, IfErr, Ok, Err, is_some, true};
 ghost use Rattle.kc_block_spec.specs.Registers.{row_at, bytes_read_everywhere, bytes_written_everywhere};
 ghost use Rattle.kc_block_spec.specs.Touch.{in_state};
 ghost use Rattle.kc_block_spec.specs.Leading.{Leads};
@@ -55,7 +55,8 @@ impl<X: Extra + Drop> Block<X> {
         access::read8(&mut self.lanes, self.time, window, sfr, steps)
     }
 
-    /// Reads a word at an even address below 0018H in the state before the present one, after its Tick. A refusal changes nothing.
+    /// Reads a word below 0018H in the state before the present one, after its Tick. A refusal changes nothing; an odd address is
+    /// refused with `OddWord`.
     pub fn read16_here<L: Ledger>(
         &mut self,
         window: Window,
@@ -63,7 +64,6 @@ impl<X: Extra + Drop> Block<X> {
         steps: &mut Steps<L>,
     ) -> Result<u16, Kind>
         requires register { sfr < 24 }
-        requires even { sfr % 2 ≡ 0 }
         ensures answer { result ≡ word_read X.further (self.old.time - 1) window self.old.units sfr }
         ensures ok { OnOk result (self.new.units ≡ after_word_read X.further (self.old.time - 1) window self.old.units sfr) }
         ensures refused { OnErr result (self.new ≡ self.old) }
@@ -108,8 +108,8 @@ impl<X: Extra + Drop> Block<X> {
         written
     }
 
-    /// Writes a word at an even address below 0018H in the state before the present one, after its Tick, and hands out the edges of the
-    /// printed pins. A refusal changes nothing.
+    /// Writes a word below 0018H in the state before the present one, after its Tick, and hands out the edges of the printed
+    /// pins. A refusal changes nothing; an odd address is refused with `OddWord`.
     pub fn write16_here<O: EdgeOut, L: Ledger>(
         &mut self,
         window: Window,
@@ -119,7 +119,6 @@ impl<X: Extra + Drop> Block<X> {
         steps: &mut Steps<L>,
     ) -> Result<(), Kind>
         requires register { sfr < 24 }
-        requires even { sfr % 2 ≡ 0 }
         ensures ok { OnOk result (word_written X.further (self.old.time - 1) window self.old.units sfr value ≡ Ok self.new.units) }
         ensures kind { IfErr result (λ kind. word_written X.further (self.old.time - 1) window self.old.units sfr value ≡ Err kind) }
         ensures refused { OnErr result (self.new ≡ self.old) }

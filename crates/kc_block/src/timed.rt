@@ -1,4 +1,4 @@
-ghost use Rattle.std.specs.Prelude.{◌≡◌, ℕ, ◌+◌, ◌*◌, ◌≤◌, ◌<◌, ◌^◌, ◌%◌, OnOk, OnErr, IfErr, Ok, Err, is_some, true};
+ghost use Rattle.std.specs.Prelude.{◌≡◌, ℕ, ◌+◌, ◌*◌, ◌≤◌, ◌<◌, ◌^◌, OnOk, OnErr, IfErr, Ok, Err, is_some, true};
 ghost use Rattle.kc_block_spec.specs.Registers.{row_at, bytes_read_everywhere, bytes_written_everywhere};
 ghost use Rattle.kc_block_spec.specs.Leading.{Leads};
 ghost use Rattle.kc_block_spec.specs.Accesses.{byte_read, after_byte_read, byte_written, word_read, after_word_read, word_written};
@@ -55,7 +55,7 @@ impl<X: Extra + Drop> Block<X> {
         self.read8_here(window, sfr, steps)
     }
 
-    /// Reads a word at an even address below 0018H at state `at`, after its Tick. A read gives no edge.
+    /// Reads a word below 0018H at state `at`, after its Tick. A read gives no edge; an odd address is refused with `OddWord`.
     pub fn read16<O: EdgeOut, L: Ledger>(
         &mut self,
         window: Window,
@@ -65,7 +65,6 @@ impl<X: Extra + Drop> Block<X> {
         steps: &mut Steps<L>,
     ) -> Result<u16, Kind>
         requires register { sfr < 24 }
-        requires even { sfr % 2 ≡ 0 }
         requires order { self.old.time ≤ at + 1 }
         requires bound { at < 3 * 10 ^ 15 }
         ensures answer { result ≡ word_read X.further at window (units_past X.further self.old at) sfr }
@@ -111,8 +110,8 @@ impl<X: Extra + Drop> Block<X> {
         self.write8_here(window, sfr, value, out, steps)
     }
 
-    /// Writes a word at an even address below 0018H at state `at`, after its Tick, and hands out the edges that the write
-    /// gives.
+    /// Writes a word below 0018H at state `at`, after its Tick, and hands out the edges that the write gives. An odd address is
+    /// refused with `OddWord`.
     pub fn write16<O: EdgeOut, L: Ledger>(
         &mut self,
         window: Window,
@@ -123,7 +122,6 @@ impl<X: Extra + Drop> Block<X> {
         steps: &mut Steps<L>,
     ) -> Result<(), Kind>
         requires register { sfr < 24 }
-        requires even { sfr % 2 ≡ 0 }
         requires order { self.old.time ≤ at + 1 }
         requires bound { at < 3 * 10 ^ 15 }
         ensures ok { OnOk result (word_written X.further at window (units_past X.further self.old at) sfr value ≡ Ok self.new.units) }

@@ -4,7 +4,7 @@ ghost use Rattle.kc_exec_spec.specs.Window.{is_wsr};
 ghost use Rattle.kc_block_spec.specs.Units.{Units};
 ghost use Rattle.kc_block_spec.specs.Registers.{row_at, words_read};
 ghost use Rattle.kc_block_spec.specs.Reading.{byte_value, after_byte, word_value, after_word};
-ghost use Rattle.kc_block_spec.specs.Accesses.{byte_read, after_byte_read, word_read, after_word_read};
+ghost use Rattle.kc_block_spec.specs.Accesses.{byte_read, after_byte_read, even_word_read, after_even_word_read, word_read, after_word_read};
 ghost use Rattle.kc_block_spec.specs.RegisterLaws.{refusal};
 ghost use Rattle.kc_block_lazy.specs.Lanes.{shown_units, IsLazy, IsLeft, IsPresent};
 ghost use Rattle.kc_block_lanes.specs.Standing.{standing, moves_of};
@@ -140,9 +140,9 @@ fn read_two<X: Extra, L: Ledger>(
     requires present { IsPresent X.further X.agrees (standing X.plain lanes.old) now }
     requires byte { sfr < 24 }
     requires two { row_at (words_read window) sfr ≡ None }
-    ensures answer { result ≡ word_read X.further (now - 1) window (shown_units X.further (standing X.plain lanes.old) now) sfr }
+    ensures answer { result ≡ even_word_read X.further (now - 1) window (shown_units X.further (standing X.plain lanes.old) now) sfr }
     ensures left { OnOk result (IsLeft X.further X.agrees now (standing X.plain lanes.new)
-        (after_word_read X.further (now - 1) window (shown_units X.further (standing X.plain lanes.old) now) sfr)) }
+        (after_even_word_read X.further (now - 1) window (shown_units X.further (standing X.plain lanes.old) now) sfr)) }
     ensures refused { RefusesFreely result lanes.old lanes.new steps.old steps.new }
     ensures costs { CostsAtMost (word_calls sfr) steps.old steps.new (moves_of X.moved lanes.old) (moves_of X.moved lanes.new) }
 {
@@ -157,9 +157,34 @@ fn read_two<X: Extra, L: Ledger>(
     Ok(u16::from(low) + 256 * u16::from(high))
 }
 
+// A word read at an even address.
+fn read_even<X: Extra, L: Ledger>(
+    lanes: &mut Lanes<X>,
+    now: StateTime,
+    window: Window,
+    sfr: u8,
+    steps: &mut Steps<L>,
+) -> Result<u16, Kind>
+    requires present { IsPresent X.further X.agrees (standing X.plain lanes.old) now }
+    requires byte { sfr < 24 }
+    requires profile { is_wsr lanes.old.steady.wsr ≡ true }
+    ensures answer { result ≡ even_word_read X.further (now - 1) window (shown_units X.further (standing X.plain lanes.old) now) sfr }
+    ensures lazy { IsLazy X.further X.agrees (standing X.plain lanes.new) now }
+    ensures profile { is_wsr lanes.new.steady.wsr ≡ true }
+    ensures units { OnOk result (shown_units X.further (standing X.plain lanes.new) now
+        ≡ after_even_word_read X.further (now - 1) window (shown_units X.further (standing X.plain lanes.old) now) sfr) }
+    ensures refused { RefusesFreely result lanes.old lanes.new steps.old steps.new }
+    ensures costs { CostsAtMost (word_calls sfr) steps.old steps.new (moves_of X.moved lanes.old) (moves_of X.moved lanes.new) }
+{
+    match readable_word(window, sfr) {
+        Some(register) => Ok(read_word(lanes, now, register, steps)),
+        None => read_two(lanes, now, window, sfr, steps),
+    }
+}
+
 /// A word read at an address below 0018H in the state before `now`, after its Tick: of a word register of the window, else of
-/// two bytes, the low one first. It is refused as the low byte is, else as the high byte is; a refused read changes nothing
-/// and makes no call of a unit that counts.
+/// two bytes, the low one first. It is refused with OddWord at an odd address, else as the low byte is, else as the high byte
+/// is; a refused read changes nothing and makes no call of a unit that counts.
 pub fn read16<X: Extra, L: Ledger>(
     lanes: &mut Lanes<X>,
     now: StateTime,
@@ -178,8 +203,8 @@ pub fn read16<X: Extra, L: Ledger>(
     ensures refused { RefusesFreely result lanes.old lanes.new steps.old steps.new }
     ensures costs { CostsAtMost (word_calls sfr) steps.old steps.new (moves_of X.moved lanes.old) (moves_of X.moved lanes.new) }
 {
-    match readable_word(window, sfr) {
-        Some(register) => Ok(read_word(lanes, now, register, steps)),
-        None => read_two(lanes, now, window, sfr, steps),
+    if sfr % 2 == 1 {
+        return Err(Kind::OddWord);
     }
+    read_even(lanes, now, window, sfr, steps)
 }

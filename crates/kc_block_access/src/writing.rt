@@ -5,7 +5,7 @@ ghost use Rattle.kc_hso.specs.Cam.{has_timer2_of};
 ghost use Rattle.kc_exec_spec.specs.Window.{is_wsr as in_profile};
 ghost use Rattle.kc_block_spec.specs.Registers.{row_at, words_written};
 ghost use Rattle.kc_block_spec.specs.Writing.{with_byte, with_word};
-ghost use Rattle.kc_block_spec.specs.Accesses.{byte_written, word_written};
+ghost use Rattle.kc_block_spec.specs.Accesses.{byte_written, even_word_written, word_written};
 ghost use Rattle.kc_block_spec.specs.RegisterLaws.{refusal};
 ghost use Rattle.kc_block_lazy.specs.Lanes.{shown_units, IsLazy, IsLeft, IsPresent};
 ghost use Rattle.kc_block_lanes.specs.Standing.{standing, moves_of};
@@ -255,8 +255,8 @@ fn write_two<X: Extra, L: Ledger>(
     requires byte { sfr < 24 }
     requires two { row_at (words_written window) sfr ≡ None }
     ensures answer { refusal result
-        ≡ refusal (word_written X.further (now - 1) window (shown_units X.further (standing X.plain lanes.old) now) sfr value) }
-    ensures left { IfOk (word_written X.further (now - 1) window (shown_units X.further (standing X.plain lanes.old) now) sfr value)
+        ≡ refusal (even_word_written X.further (now - 1) window (shown_units X.further (standing X.plain lanes.old) now) sfr value) }
+    ensures left { IfOk (even_word_written X.further (now - 1) window (shown_units X.further (standing X.plain lanes.old) now) sfr value)
         (IsLeft X.further X.agrees now (standing X.plain lanes.new)) }
     ensures refused { RefusesFreely result lanes.old lanes.new steps.old steps.new }
     ensures costs { CostsAtMost (word_calls sfr) steps.old steps.new (moves_of X.moved lanes.old) (moves_of X.moved lanes.new) }
@@ -274,10 +274,37 @@ fn write_two<X: Extra, L: Ledger>(
     Ok(())
 }
 
+// A word write at an even address.
+fn write_even<X: Extra, L: Ledger>(
+    lanes: &mut Lanes<X>,
+    now: StateTime,
+    window: Window,
+    sfr: u8,
+    value: u16,
+    steps: &mut Steps<L>,
+) -> Result<(), Kind>
+    requires present { IsPresent X.further X.agrees (standing X.plain lanes.old) now }
+    requires byte { sfr < 24 }
+    requires profile { in_profile lanes.old.steady.wsr ≡ true }
+    ensures answer { refusal result
+        ≡ refusal (even_word_written X.further (now - 1) window (shown_units X.further (standing X.plain lanes.old) now) sfr value) }
+    ensures units { IfOk (even_word_written X.further (now - 1) window (shown_units X.further (standing X.plain lanes.old) now) sfr value)
+        (λ units. shown_units X.further (standing X.plain lanes.new) now ≡ units) }
+    ensures lazy { IsLazy X.further X.agrees (standing X.plain lanes.new) now }
+    ensures profile { in_profile lanes.new.steady.wsr ≡ true }
+    ensures refused { RefusesFreely result lanes.old lanes.new steps.old steps.new }
+    ensures costs { CostsAtMost (word_calls sfr) steps.old steps.new (moves_of X.moved lanes.old) (moves_of X.moved lanes.new) }
+{
+    match writable_word(window, sfr) {
+        Some(register) => write_one(lanes, now, register, value, steps),
+        None => write_two(lanes, now, window, sfr, value, steps),
+    }
+}
+
 /// A word write at an address below 0018H in the state before `now`, after its Tick: of a word register of the window, else of
-/// two bytes, the low one first. HSO_TIME refuses with HoldingFull, Channel or FastTimer2, asked in this order; two bytes are
-/// refused as the low one is, else as the high one is. A refused write changes nothing and makes no call of a unit that counts.
-/// The edges of printed pins are those between before and after.
+/// two bytes, the low one first. An odd address is refused with OddWord. HSO_TIME refuses with HoldingFull, Channel or
+/// FastTimer2, asked in this order; two bytes are refused as the low one is, else as the high one is. A refused write changes
+/// nothing and makes no call of a unit that counts. The edges of printed pins are those between before and after.
 pub fn write16<X: Extra, L: Ledger>(
     lanes: &mut Lanes<X>,
     now: StateTime,
@@ -298,8 +325,8 @@ pub fn write16<X: Extra, L: Ledger>(
     ensures refused { RefusesFreely result lanes.old lanes.new steps.old steps.new }
     ensures costs { CostsAtMost (word_calls sfr) steps.old steps.new (moves_of X.moved lanes.old) (moves_of X.moved lanes.new) }
 {
-    match writable_word(window, sfr) {
-        Some(register) => write_one(lanes, now, register, value, steps),
-        None => write_two(lanes, now, window, sfr, value, steps),
+    if sfr % 2 == 1 {
+        return Err(Kind::OddWord);
     }
+    write_even(lanes, now, window, sfr, value, steps)
 }

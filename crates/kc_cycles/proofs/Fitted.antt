@@ -20,9 +20,10 @@ use Rattle.kc_cycles.specs.declared.lives.LivesFault.TheVariants as fault
 use Rattle.kc_watchdog.specs.declared.watchdog.Watchdog.{Watchdog}
 use Rattle.kc_watchdog.specs.Watching.{patience, is_watchdog, new_watchdog, fed}
 use Rattle.kc_cycles.specs.Life.{Life, life_for}
-use Rattle.kc_cycles.specs.Lives.{is_reset, life_from, lives_from, lives_of, restart_line, AreTold}
+use Rattle.kc_cycles.specs.Lives.{is_reset, life_from, lives_from, lives_of, restart_line, lives_touch, work_of_lives, AreTold}
 use Rattle.kc_cycles.specs.Making.{IsWatched, deadline_of, Lived}
 use Rattle.kc_cycles.proofs.Going.{Moved, Feeds}
+use Rattle.kc_cycles.proofs.Works.{lives-within}
 use Rattle.kc_cycles.proofs.Following.{Told, told-first, told-next, told-wanting, told-cut, told-cut_line, told-last, told-cut_last, told-spent, told-spent_more, lives-some, lives-followed, lives-last}
 
 fed-moves : (value t : ℕ) (d : Watchdog) → ((fed value t d).deadline ≡ d.deadline) ⊎ ((fed value t d).deadline ≡ Some (t + patience))
@@ -134,6 +135,10 @@ module _ {A : Type 0} {da : extra.Ghosts A} {dw : extra.Ghosts Watchdog} where
     abbrev pub this_life : Life (Pair A Watchdog da dw)
     this_life = life_from f deadline_of image drives way.unit until from
 
+    -- calls within the touch of all lives are within their work
+    own_worked : (t : ℕ) → t ≤ s0 + 4 * lives_touch all_lives → t ≤ s0 + 16 * work_of_lives f deadline_of image drives way.unit until most
+    own_worked t spent = let within = lives-within f deadline_of image drives way.unit until most 0 in omega (arith, spent, within)
+
     -- the machine of the life
     pub way-life : (m : Machine (Pair A Watchdog da dw)) → IsWatched (made from) m.board.units.further → m ≡ start image (driven_from from drives) m.board.units.further → life_for f deadline_of (until - from) m ≡ this_life
     way-life m is e = ap (life_for f deadline_of (until - from)) (e ∙ ap (start image (driven_from from drives)) (watched-same (made from) m.board.units.further (way.unit from) is (way.is_made from)))
@@ -147,14 +152,15 @@ module _ {A : Type 0} {da : extra.Ghosts A} {dw : extra.Ghosts Watchdog} where
           is_made = way.is_made;
           told = subst (λ q. AreTold all_lives o0 (Err fault.NoMemory) q) (sym same) (told-wanting all_lives o0 s0 this_life some.0 o s told way.unbroken);
           spent = told-spent all_lives o0 s0 (this_life ∷ some.0) o s told;
+          worked = own_worked s (told-spent all_lives o0 s0 (this_life ∷ some.0) o s told);
         }
 
-    module _ (life : Life (Pair A Watchdog da dw)) (same : life ≡ this_life) (mid : Out) (t : ℕ) (lines : Puts o (text_of life.ran.records) mid) (spent : t ≤ s + 4 * life.ran.work) where
+    module _ (life : Life (Pair A Watchdog da dw)) (same : life ≡ this_life) (mid : Out) (t : ℕ) (lines : Puts o (text_of life.ran.records) mid) (spent : t ≤ s + 4 * life.ran.touch) where
       own_lines : Puts o (text_of this_life.ran.records) mid
       own_lines = subst (λ (l : Life (Pair A Watchdog da dw)). Puts o (text_of l.ran.records) mid) same lines
 
-      own_spent : t ≤ s + 4 * this_life.ran.work
-      own_spent = subst (λ (l : Life (Pair A Watchdog da dw)). t ≤ s + 4 * l.ran.work) same spent
+      own_spent : t ≤ s + 4 * this_life.ran.touch
+      own_spent = subst (λ (l : Life (Pair A Watchdog da dw)). t ≤ s + 4 * l.ran.touch) same spent
 
       -- the sink fails in the life
       pub way-cut : mid.failed ≡ true → Lived f made image drives until most o0 s0 (Err fault.WriteFault) mid t
@@ -166,6 +172,7 @@ module _ {A : Type 0} {da : extra.Ghosts A} {dw : extra.Ghosts Watchdog} where
             is_made = way.is_made;
             told = told-cut all_lives o0 s0 this_life some.0 o s mid told own_lines failed;
             spent = told-spent_more all_lives o0 s0 this_life some.0 o s t told own_spent;
+            worked = own_worked t (told-spent_more all_lives o0 s0 this_life some.0 o s t told own_spent);
           }
 
       -- no other follows
@@ -182,6 +189,7 @@ module _ {A : Type 0} {da : extra.Ghosts A} {dw : extra.Ghosts Watchdog} where
           told = told-last all_lives o0 s0 this_life o s mid p how last_told own_lines (subst (λ (l : Life (Pair A Watchdog da dw)). Puts mid (text_of (finals l.how l.ran.machine)) p) same last) unbroken
               (is ∙ ap (λ (l : Life (Pair A Watchdog da dw)). l.how) same);
           spent = told-spent_more all_lives o0 s0 this_life [] o s t last_told own_spent;
+          worked = own_worked t (told-spent_more all_lives o0 s0 this_life [] o s t last_told own_spent);
         }
 
         pub way-cut_last : (p : Out) → Puts mid (text_of (finals life.how life.ran.machine)) p → p.failed ≡ true → Lived f made image drives until most o0 s0 (Err fault.WriteFault) p t
@@ -190,6 +198,7 @@ module _ {A : Type 0} {da : extra.Ghosts A} {dw : extra.Ghosts Watchdog} where
           is_made = way.is_made;
           told = told-cut_last all_lives o0 s0 this_life o s mid p last_told own_lines (subst (λ (l : Life (Pair A Watchdog da dw)). Puts mid (text_of (finals l.how l.ran.machine)) p) same last) failed;
           spent = told-spent_more all_lives o0 s0 this_life [] o s t last_told own_spent;
+          worked = own_worked t (told-spent_more all_lives o0 s0 this_life [] o s t last_told own_spent);
         }
 
       -- another follows
@@ -212,6 +221,7 @@ module _ {A : Type 0} {da : extra.Ghosts A} {dw : extra.Ghosts Watchdog} where
               is_made = way.is_made;
               told = told-cut_line all_lives o0 s0 this_life (life_from f deadline_of image drives way.unit until (from + this_life.ran.machine.time)) following.0 o s mid p told own_lines own_line failed;
               spent = told-spent_more all_lives o0 s0 this_life (life_from f deadline_of image drives way.unit until (from + this_life.ran.machine.time) ∷ following.0) o s t told own_spent;
+              worked = own_worked t (told-spent_more all_lives o0 s0 this_life (life_from f deadline_of image drives way.unit until (from + this_life.ran.machine.time) ∷ following.0) o s t told own_spent);
             }
 
         pub way-next : (time : ℕ) → time ≡ life.ran.machine.time → from + time ≤ until → p.failed ≡ false → Way f made image drives until most o0 s0 (left - 1) (from + time) p t

@@ -13,11 +13,11 @@ use Rattle.kc_machine_spec.specs.declared.doing.End.{End}
 use Rattle.kc_machine_spec.specs.Text.{finals}
 use Rattle.kc_cycles.specs.declared.lives.LivesFault.TheVariants as fault
 use Rattle.kc_cycles.specs.Life.{Life}
-use Rattle.kc_cycles.specs.Lives.{is_reset, life_from, lives_from, restart_line, followed_text, last_text, lives_text, last_end, lives_work, AreTold}
+use Rattle.kc_cycles.specs.Lives.{is_reset, life_from, lives_from, restart_line, followed_text, last_text, lives_text, last_end, lives_touch, AreTold}
 
-work-none : (X : Type 0) → lives_work {X = X} [] ≡ 0
-unfolding lives_work
-work-none X = refl
+touch-none : (X : Type 0) → lives_touch {X = X} [] ≡ 0
+unfolding lives_touch
+touch-none X = refl
 
 module _ {X : Type 0} where
   text-one : (life : Life X) → lives_text (life ∷ []) ≡ last_text life
@@ -50,16 +50,16 @@ module _ {X : Type 0} where
   end-append (first ∷ []) life = refl
   end-append (first ∷ second ∷ few) life = end-append (second ∷ few) life
 
-  pub work-append : (few others : List (Life X)) → lives_work (few ++ others) ≡ lives_work few + lives_work others
-  unfolding lives_work
-  work-append [] others = let e : lives_work others ≡ 0 + lives_work others = omega arith in e
-  work-append (first ∷ few) others =
-      let rest = work-append few others in
-      let e : first.ran.work + lives_work (few ++ others) ≡ (first.ran.work + lives_work few) + lives_work others = omega (arith, rest) in e
+  pub touch-append : (few others : List (Life X)) → lives_touch (few ++ others) ≡ lives_touch few + lives_touch others
+  unfolding lives_touch
+  touch-append [] others = let e : lives_touch others ≡ 0 + lives_touch others = omega arith in e
+  touch-append (first ∷ few) others =
+      let rest = touch-append few others in
+      let e : first.ran.touch + lives_touch (few ++ others) ≡ (first.ran.touch + lives_touch few) + lives_touch others = omega (arith, rest) in e
 
-  work-one : (life : Life X) (others : List (Life X)) → lives_work (life ∷ others) ≡ life.ran.work + lives_work others
-  unfolding lives_work
-  work-one life others = refl
+  touch-one : (life : Life X) (others : List (Life X)) → lives_touch (life ∷ others) ≡ life.ran.touch + lives_touch others
+  unfolding lives_touch
+  touch-one life others = refl
 
   take-all : (few others : List (Life X)) → take (length few) (few ++ others) ≡ few
   take-all [] others = refl
@@ -71,25 +71,25 @@ module _ {X : Type 0} where
     pub few : List (Life X)
     pub are : all ≡ few ++ others
     pub lines : Puts o0 (flat_map followed_text few) o
-    pub spent : s ≤ s0 + 4 * lives_work few
+    pub spent : s ≤ s0 + 4 * lives_touch few
 
   pub told-first : (all : List (Life X)) (o : Out) (s : ℕ) → Told all o s all o s
   told-first all o s = record { few = []; are = refl; lines = Puts-nothing o; spent = omega arith }
 
   -- one life more, with the line after it
   pub told-next : (all : List (Life X)) (o0 : Out) (s0 : ℕ) (life : Life X) (others : List (Life X)) (o : Out) (s : ℕ) (mid p : Out) (t : ℕ) → Told all o0 s0 (life ∷ others) o s →
-      Puts o (text_of life.ran.records) mid → Puts mid (restart_line (life.ran.machine.time - 1) life.by_watchdog) p → t ≤ s + 4 * life.ran.work → Told all o0 s0 others p t
+      Puts o (text_of life.ran.records) mid → Puts mid (restart_line (life.ran.machine.time - 1) life.by_watchdog) p → t ≤ s + 4 * life.ran.touch → Told all o0 s0 others p t
   told-next all o0 s0 life others o s mid p t told lines line spent =
-      let work = work-append told.few (life ∷ []) in
-      let one = work-one life [] in
-      let none = work-none X in
+      let cost = touch-append told.few (life ∷ []) in
+      let one = touch-one life [] in
+      let none = touch-none X in
       record {
         few = told.few ++ life ∷ [];
         are = told.are ∙ sym (append_assoc told.few (life ∷ []) others);
         lines = subst (λ text. Puts o0 text p)
             (ap (λ xs. flat_map followed_text told.few ++ xs) (sym (append-nil (followed_text life))) ∙ sym (flat_map-append followed_text told.few (life ∷ [])))
             (Puts-append o0 (flat_map followed_text told.few) o (followed_text life) p told.lines (Puts-append o (text_of life.ran.records) mid (restart_line (life.ran.machine.time - 1) life.by_watchdog) p lines line));
-        spent = omega (arith, work, one, none, told.spent, spent);
+        spent = omega (arith, cost, one, none, told.spent, spent);
       }
 
   -- memory is wanting for the next
@@ -141,16 +141,16 @@ module _ {X : Type 0} where
   told-cut_last all o0 s0 life o s mid p told lines last failed = (told-last_lines all o0 s0 life o s mid p told lines last, failed)
 
   -- the calls of all
-  pub told-spent : (all : List (Life X)) (o0 : Out) (s0 : ℕ) (others : List (Life X)) (o : Out) (s : ℕ) → Told all o0 s0 others o s → s ≤ s0 + 4 * lives_work all
+  pub told-spent : (all : List (Life X)) (o0 : Out) (s0 : ℕ) (others : List (Life X)) (o : Out) (s : ℕ) → Told all o0 s0 others o s → s ≤ s0 + 4 * lives_touch all
   told-spent all o0 s0 others o s told =
-      let work = ap lives_work told.are ∙ work-append told.few others in
-      omega (arith, work, told.spent)
+      let cost = ap lives_touch told.are ∙ touch-append told.few others in
+      omega (arith, cost, told.spent)
 
-  pub told-spent_more : (all : List (Life X)) (o0 : Out) (s0 : ℕ) (life : Life X) (others : List (Life X)) (o : Out) (s t : ℕ) → Told all o0 s0 (life ∷ others) o s → t ≤ s + 4 * life.ran.work → t ≤ s0 + 4 * lives_work all
+  pub told-spent_more : (all : List (Life X)) (o0 : Out) (s0 : ℕ) (life : Life X) (others : List (Life X)) (o : Out) (s t : ℕ) → Told all o0 s0 (life ∷ others) o s → t ≤ s + 4 * life.ran.touch → t ≤ s0 + 4 * lives_touch all
   told-spent_more all o0 s0 life others o s t told spent =
-      let work = ap lives_work told.are ∙ work-append told.few (life ∷ others) in
-      let one = work-one life others in
-      omega (arith, work, one, told.spent, spent)
+      let cost = ap lives_touch told.are ∙ touch-append told.few (life ∷ others) in
+      let one = touch-one life others in
+      omega (arith, cost, one, told.spent, spent)
 
 module _ {X : Type 0} (f : Further X) (deadline : X → Option ℕ) (image : List ℕ) (drives : Drives) (unit : ℕ → X) (until : ℕ) where
   -- the lives from a state on, by the first of them

@@ -127,8 +127,8 @@ module _ {X : Type 0} (f : Further X) (deadline : X → Option ℕ) where
 
   -- ---- what comes before a life
 
-  same_stepped : (m : Machine X) (xs ys : List Record) (v w : ℕ) → xs ≡ ys → v ≡ w → ◌≡◌ {A = Stepped X} (record { machine = m; records = xs; work = v }) (record { machine = m; records = ys; work = w })
-  same_stepped m xs ys v w h g = ap (λ l. record { machine = m; records = l; work = v }) h ∙ ap (λ n. record { machine = m; records = ys; work = n }) g
+  same_stepped : (m : Machine X) (xs ys : List Record) (v w : ℕ) → xs ≡ ys → v ≡ w → ◌≡◌ {A = Stepped X} (record { machine = m; records = xs; touch = v }) (record { machine = m; records = ys; touch = w })
+  same_stepped m xs ys v w h g = ap (λ l. record { machine = m; records = l; touch = v }) h ∙ ap (λ n. record { machine = m; records = ys; touch = n }) g
 
   abbrev with_ran : Life X → Stepped X → Life X
   with_ran life ran = record life { ran = ran }
@@ -136,17 +136,17 @@ module _ {X : Type 0} (f : Further X) (deadline : X → Option ℕ) where
   pub nothing-before : (m : Machine X) (rest : Machine X → Life X) → goes_on (still m) rest ≡ rest m
   nothing-before m rest =
       let ran : Stepped X = (rest m).ran in
-      ap (with_ran (rest m)) (same_stepped ran.machine ([] ++ ran.records) ran.records (0 + ran.work) ran.work refl (let e : 0 + ran.work ≡ ran.work = omega arith in e))
+      ap (with_ran (rest m)) (same_stepped ran.machine ([] ++ ran.records) ran.records (0 + ran.touch) ran.touch refl (let e : 0 + ran.touch ≡ ran.touch = omega arith in e))
 
   before-more : (s : Stepped X) (r : Machine X → Stepped X) (rest : Machine X → Life X) → goes_on s (λ m. goes_on (r m) rest) ≡ goes_on (and_then s r) rest
   before-more s r rest =
       let mid : Stepped X = r s.machine in
       let life : Life X = rest mid.machine in
-      ap (with_ran life) (same_stepped life.ran.machine (s.records ++ (mid.records ++ life.ran.records)) ((s.records ++ mid.records) ++ life.ran.records) (s.work + (mid.work + life.ran.work)) ((s.work + mid.work) + life.ran.work)
-      (sym (append_assoc s.records mid.records life.ran.records)) (let e : s.work + (mid.work + life.ran.work) ≡ (s.work + mid.work) + life.ran.work = omega arith in e))
+      ap (with_ran life) (same_stepped life.ran.machine (s.records ++ (mid.records ++ life.ran.records)) ((s.records ++ mid.records) ++ life.ran.records) (s.touch + (mid.touch + life.ran.touch)) ((s.touch + mid.touch) + life.ran.touch)
+      (sym (append_assoc s.records mid.records life.ran.records)) (let e : s.touch + (mid.touch + life.ran.touch) ≡ (s.touch + mid.touch) + life.ran.touch = omega arith in e))
 
   pub before-same : (s : Stepped X) (r q : Machine X → Life X) → r s.machine ≡ q s.machine → goes_on s r ≡ goes_on s q
-  before-same s r q e = ap (λ (life : Life X). with_ran life (before s.records s.work life.ran)) e
+  before-same s r q e = ap (λ (life : Life X). with_ran life (before s.records s.touch life.ran)) e
 
   module _ (feeds : Feeds deadline f) where
     -- the deadline over one state
@@ -226,7 +226,7 @@ module _ {X : Type 0} (f : Further X) where
   pub record Along (m0 : Machine X) (o0 : Out) (s0 : ℕ) (i : ℕ) (m : Machine X) (o : Out) (s : ℕ) : Type 0 where
     pub machine : m ≡ (run_for f i m0).machine
     pub lines : Puts o0 (text_of (run_for f i m0).records) o
-    pub spent : s ≤ s0 + 4 * (run_for f i m0).work
+    pub spent : s ≤ s0 + 4 * (run_for f i m0).touch
 
   pub along-first : (m : Machine X) (o : Out) (s : ℕ) → Along m o s 0 m o s
   unfolding run_for
@@ -240,15 +240,15 @@ module _ {X : Type 0} (f : Further X) where
       (Puts-append o0 (text_of (run_for f i m0).records) o (text_of (run_for f j m).records) p along.lines lines)
 
   -- the calls of some states more, of which not all may have passed
-  pub along-spent : (m0 : Machine X) (o0 : Out) (s0 i j k : ℕ) (m : Machine X) (o : Out) (s t : ℕ) → Along m0 o0 s0 i m o s → k ≤ j → t ≤ s + 4 * (run_for f k m).work → t ≤ s0 + 4 * (run_for f (i + j) m0).work
+  pub along-spent : (m0 : Machine X) (o0 : Out) (s0 i j k : ℕ) (m : Machine X) (o : Out) (s t : ℕ) → Along m0 o0 s0 i m o s → k ≤ j → t ≤ s + 4 * (run_for f k m).touch → t ≤ s0 + 4 * (run_for f (i + j) m0).touch
   along-spent m0 o0 s0 i j k m o s t along few spent =
       let sum : j ≡ k + (j - k) = omega arith in
-      let some = ap (λ n. (run_for f n m).work) sum ∙ ap (λ (r : Stepped X). r.work) (run_for-add f k (j - k) m) in
-      let all = ap (λ (r : Stepped X). r.work) (run-add i j m0 m along.machine) in
+      let some = ap (λ n. (run_for f n m).touch) sum ∙ ap (λ (r : Stepped X). r.touch) (run_for-add f k (j - k) m) in
+      let all = ap (λ (r : Stepped X). r.touch) (run-add i j m0 m along.machine) in
       omega (arith, some, all, along.spent, spent)
 
   pub along-next : (m0 : Machine X) (o0 : Out) (s0 i j k : ℕ) (m : Machine X) (o : Out) (s : ℕ) (n : Machine X) (p : Out) (t : ℕ) → Along m0 o0 s0 i m o s → n ≡ (run_for f j m).machine →
-      Puts o (text_of (run_for f j m).records) p → k ≤ j → t ≤ s + 4 * (run_for f k m).work → Along m0 o0 s0 (i + j) n p t
+      Puts o (text_of (run_for f j m).records) p → k ≤ j → t ≤ s + 4 * (run_for f k m).touch → Along m0 o0 s0 (i + j) n p t
   along-next m0 o0 s0 i j k m o s n p t along is lines few spent = record {
     machine = is ∙ ap (λ (r : Stepped X). r.machine) (sym (run-add i j m0 m along.machine));
     lines = along-lines m0 o0 s0 i j m o s p along lines;
@@ -291,7 +291,7 @@ module _ {X : Type 0} (f : Further X) (deadline : X → Option ℕ) (until : ℕ
     pub by_watchdog : bites ≡ (life_for f deadline until m0).by_watchdog
     pub machine : n ≡ (life_for f deadline until m0).ran.machine
     pub records : (run_for f i m0).records ≡ (life_for f deadline until m0).ran.records
-    pub work : (run_for f i m0).work ≡ (life_for f deadline until m0).ran.work
+    pub touch : (run_for f i m0).touch ≡ (life_for f deadline until m0).ran.touch
 
   ends-so : (i now : ℕ) (n : Machine X) (last : Life X) → IsLeft i now → n ≡ (run_for f i m0).machine → life_for f deadline (until - now) n ≡ last → last.ran ≡ still n → Ends i n last.how last.by_watchdog
   ends-so i now n last left is e none =
@@ -301,9 +301,9 @@ module _ {X : Type 0} (f : Further X) (deadline : X → Option ℕ) (until : ℕ
         by_watchdog = ap (λ (life : Life X). life.by_watchdog) (sym whole);
         machine = ap (λ (s : Stepped X). s.machine) (sym none) ∙ ap (λ (life : Life X). life.ran.machine) (sym whole);
         records = sym (append-nil (run_for f i m0).records) ∙ ap (λ (s : Stepped X). (run_for f i m0).records ++ s.records) (sym none) ∙ ap (λ (life : Life X). life.ran.records) (sym whole);
-        work =
-            (let c : (run_for f i m0).work ≡ (run_for f i m0).work + 0 = omega arith in c)
-            ∙ ap (λ (s : Stepped X). (run_for f i m0).work + s.work) (sym none) ∙ ap (λ (life : Life X). life.ran.work) (sym whole);
+        touch =
+            (let c : (run_for f i m0).touch ≡ (run_for f i m0).touch + 0 = omega arith in c)
+            ∙ ap (λ (s : Stepped X). (run_for f i m0).touch + s.touch) (sym none) ∙ ap (λ (life : Life X). life.ran.touch) (sym whole);
       }
 
   -- the machine has ended, or no state is left
@@ -318,8 +318,8 @@ module _ {X : Type 0} (f : Further X) (deadline : X → Option ℕ) (until : ℕ
   pub ends-lines : (i : ℕ) (n : Machine X) (how : End) (by_watchdog : Bool) (o0 p : Out) → Ends i n how by_watchdog → Puts o0 (text_of (run_for f i m0).records) p → Puts o0 (text_of (life_for f deadline until m0).ran.records) p
   ends-lines i n how by_watchdog o0 p ends lines = subst (λ xs. Puts o0 (text_of xs) p) ends.records lines
 
-  pub ends-spent : (i : ℕ) (n : Machine X) (how : End) (by_watchdog : Bool) (s0 t : ℕ) → Ends i n how by_watchdog → t ≤ s0 + 4 * (run_for f i m0).work → t ≤ s0 + 4 * (life_for f deadline until m0).ran.work
-  ends-spent i n how by_watchdog s0 t ends spent = omega (arith, spent, ends.work)
+  pub ends-spent : (i : ℕ) (n : Machine X) (how : End) (by_watchdog : Bool) (s0 t : ℕ) → Ends i n how by_watchdog → t ≤ s0 + 4 * (run_for f i m0).touch → t ≤ s0 + 4 * (life_for f deadline until m0).ran.touch
+  ends-spent i n how by_watchdog s0 t ends spent = omega (arith, spent, ends.touch)
 
   -- the sink has failed on the way
   pub cut-lines : (i now : ℕ) (o0 p : Out) → IsLeft i now → p.failed ≡ true → Puts o0 (text_of (run_for f i m0).records) p → Puts o0 (text_of (life_for f deadline until m0).ran.records) p
@@ -329,9 +329,9 @@ module _ {X : Type 0} (f : Further X) (deadline : X → Option ℕ) (until : ℕ
       (sym (text_of-append (run_for f i m0).records rest.ran.records) ∙ ap (λ (life : Life X). text_of life.ran.records) (sym left))
       (Puts-longer o0 (text_of (run_for f i m0).records) (text_of rest.ran.records) p failed lines)
 
-  pub cut-spent : (i now : ℕ) (s0 t : ℕ) → IsLeft i now → t ≤ s0 + 4 * (run_for f i m0).work → t ≤ s0 + 4 * (life_for f deadline until m0).ran.work
+  pub cut-spent : (i now : ℕ) (s0 t : ℕ) → IsLeft i now → t ≤ s0 + 4 * (run_for f i m0).touch → t ≤ s0 + 4 * (life_for f deadline until m0).ran.touch
   cut-spent i now s0 t left spent =
-      let all = ap (λ (life : Life X). life.ran.work) left in
+      let all = ap (λ (life : Life X). life.ran.touch) left in
       omega (arith, all, spent)
 
   -- a machine that lived at first, and is told to be reset or powered down, has run

@@ -2,7 +2,7 @@
 use Rattle.std.proofs.Common.{◌≡◌, List, [], ℕ, ◌+◌, ◌%◌, ◌/◌, ◌==◌, Option, Some, None, Result, Ok, Err, refl, sym, ap, subst}
 use Rattle.std.specs.Prelude.{if◌then◌else◌, nat_lt}
 use Rattle.kc_base.specs.declared.types.Kind.{Kind}
-use Rattle.kc_base.specs.declared.types.Kind.TheVariants.{NoRegister, ByteAccess, BadWindow, FastTimer2}
+use Rattle.kc_base.specs.declared.types.Kind.TheVariants.{OddWord, NoRegister, ByteAccess, BadWindow, FastTimer2}
 use Rattle.kc_isa.specs.declared.insn.Insn.{Insn}
 use Rattle.kc_exec_spec.specs.declared.cpu.Cpu.{Cpu}
 use Rattle.kc_exec_spec.specs.declared.cpu.After.{After}
@@ -31,7 +31,7 @@ use Rattle.kc_block_spec.specs.declared.registers.WritableWord.TheVariants as wr
 use Rattle.kc_block_spec.specs.Units.{Units}
 use Rattle.kc_block_spec.specs.Registers.{window_number, bytes_read, bytes_written, words_read, words_written, bytes_read_everywhere, bytes_written_everywhere, row_at, is_half}
 use Rattle.kc_block_spec.specs.Writing.{with_byte, with_word, loaded_unless, steady_with, emptied_by}
-use Rattle.kc_block_spec.specs.Accesses.{after_byte_read_as, after_byte_read, byte_written_as, byte_written, after_word_read_as, after_word_read, word_written_as, word_written, ◌>>=◌}
+use Rattle.kc_block_spec.specs.Accesses.{after_byte_read_as, after_byte_read, byte_written_as, byte_written, after_word_read_as, after_even_word_read, after_word_read, word_written_as, even_word_written, word_written, ◌>>=◌}
 use Rattle.kc_block_spec.specs.Fired.{starts}
 use Rattle.kc_block_spec.specs.Levels.{levels_at}
 use Rattle.kc_block_spec.specs.Tick.{edges_at, fired_at, tick}
@@ -91,7 +91,8 @@ module _ {X : Type 0} (f : Further X) (t : ℕ) (P : X → Type 0) (k : Keeps f 
           p (k.of_read (window_number w) addr u.further p)
 
   word_read_keeps : (w : Window) (u : Units X) (addr : ℕ) → P u.further → P (after_word_read f t w u addr).further
-  word_read_keeps w u addr p = by_row (row_at (words_read w) addr)
+  word_read_keeps w u addr p =
+      either_holds (Holds f t P) (addr % 2 == 1) u (after_even_word_read f t w u addr) p (by_row (row_at (words_read w) addr))
     where
       by_row : (row : Option ReadableWord) → P (after_word_read_as f t w u addr row).further
       by_row (Some reads_word.HsiTime) = p
@@ -136,7 +137,8 @@ module _ {X : Type 0} (f : Further X) (t : ℕ) (P : X → Type 0) (k : Keeps f 
   then_keeps (Err kind) next p q = tt
 
   word_written_keeps : (w : Window) (u : Units X) (addr n : ℕ) → P u.further → HoldsIf f t P (word_written f t w u addr n)
-  word_written_keeps w u addr n p = by_row (row_at (words_written w) addr)
+  word_written_keeps w u addr n p =
+      either_holds (HoldsIf f t P) (addr % 2 == 1) (Err OddWord) (even_word_written f t w u addr n) tt (by_row (row_at (words_written w) addr))
     where
       by_row : (row : Option WritableWord) → HoldsIf f t P (word_written_as f t w u addr n row)
       by_row (Some r) = with_word_keeps u r n p
@@ -161,7 +163,7 @@ module _ {X : Type 0} (f : Further X) (t : ℕ) (P : X → Type 0) (k : Keeps f 
       (scene_with_keeps s (after_byte_read f s.time (window_at s by) s.board.units addr) _ p.0 q) p
   access_keeps s (ReadWord by addr) p =
       let q = subst (λ n. P (after_word_read f n (window_at s by) s.board.units addr).further) (sym p.0) (word_read_keeps (window_at s by) s.board.units addr p.1) in
-      either_holds (InScene f t P) (nat_lt addr 24) (scene_with all_kept s (after_word_read f s.time (window_at s by) s.board.units addr) (word_weight (words_read (window_at s by)) addr)) s
+      either_holds (InScene f t P) (nat_lt addr 24) (scene_with all_kept s (after_word_read f s.time (window_at s by) s.board.units addr) (word_weight addr)) s
       (scene_with_keeps s (after_word_read f s.time (window_at s by) s.board.units addr) _ p.0 q) p
   access_keeps s (WriteByte by addr n) p =
       let new : ℕ → Units X = λ now. kept s.board.units (byte_written f now (window_at s by) s.board.units addr n) in
@@ -171,7 +173,7 @@ module _ {X : Type 0} (f : Further X) (t : ℕ) (P : X → Type 0) (k : Keeps f 
   access_keeps s (WriteWord by addr n) p =
       let new : ℕ → Units X = λ now. kept s.board.units (word_written f now (window_at s by) s.board.units addr n) in
       let q = subst (λ now. P (new now).further) (sym p.0) (kept_keeps s.board.units (word_written f t (window_at s by) s.board.units addr n) p.1 (word_written_keeps (window_at s by) s.board.units addr n p.1)) in
-      either_holds (InScene f t P) (nat_lt addr 24) (scene_with all_kept s (new s.time) (word_weight (words_written (window_at s by)) addr)) (put (put s addr (n % 256)) (addr + 1) (n / 256))
+      either_holds (InScene f t P) (nat_lt addr 24) (scene_with all_kept s (new s.time) (word_weight addr)) (put (put s addr (n % 256)) (addr + 1) (n / 256))
       (scene_with_keeps s (new s.time) _ p.0 q) p
   access_keeps s (SetMasks m) p = scene_with_keeps s (with_masks s.board.units m) 0 p.0 p.1
 

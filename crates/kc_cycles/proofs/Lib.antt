@@ -1,4 +1,5 @@
 pub mod Keeping
 pub mod Going
 pub mod Following
+pub mod Works
 pub mod Fitted

@@ -9,6 +9,7 @@ use Rattle.kc_machine_spec.specs.declared.doing.End.{End}
 use Rattle.kc_machine_spec.specs.declared.doing.End.TheVariants as end
 use Rattle.kc_machine_spec.specs.Machine.{start}
 use Rattle.kc_machine_spec.specs.Text.{finals}
+use Rattle.kc_machine_spec.specs.Work.{work_to}
 use Rattle.kc_cycles.specs.declared.lives.LivesFault.{LivesFault}
 use Rattle.kc_cycles.specs.declared.lives.LivesFault.TheVariants as fault
 use Rattle.kc_cycles.specs.Life.{Life, life_for}
@@ -35,6 +36,20 @@ module _ {X : Type 0} (f : Further X) (deadline : X → Option ℕ) (image : Lis
   -- all lives of a board, the first from state 0 on
   abbrev pub lives_of : ℕ → List (Life X)
   lives_of most = lives_from most 0
+
+  -- the work of a life is that of its run, up to the state at whose start it is over
+  abbrev pub work_in_life : ℕ → ℕ
+  work_in_life from = work_to f (life_from from).ran.machine.time (start image (driven_from from drives) (unit from))
+
+  -- and of the lives from a state on the sum
+  unfoldable pub work_from : ℕ → ℕ → ℕ
+  work_from zero from = 0
+  work_from (suc more) from =
+      let life = life_from from in
+      work_in_life from + (if is_reset life.how then work_from more (from + life.ran.machine.time) else 0)
+
+  abbrev pub work_of_lives : ℕ → ℕ
+  work_of_lives most = work_from most 0
 
 -- ---- what is printed
 
@@ -68,10 +83,10 @@ last_end [] = end.Spent
 last_end (life ∷ []) = life.how
 last_end (life ∷ (next ∷ others)) = last_end (next ∷ others)
 
--- the work of all
-unfoldable pub lives_work : {X : Type 0} → List (Life X) → ℕ
-lives_work [] = 0
-lives_work (life ∷ others) = life.ran.work + lives_work others
+-- the touch of all
+unfoldable pub lives_touch : {X : Type 0} → List (Life X) → ℕ
+lives_touch [] = 0
+lives_touch (life ∷ others) = life.ran.touch + lives_touch others
 
 -- What is told of these lives. Their text is written whole; or the sink fails in it; or memory is wanting for one of them, and
 -- what was written ends with the line before it.

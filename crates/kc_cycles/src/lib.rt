@@ -6,5 +6,6 @@ mod lives;
 mod maker;
 mod restart;
 
+pub use kc_watchdog::{PATIENCE, Watchdog};
 pub use lives::{LivesFault, run_lives};
 pub use maker::Maker;

@@ -73,7 +73,7 @@ pub(crate) fn live<X: Extra + Drop, S: Sink, L: Ledger>(
     ensures by_watchdog { IfOk result (λ ending. ending.by_watchdog ≡ (life_for ⟦<Pair<X, Watchdog> as Extra>⟧.further deadline_of until machine.old.machine).by_watchdog) }
     ensures machine { OnOk result (machine.new.machine ≡ (life_for ⟦<Pair<X, Watchdog> as Extra>⟧.further deadline_of until machine.old.machine).ran.machine) }
     ensures lines { Puts (out_of S.written S.faults out.old) (text_of (life_for ⟦<Pair<X, Watchdog> as Extra>⟧.further deadline_of until machine.old.machine).ran.records) (out_of S.written S.faults out.new) }
-    ensures spent { steps.new ≤ steps.old + 4 * (life_for ⟦<Pair<X, Watchdog> as Extra>⟧.further deadline_of until machine.old.machine).ran.work }
+    ensures spent { steps.new ≤ steps.old + 4 * (life_for ⟦<Pair<X, Watchdog> as Extra>⟧.further deadline_of until machine.old.machine).ran.touch }
     ensures ran { IfOk result (λ ending. HasRun ending.how machine.new.machine.time) }
     ensures within { machine.new.machine.time ≤ until }
     ensures written { OnOk result (out.new.failed ≡ false) }

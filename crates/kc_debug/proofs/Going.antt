@@ -20,7 +20,7 @@ use Rattle.kc_debug_script.specs.declared.line_map.MapEntry.{MapEntry}
 use Rattle.kc_debug_script.specs.Script.{is_break, AreBounded}
 use Rattle.kc_debug.specs.declared.session.Sitting.{Sitting}
 use Rattle.kc_debug.specs.Sitting.{seen}
-use Rattle.kc_debug.specs.Stands.{at_once_in, bytes_of, bytes_shown, states_of, work_in, work_of, FailsIn, StandsIn}
+use Rattle.kc_debug.specs.Stands.{at_once_in, bytes_of, bytes_shown, states_of, touch_in, touch_of, FailsIn, StandsIn}
 use Rattle.kc_debug.specs.Transcript.{Debugged, untouched, after_command, debugged, quits, transcript}
 use Rattle.kc_machine_spec.proofs.Runs.{run-none}
 use Rattle.kc_debug.proofs.Scripts.{kept_of, GoesOn, alike, debugged-nil, debugged-quit, debugged-more, debugged-text}
@@ -243,21 +243,21 @@ module _ {X : Type 0} (f : Further X) (entries : List MapEntry) where
             (subst (λ i. FailsIn f (at_once_in c) i said m o n p) states fails));
       }
 
-  -- ---- the work of a script
+  -- ---- the touch of a script
 
-  work-kept : (c : Command) (d : Debugged X) → work_in f c (kept_of d) ≡ work_in f c d
-  work-kept c d = ap (λ i. (run_for f i d.machine).work) (states-kept c d)
+  touch-kept : (c : Command) (d : Debugged X) → touch_in f c (kept_of d) ≡ touch_in f c d
+  touch-kept c d = ap (λ i. (run_for f i d.machine).touch) (states-kept c d)
 
-  work-more : (c : Command) (commands : List Command) (d : Debugged X) → GoesOn c → work_of f entries (c ∷ commands) d ≡ work_in f c d + work_of f entries commands (after_command f entries c d)
-  unfolding work_of
-  work-more (Step count) commands d h = refl
-  work-more (Go until) commands d h = refl
-  work-more (Break addr) commands d h = refl
-  work-more Registers commands d h = refl
-  work-more (Show from count) commands d h = refl
-  work-more (Write addr value) commands d h = refl
-  work-more History commands d h = refl
-  work-more Quit commands d h = absurd h
+  touch-more : (c : Command) (commands : List Command) (d : Debugged X) → GoesOn c → touch_of f entries (c ∷ commands) d ≡ touch_in f c d + touch_of f entries commands (after_command f entries c d)
+  unfolding touch_of
+  touch-more (Step count) commands d h = refl
+  touch-more (Go until) commands d h = refl
+  touch-more (Break addr) commands d h = refl
+  touch-more Registers commands d h = refl
+  touch-more (Show from count) commands d h = refl
+  touch-more (Write addr value) commands d h = refl
+  touch-more History commands d h = refl
+  touch-more Quit commands d h = absurd h
 
   bytes-more : (c : Command) (commands : List Command) → GoesOn c → bytes_shown (c ∷ commands) ≡ bytes_of c + bytes_shown commands
   unfolding bytes_shown
@@ -270,34 +270,34 @@ module _ {X : Type 0} (f : Further X) (entries : List MapEntry) where
   bytes-more History commands h = refl
   bytes-more Quit commands h = absurd h
 
-  -- what was spent so far, and the work and the bytes that are left
+  -- what was spent so far, and the touch and the bytes that are left
   pub record Paid (all : List Command) (m0 : Machine X) (s0 v0 index s v : ℕ) : Type 0 where
-    pub steps : s + 4 * work_of f entries (drop index all) (transcript f entries (take index all) m0) ≤ s0 + 4 * work_of f entries all (untouched m0)
-    pub moves : v + (4 * work_of f entries (drop index all) (transcript f entries (take index all) m0) + bytes_shown (drop index all)) ≤ v0 + (4 * work_of f entries all (untouched m0) + bytes_shown all)
+    pub steps : s + 4 * touch_of f entries (drop index all) (transcript f entries (take index all) m0) ≤ s0 + 4 * touch_of f entries all (untouched m0)
+    pub moves : v + (4 * touch_of f entries (drop index all) (transcript f entries (take index all) m0) + bytes_shown (drop index all)) ≤ v0 + (4 * touch_of f entries all (untouched m0) + bytes_shown all)
 
   pub paid-first : (all : List Command) (m : Machine X) (s v : ℕ) → Paid all m s v 0 s v
   paid-first all m s v =
-      let same = ap (work_of f entries all) (debugged-nil f entries (untouched m)) in
+      let same = ap (touch_of f entries all) (debugged-nil f entries (untouched m)) in
       record { steps = omega (arith, same); moves = omega (arith, same) }
 
   pub paid-next : (all : List Command) (m0 : Machine X) (o0 : Out) (index : ℕ) (m : Machine X) (sitting : Sitting) (o : Out) (c : Command) (s0 v0 s v t w : ℕ) →
       Going all m0 o0 index m sitting o → drop index all ≡ c ∷ drop (index + 1) all → quits c ≡ false → Paid all m0 s0 v0 index s v →
-      t ≤ s + 4 * work_in f c (seen m sitting) → w ≤ v + (4 * work_in f c (seen m sitting) + bytes_of c) → Paid all m0 s0 v0 (index + 1) t w
+      t ≤ s + 4 * touch_in f c (seen m sitting) → w ≤ v + (4 * touch_in f c (seen m sitting) + bytes_of c) → Paid all m0 s0 v0 (index + 1) t w
   paid-next all m0 o0 index m sitting o c s0 v0 s v t w g here goes paid steps moves =
       let d : Debugged X = transcript f entries (take index all) m0 in
       let next : Debugged X = transcript f entries (take (index + 1) all) m0 in
-      let one : work_in f c (seen m sitting) ≡ work_in f c d =
-      ap (work_in f c) (seen-kept all m0 o0 index m sitting o g) ∙ work-kept c g.so_far ∙ ap (work_in f c) g.done in
-      let more : work_of f entries (drop index all) d ≡ work_in f c d + work_of f entries (drop (index + 1) all) next =
-      ap (λ cs. work_of f entries cs d) here
-      ∙ work-more c (drop (index + 1) all) d (goes_on c goes)
-      ∙ ap (λ k. work_in f c d + work_of f entries (drop (index + 1) all) k) (transcript-next all index m0 c here g.whole goes) in
+      let one : touch_in f c (seen m sitting) ≡ touch_in f c d =
+      ap (touch_in f c) (seen-kept all m0 o0 index m sitting o g) ∙ touch-kept c g.so_far ∙ ap (touch_in f c) g.done in
+      let more : touch_of f entries (drop index all) d ≡ touch_in f c d + touch_of f entries (drop (index + 1) all) next =
+      ap (λ cs. touch_of f entries cs d) here
+      ∙ touch-more c (drop (index + 1) all) d (goes_on c goes)
+      ∙ ap (λ k. touch_in f c d + touch_of f entries (drop (index + 1) all) k) (transcript-next all index m0 c here g.whole goes) in
       let bytes : bytes_shown (drop index all) ≡ bytes_of c + bytes_shown (drop (index + 1) all) = ap bytes_shown here ∙ bytes-more c (drop (index + 1) all) (goes_on c goes) in
       record { steps = omega (arith, paid.steps, steps, one, more); moves = omega (arith, paid.moves, moves, one, more, bytes) }
 
-  pub paid-steps : (all : List Command) (m0 : Machine X) (s0 v0 index s v : ℕ) → Paid all m0 s0 v0 index s v → s ≤ s0 + 4 * work_of f entries all (untouched m0)
+  pub paid-steps : (all : List Command) (m0 : Machine X) (s0 v0 index s v : ℕ) → Paid all m0 s0 v0 index s v → s ≤ s0 + 4 * touch_of f entries all (untouched m0)
   paid-steps all m0 s0 v0 index s v paid = omega (arith, paid.steps)
 
   pub paid-moves : (all : List Command) (m0 : Machine X) (s0 v0 index s v : ℕ) → Paid all m0 s0 v0 index s v →
-      v ≤ v0 + (4 * work_of f entries all (untouched m0) + bytes_shown all)
+      v ≤ v0 + (4 * touch_of f entries all (untouched m0) + bytes_shown all)
   paid-moves all m0 s0 v0 index s v paid = omega (arith, paid.moves)

@@ -217,36 +217,36 @@ module _ {X : Type 0} (f : Further X) where
         begun = begun;
       }
 
-  -- ---- work, and where a machine stands on the way
+  -- ---- touch, and where a machine stands on the way
 
-  work-add : (i k : ℕ) (m : Machine X) → (run_for f (i + k) m).work ≡ (run_for f i m).work + (run_for f k (run_for f i m).machine).work
-  work-add i k m = ap (λ (s : Stepped X). s.work) (run_for-add f i k m)
+  touch-add : (i k : ℕ) (m : Machine X) → (run_for f (i + k) m).touch ≡ (run_for f i m).touch + (run_for f k (run_for f i m).machine).touch
+  touch-add i k m = ap (λ (s : Stepped X). s.touch) (run_for-add f i k m)
 
-  -- the work of some states is within that of all
-  work-within : (k n : ℕ) (m : Machine X) → k ≤ n → (run_for f k m).work ≤ (run_for f n m).work
-  work-within k n m few =
+  -- the touch of some states is within that of all
+  touch-within : (k n : ℕ) (m : Machine X) → k ≤ n → (run_for f k m).touch ≤ (run_for f n m).touch
+  touch-within k n m few =
       let sum : n ≡ k + (n - k) = omega arith in
-      let all = ap (λ i. (run_for f i m).work) sum ∙ work-add k (n - k) m in
+      let all = ap (λ i. (run_for f i m).touch) sum ∙ touch-add k (n - k) m in
       omega (arith, all)
 
   -- what is spent in a run to a state
   pub spends-run : (k to : ℕ) (m : Whole X) (s : ℕ) (n : Whole X) (t : ℕ) → to - m.machine.time ≡ k →
-      t ≤ s + 4 * (run_to f to m.machine).work → n.moves ≤ m.moves + 4 * (run_to f to m.machine).work → Spends f k m s n t
+      t ≤ s + 4 * (run_to f to m.machine).touch → n.moves ≤ m.moves + 4 * (run_to f to m.machine).touch → Spends f k m s n t
   spends-run k to m s n t e steps moves =
-      let work = ap (λ i. (run_for f i m.machine).work) e in
-      record { steps = omega (arith, steps, work); moves = omega (arith, moves, work) }
+      let cost = ap (λ i. (run_for f i m.machine).touch) e in
+      record { steps = omega (arith, steps, cost); moves = omega (arith, moves, cost) }
 
   pub spends-activity : (m : Whole X) (s : ℕ) (n : Whole X) (t : ℕ) →
-      t ≤ s + 4 * (run_to f (activity_end m.machine) m.machine).work → n.moves ≤ m.moves + 4 * (run_to f (activity_end m.machine) m.machine).work →
+      t ≤ s + 4 * (run_to f (activity_end m.machine) m.machine).touch → n.moves ≤ m.moves + 4 * (run_to f (activity_end m.machine) m.machine).touch →
       Spends f (current m.machine).left m s n t
   spends-activity m s n t steps moves = spends-run (current m.machine).left (activity_end m.machine) m s n t (omega arith) steps moves
 
   -- a run that may stop before its state
   pub spends-some : (end to : ℕ) (m : Whole X) (s : ℕ) (n : Whole X) (t : ℕ) → to - m.machine.time ≤ end →
-      t ≤ s + 4 * (run_to f to m.machine).work → n.moves ≤ m.moves + 4 * (run_to f to m.machine).work → Spends f end m s n t
+      t ≤ s + 4 * (run_to f to m.machine).touch → n.moves ≤ m.moves + 4 * (run_to f to m.machine).touch → Spends f end m s n t
   spends-some end to m s n t few steps moves =
-      let work = work-within (to - m.machine.time) end m.machine few in
-      record { steps = omega (arith, steps, work); moves = omega (arith, moves, work) }
+      let cost = touch-within (to - m.machine.time) end m.machine few in
+      record { steps = omega (arith, steps, cost); moves = omega (arith, moves, cost) }
 
   -- nothing is spent before the first state
   pub spends-none : (m : Whole X) (s : ℕ) → Spends f 0 m s m s
@@ -256,15 +256,15 @@ module _ {X : Type 0} (f : Further X) where
   pub spends-add : (i k : ℕ) (m0 : Whole X) (s0 : ℕ) (m : Whole X) (s : ℕ) (n : Whole X) (t : ℕ) → m.machine ≡ (run_for f i m0.machine).machine →
       Spends f i m0 s0 m s → Spends f k m s n t → Spends f (i + k) m0 s0 n t
   spends-add i k m0 s0 m s n t is before after =
-      let same : (run_for f k m.machine).work ≡ (run_for f k (run_for f i m0.machine).machine).work = ap (λ x. (run_for f k x).work) is in
-      let all = work-add i k m0.machine in
+      let same : (run_for f k m.machine).touch ≡ (run_for f k (run_for f i m0.machine).machine).touch = ap (λ x. (run_for f k x).touch) is in
+      let all = touch-add i k m0.machine in
       record { steps = omega (arith, before.steps, after.steps, same, all); moves = omega (arith, before.moves, after.moves, same, all) }
 
   -- more states do no less
   pub spends-within : (k n : ℕ) (m0 : Whole X) (s0 : ℕ) (m : Whole X) (s : ℕ) → k ≤ n → Spends f k m0 s0 m s → Spends f n m0 s0 m s
   spends-within k n m0 s0 m s few spends =
-      let work = work-within k n m0.machine few in
-      record { steps = omega (arith, spends.steps, work); moves = omega (arith, spends.moves, work) }
+      let cost = touch-within k n m0.machine few in
+      record { steps = omega (arith, spends.steps, cost); moves = omega (arith, spends.moves, cost) }
 
   -- the sink has failed in the lines of the first states that pass at once
   pub fails-first : (at_once : Machine X → ℕ) (m : Machine X) (o : Out) (r : Buffer Begun) (n : Machine X) (p : Out) (q : Buffer Begun) →

@@ -39,10 +39,10 @@ module _ {X : Type 0} (f : Further X) where
     pub machine : n ≡ (run_for f states m).machine
     pub time : n.time ≡ m.time + states
 
-  -- units were called, and moved, at most four times the work of so many states
+  -- units were called, and moved, at most four times the touch of so many states
   pub record Spends (states : ℕ) (m : Whole X) (s : ℕ) (n : Whole X) (t : ℕ) : Type 0 where
-    pub steps : t ≤ s + 4 * (run_for f states m.machine).work
-    pub moves : n.moves ≤ m.moves + 4 * (run_for f states m.machine).work
+    pub steps : t ≤ s + 4 * (run_for f states m.machine).touch
+    pub moves : n.moves ≤ m.moves + 4 * (run_for f states m.machine).touch
 
   -- so many states have passed, and the activities that began in them are noted
   pub record Gone (states : ℕ) (m : Machine X) (r : Buffer Begun) (n : Machine X) (q : Buffer Begun) : Type 0 where

@@ -1,4 +1,4 @@
--- The work of a script, and where its machine stands when the sink has failed (this kit's own).
+-- The touch of a script, and where its machine stands when the sink has failed (this kit's own).
 use Rattle.std.specs.Prelude.{◌≡◌, ℕ, ◌+◌, ◌≤◌, ◌⊎◌, false, true, List, [], ◌∷◌, ◌++◌}
 use Rattle.std.specs.List.{list_any}
 use Rattle.kc_extra.specs.Further.{Further}
@@ -35,9 +35,9 @@ module _ {X : Type 0} (f : Further X) where
   states_of (Go until) d = states_of_run f d.breaks until d.machine
   states_of _ d = 0
 
-  -- the work of a command is that of its states
-  abbrev pub work_in : Command → Debugged X → ℕ
-  work_in command d = (run_for f (states_of command d) d.machine).work
+  -- the touch of a command is that of its states
+  abbrev pub touch_in : Command → Debugged X → ℕ
+  touch_in command d = (run_for f (states_of command d) d.machine).touch
 
   -- The sink has failed in the lines of states that pass at once, as many as a machine says: those of the states before them
   -- were written whole, and of their own a front. The machine stands behind them, within so many states.
@@ -71,11 +71,11 @@ module _ {X : Type 0} (f : Further X) where
   FailsIn at_once states said m o n p = FailsWithin at_once states m o n p ⊎ FailsBehind states said m o n p
 
 module _ {X : Type 0} (f : Further X) (entries : List MapEntry) where
-  -- the work of commands, up to the first that ends the script
-  unfoldable pub work_of : List Command → Debugged X → ℕ
-  work_of [] d = 0
-  work_of (Quit ∷ commands) d = 0
-  work_of (command ∷ commands) d = work_in f command d + work_of commands (after_command f entries command d)
+  -- the touch of commands, up to the first that ends the script
+  unfoldable pub touch_of : List Command → Debugged X → ℕ
+  touch_of [] d = 0
+  touch_of (Quit ∷ commands) d = 0
+  touch_of (command ∷ commands) d = touch_in f command d + touch_of commands (after_command f entries command d)
 
   -- The sink has failed in what a command prints: all that the commands before it print was written, and a front of its own.
   -- The machine stands at the end of the activity, or of the idle state, in whose lines that was.

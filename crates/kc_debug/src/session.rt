@@ -11,7 +11,7 @@ ghost use Rattle.kc_debug.specs.Passing.{IsKept, Gone, Spends};
 ghost use Rattle.kc_debug.specs.Stops.{activity_states, states_at_once, states_of_activities, states_of_run};
 ghost use Rattle.kc_debug.specs.Transcript.{after_command, gone_for, quits, transcript, untouched};
 ghost use Rattle.kc_debug.specs.Sitting.{seen};
-ghost use Rattle.kc_debug.specs.Stands.{at_once_in, bytes_of, bytes_shown, states_of, work_in, work_of, FailsIn, StandsIn};
+ghost use Rattle.kc_debug.specs.Stands.{at_once_in, bytes_of, bytes_shown, states_of, touch_in, touch_of, FailsIn, StandsIn};
 
 use crate::activities::{Begun, KEPT};
 use crate::carrying::{go, step};
@@ -153,8 +153,8 @@ impl Sitting {
         ensures breaks { OnOk result (self.new.breaks.items ≡ (after_command X.further lines.now command (seen machine.old.machine self.old)).breaks) }
         ensures begun { OnOk result (self.new.begun ≡ buffer (keep_last 33 (after_command X.further lines.now command (seen machine.old.machine self.old)).begun) 33) }
         ensures fails { OnErr result (FailsIn X.further (at_once_in command) (states_of X.further command (seen machine.old.machine self.old)) (after_command X.further lines.now command (seen machine.old.machine self.old)).text machine.old.machine (out_of S.written S.faults out.old) machine.new.machine (out_of S.written S.faults out.new)) }
-        ensures spent { steps.new ≤ steps.old + 4 * work_in X.further command (seen machine.old.machine self.old) }
-        ensures moves { machine.new.moves ≤ machine.old.moves + (4 * work_in X.further command (seen machine.old.machine self.old) + bytes_of command) }
+        ensures spent { steps.new ≤ steps.old + 4 * touch_in X.further command (seen machine.old.machine self.old) }
+        ensures moves { machine.new.moves ≤ machine.old.moves + (4 * touch_in X.further command (seen machine.old.machine self.old) + bytes_of command) }
         ensures time { machine.new.machine.time ≤ max (10 ^ 15) machine.old.machine.time + 255000000 }
         ensures capacity { self.new.begun.capacity ≡ 33 }
         ensures fault { TellsFault result out.new.failed }
@@ -194,8 +194,8 @@ impl Sitting {
         ensures text { Puts (out_of S.written S.faults out.old) (transcript X.further lines.now commands.now machine.old.machine).text (out_of S.written S.faults out.new) }
         ensures machine { OnOk result (machine.new.machine ≡ (transcript X.further lines.now commands.now machine.old.machine).machine) }
         ensures stands { OnErr result (StandsIn X.further lines.now commands.now machine.old.machine (out_of S.written S.faults out.old) machine.new.machine (out_of S.written S.faults out.new)) }
-        ensures spent { steps.new ≤ steps.old + 4 * work_of X.further lines.now commands.now (untouched machine.old.machine) }
-        ensures moves { machine.new.moves ≤ machine.old.moves + (4 * work_of X.further lines.now commands.now (untouched machine.old.machine) + bytes_shown commands.now) }
+        ensures spent { steps.new ≤ steps.old + 4 * touch_of X.further lines.now commands.now (untouched machine.old.machine) }
+        ensures moves { machine.new.moves ≤ machine.old.moves + (4 * touch_of X.further lines.now commands.now (untouched machine.old.machine) + bytes_shown commands.now) }
         ensures capacity { self.new.begun.capacity ≡ 33 }
         ensures fault { TellsFault result out.new.failed }
     {
@@ -238,7 +238,7 @@ impl Session {
     /// its transcript. Answers how the machine has ended, or `Spent` while it lives. The only refusal is that the sink failed;
     /// a front of the transcript is written then, and the machine stands at the end of the activity, or of the idle state, in whose
     /// lines the sink failed, or where the command left it whose other text was not written. The last 254 states before the one
-    /// that `g` names pass one by one, so it stands at the end of such a state. Units are called at most four times the work of the
+    /// that `g` names pass one by one, so it stands at the end of such a state. Units are called at most four times the touch of the
     /// states that pass.
     pub fn run_script<X: Extra + Drop, S: Sink, L: Ledger>(
         &mut self,
@@ -252,8 +252,8 @@ impl Session {
         ensures text { Puts (out_of S.written S.faults out.old) (transcript X.further self.old script.now machine.old.machine).text (out_of S.written S.faults out.new) }
         ensures machine { OnOk result (machine.new.machine ≡ (transcript X.further self.old script.now machine.old.machine).machine) }
         ensures stands { OnErr result (StandsIn X.further self.old script.now machine.old.machine (out_of S.written S.faults out.old) machine.new.machine (out_of S.written S.faults out.new)) }
-        ensures spent { steps.new ≤ steps.old + 4 * work_of X.further self.old script.now (untouched machine.old.machine) }
-        ensures moves { machine.new.moves ≤ machine.old.moves + (4 * work_of X.further self.old script.now (untouched machine.old.machine) + bytes_shown script.now) }
+        ensures spent { steps.new ≤ steps.old + 4 * touch_of X.further self.old script.now (untouched machine.old.machine) }
+        ensures moves { machine.new.moves ≤ machine.old.moves + (4 * touch_of X.further self.old script.now (untouched machine.old.machine) + bytes_shown script.now) }
         ensures end { IfOk result (λ end. end ≡ end_of (transcript X.further self.old script.now machine.old.machine).machine) }
         ensures written { OnOk result (out.new.failed ≡ false) }
         ensures fault { IfErr result (λ fault. fault ≡ faults.WriteFault) }

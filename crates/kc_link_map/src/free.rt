@@ -1,12 +1,11 @@
-// The addresses that no piece has.
-ghost use Rattle.std.specs.Prelude.{◌≡◌, ◌<◌, ◌≤◌, ◌+◌, ◌-◌, ◌++◌, OnOk};
+// The runs of addresses that are free.
+ghost use Rattle.std.specs.Prelude.{◌≡◌, ◌<◌, ◌≤◌, ◌+◌, ◌-◌, ◌++◌, ◌&&◌, not, false, get_or, OnOk};
 ghost use Rattle.kc_link_map.specs.Free as spec;
 ghost use Rattle.kc_link_map.specs.Map as map;
 
 use crate::fields::{put_address, put_number};
+use crate::taken::is_taken;
 use kc_base::NoMemory;
-use kc_link_place::Placed;
-use kc_obj_module::{Module, SegKind, Segment};
 
 /// The stack: its first address and its length in bytes.
 #[derive(Clone, Copy)]
@@ -22,50 +21,12 @@ fn covers(first: u16, length: u32, address: u32) -> bool
     u32::from(first) <= address && address < u32::from(first) + length
 }
 
-// Whether a piece that is no stack has the address. A stack piece has no address of its own.
-fn is_at(segment: Segment, first: u16, address: u32) -> bool
-    ensures { result ≡ spec.piece_covers segment first address }
-{
-    segment.kind != SegKind::Stack && covers(first, u32::from(segment.length), address)
-}
-
-#[tactic(auto, unfolding(crate::specs::Free::pieces_cover))]
-fn pieces_cover(placed: &Placed, index: usize, segments: &[Segment], address: u32) -> bool
-    ensures { result ≡ spec.pieces_cover placed.now index 0 segments.now address }
-{
-    let mut left = segments;
-    let mut number = 0;
-    while let [segment, rest @ ..] = left {
-        if is_at(*segment, placed.piece(index, number), address) {
-            return true;
-        }
-        number += 1;
-        left = rest;
-    }
-    false
-}
-
-#[tactic(auto, unfolding(crate::specs::Free::modules_cover))]
-fn modules_cover(placed: &Placed, modules: &[Module], address: u32) -> bool
-    ensures { result ≡ spec.modules_cover placed.now 0 modules.now address }
-{
-    let mut left = modules;
-    let mut index = 0;
-    while let [module, rest @ ..] = left {
-        if pieces_cover(placed, index, module.segments(), address) {
-            return true;
-        }
-        index += 1;
-        left = rest;
-    }
-    false
-}
-
-fn is_free(placed: &Placed, modules: &[Module], stack: StackAt, address: u32) -> bool
+// Whether neither the stack nor a piece has the address.
+fn is_free(taken: &[bool], stack: StackAt, address: u32) -> bool
     requires { stack.size < 16777216 }
-    ensures { result ≡ spec.is_free modules.now placed.now stack.first stack.size address }
+    ensures { result ≡ (not (spec.covers stack.first stack.size address) && not (get_or taken.now address false)) }
 {
-    !covers(stack.first, stack.size, address) && !modules_cover(placed, modules, address)
+    !covers(stack.first, stack.size, address) && !is_taken(taken, address)
 }
 
 // Puts the line of so many free addresses from one on.
@@ -94,24 +55,23 @@ fn put_run(text: &mut Vec<u8>, word: &[u8], end: u32, length: u32) -> Result<(),
     put_line(text, word, (end - length) as u16, length)
 }
 
-/// Puts the lines of the free addresses of a range behind a text.
+/// Puts the lines of the free addresses of a range behind a text, by the addresses that pieces have.
 pub(crate) fn put_free(
     text: &mut Vec<u8>,
     word: &[u8],
     range: (u16, u16),
-    placed: &Placed,
-    modules: &[Module],
+    taken: &[bool],
     stack: StackAt,
 ) -> Result<(), NoMemory>
     requires rises { range.0 ≤ range.1 }
     requires stack { stack.size < 16777216 }
-    ensures { OnOk result (text.new.items ≡ text.old.items ++ map.free_lines word.now (spec.free_runs (spec.is_free modules.now placed.now stack.first stack.size) (range.1 + 1 - range.0) range.0 0)) }
+    ensures { OnOk result (text.new.items ≡ text.old.items ++ map.free_lines word.now (spec.free_runs (λ a. not (spec.covers stack.first stack.size a) && not (get_or taken.now a false)) (range.1 + 1 - range.0) range.0 0)) }
 {
     let end = u32::from(range.1) + 1;
     let mut at = u32::from(range.0);
     let mut length = 0;
     while at < end {
-        if is_free(placed, modules, stack, at) {
+        if is_free(taken, stack, at) {
             length += 1;
         } else {
             put_run(text, word, at, length)?;

@@ -6,6 +6,7 @@ mod free;
 mod laws;
 mod map;
 mod modules;
+mod taken;
 
 pub use fields::{kind_word, put_number};
 pub use laws::free_runs_are_free;

@@ -7,6 +7,7 @@ ghost use Rattle.kc_link_map.specs.Map.{IsMap};
 use crate::fields::{put_address, put_number};
 use crate::free::{StackAt, put_free};
 use crate::modules::{put_all_pieces, put_all_publics};
+use crate::taken::taken_by;
 use kc_base::NoMemory;
 use kc_link_place::{LinkFault, Placed, Ranges, locate, stack_size};
 use kc_obj_module::Module;
@@ -34,6 +35,7 @@ fn put_stack(text: &mut Vec<u8>, stack: StackAt) -> Result<(), NoMemory>
 
 // Puts what is free in each range.
 fn put_ranges(
+    alloc: Global,
     text: &mut Vec<u8>,
     placed: &Placed,
     modules: &[Module],
@@ -44,9 +46,11 @@ fn put_ranges(
     requires stack { stack.size < 16777216 }
     ensures { OnOk result (text.new.items ≡ text.old.items ++ spec.ranges_text modules.now ranges.now placed.now stack.first stack.size) }
 {
-    put_free(text, b"reg", ranges.reg, placed, modules, stack)?;
-    put_free(text, b"code", ranges.code, placed, modules, stack)?;
-    put_free(text, b"data", ranges.ram, placed, modules, stack)
+    let taken = taken_by(alloc, placed, modules)?;
+    put_free(text, b"reg", ranges.reg, &taken, stack)?;
+    put_free(text, b"code", ranges.code, &taken, stack)?;
+    put_free(text, b"data", ranges.ram, &taken, stack)?;
+    Ok(())
 }
 
 // The map at some places.
@@ -65,7 +69,7 @@ fn map_at(
     put_all_pieces(&mut text, placed, modules)?;
     put_all_publics(&mut text, placed, modules)?;
     put_stack(&mut text, stack)?;
-    put_ranges(&mut text, placed, modules, ranges, stack)?;
+    put_ranges(alloc, &mut text, placed, modules, ranges, stack)?;
     Ok(text)
 }
 

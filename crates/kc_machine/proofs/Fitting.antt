@@ -79,8 +79,8 @@ either-few false x y h k = k
 byte_weight-few : {R : Type 0} (everywhere : List (ℕ × R)) (addr : ℕ) → byte_weight everywhere addr ≤ 2
 byte_weight-few everywhere addr = either-few (is_some (row_at everywhere addr)) 0 1 (omega arith) (omega arith)
 
-word_weight-few : {R : Type 0} (words : List (ℕ × R)) (addr : ℕ) → word_weight words addr ≤ 2
-word_weight-few words addr = either-few (nat_lt addr 2) 0 _ (omega arith) (either-few (is_some (row_at words addr)) 1 2 (omega arith) (omega arith))
+word_weight-few : (addr : ℕ) → word_weight addr ≤ 2
+word_weight-few addr = either-few (nat_lt addr 2) 0 2 (omega arith) (omega arith)
 
 -- a count is no more than the sum
 counted-most : (a b : ℕ) (room : Bool) → (if room then a + b else a) ≤ a + b
@@ -90,16 +90,16 @@ counted-most a b false = omega arith
 module _ {X : Type 0} (f : Further X) where
   after-fits : (s : Scene X) (r : Access) → length s.edges + 18 ≤ 144 → s.reached < 64 → after_by f fitting s r ≡ after_by f all_kept s r
   after-fits s (ReadByte by addr) e k = ap (λ x. if nat_lt addr 24 then x else s) (with_units-fits s (after_byte_read f s.time (window_at s by) s.board.units addr) (byte_weight bytes_read_everywhere addr) e k)
-  after-fits s (ReadWord by addr) e k = ap (λ x. if nat_lt addr 24 then x else s) (with_units-fits s (after_word_read f s.time (window_at s by) s.board.units addr) (word_weight (words_read (window_at s by)) addr) e k)
+  after-fits s (ReadWord by addr) e k = ap (λ x. if nat_lt addr 24 then x else s) (with_units-fits s (after_word_read f s.time (window_at s by) s.board.units addr) (word_weight addr) e k)
   after-fits s (WriteByte by addr n) e k = ap (λ x. if nat_lt addr 24 then x else put s addr n) (with_units-fits s (kept s.board.units (byte_written f s.time (window_at s by) s.board.units addr n)) (byte_weight bytes_written_everywhere addr) e k)
-  after-fits s (WriteWord by addr n) e k = ap (λ x. if nat_lt addr 24 then x else put (put s addr (n % 256)) (addr + 1) (n / 256)) (with_units-fits s (kept s.board.units (word_written f s.time (window_at s by) s.board.units addr n)) (word_weight (words_written (window_at s by)) addr) e k)
+  after-fits s (WriteWord by addr n) e k = ap (λ x. if nat_lt addr 24 then x else put (put s addr (n % 256)) (addr + 1) (n / 256)) (with_units-fits s (kept s.board.units (word_written f s.time (window_at s by) s.board.units addr n)) (word_weight addr) e k)
   after-fits s (SetMasks m) e k = with_units-fits s (with_masks s.board.units m) 0 e k
 
   after-grows : (s : Scene X) (r : Access) → Grows s (after_by f all_kept s r)
   after-grows s (ReadByte by addr) = either-grows (nat_lt addr 24) s _ s (with_units-grows s (after_byte_read f s.time (window_at s by) s.board.units addr) (byte_weight bytes_read_everywhere addr) (byte_weight-few bytes_read_everywhere addr)) (stays s)
-  after-grows s (ReadWord by addr) = either-grows (nat_lt addr 24) s _ s (with_units-grows s (after_word_read f s.time (window_at s by) s.board.units addr) (word_weight (words_read (window_at s by)) addr) (word_weight-few (words_read (window_at s by)) addr)) (stays s)
+  after-grows s (ReadWord by addr) = either-grows (nat_lt addr 24) s _ s (with_units-grows s (after_word_read f s.time (window_at s by) s.board.units addr) (word_weight addr) (word_weight-few addr)) (stays s)
   after-grows s (WriteByte by addr n) = either-grows (nat_lt addr 24) s _ (put s addr n) (with_units-grows s (kept s.board.units (byte_written f s.time (window_at s by) s.board.units addr n)) (byte_weight bytes_written_everywhere addr) (byte_weight-few bytes_written_everywhere addr)) (put-grows s s addr n (stays s))
-  after-grows s (WriteWord by addr n) = either-grows (nat_lt addr 24) s _ (put (put s addr (n % 256)) (addr + 1) (n / 256)) (with_units-grows s (kept s.board.units (word_written f s.time (window_at s by) s.board.units addr n)) (word_weight (words_written (window_at s by)) addr) (word_weight-few (words_written (window_at s by)) addr)) (put-grows s (put s addr (n % 256)) (addr + 1) (n / 256) (put-grows s s addr (n % 256) (stays s)))
+  after-grows s (WriteWord by addr n) = either-grows (nat_lt addr 24) s _ (put (put s addr (n % 256)) (addr + 1) (n / 256)) (with_units-grows s (kept s.board.units (word_written f s.time (window_at s by) s.board.units addr n)) (word_weight addr) (word_weight-few addr)) (put-grows s (put s addr (n % 256)) (addr + 1) (n / 256) (put-grows s s addr (n % 256) (stays s)))
   after-grows s (SetMasks m) = with_units-grows s (with_masks s.board.units m) 0 (omega arith)
 
   runs-alike : {A : Type 0} (n : ℕ) (t : Effect A) (s : Scene X) → AtMost n t → length s.edges + 18 * n ≤ 144 → s.reached + 2 * n ≤ 64 → run (bus_meaning f) t s ≡ run (scene_meaning f) t s
@@ -141,9 +141,9 @@ left_by (Refused k h) = h
 module _ {X : Type 0} (f : Further X) where
   after-counts : (s : Scene X) (r : Access) → Counts s (after_by f fitting s r)
   after-counts s (ReadByte by addr) = either-counts (nat_lt addr 24) s _ s (with_units-counts s (after_byte_read f s.time (window_at s by) s.board.units addr) (byte_weight bytes_read_everywhere addr) (byte_weight-few bytes_read_everywhere addr)) (same-counts s s refl)
-  after-counts s (ReadWord by addr) = either-counts (nat_lt addr 24) s _ s (with_units-counts s (after_word_read f s.time (window_at s by) s.board.units addr) (word_weight (words_read (window_at s by)) addr) (word_weight-few (words_read (window_at s by)) addr)) (same-counts s s refl)
+  after-counts s (ReadWord by addr) = either-counts (nat_lt addr 24) s _ s (with_units-counts s (after_word_read f s.time (window_at s by) s.board.units addr) (word_weight addr) (word_weight-few addr)) (same-counts s s refl)
   after-counts s (WriteByte by addr n) = either-counts (nat_lt addr 24) s _ (put s addr n) (with_units-counts s (kept s.board.units (byte_written f s.time (window_at s by) s.board.units addr n)) (byte_weight bytes_written_everywhere addr) (byte_weight-few bytes_written_everywhere addr)) (same-counts s (put s addr n) refl)
-  after-counts s (WriteWord by addr n) = either-counts (nat_lt addr 24) s _ (put (put s addr (n % 256)) (addr + 1) (n / 256)) (with_units-counts s (kept s.board.units (word_written f s.time (window_at s by) s.board.units addr n)) (word_weight (words_written (window_at s by)) addr) (word_weight-few (words_written (window_at s by)) addr)) (same-counts s (put (put s addr (n % 256)) (addr + 1) (n / 256)) refl)
+  after-counts s (WriteWord by addr n) = either-counts (nat_lt addr 24) s _ (put (put s addr (n % 256)) (addr + 1) (n / 256)) (with_units-counts s (kept s.board.units (word_written f s.time (window_at s by) s.board.units addr n)) (word_weight addr) (word_weight-few addr)) (same-counts s (put (put s addr (n % 256)) (addr + 1) (n / 256)) refl)
   after-counts s (SetMasks m) = with_units-counts s (with_masks s.board.units m) 0 (omega arith)
 
   by-answer : {A : Type 0} (n : ℕ) (next : ℕ → Effect A) (s : Scene X) (r : Access) → AtMost n (Ask r next) → (a : Result ℕ Kind) → ((i : ℕ) → (left_by (run (bus_meaning f) (next i) (after_by f fitting s r))).reached ≤ (after_by f fitting s r).reached + 2 * (n - 1)) → (left_by (answered a (λ i. run (bus_meaning f) (next i) (after_by f fitting s r)) s)).reached ≤ s.reached + 2 * n
@@ -205,10 +205,10 @@ module _ {X : Type 0} (f : Further X) where
       subst (λ (x : Scene X). x.reached ≤ s.reached + 16) (transferred result cycle new h (run (bus_meaning f) (served cycle) s) e) (few-counted f 8 (served cycle) s (transfer_accesses cycle))
 
 -- both numbers, while the count goes on
-pub spent-both : (count before a b a0 b0 ka kb : ℕ) → before ≡ 0 → a0 ≡ ka → b0 ≡ kb → count ≤ before + 16 → while_counted count (max (a + kb) (b + ka)) + 16 * before ≤ while_counted before (max (a0 + kb) (b0 + ka)) + 16 * count → CostsAtMost (16 * count) a0 a b0 b
+pub spent-both : (count before a b a0 b0 ka kb : ℕ) → before ≡ 0 → a0 ≡ ka → b0 ≡ kb → count ≤ before + 16 → while_counted count (max (a + kb) (b + ka)) + 4 * before ≤ while_counted before (max (a0 + kb) (b0 + ka)) + 4 * count → CostsAtMost (4 * count) a0 a b0 b
 spent-both count before a b a0 b0 ka kb none ea eb few h =
     let some : nat_lt count 64 ≡ true = grind (arith, nat_tests) in
     let first : nat_lt before 64 ≡ true = grind (arith, nat_tests) in
-    let one : max (a + kb) (b + ka) + 16 * before ≤ while_counted before (max (a0 + kb) (b0 + ka)) + 16 * count = subst (λ t. (if t then max (a + kb) (b + ka) else 0) + 16 * before ≤ while_counted before (max (a0 + kb) (b0 + ka)) + 16 * count) some h in
-    let real : max (a + kb) (b + ka) + 16 * before ≤ max (a0 + kb) (b0 + ka) + 16 * count = subst (λ t. max (a + kb) (b + ka) + 16 * before ≤ (if t then max (a0 + kb) (b0 + ka) else 0) + 16 * count) first one in
+    let one : max (a + kb) (b + ka) + 4 * before ≤ while_counted before (max (a0 + kb) (b0 + ka)) + 4 * count = subst (λ t. (if t then max (a + kb) (b + ka) else 0) + 4 * before ≤ while_counted before (max (a0 + kb) (b0 + ka)) + 4 * count) some h in
+    let real : max (a + kb) (b + ka) + 4 * before ≤ max (a0 + kb) (b0 + ka) + 4 * count = subst (λ t. max (a + kb) (b + ka) + 4 * before ≤ (if t then max (a0 + kb) (b0 + ka) else 0) + 4 * count) first one in
     record { spent = omega arith; moves = omega arith }

@@ -1,5 +1,5 @@
 -- What one access leaves on the machine's bus.
-use Rattle.std.proofs.Common.{◌≡◌, ℕ, ◌+◌, ◌*◌, ◌<◌, ◌≤◌, nat_lt, Bool, true, false, if◌then◌else◌, is_some, List, [], ◌∷◌, Option, Some, None, Result, Ok, refl, sym, ◌∙◌, ap, subst, add-zero, arith}
+use Rattle.std.proofs.Common.{◌≡◌, ℕ, ◌+◌, ◌*◌, ◌<◌, ◌≤◌, ◌%◌, ◌==◌, nat_lt, Bool, true, false, if◌then◌else◌, is_some, List, [], ◌∷◌, Option, Some, None, Result, Ok, refl, sym, ◌∙◌, ap, subst, add-zero, arith}
 use Rattle.std.proofs.lemmas.Grind.{common_steps}
 use Rattle.kc_base.specs.declared.types.Edge.{Edge}
 use Rattle.kc_base.specs.declared.types.Kind.{Kind}
@@ -17,7 +17,7 @@ use Rattle.kc_block_spec.specs.Units.{Units}
 use Rattle.kc_block_spec.specs.Levels.{printed, edges_between}
 use Rattle.kc_block_spec.specs.Touch.{in_state}
 use Rattle.kc_block_spec.specs.Leading.{Leads}
-use Rattle.kc_block_spec.specs.Registers.{bytes_read, bytes_read_everywhere, bytes_written_everywhere, words_read, words_written, row_at, is_half}
+use Rattle.kc_block_spec.specs.Registers.{bytes_read, bytes_read_everywhere, bytes_written_everywhere, words_read, row_at, is_half}
 use Rattle.kc_block_spec.specs.Reading.{after_byte, after_word}
 use Rattle.kc_block_spec.specs.Accesses.{latch_edges, after_byte_read, after_byte_read_as, byte_written, word_read, after_word_read, after_word_read_as, word_written}
 use Rattle.kc_block_spec.proofs.Quiet.{edges_none}
@@ -85,20 +85,16 @@ module _ {X : Type 0} (f : Further X) where
   word_as-prints t w u addr None = byte_read-prints t w (after_byte_read f t w u addr) (addr + 1) ∙ byte_read-prints t w u addr
 
   word_read-prints : (t : ℕ) (w : Window) (u : Units X) (addr : ℕ) → printed_of (after_word_read f t w u addr) ≡ printed_of u
-  word_read-prints t w u addr = word_as-prints t w u addr (row_at (words_read w) addr)
+  word_read-prints t w u addr = either-prints (addr % 2 == 1) u u _ refl (word_as-prints t w u addr (row_at (words_read w) addr))
 
 -- a count of none
 pub count-none : (a : ℕ) (b : Bool) → (if b then a + 0 else a) ≡ a
 count-none a true = add-zero a
 count-none a false = refl
 
--- a word from 0002H on counts
-pub word-some : {R : Type 0} (words : List (ℕ × R)) (addr : ℕ) → 2 ≤ addr → 0 < word_weight words addr
-word-some words addr far = let e : nat_lt addr 2 ≡ false = grind (arith, common_steps) in rw e (one-or-two (is_some (row_at words addr)))
-  where
-    one-or-two : (b : Bool) → 0 < (if b then 1 else 2)
-    one-or-two true = omega arith
-    one-or-two false = omega arith
+-- a word from 0002H on counts twice
+pub word-some : (addr : ℕ) → 2 ≤ addr → 2 ≤ word_weight addr
+word-some addr far = let e : nat_lt addr 2 ≡ false = grind (arith, common_steps) in rw e (omega arith)
 
 -- a scene with other units and edges
 scene_with : {X : Type 0} → Scene X → ℕ → Units X → List Edge → ℕ → Scene X
@@ -122,14 +118,14 @@ module _ {X : Type 0} (f : Further X) where
       let kept : latch_edges s.board.units u ≡ [] = ap (latch_edges s.board.units) read ∙ latches-kept s.board.units (after_byte_read f s.time w s.board.units addr) (byte_read-prints f s.time w s.board.units addr) in
       rw on (settled s _ (byte_weight bytes_read_everywhere addr) t u s.edges k same time (ap (all_noted s.edges) kept) count)
 
-  pub word-was-read : (s : Scene X) (by : Master) (addr : ℕ) (w : Window) (t : ℕ) (u : Units X) (k : ℕ) → addr < 24 → w ≡ window_at s by → u ≡ after_word_read f s.time w s.board.units addr → t ≡ s.time → k ≡ counted s.reached (word_weight (words_read w) addr) →
+  pub word-was-read : (s : Scene X) (by : Master) (addr : ℕ) (w : Window) (t : ℕ) (u : Units X) (k : ℕ) → addr < 24 → w ≡ window_at s by → u ≡ after_word_read f s.time w s.board.units addr → t ≡ s.time → k ≡ counted s.reached (word_weight addr) →
       after_by f fitting s (ReadWord by addr) ≡ record { time = t; board = record { units = u; memory = s.board.memory }; edges = s.edges; reached = k }
   unfolding scene_with
   word-was-read s by addr w t u k below window read time count =
       let on = is_register addr below in
       let same : after_word_read f s.time (window_at s by) s.board.units addr ≡ u = ap (λ x. after_word_read f s.time x s.board.units addr) (sym window) ∙ sym read in
       let kept : latch_edges s.board.units u ≡ [] = ap (latch_edges s.board.units) read ∙ latches-kept s.board.units (after_word_read f s.time w s.board.units addr) (word_read-prints f s.time w s.board.units addr) in
-      rw on (settled s _ (word_weight (words_read (window_at s by)) addr) t u s.edges k same time (ap (all_noted s.edges) kept) (count ∙ ap (λ x. counted s.reached (word_weight (words_read x) addr)) window))
+      rw on (settled s _ (word_weight addr) t u s.edges k same time (ap (all_noted s.edges) kept) count)
 
   written-as : (u v : Units X) (r : Result (Units X) Kind) → r ≡ Ok v → kept u r ≡ v
   written-as u v r e = ap (kept u) e
@@ -144,13 +140,13 @@ module _ {X : Type 0} (f : Further X) where
       rw on (settled s _ (byte_weight bytes_written_everywhere addr) t u edges k same time (note-leads s.edges s.time (latch_edges s.board.units u) edges led) count)
 
   pub word-was-written : (s : Scene X) (by : Master) (addr n : ℕ) (w : Window) (t : ℕ) (u : Units X) (edges : List Edge) (k : ℕ) → addr < 24 → w ≡ window_at s by → word_written f s.time w s.board.units addr n ≡ Ok u → t ≡ s.time →
-      Leads (λ old at edge new. new ≡ one_noted old edge) s.edges (in_state s.time (latch_edges s.board.units u)) edges → k ≡ counted s.reached (word_weight (words_written w) addr) →
+      Leads (λ old at edge new. new ≡ one_noted old edge) s.edges (in_state s.time (latch_edges s.board.units u)) edges → k ≡ counted s.reached (word_weight addr) →
       after_by f fitting s (WriteWord by addr n) ≡ record { time = t; board = record { units = u; memory = s.board.memory }; edges = edges; reached = k }
   unfolding scene_with
   word-was-written s by addr n w t u edges k below window written time led count =
       let on = is_register addr below in
       let same : kept s.board.units (word_written f s.time (window_at s by) s.board.units addr n) ≡ u = ap (λ x. kept s.board.units (word_written f s.time x s.board.units addr n)) (sym window) ∙ ap (kept s.board.units) written in
-      rw on (settled s _ (word_weight (words_written (window_at s by)) addr) t u edges k same time (note-leads s.edges s.time (latch_edges s.board.units u) edges led) (count ∙ ap (λ x. counted s.reached (word_weight (words_written x) addr)) window))
+      rw on (settled s _ (word_weight addr) t u edges k same time (note-leads s.edges s.time (latch_edges s.board.units u) edges led) count)
 
   pub masks-were-set : (s : Scene X) (m : Masks) (t : ℕ) (u : Units X) (k : ℕ) → u ≡ with_masks s.board.units m → t ≡ s.time → k ≡ s.reached →
       after_by f fitting s (SetMasks m) ≡ record { time = t; board = record { units = u; memory = s.board.memory }; edges = s.edges; reached = k }
@@ -189,7 +185,7 @@ module _ {X : Type 0} (f : Further X) where
   zeros-written t Window15 u n = refl
 
 -- what a byte access may count
-pub byte-counts : (free : Bool) (n old new reached later : ℕ) → n ≡ (if free then 0 else 1) → (free ≡ true → new ≤ old) → new ≤ old + 4 → later ≡ counted reached n → later < 64 → new + 16 * reached ≤ old + 16 * later
+pub byte-counts : (free : Bool) (n old new reached later : ℕ) → n ≡ (if free then 0 else 1) → (free ≡ true → new ≤ old) → new ≤ old + 4 → later ≡ counted reached n → later < 64 → new + 4 * reached ≤ old + 4 * later
 byte-counts true n old new reached later weight none most count few =
     let same : new ≤ old = none refl in
     let sum : later ≡ (if nat_lt reached 64 then reached + n else reached) = count in
@@ -197,7 +193,7 @@ byte-counts true n old new reached later weight none most count few =
     omega arith
 byte-counts false n old new reached later weight none most count few = one-more (nat_lt reached 64) refl
   where
-    one-more : (b : Bool) → nat_lt reached 64 ≡ b → new + 16 * reached ≤ old + 16 * later
+    one-more : (b : Bool) → nat_lt reached 64 ≡ b → new + 4 * reached ≤ old + 4 * later
     one-more true e =
         let sum : later ≡ reached + 1 = count ∙ ap (counted reached) weight ∙ ap (λ b. if b then reached + 1 else reached) e in
         omega arith
@@ -207,10 +203,10 @@ byte-counts false n old new reached later weight none most count few = one-more 
         absurd (omega arith)
 
 -- what a word access may count
-pub word-counts : (n old new reached later : ℕ) → 0 < n → new ≤ old + 8 → later ≡ counted reached n → later < 64 → new + 16 * reached ≤ old + 16 * later
+pub word-counts : (n old new reached later : ℕ) → 2 ≤ n → new ≤ old + 8 → later ≡ counted reached n → later < 64 → new + 4 * reached ≤ old + 4 * later
 word-counts n old new reached later some most count few = by-room (nat_lt reached 64) refl
   where
-    by-room : (b : Bool) → nat_lt reached 64 ≡ b → new + 16 * reached ≤ old + 16 * later
+    by-room : (b : Bool) → nat_lt reached 64 ≡ b → new + 4 * reached ≤ old + 4 * later
     by-room true e =
         let sum : later ≡ reached + n = count ∙ ap (λ b. if b then reached + n else reached) e in
         omega arith

@@ -154,7 +154,7 @@ followed-by insn false = refl
 
 -- a machine between activities, a state and the accesses of an instruction later
 pub gone-on : {X : Type 0} (m : Machine X) (insn : Insn) (s : Scene X) (cpu : Cpu) (held : Bool) → m.under_way ≡ None → m.going ≡ None → m.ended ≡ None →
-    stepped_of (record m { time = m.time + 1; board = s.board; cpu = cpu; held = held }) (pins m.time s.edges) (4 * s.reached) ≡ closed m s cpu (next_after insn (if held then Held else Next)) []
+    stepped_of (record m { time = m.time + 1; board = s.board; cpu = cpu; held = held }) (pins m.time s.edges) s.reached ≡ closed m s cpu (next_after insn (if held then Held else Next)) []
 gone-on m insn s cpu held begun alone lives =
     rw (begun, alone, lives, followed-by insn held, append-nil (pins m.time s.edges)) refl
 

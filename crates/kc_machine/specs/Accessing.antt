@@ -16,14 +16,14 @@ pub record ReachesNone {X : Type 0} {d : extra.Ghosts X} (old new : Common X d) 
   pub time : new.block.time ≡ old.block.time
   pub moves : new.block.moves ≡ old.block.moves
 
--- an access of the state, or none: while the count goes on, 16 unit calls and 16 moves at most for what it reaches
+-- an access of the state, or none: while the count goes on, 4 unit calls and 4 moves at most for each byte that reaches a unit
 pub record CountsAccess {X : Type 0} {d : extra.Ghosts X} (old new : Common X d) (steps_before steps_after : ℕ) : Type 0 where
   pub time : new.block.time ≡ old.block.time
   pub later : old.reached ≤ new.reached
-  pub steps : new.reached < 64 → steps_after + 16 * old.reached ≤ steps_before + 16 * new.reached
-  pub moves : new.reached < 64 → new.block.moves + 16 * old.reached ≤ old.block.moves + 16 * new.reached
+  pub steps : new.reached < 64 → steps_after + 4 * old.reached ≤ steps_before + 4 * new.reached
+  pub moves : new.reached < 64 → new.block.moves + 4 * old.reached ≤ old.block.moves + 4 * new.reached
 
--- all accesses of an activity come in one state: 16 unit calls and 16 moves at most for each time that they reach a unit
+-- all accesses of an activity come in one state: 4 unit calls and 4 moves at most for each of their bytes that reaches a unit
 pub record WithinState {X : Type 0} {d : extra.Ghosts X} (old new : Common X d) (steps_before steps_after : ℕ) : Type 0 where
   pub time : new.block.time ≡ old.block.time
-  pub costs : CostsAtMost (16 * new.reached) steps_before steps_after old.block.moves new.block.moves
+  pub costs : CostsAtMost (4 * new.reached) steps_before steps_after old.block.moves new.block.moves

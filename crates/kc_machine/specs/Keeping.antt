@@ -11,7 +11,7 @@ abbrev pub all_noted : List Edge → List Edge → List Edge
 all_noted old [] = old
 all_noted old (edge ∷ edges) = all_noted (one_noted old edge) edges
 
--- and for sixteen accesses that reach a unit
+-- and for the sixteen bytes of eight accesses
 abbrev pub counted : ℕ → ℕ → ℕ
 counted a b = if nat_lt a 64 then a + b else a
 

@@ -35,11 +35,11 @@ ticks_to f m now count under_way =
     (edges_in f m.time count m.board.units) (touch f m.time count m.board.units)
 
 -- the parts have gone on by this stretch of the run, and its lines are printed: 4 unit calls and 4 moves at most for each part of
--- its work
+-- its touch
 pub record GoesAs {X : Type 0} {d : extra.Ghosts X} (stretch : Stepped X) (old new : Core X d) (o p : Out) (steps_before steps_after : ℕ) : Type 0 where
   pub machine : machine_of new ≡ stretch.machine
   pub lines : Prints o stretch.records p
-  pub costs : CostsAtMost (4 * stretch.work) steps_before steps_after old.bus.block.moves new.bus.block.moves
+  pub costs : CostsAtMost (4 * stretch.touch) steps_before steps_after old.bus.block.moves new.bus.block.moves
 
 -- between two states before this one a living machine may go on
 pub record MayPass {X : Type 0} {d : extra.Ghosts X} (until : ℕ) (core : Core X d) : Type 0 where
@@ -62,7 +62,7 @@ pub record IsInLastState {X : Type 0} {d : extra.Ghosts X} (core : Core X d) : T
 
 -- the last state of this activity is over; this is printed behind the edges of its accesses
 pub record IsOver {X : Type 0} {d : extra.Ghosts X} (f : Further X) (doing : Activity) (old new : Core X d) (last : Option Record) : Type 0 where
-  pub machine : stepped_of (machine_of new) (pins old.time new.bus.edges ++ option_to_list last) (4 * new.bus.reached) ≡ finished f doing (machine_of old)
+  pub machine : stepped_of (machine_of new) (pins old.time new.bus.edges ++ option_to_list last) new.bus.reached ≡ finished f doing (machine_of old)
   pub time : new.time ≡ old.time + 1
   pub over : new.under_way ≡ None
   pub between : IsSoundGoing new.going

@@ -17,7 +17,7 @@ ghost use Rattle.kc_machine.specs.Prepared.{HasSlot, IsRead, IsSlot, IsTable};
 
 use crate::choosing::fetch;
 use crate::noted::Noted;
-use crate::weights::{weigh_byte, weigh_word_read, weigh_word_written, window_for};
+use crate::weights::{weigh_byte, weigh_word, window_for};
 use kc_base::{EdgeOut, Kind, NoMemory, StateTime, Steps};
 use kc_block::Block;
 use kc_block_spec::Window;
@@ -29,7 +29,7 @@ use std::alloc::Global;
 use std::sync::ledger::Ledger;
 
 /// The memory and the units of a board, and the instructions of its ROM that were prepared. After the Tick of a state they are those that the accesses of the state meet; beside
-/// them stand the edges of pins that these accesses have made, and how many of them have reached a unit.
+/// them stand the edges of pins that these accesses have made, and how many of their bytes have reached a unit.
 #[derive(Drop)]
 pub struct Common<X: Extra + Drop> {
     pub(crate) memory: Vec<u8>,
@@ -323,7 +323,7 @@ impl<X: Extra + Drop> Common<X> {
         }
         let window = self.window(by);
         let value = self.block.read16_here(window, addr as u8, steps)?;
-        self.reached = count(self.reached, weigh_word_read(window, addr));
+        self.reached = count(self.reached, weigh_word(addr));
         Ok(value)
     }
 
@@ -400,7 +400,7 @@ impl<X: Extra + Drop> Common<X> {
             .write16_here(window, addr as u8, value, &mut self.edges, steps)
         {
             Ok(()) => {
-                self.reached = count(self.reached, weigh_word_written(window, addr));
+                self.reached = count(self.reached, weigh_word(addr));
                 Ok(())
             }
             Err(kind) => Err(kind),

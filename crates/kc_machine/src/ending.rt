@@ -125,7 +125,7 @@ impl<X: Extra + Drop> Core<X> {
     /// Ends the run by an undefined use that is reported at an address.
     pub(crate) fn break_off(&mut self, addr: u16, kind: Kind) -> Record
         requires room { self.old.time < 2 ^ 63 }
-        ensures machine { stepped_of (machine_of self.new) (pins self.old.time self.new.bus.edges ++ result ∷ []) (4 * self.new.bus.reached) ≡ broken (machine_of self.old) (held_of self.old.bus) addr kind }
+        ensures machine { stepped_of (machine_of self.new) (pins self.old.time self.new.bus.edges ++ result ∷ []) self.new.bus.reached ≡ broken (machine_of self.old) (held_of self.old.bus) addr kind }
         ensures bus { self.new.bus ≡ self.old.bus }
         ensures going { self.new.going ≡ self.old.going }
         ensures time { self.new.time ≡ self.old.time + 1 }
@@ -177,7 +177,7 @@ impl<X: Extra + Drop> Core<X> {
         requires lives { self.old.ended ≡ None }
         requires room { self.old.time < 2 ^ 63 }
         requires scene { held_of self.old.bus ≡ scene_of (machine_of self.old) }
-        ensures ok { OnOk result (stepped_of (machine_of self.new) (pins self.old.time self.new.bus.edges) (4 * self.new.bus.reached) ≡ finished X.further (Executes ready.now.insn) (machine_of self.old)) }
+        ensures ok { OnOk result (stepped_of (machine_of self.new) (pins self.old.time self.new.bus.edges) self.new.bus.reached ≡ finished X.further (Executes ready.now.insn) (machine_of self.old)) }
         ensures err { IfErr result (λ kind. broken (machine_of self.new) (held_of self.new.bus) self.new.cpu.pc kind ≡ finished X.further (Executes ready.now.insn) (machine_of self.old)) }
         ensures within { WithinState self.old.bus self.new.bus steps.old steps.new }
         ensures time { OnOk result (self.new.time ≡ self.old.time + 1) }

@@ -50,7 +50,7 @@ impl<'a, X: Extra + Drop, L: Ledger, K: Began> Bus for Lent<'a, X, L, K> {
 
     ghost spent = { λ b. while_counted b.common.now.reached (max (b.steps.now + K.moves) (b.common.now.block.moves + K.steps)) };
 
-    ghost allowed = { λ s. 16 * s.reached };
+    ghost allowed = { λ s. 4 * s.reached };
 
     ghost lent = { λ b. b.common.ghost_name ∷ b.steps.ghost_name ∷ b.common.now.block.time ∷ [] };
 

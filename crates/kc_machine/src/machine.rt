@@ -9,6 +9,7 @@ ghost use Rattle.kc_block.specs.Lent.{IsLent};
 ghost use Rattle.kc_intc.specs.declared.requests.Choice.TheVariants.{Go};
 ghost use Rattle.kc_machine_spec.specs.Machine.{start, memory_of, asked, current};
 ghost use Rattle.kc_machine_spec.specs.Run.{run_to, end_of};
+ghost use Rattle.kc_machine_spec.specs.Work.{work_to};
 ghost use Rattle.kc_machine_spec.specs.Passing.{IsIdle, activity_end};
 ghost use Rattle.kc_machine_spec.specs.Peeking.{peeked, poked};
 ghost use Rattle.kc_machine_spec.specs.Text.{finals, HasRun};
@@ -163,9 +164,11 @@ impl<X: Extra + Drop> Machine<X> {
         self.core.idles_to(until)
     }
 
-    /// Goes on to the end of the run, or to the state `until` if that comes first, and writes what is printed on the way.
+    /// Goes on to the end of the run, or to the state `until` if that comes first, and writes what is printed on the way. Units
+    /// are called at most four times for each part of the run's touch, and so at most sixteen times for each part of its work.
     ///
     /// After a fault of the sink it stands at the end of the activity, or of the idle state, in whose lines the sink failed.
+    #[tactic(auto, using(kc_machine_spec::proofs::Works::touch_is_within_work))]
     pub fn run<S: Sink, L: Ledger>(
         &mut self,
         until: StateTime,
@@ -183,8 +186,10 @@ impl<X: Extra + Drop> Machine<X> {
         ensures stands { self.new.machine ≡ (run_to X.further self.new.machine.time self.old.machine).machine }
         ensures within { self.new.machine.time ≤ max until self.old.machine.time }
         ensures goes { self.old.machine.ended ≡ None → self.old.machine.time < until → self.old.machine.time < self.new.machine.time }
-        ensures spent { steps.new ≤ steps.old + 4 * (run_to X.further self.new.machine.time self.old.machine).work }
-        ensures moves { self.new.moves ≤ self.old.moves + 4 * (run_to X.further self.new.machine.time self.old.machine).work }
+        ensures spent { steps.new ≤ steps.old + 4 * (run_to X.further self.new.machine.time self.old.machine).touch }
+        ensures moves { self.new.moves ≤ self.old.moves + 4 * (run_to X.further self.new.machine.time self.old.machine).touch }
+        ensures worked { steps.new ≤ steps.old + 16 * work_to X.further self.new.machine.time self.old.machine }
+        ensures worked_moves { self.new.moves ≤ self.old.moves + 16 * work_to X.further self.new.machine.time self.old.machine }
     {
         self.core.run(until, out, steps)
     }
@@ -192,6 +197,7 @@ impl<X: Extra + Drop> Machine<X> {
     /// Goes on to the end of the present activity, or of the next one where none is under way, and writes what is printed
     /// on the way. Answers how the run has ended, or `None` while the machine lives; an ended machine writes nothing.
     /// After a fault of the sink it stands at the end of the activity too.
+    #[tactic(auto, using(kc_machine_spec::proofs::Works::touch_is_within_work))]
     pub fn step_activity<S: Sink, L: Ledger>(
         &mut self,
         out: &mut TraceOut<S>,
@@ -207,8 +213,10 @@ impl<X: Extra + Drop> Machine<X> {
         ensures written { OnOk result (out.new.failed ≡ false) }
         ensures counts { OnOk result (out.new.counts ≡ counted_all (run_to X.further (activity_end self.old.machine) self.old.machine).records out.old.counts) }
         ensures fails { OnErr result (FailsIn X.further (activity_end self.old.machine) self.old.machine (out_of S.written S.faults out.old) self.new.machine (out_of S.written S.faults out.new)) }
-        ensures spent { steps.new ≤ steps.old + 4 * (run_to X.further (activity_end self.old.machine) self.old.machine).work }
-        ensures moves { self.new.moves ≤ self.old.moves + 4 * (run_to X.further (activity_end self.old.machine) self.old.machine).work }
+        ensures spent { steps.new ≤ steps.old + 4 * (run_to X.further (activity_end self.old.machine) self.old.machine).touch }
+        ensures moves { self.new.moves ≤ self.old.moves + 4 * (run_to X.further (activity_end self.old.machine) self.old.machine).touch }
+        ensures worked { steps.new ≤ steps.old + 16 * work_to X.further (activity_end self.old.machine) self.old.machine }
+        ensures worked_moves { self.new.moves ≤ self.old.moves + 16 * work_to X.further (activity_end self.old.machine) self.old.machine }
     {
         self.core.step(out, steps)
     }

@@ -454,7 +454,7 @@ impl<X: Extra + Drop> Core<X> {
         ensures within { self.new.time ≤ max until self.old.time }
         ensures goes { self.old.ended ≡ None → self.old.time < until → self.old.time < self.new.time }
         ensures ready { IsReady self.new }
-        ensures costs { CostsAtMost (4 * (run_to X.further self.new.time (machine_of self.old)).work) steps.old steps.new self.old.bus.block.moves self.new.bus.block.moves }
+        ensures costs { CostsAtMost (4 * (run_to X.further self.new.time (machine_of self.old)).touch) steps.old steps.new self.old.bus.block.moves self.new.bus.block.moves }
     {
         let mut free = self.is_free();
         while self.time < until {

@@ -1,6 +1,6 @@
 // Which window a master sees, and as how many an access below 0018H counts.
-ghost use Rattle.std.specs.Prelude.{◌≡◌, ◌≤◌, is_some};
-ghost use Rattle.kc_block_spec.specs.Registers.{window_seen, bytes_read_everywhere, bytes_written_everywhere, words_read, words_written, row_at};
+ghost use Rattle.std.specs.Prelude.{◌≡◌, ◌≤◌};
+ghost use Rattle.kc_block_spec.specs.Registers.{window_seen, bytes_read_everywhere, bytes_written_everywhere};
 ghost use Rattle.kc_machine_spec.specs.Scene.{byte_weight, word_weight};
 
 use kc_block_spec::Window;
@@ -29,50 +29,10 @@ pub(crate) fn weigh_byte(addr: u16) -> u8
     }
 }
 
-fn is_readable_word(window: Window, addr: u16) -> bool
-    ensures { result ≡ is_some (row_at (words_read window) addr) }
-{
-    match window {
-        Window::Window0 => matches!(addr, 0x04 | 0x0A | 0x0C),
-        Window::Window1 => matches!(addr, 0x04 | 0x06),
-        Window::Window15 => addr == 0x0C,
-    }
-}
-
-fn is_writable_word(window: Window, addr: u16) -> bool
-    ensures { result ≡ is_some (row_at (words_written window) addr) }
-{
-    match window {
-        Window::Window0 => matches!(addr, 0x04 | 0x0C),
-        Window::Window1 => matches!(addr, 0x04 | 0x06),
-        Window::Window15 => false,
-    }
-}
-
-/// As how many a word read counts.
-pub(crate) fn weigh_word_read(window: Window, addr: u16) -> u8
-    ensures value { result ≡ word_weight (words_read window) addr }
+/// As how many a word access counts.
+pub(crate) fn weigh_word(addr: u16) -> u8
+    ensures value { result ≡ word_weight addr }
     ensures bound { result ≤ 2 }
 {
-    if addr < 2 {
-        0
-    } else if is_readable_word(window, addr) {
-        1
-    } else {
-        2
-    }
-}
-
-/// As how many a word write counts.
-pub(crate) fn weigh_word_written(window: Window, addr: u16) -> u8
-    ensures value { result ≡ word_weight (words_written window) addr }
-    ensures bound { result ≤ 2 }
-{
-    if addr < 2 {
-        0
-    } else if is_writable_word(window, addr) {
-        1
-    } else {
-        2
-    }
+    if addr < 2 { 0 } else { 2 }
 }

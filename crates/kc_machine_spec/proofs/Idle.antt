@@ -112,7 +112,7 @@ module _ {X : Type 0} (f : Further X) where
   pub run_to-rests : (until : ℕ) (m : Machine X) → IsIdle m → asked m ≡ Go → m.time < until → QuietFor (block_rule f) m.time (until - 1 - m.time) m.board.units → run_to f until m ≡ record {
     machine = at m until (after (block_rule f) m.time (until - m.time) m.board.units) None;
     records = edges_in f m.time (until - m.time) m.board.units;
-    work = touch f m.time (until - m.time) m.board.units;
+    touch = touch f m.time (until - m.time) m.board.units;
   }
   run_to-rests until m idle none ahead quiet =
       let n : ℕ = until - m.time in

@@ -31,15 +31,15 @@ pub same_stepped : {X : Type 0} (m n : Machine X) (xs ys : List Record) (v w : �
 same_stepped m n xs ys v w e h g = ap (λ k. stepped_of k xs v) e ∙ ap (λ l. stepped_of n l v) h ∙ ap (stepped_of n ys) g
 
 -- nothing comes after
-nothing-after : {X : Type 0} (s : Stepped X) → before s.records s.work (still s.machine) ≡ s
-nothing-after s = same_stepped s.machine s.machine _ _ _ _ refl (append-nil s.records) (let e : s.work + 0 ≡ s.work = omega arith in e)
+nothing-after : {X : Type 0} (s : Stepped X) → before s.records s.touch (still s.machine) ≡ s
+nothing-after s = same_stepped s.machine s.machine _ _ _ _ refl (append-nil s.records) (let e : s.touch + 0 ≡ s.touch = omega arith in e)
 
 nothing-before : {X : Type 0} (s : Stepped X) → before [] 0 s ≡ s
-nothing-before s = same_stepped s.machine s.machine s.records s.records _ _ refl refl (let e : 0 + s.work ≡ s.work = omega arith in e)
+nothing-before s = same_stepped s.machine s.machine s.records s.records _ _ refl refl (let e : 0 + s.touch ≡ s.touch = omega arith in e)
 
 -- what comes before, in two parts
 before-append : {X : Type 0} (xs : List Record) (v : ℕ) (ys : List Record) (w : ℕ) (s : Stepped X) → before xs v (before ys w s) ≡ before (xs ++ ys) (v + w) s
-before-append xs v ys w s = same_stepped s.machine s.machine _ _ _ _ refl (sym (append_assoc xs ys s.records)) (let e : v + (w + s.work) ≡ (v + w) + s.work = omega arith in e)
+before-append xs v ys w s = same_stepped s.machine s.machine _ _ _ _ refl (sym (append_assoc xs ys s.records)) (let e : v + (w + s.touch) ≡ (v + w) + s.touch = omega arith in e)
 
 pub same_at : {X : Type 0} (m : Machine X) (n k : ℕ) (x y : Units X) (u v : Option UnderWay) → n ≡ k → x ≡ y → u ≡ v → at m n x u ≡ at m k y v
 same_at m n k x y u v e h g = ap (λ i. at m i x u) e ∙ ap (λ z. at m k z u) h ∙ ap (λ w. at m k y w) g
@@ -118,8 +118,8 @@ module _ {X : Type 0} (f : Further X) where
   add_step a b m None h rest =
       let more : suc a + b ≡ suc (a + b) = omega arith in
       ap (λ k. run_for f k m) more ∙ run_for-suc (a + b) m h
-      ∙ ap (before (step f m).records (step f m).work) (rest (step f m).machine)
-      ∙ before-append (step f m).records (step f m).work (run_for f a (step f m).machine).records (run_for f a (step f m).machine).work (run_for f b (run_for f a (step f m).machine).machine)
+      ∙ ap (before (step f m).records (step f m).touch) (rest (step f m).machine)
+      ∙ before-append (step f m).records (step f m).touch (run_for f a (step f m).machine).records (run_for f a (step f m).machine).touch (run_for f b (run_for f a (step f m).machine).machine)
       ∙ sym (ap (λ s. and_then s (run_for f b)) (run_for-suc a m h))
 
   -- some states, and then some more
@@ -249,7 +249,7 @@ module _ {X : Type 0} (f : Further X) where
   pub run_to-cut : (until : ℕ) (m : Machine X) (a : UnderWay) → m.ended ≡ None → a ≡ current m → m.time < until → until - m.time < a.left → run_to f until m ≡ record {
     machine = at m until (after (block_rule f) m.time (until - m.time) m.board.units) (left_at a (a.left - (until - m.time)));
     records = edges_in f m.time (until - m.time) m.board.units;
-    work = touch f m.time (until - m.time) m.board.units;
+    touch = touch f m.time (until - m.time) m.board.units;
   }
   run_to-cut until m a lives same ahead more =
       let n : ℕ = until - m.time in
@@ -274,18 +274,18 @@ module _ {X : Type 0} (f : Further X) where
       ap (λ k. run_for f k m) sum ∙ run_for-add (mid - m.time) (until - mid) m
       ∙ ap (λ k. and_then (run_to f mid m) (run_for f k)) (ap (λ t. until - t) (sym at_mid))
 
-  -- the work of a run that goes on
-  pub run_to-work : (mid until : ℕ) (m n : Machine X) → m.time ≤ mid → mid ≤ until → n.time ≡ mid → n ≡ (run_to f mid m).machine → (run_to f until m).work ≡ (run_to f mid m).work + (run_to f until n).work
-  run_to-work mid until m n below above now same =
-      ap (λ (s : Stepped X). s.work) (run_to-append mid until m below above (ap (λ (k : Machine X). k.time) (sym same) ∙ now))
-      ∙ ap (λ k. (run_to f mid m).work + (run_to f until k).work) (sym same)
+  -- the touch of a run that goes on
+  pub run_to-touch : (mid until : ℕ) (m n : Machine X) → m.time ≤ mid → mid ≤ until → n.time ≡ mid → n ≡ (run_to f mid m).machine → (run_to f until m).touch ≡ (run_to f mid m).touch + (run_to f until n).touch
+  run_to-touch mid until m n below above now same =
+      ap (λ (s : Stepped X). s.touch) (run_to-append mid until m below above (ap (λ (k : Machine X). k.time) (sym same) ∙ now))
+      ∙ ap (λ k. (run_to f mid m).touch + (run_to f until k).touch) (sym same)
 
   -- a run that has ended, or has come to its state
   pub run_to-over : (mid until : ℕ) (m : Machine X) (how : End) → m.time ≤ mid → mid ≤ until → (run_to f mid m).machine.time ≡ mid → (run_to f mid m).machine.ended ≡ Some how → run_to f until m ≡ run_to f mid m
   run_to-over mid until m how below above at_mid over =
       let ran : Stepped X = run_to f mid m in
       run_to-append mid until m below above at_mid
-      ∙ ap (before ran.records ran.work) (run_for-ended (until - ran.machine.time) ran.machine how over)
+      ∙ ap (before ran.records ran.touch) (run_for-ended (until - ran.machine.time) ran.machine how over)
       ∙ nothing-after ran
 
   -- a run to the state where it begins
@@ -304,7 +304,7 @@ module _ {X : Type 0} (f : Further X) where
   finished-time Idles m = refl
   finished-time (Breaks kind) m = refl
 
-  stepped-time : (m : Machine X) (a : UnderWay) (last : Bool) → eqb a.left 1 ≡ last → (stepped f m a).machine.time ≡ m.time + 1
+  pub stepped-time : (m : Machine X) (a : UnderWay) (last : Bool) → eqb a.left 1 ≡ last → (stepped f m a).machine.time ≡ m.time + 1
   unfolding stepped
   stepped-time m a true e = rw e (finished-time a.doing (with_units m (tick f m.time m.board.units).units))
   stepped-time m a false e = rw e refl

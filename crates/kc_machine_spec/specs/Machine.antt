@@ -64,12 +64,12 @@ pub record Machine (X : Type 0) : Type 0 where
   pub under_way : Option UnderWay
   pub ended : Option End
 
--- a machine, what was printed on the way to it, and the touch of that way: the units that its Ticks have touched, and four
--- for each access that has reached a unit
+-- a machine, what was printed on the way to it, and the touch of that way: the units that its Ticks have touched, and one for
+-- each byte of an access that has reached a unit
 pub record Stepped (X : Type 0) : Type 0 where
   pub machine : Machine X
   pub records : List Record
-  pub work : ℕ
+  pub touch : ℕ
 
 -- the scene of a state before the accesses
 abbrev pub scene_of : {X : Type 0} → Machine X → Scene X
@@ -182,7 +182,7 @@ abbrev pub closed : {X : Type 0} → Machine X → Scene X → Cpu → Next → 
 closed machine scene cpu next records = record {
   machine = record { time = machine.time + 1; board = scene.board; cpu = cpu; held = next.held; going = next.going; under_way = None; ended = next.ended };
   records = pins machine.time scene.edges ++ records;
-  work = 4 * scene.reached;
+  touch = scene.reached;
 }
 
 -- an undefined use in this state, reported at an address
@@ -255,12 +255,12 @@ abbrev pub waiting : {X : Type 0} → UnderWay → Machine X → Stepped X
 waiting activity machine = record {
   machine = record machine { time = machine.time + 1; under_way = Some (record activity { left = activity.left - 1 }) };
   records = [];
-  work = 0;
+  touch = 0;
 }
 
--- these records and this work come before
+-- these records and this touch come before
 abbrev pub before : {X : Type 0} → List Record → ℕ → Stepped X → Stepped X
-before records work stepped = record { machine = stepped.machine; records = records ++ stepped.records; work = work + stepped.work }
+before records cost stepped = record { machine = stepped.machine; records = records ++ stepped.records; touch = cost + stepped.touch }
 
 -- the machine with other units
 abbrev pub with_units : {X : Type 0} → Machine X → Units X → Machine X

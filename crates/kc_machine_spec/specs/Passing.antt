@@ -17,7 +17,7 @@ abbrev pub at : {X : Type 0} → Machine X → ℕ → Units X → Option UnderW
 at m now units under_way = record m { time = now; board = record m.board { units = units }; under_way = under_way }
 
 abbrev pub stepped_of : {X : Type 0} → Machine X → List Record → ℕ → Stepped X
-stepped_of m records work = record { machine = m; records = records; work = work }
+stepped_of m records cost = record { machine = m; records = records; touch = cost }
 
 -- an activity with another number of states left
 abbrev pub left_at : UnderWay → ℕ → Option UnderWay

@@ -8,7 +8,7 @@ use Rattle.kc_machine_spec.specs.Machine.{Machine, Stepped, step, before}
 
 -- a machine that stands still
 abbrev pub still : {X : Type 0} → Machine X → Stepped X
-still machine = record { machine = machine; records = []; work = 0 }
+still machine = record { machine = machine; records = []; touch = 0 }
 
 -- a machine that has ended does nothing more
 abbrev pub unless_ended : {X : Type 0} → Option End → Machine X → (Machine X → Stepped X) → Stepped X
@@ -17,7 +17,7 @@ unless_ended None machine rest = rest machine
 
 -- a step, and then the rest
 abbrev pub and_then : {X : Type 0} → Stepped X → (Machine X → Stepped X) → Stepped X
-and_then stepped rest = before stepped.records stepped.work (rest stepped.machine)
+and_then stepped rest = before stepped.records stepped.touch (rest stepped.machine)
 
 -- how a run has ended
 abbrev pub end_of : {X : Type 0} → Machine X → End

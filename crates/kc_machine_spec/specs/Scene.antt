@@ -11,11 +11,11 @@ use Rattle.kc_exec_spec.specs.Memory.{if_even, reads, writes}
 use Rattle.kc_extra.specs.Further.{Further}
 use Rattle.kc_block_spec.specs.declared.registers.Window.{Window}
 use Rattle.kc_block_spec.specs.Units.{Units}
-use Rattle.kc_block_spec.specs.Registers.{window_seen, bytes_read_everywhere, bytes_written_everywhere, words_read, words_written, row_at}
+use Rattle.kc_block_spec.specs.Registers.{window_seen, bytes_read_everywhere, bytes_written_everywhere, row_at}
 use Rattle.kc_block_spec.specs.Accesses.{byte_read, after_byte_read, byte_written, word_read, after_word_read, word_written, latch_edges, ◌>>=◌}
 use Rattle.kc_machine_spec.specs.Board.{Board, masks_of, with_masks}
 
--- the board in a state, after its Tick; the edges of pins that accesses have made in that state, and how many of them
+-- the board in a state, after its Tick; the edges of pins that accesses have made in that state, and how many of their bytes
 -- have reached a unit
 pub record Scene (X : Type 0) : Type 0 where
   pub time : ℕ
@@ -54,9 +54,9 @@ put s addr n = record s { board = record s.board { memory = slice_set s.board.me
 abbrev pub byte_weight : {R : Type 0} → List (ℕ × R) → ℕ → ℕ
 byte_weight everywhere addr = if is_some (row_at everywhere addr) then 0 else 1
 
--- a word that is no word register is two bytes; the one at 0000H reaches nothing
-abbrev pub word_weight : {R : Type 0} → List (ℕ × R) → ℕ → ℕ
-word_weight words addr = if nat_lt addr 2 then 0 else if is_some (row_at words addr) then 1 else 2
+-- a word is two bytes, whether a word register or not; the one at 0000H reaches nothing
+abbrev pub word_weight : ℕ → ℕ
+word_weight addr = if nat_lt addr 2 then 0 else 2
 
 -- the window in which an access is made
 abbrev pub window_at : {X : Type 0} → Scene X → Master → Window
@@ -79,9 +79,9 @@ module _ {X : Type 0} (f : Further X) where
 
   abbrev pub after_by : Keeping → Scene X → Access → Scene X
   after_by keeping s (ReadByte by addr) = if nat_lt addr 24 then with_units keeping s (after_byte_read f s.time (window_at s by) s.board.units addr) (byte_weight bytes_read_everywhere addr) else s
-  after_by keeping s (ReadWord by addr) = if nat_lt addr 24 then with_units keeping s (after_word_read f s.time (window_at s by) s.board.units addr) (word_weight (words_read (window_at s by)) addr) else s
+  after_by keeping s (ReadWord by addr) = if nat_lt addr 24 then with_units keeping s (after_word_read f s.time (window_at s by) s.board.units addr) (word_weight addr) else s
   after_by keeping s (WriteByte by addr n) = if nat_lt addr 24 then with_units keeping s (kept s.board.units (byte_written f s.time (window_at s by) s.board.units addr n)) (byte_weight bytes_written_everywhere addr) else put s addr n
-  after_by keeping s (WriteWord by addr n) = if nat_lt addr 24 then with_units keeping s (kept s.board.units (word_written f s.time (window_at s by) s.board.units addr n)) (word_weight (words_written (window_at s by)) addr) else put (put s addr (n % 256)) (addr + 1) (n / 256)
+  after_by keeping s (WriteWord by addr n) = if nat_lt addr 24 then with_units keeping s (kept s.board.units (word_written f s.time (window_at s by) s.board.units addr n)) (word_weight addr) else put (put s addr (n % 256)) (addr + 1) (n / 256)
   after_by keeping s (SetMasks m) = with_units keeping s (with_masks s.board.units m) 0
 
   abbrev pub meaning_by : Keeping → Meaning (Scene X)

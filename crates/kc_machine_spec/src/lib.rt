@@ -6,4 +6,4 @@ mod doing;
 mod laws;
 
 pub use doing::{Activity, End, Going, Next, UnderWay};
-pub use laws::{idle_span, part_of_activity, whole_activity};
+pub use laws::{idle_span, part_of_activity, touch_is_within_work, whole_activity};

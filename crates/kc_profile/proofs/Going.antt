@@ -10,7 +10,7 @@ use Rattle.kc_machine_spec.specs.declared.doing.End.{End}
 use Rattle.kc_machine_spec.specs.Machine.{Machine, Stepped}
 use Rattle.kc_machine_spec.specs.Passing.{activity_end}
 use Rattle.kc_machine_spec.specs.Run.{and_then, run_to}
-use Rattle.kc_machine_spec.proofs.Runs.{run_to-append, run_to-still, run_to-work}
+use Rattle.kc_machine_spec.proofs.Runs.{run_to-append, run_to-still, run_to-touch}
 use Rattle.kc_machine_spec.proofs.Coming.{Came, Came-first, Came-next, Came-far, Came-over}
 use Rattle.kc_machine.specs.Failing.{FailsIn}
 use Rattle.kc_machine.specs.Stepping.{IsBrief, IdlesFor}
@@ -134,8 +134,8 @@ module _ {X : Type 0} (f : Further X) where
   pub record Along (until : ℕ) (m0 : Machine X) (o0 : Out) (t0 : Tally) (s0 v0 : ℕ) (m : Machine X) (o : Out) (t : Tally) (s v : ℕ) : Type 0 where
     pub came : Came f m0 o0 m o
     pub within : m.time ≤ max until m0.time
-    pub steps : s ≤ s0 + 4 * (run_to f m.time m0).work
-    pub moves : v ≤ v0 + 4 * (run_to f m.time m0).work
+    pub steps : s ≤ s0 + 4 * (run_to f m.time m0).touch
+    pub moves : v ≤ v0 + 4 * (run_to f m.time m0).touch
     pub tally : (before : List Spot) → IsTallyOf before t0 → IsTallyOf (before ++ spots_for f (m.time - m0.time) m0) t
     pub states : length (spots_for f (m.time - m0.time) m0) ≡ m.time - m0.time
     pub sum : total t ≡ total t0 + (m.time - m0.time)
@@ -155,13 +155,13 @@ module _ {X : Type 0} (f : Further X) where
       }
 
   pub along-next : (until : ℕ) (m0 : Machine X) (o0 : Out) (t0 : Tally) (s0 v0 : ℕ) (m : Machine X) (o : Out) (t : Tally) (s v : ℕ) (n : Machine X) (p : Out) (u : Tally) (r w : ℕ) →
-      Along until m0 o0 t0 s0 v0 m o t s v → Passed f until m o n p → r ≤ s + 4 * (run_to f n.time m).work → w ≤ v + 4 * (run_to f n.time m).work →
+      Along until m0 o0 t0 s0 v0 m o t s v → Passed f until m o n p → r ≤ s + 4 * (run_to f n.time m).touch → w ≤ v + 4 * (run_to f n.time m).touch →
       ((before : List Spot) → IsTallyOf before t → IsTallyOf (before ++ replicate (n.time - m.time) (coming_spot m)) u) → total u ≡ total t + (n.time - m.time) →
       Along until m0 o0 t0 s0 v0 n p u r w
   along-next until m0 o0 t0 s0 v0 m o t s v n p u r w along passed steps moves tally sum =
       let came = along.came in
       let spots = spots-next until m0 o0 m o n p came passed in
-      let work = run_to-work f m.time n.time m0 m came.forward (omega (arith, passed.forward)) refl came.machine in
+      let cost = run_to-touch f m.time n.time m0 m came.forward (omega (arith, passed.forward)) refl came.machine in
       let longer : length (spots_for f (n.time - m0.time) m0) ≡ (m.time - m0.time) + (n.time - m.time) =
       ap length spots ∙ length-append (spots_for f (m.time - m0.time) m0) (replicate (n.time - m.time) (coming_spot m))
       ∙ ap (λ i. i + length (replicate (n.time - m.time) (coming_spot m))) along.states
@@ -170,8 +170,8 @@ module _ {X : Type 0} (f : Further X) where
       record {
         came = Came-next f m0 o0 m o n p came passed.forward passed.machine passed.lines;
         within = omega (arith, passed.within);
-        steps = omega (arith, along.steps, steps, work);
-        moves = omega (arith, along.moves, moves, work);
+        steps = omega (arith, along.steps, steps, cost);
+        moves = omega (arith, along.moves, moves, cost);
         tally = λ before is. subst (λ xs. IsTallyOf xs u)
             (append_assoc before (spots_for f (m.time - m0.time) m0) (replicate (n.time - m.time) (coming_spot m)) ∙ ap (λ xs. before ++ xs) (sym spots))
             (tally (before ++ spots_for f (m.time - m0.time) m0) (along.tally before is));

@@ -27,5 +27,5 @@ module _ {X : Type 0} (f : Further X) where
   pub record Went {A : Type 0} (until : ℕ) (result : Result A WriteFault) (m : Whole X) (o : Out) (before : ℕ) (n : Whole X) (p : Out) (after : ℕ) : Type 0 where
     pub passed : Passed until m.machine o n.machine p
     pub fails : OnErr result (FailsIn f until m.machine o n.machine p)
-    pub costs : CostsAtMost (4 * (run_to f n.machine.time m.machine).work) before after m.moves n.moves
+    pub costs : CostsAtMost (4 * (run_to f n.machine.time m.machine).touch) before after m.moves n.moves
     pub written : OnOk result (p.failed ≡ false)

@@ -39,8 +39,8 @@ fn go_to<X: Extra + Drop, S: Sink, L: Ledger>(
     ensures machine { machine.new.machine ≡ (run_to X.further machine.new.machine.time machine.old.machine).machine }
     ensures lines { Prints (out_of S.written S.faults out.old) (run_to X.further machine.new.machine.time machine.old.machine).records (out_of S.written S.faults out.new) }
     ensures fails { OnErr result (FailsIn X.further stop machine.old.machine (out_of S.written S.faults out.old) machine.new.machine (out_of S.written S.faults out.new)) }
-    ensures spent { steps.new ≤ steps.old + 4 * (run_to X.further machine.new.machine.time machine.old.machine).work }
-    ensures moves { machine.new.moves ≤ machine.old.moves + 4 * (run_to X.further machine.new.machine.time machine.old.machine).work }
+    ensures spent { steps.new ≤ steps.old + 4 * (run_to X.further machine.new.machine.time machine.old.machine).touch }
+    ensures moves { machine.new.moves ≤ machine.old.moves + 4 * (run_to X.further machine.new.machine.time machine.old.machine).touch }
     ensures written { OnOk result (out.new.failed ≡ false) }
 {
     match machine.run(stop, out, steps) {
@@ -178,8 +178,8 @@ pub fn run_profiled<X: Extra + Drop, S: Sink, L: Ledger>(
     ensures stands { machine.new.machine ≡ (run_to X.further machine.new.machine.time machine.old.machine).machine }
     ensures within { machine.new.machine.time ≤ max until machine.old.machine.time }
     ensures goes { machine.old.machine.ended ≡ None → machine.old.machine.time < until → machine.old.machine.time < machine.new.machine.time }
-    ensures spent { steps.new ≤ steps.old + 4 * (run_to X.further machine.new.machine.time machine.old.machine).work }
-    ensures moves { machine.new.moves ≤ machine.old.moves + 4 * (run_to X.further machine.new.machine.time machine.old.machine).work }
+    ensures spent { steps.new ≤ steps.old + 4 * (run_to X.further machine.new.machine.time machine.old.machine).touch }
+    ensures moves { machine.new.moves ≤ machine.old.moves + 4 * (run_to X.further machine.new.machine.time machine.old.machine).touch }
     ensures profile { (before : List spots.Spot) → IsTallyOf before profile.old → IsTallyOf (before ++ spots_for X.further (machine.new.machine.time - machine.old.machine.time) machine.old.machine) profile.new }
     ensures all { OnOk result (spots_for X.further (until - machine.old.machine.time) machine.old.machine ≡ spots_for X.further (machine.new.machine.time - machine.old.machine.time) machine.old.machine) }
     ensures passed { length (spots_for X.further (machine.new.machine.time - machine.old.machine.time) machine.old.machine) ≡ machine.new.machine.time - machine.old.machine.time }

@@ -1,6 +1,9 @@
-//! Tests of the units of the board, each over the public calls of its crate, and of what no program shows of instructions.
+//! Tests of the units of the board, each over the public calls of its crate, and of what no program shows of instructions,
+//! over the bus without units too.
 #![tactic(auto)]
 
+#[cfg(test)]
+mod bus;
 #[cfg(test)]
 mod convert;
 #[cfg(test)]

@@ -1,5 +1,5 @@
 use Rattle.std.proofs.Common.{sym, ◌∙◌, Some, None, ◌-◌, ◌%◌}
-use Rattle.kc_block_spec.specs.Accesses.{byte_written, word_written}
+use Rattle.kc_block_spec.specs.Accesses.{byte_written, even_word_written}
 use Rattle.kc_block_lazy.specs.Lanes.{shown_units, IsLeft}
 use Rattle.kc_block_lanes.specs.Standing.{standing}
 use Rattle.kc_block_access.proofs.Outcomes.{answer_of, none_of_refused}
@@ -13,7 +13,7 @@ returns-in-Some-clause-answer g c =
 
 pub returns-in-Some-clause-left : goal.returns-in-Some-clause-left
 returns-in-Some-clause-left g c =
-    none_of_refused _ (word_written g.X.Extra.further (c.args.now - 1) c.args.window (shown_units g.X.Extra.further (standing g.X.Extra.plain c.args.lanes.now) c.args.now) c.args.sfr c.args.value) c.in-Some.kind
+    none_of_refused _ (even_word_written g.X.Extra.further (c.args.now - 1) c.args.window (shown_units g.X.Extra.further (standing g.X.Extra.plain c.args.lanes.now) c.args.now) c.args.sfr c.args.value) c.in-Some.kind
     (refused_low g.X.Extra.further g.X.Extra.agrees (c.args.now - 1) c.args.window (shown_units g.X.Extra.further (standing g.X.Extra.plain c.args.lanes.now) c.args.now) c.args.sfr c.args.value c.requires.two c.in-Some.kind
     (sym c.in-Some.is ∙ c.write_refusal.ensures (c.args.now - 1)))
 
@@ -24,7 +24,7 @@ returns-in-Some-write_refusal-clause-answer g c =
 
 pub returns-in-Some-write_refusal-clause-left : goal.returns-in-Some-write_refusal-clause-left
 returns-in-Some-write_refusal-clause-left g c =
-    none_of_refused _ (word_written g.X.Extra.further (c.args.now - 1) c.args.window (shown_units g.X.Extra.further (standing g.X.Extra.plain c.args.lanes.now) c.args.now) c.args.sfr c.args.value) c.in-Some-write_refusal.kind
+    none_of_refused _ (even_word_written g.X.Extra.further (c.args.now - 1) c.args.window (shown_units g.X.Extra.further (standing g.X.Extra.plain c.args.lanes.now) c.args.now) c.args.sfr c.args.value) c.in-Some-write_refusal.kind
     (refused_high g.X.Extra.further g.X.Extra.agrees (c.args.now - 1) c.args.window (shown_units g.X.Extra.further (standing g.X.Extra.plain c.args.lanes.now) c.args.now) c.args.sfr c.args.value c.requires.two (Some c.in-Some-write_refusal.kind)
     (sym c.in_default.is ∙ c.write_refusal.ensures (c.args.now - 1)) (sym c.in-Some-write_refusal.is ∙ c.write_refusal-2.ensures (c.args.now - 1)))
 

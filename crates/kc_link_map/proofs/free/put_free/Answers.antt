@@ -1,4 +1,4 @@
-use Rattle.std.proofs.Common.{◌≡◌, ◌+◌, ◌-◌, ◌++◌, ℕ, Bool, sym, ◌∙◌, arith}
+use Rattle.std.proofs.Common.{◌≡◌, ◌+◌, ◌-◌, ◌++◌, ◌&&◌, not, false, get_or, ℕ, Bool, sym, ◌∙◌, arith}
 use Rattle.std.specs.Prelude.{OnOk, Ok, Err}
 use Rattle.kc_link_map.specs.Free as spec
 use Rattle.kc_link_map.specs.Map as map
@@ -11,7 +11,7 @@ loop-at-preserved c =
     let end = c.from-end.result + 1 in
     let at = c.loop-at.at in
     let word = c.args.word.now in
-    let free : ℕ → Bool = spec.is_free c.args.modules.now c.args.placed.now c.args.stack.first c.args.stack.size in
+    let free : ℕ → Bool = λ a. not (spec.covers c.args.stack.first c.args.stack.size a) && not (get_or c.args.taken.now a false) in
     let all = c.args.text.now.items ++ map.free_lines word (spec.free_runs free (c.args.range.1 + 1 - c.args.range.0) c.args.range.0 0) in
     elim c.if-is_free.branch [
       | then-is_free w ↦ record {
@@ -30,7 +30,7 @@ pub returns : goal.returns
 returns c =
     let end = c.from-end.result + 1 in
     let word = c.args.word.now in
-    let free : ℕ → Bool = spec.is_free c.args.modules.now c.args.placed.now c.args.stack.first c.args.stack.size in
+    let free : ℕ → Bool = λ a. not (spec.covers c.args.stack.first c.args.stack.size a) && not (get_or c.args.taken.now a false) in
     let all = c.args.text.now.items ++ map.free_lines word (spec.free_runs free (c.args.range.1 + 1 - c.args.range.0) c.args.range.0 0) in
     let is_end : c.loop-at.at ≡ end = omega (arith, c.loop-at-test.false, c.loop-at.invariant.ahead) in
     let ends : c.loop-at.text.items ++ map.free_lines word (spec.run end c.loop-at.length) ≡ all = text_ends word c.loop-at.text.items all free end c.loop-at.at c.loop-at.length is_end c.loop-at.invariant.goes_on in

@@ -14,8 +14,8 @@ returns-in-Ok g c =
             (printed _ _ _ went.lines c.in-Ok.ensures.counts);
         fails = tt;
         costs = record {
-          spent = subst (λ (i : ℕ). c.step_activity.new.steps ≤ c.args.steps.now + 4 * (run_to g.X.Extra.further i c.args.machine.now.machine).work) (sym (went.time lives)) went.spent;
-          moves = subst (λ (i : ℕ). c.step_activity.new.self.moves ≤ c.args.machine.now.moves + 4 * (run_to g.X.Extra.further i c.args.machine.now.machine).work) (sym (went.time lives)) went.moves;
+          spent = subst (λ (i : ℕ). c.step_activity.new.steps ≤ c.args.steps.now + 4 * (run_to g.X.Extra.further i c.args.machine.now.machine).touch) (sym (went.time lives)) went.spent;
+          moves = subst (λ (i : ℕ). c.step_activity.new.self.moves ≤ c.args.machine.now.moves + 4 * (run_to g.X.Extra.further i c.args.machine.now.machine).touch) (sym (went.time lives)) went.moves;
         };
         written = c.in-Ok.ensures.written;
       };
@@ -31,8 +31,8 @@ returns-in-Err g c =
             (broken-off _ _ _ went.lines c.in-Err.ensures.fails.failed);
         fails = fails-activity g.X.Extra.further c.args.until c.args.machine.now.machine _ c.step_activity.new.self.machine _ lives c.requires.within (went.time lives) c.in-Err.ensures.fails;
         costs = record {
-          spent = subst (λ (i : ℕ). c.step_activity.new.steps ≤ c.args.steps.now + 4 * (run_to g.X.Extra.further i c.args.machine.now.machine).work) (sym (went.time lives)) went.spent;
-          moves = subst (λ (i : ℕ). c.step_activity.new.self.moves ≤ c.args.machine.now.moves + 4 * (run_to g.X.Extra.further i c.args.machine.now.machine).work) (sym (went.time lives)) went.moves;
+          spent = subst (λ (i : ℕ). c.step_activity.new.steps ≤ c.args.steps.now + 4 * (run_to g.X.Extra.further i c.args.machine.now.machine).touch) (sym (went.time lives)) went.spent;
+          moves = subst (λ (i : ℕ). c.step_activity.new.self.moves ≤ c.args.machine.now.moves + 4 * (run_to g.X.Extra.further i c.args.machine.now.machine).touch) (sym (went.time lives)) went.moves;
         };
         written = tt;
       };

@@ -1,4 +1,8 @@
-use Rattle.std.proofs.Common.{arith, ap}
+use Rattle.std.proofs.Common.{◌≡◌, ◌-◌, arith, ap, subst}
+use Rattle.std.specs.Prelude.{OnOk}
+use Rattle.kc_block_spec.specs.Accesses.{after_word_read}
+use Rattle.kc_block_lazy.specs.Lanes.{shown_units}
+use Rattle.kc_block_lanes.specs.Standing.{standing}
 use Rattle.kc_block.proofs.Calls.{word_few}
 use Rattle.kc_block.proofs.block.Block.read16_here.Goals as goal
 
@@ -10,3 +14,8 @@ returns-clause-moves g c =
     let few = word_few c.args.sfr in
     let seen = ap (λ s. s.moves) c.self.view_is in
     omega (arith, c.read16.ensures.costs.moves)
+
+pub returns-clause-ok : goal.returns-clause-ok
+returns-clause-ok g c =
+    subst (λ s. OnOk c.read16.result (shown_units g.X.Extra.further (standing g.X.Extra.plain c.read16.new.lanes) c.self.inside.time ≡ after_word_read g.X.Extra.further (s.time - 1) c.args.window s.units c.args.sfr))
+    c.self.view_is c.read16.ensures.units

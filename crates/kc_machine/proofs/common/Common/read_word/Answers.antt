@@ -1,4 +1,4 @@
-use Rattle.std.proofs.Common.{◌-◌, ◌<◌, ap, sym, subst, arith, rules}
+use Rattle.std.proofs.Common.{◌-◌, ◌≤◌, ap, sym, subst, arith, rules}
 use Rattle.std.proofs.lemmas.Grind.{common_steps}
 use Rattle.kc_machine.specs.Bus.{held_of}
 use Rattle.kc_machine.proofs.Noting.{word-was-read, word-counts, word-some, zeros-were-read}
@@ -10,12 +10,12 @@ returns-then-addr-lt2-clause-ok g c = zeros-were-read g.X.Extra.further (held_of
 pub returns-clause-ok : goal.returns-clause-ok
 returns-clause-ok g c =
     word-was-read g.X.Extra.further (held_of c.args.self.now) c.args.by c.args.addr c.window-window.result _ _ _ c.requires.register c.window-window.ensures
-    c.in_ok-value.ensures.ok (ap (λ t. t - 1) c.read16_here.ensures.time) (rw c.weigh_word_read.ensures.value at c.count-self.ensures)
+    c.in_ok-value.ensures.ok (ap (λ t. t - 1) c.read16_here.ensures.time) (rw c.weigh_word.ensures.value at c.count-self.ensures)
 
 pub returns-clause-counts : goal.returns-clause-counts
 returns-clause-counts g c = record {
   time = first_of (search rules, grind (arith, common_steps));
   later = first_of (search rules, grind (arith, common_steps));
-  steps = word-counts c.weigh_word_read.result _ _ _ _ (subst (λ n. 0 < n) (sym c.weigh_word_read.ensures.value) (word-some _ _ c.if-addr-lt2.false)) c.read16_here.ensures.steps c.count-self.ensures;
-  moves = word-counts c.weigh_word_read.result _ _ _ _ (subst (λ n. 0 < n) (sym c.weigh_word_read.ensures.value) (word-some _ _ c.if-addr-lt2.false)) c.read16_here.ensures.moves c.count-self.ensures;
+  steps = word-counts c.weigh_word.result _ _ _ _ (subst (λ n. 2 ≤ n) (sym c.weigh_word.ensures.value) (word-some _ c.if-addr-lt2.false)) c.read16_here.ensures.steps c.count-self.ensures;
+  moves = word-counts c.weigh_word.result _ _ _ _ (subst (λ n. 2 ≤ n) (sym c.weigh_word.ensures.value) (word-some _ c.if-addr-lt2.false)) c.read16_here.ensures.moves c.count-self.ensures;
 }

@@ -12,7 +12,7 @@ pub returns-clause-goes : goal.returns-clause-goes
 returns-clause-goes g c =
     let led = c.finish-last.ensures.over.machine ∙ ap (finished g.X.Extra.further c.args.activity.doing) (rw c.from-left.ensures at c.advance.ensures.goes.machine) in
     let edges : List Record = edges_in g.X.Extra.further c.args.self.now.time c.args.activity.left c.args.self.now.bus.block.units in
-    let work = ap (λ (s : Stepped _). s.work) led in
+    let cost = ap (λ (s : Stepped _). s.touch) led in
     let ticks = rw c.from-left.ensures at c.advance.ensures.goes.costs in
     record {
       machine = ap (λ (s : Stepped _). s.machine) led;
@@ -20,7 +20,7 @@ returns-clause-goes g c =
           (Prints-append _ edges _ (pins c.advance.new.self.time c.finish-last.new.self.bus.edges ++ option_to_list c.finish-last.result) _ (rw c.from-left.ensures at c.advance.ensures.goes.lines)
           (Prints-append _ (pins c.advance.new.self.time c.finish-last.new.self.bus.edges) _ (option_to_list c.finish-last.result) _ c.put_edges.ensures c.put_last.ensures));
       costs = record {
-        spent = omega (arith, work, ticks.spent, c.finish-last.ensures.within.costs.spent);
-        moves = omega (arith, work, ticks.moves, c.finish-last.ensures.within.costs.moves);
+        spent = omega (arith, cost, ticks.spent, c.finish-last.ensures.within.costs.spent);
+        moves = omega (arith, cost, ticks.moves, c.finish-last.ensures.within.costs.moves);
       };
     }

@@ -21,15 +21,15 @@ pub returns-in-Ok-clause-goes : goal.returns-in-Ok-clause-goes
 returns-in-Ok-clause-goes g c =
     let led = c.in-Ok.ensures.ok ∙ ap (finished g.X.Extra.further (Executes c.args.ready.now.insn)) (rw c.from-left.ensures at c.advance.ensures.goes.machine) in
     let edges : List Record = edges_in g.X.Extra.further c.args.self.now.time c.args.states c.args.self.now.bus.block.units in
-    let work = ap (λ (s : Stepped _). s.work) led in
+    let cost = ap (λ (s : Stepped _). s.touch) led in
     let ticks = rw c.from-left.ensures at c.advance.ensures.goes.costs in
     record {
       machine = ap (λ (s : Stepped _). s.machine) led;
       lines = subst (λ (s : Stepped _). Prints (out_of g.S.Sink.written g.S.Sink.faults c.args.out.now) (edges ++ s.records) (out_of g.S.Sink.written g.S.Sink.faults c.put_edges.new.out)) led
           (Prints-append _ edges _ (pins c.advance.new.self.time c.execute_ready.new.self.bus.edges) _ (rw c.from-left.ensures at c.advance.ensures.goes.lines) c.put_edges.ensures);
       costs = record {
-        spent = omega (arith, work, ticks.spent, c.execute_ready.ensures.within.costs.spent);
-        moves = omega (arith, work, ticks.moves, c.execute_ready.ensures.within.costs.moves);
+        spent = omega (arith, cost, ticks.spent, c.execute_ready.ensures.within.costs.spent);
+        moves = omega (arith, cost, ticks.moves, c.execute_ready.ensures.within.costs.moves);
       };
     }
 
@@ -43,7 +43,7 @@ pub returns-in-Err-clause-goes : goal.returns-in-Err-clause-goes
 returns-in-Err-clause-goes g c =
     let led = c.in-Err.ensures.err ∙ ap (finished g.X.Extra.further (Executes c.args.ready.now.insn)) (rw c.from-left.ensures at c.advance.ensures.goes.machine) in
     let edges : List Record = edges_in g.X.Extra.further c.args.self.now.time c.args.states c.args.self.now.bus.block.units in
-    let work = ap (λ (s : Stepped _). s.work) led in
+    let cost = ap (λ (s : Stepped _). s.touch) led in
     let ticks = rw c.from-left.ensures at c.advance.ensures.goes.costs in
     let same = moves-same c.execute_ready.new.self.bus c.put_refusal.new.self.bus c.put_refusal.ensures.bus in
     record {
@@ -51,8 +51,8 @@ returns-in-Err-clause-goes g c =
       lines = subst (λ (s : Stepped _). Prints (out_of g.S.Sink.written g.S.Sink.faults c.args.out.now) (edges ++ s.records) (out_of g.S.Sink.written g.S.Sink.faults c.put_refusal.new.out)) led
           (Prints-append _ edges _ (broken (machine_of c.execute_ready.new.self) (held_of c.execute_ready.new.self.bus) c.execute_ready.new.self.cpu.pc c.in-Err.kind).records _ (rw c.from-left.ensures at c.advance.ensures.goes.lines) c.put_refusal.ensures.lines);
       costs = record {
-        spent = omega (arith, work, ticks.spent, c.execute_ready.ensures.within.costs.spent);
-        moves = omega (arith, work, ticks.moves, c.execute_ready.ensures.within.costs.moves, same);
+        spent = omega (arith, cost, ticks.spent, c.execute_ready.ensures.within.costs.spent);
+        moves = omega (arith, cost, ticks.moves, c.execute_ready.ensures.within.costs.moves, same);
       };
     }
 

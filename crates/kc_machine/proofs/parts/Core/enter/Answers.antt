@@ -22,7 +22,7 @@ returns-in-Ok-clause-over g c =
     ∙ c.in-Ok.ensures.effect.0 in
     record {
       machine =
-          ap (λ (core : Core _ _). stepped_of (machine_of core) (pins m.time core.bus.edges ++ (Entered m.time c.args.number m.cpu.pc ∷ [])) (4 * core.bus.reached)) c.close.ensures
+          ap (λ (core : Core _ _). stepped_of (machine_of core) (pins m.time core.bus.edges ++ (Entered m.time c.args.number m.cpu.pc ∷ [])) core.bus.reached) c.close.ensures
           ∙ ap (λ next. closed m (held_of c.take.new.self) c.enter_over.new.cpu next (Entered m.time c.args.number m.cpu.pc ∷ [])) c.hold.ensures
           ∙ ap (λ scene. closed m scene c.enter_over.new.cpu holding (Entered m.time c.args.number m.cpu.pc ∷ [])) c.take.ensures.scene
           ∙ entry-made g.X.Extra.further c.args.number m s c.enter_over.new.cpu led c.in-Ok.ensures.effect.1;

@@ -20,7 +20,7 @@ returns-in-Ok-clause-over g c =
     ap (run (bus_meaning g.X.Extra.further) (effect_of c.args.insn.now m.cpu)) (sym c.requires.last.scene) ∙ c.in-Ok.ensures.effect in
     record {
       machine =
-          ap (λ (core : Core _ _). stepped_of (machine_of core) (pins m.time core.bus.edges ++ option_to_list c.own_record-own.result) (4 * core.bus.reached)) c.close.ensures
+          ap (λ (core : Core _ _). stepped_of (machine_of core) (pins m.time core.bus.edges ++ option_to_list c.own_record-own.result) core.bus.reached) c.close.ensures
           ∙ ap (λ next. closed m s c.perform_over.new.cpu next (option_to_list c.own_record-own.result)) c.follow.ensures.value
           ∙ ap (λ records. closed m s c.perform_over.new.cpu (next_after c.args.insn.now c.in-Ok.after) records) c.own_record-own.ensures.value
           ∙ executed g.X.Extra.further c.args.insn.now m s c.in-Ok.after c.perform_over.new.cpu led;

@@ -19,7 +19,7 @@ returns-in-Ok-clause-over g c =
     ap (run (bus_meaning g.X.Extra.further) (moved_word c.args.insn.now c.args.words m.cpu)) (sym c.requires.last.scene) ∙ c.in-Ok.ensures.effect in
     record {
       machine =
-          ap (λ (core : Core _ _). stepped_of (machine_of core) (pins m.time core.bus.edges ++ []) (4 * core.bus.reached)) c.close.ensures
+          ap (λ (core : Core _ _). stepped_of (machine_of core) (pins m.time core.bus.edges ++ []) core.bus.reached) c.close.ensures
           ∙ ap (λ next. closed m s c.move_over.new.cpu next []) c.follow.ensures.value
           ∙ moved g.X.Extra.further c.args.insn.now c.args.words m s c.in-Ok.after c.move_over.new.cpu led;
       time = first_of (search rules, grind (arith, common_steps));

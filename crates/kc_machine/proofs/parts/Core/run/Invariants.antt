@@ -14,7 +14,7 @@ invariant-loop-self g l = record {
   came : Came g.X.Extra.further (machine_of l.initial.self) (out_of g.S.Sink.written g.S.Sink.faults l.initial.out) (machine_of l.self) (out_of g.S.Sink.written g.S.Sink.faults l.out);
   within : l.self.time ≤ max l.until l.initial.self.time;
   unbroken : l.out.failed ≡ false;
-  costs : CostsAtMost (4 * (run_to g.X.Extra.further l.self.time (machine_of l.initial.self)).work) l.initial.steps l.steps l.initial.self.bus.block.moves l.self.bus.block.moves;
+  costs : CostsAtMost (4 * (run_to g.X.Extra.further l.self.time (machine_of l.initial.self)).touch) l.initial.steps l.steps l.initial.self.bus.block.moves l.self.bus.block.moves;
   ready : IsReady l.self;
   free : OnTrue l.free (IsFree (machine_of l.self));
 }

@@ -19,7 +19,7 @@ returns-in-Ok-clause-over g c =
     ap (run (bus_meaning g.X.Extra.further) (set_up c.args.number)) (sym c.requires.last.scene) ∙ c.in-Ok.ensures.gives in
     record {
       machine =
-          ap (λ (core : Core _ _). stepped_of (machine_of core) (pins m.time core.bus.edges ++ []) (4 * core.bus.reached)) c.close.ensures
+          ap (λ (core : Core _ _). stepped_of (machine_of core) (pins m.time core.bus.edges ++ []) core.bus.reached) c.close.ensures
           ∙ ap (λ next. closed m (held_of c.claim.new.self) m.cpu next []) c.go_on_serving.ensures
           ∙ ap (λ scene. closed m scene m.cpu (serving c.args.number c.in-Ok.cycle) []) c.claim.ensures.scene
           ∙ setup-made g.X.Extra.further c.args.number m s c.in-Ok.cycle led;

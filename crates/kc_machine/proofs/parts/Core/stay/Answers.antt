@@ -14,7 +14,7 @@ returns-clause-over g c =
     let m = machine_of c.args.self.now in
     record {
       machine =
-          ap (λ (core : Core _ _). stepped_of (machine_of core) (pins m.time core.bus.edges ++ []) (4 * core.bus.reached)) c.close.ensures
+          ap (λ (core : Core _ _). stepped_of (machine_of core) (pins m.time core.bus.edges ++ []) core.bus.reached) c.close.ensures
           ∙ ap (λ next. closed m (held_of c.args.self.now.bus) m.cpu next []) c.idle.ensures
           ∙ ap (λ scene. closed m scene m.cpu idling []) c.requires.scene
           ∙ stayed g.X.Extra.further m;

@@ -20,7 +20,7 @@ returns-in-Ok-None-clause-over g c =
     ap (run (bus_meaning g.X.Extra.further) (served c.args.cycle)) (sym c.requires.last.scene) ∙ c.in-Ok-None.ensures.effect ∙ ap (λ count. Done (c.serve_over.new.cycle, count) s) c.in-Ok-None.field-0-is in
     record {
       machine =
-          ap (λ (core : Core _ _). stepped_of (machine_of core) (pins m.time core.bus.edges ++ []) (4 * core.bus.reached)) c.close.ensures
+          ap (λ (core : Core _ _). stepped_of (machine_of core) (pins m.time core.bus.edges ++ []) core.bus.reached) c.close.ensures
           ∙ ap (λ next. closed m s m.cpu next []) c.go_on_serving.ensures
           ∙ transfer-made g.X.Extra.further c.args.number c.args.cycle m s c.serve_over.new.cycle None led;
       time = first_of (search rules, grind (arith, common_steps));
@@ -38,7 +38,7 @@ returns-in-Ok-Some-clause-over g c =
     ap (run (bus_meaning g.X.Extra.further) (served c.args.cycle)) (sym c.requires.last.scene) ∙ c.in-Ok-Some.ensures.effect ∙ ap (λ count. Done (c.serve_over.new.cycle, count) s) c.in-Ok-Some.field-0-is in
     record {
       machine =
-          ap (λ (core : Core _ _). stepped_of (machine_of core) (pins m.time core.bus.edges ++ (line ∷ [])) (4 * core.bus.reached)) c.close-in-Ok-Some.ensures
+          ap (λ (core : Core _ _). stepped_of (machine_of core) (pins m.time core.bus.edges ++ (line ∷ [])) core.bus.reached) c.close-in-Ok-Some.ensures
           ∙ ap (λ next. closed m (held_of c.hand.new.self) m.cpu next (line ∷ [])) c.end.ensures
           ∙ ap (λ scene. closed m scene m.cpu free (line ∷ [])) c.hand.ensures.scene
           ∙ transfer-made g.X.Extra.further c.args.number c.args.cycle m s c.serve_over.new.cycle (Some c.in-Ok-Some.count) led;

@@ -20,7 +20,7 @@ returns-in-Ok-clause-over g c =
     ap (run (bus_meaning g.X.Extra.further) (opcode_trap m.cpu.pc)) (sym c.requires.last.scene) ∙ c.in-Ok.ensures.effect.0 in
     record {
       machine =
-          ap (λ (core : Core _ _). stepped_of (machine_of core) (pins m.time core.bus.edges ++ (Entered m.time 17 ((m.cpu.pc + 1) % 0x10000) ∷ [])) (4 * core.bus.reached)) c.close.ensures
+          ap (λ (core : Core _ _). stepped_of (machine_of core) (pins m.time core.bus.edges ++ (Entered m.time 17 ((m.cpu.pc + 1) % 0x10000) ∷ [])) core.bus.reached) c.close.ensures
           ∙ ap (λ next. closed m s c.trap_over.new.cpu next (Entered m.time 17 ((m.cpu.pc + 1) % 0x10000) ∷ [])) c.hold.ensures
           ∙ trap-made g.X.Extra.further m s c.trap_over.new.cpu led c.in-Ok.ensures.effect.1;
       time = first_of (search rules, grind (arith, common_steps));
