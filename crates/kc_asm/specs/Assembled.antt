@@ -12,7 +12,7 @@ use Rattle.kc_macro.specs.Expansion.{expanded}
 use Rattle.kc_source_statement.specs.declared.statement.Stmt.{Stmt}
 use Rattle.kc_source.specs.Faults as names
 use Rattle.kc_source.specs.Faults.{Fault, AreStatements}
-use Rattle.kc_obj.specs.Object.{Object}
+use Rattle.kc_obj_module.specs.Object.{Object}
 use Rattle.kc_asm_piece.specs.declared.draft.Draft.{Draft}
 use Rattle.kc_asm_module.specs.ModuleOf.{IsModuleOf, pieces_in}
 use Rattle.kc_asm_check.specs.Judging.{first_fault}

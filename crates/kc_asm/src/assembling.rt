@@ -1,5 +1,5 @@
 ghost use Rattle.std.specs.Prelude.{◌≡◌, ◌≤◌, length, IfOk};
-ghost use Rattle.kc_obj.specs.Object.{Object};
+ghost use Rattle.kc_obj_module.specs.Object.{Object};
 ghost use Rattle.kc_asm_symbols.specs.Externals.{externals};
 ghost use Rattle.kc_asm_symbols.specs.Told.{AreReadWell};
 ghost use Rattle.kc_asm_check.specs.Judging.{standing};
@@ -16,7 +16,7 @@ use kc_asm_symbols::{Names, externals, externals_are_few};
 use kc_base::NoMemory;
 use kc_lex::{LineFault, SourceCode, SourceFault, lines};
 use kc_macro::expand;
-use kc_obj::Module;
+use kc_obj_module::Module;
 use kc_source::statements;
 use kc_source_laws::statements_are_of_the_text;
 use kc_source_statement::Stmt;

@@ -7,9 +7,9 @@ use Rattle.std.specs.Prelude.{ℕ, ◌+◌, ◌-◌, Bool, true, false, not, ◌
 use Rattle.std.specs.List.{flat_map}
 use Rattle.std.specs.Option.{option_to_list}
 use Rattle.kc_lex.specs.Codes.{past_the_end, out_of_reach, not_public, outside_region, no_label}
-use Rattle.kc_obj.specs.declared.parts.SegKind.{SegKind}
-use Rattle.kc_obj.specs.declared.parts.SegKind.TheVariants.{Reg, Code, Ram}
-use Rattle.kc_obj.specs.Pieces.{in_region}
+use Rattle.kc_obj_module.specs.declared.parts.SegKind.{SegKind}
+use Rattle.kc_obj_module.specs.declared.parts.SegKind.TheVariants.{Reg, Code, Ram}
+use Rattle.kc_obj_module.specs.Pieces.{in_region}
 use Rattle.kc_expr.specs.Tree.{Tree}
 use Rattle.kc_expr.specs.Meaning.{Answer}
 use Rattle.kc_source_statement.specs.Trees.{ArgTree, ActionTree, Module, Cseg, Dseg, Rseg, Sseg, Public, Define, Reserve, Org, Operation}

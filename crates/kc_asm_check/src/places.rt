@@ -4,7 +4,7 @@ ghost use Rattle.std.specs.Prelude.{◌≡◌, ◌++◌, [], ◌∷◌, unwrap_o
 ghost use Rattle.std.specs.Option.{option_map};
 ghost use Rattle.kc_expr.specs.Tree.{tree_of};
 ghost use Rattle.kc_source_statement.specs.Trees.{action_tree};
-ghost use Rattle.kc_obj.specs.Pieces.{in_region};
+ghost use Rattle.kc_obj_module.specs.Pieces.{in_region};
 ghost use Rattle.kc_asm_emission.specs.Faults.{least};
 ghost use Rattle.kc_asm_check.specs.Codes as spec;
 
@@ -16,8 +16,8 @@ use kc_asm_symbols::Segment;
 use kc_base::{NoMemory, Text};
 use kc_expr::{Expr, Scope};
 use kc_lex::SourceCode;
-use kc_obj::SegKind;
-use kc_obj::pieces::fits_region;
+use kc_obj_module::SegKind;
+use kc_obj_module::pieces::fits_region;
 use kc_source_statement::Action;
 
 fn goes_on(action: &Action) -> bool

@@ -21,7 +21,7 @@ use kc_asm_outline::outlines_have_lengths;
 use kc_asm_piece::{Draft, Part};
 use kc_asm_symbols::Segment;
 use kc_base::{NoMemory, Text};
-use kc_obj::Taken;
+use kc_obj_module::Taken;
 use kc_source_statement::Stmt;
 use std::alloc::Global;
 

@@ -13,7 +13,7 @@ use kc_asm_layout::Site;
 use kc_asm_piece::Part;
 use kc_asm_symbols::Segment;
 use kc_base::NoMemory;
-use kc_obj::SegKind;
+use kc_obj_module::SegKind;
 use kc_source_statement::Stmt;
 
 /// What stands in code where nothing else does.

@@ -4,11 +4,11 @@ use Rattle.std.specs.Prelude.{Option, Some, None, slice_get, is_some}
 use Rattle.std.specs.List.{list_all, AllByRecursion, IsDistinct}
 use Rattle.std.proofs.lemmas.Bool.{and_parts}
 use Rattle.std.proofs.lemmas.Bool.Decides.{nat_tests}
-use Rattle.kc_obj.specs.declared.parts.SegKind.{SegKind}
-use Rattle.kc_obj.specs.declared.parts.SegKind.TheVariants.{Reg, Code, Ram}
-use Rattle.kc_obj.specs.declared.parts.Taken.{Taken}
-use Rattle.kc_obj.specs.Names.{is_name}
-use Rattle.kc_obj.specs.Pieces.{kind_number, is_relocatable}
+use Rattle.kc_obj_module.specs.declared.parts.SegKind.{SegKind}
+use Rattle.kc_obj_module.specs.declared.parts.SegKind.TheVariants.{Reg, Code, Ram}
+use Rattle.kc_obj_module.specs.declared.parts.Taken.{Taken}
+use Rattle.kc_obj_module.specs.Names.{is_name}
+use Rattle.kc_obj_module.specs.Pieces.{kind_number, is_relocatable}
 use Rattle.kc_asm_symbols.specs.Externals.{externals}
 use Rattle.kc_asm_symbols.specs.Known.{BasesAreKnown}
 use Rattle.kc_asm_symbols.specs.Meanings.{in_all}

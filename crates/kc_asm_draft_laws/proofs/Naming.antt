@@ -10,9 +10,9 @@ use Rattle.kc_expr.specs.declared.values.Base.{Base}
 use Rattle.kc_expr.specs.declared.values.Base.TheVariants.{Fixed, Absolute, Piece, External}
 use Rattle.kc_expr.specs.Meaning.{Answer}
 use Rattle.kc_expr.specs.Known.{is_known}
-use Rattle.kc_obj.specs.declared.parts.Taken.{Taken}
-use Rattle.kc_obj.specs.Names.{is_name, is_stack_name}
-use Rattle.kc_obj.specs.Pieces.{is_register_kind}
+use Rattle.kc_obj_module.specs.declared.parts.Taken.{Taken}
+use Rattle.kc_obj_module.specs.Names.{is_name, is_stack_name}
+use Rattle.kc_obj_module.specs.Pieces.{is_register_kind}
 use Rattle.kc_source_statement.specs.Trees.{ActionTree}
 use Rattle.kc_source_statement.specs.Trees as trees
 use Rattle.kc_source_statement.specs.Formed.{names_said, given_names}

@@ -9,11 +9,11 @@ use Rattle.std.proofs.lemmas.List.Sums.{AllPass-from_list_all}
 use Rattle.kc_expr.specs.declared.values.Base.TheVariants.{Absolute, Piece, External}
 use Rattle.kc_expr.specs.declared.values.Value.{Value}
 use Rattle.kc_expr.specs.Meaning.{here}
-use Rattle.kc_obj.specs.declared.parts.SegKind.{SegKind}
-use Rattle.kc_obj.specs.declared.parts.SegKind.TheVariants.{Code}
-use Rattle.kc_obj.specs.Pieces.{kind_number}
+use Rattle.kc_obj_module.specs.declared.parts.SegKind.{SegKind}
+use Rattle.kc_obj_module.specs.declared.parts.SegKind.TheVariants.{Code}
+use Rattle.kc_obj_module.specs.Pieces.{kind_number}
 use Rattle.kc_obj_relocation.specs.Numbers.{width}
-use Rattle.kc_obj.specs.Fixups.{may_begin}
+use Rattle.kc_obj_module.specs.Fixups.{may_begin}
 use Rattle.kc_asm_bytes.specs.declared.octet.Octet.{Octet}
 use Rattle.kc_asm_bytes.specs.declared.octet.Octet.TheVariants.{Plain, First, Second}
 use Rattle.kc_source_statement.specs.declared.statement.Stmt.{Stmt}

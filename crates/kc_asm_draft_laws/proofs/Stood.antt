@@ -4,8 +4,8 @@ use Rattle.std.specs.Prelude.{Option, Some, None, unwrap_or, slice_get, slice_se
 use Rattle.std.specs.List.{AllByRecursion}
 use Rattle.std.proofs.lemmas.Bool.Decides.{nat_tests}
 use Rattle.std.proofs.lemmas.List.{length-reverse, reverse-reverse}
-use Rattle.kc_obj.specs.declared.parts.SegKind.{SegKind}
-use Rattle.kc_obj.specs.declared.parts.SegKind.TheVariants.{Reg, Code, Ram, Stack}
+use Rattle.kc_obj_module.specs.declared.parts.SegKind.{SegKind}
+use Rattle.kc_obj_module.specs.declared.parts.SegKind.TheVariants.{Reg, Code, Ram, Stack}
 use Rattle.kc_asm_bytes.specs.declared.octet.Octet.{Octet}
 use Rattle.kc_asm_bytes.specs.declared.octet.Octet.TheVariants.{Plain}
 use Rattle.kc_asm_symbols.specs.Located.{Located}

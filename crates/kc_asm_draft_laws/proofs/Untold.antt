@@ -3,7 +3,7 @@ use Rattle.std.proofs.Common.{◌≡◌, ℕ, ◌+◌, Bool, true, false, cond, 
 use Rattle.std.specs.Prelude.{Some, None, Ok, Err}
 use Rattle.std.specs.Str.{bytes_eq}
 use Rattle.std.proofs.lemmas.List.{reverse-append}
-use Rattle.kc_obj.specs.declared.parts.Taken.{Taken}
+use Rattle.kc_obj_module.specs.declared.parts.Taken.{Taken}
 use Rattle.kc_expr.specs.declared.values.Value.{Value}
 use Rattle.kc_expr.specs.declared.values.NoValue.TheVariants.{Fault, ToldElsewhere}
 use Rattle.kc_expr.specs.declared.values.Base.TheVariants.{External}

@@ -2,7 +2,7 @@
 use Rattle.std.proofs.Common.{◌≡◌, ℕ, zero, suc, ◌+◌, List, [], ◌∷◌, ◌++◌, map, drop, reverse, length, length-append, refl, sym, ap, ◌∙◌, subst, append_assoc, append-nil, arith}
 use Rattle.std.specs.Prelude.{Option, Some, None, unwrap_or, slice_get, slice_set}
 use Rattle.std.specs.List.{AllByRecursion}
-use Rattle.kc_obj.specs.declared.parts.SegKind.TheVariants.{Code}
+use Rattle.kc_obj_module.specs.declared.parts.SegKind.TheVariants.{Code}
 use Rattle.kc_expr.specs.declared.values.Value.{Value}
 use Rattle.kc_expr.proofs.UntoldLemmas.{AreUntold}
 use Rattle.kc_source_statement.specs.declared.statement.Stmt.{Stmt}

@@ -8,7 +8,7 @@ use Rattle.kc_lex.specs.declared.token.Token.{Token}
 use Rattle.kc_lex.specs.declared.token.Line.{Line}
 use Rattle.kc_lex.specs.Kinds.{is_name_kind, is_free_name}
 use Rattle.kc_lex.specs.Words.{is_operator_word, operands_of, generic_operands_of, directive_of, is_stack, is_reserved}
-use Rattle.kc_obj.specs.Names.{is_name, is_stack_name}
+use Rattle.kc_obj_module.specs.Names.{is_name, is_stack_name}
 use Rattle.kc_macro_names.specs.Ends.{ExpansionEndsAtAPlace}
 use Rattle.kc_macro_names.specs.Kept.{ExpansionKeepsTests}
 use Rattle.kc_macro_names.specs.Names.{is_named, has_names, LinesHaveNames, LocalNamesAreFew}

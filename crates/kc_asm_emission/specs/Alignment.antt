@@ -2,8 +2,8 @@
 -- places divisible by 4 (after the MCS-96 Macro Assembler User's Guide, "Data Definition" and "Storage Reservation"; 80C196KC
 -- User's Manual, "Long-Words").
 use Rattle.std.specs.Prelude.{ℕ, ◌-◌, ◌%◌, ◌==◌, ◌&&◌, nat_le, if◌then◌else◌}
-use Rattle.kc_obj.specs.declared.parts.SegKind.{SegKind}
-use Rattle.kc_obj.specs.Pieces.{is_register_kind}
+use Rattle.kc_obj_module.specs.declared.parts.SegKind.{SegKind}
+use Rattle.kc_obj_module.specs.Pieces.{is_register_kind}
 use Rattle.kc_source_statement.specs.Trees.{ActionTree, Bare, Module, Cseg, Dseg, Rseg, Sseg, Public, Extrn, Equ, Set, Define, Reserve, Org, Even, End, Operation}
 
 -- the place of the statement, in a segment of a kind, is divisible by this; EVEN goes on to an even place itself

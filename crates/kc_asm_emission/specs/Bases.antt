@@ -7,7 +7,7 @@ use Rattle.kc_expr.specs.declared.values.Base.TheVariants as bases
 use Rattle.kc_expr.specs.declared.values.Value.{Value}
 use Rattle.kc_expr.specs.Known.{is_known}
 use Rattle.kc_source_statement.specs.Trees.{ActionTree}
-use Rattle.kc_obj.specs.Fixups.{may_begin}
+use Rattle.kc_obj_module.specs.Fixups.{may_begin}
 use Rattle.kc_asm_bytes.specs.declared.octet.Octet.{Octet}
 use Rattle.kc_asm_bytes.specs.declared.octet.Octet.TheVariants.{Plain, First, Second}
 use Rattle.kc_branch.specs.declared.piece.Form.{Form}

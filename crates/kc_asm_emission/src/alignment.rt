@@ -2,8 +2,8 @@ ghost use Rattle.std.specs.Prelude.{◌≡◌, ◌+◌, ◌%◌, ◌<◌, ◌≤
 ghost use Rattle.kc_source_statement.specs.Trees.{action_tree};
 ghost use Rattle.kc_asm_emission.specs.Alignment as alignment;
 
-use kc_obj::SegKind;
-use kc_obj::pieces::is_register;
+use kc_obj_module::SegKind;
+use kc_obj_module::pieces::is_register;
 use kc_source_statement::Action;
 
 /// What the place of a statement, in a segment of this kind, is divisible by: 2 for words and long words, 4 for what DSL

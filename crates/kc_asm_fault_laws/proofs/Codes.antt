@@ -7,7 +7,7 @@ use Rattle.std.proofs.lemmas.Bool.{and_from}
 use Rattle.kc_lex.specs.declared.words.Operands.{Operands}
 use Rattle.kc_lex.specs.declared.words.Operands.TheVariants as operands
 use Rattle.kc_lex.specs.Words.{operands_for}
-use Rattle.kc_obj.specs.declared.parts.SegKind.{SegKind}
+use Rattle.kc_obj_module.specs.declared.parts.SegKind.{SegKind}
 use Rattle.kc_expr.specs.declared.values.Value.{Value}
 use Rattle.kc_source_statement.specs.Trees.{ActionTree}
 use Rattle.kc_source_statement.specs.Trees as trees

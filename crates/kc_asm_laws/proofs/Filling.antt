@@ -7,7 +7,7 @@ use Rattle.std.proofs.lemmas.Bool.Decides.{nat_tests}
 use Rattle.kc_expr.specs.declared.values.Base.{Base}
 use Rattle.kc_expr.specs.declared.values.Base.TheVariants as bases
 use Rattle.kc_obj_relocation.specs.Numbers.{Bases, is_distance, distance, number, reach, first_part, second_part}
-use Rattle.kc_obj.specs.Fixups.{may_begin}
+use Rattle.kc_obj_module.specs.Fixups.{may_begin}
 use Rattle.kc_asm_bytes.specs.declared.octet.Octet.{Octet}
 use Rattle.kc_asm_bytes.specs.declared.octet.Octet.TheVariants as octets
 use Rattle.kc_asm_bytes.specs.Filling.{base_address, address, fill}

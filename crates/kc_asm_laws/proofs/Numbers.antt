@@ -10,23 +10,23 @@ use Rattle.std.proofs.lemmas.List.Sorted.{list_any-IsPermutation}
 use Rattle.std.proofs.lemmas.Option.{slice_get_within}
 use Rattle.kc_expr.specs.Meaning.{Answer}
 use Rattle.kc_source_statement.specs.declared.statement.Stmt.{Stmt}
-use Rattle.kc_obj.specs.declared.parts.Segment.{Segment}
-use Rattle.kc_obj.specs.declared.parts.Taken.{Taken}
-use Rattle.kc_obj.specs.declared.parts.Given.{Given}
-use Rattle.kc_obj.specs.declared.parts.Content.{Content}
-use Rattle.kc_obj.specs.declared.parts.Fixup.{Fixup}
-use Rattle.kc_obj.specs.declared.parts.Lines.{Lines}
-use Rattle.kc_obj.specs.declared.parts.Target.{Target}
-use Rattle.kc_obj.specs.declared.parts.Target.TheVariants as targets
-use Rattle.kc_obj.specs.Object.{Object}
-use Rattle.kc_obj.specs.Pieces.{has_code, kind_number}
-use Rattle.kc_obj.specs.Contents.{content_end, content_is_sound, content_at}
-use Rattle.kc_obj.specs.Fixups.{target_exists, fixup_is_sound, fixup_follows, fixups_in_order, fixup_at, may_begin, has_room}
-use Rattle.kc_obj.specs.LineEntries.{line_is_sound, lines_are_sound}
-use Rattle.kc_obj.specs.Rules.{is_module, contents_are_sound, fixups_are_sound}
-use Rattle.kc_obj.proofs.RoomLemmas.{rest_in_order, next_follows}
+use Rattle.kc_obj_module.specs.declared.parts.Segment.{Segment}
+use Rattle.kc_obj_module.specs.declared.parts.Taken.{Taken}
+use Rattle.kc_obj_module.specs.declared.parts.Given.{Given}
+use Rattle.kc_obj_module.specs.declared.parts.Content.{Content}
+use Rattle.kc_obj_module.specs.declared.parts.Fixup.{Fixup}
+use Rattle.kc_obj_module.specs.declared.parts.Lines.{Lines}
+use Rattle.kc_obj_module.specs.declared.parts.Target.{Target}
+use Rattle.kc_obj_module.specs.declared.parts.Target.TheVariants as targets
+use Rattle.kc_obj_module.specs.Object.{Object}
+use Rattle.kc_obj_module.specs.Pieces.{has_code, kind_number}
+use Rattle.kc_obj_module.specs.Contents.{content_end, content_is_sound, content_at}
+use Rattle.kc_obj_module.specs.Fixups.{target_exists, fixup_is_sound, fixup_follows, fixups_in_order, fixup_at, may_begin, has_room}
+use Rattle.kc_obj_module.specs.LineEntries.{line_is_sound, lines_are_sound}
+use Rattle.kc_obj_module.specs.Rules.{is_module, contents_are_sound, fixups_are_sound}
+use Rattle.kc_obj_module.proofs.RoomLemmas.{rest_in_order, next_follows}
 use Rattle.kc_obj_relocation.specs.Numbers.{width}
-use Rattle.kc_obj_read.specs.Law.{target_fits, fixup_fits, line_fits, lines_fit, numbers_fit}
+use Rattle.kc_obj_module.specs.Widths.{target_fits, fixup_fits, line_fits, lines_fit, numbers_fit}
 use Rattle.kc_asm_symbols.specs.Few.{ExternalsAreFew}
 use Rattle.kc_asm_symbols.specs.Externals.{externals}
 use Rattle.kc_asm_symbols.specs.Located.{first_segment, value_at}

@@ -6,7 +6,7 @@ use Rattle.kc_lex.specs.Lines.{lines_of}
 use Rattle.kc_macro.specs.Expansion.{Answer, expanded, Ends, ExpansionEnds}
 use Rattle.kc_source_statement.specs.declared.statement.Stmt.{Stmt}
 use Rattle.kc_source.specs.Faults.{Fault, Said, stmt_said, least, faults_of}
-use Rattle.kc_obj.specs.Object.{Object}
+use Rattle.kc_obj_module.specs.Object.{Object}
 use Rattle.kc_asm_piece.specs.declared.draft.Draft.{Draft}
 use Rattle.kc_asm_piece.specs.Tape.{Tape}
 use Rattle.kc_asm_module.specs.ModuleOf.{pieces_in}

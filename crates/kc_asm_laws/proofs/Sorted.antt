@@ -7,9 +7,9 @@ use Rattle.std.specs.Cmp.Lexicographic.{pointwise}
 use Rattle.std.proofs.lemmas.Bool.{and_parts, and_from, or_parts}
 use Rattle.std.proofs.lemmas.Bool.Decides.{nat_tests}
 use Rattle.std.proofs.lemmas.List.Sorted.{IsPermutation-refl, IsPermutation-cons, IsPermutation-trans}
-use Rattle.kc_obj.specs.declared.parts.Given.{Given}
-use Rattle.kc_obj.specs.Names.{is_below}
-use Rattle.kc_obj.specs.Rules.{publics_in_order}
+use Rattle.kc_obj_module.specs.declared.parts.Given.{Given}
+use Rattle.kc_obj_module.specs.Names.{is_below}
+use Rattle.kc_obj_module.specs.Rules.{publics_in_order}
 use Rattle.kc_asm_piece.specs.declared.draft.Public.{Public}
 use Rattle.kc_asm_module.specs.Publics.{given_of, is_same_name}
 use Rattle.kc_asm_laws.proofs.Numbers.{all_permuted}

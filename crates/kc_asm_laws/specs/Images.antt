@@ -2,7 +2,7 @@
 use Rattle.std.specs.Prelude.{◌≡◌, ℕ, true, Some, Ok, List, length, slice_get}
 use Rattle.kc_base.specs.Bytes.{IsBytes}
 use Rattle.kc_source_statement.specs.declared.statement.Stmt.{Stmt}
-use Rattle.kc_obj.specs.Object.{Object}
+use Rattle.kc_obj_module.specs.Object.{Object}
 use Rattle.kc_asm_piece.specs.declared.draft.Draft.{Draft}
 use Rattle.kc_asm.specs.Assembled.{AreSaid, IsModule}
 use Rattle.kc_link_place.specs.declared.ranges.Ranges.{Ranges}

@@ -1,8 +1,8 @@
 -- What is known of the module of a text (this kit's own).
 use Rattle.std.specs.Prelude.{◌≡◌, ℕ, ◌<◌, ◌^◌, true, List, length, Result, Ok, Err}
 use Rattle.kc_source.specs.Faults.{Fault}
-use Rattle.kc_obj.specs.Object.{Object}
-use Rattle.kc_obj_read.specs.Law.{numbers_fit}
+use Rattle.kc_obj_module.specs.Object.{Object}
+use Rattle.kc_obj_module.specs.Widths.{numbers_fit}
 use Rattle.kc_asm.specs.Assembled.{IsModule, IsFirstFault}
 
 -- its numbers have the room of their fields: a line has 32 bits

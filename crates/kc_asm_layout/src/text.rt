@@ -9,7 +9,7 @@ use kc_asm_outline::{Anchor, Body, Note};
 use kc_asm_symbols::Segment;
 use kc_base::NoMemory;
 use kc_branch::{BranchKind, Form, Piece, branch_length};
-use kc_obj::SegKind;
+use kc_obj_module::SegKind;
 use std::alloc::Global;
 
 // The most bytes of a piece of text.

@@ -7,7 +7,7 @@ use kc_asm_symbols::externals_are_few;
 use kc_lex::{SourceFault, lines};
 use kc_macro::expand;
 use kc_macro_depth::depths;
-use kc_obj::Module;
+use kc_obj_module::Module;
 use kc_source::statements;
 use std::alloc::Global;
 

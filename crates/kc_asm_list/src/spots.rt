@@ -17,7 +17,7 @@ use kc_source_statement::Stmt;
 use std::alloc::Global;
 
 // Where a statement stands. No memory holds more pieces than 32 bits count.
-fn spot_of(line: &Line, depth: u32, note: &Note, site: &Site) -> Result<Spot, NoMemory>
+fn spot_of(line: &Line, depth: usize, note: &Note, site: &Site) -> Result<Spot, NoMemory>
     ensures { IfOk result (λ s. s ≡ spec.spot_of line.now depth note.now site.now) }
 {
     let Ok(piece) = u32::try_from(note.segment.piece) else {
@@ -36,7 +36,7 @@ fn spot_of(line: &Line, depth: u32, note: &Note, site: &Site) -> Result<Spot, No
     })
 }
 
-fn first_depth(depths: &[u32]) -> u32
+fn first_depth(depths: &[usize]) -> usize
     ensures { result ≡ slice_index depths.now 0 }
 {
     depths.first().copied().unwrap_or(0)
@@ -46,7 +46,7 @@ fn first_depth(depths: &[u32]) -> u32
 fn put_first(
     spots: &mut Vec<Spot>,
     line: &Line,
-    depths: &[u32],
+    depths: &[usize],
     notes: &[Note],
     sites: &[Site],
 ) -> Result<(), NoMemory>
@@ -79,7 +79,7 @@ fn behind<T>(items: &[T]) -> &[T]
 fn spots_from(
     alloc: Global,
     text: &[Line],
-    depths: &[u32],
+    depths: &[usize],
     notes: &[Note],
     sites: &[Site],
 ) -> Result<Vec<Spot>, NoMemory>
@@ -106,7 +106,7 @@ fn spots_from(
 pub(crate) fn spots_of(
     alloc: Global,
     text: &[Line],
-    depths: &[u32],
+    depths: &[usize],
     stmts: &[Stmt],
 ) -> Result<Vec<Spot>, NoMemory>
     requires few { length stmts.now ≤ 65536 }

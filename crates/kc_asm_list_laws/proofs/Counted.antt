@@ -4,9 +4,9 @@ use Rattle.std.specs.Prelude.{Option, Some, None, nat_lt, if◌then◌else◌, i
 use Rattle.std.specs.List.{AllByRecursion}
 use Rattle.std.proofs.lemmas.Bool.{eqb-true}
 use Rattle.std.proofs.lemmas.Bool.Decides.{nat_tests}
-use Rattle.kc_obj.specs.declared.parts.SegKind.{SegKind}
-use Rattle.kc_obj.specs.Object.{Object}
-use Rattle.kc_obj.specs.Contents.{content_at}
+use Rattle.kc_obj_module.specs.declared.parts.SegKind.{SegKind}
+use Rattle.kc_obj_module.specs.Object.{Object}
+use Rattle.kc_obj_module.specs.Contents.{content_at}
 use Rattle.kc_asm_symbols.specs.declared.segments.Segment.{Segment}
 use Rattle.kc_asm_symbols.specs.Located.{Located}
 use Rattle.kc_asm_symbols.specs.Meanings.{meaning}

@@ -5,10 +5,10 @@ use Rattle.std.specs.Option.{option_map}
 use Rattle.kc_lex.specs.declared.token.Line.{Line}
 use Rattle.kc_source_statement.specs.declared.statement.Stmt.{Stmt}
 use Rattle.kc_source.specs.Faults.{stmt_said, all_said, least, AreStatements}
-use Rattle.kc_obj.specs.declared.parts.SegKind.{SegKind}
-use Rattle.kc_obj.specs.declared.parts.Segment.{Segment as ModuleSegment}
-use Rattle.kc_obj.specs.Object.{Object}
-use Rattle.kc_obj.specs.Contents.{content_at}
+use Rattle.kc_obj_module.specs.declared.parts.SegKind.{SegKind}
+use Rattle.kc_obj_module.specs.declared.parts.Segment.{Segment as ModuleSegment}
+use Rattle.kc_obj_module.specs.Object.{Object}
+use Rattle.kc_obj_module.specs.Contents.{content_at}
 use Rattle.kc_asm_symbols.specs.Located.{value_at, first_segment}
 use Rattle.kc_asm_bytes.specs.declared.octet.Octet.{Octet}
 use Rattle.kc_asm_piece.specs.declared.draft.Draft.{Draft}

@@ -3,7 +3,7 @@ use Rattle.std.specs.Prelude.{◌≡◌, ℕ, Bool, ◌==◌, List, [], ◌∷�
 use Rattle.std.specs.List.{filter}
 use Rattle.kc_lex.specs.declared.token.Line.{Line}
 use Rattle.kc_source_statement.specs.declared.statement.Stmt.{Stmt}
-use Rattle.kc_obj.specs.Object.{Object}
+use Rattle.kc_obj_module.specs.Object.{Object}
 use Rattle.kc_asm_rows.specs.declared.spot.Spot.{Spot}
 use Rattle.kc_asm_list.specs.Listed.{IsListing}
 use Rattle.kc_asm_list.specs.Spots.{spots_of}

@@ -1,7 +1,7 @@
 -- Which bytes of a module the rows of a statement show (this kit's own).
 use Rattle.std.specs.Prelude.{◌≡◌, ℕ, Bool, ◌+◌, ◌-◌, ◌&&◌, ◌||◌, ◌==◌, nat_lt, nat_le, List, count_by, Some, unwrap_or}
-use Rattle.kc_obj.specs.Object.{Object}
-use Rattle.kc_obj.specs.Contents.{content_at}
+use Rattle.kc_obj_module.specs.Object.{Object}
+use Rattle.kc_obj_module.specs.Contents.{content_at}
 use Rattle.kc_asm.specs.Assembled.{IsModule}
 use Rattle.kc_asm_rows.specs.declared.spot.Spot.{Spot}
 use Rattle.kc_asm_rows.specs.Octets.{piece_of, told}

@@ -3,7 +3,7 @@ use Rattle.std.proofs.Common.{◌≡◌, ℕ, ◌+◌, ◌/◌, ◌%◌, ◌<◌
 use Rattle.std.specs.List.{list_all}
 use Rattle.std.proofs.lemmas.Bool.{and_parts}
 use Rattle.std.proofs.lemmas.Bool.Decides.{nat_tests}
-use Rattle.kc_obj.specs.Fixups.{may_begin}
+use Rattle.kc_obj_module.specs.Fixups.{may_begin}
 use Rattle.kc_obj_relocation.specs.Numbers.{first_part, number, reach}
 use Rattle.kc_asm_bytes.specs.declared.octet.Octet.{Octet}
 use Rattle.kc_asm_bytes.specs.declared.octet.Octet.TheVariants.{Plain, First, Second}

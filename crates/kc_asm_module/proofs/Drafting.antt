@@ -3,10 +3,10 @@ use Rattle.std.proofs.Common.{◌≡◌, ℕ, ◌+◌, ◌<◌, ◌≤◌, Bool,
 use Rattle.std.specs.List.{list_all, list_any, AllByRecursion}
 use Rattle.std.proofs.lemmas.Bool.{and_parts}
 use Rattle.std.proofs.lemmas.Bool.Decides.{nat_tests}
-use Rattle.kc_obj.specs.declared.parts.SegKind.{SegKind}
-use Rattle.kc_obj.specs.declared.parts.SegKind.TheVariants.{Reg, Code, Ram, Stack}
-use Rattle.kc_obj.specs.Pieces.{kind_number, in_region, is_placed, is_relocatable, based_well}
-use Rattle.kc_obj.specs.Fixups.{may_begin}
+use Rattle.kc_obj_module.specs.declared.parts.SegKind.{SegKind}
+use Rattle.kc_obj_module.specs.declared.parts.SegKind.TheVariants.{Reg, Code, Ram, Stack}
+use Rattle.kc_obj_module.specs.Pieces.{kind_number, in_region, is_placed, is_relocatable, based_well}
+use Rattle.kc_obj_module.specs.Fixups.{may_begin}
 use Rattle.kc_asm_bytes.specs.declared.octet.Octet.{Octet}
 use Rattle.kc_asm_bytes.specs.declared.octet.Octet.TheVariants.{Plain, First, Second}
 use Rattle.kc_asm_piece.specs.declared.part.Cell.{Cell}

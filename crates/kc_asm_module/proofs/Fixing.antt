@@ -3,12 +3,12 @@ use Rattle.std.proofs.Common.{◌≡◌, ℕ, ◌+◌, Bool, true, false, ◌&&�
 use Rattle.std.specs.List.{list_all}
 use Rattle.std.proofs.lemmas.Bool.{and_parts}
 use Rattle.std.proofs.lemmas.Bool.Decides.{nat_tests}
-use Rattle.kc_obj.specs.declared.parts.Content.{Content}
-use Rattle.kc_obj.specs.declared.parts.Fixup.{Fixup}
-use Rattle.kc_obj.specs.Contents.{content_at, is_from}
+use Rattle.kc_obj_module.specs.declared.parts.Content.{Content}
+use Rattle.kc_obj_module.specs.declared.parts.Fixup.{Fixup}
+use Rattle.kc_obj_module.specs.Contents.{content_at, is_from}
 use Rattle.kc_obj_relocation.specs.Numbers.{width}
-use Rattle.kc_obj.specs.Fixups.{fixup_at, fixup_follows, fixups_in_order, may_begin, is_zero, has_room}
-use Rattle.kc_obj.proofs.RoomLemmas.{from_joined}
+use Rattle.kc_obj_module.specs.Fixups.{fixup_at, fixup_follows, fixups_in_order, may_begin, is_zero, has_room}
+use Rattle.kc_obj_module.proofs.RoomLemmas.{from_joined}
 use Rattle.kc_asm_module.specs.declared.puts.Put.{Put}
 use Rattle.kc_asm_module.specs.Runs.{listed, fixups_of}
 use Rattle.kc_asm_module.proofs.RunBytes.{is_at, put_byte}

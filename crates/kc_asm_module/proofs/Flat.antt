@@ -5,11 +5,11 @@ use Rattle.std.specs.Option.{option_map}
 use Rattle.std.proofs.lemmas.List.{append-nil}
 use Rattle.std.proofs.lemmas.Bool.{and_parts}
 use Rattle.std.proofs.lemmas.Bool.Decides.{nat_tests}
-use Rattle.kc_obj.specs.declared.parts.Segment.{Segment}
-use Rattle.kc_obj.specs.declared.parts.Fixup.{Fixup}
-use Rattle.kc_obj.specs.declared.parts.Lines.{Lines}
-use Rattle.kc_obj.specs.Contents.{is_from}
-use Rattle.kc_obj.proofs.RoomLemmas.{from_joined}
+use Rattle.kc_obj_module.specs.declared.parts.Segment.{Segment}
+use Rattle.kc_obj_module.specs.declared.parts.Fixup.{Fixup}
+use Rattle.kc_obj_module.specs.declared.parts.Lines.{Lines}
+use Rattle.kc_obj_module.specs.Contents.{is_from}
+use Rattle.kc_obj_module.proofs.RoomLemmas.{from_joined}
 use Rattle.kc_asm_bytes.specs.declared.octet.Octet.{Octet}
 use Rattle.kc_asm_piece.specs.declared.part.Cell.{Cell}
 use Rattle.kc_asm_piece.specs.Tape.{Tape, rise, is_tape, cell_offsets, cell_at}

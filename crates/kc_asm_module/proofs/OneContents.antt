@@ -3,11 +3,11 @@ use Rattle.std.proofs.Common.{◌≡◌, ℕ, ◌+◌, ◌-◌, ◌<◌, ◌≤�
 use Rattle.std.specs.List.{slice_get, list_all}
 use Rattle.std.proofs.lemmas.Bool.{and_parts}
 use Rattle.std.proofs.lemmas.Bool.Decides.{nat_tests}
-use Rattle.kc_obj.specs.declared.parts.Content.{Content}
-use Rattle.kc_obj.specs.declared.parts.Segment.{Segment}
-use Rattle.kc_obj.specs.Contents.{content_end, content_is_sound, content_follows, contents_in_order, covers, content_at, is_from}
-use Rattle.kc_obj.specs.Pieces.{has_code}
-use Rattle.kc_obj.proofs.ContentLemmas.{ordered_rest}
+use Rattle.kc_obj_module.specs.declared.parts.Content.{Content}
+use Rattle.kc_obj_module.specs.declared.parts.Segment.{Segment}
+use Rattle.kc_obj_module.specs.Contents.{content_end, content_is_sound, content_follows, contents_in_order, covers, content_at, is_from}
+use Rattle.kc_obj_module.specs.Pieces.{has_code}
+use Rattle.kc_obj_module.proofs.ContentLemmas.{ordered_rest}
 
 -- the first run, if there is one, stands at a place or after it
 abbrev start_from : ℕ → ℕ → List Content → Bool

@@ -5,14 +5,14 @@ use Rattle.std.specs.List.Sorted.{IsPermutation}
 use Rattle.std.proofs.lemmas.Bool.{and_parts}
 use Rattle.std.proofs.lemmas.Bool.Decides.{nat_tests}
 use Rattle.std.proofs.lemmas.List.Sorted.{IsPermutation-trans, IsPermutation-sym, Contains-permutation}
-use Rattle.kc_obj.specs.declared.parts.Fixup.{Fixup}
-use Rattle.kc_obj.specs.declared.parts.Given.{Given}
-use Rattle.kc_obj.specs.Names.{is_below}
-use Rattle.kc_obj.specs.Contents.{is_from}
+use Rattle.kc_obj_module.specs.declared.parts.Fixup.{Fixup}
+use Rattle.kc_obj_module.specs.declared.parts.Given.{Given}
+use Rattle.kc_obj_module.specs.Names.{is_below}
+use Rattle.kc_obj_module.specs.Contents.{is_from}
 use Rattle.kc_obj_relocation.specs.Numbers.{width}
-use Rattle.kc_obj.specs.Fixups.{fixup_at, fixup_follows, fixups_in_order}
-use Rattle.kc_obj.specs.Rules.{publics_in_order}
-use Rattle.kc_obj.proofs.RoomLemmas.{rest_in_order}
+use Rattle.kc_obj_module.specs.Fixups.{fixup_at, fixup_follows, fixups_in_order}
+use Rattle.kc_obj_module.specs.Rules.{publics_in_order}
+use Rattle.kc_obj_module.proofs.RoomLemmas.{rest_in_order}
 
 -- ---- relocations
 

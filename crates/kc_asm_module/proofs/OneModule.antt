@@ -2,13 +2,13 @@
 use Rattle.std.proofs.Common.{◌≡◌, true, ◌&&◌, length, sym, subst, ◌∙◌, List, map}
 use Rattle.std.specs.List.{list_all}
 use Rattle.std.proofs.lemmas.Bool.{and_parts}
-use Rattle.kc_obj.specs.declared.parts.Segment.{Segment}
-use Rattle.kc_obj.specs.Object.{Object, object_of}
-use Rattle.kc_obj.specs.Names.{is_name}
-use Rattle.kc_obj.specs.Contents.{content_is_sound, contents_in_order}
-use Rattle.kc_obj.specs.Fixups.{fixup_is_sound, fixups_in_order, has_room}
-use Rattle.kc_obj.specs.LineEntries.{lines_are_sound}
-use Rattle.kc_obj.specs.Rules.{given_is_sound, publics_in_order, segments_are_sound, externals_are_sound, publics_are_sound, contents_are_sound, fixups_are_sound, is_module}
+use Rattle.kc_obj_module.specs.declared.parts.Segment.{Segment}
+use Rattle.kc_obj_module.specs.Object.{Object, object_of}
+use Rattle.kc_obj_module.specs.Names.{is_name}
+use Rattle.kc_obj_module.specs.Contents.{content_is_sound, contents_in_order}
+use Rattle.kc_obj_module.specs.Fixups.{fixup_is_sound, fixups_in_order, has_room}
+use Rattle.kc_obj_module.specs.LineEntries.{lines_are_sound}
+use Rattle.kc_obj_module.specs.Rules.{given_is_sound, publics_in_order, segments_are_sound, externals_are_sound, publics_are_sound, contents_are_sound, fixups_are_sound, is_module}
 use Rattle.kc_asm_module.specs.Order.{number_of}
 use Rattle.kc_asm_module.specs.Publics.{given_of}
 use Rattle.kc_asm_module.specs.ModuleOf.{kept_in}

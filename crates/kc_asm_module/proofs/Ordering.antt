@@ -9,11 +9,11 @@ use Rattle.std.proofs.lemmas.List.Sorted.{list_any-IsPermutation}
 use Rattle.kc_expr.specs.declared.values.Base.{Base}
 use Rattle.kc_expr.specs.declared.values.Base.TheVariants.{Fixed, Absolute, Piece, External}
 use Rattle.kc_expr.specs.declared.values.Value.{Value}
-use Rattle.kc_obj.specs.declared.parts.Segment.{Segment}
-use Rattle.kc_obj.specs.declared.parts.Given.{Given}
-use Rattle.kc_obj.specs.declared.parts.Fixup.{Fixup}
-use Rattle.kc_obj.specs.Pieces as object
-use Rattle.kc_obj.specs.Pieces.{kind_number, may_follow, segment_follows, segments_in_order, targets_piece, is_relocatable, is_empty, is_kept, all_kept}
+use Rattle.kc_obj_module.specs.declared.parts.Segment.{Segment}
+use Rattle.kc_obj_module.specs.declared.parts.Given.{Given}
+use Rattle.kc_obj_module.specs.declared.parts.Fixup.{Fixup}
+use Rattle.kc_obj_module.specs.Pieces as object
+use Rattle.kc_obj_module.specs.Pieces.{kind_number, may_follow, segment_follows, segments_in_order, targets_piece, is_relocatable, is_empty, is_kept, all_kept}
 use Rattle.kc_asm_bytes.specs.Relocating.{is_piece}
 use Rattle.kc_asm_piece.specs.declared.part.Cell.{Cell}
 use Rattle.kc_asm_piece.specs.declared.draft.Public.{Public}

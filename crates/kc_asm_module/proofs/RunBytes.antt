@@ -2,8 +2,8 @@
 use Rattle.std.proofs.Common.{◌≡◌, ℕ, ◌+◌, ◌-◌, ◌<◌, Bool, true, false, ◌&&◌, ◌||◌, eqb, ltb, leb, if◌then◌else◌, Option, Some, None, List, [], ◌∷◌, ◌++◌, length, suc, zero, refl, sym, ap, ◌∙◌, length-append, arith}
 use Rattle.std.specs.List.{slice_get}
 use Rattle.std.proofs.lemmas.Bool.Decides.{nat_tests}
-use Rattle.kc_obj.specs.declared.parts.Content.{Content}
-use Rattle.kc_obj.specs.Contents.{content_at}
+use Rattle.kc_obj_module.specs.declared.parts.Content.{Content}
+use Rattle.kc_obj_module.specs.Contents.{content_at}
 use Rattle.kc_asm_module.specs.declared.puts.Put.{Put}
 use Rattle.kc_asm_module.specs.Runs.{closed, joins, runs}
 

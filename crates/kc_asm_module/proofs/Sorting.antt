@@ -9,9 +9,9 @@ use Rattle.std.proofs.lemmas.Bool.Decides.{nat_tests}
 use Rattle.std.proofs.lemmas.Map.Keys.{IsDistinct-IsPermutation}
 use Rattle.std.specs.declared.cmp.Ordering.{Ordering}
 use Rattle.std.specs.declared.cmp.Ordering.TheVariants.{Less, Equal, Greater}
-use Rattle.kc_obj.specs.declared.parts.Given.{Given}
-use Rattle.kc_obj.specs.Names.{is_below}
-use Rattle.kc_obj.specs.Rules.{publics_in_order}
+use Rattle.kc_obj_module.specs.declared.parts.Given.{Given}
+use Rattle.kc_obj_module.specs.Names.{is_below}
+use Rattle.kc_obj_module.specs.Rules.{publics_in_order}
 use Rattle.kc_asm_piece.specs.declared.draft.Public.{Public}
 use Rattle.kc_asm_module.specs.Publics.{is_before, is_same_name, given_of}
 

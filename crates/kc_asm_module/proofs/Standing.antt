@@ -5,14 +5,14 @@ use Rattle.std.proofs.lemmas.Bool.{and_parts}
 use Rattle.std.proofs.lemmas.Bool.Decides.{nat_tests}
 use Rattle.std.proofs.lemmas.Option.{slice_get_within}
 use Rattle.std.proofs.lemmas.List.Folds.{list_all-append}
-use Rattle.kc_obj.specs.declared.parts.Segment.{Segment}
-use Rattle.kc_obj.specs.declared.parts.Taken.{Taken}
-use Rattle.kc_obj.specs.declared.parts.Lines.{Lines}
-use Rattle.kc_obj.specs.Pieces.{kind_number, has_code, is_placed}
-use Rattle.kc_obj.specs.Contents.{is_from}
-use Rattle.kc_obj.specs.Fixups.{fixup_is_sound}
-use Rattle.kc_obj.specs.LineEntries.{line_is_sound, line_follows, lines_in_order}
-use Rattle.kc_obj.proofs.RoomLemmas.{from_joined}
+use Rattle.kc_obj_module.specs.declared.parts.Segment.{Segment}
+use Rattle.kc_obj_module.specs.declared.parts.Taken.{Taken}
+use Rattle.kc_obj_module.specs.declared.parts.Lines.{Lines}
+use Rattle.kc_obj_module.specs.Pieces.{kind_number, has_code, is_placed}
+use Rattle.kc_obj_module.specs.Contents.{is_from}
+use Rattle.kc_obj_module.specs.Fixups.{fixup_is_sound}
+use Rattle.kc_obj_module.specs.LineEntries.{line_is_sound, line_follows, lines_in_order}
+use Rattle.kc_obj_module.proofs.RoomLemmas.{from_joined}
 use Rattle.kc_asm_piece.specs.declared.part.Cell.{Cell}
 use Rattle.kc_asm_piece.specs.declared.part.Mark.{Mark}
 use Rattle.kc_asm_piece.specs.Tape.{Tape, is_tape, rise, mark_offsets}

@@ -8,21 +8,21 @@ use Rattle.std.proofs.lemmas.List.{length-map}
 use Rattle.std.proofs.lemmas.List.Sorted.{list_any-IsPermutation}
 use Rattle.kc_expr.specs.declared.values.Base.{Base}
 use Rattle.kc_expr.specs.declared.values.Base.TheVariants.{Fixed, Absolute, Piece, External}
-use Rattle.kc_obj.specs.declared.parts.Segment.{Segment}
-use Rattle.kc_obj.specs.declared.parts.Given.{Given}
-use Rattle.kc_obj.specs.declared.parts.Taken.{Taken}
-use Rattle.kc_obj.specs.declared.parts.Content.{Content}
-use Rattle.kc_obj.specs.declared.parts.Fixup.{Fixup}
-use Rattle.kc_obj.specs.declared.parts.Lines.{Lines}
-use Rattle.kc_obj.specs.Names.{is_name, is_stack_name}
-use Rattle.kc_obj.specs.Pieces as object
-use Rattle.kc_obj.specs.Pieces.{kind_number, is_placed, is_relocatable, segments_in_order, is_kept, all_kept}
-use Rattle.kc_obj.specs.Contents.{content_at, contents_in_order}
-use Rattle.kc_obj.specs.Rules.{names_piece, given_is_sound, publics_in_order, publics_are_sound, segments_are_sound, contents_are_sound, fixups_are_sound, is_module, checked}
-use Rattle.kc_obj.specs.Contents.{content_is_sound}
-use Rattle.kc_obj.specs.Fixups.{fixup_at, fixup_is_sound, fixups_in_order, has_room}
-use Rattle.kc_obj.specs.LineEntries.{line_is_sound, lines_in_order, lines_are_sound}
-use Rattle.kc_obj.specs.Object.{Object, object_of}
+use Rattle.kc_obj_module.specs.declared.parts.Segment.{Segment}
+use Rattle.kc_obj_module.specs.declared.parts.Given.{Given}
+use Rattle.kc_obj_module.specs.declared.parts.Taken.{Taken}
+use Rattle.kc_obj_module.specs.declared.parts.Content.{Content}
+use Rattle.kc_obj_module.specs.declared.parts.Fixup.{Fixup}
+use Rattle.kc_obj_module.specs.declared.parts.Lines.{Lines}
+use Rattle.kc_obj_module.specs.Names.{is_name, is_stack_name}
+use Rattle.kc_obj_module.specs.Pieces as object
+use Rattle.kc_obj_module.specs.Pieces.{kind_number, is_placed, is_relocatable, segments_in_order, is_kept, all_kept}
+use Rattle.kc_obj_module.specs.Contents.{content_at, contents_in_order}
+use Rattle.kc_obj_module.specs.Rules.{names_piece, given_is_sound, publics_in_order, publics_are_sound, segments_are_sound, contents_are_sound, fixups_are_sound, is_module, checked}
+use Rattle.kc_obj_module.specs.Contents.{content_is_sound}
+use Rattle.kc_obj_module.specs.Fixups.{fixup_at, fixup_is_sound, fixups_in_order, has_room}
+use Rattle.kc_obj_module.specs.LineEntries.{line_is_sound, lines_in_order, lines_are_sound}
+use Rattle.kc_obj_module.specs.Object.{Object, object_of}
 use Rattle.kc_asm_bytes.specs.Relocating.{is_piece}
 use Rattle.kc_asm_piece.specs.declared.draft.Draft.{Draft}
 use Rattle.kc_asm_piece.specs.declared.draft.Public.{Public}

@@ -2,12 +2,12 @@
 use Rattle.std.specs.Prelude.{◌≡◌, ℕ, true, ◌+◌, Option, Some, None, List, [], ◌∷◌, ◌++◌, map, slice_get}
 use Rattle.std.specs.List.Sorted.{IsPermutation}
 use Rattle.std.specs.Option.{option_map}
-use Rattle.kc_obj.specs.declared.parts.Fixup.{Fixup}
-use Rattle.kc_obj.specs.declared.parts.Lines.{Lines}
-use Rattle.kc_obj.specs.Object.{Object}
-use Rattle.kc_obj.specs.Rules.{is_module}
-use Rattle.kc_obj.specs.Contents.{content_at}
-use Rattle.kc_obj.specs.Fixups.{fixup_at}
+use Rattle.kc_obj_module.specs.declared.parts.Fixup.{Fixup}
+use Rattle.kc_obj_module.specs.declared.parts.Lines.{Lines}
+use Rattle.kc_obj_module.specs.Object.{Object}
+use Rattle.kc_obj_module.specs.Rules.{is_module}
+use Rattle.kc_obj_module.specs.Contents.{content_at}
+use Rattle.kc_obj_module.specs.Fixups.{fixup_at}
 use Rattle.kc_asm_bytes.specs.declared.octet.Octet.{Octet}
 use Rattle.kc_asm_piece.specs.declared.draft.Draft.{Draft}
 use Rattle.kc_asm_piece.specs.Tape.{Tape, octet_at}

@@ -1,6 +1,6 @@
 -- A draft has at most one module.
 use Rattle.std.specs.Prelude.{◌≡◌}
-use Rattle.kc_obj.specs.Object.{Object}
+use Rattle.kc_obj_module.specs.Object.{Object}
 use Rattle.kc_asm_piece.specs.declared.draft.Draft.{Draft}
 use Rattle.kc_asm_module.specs.ModuleOf.{IsModuleOf}
 

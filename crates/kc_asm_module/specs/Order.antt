@@ -2,9 +2,9 @@
 use Rattle.std.specs.Prelude.{ℕ, Bool, true, false, ◌+◌, ◌==◌, ◌||◌, nat_lt, if◌then◌else◌, Option, Some, None, List, [], ◌∷◌, ◌++◌, drop, slice_get}
 use Rattle.std.specs.List.{list_any}
 use Rattle.kc_expr.specs.declared.values.Value.{Value}
-use Rattle.kc_obj.specs.declared.parts.SegKind.TheVariants.{Stack}
-use Rattle.kc_obj.specs.declared.parts.Segment.{Segment}
-use Rattle.kc_obj.specs.Pieces.{kind_number}
+use Rattle.kc_obj_module.specs.declared.parts.SegKind.TheVariants.{Stack}
+use Rattle.kc_obj_module.specs.declared.parts.Segment.{Segment}
+use Rattle.kc_obj_module.specs.Pieces.{kind_number}
 use Rattle.kc_asm_bytes.specs.declared.octet.Octet.{Octet}
 use Rattle.kc_asm_bytes.specs.Relocating.{is_piece, relocated}
 use Rattle.kc_asm_piece.specs.declared.draft.Public.{Public}

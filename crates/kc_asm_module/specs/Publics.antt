@@ -4,7 +4,7 @@ use Rattle.std.specs.Ordering.{nat_cmp, is_lt}
 use Rattle.std.specs.Cmp.Lexicographic.{pointwise, slice_cmp}
 use Rattle.kc_expr.specs.declared.values.Base.{Base}
 use Rattle.kc_expr.specs.declared.values.Base.TheVariants.{Fixed, Absolute, Piece, External}
-use Rattle.kc_obj.specs.declared.parts.Given.{Given}
+use Rattle.kc_obj_module.specs.declared.parts.Given.{Given}
 use Rattle.kc_asm_piece.specs.declared.draft.Public.{Public}
 
 -- an address is a number alone

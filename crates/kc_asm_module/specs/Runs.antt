@@ -1,7 +1,7 @@
 -- Runs of bytes as long as they can be, cut every 1,024 bytes, and relocations, of what stands at the places of a module.
 use Rattle.std.specs.Prelude.{◌≡◌, ℕ, Bool, ◌+◌, ◌==◌, ◌&&◌, nat_lt, if◌then◌else◌, Option, Some, None, List, [], ◌∷◌, ◌++◌, length}
-use Rattle.kc_obj.specs.declared.parts.Content.{Content}
-use Rattle.kc_obj.specs.declared.parts.Fixup.{Fixup}
+use Rattle.kc_obj_module.specs.declared.parts.Content.{Content}
+use Rattle.kc_obj_module.specs.declared.parts.Fixup.{Fixup}
 use Rattle.kc_asm_module.specs.declared.puts.Put.{Put}
 use Rattle.kc_asm_module.specs.declared.runs.Run.{Run}
 

@@ -1,8 +1,8 @@
 -- Pieces of a module with what stands in them, one after the other.
 use Rattle.std.specs.Prelude.{◌≡◌, ℕ, true, ◌+◌, ◌<◌, ◌≤◌, List, [], ◌∷◌, ◌++◌, map, length}
 use Rattle.std.specs.List.{list_all}
-use Rattle.kc_obj.specs.declared.parts.Segment.{Segment}
-use Rattle.kc_obj.specs.declared.parts.Lines.{Lines}
+use Rattle.kc_obj_module.specs.declared.parts.Segment.{Segment}
+use Rattle.kc_obj_module.specs.declared.parts.Lines.{Lines}
 use Rattle.kc_asm_piece.specs.Tape.{Tape}
 use Rattle.kc_asm_module.specs.declared.puts.Put.{Put}
 use Rattle.kc_asm_module.specs.Order.{start_of, segment_of}

@@ -8,7 +8,7 @@ use crate::kept::Kept;
 use crate::puts::{Put, put_cells, put_marks};
 use kc_asm_piece::Part;
 use kc_base::NoMemory;
-use kc_obj::{Lines, SegKind, Segment};
+use kc_obj_module::{Lines, SegKind, Segment};
 use std::alloc::Global;
 use std::marker::Model;
 

@@ -1,14 +1,14 @@
 ghost use Rattle.std.specs.Prelude.{◌≡◌, slice_get};
 ghost use Rattle.std.specs.List.{list_any};
-ghost use Rattle.kc_obj.specs.Pieces as pieces;
+ghost use Rattle.kc_obj_module.specs.Pieces as pieces;
 ghost use Rattle.kc_asm_bytes.specs.Relocating as relocating;
 ghost use Rattle.kc_asm_module.specs.Order as order;
 
 use kc_asm_bytes::{Octet, relocated};
 use kc_asm_piece::{Part, Public};
 use kc_expr::Base;
-use kc_obj::SegKind;
-use kc_obj::pieces::number_of as kind_number;
+use kc_obj_module::SegKind;
+use kc_obj_module::pieces::number_of as kind_number;
 
 /// Which of the relocatable parts are pieces of the module.
 #[derive(Clone, Copy, PartialEq, Eq)]

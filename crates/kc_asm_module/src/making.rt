@@ -8,7 +8,7 @@ use crate::publics::publics_of;
 use crate::runs::{contents_of, fixups_of};
 use kc_asm_piece::Draft;
 use kc_base::NoMemory;
-use kc_obj::Module;
+use kc_obj_module::Module;
 use std::alloc::Global;
 
 /// The module that the draft of a source without fault is. Its pieces are the relocatable parts that are nonempty or

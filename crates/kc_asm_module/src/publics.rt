@@ -1,7 +1,7 @@
 ghost use Rattle.std.specs.Prelude.{◌≡◌, true, map, IfOk, OnOk};
 ghost use Rattle.std.specs.List.{IsDistinct};
 ghost use Rattle.std.specs.List.Sorted.{IsPermutation, IsSortedBy};
-ghost use Rattle.kc_obj.specs.Rules.{publics_in_order};
+ghost use Rattle.kc_obj_module.specs.Rules.{publics_in_order};
 ghost use Rattle.kc_asm_module.specs.Order as order;
 ghost use Rattle.kc_asm_module.specs.Publics as spec;
 
@@ -9,7 +9,7 @@ use crate::kept::{Kept, number_of};
 use kc_asm_piece::Public;
 use kc_base::NoMemory;
 use kc_expr::Base;
-use kc_obj::Given;
+use kc_obj_module::Given;
 use std::alloc::Global;
 
 fn piece_of(kept: Kept, base: Base) -> Option<u16>

@@ -1,6 +1,6 @@
 ghost use Rattle.std.specs.Prelude.{◌≡◌, ◌+◌, ◌<◌, ◌≤◌, ◌++◌, map, true, OnOk};
 ghost use Rattle.std.specs.List.{list_all};
-ghost use Rattle.kc_obj.specs.Pieces as pieces;
+ghost use Rattle.kc_obj_module.specs.Pieces as pieces;
 ghost use Rattle.kc_asm_bytes.specs.Relocating as relocating;
 ghost use Rattle.kc_asm_module.specs.Order as order;
 ghost use Rattle.kc_asm_module.specs.Puts as spec;
@@ -10,7 +10,7 @@ use kc_asm_bytes::{relocated, shown};
 use kc_asm_piece::{Cell, Mark, Part};
 use kc_base::NoMemory;
 use kc_expr::{Base, Value};
-use kc_obj::{Fixup, Lines, Target};
+use kc_obj_module::{Fixup, Lines, Target};
 
 /// A byte of the module at its place, with the relocation that begins there.
 #[derive(Clone, Copy)]

@@ -4,7 +4,7 @@ ghost use Rattle.kc_asm_module.specs.Runs as spec;
 
 use crate::puts::Put;
 use kc_base::{NoMemory, Text};
-use kc_obj::{Content, Fixup};
+use kc_obj_module::{Content, Fixup};
 use std::alloc::Global;
 
 /// The most bytes of a run.

@@ -7,7 +7,7 @@ use Rattle.kc_lex.specs.Lines.{lines_of}
 use Rattle.kc_macro.specs.Expansion.{Answer, expanded, Ends, ExpansionEnds}
 use Rattle.kc_source.specs.Clear.{NamesAreClear}
 use Rattle.kc_source.specs.Faults.{Fault, least, faults_of}
-use Rattle.kc_obj.specs.Object.{Object}
+use Rattle.kc_obj_module.specs.Object.{Object}
 use Rattle.kc_asm_symbols.specs.Few.{ExternalsAreFew}
 use Rattle.kc_asm_module.specs.ModuleOf.{pieces_in}
 use Rattle.kc_asm_check.specs.Judging.{first_fault}

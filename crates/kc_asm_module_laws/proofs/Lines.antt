@@ -8,7 +8,7 @@ use Rattle.kc_macro.specs.Expansion.{Answer, on_next, settled, run, run_out, sta
 use Rattle.kc_macro.proofs.Soundness.{IsStrict, step_strict}
 use Rattle.kc_source_statement.specs.Operands.{is_nil}
 use Rattle.kc_source.specs.Faults.{said, all_said}
-use Rattle.kc_obj.specs.declared.parts.SegKind.{SegKind}
+use Rattle.kc_obj_module.specs.declared.parts.SegKind.{SegKind}
 use Rattle.kc_asm_symbols.specs.Located.{Located}
 use Rattle.kc_asm_symbols.specs.Meanings.{meaning}
 use Rattle.kc_asm_piece.specs.Tape.{Tape, blank}

@@ -2,7 +2,7 @@
 use Rattle.std.proofs.Common.{◌≡◌, ℕ, zero, suc, ◌<◌, List, [], ◌∷◌, length, refl, ap, subst, arith}
 use Rattle.std.specs.Prelude.{Some, slice_get}
 use Rattle.std.proofs.lemmas.Option.{slice_get_within}
-use Rattle.kc_obj.specs.Object.{Object}
+use Rattle.kc_obj_module.specs.Object.{Object}
 use Rattle.kc_link_place.specs.Apart.{AllKeepRules}
 use Rattle.kc_link_laws.specs.Linked.{ArePlaced, PlacedHaveImage, PlacedHaveLines}
 use Rattle.kc_asm.specs.Assembled.{IsModule}

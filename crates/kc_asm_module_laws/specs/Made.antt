@@ -1,7 +1,7 @@
 -- A text without a fault has a module, and placed modules of texts have an image and a line map (this kit's own).
 use Rattle.std.specs.Prelude.{◌≡◌, ℕ, true, Some, Result, Ok, List, slice_get}
 use Rattle.kc_source.specs.Faults.{Fault}
-use Rattle.kc_obj.specs.Object.{Object}
+use Rattle.kc_obj_module.specs.Object.{Object}
 use Rattle.kc_link_place.specs.declared.ranges.Ranges.{Ranges}
 use Rattle.kc_link_place.specs.Ranges.{are_in_bounds}
 use Rattle.kc_link_place.specs.Placing.{Places}

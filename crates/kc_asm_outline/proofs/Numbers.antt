@@ -1,8 +1,8 @@
 -- The pieces of an outline are numbered as they are opened.
 use Rattle.std.proofs.Common.{◌≡◌, ℕ, ◌+◌, Bool, true, false, cond, ◌&&◌, ◌||◌, List, [], ◌∷◌, refl, eq-eqb}
 use Rattle.std.specs.Prelude.{◌==◌, nat_le, Option, Some, None}
-use Rattle.kc_obj.specs.declared.parts.SegKind.{SegKind}
-use Rattle.kc_obj.specs.declared.parts.SegKind.TheVariants.{Reg, Code, Ram, Stack}
+use Rattle.kc_obj_module.specs.declared.parts.SegKind.{SegKind}
+use Rattle.kc_obj_module.specs.declared.parts.SegKind.TheVariants.{Reg, Code, Ram, Stack}
 use Rattle.kc_expr.specs.Tree.{Tree}
 use Rattle.kc_source_statement.specs.declared.statement.Stmt.{Stmt}
 use Rattle.kc_source_statement.specs.Trees.{ActionTree, action_tree}

@@ -2,7 +2,7 @@
 -- in force until another one is opened, and statements in code have the alignment 1 or 2 (after the MCS-96 Macro Assembler
 -- User's Guide, "Segments and the Location Counter").
 use Rattle.std.specs.Prelude.{◌≡◌, ℕ, ◌+◌, Bool, true, ◌&&◌, ◌||◌, not, ◌==◌, if◌then◌else◌, List, [], ◌∷◌, Option, Some, None}
-use Rattle.kc_obj.specs.Pieces.{kind_number}
+use Rattle.kc_obj_module.specs.Pieces.{kind_number}
 use Rattle.kc_asm_symbols.specs.declared.segments.Segment.{Segment}
 use Rattle.kc_asm_symbols.specs.Located.{first_segment, is_absolute}
 use Rattle.kc_asm_outline.specs.declared.note.Note.{Note}

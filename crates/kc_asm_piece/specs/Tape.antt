@@ -1,7 +1,7 @@
 -- A piece of a module while it is written: octets at some of its offsets
 -- (after the MCS-96 Macro Assembler User's Guide, "Program Segments").
 use Rattle.std.specs.Prelude.{ℕ, Bool, ◌+◌, ◌==◌, ◌&&◌, nat_le, if◌then◌else◌, Option, Some, None, List, [], ◌∷◌, ◌++◌, map}
-use Rattle.kc_obj.specs.declared.parts.SegKind.{SegKind}
+use Rattle.kc_obj_module.specs.declared.parts.SegKind.{SegKind}
 use Rattle.kc_asm_bytes.specs.declared.octet.Octet.{Octet}
 use Rattle.kc_asm_piece.specs.declared.part.Cell.{Cell}
 use Rattle.kc_asm_piece.specs.declared.part.Mark.{Mark}

@@ -1,7 +1,7 @@
 use crate::Part;
 use kc_base::Text;
 use kc_expr::Value;
-use kc_obj::Taken;
+use kc_obj_module::Taken;
 
 /// A name that the module gives, with its value.
 #[derive(Drop)]

@@ -3,7 +3,7 @@ ghost use Rattle.kc_asm_piece.specs.Tape as tape;
 
 use kc_asm_bytes::Octet;
 use kc_base::NoMemory;
-use kc_obj::SegKind;
+use kc_obj_module::SegKind;
 use std::alloc::Global;
 use std::marker::Model;
 

@@ -6,7 +6,7 @@ use Rattle.std.specs.List.Sorted.{IsNonDecreasingBy, IsStableByKey, ties}
 use Rattle.std.specs.Ordering.{is_lt, nat_cmp}
 use Rattle.std.proofs.lemmas.Bool.Decides.{nat_tests}
 use Rattle.std.specs.declared.cmp.Ordering.TheVariants.{Less, Equal, Greater}
-use Rattle.kc_obj.specs.declared.parts.SegKind.TheVariants.{Code}
+use Rattle.kc_obj_module.specs.declared.parts.SegKind.TheVariants.{Code}
 use Rattle.kc_asm_rows.specs.declared.spot.Spot.{Spot}
 use Rattle.kc_asm_rows.specs.Order.{Rises}
 use Rattle.kc_asm_rows.specs.Rows.{is_on}

@@ -9,12 +9,12 @@ use Rattle.std.specs.Slice.{IsItemAt}
 use Rattle.std.specs.Option.{option_copied}
 use Rattle.std.proofs.lemmas.Bool.Decides.{nat_tests}
 use Rattle.std.proofs.lemmas.Option.{slice_get_past, slice_get_read}
-use Rattle.kc_obj.specs.declared.parts.Content.{Content}
-use Rattle.kc_obj.specs.declared.parts.Fixup.{Fixup}
-use Rattle.kc_obj.specs.Contents.{content_end, content_follows, contents_in_order, byte_of, content_at, is_over}
-use Rattle.kc_obj.specs.Fixups.{fixups_in_order, fills}
-use Rattle.kc_obj.proofs.ContentLemmas.{over_skips, only_first, ordered_rest, none_at}
-use Rattle.kc_obj.proofs.RoomLemmas.{rest_in_order, next_follows}
+use Rattle.kc_obj_module.specs.declared.parts.Content.{Content}
+use Rattle.kc_obj_module.specs.declared.parts.Fixup.{Fixup}
+use Rattle.kc_obj_module.specs.Contents.{content_end, content_follows, contents_in_order, byte_of, content_at, is_over}
+use Rattle.kc_obj_module.specs.Fixups.{fixups_in_order, fills}
+use Rattle.kc_obj_module.proofs.ContentLemmas.{over_skips, only_first, ordered_rest, none_at}
+use Rattle.kc_obj_module.proofs.RoomLemmas.{rest_in_order, next_follows}
 use Rattle.kc_obj_relocation.specs.Numbers.{width}
 
 -- ---- items of slices

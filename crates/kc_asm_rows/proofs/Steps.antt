@@ -2,7 +2,7 @@
 use Rattle.std.proofs.Common.{◌≡◌, ℕ, zero, suc, ◌+◌, ◌-◌, ◌<◌, ◌≤◌, List, [], ◌∷◌, ◌++◌, refl, sym, ◌∙◌, append_assoc, arith}
 use Rattle.std.proofs.lemmas.List.{append-nil}
 use Rattle.std.specs.List.{filter}
-use Rattle.kc_obj.specs.Object.{Object}
+use Rattle.kc_obj_module.specs.Object.{Object}
 use Rattle.kc_asm_rows.specs.declared.spot.Spot.{Spot}
 use Rattle.kc_asm_rows.specs.Octets.{octet_text}
 use Rattle.kc_base.specs.TextLines.{text_lines}

@@ -2,12 +2,12 @@
 use Rattle.std.specs.Prelude.{ℕ, suc, Bool, ◌+◌, ◌-◌, ◌==◌, ◌&&◌, nat_lt, if◌then◌else◌, List, [], ◌∷◌, Option, Some, None, is_some, unwrap_or}
 use Rattle.std.specs.List.{list_any, prefix_len}
 use Rattle.kc_base.specs.Digits.{hex}
-use Rattle.kc_obj.specs.declared.parts.SegKind.{SegKind}
-use Rattle.kc_obj.specs.declared.parts.Segment.{Segment}
-use Rattle.kc_obj.specs.Object.{Object}
-use Rattle.kc_obj.specs.Pieces.{kind_number, is_relocatable}
-use Rattle.kc_obj.specs.Contents.{content_at}
-use Rattle.kc_obj.specs.Fixups.{fills}
+use Rattle.kc_obj_module.specs.declared.parts.SegKind.{SegKind}
+use Rattle.kc_obj_module.specs.declared.parts.Segment.{Segment}
+use Rattle.kc_obj_module.specs.Object.{Object}
+use Rattle.kc_obj_module.specs.Pieces.{kind_number, is_relocatable}
+use Rattle.kc_obj_module.specs.Contents.{content_at}
+use Rattle.kc_obj_module.specs.Fixups.{fills}
 use Rattle.kc_asm_rows.specs.declared.spot.Spot.{Spot}
 
 -- ---- its piece: the relocatable pieces of a module stand first, one of a kind, and the absolute ones as the source opens them

@@ -7,7 +7,7 @@ use crate::fields::put_front;
 use crate::octets::{put_octet, told};
 use crate::spot::Spot;
 use kc_base::NoMemory;
-use kc_obj::Module;
+use kc_obj_module::Module;
 
 /// The most bytes in a row.
 const IN_A_ROW: u8 = 8;

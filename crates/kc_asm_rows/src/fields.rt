@@ -7,7 +7,7 @@ ghost use Rattle.kc_asm_rows.specs.Rows as spec;
 use crate::spot::Spot;
 use itoa::Buffer;
 use kc_base::{NoMemory, hex_digit};
-use kc_obj::SegKind;
+use kc_obj_module::SegKind;
 
 /// Puts blanks behind a text.
 pub(crate) fn put_blanks(text: &mut Vec<u8>, count: usize) -> Result<(), NoMemory>
@@ -65,7 +65,7 @@ fn put_place(text: &mut Vec<u8>, place: u64) -> Result<(), NoMemory>
 }
 
 // Puts how deep a statement stands behind a text.
-fn put_depth(text: &mut Vec<u8>, depth: u32) -> Result<(), NoMemory>
+fn put_depth(text: &mut Vec<u8>, depth: usize) -> Result<(), NoMemory>
     ensures { OnOk result (text.new.items ≡ text.old.items ++ spec.depth_text depth) }
 {
     if depth == 0 {

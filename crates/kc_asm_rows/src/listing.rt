@@ -9,7 +9,7 @@ ghost use Rattle.kc_asm_rows.specs.Rows as spec;
 use crate::spot::Spot;
 use crate::statements::{put_all_made, put_bare, put_own};
 use kc_base::{NoMemory, after, first_line, front};
-use kc_obj::Module;
+use kc_obj_module::Module;
 use std::alloc::Global;
 
 // Puts a line with its statements behind a text.

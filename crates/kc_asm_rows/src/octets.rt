@@ -3,15 +3,15 @@
 ghost use Rattle.std.specs.Prelude.{◌≡◌, ◌++◌, ◌+◌, ◌-◌, ◌≤◌, ◌==◌, ◌&&◌, ◌||◌, nat_lt, nat_le, true, OnOk};
 ghost use Rattle.std.specs.List.{list_any};
 ghost use Rattle.kc_base.specs.Digits.{hex};
-ghost use Rattle.kc_obj.specs.Contents as stands;
-ghost use Rattle.kc_obj.specs.Fixups as relocations;
+ghost use Rattle.kc_obj_module.specs.Contents as stands;
+ghost use Rattle.kc_obj_module.specs.Fixups as relocations;
 ghost use Rattle.kc_obj_relocation.specs.Numbers as numbers;
 ghost use Rattle.kc_asm_rows.specs.Octets as spec;
 
 use crate::pieces::piece_of;
 use crate::spot::Spot;
 use kc_base::{NoMemory, hex_digit};
-use kc_obj::{Content, Fixup, Module};
+use kc_obj_module::{Content, Fixup, Module};
 use kc_obj_relocation::width;
 
 fn end_of(content: &Content) -> usize

@@ -2,12 +2,12 @@
 
 ghost use Rattle.std.specs.Prelude.{◌≡◌, ◌≤◌, length};
 ghost use Rattle.std.specs.List.{prefix_len};
-ghost use Rattle.kc_obj.specs.Pieces as pieces;
+ghost use Rattle.kc_obj_module.specs.Pieces as pieces;
 ghost use Rattle.kc_asm_rows.specs.Octets as spec;
 
 use crate::spot::Spot;
-use kc_obj::pieces::number_of as kind_number;
-use kc_obj::{SegKind, Segment};
+use kc_obj_module::pieces::number_of as kind_number;
+use kc_obj_module::{SegKind, Segment};
 
 fn is_relocatable(segment: Segment) -> bool
     ensures { result ≡ pieces.is_relocatable segment.at }

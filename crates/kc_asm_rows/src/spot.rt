@@ -1,4 +1,4 @@
-use kc_obj::SegKind;
+use kc_obj_module::SegKind;
 
 /// Where a statement of a source stands: its line, from 1; its depth, that is from how many calls of macros and repetitions,
 /// one in the other, it comes, 0 of the line itself; whether it has a label; the kind and the number of its piece, as the
@@ -8,7 +8,7 @@ use kc_obj::SegKind;
 #[derive(Clone, Copy, PartialEq, Eq)]
 pub struct Spot {
     pub line: u32,
-    pub depth: u32,
+    pub depth: usize,
     pub labelled: bool,
     pub kind: SegKind,
     pub piece: u32,

@@ -9,7 +9,7 @@ use crate::fields::{put_blanks, put_front, put_number};
 use crate::octets::told;
 use crate::spot::Spot;
 use kc_base::NoMemory;
-use kc_obj::Module;
+use kc_obj_module::Module;
 use std::alloc::Global;
 
 /// The column at which the text of a line begins.

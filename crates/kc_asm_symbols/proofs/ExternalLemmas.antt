@@ -6,7 +6,7 @@ use Rattle.std.proofs.Math.ListN.{drop_of_length-le}
 use Rattle.std.specs.List.{list_any}
 use Rattle.std.proofs.lemmas.List.{append-nil}
 use Rattle.std.proofs.lemmas.List.Folds.{list_any-append}
-use Rattle.kc_obj.specs.declared.parts.Taken.{Taken}
+use Rattle.kc_obj_module.specs.declared.parts.Taken.{Taken}
 use Rattle.kc_expr.specs.declared.values.Value.{Value}
 use Rattle.kc_expr.specs.Tree.{Tree}
 use Rattle.kc_source_statement.specs.declared.statement.Stmt.{Stmt}

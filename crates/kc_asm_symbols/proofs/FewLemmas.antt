@@ -6,8 +6,8 @@ use Rattle.std.specs.Str.{bytes_eq}
 use Rattle.std.proofs.lemmas.List.{length-map}
 use Rattle.std.proofs.lemmas.Bool.{or_parts}
 use Rattle.std.proofs.lemmas.Bool.Decides.{nat_tests}
-use Rattle.kc_obj.specs.declared.parts.SegKind.{SegKind}
-use Rattle.kc_obj.specs.Pieces.{is_register_kind}
+use Rattle.kc_obj_module.specs.declared.parts.SegKind.{SegKind}
+use Rattle.kc_obj_module.specs.Pieces.{is_register_kind}
 use Rattle.kc_expr.specs.declared.values.Value.{Value}
 use Rattle.kc_lex.proofs.FaultLemmas.{no_least, nothing_left, no_code_at}
 use Rattle.kc_source_statement.specs.declared.statement.Stmt.{Stmt}

@@ -13,7 +13,7 @@ use Rattle.kc_expr.specs.Tree.{Tree}
 use Rattle.kc_expr.specs.Meaning.{Answer, answer_by, here}
 use Rattle.kc_expr.specs.Known.{is_known}
 use Rattle.kc_expr.proofs.KnownLemmas.{answer_known}
-use Rattle.kc_obj.specs.declared.parts.Taken.{Taken}
+use Rattle.kc_obj_module.specs.declared.parts.Taken.{Taken}
 use Rattle.kc_asm_symbols.specs.Located.{Located}
 use Rattle.kc_asm_symbols.specs.Externals.{externals, external_in, tag_of_taken, stack_name}
 use Rattle.kc_asm_symbols.specs.Meanings.{or_told, is_label, label_answer, external_answer, with_here, is_taken_by, defines, by_definition, earlier, is_set, is_definition, in_all, throughout, meaning}

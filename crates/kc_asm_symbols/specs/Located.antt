@@ -1,9 +1,9 @@
 -- Where statements stand. A segment is in force from the statement that opens it on; a module begins in its code segment
 -- (after the MCS-96 Macro Assembler User's Guide, "Segments and the Location Counter").
 use Rattle.std.specs.Prelude.{ℕ, Bool, ◌+◌, ◌%◌, nat_le, if◌then◌else◌, List, [], ◌∷◌, map, get_or, Option, Some, None}
-use Rattle.kc_obj.specs.declared.parts.SegKind.{SegKind}
-use Rattle.kc_obj.specs.declared.parts.SegKind.TheVariants.{Reg, Code, Ram, Stack}
-use Rattle.kc_obj.specs.Pieces.{kind_number}
+use Rattle.kc_obj_module.specs.declared.parts.SegKind.{SegKind}
+use Rattle.kc_obj_module.specs.declared.parts.SegKind.TheVariants.{Reg, Code, Ram, Stack}
+use Rattle.kc_obj_module.specs.Pieces.{kind_number}
 use Rattle.kc_expr.specs.declared.values.Base.{Base}
 use Rattle.kc_expr.specs.declared.values.Base.TheVariants.{Absolute, Piece}
 use Rattle.kc_expr.specs.declared.values.Tag.{Tag}

@@ -12,8 +12,8 @@ use crate::segments::Segment;
 use kc_base::{NoMemory, Text};
 use kc_expr::Expr;
 use kc_lex::words::is_stack;
-use kc_obj::pieces::is_register;
-use kc_obj::{SegKind, Taken};
+use kc_obj_module::pieces::is_register;
+use kc_obj_module::{SegKind, Taken};
 use kc_source_statement::{Action, Arg, Item, Stmt};
 use std::alloc::Global;
 

@@ -12,7 +12,7 @@ use crate::numbers::Numbers;
 use crate::table::Table;
 use kc_base::{NoMemory, Text};
 use kc_expr::{Base, Tag, Value};
-use kc_obj::Taken;
+use kc_obj_module::Taken;
 use kc_source_statement::{Action, Stmt};
 use std::alloc::Global;
 use std::rc::Rc;

@@ -5,8 +5,8 @@ ghost use Rattle.kc_source_statement.specs.Trees.{action_tree};
 ghost use Rattle.kc_asm_symbols.specs.Located as spec;
 
 use kc_expr::{Base, Expr, Tag, Value};
-use kc_obj::SegKind;
-use kc_obj::pieces::number_of;
+use kc_obj_module::SegKind;
+use kc_obj_module::pieces::number_of;
 use kc_source_statement::Action;
 
 /// The segment in force at a statement: the number and the kind of its piece, and how many pieces there are so far. The

@@ -3,7 +3,7 @@ use kc_asm_layout::layout;
 use kc_asm_outline::{Anchor, Body, Note};
 use kc_asm_symbols::Segment;
 use kc_branch::{BranchKind, Form};
-use kc_obj::SegKind;
+use kc_obj_module::SegKind;
 use std::test::*;
 
 const MAIN: Segment = Segment {

@@ -4,7 +4,7 @@ use kc_asm_symbols::{Names, Segment, externals};
 use kc_base::NoMemory;
 use kc_branch::BranchKind;
 use kc_lex::lines;
-use kc_obj::SegKind;
+use kc_obj_module::SegKind;
 use kc_source::statements;
 use std::alloc::Global;
 use std::test::*;

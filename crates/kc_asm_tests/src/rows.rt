@@ -3,7 +3,7 @@ ghost use Rattle.std.specs.Prelude.{◌≤◌, length};
 
 use kc_asm_rows::{Spot, rows};
 use kc_base::Text;
-use kc_obj::{Content, Module, SegKind, Segment};
+use kc_obj_module::{Content, Module, SegKind, Segment};
 use std::test::*;
 
 // Three bytes of relocatable code.
@@ -34,7 +34,7 @@ fn module(rt: &HostRuntime) -> Result<Module, Fail> {
 }
 
 // A statement of one byte at a place.
-fn spot(line: u32, depth: u32, offset: u32) -> Spot {
+fn spot(line: u32, depth: usize, offset: u32) -> Spot {
     let place = u64::from(offset);
     Spot {
         line,

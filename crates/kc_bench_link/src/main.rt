@@ -7,7 +7,7 @@ ghost use Rattle.std.specs.Prelude.{◌≤◌, ◌<◌, IfSome};
 use kc_base::{NoMemory, Text};
 use kc_link::link;
 use kc_link_place::Ranges;
-use kc_obj::{Content, Fixup, Given, Module, SegKind, Segment, Taken, Target};
+use kc_obj_module::{Content, Fixup, Given, Module, SegKind, Segment, Taken, Target};
 use std::alloc::Global;
 use std::process::ExitCode;
 use std::{env, io};

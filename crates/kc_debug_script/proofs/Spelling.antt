@@ -10,7 +10,7 @@ use Rattle.kc_base.specs.TextLines.{text_lines}
 use Rattle.kc_base.specs.Fields.{is_space, word_of, byte_of}
 use Rattle.kc_base.proofs.Words.{Word, word-before, word-after, Plain, plain-word, plain-append, plain_line, no_lines}
 use Rattle.kc_base.proofs.Numbers.{word-decimal, number-read as decimal-read, word-hex, upper-hex, word-read, byte-read}
-use Rattle.kc_obj.specs.Names.{is_name_char, begins_name, is_name}
+use Rattle.kc_obj_module.specs.Names.{is_name_char, begins_name, is_name}
 use Rattle.kc_debug_script.specs.declared.command.Command.{Command}
 use Rattle.kc_debug_script.specs.declared.command.Command.TheVariants.{Step, Go, Break, Registers, Show, Write, History, Quit}
 use Rattle.kc_debug_script.specs.declared.line_map.MapEntry.{MapEntry}

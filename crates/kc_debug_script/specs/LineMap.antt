@@ -4,7 +4,7 @@ use Rattle.std.specs.List.{list_any}
 use Rattle.std.specs.Char.{is_ascii_lowercase}
 use Rattle.kc_base.specs.Fields.{first_of, second_of, third_of, word_of}
 use Rattle.kc_base.specs.TextLines.{text_lines}
-use Rattle.kc_obj.specs.Names.{is_name}
+use Rattle.kc_obj_module.specs.Names.{is_name}
 use Rattle.kc_debug_script.specs.declared.line_map.MapEntry.{MapEntry}
 use Rattle.kc_debug_script.specs.declared.fault.DebugFault.{DebugFault}
 use Rattle.kc_debug_script.specs.declared.fault.DebugFault.TheVariants as faults

@@ -1,6 +1,6 @@
 -- How the commands of a script, and the entries of a line map, are written (this kit's own).
 use Rattle.std.specs.Prelude.{◌≡◌, ℕ, ◌<◌, ◌≤◌, ◌^◌, true, List, ◌++◌, codes, decimal, flat_map}
-use Rattle.kc_obj.specs.Names.{is_name}
+use Rattle.kc_obj_module.specs.Names.{is_name}
 use Rattle.kc_base.specs.Digits.{hex}
 use Rattle.kc_debug_script.specs.declared.command.Command.{Command}
 use Rattle.kc_debug_script.specs.declared.command.Command.TheVariants.{Step, Go, Break, Registers, Show, Write, History, Quit}

@@ -7,7 +7,7 @@ ghost use Rattle.kc_debug_script.specs.LineMap.{map_address as address_in_map, i
 use crate::fault::DebugFault;
 use crate::fields::number;
 use kc_base::{NoMemory, Text, after, first_line, front, hex_word, split_at_space};
-use kc_obj::names::name_is_sound;
+use kc_obj_module::names::name_is_sound;
 use std::alloc::Global;
 use std::marker::Model;
 

@@ -20,9 +20,9 @@ use Rattle.kc_stim.specs.Drives.{Drives}
 use Rattle.kc_convert.specs.declared.sample.Sample.{Sample}
 use Rattle.kc_convert.specs.Reading as values
 use Rattle.kc_stim.specs.Reading.{nothing, with_item, first_fault, items_of}
-use Rattle.kc_obj.specs.Object.{Object}
-use Rattle.kc_obj_faults.specs.declared.faults.Fault.{Fault}
-use Rattle.kc_obj_read.specs.Reading.{answer_of}
+use Rattle.kc_obj_module.specs.Object.{Object}
+use Rattle.kc_obj_fields.specs.declared.faults.Fault.{Fault}
+use Rattle.kc_obj.specs.Reading.{answer_of}
 use Rattle.kc_link_place.specs.declared.ranges.Ranges.{Ranges}
 use Rattle.kc_link_place.specs.declared.ranges.LinkFault.{LinkFault}
 use Rattle.kc_link_place.specs.Placing.{Places}

@@ -15,7 +15,7 @@ use Rattle.kc_kit_files.proofs.ReplyLemmas.{said-refused}
 use Rattle.kc_kit_answer.specs.declared.job.Job.{Job}
 use Rattle.kc_kit_words.specs.declared.command.Command.{Command as Read}
 use Rattle.kc_kit_words.specs.Asked.{asked}
-use Rattle.kc_obj.specs.Object.{Object}
+use Rattle.kc_obj_module.specs.Object.{Object}
 use Rattle.kc_kit_inputs.specs.Hex.{hex_of}
 use Rattle.kc_kit_inputs.specs.Library.{library_of, TakenAre}
 use Rattle.kc_kit_notes.specs.Rules.{member_words}

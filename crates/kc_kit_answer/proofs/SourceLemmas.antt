@@ -14,7 +14,7 @@ use Rattle.kc_link.specs.Placed.{placed}
 use Rattle.kc_link.specs.Filled.{IsFilled}
 use Rattle.kc_link_source_laws.specs.Characters.{has_bytes}
 use Rattle.kc_link_source_laws.specs.Linked.{IsSource, LinkedImage}
-use Rattle.kc_obj.specs.Object.{Object}
+use Rattle.kc_obj_module.specs.Object.{Object}
 use Rattle.kc_asm.specs.Assembled.{AreSaid}
 use Rattle.kc_asm.proofs.Said.{said_well}
 use Rattle.kc_asm_earlier_laws.specs.Read.{SourcesAreReadWell}

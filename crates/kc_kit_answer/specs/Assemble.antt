@@ -1,7 +1,7 @@
 -- The command that assembles a source (this kit's own).
 use Rattle.std.specs.Prelude.{◌≡◌, ℕ, List, [], ◌∷◌, Option, Some, None, Result}
-use Rattle.kc_obj.specs.Object.{Object}
-use Rattle.kc_obj.specs.Spelling.{spelling}
+use Rattle.kc_obj_module.specs.Object.{Object}
+use Rattle.kc_obj_module.specs.Spelling.{spelling}
 use Rattle.kc_asm_list.specs.Listed.{IsListing}
 use Rattle.kc_kit_files.specs.Reply.{Reply, Write, write, done_writing, Then}
 use Rattle.kc_kit_inputs.specs.Sources.{SourceIs}

@@ -1,7 +1,7 @@
 -- The command that runs the input that is made from a number (this kit's own).
 use Rattle.std.specs.Prelude.{ℕ, Some, None, List, [], ◌∷◌, codes}
 use Rattle.std.specs.Result.{IsOk}
-use Rattle.kc_obj.specs.Object.{Object}
+use Rattle.kc_obj_module.specs.Object.{Object}
 use Rattle.kc_gen.specs.Sources.{program_text}
 use Rattle.kc_gen.specs.Stimuli.{stimuli_text}
 use Rattle.kc_kit_files.specs.Reply.{Reply}

@@ -1,6 +1,6 @@
 -- The command that packs objects into a library (this kit's own).
 use Rattle.std.specs.Prelude.{◌≡◌, ℕ, List, [], ◌∷◌, Option, Some, None}
-use Rattle.kc_obj.specs.Object.{Object}
+use Rattle.kc_obj_module.specs.Object.{Object}
 use Rattle.kc_lib.specs.Format.{library_bytes}
 use Rattle.kc_lib.specs.Names.{doubled}
 use Rattle.kc_link_place.specs.declared.ranges.LinkFault.TheVariants as faults

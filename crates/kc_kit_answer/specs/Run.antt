@@ -2,7 +2,7 @@
 use Rattle.std.specs.Prelude.{◌≡◌, ℕ, ◌≤◌, true, None, List, [], ◌∷◌, length, Result}
 use Rattle.std.specs.List.{list_all}
 use Rattle.std.specs.Result.{IsOk}
-use Rattle.kc_obj.specs.Object.{Object}
+use Rattle.kc_obj_module.specs.Object.{Object}
 use Rattle.kc_source_statement.specs.declared.statement.Stmt.{Stmt}
 use Rattle.kc_asm_check.specs.Judging.{first_fault}
 use Rattle.kc_asm_piece.specs.declared.draft.Draft.{Draft}

@@ -12,7 +12,7 @@ use kc_kit_files::{Refusal, read_file};
 use kc_kit_inputs::assemble_source;
 use kc_kit_running::Output;
 use kc_kit_words::{Assemble, Command};
-use kc_obj::{Module, encode};
+use kc_obj_module::{Module, encode};
 use std::alloc::Global;
 
 /// Reads a source and assembles the object that is to be written.

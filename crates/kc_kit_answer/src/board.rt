@@ -15,7 +15,7 @@ use kc_kit_notes::{Origins, link_refusal};
 use kc_kit_running::Board;
 use kc_kit_words::Ranges;
 use kc_link_source_laws::linked_image;
-use kc_obj::Module;
+use kc_obj_module::Module;
 use std::alloc::Global;
 
 /// The board of a hex file by its name and its text, with what given files drive; or the refusal of the first fault.

@@ -24,7 +24,7 @@ use kc_kit_running::Output;
 use kc_kit_words::{Command, Link, Role};
 use kc_link::line_map;
 use kc_link_map::link_map;
-use kc_obj::Module;
+use kc_obj_module::Module;
 use std::alloc::Global;
 
 /// Reads objects, and a library where one is named, and links them to the files that are to be written.

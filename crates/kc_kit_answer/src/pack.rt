@@ -1,6 +1,6 @@
 // The command that packs objects into a library.
 ghost use Rattle.std.specs.Prelude.{◌≡◌, ◌<◌, ◌^◌, All, length, map, string_bytes};
-ghost use Rattle.kc_obj.specs.Spelling.{spelling};
+ghost use Rattle.kc_obj_module.specs.Spelling.{spelling};
 ghost use Rattle.kc_lib.specs.Names.{doubled};
 ghost use Rattle.kc_kit_files.specs.Reads.{AllShort};
 ghost use Rattle.kc_kit_words.specs.Asked.{asked, AreFew, IsWithin};
@@ -16,7 +16,7 @@ use kc_kit_running::Output;
 use kc_kit_words::{Command, Pack};
 use kc_lib::LibFault;
 use kc_link::LinkFault;
-use kc_obj::Module;
+use kc_obj_module::Module;
 use std::alloc::Global;
 
 /// Reads objects and packs the library that is to be written.

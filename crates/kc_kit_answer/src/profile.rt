@@ -20,7 +20,7 @@ use kc_kit_running::Board;
 use kc_kit_words::{Command, Profile, ProfileHex, Ranges};
 use kc_link::{LineAt, line_map};
 use kc_link_source_laws::linked_image;
-use kc_obj::Module;
+use kc_obj_module::Module;
 use std::alloc::Global;
 
 // ---- a hex file

@@ -1,6 +1,6 @@
 -- Libraries that are refused.
 use Rattle.std.proofs.Common.{◌≡◌, ℕ, List, Result, Err, refl, sym, ◌∙◌, ap, subst}
-use Rattle.kc_obj.specs.Object.{Object}
+use Rattle.kc_obj_module.specs.Object.{Object}
 use Rattle.kc_lib.specs.declared.faults.LibFault.{LibFault}
 use Rattle.kc_lib.specs.declared.faults.LibFault.TheVariants as faults
 use Rattle.kc_lib.specs.Answers.{IsCause, Takes}

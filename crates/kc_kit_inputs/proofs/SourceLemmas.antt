@@ -3,7 +3,7 @@ use Rattle.std.proofs.Common.{◌≡◌, inl, inr, ℕ, zero, suc, ◌+◌, ◌<
 use Rattle.std.specs.Prelude.{slice_get}
 use Rattle.std.specs.Global.{Vec}
 use Rattle.std.proofs.lemmas.List.{append-nil}
-use Rattle.kc_obj.specs.Object.{Object}
+use Rattle.kc_obj_module.specs.Object.{Object}
 use Rattle.kc_asm.specs.Assembled.{IsModule}
 use Rattle.kc_kit_files.specs.Reply.{Reply}
 use Rattle.kc_kit_inputs.specs.Sources.{AreModules, TellsFault, TellsFirst}

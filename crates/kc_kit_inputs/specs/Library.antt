@@ -1,6 +1,6 @@
 -- Libraries, and what modules take from them (this kit's own).
 use Rattle.std.specs.Prelude.{◌≡◌, ℕ, ◌+◌, ◌<◌, ◌≤◌, List, [], codes, length, Option, Some, None, Result, Ok, Err}
-use Rattle.kc_obj.specs.Object.{Object}
+use Rattle.kc_obj_module.specs.Object.{Object}
 use Rattle.kc_lib.specs.declared.faults.LibFault.{LibFault}
 use Rattle.kc_lib.specs.declared.faults.LibFault.TheVariants as faults
 use Rattle.kc_lib.specs.declared.faults.LibCode.TheVariants as code

@@ -1,8 +1,8 @@
 -- Objects to modules (this kit's own).
 use Rattle.std.specs.Prelude.{codes, ℕ, List, [], ◌∷◌, Result, Ok, Err}
-use Rattle.kc_obj.specs.Object.{Object}
-use Rattle.kc_obj_faults.specs.declared.faults.Fault.{Fault}
-use Rattle.kc_obj_read.specs.Reading.{answer_of}
+use Rattle.kc_obj_module.specs.Object.{Object}
+use Rattle.kc_obj_fields.specs.declared.faults.Fault.{Fault}
+use Rattle.kc_obj.specs.Reading.{answer_of}
 use Rattle.kc_kit_files.specs.Reply.{Reply, joined}
 use Rattle.kc_kit_inputs.specs.Lines.{coded}
 use Rattle.kc_kit_inputs.specs.Replies.{byte_reply}

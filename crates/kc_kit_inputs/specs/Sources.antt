@@ -1,6 +1,6 @@
 -- Sources that are judged in their order (this kit's own; the first fault of a source is that of the assembler).
 use Rattle.std.specs.Prelude.{◌≡◌, ◌⊎◌, ℕ, List, [], ◌∷◌, Option, Result, Ok, Err}
-use Rattle.kc_obj.specs.Object.{Object}
+use Rattle.kc_obj_module.specs.Object.{Object}
 use Rattle.kc_asm.specs.Assembled.{IsModule, IsFirstFault, IsFaultless}
 use Rattle.kc_asm_cause.specs.Cause.{IsCause}
 use Rattle.kc_kit_files.specs.Reply.{Reply}

@@ -7,7 +7,7 @@ ghost use Rattle.kc_kit_inputs.specs.Library.{place_of, fault_reply, library_of,
 use crate::input_lines::byte_refusal;
 use kc_kit_files::Refusal;
 use kc_lib::{LibCode, LibFault, Library};
-use kc_obj::Module;
+use kc_obj_module::Module;
 use std::alloc::Global;
 
 // The place and the number of a fault; none for want of memory and for a fault of packing.

@@ -1,6 +1,6 @@
 // Objects read to modules.
 ghost use Rattle.std.specs.Prelude.{◌≡◌, ◌≤◌, ◌<◌, ◌^◌, ◌++◌, ◌∷◌, [], Ok, Err, IfOk, IfErr, OnOk, All, length, map, string_bytes};
-ghost use Rattle.kc_obj.specs.Spelling.{spelling};
+ghost use Rattle.kc_obj_module.specs.Spelling.{spelling};
 ghost use Rattle.kc_kit_files.specs.Reply.{IsRefused};
 ghost use Rattle.kc_kit_files.specs.Reads.{AllShort};
 ghost use Rattle.kc_kit_inputs.specs.Objects.{object_of, modules_of};
@@ -8,8 +8,8 @@ ghost use Rattle.kc_kit_inputs.specs.Objects.{object_of, modules_of};
 use crate::input_lines::byte_refusal;
 use kc_base::NoMemory;
 use kc_kit_files::Refusal;
-use kc_obj::Module;
-use kc_obj_read::{ObjFault, decode};
+use kc_obj::{ObjFault, decode};
+use kc_obj_module::Module;
 use std::alloc::Global;
 
 // The module of an object, or the refusal of its first fault.

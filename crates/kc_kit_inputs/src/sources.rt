@@ -17,7 +17,7 @@ use kc_base::NoMemory;
 use kc_kit_files::{Cause, Refusal, refusal_of};
 use kc_kit_notes::{put_body_line, source_note};
 use kc_lex::SourceFault;
-use kc_obj::Module;
+use kc_obj_module::Module;
 use std::alloc::Global;
 
 // The note of a fault of a source, with the name that it is about, and the line of a macro's body that has it.

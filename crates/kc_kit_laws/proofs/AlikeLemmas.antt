@@ -5,11 +5,12 @@ use Rattle.std.specs.List.{list_all}
 use Rattle.std.proofs.lemmas.Bool.{and_parts, and_from}
 use Rattle.std.proofs.lemmas.Bool.Decides.{nat_tests}
 use Rattle.kc_base.specs.Bytes.{IsBytes}
-use Rattle.kc_obj.specs.Object.{Object}
-use Rattle.kc_obj.specs.Spelling.{spelling}
-use Rattle.kc_obj_faults.specs.declared.faults.Fault.{Fault}
-use Rattle.kc_obj_read.specs.Reading.{answer_of}
-use Rattle.kc_obj_read.specs.Law.{numbers_fit, SpelledIsDecoded}
+use Rattle.kc_obj_module.specs.Object.{Object}
+use Rattle.kc_obj_module.specs.Spelling.{spelling}
+use Rattle.kc_obj_fields.specs.declared.faults.Fault.{Fault}
+use Rattle.kc_obj.specs.Reading.{answer_of}
+use Rattle.kc_obj_module.specs.Widths.{numbers_fit}
+use Rattle.kc_obj.specs.Law.{SpelledIsDecoded}
 use Rattle.kc_link_place.specs.declared.ranges.LinkFault.{LinkFault}
 use Rattle.kc_link_place.specs.Placing.{Places}
 use Rattle.kc_link.specs.Placed.{placed}

@@ -7,8 +7,8 @@ use Rattle.kc_base.specs.TextLines.{text_lines}
 use Rattle.kc_trace.specs.declared.record.Record.{Record}
 use Rattle.kc_vcd.specs.Dump.{state_length, dump_of}
 use Rattle.kc_vcd.specs.Laws.{OneReading}
-use Rattle.kc_obj.specs.Object.{Object}
-use Rattle.kc_obj.specs.Spelling as objects
+use Rattle.kc_obj_module.specs.Object.{Object}
+use Rattle.kc_obj_module.specs.Spelling as objects
 use Rattle.kc_lib.specs.Laws.{TakenOnce}
 use Rattle.kc_lib.specs.Names.{doubled}
 use Rattle.kc_hex.specs.Spelling.{spelling}

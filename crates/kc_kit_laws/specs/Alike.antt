@@ -2,8 +2,8 @@
 -- (this kit's own).
 use Rattle.std.specs.Prelude.{◌≡◌, ℕ, ◌^◌, true, nat_lt, List, [], ◌∷◌, length, map, None}
 use Rattle.std.specs.List.{list_all}
-use Rattle.kc_obj.specs.Object.{Object}
-use Rattle.kc_obj.specs.Spelling.{spelling}
+use Rattle.kc_obj_module.specs.Object.{Object}
+use Rattle.kc_obj_module.specs.Spelling.{spelling}
 use Rattle.kc_link_place.specs.declared.ranges.Ranges.{Ranges}
 use Rattle.kc_kit_files.specs.Reply.{Reply, write, done_writing}
 use Rattle.kc_kit_words.specs.declared.extent.Extent.{Extent}

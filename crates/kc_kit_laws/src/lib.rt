@@ -14,7 +14,7 @@ use kc_lib::laws::taken_once;
 use kc_link::one_image;
 use kc_link_laws::one_line_map;
 use kc_link_source_laws::linked_image;
-use kc_obj_read::laws::spelled_is_decoded;
+use kc_obj::laws::spelled_is_decoded;
 use kc_vcd::one_reading;
 
 /// Objects that are assembled of each source and linked to a hex file, and that file run, answer as the sources run. Each

@@ -4,7 +4,7 @@ ghost use Rattle.kc_kit_notes.specs.Origins.{words_of_members, words_of};
 ghost use Rattle.kc_kit_notes.specs.Rules.{file_at};
 
 use kc_base::NoMemory;
-use kc_obj::Module;
+use kc_obj_module::Module;
 use std::alloc::Global;
 
 /// A text, and another behind it.

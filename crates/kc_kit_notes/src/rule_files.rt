@@ -9,7 +9,7 @@ ghost use Rattle.kc_kit_notes.specs.RuleNotes.{stands_at, concerns, files_from, 
 use crate::origins::{Origins, file_at};
 use kc_base::NoMemory;
 use kc_link_place::LinkFault;
-use kc_obj::{Module, Segment};
+use kc_obj_module::{Module, Segment};
 use std::alloc::Global;
 
 // Whether a module takes this name from another one.

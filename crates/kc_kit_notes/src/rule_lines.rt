@@ -13,7 +13,7 @@ use kc_base::NoMemory;
 use kc_kit_files::{Cause, Refusal, refusal_of};
 use kc_link_map::kind_word;
 use kc_link_place::LinkFault;
-use kc_obj::Module;
+use kc_obj_module::Module;
 use kc_trace::address_text;
 use std::alloc::Global;
 

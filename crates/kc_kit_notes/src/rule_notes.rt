@@ -13,7 +13,7 @@ use kc_base::NoMemory;
 use kc_kit_shown::{put_shown, shown};
 use kc_link_map::kind_word;
 use kc_link_place::LinkFault;
-use kc_obj::{Lines, Module};
+use kc_obj_module::{Lines, Module};
 use kc_trace::address_text;
 use std::alloc::Global;
 

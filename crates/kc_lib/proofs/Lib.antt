@@ -1,4 +1,3 @@
-pub mod FaultLemmas
 pub mod GiverLemmas
 pub mod NameLemmas
 pub mod Places

@@ -8,8 +8,8 @@ use Rattle.std.specs.Cmp.Lexicographic.{bytes_decides}
 use Rattle.std.proofs.lemmas.Bool.{or_cases, both_ways}
 use Rattle.std.proofs.lemmas.List.{drop_more, take_more, drop_all}
 use Rattle.std.proofs.lemmas.Option.{slice_get_within}
-use Rattle.kc_obj.specs.declared.parts.Given.{Given}
-use Rattle.kc_obj.specs.Object.{Object}
+use Rattle.kc_obj_module.specs.declared.parts.Given.{Given}
+use Rattle.kc_obj_module.specs.Object.{Object}
 use Rattle.kc_lib.specs.Names.{gives, is_given, GivenOnce, second_of, doubled_behind, doubled, IsFirstDouble}
 use Rattle.kc_lib.proofs.Places.{found, any_at, get_left, get_seam, get_push}
 

@@ -7,15 +7,15 @@ use Rattle.std.proofs.lemmas.Bool.{and_parts, and_from, le-leb, lt-leb, leb-true
 use Rattle.std.proofs.lemmas.List.{length-append, length-take-le, take_at, drop_at, take-append-drop, nil_from_length}
 use Rattle.std.specs.Global.{Vec}
 use Rattle.kc_base.specs.Bytes.{IsBytes}
-use Rattle.kc_obj.specs.Object.{Object}
-use Rattle.kc_obj.specs.Spelling.{long_bytes, spelling}
-use Rattle.kc_obj_faults.specs.declared.faults.Fault.{Fault}
-use Rattle.kc_obj_faults.specs.Fields.{long_at}
-use Rattle.kc_obj_read.specs.Reading.{answer_of}
-use Rattle.kc_obj_read.specs.Law.{IsSpelled}
-use Rattle.kc_obj_read.proofs.Bytes.{bytes_drop, bytes_take}
-use Rattle.kc_obj_read.proofs.Decoded.{decoded_spelled}
-use Rattle.kc_obj_read.proofs.Spelled.{spelled_decoded}
+use Rattle.kc_obj_module.specs.Object.{Object}
+use Rattle.kc_obj_module.specs.Spelling.{long_bytes, spelling}
+use Rattle.kc_obj_fields.specs.declared.faults.Fault.{Fault}
+use Rattle.kc_obj_fields.specs.Fields.{long_at}
+use Rattle.kc_obj.specs.Reading.{answer_of}
+use Rattle.kc_obj_module.specs.Spelled.{IsSpelled}
+use Rattle.kc_obj.proofs.Bytes.{bytes_drop, bytes_take}
+use Rattle.kc_obj.proofs.Decoded.{decoded_spelled}
+use Rattle.kc_obj.proofs.Spelled.{spelled_decoded}
 use Rattle.kc_lib.specs.declared.faults.LibFault.{LibFault}
 use Rattle.kc_lib.specs.declared.faults.LibFault.TheVariants.{At, Duplicate, TooMany, NoMemory}
 use Rattle.kc_lib.specs.declared.faults.LibCode.TheVariants as code
@@ -127,9 +127,9 @@ library_is_read bytes ms is =
     let whole : members all (length ms) [] body ≡ Ok ms = members_ok all ms [] is.members (none_from_once ms is.once) in
     subst (λ (b : List ℕ). read_answer b ≡ Ok ms) is.written (rw (head, lengths) whole)
 
-pub packed_is_library : (ms : List Object) (r : Result (Vec ℕ) LibFault) → 0 < length ms → length ms ≤ 64 → IsPacked ms r → TellsPacked ms r
-packed_is_library ms (Ok bytes) some few is = λ members. record { some = some; few = few; members = members; once = once_from_none ms is.0; written = sym is.1 }
-packed_is_library ms (Err fault) some few is = tt
+pub packed_is_library : (ms : List Object) (r : Result (Vec ℕ) LibFault) → 0 < length ms → length ms ≤ 64 → All IsMember ms → IsPacked ms r → TellsPacked ms r
+packed_is_library ms (Ok bytes) some few members is = record { some = some; few = few; members = members; once = once_from_none ms is.0; written = sym is.1 }
+packed_is_library ms (Err fault) some few members is = tt
 
 -- ---- nothing else is read
 

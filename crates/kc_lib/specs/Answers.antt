@@ -1,11 +1,11 @@
 -- What the calls of a library answer.
-use Rattle.std.specs.Prelude.{◌≡◌, ℕ, ◌+◌, ◌<◌, ◌≤◌, Option, Some, None, Result, Ok, Err, All, List, length}
+use Rattle.std.specs.Prelude.{◌≡◌, ℕ, ◌+◌, ◌<◌, ◌≤◌, Option, Some, None, Result, Ok, Err, List, length}
 use Rattle.std.specs.Global.{Vec}
-use Rattle.kc_obj.specs.Object.{Object}
+use Rattle.kc_obj_module.specs.Object.{Object}
 use Rattle.kc_lib.specs.declared.faults.LibFault.{LibFault}
 use Rattle.kc_lib.specs.declared.faults.LibFault.TheVariants.{Duplicate, TooMany, NoMemory}
 use Rattle.kc_lib.specs.Names.{doubled}
-use Rattle.kc_lib.specs.Format.{library_bytes, IsMember, IsLibrary}
+use Rattle.kc_lib.specs.Format.{library_bytes, IsLibrary}
 use Rattle.kc_lib.specs.Taking.{AreTaken}
 
 -- want of memory has no cause here
@@ -20,10 +20,9 @@ IsPacked ms (Err (Duplicate name)) = doubled ms ≡ Some name
 IsPacked ms (Err NoMemory) = Unit {0}
 IsPacked ms (Err _) = ⊥
 
--- what is packed is a library; a module can be a member if its numbers fit the fields of its object, as those of a module
--- that was read do
+-- what is packed is a library of the modules, which is read as them
 abbrev pub TellsPacked : List Object → Result (Vec ℕ) LibFault → Type 0
-TellsPacked ms (Ok bytes) = All IsMember ms → IsLibrary bytes.items ms
+TellsPacked ms (Ok bytes) = IsLibrary bytes.items ms
 TellsPacked ms (Err fault) = Unit {0}
 
 abbrev pub IsOnce : Option (List ℕ) → Result (Unit {0}) LibFault → Type 0

@@ -2,9 +2,9 @@
 -- byte first) and the object (this kit's own format).
 use Rattle.std.specs.Prelude.{◌≡◌, ℕ, ◌<◌, ◌≤◌, ◌^◌, Bool, ◌&&◌, nat_le, is_none, All, List, [], ◌∷◌, ◌++◌, length}
 use Rattle.std.specs.List.{flat_map}
-use Rattle.kc_obj.specs.Object.{Object}
-use Rattle.kc_obj.specs.Spelling.{long_bytes, spelling}
-use Rattle.kc_obj_read.specs.Law.{IsSpelled}
+use Rattle.kc_obj_module.specs.Object.{Object}
+use Rattle.kc_obj_module.specs.Spelling.{long_bytes, spelling}
+use Rattle.kc_obj_module.specs.Spelled.{IsSpelled}
 use Rattle.kc_lib.specs.Names.{GivenOnce, doubled}
 
 abbrev pub member_bytes : Object → List ℕ
@@ -13,7 +13,7 @@ member_bytes m = long_bytes (length (spelling m)) ++ spelling m
 abbrev pub library_bytes : List Object → List ℕ
 library_bytes ms = (0x4B ∷ 0x4C ∷ 0x01 ∷ length ms ∷ []) ++ flat_map member_bytes ms
 
--- a module with its object, whose length can be told in four bytes
+-- a module with its object, whose length has four bytes
 pub record IsMember (m : Object) : Type 0 where
   pub is_object : IsSpelled (spelling m) m
   pub fits : length (spelling m) < 2 ^ 32

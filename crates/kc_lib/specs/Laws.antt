@@ -1,7 +1,7 @@
 -- Laws of libraries, for those who reason about what is read and taken.
 use Rattle.std.specs.Prelude.{◌≡◌, ℕ, Some, None, Ok, List}
 use Rattle.kc_base.specs.Bytes.{IsBytes}
-use Rattle.kc_obj.specs.Object.{Object}
+use Rattle.kc_obj_module.specs.Object.{Object}
 use Rattle.kc_lib.specs.Names.{GivenOnce, doubled, IsFirstDouble}
 use Rattle.kc_lib.specs.Format.{IsLibrary}
 use Rattle.kc_lib.specs.Reading.{read_answer}

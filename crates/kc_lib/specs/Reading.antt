@@ -2,10 +2,10 @@
 -- (this kit's own format and codes).
 use Rattle.std.specs.Prelude.{ℕ, zero, suc, Bool, ◌+◌, ◌-◌, ◌==◌, ◌&&◌, nat_le, if◌then◌else◌, Option, Some, None, Result, Ok, Err, List, [], ◌∷◌, ◌++◌, length, take, drop, slice_get, slice_index}
 use Rattle.std.specs.Option.{option_or}
-use Rattle.kc_obj.specs.Object.{Object}
-use Rattle.kc_obj_faults.specs.declared.faults.Fault.{Fault}
-use Rattle.kc_obj_faults.specs.Fields.{long_at}
-use Rattle.kc_obj_read.specs.Reading.{answer_of}
+use Rattle.kc_obj_module.specs.Object.{Object}
+use Rattle.kc_obj_fields.specs.declared.faults.Fault.{Fault}
+use Rattle.kc_obj_fields.specs.Fields.{long_at}
+use Rattle.kc_obj.specs.Reading.{answer_of}
 use Rattle.kc_lib.specs.declared.faults.LibFault.{LibFault}
 use Rattle.kc_lib.specs.declared.faults.LibFault.TheVariants.{At}
 use Rattle.kc_lib.specs.declared.faults.LibCode.TheVariants as code

@@ -1,8 +1,8 @@
 -- How far each member is while the needed ones are sought.
 use Rattle.std.specs.Prelude.{◌≡◌, ℕ, ◌+◌, Bool, true, false, ◌||◌, if◌then◌else◌, Option, Some, None, List, [], ◌∷◌, slice_get, slice_set, position}
-use Rattle.kc_obj.specs.declared.parts.Taken.{Taken}
-use Rattle.kc_obj.specs.Object.{Object}
-use Rattle.kc_obj.specs.Names.{is_stack_name}
+use Rattle.kc_obj_module.specs.declared.parts.Taken.{Taken}
+use Rattle.kc_obj_module.specs.Object.{Object}
+use Rattle.kc_obj_module.specs.Names.{is_stack_name}
 use Rattle.kc_lib.specs.declared.taking.Standing.{Standing}
 use Rattle.kc_lib.specs.declared.taking.Standing.TheVariants.{Out, Called, Settled}
 use Rattle.kc_lib.specs.Names.{is_taken, is_given}

@@ -1,7 +1,7 @@
 -- The members of a library that modules need (after RL96 of the MCS-96 utilities, in outline).
 use Rattle.std.specs.Prelude.{◌≡◌, ℕ, ◌+◌, ◌<◌, Bool, true, false, if◌then◌else◌, List, [], ◌∷◌, ◌++◌, length}
-use Rattle.kc_obj.specs.Object.{Object}
-use Rattle.kc_obj.specs.Names.{is_stack_name}
+use Rattle.kc_obj_module.specs.Object.{Object}
+use Rattle.kc_obj_module.specs.Names.{is_stack_name}
 use Rattle.kc_lib.specs.Names.{is_taken, is_given}
 
 -- the members whose numbers are in a set, in the order of the library (number: that of the first member)

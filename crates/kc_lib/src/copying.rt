@@ -3,7 +3,7 @@ ghost use Rattle.std.specs.Prelude.{◌≡◌, IfOk, List};
 ghost use Rattle.std.specs.Option.{option_map, option_copied};
 
 use kc_base::{NoMemory, Text};
-use kc_obj::{Content, Given, Lines, Module, Taken};
+use kc_obj_module::{Content, Given, Lines, Module, Taken};
 use std::alloc::Global;
 
 fn externals_of(alloc: Global, externals: &[Taken]) -> Result<Vec<Taken>, NoMemory>

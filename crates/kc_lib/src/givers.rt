@@ -3,13 +3,13 @@ ghost use Rattle.std.specs.Prelude.{◌≡◌, ◌∷◌, ◌++◌, ℕ, List, [
 ghost use Rattle.std.specs.List.{list_any};
 ghost use Rattle.std.specs.Option.{option_or, option_copied};
 ghost use Rattle.std.specs.Str.{bytes_eq};
-ghost use Rattle.kc_obj.specs.Object.{Object};
+ghost use Rattle.kc_obj_module.specs.Object.{Object};
 ghost use Rattle.kc_lib.specs.Names.{is_given, second_of};
 ghost use Rattle.kc_lib.specs.Givers.{found_in, Knows};
 
 use indexmap::IndexMap;
 use kc_base::{NoMemory, Text};
-use kc_obj::{Given, Module};
+use kc_obj_module::{Given, Module};
 use std::alloc::Global;
 
 /// The public names of modules, each with the number of the first module that gives it, counted from 0.

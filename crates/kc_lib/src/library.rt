@@ -5,7 +5,7 @@ ghost use Rattle.kc_lib.specs.Reading.{read_answer};
 use crate::faults::LibFault;
 use crate::reading::read_library;
 use crate::taking::{copies, standings_of};
-use kc_obj::Module;
+use kc_obj_module::Module;
 use std::alloc::Global;
 use std::marker::Model;
 
@@ -20,7 +20,7 @@ pub struct Library {
 
 impl Model for Library {
     ghost use Rattle.std.specs.Prelude.{◌≡◌, List, true};
-    ghost use Rattle.kc_obj.specs.Object.{Object};
+    ghost use Rattle.kc_obj_module.specs.Object.{Object};
     ghost use Rattle.kc_lib.specs.Format.{can_be_library};
 
     ghost Value = { List Object };

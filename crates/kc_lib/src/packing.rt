@@ -1,14 +1,14 @@
 // Modules packed into a library.
 ghost use Rattle.std.specs.Prelude.{◌≡◌, ◌<◌, ◌≤◌, ◌^◌, ◌++◌, OnOk, IfOk, All, length};
-ghost use Rattle.kc_obj.specs.Spelling.{long_bytes, spelling};
-ghost use Rattle.kc_lib.specs.Format.{member_bytes, library_bytes};
+ghost use Rattle.kc_obj_module.specs.Spelling.{long_bytes, spelling};
+ghost use Rattle.kc_lib.specs.Format.{member_bytes, library_bytes, IsMember};
 ghost use Rattle.kc_lib.specs.Names as named;
 ghost use Rattle.kc_lib.specs.Answers.{IsPacked, TellsPacked, IsOnce};
 
 use crate::faults::LibFault;
 use crate::givers::Givers;
 use kc_base::{NoMemory, Text};
-use kc_obj::{Module, encode};
+use kc_obj_module::{Module, encode};
 use std::alloc::Global;
 
 // Refuses modules of which two give a name.
@@ -59,6 +59,17 @@ fn spell(alloc: Global, modules: &[Module]) -> Result<Vec<u8>, NoMemory>
     Ok(out)
 }
 
+// Each of the modules can be a member of a library. It does nothing when it runs.
+fn can_be_members(modules: &[Module])
+    requires { All (λ m. length (spelling m) < 2 ^ 32) modules.now }
+    ensures { All IsMember modules.now }
+{
+    for module in modules {
+        module.keeps_rules();
+        module.has_room();
+    }
+}
+
 fn packed(alloc: Global, modules: &[Module]) -> Result<Vec<u8>, LibFault>
     requires { length modules.now ≤ 64 }
     ensures { IsPacked modules.now result }
@@ -68,7 +79,8 @@ fn packed(alloc: Global, modules: &[Module]) -> Result<Vec<u8>, LibFault>
 }
 
 /// Packs 1 to 64 modules into a library, in their order: the bytes 4BH, 4CH and 1, the number of modules, and for each
-/// module the length of its object in 4 bytes, low byte first, and the object, which has less than 4 GB.
+/// module the length of its object in 4 bytes, low byte first, and the object, which has less than 4 GB. They are read as
+/// these modules.
 /// The refusal is the first name, by modules and in each by its publics, that an earlier module makes public too.
 pub fn pack(alloc: Global, modules: &[Module]) -> Result<Vec<u8>, LibFault>
     requires some { 0 < length modules.now }
@@ -77,5 +89,6 @@ pub fn pack(alloc: Global, modules: &[Module]) -> Result<Vec<u8>, LibFault>
     ensures answer { IsPacked modules.now result }
     ensures library { TellsPacked modules.now result }
 {
+    can_be_members(modules);
     packed(alloc, modules)
 }

@@ -1,6 +1,6 @@
 // A library read: its first bytes, the lengths of its members, and then member by member.
 ghost use Rattle.std.specs.Prelude.{◌≡◌, ◌≤◌, ◌++◌, ◌∷◌, [], List, None, OnOk, length, drop, slice_get};
-ghost use Rattle.kc_obj.specs.Object.{Object};
+ghost use Rattle.kc_obj_module.specs.Object.{Object};
 ghost use Rattle.kc_lib.specs.Givers.{Knows};
 ghost use Rattle.kc_lib.specs.Reading as reads;
 ghost use Rattle.kc_lib.specs.Reading.{byte_fault, lengths_fault, member_size, object_in, member_of, members, read_answer};
@@ -9,9 +9,9 @@ ghost use Rattle.kc_lib.specs.Answers.{IsChecked, IsMemberRead, AreRead};
 use crate::faults::{LibCode, LibFault};
 use crate::givers::Givers;
 use kc_base::{NoMemory, after, front};
-use kc_obj::Module;
-use kc_obj_faults::fields::long;
-use kc_obj_read::{ObjFault, decode};
+use kc_obj::{ObjFault, decode};
+use kc_obj_fields::fields::long;
+use kc_obj_module::Module;
 use std::alloc::Global;
 
 /// The bytes before the first member.

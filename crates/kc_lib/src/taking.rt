@@ -1,6 +1,6 @@
 // The members that modules need.
 ghost use Rattle.std.specs.Prelude.{◌≡◌, ◌≤◌, ◌<◌, List, Some, None, IfSome, IfOk, replicate, length};
-ghost use Rattle.kc_obj.specs.Object.{Object};
+ghost use Rattle.kc_obj_module.specs.Object.{Object};
 ghost use Rattle.kc_lib.specs.Names.{GivenOnce};
 ghost use Rattle.kc_lib.specs.Taking.{IsLeast, chosen};
 ghost use Rattle.kc_lib.specs.Givers.{Knows};
@@ -10,8 +10,8 @@ ghost use Rattle.kc_lib.specs.Standings.{is_in, work, IsUnderWay};
 use crate::copying::copy_of;
 use crate::givers::{Givers, givers_of};
 use kc_base::NoMemory;
-use kc_obj::names::is_stack;
-use kc_obj::{Module, Taken};
+use kc_obj_module::names::is_stack;
+use kc_obj_module::{Module, Taken};
 use std::alloc::Global;
 
 /// How far a member is: not needed so far, needed with its externals still to be looked at, or done.

@@ -5,13 +5,13 @@ use Rattle.std.specs.List.{list_all}
 use Rattle.std.proofs.lemmas.Bool.{and_parts}
 use Rattle.std.proofs.lemmas.Bool.Decides.{nat_tests}
 use Rattle.std.proofs.lemmas.Option.{slice_get-get_or}
-use Rattle.kc_obj.specs.declared.parts.SegKind.{SegKind}
-use Rattle.kc_obj.specs.declared.parts.SegKind.TheVariants.{Reg, Code, Ram, Stack}
-use Rattle.kc_obj.specs.declared.parts.Segment.{Segment}
-use Rattle.kc_obj.specs.declared.parts.Content.{Content}
-use Rattle.kc_obj.specs.Pieces.{kind_number, has_code}
-use Rattle.kc_obj.specs.Contents.{content_end, content_is_sound, content_follows, contents_in_order, covers, content_at, is_over}
-use Rattle.kc_obj.proofs.ContentLemmas.{over_covers, over_from, ordered_rest}
+use Rattle.kc_obj_module.specs.declared.parts.SegKind.{SegKind}
+use Rattle.kc_obj_module.specs.declared.parts.SegKind.TheVariants.{Reg, Code, Ram, Stack}
+use Rattle.kc_obj_module.specs.declared.parts.Segment.{Segment}
+use Rattle.kc_obj_module.specs.declared.parts.Content.{Content}
+use Rattle.kc_obj_module.specs.Pieces.{kind_number, has_code}
+use Rattle.kc_obj_module.specs.Contents.{content_end, content_is_sound, content_follows, contents_in_order, covers, content_at, is_over}
+use Rattle.kc_obj_module.proofs.ContentLemmas.{over_covers, over_from, ordered_rest}
 
 -- ---- on plain numbers: a run at offset f of piece q that ends before e
 

@@ -1,9 +1,9 @@
 -- The image that is written is the filled one.
 use Rattle.std.proofs.Common.{◌≡◌, ℕ, zero, suc, ◌+◌, ◌-◌, ◌<◌, Bool, true, false, List, [], ◌∷◌, ◌++◌, length, Option, Some, None, refl, sym, ap, ◌∙◌, subst, inl, inr, zero-add, arith}
 use Rattle.std.specs.Prelude.{slice_get, slice_index, if◌then◌else◌, ◌⊎◌}
-use Rattle.kc_obj.specs.declared.parts.Content.{Content}
-use Rattle.kc_obj.specs.Object.{Object}
-use Rattle.kc_obj.specs.Contents.{content_end, covers, content_at}
+use Rattle.kc_obj_module.specs.declared.parts.Content.{Content}
+use Rattle.kc_obj_module.specs.Object.{Object}
+use Rattle.kc_obj_module.specs.Contents.{content_end, covers, content_at}
 use Rattle.kc_obj_relocation.specs.Numbers.{Bases}
 use Rattle.kc_link_fill.specs.BaseLists.{or_0}
 use Rattle.kc_link_fill.specs.Filled.{filled_at, part_at, plus}

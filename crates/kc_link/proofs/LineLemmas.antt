@@ -7,11 +7,11 @@ use Rattle.std.proofs.lemmas.Bool.{and_parts}
 use Rattle.std.proofs.lemmas.Bool.Decides.{nat_tests}
 use Rattle.std.proofs.lemmas.List.Sorted.{sum_by-IsPermutation}
 use Rattle.std.proofs.lemmas.List.Recursion.{is_count_by}
-use Rattle.kc_obj.specs.declared.parts.Lines.{Lines}
-use Rattle.kc_obj.specs.declared.parts.Segment.{Segment}
-use Rattle.kc_obj.specs.Object.{Object}
-use Rattle.kc_obj.specs.Pieces.{has_code}
-use Rattle.kc_obj.specs.LineEntries.{line_is_sound, line_follows, lines_in_order, lines_are_sound}
+use Rattle.kc_obj_module.specs.declared.parts.Lines.{Lines}
+use Rattle.kc_obj_module.specs.declared.parts.Segment.{Segment}
+use Rattle.kc_obj_module.specs.Object.{Object}
+use Rattle.kc_obj_module.specs.Pieces.{has_code}
+use Rattle.kc_obj_module.specs.LineEntries.{line_is_sound, line_follows, lines_in_order, lines_are_sound}
 use Rattle.kc_obj_relocation.specs.Numbers.{Bases}
 use Rattle.kc_link_fill.specs.BaseLists.{BaseLists}
 use Rattle.kc_link_fill.proofs.Modules.{kept}

@@ -2,8 +2,8 @@
 use Rattle.std.proofs.Common.{◌≡◌, ℕ, zero, suc, ◌+◌, List, [], ◌∷◌, Option, Some, None, refl, sym, ap, ◌∙◌, subst, arith}
 use Rattle.std.specs.Prelude.{slice_get, Result, Ok, Err}
 use Rattle.std.specs.Option.{option_or}
-use Rattle.kc_obj.specs.declared.parts.Fixup.{Fixup}
-use Rattle.kc_obj.specs.Object.{Object}
+use Rattle.kc_obj_module.specs.declared.parts.Fixup.{Fixup}
+use Rattle.kc_obj_module.specs.Object.{Object}
 use Rattle.kc_link_fill.specs.BaseLists.{BaseLists}
 use Rattle.kc_link_fill.specs.Filled.{unfit_in}
 use Rattle.kc_link_place.specs.declared.ranges.Ranges.{Ranges}

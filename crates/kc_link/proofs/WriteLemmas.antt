@@ -5,8 +5,8 @@ use Rattle.std.proofs.lemmas.List.{length-replicate, get_or-replicate}
 use Rattle.std.proofs.lemmas.Option.{slice_get-get_or}
 use Rattle.kc_base.specs.declared.types.NoMemory.{NoMemory}
 use Rattle.std.proofs.Math.Seq.{take-length}
-use Rattle.kc_obj.specs.declared.parts.Content.{Content}
-use Rattle.kc_obj.specs.Object.{Object}
+use Rattle.kc_obj_module.specs.declared.parts.Content.{Content}
+use Rattle.kc_obj_module.specs.Object.{Object}
 use Rattle.kc_obj_relocation.specs.Numbers.{Bases}
 use Rattle.kc_link_fill.specs.BaseLists.{BaseLists, bases_in, or_0}
 use Rattle.kc_link_fill.specs.Filled.{filled_at, unfit_in}

@@ -1,9 +1,9 @@
 -- The image: contents at their places, filled by relocations, and FFH elsewhere.
 use Rattle.std.specs.Prelude.{◌≡◌, ℕ, true, ◌+◌, ◌<◌, ◌≤◌, Some, Ok, Err, Result, List, length, slice_get}
-use Rattle.kc_obj.specs.declared.parts.Fixup.{Fixup}
-use Rattle.kc_obj.specs.Object.{Object}
+use Rattle.kc_obj_module.specs.declared.parts.Fixup.{Fixup}
+use Rattle.kc_obj_module.specs.Object.{Object}
 use Rattle.kc_obj_relocation.specs.Numbers.{fits}
-use Rattle.kc_obj.specs.Fixups.{fixup_at}
+use Rattle.kc_obj_module.specs.Fixups.{fixup_at}
 use Rattle.kc_link_fill.specs.Filled.{fixup_number, filled_at}
 use Rattle.kc_link_place.specs.declared.ranges.Ranges.{Ranges}
 use Rattle.kc_link_place.specs.declared.ranges.LinkFault.{LinkFault}

@@ -1,7 +1,7 @@
 -- Laws of placing and filling, for those who reason about a linked image.
 use Rattle.std.specs.Prelude.{◌≡◌, ℕ, Some, Ok, List, slice_get}
-use Rattle.kc_obj.specs.declared.parts.Segment.{Segment}
-use Rattle.kc_obj.specs.Object.{Object}
+use Rattle.kc_obj_module.specs.declared.parts.Segment.{Segment}
+use Rattle.kc_obj_module.specs.Object.{Object}
 use Rattle.kc_link_place.specs.declared.ranges.Ranges.{Ranges}
 use Rattle.kc_link_place.specs.Placing.{Places, base_at}
 use Rattle.kc_link.specs.Placed.{placed}

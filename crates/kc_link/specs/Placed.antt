@@ -2,8 +2,8 @@
 -- the order of the rules is this kit's own).
 use Rattle.std.specs.Prelude.{ℕ, ◌+◌, Option, Some, None, Result, Ok, Err, List, [], ◌∷◌}
 use Rattle.std.specs.Option.{option_or}
-use Rattle.kc_obj.specs.declared.parts.Fixup.{Fixup}
-use Rattle.kc_obj.specs.Object.{Object}
+use Rattle.kc_obj_module.specs.declared.parts.Fixup.{Fixup}
+use Rattle.kc_obj_module.specs.Object.{Object}
 use Rattle.kc_link_fill.specs.BaseLists.{BaseLists, bases_in}
 use Rattle.kc_link_fill.specs.Filled.{unfit_in}
 use Rattle.kc_link_place.specs.declared.ranges.Ranges.{Ranges}

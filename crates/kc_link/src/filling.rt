@@ -5,7 +5,7 @@ ghost use Rattle.kc_link.specs.Writes.{written, bytes_of, runs_of, all_bytes, Ru
 
 use kc_base::{IMAGE_START, Image};
 use kc_link_fill::{Bases, filled_byte};
-use kc_obj::{Content, Module};
+use kc_obj_module::{Content, Module};
 
 // Puts the filled bytes of a run into the image.
 fn fill_run(image: &mut Image, object: &Module, bases: &Bases, run: &Content)

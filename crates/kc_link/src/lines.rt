@@ -8,7 +8,7 @@ use crate::linking::{keep_rules, linked_bases};
 use kc_base::{NoMemory, Text};
 use kc_link_fill::Bases;
 use kc_link_place::{LinkFault, Ranges, code_stands_apart};
-use kc_obj::{Lines, Module};
+use kc_obj_module::{Lines, Module};
 use std::alloc::Global;
 
 /// The bytes at this address come from this line of the module with this name.

@@ -10,7 +10,7 @@ use crate::filling::fill;
 use kc_base::{Image, NoMemory};
 use kc_link_fill::{Bases, first_unfit};
 use kc_link_place::{LinkFault, Ranges, code_stands_apart, place};
-use kc_obj::Module;
+use kc_obj_module::Module;
 use std::alloc::Global;
 
 // Whether the number of each relocation fits.

@@ -5,12 +5,12 @@ use Rattle.std.specs.Option.{option_map}
 use Rattle.std.proofs.lemmas.Bool.Decides.{nat_tests}
 use Rattle.std.proofs.lemmas.Option.{slice_get-map, slice_get_within}
 use Rattle.kc_expr.specs.declared.values.Value.{Value}
-use Rattle.kc_obj.specs.declared.parts.Fixup.{Fixup}
-use Rattle.kc_obj.specs.declared.parts.Segment.{Segment}
-use Rattle.kc_obj.specs.Object.{Object}
-use Rattle.kc_obj.specs.Contents.{content_at}
-use Rattle.kc_obj.specs.Fixups.{fixup_at}
-use Rattle.kc_obj.specs.Pieces.{kind_number}
+use Rattle.kc_obj_module.specs.declared.parts.Fixup.{Fixup}
+use Rattle.kc_obj_module.specs.declared.parts.Segment.{Segment}
+use Rattle.kc_obj_module.specs.Object.{Object}
+use Rattle.kc_obj_module.specs.Contents.{content_at}
+use Rattle.kc_obj_module.specs.Fixups.{fixup_at}
+use Rattle.kc_obj_module.specs.Pieces.{kind_number}
 use Rattle.kc_obj_relocation.specs.Numbers.{Bases, number, reach, width, fits}
 use Rattle.kc_asm_bytes.specs.declared.octet.Octet.{Octet}
 use Rattle.kc_asm_bytes.specs.declared.octet.Octet.TheVariants.{Plain, First, Second}

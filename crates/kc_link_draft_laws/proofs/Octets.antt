@@ -5,7 +5,7 @@ use Rattle.std.proofs.lemmas.Bool.Decides.{nat_tests}
 use Rattle.kc_expr.specs.declared.values.Value.{Value}
 use Rattle.kc_expr.specs.declared.values.Base.{Base}
 use Rattle.kc_expr.specs.declared.values.Base.TheVariants.{Fixed, Absolute, Piece, External}
-use Rattle.kc_obj.specs.Pieces.{kind_number}
+use Rattle.kc_obj_module.specs.Pieces.{kind_number}
 use Rattle.kc_obj_relocation.specs.Numbers.{Bases, distance, is_distance, number, reach, width, second_part}
 use Rattle.kc_asm_piece.specs.Tape.{Tape}
 use Rattle.kc_asm_bytes.specs.declared.octet.Octet.{Octet}

@@ -1,6 +1,6 @@
 -- A part keeps whole numbers that fit while octets are written at its end.
 use Rattle.std.specs.Prelude.{◌≡◌, ℕ, ◌+◌, Some, None, List, slice_get}
-use Rattle.kc_obj.specs.Pieces.{kind_number}
+use Rattle.kc_obj_module.specs.Pieces.{kind_number}
 use Rattle.kc_asm_bytes.specs.declared.octet.Octet.{Octet}
 use Rattle.kc_asm_bytes.specs.Relocating.{misfit}
 use Rattle.kc_asm_encoding.specs.Pairs.{IsPaired}

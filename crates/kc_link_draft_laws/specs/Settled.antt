@@ -3,7 +3,7 @@
 use Rattle.std.specs.Prelude.{◌≡◌, ℕ, true, ◌+◌, Some, None, slice_get}
 use Rattle.std.specs.List.{list_all}
 use Rattle.kc_expr.specs.declared.values.Value.{Value}
-use Rattle.kc_obj.specs.Pieces.{kind_number}
+use Rattle.kc_obj_module.specs.Pieces.{kind_number}
 use Rattle.kc_obj_relocation.specs.Numbers.{width}
 use Rattle.kc_asm_bytes.specs.declared.octet.Octet.{Octet}
 use Rattle.kc_asm_bytes.specs.declared.octet.Octet.TheVariants.{First, Second}

@@ -2,13 +2,13 @@
 use Rattle.std.proofs.Common.{◌≡◌, Bool, true, ◌&&◌, length}
 use Rattle.std.specs.List.{list_all}
 use Rattle.std.proofs.lemmas.Bool.{and_parts}
-use Rattle.kc_obj.specs.Object.{Object}
-use Rattle.kc_obj.specs.Names.{is_name}
-use Rattle.kc_obj.specs.Pieces.{is_placed, segments_in_order, all_kept}
-use Rattle.kc_obj.specs.Contents.{content_is_sound, contents_in_order}
-use Rattle.kc_obj.specs.Fixups.{fixup_is_sound, fixups_in_order, has_room}
-use Rattle.kc_obj.specs.Rules.{is_module, segments_are_sound, externals_are_sound, publics_are_sound, contents_are_sound, fixups_are_sound}
-use Rattle.kc_obj.specs.LineEntries.{lines_are_sound}
+use Rattle.kc_obj_module.specs.Object.{Object}
+use Rattle.kc_obj_module.specs.Names.{is_name}
+use Rattle.kc_obj_module.specs.Pieces.{is_placed, segments_in_order, all_kept}
+use Rattle.kc_obj_module.specs.Contents.{content_is_sound, contents_in_order}
+use Rattle.kc_obj_module.specs.Fixups.{fixup_is_sound, fixups_in_order, has_room}
+use Rattle.kc_obj_module.specs.Rules.{is_module, segments_are_sound, externals_are_sound, publics_are_sound, contents_are_sound, fixups_are_sound}
+use Rattle.kc_obj_module.specs.LineEntries.{lines_are_sound}
 
 pub record IsKept (m : Object) : Type 0 where
   pub placed : list_all is_placed m.segments ≡ true

@@ -4,13 +4,13 @@ use Rattle.std.specs.Prelude.{if◌then◌else◌, ◌⊎◌}
 use Rattle.std.specs.List.{list_all}
 use Rattle.std.proofs.lemmas.Bool.{and_parts}
 use Rattle.std.proofs.lemmas.Bool.Decides.{nat_tests}
-use Rattle.kc_obj.specs.declared.parts.Content.{Content}
-use Rattle.kc_obj.specs.declared.parts.Fixup.{Fixup}
-use Rattle.kc_obj.specs.Contents.{content_at}
-use Rattle.kc_obj.specs.Fixups.{fixups_in_order, has_room, may_begin, is_zero, fixup_at}
+use Rattle.kc_obj_module.specs.declared.parts.Content.{Content}
+use Rattle.kc_obj_module.specs.declared.parts.Fixup.{Fixup}
+use Rattle.kc_obj_module.specs.Contents.{content_at}
+use Rattle.kc_obj_module.specs.Fixups.{fixups_in_order, has_room, may_begin, is_zero, fixup_at}
 use Rattle.kc_obj_relocation.specs.Numbers.{Bases, first_part, second_part, width}
 use Rattle.kc_link_fill.specs.Filled.{fixup_number, first_of_fixup, second_of_fixup, second_at, is_fit, unfit_in}
-use Rattle.kc_obj.proofs.RoomLemmas.{rest_in_order, next_follows}
+use Rattle.kc_obj_module.proofs.RoomLemmas.{rest_in_order, next_follows}
 use Rattle.kc_link_fill.proofs.Sorted.{none_behind}
 
 pub record IsThere (cs : List Content) (b : Bases) (p k : ℕ) (f : Fixup) : Type 0 where

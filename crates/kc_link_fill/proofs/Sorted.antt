@@ -8,10 +8,10 @@ use Rattle.std.specs.Borrow.{Bor}
 use Rattle.std.specs.Slice.{IsItemAt}
 use Rattle.std.specs.Option.{option_copied}
 use Rattle.std.proofs.lemmas.Option.{slice_get_past, slice_get_read}
-use Rattle.kc_obj.specs.declared.parts.Fixup.{Fixup}
+use Rattle.kc_obj_module.specs.declared.parts.Fixup.{Fixup}
 use Rattle.kc_obj_relocation.specs.Numbers.{width}
-use Rattle.kc_obj.specs.Fixups.{fixup_follows, fixups_in_order, fixup_at}
-use Rattle.kc_obj.proofs.RoomLemmas.{rest_in_order, next_follows}
+use Rattle.kc_obj_module.specs.Fixups.{fixup_follows, fixups_in_order, fixup_at}
+use Rattle.kc_obj_module.proofs.RoomLemmas.{rest_in_order, next_follows}
 use Rattle.kc_link_fill.specs.Filled.{is_before, if_there}
 
 -- ---- on plain numbers: a relocation at offset o of piece q with another one at r of s behind it

@@ -1,11 +1,11 @@
 -- The bytes of a module with its relocations filled in.
 use Rattle.std.specs.Prelude.{ℕ, zero, suc, Bool, ◌+◌, ◌%◌, ◌==◌, ◌&&◌, ◌||◌, nat_lt, if◌then◌else◌, Option, Some, None, List, [], ◌∷◌}
-use Rattle.kc_obj.specs.declared.parts.Fixup.{Fixup}
-use Rattle.kc_obj.specs.declared.parts.Target.{Target}
-use Rattle.kc_obj.specs.declared.parts.Target.TheVariants.{Piece, External, Number}
-use Rattle.kc_obj.specs.Object.{Object}
-use Rattle.kc_obj.specs.Contents.{content_at}
-use Rattle.kc_obj.specs.Fixups.{fixup_at}
+use Rattle.kc_obj_module.specs.declared.parts.Fixup.{Fixup}
+use Rattle.kc_obj_module.specs.declared.parts.Target.{Target}
+use Rattle.kc_obj_module.specs.declared.parts.Target.TheVariants.{Piece, External, Number}
+use Rattle.kc_obj_module.specs.Object.{Object}
+use Rattle.kc_obj_module.specs.Contents.{content_at}
+use Rattle.kc_obj_module.specs.Fixups.{fixup_at}
 use Rattle.kc_obj_relocation.specs.Numbers.{Bases, number, reach, first_part, second_part, fits, width}
 
 -- the target plus the addend

@@ -1,13 +1,13 @@
 ghost use Rattle.std.specs.Prelude.{◌≡◌, ◌<◌, true};
 ghost use Rattle.std.specs.Option.{option_copied};
-ghost use Rattle.kc_obj.specs.Contents.{content_at};
-ghost use Rattle.kc_obj.specs.Fixups.{fixups_in_order, fixup_at};
+ghost use Rattle.kc_obj_module.specs.Contents.{content_at};
+ghost use Rattle.kc_obj_module.specs.Fixups.{fixups_in_order, fixup_at};
 ghost use Rattle.kc_link_fill.specs.BaseLists.{bases_in};
 ghost use Rattle.kc_link_fill.specs.Filled.{first_of_fixup, second_of_fixup, second_at, filled_at, is_fit, unfit_in, if_there};
 
 use crate::Bases;
 use crate::numbers::fixup_number as number_of;
-use kc_obj::{Fixup, Module};
+use kc_obj_module::{Fixup, Module};
 use kc_obj_relocation::{first_part, fits, second_part, width};
 
 fn fixup_fits(bases: &Bases, fixup: Fixup) -> bool

@@ -3,7 +3,7 @@ ghost use Rattle.kc_link_fill.specs.BaseLists.{bases_in};
 ghost use Rattle.kc_link_fill.specs.Filled as filled;
 
 use crate::Bases;
-use kc_obj::{Fixup, Target};
+use kc_obj_module::{Fixup, Target};
 use kc_obj_relocation::{number, reach};
 
 fn target_number(bases: &Bases, target: Target, addend: u16) -> u16

@@ -1,6 +1,6 @@
 -- What placed modules have: an image, and a line map (this kit's own).
 use Rattle.std.specs.Prelude.{◌≡◌, ℕ, true, Ok, List}
-use Rattle.kc_obj.specs.Object.{Object}
+use Rattle.kc_obj_module.specs.Object.{Object}
 use Rattle.kc_link_place.specs.declared.ranges.Ranges.{Ranges}
 use Rattle.kc_link_place.specs.Ranges.{are_in_bounds}
 use Rattle.kc_link_place.specs.Placing.{Places}

@@ -1,8 +1,8 @@
 -- Which addresses are left free by modules that are linked (this kit's own).
 use Rattle.std.specs.Prelude.{ℕ, zero, suc, Bool, false, ◌+◌, ◌-◌, ◌&&◌, ◌||◌, not, nat_le, nat_lt, if◌then◌else◌, List, [], ◌∷◌, ◌++◌}
-use Rattle.kc_obj.specs.declared.parts.SegKind.TheVariants.{Stack}
-use Rattle.kc_obj.specs.declared.parts.Segment.{Segment}
-use Rattle.kc_obj.specs.Object.{Object}
+use Rattle.kc_obj_module.specs.declared.parts.SegKind.TheVariants.{Stack}
+use Rattle.kc_obj_module.specs.declared.parts.Segment.{Segment}
+use Rattle.kc_obj_module.specs.Object.{Object}
 use Rattle.kc_link_place.specs.Stands.{same_kind}
 use Rattle.kc_link_place.specs.Placing.{Places, base_at}
 

@@ -5,7 +5,7 @@ ghost use Rattle.kc_link_map.specs.Map as spec;
 
 use itoa::Buffer;
 use kc_base::NoMemory;
-use kc_obj::SegKind;
+use kc_obj_module::SegKind;
 use kc_trace::address_text;
 
 /// The word for a kind of piece, as refusals and maps have it.

@@ -10,7 +10,7 @@ use crate::modules::{put_all_pieces, put_all_publics};
 use crate::taken::taken_by;
 use kc_base::NoMemory;
 use kc_link_place::{LinkFault, Placed, Ranges, locate, stack_size};
-use kc_obj::Module;
+use kc_obj_module::Module;
 use std::alloc::Global;
 
 fn stack_of(placed: &Placed, size: u32) -> StackAt

@@ -5,7 +5,7 @@ ghost use Rattle.kc_link_map.specs.Map as spec;
 use crate::fields::{kind_word, put_address, put_number};
 use kc_base::{NoMemory, Text};
 use kc_link_place::Placed;
-use kc_obj::{Given, Module, SegKind, Segment};
+use kc_obj_module::{Given, Module, SegKind, Segment};
 
 fn put_piece(
     text: &mut Vec<u8>,

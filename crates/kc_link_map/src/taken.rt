@@ -4,7 +4,7 @@ ghost use Rattle.kc_link_map.specs.Free as spec;
 
 use kc_base::NoMemory;
 use kc_link_place::Placed;
-use kc_obj::{Module, SegKind, Segment};
+use kc_obj_module::{Module, SegKind, Segment};
 use std::alloc::Global;
 
 /// How many addresses there are.

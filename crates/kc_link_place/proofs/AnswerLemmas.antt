@@ -1,8 +1,8 @@
 -- From the pieces that are put to the answer of placing.
 use Rattle.std.proofs.Common.{◌≡◌, ℕ, List, [], ◌++◌, refl, subst}
 use Rattle.std.specs.Prelude.{Result, Ok, Err}
-use Rattle.kc_obj.specs.Object.{Object}
-use Rattle.kc_obj.specs.declared.parts.SegKind.TheVariants.{Stack}
+use Rattle.kc_obj_module.specs.Object.{Object}
+use Rattle.kc_obj_module.specs.declared.parts.SegKind.TheVariants.{Stack}
 use Rattle.kc_link_place.specs.declared.ranges.Ranges.{Ranges}
 use Rattle.kc_link_place.specs.declared.ranges.LinkFault.{LinkFault}
 use Rattle.kc_link_place.specs.declared.pieces.Piece.{Piece}

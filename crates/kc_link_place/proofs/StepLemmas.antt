@@ -2,7 +2,7 @@
 use Rattle.std.proofs.Common.{◌≡◌, ℕ, ◌-◌, ◌≤◌, List, [], ◌∷◌, ◌++◌, length, get_or, take, drop, map, Some, None, refl, sym, ap, ◌∙◌, append_assoc, append-nil, arith}
 use Rattle.std.specs.Prelude.{Ok, Err}
 use Rattle.std.proofs.Math.Seq.{take-length}
-use Rattle.kc_obj.specs.declared.parts.Taken.{Taken}
+use Rattle.kc_obj_module.specs.declared.parts.Taken.{Taken}
 use Rattle.kc_link_place.specs.declared.ranges.Ranges.{Ranges}
 use Rattle.kc_link_place.specs.declared.pieces.Piece.{Piece}
 use Rattle.kc_link_place.specs.declared.pieces.Stand.{Stand}

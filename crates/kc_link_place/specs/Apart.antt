@@ -1,9 +1,9 @@
 -- Code pieces that are placed stand in program memory, no two at one address.
 use Rattle.std.specs.Prelude.{◌≡◌, ℕ, ◌+◌, ◌<◌, ◌≤◌, true, Some, Ok, List, slice_get}
-use Rattle.kc_obj.specs.declared.parts.SegKind.TheVariants.{Code}
-use Rattle.kc_obj.specs.declared.parts.Segment.{Segment}
-use Rattle.kc_obj.specs.Object.{Object}
-use Rattle.kc_obj.specs.Rules.{is_module}
+use Rattle.kc_obj_module.specs.declared.parts.SegKind.TheVariants.{Code}
+use Rattle.kc_obj_module.specs.declared.parts.Segment.{Segment}
+use Rattle.kc_obj_module.specs.Object.{Object}
+use Rattle.kc_obj_module.specs.Rules.{is_module}
 use Rattle.kc_link_place.specs.declared.ranges.Ranges.{Ranges}
 use Rattle.kc_link_place.specs.Ranges.{are_in_bounds}
 use Rattle.kc_link_place.specs.Placing.{Places, located, base_at}

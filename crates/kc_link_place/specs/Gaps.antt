@@ -1,7 +1,7 @@
 -- The free addresses as sorted gaps, with a taken address between any two.
 use Rattle.std.specs.Prelude.{◌≡◌, ℕ, Bool, false, ◌+◌, ◌*◌, ◌/◌, ◌<◌, ◌≤◌, ◌==◌, ◌&&◌, ◌||◌, not, nat_lt, nat_le, min, max, if◌then◌else◌, Option, Some, None, List, [], ◌∷◌, length, slice_index}
-use Rattle.kc_obj.specs.declared.parts.SegKind.{SegKind}
-use Rattle.kc_obj.specs.declared.parts.SegKind.TheVariants.{Reg}
+use Rattle.kc_obj_module.specs.declared.parts.SegKind.{SegKind}
+use Rattle.kc_obj_module.specs.declared.parts.SegKind.TheVariants.{Reg}
 use Rattle.kc_link_place.specs.declared.gaps.Gap.{Gap}
 use Rattle.kc_link_place.specs.declared.pieces.Stand.{Stand}
 use Rattle.kc_link_place.specs.Stands.{is_taken, how_many}

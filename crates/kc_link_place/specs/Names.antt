@@ -4,10 +4,10 @@ use Rattle.std.specs.Option.{option_or}
 use Rattle.std.specs.Str.{bytes_eq}
 use Rattle.std.specs.Map.{lookup}
 use Rattle.std.specs.Global.{Vec}
-use Rattle.kc_obj.specs.declared.parts.Given.{Given}
-use Rattle.kc_obj.specs.declared.parts.Taken.{Taken}
-use Rattle.kc_obj.specs.Object.{Object}
-use Rattle.kc_obj.specs.Names.{is_stack_name}
+use Rattle.kc_obj_module.specs.declared.parts.Given.{Given}
+use Rattle.kc_obj_module.specs.declared.parts.Taken.{Taken}
+use Rattle.kc_obj_module.specs.Object.{Object}
+use Rattle.kc_obj_module.specs.Names.{is_stack_name}
 use Rattle.kc_link_place.specs.declared.names.Home.{Home}
 
 abbrev pub home : ℕ → Given → Home

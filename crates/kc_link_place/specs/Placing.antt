@@ -2,10 +2,10 @@
 -- the order of the rules is this kit's own).
 use Rattle.std.specs.Prelude.{◌≡◌, ℕ, Bool, ◌+◌, ◌*◌, ◌/◌, ◌%◌, ◌==◌, ◌&&◌, nat_le, if◌then◌else◌, Option, Some, None, Result, Ok, Err, List, [], ◌∷◌, ◌++◌, length, map, slice_get}
 use Rattle.std.specs.Option.{option_map}
-use Rattle.kc_obj.specs.declared.parts.SegKind.TheVariants.{Stack}
-use Rattle.kc_obj.specs.declared.parts.Segment.{Segment}
-use Rattle.kc_obj.specs.Object.{Object}
-use Rattle.kc_obj.specs.Names.{is_stack_name}
+use Rattle.kc_obj_module.specs.declared.parts.SegKind.TheVariants.{Stack}
+use Rattle.kc_obj_module.specs.declared.parts.Segment.{Segment}
+use Rattle.kc_obj_module.specs.Object.{Object}
+use Rattle.kc_obj_module.specs.Names.{is_stack_name}
 use Rattle.kc_obj_relocation.specs.Numbers.{Bases}
 use Rattle.kc_link_fill.specs.BaseLists.{BaseLists, bases_in, or_0}
 use Rattle.kc_link_place.specs.declared.ranges.Ranges.{Ranges}

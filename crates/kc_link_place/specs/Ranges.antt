@@ -1,7 +1,7 @@
 -- Where relocatable pieces may stand (80C196KC User's Manual, "Memory Map", for the regions; the bounds are this kit's own).
 use Rattle.std.specs.Prelude.{ℕ, Bool, ◌&&◌, ◌||◌, nat_le}
-use Rattle.kc_obj.specs.declared.parts.SegKind.{SegKind}
-use Rattle.kc_obj.specs.declared.parts.SegKind.TheVariants.{Reg, Code}
+use Rattle.kc_obj_module.specs.declared.parts.SegKind.{SegKind}
+use Rattle.kc_obj_module.specs.declared.parts.SegKind.TheVariants.{Reg, Code}
 use Rattle.kc_link_place.specs.declared.ranges.Ranges.{Ranges}
 
 -- from the first to the last address, within bounds

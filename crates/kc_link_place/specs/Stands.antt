@@ -1,9 +1,9 @@
 -- Pieces that stand at addresses, and the least address that they leave free (after RL96 of the MCS-96 utilities, in outline).
 use Rattle.std.specs.Prelude.{ℕ, zero, suc, Bool, true, false, ◌+◌, ◌-◌, ◌%◌, ◌==◌, ◌&&◌, ◌||◌, not, nat_lt, nat_le, if◌then◌else◌, Option, Some, None, List, [], ◌∷◌, ◌++◌}
-use Rattle.kc_obj.specs.declared.parts.SegKind.{SegKind}
-use Rattle.kc_obj.specs.declared.parts.SegKind.TheVariants.{Reg, Code, Ram, Stack}
-use Rattle.kc_obj.specs.declared.parts.Segment.{Segment}
-use Rattle.kc_obj.specs.Object.{Object}
+use Rattle.kc_obj_module.specs.declared.parts.SegKind.{SegKind}
+use Rattle.kc_obj_module.specs.declared.parts.SegKind.TheVariants.{Reg, Code, Ram, Stack}
+use Rattle.kc_obj_module.specs.declared.parts.Segment.{Segment}
+use Rattle.kc_obj_module.specs.Object.{Object}
 use Rattle.kc_link_place.specs.declared.pieces.Piece.{Piece}
 use Rattle.kc_link_place.specs.declared.pieces.Stand.{Stand}
 

@@ -6,7 +6,7 @@ ghost use Rattle.kc_link_place.specs.Gaps as gap;
 ghost use Rattle.kc_link_place.specs.declared.pieces.Stand.{Stand};
 
 use kc_base::NoMemory;
-use kc_obj::SegKind;
+use kc_obj_module::SegKind;
 
 /// Free addresses, from the first one up to the end, which is not among them.
 #[derive(Clone, Copy)]

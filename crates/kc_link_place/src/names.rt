@@ -1,12 +1,12 @@
 ghost use Rattle.std.specs.Prelude.{◌≡◌, ◌+◌, ◌<◌, ◌≤◌, ℕ, List, OnOk, IfOk, length};
 ghost use Rattle.std.specs.Option.{option_copied, option_or};
-ghost use Rattle.kc_obj.specs.Object.{Object};
+ghost use Rattle.kc_obj_module.specs.Object.{Object};
 ghost use Rattle.kc_link_place.specs.Names as spec;
 ghost use Rattle.kc_link_place.specs.Names.{home_among, home_of, found_in, Knows, if_same};
 
 use indexmap::IndexMap;
 use kc_base::{NoMemory, Text};
-use kc_obj::{Given, Module, Taken};
+use kc_obj_module::{Given, Module, Taken};
 use std::alloc::Global;
 
 /// Where a name is public: the number of the module, and a place in one of its pieces or a number alone.

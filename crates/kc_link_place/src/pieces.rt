@@ -3,7 +3,7 @@ ghost use Rattle.kc_link_place.specs.Stands as stands;
 ghost use Rattle.kc_link_place.specs.Stands.{piece_of, fixed_in, fixed_from, wanted_in, wanted_from, wanted};
 
 use kc_base::NoMemory;
-use kc_obj::{Module, SegKind, Segment};
+use kc_obj_module::{Module, SegKind, Segment};
 use std::alloc::Global;
 
 /// A piece of a module: the numbers of both, its kind, and its length in bytes.

@@ -1,5 +1,5 @@
 ghost use Rattle.std.specs.Prelude.{◌≡◌, ◌+◌, ◌<◌, ◌≤◌, ◌%◌, ℕ, List, IfOk, Some, length, map};
-ghost use Rattle.kc_obj.specs.Object.{Object};
+ghost use Rattle.kc_obj_module.specs.Object.{Object};
 ghost use Rattle.kc_link_place.specs.Names.{Knows, home};
 ghost use Rattle.kc_link_place.specs.Placing as placing;
 ghost use Rattle.kc_link_place.specs.Placing.{Places, list_at, base_at, home_number, name_number, base_lists, bases_from, places_from};
@@ -9,7 +9,7 @@ use crate::pieces::{Stand, is_kind};
 use crate::rules::is_stack;
 use kc_base::NoMemory;
 use kc_link_fill::Bases;
-use kc_obj::{Given, Module, SegKind, Segment, Taken};
+use kc_obj_module::{Given, Module, SegKind, Segment, Taken};
 use std::alloc::Global;
 use std::marker::Model;
 

@@ -1,7 +1,7 @@
 ghost use Rattle.std.specs.Prelude.{◌≡◌, ◌+◌, ◌<◌, ◌≤◌, ◌++◌, ℕ, List, [], IfOk, true, length};
 ghost use Rattle.std.specs.Option.{option_map};
-ghost use Rattle.kc_obj.specs.Object.{Object};
-ghost use Rattle.kc_obj.specs.declared.parts.SegKind.TheVariants as kinds;
+ghost use Rattle.kc_obj_module.specs.Object.{Object};
+ghost use Rattle.kc_obj_module.specs.declared.parts.SegKind.TheVariants as kinds;
 ghost use Rattle.kc_link_place.specs.declared.pieces.Stand as the;
 ghost use Rattle.kc_link_place.specs.declared.ranges.LinkFault.TheVariants as faults;
 ghost use Rattle.kc_link_place.specs.Ranges.{are_in_bounds, range_of};
@@ -23,7 +23,7 @@ use crate::rules::{doubled, unresolved};
 use crate::stack::stack_size;
 use kc_base::Text;
 use kc_link_fill::Bases;
-use kc_obj::{Module, SegKind};
+use kc_obj_module::{Module, SegKind};
 use std::alloc::Global;
 
 // Whether each name that is taken is given.

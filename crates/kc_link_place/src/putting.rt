@@ -8,7 +8,7 @@ use crate::gaps::{Gap, cut, find};
 use crate::pieces::{Piece, Stand};
 use crate::ranges::Ranges;
 use kc_base::NoMemory;
-use kc_obj::SegKind;
+use kc_obj_module::SegKind;
 use std::alloc::Global;
 
 /// Why a piece has no place.

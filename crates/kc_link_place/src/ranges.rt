@@ -2,7 +2,7 @@ ghost use Rattle.std.specs.Prelude.{◌≡◌, ℕ, None};
 ghost use Rattle.kc_link_place.specs.Ranges.{are_in_bounds, lies_within};
 
 use kc_base::{NoMemory, Text};
-use kc_obj::SegKind;
+use kc_obj_module::SegKind;
 
 /// Where relocatable pieces may stand: the first and the last address for registers, code, and data with the stack.
 /// `stack` is the length of the stack in bytes, where it is not the sum of all stack pieces.

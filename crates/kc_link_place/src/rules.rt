@@ -1,13 +1,13 @@
 ghost use Rattle.std.specs.Prelude.{◌≡◌, ◌+◌, ◌<◌, ◌≤◌, ℕ, List, length};
 ghost use Rattle.std.specs.Option.{option_copied};
-ghost use Rattle.kc_obj.specs.Object.{Object};
-ghost use Rattle.kc_obj.specs.Names.{is_stack_name};
+ghost use Rattle.kc_obj_module.specs.Object.{Object};
+ghost use Rattle.kc_obj_module.specs.Names.{is_stack_name};
 ghost use Rattle.kc_link_place.specs.Names as spec;
 ghost use Rattle.kc_link_place.specs.Names.{is_resolved, comes_later, Knows};
 
 use crate::names::{Home, Names};
 use kc_base::Text;
-use kc_obj::{Given, Module, Taken};
+use kc_obj_module::{Given, Module, Taken};
 
 // Whether a name is that of the address after the stack.
 pub(crate) fn is_stack(name: &[u8]) -> bool

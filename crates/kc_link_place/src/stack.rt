@@ -1,11 +1,11 @@
 ghost use Rattle.std.specs.Prelude.{◌≡◌, ◌≤◌, ◌+◌, ◌*◌, true, length};
 ghost use Rattle.std.specs.List.{list_all};
-ghost use Rattle.kc_obj.specs.Pieces.{is_placed, segments_in_order};
+ghost use Rattle.kc_obj_module.specs.Pieces.{is_placed, segments_in_order};
 ghost use Rattle.kc_link_place.specs.Placing as placing;
 
 use crate::pieces::is_kind;
 use crate::ranges::Ranges;
-use kc_obj::{Module, SegKind, Segment};
+use kc_obj_module::{Module, SegKind, Segment};
 
 // The length of the stack piece of a module: it has at most one, and that is relocatable.
 fn stack_in(segments: &[Segment]) -> u32

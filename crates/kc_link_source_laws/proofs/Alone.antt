@@ -8,8 +8,8 @@ use Rattle.kc_source_statement.specs.declared.statement.Stmt.{Stmt}
 use Rattle.kc_asm_symbols.specs.declared.segments.Segment.{Segment}
 use Rattle.kc_asm_symbols.specs.Located.{Located, is_absolute}
 use Rattle.kc_asm_symbols.specs.Meanings.{meaning}
-use Rattle.kc_obj.specs.declared.parts.Given.{Given}
-use Rattle.kc_obj.specs.Object.{Object}
+use Rattle.kc_obj_module.specs.declared.parts.Given.{Given}
+use Rattle.kc_obj_module.specs.Object.{Object}
 use Rattle.kc_obj_relocation.specs.Numbers.{Bases}
 use Rattle.kc_asm_piece.specs.declared.draft.Draft.{Draft}
 use Rattle.kc_asm_piece.specs.Tape.{Tape}

@@ -7,7 +7,7 @@ use Rattle.kc_source_statement.specs.declared.statement.Stmt.{Stmt}
 use Rattle.kc_source_statement.specs.Formed.{is_formed, StatementsAreFormed}
 use Rattle.kc_asm_symbols.specs.Located.{Located, first_segment, value_at}
 use Rattle.kc_asm_symbols.specs.Meanings.{meaning}
-use Rattle.kc_obj.specs.Object.{Object}
+use Rattle.kc_obj_module.specs.Object.{Object}
 use Rattle.kc_obj_relocation.specs.Numbers.{Bases}
 use Rattle.kc_asm_bytes.specs.declared.octet.Octet.{Octet}
 use Rattle.kc_asm_bytes.specs.declared.octet.Octet.TheVariants.{Plain}

@@ -14,7 +14,7 @@ use Rattle.kc_asm_symbols.specs.declared.segments.Segment.{Segment}
 use Rattle.kc_asm_symbols.specs.Located.{Located, is_absolute}
 use Rattle.kc_asm_symbols.specs.Meanings.{meaning}
 use Rattle.kc_asm_symbols.specs.Told.{AreReadWell}
-use Rattle.kc_obj.specs.Object.{Object}
+use Rattle.kc_obj_module.specs.Object.{Object}
 use Rattle.kc_obj_relocation.specs.Numbers.{Bases}
 use Rattle.kc_asm_piece.specs.declared.draft.Draft.{Draft}
 use Rattle.kc_asm_module.specs.ModuleOf.{IsModuleOf, pieces_in}

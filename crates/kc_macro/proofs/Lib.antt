@@ -1,4 +1,3 @@
-pub mod CallLemmas
 pub mod OperandLemmas
 pub mod Soundness
 pub mod RunLemmas

@@ -1,4 +1,4 @@
-ghost use Rattle.std.specs.Prelude.{◌≡◌, ℕ, ◌+◌, false, IfOk, drop};
+ghost use Rattle.std.specs.Prelude.{◌≡◌, ◌+◌, false, IfOk, None, drop};
 ghost use Rattle.kc_macro.specs.Steps as steps;
 ghost use Rattle.std.specs.Option.{IfSome};
 ghost use Rattle.kc_macro_input.specs.Filled.{seen_filled};
@@ -12,7 +12,7 @@ use kc_lex::{SourceCode, Token, Tokens};
 use kc_macro_body::arguments::arguments;
 use kc_macro_body::bodies::{behind_first, macro_of};
 use kc_macro_body::calls::called;
-use kc_macro_body::{Macro, Names};
+use kc_macro_body::{Given, Macro, Names};
 use kc_macro_input::bodies::{Filled, body_lines, fill_body, texts};
 use kc_macro_input::cutting::cut_off;
 use kc_macro_input::{Extent, Mark, Marks};
@@ -63,13 +63,33 @@ fn text_code(text: &Filled) -> Option<u8>
     }
 }
 
-// The least code of a call's faults, where names do not run out.
-fn call_fault(left: u32, from: &Marks, item: &Macro, args: &[Tokens], text: &Filled) -> Option<u8>
-    ensures { (given : ℕ) → steps.names_run_out given item.now.formals.locals.count ≡ false → result ≡ steps.call_fault left given from.now item.now args.now (seen_filled text.now) }
+// Whether names run out where so many more are given.
+fn run_out(given: Given, locals: u64) -> bool
+    ensures { result ≡ steps.names_run_out given locals }
 {
-    let many = code_if(
-        item.formals.params.as_slice().len() < args.len(),
-        SourceCode::ManyArguments.number(),
+    given.with(locals).is_none()
+}
+
+// The least code of a call's faults.
+fn call_fault(
+    left: u32,
+    given: Given,
+    from: &Marks,
+    item: &Macro,
+    args: &[Tokens],
+    text: &Filled,
+) -> Option<u8>
+    ensures { result ≡ steps.call_fault left given from.now item.now args.now (seen_filled text.now) }
+{
+    let many = least(
+        code_if(
+            item.formals.params.as_slice().len() < args.len(),
+            SourceCode::ManyArguments.number(),
+        ),
+        code_if(
+            run_out(given, locals_of(item)),
+            SourceCode::NoStatement.number(),
+        ),
     );
     let unsound = least(code_if(!item.sound, SourceCode::NoMatch.number()), many);
     let deep = least(
@@ -85,7 +105,7 @@ fn call_fault(left: u32, from: &Marks, item: &Macro, args: &[Tokens], text: &Fil
 fn call_text(
     alloc: Global,
     left: u32,
-    given: u64,
+    given: Given,
     number: u32,
     from: &Marks,
     item: &Macro,
@@ -104,11 +124,10 @@ fn locals_of(item: &Macro) -> u64
     item.formals.locals.count
 }
 
-// Counted in 64 bits, names do not run out: their numbers have at most 20 digits.
 fn call_of(
     alloc: Global,
     left: u32,
-    given: u64,
+    given: Given,
     number: u32,
     from: &Marks,
     item: &Macro,
@@ -117,11 +136,12 @@ fn call_of(
     ensures text { IfOk result (λ c. seen_filled c.text ≡ steps.call_text left given number from.now item.now (arguments.arguments (drop 1 tokens.now))) }
     ensures fault { IfOk result (λ c. c.fault ≡ steps.call_fault left given from.now item.now (arguments.arguments (drop 1 tokens.now)) (seen_filled c.text)) }
     ensures locals { IfOk result (λ c. c.locals ≡ item.now.formals.locals.count) }
+    ensures named { IfOk result (λ c. c.fault ≡ None → steps.names_run_out given c.locals ≡ false) }
 {
     let locals = locals_of(item);
     let args = arguments(alloc, behind_first(tokens))?;
     let text = call_text(alloc, left, given, number, from, item, args.as_slice())?;
-    let fault = call_fault(left, from, item, args.as_slice(), &text);
+    let fault = call_fault(left, given, from, item, args.as_slice(), &text);
     Ok(Call {
         text,
         fault,
@@ -130,6 +150,7 @@ fn call_of(
 }
 
 fn call_next(state: &mut State, number: u32, call: Call) -> Result<Step, NoMemory>
+    requires { call.fault ≡ None → steps.names_run_out state.old.given call.locals ≡ false }
     ensures { IfOk result (λ r. steps.next_of r state.new ≡ steps.call_next state.old number call.locals call.fault (seen_filled call.text)) }
 {
     let Call {
@@ -145,8 +166,8 @@ fn call_next(state: &mut State, number: u32, call: Call) -> Result<Step, NoMemor
             line: number,
             code: fault.code,
         }),
-        Ok(lines) => match state.given.checked_add(locals) {
-            None => Err(NoMemory),
+        Ok(lines) => match state.given.with(locals) {
+            None => unreachable!(),
             Some(given) => {
                 state.given = given;
                 state.ahead.put(lines)?;

@@ -7,8 +7,8 @@ use crate::state::{State, Step};
 use crate::steps::{code_of, counted, least_unmatched};
 use kc_base::{NoMemory, Text};
 use kc_lex::SourceCode;
-use kc_macro_body::Texts;
 use kc_macro_body::bodies::{nothing, only};
+use kc_macro_body::{Given, Texts};
 use kc_macro_input::bodies::{Filled, fill_body, turn_body, turns_fault};
 use kc_macro_input::cutting::cut_off;
 use kc_macro_input::{Extent, Mark, Marks, Over, Piece};
@@ -87,7 +87,7 @@ fn turns(
     }
     let lines = turn_body(alloc, Mark::Turns(state.left), front)?;
     let none = nothing(alloc);
-    let text = fill_body(alloc, &none, &[], 0, lines.as_slice())?;
+    let text = fill_body(alloc, &none, &[], Given::none(), lines.as_slice())?;
     same_turns(alloc, state, number, from, times, text)
 }
 

@@ -1,11 +1,11 @@
 ghost use Rattle.std.specs.Prelude.{◌≡◌, ◌≤◌, ◌<◌, ◌+◌, ◌^◌, ◌++◌, ◌∷◌, [], length, IfOk, get_or, position};
 ghost use Rattle.std.specs.FinMap as map;
-ghost use Rattle.std.specs.Option.{IfSome};
 ghost use Rattle.std.specs.Str.{bytes_eq};
 ghost use Rattle.kc_macro_body.specs.Filling as filling;
 
 use crate::bodies::place_of;
 use crate::copying::copy_token;
+use crate::given::Given;
 use crate::macros::{Formals, Locals};
 use itoa::Buffer;
 use kc_base::{NoMemory, Text};
@@ -34,7 +34,7 @@ fn name_token(text: Text) -> Token
     }
 }
 
-fn local_front(number: u64) -> &'static [u8]
+fn local_front(number: u128) -> &'static [u8]
     ensures { result.now ≡ filling.local_front number }
 {
     if number < 10 {
@@ -57,7 +57,7 @@ fn two_texts(alloc: Global, first: &[u8], second: &[u8]) -> Result<Vec<u8>, NoMe
 }
 
 // The name that stands for a LOCAL name.
-fn local_name(alloc: Global, number: u64) -> Result<Text, NoMemory>
+fn local_name(alloc: Global, number: u128) -> Result<Text, NoMemory>
     ensures { IfOk result (λ t. t ≡ filling.local_name number) }
 {
     let mut buffer = Buffer::new();
@@ -66,30 +66,19 @@ fn local_name(alloc: Global, number: u64) -> Result<Text, NoMemory>
     Ok(Text::from_vec(both))
 }
 
-// The number of the LOCAL name at a place, where so many have been given before.
-fn number_at(given: u64, place: u64) -> Option<u64>
-    ensures { IfSome result (λ n. n ≡ given + place + 1) }
-{
-    let sum = given.checked_add(place)?;
-    sum.checked_add(1)
-}
-
 // Appends what stands for a name that is no parameter. So many LOCAL names have been given before.
 fn append_local(
     alloc: Global,
     line: &mut Tokens,
     locals: &Locals,
-    given: u64,
+    given: Given,
     token: &Token,
 ) -> Result<(), NoMemory>
     ensures { IfOk result (λ _. line.new ≡ line.old ++ filling.local_or token.now given (map.get locals.now.places token.now.text)) }
 {
     match locals.places.look(token.text.as_slice()) {
         None => line.push(copy_token(alloc, token)?),
-        Some(place) => match number_at(given, place) {
-            None => Err(NoMemory),
-            Some(number) => line.push(name_token(local_name(alloc, number)?)),
-        },
+        Some(place) => line.push(name_token(local_name(alloc, given.number(place))?)),
     }
 }
 
@@ -99,7 +88,7 @@ fn append_named(
     line: &mut Tokens,
     formals: &Formals,
     args: &[Tokens],
-    given: u64,
+    given: Given,
     token: &Token,
 ) -> Result<(), NoMemory>
     ensures { IfOk result (λ _. line.new ≡ line.old ++ filling.argument_or (filling.local_or token.now given (map.get formals.now.locals.places token.now.text)) args.now (position (bytes_eq token.now.text) formals.now.params)) }
@@ -122,7 +111,7 @@ fn append_replaced(
     line: &mut Tokens,
     formals: &Formals,
     args: &[Tokens],
-    given: u64,
+    given: Given,
     token: &Token,
 ) -> Result<(), NoMemory>
     ensures { IfOk result (λ _. line.new ≡ line.old ++ filling.stands_for formals.now args.now given token.now) }
@@ -138,7 +127,7 @@ fn replaced(
     alloc: Global,
     formals: &Formals,
     args: &[Tokens],
-    given: u64,
+    given: Given,
     tokens: &[Token],
 ) -> Result<Tokens, NoMemory>
     ensures { IfOk result (λ t. t ≡ filling.replaced formals.now args.now given tokens.now) }
@@ -226,7 +215,7 @@ pub fn filled(
     alloc: Global,
     formals: &Formals,
     args: &[Tokens],
-    given: u64,
+    given: Given,
     tokens: &[Token],
 ) -> Result<Result<Tokens, u8>, NoMemory>
     ensures { IfOk result (λ r. r ≡ filling.filled formals.now args.now given tokens.now) }

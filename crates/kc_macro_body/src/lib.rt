@@ -7,10 +7,12 @@ pub mod bodies;
 pub mod calls;
 pub mod copying;
 pub mod filling;
+pub mod given;
 pub mod lists;
 pub mod macros;
 pub mod words;
 
+pub use given::Given;
 pub use lists::{Names, Texts};
 pub use macros::{Formals, Locals, Macro, Macros};
 pub use words::Word;

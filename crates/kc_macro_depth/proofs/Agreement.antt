@@ -5,8 +5,9 @@ use Rattle.kc_lex.specs.declared.token.Line.{Line}
 use Rattle.kc_macro.specs.declared.state.State.{State}
 use Rattle.kc_macro.specs.Steps.{Next, Fault, Ended, Quiet, Counted, step}
 use Rattle.kc_macro.specs.Expansion as expansion
-use Rattle.kc_macro.specs.Expansion.{start, expanded, Ends}
-use Rattle.kc_macro_depth.specs.Depths.{Told, Answer, so_far, depth_ahead, told, on_next, settled, run, depths_of}
+use Rattle.kc_macro.specs.Expansion.{start, begun, expanded, Ends}
+use Rattle.kc_macro.proofs.Ends.{out_ends}
+use Rattle.kc_macro_depth.specs.Depths.{Told, Answer, so_far, depth_ahead, told, on_next, settled, run, run_out, depths_of}
 use Rattle.kc_macro_depth.specs.Laws.{Agree}
 use Rattle.kc_macro_depth.proofs.Grown.{IsGrown, Grows, step_grows}
 
@@ -61,6 +62,9 @@ met (Some a) b ends h = h
 
 pub all_agree : ((lines : List Line) → Ends (expanded lines)) → (lines : List Line) → Agree (expanded lines) (depths_of lines)
 all_agree ends lines = met (expanded lines) (depths_of lines) (ends lines) (all_meet lines)
+
+pub begun_agree : (lines : List Line) → Agree (expansion.run_out (begun lines)) (run_out (so_far (begun lines) []))
+begun_agree lines = met _ _ (out_ends (begun lines)) (run_meets (suc (begun lines).left) (so_far (begun lines) []) refl)
 
 -- ---- an answer, with that of the expansion
 

@@ -1,9 +1,9 @@
 -- Rewriting by the loops of the code, and by the definition.
-use Rattle.std.proofs.Common.{◌≡◌, ℕ, zero, suc, ◌<◌, List, [], length, None, refl, sym, ap, ◌∙◌, arith}
+use Rattle.std.proofs.Common.{◌≡◌, ℕ, zero, suc, ◌+◌, ◌<◌, List, [], length, None, refl, sym, ap, ◌∙◌, arith}
 use Rattle.kc_lex.specs.declared.token.Line.{Line}
 use Rattle.kc_macro.specs.declared.state.State.{State}
 use Rattle.kc_macro.specs.Steps.{Next, Fault, Ended, Quiet, Counted, step}
-use Rattle.kc_macro.specs.Expansion.{start}
+use Rattle.kc_macro.specs.Expansion.{start, AreNumbered, line_after, begun}
 use Rattle.kc_macro.proofs.RunLemmas.{IsLoud, quiet_shorter}
 use Rattle.kc_macro_depth.specs.Depths.{Told, Answer, so_far, told, on_next, settled, run, run_out, depths_of}
 
@@ -49,6 +49,16 @@ run_settled t = refl
 pub run_counted : (t u : Told) → ((next : Told → Answer) → settled next (suc (length t.state.ahead)) t ≡ next u) → suc u.state.left ≡ t.state.left → run_out u ≡ run_out t
 run_counted t u h left = sym (run_settled t ∙ h (run t.state.left) ∙ ap (λ n. run n u) (sym left))
 
+pub begun_are : (lines : List Line) (s : State) (ds : List ℕ) → s ≡ begun lines → ds ≡ [] → run_out (so_far (begun lines) []) ≡ run_out (so_far s ds)
+begun_are lines s ds e none = λ i. run_out (so_far (sym e i) (sym none i))
+
 pub depths_are : (lines : List Line) (s : State) (ds : List ℕ) → s ≡ start lines → ds ≡ [] → depths_of lines ≡ run_out (so_far s ds)
 unfolding depths_of
 depths_are lines s ds e none = λ i. run_out (so_far (sym e i) (sym none i))
+
+-- where lines are numbered, a source begins as the definition says
+pub depths_begun : (lines : List Line) → AreNumbered lines → depths_of lines ≡ run_out (so_far (begun lines) [])
+unfolding depths_of
+depths_begun lines h =
+    let after : length lines + 1 ≡ line_after lines = omega (arith, h) in
+    ap (λ n. run_out (so_far (record (start lines) { end = n }) [])) after

@@ -1,5 +1,5 @@
-ghost use Rattle.std.specs.Prelude.{◌≡◌, ◌≤◌, suc, length, IfOk};
-ghost use Rattle.kc_macro.specs.Expansion.{expanded};
+ghost use Rattle.std.specs.Prelude.{◌≡◌, [], suc, length, IfOk};
+ghost use Rattle.kc_macro.specs.Expansion as expansion;
 ghost use Rattle.kc_macro.specs.Steps as steps;
 ghost use Rattle.kc_macro_depth.specs.Depths as spec;
 
@@ -16,18 +16,15 @@ fn is_text(mark: Mark) -> bool
     matches!(mark, Mark::Call(_) | Mark::Turns(_))
 }
 
-// In how many calls and repetitions a line with these marks stands. No memory holds more marks than 32 bits count.
-fn depth(marks: &[Mark]) -> Result<u32, NoMemory>
-    ensures { IfOk result (λ n. n ≡ spec.depth marks.now) }
+// In how many calls and repetitions a line with these marks stands.
+fn depth(marks: &[Mark]) -> usize
+    ensures { result ≡ spec.depth marks.now }
 {
-    match u32::try_from(marks.iter().filter(|mark| is_text(**mark)).count()) {
-        Ok(count) => Ok(count),
-        Err(_) => Err(NoMemory),
-    }
+    marks.iter().filter(|mark| is_text(**mark)).count()
 }
 
 // How deep the first piece of a text stands.
-fn depth_ahead(alloc: Global, ahead: &mut Ahead) -> Result<u32, NoMemory>
+fn depth_ahead(alloc: Global, ahead: &mut Ahead) -> Result<usize, NoMemory>
     ensures depth { IfOk result (λ n. n ≡ spec.depth_ahead ahead.old) }
     ensures kept { IfOk result (λ _. ahead.new ≡ ahead.old) }
 {
@@ -37,7 +34,7 @@ fn depth_ahead(alloc: Global, ahead: &mut Ahead) -> Result<u32, NoMemory>
             Ok(0)
         }
         Some(first) => {
-            let count = depth(first.from.as_slice())?;
+            let count = depth(first.from.as_slice());
             ahead.put_one(first)?;
             Ok(count)
         }
@@ -45,7 +42,7 @@ fn depth_ahead(alloc: Global, ahead: &mut Ahead) -> Result<u32, NoMemory>
 }
 
 // Rewrites the first piece of the text, and notes how deep it stood where a line came out.
-fn tell(alloc: Global, state: &mut State, depths: &mut Vec<u32>) -> Result<Step, NoMemory>
+fn tell(alloc: Global, state: &mut State, depths: &mut Vec<usize>) -> Result<Step, NoMemory>
     ensures step { IfOk result (λ r. steps.next_of r state.new ≡ steps.step state.old) }
     ensures depths { IfOk result (λ _. depths.new.items ≡ spec.told (spec.so_far state.old depths.old.items) state.new.done) }
 {
@@ -59,7 +56,7 @@ fn tell(alloc: Global, state: &mut State, depths: &mut Vec<u32>) -> Result<Step,
 }
 
 // Rewrites up to the next expanded line, the end or a fault.
-fn settle(alloc: Global, state: &mut State, depths: &mut Vec<u32>) -> Result<Step, NoMemory>
+fn settle(alloc: Global, state: &mut State, depths: &mut Vec<usize>) -> Result<Step, NoMemory>
     ensures read { IfOk result (λ r. (next : spec.Told → spec.Answer) → spec.settled next (suc (length state.old.ahead)) (spec.so_far state.old depths.old.items) ≡ spec.led next r (spec.so_far state.new depths.new.items)) }
     ensures left { IfOk result (λ r. steps.TakesOne r state.old state.new) }
 {
@@ -77,10 +74,11 @@ fn settle(alloc: Global, state: &mut State, depths: &mut Vec<u32>) -> Result<Ste
 /// In how many macro calls and turns of REPT and IRP each line of the expansion of a source stands, in the order of these
 /// lines: none for a line of the source's own text. An IF is none. Else the fault of the expansion.
 /// (MCS-96 Macro Assembler User's Guide, "Macros"; the count is this kit's own.)
-pub fn depths(alloc: Global, lines: Vec<Line>) -> Result<Vec<u32>, SourceFault>
-    requires { length lines.items ≤ 1048576 }
-    ensures depths { spec.AreDepths result (spec.depths_of lines.items) }
-    ensures lines { spec.GoWith result (expanded lines.items) }
+pub fn depths(alloc: Global, lines: Vec<Line>) -> Result<Vec<usize>, SourceFault>
+    ensures depths { expansion.AreNumbered lines.items → spec.AreDepths result (spec.depths_of lines.items) }
+    ensures lines { expansion.AreNumbered lines.items → spec.GoWith result (expansion.expanded lines.items) }
+    ensures longer { spec.AreDepths result (spec.run_out (spec.so_far (expansion.begun lines.items) [])) }
+    ensures longer_lines { spec.GoWith result (expansion.run_out (expansion.begun lines.items)) }
 {
     let mut state = begin(alloc, lines)?;
     let mut depths = Vec::new(alloc);

@@ -99,7 +99,7 @@ fn put_lines(alloc: Global, stack: &mut Vec<Held>, lines: Vec<Line>) -> Result<(
     while let Some(line) = lines.pop() {
         stack.push(Held::One(Piece {
             number: line.number,
-            from: none.copy()?,
+            from: none.copy(alloc)?,
             tokens: Some(line.tokens),
         }))?;
     }

@@ -10,7 +10,7 @@ use kc_lex::line_fault::lesser;
 use kc_lex::{LineFault, Tokens};
 use kc_macro_body::copying::copy_tokens;
 use kc_macro_body::filling::filled;
-use kc_macro_body::{Formals, Texts};
+use kc_macro_body::{Formals, Given, Texts};
 use std::alloc::Global;
 
 /// The lines of a body, or the first of its faults.
@@ -62,7 +62,7 @@ pub fn body_lines(
         let tokens = copy_tokens(alloc, line.as_slice())?;
         body.push(Piece {
             number,
-            from: from.copy()?,
+            from: from.copy(alloc)?,
             tokens: Some(tokens),
         })?;
     }
@@ -93,7 +93,7 @@ fn fill_piece(
     alloc: Global,
     formals: &Formals,
     args: &[Tokens],
-    given: u64,
+    given: Given,
     piece: &Piece,
 ) -> Result<Result<Piece, LineFault>, NoMemory>
     ensures { IfOk result (λ r. r ≡ filling.fill_piece formals.now args.now given piece.now) }
@@ -103,7 +103,7 @@ fn fill_piece(
         Some(tokens) => match filled(alloc, formals, args, given, tokens.as_slice())? {
             Ok(tokens) => Ok(Ok(Piece {
                 number: piece.number,
-                from: piece.from.copy()?,
+                from: piece.from.copy(alloc)?,
                 tokens: Some(tokens),
             })),
             Err(code) => Ok(Err(LineFault {
@@ -120,7 +120,7 @@ fn append_filled(
     before: Filled,
     formals: &Formals,
     args: &[Tokens],
-    given: u64,
+    given: Given,
     body: &[Piece],
 ) -> Result<Filled, NoMemory>
     ensures { IfOk result (λ r. filling.seen_filled r ≡ filling.together (filling.seen_filled before) (filling.fill_body formals.now args.now given body.now)) }
@@ -140,7 +140,7 @@ pub fn fill_body(
     alloc: Global,
     formals: &Formals,
     args: &[Tokens],
-    given: u64,
+    given: Given,
     body: &[Piece],
 ) -> Result<Filled, NoMemory>
     ensures { IfOk result (λ r. filling.seen_filled r ≡ filling.fill_body formals.now args.now given body.now) }
@@ -168,7 +168,7 @@ pub(crate) fn fill_over(
 {
     let mut args = Texts::new(alloc);
     args.push(copy_tokens(alloc, arg.as_slice())?)?;
-    fill_body(alloc, formals, args.as_slice(), 0, body)
+    fill_body(alloc, formals, args.as_slice(), Given::none(), body)
 }
 
 /// The least fault of the turns of a body over some arguments, on the first line that has one. No turn is kept.

@@ -141,11 +141,14 @@ impl Marks {
         Ok(Marks { items })
     }
 
-    /// The same marks again.
-    pub fn copy(&self) -> Result<Marks, NoMemory>
+    /// The same marks again: shared, or, where no more lines can share them, in a list of their own.
+    pub fn copy(&self, alloc: Global) -> Result<Marks, NoMemory>
         ensures { IfOk result (λ m. m ≡ self.now) }
     {
-        let items = self.items.clone()?;
+        let items = match self.items.clone() {
+            Ok(items) => items,
+            Err(_) => Rc::new(alloc, Vec::from_slice(alloc, self.items.as_slice())?)?,
+        };
         Ok(Marks { items })
     }
 
@@ -218,7 +221,7 @@ fn copy_text(alloc: Global, tokens: &Option<Tokens>) -> Result<Option<Tokens>, N
 pub fn copy_piece(alloc: Global, piece: &Piece) -> Result<Piece, NoMemory>
     ensures { IfOk result (λ p. p ≡ piece.now) }
 {
-    let from = piece.from.copy()?;
+    let from = piece.from.copy(alloc)?;
     let tokens = copy_text(alloc, &piece.tokens)?;
     Ok(Piece {
         number: piece.number,
@@ -277,11 +280,11 @@ impl Marking {
         ensures kept { IfOk result (λ _. self.new ≡ self.old) }
     {
         if self.before.is_same(from) {
-            return self.after.copy();
+            return self.after.copy(alloc);
         }
         let after = from.with(alloc, self.mark)?;
-        let copy = after.copy()?;
-        self.before = from.copy()?;
+        let copy = after.copy(alloc)?;
+        self.before = from.copy(alloc)?;
         self.after = after;
         Ok(copy)
     }

@@ -15,8 +15,8 @@ use Rattle.kc_lex.specs.Numbers.{number_value}
 use Rattle.kc_lex.specs.Lexemes.{Lexeme, Blank, Word, Quoted, Mark, Comment, all_proper}
 use Rattle.kc_base.specs.TextLines.{text_lines}
 use Rattle.kc_lex.specs.Lines.{word_token, tokens_of, is_long_name, any_word, lines_from}
-use Rattle.kc_obj.specs.Names.{is_name, is_name_char, is_digit}
-use Rattle.kc_obj.specs.Names as obj
+use Rattle.kc_obj_module.specs.Names.{is_name, is_name_char, is_digit}
+use Rattle.kc_obj_module.specs.Names as obj
 use Rattle.kc_macro_body.specs.Filling.{local_front, local_name}
 use Rattle.kc_macro_names.specs.Kept.{NamesPass}
 use Rattle.kc_macro_names.specs.Names.{is_named, has_names, LinesHaveNames, ExpansionMakesNames}

@@ -6,7 +6,7 @@ use Rattle.kc_lex.specs.declared.token.Token.{Token}
 use Rattle.kc_lex.specs.declared.token.Line.{Line}
 use Rattle.kc_lex.specs.Kinds.{is_name_kind}
 use Rattle.kc_lex.specs.Lines.{lines_of}
-use Rattle.kc_obj.specs.Names.{is_name}
+use Rattle.kc_obj_module.specs.Names.{is_name}
 use Rattle.kc_macro.specs.declared.state.State.{State}
 use Rattle.kc_macro_names.specs.Ends.{EndsAt}
 

@@ -1,16 +1,14 @@
-//! Object modules: their parts, the rules that a module keeps, and its one spelling as bytes.
+//! Object files: a module, its one spelling as bytes (`encode`), and a file read (`decode`): the module of which the bytes are
+//! the spelling, or the first fault.
 #![tactic(auto)]
 
-pub mod contents;
-pub mod fixups;
-pub mod line_entries;
-mod module;
-pub mod names;
-mod parts;
-pub mod pieces;
-mod rules;
-mod writing;
+mod decoding;
+pub mod laws;
+mod reading;
+mod step;
 
-pub use module::Module;
-pub use parts::{Content, Fixup, Given, Lines, SegKind, Segment, Taken, Target};
-pub use writing::encode;
+pub use decoding::decode;
+pub use kc_obj_fields::faults::ObjFault;
+pub use kc_obj_module::{
+    Content, Fixup, Given, Lines, Module, SegKind, Segment, Taken, Target, encode,
+};

@@ -1,9 +1,10 @@
 -- How many lines and statements there are.
-use Rattle.std.proofs.Common.{◌≡◌, ℕ, suc, ◌+◌, ◌≤◌, Bool, true, false, eqb, ◌&&◌, if◌then◌else◌, List, [], ◌∷◌, length, map, Result, Ok, Err, refl, subst, arith}
+use Rattle.std.proofs.Common.{◌≡◌, ℕ, suc, ◌+◌, ◌<◌, ◌≤◌, Bool, true, false, eqb, ◌&&◌, if◌then◌else◌, List, [], ◌∷◌, length, map, Result, Ok, Err, refl, subst, arith}
 use Rattle.kc_base.specs.TextLines.{text_lines, with_first, begins_with}
 use Rattle.kc_lex.specs.declared.token.Token.{Token}
 use Rattle.kc_lex.specs.declared.token.Line.{Line}
 use Rattle.kc_lex.specs.Lines.{Answer, and_lines, line_tokens, lines_from, lines_of}
+use Rattle.kc_macro.specs.Expansion.{AreNumbered}
 use Rattle.kc_source_statement.specs.declared.statement.Stmt.{Stmt}
 use Rattle.kc_source_statement.specs.Operands.{is_nil}
 use Rattle.kc_source.specs.Faults.{said, all_said, stmt_said, AreStatements}
@@ -41,6 +42,12 @@ pub line_count : (t : List ℕ) (ls : List Line) → lines_of t ≡ Ok ls → le
 line_count t ls e =
     let of_lines : length ls ≤ length (text_lines t) = subst (λ (a : Answer). IsCounted (length (text_lines t)) a) e (counted 1 (text_lines t)) in
     omega (arith, of_lines, text_count t)
+
+-- 32 bits number the lines of a source that can be read
+pub lines_numbered : (t : List ℕ) (ls : List Line) → length t ≤ 1048576 → lines_of t ≡ Ok ls → AreNumbered ls
+lines_numbered t ls few e =
+    let short : length ls < 4294967295 = omega (arith, few, line_count t ls e) in
+    short
 
 said_count : (ls : List Line) → length (all_said ls) ≤ length ls
 unfolding all_said

@@ -6,7 +6,7 @@ use Rattle.std.proofs.lemmas.Bool.{and_parts}
 use Rattle.std.proofs.lemmas.Bool.Decides.{nat_tests}
 use Rattle.kc_lex.specs.Chars.{is_word_char}
 use Rattle.kc_lex.specs.Words.{begins_name, is_name_text}
-use Rattle.kc_obj.specs.Names.{is_name_char}
+use Rattle.kc_obj_module.specs.Names.{is_name_char}
 use Rattle.kc_macro_body.specs.Filling.{local_name}
 use Rattle.kc_macro_names.specs.Ends.{ExpansionEndsAtAPlace}
 use Rattle.kc_macro_names.specs.Kept.{NamesPass, ExpansionKeepsTests}

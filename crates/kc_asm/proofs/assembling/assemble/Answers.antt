@@ -5,11 +5,8 @@ use Rattle.kc_asm_symbols.specs.Told.{AreReadWell}
 use Rattle.kc_asm.specs.Assembled.{AreSaid, IsMade, IsAssembled}
 use Rattle.kc_asm.proofs.Characters.{has_characters}
 use Rattle.kc_asm.proofs.Said.{said_well}
-use Rattle.kc_source_laws.proofs.Counts.{line_count, stmt_count}
+use Rattle.kc_source_laws.proofs.Counts.{lines_numbered, stmt_count}
 use Rattle.kc_asm.proofs.assembling.assemble.Goals as goal
-
-pub expand-requires : goal.expand-requires
-expand-requires c = omega (arith, c.requires, line_count c.args.source.now c.in_ok-lines.lines.items c.in_ok-lines.ensures)
 
 pub module_or_fault-requires-clause-few : goal.module_or_fault-requires-clause-few
 module_or_fault-requires-clause-few c =
@@ -20,22 +17,22 @@ module_or_fault-requires-clause-few c =
 pub module_or_fault-requires-clause-read : goal.module_or_fault-requires-clause-read
 module_or_fault-requires-clause-read c =
     let statements : AreStatements c.in_ok-stmts.stmts.items c.in_ok-text.text.items = rw c.deref.ensures.value at c.in_ok-stmts.ensures in
-    let said : AreSaid c.args.source.now c.in_ok-stmts.stmts.items = (c.in_ok-text.text.items, (c.in_ok-lines.lines.items, c.in_ok-lines.ensures, c.in_ok-text.ensures.lines), statements) in
+    let said : AreSaid c.args.source.now c.in_ok-stmts.stmts.items = (c.in_ok-text.text.items, (c.in_ok-lines.lines.items, c.in_ok-lines.ensures, (c.in_ok-text.ensures.lines (lines_numbered c.args.source.now c.in_ok-lines.lines.items c.requires c.in_ok-lines.ensures))), statements) in
     let read : AreReadWell c.in_ok-stmts.stmts.items = said_well c.sources_are_read_well.ensures c.args.source.now c.in_ok-stmts.stmts.items said in
     rw c.deref-2.ensures.value read
 
 pub returns-in-Ok-Ok : goal.returns-in-Ok-Ok
 returns-in-Ok-Ok c =
     let statements : AreStatements c.in_ok-stmts.stmts.items c.in_ok-text.text.items = rw c.deref.ensures.value at c.in_ok-stmts.ensures in
-    let said : AreSaid c.args.source.now c.in_ok-stmts.stmts.items = (c.in_ok-text.text.items, (c.in_ok-lines.lines.items, c.in_ok-lines.ensures, c.in_ok-text.ensures.lines), statements) in
+    let said : AreSaid c.args.source.now c.in_ok-stmts.stmts.items = (c.in_ok-text.text.items, (c.in_ok-lines.lines.items, c.in_ok-lines.ensures, (c.in_ok-text.ensures.lines (lines_numbered c.args.source.now c.in_ok-lines.lines.items c.requires c.in_ok-lines.ensures))), statements) in
     let made : IsMade c.in_ok-stmts.stmts.items (Ok c.in-Ok-Ok.module) = rw (c.deref-2.ensures.value, c.in-Ok-Ok.field-0-is) at c.in-Ok-Ok.ensures in
     let characters = has_characters c.args.source.now c.in_ok-stmts.stmts.items
-    (c.statements_are_of_the_text.ensures c.args.source.now c.in_ok-lines.lines.items c.in_ok-text.text.items c.in_ok-stmts.stmts.items c.in_ok-lines.ensures c.in_ok-text.ensures.lines statements) in
+    (c.statements_are_of_the_text.ensures c.args.source.now c.in_ok-lines.lines.items c.in_ok-text.text.items c.in_ok-stmts.stmts.items c.in_ok-lines.ensures (c.in_ok-text.ensures.lines (lines_numbered c.args.source.now c.in_ok-lines.lines.items c.requires c.in_ok-lines.ensures)) statements) in
     record { stmts = c.in_ok-stmts.stmts.items; said = said; characters = characters; sound = made.1; draft = made.0; drafted = made.2; few = made.3; made = made.4 }
 
 pub returns-in-Ok-Err : goal.returns-in-Ok-Err
 returns-in-Ok-Err c =
     let statements : AreStatements c.in_ok-stmts.stmts.items c.in_ok-text.text.items = rw c.deref.ensures.value at c.in_ok-stmts.ensures in
-    let said : AreSaid c.args.source.now c.in_ok-stmts.stmts.items = (c.in_ok-text.text.items, (c.in_ok-lines.lines.items, c.in_ok-lines.ensures, c.in_ok-text.ensures.lines), statements) in
+    let said : AreSaid c.args.source.now c.in_ok-stmts.stmts.items = (c.in_ok-text.text.items, (c.in_ok-lines.lines.items, c.in_ok-lines.ensures, (c.in_ok-text.ensures.lines (lines_numbered c.args.source.now c.in_ok-lines.lines.items c.requires c.in_ok-lines.ensures))), statements) in
     let told : IsMade c.in_ok-stmts.stmts.items (Err c.in-Ok-Err.fault) = rw (c.deref-2.ensures.value, c.in-Ok-Err.field-0-is) at c.in-Ok-Err.ensures in
     subst (λ (e : SourceFault). IsAssembled c.args.source.now (Err e)) (sym c.from.ensures) (inr (inr (inr (c.in_ok-stmts.stmts.items, said, told))))

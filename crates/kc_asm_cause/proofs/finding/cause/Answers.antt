@@ -1,19 +1,11 @@
 use Rattle.std.proofs.Common.{◌≡◌, ◌∙◌, length, Some, Ok, ap, arith}
 use Rattle.std.proofs.lemmas.List.{length-map}
-use Rattle.kc_source_laws.proofs.Counts.{line_count}
-use Rattle.kc_macro.specs.Expansion.{expanded}
+use Rattle.kc_source_laws.proofs.Counts.{line_count, lines_numbered}
+use Rattle.kc_macro.specs.Expansion.{AreNumbered, expanded}
 use Rattle.kc_asm_cause.specs.Written.{marked, marked_line}
 use Rattle.kc_asm_cause.specs.Cause.{IsCauseAmong}
 use Rattle.kc_asm_cause.proofs.Between.{of_expansions}
 use Rattle.kc_asm_cause.proofs.finding.cause.Goals as goal
-
-pub expand-requires : goal.expand-requires
-expand-requires c = omega (arith, c.requires, line_count c.args.source.now c.in-Ok.read.items c.in-Ok.ensures)
-
-pub expand-requires-2 : goal.expand-requires-2
-expand-requires-2 c =
-    let as_many : length c.in_ok-marks.marks.items ≡ length c.in-Ok.read.items = ap length c.in_ok-marks.ensures ∙ length-map c.deref.result.now marked_line ∙ ap length c.deref.ensures.value in
-    omega (arith, as_many, c.requires, line_count c.args.source.now c.in-Ok.read.items c.in-Ok.ensures)
 
 pub returns : goal.returns
 returns c =
@@ -21,6 +13,8 @@ returns c =
     let text = c.in-Ok-expand.text.items in
     let other = c.in-Ok-expand-2.other.items in
     let marks : c.in_ok-marks.marks.items ≡ marked read = c.in_ok-marks.ensures ∙ ap marked c.deref.ensures.value in
-    let expanded_marks : expanded (marked read) ≡ Some (Ok other) = rw (← marks) c.in-Ok-expand-2.ensures.lines in
+    let as_many : length c.in_ok-marks.marks.items ≡ length read = ap length marks ∙ length-map read marked_line in
+    let numbered : AreNumbered c.in_ok-marks.marks.items = omega (arith, as_many, c.requires, line_count c.args.source.now read c.in-Ok.ensures) in
+    let expanded_marks : expanded (marked read) ≡ Some (Ok other) = rw (← marks) (c.in-Ok-expand-2.ensures.lines numbered) in
     let among : IsCauseAmong (c.args.line, c.args.code) text other c.in_ok-found.found = rw (c.deref-2.ensures.value, c.deref-3.ensures.value) at c.in_ok-found.ensures in
-    of_expansions c.args.source.now c.args.line c.args.code read text other c.in_ok-found.found c.in-Ok.ensures c.in-Ok-expand.ensures.lines expanded_marks among
+    of_expansions c.args.source.now c.args.line c.args.code read text other c.in_ok-found.found c.in-Ok.ensures (c.in-Ok-expand.ensures.lines (lines_numbered c.args.source.now read c.requires c.in-Ok.ensures)) expanded_marks among

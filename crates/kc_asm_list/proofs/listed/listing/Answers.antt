@@ -1,12 +1,6 @@
 use Rattle.std.proofs.Common.{◌≤◌, length, arith}
-use Rattle.kc_source_laws.proofs.Counts.{line_count, stmt_count}
+use Rattle.kc_source_laws.proofs.Counts.{lines_numbered, stmt_count}
 use Rattle.kc_asm_list.proofs.listed.listing.Goals as goal
-
-pub expand-requires : goal.expand-requires
-expand-requires c = omega (arith, c.requires, line_count c.args.source.now c.in_ok-read.read.items c.in_ok-read.ensures)
-
-pub depths-requires : goal.depths-requires
-depths-requires c = omega (arith, c.requires, line_count c.args.source.now c.in_ok-again.again.items c.in_ok-again.ensures)
 
 pub spots_of-requires-clause-few : goal.spots_of-requires-clause-few
 spots_of-requires-clause-few c =

@@ -1,6 +1,6 @@
 use Rattle.std.proofs.Common.{◌≡◌, ◌<◌, true, List, [], ap, ◌∙◌, refl, sym, subst, arith}
 use Rattle.std.specs.List.{list_all}
-use Rattle.kc_obj.specs.Object.{Object}
+use Rattle.kc_obj_module.specs.Object.{Object}
 use Rattle.kc_asm_piece.specs.Tape.{Tape, is_tape}
 use Rattle.kc_asm_module.specs.declared.puts.Put.{Put}
 use Rattle.kc_asm_module.specs.Order.{kept_of, number_of, pieces_of}

@@ -3,7 +3,7 @@ use Rattle.std.specs.Ordering.{is_lt}
 use Rattle.std.specs.Cmp.Lexicographic.{nat_list_cmp_total}
 use Rattle.std.proofs.lemmas.List.MinMax.{ranks_by}
 use Rattle.std.proofs.lemmas.Fn.{always_returns_same}
-use Rattle.kc_obj.specs.declared.parts.Given.{Given}
+use Rattle.kc_obj_module.specs.declared.parts.Given.{Given}
 use Rattle.kc_asm_module.specs.Publics.{is_before}
 use Rattle.kc_asm_module.proofs.publics.sort_by_name.Goals as goal
 

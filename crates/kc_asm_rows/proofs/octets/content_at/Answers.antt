@@ -1,6 +1,6 @@
 use Rattle.std.proofs.Common.{sym, ap, ◌∙◌, rules, of_calls}
 use Rattle.std.proofs.lemmas.Fn.{always_returns_same}
-use Rattle.kc_obj.specs.Contents.{is_over}
+use Rattle.kc_obj_module.specs.Contents.{is_over}
 use Rattle.kc_asm_rows.proofs.Sorted.{runs_partitioned, byte_there, byte_found, no_item, one_item}
 use Rattle.kc_asm_rows.proofs.octets.content_at.Goals as goal
 

@@ -1,15 +1,12 @@
 use Rattle.std.proofs.Common.{◌≡◌, ◌≤◌, ◌∙◌, length, refl, ap, subst, arith}
 use Rattle.std.specs.Prelude.{IfOk}
 use Rattle.kc_source.specs.Faults.{AreStatements}
-use Rattle.kc_source_laws.proofs.Counts.{line_count, stmt_count}
+use Rattle.kc_source_laws.proofs.Counts.{lines_numbered, stmt_count}
 use Rattle.kc_asm_outline.specs.Outline.{at_zero}
 use Rattle.kc_asm_symbols.specs.Located.{located_by}
 use Rattle.kc_asm_subject.specs.Values.{subject_at}
 use Rattle.kc_asm_subject.proofs.Whole.{of_values}
 use Rattle.kc_asm_subject.proofs.telling.subject.Goals as goal
-
-pub expand-requires : goal.expand-requires
-expand-requires c = omega (arith, c.requires, line_count c.args.source.now c.in-Ok.read.items c.in-Ok.ensures)
 
 pub valued-requires-clause-few : goal.valued-requires-clause-few
 valued-requires-clause-few c =
@@ -22,5 +19,5 @@ returns-in-Ok-statements c =
     let stmts = c.in-Ok-statements.stmts.items in
     let said : AreStatements stmts c.in-Ok-expand.text.items = rw c.deref.ensures.value at c.in-Ok-statements.ensures in
     let whole = of_values c.args.source.now c.args.line c.args.code c.in-Ok.read.items c.in-Ok-expand.text.items stmts (subject_at c.args.line c.args.code (located_by at_zero stmts))
-    c.in-Ok.ensures c.in-Ok-expand.ensures.lines said refl in
+    c.in-Ok.ensures (c.in-Ok-expand.ensures.lines (lines_numbered c.args.source.now c.in-Ok.read.items c.requires c.in-Ok.ensures)) said refl in
     subst (λ x. IfOk c.valued.result (λ o. o ≡ x)) (ap (λ ss. subject_at c.args.line c.args.code (located_by at_zero ss)) c.deref-in-Ok-statements.ensures.value ∙ whole) c.valued.ensures

@@ -16,4 +16,4 @@ returns-in-Err c =
 pub returns-in-Ok-listing_file : goal.returns-in-Ok-listing_file
 returns-in-Ok-listing_file c =
     let written = maybe_written c.in-Ok-listing_file.map in
-    ((Ok c.in-Ok.made, c.in-Ok.ensures.made, (written, c.in-Ok-listing_file.ensures, ap (λ b. done_writing (write c.args.assemble.now.out.now b ∷ written)) c.in-Ok-encode.ensures)), tt)
+    ((Ok c.in-Ok.made, c.in-Ok.ensures.made, (written, c.in-Ok-listing_file.ensures, ap (λ b. done_writing (write c.args.assemble.now.out.now b ∷ written)) c.in-Ok-encode.ensures.bytes)), tt)

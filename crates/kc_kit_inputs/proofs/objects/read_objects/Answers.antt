@@ -3,7 +3,7 @@ use Rattle.std.specs.Prelude.{◌^◌}
 use Rattle.std.specs.List.{All}
 use Rattle.std.proofs.lemmas.List.{length-append}
 use Rattle.std.proofs.lemmas.List.Elements.{All-append}
-use Rattle.kc_obj.specs.Spelling.{spelling}
+use Rattle.kc_obj_module.specs.Spelling.{spelling}
 use Rattle.kc_kit_files.specs.Reply.{Reply}
 use Rattle.kc_kit_files.proofs.ReadLemmas.{refused-widen}
 use Rattle.kc_kit_inputs.specs.Objects.{modules_of, object_of}

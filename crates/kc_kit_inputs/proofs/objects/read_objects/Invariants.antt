@@ -1,6 +1,6 @@
 use Rattle.std.proofs.Common.{◌≡◌, ◌<◌, ◌^◌, drop, length}
 use Rattle.std.specs.List.{All}
-use Rattle.kc_obj.specs.Spelling.{spelling}
+use Rattle.kc_obj_module.specs.Spelling.{spelling}
 use Rattle.kc_kit_inputs.specs.Objects.{modules_of, object_of}
 use Rattle.kc_kit_inputs.proofs.ObjectLemmas.{prepend}
 use Rattle.kc_kit_notes.proofs.Words.{names_in, texts_in}

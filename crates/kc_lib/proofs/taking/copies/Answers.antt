@@ -1,5 +1,5 @@
 use Rattle.std.proofs.Common.{◌≡◌, ◌+◌, ◌<◌, ◌∙◌, ◌++◌, ◌∷◌, [], true, false, sym, ap, arith, List, drop, length, append_assoc, append-nil}
-use Rattle.kc_obj.specs.Object.{Object}
+use Rattle.kc_obj_module.specs.Object.{Object}
 use Rattle.kc_lib.specs.Taking.{chosen_from}
 use Rattle.kc_lib.specs.Standings.{is_in}
 use Rattle.kc_lib.proofs.StandingLemmas.{chosen_here, chosen_not, chosen_end, stands_so}

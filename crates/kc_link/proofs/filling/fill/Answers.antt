@@ -1,6 +1,6 @@
 use Rattle.std.proofs.Common.{◌≡◌, ◌∙◌, sym, ap, arith}
 use Rattle.kc_link_fill.specs.BaseLists.{bases_in}
-use Rattle.kc_obj.specs.declared.parts.Content.{Content}
+use Rattle.kc_obj_module.specs.declared.parts.Content.{Content}
 use Rattle.std.specs.Prelude.{List}
 use Rattle.kc_link.specs.Writes.{written, runs_of}
 use Rattle.kc_link.proofs.WriteLemmas.{fill_step, fill_stand, fill_end, fill_short}

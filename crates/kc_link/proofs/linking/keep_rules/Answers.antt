@@ -3,8 +3,8 @@ use Rattle.std.specs.Prelude.{nat_lt}
 use Rattle.std.proofs.lemmas.Bool.Decides.{nat_tests}
 use Rattle.std.proofs.lemmas.List.{get_or_read}
 use Rattle.std.proofs.lemmas.Option.{slice_get_within, get_or_from_slice_get}
-use Rattle.kc_obj.specs.Object.{Object}
-use Rattle.kc_obj.specs.Rules.{is_module}
+use Rattle.kc_obj_module.specs.Object.{Object}
+use Rattle.kc_obj_module.specs.Rules.{is_module}
 use Rattle.kc_link.proofs.linking.keep_rules.Goals as goal
 
 one_more : (ms : List Object) (i : ℕ) → ((k : ℕ) (d : Object) → k < i → is_module (get_or ms k d) ≡ true) → ((d : Object) → is_module (get_or ms i d) ≡ true) → (k : ℕ) (d : Object) → k < i + 1 → is_module (get_or ms k d) ≡ true

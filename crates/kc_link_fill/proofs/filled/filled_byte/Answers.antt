@@ -1,6 +1,6 @@
 use Rattle.std.proofs.Common.{◌≡◌, ◌+◌, arith, refl}
 use Rattle.kc_link_fill.specs.BaseLists.{bases_in}
-use Rattle.kc_obj.specs.Fixups.{fixup_at}
+use Rattle.kc_obj_module.specs.Fixups.{fixup_at}
 use Rattle.kc_link_fill.specs.Filled.{first_of_fixup, second_at, filled_at}
 use Rattle.kc_link_fill.proofs.Modules.{kept}
 use Rattle.kc_link_fill.proofs.Room.{sum_fits}

@@ -1,7 +1,7 @@
 use Rattle.std.proofs.Common.{◌≡◌, ◌++◌, ◌<◌, false, get_or, ℕ, List, Bool, ap, ◌∙◌}
 use Rattle.kc_link_map.specs.Free.{modules_cover}
 use Rattle.kc_link_map.specs.Map.{kind_word, range_text}
-use Rattle.kc_obj.specs.declared.parts.SegKind.TheVariants.{Reg, Code, Ram}
+use Rattle.kc_obj_module.specs.declared.parts.SegKind.TheVariants.{Reg, Code, Ram}
 use Rattle.kc_link_map.proofs.Marking.{range_alike, registers_end, code_ends, data_ends, three_texts}
 use Rattle.kc_link_map.proofs.map.put_ranges.Goals as goal
 

@@ -1,6 +1,6 @@
 use Rattle.std.proofs.Common.{◌≡◌, ◌+◌, length, get_or, take, arith, ap, ◌∙◌}
 use Rattle.std.proofs.lemmas.List.{length-set, length-take-le, take_all}
-use Rattle.kc_obj.specs.declared.parts.SegKind.TheVariants.{Reg}
+use Rattle.kc_obj_module.specs.declared.parts.SegKind.TheVariants.{Reg}
 use Rattle.kc_link_place.specs.declared.pieces.Stand.{Stand}
 use Rattle.kc_link_place.specs.Gaps.{begins_at}
 use Rattle.kc_link_place.proofs.Covers.{begins_le, begins_more, marked, mark_fits}

@@ -1,6 +1,6 @@
 use Rattle.std.proofs.Common.{◌≡◌, ◌∙◌, ap, List, map}
 use Rattle.kc_link_place.specs.Placing.{base_lists, list_at, name_number}
-use Rattle.kc_obj.specs.declared.parts.Taken.{Taken}
+use Rattle.kc_obj_module.specs.declared.parts.Taken.{Taken}
 use Rattle.kc_link_place.proofs.places.bases_of.Goals as goal
 
 pub returns : goal.returns

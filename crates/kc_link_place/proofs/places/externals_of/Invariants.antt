@@ -1,5 +1,5 @@
 use Rattle.std.proofs.Common.{◌≡◌, ◌++◌, List, map, length}
-use Rattle.kc_obj.specs.Object.{Object}
+use Rattle.kc_obj_module.specs.Object.{Object}
 use Rattle.kc_link_place.specs.Names.{Knows}
 use Rattle.kc_link_place.specs.Placing.{name_number}
 use Rattle.kc_link_place.proofs.places.externals_of.Given as goal

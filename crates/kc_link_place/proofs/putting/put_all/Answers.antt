@@ -1,6 +1,6 @@
 use Rattle.std.proofs.Common.{◌≡◌, ◌∙◌, ap, ◌++◌, true, not, arith}
 use Rattle.std.specs.Result.{is_ok}
-use Rattle.kc_obj.specs.declared.parts.SegKind.TheVariants.{Reg}
+use Rattle.kc_obj_module.specs.declared.parts.SegKind.TheVariants.{Reg}
 use Rattle.kc_link_place.specs.declared.pieces.Piece.{Piece}
 use Rattle.kc_link_place.proofs.StepLemmas.{put_step, put_stop, put_end}
 use Rattle.kc_link_place.proofs.putting.put_all.Goals as goal

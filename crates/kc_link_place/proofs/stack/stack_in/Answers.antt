@@ -1,6 +1,6 @@
 use Rattle.std.proofs.Common.{sym, ◌∙◌, None}
-use Rattle.kc_obj.specs.declared.parts.SegKind.TheVariants.{Reg}
-use Rattle.kc_obj.specs.declared.parts.Segment.{Segment}
+use Rattle.kc_obj_module.specs.declared.parts.SegKind.TheVariants.{Reg}
+use Rattle.kc_obj_module.specs.declared.parts.Segment.{Segment}
 use Rattle.kc_link_place.proofs.StackLemmas.{first_is_stack, first_is_none}
 use Rattle.kc_link_place.proofs.stack.stack_in.Goals as goal
 

@@ -1,6 +1,6 @@
 use Rattle.std.proofs.Common.{◌≡◌, true, length}
 use Rattle.std.specs.List.{list_all}
-use Rattle.kc_obj.specs.Pieces.{is_placed, segments_in_order}
+use Rattle.kc_obj_module.specs.Pieces.{is_placed, segments_in_order}
 use Rattle.kc_link_place.specs.Placing.{stack_in}
 use Rattle.kc_link_place.proofs.stack.stack_in.Given as goal
 

@@ -1,6 +1,6 @@
 use Rattle.std.proofs.Common.{subst}
 use Rattle.std.specs.Prelude.{List, OnOk, Result, Ok, Err}
-use Rattle.kc_obj.specs.declared.parts.Given.{Given}
+use Rattle.kc_obj_module.specs.declared.parts.Given.{Given}
 use Rattle.kc_base.specs.declared.types.NoMemory.{NoMemory}
 use Rattle.kc_lib.proofs.GiverLemmas.{IsNoted, knows_more}
 use Rattle.kc_lib.proofs.givers.Givers.add.Goals as goal

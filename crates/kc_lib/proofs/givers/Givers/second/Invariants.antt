@@ -1,5 +1,5 @@
 use Rattle.std.proofs.Common.{◌≡◌, List, length}
-use Rattle.kc_obj.specs.Object.{Object}
+use Rattle.kc_obj_module.specs.Object.{Object}
 use Rattle.kc_lib.specs.Names.{second_of}
 use Rattle.kc_lib.specs.Givers.{Knows}
 use Rattle.kc_lib.proofs.givers.Givers.second.Given as goal

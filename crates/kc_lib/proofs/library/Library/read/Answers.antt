@@ -1,7 +1,7 @@
 use Rattle.std.proofs.Common.{◌≡◌, Ok, Err, List, ℕ, Result, sym, subst}
 use Rattle.std.specs.Result.{IsErrAnd}
 use Rattle.kc_base.proofs.ByteLemmas.{bytes_are}
-use Rattle.kc_obj.specs.Object.{Object}
+use Rattle.kc_obj_module.specs.Object.{Object}
 use Rattle.kc_lib.specs.declared.faults.LibFault.{LibFault}
 use Rattle.kc_lib.specs.Answers.{IsCause, TellsLibrary}
 use Rattle.kc_lib.specs.Format.{IsLibrary}

@@ -1,5 +1,5 @@
 use Rattle.std.proofs.Common.{List, subst, sym}
-use Rattle.kc_obj.specs.Object.{Object}
+use Rattle.kc_obj_module.specs.Object.{Object}
 use Rattle.kc_lib.specs.Names.{GivenOnce}
 use Rattle.kc_lib.proofs.ReadingLemmas.{once_of}
 use Rattle.kc_lib.proofs.library.Library.take.Goals as goal

@@ -1,5 +1,5 @@
 use Rattle.std.proofs.Common.{◌≡◌, List, length}
-use Rattle.kc_obj.specs.Object.{Object}
+use Rattle.kc_obj_module.specs.Object.{Object}
 use Rattle.kc_lib.specs.Givers.{Knows}
 use Rattle.kc_lib.specs.Standings.{called_by}
 use Rattle.kc_lib.proofs.taking.Homes.call_by.Given as goal

@@ -1,7 +1,7 @@
 use Rattle.std.proofs.Common.{◌≡◌, ◌<◌, ◌∙◌, sym, ap, subst, List, Some, length, set, refl, arith}
 use Rattle.std.specs.Prelude.{slice_get}
 use Rattle.std.proofs.lemmas.Option.{slice_get_read, slice_get_within}
-use Rattle.kc_obj.specs.declared.parts.Taken.{Taken}
+use Rattle.kc_obj_module.specs.declared.parts.Taken.{Taken}
 use Rattle.kc_lib.specs.declared.taking.Standing.{Standing}
 use Rattle.kc_lib.specs.declared.taking.Standing.TheVariants.{Called, Settled}
 use Rattle.kc_lib.specs.Standings.{called_all, IsUnderWay}

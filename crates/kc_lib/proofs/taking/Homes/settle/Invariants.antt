@@ -1,5 +1,5 @@
 use Rattle.std.proofs.Common.{List}
-use Rattle.kc_obj.specs.Object.{Object}
+use Rattle.kc_obj_module.specs.Object.{Object}
 use Rattle.kc_lib.specs.Names.{GivenOnce}
 use Rattle.kc_lib.specs.Givers.{Knows}
 use Rattle.kc_lib.specs.Standings.{IsUnderWay, work}

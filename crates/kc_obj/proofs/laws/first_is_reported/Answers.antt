@@ -1,0 +1,5 @@
+use Rattle.kc_obj.proofs.Telling.{first_reported}
+use Rattle.kc_obj.proofs.laws.first_is_reported.Goals as goal
+
+pub returns : goal.returns
+returns c = first_reported

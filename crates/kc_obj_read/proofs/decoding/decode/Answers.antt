@@ -1,6 +1,0 @@
-use Rattle.kc_base.proofs.ByteLemmas.{bytes_are}
-use Rattle.kc_obj_read.proofs.Telling.{tells}
-use Rattle.kc_obj_read.proofs.decoding.decode.Goals as goal
-
-pub returns-clause-spelling : goal.returns-clause-spelling
-returns-clause-spelling c = tells c.args.bytes.now c.read.result (bytes_are c.args.bytes.now c.type_inv.bytes) c.read.ensures
