@@ -21,6 +21,7 @@ use Rattle.kc_convert.specs.declared.sample.Sample.{Sample}
 use Rattle.kc_convert.specs.Reading as values
 use Rattle.kc_stim.specs.Reading.{nothing, with_item, first_fault, items_of}
 use Rattle.kc_obj_module.specs.Object.{Object}
+use Rattle.kc_obj_module.specs.Spelling as objects
 use Rattle.kc_obj_fields.specs.declared.faults.Fault.{Fault}
 use Rattle.kc_obj.specs.Reading.{answer_of}
 use Rattle.kc_link_place.specs.declared.ranges.Ranges.{Ranges}
@@ -28,17 +29,21 @@ use Rattle.kc_link_place.specs.declared.ranges.LinkFault.{LinkFault}
 use Rattle.kc_link_place.specs.Placing.{Places}
 use Rattle.kc_link.specs.Placed.{placed}
 use Rattle.kc_hex.specs.Records.{image_of}
+use Rattle.kc_hex.specs.Spelling.{spelling}
 use Rattle.kc_kit_files.specs.declared.status.Status.{Status}
 use Rattle.kc_kit_files.specs.declared.status.Status.TheVariants as status
-use Rattle.kc_kit_files.specs.Reply.{Reply, Write, says, tells, before, joined, Then}
-use Rattle.kc_kit_files.specs.Reads.{read_of, reads_of, long_reply, missing_reply, FailedRead}
+use Rattle.kc_kit_files.specs.Reply.{Reply, Write, write, says, tells, before, joined, Then}
+use Rattle.kc_kit_files.specs.Writes.{first_long, unless_long, writing_readable, AreReadable}
+use Rattle.kc_kit_files.specs.Reads.{file_limit, read_of, reads_of, long_reply, missing_reply, FailedRead}
 use Rattle.kc_kit_files.specs.Outside.{Kept, Shown, OthersStay, Wrote, WroteByPart, SinkFailed, WriteFailed, IsGiven, Replies}
+use Rattle.kc_kit_files.proofs.LongLemmas.{written-all}
 use Rattle.kc_kit_files.proofs.ReplyLemmas.{given-of}
 use Rattle.kc_debug_script.specs.LineMap as maps
 use Rattle.kc_debug_script.specs.Script as scripts
 use Rattle.kc_lib.specs.declared.faults.LibFault.{LibFault}
 use Rattle.kc_lib.specs.declared.faults.LibFault.TheVariants as faults
 use Rattle.kc_lib.specs.Reading.{read_answer}
+use Rattle.kc_lib.specs.Format.{library_bytes}
 use Rattle.kc_lib.specs.Names.{doubled}
 use Rattle.kc_kit_words.specs.declared.extent.Extent.{Extent}
 use Rattle.kc_kit_words.specs.declared.inputs.Role.{Role}
@@ -58,13 +63,13 @@ use Rattle.kc_kit_inputs.specs.Replies.{source_reply, line_reply, byte_reply}
 use Rattle.kc_kit_inputs.specs.Objects.{modules_of, by_object, object_of}
 use Rattle.kc_kit_inputs.specs.Scripts.{by_lines, script_of, lines_of}
 use Rattle.kc_asm.specs.Assembled.{IsFaultless}
-use Rattle.kc_kit_inputs.specs.Sources.{AreModules, TellsFault, TellsFirst, AreFaultless}
+use Rattle.kc_kit_inputs.specs.Sources.{AnyNote, AreModules, TellsFault, TellsFirst, AreFaultless}
 use Rattle.kc_stim.specs.Faults.{place_of}
 use Rattle.kc_kit_inputs.specs.Stimuli.{by_fault, drives_of}
 use Rattle.kc_kit_inputs.specs.Stimuli as stimulus
 use Rattle.kc_kit_answer.specs.Accepting.{Accepting, IsOneText, AreTwoTexts, told}
 use Rattle.kc_kit_answer.specs.Answer.{OneText, TwoTexts, Parted, CommandAnswer, MayAnswer, IsAccepted, StaysBut}
-use Rattle.kc_kit_answer.specs.Assemble.{AreListings, AssembleAnswer}
+use Rattle.kc_kit_answer.specs.Assemble.{AreListings, AssembleAnswer, IsAssemblable}
 use Rattle.kc_kit_running.specs.Scripted.{debugged_by}
 use Rattle.kc_kit_answer.specs.Debug.{debug_reply, DebugAnswer, IsDebuggable}
 use Rattle.kc_kit_answer.specs.Dump.{DumpAnswer, IsTraceText}
@@ -74,7 +79,8 @@ use Rattle.kc_kit_answer.specs.Generate.{made_names, made_texts, made_given}
 use Rattle.kc_kit_answer.specs.Hex.{HexTold, RunHexAnswer, ListingOf, ListAnswer}
 use Rattle.kc_kit_notes.specs.Rules.{link_line, member_words}
 use Rattle.kc_kit_notes.specs.RuleNotes.{link_note}
-use Rattle.kc_kit_answer.specs.Link.{IsMap, map_writes, LinksTo, Taking, Completed, LinkAnswer, IsLinkable}
+use Rattle.kc_kit_answer.specs.Link.{IsMap, map_writes, LinksTo, Taking, Completed, LinkAnswer, IsReadableMap, ArePlaceable, IsLinkable}
+use Rattle.kc_kit_answer.proofs.HexLengths.{hex-short}
 use Rattle.kc_kit_answer.specs.Pack.{packed, PackAnswer}
 use Rattle.kc_kit_answer.specs.Places.{by_places, places_of, Placing}
 use Rattle.kc_debug_script.specs.declared.line_map.MapEntry.{MapEntry}
@@ -241,17 +247,17 @@ sound-debug ns script lines driving image =
     (λ commands. sound-told ns (lines_of lines) _ (sound-source-lines ns lines)
     (λ entries. record { told = told-end (end_of (debugged_by entries commands driving image).machine); named = inl refl }))
 
-sound-fault : (ns : List (List ℕ)) (name text : List ℕ) (r : Reply) → TellsFault name text r → IsSound ns r
-sound-fault ns name text r h = sound-err ns (source_reply name text h.0 h.1 h.3.0) r refl refl (sym h.3.2)
+sound-fault : (ns : List (List ℕ)) (name text : List ℕ) (r : Reply) → TellsFault AnyNote name text r → IsSound ns r
+sound-fault ns name text r h = sound-err ns (source_reply name h.0 h.1 h.3.0) r refl refl (sym h.3.2)
 
-sound-first : (ns names texts : List (List ℕ)) (r : Reply) → TellsFirst names texts r → IsSound ns r
+sound-first : (ns names texts : List (List ℕ)) (r : Reply) → TellsFirst AnyNote names texts r → IsSound ns r
 sound-first ns [] texts r h = absurd h
 sound-first ns (n ∷ names) [] r h = absurd h
 sound-first ns (n ∷ names) (t ∷ texts) r (inl h) = sound-fault ns n t r h
 sound-first ns (n ∷ names) (t ∷ texts) r (inr h) = sound-first ns names texts r h.1
 
 sound-sources : (ns names : List (List ℕ)) (given : GivenFiles) (ranges : Ranges) (texts : List (List ℕ)) (tell : Driving → List ℕ → Reply) (r : Reply) →
-    ((driving : Driving) (image : List ℕ) → IsSound ns (tell driving image)) → SourcesTold names given ranges texts tell r → IsSound ns r
+    ((driving : Driving) (image : List ℕ) → IsSound ns (tell driving image)) → SourcesTold AnyNote names given ranges texts tell r → IsSound ns r
 sound-sources ns names given ranges texts tell r f (Ok ms, made, h) =
     then-all (IsSound ns) (places_of names ms ranges) (Driven given (LinkedTold texts) tell ms) r (sound-places ns names ms (placed ms ranges))
     (λ places e k. then-all (IsSound ns) (driving_of given) (λ d. LinkedTold texts (tell d) ms places) r (sound-driving ns given) (λ d g l. subst (IsSound ns) (sym l.told) (f d l.image)) k) h
@@ -261,7 +267,7 @@ sound-profile : (states : ℕ) (out : List ℕ) (entries : List MapEntry) (drivi
 sound-profile states out entries driving image = record { told = told-end (end_of (run_of states driving image).machine); named = inr refl }
 
 sound-lines : (ns names : List (List ℕ)) (given : GivenFiles) (ranges : Ranges) (texts : List (List ℕ)) (tell : List MapEntry → Driving → List ℕ → Reply) (r : Reply) →
-    ((entries : List MapEntry) (driving : Driving) (image : List ℕ) → IsSound ns (tell entries driving image)) → LinesTold names given ranges texts tell r → IsSound ns r
+    ((entries : List MapEntry) (driving : Driving) (image : List ℕ) → IsSound ns (tell entries driving image)) → LinesTold AnyNote names given ranges texts tell r → IsSound ns r
 sound-lines ns names given ranges texts tell r f (Ok ms, made, h) =
     then-all (IsSound ns) (places_of names ms ranges) (DrivenWithLines given (LinkedWithLines texts) tell ms) r (sound-places ns names ms (placed ms ranges))
     (λ places e k. then-all (IsSound ns) (driving_of given) (λ d. LinkedWithLines texts (λ entries. tell entries d) ms places) r (sound-driving ns given)
@@ -274,17 +280,27 @@ sound-hex-told ns name given text tell r f h =
     then-all (IsSound ns) (hex_of name text) (λ image. Then (driving_of given) (λ driving reply. reply ≡ tell driving image)) r (sound-hex ns name text (image_of text))
     (λ image e k. then-all (IsSound ns) (driving_of given) (λ driving reply. reply ≡ tell driving image) r (sound-driving ns given) (λ d g l. subst (IsSound ns) (sym l) (f d image)) k) h
 
--- the listing is written under the name that asks for it
 abbrev names_in : List Write → List (List ℕ)
 names_in writes = map (λ (w : Write). w.name) writes
+
+-- files that are written under these names, or none where one is too long
+sound-writing : (ns : List (List ℕ)) (readable others : List Write) → names_in (readable ++ others) ≡ ns → IsSound ns (writing_readable readable others)
+sound-writing ns readable others e = by (first_long readable)
+  where
+    by : (long : Option (List ℕ)) → IsSound ns (unless_long long (readable ++ others))
+    by None = record { told = refl; named = inr e }
+    by (Some name) = record { told = refl; named = inl refl }
+
+-- the listing is written under the name that asks for it
 
 listing-names : (list : Option (List ℕ)) (text : List ℕ) (m : Object) (writes : List Write) → AreListings list text m writes → names_in writes ≡ option_to_list list
 listing-names None text m writes h = ap names_in h
 listing-names (Some name) text m writes h = ap names_in h.2
 
-sound-object-of : (name out : List ℕ) (list : Option (List ℕ)) (text : List ℕ) (r : Reply) → AssembleAnswer name out list text r → IsSound (out ∷ option_to_list list) r
+sound-object-of : (name out : List ℕ) (list : Option (List ℕ)) (text : List ℕ) (r : Reply) → AssembleAnswer AnyNote name out list text r → IsSound (out ∷ option_to_list list) r
 sound-object-of name out list text r (Ok m, made, h) =
-    subst (IsSound (out ∷ option_to_list list)) (sym h.2) (record { told = refl; named = inr (ap (λ ns. out ∷ ns) (listing-names list text m h.0 h.1)) })
+    subst (IsSound (out ∷ option_to_list list)) (sym h.2)
+    (sound-writing (out ∷ option_to_list list) (write out (objects.spelling m) ∷ []) h.0 (ap (λ ns. out ∷ ns) (listing-names list text m h.0 h.1)))
 sound-object-of name out list text r (Err e, told, h) = subst (IsSound (out ∷ option_to_list list)) (sym h) (sound-fault (out ∷ option_to_list list) name text e told)
 
 sound-one : (ns : List (List ℕ)) (may : List ℕ → Reply → Type 0) (texts : List (List ℕ)) (r : Reply) → ((t : List ℕ) → may t r → IsSound ns r) → OneText may texts r → IsSound ns r
@@ -299,7 +315,11 @@ sound-two ns may (t ∷ []) r f h = absurd h
 sound-two ns may (t ∷ u ∷ v ∷ texts) r f h = absurd h
 
 sound-links : (out : List ℕ) (beside : Beside) (ranges : Ranges) (ms : List Object) (places : Places) (r : Reply) → LinksTo out beside ranges ms places r → IsSound (out ∷ names_beside beside) r
-sound-links out beside ranges ms places r h = subst (IsSound (out ∷ names_beside beside)) (sym h.done) (record { told = refl; named = inr (ap (λ l. out ∷ l) (map-append (λ (w : Write). w.name) h.more (map_writes beside.map ms ranges places) ∙ (ap (λ l. l ++ map (λ (w : Write). w.name) (map_writes beside.map ms ranges places)) (by beside.lines h.is_map) ∙ ap (λ l. option_to_list beside.lines ++ l) (named beside.map)))) })
+sound-links out beside ranges ms places r h =
+    subst (IsSound (out ∷ names_beside beside)) (sym h.done)
+    (sound-writing (out ∷ names_beside beside) (write out (spelling h.image) ∷ h.more) (map_writes beside.map ms ranges places)
+    (ap (λ l. out ∷ l) (map-append (λ (w : Write). w.name) h.more (map_writes beside.map ms ranges places)
+    ∙ (ap (λ l. l ++ names_in (map_writes beside.map ms ranges places)) (by beside.lines h.is_map) ∙ ap (λ l. option_to_list beside.lines ++ l) (named beside.map)))))
   where
     by : (lines : Option (List ℕ)) → IsMap lines ms places h.more → map (λ (w : Write). w.name) h.more ≡ option_to_list lines
     by None k = ap (map (λ (w : Write). w.name)) k
@@ -329,7 +349,7 @@ sound-link names library out beside ranges texts r h =
     (λ files all l. then-all (IsSound ns) (places_of files all ranges) (LinksTo out beside ranges all) r (sound-places ns files all (placed all ranges)) (λ places f m. sound-links out beside ranges all places r m) l) k) h
 
 sound-packed : (names : List (List ℕ)) (out : List ℕ) (ms : List Object) (double : Option (List ℕ)) → IsSound (out ∷ []) (packed names out ms double)
-sound-packed names out ms None = record { told = refl; named = inr refl }
+sound-packed names out ms None = sound-writing (out ∷ []) (write out (library_bytes ms) ∷ []) [] refl
 sound-packed names out ms (Some name) = record { told = refl; named = inl refl }
 
 sound-pack : (names : List (List ℕ)) (out : List ℕ) (texts : List (List ℕ)) (r : Reply) → PackAnswer names out texts r → IsSound (out ∷ []) r
@@ -345,19 +365,19 @@ sound-explained : (ns : List (List ℕ)) (code : List ℕ) (row : Option Said) �
 sound-explained ns code (Some row) = sound-says ns status.Done _ refl
 sound-explained ns code None = record { told = refl; named = inl refl }
 
-pub sound-command : (c : Command) (contents : List (Option (List ℕ))) (r : Reply) → CommandAnswer (Some c) contents r → IsSound (names_written (Some c)) r
+pub sound-command : (c : Command) (contents : List (Option (List ℕ))) (r : Reply) → CommandAnswer AnyNote (Some c) contents r → IsSound (names_written (Some c)) r
 sound-command Helps contents r h = subst (IsSound []) (sym h) (sound-says [] status.Done _ refl)
 sound-command (HelpsOn verb) contents r h = subst (IsSound []) (sym h) (sound-says [] status.Done _ refl)
 sound-command TellsVersion contents r h = subst (IsSound []) (sym h) (sound-says [] status.Done _ refl)
 sound-command (Runs files inputs extent placing) contents r h =
     let names = files ++ names_of inputs in
-    then-all (IsSound []) (reads_of names contents) (Parted (length files) (RunAnswer files inputs extent placing)) r (sound-reads [] names contents)
+    then-all (IsSound []) (reads_of names contents) (Parted (length files) (RunAnswer AnyNote files inputs extent placing)) r (sound-reads [] names contents)
     (λ texts e k. sound-sources [] files (given_for inputs (drop (length files) texts)) placing (take (length files) texts) (board_reply extent) r
     (λ driving image. sound-run [] extent driving image) k) h
 sound-command (Profiles files inputs states placing out) contents r h =
     let ns = out ∷ [] in
     let names = files ++ names_of inputs in
-    then-all (IsSound ns) (reads_of names contents) (Parted (length files) (ProfileAnswer files inputs states placing out)) r (sound-reads ns names contents)
+    then-all (IsSound ns) (reads_of names contents) (Parted (length files) (ProfileAnswer AnyNote files inputs states placing out)) r (sound-reads ns names contents)
     (λ texts e k. sound-lines ns files (given_for inputs (drop (length files) texts)) placing (take (length files) texts) (profile_reply states out) r (sound-profile states out) k) h
 sound-command (ProfilesHex file inputs states out) contents r h =
     let ns = out ∷ [] in
@@ -367,8 +387,8 @@ sound-command (ProfilesHex file inputs states out) contents r h =
     (λ t l. sound-hex-told ns file (given_for inputs (drop 1 texts)) t (profile_reply states out []) r (sound-profile states out []) l) k) h
 sound-command (Assembles file out list) contents r h =
     let ns = out ∷ option_to_list list in
-    then-all (IsSound ns) (reads_of (file ∷ []) contents) (OneText (AssembleAnswer file out list)) r (sound-reads ns (file ∷ []) contents)
-    (λ texts e k. sound-one ns (AssembleAnswer file out list) texts r (λ t l. sound-object-of file out list t r l) k) h
+    then-all (IsSound ns) (reads_of (file ∷ []) contents) (OneText (AssembleAnswer AnyNote file out list)) r (sound-reads ns (file ∷ []) contents)
+    (λ texts e k. sound-one ns (AssembleAnswer AnyNote file out list) texts r (λ t l. sound-object-of file out list t r l) k) h
 sound-command (Packs files out) contents r h =
     then-all (IsSound (out ∷ [])) (reads_of files contents) (PackAnswer files out) r (sound-reads (out ∷ []) files contents) (λ texts e k. sound-pack files out texts r k) h
 sound-command (Links files inputs out beside placing) contents r h =
@@ -407,12 +427,12 @@ failed-says (n ∷ names) (c ∷ contents) rose r (inr h) = failed-says names co
 -- ---- what may be answered to a command
 
 -- it is no usage, or there is no command
-pub may-usage : (c : Option Command) (told : Option Holding) (rose : Type 0) (r : Reply) → MayAnswer c told rose r → r.status ≡ status.Usage → c ≡ None
+pub may-usage : (c : Option Command) (told : Option Holding) (rose : Type 0) (r : Reply) → MayAnswer AnyNote c told rose r → r.status ≡ status.Usage → c ≡ None
 may-usage None told rose r h e = refl
 may-usage (Some c) told rose r (contents, holds, inl h) e = absurd (let s = (sound-command c contents r h).told in let f : is_told status.Usage ≡ true = subst (λ k. is_told k ≡ true) e s in let g : false ≡ true = f in cc)
 may-usage (Some c) told rose r (contents, holds, inr h) e = absurd (let s = (failed-says (names_read (Some c)) contents rose r h).1 in let g : status.Usage ≡ status.ReadFault = sym e ∙ s in cc)
 
-pub may-read : (c : Option Command) (told : Option Holding) (rose : Type 0) (r : Reply) → MayAnswer c told rose r → r.status ≡ status.ReadFault → rose
+pub may-read : (c : Option Command) (told : Option Holding) (rose : Type 0) (r : Reply) → MayAnswer AnyNote c told rose r → r.status ≡ status.ReadFault → rose
 may-read None told rose r (contents, holds, inl h) e = absurd (let g : status.Usage ≡ status.ReadFault = sym (ap (λ (k : Reply). k.status) h) ∙ e in cc)
 may-read None told rose r (contents, holds, inr h) e = (failed-says [] contents rose r h).0
 may-read (Some c) told rose r (contents, holds, inl h) e = absurd (let s = (sound-command c contents r h).told in let f : is_told status.ReadFault ≡ true = subst (λ k. is_told k ≡ true) e s in let g : false ≡ true = f in cc)
@@ -421,7 +441,7 @@ may-read (Some c) told rose r (contents, holds, inr h) e = (failed-says (names_r
 abbrev pub AreNamed : List (List ℕ) → Reply → Type 0
 AreNamed names r = (r.writes ≡ []) ⊎ (map (λ (w : Write). w.name) r.writes ≡ names)
 
-pub may-named : (c : Option Command) (told : Option Holding) (rose : Type 0) (r : Reply) → MayAnswer c told rose r → AreNamed (names_written c) r
+pub may-named : (c : Option Command) (told : Option Holding) (rose : Type 0) (r : Reply) → MayAnswer AnyNote c told rose r → AreNamed (names_written c) r
 may-named None told rose r (contents, holds, inl h) = inl (ap (λ (k : Reply). k.writes) h)
 may-named None told rose r (contents, holds, inr h) = inl (failed-says [] contents rose r h).2
 may-named (Some c) told rose r (contents, holds, inl h) = (sound-command c contents r h).named
@@ -570,6 +590,10 @@ accepted-then : {A : Type 0} (accepts : A → Type 0) (may : A → Reply → Typ
 accepted-then accepts may (Ok a) r f ok h = f a ok h
 accepted-then accepts may (Err e) r f ok h = absurd ok
 
+-- files that are written, none of them too long
+done-writing : (readable others : List Write) (r : Reply) → AreReadable readable → r ≡ writing_readable readable others → IsDone r.status
+done-writing readable others r h e = inl (ap (λ (k : Reply). k.status) (e ∙ written-all readable others h))
+
 -- a reply that is said, where its status is this
 done-told : (r told : Reply) → r ≡ told → IsDone told.status → IsDone r.status
 done-told r told e h = subst (λ (k : Reply). IsDone k.status) (sym e) h
@@ -581,17 +605,17 @@ done-run extent driving image = by extent.lives
     by None = done-end (end_of (run_of extent.states driving image).machine)
     by (Some most) = done-end (last_end (board_lives most extent.states driving image))
 
-no-fault : (name text : List ℕ) (r : Reply) → IsFaultless text → TellsFault name text r → ⊥
+no-fault : (name text : List ℕ) (r : Reply) → IsFaultless text → TellsFault AnyNote name text r → ⊥
 no-fault name text r none h = none h.0 h.1 h.2
 
-none-first : (names texts : List (List ℕ)) (r : Reply) → AreFaultless texts → TellsFirst names texts r → ⊥
+none-first : (names texts : List (List ℕ)) (r : Reply) → AreFaultless texts → TellsFirst AnyNote names texts r → ⊥
 none-first [] texts r none h = h
 none-first (n ∷ names) [] r none h = h
 none-first (n ∷ names) (t ∷ texts) r none (inl h) = no-fault n t r none.0 h
 none-first (n ∷ names) (t ∷ texts) r none (inr h) = none-first names texts r none.1 h.1
 
 done-sources : (names : List (List ℕ)) (given : GivenFiles) (ranges : Ranges) (texts : List (List ℕ)) (tell : Driving → List ℕ → Reply) (r : Reply) → ((driving : Driving) (image : List ℕ) → IsDone (tell driving image).status) →
-    AreFaultless texts → ((ms : List Object) → AreModules texts ms → IsOk (places_of names ms ranges)) → IsOk (driving_of given) → SourcesTold names given ranges texts tell r → IsDone r.status
+    AreFaultless texts → ((ms : List Object) → AreModules texts ms → IsOk (places_of names ms ranges)) → IsOk (driving_of given) → SourcesTold AnyNote names given ranges texts tell r → IsDone r.status
 done-sources names given ranges texts tell r f a b c (Ok ms, made, h) =
     done-then (places_of names ms ranges) (Driven given (LinkedTold texts) tell ms) r
     (λ places k. done-then (driving_of given) (λ d. LinkedTold texts (tell d) ms places) r (λ d l. done-told r (tell d l.image) l.told (f d l.image)) c k) (b ms made) h
@@ -601,18 +625,18 @@ done-profile : (states : ℕ) (out : List ℕ) (entries : List MapEntry) (drivin
 done-profile states out entries driving image = done-end (end_of (run_of states driving image).machine)
 
 done-lines : (names : List (List ℕ)) (given : GivenFiles) (ranges : Ranges) (texts : List (List ℕ)) (tell : List MapEntry → Driving → List ℕ → Reply) (r : Reply) → ((entries : List MapEntry) (driving : Driving) (image : List ℕ) → IsDone (tell entries driving image).status) →
-    AreFaultless texts → ((ms : List Object) → AreModules texts ms → IsOk (places_of names ms ranges)) → IsOk (driving_of given) → LinesTold names given ranges texts tell r → IsDone r.status
+    AreFaultless texts → ((ms : List Object) → AreModules texts ms → IsOk (places_of names ms ranges)) → IsOk (driving_of given) → LinesTold AnyNote names given ranges texts tell r → IsDone r.status
 done-lines names given ranges texts tell r f a b c (Ok ms, made, h) =
     done-then (places_of names ms ranges) (DrivenWithLines given (LinkedWithLines texts) tell ms) r
     (λ places k. done-then (driving_of given) (λ d. LinkedWithLines texts (λ entries. tell entries d) ms places) r
     (λ d l. done-told r (tell (map map_entry l.entries) d l.image) l.told (f (map map_entry l.entries) d l.image)) c k) (b ms made) h
 done-lines names given ranges texts tell r f a b c (Err e, told, h) = absurd (none-first names texts e a told)
 
-done-object : (name out : List ℕ) (list : Option (List ℕ)) (text : List ℕ) (r : Reply) → IsFaultless text → AssembleAnswer name out list text r → IsDone r.status
-done-object name out list text r none (Ok m, made, h) = inl (ap (λ (k : Reply). k.status) h.2)
-done-object name out list text r none (Err e, told, h) = absurd (no-fault name text e none told)
+done-object : (name out : List ℕ) (list : Option (List ℕ)) (text : List ℕ) (r : Reply) → IsAssemblable text → AssembleAnswer AnyNote name out list text r → IsDone r.status
+done-object name out list text r is (Ok m, made, h) = done-writing (write out (objects.spelling m) ∷ []) h.0 r (is.readable m made, tt) h.2
+done-object name out list text r is (Err e, told, h) = absurd (no-fault name text e is.sound told)
 
-done-objects : (name out : List ℕ) (list : Option (List ℕ)) (texts : List (List ℕ)) (r : Reply) → IsOneText IsFaultless texts → OneText (AssembleAnswer name out list) texts r → IsDone r.status
+done-objects : (name out : List ℕ) (list : Option (List ℕ)) (texts : List (List ℕ)) (r : Reply) → IsOneText IsAssemblable texts → OneText (AssembleAnswer AnyNote name out list) texts r → IsDone r.status
 done-objects name out list (t ∷ []) r a h = done-object name out list t r a h
 done-objects name out list [] r a h = absurd h
 done-objects name out list (t ∷ u ∷ texts) r a h = absurd h
@@ -648,25 +672,33 @@ done-debug file script inputs text commands texts r a h =
     (λ d m. done-told r (debug_reply (script, commands) lines d image) m
     (done-step (script_of script commands) _ a.script_read (λ cs. done-step (lines_of lines) _ a.lines (λ entries. done-end (end_of (debugged_by entries cs d image).machine))))) a.driving k) a.image h
 
-done-placed : (files : List (List ℕ)) (out : List ℕ) (beside : Beside) (ranges : Ranges) (ms : List Object) (r : Reply) → IsOk (places_of files ms ranges) → Placing files ranges (LinksTo out beside ranges) ms r → IsDone r.status
-done-placed files out beside ranges ms r a h = done-then (places_of files ms ranges) (LinksTo out beside ranges ms) r (λ places k. inl (ap (λ (e : Reply). e.status) k.done)) a h
+-- the hex file and the line map
+readable-files : (out : List ℕ) (lines : Option (List ℕ)) (ms : List Object) (places : Places) (image : List ℕ) (more : List Write) → IsReadableMap lines ms places → IsMap lines ms places more →
+    AreReadable (write out (spelling image) ∷ more)
+readable-files out None ms places image more a h = (hex-short image, subst AreReadable (sym h) tt)
+readable-files out (Some name) ms places image more a h = (hex-short image, subst AreReadable (sym h.2) (a h.0 h.1, tt))
+
+done-placed : (files : List (List ℕ)) (out : List ℕ) (beside : Beside) (ranges : Ranges) (ms : List Object) (r : Reply) → ArePlaceable files beside.lines ranges ms → Placing files ranges (LinksTo out beside ranges) ms r → IsDone r.status
+done-placed files out beside ranges ms r a h =
+    accepted-then (IsReadableMap beside.lines ms) (LinksTo out beside ranges ms) (places_of files ms ranges) r
+    (λ places b k. done-writing (write out (spelling k.image) ∷ k.more) (map_writes beside.map ms ranges places) r (readable-files out beside.lines ms places k.image k.more b k.is_map) k.done) a h
 
 done-taking : (names : List (List ℕ)) (library out : List ℕ) (beside : Beside) (ranges : Ranges) (ms members : List Object) (r : Reply) →
-    ((taken : List Object) → AreTaken ms members taken → (length ms + length taken ≤ 64) × IsOk (places_of (names ++ member_words library taken) (ms ++ taken) ranges)) →
+    ((taken : List Object) → AreTaken ms members taken → (length ms + length taken ≤ 64) × ArePlaceable (names ++ member_words library taken) beside.lines ranges (ms ++ taken)) →
     Taking names library (λ files. Placing files ranges (LinksTo out beside ranges)) ms members r → IsDone r.status
 done-taking names library out beside ranges ms members r a (Ok taken, is, h) = done-placed (names ++ member_words library taken) out beside ranges (ms ++ taken) r (a taken is.0).1 h
 done-taking names library out beside ranges ms members r a (Err e, is, h) = absurd (omega (arith, (a is.0 is.1).0, is.2))
 
 done-completed : (names : List (List ℕ)) (library : Option (List ℕ × List ℕ)) (out : List ℕ) (beside : Beside) (ranges : Ranges) (ms : List Object) (r : Reply) →
-    IsLinkable names library ranges ms → Completed names library (λ files. Placing files ranges (LinksTo out beside ranges)) ms r → IsDone r.status
+    IsLinkable names library beside.lines ranges ms → Completed names library (λ files. Placing files ranges (LinksTo out beside ranges)) ms r → IsDone r.status
 done-completed names None out beside ranges ms r a h = done-placed names out beside ranges ms r a h
 done-completed names (Some library) out beside ranges ms r a h =
     accepted-then _ (Taking names library.0 (λ files. Placing files ranges (LinksTo out beside ranges)) ms) (library_of library.0 library.1) r
     (λ members b k. done-taking names library.0 out beside ranges ms members r b k) a h
 
-done-packed : (names : List (List ℕ)) (out : List ℕ) (ms : List Object) (double : Option (List ℕ)) → double ≡ None → IsDone (packed names out ms double).status
-done-packed names out ms None e = inl refl
-done-packed names out ms (Some name) e = absurd (cc)
+done-packed : (names : List (List ℕ)) (out : List ℕ) (ms : List Object) (double : Option (List ℕ)) → double ≡ None → length (library_bytes ms) ≤ file_limit → IsDone (packed names out ms double).status
+done-packed names out ms None e short = done-writing (write out (library_bytes ms) ∷ []) [] (packed names out ms None) (short, tt) refl
+done-packed names out ms (Some name) e short = absurd (cc)
 
 done-dump : (name out : List ℕ) (clock : ℕ) (texts : List (List ℕ)) (r : Reply) → IsOneText IsTraceText texts → OneText (DumpAnswer name out clock) texts r → IsDone r.status
 done-dump name out clock (t ∷ []) r a (Ok items, read, h) = inl (ap (λ (k : Reply). k.status) h)
@@ -678,17 +710,17 @@ done-explained : (code : List ℕ) (row : Option Said) → IsAnswer all_codes co
 done-explained code (Some row) is a = inl refl
 done-explained code None is a = absurd (let e : false ≡ true = sym is ∙ a in cc)
 
-pub done-command : (c : Option Command) (contents : List (Option (List ℕ))) (r : Reply) → IsAccepted c contents → CommandAnswer c contents r → IsDone r.status
+pub done-command : (c : Option Command) (contents : List (Option (List ℕ))) (r : Reply) → IsAccepted c contents → CommandAnswer AnyNote c contents r → IsDone r.status
 done-command None contents r a h = absurd a
 done-command (Some Helps) contents r a h = inl (ap (λ (k : Reply). k.status) h)
 done-command (Some (HelpsOn verb)) contents r a h = inl (ap (λ (k : Reply). k.status) h)
 done-command (Some TellsVersion) contents r a h = inl (ap (λ (k : Reply). k.status) h)
 done-command (Some (Runs files inputs extent placing)) contents r a h =
-    accepted-then _ (Parted (length files) (RunAnswer files inputs extent placing)) (reads_of (files ++ names_of inputs) contents) r
+    accepted-then _ (Parted (length files) (RunAnswer AnyNote files inputs extent placing)) (reads_of (files ++ names_of inputs) contents) r
     (λ texts b k. done-sources files (given_for inputs (drop (length files) texts)) placing (take (length files) texts) (board_reply extent) r
     (λ driving image. done-run extent driving image) b.0 b.1 b.2 k) a h
 done-command (Some (Profiles files inputs states placing out)) contents r a h =
-    accepted-then _ (Parted (length files) (ProfileAnswer files inputs states placing out)) (reads_of (files ++ names_of inputs) contents) r
+    accepted-then _ (Parted (length files) (ProfileAnswer AnyNote files inputs states placing out)) (reads_of (files ++ names_of inputs) contents) r
     (λ texts b k. done-lines files (given_for inputs (drop (length files) texts)) placing (take (length files) texts) (profile_reply states out) r (done-profile states out) b.0 b.1 b.2 k) a h
 done-command (Some (ProfilesHex file inputs states out)) contents r a h =
     accepted-then _ (Parted 1 (λ texts more. OneText (λ text. ProfileHexAnswer file inputs states out text more) texts)) (reads_of (file ∷ names_of inputs) contents) r
@@ -696,10 +728,10 @@ done-command (Some (ProfilesHex file inputs states out)) contents r a h =
     (λ image l. done-then (driving_of (given_for inputs (drop 1 texts))) (λ driving reply. reply ≡ profile_reply states out [] driving image) r
     (λ d m. done-told r (profile_reply states out [] d image) m (done-profile states out [] d image)) b.1 l) b.0 k) a h
 done-command (Some (Assembles file out list)) contents r a h =
-    accepted-then _ (OneText (AssembleAnswer file out list)) (reads_of (file ∷ []) contents) r (λ texts b k. done-objects file out list texts r b k) a h
+    accepted-then _ (OneText (AssembleAnswer AnyNote file out list)) (reads_of (file ∷ []) contents) r (λ texts b k. done-objects file out list texts r b k) a h
 done-command (Some (Packs files out)) contents r a h =
     accepted-then _ (PackAnswer files out) (reads_of files contents) r
-    (λ texts b k. accepted-then _ (λ ms reply. reply ≡ packed files out ms (doubled ms)) (modules_of object_of files texts) r (λ ms c l. done-told r (packed files out ms (doubled ms)) l (done-packed files out ms (doubled ms) c)) b k) a h
+    (λ texts b k. accepted-then _ (λ ms reply. reply ≡ packed files out ms (doubled ms)) (modules_of object_of files texts) r (λ ms c l. done-told r (packed files out ms (doubled ms)) l (done-packed files out ms (doubled ms) c.0 c.1)) b k) a h
 done-command (Some (Links files inputs out beside placing)) contents r a h =
     accepted-then _ (Parted (length files) (LinkAnswer files inputs out beside placing)) (reads_of (files ++ names_of inputs) contents) r
     (λ texts b k. accepted-then _ (Completed files (input_for role.Library inputs (drop (length files) texts)) (λ names. Placing names placing (LinksTo out beside placing))) (modules_of object_of files (take (length files) texts)) r
@@ -724,7 +756,7 @@ done-command (Some (Explains code)) contents r a h = done-told r (explained code
 
 -- a reply without a fault outside is done, or for want of memory
 pub done-of : (c : Option Command) (told : Option Holding) (rose : Type 0) (old : Kept) (before : Shown) (given : Status) (new : Kept) (now : Shown) →
-    Replies (MayAnswer c told rose) old before given new now →
+    Replies (MayAnswer AnyNote c told rose) old before given new now →
     Told told (λ held. IsAccepted c (map held (names_read c)) → ¬ rose → ¬ Rose before.faults now.faults → ¬ Rose old.faults new.faults → (given ≡ status.Done) ⊎ ((given ≡ status.Undefined) ⊎ (given ≡ status.NoMemory)))
 done-of c None rose old before given new now h = tt
 done-of c (Some held) rose old before given new now h = λ accepted read sink write. by given refl accepted read sink write
@@ -733,22 +765,22 @@ done-of c (Some held) rose old before given new now h = λ accepted read sink wr
     placed-so s (inl e) f = inl (f ∙ e)
     placed-so s (inr e) f = inr (inl (f ∙ e))
 
-    answer : (r : Reply) → given ≡ r.status → IsAccepted c (map held (names_read c)) → ¬ rose → MayAnswer c (Some held) rose r → (given ≡ status.Done) ⊎ ((given ≡ status.Undefined) ⊎ (given ≡ status.NoMemory))
+    answer : (r : Reply) → given ≡ r.status → IsAccepted c (map held (names_read c)) → ¬ rose → MayAnswer AnyNote c (Some held) rose r → (given ≡ status.Done) ⊎ ((given ≡ status.Undefined) ⊎ (given ≡ status.NoMemory))
     answer r e accepted read (contents, holds, inl k) = placed-so r.status (done-command c contents r (subst (IsAccepted c) (sym holds) accepted) k) e
     answer r e accepted read (contents, holds, inr k) = absurd (read (failed-says (names_read c) contents rose r k).0)
 
-    faults : SinkFailed (MayAnswer c (Some held) rose) old before new now ⊎ WriteFailed (MayAnswer c (Some held) rose) old before new now → ¬ Rose before.faults now.faults → ¬ Rose old.faults new.faults → ⊥
+    faults : SinkFailed (MayAnswer AnyNote c (Some held) rose) old before new now ⊎ WriteFailed (MayAnswer AnyNote c (Some held) rose) old before new now → ¬ Rose before.faults now.faults → ¬ Rose old.faults new.faults → ⊥
     faults (inl k) sink write = sink k.cause
     faults (inr k) sink write = write k.cause
 
     whole : (s : Status) → given ≡ s → s ≢ status.WriteFault → s ≢ status.NoMemory → IsAccepted c (map held (names_read c)) → ¬ rose → (given ≡ status.Done) ⊎ ((given ≡ status.Undefined) ⊎ (given ≡ status.NoMemory))
     whole s e f g accepted read =
-        let k = status-of (MayAnswer c (Some held) rose) old before s new now f g (subst (λ t. Replies (MayAnswer c (Some held) rose) old before t new now) e h) in
+        let k = status-of (MayAnswer AnyNote c (Some held) rose) old before s new now f g (subst (λ t. Replies (MayAnswer AnyNote c (Some held) rose) old before t new now) e h) in
         answer k.0 (e ∙ k.2) accepted read k.1
 
     by : (s : Status) → given ≡ s → IsAccepted c (map held (names_read c)) → ¬ rose → ¬ Rose before.faults now.faults → ¬ Rose old.faults new.faults → (given ≡ status.Done) ⊎ ((given ≡ status.Undefined) ⊎ (given ≡ status.NoMemory))
     by status.NoMemory e a read sink write = inr (inr e)
-    by status.WriteFault e a read sink write = absurd (faults (subst (λ t. Replies (MayAnswer c (Some held) rose) old before t new now) e h) sink write)
+    by status.WriteFault e a read sink write = absurd (faults (subst (λ t. Replies (MayAnswer AnyNote c (Some held) rose) old before t new now) e h) sink write)
     by status.Done e a read sink write = inl e
     by status.Undefined e a read sink write = inr (inl e)
     by status.Usage e a read sink write = whole status.Usage e (λ k. cc) (λ k. cc) a read

@@ -1,2 +1,3 @@
 mod AnswerLemmas
 pub mod Ending
+mod NoteLemmas

@@ -9,6 +9,8 @@ ghost use Rattle.kc_kit_files.specs.Ended.{Ends, Noted};
 ghost use Rattle.kc_kit_files.specs.Notes.{output_note};
 ghost use Rattle.kc_kit_files.specs.Outside.{Prints, Replied, kept, shown_by};
 ghost use Rattle.kc_kit_files.specs.Reply.{says};
+ghost use Rattle.kc_kit_inputs.specs.FaultNotes.{IsFaultNote};
+ghost use Rattle.kc_kit_inputs.specs.Sources.{AnyNote};
 ghost use Rattle.kc_kit_words.specs.Usage.{usage_note};
 ghost use Rattle.kc_kit_words.specs.Words.{command_of};
 ghost use Rattle.kc_kit_words.specs.Asked.{asked, IsWithin};
@@ -39,13 +41,14 @@ pub fn kit<F: Files, S: Sink, N: Sink>(
 ) -> Status
     requires { out.old.failed ≡ false }
 
-    // The status, what is printed and what the files hold afterwards are the answer, over what the files held.
-    ensures answer { Replied F.held F.write_faults S.written S.faults (MayAnswerBy F.held F.read_faults (command_of (map string_bytes words.now)) files.old files.new)
+    // The status, what is printed and what the files hold afterwards are the answer, over what the files held, whatever is said of a
+    // fault of a source.
+    ensures answer { Replied F.held F.write_faults S.written S.faults (MayAnswerBy AnyNote F.held F.read_faults (command_of (map string_bytes words.now)) files.old files.new)
         files.old out.old.sink result files.new out.new.sink }
 
-    // What is said in words is the note of the same answer, or what could not be written, or that memory is wanted, or what is
+    // What is said in words is the note of the same answer, with that of a fault of a source, or what could not be written, or that memory is wanted, or what is
     // wrong in words that are no command.
-    ensures notes { Noted (usage_note (map string_bytes words.now)) (MayAnswerBy F.held F.read_faults (command_of (map string_bytes words.now)) files.old files.new)
+    ensures notes { Noted (usage_note (map string_bytes words.now)) (MayAnswerBy IsFaultNote F.held F.read_faults (command_of (map string_bytes words.now)) files.old files.new)
         (kept (F.held files.old) (F.write_faults files.old)) (shown_by S.written S.faults out.old.sink) (out_of N.written N.faults notes.old) result
         (kept (F.held files.new) (F.write_faults files.new)) (shown_by S.written S.faults out.new.sink) (out_of N.written N.faults notes.new) }
 
@@ -77,9 +80,9 @@ fn answered<F: Files, S: Sink, N: Sink>(
     notes: &mut TraceOut<N>,
 ) -> Status
     requires { out.old.failed ≡ false }
-    ensures answer { Replied F.held F.write_faults S.written S.faults (MayAnswerBy F.held F.read_faults (command_of (map string_bytes words.now)) files.old files.new)
+    ensures answer { Replied F.held F.write_faults S.written S.faults (MayAnswerBy AnyNote F.held F.read_faults (command_of (map string_bytes words.now)) files.old files.new)
         files.old out.old.sink result files.new out.new.sink }
-    ensures notes { Noted (usage_note (map string_bytes words.now)) (MayAnswerBy F.held F.read_faults (command_of (map string_bytes words.now)) files.old files.new)
+    ensures notes { Noted (usage_note (map string_bytes words.now)) (MayAnswerBy IsFaultNote F.held F.read_faults (command_of (map string_bytes words.now)) files.old files.new)
         (kept (F.held files.old) (F.write_faults files.old)) (shown_by S.written S.faults out.old.sink) (out_of N.written N.faults notes.old) result
         (kept (F.held files.new) (F.write_faults files.new)) (shown_by S.written S.faults out.new.sink) (out_of N.written N.faults notes.new) }
     ensures no_command { command_of (map string_bytes words.now) ≡ None → (result ≡ Status.Usage) ⊎ (result ≡ Status.WriteFault) }
@@ -124,7 +127,7 @@ fn done<'a, F: Files, S: Sink>(
 ) -> Ended<'a>
     requires ready { out.old.failed ≡ false }
     requires within { IsWithin command.now }
-    ensures { Ends F.held F.write_faults S.written S.faults (MayAnswerBy F.held F.read_faults (Some (asked command.now)) files.old files.new)
+    ensures { Ends F.held F.write_faults S.written S.faults (MayAnswerBy IsFaultNote F.held F.read_faults (Some (asked command.now)) files.old files.new)
         files.old out.old.sink result files.new out.new.sink }
 {
     match command {

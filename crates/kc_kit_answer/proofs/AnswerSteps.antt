@@ -12,6 +12,7 @@ use Rattle.kc_kit_files.specs.Outside.{Shown, kept}
 use Rattle.kc_kit_files.proofs.ReadLemmas.{refused-widen, reads-held, Holds-held, held-one, held-both, missed-one, missed-first, missed-second}
 use Rattle.kc_kit_files.proofs.EndLemmas.{Ends-widen}
 use Rattle.kc_kit_files.proofs.ReplyLemmas.{said-refused}
+use Rattle.kc_kit_inputs.specs.FaultNotes.{IsFaultNote}
 use Rattle.kc_kit_answer.specs.declared.job.Job.{Job}
 use Rattle.kc_kit_words.specs.declared.command.Command.{Command as Read}
 use Rattle.kc_kit_words.specs.Asked.{asked}
@@ -91,12 +92,12 @@ taking-prepared names library may ms members taken p e t h =
 -- a command whose files are read and judged is finished
 pub finished : {T : Type 0} (held : T → Option Holding) (reads writes : T → ℕ) (command read : Read) (old mid new : T) (p : Result Job Refusal) (before now : Shown) (ended : Ended) →
     command ≡ read → Prepares held reads writes (asked read) old p mid → EndsBy (IsOf p) (kept (held mid) (writes mid)) before ended.status ended.said (kept (held new) (writes new)) now → reads new ≡ reads mid →
-    EndsBy (MayAnswerBy held reads (Some (asked command)) old new) (kept (held old) (writes old)) before ended.status ended.said (kept (held new) (writes new)) now
+    EndsBy (MayAnswerBy IsFaultNote held reads (Some (asked command)) old new) (kept (held old) (writes old)) before ended.status ended.said (kept (held new) (writes new)) now
 finished held reads writes command read old mid new p before now ended is h ends e =
-    subst (λ k. EndsBy (MayAnswerBy held reads (Some (asked command)) old new) k before ended.status ended.said (kept (held new) (writes new)) now) (kept-same (held mid) (held old) (writes mid) (writes old) h.only_read.same h.only_read.no_write)
-    (Ends-widen (IsOf p) (MayAnswerBy held reads (Some (asked command)) old new) (kept (held mid) (writes mid)) before ended.status ended.said (kept (held new) (writes new)) now
-    (λ r w. subst (λ c. MayAnswerBy held reads (Some (asked c)) old new r) (sym is)
-    (subst (λ n. MayAnswer (Some (asked read)) (held old) (Rose (reads old) n) r) (sym e) (prepared-of (MayAnswerBy held reads (Some (asked read)) old mid) p h.answer r w))) ends)
+    subst (λ k. EndsBy (MayAnswerBy IsFaultNote held reads (Some (asked command)) old new) k before ended.status ended.said (kept (held new) (writes new)) now) (kept-same (held mid) (held old) (writes mid) (writes old) h.only_read.same h.only_read.no_write)
+    (Ends-widen (IsOf p) (MayAnswerBy IsFaultNote held reads (Some (asked command)) old new) (kept (held mid) (writes mid)) before ended.status ended.said (kept (held new) (writes new)) now
+    (λ r w. subst (λ c. MayAnswerBy IsFaultNote held reads (Some (asked c)) old new r) (sym is)
+    (subst (λ n. MayAnswer IsFaultNote (Some (asked read)) (held old) (Rose (reads old) n) r) (sym e) (prepared-of (MayAnswerBy IsFaultNote held reads (Some (asked read)) old mid) p h.answer r w))) ends)
 
 -- ---- names in two parts
 

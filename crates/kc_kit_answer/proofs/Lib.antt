@@ -2,8 +2,10 @@ pub mod AnswerSteps
 pub mod DebugLemmas
 pub mod EndedLemmas
 pub mod HelpLemmas
+pub mod HexLengths
 pub mod LinesLemmas
 pub mod LinkLemmas
+pub mod ListingLemmas
 pub mod Listed
 pub mod MadeLemmas
 pub mod SourceLemmas

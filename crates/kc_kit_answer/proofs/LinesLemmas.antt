@@ -1,6 +1,7 @@
 -- The image of modules, and their line map.
 use Rattle.std.proofs.Common.{◌≡◌, ◌≢◌, ℕ, List, [], map, Result, Ok, Err, refl, ap, subst}
 use Rattle.std.specs.Global.{Vec}
+use Rattle.std.specs.Result.{IsOk}
 use Rattle.kc_link_place.specs.declared.ranges.Ranges.{Ranges}
 use Rattle.kc_link_place.specs.declared.ranges.LinkFault.{LinkFault}
 use Rattle.kc_link_place.specs.Placing.{Places}
@@ -22,7 +23,7 @@ use Rattle.kc_kit_inputs.specs.declared.driving.Driving.{Driving}
 use Rattle.kc_kit_inputs.specs.Driving.{GivenFiles, driving_of}
 use Rattle.kc_kit_inputs.specs.Sources.{AreModules}
 use Rattle.kc_kit_running.specs.declared.board.Board.{Board}
-use Rattle.kc_kit_answer.specs.Jobs.{IsBoardWithLines}
+use Rattle.kc_kit_answer.specs.Jobs.{IsBoard, IsBoardWithLines}
 use Rattle.kc_kit_answer.specs.Places.{by_places, Placing}
 use Rattle.kc_kit_answer.specs.Profile.{map_entry, FilledWithLines, LinkedWithLines, DrivenWithLines}
 use Rattle.kc_kit_answer.specs.Run.{Driven, FilledTold}
@@ -87,3 +88,11 @@ pub refused-with-lines : (names : List (List ℕ)) (given : GivenFiles) (ranges 
 refused-with-lines names given ranges ms (refusals.Says c line note) f tell =
     none-of-a-run names given ranges tell ms (tells (status_for c) line.items note.items) (done-is-none c line.items note.items) (f (λ d image. says status.Done []))
 refused-with-lines names given ranges ms refusals.NoMemory f tell = tt
+
+-- modules that have a board are placed
+pub board-placed : (names : List (List ℕ)) (given : GivenFiles) (ranges : Ranges) (ms : List Object) (board : Board) → IsBoard (λ tell. Placing names ranges (Driven given FilledTold tell) ms) (Ok board) → IsOk (placed ms ranges)
+board-placed names given ranges ms board h = by (placed ms ranges) (h (λ d image. says status.Done []))
+  where
+    by : (x : Result Places LinkFault) → Then (by_places names ms x) (Driven given FilledTold (λ d image. says status.Done []) ms) (says status.Done []) → IsOk x
+    by (Ok places) k = refl
+    by (Err fault) k = absurd (let f : status.Done ≡ status.Link = ap (λ (r : Reply). r.status) k in cc)

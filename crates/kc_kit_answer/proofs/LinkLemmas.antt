@@ -1,6 +1,7 @@
 -- Modules that break a rule of the linker, and the files of those that are linked.
-use Rattle.std.proofs.Common.{◌≡◌, ℕ, List, ◌∷◌, ◌++◌, Option, Some, None, Ok, Err, refl, sym, ◌∙◌, ap, subst}
+use Rattle.std.proofs.Common.{◌≡◌, ◌≢◌, ℕ, true, false, List, ◌∷◌, ◌++◌, Option, Some, None, Ok, Err, refl, sym, ◌∙◌, ap, subst}
 use Rattle.std.specs.Prelude.{Result}
+use Rattle.std.specs.Result.{IsOk}
 use Rattle.kc_obj_module.specs.Object.{Object}
 use Rattle.kc_link_place.specs.declared.ranges.Ranges.{Ranges}
 use Rattle.kc_link_place.specs.declared.ranges.LinkFault.{LinkFault}
@@ -10,7 +11,8 @@ use Rattle.kc_link.specs.Placed.{placed, with_places, or_fault, unfit}
 use Rattle.kc_kit_files.specs.declared.status.Status.TheVariants as status
 use Rattle.kc_kit_files.specs.declared.refusal.Refusal.{Refusal}
 use Rattle.kc_kit_files.specs.declared.refusal.Refusal.TheVariants as refusals
-use Rattle.kc_kit_files.specs.Reply.{Reply, Write, write, tells, done_writing, Then, IsRefused}
+use Rattle.kc_kit_files.specs.Reply.{Reply, Write, write, tells, Then, IsRefused}
+use Rattle.kc_kit_files.specs.Writes.{writing_readable}
 use Rattle.kc_kit_words.specs.Commands.{Beside}
 use Rattle.kc_hex.specs.Spelling.{spelling}
 use Rattle.kc_link.specs.Filled.{IsImage}
@@ -54,6 +56,25 @@ placed-located ms ranges p e = by (located ms ranges) refl e
     by (Ok q) f e = f ∙ ap Ok (or-ok (unfit ms q 0 ms) q e)
     by (Err fault) f e = absurd (cc)
 
+-- modules that are placed break no rule
+err-not-ok : {A E : Type 0} (x : Result A E) (e : E) → IsOk x → x ≡ Err e → ⊥
+err-not-ok x e ok f = let k : false ≡ true = subst IsOk f ok in absurd (cc)
+
+pub no-rule-broken : (x : Result Places LinkFault) (fault : LinkFault) → IsOk x → IsCause fault (x ≡ Err fault) → fault ≢ faults.NoMemory → ⊥
+no-rule-broken x faults.NoMemory ok c un = un refl
+no-rule-broken x (faults.Unresolved name) ok c un = err-not-ok x (faults.Unresolved name) ok c
+no-rule-broken x (faults.OverlapName name) ok c un = err-not-ok x (faults.OverlapName name) ok c
+no-rule-broken x (faults.OverlapPlace place) ok c un = err-not-ok x (faults.OverlapPlace place) ok c
+no-rule-broken x (faults.Capacity kind index) ok c un = err-not-ok x (faults.Capacity kind index) ok c
+no-rule-broken x (faults.Range index piece offset) ok c un = err-not-ok x (faults.Range index piece offset) ok c
+
+pub is-located : (ms : List Object) (ranges : Ranges) → IsOk (placed ms ranges) → IsOk (located ms ranges)
+is-located ms ranges ok = by (placed ms ranges) refl ok
+  where
+    by : (x : Result Places LinkFault) → placed ms ranges ≡ x → IsOk x → IsOk (located ms ranges)
+    by (Ok p) e k = subst IsOk (sym (placed-located ms ranges p e)) refl
+    by (Err fault) e k = absurd (let f : false ≡ true = k in cc)
+
 -- the same places
 pub same-places : (ms : List Object) (ranges : Ranges) (p q : Places) → placed ms ranges ≡ Ok p → placed ms ranges ≡ Ok q → q ≡ p
 same-places ms ranges p q e f = cc
@@ -77,16 +98,16 @@ map-at (Some name) ms ranges places writes e h =
 -- the files of a linked image
 pub linked-files : (names : List (List ℕ)) (out : List ℕ) (beside : Beside) (ranges : Ranges) (ms : List Object) (image bytes : List ℕ) (first second : List Write) →
     IsImage ms ranges (Ok image) → bytes ≡ spelling image → AreLineMaps beside.lines ms ranges first → AreMaps beside.map ms ranges second →
-    Placing names ranges (LinksTo out beside ranges) ms (done_writing (write out bytes ∷ first ++ second))
+    Placing names ranges (LinksTo out beside ranges) ms (writing_readable (write out bytes ∷ first) second)
 linked-files names out beside ranges ms image bytes first second linked spelled lines maps =
     let places = linked.0 in
     let is : placed ms ranges ≡ Ok places = linked.1.0 in
-    let reply = done_writing (write out bytes ∷ first ++ second) in
+    let reply = writing_readable (write out bytes ∷ first) second in
     let files : LinksTo out beside ranges ms places reply = record {
       image = image;
       is_filled = linked.1.1;
       more = first;
       is_map = lines-at beside.lines ms ranges places first is lines;
-      done = λ i. done_writing (write out (spelled i) ∷ first ++ map-at beside.map ms ranges places second is maps i);
+      done = λ i. writing_readable (write out (spelled i) ∷ first) (map-at beside.map ms ranges places second is maps i);
     } in
     subst (λ r. Then (by_places names ms r) (LinksTo out beside ranges ms) reply) (sym is) files

@@ -4,7 +4,6 @@ use Rattle.std.specs.Result.{IsOk}
 use Rattle.kc_base.specs.Causes.{Rose}
 use Rattle.kc_base.specs.Held.{Holding}
 use Rattle.kc_hex.specs.Records.{image_of}
-use Rattle.kc_asm.specs.Assembled.{IsFaultless}
 use Rattle.kc_explain.specs.Codes.{all_codes}
 use Rattle.kc_explain.specs.Meanings.{is_among}
 use Rattle.kc_kit_files.specs.declared.status.Status.TheVariants as status
@@ -12,8 +11,9 @@ use Rattle.kc_kit_files.specs.Reply.{Reply, says, Then}
 use Rattle.kc_kit_files.specs.Reads.{reads_of, Holds, FailedRead}
 use Rattle.kc_kit_words.specs.Commands.{Command, Helps, HelpsOn, TellsVersion, Runs, Profiles, Assembles, Packs, Links, RunsHex, ProfilesHex, Lists, Debugs, Generates, Dumps, Explains, names_of, names_read}
 use Rattle.kc_kit_inputs.specs.Driving.{given_for, driving_of}
+use Rattle.kc_kit_inputs.specs.Sources.{NoteRule}
 use Rattle.kc_kit_answer.specs.Accepting.{Accepting, IsOneText, AreTwoTexts}
-use Rattle.kc_kit_answer.specs.Assemble.{AssembleAnswer}
+use Rattle.kc_kit_answer.specs.Assemble.{AssembleAnswer, IsAssemblable}
 use Rattle.kc_kit_answer.specs.Debug.{DebugAnswer, IsDebuggable}
 use Rattle.kc_kit_answer.specs.Dump.{DumpAnswer, IsTraceText}
 use Rattle.kc_kit_answer.specs.Explain.{explained}
@@ -42,42 +42,43 @@ TwoTexts may _ reply = ⊥
 abbrev pub Parted : ℕ → (List (List ℕ) → List (List ℕ) → Reply → Type 0) → List (List ℕ) → Reply → Type 0
 Parted count may texts reply = may (take count texts) (drop count texts) reply
 
--- what may be answered, over what the files that are read hold, in the order of their names
-abbrev pub CommandAnswer : Option Command → List (Option (List ℕ)) → Reply → Type 0
-CommandAnswer None contents reply = reply ≡ says status.Usage usage_line
-CommandAnswer (Some Helps) contents reply = reply ≡ says status.Done help_text
-CommandAnswer (Some (HelpsOn verb)) contents reply = reply ≡ says status.Done (help_on verb)
-CommandAnswer (Some TellsVersion) contents reply = reply ≡ says status.Done version_line
-CommandAnswer (Some (Runs files inputs extent placing)) contents reply = Then (reads_of (files ++ names_of inputs) contents) (Parted (length files) (RunAnswer files inputs extent placing)) reply
-CommandAnswer (Some (Profiles files inputs states placing out)) contents reply =
-    Then (reads_of (files ++ names_of inputs) contents) (Parted (length files) (ProfileAnswer files inputs states placing out)) reply
-CommandAnswer (Some (ProfilesHex file inputs states out)) contents reply =
+-- what may be answered, over what the files that are read hold, in the order of their names; the rule says which notes may be said
+-- of a fault of a source
+abbrev pub CommandAnswer : NoteRule → Option Command → List (Option (List ℕ)) → Reply → Type 0
+CommandAnswer IsNote None contents reply = reply ≡ says status.Usage usage_line
+CommandAnswer IsNote (Some Helps) contents reply = reply ≡ says status.Done help_text
+CommandAnswer IsNote (Some (HelpsOn verb)) contents reply = reply ≡ says status.Done (help_on verb)
+CommandAnswer IsNote (Some TellsVersion) contents reply = reply ≡ says status.Done version_line
+CommandAnswer IsNote (Some (Runs files inputs extent placing)) contents reply = Then (reads_of (files ++ names_of inputs) contents) (Parted (length files) (RunAnswer IsNote files inputs extent placing)) reply
+CommandAnswer IsNote (Some (Profiles files inputs states placing out)) contents reply =
+    Then (reads_of (files ++ names_of inputs) contents) (Parted (length files) (ProfileAnswer IsNote files inputs states placing out)) reply
+CommandAnswer IsNote (Some (ProfilesHex file inputs states out)) contents reply =
     Then (reads_of (file ∷ names_of inputs) contents) (Parted 1 (λ texts more. OneText (λ text. ProfileHexAnswer file inputs states out text more) texts)) reply
-CommandAnswer (Some (Assembles file out list)) contents reply = Then (reads_of (file ∷ []) contents) (OneText (AssembleAnswer file out list)) reply
-CommandAnswer (Some (Packs files out)) contents reply = Then (reads_of files contents) (PackAnswer files out) reply
-CommandAnswer (Some (Links files inputs out beside placing)) contents reply =
+CommandAnswer IsNote (Some (Assembles file out list)) contents reply = Then (reads_of (file ∷ []) contents) (OneText (AssembleAnswer IsNote file out list)) reply
+CommandAnswer IsNote (Some (Packs files out)) contents reply = Then (reads_of files contents) (PackAnswer files out) reply
+CommandAnswer IsNote (Some (Links files inputs out beside placing)) contents reply =
     Then (reads_of (files ++ names_of inputs) contents) (Parted (length files) (LinkAnswer files inputs out beside placing)) reply
-CommandAnswer (Some (RunsHex file inputs extent)) contents reply =
+CommandAnswer IsNote (Some (RunsHex file inputs extent)) contents reply =
     Then (reads_of (file ∷ names_of inputs) contents) (Parted 1 (λ texts more. OneText (λ text. RunHexAnswer file inputs extent text more) texts)) reply
-CommandAnswer (Some (Lists file first last)) contents reply = Then (reads_of (file ∷ []) contents) (OneText (ListAnswer file first last)) reply
-CommandAnswer (Some (Debugs file script inputs)) contents reply =
+CommandAnswer IsNote (Some (Lists file first last)) contents reply = Then (reads_of (file ∷ []) contents) (OneText (ListAnswer file first last)) reply
+CommandAnswer IsNote (Some (Debugs file script inputs)) contents reply =
     Then (reads_of (file ∷ script ∷ names_of inputs) contents) (Parted 2 (λ texts more. TwoTexts (λ text commands. DebugAnswer file script inputs text commands more) texts)) reply
-CommandAnswer (Some (Generates number)) contents reply = GenerateAnswer number reply
-CommandAnswer (Some (Dumps file out clock)) contents reply = Then (reads_of (file ∷ []) contents) (OneText (DumpAnswer file out clock)) reply
-CommandAnswer (Some (Explains code)) contents reply = reply ≡ explained code
+CommandAnswer IsNote (Some (Generates number)) contents reply = GenerateAnswer IsNote number reply
+CommandAnswer IsNote (Some (Dumps file out clock)) contents reply = Then (reads_of (file ∷ []) contents) (OneText (DumpAnswer file out clock)) reply
+CommandAnswer IsNote (Some (Explains code)) contents reply = reply ≡ explained code
 
 -- What may be answered to a command, over what the files tell that they hold: all files are read before any is judged. A read may
 -- fail where the count of failed reads rose.
-abbrev pub MayAnswer : Option Command → Option Holding → Type 0 → Reply → Type 0
-MayAnswer command told rose reply =
-    (contents : List (Option (List ℕ))) × Holds told (names_read command) contents × (CommandAnswer command contents reply ⊎ FailedRead (names_read command) contents rose reply)
+abbrev pub MayAnswer : NoteRule → Option Command → Option Holding → Type 0 → Reply → Type 0
+MayAnswer IsNote command told rose reply =
+    (contents : List (Option (List ℕ))) × Holds told (names_read command) contents × (CommandAnswer IsNote command contents reply ⊎ FailedRead (names_read command) contents rose reply)
 
 -- the same of files, by what they tell of themselves before and after the command
-abbrev pub MayAnswerBy : {T : Type 0} → (T → Option Holding) → (T → ℕ) → Option Command → T → T → Reply → Type 0
-MayAnswerBy held reads command old new reply = MayAnswer command (held old) (Rose (reads old) (reads new)) reply
+abbrev pub MayAnswerBy : {T : Type 0} → NoteRule → (T → Option Holding) → (T → ℕ) → Option Command → T → T → Reply → Type 0
+MayAnswerBy IsNote held reads command old new reply = MayAnswer IsNote command (held old) (Rose (reads old) (reads new)) reply
 
 -- ---- what is accepted: a command, each file held within its limit and in its form, no source with a fault, no rule of the linker
--- ---- broken, and a code where one is to be explained
+-- ---- broken, what is to be written for commands within the limit of a file, and a code where one is to be explained
 
 abbrev pub IsAccepted : Option Command → List (Option (List ℕ)) → Type 0
 IsAccepted None contents = ⊥
@@ -90,10 +91,10 @@ IsAccepted (Some (Profiles files inputs states placing out)) contents =
     Accepting (λ texts. AreRunnable files inputs placing (take (length files) texts) (drop (length files) texts)) (reads_of (files ++ names_of inputs) contents)
 IsAccepted (Some (ProfilesHex file inputs states out)) contents =
     Accepting (λ texts. IsOneText (λ text. IsOk (image_of text)) (take 1 texts) × IsOk (driving_of (given_for inputs (drop 1 texts)))) (reads_of (file ∷ names_of inputs) contents)
-IsAccepted (Some (Assembles file out list)) contents = Accepting (IsOneText IsFaultless) (reads_of (file ∷ []) contents)
+IsAccepted (Some (Assembles file out list)) contents = Accepting (IsOneText IsAssemblable) (reads_of (file ∷ []) contents)
 IsAccepted (Some (Packs files out)) contents = Accepting (ArePackable files) (reads_of files contents)
 IsAccepted (Some (Links files inputs out beside placing)) contents =
-    Accepting (λ texts. AreLinkable files inputs placing (take (length files) texts) (drop (length files) texts)) (reads_of (files ++ names_of inputs) contents)
+    Accepting (λ texts. AreLinkable files inputs beside.lines placing (take (length files) texts) (drop (length files) texts)) (reads_of (files ++ names_of inputs) contents)
 IsAccepted (Some (RunsHex file inputs extent)) contents =
     Accepting (λ texts. IsOneText (λ text. IsOk (image_of text)) (take 1 texts) × IsOk (driving_of (given_for inputs (drop 1 texts)))) (reads_of (file ∷ names_of inputs) contents)
 IsAccepted (Some (Lists file first last)) contents = Accepting (IsOneText (λ text. IsOk (image_of text))) (reads_of (file ∷ []) contents)

@@ -7,7 +7,7 @@ use Rattle.kc_gen.specs.Stimuli.{stimuli_text}
 use Rattle.kc_kit_files.specs.Reply.{Reply}
 use Rattle.kc_kit_words.specs.Words.{placing_of}
 use Rattle.kc_kit_inputs.specs.Driving.{GivenFiles, driving_of}
-use Rattle.kc_kit_inputs.specs.Sources.{AreModules, AreFaultless}
+use Rattle.kc_kit_inputs.specs.Sources.{NoteRule, AreModules, AreFaultless}
 use Rattle.kc_kit_running.specs.Counted.{summary_of}
 use Rattle.kc_kit_answer.specs.Places.{places_of}
 use Rattle.kc_kit_answer.specs.Run.{SourcesTold}
@@ -24,8 +24,8 @@ abbrev pub made_given : ℕ → GivenFiles
 made_given number = record { stimuli = Some (codes "gens", stimuli_text number); analog = None }
 
 -- the made input is answered as sources that are run, by this summary
-abbrev pub GenerateAnswer : ℕ → Reply → Type 0
-GenerateAnswer number reply = SourcesTold made_names (made_given number) (placing_of []) (made_texts number) (summary_of number) reply
+abbrev pub GenerateAnswer : NoteRule → ℕ → Reply → Type 0
+GenerateAnswer IsNote number reply = SourcesTold IsNote made_names (made_given number) (placing_of []) (made_texts number) (summary_of number) reply
 
 -- what is accepted: the made sources have no fault, no rule of the linker is broken, and the made stimuli have their form
 pub record IsGenerable (number : ℕ) : Type 0 where

@@ -12,6 +12,7 @@ use Rattle.kc_kit_words.specs.Asked.{IsBounded}
 use Rattle.kc_kit_words.specs.Values.{max_states}
 use Rattle.kc_kit_words.specs.Commands.{Command}
 use Rattle.kc_kit_inputs.specs.declared.driving.Driving.{Driving}
+use Rattle.kc_kit_inputs.specs.FaultNotes.{IsFaultNote}
 use Rattle.kc_kit_running.specs.declared.board.Board.{Board}
 use Rattle.kc_kit_answer.specs.declared.job.Job.{Job}
 use Rattle.kc_kit_answer.specs.declared.job.Job.TheVariants as job
@@ -62,7 +63,7 @@ IsPrepared may (Err refusal) = IsRefused may refusal
 
 -- the job or the refusal that a command comes to once its files are read and judged; the files stay
 pub record Prepares {T : Type 0} (held : T → Option Holding) (reads writes : T → ℕ) (command : Command) (old : T) (given : Result Job Refusal) (new : T) : Type 0 where
-  pub answer : IsPrepared (MayAnswerBy held reads (Some command) old new) given
+  pub answer : IsPrepared (MayAnswerBy IsFaultNote held reads (Some command) old new) given
   pub only_read : OnlyRead held reads writes old new
 
 abbrev pub IsReady : Result Job Refusal → Type 0

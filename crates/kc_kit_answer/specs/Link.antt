@@ -1,7 +1,6 @@
 -- The command that links objects: the hex file first, and then the line map and the map of pieces and names where they are asked
--- for (this kit's own).
+-- for (this kit's own). Commands read a hex file and a line map.
 use Rattle.std.specs.Prelude.{◌≡◌, ℕ, ◌+◌, ◌≤◌, List, [], ◌∷◌, ◌++◌, length, Option, Some, None, Result, Ok}
-use Rattle.std.specs.Result.{IsOk}
 use Rattle.kc_obj_module.specs.Object.{Object}
 use Rattle.kc_lib.specs.Taking.{AreTaken}
 use Rattle.kc_link_place.specs.declared.ranges.Ranges.{Ranges}
@@ -12,7 +11,9 @@ use Rattle.kc_link.specs.declared.lines.LineAt.{LineAt}
 use Rattle.kc_link.specs.Filled.{IsFilled}
 use Rattle.kc_link.specs.LineMap.{IsLineMap}
 use Rattle.kc_hex.specs.Spelling.{spelling}
-use Rattle.kc_kit_files.specs.Reply.{Reply, Write, write, done_writing, Then}
+use Rattle.kc_kit_files.specs.Reads.{file_limit}
+use Rattle.kc_kit_files.specs.Reply.{Reply, Write, write, Then}
+use Rattle.kc_kit_files.specs.Writes.{writing_readable}
 use Rattle.kc_kit_words.specs.Commands.{Beside}
 use Rattle.kc_kit_words.specs.declared.inputs.Role.{Role}
 use Rattle.kc_kit_words.specs.declared.inputs.Role.TheVariants as role
@@ -48,7 +49,7 @@ pub record LinksTo (out : List ℕ) (beside : Beside) (ranges : Ranges) (ms : Li
   pub is_filled : IsFilled ms places image
   pub more : List Write
   pub is_map : IsMap beside.lines ms places more
-  pub done : reply ≡ done_writing (write out (spelling image) ∷ more ++ map_writes beside.map ms ranges places)
+  pub done : reply ≡ writing_readable (write out (spelling image) ∷ more) (map_writes beside.map ms ranges places)
 
 -- ---- a library, by its name and its text: the members that the modules take follow them
 
@@ -67,13 +68,21 @@ abbrev pub LinkAnswer : List (List ℕ) → List (Role × List ℕ) → List ℕ
 LinkAnswer names inputs out beside ranges texts input_texts reply =
     Then (modules_of object_of names texts) (Completed names (input_for role.Library inputs input_texts) (λ files. Placing files ranges (LinksTo out beside ranges))) reply
 
--- ---- what is accepted: at most 64 modules and taken members, and no rule of the linker is broken
+-- ---- what is accepted: at most 64 modules and taken members, no rule of the linker is broken, and commands read the line map that is
+-- ---- asked for. They read every hex file that is written.
 
-abbrev pub IsLinkable : List (List ℕ) → Option (List ℕ × List ℕ) → Ranges → List Object → Type 0
-IsLinkable names None ranges ms = IsOk (places_of names ms ranges)
-IsLinkable names (Some library) ranges ms =
-    Accepting (λ members. (taken : List Object) → AreTaken ms members taken → (length ms + length taken ≤ 64) × IsOk (places_of (names ++ member_words library.0 taken) (ms ++ taken) ranges))
+abbrev pub IsReadableMap : Option (List ℕ) → List Object → Places → Type 0
+IsReadableMap None ms places = Unit {0}
+IsReadableMap (Some name) ms places = (entries : List LineAt) → IsLineMap ms places entries → length (map_text entries) ≤ file_limit
+
+abbrev pub ArePlaceable : List (List ℕ) → Option (List ℕ) → Ranges → List Object → Type 0
+ArePlaceable names lines ranges ms = Accepting (IsReadableMap lines ms) (places_of names ms ranges)
+
+abbrev pub IsLinkable : List (List ℕ) → Option (List ℕ × List ℕ) → Option (List ℕ) → Ranges → List Object → Type 0
+IsLinkable names None lines ranges ms = ArePlaceable names lines ranges ms
+IsLinkable names (Some library) lines ranges ms =
+    Accepting (λ members. (taken : List Object) → AreTaken ms members taken → (length ms + length taken ≤ 64) × ArePlaceable (names ++ member_words library.0 taken) lines ranges (ms ++ taken))
     (library_of library.0 library.1)
 
-abbrev pub AreLinkable : List (List ℕ) → List (Role × List ℕ) → Ranges → List (List ℕ) → List (List ℕ) → Type 0
-AreLinkable names inputs ranges texts input_texts = Accepting (IsLinkable names (input_for role.Library inputs input_texts) ranges) (modules_of object_of names texts)
+abbrev pub AreLinkable : List (List ℕ) → List (Role × List ℕ) → Option (List ℕ) → Ranges → List (List ℕ) → List (List ℕ) → Type 0
+AreLinkable names inputs lines ranges texts input_texts = Accepting (IsLinkable names (input_for role.Library inputs input_texts) lines ranges) (modules_of object_of names texts)

@@ -1,25 +1,27 @@
 -- The command that packs objects into a library (this kit's own).
-use Rattle.std.specs.Prelude.{◌≡◌, ℕ, List, [], ◌∷◌, Option, Some, None}
+use Rattle.std.specs.Prelude.{◌≡◌, ℕ, ◌≤◌, List, [], ◌∷◌, length, Option, Some, None}
 use Rattle.kc_obj_module.specs.Object.{Object}
 use Rattle.kc_lib.specs.Format.{library_bytes}
 use Rattle.kc_lib.specs.Names.{doubled}
 use Rattle.kc_link_place.specs.declared.ranges.LinkFault.TheVariants as faults
 use Rattle.kc_kit_files.specs.declared.status.Status.TheVariants as status
-use Rattle.kc_kit_files.specs.Reply.{Reply, tells, write, done_writing, Then}
+use Rattle.kc_kit_files.specs.Reads.{file_limit}
+use Rattle.kc_kit_files.specs.Reply.{Reply, tells, write, Then}
+use Rattle.kc_kit_files.specs.Writes.{writing_readable}
 use Rattle.kc_kit_inputs.specs.Objects.{modules_of, object_of}
 use Rattle.kc_kit_answer.specs.Accepting.{Accepting}
 use Rattle.kc_kit_notes.specs.Rules.{link_line}
 use Rattle.kc_kit_notes.specs.RuleNotes.{link_note}
 
--- the library of modules is written, or the first name is told that is public in two of them
+-- the library of modules is written, which commands read, or the first name is told that is public in two of them
 abbrev pub packed : List (List ℕ) → List ℕ → List Object → Option (List ℕ) → Reply
-packed names out ms None = done_writing (write out (library_bytes ms) ∷ [])
+packed names out ms None = writing_readable (write out (library_bytes ms) ∷ []) []
 packed names out ms (Some name) = tells status.Link (link_line names (faults.OverlapName name)) (link_note names ms (faults.OverlapName name))
 
 -- the answer to objects that were read
 abbrev pub PackAnswer : List (List ℕ) → List ℕ → List (List ℕ) → Reply → Type 0
 PackAnswer names out texts reply = Then (modules_of object_of names texts) (λ ms reply. reply ≡ packed names out ms (doubled ms)) reply
 
--- what is accepted: no name is public in two of the objects
+-- what is accepted: no name is public in two of the objects, and commands read their library
 abbrev pub ArePackable : List (List ℕ) → List (List ℕ) → Type 0
-ArePackable names texts = Accepting (λ ms. doubled ms ≡ None) (modules_of object_of names texts)
+ArePackable names texts = Accepting (λ ms. (doubled ms ≡ None) × (length (library_bytes ms) ≤ file_limit)) (modules_of object_of names texts)

@@ -11,7 +11,7 @@ use Rattle.kc_kit_files.specs.Reply.{Reply, Then}
 use Rattle.kc_kit_words.specs.declared.inputs.Role.{Role}
 use Rattle.kc_kit_inputs.specs.declared.driving.Driving.{Driving}
 use Rattle.kc_kit_inputs.specs.Driving.{GivenFiles, given_for, driving_of}
-use Rattle.kc_kit_inputs.specs.Sources.{SourcesAre}
+use Rattle.kc_kit_inputs.specs.Sources.{NoteRule, SourcesAre}
 use Rattle.kc_kit_running.specs.Profiled.{profile_reply}
 use Rattle.kc_kit_answer.specs.Hex.{HexTold}
 use Rattle.kc_kit_answer.specs.Places.{Placing}
@@ -48,9 +48,9 @@ pub record LinkedWithLines (texts : List (List ℕ)) (tell : List MapEntry → L
 abbrev pub DrivenWithLines : GivenFiles → ((List MapEntry → List ℕ → Reply) → List Object → Places → Reply → Type 0) → (List MapEntry → Driving → List ℕ → Reply) → List Object → Places → Reply → Type 0
 DrivenWithLines given may tell ms places reply = Then (driving_of given) (λ driving. may (λ entries. tell entries driving) ms places) reply
 
-abbrev pub LinesTold : List (List ℕ) → GivenFiles → Ranges → List (List ℕ) → (List MapEntry → Driving → List ℕ → Reply) → Reply → Type 0
-LinesTold names given ranges texts tell reply =
-    (sources : Result (List Object) Reply) × SourcesAre names texts sources × Then sources (Placing names ranges (DrivenWithLines given (LinkedWithLines texts) tell)) reply
+abbrev pub LinesTold : NoteRule → List (List ℕ) → GivenFiles → Ranges → List (List ℕ) → (List MapEntry → Driving → List ℕ → Reply) → Reply → Type 0
+LinesTold IsNote names given ranges texts tell reply =
+    (sources : Result (List Object) Reply) × SourcesAre IsNote names texts sources × Then sources (Placing names ranges (DrivenWithLines given (LinkedWithLines texts) tell)) reply
 
-abbrev pub ProfileAnswer : List (List ℕ) → List (Role × List ℕ) → ℕ → Ranges → List ℕ → List (List ℕ) → List (List ℕ) → Reply → Type 0
-ProfileAnswer names inputs states ranges out texts input_texts reply = LinesTold names (given_for inputs input_texts) ranges texts (profile_reply states out) reply
+abbrev pub ProfileAnswer : NoteRule → List (List ℕ) → List (Role × List ℕ) → ℕ → Ranges → List ℕ → List (List ℕ) → List (List ℕ) → Reply → Type 0
+ProfileAnswer IsNote names inputs states ranges out texts input_texts reply = LinesTold IsNote names (given_for inputs input_texts) ranges texts (profile_reply states out) reply

@@ -19,7 +19,7 @@ use Rattle.kc_kit_words.specs.declared.extent.Extent.{Extent}
 use Rattle.kc_kit_words.specs.declared.inputs.Role.{Role}
 use Rattle.kc_kit_inputs.specs.declared.driving.Driving.{Driving}
 use Rattle.kc_kit_inputs.specs.Driving.{GivenFiles, given_for, driving_of}
-use Rattle.kc_kit_inputs.specs.Sources.{AreModules, SourcesAre, AreFaultless}
+use Rattle.kc_kit_inputs.specs.Sources.{NoteRule, AreModules, SourcesAre, AreFaultless}
 use Rattle.kc_kit_answer.specs.Places.{places_of, Placing}
 use Rattle.kc_kit_running.specs.Lives.{board_reply}
 
@@ -55,14 +55,14 @@ abbrev pub Driven : GivenFiles → ((List ℕ → Reply) → List Object → Pla
 Driven given may tell ms places reply = Then (driving_of given) (λ driving. may (tell driving) ms places) reply
 
 -- sources are judged, their modules are placed, it is judged what drives the inputs, and with the image the answer is this
-abbrev pub SourcesTold : List (List ℕ) → GivenFiles → Ranges → List (List ℕ) → (Driving → List ℕ → Reply) → Reply → Type 0
-SourcesTold names given ranges texts tell reply =
-    (sources : Result (List Object) Reply) × SourcesAre names texts sources × Then sources (Placing names ranges (Driven given (LinkedTold texts) tell)) reply
+abbrev pub SourcesTold : NoteRule → List (List ℕ) → GivenFiles → Ranges → List (List ℕ) → (Driving → List ℕ → Reply) → Reply → Type 0
+SourcesTold IsNote names given ranges texts tell reply =
+    (sources : Result (List Object) Reply) × SourcesAre IsNote names texts sources × Then sources (Placing names ranges (Driven given (LinkedTold texts) tell)) reply
 
 -- the answer to sources that are run
-abbrev pub RunAnswer : List (List ℕ) → List (Role × List ℕ) → Extent → Ranges → List (List ℕ) → List (List ℕ) → Reply → Type 0
-RunAnswer names inputs extent ranges texts input_texts reply =
-    SourcesTold names (given_for inputs input_texts) ranges texts (board_reply extent) reply
+abbrev pub RunAnswer : NoteRule → List (List ℕ) → List (Role × List ℕ) → Extent → Ranges → List (List ℕ) → List (List ℕ) → Reply → Type 0
+RunAnswer IsNote names inputs extent ranges texts input_texts reply =
+    SourcesTold IsNote names (given_for inputs input_texts) ranges texts (board_reply extent) reply
 
 -- ---- what is accepted: no source has a fault, no rule of the linker is broken, and what drives the inputs has its form
 

@@ -1,17 +1,21 @@
 // The command that assembles a source to an object.
 ghost use Rattle.std.specs.Prelude.{◌≤◌, length, IfOk};
 ghost use Rattle.std.specs.Option.{option_map};
+ghost use Rattle.kc_asm.specs.Assembled.{IsModule};
+ghost use Rattle.kc_kit_inputs.specs.FaultNotes.{IsFaultNote};
 ghost use Rattle.kc_kit_words.specs.Asked.{asked};
 ghost use Rattle.kc_kit_answer.specs.Assemble.{AreListings, AssembleAnswer};
 ghost use Rattle.kc_kit_answer.specs.Jobs.{IsPrepared, Prepares, maybe_written};
 
 use crate::job::Job;
+use crate::writing::writing;
 use kc_asm_list::listing;
 use kc_base::{Files, NoMemory};
 use kc_kit_files::{Refusal, read_file};
 use kc_kit_inputs::assemble_source;
 use kc_kit_running::Output;
 use kc_kit_words::{Assemble, Command};
+use kc_lex::SourceFault;
 use kc_obj_module::{Module, encode};
 use std::alloc::Global;
 
@@ -32,7 +36,7 @@ pub fn prepare_assemble<'a, F: Files>(
 // The object of the source with a text.
 fn object_text<'a>(alloc: Global, assemble: &Assemble<'a>, text: &[u8]) -> Result<Job<'a>, Refusal>
     requires { length text.now ≤ 1048576 }
-    ensures { IsPrepared (AssembleAnswer assemble.now.file.now assemble.now.out.now (option_map (λ l. l.now) assemble.now.list) text.now) result }
+    ensures { IsPrepared (AssembleAnswer IsFaultNote assemble.now.file.now assemble.now.out.now (option_map (λ l. l.now) assemble.now.list) text.now) result }
 {
     let made = match assemble_source(alloc, assemble.file, text) {
         Ok(made) => made,
@@ -46,11 +50,7 @@ fn object_text<'a>(alloc: Global, assemble: &Assemble<'a>, text: &[u8]) -> Resul
         bytes,
     };
     match listing_file(alloc, assemble, text, &made) {
-        Ok(map) => Ok(Job::Write {
-            file,
-            lines: None,
-            map,
-        }),
+        Ok(list) => writing(alloc, file, None, list),
         Err(NoMemory) => Err(Refusal::NoMemory),
     }
 }
@@ -62,14 +62,16 @@ fn listing_file<'a>(
     text: &[u8],
     made: &Module,
 ) -> Result<Option<Output<'a>>, NoMemory>
-    requires { length text.now ≤ 1048576 }
+    requires short { length text.now ≤ 1048576 }
+    requires made { IsModule text.now made.now }
     ensures { IfOk result (λ file. AreListings (option_map (λ l. l.now) assemble.now.list) text.now made.now (maybe_written file)) }
 {
     match assemble.list {
         None => Ok(None),
         Some(name) => match listing(alloc, text, made) {
             Ok(bytes) => Ok(Some(Output { name, bytes })),
-            Err(_) => Err(NoMemory),
+            Err(SourceFault::NoMemory) => Err(NoMemory),
+            Err(_) => unreachable!(),
         },
     }
 }

@@ -3,6 +3,7 @@ ghost use Rattle.std.specs.Prelude.{◌≡◌, ◌≤◌, length, map, string_by
 ghost use Rattle.kc_kit_files.specs.Reads.{AllShort};
 ghost use Rattle.kc_kit_words.specs.Asked.{AreLinkable};
 ghost use Rattle.kc_kit_inputs.specs.Driving.{given_in, AreShort};
+ghost use Rattle.kc_kit_inputs.specs.FaultNotes.{IsFaultNote};
 ghost use Rattle.kc_kit_answer.specs.Hex.{HexTold};
 ghost use Rattle.kc_kit_answer.specs.Jobs.{IsBoard};
 ghost use Rattle.kc_kit_answer.specs.Places.{Placing};
@@ -52,7 +53,7 @@ pub(crate) fn board_of_sources(
     requires count { length texts.now ≡ length names.now }
     requires short { AllShort (map (λ t. t.items) texts.now) }
     requires given { AreShort given }
-    ensures { IsBoard (SourcesTold (map string_bytes names.now) (given_in given.entry) placing.now (map (λ t. t.items) texts.now)) result }
+    ensures { IsBoard (SourcesTold IsFaultNote (map string_bytes names.now) (given_in given.entry) placing.now (map (λ t. t.items) texts.now)) result }
 {
     sources_are_read_well();
     linked_image();

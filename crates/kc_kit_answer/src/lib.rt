@@ -17,6 +17,7 @@ mod pack;
 mod profile;
 mod run;
 mod run_hex;
+mod writing;
 
 pub use assemble::prepare_assemble;
 pub use debug::prepare_debug;

@@ -1,5 +1,6 @@
 // The command that links objects.
 ghost use Rattle.std.specs.Prelude.{◌≡◌, ◌≤◌, ◌++◌, ℕ, Ok, Some, IfOk, List, length, map, string_bytes};
+ghost use Rattle.std.specs.Result.{IsOk};
 ghost use Rattle.kc_link_place.specs.Placing.{Places};
 ghost use Rattle.kc_link.specs.Placed.{placed};
 ghost use Rattle.kc_link.specs.Filled.{IsImage};
@@ -16,13 +17,14 @@ ghost use Rattle.kc_kit_answer.specs.Places.{Placing};
 
 use crate::job::Job;
 use crate::line_map::map_text;
+use crate::writing::writing;
 use kc_base::{Files, Image, NoMemory};
 use kc_kit_files::{Refusal, read_files};
 use kc_kit_inputs::{input_for, read_inputs, read_library, read_objects, take_members};
 use kc_kit_notes::{Members, Origins, link_refusal};
 use kc_kit_running::Output;
 use kc_kit_words::{Command, Link, Role};
-use kc_link::line_map;
+use kc_link::{LinkFault, line_map};
 use kc_link_map::link_map;
 use kc_obj_module::Module;
 use std::alloc::Global;
@@ -155,7 +157,7 @@ fn outputs<'a>(
         bytes,
     };
     match beside(alloc, link, modules) {
-        Ok((lines, map)) => Ok(Job::Write { file, lines, map }),
+        Ok((lines, map)) => writing(alloc, file, lines, map),
         Err(NoMemory) => Err(Refusal::NoMemory),
     }
 }
@@ -166,7 +168,8 @@ fn beside<'a>(
     link: &Link<'a>,
     modules: &[Module],
 ) -> Result<(Option<Output<'a>>, Option<Output<'a>>), NoMemory>
-    requires { AreLinkable (length modules.now) link.now.placing }
+    requires linkable { AreLinkable (length modules.now) link.now.placing }
+    requires placed { IsOk (placed modules.now link.now.placing) }
     ensures lines { IfOk result (λ files. AreLineMaps (beside_in link.now.beside).lines modules.now link.now.placing (maybe_written files.0)) }
     ensures map { IfOk result (λ files. AreMaps (beside_in link.now.beside).map modules.now link.now.placing (maybe_written files.1)) }
 {
@@ -181,7 +184,8 @@ fn lines_file<'a>(
     link: &Link<'a>,
     modules: &[Module],
 ) -> Result<Option<Output<'a>>, NoMemory>
-    requires { AreLinkable (length modules.now) link.now.placing }
+    requires linkable { AreLinkable (length modules.now) link.now.placing }
+    requires placed { IsOk (placed modules.now link.now.placing) }
     ensures { IfOk result (λ file. AreLineMaps (beside_in link.now.beside).lines modules.now link.now.placing (maybe_written file)) }
 {
     match link.beside.lines {
@@ -195,7 +199,8 @@ fn lines_file<'a>(
 
 // The text of the line map of modules that are linked.
 fn lines_of(alloc: Global, link: &Link<'_>, modules: &[Module]) -> Result<Vec<u8>, NoMemory>
-    requires { AreLinkable (length modules.now) link.now.placing }
+    requires linkable { AreLinkable (length modules.now) link.now.placing }
+    requires placed { IsOk (placed modules.now link.now.placing) }
     ensures { IfOk result (λ text. (entries : List LineAt) × (places : Places) × (placed modules.now link.now.placing ≡ Ok places) × IsLineMap modules.now places entries × (text.items ≡ map_text entries)) }
 {
     match line_map(alloc, modules, &link.placing) {
@@ -203,7 +208,8 @@ fn lines_of(alloc: Global, link: &Link<'_>, modules: &[Module]) -> Result<Vec<u8
             let text = map_text(alloc, &entries)?;
             Ok(text)
         }
-        Err(_) => Err(NoMemory),
+        Err(LinkFault::NoMemory) => Err(NoMemory),
+        Err(_) => unreachable!(),
     }
 }
 
@@ -213,14 +219,16 @@ fn map_file<'a>(
     link: &Link<'a>,
     modules: &[Module],
 ) -> Result<Option<Output<'a>>, NoMemory>
-    requires { AreLinkable (length modules.now) link.now.placing }
+    requires linkable { AreLinkable (length modules.now) link.now.placing }
+    requires placed { IsOk (placed modules.now link.now.placing) }
     ensures { IfOk result (λ file. AreMaps (beside_in link.now.beside).map modules.now link.now.placing (maybe_written file)) }
 {
     match link.beside.map {
         None => Ok(None),
         Some(name) => match link_map(alloc, modules, &link.placing) {
             Ok(bytes) => Ok(Some(Output { name, bytes })),
-            Err(_) => Err(NoMemory),
+            Err(LinkFault::NoMemory) => Err(NoMemory),
+            Err(_) => unreachable!(),
         },
     }
 }

@@ -8,6 +8,7 @@ ghost use Rattle.kc_kit_answer.specs.Jobs.{IsPrepared, Prepares};
 ghost use Rattle.kc_kit_answer.specs.Pack.{PackAnswer, packed};
 
 use crate::job::Job;
+use crate::writing::writing;
 use kc_base::Files;
 use kc_kit_files::{Refusal, read_files};
 use kc_kit_inputs::read_objects;
@@ -59,11 +60,7 @@ fn pack_modules<'a>(alloc: Global, pack: &Pack<'a>, modules: &[Module]) -> Resul
                 name: pack.out,
                 bytes,
             };
-            Ok(Job::Write {
-                file,
-                lines: None,
-                map: None,
-            })
+            writing(alloc, file, None, None)
         }
         Err(LibFault::Duplicate(name)) => {
             let origins = Origins {
@@ -73,6 +70,7 @@ fn pack_modules<'a>(alloc: Global, pack: &Pack<'a>, modules: &[Module]) -> Resul
             let fault = LinkFault::OverlapName(name);
             Err(link_refusal(alloc, &origins, modules, &fault))
         }
-        Err(_) => Err(Refusal::NoMemory),
+        Err(LibFault::NoMemory) => Err(Refusal::NoMemory),
+        Err(_) => unreachable!(),
     }
 }

@@ -5,6 +5,7 @@ ghost use Rattle.kc_kit_words.specs.Asked.{asked, AreLinkable, IsWithin};
 ghost use Rattle.kc_kit_words.specs.Inputs.{inputs_in};
 ghost use Rattle.kc_kit_words.specs.Values.{max_states};
 ghost use Rattle.kc_kit_inputs.specs.Driving.{given_in, AreShort};
+ghost use Rattle.kc_kit_inputs.specs.FaultNotes.{IsFaultNote};
 ghost use Rattle.kc_kit_answer.specs.Jobs.{IsBoardWithLines, IsPrepared, Prepares};
 ghost use Rattle.kc_kit_answer.specs.Places.{Placing};
 ghost use Rattle.kc_kit_answer.specs.Profile.{map_entry, DrivenWithLines, FilledWithLines, LinesTold, ProfileAnswer, ProfileHexAnswer};
@@ -18,7 +19,7 @@ use kc_kit_files::{Refusal, read_file, read_files};
 use kc_kit_inputs::{Given, assemble_sources, given_for, read_inputs};
 use kc_kit_running::Board;
 use kc_kit_words::{Command, Profile, ProfileHex, Ranges};
-use kc_link::{LineAt, line_map};
+use kc_link::{LineAt, LinkFault, line_map};
 use kc_link_source_laws::linked_image;
 use kc_obj_module::Module;
 use std::alloc::Global;
@@ -100,7 +101,7 @@ fn profile_texts<'a>(
     requires count { length texts.now ≡ length run.now.files.now }
     requires short { AllShort (map (λ t. t.items) texts.now) }
     requires inputs { AllShort (map (λ t. t.items) inputs.now) }
-    ensures { IsPrepared (ProfileAnswer (map string_bytes run.now.files.now) (inputs_in run.now.inputs) run.now.states run.now.placing run.now.out.now (map (λ t. t.items) texts.now) (map (λ t. t.items) inputs.now)) result }
+    ensures { IsPrepared (ProfileAnswer IsFaultNote (map string_bytes run.now.files.now) (inputs_in run.now.inputs) run.now.states run.now.placing run.now.out.now (map (λ t. t.items) texts.now) (map (λ t. t.items) inputs.now)) result }
 {
     let given = given_for(run.inputs, inputs);
     match board_and_lines(alloc, run.files, texts, &run.placing, given) {
@@ -127,7 +128,7 @@ fn board_and_lines(
     requires count { length texts.now ≡ length names.now }
     requires short { AllShort (map (λ t. t.items) texts.now) }
     requires given { AreShort given }
-    ensures { IsBoardWithLines (LinesTold (map string_bytes names.now) (given_in given.entry) placing.now (map (λ t. t.items) texts.now)) result }
+    ensures { IsBoardWithLines (LinesTold IsFaultNote (map string_bytes names.now) (given_in given.entry) placing.now (map (λ t. t.items) texts.now)) result }
 {
     sources_are_read_well();
     linked_image();
@@ -153,8 +154,10 @@ fn linked(
         Ok(board) => board,
         Err(refusal) => return Err(refusal),
     };
-    let Ok(lines) = line_map(alloc, modules, placing) else {
-        return Err(Refusal::NoMemory);
+    let lines = match line_map(alloc, modules, placing) {
+        Ok(lines) => lines,
+        Err(LinkFault::NoMemory) => return Err(Refusal::NoMemory),
+        Err(_) => unreachable!(),
     };
     match entries_of(alloc, lines) {
         Ok(entries) => Ok((board, entries)),

@@ -1,3 +1,4 @@
 pub mod EndLemmas
+pub mod LongLemmas
 pub mod ReadLemmas
 pub mod ReplyLemmas

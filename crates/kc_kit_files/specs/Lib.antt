@@ -3,3 +3,4 @@ pub mod Notes
 pub mod Outside
 pub mod Reads
 pub mod Reply
+pub mod Writes

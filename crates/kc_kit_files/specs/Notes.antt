@@ -16,6 +16,13 @@ too_long = codes "the file has over 1,048,576 bytes"
 abbrev pub long_note : List ℕ → List ℕ
 long_note name = shown name ++ (codes ": error LONG: " ++ too_long ++ codes "\n")
 
+-- the sentence of a file that is not written, since no command would read it
+abbrev pub too_long_to_read : List ℕ
+too_long_to_read = codes "the file would be longer than the 1,048,576 bytes that commands read"
+
+abbrev pub long_output_note : List ℕ → List ℕ
+long_output_note name = shown name ++ (codes ": error LONG: " ++ too_long_to_read ++ codes "\n")
+
 abbrev pub read_note : List ℕ → List ℕ
 read_note name = file_note name (codes "the file could not be read")
 

@@ -13,4 +13,4 @@ pub use reading::{read_file, read_files};
 pub use refusal::{Cause, Refusal, refusal_of};
 pub use saying::{refuse, say};
 pub use status::Status;
-pub use writing::write_file;
+pub use writing::{long_output, write_file};

@@ -11,8 +11,8 @@ use kc_base::{FileFault, Files, NoMemory};
 use kc_kit_shown::shown;
 use std::alloc::Global;
 
-// The refusal of a file, with a line of three texts of which its name is the second, and with words behind its name.
-fn refused(
+/// The refusal of a file, with a line of three texts of which its name is the second, and with words behind its name.
+pub(crate) fn refused(
     alloc: Global,
     cause: Cause,
     before: &[u8],

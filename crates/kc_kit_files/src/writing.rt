@@ -1,10 +1,13 @@
-// A file that is written.
+// A file that is written, or refused since no command would read it.
 ghost use Rattle.std.specs.Prelude.{◌≡◌, ◌≤◌, ◌⊎◌};
 ghost use Rattle.kc_base.specs.Causes.{Rose};
-ghost use Rattle.kc_kit_files.specs.Reply.{write};
+ghost use Rattle.kc_kit_files.specs.Reply.{write, IsRefused};
+ghost use Rattle.kc_kit_files.specs.Writes.{long_output_reply};
 ghost use Rattle.kc_kit_files.specs.Outside.{WroteOne, OthersStay};
 
 use crate::Status;
+use crate::reading::refused;
+use crate::refusal::{Cause, Refusal};
 use kc_base::{FileFault, Files};
 use std::alloc::Global;
 
@@ -22,4 +25,14 @@ pub fn write_file<F: Files>(alloc: Global, name: &str, bytes: &[u8], files: &mut
         Err(FileFault::NoMemory) => Status::NoMemory,
         Err(_) => Status::WriteFault,
     }
+}
+
+/// The refusal of a file of this name that would be longer than the 1,048,576 bytes that commands read.
+pub fn long_output(alloc: Global, name: &str) -> Refusal
+    ensures { IsRefused (λ reply. reply ≡ long_output_reply name.now) result }
+{
+    let name = name.as_bytes();
+    let words =
+        b": error LONG: the file would be longer than the 1,048,576 bytes that commands read\n";
+    refused(alloc, Cause::Input, b"output ", name, b":0: LONG\n", words)
 }

@@ -1,5 +1,6 @@
 pub mod Analog
 pub mod Driving
+pub mod FaultNotes
 pub mod Hex
 pub mod Inputs
 pub mod Library

@@ -20,7 +20,8 @@ pub fn read_script(alloc: Global, name: &str, text: &[u8]) -> Result<Script, Ref
         Err(DebugFault::BadCommand(line)) => {
             Err(line_refusal(alloc, name, text, line, b"BADCOMMAND"))
         }
-        Err(_) => Err(Refusal::NoMemory),
+        Err(DebugFault::NoMemory) => Err(Refusal::NoMemory),
+        Err(_) => unreachable!(),
     }
 }
 
@@ -33,7 +34,8 @@ fn read_map(alloc: Global, name: &str, text: &[u8]) -> Result<LineMap, Refusal>
     match LineMap::read(alloc, text) {
         Ok(lines) => Ok(lines),
         Err(DebugFault::BadMap(line)) => Err(line_refusal(alloc, name, text, line, b"BADMAP")),
-        Err(_) => Err(Refusal::NoMemory),
+        Err(DebugFault::NoMemory) => Err(Refusal::NoMemory),
+        Err(_) => unreachable!(),
     }
 }
 

@@ -4,9 +4,7 @@ ghost use Rattle.kc_asm.specs.Assembled.{IsModule};
 ghost use Rattle.kc_kit_files.specs.Reply.{IsRefused};
 ghost use Rattle.kc_kit_files.specs.Reads.{AllShort};
 ghost use Rattle.kc_kit_inputs.specs.Lines as spec;
-ghost use Rattle.kc_asm_cause.specs.Cause.{IsCause};
-ghost use Rattle.kc_asm_subject.specs.Subject.{subject_of};
-ghost use Rattle.kc_kit_notes.specs.Subjects.{source_note, body_note};
+ghost use Rattle.kc_kit_inputs.specs.FaultNotes.{IsFaultNote};
 ghost use Rattle.kc_kit_inputs.specs.Sources.{AreModules, Tells, TellsFault, TellsFirst};
 
 use crate::input_lines::{coded, place_text};
@@ -20,7 +18,7 @@ use kc_lex::SourceFault;
 use kc_obj_module::Module;
 use std::alloc::Global;
 
-// The note of a fault of a source, with the name that it is about, and the line of a macro's body that has it.
+// The note of a fault of a source: its sentence, with the name that it is about, and the line of a macro's body that has it.
 fn fault_note(
     alloc: Global,
     name: &[u8],
@@ -28,10 +26,10 @@ fn fault_note(
     line: u32,
     number: u8,
     code: &[u8],
-) -> Result<(Vec<u8>, Option<u32>), NoMemory>
-    requires { length text.now ≤ 1048576 }
-    ensures cause { IfOk result (λ told. IsCause text.now line number told.1) }
-    ensures note { IfOk result (λ told. told.0.items ≡ source_note name.now text.now line code.now number (subject_of text.now line number) ++ body_note name.now text.now told.1) }
+) -> Result<Vec<u8>, NoMemory>
+    requires short { length text.now ≤ 1048576 }
+    requires code { code.now ≡ spec.coded (codes "E") number }
+    ensures { IfOk result (λ note. IsFaultNote name.now text.now line number note.items) }
 {
     let mut note = match subject(alloc, text, line, number)? {
         Some(about) => {
@@ -42,36 +40,35 @@ fn fault_note(
     };
     let body_line = cause(alloc, text, line, number)?;
     put_body_line(&mut note, name, text, body_line)?;
-    Ok((note, body_line))
+    Ok(note)
 }
 
-// The place and the code of a fault of a source as they are printed, its note, and the line of a macro's body that has it.
+// The place and the code of a fault of a source as they are printed, and its note.
 fn fault_texts(
     alloc: Global,
     name: &[u8],
     text: &[u8],
     line: u32,
     number: u8,
-) -> Result<(Vec<u8>, (Vec<u8>, Option<u32>)), NoMemory>
+) -> Result<(Vec<u8>, Vec<u8>), NoMemory>
     requires { length text.now ≤ 1048576 }
     ensures printed { IfOk result (λ texts. texts.0.items ≡ spec.place_text line (spec.coded (codes "E") number)) }
-    ensures cause { IfOk result (λ texts. IsCause text.now line number texts.1.1) }
-    ensures note { IfOk result (λ texts. texts.1.0.items ≡ source_note name.now text.now line (spec.coded (codes "E") number) number (subject_of text.now line number) ++ body_note name.now text.now texts.1.1) }
+    ensures note { IfOk result (λ texts. IsFaultNote name.now text.now line number texts.1.items) }
 {
     let code = coded(alloc, b"E", number)?;
     let printed = place_text(alloc, line, &code)?;
-    let told = fault_note(alloc, name, text, line, number, &code)?;
-    Ok((printed, told))
+    let note = fault_note(alloc, name, text, line, number, &code)?;
+    Ok((printed, note))
 }
 
 // The refusal of a source with a fault: its line and the number of its code.
 fn source_refusal(alloc: Global, name: &str, text: &[u8], line: u32, number: u8) -> Refusal
     requires { length text.now ≤ 1048576 }
-    ensures { IsRefused (Tells name.now text.now line number) result }
+    ensures { IsRefused (Tells IsFaultNote name.now text.now line number) result }
 {
     let name = name.as_bytes();
     match fault_texts(alloc, name, text, line, number) {
-        Ok((printed, (note, _))) => refusal_of(
+        Ok((printed, note)) => refusal_of(
             alloc,
             Cause::Source,
             b"source ",
@@ -87,7 +84,7 @@ fn source_refusal(alloc: Global, name: &str, text: &[u8], line: u32, number: u8)
 pub fn assemble_source(alloc: Global, name: &str, text: &[u8]) -> Result<Module, Refusal>
     requires { length text.now ≤ 1048576 }
     ensures made { IfOk result (λ m. IsModule text.now m) }
-    ensures refusal { IfErr result (IsRefused (TellsFault name.now text.now)) }
+    ensures refusal { IfErr result (IsRefused (TellsFault IsFaultNote name.now text.now)) }
 {
     match assemble(alloc, text) {
         Ok(made) => Ok(made),
@@ -113,7 +110,7 @@ pub fn assemble_sources(
     requires short { AllShort (map (λ t. t.items) texts.now) }
     ensures made { IfOk result (λ ms. AreModules (map (λ t. t.items) texts.now) ms.items) }
     ensures count { IfOk result (λ ms. length ms.items ≡ length names.now) }
-    ensures refusal { IfErr result (IsRefused (TellsFirst (map string_bytes names.now) (map (λ t. t.items) texts.now))) }
+    ensures refusal { IfErr result (IsRefused (TellsFirst IsFaultNote (map string_bytes names.now) (map (λ t. t.items) texts.now))) }
 {
     let mut modules = Vec::new(alloc);
     for i in 0..names.len() {

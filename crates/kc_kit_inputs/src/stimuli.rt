@@ -7,7 +7,7 @@ ghost use Rattle.kc_kit_inputs.specs.Stimuli.{stimuli_of, drives_of};
 
 use crate::input_lines::line_refusal;
 use kc_kit_files::Refusal;
-use kc_stim::Stimuli;
+use kc_stim::{StimFault, Stimuli};
 use std::alloc::Global;
 
 // The stimuli that a text says, or the refusal of its first fault.
@@ -18,9 +18,10 @@ fn read_stimuli(alloc: Global, name: &str, text: &[u8]) -> Result<Stimuli, Refus
 {
     match Stimuli::read(alloc, text) {
         Ok(stimuli) => Ok(stimuli),
+        Err(StimFault::NoMemory) => Err(Refusal::NoMemory),
         Err(fault) => match fault.place() {
             Some((line, code)) => Err(line_refusal(alloc, name, text, line, code)),
-            None => Err(Refusal::NoMemory),
+            None => unreachable!(),
         },
     }
 }

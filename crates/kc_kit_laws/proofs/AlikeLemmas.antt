@@ -1,5 +1,5 @@
 -- Objects that are linked and run, as sources are.
-use Rattle.std.proofs.Common.{◌≡◌, ℕ, zero, suc, ◌<◌, ◌^◌, Bool, true, List, [], ◌∷◌, length, map, Some, None, Result, Ok, Err, refl, ◌∙◌, ap, subst, arith}
+use Rattle.std.proofs.Common.{◌≡◌, ℕ, zero, suc, ◌<◌, ◌^◌, Bool, true, List, [], ◌∷◌, length, map, Some, None, Result, Ok, Err, refl, sym, ◌∙◌, ap, subst, arith}
 use Rattle.std.specs.Prelude.{nat_lt, slice_get, slice_index}
 use Rattle.std.specs.List.{list_all}
 use Rattle.std.proofs.lemmas.Bool.{and_parts, and_from}
@@ -24,15 +24,19 @@ use Rattle.kc_asm_laws.specs.Modules.{ModulesFit}
 use Rattle.kc_asm_laws.specs.Images.{AreModulesOf, FilledAreBytes}
 use Rattle.kc_kit_files.specs.declared.status.Status.TheVariants as status
 use Rattle.kc_kit_files.specs.Reply.{Reply, Write, write, done_writing, before, joined, Then}
+use Rattle.kc_kit_files.specs.Writes.{AreReadable}
+use Rattle.kc_kit_files.proofs.LongLemmas.{written-all}
 use Rattle.kc_kit_inputs.specs.Hex.{by_image}
 use Rattle.kc_kit_inputs.specs.declared.driving.Driving.{Driving}
 use Rattle.kc_kit_inputs.specs.Driving.{GivenFiles, given_for, driving_of}
 use Rattle.kc_kit_inputs.specs.Objects.{modules_of, by_object, object_of}
+use Rattle.kc_kit_inputs.specs.FaultNotes.{IsFaultNote}
 use Rattle.kc_kit_inputs.specs.Sources.{AreModules}
 use Rattle.kc_kit_answer.specs.Link.{Completed, LinksTo}
 use Rattle.kc_kit_answer.specs.Places.{by_places, places_of, Placing}
 use Rattle.kc_kit_answer.specs.Run.{Driven, LinkedTold, RunAnswer}
 use Rattle.kc_kit_running.specs.Lives.{board_reply}
+use Rattle.kc_kit_answer.proofs.HexLengths.{hex-short}
 use Rattle.kc_kit_answer.proofs.AnswerSteps.{then-ok, then-map}
 use Rattle.kc_kit_answer.proofs.SourceLemmas.{image-of}
 use Rattle.kc_kit_laws.specs.Alike.{hex_alone, RunsAlike}
@@ -104,9 +108,10 @@ alike fits bytes well linked spelled read names objects texts ms inputs input_te
     tell : Driving → List ℕ → Reply
     tell = board_reply extent
 
-    by : (x : Result Places LinkFault) → placed ms ranges ≡ x → Then (by_places objects ms x) (LinksTo file hex_alone ranges ms) (done_writing (write file hex ∷ [])) → RunAnswer names inputs extent ranges texts input_texts reply
+    by : (x : Result Places LinkFault) → placed ms ranges ≡ x → Then (by_places objects ms x) (LinksTo file hex_alone ranges ms) (done_writing (write file hex ∷ [])) → RunAnswer IsFaultNote names inputs extent ranges texts input_texts reply
     by (Ok places) e k =
-        let same : hex ≡ records.spelling k.image = ap (λ (r : Reply). first_bytes r.writes) k.done in
+        let written = k.done ∙ written-all (write file (records.spelling k.image) ∷ k.more) [] (hex-short k.image, subst AreReadable (sym k.is_map) tt) in
+        let same : hex ≡ records.spelling k.image = ap (λ (r : Reply). first_bytes r.writes) written in
         let image : image_of hex ≡ Ok k.image = ap image_of same ∙ read k.image (record { len = k.is_filled.long; bytes = λ i. byte-at k.image i (bytes texts ms ranges places k.image (of-texts texts ms made) e k.is_filled) }) in
         let driven : Then (driving_of given) (λ driving reply. reply ≡ tell driving k.image) reply =
         subst (λ (x : Result (List ℕ) (ℕ × ℕ)). Then (by_image file hex x) (λ image. Then (driving_of given) (λ driving reply. reply ≡ tell driving image)) reply) image h in (

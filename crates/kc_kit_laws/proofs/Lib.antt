@@ -1,4 +1,5 @@
 mod AlikeLemmas
 mod OneAnswerLemmas
 mod OutcomeLemmas
+mod ReadableLemmas
 mod StartLevels

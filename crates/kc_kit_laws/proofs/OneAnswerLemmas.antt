@@ -1,4 +1,4 @@
--- A command has one answer: each step gives one thing, by the laws of texts, images, line maps and libraries.
+-- A command has one answer and one note: each step gives one thing, by the laws of texts, images, line maps and libraries.
 use Rattle.std.specs.Prelude.{codes}
 use Rattle.std.proofs.Common.{◌≡◌, inl, inr, ℕ, List, [], ◌∷◌, ◌++◌, length, take, drop, Option, Some, None, Result, Ok, Err, map, refl, sym, ◌∙◌, ap, subst, arith}
 use Rattle.kc_source.specs.Faults.{Fault}
@@ -18,16 +18,17 @@ use Rattle.kc_link.specs.Laws.{OneImage}
 use Rattle.kc_link.specs.declared.lines.LineAt.{LineAt}
 use Rattle.kc_link_laws.specs.Linked.{OneLineMap}
 use Rattle.kc_asm.specs.Assembled.{IsModule}
-use Rattle.kc_asm_cause.specs.Cause.{IsCause}
+use Rattle.kc_asm_subject.specs.Subject.{subject_of}
 use Rattle.kc_asm_cause_laws.specs.OneCause.{OneCause}
 use Rattle.kc_asm_laws.specs.Modules.{OneAnswerOfText}
 use Rattle.kc_asm_list_laws.specs.Laws.{OneListing}
 use Rattle.kc_kit_files.specs.declared.status.Status.TheVariants as status
 use Rattle.kc_kit_files.specs.Reply.{Reply, Write, write, says, done_writing, Then}
+use Rattle.kc_kit_files.specs.Writes.{writing_readable}
 use Rattle.kc_kit_files.specs.Reads.{reads_of}
 use Rattle.kc_kit_words.specs.declared.inputs.Role.{Role}
 use Rattle.kc_kit_words.specs.declared.inputs.Role.TheVariants as role
-use Rattle.kc_kit_words.specs.Commands.{Beside, Helps, HelpsOn, TellsVersion, Runs, Profiles, Assembles, Packs, Links, RunsHex, ProfilesHex, Lists, Debugs, Generates, Dumps, Explains, names_of}
+use Rattle.kc_kit_words.specs.Commands.{Beside, Command, Helps, HelpsOn, TellsVersion, Runs, Profiles, Assembles, Packs, Links, RunsHex, ProfilesHex, Lists, Debugs, Generates, Dumps, Explains, names_of}
 use Rattle.kc_kit_words.specs.Words.{placing_of}
 use Rattle.kc_kit_inputs.specs.Hex.{hex_of}
 use Rattle.kc_kit_inputs.specs.declared.driving.Driving.{Driving}
@@ -36,9 +37,11 @@ use Rattle.kc_kit_inputs.specs.Inputs.{input_for}
 use Rattle.kc_kit_inputs.specs.Library.{library_of, TakenAre}
 use Rattle.kc_kit_inputs.specs.Replies.{source_reply, line_reply}
 use Rattle.kc_kit_inputs.specs.Objects.{modules_of, object_of}
-use Rattle.kc_kit_inputs.specs.Sources.{Tells, TellsFault, SourceIs, AreModules, TellsFirst, SourcesAre}
+use Rattle.kc_kit_inputs.specs.FaultNotes.{IsFaultNote}
+use Rattle.kc_kit_inputs.specs.Lines.{coded}
+use Rattle.kc_kit_inputs.specs.Sources.{NoteRule, AnyNote, Tells, TellsFault, SourceIs, AreModules, TellsFirst, SourcesAre}
 use Rattle.kc_kit_inputs.specs.Traces.{TraceIs}
-use Rattle.kc_kit_answer.specs.Answer.{OneText, TwoTexts, Parted}
+use Rattle.kc_kit_answer.specs.Answer.{OneText, TwoTexts, Parted, CommandAnswer}
 use Rattle.kc_kit_answer.specs.Assemble.{AreListings, WritesObject, AssembleAnswer}
 use Rattle.kc_kit_answer.specs.Debug.{DebugAnswer, debug_reply}
 use Rattle.kc_kit_answer.specs.Dump.{WritesDump, DumpAnswer}
@@ -46,6 +49,7 @@ use Rattle.kc_kit_running.specs.Counted.{summary_of}
 use Rattle.kc_kit_answer.specs.Generate.{made_names, made_texts, made_given}
 use Rattle.kc_kit_answer.specs.Hex.{HexTold, RunHexAnswer, ListAnswer, ListingOf}
 use Rattle.kc_kit_notes.specs.Rules.{member_words}
+use Rattle.kc_kit_notes.specs.Subjects.{source_note, body_note}
 use Rattle.kc_kit_answer.specs.Lines.{map_text}
 use Rattle.kc_kit_answer.specs.Link.{IsMap, map_writes, LinksTo, Taking, Completed, LinkAnswer}
 use Rattle.kc_kit_answer.specs.Pack.{packed, PackAnswer}
@@ -55,7 +59,7 @@ use Rattle.kc_kit_running.specs.Profiled.{profile_reply}
 use Rattle.kc_kit_answer.specs.Profile.{map_entry, DrivenWithLines, LinkedWithLines, LinesTold, ProfileAnswer, ProfileHexAnswer}
 use Rattle.kc_kit_answer.specs.Run.{LinkedTold, Driven, SourcesTold, RunAnswer}
 use Rattle.kc_kit_running.specs.Lives.{board_reply}
-use Rattle.kc_kit_laws.specs.OneAnswer.{OneAnswer}
+use Rattle.kc_kit_laws.specs.OneAnswer.{silent, OneAnswer, OneNote}
 
 -- ---- steps
 
@@ -97,19 +101,8 @@ pub record Laws : Type 0 where
   pub taken : TakenOnce
   pub traces : OneReading
   pub listings : OneListing
-  pub causes : OneCause
 
 -- ---- sources
-
-abbrev found : Object → Result Object Reply
-found m = Ok m
-
-abbrev refused : Reply → Result Object Reply
-refused r = Err r
-
--- the reply to a fault
-abbrev told_of : List ℕ → List ℕ → Fault → Option ℕ → Reply
-told_of name text fault cause = source_reply name text fault.0 fault.1 cause
 
 of_ok : (m n : Object) (x y : Result Object Fault) → x ≡ Ok m → y ≡ Ok n → x ≡ y → m ≡ n
 of_ok m n x y e f g = cc (e, f, g)
@@ -120,27 +113,9 @@ of_err d e x y f g h = cc (f, g, h)
 ok_or_err : (m : Object) (d : Fault) (x y : Result Object Fault) → x ≡ Ok m → y ≡ Err d → x ≡ y → ⊥
 ok_or_err m d x y e f g = cc (e, f, g)
 
-module _ (law : OneAnswerOfText) (causes : OneCause) where
+module _ (law : OneAnswerOfText) where
   one_module : (text : List ℕ) (m n : Object) → IsModule text m → IsModule text n → m ≡ n
   one_module text m n h k = of_ok m n (Ok m) (Ok n) refl refl (law text (Ok m) (Ok n) h k)
-
-  no_fault : (name text : List ℕ) (m : Object) (r : Reply) → IsModule text m → TellsFault name text r → ⊥
-  no_fault name text m r h k = ok_or_err m (k.0, k.1) (Ok m) (Err (k.0, k.1)) refl refl (law text (Ok m) (Err (k.0, k.1)) h k.2)
-
-  told_once : (name text : List ℕ) (f g : Fault) (r s : Reply) → f ≡ g → Tells name text f.0 f.1 r → Tells name text g.0 g.1 s → r ≡ s
-  told_once name text f g r s e h k =
-      let there : Tells name text g.0 g.1 r = subst (λ (d : Fault). Tells name text d.0 d.1 r) e h in
-      there.2 ∙ (ap (told_of name text g) (causes text g.0 g.1 there.0 k.0 there.1 k.1) ∙ sym k.2)
-
-  one_fault : (name text : List ℕ) → IsOne (TellsFault name text)
-  one_fault name text r s h k =
-      told_once name text (h.0, h.1) (k.0, k.1) r s (of_err (h.0, h.1) (k.0, k.1) (Err (h.0, h.1)) (Err (k.0, k.1)) refl refl (law text (Err (h.0, h.1)) (Err (k.0, k.1)) h.2 k.2)) h.3 k.3
-
-  one_source : (name text : List ℕ) (x y : Result Object Reply) → SourceIs name text x → SourceIs name text y → x ≡ y
-  one_source name text (Ok m) (Ok n) h k = ap found (one_module text m n h k)
-  one_source name text (Ok m) (Err r) h k = absurd (no_fault name text m r h k)
-  one_source name text (Err r) (Ok m) h k = absurd (no_fault name text m r k h)
-  one_source name text (Err r) (Err s) h k = ap refused (one_fault name text r s h k)
 
   one_modules : (texts : List (List ℕ)) (ms ns : List Object) → AreModules texts ms → AreModules texts ns → ms ≡ ns
   one_modules [] [] [] h k = refl
@@ -152,27 +127,6 @@ module _ (law : OneAnswerOfText) (causes : OneCause) where
       let first : m ≡ n = one_module t m n h.0 k.0 in
       let rest : ms ≡ ns = one_modules ts ms ns h.1 k.1 in
       (λ i. first i ∷ rest i)
-
-  no_first : (names texts : List (List ℕ)) (ms : List Object) (r : Reply) → AreModules texts ms → TellsFirst names texts r → ⊥
-  no_first [] texts ms r h k = absurd k
-  no_first (name ∷ names) [] ms r h k = absurd k
-  no_first (name ∷ names) (t ∷ ts) [] r h k = absurd h
-  no_first (name ∷ names) (t ∷ ts) (m ∷ ms) r h (inl k) = no_fault name t m r h.0 k
-  no_first (name ∷ names) (t ∷ ts) (m ∷ ms) r h (inr k) = no_first names ts ms r h.1 k.1
-
-  one_first : (names texts : List (List ℕ)) → IsOne (TellsFirst names texts)
-  one_first [] texts r s h k = absurd h
-  one_first (name ∷ names) [] r s h k = absurd h
-  one_first (name ∷ names) (t ∷ ts) r s (inl h) (inl k) = one_fault name t r s h k
-  one_first (name ∷ names) (t ∷ ts) r s (inl h) (inr k) = absurd (no_fault name t k.0.0 r k.0.1 h)
-  one_first (name ∷ names) (t ∷ ts) r s (inr h) (inl k) = absurd (no_fault name t h.0.0 s h.0.1 k)
-  one_first (name ∷ names) (t ∷ ts) r s (inr h) (inr k) = one_first names ts r s h.1 k.1
-
-  one_sources : (names texts : List (List ℕ)) (x y : Result (List Object) Reply) → SourcesAre names texts x → SourcesAre names texts y → x ≡ y
-  one_sources names texts (Ok ms) (Ok ns) h k = (let same : ms ≡ ns = one_modules texts ms ns h k in λ i. Ok (same i))
-  one_sources names texts (Ok ms) (Err r) h k = absurd (no_first names texts ms r h k)
-  one_sources names texts (Err r) (Ok ms) h k = absurd (no_first names texts ms r k h)
-  one_sources names texts (Err r) (Err s) h k = (let same : r ≡ s = one_first names texts r s h k in λ i. Err (same i))
 
 -- ---- images and line maps
 
@@ -205,7 +159,7 @@ module _ (images : OneImage) where
       let image : h.image ≡ k.image = images ms places h.image k.image h.is_filled k.is_filled in
       let more : h.more ≡ k.more = one_map maps beside.lines ms places h.more k.more h.is_map k.is_map in
       let maps = map_writes beside.map ms ranges places in
-      let both : done_writing (write out (spelling h.image) ∷ h.more ++ maps) ≡ done_writing (write out (spelling k.image) ∷ k.more ++ maps) = λ i. done_writing (write out (spelling (image i)) ∷ more i ++ maps) in
+      let both : writing_readable (write out (spelling h.image) ∷ h.more) maps ≡ writing_readable (write out (spelling k.image) ∷ k.more) maps = λ i. writing_readable (write out (spelling (image i)) ∷ more i) maps in
       h.done ∙ (both ∙ sym k.done)
 
 -- ---- traces
@@ -247,26 +201,13 @@ one_completed law names (Some library) may one ms =
 -- ---- commands
 
 module _ (laws : Laws) where
-  one_told_sources : (names : List (List ℕ)) (given : GivenFiles) (ranges : Ranges) (texts : List (List ℕ)) (tell : Driving → List ℕ → Reply) → IsOne (SourcesTold names given ranges texts tell)
-  one_told_sources names given ranges texts tell =
-      one_given (SourcesAre names texts) (Placing names ranges (Driven given (LinkedTold texts) tell)) (one_sources laws.texts laws.causes names texts)
-      (one_placing names ranges (Driven given (LinkedTold texts) tell) (one_driven laws.images texts given tell))
-
-  one_told_lines : (names : List (List ℕ)) (given : GivenFiles) (ranges : Ranges) (texts : List (List ℕ)) (tell : List MapEntry → Driving → List ℕ → Reply) → IsOne (LinesTold names given ranges texts tell)
-  one_told_lines names given ranges texts tell =
-      one_given (SourcesAre names texts) (Placing names ranges (DrivenWithLines given (LinkedWithLines texts) tell)) (one_sources laws.texts laws.causes names texts)
-      (one_placing names ranges (DrivenWithLines given (LinkedWithLines texts) tell) (one_driven_lines laws.images laws.maps texts given tell))
-
   one_listed : (list : Option (List ℕ)) (text : List ℕ) (m : Object) (ws vs : List Write) → AreListings list text m ws → AreListings list text m vs → ws ≡ vs
   one_listed None text m ws vs h k = h ∙ sym k
   one_listed (Some name) text m ws vs h k = h.2 ∙ (ap (λ l. write name l ∷ []) (laws.listings text m h.0 k.0 h.1 k.1) ∙ sym k.2)
 
   one_object : (out : List ℕ) (list : Option (List ℕ)) (text : List ℕ) (m : Object) → IsOne (WritesObject out list text m)
   one_object out list text m r s h k =
-      h.2 ∙ (ap (λ ws. done_writing (write out (objects.spelling m) ∷ ws)) (one_listed list text m h.0 k.0 h.1 k.1) ∙ sym k.2)
-
-  one_assembled : (file out : List ℕ) (list : Option (List ℕ)) (text : List ℕ) → IsOne (AssembleAnswer file out list text)
-  one_assembled file out list text = one_given (SourceIs file text) (WritesObject out list text) (one_source laws.texts laws.causes file text) (one_object out list text)
+      h.2 ∙ (ap (writing_readable (write out (objects.spelling m) ∷ [])) (one_listed list text m h.0 k.0 h.1 k.1) ∙ sym k.2)
 
   one_link : (files : List (List ℕ)) (inputs : List (Role × List ℕ)) (out : List ℕ) (beside : Beside) (ranges : Ranges) (texts more : List (List ℕ)) → IsOne (LinkAnswer files inputs out beside ranges texts more)
   one_link files inputs out beside ranges texts more =
@@ -281,41 +222,128 @@ module _ (laws : Laws) where
   one_dump : (file out : List ℕ) (clock : ℕ) (text : List ℕ) → IsOne (DumpAnswer file out clock text)
   one_dump file out clock text = one_given (TraceIs file text) (WritesDump out clock) (one_read laws.traces file text) (λ items. one_told (done_writing (write out (dump_of (state_length clock) items) ∷ [])))
 
-  pub one_answer : OneAnswer
-  one_answer None contents r s h k = h ∙ sym k
-  one_answer (Some Helps) contents r s h k = h ∙ sym k
-  one_answer (Some (HelpsOn verb)) contents r s h k = h ∙ sym k
-  one_answer (Some TellsVersion) contents r s h k = h ∙ sym k
-  one_answer (Some (Runs files inputs extent ranges)) contents r s h k =
-      one_then (reads_of (files ++ names_of inputs) contents) (Parted (length files) (RunAnswer files inputs extent ranges))
-      (λ texts. one_told_sources files (given_for inputs (drop (length files) texts)) ranges (take (length files) texts) (board_reply extent)) r s h k
-  one_answer (Some (Profiles files inputs states ranges out)) contents r s h k =
-      one_then (reads_of (files ++ names_of inputs) contents) (Parted (length files) (ProfileAnswer files inputs states ranges out))
-      (λ texts. one_told_lines files (given_for inputs (drop (length files) texts)) ranges (take (length files) texts) (profile_reply states out)) r s h k
-  one_answer (Some (ProfilesHex file inputs states out)) contents r s h k =
-      one_then (reads_of (file ∷ names_of inputs) contents) (Parted 1 (λ texts more. OneText (λ text. ProfileHexAnswer file inputs states out text more) texts))
+-- ---- sources that may be refused, by a rule of notes and a relation of replies that holds of notes of one fault
+
+module _
+    (IsNote : NoteRule) (Same : Reply → Reply → Type 0) (whole : (r : Reply) → Same r r)
+    (noted : (name text : List ℕ) (line code : ℕ) (n m : List ℕ) → IsNote name text line code n → IsNote name text line code m → Same (source_reply name line code n) (source_reply name line code m))
+    (laws : Laws)
+where
+  -- at most one reply may be given, but for the relation
+  abbrev AreOne : (Reply → Type 0) → Type 0
+  AreOne may = (r s : Reply) → may r → may s → Same r s
+
+  equal : (r s : Reply) → r ≡ s → Same r s
+  equal r s e = subst (Same r) e (whole r)
+
+  moved : (d e r s : Reply) → r ≡ d → s ≡ e → Same d e → Same r s
+  moved d e r s f g h = subst (λ (x : Reply). Same x s) (sym f) (subst (Same d) (sym g) h)
+
+  then_one : {A : Type 0} (x : Result A Reply) (may : A → Reply → Type 0) → ((a : A) → AreOne (may a)) → AreOne (Then x may)
+  then_one (Ok a) may one r s h k = one a r s h k
+  then_one (Err e) may one r s h k = equal r s (h ∙ sym k)
+
+  told_once : (name text : List ℕ) (f g : Fault) (r s : Reply) → f ≡ g → Tells IsNote name text f.0 f.1 r → Tells IsNote name text g.0 g.1 s → Same r s
+  told_once name text f g r s e h k =
+      let there : Tells IsNote name text g.0 g.1 r = subst (λ (d : Fault). Tells IsNote name text d.0 d.1 r) e h in
+      moved (source_reply name g.0 g.1 there.0) (source_reply name g.0 g.1 k.0) r s there.2 k.2 (noted name text g.0 g.1 there.0 k.0 there.1 k.1)
+
+  fault_once : (name text : List ℕ) → AreOne (TellsFault IsNote name text)
+  fault_once name text r s h k =
+      told_once name text (h.0, h.1) (k.0, k.1) r s
+      (of_err (h.0, h.1) (k.0, k.1) (Err (h.0, h.1)) (Err (k.0, k.1)) refl refl (laws.texts text (Err (h.0, h.1)) (Err (k.0, k.1)) h.2 k.2)) h.3 k.3
+
+  no_fault : (name text : List ℕ) (m : Object) (r : Reply) → IsModule text m → TellsFault IsNote name text r → ⊥
+  no_fault name text m r h k = ok_or_err m (k.0, k.1) (Ok m) (Err (k.0, k.1)) refl refl (laws.texts text (Ok m) (Err (k.0, k.1)) h k.2)
+
+  no_first : (names texts : List (List ℕ)) (ms : List Object) (r : Reply) → AreModules texts ms → TellsFirst IsNote names texts r → ⊥
+  no_first [] texts ms r h k = absurd k
+  no_first (name ∷ names) [] ms r h k = absurd k
+  no_first (name ∷ names) (t ∷ ts) [] r h k = absurd h
+  no_first (name ∷ names) (t ∷ ts) (m ∷ ms) r h (inl k) = no_fault name t m r h.0 k
+  no_first (name ∷ names) (t ∷ ts) (m ∷ ms) r h (inr k) = no_first names ts ms r h.1 k.1
+
+  first_once : (names texts : List (List ℕ)) → AreOne (TellsFirst IsNote names texts)
+  first_once [] texts r s h k = absurd h
+  first_once (name ∷ names) [] r s h k = absurd h
+  first_once (name ∷ names) (t ∷ ts) r s (inl h) (inl k) = fault_once name t r s h k
+  first_once (name ∷ names) (t ∷ ts) r s (inl h) (inr k) = absurd (no_fault name t k.0.0 r k.0.1 h)
+  first_once (name ∷ names) (t ∷ ts) r s (inr h) (inl k) = absurd (no_fault name t h.0.0 s h.0.1 k)
+  first_once (name ∷ names) (t ∷ ts) r s (inr h) (inr k) = first_once names ts r s h.1 k.1
+
+  -- what goes on with the module of a source, and with those of sources
+  source_once : (name text : List ℕ) (may : Object → Reply → Type 0) → ((m : Object) → IsOne (may m)) → AreOne (λ r. (x : Result Object Reply) × SourceIs IsNote name text x × Then x may r)
+  source_once name text may one r s (Ok m, made, h) (Ok n, other, k) = equal r s (one m r s h (subst (λ (o : Object). may o s) (one_module laws.texts text n m other made) k))
+  source_once name text may one r s (Ok m, made, h) (Err e, told, k) = absurd (no_fault name text m e made told)
+  source_once name text may one r s (Err d, told, h) (Ok n, made, k) = absurd (no_fault name text n d made told)
+  source_once name text may one r s (Err d, told, h) (Err e, other, k) = moved d e r s h k (fault_once name text d e told other)
+
+  sources_once : (names texts : List (List ℕ)) (may : List Object → Reply → Type 0) → ((ms : List Object) → IsOne (may ms)) → AreOne (λ r. (x : Result (List Object) Reply) × SourcesAre IsNote names texts x × Then x may r)
+  sources_once names texts may one r s (Ok ms, made, h) (Ok ns, other, k) = equal r s (one ms r s h (subst (λ (os : List Object). may os s) (one_modules laws.texts texts ns ms other made) k))
+  sources_once names texts may one r s (Ok ms, made, h) (Err e, told, k) = absurd (no_first names texts ms e made told)
+  sources_once names texts may one r s (Err d, told, h) (Ok ns, made, k) = absurd (no_first names texts ns d made told)
+  sources_once names texts may one r s (Err d, told, h) (Err e, other, k) = moved d e r s h k (first_once names texts d e told other)
+
+  told_sources : (names : List (List ℕ)) (given : GivenFiles) (ranges : Ranges) (texts : List (List ℕ)) (tell : Driving → List ℕ → Reply) → AreOne (SourcesTold IsNote names given ranges texts tell)
+  told_sources names given ranges texts tell =
+      sources_once names texts (Placing names ranges (Driven given (LinkedTold texts) tell)) (one_placing names ranges (Driven given (LinkedTold texts) tell) (one_driven laws.images texts given tell))
+
+  told_lines : (names : List (List ℕ)) (given : GivenFiles) (ranges : Ranges) (texts : List (List ℕ)) (tell : List MapEntry → Driving → List ℕ → Reply) → AreOne (LinesTold IsNote names given ranges texts tell)
+  told_lines names given ranges texts tell =
+      sources_once names texts (Placing names ranges (DrivenWithLines given (LinkedWithLines texts) tell))
+      (one_placing names ranges (DrivenWithLines given (LinkedWithLines texts) tell) (one_driven_lines laws.images laws.maps texts given tell))
+
+  assembled : (file out : List ℕ) (list : Option (List ℕ)) (texts : List (List ℕ)) → AreOne (OneText (AssembleAnswer IsNote file out list) texts)
+  assembled file out list [] r s h k = absurd h
+  assembled file out list (t ∷ []) r s h k = source_once file t (WritesObject out list t) (one_object laws out list t) r s h k
+  assembled file out list (t ∷ u ∷ texts) r s h k = absurd h
+
+  answers : (command : Option Command) (contents : List (Option (List ℕ))) → AreOne (CommandAnswer IsNote command contents)
+  answers None contents r s h k = equal r s (h ∙ sym k)
+  answers (Some Helps) contents r s h k = equal r s (h ∙ sym k)
+  answers (Some (HelpsOn verb)) contents r s h k = equal r s (h ∙ sym k)
+  answers (Some TellsVersion) contents r s h k = equal r s (h ∙ sym k)
+  answers (Some (Runs files inputs extent ranges)) contents r s h k =
+      then_one (reads_of (files ++ names_of inputs) contents) (Parted (length files) (RunAnswer IsNote files inputs extent ranges))
+      (λ texts. told_sources files (given_for inputs (drop (length files) texts)) ranges (take (length files) texts) (board_reply extent)) r s h k
+  answers (Some (Profiles files inputs states ranges out)) contents r s h k =
+      then_one (reads_of (files ++ names_of inputs) contents) (Parted (length files) (ProfileAnswer IsNote files inputs states ranges out))
+      (λ texts. told_lines files (given_for inputs (drop (length files) texts)) ranges (take (length files) texts) (profile_reply states out)) r s h k
+  answers (Some (ProfilesHex file inputs states out)) contents r s h k = equal r s
+      (one_then (reads_of (file ∷ names_of inputs) contents) (Parted 1 (λ texts more. OneText (λ text. ProfileHexAnswer file inputs states out text more) texts))
       (λ texts. one_text (λ text. ProfileHexAnswer file inputs states out text (drop 1 texts))
-      (λ text. one_hex file (given_for inputs (drop 1 texts)) text (profile_reply states out [])) (take 1 texts)) r s h k
-  one_answer (Some (Assembles file out list)) contents r s h k =
-      one_then (reads_of (file ∷ []) contents) (OneText (AssembleAnswer file out list)) (one_text (AssembleAnswer file out list) (one_assembled file out list)) r s h k
-  one_answer (Some (Packs files out)) contents r s h k =
-      one_then (reads_of files contents) (PackAnswer files out)
-      (λ texts. one_then (modules_of object_of files texts) (λ ms reply. reply ≡ packed files out ms (doubled ms)) (λ ms. one_told (packed files out ms (doubled ms)))) r s h k
-  one_answer (Some (Links files inputs out beside ranges)) contents r s h k =
-      one_then (reads_of (files ++ names_of inputs) contents) (Parted (length files) (LinkAnswer files inputs out beside ranges))
-      (λ texts. one_link files inputs out beside ranges (take (length files) texts) (drop (length files) texts)) r s h k
-  one_answer (Some (RunsHex file inputs extent)) contents r s h k =
-      one_then (reads_of (file ∷ names_of inputs) contents) (Parted 1 (λ texts more. OneText (λ text. RunHexAnswer file inputs extent text more) texts))
+      (λ text. one_hex laws file (given_for inputs (drop 1 texts)) text (profile_reply states out [])) (take 1 texts)) r s h k)
+  answers (Some (Assembles file out list)) contents r s h k = then_one (reads_of (file ∷ []) contents) (OneText (AssembleAnswer IsNote file out list)) (assembled file out list) r s h k
+  answers (Some (Packs files out)) contents r s h k = equal r s
+      (one_then (reads_of files contents) (PackAnswer files out)
+      (λ texts. one_then (modules_of object_of files texts) (λ ms reply. reply ≡ packed files out ms (doubled ms)) (λ ms. one_told (packed files out ms (doubled ms)))) r s h k)
+  answers (Some (Links files inputs out beside ranges)) contents r s h k = equal r s
+      (one_then (reads_of (files ++ names_of inputs) contents) (Parted (length files) (LinkAnswer files inputs out beside ranges))
+      (λ texts. one_link laws files inputs out beside ranges (take (length files) texts) (drop (length files) texts)) r s h k)
+  answers (Some (RunsHex file inputs extent)) contents r s h k = equal r s
+      (one_then (reads_of (file ∷ names_of inputs) contents) (Parted 1 (λ texts more. OneText (λ text. RunHexAnswer file inputs extent text more) texts))
       (λ texts. one_text (λ text. RunHexAnswer file inputs extent text (drop 1 texts))
-      (λ text. one_hex file (given_for inputs (drop 1 texts)) text (board_reply extent)) (take 1 texts)) r s h k
-  one_answer (Some (Lists file first last)) contents r s h k =
-      one_then (reads_of (file ∷ []) contents) (OneText (ListAnswer file first last))
-      (one_text (ListAnswer file first last) (λ text. one_then (hex_of file text) (ListingOf first last) (λ image. one_told (says status.Done (listing image first last))))) r s h k
-  one_answer (Some (Debugs file script inputs)) contents r s h k =
-      one_then (reads_of (file ∷ script ∷ names_of inputs) contents) (Parted 2 (λ texts more. TwoTexts (λ text commands. DebugAnswer file script inputs text commands more) texts))
+      (λ text. one_hex laws file (given_for inputs (drop 1 texts)) text (board_reply extent)) (take 1 texts)) r s h k)
+  answers (Some (Lists file first last)) contents r s h k = equal r s
+      (one_then (reads_of (file ∷ []) contents) (OneText (ListAnswer file first last))
+      (one_text (ListAnswer file first last) (λ text. one_then (hex_of file text) (ListingOf first last) (λ image. one_told (says status.Done (listing image first last))))) r s h k)
+  answers (Some (Debugs file script inputs)) contents r s h k = equal r s
+      (one_then (reads_of (file ∷ script ∷ names_of inputs) contents) (Parted 2 (λ texts more. TwoTexts (λ text commands. DebugAnswer file script inputs text commands more) texts))
       (λ texts. one_two (λ text commands. DebugAnswer file script inputs text commands (drop 2 texts))
-      (λ text commands. one_hex file (given_for inputs (drop 2 texts)) text (debug_reply (script, commands) (input_for role.Lines inputs (drop 2 texts)))) (take 2 texts)) r s h k
-  one_answer (Some (Generates number)) contents r s h k = one_told_sources made_names (made_given number) (placing_of []) (made_texts number) (summary_of number) r s h k
-  one_answer (Some (Dumps file out clock)) contents r s h k =
-      one_then (reads_of (file ∷ []) contents) (OneText (DumpAnswer file out clock)) (one_text (DumpAnswer file out clock) (one_dump file out clock)) r s h k
-  one_answer (Some (Explains code)) contents r s h k = h ∙ sym k
+      (λ text commands. one_hex laws file (given_for inputs (drop 2 texts)) text (debug_reply (script, commands) (input_for role.Lines inputs (drop 2 texts)))) (take 2 texts)) r s h k)
+  answers (Some (Generates number)) contents r s h k = told_sources made_names (made_given number) (placing_of []) (made_texts number) (summary_of number) r s h k
+  answers (Some (Dumps file out clock)) contents r s h k = equal r s (one_then (reads_of (file ∷ []) contents) (OneText (DumpAnswer file out clock)) (one_text (DumpAnswer file out clock) (one_dump laws file out clock)) r s h k)
+  answers (Some (Explains code)) contents r s h k = equal r s (h ∙ sym k)
+
+-- ---- the whole
+
+pub one_answer : Laws → OneAnswer
+one_answer laws = answers AnyNote (λ r s. silent r ≡ silent s) (λ r. refl) (λ name text line code n m h k. refl) laws
+
+one_fault_note : OneCause → (name text : List ℕ) (line code : ℕ) (n m : List ℕ) → IsFaultNote name text line code n → IsFaultNote name text line code m → source_reply name line code n ≡ source_reply name line code m
+one_fault_note law name text line code n m h k =
+    let lead = source_note name text line (coded (codes "E") code) code (subject_of text line code) in
+    ap (source_reply name line code) (h.2 ∙ (ap (λ (c : Option ℕ). lead ++ body_note name text c) (law text line code h.0 k.0 h.1 k.1) ∙ sym k.2))
+
+pub one_note : Laws → OneCause → OneNote
+one_note laws law = answers IsFaultNote (λ r s. r ≡ s) (λ r. refl) (one_fault_note law) laws

@@ -8,8 +8,9 @@ use Rattle.kc_kit_files.specs.Reads.{FailedRead}
 use Rattle.kc_kit_files.specs.Outside.{Kept, Shown, WroteOne, Wrote, IsGiven}
 use Rattle.kc_kit_files.proofs.ReplyLemmas.{given-of}
 use Rattle.kc_kit_words.specs.Commands.{Command, names_read}
+use Rattle.kc_kit_inputs.specs.Sources.{AnyNote}
 use Rattle.kc_kit_answer.specs.Answer.{CommandAnswer, MayAnswer}
-use Rattle.kc_kit_laws.specs.OneAnswer.{OneAnswer, IsCall, HoldSame, OneOutcome}
+use Rattle.kc_kit_laws.specs.OneAnswer.{silent, OneAnswer, IsCall, HoldSame, OneOutcome}
 
 -- ---- replies
 
@@ -20,11 +21,11 @@ failed_rose (n ∷ names) (c ∷ contents) rose r (inl h) = h.0
 failed_rose (n ∷ names) (c ∷ contents) rose r (inr h) = failed_rose names contents rose r h.1
 
 -- with no failed read, a reply is that of the command over what the files hold
-answered : (command : Option Command) (held : Holding) (rose : Type 0) (r : Reply) → ¬ rose → MayAnswer command (Some held) rose r → CommandAnswer command (map held (names_read command)) r
+answered : (command : Option Command) (held : Holding) (rose : Type 0) (r : Reply) → ¬ rose → MayAnswer AnyNote command (Some held) rose r → CommandAnswer AnyNote command (map held (names_read command)) r
 answered command held rose r well h = by h.2
   where
-    by : CommandAnswer command h.0 r ⊎ FailedRead (names_read command) h.0 rose r → CommandAnswer command (map held (names_read command)) r
-    by (inl a) = subst (λ (contents : List (Option (List ℕ))). CommandAnswer command contents r) h.1 a
+    by : CommandAnswer AnyNote command h.0 r ⊎ FailedRead (names_read command) h.0 rose r → CommandAnswer AnyNote command (map held (names_read command)) r
+    by (inl a) = subst (λ (contents : List (Option (List ℕ))). CommandAnswer AnyNote command contents r) h.1 a
     by (inr f) = absurd (well (failed_rose (names_read command) h.0 rose r f))
 
 -- ---- what is printed
@@ -81,8 +82,8 @@ hold_same held x y e f = subst (λ (z : Option Holding). HoldSame z y) (sym e) (
 -- ---- the whole
 
 given_of : (command : Option Command) (held : Holding) (given : List ℕ) (s : Status) (files : Kept) (sink : Shown) (h : IsCall command held given s files sink)
-    → IsGiven (MayAnswer command (Some held) (Rose h.reads.0 h.reads.1)) s h.old h.before files sink
-given_of command held given s files sink h = given-of (MayAnswer command (Some held) (Rose h.reads.0 h.reads.1)) s h.old h.before files sink h.write h.memory h.answered
+    → IsGiven (MayAnswer AnyNote command (Some held) (Rose h.reads.0 h.reads.1)) s h.old h.before files sink
+given_of command held given s files sink h = given-of (MayAnswer AnyNote command (Some held) (Rose h.reads.0 h.reads.1)) s h.old h.before files sink h.write h.memory h.answered
 
 pub one_outcome : OneAnswer → OneOutcome
 one_outcome law command held given s t files others sink other h k = record {
@@ -93,13 +94,13 @@ one_outcome law command held given s t files others sink other h k = record {
       (subst (λ (r : Reply). Wrote h.old r.writes files) same a.files) b.files;
 }
   where
-    a : IsGiven (MayAnswer command (Some held) (Rose h.reads.0 h.reads.1)) s h.old h.before files sink
+    a : IsGiven (MayAnswer AnyNote command (Some held) (Rose h.reads.0 h.reads.1)) s h.old h.before files sink
     a = given_of command held given s files sink h
 
-    b : IsGiven (MayAnswer command (Some held) (Rose k.reads.0 k.reads.1)) t k.old k.before others other
+    b : IsGiven (MayAnswer AnyNote command (Some held) (Rose k.reads.0 k.reads.1)) t k.old k.before others other
     b = given_of command held given t others other k
 
-    same : a.reply ≡ b.reply
+    same : silent a.reply ≡ silent b.reply
     same =
         law command (map held (names_read command)) a.reply b.reply
         (answered command held (Rose h.reads.0 h.reads.1) a.reply h.well_read a.is_answer)

@@ -12,6 +12,7 @@ use Rattle.kc_kit_words.specs.Commands.{Beside}
 use Rattle.kc_kit_answer.specs.Hex.{RunHexAnswer}
 use Rattle.kc_kit_answer.specs.Link.{LinkAnswer}
 use Rattle.kc_kit_answer.specs.Run.{RunAnswer}
+use Rattle.kc_kit_inputs.specs.FaultNotes.{IsFaultNote}
 use Rattle.kc_kit_inputs.specs.Sources.{AreModules}
 
 -- no file is asked for beside the hex file
@@ -25,4 +26,4 @@ RunsAlike =
     → AreModules texts ms → list_all (λ t. nat_lt (length t) (2 ^ 32)) texts ≡ true → length objects ≡ length ms
     → LinkAnswer objects [] file hex_alone ranges (map spelling ms) [] (done_writing (write file hex ∷ []))
     → RunHexAnswer file inputs extent hex input_texts reply
-    → RunAnswer names inputs extent ranges texts input_texts reply
+    → RunAnswer IsFaultNote names inputs extent ranges texts input_texts reply

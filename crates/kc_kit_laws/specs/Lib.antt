@@ -1,3 +1,4 @@
 pub mod Alike
 pub mod OneAnswer
+pub mod Readable
 pub mod StartLevels

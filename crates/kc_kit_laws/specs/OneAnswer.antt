@@ -1,5 +1,6 @@
--- Laws of the commands: what is answered to a command, over what the files hold, is one (this kit's own).
-use Rattle.std.specs.Prelude.{◌≡◌, ◌≢◌, ℕ, List, Option, Some, None}
+-- Laws of the commands: what is answered to a command, over what the files hold, is one, and so is what is said of it in words (this
+-- kit's own).
+use Rattle.std.specs.Prelude.{◌≡◌, ◌≢◌, ℕ, List, [], Option, Some, None}
 use Rattle.kc_base.specs.Causes.{Rose}
 use Rattle.kc_base.specs.Held.{Holding}
 use Rattle.kc_kit_files.specs.declared.status.Status.{Status}
@@ -7,13 +8,25 @@ use Rattle.kc_kit_files.specs.declared.status.Status.TheVariants.{NoMemory, Writ
 use Rattle.kc_kit_files.specs.Reply.{Reply}
 use Rattle.kc_kit_files.specs.Outside.{Kept, Shown, Replies}
 use Rattle.kc_kit_words.specs.Commands.{Command}
+use Rattle.kc_kit_inputs.specs.FaultNotes.{IsFaultNote}
+use Rattle.kc_kit_inputs.specs.Sources.{AnyNote}
 use Rattle.kc_kit_answer.specs.Answer.{CommandAnswer, MayAnswer}
 
--- two replies to a command over the same contents of the files that it reads are the same: their status, text and files
+-- what a reply does, without what is said of it in words
+abbrev pub silent : Reply → Reply
+silent reply = record { status = reply.status; text = reply.text; pauses = reply.pauses; writes = reply.writes; note = [] }
+
+-- two replies to a command over the same contents of the files that it reads do the same, whatever is said of a fault of a source
 abbrev pub OneAnswer : Type 0
 OneAnswer =
     (command : Option Command) (contents : List (Option (List ℕ))) (reply other : Reply)
-    → CommandAnswer command contents reply → CommandAnswer command contents other → reply ≡ other
+    → CommandAnswer AnyNote command contents reply → CommandAnswer AnyNote command contents other → silent reply ≡ silent other
+
+-- and with the notes of such faults they are the same
+abbrev pub OneNote : Type 0
+OneNote =
+    (command : Option Command) (contents : List (Option (List ℕ))) (reply other : Reply)
+    → CommandAnswer IsFaultNote command contents reply → CommandAnswer IsFaultNote command contents other → reply ≡ other
 
 -- ---- calls
 
@@ -28,7 +41,7 @@ pub record IsCall (command : Option Command) (held : Holding) (given : List ℕ)
   pub holds : old.held ≡ Some held
   pub before : Shown
   pub shows : before.written ≡ Some given
-  pub answered : Replies (MayAnswer command (Some held) (Rose reads.0 reads.1)) old before s files sink
+  pub answered : Replies (MayAnswer AnyNote command (Some held) (Rose reads.0 reads.1)) old before s files sink
 
 -- files tell that each name holds the same
 abbrev pub HoldSame : Option Holding → Option Holding → Type 0

@@ -2,7 +2,8 @@
 #![tactic(auto)]
 
 ghost use Rattle.kc_kit_laws.specs.Alike.{RunsAlike};
-ghost use Rattle.kc_kit_laws.specs.OneAnswer.{OneAnswer, OneOutcome};
+ghost use Rattle.kc_kit_laws.specs.OneAnswer.{OneAnswer, OneNote, OneOutcome};
+ghost use Rattle.kc_kit_laws.specs.Readable.{WrittenIsReadable};
 ghost use Rattle.kc_kit_laws.specs.StartLevels.{StartLevelsAgree};
 
 use kc_asm_cause_laws::one_cause;
@@ -40,8 +41,25 @@ pub fn one_answer()
     taken_once();
     one_reading();
     one_listing();
+}
+
+/// A command has one note too: what may be replied with what is said of a fault of a source is the same with the same note.
+pub fn one_note()
+    ensures { OneNote }
+{
+    one_answer_of_text();
+    one_image();
+    one_line_map();
+    taken_once();
+    one_reading();
+    one_listing();
     one_cause();
 }
+
+/// What a command writes for commands to read, an object, a library, a hex file or a line map, is not too long for them.
+pub fn written_is_readable()
+    ensures { WrittenIsReadable }
+{}
 
 /// Calls with the same words, over files that hold the same, give the same status, print the same and leave the same in the
 /// files, but where memory is wanted, a read fails or a write fails.

@@ -4,6 +4,7 @@ use Rattle.kc_kit_files.specs.declared.status.Status.TheVariants as status
 use Rattle.kc_kit_files.specs.Outside.{Kept, kept, shown}
 use Rattle.kc_kit_words.specs.Words.{command_of}
 use Rattle.kc_kit_words.specs.Commands.{names_written}
+use Rattle.kc_kit_inputs.specs.Sources.{AnyNote}
 use Rattle.kc_kit_answer.specs.Answer.{MayAnswer}
 use Rattle.kc_kit.proofs.AnswerLemmas.{done-of, may-usage, may-read, may-named, status-of, fault-of, ends-of, ends-same, ends-stay}
 use Rattle.kc_kit.proofs.top.kit.Goals as goal
@@ -31,7 +32,7 @@ returns-clause-usage g c =
     λ e.
     let write : c.answered.result ≢ status.WriteFault = λ f. let h : status.Usage ≡ status.WriteFault = sym e ∙ f in cc in
     let memory : c.answered.result ≢ status.NoMemory = λ f. let h : status.Usage ≡ status.NoMemory = sym e ∙ f in cc in
-    let k = status-of (MayAnswer command told rose) old before c.answered.result new now write memory c.answered.ensures.answer in
+    let k = status-of (MayAnswer AnyNote command told rose) old before c.answered.result new now write memory c.answered.ensures.answer in
     may-usage command told rose k.0 k.1 (sym k.2 ∙ e)
 
 pub returns-clause-read_fault : goal.returns-clause-read_fault
@@ -46,7 +47,7 @@ returns-clause-read_fault g c =
     λ e.
     let write : c.answered.result ≢ status.WriteFault = λ f. let h : status.ReadFault ≡ status.WriteFault = sym e ∙ f in cc in
     let memory : c.answered.result ≢ status.NoMemory = λ f. let h : status.ReadFault ≡ status.NoMemory = sym e ∙ f in cc in
-    let k = status-of (MayAnswer command told rose) old before c.answered.result new now write memory c.answered.ensures.answer in
+    let k = status-of (MayAnswer AnyNote command told rose) old before c.answered.result new now write memory c.answered.ensures.answer in
     may-read command told rose k.0 k.1 (sym k.2 ∙ e)
 
 pub returns-clause-write_fault : goal.returns-clause-write_fault
@@ -58,7 +59,7 @@ returns-clause-write_fault g c =
     let new = kept (g.F.Files.held c.answered.new.files) (g.F.Files.write_faults c.answered.new.files) in
     let before = shown (g.S.Sink.written c.args.out.now.sink) (g.S.Sink.faults c.args.out.now.sink) in
     let now = shown (g.S.Sink.written c.answered.new.out.sink) (g.S.Sink.faults c.answered.new.out.sink) in
-    fault-of (MayAnswer command told rose) old before c.answered.result new now (names_written command) (may-named command told rose) c.answered.ensures.answer
+    fault-of (MayAnswer AnyNote command told rose) old before c.answered.result new now (names_written command) (may-named command told rose) c.answered.ensures.answer
 
 pub returns-clause-others : goal.returns-clause-others
 returns-clause-others g c =
@@ -69,7 +70,7 @@ returns-clause-others g c =
     let new = kept (g.F.Files.held c.answered.new.files) (g.F.Files.write_faults c.answered.new.files) in
     let before = shown (g.S.Sink.written c.args.out.now.sink) (g.S.Sink.faults c.args.out.now.sink) in
     let now = shown (g.S.Sink.written c.answered.new.out.sink) (g.S.Sink.faults c.answered.new.out.sink) in
-    ends-stay (MayAnswer command told rose) old new (names_written command) (may-named command told rose) (ends-of (MayAnswer command told rose) old before c.answered.result new now c.answered.ensures.answer)
+    ends-stay (MayAnswer AnyNote command told rose) old new (names_written command) (may-named command told rose) (ends-of (MayAnswer AnyNote command told rose) old before c.answered.result new now c.answered.ensures.answer)
 
 pub returns-clause-same : goal.returns-clause-same
 returns-clause-same g c =
@@ -80,7 +81,7 @@ returns-clause-same g c =
     let new = kept (g.F.Files.held c.answered.new.files) (g.F.Files.write_faults c.answered.new.files) in
     let before = shown (g.S.Sink.written c.args.out.now.sink) (g.S.Sink.faults c.args.out.now.sink) in
     let now = shown (g.S.Sink.written c.answered.new.out.sink) (g.S.Sink.faults c.answered.new.out.sink) in
-    λ e. ap (λ (k : Kept). k.held) (ends-same (MayAnswer command told rose) old new (names_written command) (may-named command told rose) e (ends-of (MayAnswer command told rose) old before c.answered.result new now c.answered.ensures.answer))
+    λ e. ap (λ (k : Kept). k.held) (ends-same (MayAnswer AnyNote command told rose) old new (names_written command) (may-named command told rose) e (ends-of (MayAnswer AnyNote command told rose) old before c.answered.result new now c.answered.ensures.answer))
 
 pub returns-clause-no_write : goal.returns-clause-no_write
 returns-clause-no_write g c =
@@ -91,4 +92,4 @@ returns-clause-no_write g c =
     let new = kept (g.F.Files.held c.answered.new.files) (g.F.Files.write_faults c.answered.new.files) in
     let before = shown (g.S.Sink.written c.args.out.now.sink) (g.S.Sink.faults c.args.out.now.sink) in
     let now = shown (g.S.Sink.written c.answered.new.out.sink) (g.S.Sink.faults c.answered.new.out.sink) in
-    λ e. ap (λ (k : Kept). k.faults) (ends-same (MayAnswer command told rose) old new (names_written command) (may-named command told rose) e (ends-of (MayAnswer command told rose) old before c.answered.result new now c.answered.ensures.answer))
+    λ e. ap (λ (k : Kept). k.faults) (ends-same (MayAnswer AnyNote command told rose) old new (names_written command) (may-named command told rose) e (ends-of (MayAnswer AnyNote command told rose) old before c.answered.result new now c.answered.ensures.answer))

@@ -4,6 +4,7 @@ use Rattle.kc_kit_files.specs.Reply.{Reply}
 use Rattle.kc_kit_files.proofs.ReadLemmas.{stays-onward}
 use Rattle.kc_kit_words.specs.Inputs.{inputs_in}
 use Rattle.kc_kit_words.specs.Commands.{Debugs, names_of}
+use Rattle.kc_kit_inputs.specs.FaultNotes.{IsFaultNote}
 use Rattle.kc_kit_answer.specs.Answer.{MayAnswer, TwoTexts, Parted}
 use Rattle.kc_kit_answer.specs.Debug.{DebugAnswer}
 use Rattle.kc_kit_notes.proofs.Words.{texts_in}
@@ -37,7 +38,7 @@ returns-in-Ok-read_inputs g c =
     let commands = c.in-Ok.texts.1.items in
     let more = texts_in c.in-Ok-read_inputs.inputs.items in
     record {
-      answer = prepared-widen (DebugAnswer name script inputs text commands more) (MayAnswer (Some (Debugs name script inputs)) told rose) c.debug_texts.result
+      answer = prepared-widen (DebugAnswer name script inputs text commands more) (MayAnswer IsFaultNote (Some (Debugs name script inputs)) told rose) c.debug_texts.result
           (λ r m. parts-then (name ∷ script ∷ []) (names_of inputs) 2 may told (g.F.Files.held c.read_both.new.files) rose (text ∷ commands ∷ []) more r c.read_both.ensures.stays.same refl
           c.in-Ok.ensures.read c.in-Ok-read_inputs.ensures.read m)
           (rw (c.deref.ensures.value, c.deref-in-Ok-read_inputs.ensures.value, c.deref-in-Ok-read_inputs-2.ensures.value) at c.debug_texts.ensures);

@@ -2,6 +2,7 @@ use Rattle.std.proofs.Common.{◌∙◌, ap, map, string_bytes}
 use Rattle.kc_kit_files.specs.Reply.{IsRefused}
 use Rattle.kc_kit_notes.proofs.Words.{texts_in}
 use Rattle.kc_kit_running.specs.Counted.{summary_of}
+use Rattle.kc_kit_inputs.specs.FaultNotes.{IsFaultNote}
 use Rattle.kc_kit_answer.specs.Run.{SourcesTold}
 use Rattle.kc_kit_answer.proofs.MadeLemmas.{same-input, default-ranges}
 use Rattle.kc_kit_answer.proofs.generate.prepare_generate.Goals as goal
@@ -10,7 +11,7 @@ pub returns-in-Ok-board_of_sources : goal.returns-in-Ok-board_of_sources
 returns-in-Ok-board_of_sources c =
     let tell = summary_of c.args.number in
     let board = c.in-Ok-board_of_sources.board in (
-      same-input c.args.number (λ names given ranges texts. SourcesTold names given ranges texts tell (tell board.driving board.image)) (map string_bytes c.deref.result.now) c.as_slice.result.now c.new.result (texts_in c.deref-2.result.now)
+      same-input c.args.number (λ names given ranges texts. SourcesTold IsFaultNote names given ranges texts tell (tell board.driving board.image)) (map string_bytes c.deref.result.now) c.as_slice.result.now c.new.result (texts_in c.deref-2.result.now)
           (ap (map string_bytes) c.deref.ensures.value ∙ c.in-Ok.ensures.names) (c.as_slice.ensures.value ∙ c.in-Ok.ensures.stimuli) (c.new.ensures ∙ default-ranges) (ap texts_in c.deref-2.ensures.value ∙ c.in-Ok.ensures.texts)
           (c.in-Ok-board_of_sources.ensures tell),
       tt,
@@ -19,6 +20,6 @@ returns-in-Ok-board_of_sources c =
 pub returns : goal.returns
 returns c =
     let tell = summary_of c.args.number in
-    same-input c.args.number (λ names given ranges texts. IsRefused (SourcesTold names given ranges texts tell) c.in-Err.refusal) (map string_bytes c.deref.result.now) c.as_slice.result.now c.new.result (texts_in c.deref-2.result.now)
+    same-input c.args.number (λ names given ranges texts. IsRefused (SourcesTold IsFaultNote names given ranges texts tell) c.in-Err.refusal) (map string_bytes c.deref.result.now) c.as_slice.result.now c.new.result (texts_in c.deref-2.result.now)
     (ap (map string_bytes) c.deref.ensures.value ∙ c.in-Ok.ensures.names) (c.as_slice.ensures.value ∙ c.in-Ok.ensures.stimuli) (c.new.ensures ∙ default-ranges) (ap texts_in c.deref-2.ensures.value ∙ c.in-Ok.ensures.texts)
     (c.in-Err.ensures tell)

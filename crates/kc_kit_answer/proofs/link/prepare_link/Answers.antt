@@ -5,6 +5,7 @@ use Rattle.kc_kit_words.specs.Asked.{beside_in}
 use Rattle.kc_kit_words.specs.Inputs.{inputs_in}
 use Rattle.kc_kit_words.specs.Commands.{Links, names_of}
 use Rattle.kc_kit_notes.proofs.Words.{texts_in}
+use Rattle.kc_kit_inputs.specs.FaultNotes.{IsFaultNote}
 use Rattle.kc_kit_answer.specs.Answer.{MayAnswer, Parted}
 use Rattle.kc_kit_answer.specs.Link.{LinkAnswer}
 use Rattle.kc_kit_answer.proofs.AnswerSteps.{first-missed, second-missed, parts-then, prepared-widen}
@@ -33,7 +34,7 @@ returns-in-Ok-read_inputs g c =
     let told = g.F.Files.held c.args.files.now in
     let rose : Type 0 = Rose (g.F.Files.read_faults c.args.files.now) (g.F.Files.read_faults c.read_inputs.new.files) in
     record {
-      answer = prepared-widen (LinkAnswer names inputs link.out.now beside link.placing texts more) (MayAnswer (Some (Links names inputs link.out.now beside link.placing)) told rose) c.link_texts.result
+      answer = prepared-widen (LinkAnswer names inputs link.out.now beside link.placing texts more) (MayAnswer IsFaultNote (Some (Links names inputs link.out.now beside link.placing)) told rose) c.link_texts.result
           (λ r m. parts-then names (names_of inputs) (length names) (LinkAnswer names inputs link.out.now beside link.placing) told (g.F.Files.held c.read_files.new.files) rose texts more r c.read_files.ensures.stays.same refl
           c.in-Ok.ensures.read c.in-Ok-read_inputs.ensures.read m)
           (rw (c.deref.ensures.value, c.deref-in-Ok-read_inputs.ensures.value) at c.link_texts.ensures);

@@ -5,6 +5,7 @@ use Rattle.kc_kit_files.specs.Reply.{Reply}
 use Rattle.kc_kit_files.proofs.ReadLemmas.{refused-widen, held-one, missed-one, stays-onward}
 use Rattle.kc_kit_words.specs.Inputs.{inputs_in}
 use Rattle.kc_kit_words.specs.Commands.{ProfilesHex, names_of}
+use Rattle.kc_kit_inputs.specs.FaultNotes.{IsFaultNote}
 use Rattle.kc_kit_answer.specs.Answer.{MayAnswer, OneText, Parted}
 use Rattle.kc_kit_answer.specs.Profile.{ProfileHexAnswer}
 use Rattle.kc_kit_notes.proofs.Words.{texts_in}
@@ -36,7 +37,7 @@ returns-in-Ok-read_inputs g c =
     let text = c.in-Ok.text.items in
     let more = texts_in c.in-Ok-read_inputs.inputs.items in
     record {
-      answer = prepared-widen (ProfileHexAnswer name inputs run.states run.out.now text more) (MayAnswer (Some (ProfilesHex name inputs run.states run.out.now)) told rose) c.profile_hex.result
+      answer = prepared-widen (ProfileHexAnswer name inputs run.states run.out.now text more) (MayAnswer IsFaultNote (Some (ProfilesHex name inputs run.states run.out.now)) told rose) c.profile_hex.result
           (λ r m. parts-then (name ∷ []) (names_of inputs) 1 may told (g.F.Files.held c.read_file.new.files) rose (text ∷ []) more r c.read_file.ensures.stays.same refl
           (held-one told name text c.in-Ok.ensures.read.0 c.in-Ok.ensures.read.1) c.in-Ok-read_inputs.ensures.read m)
           (rw (c.deref.ensures.value, c.deref-in-Ok-read_inputs.ensures.value) at c.profile_hex.ensures);

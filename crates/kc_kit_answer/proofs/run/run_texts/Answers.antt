@@ -2,6 +2,7 @@ use Rattle.std.proofs.Common.{map, string_bytes, subst, ℕ, List}
 use Rattle.kc_kit_files.specs.Reply.{Reply, IsRefused}
 use Rattle.kc_kit_inputs.specs.declared.driving.Driving.{Driving}
 use Rattle.kc_kit_notes.proofs.Words.{texts_in}
+use Rattle.kc_kit_inputs.specs.FaultNotes.{IsFaultNote}
 use Rattle.kc_kit_answer.specs.Run.{SourcesTold}
 use Rattle.kc_kit_running.specs.Lives.{board_reply}
 use Rattle.kc_kit_answer.proofs.run.run_texts.Goals as goal
@@ -10,10 +11,10 @@ pub returns-in-Ok : goal.returns-in-Ok
 returns-in-Ok c =
     let run = c.args.run.now in
     let tell : Driving → List ℕ → Reply = board_reply run.extent in
-    (subst (λ s. SourcesTold (map string_bytes run.files.now) s run.placing (texts_in c.args.texts.now) tell (tell c.in-Ok.board.driving c.in-Ok.board.image)) c.given_for-given.ensures.given (c.in-Ok.ensures tell), c.requires.within.0)
+    (subst (λ s. SourcesTold IsFaultNote (map string_bytes run.files.now) s run.placing (texts_in c.args.texts.now) tell (tell c.in-Ok.board.driving c.in-Ok.board.image)) c.given_for-given.ensures.given (c.in-Ok.ensures tell), c.requires.within.0)
 
 pub returns-in-Err : goal.returns-in-Err
 returns-in-Err c =
     let run = c.args.run.now in
     let tell : Driving → List ℕ → Reply = board_reply run.extent in
-    subst (λ s. IsRefused (SourcesTold (map string_bytes run.files.now) s run.placing (texts_in c.args.texts.now) tell) c.in-Err.refusal) c.given_for-given.ensures.given (c.in-Err.ensures tell)
+    subst (λ s. IsRefused (SourcesTold IsFaultNote (map string_bytes run.files.now) s run.placing (texts_in c.args.texts.now) tell) c.in-Err.refusal) c.given_for-given.ensures.given (c.in-Err.ensures tell)

@@ -1,0 +1,75 @@
+-- What may be answered with the notes of a rule may be answered whatever is said of a fault of a source.
+use Rattle.std.proofs.Common.{inl, inr, ℕ, List, [], ◌∷◌, ◌++◌, length, take, drop, Option, Some, None, Result, Ok, Err}
+use Rattle.kc_base.specs.Held.{Holding}
+use Rattle.kc_obj_module.specs.Object.{Object}
+use Rattle.kc_link_place.specs.declared.ranges.Ranges.{Ranges}
+use Rattle.kc_debug_script.specs.declared.line_map.MapEntry.{MapEntry}
+use Rattle.kc_kit_files.specs.Reply.{Reply}
+use Rattle.kc_kit_files.specs.Reads.{reads_of}
+use Rattle.kc_kit_words.specs.Commands.{Command, Helps, HelpsOn, TellsVersion, Runs, Profiles, Assembles, Packs, Links, RunsHex, ProfilesHex, Lists, Debugs, Generates, Dumps, Explains, names_of}
+use Rattle.kc_kit_inputs.specs.declared.driving.Driving.{Driving}
+use Rattle.kc_kit_inputs.specs.Driving.{GivenFiles}
+use Rattle.kc_kit_inputs.specs.Sources.{NoteRule, AnyNote, TellsFault, SourceIs, TellsFirst, SourcesAre}
+use Rattle.kc_kit_answer.specs.Answer.{OneText, Parted, CommandAnswer, MayAnswer}
+use Rattle.kc_kit_answer.specs.Assemble.{AssembleAnswer}
+use Rattle.kc_kit_answer.specs.Profile.{LinesTold, ProfileAnswer}
+use Rattle.kc_kit_answer.specs.Run.{SourcesTold, RunAnswer}
+use Rattle.kc_kit_answer.proofs.AnswerSteps.{then-map}
+
+module _ (IsNote : NoteRule) where
+  fault-any : (name text : List ℕ) (r : Reply) → TellsFault IsNote name text r → TellsFault AnyNote name text r
+  fault-any name text r (line, code, first, note, is, e) = (line, code, first, note, tt, e)
+
+  source-any : (name text : List ℕ) (x : Result Object Reply) → SourceIs IsNote name text x → SourceIs AnyNote name text x
+  source-any name text (Ok m) h = h
+  source-any name text (Err r) h = fault-any name text r h
+
+  first-any : (names texts : List (List ℕ)) (r : Reply) → TellsFirst IsNote names texts r → TellsFirst AnyNote names texts r
+  first-any [] texts r h = absurd h
+  first-any (n ∷ names) [] r h = absurd h
+  first-any (n ∷ names) (t ∷ texts) r (inl h) = inl (fault-any n t r h)
+  first-any (n ∷ names) (t ∷ texts) r (inr h) = inr (h.0, first-any names texts r h.1)
+
+  sources-any : (names texts : List (List ℕ)) (x : Result (List Object) Reply) → SourcesAre IsNote names texts x → SourcesAre AnyNote names texts x
+  sources-any names texts (Ok ms) h = h
+  sources-any names texts (Err r) h = first-any names texts r h
+
+  told-any : (names : List (List ℕ)) (given : GivenFiles) (ranges : Ranges) (texts : List (List ℕ)) (tell : Driving → List ℕ → Reply) (r : Reply) →
+      SourcesTold IsNote names given ranges texts tell r → SourcesTold AnyNote names given ranges texts tell r
+  told-any names given ranges texts tell r (x, h, k) = (x, sources-any names texts x h, k)
+
+  lines-any : (names : List (List ℕ)) (given : GivenFiles) (ranges : Ranges) (texts : List (List ℕ)) (tell : List MapEntry → Driving → List ℕ → Reply) (r : Reply) →
+      LinesTold IsNote names given ranges texts tell r → LinesTold AnyNote names given ranges texts tell r
+  lines-any names given ranges texts tell r (x, h, k) = (x, sources-any names texts x h, k)
+
+  object-any : (name out : List ℕ) (list : Option (List ℕ)) (texts : List (List ℕ)) (r : Reply) → OneText (AssembleAnswer IsNote name out list) texts r → OneText (AssembleAnswer AnyNote name out list) texts r
+  object-any name out list (t ∷ []) r (x, h, k) = (x, source-any name t x h, k)
+  object-any name out list [] r h = absurd h
+  object-any name out list (t ∷ u ∷ texts) r h = absurd h
+
+  command-any : (c : Option Command) (contents : List (Option (List ℕ))) (r : Reply) → CommandAnswer IsNote c contents r → CommandAnswer AnyNote c contents r
+  command-any None contents r h = h
+  command-any (Some Helps) contents r h = h
+  command-any (Some (HelpsOn verb)) contents r h = h
+  command-any (Some TellsVersion) contents r h = h
+  command-any (Some (Runs files inputs extent placing)) contents r h =
+      then-map (reads_of (files ++ names_of inputs) contents) (Parted (length files) (RunAnswer IsNote files inputs extent placing)) (Parted (length files) (RunAnswer AnyNote files inputs extent placing)) r
+      (λ texts k. told-any files _ placing (take (length files) texts) _ r k) h
+  command-any (Some (Profiles files inputs states placing out)) contents r h =
+      then-map (reads_of (files ++ names_of inputs) contents) (Parted (length files) (ProfileAnswer IsNote files inputs states placing out)) (Parted (length files) (ProfileAnswer AnyNote files inputs states placing out)) r
+      (λ texts k. lines-any files _ placing (take (length files) texts) _ r k) h
+  command-any (Some (ProfilesHex file inputs states out)) contents r h = h
+  command-any (Some (Assembles file out list)) contents r h =
+      then-map (reads_of (file ∷ []) contents) (OneText (AssembleAnswer IsNote file out list)) (OneText (AssembleAnswer AnyNote file out list)) r (λ texts k. object-any file out list texts r k) h
+  command-any (Some (Packs files out)) contents r h = h
+  command-any (Some (Links files inputs out beside placing)) contents r h = h
+  command-any (Some (RunsHex file inputs extent)) contents r h = h
+  command-any (Some (Lists file first last)) contents r h = h
+  command-any (Some (Debugs file script inputs)) contents r h = h
+  command-any (Some (Generates number)) contents r h = told-any _ _ _ _ _ r h
+  command-any (Some (Dumps file out clock)) contents r h = h
+  command-any (Some (Explains code)) contents r h = h
+
+  pub may-any : (c : Option Command) (told : Option Holding) (rose : Type 0) (r : Reply) → MayAnswer IsNote c told rose r → MayAnswer AnyNote c told rose r
+  may-any c told rose r (contents, holds, inl h) = (contents, holds, inl (command-any c contents r h))
+  may-any c told rose r (contents, holds, inr h) = (contents, holds, inr h)
