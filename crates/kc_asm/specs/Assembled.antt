@@ -1,12 +1,11 @@
 -- The module of a source, or its first fault: of the first pass that has one, there on the least line, there the least code.
 -- The passes: lines; macros, repetitions and conditions; statements and names; values and places (after the MCS-96 Macro
 -- Assembler User's Guide; passes and codes are this kit's own).
-use Rattle.std.specs.Prelude.{◌≡◌, ◌⊎◌, ℕ, ◌<◌, ◌≤◌, true, List, [], ◌∷◌, length, Some, None, Result, Ok, Err}
+use Rattle.std.specs.Prelude.{◌≡◌, ◌⊎◌, ℕ, ◌≤◌, true, List, length, Some, None, Result, Ok, Err}
 use Rattle.std.specs.List.{list_all}
 use Rattle.kc_lex.specs.declared.token.Line.{Line}
 use Rattle.kc_lex.specs.declared.fault.SourceFault.{SourceFault}
 use Rattle.kc_lex.specs.declared.fault.SourceFault.TheVariants as faults
-use Rattle.kc_lex.specs.Codes.{past_the_end}
 use Rattle.kc_lex.specs.Lines.{lines_of}
 use Rattle.kc_macro.specs.Expansion.{expanded}
 use Rattle.kc_source_statement.specs.declared.statement.Stmt.{Stmt}
@@ -27,14 +26,6 @@ IsText source text = (lines : List Line) × (lines_of source ≡ Ok lines) × (e
 abbrev pub AreSaid : List ℕ → List Stmt → Type 0
 AreSaid source stmts = (text : List Line) × IsText source text × AreStatements stmts text
 
--- an object has at most 65,536 pieces: a source with more is refused at its last line
-unfoldable pub last_line : ℕ → List Stmt → ℕ
-last_line line [] = line
-last_line line (s ∷ ss) = last_line s.line ss
-
-abbrev pub IsCrowded : List Stmt → Fault → Type 0
-IsCrowded stmts f = (d : Draft) × IsDraftOf stmts d × (65536 < length (pieces_in d)) × (f ≡ (last_line 0 stmts, past_the_end))
-
 -- the faults of each pass where those before it have none
 abbrev pub FaultOfLines : List ℕ → Fault → Type 0
 FaultOfLines source f = lines_of source ≡ Err f
@@ -46,8 +37,7 @@ abbrev pub FaultOfStatements : List ℕ → Fault → Type 0
 FaultOfStatements source f = (text : List Line) × IsText source text × (names.least (names.faults_of text) ≡ Some f)
 
 abbrev pub FaultOfValues : List ℕ → Fault → Type 0
-FaultOfValues source f =
-    (stmts : List Stmt) × AreSaid source stmts × ((first_fault stmts ≡ Some f) ⊎ ((first_fault stmts ≡ None) × IsCrowded stmts f))
+FaultOfValues source f = (stmts : List Stmt) × AreSaid source stmts × (first_fault stmts ≡ Some f)
 
 abbrev pub IsFirstFault : List ℕ → Fault → Type 0
 IsFirstFault source f = FaultOfLines source f ⊎ (FaultOfMacros source f ⊎ (FaultOfStatements source f ⊎ FaultOfValues source f))
@@ -56,7 +46,7 @@ IsFirstFault source f = FaultOfLines source f ⊎ (FaultOfMacros source f ⊎ (F
 abbrev pub IsFaultless : List ℕ → Type 0
 IsFaultless source = (line code : ℕ) → ¬ IsFirstFault source (line, code)
 
--- the module of a source without a fault
+-- the module of a source without a fault, whose pieces an object can number
 pub record IsModule (source : List ℕ) (m : Object) : Type 0 where
   pub stmts : List Stmt
   pub said : AreSaid source stmts
@@ -77,4 +67,4 @@ IsAssembled source (Err faults.NoMemory) = Unit {0}
 abbrev pub IsMade : List Stmt → Result Object Fault → Type 0
 IsMade stmts (Ok m) =
     (d : Draft) × (first_fault stmts ≡ None) × IsDraftOf stmts d × (length (pieces_in d) ≤ 65536) × IsModuleOf d m
-IsMade stmts (Err f) = (first_fault stmts ≡ Some f) ⊎ ((first_fault stmts ≡ None) × IsCrowded stmts f)
+IsMade stmts (Err f) = first_fault stmts ≡ Some f

@@ -7,14 +7,14 @@ ghost use Rattle.kc_asm.specs.Assembled as spec;
 
 use kc_asm_check::judge;
 use kc_asm_draft::draft;
-use kc_asm_draft_laws::drafts_are_drafts;
+use kc_asm_draft_laws::{drafts_are_drafts, pieces_are_few};
 use kc_asm_earlier_laws::sources_are_read_well;
 use kc_asm_layout::layout;
-use kc_asm_module::{module_of, piece_count};
+use kc_asm_module::module_of;
 use kc_asm_outline::outline;
 use kc_asm_symbols::{Names, externals, externals_are_few};
 use kc_base::NoMemory;
-use kc_lex::{LineFault, SourceCode, SourceFault, lines};
+use kc_lex::{LineFault, SourceFault, lines};
 use kc_macro::expand;
 use kc_obj_module::Module;
 use kc_source::statements;
@@ -22,26 +22,10 @@ use kc_source_laws::statements_are_of_the_text;
 use kc_source_statement::Stmt;
 use std::alloc::Global;
 
-/// The most pieces that an object can number.
-const MOST_PIECES: usize = 65_536;
-
-#[tactic(auto, unfolding(crate::specs::Assembled::last_line))]
-fn last_line(stmts: &[Stmt]) -> u32
-    ensures { result ≡ spec.last_line 0 stmts.now }
-{
-    let mut line = 0;
-    let mut left = stmts;
-    while let [first, rest @ ..] = left {
-        line = first.line;
-        left = rest;
-    }
-    line
-}
-
 // The module of statements, or the first fault of their values and places.
 fn module_or_fault(alloc: Global, stmts: &[Stmt]) -> Result<Result<Module, LineFault>, NoMemory>
     requires read { AreReadWell stmts.now }
-    requires few { length stmts.now ≤ 65536 }
+    requires few { length stmts.now ≤ 65535 }
     requires few_externals { length (externals (standing stmts.now)) ≤ 65536 }
     ensures { IfOk result (λ r. spec.IsMade stmts.now r) }
 {
@@ -55,12 +39,7 @@ fn module_or_fault(alloc: Global, stmts: &[Stmt]) -> Result<Result<Module, LineF
     };
     let draft = draft(alloc, stmts, &sites, taken, checked)?;
     drafts_are_drafts();
-    if piece_count(&draft) > MOST_PIECES {
-        return Ok(Err(LineFault {
-            line: last_line(stmts),
-            code: SourceCode::PastTheEnd.number(),
-        }));
-    }
+    pieces_are_few();
     Ok(Ok(module_of(alloc, draft)?))
 }
 

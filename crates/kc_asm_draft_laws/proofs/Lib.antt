@@ -14,3 +14,4 @@ pub mod Octets
 pub mod Naming
 pub mod Drafts
 pub mod Stood
+mod Few

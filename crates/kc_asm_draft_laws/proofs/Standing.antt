@@ -148,7 +148,7 @@ module _ (look : Look) (last : List ℕ → Answer) (regions : Regions) (sum : �
   quiet_fits : IsQuiet look s.form l.here l.segment.kind l.action → Fits own_content s t
   quiet_fits q =
       let here : s.place ≡ s.before + gap s.before 1 = w.place ∙ ap (λ (n : ℕ). s.before + gap s.before n) q.anywhere in
-      let there : s.after ≡ s.place + min 0 4294967295 = w.after ∙ ap (λ (c : Content). passed_by s.place (counted (extent_of c))) q.nothing in
+      let there : s.after ≡ s.place + min 0 16777215 = w.after ∙ ap (λ (c : Content). passed_by s.place (counted (extent_of c))) q.nothing in
       let none : size_at s.place own_content ≡ 0 = ap (size_at s.place) q.nothing in
       let same : t.length ≡ long = omega (arith, here, no_gap s.before, none) in
       let bound : start_of t.at + t.length ≤ 65536 = held t.kind t.length t.at w.well in

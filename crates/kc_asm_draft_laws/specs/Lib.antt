@@ -1,4 +1,5 @@
 pub mod Drafting
 pub mod Writable
 pub mod Sound
+pub mod Few
 pub mod Stood

@@ -1,6 +1,7 @@
 //! The draft of a source without a fault: laws of definitions, without code.
 #![tactic(auto)]
 
+ghost use Rattle.kc_asm_draft_laws.specs.Few.{PiecesAreFew};
 ghost use Rattle.kc_asm_draft_laws.specs.Sound.{DraftsAreDrafts, DraftsAreSettled, DraftsAreWhole};
 ghost use Rattle.kc_asm_draft_laws.specs.Stood.{NothingElseStands, StatementsStand};
 ghost use Rattle.kc_asm_draft_laws.specs.Writable.{PartsAreWritable};
@@ -19,6 +20,15 @@ pub fn parts_are_writable()
     outlines_stay();
     outlines_have_lengths();
     no_fault_no_codes();
+}
+
+/// A module has at most one piece more than its source has statements. So a source of at most 65,535 lines behind expansion has
+/// at most 65,536 pieces, as many as an object can number.
+pub fn pieces_are_few()
+    ensures { PiecesAreFew }
+{
+    bases_are_known();
+    contents_are_octets();
 }
 
 /// The draft of a source without a fault, whose statements an object can tell and whose bytes stand in code, can be made into a

@@ -14,11 +14,11 @@ seen (made.Reserved n) = Reserved n
 seen (made.Upto place) = Upto place
 seen made.Even = Even
 
--- the most that a number of 32 bits counts
+-- the most bytes of one statement that are counted: no statement of a source has as many
 abbrev pub most : ℕ
-most = 4294967295
+most = 16777215
 
--- a count of 32 bits stops at its greatest number
+-- a count stops there
 abbrev pub counted : Extent → Extent
 counted (extent.Bytes n) = extent.Bytes (min n most)
 counted (extent.Upto place) = extent.Upto place

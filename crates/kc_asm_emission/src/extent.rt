@@ -17,6 +17,9 @@ use kc_expr::{Scope, Value};
 use kc_source_statement::{Action, Arg, Item};
 use std::alloc::Global;
 
+/// The most bytes of one statement that are counted: no statement of a source has as many.
+const MOST: u32 = 16_777_215;
+
 /// How far a statement goes on behind its place: so many bytes, or to a place as ORG says, an address in an absolute piece,
 /// else an offset, or to an even place.
 #[derive(Clone, Copy, PartialEq, Eq)]
@@ -35,7 +38,9 @@ fn item_length(size: u8, item: &Item) -> u32
             2 => 2,
             _ => 4,
         },
-        Item::Chars(text) => u32::try_from(text.as_slice().len()).unwrap_or(u32::MAX),
+        Item::Chars(text) => u32::try_from(text.as_slice().len())
+            .unwrap_or(MOST)
+            .min(MOST),
     }
 }
 
@@ -45,7 +50,7 @@ fn data_length(size: u8, items: &[Item]) -> u32
 {
     let mut count = 0u32;
     for item in items {
-        count = count.saturating_add(item_length(size, item));
+        count = (count + item_length(size, item)).min(MOST);
     }
     count
 }
@@ -89,7 +94,7 @@ fn upto(place: Option<u16>) -> Extent
 }
 
 /// How far a statement goes on, wherever it stands: what its content tells, without its octets. A count of bytes stops at
-/// the greatest number of 32 bits. (MCS-96 Macro Assembler User's Guide, "Segments and the Location Counter".)
+/// 16,777,215, which no statement of a source reaches. (MCS-96 Macro Assembler User's Guide, "Segments and the Location Counter".)
 pub fn extent_of<S: Scope>(
     alloc: Global,
     action: &Action,

@@ -15,14 +15,14 @@ use Rattle.kc_macro.specs.Expansion.{expanded}
 use Rattle.kc_source_statement.specs.declared.statement.Stmt.{Stmt}
 use Rattle.kc_source.specs.Faults.{faults_of}
 use Rattle.kc_asm_check.specs.Judging.{faults_in, first_fault}
-use Rattle.kc_asm.specs.Assembled.{IsText, AreSaid, IsCrowded, IsFirstFault, last_line}
+use Rattle.kc_asm.specs.Assembled.{IsText, AreSaid, IsFirstFault}
 use Rattle.kc_source_laws.proofs.Tests.{holds_at}
 use Rattle.kc_asm_fault_laws.specs.Lines.{line_count, IsLineOf, FaultsStandAtLines, FaultsHaveTheirLines}
 use Rattle.kc_asm_fault_laws.proofs.Reading.{is_at, ReadAt, read_at}
 use Rattle.kc_asm_fault_laws.proofs.Expanding.{IsTold, AnswerAt, expanded_at}
 use Rattle.kc_asm_fault_laws.proofs.Least.{least_holds}
 use Rattle.kc_asm_fault_laws.proofs.Statements.{fault_at, stmt_at, faults_are_at, statements_are_at}
-use Rattle.kc_asm_fault_laws.proofs.Values.{values_are_at, crowded_at}
+use Rattle.kc_asm_fault_laws.proofs.Values.{values_are_at}
 
 module _ (source : List ℕ) where
   -- a number of a line of the source
@@ -74,12 +74,8 @@ module _ (source : List ℕ) where
 
   -- ---- the whole
 
-  of_values : (stmts : List Stmt) (line code : ℕ) → list_all (stmt_at numbers) stmts ≡ true → (first_fault stmts ≡ Some (line, code)) ⊎ ((first_fault stmts ≡ None) × IsCrowded stmts (line, code)) → numbers line ≡ true
-  of_values stmts line code h (inl e) = holds_at (fault_at numbers) (first_fault stmts) (line, code) (least_holds (fault_at numbers) (faults_in stmts) (values_are_at numbers stmts h)) e
-  of_values stmts line code h (inr c) =
-      let crowded = c.1 in
-      let same : line ≡ last_line 0 stmts = ap (λ (x : Fault). x.0) crowded.3 in
-      rw same (crowded_at numbers stmts crowded.0 crowded.1 crowded.2 h)
+  of_values : (stmts : List Stmt) (line code : ℕ) → list_all (stmt_at numbers) stmts ≡ true → first_fault stmts ≡ Some (line, code) → numbers line ≡ true
+  of_values stmts line code h e = holds_at (fault_at numbers) (first_fault stmts) (line, code) (least_holds (fault_at numbers) (faults_in stmts) (values_are_at numbers stmts h)) e
 
   told : (line code : ℕ) → IsFirstFault source (line, code) → IsTold numbers last line code
   told line code (inl e) = inl (err_at (lines_of source) (line, code) lines_read e)

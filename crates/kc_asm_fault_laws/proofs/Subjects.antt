@@ -35,7 +35,6 @@ use Rattle.kc_asm_outline.proofs.Stays.{place_is_no_number}
 use Rattle.kc_asm_layout.specs.declared.site.Site.{Site}
 use Rattle.kc_asm_check.specs.Codes.{Regions, first_regions, branch_faults, octet_faults, place_faults, regions_after, stack_after, stack_faults, counts_from_external, public_faults}
 use Rattle.kc_asm_check.specs.Judging.{own_codes, codes_of, faults_from, faults_in, first_fault, site_list, place_at}
-use Rattle.kc_asm.specs.Assembled.{IsCrowded}
 use Rattle.kc_asm_subject.specs.Uses.{used_at}
 use Rattle.kc_asm_subject.specs.Values.{means_nothing, unknown_in, unknown_among, foreign_among, subject_in, subject_on, subject_from, subject_at}
 use Rattle.kc_asm_subject.specs.Subject.{subject_of}
@@ -206,21 +205,12 @@ value_is_named law stmts line code e h =
     by (inl k) = absurd (not_both (is_about_a_name code) k h)
     by (inr k) = k
 
-crowded_is_other : (stmts : List Stmt) (line code : ℕ) → IsCrowded stmts (line, code) → is_about_a_name code ≡ true → ⊥
-crowded_is_other stmts line code crowded h =
-    let same : code ≡ 17 = ap (λ (f : Fault). f.1) crowded.3 in
-    false≢true (subst (λ (c : ℕ). is_about_a_name c ≡ true) same h)
-
 pub faults_of_names_have_names : MeaningsAreAlike → FaultsOfNamesHaveNames
 faults_of_names_have_names law source line code (inl h) about =
     let uses = all_uses (all_said h.0) in
     let same : used_at line code uses ≡ subject_of source line code = of_uses source line code h.1.0 h.0 (line, code) (used_at line code uses) h.1.1 h.1.2 h.2 refl in
     some_of (subject_of source line code) (ap is_some (sym same) ∙ use_is_named h.0 line code h.2 about)
-faults_of_names_have_names law source line code (inr h) about = by h.2
-  where
-    by : (first_fault h.0 ≡ Some (line, code)) ⊎ ((first_fault h.0 ≡ None) × IsCrowded h.0 (line, code)) → (name : List ℕ) × (subject_of source line code ≡ Some name)
-    by (inl e) =
-        let zeros = located_by at_zero h.0 in
-        let same : subject_at line code zeros ≡ subject_of source line code = of_values source line code h.1.1.0 h.1.0 h.0 (subject_at line code zeros) h.1.1.1 h.1.1.2 h.1.2 refl in
-        some_of (subject_of source line code) (ap is_some (sym same) ∙ value_is_named law h.0 line code e about)
-    by (inr c) = absurd (crowded_is_other h.0 line code c.1 about)
+faults_of_names_have_names law source line code (inr h) about =
+    let zeros = located_by at_zero h.0 in
+    let same : subject_at line code zeros ≡ subject_of source line code = of_values source line code h.1.1.0 h.1.0 h.0 (subject_at line code zeros) h.1.1.1 h.1.1.2 h.1.2 refl in
+    some_of (subject_of source line code) (ap is_some (sym same) ∙ value_is_named law h.0 line code h.2 about)

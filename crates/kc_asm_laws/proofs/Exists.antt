@@ -1,7 +1,6 @@
 -- A text without a fault is read, and each draft of what it says has a module.
-use Rattle.std.proofs.Common.{◌≡◌, ℕ, ◌<◌, ◌≤◌, Bool, true, false, List, [], length, refl, arith, inl, inr}
-use Rattle.std.specs.Prelude.{Option, Some, None, Result, Ok, Err, nat_le}
-use Rattle.std.proofs.lemmas.Bool.Decides.{nat_tests}
+use Rattle.std.proofs.Common.{◌≡◌, ℕ, ◌<◌, ◌≤◌, List, [], length, refl, arith, inl, inr}
+use Rattle.std.specs.Prelude.{Option, Some, None, Result, Ok, Err}
 use Rattle.kc_lex.specs.declared.token.Line.{Line}
 use Rattle.kc_lex.specs.Lines.{lines_of}
 use Rattle.kc_macro.specs.Expansion.{Answer, expanded, Ends, ExpansionEnds}
@@ -16,11 +15,14 @@ use Rattle.kc_asm_check.specs.Codes.{first_regions}
 use Rattle.kc_asm_check.specs.Judging.{first_fault, site_list, standing}
 use Rattle.kc_asm_check.specs.Laws.{SoundStatements}
 use Rattle.kc_asm_draft_laws.specs.Drafting.{first_parts, IsDraftOf}
+use Rattle.kc_asm_draft_laws.specs.Few.{PiecesAreFew}
 use Rattle.kc_asm_draft_laws.specs.Sound.{DraftsAreDrafts, DraftsAreWhole}
 use Rattle.kc_asm_draft_laws.specs.Writable.{PartsAreWritable}
-use Rattle.kc_asm.specs.Assembled.{IsText, AreSaid, IsFaultless, last_line}
+use Rattle.kc_asm.specs.Assembled.{IsText, AreSaid, IsFaultless}
 use Rattle.kc_asm.proofs.Said.{said_well}
 use Rattle.kc_source_laws.specs.Lines.{StatementsAreOfTheText}
+use Rattle.kc_source_laws.proofs.Counts.{stmt_count}
+use Rattle.kc_source_laws.proofs.Expanded.{few_lines}
 use Rattle.kc_asm_earlier_laws.specs.Read.{SourcesAreReadWell}
 use Rattle.kc_asm_laws.specs.Exists.{FaultlessAreRead, FaultlessHaveModules}
 use Rattle.kc_asm_laws.proofs.Sources.{said_bytes}
@@ -50,32 +52,31 @@ faultless_are_read ends text none = of_lines (lines_of text) refl
 pub record Laws : Type 0 where
   pub of_text : StatementsAreOfTheText
   pub read : SourcesAreReadWell
+  pub pieces : PiecesAreFew
   pub drafts : DraftsAreDrafts
   pub whole : DraftsAreWhole
   pub writable : PartsAreWritable
   pub sound : SoundStatements
 
-module _ (text : List ℕ) (stmts : List Stmt) (d : Draft) (none : IsFaultless text) (said : AreSaid text stmts) (drafted : IsDraftOf stmts d) where
-  pub no_fault : first_fault stmts ≡ None
-  no_fault = by (first_fault stmts) refl
-    where
-      by : (o : Option Fault) → first_fault stmts ≡ o → first_fault stmts ≡ None
-      by None e = e
-      by (Some f) e = absurd (none f.0 f.1 (inr (inr (inr (stmts, said, inl e)))))
+no_fault : (text : List ℕ) (stmts : List Stmt) → IsFaultless text → AreSaid text stmts → first_fault stmts ≡ None
+no_fault text stmts none said = by (first_fault stmts) refl
+  where
+    by : (o : Option Fault) → first_fault stmts ≡ o → first_fault stmts ≡ None
+    by None e = e
+    by (Some f) e = absurd (none f.0 f.1 (inr (inr (inr (stmts, said, e)))))
 
-  pub few_pieces : length (pieces_in d) ≤ 65536
-  few_pieces = by (nat_le (length (pieces_in d)) 65536) refl
-    where
-      by : (b : Bool) → nat_le (length (pieces_in d)) 65536 ≡ b → length (pieces_in d) ≤ 65536
-      by true e = grind (arith, nat_tests, e)
-      by false e =
-          let many : 65536 < length (pieces_in d) = grind (arith, nat_tests, e) in
-          absurd (none (last_line 0 stmts) 17 (inr (inr (inr (stmts, said, inr (no_fault, (d, drafted, many, refl)))))))
+-- an object can number the pieces
+few_pieces : PiecesAreFew → (text : List ℕ) (stmts : List Stmt) (d : Draft) → AreSaid text stmts → IsDraftOf stmts d → length (pieces_in d) ≤ 65536
+few_pieces law text stmts d said drafted =
+    let lines = few_lines said.1.0 said.0 said.1.2 in
+    let statements = stmt_count stmts said.0 said.2 in
+    let pieces = law stmts d drafted in
+    omega (arith, lines, statements, pieces)
 
 pub faultless_have_modules : Laws → FaultlessHaveModules
 faultless_have_modules laws text stmts d none said drafted =
-    let sound = no_fault text stmts d none said drafted in
-    let few = few_pieces text stmts d none said drafted in
+    let sound = no_fault text stmts none said in
+    let few = few_pieces laws.pieces text stmts d said drafted in
     let draft : IsDraft d = laws.drafts stmts d (said_well laws.read text stmts said) sound drafted few in
     let tapes = (laws.whole stmts d sound drafted).tapes in
     let small = stack_small (standing stmts) first_regions 0 [] (standing stmts) (site_list stmts) first_parts (laws.sound stmts sound) (laws.writable stmts sound) (omega arith) in

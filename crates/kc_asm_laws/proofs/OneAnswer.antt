@@ -1,21 +1,17 @@
 -- A text has one answer: a pass that has a fault shuts out those behind it, and each of them a module.
-use Rattle.std.proofs.Common.{◌≡◌, ℕ, ◌≤◌, List, [], ◌∷◌, length, map, refl, sym, ap, ◌∙◌, inl, inr, arith}
-use Rattle.std.specs.Prelude.{Option, Some, None, Result, Ok, Err, ◌⊎◌}
+use Rattle.std.proofs.Common.{◌≡◌, ℕ, List, [], map, refl, sym, ap, ◌∙◌, inl, inr}
+use Rattle.std.specs.Prelude.{Option, Some, None, Result, Ok, Err}
 use Rattle.kc_lex.specs.declared.token.Line.{Line}
 use Rattle.kc_lex.specs.Lines.{lines_of}
 use Rattle.kc_macro.specs.Expansion.{Answer, expanded, Ends, ExpansionEnds}
 use Rattle.kc_source_statement.specs.declared.statement.Stmt.{Stmt}
-use Rattle.kc_source.specs.Faults.{Fault, Said, stmt_said, least, faults_of}
+use Rattle.kc_source.specs.Faults.{Fault, stmt_said, least, faults_of}
 use Rattle.kc_obj_module.specs.Object.{Object}
-use Rattle.kc_asm_piece.specs.declared.draft.Draft.{Draft}
-use Rattle.kc_asm_piece.specs.Tape.{Tape}
-use Rattle.kc_asm_module.specs.ModuleOf.{pieces_in}
 use Rattle.kc_asm_check.specs.Codes.{first_regions}
 use Rattle.kc_asm_check.specs.Judging.{faults_from, first_fault}
-use Rattle.kc_asm_draft_laws.specs.Drafting.{IsDraftOf}
-use Rattle.kc_asm.specs.Assembled.{IsText, AreSaid, IsFirstFault, FaultOfValues, IsCrowded, IsModule, last_line}
+use Rattle.kc_asm.specs.Assembled.{IsText, AreSaid, IsFirstFault, FaultOfValues, IsModule}
 use Rattle.kc_asm_laws.specs.Modules.{IsAnswer, OneModuleOfText, OneAnswerOfText}
-use Rattle.kc_asm_laws.proofs.Alike.{cons_said, standing_alike, sites_alike, draft_alike, pieces_same, ok_lines, text_same, said_same}
+use Rattle.kc_asm_laws.proofs.Alike.{standing_alike, sites_alike, ok_lines, text_same, said_same}
 
 abbrev refused : Fault → Result Object Fault
 refused fault = Err fault
@@ -106,59 +102,20 @@ module _ (text : List ℕ) (out : List Line) (t : IsText text out) where
 
 -- ---- values and places
 
-abbrev crowded_at : ℕ → Fault
-crowded_at line = (line, 17)
-
-last_alike : (line : ℕ) (ss ts : List Stmt) → map stmt_said ss ≡ map stmt_said ts → last_line line ss ≡ last_line line ts
-unfolding last_line
-last_alike line [] [] e = refl
-last_alike line [] (t ∷ ts) e = absurd (cc e)
-last_alike line (s ∷ ss) [] e = absurd (cc e)
-last_alike line (s ∷ ss) (t ∷ ts) e =
-    let both : (stmt_said s ≡ stmt_said t) × (map stmt_said ss ≡ map stmt_said ts) = cons_said (stmt_said s) (stmt_said t) (map stmt_said ss) (map stmt_said ts) e in
-    let number : s.line ≡ t.line = ap (λ (x : Said). x.line) both.0 in
-    last_alike s.line ss ts both.1 ∙ ap (λ (n : ℕ). last_line n ts) number
-
 module _ (ss ts : List Stmt) (same : map stmt_said ss ≡ map stmt_said ts) where
   faults_alike : first_fault ss ≡ first_fault ts
   faults_alike = λ i. least (faults_from (standing_alike ss ts same i) first_regions 0 [] (standing_alike ss ts same i) (sites_alike ss ts same i))
 
-  crowded_alike : (d e : Fault) → IsCrowded ss d → IsCrowded ts e → d ≡ e
-  crowded_alike d e h k = h.3 ∙ (ap crowded_at (last_alike 0 ss ts same) ∙ sym k.3)
-
 module _ (text : List ℕ) where
-  -- there is none where statements have none, and a draft of few pieces
-  pub no_fault : (stmts : List Stmt) (draft : Draft) → AreSaid text stmts → first_fault stmts ≡ None → IsDraftOf stmts draft → length (pieces_in draft) ≤ 65536 → (d : Fault) → FaultOfValues text d → ⊥
-  no_fault stmts draft said sound drafted few d k = by k.2
-    where
-      same : map stmt_said stmts ≡ map stmt_said k.0
-      same = said_same text stmts k.0 said k.1
-
-      by : (first_fault k.0 ≡ Some d) ⊎ ((first_fault k.0 ≡ None) × IsCrowded k.0 d) → ⊥
-      by (inl e) = some_or_none (first_fault k.0) d e (sym (faults_alike stmts k.0 same) ∙ sound)
-      by (inr c) =
-          let pieces : pieces_in draft ≡ pieces_in c.1.0 = pieces_same k.0 draft c.1.0 (draft_alike stmts k.0 same draft drafted) c.1.1 in
-          let count : length (pieces_in draft) ≡ length (pieces_in c.1.0) = ap (λ (ts : List Tape). length ts) pieces in
-          let many = c.1.2 in
-          omega (arith, count, few, many)
+  -- there is none where statements have none
+  pub no_fault : (stmts : List Stmt) → AreSaid text stmts → first_fault stmts ≡ None → (d : Fault) → FaultOfValues text d → ⊥
+  no_fault stmts said sound d k = some_or_none (first_fault k.0) d k.2 (sym (faults_alike stmts k.0 (said_same text stmts k.0 said k.1)) ∙ sound)
 
   not_module : (m : Object) (d : Fault) → IsModule text m → FaultOfValues text d → ⊥
-  not_module m d h k = no_fault h.stmts h.draft h.said h.sound h.drafted h.few d k
+  not_module m d h k = no_fault h.stmts h.said h.sound d k
 
   pub one_fault : (d e : Fault) → FaultOfValues text d → FaultOfValues text e → d ≡ e
-  one_fault d e h k = by h.2 k.2
-    where
-      same : map stmt_said h.0 ≡ map stmt_said k.0
-      same = said_same text h.0 k.0 h.1 k.1
-
-      both : first_fault h.0 ≡ first_fault k.0
-      both = faults_alike h.0 k.0 same
-
-      by : (first_fault h.0 ≡ Some d) ⊎ ((first_fault h.0 ≡ None) × IsCrowded h.0 d) → (first_fault k.0 ≡ Some e) ⊎ ((first_fault k.0 ≡ None) × IsCrowded k.0 e) → d ≡ e
-      by (inl x) (inl y) = one_some (first_fault h.0) d e x (both ∙ y)
-      by (inl x) (inr y) = absurd (some_or_none (first_fault h.0) d x (both ∙ y.0))
-      by (inr x) (inl y) = absurd (some_or_none (first_fault k.0) e y (sym both ∙ x.0))
-      by (inr x) (inr y) = crowded_alike h.0 k.0 same d e x.1 y.1
+  one_fault d e h k = one_some (first_fault h.0) d e h.2 (faults_alike h.0 k.0 (said_same text h.0 k.0 h.1 k.1) ∙ k.2)
 
 -- ---- the whole
 

@@ -7,7 +7,7 @@ ghost use Rattle.kc_asm_laws.specs.Modules.{ModulesFit, OneAnswerOfText, OneModu
 
 use kc_asm_check::no_fault_no_codes;
 use kc_asm_draft_laws::{
-    drafts_are_drafts, drafts_are_whole, nothing_else_stands, parts_are_writable,
+    drafts_are_drafts, drafts_are_whole, nothing_else_stands, parts_are_writable, pieces_are_few,
 };
 use kc_asm_earlier_laws::sources_are_read_well;
 use kc_asm_encoding::laws::numbers_are_words;
@@ -110,6 +110,7 @@ pub fn faultless_have_modules()
 {
     statements_are_of_the_text();
     sources_are_read_well();
+    pieces_are_few();
     drafts_are_drafts();
     drafts_are_whole();
     parts_are_writable();

@@ -1,7 +1,7 @@
 -- Where statements stand, by the outline of their module and the forms of its generic branches: each at the end of its piece,
 -- behind a gap where its place has to be divisible (after the MCS-96 Macro Assembler User's Guide, "Segments and the Location
 -- Counter").
-use Rattle.std.specs.Prelude.{ℕ, ◌+◌, ◌%◌, ◌^◌, ◌<◌, ◌≤◌, List, [], ◌∷◌, ◌++◌, drop, Option, Some, None, unwrap_or, slice_get, slice_index, slice_set}
+use Rattle.std.specs.Prelude.{ℕ, ◌+◌, ◌%◌, ◌<◌, ◌≤◌, List, [], ◌∷◌, ◌++◌, drop, Option, Some, None, unwrap_or, slice_get, slice_index, slice_set}
 use Rattle.kc_branch.specs.declared.piece.Form.{Form}
 use Rattle.kc_branch.specs.Forms.{size, head_form}
 use Rattle.kc_asm_emission.specs.Alignment.{gap}
@@ -77,6 +77,6 @@ sites forms ns = sites_from (addresses ns) forms no_bytes ns
 
 -- ---- gaps
 
--- the gap before a statement is that of an alignment of 32 bits
+-- the gap before a statement is that of an alignment of at most 4
 abbrev pub IsNear : Site → Type 0
-IsNear s = (s.before ≤ s.place) × (s.place < s.before + 2 ^ 32)
+IsNear s = (s.before ≤ s.place) × (s.place < s.before + 4)

@@ -9,24 +9,24 @@ use crate::places::sites;
 use crate::positions::positions;
 use crate::site::Site;
 use crate::text::text;
-use kc_asm_outline::Note;
+use kc_asm_outline::ModuleOutline;
 use kc_base::NoMemory;
 use kc_branch::sizes;
 use std::alloc::Global;
 
 // The gap before each statement.
-fn gaps(alloc: Global, sites: &[Site]) -> Result<Vec<u32>, NoMemory>
+fn gaps(alloc: Global, sites: &[Site]) -> Result<Vec<u8>, NoMemory>
     requires { All IsNear sites.now }
     ensures { IfOk result (λ v. v.items ≡ map spec.gap_before sites.now) }
 {
     let mut gaps = Vec::new(alloc);
     for site in sites {
-        gaps.push((site.place - site.before) as u32)?;
+        gaps.push((site.place - site.before) as u8)?;
     }
     Ok(gaps)
 }
 
-/// Where each statement of a module stands, by the notes of its outline, at most 65,536 of them.
+/// Where each statement of a module stands, by its outline.
 ///
 /// A statement stands at the end of its piece, behind a gap where its place has to be divisible; an absolute piece begins at
 /// its address. All generic branches begin in their first form, but those to another base, an external or nothing in their
@@ -35,11 +35,11 @@ fn gaps(alloc: Global, sites: &[Site]) -> Result<Vec<u32>, NoMemory>
 /// (MCS-96 Macro Assembler User's Guide, "Segments and the Location Counter" and "Generic Branches".)
 ///
 /// `NoMemory`: memory ran out. That is the only error.
-pub fn layout(alloc: Global, notes: &[Note]) -> Result<Vec<Site>, NoMemory>
-    requires { length notes.now ≤ 65536 }
-    ensures value { IfOk result (λ v. v.items ≡ spec.layout notes.now) }
-    ensures each { IfOk result (λ v. length v.items ≡ length notes.now) }
+pub fn layout(alloc: Global, outline: &ModuleOutline) -> Result<Vec<Site>, NoMemory>
+    ensures value { IfOk result (λ v. v.items ≡ spec.layout outline.now) }
+    ensures each { IfOk result (λ v. length v.items ≡ length outline.now) }
 {
+    let notes = outline.notes();
     let first = sites(alloc, notes, &[])?;
     let gaps = gaps(alloc, &first)?;
     let positions = positions(alloc, &gaps, notes)?;

@@ -1,8 +1,9 @@
 //! Where statements stand, with one form for each.
 
-ghost use Rattle.std.specs.Prelude.{◌≡◌, ℕ, ◌+◌, ◌<◌, ◌≤◌, ◌^◌, length, drop, slice_index, slice_set, All, IfOk};
+ghost use Rattle.std.specs.Prelude.{◌≡◌, ℕ, ◌+◌, ◌-◌, ◌<◌, ◌≤◌, ◌^◌, length, drop, slice_index, slice_set, All, IfOk};
 ghost use Rattle.kc_branch.specs.Forms.{head_form};
 ghost use Rattle.kc_asm_emission.specs.Alignment as alignment;
+ghost use Rattle.kc_asm_outline.specs.Bounds.{AreBounded, IsBounded};
 ghost use Rattle.kc_asm_layout.specs.Places as spec;
 
 use crate::site::Site;
@@ -26,7 +27,7 @@ pub(crate) fn head_form(forms: &[Form]) -> Form
 #[tactic(auto, using(crate::proofs::Gaps::gap_again, crate::proofs::Gaps::gap_of_none))]
 fn gap_at(place: u64, align: u32) -> u32
     ensures value { result ≡ alignment.gap place align }
-    ensures least { result ≤ align }
+    ensures less { result ≤ align - 1 }
 {
     if align == 0 {
         0
@@ -82,7 +83,8 @@ fn addresses(alloc: Global, notes: &[Note]) -> Result<Vec<Option<u16>>, NoMemory
 
 // Where a statement stands.
 fn site_of(addresses: &[Option<u16>], form: Form, ends: &[u64], note: &Note) -> Site
-    requires { (k : ℕ) → slice_index ends.now k < 2 ^ 61 }
+    requires ends { (k : ℕ) → slice_index ends.now k < 2 ^ 61 }
+    requires bounded { IsBounded note.now }
     ensures value { result ≡ spec.site_of addresses.now form ends.now note.now }
     ensures bound { result.after < slice_index ends.now note.now.segment.piece + 2 ^ 33 + 65536 }
     ensures near { spec.IsNear result }
@@ -118,7 +120,7 @@ fn pass(mut ends: Vec<u64>, after: u64, note: &Note) -> Result<Vec<u64>, NoMemor
 // The sites of all statements, with one form for each.
 #[tactic(auto, unfolding(crate::specs::Places::sites_from))]
 pub(crate) fn sites(alloc: Global, notes: &[Note], forms: &[Form]) -> Result<Vec<Site>, NoMemory>
-    requires { length notes.now ≤ 65536 }
+    requires { AreBounded notes.now }
     ensures value { IfOk result (λ v. v.items ≡ spec.sites forms.now notes.now) }
     ensures each { IfOk result (λ v. length v.items ≡ length notes.now) }
     ensures near { IfOk result (λ v. All spec.IsNear v.items) }

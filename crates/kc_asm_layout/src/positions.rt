@@ -1,6 +1,8 @@
 //! How many pieces of text stand before the place of each statement.
 
 ghost use Rattle.std.specs.Prelude.{◌≡◌, ◌+◌, ◌*◌, ◌≤◌, ◌<◌, ◌^◌, length, IfOk};
+ghost use Rattle.kc_asm_emission.specs.Seen.{most};
+ghost use Rattle.kc_asm_outline.specs.Bounds.{AreBounded, IsBounded};
 ghost use Rattle.kc_asm_layout.specs.Text as spec;
 
 use crate::text::{behind_gap, is_code, is_main, next_gap};
@@ -11,19 +13,20 @@ use std::alloc::Global;
 // The most bytes of a piece of text.
 const MOST: u32 = 65535;
 
-fn bytes_length(count: u32) -> u64
+fn bytes_length(count: u32) -> u32
+    requires { count ≤ most }
     ensures value { result ≡ length (spec.bytes_text count) }
-    ensures bound { result ≤ 65538 }
+    ensures bound { result ≤ 257 }
 {
-    u64::from(count / MOST) + 1
+    count / MOST + 1
 }
 
-fn lead_length(gap: u32, note: &Note) -> u64
+fn lead_length(gap: u8, note: &Note) -> u32
     ensures value { result ≡ length (spec.lead gap note.now) }
-    ensures bound { result ≤ 65538 }
+    ensures bound { result ≤ 257 }
 {
     if !is_code(note.segment) {
-        bytes_length(gap)
+        bytes_length(u32::from(gap))
     } else if note.alignment == 2 {
         1
     } else {
@@ -31,9 +34,10 @@ fn lead_length(gap: u32, note: &Note) -> u64
     }
 }
 
-fn body_length(note: &Note) -> u64
+fn body_length(note: &Note) -> u32
+    requires { IsBounded note.now }
     ensures value { result ≡ length (spec.body_text spec.nowhere note.now.segment note.now.body) }
-    ensures bound { result ≤ 65538 }
+    ensures bound { result ≤ 257 }
 {
     match note.body {
         Body::Bytes(count) => bytes_length(count),
@@ -41,16 +45,18 @@ fn body_length(note: &Note) -> u64
     }
 }
 
-fn own_length(gap: u32, note: &Note) -> u64
+fn own_length(gap: u8, note: &Note) -> u32
+    requires { IsBounded note.now }
     ensures value { result ≡ length (spec.own_text spec.nowhere gap note.now) }
-    ensures bound { result ≤ 131076 }
+    ensures bound { result ≤ 514 }
 {
     lead_length(gap, note) + body_length(note)
 }
 
-fn main_length(gap: u32, note: &Note) -> u64
+fn main_length(gap: u8, note: &Note) -> u32
+    requires { IsBounded note.now }
     ensures value { result ≡ length (spec.main_text spec.nowhere gap note.now) }
-    ensures bound { result ≤ 131076 }
+    ensures bound { result ≤ 514 }
 {
     if is_main(note.segment) {
         own_length(gap, note)
@@ -59,24 +65,25 @@ fn main_length(gap: u32, note: &Note) -> u64
     }
 }
 
-fn absolute_length(gap: u32, note: &Note) -> u64
+fn absolute_length(gap: u8, note: &Note) -> u32
+    requires { IsBounded note.now }
     ensures value { result ≡ length (spec.absolute_text spec.nowhere gap note.now) }
-    ensures bound { result ≤ 131077 }
+    ensures bound { result ≤ 515 }
 {
     let own = if note.segment.is_absolute() {
         own_length(gap, note)
     } else {
         0
     };
-    own + u64::from(note.opens.is_some())
+    own + u32::from(note.opens.is_some())
 }
 
 // How many pieces of text the relocatable code has.
 #[tactic(auto, unfolding(crate::specs::Text::text_by))]
-fn whole_main_length(gaps: &[u32], notes: &[Note]) -> u64
-    requires { length notes.now ≤ 65536 }
+fn whole_main_length(gaps: &[u8], notes: &[Note]) -> u32
+    requires { AreBounded notes.now }
     ensures value { result ≡ length (spec.text_by (spec.main_text spec.nowhere) gaps.now notes.now) }
-    ensures bound { result ≤ 2 ^ 34 }
+    ensures bound { result ≤ 2 ^ 26 }
 {
     let mut count = 0;
     let mut later = gaps;
@@ -87,9 +94,9 @@ fn whole_main_length(gaps: &[u32], notes: &[Note]) -> u64
     count
 }
 
-fn position(main: u64, absolute: u64, gap: u32, note: &Note) -> u64
-    requires main { main ≤ 2 ^ 62 }
-    requires absolute { absolute ≤ 2 ^ 62 }
+fn position(main: u32, absolute: u32, gap: u8, note: &Note) -> u32
+    requires main { main ≤ 2 ^ 30 }
+    requires absolute { absolute ≤ 2 ^ 30 }
     ensures { result ≡ spec.position main absolute gap note.now }
 {
     if is_main(note.segment) {
@@ -103,8 +110,8 @@ fn position(main: u64, absolute: u64, gap: u32, note: &Note) -> u64
 
 // For each statement, how many pieces of text stand before its place.
 #[tactic(auto, unfolding(crate::specs::Text::positions_from))]
-pub(crate) fn positions(alloc: Global, gaps: &[u32], notes: &[Note]) -> Result<Vec<u64>, NoMemory>
-    requires { length notes.now ≤ 65536 }
+pub(crate) fn positions(alloc: Global, gaps: &[u8], notes: &[Note]) -> Result<Vec<u32>, NoMemory>
+    requires { AreBounded notes.now }
     ensures { IfOk result (λ v. v.items ≡ spec.positions gaps.now notes.now) }
 {
     let mut positions = Vec::new(alloc);

@@ -48,35 +48,31 @@ fn segment_at(notes: &[Note], number: u16) -> Segment
     }
 }
 
-// The place of a statement in the text, with a distance. No memory holds more pieces of text than 32 bits count.
-fn place_in(positions: &[u64], number: u16, distance: i16) -> Result<Option<(u32, i16)>, NoMemory>
-    ensures { IfOk result (λ t. t ≡ Some (slice_index positions.now number, distance)) }
+// How many pieces of text stand before the place of a statement.
+fn position_at(positions: &[u32], number: u16) -> u32
+    ensures { result ≡ slice_index positions.now number }
 {
-    let position = positions.get(usize::from(number)).copied().unwrap_or(0);
-    match u32::try_from(position) {
-        Ok(place) => Ok(Some((place, distance))),
-        Err(_) => Err(NoMemory),
-    }
+    positions.get(usize::from(number)).copied().unwrap_or(0)
 }
 
 // What the target of a branch is in the text, by the segment of the branch.
 fn target_in(
-    positions: &[u64],
+    positions: &[u32],
     notes: &[Note],
     segment: Segment,
     anchor: Anchor,
-) -> Result<Option<(u32, i16)>, NoMemory>
-    ensures { IfOk result (λ t. t ≡ spec.target_in positions.now notes.now segment anchor) }
+) -> Option<(u32, i16)>
+    ensures { result ≡ spec.target_in positions.now notes.now segment anchor }
 {
     match anchor {
         Anchor::Statement { number, distance } => {
             if is_same_base(segment, segment_at(notes, number)) {
-                place_in(positions, number, distance)
+                Some((position_at(positions, number), distance))
             } else {
-                Ok(None)
+                None
             }
         }
-        Anchor::External | Anchor::Nothing => Ok(None),
+        Anchor::External | Anchor::Nothing => None,
     }
 }
 
@@ -94,11 +90,11 @@ fn push_bytes(text: &mut Vec<Piece>, count: u32) -> Result<(), NoMemory>
 }
 
 // What leads to the place of a statement.
-fn push_lead(text: &mut Vec<Piece>, gap: u32, note: &Note) -> Result<(), NoMemory>
+fn push_lead(text: &mut Vec<Piece>, gap: u8, note: &Note) -> Result<(), NoMemory>
     ensures { IfOk result (λ _. text.new.items ≡ text.old.items ++ spec.lead gap note.now) }
 {
     if !is_code(note.segment) {
-        return push_bytes(text, gap);
+        return push_bytes(text, u32::from(gap));
     }
     if note.alignment == 2 {
         text.push(Piece::Even)?;
@@ -108,25 +104,27 @@ fn push_lead(text: &mut Vec<Piece>, gap: u32, note: &Note) -> Result<(), NoMemor
 
 // A branch, which outside code keeps its first form.
 fn branch_text(
-    positions: &[u64],
+    positions: &[u32],
     notes: &[Note],
     segment: Segment,
     kind: BranchKind,
     anchor: Anchor,
-) -> Result<Piece, NoMemory>
-    ensures { IfOk result (λ p. p ∷ [] ≡ spec.body_text (spec.target_in positions.now notes.now) segment (Branch kind anchor)) }
+) -> Piece
+    ensures { result ∷ [] ≡ spec.body_text (spec.target_in positions.now notes.now) segment (Branch kind anchor) }
 {
     if is_code(segment) {
-        let target = target_in(positions, notes, segment, anchor)?;
-        Ok(Piece::Branch { kind, target })
+        Piece::Branch {
+            kind,
+            target: target_in(positions, notes, segment, anchor),
+        }
     } else {
-        Ok(Piece::Bytes(branch_length(kind, Form::First)))
+        Piece::Bytes(branch_length(kind, Form::First))
     }
 }
 
 fn push_body(
     text: &mut Vec<Piece>,
-    positions: &[u64],
+    positions: &[u32],
     notes: &[Note],
     note: &Note,
 ) -> Result<(), NoMemory>
@@ -143,8 +141,7 @@ fn push_body(
             Ok(())
         }
         Body::Branch { kind, anchor } => {
-            let piece = branch_text(positions, notes, note.segment, kind, anchor)?;
-            text.push(piece)?;
+            text.push(branch_text(positions, notes, note.segment, kind, anchor))?;
             Ok(())
         }
     }
@@ -152,9 +149,9 @@ fn push_body(
 
 fn push_own(
     text: &mut Vec<Piece>,
-    positions: &[u64],
+    positions: &[u32],
     notes: &[Note],
-    gap: u32,
+    gap: u8,
     note: &Note,
 ) -> Result<(), NoMemory>
     ensures { IfOk result (λ _. text.new.items ≡ text.old.items ++ spec.own_text (spec.target_in positions.now notes.now) gap note.now) }
@@ -165,9 +162,9 @@ fn push_own(
 
 fn push_main(
     text: &mut Vec<Piece>,
-    positions: &[u64],
+    positions: &[u32],
     notes: &[Note],
-    gap: u32,
+    gap: u8,
     note: &Note,
 ) -> Result<(), NoMemory>
     ensures { IfOk result (λ _. text.new.items ≡ text.old.items ++ spec.main_text (spec.target_in positions.now notes.now) gap note.now) }
@@ -180,9 +177,9 @@ fn push_main(
 
 fn push_absolute(
     text: &mut Vec<Piece>,
-    positions: &[u64],
+    positions: &[u32],
     notes: &[Note],
-    gap: u32,
+    gap: u8,
     note: &Note,
 ) -> Result<(), NoMemory>
     ensures { IfOk result (λ _. text.new.items ≡ text.old.items ++ spec.absolute_text (spec.target_in positions.now notes.now) gap note.now) }
@@ -198,7 +195,7 @@ fn push_absolute(
 
 // ---- all statements, with the gap before each
 
-pub(crate) fn next_gap(gaps: &[u32]) -> u32
+pub(crate) fn next_gap(gaps: &[u8]) -> u8
     ensures { result ≡ spec.next_gap gaps.now }
 {
     match gaps {
@@ -207,7 +204,7 @@ pub(crate) fn next_gap(gaps: &[u32]) -> u32
     }
 }
 
-pub(crate) fn behind_gap(gaps: &[u32]) -> &[u32]
+pub(crate) fn behind_gap(gaps: &[u8]) -> &[u8]
     ensures { result.now ≡ drop 1 gaps.now }
 {
     match gaps {
@@ -219,8 +216,8 @@ pub(crate) fn behind_gap(gaps: &[u32]) -> &[u32]
 #[tactic(auto, unfolding(crate::specs::Text::text_by))]
 fn push_all_main(
     text: &mut Vec<Piece>,
-    positions: &[u64],
-    gaps: &[u32],
+    positions: &[u32],
+    gaps: &[u8],
     notes: &[Note],
 ) -> Result<(), NoMemory>
     ensures { IfOk result (λ _. text.new.items ≡ text.old.items ++ spec.text_by (spec.main_text (spec.target_in positions.now notes.now)) gaps.now notes.now) }
@@ -236,8 +233,8 @@ fn push_all_main(
 #[tactic(auto, unfolding(crate::specs::Text::text_by))]
 fn push_all_absolute(
     text: &mut Vec<Piece>,
-    positions: &[u64],
-    gaps: &[u32],
+    positions: &[u32],
+    gaps: &[u8],
     notes: &[Note],
 ) -> Result<(), NoMemory>
     ensures { IfOk result (λ _. text.new.items ≡ text.old.items ++ spec.text_by (spec.absolute_text (spec.target_in positions.now notes.now)) gaps.now notes.now) }
@@ -253,8 +250,8 @@ fn push_all_absolute(
 // The relocatable code, and then the absolute pieces.
 pub(crate) fn text(
     alloc: Global,
-    positions: &[u64],
-    gaps: &[u32],
+    positions: &[u32],
+    gaps: &[u8],
     notes: &[Note],
 ) -> Result<Vec<Piece>, NoMemory>
     ensures { IfOk result (λ v. v.items ≡ spec.whole_text (spec.target_in positions.now notes.now) gaps.now notes.now) }

@@ -1,9 +1,10 @@
 //! Where the statements of a source stand.
 
-ghost use Rattle.std.specs.Prelude.{◌≡◌, ◌≤◌, ◌++◌, drop, length, slice_index, IfOk, OnOk};
+ghost use Rattle.std.specs.Prelude.{◌≡◌, ◌≤◌, ◌++◌, drop, length, slice_index, All, IfOk, OnOk};
 ghost use Rattle.kc_asm_symbols.specs.Externals.{externals};
 ghost use Rattle.kc_asm_symbols.specs.Located.{located_by};
 ghost use Rattle.kc_asm_outline.specs.Outline.{at_zero};
+ghost use Rattle.kc_asm_outline.specs.Bounds.{IsBounded};
 ghost use Rattle.kc_asm_list.specs.Spots as spec;
 
 use kc_asm_layout::{Site, layout};
@@ -16,24 +17,22 @@ use kc_lex::kinds::has_label;
 use kc_source_statement::Stmt;
 use std::alloc::Global;
 
-// Where a statement stands. No memory holds more pieces than 32 bits count.
-fn spot_of(line: &Line, depth: usize, note: &Note, site: &Site) -> Result<Spot, NoMemory>
-    ensures { IfOk result (λ s. s ≡ spec.spot_of line.now depth note.now site.now) }
+// Where a statement stands.
+fn spot_of(line: &Line, depth: usize, note: &Note, site: &Site) -> Spot
+    requires { IsBounded note.now }
+    ensures { result ≡ spec.spot_of line.now depth note.now site.now }
 {
-    let Ok(piece) = u32::try_from(note.segment.piece) else {
-        return Err(NoMemory);
-    };
-    Ok(Spot {
+    Spot {
         line: line.number,
         depth,
         labelled: has_label(line.tokens.as_slice()),
         kind: note.segment.kind,
-        piece,
+        piece: note.segment.piece as u32,
         at: site.address,
         before: site.before,
         place: site.place,
         after: site.after,
-    })
+    }
 }
 
 fn first_depth(depths: &[usize]) -> usize
@@ -50,6 +49,7 @@ fn put_first(
     notes: &[Note],
     sites: &[Site],
 ) -> Result<(), NoMemory>
+    requires { All IsBounded notes.now }
     ensures { OnOk result (spots.new.items ≡ spots.old.items ++ spec.first_spot line.now depths.now notes.now sites.now) }
 {
     match notes {
@@ -57,8 +57,7 @@ fn put_first(
         [note, ..] => match sites {
             [] => Ok(()),
             [site, ..] => {
-                let spot = spot_of(line, first_depth(depths), note, site)?;
-                spots.push(spot)?;
+                spots.push(spot_of(line, first_depth(depths), note, site))?;
                 Ok(())
             }
         },
@@ -83,6 +82,7 @@ fn spots_from(
     notes: &[Note],
     sites: &[Site],
 ) -> Result<Vec<Spot>, NoMemory>
+    requires { All IsBounded notes.now }
     ensures { IfOk result (λ v. v.items ≡ spec.spots_from text.now depths.now notes.now sites.now) }
 {
     let mut spots = Vec::new(alloc);
@@ -115,7 +115,7 @@ pub(crate) fn spots_of(
 {
     let taken = externals(alloc, stmts)?;
     let names = Names::new(alloc, stmts, &taken)?;
-    let notes = outline(alloc, stmts, &names)?;
-    let sites = layout(alloc, &notes)?;
-    spots_from(alloc, text, depths, &notes, &sites)
+    let outlined = outline(alloc, stmts, &names)?;
+    let sites = layout(alloc, &outlined)?;
+    spots_from(alloc, text, depths, outlined.notes(), &sites)
 }

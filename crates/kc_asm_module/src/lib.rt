@@ -1,7 +1,6 @@
 //! The module that the pieces of a source are.
 #![tactic(auto)]
 
-mod count;
 mod gather;
 mod kept;
 mod laws;
@@ -10,7 +9,6 @@ mod publics;
 mod puts;
 mod runs;
 
-pub use count::piece_count;
 pub use kept::Kept;
 pub use laws::{absolute_alike, few_pieces, numbers_stand, one_module};
 pub use making::module_of;

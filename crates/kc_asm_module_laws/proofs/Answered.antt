@@ -1,7 +1,6 @@
 -- Each text has an answer: a pass has a fault, or none has, and then there is a module.
-use Rattle.std.proofs.Common.{◌≡◌, ℕ, ◌<◌, ◌≤◌, Bool, true, false, List, length, refl, inl, inr, arith}
-use Rattle.std.specs.Prelude.{Option, Some, None, Result, Ok, Err, nat_le}
-use Rattle.std.proofs.lemmas.Bool.Decides.{nat_tests}
+use Rattle.std.proofs.Common.{◌≡◌, ℕ, List, refl, inl, inr}
+use Rattle.std.specs.Prelude.{Option, Some, None, Result, Ok, Err}
 use Rattle.kc_lex.specs.declared.token.Line.{Line}
 use Rattle.kc_lex.specs.Lines.{lines_of}
 use Rattle.kc_macro.specs.Expansion.{Answer, expanded, Ends, ExpansionEnds}
@@ -9,9 +8,8 @@ use Rattle.kc_source.specs.Clear.{NamesAreClear}
 use Rattle.kc_source.specs.Faults.{Fault, least, faults_of}
 use Rattle.kc_obj_module.specs.Object.{Object}
 use Rattle.kc_asm_symbols.specs.Few.{ExternalsAreFew}
-use Rattle.kc_asm_module.specs.ModuleOf.{pieces_in}
 use Rattle.kc_asm_check.specs.Judging.{first_fault}
-use Rattle.kc_asm.specs.Assembled.{IsText, IsFirstFault, IsFaultless, IsModule, last_line}
+use Rattle.kc_asm.specs.Assembled.{IsText, IsFirstFault, IsFaultless, IsModule}
 use Rattle.kc_asm_laws.specs.Exists.{FaultlessHaveModules}
 use Rattle.kc_asm_laws.specs.Modules.{IsAnswer}
 use Rattle.kc_asm_laws.proofs.OneAnswer.{of_values, no_fault}
@@ -34,19 +32,11 @@ pub record Laws : Type 0 where
   pub clear : NamesAreClear
 
 -- where the first three passes have no fault
-module _ (laws : Laws) (text : List ℕ) (out : List Line) (t : IsText text out) (g : least (faults_of out) ≡ None) (d : Drafted text) where
-  of_pieces : first_fault d.stmts ≡ None → (b : Bool) → nat_le (length (pieces_in d.draft)) 65536 ≡ b → Answered text
-  of_pieces e false k =
-      let many : 65536 < length (pieces_in d.draft) = grind (arith, nat_tests, k) in
-      refused text (last_line 0 d.stmts, 17) (inr (inr (inr (d.stmts, d.said, inr (e, (d.draft, d.drafted, many, refl))))))
-  of_pieces e true k =
-      let few : length (pieces_in d.draft) ≤ 65536 = grind (arith, nat_tests, k) in
-      let none : IsFaultless text = λ line code h. no_fault text d.stmts d.draft d.said e d.drafted few (line, code) (of_values text out t g (line, code) h) in
-      assembled text (laws.have text d.stmts d.draft none d.said d.drafted)
-
-  of_values_pass : (o : Option Fault) → first_fault d.stmts ≡ o → Answered text
-  of_values_pass None e = of_pieces e (nat_le (length (pieces_in d.draft)) 65536) refl
-  of_values_pass (Some f) e = refused text f (inr (inr (inr (d.stmts, d.said, inl e))))
+of_values_pass : Laws → (text : List ℕ) (out : List Line) → IsText text out → least (faults_of out) ≡ None → (d : Drafted text) → (o : Option Fault) → first_fault d.stmts ≡ o → Answered text
+of_values_pass laws text out t g d None e =
+    let none : IsFaultless text = λ line code h. no_fault text d.stmts d.said e (line, code) (of_values text out t g (line, code) h) in
+    assembled text (laws.have text d.stmts d.draft none d.said d.drafted)
+of_values_pass laws text out t g d (Some f) e = refused text f (inr (inr (inr (d.stmts, d.said, e))))
 
 module _ (laws : Laws) (text : List ℕ) where
   of_names : (out : List Line) → IsText text out → (o : Option Fault) → least (faults_of out) ≡ o → Answered text

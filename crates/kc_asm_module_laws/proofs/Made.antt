@@ -24,7 +24,8 @@ use Rattle.kc_asm_draft_laws.proofs.Lists.{nothing_left}
 use Rattle.kc_asm_laws.specs.Exists.{FaultlessAreRead, FaultlessHaveModules}
 use Rattle.kc_asm_module_laws.specs.Made.{TextsHaveModules}
 use Rattle.kc_asm_module_laws.proofs.Values.{vec_of, made}
-use Rattle.kc_asm_module_laws.proofs.Lines.{few_lines, few_said, few_parts}
+use Rattle.kc_source_laws.proofs.Expanded.{few_lines}
+use Rattle.kc_asm_module_laws.proofs.Lines.{few_said, few_parts}
 use Rattle.kc_asm_module_laws.proofs.Publics.{few_publics}
 
 -- what few things are in memory

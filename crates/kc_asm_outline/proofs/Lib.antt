@@ -1,4 +1,5 @@
 pub mod Steps
 pub mod Numbers
-pub mod Extents
+pub mod Bounded
+mod Extents
 pub mod Stays

@@ -1,3 +1,4 @@
 pub mod Outline
 pub mod Numbered
+pub mod Bounds
 pub mod Laws

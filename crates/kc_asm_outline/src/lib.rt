@@ -2,12 +2,14 @@
 #![tactic(auto)]
 
 mod anchors;
+mod bounded;
 mod laws;
 mod note;
 mod notes;
 mod walk;
 
 pub use anchors::{opens, target};
+pub use bounded::ModuleOutline;
 pub use laws::{outlines_are_numbered, outlines_have_lengths, outlines_stay};
 pub use note::{Anchor, Body, Note};
 pub use walk::outline;

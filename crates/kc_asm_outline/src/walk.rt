@@ -4,7 +4,7 @@ ghost use Rattle.kc_asm_symbols.specs.Located.{located_by, place_values};
 ghost use Rattle.kc_asm_symbols.specs.Walk.{AreNamesOf};
 ghost use Rattle.kc_asm_outline.specs.Outline as spec;
 
-use crate::note::Note;
+use crate::bounded::ModuleOutline;
 use crate::notes::note_of;
 use kc_asm_symbols::{Meanings, Names, Segment};
 use kc_base::NoMemory;
@@ -55,11 +55,11 @@ fn owns(alloc: Global, stmts: &[Stmt]) -> Result<Vec<Value>, NoMemory>
 /// The outline of a module: a note for each of its statements, of which there are at most 65,536, where `names` are its
 /// names. It is the same wherever the statements stand. (MCS-96 Macro Assembler User's Guide, "Segments and the
 /// Location Counter" and "Generic Branches".)
-pub fn outline(alloc: Global, stmts: &[Stmt], names: &Names) -> Result<Vec<Note>, NoMemory>
+pub fn outline(alloc: Global, stmts: &[Stmt], names: &Names) -> Result<ModuleOutline, NoMemory>
     requires statements { length stmts.now ≤ 65536 }
     requires names { AreNamesOf names.now stmts.now }
-    ensures notes { IfOk result (λ v. v.items ≡ spec.outline stmts.now) }
-    ensures count { IfOk result (λ v. length v.items ≡ length stmts.now) }
+    ensures notes { IfOk result (λ v. v ≡ spec.outline stmts.now) }
+    ensures count { IfOk result (λ v. length v ≡ length stmts.now) }
 {
     let at_zero = zeros(alloc, stmts)?;
     let on_their_own = owns(alloc, stmts)?;
@@ -77,5 +77,5 @@ pub fn outline(alloc: Global, stmts: &[Stmt], names: &Names) -> Result<Vec<Note>
         own.leave(alloc, stmt)?;
         segment = segment.after(&stmt.action);
     }
-    Ok(notes)
+    Ok(ModuleOutline::of(notes))
 }

@@ -1,179 +1,86 @@
 // Places of statements, in pieces too that are longer than a module may have.
-use kc_asm_layout::layout;
-use kc_asm_outline::{Anchor, Body, Note};
-use kc_asm_symbols::Segment;
-use kc_branch::{BranchKind, Form};
-use kc_obj_module::SegKind;
+use crate::sources::outline_of;
+use kc_asm_layout::{Site, layout};
+use kc_branch::Form;
+use std::alloc::Global;
 use std::test::*;
 
-const MAIN: Segment = Segment {
-    piece: 1,
-    kind: SegKind::Code,
-    count: 3,
-};
-
-const DATA: Segment = Segment {
-    piece: 2,
-    kind: SegKind::Ram,
-    count: 3,
-};
-
-fn absolute(piece: u16, kind: SegKind) -> Segment {
-    Segment {
-        piece: usize::from(piece),
-        kind,
-        count: usize::from(piece) + 1,
-    }
+/// Where the statements of a source stand, if its lines and its names have no fault.
+fn sites(alloc: Global, source: &[&str]) -> Option<Vec<Site>> {
+    let outline = outline_of(alloc, source)?;
+    layout(alloc, &outline).ok()
 }
 
-fn note(segment: Segment, body: Body) -> Note {
-    Note {
-        segment,
-        alignment: 1,
-        body,
-        opens: None,
-    }
-}
+/// Where a piece ended before a statement, its place, where the piece ends behind it, and the address of the piece.
+type Stand = (u64, u64, u64, Option<u16>);
 
-fn aligned(segment: Segment, alignment: u32, body: Body) -> Note {
-    Note {
-        alignment,
-        ..note(segment, body)
-    }
-}
+/// Statements of several segments, each with where it stands.
+static STANDING: [(&str, Stand); 23] = [
+    ("A: DSB 3", (0, 0, 3, None)),
+    (" DSEG", (3, 3, 3, None)),
+    (" DSB 5", (0, 0, 5, None)),
+    (" CSEG", (5, 5, 5, None)),
+    (" DSW 1", (3, 4, 6, None)),
+    (" RSEG AT 1AH", (6, 6, 6, None)),
+    (" DSB 1", (0x1A, 0x1A, 0x1B, Some(0x1A))),
+    (" DSL 1", (0x1B, 0x1C, 0x20, Some(0x1A))),
+    (" DSL 1", (0x20, 0x20, 0x24, Some(0x1A))),
+    (" CSEG AT 2080H", (0x24, 0x24, 0x24, Some(0x1A))),
+    (" DSB 1", (0x2080, 0x2080, 0x2081, Some(0x2080))),
+    (" EVEN", (0x2081, 0x2081, 0x2082, Some(0x2080))),
+    (" EVEN", (0x2082, 0x2082, 0x2082, Some(0x2080))),
+    (" ORG 3000H", (0x2082, 0x2082, 0x3000, Some(0x2080))),
+    (" DSB 1", (0x3000, 0x3000, 0x3001, Some(0x2080))),
+    (" DSEG", (0x3001, 0x3001, 0x3001, Some(0x2080))),
+    (" DSL 65535", (5, 6, 262_146, None)),
+    (" DSB 1", (262_146, 262_146, 262_147, None)),
+    (" CSEG", (262_147, 262_147, 262_147, None)),
+    (" DSL 65535", (6, 6, 262_146, None)),
+    (" ORG 16", (262_146, 262_146, 16, None)),
+    (" CALL A", (16, 16, 18, None)),
+    (" END", (18, 18, 18, None)),
+];
 
-fn opening(segment: Segment, address: u16) -> Note {
-    Note {
-        opens: Some(address),
-        ..note(segment, Body::Bytes(0))
-    }
-}
-
-fn branch(segment: Segment, kind: BranchKind, number: u16, distance: i16) -> Note {
-    note(
-        segment,
-        Body::Branch {
-            kind,
-            anchor: Anchor::Statement { number, distance },
-        },
-    )
-}
-
-/// Statements of several segments, each with where its piece ended before it, its place, where its piece ends behind it, and
-/// the address of its piece.
 #[test]
 fn statements_stand_at_the_ends_of_their_pieces(rt: HostRuntime) -> Result<(), Fail> {
-    let registers = absolute(3, SegKind::Reg);
-    let code = absolute(4, SegKind::Code);
-    let data = Segment { count: 5, ..DATA };
-    let main = Segment { count: 5, ..MAIN };
-    let rows = [
-        (note(MAIN, Body::Bytes(3)), (0, 0, 3, None)),
-        (note(DATA, Body::Bytes(5)), (0, 0, 5, None)),
-        (aligned(MAIN, 2, Body::Bytes(2)), (3, 4, 6, None)),
-        (opening(MAIN, 0x1A), (6, 6, 6, None)),
-        (
-            note(registers, Body::Bytes(1)),
-            (0x1A, 0x1A, 0x1B, Some(0x1A)),
-        ),
-        (
-            aligned(registers, 4, Body::Bytes(4)),
-            (0x1B, 0x1C, 0x20, Some(0x1A)),
-        ),
-        (
-            aligned(registers, 4, Body::Bytes(4)),
-            (0x20, 0x20, 0x24, Some(0x1A)),
-        ),
-        (opening(registers, 0x2080), (0x24, 0x24, 0x24, Some(0x1A))),
-        (
-            note(code, Body::Bytes(1)),
-            (0x2080, 0x2080, 0x2081, Some(0x2080)),
-        ),
-        (
-            note(code, Body::Even),
-            (0x2081, 0x2081, 0x2082, Some(0x2080)),
-        ),
-        (
-            note(code, Body::Even),
-            (0x2082, 0x2082, 0x2082, Some(0x2080)),
-        ),
-        (
-            note(code, Body::Upto(0x3000)),
-            (0x2082, 0x2082, 0x3000, Some(0x2080)),
-        ),
-        (
-            note(code, Body::Bytes(1)),
-            (0x3000, 0x3000, 0x3001, Some(0x2080)),
-        ),
-        (
-            aligned(data, 2, Body::Bytes(262_140)),
-            (5, 6, 262_146, None),
-        ),
-        (
-            note(data, Body::Bytes(1)),
-            (262_146, 262_146, 262_147, None),
-        ),
-        (note(main, Body::Bytes(262_140)), (6, 6, 262_146, None)),
-        (note(main, Body::Upto(16)), (262_146, 262_146, 16, None)),
-        (branch(main, BranchKind::Call, 0, 0), (16, 16, 18, None)),
-    ];
-    let notes = Vec::from_iter(rt.alloc(), rows.iter().map(|(note, _)| *note))?;
-    assert!(rt; notes.len() == rows.len());
-    let sites = layout(rt.alloc(), &notes)?;
-    assert!(rt; sites.len() == rows.len());
-    for (number, (site, (note, wanted))) in sites.iter().zip(&rows).enumerate() {
+    let source = Vec::from_iter(rt.alloc(), STANDING.iter().map(|row| row.0))?;
+    let sites = sites(rt.alloc(), &source).expect(&rt, "its names have no fault");
+    assert!(rt; sites.len() == STANDING.len());
+    for (site, row) in sites.iter().zip(&STANDING) {
+        let &(line, wanted) = row;
         assert!(rt;
-            (site.before, site.place, site.after, site.address) == *wanted,
-            "{number}"
+            (site.before, site.place, site.after, site.address) == wanted,
+            "{line}"
         );
-        assert!(rt; site.body == note.body);
     }
     Ok(())
 }
 
-/// Where a piece has passed 65,535 bytes a branch counts from whole numbers; outside code it keeps its first form.
+/// Where a piece has passed 65,535 bytes a branch counts from whole numbers: forth over a great reserve and back, and near it.
 #[test]
-fn a_branch_over_a_great_reserve_is_long(rt: HostRuntime) -> Result<(), Fail> {
-    let kind = BranchKind::Conditional;
-    let outside = Body::Branch {
-        kind,
-        anchor: Anchor::External,
-    };
-    let notes = [
-        branch(MAIN, kind, 2, 0),
-        note(MAIN, Body::Bytes(262_140)),
-        branch(MAIN, kind, 2, 129),
-        branch(MAIN, kind, 0, 0),
-        note(DATA, outside),
-    ];
-    let sites = layout(rt.alloc(), &notes)?;
+fn a_branch_over_a_great_reserve_is_long(rt: HostRuntime) {
+    let source = ["A: BE B", " DSL 65535", "B: BE B+129", " BE A", " END"];
+    let sites = sites(rt.alloc(), &source).expect(&rt, "its names have no fault");
     let wanted = [
         (0, Form::Third),
-        (5, Form::First),
-        (262_145, Form::First),
-        (262_147, Form::Third),
-        (0, Form::First),
+        (6, Form::First),
+        (262_146, Form::First),
+        (262_148, Form::Third),
+        (262_153, Form::First),
     ];
+    assert!(rt; sites.len() == wanted.len());
     for (site, (place, form)) in sites.iter().zip(&wanted) {
         assert!(rt; (site.place, site.form) == (*place, *form), "{place}");
     }
-    Ok(())
 }
 
 /// A call over 65,535 bytes, forth and back, is long.
 #[test]
-fn a_call_over_the_longest_reserve_is_long(rt: HostRuntime) -> Result<(), Fail> {
-    let reserve = note(MAIN, Body::Bytes(65_535));
-    let kind = BranchKind::Call;
-    let forth = [
-        branch(MAIN, kind, 2, 0),
-        reserve,
-        note(MAIN, Body::Bytes(0)),
-    ];
-    let sites = layout(rt.alloc(), &forth)?;
-    assert!(rt; (sites[0].form, sites[2].place) == (Form::Second, 65_538));
-    let back = [reserve, branch(MAIN, kind, 0, 0)];
-    let sites = layout(rt.alloc(), &back)?;
-    assert!(rt; (sites[1].form, sites[1].after) == (Form::Second, 65_538));
-    Ok(())
+fn a_call_over_the_longest_reserve_is_long(rt: HostRuntime) {
+    let forth = sites(rt.alloc(), &[" CALL C", " DSB 65535", "C:", " END"])
+        .expect(&rt, "its names have no fault");
+    assert!(rt; (forth[0].form, forth[2].place) == (Form::Second, 65_538));
+    let back = sites(rt.alloc(), &["C: DSB 65535", " CALL C", " END"])
+        .expect(&rt, "its names have no fault");
+    assert!(rt; (back[1].form, back[1].after) == (Form::Second, 65_538));
 }

@@ -10,6 +10,8 @@ mod outline;
 #[cfg(test)]
 mod rows;
 #[cfg(test)]
+mod sources;
+#[cfg(test)]
 mod symbols;
 #[cfg(test)]
 mod without_value;

@@ -1,12 +1,9 @@
 // What statements are to the steps behind the outline.
-use kc_asm_outline::{Anchor, Body, Note, opens, outline};
-use kc_asm_symbols::{Names, Segment, externals};
-use kc_base::NoMemory;
+use crate::sources::outline_of;
+use kc_asm_outline::{Anchor, Body, opens};
+use kc_asm_symbols::Segment;
 use kc_branch::BranchKind;
-use kc_lex::lines;
 use kc_obj_module::SegKind;
-use kc_source::statements;
-use std::alloc::Global;
 use std::test::*;
 
 const MAIN: Segment = Segment {
@@ -255,33 +252,12 @@ static CASES: [Case; 39] = [
     (" END", DATA, 1, Body::Bytes(0), None),
 ];
 
-fn source(alloc: Global) -> Result<String, NoMemory> {
-    let mut text = String::new(alloc);
-    for case in &CASES {
-        text.push_str(case.0)?;
-        text.push_str("\n")?;
-    }
-    Ok(text)
-}
-
-fn notes(alloc: Global) -> Option<Vec<Note>> {
-    let text = source(alloc).ok()?;
-    if text.len() > 60000 {
-        return None;
-    }
-    let lines = lines(alloc, text.as_bytes()).ok()?;
-    let stmts = statements(alloc, &lines).ok()?;
-    let taken = externals(alloc, &stmts).ok()?;
-    if stmts.len() > 65536 || taken.len() > 65536 {
-        return None;
-    }
-    let names = Names::new(alloc, &stmts, &taken).ok()?;
-    outline(alloc, &stmts, &names).ok()
-}
-
 #[test]
-fn notes_of_statements(rt: HostRuntime) {
-    let notes = notes(rt.alloc()).expect(&rt, "the source has no fault of its names");
+fn notes_of_statements(rt: HostRuntime) -> Result<(), Fail> {
+    let source = Vec::from_iter(rt.alloc(), CASES.iter().map(|case| case.0))?;
+    let outline =
+        outline_of(rt.alloc(), &source).expect(&rt, "the source has no fault of its names");
+    let notes = outline.notes();
     assert!(rt; notes.len() == CASES.len());
     for (note, case) in notes.iter().zip(&CASES) {
         let &(line, segment, alignment, body, opens) = case;
@@ -290,4 +266,5 @@ fn notes_of_statements(rt: HostRuntime) {
         assert!(rt; note.body == body, "body of {line}");
         assert!(rt; note.opens == opens, "address of {line}");
     }
+    Ok(())
 }

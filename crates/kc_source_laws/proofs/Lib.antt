@@ -1,5 +1,6 @@
 pub mod Tests
 pub mod Counts
+pub mod Expanded
 pub mod Reading
 pub mod Expanding
 pub mod Strings

@@ -5,6 +5,7 @@ pub returns : goal.returns
 returns c = faultless_have_modules (record {
   of_text = c.statements_are_of_the_text.ensures;
   read = c.sources_are_read_well.ensures;
+  pieces = c.pieces_are_few.ensures;
   drafts = c.drafts_are_drafts.ensures;
   whole = c.drafts_are_whole.ensures;
   writable = c.parts_are_writable.ensures;

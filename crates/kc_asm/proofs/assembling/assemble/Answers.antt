@@ -11,7 +11,7 @@ use Rattle.kc_asm.proofs.assembling.assemble.Goals as goal
 pub module_or_fault-requires-clause-few : goal.module_or_fault-requires-clause-few
 module_or_fault-requires-clause-few c =
     let text : length c.deref.result.now ≤ 65535 = rw c.deref.ensures.value c.in_ok-text.ensures.few in
-    let few : length c.in_ok-stmts.stmts.items ≤ 65536 = omega (arith, text, stmt_count c.in_ok-stmts.stmts.items c.deref.result.now c.in_ok-stmts.ensures) in
+    let few : length c.in_ok-stmts.stmts.items ≤ 65535 = omega (arith, text, stmt_count c.in_ok-stmts.stmts.items c.deref.result.now c.in_ok-stmts.ensures) in
     rw c.deref-2.ensures.value few
 
 pub module_or_fault-requires-clause-read : goal.module_or_fault-requires-clause-read

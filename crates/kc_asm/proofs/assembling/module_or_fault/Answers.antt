@@ -1,24 +1,20 @@
-use Rattle.std.proofs.Common.{◌<◌, ◌≤◌, inr, Result, length, subst, arith}
+use Rattle.std.proofs.Common.{◌≤◌, Result, length, subst, arith}
 use Rattle.kc_asm_check.specs.Checked.{IsJudged}
 use Rattle.kc_asm_check.specs.declared.checked.Checked.{Checked}
 use Rattle.kc_lex.specs.LineFaults.{Fault}
 use Rattle.kc_asm_module.specs.ModuleOf.{pieces_in}
 use Rattle.kc_asm.proofs.assembling.module_or_fault.Goals as goal
 
-pub returns-then-piece_count-gt-MOST_PIECES : goal.returns-then-piece_count-gt-MOST_PIECES
-returns-then-piece_count-gt-MOST_PIECES c =
-    let judged = subst (λ (r : Result Checked Fault). IsJudged c.args.stmts.now r) c.in-Ok.is c.in_ok-checked.ensures in
-    let many : 65536 < length (pieces_in c.in_ok-draft.draft) = omega (arith, c.piece_count.ensures, c.if-piece_count-gt-MOST_PIECES.true) in
-    inr (judged.0, (c.in_ok-draft.draft, c.in_ok-draft.ensures, many, λ i. (c.last_line.ensures i, c.number.ensures i)))
-
 pub module_of-requires : goal.module_of-requires
 module_of-requires c =
     let judged = subst (λ (r : Result Checked Fault). IsJudged c.args.stmts.now r) c.in-Ok.is c.in_ok-checked.ensures in
-    let few : length (pieces_in c.in_ok-draft.draft) ≤ 65536 = omega (arith, c.piece_count.ensures, c.if-piece_count-gt-MOST_PIECES.false) in
+    let count = c.pieces_are_few.ensures c.args.stmts.now c.in_ok-draft.draft c.in_ok-draft.ensures in
+    let few : length (pieces_in c.in_ok-draft.draft) ≤ 65536 = omega (arith, count, c.requires.few) in
     c.drafts_are_drafts.ensures c.args.stmts.now c.in_ok-draft.draft c.requires.read judged.0 c.in_ok-draft.ensures few
 
 pub returns : goal.returns
 returns c =
     let judged = subst (λ (r : Result Checked Fault). IsJudged c.args.stmts.now r) c.in-Ok.is c.in_ok-checked.ensures in
-    let few : length (pieces_in c.in_ok-draft.draft) ≤ 65536 = omega (arith, c.piece_count.ensures, c.if-piece_count-gt-MOST_PIECES.false) in
+    let count = c.pieces_are_few.ensures c.args.stmts.now c.in_ok-draft.draft c.in_ok-draft.ensures in
+    let few : length (pieces_in c.in_ok-draft.draft) ≤ 65536 = omega (arith, count, c.requires.few) in
     (c.in_ok-draft.draft, judged.0, c.in_ok-draft.ensures, few, c.in_ok-module_of.ensures)

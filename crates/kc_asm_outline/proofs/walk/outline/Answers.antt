@@ -3,7 +3,9 @@ use Rattle.kc_source_statement.specs.declared.statement.Stmt.{Stmt}
 use Rattle.kc_source_statement.specs.Trees.{action_tree}
 use Rattle.kc_asm_symbols.proofs.SegmentLemmas.{few_pieces}
 use Rattle.kc_asm_symbols.proofs.ExternalLemmas.{front}
-use Rattle.kc_asm_outline.specs.Outline.{at_zero, on_its_own}
+use Rattle.kc_asm_outline.specs.Outline.{at_zero, on_its_own, outline}
+use Rattle.kc_asm_outline.specs.Bounds.{AreBounded}
+use Rattle.kc_asm_outline.proofs.Bounded.{outlines_bounded}
 use Rattle.kc_asm_outline.proofs.Steps.{Walked, walk_starts, walk_more, walk_ends, note_count}
 use Rattle.kc_asm_outline.proofs.walk.outline.Goals as goal
 
@@ -33,8 +35,14 @@ loop-i-preserved c =
           (subst (λ (rest : List Stmt). Walked c.loop-i.look c.loop-i.own c.loop-i.notes.items i g stmts rest) split c.loop-i.invariant.walked);
     }
 
+pub of-requires : goal.of-requires
+of-requires c =
+    let whole : c.loop-i.notes.items ≡ outline c.args.stmts.now = walk_ends c.loop-i.look c.loop-i.own c.loop-i.notes.items c.loop-i.i c.loop-i.segment c.args.stmts.now c.loop-i-test.false c.loop-i.invariant.walked in
+    subst AreBounded (sym whole) (outlines_bounded c.args.stmts.now c.requires.statements)
+
 pub returns-clause-notes : goal.returns-clause-notes
-returns-clause-notes c = walk_ends c.loop-i.look c.loop-i.own c.loop-i.notes.items c.loop-i.i c.loop-i.segment c.args.stmts.now c.loop-i-test.false c.loop-i.invariant.walked
+returns-clause-notes c =
+    c.of.ensures ∙ walk_ends c.loop-i.look c.loop-i.own c.loop-i.notes.items c.loop-i.i c.loop-i.segment c.args.stmts.now c.loop-i-test.false c.loop-i.invariant.walked
 
 pub returns-clause-count : goal.returns-clause-count
 returns-clause-count c = ap length (returns-clause-notes c) ∙ note_count c.args.stmts.now

@@ -1,0 +1,32 @@
+// Sources that stand in tests, line by line.
+use kc_asm_outline::{ModuleOutline, outline};
+use kc_asm_symbols::{Names, externals};
+use kc_base::NoMemory;
+use kc_lex::lines;
+use kc_source::statements;
+use std::alloc::Global;
+
+fn joined(alloc: Global, source: &[&str]) -> Result<String, NoMemory> {
+    let mut text = String::new(alloc);
+    for line in source {
+        text.push_str(line)?;
+        text.push_str("\n")?;
+    }
+    Ok(text)
+}
+
+/// The outline of a source of these lines, if its lines and its names have no fault.
+pub(crate) fn outline_of(alloc: Global, source: &[&str]) -> Option<ModuleOutline> {
+    let text = joined(alloc, source).ok()?;
+    if text.len() > 60000 {
+        return None;
+    }
+    let lines = lines(alloc, text.as_bytes()).ok()?;
+    let stmts = statements(alloc, &lines).ok()?;
+    let taken = externals(alloc, &stmts).ok()?;
+    if stmts.len() > 65536 || taken.len() > 65536 {
+        return None;
+    }
+    let names = Names::new(alloc, &stmts, &taken).ok()?;
+    outline(alloc, &stmts, &names).ok()
+}
