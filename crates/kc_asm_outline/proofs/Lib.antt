@@ -1,5 +1,5 @@
 pub mod Steps
 pub mod Numbers
-pub mod Bounded
+pub mod BoundLemmas
 mod Extents
 pub mod Stays

@@ -5,7 +5,7 @@ use Rattle.kc_asm_symbols.proofs.SegmentLemmas.{few_pieces}
 use Rattle.kc_asm_symbols.proofs.ExternalLemmas.{front}
 use Rattle.kc_asm_outline.specs.Outline.{at_zero, on_its_own, outline}
 use Rattle.kc_asm_outline.specs.Bounds.{AreBounded}
-use Rattle.kc_asm_outline.proofs.Bounded.{outlines_bounded}
+use Rattle.kc_asm_outline.proofs.BoundLemmas.{outlines_bounded}
 use Rattle.kc_asm_outline.proofs.Steps.{Walked, walk_starts, walk_more, walk_ends, note_count}
 use Rattle.kc_asm_outline.proofs.walk.outline.Goals as goal
 

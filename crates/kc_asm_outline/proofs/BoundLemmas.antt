@@ -123,4 +123,4 @@ all_from zeros owns before passed i g (s ∷ ss) few h (suc k) d lt =
 pub outlines_bounded : (stmts : List Stmt) → length stmts ≤ 65536 → AreBounded (outline stmts)
 outlines_bounded stmts few =
     let first : IsAfter 0 first_segment = record { own = omega arith; first = omega arith; few = omega arith } in
-    (omega (arith, few, note_count stmts), all_from (located_by at_zero stmts) (located_by on_its_own stmts) [] [] 0 first_segment stmts few first)
+    (omega (arith, few, note_count stmts), all_from (located_by at_zero stmts) (located_by on_its_own stmts) [] [] 0 first_segment stmts (omega (arith, few)) first)
