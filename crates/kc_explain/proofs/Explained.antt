@@ -13,7 +13,7 @@ use Rattle.kc_kit_files.specs.declared.status.Status.TheVariants as status
 use Rattle.kc_kit_files.specs.Notes.{too_long}
 use Rattle.kc_explain.specs.Meanings.{all_said, source_rows, input_rows, run_rows, sentence_of, is_among}
 use Rattle.kc_explain.specs.Codes.{all_codes, lettered, numbered, kind_code, status_code, stimulus_code, rule_code}
-use Rattle.kc_explain.specs.Laws.{IsExplained, FaultsAreExplained, UsesAreExplained}
+use Rattle.kc_explain.specs.Laws.{IsExplained, FaultsAreExplained, UsesAreExplained, VectorsAreTold, ends_with, vector_words}
 
 abbrev all_below : (ℕ → Bool) → ℕ → Bool
 all_below test zero = true
@@ -147,3 +147,9 @@ faults_are_explained = record {
 
 pub uses_are_explained : UsesAreExplained
 uses_are_explained = record { kinds = kinds; requests = requests; statuses = statuses }
+
+-- ---- the vectors of requests
+
+pub vectors_are_told : VectorsAreTold
+unfolding all_said source_rows input_rows run_rows
+vectors_are_told number few = each_below (λ n. ends_with (vector_words n) (sentence_of (numbered (codes "request") n))) 18 number refl few

@@ -1,10 +1,12 @@
 -- Each code is one of those that are explained (this kit's own).
-use Rattle.std.specs.Prelude.{◌≡◌, ℕ, ◌<◌, ◌≤◌, true, List, codes, map}
+use Rattle.std.specs.Prelude.{◌≡◌, ℕ, ◌-◌, ◌<◌, ◌≤◌, Bool, true, List, ◌++◌, codes, drop, length, map}
 use Rattle.std.specs.List.{IsDistinct}
 use Rattle.std.specs.Str.{bytes_eq}
 use Rattle.kc_base.specs.declared.types.Kind.{Kind}
+use Rattle.kc_base.specs.Digits.{hex}
 use Rattle.kc_stim.specs.declared.fault.StimFault.{StimFault}
 use Rattle.kc_link_place.specs.declared.ranges.LinkFault.{LinkFault}
+use Rattle.kc_exec_spec.specs.Entering.{vector_at}
 use Rattle.kc_kit_files.specs.declared.status.Status.{Status}
 use Rattle.kc_kit_files.specs.Notes.{too_long}
 use Rattle.kc_explain.specs.Codes.{all_codes, lettered, numbered, kind_code, status_code, stimulus_code, rule_code}
@@ -32,6 +34,16 @@ pub record UsesAreExplained : Type 0 where
   pub kinds : (kind : Kind) → IsExplained (kind_code kind)
   pub requests : (n : ℕ) → n < 18 → IsExplained (numbered (codes "request") n)
   pub statuses : (given : Status) → IsExplained (status_code given)
+
+abbrev pub ends_with : List ℕ → List ℕ → Bool
+ends_with end text = bytes_eq (drop (length text - length end) text) end
+
+-- the sentence of a request ends with the vector through which the machine enters its routine
+abbrev pub vector_words : ℕ → List ℕ
+vector_words number = codes "vector " ++ hex 4 (vector_at number) ++ codes "H"
+
+abbrev pub VectorsAreTold : Type 0
+VectorsAreTold = (number : ℕ) → number < 18 → ends_with (vector_words number) (sentence_of (numbered (codes "request") number)) ≡ true
 
 -- the rows are those of the codes, and no two of them have one code
 pub record CodesDiffer : Type 0 where

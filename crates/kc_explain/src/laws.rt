@@ -1,4 +1,4 @@
-ghost use Rattle.kc_explain.specs.Laws.{CodesDiffer, FaultsAreExplained, UsesAreExplained};
+ghost use Rattle.kc_explain.specs.Laws.{CodesDiffer, FaultsAreExplained, UsesAreExplained, VectorsAreTold};
 
 /// Each fault of a source, an object, a library, a hex file, stimuli and other files is explained, and each rule of linking.
 pub fn faults_are_explained()
@@ -8,6 +8,11 @@ pub fn faults_are_explained()
 /// Each kind of undefined use, each request and each status is explained.
 pub fn uses_are_explained()
     ensures { UsesAreExplained }
+{}
+
+/// The sentence of each request ends with the vector through which the machine enters its routine.
+pub fn vectors_are_told()
+    ensures { VectorsAreTold }
 {}
 
 /// No two rows have one code.

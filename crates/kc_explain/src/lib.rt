@@ -7,7 +7,7 @@ mod meaning;
 mod printing;
 mod table;
 
-pub use laws::{codes_differ, faults_are_explained, uses_are_explained};
+pub use laws::{codes_differ, faults_are_explained, uses_are_explained, vectors_are_told};
 pub use lookup::{explain, sentence};
 pub use meaning::{Example, Meaning};
 pub use printing::meaning_text;
