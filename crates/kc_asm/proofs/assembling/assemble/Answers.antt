@@ -5,6 +5,7 @@ use Rattle.kc_asm_symbols.specs.Told.{AreReadWell}
 use Rattle.kc_asm.specs.Assembled.{AreSaid, IsMade, IsAssembled}
 use Rattle.kc_asm.proofs.Characters.{has_characters}
 use Rattle.kc_asm.proofs.Said.{said_well}
+use Rattle.kc_asm.proofs.Refused.{by_macros, by_statements}
 use Rattle.kc_source_laws.proofs.Counts.{lines_numbered, stmt_count}
 use Rattle.kc_asm.proofs.assembling.assemble.Goals as goal
 
@@ -36,3 +37,16 @@ returns-in-Ok-Err c =
     let said : AreSaid c.args.source.now c.in_ok-stmts.stmts.items = (c.in_ok-text.text.items, (c.in_ok-lines.lines.items, c.in_ok-lines.ensures, (c.in_ok-text.ensures.lines (lines_numbered c.args.source.now c.in_ok-lines.lines.items c.requires c.in_ok-lines.ensures))), statements) in
     let told : IsMade c.in_ok-stmts.stmts.items (Err c.in-Ok-Err.fault) = rw (c.deref-2.ensures.value, c.in-Ok-Err.field-0-is) at c.in-Ok-Err.ensures in
     subst (λ (e : SourceFault). IsAssembled c.args.source.now (Err e)) (sym c.from.ensures) (inr (inr (inr (c.in_ok-stmts.stmts.items, said, told))))
+
+pub returns-in_err-text : goal.returns-in_err-text
+returns-in_err-text c =
+    let lines = c.in_ok-lines.lines.items in
+    by_macros c.args.source.now lines c.in_err-text.field-0.0 c.from_residual.result c.in_ok-lines.ensures c.from_residual.ensures.1
+    (c.in_err-text.ensures.lines (lines_numbered c.args.source.now lines c.requires c.in_ok-lines.ensures))
+
+pub returns-in_err-stmts : goal.returns-in_err-stmts
+returns-in_err-stmts c =
+    let lines = c.in_ok-lines.lines.items in
+    by_statements c.args.source.now lines c.in_ok-text.text.items c.in_err-stmts.field-0.0 c.from_residual.result c.in_ok-lines.ensures
+    (c.in_ok-text.ensures.lines (lines_numbered c.args.source.now lines c.requires c.in_ok-lines.ensures)) c.from_residual.ensures.1
+    (rw c.deref.ensures.value at c.in_err-stmts.ensures)

@@ -1,5 +1,8 @@
-use Rattle.std.proofs.Common.{◌≤◌, length, arith}
+use Rattle.std.proofs.Common.{◌≡◌, ◌≤◌, Some, Ok, length, sym, subst, ◌∙◌, arith}
 use Rattle.kc_source_laws.proofs.Counts.{lines_numbered, stmt_count}
+use Rattle.kc_lex.specs.declared.token.Line.{Line}
+use Rattle.kc_macro_depth.specs.Depths.{depths_of}
+use Rattle.kc_asm_list.proofs.Refused.{by_macros, by_depths, by_statements}
 use Rattle.kc_asm_list.proofs.listed.listing.Goals as goal
 
 pub spots_of-requires-clause-few : goal.spots_of-requires-clause-few
@@ -7,3 +10,22 @@ spots_of-requires-clause-few c =
     let text : length c.deref.result.now ≤ 65535 = rw c.deref.ensures.value c.in_ok-text.ensures.few in
     let few : length c.in_ok-stmts.stmts.items ≤ 65536 = omega (arith, text, stmt_count c.in_ok-stmts.stmts.items c.deref.result.now c.in_ok-stmts.ensures) in
     rw c.deref-4.ensures.value few
+
+pub returns-in_err-text : goal.returns-in_err-text
+returns-in_err-text c =
+    let read = c.in_ok-read.read.items in
+    by_macros c.args.source.now c.args.object.now read c.in_err-text.field-0.0 c.from_residual.result c.in_ok-read.ensures c.from_residual.ensures.1
+    (c.in_err-text.ensures.lines (lines_numbered c.args.source.now read c.requires c.in_ok-read.ensures))
+
+pub returns-in_err-deep : goal.returns-in_err-deep
+returns-in_err-deep c =
+    let again = c.in_ok-again.again.items in
+    by_depths c.args.source.now c.args.object.now again c.in_err-deep.field-0.0 c.from_residual.result c.in_ok-again.ensures c.from_residual.ensures.1
+    (c.in_err-deep.ensures.lines (lines_numbered c.args.source.now again c.requires c.in_ok-again.ensures))
+
+pub returns-in_err-stmts : goal.returns-in_err-stmts
+returns-in_err-stmts c =
+    let read = c.in_ok-read.read.items in
+    by_statements c.args.source.now c.args.object.now read c.in_ok-text.text.items c.in_err-stmts.field-0.0 c.from_residual.result c.in_ok-read.ensures
+    (c.in_ok-text.ensures.lines (lines_numbered c.args.source.now read c.requires c.in_ok-read.ensures)) c.from_residual.ensures.1
+    (rw c.deref.ensures.value at c.in_err-stmts.ensures)
