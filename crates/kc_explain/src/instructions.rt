@@ -1,7 +1,5 @@
 // What each instruction does, and its forms. Made by tools/list_instructions from the instruction table.
-ghost use Rattle.std.specs.Prelude.{◌≡◌, map};
-ghost use Rattle.std.specs.Option.{option_map};
-ghost use Rattle.kc_explain.specs.Meanings.{instruction_rows};
+ghost use Rattle.std.specs.Prelude.{◌≡◌};
 
 use crate::table::Row;
 
@@ -520,7 +518,7 @@ static INSTRUCTIONS: [Row; 102] = [
 
 /// The instructions, in the order of the instruction table.
 pub(crate) fn instructions() -> &'static [Row]
-    ensures { map (λ row. record { code = row.0.now; sentence = row.1.now; example = option_map (λ e. (e.0.now, e.1.now)) row.2 }) result.now ≡ instruction_rows }
+    ensures { result.now ≡ INSTRUCTIONS }
 {
     &INSTRUCTIONS
 }
