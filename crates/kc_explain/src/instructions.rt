@@ -1,5 +1,7 @@
 // What each instruction does, and its forms. Made by tools/list_instructions from the instruction table.
-ghost use Rattle.std.specs.Prelude.{◌≡◌};
+ghost use Rattle.std.specs.Prelude.{◌≡◌, map};
+ghost use Rattle.std.specs.Option.{option_map};
+ghost use Rattle.kc_explain.specs.Meanings.{instruction_rows};
 
 use crate::table::Row;
 
@@ -518,7 +520,7 @@ static INSTRUCTIONS: [Row; 102] = [
 
 /// The instructions, in the order of the instruction table.
 pub(crate) fn instructions() -> &'static [Row]
-    ensures { result.now ≡ INSTRUCTIONS }
+    ensures { map (λ row. record { code = row.0.now; sentence = row.1.now; example = option_map (λ e. (e.0.now, e.1.now)) row.2 }) result.now ≡ instruction_rows }
 {
     &INSTRUCTIONS
 }

@@ -1,22 +1,16 @@
-use Rattle.std.proofs.Common.{◌≡◌, ap, sym, subst, ◌∙◌, map, Some}
+use Rattle.std.proofs.Common.{ap, sym, subst, ◌∙◌, Some}
 use Rattle.std.specs.Option.{option_copied, option_map, option_or}
 use Rattle.kc_explain.specs.Codes.{all_codes}
-use Rattle.kc_explain.specs.declared.instructions.TheConstants.{INSTRUCTIONS}
-use Rattle.kc_explain.specs.Meanings.{IsAnswer, Said, instruction_rows}
+use Rattle.kc_explain.specs.Meanings.{IsAnswer}
 use Rattle.kc_explain.proofs.Rows.{in-parts}
 use Rattle.kc_explain.proofs.Distinct.{meaning-is}
 use Rattle.kc_explain.proofs.lookup.meaning_of.Goals as goal
-
--- the rows of the instructions say what is said of them
-instructions_are : {rows : _} → rows ≡ INSTRUCTIONS → map (λ row. record { code = row.0.now; sentence = row.1.now; example = option_map (λ e. (e.0.now, e.1.now)) row.2 }) rows ≡ instruction_rows
-unfolding instruction_rows
-instructions_are e = ap (map (λ row. record { code = row.0.now; sentence = row.1.now; example = option_map (λ e. (e.0.now, e.1.now)) row.2 })) e
 
 pub returns-in-Some-clause-row : goal.returns-in-Some-clause-row
 returns-in-Some-clause-row c =
     ap Some c.meaning_in.ensures ∙ ap (option_map _) (sym (ap option_copied c.in-Some.is))
     ∙ in-parts _ c.args.code.now c.sources.result.now c.inputs.result.now c.runs.result.now c.instructions.result.now _ _ _ _ _
-    c.sources.ensures c.inputs.ensures c.runs.ensures (instructions_are c.instructions.ensures)
+    c.sources.ensures c.inputs.ensures c.runs.ensures c.instructions.ensures
     c.find_in-in_sources.ensures c.find_in-in_inputs.ensures c.find_in-in_runs.ensures c.find_in-in_instructions.ensures
     (c.first.ensures ∙ ap (option_or (option_copied c.find_in-in_sources.result))
     (c.first-others.ensures ∙ ap (option_or (option_copied c.find_in-in_inputs.result)) c.first-later.ensures))
@@ -28,7 +22,7 @@ pub returns-in-None-clause-row : goal.returns-in-None-clause-row
 returns-in-None-clause-row c =
     ap (option_map _) (sym (ap option_copied c.in-None.is))
     ∙ in-parts _ c.args.code.now c.sources.result.now c.inputs.result.now c.runs.result.now c.instructions.result.now _ _ _ _ _
-    c.sources.ensures c.inputs.ensures c.runs.ensures (instructions_are c.instructions.ensures)
+    c.sources.ensures c.inputs.ensures c.runs.ensures c.instructions.ensures
     c.find_in-in_sources.ensures c.find_in-in_inputs.ensures c.find_in-in_runs.ensures c.find_in-in_instructions.ensures
     (c.first.ensures ∙ ap (option_or (option_copied c.find_in-in_sources.result))
     (c.first-others.ensures ∙ ap (option_or (option_copied c.find_in-in_inputs.result)) c.first-later.ensures))
