@@ -2,8 +2,7 @@
 use Rattle.std.specs.Prelude.{ℕ, ◌+◌, ◌/◌, ◌%◌, List, [], ◌∷◌, ◌++◌, Option, Some, None, codes, map, nat_lt, if◌then◌else◌}
 use Rattle.std.specs.List.{range_with_len}
 use Rattle.kc_base.specs.declared.types.Kind.{Kind}
-use Rattle.kc_isa.specs.Names.{name_of}
-use Rattle.kc_explain.specs.Mnemonics.{all_mnemonics}
+use Rattle.kc_isa.specs.declared.table.TheConstants.{NAMES}
 use Rattle.kc_trace.specs.Text.{kind_number}
 use Rattle.kc_stim.specs.declared.fault.StimFault.{StimFault}
 use Rattle.kc_stim.specs.Faults.{place_of}
@@ -82,7 +81,7 @@ run_codes =
 
 -- an instruction by its name
 unfoldable pub instruction_codes : List (List ℕ)
-instruction_codes = map name_of all_mnemonics
+instruction_codes = map (λ name. name.now) NAMES
 
 unfoldable pub all_codes : List (List ℕ)
 all_codes = source_codes ++ (input_codes ++ (run_codes ++ instruction_codes))

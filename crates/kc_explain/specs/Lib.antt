@@ -1,4 +1,3 @@
-pub mod Mnemonics
 pub mod Codes
 pub mod Meanings
 pub mod Text
