@@ -4,7 +4,7 @@ use Rattle.std.specs.Prelude.{find}
 use Rattle.std.specs.Option.{option_map, option_or}
 use Rattle.std.proofs.lemmas.List.Folds.{find-append}
 use Rattle.std.proofs.lemmas.Slice.Eq.{bytes_eq-Decides}
-use Rattle.kc_explain.specs.Meanings.{Said, code_of, has_code, source_rows, input_rows, run_rows, instruction_rows, all_said, said_of, is_among, IsAnswer}
+use Rattle.kc_explain.specs.Meanings.{Said, code_of, has_code, source_rows, input_rows, run_rows, all_said, said_of, is_among, IsAnswer}
 
 behind : (x : Said) (names : List (List ℕ)) (code : List ℕ) (o : Option Said) → has_code code x ≡ false → IsAnswer names code o → IsAnswer (code_of x ∷ names) code o
 behind x names code (Some row) other h = (h.0, ap (λ b. b || is_among code names) other ∙ h.1)
@@ -39,17 +39,12 @@ or-mapped : {X : Type 0} (f : X → Said) (o p : Option X) → option_map f (opt
 or-mapped f None p = refl
 or-mapped f (Some x) p = refl
 
--- what is found in four parts is said of the code
-pub in-parts : {X : Type 0} (f : X → Said) (code : List ℕ) (sources inputs runs instructions : List X) (s i r n o : Option X)
-    → map f sources ≡ source_rows → map f inputs ≡ input_rows → map f runs ≡ run_rows → map f instructions ≡ instruction_rows
-    → s ≡ find (λ x. has_code code (f x)) sources → i ≡ find (λ x. has_code code (f x)) inputs → r ≡ find (λ x. has_code code (f x)) runs
-    → n ≡ find (λ x. has_code code (f x)) instructions → o ≡ option_or s (option_or i (option_or r n)) → option_map f o ≡ said_of code
+-- what is found in three parts is said of the code
+pub in-parts : {X : Type 0} (f : X → Said) (code : List ℕ) (sources inputs runs : List X) (s i r o : Option X) → map f sources ≡ source_rows → map f inputs ≡ input_rows → map f runs ≡ run_rows →
+    s ≡ find (λ x. has_code code (f x)) sources → i ≡ find (λ x. has_code code (f x)) inputs → r ≡ find (λ x. has_code code (f x)) runs → o ≡ option_or s (option_or i r) → option_map f o ≡ said_of code
 unfolding all_said
-in-parts f code sources inputs runs instructions s i r n o a b c d e g h k is =
+in-parts f code sources inputs runs s i r o a b c d e g h =
     let p = has_code code in
-    let last : option_map f (option_or r n) ≡ find p (run_rows ++ instruction_rows) =
-    or-mapped f r n ∙ (λ j. option_or (part f code runs r run_rows c h j) (part f code instructions n instruction_rows d k j)) ∙ sym (find-append p run_rows instruction_rows) in
-    let later : option_map f (option_or i (option_or r n)) ≡ find p (input_rows ++ (run_rows ++ instruction_rows)) =
-    or-mapped f i (option_or r n) ∙ (λ j. option_or (part f code inputs i input_rows b g j) (last j)) ∙ sym (find-append p input_rows (run_rows ++ instruction_rows)) in
-    ap (option_map f) is ∙ or-mapped f s (option_or i (option_or r n)) ∙ (λ j. option_or (part f code sources s source_rows a e j) (later j))
-    ∙ sym (find-append p source_rows (input_rows ++ (run_rows ++ instruction_rows)))
+    let later : option_map f (option_or i r) ≡ find p (input_rows ++ run_rows) =
+    or-mapped f i r ∙ (λ k. option_or (part f code inputs i input_rows b e k) (part f code runs r run_rows c g k)) ∙ sym (find-append p input_rows run_rows) in
+    ap (option_map f) h ∙ or-mapped f s (option_or i r) ∙ (λ k. option_or (part f code sources s source_rows a d k) (later k)) ∙ sym (find-append p source_rows (input_rows ++ run_rows))

@@ -4,7 +4,6 @@ ghost use Rattle.std.specs.Str.{bytes_eq};
 ghost use Rattle.kc_explain.specs.Codes.{all_codes};
 ghost use Rattle.kc_explain.specs.Meanings.{said, said_of, sentence_of, IsAnswer};
 
-use crate::instructions::instructions;
 use crate::meaning::Meaning;
 use crate::table::{Row, inputs, meaning_in, runs, sources};
 
@@ -32,9 +31,7 @@ fn meaning_of(code: &[u8]) -> Option<Meaning>
     let in_sources = find_in(sources(), code);
     let in_inputs = find_in(inputs(), code);
     let in_runs = find_in(runs(), code);
-    let in_instructions = find_in(instructions(), code);
-    let later = first(in_runs, in_instructions);
-    let others = first(in_inputs, later);
+    let others = first(in_inputs, in_runs);
     match first(in_sources, others) {
         Some(row) => Some(meaning_in(row)),
         None => None,
@@ -42,8 +39,7 @@ fn meaning_of(code: &[u8]) -> Option<Meaning>
 }
 
 /// The meaning of a code, as it is printed: `E07`, `O03`, `B01`, `H02`, `BADLINE`, the word of a rule of linking (`range`); with its
-/// number `kind10` for a kind of undefined use, `request3` for a request and `status4` for a status; and `LD` for an instruction.
-/// `None` for any other text.
+/// number `kind10` for a kind of undefined use, `request3` for a request and `status4` for a status. `None` for any other text.
 pub fn explain(code: &str) -> Option<Meaning>
     ensures row { option_map said result ≡ said_of code.now }
     ensures answer { IsAnswer all_codes code.now (option_map said result) }
