@@ -3,8 +3,8 @@ use Rattle.std.proofs.Common.{◌≡◌, ℕ, Bool, true, ◌&&◌, not, false, 
 use Rattle.std.specs.List.{list_all, AllByRecursion, IsDistinct}
 use Rattle.std.specs.Str.{bytes_eq}
 use Rattle.std.proofs.lemmas.Bool.{and_parts, not-true}
-use Rattle.kc_explain.specs.Meanings.{code_of, source_rows, input_rows, run_rows, all_said, said_of, IsAnswer}
-use Rattle.kc_explain.specs.Codes.{all_codes}
+use Rattle.kc_explain.specs.Meanings.{code_of, source_rows, input_rows, run_rows, instruction_rows, first_rows, second_rows, third_rows, fourth_rows, all_said, said_of, IsAnswer}
+use Rattle.kc_explain.specs.Codes.{all_codes, instruction_codes}
 use Rattle.kc_explain.specs.Laws.{CodesDiffer}
 use Rattle.kc_explain.proofs.Rows.{answer}
 
@@ -29,11 +29,11 @@ distinct (x ∷ xs) h =
     (each_differs x xs both.0, distinct xs both.1)
 
 rows_have_codes : map code_of all_said ≡ all_codes
-unfolding all_said source_rows input_rows run_rows all_codes
+unfolding all_said source_rows input_rows run_rows instruction_rows first_rows second_rows third_rows fourth_rows all_codes instruction_codes
 rows_have_codes = refl
 
 all_apart : are_distinct all_codes ≡ true
-unfolding all_codes
+unfolding all_codes instruction_codes
 all_apart = refl
 
 pub meaning-is : (code : List ℕ) → IsAnswer all_codes code (said_of code)

@@ -4,6 +4,9 @@ use Rattle.std.specs.Prelude.{codes}
 use Rattle.std.proofs.lemmas.Bool.{and_parts, cases_lt}
 use Rattle.kc_base.specs.declared.types.Kind.{Kind}
 use Rattle.kc_base.specs.declared.types.Kind.TheVariants as kind
+use Rattle.kc_isa.specs.declared.table.Mnemonic.{Mnemonic}
+use Rattle.kc_isa.specs.declared.table.Mnemonic.TheVariants as mnemonic
+use Rattle.kc_isa.specs.Names.{name_of}
 use Rattle.kc_stim.specs.declared.fault.StimFault.{StimFault}
 use Rattle.kc_stim.specs.declared.fault.StimFault.TheVariants as stim
 use Rattle.kc_link_place.specs.declared.ranges.LinkFault.{LinkFault}
@@ -11,9 +14,9 @@ use Rattle.kc_link_place.specs.declared.ranges.LinkFault.TheVariants as link
 use Rattle.kc_kit_files.specs.declared.status.Status.{Status}
 use Rattle.kc_kit_files.specs.declared.status.Status.TheVariants as status
 use Rattle.kc_kit_files.specs.Notes.{too_long}
-use Rattle.kc_explain.specs.Meanings.{all_said, source_rows, input_rows, run_rows, sentence_of, is_among}
-use Rattle.kc_explain.specs.Codes.{all_codes, lettered, numbered, kind_code, status_code, stimulus_code, rule_code}
-use Rattle.kc_explain.specs.Laws.{IsExplained, FaultsAreExplained, UsesAreExplained, VectorsAreTold, ends_with, vector_words}
+use Rattle.kc_explain.specs.Meanings.{all_said, source_rows, input_rows, run_rows, instruction_rows, first_rows, second_rows, third_rows, fourth_rows, sentence_of, is_among}
+use Rattle.kc_explain.specs.Codes.{all_codes, instruction_codes, lettered, numbered, kind_code, status_code, stimulus_code, rule_code}
+use Rattle.kc_explain.specs.Laws.{IsExplained, FaultsAreExplained, UsesAreExplained, MnemonicsAreExplained, VectorsAreTold, ends_with, vector_words}
 
 abbrev all_below : (ℕ → Bool) → ℕ → Bool
 all_below test zero = true
@@ -38,23 +41,23 @@ abbrev has_row : List ℕ → Bool
 has_row code = is_among code all_codes
 
 sources : (n : ℕ) → 1 ≤ n → n ≤ 24 → IsExplained (lettered (codes "E") n)
-unfolding all_codes
+unfolding all_codes instruction_codes
 sources n some few = each_from (λ k. has_row (lettered (codes "E") k)) 24 n refl some few
 
 objects : (n : ℕ) → 1 ≤ n → n ≤ 6 → IsExplained (lettered (codes "O") n)
-unfolding all_codes
+unfolding all_codes instruction_codes
 objects n some few = each_from (λ k. has_row (lettered (codes "O") k)) 6 n refl some few
 
 libraries : (n : ℕ) → 1 ≤ n → n ≤ 6 → IsExplained (lettered (codes "B") n)
-unfolding all_codes
+unfolding all_codes instruction_codes
 libraries n some few = each_from (λ k. has_row (lettered (codes "B") k)) 6 n refl some few
 
 hex_files : (n : ℕ) → 1 ≤ n → n ≤ 6 → IsExplained (lettered (codes "H") n)
-unfolding all_codes
+unfolding all_codes instruction_codes
 hex_files n some few = each_from (λ k. has_row (lettered (codes "H") k)) 6 n refl some few
 
 statuses : (given : Status) → IsExplained (status_code given)
-unfolding all_codes
+unfolding all_codes instruction_codes
 statuses status.Done = refl
 statuses status.Usage = refl
 statuses status.Missing = refl
@@ -67,7 +70,7 @@ statuses status.WriteFault = refl
 statuses status.NoMemory = refl
 
 stimuli : (fault : StimFault) → IsExplained (stimulus_code fault)
-unfolding all_codes
+unfolding all_codes instruction_codes
 stimuli (stim.BadLine line) = refl
 stimuli (stim.Wired line) = refl
 stimuli (stim.Falling line) = refl
@@ -76,7 +79,7 @@ stimuli (stim.TooMany line) = refl
 stimuli stim.NoMemory = refl
 
 rules_of_linking : (fault : LinkFault) → IsExplained (rule_code fault)
-unfolding all_codes
+unfolding all_codes instruction_codes
 rules_of_linking (link.Unresolved name) = refl
 rules_of_linking (link.OverlapName name) = refl
 rules_of_linking (link.OverlapPlace at) = refl
@@ -85,7 +88,7 @@ rules_of_linking (link.Range number piece offset) = refl
 rules_of_linking link.NoMemory = refl
 
 kinds : (k : Kind) → IsExplained (kind_code k)
-unfolding all_codes
+unfolding all_codes instruction_codes
 kinds kind.OddWord = refl
 kinds kind.LongAlign = refl
 kinds kind.Opcode = refl
@@ -102,31 +105,31 @@ kinds kind.ByteAccess = refl
 kinds kind.IdleKey = refl
 
 requests : (n : ℕ) → n < 18 → IsExplained (numbered (codes "request") n)
-unfolding all_codes
+unfolding all_codes instruction_codes
 requests n few = each_below (λ k. has_row (numbered (codes "request") k)) 18 n refl few
 
 analog : IsExplained (codes "BADANALOG")
-unfolding all_codes
+unfolding all_codes instruction_codes
 analog = refl
 
 scripts : IsExplained (codes "BADCOMMAND")
-unfolding all_codes
+unfolding all_codes instruction_codes
 scripts = refl
 
 maps : IsExplained (codes "BADMAP")
-unfolding all_codes
+unfolding all_codes instruction_codes
 maps = refl
 
 traces : IsExplained (codes "BADTRACE")
-unfolding all_codes
+unfolding all_codes instruction_codes
 traces = refl
 
 files : IsExplained (codes "LONG")
-unfolding all_codes
+unfolding all_codes instruction_codes
 files = refl
 
 long : sentence_of (codes "LONG") ≡ too_long
-unfolding all_said source_rows input_rows run_rows
+unfolding all_said source_rows input_rows run_rows instruction_rows first_rows second_rows third_rows fourth_rows
 long = refl
 
 pub faults_are_explained : FaultsAreExplained
@@ -151,5 +154,112 @@ uses_are_explained = record { kinds = kinds; requests = requests; statuses = sta
 -- ---- the vectors of requests
 
 pub vectors_are_told : VectorsAreTold
-unfolding all_said source_rows input_rows run_rows
+unfolding all_said source_rows input_rows run_rows instruction_rows first_rows second_rows third_rows fourth_rows
 vectors_are_told number few = each_below (λ n. ends_with (vector_words n) (sentence_of (numbered (codes "request") n))) 18 number refl few
+
+-- ---- instructions
+
+pub mnemonics_are_explained : MnemonicsAreExplained
+unfolding all_codes instruction_codes
+mnemonics_are_explained mnemonic.Skip = refl
+mnemonics_are_explained mnemonic.Clr = refl
+mnemonics_are_explained mnemonic.Not = refl
+mnemonics_are_explained mnemonic.Neg = refl
+mnemonics_are_explained mnemonic.Xch = refl
+mnemonics_are_explained mnemonic.Dec = refl
+mnemonics_are_explained mnemonic.Ext = refl
+mnemonics_are_explained mnemonic.Inc = refl
+mnemonics_are_explained mnemonic.Shr = refl
+mnemonics_are_explained mnemonic.Shl = refl
+mnemonics_are_explained mnemonic.Shra = refl
+mnemonics_are_explained mnemonic.Shrl = refl
+mnemonics_are_explained mnemonic.Shll = refl
+mnemonics_are_explained mnemonic.Shral = refl
+mnemonics_are_explained mnemonic.Norml = refl
+mnemonics_are_explained mnemonic.Clrb = refl
+mnemonics_are_explained mnemonic.Notb = refl
+mnemonics_are_explained mnemonic.Negb = refl
+mnemonics_are_explained mnemonic.Xchb = refl
+mnemonics_are_explained mnemonic.Decb = refl
+mnemonics_are_explained mnemonic.Extb = refl
+mnemonics_are_explained mnemonic.Incb = refl
+mnemonics_are_explained mnemonic.Shrb = refl
+mnemonics_are_explained mnemonic.Shlb = refl
+mnemonics_are_explained mnemonic.Shrab = refl
+mnemonics_are_explained mnemonic.Sjmp = refl
+mnemonics_are_explained mnemonic.Scall = refl
+mnemonics_are_explained mnemonic.Jbc = refl
+mnemonics_are_explained mnemonic.Jbs = refl
+mnemonics_are_explained mnemonic.And = refl
+mnemonics_are_explained mnemonic.Add = refl
+mnemonics_are_explained mnemonic.Sub = refl
+mnemonics_are_explained mnemonic.Mulu = refl
+mnemonics_are_explained mnemonic.Andb = refl
+mnemonics_are_explained mnemonic.Addb = refl
+mnemonics_are_explained mnemonic.Subb = refl
+mnemonics_are_explained mnemonic.Mulub = refl
+mnemonics_are_explained mnemonic.Or = refl
+mnemonics_are_explained mnemonic.Xor = refl
+mnemonics_are_explained mnemonic.Cmp = refl
+mnemonics_are_explained mnemonic.Divu = refl
+mnemonics_are_explained mnemonic.Orb = refl
+mnemonics_are_explained mnemonic.Xorb = refl
+mnemonics_are_explained mnemonic.Cmpb = refl
+mnemonics_are_explained mnemonic.Divub = refl
+mnemonics_are_explained mnemonic.Ld = refl
+mnemonics_are_explained mnemonic.Addc = refl
+mnemonics_are_explained mnemonic.Subc = refl
+mnemonics_are_explained mnemonic.Ldbze = refl
+mnemonics_are_explained mnemonic.Ldb = refl
+mnemonics_are_explained mnemonic.Addcb = refl
+mnemonics_are_explained mnemonic.Subcb = refl
+mnemonics_are_explained mnemonic.Ldbse = refl
+mnemonics_are_explained mnemonic.St = refl
+mnemonics_are_explained mnemonic.Bmov = refl
+mnemonics_are_explained mnemonic.Stb = refl
+mnemonics_are_explained mnemonic.Cmpl = refl
+mnemonics_are_explained mnemonic.Push = refl
+mnemonics_are_explained mnemonic.Pop = refl
+mnemonics_are_explained mnemonic.Bmovi = refl
+mnemonics_are_explained mnemonic.Jnst = refl
+mnemonics_are_explained mnemonic.Jnh = refl
+mnemonics_are_explained mnemonic.Jgt = refl
+mnemonics_are_explained mnemonic.Jnc = refl
+mnemonics_are_explained mnemonic.Jnvt = refl
+mnemonics_are_explained mnemonic.Jnv = refl
+mnemonics_are_explained mnemonic.Jge = refl
+mnemonics_are_explained mnemonic.Jne = refl
+mnemonics_are_explained mnemonic.Jst = refl
+mnemonics_are_explained mnemonic.Jh = refl
+mnemonics_are_explained mnemonic.Jle = refl
+mnemonics_are_explained mnemonic.Jc = refl
+mnemonics_are_explained mnemonic.Jvt = refl
+mnemonics_are_explained mnemonic.Jv = refl
+mnemonics_are_explained mnemonic.Jlt = refl
+mnemonics_are_explained mnemonic.Je = refl
+mnemonics_are_explained mnemonic.Djnz = refl
+mnemonics_are_explained mnemonic.Djnzw = refl
+mnemonics_are_explained mnemonic.Tijmp = refl
+mnemonics_are_explained mnemonic.Br = refl
+mnemonics_are_explained mnemonic.Ljmp = refl
+mnemonics_are_explained mnemonic.Dpts = refl
+mnemonics_are_explained mnemonic.Epts = refl
+mnemonics_are_explained mnemonic.Lcall = refl
+mnemonics_are_explained mnemonic.Ret = refl
+mnemonics_are_explained mnemonic.Pushf = refl
+mnemonics_are_explained mnemonic.Popf = refl
+mnemonics_are_explained mnemonic.Pusha = refl
+mnemonics_are_explained mnemonic.Popa = refl
+mnemonics_are_explained mnemonic.Idlpd = refl
+mnemonics_are_explained mnemonic.Trap = refl
+mnemonics_are_explained mnemonic.Clrc = refl
+mnemonics_are_explained mnemonic.Setc = refl
+mnemonics_are_explained mnemonic.Di = refl
+mnemonics_are_explained mnemonic.Ei = refl
+mnemonics_are_explained mnemonic.Clrvt = refl
+mnemonics_are_explained mnemonic.Nop = refl
+mnemonics_are_explained mnemonic.Rst = refl
+mnemonics_are_explained mnemonic.Mul = refl
+mnemonics_are_explained mnemonic.Mulb = refl
+mnemonics_are_explained mnemonic.Div = refl
+mnemonics_are_explained mnemonic.Divb = refl

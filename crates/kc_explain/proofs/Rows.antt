@@ -4,7 +4,7 @@ use Rattle.std.specs.Prelude.{find}
 use Rattle.std.specs.Option.{option_map, option_or}
 use Rattle.std.proofs.lemmas.List.Folds.{find-append}
 use Rattle.std.proofs.lemmas.Slice.Eq.{bytes_eq-Decides}
-use Rattle.kc_explain.specs.Meanings.{Said, code_of, has_code, source_rows, input_rows, run_rows, all_said, said_of, is_among, IsAnswer}
+use Rattle.kc_explain.specs.Meanings.{Said, code_of, has_code, said_of, is_among, IsAnswer}
 
 behind : (x : Said) (names : List (List ℕ)) (code : List ℕ) (o : Option Said) → has_code code x ≡ false → IsAnswer names code o → IsAnswer (code_of x ∷ names) code o
 behind x names code (Some row) other h = (h.0, ap (λ b. b || is_among code names) other ∙ h.1)
@@ -32,19 +32,15 @@ find-mapped f p (x ∷ xs) = by_test (find-mapped f p xs) (p (f x))
     by_test rest false = rest
 
 -- what is found among elements that say some rows
-part : {X : Type 0} (f : X → Said) (code : List ℕ) (xs : List X) (o : Option X) (rows : List Said) → map f xs ≡ rows → o ≡ find (λ x. has_code code (f x)) xs → option_map f o ≡ find (has_code code) rows
+pub part : {X : Type 0} (f : X → Said) (code : List ℕ) (xs : List X) (o : Option X) (rows : List Said) → map f xs ≡ rows → o ≡ find (λ x. has_code code (f x)) xs → option_map f o ≡ find (has_code code) rows
 part f code xs o rows all e = ap (option_map f) e ∙ sym (find-mapped f (has_code code) xs) ∙ ap (find (has_code code)) all
 
 or-mapped : {X : Type 0} (f : X → Said) (o p : Option X) → option_map f (option_or o p) ≡ option_or (option_map f o) (option_map f p)
 or-mapped f None p = refl
 or-mapped f (Some x) p = refl
 
--- what is found in three parts is said of the code
-pub in-parts : {X : Type 0} (f : X → Said) (code : List ℕ) (sources inputs runs : List X) (s i r o : Option X) → map f sources ≡ source_rows → map f inputs ≡ input_rows → map f runs ≡ run_rows →
-    s ≡ find (λ x. has_code code (f x)) sources → i ≡ find (λ x. has_code code (f x)) inputs → r ≡ find (λ x. has_code code (f x)) runs → o ≡ option_or s (option_or i r) → option_map f o ≡ said_of code
-unfolding all_said
-in-parts f code sources inputs runs s i r o a b c d e g h =
-    let p = has_code code in
-    let later : option_map f (option_or i r) ≡ find p (input_rows ++ run_rows) =
-    or-mapped f i r ∙ (λ k. option_or (part f code inputs i input_rows b e k) (part f code runs r run_rows c g k)) ∙ sym (find-append p input_rows run_rows) in
-    ap (option_map f) h ∙ or-mapped f s (option_or i r) ∙ (λ k. option_or (part f code sources s source_rows a d k) (later k)) ∙ sym (find-append p source_rows (input_rows ++ run_rows))
+-- what is found in a part, else in the others
+pub join : {X : Type 0} (f : X → Said) (code : List ℕ) (xs : List X) (a b o : Option X) (rows rest : List Said)
+    → map f xs ≡ rows → a ≡ find (λ x. has_code code (f x)) xs → option_map f b ≡ find (has_code code) rest → o ≡ option_or a b → option_map f o ≡ find (has_code code) (rows ++ rest)
+join f code xs a b o rows rest all here there is =
+    ap (option_map f) is ∙ or-mapped f a b ∙ (λ k. option_or (part f code xs a rows all here k) (there k)) ∙ sym (find-append (has_code code) rows rest)

@@ -2,6 +2,8 @@
 use Rattle.std.specs.Prelude.{ℕ, ◌+◌, ◌/◌, ◌%◌, List, [], ◌∷◌, ◌++◌, Option, Some, None, codes, map, nat_lt, if◌then◌else◌}
 use Rattle.std.specs.List.{range_with_len}
 use Rattle.kc_base.specs.declared.types.Kind.{Kind}
+use Rattle.kc_isa.specs.Names.{name_of}
+use Rattle.kc_explain.specs.Mnemonics.{all_mnemonics}
 use Rattle.kc_trace.specs.Text.{kind_number}
 use Rattle.kc_stim.specs.declared.fault.StimFault.{StimFault}
 use Rattle.kc_stim.specs.Faults.{place_of}
@@ -78,5 +80,9 @@ run_codes =
     rule_codes ++ map (numbered (codes "kind")) (range_with_len 1 14)
     ++ map (numbered (codes "request")) (range_with_len 0 18) ++ map (numbered (codes "status")) (range_with_len 0 10)
 
+-- an instruction by its name
+unfoldable pub instruction_codes : List (List ℕ)
+instruction_codes = map name_of all_mnemonics
+
 unfoldable pub all_codes : List (List ℕ)
-all_codes = source_codes ++ (input_codes ++ run_codes)
+all_codes = source_codes ++ (input_codes ++ (run_codes ++ instruction_codes))

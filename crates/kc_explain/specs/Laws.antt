@@ -4,6 +4,8 @@ use Rattle.std.specs.List.{IsDistinct}
 use Rattle.std.specs.Str.{bytes_eq}
 use Rattle.kc_base.specs.declared.types.Kind.{Kind}
 use Rattle.kc_base.specs.Digits.{hex}
+use Rattle.kc_isa.specs.declared.table.Mnemonic.{Mnemonic}
+use Rattle.kc_isa.specs.Names.{name_of}
 use Rattle.kc_stim.specs.declared.fault.StimFault.{StimFault}
 use Rattle.kc_link_place.specs.declared.ranges.LinkFault.{LinkFault}
 use Rattle.kc_exec_spec.specs.Entering.{vector_at}
@@ -34,6 +36,9 @@ pub record UsesAreExplained : Type 0 where
   pub kinds : (kind : Kind) → IsExplained (kind_code kind)
   pub requests : (n : ℕ) → n < 18 → IsExplained (numbered (codes "request") n)
   pub statuses : (given : Status) → IsExplained (status_code given)
+
+abbrev pub MnemonicsAreExplained : Type 0
+MnemonicsAreExplained = (m : Mnemonic) → IsExplained (name_of m)
 
 abbrev pub ends_with : List ℕ → List ℕ → Bool
 ends_with end text = bytes_eq (drop (length text - length end) text) end

@@ -1,3 +1,4 @@
+pub mod Mnemonics
 pub mod Codes
 pub mod Meanings
 pub mod Text

@@ -5,6 +5,7 @@ use Rattle.std.specs.Option.{option_map}
 use Rattle.std.specs.Str.{bytes_eq}
 use Rattle.kc_explain.specs.declared.meaning.Meaning.{Meaning}
 use Rattle.kc_explain.specs.declared.table.TheConstants.{SOURCES, INPUTS, RUNS}
+use Rattle.kc_explain.specs.declared.instructions.TheConstants.{FIRST, SECOND, THIRD, FOURTH}
 
 -- what is said of a code: a sentence, and an example of what is wrong and how it is right
 pub record Said : Type 0 where
@@ -15,7 +16,8 @@ pub record Said : Type 0 where
 abbrev pub said : Meaning → Said
 said row = record { code = row.code.now; sentence = row.sentence.now; example = option_map (λ e. (e.wrong.now, e.right.now)) row.example }
 
--- the rows of the table: the faults of sources, those of all other files, and what linking and runs tell
+-- the rows of the table: the faults of sources, those of all other files, what linking and runs tell, and
+-- the instructions in four parts
 unfoldable pub source_rows : List Said
 source_rows = map (λ row. record { code = row.0.now; sentence = row.1.now; example = option_map (λ e. (e.0.now, e.1.now)) row.2 }) SOURCES
 
@@ -25,8 +27,23 @@ input_rows = map (λ row. record { code = row.0.now; sentence = row.1.now; examp
 unfoldable pub run_rows : List Said
 run_rows = map (λ row. record { code = row.0.now; sentence = row.1.now; example = option_map (λ e. (e.0.now, e.1.now)) row.2 }) RUNS
 
+unfoldable pub first_rows : List Said
+first_rows = map (λ row. record { code = row.0.now; sentence = row.1.now; example = option_map (λ e. (e.0.now, e.1.now)) row.2 }) FIRST
+
+unfoldable pub second_rows : List Said
+second_rows = map (λ row. record { code = row.0.now; sentence = row.1.now; example = option_map (λ e. (e.0.now, e.1.now)) row.2 }) SECOND
+
+unfoldable pub third_rows : List Said
+third_rows = map (λ row. record { code = row.0.now; sentence = row.1.now; example = option_map (λ e. (e.0.now, e.1.now)) row.2 }) THIRD
+
+unfoldable pub fourth_rows : List Said
+fourth_rows = map (λ row. record { code = row.0.now; sentence = row.1.now; example = option_map (λ e. (e.0.now, e.1.now)) row.2 }) FOURTH
+
+unfoldable pub instruction_rows : List Said
+instruction_rows = first_rows ++ (second_rows ++ (third_rows ++ fourth_rows))
+
 unfoldable pub all_said : List Said
-all_said = source_rows ++ (input_rows ++ run_rows)
+all_said = source_rows ++ (input_rows ++ (run_rows ++ instruction_rows))
 
 abbrev pub code_of : Said → List ℕ
 code_of row = row.code

@@ -1,4 +1,4 @@
-ghost use Rattle.kc_explain.specs.Laws.{CodesDiffer, FaultsAreExplained, UsesAreExplained, VectorsAreTold};
+ghost use Rattle.kc_explain.specs.Laws.{CodesDiffer, FaultsAreExplained, MnemonicsAreExplained, UsesAreExplained, VectorsAreTold};
 
 /// Each fault of a source, an object, a library, a hex file, stimuli and other files is explained, and each rule of linking.
 pub fn faults_are_explained()
@@ -8,6 +8,11 @@ pub fn faults_are_explained()
 /// Each kind of undefined use, each request and each status is explained.
 pub fn uses_are_explained()
     ensures { UsesAreExplained }
+{}
+
+/// Each instruction is explained by its name.
+pub fn mnemonics_are_explained()
+    ensures { MnemonicsAreExplained }
 {}
 
 /// The sentence of each request ends with the vector through which the machine enters its routine.

@@ -1,25 +1,31 @@
 use Rattle.std.proofs.Common.{ap, sym, subst, ◌∙◌, Some}
-use Rattle.std.specs.Option.{option_copied, option_map, option_or}
+use Rattle.std.specs.Option.{option_copied, option_map}
 use Rattle.kc_explain.specs.Codes.{all_codes}
-use Rattle.kc_explain.specs.Meanings.{IsAnswer}
-use Rattle.kc_explain.proofs.Rows.{in-parts}
+use Rattle.kc_explain.specs.Meanings.{IsAnswer, source_rows, input_rows, run_rows, instruction_rows, all_said}
+use Rattle.kc_explain.proofs.Rows.{join}
 use Rattle.kc_explain.proofs.Distinct.{meaning-is}
 use Rattle.kc_explain.proofs.lookup.meaning_of.Goals as goal
 
 pub returns-in-Some-clause-row : goal.returns-in-Some-clause-row
+unfolding all_said
 returns-in-Some-clause-row c =
     ap Some c.meaning_in.ensures ∙ ap (option_map _) (sym (ap option_copied c.in-Some.is))
-    ∙ in-parts _ c.args.code.now c.sources.result.now c.inputs.result.now c.runs.result.now _ _ _ _ c.sources.ensures c.inputs.ensures c.runs.ensures
-    c.find_in-in_sources.ensures c.find_in-in_inputs.ensures c.find_in-in_runs.ensures (c.first.ensures ∙ ap (option_or (option_copied c.find_in-in_sources.result)) c.first-others.ensures)
+    ∙ join _ c.args.code.now c.sources.result.now _ _ _ source_rows _ c.sources.ensures c.find_in-in_sources.ensures
+    (join _ c.args.code.now c.inputs.result.now _ _ _ input_rows _ c.inputs.ensures c.find_in-in_inputs.ensures
+    (join _ c.args.code.now c.runs.result.now _ _ _ run_rows instruction_rows c.runs.ensures c.find_in-in_runs.ensures c.find_instruction.ensures
+    c.earlier-later.ensures) c.earlier-others.ensures) c.earlier.ensures
 
 pub returns-in-Some-clause-answer : goal.returns-in-Some-clause-answer
 returns-in-Some-clause-answer c = subst (IsAnswer all_codes c.args.code.now) (sym (returns-in-Some-clause-row c)) (meaning-is c.args.code.now)
 
 pub returns-in-None-clause-row : goal.returns-in-None-clause-row
+unfolding all_said
 returns-in-None-clause-row c =
     ap (option_map _) (sym (ap option_copied c.in-None.is))
-    ∙ in-parts _ c.args.code.now c.sources.result.now c.inputs.result.now c.runs.result.now _ _ _ _ c.sources.ensures c.inputs.ensures c.runs.ensures
-    c.find_in-in_sources.ensures c.find_in-in_inputs.ensures c.find_in-in_runs.ensures (c.first.ensures ∙ ap (option_or (option_copied c.find_in-in_sources.result)) c.first-others.ensures)
+    ∙ join _ c.args.code.now c.sources.result.now _ _ _ source_rows _ c.sources.ensures c.find_in-in_sources.ensures
+    (join _ c.args.code.now c.inputs.result.now _ _ _ input_rows _ c.inputs.ensures c.find_in-in_inputs.ensures
+    (join _ c.args.code.now c.runs.result.now _ _ _ run_rows instruction_rows c.runs.ensures c.find_in-in_runs.ensures c.find_instruction.ensures
+    c.earlier-later.ensures) c.earlier-others.ensures) c.earlier.ensures
 
 pub returns-in-None-clause-answer : goal.returns-in-None-clause-answer
 returns-in-None-clause-answer c = subst (IsAnswer all_codes c.args.code.now) (sym (returns-in-None-clause-row c)) (meaning-is c.args.code.now)
