@@ -12,7 +12,7 @@ returns-in-Some-clause-row c =
     ap Some c.meaning_in.ensures ∙ ap (option_map _) (sym (ap option_copied c.in-Some.is))
     ∙ join _ c.args.code.now c.sources.result.now _ _ _ source_rows _ c.sources.ensures c.find_in-in_sources.ensures
     (join _ c.args.code.now c.inputs.result.now _ _ _ input_rows _ c.inputs.ensures c.find_in-in_inputs.ensures
-    (join _ c.args.code.now c.runs.result.now _ _ _ run_rows instruction_rows c.runs.ensures c.find_in-in_runs.ensures c.find_instruction.ensures
+    (join _ c.args.code.now c.runs.result.now _ _ _ run_rows instruction_rows c.runs.ensures c.find_in-in_runs.ensures c.find_instruction-in_instructions.ensures
     c.earlier-later.ensures) c.earlier-others.ensures) c.earlier.ensures
 
 pub returns-in-Some-clause-answer : goal.returns-in-Some-clause-answer
@@ -24,7 +24,7 @@ returns-in-None-clause-row c =
     ap (option_map _) (sym (ap option_copied c.in-None.is))
     ∙ join _ c.args.code.now c.sources.result.now _ _ _ source_rows _ c.sources.ensures c.find_in-in_sources.ensures
     (join _ c.args.code.now c.inputs.result.now _ _ _ input_rows _ c.inputs.ensures c.find_in-in_inputs.ensures
-    (join _ c.args.code.now c.runs.result.now _ _ _ run_rows instruction_rows c.runs.ensures c.find_in-in_runs.ensures c.find_instruction.ensures
+    (join _ c.args.code.now c.runs.result.now _ _ _ run_rows instruction_rows c.runs.ensures c.find_in-in_runs.ensures c.find_instruction-in_instructions.ensures
     c.earlier-later.ensures) c.earlier-others.ensures) c.earlier.ensures
 
 pub returns-in-None-clause-answer : goal.returns-in-None-clause-answer
