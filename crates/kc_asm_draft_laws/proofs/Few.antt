@@ -240,9 +240,9 @@ module _ (n : ℕ) where
       let clear : AllByRecursion IsClear (parts_from all [] all (site_list stmts) first_parts) = clear_parts octets all names [] all (site_list stmts) first_parts refl (refl, (refl, (refl, tt))) in
       let same : slice_get d.parts.items n ≡ Some (blank kind None) = ap (λ (ts : List Tape). slice_get ts n) drafted.parts ∙ untouched all [] all (site_list stmts) first_parts (blank kind None) none starts in
       let publics : list_any (λ (p : Given). is_piece n p.value.base) d.publics.items ≡ false =
-          ap (list_any (λ (p : Given). is_piece n p.value.base)) drafted.publics ∙ publics_elsewhere (in_all all) names.last (distinct_from [] (all_given all)) in
+      ap (list_any (λ (p : Given). is_piece n p.value.base)) drafted.publics ∙ publics_elsewhere (in_all all) names.last (distinct_from [] (all_given all)) in
       let parts : list_any (λ (t : Tape). list_any (λ (c : Cell). aims_at n (relocation t c.octet)) t.cells) d.parts.items ≡ false =
-          parts_elsewhere d.parts.items (subst (AllByRecursion IsClear) (sym drafted.parts) clear) in
+      parts_elsewhere d.parts.items (subst (AllByRecursion IsClear) (sym drafted.parts) clear) in
       ap (stays_in d.parts.items d.publics.items n) same ∙ (λ i. publics i || parts i)
 
 -- ---- which statements ask for a piece
@@ -465,12 +465,12 @@ pieces_few bases octets stmts d drafted =
     let all = standing stmts in
     let values : ℕ → Segment → Value = λ i g. value_at g (place_at (site_list stmts) i) in
     let registers : count_of (kept_in d).registers ≤ sum_of to_registers all =
-        count_by (sum_of to_registers all) (kept_in d).registers (λ z. is_no_piece 0 bases octets stmts d drafted Reg refl (none_stands 0 to_registers no_registers values 0 first_segment stmts (omega arith) refl z)) in
+    count_by (sum_of to_registers all) (kept_in d).registers (λ z. is_no_piece 0 bases octets stmts d drafted Reg refl (none_stands 0 to_registers no_registers values 0 first_segment stmts (omega arith) refl z)) in
     let data_piece : count_of (kept_in d).ram ≤ sum_of to_data all =
-        count_by (sum_of to_data all) (kept_in d).ram (λ z. is_no_piece 2 bases octets stmts d drafted Ram refl (none_stands 2 to_data no_data values 0 first_segment stmts (omega arith) refl z)) in
+    count_by (sum_of to_data all) (kept_in d).ram (λ z. is_no_piece 2 bases octets stmts d drafted Ram refl (none_stands 2 to_data no_data values 0 first_segment stmts (omega arith) refl z)) in
     let code : count_of (kept_in d).code ≤ 1 = count_by 1 (kept_in d).code (λ z. absurd (omega (arith, z))) in
     let stack : count_of (not (eqb d.stack 0)) ≤ sum_of asking all =
-        count_by (sum_of asking all) (not (eqb d.stack 0)) (λ z. ap (λ (m : ℕ). not (eqb m 0)) (drafted.stack ∙ no_stack all 0 [] all z refl)) in
+    count_by (sum_of asking all) (not (eqb d.stack 0)) (λ z. ap (λ (m : ℕ). not (eqb m 0)) (drafted.stack ∙ no_stack all 0 [] all z refl)) in
     let parts : length d.parts.items ≤ 3 + sum_of opening all = subst (λ (ts : List Tape). length ts ≤ 3 + sum_of opening all) (sym drafted.parts) (parts_few all [] all (site_list stmts) first_parts) in
     let long : length all ≡ length stmts = located_length values 0 first_segment stmts in
     let whole = total d.parts.items d.publics.items d.stack in

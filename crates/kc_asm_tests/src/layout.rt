@@ -77,10 +77,14 @@ fn a_branch_over_a_great_reserve_is_long(rt: HostRuntime) {
 /// A call over 65,535 bytes, forth and back, is long.
 #[test]
 fn a_call_over_the_longest_reserve_is_long(rt: HostRuntime) {
-    let forth = sites(rt.alloc(), &[" CALL C", " DSB 65535", "C:", " END"])
-        .expect(&rt, "its names have no fault");
+    let forth = sites(rt.alloc(), &[" CALL C", " DSB 65535", "C:", " END"]).expect(
+        &rt,
+        "its names have no fault",
+    );
     assert!(rt; (forth[0].form, forth[2].place) == (Form::Second, 65_538));
-    let back = sites(rt.alloc(), &["C: DSB 65535", " CALL C", " END"])
-        .expect(&rt, "its names have no fault");
+    let back = sites(rt.alloc(), &["C: DSB 65535", " CALL C", " END"]).expect(
+        &rt,
+        "its names have no fault",
+    );
     assert!(rt; (back[1].form, back[1].after) == (Form::Second, 65_538));
 }

@@ -255,8 +255,10 @@ static CASES: [Case; 39] = [
 #[test]
 fn notes_of_statements(rt: HostRuntime) -> Result<(), Fail> {
     let source = Vec::from_iter(rt.alloc(), CASES.iter().map(|case| case.0))?;
-    let outline =
-        outline_of(rt.alloc(), &source).expect(&rt, "the source has no fault of its names");
+    let outline = outline_of(rt.alloc(), &source).expect(
+        &rt,
+        "the source has no fault of its names",
+    );
     let notes = outline.notes();
     assert!(rt; notes.len() == CASES.len());
     for (note, case) in notes.iter().zip(&CASES) {

@@ -68,14 +68,7 @@ fn source_refusal(alloc: Global, name: &str, text: &[u8], line: u32, number: u8)
 {
     let name = name.as_bytes();
     match fault_texts(alloc, name, text, line, number) {
-        Ok((printed, note)) => refusal_of(
-            alloc,
-            Cause::Source,
-            b"source ",
-            name,
-            &printed,
-            note,
-        ),
+        Ok((printed, note)) => refusal_of(alloc, Cause::Source, b"source ", name, &printed, note),
         Err(NoMemory) => Refusal::NoMemory,
     }
 }
