@@ -2,7 +2,9 @@
 use Rattle.std.proofs.Common.{◌≡◌, ℕ, List, Option, Some, None, Result, Ok, Err, refl, sym, subst}
 use Rattle.kc_lex.specs.declared.token.Line.{Line}
 use Rattle.kc_lex.specs.Lines.{lines_of}
-use Rattle.kc_macro.specs.Expansion.{Answer, expanded}
+use Rattle.kc_lex.specs.declared.fault.SourceFault.{SourceFault}
+use Rattle.kc_lex.specs.declared.fault.SourceFault.TheVariants as faults
+use Rattle.kc_macro.specs.Expansion.{Answer, IsExpanded, expanded}
 use Rattle.kc_source.specs.Faults.{Fault}
 use Rattle.kc_asm_cause.specs.Written.{marked}
 use Rattle.kc_asm_cause.specs.Cause.{IsCauseAmong, IsCauseBetween, IsCauseOfText, IsCauseOfLines, IsCause}
@@ -15,14 +17,18 @@ of_expansions source line code read text other found r e m h =
     (subst (λ (a : Answer). IsCauseBetween (line, code) text a found) (sym m) h))
 
 -- a fault of macros, of the lines or of the marked lines
-pub no_text : (source : List ℕ) (line code : ℕ) (read : List Line) (f : Fault) → lines_of source ≡ Ok read → expanded read ≡ Some (Err f) → IsCause source line code None
-no_text source line code read f r e =
-    subst (λ (a : Result (List Line) Fault). IsCauseOfLines (line, code) a None) (sym r)
-    (subst (λ (a : Answer). IsCauseOfText (line, code) a (expanded (marked read)) None) (sym e) refl)
+told : {line code : ℕ} (fault : SourceFault) (a : Answer) → fault ≡ faults.At line code → IsExpanded (Err fault) a → a ≡ Some (Err (line, code))
+told fault a is h = subst (λ (e : SourceFault). IsExpanded (Err e) a) is h
 
-pub no_marks : (source : List ℕ) (line code : ℕ) (read text : List Line) (f : Fault)
-    → lines_of source ≡ Ok read → expanded read ≡ Some (Ok text) → expanded (marked read) ≡ Some (Err f) → IsCause source line code None
-no_marks source line code read text f r e m =
+pub no_text : {l k : ℕ} (source : List ℕ) (line code : ℕ) (read : List Line) (fault : SourceFault) → fault ≡ faults.At l k
+    → lines_of source ≡ Ok read → IsExpanded (Err fault) (expanded read) → IsCause source line code None
+no_text source line code read fault is r h =
+    subst (λ (a : Result (List Line) Fault). IsCauseOfLines (line, code) a None) (sym r)
+    (subst (λ (a : Answer). IsCauseOfText (line, code) a (expanded (marked read)) None) (sym (told fault (expanded read) is h)) refl)
+
+pub no_marks : {l k : ℕ} (source : List ℕ) (line code : ℕ) (read text : List Line) (fault : SourceFault) → fault ≡ faults.At l k
+    → lines_of source ≡ Ok read → expanded read ≡ Some (Ok text) → IsExpanded (Err fault) (expanded (marked read)) → IsCause source line code None
+no_marks source line code read text fault is r e h =
     subst (λ (a : Result (List Line) Fault). IsCauseOfLines (line, code) a None) (sym r)
     (subst (λ (a : Answer). IsCauseOfText (line, code) a (expanded (marked read)) None) (sym e)
-    (subst (λ (a : Answer). IsCauseBetween (line, code) text a None) (sym m) refl))
+    (subst (λ (a : Answer). IsCauseBetween (line, code) text a None) (sym (told fault (expanded (marked read)) is h)) refl))

@@ -41,12 +41,12 @@ returns-in-Ok-Err c =
 pub returns-in_err-text : goal.returns-in_err-text
 returns-in_err-text c =
     let lines = c.in_ok-lines.lines.items in
-    by_macros c.args.source.now lines c.in_err-text.field-0.0 c.from_residual.result c.in_ok-lines.ensures c.from_residual.ensures.1
+    by_macros c.args.source.now lines c.in_err-text.field-0.0 c.from_residual-in_err-text.result c.in_ok-lines.ensures c.from_residual-in_err-text.ensures.1
     (c.in_err-text.ensures.lines (lines_numbered c.args.source.now lines c.requires c.in_ok-lines.ensures))
 
 pub returns-in_err-stmts : goal.returns-in_err-stmts
 returns-in_err-stmts c =
     let lines = c.in_ok-lines.lines.items in
-    by_statements c.args.source.now lines c.in_ok-text.text.items c.in_err-stmts.field-0.0 c.from_residual.result c.in_ok-lines.ensures
-    (c.in_ok-text.ensures.lines (lines_numbered c.args.source.now lines c.requires c.in_ok-lines.ensures)) c.from_residual.ensures.1
+    by_statements c.args.source.now lines c.in_ok-text.text.items c.in_err-stmts.field-0.0 c.from_residual-in_err-stmts.result c.in_ok-lines.ensures
+    (c.in_ok-text.ensures.lines (lines_numbered c.args.source.now lines c.requires c.in_ok-lines.ensures)) c.from_residual-in_err-stmts.ensures.1
     (rw c.deref.ensures.value at c.in_err-stmts.ensures)

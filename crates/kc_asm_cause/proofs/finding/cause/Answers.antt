@@ -22,7 +22,7 @@ returns c =
 pub returns-in-Err-At-expand : goal.returns-in-Err-At-expand
 returns-in-Err-At-expand c =
     let read = c.in-Ok.read.items in
-    no_text c.args.source.now c.args.line c.args.code read _ c.in-Ok.ensures (c.in-Err-At-expand.ensures.lines (lines_numbered c.args.source.now read c.requires c.in-Ok.ensures))
+    no_text c.args.source.now c.args.line c.args.code read c.in-Err-At-expand.field-0 c.in-Err-At-expand.field-0-is c.in-Ok.ensures (c.in-Err-At-expand.ensures.lines (lines_numbered c.args.source.now read c.requires c.in-Ok.ensures))
 
 pub returns-in-Err-At-expand-2 : goal.returns-in-Err-At-expand-2
 returns-in-Err-At-expand-2 c =
@@ -31,5 +31,5 @@ returns-in-Err-At-expand-2 c =
     let marks : c.in_ok-marks.marks.items ≡ marked read = c.in_ok-marks.ensures ∙ ap marked c.deref.ensures.value in
     let as_many : length c.in_ok-marks.marks.items ≡ length read = ap length marks ∙ length-map read marked_line in
     let numbered : AreNumbered c.in_ok-marks.marks.items = omega (arith, as_many, c.requires, line_count c.args.source.now read c.in-Ok.ensures) in
-    no_marks c.args.source.now c.args.line c.args.code read text _ c.in-Ok.ensures
+    no_marks c.args.source.now c.args.line c.args.code read text c.in-Err-At-expand-2.field-0 c.in-Err-At-expand-2.field-0-is c.in-Ok.ensures
     (c.in-Ok-expand.ensures.lines (lines_numbered c.args.source.now read c.requires c.in-Ok.ensures)) (rw (← marks) (c.in-Err-At-expand-2.ensures.lines numbered))

@@ -1,12 +1,12 @@
 use Rattle.std.proofs.Common.{◌≡◌, ◌≤◌, ◌∙◌, length, refl, ap, subst, arith}
 use Rattle.std.specs.Prelude.{IfOk}
-use Rattle.kc_source.specs.Faults.{AreStatements, all_said, all_uses, faults_of, least}
+use Rattle.kc_source.specs.Faults.{AreStatements, all_said, all_uses}
 use Rattle.kc_source_laws.proofs.Counts.{lines_numbered, stmt_count}
 use Rattle.kc_asm_outline.specs.Outline.{at_zero}
 use Rattle.kc_asm_symbols.specs.Located.{located_by}
 use Rattle.kc_asm_subject.specs.Uses.{used_at}
 use Rattle.kc_asm_subject.specs.Values.{subject_at}
-use Rattle.kc_asm_subject.proofs.Whole.{no_text, of_uses, of_values}
+use Rattle.kc_asm_subject.proofs.Whole.{by_macros, by_statements, of_values}
 use Rattle.kc_asm_subject.proofs.telling.subject.Goals as goal
 
 pub valued-requires-clause-few : goal.valued-requires-clause-few
@@ -26,12 +26,13 @@ returns-in-Ok-statements c =
 pub returns-in-Err-At-expand : goal.returns-in-Err-At-expand
 returns-in-Err-At-expand c =
     let read = c.in-Ok.read.items in
-    no_text c.args.source.now c.args.line c.args.code read _ c.in-Ok.ensures (c.in-Err-At-expand.ensures.lines (lines_numbered c.args.source.now read c.requires c.in-Ok.ensures))
+    by_macros c.args.source.now c.args.line c.args.code read c.in-Err-At-expand.field-0 c.in-Err-At-expand.field-0-is c.in-Ok.ensures
+    (c.in-Err-At-expand.ensures.lines (lines_numbered c.args.source.now read c.requires c.in-Ok.ensures))
 
 pub returns-in-Err-At-statements : goal.returns-in-Err-At-statements
 returns-in-Err-At-statements c =
     let read = c.in-Ok.read.items in
     let text = c.in-Ok-expand.text.items in
-    let whole = of_uses c.args.source.now c.args.line c.args.code read text _ (used_at c.args.line c.args.code (all_uses (all_said text)))
-    c.in-Ok.ensures (c.in-Ok-expand.ensures.lines (lines_numbered c.args.source.now read c.requires c.in-Ok.ensures)) (rw c.deref.ensures.value at c.in-Err-At-statements.ensures) refl in
+    let whole = by_statements c.args.source.now c.args.line c.args.code read text c.in-Err-At-statements.field-0 c.in-Err-At-statements.field-0-is
+    c.in-Ok.ensures (c.in-Ok-expand.ensures.lines (lines_numbered c.args.source.now read c.requires c.in-Ok.ensures)) (rw c.deref.ensures.value at c.in-Err-At-statements.ensures) in
     subst (λ x. IfOk c.used.result (λ o. o ≡ x)) (ap (λ t. used_at c.args.line c.args.code (all_uses (all_said t))) c.deref-in-Err-At-statements.ensures.value ∙ whole) c.used.ensures
