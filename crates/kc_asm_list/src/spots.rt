@@ -74,11 +74,7 @@ fn behind<T>(items: &[T]) -> &[T]
 }
 
 // The statements of an expansion, with their depths, their notes and their sites.
-#[tactic(
-    auto,
-    using(crate::proofs::Behind::all_behind),
-    unfolding(crate::specs::Spots::spots_from)
-)]
+#[tactic(auto, unfolding(crate::specs::Spots::spots_from))]
 fn spots_from(
     alloc: Global,
     text: &[Line],
