@@ -1,6 +1,7 @@
 -- There are as few statements as lines, and hardly more parts.
-use Rattle.std.proofs.Common.{◌≡◌, ℕ, zero, suc, ◌+◌, ◌≤◌, true, false, cond, List, [], ◌∷◌, length, Option, Some, None, ap, arith, length-append}
+use Rattle.std.proofs.Common.{◌≡◌, ℕ, zero, suc, ◌+◌, ◌≤◌, true, false, cond, List, [], ◌∷◌, length, Option, Some, None, arith, length-append}
 use Rattle.std.specs.Prelude.{unwrap_or, slice_get, slice_set}
+use Rattle.std.proofs.lemmas.List.{length-set}
 use Rattle.kc_lex.specs.declared.token.Line.{Line}
 use Rattle.kc_source_statement.specs.Operands.{is_nil}
 use Rattle.kc_source.specs.Faults.{said, all_said}
@@ -23,11 +24,6 @@ few_said (l ∷ ls) =
 
 -- ---- parts
 
-set_length : (ts : List Tape) (i : ℕ) (t : Tape) → length (slice_set ts i t) ≡ length ts
-set_length [] i t = refl
-set_length (x ∷ ts) zero t = refl
-set_length (x ∷ ts) (suc i) t = ap suc (set_length ts i t)
-
 opened_length : (kind : SegKind) (o : Option ℕ) (ts : List Tape) → length (with_opened kind o ts) ≤ suc (length ts)
 opened_length kind None ts = omega arith
 opened_length kind (Some address) ts = omega (arith, length-append ts (blank kind (Some address) ∷ []))
@@ -41,5 +37,5 @@ few_parts all before (l ∷ ls) (s ∷ ss) parts =
     let rest = few_parts all (l ∷ before) ls ss (parts_after look l s parts) in
     let set = slice_set parts l.segment.piece (tape_after look l s (unwrap_or (slice_get parts l.segment.piece) first_tape)) in
     let opened = opened_length (kind_opened l.action) (opens look l.action) (slice_set parts l.segment.piece (tape_after look l s (unwrap_or (slice_get parts l.segment.piece) first_tape))) in
-    let same = set_length parts l.segment.piece (tape_after look l s (unwrap_or (slice_get parts l.segment.piece) first_tape)) in
+    let same = length-set parts l.segment.piece (tape_after look l s (unwrap_or (slice_get parts l.segment.piece) first_tape)) in
     omega (arith, rest, opened, same)
