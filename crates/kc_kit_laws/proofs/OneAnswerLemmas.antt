@@ -227,8 +227,7 @@ module _ (laws : Laws) where
 module _
     (IsNote : NoteRule) (Same : Reply → Reply → Type 0) (whole : (r : Reply) → Same r r)
     (noted : (name text : List ℕ) (line code : ℕ) (n m : List ℕ) → IsNote name text line code n → IsNote name text line code m → Same (source_reply name line code n) (source_reply name line code m))
-    (laws : Laws)
-where
+    (laws : Laws) where
   -- at most one reply may be given, but for the relation
   abbrev AreOne : (Reply → Type 0) → Type 0
   AreOne may = (r s : Reply) → may r → may s → Same r s

@@ -95,7 +95,7 @@ pub fn count_board<S: Sink, L: Ledger>(
     let mut steps = Steps::<L>::new(blank);
     let mut trace = TraceOut::new(Silence);
     let Ok(end) = machine.run(STATES, &mut trace, &mut steps) else {
-        return Status::NoMemory;
+        unreachable!();
     };
     match summary(alloc, number, trace.counts(), end, machine.now()) {
         Ok(text) => say(out, &text, status_of(end)),

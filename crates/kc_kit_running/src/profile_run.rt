@@ -13,7 +13,7 @@ use crate::board::Board;
 use crate::fitted::fitted_machine;
 use crate::image_run::status_of;
 use crate::output::{Output, write_output};
-use kc_base::{Files, Sink, Steps};
+use kc_base::{Files, NoMemory, Sink, Steps};
 use kc_debug_script::MapEntry;
 use kc_kit_files::{Ended, Status};
 use kc_profile::{Profile, run_profiled};
@@ -80,6 +80,6 @@ fn write_profile<'a, F: Files>(
 {
     match profile.text(alloc, entries) {
         Ok(bytes) => write_output(alloc, &Output { name, bytes }, files),
-        Err(_) => Ended::by(Status::NoMemory),
+        Err(NoMemory) => Ended::by(Status::NoMemory),
     }
 }

@@ -21,4 +21,4 @@ returns-in-Ok-listing_file c =
     let listed = maybe_written c.in-Ok-listing_file.list in
     prepared-widen (λ (reply : Reply). reply ≡ writing_readable (write assemble.out.now c.in-Ok-encode.bytes.items ∷ []) listed)
     (AssembleAnswer IsFaultNote assemble.file.now assemble.out.now (option_map (λ l. l.now) assemble.list) c.args.text.now) c.writing.result
-    (λ r e. (Ok c.in-Ok.made, c.in-Ok.ensures.made, (listed, c.in-Ok-listing_file.ensures, e ∙ ap (λ b. writing_readable (write assemble.out.now b ∷ []) listed) c.in-Ok-encode.ensures))) c.writing.ensures
+    (λ r e. (Ok c.in-Ok.made, c.in-Ok.ensures.made, (listed, c.in-Ok-listing_file.ensures, e ∙ ap (λ b. writing_readable (write assemble.out.now b ∷ []) listed) c.in-Ok-encode.ensures.bytes))) c.writing.ensures
