@@ -79,7 +79,7 @@ pub static HELP: [Row; 13] = [
     ),
     (
         "explain",
-        "  kc96 explain CODE               tell what a code says: of a fault, a use, a request, a status
+        "  kc96 explain CODE               tell what a code says, or what the instruction of that name does
 ",
     ),
     (
