@@ -1,5 +1,5 @@
 -- Libraries that are refused: what reading tells of a library is a place in it.
-use Rattle.std.proofs.Common.{◌≡◌, ℕ, zero, suc, ◌-◌, ◌==◌, Bool, true, false, cond, List, [], ◌∷◌, ◌++◌, length, drop, Option, Some, None, Result, Ok, Err, ◌∙◌, ap, subst}
+use Rattle.std.proofs.Common.{◌≡◌, ℕ, zero, suc, ◌-◌, ◌==◌, Bool, true, false, cond, List, [], ◌∷◌, ◌++◌, length, drop, Option, Some, None, Result, Ok, Err, subst}
 use Rattle.std.specs.Prelude.{nat_le, slice_get, slice_index}
 use Rattle.std.specs.Option.{option_or}
 use Rattle.kc_obj_module.specs.Object.{Object}
@@ -8,10 +8,11 @@ use Rattle.kc_obj.specs.Reading.{answer_of}
 use Rattle.kc_lib.specs.declared.faults.LibFault.{LibFault}
 use Rattle.kc_lib.specs.declared.faults.LibFault.TheVariants as faults
 use Rattle.kc_lib.specs.declared.faults.LibCode.TheVariants as code
+use Rattle.kc_lib.specs.Answers.{IsCause}
 use Rattle.kc_lib.specs.Names.{second_of}
 use Rattle.kc_lib.specs.Reading.{heads, byte_fault, head_fault, member_size, lengths_fault, unless, and_then, second_fault, by_object, member_of, object_in, members, read_answer}
 
-abbrev pub HasPlace : LibFault → Type 0
+abbrev HasPlace : LibFault → Type 0
 HasPlace (faults.At at code) = Unit {0}
 HasPlace _ = ⊥
 
@@ -87,5 +88,15 @@ read-placed bytes =
     unless-placed (head_fault bytes) _ (head-placed bytes)
     (unless-placed (lengths_fault all count (drop 4 bytes)) (members all count [] (drop 4 bytes)) (lengths-placed all count (drop 4 bytes)) (members-placed all count [] (drop 4 bytes)))
 
-pub fault-placed : (bytes : List ℕ) (fault : LibFault) → read_answer bytes ≡ Err fault → HasPlace fault
+fault-placed : (bytes : List ℕ) (fault : LibFault) → read_answer bytes ≡ Err fault → HasPlace fault
 fault-placed bytes fault e = subst ErrHasPlace e (read-placed bytes)
+
+abbrev MayBeRead : List ℕ → LibFault → Type 0
+MayBeRead bytes fault = IsCause fault (read_answer bytes ≡ Err fault)
+
+-- faults of packing and of taking have no place
+pub not-duplicate : (bytes : List ℕ) (fault : LibFault) (name : List ℕ) → MayBeRead bytes fault → fault ≡ faults.Duplicate name → ⊥
+not-duplicate bytes fault name c e = fault-placed bytes (faults.Duplicate name) (subst (MayBeRead bytes) e c)
+
+pub not-too_many : (bytes : List ℕ) (fault : LibFault) → MayBeRead bytes fault → fault ≡ faults.TooMany → ⊥
+not-too_many bytes fault c e = fault-placed bytes faults.TooMany (subst (MayBeRead bytes) e c)

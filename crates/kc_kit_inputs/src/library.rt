@@ -19,7 +19,8 @@ pub fn read_library(alloc: Global, name: &str, bytes: &[u8]) -> Result<Library, 
         Ok(library) => Ok(library),
         Err(LibFault::At { at, code }) => Err(byte_refusal(alloc, name, at, b"B", code.number())),
         Err(LibFault::NoMemory) => Err(Refusal::NoMemory),
-        Err(_) => unreachable!(),
+        Err(LibFault::Duplicate(_)) => unreachable!(),
+        Err(LibFault::TooMany) => unreachable!(),
     }
 }
 
