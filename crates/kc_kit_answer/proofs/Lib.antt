@@ -5,7 +5,6 @@ pub mod HelpLemmas
 pub mod HexLengths
 pub mod LinesLemmas
 pub mod LinkLemmas
-pub mod ListingLemmas
 pub mod Listed
 pub mod MadeLemmas
 pub mod SourceLemmas

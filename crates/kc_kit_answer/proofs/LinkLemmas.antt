@@ -1,5 +1,5 @@
 -- Modules that break a rule of the linker, and the files of those that are linked.
-use Rattle.std.proofs.Common.{◌≡◌, ◌≢◌, ℕ, true, false, List, ◌∷◌, ◌++◌, Option, Some, None, Ok, Err, refl, sym, ◌∙◌, ap, subst}
+use Rattle.std.proofs.Common.{◌≡◌, ℕ, true, false, List, ◌∷◌, Option, Some, None, Ok, Err, refl, sym, ◌∙◌, ap, subst}
 use Rattle.std.specs.Prelude.{Result}
 use Rattle.std.specs.Result.{IsOk}
 use Rattle.kc_obj_module.specs.Object.{Object}
@@ -56,18 +56,7 @@ placed-located ms ranges p e = by (located ms ranges) refl e
     by (Ok q) f e = f ∙ ap Ok (or-ok (unfit ms q 0 ms) q e)
     by (Err fault) f e = absurd (cc)
 
--- modules that are placed break no rule
-err-not-ok : {A E : Type 0} (x : Result A E) (e : E) → IsOk x → x ≡ Err e → ⊥
-err-not-ok x e ok f = let k : false ≡ true = subst IsOk f ok in absurd (cc)
-
-pub no-rule-broken : (x : Result Places LinkFault) (fault : LinkFault) → IsOk x → IsCause fault (x ≡ Err fault) → fault ≢ faults.NoMemory → ⊥
-no-rule-broken x faults.NoMemory ok c un = un refl
-no-rule-broken x (faults.Unresolved name) ok c un = err-not-ok x (faults.Unresolved name) ok c
-no-rule-broken x (faults.OverlapName name) ok c un = err-not-ok x (faults.OverlapName name) ok c
-no-rule-broken x (faults.OverlapPlace place) ok c un = err-not-ok x (faults.OverlapPlace place) ok c
-no-rule-broken x (faults.Capacity kind index) ok c un = err-not-ok x (faults.Capacity kind index) ok c
-no-rule-broken x (faults.Range index piece offset) ok c un = err-not-ok x (faults.Range index piece offset) ok c
-
+-- modules that are placed have places before their numbers are judged
 pub is-located : (ms : List Object) (ranges : Ranges) → IsOk (placed ms ranges) → IsOk (located ms ranges)
 is-located ms ranges ok = by (placed ms ranges) refl ok
   where

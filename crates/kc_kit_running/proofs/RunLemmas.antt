@@ -1,8 +1,7 @@
 -- The reply of a run.
-use Rattle.std.proofs.Common.{◌≡◌, inl, ℕ, ◌<◌, ◌≤◌, List, ◌++◌, Option, Some, None, refl, sym, ◌∙◌, ap, subst, arith}
+use Rattle.std.proofs.Common.{◌≡◌, inl, ℕ, ◌<◌, List, ◌++◌, Option, Some, None, refl, sym, ◌∙◌, ap, subst}
 use Rattle.std.specs.Option.{unwrap_or}
 use Rattle.kc_base.specs.Causes.{Rose, Grew, GrewByPart}
-use Rattle.kc_extra.specs.Further.{Further}
 use Rattle.kc_trace.specs.Out.{Out, Puts}
 use Rattle.kc_trace.specs.Text.{text_of}
 use Rattle.kc_trace.proofs.Outs.{GrewByPart-longer, Puts-append}
@@ -13,7 +12,6 @@ use Rattle.kc_machine_spec.specs.Machine.{Machine, Stepped}
 use Rattle.kc_machine_spec.specs.Run.{end_of}
 use Rattle.kc_machine_spec.specs.Text.{trace_of, finals, HasRun}
 use Rattle.kc_machine_spec.proofs.Runs.{run_for-has_run}
-use Rattle.kc_machine.specs.Failing.{FailsIn}
 use Rattle.kc_kit_files.specs.declared.status.Status.{Status}
 use Rattle.kc_kit_files.specs.declared.status.Status.TheVariants as status
 use Rattle.kc_trace.specs.declared.record.Record.TheVariants.{Stopped}
@@ -28,13 +26,6 @@ use Rattle.kc_kit_files.specs.Outside.{Kept, Shown, Replies}
 use Rattle.kc_kit_inputs.specs.declared.driving.Driving.{Driving}
 use Rattle.kc_kit_running.specs.Fitted.{FittedUnit, fitted_further}
 use Rattle.kc_kit_running.specs.Running.{machine_of, run_of, run_reply, status_of}
-
--- a sink that counts no fault fails no run
-pub never-fails : {X : Type 0} (f : Further X) (until : ℕ) (m : Machine X) (o : Out) (n : Machine X) (p : Out) → FailsIn f until m o n p → p.faults ≡ 0 → ⊥
-never-fails f until m o n p h e =
-    let rose : Rose h.mid.faults p.faults = h.part.text.cause h.unbroken h.failed in
-    let later : h.mid.faults ≤ p.faults = h.part.text.later in
-    omega (arith, rose, later, e)
 
 -- the status of a run, with its text whole
 pub run-whole : {X : Type 0} (ran : Stepped X) (may : Reply → Type 0) (files : Kept) (old new : Shown) (how : End) → may (run_reply ran) → how ≡ end_of ran.machine → Grew old.written (trace_of ran) new.written → Replies may files old (status_of how) files new

@@ -1,9 +1,9 @@
-use Rattle.std.proofs.Common.{map, string_bytes, sym, subst, List}
+use Rattle.std.proofs.Common.{rules, map, string_bytes, sym, subst, List}
 use Rattle.kc_debug_script.specs.declared.line_map.MapEntry.{MapEntry}
 use Rattle.kc_kit_inputs.specs.Driving.{given_in}
 use Rattle.kc_kit_answer.specs.Places.{Placing}
 use Rattle.kc_kit_answer.specs.Profile.{map_entry, DrivenWithLines, FilledWithLines}
-use Rattle.kc_kit_answer.proofs.LinesLemmas.{lines-placing, refused-with-lines}
+use Rattle.kc_kit_answer.proofs.LinesLemmas.{board-placed, lines-placing, refused-with-lines}
 use Rattle.kc_kit_answer.proofs.profile.linked.Goals as goal
 
 pub returns-in-Err : goal.returns-in-Err
@@ -17,3 +17,6 @@ returns-in-Ok-entries_of c = λ tell.
     let mapped = c.in-Ok-line_map.ensures in
     subst (λ (es : List MapEntry). Placing names c.args.placing.now (DrivenWithLines given FilledWithLines tell) c.args.modules.now (tell es c.in-Ok.board.driving c.in-Ok.board.image)) (sym c.in-Ok-entries_of.ensures)
     (lines-placing names given c.args.placing.now tell c.args.modules.now lines mapped.0 (tell (map map_entry lines) c.in-Ok.board.driving c.in-Ok.board.image) mapped.1.0 mapped.1.1 (c.in-Ok.ensures (tell (map map_entry lines))))
+
+pub unreachable-requires : goal.unreachable-requires
+unreachable-requires c = search (rules, board-placed (map string_bytes c.args.names.now) (given_in c.args.given) c.args.placing.now c.args.modules.now c.in-Ok.board c.in-Ok.ensures)
