@@ -1,5 +1,5 @@
 -- What may be answered with the notes of a rule may be answered whatever is said of a fault of a source.
-use Rattle.std.proofs.Common.{inl, inr, ℕ, List, [], ◌∷◌, ◌++◌, length, take, drop, Option, Some, None, Result, Ok, Err}
+use Rattle.std.proofs.Common.{inl, inr, ℕ, List, [], ◌∷◌, ◌++◌, length, take, Option, Some, None, Result, Ok, Err}
 use Rattle.kc_base.specs.Held.{Holding}
 use Rattle.kc_obj_module.specs.Object.{Object}
 use Rattle.kc_link_place.specs.declared.ranges.Ranges.{Ranges}
@@ -7,18 +7,21 @@ use Rattle.kc_debug_script.specs.declared.line_map.MapEntry.{MapEntry}
 use Rattle.kc_kit_files.specs.Reply.{Reply}
 use Rattle.kc_kit_files.specs.Reads.{reads_of}
 use Rattle.kc_kit_words.specs.Commands.{Command, Helps, HelpsOn, TellsVersion, Runs, Profiles, Assembles, Packs, Links, RunsHex, ProfilesHex, Lists, Debugs, Generates, Dumps, Explains, names_of}
+use Rattle.kc_kit_words.specs.Words.{placing_of}
 use Rattle.kc_kit_inputs.specs.declared.driving.Driving.{Driving}
 use Rattle.kc_kit_inputs.specs.Driving.{GivenFiles}
 use Rattle.kc_kit_inputs.specs.Sources.{NoteRule, AnyNote, TellsFault, SourceIs, TellsFirst, SourcesAre}
 use Rattle.kc_kit_answer.specs.Answer.{OneText, Parted, CommandAnswer, MayAnswer}
+use Rattle.kc_kit_running.specs.Counted.{summary_of}
 use Rattle.kc_kit_answer.specs.Assemble.{AssembleAnswer}
+use Rattle.kc_kit_answer.specs.Generate.{made_names, made_texts, made_given}
 use Rattle.kc_kit_answer.specs.Profile.{LinesTold, ProfileAnswer}
 use Rattle.kc_kit_answer.specs.Run.{SourcesTold, RunAnswer}
 use Rattle.kc_kit_answer.proofs.AnswerSteps.{then-map}
 
 module _ (IsNote : NoteRule) where
   fault-any : (name text : List ℕ) (r : Reply) → TellsFault IsNote name text r → TellsFault AnyNote name text r
-  fault-any name text r (line, code, first, note, is, e) = (line, code, first, note, tt, e)
+  fault-any name text r h = (h.0, h.1, h.2, (h.3.0, tt, h.3.2))
 
   source-any : (name text : List ℕ) (x : Result Object Reply) → SourceIs IsNote name text x → SourceIs AnyNote name text x
   source-any name text (Ok m) h = h
@@ -66,7 +69,7 @@ module _ (IsNote : NoteRule) where
   command-any (Some (RunsHex file inputs extent)) contents r h = h
   command-any (Some (Lists file first last)) contents r h = h
   command-any (Some (Debugs file script inputs)) contents r h = h
-  command-any (Some (Generates number)) contents r h = told-any _ _ _ _ _ r h
+  command-any (Some (Generates number)) contents r h = told-any made_names (made_given number) (placing_of []) (made_texts number) (summary_of number) r h
   command-any (Some (Dumps file out clock)) contents r h = h
   command-any (Some (Explains code)) contents r h = h
 
