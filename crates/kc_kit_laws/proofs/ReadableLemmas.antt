@@ -1,5 +1,5 @@
 -- What is written for commands to read is short enough, or nothing is written.
-use Rattle.std.proofs.Common.{◌≡◌, ◌≢◌, ◌⊎◌, inl, inr, ℕ, ◌≤◌, Bool, true, false, cond, List, [], ◌∷◌, ◌++◌, length, take, drop, map, Option, Some, None, Result, Ok, Err, refl, sym, ◌∙◌, ap, subst, arith}
+use Rattle.std.proofs.Common.{◌≡◌, ◌≢◌, inl, inr, ℕ, ◌≤◌, Bool, true, false, cond, List, [], ◌∷◌, ◌++◌, length, take, drop, map, Option, Some, None, Result, Ok, Err, refl, sym, ◌∙◌, ap, subst, arith}
 use Rattle.std.specs.Prelude.{nat_lt, codes}
 use Rattle.std.specs.Option.{option_to_list}
 use Rattle.std.proofs.lemmas.Bool.Decides.{nat_tests}
@@ -22,9 +22,8 @@ use Rattle.kc_kit_files.specs.Reads.{file_limit, read_of, reads_of, long_reply, 
 use Rattle.kc_kit_files.specs.Reply.{Reply, Write, write, tells, joined, Then}
 use Rattle.kc_kit_files.specs.Writes.{first_long, unless_long, writing_readable, AreReadable}
 use Rattle.kc_kit_files.proofs.LongLemmas.{readable-of}
-use Rattle.kc_kit_words.specs.declared.inputs.Role.{Role}
 use Rattle.kc_kit_words.specs.declared.inputs.Role.TheVariants as role
-use Rattle.kc_kit_words.specs.Commands.{Beside, Command, Helps, HelpsOn, TellsVersion, Runs, Profiles, Assembles, Packs, Links, RunsHex, ProfilesHex, Lists, Debugs, Generates, Dumps, Explains, names_of}
+use Rattle.kc_kit_words.specs.Commands.{Beside, Helps, HelpsOn, TellsVersion, Runs, Profiles, Assembles, Packs, Links, RunsHex, ProfilesHex, Lists, Debugs, Generates, Dumps, Explains, names_of}
 use Rattle.kc_kit_inputs.specs.Inputs.{input_for}
 use Rattle.kc_kit_inputs.specs.Library as libraries
 use Rattle.kc_kit_inputs.specs.Library.{by_library, library_of, fault_reply}
@@ -35,7 +34,7 @@ use Rattle.kc_kit_inputs.specs.Sources.{AnyNote, TellsFault}
 use Rattle.kc_kit_notes.specs.Rules.{link_line, member_words}
 use Rattle.kc_kit_notes.specs.RuleNotes.{link_note}
 use Rattle.kc_kit_answer.specs.Answer.{OneText, Parted}
-use Rattle.kc_kit_answer.specs.Assemble.{WritesObject, AssembleAnswer}
+use Rattle.kc_kit_answer.specs.Assemble.{AssembleAnswer}
 use Rattle.kc_kit_answer.specs.Link.{IsMap, map_writes, LinksTo, Taking, Completed, LinkAnswer}
 use Rattle.kc_kit_answer.specs.Pack.{packed, PackAnswer}
 use Rattle.kc_kit_answer.specs.Places.{by_places, places_of, Placing}
