@@ -81,10 +81,12 @@ fn a_call_over_the_longest_reserve_is_long(rt: HostRuntime) {
         &rt,
         "its names have no fault",
     );
+    assert!(rt; forth.len() == 4);
     assert!(rt; (forth[0].form, forth[2].place) == (Form::Second, 65_538));
     let back = sites(rt.alloc(), &["C: DSB 65535", " CALL C", " END"]).expect(
         &rt,
         "its names have no fault",
     );
+    assert!(rt; back.len() == 3);
     assert!(rt; (back[1].form, back[1].after) == (Form::Second, 65_538));
 }
