@@ -1,7 +1,7 @@
 //! The kit's program: its words, the real files, standard output and standard error, and the status.
 #![tactic(auto)]
 
-use kc_base::{HostFiles, HostNotes, HostOut, Sink};
+use kc_base::{HostDiagnostics, HostFiles, HostOut, Sink};
 use kc_kit::{Ended, Status, kit};
 use kc_trace::TraceOut;
 use std::env;
@@ -18,9 +18,9 @@ fn words_of(rt: &HostRuntime) -> io::Result<Vec<String>> {
 }
 
 // Says what stood in the way of a file that could not be written.
-fn put_hindrance<N: Sink>(rt: &HostRuntime, error: io::Error, notes: &mut TraceOut<N>) {
+fn put_hindrance<N: Sink>(rt: &HostRuntime, error: io::Error, diagnostics: &mut TraceOut<N>) {
     if let Ok(text) = format!(in rt.alloc(); "kc96: note: {error}\n") {
-        notes.put_text(text.as_bytes());
+        diagnostics.put_text(text.as_bytes());
     }
 }
 
@@ -28,43 +28,43 @@ fn put_hindrance<N: Sink>(rt: &HostRuntime, error: io::Error, notes: &mut TraceO
 fn answered<N: Sink>(
     rt: &HostRuntime,
     words: &[String],
-    notes: &mut TraceOut<N>,
+    diagnostics: &mut TraceOut<N>,
 ) -> (Status, bool) {
     let mut files = HostFiles::new(rt, process::id(rt.process()));
     let mut out = TraceOut::new(HostOut::new(rt));
-    let status = kit(rt.alloc(), words, &mut files, &mut out, notes);
+    let status = kit(rt.alloc(), words, &mut files, &mut out, diagnostics);
     if let Some(error) = files.hindrance() {
-        put_hindrance(rt, error, notes);
+        put_hindrance(rt, error, diagnostics);
     }
     (status, !out.sink().is_unread())
 }
 
 // The answer where a word is no text: it is no command, as no words are.
-fn without_text<N: Sink>(rt: &HostRuntime, notes: &mut TraceOut<N>) -> (Status, bool) {
+fn without_text<N: Sink>(rt: &HostRuntime, diagnostics: &mut TraceOut<N>) -> (Status, bool) {
     let standard_error = rt.stderr();
-    let mut unsaid = TraceOut::new(HostNotes::new(rt.alloc(), &standard_error));
+    let mut unsaid = TraceOut::new(HostDiagnostics::new(rt.alloc(), &standard_error));
     let (status, is_heard) = answered(rt, &[], &mut unsaid);
     if status == Status::Usage {
-        notes.put_text(b"kc96: error: a word is not UTF-8; see kc96 --help\n");
+        diagnostics.put_text(b"kc96: error: a word is not UTF-8; see kc96 --help\n");
     } else {
-        Ended::by(status).put_note(notes);
+        Ended::by(status).put_diagnostic(diagnostics);
     }
     (status, is_heard)
 }
 
 fn main(rt: HostRuntime) -> ExitCode {
     let standard_error = rt.stderr();
-    let mut notes = TraceOut::new(HostNotes::new(rt.alloc(), &standard_error));
+    let mut diagnostics = TraceOut::new(HostDiagnostics::new(rt.alloc(), &standard_error));
     let (status, is_heard) = match words_of(&rt) {
-        Ok(words) => answered(&rt, &words, &mut notes),
-        Err(error) if error.kind() == ErrorKind::InvalidData => without_text(&rt, &mut notes),
+        Ok(words) => answered(&rt, &words, &mut diagnostics),
+        Err(error) if error.kind() == ErrorKind::InvalidData => without_text(&rt, &mut diagnostics),
         Err(_) => {
-            Ended::by(Status::NoMemory).put_note(&mut notes);
+            Ended::by(Status::NoMemory).put_diagnostic(&mut diagnostics);
             (Status::NoMemory, true)
         }
     };
     if is_heard {
-        notes.sink().show();
+        diagnostics.sink().show();
     }
     ExitCode::from(status as u8)
 }

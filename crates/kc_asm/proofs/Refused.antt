@@ -12,14 +12,14 @@ use Rattle.kc_obj_module.specs.Object.{Object}
 use Rattle.kc_asm.specs.Assembled.{IsAssembled}
 
 pub by_macros : (source : List ℕ) (lines : List Line) (fault : SourceFault) (r : Result Object SourceFault)
-    → lines_of source ≡ Ok lines → IsErrAnd r (λ told. told ≡ fault) → IsExpanded (Err fault) (expanded lines) → IsAssembled source r
+    → lines_of source ≡ Ok lines → IsErrAnd r (λ reported. reported ≡ fault) → IsExpanded (Err fault) (expanded lines) → IsAssembled source r
 by_macros source lines fault (Ok m) l is h = absurd is
-by_macros source lines (faults.At line code) (Err told) l is h = subst (λ (e : SourceFault). IsAssembled source (Err e)) (sym is) (inr (inl (lines, l, h)))
-by_macros source lines faults.NoMemory (Err told) l is h = subst (λ (e : SourceFault). IsAssembled source (Err e)) (sym is) tt
+by_macros source lines (faults.At line code) (Err reported) l is h = subst (λ (e : SourceFault). IsAssembled source (Err e)) (sym is) (inr (inl (lines, l, h)))
+by_macros source lines faults.NoMemory (Err reported) l is h = subst (λ (e : SourceFault). IsAssembled source (Err e)) (sym is) tt
 
 pub by_statements : (source : List ℕ) (lines text : List Line) (fault : SourceFault) (r : Result Object SourceFault)
-    → lines_of source ≡ Ok lines → expanded lines ≡ Some (Ok text) → IsErrAnd r (λ told. told ≡ fault) → IsStatements (Err fault) text → IsAssembled source r
+    → lines_of source ≡ Ok lines → expanded lines ≡ Some (Ok text) → IsErrAnd r (λ reported. reported ≡ fault) → IsStatements (Err fault) text → IsAssembled source r
 by_statements source lines text fault (Ok m) l t is h = absurd is
-by_statements source lines text (faults.At line code) (Err told) l t is h =
+by_statements source lines text (faults.At line code) (Err reported) l t is h =
     subst (λ (e : SourceFault). IsAssembled source (Err e)) (sym is) (inr (inr (inl (text, (lines, l, t), h))))
-by_statements source lines text faults.NoMemory (Err told) l t is h = subst (λ (e : SourceFault). IsAssembled source (Err e)) (sym is) tt
+by_statements source lines text faults.NoMemory (Err reported) l t is h = subst (λ (e : SourceFault). IsAssembled source (Err e)) (sym is) tt

@@ -1,7 +1,7 @@
 -- The statements of a source are read well.
 use Rattle.std.specs.Prelude.{ℕ, List}
 use Rattle.kc_source_statement.specs.declared.statement.Stmt.{Stmt}
-use Rattle.kc_asm_symbols.specs.Told.{AreReadWell}
+use Rattle.kc_asm_symbols.specs.Reported.{AreReadWell}
 use Rattle.kc_asm_earlier_laws.specs.Read.{SourcesAreReadWell}
 use Rattle.kc_asm.specs.Assembled.{AreSaid}
 

@@ -12,10 +12,10 @@ use Rattle.kc_source_statement.specs.declared.statement.Stmt.{Stmt}
 use Rattle.kc_source.specs.Faults as names
 use Rattle.kc_source.specs.Faults.{Fault, AreStatements}
 use Rattle.kc_obj_module.specs.Object.{Object}
-use Rattle.kc_asm_piece.specs.declared.draft.Draft.{Draft}
+use Rattle.kc_asm_piece.specs.declared.unlinked.UnlinkedModule.{UnlinkedModule}
 use Rattle.kc_asm_module.specs.ModuleOf.{IsModuleOf, pieces_in}
-use Rattle.kc_asm_check.specs.Judging.{first_fault}
-use Rattle.kc_asm_draft_laws.specs.Drafting.{IsDraftOf}
+use Rattle.kc_asm_check.specs.Checking.{first_fault}
+use Rattle.kc_asm_draft_laws.specs.Collecting.{IsUnlinkedModuleOf}
 use Rattle.kc_link_source_laws.specs.Characters.{has_bytes}
 
 -- the text of a source with all that macros, repetitions and conditions stand for
@@ -52,10 +52,10 @@ pub record IsModule (source : List ℕ) (m : Object) : Type 0 where
   pub said : AreSaid source stmts
   pub characters : list_all has_bytes stmts ≡ true
   pub sound : first_fault stmts ≡ None
-  pub draft : Draft
-  pub drafted : IsDraftOf stmts draft
-  pub few : length (pieces_in draft) ≤ 65536
-  pub made : IsModuleOf draft m
+  pub unlinked : UnlinkedModule
+  pub collected : IsUnlinkedModuleOf stmts unlinked
+  pub few : length (pieces_in unlinked) ≤ 65536
+  pub made : IsModuleOf unlinked m
 
 -- what assembling answers
 abbrev pub IsAssembled : List ℕ → Result Object SourceFault → Type 0
@@ -66,5 +66,5 @@ IsAssembled source (Err faults.NoMemory) = Unit {0}
 -- the last pass over statements: their module, or the first fault
 abbrev pub IsMade : List Stmt → Result Object Fault → Type 0
 IsMade stmts (Ok m) =
-    (d : Draft) × (first_fault stmts ≡ None) × IsDraftOf stmts d × (length (pieces_in d) ≤ 65536) × IsModuleOf d m
+    (d : UnlinkedModule) × (first_fault stmts ≡ None) × IsUnlinkedModuleOf stmts d × (length (pieces_in d) ≤ 65536) × IsModuleOf d m
 IsMade stmts (Err f) = first_fault stmts ≡ Some f

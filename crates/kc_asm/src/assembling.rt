@@ -1,17 +1,17 @@
 ghost use Rattle.std.specs.Prelude.{◌≡◌, ◌≤◌, length, IfOk};
 ghost use Rattle.kc_obj_module.specs.Object.{Object};
 ghost use Rattle.kc_asm_symbols.specs.Externals.{externals};
-ghost use Rattle.kc_asm_symbols.specs.Told.{AreReadWell};
-ghost use Rattle.kc_asm_check.specs.Judging.{standing};
+ghost use Rattle.kc_asm_symbols.specs.Reported.{AreReadWell};
+ghost use Rattle.kc_asm_check.specs.Checking.{standing};
 ghost use Rattle.kc_asm.specs.Assembled as spec;
 
-use kc_asm_check::judge;
-use kc_asm_draft::draft;
-use kc_asm_draft_laws::{drafts_are_drafts, pieces_are_few};
+use kc_asm_check::check;
+use kc_asm_draft::unlinked;
+use kc_asm_draft_laws::{pieces_are_few, unlinked_modules_are_unlinked};
 use kc_asm_earlier_laws::sources_are_read_well;
 use kc_asm_layout::layout;
 use kc_asm_module::module_of;
-use kc_asm_outline::outline;
+use kc_asm_outline::statement_sizes;
 use kc_asm_symbols::{Names, externals, externals_are_few};
 use kc_base::NoMemory;
 use kc_lex::{LineFault, SourceFault, lines};
@@ -31,16 +31,16 @@ fn module_or_fault(alloc: Global, stmts: &[Stmt]) -> Result<Result<Module, LineF
 {
     let taken = externals(alloc, stmts)?;
     let names = Names::new(alloc, stmts, &taken)?;
-    let notes = outline(alloc, stmts, &names)?;
-    let sites = layout(alloc, &notes)?;
-    let checked = match judge(alloc, stmts, &sites, &names)? {
+    let size_records = statement_sizes(alloc, stmts, &names)?;
+    let locations = layout(alloc, &size_records)?;
+    let checked = match check(alloc, stmts, &locations, &names)? {
         Ok(checked) => checked,
         Err(fault) => return Ok(Err(fault)),
     };
-    let draft = draft(alloc, stmts, &sites, taken, checked)?;
-    drafts_are_drafts();
+    let unlinked = unlinked(alloc, stmts, &locations, taken, checked)?;
+    unlinked_modules_are_unlinked();
     pieces_are_few();
-    Ok(Ok(module_of(alloc, draft)?))
+    Ok(Ok(module_of(alloc, unlinked)?))
 }
 
 /// The module of a source of at most 1,048,576 bytes, with a line entry for each statement that has bytes.

@@ -24,17 +24,17 @@ use Rattle.kc_asm_emission.specs.declared.extent.Extent.TheVariants as extent
 use Rattle.kc_asm_emission.specs.Arguments.{Look}
 use Rattle.kc_asm_emission.specs.Content.{content, extent_of}
 use Rattle.kc_asm_emission.specs.Seen.{counted}
-use Rattle.kc_asm_outline.specs.declared.note.Anchor.{Anchor}
-use Rattle.kc_asm_outline.specs.declared.note.Anchor.TheVariants as anchor
-use Rattle.kc_asm_outline.specs.declared.note.Body.TheVariants.{Branch}
-use Rattle.kc_asm_outline.specs.declared.note.Note.{Note}
-use Rattle.kc_asm_outline.specs.Outline.{at_zero, on_its_own, anchor_by, anchor_in, anchor_of, plain as plain_argument, target, target_of, body_of, branch_of, branch_or, body_in}
+use Rattle.kc_asm_outline.specs.declared.size_record.Anchor.{Anchor}
+use Rattle.kc_asm_outline.specs.declared.size_record.Anchor.TheVariants as anchor
+use Rattle.kc_asm_outline.specs.declared.size_record.Body.TheVariants.{Branch}
+use Rattle.kc_asm_outline.specs.declared.size_record.SizeRecord.{SizeRecord}
+use Rattle.kc_asm_outline.specs.StatementSizes.{at_zero, on_its_own, anchor_by, anchor_in, anchor_of, plain as plain_argument, target, target_of, body_of, branch_of, branch_or, body_in}
 use Rattle.kc_asm_outline.proofs.Stays.{Noted, noted, same_statement, stripped}
 use Rattle.kc_link_source_laws.specs.Characters.{are_bytes, all_bytes, has_bytes}
 use Rattle.kc_link_source_laws.proofs.Meanings.{has_all_bytes, split_test, standing_test}
 use Rattle.kc_asm_branch_laws.specs.Targets.{in_word, CountsFrom, CountsFromExternal, TargetCounts, TargetIsExternal, AnchorsHold, ExternalAnchorsHold}
-use Rattle.kc_asm_branch_laws.proofs.Expressions.{IsBehind, IsSame, Tells}
-use Rattle.kc_asm_branch_laws.proofs.Names.{IsTold, here_in, here_at, all_placed, expression_told}
+use Rattle.kc_asm_branch_laws.proofs.Expressions.{IsBehind, IsSame, Reports}
+use Rattle.kc_asm_branch_laws.proofs.Names.{IsReported, here_in, here_at, all_placed, expression_reported}
 
 -- ---- the characters of a target are bytes
 
@@ -162,51 +162,51 @@ counted_from all to v distance w word signed h = by_place (slice_get all to) ref
       };
     }
 
-statement_counted : (all : List Located) (to : ℕ) (distance : ℤ) (v : Value) (a : Answer) → v.base ≡ Piece to → cast_signed w16 v.number ≡ distance → IsTold (here_at all) (Ok v) a
+statement_counted : (all : List Located) (to : ℕ) (distance : ℤ) (v : Value) (a : Answer) → v.base ≡ Piece to → cast_signed w16 v.number ≡ distance → IsReported (here_at all) (Ok v) a
     → Counted all to a distance
-statement_counted all to distance v (Ok w) base signed told =
-    counted_from all to v.number distance w told.word signed (subst (λ (b : Base). Tells (here_at all) b v.number w) base told.tells)
-statement_counted all to distance v (Err fault) base signed told = absurd told.tells
+statement_counted all to distance v (Ok w) base signed reported =
+    counted_from all to v.number distance w reported.word signed (subst (λ (b : Base). Reports (here_at all) b v.number w) base reported.reports)
+statement_counted all to distance v (Err fault) base signed reported = absurd reported.reports
 
-external_counted : (all : List Located) (e : ℕ) (v : Value) (a : Answer) → v.base ≡ External e → IsTold (here_at all) (Ok v) a → CountsFromExternal a
-external_counted all e v (Ok w) base told =
-    let same : IsSame (External e) v.number w = subst (λ (b : Base). Tells (here_at all) b v.number w) base told.tells in
+external_counted : (all : List Located) (e : ℕ) (v : Value) (a : Answer) → v.base ≡ External e → IsReported (here_at all) (Ok v) a → CountsFromExternal a
+external_counted all e v (Ok w) base reported =
+    let same : IsSame (External e) v.number w = subst (λ (b : Base). Reports (here_at all) b v.number w) base reported.reports in
     record { value = w; is = refl; external = e; base = same.base }
-external_counted all e v (Err fault) base told = absurd told.tells
+external_counted all e v (Err fault) base reported = absurd reported.reports
 
 -- ---- the note of a statement
 
-abbrev pub zero_look : (stmts : List Stmt) (number : ℕ) (n : Note) → Noted (located_by at_zero stmts) (located_by on_its_own stmts) number n → Look
+abbrev pub zero_look : (stmts : List Stmt) (number : ℕ) (n : SizeRecord) → Noted (located_by at_zero stmts) (located_by on_its_own stmts) number n → Look
 zero_look stmts number n w = meaning (located_by at_zero stmts) w.before w.l
 
-abbrev pub own_look : (stmts : List Stmt) (number : ℕ) (n : Note) → Noted (located_by at_zero stmts) (located_by on_its_own stmts) number n → Look
+abbrev pub own_look : (stmts : List Stmt) (number : ℕ) (n : SizeRecord) → Noted (located_by at_zero stmts) (located_by on_its_own stmts) number n → Look
 own_look stmts number n w = meaning (located_by on_its_own stmts) w.passed w.m
 
 -- what its branch counts from is what its target does with own bases
-own_anchor : (stmts : List Stmt) (number : ℕ) (n : Note) (w : Noted (located_by at_zero stmts) (located_by on_its_own stmts) number n) (kind : BranchKind) (a : Anchor)
+own_anchor : (stmts : List Stmt) (number : ℕ) (n : SizeRecord) (w : Noted (located_by at_zero stmts) (located_by on_its_own stmts) number n) (kind : BranchKind) (a : Anchor)
     → n.body ≡ Branch kind a → anchor_of (own_look stmts number n w) (target_of w.l.action) ≡ a
 own_anchor stmts number n w kind a body =
     let zero = zero_look stmts number n w in
     let own = own_look stmts number n w in
-    let found : body_in zero own w.l.here w.l.action ≡ Branch kind a = (λ j. (sym w.note j).body) ∙ body in
+    let found : body_in zero own w.l.here w.l.action ≡ Branch kind a = (λ j. (sym w.size_record j).body) ∙ body in
     branch_anchor (branch_of zero w.l.action) (anchor_of own (target_of w.l.action)) a (counted (extent_of (content zero First w.l.here w.l.action))) kind found
 
 -- an expression of the statement with own bases and where all statements stand
 module _ (stmts : List Stmt) (places : ℕ → ℕ) (before after : List Located) (l : Located) (characters : list_all has_bytes stmts ≡ true) (whole : located places stmts ≡ reverse before ++ l ∷ after)
-    (n : Note) (w : Noted (located_by at_zero stmts) (located_by on_its_own stmts) (length before) n) where
+    (n : SizeRecord) (w : Noted (located_by at_zero stmts) (located_by on_its_own stmts) (length before) n) where
   same_action : w.l.action ≡ l.action
   same_action =
       let same : stripped l ≡ stripped w.l
       = same_statement (λ i g. value_at g (places i)) at_zero stmts before w.before after w.first.after l w.l whole w.first.whole (sym w.count) in
       λ j. (sym same j).action
 
-  target_told : (x : Tree) → target_of w.l.action ≡ Some x
-      → IsTold (here_at (located places stmts)) (answer_by (own_look stmts (length before) n w) x) (answer_by (meaning (located places stmts) before l) x)
-  target_told x target =
+  target_reported : (x : Tree) → target_of w.l.action ≡ Some x
+      → IsReported (here_at (located places stmts)) (answer_by (own_look stmts (length before) n w) x) (answer_by (meaning (located places stmts) before l) x)
+  target_reported x target =
       let all = located places stmts in
       let texts : all_bytes l.action ≡ true = (split_test has_all_bytes all before after l (standing_test all_bytes (λ i g. value_at g (places i)) 0 first_segment stmts characters) whole).1 in
       let bytes : are_bytes x ≡ true = action_bytes l.action x texts (ap target_of (sym same_action) ∙ target) in
-      expression_told (here_at all) (located_by on_its_own stmts) all w.passed before w.second.after after w.m l (all_placed places stmts characters) w.second.whole whole w.count_own x bytes
+      expression_reported (here_at all) (located_by on_its_own stmts) all w.passed before w.second.after after w.m l (all_placed places stmts characters) w.second.whole whole w.count_own x bytes
 
   statement_holds : (kind : BranchKind) (to : ℕ) (distance : ℤ) → n.body ≡ Branch kind (anchor.Statement to distance)
       → TargetCounts (meaning (located places stmts) before l) (located places stmts) l.action to distance
@@ -216,8 +216,8 @@ module _ (stmts : List Stmt) (places : ℕ → ℕ) (before after : List Located
       let f : FromStatement own w.l.action to distance
       = from_statement own w.l.action (target_of w.l.action) to distance refl (own_anchor stmts (length before) n w kind (anchor.Statement to distance) body) in
       let real = answer_by (meaning all before l) f.x in
-      let told : IsTold (here_at all) (Ok f.value) real = subst (λ (a : Answer). IsTold (here_at all) a real) f.is (target_told f.x f.target) in
-      let c : Counted all to real distance = statement_counted all to distance f.value real f.base f.number told in
+      let reported : IsReported (here_at all) (Ok f.value) real = subst (λ (a : Answer). IsReported (here_at all) a real) f.is (target_reported f.x f.target) in
+      let c : Counted all to real distance = statement_counted all to distance f.value real f.base f.number reported in
       record { statement = c.t; found = c.at; expression = f.x; target = ap target_of (sym same_action) ∙ f.target; counts = c.counts }
 
   external_holds : (kind : BranchKind) → n.body ≡ Branch kind anchor.External → TargetIsExternal (meaning (located places stmts) before l) l.action
@@ -226,8 +226,8 @@ module _ (stmts : List Stmt) (places : ℕ → ℕ) (before after : List Located
       let own = own_look stmts (length before) n w in
       let f : FromExternal own w.l.action = from_external own w.l.action (target_of w.l.action) refl (own_anchor stmts (length before) n w kind anchor.External body) in
       let real = answer_by (meaning all before l) f.x in
-      let told : IsTold (here_at all) (Ok f.value) real = subst (λ (a : Answer). IsTold (here_at all) a real) f.is (target_told f.x f.target) in
-      record { expression = f.x; target = ap target_of (sym same_action) ∙ f.target; counts = external_counted all f.external f.value real f.base told }
+      let reported : IsReported (here_at all) (Ok f.value) real = subst (λ (a : Answer). IsReported (here_at all) a real) f.is (target_reported f.x f.target) in
+      record { expression = f.x; target = ap target_of (sym same_action) ∙ f.target; counts = external_counted all f.external f.value real f.base reported }
 
 pub anchors_hold : AnchorsHold
 anchors_hold stmts places before after l characters whole n kind to distance is body =

@@ -12,14 +12,14 @@ use Rattle.kc_asm_symbols.specs.declared.segments.Segment.{Segment}
 use Rattle.kc_asm_symbols.specs.Located.{Located, located_by, located_from, located_at, is_absolute, base_of, value_at, segment_after, first_segment}
 use Rattle.kc_branch.specs.declared.piece.Form.{Form}
 use Rattle.kc_branch.specs.Forms.{head_form, forms}
-use Rattle.kc_asm_outline.specs.Laws.{OutlinesAreNumbered}
-use Rattle.kc_asm_outline.specs.Outline.{at_zero, on_its_own, notes_from, note_of, outline}
-use Rattle.kc_asm_layout.specs.declared.site.Site.{Site}
+use Rattle.kc_asm_outline.specs.Laws.{SizesAreNumbered}
+use Rattle.kc_asm_outline.specs.StatementSizes.{at_zero, on_its_own, size_records_from, size_record_of, statement_sizes}
+use Rattle.kc_asm_layout.specs.declared.location.Location.{Location}
 use Rattle.kc_asm_layout.specs.Laws.{BranchesReach}
-use Rattle.kc_asm_layout.specs.Places.{Ends, addresses, no_bytes, ends_after, site_of, sites_from}
+use Rattle.kc_asm_layout.specs.Places.{Ends, addresses, no_bytes, ends_after, location_of, locations_from}
 use Rattle.kc_asm_layout.specs.Text.{is_same_base, segment_in, text, statement_forms}
 use Rattle.kc_asm_symbols.specs.Meanings.{meaning}
-use Rattle.kc_asm_check.specs.Judging.{site_list, place_in, place_at, standing}
+use Rattle.kc_asm_check.specs.Checking.{location_list, place_in, place_at, standing}
 use Rattle.kc_asm_branch_laws.specs.Targets.{in_word, TargetCounts, TargetsAreReached}
 use Rattle.kc_asm_branch_laws.proofs.Anchors.{anchors_hold}
 
@@ -43,8 +43,8 @@ found_at values i g (s ∷ ss) (suc k) l e =
 
 noted_segment : (zeros owns before passed : List Located) (values : ℕ → Segment → Value) (i : ℕ) (g : Segment) (ss : List Stmt) (k : ℕ) (l : Located)
     → slice_get (located_from values i g ss) k ≡ Some l
-    → segment_in (slice_get (notes_from zeros owns before passed (located_from at_zero i g ss) (located_from on_its_own i g ss)) k) ≡ l.segment
-unfolding located_from notes_from
+    → segment_in (slice_get (size_records_from zeros owns before passed (located_from at_zero i g ss) (located_from on_its_own i g ss)) k) ≡ l.segment
+unfolding located_from size_records_from
 noted_segment zeros owns before passed values i g [] k l e = absurd (cc e)
 noted_segment zeros owns before passed values i g (s ∷ ss) zero l e =
     let same : located_at g (values i g) s ≡ l = cc in
@@ -52,21 +52,21 @@ noted_segment zeros owns before passed values i g (s ∷ ss) zero l e =
 noted_segment zeros owns before passed values i g (s ∷ ss) (suc k) l e =
     noted_segment zeros owns (located_at g (at_zero i g) s ∷ before) (located_at g (on_its_own i g) s ∷ passed) values (i + 1) (segment_after g (action_tree s.action)) ss k l e
 
-site_there : (list : List (Option ℕ)) (zeros owns before passed : List Located) (values : ℕ → Segment → Value) (fs : List Form) (ends : Ends) (i : ℕ) (g : Segment) (ss : List Stmt) (k : ℕ) (l : Located)
+location_there : (list : List (Option ℕ)) (zeros owns before passed : List Located) (values : ℕ → Segment → Value) (fs : List Form) (ends : Ends) (i : ℕ) (g : Segment) (ss : List Stmt) (k : ℕ) (l : Located)
     → slice_get (located_from values i g ss) k ≡ Some l
-    → (s : Site) × (slice_get (sites_from list fs ends (notes_from zeros owns before passed (located_from at_zero i g ss) (located_from on_its_own i g ss))) k ≡ Some s)
-unfolding located_from notes_from sites_from
-site_there list zeros owns before passed values fs ends i g [] k l e = absurd (cc e)
-site_there list zeros owns before passed values fs ends i g (s ∷ ss) zero l e =
-    (site_of list (head_form fs) ends (note_of (meaning zeros before (located_at g (at_zero i g) s)) (meaning owns passed (located_at g (on_its_own i g) s)) (located_at g (at_zero i g) s)), refl)
-site_there list zeros owns before passed values fs ends i g (s ∷ ss) (suc k) l e =
-    site_there list zeros owns (located_at g (at_zero i g) s ∷ before) (located_at g (on_its_own i g) s ∷ passed) values (drop 1 fs)
-    (ends_after (head_form fs) ends (note_of (meaning zeros before (located_at g (at_zero i g) s)) (meaning owns passed (located_at g (on_its_own i g) s)) (located_at g (at_zero i g) s)))
+    → (s : Location) × (slice_get (locations_from list fs ends (size_records_from zeros owns before passed (located_from at_zero i g ss) (located_from on_its_own i g ss))) k ≡ Some s)
+unfolding located_from size_records_from locations_from
+location_there list zeros owns before passed values fs ends i g [] k l e = absurd (cc e)
+location_there list zeros owns before passed values fs ends i g (s ∷ ss) zero l e =
+    (location_of list (head_form fs) ends (size_record_of (meaning zeros before (located_at g (at_zero i g) s)) (meaning owns passed (located_at g (on_its_own i g) s)) (located_at g (at_zero i g) s)), refl)
+location_there list zeros owns before passed values fs ends i g (s ∷ ss) (suc k) l e =
+    location_there list zeros owns (located_at g (at_zero i g) s ∷ before) (located_at g (on_its_own i g) s ∷ passed) values (drop 1 fs)
+    (ends_after (head_form fs) ends (size_record_of (meaning zeros before (located_at g (at_zero i g) s)) (meaning owns passed (located_at g (on_its_own i g) s)) (located_at g (at_zero i g) s)))
     (i + 1) (segment_after g (action_tree s.action)) ss k l e
 
-at_seam : {X : Type 0} (front back : List X) (x : X) → slice_get (front ++ x ∷ back) (length front) ≡ Some x
+at_seam : {X : Type 0} (prefix back : List X) (x : X) → slice_get (prefix ++ x ∷ back) (length prefix) ≡ Some x
 at_seam [] back x = refl
-at_seam (y ∷ front) back x = at_seam front back x
+at_seam (y ∷ prefix) back x = at_seam prefix back x
 
 -- ---- bases
 
@@ -95,31 +95,31 @@ in_word_again p (negsuc d) =
 
 -- ---- the law
 
-pub targets_are_reached : OutlinesAreNumbered → BranchesReach → TargetsAreReached
-targets_are_reached numbered reach stmts before after l s characters whole site n kind to distance is code body near =
+pub targets_are_reached : SizesAreNumbered → BranchesReach → TargetsAreReached
+targets_are_reached numbered reach stmts before after l s characters whole location n kind to distance is code body near =
     let all = standing stmts in
-    let ns = outline stmts in
+    let ns = statement_sizes stmts in
     let zeros = located_by at_zero stmts in
     let owns = located_by on_its_own stmts in
-    let values : ℕ → Segment → Value = λ i g. value_at g (place_at (site_list stmts) i) in
+    let values : ℕ → Segment → Value = λ i g. value_at g (place_at (location_list stmts) i) in
     let c : TargetCounts (meaning all before l) all l.action to distance
-    = anchors_hold stmts (place_at (site_list stmts)) before after l characters whole n kind to distance is body in
+    = anchors_hold stmts (place_at (location_list stmts)) before after l characters whole n kind to distance is body in
     let v = c.counts in
-    let b : (t : Site) × (slice_get (site_list stmts) to ≡ Some t)
-    = site_there (addresses ns) zeros owns [] [] values (statement_forms (forms (text ns)) ns) no_bytes 0 first_segment stmts to c.statement c.found in
+    let b : (t : Location) × (slice_get (location_list stmts) to ≡ Some t)
+    = location_there (addresses ns) zeros owns [] [] values (statement_forms (forms (text ns)) ns) no_bytes 0 first_segment stmts to c.statement c.found in
     let seam : slice_get all (length before) ≡ Some l
     = ap (λ (ls : List Located). slice_get ls (length before)) whole ∙ ap (slice_get (reverse before ++ l ∷ after)) (sym (length-reverse before)) ∙ at_seam (reverse before) after l in
     let here = found_at values 0 first_segment stmts (length before) l seam in
     let there = found_at values 0 first_segment stmts to c.statement c.found in
     let zero_more : 0 + to ≡ to = omega arith in
-    let place : c.statement.here.number ≡ b.0.place % 65536 = (λ j. (there.here j).number) ∙ ap (λ k. place_at (site_list stmts) k % 65536) zero_more ∙ ap (λ o. place_in o % 65536) b.1 in
+    let place : c.statement.here.number ≡ b.0.place % 65536 = (λ j. (there.here j).number) ∙ ap (λ k. place_at (location_list stmts) k % 65536) zero_more ∙ ap (λ o. place_in o % 65536) b.1 in
     let own : n.segment ≡ l.segment = ap segment_in (sym is) ∙ noted_segment zeros owns [] [] values 0 first_segment stmts (length before) l seam in
     let other : segment_in (slice_get ns to) ≡ c.statement.segment = noted_segment zeros owns [] [] values 0 first_segment stmts to c.statement c.found in
     let bases : base_of l.segment ≡ base_of c.statement.segment = same_base_of l.segment c.statement.segment ((λ j. is_same_base (sym own j) (sym other j)) ∙ near) in
     record {
-      target_site = b.0;
+      target_location = b.0;
       found = b.1;
-      spanned = reach ns (length before) to n s b.0 kind distance (numbered stmts) (record { note = is; site = site; code = code; body = body }) near b.1;
+      spanned = reach ns (length before) to n s b.0 kind distance (numbered stmts) (record { size_record = is; location = location; code = code; body = body }) near b.1;
       expression = c.expression;
       target = c.target;
       value = v.value;

@@ -15,14 +15,14 @@ use Rattle.kc_asm_symbols.specs.Meanings.{meaning}
 use Rattle.kc_branch.specs.declared.piece.BranchKind.{BranchKind}
 use Rattle.kc_branch.specs.Forms.{spans}
 use Rattle.kc_asm_emission.specs.Arguments.{Look}
-use Rattle.kc_asm_outline.specs.declared.note.Anchor.TheVariants as anchor
-use Rattle.kc_asm_outline.specs.declared.note.Body.TheVariants.{Branch}
-use Rattle.kc_asm_outline.specs.declared.note.Note.{Note}
-use Rattle.kc_asm_outline.specs.Outline.{outline, target_of}
+use Rattle.kc_asm_outline.specs.declared.size_record.Anchor.TheVariants as anchor
+use Rattle.kc_asm_outline.specs.declared.size_record.Body.TheVariants.{Branch}
+use Rattle.kc_asm_outline.specs.declared.size_record.SizeRecord.{SizeRecord}
+use Rattle.kc_asm_outline.specs.StatementSizes.{statement_sizes, target_of}
 use Rattle.kc_asm_outline.specs.Numbered.{is_code}
-use Rattle.kc_asm_layout.specs.declared.site.Site.{Site}
+use Rattle.kc_asm_layout.specs.declared.location.Location.{Location}
 use Rattle.kc_asm_layout.specs.Laws.{is_near}
-use Rattle.kc_asm_check.specs.Judging.{site_list, standing}
+use Rattle.kc_asm_check.specs.Checking.{location_list, standing}
 use Rattle.kc_link_source_laws.specs.Characters.{has_bytes}
 
 -- what is left of a place in 16 bits
@@ -63,8 +63,8 @@ AnchorsHold =
     (stmts : List Stmt) (places : ℕ → ℕ) (before after : List Located) (l : Located)
     → list_all has_bytes stmts ≡ true
     → located places stmts ≡ reverse before ++ l ∷ after
-    → (n : Note) (kind : BranchKind) (to : ℕ) (distance : ℤ)
-    → slice_get (outline stmts) (length before) ≡ Some n
+    → (n : SizeRecord) (kind : BranchKind) (to : ℕ) (distance : ℤ)
+    → slice_get (statement_sizes stmts) (length before) ≡ Some n
     → n.body ≡ Branch kind (anchor.Statement to distance)
     → TargetCounts (meaning (located places stmts) before l) (located places stmts) l.action to distance
 
@@ -74,8 +74,8 @@ ExternalAnchorsHold =
     (stmts : List Stmt) (places : ℕ → ℕ) (before after : List Located) (l : Located)
     → list_all has_bytes stmts ≡ true
     → located places stmts ≡ reverse before ++ l ∷ after
-    → (n : Note) (kind : BranchKind)
-    → slice_get (outline stmts) (length before) ≡ Some n
+    → (n : SizeRecord) (kind : BranchKind)
+    → slice_get (statement_sizes stmts) (length before) ≡ Some n
     → n.body ≡ Branch kind anchor.External
     → TargetIsExternal (meaning (located places stmts) before l) l.action
 
@@ -83,27 +83,27 @@ ExternalAnchorsHold =
 
 -- the target of a branch is a place of the branch's own base, and the form of the branch spans from the place behind it to
 -- there
-pub record TargetIsReached (look : Look) (sites : List Site) (l : Located) (s : Site) (kind : BranchKind) (to : ℕ) (distance : ℤ) : Type 0 where
-  pub target_site : Site
-  pub found : slice_get sites to ≡ Some target_site
-  pub spanned : spans kind s.form ((pos target_site.place +ℤ distance) -ℤ pos s.after) ≡ true
+pub record TargetIsReached (look : Look) (locations : List Location) (l : Located) (s : Location) (kind : BranchKind) (to : ℕ) (distance : ℤ) : Type 0 where
+  pub target_location : Location
+  pub found : slice_get locations to ≡ Some target_location
+  pub spanned : spans kind s.form ((pos target_location.place +ℤ distance) -ℤ pos s.after) ≡ true
   pub expression : Tree
   pub target : target_of l.action ≡ Some expression
   pub value : Value
   pub is : answer_by look expression ≡ Ok value
   pub base : value.base ≡ l.here.base
-  pub number : pos value.number ≡ in_word (pos target_site.place +ℤ distance)
+  pub number : pos value.number ≡ in_word (pos target_location.place +ℤ distance)
 
 -- a generic branch in code, to a statement of the same base
 abbrev pub TargetsAreReached : Type 0
 TargetsAreReached =
-    (stmts : List Stmt) (before after : List Located) (l : Located) (s : Site)
+    (stmts : List Stmt) (before after : List Located) (l : Located) (s : Location)
     → list_all has_bytes stmts ≡ true
     → standing stmts ≡ reverse before ++ l ∷ after
-    → slice_get (site_list stmts) (length before) ≡ Some s
-    → (n : Note) (kind : BranchKind) (to : ℕ) (distance : ℤ)
-    → slice_get (outline stmts) (length before) ≡ Some n
+    → slice_get (location_list stmts) (length before) ≡ Some s
+    → (n : SizeRecord) (kind : BranchKind) (to : ℕ) (distance : ℤ)
+    → slice_get (statement_sizes stmts) (length before) ≡ Some n
     → is_code n.segment ≡ true
     → n.body ≡ Branch kind (anchor.Statement to distance)
-    → is_near (outline stmts) n.segment (anchor.Statement to distance) ≡ true
-    → TargetIsReached (meaning (standing stmts) before l) (site_list stmts) l s kind to distance
+    → is_near (statement_sizes stmts) n.segment (anchor.Statement to distance) ≡ true
+    → TargetIsReached (meaning (standing stmts) before l) (location_list stmts) l s kind to distance

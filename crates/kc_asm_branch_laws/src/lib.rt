@@ -5,7 +5,7 @@
 ghost use Rattle.kc_asm_branch_laws.specs.Targets.{AnchorsHold, ExternalAnchorsHold, TargetsAreReached};
 
 use kc_asm_layout::branches_reach;
-use kc_asm_outline::outlines_are_numbered;
+use kc_asm_outline::sizes_are_numbered;
 
 /// In every layout a target that counts from a statement by the outline is a place of that statement's base, as many bytes
 /// behind the place of the statement as the outline says.
@@ -23,6 +23,6 @@ pub fn external_anchors_hold()
 pub fn targets_are_reached()
     ensures { TargetsAreReached }
 {
-    outlines_are_numbered();
+    sizes_are_numbered();
     branches_reach();
 }

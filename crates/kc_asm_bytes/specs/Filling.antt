@@ -5,8 +5,8 @@ use Rattle.kc_expr.specs.declared.values.Base.{Base}
 use Rattle.kc_expr.specs.declared.values.Base.TheVariants.{Fixed, Absolute, Piece, External}
 use Rattle.kc_expr.specs.declared.values.Value.{Value}
 use Rattle.kc_obj_relocation.specs.Numbers.{Bases, number, reach, first_part, second_part}
-use Rattle.kc_asm_bytes.specs.declared.octet.Octet.{Octet}
-use Rattle.kc_asm_bytes.specs.declared.octet.Octet.TheVariants.{Plain, First, Second}
+use Rattle.kc_asm_bytes.specs.declared.relocatable_byte.RelocatableByte.{RelocatableByte}
+use Rattle.kc_asm_bytes.specs.declared.relocatable_byte.RelocatableByte.TheVariants.{Plain, First, Second}
 
 -- a number counted from its base, modulo 65536
 abbrev pub base_address : Bases → Base → ℕ → ℕ
@@ -20,12 +20,12 @@ abbrev pub address : Bases → Value → ℕ
 address bases v = base_address bases v.base v.number
 
 -- the byte at an address
-unfoldable pub fill : Bases → ℕ → Octet → ℕ
+unfoldable pub fill : Bases → ℕ → RelocatableByte → ℕ
 fill bases place (Plain b) = b
 fill bases place (First kind start v) = start + first_part kind (number kind (place + reach kind) (address bases v))
 fill bases place (Second kind v) = second_part kind (number kind (place + 1) (address bases v))
 
 -- the bytes from an address on
-unfoldable pub filled : Bases → ℕ → List Octet → List ℕ
+unfoldable pub filled : Bases → ℕ → List RelocatableByte → List ℕ
 filled bases place [] = []
 filled bases place (o ∷ os) = fill bases place o ∷ filled bases (place + 1) os

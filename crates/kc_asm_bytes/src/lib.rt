@@ -1,8 +1,8 @@
 //! Bytes of pieces before the bases are known: what depends on a base, what a module has in its place, and what fills it in.
 #![tactic(auto)]
 
-pub mod octet;
+pub mod relocatable_byte;
 pub mod relocating;
 
-pub use octet::Octet;
+pub use relocatable_byte::RelocatableByte;
 pub use relocating::{depends, misfit, relocated, shown};

@@ -3,7 +3,7 @@ ghost use Rattle.kc_obj_relocation.specs.Numbers as numbers;
 ghost use Rattle.kc_asm_bytes.specs.Filling as filling;
 ghost use Rattle.kc_asm_bytes.specs.Relocating as relocating;
 
-use crate::Octet;
+use crate::RelocatableByte;
 use kc_expr::{Base, Value};
 use kc_lex::SourceCode;
 use kc_obj_relocation::{first_part, fits, is_distance, number, reach, second_part};
@@ -46,29 +46,38 @@ pub fn depends(kind: u8, at: Option<u16>, piece: u16, base: Base) -> bool
 
 /// The relocation that begins at a byte of a piece: its kind, and the value that it fills in.
 #[tactic(auto, unfolding(crate::specs::Relocating::relocated))]
-pub fn relocated(at: Option<u16>, piece: u16, octet: Octet) -> Option<(u8, Value)>
-    ensures { result ≡ relocating.relocated at piece octet }
+pub fn relocated(
+    at: Option<u16>,
+    piece: u16,
+    relocatable_byte: RelocatableByte,
+) -> Option<(u8, Value)>
+    ensures { result ≡ relocating.relocated at piece relocatable_byte }
 {
-    match octet {
-        Octet::First { kind, value, .. } => {
+    match relocatable_byte {
+        RelocatableByte::First { kind, value, .. } => {
             if depends(kind, at, piece, value.base) {
                 Some((kind, value))
             } else {
                 None
             }
         }
-        Octet::Plain(_) | Octet::Second { .. } => None,
+        RelocatableByte::Plain(_) | RelocatableByte::Second { .. } => None,
     }
 }
 
 /// The code of the fault where a number that depends on no base does not fit: 12 for a byte, 19 for a jump. The octet
 /// stands at `place`, an address in an absolute piece, else an offset.
 #[tactic(auto, unfolding(crate::specs::Relocating::misfit))]
-pub fn misfit(at: Option<u16>, piece: u16, place: u16, octet: Octet) -> Option<u8>
-    ensures { result ≡ relocating.misfit at piece place octet }
+pub fn misfit(
+    at: Option<u16>,
+    piece: u16,
+    place: u16,
+    relocatable_byte: RelocatableByte,
+) -> Option<u8>
+    ensures { result ≡ relocating.misfit at piece place relocatable_byte }
 {
-    match octet {
-        Octet::First { kind, value, .. } => {
+    match relocatable_byte {
+        RelocatableByte::First { kind, value, .. } => {
             let own = !depends(kind, at, piece, value.base);
             if own && !fits(kind, number_at(kind, place, reach(kind), value)) {
                 Some(if kind == 1 {
@@ -80,26 +89,26 @@ pub fn misfit(at: Option<u16>, piece: u16, place: u16, octet: Octet) -> Option<u
                 None
             }
         }
-        Octet::Plain(_) | Octet::Second { .. } => None,
+        RelocatableByte::Plain(_) | RelocatableByte::Second { .. } => None,
     }
 }
 
 /// The byte that a module has for an octet at `place`, an address in an absolute piece, else an offset.
 #[tactic(auto, unfolding(crate::specs::Relocating::shown, crate::specs::Filling::fill))]
-pub fn shown(at: Option<u16>, piece: u16, place: u16, octet: Octet) -> u8
-    requires { relocating.HasRoom place octet }
-    ensures { result ≡ relocating.shown at piece place octet }
+pub fn shown(at: Option<u16>, piece: u16, place: u16, relocatable_byte: RelocatableByte) -> u8
+    requires { relocating.HasRoom place relocatable_byte }
+    ensures { result ≡ relocating.shown at piece place relocatable_byte }
 {
-    match octet {
-        Octet::Plain(byte) => byte,
-        Octet::First { kind, start, value } => {
+    match relocatable_byte {
+        RelocatableByte::Plain(byte) => byte,
+        RelocatableByte::First { kind, start, value } => {
             if depends(kind, at, piece, value.base) {
                 start
             } else {
                 start + first_part(kind, number_at(kind, place, reach(kind), value))
             }
         }
-        Octet::Second { kind, value } => {
+        RelocatableByte::Second { kind, value } => {
             if depends(kind, at, piece, value.base) {
                 0
             } else {

@@ -10,7 +10,7 @@ use Rattle.kc_source.specs.Faults.{Fault}
 use Rattle.kc_asm_cause.specs.Written.{marked, places_of}
 use Rattle.kc_asm_cause.specs.Alike.{are_lines_alike}
 use Rattle.kc_asm_cause.specs.First.{with_first}
-use Rattle.kc_asm_cause.specs.Told.{IsTold, IsNotTold}
+use Rattle.kc_asm_cause.specs.Reported.{IsReported, IsNotReported}
 
 -- ---- in an expansion, by where its lines of the fault's number were written
 
@@ -20,14 +20,14 @@ AreInPlace places = list_all is_none places ≡ true
 
 -- whether the fault is told with its lines and not without them; it is not where no pass behind expansion tells it
 abbrev pub IsOfItsLines : Fault → List Line → Type 0
-IsOfItsLines f text = IsTold text (Some f) × IsNotTold (with_first f.0 0 text) f
+IsOfItsLines f text = IsReported text (Some f) × IsNotReported (with_first f.0 0 text) f
 
 abbrev pub IsOfOthers : Fault → List Line → Type 0
-IsOfOthers f text = IsNotTold text f ⊎ IsTold (with_first f.0 0 text) (Some f)
+IsOfOthers f text = IsNotReported text f ⊎ IsReported (with_first f.0 0 text) (Some f)
 
 -- the fault is told with line k of its number, from 0, and not with those before it alone
 abbrev pub IsOfLine : Fault → List Line → ℕ → Type 0
-IsOfLine f text k = IsNotTold (with_first f.0 k text) f × IsTold (with_first f.0 (k + 1) text) (Some f)
+IsOfLine f text k = IsNotReported (with_first f.0 k text) f × IsReported (with_first f.0 (k + 1) text) (Some f)
 
 abbrev pub middle : ℕ → ℕ → ℕ
 middle low high = low + (high - low) / 2
@@ -37,40 +37,40 @@ unfoldable pub IsHalved : ℕ → Fault → List Line → ℕ → ℕ → ℕ �
 IsHalved zero f text low high k = (high ≡ low + 1) × (k ≡ low)
 IsHalved (suc rounds) f text low high k =
     (low + 1 < high)
-    × ((IsTold (with_first f.0 (middle low high) text) (Some f) × IsHalved rounds f text low (middle low high) k)
-    ⊎ (IsNotTold (with_first f.0 (middle low high) text) f × IsHalved rounds f text (middle low high) high k))
+    × ((IsReported (with_first f.0 (middle low high) text) (Some f) × IsHalved rounds f text low (middle low high) k)
+    ⊎ (IsNotReported (with_first f.0 (middle low high) text) f × IsHalved rounds f text (middle low high) high k))
 
 -- the line of the text that has the fault, one of so many of its number
 abbrev pub IsFaultyLine : Fault → List Line → ℕ → ℕ → Type 0
 IsFaultyLine f text count k = IsOfLine f text k × (rounds : ℕ) × IsHalved rounds f text 0 count k
 
-abbrev pub IsCauseIn : Fault → List Line → List (Option ℕ) → Option ℕ → Type 0
-IsCauseIn f text places found =
+abbrev pub IsOriginIn : Fault → List Line → List (Option ℕ) → Option ℕ → Type 0
+IsOriginIn f text places found =
     ((AreInPlace places ⊎ IsOfOthers f text) × (found ≡ None))
     ⊎ (IsOfItsLines f text × (k : ℕ) × IsFaultyLine f text (length places) k × (found ≡ slice_index_or places k None))
 
 -- ---- the whole, by the expansion of the lines and that of the marked lines
 
 -- none where marks have changed the expansion
-abbrev pub IsCauseAmong : Fault → List Line → List Line → Option ℕ → Type 0
-IsCauseAmong f text other found =
+abbrev pub IsOriginAmong : Fault → List Line → List Line → Option ℕ → Type 0
+IsOriginAmong f text other found =
     ((are_lines_alike other text ≡ false) × (found ≡ None))
-    ⊎ ((are_lines_alike other text ≡ true) × IsCauseIn f text (places_of f.0 other) found)
+    ⊎ ((are_lines_alike other text ≡ true) × IsOriginIn f text (places_of f.0 other) found)
 
-abbrev pub IsCauseBetween : Fault → List Line → Answer → Option ℕ → Type 0
-IsCauseBetween f text (Some (Ok other)) found = IsCauseAmong f text other found
-IsCauseBetween f text (Some (Err g)) found = found ≡ None
-IsCauseBetween f text None found = found ≡ None
+abbrev pub IsOriginBetween : Fault → List Line → Answer → Option ℕ → Type 0
+IsOriginBetween f text (Some (Ok other)) found = IsOriginAmong f text other found
+IsOriginBetween f text (Some (Err g)) found = found ≡ None
+IsOriginBetween f text None found = found ≡ None
 
-abbrev pub IsCauseOfText : Fault → Answer → Answer → Option ℕ → Type 0
-IsCauseOfText f (Some (Ok text)) other found = IsCauseBetween f text other found
-IsCauseOfText f (Some (Err g)) other found = found ≡ None
-IsCauseOfText f None other found = found ≡ None
+abbrev pub IsOriginOfText : Fault → Answer → Answer → Option ℕ → Type 0
+IsOriginOfText f (Some (Ok text)) other found = IsOriginBetween f text other found
+IsOriginOfText f (Some (Err g)) other found = found ≡ None
+IsOriginOfText f None other found = found ≡ None
 
-abbrev pub IsCauseOfLines : Fault → Result (List Line) Fault → Option ℕ → Type 0
-IsCauseOfLines f (Ok lines) found = IsCauseOfText f (expanded lines) (expanded (marked lines)) found
-IsCauseOfLines f (Err g) found = found ≡ None
+abbrev pub IsOriginOfLines : Fault → Result (List Line) Fault → Option ℕ → Type 0
+IsOriginOfLines f (Ok lines) found = IsOriginOfText f (expanded lines) (expanded (marked lines)) found
+IsOriginOfLines f (Err g) found = found ≡ None
 
 -- what is found for the fault of a source at a line with a code; a fault of its lines or its macros has none
 abbrev pub IsCause : List ℕ → ℕ → ℕ → Option ℕ → Type 0
-IsCause source line code found = IsCauseOfLines (line, code) (lines_of source) found
+IsCause source line code found = IsOriginOfLines (line, code) (lines_of source) found

@@ -1,5 +1,5 @@
 pub mod Written
 pub mod Alike
 pub mod First
-pub mod Told
+pub mod Reported
 pub mod Cause

@@ -2,7 +2,7 @@ ghost use Rattle.std.specs.Prelude.{◌≡◌, ◌≤◌, length, IfOk};
 ghost use Rattle.kc_asm_cause.specs.Cause as spec;
 
 use crate::alike::are_lines_alike;
-use crate::seeking::cause_in;
+use crate::seeking::origin_in;
 use crate::written::{marked, places_of};
 use kc_base::NoMemory;
 use kc_lex::{Line, LineFault, SourceFault, lines};
@@ -10,20 +10,20 @@ use kc_macro::expand;
 use std::alloc::Global;
 
 // By the expansion, and that of the marked lines.
-fn cause_between(
+fn origin_between(
     alloc: Global,
     text: &[Line],
     other: &[Line],
     fault: LineFault,
 ) -> Result<Option<u32>, NoMemory>
     requires { length text.now ≤ 65535 }
-    ensures { IfOk result (λ found. spec.IsCauseAmong fault text.now other.now found) }
+    ensures { IfOk result (λ found. spec.IsOriginAmong fault text.now other.now found) }
 {
     if !are_lines_alike(other, text) {
         return Ok(None);
     }
     let places = places_of(alloc, fault.line, other)?;
-    cause_in(alloc, text, fault, &places)
+    origin_in(alloc, text, fault, &places)
 }
 
 /// The line of a macro's body that the first fault of a source of at most 1,048,576 bytes comes from, by its line and its code.
@@ -52,6 +52,6 @@ pub fn cause(alloc: Global, source: &[u8], line: u32, code: u8) -> Result<Option
         Err(SourceFault::At { .. }) => return Ok(None),
         Err(SourceFault::NoMemory) => return Err(NoMemory),
     };
-    let found = cause_between(alloc, &text, &other, LineFault { line, code })?;
+    let found = origin_between(alloc, &text, &other, LineFault { line, code })?;
     Ok(found)
 }

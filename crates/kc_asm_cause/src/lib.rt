@@ -4,8 +4,8 @@
 mod alike;
 mod finding;
 mod first;
+mod reporting;
 mod seeking;
-mod telling;
 mod written;
 
 pub use finding::cause;

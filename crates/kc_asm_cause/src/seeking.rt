@@ -5,9 +5,9 @@ ghost use Rattle.std.specs.List.{list_all};
 ghost use Rattle.std.specs.Option.{is_none};
 ghost use Rattle.kc_asm_cause.specs.Cause as spec;
 ghost use Rattle.kc_asm_cause.specs.First.{with_first};
-ghost use Rattle.kc_asm_cause.specs.Told.{Tells};
+ghost use Rattle.kc_asm_cause.specs.Reported.{Reports};
 
-use crate::telling::{tells, tells_with};
+use crate::reporting::{reports, reports_with};
 use kc_base::NoMemory;
 use kc_lex::{Line, LineFault};
 use std::alloc::Global;
@@ -21,15 +21,15 @@ fn faulty_line(
 ) -> Result<usize, NoMemory>
     requires few { length text.now ≤ 65535 }
     requires some { 0 < count }
-    requires with { Tells (with_first fault.0 count text.now) fault true }
-    requires without { Tells (with_first fault.0 0 text.now) fault false }
+    requires with { Reports (with_first fault.0 count text.now) fault true }
+    requires without { Reports (with_first fault.0 0 text.now) fault false }
     ensures { IfOk result (λ k. spec.IsFaultyLine fault text.now count k) }
 {
     let mut low = 0;
     let mut high = count;
     while low + 1 < high {
         let middle = low + (high - low) / 2;
-        if tells_with(alloc, text, fault, middle)? {
+        if reports_with(alloc, text, fault, middle)? {
             high = middle;
         } else {
             low = middle;
@@ -45,7 +45,7 @@ fn are_in_place(places: &[Option<u32>]) -> bool
 }
 
 /// Where the line that has the fault was written, if elsewhere, by where the lines of its number were written.
-pub(crate) fn cause_in(
+pub(crate) fn origin_in(
     alloc: Global,
     text: &[Line],
     fault: LineFault,
@@ -53,15 +53,15 @@ pub(crate) fn cause_in(
 ) -> Result<Option<u32>, NoMemory>
     requires few { length text.now ≤ 65535 }
     requires all { with_first fault.0 (length places.now) text.now ≡ text.now }
-    ensures { IfOk result (λ found. spec.IsCauseIn fault text.now places.now found) }
+    ensures { IfOk result (λ found. spec.IsOriginIn fault text.now places.now found) }
 {
     if are_in_place(places) {
         return Ok(None);
     }
-    if !tells(alloc, text, fault)? {
+    if !reports(alloc, text, fault)? {
         return Ok(None);
     }
-    if tells_with(alloc, text, fault, 0)? {
+    if reports_with(alloc, text, fault, 0)? {
         return Ok(None);
     }
     let k = faulty_line(alloc, text, fault, places.len())?;

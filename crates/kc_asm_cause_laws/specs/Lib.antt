@@ -1,1 +1,1 @@
-pub mod OneCause
+pub mod OneOrigin

@@ -1,6 +1,6 @@
 pub mod RegionLemmas
 pub mod NameLemmas
-pub mod OctetLemmas
+pub mod RelocatableByteLemmas
 pub mod SoundLemmas
 pub mod WalkLemmas
 pub mod StackLemmas

@@ -11,8 +11,8 @@ one_more : {X : Type 0} (f : X → List ℕ) (x : X) (xs : List X) (code : Optio
     → lesser (lesser code (least (f x))) (least (flat_map f xs)) ≡ lesser code (least (flat_map f (x ∷ xs)))
 one_more f x xs code = lesser_assoc code (least (f x)) (least (flat_map f xs)) ∙ sym (ap (lesser code) (least_append (f x) (flat_map f xs)))
 
-pub front_of : {X : Type 0} (xs : List X) (i : ℕ) (none x : X) → i < length xs → x ≡ get_or xs i none → drop i xs ≡ x ∷ drop (i + 1) xs
-front_of xs i none x small e =
+pub prefix_of : {X : Type 0} (xs : List X) (i : ℕ) (none x : X) → i < length xs → x ≡ get_or xs i none → drop i xs ≡ x ∷ drop (i + 1) xs
+prefix_of xs i none x small e =
     let next : suc i ≡ i + 1 = omega arith in
     drop-cons xs i none small ∙ ap (λ d. d ∷ drop (suc i) xs) (sym e) ∙ ap (λ n. x ∷ drop n xs) next
 
@@ -27,7 +27,7 @@ pub advances : {X : Type 0} (f : X → List ℕ) (xs : List X) (i : ℕ) (x : X)
 advances f xs i x code next whole small is e so_far =
     ap (λ n. lesser n (least (flat_map f (drop (i + 1) xs)))) e
     ∙ one_more f x (drop (i + 1) xs) code
-    ∙ sym (ap (λ ys. lesser code (least (flat_map f ys))) (front_of xs i x x small is))
+    ∙ sym (ap (λ ys. lesser code (least (flat_map f ys))) (prefix_of xs i x x small is))
     ∙ so_far
 
 pub ends : {X : Type 0} (f : X → List ℕ) (xs : List X) (i : ℕ) (code whole : Option ℕ)

@@ -7,9 +7,9 @@ use Rattle.kc_lex.proofs.FaultLemmas.{no_least}
 use Rattle.kc_asm_symbols.specs.Located.{Located}
 use Rattle.kc_asm_symbols.specs.Meanings.{meaning, in_all}
 use Rattle.kc_asm_emission.specs.Faults.{lesser, least}
-use Rattle.kc_asm_layout.specs.declared.site.Site.{Site}
+use Rattle.kc_asm_layout.specs.declared.location.Location.{Location}
 use Rattle.kc_asm_check.specs.Codes.{Regions, regions_after, stack_after, first_regions}
-use Rattle.kc_asm_check.specs.Judging.{codes_of, faults_from, standing, site_list}
+use Rattle.kc_asm_check.specs.Checking.{codes_of, faults_from, standing, location_list}
 use Rattle.kc_asm_check.specs.Laws.{AreSound, SoundStatements}
 
 lesser_some : (m : ℕ) (o : Option ℕ) → lesser (Some m) o ≡ None → ⊥
@@ -26,7 +26,7 @@ none_at : (line : ℕ) (code : Option ℕ) (fs : List Fault) → option_to_list 
 none_at line None fs e = (refl, e)
 none_at line (Some c) fs e = absurd (cc)
 
-are_sound : (all : List Located) (regions : Regions) (sum : ℕ) (before ls : List Located) (ss : List Site)
+are_sound : (all : List Located) (regions : Regions) (sum : ℕ) (before ls : List Located) (ss : List Location)
     → faults_from all regions sum before ls ss ≡ [] → AreSound all regions sum before ls ss
 unfolding faults_from AreSound
 are_sound all regions sum before [] ss e = tt
@@ -38,4 +38,4 @@ are_sound all regions sum before (l ∷ ls) (s ∷ ss) e =
 
 pub sound_statements : SoundStatements
 sound_statements stmts none =
-    are_sound (standing stmts) first_regions 0 [] (standing stmts) (site_list stmts) (no_least _ none)
+    are_sound (standing stmts) first_regions 0 [] (standing stmts) (location_list stmts) (no_least _ none)

@@ -4,32 +4,32 @@ use Rattle.std.proofs.lemmas.Bool.Decides.{nat_tests}
 use Rattle.std.specs.Prelude.{nat_le, nat_lt, ◌&&◌}
 use Rattle.kc_asm_symbols.specs.Located.{Located}
 use Rattle.kc_asm_symbols.specs.Meanings.{meaning, in_all}
-use Rattle.kc_asm_layout.specs.declared.site.Site.{Site}
+use Rattle.kc_asm_layout.specs.declared.location.Location.{Location}
 use Rattle.kc_asm_emission.specs.Arguments.{Look}
 use Rattle.kc_asm_emission.specs.Content.{content}
 use Rattle.kc_asm_emission.specs.Faults as values
-use Rattle.kc_asm_check.specs.Codes.{Regions, when, branch_faults, octet_faults, place_faults, stack_faults, stack_after, regions_after}
-use Rattle.kc_asm_check.specs.Judging.{own_codes, codes_of}
+use Rattle.kc_asm_check.specs.Codes.{Regions, when, branch_faults, relocatable_faults, place_faults, stack_faults, stack_after, regions_after}
+use Rattle.kc_asm_check.specs.Checking.{own_codes, codes_of}
 use Rattle.kc_asm_check.specs.Laws.{AreSound}
 use Rattle.kc_asm_check.specs.Putting.{stack_from}
 
 -- ---- none of the codes, no code of the stack
 
-no_front : {X : Type 0} (xs ys : List X) → xs ++ ys ≡ [] → xs ≡ []
-no_front [] ys e = refl
-no_front (x ∷ xs) ys e = absurd (cc)
+no_prefix : {X : Type 0} (xs ys : List X) → xs ++ ys ≡ [] → xs ≡ []
+no_prefix [] ys e = refl
+no_prefix (x ∷ xs) ys e = absurd (cc)
 
 no_back : {X : Type 0} (xs ys : List X) → xs ++ ys ≡ [] → ys ≡ []
 no_back [] ys e = e
 no_back (x ∷ xs) ys e = absurd (cc)
 
-no_stack_code : (look last : Look) (regions : Regions) (sum : ℕ) (l : Located) (s : Site) → codes_of look last regions sum l s ≡ [] → stack_faults look sum l.action ≡ []
+no_stack_code : (look last : Look) (regions : Regions) (sum : ℕ) (l : Located) (s : Location) → codes_of look last regions sum l s ≡ [] → stack_faults look sum l.action ≡ []
 no_stack_code look last regions sum l s none =
     no_back (place_faults regions look l.label l.action l.segment s) _
-    (no_back (octet_faults look l.action l.segment s (content look s.form l.here l.action)) _
+    (no_back (relocatable_faults look l.action l.segment s (content look s.form l.here l.action)) _
     (no_back (branch_faults look s.body l.action) _
     (no_back (values.faults_of look l.action) _
-    (no_front (own_codes look regions sum l s) _ none))))
+    (no_prefix (own_codes look regions sum l s) _ none))))
 
 stays_small : (sum after : ℕ) → when (nat_le sum 65535 && nat_lt 65535 after) 17 ≡ [] → sum ≤ 65535 → after ≤ 65535
 stays_small sum after none small = by_tests (nat_le sum 65535) (nat_lt 65535 after) refl refl none
@@ -41,14 +41,14 @@ stays_small sum after none small = by_tests (nat_le sum 65535) (nat_lt 65535 aft
 
 -- ---- all statements
 
-no_site : (n : ℕ) → n + 1 ≤ 0 → ⊥
-no_site n e = omega (arith, e)
+no_location : (n : ℕ) → n + 1 ≤ 0 → ⊥
+no_location n e = omega (arith, e)
 
-pub stack_fits : (all : List Located) (regions : Regions) (sum : ℕ) (before ls : List Located) (ss : List Site)
+pub stack_fits : (all : List Located) (regions : Regions) (sum : ℕ) (before ls : List Located) (ss : List Location)
     → AreSound all regions sum before ls ss → length ls ≤ length ss → sum ≤ 65535 → stack_from all sum before ls ≤ 65535
 unfolding AreSound stack_from
 stack_fits all regions sum before [] ss sound each small = small
-stack_fits all regions sum before (l ∷ ls) [] sound each small = absurd (no_site (length ls) (let e : length ls + 1 ≤ 0 = omega (arith, each) in e))
+stack_fits all regions sum before (l ∷ ls) [] sound each small = absurd (no_location (length ls) (let e : length ls + 1 ≤ 0 = omega (arith, each) in e))
 stack_fits all regions sum before (l ∷ ls) (s ∷ ss) sound each small =
     let look = meaning all before l in
     let next = stack_after look sum l.action in

@@ -7,7 +7,7 @@ use Rattle.kc_asm_symbols.specs.Walk.{IsBehind}
 use Rattle.kc_asm_emission.specs.Seen.{seen}
 use Rattle.kc_asm_check.specs.declared.checked.Checked.{Checked}
 use Rattle.kc_asm_check.specs.declared.checked.Put.{Put as Made}
-use Rattle.kc_asm_check.specs.Judging.{first_fault, standing}
+use Rattle.kc_asm_check.specs.Checking.{first_fault, standing}
 use Rattle.kc_asm_check.specs.Putting.{Put, puts_of, stack_of}
 
 abbrev pub seen_put : Made → Put
@@ -18,6 +18,6 @@ pub record IsChecked (stmts : List Stmt) (c : Checked) : Type 0 where
   pub stack : c.stack ≡ stack_of stmts
   pub meanings : IsBehind c.meanings (standing stmts) (reverse (standing stmts))
 
-abbrev pub IsJudged : List Stmt → Result Checked Fault → Type 0
-IsJudged stmts (Ok c) = (first_fault stmts ≡ None) × IsChecked stmts c
-IsJudged stmts (Err f) = first_fault stmts ≡ Some f
+abbrev pub IsExamined : List Stmt → Result Checked Fault → Type 0
+IsExamined stmts (Ok c) = (first_fault stmts ≡ None) × IsChecked stmts c
+IsExamined stmts (Err f) = first_fault stmts ≡ Some f

@@ -16,17 +16,17 @@ use Rattle.kc_source_statement.specs.Trees.{ArgTree, ActionTree, Module, Cseg, D
 use Rattle.kc_source_statement.specs.Trees as trees
 use Rattle.kc_asm_symbols.specs.declared.segments.Segment.{Segment}
 use Rattle.kc_asm_symbols.specs.Located.{is_absolute}
-use Rattle.kc_asm_bytes.specs.declared.octet.Octet.{Octet}
+use Rattle.kc_asm_bytes.specs.declared.relocatable_byte.RelocatableByte.{RelocatableByte}
 use Rattle.kc_asm_bytes.specs.Relocating.{misfit}
 use Rattle.kc_asm_operation.specs.Values.{is_external}
 use Rattle.kc_asm_emission.specs.Arguments.{Look, value_of, fixed_of}
-use Rattle.kc_asm_emission.specs.Content.{Content, Octets}
-use Rattle.kc_asm_outline.specs.declared.note.Anchor.{Anchor}
-use Rattle.kc_asm_outline.specs.declared.note.Anchor.TheVariants as anchor
-use Rattle.kc_asm_outline.specs.declared.note.Body.{Body}
-use Rattle.kc_asm_outline.specs.declared.note.Body.TheVariants as body
-use Rattle.kc_asm_outline.specs.Outline.{target}
-use Rattle.kc_asm_layout.specs.declared.site.Site.{Site}
+use Rattle.kc_asm_emission.specs.Content.{Content, RelocatableBytes}
+use Rattle.kc_asm_outline.specs.declared.size_record.Anchor.{Anchor}
+use Rattle.kc_asm_outline.specs.declared.size_record.Anchor.TheVariants as anchor
+use Rattle.kc_asm_outline.specs.declared.size_record.Body.{Body}
+use Rattle.kc_asm_outline.specs.declared.size_record.Body.TheVariants as body
+use Rattle.kc_asm_outline.specs.StatementSizes.{target}
+use Rattle.kc_asm_layout.specs.declared.location.Location.{Location}
 
 -- the code, where there is the fault
 abbrev pub when : Bool → ℕ → List ℕ
@@ -62,18 +62,18 @@ branch_faults look b action = []
 -- ---- numbers that do not fit
 
 -- a jump is not judged where its target has no value
-abbrev pub judged : Bool → Option ℕ → Option ℕ
-judged jumps None = None
-judged jumps (Some code) = if not jumps && (code == out_of_reach) then None else Some code
+abbrev pub examined : Bool → Option ℕ → Option ℕ
+examined jumps None = None
+examined jumps (Some code) = if not jumps && (code == out_of_reach) then None else Some code
 
 -- octets stand at places one by one, in a piece that is absolute at an address or relocatable
-unfoldable pub misfits : Bool → Option ℕ → ℕ → ℕ → List Octet → List ℕ
+unfoldable pub misfits : Bool → Option ℕ → ℕ → ℕ → List RelocatableByte → List ℕ
 misfits jumps address piece place [] = []
 misfits jumps address piece place (o ∷ os) =
-    option_to_list (judged jumps (misfit address piece place o)) ++ misfits jumps address piece (place + 1) os
+    option_to_list (examined jumps (misfit address piece place o)) ++ misfits jumps address piece (place + 1) os
 
 abbrev pub content_faults : Bool → Option ℕ → ℕ → ℕ → Content → List ℕ
-content_faults jumps address piece place (Octets os) = misfits jumps address piece place os
+content_faults jumps address piece place (RelocatableBytes os) = misfits jumps address piece place os
 content_faults jumps address piece place c = []
 
 abbrev pub lacks_value : Look → Option Tree → Bool
@@ -84,13 +84,13 @@ lacks_value look (Some x) = is_none (value_of look x)
 abbrev pub lacks_target : Look → List ArgTree → Bool
 lacks_target look args = lacks_value look (target args)
 
-abbrev pub judges_jumps : Look → ActionTree → Bool
-judges_jumps look (Operation word args) = not (lacks_target look args)
-judges_jumps look action = true
+abbrev pub checks_jumps : Look → ActionTree → Bool
+checks_jumps look (Operation word args) = not (lacks_target look args)
+checks_jumps look action = true
 
 -- those of the octets that a statement puts where it stands
-abbrev pub octet_faults : Look → ActionTree → Segment → Site → Content → List ℕ
-octet_faults look action g s c = content_faults (judges_jumps look action) s.address g.piece s.place c
+abbrev pub relocatable_faults : Look → ActionTree → Segment → Location → Content → List ℕ
+relocatable_faults look action g s c = content_faults (checks_jumps look action) s.address g.piece s.place c
 
 -- ---- places
 
@@ -118,7 +118,7 @@ abbrev pub leaves : SegKind → Option ℕ → ℕ → Bool
 leaves kind None end = false
 leaves kind (Some at) end = not (in_region kind at (end - at))
 
-abbrev pub end_faults : Regions → Segment → Site → List ℕ
+abbrev pub end_faults : Regions → Segment → Location → List ℕ
 end_faults regions g s =
     when (nat_lt (most_of g) s.after) past_the_end
     ++ when (nat_lt s.before s.after && leaves g.kind (unwrap_or (slice_get regions g.piece) None) s.after) outside_region
@@ -165,10 +165,10 @@ regions_after look regions action = with_region (opening look action) regions
 abbrev pub label_faults : Option (List ℕ) → ℕ → List ℕ
 label_faults label place = when (is_some label && nat_lt 65535 place) past_the_end
 
-abbrev pub goes_on_faults : Regions → ActionTree → Segment → Site → List ℕ
+abbrev pub goes_on_faults : Regions → ActionTree → Segment → Location → List ℕ
 goes_on_faults regions action g s = if goes_on action then end_faults regions g s else []
 
-abbrev pub place_faults : Regions → Look → Option (List ℕ) → ActionTree → Segment → Site → List ℕ
+abbrev pub place_faults : Regions → Look → Option (List ℕ) → ActionTree → Segment → Location → List ℕ
 place_faults regions look label action g s =
     label_faults label s.place
     ++ (goes_on_faults regions action g s

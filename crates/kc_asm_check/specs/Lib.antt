@@ -1,5 +1,5 @@
 pub mod Codes
-pub mod Judging
+pub mod Checking
 pub mod Putting
 pub mod Checked
 pub mod Walk

@@ -64,8 +64,8 @@ fn lacks_target<S: Scope>(args: &[Arg], scope: &S) -> bool
 }
 
 // Whether the jumps of a statement are judged.
-pub(crate) fn judges_jumps<S: Scope>(action: &Action, scope: &S) -> bool
-    ensures { result ≡ spec.judges_jumps (S.answers scope.now) (action_tree action.now) }
+pub(crate) fn checks_jumps<S: Scope>(action: &Action, scope: &S) -> bool
+    ensures { result ≡ spec.checks_jumps (S.answers scope.now) (action_tree action.now) }
 {
     match action {
         Action::Operation { args, .. } => !lacks_target(args.as_slice(), scope),

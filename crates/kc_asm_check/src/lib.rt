@@ -3,18 +3,18 @@
 
 mod branches;
 mod checked;
+mod checking;
 mod codes;
-mod judging;
 mod laws;
+mod locations;
 mod module;
-mod octets;
 mod places;
 mod putting;
-mod sites;
+mod relocatable_bytes;
 mod walk;
 
 pub use checked::{Checked, Put};
-pub use judging::judge;
+pub use checking::check;
 pub use laws::no_fault_no_codes;
+pub use locations::{value_at, values_of};
 pub use module::stack_after;
-pub use sites::{value_at, values_of};

@@ -11,7 +11,7 @@ ghost use Rattle.kc_asm_check.specs.Codes as spec;
 use crate::codes::when;
 use kc_asm_emission::faults::lesser;
 use kc_asm_emission::fixed_of;
-use kc_asm_layout::Site;
+use kc_asm_layout::Location;
 use kc_asm_symbols::Segment;
 use kc_base::{NoMemory, Text};
 use kc_expr::{Expr, Scope};
@@ -70,17 +70,17 @@ fn region_of(regions: &[Option<u16>], piece: usize) -> Option<u16>
 
 // 17 past the end of memory, 22 past the end of the region.
 #[tactic(auto, using(kc_asm_emission::proofs::FaultLemmas::least_append))]
-fn end_fault(regions: &[Option<u16>], segment: Segment, site: &Site) -> Option<u8>
-    ensures { result ≡ least (spec.end_faults regions.now segment site.now) }
+fn end_fault(regions: &[Option<u16>], segment: Segment, location: &Location) -> Option<u8>
+    ensures { result ≡ least (spec.end_faults regions.now segment location.now) }
 {
     let region = region_of(regions, segment.piece);
     lesser(
         when(
-            most_of(segment) < site.after,
+            most_of(segment) < location.after,
             SourceCode::PastTheEnd.number(),
         ),
         when(
-            site.before < site.after && leaves(segment.kind, region, site.after),
+            location.before < location.after && leaves(segment.kind, region, location.after),
             SourceCode::OutsideRegion.number(),
         ),
     )
@@ -193,12 +193,12 @@ fn goes_on_fault(
     regions: &[Option<u16>],
     action: &Action,
     segment: Segment,
-    site: &Site,
+    location: &Location,
 ) -> Option<u8>
-    ensures { result ≡ least (spec.goes_on_faults regions.now (action_tree action.now) segment site.now) }
+    ensures { result ≡ least (spec.goes_on_faults regions.now (action_tree action.now) segment location.now) }
 {
     if goes_on(action) {
-        end_fault(regions, segment, site)
+        end_fault(regions, segment, location)
     } else {
         when(false, SourceCode::PastTheEnd.number())
     }
@@ -211,17 +211,17 @@ pub(crate) fn place_fault<S: Scope>(
     label: &Option<Text>,
     action: &Action,
     segment: Segment,
-    site: &Site,
+    location: &Location,
     scope: &S,
 ) -> Option<u8>
-    ensures { result ≡ least (spec.place_faults regions.now (S.answers scope.now) label.now (action_tree action.now) segment site.now) }
+    ensures { result ≡ least (spec.place_faults regions.now (S.answers scope.now) label.now (action_tree action.now) segment location.now) }
 {
     lesser(
-        label_fault(label, site.place),
+        label_fault(label, location.place),
         lesser(
-            goes_on_fault(regions, action, segment, site),
+            goes_on_fault(regions, action, segment, location),
             lesser(
-                back_fault(action, site.before, scope),
+                back_fault(action, location.before, scope),
                 opening_fault(opening(action, scope)),
             ),
         ),

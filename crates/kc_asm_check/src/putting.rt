@@ -6,9 +6,9 @@ ghost use Rattle.kc_asm_check.specs.Checked.{seen_put};
 ghost use Rattle.kc_asm_check.specs.Putting as spec;
 
 use crate::checked::Put;
-use crate::sites::value_at;
+use crate::locations::value_at;
 use kc_asm_emission::content_of;
-use kc_asm_layout::Site;
+use kc_asm_layout::Location;
 use kc_asm_outline::opens;
 use kc_asm_symbols::Segment;
 use kc_base::NoMemory;
@@ -21,14 +21,14 @@ pub(crate) fn put_of<S: Scope>(
     alloc: Global,
     segment: Segment,
     stmt: &Stmt,
-    site: &Site,
+    location: &Location,
     scope: &S,
 ) -> Result<Put, NoMemory>
-    ensures { IfOk result (λ p. seen_put p ≡ spec.put_of (S.answers scope.now) (stood segment stmt.now site.now) site.now) }
+    ensures { IfOk result (λ p. seen_put p ≡ spec.put_of (S.answers scope.now) (stood segment stmt.now location.now) location.now) }
 {
-    let here = value_at(segment, site.place);
+    let here = value_at(segment, location.place);
     Ok(Put {
-        content: content_of(alloc, &stmt.action, site.form, here, scope)?,
+        content: content_of(alloc, &stmt.action, location.form, here, scope)?,
         opens: opens(&stmt.action, scope),
     })
 }

@@ -11,18 +11,18 @@ ghost use Rattle.kc_asm_check.specs.Checked.{seen_put};
 ghost use Rattle.kc_asm_check.specs.Codes.{regions_after as following_regions, stack_after as following_sum};
 ghost use Rattle.kc_asm_check.specs.Putting.{put_of as put_there, puts_from, stack_from};
 ghost use Rattle.kc_asm_check.specs.Walk.{stood};
-ghost use Rattle.kc_asm_check.specs.Judging as spec;
+ghost use Rattle.kc_asm_check.specs.Checking as spec;
 
 use crate::branches::branch_fault;
 use crate::checked::Put;
+use crate::locations::value_at;
 use crate::module::{public_fault, stack_after, stack_fault};
-use crate::octets::octet_fault;
 use crate::places::{place_fault, push_region};
 use crate::putting::put_of;
-use crate::sites::value_at;
+use crate::relocatable_bytes::relocatable_fault;
 use kc_asm_emission::fault;
 use kc_asm_emission::faults::lesser;
-use kc_asm_layout::Site;
+use kc_asm_layout::Location;
 use kc_asm_symbols::{Meanings, Segment};
 use kc_base::NoMemory;
 use kc_lex::LineFault;
@@ -49,24 +49,30 @@ impl Walk {
         &self,
         alloc: Global,
         stmt: &Stmt,
-        site: &Site,
+        location: &Location,
         put: &Put,
     ) -> Result<Option<u8>, NoMemory>
         requires sum { self.now.sum + 65536 < 2 ^ 64 }
-        requires put { seen_put put.now ≡ put_there (at_statement self.now.meanings) (stood self.now.segment stmt.now site.now) site.now }
-        ensures { IfOk result (λ c. c ≡ least (spec.own_codes (at_statement self.now.meanings) self.now.regions.items self.now.sum (stood self.now.segment stmt.now site.now) site.now)) }
+        requires put { seen_put put.now ≡ put_there (at_statement self.now.meanings) (stood self.now.segment stmt.now location.now) location.now }
+        ensures { IfOk result (λ c. c ≡ least (spec.own_codes (at_statement self.now.meanings) self.now.regions.items self.now.sum (stood self.now.segment stmt.now location.now) location.now)) }
     {
         let action = &stmt.action;
         let scope = &self.meanings;
         let values = fault(alloc, action, scope)?;
-        let branch = branch_fault(site.body, action, scope);
-        let octets = octet_fault(&put.content, action, self.segment, site, scope);
+        let branch = branch_fault(location.body, action, scope);
+        let relocatable_bytes = relocatable_fault(
+            &put.content,
+            action,
+            self.segment,
+            location,
+            scope,
+        );
         let regions = self.regions.as_slice();
-        let places = place_fault(regions, &stmt.label, action, self.segment, site, scope);
+        let places = place_fault(regions, &stmt.label, action, self.segment, location, scope);
         let stack = stack_fault(self.sum, action, scope);
         Ok(lesser(
             values,
-            lesser(branch, lesser(octets, lesser(places, stack))),
+            lesser(branch, lesser(relocatable_bytes, lesser(places, stack))),
         ))
     }
 
@@ -75,32 +81,37 @@ impl Walk {
         &self,
         alloc: Global,
         stmt: &Stmt,
-        site: &Site,
+        location: &Location,
         put: &Put,
     ) -> Result<Option<u8>, NoMemory>
         requires sum { self.now.sum + 65536 < 2 ^ 64 }
-        requires put { seen_put put.now ≡ put_there (at_statement self.now.meanings) (stood self.now.segment stmt.now site.now) site.now }
-        ensures { IfOk result (λ c. (all before : List Located) → IsAt self.now.meanings all before (stood self.now.segment stmt.now site.now) → c ≡ least (spec.codes_of (meaning all before (stood self.now.segment stmt.now site.now)) (in_all all) self.now.regions.items self.now.sum (stood self.now.segment stmt.now site.now) site.now)) }
+        requires put { seen_put put.now ≡ put_there (at_statement self.now.meanings) (stood self.now.segment stmt.now location.now) location.now }
+        ensures { IfOk result (λ c. (all before : List Located) → IsAt self.now.meanings all before (stood self.now.segment stmt.now location.now) → c ≡ least (spec.codes_of (meaning all before (stood self.now.segment stmt.now location.now)) (in_all all) self.now.regions.items self.now.sum (stood self.now.segment stmt.now location.now) location.now)) }
     {
-        let own = self.own_code(alloc, stmt, site, put)?;
+        let own = self.own_code(alloc, stmt, location, put)?;
         let public = public_fault(&stmt.action, &self.meanings);
         Ok(lesser(own, public))
     }
 
     /// Enters the next statement, judges it, and keeps what it puts.
-    pub(crate) fn enter(&mut self, alloc: Global, stmt: &Stmt, site: &Site) -> Result<(), NoMemory>
+    pub(crate) fn enter(
+        &mut self,
+        alloc: Global,
+        stmt: &Stmt,
+        location: &Location,
+    ) -> Result<(), NoMemory>
         requires { self.old.sum + 65536 < 2 ^ 64 }
-        ensures at { OnOk result ((all before : List Located) → IsBehind self.old.meanings all before → IsAt self.new.meanings all before (stood self.old.segment stmt.now site.now)) }
-        ensures found { OnOk result ((all before : List Located) → IsBehind self.old.meanings all before → self.new.found ≡ faults.lesser self.old.found (faults.at_line stmt.now.line (least (spec.codes_of (meaning all before (stood self.old.segment stmt.now site.now)) (in_all all) self.old.regions.items self.old.sum (stood self.old.segment stmt.now site.now) site.now)))) }
-        ensures puts { OnOk result (map seen_put self.new.puts.items ≡ map seen_put self.old.puts.items ++ put_there (at_statement self.new.meanings) (stood self.old.segment stmt.now site.now) site.now ∷ []) }
+        ensures at { OnOk result ((all before : List Located) → IsBehind self.old.meanings all before → IsAt self.new.meanings all before (stood self.old.segment stmt.now location.now)) }
+        ensures found { OnOk result ((all before : List Located) → IsBehind self.old.meanings all before → self.new.found ≡ faults.lesser self.old.found (faults.at_line stmt.now.line (least (spec.codes_of (meaning all before (stood self.old.segment stmt.now location.now)) (in_all all) self.old.regions.items self.old.sum (stood self.old.segment stmt.now location.now) location.now)))) }
+        ensures puts { OnOk result (map seen_put self.new.puts.items ≡ map seen_put self.old.puts.items ++ put_there (at_statement self.new.meanings) (stood self.old.segment stmt.now location.now) location.now ∷ []) }
         ensures segment { OnOk result (self.new.segment ≡ self.old.segment) }
         ensures regions { OnOk result (self.new.regions.items ≡ self.old.regions.items) }
         ensures sum { OnOk result (self.new.sum ≡ self.old.sum) }
     {
-        let here = value_at(self.segment, site.place);
+        let here = value_at(self.segment, location.place);
         self.meanings.enter(stmt, here);
-        let put = put_of(alloc, self.segment, stmt, site, &self.meanings)?;
-        let code = self.code(alloc, stmt, site, &put)?;
+        let put = put_of(alloc, self.segment, stmt, location, &self.meanings)?;
+        let code = self.code(alloc, stmt, location, &put)?;
         self.found = lesser_fault(self.found, at_line(stmt.line, code));
         self.puts.push(put)?;
         Ok(())
@@ -129,22 +140,22 @@ impl Walk {
         &mut self,
         alloc: Global,
         stmts: &[Stmt],
-        sites: &[Site],
+        locations: &[Location],
     ) -> Result<(), NoMemory>
         requires count { length stmts.now ≤ 65536 }
-        requires each { length stmts.now ≤ length sites.now }
+        requires each { length stmts.now ≤ length locations.now }
         requires segment { self.old.segment ≡ first_segment }
         requires sum { self.old.sum ≡ 0 }
         requires puts { self.old.puts.items ≡ [] }
-        requires behind { IsBehind self.old.meanings (located (spec.place_at sites.now) stmts.now) [] }
-        ensures found { OnOk result (self.new.found ≡ faults.lesser self.old.found (faults.least (spec.faults_from (located (spec.place_at sites.now) stmts.now) self.old.regions.items 0 [] (located (spec.place_at sites.now) stmts.now) sites.now))) }
-        ensures puts { OnOk result (map seen_put self.new.puts.items ≡ puts_from (located (spec.place_at sites.now) stmts.now) [] (located (spec.place_at sites.now) stmts.now) sites.now) }
-        ensures sum { OnOk result (self.new.sum ≡ stack_from (located (spec.place_at sites.now) stmts.now) 0 [] (located (spec.place_at sites.now) stmts.now)) }
-        ensures behind { OnOk result (IsBehind self.new.meanings (located (spec.place_at sites.now) stmts.now) (reverse (located (spec.place_at sites.now) stmts.now))) }
+        requires behind { IsBehind self.old.meanings (located (spec.place_at locations.now) stmts.now) [] }
+        ensures found { OnOk result (self.new.found ≡ faults.lesser self.old.found (faults.least (spec.faults_from (located (spec.place_at locations.now) stmts.now) self.old.regions.items 0 [] (located (spec.place_at locations.now) stmts.now) locations.now))) }
+        ensures puts { OnOk result (map seen_put self.new.puts.items ≡ puts_from (located (spec.place_at locations.now) stmts.now) [] (located (spec.place_at locations.now) stmts.now) locations.now) }
+        ensures sum { OnOk result (self.new.sum ≡ stack_from (located (spec.place_at locations.now) stmts.now) 0 [] (located (spec.place_at locations.now) stmts.now)) }
+        ensures behind { OnOk result (IsBehind self.new.meanings (located (spec.place_at locations.now) stmts.now) (reverse (located (spec.place_at locations.now) stmts.now))) }
     {
         for i in 0..stmts.len() {
             let stmt = &stmts[i];
-            self.enter(alloc, stmt, &sites[i])?;
+            self.enter(alloc, stmt, &locations[i])?;
             self.leave(alloc, stmt)?;
         }
         Ok(())

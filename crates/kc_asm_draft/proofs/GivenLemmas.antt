@@ -5,8 +5,8 @@ use Rattle.std.specs.List.{list_any}
 use Rattle.std.specs.Str.{bytes_eq}
 use Rattle.kc_expr.specs.Meaning.{Answer}
 use Rattle.kc_asm_symbols.specs.Tables.{updated, no_name}
-use Rattle.kc_asm_piece.specs.declared.draft.Public.{Public as Given}
-use Rattle.kc_asm_draft_laws.specs.Drafting.{given_as, distinct_from, publics_of}
+use Rattle.kc_asm_piece.specs.declared.unlinked.Public.{Public as Given}
+use Rattle.kc_asm_draft_laws.specs.Collecting.{given_as, distinct_from, publics_of}
 use Rattle.kc_asm_draft.specs.Giving.{given_from}
 
 pub given_again : (last : List ℕ → Answer) (seen : List ℕ → Bool) (n : List ℕ) (ns : List (List ℕ)) → seen n ≡ true

@@ -8,8 +8,8 @@ use Rattle.kc_source_statement.specs.Trees.{action_tree}
 use Rattle.kc_source_statement.specs.Formed.{given_names}
 use Rattle.kc_asm_symbols.specs.declared.segments.Segment.{Segment}
 use Rattle.kc_asm_symbols.specs.Located.{located_from, segment_after}
-use Rattle.kc_asm_symbols.proofs.ExternalLemmas.{front}
-use Rattle.kc_asm_draft_laws.specs.Drafting.{name_by, name_of, all_given}
+use Rattle.kc_asm_symbols.proofs.ExternalLemmas.{prefix}
+use Rattle.kc_asm_draft_laws.specs.Collecting.{name_by, name_of, all_given}
 
 -- ---- the name
 
@@ -28,7 +28,7 @@ named_one s ss = refl
 
 -- the name of the statements from the i-th on
 pub named_at : (ss : List Stmt) (i : ℕ) (s : Stmt) → i < length ss → s ≡ get_or ss i s → name_in (drop i ss) ≡ name_by (action_tree s.action) (name_in (drop (i + 1) ss))
-named_at ss i s within is = ap name_in (front ss i s within is) ∙ named_one s (drop (i + 1) ss)
+named_at ss i s within is = ap name_in (prefix ss i s within is) ∙ named_one s (drop (i + 1) ss)
 
 pub named_never : (ss : List Stmt) (i : ℕ) → length ss ≤ i → name_in (drop i ss) ≡ codes "NONAME"
 unfolding name_in
@@ -50,7 +50,7 @@ unfolding given_in
 given_one s ss = refl
 
 pub given_at : (ss : List Stmt) (i : ℕ) (s : Stmt) → i < length ss → s ≡ get_or ss i s → given_in (drop i ss) ≡ given_names (action_tree s.action) ++ given_in (drop (i + 1) ss)
-given_at ss i s within is = ap given_in (front ss i s within is) ∙ given_one s (drop (i + 1) ss)
+given_at ss i s within is = ap given_in (prefix ss i s within is) ∙ given_one s (drop (i + 1) ss)
 
 pub given_no_more : (ss : List Stmt) (i : ℕ) → length ss ≤ i → given_in (drop i ss) ≡ []
 unfolding given_in

@@ -2,8 +2,8 @@
 use Rattle.std.specs.Prelude.{ℕ, Bool, true, if◌then◌else◌, List, [], ◌∷◌, ◌++◌}
 use Rattle.kc_expr.specs.Meaning.{Answer}
 use Rattle.kc_asm_symbols.specs.Tables.{updated}
-use Rattle.kc_asm_piece.specs.declared.draft.Public.{Public as Given}
-use Rattle.kc_asm_draft_laws.specs.Drafting.{given_as}
+use Rattle.kc_asm_piece.specs.declared.unlinked.Public.{Public as Given}
+use Rattle.kc_asm_draft_laws.specs.Collecting.{given_as}
 
 unfoldable pub given_from : (List ℕ → Answer) → (List ℕ → Bool) → List (List ℕ) → List Given
 given_from last seen [] = []

@@ -1,10 +1,10 @@
 //! The draft of a module: the bytes that its statements write, its names and its stack.
 #![tactic(auto)]
 
-mod drafting;
+mod collecting;
 mod naming;
 mod pieces;
 mod publics;
 mod writing;
 
-pub use drafting::draft;
+pub use collecting::unlinked;

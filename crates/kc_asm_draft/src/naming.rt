@@ -4,7 +4,7 @@ ghost use Rattle.std.specs.Prelude.{◌≡◌, ℕ, List};
 ghost use Rattle.std.specs.Option.{option_map};
 ghost use Rattle.kc_source_statement.specs.Trees.{action_tree};
 ghost use Rattle.kc_asm_symbols.specs.Located.{located};
-ghost use Rattle.kc_asm_draft_laws.specs.Drafting as spec;
+ghost use Rattle.kc_asm_draft_laws.specs.Collecting as spec;
 
 use kc_source_statement::{Action, Stmt};
 

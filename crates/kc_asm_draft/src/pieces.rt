@@ -4,12 +4,12 @@ ghost use Rattle.std.specs.Prelude.{◌≡◌, IfOk, OnOk};
 ghost use Rattle.kc_source_statement.specs.Trees.{action_tree};
 ghost use Rattle.kc_asm_check.specs.Checked.{seen_put};
 ghost use Rattle.kc_asm_check.specs.Walk.{stood};
-ghost use Rattle.kc_asm_draft_laws.specs.Drafting as spec;
+ghost use Rattle.kc_asm_draft_laws.specs.Collecting as spec;
 ghost use Rattle.kc_asm_draft_laws.specs.Writable.{IsWritable};
 
 use crate::writing::write;
 use kc_asm_check::Put;
-use kc_asm_layout::Site;
+use kc_asm_layout::Location;
 use kc_asm_piece::Part;
 use kc_asm_symbols::Segment;
 use kc_base::NoMemory;
@@ -61,17 +61,17 @@ pub(crate) fn pass(
     parts: &mut Vec<Part>,
     segment: Segment,
     stmt: &Stmt,
-    site: &Site,
+    location: &Location,
     what: &Put,
 ) -> Result<(), NoMemory>
-    requires { IsWritable (seen_put what.now) (stood segment stmt.now site.now) site.now parts.old.items }
-    ensures { OnOk result (parts.new.items ≡ spec.parts_with (seen_put what.now) (stood segment stmt.now site.now) site.now parts.old.items) }
+    requires { IsWritable (seen_put what.now) (stood segment stmt.now location.now) location.now parts.old.items }
+    ensures { OnOk result (parts.new.items ≡ spec.parts_with (seen_put what.now) (stood segment stmt.now location.now) location.now parts.old.items) }
 {
     write(
         &mut parts[segment.piece],
         segment,
         stmt,
-        site,
+        location,
         &what.content,
     )?;
     open(alloc, parts, kind_opened(&stmt.action), what.opens)?;

@@ -9,7 +9,7 @@ ghost use Rattle.kc_asm_symbols.specs.Located.{Located, located_by};
 ghost use Rattle.kc_asm_symbols.specs.Meanings.{in_all};
 ghost use Rattle.kc_asm_symbols.specs.Tables.{is_marked};
 ghost use Rattle.kc_asm_symbols.specs.Walk.{IsBehind};
-ghost use Rattle.kc_asm_draft_laws.specs.Drafting as spec;
+ghost use Rattle.kc_asm_draft_laws.specs.Collecting as spec;
 ghost use Rattle.kc_asm_draft.specs.Giving.{given_from};
 
 use kc_asm_piece::Public;

@@ -3,13 +3,13 @@
 ghost use Rattle.std.specs.Prelude.{◌≡◌, ◌+◌, ◌≤◌, OnOk};
 ghost use Rattle.kc_asm_emission.specs.Seen.{seen};
 ghost use Rattle.kc_asm_check.specs.Walk.{stood};
-ghost use Rattle.kc_asm_draft_laws.specs.Drafting as spec;
+ghost use Rattle.kc_asm_draft_laws.specs.Collecting as spec;
 ghost use Rattle.kc_asm_draft_laws.specs.Writable.{HasRoom};
 ghost use Rattle.kc_asm_draft.specs.Writing.{ContentFits};
 
-use kc_asm_bytes::Octet;
+use kc_asm_bytes::RelocatableByte;
 use kc_asm_emission::Content;
-use kc_asm_layout::Site;
+use kc_asm_layout::Location;
 use kc_asm_piece::Part;
 use kc_asm_symbols::Segment;
 use kc_base::NoMemory;
@@ -26,7 +26,7 @@ fn fill(part: &mut Part, count: u64) -> Result<(), NoMemory>
 {
     let mut left = count;
     while left > 0 {
-        part.push(Octet::Plain(FILLING))?;
+        part.push(RelocatableByte::Plain(FILLING))?;
         left -= 1;
     }
     Ok(())
@@ -59,7 +59,10 @@ fn put(
 {
     match content {
         Content::Nothing => Ok(()),
-        Content::Octets(octets) => part.write(line, octets.as_slice()),
+        Content::RelocatableBytes(relocatable_bytes) => part.write(
+            line,
+            relocatable_bytes.as_slice(),
+        ),
         Content::Reserved(count) => {
             part.skip(*count);
             Ok(())
@@ -77,13 +80,13 @@ pub(crate) fn write(
     part: &mut Part,
     segment: Segment,
     stmt: &Stmt,
-    site: &Site,
+    location: &Location,
     content: &Content,
 ) -> Result<(), NoMemory>
-    requires { ContentFits (seen content.now) site.now part.old.length }
-    ensures { OnOk result (part.new ≡ spec.tape_with (seen content.now) (stood segment stmt.now site.now) site.now part.old) }
+    requires { ContentFits (seen content.now) location.now part.old.length }
+    ensures { OnOk result (part.new ≡ spec.section_with (seen content.now) (stood segment stmt.now location.now) location.now part.old) }
 {
-    lead(part, segment.kind, site.place - site.before)?;
-    put(part, stmt.line, segment.kind, site.place, content)?;
+    lead(part, segment.kind, location.place - location.before)?;
+    put(part, stmt.line, segment.kind, location.place, content)?;
     Ok(())
 }

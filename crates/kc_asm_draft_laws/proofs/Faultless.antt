@@ -4,10 +4,10 @@ use Rattle.std.specs.Prelude.{Option, Some, None, unwrap_or, Ok, Err, slice_get,
 use Rattle.std.proofs.lemmas.Bool.Decides.{nat_tests}
 use Rattle.kc_obj_module.specs.declared.parts.SegKind.{SegKind}
 use Rattle.kc_expr.specs.declared.values.Value.{Value}
-use Rattle.kc_expr.specs.declared.values.NoValue.TheVariants.{Fault, ToldElsewhere}
+use Rattle.kc_expr.specs.declared.values.NoValue.TheVariants.{Fault, ReportedElsewhere}
 use Rattle.kc_expr.specs.Tree.{Tree}
 use Rattle.kc_expr.specs.Meaning.{Answer, answer_by, is_fixed}
-use Rattle.kc_expr.proofs.UntoldLemmas.{AreUntold, expression_untold, is_told}
+use Rattle.kc_expr.proofs.UntoldLemmas.{AreUntold, expression_untold, is_reported}
 use Rattle.kc_source_statement.specs.Trees.{ActionTree}
 use Rattle.kc_source_statement.specs.Trees as trees
 use Rattle.kc_asm_symbols.specs.declared.segments.Segment.{Segment}
@@ -17,31 +17,31 @@ use Rattle.kc_asm_emission.specs.Alignment.{alignment}
 use Rattle.kc_asm_emission.specs.Arguments.{Look, fixed_of, fixed_in}
 use Rattle.kc_asm_emission.specs.Content.{Content, Nothing, Upto, content, upto, reserved}
 use Rattle.kc_asm_emission.specs.Faults.{faults_of, fixed_faults, unless_fixed}
-use Rattle.kc_asm_layout.specs.declared.site.Site.{Site}
-use Rattle.kc_asm_check.specs.Codes.{Regions, when, branch_faults, octet_faults, place_faults, public_faults, label_faults, goes_on, goes_on_faults, end_faults, back_faults, is_below, opening_faults, opening, most_of, leaves}
-use Rattle.kc_asm_check.specs.Judging.{own_codes, codes_of}
+use Rattle.kc_asm_layout.specs.declared.location.Location.{Location}
+use Rattle.kc_asm_check.specs.Codes.{Regions, when, branch_faults, relocatable_faults, place_faults, public_faults, label_faults, goes_on, goes_on_faults, end_faults, back_faults, is_below, opening_faults, opening, most_of, leaves}
+use Rattle.kc_asm_check.specs.Checking.{own_codes, codes_of}
 use Rattle.kc_asm_draft_laws.proofs.Lists.{nothing_left}
 
-pub record IsFaultless (look : Look) (last : List ℕ → Answer) (regions : Regions) (sum : ℕ) (l : Located) (s : Site) : Type 0 where
+pub record IsFaultless (look : Look) (last : List ℕ → Answer) (regions : Regions) (sum : ℕ) (l : Located) (s : Location) : Type 0 where
   pub values : faults_of look l.action ≡ []
-  pub octets : octet_faults look l.action l.segment s (content look s.form l.here l.action) ≡ []
+  pub relocatable_bytes : relocatable_faults look l.action l.segment s (content look s.form l.here l.action) ≡ []
   pub ends : goes_on_faults regions l.action l.segment s ≡ []
   pub back : back_faults look l.action s.before ≡ []
   pub opens : opening_faults (opening look l.action) ≡ []
   pub publics : public_faults last l.action ≡ []
 
-pub faultless : (look : Look) (last : List ℕ → Answer) (regions : Regions) (sum : ℕ) (l : Located) (s : Site) → codes_of look last regions sum l s ≡ [] → IsFaultless look last regions sum l s
+pub faultless : (look : Look) (last : List ℕ → Answer) (regions : Regions) (sum : ℕ) (l : Located) (s : Location) → codes_of look last regions sum l s ≡ [] → IsFaultless look last regions sum l s
 faultless look last regions sum l s e =
     let c = content look s.form l.here l.action in
     let own = nothing_left (own_codes look regions sum l s) _ e in
     let a = nothing_left (faults_of look l.action) _ own.0 in
     let b = nothing_left (branch_faults look s.body l.action) _ a.1 in
-    let o = nothing_left (octet_faults look l.action l.segment s c) _ b.1 in
+    let o = nothing_left (relocatable_faults look l.action l.segment s c) _ b.1 in
     let r = nothing_left (place_faults regions look l.label l.action l.segment s) _ o.1 in
     let t = nothing_left (label_faults l.label s.place) _ r.0 in
     let u = nothing_left (goes_on_faults regions l.action l.segment s) _ t.1 in
     let v = nothing_left (back_faults look l.action s.before) _ u.1 in
-    record { values = a.0; octets = o.0; ends = u.0; back = v.0; opens = v.1; publics = own.1 }
+    record { values = a.0; relocatable_bytes = o.0; ends = u.0; back = v.0; opens = v.1; publics = own.1 }
 
 pub unless : (b : Bool) (code : ℕ) → when b code ≡ [] → b ≡ false
 unless true code e = absurd (cc e)
@@ -109,7 +109,7 @@ forward look form here kind _ place to e f = absurd (cc e)
 pub at_most : (most after : ℕ) → ltb most after ≡ false → after ≤ most
 at_most most after e = not_before most after e
 
-pub record EndsWell (regions : Regions) (g : Segment) (s : Site) : Type 0 where
+pub record EndsWell (regions : Regions) (g : Segment) (s : Location) : Type 0 where
   pub most : s.after ≤ most_of g
   pub stays : s.before < s.after → leaves g.kind (unwrap_or (slice_get regions g.piece) None) s.after ≡ false
 
@@ -120,7 +120,7 @@ within before after b e h = by (ltb before after) (let t : ltb before after ≡ 
     by true h e = e
     by false h e = absurd (goes false h refl)
 
-pub ends_well : (regions : Regions) (g : Segment) (s : Site) → end_faults regions g s ≡ [] → EndsWell regions g s
+pub ends_well : (regions : Regions) (g : Segment) (s : Location) → end_faults regions g s ≡ [] → EndsWell regions g s
 ends_well regions g s e =
     let parts = nothing_left (when (nat_lt (most_of g) s.after) 17) _ e in
     record {
@@ -131,14 +131,14 @@ ends_well regions g s e =
 -- ---- addresses
 
 -- a fixed number where nothing is told elsewhere
-fixed_value : (a : Answer) → is_told a ≡ false → unless_fixed a ≡ [] → (n : ℕ) × (fixed_in a ≡ Some n)
+fixed_value : (a : Answer) → is_reported a ≡ false → unless_fixed a ≡ [] → (n : ℕ) × (fixed_in a ≡ Some n)
 fixed_value (Ok v) h e = (v.number, by (is_fixed v.base) e)
   where
     by : (b : Bool) → cond {A = List ℕ} b [] (10 ∷ []) ≡ [] → cond b (Some v.number) None ≡ Some v.number
     by true e = refl
     by false e = absurd (cc e)
 fixed_value (Err (Fault code)) h e = absurd cc
-fixed_value (Err ToldElsewhere) h e = absurd cc
+fixed_value (Err ReportedElsewhere) h e = absurd cc
 
 pub fixed_number : (look : Look) → AreUntold look → (x : Tree) → fixed_faults look x ≡ [] → (n : ℕ) × (fixed_of look x ≡ Some n)
 fixed_number look h x e = fixed_value (answer_by look x) (expression_untold look h x) e

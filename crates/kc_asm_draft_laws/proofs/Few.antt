@@ -25,28 +25,28 @@ use Rattle.kc_asm_symbols.specs.Located.{Located, located_from, value_at, base_o
 use Rattle.kc_asm_symbols.specs.Meanings.{meaning, in_all}
 use Rattle.kc_asm_symbols.specs.Known.{MeaningsAreKnown, BasesAreKnown}
 use Rattle.kc_asm_symbols.proofs.WalkLemmas.{located_length, further}
-use Rattle.kc_asm_bytes.specs.declared.octet.Octet.{Octet}
-use Rattle.kc_asm_bytes.specs.declared.octet.Octet.TheVariants.{Plain, First, Second}
+use Rattle.kc_asm_bytes.specs.declared.relocatable_byte.RelocatableByte.{RelocatableByte}
+use Rattle.kc_asm_bytes.specs.declared.relocatable_byte.RelocatableByte.TheVariants.{Plain, First, Second}
 use Rattle.kc_asm_bytes.specs.Relocating.{is_piece, depends, relocated}
-use Rattle.kc_asm_piece.specs.declared.part.Cell.{Cell}
-use Rattle.kc_asm_piece.specs.declared.draft.Draft.{Draft}
-use Rattle.kc_asm_piece.specs.declared.draft.Public.{Public as Given}
-use Rattle.kc_asm_piece.specs.Tape.{Tape, cell, blank, put, skipped, laid, begun, written}
+use Rattle.kc_asm_piece.specs.declared.part.PlacedByte.{PlacedByte}
+use Rattle.kc_asm_piece.specs.declared.unlinked.UnlinkedModule.{UnlinkedModule}
+use Rattle.kc_asm_piece.specs.declared.unlinked.Public.{Public as Given}
+use Rattle.kc_asm_piece.specs.Section.{Section, placed_byte, blank, put, skipped, laid, begun, written}
 use Rattle.kc_asm_module.specs.Order.{relocation, aims_at, is_named, stays_in, kept_of, count_of}
 use Rattle.kc_asm_module.specs.ModuleOf.{kept_in, pieces_in}
 use Rattle.kc_asm_module.proofs.Totals.{total}
 use Rattle.kc_asm_emission.specs.Arguments.{Look}
 use Rattle.kc_asm_emission.specs.Bases as said
-use Rattle.kc_asm_emission.specs.Bases.{ContentsAreOctets}
-use Rattle.kc_asm_emission.specs.Content.{Content, Nothing, Octets, Reserved, Upto, Even, content}
-use Rattle.kc_asm_outline.specs.Outline.{opens}
-use Rattle.kc_asm_layout.specs.declared.site.Site.{Site}
+use Rattle.kc_asm_emission.specs.Bases.{ContentsAreRelocatableBytes}
+use Rattle.kc_asm_emission.specs.Content.{Content, Nothing, RelocatableBytes, Reserved, Upto, Even, content}
+use Rattle.kc_asm_outline.specs.StatementSizes.{opens}
+use Rattle.kc_asm_layout.specs.declared.location.Location.{Location}
 use Rattle.kc_asm_check.specs.Codes.{stack_after}
-use Rattle.kc_asm_check.specs.Judging.{standing, site_list, place_at}
+use Rattle.kc_asm_check.specs.Checking.{standing, location_list, place_at}
 use Rattle.kc_asm_check.specs.Putting.{stack_from, stack_of}
-use Rattle.kc_asm_draft_laws.specs.Drafting.{led, put_content, tape_with, kind_opened, with_opened, first_tape, parts_after, parts_from, first_parts, given_as, publics_of, all_given, distinct_from, IsDraftOf}
+use Rattle.kc_asm_draft_laws.specs.Collecting.{led, put_content, section_with, kind_opened, with_opened, first_section, parts_after, parts_from, first_parts, given_as, publics_of, all_given, distinct_from, IsUnlinkedModuleOf}
 use Rattle.kc_asm_draft_laws.specs.Few.{PiecesAreFew}
-use Rattle.kc_asm_draft_laws.proofs.Lists.{front_at, no_element, all_pushed, all_set}
+use Rattle.kc_asm_draft_laws.proofs.Lists.{prefix_at, no_element, all_pushed, all_set}
 
 not_true : (b : Bool) → not b ≡ true → b ≡ false
 not_true true e = absurd (cc e)
@@ -58,103 +58,103 @@ module _ (n : ℕ) where
   abbrev known : Base → Bool
   known b = not (is_piece n b)
 
-  abbrev is_good : Octet → Bool
+  abbrev is_good : RelocatableByte → Bool
   is_good (Plain b) = true
   is_good (First kind start v) = known v.base
   is_good (Second kind v) = true
 
-  abbrev is_clear : Cell → Bool
-  is_clear c = is_good c.octet
+  abbrev is_clear : PlacedByte → Bool
+  is_clear c = is_good c.relocatable_byte
 
   -- no octet of the piece counts from it
-  abbrev IsClear : Tape → Type 0
-  IsClear t = list_all is_clear t.cells ≡ true
+  abbrev IsClear : Section → Type 0
+  IsClear t = list_all is_clear t.placed_bytes ≡ true
 
   abbrev AreGood : Content → Type 0
-  AreGood (Octets os) = list_all is_good os ≡ true
+  AreGood (RelocatableBytes os) = list_all is_good os ≡ true
   AreGood c = Unit {0}
 
-  good_octet : (o : Octet) → said.is_octet known o ≡ true → is_good o ≡ true
-  good_octet (Plain b) e = refl
-  good_octet (First kind start v) e = (and_parts (may_begin kind (Some start)) (known v.base) (and_parts (nat_le kind 4) (may_begin kind (Some start) && known v.base) e).1).1
-  good_octet (Second kind v) e = refl
+  good_relocatable : (o : RelocatableByte) → said.is_relocatable_byte known o ≡ true → is_good o ≡ true
+  good_relocatable (Plain b) e = refl
+  good_relocatable (First kind start v) e = (and_parts (may_begin kind (Some start)) (known v.base) (and_parts (nat_le kind 4) (may_begin kind (Some start) && known v.base) e).1).1
+  good_relocatable (Second kind v) e = refl
 
-  good_octets : (os : List Octet) → list_all (said.is_octet known) os ≡ true → list_all is_good os ≡ true
-  good_octets [] e = refl
-  good_octets (o ∷ os) e =
-      let parts = and_parts (said.is_octet known o) (list_all (said.is_octet known) os) e in
-      (λ i. good_octet o parts.0 i && good_octets os parts.1 i)
+  good_relocatables : (os : List RelocatableByte) → list_all (said.is_relocatable_byte known) os ≡ true → list_all is_good os ≡ true
+  good_relocatables [] e = refl
+  good_relocatables (o ∷ os) e =
+      let parts = and_parts (said.is_relocatable_byte known o) (list_all (said.is_relocatable_byte known) os) e in
+      (λ i. good_relocatable o parts.0 i && good_relocatables os parts.1 i)
 
-  good_content : (c : Content) → said.AreOctets known c → AreGood c
-  good_content (Octets os) h = good_octets os h
+  good_content : (c : Content) → said.AreRelocatableBytes known c → AreGood c
+  good_content (RelocatableBytes os) h = good_relocatables os h
   good_content Nothing h = tt
   good_content (Reserved count) h = tt
   good_content (Upto to) h = tt
   good_content Even h = tt
 
-  clear_put : (o : Octet) (t : Tape) → is_good o ≡ true → IsClear t → IsClear (put o t)
-  clear_put o t e h = list_all-append is_clear t.cells (cell t.length o ∷ []) ∙ (λ i. h i && (e i && true))
+  clear_put : (o : RelocatableByte) (t : Section) → is_good o ≡ true → IsClear t → IsClear (put o t)
+  clear_put o t e h = list_all-append is_clear t.placed_bytes (placed_byte t.length o ∷ []) ∙ (λ i. h i && (e i && true))
 
-  clear_laid : (os : List Octet) (t : Tape) → list_all is_good os ≡ true → IsClear t → IsClear (laid os t)
+  clear_laid : (os : List RelocatableByte) (t : Section) → list_all is_good os ≡ true → IsClear t → IsClear (laid os t)
   unfolding laid
   clear_laid [] t e h = h
   clear_laid (o ∷ os) t e h =
       let parts = and_parts (is_good o) (list_all is_good os) e in
       clear_laid os (put o t) parts.1 (clear_put o t parts.0 h)
 
-  clear_written : (line : ℕ) (os : List Octet) (t : Tape) → list_all is_good os ≡ true → IsClear t → IsClear (written line os t)
+  clear_written : (line : ℕ) (os : List RelocatableByte) (t : Section) → list_all is_good os ≡ true → IsClear t → IsClear (written line os t)
   clear_written line [] t e h = h
   clear_written line (o ∷ os) t e h =
       let parts = and_parts (is_good o) (list_all is_good os) e in
-      clear_laid os (begun line o t) parts.1 (list_all-append is_clear t.cells (cell t.length o ∷ []) ∙ (λ i. h i && (parts.0 i && true)))
+      clear_laid os (begun line o t) parts.1 (list_all-append is_clear t.placed_bytes (placed_byte t.length o ∷ []) ∙ (λ i. h i && (parts.0 i && true)))
 
   filling : (count : ℕ) → list_all is_good (replicate count (Plain 255)) ≡ true
   filling zero = refl
   filling (suc count) = filling count
 
-  clear_led : (kind : SegKind) (count : ℕ) (t : Tape) → IsClear t → IsClear (led kind count t)
+  clear_led : (kind : SegKind) (count : ℕ) (t : Section) → IsClear t → IsClear (led kind count t)
   clear_led Code count t h = clear_laid (replicate count (Plain 255)) t (filling count) h
   clear_led Reg count t h = h
   clear_led Ram count t h = h
   clear_led Stack count t h = h
 
-  clear_content : (line : ℕ) (kind : SegKind) (place : ℕ) (c : Content) (t : Tape) → AreGood c → IsClear t → IsClear (put_content line kind place c t)
+  clear_content : (line : ℕ) (kind : SegKind) (place : ℕ) (c : Content) (t : Section) → AreGood c → IsClear t → IsClear (put_content line kind place c t)
   clear_content line kind place Nothing t g h = h
-  clear_content line kind place (Octets os) t g h = clear_written line os t g h
+  clear_content line kind place (RelocatableBytes os) t g h = clear_written line os t g h
   clear_content line kind place (Reserved count) t g h = h
   clear_content line kind place (Upto to) t g h = h
   clear_content line kind place Even t g h = clear_led kind (place % 2) t h
 
-  clear_at : (parts : List Tape) (piece : ℕ) → AllByRecursion IsClear parts → IsClear (unwrap_or (slice_get parts piece) first_tape)
+  clear_at : (parts : List Section) (piece : ℕ) → AllByRecursion IsClear parts → IsClear (unwrap_or (slice_get parts piece) first_section)
   clear_at [] piece h = refl
   clear_at (t ∷ parts) zero h = h.0
   clear_at (t ∷ parts) (suc piece) h = clear_at parts piece h.1
 
-  clear_opened : (kind : SegKind) (o : Option ℕ) (parts : List Tape) → AllByRecursion IsClear parts → AllByRecursion IsClear (with_opened kind o parts)
+  clear_opened : (kind : SegKind) (o : Option ℕ) (parts : List Section) → AllByRecursion IsClear parts → AllByRecursion IsClear (with_opened kind o parts)
   clear_opened kind None parts h = h
   clear_opened kind (Some address) parts h = all_pushed IsClear parts (blank kind (Some address)) refl h
 
-  module _ (octets : ContentsAreOctets) (all : List Located) (names : MeaningsAreKnown known all) where
-    clear_parts : (before ls : List Located) (ss : List Site) (parts : List Tape) → all ≡ reverse before ++ ls → AllByRecursion IsClear parts → AllByRecursion IsClear (parts_from all before ls ss parts)
+  module _ (relocatable_bytes : ContentsAreRelocatableBytes) (all : List Located) (names : MeaningsAreKnown known all) where
+    clear_parts : (before ls : List Located) (ss : List Location) (parts : List Section) → all ≡ reverse before ++ ls → AllByRecursion IsClear parts → AllByRecursion IsClear (parts_from all before ls ss parts)
     unfolding parts_from
     clear_parts before [] ss parts split h = h
     clear_parts before (l ∷ ls) [] parts split h = h
     clear_parts before (l ∷ ls) (s ∷ ss) parts split h =
         let look = meaning all before l in
-        let told = names.at before ls l split in
-        let place : known l.here.base ≡ true = told here in
+        let reported = names.at before ls l split in
+        let place : known l.here.base ≡ true = reported here in
         let c = content look s.form l.here l.action in
-        let good : AreGood c = good_content c (octets known refl refl look told s.form l.here place l.action) in
-        let t = unwrap_or (slice_get parts l.segment.piece) first_tape in
+        let good : AreGood c = good_content c (relocatable_bytes known refl refl look reported s.form l.here place l.action) in
+        let t = unwrap_or (slice_get parts l.segment.piece) first_section in
         let led_to = led l.segment.kind (s.place - s.before) t in
-        let grown : IsClear (tape_with c l s t) = clear_content l.line l.segment.kind s.place c led_to good (clear_led l.segment.kind (s.place - s.before) t (clear_at parts l.segment.piece h)) in
-        let placed = all_set IsClear parts l.segment.piece (tape_with c l s t) grown h in
+        let grown : IsClear (section_with c l s t) = clear_content l.line l.segment.kind s.place c led_to good (clear_led l.segment.kind (s.place - s.before) t (clear_at parts l.segment.piece h)) in
+        let placed = all_set IsClear parts l.segment.piece (section_with c l s t) grown h in
         clear_parts (l ∷ before) ls ss (parts_after look l s parts) (further all before ls l split)
-        (clear_opened (kind_opened l.action) (opens look l.action) (slice_set parts l.segment.piece (tape_with c l s t)) placed)
+        (clear_opened (kind_opened l.action) (opens look l.action) (slice_set parts l.segment.piece (section_with c l s t)) placed)
 
   -- ---- so no relocation and no public name aims at it
 
-  aims_elsewhere : (at : Option ℕ) (own : ℕ) (o : Octet) → is_good o ≡ true → aims_at n (relocated at own o) ≡ false
+  aims_elsewhere : (at : Option ℕ) (own : ℕ) (o : RelocatableByte) → is_good o ≡ true → aims_at n (relocated at own o) ≡ false
   unfolding relocated
   aims_elsewhere at own (Plain b) e = refl
   aims_elsewhere at own (First kind start v) e = by (depends kind at own v.base)
@@ -164,15 +164,15 @@ module _ (n : ℕ) where
       by false = refl
   aims_elsewhere at own (Second kind v) e = refl
 
-  cells_elsewhere : (t : Tape) (cs : List Cell) → list_all is_clear cs ≡ true → list_any (λ c. aims_at n (relocation t c.octet)) cs ≡ false
-  cells_elsewhere t [] e = refl
-  cells_elsewhere t (c ∷ cs) e =
+  placed_bytes_elsewhere : (t : Section) (cs : List PlacedByte) → list_all is_clear cs ≡ true → list_any (λ c. aims_at n (relocation t c.relocatable_byte)) cs ≡ false
+  placed_bytes_elsewhere t [] e = refl
+  placed_bytes_elsewhere t (c ∷ cs) e =
       let parts = and_parts (is_clear c) (list_all is_clear cs) e in
-      (λ i. aims_elsewhere t.at (kind_number t.kind) c.octet parts.0 i || cells_elsewhere t cs parts.1 i)
+      (λ i. aims_elsewhere t.at (kind_number t.kind) c.relocatable_byte parts.0 i || placed_bytes_elsewhere t cs parts.1 i)
 
-  parts_elsewhere : (ts : List Tape) → AllByRecursion IsClear ts → list_any (λ t. list_any (λ c. aims_at n (relocation t c.octet)) t.cells) ts ≡ false
+  parts_elsewhere : (ts : List Section) → AllByRecursion IsClear ts → list_any (λ t. list_any (λ c. aims_at n (relocation t c.relocatable_byte)) t.placed_bytes) ts ≡ false
   parts_elsewhere [] h = refl
-  parts_elsewhere (t ∷ ts) h = (λ i. cells_elsewhere t t.cells h.0 i || parts_elsewhere ts h.1 i)
+  parts_elsewhere (t ∷ ts) h = (λ i. placed_bytes_elsewhere t t.placed_bytes h.0 i || parts_elsewhere ts h.1 i)
 
   given_elsewhere : (name : List ℕ) (a : Answer) (rest : List Given) → is_known known a ≡ true → list_any (λ p. is_piece n p.value.base) rest ≡ false
       → list_any (λ p. is_piece n p.value.base) (given_as name a ++ rest) ≡ false
@@ -181,8 +181,8 @@ module _ (n : ℕ) where
 
   publics_elsewhere : (last : List ℕ → Answer) → ((name : List ℕ) → is_known known (last name) ≡ true) → (names : List (List ℕ)) → list_any (λ p. is_piece n p.value.base) (publics_of last names) ≡ false
   unfolding publics_of
-  publics_elsewhere last told [] = refl
-  publics_elsewhere last told (name ∷ names) = given_elsewhere name (last name) (publics_of last names) (told name) (publics_elsewhere last told names)
+  publics_elsewhere last reported [] = refl
+  publics_elsewhere last reported (name ∷ names) = given_elsewhere name (last name) (publics_of last names) (reported name) (publics_elsewhere last reported names)
 
   -- ---- and it is empty
 
@@ -192,25 +192,25 @@ module _ (n : ℕ) where
   one_less : (i j : ℕ) → eqb (suc i) (suc j) ≡ false → eqb i j ≡ false
   one_less i j e = grind (arith, nat_tests, e)
 
-  set_other : (xs : List Tape) (i j : ℕ) (x y : Tape) → eqb i j ≡ false → slice_get xs j ≡ Some x → slice_get (set xs i y) j ≡ Some x
+  set_other : (xs : List Section) (i j : ℕ) (x y : Section) → eqb i j ≡ false → slice_get xs j ≡ Some x → slice_get (set xs i y) j ≡ Some x
   set_other [] i j x y e h = absurd (no_element x h)
   set_other (z ∷ xs) zero zero x y e h = absurd (cc e)
   set_other (z ∷ xs) zero (suc j) x y e h = h
   set_other (z ∷ xs) (suc i) zero x y e h = h
   set_other (z ∷ xs) (suc i) (suc j) x y e h = set_other xs i j x y (one_less i j e) h
 
-  opened_behind : (kind : SegKind) (o : Option ℕ) (parts : List Tape) (x : Tape) → slice_get parts n ≡ Some x → slice_get (with_opened kind o parts) n ≡ Some x
+  opened_behind : (kind : SegKind) (o : Option ℕ) (parts : List Section) (x : Section) → slice_get parts n ≡ Some x → slice_get (with_opened kind o parts) n ≡ Some x
   opened_behind kind None parts x h = h
-  opened_behind kind (Some address) parts x h = front_at parts (blank kind (Some address) ∷ []) n x h
+  opened_behind kind (Some address) parts x h = prefix_at parts (blank kind (Some address) ∷ []) n x h
 
-  untouched : (all before ls : List Located) (ss : List Site) (parts : List Tape) (x : Tape) → list_all is_elsewhere ls ≡ true → slice_get parts n ≡ Some x → slice_get (parts_from all before ls ss parts) n ≡ Some x
+  untouched : (all before ls : List Located) (ss : List Location) (parts : List Section) (x : Section) → list_all is_elsewhere ls ≡ true → slice_get parts n ≡ Some x → slice_get (parts_from all before ls ss parts) n ≡ Some x
   unfolding parts_from
   untouched all before [] ss parts x e h = h
   untouched all before (l ∷ ls) [] parts x e h = h
   untouched all before (l ∷ ls) (s ∷ ss) parts x e h =
       let look = meaning all before l in
       let both = and_parts (is_elsewhere l) (list_all is_elsewhere ls) e in
-      let t = tape_with (content look s.form l.here l.action) l s (unwrap_or (slice_get parts l.segment.piece) first_tape) in
+      let t = section_with (content look s.form l.here l.action) l s (unwrap_or (slice_get parts l.segment.piece) first_section) in
       untouched all (l ∷ before) ls ss (parts_after look l s parts) x both.1
       (opened_behind (kind_opened l.action) (opens look l.action) (slice_set parts l.segment.piece t) x (set_other parts l.segment.piece n x t (not_true (eqb l.segment.piece n) both.0) h))
 
@@ -230,19 +230,19 @@ module _ (n : ℕ) where
       let both = and_parts (not (eqb g.piece n)) (list_all is_elsewhere rest) e in
       (λ j. place_known g both.0 j && places_known places (i + 1) (segment_after g (action_tree s.action)) ss both.1 j)
 
-  is_no_piece : BasesAreKnown → ContentsAreOctets → (stmts : List Stmt) (d : Draft) → IsDraftOf stmts d → (kind : SegKind) → slice_get first_parts n ≡ Some (blank kind None)
+  is_no_piece : BasesAreKnown → ContentsAreRelocatableBytes → (stmts : List Stmt) (d : UnlinkedModule) → IsUnlinkedModuleOf stmts d → (kind : SegKind) → slice_get first_parts n ≡ Some (blank kind None)
       → list_all is_elsewhere (standing stmts) ≡ true → stays_in d.parts.items d.publics.items n (slice_get d.parts.items n) ≡ false
   unfolding is_named
-  is_no_piece bases octets stmts d drafted kind starts none =
+  is_no_piece bases relocatable_bytes stmts d collected kind starts none =
       let all = standing stmts in
-      let places = AllPass-from_list_all (λ (l : Located). known l.here.base) all (places_known (place_at (site_list stmts)) 0 first_segment stmts none) in
+      let places = AllPass-from_list_all (λ (l : Located). known l.here.base) all (places_known (place_at (location_list stmts)) 0 first_segment stmts none) in
       let names : MeaningsAreKnown known all = bases known refl refl all (λ e low. refl) places in
-      let clear : AllByRecursion IsClear (parts_from all [] all (site_list stmts) first_parts) = clear_parts octets all names [] all (site_list stmts) first_parts refl (refl, (refl, (refl, tt))) in
-      let same : slice_get d.parts.items n ≡ Some (blank kind None) = ap (λ (ts : List Tape). slice_get ts n) drafted.parts ∙ untouched all [] all (site_list stmts) first_parts (blank kind None) none starts in
+      let clear : AllByRecursion IsClear (parts_from all [] all (location_list stmts) first_parts) = clear_parts relocatable_bytes all names [] all (location_list stmts) first_parts refl (refl, (refl, (refl, tt))) in
+      let same : slice_get d.parts.items n ≡ Some (blank kind None) = ap (λ (ts : List Section). slice_get ts n) collected.parts ∙ untouched all [] all (location_list stmts) first_parts (blank kind None) none starts in
       let publics : list_any (λ (p : Given). is_piece n p.value.base) d.publics.items ≡ false =
-      ap (list_any (λ (p : Given). is_piece n p.value.base)) drafted.publics ∙ publics_elsewhere (in_all all) names.last (distinct_from [] (all_given all)) in
-      let parts : list_any (λ (t : Tape). list_any (λ (c : Cell). aims_at n (relocation t c.octet)) t.cells) d.parts.items ≡ false =
-      parts_elsewhere d.parts.items (subst (AllByRecursion IsClear) (sym drafted.parts) clear) in
+      ap (list_any (λ (p : Given). is_piece n p.value.base)) collected.publics ∙ publics_elsewhere (in_all all) names.last (distinct_from [] (all_given all)) in
+      let parts : list_any (λ (t : Section). list_any (λ (c : PlacedByte). aims_at n (relocation t c.relocatable_byte)) t.placed_bytes) d.parts.items ≡ false =
+      parts_elsewhere d.parts.items (subst (AllByRecursion IsClear) (sym collected.parts) clear) in
       ap (stays_in d.parts.items d.publics.items n) same ∙ (λ i. publics i || parts i)
 
 -- ---- which statements ask for a piece
@@ -304,10 +304,10 @@ rest_none m n e = omega (arith, e)
 
 -- ---- absolute pieces
 
-pushed : (kind : SegKind) (address : ℕ) (parts : List Tape) → length (parts ++ blank kind (Some address) ∷ []) ≤ length parts + 1
+pushed : (kind : SegKind) (address : ℕ) (parts : List Section) → length (parts ++ blank kind (Some address) ∷ []) ≤ length parts + 1
 pushed kind address parts = omega (arith, length-append parts (blank kind (Some address) ∷ []))
 
-opened_few : (look : Look) (kind : SegKind) (a : ActionTree) (parts : List Tape) → length (with_opened kind (opens look a) parts) ≤ length parts + opening a
+opened_few : (look : Look) (kind : SegKind) (a : ActionTree) (parts : List Section) → length (with_opened kind (opens look a) parts) ≤ length parts + opening a
 opened_few look kind (trees.Cseg None) parts = omega arith
 opened_few look kind (trees.Cseg (Some x)) parts = pushed kind _ parts
 opened_few look kind (trees.Dseg None) parts = omega arith
@@ -328,18 +328,18 @@ opened_few look kind trees.Even parts = omega arith
 opened_few look kind trees.End parts = omega arith
 opened_few look kind (trees.Operation word args) parts = omega arith
 
-set_length : (ts : List Tape) (i : ℕ) (t : Tape) → length (slice_set ts i t) ≡ length ts
+set_length : (ts : List Section) (i : ℕ) (t : Section) → length (slice_set ts i t) ≡ length ts
 set_length [] i t = refl
 set_length (x ∷ ts) zero t = refl
 set_length (x ∷ ts) (suc i) t = ap suc (set_length ts i t)
 
-parts_few : (all before ls : List Located) (ss : List Site) (parts : List Tape) → length (parts_from all before ls ss parts) ≤ length parts + sum_of opening ls
+parts_few : (all before ls : List Located) (ss : List Location) (parts : List Section) → length (parts_from all before ls ss parts) ≤ length parts + sum_of opening ls
 unfolding parts_from
 parts_few all before [] ss parts = omega arith
 parts_few all before (l ∷ ls) [] parts = omega arith
 parts_few all before (l ∷ ls) (s ∷ ss) parts =
     let look = meaning all before l in
-    let t = tape_with (content look s.form l.here l.action) l s (unwrap_or (slice_get parts l.segment.piece) first_tape) in
+    let t = section_with (content look s.form l.here l.action) l s (unwrap_or (slice_get parts l.segment.piece) first_section) in
     let rest = parts_few all (l ∷ before) ls ss (parts_after look l s parts) in
     let opened = opened_few look (kind_opened l.action) l.action (slice_set parts l.segment.piece t) in
     let same = set_length parts l.segment.piece t in
@@ -459,19 +459,19 @@ no_stack all sum before (l ∷ ls) z e =
 
 -- ---- the whole
 
-pub pieces_few : BasesAreKnown → ContentsAreOctets → PiecesAreFew
+pub pieces_few : BasesAreKnown → ContentsAreRelocatableBytes → PiecesAreFew
 unfolding kept_of
-pieces_few bases octets stmts d drafted =
+pieces_few bases relocatable_bytes stmts d collected =
     let all = standing stmts in
-    let values : ℕ → Segment → Value = λ i g. value_at g (place_at (site_list stmts) i) in
+    let values : ℕ → Segment → Value = λ i g. value_at g (place_at (location_list stmts) i) in
     let registers : count_of (kept_in d).registers ≤ sum_of to_registers all =
-    count_by (sum_of to_registers all) (kept_in d).registers (λ z. is_no_piece 0 bases octets stmts d drafted Reg refl (none_stands 0 to_registers no_registers values 0 first_segment stmts (omega arith) refl z)) in
+    count_by (sum_of to_registers all) (kept_in d).registers (λ z. is_no_piece 0 bases relocatable_bytes stmts d collected Reg refl (none_stands 0 to_registers no_registers values 0 first_segment stmts (omega arith) refl z)) in
     let data_piece : count_of (kept_in d).ram ≤ sum_of to_data all =
-    count_by (sum_of to_data all) (kept_in d).ram (λ z. is_no_piece 2 bases octets stmts d drafted Ram refl (none_stands 2 to_data no_data values 0 first_segment stmts (omega arith) refl z)) in
+    count_by (sum_of to_data all) (kept_in d).ram (λ z. is_no_piece 2 bases relocatable_bytes stmts d collected Ram refl (none_stands 2 to_data no_data values 0 first_segment stmts (omega arith) refl z)) in
     let code : count_of (kept_in d).code ≤ 1 = count_by 1 (kept_in d).code (λ z. absurd (omega (arith, z))) in
     let stack : count_of (not (eqb d.stack 0)) ≤ sum_of asking all =
-    count_by (sum_of asking all) (not (eqb d.stack 0)) (λ z. ap (λ (m : ℕ). not (eqb m 0)) (drafted.stack ∙ no_stack all 0 [] all z refl)) in
-    let parts : length d.parts.items ≤ 3 + sum_of opening all = subst (λ (ts : List Tape). length ts ≤ 3 + sum_of opening all) (sym drafted.parts) (parts_few all [] all (site_list stmts) first_parts) in
+    count_by (sum_of asking all) (not (eqb d.stack 0)) (λ z. ap (λ (m : ℕ). not (eqb m 0)) (collected.stack ∙ no_stack all 0 [] all z refl)) in
+    let parts : length d.parts.items ≤ 3 + sum_of opening all = subst (λ (ts : List Section). length ts ≤ 3 + sum_of opening all) (sym collected.parts) (parts_few all [] all (location_list stmts) first_parts) in
     let long : length all ≡ length stmts = located_length values 0 first_segment stmts in
     let whole = total d.parts.items d.publics.items d.stack in
     omega (arith, registers, data_piece, code, stack, parts, long, whole, all_sums all)

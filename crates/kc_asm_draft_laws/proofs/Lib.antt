@@ -10,8 +10,8 @@ pub mod Keeping
 pub mod Whole
 pub mod Settling
 pub mod Read
-pub mod Octets
+pub mod RelocatableBytes
 pub mod Naming
-pub mod Drafts
+pub mod UnlinkedModules
 pub mod Stood
 mod Few

@@ -13,10 +13,10 @@ module _ {A : Type 0} where
   pub same_element : (x y : A) → Some x ≡ Some y → x ≡ y
   same_element x y e = cc
 
-  pub front_at : (xs ys : List A) (i : ℕ) (x : A) → slice_get xs i ≡ Some x → slice_get (xs ++ ys) i ≡ Some x
-  front_at [] ys i x e = absurd (no_element x e)
-  front_at (y ∷ xs) ys zero x e = e
-  front_at (y ∷ xs) ys (suc i) x e = front_at xs ys i x e
+  pub prefix_at : (xs ys : List A) (i : ℕ) (x : A) → slice_get xs i ≡ Some x → slice_get (xs ++ ys) i ≡ Some x
+  prefix_at [] ys i x e = absurd (no_element x e)
+  prefix_at (y ∷ xs) ys zero x e = e
+  prefix_at (y ∷ xs) ys (suc i) x e = prefix_at xs ys i x e
 
   pub last_at : (xs : List A) (x : A) → slice_get (xs ++ x ∷ []) (length xs) ≡ Some x
   last_at [] x = refl

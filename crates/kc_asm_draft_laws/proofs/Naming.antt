@@ -19,36 +19,36 @@ use Rattle.kc_source_statement.specs.Formed.{names_said, given_names}
 use Rattle.kc_asm_symbols.specs.Located.{Located}
 use Rattle.kc_asm_symbols.specs.Externals.{externals_from, declared, declared_names, taken, statement_uses_stack, stack_name}
 use Rattle.kc_asm_symbols.specs.Meanings.{meaning, in_all}
-use Rattle.kc_asm_symbols.specs.Told.{is_public}
-use Rattle.kc_asm_piece.specs.declared.draft.Public.{Public as Given}
-use Rattle.kc_asm_piece.specs.Tape.{Tape}
-use Rattle.kc_asm_module.specs.Drafts.{base_exists, is_given_base}
-use Rattle.kc_asm_module.specs.Drafts as drafts
+use Rattle.kc_asm_symbols.specs.Reported.{is_public}
+use Rattle.kc_asm_piece.specs.declared.unlinked.Public.{Public as Given}
+use Rattle.kc_asm_piece.specs.Section.{Section}
+use Rattle.kc_asm_module.specs.UnlinkedModules.{base_exists, is_given_base}
+use Rattle.kc_asm_module.specs.UnlinkedModules as unlinked_modules
 use Rattle.kc_asm_module.specs.Publics.{is_same_name}
-use Rattle.kc_asm_layout.specs.declared.site.Site.{Site}
+use Rattle.kc_asm_layout.specs.declared.location.Location.{Location}
 use Rattle.kc_asm_operation.specs.Values.{is_external}
 use Rattle.kc_asm_check.specs.Codes.{Regions, regions_after, stack_after, counts_from_external, name_faults, public_faults}
-use Rattle.kc_asm_draft_laws.specs.Drafting.{parts_after, name_by, name_of, all_given, distinct_from, given_as, publics_of}
+use Rattle.kc_asm_draft_laws.specs.Collecting.{parts_after, name_by, name_of, all_given, distinct_from, given_as, publics_of}
 use Rattle.kc_asm_draft_laws.proofs.Lists.{nothing_left}
 use Rattle.kc_asm_draft_laws.proofs.Faultless.{unless}
 use Rattle.kc_asm_draft_laws.proofs.Walking.{AllSteps}
-use Rattle.kc_asm_draft_laws.proofs.Read.{can_tell, names_told}
+use Rattle.kc_asm_draft_laws.proofs.Read.{can_report, names_reported}
 
 -- what an object can tell of a statement
-pub record IsTelling (last : List ℕ → Answer) (l : Located) : Type 0 where
+pub record IsReporting (last : List ℕ → Answer) (l : Located) : Type 0 where
   pub names : list_all is_public (names_said l.action) ≡ true
   pub publics : public_faults last l.action ≡ []
 
-pub all_tell : (all : List Located) (regions : Regions) (sum : ℕ) (before ls : List Located) (ss : List Site) (parts : List Tape) → AllSteps all regions sum before ls ss parts
-    → list_all can_tell ls ≡ true → AllByRecursion (IsTelling (in_all all)) ls
+pub all_report : (all : List Located) (regions : Regions) (sum : ℕ) (before ls : List Located) (ss : List Location) (parts : List Section) → AllSteps all regions sum before ls ss parts
+    → list_all can_report ls ≡ true → AllByRecursion (IsReporting (in_all all)) ls
 unfolding AllSteps
-all_tell all regions sum before [] ss parts h told = tt
-all_tell all regions sum before (l ∷ ls) [] parts h told = absurd h
-all_tell all regions sum before (l ∷ ls) (s ∷ ss) parts h told =
+all_report all regions sum before [] ss parts h reported = tt
+all_report all regions sum before (l ∷ ls) [] parts h reported = absurd h
+all_report all regions sum before (l ∷ ls) (s ∷ ss) parts h reported =
     let look = meaning all before l in
-    let both = and_parts (can_tell l) (list_all can_tell ls) told in (
-      record { names = names_told l both.0; publics = h.0.faultless.publics },
-      all_tell all (regions_after look regions l.action) (stack_after look sum l.action) (l ∷ before) ls ss (parts_after look l s parts) h.1 both.1,
+    let both = and_parts (can_report l) (list_all can_report ls) reported in (
+      record { names = names_reported l both.0; publics = h.0.faultless.publics },
+      all_report all (regions_after look regions l.action) (stack_after look sum l.action) (l ∷ before) ls ss (parts_after look l s parts) h.1 both.1,
     )
 
 -- a public name is a name
@@ -69,7 +69,7 @@ named_by (trees.Module (Some name) stack) other h k = public_name name (and_part
 named_by _ other h k = k
 
 module _ (last : List ℕ → Answer) where
-  pub is_named : (ls : List Located) → AllByRecursion (IsTelling last) ls → is_name (name_of ls) ≡ true
+  pub is_named : (ls : List Located) → AllByRecursion (IsReporting last) ls → is_name (name_of ls) ≡ true
   unfolding name_of
   is_named [] h = refl
   is_named (l ∷ ls) h = named_by l.action (name_of ls) h.0.names (is_named ls h.1)
@@ -84,7 +84,7 @@ module _ (last : List ℕ → Answer) where
   stack_is true = refl
   stack_is false = refl
 
-  pub externals_are : (used : Bool) (ls : List Located) → AllByRecursion (IsTelling last) ls → list_all (λ (t : Taken). is_name t.name) (externals_from used ls) ≡ true
+  pub externals_are : (used : Bool) (ls : List Located) → AllByRecursion (IsReporting last) ls → list_all (λ (t : Taken). is_name t.name) (externals_from used ls) ≡ true
   unfolding externals_from
   externals_are used [] h = refl
   externals_are used (l ∷ ls) h =
@@ -114,7 +114,7 @@ module _ (last : List ℕ → Answer) where
   good_given (trees.Public names) h e = good_names names h e
   good_given _ h e = refl
 
-  pub all_good : (ls : List Located) → AllByRecursion (IsTelling last) ls → list_all is_good (all_given ls) ≡ true
+  pub all_good : (ls : List Located) → AllByRecursion (IsReporting last) ls → list_all is_good (all_given ls) ≡ true
   unfolding all_given
   all_good [] h = refl
   all_good (l ∷ ls) h = list_all-append is_good (given_names l.action) (all_given ls) ∙ (λ i. good_given l.action h.0.names h.0.publics i && all_good ls h.1 i)
@@ -139,17 +139,17 @@ module _ (last : List ℕ → Answer) where
     given_base (Piece p) h k = k
     given_base (External e) h k = absurd (cc h)
 
-    one_public : (n : List ℕ) (a : Answer) → is_public n ≡ true → not (counts_from_external a) ≡ true → is_known (base_exists count) a ≡ true → list_all drafts.is_public (given_as n a) ≡ true
+    one_public : (n : List ℕ) (a : Answer) → is_public n ≡ true → not (counts_from_external a) ≡ true → is_known (base_exists count) a ≡ true → list_all unlinked_modules.is_public (given_as n a) ≡ true
     one_public n (Ok v) h f k = (λ i. (h i && given_base v.base f k i) && true)
     one_public n (Err fault) h f k = refl
 
-    pub publics_are : (ns : List (List ℕ)) → list_all is_good ns ≡ true → list_all drafts.is_public (publics_of last ns) ≡ true
+    pub publics_are : (ns : List (List ℕ)) → list_all is_good ns ≡ true → list_all unlinked_modules.is_public (publics_of last ns) ≡ true
     unfolding publics_of
     publics_are [] h = refl
     publics_are (n ∷ ns) h =
         let parts = and_parts (is_good n) (list_all is_good ns) h in
         let own = and_parts (is_public n) (not (counts_from_external (last n))) parts.0 in
-        list_all-append drafts.is_public (given_as n (last n)) (publics_of last ns) ∙ (λ i. one_public n (last n) own.0 own.1 (known n) i && publics_are ns parts.1 i)
+        list_all-append unlinked_modules.is_public (given_as n (last n)) (publics_of last ns) ∙ (λ i. one_public n (last n) own.0 own.1 (known n) i && publics_are ns parts.1 i)
 
   -- ---- no public name twice
 

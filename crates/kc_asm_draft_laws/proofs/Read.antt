@@ -15,12 +15,12 @@ use Rattle.kc_source_statement.specs.Formed.{names_said}
 use Rattle.kc_source.specs.Faults.{holds_bytes}
 use Rattle.kc_asm_symbols.specs.declared.segments.Segment.{Segment}
 use Rattle.kc_asm_symbols.specs.Located.{Located, located_from, value_at, segment_after, first_segment}
-use Rattle.kc_asm_symbols.specs.Told.{is_public, is_code, stands_well, AreReadWell}
-use Rattle.kc_asm_bytes.specs.declared.octet.Octet.{Octet}
+use Rattle.kc_asm_symbols.specs.Reported.{is_public, is_code, stands_well, AreReadWell}
+use Rattle.kc_asm_bytes.specs.declared.relocatable_byte.RelocatableByte.{RelocatableByte}
 use Rattle.kc_branch.specs.declared.piece.Form.{Form}
 use Rattle.kc_asm_emission.specs.Arguments.{Look, fixed_of}
-use Rattle.kc_asm_emission.specs.Content.{Octets, content, reserved, upto}
-use Rattle.kc_asm_check.specs.Judging.{site_list, place_at, standing}
+use Rattle.kc_asm_emission.specs.Content.{RelocatableBytes, content, reserved, upto}
+use Rattle.kc_asm_check.specs.Checking.{location_list, place_at, standing}
 
 -- ---- where statements stand
 
@@ -37,42 +37,42 @@ located_test p values i g (s ∷ stmts) h =
 abbrev has_names : ℕ → Option (List ℕ) → ActionTree → Bool
 has_names line label action = nat_lt 0 line && list_all is_public (option_to_list label ++ names_said action)
 
-abbrev pub can_tell : Located → Bool
-can_tell l = has_names l.line l.label l.action
+abbrev pub can_report : Located → Bool
+can_report l = has_names l.line l.label l.action
 
 pub record IsStandingWell (stmts : List Stmt) : Type 0 where
-  pub told : list_all can_tell (standing stmts) ≡ true
+  pub reported : list_all can_report (standing stmts) ≡ true
   pub in_code : list_all stands_well (standing stmts) ≡ true
 
 pub standing_well : (stmts : List Stmt) → AreReadWell stmts → IsStandingWell stmts
 standing_well stmts read = record {
-  told = located_test has_names (λ i g. value_at g (place_at (site_list stmts) i)) 0 first_segment stmts read.told;
-  in_code = read.in_code (λ i g. value_at g (place_at (site_list stmts) i));
+  reported = located_test has_names (λ i g. value_at g (place_at (location_list stmts) i)) 0 first_segment stmts read.reported;
+  in_code = read.in_code (λ i g. value_at g (place_at (location_list stmts) i));
 }
 
 -- ---- what an object can tell
 
-pub line_told : (l : Located) → can_tell l ≡ true → nat_lt 0 l.line ≡ true
-line_told l h = (and_parts (nat_lt 0 l.line) (list_all is_public (option_to_list l.label ++ names_said l.action)) h).0
+pub line_reported : (l : Located) → can_report l ≡ true → nat_lt 0 l.line ≡ true
+line_reported l h = (and_parts (nat_lt 0 l.line) (list_all is_public (option_to_list l.label ++ names_said l.action)) h).0
 
-pub names_told : (l : Located) → can_tell l ≡ true → list_all is_public (names_said l.action) ≡ true
-names_told l h =
+pub names_reported : (l : Located) → can_report l ≡ true → list_all is_public (names_said l.action) ≡ true
+names_reported l h =
     let both = and_parts (nat_lt 0 l.line) (list_all is_public (option_to_list l.label ++ names_said l.action)) h in
     let split = sym (list_all-append is_public (option_to_list l.label) (names_said l.action)) ∙ both.1 in
     (and_parts (list_all is_public (option_to_list l.label)) (list_all is_public (names_said l.action)) split).1
 
 -- ---- code
 
-none_reserved : (size : ℕ) (o : Option ℕ) (os : List Octet) → reserved size o ≡ Octets os → ⊥
+none_reserved : (size : ℕ) (o : Option ℕ) (os : List RelocatableByte) → reserved size o ≡ RelocatableBytes os → ⊥
 none_reserved size None os e = cc
 none_reserved size (Some n) os e = cc
 
-none_upto : (o : Option ℕ) (os : List Octet) → upto o ≡ Octets os → ⊥
+none_upto : (o : Option ℕ) (os : List RelocatableByte) → upto o ≡ RelocatableBytes os → ⊥
 none_upto None os e = cc
 none_upto (Some n) os e = cc
 
 -- what puts octets is an instruction or data
-puts_bytes : (look : Look) (form : Form) (place : Value) (action : ActionTree) (os : List Octet) → content look form place action ≡ Octets os → holds_bytes action ≡ true
+puts_bytes : (look : Look) (form : Form) (place : Value) (action : ActionTree) (os : List RelocatableByte) → content look form place action ≡ RelocatableBytes os → holds_bytes action ≡ true
 puts_bytes look form place (trees.Define size items) os e = refl
 puts_bytes look form place (trees.Operation word args) os e = refl
 puts_bytes look form place (trees.Reserve size count) os e = absurd (none_reserved size (fixed_of look count) os e)
@@ -80,7 +80,7 @@ puts_bytes look form place (trees.Org x) os e = absurd (none_upto (fixed_of look
 puts_bytes look form place _ os e = absurd (cc e)
 
 -- so that where it stands well, it stands in code, whatever names mean
-pub code_alone : (look : Look) (form : Form) (l : Located) (os : List Octet) → stands_well l ≡ true → content look form l.here l.action ≡ Octets os → l.segment.kind ≡ Code
+pub code_alone : (look : Look) (form : Form) (l : Located) (os : List RelocatableByte) → stands_well l ≡ true → content look form l.here l.action ≡ RelocatableBytes os → l.segment.kind ≡ Code
 code_alone look form l os well e =
     by l.segment.kind (ap (λ (b : Bool). not b || is_code l.segment.kind) (sym (puts_bytes look form l.here l.action os e)) ∙ well)
   where

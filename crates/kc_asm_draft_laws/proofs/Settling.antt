@@ -8,28 +8,28 @@ use Rattle.kc_expr.proofs.UntoldLemmas.{AreUntold}
 use Rattle.kc_obj_module.specs.declared.parts.SegKind.{SegKind}
 use Rattle.kc_obj_module.specs.declared.parts.SegKind.TheVariants.{Code}
 use Rattle.kc_obj_module.specs.Pieces.{kind_number}
-use Rattle.kc_asm_bytes.specs.declared.octet.Octet.{Octet}
-use Rattle.kc_asm_bytes.specs.declared.octet.Octet.TheVariants.{Plain, First, Second}
+use Rattle.kc_asm_bytes.specs.declared.relocatable_byte.RelocatableByte.{RelocatableByte}
+use Rattle.kc_asm_bytes.specs.declared.relocatable_byte.RelocatableByte.TheVariants.{Plain, First, Second}
 use Rattle.kc_asm_bytes.specs.Relocating.{misfit, depends}
 use Rattle.kc_source_statement.specs.Trees.{ActionTree, ArgTree}
 use Rattle.kc_source_statement.specs.Trees as trees
 use Rattle.kc_asm_symbols.specs.Located.{Located}
 use Rattle.kc_asm_symbols.specs.Meanings.{meaning}
-use Rattle.kc_asm_piece.specs.Tape.{Tape, is_tape, blank, put, skipped, written, cell_at}
+use Rattle.kc_asm_piece.specs.Section.{Section, is_section, blank, put, skipped, written, placed_byte_at}
 use Rattle.kc_asm_piece.specs.Writing.{WrittenStands, PutStands}
 use Rattle.kc_asm_module.specs.Order.{start_of}
 use Rattle.kc_asm_emission.specs.Arguments.{Look, value_in}
-use Rattle.kc_asm_emission.specs.Content.{Octets, content}
+use Rattle.kc_asm_emission.specs.Content.{RelocatableBytes, content}
 use Rattle.kc_asm_emission.specs.Faults.{faults_of, operand_faults}
 use Rattle.kc_link_draft_laws.specs.Settled.{HasNoMisfit}
 use Rattle.kc_link_draft_laws.specs.Growing.{NoMisfitStays, FitBehind}
-use Rattle.kc_asm_outline.specs.Outline.{target, plain}
-use Rattle.kc_asm_outline.specs.Laws.{OutlinesStay, OutlinesHaveLengths}
-use Rattle.kc_asm_layout.specs.declared.site.Site.{Site}
-use Rattle.kc_asm_check.specs.Codes.{Regions, first_regions, judged, misfits, judges_jumps, lacks_value, lacks_target, content_faults}
-use Rattle.kc_asm_check.specs.Judging.{standing, site_list}
+use Rattle.kc_asm_outline.specs.StatementSizes.{target, plain}
+use Rattle.kc_asm_outline.specs.Laws.{SizesStay, SizesHaveLengths}
+use Rattle.kc_asm_layout.specs.declared.location.Location.{Location}
+use Rattle.kc_asm_check.specs.Codes.{Regions, first_regions, examined, misfits, checks_jumps, lacks_value, lacks_target, content_faults}
+use Rattle.kc_asm_check.specs.Checking.{standing, location_list}
 use Rattle.kc_asm_check.specs.Laws.{SoundStatements}
-use Rattle.kc_asm_draft_laws.specs.Sound.{DraftsAreSettled}
+use Rattle.kc_asm_draft_laws.specs.Sound.{UnlinkedModulesAreSettled}
 use Rattle.kc_asm_draft_laws.proofs.Lists.{no_element, same_element, nothing_left, all_at}
 use Rattle.kc_asm_draft_laws.proofs.Untold.{HasValue, value_of_expression}
 use Rattle.kc_asm_draft_laws.proofs.Standing.{IsOwn}
@@ -55,18 +55,18 @@ has_target look h [] e = refl
 has_target look h (a ∷ []) e = plain_target look h a (nothing_left (operand_faults look a) [] e).0
 has_target look h (a ∷ b ∷ args) e = has_target look h (b ∷ args) (nothing_left (operand_faults look a) (flat_map (operand_faults look) (b ∷ args)) e).1
 
-all_judged : (look : Look) → AreUntold look → (action : ActionTree) → faults_of look action ≡ [] → judges_jumps look action ≡ true
-all_judged look h (trees.Operation word args) e =
+all_checked : (look : Look) → AreUntold look → (action : ActionTree) → faults_of look action ≡ [] → checks_jumps look action ≡ true
+all_checked look h (trees.Operation word args) e =
     ap not (has_target look h args (nothing_left (flat_map (operand_faults look) args) _ e).0)
-all_judged look h _ e = refl
+all_checked look h _ e = refl
 
 -- ---- no octet has a misfit
 
-one_fits : (c : Option ℕ) (codes : List ℕ) → option_to_list (judged true c) ++ codes ≡ [] → (c ≡ None) × (codes ≡ [])
+one_fits : (c : Option ℕ) (codes : List ℕ) → option_to_list (examined true c) ++ codes ≡ [] → (c ≡ None) × (codes ≡ [])
 one_fits None codes e = (refl, e)
 one_fits (Some code) codes e = absurd (cc e)
 
-all_fit : (address : Option ℕ) (piece place : ℕ) (os : List Octet) → misfits true address piece place os ≡ [] → (k : ℕ) (o : Octet) → slice_get os k ≡ Some o → misfit address piece (place + k) o ≡ None
+all_fit : (address : Option ℕ) (piece place : ℕ) (os : List RelocatableByte) → misfits true address piece place os ≡ [] → (k : ℕ) (o : RelocatableByte) → slice_get os k ≡ Some o → misfit address piece (place + k) o ≡ None
 unfolding misfits
 all_fit address piece place [] e k o is = absurd (no_element o is)
 all_fit address piece place (p ∷ os) e zero o is =
@@ -77,13 +77,13 @@ all_fit address piece place (p ∷ os) e (suc k) o is =
     ap (λ (at : ℕ). misfit address piece at o) more ∙ all_fit address piece (place + 1) os (one_fits (misfit address piece place p) _ e).1 k o is
 
 -- in an absolute piece its number does not matter
-absolute_misfit : (address p q place : ℕ) (o : Octet) → misfit (Some address) p place o ≡ misfit (Some address) q place o
+absolute_misfit : (address p q place : ℕ) (o : RelocatableByte) → misfit (Some address) p place o ≡ misfit (Some address) q place o
 unfolding misfit depends
 absolute_misfit address p q place (Plain b) = refl
 absolute_misfit address p q place (First kind start v) = refl
 absolute_misfit address p q place (Second kind v) = refl
 
-own_misfit : (at : Option ℕ) (piece place : ℕ) (kind : SegKind) (o : Octet) → IsOwn piece kind at → misfit at (kind_number kind) place o ≡ misfit at piece place o
+own_misfit : (at : Option ℕ) (piece place : ℕ) (kind : SegKind) (o : RelocatableByte) → IsOwn piece kind at → misfit at (kind_number kind) place o ≡ misfit at piece place o
 own_misfit None piece place kind o own = ap (λ (p : ℕ). misfit None p place o) (sym own.0)
 own_misfit (Some address) piece place kind o own = absolute_misfit address (kind_number kind) piece place o
 
@@ -91,27 +91,27 @@ no_plain : (at : Option ℕ) (piece place byte : ℕ) → misfit at piece place 
 unfolding misfit
 no_plain at piece place byte = refl
 
-none_in_blank : (offset : ℕ) (o : Octet) → cell_at [] offset ≡ Some o → ⊥
-unfolding cell_at
+none_in_blank : (offset : ℕ) (o : RelocatableByte) → placed_byte_at [] offset ≡ Some o → ⊥
+unfolding placed_byte_at
 none_in_blank offset o e = no_element o e
 
 blank_fits : (kind : SegKind) (at : Option ℕ) → HasNoMisfit (blank kind at)
 blank_fits kind at offset o e = absurd (none_in_blank offset o e)
 
-skipped_fits : (n : ℕ) (t : Tape) → HasNoMisfit t → HasNoMisfit (skipped n t)
+skipped_fits : (n : ℕ) (t : Section) → HasNoMisfit t → HasNoMisfit (skipped n t)
 skipped_fits n t h = h
 
-one_octet : (b : Octet) (k : ℕ) (o : Octet) → slice_get (b ∷ []) k ≡ Some o → b ≡ o
-one_octet b zero o e = same_element b o e
-one_octet b (suc k) o e = absurd (no_element o e)
+one_relocatable : (b : RelocatableByte) (k : ℕ) (o : RelocatableByte) → slice_get (b ∷ []) k ≡ Some o → b ≡ o
+one_relocatable b zero o e = same_element b o e
+one_relocatable b (suc k) o e = absurd (no_element o e)
 
 module _ (written_stands : WrittenStands) (put_stands : PutStands) (no_misfit_stays : NoMisfitStays) where
-  filled_fits : (t : Tape) → t.kind ≡ Code → is_tape t ≡ true → HasNoMisfit t → HasNoMisfit (put (Plain 255) t)
+  filled_fits : (t : Section) → t.kind ≡ Code → is_section t ≡ true → HasNoMisfit t → HasNoMisfit (put (Plain 255) t)
   filled_fits t code is h = no_misfit_stays t (put (Plain 255) t) (Plain 255 ∷ []) (put_stands t is (Plain 255)) h
-      (λ k o e. ap (misfit t.at (kind_number t.kind) (start_of t.at + (t.length + k))) (sym (one_octet (Plain 255) k o e)) ∙ no_plain t.at (kind_number t.kind) (start_of t.at + (t.length + k)) 255)
+      (λ k o e. ap (misfit t.at (kind_number t.kind) (start_of t.at + (t.length + k))) (sym (one_relocatable (Plain 255) k o e)) ∙ no_plain t.at (kind_number t.kind) (start_of t.at + (t.length + k)) 255)
 
-  written_fits : (all before : List Located) (regions : Regions) (sum : ℕ) (l : Located) (s : Site) (parts : List Tape) (u : Tape) → IsAhead all before regions sum l s parts u → HasNoMisfit u
-      → (os : List Octet) → content (meaning all before l) s.form l.here l.action ≡ Octets os → HasNoMisfit (written l.line os u)
+  written_fits : (all before : List Located) (regions : Regions) (sum : ℕ) (l : Located) (s : Location) (parts : List Section) (u : Section) → IsAhead all before regions sum l s parts u → HasNoMisfit u
+      → (os : List RelocatableByte) → content (meaning all before l) s.form l.here l.action ≡ RelocatableBytes os → HasNoMisfit (written l.line os u)
   written_fits all before regions sum l s parts u a h os is =
       no_misfit_stays u (written l.line os u) os (written_stands u a.is l.line os).0 h fit
     where
@@ -119,7 +119,7 @@ module _ (written_stands : WrittenStands) (put_stands : PutStands) (no_misfit_st
       look = meaning all before l
 
       none : misfits true s.address l.segment.piece s.place os ≡ []
-      none = (λ i. content_faults (sym (all_judged look a.step.untold l.action a.step.faultless.values) i) s.address l.segment.piece s.place (sym is i)) ∙ a.step.faultless.octets
+      none = (λ i. content_faults (sym (all_checked look a.step.untold l.action a.step.faultless.values) i) s.address l.segment.piece s.place (sym is i)) ∙ a.step.faultless.relocatable_bytes
 
       own : IsOwn l.segment.piece u.kind u.at
       own = subst (λ (at : Option ℕ). IsOwn l.segment.piece u.kind at) (sym a.behind.at)
@@ -139,9 +139,9 @@ module _ (written_stands : WrittenStands) (put_stands : PutStands) (no_misfit_st
           ∙ ap (λ (at : Option ℕ). misfit at l.segment.piece (s.place + k) o) (a.behind.at ∙ sym a.step.stands.address)
           ∙ all_fit s.address l.segment.piece s.place os none k o e
 
-  pub drafts_settled : OutlinesStay → OutlinesHaveLengths → SoundStatements → DraftsAreSettled
-  drafts_settled stay lengths statements stmts d none drafted part t is =
+  pub unlinked_modules_settled : SizesStay → SizesHaveLengths → SoundStatements → UnlinkedModulesAreSettled
+  unlinked_modules_settled stay lengths statements stmts d none collected part t is =
       let w = walked stay lengths statements stmts none in
-      let parts = kept (standing stmts) HasNoMisfit blank_fits skipped_fits filled_fits (written_fits (standing stmts)) first_regions (standing stmts) (site_list stmts) w.steps in
-      let all = subst (AllByRecursion (λ u. (is_tape u ≡ true) × HasNoMisfit u)) (sym drafted.parts) parts in
-      (all_at (λ (u : Tape). (is_tape u ≡ true) × HasNoMisfit u) d.parts.items part t is all).1
+      let parts = kept (standing stmts) HasNoMisfit blank_fits skipped_fits filled_fits (written_fits (standing stmts)) first_regions (standing stmts) (location_list stmts) w.steps in
+      let all = subst (AllByRecursion (λ u. (is_section u ≡ true) × HasNoMisfit u)) (sym collected.parts) parts in
+      (all_at (λ (u : Section). (is_section u ≡ true) × HasNoMisfit u) d.parts.items part t is all).1

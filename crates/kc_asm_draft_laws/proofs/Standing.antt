@@ -8,15 +8,15 @@ use Rattle.kc_obj_module.specs.Pieces.{kind_number, in_region}
 use Rattle.kc_expr.specs.Meaning.{Answer}
 use Rattle.kc_asm_symbols.specs.declared.segments.Segment.{Segment}
 use Rattle.kc_asm_symbols.specs.Located.{Located, is_absolute}
-use Rattle.kc_asm_piece.specs.Tape.{Tape}
+use Rattle.kc_asm_piece.specs.Section.{Section}
 use Rattle.kc_asm_module.specs.Order.{start_of}
 use Rattle.kc_asm_emission.specs.declared.extent.Extent.{Extent}
 use Rattle.kc_asm_emission.specs.declared.extent.Extent.TheVariants as extent
 use Rattle.kc_asm_emission.specs.Alignment.{alignment, gap}
 use Rattle.kc_asm_emission.specs.Arguments.{Look}
-use Rattle.kc_asm_emission.specs.Content.{Content, Nothing, Octets, Reserved, Upto, Even, content, extent_of}
+use Rattle.kc_asm_emission.specs.Content.{Content, Nothing, RelocatableBytes, Reserved, Upto, Even, content, extent_of}
 use Rattle.kc_asm_emission.specs.Seen.{counted}
-use Rattle.kc_asm_layout.specs.declared.site.Site.{Site}
+use Rattle.kc_asm_layout.specs.declared.location.Location.{Location}
 use Rattle.kc_asm_check.specs.Codes.{Regions, goes_on, most_of, leaves, end_faults}
 use Rattle.kc_asm_draft_laws.specs.Writable.{HasRoom}
 use Rattle.kc_asm_draft_laws.proofs.Faultless.{IsFaultless, IsQuiet, quiet, forward, EndsWell, ends_well}
@@ -24,10 +24,10 @@ use Rattle.kc_asm_draft_laws.proofs.Taping.{size_at}
 
 -- ---- a piece
 
-abbrev pub end_of_tape : Tape → ℕ
-end_of_tape t = start_of t.at + t.length
+abbrev pub end_of_section : Section → ℕ
+end_of_section t = start_of t.at + t.length
 
-abbrev pub at_of : Tape → Option ℕ
+abbrev pub at_of : Section → Option ℕ
 at_of t = t.at
 
 -- a relocatable piece has the number of its kind
@@ -40,7 +40,7 @@ abbrev pub Holds : SegKind → ℕ → Option ℕ → Type 0
 Holds kind count None = count ≤ 65535
 Holds kind count (Some address) = in_region kind address count ≡ true
 
-abbrev pub IsWell : Tape → Type 0
+abbrev pub IsWell : Section → Type 0
 IsWell t = Holds t.kind t.length t.at
 
 in_memory : (kind : SegKind) (address count : ℕ) → in_region kind address count ≡ true → address + count ≤ 65536
@@ -61,9 +61,9 @@ passed_by place (extent.Upto to) = to
 passed_by place extent.Even = place + place % 2
 
 -- it stands behind this piece
-pub record StandsAt (look : Look) (regions : Regions) (l : Located) (s : Site) (t : Tape) : Type 0 where
+pub record StandsAt (look : Look) (regions : Regions) (l : Located) (s : Location) (t : Section) : Type 0 where
   pub kind : t.kind ≡ l.segment.kind
-  pub begins : end_of_tape t ≡ s.before
+  pub begins : end_of_section t ≡ s.before
   pub place : s.place ≡ s.before + gap s.before (alignment l.segment.kind l.action)
   pub after : s.after ≡ passed_by s.place (counted (extent_of (content look s.form l.here l.action)))
   pub address : s.address ≡ t.at
@@ -72,7 +72,7 @@ pub record StandsAt (look : Look) (regions : Regions) (l : Located) (s : Site) (
   pub well : IsWell t
 
 -- what it puts there has room
-pub record Fits (c : Content) (s : Site) (t : Tape) : Type 0 where
+pub record Fits (c : Content) (s : Location) (t : Section) : Type 0 where
   pub forward : s.before ≤ s.place
   pub gap : t.length + (s.place - s.before) ≤ 65536
   pub room : HasRoom (t.length + (s.place - s.before)) c s.place
@@ -90,7 +90,7 @@ pub record HasPlace (c : Content) (start count before place after : ℕ) : Type 
 has_place : (c : Content) (start count before place after : ℕ) → start + count ≡ before → before ≤ place → after ≡ passed_by place (counted (extent_of c)) → after ≤ 65536
     → ((to : ℕ) → c ≡ Upto to → place ≤ to) → HasPlace c start count before place after
 has_place Nothing start count before place after begins ahead is most upto = record { gap = omega arith; room = tt; ends = omega arith }
-has_place (Octets os) start count before place after begins ahead is most upto = record { gap = omega arith; room = omega arith; ends = omega arith }
+has_place (RelocatableBytes os) start count before place after begins ahead is most upto = record { gap = omega arith; room = omega arith; ends = omega arith }
 has_place (Reserved n) start count before place after begins ahead is most upto = record { gap = omega arith; room = omega arith; ends = omega arith }
 has_place (Upto to) start count before place after begins ahead is most upto =
     let low : place ≤ to = upto to refl in
@@ -122,7 +122,7 @@ holds_more kind g (Some address) region count more before after begins ends long
         let s : more ≡ count = omega (arith, ends, begins, longer, h) in
         ap (in_region kind address) s ∙ held
 
-module _ (look : Look) (last : List ℕ → Answer) (regions : Regions) (sum : ℕ) (l : Located) (s : Site) (t : Tape) (w : StandsAt look regions l s t) (f : IsFaultless look last regions sum l s) where
+module _ (look : Look) (last : List ℕ → Answer) (regions : Regions) (sum : ℕ) (l : Located) (s : Location) (t : Section) (w : StandsAt look regions l s t) (f : IsFaultless look last regions sum l s) where
   abbrev own_content : Content
   own_content = content look s.form l.here l.action
 

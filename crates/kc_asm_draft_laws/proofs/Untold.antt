@@ -5,16 +5,16 @@ use Rattle.std.specs.Str.{bytes_eq}
 use Rattle.std.proofs.lemmas.List.{reverse-append}
 use Rattle.kc_obj_module.specs.declared.parts.Taken.{Taken}
 use Rattle.kc_expr.specs.declared.values.Value.{Value}
-use Rattle.kc_expr.specs.declared.values.NoValue.TheVariants.{Fault, ToldElsewhere}
+use Rattle.kc_expr.specs.declared.values.NoValue.TheVariants.{Fault, ReportedElsewhere}
 use Rattle.kc_expr.specs.declared.values.Base.TheVariants.{External}
 use Rattle.kc_expr.specs.Tree.{Tree}
 use Rattle.kc_expr.specs.Meaning.{Answer, answer_by, here}
-use Rattle.kc_expr.proofs.UntoldLemmas.{is_told, AreUntold, either, expression_untold}
+use Rattle.kc_expr.proofs.UntoldLemmas.{is_reported, AreUntold, either, expression_untold}
 use Rattle.kc_source_statement.specs.Trees.{ActionTree}
 use Rattle.kc_source_statement.specs.Trees as trees
 use Rattle.kc_asm_symbols.specs.Located.{Located}
 use Rattle.kc_asm_symbols.specs.Externals.{externals, external_in, tag_of_taken, stack_name}
-use Rattle.kc_asm_symbols.specs.Meanings.{or_told, is_label, label_answer, external_answer, with_here, is_taken_by, defines, by_definition, earlier, is_set, is_definition, in_all, throughout, meaning}
+use Rattle.kc_asm_symbols.specs.Meanings.{or_reported, is_label, label_answer, external_answer, with_here, is_taken_by, defines, by_definition, earlier, is_set, is_definition, in_all, throughout, meaning}
 use Rattle.kc_asm_emission.specs.Arguments.{Look}
 use Rattle.kc_asm_emission.specs.Faults.{value_faults, faults_in, faults_of}
 
@@ -37,29 +37,29 @@ here_untold v look h q = either (bytes_eq q here) (Ok v) (look q) refl (h q)
 abbrev pub HasValue : Answer → Type 0
 HasValue a = (v : Value) × (a ≡ Ok v)
 
-a_value : (a : Answer) → is_told a ≡ false → faults_in a ≡ [] → HasValue a
+a_value : (a : Answer) → is_reported a ≡ false → faults_in a ≡ [] → HasValue a
 a_value (Ok v) h e = (v, refl)
 a_value (Err (Fault code)) h e = absurd cc
-a_value (Err ToldElsewhere) h e = absurd cc
+a_value (Err ReportedElsewhere) h e = absurd cc
 
 pub value_of_expression : (look : Look) → AreUntold look → (x : Tree) → value_faults look x ≡ [] → HasValue (answer_by look x)
 value_of_expression look h x e = a_value (answer_by look x) (expression_untold look h x) e
 
 -- a definition whose expression has a value
-told_untold : (a : Answer) → HasValue a → is_told (or_told a) ≡ false
-told_untold a v = ap (λ (b : Answer). is_told (or_told b)) v.1
+reported_untold : (a : Answer) → HasValue a → is_reported (or_reported a) ≡ false
+reported_untold a v = ap (λ (b : Answer). is_reported (or_reported b)) v.1
 
-definition_untold : (look rest : Look) (action : ActionTree) (q : List ℕ) → AreUntold look → is_told (rest q) ≡ false
-    → (is_definition action ≡ true → faults_of look action ≡ []) → is_told (by_definition (defines action q) look (rest q)) ≡ false
+definition_untold : (look rest : Look) (action : ActionTree) (q : List ℕ) → AreUntold look → is_reported (rest q) ≡ false
+    → (is_definition action ≡ true → faults_of look action ≡ []) → is_reported (by_definition (defines action q) look (rest q)) ≡ false
 definition_untold look rest (trees.Equ name x) q h k e = by (bytes_eq q name)
   where
-    by : (b : Bool) → is_told (by_definition (cond b (Some x) None) look (rest q)) ≡ false
-    by true = told_untold (answer_by look x) (value_of_expression look h x (e refl))
+    by : (b : Bool) → is_reported (by_definition (cond b (Some x) None) look (rest q)) ≡ false
+    by true = reported_untold (answer_by look x) (value_of_expression look h x (e refl))
     by false = k
 definition_untold look rest (trees.Set name x) q h k e = by (bytes_eq q name)
   where
-    by : (b : Bool) → is_told (by_definition (cond b (Some x) None) look (rest q)) ≡ false
-    by true = told_untold (answer_by look x) (value_of_expression look h x (e refl))
+    by : (b : Bool) → is_reported (by_definition (cond b (Some x) None) look (rest q)) ≡ false
+    by true = reported_untold (answer_by look x) (value_of_expression look h x (e refl))
     by false = k
 definition_untold look rest _ q h k e = k
 
@@ -87,5 +87,5 @@ module _ (all : List Located) where
   pub meaning_untold : (before : List Located) (l : Located) → AreUntold (earlier all before) → AreUntold (in_all all) → AreUntold (meaning all before l)
   meaning_untold before l h k = here_untold l.here (cond (is_definition l.action) (earlier all before) (throughout all before)) (by_kind (is_definition l.action) before h k)
 
-pub reverse_front : {A : Type 0} (l : A) (ls before : List A) → reverse ls ++ (l ∷ before) ≡ reverse (l ∷ ls) ++ before
-reverse_front {A} l ls before = sym (ap (λ (xs : List A). xs ++ before) (reverse-append (l ∷ []) ls) ∙ append_assoc (reverse ls) (l ∷ []) before)
+pub reverse_prefix : {A : Type 0} (l : A) (ls before : List A) → reverse ls ++ (l ∷ before) ≡ reverse (l ∷ ls) ++ before
+reverse_prefix {A} l ls before = sym (ap (λ (xs : List A). xs ++ before) (reverse-append (l ∷ []) ls) ∙ append_assoc (reverse ls) (l ∷ []) before)

@@ -4,9 +4,9 @@
 -- from the start.
 use Rattle.std.specs.Prelude.{ℕ, ◌+◌, ◌≤◌, List, length}
 use Rattle.kc_source_statement.specs.declared.statement.Stmt.{Stmt}
-use Rattle.kc_asm_piece.specs.declared.draft.Draft.{Draft}
+use Rattle.kc_asm_piece.specs.declared.unlinked.UnlinkedModule.{UnlinkedModule}
 use Rattle.kc_asm_module.specs.ModuleOf.{pieces_in}
-use Rattle.kc_asm_draft_laws.specs.Drafting.{IsDraftOf}
+use Rattle.kc_asm_draft_laws.specs.Collecting.{IsUnlinkedModuleOf}
 
 abbrev pub PiecesAreFew : Type 0
-PiecesAreFew = (stmts : List Stmt) (d : Draft) → IsDraftOf stmts d → length (pieces_in d) ≤ length stmts + 1
+PiecesAreFew = (stmts : List Stmt) (d : UnlinkedModule) → IsUnlinkedModuleOf stmts d → length (pieces_in d) ≤ length stmts + 1

@@ -1,4 +1,4 @@
-pub mod Drafting
+pub mod Collecting
 pub mod Writable
 pub mod Sound
 pub mod Few

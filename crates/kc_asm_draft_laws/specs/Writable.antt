@@ -3,31 +3,31 @@ use Rattle.std.specs.Prelude.{◌≡◌, ℕ, ◌+◌, ◌-◌, ◌%◌, ◌≤�
 use Rattle.kc_source_statement.specs.declared.statement.Stmt.{Stmt}
 use Rattle.kc_asm_symbols.specs.Located.{Located}
 use Rattle.kc_asm_symbols.specs.Meanings.{meaning}
-use Rattle.kc_asm_piece.specs.Tape.{Tape}
-use Rattle.kc_asm_emission.specs.Content.{Content, Nothing, Octets, Reserved, Upto, Even}
-use Rattle.kc_asm_layout.specs.declared.site.Site.{Site}
-use Rattle.kc_asm_check.specs.Judging.{first_fault, site_list, standing}
+use Rattle.kc_asm_piece.specs.Section.{Section}
+use Rattle.kc_asm_emission.specs.Content.{Content, Nothing, RelocatableBytes, Reserved, Upto, Even}
+use Rattle.kc_asm_layout.specs.declared.location.Location.{Location}
+use Rattle.kc_asm_check.specs.Checking.{first_fault, location_list, standing}
 use Rattle.kc_asm_check.specs.Putting.{Put, put_of}
-use Rattle.kc_asm_draft_laws.specs.Drafting.{parts_after, first_parts}
+use Rattle.kc_asm_draft_laws.specs.Collecting.{parts_after, first_parts}
 
 -- so many bytes, behind a number of others, have room
 abbrev pub HasRoom : ℕ → Content → ℕ → Type 0
 HasRoom size Nothing place = Unit {0}
-HasRoom size (Octets os) place = size + length os ≤ 65536
+HasRoom size (RelocatableBytes os) place = size + length os ≤ 65536
 HasRoom size (Reserved n) place = size + n ≤ 65536
 HasRoom size (Upto to) place = (place ≤ to) × (size + (to - place) ≤ 65536)
 HasRoom size Even place = size + place % 2 ≤ 65536
 
 -- what a statement puts behind a piece of its kind has room there
-pub record IsWritable (p : Put) (l : Located) (s : Site) (parts : List Tape) : Type 0 where
-  pub t : Tape
+pub record IsWritable (p : Put) (l : Located) (s : Location) (parts : List Section) : Type 0 where
+  pub t : Section
   pub part : slice_get parts l.segment.piece ≡ Some t
   pub kind : t.kind ≡ l.segment.kind
   pub forward : s.before ≤ s.place
   pub gap : t.length + (s.place - s.before) ≤ 65536
   pub room : HasRoom (t.length + (s.place - s.before)) p.content s.place
 
-abbrev pub AllWritable : List Located → List Located → List Located → List Site → List Tape → Type 0
+abbrev pub AllWritable : List Located → List Located → List Located → List Location → List Section → Type 0
 AllWritable all before [] ss parts = Unit {0}
 AllWritable all before (l ∷ ls) [] parts = ⊥
 AllWritable all before (l ∷ ls) (s ∷ ss) parts =
@@ -36,4 +36,4 @@ AllWritable all before (l ∷ ls) (s ∷ ss) parts =
 abbrev pub PartsAreWritable : Type 0
 PartsAreWritable =
     (stmts : List Stmt) → first_fault stmts ≡ None
-    → AllWritable (standing stmts) [] (standing stmts) (site_list stmts) first_parts
+    → AllWritable (standing stmts) [] (standing stmts) (location_list stmts) first_parts

@@ -12,7 +12,7 @@ use Rattle.kc_source_statement.specs.Trees as trees
 use Rattle.kc_source.specs.Faults.{is_module, holds_bytes, code_after, code_at, line_faults, name_faults, all_said, all_uses, faults_of, stmt_said}
 use Rattle.kc_asm_symbols.specs.declared.segments.Segment.{Segment}
 use Rattle.kc_asm_symbols.specs.Located.{located_from, segment_after, first_segment}
-use Rattle.kc_asm_symbols.specs.Told.{is_code, stands_well}
+use Rattle.kc_asm_symbols.specs.Reported.{is_code, stands_well}
 use Rattle.kc_asm_earlier_laws.specs.Places.{BytesStandInCode}
 
 -- ---- the pass

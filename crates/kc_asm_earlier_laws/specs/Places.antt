@@ -8,7 +8,7 @@ use Rattle.kc_source_statement.specs.declared.statement.Stmt.{Stmt}
 use Rattle.kc_source.specs.Faults.{AreStatements}
 use Rattle.kc_asm_symbols.specs.declared.segments.Segment.{Segment}
 use Rattle.kc_asm_symbols.specs.Located.{located_by}
-use Rattle.kc_asm_symbols.specs.Told.{stands_well}
+use Rattle.kc_asm_symbols.specs.Reported.{stands_well}
 
 -- of each statement of a text, whatever the values of its places
 abbrev pub BytesStandInCode : Type 0

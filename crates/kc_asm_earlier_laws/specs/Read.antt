@@ -6,7 +6,7 @@ use Rattle.kc_lex.specs.Lines.{lines_of}
 use Rattle.kc_macro.specs.Expansion.{expanded}
 use Rattle.kc_source_statement.specs.declared.statement.Stmt.{Stmt}
 use Rattle.kc_source.specs.Faults.{AreStatements}
-use Rattle.kc_asm_symbols.specs.Told.{AreReadWell}
+use Rattle.kc_asm_symbols.specs.Reported.{AreReadWell}
 
 abbrev pub SourcesAreReadWell : Type 0
 SourcesAreReadWell =

@@ -3,7 +3,7 @@
 #![tactic(auto)]
 
 ghost use Rattle.kc_asm_earlier_laws.specs.Places.{BytesStandInCode};
-ghost use Rattle.kc_asm_earlier_laws.specs.Telling.{StatementsAreTold, TextsAreTold};
+ghost use Rattle.kc_asm_earlier_laws.specs.Reporting.{StatementsAreReported, TextsAreReported};
 ghost use Rattle.kc_asm_earlier_laws.specs.Read.{SourcesAreReadWell};
 
 use kc_macro_names::{
@@ -18,8 +18,8 @@ pub fn bytes_stand_in_code()
 {}
 
 /// The lines of a text have numbers from 1, and their words are names.
-pub fn texts_are_told()
-    ensures { TextsAreTold }
+pub fn texts_are_reported()
+    ensures { TextsAreReported }
 {
     lines_are_of_the_text();
     lines_have_names();
@@ -29,8 +29,8 @@ pub fn texts_are_told()
 }
 
 /// A statement has the number of its line, and its names are words of the line.
-pub fn statements_are_told()
-    ensures { StatementsAreTold }
+pub fn statements_are_reported()
+    ensures { StatementsAreReported }
 {
     names_stand_on_the_line();
 }
@@ -41,6 +41,6 @@ pub fn sources_are_read_well()
     ensures { SourcesAreReadWell }
 {
     bytes_stand_in_code();
-    texts_are_told();
-    statements_are_told();
+    texts_are_reported();
+    statements_are_reported();
 }

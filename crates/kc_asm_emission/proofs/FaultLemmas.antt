@@ -39,8 +39,8 @@ goes_on : {X : Type 0} (f : X → List ℕ) (x : X) (xs : List X) (code : Option
     → lesser (lesser code (least (f x))) (least (flat_map f xs)) ≡ lesser code (least (flat_map f (x ∷ xs)))
 goes_on f x xs code = lesser_assoc code (least (f x)) (least (flat_map f xs)) ∙ sym (ap (lesser code) (least_append (f x) (flat_map f xs)))
 
-front_of : {X : Type 0} (xs : List X) (i : ℕ) (x : X) → i < length xs → x ≡ get_or xs i x → drop i xs ≡ x ∷ drop (i + 1) xs
-front_of xs i x small e =
+prefix_of : {X : Type 0} (xs : List X) (i : ℕ) (x : X) → i < length xs → x ≡ get_or xs i x → drop i xs ≡ x ∷ drop (i + 1) xs
+prefix_of xs i x small e =
     let next : suc i ≡ i + 1 = omega arith in
     drop-cons xs i x small ∙ ap (λ d. d ∷ drop (suc i) xs) (sym e) ∙ ap (λ n. x ∷ drop n xs) next
 
@@ -51,7 +51,7 @@ pub advances : {X Y : Type 0} (f : Y → List ℕ) (t : X → Y) (xs : List X) (
 advances f t xs i x code next whole small is e so_far =
     ap (λ n. lesser n (least (flat_map f (map t (drop (i + 1) xs))))) e
     ∙ goes_on f (t x) (map t (drop (i + 1) xs)) code
-    ∙ sym (ap (λ ys. lesser code (least (flat_map f (map t ys)))) (front_of xs i x small is))
+    ∙ sym (ap (λ ys. lesser code (least (flat_map f (map t ys)))) (prefix_of xs i x small is))
     ∙ so_far
 
 pub ends : {X Y : Type 0} (f : Y → List ℕ) (t : X → Y) (xs : List X) (i : ℕ) (code whole : Option ℕ)

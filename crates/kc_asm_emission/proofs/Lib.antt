@@ -2,5 +2,5 @@ pub mod Counting
 pub mod FaultLemmas
 pub mod Stays
 pub mod PairLemmas
-pub mod OctetLemmas
+pub mod RelocatableByteLemmas
 pub mod ValueLemmas

@@ -11,23 +11,23 @@ use Rattle.kc_expr.specs.Alike.{AreAlikeValues, AreAlike, AllAlike}
 use Rattle.kc_expr.proofs.AlikeLemmas.{expressions_alike}
 use Rattle.kc_source_statement.specs.Trees.{ItemTree, ArgTree, ActionTree}
 use Rattle.kc_source_statement.specs.Trees as trees
-use Rattle.kc_asm_bytes.specs.declared.octet.Octet.{Octet}
-use Rattle.kc_asm_bytes.specs.declared.octet.Octet.TheVariants.{Plain}
+use Rattle.kc_asm_bytes.specs.declared.relocatable_byte.RelocatableByte.{RelocatableByte}
+use Rattle.kc_asm_bytes.specs.declared.relocatable_byte.RelocatableByte.TheVariants.{Plain}
 use Rattle.kc_asm_operation.specs.declared.argument.Argument.TheVariants as arg
 use Rattle.kc_branch.specs.declared.piece.Form.{Form}
 use Rattle.kc_asm_operation.specs.Instructions.{instructions}
 use Rattle.kc_asm_operation.specs.Values.{or_zero}
-use Rattle.kc_asm_encoding.specs.Octets.{byte_of, word_of, all_octets}
+use Rattle.kc_asm_encoding.specs.RelocatableBytes.{byte_of, word_of, all_relocatable_bytes}
 use Rattle.kc_asm_encoding.specs.Blurred.{blurred_value, blurred}
 use Rattle.kc_asm_encoding.specs.Laws.{LengthStays}
 use Rattle.kc_asm_emission.specs.declared.extent.Extent.TheVariants as extent
 use Rattle.kc_asm_emission.specs.Arguments.{Look, value_in, value_of, fixed_in, argument, arguments}
-use Rattle.kc_asm_emission.specs.Content.{long_octets, item_octets, item_count, data_octets, data_count, reserved, upto, content, extent_of}
+use Rattle.kc_asm_emission.specs.Content.{long_relocatables, item_relocatables, item_count, data_relocatables, data_count, reserved, upto, content, extent_of}
 use Rattle.std.proofs.lemmas.List.{length-append, length-map}
 
 -- ---- items
 
-long_count : (look : Look) (x : Tree) → length (long_octets look x) ≡ 4
+long_count : (look : Look) (x : Tree) → length (long_relocatables look x) ≡ 4
 long_count look (Number n) = refl
 long_count look (Chars cs) = refl
 long_count look (Name n) = refl
@@ -35,22 +35,22 @@ long_count look Here = refl
 long_count look (One op e) = refl
 long_count look (Two op a b) = refl
 
-value_by : (byte word : Bool) (a b c : List Octet) → length a ≡ 1 → length b ≡ 2 → length c ≡ 4
+value_by : (byte word : Bool) (a b c : List RelocatableByte) → length a ≡ 1 → length b ≡ 2 → length c ≡ 4
     → length (cond byte a (cond word b c)) ≡ cond byte 1 (cond word 2 4)
 value_by true word a b c first second third = first
 value_by false true a b c first second third = second
 value_by false false a b c first second third = third
 
-counted_item : (look : Look) (size : ℕ) (item : ItemTree) → length (item_octets look size item) ≡ item_count size item
+counted_item : (look : Look) (size : ℕ) (item : ItemTree) → length (item_relocatables look size item) ≡ item_count size item
 counted_item look size (trees.Chars cs) = length-map cs Plain
 counted_item look size (trees.Value x) =
-    let v = or_zero (value_of look x) in value_by (size == 1) (size == 2) (byte_of v ∷ []) (word_of 0 v) (long_octets look x) refl refl (long_count look x)
+    let v = or_zero (value_of look x) in value_by (size == 1) (size == 2) (byte_of v ∷ []) (word_of 0 v) (long_relocatables look x) refl refl (long_count look x)
 
-pub counted_data : (look : Look) (size : ℕ) (items : List ItemTree) → length (data_octets look size items) ≡ data_count size items
+pub counted_data : (look : Look) (size : ℕ) (items : List ItemTree) → length (data_relocatables look size items) ≡ data_count size items
 counted_data look size [] = refl
 counted_data look size (i ∷ is) =
-    length-append (item_octets look size i) (data_octets look size is)
-    ∙ ap (λ n. n + length (data_octets look size is)) (counted_item look size i)
+    length-append (item_relocatables look size i) (data_relocatables look size is)
+    ∙ ap (λ n. n + length (data_relocatables look size is)) (counted_item look size i)
     ∙ ap (λ n. item_count size i + n) (counted_data look size is)
 
 -- ---- fixed numbers
@@ -103,10 +103,10 @@ arguments_alike look other same [] = refl
 arguments_alike look other same (a ∷ args) = λ i. argument_alike look other same a i ∷ arguments_alike look other same args i
 
 operation_stays : LengthStays → (look other : Look) → AllAlike look other → (form : Form) (here there : Value) (word : List ℕ) (args : List ArgTree)
-    → length (all_octets (instructions word (arguments look args) form here)) ≡ length (all_octets (instructions word (arguments other args) form there))
+    → length (all_relocatable_bytes (instructions word (arguments look args) form here)) ≡ length (all_relocatable_bytes (instructions word (arguments other args) form there))
 operation_stays stays look other same form here there word args =
     stays word (arguments look args) form here there
-    ∙ ap (λ xs. length (all_octets (instructions word xs form there))) (arguments_alike look other same args)
+    ∙ ap (λ xs. length (all_relocatable_bytes (instructions word xs form there))) (arguments_alike look other same args)
     ∙ sym (stays word (arguments other args) form there there)
 
 -- ---- statements

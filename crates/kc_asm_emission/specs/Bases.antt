@@ -8,26 +8,26 @@ use Rattle.kc_expr.specs.declared.values.Value.{Value}
 use Rattle.kc_expr.specs.Known.{is_known}
 use Rattle.kc_source_statement.specs.Trees.{ActionTree}
 use Rattle.kc_obj_module.specs.Fixups.{may_begin}
-use Rattle.kc_asm_bytes.specs.declared.octet.Octet.{Octet}
-use Rattle.kc_asm_bytes.specs.declared.octet.Octet.TheVariants.{Plain, First, Second}
+use Rattle.kc_asm_bytes.specs.declared.relocatable_byte.RelocatableByte.{RelocatableByte}
+use Rattle.kc_asm_bytes.specs.declared.relocatable_byte.RelocatableByte.TheVariants.{Plain, First, Second}
 use Rattle.kc_branch.specs.declared.piece.Form.{Form}
 use Rattle.kc_asm_emission.specs.Arguments.{Look}
-use Rattle.kc_asm_emission.specs.Content.{Content, Nothing, Octets, Reserved, Upto, Even, content}
+use Rattle.kc_asm_emission.specs.Content.{Content, Nothing, RelocatableBytes, Reserved, Upto, Even, content}
 
 -- a number of a kind that exists, at a byte where it may stand, from a base that is known
-abbrev pub is_octet : (Base → Bool) → Octet → Bool
-is_octet known (Plain b) = true
-is_octet known (First kind start v) = nat_le kind 4 && (may_begin kind (Some start) && known v.base)
-is_octet known (Second kind v) = true
+abbrev pub is_relocatable_byte : (Base → Bool) → RelocatableByte → Bool
+is_relocatable_byte known (Plain b) = true
+is_relocatable_byte known (First kind start v) = nat_le kind 4 && (may_begin kind (Some start) && known v.base)
+is_relocatable_byte known (Second kind v) = true
 
-abbrev pub AreOctets : (Base → Bool) → Content → Type 0
-AreOctets known (Octets os) = list_all (is_octet known) os ≡ true
-AreOctets known Nothing = Unit {0}
-AreOctets known (Reserved n) = Unit {0}
-AreOctets known (Upto place) = Unit {0}
-AreOctets known Even = Unit {0}
+abbrev pub AreRelocatableBytes : (Base → Bool) → Content → Type 0
+AreRelocatableBytes known (RelocatableBytes os) = list_all (is_relocatable_byte known) os ≡ true
+AreRelocatableBytes known Nothing = Unit {0}
+AreRelocatableBytes known (Reserved n) = Unit {0}
+AreRelocatableBytes known (Upto place) = Unit {0}
+AreRelocatableBytes known Even = Unit {0}
 
-abbrev pub ContentsAreOctets : Type 0
-ContentsAreOctets =
+abbrev pub ContentsAreRelocatableBytes : Type 0
+ContentsAreRelocatableBytes =
     (known : Base → Bool) → known bases.Fixed ≡ true → known bases.Absolute ≡ true → (look : Look) → ((name : List ℕ) → is_known known (look name) ≡ true)
-    → (form : Form) (place : Value) → known place.base ≡ true → (action : ActionTree) → AreOctets known (content look form place action)
+    → (form : Form) (place : Value) → known place.base ≡ true → (action : ActionTree) → AreRelocatableBytes known (content look form place action)

@@ -7,12 +7,12 @@ use Rattle.kc_expr.specs.declared.values.Value.{Value}
 use Rattle.kc_expr.specs.Tree.{Tree, Number}
 use Rattle.kc_source_statement.specs.Trees.{ItemTree, ActionTree}
 use Rattle.kc_source_statement.specs.Trees as trees
-use Rattle.kc_asm_bytes.specs.declared.octet.Octet.{Octet}
-use Rattle.kc_asm_bytes.specs.declared.octet.Octet.TheVariants.{Plain}
+use Rattle.kc_asm_bytes.specs.declared.relocatable_byte.RelocatableByte.{RelocatableByte}
+use Rattle.kc_asm_bytes.specs.declared.relocatable_byte.RelocatableByte.TheVariants.{Plain}
 use Rattle.kc_branch.specs.declared.piece.Form.{Form}
 use Rattle.kc_asm_operation.specs.Values.{or_zero}
 use Rattle.kc_asm_operation.specs.Instructions.{instructions}
-use Rattle.kc_asm_encoding.specs.Octets.{byte_of, word_of, all_octets}
+use Rattle.kc_asm_encoding.specs.RelocatableBytes.{byte_of, word_of, all_relocatable_bytes}
 use Rattle.kc_asm_emission.specs.declared.extent.Extent.{Extent}
 use Rattle.kc_asm_emission.specs.declared.extent.Extent.TheVariants as extent
 use Rattle.kc_asm_emission.specs.Arguments.{Look, value_of, fixed_of, arguments}
@@ -20,7 +20,7 @@ use Rattle.kc_asm_emission.specs.Arguments.{Look, value_of, fixed_of, arguments}
 -- bytes, so many bytes that are reserved, or none; ORG goes on to a place, EVEN to an even one
 pub data Content : Type 0 where
   Nothing : Content
-  Octets : (octets : List Octet) → Content
+  RelocatableBytes : (relocatable_bytes : List RelocatableByte) → Content
   Reserved : (bytes : ℕ) → Content
   Upto : (place : ℕ) → Content
   Even : Content
@@ -28,24 +28,24 @@ pub data Content : Type 0 where
 -- ---- data
 
 -- a plain number of DCL has all its 32 bits; any other value is a word, with two bytes 0 behind it
-abbrev pub long_octets : Look → Tree → List Octet
-long_octets look (Number n) = map Plain (to_le_bytes w32 n)
-long_octets look x = word_of 0 (or_zero (value_of look x)) ++ (Plain 0 ∷ Plain 0 ∷ [])
+abbrev pub long_relocatables : Look → Tree → List RelocatableByte
+long_relocatables look (Number n) = map Plain (to_le_bytes w32 n)
+long_relocatables look x = word_of 0 (or_zero (value_of look x)) ++ (Plain 0 ∷ Plain 0 ∷ [])
 
 -- a value that is missing counts as 0
-abbrev pub value_octets : Look → ℕ → Tree → List Octet
-value_octets look size x =
+abbrev pub value_relocatables : Look → ℕ → Tree → List RelocatableByte
+value_relocatables look size x =
     if size == 1 then byte_of (or_zero (value_of look x)) ∷ []
     else if size == 2 then word_of 0 (or_zero (value_of look x))
-    else long_octets look x
+    else long_relocatables look x
 
 -- a string stands as it is
-abbrev pub item_octets : Look → ℕ → ItemTree → List Octet
-item_octets look size (trees.Value x) = value_octets look size x
-item_octets look size (trees.Chars cs) = map Plain cs
+abbrev pub item_relocatables : Look → ℕ → ItemTree → List RelocatableByte
+item_relocatables look size (trees.Value x) = value_relocatables look size x
+item_relocatables look size (trees.Chars cs) = map Plain cs
 
-abbrev pub data_octets : Look → ℕ → List ItemTree → List Octet
-data_octets look size items = flat_map (item_octets look size) items
+abbrev pub data_relocatables : Look → ℕ → List ItemTree → List RelocatableByte
+data_relocatables look size items = flat_map (item_relocatables look size) items
 
 -- how many bytes data have does not depend on values
 abbrev pub item_count : ℕ → ItemTree → ℕ
@@ -69,11 +69,11 @@ upto (Some place) = Upto place
 
 -- a generic branch has a form; the place where the statement stands is what the inverse jump of a longer form counts from
 abbrev pub content : Look → Form → Value → ActionTree → Content
-content look form place (trees.Define size items) = Octets (data_octets look size items)
+content look form place (trees.Define size items) = RelocatableBytes (data_relocatables look size items)
 content look form place (trees.Reserve size count) = reserved size (fixed_of look count)
 content look form place (trees.Org x) = upto (fixed_of look x)
 content look form place trees.Even = Even
-content look form place (trees.Operation word args) = Octets (all_octets (instructions word (arguments look args) form place))
+content look form place (trees.Operation word args) = RelocatableBytes (all_relocatable_bytes (instructions word (arguments look args) form place))
 content look form place trees.Bare = Nothing
 content look form place (trees.Module name stack) = Nothing
 content look form place (trees.Cseg at) = Nothing
@@ -90,7 +90,7 @@ content look form place trees.End = Nothing
 
 abbrev pub extent_of : Content → Extent
 extent_of Nothing = extent.Bytes 0
-extent_of (Octets os) = extent.Bytes (length os)
+extent_of (RelocatableBytes os) = extent.Bytes (length os)
 extent_of (Reserved n) = extent.Bytes n
 extent_of (Upto place) = extent.Upto place
 extent_of Even = extent.Even

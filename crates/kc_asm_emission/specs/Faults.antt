@@ -5,7 +5,7 @@ use Rattle.std.specs.List.{flat_map}
 use Rattle.std.specs.Option.{option_to_list}
 use Rattle.kc_lex.specs.Codes.{code_number, not_fixed}
 use Rattle.kc_expr.specs.declared.values.NoValue.{NoValue}
-use Rattle.kc_expr.specs.declared.values.NoValue.TheVariants.{Fault, ToldElsewhere}
+use Rattle.kc_expr.specs.declared.values.NoValue.TheVariants.{Fault, ReportedElsewhere}
 use Rattle.kc_expr.specs.Tree.{Tree, Number}
 use Rattle.kc_expr.specs.Meaning.{Answer, answer_by, is_fixed}
 use Rattle.kc_source_statement.specs.Trees.{ItemTree, ArgTree, ActionTree, Bare, Module, Cseg, Dseg, Rseg, Sseg, Public, Extrn, Equ, Set, Define, Reserve, Org, Even, End, Operation}
@@ -16,13 +16,13 @@ use Rattle.kc_asm_emission.specs.Arguments.{Look, arguments}
 -- ---- expressions
 
 -- a fault that is told elsewhere is none here
-abbrev pub told_here : NoValue → List ℕ
-told_here (Fault code) = code_number code ∷ []
-told_here ToldElsewhere = []
+abbrev pub reported_here : NoValue → List ℕ
+reported_here (Fault code) = code_number code ∷ []
+reported_here ReportedElsewhere = []
 
 abbrev pub faults_in : Answer → List ℕ
 faults_in (Ok v) = []
-faults_in (Err fault) = told_here fault
+faults_in (Err fault) = reported_here fault
 
 abbrev pub value_faults : Look → Tree → List ℕ
 value_faults look x = faults_in (answer_by look x)
@@ -30,7 +30,7 @@ value_faults look x = faults_in (answer_by look x)
 -- where the value has to be fixed
 abbrev pub unless_fixed : Answer → List ℕ
 unless_fixed (Ok v) = if is_fixed v.base then [] else not_fixed ∷ []
-unless_fixed (Err fault) = told_here fault
+unless_fixed (Err fault) = reported_here fault
 
 abbrev pub fixed_faults : Look → Tree → List ℕ
 fixed_faults look x = unless_fixed (answer_by look x)

@@ -4,10 +4,10 @@ use Rattle.kc_source_statement.specs.Trees.{ActionTree}
 use Rattle.kc_branch.specs.declared.piece.Form.{Form}
 use Rattle.kc_asm_encoding.specs.Pairs.{IsPaired}
 use Rattle.kc_asm_emission.specs.Arguments.{Look}
-use Rattle.kc_asm_emission.specs.Content.{Content, Nothing, Octets, Reserved, Upto, Even, content}
+use Rattle.kc_asm_emission.specs.Content.{Content, Nothing, RelocatableBytes, Reserved, Upto, Even, content}
 
 abbrev pub ArePaired : Content → Type 0
-ArePaired (Octets os) = IsPaired os
+ArePaired (RelocatableBytes os) = IsPaired os
 ArePaired Nothing = Unit {0}
 ArePaired (Reserved n) = Unit {0}
 ArePaired (Upto place) = Unit {0}

@@ -4,12 +4,12 @@ use Rattle.kc_asm_emission.specs.declared.content.Content.{Content as Made}
 use Rattle.kc_asm_emission.specs.declared.content.Content.TheVariants as made
 use Rattle.kc_asm_emission.specs.declared.extent.Extent.{Extent}
 use Rattle.kc_asm_emission.specs.declared.extent.Extent.TheVariants as extent
-use Rattle.kc_asm_emission.specs.Content.{Content, Nothing, Octets, Reserved, Upto, Even}
+use Rattle.kc_asm_emission.specs.Content.{Content, Nothing, RelocatableBytes, Reserved, Upto, Even}
 
 -- a content without where its octets lie in memory
 abbrev pub seen : Made → Content
 seen made.Nothing = Nothing
-seen (made.Octets os) = Octets os.items
+seen (made.RelocatableBytes os) = RelocatableBytes os.items
 seen (made.Reserved n) = Reserved n
 seen (made.Upto place) = Upto place
 seen made.Even = Even

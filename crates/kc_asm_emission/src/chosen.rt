@@ -1,17 +1,17 @@
 ghost use Rattle.std.specs.Prelude.{◌≡◌, map, IfOk};
 ghost use Rattle.kc_source_statement.specs.Trees.{arg_tree, action_tree};
 ghost use Rattle.kc_asm_operation.specs.Instructions as instructions;
-ghost use Rattle.kc_asm_encoding.specs.Octets.{all_octets};
+ghost use Rattle.kc_asm_encoding.specs.RelocatableBytes.{all_relocatable_bytes};
 ghost use Rattle.kc_asm_emission.specs.Arguments as arguments;
 ghost use Rattle.kc_asm_emission.specs.Content as content;
 ghost use Rattle.kc_asm_emission.specs.Seen.{seen};
 
 use crate::content::Content;
-use crate::items::data_octets;
+use crate::items::data_relocatables;
 use crate::operands::arguments;
 use crate::values::fixed_of;
-use kc_asm_bytes::Octet;
-use kc_asm_encoding::octets_of;
+use kc_asm_bytes::RelocatableByte;
+use kc_asm_encoding::relocatables_of;
 use kc_asm_operation::{Argument, Worded, instructions};
 use kc_base::NoMemory;
 use kc_branch::Form;
@@ -19,25 +19,25 @@ use kc_expr::{Scope, Value};
 use kc_source_statement::{Action, Arg};
 use std::alloc::Global;
 
-fn joined(alloc: Global, list: &[Worded]) -> Result<Vec<Octet>, NoMemory>
-    ensures { IfOk result (λ v. v.items ≡ all_octets list.now) }
+fn joined(alloc: Global, list: &[Worded]) -> Result<Vec<RelocatableByte>, NoMemory>
+    ensures { IfOk result (λ v. v.items ≡ all_relocatable_bytes list.now) }
 {
-    let mut octets = Vec::new(alloc);
+    let mut relocatable_bytes = Vec::new(alloc);
     for worded in list {
-        octets.extend_from_slice(octets_of(worded).as_slice())?;
+        relocatable_bytes.extend_from_slice(relocatables_of(worded).as_slice())?;
     }
-    Ok(octets)
+    Ok(relocatable_bytes)
 }
 
-fn operation_octets<S: Scope>(
+fn operation_relocatables<S: Scope>(
     alloc: Global,
     word: &[u8],
     args: &[Arg],
     form: Form,
     place: Value,
     scope: &S,
-) -> Result<Vec<Octet>, NoMemory>
-    ensures { IfOk result (λ v. v.items ≡ all_octets (instructions.instructions word.now (arguments.arguments (S.answers scope.now) (map arg_tree args.now)) form place)) }
+) -> Result<Vec<RelocatableByte>, NoMemory>
+    ensures { IfOk result (λ v. v.items ≡ all_relocatable_bytes (instructions.instructions word.now (arguments.arguments (S.answers scope.now) (map arg_tree args.now)) form place)) }
 {
     let args = arguments(alloc, args, scope)?;
     let list = instructions(word, args.as_slice(), form, place);
@@ -75,7 +75,7 @@ pub fn content_of<S: Scope>(
     ensures { IfOk result (λ c. seen c ≡ content.content (S.answers scope.now) form place (action_tree action.now)) }
 {
     match action {
-        Action::Define(size, items) => Ok(Content::Octets(data_octets(
+        Action::Define(size, items) => Ok(Content::RelocatableBytes(data_relocatables(
             alloc,
             *size,
             items.as_slice(),
@@ -85,7 +85,7 @@ pub fn content_of<S: Scope>(
         Action::Org(to) => Ok(upto(fixed_of(to, scope))),
         Action::Even => Ok(Content::Even),
         Action::Operation { name, args } => {
-            let octets = operation_octets(
+            let relocatable_bytes = operation_relocatables(
                 alloc,
                 name.as_slice(),
                 args.as_slice(),
@@ -93,7 +93,7 @@ pub fn content_of<S: Scope>(
                 place,
                 scope,
             )?;
-            Ok(Content::Octets(octets))
+            Ok(Content::RelocatableBytes(relocatable_bytes))
         }
         _ => Ok(Content::Nothing),
     }

@@ -2,7 +2,7 @@ ghost use Rattle.std.specs.Prelude.{◌≡◌, min, length, map, IfOk};
 ghost use Rattle.kc_expr.specs.declared.values.Value.{Value};
 ghost use Rattle.kc_source_statement.specs.Trees.{arg_tree, item_tree, action_tree};
 ghost use Rattle.kc_asm_operation.specs.Instructions.{instructions};
-ghost use Rattle.kc_asm_encoding.specs.Octets.{all_octets};
+ghost use Rattle.kc_asm_encoding.specs.RelocatableBytes.{all_relocatable_bytes};
 ghost use Rattle.kc_asm_emission.specs.Arguments as arguments;
 ghost use Rattle.kc_asm_emission.specs.Content as content;
 ghost use Rattle.kc_asm_emission.specs.Seen.{most, counted};
@@ -57,7 +57,7 @@ fn data_length(size: u8, items: &[Item]) -> u32
 
 /// How many bytes an operation has whose operands have these values, wherever it stands.
 pub fn operation_length(word: &[u8], args: &[Argument], form: Form) -> u32
-    ensures { (place : Value) → result ≡ min (length (all_octets (instructions word.now args.now form place))) most }
+    ensures { (place : Value) → result ≡ min (length (all_relocatable_bytes (instructions word.now args.now form place))) most }
 {
     u32::from(length(word, args, form))
 }
@@ -69,7 +69,7 @@ fn length_over<S: Scope>(
     form: Form,
     scope: &S,
 ) -> Result<u32, NoMemory>
-    ensures { IfOk result (λ n. (place : Value) → n ≡ min (length (all_octets (instructions word.now (arguments.arguments (S.answers scope.now) (map arg_tree args.now)) form place))) most) }
+    ensures { IfOk result (λ n. (place : Value) → n ≡ min (length (all_relocatable_bytes (instructions word.now (arguments.arguments (S.answers scope.now) (map arg_tree args.now)) form place))) most) }
 {
     let args = arguments(alloc, args, scope)?;
     Ok(operation_length(word, args.as_slice(), form))

@@ -28,12 +28,12 @@ pub fn lesser(a: Option<u8>, b: Option<u8>) -> Option<u8>
 
 // The code of a fault that is told here.
 #[tactic(auto, unfolding(crate::specs::Faults::least))]
-fn told(fault: NoValue) -> Option<u8>
-    ensures { result ≡ faults.least (faults.told_here fault) }
+fn reported(fault: NoValue) -> Option<u8>
+    ensures { result ≡ faults.least (faults.reported_here fault) }
 {
     match fault {
         NoValue::Fault(code) => Some(code.number()),
-        NoValue::ToldElsewhere => None,
+        NoValue::ReportedElsewhere => None,
     }
 }
 
@@ -43,7 +43,7 @@ fn value_fault<S: Scope>(expr: &Expr, scope: &S) -> Option<u8>
 {
     match value_over(expr, scope) {
         Ok(_) => None,
-        Err(fault) => told(fault),
+        Err(fault) => reported(fault),
     }
 }
 
@@ -64,7 +64,7 @@ fn fixed_fault<S: Scope>(expr: &Expr, scope: &S) -> Option<u8>
 {
     match value_over(expr, scope) {
         Ok(value) => unless_fixed(value),
-        Err(fault) => told(fault),
+        Err(fault) => reported(fault),
     }
 }
 

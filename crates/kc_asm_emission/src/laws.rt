@@ -1,8 +1,8 @@
-ghost use Rattle.kc_asm_emission.specs.Bases.{ContentsAreOctets};
+ghost use Rattle.kc_asm_emission.specs.Bases.{ContentsAreRelocatableBytes};
 ghost use Rattle.kc_asm_emission.specs.Laws.{ExtentsStay};
 ghost use Rattle.kc_asm_emission.specs.Pairing.{ContentsArePaired};
 
-use kc_asm_encoding::laws::{length_stays, octets_are_paired};
+use kc_asm_encoding::laws::{length_stays, relocatables_are_paired};
 
 /// How far a statement goes on depends neither on where it stands nor on numbers that are not fixed.
 pub fn extents_stay()
@@ -15,10 +15,10 @@ pub fn extents_stay()
 pub fn contents_are_paired()
     ensures { ContentsArePaired }
 {
-    octets_are_paired();
+    relocatables_are_paired();
 }
 
 /// Octets count from nothing that the names do not count from, and each number has a kind and stands where it may.
-pub fn contents_are_octets()
-    ensures { ContentsAreOctets }
+pub fn contents_are_relocatables()
+    ensures { ContentsAreRelocatableBytes }
 {}

@@ -17,6 +17,6 @@ pub use chosen::content_of;
 pub use content::Content;
 pub use extent::{Extent, extent_of, operation_length};
 pub use faults::fault;
-pub use laws::{contents_are_octets, contents_are_paired, extents_stay};
+pub use laws::{contents_are_paired, contents_are_relocatables, extents_stay};
 pub use operands::arguments;
 pub use values::{fixed_of, value_of};

@@ -9,28 +9,28 @@ use Rattle.kc_isa.specs.declared.layout.Form.{Form}
 use Rattle.kc_isa.specs.declared.layout.Form.TheVariants.{NoOperand, Mode, ShiftCount, Distance11, Distance8, Distance16, OneByte}
 use Rattle.kc_code.specs.Spelling.{word, operand_bytes, high_bits}
 use Rattle.kc_obj_relocation.specs.Numbers.{Bases, distance, number, first_part, second_part, fits}
-use Rattle.kc_asm_bytes.specs.declared.octet.Octet.{Octet}
-use Rattle.kc_asm_bytes.specs.declared.octet.Octet.TheVariants.{Plain, First, Second}
+use Rattle.kc_asm_bytes.specs.declared.relocatable_byte.RelocatableByte.{RelocatableByte}
+use Rattle.kc_asm_bytes.specs.declared.relocatable_byte.RelocatableByte.TheVariants.{Plain, First, Second}
 use Rattle.kc_asm_bytes.specs.Filling.{base_address, address, fill, filled}
 use Rattle.kc_asm_operation.specs.declared.word.Word.{Word}
 use Rattle.kc_asm_operation.specs.declared.word.Word.TheVariants.{Absent, Register, Immediate, Indirect, Increment, Short, Long, Count, Jump}
 use Rattle.kc_asm_operation.specs.Values.{moved}
 use Rattle.kc_asm_encoding.specs.Words.{operand_of}
-use Rattle.kc_asm_encoding.specs.Octets.{byte_of, word_of, operand_octets, opcode_octet}
+use Rattle.kc_asm_encoding.specs.RelocatableBytes.{byte_of, word_of, operand_relocatables, opcode_relocatable}
 use Rattle.kc_asm_encoding.specs.Suits.{FitsAt, AllFit, IsEven, HasWords}
 
-pub filled-append : (b : Bases) (xs ys : List Octet) (a : ℕ) → filled b a (xs ++ ys) ≡ filled b a xs ++ filled b (a + length xs) ys
+pub filled-append : (b : Bases) (xs ys : List RelocatableByte) (a : ℕ) → filled b a (xs ++ ys) ≡ filled b a xs ++ filled b (a + length xs) ys
 unfolding filled
 filled-append b [] ys a = let z : a + 0 ≡ a = omega arith in rw z refl
 filled-append b (x ∷ xs) ys a =
     let e : (a + 1) + length xs ≡ a + length (x ∷ xs) = omega arith in
     ap (λ (l : List ℕ). fill b a x ∷ l) (rw (filled-append b xs ys (a + 1)) (rw e refl))
 
-pub fit-front : (b : Bases) (a : ℕ) (xs ys : List Octet) → AllFit b a (xs ++ ys) → AllFit b a xs
-fit-front b a [] ys h = tt
-fit-front b a (x ∷ xs) ys h = (h.0, fit-front b (a + 1) xs ys h.1)
+pub fit-beginning : (b : Bases) (a : ℕ) (xs ys : List RelocatableByte) → AllFit b a (xs ++ ys) → AllFit b a xs
+fit-beginning b a [] ys h = tt
+fit-beginning b a (x ∷ xs) ys h = (h.0, fit-beginning b (a + 1) xs ys h.1)
 
-pub fit-behind : (b : Bases) (a : ℕ) (xs ys : List Octet) → AllFit b a (xs ++ ys) → AllFit b (a + length xs) ys
+pub fit-behind : (b : Bases) (a : ℕ) (xs ys : List RelocatableByte) → AllFit b a (xs ++ ys) → AllFit b (a + length xs) ys
 fit-behind b a [] ys h = let z : a + 0 ≡ a = omega arith in rw z h
 fit-behind b a (x ∷ xs) ys h =
     let e : (a + 1) + length xs ≡ a + length (x ∷ xs) = omega arith in
@@ -78,7 +78,7 @@ short_jump : (b : Bases) (v : Value) (a next : ℕ) → a + 1 ≡ next → fille
 unfolding filled fill first_part number
 short_jump b v a next e = subst (λ (n : ℕ). filled b a (First 2 0 v ∷ []) ≡ (cast_unsigned w16 (cast_signed w16 (distance (address b v) n)) % 256) ∷ []) e (rw (signed-back (address b v) (a + 1)) (rw zero-add refl))
 
-jump_filled : (b : Bases) (form : Form) (v : Value) (a next : ℕ) → IsNext form (Jump v) a next → filled b a (operand_octets form true (Jump v)) ≡ operand_bytes form true (operand_of b next (Jump v))
+jump_filled : (b : Bases) (form : Form) (v : Value) (a next : ℕ) → IsNext form (Jump v) a next → filled b a (operand_relocatables form true (Jump v)) ≡ operand_bytes form true (operand_of b next (Jump v))
 unfolding filled fill first_part second_part number
 jump_filled b Distance16 v a next e = subst (λ (n : ℕ). filled b a (word_of 4 v) ≡ operand_bytes Distance16 true (operand_of b n (Jump v))) e
     (rw (signed-back (address b v) (a + 2)) (let f : (a + 1) + 1 ≡ a + 2 = omega arith in rw (f, zero-add) refl))
@@ -97,8 +97,8 @@ word_filled : (b : Bases) (v : Value) (a : ℕ) → filled b a (word_of 0 v) ≡
 unfolding filled fill first_part second_part number
 word_filled b v a = rw zero-add refl
 
-immediate_filled : (b : Bases) (form : Form) (byte : Bool) (v : Value) (a next : ℕ) → AllFit b a (operand_octets form byte (Immediate v)) →
-    filled b a (operand_octets form byte (Immediate v)) ≡ operand_bytes form byte (operand_of b next (Immediate v))
+immediate_filled : (b : Bases) (form : Form) (byte : Bool) (v : Value) (a next : ℕ) → AllFit b a (operand_relocatables form byte (Immediate v)) →
+    filled b a (operand_relocatables form byte (Immediate v)) ≡ operand_bytes form byte (operand_of b next (Immediate v))
 immediate_filled b Mode true v a next h = byte_filled b v a h
 immediate_filled b Mode false v a next h = word_filled b v a
 immediate_filled b NoOperand byte v a next h = byte_filled b v a h
@@ -128,8 +128,8 @@ long_filled b base offset a h e k =
     filled-append b (byte_of (moved base 1) ∷ []) (word_of 0 offset) a ∙
     (rw (byte_filled b (moved base 1) a (h.0, tt), next_register b base e k) (ap (λ (l : List ℕ). (address b base + 1) ∷ l) (word_filled b offset (a + 1))))
 
-pub operand_filled : (b : Bases) (form : Form) (byte : Bool) (w : Word) (a next : ℕ) → IsNext form w a next → AllFit b a (operand_octets form byte w) →
-    IsEven b w → HasWords w → filled b a (operand_octets form byte w) ≡ operand_bytes form byte (operand_of b next w)
+pub operand_filled : (b : Bases) (form : Form) (byte : Bool) (w : Word) (a next : ℕ) → IsNext form w a next → AllFit b a (operand_relocatables form byte w) →
+    IsEven b w → HasWords w → filled b a (operand_relocatables form byte w) ≡ operand_bytes form byte (operand_of b next w)
 unfolding filled
 operand_filled b form byte Absent a next e h even words = refl
 operand_filled b form byte (Register v) a next e h even words = byte_filled b v a h
@@ -145,7 +145,7 @@ abbrev pub IsOver : Form → Word → ℕ → ℕ → Type 0
 IsOver Distance11 (Jump v) a next = a + 2 ≡ next
 IsOver form w a next = Unit {0}
 
-pub opcode_filled : (b : Bases) (form : Form) (opcode : ℕ) (w : Word) (a next : ℕ) → IsOver form w a next → fill b a (opcode_octet form opcode w) ≡ opcode + high_bits form (operand_of b next w)
+pub opcode_filled : (b : Bases) (form : Form) (opcode : ℕ) (w : Word) (a next : ℕ) → IsOver form w a next → fill b a (opcode_relocatable form opcode w) ≡ opcode + high_bits form (operand_of b next w)
 unfolding fill first_part number
 opcode_filled b Distance11 opcode (Jump v) a next e = subst (λ (n : ℕ). fill b a (First 3 opcode v) ≡ opcode + high_bits Distance11 (operand_of b n (Jump v))) e (rw (signed-back (address b v) (a + 2)) refl)
 opcode_filled b Distance11 opcode w a next e = omega arith

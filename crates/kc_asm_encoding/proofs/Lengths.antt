@@ -10,8 +10,8 @@ use Rattle.kc_isa.specs.Layout.{layout_of}
 use Rattle.kc_isa.specs.Formed.{is_byte}
 use Rattle.kc_code.specs.Spelling.{prefix}
 use Rattle.kc_lex.specs.Instructions.{least}
-use Rattle.kc_asm_bytes.specs.declared.octet.Octet.{Octet}
-use Rattle.kc_asm_bytes.specs.declared.octet.Octet.TheVariants.{Plain}
+use Rattle.kc_asm_bytes.specs.declared.relocatable_byte.RelocatableByte.{RelocatableByte}
+use Rattle.kc_asm_bytes.specs.declared.relocatable_byte.RelocatableByte.TheVariants.{Plain}
 use Rattle.kc_asm_operation.specs.declared.argument.Argument.{Argument}
 use Rattle.kc_branch.specs.declared.piece.Form.{Form}
 use Rattle.kc_branch.specs.declared.piece.Form.TheVariants.{First, Second, Third}
@@ -24,12 +24,12 @@ use Rattle.kc_asm_operation.specs.declared.word.Worded.{Worded}
 use Rattle.kc_asm_operation.specs.Values.{argument}
 use Rattle.kc_asm_operation.specs.Branches.{Line, line, tested, over, branch_kind, branch_lines, jump_of, inverse_of, in_full}
 use Rattle.kc_asm_operation.specs.Instructions.{instruction, listed, all_lines, instructions}
-use Rattle.kc_asm_encoding.specs.Octets.{opcode_octet, laid_octets, row_octets, worded_octets, all_octets}
+use Rattle.kc_asm_encoding.specs.RelocatableBytes.{opcode_relocatable, laid_relocatables, row_relocatables, worded_relocatables, all_relocatable_bytes}
 use Rattle.kc_asm_encoding.specs.Suits.{operand_suits, IsInstruction}
 use Rattle.kc_asm_encoding.proofs.Search.{least-finds}
-use Rattle.kc_asm_encoding.proofs.Spelled.{octets_are}
+use Rattle.kc_asm_encoding.proofs.Spelled.{relocatables_are}
 use Rattle.kc_asm_encoding.proofs.Found.{both, instruction_found}
-use Rattle.kc_asm_encoding.proofs.Paired.{listed-octets}
+use Rattle.kc_asm_encoding.proofs.Paired.{listed-relocatable_bytes}
 use Rattle.kc_asm_encoding.proofs.Rows
 use Rattle.kc_asm_encoding.proofs.Rows.{shape_number, is_other, differs, is_signed, has_one_shape, has_rows}
 use Rattle.kc_asm_encoding.proofs.Exists.{IsFound, one_of, same_shape, join}
@@ -75,10 +75,10 @@ jump_size shapes.BitTest = 3
 jump_size shapes.Far = 3
 jump_size shape = 2
 
-abbrev body : Shape → Bool → ℕ → Bool → Word → List Value → List Octet
+abbrev body : Shape → Bool → ℕ → Bool → Word → List Value → List RelocatableByte
 body shape byte opcode signed o regs =
     let w : Worded = record { opcode = opcode; signed = signed; operand = o; regs = regs } in
-    opcode_octet (layout_of shape).form opcode o ∷ laid_octets (layout_of shape) byte w
+    opcode_relocatable (layout_of shape).form opcode o ∷ laid_relocatables (layout_of shape) byte w
 
 near_body : (byte : Bool) (opcode : ℕ) (signed : Bool) (o : Word) (regs : List Value) → operand_suits (layout_of shapes.Near).form opcode o ≡ true → length (body shapes.Near byte opcode signed o regs) ≡ 2
 near_body byte opcode signed (words.Jump v) regs h = refl
@@ -113,36 +113,36 @@ jump_body shapes.BitTest byte opcode signed o regs j h k = test_body byte opcode
 jump_body shape byte opcode signed o regs j h k = absurd j
 
 row_jump : (w : Worded) (row : Shown) (shape : Shape) → IsJump shape → w.signed ≡ false → row.shape ≡ shape → operand_suits (layout_of row.shape).form w.opcode w.operand ≡ true → length w.regs ≡ 3 →
-    length (row_octets w row) ≡ jump_size shape
+    length (row_relocatables w row) ≡ jump_size shape
 row_jump w row shape j s e h k =
     let p : length (map Plain (prefix w.signed)) ≡ 0 = rw s refl in
     let b : length (body row.shape (is_byte row.width) w.opcode w.signed w.operand w.regs) ≡ jump_size row.shape = jump_body row.shape (is_byte row.width) w.opcode w.signed w.operand w.regs (subst (λ (x : Shape). IsJump x) (sym e) j) h k in
     omega (arith, length-append (map Plain (prefix w.signed)) (body row.shape (is_byte row.width) w.opcode w.signed w.operand w.regs), p, b, ap jump_size e)
 
-jump_length : (v : List ℕ) (shape : Shape) (w : Worded) → IsJump shape → has_one_shape shape v ≡ true → IsInstruction v w → length (worded_octets w) ≡ jump_size shape
+jump_length : (v : List ℕ) (shape : Shape) (w : Worded) → IsJump shape → has_one_shape shape v ≡ true → IsInstruction v w → length (worded_relocatables w) ≡ jump_size shape
 jump_length v shape w j h i =
     let s : (w.signed ≡ false) × (i.row.shape ≡ shape) = shape_of v shape w.opcode w.signed i.row h i.opcode i.is i.named in
-    ap (λ (os : List Octet). length os) (octets_are v w i) ∙ row_jump w i.row shape j s.0 s.1 i.operand i.three
+    ap (λ (os : List RelocatableByte). length os) (relocatables_are v w i) ∙ row_jump w i.row shape j s.0 s.1 i.operand i.three
 
 -- ---- lines
 
 listed_length : (word : List ℕ) (args : List Argument) (shape : Shape) (o : Option Worded) → instruction word args ≡ o → IsFound word args → IsJump shape → has_one_shape shape word ≡ true →
-    length (all_octets (listed o)) ≡ jump_size shape
+    length (all_relocatable_bytes (listed o)) ≡ jump_size shape
 listed_length word args shape None e f j h = absurd (cc (e, f.1))
-listed_length word args shape (Some w) e f j h = omega (arith, length-append (worded_octets w) [], jump_length word shape w j h (instruction_found word args w e))
+listed_length word args shape (Some w) e f j h = omega (arith, length-append (worded_relocatables w) [], jump_length word shape w j h (instruction_found word args w e))
 
-line_length : (word : List ℕ) (args : List Argument) (shape : Shape) → IsFound word args → IsJump shape → has_one_shape shape word ≡ true → length (all_octets (listed (instruction word args))) ≡ jump_size shape
+line_length : (word : List ℕ) (args : List Argument) (shape : Shape) → IsFound word args → IsJump shape → has_one_shape shape word ≡ true → length (all_relocatable_bytes (listed (instruction word args))) ≡ jump_size shape
 line_length word args shape f j h = listed_length word args shape (instruction word args) refl f j h
 
-pub lines-octets : (word : List ℕ) (args : List Argument) (ls : List Line) → length (all_octets (all_lines (line word args ∷ ls))) ≡ length (all_octets (listed (instruction word args))) + length (all_octets (all_lines ls))
-lines-octets word args ls = ap (λ (os : List Octet). length os) (listed-octets (instruction word args) (all_lines ls)) ∙ length-append (all_octets (listed (instruction word args))) (all_octets (all_lines ls))
+pub lines-relocatable_bytes : (word : List ℕ) (args : List Argument) (ls : List Line) → length (all_relocatable_bytes (all_lines (line word args ∷ ls))) ≡ length (all_relocatable_bytes (listed (instruction word args))) + length (all_relocatable_bytes (all_lines ls))
+lines-relocatable_bytes word args ls = ap (λ (os : List RelocatableByte). length os) (listed-relocatable_bytes (instruction word args) (all_lines ls)) ∙ length-append (all_relocatable_bytes (listed (instruction word args))) (all_relocatable_bytes (all_lines ls))
 
-one_line : (word : List ℕ) (args : List Argument) (shape : Shape) → IsFound word args → IsJump shape → has_one_shape shape word ≡ true → length (all_octets (all_lines (line word args ∷ []))) ≡ jump_size shape
-one_line word args shape f j h = omega (arith, lines-octets word args [], line_length word args shape f j h)
+one_line : (word : List ℕ) (args : List Argument) (shape : Shape) → IsFound word args → IsJump shape → has_one_shape shape word ≡ true → length (all_relocatable_bytes (all_lines (line word args ∷ []))) ≡ jump_size shape
+one_line word args shape f j h = omega (arith, lines-relocatable_bytes word args [], line_length word args shape f j h)
 
 two_lines : (word second : List ℕ) (args rest : List Argument) (a b : Shape) → IsFound word args → IsFound second rest → IsJump a → IsJump b → has_one_shape a word ≡ true → has_one_shape b second ≡ true →
-    length (all_octets (all_lines (line word args ∷ line second rest ∷ []))) ≡ jump_size a + jump_size b
-two_lines word second args rest a b f g i j h k = omega (arith, lines-octets word args (line second rest ∷ []), line_length word args a f i h, one_line second rest b g j k)
+    length (all_relocatable_bytes (all_lines (line word args ∷ line second rest ∷ []))) ≡ jump_size a + jump_size b
+two_lines word second args rest a b f g i j h k = omega (arith, lines-relocatable_bytes word args (line second rest ∷ []), line_length word args a f i h, one_line second rest b g j k)
 
 pub sjmp : has_one_shape shapes.Near (codes "SJMP") ≡ true
 sjmp = one_of (has_one_shape shapes.Near) Rows.near_words (codes "SJMP") Rows.near_shape refl
@@ -172,7 +172,7 @@ pub inverse_test_shape : (w : List ℕ) (h : IsWordOf BitTest w) → has_one_sha
 inverse_test_shape w h = (both (has_rows shapes.BitTest Bits (inverse_of w)) _ (both _ _ (test_rows w h)).1).1
 
 pub branch_size : (kind : BranchKind) (w : List ℕ) (args : List Argument) (form : Form) (here : Value) → IsWordOf kind w → AllFound (branch_lines kind w args form here) →
-    length (all_octets (all_lines (branch_lines kind w args form here))) ≡ branch_length kind form
+    length (all_relocatable_bytes (all_lines (branch_lines kind w args form here))) ≡ branch_length kind form
 branch_size Jump w args First here h f = one_line (codes "SJMP") (argument args 0 ∷ []) shapes.Near f.0 tt sjmp
 branch_size Jump w args Second here h f = one_line (codes "LJMP") (argument args 0 ∷ []) shapes.Far f.0 tt ljmp
 branch_size Jump w args Third here h f = one_line (codes "LJMP") (argument args 0 ∷ []) shapes.Far f.0 tt ljmp
@@ -190,9 +190,9 @@ in_full_is : (word : List ℕ) (args : List Argument) (form : Form) (here : Valu
 in_full_is word args form here kind e = rw (e, in_full) refl
 
 pub branches_have_lengths : (word : List ℕ) (args : List Argument) (form : Form) (here : Value) (kind : BranchKind) → branch_kind word args ≡ Some kind →
-    length (all_octets (instructions word args form here)) ≡ branch_length kind form
+    length (all_relocatable_bytes (instructions word args form here)) ≡ branch_length kind form
 unfolding instructions
 branches_have_lengths word args form here kind e =
     let h : IsWordOf kind word = branch_word word args kind e in
-    ap (λ (ls : List Line). length (all_octets (all_lines ls))) (in_full_is word args form here kind e) ∙
+    ap (λ (ls : List Line). length (all_relocatable_bytes (all_lines ls))) (in_full_is word args form here kind e) ∙
     branch_size kind word args form here h (branch_found kind word args form here h)

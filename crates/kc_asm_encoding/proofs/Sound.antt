@@ -17,18 +17,18 @@ use Rattle.kc_isa.specs.Formed.{is_byte, is_formed, row_fits, operand_fits, rest
 use Rattle.kc_code.specs.Spelling.{prefix, is_in_range, is_within, operand_in_range}
 use Rattle.kc_code.specs.Ranges.{OperandHas}
 use Rattle.kc_obj_relocation.specs.Numbers.{Bases, distance, number, fits}
-use Rattle.kc_asm_bytes.specs.declared.octet.Octet.{Octet}
-use Rattle.kc_asm_bytes.specs.declared.octet.Octet.TheVariants.{Plain, First}
+use Rattle.kc_asm_bytes.specs.declared.relocatable_byte.RelocatableByte.{RelocatableByte}
+use Rattle.kc_asm_bytes.specs.declared.relocatable_byte.RelocatableByte.TheVariants.{Plain, First}
 use Rattle.kc_asm_bytes.specs.Filling.{base_address, address}
 use Rattle.kc_asm_operation.specs.declared.word.Word.{Word}
 use Rattle.kc_asm_operation.specs.declared.word.Word.TheVariants.{Absent, Register, Immediate, Indirect, Increment, Short, Long, Count, Jump}
 use Rattle.kc_asm_operation.specs.declared.word.Worded.{Worded}
 use Rattle.kc_asm_operation.specs.Instructions.{no_regs}
 use Rattle.kc_asm_encoding.specs.Words.{operand_of, insn_of}
-use Rattle.kc_asm_encoding.specs.Octets.{operand_octets, opcode_octet, laid_octets, row_octets, worded_octets}
+use Rattle.kc_asm_encoding.specs.RelocatableBytes.{operand_relocatables, opcode_relocatable, laid_relocatables, row_relocatables, worded_relocatables}
 use Rattle.kc_asm_encoding.specs.Suits.{operand_suits, FitsAt, AllFit, IsEven, HasWords, IsInstruction, IsSettled, IsSound}
-use Rattle.kc_asm_encoding.proofs.Fills.{fit-front, fit-behind, distance-small, IsNext, IsOver}
-use Rattle.kc_asm_encoding.proofs.Spelled.{JumpLast, jump_last, jump_next, jump_over, front_octets, back_octets, octets_are}
+use Rattle.kc_asm_encoding.proofs.Fills.{fit-beginning, fit-behind, distance-small, IsNext, IsOver}
+use Rattle.kc_asm_encoding.proofs.Spelled.{JumpLast, jump_last, jump_next, jump_over, beginning_relocatables, back_relocatables, relocatables_are}
 use Rattle.std.proofs.lemmas.Bool.Decides.{Decides-eqb}
 use Rattle.std.specs.Prelude.{◌==◌}
 
@@ -49,13 +49,13 @@ byte-test : (n : ℕ) → fits 1 n ≡ true → nat_lt n 256 ≡ true
 unfolding fits
 byte-test n h = h
 
-immediate_formed : (b : Bases) (opcode : ℕ) (byte : Bool) (v : Value) (a : ℕ) → (opcode % 4 == 1) ≡ true → AllFit b a (operand_octets Mode byte (Immediate v)) →
+immediate_formed : (b : Bases) (opcode : ℕ) (byte : Bool) (v : Value) (a : ℕ) → (opcode % 4 == 1) ≡ true → AllFit b a (operand_relocatables Mode byte (Immediate v)) →
     ((opcode % 4 == 1) && (nat_lt (address b v) 256 || not byte)) ≡ true
 unfolding number
 immediate_formed b opcode true v a s h = join _ _ s (or-left _ _ (byte-test (address b v) h.0))
 immediate_formed b opcode false v a s h = join _ _ s (or-true (nat_lt (address b v) 256))
 
-operand_formed : (b : Bases) (form : Form) (opcode : ℕ) (byte : Bool) (w : Word) (a next : ℕ) → operand_suits form opcode w ≡ true → AllFit b a (operand_octets form byte w) → IsEven b w →
+operand_formed : (b : Bases) (form : Form) (opcode : ℕ) (byte : Bool) (w : Word) (a next : ℕ) → operand_suits form opcode w ≡ true → AllFit b a (operand_relocatables form byte w) → IsEven b w →
     operand_fits form opcode byte (operand_of b next w) ≡ true
 unfolding number
 operand_formed b NoOperand opcode byte Absent a next s h even = refl
@@ -106,7 +106,7 @@ near_range : (b : Bases) (opcode : ℕ) (v : Value) (p next : ℕ) → p + 2 ≡
 unfolding number
 near_range b opcode v p next e h = subst (λ (n : ℕ). is_within (negsuc 1023) (pos 1023) (cast_signed w16 (distance (address b v) n)) ≡ true) e (within-11 (distance (address b v) (p + 2)) (distance-small (address b v) (p + 2)) h)
 
-operand_ranged : (b : Bases) (form : Form) (opcode : ℕ) (byte : Bool) (w : Word) (p a next : ℕ) → FitsAt b p (opcode_octet form opcode w) → AllFit b a (operand_octets form byte w) →
+operand_ranged : (b : Bases) (form : Form) (opcode : ℕ) (byte : Bool) (w : Word) (p a next : ℕ) → FitsAt b p (opcode_relocatable form opcode w) → AllFit b a (operand_relocatables form byte w) →
     IsOver form w p next → IsNext form w a next → operand_in_range form (operand_of b next w) ≡ true
 operand_ranged b Distance11 opcode byte (Jump v) p a next g h over last = near_range b opcode v p next over g
 operand_ranged b Distance8 opcode byte (Jump v) p a next g h over last = short_range b v a next last h.0
@@ -139,24 +139,24 @@ formed-row i row e h = rw (e, is_formed) h
 range-row : (i : Insn) (row : Shown) → row_at i.opcode i.signed ≡ Some row → operand_in_range (layout_of row.shape).form i.operand ≡ true → is_in_range i ≡ true
 range-row i row e h = rw (e, is_in_range) h
 
-sound_row : (b : Bases) (a : ℕ) (word : List ℕ) (w : Worded) (h : IsInstruction word w) → AllFit b a (row_octets w h.row) → IsEven b w.operand → HasWords w.operand →
-    IsSound (insn_of b (a + length (row_octets w h.row)) w)
+sound_row : (b : Bases) (a : ℕ) (word : List ℕ) (w : Worded) (h : IsInstruction word w) → AllFit b a (row_relocatables w h.row) → IsEven b w.operand → HasWords w.operand →
+    IsSound (insn_of b (a + length (row_relocatables w h.row)) w)
 sound_row b a word w h fit even words =
     let row : Shown = h.row in
     let l : Layout = layout_of row.shape in
-    let P : List Octet = map Plain (prefix w.signed) in
+    let P : List RelocatableByte = map Plain (prefix w.signed) in
     let byte : Bool = is_byte row.width in
-    let L : List Octet = laid_octets l byte w in
-    let F : List Octet = front_octets l w in
-    let O : List Octet = operand_octets l.form byte w.operand in
-    let B : List Octet = back_octets l w in
-    let o : Octet = opcode_octet l.form w.opcode w.operand in
+    let L : List RelocatableByte = laid_relocatables l byte w in
+    let F : List RelocatableByte = beginning_relocatables l w in
+    let O : List RelocatableByte = operand_relocatables l.form byte w.operand in
+    let B : List RelocatableByte = back_relocatables l w in
+    let o : RelocatableByte = opcode_relocatable l.form w.opcode w.operand in
     let p : ℕ = a + length P in
     let n : ℕ = (p + 1) + length L in
-    let e : n ≡ a + length (row_octets w row) = omega (arith, length-append P (o ∷ L)) in
+    let e : n ≡ a + length (row_relocatables w row) = omega (arith, length-append P (o ∷ L)) in
     let opened : AllFit b p (o ∷ L) = fit-behind b a P (o ∷ L) fit in
     let inside : AllFit b ((p + 1) + length F) (O ++ B) = fit-behind b (p + 1) F (O ++ B) opened.1 in
-    let at_operand : AllFit b ((p + 1) + length F) O = fit-front b ((p + 1) + length F) O B inside in
+    let at_operand : AllFit b ((p + 1) + length F) O = fit-beginning b ((p + 1) + length F) O B inside in
     let last : JumpLast l w.operand = jump_last row.shape w.opcode w.operand h.operand in
     let over : IsOver l.form w.operand p n = jump_over l.before l.after l.form byte w.opcode w.signed w.operand w.regs p last in
     let next : IsNext l.form w.operand ((p + 1) + length F) n = jump_next l byte w.opcode w.signed w.operand w.regs (p + 1) last in
@@ -167,8 +167,8 @@ sound_row b a word w h fit even words =
       has = record { operand = operand_has b w.operand n words; three = length-map w.regs (address b) ∙ h.three; opcode = h.opcode };
     })
 
-pub settled_is_sound : (b : Bases) (a : ℕ) (word : List ℕ) (w : Worded) → IsInstruction word w → IsSettled b a w → IsSound (insn_of b (a + length (worded_octets w)) w)
+pub settled_is_sound : (b : Bases) (a : ℕ) (word : List ℕ) (w : Worded) → IsInstruction word w → IsSettled b a w → IsSound (insn_of b (a + length (worded_relocatables w)) w)
 settled_is_sound b a word w h s =
-    let e : worded_octets w ≡ row_octets w h.row = octets_are word w h in
-    subst (λ (os : List Octet). IsSound (insn_of b (a + length os) w)) (sym e)
-    (sound_row b a word w h (subst (λ (os : List Octet). AllFit b a os) e s.fit) s.even s.words)
+    let e : worded_relocatables w ≡ row_relocatables w h.row = relocatables_are word w h in
+    subst (λ (os : List RelocatableByte). IsSound (insn_of b (a + length os) w)) (sym e)
+    (sound_row b a word w h (subst (λ (os : List RelocatableByte). AllFit b a os) e s.fit) s.even s.words)

@@ -12,16 +12,16 @@ use Rattle.kc_isa.specs.Layout.{layout_of}
 use Rattle.kc_isa.specs.Formed.{is_byte}
 use Rattle.kc_code.specs.Spelling.{prefix, laid_bytes, row_spelling, spelling}
 use Rattle.kc_obj_relocation.specs.Numbers.{Bases}
-use Rattle.kc_asm_bytes.specs.declared.octet.Octet.{Octet}
-use Rattle.kc_asm_bytes.specs.declared.octet.Octet.TheVariants.{Plain}
+use Rattle.kc_asm_bytes.specs.declared.relocatable_byte.RelocatableByte.{RelocatableByte}
+use Rattle.kc_asm_bytes.specs.declared.relocatable_byte.RelocatableByte.TheVariants.{Plain}
 use Rattle.kc_asm_bytes.specs.Filling.{address, filled}
 use Rattle.kc_asm_operation.specs.declared.word.Word.{Word}
 use Rattle.kc_asm_operation.specs.declared.word.Word.TheVariants.{Absent, Register, Immediate, Indirect, Increment, Short, Long, Count, Jump}
 use Rattle.kc_asm_operation.specs.declared.word.Worded.{Worded}
 use Rattle.kc_asm_encoding.specs.Words.{insn_of}
-use Rattle.kc_asm_encoding.specs.Octets.{byte_of, jump_octets, operand_octets, opcode_octet, laid_octets, row_octets, worded_octets}
+use Rattle.kc_asm_encoding.specs.RelocatableBytes.{byte_of, jump_relocatables, operand_relocatables, opcode_relocatable, laid_relocatables, row_relocatables, worded_relocatables}
 use Rattle.kc_asm_encoding.specs.Suits.{operand_suits, AllFit, IsInstruction, IsSettled, IsEven, HasWords}
-use Rattle.kc_asm_encoding.proofs.Fills.{filled-append, fit-front, fit-behind, filled-plain, filled-bytes, jump_length, IsNext, operand_filled, IsOver, opcode_filled}
+use Rattle.kc_asm_encoding.proofs.Fills.{filled-append, fit-beginning, fit-behind, filled-plain, filled-bytes, jump_length, IsNext, operand_filled, IsOver, opcode_filled}
 
 -- what a layout has for a jump: nothing behind it, and nothing between the parts of 11 bits
 abbrev pub IsHigh : Form → ℕ → Type 0
@@ -61,76 +61,76 @@ jump_last shapes.TableJump opcode w h = jump_only NoOperand opcode 0 3 w h (λ v
 jump_last shapes.Far opcode w h = jump_only Distance16 opcode 0 0 w h (λ v e. (refl, tt))
 jump_last shapes.Key opcode w h = jump_only OneByte opcode 0 0 w h (λ v e. absurd (cc e))
 
-abbrev pub front_octets : Layout → Worded → List Octet
-front_octets l w = map byte_of (take l.before w.regs)
+abbrev pub beginning_relocatables : Layout → Worded → List RelocatableByte
+beginning_relocatables l w = map byte_of (take l.before w.regs)
 
-abbrev pub back_octets : Layout → Worded → List Octet
-back_octets l w = map byte_of (take l.after (drop l.before w.regs))
+abbrev pub back_relocatables : Layout → Worded → List RelocatableByte
+back_relocatables l w = map byte_of (take l.after (drop l.before w.regs))
 
-body_filled : (b : Bases) (l : Layout) (byte : Bool) (w : Worded) (a next : ℕ) → IsNext l.form w.operand (a + length (front_octets l w)) next →
-    AllFit b a (laid_octets l byte w) → IsEven b w.operand → HasWords w.operand →
-    filled b a (laid_octets l byte w) ≡ laid_bytes l byte (insn_of b next w)
+body_filled : (b : Bases) (l : Layout) (byte : Bool) (w : Worded) (a next : ℕ) → IsNext l.form w.operand (a + length (beginning_relocatables l w)) next →
+    AllFit b a (laid_relocatables l byte w) → IsEven b w.operand → HasWords w.operand →
+    filled b a (laid_relocatables l byte w) ≡ laid_bytes l byte (insn_of b next w)
 body_filled b l byte w a next e h even words =
-    let F : List Octet = front_octets l w in
-    let O : List Octet = operand_octets l.form byte w.operand in
-    let B : List Octet = back_octets l w in
+    let F : List RelocatableByte = beginning_relocatables l w in
+    let O : List RelocatableByte = operand_relocatables l.form byte w.operand in
+    let B : List RelocatableByte = back_relocatables l w in
     let behind : AllFit b (a + length F) (O ++ B) = fit-behind b a F (O ++ B) h in
     rw (filled-append b F (O ++ B) a)
     (rw (filled-append b O B (a + length F))
-    (rw (filled-bytes b (take l.before w.regs) a (fit-front b a F (O ++ B) h))
+    (rw (filled-bytes b (take l.before w.regs) a (fit-beginning b a F (O ++ B) h))
     (rw (filled-bytes b (take l.after (drop l.before w.regs)) (a + length F + length O) (fit-behind b (a + length F) O B behind))
-    (rw (operand_filled b l.form byte w.operand (a + length F) next e (fit-front b (a + length F) O B behind) even words)
+    (rw (operand_filled b l.form byte w.operand (a + length F) next e (fit-beginning b (a + length F) O B behind) even words)
     (rw (drop-map (address b) l.before w.regs, take-map (address b) l.before w.regs, take-map (address b) l.after (drop l.before w.regs)) refl)))))
 
-jump-length : (form : Form) (v : Value) → length (jump_octets form v) ≡ jump_length form
+jump-length : (form : Form) (v : Value) → length (jump_relocatables form v) ≡ jump_length form
 jump-length Distance16 v = refl
 jump-length form v = refl
 
 pub jump_next : (l : Layout) (byte : Bool) (opcode : ℕ) (signed : Bool) (o : Word) (regs : List Value) (a : ℕ) → JumpLast l o →
     let w : Worded = record { opcode = opcode; signed = signed; operand = o; regs = regs } in
-    IsNext l.form o (a + length (front_octets l w)) (a + length (laid_octets l byte w))
+    IsNext l.form o (a + length (beginning_relocatables l w)) (a + length (laid_relocatables l byte w))
 jump_next l byte opcode signed (Jump v) regs a h =
-    let B : List Octet = map byte_of (take l.before regs) in
-    let A : List Octet = map byte_of (take l.after (drop l.before regs)) in
+    let B : List RelocatableByte = map byte_of (take l.before regs) in
+    let A : List RelocatableByte = map byte_of (take l.after (drop l.before regs)) in
     let z : length A ≡ 0 = rw h.0 refl in
-    omega (arith, length-append B (jump_octets l.form v ++ A), length-append (jump_octets l.form v) A, jump-length l.form v, z)
+    omega (arith, length-append B (jump_relocatables l.form v ++ A), length-append (jump_relocatables l.form v) A, jump-length l.form v, z)
 jump_next l byte opcode signed o regs a h = tt
 
 pub jump_over : (before after : ℕ) (form : Form) (byte : Bool) (opcode : ℕ) (signed : Bool) (o : Word) (regs : List Value) (a : ℕ) →
     let l : Layout = record { before = before; form = form; after = after } in
     JumpLast l o →
     let w : Worded = record { opcode = opcode; signed = signed; operand = o; regs = regs } in
-    IsOver form o a ((a + 1) + length (laid_octets l byte w))
+    IsOver form o a ((a + 1) + length (laid_relocatables l byte w))
 jump_over before after Distance11 byte opcode signed (Jump v) regs a h = rw (h.0, h.1) (omega arith)
 jump_over before after Distance11 byte opcode signed o regs a h = tt
 jump_over before after form byte opcode signed o regs a h = tt
 
 -- the filled bytes of an instruction with a row
-row_filled : (b : Bases) (w : Worded) (row : Shown) (a : ℕ) → JumpLast (layout_of row.shape) w.operand → AllFit b a (row_octets w row) → IsEven b w.operand → HasWords w.operand →
-    filled b a (row_octets w row) ≡ row_spelling (insn_of b (a + length (row_octets w row)) w) row
+row_filled : (b : Bases) (w : Worded) (row : Shown) (a : ℕ) → JumpLast (layout_of row.shape) w.operand → AllFit b a (row_relocatables w row) → IsEven b w.operand → HasWords w.operand →
+    filled b a (row_relocatables w row) ≡ row_spelling (insn_of b (a + length (row_relocatables w row)) w) row
 unfolding filled
 row_filled b w row a h fit even words =
     let l : Layout = layout_of row.shape in
-    let P : List Octet = map Plain (prefix w.signed) in
-    let L : List Octet = laid_octets l (is_byte row.width) w in
-    let o : Octet = opcode_octet l.form w.opcode w.operand in
+    let P : List RelocatableByte = map Plain (prefix w.signed) in
+    let L : List RelocatableByte = laid_relocatables l (is_byte row.width) w in
+    let o : RelocatableByte = opcode_relocatable l.form w.opcode w.operand in
     let p : ℕ = a + length P in
     let n : ℕ = (p + 1) + length L in
-    let e : n ≡ a + length (row_octets w row) = omega (arith, length-append P (o ∷ L)) in
+    let e : n ≡ a + length (row_relocatables w row) = omega (arith, length-append P (o ∷ L)) in
     let body : AllFit b (p + 1) L = (fit-behind b a P (o ∷ L) fit).1 in
-    subst (λ (m : ℕ). filled b a (row_octets w row) ≡ row_spelling (insn_of b m w) row) e
+    subst (λ (m : ℕ). filled b a (row_relocatables w row) ≡ row_spelling (insn_of b m w) row) e
     (rw (filled-append b P (o ∷ L) a)
     (rw (filled-plain b (prefix w.signed) a)
     (rw (opcode_filled b l.form w.opcode w.operand p n (jump_over l.before l.after l.form (is_byte row.width) w.opcode w.signed w.operand w.regs p h))
     (rw (body_filled b l (is_byte row.width) w (p + 1) n (jump_next l (is_byte row.width) w.opcode w.signed w.operand w.regs (p + 1) h) body even words) refl))))
 
-pub octets_are : (word : List ℕ) (w : Worded) (h : IsInstruction word w) → worded_octets w ≡ row_octets w h.row
-octets_are word w h = rw (h.is, worded_octets) refl
+pub relocatables_are : (word : List ℕ) (w : Worded) (h : IsInstruction word w) → worded_relocatables w ≡ row_relocatables w h.row
+relocatables_are word w h = rw (h.is, worded_relocatables) refl
 
-pub filled_is_spelled : (b : Bases) (a : ℕ) (word : List ℕ) (w : Worded) → IsInstruction word w → IsSettled b a w → filled b a (worded_octets w) ≡ spelling (insn_of b (a + length (worded_octets w)) w)
+pub filled_is_spelled : (b : Bases) (a : ℕ) (word : List ℕ) (w : Worded) → IsInstruction word w → IsSettled b a w → filled b a (worded_relocatables w) ≡ spelling (insn_of b (a + length (worded_relocatables w)) w)
 filled_is_spelled b a word w h s =
-    let e : worded_octets w ≡ row_octets w h.row = octets_are word w h in
-    let fit : AllFit b a (row_octets w h.row) = subst (λ (os : List Octet). AllFit b a os) e s.fit in
-    let f : filled b a (row_octets w h.row) ≡ row_spelling (insn_of b (a + length (row_octets w h.row)) w) h.row = row_filled b w h.row a (jump_last h.row.shape w.opcode w.operand h.operand) fit s.even s.words in
-    let g : spelling (insn_of b (a + length (row_octets w h.row)) w) ≡ row_spelling (insn_of b (a + length (row_octets w h.row)) w) h.row = rw (h.is, spelling) refl in
-    subst (λ (os : List Octet). filled b a os ≡ spelling (insn_of b (a + length os) w)) (sym e) (f ∙ sym g)
+    let e : worded_relocatables w ≡ row_relocatables w h.row = relocatables_are word w h in
+    let fit : AllFit b a (row_relocatables w h.row) = subst (λ (os : List RelocatableByte). AllFit b a os) e s.fit in
+    let f : filled b a (row_relocatables w h.row) ≡ row_spelling (insn_of b (a + length (row_relocatables w h.row)) w) h.row = row_filled b w h.row a (jump_last h.row.shape w.opcode w.operand h.operand) fit s.even s.words in
+    let g : spelling (insn_of b (a + length (row_relocatables w h.row)) w) ≡ row_spelling (insn_of b (a + length (row_relocatables w h.row)) w) h.row = rw (h.is, spelling) refl in
+    subst (λ (os : List RelocatableByte). filled b a os ≡ spelling (insn_of b (a + length os) w)) (sym e) (f ∙ sym g)

@@ -17,8 +17,8 @@ use Rattle.kc_isa.specs.Names.{Shown, row_at}
 use Rattle.kc_isa.specs.Layout.{layout_of}
 use Rattle.kc_isa.specs.Formed.{is_byte}
 use Rattle.kc_code.specs.Spelling.{prefix}
-use Rattle.kc_asm_bytes.specs.declared.octet.Octet.{Octet}
-use Rattle.kc_asm_bytes.specs.declared.octet.Octet.TheVariants as octets
+use Rattle.kc_asm_bytes.specs.declared.relocatable_byte.RelocatableByte.{RelocatableByte}
+use Rattle.kc_asm_bytes.specs.declared.relocatable_byte.RelocatableByte.TheVariants as relocatable_bytes
 use Rattle.kc_asm_operation.specs.declared.argument.Argument.{Argument}
 use Rattle.kc_asm_operation.specs.declared.argument.Argument.TheVariants.{Plain, Immediate, Indirect, Increment, Indexed}
 use Rattle.kc_branch.specs.declared.piece.Form.{Form as BranchForm}
@@ -32,12 +32,12 @@ use Rattle.kc_asm_operation.specs.Sources.{mode, plain_source, indexed_source, s
 use Rattle.kc_asm_operation.specs.Opcodes.{wanted_bits, is_row_for, is_opcode_for, opcode_of}
 use Rattle.kc_asm_operation.specs.Branches.{Line, line, plain_branch, branch_kind, in_full}
 use Rattle.kc_asm_operation.specs.Instructions.{operand_for, regs_for, laid, signed_instruction, instruction, listed, all_lines, instructions}
-use Rattle.kc_asm_encoding.specs.Octets.{byte_of, operand_octets, opcode_octet, laid_octets, row_octets, worded_octets, all_octets}
+use Rattle.kc_asm_encoding.specs.RelocatableBytes.{byte_of, operand_relocatables, opcode_relocatable, laid_relocatables, row_relocatables, worded_relocatables, all_relocatable_bytes}
 use Rattle.kc_asm_encoding.specs.Blurred.{blurred_value, blurred}
 use Rattle.kc_asm_encoding.proofs.Search.{opcode-alike}
 use Rattle.kc_asm_encoding.proofs.Found.{three_for}
 use Rattle.kc_asm_encoding.proofs.Exists.{plain_is, behind_plain, signed_is}
-use Rattle.kc_asm_encoding.proofs.Lengths.{lines-octets, branches_have_lengths}
+use Rattle.kc_asm_encoding.proofs.Lengths.{lines-relocatable_bytes, branches_have_lengths}
 
 -- ---- what an operand without its number tells
 
@@ -117,7 +117,7 @@ opcodes_same word args signed = opcode-alike word (map blurred args) args signed
 -- ---- the bytes of an operand
 
 AreAsLong : Word → Word → Type 0
-AreAsLong a b = (form : Form) (byte : Bool) → length (operand_octets form byte a) ≡ length (operand_octets form byte b)
+AreAsLong a b = (form : Form) (byte : Bool) → length (operand_relocatables form byte a) ≡ length (operand_relocatables form byte b)
 
 immediate_same : (v w : Value) → AreAsLong (words.Immediate v) (words.Immediate w)
 unfolding AreAsLong
@@ -178,22 +178,22 @@ taken n xs ys e = omega (arith, length-map (take n xs) byte_of, length-map (take
 behind : (m n : ℕ) (xs ys : List Value) → length xs ≡ length ys → length (map byte_of (take n (drop m xs))) ≡ length (map byte_of (take n (drop m ys)))
 behind m n xs ys e = taken n (drop m xs) (drop m ys) (omega (arith, length-drop m xs, length-drop m ys))
 
-abbrev pub parts : Layout → Bool → ℕ → Bool → Word → List Value → List Octet
-parts l byte opcode signed o regs = let w : Worded = record { opcode = opcode; signed = signed; operand = o; regs = regs } in laid_octets l byte w
+abbrev pub parts : Layout → Bool → ℕ → Bool → Word → List Value → List RelocatableByte
+parts l byte opcode signed o regs = let w : Worded = record { opcode = opcode; signed = signed; operand = o; regs = regs } in laid_relocatables l byte w
 
 pub parts_length : (l : Layout) (byte : Bool) (opcode : ℕ) (signed : Bool) (o : Word) (regs : List Value) →
-    length (parts l byte opcode signed o regs) ≡ length (map byte_of (take l.before regs)) + (length (operand_octets l.form byte o) + length (map byte_of (take l.after (drop l.before regs))))
+    length (parts l byte opcode signed o regs) ≡ length (map byte_of (take l.before regs)) + (length (operand_relocatables l.form byte o) + length (map byte_of (take l.after (drop l.before regs))))
 parts_length l byte opcode signed o regs =
     omega (
       arith,
-      length-append (map byte_of (take l.before regs)) (operand_octets l.form byte o ++ map byte_of (take l.after (drop l.before regs))),
-      length-append (operand_octets l.form byte o) (map byte_of (take l.after (drop l.before regs))),
+      length-append (map byte_of (take l.before regs)) (operand_relocatables l.form byte o ++ map byte_of (take l.after (drop l.before regs))),
+      length-append (operand_relocatables l.form byte o) (map byte_of (take l.after (drop l.before regs))),
     )
 
-pub row_length : (w : Worded) (row : Shown) → length (row_octets w row) ≡ length (map octets.Plain (prefix w.signed)) + (1 + length (laid_octets (layout_of row.shape) (is_byte row.width) w))
-row_length w row = omega (arith, length-append (map octets.Plain (prefix w.signed)) (opcode_octet (layout_of row.shape).form w.opcode w.operand ∷ laid_octets (layout_of row.shape) (is_byte row.width) w))
+pub row_length : (w : Worded) (row : Shown) → length (row_relocatables w row) ≡ length (map relocatable_bytes.Plain (prefix w.signed)) + (1 + length (laid_relocatables (layout_of row.shape) (is_byte row.width) w))
+row_length w row = omega (arith, length-append (map relocatable_bytes.Plain (prefix w.signed)) (opcode_relocatable (layout_of row.shape).form w.opcode w.operand ∷ laid_relocatables (layout_of row.shape) (is_byte row.width) w))
 
-laid_same : (opcode : ℕ) (signed : Bool) (args : List Argument) (row : Shown) → length (row_octets (laid opcode signed (map blurred args) row.shape) row) ≡ length (row_octets (laid opcode signed args row.shape) row)
+laid_same : (opcode : ℕ) (signed : Bool) (args : List Argument) (row : Shown) → length (row_relocatables (laid opcode signed (map blurred args) row.shape) row) ≡ length (row_relocatables (laid opcode signed args row.shape) row)
 unfolding AreAsLong
 laid_same opcode signed args row =
     let l : Layout = layout_of row.shape in
@@ -214,22 +214,22 @@ laid_same opcode signed args row =
       operand_same row.shape args l.form byte,
     )
 
-worded_is : (w : Worded) (row : Shown) → row_at w.opcode w.signed ≡ Some row → worded_octets w ≡ row_octets w row
-worded_is w row e = rw (e, worded_octets) refl
+worded_is : (w : Worded) (row : Shown) → row_at w.opcode w.signed ≡ Some row → worded_relocatables w ≡ row_relocatables w row
+worded_is w row e = rw (e, worded_relocatables) refl
 
-pub single_length : (w : Worded) → length (all_octets (w ∷ [])) ≡ length (worded_octets w)
-single_length w = omega (arith, length-append (worded_octets w) [])
+pub single_length : (w : Worded) → length (all_relocatable_bytes (w ∷ [])) ≡ length (worded_relocatables w)
+single_length w = omega (arith, length-append (worded_relocatables w) [])
 
 at_row : (opcode : ℕ) (signed : Bool) (args : List Argument) (r : Option Shown) → row_at opcode signed ≡ r →
-    length (all_octets (listed (option_map (λ (row : Shown). laid opcode signed (map blurred args) row.shape) r))) ≡ length (all_octets (listed (option_map (λ (row : Shown). laid opcode signed args row.shape) r)))
+    length (all_relocatable_bytes (listed (option_map (λ (row : Shown). laid opcode signed (map blurred args) row.shape) r))) ≡ length (all_relocatable_bytes (listed (option_map (λ (row : Shown). laid opcode signed args row.shape) r)))
 at_row opcode signed args None e = refl
 at_row opcode signed args (Some row) e =
     let v : Worded = laid opcode signed (map blurred args) row.shape in
     let w : Worded = laid opcode signed args row.shape in
-    single_length v ∙ (ap (λ (os : List Octet). length os) (worded_is v row e) ∙ (laid_same opcode signed args row ∙ (sym (ap (λ (os : List Octet). length os) (worded_is w row e)) ∙ sym (single_length w))))
+    single_length v ∙ (ap (λ (os : List RelocatableByte). length os) (worded_is v row e) ∙ (laid_same opcode signed args row ∙ (sym (ap (λ (os : List RelocatableByte). length os) (worded_is w row e)) ∙ sym (single_length w))))
 
 abbrev pub size : Option Worded → ℕ
-size o = length (all_octets (listed o))
+size o = length (all_relocatable_bytes (listed o))
 
 signed_at : (word : List ℕ) (args : List Argument) (o : Option ℕ) → opcode_of word args true ≡ o → size (signed_instruction word (map blurred args)) ≡ size (signed_instruction word args)
 signed_at word args None e =
@@ -275,22 +275,22 @@ kind_same word args = rw (branch_args args) refl
 plain_full : (word : List ℕ) (args : List Argument) (form : BranchForm) (here : Value) → branch_kind word args ≡ None → in_full word args form here ≡ line word args ∷ []
 plain_full word args form here e = rw (e, in_full) refl
 
-pub plain_size : (word : List ℕ) (args : List Argument) (form : BranchForm) (here : Value) → branch_kind word args ≡ None → length (all_octets (instructions word args form here)) ≡ size (instruction word args)
+pub plain_size : (word : List ℕ) (args : List Argument) (form : BranchForm) (here : Value) → branch_kind word args ≡ None → length (all_relocatable_bytes (instructions word args form here)) ≡ size (instruction word args)
 unfolding instructions
 plain_size word args form here e =
-    ap (λ (ls : List Line). length (all_octets (all_lines ls))) (plain_full word args form here e) ∙ omega (arith, lines-octets word args [])
+    ap (λ (ls : List Line). length (all_relocatable_bytes (all_lines ls))) (plain_full word args form here e) ∙ omega (arith, lines-relocatable_bytes word args [])
 
 length_at : (word : List ℕ) (args : List Argument) (form : BranchForm) (here there : Value) (k : Option BranchKind) → branch_kind word args ≡ k →
-    length (all_octets (instructions word args form here)) ≡ length (all_octets (instructions word (map blurred args) form there))
+    length (all_relocatable_bytes (instructions word args form here)) ≡ length (all_relocatable_bytes (instructions word (map blurred args) form there))
 length_at word args form here there None e =
     plain_size word args form here e ∙ (sym (instruction_same word args) ∙ sym (plain_size word (map blurred args) form there (kind_same word args ∙ e)))
 length_at word args form here there (Some kind) e =
     branches_have_lengths word args form here kind e ∙ sym (branches_have_lengths word (map blurred args) form there kind (kind_same word args ∙ e))
 
 pub length_stays : (word : List ℕ) (args : List Argument) (form : BranchForm) (here there : Value) →
-    length (all_octets (instructions word args form here)) ≡ length (all_octets (instructions word (map blurred args) form there))
+    length (all_relocatable_bytes (instructions word args form here)) ≡ length (all_relocatable_bytes (instructions word (map blurred args) form there))
 length_stays word args form here there = length_at word args form here there (branch_kind word args) refl
 
 pub length_anywhere : (word : List ℕ) (args : List Argument) (form : BranchForm) (here there : Value) →
-    length (all_octets (instructions word args form here)) ≡ length (all_octets (instructions word args form there))
+    length (all_relocatable_bytes (instructions word args form here)) ≡ length (all_relocatable_bytes (instructions word args form there))
 length_anywhere word args form here there = length_stays word args form here here ∙ sym (length_stays word args form there here)

@@ -14,7 +14,7 @@ use Rattle.kc_asm_operation.specs.Branches.{branch_kind, in_full}
 use Rattle.kc_asm_operation.specs.Instructions.{instructions}
 use Rattle.kc_asm_operation.specs.Faults.{fault_of}
 use Rattle.kc_asm_encoding.specs.Words.{insn_of}
-use Rattle.kc_asm_encoding.specs.Octets.{worded_octets, all_octets}
+use Rattle.kc_asm_encoding.specs.RelocatableBytes.{worded_relocatables, all_relocatable_bytes}
 use Rattle.kc_asm_encoding.specs.Suits.{IsInstruction, AreInstructions, IsSettled, IsSound, IsEven, HasWords, EachOf, AllWords}
 use Rattle.kc_asm_encoding.specs.Pairs.{IsPaired}
 use Rattle.kc_asm_encoding.specs.Blurred.{blurred}
@@ -22,12 +22,12 @@ use Rattle.kc_asm_encoding.specs.Blurred.{blurred}
 -- once the bases are known, the bytes of an instruction spell it
 abbrev pub FilledIsSpelled : Type 0
 FilledIsSpelled = (bases : Bases) (place : ℕ) (word : List ℕ) (w : Worded) → IsInstruction word w → IsSettled bases place w →
-    filled bases place (worded_octets w) ≡ spelling (insn_of bases (place + length (worded_octets w)) w)
+    filled bases place (worded_relocatables w) ≡ spelling (insn_of bases (place + length (worded_relocatables w)) w)
 
 -- and it is well formed
 abbrev pub SettledIsSound : Type 0
 SettledIsSound = (bases : Bases) (place : ℕ) (word : List ℕ) (w : Worded) → IsInstruction word w → IsSettled bases place w →
-    IsSound (insn_of bases (place + length (worded_octets w)) w)
+    IsSound (insn_of bases (place + length (worded_relocatables w)) w)
 
 -- an operation is written in full by instructions of the table
 abbrev pub OperationsAreInstructions : Type 0
@@ -37,16 +37,16 @@ OperationsAreInstructions = (word : List ℕ) (args : List Argument) (form : For
 -- how many bytes an operation has depends neither on its place nor on numbers that are not fixed
 abbrev pub LengthStays : Type 0
 LengthStays = (word : List ℕ) (args : List Argument) (form : Form) (here there : Value) →
-    length (all_octets (instructions word args form here)) ≡ length (all_octets (instructions word (map blurred args) form there))
+    length (all_relocatable_bytes (instructions word args form here)) ≡ length (all_relocatable_bytes (instructions word (map blurred args) form there))
 
 -- the length of a generic branch is told by its kind and form: an inverse jump leads behind the whole
 abbrev pub BranchesHaveLengths : Type 0
 BranchesHaveLengths = (word : List ℕ) (args : List Argument) (form : Form) (here : Value) (kind : BranchKind) →
-    branch_kind word args ≡ Some kind → length (all_octets (instructions word args form here)) ≡ branch_length kind form
+    branch_kind word args ≡ Some kind → length (all_relocatable_bytes (instructions word args form here)) ≡ branch_length kind form
 
 -- the bytes of a number stand together
-abbrev pub OctetsArePaired : Type 0
-OctetsArePaired = (word : List ℕ) (args : List Argument) (form : Form) (here : Value) → IsPaired (all_octets (instructions word args form here))
+abbrev pub RelocatableBytesArePaired : Type 0
+RelocatableBytesArePaired = (word : List ℕ) (args : List Argument) (form : Form) (here : Value) → IsPaired (all_relocatable_bytes (instructions word args form here))
 
 -- where the operands have no fault, the registers of pointers and indices are even: the bases of pieces are
 abbrev pub PointersAreEven : Type 0

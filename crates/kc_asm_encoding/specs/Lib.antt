@@ -1,5 +1,5 @@
 pub mod Words
-pub mod Octets
+pub mod RelocatableBytes
 pub mod Suits
 pub mod Pairs
 pub mod Blurred

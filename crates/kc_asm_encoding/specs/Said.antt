@@ -13,13 +13,13 @@ use Rattle.kc_asm_operation.specs.Takes.{is_operation}
 use Rattle.kc_asm_operation.specs.Instructions.{instructions}
 use Rattle.kc_asm_operation.specs.Faults.{fault_of}
 use Rattle.kc_asm_encoding.specs.Words.{insn_of}
-use Rattle.kc_asm_encoding.specs.Octets.{worded_octets, all_octets}
+use Rattle.kc_asm_encoding.specs.RelocatableBytes.{worded_relocatables, all_relocatable_bytes}
 use Rattle.kc_asm_encoding.specs.Suits.{AllFit, AllWords, IsSound}
 
 -- a distance counts from the address of the next instruction
 unfoldable pub said : Bases → ℕ → List Worded → List Insn
 said bases place [] = []
-said bases place (w ∷ ws) = let next = place + length (worded_octets w) in insn_of bases next w ∷ said bases next ws
+said bases place (w ∷ ws) = let next = place + length (worded_relocatables w) in insn_of bases next w ∷ said bases next ws
 
 abbrev pub AreSound : List Insn → Type 0
 AreSound [] = Unit {0}
@@ -27,11 +27,11 @@ AreSound (i ∷ is) = IsSound i × AreSound is
 
 -- the bytes from an address on spell the instructions, which are well formed
 pub record IsSaid (bases : Bases) (place : ℕ) (ws : List Worded) : Type 0 where
-  pub spelled : filled bases place (all_octets ws) ≡ flat_map spelling (said bases place ws)
+  pub spelled : filled bases place (all_relocatable_bytes ws) ≡ flat_map spelling (said bases place ws)
   pub sound : AreSound (said bases place ws)
 
 -- so it is with each operation whose operands have no fault and whose numbers fit their bytes
 abbrev pub OperationsAreSaid : Type 0
 OperationsAreSaid = (bases : Bases) (place : ℕ) (word : List ℕ) (args : List Argument) (form : Form) (here : Value) → is_operation word args ≡ true →
-    fault_of word args ≡ None → AllWords args → ((p : ℕ) → bases.piece p % 2 ≡ 0) → AllFit bases place (all_octets (instructions word args form here)) →
+    fault_of word args ≡ None → AllWords args → ((p : ℕ) → bases.piece p % 2 ≡ 0) → AllFit bases place (all_relocatable_bytes (instructions word args form here)) →
     IsSaid bases place (instructions word args form here)

@@ -11,8 +11,8 @@ use Rattle.kc_isa.specs.Formed.{is_formed}
 use Rattle.kc_code.specs.Spelling.{is_in_range}
 use Rattle.kc_code.specs.Ranges.{InsnHas}
 use Rattle.kc_obj_relocation.specs.Numbers.{Bases, number, reach, fits}
-use Rattle.kc_asm_bytes.specs.declared.octet.Octet.{Octet}
-use Rattle.kc_asm_bytes.specs.declared.octet.Octet.TheVariants as octets
+use Rattle.kc_asm_bytes.specs.declared.relocatable_byte.RelocatableByte.{RelocatableByte}
+use Rattle.kc_asm_bytes.specs.declared.relocatable_byte.RelocatableByte.TheVariants as relocatable_bytes
 use Rattle.kc_asm_bytes.specs.Filling.{address}
 use Rattle.kc_expr.specs.declared.values.Value.{Value}
 use Rattle.kc_asm_operation.specs.declared.argument.Argument.{Argument}
@@ -22,7 +22,7 @@ use Rattle.kc_asm_operation.specs.declared.word.Word.TheVariants.{Absent, Regist
 use Rattle.kc_asm_operation.specs.declared.word.Worded.{Worded}
 use Rattle.kc_asm_operation.specs.Branches.{Line}
 use Rattle.kc_asm_operation.specs.Instructions.{no_regs}
-use Rattle.kc_asm_encoding.specs.Octets.{worded_octets}
+use Rattle.kc_asm_encoding.specs.RelocatableBytes.{worded_relocatables}
 
 -- the operand S in the mode that the two low bits of the opcode choose
 abbrev pub mode_suits : ℕ → Word → Bool
@@ -62,12 +62,12 @@ AreInstructions (l ∷ ls) [] = ⊥
 AreInstructions (l ∷ ls) (w ∷ ws) = IsInstruction l.word w × AreInstructions ls ws
 
 -- the number of an octet fits its bytes
-abbrev pub FitsAt : Bases → ℕ → Octet → Type 0
-FitsAt bases place (octets.Plain b) = Unit {0}
-FitsAt bases place (octets.First kind start v) = fits kind (number kind (place + reach kind) (address bases v)) ≡ true
-FitsAt bases place (octets.Second kind v) = Unit {0}
+abbrev pub FitsAt : Bases → ℕ → RelocatableByte → Type 0
+FitsAt bases place (relocatable_bytes.Plain b) = Unit {0}
+FitsAt bases place (relocatable_bytes.First kind start v) = fits kind (number kind (place + reach kind) (address bases v)) ≡ true
+FitsAt bases place (relocatable_bytes.Second kind v) = Unit {0}
 
-abbrev pub AllFit : Bases → ℕ → List Octet → Type 0
+abbrev pub AllFit : Bases → ℕ → List RelocatableByte → Type 0
 AllFit bases place [] = Unit {0}
 AllFit bases place (o ∷ os) = FitsAt bases place o × AllFit bases (place + 1) os
 
@@ -93,7 +93,7 @@ HasWords (Jump v) = v.number < 65536
 
 -- under these bases the instruction that stands at a place can be spelled
 pub record IsSettled (bases : Bases) (place : ℕ) (w : Worded) : Type 0 where
-  pub fit : AllFit bases place (worded_octets w)
+  pub fit : AllFit bases place (worded_relocatables w)
   pub even : IsEven bases w.operand
   pub words : HasWords w.operand
 

@@ -1,5 +1,5 @@
 ghost use Rattle.kc_asm_encoding.specs.Said.{OperationsAreSaid};
-ghost use Rattle.kc_asm_encoding.specs.Laws.{BranchesHaveLengths, FilledIsSpelled, LengthStays, NumbersAreWords, OctetsArePaired, OperationsAreInstructions, PointersAreEven, SettledIsSound};
+ghost use Rattle.kc_asm_encoding.specs.Laws.{BranchesHaveLengths, FilledIsSpelled, LengthStays, NumbersAreWords, RelocatableBytesArePaired, OperationsAreInstructions, PointersAreEven, SettledIsSound};
 
 /// Once the bases are known, the bytes of an instruction spell it.
 pub fn filled_is_spelled()
@@ -7,8 +7,8 @@ pub fn filled_is_spelled()
 {}
 
 /// The two bytes of a number stand together.
-pub fn octets_are_paired()
-    ensures { OctetsArePaired }
+pub fn relocatables_are_paired()
+    ensures { RelocatableBytesArePaired }
 {}
 
 /// An instruction whose numbers fit their bytes is well formed under the bases.

@@ -2,6 +2,6 @@
 #![tactic(auto)]
 
 pub mod laws;
-pub mod octets;
+pub mod relocatable_bytes;
 
-pub use octets::{length, octets_of};
+pub use relocatable_bytes::{length, relocatables_of};

@@ -12,8 +12,8 @@ use Rattle.kc_expr.specs.declared.values.Value.{Value}
 use Rattle.kc_source_statement.specs.Trees.{ActionTree}
 use Rattle.kc_source_statement.specs.Trees as trees
 use Rattle.kc_asm_symbols.specs.declared.segments.Segment.{Segment}
-use Rattle.kc_asm_bytes.specs.declared.octet.Octet.{Octet}
-use Rattle.kc_asm_bytes.specs.declared.octet.Octet.TheVariants.{Plain as PlainOctet, First, Second}
+use Rattle.kc_asm_bytes.specs.declared.relocatable_byte.RelocatableByte.{RelocatableByte}
+use Rattle.kc_asm_bytes.specs.declared.relocatable_byte.RelocatableByte.TheVariants.{Plain as PlainRelocatableByte, First, Second}
 use Rattle.kc_asm_bytes.specs.Relocating.{misfit, misfit_code}
 use Rattle.kc_asm_operation.specs.declared.argument.Argument.{Argument}
 use Rattle.kc_asm_operation.specs.declared.argument.Argument.TheVariants.{Plain, Immediate, Indirect, Increment, Indexed}
@@ -21,10 +21,10 @@ use Rattle.kc_expr.specs.Meaning.{is_fixed}
 use Rattle.kc_asm_operation.specs.Values.{is_external, argument}
 use Rattle.kc_asm_operation.specs.Faults.{number_fault, pointer_fault, source_fault, count_fault, bit_fault, operands_fault, fault_of}
 use Rattle.kc_asm_emission.specs.Arguments.{Look, fixed_of}
-use Rattle.kc_asm_emission.specs.Content.{Content, Octets}
-use Rattle.kc_asm_outline.specs.declared.note.Body.{Body}
-use Rattle.kc_asm_layout.specs.declared.site.Site.{Site}
-use Rattle.kc_asm_check.specs.Codes.{when, counts_from_nothing, has_target, branch_faults, judged, misfits, content_faults, judges_jumps, octet_faults, goes_on, most_of, Regions, leaves, end_faults, is_below, back_faults, opening, is_outside, opening_faults, label_faults, goes_on_faults, place_faults, stack_after, stack_faults}
+use Rattle.kc_asm_emission.specs.Content.{Content, RelocatableBytes}
+use Rattle.kc_asm_outline.specs.declared.size_record.Body.{Body}
+use Rattle.kc_asm_layout.specs.declared.location.Location.{Location}
+use Rattle.kc_asm_check.specs.Codes.{when, counts_from_nothing, has_target, branch_faults, examined, misfits, content_faults, checks_jumps, relocatable_faults, goes_on, most_of, Regions, leaves, end_faults, is_below, back_faults, opening, is_outside, opening_faults, label_faults, goes_on_faults, place_faults, stack_after, stack_faults}
 use Rattle.kc_source_laws.proofs.Tests.{Holds, either, all_join}
 use Rattle.kc_asm_fault_laws.proofs.Others.{is_other, option_holds}
 
@@ -93,35 +93,35 @@ pub branch_other : (look : Look) (b : Body) (action : ActionTree) → AreOther (
 branch_other look b (trees.Operation word args) = when_other (counts_from_nothing b && has_target look args) 24 refl
 branch_other look b action = refl
 
-misfit_other : (at : Option ℕ) (piece place : ℕ) (o : Octet) → CodeIsOther (misfit at piece place o)
+misfit_other : (at : Option ℕ) (piece place : ℕ) (o : RelocatableByte) → CodeIsOther (misfit at piece place o)
 unfolding misfit
-misfit_other at piece place (PlainOctet b) = tt
+misfit_other at piece place (PlainRelocatableByte b) = tt
 misfit_other at piece place (First kind start v) =
     either is_other _ (Some (misfit_code kind)) None (elim (kind == 1) as (λ b. is_other (cond b 12 19) ≡ true) [ true ↦ refl | false ↦ refl ]) tt
 misfit_other at piece place (Second kind v) = tt
 
-judged_other : (jumps : Bool) (o : Option ℕ) → CodeIsOther o → CodeIsOther (judged jumps o)
-judged_other jumps None h = tt
-judged_other jumps (Some code) h = either is_other (not jumps && (code == 19)) None (Some code) tt h
+checked_other : (jumps : Bool) (o : Option ℕ) → CodeIsOther o → CodeIsOther (examined jumps o)
+checked_other jumps None h = tt
+checked_other jumps (Some code) h = either is_other (not jumps && (code == 19)) None (Some code) tt h
 
-misfits_other : (jumps : Bool) (address : Option ℕ) (piece place : ℕ) (os : List Octet) → AreOther (misfits jumps address piece place os)
+misfits_other : (jumps : Bool) (address : Option ℕ) (piece place : ℕ) (os : List RelocatableByte) → AreOther (misfits jumps address piece place os)
 unfolding misfits
 misfits_other jumps address piece place [] = refl
 misfits_other jumps address piece place (o ∷ os) =
-    join (option_to_list (judged jumps (misfit address piece place o))) (misfits jumps address piece (place + 1) os)
-    (option_holds is_other (judged jumps (misfit address piece place o)) (judged_other jumps (misfit address piece place o) (misfit_other address piece place o)))
+    join (option_to_list (examined jumps (misfit address piece place o))) (misfits jumps address piece (place + 1) os)
+    (option_holds is_other (examined jumps (misfit address piece place o)) (checked_other jumps (misfit address piece place o) (misfit_other address piece place o)))
     (misfits_other jumps address piece (place + 1) os)
 
 content_other : (jumps : Bool) (address : Option ℕ) (piece place : ℕ) (c : Content) → AreOther (content_faults jumps address piece place c)
-content_other jumps address piece place (Octets os) = misfits_other jumps address piece place os
+content_other jumps address piece place (RelocatableBytes os) = misfits_other jumps address piece place os
 content_other jumps address piece place c = refl
 
-pub octet_other : (look : Look) (action : ActionTree) (g : Segment) (s : Site) (c : Content) → AreOther (octet_faults look action g s c)
-octet_other look action g s c = content_other (judges_jumps look action) s.address g.piece s.place c
+pub relocatable_other : (look : Look) (action : ActionTree) (g : Segment) (s : Location) (c : Content) → AreOther (relocatable_faults look action g s c)
+relocatable_other look action g s c = content_other (checks_jumps look action) s.address g.piece s.place c
 
 -- ---- places and the stack
 
-end_other : (regions : Regions) (g : Segment) (s : Site) → AreOther (end_faults regions g s)
+end_other : (regions : Regions) (g : Segment) (s : Location) → AreOther (end_faults regions g s)
 end_other regions g s =
     join (when (nat_lt (most_of g) s.after) 17) (when (nat_lt s.before s.after && leaves g.kind (unwrap_or (slice_get regions g.piece) None) s.after) 22)
     (when_other (nat_lt (most_of g) s.after) 17 refl) (when_other (nat_lt s.before s.after && leaves g.kind (unwrap_or (slice_get regions g.piece) None) s.after) 22 refl)
@@ -134,10 +134,10 @@ opening_other : (o : Option (SegKind × Option ℕ)) → AreOther (opening_fault
 opening_other None = refl
 opening_other (Some o) = when_other (is_outside o.0 o.1) 22 refl
 
-goes_on_other : (regions : Regions) (action : ActionTree) (g : Segment) (s : Site) → AreOther (goes_on_faults regions action g s)
+goes_on_other : (regions : Regions) (action : ActionTree) (g : Segment) (s : Location) → AreOther (goes_on_faults regions action g s)
 goes_on_other regions action g s = elim (goes_on action) as (λ b. AreOther (cond b (end_faults regions g s) [])) [ true ↦ end_other regions g s | false ↦ refl ]
 
-pub place_other : (regions : Regions) (look : Look) (label : Option (List ℕ)) (action : ActionTree) (g : Segment) (s : Site) → AreOther (place_faults regions look label action g s)
+pub place_other : (regions : Regions) (look : Look) (label : Option (List ℕ)) (action : ActionTree) (g : Segment) (s : Location) → AreOther (place_faults regions look label action g s)
 place_other regions look label action g s =
     join (label_faults label s.place) (goes_on_faults regions action g s ++ (back_faults look action s.before ++ opening_faults (opening look action)))
     (when_other (is_some label && nat_lt 65535 s.place) 17 refl)

@@ -22,18 +22,18 @@ use Rattle.kc_macro_input.specs.Cuts.{Cut, cut_at}
 use Rattle.kc_macro_input.specs.Filled.{Filled, fill_body, fill_turns}
 use Rattle.kc_macro.specs.declared.state.State.{State}
 use Rattle.kc_macro.specs.Operands.{operand, noted}
-use Rattle.kc_macro.specs.Steps.{Next, Fault, Ended, Quiet, Counted, counted, if_next, turn_lines, turn_head, same_turns, turns_of, rept_next, begun, irp_next, exitm_step, macro_next, call_text, call_next, call_step, call_fault, emitted, plain_step, ended, end_step, label_step, other_step, word_step, is_end, is_replaced, labelled_step, line_step, piece_step, front_step, step}
+use Rattle.kc_macro.specs.Steps.{Next, Fault, Ended, Quiet, Counted, counted, if_next, turn_lines, turn_head, same_turns, turns_of, rept_next, begun, irp_next, exitm_step, macro_next, call_text, call_next, call_step, call_fault, emitted, plain_step, ended, end_step, label_step, other_step, word_step, is_end, is_replaced, labelled_step, line_step, piece_step, prefix_step, step}
 use Rattle.kc_macro.specs.Expansion.{Answer, on_next, settled, run, start, expanded}
 use Rattle.kc_macro_laws.proofs.Texts.{Sub, NoneLeft, Keeps, Drops, sub_filter, sub_left}
-use Rattle.kc_macro_laws.proofs.Reached.{CutIs, cut_is, rest_sub, front_sub, KeptSub, kept_sub}
+use Rattle.kc_macro_laws.proofs.Reached.{CutIs, cut_is, rest_sub, prefix_sub, KeptSub, kept_sub}
 use Rattle.kc_source_laws.proofs.Tests.{all_split, all_join, all_map}
 use Rattle.kc_asm_fault_laws.proofs.Reading.{is_at}
 use Rattle.kc_asm_fault_laws.proofs.Filling.{is_numbered, FilledAt, body_at, turns_at}
 
 module _ (numbers : ℕ → Bool) (last : ℕ) where
   -- a fault at a line whose number passes the test, or that of a missing END
-  abbrev pub IsTold : ℕ → ℕ → Type 0
-  IsTold line code = (numbers line ≡ true) ⊎ ((line ≡ last) × (code ≡ no_end))
+  abbrev pub IsReported : ℕ → ℕ → Type 0
+  IsReported line code = (numbers line ≡ true) ⊎ ((line ≡ last) × (code ≡ no_end))
 
   -- ---- texts
 
@@ -67,7 +67,7 @@ module _ (numbers : ℕ → Bool) (last : ℕ) where
     end : s.end ≡ last
 
   abbrev NextAt : Next → Type 0
-  NextAt (Fault line code) = IsTold line code
+  NextAt (Fault line code) = IsReported line code
   NextAt (Ended lines) = list_all (is_at numbers) lines ≡ true
   NextAt (Quiet t) = IsAt t
   NextAt (Counted t) = IsAt t
@@ -89,8 +89,8 @@ module _ (numbers : ℕ → Bool) (last : ℕ) where
       let parts : AreNumbered p.0 × AreNumbered p.1 = all_split (is_numbered numbers) p.0 p.1 (sub_at (p.0 ++ p.1) s.ahead k h.ahead) in
       ahead_at s (map (marked If) p.0 ++ p.1) h (all_join (is_numbered numbers) (map (marked If) p.0) p.1 (marked_at If p.0 parts.0) parts.1)
 
-  lines_at : (left : ℕ) (front : List Piece) → AreNumbered front → AreNumbered (turn_lines left front)
-  lines_at left front h = marked_at (Turns left) (filter is_line front) (sub_at (filter is_line front) front (sub_filter is_line front) h)
+  lines_at : (left : ℕ) (prefix : List Piece) → AreNumbered prefix → AreNumbered (turn_lines left prefix)
+  lines_at left prefix h = marked_at (Turns left) (filter is_line prefix) (sub_at (filter is_line prefix) prefix (sub_filter is_line prefix) h)
 
   same_at : (s : State) (number n : ℕ) (from : List Mark) (text : Filled) → IsAt s → numbers number ≡ true → FilledAt numbers text → NextAt (same_turns s number from n text)
   same_at s number n from (Err f) h e k = inl k
@@ -101,19 +101,19 @@ module _ (numbers : ℕ → Bool) (last : ℕ) where
       counted_at number (record s { ahead = ps ++ (repeated (n - 1) (turn_head s.left number from ∷ ps) ++ s.ahead) })
       (ahead_at s (ps ++ (repeated (n - 1) (turn_head s.left number from ∷ ps) ++ s.ahead)) h (all_join (is_numbered numbers) ps (repeated (n - 1) (turn_head s.left number from ∷ ps) ++ s.ahead) k rest)) e
 
-  turns_of_at : (s : State) (number n : ℕ) (from : List Mark) (front : List Piece) → IsAt s → numbers number ≡ true → AreNumbered front → NextAt (turns_of s number from n front)
-  turns_of_at s number n from front h e k =
-      elim (n == 0) as (λ b. NextAt (cond b (Quiet s) (same_turns s number from n (fill_body (only []) [] 0 (turn_lines s.left front))))) [
+  turns_of_at : (s : State) (number n : ℕ) (from : List Mark) (prefix : List Piece) → IsAt s → numbers number ≡ true → AreNumbered prefix → NextAt (turns_of s number from n prefix)
+  turns_of_at s number n from prefix h e k =
+      elim (n == 0) as (λ b. NextAt (cond b (Quiet s) (same_turns s number from n (fill_body (only []) [] 0 (turn_lines s.left prefix))))) [
         | true ↦ h
-        | false ↦ same_at s number n from (fill_body (only []) [] 0 (turn_lines s.left front)) h e (body_at numbers (only []) [] 0 (turn_lines s.left front) (lines_at s.left front k))
+        | false ↦ same_at s number n from (fill_body (only []) [] 0 (turn_lines s.left prefix)) h e (body_at numbers (only []) [] 0 (turn_lines s.left prefix) (lines_at s.left prefix k))
       ]
 
   rept_at : (s : State) (number : ℕ) (from : List Mark) (value : Result ℕ ℕ) (o : Option Cut) → IsAt s → numbers number ≡ true → CutIs s.ahead o → NextAt (rept_next s number from value o)
   rept_at s number from value None h e k = inl e
   rept_at s number from (Err code) (Some cut) h e k = inl e
   rept_at s number from (Ok n) (Some cut) h e k =
-      turns_of_at (record s { ahead = cut.rest }) number n from cut.front (ahead_at s cut.rest h (sub_at cut.rest s.ahead (rest_sub s.ahead cut k) h.ahead)) e
-      (sub_at cut.front s.ahead (front_sub s.ahead cut k) h.ahead)
+      turns_of_at (record s { ahead = cut.rest }) number n from cut.prefix (ahead_at s cut.rest h (sub_at cut.rest s.ahead (rest_sub s.ahead cut k) h.ahead)) e
+      (sub_at cut.prefix s.ahead (prefix_sub s.ahead cut k) h.ahead)
 
   begun_at : (s : State) (number : ℕ) (text : Filled) → IsAt s → numbers number ≡ true → FilledAt numbers text → NextAt (begun s number text)
   begun_at s number (Err f) h e k = inl k
@@ -126,10 +126,10 @@ module _ (numbers : ℕ → Bool) (last : ℕ) where
   irp_at s number from None o h e k = inl e
   irp_at s number from (Some f) None h e k = inl e
   irp_at s number from (Some f) (Some cut) h e k =
-      begun_at (record s { ahead = cut.rest }) number (fill_turns (only (f.0 ∷ [])) (turn_head s.left number from) (turn_lines s.left cut.front) f.1)
+      begun_at (record s { ahead = cut.rest }) number (fill_turns (only (f.0 ∷ [])) (turn_head s.left number from) (turn_lines s.left cut.prefix) f.1)
       (ahead_at s cut.rest h (sub_at cut.rest s.ahead (rest_sub s.ahead cut k) h.ahead)) e
-      (turns_at numbers (only (f.0 ∷ [])) (turn_head s.left number from) (turn_lines s.left cut.front) f.1 e
-      (lines_at s.left cut.front (sub_at cut.front s.ahead (front_sub s.ahead cut k) h.ahead)))
+      (turns_at numbers (only (f.0 ∷ [])) (turn_head s.left number from) (turn_lines s.left cut.prefix) f.1 e
+      (lines_at s.left cut.prefix (sub_at cut.prefix s.ahead (prefix_sub s.ahead cut k) h.ahead)))
 
   exitm_at : (s : State) (number : ℕ) (o : Option Mark) → IsAt s → numbers number ≡ true → NextAt (exitm_step s number o)
   exitm_at s number None h e = inl e
@@ -217,9 +217,9 @@ module _ (numbers : ℕ → Bool) (last : ℕ) where
   piece_at s labelled number from None h e = counted_at number s h e
   piece_at s labelled number from (Some ts) h e = line_at s labelled number from ts h e
 
-  front_at : (s : State) (ps : List Piece) → IsAt s → AreNumbered ps → NextAt (front_step s ps)
-  front_at s [] h k = inr (h.end, refl)
-  front_at s (p ∷ ps) h k =
+  prefix_at : (s : State) (ps : List Piece) → IsAt s → AreNumbered ps → NextAt (prefix_step s ps)
+  prefix_at s [] h k = inr (h.end, refl)
+  prefix_at s (p ∷ ps) h k =
       let both : (numbers p.number ≡ true) × AreNumbered ps = and_parts (numbers p.number) (list_all (is_numbered numbers) ps) k in
       piece_at (record s { ahead = ps; labelled = false }) s.labelled p.number p.from p.tokens (record { done = h.done; ahead = both.1; end = h.end }) both.0
 
@@ -228,7 +228,7 @@ module _ (numbers : ℕ → Bool) (last : ℕ) where
   abbrev pub AnswerAt : Answer → Type 0
   AnswerAt None = Unit {0}
   AnswerAt (Some (Ok lines)) = list_all (is_at numbers) lines ≡ true
-  AnswerAt (Some (Err f)) = IsTold f.0 f.1
+  AnswerAt (Some (Err f)) = IsReported f.0 f.1
 
   on_next_at : (next more : State → Answer) (n : Next) → NextAt n → ((t : State) → IsAt t → AnswerAt (next t)) → ((t : State) → IsAt t → AnswerAt (more t)) → AnswerAt (on_next next more n)
   on_next_at next more (Fault line code) h f g = h
@@ -239,7 +239,7 @@ module _ (numbers : ℕ → Bool) (last : ℕ) where
   settled_at : (next : State → Answer) (k : ℕ) (s : State) → IsAt s → ((t : State) → IsAt t → AnswerAt (next t)) → AnswerAt (settled next k s)
   unfolding settled
   settled_at next zero s h f = tt
-  settled_at next (suc k) s h f = on_next_at next (settled next k) (step s) (front_at s s.ahead h h.ahead) f (λ t g. settled_at next k t g f)
+  settled_at next (suc k) s h f = on_next_at next (settled next k) (step s) (prefix_at s s.ahead h h.ahead) f (λ t g. settled_at next k t g f)
 
   run_at : (n : ℕ) (s : State) → IsAt s → AnswerAt (run n s)
   unfolding run

@@ -11,5 +11,5 @@ pub mod Unknown
 pub mod Names
 pub mod Codes
 pub mod Seen
-pub mod Subjects
+pub mod Symbols
 pub mod Standing

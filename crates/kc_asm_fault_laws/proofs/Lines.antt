@@ -14,12 +14,12 @@ use Rattle.kc_macro.specs.Expansion as expansion
 use Rattle.kc_macro.specs.Expansion.{expanded}
 use Rattle.kc_source_statement.specs.declared.statement.Stmt.{Stmt}
 use Rattle.kc_source.specs.Faults.{faults_of}
-use Rattle.kc_asm_check.specs.Judging.{faults_in, first_fault}
+use Rattle.kc_asm_check.specs.Checking.{faults_in, first_fault}
 use Rattle.kc_asm.specs.Assembled.{IsText, AreSaid, IsFirstFault}
 use Rattle.kc_source_laws.proofs.Tests.{holds_at}
 use Rattle.kc_asm_fault_laws.specs.Lines.{line_count, IsLineOf, FaultsStandAtLines, FaultsHaveTheirLines}
 use Rattle.kc_asm_fault_laws.proofs.Reading.{is_at, ReadAt, read_at}
-use Rattle.kc_asm_fault_laws.proofs.Expanding.{IsTold, AnswerAt, expanded_at}
+use Rattle.kc_asm_fault_laws.proofs.Expanding.{IsReported, AnswerAt, expanded_at}
 use Rattle.kc_asm_fault_laws.proofs.Least.{least_holds}
 use Rattle.kc_asm_fault_laws.proofs.Statements.{fault_at, stmt_at, faults_are_at, statements_are_at}
 use Rattle.kc_asm_fault_laws.proofs.Values.{values_are_at}
@@ -50,16 +50,16 @@ module _ (source : List ℕ) where
 
   -- ---- macros
 
-  text_told : (ls : List Line) → lines_of source ≡ Ok ls → AnswerAt numbers last (expanded ls)
-  text_told ls e =
+  text_reported : (ls : List Line) → lines_of source ≡ Ok ls → AnswerAt numbers last (expanded ls)
+  text_reported ls e =
       let read = ok_at (lines_of source) ls lines_read e in
       let count : length ls + 1 ≡ last = (let same = read.1 in omega (arith, same)) in
       expanded_at numbers last ls read.0 count
 
-  fault_told : (a : expansion.Answer) (f : Fault) → AnswerAt numbers last a → a ≡ Some (Err f) → IsTold numbers last f.0 f.1
-  fault_told None f h e = absurd (cc e)
-  fault_told (Some (Ok out)) f h e = absurd (cc e)
-  fault_told (Some (Err g)) f h e = let same : g ≡ f = cc e in subst (λ (x : Fault). IsTold numbers last x.0 x.1) same h
+  fault_reported : (a : expansion.Answer) (f : Fault) → AnswerAt numbers last a → a ≡ Some (Err f) → IsReported numbers last f.0 f.1
+  fault_reported None f h e = absurd (cc e)
+  fault_reported (Some (Ok out)) f h e = absurd (cc e)
+  fault_reported (Some (Err g)) f h e = let same : g ≡ f = cc e in subst (λ (x : Fault). IsReported numbers last x.0 x.1) same h
 
   text_at : (a : expansion.Answer) (out : List Line) → AnswerAt numbers last a → a ≡ Some (Ok out) → list_all (is_at numbers) out ≡ true
   text_at None out h e = absurd (cc e)
@@ -67,7 +67,7 @@ module _ (source : List ℕ) where
   text_at (Some (Err g)) out h e = absurd (cc e)
 
   text_is_at : (out : List Line) → IsText source out → list_all (is_at numbers) out ≡ true
-  text_is_at out t = text_at (expanded t.0) out (text_told t.0 t.1) t.2
+  text_is_at out t = text_at (expanded t.0) out (text_reported t.0 t.1) t.2
 
   said_is_at : (stmts : List Stmt) → AreSaid source stmts → list_all (stmt_at numbers) stmts ≡ true
   said_is_at stmts s = statements_are_at numbers stmts s.0 (text_is_at s.0 s.1) s.2
@@ -77,17 +77,17 @@ module _ (source : List ℕ) where
   of_values : (stmts : List Stmt) (line code : ℕ) → list_all (stmt_at numbers) stmts ≡ true → first_fault stmts ≡ Some (line, code) → numbers line ≡ true
   of_values stmts line code h e = holds_at (fault_at numbers) (first_fault stmts) (line, code) (least_holds (fault_at numbers) (faults_in stmts) (values_are_at numbers stmts h)) e
 
-  told : (line code : ℕ) → IsFirstFault source (line, code) → IsTold numbers last line code
-  told line code (inl e) = inl (err_at (lines_of source) (line, code) lines_read e)
-  told line code (inr (inl h)) = fault_told (expanded h.0) (line, code) (text_told h.0 h.1) h.2
-  told line code (inr (inr (inl h))) =
+  reported : (line code : ℕ) → IsFirstFault source (line, code) → IsReported numbers last line code
+  reported line code (inl e) = inl (err_at (lines_of source) (line, code) lines_read e)
+  reported line code (inr (inl h)) = fault_reported (expanded h.0) (line, code) (text_reported h.0 h.1) h.2
+  reported line code (inr (inr (inl h))) =
       inl (holds_at (fault_at numbers) (least (faults_of h.0)) (line, code) (least_holds (fault_at numbers) (faults_of h.0) (faults_are_at numbers h.0 (text_is_at h.0 h.1))) h.2)
-  told line code (inr (inr (inr h))) = inl (of_values h.0 line code (said_is_at h.0 h.1) h.2)
+  reported line code (inr (inr (inr h))) = inl (of_values h.0 line code (said_is_at h.0 h.1) h.2)
 
   pub fault_line : (line code : ℕ) → IsFirstFault source (line, code) → IsLineOf source line ⊎ ((line ≡ last) × (code ≡ no_end))
-  fault_line line code h = by (told line code h)
+  fault_line line code h = by (reported line code h)
     where
-      by : IsTold numbers last line code → IsLineOf source line ⊎ ((line ≡ last) × (code ≡ no_end))
+      by : IsReported numbers last line code → IsLineOf source line ⊎ ((line ≡ last) × (code ≡ no_end))
       by (inl n) = inl (is_line line n)
       by (inr e) = inr e
 

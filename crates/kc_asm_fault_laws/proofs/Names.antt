@@ -7,7 +7,7 @@ use Rattle.kc_expr.specs.Meaning.{Answer, answer_by, here}
 use Rattle.kc_obj_module.specs.declared.parts.Taken.{Taken}
 use Rattle.kc_asm_symbols.specs.Located.{Located}
 use Rattle.kc_asm_symbols.specs.Externals.{externals, external_in, tag_of_taken, stack_name}
-use Rattle.kc_asm_symbols.specs.Meanings.{or_told, is_label, label_answer, external_answer, with_here, is_taken_by, defines, by_definition, earlier, is_set, is_definition, in_all, throughout, meaning}
+use Rattle.kc_asm_symbols.specs.Meanings.{or_reported, is_label, label_answer, external_answer, with_here, is_taken_by, defines, by_definition, earlier, is_set, is_definition, in_all, throughout, meaning}
 use Rattle.kc_asm_fault_laws.proofs.Unknown.{passes, tame_code, IsTame}
 
 abbrev Tame : Answer → Type 0
@@ -17,9 +17,9 @@ either : (b : Bool) (x y : Answer) → Tame x → Tame y → Tame (cond b x y)
 either true x y h k = h
 either false x y h k = k
 
-told_tame : (a : Answer) → Tame (or_told a)
-told_tame (Ok v) = refl
-told_tame (Err fault) = refl
+reported_tame : (a : Answer) → Tame (or_reported a)
+reported_tame (Ok v) = refl
+reported_tame (Err fault) = refl
 
 external_tame : (n : ℕ) (ts : List Taken) (q : List ℕ) → Tame (external_in n ts q)
 unfolding external_in
@@ -33,7 +33,7 @@ label_tame (l ∷ ls) q = either (is_label q l.label) (Ok l.here) (label_answer 
 
 definition_tame : (o : Option Tree) (look : List ℕ → Answer) (rest : Answer) → Tame rest → Tame (by_definition o look rest)
 definition_tame None look rest h = h
-definition_tame (Some x) look rest h = told_tame (answer_by look x)
+definition_tame (Some x) look rest h = reported_tame (answer_by look x)
 
 module _ (all : List Located) where
   earlier_tame : (before : List Located) (q : List ℕ) → Tame (earlier all before q)

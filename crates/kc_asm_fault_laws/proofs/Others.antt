@@ -5,7 +5,7 @@ use Rattle.std.specs.List.{list_all}
 use Rattle.std.specs.Option.{option_or, option_to_list}
 use Rattle.std.proofs.lemmas.Bool.{and_parts, and_from}
 use Rattle.kc_source_laws.proofs.Tests.{Holds}
-use Rattle.kc_asm_fault_laws.specs.Subjects.{is_about_a_name}
+use Rattle.kc_asm_fault_laws.specs.Symbols.{is_about_a_name}
 
 abbrev pub is_other : ℕ → Bool
 is_other code = not (is_about_a_name code)

@@ -6,7 +6,7 @@ use Rattle.std.specs.List.{list_all, flat_map}
 use Rattle.std.specs.Option.{option_or, option_to_list}
 use Rattle.std.proofs.lemmas.Bool.{and_from, or_left}
 use Rattle.kc_lex.specs.Codes.{code_number, not_defined, not_public}
-use Rattle.kc_expr.specs.declared.values.NoValue.TheVariants.{Fault, ToldElsewhere}
+use Rattle.kc_expr.specs.declared.values.NoValue.TheVariants.{Fault, ReportedElsewhere}
 use Rattle.kc_expr.specs.Tree.{Tree, Number, Chars, Name, Here, One, Two}
 use Rattle.kc_expr.specs.Meaning.{Answer, is_fixed, answer_by}
 use Rattle.kc_source_statement.specs.Trees.{ItemTree, ArgTree, ActionTree}
@@ -20,7 +20,7 @@ use Rattle.kc_asm_check.specs.Codes.{when, counts_from_external, name_faults, pu
 use Rattle.kc_asm_subject.specs.Values.{unknown_in, unknown_among, foreign_among}
 use Rattle.kc_source_laws.proofs.Tests.{all_join}
 use Rattle.kc_asm_fault_laws.proofs.Others.{is_other, all_weaker, option_holds, or_more, or_first, or_second}
-use Rattle.kc_asm_fault_laws.proofs.Unknown.{IsTame, IsToldBy, tree_told}
+use Rattle.kc_asm_fault_laws.proofs.Unknown.{IsTame, IsReportedBy, tree_reported}
 use Rattle.kc_asm_fault_laws.proofs.Codes.{operation_other}
 
 -- a code that is about no name, or that of a name that is not defined, where there is one
@@ -42,16 +42,16 @@ other_seen x cs h = all_weaker is_other (is_seen x) cs (λ c k. or_left (is_othe
 
 -- ---- one expression
 
-here_seen : (o : Option (List ℕ)) (a : Answer) → IsToldBy o a → AreSeen (is_some o) (faults_in a)
+here_seen : (o : Option (List ℕ)) (a : Answer) → IsReportedBy o a → AreSeen (is_some o) (faults_in a)
 here_seen o (Ok v) h = refl
-here_seen o (Err ToldElsewhere) h = refl
+here_seen o (Err ReportedElsewhere) h = refl
 here_seen None (Err (Fault c)) h = and_from (is_seen false (code_number c)) true (or_left (is_other (code_number c)) ((code_number c == not_defined) && false) h) refl
 here_seen (Some n) (Err (Fault c)) h =
     and_from (is_seen true (code_number c)) true (or_more (is_other (code_number c)) (code_number c == not_defined) ((code_number c == not_defined) && true) (λ k. and_from (code_number c == not_defined) true k refl) h) refl
 
-unless_seen : (o : Option (List ℕ)) (a : Answer) → IsToldBy o a → AreSeen (is_some o) (unless_fixed a)
+unless_seen : (o : Option (List ℕ)) (a : Answer) → IsReportedBy o a → AreSeen (is_some o) (unless_fixed a)
 unless_seen o (Ok v) h = elim (is_fixed v.base) as (λ b. AreSeen (is_some o) (cond b [] (10 ∷ []))) [ true ↦ refl | false ↦ refl ]
-unless_seen o (Err ToldElsewhere) h = refl
+unless_seen o (Err ReportedElsewhere) h = refl
 unless_seen None (Err (Fault c)) h = here_seen None (Err (Fault c)) h
 unless_seen (Some n) (Err (Fault c)) h = here_seen (Some n) (Err (Fault c)) h
 
@@ -82,9 +82,9 @@ module _ (look : Look) (is : IsTame look) where
   unfolding unknown_among
   none_unknown h ys = absurd (cc h)
 
-  front_unknown : (xs ys : List Tree) → unknown xs ≡ true → unknown (xs ++ ys) ≡ true
-  front_unknown [] ys h = none_unknown h ys
-  front_unknown (x ∷ xs) ys h = cons_unknown x xs (xs ++ ys) (λ k. front_unknown xs ys k) h
+  prefix_unknown : (xs ys : List Tree) → unknown xs ≡ true → unknown (xs ++ ys) ≡ true
+  prefix_unknown [] ys h = none_unknown h ys
+  prefix_unknown (x ∷ xs) ys h = cons_unknown x xs (xs ++ ys) (λ k. prefix_unknown xs ys k) h
 
   back_unknown : (xs ys : List Tree) → unknown ys ≡ true → unknown (xs ++ ys) ≡ true
   back_unknown [] ys h = h
@@ -94,11 +94,11 @@ module _ (look : Look) (is : IsTame look) where
 
   value_seen : (x : Tree) (xs : List Tree) → AreSeen (unknown (x ∷ xs)) (value_faults look x)
   value_seen x xs =
-      seen_more (is_some (unknown_in look x)) (unknown (x ∷ xs)) (value_faults look x) (λ h. first_unknown x xs h) (here_seen (unknown_in look x) (answer_by look x) (tree_told look is x))
+      seen_more (is_some (unknown_in look x)) (unknown (x ∷ xs)) (value_faults look x) (λ h. first_unknown x xs h) (here_seen (unknown_in look x) (answer_by look x) (tree_reported look is x))
 
   fixed_seen : (x : Tree) (xs : List Tree) → AreSeen (unknown (x ∷ xs)) (fixed_faults look x)
   fixed_seen x xs =
-      seen_more (is_some (unknown_in look x)) (unknown (x ∷ xs)) (fixed_faults look x) (λ h. first_unknown x xs h) (unless_seen (unknown_in look x) (answer_by look x) (tree_told look is x))
+      seen_more (is_some (unknown_in look x)) (unknown (x ∷ xs)) (fixed_faults look x) (λ h. first_unknown x xs h) (unless_seen (unknown_in look x) (answer_by look x) (tree_reported look is x))
 
   part_seen : (o : Option Tree) → AreSeen (unknown (action_trees (trees.Cseg o))) (part_faults look o)
   part_seen None = refl
@@ -133,7 +133,7 @@ module _ (look : Look) (is : IsTame look) where
   each_seen f t each [] = refl
   each_seen f t each (x ∷ xs) =
       all_join (is_seen (unknown (t x ++ all_trees t xs))) (f x) (flat_map f xs)
-      (seen_more (unknown (t x)) (unknown (t x ++ all_trees t xs)) (f x) (λ h. front_unknown (t x) (all_trees t xs) h) (each x))
+      (seen_more (unknown (t x)) (unknown (t x ++ all_trees t xs)) (f x) (λ h. prefix_unknown (t x) (all_trees t xs) h) (each x))
       (seen_more (unknown (all_trees t xs)) (unknown (t x ++ all_trees t xs)) (flat_map f xs) (λ h. back_unknown (t x) (all_trees t xs) h) (each_seen f t each xs))
 
   -- ---- statements

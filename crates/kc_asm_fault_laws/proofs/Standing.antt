@@ -25,9 +25,9 @@ use Rattle.kc_asm_symbols.specs.Meanings.{meaning, in_all}
 use Rattle.kc_asm_emission.specs.Arguments.{Look}
 use Rattle.kc_asm_check.specs.Codes.{counts_from_external}
 use Rattle.kc_asm_subject.specs.Uses.{is_code, is_refused, used_from}
-use Rattle.kc_asm_subject.specs.Values.{means_nothing, unknown_in, unknown_among, foreign_among, subject_in, subject_on, subject_from}
-use Rattle.kc_asm_subject.specs.Subject.{action_in, standing_at_zero, at_zero_from, by_fault, in_text, in_lines}
-use Rattle.kc_asm_fault_laws.specs.Standing.{has_name, computes_with, has_word, IsNameAt, SubjectsStandAtTheirLines}
+use Rattle.kc_asm_subject.specs.Values.{means_nothing, unknown_in, unknown_among, foreign_among, symbol_in, symbol_on, symbol_from}
+use Rattle.kc_asm_subject.specs.Symbol.{action_in, standing_at_zero, at_zero_from, by_fault, in_text, in_lines}
+use Rattle.kc_asm_fault_laws.specs.Standing.{has_name, computes_with, has_word, IsNameAt, SymbolsStandAtTheirLines}
 use Rattle.kc_asm_fault_laws.proofs.Statements.{use_at, said_uses_at}
 
 same_name : (n name : List ℕ) → Some n ≡ Some name → bytes_eq name n ≡ true
@@ -155,7 +155,7 @@ given_stands last line Even name e = absurd (none_foreign last name e)
 given_stands last line End name e = absurd (none_foreign last name e)
 given_stands last line (Operation n args) name e = absurd (none_foreign last name e)
 
-read_stands : (code : ℕ) (look last : Look) (line : ℕ) (label : Option (List ℕ)) (r : Result ActionTree ℕ) (name : List ℕ) → subject_in code look last (action_in r) ≡ Some name
+read_stands : (code : ℕ) (look last : Look) (line : ℕ) (label : Option (List ℕ)) (r : Result ActionTree ℕ) (name : List ℕ) → symbol_in code look last (action_in r) ≡ Some name
     → (list_any (λ u. bytes_eq name u.name) (label_uses line label ++ read_uses line r) || computes_with name r) ≡ true
 read_stands code look last line label r name e = by_defined (code == not_defined) e
   where
@@ -183,33 +183,33 @@ read_stands code look last line label r name e = by_defined (code == not_defined
 
 -- ---- the statements of a text
 
-on_stands : (line code : ℕ) (all before : List Located) (g : Segment) (s : Said) (name : List ℕ) → subject_on line code all before (standing_at_zero g s) ≡ Some name → said_has line name s ≡ true
+on_stands : (line code : ℕ) (all before : List Located) (g : Segment) (s : Said) (name : List ℕ) → symbol_on line code all before (standing_at_zero g s) ≡ Some name → said_has line name s ≡ true
 on_stands line code all before g s name e = by (s.line == line) refl e
   where
     l : Located
     l = standing_at_zero g s
 
-    by : (b : Bool) → (s.line == line) ≡ b → cond b (subject_in code (meaning all before l) (in_all all) l.action) None ≡ Some name → said_has line name s ≡ true
+    by : (b : Bool) → (s.line == line) ≡ b → cond b (symbol_in code (meaning all before l) (in_all all) l.action) None ≡ Some name → said_has line name s ≡ true
     by true h f = and_from (s.line == line) (has_word name s) h (read_stands code (meaning all before l) (in_all all) s.line s.label s.action name f)
     by false h f = absurd (cc f)
 
-subject_stands : (line code : ℕ) (all before : List Located) (g : Segment) (ss : List Said) (name : List ℕ) → subject_from line code all before (at_zero_from g ss) ≡ Some name → list_any (said_has line name) ss ≡ true
-unfolding subject_from at_zero_from
-subject_stands line code all before g [] name e = absurd (cc e)
-subject_stands line code all before g (s ∷ ss) name e =
+symbol_stands : (line code : ℕ) (all before : List Located) (g : Segment) (ss : List Said) (name : List ℕ) → symbol_from line code all before (at_zero_from g ss) ≡ Some name → list_any (said_has line name) ss ≡ true
+unfolding symbol_from at_zero_from
+symbol_stands line code all before g [] name e = absurd (cc e)
+symbol_stands line code all before g (s ∷ ss) name e =
     let l = standing_at_zero g s in
-    either_name (subject_on line code all before l) (subject_from line code all (l ∷ before) (at_zero_from (segment_after g (action_in s.action)) ss)) name e
+    either_name (symbol_on line code all before l) (symbol_from line code all (l ∷ before) (at_zero_from (segment_after g (action_in s.action)) ss)) name e
     (λ f. or_left (said_has line name s) (list_any (said_has line name) ss) (on_stands line code all before g s name f))
-    (λ f. or_right (said_has line name s) (list_any (said_has line name) ss) (subject_stands line code all (l ∷ before) (segment_after g (action_in s.action)) ss name f))
+    (λ f. or_right (said_has line name s) (list_any (said_has line name) ss) (symbol_stands line code all (l ∷ before) (segment_after g (action_in s.action)) ss name f))
 
 -- ---- the whole
 
-pub subjects_stand_at_their_lines : SubjectsStandAtTheirLines
-subjects_stand_at_their_lines source line code name e = of_lines (lines_of source) refl e
+pub symbols_stand_at_their_lines : SymbolsStandAtTheirLines
+symbols_stand_at_their_lines source line code name e = of_lines (lines_of source) refl e
   where
     of_fault : (said : List Said) (o : Option Fault) → by_fault line code said o ≡ Some name → list_any (said_has line name) said ≡ true
     of_fault said (Some f) g = uses_stand line name said (used_stands line code (all_uses said) [] (all_uses said) name g)
-    of_fault said None g = subject_stands line code (at_zero_from first_segment said) [] first_segment said name g
+    of_fault said None g = symbol_stands line code (at_zero_from first_segment said) [] first_segment said name g
 
     of_text : (lines : List Line) → lines_of source ≡ Ok lines → (a : Answer) → expanded lines ≡ a → in_text line code a ≡ Some name → IsNameAt source line name
     of_text lines h (Some (Ok text)) k g = (text, (lines, h, k), of_fault (all_said text) (least (faults_of text)) g)

@@ -7,7 +7,7 @@ use Rattle.kc_lex.specs.declared.fault.SourceCode.{SourceCode}
 use Rattle.kc_lex.specs.declared.fault.SourceCode.TheVariants as code
 use Rattle.kc_lex.specs.Codes.{code_number, not_defined}
 use Rattle.kc_expr.specs.declared.values.NoValue.{NoValue}
-use Rattle.kc_expr.specs.declared.values.NoValue.TheVariants.{Fault, ToldElsewhere}
+use Rattle.kc_expr.specs.declared.values.NoValue.TheVariants.{Fault, ReportedElsewhere}
 use Rattle.kc_expr.specs.declared.values.Value.{Value}
 use Rattle.kc_expr.specs.declared.expr.Unary.{Unary}
 use Rattle.kc_expr.specs.declared.expr.Binary.{Binary}
@@ -21,7 +21,7 @@ use Rattle.kc_asm_fault_laws.proofs.Others.{is_other}
 
 abbrev pub passes : (SourceCode → Bool) → Answer → Bool
 passes fine (Ok v) = true
-passes fine (Err ToldElsewhere) = true
+passes fine (Err ReportedElsewhere) = true
 passes fine (Err (Fault c)) = fine c
 
 one_passes : (fine : SourceCode → Bool) (b : Bool) (x y : Answer) → passes fine x ≡ true → passes fine y ≡ true → passes fine (cond b x y) ≡ true
@@ -79,8 +79,8 @@ module _ (fine : SourceCode → Bool) (are : IsFine fine) where
   lesser_passes : (d e : NoValue) → Passes (Err d) → Passes (Err e) → Passes (Err (lesser d e))
   unfolding lesser_code
   lesser_passes (Fault c) (Fault d) h k = elim (nat_lt (code_number d) (code_number c)) as (λ b. fine (cond b d c) ≡ true) [ true ↦ k | false ↦ h ]
-  lesser_passes (Fault c) ToldElsewhere h k = h
-  lesser_passes ToldElsewhere other h k = k
+  lesser_passes (Fault c) ReportedElsewhere h k = h
+  lesser_passes ReportedElsewhere other h k = k
 
   parts_pass : (op : Binary) (a b : Answer) → Passes a → Passes b → Passes (parts_answer op a b)
   parts_pass op (Ok v) (Ok w) h k = two_pass op v w
@@ -117,7 +117,7 @@ nothing_is c = refl
 -- what means something, and is told here, is about no name
 plain_of : (a : Answer) → passes tame_code a ≡ true → means_nothing a ≡ false → passes plain_code a ≡ true
 plain_of (Ok v) h e = refl
-plain_of (Err ToldElsewhere) h e = refl
+plain_of (Err ReportedElsewhere) h e = refl
 plain_of (Err (Fault c)) h e = by (or_cases (is_other (code_number c)) (code_number c == not_defined) h)
   where
     by : (is_other (code_number c) ≡ true) ⊎ ((code_number c == not_defined) ≡ true) → is_other (code_number c) ≡ true
@@ -127,39 +127,39 @@ plain_of (Err (Fault c)) h e = by (or_cases (is_other (code_number c)) (code_num
 -- ---- expressions
 
 -- an answer beside the name that means nothing
-abbrev pub IsToldBy : Option (List ℕ) → Answer → Type 0
-IsToldBy None a = passes plain_code a ≡ true
-IsToldBy (Some name) a = passes tame_code a ≡ true
+abbrev pub IsReportedBy : Option (List ℕ) → Answer → Type 0
+IsReportedBy None a = passes plain_code a ≡ true
+IsReportedBy (Some name) a = passes tame_code a ≡ true
 
-tame_of : (o : Option (List ℕ)) (a : Answer) → IsToldBy o a → passes tame_code a ≡ true
+tame_of : (o : Option (List ℕ)) (a : Answer) → IsReportedBy o a → passes tame_code a ≡ true
 tame_of (Some name) a h = h
 tame_of None (Ok v) h = refl
-tame_of None (Err ToldElsewhere) h = refl
+tame_of None (Err ReportedElsewhere) h = refl
 tame_of None (Err (Fault c)) h = or_left (is_other (code_number c)) (code_number c == not_defined) h
 
-one_told : (op : Unary) (o : Option (List ℕ)) (a : Answer) → IsToldBy o a → IsToldBy o (unary_answer op a)
-one_told op None a h = one_operator plain_code plain_fine op a h
-one_told op (Some name) a h = one_operator tame_code tame_fine op a h
+one_reported : (op : Unary) (o : Option (List ℕ)) (a : Answer) → IsReportedBy o a → IsReportedBy o (unary_answer op a)
+one_reported op None a h = one_operator plain_code plain_fine op a h
+one_reported op (Some name) a h = one_operator tame_code tame_fine op a h
 
-two_told : (op : Binary) (o p : Option (List ℕ)) (a b : Answer) → IsToldBy o a → IsToldBy p b → IsToldBy (option_or o p) (binary_answer op a b)
-two_told op None None a b h k = two_operators plain_code plain_fine op a b h k
-two_told op None (Some name) a b h k = two_operators tame_code tame_fine op a b (tame_of None a h) k
-two_told op (Some name) p a b h k = two_operators tame_code tame_fine op a b h (tame_of p b k)
+two_reported : (op : Binary) (o p : Option (List ℕ)) (a b : Answer) → IsReportedBy o a → IsReportedBy p b → IsReportedBy (option_or o p) (binary_answer op a b)
+two_reported op None None a b h k = two_operators plain_code plain_fine op a b h k
+two_reported op None (Some name) a b h k = two_operators tame_code tame_fine op a b (tame_of None a h) k
+two_reported op (Some name) p a b h k = two_operators tame_code tame_fine op a b h (tame_of p b k)
 
 -- what names mean: values, or nothing, or what is told elsewhere; the place where a line stands has a value
 pub record IsTame (look : List ℕ → Answer) : Type 0 where
   pub names : (name : List ℕ) → passes tame_code (look name) ≡ true
   pub place : passes plain_code (look here) ≡ true
 
-pub tree_told : (look : List ℕ → Answer) → IsTame look → (x : Tree) → IsToldBy (unknown_in look x) (answer_by look x)
+pub tree_reported : (look : List ℕ → Answer) → IsTame look → (x : Tree) → IsReportedBy (unknown_in look x) (answer_by look x)
 unfolding unknown_in answer_by
-tree_told look is (Number n) = number_passes plain_code plain_fine n
-tree_told look is (Chars cs) = chars_pass plain_code plain_fine cs
-tree_told look is (Name n) = by (means_nothing (look n)) refl
+tree_reported look is (Number n) = number_passes plain_code plain_fine n
+tree_reported look is (Chars cs) = chars_pass plain_code plain_fine cs
+tree_reported look is (Name n) = by (means_nothing (look n)) refl
   where
-    by : (b : Bool) → means_nothing (look n) ≡ b → IsToldBy (cond (means_nothing (look n)) (Some n) None) (look n)
+    by : (b : Bool) → means_nothing (look n) ≡ b → IsReportedBy (cond (means_nothing (look n)) (Some n) None) (look n)
     by true e = rw e (is.names n)
     by false e = rw e (plain_of (look n) (is.names n) e)
-tree_told look is Here = is.place
-tree_told look is (One op e) = one_told op (unknown_in look e) (answer_by look e) (tree_told look is e)
-tree_told look is (Two op a b) = two_told op (unknown_in look a) (unknown_in look b) (answer_by look a) (answer_by look b) (tree_told look is a) (tree_told look is b)
+tree_reported look is Here = is.place
+tree_reported look is (One op e) = one_reported op (unknown_in look e) (answer_by look e) (tree_reported look is e)
+tree_reported look is (Two op a b) = two_reported op (unknown_in look a) (unknown_in look b) (answer_by look a) (answer_by look b) (tree_reported look is a) (tree_reported look is b)

@@ -21,7 +21,7 @@ use Rattle.kc_source.specs.declared.uses.UseKind.TheVariants.{Once, Again, Taken
 use Rattle.kc_source.specs.Faults.{Said, said, all_said, is_module, holds_bytes, code_at, code_behind, line_faults, all_uses, has_use, is_once, is_taken, is_defined, is_one_too_many, use_code, name_faults, faults_of}
 use Rattle.kc_asm_subject.specs.Uses.{is_code, is_refused, used_from, used_at}
 use Rattle.kc_source_laws.proofs.Tests.{Holds, holds_at, either, all_join}
-use Rattle.kc_asm_fault_laws.specs.Subjects.{is_about_a_name}
+use Rattle.kc_asm_fault_laws.specs.Symbols.{is_about_a_name}
 use Rattle.kc_asm_fault_laws.proofs.Least.{least_holds, one_holds}
 use Rattle.kc_asm_fault_laws.proofs.Others.{is_other, not_both, all_weaker, holds_where, or_more, cond_first, cond_second}
 

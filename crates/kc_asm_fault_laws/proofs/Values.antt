@@ -9,9 +9,9 @@ use Rattle.kc_asm_symbols.specs.declared.segments.Segment.{Segment}
 use Rattle.kc_asm_symbols.specs.Located.{Located, located_from, segment_after, first_segment, value_at}
 use Rattle.kc_asm_symbols.specs.Meanings.{meaning, in_all}
 use Rattle.kc_asm_emission.specs.Faults as values
-use Rattle.kc_asm_layout.specs.declared.site.Site.{Site}
+use Rattle.kc_asm_layout.specs.declared.location.Location.{Location}
 use Rattle.kc_asm_check.specs.Codes.{Regions, first_regions, regions_after, stack_after}
-use Rattle.kc_asm_check.specs.Judging.{codes_of, faults_from, faults_in, site_list, place_at, standing}
+use Rattle.kc_asm_check.specs.Checking.{codes_of, faults_from, faults_in, location_list, place_at, standing}
 use Rattle.kc_asm_fault_laws.proofs.Least.{one_holds}
 use Rattle.kc_asm_fault_laws.proofs.Statements.{fault_at, stmt_at, at_code}
 
@@ -27,7 +27,7 @@ module _ (numbers : ℕ → Bool) where
       let more = segment_after g (action_tree s.action) in
       and_from (numbers s.line) (list_all located_is_at (located_from places (i + 1) more ss)) both.0 (located_are_at places (i + 1) more ss both.1)
 
-  from_at : (all : List Located) (regions : Regions) (sum : ℕ) (before ls : List Located) (ss : List Site) → list_all located_is_at ls ≡ true
+  from_at : (all : List Located) (regions : Regions) (sum : ℕ) (before ls : List Located) (ss : List Location) → list_all located_is_at ls ≡ true
       → list_all (fault_at numbers) (faults_from all regions sum before ls ss) ≡ true
   unfolding faults_from
   from_at all regions sum before [] ss h = refl
@@ -42,5 +42,5 @@ module _ (numbers : ℕ → Bool) where
 
   pub values_are_at : (stmts : List Stmt) → list_all (stmt_at numbers) stmts ≡ true → list_all (fault_at numbers) (faults_in stmts) ≡ true
   values_are_at stmts h =
-      from_at (standing stmts) first_regions 0 [] (standing stmts) (site_list stmts)
-      (located_are_at (λ i g. value_at g (place_at (site_list stmts) i)) 0 first_segment stmts h)
+      from_at (standing stmts) first_regions 0 [] (standing stmts) (location_list stmts)
+      (located_are_at (λ i g. value_at g (place_at (location_list stmts) i)) 0 first_segment stmts h)

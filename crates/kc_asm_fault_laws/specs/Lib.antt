@@ -1,3 +1,3 @@
 pub mod Lines
-pub mod Subjects
+pub mod Symbols
 pub mod Standing

@@ -8,7 +8,7 @@ use Rattle.kc_source_statement.specs.Trees.{ActionTree}
 use Rattle.kc_source.specs.Faults.{Said, uses_of, all_said}
 use Rattle.kc_asm_symbols.specs.Externals.{action_trees}
 use Rattle.kc_asm.specs.Assembled.{IsText}
-use Rattle.kc_asm_subject.specs.Subject.{subject_of}
+use Rattle.kc_asm_subject.specs.Symbol.{symbol_of}
 
 unfoldable pub has_name : List ℕ → Tree → Bool
 has_name name (Number n) = false
@@ -30,5 +30,5 @@ has_word name s = list_any (λ u. bytes_eq name u.name) (uses_of s) || computes_
 abbrev pub IsNameAt : List ℕ → ℕ → List ℕ → Type 0
 IsNameAt source line name = (text : List Line) × IsText source text × (list_any (λ s. (s.line == line) && has_word name s) (all_said text) ≡ true)
 
-abbrev pub SubjectsStandAtTheirLines : Type 0
-SubjectsStandAtTheirLines = (source : List ℕ) (line code : ℕ) (name : List ℕ) → subject_of source line code ≡ Some name → IsNameAt source line name
+abbrev pub SymbolsStandAtTheirLines : Type 0
+SymbolsStandAtTheirLines = (source : List ℕ) (line code : ℕ) (name : List ℕ) → symbol_of source line code ≡ Some name → IsNameAt source line name

@@ -2,8 +2,8 @@
 #![tactic(auto)]
 
 ghost use Rattle.kc_asm_fault_laws.specs.Lines.{FaultsHaveTheirLines, FaultsStandAtLines};
-ghost use Rattle.kc_asm_fault_laws.specs.Standing.{SubjectsStandAtTheirLines};
-ghost use Rattle.kc_asm_fault_laws.specs.Subjects.{FaultsOfNamesHaveNames};
+ghost use Rattle.kc_asm_fault_laws.specs.Standing.{SymbolsStandAtTheirLines};
+ghost use Rattle.kc_asm_fault_laws.specs.Symbols.{FaultsOfNamesHaveNames};
 
 use kc_asm_symbols::meanings_are_alike;
 
@@ -25,6 +25,6 @@ pub fn faults_of_names_have_names()
 }
 
 /// And that name stands at the line of the fault.
-pub fn subjects_stand_at_their_lines()
-    ensures { SubjectsStandAtTheirLines }
+pub fn symbols_stand_at_their_lines()
+    ensures { SymbolsStandAtTheirLines }
 {}

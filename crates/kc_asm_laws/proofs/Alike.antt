@@ -15,19 +15,19 @@ use Rattle.kc_asm_symbols.specs.Externals.{externals}
 use Rattle.kc_asm_symbols.specs.Meanings.{in_all}
 use Rattle.kc_obj_module.specs.declared.parts.Given.{Given}
 use Rattle.kc_obj_module.specs.Object.{Object}
-use Rattle.kc_asm_piece.specs.declared.draft.Draft.{Draft}
-use Rattle.kc_asm_piece.specs.Tape.{Tape}
+use Rattle.kc_asm_piece.specs.declared.unlinked.UnlinkedModule.{UnlinkedModule}
+use Rattle.kc_asm_piece.specs.Section.{Section}
 use Rattle.kc_asm_module.specs.Order.{kept_of, number_of, pieces_of, segment_of}
 use Rattle.kc_asm_module.specs.Publics.{given_of}
 use Rattle.kc_asm_module.specs.ModuleOf.{byte_at, relocated_at, entries_from, kept_in, pieces_in, IsModuleOf}
 use Rattle.kc_asm_module.specs.OneModule.{OneModule}
-use Rattle.kc_asm_outline.specs.Outline.{at_zero, on_its_own, notes_from, outline}
-use Rattle.kc_asm_outline.specs.declared.note.Note.{Note}
-use Rattle.kc_asm_layout.specs.declared.site.Site.{Site}
+use Rattle.kc_asm_outline.specs.StatementSizes.{at_zero, on_its_own, size_records_from, statement_sizes}
+use Rattle.kc_asm_outline.specs.declared.size_record.SizeRecord.{SizeRecord}
+use Rattle.kc_asm_layout.specs.declared.location.Location.{Location}
 use Rattle.kc_asm_layout.specs.Text.{layout}
-use Rattle.kc_asm_check.specs.Judging.{site_list, standing, place_at}
+use Rattle.kc_asm_check.specs.Checking.{location_list, standing, place_at}
 use Rattle.kc_asm_check.specs.Putting.{stack_from}
-use Rattle.kc_asm_draft_laws.specs.Drafting.{name_of, parts_from, first_parts, all_given, distinct_from, publics_of, IsDraftOf}
+use Rattle.kc_asm_draft_laws.specs.Collecting.{name_of, parts_from, first_parts, all_given, distinct_from, publics_of, IsUnlinkedModuleOf}
 use Rattle.kc_asm.specs.Assembled.{IsText, AreSaid}
 use Rattle.kc_asm_laws.specs.Modules.{OneModuleOfText}
 
@@ -61,21 +61,21 @@ module _ (ss ts : List Stmt) (same : map stmt_said ss ≡ map stmt_said ts) wher
   owns : located_by on_its_own ss ≡ located_by on_its_own ts
   owns = located_alike on_its_own 0 first_segment ss ts same
 
-  pub outline_alike : outline ss ≡ outline ts
-  outline_alike = λ i. notes_from (zeros i) (owns i) [] [] (zeros i) (owns i)
+  pub sizes_alike : statement_sizes ss ≡ statement_sizes ts
+  sizes_alike = λ i. size_records_from (zeros i) (owns i) [] [] (zeros i) (owns i)
 
-  pub sites_alike : site_list ss ≡ site_list ts
-  sites_alike = ap (λ (ns : List Note). layout ns) outline_alike
+  pub locations_alike : location_list ss ≡ location_list ts
+  locations_alike = ap (λ (ns : List SizeRecord). layout ns) sizes_alike
 
   pub standing_alike : standing ss ≡ standing ts
   standing_alike =
-      located_alike (λ i g. value_at g (place_at (site_list ss) i)) 0 first_segment ss ts same
-      ∙ ap (λ (l : List Site). located_from (λ i g. value_at g (place_at l i)) 0 first_segment ts) sites_alike
+      located_alike (λ i g. value_at g (place_at (location_list ss) i)) 0 first_segment ss ts same
+      ∙ ap (λ (l : List Location). located_from (λ i g. value_at g (place_at l i)) 0 first_segment ts) locations_alike
 
-  pub draft_alike : (d : Draft) → IsDraftOf ss d → IsDraftOf ts d
-  draft_alike d h = record {
+  pub unlinked_alike : (d : UnlinkedModule) → IsUnlinkedModuleOf ss d → IsUnlinkedModuleOf ts d
+  unlinked_alike d h = record {
     name = h.name ∙ ap name_of standing_alike;
-    parts = h.parts ∙ (λ i. parts_from (standing_alike i) [] (standing_alike i) (sites_alike i) first_parts);
+    parts = h.parts ∙ (λ i. parts_from (standing_alike i) [] (standing_alike i) (locations_alike i) first_parts);
     stack = h.stack ∙ (λ i. stack_from (standing_alike i) 0 [] (standing_alike i));
     externals = h.externals ∙ ap externals standing_alike;
     publics = h.publics ∙ (λ i. publics_of (in_all (standing_alike i)) (distinct_from [] (all_given (standing_alike i))));
@@ -83,7 +83,7 @@ module _ (ss ts : List Stmt) (same : map stmt_said ss ≡ map stmt_said ts) wher
 
 -- ---- drafts that say the same have one module
 
-module _ (stmts : List Stmt) (d e : Draft) (h : IsDraftOf stmts d) (k : IsDraftOf stmts e) where
+module _ (stmts : List Stmt) (d e : UnlinkedModule) (h : IsUnlinkedModuleOf stmts d) (k : IsUnlinkedModuleOf stmts e) where
   parts_same : d.parts.items ≡ e.parts.items
   parts_same = h.parts ∙ sym k.parts
 
@@ -109,9 +109,9 @@ module _ (stmts : List Stmt) (d e : Draft) (h : IsDraftOf stmts d) (k : IsDraftO
     segments = f.segments ∙ ap (map segment_of) pieces_same;
     externals = f.externals ∙ (h.externals ∙ sym k.externals);
     publics = subst (λ (gs : List Given). IsPermutation gs m.publics) givens_same f.publics;
-    contents = λ piece offset. f.contents piece offset ∙ ap (λ (ts : List Tape). byte_at (slice_get ts piece) offset) pieces_same;
+    contents = λ piece offset. f.contents piece offset ∙ ap (λ (ts : List Section). byte_at (slice_get ts piece) offset) pieces_same;
     fixups = λ piece offset. f.fixups piece offset ∙ (λ i. relocated_at (number_of (kept_same i)) piece (slice_get (pieces_same i) piece) offset);
-    lines = f.lines ∙ ap (λ (ts : List Tape). Some (entries_from 0 ts)) pieces_same;
+    lines = f.lines ∙ ap (λ (ts : List Section). Some (entries_from 0 ts)) pieces_same;
   }
 
 -- ---- texts
@@ -133,4 +133,4 @@ said_same text ss ts x y = x.2.said_by ∙ (ap all_said (text_same text x.0 y.0 
 pub one_module_of_text : OneModule → OneModuleOfText
 one_module_of_text law text m n h k =
     let same : map stmt_said h.stmts ≡ map stmt_said k.stmts = said_same text h.stmts k.stmts h.said k.said in
-    law k.draft m n (module_same k.stmts h.draft k.draft (draft_alike h.stmts k.stmts same h.draft h.drafted) k.drafted m h.made) k.made
+    law k.unlinked m n (module_same k.stmts h.unlinked k.unlinked (unlinked_alike h.stmts k.stmts same h.unlinked h.collected) k.collected m h.made) k.made

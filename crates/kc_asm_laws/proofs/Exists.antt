@@ -6,17 +6,17 @@ use Rattle.kc_lex.specs.Lines.{lines_of}
 use Rattle.kc_macro.specs.Expansion.{Answer, expanded, Ends, ExpansionEnds}
 use Rattle.kc_source_statement.specs.declared.statement.Stmt.{Stmt}
 use Rattle.kc_source.specs.Faults.{Fault, least, faults_of}
-use Rattle.kc_asm_piece.specs.declared.draft.Draft.{Draft}
-use Rattle.kc_asm_module.specs.Drafts.{IsDraft}
+use Rattle.kc_asm_piece.specs.declared.unlinked.UnlinkedModule.{UnlinkedModule}
+use Rattle.kc_asm_module.specs.UnlinkedModules.{IsUnlinkedModule}
 use Rattle.kc_asm_module.specs.Order.{number_of}
 use Rattle.kc_asm_module.specs.ModuleOf.{kept_in, pieces_in}
 use Rattle.kc_asm_module.proofs.Whole.{object_from, module_is}
 use Rattle.kc_asm_check.specs.Codes.{first_regions}
-use Rattle.kc_asm_check.specs.Judging.{first_fault, site_list, standing}
+use Rattle.kc_asm_check.specs.Checking.{first_fault, location_list, standing}
 use Rattle.kc_asm_check.specs.Laws.{SoundStatements}
-use Rattle.kc_asm_draft_laws.specs.Drafting.{first_parts, IsDraftOf}
+use Rattle.kc_asm_draft_laws.specs.Collecting.{first_parts, IsUnlinkedModuleOf}
 use Rattle.kc_asm_draft_laws.specs.Few.{PiecesAreFew}
-use Rattle.kc_asm_draft_laws.specs.Sound.{DraftsAreDrafts, DraftsAreWhole}
+use Rattle.kc_asm_draft_laws.specs.Sound.{UnlinkedModulesAreUnlinked, UnlinkedModulesAreWhole}
 use Rattle.kc_asm_draft_laws.specs.Writable.{PartsAreWritable}
 use Rattle.kc_asm.specs.Assembled.{IsText, AreSaid, IsFaultless}
 use Rattle.kc_asm.proofs.Said.{said_well}
@@ -27,7 +27,7 @@ use Rattle.kc_asm_earlier_laws.specs.Read.{SourcesAreReadWell}
 use Rattle.kc_asm_laws.specs.Exists.{FaultlessAreRead, FaultlessHaveModules}
 use Rattle.kc_asm_laws.proofs.Sources.{said_bytes}
 use Rattle.kc_asm_laws.proofs.Sorted.{sorted, sorted_same, sorted_ordered}
-use Rattle.kc_asm_laws.proofs.Tapes.{stack_small}
+use Rattle.kc_asm_laws.proofs.Sections.{stack_small}
 
 -- ---- the first three passes
 
@@ -53,8 +53,8 @@ pub record Laws : Type 0 where
   pub of_text : StatementsAreOfTheText
   pub read : SourcesAreReadWell
   pub pieces : PiecesAreFew
-  pub drafts : DraftsAreDrafts
-  pub whole : DraftsAreWhole
+  pub unlinked_modules : UnlinkedModulesAreUnlinked
+  pub whole : UnlinkedModulesAreWhole
   pub writable : PartsAreWritable
   pub sound : SoundStatements
 
@@ -66,31 +66,31 @@ no_fault text stmts none said = by (first_fault stmts) refl
     by (Some f) e = absurd (none f.0 f.1 (inr (inr (inr (stmts, said, e)))))
 
 -- an object can number the pieces
-few_pieces : PiecesAreFew → (text : List ℕ) (stmts : List Stmt) (d : Draft) → AreSaid text stmts → IsDraftOf stmts d → length (pieces_in d) ≤ 65536
-few_pieces law text stmts d said drafted =
+few_pieces : PiecesAreFew → (text : List ℕ) (stmts : List Stmt) (d : UnlinkedModule) → AreSaid text stmts → IsUnlinkedModuleOf stmts d → length (pieces_in d) ≤ 65536
+few_pieces law text stmts d said collected =
     let lines = few_lines said.1.0 said.0 said.1.2 in
     let statements = stmt_count stmts said.0 said.2 in
-    let pieces = law stmts d drafted in
+    let pieces = law stmts d collected in
     omega (arith, lines, statements, pieces)
 
 pub faultless_have_modules : Laws → FaultlessHaveModules
-faultless_have_modules laws text stmts d none said drafted =
+faultless_have_modules laws text stmts d none said collected =
     let sound = no_fault text stmts none said in
-    let few = few_pieces laws.pieces text stmts d said drafted in
-    let draft : IsDraft d = laws.drafts stmts d (said_well laws.read text stmts said) sound drafted few in
-    let tapes = (laws.whole stmts d sound drafted).tapes in
-    let small = stack_small (standing stmts) first_regions 0 [] (standing stmts) (site_list stmts) first_parts (laws.sound stmts sound) (laws.writable stmts sound) (omega arith) in
-    let stack : d.stack < 65536 = (let same = drafted.stack in omega (arith, small, same)) in
+    let few = few_pieces laws.pieces text stmts d said collected in
+    let unlinked : IsUnlinkedModule d = laws.unlinked_modules stmts d (said_well laws.read text stmts said) sound collected few in
+    let sections = (laws.whole stmts d sound collected).sections in
+    let small = stack_small (standing stmts) first_regions 0 [] (standing stmts) (location_list stmts) first_parts (laws.sound stmts sound) (laws.writable stmts sound) (omega arith) in
+    let stack : d.stack < 65536 = (let same = collected.stack in omega (arith, small, same)) in
     let givens = sorted (number_of (kept_in d)) d.publics.items in
-    let made = module_is d givens draft tapes stack (sorted_same (number_of (kept_in d)) d.publics.items) (sorted_ordered (number_of (kept_in d)) d.publics.items draft.distinct) in (
+    let made = module_is d givens unlinked sections stack (sorted_same (number_of (kept_in d)) d.publics.items) (sorted_ordered (number_of (kept_in d)) d.publics.items unlinked.distinct) in (
       object_from d.name d.parts.items d.stack d.externals.items d.publics.items givens,
       record {
         stmts = stmts;
         said = said;
         characters = (said_bytes laws.of_text text stmts said).characters;
         sound = sound;
-        draft = d;
-        drafted = drafted;
+        unlinked = d;
+        collected = collected;
         few = few;
         made = made;
       },

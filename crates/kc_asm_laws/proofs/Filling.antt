@@ -8,13 +8,13 @@ use Rattle.kc_expr.specs.declared.values.Base.{Base}
 use Rattle.kc_expr.specs.declared.values.Base.TheVariants as bases
 use Rattle.kc_obj_relocation.specs.Numbers.{Bases, is_distance, distance, number, reach, first_part, second_part}
 use Rattle.kc_obj_module.specs.Fixups.{may_begin}
-use Rattle.kc_asm_bytes.specs.declared.octet.Octet.{Octet}
-use Rattle.kc_asm_bytes.specs.declared.octet.Octet.TheVariants as octets
+use Rattle.kc_asm_bytes.specs.declared.relocatable_byte.RelocatableByte.{RelocatableByte}
+use Rattle.kc_asm_bytes.specs.declared.relocatable_byte.RelocatableByte.TheVariants as relocatable_bytes
 use Rattle.kc_asm_bytes.specs.Filling.{base_address, address, fill}
-use Rattle.kc_asm_piece.specs.declared.part.Cell.{Cell}
-use Rattle.kc_asm_piece.specs.Tape.{cell_at}
-use Rattle.kc_asm_module.specs.Drafts.{base_exists, is_octet, AreOctets}
-use Rattle.kc_asm_laws.proofs.Octets.{IsGoodOctet}
+use Rattle.kc_asm_piece.specs.declared.part.PlacedByte.{PlacedByte}
+use Rattle.kc_asm_piece.specs.Section.{placed_byte_at}
+use Rattle.kc_asm_module.specs.UnlinkedModules.{base_exists, is_relocatable_byte, AreRelocatableBytes}
+use Rattle.kc_asm_laws.proofs.RelocatableBytes.{IsGoodRelocatableByte}
 
 begins : (kind start : ℕ) (b : Bool) → (kind == 3) ≡ b → cond b ((start == 0x20) || (start == 0x28)) (start == 0) ≡ true → (n : ℕ) → start + cond b (n % 2048 / 256) (n % 256) < 256
 begins kind start true e h n = let low : start < 41 = grind (arith, nat_tests, h) in omega (arith, low)
@@ -47,23 +47,23 @@ base_word b bases.Absolute n h = h
 base_word b (bases.Piece p) n h = omega arith
 base_word b (bases.External e) n h = omega arith
 
-pub fill_byte : (externals : ℕ) (b : Bases) (place : ℕ) (o : Octet) → is_octet externals o ≡ true → IsGoodOctet o → fill b place o < 256
+pub fill_byte : (externals : ℕ) (b : Bases) (place : ℕ) (o : RelocatableByte) → is_relocatable_byte externals o ≡ true → IsGoodRelocatableByte o → fill b place o < 256
 unfolding fill
-fill_byte externals b place (octets.Plain n) e h = h
-fill_byte externals b place (octets.First kind start v) e h =
-    let front = (and_parts (nat_le kind 4 && may_begin kind (Some start)) (base_exists externals v.base) e).0 in
-    first_byte kind start (number kind (place + reach kind) (address b v)) (and_parts (nat_le kind 4) (may_begin kind (Some start)) front).1
-fill_byte externals b place (octets.Second kind v) e h = second_byte kind (number kind (place + 1) (address b v)) (number_word kind (place + 1) (address b v) (base_word b v.base v.number h))
+fill_byte externals b place (relocatable_bytes.Plain n) e h = h
+fill_byte externals b place (relocatable_bytes.First kind start v) e h =
+    let prefix = (and_parts (nat_le kind 4 && may_begin kind (Some start)) (base_exists externals v.base) e).0 in
+    first_byte kind start (number kind (place + reach kind) (address b v)) (and_parts (nat_le kind 4) (may_begin kind (Some start)) prefix).1
+fill_byte externals b place (relocatable_bytes.Second kind v) e h = second_byte kind (number kind (place + 1) (address b v)) (number_word kind (place + 1) (address b v) (base_word b v.base v.number h))
 
 -- ---- octets of a part
 
-pub octet_is : (externals : ℕ) (cells : List Cell) (offset : ℕ) (o : Octet) → AreOctets externals cells → cell_at cells offset ≡ Some o → is_octet externals o ≡ true
-unfolding AreOctets cell_at
-octet_is externals [] offset o h e = absurd (cc e)
-octet_is externals (c ∷ cs) offset o h e = by (c.offset == offset) refl e (λ f. octet_is externals cs offset o h.2 f)
+pub relocatable_is : (externals : ℕ) (placed_bytes : List PlacedByte) (offset : ℕ) (o : RelocatableByte) → AreRelocatableBytes externals placed_bytes → placed_byte_at placed_bytes offset ≡ Some o → is_relocatable_byte externals o ≡ true
+unfolding AreRelocatableBytes placed_byte_at
+relocatable_is externals [] offset o h e = absurd (cc e)
+relocatable_is externals (c ∷ cs) offset o h e = by (c.offset == offset) refl e (λ f. relocatable_is externals cs offset o h.2 f)
   where
-    by : (b : Bool) → (c.offset == offset) ≡ b → cond b (Some c.octet) (cell_at cs offset) ≡ Some o → (cell_at cs offset ≡ Some o → is_octet externals o ≡ true) → is_octet externals o ≡ true
-    by true q f later = let same : c.octet ≡ o = cc f in subst (λ (x : Octet). is_octet externals x ≡ true) same h.0
+    by : (b : Bool) → (c.offset == offset) ≡ b → cond b (Some c.relocatable_byte) (placed_byte_at cs offset) ≡ Some o → (placed_byte_at cs offset ≡ Some o → is_relocatable_byte externals o ≡ true) → is_relocatable_byte externals o ≡ true
+    by true q f later = let same : c.relocatable_byte ≡ o = cc f in subst (λ (x : RelocatableByte). is_relocatable_byte externals x ≡ true) same h.0
     by false q f later = later f
 
 pub each_at : {A : Type 0} (P : A → Type 0) (xs : List A) (i : ℕ) (x : A) → AllByRecursion P xs → slice_get xs i ≡ Some x → P x

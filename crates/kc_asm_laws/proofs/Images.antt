@@ -8,8 +8,8 @@ use Rattle.kc_source_statement.specs.declared.statement.Stmt.{Stmt}
 use Rattle.kc_obj_module.specs.Object.{Object}
 use Rattle.kc_asm_bytes.specs.Filling.{fill}
 use Rattle.kc_asm_encoding.specs.Laws.{NumbersAreWords}
-use Rattle.kc_asm_piece.specs.declared.draft.Draft.{Draft}
-use Rattle.kc_asm_module.specs.Drafts.{IsPart, IsDraft}
+use Rattle.kc_asm_piece.specs.declared.unlinked.UnlinkedModule.{UnlinkedModule}
+use Rattle.kc_asm_module.specs.UnlinkedModules.{IsPart, IsUnlinkedModule}
 use Rattle.kc_asm_module.proofs.OneContents.{same_list}
 use Rattle.kc_link_place.specs.declared.ranges.Ranges.{Ranges}
 use Rattle.kc_link_place.specs.declared.ranges.LinkFault.{LinkFault}
@@ -20,9 +20,9 @@ use Rattle.kc_link.specs.Filled.{IsFilled}
 use Rattle.kc_link.specs.Laws.{OneImage as OneFilled}
 use Rattle.kc_link_laws.specs.Linked.{PlacedHaveImage}
 use Rattle.kc_link_draft_laws.specs.Parts.{start, part_bases}
-use Rattle.kc_link_draft_laws.specs.Linked.{IsCovered, AreLinked, DraftsAreLinked}
-use Rattle.kc_link_draft_laws.specs.Linked as drafts
-use Rattle.kc_asm_draft_laws.specs.Sound.{DraftsAreDrafts, DraftsAreWhole}
+use Rattle.kc_link_draft_laws.specs.Linked.{IsCovered, AreLinked, UnlinkedModulesAreLinked}
+use Rattle.kc_link_draft_laws.specs.Linked as unlinked_modules
+use Rattle.kc_asm_draft_laws.specs.Sound.{UnlinkedModulesAreUnlinked, UnlinkedModulesAreWhole}
 use Rattle.kc_asm_draft_laws.specs.Stood.{NothingElseStands}
 use Rattle.kc_asm.specs.Assembled.{AreSaid, IsModule}
 use Rattle.kc_asm.proofs.Said.{said_well}
@@ -31,8 +31,8 @@ use Rattle.kc_source_laws.specs.Lines.{StatementsAreOfTheText}
 use Rattle.kc_asm_earlier_laws.specs.Read.{SourcesAreReadWell}
 use Rattle.kc_asm_laws.specs.Modules.{OneModuleOfText}
 use Rattle.kc_asm_laws.specs.Images.{AreModulesOf, IsLinkedOf, FilledIsLinked, LinkedIsFilled, OneImageOfTexts, OneLinkedImageOfTexts, FilledAreBytes}
-use Rattle.kc_asm_laws.proofs.Filling.{fill_byte, octet_is, each_at}
-use Rattle.kc_asm_laws.proofs.Sources.{said_bytes, draft_good}
+use Rattle.kc_asm_laws.proofs.Filling.{fill_byte, relocatable_is, each_at}
+use Rattle.kc_asm_laws.proofs.Sources.{said_bytes, unlinked_good}
 
 -- ---- the sources behind modules
 
@@ -40,17 +40,17 @@ record Behind (texts : List (List ℕ)) (ms : List Object) : Type 0 where
   sources : List (List Stmt)
   count : length texts ≡ length sources
   said : (i : ℕ) (text : List ℕ) (stmts : List Stmt) → slice_get texts i ≡ Some text → slice_get sources i ≡ Some stmts → AreSaid text stmts
-  drafts : List Draft
-  are : AreSources sources drafts ms
+  unlinked_modules : List UnlinkedModule
+  are : AreSources sources unlinked_modules ms
 
-source_of : SourcesAreReadWell → (text : List ℕ) (m : Object) (is : IsModule text m) → IsSource is.stmts is.draft m
+source_of : SourcesAreReadWell → (text : List ℕ) (m : Object) (is : IsModule text m) → IsSource is.stmts is.unlinked m
 source_of law text m is = record {
   lines = is.said.0;
   read = is.said.2;
   characters = is.characters;
   well = said_well law text is.stmts is.said;
   sound = is.sound;
-  drafted = is.drafted;
+  collected = is.collected;
   few = is.few;
   made = is.made;
 }
@@ -64,8 +64,8 @@ with_one law t texts m ms is more = record {
   sources = is.stmts ∷ more.sources;
   count = ap suc more.count;
   said = says;
-  drafts = is.draft ∷ more.drafts;
-  are = record { drafts_count = ap suc more.are.drafts_count; modules_count = ap suc more.are.modules_count; of = each };
+  unlinked_modules = is.unlinked ∷ more.unlinked_modules;
+  are = record { unlinked_modules_count = ap suc more.are.unlinked_modules_count; modules_count = ap suc more.are.modules_count; of = each };
 }
   where
     says : (i : ℕ) (text : List ℕ) (stmts : List Stmt) → slice_get (t ∷ texts) i ≡ Some text → slice_get (is.stmts ∷ more.sources) i ≡ Some stmts → AreSaid text stmts
@@ -75,12 +75,12 @@ with_one law t texts m ms is more = record {
         subst (λ (x : List ℕ). AreSaid x stmts) one (subst (λ (x : List Stmt). AreSaid t x) two is.said)
     says (suc i) text stmts e f = more.said i text stmts e f
 
-    each : (i : ℕ) (stmts : List Stmt) (d : Draft) (n : Object) → slice_get (is.stmts ∷ more.sources) i ≡ Some stmts → slice_get (is.draft ∷ more.drafts) i ≡ Some d → slice_get (m ∷ ms) i ≡ Some n → IsSource stmts d n
+    each : (i : ℕ) (stmts : List Stmt) (d : UnlinkedModule) (n : Object) → slice_get (is.stmts ∷ more.sources) i ≡ Some stmts → slice_get (is.unlinked ∷ more.unlinked_modules) i ≡ Some d → slice_get (m ∷ ms) i ≡ Some n → IsSource stmts d n
     each zero stmts d n e f g =
         let one : is.stmts ≡ stmts = cc e in
-        let two : is.draft ≡ d = cc f in
+        let two : is.unlinked ≡ d = cc f in
         let three : m ≡ n = cc g in
-        subst (λ (x : List Stmt). IsSource x d n) one (subst (λ (x : Draft). IsSource is.stmts x n) two (subst (λ (x : Object). IsSource is.stmts is.draft x) three (source_of law t m is)))
+        subst (λ (x : List Stmt). IsSource x d n) one (subst (λ (x : UnlinkedModule). IsSource is.stmts x n) two (subst (λ (x : Object). IsSource is.stmts is.unlinked x) three (source_of law t m is)))
     each (suc i) stmts d n e f g = more.are.of i stmts d n e f g
 
 behind : SourcesAreReadWell → (texts : List (List ℕ)) (ms : List Object) → AreModulesOf texts ms → Behind texts ms
@@ -88,8 +88,8 @@ behind law [] [] a = record {
   sources = [];
   count = refl;
   said = λ i text stmts e f. absurd (cc e);
-  drafts = [];
-  are = record { drafts_count = refl; modules_count = refl; of = λ i stmts d m e f g. absurd (cc e) };
+  unlinked_modules = [];
+  are = record { unlinked_modules_count = refl; modules_count = refl; of = λ i stmts d m e f g. absurd (cc e) };
 }
 behind law [] (m ∷ ms) a = absurd (let n = a.count in omega (arith, n))
 behind law (t ∷ texts) [] a = absurd (let n = a.count in omega (arith, n))
@@ -111,26 +111,26 @@ pub record Laws : Type 0 where
   pub nothing_else : NothingElseStands
   pub of_text : StatementsAreOfTheText
   pub read : SourcesAreReadWell
-  pub drafts : DraftsAreDrafts
-  pub whole : DraftsAreWhole
-  pub linked : DraftsAreLinked
+  pub unlinked_modules : UnlinkedModulesAreUnlinked
+  pub whole : UnlinkedModulesAreWhole
+  pub linked : UnlinkedModulesAreLinked
 
 module _ (laws : Laws) where
-  are_modules : (texts : List (List ℕ)) (ms : List Object) (k : Behind texts ms) → drafts.AreModulesOf k.drafts ms
+  are_modules : (texts : List (List ℕ)) (ms : List Object) (k : Behind texts ms) → unlinked_modules.AreModulesOf k.unlinked_modules ms
   are_modules texts ms k = record {
-    count = sym k.are.drafts_count ∙ k.are.modules_count;
-    are_drafts = λ i d e. (let a = at i d e in laws.drafts a.0 d (is i d e).well (is i d e).sound (is i d e).drafted (is i d e).few);
-    are_whole = λ i d e. (let a = at i d e in laws.whole a.0 d (is i d e).sound (is i d e).drafted);
+    count = sym k.are.unlinked_modules_count ∙ k.are.modules_count;
+    are_unlinked_modules = λ i d e. (let a = at i d e in laws.unlinked_modules a.0 d (is i d e).well (is i d e).sound (is i d e).collected (is i d e).few);
+    are_whole = λ i d e. (let a = at i d e in laws.whole a.0 d (is i d e).sound (is i d e).collected);
     of = λ i d m e f. (let a = at i d e in (k.are.of i a.0 d m a.1 e f).made);
   }
     where
-      at : (i : ℕ) (d : Draft) → slice_get k.drafts i ≡ Some d → (stmts : List Stmt) × (slice_get k.sources i ≡ Some stmts)
-      at i d e = let l = slice_get_within k.drafts i d e in let c = k.are.drafts_count in get_some k.sources i (omega (arith, l, c))
+      at : (i : ℕ) (d : UnlinkedModule) → slice_get k.unlinked_modules i ≡ Some d → (stmts : List Stmt) × (slice_get k.sources i ≡ Some stmts)
+      at i d e = let l = slice_get_within k.unlinked_modules i d e in let c = k.are.unlinked_modules_count in get_some k.sources i (omega (arith, l, c))
 
-      module_at : (i : ℕ) (d : Draft) → slice_get k.drafts i ≡ Some d → (m : Object) × (slice_get ms i ≡ Some m)
-      module_at i d e = let l = slice_get_within k.drafts i d e in let c = k.are.drafts_count in let n = k.are.modules_count in get_some ms i (omega (arith, l, c, n))
+      module_at : (i : ℕ) (d : UnlinkedModule) → slice_get k.unlinked_modules i ≡ Some d → (m : Object) × (slice_get ms i ≡ Some m)
+      module_at i d e = let l = slice_get_within k.unlinked_modules i d e in let c = k.are.unlinked_modules_count in let n = k.are.modules_count in get_some ms i (omega (arith, l, c, n))
 
-      is : (i : ℕ) (d : Draft) (e : slice_get k.drafts i ≡ Some d) → IsSource (at i d e).0 d (module_at i d e).0
+      is : (i : ℕ) (d : UnlinkedModule) (e : slice_get k.unlinked_modules i ≡ Some d) → IsSource (at i d e).0 d (module_at i d e).0
       is i d e = k.are.of i (at i d e).0 d (module_at i d e).0 (at i d e).1 e (module_at i d e).1
 
   pub filled_are_bytes : FilledAreBytes
@@ -139,31 +139,31 @@ module _ (laws : Laws) where
       k : Behind texts ms
       k = behind laws.read texts ms are
 
-      of : drafts.AreModulesOf k.drafts ms
+      of : unlinked_modules.AreModulesOf k.unlinked_modules ms
       of = are_modules texts ms k
 
-      linked : AreLinked k.drafts ms places image
-      linked = laws.linked k.drafts ms ranges places image of ok filled
+      linked : AreLinked k.unlinked_modules ms places image
+      linked = laws.linked k.unlinked_modules ms ranges places image of ok filled
 
-      covered : (place v : ℕ) → slice_get image place ≡ Some v → IsCovered k.drafts ms places place → v < 256
+      covered : (place v : ℕ) → slice_get image place ≡ Some v → IsCovered k.unlinked_modules ms places place → v < 256
       covered place v e c =
-          let ld = slice_get_within k.drafts c.index c.d c.is_there in
-          let nd = k.are.drafts_count in
+          let ld = slice_get_within k.unlinked_modules c.index c.d c.is_there in
+          let nd = k.are.unlinked_modules_count in
           let nt = k.count in
           let s = get_some k.sources c.index (omega (arith, ld, nd)) in
           let t = get_some texts c.index (omega (arith, ld, nd, nt)) in
           let source = k.are.of c.index s.0 c.d c.m s.1 c.is_there c.its_module in
-          let draft : IsDraft c.d = of.are_drafts c.index c.d c.is_there in
+          let unlinked : IsUnlinkedModule c.d = of.are_unlinked_modules c.index c.d c.is_there in
           let said = said_bytes laws.of_text t.0 s.0 (k.said c.index t.0 s.0 t.1 s.1) in
-          let good = draft_good laws.words laws.nothing_else t.0 s.0 c.d said source.sound source.drafted c.part c.offset c.t c.octet c.stands.is_part c.stands.is_octet in
-          let part = each_at (IsPart (length c.d.externals.items)) c.d.parts.items c.part c.t draft.parts c.stands.is_part in
-          let octet = octet_is (length c.d.externals.items) c.t.cells c.offset c.octet part.octets c.stands.is_octet in
-          let held = (linked.holds c.index c.d c.m c.is_there c.its_module).octets c.part c.offset c.t c.octet c.stands in
+          let good = unlinked_good laws.words laws.nothing_else t.0 s.0 c.d said source.sound source.collected c.part c.offset c.t c.relocatable_byte c.stands.is_part c.stands.is_relocatable_byte in
+          let part = each_at (IsPart (length c.d.externals.items)) c.d.parts.items c.part c.t unlinked.parts c.stands.is_part in
+          let relocatable_byte = relocatable_is (length c.d.externals.items) c.t.placed_bytes c.offset c.relocatable_byte part.relocatable_bytes c.stands.is_relocatable_byte in
+          let held = (linked.holds c.index c.d c.m c.is_there c.its_module).relocatable_bytes c.part c.offset c.t c.relocatable_byte c.stands in
           let there = c.at in
           let here : (start (bases_of ms places c.index c.m) c.d c.part + c.offset) - 0x2000 ≡ place = omega (arith, there) in
-          let byte : Some v ≡ Some (fill (part_bases (bases_of ms places c.index c.m) c.d) (start (bases_of ms places c.index c.m) c.d c.part + c.offset) c.octet) = sym e ∙ (ap (slice_get image) (sym here) ∙ held.byte) in
-          let same : v ≡ fill (part_bases (bases_of ms places c.index c.m) c.d) (start (bases_of ms places c.index c.m) c.d c.part + c.offset) c.octet = cc byte in
-          subst (λ (n : ℕ). n < 256) (sym same) (fill_byte (length c.d.externals.items) (part_bases (bases_of ms places c.index c.m) c.d) (start (bases_of ms places c.index c.m) c.d c.part + c.offset) c.octet octet good)
+          let byte : Some v ≡ Some (fill (part_bases (bases_of ms places c.index c.m) c.d) (start (bases_of ms places c.index c.m) c.d c.part + c.offset) c.relocatable_byte) = sym e ∙ (ap (slice_get image) (sym here) ∙ held.byte) in
+          let same : v ≡ fill (part_bases (bases_of ms places c.index c.m) c.d) (start (bases_of ms places c.index c.m) c.d c.part + c.offset) c.relocatable_byte = cc byte in
+          subst (λ (n : ℕ). n < 256) (sym same) (fill_byte (length c.d.externals.items) (part_bases (bases_of ms places c.index c.m) c.d) (start (bases_of ms places c.index c.m) c.d c.part + c.offset) c.relocatable_byte relocatable_byte good)
 
       by : (place v : ℕ) → slice_get image place ≡ Some v → (b : Bool) → nat_lt v 256 ≡ b → v < 256
       by place v e true t = grind (arith, nat_tests, t)
@@ -186,12 +186,12 @@ filled_is_linked bytes law read texts ranges image h =
       sources = k.sources;
       said = k.said;
       count = k.count;
-      drafts = k.drafts;
+      unlinked_modules = k.unlinked_modules;
       modules = h.modules;
       are = k.are;
       places = h.places;
       placed = h.placed;
-      linked = law k.sources k.drafts h.modules ranges h.places image k.are h.placed h.filled;
+      linked = law k.sources k.unlinked_modules h.modules ranges h.places image k.are h.placed h.filled;
     }
 
 modules_of_linked : (texts : List (List ℕ)) (ranges : Ranges) (image : List ℕ) → (h : IsLinkedOf texts ranges image) → AreModulesOf texts h.modules
@@ -200,11 +200,11 @@ modules_of_linked texts ranges image h = record {
   of = λ i text m e f.
       let l = slice_get_within texts i text e in
       let n = h.count in
-      let nd = h.are.drafts_count in
+      let nd = h.are.unlinked_modules_count in
       let s = get_some h.sources i (omega (arith, l, n)) in
-      let d = get_some h.drafts i (omega (arith, l, n, nd)) in
+      let d = get_some h.unlinked_modules i (omega (arith, l, n, nd)) in
       let is = h.are.of i s.0 d.0 m s.1 d.1 f in
-      record { stmts = s.0; said = h.said i text s.0 e s.1; characters = is.characters; sound = is.sound; draft = d.0; drafted = is.drafted; few = is.few; made = is.made };
+      record { stmts = s.0; said = h.said i text s.0 e s.1; characters = is.characters; sound = is.sound; unlinked = d.0; collected = is.collected; few = is.few; made = is.made };
 }
 
 rules_of : (texts : List (List ℕ)) (ms : List Object) → AreModulesOf texts ms → AllKeepRules ms
@@ -218,8 +218,8 @@ pub linked_is_filled : FilledAreBytes → LinkedImage → OneImage → PlacedHav
 linked_is_filled bytes law one have texts ranges image bounds h =
     let are = modules_of_linked texts ranges image h in
     let f = have h.modules ranges h.places (record { rules = rules_of texts h.modules are; bounds = bounds; placed = h.placed }) in
-    let linked = law h.sources h.drafts h.modules ranges h.places f.0 h.are h.placed f.1 in
-    let same : f.0 ≡ image = one h.sources h.drafts h.modules h.places f.0 image (bytes texts h.modules ranges h.places f.0 are h.placed f.1) h.bytes linked h.linked in
+    let linked = law h.sources h.unlinked_modules h.modules ranges h.places f.0 h.are h.placed f.1 in
+    let same : f.0 ≡ image = one h.sources h.unlinked_modules h.modules h.places f.0 image (bytes texts h.modules ranges h.places f.0 are h.placed f.1) h.bytes linked h.linked in
     record { modules = h.modules; are = are; places = h.places; placed = h.placed; filled = subst (λ (x : List ℕ). IsFilled h.modules h.places x) same f.1 }
 
 -- ---- one image

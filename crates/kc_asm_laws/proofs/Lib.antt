@@ -1,9 +1,9 @@
 pub mod Alike
-pub mod Octets
+pub mod RelocatableBytes
 pub mod Filling
 pub mod Sources
 pub mod Images
-pub mod Tapes
+pub mod Sections
 pub mod Numbers
 pub mod Sorted
 pub mod Exists

@@ -31,25 +31,25 @@ use Rattle.kc_asm_symbols.specs.Few.{ExternalsAreFew}
 use Rattle.kc_asm_symbols.specs.Externals.{externals}
 use Rattle.kc_asm_symbols.specs.Located.{first_segment, value_at}
 use Rattle.kc_asm_symbols.specs.Meanings.{in_all}
-use Rattle.kc_asm_bytes.specs.declared.octet.Octet.{Octet}
-use Rattle.kc_asm_bytes.specs.declared.octet.Octet.TheVariants as octets
+use Rattle.kc_asm_bytes.specs.declared.relocatable_byte.RelocatableByte.{RelocatableByte}
+use Rattle.kc_asm_bytes.specs.declared.relocatable_byte.RelocatableByte.TheVariants as relocatable_bytes
 use Rattle.kc_asm_bytes.specs.Relocating.{depends, relocated}
 use Rattle.kc_asm_encoding.specs.Laws.{NumbersAreWords}
-use Rattle.kc_asm_piece.specs.declared.draft.Public.{Public}
-use Rattle.kc_asm_piece.specs.Tape.{Tape, cell_at, octet_at}
-use Rattle.kc_asm_module.specs.Drafts.{IsDraft}
+use Rattle.kc_asm_piece.specs.declared.unlinked.Public.{Public}
+use Rattle.kc_asm_piece.specs.Section.{Section, placed_byte_at, relocatable_byte_at}
+use Rattle.kc_asm_module.specs.UnlinkedModules.{IsUnlinkedModule}
 use Rattle.kc_asm_module.specs.Order.{number_of, segment_of, relocation}
 use Rattle.kc_asm_module.specs.Publics.{given_of}
 use Rattle.kc_asm_module.specs.Puts.{fixup_for}
 use Rattle.kc_asm_module.specs.ModuleOf.{fixup_from, relocated_at, entries_from, kept_in, pieces_in}
-use Rattle.kc_asm_module.proofs.Drafting.{parts_addable}
+use Rattle.kc_asm_module.proofs.Collecting.{parts_addable}
 use Rattle.kc_asm_module.proofs.Gathering.{addable_at}
 use Rattle.kc_link.proofs.ContentLemmas.{InCode, code_to, byte_in_code}
 use Rattle.kc_asm_check.specs.Codes.{first_regions}
-use Rattle.kc_asm_check.specs.Judging.{site_list, standing, place_at}
+use Rattle.kc_asm_check.specs.Checking.{location_list, standing, place_at}
 use Rattle.kc_asm_check.specs.Laws.{SoundStatements}
-use Rattle.kc_asm_draft_laws.specs.Drafting.{first_parts, publics_of, given_as, all_given, distinct_from}
-use Rattle.kc_asm_draft_laws.specs.Sound.{DraftsAreDrafts}
+use Rattle.kc_asm_draft_laws.specs.Collecting.{first_parts, publics_of, given_as, all_given, distinct_from}
+use Rattle.kc_asm_draft_laws.specs.Sound.{UnlinkedModulesAreUnlinked}
 use Rattle.kc_asm_draft_laws.specs.Stood.{NothingElseStands}
 use Rattle.kc_asm_draft_laws.specs.Writable.{PartsAreWritable}
 use Rattle.kc_asm.specs.Assembled.{IsModule}
@@ -60,9 +60,9 @@ use Rattle.kc_source_laws.specs.Lines.{is_line_of, StatementsAreOfTheText}
 use Rattle.kc_asm_earlier_laws.specs.Read.{SourcesAreReadWell}
 use Rattle.kc_source_laws.proofs.Tests.{all_join, all_map}
 use Rattle.kc_asm_laws.specs.Modules.{ModulesFit}
-use Rattle.kc_asm_laws.proofs.Octets.{IsGoodOctet}
-use Rattle.kc_asm_laws.proofs.Sources.{AreBytes, said_bytes, standing_bytes, draft_good}
-use Rattle.kc_asm_laws.proofs.Tapes.{marks_pass, parts_marks, located_lines, first_marks, entries_pass, pieces_pass, all_from, EachIs, each_piece, is_at, stack_small}
+use Rattle.kc_asm_laws.proofs.RelocatableBytes.{IsGoodRelocatableByte}
+use Rattle.kc_asm_laws.proofs.Sources.{AreBytes, said_bytes, standing_bytes, unlinked_good}
+use Rattle.kc_asm_laws.proofs.Sections.{marks_pass, parts_marks, located_lines, first_marks, entries_pass, pieces_pass, all_from, EachIs, each_piece, is_at, stack_small}
 
 -- ---- lists
 
@@ -143,11 +143,11 @@ found (x ∷ fs) (suc j) f h e =
 
 -- ---- what a relocation fills in
 
-addend_of : (number : ℕ → ℕ) (t : Tape) (piece offset : ℕ) (o : Octet) (f : Fixup) → IsGoodOctet o → fixup_for number piece offset (relocation t o) ≡ Some f → f.addend < 65536
+addend_of : (number : ℕ → ℕ) (t : Section) (piece offset : ℕ) (o : RelocatableByte) (f : Fixup) → IsGoodRelocatableByte o → fixup_for number piece offset (relocation t o) ≡ Some f → f.addend < 65536
 unfolding relocated
-addend_of number t piece offset (octets.Plain b) f h e = absurd (cc e)
-addend_of number t piece offset (octets.Second kind v) f h e = absurd (cc e)
-addend_of number t piece offset (octets.First kind start v) f h e = by (depends kind t.at (kind_number t.kind) v.base) e
+addend_of number t piece offset (relocatable_bytes.Plain b) f h e = absurd (cc e)
+addend_of number t piece offset (relocatable_bytes.Second kind v) f h e = absurd (cc e)
+addend_of number t piece offset (relocatable_bytes.First kind start v) f h e = by (depends kind t.at (kind_number t.kind) v.base) e
   where
     by : (b : Bool) → fixup_for number piece offset (cond b (Some (kind, v)) None) ≡ Some f → f.addend < 65536
     by true g = let same : v.number ≡ f.addend = (let q : Some v.number ≡ Some f.addend = ap addend g in cc q) in subst (λ (n : ℕ). n < 65536) same h
@@ -157,21 +157,21 @@ addend_of number t piece offset (octets.First kind start v) f h e = by (depends 
         addend (Some x) = Some x.addend
     by false g = absurd (cc g)
 
-abbrev HasGood : Tape → Type 0
-HasGood t = (offset : ℕ) (o : Octet) → octet_at t offset ≡ Some o → IsGoodOctet o
+abbrev HasGood : Section → Type 0
+HasGood t = (offset : ℕ) (o : RelocatableByte) → relocatable_byte_at t offset ≡ Some o → IsGoodRelocatableByte o
 
-no_octet : (offset : ℕ) (o : Octet) → cell_at [] offset ≡ Some o → ⊥
-unfolding cell_at
-no_octet offset o e = cc e
+no_relocatable : (offset : ℕ) (o : RelocatableByte) → placed_byte_at [] offset ≡ Some o → ⊥
+unfolding placed_byte_at
+no_relocatable offset o e = cc e
 
-addend_at : (number : ℕ → ℕ) (pieces : List Tape) (piece offset : ℕ) (f : Fixup) → EachIs HasGood pieces → relocated_at number piece (slice_get pieces piece) offset ≡ Some f → f.addend < 65536
+addend_at : (number : ℕ → ℕ) (pieces : List Section) (piece offset : ℕ) (f : Fixup) → EachIs HasGood pieces → relocated_at number piece (slice_get pieces piece) offset ≡ Some f → f.addend < 65536
 addend_at number pieces piece offset f h e = by (slice_get pieces piece) refl e
   where
-    by : (o : Option Tape) → slice_get pieces piece ≡ o → relocated_at number piece o offset ≡ Some f → f.addend < 65536
+    by : (o : Option Section) → slice_get pieces piece ≡ o → relocated_at number piece o offset ≡ Some f → f.addend < 65536
     by None g k = absurd (cc k)
-    by (Some t) g k = from (octet_at t offset) refl k
+    by (Some t) g k = from (relocatable_byte_at t offset) refl k
       where
-        from : (x : Option Octet) → octet_at t offset ≡ x → fixup_from number t piece offset x ≡ Some f → f.addend < 65536
+        from : (x : Option RelocatableByte) → relocatable_byte_at t offset ≡ x → fixup_from number t piece offset x ≡ Some f → f.addend < 65536
         from None q r = absurd (cc r)
         from (Some o) q r = addend_of number t piece offset o f (is_at HasGood pieces piece t h g offset o q) r
 
@@ -263,7 +263,7 @@ pub record Laws : Type 0 where
   pub read : SourcesAreReadWell
   pub words : NumbersAreWords
   pub nothing_else : NothingElseStands
-  pub drafts : DraftsAreDrafts
+  pub unlinked_modules : UnlinkedModulesAreUnlinked
   pub writable : PartsAreWritable
   pub sound : SoundStatements
   pub few : ExternalsAreFew
@@ -272,47 +272,47 @@ module _ (laws : Laws) (text : List ℕ) (m : Object) (short_text : length text 
   bytes : AreBytes text is.stmts
   bytes = said_bytes laws.of_text text is.stmts is.said
 
-  draft : IsDraft is.draft
-  draft = laws.drafts is.stmts is.draft (said_well laws.read text is.stmts is.said) is.sound is.drafted is.few
+  unlinked : IsUnlinkedModule is.unlinked
+  unlinked = laws.unlinked_modules is.stmts is.unlinked (said_well laws.read text is.stmts is.said) is.sound is.collected is.few
 
-  stack : is.draft.stack < 65536
+  stack : is.unlinked.stack < 65536
   stack =
-      let small = stack_small (standing is.stmts) first_regions 0 [] (standing is.stmts) (site_list is.stmts) first_parts (laws.sound is.stmts is.sound) (laws.writable is.stmts is.sound) (omega arith) in
-      let same = is.drafted.stack in
+      let small = stack_small (standing is.stmts) first_regions 0 [] (standing is.stmts) (location_list is.stmts) first_parts (laws.sound is.stmts is.sound) (laws.writable is.stmts is.sound) (omega arith) in
+      let same = is.collected.stack in
       omega (arith, small, same)
 
-  part_short : (i : ℕ) (t : Tape) → slice_get is.draft.parts.items i ≡ Some t → nat_lt t.length 0x10000 ≡ true
-  part_short i t e = less t.length 0x10000 (addable_at is.draft.parts.items i t (parts_addable (length is.draft.externals.items) is.draft.parts.items draft.places draft.parts) e).short
+  part_short : (i : ℕ) (t : Section) → slice_get is.unlinked.parts.items i ≡ Some t → nat_lt t.length 0x10000 ≡ true
+  part_short i t e = less t.length 0x10000 (addable_at is.unlinked.parts.items i t (parts_addable (length is.unlinked.externals.items) is.unlinked.parts.items unlinked.places unlinked.parts) e).short
 
-  abbrev tape_short : Tape → Bool
-  tape_short t = nat_lt t.length 0x10000
+  abbrev section_short : Section → Bool
+  section_short t = nat_lt t.length 0x10000
 
   segments_short : list_all is_short m.segments ≡ true
   segments_short =
-      let pieces = pieces_pass tape_short (kept_in is.draft) is.draft.parts.items is.draft.stack (all_from tape_short is.draft.parts.items part_short) (less is.draft.stack 0x10000 stack) in
-      rw is.made.segments (all_map is_short tape_short segment_of (pieces_in is.draft) (λ t e. e) pieces)
+      let pieces = pieces_pass section_short (kept_in is.unlinked) is.unlinked.parts.items is.unlinked.stack (all_from section_short is.unlinked.parts.items part_short) (less is.unlinked.stack 0x10000 stack) in
+      rw is.made.segments (all_map is_short section_short segment_of (pieces_in is.unlinked) (λ t e. e) pieces)
 
   segments_few : length m.segments ≤ 65536
-  segments_few = let e = ap length is.made.segments in let n = length-map (pieces_in is.draft) segment_of in let few = is.few in omega (arith, e, n, few)
+  segments_few = let e = ap length is.made.segments in let n = length-map (pieces_in is.unlinked) segment_of in let few = is.few in omega (arith, e, n, few)
 
   externals_few : length m.externals ≤ 65536
   externals_few =
-      let e : length m.externals ≡ length (externals (standing is.stmts)) = ap length (is.made.externals ∙ is.drafted.externals) in
-      let few = laws.few is.said.0 is.stmts (λ i g. value_at g (place_at (site_list is.stmts) i)) is.said.2 in
+      let e : length m.externals ≡ length (externals (standing is.stmts)) = ap length (is.made.externals ∙ is.collected.externals) in
+      let few = laws.few is.said.0 is.stmts (λ i g. value_at g (place_at (location_list is.stmts) i)) is.said.2 in
       omega (arith, e, few)
 
   publics_fit : list_all (λ g. nat_lt g.value 0x10000) m.publics ≡ true
   publics_fit =
-      let last = in_all_word (standing is.stmts) (places_are_words (place_at (site_list is.stmts)) 0 first_segment is.stmts) (standing_bytes text is.stmts bytes) in
+      let last = in_all_word (standing is.stmts) (places_are_words (place_at (location_list is.stmts)) 0 first_segment is.stmts) (standing_bytes text is.stmts bytes) in
       let words = publics_words (in_all (standing is.stmts)) last (distinct_from [] (all_given (standing is.stmts))) in
-      let all : list_all (λ p. is_word p.value.number) is.draft.publics.items ≡ true = rw is.drafted.publics words in
-      all_permuted (λ (g : Given). nat_lt g.value 0x10000) (map (given_of (number_of (kept_in is.draft))) is.draft.publics.items) m.publics is.made.publics
-      (all_map (λ (g : Given). nat_lt g.value 0x10000) (λ (p : Public). is_word p.value.number) (given_of (number_of (kept_in is.draft))) is.draft.publics.items (λ p e. e) all)
+      let all : list_all (λ p. is_word p.value.number) is.unlinked.publics.items ≡ true = rw is.collected.publics words in
+      all_permuted (λ (g : Given). nat_lt g.value 0x10000) (map (given_of (number_of (kept_in is.unlinked))) is.unlinked.publics.items) m.publics is.made.publics
+      (all_map (λ (g : Given). nat_lt g.value 0x10000) (λ (p : Public). is_word p.value.number) (given_of (number_of (kept_in is.unlinked))) is.unlinked.publics.items (λ p e. e) all)
 
-  pieces_good : EachIs HasGood (pieces_in is.draft)
+  pieces_good : EachIs HasGood (pieces_in is.unlinked)
   pieces_good =
-      each_piece HasGood (kept_in is.draft) is.draft.parts.items is.draft.stack (λ i t e offset o f. draft_good laws.words laws.nothing_else text is.stmts is.draft bytes is.sound is.drafted i offset t o e f)
-      (λ offset o e. absurd (no_octet offset o e))
+      each_piece HasGood (kept_in is.unlinked) is.unlinked.parts.items is.unlinked.stack (λ i t e offset o f. unlinked_good laws.words laws.nothing_else text is.stmts is.unlinked bytes is.sound is.collected i offset t o e f)
+      (λ offset o e. absurd (no_relocatable offset o e))
 
   rules : Rules m
   rules = rules_of m is.made.rules
@@ -324,7 +324,7 @@ module _ (laws : Laws) (text : List ℕ) (m : Object) (short_text : length text 
   fixups_fit = each_by fixup_fits m.fixups (λ i f e.
       let at = sym (is.made.fixups f.piece f.offset) ∙ found m.fixups i f rules.ordered e in
       fixup_small m f segments_few segments_short externals_few rules.contents (one_of (fixup_is_sound m.segments m.externals) m.fixups i f rules.fixups e) (one_of (has_room m.contents) m.fixups i f rules.rooms e)
-      (addend_at (number_of (kept_in is.draft)) (pieces_in is.draft) f.piece f.offset f pieces_good at))
+      (addend_at (number_of (kept_in is.unlinked)) (pieces_in is.unlinked) f.piece f.offset f pieces_good at))
 
   abbrev line_small : ℕ → Bool
   line_small n = nat_lt n 0x100000000
@@ -336,22 +336,22 @@ module _ (laws : Laws) (text : List ℕ) (m : Object) (short_text : length text 
       let le : s.line ≤ length text = grind (arith, nat_tests, high) in
       less s.line 0x100000000 (omega (arith, le, short_text)))
 
-  marks_small : list_all (marks_pass line_small) is.draft.parts.items ≡ true
-  marks_small = rw is.drafted.parts (parts_marks line_small (standing is.stmts) [] (standing is.stmts) (site_list is.stmts) first_parts
-      (located_lines line_small (λ i g. value_at g (place_at (site_list is.stmts) i)) 0 first_segment is.stmts stmts_small) (first_marks line_small))
+  marks_small : list_all (marks_pass line_small) is.unlinked.parts.items ≡ true
+  marks_small = rw is.collected.parts (parts_marks line_small (standing is.stmts) [] (standing is.stmts) (location_list is.stmts) first_parts
+      (located_lines line_small (λ i g. value_at g (place_at (location_list is.stmts) i)) 0 first_segment is.stmts stmts_small) (first_marks line_small))
 
-  entries_small : list_all (λ l. line_small l.line) (entries_from 0 (pieces_in is.draft)) ≡ true
-  entries_small = entries_pass line_small 0 (pieces_in is.draft) (pieces_pass (marks_pass line_small) (kept_in is.draft) is.draft.parts.items is.draft.stack marks_small refl)
+  entries_small : list_all (λ l. line_small l.line) (entries_from 0 (pieces_in is.unlinked)) ≡ true
+  entries_small = entries_pass line_small 0 (pieces_in is.unlinked) (pieces_pass (marks_pass line_small) (kept_in is.unlinked) is.unlinked.parts.items is.unlinked.stack marks_small refl)
 
   entry_fits : (l : Lines) → line_is_sound m.segments l ≡ true → line_small l.line ≡ true → line_fits l ≡ true
   entry_fits l h k =
       let place = line_place m.segments l segments_few segments_short h in
       and_from (nat_lt l.piece 0x10000 && nat_lt l.offset 0x10000) (nat_lt l.line 0x100000000) (and_from (nat_lt l.piece 0x10000) (nat_lt l.offset 0x10000) (less l.piece 0x10000 place.piece_fits) (less l.offset 0x10000 place.offset_fits)) k
 
-  entries_fit : (o : Option (List Lines)) → lines_are_sound m.segments o ≡ true → o ≡ Some (entries_from 0 (pieces_in is.draft)) → lines_fit o ≡ true
+  entries_fit : (o : Option (List Lines)) → lines_are_sound m.segments o ≡ true → o ≡ Some (entries_from 0 (pieces_in is.unlinked)) → lines_fit o ≡ true
   entries_fit None h e = refl
   entries_fit (Some ls) h e =
-      let same : ls ≡ entries_from 0 (pieces_in is.draft) = cc e in
+      let same : ls ≡ entries_from 0 (pieces_in is.unlinked) = cc e in
       let small : list_all (λ l. line_small l.line) ls ≡ true = rw same entries_small in
       let sound = (and_parts (list_all (line_is_sound m.segments) ls) _ h).0 in
       each_by line_fits ls (λ i l f. entry_fits l (one_of (line_is_sound m.segments) ls i l sound f) (one_of (λ (x : Lines). line_small x.line) ls i l small f))

@@ -8,10 +8,10 @@ use Rattle.kc_source_statement.specs.declared.statement.Stmt.{Stmt}
 use Rattle.kc_source.specs.Faults.{Fault, stmt_said, least, faults_of}
 use Rattle.kc_obj_module.specs.Object.{Object}
 use Rattle.kc_asm_check.specs.Codes.{first_regions}
-use Rattle.kc_asm_check.specs.Judging.{faults_from, first_fault}
+use Rattle.kc_asm_check.specs.Checking.{faults_from, first_fault}
 use Rattle.kc_asm.specs.Assembled.{IsText, AreSaid, IsFirstFault, FaultOfValues, IsModule}
 use Rattle.kc_asm_laws.specs.Modules.{IsAnswer, OneModuleOfText, OneAnswerOfText}
-use Rattle.kc_asm_laws.proofs.Alike.{standing_alike, sites_alike, ok_lines, text_same, said_same}
+use Rattle.kc_asm_laws.proofs.Alike.{standing_alike, locations_alike, ok_lines, text_same, said_same}
 
 abbrev refused : Fault → Result Object Fault
 refused fault = Err fault
@@ -104,7 +104,7 @@ module _ (text : List ℕ) (out : List Line) (t : IsText text out) where
 
 module _ (ss ts : List Stmt) (same : map stmt_said ss ≡ map stmt_said ts) where
   faults_alike : first_fault ss ≡ first_fault ts
-  faults_alike = λ i. least (faults_from (standing_alike ss ts same i) first_regions 0 [] (standing_alike ss ts same i) (sites_alike ss ts same i))
+  faults_alike = λ i. least (faults_from (standing_alike ss ts same i) first_regions 0 [] (standing_alike ss ts same i) (locations_alike ss ts same i))
 
 module _ (text : List ℕ) where
   -- there is none where statements have none

@@ -8,16 +8,16 @@ use Rattle.kc_source_statement.specs.Trees.{action_tree}
 use Rattle.kc_asm_symbols.specs.Located.{Located, first_segment, value_at}
 use Rattle.kc_asm_symbols.specs.Externals.{action_trees}
 use Rattle.kc_asm_symbols.specs.Meanings.{meaning}
-use Rattle.kc_asm_bytes.specs.declared.octet.Octet.{Octet}
-use Rattle.kc_asm_bytes.specs.declared.octet.Octet.TheVariants.{Plain}
+use Rattle.kc_asm_bytes.specs.declared.relocatable_byte.RelocatableByte.{RelocatableByte}
+use Rattle.kc_asm_bytes.specs.declared.relocatable_byte.RelocatableByte.TheVariants.{Plain}
 use Rattle.kc_asm_encoding.specs.Laws.{NumbersAreWords}
-use Rattle.kc_asm_piece.specs.declared.draft.Draft.{Draft}
-use Rattle.kc_asm_piece.specs.Tape.{Tape, octet_at}
+use Rattle.kc_asm_piece.specs.declared.unlinked.UnlinkedModule.{UnlinkedModule}
+use Rattle.kc_asm_piece.specs.Section.{Section, relocatable_byte_at}
 use Rattle.kc_asm_module.specs.Order.{start_of}
-use Rattle.kc_asm_layout.specs.declared.site.Site.{Site}
-use Rattle.kc_asm_check.specs.Judging.{first_fault, site_list, standing, place_at}
-use Rattle.kc_asm_draft_laws.specs.Drafting.{IsDraftOf}
-use Rattle.kc_asm_draft_laws.specs.Stood.{HasOctets, IsOfStatement, NothingElseStands}
+use Rattle.kc_asm_layout.specs.declared.location.Location.{Location}
+use Rattle.kc_asm_check.specs.Checking.{first_fault, location_list, standing, place_at}
+use Rattle.kc_asm_draft_laws.specs.Collecting.{IsUnlinkedModuleOf}
+use Rattle.kc_asm_draft_laws.specs.Stood.{HasRelocatableBytes, IsOfStatement, NothingElseStands}
 use Rattle.kc_asm.specs.Assembled.{AreSaid}
 use Rattle.kc_asm.proofs.Characters.{trees_alike}
 use Rattle.kc_link_source_laws.specs.Characters.{all_bytes, has_bytes}
@@ -26,7 +26,7 @@ use Rattle.kc_link_source_laws.proofs.Meanings.{split_test, standing_test, place
 use Rattle.kc_source_laws.specs.Strings.{strings_pass, items_pass, action_passes}
 use Rattle.kc_source_laws.specs.Lines as lines
 use Rattle.kc_source_laws.specs.Lines.{is_good_statement, is_line_of, StatementsAreOfTheText}
-use Rattle.kc_asm_laws.proofs.Octets.{IsGoodOctet, AllGood, good_at, content_good}
+use Rattle.kc_asm_laws.proofs.RelocatableBytes.{IsGoodRelocatableByte, AllGood, good_at, content_good}
 
 -- ---- characters are bytes
 
@@ -59,24 +59,24 @@ abbrev pub texts_have_bytes : List Stmt → Type 0
 texts_have_bytes stmts = list_all has_all_bytes (standing stmts) ≡ true
 
 pub standing_bytes : (text : List ℕ) (stmts : List Stmt) → AreBytes text stmts → list_all has_all_bytes (standing stmts) ≡ true
-standing_bytes text stmts are = standing_test all_bytes (λ i g. value_at g (place_at (site_list stmts) i)) 0 first_segment stmts are.characters
+standing_bytes text stmts are = standing_test all_bytes (λ i g. value_at g (place_at (location_list stmts) i)) 0 first_segment stmts are.characters
 
 pub names_words : (text : List ℕ) (stmts : List Stmt) → AreBytes text stmts → (before after : List Located) (l : Located) → standing stmts ≡ reverse before ++ l ∷ after → (q : List ℕ) → IsWordAnswer (meaning (standing stmts) before l q)
-names_words text stmts are before after l split = meaning_word (standing stmts) (places_are_words (place_at (site_list stmts)) 0 first_segment stmts) (standing_bytes text stmts are) before after l split
+names_words text stmts are before after l split = meaning_word (standing stmts) (places_are_words (place_at (location_list stmts)) 0 first_segment stmts) (standing_bytes text stmts are) before after l split
 
 abbrev items_at : Located → Bool
 items_at l = items_pass lines.are_bytes l.action
 
-statement_good : NumbersAreWords → (text : List ℕ) (stmts : List Stmt) → AreBytes text stmts → (before : List Located) (l : Located) (s : Site) (os : List Octet) → HasOctets (standing stmts) (site_list stmts) before l s os → AllGood os
+statement_good : NumbersAreWords → (text : List ℕ) (stmts : List Stmt) → AreBytes text stmts → (before : List Located) (l : Located) (s : Location) (os : List RelocatableByte) → HasRelocatableBytes (standing stmts) (location_list stmts) before l s os → AllGood os
 statement_good law text stmts are before l s os h =
     content_good law (meaning (standing stmts) before l) (names_words text stmts are before h.after l h.split) s.form l.here l.action
     (split_test has_all_bytes (standing stmts) before h.after l (standing_bytes text stmts are) h.split).1
-    (split_test items_at (standing stmts) before h.after l (standing_test (items_pass lines.are_bytes) (λ i g. value_at g (place_at (site_list stmts) i)) 0 first_segment stmts are.items) h.split).1 os h.octets
+    (split_test items_at (standing stmts) before h.after l (standing_test (items_pass lines.are_bytes) (λ i g. value_at g (place_at (location_list stmts) i)) 0 first_segment stmts are.items) h.split).1 os h.relocatable_bytes
 
-pub draft_good : NumbersAreWords → NothingElseStands → (text : List ℕ) (stmts : List Stmt) (d : Draft) → AreBytes text stmts → first_fault stmts ≡ None → IsDraftOf stmts d
-    → (part offset : ℕ) (t : Tape) (o : Octet) → slice_get d.parts.items part ≡ Some t → octet_at t offset ≡ Some o → IsGoodOctet o
-draft_good law nothing text stmts d are sound drafted part offset t o e f = by (nothing stmts d sound drafted part offset t o e f)
+pub unlinked_good : NumbersAreWords → NothingElseStands → (text : List ℕ) (stmts : List Stmt) (d : UnlinkedModule) → AreBytes text stmts → first_fault stmts ≡ None → IsUnlinkedModuleOf stmts d
+    → (part offset : ℕ) (t : Section) (o : RelocatableByte) → slice_get d.parts.items part ≡ Some t → relocatable_byte_at t offset ≡ Some o → IsGoodRelocatableByte o
+unlinked_good law nothing text stmts d are sound collected part offset t o e f = by (nothing stmts d sound collected part offset t o e f)
   where
-    by : (o ≡ Plain 255) ⊎ IsOfStatement (standing stmts) (site_list stmts) part (start_of t.at + offset) o → IsGoodOctet o
-    by (inl g) = subst IsGoodOctet (sym g) (omega arith)
-    by (inr g) = good_at g.os g.index o (statement_good law text stmts are g.before g.l g.s g.os g.statement) g.octet
+    by : (o ≡ Plain 255) ⊎ IsOfStatement (standing stmts) (location_list stmts) part (start_of t.at + offset) o → IsGoodRelocatableByte o
+    by (inl g) = subst IsGoodRelocatableByte (sym g) (omega arith)
+    by (inr g) = good_at g.os g.index o (statement_good law text stmts are g.before g.l g.s g.os g.statement) g.relocatable_byte

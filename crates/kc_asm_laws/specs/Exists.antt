@@ -4,8 +4,8 @@ use Rattle.kc_lex.specs.declared.token.Line.{Line}
 use Rattle.kc_source_statement.specs.declared.statement.Stmt.{Stmt}
 use Rattle.kc_source.specs.Faults.{least, faults_of}
 use Rattle.kc_obj_module.specs.Object.{Object}
-use Rattle.kc_asm_piece.specs.declared.draft.Draft.{Draft}
-use Rattle.kc_asm_draft_laws.specs.Drafting.{IsDraftOf}
+use Rattle.kc_asm_piece.specs.declared.unlinked.UnlinkedModule.{UnlinkedModule}
+use Rattle.kc_asm_draft_laws.specs.Collecting.{IsUnlinkedModuleOf}
 use Rattle.kc_asm.specs.Assembled.{IsText, AreSaid, IsFaultless, IsModule}
 
 -- the lines that macros, repetitions and conditions leave of it, of which none has a fault
@@ -15,4 +15,4 @@ FaultlessAreRead = (text : List ℕ) → IsFaultless text → (lines : List Line
 -- each draft of what a text without a fault says has a module, which is the module of the text
 abbrev pub FaultlessHaveModules : Type 0
 FaultlessHaveModules =
-    (text : List ℕ) (stmts : List Stmt) (d : Draft) → IsFaultless text → AreSaid text stmts → IsDraftOf stmts d → (m : Object) × IsModule text m
+    (text : List ℕ) (stmts : List Stmt) (d : UnlinkedModule) → IsFaultless text → AreSaid text stmts → IsUnlinkedModuleOf stmts d → (m : Object) × IsModule text m

@@ -3,7 +3,7 @@ use Rattle.std.specs.Prelude.{◌≡◌, ℕ, true, Some, Ok, List, length, slic
 use Rattle.kc_base.specs.Bytes.{IsBytes}
 use Rattle.kc_source_statement.specs.declared.statement.Stmt.{Stmt}
 use Rattle.kc_obj_module.specs.Object.{Object}
-use Rattle.kc_asm_piece.specs.declared.draft.Draft.{Draft}
+use Rattle.kc_asm_piece.specs.declared.unlinked.UnlinkedModule.{UnlinkedModule}
 use Rattle.kc_asm.specs.Assembled.{AreSaid, IsModule}
 use Rattle.kc_link_place.specs.declared.ranges.Ranges.{Ranges}
 use Rattle.kc_link_place.specs.Ranges.{are_in_bounds}
@@ -31,12 +31,12 @@ pub record IsLinkedOf (texts : List (List ℕ)) (ranges : Ranges) (image : List 
   pub sources : List (List Stmt)
   pub said : (i : ℕ) (text : List ℕ) (stmts : List Stmt) → slice_get texts i ≡ Some text → slice_get sources i ≡ Some stmts → AreSaid text stmts
   pub count : length texts ≡ length sources
-  pub drafts : List Draft
+  pub unlinked_modules : List UnlinkedModule
   pub modules : List Object
-  pub are : AreSources sources drafts modules
+  pub are : AreSources sources unlinked_modules modules
   pub places : Places
   pub placed : placed modules ranges ≡ Ok places
-  pub linked : IsLinked sources drafts modules places image
+  pub linked : IsLinked sources unlinked_modules modules places image
 
 -- what is filled is linked
 abbrev pub FilledIsLinked : Type 0

@@ -7,14 +7,15 @@ ghost use Rattle.kc_asm_laws.specs.Modules.{ModulesFit, OneAnswerOfText, OneModu
 
 use kc_asm_check::no_fault_no_codes;
 use kc_asm_draft_laws::{
-    drafts_are_drafts, drafts_are_whole, nothing_else_stands, parts_are_writable, pieces_are_few,
+    nothing_else_stands, parts_are_writable, pieces_are_few, unlinked_modules_are_unlinked,
+    unlinked_modules_are_whole,
 };
 use kc_asm_earlier_laws::sources_are_read_well;
 use kc_asm_encoding::laws::numbers_are_words;
 use kc_asm_module::one_module;
 use kc_asm_symbols::externals_are_few;
 use kc_link::one_image as one_filled_image;
-use kc_link_draft_laws::drafts_are_linked;
+use kc_link_draft_laws::unlinked_modules_are_linked;
 use kc_link_laws::placed_have_image;
 use kc_link_source_laws::{linked_image, one_image};
 use kc_macro::laws::expansion_ends;
@@ -28,7 +29,7 @@ pub fn modules_fit()
     sources_are_read_well();
     numbers_are_words();
     nothing_else_stands();
-    drafts_are_drafts();
+    unlinked_modules_are_unlinked();
     parts_are_writable();
     no_fault_no_codes();
     externals_are_few();
@@ -57,9 +58,9 @@ pub fn filled_are_bytes()
     nothing_else_stands();
     statements_are_of_the_text();
     sources_are_read_well();
-    drafts_are_drafts();
-    drafts_are_whole();
-    drafts_are_linked();
+    unlinked_modules_are_unlinked();
+    unlinked_modules_are_whole();
+    unlinked_modules_are_linked();
 }
 
 /// The image that is filled from the modules of texts is linked: its bytes read as what the statements say.
@@ -111,8 +112,8 @@ pub fn faultless_have_modules()
     statements_are_of_the_text();
     sources_are_read_well();
     pieces_are_few();
-    drafts_are_drafts();
-    drafts_are_whole();
+    unlinked_modules_are_unlinked();
+    unlinked_modules_are_whole();
     parts_are_writable();
     no_fault_no_codes();
 }

@@ -14,14 +14,14 @@ use Rattle.kc_branch.specs.declared.piece.BranchKind.{BranchKind}
 use Rattle.kc_branch.specs.Forms.{size, spans, is_third, reaches, piece_reaches, head_form, forms_after, places, forms}
 use Rattle.kc_branch.specs.Laws.{all_reach}
 use Rattle.kc_branch.proofs.Reaching.{forms_settle}
-use Rattle.kc_asm_outline.specs.declared.note.Anchor.{Anchor}
-use Rattle.kc_asm_outline.specs.declared.note.Anchor.TheVariants as anchor
-use Rattle.kc_asm_outline.specs.declared.note.Body.{Body}
-use Rattle.kc_asm_outline.specs.declared.note.Body.TheVariants.{Branch}
-use Rattle.kc_asm_outline.specs.declared.note.Note.{Note}
-use Rattle.kc_asm_layout.specs.declared.site.Site.{Site}
+use Rattle.kc_asm_outline.specs.declared.size_record.Anchor.{Anchor}
+use Rattle.kc_asm_outline.specs.declared.size_record.Anchor.TheVariants as anchor
+use Rattle.kc_asm_outline.specs.declared.size_record.Body.{Body}
+use Rattle.kc_asm_outline.specs.declared.size_record.Body.TheVariants.{Branch}
+use Rattle.kc_asm_outline.specs.declared.size_record.SizeRecord.{SizeRecord}
+use Rattle.kc_asm_layout.specs.declared.location.Location.{Location}
 use Rattle.kc_asm_outline.specs.Numbered.{IsNumbered, is_code}
-use Rattle.kc_asm_layout.specs.Places.{addresses, no_bytes, passed, ends_after, sites_from}
+use Rattle.kc_asm_layout.specs.Places.{addresses, no_bytes, passed, ends_after, locations_from}
 use Rattle.kc_asm_layout.specs.Text.{Target, nowhere, body_text, main_text, absolute_text, text_by, positions, target_in, is_same_base, segment_in, is_main, is_branch, is_code_branch, is_main_branch, count_main, left_behind, dealt, gaps, text, next_gap, layout}
 use Rattle.kc_asm_layout.specs.Laws.{is_near, BranchesReach, OtherBranchesAreLong}
 use Rattle.kc_asm_layout.proofs.Walking.{here_after, forms_behind, behind_append, place_at, place_behind, reach_split}
@@ -35,7 +35,7 @@ drop_left : (b : Bool) (c : ℕ) (fs : List Form) → drop c (left_behind b fs) 
 drop_left true c fs = drop-drop c 1 fs
 drop_left false c fs = ap (λ k. drop k fs) (omega arith)
 
-all_behind : (target : Target) (ns : List Note) (gs : List ℕ) (fs : List Form) → forms_behind (text_by (main_text target) gs ns) fs ≡ drop (count_main ns) fs
+all_behind : (target : Target) (ns : List SizeRecord) (gs : List ℕ) (fs : List Form) → forms_behind (text_by (main_text target) gs ns) fs ≡ drop (count_main ns) fs
 unfolding text_by count_main
 all_behind target [] gs fs = refl
 all_behind target (n ∷ ns) gs fs =
@@ -44,7 +44,7 @@ all_behind target (n ∷ ns) gs fs =
     ∙ all_behind target ns (drop 1 gs) (left_behind (is_main_branch n) fs)
     ∙ drop_left (is_main_branch n) (count_main ns) fs
 
-all_length : (target : Target) (ns : List Note) (gs : List ℕ) → length (text_by (main_text nowhere) gs ns) ≡ length (text_by (main_text target) gs ns)
+all_length : (target : Target) (ns : List SizeRecord) (gs : List ℕ) → length (text_by (main_text nowhere) gs ns) ≡ length (text_by (main_text target) gs ns)
 unfolding text_by
 all_length target [] gs = refl
 all_length target (n ∷ ns) gs =
@@ -53,32 +53,32 @@ all_length target (n ∷ ns) gs =
     ∙ ap (λ k. length (main_text target (next_gap gs) n) + k) (all_length target ns (drop 1 gs))
     ∙ sym (length-append (main_text target (next_gap gs) n) (text_by (main_text target) (drop 1 gs) ns))
 
-abbrev target_of : List Note → Target
+abbrev target_of : List SizeRecord → Target
 target_of ns = target_in (positions (gaps ns) ns) ns
 
-abbrev mains_of : List Note → List Piece
+abbrev mains_of : List SizeRecord → List Piece
 mains_of ns = text_by (main_text (target_of ns)) (gaps ns) ns
 
-abbrev absolutes_of : List Note → List Piece
+abbrev absolutes_of : List SizeRecord → List Piece
 absolutes_of ns = text_by (absolute_text (target_of ns)) (gaps ns) ns
 
-abbrev chosen : List Note → List Form
+abbrev chosen : List SizeRecord → List Form
 chosen ns = forms (text ns)
 
-abbrev FoundAt : List Note → ℕ → Note → Site → Type 0
+abbrev FoundAt : List SizeRecord → ℕ → SizeRecord → Location → Type 0
 FoundAt ns k n s = Found (text ns) (chosen ns) 0 0 (target_of ns) n s (slice_index (positions (gaps ns) ns) k)
 
-abbrev StoodAt : List Note → ℕ → Note → Site → Type 0
+abbrev StoodAt : List SizeRecord → ℕ → SizeRecord → Location → Type 0
 StoodAt ns k n s =
     Stood (mains_of ns) (absolutes_of ns) (chosen ns) (drop (count_main ns) (chosen ns)) 0 (here_after (mains_of ns) (chosen ns) 0) 0
     (length (text_by (main_text nowhere) (gaps ns) ns)) (target_of ns) n s (slice_index (positions (gaps ns) ns) k)
 
-stood_at : (ns : List Note) (k : ℕ) (n : Note) (s : Site) → IsNumbered ns → slice_get ns k ≡ Some n → slice_get (layout ns) k ≡ Some s → StoodAt ns k n s
-stood_at ns k n s num is site =
+stood_at : (ns : List SizeRecord) (k : ℕ) (n : SizeRecord) (s : Location) → IsNumbered ns → slice_get ns k ≡ Some n → slice_get (layout ns) k ≡ Some s → StoodAt ns k n s
+stood_at ns k n s num is location =
     stood (addresses ns) (target_of ns) ns k first_segment None no_bytes no_bytes (chosen ns) (drop (count_main ns) (chosen ns)) 0 (here_after (mains_of ns) (chosen ns) 0) 0
-    (length (text_by (main_text nowhere) (gaps ns) ns)) n s (begins_well (here_after (mains_of ns) (chosen ns) 0)) num is site
+    (length (text_by (main_text nowhere) (gaps ns) ns)) n s (begins_well (here_after (mains_of ns) (chosen ns) 0)) num is location
 
-found_at : (ns : List Note) (k : ℕ) (n : Note) (s : Site) → StoodAt ns k n s → (is_main n.segment ≡ true) ⊎ (is_absolute n.segment ≡ true) → FoundAt ns k n s
+found_at : (ns : List SizeRecord) (k : ℕ) (n : SizeRecord) (s : Location) → StoodAt ns k n s → (is_main n.segment ≡ true) ⊎ (is_absolute n.segment ≡ true) → FoundAt ns k n s
 found_at ns k n s st (inl m) = before (mains_of ns) (absolutes_of ns) (chosen ns) 0 0 (target_of ns) n s (slice_index (positions (gaps ns) ns) k) (st.main m)
 found_at ns k n s st (inr a) =
     further (mains_of ns) (absolutes_of ns) (chosen ns) (drop (count_main ns) (chosen ns)) 0 (here_after (mains_of ns) (chosen ns) 0) 0
@@ -93,7 +93,7 @@ branch_is target g kind a b c e =
     ∙ ap (λ x. cond x (piece.Branch kind (target g a) ∷ []) (piece.Bytes (size kind First) ∷ [])) c
 
 -- it reaches in the layout of the text
-found_reaches : (xs : List Piece) (target : Target) (n : Note) (s : Site) (position : ℕ) (kind : BranchKind) (a : Anchor) → Found xs (forms xs) 0 0 target n s position
+found_reaches : (xs : List Piece) (target : Target) (n : SizeRecord) (s : Location) (position : ℕ) (kind : BranchKind) (a : Anchor) → Found xs (forms xs) 0 0 target n s position
     → is_code n.segment ≡ true → n.body ≡ Branch kind a → reaches (places xs (forms xs) 0) kind (target n.segment a) s.form s.after ≡ true
 unfolding all_reach
 found_reaches xs target n s position kind a f c e =
@@ -120,7 +120,7 @@ found_reaches xs target n s position kind a f c e =
     ∙ this.0
 
 -- its target is the place of its statement
-found_place : (xs : List Piece) (fs : List Form) (target : Target) (n : Note) (s : Site) (position : ℕ) → Found xs fs 0 0 target n s position → slice_index (places xs fs 0) position ≡ s.place
+found_place : (xs : List Piece) (fs : List Form) (target : Target) (n : SizeRecord) (s : Location) (position : ℕ) → Found xs fs 0 0 target n s position → slice_index (places xs fs 0) position ≡ s.place
 found_place xs fs target n s position f =
     let counted : position ≡ length f.pre = omega (arith, f.counted) in
     ap (slice_index (places xs fs 0)) counted
@@ -142,9 +142,9 @@ by_base g h either same = pick (is_absolute h) refl
     pick false a = inl (main_of g.piece h.piece either same a)
 
 -- each site has its note
-noted : (list : List (Option ℕ)) (ns : List Note) (fs : List Form) (ends : List ℕ) (k : ℕ) (s : Site) → slice_get (sites_from list fs ends ns) k ≡ Some s
-    → (n : Note) × (slice_get ns k ≡ Some n)
-unfolding sites_from
+noted : (list : List (Option ℕ)) (ns : List SizeRecord) (fs : List Form) (ends : List ℕ) (k : ℕ) (s : Location) → slice_get (locations_from list fs ends ns) k ≡ Some s
+    → (n : SizeRecord) × (slice_get ns k ≡ Some n)
+unfolding locations_from
 noted list [] fs ends k s e = absurd (cc e)
 noted list (n ∷ ns) fs ends zero s e = (n, refl)
 noted list (n ∷ ns) fs ends (suc k) s e = noted list ns (drop 1 fs) (ends_after (head_form fs) ends n) k s e
@@ -157,13 +157,13 @@ third Third h = refl
 -- ---- the laws
 
 pub reach : BranchesReach
-reach ns number to n s t kind distance num b near site =
-    let st = stood_at ns number n s num b.note b.site in
+reach ns number to n s t kind distance num b near location =
+    let st = stood_at ns number n s num b.size_record b.location in
     let somewhere = st.somewhere b.code in
     let f = found_at ns number n s st somewhere in
-    let m = noted (addresses ns) ns (dealt (chosen ns) (drop (count_main ns) (chosen ns)) ns) no_bytes to t site in
+    let m = noted (addresses ns) ns (dealt (chosen ns) (drop (count_main ns) (chosen ns)) ns) no_bytes to t location in
     let same : is_same_base n.segment m.0.segment ≡ true = ap (λ x. is_same_base n.segment (segment_in x)) (sym m.1) ∙ near in
-    let g = found_at ns to m.0 t (stood_at ns to m.0 t num m.1 site) (by_base n.segment m.0.segment somewhere same) in
+    let g = found_at ns to m.0 t (stood_at ns to m.0 t num m.1 location) (by_base n.segment m.0.segment somewhere same) in
     let at = places (text ns) (chosen ns) 0 in
     let target : target_of ns n.segment (anchor.Statement to distance) ≡ Some (slice_index (positions (gaps ns) ns) to, distance) =
     ap (λ x. cond x (Some (slice_index (positions (gaps ns) ns) to, distance)) None) near in
@@ -171,14 +171,14 @@ reach ns number to n s t kind distance num b near site =
     ∙ ap (λ y. reaches at kind y s.form s.after) (sym target)
     ∙ found_reaches (text ns) (target_of ns) n s (slice_index (positions (gaps ns) ns) number) kind (anchor.Statement to distance) f b.code b.body
 
-no_target : (ns : List Note) (g : Segment) (a : Anchor) → is_near ns g a ≡ false → target_of ns g a ≡ None
+no_target : (ns : List SizeRecord) (g : Segment) (a : Anchor) → is_near ns g a ≡ false → target_of ns g a ≡ None
 no_target ns g (anchor.Statement number distance) h = ap (λ x. cond x (Some (slice_index (positions (gaps ns) ns) number, distance)) None) h
 no_target ns g anchor.External h = refl
 no_target ns g anchor.Nothing h = refl
 
 pub others_long : OtherBranchesAreLong
 others_long ns number n s kind a num b far =
-    let st = stood_at ns number n s num b.note b.site in
+    let st = stood_at ns number n s num b.size_record b.location in
     let f = found_at ns number n s st (st.somewhere b.code) in
     let at = places (text ns) (chosen ns) 0 in
     third s.form

@@ -10,9 +10,9 @@ use Rattle.kc_branch.specs.declared.piece.Piece.{Piece}
 use Rattle.kc_branch.specs.declared.piece.Piece.TheVariants as piece
 use Rattle.kc_branch.specs.Forms.{size, head_form}
 use Rattle.kc_asm_emission.specs.Alignment.{gap}
-use Rattle.kc_asm_outline.specs.declared.note.Body.{Body}
-use Rattle.kc_asm_outline.specs.declared.note.Body.TheVariants.{Bytes, Upto, Even, Branch}
-use Rattle.kc_asm_outline.specs.declared.note.Note.{Note}
+use Rattle.kc_asm_outline.specs.declared.size_record.Body.{Body}
+use Rattle.kc_asm_outline.specs.declared.size_record.Body.TheVariants.{Bytes, Upto, Even, Branch}
+use Rattle.kc_asm_outline.specs.declared.size_record.SizeRecord.{SizeRecord}
 use Rattle.kc_asm_outline.specs.Numbered.{is_code, aligns_well}
 use Rattle.kc_asm_layout.specs.Places.{passed}
 use Rattle.kc_asm_layout.specs.Text.{Target, nowhere, bytes_text, body_text, lead, own_text, main_text, absolute_text, opening, is_main, is_branch, left_behind, form_for, is_main_branch, is_absolute_branch}
@@ -48,11 +48,11 @@ lead_behind_by : (code : Bool) (align g : ℕ) (fs : List Form) → forms_behind
 lead_behind_by true align g fs = even_behind (eqb align 2) fs
 lead_behind_by false align g fs = bytes_behind g fs
 
-pub lead_after : (g e : ℕ) (n : Note) (fs : List Form) → aligns_well n ≡ true → (is_code n.segment ≡ false → g ≡ gap e n.alignment)
+pub lead_after : (g e : ℕ) (n : SizeRecord) (fs : List Form) → aligns_well n ≡ true → (is_code n.segment ≡ false → g ≡ gap e n.alignment)
     → here_after (lead g n) fs e ≡ e + gap e n.alignment
 lead_after g e n fs w h = lead_after_by (is_code n.segment) n.alignment g e fs w h
 
-pub lead_behind : (g : ℕ) (n : Note) (fs : List Form) → forms_behind (lead g n) fs ≡ fs
+pub lead_behind : (g : ℕ) (n : SizeRecord) (fs : List Form) → forms_behind (lead g n) fs ≡ fs
 lead_behind g n fs = lead_behind_by (is_code n.segment) n.alignment g fs
 
 -- ---- its body
@@ -99,7 +99,7 @@ body_length target g (Branch kind a) =
 
 -- ---- both
 
-pub own_after : (target : Target) (g e : ℕ) (n : Note) (fs : List Form) (f : Form) → aligns_well n ≡ true → (is_code n.segment ≡ false → g ≡ gap e n.alignment)
+pub own_after : (target : Target) (g e : ℕ) (n : SizeRecord) (fs : List Form) (f : Form) → aligns_well n ≡ true → (is_code n.segment ≡ false → g ≡ gap e n.alignment)
     → Has (is_code n.segment) (is_branch n.body) f fs → here_after (own_text target g n) fs e ≡ passed f (e + gap e n.alignment) n.body
 own_after target g e n fs f w h has =
     after_append (lead g n) (body_text target n.segment n.body) fs e
@@ -107,13 +107,13 @@ own_after target g e n fs f w h has =
     ∙ ap (λ p. here_after (body_text target n.segment n.body) fs p) (lead_after g e n fs w h)
     ∙ body_after target n.segment n.body fs f (e + gap e n.alignment) has
 
-pub own_behind : (target : Target) (g : ℕ) (n : Note) (fs : List Form) → forms_behind (own_text target g n) fs ≡ left_behind (is_code n.segment && is_branch n.body) fs
+pub own_behind : (target : Target) (g : ℕ) (n : SizeRecord) (fs : List Form) → forms_behind (own_text target g n) fs ≡ left_behind (is_code n.segment && is_branch n.body) fs
 own_behind target g n fs =
     behind_append (lead g n) (body_text target n.segment n.body) fs
     ∙ ap (forms_behind (body_text target n.segment n.body)) (lead_behind g n fs)
     ∙ body_behind target n.segment n.body fs
 
-own_length : (target : Target) (g : ℕ) (n : Note) → length (own_text nowhere g n) ≡ length (own_text target g n)
+own_length : (target : Target) (g : ℕ) (n : SizeRecord) → length (own_text nowhere g n) ≡ length (own_text target g n)
 own_length target g n =
     length-append (lead g n) (body_text nowhere n.segment n.body)
     ∙ ap (λ k. length (lead g n) + k) (body_length target n.segment n.body)
@@ -125,10 +125,10 @@ if_length : (b : Bool) (xs ys : List Piece) → length xs ≡ length ys → leng
 if_length true xs ys e = e
 if_length false xs ys e = refl
 
-pub main_length : (target : Target) (g : ℕ) (n : Note) → length (main_text nowhere g n) ≡ length (main_text target g n)
+pub main_length : (target : Target) (g : ℕ) (n : SizeRecord) → length (main_text nowhere g n) ≡ length (main_text target g n)
 main_length target g n = if_length (is_main n.segment) (own_text nowhere g n) (own_text target g n) (own_length target g n)
 
-pub absolute_length : (target : Target) (g : ℕ) (n : Note) → length (absolute_text nowhere g n) ≡ length (absolute_text target g n)
+pub absolute_length : (target : Target) (g : ℕ) (n : SizeRecord) → length (absolute_text nowhere g n) ≡ length (absolute_text target g n)
 absolute_length target g n =
     length-append (cond (is_absolute n.segment) (own_text nowhere g n) []) (opening n.opens)
     ∙ ap (λ k. k + length (opening n.opens)) (if_length (is_absolute n.segment) (own_text nowhere g n) (own_text target g n) (own_length target g n))
@@ -138,14 +138,14 @@ behind_if : (m c : Bool) (xs : List Piece) (fs : List Form) → forms_behind xs 
 behind_if true c xs fs e = e
 behind_if false c xs fs e = refl
 
-pub main_behind : (target : Target) (g : ℕ) (n : Note) (fs : List Form) → forms_behind (main_text target g n) fs ≡ left_behind (is_main_branch n) fs
+pub main_behind : (target : Target) (g : ℕ) (n : SizeRecord) (fs : List Form) → forms_behind (main_text target g n) fs ≡ left_behind (is_main_branch n) fs
 main_behind target g n fs = behind_if (is_main n.segment) (is_code n.segment && is_branch n.body) (own_text target g n) fs (own_behind target g n fs)
 
 opening_behind : (opens : Option ℕ) (fs : List Form) → forms_behind (opening opens) fs ≡ fs
 opening_behind None fs = refl
 opening_behind (Some address) fs = refl
 
-pub absolute_behind : (target : Target) (g : ℕ) (n : Note) (fs : List Form) → forms_behind (absolute_text target g n) fs ≡ left_behind (is_absolute_branch n) fs
+pub absolute_behind : (target : Target) (g : ℕ) (n : SizeRecord) (fs : List Form) → forms_behind (absolute_text target g n) fs ≡ left_behind (is_absolute_branch n) fs
 absolute_behind target g n fs =
     behind_append (cond (is_absolute n.segment) (own_text target g n) []) (opening n.opens) fs
     ∙ opening_behind n.opens (forms_behind (cond (is_absolute n.segment) (own_text target g n) []) fs)
@@ -176,21 +176,21 @@ form_elsewhere m a true b x y p = absurd (cc p)
 not_both : (p : ℕ) → leb 3 p ≡ true → eqb p 1 ≡ false
 not_both p h = grind (arith, nat_tests)
 
-abbrev pub HasForm : Note → Form → List Form → Type 0
+abbrev pub HasForm : SizeRecord → Form → List Form → Type 0
 HasForm n f fs = Has (is_code n.segment) (is_branch n.body) f fs
 
-pub has_main : (n : Note) (main absolute : List Form) → is_main n.segment ≡ true → HasForm n (form_for n main absolute) main
+pub has_main : (n : SizeRecord) (main absolute : List Form) → is_main n.segment ≡ true → HasForm n (form_for n main absolute) main
 has_main n main absolute m = record {
   in_code = λ q. form_main (is_main n.segment) (is_absolute n.segment) (is_code n.segment) (is_branch n.body) (head_form main) (head_form absolute) m q;
   elsewhere = λ q. form_elsewhere (is_main n.segment) (is_absolute n.segment) (is_code n.segment) (is_branch n.body) (head_form main) (head_form absolute) q;
 }
 
-pub has_absolute : (n : Note) (main absolute : List Form) → is_absolute n.segment ≡ true → HasForm n (form_for n main absolute) absolute
+pub has_absolute : (n : SizeRecord) (main absolute : List Form) → is_absolute n.segment ≡ true → HasForm n (form_for n main absolute) absolute
 has_absolute n main absolute a = record {
   in_code = λ q. form_absolute (is_main n.segment) (is_absolute n.segment) (is_code n.segment) (is_branch n.body) (head_form main) (head_form absolute) (not_both n.segment.piece a) a q;
   elsewhere = λ q. form_elsewhere (is_main n.segment) (is_absolute n.segment) (is_code n.segment) (is_branch n.body) (head_form main) (head_form absolute) q;
 }
 
-pub first_elsewhere : (n : Note) (main absolute : List Form) → is_code n.segment ≡ false → form_for n main absolute ≡ First
+pub first_elsewhere : (n : SizeRecord) (main absolute : List Form) → is_code n.segment ≡ false → form_for n main absolute ≡ First
 first_elsewhere n main absolute q =
     form_elsewhere (is_main n.segment) (is_absolute n.segment) (is_code n.segment) (is_branch n.body) (head_form main) (head_form absolute) q

@@ -5,30 +5,30 @@ use Rattle.kc_branch.specs.declared.piece.BranchKind.{BranchKind}
 use Rattle.kc_branch.specs.declared.piece.Form.TheVariants.{Third}
 use Rattle.kc_branch.specs.Forms.{spans}
 use Rattle.kc_asm_symbols.specs.declared.segments.Segment.{Segment}
-use Rattle.kc_asm_outline.specs.declared.note.Anchor.{Anchor}
-use Rattle.kc_asm_outline.specs.declared.note.Anchor.TheVariants as anchor
-use Rattle.kc_asm_outline.specs.declared.note.Body.TheVariants.{Branch}
-use Rattle.kc_asm_outline.specs.declared.note.Note.{Note}
-use Rattle.kc_asm_layout.specs.declared.site.Site.{Site}
+use Rattle.kc_asm_outline.specs.declared.size_record.Anchor.{Anchor}
+use Rattle.kc_asm_outline.specs.declared.size_record.Anchor.TheVariants as anchor
+use Rattle.kc_asm_outline.specs.declared.size_record.Body.TheVariants.{Branch}
+use Rattle.kc_asm_outline.specs.declared.size_record.SizeRecord.{SizeRecord}
+use Rattle.kc_asm_layout.specs.declared.location.Location.{Location}
 use Rattle.kc_asm_outline.specs.Numbered.{IsNumbered, is_code}
 use Rattle.kc_asm_layout.specs.Text.{layout, is_same_base, segment_at}
 
 -- a statement in code is a branch, with its note and its site
-pub record IsBranchAt (ns : List Note) (number : ℕ) (n : Note) (s : Site) (kind : BranchKind) (a : Anchor) : Type 0 where
-  pub note : slice_get ns number ≡ Some n
-  pub site : slice_get (layout ns) number ≡ Some s
+pub record IsBranchAt (ns : List SizeRecord) (number : ℕ) (n : SizeRecord) (s : Location) (kind : BranchKind) (a : Anchor) : Type 0 where
+  pub size_record : slice_get ns number ≡ Some n
+  pub location : slice_get (layout ns) number ≡ Some s
   pub code : is_code n.segment ≡ true
   pub body : n.body ≡ Branch kind a
 
 -- whether it counts from a statement of the same base
-abbrev pub is_near : List Note → Segment → Anchor → Bool
+abbrev pub is_near : List SizeRecord → Segment → Anchor → Bool
 is_near ns g (anchor.Statement number distance) = is_same_base g (segment_at ns number)
 is_near ns g anchor.External = false
 is_near ns g anchor.Nothing = false
 
 abbrev pub BranchesReach : Type 0
 BranchesReach =
-    (ns : List Note) (number to : ℕ) (n : Note) (s t : Site) (kind : BranchKind) (distance : ℤ)
+    (ns : List SizeRecord) (number to : ℕ) (n : SizeRecord) (s t : Location) (kind : BranchKind) (distance : ℤ)
     → IsNumbered ns
     → IsBranchAt ns number n s kind (anchor.Statement to distance)
     → is_near ns n.segment (anchor.Statement to distance) ≡ true
@@ -37,5 +37,5 @@ BranchesReach =
 
 abbrev pub OtherBranchesAreLong : Type 0
 OtherBranchesAreLong =
-    (ns : List Note) (number : ℕ) (n : Note) (s : Site) (kind : BranchKind) (a : Anchor)
+    (ns : List SizeRecord) (number : ℕ) (n : SizeRecord) (s : Location) (kind : BranchKind) (a : Anchor)
     → IsNumbered ns → IsBranchAt ns number n s kind a → is_near ns n.segment a ≡ false → s.form ≡ Third

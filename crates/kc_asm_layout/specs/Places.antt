@@ -5,10 +5,10 @@ use Rattle.std.specs.Prelude.{ℕ, ◌+◌, ◌%◌, ◌<◌, ◌≤◌, List, [
 use Rattle.kc_branch.specs.declared.piece.Form.{Form}
 use Rattle.kc_branch.specs.Forms.{size, head_form}
 use Rattle.kc_asm_emission.specs.Alignment.{gap}
-use Rattle.kc_asm_outline.specs.declared.note.Body.{Body}
-use Rattle.kc_asm_outline.specs.declared.note.Body.TheVariants.{Bytes, Upto, Even, Branch}
-use Rattle.kc_asm_outline.specs.declared.note.Note.{Note}
-use Rattle.kc_asm_layout.specs.declared.site.Site.{Site}
+use Rattle.kc_asm_outline.specs.declared.size_record.Body.{Body}
+use Rattle.kc_asm_outline.specs.declared.size_record.Body.TheVariants.{Bytes, Upto, Even, Branch}
+use Rattle.kc_asm_outline.specs.declared.size_record.SizeRecord.{SizeRecord}
+use Rattle.kc_asm_layout.specs.declared.location.Location.{Location}
 
 -- where each piece ends so far, by its number; the first three are the relocatable ones
 abbrev pub Ends : Type 0
@@ -23,7 +23,7 @@ begun None ends = ends
 begun (Some address) ends = ends ++ address ∷ []
 
 -- the place of a statement
-abbrev pub place_of : Ends → Note → ℕ
+abbrev pub place_of : Ends → SizeRecord → ℕ
 place_of ends n = slice_index ends n.segment.piece + gap (slice_index ends n.segment.piece) n.alignment
 
 -- the place behind it
@@ -33,10 +33,10 @@ passed form place (Upto to) = to
 passed form place Even = place + place % 2
 passed form place (Branch kind anchor) = place + size kind form
 
-abbrev pub end_of : Form → Ends → Note → ℕ
+abbrev pub end_of : Form → Ends → SizeRecord → ℕ
 end_of form ends n = passed form (place_of ends n) n.body
 
-abbrev pub ends_after : Form → Ends → Note → Ends
+abbrev pub ends_after : Form → Ends → SizeRecord → Ends
 ends_after form ends n = begun n.opens (slice_set ends n.segment.piece (end_of form ends n))
 
 -- ---- the addresses of pieces, by their numbers: the absolute ones are numbered as they are opened
@@ -45,11 +45,11 @@ abbrev pub address_added : Option ℕ → List (Option ℕ) → List (Option ℕ
 address_added None rest = rest
 address_added (Some address) rest = Some address ∷ rest
 
-unfoldable pub opened : List Note → List (Option ℕ)
+unfoldable pub opened : List SizeRecord → List (Option ℕ)
 opened [] = []
 opened (n ∷ ns) = address_added n.opens (opened ns)
 
-abbrev pub addresses : List Note → List (Option ℕ)
+abbrev pub addresses : List SizeRecord → List (Option ℕ)
 addresses ns = None ∷ None ∷ None ∷ opened ns
 
 abbrev pub address_in : List (Option ℕ) → ℕ → Option ℕ
@@ -57,8 +57,8 @@ address_in list piece = unwrap_or (slice_get list piece) None
 
 -- ---- the sites of all statements in order, with one form for each; behind the last form all are the first
 
-abbrev pub site_of : List (Option ℕ) → Form → Ends → Note → Site
-site_of list form ends n = record {
+abbrev pub location_of : List (Option ℕ) → Form → Ends → SizeRecord → Location
+location_of list form ends n = record {
   before = slice_index ends n.segment.piece;
   place = place_of ends n;
   after = end_of form ends n;
@@ -67,16 +67,16 @@ site_of list form ends n = record {
   body = n.body;
 }
 
-unfoldable pub sites_from : List (Option ℕ) → List Form → Ends → List Note → List Site
-sites_from list forms ends [] = []
-sites_from list forms ends (n ∷ ns) =
-    site_of list (head_form forms) ends n ∷ sites_from list (drop 1 forms) (ends_after (head_form forms) ends n) ns
+unfoldable pub locations_from : List (Option ℕ) → List Form → Ends → List SizeRecord → List Location
+locations_from list forms ends [] = []
+locations_from list forms ends (n ∷ ns) =
+    location_of list (head_form forms) ends n ∷ locations_from list (drop 1 forms) (ends_after (head_form forms) ends n) ns
 
-abbrev pub sites : List Form → List Note → List Site
-sites forms ns = sites_from (addresses ns) forms no_bytes ns
+abbrev pub locations : List Form → List SizeRecord → List Location
+locations forms ns = locations_from (addresses ns) forms no_bytes ns
 
 -- ---- gaps
 
 -- the gap before a statement is that of an alignment of at most 4
-abbrev pub IsNear : Site → Type 0
+abbrev pub IsNear : Location → Type 0
 IsNear s = (s.before ≤ s.place) × (s.place < s.before + 4)

@@ -5,7 +5,7 @@ ghost use Rattle.kc_asm_layout.specs.Text as spec;
 
 use crate::places::{head_form, rest_of};
 use crate::text::{is_code, is_main};
-use kc_asm_outline::{Body, Note};
+use kc_asm_outline::{Body, SizeRecord};
 use kc_base::NoMemory;
 use kc_branch::Form;
 use std::alloc::Global;
@@ -19,33 +19,33 @@ fn is_branch(body: &Body) -> bool
     }
 }
 
-fn is_code_branch(note: &Note) -> bool
-    ensures { result ≡ spec.is_code_branch note.now }
+fn is_code_branch(size_record: &SizeRecord) -> bool
+    ensures { result ≡ spec.is_code_branch size_record.now }
 {
-    is_code(note.segment) && is_branch(&note.body)
+    is_code(size_record.segment) && is_branch(&size_record.body)
 }
 
 // Whether it is a branch of the relocatable code.
-fn is_main_branch(note: &Note) -> bool
-    ensures { result ≡ spec.is_main_branch note.now }
+fn is_main_branch(size_record: &SizeRecord) -> bool
+    ensures { result ≡ spec.is_main_branch size_record.now }
 {
-    is_main(note.segment) && is_code_branch(note)
+    is_main(size_record.segment) && is_code_branch(size_record)
 }
 
 // Whether it is a branch of an absolute piece of code.
-fn is_absolute_branch(note: &Note) -> bool
-    ensures { result ≡ spec.is_absolute_branch note.now }
+fn is_absolute_branch(size_record: &SizeRecord) -> bool
+    ensures { result ≡ spec.is_absolute_branch size_record.now }
 {
-    note.segment.is_absolute() && is_code_branch(note)
+    size_record.segment.is_absolute() && is_code_branch(size_record)
 }
 
 #[tactic(auto, unfolding(crate::specs::Text::count_main))]
-fn count_main(notes: &[Note]) -> usize
-    ensures { result ≡ spec.count_main notes.now }
+fn count_main(size_records: &[SizeRecord]) -> usize
+    ensures { result ≡ spec.count_main size_records.now }
 {
     let mut count = 0;
-    for note in notes {
-        if is_main_branch(note) {
+    for size_record in size_records {
+        if is_main_branch(size_record) {
             count += 1;
         }
     }
@@ -53,12 +53,12 @@ fn count_main(notes: &[Note]) -> usize
 }
 
 // The next form of those that are left.
-fn form_for(note: &Note, main: &[Form], absolute: &[Form]) -> Form
-    ensures { result ≡ spec.form_for note.now main.now absolute.now }
+fn form_for(size_record: &SizeRecord, main: &[Form], absolute: &[Form]) -> Form
+    ensures { result ≡ spec.form_for size_record.now main.now absolute.now }
 {
-    if is_main_branch(note) {
+    if is_main_branch(size_record) {
         head_form(main)
-    } else if is_absolute_branch(note) {
+    } else if is_absolute_branch(size_record) {
         head_form(absolute)
     } else {
         Form::First
@@ -82,17 +82,17 @@ fn behind(forms: &[Form], count: usize) -> &[Form]
 pub(crate) fn statement_forms(
     alloc: Global,
     chosen: &[Form],
-    notes: &[Note],
+    size_records: &[SizeRecord],
 ) -> Result<Vec<Form>, NoMemory>
-    ensures { IfOk result (λ v. v.items ≡ spec.statement_forms chosen.now notes.now) }
+    ensures { IfOk result (λ v. v.items ≡ spec.statement_forms chosen.now size_records.now) }
 {
     let mut forms = Vec::new(alloc);
     let mut main = chosen;
-    let mut absolute = behind(chosen, count_main(notes));
-    for note in notes {
-        forms.push(form_for(note, main, absolute))?;
-        main = left_behind(is_main_branch(note), main);
-        absolute = left_behind(is_absolute_branch(note), absolute);
+    let mut absolute = behind(chosen, count_main(size_records));
+    for size_record in size_records {
+        forms.push(form_for(size_record, main, absolute))?;
+        main = left_behind(is_main_branch(size_record), main);
+        absolute = left_behind(is_absolute_branch(size_record), absolute);
     }
     Ok(forms)
 }

@@ -5,23 +5,23 @@ ghost use Rattle.kc_asm_layout.specs.Places.{IsNear};
 ghost use Rattle.kc_asm_layout.specs.Text as spec;
 
 use crate::dealt::statement_forms;
-use crate::places::sites;
+use crate::location::Location;
+use crate::places::locations;
 use crate::positions::positions;
-use crate::site::Site;
 use crate::text::text;
-use kc_asm_outline::ModuleOutline;
+use kc_asm_outline::ModuleSizes;
 use kc_base::NoMemory;
 use kc_branch::sizes;
 use std::alloc::Global;
 
 // The gap before each statement.
-fn gaps(alloc: Global, sites: &[Site]) -> Result<Vec<u8>, NoMemory>
-    requires { All IsNear sites.now }
-    ensures { IfOk result (λ v. v.items ≡ map spec.gap_before sites.now) }
+fn gaps(alloc: Global, locations: &[Location]) -> Result<Vec<u8>, NoMemory>
+    requires { All IsNear locations.now }
+    ensures { IfOk result (λ v. v.items ≡ map spec.gap_before locations.now) }
 {
     let mut gaps = Vec::new(alloc);
-    for site in sites {
-        gaps.push((site.place - site.before) as u8)?;
+    for location in locations {
+        gaps.push((location.place - location.before) as u8)?;
     }
     Ok(gaps)
 }
@@ -35,16 +35,16 @@ fn gaps(alloc: Global, sites: &[Site]) -> Result<Vec<u8>, NoMemory>
 /// (MCS-96 Macro Assembler User's Guide, "Segments and the Location Counter" and "Generic Branches".)
 ///
 /// `NoMemory`: memory ran out. That is the only error.
-pub fn layout(alloc: Global, outline: &ModuleOutline) -> Result<Vec<Site>, NoMemory>
-    ensures value { IfOk result (λ v. v.items ≡ spec.layout outline.now) }
-    ensures each { IfOk result (λ v. length v.items ≡ length outline.now) }
+pub fn layout(alloc: Global, statement_sizes: &ModuleSizes) -> Result<Vec<Location>, NoMemory>
+    ensures value { IfOk result (λ v. v.items ≡ spec.layout statement_sizes.now) }
+    ensures each { IfOk result (λ v. length v.items ≡ length statement_sizes.now) }
 {
-    let notes = outline.notes();
-    let first = sites(alloc, notes, &[])?;
+    let size_records = statement_sizes.size_records();
+    let first = locations(alloc, size_records, &[])?;
     let gaps = gaps(alloc, &first)?;
-    let positions = positions(alloc, &gaps, notes)?;
-    let text = text(alloc, &positions, &gaps, notes)?;
+    let positions = positions(alloc, &gaps, size_records)?;
+    let text = text(alloc, &positions, &gaps, size_records)?;
     let chosen = sizes(alloc, &text)?;
-    let forms = statement_forms(alloc, &chosen, notes)?;
-    sites(alloc, notes, &forms)
+    let forms = statement_forms(alloc, &chosen, size_records)?;
+    locations(alloc, size_records, &forms)
 }

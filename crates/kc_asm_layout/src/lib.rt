@@ -4,11 +4,11 @@
 mod dealt;
 mod laws;
 mod laying;
+mod location;
 mod places;
 mod positions;
-mod site;
 mod text;
 
 pub use laws::{branches_reach, other_branches_are_long};
 pub use laying::layout;
-pub use site::Site;
+pub use location::Location;

@@ -6,9 +6,9 @@ ghost use Rattle.kc_asm_emission.specs.Alignment as alignment;
 ghost use Rattle.kc_asm_outline.specs.Bounds.{AreBounded, IsBounded};
 ghost use Rattle.kc_asm_layout.specs.Places as spec;
 
-use crate::site::Site;
+use crate::location::Location;
 use kc_asm_emission::gap;
-use kc_asm_outline::{Body, Note};
+use kc_asm_outline::{Body, SizeRecord};
 use kc_base::NoMemory;
 use kc_branch::{Form, branch_length};
 use std::alloc::Global;
@@ -66,76 +66,85 @@ fn address_in(addresses: &[Option<u16>], piece: usize) -> Option<u16>
 
 // The addresses of all pieces, by their numbers.
 #[tactic(auto, unfolding(crate::specs::Places::opened))]
-fn addresses(alloc: Global, notes: &[Note]) -> Result<Vec<Option<u16>>, NoMemory>
-    ensures { IfOk result (λ v. v.items ≡ spec.addresses notes.now) }
+fn addresses(alloc: Global, size_records: &[SizeRecord]) -> Result<Vec<Option<u16>>, NoMemory>
+    ensures { IfOk result (λ v. v.items ≡ spec.addresses size_records.now) }
 {
     let mut addresses = Vec::new(alloc);
     addresses.push(None)?;
     addresses.push(None)?;
     addresses.push(None)?;
-    for note in notes {
-        if note.opens.is_some() {
-            addresses.push(note.opens)?;
+    for size_record in size_records {
+        if size_record.opens.is_some() {
+            addresses.push(size_record.opens)?;
         }
     }
     Ok(addresses)
 }
 
 // Where a statement stands.
-fn site_of(addresses: &[Option<u16>], form: Form, ends: &[u64], note: &Note) -> Site
+fn location_of(
+    addresses: &[Option<u16>],
+    form: Form,
+    ends: &[u64],
+    size_record: &SizeRecord,
+) -> Location
     requires ends { (k : ℕ) → slice_index ends.now k < 2 ^ 61 }
-    requires bounded { IsBounded note.now }
-    ensures value { result ≡ spec.site_of addresses.now form ends.now note.now }
-    ensures bound { result.after < slice_index ends.now note.now.segment.piece + 2 ^ 33 + 65536 }
+    requires bounded { IsBounded size_record.now }
+    ensures value { result ≡ spec.location_of addresses.now form ends.now size_record.now }
+    ensures bound { result.after < slice_index ends.now size_record.now.segment.piece + 2 ^ 33 + 65536 }
     ensures near { spec.IsNear result }
 {
-    let piece = note.segment.piece;
+    let piece = size_record.segment.piece;
     let before = end_at(ends, piece);
-    let place = before + u64::from(gap_at(before, note.alignment));
-    Site {
+    let place = before + u64::from(gap_at(before, size_record.alignment));
+    Location {
         before,
         place,
-        after: passed(form, place, &note.body),
+        after: passed(form, place, &size_record.body),
         address: address_in(addresses, piece),
         form,
-        body: note.body,
+        body: size_record.body,
     }
 }
 
 // Behind a statement: its piece ends there, and the piece that it opens begins.
-fn pass(mut ends: Vec<u64>, after: u64, note: &Note) -> Result<Vec<u64>, NoMemory>
-    ensures value { IfOk result (λ v. v.items ≡ spec.begun note.now.opens (slice_set ends.items note.now.segment.piece after)) }
+fn pass(mut ends: Vec<u64>, after: u64, size_record: &SizeRecord) -> Result<Vec<u64>, NoMemory>
+    ensures value { IfOk result (λ v. v.items ≡ spec.begun size_record.now.opens (slice_set ends.items size_record.now.segment.piece after)) }
     ensures bound { (most : ℕ) → 65536 ≤ most → after ≤ most → ((k : ℕ) → slice_index ends.items k ≤ most) → IfOk result (λ v. (k : ℕ) → slice_index v.items k ≤ most) }
 {
-    let piece = note.segment.piece;
+    let piece = size_record.segment.piece;
     if piece < ends.len() {
         ends[piece] = after;
     }
-    if let Some(address) = note.opens {
+    if let Some(address) = size_record.opens {
         ends.push(u64::from(address))?;
     }
     Ok(ends)
 }
 
 // The sites of all statements, with one form for each.
-#[tactic(auto, unfolding(crate::specs::Places::sites_from))]
-pub(crate) fn sites(alloc: Global, notes: &[Note], forms: &[Form]) -> Result<Vec<Site>, NoMemory>
-    requires { AreBounded notes.now }
-    ensures value { IfOk result (λ v. v.items ≡ spec.sites forms.now notes.now) }
-    ensures each { IfOk result (λ v. length v.items ≡ length notes.now) }
+#[tactic(auto, unfolding(crate::specs::Places::locations_from))]
+pub(crate) fn locations(
+    alloc: Global,
+    size_records: &[SizeRecord],
+    forms: &[Form],
+) -> Result<Vec<Location>, NoMemory>
+    requires { AreBounded size_records.now }
+    ensures value { IfOk result (λ v. v.items ≡ spec.locations forms.now size_records.now) }
+    ensures each { IfOk result (λ v. length v.items ≡ length size_records.now) }
     ensures near { IfOk result (λ v. All spec.IsNear v.items) }
 {
-    let addresses = addresses(alloc, notes)?;
+    let addresses = addresses(alloc, size_records)?;
     let mut ends = Vec::from_array(alloc, [0, 0, 0])?;
-    let mut sites = Vec::new(alloc);
+    let mut locations = Vec::new(alloc);
     let mut later = forms;
-    for note in notes {
-        let site = site_of(&addresses, head_form(later), &ends, note);
-        sites.push(site)?;
-        ends = pass(ends, site.after, note)?;
+    for size_record in size_records {
+        let location = location_of(&addresses, head_form(later), &ends, size_record);
+        locations.push(location)?;
+        ends = pass(ends, location.after, size_record)?;
         later = rest_of(later);
     }
-    Ok(sites)
+    Ok(locations)
 }
 
 // The forms behind the next one.

@@ -1,11 +1,11 @@
 //! The text in which the forms of generic branches are chosen.
 
 ghost use Rattle.std.specs.Prelude.{◌≡◌, ◌++◌, ◌∷◌, [], Some, drop, slice_index, IfOk};
-ghost use Rattle.kc_asm_outline.specs.declared.note.Body.TheVariants.{Branch};
+ghost use Rattle.kc_asm_outline.specs.declared.size_record.Body.TheVariants.{Branch};
 ghost use Rattle.kc_asm_outline.specs.Numbered as numbered;
 ghost use Rattle.kc_asm_layout.specs.Text as spec;
 
-use kc_asm_outline::{Anchor, Body, Note};
+use kc_asm_outline::{Anchor, Body, SizeRecord};
 use kc_asm_symbols::Segment;
 use kc_base::NoMemory;
 use kc_branch::{BranchKind, Form, Piece, branch_length};
@@ -39,12 +39,12 @@ fn is_same_base(one: Segment, other: Segment) -> bool
     (one.is_absolute() && other.is_absolute()) || one.piece == other.piece
 }
 
-fn segment_at(notes: &[Note], number: u16) -> Segment
-    ensures { result ≡ spec.segment_at notes.now number }
+fn segment_at(size_records: &[SizeRecord], number: u16) -> Segment
+    ensures { result ≡ spec.segment_at size_records.now number }
 {
-    match notes.get(usize::from(number)) {
+    match size_records.get(usize::from(number)) {
         None => Segment::first(),
-        Some(note) => note.segment,
+        Some(size_record) => size_record.segment,
     }
 }
 
@@ -58,15 +58,15 @@ fn position_at(positions: &[u32], number: u16) -> u32
 // What the target of a branch is in the text, by the segment of the branch.
 fn target_in(
     positions: &[u32],
-    notes: &[Note],
+    size_records: &[SizeRecord],
     segment: Segment,
     anchor: Anchor,
 ) -> Option<(u32, i16)>
-    ensures { result ≡ spec.target_in positions.now notes.now segment anchor }
+    ensures { result ≡ spec.target_in positions.now size_records.now segment anchor }
 {
     match anchor {
         Anchor::Statement { number, distance } => {
-            if is_same_base(segment, segment_at(notes, number)) {
+            if is_same_base(segment, segment_at(size_records, number)) {
                 Some((position_at(positions, number), distance))
             } else {
                 None
@@ -90,13 +90,13 @@ fn push_bytes(text: &mut Vec<Piece>, count: u32) -> Result<(), NoMemory>
 }
 
 // What leads to the place of a statement.
-fn push_lead(text: &mut Vec<Piece>, gap: u8, note: &Note) -> Result<(), NoMemory>
-    ensures { IfOk result (λ _. text.new.items ≡ text.old.items ++ spec.lead gap note.now) }
+fn push_lead(text: &mut Vec<Piece>, gap: u8, size_record: &SizeRecord) -> Result<(), NoMemory>
+    ensures { IfOk result (λ _. text.new.items ≡ text.old.items ++ spec.lead gap size_record.now) }
 {
-    if !is_code(note.segment) {
+    if !is_code(size_record.segment) {
         return push_bytes(text, u32::from(gap));
     }
-    if note.alignment == 2 {
+    if size_record.alignment == 2 {
         text.push(Piece::Even)?;
     }
     Ok(())
@@ -105,17 +105,17 @@ fn push_lead(text: &mut Vec<Piece>, gap: u8, note: &Note) -> Result<(), NoMemory
 // A branch, which outside code keeps its first form.
 fn branch_text(
     positions: &[u32],
-    notes: &[Note],
+    size_records: &[SizeRecord],
     segment: Segment,
     kind: BranchKind,
     anchor: Anchor,
 ) -> Piece
-    ensures { result ∷ [] ≡ spec.body_text (spec.target_in positions.now notes.now) segment (Branch kind anchor) }
+    ensures { result ∷ [] ≡ spec.body_text (spec.target_in positions.now size_records.now) segment (Branch kind anchor) }
 {
     if is_code(segment) {
         Piece::Branch {
             kind,
-            target: target_in(positions, notes, segment, anchor),
+            target: target_in(positions, size_records, segment, anchor),
         }
     } else {
         Piece::Bytes(branch_length(kind, Form::First))
@@ -125,12 +125,12 @@ fn branch_text(
 fn push_body(
     text: &mut Vec<Piece>,
     positions: &[u32],
-    notes: &[Note],
-    note: &Note,
+    size_records: &[SizeRecord],
+    size_record: &SizeRecord,
 ) -> Result<(), NoMemory>
-    ensures { IfOk result (λ _. text.new.items ≡ text.old.items ++ spec.body_text (spec.target_in positions.now notes.now) note.now.segment note.now.body) }
+    ensures { IfOk result (λ _. text.new.items ≡ text.old.items ++ spec.body_text (spec.target_in positions.now size_records.now) size_record.now.segment size_record.now.body) }
 {
-    match note.body {
+    match size_record.body {
         Body::Bytes(count) => push_bytes(text, count),
         Body::Upto(to) => {
             text.push(Piece::At(to))?;
@@ -141,7 +141,7 @@ fn push_body(
             Ok(())
         }
         Body::Branch { kind, anchor } => {
-            text.push(branch_text(positions, notes, note.segment, kind, anchor))?;
+            text.push(branch_text(positions, size_records, size_record.segment, kind, anchor))?;
             Ok(())
         }
     }
@@ -150,27 +150,27 @@ fn push_body(
 fn push_own(
     text: &mut Vec<Piece>,
     positions: &[u32],
-    notes: &[Note],
+    size_records: &[SizeRecord],
     gap: u8,
-    note: &Note,
+    size_record: &SizeRecord,
 ) -> Result<(), NoMemory>
-    ensures { IfOk result (λ _. text.new.items ≡ text.old.items ++ spec.own_text (spec.target_in positions.now notes.now) gap note.now) }
+    ensures { IfOk result (λ _. text.new.items ≡ text.old.items ++ spec.own_text (spec.target_in positions.now size_records.now) gap size_record.now) }
 {
-    push_lead(text, gap, note)?;
-    push_body(text, positions, notes, note)
+    push_lead(text, gap, size_record)?;
+    push_body(text, positions, size_records, size_record)
 }
 
 fn push_main(
     text: &mut Vec<Piece>,
     positions: &[u32],
-    notes: &[Note],
+    size_records: &[SizeRecord],
     gap: u8,
-    note: &Note,
+    size_record: &SizeRecord,
 ) -> Result<(), NoMemory>
-    ensures { IfOk result (λ _. text.new.items ≡ text.old.items ++ spec.main_text (spec.target_in positions.now notes.now) gap note.now) }
+    ensures { IfOk result (λ _. text.new.items ≡ text.old.items ++ spec.main_text (spec.target_in positions.now size_records.now) gap size_record.now) }
 {
-    if is_main(note.segment) {
-        push_own(text, positions, notes, gap, note)?;
+    if is_main(size_record.segment) {
+        push_own(text, positions, size_records, gap, size_record)?;
     }
     Ok(())
 }
@@ -178,16 +178,16 @@ fn push_main(
 fn push_absolute(
     text: &mut Vec<Piece>,
     positions: &[u32],
-    notes: &[Note],
+    size_records: &[SizeRecord],
     gap: u8,
-    note: &Note,
+    size_record: &SizeRecord,
 ) -> Result<(), NoMemory>
-    ensures { IfOk result (λ _. text.new.items ≡ text.old.items ++ spec.absolute_text (spec.target_in positions.now notes.now) gap note.now) }
+    ensures { IfOk result (λ _. text.new.items ≡ text.old.items ++ spec.absolute_text (spec.target_in positions.now size_records.now) gap size_record.now) }
 {
-    if note.segment.is_absolute() {
-        push_own(text, positions, notes, gap, note)?;
+    if size_record.segment.is_absolute() {
+        push_own(text, positions, size_records, gap, size_record)?;
     }
-    if let Some(address) = note.opens {
+    if let Some(address) = size_record.opens {
         text.push(Piece::At(address))?;
     }
     Ok(())
@@ -218,13 +218,13 @@ fn push_all_main(
     text: &mut Vec<Piece>,
     positions: &[u32],
     gaps: &[u8],
-    notes: &[Note],
+    size_records: &[SizeRecord],
 ) -> Result<(), NoMemory>
-    ensures { IfOk result (λ _. text.new.items ≡ text.old.items ++ spec.text_by (spec.main_text (spec.target_in positions.now notes.now)) gaps.now notes.now) }
+    ensures { IfOk result (λ _. text.new.items ≡ text.old.items ++ spec.text_by (spec.main_text (spec.target_in positions.now size_records.now)) gaps.now size_records.now) }
 {
     let mut later = gaps;
-    for note in notes {
-        push_main(text, positions, notes, next_gap(later), note)?;
+    for size_record in size_records {
+        push_main(text, positions, size_records, next_gap(later), size_record)?;
         later = behind_gap(later);
     }
     Ok(())
@@ -235,13 +235,13 @@ fn push_all_absolute(
     text: &mut Vec<Piece>,
     positions: &[u32],
     gaps: &[u8],
-    notes: &[Note],
+    size_records: &[SizeRecord],
 ) -> Result<(), NoMemory>
-    ensures { IfOk result (λ _. text.new.items ≡ text.old.items ++ spec.text_by (spec.absolute_text (spec.target_in positions.now notes.now)) gaps.now notes.now) }
+    ensures { IfOk result (λ _. text.new.items ≡ text.old.items ++ spec.text_by (spec.absolute_text (spec.target_in positions.now size_records.now)) gaps.now size_records.now) }
 {
     let mut later = gaps;
-    for note in notes {
-        push_absolute(text, positions, notes, next_gap(later), note)?;
+    for size_record in size_records {
+        push_absolute(text, positions, size_records, next_gap(later), size_record)?;
         later = behind_gap(later);
     }
     Ok(())
@@ -252,12 +252,12 @@ pub(crate) fn text(
     alloc: Global,
     positions: &[u32],
     gaps: &[u8],
-    notes: &[Note],
+    size_records: &[SizeRecord],
 ) -> Result<Vec<Piece>, NoMemory>
-    ensures { IfOk result (λ v. v.items ≡ spec.whole_text (spec.target_in positions.now notes.now) gaps.now notes.now) }
+    ensures { IfOk result (λ v. v.items ≡ spec.whole_text (spec.target_in positions.now size_records.now) gaps.now size_records.now) }
 {
     let mut text = Vec::new(alloc);
-    push_all_main(&mut text, positions, gaps, notes)?;
-    push_all_absolute(&mut text, positions, gaps, notes)?;
+    push_all_main(&mut text, positions, gaps, size_records)?;
+    push_all_absolute(&mut text, positions, gaps, size_records)?;
     Ok(text)
 }

@@ -5,22 +5,22 @@ use Rattle.std.proofs.lemmas.List.Elements.{All-drop}
 use Rattle.kc_lex.specs.declared.token.Line.{Line}
 use Rattle.kc_lex.specs.declared.token.Token.{Token}
 use Rattle.kc_source_statement.specs.Operands.{is_nil}
-use Rattle.kc_asm_outline.specs.declared.note.Note.{Note}
+use Rattle.kc_asm_outline.specs.declared.size_record.SizeRecord.{SizeRecord}
 use Rattle.kc_asm_outline.specs.Bounds.{IsBounded}
-use Rattle.kc_asm_layout.specs.declared.site.Site.{Site}
+use Rattle.kc_asm_layout.specs.declared.location.Location.{Location}
 use Rattle.kc_asm_rows.specs.declared.spot.Spot.{Spot}
 use Rattle.kc_asm_list.specs.Spots.{first_spot, spots_from}
 
 -- notes behind the first are bounded as all are
-pub all_behind : (notes rest : List Note) → rest ≡ drop 1 notes → All IsBounded notes → All IsBounded rest
-all_behind notes rest e h = subst (All IsBounded) (sym e) (All-drop IsBounded 1 notes h)
+pub all_behind : (size_records rest : List SizeRecord) → rest ≡ drop 1 size_records → All IsBounded size_records → All IsBounded rest
+all_behind size_records rest e h = subst (All IsBounded) (sym e) (All-drop IsBounded 1 size_records h)
 
 pub no_tokens : (ts : List Token) → is_nil ts ≡ eqb (length ts) 0
 no_tokens [] = refl
 no_tokens (t ∷ ts) = refl
 
 -- a line with a statement
-pub said : (left : List Line) (l : Line) (ds : List ℕ) (ns : List Note) (ss : List Site) (spots whole : List Spot) → 1 ≤ length left → l ≡ get_or left 0 l → is_nil l.tokens ≡ false
+pub said : (left : List Line) (l : Line) (ds : List ℕ) (ns : List SizeRecord) (ss : List Location) (spots whole : List Spot) → 1 ≤ length left → l ≡ get_or left 0 l → is_nil l.tokens ≡ false
     → spots ++ spots_from left ds ns ss ≡ whole
     → (spots ++ first_spot l ds ns ss) ++ spots_from (take (length left - 1) (drop 1 left)) (drop 1 ds) (drop 1 ns) (drop 1 ss) ≡ whole
 unfolding spots_from
@@ -34,7 +34,7 @@ said (x ∷ left) l ds ns ss spots whole some is full e =
     ∙ ap (λ (more : List Spot). spots ++ more) (sym one) ∙ e
 
 -- a blank one
-pub blank : (left : List Line) (l : Line) (ds : List ℕ) (ns : List Note) (ss : List Site) (spots whole : List Spot) → 1 ≤ length left → l ≡ get_or left 0 l → is_nil l.tokens ≡ true
+pub blank : (left : List Line) (l : Line) (ds : List ℕ) (ns : List SizeRecord) (ss : List Location) (spots whole : List Spot) → 1 ≤ length left → l ≡ get_or left 0 l → is_nil l.tokens ≡ true
     → spots ++ spots_from left ds ns ss ≡ whole
     → spots ++ spots_from (take (length left - 1) (drop 1 left)) (drop 1 ds) ns ss ≡ whole
 unfolding spots_from

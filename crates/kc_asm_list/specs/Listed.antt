@@ -26,7 +26,7 @@ pub record IsListing (source : List ℕ) (m : Object) (listed : List ℕ) : Type
   pub deep : depths_of lines ≡ Some (Ok depths)
   pub stmts : List Stmt
   pub said : AreStatements stmts text
-  pub told : listed ≡ listing m source (spots_of text depths stmts)
+  pub reported : listed ≡ listing m source (spots_of text depths stmts)
 
 -- a source without statements has a fault of its lines, of its macros, or of its statements and names
 abbrev pub IsUnread : List ℕ → Fault → Type 0

@@ -3,12 +3,12 @@
 ghost use Rattle.std.specs.Prelude.{◌≡◌, ◌≤◌, ◌++◌, drop, length, slice_index, All, IfOk, OnOk};
 ghost use Rattle.kc_asm_symbols.specs.Externals.{externals};
 ghost use Rattle.kc_asm_symbols.specs.Located.{located_by};
-ghost use Rattle.kc_asm_outline.specs.Outline.{at_zero};
+ghost use Rattle.kc_asm_outline.specs.StatementSizes.{at_zero};
 ghost use Rattle.kc_asm_outline.specs.Bounds.{IsBounded};
 ghost use Rattle.kc_asm_list.specs.Spots as spec;
 
-use kc_asm_layout::{Site, layout};
-use kc_asm_outline::{Note, outline};
+use kc_asm_layout::{Location, layout};
+use kc_asm_outline::{SizeRecord, statement_sizes};
 use kc_asm_rows::Spot;
 use kc_asm_symbols::{Names, externals};
 use kc_base::NoMemory;
@@ -18,20 +18,20 @@ use kc_source_statement::Stmt;
 use std::alloc::Global;
 
 // Where a statement stands.
-fn spot_of(line: &Line, depth: usize, note: &Note, site: &Site) -> Spot
-    requires { IsBounded note.now }
-    ensures { result ≡ spec.spot_of line.now depth note.now site.now }
+fn spot_of(line: &Line, depth: usize, size_record: &SizeRecord, location: &Location) -> Spot
+    requires { IsBounded size_record.now }
+    ensures { result ≡ spec.spot_of line.now depth size_record.now location.now }
 {
     Spot {
         line: line.number,
         depth,
         labelled: has_label(line.tokens.as_slice()),
-        kind: note.segment.kind,
-        piece: note.segment.piece as u32,
-        at: site.address,
-        before: site.before,
-        place: site.place,
-        after: site.after,
+        kind: size_record.segment.kind,
+        piece: size_record.segment.piece as u32,
+        at: location.address,
+        before: location.before,
+        place: location.place,
+        after: location.after,
     }
 }
 
@@ -46,18 +46,18 @@ fn put_first(
     spots: &mut Vec<Spot>,
     line: &Line,
     depths: &[usize],
-    notes: &[Note],
-    sites: &[Site],
+    size_records: &[SizeRecord],
+    locations: &[Location],
 ) -> Result<(), NoMemory>
-    requires { All IsBounded notes.now }
-    ensures { OnOk result (spots.new.items ≡ spots.old.items ++ spec.first_spot line.now depths.now notes.now sites.now) }
+    requires { All IsBounded size_records.now }
+    ensures { OnOk result (spots.new.items ≡ spots.old.items ++ spec.first_spot line.now depths.now size_records.now locations.now) }
 {
-    match notes {
+    match size_records {
         [] => Ok(()),
-        [note, ..] => match sites {
+        [size_record, ..] => match locations {
             [] => Ok(()),
-            [site, ..] => {
-                spots.push(spot_of(line, first_depth(depths), note, site))?;
+            [location, ..] => {
+                spots.push(spot_of(line, first_depth(depths), size_record, location))?;
                 Ok(())
             }
         },
@@ -79,17 +79,17 @@ fn spots_from(
     alloc: Global,
     text: &[Line],
     depths: &[usize],
-    notes: &[Note],
-    sites: &[Site],
+    size_records: &[SizeRecord],
+    locations: &[Location],
 ) -> Result<Vec<Spot>, NoMemory>
-    requires { All IsBounded notes.now }
-    ensures { IfOk result (λ v. v.items ≡ spec.spots_from text.now depths.now notes.now sites.now) }
+    requires { All IsBounded size_records.now }
+    ensures { IfOk result (λ v. v.items ≡ spec.spots_from text.now depths.now size_records.now locations.now) }
 {
     let mut spots = Vec::new(alloc);
     let mut left = text;
     let mut deep = depths;
-    let mut ahead = notes;
-    let mut standing = sites;
+    let mut ahead = size_records;
+    let mut standing = locations;
     while let [line, rest @ ..] = left {
         if !line.tokens.as_slice().is_empty() {
             put_first(&mut spots, line, deep, ahead, standing)?;
@@ -115,7 +115,7 @@ pub(crate) fn spots_of(
 {
     let taken = externals(alloc, stmts)?;
     let names = Names::new(alloc, stmts, &taken)?;
-    let outlined = outline(alloc, stmts, &names)?;
-    let sites = layout(alloc, &outlined)?;
-    spots_from(alloc, text, depths, outlined.notes(), &sites)
+    let outlined = statement_sizes(alloc, stmts, &names)?;
+    let locations = layout(alloc, &outlined)?;
+    spots_from(alloc, text, depths, outlined.size_records(), &locations)
 }

@@ -10,16 +10,16 @@ use Rattle.kc_obj_module.specs.Contents.{content_at}
 use Rattle.kc_asm_symbols.specs.declared.segments.Segment.{Segment}
 use Rattle.kc_asm_symbols.specs.Located.{Located}
 use Rattle.kc_asm_symbols.specs.Meanings.{meaning}
-use Rattle.kc_asm_piece.specs.Tape.{Tape, is_tape, blank, octet_at}
+use Rattle.kc_asm_piece.specs.Section.{Section, is_section, blank, relocatable_byte_at}
 use Rattle.kc_asm_piece.specs.Writing.{WrittenStands, PutStands}
 use Rattle.kc_asm_module.specs.Order.{start_of}
 use Rattle.kc_asm_emission.specs.Content.{content}
-use Rattle.kc_asm_outline.specs.Outline.{opens}
-use Rattle.kc_asm_layout.specs.declared.site.Site.{Site}
+use Rattle.kc_asm_outline.specs.StatementSizes.{opens}
+use Rattle.kc_asm_layout.specs.declared.location.Location.{Location}
 use Rattle.kc_asm_check.specs.Codes.{Regions, regions_after, stack_after}
-use Rattle.kc_asm_draft_laws.specs.Drafting.{led, tape_after, kind_opened, with_opened, first_tape, parts_after, parts_from, first_parts}
+use Rattle.kc_asm_draft_laws.specs.Collecting.{led, section_after, kind_opened, with_opened, first_section, parts_after, parts_from, first_parts}
 use Rattle.kc_asm_draft_laws.specs.Writable.{HasRoom}
-use Rattle.kc_asm_draft_laws.proofs.Lists.{same_element, front_at, set_itself, all_at}
+use Rattle.kc_asm_draft_laws.proofs.Lists.{same_element, prefix_at, set_itself, all_at}
 use Rattle.kc_asm_draft_laws.proofs.Taping.{size_at, led_extends, put_extends, led_stays}
 use Rattle.kc_asm_draft_laws.proofs.Standing.{IsOwn, Fits}
 use Rattle.kc_asm_draft_laws.proofs.Walking.{IsStep, AllSteps}
@@ -28,7 +28,7 @@ use Rattle.kc_asm_draft_laws.proofs.Keeping.{parts_kept, first_kept}
 use Rattle.kc_asm_rows.specs.declared.spot.Spot.{Spot}
 use Rattle.kc_asm_list_laws.specs.Shown.{is_among, shows}
 use Rattle.kc_asm_list_laws.proofs.Pieces.{number_in, IsOwnKind, suc_alike}
-use Rattle.kc_asm_list_laws.proofs.Tapes.{Grown, led_grown, put_grown, beyond}
+use Rattle.kc_asm_list_laws.proofs.Sections.{Grown, led_grown, put_grown, beyond}
 
 -- ---- places in a stretch
 
@@ -58,19 +58,19 @@ true_behind false = refl
 module _ (start size gap count o before place after : ℕ) (a b : Bool)
     (begins : before ≡ start + size) (stands : place ≡ start + (size + gap)) (ends : after ≡ start + ((size + gap) + count))
     (filled : size ≤ o → o < size + gap → a ≡ true) (written : size + gap ≤ o → o < (size + gap) + count → b ≡ true) where
-  abbrev told : Bool
-  told = nat_lt before after && (is_among (start + o) before (if a then place - before else 0) || is_among (start + o) place (if b then after - place else 0))
+  abbrev reported : Bool
+  reported = nat_lt before after && (is_among (start + o) before (if a then place - before else 0) || is_among (start + o) place (if b then after - place else 0))
 
-  told_is : told ≡ (leb size o && ltb o ((size + gap) + count))
-  told_is = by (leb size o) refl (ltb o (size + gap)) refl (ltb o ((size + gap) + count)) refl
+  reported_is : reported ≡ (leb size o && ltb o ((size + gap) + count))
+  reported_is = by (leb size o) refl (ltb o (size + gap)) refl (ltb o ((size + gap) + count)) refl
     where
-      none_told : is_among (start + o) before (if a then place - before else 0) ≡ false → is_among (start + o) place (if b then after - place else 0) ≡ false → told ≡ false
-      none_told e f = ap (λ (c : Bool). nat_lt before after && (c || is_among (start + o) place (if b then after - place else 0))) e ∙ ap (λ (c : Bool). nat_lt before after && c) f ∙ false_behind (nat_lt before after)
+      none_reported : is_among (start + o) before (if a then place - before else 0) ≡ false → is_among (start + o) place (if b then after - place else 0) ≡ false → reported ≡ false
+      none_reported e f = ap (λ (c : Bool). nat_lt before after && (c || is_among (start + o) place (if b then after - place else 0))) e ∙ ap (λ (c : Bool). nat_lt before after && c) f ∙ false_behind (nat_lt before after)
 
-      by : (p : Bool) → leb size o ≡ p → (q : Bool) → ltb o (size + gap) ≡ q → (r : Bool) → ltb o ((size + gap) + count) ≡ r → told ≡ (p && r)
+      by : (p : Bool) → leb size o ≡ p → (q : Bool) → ltb o (size + gap) ≡ q → (r : Bool) → ltb o ((size + gap) + count) ≡ r → reported ≡ (p && r)
       by false p q e r f =
           let lt : o < size = grind (arith, nat_tests, p) in
-          none_told (among_before (start + o) before _ (omega (arith, lt, begins))) (among_before (start + o) place _ (omega (arith, lt, stands)))
+          none_reported (among_before (start + o) before _ (omega (arith, lt, begins))) (among_before (start + o) place _ (omega (arith, lt, stands)))
       by true p true e true f =
           let le : size ≤ o = grind (arith, nat_tests, p) in
           let lt : o < size + gap = grind (arith, nat_tests, e) in
@@ -91,12 +91,12 @@ module _ (start size gap count o before place after : ℕ) (a b : Bool)
           rw (full, wide, there) (true_behind (is_among (start + o) before (if a then place - before else 0)))
       by true p false e false f =
           let le : (size + gap) + count ≤ o = grind (arith, nat_tests, f) in
-          none_told (among_behind (start + o) before _ (omega (arith, le, begins, stands, some_of a (place - before))))
+          none_reported (among_behind (start + o) before _ (omega (arith, le, begins, stands, some_of a (place - before))))
           (among_behind (start + o) place _ (omega (arith, le, stands, ends, some_of b (after - place))))
 
 -- ---- parts
 
-other_set : (xs : List Tape) (i : ℕ) (y : Tape) (p : ℕ) → (i == p) ≡ false → slice_get (set xs i y) p ≡ slice_get xs p
+other_set : (xs : List Section) (i : ℕ) (y : Section) (p : ℕ) → (i == p) ≡ false → slice_get (set xs i y) p ≡ slice_get xs p
 other_set [] i y p e = refl
 other_set (x ∷ xs) zero y zero e = absurd (cc e)
 other_set (x ∷ xs) zero y (suc p) e = refl
@@ -104,49 +104,49 @@ other_set (x ∷ xs) (suc i) y zero e = refl
 other_set (x ∷ xs) (suc i) y (suc p) e = other_set xs i y p (sym (suc_alike i p) ∙ e)
 
 -- what stands in a part is the same, or it was opened
-abbrev IsFresh : Option Tape → Option Tape → Type 0
-IsFresh a b = (b ≡ a) ⊎ ((a ≡ None) × ((t : Tape) → b ≡ Some t → t.length ≡ 0))
+abbrev IsFresh : Option Section → Option Section → Type 0
+IsFresh a b = (b ≡ a) ⊎ ((a ≡ None) × ((t : Section) → b ≡ Some t → t.length ≡ 0))
 
-pushed : (xs : List Tape) (y : Tape) (p : ℕ) → y.length ≡ 0 → IsFresh (slice_get xs p) (slice_get (xs ++ y ∷ []) p)
-pushed [] y zero e = inr (refl, λ t f. ap (λ (u : Tape). u.length) (sym (same_element y t f)) ∙ e)
+pushed : (xs : List Section) (y : Section) (p : ℕ) → y.length ≡ 0 → IsFresh (slice_get xs p) (slice_get (xs ++ y ∷ []) p)
+pushed [] y zero e = inr (refl, λ t f. ap (λ (u : Section). u.length) (sym (same_element y t f)) ∙ e)
 pushed [] y (suc p) e = inl refl
 pushed (x ∷ xs) y zero e = inl refl
 pushed (x ∷ xs) y (suc p) e = pushed xs y p e
 
-opened_fresh : (kind : SegKind) (at : Option ℕ) (xs : List Tape) (p : ℕ) → IsFresh (slice_get xs p) (slice_get (with_opened kind at xs) p)
+opened_fresh : (kind : SegKind) (at : Option ℕ) (xs : List Section) (p : ℕ) → IsFresh (slice_get xs p) (slice_get (with_opened kind at xs) p)
 opened_fresh kind None xs p = inl refl
 opened_fresh kind (Some address) xs p = pushed xs (blank kind (Some address)) p refl
 
-opened_stays : (kind : SegKind) (at : Option ℕ) (xs : List Tape) (p : ℕ) (t : Tape) → slice_get xs p ≡ Some t → slice_get (with_opened kind at xs) p ≡ Some t
+opened_stays : (kind : SegKind) (at : Option ℕ) (xs : List Section) (p : ℕ) (t : Section) → slice_get xs p ≡ Some t → slice_get (with_opened kind at xs) p ≡ Some t
 opened_stays kind None xs p t e = e
-opened_stays kind (Some address) xs p t e = front_at xs (blank kind (Some address) ∷ []) p t e
+opened_stays kind (Some address) xs p t e = prefix_at xs (blank kind (Some address) ∷ []) p t e
 
 -- ---- a statement with its segment and its site, as far as bytes depend on it
 
-abbrev pub spot_with : Segment → Site → Spot
+abbrev pub spot_with : Segment → Location → Spot
 spot_with g s = record { line = 0; depth = 0; labelled = false; kind = g.kind; piece = g.piece; at = s.address; before = s.before; place = s.place; after = s.after }
 
-unfoldable pub count_seen : (Segment → Site → Bool) → List Located → List Site → ℕ
+unfoldable pub count_seen : (Segment → Location → Bool) → List Located → List Location → ℕ
 count_seen f [] ss = 0
 count_seen f (l ∷ ls) [] = 0
 count_seen f (l ∷ ls) (s ∷ ss) = cond (f l.segment s) 1 0 + count_seen f ls ss
 
 -- what a part had stays, as it goes on to its last octet
-record IsOld (last t : Tape) : Type 0 where
+record IsOld (last t : Section) : Type 0 where
   at : last.at ≡ t.at
   size : t.length ≤ last.length
-  old : (i : ℕ) → i < t.length → octet_at last i ≡ octet_at t i
+  old : (i : ℕ) → i < t.length → relocatable_byte_at last i ≡ relocatable_byte_at t i
 
-abbrev Older : Tape → Option Tape → Type 0
+abbrev Older : Section → Option Section → Type 0
 Older last None = Unit {0}
 Older last (Some t) = IsOld last t
 
-abbrev length_of : Option Tape → ℕ
+abbrev length_of : Option Section → ℕ
 length_of None = 0
 length_of (Some t) = t.length
 
 -- the octet at an offset is shown once, by the statements from one on, where it is not there yet
-abbrev IsCounted : Tape → ℕ → Option Tape → ℕ → Type 0
+abbrev IsCounted : Section → ℕ → Option Section → ℕ → Type 0
 IsCounted last o now n = Older last now × (n ≡ cond (ltb o (length_of now)) 0 1)
 
 own_kind : (piece : ℕ) (kind : SegKind) (at : Option ℕ) → IsOwn piece kind at → IsOwnKind piece kind
@@ -164,11 +164,11 @@ same_test x y r false c e f = ap (λ (b : Bool). b && r x) e
 none_more : (n : ℕ) → 0 + n ≡ n
 none_more n = omega arith
 
-abbrev pub Anything : Tape → Type 0
+abbrev pub Anything : Section → Type 0
 Anything t = Unit {0}
 
-abbrev Tapes : List Tape → Type 0
-Tapes parts = AllByRecursion (λ t. (is_tape t ≡ true) × Anything t) parts
+abbrev Sections : List Section → Type 0
+Sections parts = AllByRecursion (λ t. (is_section t ≡ true) × Anything t) parts
 
 counts : (size later o : ℕ) → size ≤ later → cond (leb size o && ltb o later) 1 0 + cond (ltb o later) 0 1 ≡ cond (ltb o size) 0 1
 counts size later o le = by (leb size o) refl (ltb o later) refl (ltb o size) refl
@@ -183,14 +183,14 @@ counts size later o le = by (leb size o) refl (ltb o later) refl (ltb o size) re
     by false e false f true g = absurd (grind (arith, nat_tests, f, g, le))
     by false e false f false g = absurd (grind (arith, nat_tests, e, g))
 
-module _ (written_stands : WrittenStands) (put_stands : PutStands) (m : Object) (piece o part : ℕ) (last : Tape) (there : is_some (octet_at last o) ≡ true)
-    (holds : (k : ℕ) → is_some (content_at m.contents piece k) ≡ is_some (octet_at last k))
+module _ (written_stands : WrittenStands) (put_stands : PutStands) (m : Object) (piece o part : ℕ) (last : Section) (there : is_some (relocatable_byte_at last o) ≡ true)
+    (holds : (k : ℕ) → is_some (content_at m.contents piece k) ≡ is_some (relocatable_byte_at last k))
     (alone : (p : ℕ) (kind : SegKind) → IsOwnKind p kind → (number_in p kind m.segments == piece) ≡ (p == part)) where
-  abbrev pub seen : Segment → Site → Bool
+  abbrev pub seen : Segment → Location → Bool
   seen g s = shows m piece o (spot_with g s)
 
   -- what the rows of a statement show of a piece with this number
-  abbrev shown_in : Site → ℕ → Bool
+  abbrev shown_in : Location → ℕ → Bool
   shown_in s k =
       nat_lt s.before s.after
       && (is_among (unwrap_or s.address 0 + o) s.before (if is_some (content_at m.contents k (s.before - unwrap_or s.address 0)) then s.place - s.before else 0)
@@ -198,18 +198,18 @@ module _ (written_stands : WrittenStands) (put_stands : PutStands) (m : Object) 
 
   -- ---- one statement
 
-  module _ (all before : List Located) (regions : Regions) (sum : ℕ) (l : Located) (s : Site) (parts : List Tape) (h : IsStep all before regions sum l s parts) (tapes : Tapes parts) where
-    abbrev t : Tape
+  module _ (all before : List Located) (regions : Regions) (sum : ℕ) (l : Located) (s : Location) (parts : List Section) (h : IsStep all before regions sum l s parts) (sections : Sections parts) where
+    abbrev t : Section
     t = h.t
 
-    abbrev u : Tape
+    abbrev u : Section
     u = led l.segment.kind (s.place - s.before) t
 
-    abbrev v : Tape
-    v = tape_after (meaning all before l) l s t
+    abbrev v : Section
+    v = section_after (meaning all before l) l s t
 
-    is_t : is_tape t ≡ true
-    is_t = (all_at (λ (x : Tape). (is_tape x ≡ true) × Anything x) parts l.segment.piece t h.part tapes).0
+    is_t : is_section t ≡ true
+    is_t = (all_at (λ (x : Section). (is_section x ≡ true) × Anything x) parts l.segment.piece t h.part sections).0
 
     room : Fits (content (meaning all before l) s.form l.here l.action) s h.t
     room = step_fits all before regions sum l s parts h
@@ -217,7 +217,7 @@ module _ (written_stands : WrittenStands) (put_stands : PutStands) (m : Object) 
     led_size : u.length ≡ t.length + (s.place - s.before)
     led_size = (led_extends l.segment.kind (s.place - s.before) t).size
 
-    is_u : is_tape u ≡ true
+    is_u : is_section u ≡ true
     is_u = (led_stays Anything (λ n x a. tt) (λ x code b a. tt) l.segment.kind (s.place - s.before) t h.stands.kind room.gap (is_t, tt)).0
 
     by_gap : (full : Bool) × Grown full t u
@@ -236,14 +236,14 @@ module _ (written_stands : WrittenStands) (put_stands : PutStands) (m : Object) 
     next_here : slice_get (parts_after (meaning all before l) l s parts) l.segment.piece ≡ Some v
     next_here =
         let look = meaning all before l in
-        ap (λ (x : Option Tape). slice_get (with_opened (kind_opened l.action) (opens look l.action) (slice_set parts l.segment.piece (tape_after look l s (unwrap_or x first_tape)))) l.segment.piece) h.part
+        ap (λ (x : Option Section). slice_get (with_opened (kind_opened l.action) (opens look l.action) (slice_set parts l.segment.piece (section_after look l s (unwrap_or x first_section)))) l.segment.piece) h.part
         ∙ opened_stays (kind_opened l.action) (opens look l.action) (slice_set parts l.segment.piece v) l.segment.piece v (set_itself parts l.segment.piece t v h.part)
 
     next_other : (p : ℕ) → (l.segment.piece == p) ≡ false → IsFresh (slice_get parts p) (slice_get (parts_after (meaning all before l) l s parts) p)
     next_other p e =
         let look = meaning all before l in
-        let w = tape_after look l s (unwrap_or (slice_get parts l.segment.piece) first_tape) in
-        subst (λ (x : Option Tape). IsFresh x (slice_get (parts_after look l s parts) p)) (other_set parts l.segment.piece w p e)
+        let w = section_after look l s (unwrap_or (slice_get parts l.segment.piece) first_section) in
+        subst (λ (x : Option Section). IsFresh x (slice_get (parts_after look l s parts) p)) (other_set parts l.segment.piece w p e)
         (opened_fresh (kind_opened l.action) (opens look l.action) (slice_set parts l.segment.piece w) p)
 
     -- of the part in which the octet stands
@@ -262,14 +262,14 @@ module _ (written_stands : WrittenStands) (put_stands : PutStands) (m : Object) 
           (λ i. nat_lt s.before s.after
           && (is_among (address i + o) s.before (if is_some (content_at m.contents piece (s.before - address i)) then s.place - s.before else 0)
           || is_among (address i + o) s.place (if is_some (content_at m.contents piece (s.place - address i)) then s.after - s.place else 0)))
-          ∙ told_is start t.length gap count o s.before s.place s.after
+          ∙ reported_is start t.length gap count o s.before s.place s.after
           (is_some (content_at m.contents piece (s.before - start))) (is_some (content_at m.contents piece (s.place - start))) begins stands ends
           (λ le lt.
           let at : s.before - start ≡ t.length = omega (arith, begins) in
           let own : o < u.length = omega (arith, lt, led_size) in
           let first : t.length < u.length = omega (arith, le, own) in
           let full : by_gap.0 ≡ true = sym (by_gap.1.new o le own) ∙ ap is_some (sym (by_own.1.old o own)) ∙ ap is_some (sym (old.old o (omega (arith, own, by_own.1.size)))) ∙ there in
-          holds (s.before - start) ∙ ap (λ (k : ℕ). is_some (octet_at last k)) at ∙ ap is_some (old.old t.length (omega (arith, first, by_own.1.size)))
+          holds (s.before - start) ∙ ap (λ (k : ℕ). is_some (relocatable_byte_at last k)) at ∙ ap is_some (old.old t.length (omega (arith, first, by_own.1.size)))
           ∙ ap is_some (by_own.1.old t.length first) ∙ by_gap.1.new t.length (omega arith) first ∙ full)
           (λ le lt.
           let at : s.place - start ≡ u.length = omega (arith, stands, led_size) in
@@ -277,7 +277,7 @@ module _ (written_stands : WrittenStands) (put_stands : PutStands) (m : Object) 
           let from : u.length ≤ o = omega (arith, le, led_size) in
           let first : u.length < v.length = omega (arith, from, own) in
           let full : by_own.0 ≡ true = sym (by_own.1.new o from own) ∙ ap is_some (sym (old.old o own)) ∙ there in
-          holds (s.place - start) ∙ ap (λ (k : ℕ). is_some (octet_at last k)) at ∙ ap is_some (old.old u.length first)
+          holds (s.place - start) ∙ ap (λ (k : ℕ). is_some (relocatable_byte_at last k)) at ∙ ap is_some (old.old u.length first)
           ∙ by_own.1.new u.length (omega arith) first ∙ full)
           ∙ ap (λ (n : ℕ). leb t.length o && ltb o n) (sym v_size)
 
@@ -303,33 +303,33 @@ module _ (written_stands : WrittenStands) (put_stands : PutStands) (m : Object) 
             let same : l.segment.piece ≡ part = eqb-true l.segment.piece part e in
             let after : slice_get (parts_after (meaning all before l) l s parts) part ≡ Some v = ap (slice_get (parts_after (meaning all before l) l s parts)) (sym same) ∙ next_here in
             let now : slice_get parts part ≡ Some t = ap (slice_get parts) (sym same) ∙ h.part in
-            let later : IsCounted last o (Some v) n = subst (λ (x : Option Tape). IsCounted last o x n) after h2 in
+            let later : IsCounted last o (Some v) n = subst (λ (x : Option Section). IsCounted last o x n) after h2 in
             let shown = seen_is true e (leb t.length o && ltb o v.length) (λ q. shown_here later.0) in
-            subst (λ (x : Option Tape). IsCounted last o x (cond (seen l.segment s) 1 0 + n)) (sym now)
+            subst (λ (x : Option Section). IsCounted last o x (cond (seen l.segment s) 1 0 + n)) (sym now)
             (then_old later.0, (λ i. cond (shown i) 1 0 + later.1 i) ∙ counts t.length v.length o (omega (arith, by_gap.1.size, by_own.1.size)))
         by false e = fresh (slice_get parts part) (slice_get (parts_after (meaning all before l) l s parts) part) (next_other part e) h2
           where
             not_seen : cond (seen l.segment s) 1 0 + n ≡ n
             not_seen = ap (λ (b : Bool). cond b 1 0 + n) (seen_is false e false (λ q. absurd (cc q))) ∙ none_more n
 
-            none_yet : (now : Option Tape) → ((x : Tape) → now ≡ Some x → x.length ≡ 0) → length_of now ≡ 0
+            none_yet : (now : Option Section) → ((x : Section) → now ≡ Some x → x.length ≡ 0) → length_of now ≡ 0
             none_yet None f = refl
             none_yet (Some x) f = f x refl
 
-            fresh : (now after : Option Tape) → IsFresh now after → IsCounted last o after n → IsCounted last o now (cond (seen l.segment s) 1 0 + n)
-            fresh now after (inl f) k = subst (λ (x : Option Tape). IsCounted last o x (cond (seen l.segment s) 1 0 + n)) f (k.0, not_seen ∙ k.1)
+            fresh : (now after : Option Section) → IsFresh now after → IsCounted last o after n → IsCounted last o now (cond (seen l.segment s) 1 0 + n)
+            fresh now after (inl f) k = subst (λ (x : Option Section). IsCounted last o x (cond (seen l.segment s) 1 0 + n)) f (k.0, not_seen ∙ k.1)
             fresh now after (inr f) k =
-                subst (λ (x : Option Tape). IsCounted last o x (cond (seen l.segment s) 1 0 + n)) (sym f.0)
+                subst (λ (x : Option Section). IsCounted last o x (cond (seen l.segment s) 1 0 + n)) (sym f.0)
                 (tt, not_seen ∙ k.1 ∙ ap (λ (j : ℕ). cond (ltb o j) 0 1) (none_yet after f.1))
 
   -- ---- all statements
 
-  counted : (all : List Located) (regions : Regions) (sum : ℕ) (before ls : List Located) (ss : List Site) (parts : List Tape) → AllSteps all regions sum before ls ss parts → Tapes parts
-      → is_tape last ≡ true → slice_get (parts_from all before ls ss parts) part ≡ Some last → IsCounted last o (slice_get parts part) (count_seen seen ls ss)
+  counted : (all : List Located) (regions : Regions) (sum : ℕ) (before ls : List Located) (ss : List Location) (parts : List Section) → AllSteps all regions sum before ls ss parts → Sections parts
+      → is_section last ≡ true → slice_get (parts_from all before ls ss parts) part ≡ Some last → IsCounted last o (slice_get parts part) (count_seen seen ls ss)
   unfolding AllSteps parts_from count_seen
-  counted all regions sum before [] ss parts h tapes is e =
+  counted all regions sum before [] ss parts h sections is e =
       let inside : ltb o last.length ≡ true = below (ltb o last.length) refl in
-      subst (λ (x : Option Tape). IsCounted last o x 0) (sym e)
+      subst (λ (x : Option Section). IsCounted last o x 0) (sym e)
       (record { at = refl; size = omega arith; old = λ i lt. refl }, ap (λ (b : Bool). cond b 0 1) (sym inside))
     where
       below : (b : Bool) → ltb o last.length ≡ b → ltb o last.length ≡ true
@@ -338,13 +338,13 @@ module _ (written_stands : WrittenStands) (put_stands : PutStands) (m : Object) 
           let over : last.length ≤ o = grind (arith, nat_tests, q) in
           let none = beyond written_stands put_stands last is o over in
           absurd (cc (none, there))
-  counted all regions sum before (l ∷ ls) [] parts h tapes is e = absurd h
-  counted all regions sum before (l ∷ ls) (s ∷ ss) parts h tapes is e =
+  counted all regions sum before (l ∷ ls) [] parts h sections is e = absurd h
+  counted all regions sum before (l ∷ ls) (s ∷ ss) parts h sections is e =
       let look = meaning all before l in
       let next = parts_after look l s parts in
-      counted_on all before regions sum l s parts h.0 tapes (count_seen seen ls ss)
+      counted_on all before regions sum l s parts h.0 sections (count_seen seen ls ss)
       (counted all (regions_after look regions l.action) (stack_after look sum l.action) (l ∷ before) ls ss next h.1
-      (parts_kept all Anything (λ kind at. tt) (λ n x a. tt) (λ x code b a. tt) (λ b rs x y z ps w a q os f. tt) before regions sum l s parts h.0 tapes) is e)
+      (parts_kept all Anything (λ kind at. tt) (λ n x a. tt) (λ x code b a. tt) (λ b rs x y z ps w a q os f. tt) before regions sum l s parts h.0 sections) is e)
 
   nothing_yet : (p : ℕ) → length_of (slice_get first_parts p) ≡ 0
   nothing_yet zero = refl
@@ -352,7 +352,7 @@ module _ (written_stands : WrittenStands) (put_stands : PutStands) (m : Object) 
   nothing_yet (suc (suc zero)) = refl
   nothing_yet (suc (suc (suc p))) = refl
 
-  pub counted_once : (all : List Located) (regions : Regions) (ls : List Located) (ss : List Site) → AllSteps all regions 0 [] ls ss first_parts → is_tape last ≡ true
+  pub counted_once : (all : List Located) (regions : Regions) (ls : List Located) (ss : List Location) → AllSteps all regions 0 [] ls ss first_parts → is_section last ≡ true
       → slice_get (parts_from all [] ls ss first_parts) part ≡ Some last → count_seen seen ls ss ≡ 1
   counted_once all regions ls ss h is e =
       (counted all regions 0 [] ls ss first_parts h (first_kept Anything (λ kind at. tt)) is e).1 ∙ ap (λ (n : ℕ). cond {A = ℕ} (ltb o n) 0 1) (nothing_yet part) ∙ (let none : ltb o 0 ≡ false = grind (arith, nat_tests) in ap (λ (b : Bool). cond {A = ℕ} b 0 1) none)

@@ -11,11 +11,11 @@ use Rattle.kc_asm_symbols.specs.declared.segments.Segment.{Segment}
 use Rattle.kc_asm_symbols.specs.Located.{first_segment}
 use Rattle.kc_branch.specs.declared.piece.Form.{Form}
 use Rattle.kc_branch.specs.Forms.{head_form, forms}
-use Rattle.kc_asm_outline.specs.declared.note.Note.{Note}
+use Rattle.kc_asm_outline.specs.declared.size_record.SizeRecord.{SizeRecord}
 use Rattle.kc_asm_outline.specs.Numbered.{may_follow, is_same_piece, is_relocatable, aligns_well, numbered_after, IsNumbered}
-use Rattle.kc_asm_outline.specs.Outline.{outline}
-use Rattle.kc_asm_outline.specs.Laws.{OutlinesAreNumbered}
-use Rattle.kc_asm_layout.specs.Places.{no_bytes, begun, end_of, ends_after, address_added, opened, addresses, address_in, site_of, sites_from}
+use Rattle.kc_asm_outline.specs.StatementSizes.{statement_sizes}
+use Rattle.kc_asm_outline.specs.Laws.{SizesAreNumbered}
+use Rattle.kc_asm_layout.specs.Places.{no_bytes, begun, end_of, ends_after, address_added, opened, addresses, address_in, location_of, locations_from}
 use Rattle.kc_asm_layout.specs.Text.{statement_forms, text}
 use Rattle.kc_asm_rows.specs.declared.spot.Spot.{Spot}
 use Rattle.kc_asm_list.specs.Spots.{spot_of, spots_from}
@@ -156,17 +156,17 @@ module _ (list : List (Option ℕ)) (piece : ℕ) where
   AreAt [] = Unit {0}
   AreAt (s ∷ ss) = (s.at ≡ address_in list piece) × AreAt ss
 
-  abbrev Told : ℕ → List Spot → Type 0
-  Told from ss = Follow from ss × AreAt ss
+  abbrev Reported : ℕ → List Spot → Type 0
+  Reported from ss = Follow from ss × AreAt ss
 
-  step : (l : Line) (d : ℕ) (f : Form) (ends : List ℕ) (n : Note) (ss : List Spot) → n.segment.piece < length ends
+  step : (l : Line) (d : ℕ) (f : Form) (ends : List ℕ) (n : SizeRecord) (ss : List Spot) → n.segment.piece < length ends
       → ((a : ℕ) → n.opens ≡ Some a → piece ≡ length ends → begins list piece ≡ a)
-      → Told (start list piece (ends_after f ends n)) (filter (is_of piece) ss)
-      → Told (start list piece ends) (filter (is_of piece) (spot_of l d n (site_of list f ends n) ∷ ss))
+      → Reported (start list piece (ends_after f ends n)) (filter (is_of piece) ss)
+      → Reported (start list piece ends) (filter (is_of piece) (spot_of l d n (location_of list f ends n) ∷ ss))
   step l d f ends n ss within opened_at more = by (n.segment.piece == piece) refl
     where
       by : (b : Bool) → (n.segment.piece == piece) ≡ b
-          → Told (start list piece ends) (if b then spot_of l d n (site_of list f ends n) ∷ filter (is_of piece) ss else filter (is_of piece) ss)
+          → Reported (start list piece ends) (if b then spot_of l d n (location_of list f ends n) ∷ filter (is_of piece) ss else filter (is_of piece) ss)
       by true is =
           let same : n.segment.piece ≡ piece = eqb-true n.segment.piece piece is in
           let inside : piece < length ends = omega (arith, same, within) in
@@ -177,17 +177,17 @@ module _ (list : List (Option ℕ)) (piece : ℕ) where
           ((before, subst (λ k. Follow k (filter (is_of piece) ss)) after more.0), (ap (address_in list) same, more.1))
       by false is =
           let other : piece ≢ n.segment.piece = λ e. absurd (let same : (n.segment.piece == piece) ≡ true = grind (arith, nat_tests, e) in cc (sym same ∙ is)) in
-          subst (λ k. Told k (filter (is_of piece) ss)) (passes list piece ends n.segment.piece (end_of f ends n) n.opens other opened_at) more
+          subst (λ k. Reported k (filter (is_of piece) ss)) (passes list piece ends n.segment.piece (end_of f ends n) n.opens other opened_at) more
 
-  follows : (text : List Line) (ds : List ℕ) (fs : List Form) (ends : List ℕ) (g : Segment) (opens : Option ℕ) (ns : List Note)
+  follows : (text : List Line) (ds : List ℕ) (fs : List Form) (ends : List ℕ) (g : Segment) (opens : Option ℕ) (ns : List SizeRecord)
       → Before g opens ends → numbered_after g opens ns ≡ true → drop (length ends) list ≡ opened ns
-      → Told (start list piece ends) (filter (is_of piece) (spots_from text ds ns (sites_from list fs ends ns)))
-  unfolding spots_from sites_from numbered_after opened
+      → Reported (start list piece ends) (filter (is_of piece) (spots_from text ds ns (locations_from list fs ends ns)))
+  unfolding spots_from locations_from numbered_after opened
   follows [] ds fs ends g opens ns b num rest = (tt, tt)
   follows (l ∷ ls) ds fs ends g opens [] b num rest = by (is_nil l.tokens) (follows ls (drop 1 ds) fs ends g opens [] b num rest)
     where
-      by : (blank : Bool) → Told (start list piece ends) (filter (is_of piece) (spots_from ls (drop 1 ds) [] []))
-          → Told (start list piece ends) (filter (is_of piece) (if blank then spots_from ls (drop 1 ds) [] [] else spots_from ls (drop 1 ds) [] []))
+      by : (blank : Bool) → Reported (start list piece ends) (filter (is_of piece) (spots_from ls (drop 1 ds) [] []))
+          → Reported (start list piece ends) (filter (is_of piece) (if blank then spots_from ls (drop 1 ds) [] [] else spots_from ls (drop 1 ds) [] []))
       by true h = h
       by false h = h
   follows (l ∷ ls) ds fs ends g opens (n ∷ ns) b num rest =
@@ -200,33 +200,33 @@ module _ (list : List (Option ℕ)) (piece : ℕ) where
         within = omega (arith, at.0, at.1);
       } in
       by (is_nil l.tokens) (follows ls (drop 1 ds) fs ends g opens (n ∷ ns) b num rest)
-      (step l (slice_index ds 0) f ends n (spots_from ls (drop 1 ds) ns (sites_from list (drop 1 fs) (ends_after f ends n) ns)) at.0 (opened_here list piece ends n.opens (opened ns) rest)
+      (step l (slice_index ds 0) f ends n (spots_from ls (drop 1 ds) ns (locations_from list (drop 1 fs) (ends_after f ends n) ns)) at.0 (opened_here list piece ends n.opens (opened ns) rest)
       (follows ls (drop 1 ds) (drop 1 fs) (ends_after f ends n) n.segment n.opens ns behind parts.1 (left list ends n.segment.piece (end_of f ends n) n.opens (opened ns) rest)))
     where
-      by : (blank : Bool) → Told (start list piece ends) (filter (is_of piece) (spots_from ls (drop 1 ds) (n ∷ ns) (sites_from list fs ends (n ∷ ns))))
-          → Told (start list piece ends) (filter (is_of piece) (spot_of l (slice_index ds 0) n (site_of list (head_form fs) ends n) ∷ spots_from ls (drop 1 ds) ns (sites_from list (drop 1 fs) (ends_after (head_form fs) ends n) ns)))
-          → Told (start list piece ends) (filter (is_of piece) (if blank then spots_from ls (drop 1 ds) (n ∷ ns) (sites_from list fs ends (n ∷ ns)) else spot_of l (slice_index ds 0) n (site_of list (head_form fs) ends n) ∷ spots_from ls (drop 1 ds) ns (sites_from list (drop 1 fs) (ends_after (head_form fs) ends n) ns)))
+      by : (blank : Bool) → Reported (start list piece ends) (filter (is_of piece) (spots_from ls (drop 1 ds) (n ∷ ns) (locations_from list fs ends (n ∷ ns))))
+          → Reported (start list piece ends) (filter (is_of piece) (spot_of l (slice_index ds 0) n (location_of list (head_form fs) ends n) ∷ spots_from ls (drop 1 ds) ns (locations_from list (drop 1 fs) (ends_after (head_form fs) ends n) ns)))
+          → Reported (start list piece ends) (filter (is_of piece) (if blank then spots_from ls (drop 1 ds) (n ∷ ns) (locations_from list fs ends (n ∷ ns)) else spot_of l (slice_index ds 0) n (location_of list (head_form fs) ends n) ∷ spots_from ls (drop 1 ds) ns (locations_from list (drop 1 fs) (ends_after (head_form fs) ends n) ns)))
       by true h k = h
       by false h k = k
 
-  from_start : (ss : List Spot) → Told (begins list piece) ss → FollowFromStart ss
+  from_start : (ss : List Spot) → Reported (begins list piece) ss → FollowFromStart ss
   from_start [] h = tt
   from_start (s ∷ ss) h = subst (λ k. Follow k (s ∷ ss)) (ap (λ o. unwrap_or o 0) (sym h.1.0)) h.0
 
-first_start : (ns : List Note) (piece : ℕ) → start (addresses ns) piece no_bytes ≡ begins (addresses ns) piece
+first_start : (ns : List SizeRecord) (piece : ℕ) → start (addresses ns) piece no_bytes ≡ begins (addresses ns) piece
 first_start ns zero = refl
 first_start ns (suc zero) = refl
 first_start ns (suc (suc zero)) = refl
 first_start ns (suc (suc (suc k))) = start_out (addresses ns) (suc (suc (suc k))) no_bytes (omega arith)
 
-all_follow : (out : List Line) (ds : List ℕ) (ns : List Note) (fs : List Form) (piece : ℕ) → IsNumbered ns
-    → FollowFromStart (filter (is_of piece) (spots_from out ds ns (sites_from (addresses ns) fs no_bytes ns)))
+all_follow : (out : List Line) (ds : List ℕ) (ns : List SizeRecord) (fs : List Form) (piece : ℕ) → IsNumbered ns
+    → FollowFromStart (filter (is_of piece) (spots_from out ds ns (locations_from (addresses ns) fs no_bytes ns)))
 all_follow out ds ns fs piece numbered =
     let begun_well : Before first_segment None no_bytes = record { count = refl; many = omega arith; within = omega arith } in
-    let told = follows (addresses ns) piece out ds fs no_bytes first_segment None ns begun_well numbered refl in
-    let spots = filter (is_of piece) (spots_from out ds ns (sites_from (addresses ns) fs no_bytes ns)) in
-    from_start (addresses ns) piece spots (subst (λ k. Told (addresses ns) piece k spots) (first_start ns piece) told)
+    let reported = follows (addresses ns) piece out ds fs no_bytes first_segment None ns begun_well numbered refl in
+    let spots = filter (is_of piece) (spots_from out ds ns (locations_from (addresses ns) fs no_bytes ns)) in
+    from_start (addresses ns) piece spots (subst (λ k. Reported (addresses ns) piece k spots) (first_start ns piece) reported)
 
-pub stretches_follow : OutlinesAreNumbered → StretchesFollow
+pub stretches_follow : SizesAreNumbered → StretchesFollow
 stretches_follow numbered out ds stmts piece =
-    all_follow out ds (outline stmts) (statement_forms (forms (text (outline stmts))) (outline stmts)) piece (numbered stmts)
+    all_follow out ds (statement_sizes stmts) (statement_forms (forms (text (statement_sizes stmts))) (statement_sizes stmts)) piece (numbered stmts)

@@ -1,4 +1,4 @@
-mod Tapes
+mod Sections
 mod Pieces
 mod Counted
 mod AllSpots

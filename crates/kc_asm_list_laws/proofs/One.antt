@@ -6,9 +6,9 @@ use Rattle.kc_lex.specs.Lines.{lines_of}
 use Rattle.kc_macro.specs.Expansion.{expanded}
 use Rattle.kc_macro_depth.specs.Depths.{depths_of}
 use Rattle.kc_source.specs.Faults.{stmt_said, all_said}
-use Rattle.kc_asm_outline.specs.Outline.{outline}
+use Rattle.kc_asm_outline.specs.StatementSizes.{statement_sizes}
 use Rattle.kc_asm_layout.specs.Text.{layout}
-use Rattle.kc_asm_laws.proofs.Alike.{outline_alike}
+use Rattle.kc_asm_laws.proofs.Alike.{sizes_alike}
 use Rattle.kc_asm_rows.specs.Rows as rows
 use Rattle.kc_asm_list.specs.Spots.{spots_from}
 use Rattle.kc_asm_list_laws.specs.Laws.{OneListing}
@@ -29,5 +29,5 @@ one_listing source m listed other h k =
     let text : h.text ≡ k.text = one_text source h.lines k.lines h.text k.text h.is_text.0 k.is_text.0 h.is_text.1 k.is_text.1 in
     let depths : h.depths ≡ k.depths = one_some_ok (depths_of k.lines) h.depths k.depths (ap depths_of (sym lines) ∙ h.deep) k.deep in
     let said : map stmt_said h.stmts ≡ map stmt_said k.stmts = h.said.said_by ∙ ap all_said text ∙ sym k.said.said_by in
-    let notes : outline h.stmts ≡ outline k.stmts = outline_alike h.stmts k.stmts said in
-    h.told ∙ (λ i. rows.listing m source (spots_from (text i) (depths i) (notes i) (layout (notes i)))) ∙ sym k.told
+    let size_records : statement_sizes h.stmts ≡ statement_sizes k.stmts = sizes_alike h.stmts k.stmts said in
+    h.reported ∙ (λ i. rows.listing m source (spots_from (text i) (depths i) (size_records i) (layout (size_records i)))) ∙ sym k.reported

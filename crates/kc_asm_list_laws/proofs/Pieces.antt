@@ -8,13 +8,13 @@ use Rattle.kc_obj_module.specs.declared.parts.SegKind.{SegKind}
 use Rattle.kc_obj_module.specs.declared.parts.SegKind.TheVariants.{Reg, Code, Ram}
 use Rattle.kc_obj_module.specs.declared.parts.Segment.{Segment}
 use Rattle.kc_obj_module.specs.Pieces.{kind_number, is_relocatable}
-use Rattle.kc_asm_bytes.specs.declared.octet.Octet.{Octet}
-use Rattle.kc_asm_piece.specs.Tape.{Tape, cell_at, octet_at}
+use Rattle.kc_asm_bytes.specs.declared.relocatable_byte.RelocatableByte.{RelocatableByte}
+use Rattle.kc_asm_piece.specs.Section.{Section, placed_byte_at, relocatable_byte_at}
 use Rattle.kc_asm_module.specs.declared.kept.Kept.{Kept}
-use Rattle.kc_asm_module.specs.Order.{kept_if, stack_tape, stack_pieces, pieces_of, segment_of}
+use Rattle.kc_asm_module.specs.Order.{kept_if, stack_section, stack_pieces, pieces_of, segment_of}
 use Rattle.kc_asm_draft_laws.proofs.Lists.{no_element, same_element}
 use Rattle.kc_asm_draft_laws.proofs.Going.{Head, head_of, is_absolute_head, AreHeads}
-use Rattle.kc_asm_rows.specs.Octets.{number_of}
+use Rattle.kc_asm_rows.specs.RelocatableBytes.{number_of}
 
 zero_not_suc : (k : ℕ) → (0 == suc k) ≡ false
 zero_not_suc k = grind (arith, nat_tests)
@@ -33,7 +33,7 @@ number_in piece kind segments = if nat_lt piece 3 then number_of kind segments e
 abbrev pub IsOwnKind : ℕ → SegKind → Type 0
 IsOwnKind piece kind = piece < 3 → kind_number kind ≡ piece
 
-number_behind : (t : Tape) (segments : List Segment) (piece : ℕ) (kind : SegKind) → t.at ≡ None
+number_behind : (t : Section) (segments : List Segment) (piece : ℕ) (kind : SegKind) → t.at ≡ None
     → number_in piece kind (segment_of t ∷ segments) ≡ (if nat_lt piece 3 && (kind_number t.kind == kind_number kind) then 0 else suc (number_in piece kind segments))
 unfolding number_of
 number_behind t segments piece kind none = by (nat_lt piece 3) t.at none
@@ -45,24 +45,24 @@ number_behind t segments piece kind none = by (nat_lt piece 3) t.at none
     by false None e = omega arith
     by b (Some a) e = absurd (cc e)
 
-module _ (parts : List Tape) where
+module _ (parts : List Section) where
   -- a piece with octets is a part from one on, and the statements of that part alone stand in it
-  pub record IsPartOf (from : ℕ) (ts : List Tape) (at : ℕ) (t : Tape) : Type 0 where
+  pub record IsPartOf (from : ℕ) (ts : List Section) (at : ℕ) (t : Section) : Type 0 where
     pub part : ℕ
     pub later : from ≤ part
     pub is : slice_get parts part ≡ Some t
     pub alone : (piece : ℕ) (kind : SegKind) → IsOwnKind piece kind → (number_in piece kind (map segment_of ts) == at) ≡ (piece == part)
 
-  abbrev pub AreParts : ℕ → List Tape → Type 0
-  AreParts from ts = (at : ℕ) (t : Tape) (o : ℕ) (x : Octet) → slice_get ts at ≡ Some t → octet_at t o ≡ Some x → IsPartOf from ts at t
+  abbrev pub AreParts : ℕ → List Section → Type 0
+  AreParts from ts = (at : ℕ) (t : Section) (o : ℕ) (x : RelocatableByte) → slice_get ts at ≡ Some t → relocatable_byte_at t o ≡ Some x → IsPartOf from ts at t
 
-  sooner : (from other : ℕ) (ts : List Tape) → other ≤ from → AreParts from ts → AreParts other ts
+  sooner : (from other : ℕ) (ts : List Section) → other ≤ from → AreParts from ts → AreParts other ts
   sooner from other ts le h at t o x e f =
       let r = h at t o x e f in
       record { part = r.part; later = omega (arith, le, r.later); is = r.is; alone = r.alone }
 
   -- a relocatable one in front
-  in_front : (n : ℕ) (p : Tape) (ts : List Tape) → n < 3 → p.at ≡ None → kind_number p.kind ≡ n → slice_get parts n ≡ Some p → AreParts (suc n) ts → AreParts n (p ∷ ts)
+  in_front : (n : ℕ) (p : Section) (ts : List Section) → n < 3 → p.at ≡ None → kind_number p.kind ≡ n → slice_get parts n ≡ Some p → AreParts (suc n) ts → AreParts n (p ∷ ts)
   in_front n p ts low none kind_is part h = go
     where
       key : (piece : ℕ) (kind : SegKind) → IsOwnKind piece kind → (nat_lt piece 3 && (kind_number p.kind == kind_number kind)) ≡ (piece == n)
@@ -108,16 +108,16 @@ module _ (parts : List Tape) where
                 ∙ other (piece == n) (number_in piece kind (map segment_of ts)) at (piece == r.part) (r.alone piece kind own) apart;
           }
 
-  maybe_in_front : (b : Bool) (n : ℕ) (p : Tape) (ts : List Tape) → n < 3 → p.at ≡ None → kind_number p.kind ≡ n → slice_get parts n ≡ Some p → AreParts (suc n) ts → AreParts n (kept_if b (Some p) ++ ts)
+  maybe_in_front : (b : Bool) (n : ℕ) (p : Section) (ts : List Section) → n < 3 → p.at ≡ None → kind_number p.kind ≡ n → slice_get parts n ≡ Some p → AreParts (suc n) ts → AreParts n (kept_if b (Some p) ++ ts)
   maybe_in_front true n p ts low none kind_is part h = in_front n p ts low none kind_is part h
   maybe_in_front false n p ts low none kind_is part h = sooner (suc n) n ts (omega arith) h
 
   -- no statement stands in the stack
-  behind_stack : (bytes : ℕ) (ts : List Tape) → AreParts 3 ts → AreParts 3 (stack_tape bytes ∷ ts)
-  unfolding cell_at
+  behind_stack : (bytes : ℕ) (ts : List Section) → AreParts 3 ts → AreParts 3 (stack_section bytes ∷ ts)
+  unfolding placed_byte_at
   behind_stack bytes ts h zero t o x e f =
-      let same : stack_tape bytes ≡ t = same_element (stack_tape bytes) t e in
-      absurd (no_element x (ap (λ (u : Tape). octet_at u o) same ∙ f))
+      let same : stack_section bytes ≡ t = same_element (stack_section bytes) t e in
+      absurd (no_element x (ap (λ (u : Section). relocatable_byte_at u o) same ∙ f))
   behind_stack bytes ts h (suc at) t o x e f =
       let r = h at t o x e f in
       record {
@@ -125,7 +125,7 @@ module _ (parts : List Tape) where
         later = r.later;
         is = r.is;
         alone = λ piece kind own.
-            ap (λ (k : ℕ). k == suc at) (number_behind (stack_tape bytes) (map segment_of ts) piece kind refl)
+            ap (λ (k : ℕ). k == suc at) (number_behind (stack_section bytes) (map segment_of ts) piece kind refl)
             ∙ ap (λ (b : Bool). (if b then 0 else suc (number_in piece kind (map segment_of ts))) == suc at) (key piece kind own)
             ∙ suc_alike (number_in piece kind (map segment_of ts)) at ∙ r.alone piece kind own;
       }
@@ -140,16 +140,16 @@ module _ (parts : List Tape) where
               rw number (grind (arith, nat_tests, below))
           by false is = refl
 
-  behind_stacks : (bytes : ℕ) (ts : List Tape) → AreParts 3 ts → AreParts 3 (stack_pieces bytes ++ ts)
+  behind_stacks : (bytes : ℕ) (ts : List Section) → AreParts 3 ts → AreParts 3 (stack_pieces bytes ++ ts)
   behind_stacks bytes ts h = by (bytes == 0)
     where
-      by : (b : Bool) → AreParts 3 ((if b then [] else stack_tape bytes ∷ []) ++ ts)
+      by : (b : Bool) → AreParts 3 ((if b then [] else stack_section bytes ∷ []) ++ ts)
       by true = h
       by false = behind_stack bytes ts h
 
 -- ---- absolute pieces
 
-all_absolute : (ts : List Tape) (kind : SegKind) → list_all is_absolute_head (map head_of ts) ≡ true
+all_absolute : (ts : List Section) (kind : SegKind) → list_all is_absolute_head (map head_of ts) ≡ true
     → (number_of kind (map segment_of ts) ≡ length ts) × (prefix_len (λ g. is_relocatable g.at) (map segment_of ts) ≡ 0)
 unfolding number_of
 all_absolute [] kind h = (refl, refl)
@@ -163,12 +163,12 @@ all_absolute (t ∷ ts) kind h =
     by None e f = absurd (cc e)
     by (Some a) e f = (ap suc f, refl)
 
-within : (ts : List Tape) (at : ℕ) (t : Tape) → slice_get ts at ≡ Some t → at < length ts
+within : (ts : List Section) (at : ℕ) (t : Section) → slice_get ts at ≡ Some t → at < length ts
 within [] at t e = absurd (no_element t e)
 within (u ∷ ts) zero t e = omega arith
 within (u ∷ ts) (suc at) t e = omega (arith, within ts at t e)
 
-absolute_parts : (a b c : Tape) (ts : List Tape) → list_all is_absolute_head (map head_of ts) ≡ true → AreParts (a ∷ b ∷ c ∷ ts) 3 ts
+absolute_parts : (a b c : Section) (ts : List Section) → list_all is_absolute_head (map head_of ts) ≡ true → AreParts (a ∷ b ∷ c ∷ ts) 3 ts
 absolute_parts a b c ts h at t o x e f = record {
   part = suc (suc (suc at));
   later = omega arith;
@@ -194,7 +194,7 @@ other_heads h g hs gs e = (cc e, cc e)
 no_heads : (g : Head) (gs : List Head) → [] ≡ g ∷ gs → ⊥
 no_heads g gs e = cc e
 
-pub pieces_are : (parts : List Tape) → AreHeads (map head_of parts) → (kept : Kept) (stack : ℕ) → AreParts parts 0 (pieces_of kept parts stack)
+pub pieces_are : (parts : List Section) → AreHeads (map head_of parts) → (kept : Kept) (stack : ℕ) → AreParts parts 0 (pieces_of kept parts stack)
 pieces_are [] h kept stack = absurd (no_heads (Reg, None) ((Code, None) ∷ (Ram, None) ∷ h.rest) h.first)
 pieces_are (a ∷ []) h kept stack =
     absurd (no_heads (Code, None) ((Ram, None) ∷ h.rest) (other_heads (head_of a) (Reg, None) [] ((Code, None) ∷ (Ram, None) ∷ h.rest) h.first).1)

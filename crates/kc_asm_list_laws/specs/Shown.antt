@@ -4,7 +4,7 @@ use Rattle.kc_obj_module.specs.Object.{Object}
 use Rattle.kc_obj_module.specs.Contents.{content_at}
 use Rattle.kc_asm.specs.Assembled.{IsModule}
 use Rattle.kc_asm_rows.specs.declared.spot.Spot.{Spot}
-use Rattle.kc_asm_rows.specs.Octets.{piece_of, told}
+use Rattle.kc_asm_rows.specs.RelocatableBytes.{piece_of, reported}
 use Rattle.kc_asm_list.specs.Listed.{IsListing}
 use Rattle.kc_asm_list.specs.Spots.{spots_of}
 
@@ -16,7 +16,7 @@ is_among place from count = nat_le from place && nat_lt place (from + count)
 abbrev pub shows_at : Object → Spot → ℕ → Bool
 shows_at m s place =
     nat_lt s.before s.after
-    && (is_among place s.before (told m s s.before s.place) || is_among place s.place (told m s s.place s.after))
+    && (is_among place s.before (reported m s s.before s.place) || is_among place s.place (reported m s s.place s.after))
 
 -- whether the byte at an offset of a piece is one of them
 abbrev pub shows : Object → ℕ → ℕ → Spot → Bool

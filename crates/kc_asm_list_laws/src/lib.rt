@@ -5,7 +5,7 @@ ghost use Rattle.kc_asm_list_laws.specs.Laws.{OneListing, StretchesFollow};
 ghost use Rattle.kc_asm_list_laws.specs.Shown.{EachByteIsShownOnce};
 
 use kc_asm_check::no_fault_no_codes;
-use kc_asm_outline::{outlines_are_numbered, outlines_have_lengths, outlines_stay};
+use kc_asm_outline::{sizes_are_numbered, sizes_have_lengths, sizes_stay};
 use kc_asm_piece::{put_stands, written_stands};
 
 /// A source has one listing with the bytes of a module.
@@ -18,7 +18,7 @@ pub fn one_listing()
 pub fn stretches_follow()
     ensures { StretchesFollow }
 {
-    outlines_are_numbered();
+    sizes_are_numbered();
 }
 
 /// Each byte of the module of a source is shown by one statement of its listing.
@@ -27,7 +27,7 @@ pub fn each_byte_is_shown_once()
 {
     written_stands();
     put_stands();
-    outlines_stay();
-    outlines_have_lengths();
+    sizes_stay();
+    sizes_have_lengths();
     no_fault_no_codes();
 }

@@ -1,4 +1,4 @@
-pub mod Cells
+pub mod PlacedBytes
 pub mod Sorting
 pub mod Gathering
 pub mod RunBytes
@@ -8,7 +8,7 @@ pub mod Fixing
 pub mod Pieces
 pub mod Standing
 pub mod Ordering
-pub mod Drafting
+pub mod Collecting
 pub mod Whole
 pub mod OneContents
 pub mod OneFixups

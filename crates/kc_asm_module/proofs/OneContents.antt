@@ -137,8 +137,8 @@ same_rest c d cs ds e ordered other same p o = by (covers c p o) refl
 
 sound_length : (segments : List Segment) (c : Content) → content_is_sound segments c ≡ true → (0 < length c.bytes) × (length c.bytes ≤ 1024)
 sound_length segments c h =
-    let front = and_parts (ltb 0 (length c.bytes) && leb (length c.bytes) 1024) (has_code (slice_get segments c.piece) (content_end c)) h in
-    by (length c.bytes) front.0
+    let prefix = and_parts (ltb 0 (length c.bytes) && leb (length c.bytes) 1024) (has_code (slice_get segments c.piece) (content_end c)) h in
+    by (length c.bytes) prefix.0
   where
     by : (n : ℕ) → (ltb 0 n && leb n 1024) ≡ true → (0 < n) × (n ≤ 1024)
     by n h = (grind (arith, nat_tests), grind (arith, nat_tests))

@@ -15,15 +15,15 @@ use Rattle.kc_obj_module.specs.declared.parts.Fixup.{Fixup}
 use Rattle.kc_obj_module.specs.Pieces as object
 use Rattle.kc_obj_module.specs.Pieces.{kind_number, may_follow, segment_follows, segments_in_order, targets_piece, is_relocatable, is_empty, is_kept, all_kept}
 use Rattle.kc_asm_bytes.specs.Relocating.{is_piece}
-use Rattle.kc_asm_piece.specs.declared.part.Cell.{Cell}
-use Rattle.kc_asm_piece.specs.declared.draft.Public.{Public}
-use Rattle.kc_asm_piece.specs.Tape.{Tape, is_tape, rise, cell_offsets}
+use Rattle.kc_asm_piece.specs.declared.part.PlacedByte.{PlacedByte}
+use Rattle.kc_asm_piece.specs.declared.unlinked.Public.{Public}
+use Rattle.kc_asm_piece.specs.Section.{Section, is_section, rise, placed_byte_offsets}
 use Rattle.kc_asm_module.specs.declared.puts.Put.{Put}
-use Rattle.kc_asm_module.specs.Order.{segment_of, relocation, aims_at, is_named, count_of, kept_if, stack_tape, stack_pieces}
+use Rattle.kc_asm_module.specs.Order.{segment_of, relocation, aims_at, is_named, count_of, kept_if, stack_section, stack_pieces}
 use Rattle.kc_asm_module.specs.Puts.{put_of, fixup_for, target_of}
 use Rattle.kc_asm_module.specs.Publics.{piece_of, given_of}
 use Rattle.kc_asm_module.specs.Runs.{listed, fixups_of}
-use Rattle.kc_asm_module.proofs.Cells.{tape_parts, rise_end}
+use Rattle.kc_asm_module.proofs.PlacedBytes.{section_parts, rise_end}
 use Rattle.kc_asm_module.proofs.RunOrder.{both}
 use Rattle.kc_asm_module.proofs.Flat.{puts_from}
 
@@ -72,21 +72,21 @@ one_ordered k t ss rel kind rest =
 none_ordered : (k : ℕ) (ss : List Segment) → Ordered (k + 1) ss → Ordered k ss
 none_ordered k ss rest = (rest.0, λ s r lt. rest.1 s r (omega arith))
 
-pub kept_ordered : (k : ℕ) (b : Bool) (t : Tape) (rest : List Tape) → is_relocatable t.at ≡ true → kind_number t.kind ≡ k → Ordered (k + 1) (map segment_of rest) → Ordered k (map segment_of (kept_if b (Some t) ++ rest))
+pub kept_ordered : (k : ℕ) (b : Bool) (t : Section) (rest : List Section) → is_relocatable t.at ≡ true → kind_number t.kind ≡ k → Ordered (k + 1) (map segment_of rest) → Ordered k (map segment_of (kept_if b (Some t) ++ rest))
 kept_ordered k true t rest rel kind h = one_ordered k (segment_of t) (map segment_of rest) rel kind h
 kept_ordered k false t rest rel kind h = none_ordered k (map segment_of rest) h
 
-pub stack_ordered : (bytes : ℕ) (rest : List Tape) → Ordered 4 (map segment_of rest) → Ordered 3 (map segment_of (stack_pieces bytes ++ rest))
+pub stack_ordered : (bytes : ℕ) (rest : List Section) → Ordered 4 (map segment_of rest) → Ordered 3 (map segment_of (stack_pieces bytes ++ rest))
 stack_ordered bytes rest h = by (eqb bytes 0)
   where
-    by : (t : Bool) → Ordered 3 (map segment_of ((if t then [] else stack_tape bytes ∷ []) ++ rest))
+    by : (t : Bool) → Ordered 3 (map segment_of ((if t then [] else stack_section bytes ∷ []) ++ rest))
     by true = none_ordered 3 (map segment_of rest) h
-    by false = one_ordered 3 (segment_of (stack_tape bytes)) (map segment_of rest) refl refl h
+    by false = one_ordered 3 (segment_of (stack_section bytes)) (map segment_of rest) refl refl h
 
 -- ---- kept
 
 module _ (givens : List Given) (fixups : List Fixup) where
-  pub kept_next : (b : Bool) (t : Tape) (rest : List Tape) (index next : ℕ) → next ≡ index + count_of b → (b ≡ true → is_kept givens fixups index (segment_of t) ≡ true) → all_kept givens fixups next (map segment_of rest) ≡ true
+  pub kept_next : (b : Bool) (t : Section) (rest : List Section) (index next : ℕ) → next ≡ index + count_of b → (b ≡ true → is_kept givens fixups index (segment_of t) ≡ true) → all_kept givens fixups next (map segment_of rest) ≡ true
       → all_kept givens fixups index (map segment_of (kept_if b (Some t) ++ rest)) ≡ true
   unfolding all_kept
   kept_next true t rest index next e kept h = both (is_kept givens fixups index (segment_of t)) (all_kept givens fixups (index + 1) (map segment_of rest)) (kept refl) (subst (λ (n : ℕ). all_kept givens fixups n (map segment_of rest) ≡ true) e h)
@@ -95,7 +95,7 @@ module _ (givens : List Given) (fixups : List Fixup) where
   nonempty_kept : (index : ℕ) (s : Segment) → is_empty s ≡ false → is_kept givens fixups index s ≡ true
   nonempty_kept index s h = rw h refl
 
-  pub absolute_kept : (index : ℕ) (ts : List Tape) → list_all (λ s. not (is_relocatable s.at)) (map segment_of ts) ≡ true → all_kept givens fixups index (map segment_of ts) ≡ true
+  pub absolute_kept : (index : ℕ) (ts : List Section) → list_all (λ s. not (is_relocatable s.at)) (map segment_of ts) ≡ true → all_kept givens fixups index (map segment_of ts) ≡ true
   unfolding all_kept
   absolute_kept index [] h = refl
   absolute_kept index (t ∷ ts) h =
@@ -103,19 +103,19 @@ module _ (givens : List Given) (fixups : List Fixup) where
       let not_empty : is_empty (segment_of t) ≡ false = rw (not_true (is_relocatable t.at) parts.0) refl in
       both (is_kept givens fixups index (segment_of t)) (all_kept givens fixups (index + 1) (map segment_of ts)) (nonempty_kept index (segment_of t) not_empty) (absolute_kept (index + 1) ts parts.1)
 
-  pub stack_kept : (index bytes : ℕ) (ts : List Tape) → list_all (λ s. not (is_relocatable s.at)) (map segment_of ts) ≡ true → all_kept givens fixups index (map segment_of (stack_pieces bytes ++ ts)) ≡ true
+  pub stack_kept : (index bytes : ℕ) (ts : List Section) → list_all (λ s. not (is_relocatable s.at)) (map segment_of ts) ≡ true → all_kept givens fixups index (map segment_of (stack_pieces bytes ++ ts)) ≡ true
   unfolding all_kept
   stack_kept index bytes ts h = by (eqb bytes 0) refl
     where
-      by : (t : Bool) → eqb bytes 0 ≡ t → all_kept givens fixups index (map segment_of ((if t then [] else stack_tape bytes ∷ []) ++ ts)) ≡ true
+      by : (t : Bool) → eqb bytes 0 ≡ t → all_kept givens fixups index (map segment_of ((if t then [] else stack_section bytes ∷ []) ++ ts)) ≡ true
       by true e = absolute_kept index ts h
-      by false e = both (is_kept givens fixups index (segment_of (stack_tape bytes))) (all_kept givens fixups (index + 1) (map segment_of ts)) (nonempty_kept index (segment_of (stack_tape bytes)) e) (absolute_kept (index + 1) ts h)
+      by false e = both (is_kept givens fixups index (segment_of (stack_section bytes))) (all_kept givens fixups (index + 1) (map segment_of ts)) (nonempty_kept index (segment_of (stack_section bytes)) e) (absolute_kept (index + 1) ts h)
 
   no_stack : (n : ℕ) → n < 3 → eqb n 3 ≡ false
   no_stack n h = grind (arith, nat_tests)
 
   -- nonempty or named
-  pub stay_kept : (index n : ℕ) (t : Tape) (named : Bool) → kind_number t.kind < 3 → (ltb 0 t.length || named) ≡ true → (named ≡ true → object.is_named givens fixups index ≡ true) → is_kept givens fixups index (segment_of t) ≡ true
+  pub stay_kept : (index n : ℕ) (t : Section) (named : Bool) → kind_number t.kind < 3 → (ltb 0 t.length || named) ≡ true → (named ≡ true → object.is_named givens fixups index ≡ true) → is_kept givens fixups index (segment_of t) ≡ true
   stay_kept index n t named kind stay names = by (ltb 0 t.length) refl stay
     where
       with_bytes : (a : Bool) (n : ℕ) → ltb 0 n ≡ true → (a && eqb n 0) ≡ false
@@ -157,8 +157,8 @@ givens_name number n (p ∷ ps) h =
     or_cases (is_piece n p.value.base) (list_any (λ p. is_piece n p.value.base) ps) (object.is_piece (piece_of number p.value.base) (number n)) (list_any (λ g. object.is_piece g.piece (number n)) (map (given_of number) ps))
     (base_named number n p.value.base) (givens_name number n ps) h
 
-abbrev pub has_aim : ℕ → Tape → Bool
-has_aim n t = list_any (λ c. aims_at n (relocation t c.octet)) t.cells
+abbrev pub has_aim : ℕ → Section → Bool
+has_aim n t = list_any (λ c. aims_at n (relocation t c.relocatable_byte)) t.placed_bytes
 
 target_named : (number : ℕ → ℕ) (n : ℕ) (base : Base) → is_piece n base ≡ true → targets_piece (target_of number base) (number n) ≡ true
 target_named number n Fixed h = absurd (cc)
@@ -174,28 +174,28 @@ module _ (number : ℕ → ℕ) (n : ℕ) where
   one_names piece offset None h = absurd (cc)
   one_names piece offset (Some r) h = rw (target_named number n r.1.base h) refl
 
-  cells_name : (piece : ℕ) (t : Tape) (cells : List Cell) (rest : List Put) (b : Bool) → (b ≡ true → list_any names (fixups_of rest) ≡ true)
-      → (list_any (λ c. aims_at n (relocation t c.octet)) cells || b) ≡ true → list_any names (fixups_of (map (put_of number piece t) cells ++ rest)) ≡ true
+  placed_bytes_name : (piece : ℕ) (t : Section) (placed_bytes : List PlacedByte) (rest : List Put) (b : Bool) → (b ≡ true → list_any names (fixups_of rest) ≡ true)
+      → (list_any (λ c. aims_at n (relocation t c.relocatable_byte)) placed_bytes || b) ≡ true → list_any names (fixups_of (map (put_of number piece t) placed_bytes ++ rest)) ≡ true
   unfolding fixups_of
-  cells_name piece t [] rest b more h = more h
-  cells_name piece t (c ∷ cs) rest b more h =
-      rw (list_any-append names (listed (fixup_for number piece c.offset (relocation t c.octet))) (fixups_of (map (put_of number piece t) cs ++ rest)))
-      (or_cases (aims_at n (relocation t c.octet)) (list_any (λ c. aims_at n (relocation t c.octet)) cs || b)
-      (list_any names (listed (fixup_for number piece c.offset (relocation t c.octet)))) (list_any names (fixups_of (map (put_of number piece t) cs ++ rest)))
-      (one_names piece c.offset (relocation t c.octet)) (cells_name piece t cs rest b more)
-      (regroup (aims_at n (relocation t c.octet)) (list_any (λ c. aims_at n (relocation t c.octet)) cs) b h))
+  placed_bytes_name piece t [] rest b more h = more h
+  placed_bytes_name piece t (c ∷ cs) rest b more h =
+      rw (list_any-append names (listed (fixup_for number piece c.offset (relocation t c.relocatable_byte))) (fixups_of (map (put_of number piece t) cs ++ rest)))
+      (or_cases (aims_at n (relocation t c.relocatable_byte)) (list_any (λ c. aims_at n (relocation t c.relocatable_byte)) cs || b)
+      (list_any names (listed (fixup_for number piece c.offset (relocation t c.relocatable_byte)))) (list_any names (fixups_of (map (put_of number piece t) cs ++ rest)))
+      (one_names piece c.offset (relocation t c.relocatable_byte)) (placed_bytes_name piece t cs rest b more)
+      (regroup (aims_at n (relocation t c.relocatable_byte)) (list_any (λ c. aims_at n (relocation t c.relocatable_byte)) cs) b h))
     where
       regroup : (x y z : Bool) → ((x || y) || z) ≡ true → (x || (y || z)) ≡ true
       regroup true y z h = refl
       regroup false y z h = h
 
-  pieces_name : (piece : ℕ) (ts : List Tape) → list_any (has_aim n) ts ≡ true → list_any names (fixups_of (puts_from number piece ts)) ≡ true
+  pieces_name : (piece : ℕ) (ts : List Section) → list_any (has_aim n) ts ≡ true → list_any names (fixups_of (puts_from number piece ts)) ≡ true
   unfolding puts_from
   pieces_name piece [] h = absurd (cc)
-  pieces_name piece (t ∷ ts) h = cells_name piece t t.cells (puts_from number (piece + 1) ts) (list_any (has_aim n) ts) (pieces_name (piece + 1) ts) h
+  pieces_name piece (t ∷ ts) h = placed_bytes_name piece t t.placed_bytes (puts_from number (piece + 1) ts) (list_any (has_aim n) ts) (pieces_name (piece + 1) ts) h
 
   -- all parts that have an aim are pieces
-  pub module_names : (parts pieces : List Tape) (publics : List Public) (givens : List Given) → IsPermutation (map (given_of number) publics) givens
+  pub module_names : (parts pieces : List Section) (publics : List Public) (givens : List Given) → IsPermutation (map (given_of number) publics) givens
       → (list_any (has_aim n) parts ≡ true → list_any (has_aim n) pieces ≡ true) → is_named parts publics n ≡ true → object.is_named givens (fixups_of (puts_from number 0 pieces)) (number n) ≡ true
   unfolding is_named
   module_names parts pieces publics givens same sub h =
@@ -205,17 +205,17 @@ module _ (number : ℕ → ℕ) (n : ℕ) where
 
 -- ---- parts that have octets are pieces
 
-cells_long : (t : Tape) (n : ℕ) (cells : List Cell) → rise 0 (cell_offsets cells) t.length ≡ true → list_any (λ c. aims_at n (relocation t c.octet)) cells ≡ true → ltb 0 t.length ≡ true
+placed_bytes_long : (t : Section) (n : ℕ) (placed_bytes : List PlacedByte) → rise 0 (placed_byte_offsets placed_bytes) t.length ≡ true → list_any (λ c. aims_at n (relocation t c.relocatable_byte)) placed_bytes ≡ true → ltb 0 t.length ≡ true
 unfolding rise
-cells_long t n [] rising h = absurd (cc)
-cells_long t n (c ∷ cs) rising h =
-    let end : c.offset + 1 ≤ t.length = rise_end (c.offset + 1) (cell_offsets cs) t.length (and_parts (leb 0 c.offset) (rise (c.offset + 1) (cell_offsets cs) t.length) rising).1 in
+placed_bytes_long t n [] rising h = absurd (cc)
+placed_bytes_long t n (c ∷ cs) rising h =
+    let end : c.offset + 1 ≤ t.length = rise_end (c.offset + 1) (placed_byte_offsets cs) t.length (and_parts (leb 0 c.offset) (rise (c.offset + 1) (placed_byte_offsets cs) t.length) rising).1 in
     grind (arith, nat_tests)
 
-pub with_octets : (t : Tape) → is_tape t ≡ true → (n : ℕ) → has_aim n t ≡ true → ltb 0 t.length ≡ true
-with_octets t tape n h = cells_long t n t.cells (tape_parts t tape).0 h
+pub with_relocatables : (t : Section) → is_section t ≡ true → (n : ℕ) → has_aim n t ≡ true → ltb 0 t.length ≡ true
+with_relocatables t section n h = placed_bytes_long t n t.placed_bytes (section_parts t section).0 h
 
-pub kept_any : (test : Tape → Bool) (k : Bool) (t : Tape) (xs : List Tape) (y : Bool) → (test t ≡ true → k ≡ true) → (y ≡ true → list_any test xs ≡ true) → (test t || y) ≡ true → list_any test (kept_if k (Some t) ++ xs) ≡ true
+pub kept_any : (test : Section → Bool) (k : Bool) (t : Section) (xs : List Section) (y : Bool) → (test t ≡ true → k ≡ true) → (y ≡ true → list_any test xs ≡ true) → (test t || y) ≡ true → list_any test (kept_if k (Some t) ++ xs) ≡ true
 kept_any test true t xs y f g h = or_cases (test t) y (test t) (list_any test xs) (λ e. e) g h
 kept_any test false t xs y f g h = by (test t) f h
   where
@@ -223,13 +223,13 @@ kept_any test false t xs y f g h = by (test t) f h
     by true f h = absurd (cc (f refl))
     by false f h = g h
 
-pub stack_any : (test : Tape → Bool) (bytes : ℕ) (xs : List Tape) → list_any test xs ≡ true → list_any test (stack_pieces bytes ++ xs) ≡ true
+pub stack_any : (test : Section → Bool) (bytes : ℕ) (xs : List Section) → list_any test xs ≡ true → list_any test (stack_pieces bytes ++ xs) ≡ true
 stack_any test bytes xs h = by (eqb bytes 0)
   where
     or_right : (a b : Bool) → b ≡ true → (a || b) ≡ true
     or_right true b h = refl
     or_right false b h = h
 
-    by : (t : Bool) → list_any test ((if t then [] else stack_tape bytes ∷ []) ++ xs) ≡ true
+    by : (t : Bool) → list_any test ((if t then [] else stack_section bytes ∷ []) ++ xs) ≡ true
     by true = h
-    by false = or_right (test (stack_tape bytes)) (list_any test xs) h
+    by false = or_right (test (stack_section bytes)) (list_any test xs) h

@@ -11,22 +11,22 @@ use Rattle.kc_obj_module.specs.declared.parts.Taken.{Taken}
 use Rattle.kc_obj_module.specs.Pieces.{kind_number}
 use Rattle.kc_obj_relocation.specs.Numbers.{width}
 use Rattle.kc_obj_module.specs.Fixups.{fixup_is_sound, may_begin, target_exists}
-use Rattle.kc_asm_bytes.specs.declared.octet.Octet.{Octet}
-use Rattle.kc_asm_bytes.specs.declared.octet.Octet.TheVariants.{Plain, First, Second}
+use Rattle.kc_asm_bytes.specs.declared.relocatable_byte.RelocatableByte.{RelocatableByte}
+use Rattle.kc_asm_bytes.specs.declared.relocatable_byte.RelocatableByte.TheVariants.{Plain, First, Second}
 use Rattle.kc_asm_bytes.specs.Relocating.{is_piece, depends, leaves, shown, relocated}
-use Rattle.kc_asm_piece.specs.declared.part.Cell.{Cell}
-use Rattle.kc_asm_piece.specs.Tape.{Tape, cell}
+use Rattle.kc_asm_piece.specs.declared.part.PlacedByte.{PlacedByte}
+use Rattle.kc_asm_piece.specs.Section.{Section, placed_byte}
 use Rattle.kc_asm_module.specs.declared.puts.Put.{Put}
 use Rattle.kc_asm_module.specs.Order.{start_of, relocation, aims_at}
 use Rattle.kc_asm_module.specs.Puts.{put_of, fixup_for, target_of}
 use Rattle.kc_asm_module.specs.Runs.{listed}
-use Rattle.kc_asm_module.specs.Drafts.{base_exists, is_octet, BeginsWithSecond, IsComplete, AreOctets}
+use Rattle.kc_asm_module.specs.UnlinkedModules.{base_exists, is_relocatable_byte, BeginsWithSecond, IsComplete, AreRelocatableBytes}
 use Rattle.kc_asm_module.proofs.RunOrder.{both}
 use Rattle.kc_asm_module.proofs.Fixing.{NextFree, Fits, AllFit}
 
 -- ---- a relocation has room in its bytes
 
-module _ (number : ℕ → ℕ) (piece : ℕ) (t : Tape) where
+module _ (number : ℕ → ℕ) (piece : ℕ) (t : Section) where
   abbrev at_own : ℕ → Base → Bool
   at_own kind base = depends kind t.at (kind_number t.kind) base
 
@@ -42,42 +42,42 @@ module _ (number : ℕ → ℕ) (piece : ℕ) (t : Tape) where
   unfolding relocated
   second_plain offset kind v = refl
 
-  second_free : (o : ℕ) (first : Octet) (cs : List Cell) (rest : List Put) (kind : ℕ) (v : Value) → at_own kind v.base ≡ true → BeginsWithSecond kind (o + 1) v cs
-      → NextFree (put_of number piece t (cell o first)) (map (put_of number piece t) cs ++ rest)
+  second_free : (o : ℕ) (first : RelocatableByte) (cs : List PlacedByte) (rest : List Put) (kind : ℕ) (v : Value) → at_own kind v.base ≡ true → BeginsWithSecond kind (o + 1) v cs
+      → NextFree (put_of number piece t (placed_byte o first)) (map (put_of number piece t) cs ++ rest)
   second_free o first [] rest kind v h second = absurd second
   second_free o first (d ∷ ds) rest kind v h second =
-      let offset : d.offset ≡ o + 1 = ap (λ (x : Cell). x.offset) second in
-      let octet : d.octet ≡ Second kind v = ap (λ (x : Cell). x.octet) second in
-      (refl, offset, rw octet (second_shown (start_of t.at + d.offset) kind v h), rw octet (second_plain d.offset kind v))
+      let offset : d.offset ≡ o + 1 = ap (λ (x : PlacedByte). x.offset) second in
+      let relocatable_byte : d.relocatable_byte ≡ Second kind v = ap (λ (x : PlacedByte). x.relocatable_byte) second in
+      (refl, offset, rw relocatable_byte (second_shown (start_of t.at + d.offset) kind v h), rw relocatable_byte (second_plain d.offset kind v))
 
-  first_fits : (o kind start : ℕ) (v : Value) (cs : List Cell) (rest : List Put) (d : Bool) → at_own kind v.base ≡ d → may_begin kind (Some start) ≡ true
+  first_fits : (o kind start : ℕ) (v : Value) (cs : List PlacedByte) (rest : List Put) (d : Bool) → at_own kind v.base ≡ d → may_begin kind (Some start) ≡ true
       → (width kind ≡ 2 → BeginsWithSecond kind (o + 1) v cs)
-      → Fits (fixup_for number piece o (if d then Some (kind, v) else None)) (put_of number piece t (cell o (First kind start v))) (map (put_of number piece t) cs ++ rest)
+      → Fits (fixup_for number piece o (if d then Some (kind, v) else None)) (put_of number piece t (placed_byte o (First kind start v))) (map (put_of number piece t) cs ++ rest)
   first_fits o kind start v cs rest false e begins second = tt
   first_fits o kind start v cs rest true e begins second =
       (refl, refl, rw (first_shown (start_of t.at + o) kind start v e) begins, λ two. second_free o (First kind start v) cs rest kind v e (second two))
 
-  octet_fits : (externals o : ℕ) (octet : Octet) (cs : List Cell) (rest : List Put) → is_octet externals octet ≡ true → IsComplete (cell o octet) cs
-      → Fits (fixup_for number piece o (relocation t octet)) (put_of number piece t (cell o octet)) (map (put_of number piece t) cs ++ rest)
+  relocatable_byte_fits : (externals o : ℕ) (relocatable_byte : RelocatableByte) (cs : List PlacedByte) (rest : List Put) → is_relocatable_byte externals relocatable_byte ≡ true → IsComplete (placed_byte o relocatable_byte) cs
+      → Fits (fixup_for number piece o (relocation t relocatable_byte)) (put_of number piece t (placed_byte o relocatable_byte)) (map (put_of number piece t) cs ++ rest)
   unfolding relocated
-  octet_fits externals o (Plain b) cs rest is complete = tt
-  octet_fits externals o (First kind start v) cs rest is complete =
+  relocatable_byte_fits externals o (Plain b) cs rest is complete = tt
+  relocatable_byte_fits externals o (First kind start v) cs rest is complete =
       let parts = and_parts (leb kind 4 && may_begin kind (Some start)) (base_exists externals v.base) is in
       let begins = and_parts (leb kind 4) (may_begin kind (Some start)) parts.0 in
       first_fits o kind start v cs rest (at_own kind v.base) refl begins.1 complete
-  octet_fits externals o (Second kind v) cs rest is complete = tt
+  relocatable_byte_fits externals o (Second kind v) cs rest is complete = tt
 
-  pub cells_fit : (externals : ℕ) (cells : List Cell) (rest : List Put) → AreOctets externals cells → AllFit rest → AllFit (map (put_of number piece t) cells ++ rest)
-  unfolding AreOctets
-  cells_fit externals [] rest are fit = fit
-  cells_fit externals (c ∷ cs) rest are fit = (octet_fits externals c.offset c.octet cs rest are.0 are.1, cells_fit externals cs rest are.2 fit)
+  pub placed_bytes_fit : (externals : ℕ) (placed_bytes : List PlacedByte) (rest : List Put) → AreRelocatableBytes externals placed_bytes → AllFit rest → AllFit (map (put_of number piece t) placed_bytes ++ rest)
+  unfolding AreRelocatableBytes
+  placed_bytes_fit externals [] rest are fit = fit
+  placed_bytes_fit externals (c ∷ cs) rest are fit = (relocatable_byte_fits externals c.offset c.relocatable_byte cs rest are.0 are.1, placed_bytes_fit externals cs rest are.2 fit)
 
   -- ---- it is sound
 
   module _ (segments : List Segment) (externals : List Taken) (there : ltb piece (length segments) ≡ true) where
     -- a relocatable part that a relocation names is a piece
-    abbrev Aims : Octet → Type 0
-    Aims octet = (n : ℕ) → n < 3 → aims_at n (relocation t octet) ≡ true → number n < length segments
+    abbrev Aims : RelocatableByte → Type 0
+    Aims relocatable_byte = (n : ℕ) → n < 3 → aims_at n (relocation t relocatable_byte) ≡ true → number n < length segments
 
     own_part : (p : ℕ) → eqb p p ≡ true
     own_part p = grind (arith, nat_tests)
@@ -117,23 +117,23 @@ module _ (number : ℕ → ℕ) (piece : ℕ) (t : Tape) where
     first_sound o kind v false e small exists aims = refl
     first_sound o kind v true e small exists aims = rw (there, small, target_sound kind v.base e exists aims) refl
 
-    octet_sound : (o : ℕ) (octet : Octet) → is_octet (length externals) octet ≡ true → Aims octet → list_all (fixup_is_sound segments externals) (listed (fixup_for number piece o (relocation t octet))) ≡ true
+    relocatable_sound : (o : ℕ) (relocatable_byte : RelocatableByte) → is_relocatable_byte (length externals) relocatable_byte ≡ true → Aims relocatable_byte → list_all (fixup_is_sound segments externals) (listed (fixup_for number piece o (relocation t relocatable_byte))) ≡ true
     unfolding relocated
-    octet_sound o (Plain b) is aims = refl
-    octet_sound o (First kind start v) is aims =
+    relocatable_sound o (Plain b) is aims = refl
+    relocatable_sound o (First kind start v) is aims =
         let parts = and_parts (leb kind 4 && may_begin kind (Some start)) (base_exists (length externals) v.base) is in
         let begins = and_parts (leb kind 4) (may_begin kind (Some start)) parts.0 in
         first_sound o kind v (at_own kind v.base) refl begins.0 parts.1 aims
-    octet_sound o (Second kind v) is aims = refl
+    relocatable_sound o (Second kind v) is aims = refl
 
-    abbrev pub AllAim : List Cell → Type 0
+    abbrev pub AllAim : List PlacedByte → Type 0
     AllAim [] = Unit {0}
-    AllAim (c ∷ cs) = Aims c.octet × AllAim cs
+    AllAim (c ∷ cs) = Aims c.relocatable_byte × AllAim cs
 
     abbrev pub sound_put : Put → Bool
     sound_put q = list_all (fixup_is_sound segments externals) (listed q.fixup)
 
-    pub cells_sound : (cells : List Cell) → AreOctets (length externals) cells → AllAim cells → list_all sound_put (map (put_of number piece t) cells) ≡ true
-    unfolding AreOctets
-    cells_sound [] are aim = refl
-    cells_sound (c ∷ cs) are aim = both (sound_put (put_of number piece t c)) (list_all sound_put (map (put_of number piece t) cs)) (octet_sound c.offset c.octet are.0 aim.0) (cells_sound cs are.2 aim.1)
+    pub placed_bytes_sound : (placed_bytes : List PlacedByte) → AreRelocatableBytes (length externals) placed_bytes → AllAim placed_bytes → list_all sound_put (map (put_of number piece t) placed_bytes) ≡ true
+    unfolding AreRelocatableBytes
+    placed_bytes_sound [] are aim = refl
+    placed_bytes_sound (c ∷ cs) are aim = both (sound_put (put_of number piece t c)) (list_all sound_put (map (put_of number piece t) cs)) (relocatable_sound c.offset c.relocatable_byte are.0 aim.0) (placed_bytes_sound cs are.2 aim.1)

@@ -12,7 +12,7 @@ use Rattle.std.specs.declared.cmp.Ordering.TheVariants.{Less, Equal, Greater}
 use Rattle.kc_obj_module.specs.declared.parts.Given.{Given}
 use Rattle.kc_obj_module.specs.Names.{is_below}
 use Rattle.kc_obj_module.specs.Rules.{publics_in_order}
-use Rattle.kc_asm_piece.specs.declared.draft.Public.{Public}
+use Rattle.kc_asm_piece.specs.declared.unlinked.Public.{Public}
 use Rattle.kc_asm_module.specs.Publics.{is_before, is_same_name, given_of}
 
 -- ---- neither after a name nor the same: before it

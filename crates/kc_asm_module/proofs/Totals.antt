@@ -1,22 +1,22 @@
 -- The number of pieces, counted part by part.
 use Rattle.std.proofs.Common.{◌≡◌, ℕ, ◌+◌, ◌-◌, Bool, true, false, not, eqb, if◌then◌else◌, Some, None, List, [], ◌∷◌, length, refl, arith}
-use Rattle.kc_asm_piece.specs.declared.draft.Public.{Public}
-use Rattle.kc_asm_piece.specs.Tape.{Tape}
-use Rattle.kc_asm_module.specs.Order.{kept_of, kept_if, count_of, stack_tape, stack_pieces, pieces_of}
+use Rattle.kc_asm_piece.specs.declared.unlinked.Public.{Public}
+use Rattle.kc_asm_piece.specs.Section.{Section}
+use Rattle.kc_asm_module.specs.Order.{kept_of, kept_if, count_of, stack_section, stack_pieces, pieces_of}
 use Rattle.kc_asm_module.proofs.Counting.{all_count}
 
-kept_count : (b : Bool) (t : Tape) → length (kept_if b (Some t)) ≡ count_of b
+kept_count : (b : Bool) (t : Section) → length (kept_if b (Some t)) ≡ count_of b
 kept_count true t = refl
 kept_count false t = refl
 
 stack_count : (bytes : ℕ) → length (stack_pieces bytes) ≡ count_of (not (eqb bytes 0))
 stack_count bytes = by (eqb bytes 0)
   where
-    by : (t : Bool) → length (if t then [] else stack_tape bytes ∷ []) ≡ count_of (not t)
+    by : (t : Bool) → length (if t then [] else stack_section bytes ∷ []) ≡ count_of (not t)
     by true = refl
     by false = refl
 
-pub total : (parts : List Tape) (publics : List Public) (stack : ℕ) → let kept = kept_of parts publics in
+pub total : (parts : List Section) (publics : List Public) (stack : ℕ) → let kept = kept_of parts publics in
     count_of kept.registers + count_of kept.code + count_of kept.ram + count_of (not (eqb stack 0)) + (length parts - 3) ≡ length (pieces_of kept parts stack)
 unfolding kept_of
 total [] publics stack = omega (arith, all_count (kept_of [] publics) None None None stack [], stack_count stack)

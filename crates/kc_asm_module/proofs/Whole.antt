@@ -24,24 +24,24 @@ use Rattle.kc_obj_module.specs.Fixups.{fixup_at, fixup_is_sound, fixups_in_order
 use Rattle.kc_obj_module.specs.LineEntries.{line_is_sound, lines_in_order, lines_are_sound}
 use Rattle.kc_obj_module.specs.Object.{Object, object_of}
 use Rattle.kc_asm_bytes.specs.Relocating.{is_piece}
-use Rattle.kc_asm_piece.specs.declared.draft.Draft.{Draft}
-use Rattle.kc_asm_piece.specs.declared.draft.Public.{Public}
-use Rattle.kc_asm_piece.specs.Tape.{Tape, is_tape}
+use Rattle.kc_asm_piece.specs.declared.unlinked.UnlinkedModule.{UnlinkedModule}
+use Rattle.kc_asm_piece.specs.declared.unlinked.Public.{Public}
+use Rattle.kc_asm_piece.specs.Section.{Section, is_section}
 use Rattle.kc_asm_module.specs.declared.puts.Put.{Put}
 use Rattle.kc_asm_module.specs.declared.kept.Kept.{Kept}
 use Rattle.kc_asm_module.specs.Order.{segment_of, is_named, stays, kept_of, count_of, number_of, kept_if, stack_pieces, in_order, pieces_of}
 use Rattle.kc_asm_module.specs.Publics.{piece_of, given_of}
 use Rattle.kc_asm_module.specs.Runs.{runs, fixups_of}
-use Rattle.kc_asm_module.specs.Sheet.{Sheet, sheet_of, empty, added_all}
-use Rattle.kc_asm_module.specs.Drafts.{IsDraft, IsPart, is_public, is_given_base, is_absolute_part, stands_at, stand_well}
+use Rattle.kc_asm_module.specs.ModuleContents.{ModuleContents, module_contents_of, empty, added_all}
+use Rattle.kc_asm_module.specs.UnlinkedModules.{IsUnlinkedModule, IsPart, is_public, is_given_base, is_absolute_part, stands_at, stand_well}
 use Rattle.kc_asm_module.specs.ModuleOf.{entries_from, relocated_at, kept_in, pieces_in, IsModuleOf}
 use Rattle.kc_asm_module.proofs.RunBytes.{put_byte, contents_are}
 use Rattle.kc_asm_module.proofs.RunOrder.{both, rises, runs_in_order, runs_sound}
 use Rattle.kc_asm_module.proofs.Flat.{puts_from, gathered_is, puts_rise, fixups_put, bytes_put}
 use Rattle.kc_asm_module.proofs.Fixing.{AllFit, fixups_ordered, fixups_at, rooms, all_listed}
-use Rattle.kc_asm_module.proofs.Standing.{IsPiece, all_stand, all_in_code, all_fit, all_sound, all_marked, all_placed, all_tapes, entries_in_order}
-use Rattle.kc_asm_module.proofs.Ordering.{absolute_ordered, kept_ordered, stack_ordered, kept_next, stack_kept, stay_kept, has_aim, module_names, with_octets, kept_any, stack_any}
-use Rattle.kc_asm_module.proofs.Drafting.{StandWell, stand_parts, number_below, parts_placed, parts_pieces, stack_piece, all_in_order}
+use Rattle.kc_asm_module.proofs.Standing.{IsPiece, all_stand, all_in_code, all_fit, all_sound, all_marked, all_placed, all_sections, entries_in_order}
+use Rattle.kc_asm_module.proofs.Ordering.{absolute_ordered, kept_ordered, stack_ordered, kept_next, stack_kept, stay_kept, has_aim, module_names, with_relocatables, kept_any, stack_any}
+use Rattle.kc_asm_module.proofs.Collecting.{StandWell, stand_parts, number_below, parts_placed, parts_pieces, stack_piece, all_in_order}
 
 -- ---- the publics are sound
 
@@ -104,7 +104,7 @@ givens_sound kept count (p ∷ ps) h below =
 
 -- ---- the rules
 
-not_relocatable : (absolute : List Tape) → list_all is_absolute_part absolute ≡ true → list_all (λ s. not (is_relocatable s.at)) (map segment_of absolute) ≡ true
+not_relocatable : (absolute : List Section) → list_all is_absolute_part absolute ≡ true → list_all (λ s. not (is_relocatable s.at)) (map segment_of absolute) ≡ true
 not_relocatable [] h = refl
 not_relocatable (t ∷ ts) h =
     let parts = and_parts (is_absolute_part t) (list_all is_absolute_part ts) h in
@@ -114,15 +114,15 @@ not_relocatable (t ∷ ts) h =
     by None h = absurd (cc)
     by (Some base) h = refl
 
-module _ (name : List ℕ) (r c m : Tape) (absolute : List Tape) (stack : ℕ) (externals : List Taken) (publics : List Public) (givens : List Given) (kept : Kept)
+module _ (name : List ℕ) (r c m : Section) (absolute : List Section) (stack : ℕ) (externals : List Taken) (publics : List Public) (givens : List Given) (kept : Kept)
     (kept_r : kept.registers ≡ stays (r ∷ c ∷ m ∷ absolute) publics r 0) (kept_c : kept.code ≡ stays (r ∷ c ∷ m ∷ absolute) publics c 1) (kept_m : kept.ram ≡ stays (r ∷ c ∷ m ∷ absolute) publics m 2)
     (named : is_name name ≡ true) (externals_ok : list_all (λ t. is_name t.name) externals ≡ true) (publics_ok : list_all is_public publics ≡ true)
-    (stand : StandWell r c m absolute) (are : AllByRecursion (IsPart (length externals)) (r ∷ c ∷ m ∷ absolute)) (tapes : list_all is_tape (r ∷ c ∷ m ∷ absolute) ≡ true)
+    (stand : StandWell r c m absolute) (are : AllByRecursion (IsPart (length externals)) (r ∷ c ∷ m ∷ absolute)) (sections : list_all is_section (r ∷ c ∷ m ∷ absolute) ≡ true)
     (short : stack < 65536) (same : IsPermutation (map (given_of (number_of kept)) publics) givens) (sorted : publics_in_order givens ≡ true) where
-  abbrev parts : List Tape
+  abbrev parts : List Section
   parts = r ∷ c ∷ m ∷ absolute
 
-  abbrev pieces : List Tape
+  abbrev pieces : List Section
   pieces = in_order kept (Some r) (Some c) (Some m) stack absolute
 
   abbrev number : ℕ → ℕ
@@ -151,14 +151,14 @@ module _ (name : List ℕ) (r c m : Tape) (absolute : List Tape) (stack : ℕ) (
   pub all_pieces : AllByRecursion (IsPiece number (length segments) (length externals)) pieces
   all_pieces =
       all_in_order (IsPiece number (length segments) (length externals)) kept r c m stack absolute
-      (parts_pieces number (length segments) (length externals) parts (λ n lt h. below n lt (named_by_part n h)) are tapes (parts_placed r c m absolute stand))
+      (parts_pieces number (length segments) (length externals) parts (λ n lt h. below n lt (named_by_part n h)) are sections (parts_placed r c m absolute stand))
       (stack_piece number (length segments) (length externals) stack short)
 
-  tapes_of : list_all is_tape pieces ≡ true
-  tapes_of = all_tapes number segments externals pieces all_pieces
+  sections_of : list_all is_section pieces ≡ true
+  sections_of = all_sections number segments externals pieces all_pieces
 
   pub rising : rises 0 0 puts ≡ true
-  rising = puts_rise number 0 pieces tapes_of
+  rising = puts_rise number 0 pieces sections_of
 
   pub fitting : AllFit puts
   fitting = all_fit number segments externals 0 pieces all_pieces
@@ -173,29 +173,29 @@ module _ (name : List ℕ) (r c m : Tape) (absolute : List Tape) (stack : ℕ) (
       (kept_ordered 2 kept.ram m (stack_pieces stack ++ absolute) stand.ram.is stand.ram.kind_is
       (stack_ordered stack absolute (absolute_ordered 4 (map segment_of absolute) absolutes))))).0
 
-  tape_of_part : (is_tape r ≡ true) × (is_tape c ≡ true) × (is_tape m ≡ true)
-  tape_of_part =
-      let one = and_parts (is_tape r) (list_all is_tape (c ∷ m ∷ absolute)) tapes in
-      let two = and_parts (is_tape c) (list_all is_tape (m ∷ absolute)) one.1 in
-      (one.0, two.0, (and_parts (is_tape m) (list_all is_tape absolute) two.1).0)
+  section_of_part : (is_section r ≡ true) × (is_section c ≡ true) × (is_section m ≡ true)
+  section_of_part =
+      let one = and_parts (is_section r) (list_all is_section (c ∷ m ∷ absolute)) sections in
+      let two = and_parts (is_section c) (list_all is_section (m ∷ absolute)) one.1 in
+      (one.0, two.0, (and_parts (is_section m) (list_all is_section absolute) two.1).0)
 
-  long_stays : (t : Tape) (n : ℕ) (k : Bool) → k ≡ stays parts publics t n → ltb 0 t.length ≡ true → k ≡ true
+  long_stays : (t : Section) (n : ℕ) (k : Bool) → k ≡ stays parts publics t n → ltb 0 t.length ≡ true → k ≡ true
   long_stays t n k e h = e ∙ or_left (ltb 0 t.length) (is_named parts publics n) h
 
   aims_of : (n : ℕ) → list_any (has_aim n) parts ≡ true → list_any (has_aim n) pieces ≡ true
   aims_of n =
       kept_any (has_aim n) kept.registers r (kept_if kept.code (Some c) ++ (kept_if kept.ram (Some m) ++ (stack_pieces stack ++ absolute))) (list_any (has_aim n) (c ∷ m ∷ absolute))
-      (λ h. long_stays r 0 kept.registers kept_r (with_octets r tape_of_part.0 n h))
+      (λ h. long_stays r 0 kept.registers kept_r (with_relocatables r section_of_part.0 n h))
       (kept_any (has_aim n) kept.code c (kept_if kept.ram (Some m) ++ (stack_pieces stack ++ absolute)) (list_any (has_aim n) (m ∷ absolute))
-      (λ h. long_stays c 1 kept.code kept_c (with_octets c tape_of_part.1 n h))
+      (λ h. long_stays c 1 kept.code kept_c (with_relocatables c section_of_part.1 n h))
       (kept_any (has_aim n) kept.ram m (stack_pieces stack ++ absolute) (list_any (has_aim n) absolute)
-      (λ h. long_stays m 2 kept.ram kept_m (with_octets m tape_of_part.2 n h))
+      (λ h. long_stays m 2 kept.ram kept_m (with_relocatables m section_of_part.2 n h))
       (stack_any (has_aim n) stack absolute)))
 
   names : (n : ℕ) → is_named parts publics n ≡ true → object.is_named givens (fixups_of puts) (number n) ≡ true
   names n h = module_names number n parts pieces publics givens same (aims_of n) h
 
-  stays_kept : (index n : ℕ) (t : Tape) (k : Bool) → kind_number t.kind < 3 → k ≡ stays parts publics t n → number n ≡ index → k ≡ true → is_kept givens (fixups_of puts) index (segment_of t) ≡ true
+  stays_kept : (index n : ℕ) (t : Section) (k : Bool) → kind_number t.kind < 3 → k ≡ stays parts publics t n → number n ≡ index → k ≡ true → is_kept givens (fixups_of puts) index (segment_of t) ≡ true
   stays_kept index n t k kind e at h =
       stay_kept givens (fixups_of puts) index n t (is_named parts publics n) kind (sym e ∙ h) (λ g. subst (λ (i : ℕ). object.is_named givens (fixups_of puts) i ≡ true) at (names n g))
 
@@ -241,7 +241,7 @@ module _ (name : List ℕ) (r c m : Tape) (absolute : List Tape) (stack : ℕ) (
   lines_sound : lines_are_sound segments (Some (entries_from 0 pieces)) ≡ true
   lines_sound =
       both (list_all (line_is_sound segments) (entries_from 0 pieces)) (lines_in_order (entries_from 0 pieces))
-      (all_marked number segments externals 0 pieces (all_stand pieces) all_pieces) (entries_in_order pieces tapes_of)
+      (all_marked number segments externals 0 pieces (all_stand pieces) all_pieces) (entries_in_order pieces sections_of)
 
   pub rules_kept : is_module (object_of name segments externals givens (runs [] 0 0 puts) (fixups_of puts) (Some (entries_from 0 pieces))) ≡ true
   rules_kept = rw (named, segments_sound, externals_ok, publics_sound, contents_sound, fixups_sound, lines_sound) refl
@@ -251,7 +251,7 @@ module _ (name : List ℕ) (r c m : Tape) (absolute : List Tape) (stack : ℕ) (
 
 -- ---- of any draft
 
-abbrev pub object_from : List ℕ → List Tape → ℕ → List Taken → List Public → List Given → Object
+abbrev pub object_from : List ℕ → List Section → ℕ → List Taken → List Public → List Given → Object
 object_from name parts stack externals publics givens =
     object_of name (map segment_of (pieces_of (kept_of parts publics) parts stack)) externals givens
     (runs [] 0 0 (puts_from (number_of (kept_of parts publics)) 0 (pieces_of (kept_of parts publics) parts stack)))
@@ -260,58 +260,58 @@ object_from name parts stack externals publics givens =
 
 module _ (name : List ℕ) (stack : ℕ) (externals : List Taken) (publics : List Public) (givens : List Given)
     (named : is_name name ≡ true) (externals_ok : list_all (λ t. is_name t.name) externals ≡ true) (publics_ok : list_all is_public publics ≡ true) (short : stack < 65536) (sorted : publics_in_order givens ≡ true) where
-  rules_of : (parts : List Tape) → stand_well parts ≡ true → AllByRecursion (IsPart (length externals)) parts → list_all is_tape parts ≡ true → IsPermutation (map (given_of (number_of (kept_of parts publics))) publics) givens
+  rules_of : (parts : List Section) → stand_well parts ≡ true → AllByRecursion (IsPart (length externals)) parts → list_all is_section parts ≡ true → IsPermutation (map (given_of (number_of (kept_of parts publics))) publics) givens
       → is_module (object_from name parts stack externals publics givens) ≡ true
   unfolding kept_of
-  rules_of [] stand are tapes same = absurd (cc)
-  rules_of (r ∷ []) stand are tapes same = absurd (cc)
-  rules_of (r ∷ c ∷ []) stand are tapes same = absurd (cc)
-  rules_of (r ∷ c ∷ m ∷ absolute) stand are tapes same =
-      rules_kept name r c m absolute stack externals publics givens (kept_of (r ∷ c ∷ m ∷ absolute) publics) refl refl refl named externals_ok publics_ok (stand_parts r c m absolute stand) are tapes short same sorted
+  rules_of [] stand are sections same = absurd (cc)
+  rules_of (r ∷ []) stand are sections same = absurd (cc)
+  rules_of (r ∷ c ∷ []) stand are sections same = absurd (cc)
+  rules_of (r ∷ c ∷ m ∷ absolute) stand are sections same =
+      rules_kept name r c m absolute stack externals publics givens (kept_of (r ∷ c ∷ m ∷ absolute) publics) refl refl refl named externals_ok publics_ok (stand_parts r c m absolute stand) are sections short same sorted
 
-  relocations_of : (parts : List Tape) → stand_well parts ≡ true → AllByRecursion (IsPart (length externals)) parts → list_all is_tape parts ≡ true → IsPermutation (map (given_of (number_of (kept_of parts publics))) publics) givens
+  relocations_of : (parts : List Section) → stand_well parts ≡ true → AllByRecursion (IsPart (length externals)) parts → list_all is_section parts ≡ true → IsPermutation (map (given_of (number_of (kept_of parts publics))) publics) givens
       → (piece offset : ℕ) → fixup_at (object_from name parts stack externals publics givens).fixups piece offset ≡ relocated_at (number_of (kept_of parts publics)) piece (slice_get (pieces_of (kept_of parts publics) parts stack) piece) offset
   unfolding kept_of
-  relocations_of [] stand are tapes same = absurd (cc)
-  relocations_of (r ∷ []) stand are tapes same = absurd (cc)
-  relocations_of (r ∷ c ∷ []) stand are tapes same = absurd (cc)
-  relocations_of (r ∷ c ∷ m ∷ absolute) stand are tapes same =
-      fixups_are name r c m absolute stack externals publics givens (kept_of (r ∷ c ∷ m ∷ absolute) publics) refl refl refl named externals_ok publics_ok (stand_parts r c m absolute stand) are tapes short same sorted
+  relocations_of [] stand are sections same = absurd (cc)
+  relocations_of (r ∷ []) stand are sections same = absurd (cc)
+  relocations_of (r ∷ c ∷ []) stand are sections same = absurd (cc)
+  relocations_of (r ∷ c ∷ m ∷ absolute) stand are sections same =
+      fixups_are name r c m absolute stack externals publics givens (kept_of (r ∷ c ∷ m ∷ absolute) publics) refl refl refl named externals_ok publics_ok (stand_parts r c m absolute stand) are sections short same sorted
 
-pub module_is : (d : Draft) (givens : List Given) → IsDraft d → list_all is_tape d.parts.items ≡ true → d.stack < 65536
+pub module_is : (d : UnlinkedModule) (givens : List Given) → IsUnlinkedModule d → list_all is_section d.parts.items ≡ true → d.stack < 65536
     → IsPermutation (map (given_of (number_of (kept_in d))) d.publics.items) givens → publics_in_order givens ≡ true
     → IsModuleOf d (object_from d.name d.parts.items d.stack d.externals.items d.publics.items givens)
-module_is d givens is tapes short same sorted = record {
-  rules = rules_of d.name d.stack d.externals.items d.publics.items givens is.name is.externals is.publics short sorted d.parts.items is.places is.parts tapes same;
+module_is d givens is sections short same sorted = record {
+  rules = rules_of d.name d.stack d.externals.items d.publics.items givens is.name is.externals is.publics short sorted d.parts.items is.places is.parts sections same;
   name = refl;
   segments = refl;
   externals = refl;
   publics = same;
   contents = λ piece offset. contents_are (puts_from (number_of (kept_in d)) 0 (pieces_in d)) piece offset ∙ bytes_put (number_of (kept_in d)) (pieces_in d) piece offset;
-  fixups = relocations_of d.name d.stack d.externals.items d.publics.items givens is.name is.externals is.publics short sorted d.parts.items is.places is.parts tapes same;
+  fixups = relocations_of d.name d.stack d.externals.items d.publics.items givens is.name is.externals is.publics short sorted d.parts.items is.places is.parts sections same;
   lines = refl;
 }
 
 -- ---- from what the calls give
 
-module _ (d : Draft) (is : IsDraft d) (short : d.stack < 65536) (kept : Kept) (gathered : Sheet) (segments : List Segment) (lines : List Lines) (contents : List Content) (fixups : List Fixup) (givens : List Given)
-    (kept_is : kept ≡ kept_in d) (tapes : list_all is_tape d.parts.items ≡ true)
+module _ (d : UnlinkedModule) (is : IsUnlinkedModule d) (short : d.stack < 65536) (kept : Kept) (gathered : ModuleContents) (segments : List Segment) (lines : List Lines) (contents : List Content) (fixups : List Fixup) (givens : List Given)
+    (kept_is : kept ≡ kept_in d) (sections : list_all is_section d.parts.items ≡ true)
     (gathered_as : gathered ≡ added_all (number_of kept) (pieces_of kept d.parts.items d.stack) empty)
     (segments_as : segments ≡ gathered.segments) (lines_as : lines ≡ gathered.entries) (contents_as : contents ≡ runs [] 0 0 gathered.puts) (fixups_as : fixups ≡ fixups_of gathered.puts)
     (same : IsPermutation (map (given_of (number_of kept)) d.publics.items) givens) (sorted : publics_in_order givens ≡ true) where
   abbrev whole : Object
   whole = object_from d.name d.parts.items d.stack d.externals.items d.publics.items givens
 
-  sheet_as : gathered ≡ sheet_of (map segment_of (pieces_in d)) (puts_from (number_of (kept_in d)) 0 (pieces_in d)) (entries_from 0 (pieces_in d))
-  sheet_as = gathered_as ∙ ap (λ (k : Kept). added_all (number_of k) (pieces_of k d.parts.items d.stack) empty) kept_is ∙ gathered_is (number_of (kept_in d)) (pieces_in d)
+  module_contents_as : gathered ≡ module_contents_of (map segment_of (pieces_in d)) (puts_from (number_of (kept_in d)) 0 (pieces_in d)) (entries_from 0 (pieces_in d))
+  module_contents_as = gathered_as ∙ ap (λ (k : Kept). added_all (number_of k) (pieces_of k d.parts.items d.stack) empty) kept_is ∙ gathered_is (number_of (kept_in d)) (pieces_in d)
 
   pub module_whole : IsModuleOf d whole
-  module_whole = module_is d givens is tapes short (subst (λ (k : Kept). IsPermutation (map (given_of (number_of k)) d.publics.items) givens) kept_is same) sorted
+  module_whole = module_is d givens is sections short (subst (λ (k : Kept). IsPermutation (map (given_of (number_of k)) d.publics.items) givens) kept_is same) sorted
 
   object_as : object_of d.name segments d.externals.items givens contents fixups (Some lines) ≡ whole
   object_as =
       (λ i. object_of d.name (segments_as i) d.externals.items givens (contents_as i) (fixups_as i) (Some (lines_as i)))
-      ∙ (λ i. object_of d.name (sheet_as i).segments d.externals.items givens (runs [] 0 0 (sheet_as i).puts) (fixups_of (sheet_as i).puts) (Some (sheet_as i).entries))
+      ∙ (λ i. object_of d.name (module_contents_as i).segments d.externals.items givens (runs [] 0 0 (module_contents_as i).puts) (fixups_of (module_contents_as i).puts) (Some (module_contents_as i).entries))
 
   whole_checked : checked whole ≡ Some whole
   whole_checked = rw module_whole.rules refl

@@ -1,10 +1,10 @@
-pub mod Drafts
+pub mod UnlinkedModules
 pub mod ModuleOf
 pub mod Order
 pub mod Publics
 pub mod Puts
 pub mod Runs
-pub mod Sheet
+pub mod ModuleContents
 pub mod OneModule
 pub mod Worked
 pub mod Count

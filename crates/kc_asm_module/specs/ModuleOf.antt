@@ -8,42 +8,42 @@ use Rattle.kc_obj_module.specs.Object.{Object}
 use Rattle.kc_obj_module.specs.Rules.{is_module}
 use Rattle.kc_obj_module.specs.Contents.{content_at}
 use Rattle.kc_obj_module.specs.Fixups.{fixup_at}
-use Rattle.kc_asm_bytes.specs.declared.octet.Octet.{Octet}
-use Rattle.kc_asm_piece.specs.declared.draft.Draft.{Draft}
-use Rattle.kc_asm_piece.specs.Tape.{Tape, octet_at}
+use Rattle.kc_asm_bytes.specs.declared.relocatable_byte.RelocatableByte.{RelocatableByte}
+use Rattle.kc_asm_piece.specs.declared.unlinked.UnlinkedModule.{UnlinkedModule}
+use Rattle.kc_asm_piece.specs.Section.{Section, relocatable_byte_at}
 use Rattle.kc_asm_module.specs.declared.kept.Kept.{Kept}
 use Rattle.kc_asm_module.specs.Order.{kept_of, number_of, pieces_of, segment_of, relocation}
 use Rattle.kc_asm_module.specs.Publics.{given_of}
 use Rattle.kc_asm_module.specs.Puts.{byte_for, fixup_for, entry_of}
 
 -- the byte that a piece, if there is one, has at an offset
-abbrev pub byte_at : Option Tape → ℕ → Option ℕ
+abbrev pub byte_at : Option Section → ℕ → Option ℕ
 byte_at None offset = None
-byte_at (Some t) offset = option_map (byte_for t offset) (octet_at t offset)
+byte_at (Some t) offset = option_map (byte_for t offset) (relocatable_byte_at t offset)
 
-abbrev pub fixup_from : (ℕ → ℕ) → Tape → ℕ → ℕ → Option Octet → Option Fixup
+abbrev pub fixup_from : (ℕ → ℕ) → Section → ℕ → ℕ → Option RelocatableByte → Option Fixup
 fixup_from number t piece offset None = None
-fixup_from number t piece offset (Some octet) = fixup_for number piece offset (relocation t octet)
+fixup_from number t piece offset (Some relocatable_byte) = fixup_for number piece offset (relocation t relocatable_byte)
 
 -- the relocation that a piece, if there is one, has at an offset
-abbrev pub relocated_at : (ℕ → ℕ) → ℕ → Option Tape → ℕ → Option Fixup
+abbrev pub relocated_at : (ℕ → ℕ) → ℕ → Option Section → ℕ → Option Fixup
 relocated_at number piece None offset = None
-relocated_at number piece (Some t) offset = fixup_from number t piece offset (octet_at t offset)
+relocated_at number piece (Some t) offset = fixup_from number t piece offset (relocatable_byte_at t offset)
 
 -- the line entries of the pieces from a number on
-unfoldable pub entries_from : ℕ → List Tape → List Lines
+unfoldable pub entries_from : ℕ → List Section → List Lines
 entries_from piece [] = []
 entries_from piece (t ∷ ts) = map (entry_of piece) t.marks ++ entries_from (piece + 1) ts
 
-abbrev pub kept_in : Draft → Kept
+abbrev pub kept_in : UnlinkedModule → Kept
 kept_in d = kept_of d.parts.items d.publics.items
 
 -- the pieces of the module
-abbrev pub pieces_in : Draft → List Tape
+abbrev pub pieces_in : UnlinkedModule → List Section
 pieces_in d = pieces_of (kept_in d) d.parts.items d.stack
 
 -- bytes and relocations place by place: the rules of a module leave one list of runs and one of relocations
-pub record IsModuleOf (d : Draft) (m : Object) : Type 0 where
+pub record IsModuleOf (d : UnlinkedModule) (m : Object) : Type 0 where
   pub rules : is_module m ≡ true
   pub name : m.name ≡ d.name
   pub segments : m.segments ≡ map segment_of (pieces_in d)

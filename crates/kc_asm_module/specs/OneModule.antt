@@ -1,8 +1,8 @@
 -- A draft has at most one module.
 use Rattle.std.specs.Prelude.{◌≡◌}
 use Rattle.kc_obj_module.specs.Object.{Object}
-use Rattle.kc_asm_piece.specs.declared.draft.Draft.{Draft}
+use Rattle.kc_asm_piece.specs.declared.unlinked.UnlinkedModule.{UnlinkedModule}
 use Rattle.kc_asm_module.specs.ModuleOf.{IsModuleOf}
 
 abbrev pub OneModule : Type 0
-OneModule = (d : Draft) (m n : Object) → IsModuleOf d m → IsModuleOf d n → m ≡ n
+OneModule = (d : UnlinkedModule) (m n : Object) → IsModuleOf d m → IsModuleOf d n → m ≡ n

@@ -5,10 +5,10 @@ use Rattle.kc_expr.specs.declared.values.Value.{Value}
 use Rattle.kc_obj_module.specs.declared.parts.SegKind.TheVariants.{Stack}
 use Rattle.kc_obj_module.specs.declared.parts.Segment.{Segment}
 use Rattle.kc_obj_module.specs.Pieces.{kind_number}
-use Rattle.kc_asm_bytes.specs.declared.octet.Octet.{Octet}
+use Rattle.kc_asm_bytes.specs.declared.relocatable_byte.RelocatableByte.{RelocatableByte}
 use Rattle.kc_asm_bytes.specs.Relocating.{is_piece, relocated}
-use Rattle.kc_asm_piece.specs.declared.draft.Public.{Public}
-use Rattle.kc_asm_piece.specs.Tape.{Tape, tape_of}
+use Rattle.kc_asm_piece.specs.declared.unlinked.Public.{Public}
+use Rattle.kc_asm_piece.specs.Section.{Section, section_of}
 use Rattle.kc_asm_module.specs.declared.kept.Kept.{Kept}
 
 -- where a part begins, as far as it is known
@@ -18,28 +18,28 @@ start_of (Some base) = base
 
 -- the number that a relocation at an octet of a part fills in: its kind and its value. The own number of a relocatable part
 -- is that of its kind; for an absolute part it does not matter
-abbrev pub relocation : Tape → Octet → Option (ℕ × Value)
-relocation t octet = relocated t.at (kind_number t.kind) octet
+abbrev pub relocation : Section → RelocatableByte → Option (ℕ × Value)
+relocation t relocatable_byte = relocated t.at (kind_number t.kind) relocatable_byte
 
 abbrev pub aims_at : ℕ → Option (ℕ × Value) → Bool
 aims_at part None = false
 aims_at part (Some r) = is_piece part r.1.base
 
 -- a public or the target of a relocation names the relocatable part with this number
-unfoldable pub is_named : List Tape → List Public → ℕ → Bool
+unfoldable pub is_named : List Section → List Public → ℕ → Bool
 is_named parts publics n =
     list_any (λ p. is_piece n p.value.base) publics
-    || list_any (λ t. list_any (λ c. aims_at n (relocation t c.octet)) t.cells) parts
+    || list_any (λ t. list_any (λ c. aims_at n (relocation t c.relocatable_byte)) t.placed_bytes) parts
 
 -- a relocatable part is a piece where it is nonempty or named
-abbrev pub stays : List Tape → List Public → Tape → ℕ → Bool
+abbrev pub stays : List Section → List Public → Section → ℕ → Bool
 stays parts publics t n = nat_lt 0 t.length || is_named parts publics n
 
-abbrev pub stays_in : List Tape → List Public → ℕ → Option Tape → Bool
+abbrev pub stays_in : List Section → List Public → ℕ → Option Section → Bool
 stays_in parts publics n None = false
 stays_in parts publics n (Some t) = stays parts publics t n
 
-unfoldable pub kept_of : List Tape → List Public → Kept
+unfoldable pub kept_of : List Section → List Public → Kept
 kept_of parts publics = record {
   registers = stays_in parts publics 0 (slice_get parts 0);
   code = stays_in parts publics 1 (slice_get parts 1);
@@ -56,27 +56,27 @@ number_of kept part =
     else if part == 1 then count_of kept.registers
     else count_of kept.registers + count_of kept.code
 
-abbrev pub kept_if : Bool → Option Tape → List Tape
+abbrev pub kept_if : Bool → Option Section → List Section
 kept_if true (Some t) = t ∷ []
 kept_if true None = []
 kept_if false t = []
 
-abbrev pub stack_tape : ℕ → Tape
-stack_tape bytes = tape_of Stack None bytes [] []
+abbrev pub stack_section : ℕ → Section
+stack_section bytes = section_of Stack None bytes [] []
 
 -- the stack is a piece where it has bytes
-abbrev pub stack_pieces : ℕ → List Tape
-stack_pieces bytes = if bytes == 0 then [] else stack_tape bytes ∷ []
+abbrev pub stack_pieces : ℕ → List Section
+stack_pieces bytes = if bytes == 0 then [] else stack_section bytes ∷ []
 
 -- relocatable parts by kind, the stack, absolute parts in their order
-abbrev pub in_order : Kept → Option Tape → Option Tape → Option Tape → ℕ → List Tape → List Tape
+abbrev pub in_order : Kept → Option Section → Option Section → Option Section → ℕ → List Section → List Section
 in_order kept registers code ram stack absolute =
     kept_if kept.registers registers
     ++ (kept_if kept.code code ++ (kept_if kept.ram ram ++ (stack_pieces stack ++ absolute)))
 
 -- the pieces of the module
-abbrev pub pieces_of : Kept → List Tape → ℕ → List Tape
+abbrev pub pieces_of : Kept → List Section → ℕ → List Section
 pieces_of kept parts stack = in_order kept (slice_get parts 0) (slice_get parts 1) (slice_get parts 2) stack (drop 3 parts)
 
-abbrev pub segment_of : Tape → Segment
+abbrev pub segment_of : Section → Segment
 segment_of t = record { kind = t.kind; at = t.at; length = t.length }

@@ -5,7 +5,7 @@ use Rattle.std.specs.Cmp.Lexicographic.{pointwise, slice_cmp}
 use Rattle.kc_expr.specs.declared.values.Base.{Base}
 use Rattle.kc_expr.specs.declared.values.Base.TheVariants.{Fixed, Absolute, Piece, External}
 use Rattle.kc_obj_module.specs.declared.parts.Given.{Given}
-use Rattle.kc_asm_piece.specs.declared.draft.Public.{Public}
+use Rattle.kc_asm_piece.specs.declared.unlinked.Public.{Public}
 
 -- an address is a number alone
 abbrev pub piece_of : (ℕ → ℕ) → Base → Option ℕ

@@ -9,12 +9,12 @@ use Rattle.kc_obj_module.specs.declared.parts.Target.{Target}
 use Rattle.kc_obj_module.specs.declared.parts.Target.TheVariants as targets
 use Rattle.kc_obj_module.specs.Pieces.{kind_number}
 use Rattle.kc_obj_module.specs.Fixups.{may_begin}
-use Rattle.kc_asm_bytes.specs.declared.octet.Octet.{Octet}
-use Rattle.kc_asm_bytes.specs.declared.octet.Octet.TheVariants.{Plain, First, Second}
+use Rattle.kc_asm_bytes.specs.declared.relocatable_byte.RelocatableByte.{RelocatableByte}
+use Rattle.kc_asm_bytes.specs.declared.relocatable_byte.RelocatableByte.TheVariants.{Plain, First, Second}
 use Rattle.kc_asm_bytes.specs.Relocating.{shown}
-use Rattle.kc_asm_piece.specs.declared.part.Cell.{Cell}
+use Rattle.kc_asm_piece.specs.declared.part.PlacedByte.{PlacedByte}
 use Rattle.kc_asm_piece.specs.declared.part.Mark.{Mark}
-use Rattle.kc_asm_piece.specs.Tape.{Tape}
+use Rattle.kc_asm_piece.specs.Section.{Section}
 use Rattle.kc_asm_module.specs.declared.puts.Put.{Put}
 use Rattle.kc_asm_module.specs.Order.{start_of, relocation}
 
@@ -32,22 +32,22 @@ fixup_for number piece offset (Some r) =
     Some (record { piece = piece; offset = offset; kind = r.0; target = target_of number r.1.base; addend = r.1.number })
 
 -- the byte that the module has for an octet of a part
-abbrev pub byte_for : Tape → ℕ → Octet → ℕ
-byte_for t offset octet = shown t.at (kind_number t.kind) (start_of t.at + offset) octet
+abbrev pub byte_for : Section → ℕ → RelocatableByte → ℕ
+byte_for t offset relocatable_byte = shown t.at (kind_number t.kind) (start_of t.at + offset) relocatable_byte
 
-abbrev pub put_of : (ℕ → ℕ) → ℕ → Tape → Cell → Put
+abbrev pub put_of : (ℕ → ℕ) → ℕ → Section → PlacedByte → Put
 put_of number piece t c = record {
   piece = piece;
   offset = c.offset;
-  byte = byte_for t c.offset c.octet;
-  fixup = fixup_for number piece c.offset (relocation t c.octet);
+  byte = byte_for t c.offset c.relocatable_byte;
+  fixup = fixup_for number piece c.offset (relocation t c.relocatable_byte);
 }
 
 abbrev pub entry_of : ℕ → Mark → Lines
 entry_of piece m = record { piece = piece; offset = m.offset; line = m.line }
 
 -- what a number is added to is 0, or the opcode of a jump of 11 bits
-abbrev pub has_start : Octet → Bool
+abbrev pub has_start : RelocatableByte → Bool
 has_start (Plain b) = true
 has_start (First kind start v) = may_begin kind (Some start)
 has_start (Second kind v) = true

@@ -1,11 +1,11 @@
 ghost use Rattle.std.specs.Prelude.{◌≡◌, ◌+◌, ◌<◌, ◌≤◌, ◌++◌, [], ◌∷◌, true, length, OnOk, IfOk, Some};
 ghost use Rattle.std.specs.List.{list_all};
-ghost use Rattle.kc_asm_piece.specs.Tape.{is_tape};
+ghost use Rattle.kc_asm_piece.specs.Section.{is_section};
 ghost use Rattle.kc_asm_module.specs.Order as order;
-ghost use Rattle.kc_asm_module.specs.Sheet as sheet;
+ghost use Rattle.kc_asm_module.specs.ModuleContents as module_contents;
 
 use crate::kept::Kept;
-use crate::puts::{Put, put_cells, put_marks};
+use crate::puts::{Put, put_marks, put_placed_bytes};
 use kc_asm_piece::Part;
 use kc_base::NoMemory;
 use kc_obj_module::{Lines, SegKind, Segment};
@@ -21,17 +21,17 @@ pub(crate) struct Gathered {
 }
 
 impl Model for Gathered {
-    ghost use Rattle.kc_asm_module.specs.Sheet.{Sheet, sheet_of};
+    ghost use Rattle.kc_asm_module.specs.ModuleContents.{ModuleContents, module_contents_of};
 
-    ghost Value = { Sheet };
+    ghost Value = { ModuleContents };
 
-    ghost view = { λ g. sheet_of g.segments.items g.puts.items g.lines.items };
+    ghost view = { λ g. module_contents_of g.segments.items g.puts.items g.lines.items };
 }
 
 fn segment_of(part: &Part) -> Segment
     requires { part.now.length < 65536 }
     ensures segment { result ≡ order.segment_of part.now }
-    ensures tape { is_tape part.now ≡ true }
+    ensures section { is_section part.now ≡ true }
 {
     Segment {
         kind: part.kind(),
@@ -42,7 +42,7 @@ fn segment_of(part: &Part) -> Segment
 
 impl Gathered {
     fn new(alloc: Global) -> Gathered
-        ensures { result ≡ sheet.empty }
+        ensures { result ≡ module_contents.empty }
     {
         Gathered {
             segments: Vec::new(alloc),
@@ -69,23 +69,23 @@ impl Gathered {
     // Adds a part as the next piece.
     fn add(&mut self, kept: Kept, part: &Part) -> Result<(), NoMemory>
         requires room { length self.old.segments < 65536 }
-        requires part { sheet.IsAddable part.now }
-        ensures added { OnOk result (self.new ≡ sheet.added (order.number_of kept) part.now self.old) }
-        ensures tape { is_tape part.now ≡ true }
+        requires part { module_contents.IsAddable part.now }
+        ensures added { OnOk result (self.new ≡ module_contents.added (order.number_of kept) part.now self.old) }
+        ensures section { is_section part.now ≡ true }
     {
         let piece = self.segments.len() as u16;
         self.segments.push(segment_of(part))?;
-        put_cells(&mut self.puts, kept, piece, part)?;
+        put_placed_bytes(&mut self.puts, kept, piece, part)?;
         put_marks(&mut self.lines, piece, part)
     }
 
     // Adds parts as the next pieces.
-    #[tactic(auto, unfolding(crate::specs::Sheet::added_all, crate::specs::Sheet::AreAddable))]
+    #[tactic(auto, unfolding(crate::specs::ModuleContents::added_all, crate::specs::ModuleContents::AreAddable))]
     fn add_all(&mut self, kept: Kept, parts: &[Part]) -> Result<(), NoMemory>
         requires room { length self.old.segments + length parts.now ≤ 65536 }
-        requires parts { sheet.AreAddable parts.now }
-        ensures added { OnOk result (self.new ≡ sheet.added_all (order.number_of kept) parts.now self.old) }
-        ensures tapes { OnOk result (list_all is_tape parts.now ≡ true) }
+        requires parts { module_contents.AreAddable parts.now }
+        ensures added { OnOk result (self.new ≡ module_contents.added_all (order.number_of kept) parts.now self.old) }
+        ensures sections { OnOk result (list_all is_section parts.now ≡ true) }
     {
         let mut left = parts;
         while let [first, rest @ ..] = left {
@@ -96,12 +96,12 @@ impl Gathered {
     }
 
     // Adds a part as the next piece where it is kept.
-    #[tactic(auto, unfolding(crate::specs::Sheet::added_all))]
+    #[tactic(auto, unfolding(crate::specs::ModuleContents::added_all))]
     fn add_if(&mut self, kept: Kept, stays: bool, part: &Part) -> Result<(), NoMemory>
         requires room { length self.old.segments + length (order.kept_if stays (Some part.now)) ≤ 65536 }
-        requires part { sheet.IsAddable part.now }
-        ensures added { OnOk result (self.new ≡ sheet.added_all (order.number_of kept) (order.kept_if stays (Some part.now)) self.old) }
-        ensures tape { is_tape part.now ≡ true }
+        requires part { module_contents.IsAddable part.now }
+        ensures added { OnOk result (self.new ≡ module_contents.added_all (order.number_of kept) (order.kept_if stays (Some part.now)) self.old) }
+        ensures section { is_section part.now ≡ true }
     {
         let length = part.length();
         prove!(length <= 65536);
@@ -109,10 +109,10 @@ impl Gathered {
     }
 
     // Adds the stack as the next piece where it has bytes.
-    #[tactic(auto, unfolding(crate::specs::Sheet::added_all))]
+    #[tactic(auto, unfolding(crate::specs::ModuleContents::added_all))]
     fn add_stack(&mut self, kept: Kept, bytes: u16) -> Result<(), NoMemory>
         requires { length self.old.segments + length (order.stack_pieces bytes) ≤ 65536 }
-        ensures { OnOk result (self.new ≡ sheet.added_all (order.number_of kept) (order.stack_pieces bytes) self.old) }
+        ensures { OnOk result (self.new ≡ module_contents.added_all (order.number_of kept) (order.stack_pieces bytes) self.old) }
     {
         if bytes == 0 {
             return Ok(());
@@ -137,15 +137,15 @@ fn gather_all(
     absolute: &[Part],
 ) -> Result<Gathered, NoMemory>
     requires count { length (order.in_order kept (Some registers.now) (Some code.now) (Some ram.now) stack absolute.now) ≤ 65536 }
-    requires of_registers { sheet.IsAddable registers.now }
-    requires of_code { sheet.IsAddable code.now }
-    requires of_ram { sheet.IsAddable ram.now }
-    requires of_absolute { sheet.AreAddable absolute.now }
-    ensures pieces { IfOk result (λ g. g ≡ sheet.added_all (order.number_of kept) (order.in_order kept (Some registers.now) (Some code.now) (Some ram.now) stack absolute.now) sheet.empty) }
-    ensures of_registers { OnOk result (is_tape registers.now ≡ true) }
-    ensures of_code { OnOk result (is_tape code.now ≡ true) }
-    ensures of_ram { OnOk result (is_tape ram.now ≡ true) }
-    ensures of_absolute { OnOk result (list_all is_tape absolute.now ≡ true) }
+    requires of_registers { module_contents.IsAddable registers.now }
+    requires of_code { module_contents.IsAddable code.now }
+    requires of_ram { module_contents.IsAddable ram.now }
+    requires of_absolute { module_contents.AreAddable absolute.now }
+    ensures pieces { IfOk result (λ g. g ≡ module_contents.added_all (order.number_of kept) (order.in_order kept (Some registers.now) (Some code.now) (Some ram.now) stack absolute.now) module_contents.empty) }
+    ensures of_registers { OnOk result (is_section registers.now ≡ true) }
+    ensures of_code { OnOk result (is_section code.now ≡ true) }
+    ensures of_ram { OnOk result (is_section ram.now ≡ true) }
+    ensures of_absolute { OnOk result (list_all is_section absolute.now ≡ true) }
 {
     let mut gathered = Gathered::new(alloc);
     gathered.add_if(kept, kept.registers, registers)?;
@@ -165,9 +165,9 @@ pub(crate) fn gather(
 ) -> Result<Gathered, NoMemory>
     requires three { 3 ≤ length parts.now }
     requires count { length (order.pieces_of kept parts.now stack) ≤ 65536 }
-    requires parts { sheet.AreAddable parts.now }
-    ensures pieces { IfOk result (λ g. g ≡ sheet.added_all (order.number_of kept) (order.pieces_of kept parts.now stack) sheet.empty) }
-    ensures tapes { OnOk result (list_all is_tape parts.now ≡ true) }
+    requires parts { module_contents.AreAddable parts.now }
+    ensures pieces { IfOk result (λ g. g ≡ module_contents.added_all (order.number_of kept) (order.pieces_of kept parts.now stack) module_contents.empty) }
+    ensures sections { OnOk result (list_all is_section parts.now ≡ true) }
 {
     match parts {
         [registers, code, ram, absolute @ ..] => gather_all(

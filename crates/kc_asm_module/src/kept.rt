@@ -4,7 +4,7 @@ ghost use Rattle.kc_obj_module.specs.Pieces as pieces;
 ghost use Rattle.kc_asm_bytes.specs.Relocating as relocating;
 ghost use Rattle.kc_asm_module.specs.Order as order;
 
-use kc_asm_bytes::{Octet, relocated};
+use kc_asm_bytes::{RelocatableByte, relocated};
 use kc_asm_piece::{Part, Public};
 use kc_expr::Base;
 use kc_obj_module::SegKind;
@@ -45,19 +45,21 @@ fn is_based(base: Base, part: u16) -> bool
 }
 
 // Whether an octet begins a relocation whose target is a relocatable part.
-fn aims(part: &Part, octet: Octet, target: u16) -> bool
-    ensures { result ≡ order.aims_at target (order.relocation part.now octet) }
+fn aims(part: &Part, relocatable_byte: RelocatableByte, target: u16) -> bool
+    ensures { result ≡ order.aims_at target (order.relocation part.now relocatable_byte) }
 {
-    match relocated(part.at(), own_number(part.kind()), octet) {
+    match relocated(part.at(), own_number(part.kind()), relocatable_byte) {
         Some((_, value)) => is_based(value.base, target),
         None => false,
     }
 }
 
 fn has_aim(part: &Part, target: u16) -> bool
-    ensures { result ≡ list_any (λ c. order.aims_at target (order.relocation part.now c.octet)) part.now.cells }
+    ensures { result ≡ list_any (λ c. order.aims_at target (order.relocation part.now c.relocatable_byte)) part.now.placed_bytes }
 {
-    part.cells().iter().any(|c| aims(part, c.octet, target))
+    part.placed_bytes()
+        .iter()
+        .any(|c| aims(part, c.relocatable_byte, target))
 }
 
 fn has_public(publics: &[Public], target: u16) -> bool
@@ -67,7 +69,7 @@ fn has_public(publics: &[Public], target: u16) -> bool
 }
 
 fn has_aims(parts: &[Part], target: u16) -> bool
-    ensures { result ≡ list_any (λ t. list_any (λ c. order.aims_at target (order.relocation t c.octet)) t.cells) parts.now }
+    ensures { result ≡ list_any (λ t. list_any (λ c. order.aims_at target (order.relocation t c.relocatable_byte)) t.placed_bytes) parts.now }
 {
     parts.iter().any(|t| has_aim(t, target))
 }

@@ -1,12 +1,12 @@
 ghost use Rattle.std.specs.Prelude.{IfOk};
-ghost use Rattle.kc_asm_module.specs.Drafts.{IsDraft};
+ghost use Rattle.kc_asm_module.specs.UnlinkedModules.{IsUnlinkedModule};
 ghost use Rattle.kc_asm_module.specs.ModuleOf.{IsModuleOf};
 
 use crate::gather::gather;
 use crate::kept::kept_of;
 use crate::publics::publics_of;
 use crate::runs::{contents_of, fixups_of};
-use kc_asm_piece::Draft;
+use kc_asm_piece::UnlinkedModule;
 use kc_base::NoMemory;
 use kc_obj_module::Module;
 use std::alloc::Global;
@@ -14,17 +14,17 @@ use std::alloc::Global;
 /// The module that the draft of a source without fault is. Its pieces are the relocatable parts that are nonempty or
 /// named, by kind, then the stack where it has bytes, then the absolute parts. It has line entries. The work grows with the
 /// octets, the marks and the parts, and with the number of public names times its logarithm.
-pub fn module_of(alloc: Global, draft: Draft) -> Result<Module, NoMemory>
-    requires { IsDraft draft }
-    ensures { IfOk result (λ m. IsModuleOf draft m) }
+pub fn module_of(alloc: Global, unlinked: UnlinkedModule) -> Result<Module, NoMemory>
+    requires { IsUnlinkedModule unlinked }
+    ensures { IfOk result (λ m. IsModuleOf unlinked m) }
 {
-    let Draft {
+    let UnlinkedModule {
         name,
         parts,
         stack,
         externals,
         publics,
-    } = draft;
+    } = unlinked;
     let kept = kept_of(&parts, &publics);
     let gathered = gather(alloc, kept, &parts, stack)?;
     let contents = contents_of(alloc, gathered.puts())?;

@@ -7,7 +7,7 @@ ghost use Rattle.kc_asm_module.specs.Puts as spec;
 
 use crate::kept::{Kept, number_of, own_number};
 use kc_asm_bytes::{relocated, shown};
-use kc_asm_piece::{Cell, Mark, Part};
+use kc_asm_piece::{Mark, Part, PlacedByte};
 use kc_base::NoMemory;
 use kc_expr::{Base, Value};
 use kc_obj_module::{Fixup, Lines, Target};
@@ -55,34 +55,39 @@ fn start_of(at: Option<u16>) -> u16
     }
 }
 
-fn put_of(kept: Kept, piece: u16, part: &Part, cell: Cell) -> Put
-    requires starts { spec.has_start cell.octet ≡ true }
-    requires fits { order.start_of part.now.at + cell.offset < 65536 }
-    ensures { result ≡ spec.put_of (order.number_of kept) piece part.now cell }
+fn put_of(kept: Kept, piece: u16, part: &Part, placed_byte: PlacedByte) -> Put
+    requires starts { spec.has_start placed_byte.relocatable_byte ≡ true }
+    requires fits { order.start_of part.now.at + placed_byte.offset < 65536 }
+    ensures { result ≡ spec.put_of (order.number_of kept) piece part.now placed_byte }
 {
     let at = part.at();
     let own = own_number(part.kind());
-    let place = start_of(at) + cell.offset;
+    let place = start_of(at) + placed_byte.offset;
     Put {
         piece,
-        offset: cell.offset,
-        byte: shown(at, own, place, cell.octet),
-        fixup: fixup_for(kept, piece, cell.offset, relocated(at, own, cell.octet)),
+        offset: placed_byte.offset,
+        byte: shown(at, own, place, placed_byte.relocatable_byte),
+        fixup: fixup_for(
+            kept,
+            piece,
+            placed_byte.offset,
+            relocated(at, own, placed_byte.relocatable_byte),
+        ),
     }
 }
 
 // Adds what stands in a part as a piece of the module.
-pub(crate) fn put_cells(
+pub(crate) fn put_placed_bytes(
     puts: &mut Vec<Put>,
     kept: Kept,
     piece: u16,
     part: &Part,
 ) -> Result<(), NoMemory>
-    requires starts { list_all (λ c. spec.has_start c.octet) part.now.cells ≡ true }
+    requires starts { list_all (λ c. spec.has_start c.relocatable_byte) part.now.placed_bytes ≡ true }
     requires fits { order.start_of part.now.at + part.now.length ≤ 65536 }
-    ensures { OnOk result (puts.new.items ≡ puts.old.items ++ map (spec.put_of (order.number_of kept) piece part.now) part.now.cells) }
+    ensures { OnOk result (puts.new.items ≡ puts.old.items ++ map (spec.put_of (order.number_of kept) piece part.now) part.now.placed_bytes) }
 {
-    let mut left = part.cells();
+    let mut left = part.placed_bytes();
     while let [first, rest @ ..] = left {
         puts.push(put_of(kept, piece, part, *first))?;
         left = rest;

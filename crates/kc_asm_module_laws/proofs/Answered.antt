@@ -8,13 +8,13 @@ use Rattle.kc_source.specs.Clear.{NamesAreClear}
 use Rattle.kc_source.specs.Faults.{Fault, least, faults_of}
 use Rattle.kc_obj_module.specs.Object.{Object}
 use Rattle.kc_asm_symbols.specs.Few.{ExternalsAreFew}
-use Rattle.kc_asm_check.specs.Judging.{first_fault}
+use Rattle.kc_asm_check.specs.Checking.{first_fault}
 use Rattle.kc_asm.specs.Assembled.{IsText, IsFirstFault, IsFaultless, IsModule}
 use Rattle.kc_asm_laws.specs.Exists.{FaultlessHaveModules}
 use Rattle.kc_asm_laws.specs.Modules.{IsAnswer}
 use Rattle.kc_asm_laws.proofs.OneAnswer.{of_values, no_fault}
 use Rattle.kc_asm_module_laws.specs.Made.{TextsAreAnswered}
-use Rattle.kc_asm_module_laws.proofs.Made.{Drafted, drafted}
+use Rattle.kc_asm_module_laws.proofs.Made.{Collected, collected}
 
 abbrev Answered : List ℕ → Type 0
 Answered text = (answer : Result Object Fault) × IsAnswer text answer
@@ -32,15 +32,15 @@ pub record Laws : Type 0 where
   pub clear : NamesAreClear
 
 -- where the first three passes have no fault
-of_values_pass : Laws → (text : List ℕ) (out : List Line) → IsText text out → least (faults_of out) ≡ None → (d : Drafted text) → (o : Option Fault) → first_fault d.stmts ≡ o → Answered text
+of_values_pass : Laws → (text : List ℕ) (out : List Line) → IsText text out → least (faults_of out) ≡ None → (d : Collected text) → (o : Option Fault) → first_fault d.stmts ≡ o → Answered text
 of_values_pass laws text out t g d None e =
     let none : IsFaultless text = λ line code h. no_fault text d.stmts d.said e (line, code) (of_values text out t g (line, code) h) in
-    assembled text (laws.have text d.stmts d.draft none d.said d.drafted)
+    assembled text (laws.have text d.stmts d.unlinked none d.said d.collected)
 of_values_pass laws text out t g d (Some f) e = refused text f (inr (inr (inr (d.stmts, d.said, e))))
 
 module _ (laws : Laws) (text : List ℕ) where
   of_names : (out : List Line) → IsText text out → (o : Option Fault) → least (faults_of out) ≡ o → Answered text
-  of_names out t None g = (let d : Drafted text = drafted laws.few laws.clear text out t g in of_values_pass laws text out t g d (first_fault d.stmts) refl)
+  of_names out t None g = (let d : Collected text = collected laws.few laws.clear text out t g in of_values_pass laws text out t g d (first_fault d.stmts) refl)
   of_names out t (Some f) g = refused text f (inr (inr (inl (out, t, g))))
 
   of_macros : (lines : List Line) → lines_of text ≡ Ok lines → (a : Answer) → expanded lines ≡ a → Ends a → Answered text

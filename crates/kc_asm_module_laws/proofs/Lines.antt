@@ -8,10 +8,10 @@ use Rattle.kc_source.specs.Faults.{said, all_said}
 use Rattle.kc_obj_module.specs.declared.parts.SegKind.{SegKind}
 use Rattle.kc_asm_symbols.specs.Located.{Located}
 use Rattle.kc_asm_symbols.specs.Meanings.{meaning}
-use Rattle.kc_asm_piece.specs.Tape.{Tape, blank}
-use Rattle.kc_asm_outline.specs.Outline.{opens}
-use Rattle.kc_asm_layout.specs.declared.site.Site.{Site}
-use Rattle.kc_asm_draft_laws.specs.Drafting.{kind_opened, with_opened, first_tape, tape_after, parts_after, parts_from}
+use Rattle.kc_asm_piece.specs.Section.{Section, blank}
+use Rattle.kc_asm_outline.specs.StatementSizes.{opens}
+use Rattle.kc_asm_layout.specs.declared.location.Location.{Location}
+use Rattle.kc_asm_draft_laws.specs.Collecting.{kind_opened, with_opened, first_section, section_after, parts_after, parts_from}
 
 -- ---- lines
 
@@ -24,18 +24,18 @@ few_said (l ∷ ls) =
 
 -- ---- parts
 
-opened_length : (kind : SegKind) (o : Option ℕ) (ts : List Tape) → length (with_opened kind o ts) ≤ suc (length ts)
+opened_length : (kind : SegKind) (o : Option ℕ) (ts : List Section) → length (with_opened kind o ts) ≤ suc (length ts)
 opened_length kind None ts = omega arith
 opened_length kind (Some address) ts = omega (arith, length-append ts (blank kind (Some address) ∷ []))
 
-pub few_parts : (all before ls : List Located) (ss : List Site) (parts : List Tape) → length (parts_from all before ls ss parts) ≤ length parts + length ls
+pub few_parts : (all before ls : List Located) (ss : List Location) (parts : List Section) → length (parts_from all before ls ss parts) ≤ length parts + length ls
 unfolding parts_from
 few_parts all before [] ss parts = omega arith
 few_parts all before (l ∷ ls) [] parts = omega arith
 few_parts all before (l ∷ ls) (s ∷ ss) parts =
     let look = meaning all before l in
     let rest = few_parts all (l ∷ before) ls ss (parts_after look l s parts) in
-    let set = slice_set parts l.segment.piece (tape_after look l s (unwrap_or (slice_get parts l.segment.piece) first_tape)) in
-    let opened = opened_length (kind_opened l.action) (opens look l.action) (slice_set parts l.segment.piece (tape_after look l s (unwrap_or (slice_get parts l.segment.piece) first_tape))) in
-    let same = length-set parts l.segment.piece (tape_after look l s (unwrap_or (slice_get parts l.segment.piece) first_tape)) in
+    let set = slice_set parts l.segment.piece (section_after look l s (unwrap_or (slice_get parts l.segment.piece) first_section)) in
+    let opened = opened_length (kind_opened l.action) (opens look l.action) (slice_set parts l.segment.piece (section_after look l s (unwrap_or (slice_get parts l.segment.piece) first_section))) in
+    let same = length-set parts l.segment.piece (section_after look l s (unwrap_or (slice_get parts l.segment.piece) first_section)) in
     omega (arith, rest, opened, same)

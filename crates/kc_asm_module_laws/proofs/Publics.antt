@@ -20,7 +20,7 @@ use Rattle.kc_source.specs.Clear.{IsClear, NamesAreClear}
 use Rattle.kc_source.specs.Faults.{Said, stmt_said, all_said, use_of, label_uses, action_uses, read_uses, uses_of, all_uses, is_once, is_again, has_use, is_defined, least, faults_of}
 use Rattle.kc_asm_symbols.specs.declared.segments.Segment.{Segment}
 use Rattle.kc_asm_symbols.specs.Located.{segment_after, located_from}
-use Rattle.kc_asm_draft_laws.specs.Drafting.{all_given, distinct_from, given_as, publics_of}
+use Rattle.kc_asm_draft_laws.specs.Collecting.{all_given, distinct_from, given_as, publics_of}
 
 -- ---- equal names
 

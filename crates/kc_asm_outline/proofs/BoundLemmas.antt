@@ -20,12 +20,12 @@ use Rattle.kc_asm_emission.specs.Alignment.{alignment}
 use Rattle.kc_asm_emission.specs.Arguments.{Look}
 use Rattle.kc_asm_emission.specs.Content.{content, extent_of}
 use Rattle.kc_asm_emission.specs.Seen.{counted}
-use Rattle.kc_asm_outline.specs.declared.note.Anchor.{Anchor}
-use Rattle.kc_asm_outline.specs.declared.note.Body.{Body}
-use Rattle.kc_asm_outline.specs.declared.note.Note.{Note}
-use Rattle.kc_asm_outline.specs.Outline.{at_zero, on_its_own, body_of, branch_or, branch_of, target_of, anchor_of, plain_body, body_in, notes_from, outline}
+use Rattle.kc_asm_outline.specs.declared.size_record.Anchor.{Anchor}
+use Rattle.kc_asm_outline.specs.declared.size_record.Body.{Body}
+use Rattle.kc_asm_outline.specs.declared.size_record.SizeRecord.{SizeRecord}
+use Rattle.kc_asm_outline.specs.StatementSizes.{at_zero, on_its_own, body_of, branch_or, branch_of, target_of, anchor_of, plain_body, body_in, size_records_from, statement_sizes}
 use Rattle.kc_asm_outline.specs.Bounds.{HasFewBytes, IsBounded, AreBounded}
-use Rattle.kc_asm_outline.proofs.Steps.{note_count}
+use Rattle.kc_asm_outline.proofs.Steps.{size_record_count}
 
 -- ---- how far a statement goes on
 
@@ -108,8 +108,8 @@ after i g (trees.Operation word args) h = stays i g h
 -- ---- all statements
 
 all_from : (zeros owns before passed : List Located) (i : ℕ) (g : Segment) (ss : List Stmt) → i + length ss ≤ 65536 → IsAfter i g
-    → All IsBounded (notes_from zeros owns before passed (located_from at_zero i g ss) (located_from on_its_own i g ss))
-unfolding notes_from located_from
+    → All IsBounded (size_records_from zeros owns before passed (located_from at_zero i g ss) (located_from on_its_own i g ss))
+unfolding size_records_from located_from
 all_from zeros owns before passed i g [] few h k d lt = absurd (omega (arith, lt))
 all_from zeros owns before passed i g (s ∷ ss) few h zero d lt =
     let l = located_at g (at_zero i g) s in
@@ -120,7 +120,7 @@ all_from zeros owns before passed i g (s ∷ ss) few h (suc k) d lt =
     all_from zeros owns (located_at g (at_zero i g) s ∷ before) (located_at g (on_its_own i g) s ∷ passed) (i + 1) (segment_after g a) ss
     (omega (arith, few)) (after i g a h) k d (omega (arith, lt))
 
-pub outlines_bounded : (stmts : List Stmt) → length stmts ≤ 65536 → AreBounded (outline stmts)
-outlines_bounded stmts few =
+pub sizes_bounded : (stmts : List Stmt) → length stmts ≤ 65536 → AreBounded (statement_sizes stmts)
+sizes_bounded stmts few =
     let first : IsAfter 0 first_segment = record { own = omega arith; first = omega arith; few = omega arith } in
-    (omega (arith, few, note_count stmts), all_from (located_by at_zero stmts) (located_by on_its_own stmts) [] [] 0 first_segment stmts (omega (arith, few)) first)
+    (omega (arith, few, size_record_count stmts), all_from (located_by at_zero stmts) (located_by on_its_own stmts) [] [] 0 first_segment stmts (omega (arith, few)) first)

@@ -15,15 +15,15 @@ use Rattle.kc_asm_operation.specs.declared.argument.Argument.{Argument}
 use Rattle.kc_asm_operation.specs.Branches.{Line, line, branch_kind, branch_lines}
 use Rattle.kc_asm_operation.specs.Instructions.{all_lines, instructions}
 use Rattle.kc_asm_encoding.specs.Laws.{BranchesHaveLengths}
-use Rattle.kc_asm_encoding.specs.Octets.{all_octets}
+use Rattle.kc_asm_encoding.specs.RelocatableBytes.{all_relocatable_bytes}
 use Rattle.kc_asm_emission.specs.declared.extent.Extent.{Extent}
 use Rattle.kc_asm_emission.specs.declared.extent.Extent.TheVariants as extent
 use Rattle.kc_asm_emission.specs.Arguments.{Look, fixed_of, arguments}
 use Rattle.kc_asm_emission.specs.Content.{content, extent_of, upto}
 use Rattle.kc_asm_emission.specs.Laws.{ExtentsStay}
 use Rattle.kc_asm_emission.specs.Seen.{most, counted}
-use Rattle.kc_asm_outline.specs.declared.note.Anchor.{Anchor}
-use Rattle.kc_asm_outline.specs.Outline.{body_of, branch_or, target_of, anchor_of, body_in, opened_at, opens}
+use Rattle.kc_asm_outline.specs.declared.size_record.Anchor.{Anchor}
+use Rattle.kc_asm_outline.specs.StatementSizes.{body_of, branch_or, target_of, anchor_of, body_in, opened_at, opens}
 use Rattle.kc_asm_outline.specs.Laws.{extent_in}
 
 -- ---- what is no generic branch
@@ -59,12 +59,12 @@ few_bytes BitTest Second = refl
 few_bytes BitTest Third = refl
 
 abbrev bytes_of : List ℕ → List Argument → Form → Value → Extent
-bytes_of word args form here = counted (extent.Bytes (length (all_octets (instructions word args form here))))
+bytes_of word args form here = counted (extent.Bytes (length (all_relocatable_bytes (instructions word args form here))))
 
 operation : BranchesHaveLengths → (word : List ℕ) (args : List Argument) (form : Form) (here : Value) (a : Anchor) (kind : Option BranchKind) → branch_kind word args ≡ kind
     → bytes_of word args form here ≡ extent_in form (branch_or kind a (body_of (bytes_of word args First here)))
 operation lengths word args form here a None is =
-    ap (λ ws. counted (extent.Bytes (length (all_octets ws)))) (no_branch word args form here is) ∙ plain form (bytes_of word args First here)
+    ap (λ ws. counted (extent.Bytes (length (all_relocatable_bytes ws)))) (no_branch word args form here is) ∙ plain form (bytes_of word args First here)
 operation lengths word args form here a (Some kind) is =
     ap (λ n. extent.Bytes (min n most)) (lengths word args form here kind is) ∙ ap extent.Bytes (few_bytes kind form)
 

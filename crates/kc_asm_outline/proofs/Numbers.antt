@@ -13,8 +13,8 @@ use Rattle.kc_asm_symbols.specs.Meanings.{meaning}
 use Rattle.kc_asm_emission.specs.Alignment.{alignment}
 use Rattle.kc_asm_emission.specs.Arguments.{Look}
 use Rattle.kc_asm_outline.specs.Numbered.{is_code, is_same_piece, is_relocatable, may_follow, aligns_well, numbered_after}
-use Rattle.kc_asm_outline.specs.Outline.{at_zero, on_its_own, opened_at, opens, note_of, notes_from}
-use Rattle.kc_asm_outline.specs.Laws.{OutlinesAreNumbered}
+use Rattle.kc_asm_outline.specs.StatementSizes.{at_zero, on_its_own, opened_at, opens, size_record_of, size_records_from}
+use Rattle.kc_asm_outline.specs.Laws.{SizesAreNumbered}
 
 -- ---- tests
 
@@ -110,18 +110,18 @@ both : (a b c : Bool) → a ≡ true → b ≡ true → c ≡ true → (a && b &
 both a b c first second third = λ i. first i && second i && third i
 
 numbered_from : (zeros owns before passed : List Located) (g h : Segment) (o : Option ℕ) (i : ℕ) (ss : List Stmt) → may_follow g o h ≡ true
-    → numbered_after g o (notes_from zeros owns before passed (located_from at_zero i h ss) (located_from on_its_own i h ss)) ≡ true
-unfolding numbered_after notes_from located_from
+    → numbered_after g o (size_records_from zeros owns before passed (located_from at_zero i h ss) (located_from on_its_own i h ss)) ≡ true
+unfolding numbered_after size_records_from located_from
 numbered_from zeros owns before passed g h o i [] may = refl
 numbered_from zeros owns before passed g h o i (s ∷ ss) may =
     let a = action_tree s.action in
     let l = located_at h (at_zero i h) s in
     let m = located_at h (on_its_own i h) s in
     let look = meaning zeros before l in
-    both (may_follow g o h) (aligns_well (note_of look (meaning owns passed m) l))
-    (numbered_after h (opens look a) (notes_from zeros owns (l ∷ before) (m ∷ passed) (located_from at_zero (i + 1) (segment_after h a) ss) (located_from on_its_own (i + 1) (segment_after h a) ss)))
+    both (may_follow g o h) (aligns_well (size_record_of look (meaning owns passed m) l))
+    (numbered_after h (opens look a) (size_records_from zeros owns (l ∷ before) (m ∷ passed) (located_from at_zero (i + 1) (segment_after h a) ss) (located_from on_its_own (i + 1) (segment_after h a) ss)))
     may (aligned h.kind h.piece h.count a)
     (numbered_from zeros owns (l ∷ before) (m ∷ passed) h (segment_after h a) (opens look a) (i + 1) ss (follows look h a))
 
-pub outlines_numbered : OutlinesAreNumbered
-outlines_numbered stmts = numbered_from (located_by at_zero stmts) (located_by on_its_own stmts) [] [] first_segment first_segment None 0 stmts refl
+pub sizes_numbered : SizesAreNumbered
+sizes_numbered stmts = numbered_from (located_by at_zero stmts) (located_by on_its_own stmts) [] [] first_segment first_segment None 0 stmts refl

@@ -19,9 +19,9 @@ use Rattle.kc_asm_emission.specs.Alignment.{alignment}
 use Rattle.kc_asm_emission.specs.Content.{content, extent_of}
 use Rattle.kc_asm_emission.specs.Laws.{ExtentsStay}
 use Rattle.kc_asm_emission.specs.Seen.{counted}
-use Rattle.kc_asm_outline.specs.declared.note.Note.{Note}
-use Rattle.kc_asm_outline.specs.Outline.{at_zero, on_its_own, opens, note_of, notes_from, outline}
-use Rattle.kc_asm_outline.specs.Laws.{extent_in, OutlinesStay}
+use Rattle.kc_asm_outline.specs.declared.size_record.SizeRecord.{SizeRecord}
+use Rattle.kc_asm_outline.specs.StatementSizes.{at_zero, on_its_own, opens, size_record_of, size_records_from, statement_sizes}
+use Rattle.kc_asm_outline.specs.Laws.{extent_in, SizesStay}
 use Rattle.kc_asm_outline.proofs.Extents.{extent_of_body, opens_stay}
 
 -- ---- a note among the notes
@@ -32,7 +32,7 @@ pub record IsSplit (all before : List Located) (l : Located) : Type 0 where
   pub whole : all ≡ reverse before ++ l ∷ after
 
 -- the statement of the note with a number, in both choices of places
-pub record Noted (zeros owns : List Located) (number : ℕ) (n : Note) : Type 0 where
+pub record Noted (zeros owns : List Located) (number : ℕ) (n : SizeRecord) : Type 0 where
   pub before : List Located
   pub passed : List Located
   pub l : Located
@@ -41,7 +41,7 @@ pub record Noted (zeros owns : List Located) (number : ℕ) (n : Note) : Type 0 
   pub second : IsSplit owns passed m
   pub count : length before ≡ number
   pub count_own : length passed ≡ number
-  pub note : n ≡ note_of (meaning zeros before l) (meaning owns passed m) l
+  pub size_record : n ≡ size_record_of (meaning zeros before l) (meaning owns passed m) l
 
 no_some : {A : Type 0} (a : A) → None ≡ Some a → ⊥
 no_some a e = cc
@@ -49,11 +49,11 @@ no_some a e = cc
 some_same : {A : Type 0} (a b : A) → Some a ≡ Some b → b ≡ a
 some_same a b e = cc
 
-noted_from : (zeros owns before passed : List Located) (i : ℕ) (g : Segment) (ss : List Stmt) (number : ℕ) (n : Note)
+noted_from : (zeros owns before passed : List Located) (i : ℕ) (g : Segment) (ss : List Stmt) (number : ℕ) (n : SizeRecord)
     → zeros ≡ reverse before ++ located_from at_zero i g ss → owns ≡ reverse passed ++ located_from on_its_own i g ss → length before ≡ length passed
-    → slice_get (notes_from zeros owns before passed (located_from at_zero i g ss) (located_from on_its_own i g ss)) number ≡ Some n
+    → slice_get (size_records_from zeros owns before passed (located_from at_zero i g ss) (located_from on_its_own i g ss)) number ≡ Some n
     → Noted zeros owns (length before + number) n
-unfolding notes_from located_from
+unfolding size_records_from located_from
 noted_from zeros owns before passed i g [] number n whole own_whole long is = absurd (no_some n is)
 noted_from zeros owns before passed i g (s ∷ ss) zero n whole own_whole long is =
     let l = located_at g (at_zero i g) s in
@@ -68,7 +68,7 @@ noted_from zeros owns before passed i g (s ∷ ss) zero n whole own_whole long i
       second = record { after = located_from on_its_own (i + 1) h ss; whole = own_whole };
       count = omega arith;
       count_own = omega (arith, long);
-      note = some_same (note_of (meaning zeros before l) (meaning owns passed m) l) n is;
+      size_record = some_same (size_record_of (meaning zeros before l) (meaning owns passed m) l) n is;
     }
 noted_from zeros owns before passed i g (s ∷ ss) (suc number) n whole own_whole long is =
     let l = located_at g (at_zero i g) s in
@@ -79,7 +79,7 @@ noted_from zeros owns before passed i g (s ∷ ss) (suc number) n whole own_whol
     (noted_from zeros owns (l ∷ before) (m ∷ passed) (i + 1) h ss number n
     (further zeros before (located_from at_zero (i + 1) h ss) l whole) (further owns passed (located_from on_its_own (i + 1) h ss) m own_whole) (ap suc long) is)
 
-pub noted : (stmts : List Stmt) (number : ℕ) (n : Note) → slice_get (outline stmts) number ≡ Some n → Noted (located_by at_zero stmts) (located_by on_its_own stmts) number n
+pub noted : (stmts : List Stmt) (number : ℕ) (n : SizeRecord) → slice_get (statement_sizes stmts) number ≡ Some n → Noted (located_by at_zero stmts) (located_by on_its_own stmts) number n
 noted stmts number n is =
     let none : 0 + number ≡ number = omega arith in
     subst (λ (k : ℕ). Noted (located_by at_zero stmts) (located_by on_its_own stmts) k n) none
@@ -124,8 +124,8 @@ places_alike places i g = record { base = refl; tag = refl; number = λ fixed. a
 
 -- ---- the law
 
-pub outlines_stay : MeaningsAreAlike → ExtentsStay → BranchesHaveLengths → OutlinesStay
-outlines_stay alike stay lengths stmts places before after l whole n is =
+pub sizes_stay : MeaningsAreAlike → ExtentsStay → BranchesHaveLengths → SizesStay
+sizes_stay alike stay lengths stmts places before after l whole n is =
     let w = noted stmts (length before) n is in
     let look = meaning (located places stmts) before l in
     let zero_look = meaning (located_by at_zero stmts) w.before w.l in
@@ -136,12 +136,12 @@ outlines_stay alike stay lengths stmts places before after l whole n is =
     let segments : w.l.segment ≡ l.segment = λ j. (sym same j).segment in
     let actions : w.l.action ≡ l.action = λ j. (sym same j).action in
     record {
-      segment = (λ j. (w.note j).segment) ∙ segments;
-      alignment = (λ j. (w.note j).alignment) ∙ (λ j. alignment (segments j).kind (actions j));
+      segment = (λ j. (w.size_record j).segment) ∙ segments;
+      alignment = (λ j. (w.size_record j).alignment) ∙ (λ j. alignment (segments j).kind (actions j));
       extent = λ form.
           ap counted (stay look zero_look names form l.here w.l.here l.action)
           ∙ (λ j. counted (extent_of (content zero_look form w.l.here (sym actions j))))
           ∙ extent_of_body lengths zero_look own form w.l.here w.l.action
-          ∙ (λ j. extent_in form (sym w.note j).body);
-      opens = (λ j. (w.note j).opens) ∙ (λ j. opens zero_look (actions j)) ∙ sym (opens_stay stay look zero_look names l.here l.action);
+          ∙ (λ j. extent_in form (sym w.size_record j).body);
+      opens = (λ j. (w.size_record j).opens) ∙ (λ j. opens zero_look (actions j)) ∙ sym (opens_stay stay look zero_look names l.here l.action);
     }

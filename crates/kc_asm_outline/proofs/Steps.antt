@@ -12,27 +12,27 @@ use Rattle.kc_asm_symbols.specs.Meanings.{meaning}
 use Rattle.kc_asm_symbols.specs.Walk.{IsBehind, IsAt, at_statement}
 use Rattle.kc_asm_symbols.proofs.ValueLemmas.{value_more}
 use Rattle.kc_asm_symbols.proofs.WalkLemmas.{one_located, none_located}
-use Rattle.kc_asm_outline.specs.declared.note.Note.{Note}
-use Rattle.kc_asm_outline.specs.Outline.{at_zero, on_its_own, note_of, notes_from, outline}
+use Rattle.kc_asm_outline.specs.declared.size_record.SizeRecord.{SizeRecord}
+use Rattle.kc_asm_outline.specs.StatementSizes.{at_zero, on_its_own, size_record_of, size_records_from, statement_sizes}
 
 -- ---- the values of own places
 
 pub own_starts : (vs : List Value) (ss : List Stmt) → vs ≡ [] → vs ++ place_values (located_from on_its_own 0 first_segment ss) ≡ place_values (located_by on_its_own ss)
 own_starts vs ss none = ap (λ (us : List Value). us ++ place_values (located_from on_its_own 0 first_segment ss)) none
 
-has_front : (ss : List Stmt) (i : ℕ) → i < length ss → (s : Stmt) × (drop i ss ≡ s ∷ drop (i + 1) ss)
-has_front [] i within = absurd (omega arith)
-has_front (s ∷ ss) zero within = (s, refl)
-has_front (s ∷ ss) (suc i) within =
+has_prefix : (ss : List Stmt) (i : ℕ) → i < length ss → (s : Stmt) × (drop i ss ≡ s ∷ drop (i + 1) ss)
+has_prefix [] i within = absurd (omega arith)
+has_prefix (s ∷ ss) zero within = (s, refl)
+has_prefix (s ∷ ss) (suc i) within =
     let next : suc i + 1 ≡ suc (i + 1) = omega arith in
-    let f = has_front ss i (omega arith) in
+    let f = has_prefix ss i (omega arith) in
     (f.0, f.1 ∙ ap (λ (n : ℕ). f.0 ∷ drop n (s ∷ ss)) (sym next))
 
 pub own_more : (i : ℕ) (g : Segment) (ss : List Stmt) (vs ws : List Value) (v : Value) → i < length ss → v ≡ on_its_own i g → ws ≡ vs ++ v ∷ []
     → vs ++ place_values (located_from on_its_own i g (drop i ss)) ≡ place_values (located_by on_its_own ss)
     → (h : Segment) × (ws ++ place_values (located_from on_its_own (i + 1) h (drop (i + 1) ss)) ≡ place_values (located_by on_its_own ss))
 own_more i g ss vs ws v within is grown so_far =
-    let f = has_front ss i within in
+    let f = has_prefix ss i within in
     let all = place_values (located_by on_its_own ss) in
     let h = segment_after g (action_tree f.0.action) in (
       h,
@@ -48,61 +48,61 @@ zeros_from i g ss = located_from at_zero i g ss
 abbrev pub owns_from : ℕ → Segment → List Stmt → List Located
 owns_from i g ss = located_from on_its_own i g ss
 
-one_note : (zeros owns before passed ls ms : List Located) (l m : Located)
-    → notes_from zeros owns before passed (l ∷ ls) (m ∷ ms) ≡ note_of (meaning zeros before l) (meaning owns passed m) l ∷ notes_from zeros owns (l ∷ before) (m ∷ passed) ls ms
-unfolding notes_from
-one_note zeros owns before passed ls ms l m = refl
+one_size_record : (zeros owns before passed ls ms : List Located) (l m : Located)
+    → size_records_from zeros owns before passed (l ∷ ls) (m ∷ ms) ≡ size_record_of (meaning zeros before l) (meaning owns passed m) l ∷ size_records_from zeros owns (l ∷ before) (m ∷ passed) ls ms
+unfolding size_records_from
+one_size_record zeros owns before passed ls ms l m = refl
 
-no_note : (zeros owns before passed ms : List Located) → notes_from zeros owns before passed [] ms ≡ []
-unfolding notes_from
-no_note zeros owns before passed ms = refl
+no_size_record : (zeros owns before passed ms : List Located) → size_records_from zeros owns before passed [] ms ≡ []
+unfolding size_records_from
+no_size_record zeros owns before passed ms = refl
 
 -- the statements that both walks have passed, the latest first, and the notes of those that are left
-pub record Walked (look own : Meanings) (notes : List Note) (i : ℕ) (g : Segment) (stmts rest : List Stmt) : Type 0 where
+pub record Walked (look own : Meanings) (size_records : List SizeRecord) (i : ℕ) (g : Segment) (stmts rest : List Stmt) : Type 0 where
   pub before : List Located
   pub passed : List Located
   pub look_is : IsBehind look (located_by at_zero stmts) before
   pub own_is : IsBehind own (located_by on_its_own stmts) passed
-  pub so_far : notes ++ notes_from (located_by at_zero stmts) (located_by on_its_own stmts) before passed (zeros_from i g rest) (owns_from i g rest) ≡ outline stmts
+  pub so_far : size_records ++ size_records_from (located_by at_zero stmts) (located_by on_its_own stmts) before passed (zeros_from i g rest) (owns_from i g rest) ≡ statement_sizes stmts
 
-pub walk_starts : (look own : Meanings) (notes : List Note) (g : Segment) (stmts : List Stmt) → notes ≡ [] → g ≡ first_segment
-    → IsBehind look (located_by at_zero stmts) [] → IsBehind own (located_by on_its_own stmts) [] → Walked look own notes 0 g stmts stmts
-walk_starts look own notes g stmts none first look_is own_is = record {
+pub walk_starts : (look own : Meanings) (size_records : List SizeRecord) (g : Segment) (stmts : List Stmt) → size_records ≡ [] → g ≡ first_segment
+    → IsBehind look (located_by at_zero stmts) [] → IsBehind own (located_by on_its_own stmts) [] → Walked look own size_records 0 g stmts stmts
+walk_starts look own size_records g stmts none first look_is own_is = record {
   before = [];
   passed = [];
   look_is = look_is;
   own_is = own_is;
-  so_far = λ j. none j ++ notes_from (located_by at_zero stmts) (located_by on_its_own stmts) [] [] (zeros_from 0 (first j) stmts) (owns_from 0 (first j) stmts);
+  so_far = λ j. none j ++ size_records_from (located_by at_zero stmts) (located_by on_its_own stmts) [] [] (zeros_from 0 (first j) stmts) (owns_from 0 (first j) stmts);
 }
 
 -- one note more
-pub note_more : (zeros owns before passed : List Located) (notes more : List Note) (i : ℕ) (g h : Segment) (s : Stmt) (rest : List Stmt) (n : Note) (all : List Note)
-    → h ≡ segment_after g (action_tree s.action) → more ≡ notes ++ n ∷ []
-    → n ≡ note_of (meaning zeros before (located_at g (at_zero i g) s)) (meaning owns passed (located_at g (on_its_own i g) s)) (located_at g (at_zero i g) s)
-    → notes ++ notes_from zeros owns before passed (zeros_from i g (s ∷ rest)) (owns_from i g (s ∷ rest)) ≡ all
-    → more ++ notes_from zeros owns (located_at g (at_zero i g) s ∷ before) (located_at g (on_its_own i g) s ∷ passed) (zeros_from (i + 1) h rest) (owns_from (i + 1) h rest) ≡ all
-note_more zeros owns before passed notes more i g h s rest n all moved grown is so_far =
+pub size_record_more : (zeros owns before passed : List Located) (size_records more : List SizeRecord) (i : ℕ) (g h : Segment) (s : Stmt) (rest : List Stmt) (n : SizeRecord) (all : List SizeRecord)
+    → h ≡ segment_after g (action_tree s.action) → more ≡ size_records ++ n ∷ []
+    → n ≡ size_record_of (meaning zeros before (located_at g (at_zero i g) s)) (meaning owns passed (located_at g (on_its_own i g) s)) (located_at g (at_zero i g) s)
+    → size_records ++ size_records_from zeros owns before passed (zeros_from i g (s ∷ rest)) (owns_from i g (s ∷ rest)) ≡ all
+    → more ++ size_records_from zeros owns (located_at g (at_zero i g) s ∷ before) (located_at g (on_its_own i g) s ∷ passed) (zeros_from (i + 1) h rest) (owns_from (i + 1) h rest) ≡ all
+size_record_more zeros owns before passed size_records more i g h s rest n all moved grown is so_far =
     let l = located_at g (at_zero i g) s in
     let m = located_at g (on_its_own i g) s in
     let k = segment_after g (action_tree s.action) in
-    let later = notes_from zeros owns (l ∷ before) (m ∷ passed) (zeros_from (i + 1) k rest) (owns_from (i + 1) k rest) in
-    (λ j. grown j ++ notes_from zeros owns (l ∷ before) (m ∷ passed) (zeros_from (i + 1) (moved j) rest) (owns_from (i + 1) (moved j) rest))
-    ∙ append_assoc notes (n ∷ []) later
-    ∙ ap (λ x. notes ++ x ∷ later) is
-    ∙ ap (λ ns. notes ++ ns) (sym (one_note zeros owns before passed (zeros_from (i + 1) k rest) (owns_from (i + 1) k rest) l m))
-    ∙ (λ j. notes ++ notes_from zeros owns before passed (sym (one_located at_zero i g s rest) j) (sym (one_located on_its_own i g s rest) j))
+    let later = size_records_from zeros owns (l ∷ before) (m ∷ passed) (zeros_from (i + 1) k rest) (owns_from (i + 1) k rest) in
+    (λ j. grown j ++ size_records_from zeros owns (l ∷ before) (m ∷ passed) (zeros_from (i + 1) (moved j) rest) (owns_from (i + 1) (moved j) rest))
+    ∙ append_assoc size_records (n ∷ []) later
+    ∙ ap (λ x. size_records ++ x ∷ later) is
+    ∙ ap (λ ns. size_records ++ ns) (sym (one_size_record zeros owns before passed (zeros_from (i + 1) k rest) (owns_from (i + 1) k rest) l m))
+    ∙ (λ j. size_records ++ size_records_from zeros owns before passed (sym (one_located at_zero i g s rest) j) (sym (one_located on_its_own i g s rest) j))
     ∙ so_far
 
 -- over one statement, which is entered and left
-pub walk_more : (look looking looked own owning owned : Meanings) (notes more : List Note) (n : Note) (i : ℕ) (g h : Segment) (stmts rest : List Stmt) (s : Stmt) (v w : Value)
+pub walk_more : (look looking looked own owning owned : Meanings) (size_records more : List SizeRecord) (n : SizeRecord) (i : ℕ) (g h : Segment) (stmts rest : List Stmt) (s : Stmt) (v w : Value)
     → v ≡ at_zero i g → w ≡ on_its_own i g → h ≡ segment_after g (action_tree s.action)
     → ((all before : List Located) (k : Segment) → IsBehind look all before → IsAt looking all before (located_at k v s))
     → ((all before : List Located) (k : Segment) → IsBehind own all before → IsAt owning all before (located_at k w s))
     → ((all before : List Located) (l : Located) → IsAt looking all before l → l.action ≡ action_tree s.action → IsBehind looked all (l ∷ before))
     → ((all before : List Located) (l : Located) → IsAt owning all before l → l.action ≡ action_tree s.action → IsBehind owned all (l ∷ before))
-    → n ≡ note_of (at_statement looking) (at_statement owning) (located_at g v s) → more ≡ notes ++ n ∷ []
-    → Walked look own notes i g stmts (s ∷ rest) → Walked looked owned more (i + 1) h stmts rest
-walk_more look looking looked own owning owned notes more n i g h stmts rest s v w zero_at own_at moved enters owner leaves owner_leaves is grown walked =
+    → n ≡ size_record_of (at_statement looking) (at_statement owning) (located_at g v s) → more ≡ size_records ++ n ∷ []
+    → Walked look own size_records i g stmts (s ∷ rest) → Walked looked owned more (i + 1) h stmts rest
+walk_more look looking looked own owning owned size_records more n i g h stmts rest s v w zero_at own_at moved enters owner leaves owner_leaves is grown walked =
     let zeros = located_by at_zero stmts in
     let owns = located_by on_its_own stmts in
     let l = located_at g (at_zero i g) s in
@@ -114,27 +114,27 @@ walk_more look looking looked own owning owned notes more n i g h stmts rest s v
       passed = m ∷ walked.passed;
       look_is = leaves zeros walked.before l at_l refl;
       own_is = owner_leaves owns walked.passed m at_m refl;
-      so_far = note_more zeros owns walked.before walked.passed notes more i g h s rest n (outline stmts) moved grown
-          (is ∙ (λ j. note_of (at_l.means j) (at_m.means j) (located_at g (zero_at j) s))) walked.so_far;
+      so_far = size_record_more zeros owns walked.before walked.passed size_records more i g h s rest n (statement_sizes stmts) moved grown
+          (is ∙ (λ j. size_record_of (at_l.means j) (at_m.means j) (located_at g (zero_at j) s))) walked.so_far;
     }
 
-pub walk_ends : (look own : Meanings) (notes : List Note) (i : ℕ) (g : Segment) (stmts : List Stmt) → length stmts ≤ i → Walked look own notes i g stmts (drop i stmts) → notes ≡ outline stmts
-walk_ends look own notes i g stmts past w =
+pub walk_ends : (look own : Meanings) (size_records : List SizeRecord) (i : ℕ) (g : Segment) (stmts : List Stmt) → length stmts ≤ i → Walked look own size_records i g stmts (drop i stmts) → size_records ≡ statement_sizes stmts
+walk_ends look own size_records i g stmts past w =
     let zeros = located_by at_zero stmts in
     let owns = located_by on_its_own stmts in
-    sym (append-nil notes)
-    ∙ ap (λ ns. notes ++ ns) (sym (no_note zeros owns w.before w.passed (owns_from i g (drop i stmts))))
-    ∙ ap (λ ls. notes ++ notes_from zeros owns w.before w.passed ls (owns_from i g (drop i stmts))) (sym (none_located at_zero i g) ∙ ap (zeros_from i g) (sym (drop_of_length-le stmts past)))
+    sym (append-nil size_records)
+    ∙ ap (λ ns. size_records ++ ns) (sym (no_size_record zeros owns w.before w.passed (owns_from i g (drop i stmts))))
+    ∙ ap (λ ls. size_records ++ size_records_from zeros owns w.before w.passed ls (owns_from i g (drop i stmts))) (sym (none_located at_zero i g) ∙ ap (zeros_from i g) (sym (drop_of_length-le stmts past)))
     ∙ w.so_far
 
 -- ---- as many notes as statements
 
 count_from : (zeros owns before passed : List Located) (i : ℕ) (g : Segment) (ss : List Stmt)
-    → length (notes_from zeros owns before passed (zeros_from i g ss) (owns_from i g ss)) ≡ length ss
-unfolding notes_from located_from
+    → length (size_records_from zeros owns before passed (zeros_from i g ss) (owns_from i g ss)) ≡ length ss
+unfolding size_records_from located_from
 count_from zeros owns before passed i g [] = refl
 count_from zeros owns before passed i g (s ∷ ss) =
     ap suc (count_from zeros owns (located_at g (at_zero i g) s ∷ before) (located_at g (on_its_own i g) s ∷ passed) (i + 1) (segment_after g (action_tree s.action)) ss)
 
-pub note_count : (stmts : List Stmt) → length (outline stmts) ≡ length stmts
-note_count stmts = count_from (located_by at_zero stmts) (located_by on_its_own stmts) [] [] 0 first_segment stmts
+pub size_record_count : (stmts : List Stmt) → length (statement_sizes stmts) ≡ length stmts
+size_record_count stmts = count_from (located_by at_zero stmts) (located_by on_its_own stmts) [] [] 0 first_segment stmts

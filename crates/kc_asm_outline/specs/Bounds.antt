@@ -2,9 +2,9 @@
 -- piece (this kit's own).
 use Rattle.std.specs.Prelude.{ℕ, ◌<◌, ◌≤◌, ◌^◌, List, length, All}
 use Rattle.kc_asm_emission.specs.Seen.{most}
-use Rattle.kc_asm_outline.specs.declared.note.Body.{Body}
-use Rattle.kc_asm_outline.specs.declared.note.Body.TheVariants.{Bytes, Upto, Even, Branch}
-use Rattle.kc_asm_outline.specs.declared.note.Note.{Note}
+use Rattle.kc_asm_outline.specs.declared.size_record.Body.{Body}
+use Rattle.kc_asm_outline.specs.declared.size_record.Body.TheVariants.{Bytes, Upto, Even, Branch}
+use Rattle.kc_asm_outline.specs.declared.size_record.SizeRecord.{SizeRecord}
 
 abbrev pub HasFewBytes : Body → Type 0
 HasFewBytes (Bytes n) = n ≤ most
@@ -12,9 +12,9 @@ HasFewBytes (Upto place) = Unit {0}
 HasFewBytes Even = Unit {0}
 HasFewBytes (Branch kind anchor) = Unit {0}
 
-abbrev pub IsBounded : Note → Type 0
+abbrev pub IsBounded : SizeRecord → Type 0
 IsBounded n = (n.segment.piece < 2 ^ 17) × (n.alignment ≤ 4) × HasFewBytes n.body
 
 -- the notes of a module, of which there are at most 65,536
-abbrev pub AreBounded : List Note → Type 0
+abbrev pub AreBounded : List SizeRecord → Type 0
 AreBounded ns = (length ns ≤ 65536) × All IsBounded ns

@@ -10,10 +10,10 @@ use Rattle.kc_asm_emission.specs.declared.extent.Extent.TheVariants as extent
 use Rattle.kc_asm_emission.specs.Alignment.{alignment}
 use Rattle.kc_asm_emission.specs.Content.{content, extent_of}
 use Rattle.kc_asm_emission.specs.Seen.{counted}
-use Rattle.kc_asm_outline.specs.declared.note.Body.{Body}
-use Rattle.kc_asm_outline.specs.declared.note.Body.TheVariants as body
-use Rattle.kc_asm_outline.specs.declared.note.Note.{Note}
-use Rattle.kc_asm_outline.specs.Outline.{outline, opens}
+use Rattle.kc_asm_outline.specs.declared.size_record.Body.{Body}
+use Rattle.kc_asm_outline.specs.declared.size_record.Body.TheVariants as body
+use Rattle.kc_asm_outline.specs.declared.size_record.SizeRecord.{SizeRecord}
+use Rattle.kc_asm_outline.specs.StatementSizes.{statement_sizes, opens}
 use Rattle.kc_asm_outline.specs.Numbered.{IsNumbered}
 
 -- how far a statement goes on in a form
@@ -24,22 +24,22 @@ extent_in form body.Even = extent.Even
 extent_in form (body.Branch kind anchor) = extent.Bytes (branch_length kind form)
 
 -- what a note says of a statement, with what names mean there
-pub record IsNoteOf (n : Note) (all before : List Located) (l : Located) : Type 0 where
+pub record IsSizeRecordOf (n : SizeRecord) (all before : List Located) (l : Located) : Type 0 where
   pub segment : n.segment ≡ l.segment
   pub alignment : n.alignment ≡ alignment l.segment.kind l.action
   pub extent : (form : Form) → counted (extent_of (content (meaning all before l) form l.here l.action)) ≡ extent_in form n.body
   pub opens : n.opens ≡ opens (meaning all before l) l.action
 
 -- whatever places are chosen
-abbrev pub OutlinesStay : Type 0
-OutlinesStay =
+abbrev pub SizesStay : Type 0
+SizesStay =
     (stmts : List Stmt) (places : ℕ → ℕ) (before after : List Located) (l : Located)
     → located places stmts ≡ reverse before ++ l ∷ after
-    → (n : Note) → slice_get (outline stmts) (length before) ≡ Some n
-    → IsNoteOf n (located places stmts) before l
+    → (n : SizeRecord) → slice_get (statement_sizes stmts) (length before) ≡ Some n
+    → IsSizeRecordOf n (located places stmts) before l
 
-abbrev pub OutlinesHaveLengths : Type 0
-OutlinesHaveLengths = (stmts : List Stmt) → length (outline stmts) ≡ length stmts
+abbrev pub SizesHaveLengths : Type 0
+SizesHaveLengths = (stmts : List Stmt) → length (statement_sizes stmts) ≡ length stmts
 
-abbrev pub OutlinesAreNumbered : Type 0
-OutlinesAreNumbered = (stmts : List Stmt) → IsNumbered (outline stmts)
+abbrev pub SizesAreNumbered : Type 0
+SizesAreNumbered = (stmts : List Stmt) → IsNumbered (statement_sizes stmts)

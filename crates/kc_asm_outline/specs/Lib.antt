@@ -1,4 +1,4 @@
-pub mod Outline
+pub mod StatementSizes
 pub mod Numbered
 pub mod Bounds
 pub mod Laws

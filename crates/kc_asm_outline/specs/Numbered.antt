@@ -5,7 +5,7 @@ use Rattle.std.specs.Prelude.{◌≡◌, ℕ, ◌+◌, Bool, true, ◌&&◌, ◌
 use Rattle.kc_obj_module.specs.Pieces.{kind_number}
 use Rattle.kc_asm_symbols.specs.declared.segments.Segment.{Segment}
 use Rattle.kc_asm_symbols.specs.Located.{first_segment, is_absolute}
-use Rattle.kc_asm_outline.specs.declared.note.Note.{Note}
+use Rattle.kc_asm_outline.specs.declared.size_record.SizeRecord.{SizeRecord}
 
 abbrev pub is_code : Segment → Bool
 is_code g = kind_number g.kind == 1
@@ -24,13 +24,13 @@ may_follow g None h = (is_same_piece g h || is_relocatable h) && (h.count == g.c
 may_follow g (Some address) h = (h.piece == g.count) && (h.count == g.count + 1)
 
 -- a place in code has to be divisible by 1 or 2
-abbrev pub aligns_well : Note → Bool
+abbrev pub aligns_well : SizeRecord → Bool
 aligns_well n = if is_code n.segment then (n.alignment == 1) || (n.alignment == 2) else true
 
-unfoldable pub numbered_after : Segment → Option ℕ → List Note → Bool
+unfoldable pub numbered_after : Segment → Option ℕ → List SizeRecord → Bool
 numbered_after g opens [] = true
 numbered_after g opens (n ∷ ns) = may_follow g opens n.segment && aligns_well n && numbered_after n.segment n.opens ns
 
 -- a module begins in its relocatable code
-abbrev pub IsNumbered : List Note → Type 0
+abbrev pub IsNumbered : List SizeRecord → Type 0
 IsNumbered ns = numbered_after first_segment None ns ≡ true

@@ -2,9 +2,9 @@ ghost use Rattle.std.specs.Prelude.{◌≡◌, map};
 ghost use Rattle.std.specs.Option.{option_map};
 ghost use Rattle.kc_expr.specs.Tree.{tree_of};
 ghost use Rattle.kc_source_statement.specs.Trees.{arg_tree, action_tree};
-ghost use Rattle.kc_asm_outline.specs.Outline as spec;
+ghost use Rattle.kc_asm_outline.specs.StatementSizes as spec;
 
-use crate::note::Anchor;
+use crate::size_record::Anchor;
 use kc_asm_emission::fixed_of;
 use kc_expr::{Base, Expr, NoValue, Scope, Value, value_over};
 use kc_source_statement::{Action, Arg};
@@ -33,7 +33,7 @@ fn anchor_in(answer: Result<Value, NoValue>) -> Anchor
 
 /// The target of a generic branch: the last operand, where it is plain. (MCS-96 Macro Assembler User's Guide, "Generic
 /// Branches".)
-#[tactic(auto, unfolding(crate::specs::Outline::target))]
+#[tactic(auto, unfolding(crate::specs::StatementSizes::target))]
 pub fn target(args: &[Arg]) -> Option<&Expr>
     ensures { option_map (λ e. tree_of e.now) result ≡ spec.target (map arg_tree args.now) }
 {

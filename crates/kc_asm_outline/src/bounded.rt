@@ -3,42 +3,42 @@
 ghost use Rattle.std.specs.Prelude.{◌≡◌};
 ghost use Rattle.kc_asm_outline.specs.Bounds.{AreBounded};
 
-use crate::note::Note;
+use crate::size_record::SizeRecord;
 use std::marker::Model;
 
 /// The outline of a module: a note for each of its statements, of which there are at most 65,536. The place of a statement is
 /// divisible by 4 at most, a statement goes on by at most 16,777,215 bytes, and the numbers of pieces are below 131,072.
 #[derive(Drop)]
-pub struct ModuleOutline {
-    notes: Vec<Note>,
+pub struct ModuleSizes {
+    size_records: Vec<SizeRecord>,
 }
 
-impl Model for ModuleOutline {
+impl Model for ModuleSizes {
     ghost use Rattle.std.specs.Prelude.{List};
-    ghost use Rattle.kc_asm_outline.specs.declared.note.Note.{Note as NoteOf};
+    ghost use Rattle.kc_asm_outline.specs.declared.size_record.SizeRecord.{SizeRecord as SizeRecordOf};
     ghost use Rattle.kc_asm_outline.specs.Bounds.{AreBounded};
 
-    ghost Value = { List NoteOf };
+    ghost Value = { List SizeRecordOf };
 
-    ghost invariant = { λ o. AreBounded o.notes.items };
+    ghost invariant = { λ o. AreBounded o.size_records.items };
 
-    ghost view = { λ o. o.notes.items };
+    ghost view = { λ o. o.size_records.items };
 }
 
-impl ModuleOutline {
+impl ModuleSizes {
     /// The outline that has these notes.
-    pub(crate) fn of(notes: Vec<Note>) -> ModuleOutline
-        requires { AreBounded notes.items }
-        ensures { result ≡ notes.items }
+    pub(crate) fn of(size_records: Vec<SizeRecord>) -> ModuleSizes
+        requires { AreBounded size_records.items }
+        ensures { result ≡ size_records.items }
     {
-        ModuleOutline { notes }
+        ModuleSizes { size_records }
     }
 
     /// The note of each statement.
-    pub fn notes(&self) -> &[Note]
+    pub fn size_records(&self) -> &[SizeRecord]
         ensures value { result.now ≡ self.now }
         ensures bounded { AreBounded self.now }
     {
-        self.notes.as_slice()
+        self.size_records.as_slice()
     }
 }

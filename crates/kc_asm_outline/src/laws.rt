@@ -1,4 +1,4 @@
-ghost use Rattle.kc_asm_outline.specs.Laws.{OutlinesAreNumbered, OutlinesHaveLengths, OutlinesStay};
+ghost use Rattle.kc_asm_outline.specs.Laws.{SizesAreNumbered, SizesHaveLengths, SizesStay};
 
 use kc_asm_emission::extents_stay;
 use kc_asm_encoding::laws::branches_have_lengths;
@@ -6,8 +6,8 @@ use kc_asm_symbols::meanings_are_alike;
 
 /// Whatever places are chosen, the note of a statement has its segment, what its place is divisible by, how far it goes on
 /// in each form, and the address of the absolute piece that it opens.
-pub fn outlines_stay()
-    ensures { OutlinesStay }
+pub fn sizes_stay()
+    ensures { SizesStay }
 {
     meanings_are_alike();
     extents_stay();
@@ -15,12 +15,12 @@ pub fn outlines_stay()
 }
 
 /// An outline has a note for each statement.
-pub fn outlines_have_lengths()
-    ensures { OutlinesHaveLengths }
+pub fn sizes_have_lengths()
+    ensures { SizesHaveLengths }
 {}
 
 /// The pieces of an outline are numbered as they are opened, a segment is in force until another one is opened, and in code
 /// places are divisible by 1 or 2.
-pub fn outlines_are_numbered()
-    ensures { OutlinesAreNumbered }
+pub fn sizes_are_numbered()
+    ensures { SizesAreNumbered }
 {}

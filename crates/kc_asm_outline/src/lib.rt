@@ -4,12 +4,12 @@
 mod anchors;
 mod bounded;
 mod laws;
-mod note;
-mod notes;
+mod size_record;
+mod size_records;
 mod walk;
 
 pub use anchors::{opens, target};
-pub use bounded::ModuleOutline;
-pub use laws::{outlines_are_numbered, outlines_have_lengths, outlines_stay};
-pub use note::{Anchor, Body, Note};
-pub use walk::outline;
+pub use bounded::ModuleSizes;
+pub use laws::{sizes_are_numbered, sizes_have_lengths, sizes_stay};
+pub use size_record::{Anchor, Body, SizeRecord};
+pub use walk::statement_sizes;

@@ -2,9 +2,9 @@
 use Rattle.std.proofs.Common.{◌≡◌, ℕ, ◌+◌, ◌<◌, ◌≤◌, Bool, true, false, ◌&&◌, leb, List, [], ◌∷◌, ◌++◌, map, refl, ap, arith}
 use Rattle.std.proofs.lemmas.Bool.{and_parts}
 use Rattle.std.proofs.lemmas.Bool.Decides.{nat_tests}
-use Rattle.kc_asm_piece.specs.declared.part.Cell.{Cell}
+use Rattle.kc_asm_piece.specs.declared.part.PlacedByte.{PlacedByte}
 use Rattle.kc_asm_piece.specs.declared.part.Mark.{Mark}
-use Rattle.kc_asm_piece.specs.Tape.{rise, cell_offsets, mark_offsets}
+use Rattle.kc_asm_piece.specs.Section.{rise, placed_byte_offsets, mark_offsets}
 
 le_then : (a b c : ℕ) → leb a b ≡ true → b ≤ c → leb a c ≡ true
 le_then a b c h le = grind (arith, nat_tests)
@@ -36,30 +36,30 @@ map_push : {A B : Type 0} (f : A → B) (xs : List A) (x : A) → map f (xs ++ x
 map_push f [] x = refl
 map_push f (y ∷ ys) x = ap (λ zs. f y ∷ zs) (map_push f ys x)
 
-module _ (size : ℕ) (cells : List Cell) (marks : List Mark) (is : (leb size 65536 && rise 0 (cell_offsets cells) size && rise 0 (mark_offsets marks) size) ≡ true) where
-  abbrev front : Bool
-  front = leb size 65536 && rise 0 (cell_offsets cells) size
+module _ (size : ℕ) (placed_bytes : List PlacedByte) (marks : List Mark) (is : (leb size 65536 && rise 0 (placed_byte_offsets placed_bytes) size && rise 0 (mark_offsets marks) size) ≡ true) where
+  abbrev prefix : Bool
+  prefix = leb size 65536 && rise 0 (placed_byte_offsets placed_bytes) size
 
-  abbrev parts : (front ≡ true) × (rise 0 (mark_offsets marks) size ≡ true)
-  parts = and_parts front (rise 0 (mark_offsets marks) size) is
+  abbrev parts : (prefix ≡ true) × (rise 0 (mark_offsets marks) size ≡ true)
+  parts = and_parts prefix (rise 0 (mark_offsets marks) size) is
 
-  abbrev rising : (rise 0 (cell_offsets cells) size ≡ true) × (rise 0 (mark_offsets marks) size ≡ true)
-  rising = ((and_parts (leb size 65536) (rise 0 (cell_offsets cells) size) parts.0).1, parts.1)
+  abbrev rising : (rise 0 (placed_byte_offsets placed_bytes) size ≡ true) × (rise 0 (mark_offsets marks) size ≡ true)
+  rising = ((and_parts (leb size 65536) (rise 0 (placed_byte_offsets placed_bytes) size) parts.0).1, parts.1)
 
-  cells_push : (c : Cell) → c.offset ≡ size → rise 0 (cell_offsets (cells ++ c ∷ [])) (size + 1) ≡ true
-  cells_push c e = rw (map_push (λ (x : Cell). x.offset) cells c, e) (rise_push 0 (cell_offsets cells) size rising.0)
+  placed_bytes_push : (c : PlacedByte) → c.offset ≡ size → rise 0 (placed_byte_offsets (placed_bytes ++ c ∷ [])) (size + 1) ≡ true
+  placed_bytes_push c e = rw (map_push (λ (x : PlacedByte). x.offset) placed_bytes c, e) (rise_push 0 (placed_byte_offsets placed_bytes) size rising.0)
 
   marks_push : (m : Mark) → m.offset ≡ size → rise 0 (mark_offsets (marks ++ m ∷ [])) (size + 1) ≡ true
   marks_push m e = rw (map_push (λ (x : Mark). x.offset) marks m, e) (rise_push 0 (mark_offsets marks) size rising.1)
 
   -- room is left
-  pub tape_skipped : (count : ℕ) → size + count ≤ 65536 → (leb (size + count) 65536 && rise 0 (cell_offsets cells) (size + count) && rise 0 (mark_offsets marks) (size + count)) ≡ true
-  tape_skipped count le = three _ _ _ (le_room size count le) (rise_more 0 (cell_offsets cells) size (size + count) (omega arith) rising.0) (rise_more 0 (mark_offsets marks) size (size + count) (omega arith) rising.1)
+  pub section_skipped : (count : ℕ) → size + count ≤ 65536 → (leb (size + count) 65536 && rise 0 (placed_byte_offsets placed_bytes) (size + count) && rise 0 (mark_offsets marks) (size + count)) ≡ true
+  section_skipped count le = three _ _ _ (le_room size count le) (rise_more 0 (placed_byte_offsets placed_bytes) size (size + count) (omega arith) rising.0) (rise_more 0 (mark_offsets marks) size (size + count) (omega arith) rising.1)
 
   -- one more octet
-  pub tape_put : (c : Cell) → size < 65536 → c.offset ≡ size → (leb (size + 1) 65536 && rise 0 (cell_offsets (cells ++ c ∷ [])) (size + 1) && rise 0 (mark_offsets marks) (size + 1)) ≡ true
-  tape_put c lt e = three _ _ _ (le_room size 1 (omega arith)) (cells_push c e) (rise_more 0 (mark_offsets marks) size (size + 1) (omega arith) rising.1)
+  pub section_put : (c : PlacedByte) → size < 65536 → c.offset ≡ size → (leb (size + 1) 65536 && rise 0 (placed_byte_offsets (placed_bytes ++ c ∷ [])) (size + 1) && rise 0 (mark_offsets marks) (size + 1)) ≡ true
+  section_put c lt e = three _ _ _ (le_room size 1 (omega arith)) (placed_bytes_push c e) (rise_more 0 (mark_offsets marks) size (size + 1) (omega arith) rising.1)
 
   -- one more octet, of a new statement
-  pub tape_begun : (c : Cell) (m : Mark) → size < 65536 → c.offset ≡ size → m.offset ≡ size → (leb (size + 1) 65536 && rise 0 (cell_offsets (cells ++ c ∷ [])) (size + 1) && rise 0 (mark_offsets (marks ++ m ∷ [])) (size + 1)) ≡ true
-  tape_begun c m lt e d = three _ _ _ (le_room size 1 (omega arith)) (cells_push c e) (marks_push m d)
+  pub section_begun : (c : PlacedByte) (m : Mark) → size < 65536 → c.offset ≡ size → m.offset ≡ size → (leb (size + 1) 65536 && rise 0 (placed_byte_offsets (placed_bytes ++ c ∷ [])) (size + 1) && rise 0 (mark_offsets (marks ++ m ∷ [])) (size + 1)) ≡ true
+  section_begun c m lt e d = three _ _ _ (le_room size 1 (omega arith)) (placed_bytes_push c e) (marks_push m d)

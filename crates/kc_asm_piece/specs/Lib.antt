@@ -1,2 +1,2 @@
-pub mod Tape
+pub mod Section
 pub mod Writing

@@ -2,10 +2,10 @@
 //! lines of the source it comes.
 #![tactic(auto)]
 
-mod draft;
 mod laws;
 mod part;
+mod unlinked;
 
-pub use draft::{Draft, Public};
 pub use laws::{put_stands, written_stands};
-pub use part::{Cell, Mark, Part};
+pub use part::{Mark, Part, PlacedByte};
+pub use unlinked::{Public, UnlinkedModule};

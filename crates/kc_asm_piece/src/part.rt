@@ -1,7 +1,7 @@
 ghost use Rattle.std.specs.Prelude.{◌≡◌, ◌+◌, ◌≤◌, ◌<◌, true, length, OnOk, OnErr};
-ghost use Rattle.kc_asm_piece.specs.Tape as tape;
+ghost use Rattle.kc_asm_piece.specs.Section as section;
 
-use kc_asm_bytes::Octet;
+use kc_asm_bytes::RelocatableByte;
 use kc_base::NoMemory;
 use kc_obj_module::SegKind;
 use std::alloc::Global;
@@ -9,9 +9,9 @@ use std::marker::Model;
 
 /// What stands at an offset of a part.
 #[derive(Clone, Copy)]
-pub struct Cell {
+pub struct PlacedByte {
     pub offset: u16,
-    pub octet: Octet,
+    pub relocatable_byte: RelocatableByte,
 }
 
 /// The offset where the octets of the statement on a line begin.
@@ -28,31 +28,31 @@ pub struct Part {
     kind: SegKind,
     at: Option<u16>,
     size: u32,
-    cells: Vec<Cell>,
+    placed_bytes: Vec<PlacedByte>,
     marks: Vec<Mark>,
 }
 
 impl Model for Part {
     ghost use Rattle.std.specs.Prelude.{◌≡◌, true};
-    ghost use Rattle.kc_asm_piece.specs.Tape.{Tape, tape_of, is_tape};
+    ghost use Rattle.kc_asm_piece.specs.Section.{Section, section_of, is_section};
 
-    ghost Value = { Tape };
+    ghost Value = { Section };
 
-    ghost invariant = { λ p. is_tape (tape_of p.kind p.at p.size p.cells.items p.marks.items) ≡ true };
+    ghost invariant = { λ p. is_section (section_of p.kind p.at p.size p.placed_bytes.items p.marks.items) ≡ true };
 
-    ghost view = { λ p. tape_of p.kind p.at p.size p.cells.items p.marks.items };
+    ghost view = { λ p. section_of p.kind p.at p.size p.placed_bytes.items p.marks.items };
 }
 
 impl Part {
     /// An empty piece of a kind, absolute at an address or relocatable.
     pub fn new(alloc: Global, kind: SegKind, at: Option<u16>) -> Part
-        ensures { result ≡ tape.blank kind at }
+        ensures { result ≡ section.blank kind at }
     {
         Part {
             kind,
             at,
             size: 0,
-            cells: Vec::new(alloc),
+            placed_bytes: Vec::new(alloc),
             marks: Vec::new(alloc),
         }
     }
@@ -74,35 +74,38 @@ impl Part {
     /// The length in bytes, at most 65536.
     pub fn length(&self) -> u32
         ensures length { result ≡ self.now.length }
-        ensures tape { tape.is_tape self.now ≡ true }
+        ensures section { section.is_section self.now ≡ true }
     {
         self.size
     }
 
     /// What stands in the piece, by rising offset.
-    pub fn cells(&self) -> &[Cell]
-        ensures cells { result.now ≡ self.now.cells }
-        ensures tape { tape.is_tape self.now ≡ true }
+    pub fn placed_bytes(&self) -> &[PlacedByte]
+        ensures placed_bytes { result.now ≡ self.now.placed_bytes }
+        ensures section { section.is_section self.now ≡ true }
     {
-        self.cells.as_slice()
+        self.placed_bytes.as_slice()
     }
 
     /// Where the statements begin, by rising offset.
     pub fn marks(&self) -> &[Mark]
         ensures marks { result.now ≡ self.now.marks }
-        ensures tape { tape.is_tape self.now ≡ true }
+        ensures section { section.is_section self.now ≡ true }
     {
         self.marks.as_slice()
     }
 
     /// Puts an octet at the end. A refusal changes nothing.
-    pub fn push(&mut self, octet: Octet) -> Result<(), NoMemory>
+    pub fn push(&mut self, relocatable_byte: RelocatableByte) -> Result<(), NoMemory>
         requires { self.old.length < 65536 }
-        ensures ok { OnOk result (self.new ≡ tape.put octet self.old) }
+        ensures ok { OnOk result (self.new ≡ section.put relocatable_byte self.old) }
         ensures err { OnErr result (self.new ≡ self.old) }
     {
         let offset = self.size as u16;
-        self.cells.push(Cell { offset, octet })?;
+        self.placed_bytes.push(PlacedByte {
+            offset,
+            relocatable_byte,
+        })?;
         self.size += 1;
         Ok(())
     }
@@ -110,30 +113,33 @@ impl Part {
     /// Leaves out some bytes at the end: they are reserved or passed over.
     pub fn skip(&mut self, count: u32)
         requires { self.old.length + count ≤ 65536 }
-        ensures { self.new ≡ tape.skipped count self.old }
+        ensures { self.new ≡ section.skipped count self.old }
     {
         self.size += count;
     }
 
     // Puts the first octet of a statement at the end.
-    fn begin(&mut self, line: u32, octet: Octet) -> Result<(), NoMemory>
+    fn begin(&mut self, line: u32, relocatable_byte: RelocatableByte) -> Result<(), NoMemory>
         requires { self.old.length < 65536 }
-        ensures { OnOk result (self.new ≡ tape.begun line octet self.old) }
+        ensures { OnOk result (self.new ≡ section.begun line relocatable_byte self.old) }
     {
         let offset = self.size as u16;
-        self.cells.push(Cell { offset, octet })?;
+        self.placed_bytes.push(PlacedByte {
+            offset,
+            relocatable_byte,
+        })?;
         self.size += 1;
         self.marks.push(Mark { offset, line })?;
         Ok(())
     }
 
     // Puts octets at the end.
-    #[tactic(auto, unfolding(crate::specs::Tape::laid))]
-    fn append(&mut self, octets: &[Octet]) -> Result<(), NoMemory>
-        requires { self.old.length + length octets.now ≤ 65536 }
-        ensures { OnOk result (self.new ≡ tape.laid octets.now self.old) }
+    #[tactic(auto, unfolding(crate::specs::Section::laid))]
+    fn append(&mut self, relocatable_bytes: &[RelocatableByte]) -> Result<(), NoMemory>
+        requires { self.old.length + length relocatable_bytes.now ≤ 65536 }
+        ensures { OnOk result (self.new ≡ section.laid relocatable_bytes.now self.old) }
     {
-        let mut left = octets;
+        let mut left = relocatable_bytes;
         while let [first, rest @ ..] = left {
             self.push(*first)?;
             left = rest;
@@ -143,11 +149,15 @@ impl Part {
 
     /// Puts the octets of the statement on a line at the end: the line is marked where there is at least one. After
     /// a refusal some of them may stand.
-    pub fn write(&mut self, line: u32, octets: &[Octet]) -> Result<(), NoMemory>
-        requires { self.old.length + length octets.now ≤ 65536 }
-        ensures { OnOk result (self.new ≡ tape.written line octets.now self.old) }
+    pub fn write(
+        &mut self,
+        line: u32,
+        relocatable_bytes: &[RelocatableByte],
+    ) -> Result<(), NoMemory>
+        requires { self.old.length + length relocatable_bytes.now ≤ 65536 }
+        ensures { OnOk result (self.new ≡ section.written line relocatable_bytes.now self.old) }
     {
-        match octets {
+        match relocatable_bytes {
             [] => Ok(()),
             [first, rest @ ..] => {
                 self.begin(line, *first)?;

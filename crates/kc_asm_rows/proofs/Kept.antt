@@ -11,8 +11,8 @@ use Rattle.kc_obj_module.specs.Rules.{is_module, segments_are_sound, externals_a
 
 last_two : (rest contents fixups lines : Bool) → (rest && contents && fixups && lines) ≡ true → (contents ≡ true) × (fixups ≡ true)
 last_two rest contents fixups lines h =
-    let front = (and_parts (rest && contents && fixups) lines h).0 in
-    let parts = and_parts (rest && contents) fixups front in
+    let prefix = (and_parts (rest && contents && fixups) lines h).0 in
+    let parts = and_parts (rest && contents) fixups prefix in
     ((and_parts rest contents parts.0).1, parts.1)
 
 both_parts : (m : Object) → is_module m ≡ true → (contents_are_sound m.segments m.contents ≡ true) × (fixups_are_sound m.segments m.externals m.contents m.fixups ≡ true)

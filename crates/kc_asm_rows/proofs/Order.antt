@@ -22,9 +22,9 @@ none line from (s ∷ ss) lt rises =
     let off : is_on line s ≡ false = grind (arith, nat_tests, lt, rises.0) in
     rw off (none line s.line ss (omega (arith, lt, rises.0)) rises.1)
 
-pub front : (line : ℕ) (ss : List Spot) → Rises line ss → take (prefix_len (is_on line) ss) ss ≡ filter (is_on line) ss
-front line [] rises = refl
-front line (s ∷ ss) rises = by (front line ss (sooner s.line line ss rises.0 rises.1)) (is_on line s) refl
+pub prefix : (line : ℕ) (ss : List Spot) → Rises line ss → take (prefix_len (is_on line) ss) ss ≡ filter (is_on line) ss
+prefix line [] rises = refl
+prefix line (s ∷ ss) rises = by (prefix line ss (sooner s.line line ss rises.0 rises.1)) (is_on line s) refl
   where
     by : take (prefix_len (is_on line) ss) ss ≡ filter (is_on line) ss → (b : Bool) → is_on line s ≡ b → take (prefix_len (is_on line) (s ∷ ss)) (s ∷ ss) ≡ filter (is_on line) (s ∷ ss)
     by rest true is =

@@ -4,12 +4,12 @@ use Rattle.std.proofs.lemmas.List.{append-nil}
 use Rattle.std.specs.List.{filter}
 use Rattle.kc_obj_module.specs.Object.{Object}
 use Rattle.kc_asm_rows.specs.declared.spot.Spot.{Spot}
-use Rattle.kc_asm_rows.specs.Octets.{octet_text}
+use Rattle.kc_asm_rows.specs.RelocatableBytes.{relocatable_text}
 use Rattle.kc_base.specs.TextLines.{text_lines}
 use Rattle.kc_asm_rows.specs.Rows.{bytes_text, turn, column_after, is_on, line_text, lines_text}
 
 pub one_more : (m : Object) (s : Spot) (column place n : ℕ) → 0 < n
-    → bytes_text m s column place n ≡ turn s column place ++ octet_text m s place ++ bytes_text m s (column_after column) (place + 1) (n - 1)
+    → bytes_text m s column place n ≡ turn s column place ++ relocatable_text m s place ++ bytes_text m s (column_after column) (place + 1) (n - 1)
 unfolding bytes_text
 one_more m s column place zero lt = absurd (omega (arith, lt))
 one_more m s column place (suc n) lt =

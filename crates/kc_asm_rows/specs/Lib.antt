@@ -1,3 +1,3 @@
-pub mod Octets
+pub mod RelocatableBytes
 pub mod Rows
 pub mod Order

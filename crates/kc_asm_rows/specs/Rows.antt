@@ -8,7 +8,7 @@ use Rattle.kc_obj_module.specs.declared.parts.SegKind.{SegKind}
 use Rattle.kc_obj_module.specs.declared.parts.SegKind.TheVariants.{Reg, Code, Ram, Stack}
 use Rattle.kc_obj_module.specs.Object.{Object}
 use Rattle.kc_asm_rows.specs.declared.spot.Spot.{Spot}
-use Rattle.kc_asm_rows.specs.Octets.{octet_text, told}
+use Rattle.kc_asm_rows.specs.RelocatableBytes.{relocatable_text, reported}
 
 -- ---- the front of a row
 
@@ -33,13 +33,13 @@ depth_text zero = 32 ∷ 32 ∷ []
 depth_text (suc n) = 43 ∷ decimal (suc n)
 
 -- the line, the depth, the kind of the piece, and a place
-abbrev pub front : Spot → ℕ → List ℕ
-front s place = number_text s.line ++ 32 ∷ depth_text s.depth ++ 32 ∷ letter s.kind ∷ tick s.at ∷ hex 4 place
+abbrev pub prefix : Spot → ℕ → List ℕ
+prefix s place = number_text s.line ++ 32 ∷ depth_text s.depth ++ 32 ∷ letter s.kind ∷ tick s.at ∷ hex 4 place
 
 -- ---- bytes, eight in a row
 
 abbrev pub turn : Spot → ℕ → ℕ → List ℕ
-turn s column place = if column == 8 then 10 ∷ front s place else []
+turn s column place = if column == 8 then 10 ∷ prefix s place else []
 
 abbrev pub column_after : ℕ → ℕ
 column_after column = if column == 8 then 1 else column + 1
@@ -47,20 +47,20 @@ column_after column = if column == 8 then 1 else column + 1
 -- so many bytes from a place on, behind others in the row
 unfoldable pub bytes_text : Object → Spot → ℕ → ℕ → ℕ → List ℕ
 bytes_text m s column place zero = []
-bytes_text m s column place (suc n) = turn s column place ++ octet_text m s place ++ bytes_text m s (column_after column) (place + 1) n
+bytes_text m s column place (suc n) = turn s column place ++ relocatable_text m s place ++ bytes_text m s (column_after column) (place + 1) n
 
 -- bytes that lead on to the place of a statement, in rows before its own
 abbrev pub filling_rows : Object → Spot → ℕ → List ℕ
 filling_rows m s zero = []
-filling_rows m s (suc n) = front s s.before ++ bytes_text m s 0 s.before (suc n) ++ 10 ∷ []
+filling_rows m s (suc n) = prefix s s.before ++ bytes_text m s 0 s.before (suc n) ++ 10 ∷ []
 
 abbrev pub filling_text : Object → Spot → List ℕ
-filling_text m s = filling_rows m s (told m s s.before s.place)
+filling_text m s = filling_rows m s (reported m s s.before s.place)
 
 -- ---- a statement: its place is told where it has a label or takes up room
 
-abbrev pub is_told : Spot → Bool
-is_told s = s.labelled || nat_lt s.before s.after
+abbrev pub is_reported : Spot → Bool
+is_reported s = s.labelled || nat_lt s.before s.after
 
 -- the text of a line stands from column 42 on
 abbrev pub beside : List ℕ → List ℕ → List ℕ
@@ -73,16 +73,16 @@ bare_text line words = beside (number_text line) words ++ 10 ∷ []
 -- the statement that the line itself is: the first eight bytes stand beside the text
 abbrev pub own_rows : Object → Spot → List ℕ → ℕ → List ℕ
 own_rows m s words n =
-    beside (front s s.place ++ bytes_text m s 0 s.place (min 8 n)) words ++ bytes_text m s 8 (s.place + 8) (n - 8) ++ 10 ∷ []
+    beside (prefix s s.place ++ bytes_text m s 0 s.place (min 8 n)) words ++ bytes_text m s 8 (s.place + 8) (n - 8) ++ 10 ∷ []
 
 abbrev pub own_text : Object → List ℕ → Spot → List ℕ
 own_text m words s =
-    if is_told s then filling_text m s ++ own_rows m s words (told m s s.place s.after) else bare_text s.line words
+    if is_reported s then filling_text m s ++ own_rows m s words (reported m s s.place s.after) else bare_text s.line words
 
 -- a statement that an expansion makes of the line
 abbrev pub made_text : Object → Spot → List ℕ
 made_text m s =
-    if is_told s then filling_text m s ++ front s s.place ++ bytes_text m s 0 s.place (told m s s.place s.after) ++ 10 ∷ [] else []
+    if is_reported s then filling_text m s ++ prefix s s.place ++ bytes_text m s 0 s.place (reported m s s.place s.after) ++ 10 ∷ [] else []
 
 -- ---- a line, with the statements that come out of it: the line itself, or the label before a call, comes out first
 

@@ -3,8 +3,8 @@
 ghost use Rattle.std.specs.Prelude.{◌≡◌, ◌++◌, ◌+◌, ◌<◌, ◌^◌, OnOk};
 ghost use Rattle.kc_asm_rows.specs.Rows as spec;
 
-use crate::fields::put_front;
-use crate::octets::{put_octet, told};
+use crate::fields::put_prefix;
+use crate::relocatable_bytes::{put_relocatable, reported};
 use crate::spot::Spot;
 use kc_base::NoMemory;
 use kc_obj_module::Module;
@@ -18,7 +18,7 @@ fn put_turn(text: &mut Vec<u8>, spot: &Spot, column: u8, place: u64) -> Result<(
 {
     if column == IN_A_ROW {
         text.push(b'\n')?;
-        put_front(text, spot, place)
+        put_prefix(text, spot, place)
     } else {
         Ok(())
     }
@@ -51,7 +51,7 @@ pub(crate) fn put_bytes(
     let mut left = count;
     while left > 0 {
         put_turn(text, spot, column, at)?;
-        put_octet(text, object, spot, at)?;
+        put_relocatable(text, object, spot, at)?;
         column = column_after(column);
         at += 1;
         left -= 1;
@@ -63,11 +63,11 @@ pub(crate) fn put_bytes(
 pub(crate) fn put_filling(text: &mut Vec<u8>, object: &Module, spot: &Spot) -> Result<(), NoMemory>
     ensures { OnOk result (text.new.items ≡ text.old.items ++ spec.filling_text object.now spot.now) }
 {
-    let count = told(object, spot, spot.before, spot.place);
+    let count = reported(object, spot, spot.before, spot.place);
     if count == 0 {
         return Ok(());
     }
-    put_front(text, spot, spot.before)?;
+    put_prefix(text, spot, spot.before)?;
     put_bytes(text, object, spot, 0, spot.before, count)?;
     text.push(b'\n')?;
     Ok(())

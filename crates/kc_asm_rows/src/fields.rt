@@ -79,8 +79,8 @@ fn put_depth(text: &mut Vec<u8>, depth: usize) -> Result<(), NoMemory>
 }
 
 /// Puts the front of a row behind a text: the line and the depth of a statement, the kind of its piece, and a place.
-pub(crate) fn put_front(text: &mut Vec<u8>, spot: &Spot, place: u64) -> Result<(), NoMemory>
-    ensures { OnOk result (text.new.items ≡ text.old.items ++ spec.front spot.now place) }
+pub(crate) fn put_prefix(text: &mut Vec<u8>, spot: &Spot, place: u64) -> Result<(), NoMemory>
+    ensures { OnOk result (text.new.items ≡ text.old.items ++ spec.prefix spot.now place) }
 {
     put_number(text, spot.line)?;
     text.push(b' ')?;

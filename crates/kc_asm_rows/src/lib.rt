@@ -4,8 +4,8 @@
 mod bytes;
 mod fields;
 mod listing;
-mod octets;
 mod pieces;
+mod relocatable_bytes;
 mod spot;
 mod statements;
 

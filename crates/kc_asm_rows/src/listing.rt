@@ -8,7 +8,7 @@ ghost use Rattle.kc_asm_rows.specs.Rows as spec;
 
 use crate::spot::Spot;
 use crate::statements::{put_all_made, put_bare, put_own};
-use kc_base::{NoMemory, after, first_line, front};
+use kc_base::{NoMemory, after, first_line, prefix};
 use kc_obj_module::Module;
 use std::alloc::Global;
 
@@ -37,7 +37,7 @@ fn put_line(
     }
 }
 
-fn front_count(spots: &[Spot], line: u32) -> usize
+fn prefix_count(spots: &[Spot], line: u32) -> usize
     ensures value { result ≡ prefix_len (spec.is_on line) spots.now }
     ensures within { result ≤ length spots.now }
 {
@@ -52,7 +52,7 @@ fn count_on(spots: &[Spot], line: u32) -> usize
     ensures later { Rises (line + 1) (drop result spots.now) }
     ensures others { (n : ℕ) → line < n → filter (spec.is_on n) (drop result spots.now) ≡ filter (spec.is_on n) spots.now }
 {
-    front_count(spots, line)
+    prefix_count(spots, line)
 }
 
 // The statements by rising line, those of a line in their order.
@@ -84,7 +84,7 @@ fn rows_of(
         let (len, used) = first_line(rest);
         let count = count_on(later, line);
         let (own, others) = later.split_at(count);
-        put_line(alloc, &mut text, object, line, front(rest, len), own)?;
+        put_line(alloc, &mut text, object, line, prefix(rest, len), own)?;
         later = others;
         rest = after(rest, used);
         line += 1;

@@ -3,7 +3,7 @@
 ghost use Rattle.std.specs.Prelude.{◌≡◌, ◌≤◌, length};
 ghost use Rattle.std.specs.List.{prefix_len};
 ghost use Rattle.kc_obj_module.specs.Pieces as pieces;
-ghost use Rattle.kc_asm_rows.specs.Octets as spec;
+ghost use Rattle.kc_asm_rows.specs.RelocatableBytes as spec;
 
 use crate::spot::Spot;
 use kc_obj_module::pieces::number_of as kind_number;
@@ -21,7 +21,7 @@ fn is_of_kind(kind: SegKind, segment: Segment) -> bool
     is_relocatable(segment) && kind_number(segment.kind) == kind_number(kind)
 }
 
-#[tactic(auto, unfolding(crate::specs::Octets::number_of))]
+#[tactic(auto, unfolding(crate::specs::RelocatableBytes::number_of))]
 fn number_of(kind: SegKind, segments: &[Segment]) -> usize
     ensures { result ≡ spec.number_of kind segments.now }
 {

@@ -1,12 +1,12 @@
 //! The rows of statements.
 
 ghost use Rattle.std.specs.Prelude.{◌≡◌, ◌++◌, ◌+◌, ◌-◌, ◌<◌, ◌^◌, OnOk};
-ghost use Rattle.kc_asm_rows.specs.Octets.{told};
+ghost use Rattle.kc_asm_rows.specs.RelocatableBytes.{reported};
 ghost use Rattle.kc_asm_rows.specs.Rows as spec;
 
 use crate::bytes::{put_bytes, put_filling};
-use crate::fields::{put_blanks, put_front, put_number};
-use crate::octets::told;
+use crate::fields::{put_blanks, put_number, put_prefix};
+use crate::relocatable_bytes::reported;
 use crate::spot::Spot;
 use kc_base::NoMemory;
 use kc_obj_module::Module;
@@ -15,8 +15,8 @@ use std::alloc::Global;
 /// The column at which the text of a line begins.
 const TEXT_COLUMN: usize = 42;
 
-fn is_told(spot: &Spot) -> bool
-    ensures { result ≡ spec.is_told spot.now }
+fn is_reported(spot: &Spot) -> bool
+    ensures { result ≡ spec.is_reported spot.now }
 {
     spot.labelled || spot.before < spot.after
 }
@@ -71,12 +71,12 @@ fn put_rows(
     words: &[u8],
     spot: &Spot,
 ) -> Result<(), NoMemory>
-    ensures { OnOk result (text.new.items ≡ text.old.items ++ spec.own_rows object.now spot.now words.now (told object.now spot.now spot.now.place spot.now.after)) }
+    ensures { OnOk result (text.new.items ≡ text.old.items ++ spec.own_rows object.now spot.now words.now (reported object.now spot.now spot.now.place spot.now.after)) }
 {
-    let count = told(object, spot, spot.place, spot.after);
+    let count = reported(object, spot, spot.place, spot.after);
     let first = count.min(8);
     let mut row = Vec::new(alloc);
-    put_front(&mut row, spot, spot.place)?;
+    put_prefix(&mut row, spot, spot.place)?;
     put_bytes(&mut row, object, spot, 0, spot.place, first)?;
     put_beside(text, &row, words)?;
     put_rest(text, object, spot, count)?;
@@ -94,7 +94,7 @@ pub(crate) fn put_own(
 ) -> Result<(), NoMemory>
     ensures { OnOk result (text.new.items ≡ text.old.items ++ spec.own_text object.now words.now spot.now) }
 {
-    if is_told(spot) {
+    if is_reported(spot) {
         put_filling(text, object, spot)?;
         put_rows(alloc, text, object, words, spot)
     } else {
@@ -106,12 +106,12 @@ pub(crate) fn put_own(
 fn put_made(text: &mut Vec<u8>, object: &Module, spot: &Spot) -> Result<(), NoMemory>
     ensures { OnOk result (text.new.items ≡ text.old.items ++ spec.made_text object.now spot.now) }
 {
-    if !is_told(spot) {
+    if !is_reported(spot) {
         return Ok(());
     }
-    let count = told(object, spot, spot.place, spot.after);
+    let count = reported(object, spot, spot.place, spot.after);
     put_filling(text, object, spot)?;
-    put_front(text, spot, spot.place)?;
+    put_prefix(text, spot, spot.place)?;
     put_bytes(text, object, spot, 0, spot.place, count)?;
     text.push(b'\n')?;
     Ok(())

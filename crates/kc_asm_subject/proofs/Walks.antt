@@ -14,10 +14,10 @@ use Rattle.kc_asm_symbols.specs.declared.segments.Segment.{Segment}
 use Rattle.kc_asm_symbols.specs.Located.{Located, located_by, located_from, located_at, segment_after, first_segment, located, value_at, place_values}
 use Rattle.kc_asm_symbols.specs.Externals.{all_trees}
 use Rattle.kc_asm_symbols.specs.Walk.{IsBehind, IsAt}
-use Rattle.kc_asm_symbols.proofs.ExternalLemmas.{front}
-use Rattle.kc_asm_outline.specs.Outline.{at_zero}
+use Rattle.kc_asm_symbols.proofs.ExternalLemmas.{prefix}
+use Rattle.kc_asm_outline.specs.StatementSizes.{at_zero}
 use Rattle.kc_asm_emission.specs.Arguments.{Look}
-use Rattle.kc_asm_subject.specs.Values.{unknown_in, unknown_among, foreign_among, subject_on, subject_from, subject_at}
+use Rattle.kc_asm_subject.specs.Values.{unknown_in, unknown_among, foreign_among, symbol_on, symbol_from, symbol_at}
 use Rattle.kc_asm_check.specs.Codes.{counts_from_external}
 
 or_assoc : (a b c : Option (List ℕ)) → option_or (option_or a b) c ≡ option_or a (option_or b c)
@@ -45,7 +45,7 @@ no_element look f t = refl
 pub element : {X A : Type 0} (look : Look) (f : A → List Tree) (t : X → A) (xs : List X) (i : ℕ) (x : X) (o : Option (List ℕ)) → i < length xs → x ≡ get_or xs i x
     → o ≡ unknown_among look (f (t x)) → among look f t (drop i xs) ≡ among look f t xs → option_or o (among look f t (drop (i + 1) xs)) ≡ among look f t xs
 element look f t xs i x o within is found so_far =
-    ap (λ p. option_or p (among look f t (drop (i + 1) xs))) found ∙ sym (one_element look f t x (drop (i + 1) xs)) ∙ ap (among look f t) (sym (front xs i x within is)) ∙ so_far
+    ap (λ p. option_or p (among look f t (drop (i + 1) xs))) found ∙ sym (one_element look f t x (drop (i + 1) xs)) ∙ ap (among look f t) (sym (prefix xs i x within is)) ∙ so_far
 
 pub elements : {X A : Type 0} (look : Look) (f : A → List Tree) (t : X → A) (xs : List X) (i : ℕ) → length xs ≤ i → among look f t (drop i xs) ≡ among look f t xs → None ≡ among look f t xs
 elements look f t xs i past so_far = sym (no_element look f t) ∙ ap (among look f t) (sym (drop_of_length-le xs past)) ∙ so_far
@@ -62,7 +62,7 @@ no_name last = refl
 
 pub name : (last : Look) (ns : List (List ℕ)) (i : ℕ) (n : List ℕ) → i < length ns → n ≡ get_or ns i n
     → foreign_among last (drop i ns) ≡ foreign_among last ns → cond (counts_from_external (last n)) (Some n) (foreign_among last (drop (i + 1) ns)) ≡ foreign_among last ns
-name last ns i n within is so_far = sym (one_name last n (drop (i + 1) ns)) ∙ ap (foreign_among last) (sym (front ns i n within is)) ∙ so_far
+name last ns i n within is so_far = sym (one_name last n (drop (i + 1) ns)) ∙ ap (foreign_among last) (sym (prefix ns i n within is)) ∙ so_far
 
 pub names : (last : Look) (ns : List (List ℕ)) (i : ℕ) → length ns ≤ i → foreign_among last (drop i ns) ≡ foreign_among last ns → None ≡ foreign_among last ns
 names last ns i past so_far = sym (no_name last) ∙ ap (foreign_among last) (sym (drop_of_length-le ns past)) ∙ so_far
@@ -73,51 +73,51 @@ names last ns i past so_far = sym (no_name last) ∙ ap (foreign_among last) (sy
 pub record Walked (m : Meanings) (line code i : ℕ) (g : Segment) (stmts rest : List Stmt) : Type 0 where
   pub before : List Located
   pub behind : IsBehind m (located_by at_zero stmts) before
-  pub so_far : subject_from line code (located_by at_zero stmts) before (located_from at_zero i g rest) ≡ subject_at line code (located_by at_zero stmts)
+  pub so_far : symbol_from line code (located_by at_zero stmts) before (located_from at_zero i g rest) ≡ symbol_at line code (located_by at_zero stmts)
 
 pub walk_starts : (m : Meanings) (line code : ℕ) (g : Segment) (stmts : List Stmt) → g ≡ first_segment → IsBehind m (located_by at_zero stmts) [] → Walked m line code 0 g stmts stmts
 walk_starts m line code g stmts first behind = record {
   before = [];
   behind = behind;
-  so_far = λ j. subject_from line code (located_by at_zero stmts) [] (located_from at_zero 0 (first j) stmts);
+  so_far = λ j. symbol_from line code (located_by at_zero stmts) [] (located_from at_zero 0 (first j) stmts);
 }
 
-one_subject : (line code i : ℕ) (all before : List Located) (g : Segment) (s : Stmt) (rest : List Stmt)
-    → subject_from line code all before (located_from at_zero i g (s ∷ rest))
-    ≡ option_or (subject_on line code all before (located_at g (at_zero i g) s)) (subject_from line code all (located_at g (at_zero i g) s ∷ before) (located_from at_zero (i + 1) (segment_after g (action_tree s.action)) rest))
-unfolding located_from subject_from
-one_subject line code i all before g s rest = refl
+one_symbol : (line code i : ℕ) (all before : List Located) (g : Segment) (s : Stmt) (rest : List Stmt)
+    → symbol_from line code all before (located_from at_zero i g (s ∷ rest))
+    ≡ option_or (symbol_on line code all before (located_at g (at_zero i g) s)) (symbol_from line code all (located_at g (at_zero i g) s ∷ before) (located_from at_zero (i + 1) (segment_after g (action_tree s.action)) rest))
+unfolding located_from symbol_from
+one_symbol line code i all before g s rest = refl
 
-no_subject : (line code i : ℕ) (all before : List Located) (g : Segment) → subject_from line code all before (located_from at_zero i g []) ≡ None
-unfolding located_from subject_from
-no_subject line code i all before g = refl
+no_symbol : (line code i : ℕ) (all before : List Located) (g : Segment) → symbol_from line code all before (located_from at_zero i g []) ≡ None
+unfolding located_from symbol_from
+no_symbol line code i all before g = refl
 
 -- at a statement: what it gives, or else what those behind it give
 pub record At (m : Meanings) (line code i : ℕ) (g : Segment) (stmts rest : List Stmt) (s : Stmt) (o : Option (List ℕ)) : Type 0 where
   pub before : List Located
   pub at : IsAt m (located_by at_zero stmts) before (located_at g (at_zero i g) s)
-  pub so_far : option_or o (subject_from line code (located_by at_zero stmts) (located_at g (at_zero i g) s ∷ before) (located_from at_zero (i + 1) (segment_after g (action_tree s.action)) rest))
-      ≡ subject_at line code (located_by at_zero stmts)
+  pub so_far : option_or o (symbol_from line code (located_by at_zero stmts) (located_at g (at_zero i g) s ∷ before) (located_from at_zero (i + 1) (segment_after g (action_tree s.action)) rest))
+      ≡ symbol_at line code (located_by at_zero stmts)
 
 pub enters : (m n : Meanings) (line code i : ℕ) (g : Segment) (stmts rest : List Stmt) (s : Stmt) (v : Value) (o : Option (List ℕ)) → v ≡ at_zero i g
     → ((all before : List Located) (h : Segment) → IsBehind m all before → IsAt n all before (located_at h v s))
-    → ((all before : List Located) (l : Located) → IsAt n all before l → l.line ≡ s.line → l.action ≡ action_tree s.action → o ≡ subject_on line code all before l)
+    → ((all before : List Located) (l : Located) → IsAt n all before l → l.line ≡ s.line → l.action ≡ action_tree s.action → o ≡ symbol_on line code all before l)
     → Walked m line code i g stmts (s ∷ rest) → At n line code i g stmts rest s o
-enters m n line code i g stmts rest s v o zero_at entered told w =
+enters m n line code i g stmts rest s v o zero_at entered reported w =
     let all = located_by at_zero stmts in
     let l = located_at g (at_zero i g) s in
     let at_l : IsAt n all w.before l = subst (λ (u : Value). IsAt n all w.before (located_at g u s)) zero_at (entered all w.before g w.behind) in
     record {
       before = w.before;
       at = at_l;
-      so_far = ap (λ p. option_or p (subject_from line code all (l ∷ w.before) (located_from at_zero (i + 1) (segment_after g (action_tree s.action)) rest))) (told all w.before l at_l refl refl)
-          ∙ sym (one_subject line code i all w.before g s rest) ∙ w.so_far;
+      so_far = ap (λ p. option_or p (symbol_from line code all (l ∷ w.before) (located_from at_zero (i + 1) (segment_after g (action_tree s.action)) rest))) (reported all w.before l at_l refl refl)
+          ∙ sym (one_symbol line code i all w.before g s rest) ∙ w.so_far;
     }
 
-pub told : (m : Meanings) (line code i : ℕ) (g : Segment) (stmts rest : List Stmt) (s : Stmt) (o : Option (List ℕ)) (n : List ℕ) → o ≡ Some n → At m line code i g stmts rest s o
-    → Some n ≡ subject_at line code (located_by at_zero stmts)
-told m line code i g stmts rest s o n some a =
-    sym (ap (λ p. option_or p (subject_from line code (located_by at_zero stmts) (located_at g (at_zero i g) s ∷ a.before) (located_from at_zero (i + 1) (segment_after g (action_tree s.action)) rest))) some)
+pub reported : (m : Meanings) (line code i : ℕ) (g : Segment) (stmts rest : List Stmt) (s : Stmt) (o : Option (List ℕ)) (n : List ℕ) → o ≡ Some n → At m line code i g stmts rest s o
+    → Some n ≡ symbol_at line code (located_by at_zero stmts)
+reported m line code i g stmts rest s o n some a =
+    sym (ap (λ p. option_or p (symbol_from line code (located_by at_zero stmts) (located_at g (at_zero i g) s ∷ a.before) (located_from at_zero (i + 1) (segment_after g (action_tree s.action)) rest))) some)
     ∙ a.so_far
 
 pub leaves : (m n : Meanings) (line code i : ℕ) (g h : Segment) (stmts rest : List Stmt) (s : Stmt) (o : Option (List ℕ)) → o ≡ None → h ≡ segment_after g (action_tree s.action)
@@ -129,16 +129,16 @@ leaves m n line code i g h stmts rest s o none moved left a =
     record {
       before = l ∷ a.before;
       behind = left all a.before l a.at refl;
-      so_far = (λ j. subject_from line code all (l ∷ a.before) (located_from at_zero (i + 1) (moved j) rest))
-          ∙ sym (ap (λ p. option_or p (subject_from line code all (l ∷ a.before) (located_from at_zero (i + 1) (segment_after g (action_tree s.action)) rest))) none)
+      so_far = (λ j. symbol_from line code all (l ∷ a.before) (located_from at_zero (i + 1) (moved j) rest))
+          ∙ sym (ap (λ p. option_or p (symbol_from line code all (l ∷ a.before) (located_from at_zero (i + 1) (segment_after g (action_tree s.action)) rest))) none)
           ∙ a.so_far;
     }
 
 pub walk_ends : (m : Meanings) (line code i : ℕ) (g : Segment) (stmts : List Stmt) → length stmts ≤ i → Walked m line code i g stmts (drop i stmts)
-    → None ≡ subject_at line code (located_by at_zero stmts)
+    → None ≡ symbol_at line code (located_by at_zero stmts)
 walk_ends m line code i g stmts past w =
-    sym (no_subject line code i (located_by at_zero stmts) w.before g)
-    ∙ ap (λ ss. subject_from line code (located_by at_zero stmts) w.before (located_from at_zero i g ss)) (sym (drop_of_length-le stmts past)) ∙ w.so_far
+    sym (no_symbol line code i (located_by at_zero stmts) w.before g)
+    ∙ ap (λ ss. symbol_from line code (located_by at_zero stmts) w.before (located_from at_zero i g ss)) (sym (drop_of_length-le stmts past)) ∙ w.so_far
 
 -- ---- all statements at 0
 

@@ -1,4 +1,4 @@
 pub mod Uses
 pub mod Values
 pub mod Seeking
-pub mod Subject
+pub mod Symbol

@@ -39,19 +39,19 @@ foreign_among last (n ∷ ns) = if counts_from_external (last n) then Some n els
 
 -- ---- a statement, by what names mean in it and what they mean by all statements
 
-abbrev pub subject_in : ℕ → Look → Look → ActionTree → Option (List ℕ)
-subject_in code look last action =
+abbrev pub symbol_in : ℕ → Look → Look → ActionTree → Option (List ℕ)
+symbol_in code look last action =
     if code == not_defined then unknown_among look (action_trees action)
     else if code == not_public then foreign_among last (given_names action)
     else None
 
-abbrev pub subject_on : ℕ → ℕ → List Located → List Located → Located → Option (List ℕ)
-subject_on line code all before l = if l.line == line then subject_in code (meaning all before l) (in_all all) l.action else None
+abbrev pub symbol_on : ℕ → ℕ → List Located → List Located → Located → Option (List ℕ)
+symbol_on line code all before l = if l.line == line then symbol_in code (meaning all before l) (in_all all) l.action else None
 
 -- that of the first of these statements that has one, behind others, the latest first
-unfoldable pub subject_from : ℕ → ℕ → List Located → List Located → List Located → Option (List ℕ)
-subject_from line code all before [] = None
-subject_from line code all before (l ∷ ls) = option_or (subject_on line code all before l) (subject_from line code all (l ∷ before) ls)
+unfoldable pub symbol_from : ℕ → ℕ → List Located → List Located → List Located → Option (List ℕ)
+symbol_from line code all before [] = None
+symbol_from line code all before (l ∷ ls) = option_or (symbol_on line code all before l) (symbol_from line code all (l ∷ before) ls)
 
-abbrev pub subject_at : ℕ → ℕ → List Located → Option (List ℕ)
-subject_at line code all = subject_from line code all [] all
+abbrev pub symbol_at : ℕ → ℕ → List Located → Option (List ℕ)
+symbol_at line code all = symbol_from line code all [] all

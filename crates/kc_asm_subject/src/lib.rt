@@ -3,7 +3,7 @@
 
 mod expressions;
 mod names;
-mod telling;
+mod reporting;
 mod values;
 
-pub use telling::subject;
+pub use reporting::symbol;

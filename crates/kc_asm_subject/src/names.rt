@@ -44,7 +44,7 @@ impl Known {
         either(once, again)
     }
 
-    fn note(&mut self, alloc: Global, kind: UseKind, name: &[u8]) -> Result<(), NoMemory>
+    fn size_record(&mut self, alloc: Global, kind: UseKind, name: &[u8]) -> Result<(), NoMemory>
         ensures { OnOk result ((us : List Use) (u : Use) → u.kind ≡ kind → u.name ≡ name.now → IsKnown self.old us → IsKnown self.new (u ∷ us)) }
     {
         match kind {
@@ -148,8 +148,8 @@ impl Search {
         }
         let refused = self.is_refused(at, kind, name);
         if refused {
-            let told = Text::of(alloc, name)?;
-            self.found = Some(told);
+            let reported = Text::of(alloc, name)?;
+            self.found = Some(reported);
             return Ok(());
         }
         Ok(())
@@ -166,7 +166,7 @@ impl Search {
         ensures { OnOk result ((line code : ℕ) (all rest whole : List Use) → IsSeeking self.old line code all (use_of at kind name.now ∷ rest) whole → IsSeeking self.new line code all rest whole) }
     {
         self.find(alloc, at, kind, name)?;
-        self.before.note(alloc, kind, name)?;
+        self.before.size_record(alloc, kind, name)?;
         Ok(())
     }
 

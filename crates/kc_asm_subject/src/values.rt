@@ -7,7 +7,7 @@ ghost use Rattle.kc_asm_symbols.specs.Located.{Located, located_by};
 ghost use Rattle.kc_asm_symbols.specs.Externals.{externals};
 ghost use Rattle.kc_asm_symbols.specs.Meanings.{meaning, in_all};
 ghost use Rattle.kc_asm_symbols.specs.Walk.{IsBehind, IsAt};
-ghost use Rattle.kc_asm_outline.specs.Outline.{at_zero};
+ghost use Rattle.kc_asm_outline.specs.StatementSizes.{at_zero};
 ghost use Rattle.kc_asm_check.specs.Codes.{counts_from_external};
 ghost use Rattle.kc_asm_subject.specs.Values as spec;
 
@@ -35,8 +35,8 @@ fn foreign(alloc: Global, names: &[Text], meanings: &Meanings) -> Result<Option<
     for name in names {
         let bytes = name.as_slice();
         if is_foreign(meanings.last(bytes)) {
-            let told = Text::of(alloc, bytes)?;
-            return Ok(Some(told));
+            let reported = Text::of(alloc, bytes)?;
+            return Ok(Some(reported));
         }
     }
     Ok(None)
@@ -62,7 +62,7 @@ fn in_statement(
     action: &Action,
     meanings: &Meanings,
 ) -> Result<Option<Text>, NoMemory>
-    ensures { IfOk result (λ o. (all before : List Located) (l : Located) → IsAt meanings.now all before l → o ≡ spec.subject_in code (meaning all before l) (in_all all) (action_tree action.now)) }
+    ensures { IfOk result (λ o. (all before : List Located) (l : Located) → IsAt meanings.now all before l → o ≡ spec.symbol_in code (meaning all before l) (in_all all) (action_tree action.now)) }
 {
     if code == SourceCode::NotDefined.number() {
         unknown(alloc, action, meanings)
@@ -80,7 +80,7 @@ fn on_line(
     stmt: &Stmt,
     meanings: &Meanings,
 ) -> Result<Option<Text>, NoMemory>
-    ensures { IfOk result (λ o. (all before : List Located) (l : Located) → IsAt meanings.now all before l → l.line ≡ stmt.now.line → l.action ≡ action_tree stmt.now.action → o ≡ spec.subject_on line code all before l) }
+    ensures { IfOk result (λ o. (all before : List Located) (l : Located) → IsAt meanings.now all before l → l.line ≡ stmt.now.line → l.action ≡ action_tree stmt.now.action → o ≡ spec.symbol_on line code all before l) }
 {
     if stmt.line == line {
         in_statement(alloc, code, &stmt.action, meanings)
@@ -111,7 +111,7 @@ pub(crate) fn valued(
 ) -> Result<Option<Text>, NoMemory>
     requires few { length stmts.now ≤ 65536 }
     requires few_externals { length (externals (located_by at_zero stmts.now)) ≤ 65536 }
-    ensures { IfOk result (λ o. o ≡ spec.subject_at line code (located_by at_zero stmts.now)) }
+    ensures { IfOk result (λ o. o ≡ spec.symbol_at line code (located_by at_zero stmts.now)) }
 {
     let mut meanings = meanings_of(alloc, stmts)?;
     let mut segment = Segment::first();

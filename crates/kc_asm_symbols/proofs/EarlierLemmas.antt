@@ -19,7 +19,7 @@ use Rattle.kc_asm_symbols.specs.declared.segments.Segment.{Segment}
 use Rattle.kc_asm_symbols.specs.Tables.{updated, nothing}
 use Rattle.kc_asm_symbols.specs.Located.{Located, located_by, located_from, listed, segment_after, first_segment}
 use Rattle.kc_asm_symbols.specs.Externals.{external_in, tag_of_taken, stack_name}
-use Rattle.kc_asm_symbols.specs.Meanings.{or_told, is_label, label_answer, everywhere, external_answer, first_of, with_label, with_taken, by_definition, earlier}
+use Rattle.kc_asm_symbols.specs.Meanings.{or_reported, is_label, label_answer, everywhere, external_answer, first_of, with_label, with_taken, by_definition, earlier}
 
 -- ---- externals
 
@@ -38,9 +38,9 @@ pub external_more : (ts : List Taken) (left n : ℕ) (t : Taken) (v : Value) (lo
     → look ≡ external_in left (drop left ts) → next ≡ updated t.name (Ok v) look → next ≡ external_in n (drop n ts)
 external_more ts left n t v look next follows within is value so_far grown =
     let next_is : suc n ≡ left = omega arith in
-    let front : drop n ts ≡ t ∷ drop left ts = drop-cons ts n t within ∙ (λ i. sym is i ∷ drop (next_is i) ts) in
+    let prefix : drop n ts ≡ t ∷ drop left ts = drop-cons ts n t within ∙ (λ i. sym is i ∷ drop (next_is i) ts) in
     grown ∙ (λ i. updated t.name (Ok (value i)) (so_far i)) ∙ ap (λ k. updated t.name (Ok (record { base = External n; tag = tag_of_taken t; number = 0 })) (external_in k (drop left ts))) (sym follows)
-    ∙ sym (one_external n t (drop left ts)) ∙ ap (external_in n) (sym front)
+    ∙ sym (one_external n t (drop left ts)) ∙ ap (external_in n) (sym prefix)
 
 -- ---- labels
 
@@ -136,11 +136,11 @@ taken_more external look next all n ns grown so_far = ap (with_taken external ns
 
 -- ---- EQU and SET
 
-by_test : (b : Bool) (x : Tree) (look : List ℕ → Answer) (rest : Answer) → cond b (or_told (answer_by look x)) rest ≡ by_definition (cond b (Some x) None) look rest
+by_test : (b : Bool) (x : Tree) (look : List ℕ → Answer) (rest : Answer) → cond b (or_reported (answer_by look x)) rest ≡ by_definition (cond b (Some x) None) look rest
 by_test true x look rest = refl
 by_test false x look rest = refl
 
-pub defined : (name : List ℕ) (x : Tree) (at look next : List ℕ → Answer) (a : Answer) → a ≡ or_told (answer_by at x) → next ≡ updated name a look
+pub defined : (name : List ℕ) (x : Tree) (at look next : List ℕ → Answer) (a : Answer) → a ≡ or_reported (answer_by at x) → next ≡ updated name a look
     → next ≡ (λ q. by_definition (cond (bytes_eq q name) (Some x) None) at (look q))
 defined name x at look next a value grown =
     grown ∙ ap (λ b. updated name b look) value ∙ (λ i q. by_test (bytes_eq q name) x at (look q) i)

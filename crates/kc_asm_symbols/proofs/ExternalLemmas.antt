@@ -24,12 +24,12 @@ any_trees f x xs = list_any-append uses_stack (f x) (all_trees f xs)
 abbrev pub some_use : {X A : Type 0} → (A → List Tree) → (X → A) → List X → Bool
 some_use f t xs = list_any uses_stack (all_trees f (map t xs))
 
-pub front : {X : Type 0} (xs : List X) (i : ℕ) (x : X) → i < length xs → x ≡ get_or xs i x → drop i xs ≡ x ∷ drop (i + 1) xs
-front xs i x within is = let next : suc i ≡ i + 1 = omega arith in drop-cons xs i x within ∙ (λ j. sym is j ∷ drop (next j) xs)
+pub prefix : {X : Type 0} (xs : List X) (i : ℕ) (x : X) → i < length xs → x ≡ get_or xs i x → drop i xs ≡ x ∷ drop (i + 1) xs
+prefix xs i x within is = let next : suc i ≡ i + 1 = omega arith in drop-cons xs i x within ∙ (λ j. sym is j ∷ drop (next j) xs)
 
 one_more : {X A : Type 0} (f : A → List Tree) (t : X → A) (xs : List X) (i : ℕ) (x : X) → i < length xs → x ≡ get_or xs i x
     → some_use f t (drop i xs) ≡ (list_any uses_stack (f (t x)) || some_use f t (drop (i + 1) xs))
-one_more f t xs i x within is = ap (some_use f t) (front xs i x within is) ∙ any_trees f (t x) (map t (drop (i + 1) xs))
+one_more f t xs i x within is = ap (some_use f t) (prefix xs i x within is) ∙ any_trees f (t x) (map t (drop (i + 1) xs))
 
 pub found : {X A : Type 0} (f : A → List Tree) (t : X → A) (xs : List X) (i : ℕ) (x : X) → i < length xs → x ≡ get_or xs i x
     → list_any uses_stack (f (t x)) ≡ true → some_use f t (drop i xs) ≡ some_use f t xs → true ≡ some_use f t xs

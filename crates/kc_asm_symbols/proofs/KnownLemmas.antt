@@ -16,7 +16,7 @@ use Rattle.kc_expr.proofs.KnownLemmas.{answer_known}
 use Rattle.kc_obj_module.specs.declared.parts.Taken.{Taken}
 use Rattle.kc_asm_symbols.specs.Located.{Located}
 use Rattle.kc_asm_symbols.specs.Externals.{externals, external_in, tag_of_taken, stack_name}
-use Rattle.kc_asm_symbols.specs.Meanings.{or_told, is_label, label_answer, external_answer, with_here, is_taken_by, defines, by_definition, earlier, is_set, is_definition, in_all, throughout, meaning}
+use Rattle.kc_asm_symbols.specs.Meanings.{or_reported, is_label, label_answer, external_answer, with_here, is_taken_by, defines, by_definition, earlier, is_set, is_definition, in_all, throughout, meaning}
 use Rattle.kc_asm_symbols.specs.Known.{BasesAreKnown}
 
 both : (x y : Bool) → (x && y) ≡ true → (x ≡ true) × (y ≡ true)
@@ -47,9 +47,9 @@ module _ (known : Base → Bool) (fixed : known Fixed ≡ true) (absolute : know
   either true a b h k = h
   either false a b h k = k
 
-  told_known : (a : Answer) → is_known known a ≡ true → is_known known (or_told a) ≡ true
-  told_known (Ok v) h = h
-  told_known (Err fault) h = refl
+  reported_known : (a : Answer) → is_known known a ≡ true → is_known known (or_reported a) ≡ true
+  reported_known (Ok v) h = h
+  reported_known (Err fault) h = refl
 
   one_external_known : (n : ℕ) (t : Taken) (ts : List Taken) (q : List ℕ) → known (External n) ≡ true → is_known known (external_in (n + 1) ts q) ≡ true → is_known known (external_in n (t ∷ ts) q) ≡ true
   unfolding external_in
@@ -73,7 +73,7 @@ module _ (known : Base → Bool) (fixed : known Fixed ≡ true) (absolute : know
 
   definition_known : (o : Option Tree) (look : List ℕ → Answer) (rest : Answer) → ((q : List ℕ) → is_known known (look q) ≡ true) → is_known known rest ≡ true → is_known known (by_definition o look rest) ≡ true
   definition_known None look rest names h = h
-  definition_known (Some x) look rest names h = told_known (answer_by look x) (answer_known known fixed absolute look names x)
+  definition_known (Some x) look rest names h = reported_known (answer_by look x) (answer_known known fixed absolute look names x)
 
   here_known : (v : Value) (look : List ℕ → Answer) → known v.base ≡ true → ((q : List ℕ) → is_known known (look q) ≡ true) → (q : List ℕ) → is_known known (with_here v look q) ≡ true
   here_known v look h names q = either (bytes_eq q here) (Ok v) (look q) h (names q)

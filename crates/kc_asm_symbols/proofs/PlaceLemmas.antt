@@ -14,7 +14,7 @@ use Rattle.kc_source_statement.specs.Trees.{ActionTree, action_tree}
 use Rattle.kc_asm_symbols.specs.declared.segments.Segment.{Segment}
 use Rattle.kc_asm_symbols.specs.Located.{Located, located, located_by, located_from, is_absolute, base_of, tag_of, value_at, segment_after, first_segment}
 use Rattle.kc_asm_symbols.specs.Externals.{declared, statement_uses_stack, externals_from, external_in, stack_name}
-use Rattle.kc_asm_symbols.specs.Meanings.{or_told, is_label, label_answer, external_answer, with_here, is_taken_by, defines, by_definition, behind, earlier, is_set, is_set_by, is_definition, in_all, throughout, meaning}
+use Rattle.kc_asm_symbols.specs.Meanings.{or_reported, is_label, label_answer, external_answer, with_here, is_taken_by, defines, by_definition, behind, earlier, is_set, is_set_by, is_definition, in_all, throughout, meaning}
 use Rattle.kc_asm_symbols.specs.Alike.{MeaningsAreAlike, MeaningsDoNotDependOnPlaces}
 
 -- a statement, and the same at another place
@@ -51,16 +51,16 @@ reversed (more {l} {m} {ls} {ms} one ones) =
     (subst (λ (ks : List Located). AreMoved (reverse ls ++ l ∷ []) ks) (reverse_one m ms) (joined (reversed ones) (more one none)))
 
 record Split (ls ms : List Located) (l m : Located) : Type 0 where
-  front : AreMoved ls ms
+  prefix : AreMoved ls ms
   one : IsMoved l m
 
 split : (ls ms ks js : List Located) (l m : Located) → length ls ≡ length ms → AreMoved (ls ++ l ∷ ks) (ms ++ m ∷ js) → Split ls ms l m
-split [] [] ks js l m e (more one ones) = record { front = none; one = one }
+split [] [] ks js l m e (more one ones) = record { prefix = none; one = one }
 split [] (x ∷ ms) ks js l m e a = absurd cc
 split (x ∷ ls) [] ks js l m e a = absurd cc
 split (x ∷ ls) (y ∷ ms) ks js l m e (more one ones) =
     let s : Split ls ms l m = split ls ms ks js l m (suc_same (length ls) (length ms) e) ones in
-    record { front = more one s.front; one = s.one }
+    record { prefix = more one s.prefix; one = s.one }
   where
     suc_same : (a b : ℕ) → suc a ≡ suc b → a ≡ b
     suc_same a b e = cc
@@ -95,15 +95,15 @@ sets_moved (more {l} {m} {ls} {ms} one ones) q = λ i. is_set_by (one.action i) 
 external_moved : {all others : List Located} → AreMoved all others → (q : List ℕ) → AreAlike (external_answer all q) (external_answer others q)
 external_moved {all} {others} a q = alike (external_answer all q) (external_answer others q) (ap (λ ts. external_in 0 ts q) (externals_moved false a))
 
-told : (a b : Answer) → AreAlike a b → AreAlike (or_told a) (or_told b)
-told (Ok v) (Ok w) same = same
-told (Ok v) (Err d) same = absurd same
-told (Err c) (Ok w) same = absurd same
-told (Err c) (Err d) same = refl
+reported : (a b : Answer) → AreAlike a b → AreAlike (or_reported a) (or_reported b)
+reported (Ok v) (Ok w) same = same
+reported (Ok v) (Err d) same = absurd same
+reported (Err c) (Ok w) same = absurd same
+reported (Err c) (Err d) same = refl
 
 definition_moved : (o : Option Tree) (look at : List ℕ → Answer) (a b : Answer) → ((q : List ℕ) → AreAlike (look q) (at q)) → AreAlike a b → AreAlike (by_definition o look a) (by_definition o at b)
 definition_moved None look at a b same rest = rest
-definition_moved (Some x) look at a b same rest = told (answer_by look x) (answer_by at x) (expressions_alike look at same x)
+definition_moved (Some x) look at a b same rest = reported (answer_by look x) (answer_by at x) (expressions_alike look at same x)
 
 here_moved : (l m : Located) (look at : List ℕ → Answer) → IsMoved l m → ((q : List ℕ) → AreAlike (look q) (at q)) → (q : List ℕ) → AreAlike (with_here l.here look q) (with_here m.here at q)
 here_moved l m look at one same q = same_test (bytes_eq q here) (Ok l.here) (look q) (Ok m.here) (at q) one.here (same q)
@@ -150,8 +150,8 @@ meanings_alike values others same stmts before passed after rest l m here there 
     let b : AreMoved (reverse before ++ l ∷ after) (reverse passed ++ m ∷ rest) = subst (λ (ks : List Located). AreMoved ks (reverse passed ++ m ∷ rest)) here (subst (λ (ks : List Located). AreMoved (located_by values stmts) ks) there a) in
     let lengths : length (reverse before) ≡ length (reverse passed) = length-reverse before ∙ long ∙ sym (length-reverse passed) in
     let s : Split (reverse before) (reverse passed) l m = split (reverse before) (reverse passed) after rest l m lengths b in
-    let fronts : AreMoved before passed = subst (λ (ks : List Located). AreMoved before ks) (twice passed) (subst (λ (ks : List Located). AreMoved ks (reverse (reverse passed))) (twice before) (reversed s.front)) in
-    meaning_moved a fronts l m s.one
+    let prefixes : AreMoved before passed = subst (λ (ks : List Located). AreMoved before ks) (twice passed) (subst (λ (ks : List Located). AreMoved ks (reverse (reverse passed))) (twice before) (reversed s.prefix)) in
+    meaning_moved a prefixes l m s.one
 
 -- ---- places in pieces
 

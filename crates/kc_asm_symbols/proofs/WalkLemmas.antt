@@ -64,13 +64,13 @@ append_none (x ∷ xs) = ap (λ ys. x ∷ ys) (append_none xs)
 starts : (e : Earlier) (all : List Located) → IsEarlier e all [] → Passing e all all
 starts e all is = record { before = []; is = is; whole = append_none (reverse all) }
 
-reverse_front : (l : Located) (ls before : List Located) → reverse ls ++ (l ∷ before) ≡ reverse (l ∷ ls) ++ before
-reverse_front l ls before = sym (ap (λ (xs : List Located). xs ++ before) (reverse-append (l ∷ []) ls) ∙ append_assoc (reverse ls) (l ∷ []) before)
+reverse_prefix : (l : Located) (ls before : List Located) → reverse ls ++ (l ∷ before) ≡ reverse (l ∷ ls) ++ before
+reverse_prefix l ls before = sym (ap (λ (xs : List Located). xs ++ before) (reverse-append (l ∷ []) ls) ∙ append_assoc (reverse ls) (l ∷ []) before)
 
 passes : (e f : Earlier) (all rest : List Located) (l : Located) → f.names ≡ e.names
     → answers (shared f.names).numbers f.latest ≡ behind (answers (shared e.names).numbers (shared e.names).taken) l.action l.here (answers (shared e.names).numbers e.latest) → Passing e all (l ∷ rest) → Passing f all rest
 passes e f all rest l names latest p =
-    record { before = l ∷ p.before; is = goes_behind e f all p.before l p.is names latest; whole = reverse_front l rest p.before ∙ p.whole }
+    record { before = l ∷ p.before; is = goes_behind e f all p.before l p.is names latest; whole = reverse_prefix l rest p.before ∙ p.whole }
 
 no_rest : (e : Earlier) (all : List Located) → Passing e all [] → IsEarlier e all (reverse all)
 no_rest e all p = subst (λ (ls : List Located). IsEarlier e all ls) p.whole p.is

@@ -6,4 +6,4 @@ pub mod Walk
 pub mod Alike
 pub mod Known
 pub mod Few
-pub mod Told
+pub mod Reported

@@ -6,16 +6,16 @@ use Rattle.std.specs.List.{list_any}
 use Rattle.std.specs.Str.{bytes_eq}
 use Rattle.kc_lex.specs.declared.fault.SourceCode.TheVariants.{NotDefined}
 use Rattle.kc_expr.specs.declared.values.Value.{Value}
-use Rattle.kc_expr.specs.declared.values.NoValue.TheVariants.{Fault, ToldElsewhere}
+use Rattle.kc_expr.specs.declared.values.NoValue.TheVariants.{Fault, ReportedElsewhere}
 use Rattle.kc_expr.specs.Tree.{Tree}
 use Rattle.kc_expr.specs.Meaning.{Answer, answer_by, here}
 use Rattle.kc_source_statement.specs.Trees.{ActionTree, Bare, Module, Cseg, Dseg, Rseg, Sseg, Public, Extrn, Equ, Set, Define, Reserve, Org, Even, End, Operation}
 use Rattle.kc_asm_symbols.specs.Located.{Located}
 use Rattle.kc_asm_symbols.specs.Externals.{externals, external_in, stack_name, declared_names}
 
-abbrev pub or_told : Answer → Answer
-or_told (Ok v) = Ok v
-or_told (Err fault) = Err ToldElsewhere
+abbrev pub or_reported : Answer → Answer
+or_reported (Ok v) = Ok v
+or_reported (Err fault) = Err ReportedElsewhere
 
 -- ---- names that mean the same at every line: labels, and STACK
 
@@ -69,7 +69,7 @@ defines (Operation _ args) name = None
 -- a statement's own definition of a name goes before what it meant so far
 abbrev pub by_definition : Option Tree → (List ℕ → Answer) → Answer → Answer
 by_definition None look rest = rest
-by_definition (Some x) look rest = or_told (answer_by look x)
+by_definition (Some x) look rest = or_reported (answer_by look x)
 
 -- what a name means behind a statement at a place, by what names mean before it
 abbrev pub behind : (List ℕ → Answer) → ActionTree → Value → (List ℕ → Answer) → List ℕ → Answer

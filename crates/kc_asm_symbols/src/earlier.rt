@@ -6,7 +6,7 @@ ghost use Rattle.kc_source_statement.specs.Trees.{action_tree};
 ghost use Rattle.kc_asm_symbols.specs.Located.{located_by, listed};
 ghost use Rattle.kc_asm_symbols.specs.declared.numbers.Numbers.{Numbers as NumbersOf};
 ghost use Rattle.kc_asm_symbols.specs.Tables.{answers, label_number};
-ghost use Rattle.kc_asm_symbols.specs.Meanings.{or_told, behind, label_answer, with_label, with_taken, with_defined};
+ghost use Rattle.kc_asm_symbols.specs.Meanings.{or_reported, behind, label_answer, with_label, with_taken, with_defined};
 ghost use Rattle.kc_asm_symbols.specs.Walk.{at_definition, shared, AreNamesOf, IsEarlier};
 
 use crate::names::Names;
@@ -86,12 +86,12 @@ fn label_table(
     Ok(table)
 }
 
-fn told(answer: Result<Value, NoValue>) -> Result<Value, NoValue>
-    ensures { result ≡ or_told answer }
+fn reported(answer: Result<Value, NoValue>) -> Result<Value, NoValue>
+    ensures { result ≡ or_reported answer }
 {
     match answer {
         Ok(value) => Ok(value),
-        Err(_) => Err(NoValue::ToldElsewhere),
+        Err(_) => Err(NoValue::ReportedElsewhere),
     }
 }
 
@@ -150,7 +150,7 @@ impl Earlier {
         ensures names { OnOk result (self.new.names ≡ self.old.names) }
         ensures here { OnOk result (self.new.here ≡ self.old.here) }
     {
-        let answer = told(value_over(value, self));
+        let answer = reported(value_over(value, self));
         let number = self.names.numbers().number(name.as_slice());
         self.latest.set(alloc, number, name.as_slice(), answer)?;
         Ok(())

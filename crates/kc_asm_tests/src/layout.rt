@@ -1,14 +1,14 @@
 // Places of statements, in pieces too that are longer than a module may have.
-use crate::sources::outline_of;
-use kc_asm_layout::{Site, layout};
+use crate::sources::sizes_of;
+use kc_asm_layout::{Location, layout};
 use kc_branch::Form;
 use std::alloc::Global;
 use std::test::*;
 
 /// Where the statements of a source stand, if its lines and its names have no fault.
-fn sites(alloc: Global, source: &[&str]) -> Option<Vec<Site>> {
-    let outline = outline_of(alloc, source)?;
-    layout(alloc, &outline).ok()
+fn locations(alloc: Global, source: &[&str]) -> Option<Vec<Location>> {
+    let statement_sizes = sizes_of(alloc, source)?;
+    layout(alloc, &statement_sizes).ok()
 }
 
 /// Where a piece ended before a statement, its place, where the piece ends behind it, and the address of the piece.
@@ -44,12 +44,17 @@ static STANDING: [(&str, Stand); 23] = [
 #[test]
 fn statements_stand_at_the_ends_of_their_pieces(rt: HostRuntime) -> Result<(), Fail> {
     let source = Vec::from_iter(rt.alloc(), STANDING.iter().map(|row| row.0))?;
-    let sites = sites(rt.alloc(), &source).expect(&rt, "its names have no fault");
-    assert!(rt; sites.len() == STANDING.len());
-    for (site, row) in sites.iter().zip(&STANDING) {
+    let locations = locations(rt.alloc(), &source).expect(&rt, "its names have no fault");
+    assert!(rt; locations.len() == STANDING.len());
+    for (location, row) in locations.iter().zip(&STANDING) {
         let &(line, wanted) = row;
         assert!(rt;
-            (site.before, site.place, site.after, site.address) == wanted,
+            (
+                location.before,
+                location.place,
+                location.after,
+                location.address
+            ) == wanted,
             "{line}"
         );
     }
@@ -60,7 +65,7 @@ fn statements_stand_at_the_ends_of_their_pieces(rt: HostRuntime) -> Result<(), F
 #[test]
 fn a_branch_over_a_great_reserve_is_long(rt: HostRuntime) {
     let source = ["A: BE B", " DSL 65535", "B: BE B+129", " BE A", " END"];
-    let sites = sites(rt.alloc(), &source).expect(&rt, "its names have no fault");
+    let locations = locations(rt.alloc(), &source).expect(&rt, "its names have no fault");
     let wanted = [
         (0, Form::Third),
         (6, Form::First),
@@ -68,22 +73,25 @@ fn a_branch_over_a_great_reserve_is_long(rt: HostRuntime) {
         (262_148, Form::Third),
         (262_153, Form::First),
     ];
-    assert!(rt; sites.len() == wanted.len());
-    for (site, (place, form)) in sites.iter().zip(&wanted) {
-        assert!(rt; (site.place, site.form) == (*place, *form), "{place}");
+    assert!(rt; locations.len() == wanted.len());
+    for (location, (place, form)) in locations.iter().zip(&wanted) {
+        assert!(rt;
+            (location.place, location.form) == (*place, *form),
+            "{place}"
+        );
     }
 }
 
 /// A call over 65,535 bytes, forth and back, is long.
 #[test]
 fn a_call_over_the_longest_reserve_is_long(rt: HostRuntime) {
-    let forth = sites(rt.alloc(), &[" CALL C", " DSB 65535", "C:", " END"]).expect(
+    let forth = locations(rt.alloc(), &[" CALL C", " DSB 65535", "C:", " END"]).expect(
         &rt,
         "its names have no fault",
     );
     assert!(rt; forth.len() == 4);
     assert!(rt; (forth[0].form, forth[2].place) == (Form::Second, 65_538));
-    let back = sites(rt.alloc(), &["C: DSB 65535", " CALL C", " END"]).expect(
+    let back = locations(rt.alloc(), &["C: DSB 65535", " CALL C", " END"]).expect(
         &rt,
         "its names have no fault",
     );

@@ -6,11 +6,11 @@
 #[cfg(test)]
 mod layout;
 #[cfg(test)]
-mod outline;
-#[cfg(test)]
 mod rows;
 #[cfg(test)]
 mod sources;
+#[cfg(test)]
+mod statement_sizes;
 #[cfg(test)]
 mod symbols;
 #[cfg(test)]

@@ -1,5 +1,5 @@
 // Sources that stand in tests, line by line.
-use kc_asm_outline::{ModuleOutline, outline};
+use kc_asm_outline::{ModuleSizes, statement_sizes};
 use kc_asm_symbols::{Names, externals};
 use kc_base::NoMemory;
 use kc_lex::lines;
@@ -16,7 +16,7 @@ fn joined(alloc: Global, source: &[&str]) -> Result<String, NoMemory> {
 }
 
 /// The outline of a source of these lines, if its lines and its names have no fault.
-pub(crate) fn outline_of(alloc: Global, source: &[&str]) -> Option<ModuleOutline> {
+pub(crate) fn sizes_of(alloc: Global, source: &[&str]) -> Option<ModuleSizes> {
     let text = joined(alloc, source).ok()?;
     if text.len() > 60000 {
         return None;
@@ -28,5 +28,5 @@ pub(crate) fn outline_of(alloc: Global, source: &[&str]) -> Option<ModuleOutline
         return None;
     }
     let names = Names::new(alloc, &stmts, &taken).ok()?;
-    outline(alloc, &stmts, &names).ok()
+    statement_sizes(alloc, &stmts, &names).ok()
 }

@@ -43,12 +43,12 @@ static MEANT: [Meant; 26] = [
     (3, "LATER", Ok((Base::Piece(1), Tag::Memory, 2))),
     (3, "START", Ok((Base::Absolute, Tag::Memory, 8320))),
     (3, "STACK", Ok((Base::External(1), Tag::Memory, 0))),
-    (4, "A", Err(NoValue::ToldElsewhere)),
+    (4, "A", Err(NoValue::ReportedElsewhere)),
     (4, "B", Err(NoValue::Fault(SourceCode::NotDefined))),
     (5, "B", Ok((Base::Fixed, Tag::Memory, 5))),
     (5, "X", Err(NoValue::Fault(SourceCode::NotDefined))),
-    (6, "C", Err(NoValue::ToldElsewhere)),
-    (7, "A", Err(NoValue::ToldElsewhere)),
+    (6, "C", Err(NoValue::ReportedElsewhere)),
+    (7, "A", Err(NoValue::ReportedElsewhere)),
     (7, "V", Ok((Base::Fixed, Tag::Memory, 1))),
     (7, "W", Ok((Base::Piece(0), Tag::Register, 1))),
     (7, "X", Ok((Base::External(0), Tag::Register, 0))),
@@ -60,7 +60,7 @@ static MEANT: [Meant; 26] = [
     (15, "Y", Ok((Base::External(2), Tag::Memory, 0))),
     (17, "W", Ok((Base::Piece(0), Tag::Register, 1))),
     (17, "X", Ok((Base::External(0), Tag::Register, 0))),
-    (18, "D", Err(NoValue::ToldElsewhere)),
+    (18, "D", Err(NoValue::ReportedElsewhere)),
     (18, "NO", Err(NoValue::Fault(SourceCode::NotDefined))),
 ];
 
@@ -102,7 +102,7 @@ fn names_at_each_statement(rt: HostRuntime) {
     assert!(rt; here.base == Base::Absolute && here.number == 8320);
     let last = meanings.last(b"V").ok().expect(&rt, "it has a value");
     assert!(rt; last.base == Base::Fixed && last.number == 2);
-    assert!(rt; meanings.last(b"A") == Err(NoValue::ToldElsewhere));
+    assert!(rt; meanings.last(b"A") == Err(NoValue::ReportedElsewhere));
 }
 
 #[test]

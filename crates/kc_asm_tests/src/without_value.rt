@@ -1,8 +1,8 @@
 // Names without a value, which have a fault: what their statements hold, how far they go, and which fault they have beside it.
 ghost use Rattle.std.specs.Prelude.{Err};
-ghost use Rattle.kc_expr.specs.declared.values.NoValue.TheVariants.{ToldElsewhere};
+ghost use Rattle.kc_expr.specs.declared.values.NoValue.TheVariants.{ReportedElsewhere};
 
-use kc_asm_bytes::Octet;
+use kc_asm_bytes::RelocatableByte;
 use kc_asm_emission::{Content, Extent, content_of, extent_of, fault};
 use kc_asm_operation::{Argument, fault as operand_fault, moved};
 use kc_base::{NoMemory, Text};
@@ -36,10 +36,10 @@ fn said(alloc: Global, text: &str) -> Option<Action> {
 struct Elsewhere;
 
 impl Scope for Elsewhere {
-    ghost answers = { λ _ _. Err ToldElsewhere };
+    ghost answers = { λ _ _. Err ReportedElsewhere };
 
     fn look(&self, _name: &[u8]) -> Result<Value, NoValue> {
-        Err(NoValue::ToldElsewhere)
+        Err(NoValue::ReportedElsewhere)
     }
 }
 
@@ -56,11 +56,11 @@ fn names(alloc: Global) -> Result<Symbols, NoMemory> {
 }
 
 /// The byte with all pieces at 0.
-fn byte(octet: Octet) -> u8 {
-    match octet {
-        Octet::Plain(byte) => byte,
-        Octet::First { start, value, .. } => start | (value.number % 256) as u8,
-        Octet::Second { value, .. } => (value.number / 256) as u8,
+fn byte(relocatable_byte: RelocatableByte) -> u8 {
+    match relocatable_byte {
+        RelocatableByte::Plain(byte) => byte,
+        RelocatableByte::First { start, value, .. } => start | (value.number % 256) as u8,
+        RelocatableByte::Second { value, .. } => (value.number / 256) as u8,
     }
 }
 
@@ -93,14 +93,14 @@ fn statements_with_names_without_a_value(rt: HostRuntime) -> Result<(), NoMemory
             "{text}"
         );
     }
-    let octets = match content(rt.alloc(), " DCB Q,2", &names) {
-        Some(Content::Octets(octets)) => match octets.as_slice() {
+    let relocatable_bytes = match content(rt.alloc(), " DCB Q,2", &names) {
+        Some(Content::RelocatableBytes(relocatable_bytes)) => match relocatable_bytes.as_slice() {
             [first, second] => byte(*first) == 0 && byte(*second) == 2,
             _ => false,
         },
         _ => false,
     };
-    assert!(rt; octets);
+    assert!(rt; relocatable_bytes);
     assert!(rt; code(rt.alloc(), "A EQU Z/0", &Elsewhere) == Some(11));
     Ok(())
 }

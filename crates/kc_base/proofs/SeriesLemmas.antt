@@ -24,16 +24,16 @@ last_of-take value (x ∷ xs) (suc n) d before lt = last_of-take value xs n d (v
 abbrev pub EndsAt : {X : Type 0} → (X → ℕ) → List X → ℕ → ℕ → Type 0
 EndsAt time xs t n = IsPartitionPoint (λ x. leb (time x) t ≡ true) (λ x. leb (time x) t ≡ false) xs n
 
-pub found_front : {X : Type 0} (time : X → ℕ) (xs : List X) (n t : ℕ) → EndsAt time xs t n → up_to time t xs ≡ take n xs
-found_front time xs n t point = up_to-take time xs n t (λ k d lt within. point.0 k d (omega arith) lt) (λ k d le within. point.1 k d le within)
+pub found_prefix : {X : Type 0} (time : X → ℕ) (xs : List X) (n t : ℕ) → EndsAt time xs t n → up_to time t xs ≡ take n xs
+found_prefix time xs n t point = up_to-take time xs n t (λ k d lt within. point.0 k d (omega arith) lt) (λ k d le within. point.1 k d le within)
 
 -- it ended at once: nothing was left before
 pub found_none : {X V : Type 0} (time : X → ℕ) (value : X → V) (xs : List X) (n t : ℕ) (before : V) → EndsAt time xs t n → n ≡ 0 → last_of value (up_to time t xs) before ≡ before
-found_none time value xs n t before point none = ap (λ ys. last_of value ys before) (found_front time xs n t point ∙ ap (λ k. take k xs) none)
+found_none time value xs n t before point none = ap (λ ys. last_of value ys before) (found_prefix time xs n t point ∙ ap (λ k. take k xs) none)
 
 -- the item before its end tells what is left
 pub found_last : {X V : Type 0} (time : X → ℕ) (value : X → V) (xs : List X) (n t : ℕ) (d : X) (before : V) → EndsAt time xs t n → 0 < n → n ≤ length xs →
     last_of value (up_to time t xs) before ≡ value (get_or xs (n - 1) d)
 found_last time value xs n t d before point some within =
     let more : n ≡ suc (n - 1) = omega arith in
-    ap (λ ys. last_of value ys before) (found_front time xs n t point ∙ ap (λ k. take k xs) more) ∙ last_of-take value xs (n - 1) d before (omega arith)
+    ap (λ ys. last_of value ys before) (found_prefix time xs n t point ∙ ap (λ k. take k xs) more) ∙ last_of-take value xs (n - 1) d before (omega arith)

@@ -3,7 +3,7 @@ ghost use Rattle.std.specs.List.{before_first, after_first, take_while};
 ghost use Rattle.kc_base.specs.Fields.{is_space, decimal_of, time_of, word_of, byte_of, pin_of};
 ghost use Rattle.kc_base.specs.Pins.{IsPin};
 
-use crate::text_lines::{after, front};
+use crate::text_lines::{after, prefix};
 use crate::types::{PIN_COUNT, Pin, StateTime};
 
 /// The greatest state time that a line of a text file may have.
@@ -51,7 +51,7 @@ pub fn split_at_space(text: &[u8]) -> (&[u8], &[u8])
 {
     let len = first_len(text);
     if len < text.len() {
-        (front(text, len), after(text, len + 1))
+        (prefix(text, len), after(text, len + 1))
     } else {
         (text, after(text, len))
     }

@@ -76,19 +76,19 @@ impl<'a, P: Print> Sink for HostOut<'a, P> {
 
 /// Standard error. What is said is kept, and then written at once, so that it stays together beside what other processes say.
 #[derive(Drop)]
-pub struct HostNotes<'a, P: Print> {
+pub struct HostDiagnostics<'a, P: Print> {
     out: &'a P,
     kept: Vec<u8>,
     faults: u64,
 }
 
-impl<'a, P: Print> HostNotes<'a, P> {
+impl<'a, P: Print> HostDiagnostics<'a, P> {
     /// Nothing that is said yet, and no write that has failed.
     pub fn new(alloc: Global, out: &'a P) -> Self
         ensures kept { result.kept.items ≡ [] }
         ensures faults { result.faults ≡ 0 }
     {
-        HostNotes {
+        HostDiagnostics {
             out,
             kept: Vec::new(alloc),
             faults: 0,
@@ -130,7 +130,7 @@ impl<'a, P: Print> HostNotes<'a, P> {
     }
 }
 
-impl<'a, P: Print> Sink for HostNotes<'a, P> {
+impl<'a, P: Print> Sink for HostDiagnostics<'a, P> {
     ghost written = { λ _. None };
 
     ghost faults = { λ s. s.faults };

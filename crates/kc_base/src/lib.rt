@@ -25,13 +25,13 @@ pub use edge_out::EdgeOut;
 pub use fields::{decimal, hex_byte, hex_word, pin_number, split_at_space, state_time};
 pub use files::{FILE_LIMIT, FileFault, Files};
 pub use host::HostFiles;
-pub use host_output::{HostNotes, HostOut};
+pub use host_output::{HostDiagnostics, HostOut};
 pub use image::{IMAGE_LEN, IMAGE_START, Image};
 pub use memory::{MemFiles, MemSink};
 pub use sink::{Failed, Sink, put_all};
 pub use steps::Steps;
 pub use text::Text;
-pub use text_lines::{after, first_line, front};
+pub use text_lines::{after, first_line, prefix};
 pub use types::{
     Edge, IntSet, Kind, Level, NoMemory, PIN_COUNT, Pin, PtsMode, StateTime, Undefined,
 };

@@ -11,8 +11,8 @@ before_next : (time at : ℕ) → time ≡ at + 1 → time - 1 ≡ at
 before_next time at next = omega arith
 
 -- what is told of the state whose Tick was the last, and of the units after it
-pub there : {A X : Type 0} (tells : ℕ → Units X → A) (time at : ℕ) (u v : Units X) → time ≡ at + 1 → u ≡ v → tells (time - 1) u ≡ tells at v
-there tells time at u v next same = ap (λ t. tells t u) (before_next time at next) ∙ ap (tells at) same
+pub there : {A X : Type 0} (reports : ℕ → Units X → A) (time at : ℕ) (u v : Units X) → time ≡ at + 1 → u ≡ v → reports (time - 1) u ≡ reports at v
+there reports time at u v next same = ap (λ t. reports t u) (before_next time at next) ∙ ap (reports at) same
 
 -- the edges of Ticks, and then those of a write
 pub leads_there : {O X : Type 0} (led : O → ℕ → Edge → O → Type 0) (o q p : O) (ticks : List (ℕ × Edge)) (time at : ℕ) (u v new : Units X) → time ≡ at + 1 → u ≡ v →

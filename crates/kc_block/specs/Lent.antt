@@ -3,15 +3,15 @@ use Rattle.std.specs.Prelude.{◌≡◌, ℕ, ◌-◌, ◌≤◌}
 use Rattle.kc_span.specs.Span.{Rule, after, QuietFor}
 use Rattle.kc_extra.specs.Further.{Further}
 use Rattle.kc_hsi.specs.Input.{hsi_rule}
-use Rattle.kc_block_lane.specs.Lane.{Lane}
-use Rattle.kc_block_lazy.specs.Lanes.{timer2_goes, hso_goes, further_goes}
+use Rattle.kc_block_lane.specs.DeferredUnit.{DeferredUnit}
+use Rattle.kc_block_lazy.specs.Scheduler.{timer2_goes, hso_goes, further_goes}
 use Rattle.kc_block.specs.Seen.{Seen}
 
 -- a unit stands at a state not after the present one, is quiet from there on, and quiet Ticks lead to the shown data
-pub record IsLent {D : Type 0} (rule : Rule D) (lane : Lane D) (time : ℕ) (shown : D) : Type 0 where
-  pub first : lane.at ≤ time
-  pub quiet : QuietFor rule lane.at (time - lane.at) lane.kept
-  pub leads : shown ≡ after rule lane.at (time - lane.at) lane.kept
+pub record IsLent {D : Type 0} (rule : Rule D) (deferred : DeferredUnit D) (time : ℕ) (shown : D) : Type 0 where
+  pub first : deferred.at ≤ time
+  pub quiet : QuietFor rule deferred.at (time - deferred.at) deferred.kept
+  pub leads : shown ≡ after rule deferred.at (time - deferred.at) deferred.kept
 
 -- each of the four units, Timer 2 under the present control, HSO over the values that Timer 2 shows
 pub record AreLent {X : Type 0} (f : Further X) (s : Seen X) : Type 0 where
@@ -19,4 +19,4 @@ pub record AreLent {X : Type 0} (f : Further X) (s : Seen X) : Type 0 where
   pub hso : IsLent (hso_goes s.held) s.held.hso s.time s.units.hso
   pub hsi : IsLent hsi_rule s.held.hsi s.time s.units.hsi
   pub further : IsLent (further_goes f) s.held.further s.time s.units.further
-  pub steady : s.held.steady ≡ s.units.steady
+  pub board_registers : s.held.board_registers ≡ s.units.board_registers

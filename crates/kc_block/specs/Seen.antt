@@ -1,7 +1,7 @@
 -- What a block shows of itself (this kit's own).
 use Rattle.std.specs.Prelude.{ℕ}
 use Rattle.kc_block_spec.specs.Units.{Units}
-use Rattle.kc_block_lazy.specs.Lanes.{Lanes}
+use Rattle.kc_block_lazy.specs.Scheduler.{Scheduler}
 
 pub record Seen (X : Type 0) : Type 0 where
   -- the present state
@@ -9,6 +9,6 @@ pub record Seen (X : Type 0) : Type 0 where
   -- all units at its start
   pub units : Units X
   -- the units as they are held, each at a state of its own
-  pub held : Lanes X
+  pub held : Scheduler X
   -- how often the four units were moved, together
   pub moves : ℕ

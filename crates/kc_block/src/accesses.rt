@@ -5,14 +5,14 @@ ghost use Rattle.kc_block_spec.specs.Leading.{Leads};
 ghost use Rattle.kc_block_spec.specs.Accesses.{byte_read, after_byte_read, byte_written, word_read, after_word_read, word_written, latch_edges};
 ghost use Rattle.kc_block_spec.specs.Looking.{looked};
 ghost use Rattle.kc_block_spec.specs.Levels.{printed as printed_of};
-ghost use Rattle.kc_block_lazy.specs.Lanes.{shown_units, IsLazy};
+ghost use Rattle.kc_block_lazy.specs.Scheduler.{shown_units, IsScheduled};
 ghost use Rattle.kc_block_lanes.specs.Standing.{standing};
 
 use crate::block::Block;
 use kc_base::{EdgeOut, Kind, StateTime, Steps};
 use kc_block_access as access;
 use kc_block_inputs::{lead_edges, printed};
-use kc_block_lanes::Lanes;
+use kc_block_lanes::Scheduler;
 use kc_block_spec::Window;
 use kc_extra::Extra;
 use std::sync::ledger::Ledger;
@@ -25,12 +25,12 @@ fn state_before(time: StateTime) -> StateTime
 }
 
 /// The printed pins that are high at the start of a state.
-fn printed_at<X: Extra>(lanes: &Lanes<X>, time: StateTime) -> u64
-    requires { IsLazy X.further X.agrees (standing X.plain lanes.now) time }
-    ensures { result ≡ printed_of (shown_units X.further (standing X.plain lanes.now) time).steady
-        (shown_units X.further (standing X.plain lanes.now) time).hso }
+fn printed_at<X: Extra>(scheduler: &Scheduler<X>, time: StateTime) -> u64
+    requires { IsScheduled X.further X.agrees (standing X.plain scheduler.now) time }
+    ensures { result ≡ printed_of (shown_units X.further (standing X.plain scheduler.now) time).board_registers
+        (shown_units X.further (standing X.plain scheduler.now) time).hso }
 {
-    printed(&lanes.steady, &lanes.hso.unit)
+    printed(&scheduler.board_registers, &scheduler.hso.unit)
 }
 
 impl<X: Extra + Drop> Block<X> {
@@ -52,7 +52,7 @@ impl<X: Extra + Drop> Block<X> {
         ensures steps { steps.new ≤ steps.old + 4 }
         ensures moves { self.new.moves ≤ self.old.moves + 4 }
     {
-        access::read8(&mut self.lanes, self.time, window, sfr, steps)
+        access::read8(&mut self.scheduler, self.time, window, sfr, steps)
     }
 
     /// Reads a word below 0018H in the state before the present one, after its Tick. A refusal changes nothing; an odd address is
@@ -72,7 +72,7 @@ impl<X: Extra + Drop> Block<X> {
         ensures steps { steps.new ≤ steps.old + 8 }
         ensures moves { self.new.moves ≤ self.old.moves + 8 }
     {
-        access::read16(&mut self.lanes, self.time, window, sfr, steps)
+        access::read16(&mut self.scheduler, self.time, window, sfr, steps)
     }
 
     /// Writes a byte below 0018H in the state before the present one, after its Tick, and hands out the edges of the
@@ -97,11 +97,11 @@ impl<X: Extra + Drop> Block<X> {
         ensures steps { steps.new ≤ steps.old + 4 }
         ensures moves { self.new.moves ≤ self.old.moves + 4 }
     {
-        let before = printed_at(&self.lanes, self.time);
-        let written = access::write8(&mut self.lanes, self.time, window, sfr, value, steps);
+        let before = printed_at(&self.scheduler, self.time);
+        let written = access::write8(&mut self.scheduler, self.time, window, sfr, value, steps);
         lead_edges(
             before,
-            printed_at(&self.lanes, self.time),
+            printed_at(&self.scheduler, self.time),
             state_before(self.time),
             out,
         );
@@ -128,11 +128,11 @@ impl<X: Extra + Drop> Block<X> {
         ensures steps { steps.new ≤ steps.old + 8 }
         ensures moves { self.new.moves ≤ self.old.moves + 8 }
     {
-        let before = printed_at(&self.lanes, self.time);
-        let written = access::write16(&mut self.lanes, self.time, window, sfr, value, steps);
+        let before = printed_at(&self.scheduler, self.time);
+        let written = access::write16(&mut self.scheduler, self.time, window, sfr, value, steps);
         lead_edges(
             before,
-            printed_at(&self.lanes, self.time),
+            printed_at(&self.scheduler, self.time),
             state_before(self.time),
             out,
         );
@@ -148,6 +148,6 @@ impl<X: Extra + Drop> Block<X> {
         ensures units { self.new.units ≡ self.old.units }
         ensures moves { self.new.moves ≤ self.old.moves + 1 }
     {
-        access::look(&mut self.lanes, self.time, window, sfr)
+        access::look(&mut self.scheduler, self.time, window, sfr)
     }
 }

@@ -5,12 +5,12 @@ ghost use Rattle.kc_block_spec.specs.Levels.{stimulated_before};
 ghost use Rattle.kc_block_spec.specs.Touch.{block_rule, touch, edges_of};
 ghost use Rattle.kc_block_spec.specs.Start.{first_units};
 ghost use Rattle.kc_block_spec.specs.Leading.{Leads};
-ghost use Rattle.kc_block_spec.specs.Writing.{with_steady};
+ghost use Rattle.kc_block_spec.specs.Writing.{with_board_registers};
 ghost use Rattle.kc_block_lanes.specs.Next.{IsDueOrLast};
 
 use kc_base::{EdgeOut, NoMemory, StateTime, Steps};
 use kc_block_event::advance;
-use kc_block_lanes::Lanes;
+use kc_block_lanes::Scheduler;
 use kc_extra::Extra;
 use kc_intc::Requests;
 use kc_stim::Stimuli;
@@ -21,7 +21,7 @@ use std::sync::ledger::Ledger;
 /// The peripheral units of a board at the start of a state, with a further unit `X`. State times are at most 3 * 10^15.
 #[derive(Drop)]
 pub struct Block<X: Extra + Drop> {
-    pub(crate) lanes: Lanes<X>,
+    pub(crate) scheduler: Scheduler<X>,
     pub(crate) time: StateTime,
 }
 
@@ -31,17 +31,17 @@ impl<X: Extra + Drop> Model for Block<X> {
     ghost Value = { Seen X };
 
     ghost use Rattle.kc_block_lanes.specs.Standing.{standing, moves_of};
-    ghost use Rattle.kc_block_lazy.specs.Lanes.{shown_units};
+    ghost use Rattle.kc_block_lazy.specs.Scheduler.{shown_units};
     ghost use Rattle.kc_block.specs.Sound.{IsSound};
 
     ghost view = { λ b. record {
       time = b.time;
-      units = shown_units X.further (standing X.plain b.lanes) b.time;
-      held = standing X.plain b.lanes;
-      moves = moves_of X.moved b.lanes;
+      units = shown_units X.further (standing X.plain b.scheduler) b.time;
+      held = standing X.plain b.scheduler;
+      moves = moves_of X.moved b.scheduler;
     } };
 
-    ghost invariant = { λ b. IsSound X.further X.agrees (standing X.plain b.lanes) b.time };
+    ghost invariant = { λ b. IsSound X.further X.agrees (standing X.plain b.scheduler) b.time };
 }
 
 impl<X: Extra + Drop> Block<X> {
@@ -53,8 +53,8 @@ impl<X: Extra + Drop> Block<X> {
         ensures units { IfOk result (λ block. block.units ≡ first_units stimuli (X.plain extra)) }
         ensures moves { IfOk result (λ block. block.moves ≡ X.moved extra) }
     {
-        let lanes = Lanes::new(alloc, stimuli, extra)?;
-        Ok(Block { lanes, time: 0 })
+        let scheduler = Scheduler::new(alloc, stimuli, extra)?;
+        Ok(Block { scheduler, time: 0 })
     }
 
     /// The present state.
@@ -71,7 +71,7 @@ impl<X: Extra + Drop> Block<X> {
         ensures due { IsDueOrLast (block_rule X.further) self.now.time self.now.units result }
         ensures later { self.now.time ≤ result }
     {
-        self.lanes.next()
+        self.scheduler.next()
     }
 
     /// Goes on to the start of state `to`, and hands out the edges of the printed pins in order.
@@ -89,41 +89,41 @@ impl<X: Extra + Drop> Block<X> {
         ensures steps { steps.new ≤ steps.old + 4 * touch X.further self.old.time (to - self.old.time) self.old.units }
         ensures moves { self.new.moves ≤ self.old.moves + 4 * touch X.further self.old.time (to - self.old.time) self.old.units }
     {
-        advance(&mut self.lanes, self.time, to, out, steps);
+        advance(&mut self.scheduler, self.time, to, out, steps);
         self.time = to;
     }
 
     /// The pending, mask, select and service sets.
     pub fn requests(&self) -> Requests
-        ensures { result ≡ self.now.units.steady.requests }
+        ensures { result ≡ self.now.units.board_registers.requests }
     {
-        self.lanes.steady.requests
+        self.scheduler.board_registers.requests
     }
 
     /// Puts these four sets in place of the present ones, and changes nothing else. No unit is called.
     pub fn set_requests(&mut self, requests: Requests)
         ensures time { self.new.time ≡ self.old.time }
-        ensures units { self.new.units ≡ with_steady self.old.units (record self.old.units.steady { requests = requests }) }
+        ensures units { self.new.units ≡ with_board_registers self.old.units (record self.old.units.board_registers { requests = requests }) }
         ensures moves { self.new.moves ≡ self.old.moves }
     {
-        self.lanes.steady.requests = requests;
+        self.scheduler.board_registers.requests = requests;
     }
 
     /// WSR, a value of the profile.
     pub fn wsr(&self) -> u8
-        ensures value { result ≡ self.now.units.steady.wsr }
+        ensures value { result ≡ self.now.units.board_registers.wsr }
         ensures window { IsTrue (is_wsr result) }
     {
-        self.lanes.steady.wsr
+        self.scheduler.board_registers.wsr
     }
 
     /// Puts a value of the profile into WSR, and changes nothing else. No unit is called.
     pub fn set_wsr(&mut self, wsr: u8)
         requires { IsTrue (is_wsr wsr) }
         ensures time { self.new.time ≡ self.old.time }
-        ensures units { self.new.units ≡ with_steady self.old.units (record self.old.units.steady { wsr = wsr }) }
+        ensures units { self.new.units ≡ with_board_registers self.old.units (record self.old.units.board_registers { wsr = wsr }) }
         ensures moves { self.new.moves ≡ self.old.moves }
     {
-        self.lanes.steady.wsr = wsr;
+        self.scheduler.board_registers.wsr = wsr;
     }
 }

@@ -15,7 +15,7 @@ impl<X: Extra + Drop> Block<X> {
         ensures held { result.now.inner ≡ self.now.held.timer2.kept }
         ensures lent { AreLent X.further self.now }
     {
-        &self.lanes.timer2.unit
+        &self.scheduler.timer2.unit
     }
 
     /// The high-speed output unit.
@@ -23,7 +23,7 @@ impl<X: Extra + Drop> Block<X> {
         ensures held { result.now.inner ≡ self.now.held.hso.kept }
         ensures lent { AreLent X.further self.now }
     {
-        &self.lanes.hso.unit
+        &self.scheduler.hso.unit
     }
 
     /// The high-speed input unit.
@@ -31,7 +31,7 @@ impl<X: Extra + Drop> Block<X> {
         ensures held { result.now.inner ≡ self.now.held.hsi.kept }
         ensures lent { AreLent X.further self.now }
     {
-        &self.lanes.hsi.unit
+        &self.scheduler.hsi.unit
     }
 
     /// The further unit.
@@ -39,7 +39,7 @@ impl<X: Extra + Drop> Block<X> {
         ensures held { X.plain result.now ≡ self.now.held.further.kept }
         ensures lent { AreLent X.further self.now }
     {
-        &self.lanes.further.unit
+        &self.scheduler.further.unit
     }
 
     /// The state at which a unit stands: 0 is Timer 2, 1 the high-speed output unit, 2 the high-speed input unit, 3 the
@@ -53,10 +53,10 @@ impl<X: Extra + Drop> Block<X> {
         ensures lent { AreLent X.further self.now }
     {
         match unit {
-            0 => self.lanes.timer2.at,
-            1 => self.lanes.hso.at,
-            2 => self.lanes.hsi.at,
-            _ => self.lanes.further.at,
+            0 => self.scheduler.timer2.at,
+            1 => self.scheduler.hso.at,
+            2 => self.scheduler.hsi.at,
+            _ => self.scheduler.further.at,
         }
     }
 }

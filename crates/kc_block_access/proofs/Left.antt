@@ -7,21 +7,21 @@ use Rattle.kc_due.specs.Due.{Times, at_slot}
 use Rattle.kc_stim.specs.Drives.{IsNextEdge}
 use Rattle.kc_timers.specs.T2.{T2, timer2_rule}
 use Rattle.kc_timers.specs.declared.T2Control.{T2Control}
-use Rattle.kc_timers.proofs.T2Laws.{view_tells}
+use Rattle.kc_timers.proofs.T2Laws.{view_shows}
 use Rattle.kc_hso.specs.Cam.{Cam, cam_rule}
 use Rattle.kc_hso.proofs.Kept.{quiet_keeps}
 use Rattle.kc_hsi.specs.Input.{hsi_rule}
 use Rattle.kc_hsi.proofs.QuietSpans.{quiet_after}
 use Rattle.kc_extra.specs.Further.{Further}
-use Rattle.kc_block_lane.specs.Lane.{shown, lane_at, IsLane}
-use Rattle.kc_block_lane.proofs.Lanes.{asked, asked_shows, lent}
-use Rattle.kc_block_spec.specs.declared.steady.Steady.{Steady}
+use Rattle.kc_block_lane.specs.DeferredUnit.{shown, deferred_at, IsDeferred}
+use Rattle.kc_block_lane.proofs.Scheduler.{asked, asked_shows, lent}
+use Rattle.kc_block_spec.specs.declared.board_registers.BoardRegisters.{BoardRegisters}
 use Rattle.kc_block_spec.specs.Levels.{stimulated_before, wired, outputs}
 use Rattle.kc_block_spec.specs.Control.{control_of}
 use Rattle.kc_block_spec.specs.Laws.{flag_rule}
-use Rattle.kc_block_lazy.specs.Lanes.{Lanes, flag_goes, timer2_goes, line, hso_goes, further_goes, shown_units, levels_ahead, wire_slot, IsFurther, IsLazy, IsLeft}
+use Rattle.kc_block_lazy.specs.Scheduler.{Scheduler, flag_goes, timer2_goes, line, hso_goes, further_goes, shown_units, levels_ahead, wire_slot, IsFurther, IsScheduled, IsLeft}
 use Rattle.kc_block_lazy.proofs.Spans.{agrees_after}
-use Rattle.kc_block_access.specs.Left.{AreSameButTwo, UnreadLeft, FlagLeft, HsiLeft, FurtherLeft, HsoLeft, CommandLeft, TimersLeft, GateLeft, StandingTells}
+use Rattle.kc_block_access.specs.Left.{AreSameButTwo, UnreadLeft, FlagLeft, HsiLeft, FurtherLeft, HsoLeft, CommandLeft, TimersLeft, GateLeft, StandingReports}
 
 captured_stays : (control : T2Control) (from n : ℕ) (d : T2) → (after (timer2_rule control) from n d).captured ≡ d.captured
 captured_stays control from zero d = ap (λ e. e.captured) (after-zero (timer2_rule control) from d)
@@ -46,21 +46,21 @@ command_due line from value d None never = λ n. command_quiet line from n value
 command_due line from value d (Some u) due = record {
   later = due.later;
   before = command_quiet line from (u - from) value d due.before;
-  loud = ap ((cam_rule line).quiet u) (command_stays line from (u - from) value d) ∙ due.loud;
+  active = ap ((cam_rule line).quiet u) (command_stays line from (u - from) value d) ∙ due.active;
 }
 
 module _ {X : Type 0} (f : Further X) (agrees : ℕ → ℕ → X → Type 0) where
-  pub standing_tells : StandingTells f agrees
-  standing_tells h now is = record {
+  pub standing_reports : StandingReports f agrees
+  standing_reports h now is = record {
     hsi = quiet_after h.hsi.at (now - h.hsi.at) h.hsi.kept (lent hsi_rule h.hsi now (at_slot h.due 2) is.hsi);
-    captured = captured_stays (control_of h.steady h.steady.levels) h.timer2.at (now - h.timer2.at) h.timer2.kept;
-    value = sym (view_tells (control_of h.steady h.steady.levels) h.timer2.at now h.timer2.kept is.value is.timer2.first);
+    captured = captured_stays (control_of h.board_registers h.board_registers.levels) h.timer2.at (now - h.timer2.at) h.timer2.kept;
+    value = sym (view_shows (control_of h.board_registers h.board_registers.levels) h.timer2.at now h.timer2.kept is.value is.timer2.first);
     hso = quiet_keeps (line h) h.hso.at (now - h.hso.at) h.hso.kept (lent (hso_goes h) h.hso now (at_slot h.due 1) is.hso);
   }
 
   pub unread_left : UnreadLeft f agrees
-  unread_left h now s is unread = subst (λ t. IsLeft f agrees now (record h { steady = t }) (record (shown_units f h now) { steady = t })) (sym unread) (record {
-    lazy = record {
+  unread_left h now s is unread = subst (λ t. IsLeft f agrees now (record h { board_registers = t }) (record (shown_units f h now) { board_registers = t })) (sym unread) (record {
+    scheduled = record {
       timer2 = is.timer2;
       hso = is.hso;
       hsi = is.hsi;
@@ -84,11 +84,11 @@ module _ {X : Type 0} (f : Further X) (agrees : ℕ → ℕ → X → Type 0) wh
 
   pub flag_left : FlagLeft f agrees
   flag_left h now b times is same due = record {
-    lazy = record {
-      timer2 = at (IsLane (timer2_goes h) h.timer2 now) (same 0 (λ e. omega arith)) is.timer2;
-      hso = at (IsLane (hso_goes h) h.hso now) (same 1 (λ e. omega arith)) is.hso;
-      hsi = at (IsLane hsi_rule h.hsi now) (same 2 (λ e. omega arith)) is.hsi;
-      further = at (IsLane (further_goes f) h.further now) (same 3 (λ e. omega arith)) is.further;
+    scheduled = record {
+      timer2 = at (IsDeferred (timer2_goes h) h.timer2 now) (same 0 (λ e. omega arith)) is.timer2;
+      hso = at (IsDeferred (hso_goes h) h.hso now) (same 1 (λ e. omega arith)) is.hso;
+      hsi = at (IsDeferred hsi_rule h.hsi now) (same 2 (λ e. omega arith)) is.hsi;
+      further = at (IsDeferred (further_goes f) h.further now) (same 3 (λ e. omega arith)) is.further;
       flag = asked (flag_goes h) now b (at_slot times 4) due;
       stimuli = at (IsNextEdge h.drives.stimuli now) (same 5 (λ e. omega arith)) is.stimuli;
       wires = same 6 (λ e. omega arith) ∙ is.wires;
@@ -104,12 +104,12 @@ module _ {X : Type 0} (f : Further X) (agrees : ℕ → ℕ → X → Type 0) wh
 
   pub hsi_left : HsiLeft f agrees
   hsi_left h now d times is same due = record {
-    lazy = record {
-      timer2 = at (IsLane (timer2_goes h) h.timer2 now) (same 0 (λ e. omega arith)) is.timer2;
-      hso = at (IsLane (hso_goes h) h.hso now) (same 1 (λ e. omega arith)) is.hso;
+    scheduled = record {
+      timer2 = at (IsDeferred (timer2_goes h) h.timer2 now) (same 0 (λ e. omega arith)) is.timer2;
+      hso = at (IsDeferred (hso_goes h) h.hso now) (same 1 (λ e. omega arith)) is.hso;
       hsi = asked hsi_rule now d (at_slot times 2) due;
-      further = at (IsLane (further_goes f) h.further now) (same 3 (λ e. omega arith)) is.further;
-      flag = at (IsLane (flag_goes h) h.flag now) (same 4 (λ e. omega arith)) is.flag;
+      further = at (IsDeferred (further_goes f) h.further now) (same 3 (λ e. omega arith)) is.further;
+      flag = at (IsDeferred (flag_goes h) h.flag now) (same 4 (λ e. omega arith)) is.flag;
       stimuli = at (IsNextEdge h.drives.stimuli now) (same 5 (λ e. omega arith)) is.stimuli;
       wires = same 6 (λ e. omega arith) ∙ is.wires;
       proper = is.proper;
@@ -124,45 +124,45 @@ module _ {X : Type 0} (f : Further X) (agrees : ℕ → ℕ → X → Type 0) wh
 
   pub further_left : IsFurther f agrees → FurtherLeft f agrees
   further_left keeps h now d times is same due kept = record {
-    lazy = record {
-      timer2 = at (IsLane (timer2_goes h) h.timer2 now) (same 0 (λ e. omega arith)) is.timer2;
-      hso = at (IsLane (hso_goes h) h.hso now) (same 1 (λ e. omega arith)) is.hso;
-      hsi = at (IsLane hsi_rule h.hsi now) (same 2 (λ e. omega arith)) is.hsi;
+    scheduled = record {
+      timer2 = at (IsDeferred (timer2_goes h) h.timer2 now) (same 0 (λ e. omega arith)) is.timer2;
+      hso = at (IsDeferred (hso_goes h) h.hso now) (same 1 (λ e. omega arith)) is.hso;
+      hsi = at (IsDeferred hsi_rule h.hsi now) (same 2 (λ e. omega arith)) is.hsi;
       further = asked (further_goes f) now d (at_slot times 3) due;
-      flag = at (IsLane (flag_goes h) h.flag now) (same 4 (λ e. omega arith)) is.flag;
+      flag = at (IsDeferred (flag_goes h) h.flag now) (same 4 (λ e. omega arith)) is.flag;
       stimuli = at (IsNextEdge h.drives.stimuli now) (same 5 (λ e. omega arith)) is.stimuli;
       wires = same 6 (λ e. omega arith) ∙ is.wires;
       proper = is.proper;
       held = is.held;
       order = is.order;
       value = is.value;
-      agreed = λ m. kept m (bit_xor h.steady.levels m)
-          (agrees_after f agrees keeps h h.further.at (now - h.further.at) m (bit_xor h.steady.levels m) h.further.kept (is.agreed m));
+      agreed = λ m. kept m (bit_xor h.board_registers.levels m)
+          (agrees_after f agrees keeps h h.further.at (now - h.further.at) m (bit_xor h.board_registers.levels m) h.further.kept (is.agreed m));
       spare = λ slot from to. same slot (λ e. omega arith) ∙ is.spare slot from to;
     };
     shows = ap (λ x. record (shown_units f h now) { further = x }) (asked_shows (further_goes f) now d);
   }
 
   -- the latches of HSO as it stands are those that are shown
-  same_latches : (h : Lanes X) (now : ℕ) → IsLazy f agrees h now → (shown (hso_goes h) h.hso now).latches ≡ h.hso.kept.latches
-  same_latches h now is = (standing_tells h now is).hso.latches
+  same_latches : (h : Scheduler X) (now : ℕ) → IsScheduled f agrees h now → (shown (hso_goes h) h.hso now).latches ≡ h.hso.kept.latches
+  same_latches h now is = (standing_reports h now is).hso.latches
 
   -- so the wires lead the same levels
-  same_wires : (h : Lanes X) (now : ℕ) (c : Cam) → IsLazy f agrees h now → c.latches ≡ (shown (hso_goes h) h.hso now).latches →
-      wire_slot now (levels_ahead h now) h.steady.levels
-      ≡ wire_slot now (bit_or (stimulated_before h.drives now) (wired h.drives (outputs h.steady c))) h.steady.levels
+  same_wires : (h : Scheduler X) (now : ℕ) (c : Cam) → IsScheduled f agrees h now → c.latches ≡ (shown (hso_goes h) h.hso now).latches →
+      wire_slot now (levels_ahead h now) h.board_registers.levels
+      ≡ wire_slot now (bit_or (stimulated_before h.drives now) (wired h.drives (outputs h.board_registers c))) h.board_registers.levels
   same_wires h now c is latches = ap {B = Option ℕ} (λ (l : _).
-      wire_slot now (bit_or (stimulated_before h.drives now) (wired h.drives (outputs h.steady (record c { latches = l })))) h.steady.levels)
+      wire_slot now (bit_or (stimulated_before h.drives now) (wired h.drives (outputs h.board_registers (record c { latches = l })))) h.board_registers.levels)
       (sym (latches ∙ same_latches h now is))
 
   pub hso_left : HsoLeft f agrees
   hso_left h now d times is same due latches = record {
-    lazy = record {
-      timer2 = at (IsLane (timer2_goes h) h.timer2 now) (same 0 (λ e. omega arith)) is.timer2;
+    scheduled = record {
+      timer2 = at (IsDeferred (timer2_goes h) h.timer2 now) (same 0 (λ e. omega arith)) is.timer2;
       hso = asked (hso_goes h) now d (at_slot times 1) due;
-      hsi = at (IsLane hsi_rule h.hsi now) (same 2 (λ e. omega arith)) is.hsi;
-      further = at (IsLane (further_goes f) h.further now) (same 3 (λ e. omega arith)) is.further;
-      flag = at (IsLane (flag_goes h) h.flag now) (same 4 (λ e. omega arith)) is.flag;
+      hsi = at (IsDeferred hsi_rule h.hsi now) (same 2 (λ e. omega arith)) is.hsi;
+      further = at (IsDeferred (further_goes f) h.further now) (same 3 (λ e. omega arith)) is.further;
+      flag = at (IsDeferred (flag_goes h) h.flag now) (same 4 (λ e. omega arith)) is.flag;
       stimuli = at (IsNextEdge h.drives.stimuli now) (same 5 (λ e. omega arith)) is.stimuli;
       wires = same 6 (λ e. omega arith) ∙ is.wires ∙ same_wires h now d is latches;
       proper = is.proper;
@@ -177,7 +177,7 @@ module _ {X : Type 0} (f : Further X) (agrees : ℕ → ℕ → X → Type 0) wh
 
   pub command_left : CommandLeft f agrees
   command_left h now value is = record {
-    lazy = record {
+    scheduled = record {
       timer2 = is.timer2;
       hso = record {
         first = is.hso.first;
@@ -199,22 +199,22 @@ module _ {X : Type 0} (f : Further X) (agrees : ℕ → ℕ → X → Type 0) wh
     shows = ap (λ c. record (shown_units f h now) { hso = c }) (command_stays (line h) h.hso.at (now - h.hso.at) value h.hso.kept);
   }
 
-  controlled_left : (h : Lanes X) (now ioc0 ioc2 ioc3 : ℕ) (d : T2) (c : Cam) (times : Times) → IsLazy f agrees h now → AreSameButTwo 0 1 h.due times →
+  controlled_left : (h : Scheduler X) (now ioc0 ioc2 ioc3 : ℕ) (d : T2) (c : Cam) (times : Times) → IsScheduled f agrees h now → AreSameButTwo 0 1 h.due times →
       d.value < 65536 → c.latches ≡ (shown (hso_goes h) h.hso now).latches →
-      let s : Steady = record h.steady { ioc0 = ioc0; ioc2 = ioc2; ioc3 = ioc3 } in
-      let new : Lanes X = record h { steady = s; timer2 = lane_at now d; hso = lane_at now c; due = times } in
+      let s : BoardRegisters = record h.board_registers { ioc0 = ioc0; ioc2 = ioc2; ioc3 = ioc3 } in
+      let new : Scheduler X = record h { board_registers = s; timer2 = deferred_at now d; hso = deferred_at now c; due = times } in
       IsDue (timer2_goes new) now d (at_slot times 0) → IsDue (hso_goes new) now c (at_slot times 1) →
-      IsLeft f agrees now new (record (shown_units f h now) { steady = s; timer2 = d; hso = c })
+      IsLeft f agrees now new (record (shown_units f h now) { board_registers = s; timer2 = d; hso = c })
   controlled_left h now ioc0 ioc2 ioc3 d c times is same fits latches due_timer2 due_hso =
-      let s : Steady = record h.steady { ioc0 = ioc0; ioc2 = ioc2; ioc3 = ioc3 } in
-      let new : Lanes X = record h { steady = s; timer2 = lane_at now d; hso = lane_at now c; due = times } in
+      let s : BoardRegisters = record h.board_registers { ioc0 = ioc0; ioc2 = ioc2; ioc3 = ioc3 } in
+      let new : Scheduler X = record h { board_registers = s; timer2 = deferred_at now d; hso = deferred_at now c; due = times } in
       record {
-        lazy = record {
+        scheduled = record {
           timer2 = asked (timer2_goes new) now d (at_slot times 0) due_timer2;
           hso = asked (hso_goes new) now c (at_slot times 1) due_hso;
-          hsi = at (IsLane hsi_rule h.hsi now) (same 2 (λ e. omega arith) (λ e. omega arith)) is.hsi;
-          further = at (IsLane (further_goes f) h.further now) (same 3 (λ e. omega arith) (λ e. omega arith)) is.further;
-          flag = at (IsLane (flag_goes h) h.flag now) (same 4 (λ e. omega arith) (λ e. omega arith)) is.flag;
+          hsi = at (IsDeferred hsi_rule h.hsi now) (same 2 (λ e. omega arith) (λ e. omega arith)) is.hsi;
+          further = at (IsDeferred (further_goes f) h.further now) (same 3 (λ e. omega arith) (λ e. omega arith)) is.further;
+          flag = at (IsDeferred (flag_goes h) h.flag now) (same 4 (λ e. omega arith) (λ e. omega arith)) is.flag;
           stimuli = at (IsNextEdge h.drives.stimuli now) (same 5 (λ e. omega arith) (λ e. omega arith)) is.stimuli;
           wires = same 6 (λ e. omega arith) (λ e. omega arith) ∙ is.wires ∙ same_wires h now c is latches;
           proper = is.proper;
@@ -224,26 +224,26 @@ module _ {X : Type 0} (f : Further X) (agrees : ℕ → ℕ → X → Type 0) wh
           agreed = is.agreed;
           spare = λ slot from to. same slot (λ e. omega arith) (λ e. omega arith) ∙ is.spare slot from to;
         };
-        shows = λ j. record (shown_units f h now) { steady = s; timer2 = asked_shows (timer2_goes new) now d j; hso = asked_shows (hso_goes new) now c j };
+        shows = λ j. record (shown_units f h now) { board_registers = s; timer2 = asked_shows (timer2_goes new) now d j; hso = asked_shows (hso_goes new) now c j };
       }
 
   pub timers_left : TimersLeft f agrees
   timers_left h now s d c times is same alike fits latches =
-      subst (λ (t : Steady).
-      let new : Lanes X = record h { steady = t; timer2 = lane_at now d; hso = lane_at now c; due = times } in
+      subst (λ (t : BoardRegisters).
+      let new : Scheduler X = record h { board_registers = t; timer2 = deferred_at now d; hso = deferred_at now c; due = times } in
       IsDue (timer2_goes new) now d (at_slot times 0) → IsDue (hso_goes new) now c (at_slot times 1) →
-      IsLeft f agrees now new (record (shown_units f h now) { steady = t; timer2 = d; hso = c }))
+      IsLeft f agrees now new (record (shown_units f h now) { board_registers = t; timer2 = d; hso = c }))
       (sym alike) (controlled_left h now s.ioc0 s.ioc2 s.ioc3 d c times is same fits latches)
 
   pub gate_left : GateLeft f agrees
   gate_left h now ioc1 times is same due wires =
       let b : Bool = shown (flag_goes h) h.flag now in
       record {
-        lazy = record {
-          timer2 = at (IsLane (timer2_goes h) h.timer2 now) (same 0 (λ e. omega arith) (λ e. omega arith)) is.timer2;
-          hso = at (IsLane (hso_goes h) h.hso now) (same 1 (λ e. omega arith) (λ e. omega arith)) is.hso;
-          hsi = at (IsLane hsi_rule h.hsi now) (same 2 (λ e. omega arith) (λ e. omega arith)) is.hsi;
-          further = at (IsLane (further_goes f) h.further now) (same 3 (λ e. omega arith) (λ e. omega arith)) is.further;
+        scheduled = record {
+          timer2 = at (IsDeferred (timer2_goes h) h.timer2 now) (same 0 (λ e. omega arith) (λ e. omega arith)) is.timer2;
+          hso = at (IsDeferred (hso_goes h) h.hso now) (same 1 (λ e. omega arith) (λ e. omega arith)) is.hso;
+          hsi = at (IsDeferred hsi_rule h.hsi now) (same 2 (λ e. omega arith) (λ e. omega arith)) is.hsi;
+          further = at (IsDeferred (further_goes f) h.further now) (same 3 (λ e. omega arith) (λ e. omega arith)) is.further;
           flag = asked (flag_rule (bit ioc1 2)) now b (at_slot times 4) due;
           stimuli = at (IsNextEdge h.drives.stimuli now) (same 5 (λ e. omega arith) (λ e. omega arith)) is.stimuli;
           wires = wires;
@@ -254,5 +254,5 @@ module _ {X : Type 0} (f : Further X) (agrees : ℕ → ℕ → X → Type 0) wh
           agreed = is.agreed;
           spare = λ slot from to. same slot (λ e. omega arith) (λ e. omega arith) ∙ is.spare slot from to;
         };
-        shows = ap (λ o. record (shown_units f h now) { steady = record h.steady { ioc1 = ioc1 }; overflowed = o }) (asked_shows (flag_rule (bit ioc1 2)) now b);
+        shows = ap (λ o. record (shown_units f h now) { board_registers = record h.board_registers { ioc1 = ioc1 }; overflowed = o }) (asked_shows (flag_rule (bit ioc1 2)) now b);
       }

@@ -5,14 +5,14 @@ use Rattle.std.proofs.lemmas.Bool.{false≢true}
 use Rattle.kc_base.specs.declared.types.Kind.{Kind}
 use Rattle.kc_exec_spec.specs.Window.{is_wsr}
 use Rattle.kc_extra.specs.Further.{Further}
-use Rattle.kc_block_spec.specs.declared.steady.Steady.{Steady}
+use Rattle.kc_block_spec.specs.declared.board_registers.BoardRegisters.{BoardRegisters}
 use Rattle.kc_block_spec.specs.declared.registers.WritableByte.{WritableByte}
 use Rattle.kc_block_spec.specs.declared.registers.WritableByte.TheVariants.{Zeros, IntMask, IntMask1, IntPend, IntPend1, Wsr, HsiMode, HsoCommand, Port1, Port2, Ioc0, Ioc1, Ioc2, Ioc3}
 use Rattle.kc_block_spec.specs.Units.{Units}
-use Rattle.kc_block_spec.specs.Writing.{steady_with, with_byte}
+use Rattle.kc_block_spec.specs.Writing.{board_registers_with, with_byte}
 use Rattle.kc_block_spec.specs.RegisterLaws.{refusal, IsMildRead}
 use Rattle.kc_block_spec.proofs.Named.{if_ok}
-use Rattle.kc_block_lazy.specs.Lanes.{Lanes, IsLeft}
+use Rattle.kc_block_lazy.specs.Scheduler.{Scheduler, IsLeft}
 use Rattle.kc_block_access.specs.Costs.{is_plain}
 use Rattle.kc_block_access.specs.Left.{AreUnread}
 
@@ -63,7 +63,7 @@ refusal_if false a kind = refl
 other : {P : Type 0} → ◌≡◌ {A = Bool} false true → P
 other e = absurd (false≢true e)
 
-pub plain_written : {X : Type 0} (P : Units X → Type 0) (u : Units X) (r : WritableByte) (n : ℕ) → is_plain r ≡ true → P (record u { steady = steady_with u.steady r n }) →
+pub plain_written : {X : Type 0} (P : Units X → Type 0) (u : Units X) (r : WritableByte) (n : ℕ) → is_plain r ≡ true → P (record u { board_registers = board_registers_with u.board_registers r n }) →
     IfOk (with_byte u r n) P
 plain_written P u Zeros n plain p = p
 plain_written P u IntMask n plain p = p
@@ -80,7 +80,7 @@ plain_written P u Ioc1 n plain p = other plain
 plain_written P u Ioc2 n plain p = other plain
 plain_written P u Ioc3 n plain p = other plain
 
-pub plain_unread : (s : Steady) (r : WritableByte) (n : ℕ) → is_plain r ≡ true → AreUnread s (steady_with s r n)
+pub plain_unread : (s : BoardRegisters) (r : WritableByte) (n : ℕ) → is_plain r ≡ true → AreUnread s (board_registers_with s r n)
 plain_unread s Zeros n plain = refl
 plain_unread s IntMask n plain = refl
 plain_unread s IntMask1 n plain = refl
@@ -97,12 +97,12 @@ plain_unread s Ioc2 n plain = other plain
 plain_unread s Ioc3 n plain = other plain
 
 -- the profile of the lanes is that of the units that they show
-pub profile_left : {X : Type 0} (f : Further X) (agrees : ℕ → ℕ → X → Type 0) (now : ℕ) (h : Lanes X) (u : Units X) → IsLeft f agrees now h u →
-    is_wsr u.steady.wsr ≡ true → is_wsr h.steady.wsr ≡ true
-profile_left f agrees now h u left is = ap (λ v. is_wsr v.steady.wsr) left.shows ∙ is
+pub profile_left : {X : Type 0} (f : Further X) (agrees : ℕ → ℕ → X → Type 0) (now : ℕ) (h : Scheduler X) (u : Units X) → IsLeft f agrees now h u →
+    is_wsr u.board_registers.wsr ≡ true → is_wsr h.board_registers.wsr ≡ true
+profile_left f agrees now h u left is = ap (λ v. is_wsr v.board_registers.wsr) left.shows ∙ is
 
-pub profile_read : {X : Type 0} (f : Further X) (agrees : ℕ → ℕ → X → Type 0) (now : ℕ) (h : Lanes X) (old new : Units X) → IsLeft f agrees now h new →
-    IsMildRead old new → is_wsr old.steady.wsr ≡ true → is_wsr h.steady.wsr ≡ true
+pub profile_read : {X : Type 0} (f : Further X) (agrees : ℕ → ℕ → X → Type 0) (now : ℕ) (h : Scheduler X) (old new : Units X) → IsLeft f agrees now h new →
+    IsMildRead old new → is_wsr old.board_registers.wsr ≡ true → is_wsr h.board_registers.wsr ≡ true
 profile_read f agrees now h old new left mild is = profile_left f agrees now h new left (ap is_wsr mild.wsr ∙ is)
 
 pub both_of : {A : Type 0} (P Q : A → Type 0) (r : Result A Kind) → IfOk r P → IfOk r Q → IfOk r (λ a. P a × Q a)

@@ -10,7 +10,7 @@ use Rattle.kc_block_spec.specs.Accesses.{byte_written, even_word_written, word_w
 use Rattle.kc_block_spec.specs.RegisterLaws.{refusal, first_refusal}
 use Rattle.kc_block_spec.proofs.Tables.{row_none}
 use Rattle.kc_block_spec.proofs.Named.{even_bytes_written_are_asked, if_ok_then}
-use Rattle.kc_block_lazy.specs.Lanes.{Lanes, shown_units, IsLeft}
+use Rattle.kc_block_lazy.specs.Scheduler.{Scheduler, shown_units, IsLeft}
 use Rattle.kc_block_access.proofs.Outcomes.{weaker}
 
 module _ {X : Type 0} (f : Further X) (agrees : ℕ → ℕ → X → Type 0) (t : ℕ) (w : Window) (u : Units X) (addr n : ℕ) (two : row_at (words_written w) addr ≡ None) where
@@ -25,7 +25,7 @@ module _ {X : Type 0} (f : Further X) (agrees : ℕ → ℕ → X → Type 0) (t
   refused_high o low high = (λ j. first_refusal (low j) (high j)) ∙ sym asked
 
   -- the low byte leaves lanes that show the units in which the high byte is written
-  pub two_left : (now : ℕ) (mid new : Lanes X) → IfOk (byte_written f t w u addr (n % 256)) (IsLeft f agrees now mid) →
+  pub two_left : (now : ℕ) (mid new : Scheduler X) → IfOk (byte_written f t w u addr (n % 256)) (IsLeft f agrees now mid) →
       IfOk (byte_written f t w (shown_units f mid now) (addr + 1) (n / 256)) (IsLeft f agrees now new) → IfOk (even_word_written f t w u addr n) (IsLeft f agrees now new)
   two_left now mid new low high =
       subst (λ r. IfOk (word_written_as f t w u addr n r) (IsLeft f agrees now new)) (sym two)

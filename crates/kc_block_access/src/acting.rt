@@ -7,15 +7,15 @@ ghost use Rattle.kc_due.specs.Due.{at_slot};
 ghost use Rattle.kc_hso.specs.Cam.{load_refusal, with_load};
 ghost use Rattle.kc_block_spec.specs.Costs.{Costs};
 ghost use Rattle.kc_block_spec.specs.Registers.{window_number};
-ghost use Rattle.kc_block_spec.specs.Writing.{reset_by as reset_when, emptied_by as emptied_when, steady_with as steady_after};
-ghost use Rattle.kc_block_lazy.specs.Lanes.{shown_units, IsLazy, IsLeft, IsPresent};
+ghost use Rattle.kc_block_spec.specs.Writing.{reset_by as reset_when, emptied_by as emptied_when, board_registers_with as board_registers_after};
+ghost use Rattle.kc_block_lazy.specs.Scheduler.{shown_units, IsScheduled, IsLeft, IsPresent};
 ghost use Rattle.kc_block_lanes.specs.Standing.{standing, moves_of};
 
+use crate::keeping_registers::board_registers_with;
 use crate::registers::number;
-use crate::steadying::steady_with;
 use crate::values::state_before;
 use kc_base::{StateTime, Steps, bit};
-use kc_block_lanes::Lanes;
+use kc_block_lanes::Scheduler;
 use kc_block_spec::{Window, WritableByte};
 use kc_due::DueList;
 use kc_extra::Extra;
@@ -25,46 +25,50 @@ use kc_timers::Timer2;
 use std::sync::ledger::Ledger;
 
 /// A read of IOS1 clears its bits 0 to 5.
-pub(crate) fn clear_ios1<X: Extra>(lanes: &mut Lanes<X>, now: StateTime)
-    requires present { IsPresent X.further X.agrees (standing X.plain lanes.old) now }
-    ensures left { let u = shown_units X.further (standing X.plain lanes.old) now in
-        IsLeft X.further X.agrees now (standing X.plain lanes.new) (record u { steady = record u.steady { ios1 = 0 }; overflowed = false }) }
-    ensures moves { moves_of X.moved lanes.new ≡ moves_of X.moved lanes.old }
+pub(crate) fn clear_ios1<X: Extra>(scheduler: &mut Scheduler<X>, now: StateTime)
+    requires present { IsPresent X.further X.agrees (standing X.plain scheduler.old) now }
+    ensures left { let u = shown_units X.further (standing X.plain scheduler.old) now in
+        IsLeft X.further X.agrees now (standing X.plain scheduler.new) (record u { board_registers = record u.board_registers { ios1 = 0 }; overflowed = false }) }
+    ensures moves { moves_of X.moved scheduler.new ≡ moves_of X.moved scheduler.old }
 {
-    lanes.bring_flag(now);
-    lanes.flag.unit = false;
-    lanes.steady.ios1 = 0;
-    lanes.ask_flag(now);
+    scheduler.catch_up_flag(now);
+    scheduler.flag.unit = false;
+    scheduler.board_registers.ios1 = 0;
+    scheduler.ask_flag(now);
 }
 
 /// A write of IOC1 gates outputs, and says whether Timer 1's overflow is a request.
-pub(crate) fn write_ioc1<X: Extra>(lanes: &mut Lanes<X>, now: StateTime, value: u8)
-    requires present { IsPresent X.further X.agrees (standing X.plain lanes.old) now }
-    ensures left { let u = shown_units X.further (standing X.plain lanes.old) now in
-        IsLeft X.further X.agrees now (standing X.plain lanes.new) (record u { steady = steady_after u.steady WritableByte.Ioc1 value }) }
-    ensures moves { moves_of X.moved lanes.new ≡ moves_of X.moved lanes.old }
+pub(crate) fn write_ioc1<X: Extra>(scheduler: &mut Scheduler<X>, now: StateTime, value: u8)
+    requires present { IsPresent X.further X.agrees (standing X.plain scheduler.old) now }
+    ensures left { let u = shown_units X.further (standing X.plain scheduler.old) now in
+        IsLeft X.further X.agrees now (standing X.plain scheduler.new) (record u { board_registers = board_registers_after u.board_registers WritableByte.Ioc1 value }) }
+    ensures moves { moves_of X.moved scheduler.new ≡ moves_of X.moved scheduler.old }
 {
-    lanes.bring_flag(now);
-    lanes.steady = steady_with(&lanes.steady, WritableByte::Ioc1, value);
-    lanes.ask_flag(now);
-    lanes.set_wires(now);
+    scheduler.catch_up_flag(now);
+    scheduler.board_registers = board_registers_with(
+        &scheduler.board_registers,
+        WritableByte::Ioc1,
+        value,
+    );
+    scheduler.ask_flag(now);
+    scheduler.set_wires(now);
 }
 
 /// A write of TIMER2.
 pub(crate) fn write_timer2<X: Extra, L: Ledger>(
-    lanes: &mut Lanes<X>,
+    scheduler: &mut Scheduler<X>,
     now: StateTime,
     value: u16,
     steps: &mut Steps<L>,
 )
-    requires present { IsPresent X.further X.agrees (standing X.plain lanes.old) now }
-    ensures left { let u = shown_units X.further (standing X.plain lanes.old) now in
-        IsLeft X.further X.agrees now (standing X.plain lanes.new) (record u { timer2 = record u.timer2 { value = value } }) }
-    ensures costs { Costs 4 2 steps.old steps.new (moves_of X.moved lanes.old) (moves_of X.moved lanes.new) }
+    requires present { IsPresent X.further X.agrees (standing X.plain scheduler.old) now }
+    ensures left { let u = shown_units X.further (standing X.plain scheduler.old) now in
+        IsLeft X.further X.agrees now (standing X.plain scheduler.new) (record u { timer2 = record u.timer2 { value = value } }) }
+    ensures costs { Costs 4 2 steps.old steps.new (moves_of X.moved scheduler.old) (moves_of X.moved scheduler.new) }
 {
-    lanes.bring_timers(now, steps);
-    lanes.timer2.unit.write(value);
-    lanes.ask_timers(now, steps);
+    scheduler.catch_up_timers(now, steps);
+    scheduler.timer2.unit.write(value);
+    scheduler.ask_timers(now, steps);
 }
 
 /// Bit 1 of a write of IOC0 resets Timer 2.
@@ -78,21 +82,25 @@ fn reset_by(timer: &mut Timer2, value: u8)
 
 /// A write of IOC0.
 pub(crate) fn write_ioc0<X: Extra, L: Ledger>(
-    lanes: &mut Lanes<X>,
+    scheduler: &mut Scheduler<X>,
     now: StateTime,
     value: u8,
     steps: &mut Steps<L>,
 )
-    requires present { IsPresent X.further X.agrees (standing X.plain lanes.old) now }
-    ensures left { let u = shown_units X.further (standing X.plain lanes.old) now in
-        IsLeft X.further X.agrees now (standing X.plain lanes.new)
-        (record u { steady = steady_after u.steady WritableByte.Ioc0 value; timer2 = reset_when value u.timer2 }) }
-    ensures costs { Costs 4 2 steps.old steps.new (moves_of X.moved lanes.old) (moves_of X.moved lanes.new) }
+    requires present { IsPresent X.further X.agrees (standing X.plain scheduler.old) now }
+    ensures left { let u = shown_units X.further (standing X.plain scheduler.old) now in
+        IsLeft X.further X.agrees now (standing X.plain scheduler.new)
+        (record u { board_registers = board_registers_after u.board_registers WritableByte.Ioc0 value; timer2 = reset_when value u.timer2 }) }
+    ensures costs { Costs 4 2 steps.old steps.new (moves_of X.moved scheduler.old) (moves_of X.moved scheduler.new) }
 {
-    lanes.bring_timers(now, steps);
-    lanes.steady = steady_with(&lanes.steady, WritableByte::Ioc0, value);
-    reset_by(&mut lanes.timer2.unit, value);
-    lanes.ask_timers(now, steps);
+    scheduler.catch_up_timers(now, steps);
+    scheduler.board_registers = board_registers_with(
+        &scheduler.board_registers,
+        WritableByte::Ioc0,
+        value,
+    );
+    reset_by(&mut scheduler.timer2.unit, value);
+    scheduler.ask_timers(now, steps);
 }
 
 /// Bit 7 of a write of IOC2 empties HSO's entries and holding register.
@@ -106,52 +114,60 @@ fn empty_by(hso: &mut Hso, value: u8)
 
 /// A write of IOC2, which was found to be no fast Timer 2 with entries on it.
 pub(crate) fn write_ioc2<X: Extra, L: Ledger>(
-    lanes: &mut Lanes<X>,
+    scheduler: &mut Scheduler<X>,
     now: StateTime,
     value: u8,
     steps: &mut Steps<L>,
 )
-    requires present { IsPresent X.further X.agrees (standing X.plain lanes.old) now }
-    ensures left { let u = shown_units X.further (standing X.plain lanes.old) now in
-        IsLeft X.further X.agrees now (standing X.plain lanes.new)
-        (record u { steady = steady_after u.steady WritableByte.Ioc2 value; hso = emptied_when value u.hso }) }
-    ensures costs { Costs 4 2 steps.old steps.new (moves_of X.moved lanes.old) (moves_of X.moved lanes.new) }
+    requires present { IsPresent X.further X.agrees (standing X.plain scheduler.old) now }
+    ensures left { let u = shown_units X.further (standing X.plain scheduler.old) now in
+        IsLeft X.further X.agrees now (standing X.plain scheduler.new)
+        (record u { board_registers = board_registers_after u.board_registers WritableByte.Ioc2 value; hso = emptied_when value u.hso }) }
+    ensures costs { Costs 4 2 steps.old steps.new (moves_of X.moved scheduler.old) (moves_of X.moved scheduler.new) }
 {
-    lanes.bring_timers(now, steps);
-    lanes.steady = steady_with(&lanes.steady, WritableByte::Ioc2, value);
-    empty_by(&mut lanes.hso.unit, value);
-    lanes.ask_timers(now, steps);
+    scheduler.catch_up_timers(now, steps);
+    scheduler.board_registers = board_registers_with(
+        &scheduler.board_registers,
+        WritableByte::Ioc2,
+        value,
+    );
+    empty_by(&mut scheduler.hso.unit, value);
+    scheduler.ask_timers(now, steps);
 }
 
 /// A write of IOC3.
 pub(crate) fn write_ioc3<X: Extra, L: Ledger>(
-    lanes: &mut Lanes<X>,
+    scheduler: &mut Scheduler<X>,
     now: StateTime,
     value: u8,
     steps: &mut Steps<L>,
 )
-    requires present { IsPresent X.further X.agrees (standing X.plain lanes.old) now }
-    ensures left { let u = shown_units X.further (standing X.plain lanes.old) now in
-        IsLeft X.further X.agrees now (standing X.plain lanes.new) (record u { steady = steady_after u.steady WritableByte.Ioc3 value }) }
-    ensures costs { Costs 4 2 steps.old steps.new (moves_of X.moved lanes.old) (moves_of X.moved lanes.new) }
+    requires present { IsPresent X.further X.agrees (standing X.plain scheduler.old) now }
+    ensures left { let u = shown_units X.further (standing X.plain scheduler.old) now in
+        IsLeft X.further X.agrees now (standing X.plain scheduler.new) (record u { board_registers = board_registers_after u.board_registers WritableByte.Ioc3 value }) }
+    ensures costs { Costs 4 2 steps.old steps.new (moves_of X.moved scheduler.old) (moves_of X.moved scheduler.new) }
 {
-    lanes.bring_timers(now, steps);
-    lanes.steady = steady_with(&lanes.steady, WritableByte::Ioc3, value);
-    lanes.ask_timers(now, steps);
+    scheduler.catch_up_timers(now, steps);
+    scheduler.board_registers = board_registers_with(
+        &scheduler.board_registers,
+        WritableByte::Ioc3,
+        value,
+    );
+    scheduler.ask_timers(now, steps);
 }
 
 /// A write of HSO_COMMAND, which no Tick reads: HSO stays in the state where it stands, and is due as before.
-pub(crate) fn write_hso_command<X: Extra>(lanes: &mut Lanes<X>, now: StateTime, value: u8)
-    requires { IsLazy X.further X.agrees (standing X.plain lanes.old) now }
-    ensures left { let u = shown_units X.further (standing X.plain lanes.old) now in
-        IsLeft X.further X.agrees now (standing X.plain lanes.new) (record u { hso = record u.hso { command = value } }) }
-    ensures moves { moves_of X.moved lanes.new ≡ moves_of X.moved lanes.old }
+pub(crate) fn write_hso_command<X: Extra>(scheduler: &mut Scheduler<X>, now: StateTime, value: u8)
+    requires { IsScheduled X.further X.agrees (standing X.plain scheduler.old) now }
+    ensures left { let u = shown_units X.further (standing X.plain scheduler.old) now in
+        IsLeft X.further X.agrees now (standing X.plain scheduler.new) (record u { hso = record u.hso { command = value } }) }
+    ensures moves { moves_of X.moved scheduler.new ≡ moves_of X.moved scheduler.old }
 {
-    lanes.hso.unit.command(value);
+    scheduler.hso.unit.command(value);
 }
 
 /// HSO is due where it was, or at this state, if that is earlier.
-fn hasten_hso(due: &mut DueList, visit: Option<StateTime>)
+fn reschedule_hso(due: &mut DueList, visit: Option<StateTime>)
     ensures here { at_slot due.new 1 ≡ least_of (at_slot due.old 1) visit }
     ensures others { (k : ℕ) → k ≢ 1 → at_slot due.new k ≡ at_slot due.old k }
 {
@@ -162,103 +178,103 @@ fn hasten_hso(due: &mut DueList, visit: Option<StateTime>)
 
 /// A write of HSO_TIME, which was found to load: HSO is due as before, or where an empty slot takes what was loaded.
 pub(crate) fn load_hso<X: Extra, L: Ledger>(
-    lanes: &mut Lanes<X>,
+    scheduler: &mut Scheduler<X>,
     now: StateTime,
     time: u16,
     steps: &mut Steps<L>,
 )
-    requires present { IsPresent X.further X.agrees (standing X.plain lanes.old) now }
-    requires loads { load_refusal (shown_units X.further (standing X.plain lanes.old) now).hso (bit_of lanes.old.steady.ioc2 0) ≡ None }
-    ensures left { let u = shown_units X.further (standing X.plain lanes.old) now in
-        IsLeft X.further X.agrees now (standing X.plain lanes.new) (record u { hso = with_load time u.hso }) }
-    ensures costs { Costs 2 1 steps.old steps.new (moves_of X.moved lanes.old) (moves_of X.moved lanes.new) }
+    requires present { IsPresent X.further X.agrees (standing X.plain scheduler.old) now }
+    requires loads { load_refusal (shown_units X.further (standing X.plain scheduler.old) now).hso (bit_of scheduler.old.board_registers.ioc2 0) ≡ None }
+    ensures left { let u = shown_units X.further (standing X.plain scheduler.old) now in
+        IsLeft X.further X.agrees now (standing X.plain scheduler.new) (record u { hso = with_load time u.hso }) }
+    ensures costs { Costs 2 1 steps.old steps.new (moves_of X.moved scheduler.old) (moves_of X.moved scheduler.new) }
 {
-    lanes.bring_hso(now, steps);
-    let fast = bit(lanes.steady.ioc2, 0);
-    let visit = lanes.hso.unit.first_empty(now, steps);
-    let _ = lanes.hso.unit.load_time(time, fast);
-    hasten_hso(&mut lanes.due, visit);
+    scheduler.catch_up_hso(now, steps);
+    let fast = bit(scheduler.board_registers.ioc2, 0);
+    let visit = scheduler.hso.unit.first_empty(now, steps);
+    let _ = scheduler.hso.unit.load_time(time, fast);
+    reschedule_hso(&mut scheduler.due, visit);
 }
 
 /// A write of HSI_MODE.
 pub(crate) fn write_hsi_mode<X: Extra, L: Ledger>(
-    lanes: &mut Lanes<X>,
+    scheduler: &mut Scheduler<X>,
     now: StateTime,
     value: u8,
     steps: &mut Steps<L>,
 )
-    requires present { IsPresent X.further X.agrees (standing X.plain lanes.old) now }
-    ensures left { let u = shown_units X.further (standing X.plain lanes.old) now in
-        IsLeft X.further X.agrees now (standing X.plain lanes.new) (record u { hsi = record u.hsi { mode = value } }) }
-    ensures costs { Costs 2 1 steps.old steps.new (moves_of X.moved lanes.old) (moves_of X.moved lanes.new) }
+    requires present { IsPresent X.further X.agrees (standing X.plain scheduler.old) now }
+    ensures left { let u = shown_units X.further (standing X.plain scheduler.old) now in
+        IsLeft X.further X.agrees now (standing X.plain scheduler.new) (record u { hsi = record u.hsi { mode = value } }) }
+    ensures costs { Costs 2 1 steps.old steps.new (moves_of X.moved scheduler.old) (moves_of X.moved scheduler.new) }
 {
-    lanes.bring_hsi(now, steps);
-    lanes.hsi.unit.set_mode(value);
-    lanes.ask_hsi(now, steps);
+    scheduler.catch_up_hsi(now, steps);
+    scheduler.hsi.unit.set_mode(value);
+    scheduler.ask_hsi(now, steps);
 }
 
 /// A read of HSI_TIME empties the holding register.
 pub(crate) fn take_hsi_time<X: Extra, L: Ledger>(
-    lanes: &mut Lanes<X>,
+    scheduler: &mut Scheduler<X>,
     now: StateTime,
     steps: &mut Steps<L>,
 ) -> u16
-    requires present { IsPresent X.further X.agrees (standing X.plain lanes.old) now }
-    ensures time { result ≡ (shown_units X.further (standing X.plain lanes.old) now).hsi.held.time }
-    ensures left { let u = shown_units X.further (standing X.plain lanes.old) now in
-        IsLeft X.further X.agrees now (standing X.plain lanes.new) (record u { hsi = record u.hsi { loaded = false } }) }
-    ensures costs { Costs 2 1 steps.old steps.new (moves_of X.moved lanes.old) (moves_of X.moved lanes.new) }
+    requires present { IsPresent X.further X.agrees (standing X.plain scheduler.old) now }
+    ensures time { result ≡ (shown_units X.further (standing X.plain scheduler.old) now).hsi.held.time }
+    ensures left { let u = shown_units X.further (standing X.plain scheduler.old) now in
+        IsLeft X.further X.agrees now (standing X.plain scheduler.new) (record u { hsi = record u.hsi { loaded = false } }) }
+    ensures costs { Costs 2 1 steps.old steps.new (moves_of X.moved scheduler.old) (moves_of X.moved scheduler.new) }
 {
-    lanes.bring_hsi(now, steps);
-    let time = lanes.hsi.unit.read_time();
-    lanes.ask_hsi(now, steps);
+    scheduler.catch_up_hsi(now, steps);
+    let time = scheduler.hsi.unit.read_time();
+    scheduler.ask_hsi(now, steps);
     time
 }
 
 /// A byte read of the further unit, in the state before `now`.
 pub(crate) fn read_further<X: Extra, L: Ledger>(
-    lanes: &mut Lanes<X>,
+    scheduler: &mut Scheduler<X>,
     now: StateTime,
     window: Window,
     sfr: u8,
     steps: &mut Steps<L>,
 ) -> Option<u8>
-    requires present { IsPresent X.further X.agrees (standing X.plain lanes.old) now }
-    ensures answer { let u = shown_units X.further (standing X.plain lanes.old) now in
+    requires present { IsPresent X.further X.agrees (standing X.plain scheduler.old) now }
+    ensures answer { let u = shown_units X.further (standing X.plain scheduler.old) now in
         result ≡ X.further.answer (window_number window) sfr (now - 1) u.further }
-    ensures left { let u = shown_units X.further (standing X.plain lanes.old) now in
-        IsLeft X.further X.agrees now (standing X.plain lanes.new)
+    ensures left { let u = shown_units X.further (standing X.plain scheduler.old) now in
+        IsLeft X.further X.agrees now (standing X.plain scheduler.new)
         (record u { further = X.further.after_read (window_number window) sfr (now - 1) u.further }) }
-    ensures costs { Costs 2 1 steps.old steps.new (moves_of X.moved lanes.old) (moves_of X.moved lanes.new) }
+    ensures costs { Costs 2 1 steps.old steps.new (moves_of X.moved scheduler.old) (moves_of X.moved scheduler.new) }
 {
-    lanes.bring_further(now, steps);
-    let answer = lanes
+    scheduler.catch_up_further(now, steps);
+    let answer = scheduler
         .further
         .unit
         .read(number(window), sfr, state_before(now));
-    lanes.ask_further(now, steps);
+    scheduler.ask_further(now, steps);
     answer
 }
 
 /// A byte write of the further unit, in the state before `now`.
 pub(crate) fn write_further<X: Extra, L: Ledger>(
-    lanes: &mut Lanes<X>,
+    scheduler: &mut Scheduler<X>,
     now: StateTime,
     window: Window,
     sfr: u8,
     value: u8,
     steps: &mut Steps<L>,
 )
-    requires present { IsPresent X.further X.agrees (standing X.plain lanes.old) now }
-    ensures left { let u = shown_units X.further (standing X.plain lanes.old) now in
-        IsLeft X.further X.agrees now (standing X.plain lanes.new)
+    requires present { IsPresent X.further X.agrees (standing X.plain scheduler.old) now }
+    ensures left { let u = shown_units X.further (standing X.plain scheduler.old) now in
+        IsLeft X.further X.agrees now (standing X.plain scheduler.new)
         (record u { further = X.further.after_write (window_number window) sfr value (now - 1) u.further }) }
-    ensures costs { Costs 2 1 steps.old steps.new (moves_of X.moved lanes.old) (moves_of X.moved lanes.new) }
+    ensures costs { Costs 2 1 steps.old steps.new (moves_of X.moved scheduler.old) (moves_of X.moved scheduler.new) }
 {
-    lanes.bring_further(now, steps);
-    let _ = lanes
+    scheduler.catch_up_further(now, steps);
+    let _ = scheduler
         .further
         .unit
         .write(number(window), sfr, value, state_before(now));
-    lanes.ask_further(now, steps);
+    scheduler.ask_further(now, steps);
 }

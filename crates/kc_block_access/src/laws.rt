@@ -1,9 +1,9 @@
-ghost use Rattle.kc_block_access.specs.Left.{UnreadLeft, FlagLeft, HsiLeft, FurtherLeft, HsoLeft, CommandLeft, TimersLeft, GateLeft, StandingTells};
+ghost use Rattle.kc_block_access.specs.Left.{UnreadLeft, FlagLeft, HsiLeft, FurtherLeft, HsoLeft, CommandLeft, TimersLeft, GateLeft, StandingReports};
 
 use kc_extra::Extra;
 
 /// What an access leaves of the lanes shows the units that the access leaves, and needs no other due state asked.
-pub fn what_is_left_is_lazy<X: Extra>()
+pub fn what_is_left_is_scheduled<X: Extra>()
     ensures unread { UnreadLeft X.further X.agrees }
     ensures flag { FlagLeft X.further X.agrees }
     ensures hsi { HsiLeft X.further X.agrees }
@@ -15,6 +15,6 @@ pub fn what_is_left_is_lazy<X: Extra>()
 {}
 
 /// What units that stand earlier tell of the present state, without being moved.
-pub fn standing_units_tell_what_is_shown<X: Extra>()
-    ensures { StandingTells X.further X.agrees }
+pub fn standing_units_report_what_is_shown<X: Extra>()
+    ensures { StandingReports X.further X.agrees }
 {}

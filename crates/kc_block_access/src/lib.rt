@@ -3,16 +3,16 @@
 #![tactic(auto)]
 
 mod acting;
+mod keeping_registers;
 mod laws;
 mod looking;
 mod reading;
 mod registers;
 mod seeing;
-mod steadying;
 mod values;
 mod writing;
 
-pub use laws::{standing_units_tell_what_is_shown, what_is_left_is_lazy};
+pub use laws::{standing_units_report_what_is_shown, what_is_left_is_scheduled};
 pub use looking::look;
 pub use reading::{read8, read16};
 pub use writing::{write8, write16};

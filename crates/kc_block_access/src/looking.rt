@@ -4,13 +4,13 @@ ghost use Rattle.std.specs.Option.{unwrap_or};
 ghost use Rattle.kc_base.specs.Fresh.{IsFresh};
 ghost use Rattle.kc_block_spec.specs.Registers.{window_number};
 ghost use Rattle.kc_block_spec.specs.Looking.{half_at, looked};
-ghost use Rattle.kc_block_lazy.specs.Lanes.{shown_units, IsLazy, IsPresent};
+ghost use Rattle.kc_block_lazy.specs.Scheduler.{shown_units, IsScheduled, IsPresent};
 ghost use Rattle.kc_block_lanes.specs.Standing.{standing, moves_of};
 
 use crate::registers::{number, readable_byte, readable_word};
 use crate::seeing::{byte_at, seen_at, word_at};
 use kc_base::{StateTime, Steps};
-use kc_block_lanes::Lanes;
+use kc_block_lanes::Scheduler;
 use kc_block_spec::Window;
 use kc_extra::Extra;
 use std::marker::Brand;
@@ -28,29 +28,34 @@ fn half(sfr: u8, word: u16) -> u8
 }
 
 // Brings the further unit to the present state, with a counter of its own.
-fn bring_further<X: Extra, L: Ledger>(lanes: &mut Lanes<X>, now: StateTime, blank: Blank)
-    requires present { IsPresent X.further X.agrees (standing X.plain lanes.old) now }
+fn catch_up_further<X: Extra, L: Ledger>(scheduler: &mut Scheduler<X>, now: StateTime, blank: Blank)
+    requires present { IsPresent X.further X.agrees (standing X.plain scheduler.old) now }
     requires fresh { IsFresh blank L.name L.parts }
-    ensures lazy { IsLazy X.further X.agrees (standing X.plain lanes.new) now }
-    ensures shows { shown_units X.further (standing X.plain lanes.new) now ≡ shown_units X.further (standing X.plain lanes.old) now }
-    ensures there { X.plain lanes.new.further.unit ≡ (shown_units X.further (standing X.plain lanes.old) now).further }
-    ensures moves { moves_of X.moved lanes.new ≤ moves_of X.moved lanes.old + 1 }
+    ensures scheduled { IsScheduled X.further X.agrees (standing X.plain scheduler.new) now }
+    ensures shows { shown_units X.further (standing X.plain scheduler.new) now ≡ shown_units X.further (standing X.plain scheduler.old) now }
+    ensures there { X.plain scheduler.new.further.unit ≡ (shown_units X.further (standing X.plain scheduler.old) now).further }
+    ensures moves { moves_of X.moved scheduler.new ≤ moves_of X.moved scheduler.old + 1 }
 {
     let mut own = Steps::<L>::new(blank);
-    lanes.bring_further(now, &mut own);
+    scheduler.catch_up_further(now, &mut own);
 }
 
 // What the further unit shows, 0 where it has no such register.
-fn look_further<X: Extra>(lanes: &mut Lanes<X>, now: StateTime, window: Window, sfr: u8) -> u8
-    requires present { IsPresent X.further X.agrees (standing X.plain lanes.old) now }
-    ensures value { let u = shown_units X.further (standing X.plain lanes.old) now in
+fn look_further<X: Extra>(
+    scheduler: &mut Scheduler<X>,
+    now: StateTime,
+    window: Window,
+    sfr: u8,
+) -> u8
+    requires present { IsPresent X.further X.agrees (standing X.plain scheduler.old) now }
+    ensures value { let u = shown_units X.further (standing X.plain scheduler.old) now in
         result ≡ unwrap_or (X.further.answer (window_number window) sfr now u.further) 0 }
-    ensures lazy { IsLazy X.further X.agrees (standing X.plain lanes.new) now }
-    ensures shows { shown_units X.further (standing X.plain lanes.new) now ≡ shown_units X.further (standing X.plain lanes.old) now }
-    ensures moves { moves_of X.moved lanes.new ≤ moves_of X.moved lanes.old + 1 }
+    ensures scheduled { IsScheduled X.further X.agrees (standing X.plain scheduler.new) now }
+    ensures shows { shown_units X.further (standing X.plain scheduler.new) now ≡ shown_units X.further (standing X.plain scheduler.old) now }
+    ensures moves { moves_of X.moved scheduler.new ≤ moves_of X.moved scheduler.old + 1 }
 {
-    bring_further::<X, Brand>(lanes, now, Blank::new(1));
-    lanes
+    catch_up_further::<X, Brand>(scheduler, now, Blank::new(1));
+    scheduler
         .further
         .unit
         .look(number(window), sfr, now)
@@ -60,19 +65,19 @@ fn look_further<X: Extra>(lanes: &mut Lanes<X>, now: StateTime, window: Window, 
 /// What a byte read at the start of state `now` would give, without its effect: of a half of a word register that half, and 0
 /// where the read is undefined. An input without a wire shows its stimuli in `now`, a wired one its level in the state before.
 /// It counts no call; the further unit may be moved.
-pub fn look<X: Extra>(lanes: &mut Lanes<X>, now: StateTime, window: Window, sfr: u8) -> u8
-    requires present { IsPresent X.further X.agrees (standing X.plain lanes.old) now }
-    ensures value { result ≡ looked X.further now window (shown_units X.further (standing X.plain lanes.old) now) sfr }
-    ensures lazy { IsLazy X.further X.agrees (standing X.plain lanes.new) now }
-    ensures shows { shown_units X.further (standing X.plain lanes.new) now ≡ shown_units X.further (standing X.plain lanes.old) now }
-    ensures moves { moves_of X.moved lanes.new ≤ moves_of X.moved lanes.old + 1 }
+pub fn look<X: Extra>(scheduler: &mut Scheduler<X>, now: StateTime, window: Window, sfr: u8) -> u8
+    requires present { IsPresent X.further X.agrees (standing X.plain scheduler.old) now }
+    ensures value { result ≡ looked X.further now window (shown_units X.further (standing X.plain scheduler.old) now) sfr }
+    ensures scheduled { IsScheduled X.further X.agrees (standing X.plain scheduler.new) now }
+    ensures shows { shown_units X.further (standing X.plain scheduler.new) now ≡ shown_units X.further (standing X.plain scheduler.old) now }
+    ensures moves { moves_of X.moved scheduler.new ≤ moves_of X.moved scheduler.old + 1 }
 {
     if let Some(register) = readable_byte(window, sfr) {
-        let seen = seen_at(lanes, now);
-        return byte_at(lanes, &seen, now, register);
+        let seen = seen_at(scheduler, now);
+        return byte_at(scheduler, &seen, now, register);
     }
     match readable_word(window, sfr - sfr % 2) {
-        Some(register) => half(sfr, word_at(lanes, now, now, register)),
-        None => look_further(lanes, now, window, sfr),
+        Some(register) => half(sfr, word_at(scheduler, now, now, register)),
+        None => look_further(scheduler, now, window, sfr),
     }
 }

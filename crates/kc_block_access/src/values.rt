@@ -5,7 +5,7 @@ ghost use Rattle.kc_block_spec.specs.Reading.{port0_levels, port1_levels, port2_
 
 use kc_base::{StateTime, bit, weight};
 use kc_block_inputs::has_pin;
-use kc_block_spec::Steady;
+use kc_block_spec::BoardRegisters;
 
 /// IOS1: its bits 0 to 4, Timer 1's overflow, and the bits of HSI.
 pub(crate) fn ios1(low: u8, overflowed: bool, flags: u8) -> u8
@@ -23,18 +23,18 @@ pub(crate) fn port0(levels: u64) -> u8
 }
 
 /// PORT1: its latch and the levels of P10 to P17, both by AND.
-pub(crate) fn port1(steady: &Steady) -> u8
-    ensures { result ≡ bit_and steady.now.port1 (port1_levels steady.now.levels) }
+pub(crate) fn port1(board_registers: &BoardRegisters) -> u8
+    ensures { result ≡ bit_and board_registers.now.port1 (port1_levels board_registers.now.levels) }
 {
-    steady.port1 & ((steady.levels >> 6) % 256) as u8
+    board_registers.port1 & ((board_registers.levels >> 6) % 256) as u8
 }
 
 /// PORT2: latch bits, levels, and both by AND.
-pub(crate) fn port2(steady: &Steady) -> u8
-    ensures { result ≡ port2_read steady.now }
+pub(crate) fn port2(board_registers: &BoardRegisters) -> u8
+    ensures { result ≡ port2_read board_registers.now }
 {
-    let latch = steady.port2;
-    let levels = steady.levels;
+    let latch = board_registers.port2;
+    let levels = board_registers.levels;
     weight(bit(latch, 0), 1)
         + weight(has_pin(levels, 24), 4)
         + weight(has_pin(levels, 22), 8)

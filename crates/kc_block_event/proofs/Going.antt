@@ -6,7 +6,7 @@ use Rattle.kc_extra.specs.Further.{Further}
 use Rattle.kc_block_spec.specs.Units.{Units}
 use Rattle.kc_block_spec.specs.Tick.{tick}
 use Rattle.kc_block_spec.specs.Touch.{in_state, block_rule, touched, touch, edges_of}
-use Rattle.kc_block_lazy.specs.Lanes.{Lanes, shown_units, IsFurther, IsLazy}
+use Rattle.kc_block_lazy.specs.Scheduler.{Scheduler, shown_units, IsFurther, IsScheduled}
 use Rattle.kc_block_lazy.specs.Laws.{IsUpTo}
 use Rattle.kc_block_lazy.proofs.Spans.{quiet_span, goes_on}
 use Rattle.kc_block_lanes.specs.Next.{IsDueOrLast}
@@ -80,7 +80,7 @@ pub due_not_before : {D : Type 0} (rule : Rule D) (now : ℕ) (d : D) (at : ℕ)
 due_not_before rule now d at (inl due) fits = due.later
 due_not_before rule now d at (inr last) fits = let same : at ≡ 2 ^ 64 - 1 = last.0 in omega arith
 
-module _ {X : Type 0} (f : Further X) (agrees : ℕ → ℕ → X → Type 0) (keeps : IsFurther f agrees) (h : Lanes X) (now to : ℕ) (is : IsLazy f agrees h now) (le : now ≤ to) (up_to : IsUpTo h to) where
+module _ {X : Type 0} (f : Further X) (agrees : ℕ → ℕ → X → Type 0) (keeps : IsFurther f agrees) (h : Scheduler X) (now to : ℕ) (is : IsScheduled f agrees h now) (le : now ≤ to) (up_to : IsUpTo h to) where
   there : now + (to - now) ≡ to
   there = omega arith
 
@@ -88,8 +88,8 @@ module _ {X : Type 0} (f : Further X) (agrees : ℕ → ℕ → X → Type 0) (k
   up_to_there slot u lt e = let later : to ≤ u = up_to slot u lt e in omega arith
 
   -- over states before each slot
-  pub still_lazy : IsLazy f agrees h to
-  still_lazy = goes_on f agrees keeps h now to is le up_to
+  pub still_scheduled : IsScheduled f agrees h to
+  still_scheduled = goes_on f agrees keeps h now to is le up_to
 
   pub still_units : shown_units f h to ≡ after (block_rule f) now (to - now) (shown_units f h now)
   still_units = sym ((quiet_span f agrees keeps h now (to - now) is up_to_there).units ∙ ap (shown_units f h) there)

@@ -4,11 +4,11 @@ use Rattle.kc_due.specs.Due.{Times, at_slot}
 use Rattle.kc_stim.specs.Drives.{IsNextEdge}
 use Rattle.kc_hsi.specs.Input.{hsi_rule}
 use Rattle.kc_extra.specs.Further.{Further}
-use Rattle.kc_block_lazy.specs.Lanes.{Lanes, flag_goes, timer2_goes, hso_goes, further_goes, levels_ahead, wire_slot}
+use Rattle.kc_block_lazy.specs.Scheduler.{Scheduler, flag_goes, timer2_goes, hso_goes, further_goes, levels_ahead, wire_slot}
 use Rattle.kc_block_lazy.specs.Events.{AsksWhere}
 use Rattle.kc_block_event.specs.declared.asks.Touched.{Touched}
 
-pub record AreAskedWhere {X : Type 0} (f : Further X) (touched : Touched) (next : ℕ) (old : Times) (k : Lanes X) : Type 0 where
+pub record AreAskedWhere {X : Type 0} (f : Further X) (touched : Touched) (next : ℕ) (old : Times) (k : Scheduler X) : Type 0 where
   pub timer2 : AsksWhere touched.timer2 (timer2_goes k) next k.timer2.kept (at_slot old 0) (at_slot k.due 0)
   pub hso : AsksWhere touched.hso (hso_goes k) next k.hso.kept (at_slot old 1) (at_slot k.due 1)
   pub hsi : AsksWhere touched.hsi hsi_rule next k.hsi.kept (at_slot old 2) (at_slot k.due 2)
@@ -16,5 +16,5 @@ pub record AreAskedWhere {X : Type 0} (f : Further X) (touched : Touched) (next 
   pub flag : AsksWhere touched.flag (flag_goes k) next k.flag.kept (at_slot old 4) (at_slot k.due 4)
   pub next_edge : touched.stimuli ≡ true → IsNextEdge k.drives.stimuli next (at_slot k.due 5)
   pub same_edge : touched.stimuli ≡ false → at_slot k.due 5 ≡ at_slot old 5
-  pub wires : at_slot k.due 6 ≡ wire_slot next (levels_ahead k next) k.steady.levels
+  pub wires : at_slot k.due 6 ≡ wire_slot next (levels_ahead k next) k.board_registers.levels
   pub spare : (slot : ℕ) → 7 ≤ slot → at_slot k.due slot ≡ at_slot old slot

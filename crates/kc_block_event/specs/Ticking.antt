@@ -2,12 +2,12 @@
 use Rattle.std.specs.Prelude.{ℕ}
 use Rattle.kc_due.specs.Due.{at_slot}
 use Rattle.kc_extra.specs.Further.{Further}
-use Rattle.kc_block_lane.specs.Lane.{is_due_in}
+use Rattle.kc_block_lane.specs.DeferredUnit.{is_due_in}
 use Rattle.kc_block_spec.specs.Units.{Units}
 use Rattle.kc_block_spec.specs.Levels.{levels_at}
 use Rattle.kc_block_spec.specs.Tick.{edges_at, rises_at, falls_at, fired_at, timer2_out_at, hsi_out_at, further_out_at}
 use Rattle.kc_block_spec.specs.Touch.{timer2_touched, hso_touched, hsi_touched, further_touched}
-use Rattle.kc_block_lazy.specs.Lanes.{Lanes, shown_units}
+use Rattle.kc_block_lazy.specs.Scheduler.{Scheduler, shown_units}
 use Rattle.kc_block_lazy.specs.Events.{flag_touched}
 use Rattle.kc_block_event.specs.declared.pins.Inputs.{Inputs}
 use Rattle.kc_block_event.specs.declared.asks.Touched.{Touched}
@@ -18,7 +18,7 @@ abbrev pub inputs_at : {X : Type 0} → ℕ → Units X → Inputs
 inputs_at now u = record { levels = levels_at now u; edges = edges_at now u; rise = rises_at now u; fall = falls_at now u }
 
 -- what the Tick of the present state touches, and whether stimuli come in it
-abbrev pub touched_by : {X : Type 0} → Further X → Lanes X → ℕ → Touched
+abbrev pub touched_by : {X : Type 0} → Further X → Scheduler X → ℕ → Touched
 touched_by f h now = record {
   flag = flag_touched h now;
   timer2 = timer2_touched now (shown_units f h now);
@@ -29,7 +29,7 @@ touched_by f h now = record {
 }
 
 -- what the units give in it
-abbrev pub given_in : {X : Type 0} → Further X → Lanes X → ℕ → Given
+abbrev pub given_in : {X : Type 0} → Further X → Scheduler X → ℕ → Given
 given_in f h now = record {
   touched = touched_by f h now;
   fired = fired_at now (shown_units f h now);

@@ -5,13 +5,13 @@ ghost use Rattle.kc_stim.specs.Drives.{IsNextEdge};
 ghost use Rattle.kc_stim.specs.Proper.{AreProper};
 ghost use Rattle.kc_hsi.specs.Input.{hsi_rule};
 ghost use Rattle.kc_block_spec.specs.Touch.{one_if};
-ghost use Rattle.kc_block_lazy.specs.Lanes.{flag_goes, timer2_goes, hso_goes, further_goes, levels_ahead, wire_slot, AreHeld};
+ghost use Rattle.kc_block_lazy.specs.Scheduler.{flag_goes, timer2_goes, hso_goes, further_goes, levels_ahead, wire_slot, AreHeld};
 ghost use Rattle.kc_block_lazy.specs.Events.{AsksWhere};
 ghost use Rattle.kc_block_lanes.specs.Standing.{standing};
 ghost use Rattle.kc_block_event.specs.Asking.{AreAskedWhere};
 
 use kc_base::{StateTime, Steps};
-use kc_block_lanes::Lanes;
+use kc_block_lanes::Scheduler;
 use kc_extra::Extra;
 use std::sync::ledger::Ledger;
 
@@ -27,117 +27,117 @@ pub(crate) struct Touched {
 }
 
 fn ask_timer2<X: Extra, L: Ledger>(
-    lanes: &mut Lanes<X>,
+    scheduler: &mut Scheduler<X>,
     touched: bool,
     next: StateTime,
     steps: &mut Steps<L>,
 )
     requires { next ≤ 4 * 10 ^ 15 }
-    ensures asks { AsksWhere touched (timer2_goes (standing X.plain lanes.new)) next (standing X.plain lanes.new).timer2.kept (at_slot lanes.old.due 0) (at_slot lanes.new.due 0) }
-    ensures rest { lanes.new ≡ record lanes.old { due = lanes.new.due } }
-    ensures others { (k : ℕ) → k ≢ 0 → at_slot lanes.new.due k ≡ at_slot lanes.old.due k }
+    ensures asks { AsksWhere touched (timer2_goes (standing X.plain scheduler.new)) next (standing X.plain scheduler.new).timer2.kept (at_slot scheduler.old.due 0) (at_slot scheduler.new.due 0) }
+    ensures rest { scheduler.new ≡ record scheduler.old { due = scheduler.new.due } }
+    ensures others { (k : ℕ) → k ≢ 0 → at_slot scheduler.new.due k ≡ at_slot scheduler.old.due k }
     ensures steps { steps.new ≡ steps.old + one_if touched }
 {
     if touched {
-        lanes.ask_timer2(next, steps);
+        scheduler.ask_timer2(next, steps);
     }
 }
 
 fn ask_hso<X: Extra, L: Ledger>(
-    lanes: &mut Lanes<X>,
+    scheduler: &mut Scheduler<X>,
     touched: bool,
     next: StateTime,
     steps: &mut Steps<L>,
 )
     requires bound { next ≤ 4 * 10 ^ 15 }
-    requires timer2 { lanes.old.timer2.at ≤ next }
-    ensures asks { AsksWhere touched (hso_goes (standing X.plain lanes.new)) next (standing X.plain lanes.new).hso.kept (at_slot lanes.old.due 1) (at_slot lanes.new.due 1) }
-    ensures rest { lanes.new ≡ record lanes.old { due = lanes.new.due } }
-    ensures others { (k : ℕ) → k ≢ 1 → at_slot lanes.new.due k ≡ at_slot lanes.old.due k }
+    requires timer2 { scheduler.old.timer2.at ≤ next }
+    ensures asks { AsksWhere touched (hso_goes (standing X.plain scheduler.new)) next (standing X.plain scheduler.new).hso.kept (at_slot scheduler.old.due 1) (at_slot scheduler.new.due 1) }
+    ensures rest { scheduler.new ≡ record scheduler.old { due = scheduler.new.due } }
+    ensures others { (k : ℕ) → k ≢ 1 → at_slot scheduler.new.due k ≡ at_slot scheduler.old.due k }
     ensures steps { steps.new ≡ steps.old + one_if touched }
 {
     if touched {
-        lanes.ask_hso(next, steps);
+        scheduler.ask_hso(next, steps);
     }
 }
 
 fn ask_hsi<X: Extra, L: Ledger>(
-    lanes: &mut Lanes<X>,
+    scheduler: &mut Scheduler<X>,
     touched: bool,
     next: StateTime,
     steps: &mut Steps<L>,
 )
     requires { next ≤ 4 * 10 ^ 15 }
-    ensures asks { AsksWhere touched hsi_rule next (standing X.plain lanes.new).hsi.kept (at_slot lanes.old.due 2) (at_slot lanes.new.due 2) }
-    ensures rest { lanes.new ≡ record lanes.old { due = lanes.new.due } }
-    ensures others { (k : ℕ) → k ≢ 2 → at_slot lanes.new.due k ≡ at_slot lanes.old.due k }
+    ensures asks { AsksWhere touched hsi_rule next (standing X.plain scheduler.new).hsi.kept (at_slot scheduler.old.due 2) (at_slot scheduler.new.due 2) }
+    ensures rest { scheduler.new ≡ record scheduler.old { due = scheduler.new.due } }
+    ensures others { (k : ℕ) → k ≢ 2 → at_slot scheduler.new.due k ≡ at_slot scheduler.old.due k }
     ensures steps { steps.new ≡ steps.old + one_if touched }
 {
     if touched {
-        lanes.ask_hsi(next, steps);
+        scheduler.ask_hsi(next, steps);
     }
 }
 
 fn ask_further<X: Extra, L: Ledger>(
-    lanes: &mut Lanes<X>,
+    scheduler: &mut Scheduler<X>,
     touched: bool,
     next: StateTime,
     steps: &mut Steps<L>,
 )
     requires { next ≤ 4 * 10 ^ 15 }
-    ensures asks { AsksWhere touched (further_goes X.further) next (standing X.plain lanes.new).further.kept (at_slot lanes.old.due 3) (at_slot lanes.new.due 3) }
-    ensures rest { lanes.new ≡ record lanes.old { due = lanes.new.due } }
-    ensures others { (k : ℕ) → k ≢ 3 → at_slot lanes.new.due k ≡ at_slot lanes.old.due k }
+    ensures asks { AsksWhere touched (further_goes X.further) next (standing X.plain scheduler.new).further.kept (at_slot scheduler.old.due 3) (at_slot scheduler.new.due 3) }
+    ensures rest { scheduler.new ≡ record scheduler.old { due = scheduler.new.due } }
+    ensures others { (k : ℕ) → k ≢ 3 → at_slot scheduler.new.due k ≡ at_slot scheduler.old.due k }
     ensures steps { steps.new ≡ steps.old + one_if touched }
 {
     if touched {
-        lanes.ask_further(next, steps);
+        scheduler.ask_further(next, steps);
     }
 }
 
-fn ask_flag<X: Extra>(lanes: &mut Lanes<X>, touched: bool, next: StateTime)
+fn ask_flag<X: Extra>(scheduler: &mut Scheduler<X>, touched: bool, next: StateTime)
     requires { next ≤ 4 * 10 ^ 15 }
-    ensures asks { AsksWhere touched (flag_goes (standing X.plain lanes.new)) next (standing X.plain lanes.new).flag.kept (at_slot lanes.old.due 4) (at_slot lanes.new.due 4) }
-    ensures rest { lanes.new ≡ record lanes.old { due = lanes.new.due } }
-    ensures others { (k : ℕ) → k ≢ 4 → at_slot lanes.new.due k ≡ at_slot lanes.old.due k }
+    ensures asks { AsksWhere touched (flag_goes (standing X.plain scheduler.new)) next (standing X.plain scheduler.new).flag.kept (at_slot scheduler.old.due 4) (at_slot scheduler.new.due 4) }
+    ensures rest { scheduler.new ≡ record scheduler.old { due = scheduler.new.due } }
+    ensures others { (k : ℕ) → k ≢ 4 → at_slot scheduler.new.due k ≡ at_slot scheduler.old.due k }
 {
     if touched {
-        lanes.ask_flag(next);
+        scheduler.ask_flag(next);
     }
 }
 
 /// The next state with an edge by stimuli is searched where the last one is past.
-fn ask_stimuli<X: Extra>(lanes: &mut Lanes<X>, touched: bool, next: StateTime)
-    ensures next { touched ≡ true → IsNextEdge lanes.new.stimuli.stimuli next (at_slot lanes.new.due 5) }
-    ensures same { touched ≡ false → at_slot lanes.new.due 5 ≡ at_slot lanes.old.due 5 }
-    ensures rest { lanes.new ≡ record lanes.old { due = lanes.new.due } }
-    ensures others { (k : ℕ) → k ≢ 5 → at_slot lanes.new.due k ≡ at_slot lanes.old.due k }
+fn ask_stimuli<X: Extra>(scheduler: &mut Scheduler<X>, touched: bool, next: StateTime)
+    ensures next { touched ≡ true → IsNextEdge scheduler.new.stimuli.stimuli next (at_slot scheduler.new.due 5) }
+    ensures same { touched ≡ false → at_slot scheduler.new.due 5 ≡ at_slot scheduler.old.due 5 }
+    ensures rest { scheduler.new ≡ record scheduler.old { due = scheduler.new.due } }
+    ensures others { (k : ℕ) → k ≢ 5 → at_slot scheduler.new.due k ≡ at_slot scheduler.old.due k }
 {
     if touched {
-        lanes.set_stimuli(next);
+        scheduler.set_stimuli(next);
     }
 }
 
 /// Asks each touched unit when it is due from state `next` on, and sets the slots of stimuli and wires.
 pub(crate) fn ask_touched<X: Extra, L: Ledger>(
-    lanes: &mut Lanes<X>,
+    scheduler: &mut Scheduler<X>,
     touched: Touched,
     next: StateTime,
     steps: &mut Steps<L>,
 )
     requires bound { next ≤ 4 * 10 ^ 15 }
-    requires timer2 { lanes.old.timer2.at ≤ next }
-    requires proper { AreProper lanes.old.stimuli }
-    requires held { AreHeld lanes.old.stimuli lanes.old.steady.levels next }
-    ensures rest { lanes.new ≡ record lanes.old { due = lanes.new.due } }
-    ensures asked { AreAskedWhere X.further touched next lanes.old.due (standing X.plain lanes.new) }
+    requires timer2 { scheduler.old.timer2.at ≤ next }
+    requires proper { AreProper scheduler.old.stimuli }
+    requires held { AreHeld scheduler.old.stimuli scheduler.old.board_registers.levels next }
+    ensures rest { scheduler.new ≡ record scheduler.old { due = scheduler.new.due } }
+    ensures asked { AreAskedWhere X.further touched next scheduler.old.due (standing X.plain scheduler.new) }
     ensures steps { steps.new ≡ steps.old + (one_if touched.timer2 + one_if touched.hso + one_if touched.hsi + one_if touched.further) }
 {
-    ask_timer2(lanes, touched.timer2, next, steps);
-    ask_hso(lanes, touched.hso, next, steps);
-    ask_hsi(lanes, touched.hsi, next, steps);
-    ask_further(lanes, touched.further, next, steps);
-    ask_flag(lanes, touched.flag, next);
-    ask_stimuli(lanes, touched.stimuli, next);
-    lanes.set_wires(next);
+    ask_timer2(scheduler, touched.timer2, next, steps);
+    ask_hso(scheduler, touched.hso, next, steps);
+    ask_hsi(scheduler, touched.hsi, next, steps);
+    ask_further(scheduler, touched.further, next, steps);
+    ask_flag(scheduler, touched.flag, next);
+    ask_stimuli(scheduler, touched.stimuli, next);
+    scheduler.set_wires(next);
 }

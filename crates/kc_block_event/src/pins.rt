@@ -6,7 +6,7 @@ ghost use Rattle.kc_block_lazy.specs.Events.{has_timer2_edge as timer2_edge_in, 
 use crate::commands::resets;
 use kc_base::weight;
 use kc_block_inputs::{has_pin, hsi_bits};
-use kc_block_spec::Steady;
+use kc_block_spec::BoardRegisters;
 use kc_hsi::PinEdges;
 use kc_timers::{T2Control, T2Inputs};
 
@@ -63,13 +63,13 @@ fn hsi_enabled(ioc0: u8) -> u8
 }
 
 /// The edges of the pins of HSI, and those that IOC0 enables.
-pub(crate) fn hsi_edges(steady: &Steady, inputs: Inputs) -> PinEdges
-    ensures { result ≡ hsi_edges_of steady.now inputs.rise inputs.fall }
+pub(crate) fn hsi_edges(board_registers: &BoardRegisters, inputs: Inputs) -> PinEdges
+    ensures { result ≡ hsi_edges_of board_registers.now inputs.rise inputs.fall }
 {
     PinEdges {
         rising: hsi_bits(inputs.rise),
         falling: hsi_bits(inputs.fall),
-        enabled: hsi_enabled(steady.ioc0),
+        enabled: hsi_enabled(board_registers.ioc0),
     }
 }
 

@@ -1,12 +1,12 @@
 // The requests that a Tick raises, and the data beside the units after it.
 ghost use Rattle.std.specs.Prelude.{◌≡◌, ◌*◌, ◌≤◌, ◌^◌, Bool, Option, ℕ};
-ghost use Rattle.kc_block_spec.specs.Tick.{passes as passes_in, pin_requests, timer_requests, hsi_requests, steady_after, request as request_of, ◌∪◌};
+ghost use Rattle.kc_block_spec.specs.Tick.{passes as passes_in, pin_requests, timer_requests, hsi_requests, board_registers_after, request as request_of, ◌∪◌};
 ghost use Rattle.kc_block_spec.specs.Fired.{fired_request};
 
 use crate::commands::request_bits;
 use kc_base::{IntSet, StateTime};
 use kc_block_inputs::has_pin;
-use kc_block_spec::Steady;
+use kc_block_spec::BoardRegisters;
 use kc_hsi::HsiOut;
 use kc_timers::T2Out;
 
@@ -25,10 +25,10 @@ fn request(n: u16, raised: bool) -> u16
     if raised { 1 << n } else { 0 }
 }
 
-fn by_pins(steady: &Steady, rise: u64) -> u16
-    ensures { result ≡ pin_requests steady.now rise }
+fn by_pins(board_registers: &BoardRegisters, rise: u64) -> u16
+    ensures { result ≡ pin_requests board_registers.now rise }
 {
-    let chosen = if has_pin(u64::from(steady.ioc1), 1) {
+    let chosen = if has_pin(u64::from(board_registers.ioc1), 1) {
         35
     } else {
         24
@@ -39,37 +39,37 @@ fn by_pins(steady: &Steady, rise: u64) -> u16
         | request(15, has_pin(rise, 25))
 }
 
-fn by_timers(steady: &Steady, passed: bool, counted: T2Out) -> u16
-    ensures { result ≡ timer_requests steady.now passed counted }
+fn by_timers(board_registers: &BoardRegisters, passed: bool, counted: T2Out) -> u16
+    ensures { result ≡ timer_requests board_registers.now passed counted }
 {
-    let ioc1 = u64::from(steady.ioc1);
+    let ioc1 = u64::from(board_registers.ioc1);
     let first = passed & has_pin(ioc1, 2);
     let second = counted.overflow & has_pin(ioc1, 3);
     request(0, first | second) | request(11, counted.captured) | request(12, counted.overflow)
 }
 
-fn by_hsi(steady: &Steady, queued: HsiOut) -> u16
-    ensures { result ≡ hsi_requests steady.now queued }
+fn by_hsi(board_registers: &BoardRegisters, queued: HsiOut) -> u16
+    ensures { result ≡ hsi_requests board_registers.now queued }
 {
-    let full = has_pin(u64::from(steady.ioc1), 7);
+    let full = has_pin(u64::from(board_registers.ioc1), 7);
     let second = if full { queued.sixth } else { queued.loaded };
     request(2, second) | request(10, queued.fourth) | request(14, queued.sixth)
 }
 
 /// What pins, timers, HSI and a fired command raise.
 pub(crate) fn raised(
-    steady: &Steady,
+    board_registers: &BoardRegisters,
     rise: u64,
     passed: bool,
     counted: T2Out,
     queued: HsiOut,
     fired: Option<u8>,
 ) -> u16
-    ensures { result ≡ pin_requests steady.now rise ∪ timer_requests steady.now passed counted ∪ hsi_requests steady.now queued ∪ fired_request fired }
+    ensures { result ≡ pin_requests board_registers.now rise ∪ timer_requests board_registers.now passed counted ∪ hsi_requests board_registers.now queued ∪ fired_request fired }
 {
-    by_pins(steady, rise)
-        | by_timers(steady, passed, counted)
-        | by_hsi(steady, queued)
+    by_pins(board_registers, rise)
+        | by_timers(board_registers, passed, counted)
+        | by_hsi(board_registers, queued)
         | request_bits(fired)
 }
 
@@ -81,11 +81,17 @@ pub(crate) fn overflow_bit(counted: T2Out) -> u8
 }
 
 /// Sets bits of IOS1 and IOS2 and requests, and keeps the levels.
-pub(crate) fn set_steady(steady: &mut Steady, levels: u64, ios1: u8, ios2: u8, raised: u16)
-    ensures { steady.new ≡ steady_after steady.old levels ios1 ios2 raised }
+pub(crate) fn set_board_registers(
+    board_registers: &mut BoardRegisters,
+    levels: u64,
+    ios1: u8,
+    ios2: u8,
+    raised: u16,
+)
+    ensures { board_registers.new ≡ board_registers_after board_registers.old levels ios1 ios2 raised }
 {
-    steady.levels = levels;
-    steady.ios1 |= ios1;
-    steady.ios2 |= ios2;
-    steady.requests.raise(IntSet(raised));
+    board_registers.levels = levels;
+    board_registers.ios1 |= ios1;
+    board_registers.ios2 |= ios2;
+    board_registers.requests.raise(IntSet(raised));
 }

@@ -26,4 +26,4 @@ unwired_start d pin proper lt input other =
 
 pub rxd_starts_high : (d : Drives) → AreProper d → d.stimuli.start ≡ [] → bit (stimulated_before d 0) 37 ≡ true
 rxd_starts_high d proper first =
-    unwired_start d 37 proper (omega arith) refl refl ∙ ap (λ told. is_high (start_of told 37)) first
+    unwired_start d 37 proper (omega arith) refl refl ∙ ap (λ known. is_high (start_of known 37)) first

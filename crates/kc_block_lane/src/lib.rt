@@ -3,7 +3,7 @@
 //! laws alone.
 #![tactic(auto)]
 
-ghost use Rattle.kc_block_lane.specs.Laws.{Next, Calm, Event, Waits, Lent, Brought, BroughtShows, Asked, AskedShows, Alike, AlikeShows, PassesOver};
+ghost use Rattle.kc_block_lane.specs.Laws.{Next, Calm, Event, Waits, Lent, CaughtUp, CaughtUpShows, Asked, AskedShows, Alike, AlikeShows, PassesOver};
 
 /// What is shown of a lane goes on by one Tick from state to state.
 pub fn next_state<D>()
@@ -31,13 +31,13 @@ pub fn lent_quietly<D>()
 {}
 
 /// Brought forward to the present state, a lane keeps its due state: it is not asked anew.
-pub fn brought_forward<D>()
-    ensures due { Brought D }
-    ensures shows { BroughtShows D }
+pub fn caught_up_forward<D>()
+    ensures due { CaughtUp D }
+    ensures shows { CaughtUpShows D }
 {}
 
 /// What was asked in the present state makes a lane that stands there.
-pub fn asked_anew<D>()
+pub fn rescheduled<D>()
     ensures due { Asked D }
     ensures shows { AskedShows D }
 {}

@@ -6,15 +6,15 @@ use Rattle.kc_stim.specs.Drives.{IsNextEdge}
 use Rattle.kc_stim.specs.Proper.{AreProper}
 use Rattle.kc_hsi.specs.Input.{hsi_rule}
 use Rattle.kc_extra.specs.Further.{Further}
-use Rattle.kc_block_lazy.specs.Lanes.{flag_goes, timer2_goes, hso_goes, further_goes}
-use Rattle.kc_block_lanes.specs.declared.lanes.Lanes.{Lanes}
+use Rattle.kc_block_lazy.specs.Scheduler.{flag_goes, timer2_goes, hso_goes, further_goes}
+use Rattle.kc_block_lanes.specs.declared.scheduler.Scheduler.{Scheduler}
 use Rattle.kc_block_lanes.specs.Standing.{standing}
 
 -- two changes of slots are one
-pub slots_join : {X : Type 0} (a b c : Lanes X) → b ≡ record a { due = b.due } → c ≡ record b { due = c.due } → c ≡ record a { due = c.due }
-slots_join a b c first then = then ∙ ap (λ (l : Lanes _). record l { due = c.due }) first
+pub slots_join : {X : Type 0} (a b c : Scheduler X) → b ≡ record a { due = b.due } → c ≡ record b { due = c.due } → c ≡ record a { due = c.due }
+slots_join a b c first then = then ∙ ap (λ (l : Scheduler _). record l { due = c.due }) first
 
-module _ {X : Type 0} (plain : X → X) (a b : Lanes X) (now : ℕ) (rest : b ≡ record a { due = b.due }) where
+module _ {X : Type 0} (plain : X → X) (a b : Scheduler X) (now : ℕ) (rest : b ≡ record a { due = b.due }) where
   pub timer2_carried : at_slot b.due 0 ≡ at_slot a.due 0 → IsDue (timer2_goes (standing plain a)) now (standing plain a).timer2.kept (at_slot a.due 0) →
       IsDue (timer2_goes (standing plain b)) now (standing plain b).timer2.kept (at_slot b.due 0)
   timer2_carried same is =
@@ -47,7 +47,7 @@ module _ {X : Type 0} (plain : X → X) (a b : Lanes X) (now : ℕ) (rest : b �
 
   pub stimuli_carried : at_slot b.due 5 ≡ at_slot a.due 5 → IsNextEdge a.stimuli.stimuli now (at_slot a.due 5) → IsNextEdge b.stimuli.stimuli now (at_slot b.due 5)
   stimuli_carried same is =
-      subst (λ (l : Lanes X). IsNextEdge l.stimuli.stimuli now (at_slot l.due 5)) (sym rest) (subst (λ s. IsNextEdge a.stimuli.stimuli now s) (sym same) is)
+      subst (λ (l : Scheduler X). IsNextEdge l.stimuli.stimuli now (at_slot l.due 5)) (sym rest) (subst (λ s. IsNextEdge a.stimuli.stimuli now s) (sym same) is)
 
   pub proper_carried : AreProper a.stimuli → AreProper b.stimuli
-  proper_carried is = subst (λ (l : Lanes X). AreProper l.stimuli) (sym rest) is
+  proper_carried is = subst (λ (l : Scheduler X). AreProper l.stimuli) (sym rest) is

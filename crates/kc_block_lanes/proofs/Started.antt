@@ -8,12 +8,12 @@ use Rattle.kc_due.specs.Due.{at_slot}
 use Rattle.kc_stim.specs.Drives.{Drives, wire_to}
 use Rattle.kc_hsi.specs.Input.{hsi_rule}
 use Rattle.kc_extra.specs.Further.{Further}
-use Rattle.kc_block_lane.specs.Lane.{Lane, lane_at, IsLane}
-use Rattle.kc_block_lane.proofs.Lanes.{asked}
+use Rattle.kc_block_lane.specs.DeferredUnit.{DeferredUnit, deferred_at, IsDeferred}
+use Rattle.kc_block_lane.proofs.Scheduler.{asked}
 use Rattle.kc_block_spec.specs.Levels.{follows, wired, stimulated_before}
 use Rattle.kc_block_spec.proofs.Quiet.{bit_none}
 use Rattle.kc_block_inputs.proofs.InputMasks.{mask_rest, mask_start}
-use Rattle.kc_block_lazy.specs.Lanes.{Lanes, AreHeld, IsLazy}
+use Rattle.kc_block_lazy.specs.Scheduler.{Scheduler, AreHeld, IsScheduled}
 use Rattle.kc_block_lanes.specs.Asked.{AreAsked}
 
 -- no input follows an output where none is high
@@ -32,14 +32,14 @@ start_held d levels is = record {
   are = is ∙ sym (ap (bit_or (stimulated_before d 0)) (none_wired d) ∙ or_zero_r (stimulated_before d 0));
 }
 
-asked_at : {D : Type 0} (rule : Rule D) (lane : Lane D) (now : ℕ) (slot : Option ℕ) → lane.at ≡ now → IsDue rule now lane.kept slot → IsLane rule lane now slot
-asked_at rule lane now slot there is =
-    subst (λ l. IsLane rule l now slot) (λ i. lane_at (sym there i) lane.kept) (asked rule now lane.kept slot is)
+asked_at : {D : Type 0} (rule : Rule D) (deferred : DeferredUnit D) (now : ℕ) (slot : Option ℕ) → deferred.at ≡ now → IsDue rule now deferred.kept slot → IsDeferred rule deferred now slot
+asked_at rule deferred now slot there is =
+    subst (λ l. IsDeferred rule l now slot) (λ i. deferred_at (sym there i) deferred.kept) (asked rule now deferred.kept slot is)
 
-pub lazy_from_asked : {X : Type 0} (f : Further X) (agrees : ℕ → ℕ → X → Type 0) (h : Lanes X) (now : ℕ) → AreAsked f h now →
+pub scheduled_from_asked : {X : Type 0} (f : Further X) (agrees : ℕ → ℕ → X → Type 0) (h : Scheduler X) (now : ℕ) → AreAsked f h now →
     h.timer2.at ≡ now → h.hso.at ≡ now → h.hsi.at ≡ now → h.further.at ≡ now → h.flag.at ≡ now →
-    AreHeld h.drives h.steady.levels now → h.timer2.kept.value < 65536 → ((m : ℕ) → agrees m (bit_xor h.steady.levels m) h.further.kept) → IsLazy f agrees h now
-lazy_from_asked f agrees h now is a b c d e held value agreed = record {
+    AreHeld h.drives h.board_registers.levels now → h.timer2.kept.value < 65536 → ((m : ℕ) → agrees m (bit_xor h.board_registers.levels m) h.further.kept) → IsScheduled f agrees h now
+scheduled_from_asked f agrees h now is a b c d e held value agreed = record {
   timer2 = asked_at _ h.timer2 now (at_slot h.due 0) a is.timer2;
   hso = asked_at _ h.hso now (at_slot h.due 1) b is.hso;
   hsi = asked_at hsi_rule h.hsi now (at_slot h.due 2) c is.hsi;

@@ -5,10 +5,10 @@ ghost use Rattle.kc_due.specs.Due.{at_slot};
 ghost use Rattle.kc_stim.specs.Drives.{IsNextEdge};
 ghost use Rattle.kc_stim.specs.Proper.{AreProper};
 ghost use Rattle.kc_hsi.specs.Input.{hsi_rule};
-ghost use Rattle.kc_block_lazy.specs.Lanes.{flag_goes, timer2_goes, hso_goes, further_goes, levels_ahead, wire_slot, AreHeld};
+ghost use Rattle.kc_block_lazy.specs.Scheduler.{flag_goes, timer2_goes, hso_goes, further_goes, levels_ahead, wire_slot, AreHeld};
 ghost use Rattle.kc_block_lanes.specs.Standing.{standing};
 
-use crate::lanes::Lanes;
+use crate::scheduler::Scheduler;
 use crate::seeing::control;
 use crate::slots::set_slot;
 use kc_base::{StateTime, Steps};
@@ -17,7 +17,7 @@ use kc_extra::Extra;
 use kc_timers::timer1_due;
 use std::sync::ledger::Ledger;
 
-impl<X: Extra> Lanes<X> {
+impl<X: Extra> Scheduler<X> {
     /// Asks when Timer 2 is due from state `now` on, in which it stands.
     pub fn ask_timer2<L: Ledger>(&mut self, now: StateTime, steps: &mut Steps<L>)
         requires { now ≤ 4 * 10 ^ 15 }
@@ -26,7 +26,7 @@ impl<X: Extra> Lanes<X> {
         ensures others { (k : ℕ) → k ≢ 0 → at_slot self.new.due k ≡ at_slot self.old.due k }
         ensures steps { steps.new ≡ steps.old + 1 }
     {
-        let control = control(&self.steady, self.steady.levels);
+        let control = control(&self.board_registers, self.board_registers.levels);
         let due = self.timer2.unit.due(now, control, steps);
         set_slot(&mut self.due, 0, due);
     }
@@ -90,7 +90,7 @@ impl<X: Extra> Lanes<X> {
         ensures rest { self.new ≡ record self.old { due = self.new.due } }
         ensures others { (k : ℕ) → k ≢ 4 → at_slot self.new.due k ≡ at_slot self.old.due k }
     {
-        let due = if has_pin(u64::from(self.steady.ioc1), 2) {
+        let due = if has_pin(u64::from(self.board_registers.ioc1), 2) {
             Some(timer1_due(now))
         } else {
             None
@@ -112,8 +112,8 @@ impl<X: Extra> Lanes<X> {
     /// Sets state `now` for the wires where the level of a wired input is not that of its output.
     pub fn set_wires(&mut self, now: StateTime)
         requires proper { AreProper self.old.stimuli }
-        requires held { AreHeld self.old.stimuli self.old.steady.levels now }
-        ensures wires { at_slot self.new.due 6 ≡ wire_slot now (levels_ahead (standing X.plain self.new) now) self.new.steady.levels }
+        requires held { AreHeld self.old.stimuli self.old.board_registers.levels now }
+        ensures wires { at_slot self.new.due 6 ≡ wire_slot now (levels_ahead (standing X.plain self.new) now) self.new.board_registers.levels }
         ensures rest { self.new ≡ record self.old { due = self.new.due } }
         ensures others { (k : ℕ) → k ≢ 6 → at_slot self.new.due k ≡ at_slot self.old.due k }
     {
@@ -128,14 +128,18 @@ impl<X: Extra> Lanes<X> {
     // Whether the level of a wired input is not that of its output; there is none where nothing is wired.
     fn wires_differ(&self, now: StateTime) -> bool
         requires proper { AreProper self.now.stimuli }
-        requires held { AreHeld self.now.stimuli self.now.steady.levels now }
-        ensures { result ≡ not (levels_ahead (standing X.plain self.now) now == self.now.steady.levels) }
+        requires held { AreHeld self.now.stimuli self.now.board_registers.levels now }
+        ensures { result ≡ not (levels_ahead (standing X.plain self.now) now == self.now.board_registers.levels) }
     {
         if self.stimuli.has_no_wire() {
             return false;
         }
-        let own = unwired(&self.stimuli, self.steady.levels);
-        let ahead = own | wired(&self.stimuli, outputs(&self.steady, &self.hso.unit));
-        ahead != self.steady.levels
+        let own = unwired(&self.stimuli, self.board_registers.levels);
+        let ahead = own
+            | wired(
+                &self.stimuli,
+                outputs(&self.board_registers, &self.hso.unit),
+            );
+        ahead != self.board_registers.levels
     }
 }

@@ -2,12 +2,12 @@
 ghost use Rattle.std.specs.Prelude.{◌≡◌, ℕ, ◌*◌, ◌≤◌, ◌^◌, ◌+◌, ◌/◌, ◌<◌, Bool};
 ghost use Rattle.kc_span.specs.Span.{one_more};
 ghost use Rattle.kc_hsi.specs.Input.{hsi_rule};
-ghost use Rattle.kc_block_lane.specs.Lane.{brought_to};
+ghost use Rattle.kc_block_lane.specs.DeferredUnit.{caught_up_to};
 ghost use Rattle.kc_block_spec.specs.Costs.{Costs};
-ghost use Rattle.kc_block_lazy.specs.Lanes.{flag_goes, timer2_goes, hso_goes, further_goes, shown_units, IsLazy, IsPresent, IsLeft};
+ghost use Rattle.kc_block_lazy.specs.Scheduler.{flag_goes, timer2_goes, hso_goes, further_goes, shown_units, IsScheduled, IsPresent, IsLeft};
 ghost use Rattle.kc_block_lanes.specs.Standing.{standing, moves_of};
 
-use crate::lanes::Lanes;
+use crate::scheduler::Scheduler;
 use crate::seeing::control;
 use kc_base::{StateTime, Steps};
 use kc_extra::Extra;
@@ -16,13 +16,13 @@ use std::sync::ledger::Ledger;
 /// How many states pass between two overflows of Timer 1.
 const TIMER1_TURN: u64 = 524_288;
 
-impl<X: Extra> Lanes<X> {
+impl<X: Extra> Scheduler<X> {
     /// Brings HSO to the start of state `now`.
-    pub fn bring_hso<L: Ledger>(&mut self, now: StateTime, steps: &mut Steps<L>)
+    pub fn catch_up_hso<L: Ledger>(&mut self, now: StateTime, steps: &mut Steps<L>)
         requires present { IsPresent X.further X.agrees (standing X.plain self.old) now }
         ensures left { IsLeft X.further X.agrees now (standing X.plain self.new) (shown_units X.further (standing X.plain self.old) now) }
         ensures standing { standing X.plain self.new ≡ record (standing X.plain self.old) {
-          hso = brought_to (hso_goes (standing X.plain self.old)) now (standing X.plain self.old).hso;
+          hso = caught_up_to (hso_goes (standing X.plain self.old)) now (standing X.plain self.old).hso;
         } }
         ensures rest { self.new ≡ record self.old { hso = self.new.hso } }
         ensures moved { self.new.hso.unit.moves ≡ one_more self.old.hso.unit.moves }
@@ -34,20 +34,20 @@ impl<X: Extra> Lanes<X> {
     }
 
     /// Brings Timer 2, and HSO which sees it, to the start of state `now`.
-    pub fn bring_timers<L: Ledger>(&mut self, now: StateTime, steps: &mut Steps<L>)
+    pub fn catch_up_timers<L: Ledger>(&mut self, now: StateTime, steps: &mut Steps<L>)
         requires present { IsPresent X.further X.agrees (standing X.plain self.old) now }
         ensures left { IsLeft X.further X.agrees now (standing X.plain self.new) (shown_units X.further (standing X.plain self.old) now) }
         ensures standing { standing X.plain self.new ≡ record (standing X.plain self.old) {
-          timer2 = brought_to (timer2_goes (standing X.plain self.old)) now (standing X.plain self.old).timer2;
-          hso = brought_to (hso_goes (standing X.plain self.old)) now (standing X.plain self.old).hso;
+          timer2 = caught_up_to (timer2_goes (standing X.plain self.old)) now (standing X.plain self.old).timer2;
+          hso = caught_up_to (hso_goes (standing X.plain self.old)) now (standing X.plain self.old).hso;
         } }
         ensures rest { self.new ≡ record self.old { timer2 = self.new.timer2; hso = self.new.hso } }
         ensures timer2_moved { self.new.timer2.unit.moves ≡ one_more self.old.timer2.unit.moves }
         ensures hso_moved { self.new.hso.unit.moves ≡ one_more self.old.hso.unit.moves }
         ensures costs { Costs 2 2 steps.old steps.new (moves_of X.moved self.old) (moves_of X.moved self.new) }
     {
-        self.bring_hso(now, steps);
-        let control = control(&self.steady, self.steady.levels);
+        self.catch_up_hso(now, steps);
+        let control = control(&self.board_registers, self.board_registers.levels);
         self.timer2
             .unit
             .quiet_to(self.timer2.at, now, control, steps);
@@ -55,11 +55,11 @@ impl<X: Extra> Lanes<X> {
     }
 
     /// Brings HSI to the start of state `now`.
-    pub fn bring_hsi<L: Ledger>(&mut self, now: StateTime, steps: &mut Steps<L>)
+    pub fn catch_up_hsi<L: Ledger>(&mut self, now: StateTime, steps: &mut Steps<L>)
         requires present { IsPresent X.further X.agrees (standing X.plain self.old) now }
         ensures left { IsLeft X.further X.agrees now (standing X.plain self.new) (shown_units X.further (standing X.plain self.old) now) }
         ensures standing { standing X.plain self.new ≡ record (standing X.plain self.old) {
-          hsi = brought_to hsi_rule now (standing X.plain self.old).hsi;
+          hsi = caught_up_to hsi_rule now (standing X.plain self.old).hsi;
         } }
         ensures rest { self.new ≡ record self.old { hsi = self.new.hsi } }
         ensures moved { self.new.hsi.unit.moves ≡ one_more self.old.hsi.unit.moves }
@@ -70,11 +70,11 @@ impl<X: Extra> Lanes<X> {
     }
 
     /// Brings the further unit to the start of state `now`.
-    pub fn bring_further<L: Ledger>(&mut self, now: StateTime, steps: &mut Steps<L>)
+    pub fn catch_up_further<L: Ledger>(&mut self, now: StateTime, steps: &mut Steps<L>)
         requires present { IsPresent X.further X.agrees (standing X.plain self.old) now }
         ensures left { IsLeft X.further X.agrees now (standing X.plain self.new) (shown_units X.further (standing X.plain self.old) now) }
         ensures standing { standing X.plain self.new ≡ record (standing X.plain self.old) {
-          further = brought_to (further_goes X.further) now (standing X.plain self.old).further;
+          further = caught_up_to (further_goes X.further) now (standing X.plain self.old).further;
         } }
         ensures rest { self.new ≡ record self.old { further = self.new.further } }
         ensures moved { X.moved self.new.further.unit ≡ one_more (X.moved self.old.further.unit) }
@@ -85,12 +85,12 @@ impl<X: Extra> Lanes<X> {
     }
 
     /// Brings bit 5 of IOS1 to the start of state `now`, by arithmetic.
-    pub fn bring_flag(&mut self, now: StateTime)
-        requires lazy { IsLazy X.further X.agrees (standing X.plain self.old) now }
+    pub fn catch_up_flag(&mut self, now: StateTime)
+        requires scheduled { IsScheduled X.further X.agrees (standing X.plain self.old) now }
         ensures left { IsLeft X.further X.agrees now (standing X.plain self.new) (shown_units X.further (standing X.plain self.old) now) }
         ensures rest { self.new ≡ record self.old { flag = self.new.flag } }
         ensures standing { standing X.plain self.new ≡ record (standing X.plain self.old) {
-          flag = brought_to (flag_goes (standing X.plain self.old)) now (standing X.plain self.old).flag;
+          flag = caught_up_to (flag_goes (standing X.plain self.old)) now (standing X.plain self.old).flag;
         } }
     {
         self.flag.unit |= has_overflowed(self.flag.at, now);

@@ -4,12 +4,12 @@
 
 mod asking;
 mod bringing;
-mod lanes;
+mod scheduler;
 mod seeing;
 mod slots;
 mod starting;
 
 pub use bringing::has_overflowed;
-pub use lanes::{Lane, Lanes};
+pub use scheduler::{DeferredUnit, Scheduler};
 pub use seeing::control;
 pub use slots::is_due;

@@ -3,32 +3,32 @@ ghost use Rattle.std.specs.Prelude.{◌≡◌, ℕ, ◌*◌, ◌≤◌, ◌^◌,
 ghost use Rattle.kc_base.specs.Bits.{bit};
 ghost use Rattle.kc_timers.specs.T2.{view_of};
 ghost use Rattle.kc_due.specs.Due.{at_slot};
-ghost use Rattle.kc_block_lane.specs.Lane.{shown, is_due_in};
+ghost use Rattle.kc_block_lane.specs.DeferredUnit.{shown, is_due_in};
 ghost use Rattle.kc_block_spec.specs.Control.{control_of};
 ghost use Rattle.kc_block_spec.specs.Levels.{levels_at, stimulated as stimulated_at};
 ghost use Rattle.kc_block_spec.specs.Touch.{block_rule};
-ghost use Rattle.kc_block_lazy.specs.Lanes.{timer2_goes, shown_units, IsLazy};
+ghost use Rattle.kc_block_lazy.specs.Scheduler.{timer2_goes, shown_units, IsScheduled};
 ghost use Rattle.kc_block_lazy.specs.Laws.{IsUpTo};
 ghost use Rattle.kc_block_lanes.specs.Standing.{standing};
 ghost use Rattle.kc_block_lanes.specs.Next.{IsDueOrLast};
 
-use crate::lanes::Lanes;
+use crate::scheduler::Scheduler;
 use crate::slots::is_due;
 use kc_base::StateTime;
 use kc_block_inputs::{has_pin, outputs, stimulated, unwired, wired};
-use kc_block_spec::Steady;
+use kc_block_spec::BoardRegisters;
 use kc_extra::Extra;
 use kc_timers::{T2Control, T2View};
 
 /// How Timer 2 is clocked and reset at these levels of the inputs.
-pub fn control(steady: &Steady, levels: u64) -> T2Control
-    ensures { result ≡ control_of steady.now levels }
+pub fn control(board_registers: &BoardRegisters, levels: u64) -> T2Control
+    ensures { result ≡ control_of board_registers.now levels }
 {
-    let ioc0 = u64::from(steady.ioc0);
-    let ioc2 = u64::from(steady.ioc2);
+    let ioc0 = u64::from(board_registers.ioc0);
+    let ioc2 = u64::from(board_registers.ioc2);
     T2Control {
         hsi1: has_pin(ioc0, 7),
-        internal: has_pin(u64::from(steady.ioc3), 0),
+        internal: has_pin(u64::from(board_registers.ioc3), 0),
         fast: has_pin(ioc2, 0),
         down: has_pin(ioc2, 1) && has_pin(levels, 26),
         reset_on: has_pin(ioc0, 3),
@@ -36,20 +36,20 @@ pub fn control(steady: &Steady, levels: u64) -> T2Control
     }
 }
 
-impl<X: Extra> Lanes<X> {
+impl<X: Extra> Scheduler<X> {
     /// What HSO sees of Timer 2 in state `at`, by arithmetic.
     pub fn view(&self, at: StateTime) -> T2View
         requires order { self.now.timer2.at ≤ at }
         requires bound { at ≤ 4 * 10 ^ 15 }
-        ensures view { result ≡ view_of (control_of self.now.steady self.now.steady.levels)
+        ensures view { result ≡ view_of (control_of self.now.board_registers self.now.board_registers.levels)
             (shown (timer2_goes (standing X.plain self.now)) (standing X.plain self.now).timer2 at) }
         ensures range { self.now.timer2.unit.inner.value < 65536 }
     {
         let _kept = self.timer2.unit.value();
-        let view = self
-            .timer2
-            .unit
-            .view(control(&self.steady, self.steady.levels));
+        let view = self.timer2.unit.view(control(
+            &self.board_registers,
+            self.board_registers.levels,
+        ));
         T2View {
             value: view.value_at(self.timer2.at, at),
             every: view.every,
@@ -59,36 +59,39 @@ impl<X: Extra> Lanes<X> {
 
     // The levels that stimuli give in state `now`, which are searched only where one comes there.
     fn own_levels(&self, now: StateTime, stimuli_due: bool) -> u64
-        requires lazy { IsLazy X.further X.agrees (standing X.plain self.now) now }
+        requires scheduled { IsScheduled X.further X.agrees (standing X.plain self.now) now }
         requires due { stimuli_due ≡ is_due_in now (at_slot self.now.due 5) }
         ensures { result ≡ stimulated_at self.now.stimuli now }
     {
         if stimuli_due {
             stimulated(&self.stimuli, now)
         } else {
-            unwired(&self.stimuli, self.steady.levels)
+            unwired(&self.stimuli, self.board_registers.levels)
         }
     }
 
     /// The levels of the inputs in state `now`. Where neither a stimulus nor a wire is due there, they are those of the state
     /// before.
     pub fn levels(&self, now: StateTime) -> u64
-        requires { IsLazy X.further X.agrees (standing X.plain self.now) now }
+        requires { IsScheduled X.further X.agrees (standing X.plain self.now) now }
         ensures { result ≡ levels_at now (shown_units X.further (standing X.plain self.now) now) }
     {
         let stimuli_due = is_due(&self.due, 5, now);
         if !stimuli_due && !is_due(&self.due, 6, now) {
-            return self.steady.levels;
+            return self.board_registers.levels;
         }
         let own = self.own_levels(now, stimuli_due);
-        own | wired(&self.stimuli, outputs(&self.steady, &self.hso.unit))
+        own | wired(
+            &self.stimuli,
+            outputs(&self.board_registers, &self.hso.unit),
+        )
     }
 
     /// The next state in which anything is worked, if no access comes: the least of all due states, or the last number of
     /// 64 bits.
     pub fn next(&self) -> StateTime
-        ensures up_to { (now : ℕ) → IsLazy X.further X.agrees (standing X.plain self.now) now → IsUpTo (standing X.plain self.now) result }
-        ensures due { (now : ℕ) → IsLazy X.further X.agrees (standing X.plain self.now) now →
+        ensures up_to { (now : ℕ) → IsScheduled X.further X.agrees (standing X.plain self.now) now → IsUpTo (standing X.plain self.now) result }
+        ensures due { (now : ℕ) → IsScheduled X.further X.agrees (standing X.plain self.now) now →
             IsDueOrLast (block_rule X.further) now (shown_units X.further (standing X.plain self.now) now) result }
     {
         match self.due.first() {

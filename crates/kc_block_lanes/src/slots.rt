@@ -1,7 +1,7 @@
 // The slots of the due states.
 ghost use Rattle.std.specs.Prelude.{◌≡◌, ◌≢◌, ℕ, ◌<◌};
 ghost use Rattle.kc_due.specs.Due.{at_slot};
-ghost use Rattle.kc_block_lane.specs.Lane.{is_due_in};
+ghost use Rattle.kc_block_lane.specs.DeferredUnit.{is_due_in};
 
 use kc_base::StateTime;
 use kc_due::DueList;

@@ -5,13 +5,13 @@ ghost use Rattle.kc_span.specs.Span.{IsDue};
 ghost use Rattle.kc_due.specs.Due.{at_slot};
 ghost use Rattle.kc_block_spec.specs.Levels.{stimulated_before};
 ghost use Rattle.kc_block_spec.specs.Start.{first_units};
-ghost use Rattle.kc_block_lazy.specs.Lanes.{shown_units, IsLazy};
+ghost use Rattle.kc_block_lazy.specs.Scheduler.{shown_units, IsScheduled};
 ghost use Rattle.kc_block_lanes.specs.Standing.{standing, moves_of};
 
-use crate::lanes::{Lane, Lanes};
+use crate::scheduler::{DeferredUnit, Scheduler};
 use kc_base::{NoMemory, Steps};
 use kc_block_inputs::start_levels;
-use kc_block_spec::Steady;
+use kc_block_spec::BoardRegisters;
 use kc_due::DueList;
 use kc_extra::Extra;
 use kc_hsi::Hsi;
@@ -24,10 +24,10 @@ use std::marker::Brand;
 use std::sync::ledger::{Blank, Ledger};
 
 /// The data beside the units at the start.
-fn first_steady(stimuli: &Stimuli) -> Steady
-    ensures { result ≡ steady_at_start stimuli.now }
+fn first_board_registers(stimuli: &Stimuli) -> BoardRegisters
+    ensures { result ≡ board_registers_at_start stimuli.now }
 {
-    Steady {
+    BoardRegisters {
         levels: start_levels(stimuli),
         ios1: 0,
         ios2: 0,
@@ -42,54 +42,54 @@ fn first_steady(stimuli: &Stimuli) -> Steady
     }
 }
 
-ghost use Rattle.kc_block_spec.specs.Start.{first_steady as steady_at_start};
+ghost use Rattle.kc_block_spec.specs.Start.{first_board_registers as board_registers_at_start};
 
 /// Asks when all are due from state 0 on, with a counter of its own.
-fn ask_all<X: Extra, L: Ledger>(lanes: &mut Lanes<X>, blank: Blank)
+fn ask_all<X: Extra, L: Ledger>(scheduler: &mut Scheduler<X>, blank: Blank)
     requires fresh { IsFresh blank L.name L.parts }
-    requires timer2 { lanes.old.timer2.at ≡ 0 }
-    requires levels { lanes.old.steady.levels ≡ stimulated_before lanes.old.stimuli 0 }
-    requires empty { (slot : ℕ) → slot < 16 → at_slot lanes.old.due slot ≡ None }
-    ensures rest { lanes.new ≡ record lanes.old { due = lanes.new.due } }
-    ensures asked { AreAsked X.further (standing X.plain lanes.new) 0 }
+    requires timer2 { scheduler.old.timer2.at ≡ 0 }
+    requires levels { scheduler.old.board_registers.levels ≡ stimulated_before scheduler.old.stimuli 0 }
+    requires empty { (slot : ℕ) → slot < 16 → at_slot scheduler.old.due slot ≡ None }
+    ensures rest { scheduler.new ≡ record scheduler.old { due = scheduler.new.due } }
+    ensures asked { AreAsked X.further (standing X.plain scheduler.new) 0 }
 {
     let mut steps = Steps::<L>::new(blank);
-    lanes.ask_timers(0, &mut steps);
-    lanes.ask_hsi(0, &mut steps);
-    lanes.ask_further(0, &mut steps);
-    lanes.ask_flag(0);
-    lanes.set_stimuli(0);
-    lanes.set_wires(0);
+    scheduler.ask_timers(0, &mut steps);
+    scheduler.ask_hsi(0, &mut steps);
+    scheduler.ask_further(0, &mut steps);
+    scheduler.ask_flag(0);
+    scheduler.set_stimuli(0);
+    scheduler.set_wires(0);
 }
 
 ghost use Rattle.kc_block_lanes.specs.Asked.{AreAsked};
 
-impl<X: Extra + Drop> Lanes<X> {
+impl<X: Extra + Drop> Scheduler<X> {
     /// All units at the start of state 0. The further unit has to keep the levels that the inputs have before state 0.
-    pub fn new(alloc: Global, stimuli: Stimuli, extra: X) -> Result<Lanes<X>, NoMemory>
+    pub fn new(alloc: Global, stimuli: Stimuli, extra: X) -> Result<Scheduler<X>, NoMemory>
         requires { (m : ℕ) → X.agrees m (bit_xor (stimulated_before stimuli 0) m) (X.plain extra) }
-        ensures lazy { IfOk result (λ lanes. IsLazy X.further X.agrees (standing X.plain lanes) 0) }
-        ensures units { IfOk result (λ lanes. shown_units X.further (standing X.plain lanes) 0 ≡ first_units stimuli (X.plain extra)) }
-        ensures moves { IfOk result (λ lanes. moves_of X.moved lanes ≡ X.moved extra) }
+        ensures scheduled { IfOk result (λ scheduler. IsScheduled X.further X.agrees (standing X.plain scheduler) 0) }
+        ensures units { IfOk result (λ scheduler. shown_units X.further (standing X.plain scheduler) 0 ≡ first_units stimuli (X.plain extra)) }
+        ensures moves { IfOk result (λ scheduler. moves_of X.moved scheduler ≡ X.moved extra) }
     {
         let hsi = Hsi::new(alloc)?;
-        let mut lanes = Lanes {
-            steady: first_steady(&stimuli),
+        let mut scheduler = Scheduler {
+            board_registers: first_board_registers(&stimuli),
             stimuli,
             due: DueList::new(),
-            flag: Lane { unit: false, at: 0 },
-            timer2: Lane {
+            flag: DeferredUnit { unit: false, at: 0 },
+            timer2: DeferredUnit {
                 unit: Timer2::new(),
                 at: 0,
             },
-            hso: Lane {
+            hso: DeferredUnit {
                 unit: Hso::new(),
                 at: 0,
             },
-            hsi: Lane { unit: hsi, at: 0 },
-            further: Lane { unit: extra, at: 0 },
+            hsi: DeferredUnit { unit: hsi, at: 0 },
+            further: DeferredUnit { unit: extra, at: 0 },
         };
-        ask_all::<X, Brand>(&mut lanes, Blank::new(1));
-        Ok(lanes)
+        ask_all::<X, Brand>(&mut scheduler, Blank::new(1));
+        Ok(scheduler)
     }
 }

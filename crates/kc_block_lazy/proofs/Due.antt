@@ -6,9 +6,9 @@ use Rattle.kc_span.specs.Span.{after}
 use Rattle.kc_due.specs.Due.{at_slot}
 use Rattle.kc_stim.specs.Drives.{Stimulation, IsNextEdge}
 use Rattle.kc_extra.specs.Further.{Further}
-use Rattle.kc_block_lane.specs.Lane.{is_due_in}
+use Rattle.kc_block_lane.specs.DeferredUnit.{is_due_in}
 use Rattle.kc_block_spec.specs.Touch.{worked, block_rule}
-use Rattle.kc_block_lazy.specs.Lanes.{Lanes, levels_ahead, wire_slot, shown_units, IsFurther, IsLazy}
+use Rattle.kc_block_lazy.specs.Scheduler.{Scheduler, levels_ahead, wire_slot, shown_units, IsFurther, IsScheduled}
 use Rattle.kc_block_lazy.specs.Laws.{IsUpTo, LeastSlotIsDue, NoSlotIsDue}
 use Rattle.kc_block_lazy.proofs.Spans.{is_quiet, quiet_span, goes_on, event_is_worked}
 
@@ -24,7 +24,7 @@ wire_later now ahead levels u e = by (ahead == levels) e
     by false e = let same : now ≡ u = cc in omega arith
 
 -- no slot lies before the present state
-pub slots_later : {X : Type 0} (f : Further X) (agrees : ℕ → ℕ → X → Type 0) (h : Lanes X) (now slot u : ℕ) → IsLazy f agrees h now → slot < 7 → at_slot h.due slot ≡ Some u → now ≤ u
+pub slots_later : {X : Type 0} (f : Further X) (agrees : ℕ → ℕ → X → Type 0) (h : Scheduler X) (now slot u : ℕ) → IsScheduled f agrees h now → slot < 7 → at_slot h.due slot ≡ Some u → now ≤ u
 slots_later f agrees h now slot u is lt due = elim (cases_eq slot 0) [
   | inl e ↦ is.timer2.later u (ap (at_slot h.due) (sym e) ∙ due)
   | inr n0 ↦ elim (cases_eq slot 1) [
@@ -39,7 +39,7 @@ slots_later f agrees h now slot u is lt due = elim (cases_eq slot 0) [
             | inl e ↦ edge_later h.drives.stimuli now (at_slot h.due 5) u is.stimuli (ap (at_slot h.due) (sym e) ∙ due)
             | inr n5 ↦
                 let e : slot ≡ 6 = omega arith in
-                wire_later now (levels_ahead h now) h.steady.levels u (sym is.wires ∙ ap (at_slot h.due) (sym e) ∙ due)
+                wire_later now (levels_ahead h now) h.board_registers.levels u (sym is.wires ∙ ap (at_slot h.due) (sym e) ∙ due)
           ]
         ]
       ]
@@ -48,7 +48,7 @@ slots_later f agrees h now slot u is lt due = elim (cases_eq slot 0) [
 ]
 
 -- a slot whose state is not the present one is ahead
-pub slot_ahead : {X : Type 0} (f : Further X) (agrees : ℕ → ℕ → X → Type 0) (h : Lanes X) (now slot : ℕ) → IsLazy f agrees h now → slot < 7 →
+pub slot_ahead : {X : Type 0} (f : Further X) (agrees : ℕ → ℕ → X → Type 0) (h : Scheduler X) (now slot : ℕ) → IsScheduled f agrees h now → slot < 7 →
     is_due_in now (at_slot h.due slot) ≡ false → (u : ℕ) → at_slot h.due slot ≡ Some u → now < u
 slot_ahead f agrees h now slot is lt off u due =
     let le : now ≤ u = slots_later f agrees h now slot u is lt due in
@@ -57,9 +57,9 @@ slot_ahead f agrees h now slot is lt off u due =
       | inr other ↦ omega (arith, other)
     ]
 
-module _ {X : Type 0} (f : Further X) (agrees : ℕ → ℕ → X → Type 0) (keeps : IsFurther f agrees) (h : Lanes X) where
+module _ {X : Type 0} (f : Further X) (agrees : ℕ → ℕ → X → Type 0) (keeps : IsFurther f agrees) (h : Scheduler X) where
   -- a state before each slot
-  quiet_before : (now k at : ℕ) → IsLazy f agrees h now → IsUpTo h at → now + k < at →
+  quiet_before : (now k at : ℕ) → IsScheduled f agrees h now → IsUpTo h at → now + k < at →
       (block_rule f).quiet (now + k) (after (block_rule f) now k (shown_units f h now)) ≡ true
   quiet_before now k at is up_to lt =
       let span = quiet_span f agrees keeps h now k is (λ slot u below e. let le : at ≤ u = up_to slot u below e in omega arith) in
@@ -71,11 +71,11 @@ least_slot_is_due f agrees keeps h now slot at is below due up_to =
     let later : now ≤ at = slots_later f agrees h now slot at is below due in
     let to : now + (at - now) ≡ at = omega arith in
     let span = quiet_span f agrees keeps h now (at - now) is (λ s u lt e. let le : at ≤ u = up_to s u lt e in omega arith) in
-    let there : IsLazy f agrees h at = goes_on f agrees keeps h now at is later up_to in
+    let there : IsScheduled f agrees h at = goes_on f agrees keeps h now at is later up_to in
     record {
       later = later;
       before = λ k lt. quiet_before f agrees keeps h now k at is up_to (omega arith);
-      loud =
+      active =
           ap (λ u. not (worked f at u)) (span.units ∙ ap (shown_units f h) to)
           ∙ ap not (event_is_worked f agrees keeps h at slot there below due);
     }

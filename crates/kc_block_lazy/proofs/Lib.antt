@@ -3,5 +3,5 @@ pub mod Spans
 pub mod Rows
 pub mod Due
 pub mod Bringing
-pub mod Told
+pub mod Known
 pub mod Joins

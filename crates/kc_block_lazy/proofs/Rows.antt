@@ -7,27 +7,27 @@ use Rattle.kc_span.proofs.SpanLaws.{after-over}
 use Rattle.kc_due.specs.Due.{at_slot}
 use Rattle.kc_timers.specs.declared.T2Control.{T2Control}
 use Rattle.kc_timers.specs.T2.{T2, timer2_rule, view_of, value_at, moved, counts_in, every_of}
-use Rattle.kc_timers.proofs.T2Laws.{timer2_after, view_tells}
+use Rattle.kc_timers.proofs.T2Laws.{timer2_after, view_shows}
 use Rattle.kc_hso.specs.Cam.{cam_rule, tick_of, fires, slot_at, loads}
 use Rattle.kc_hsi.specs.Input.{hsi_rule}
 use Rattle.kc_extra.specs.Further.{Further, is_silent}
-use Rattle.kc_block_lane.specs.Lane.{Lane, shown, IsLane}
-use Rattle.kc_block_lane.proofs.Lanes.{next, passes_over}
+use Rattle.kc_block_lane.specs.DeferredUnit.{DeferredUnit, shown, IsDeferred}
+use Rattle.kc_block_lane.proofs.Scheduler.{next, passes_over}
 use Rattle.kc_block_spec.specs.Control.{control_of}
 use Rattle.kc_block_spec.specs.Tick.{tick}
 use Rattle.kc_block_spec.specs.Touch.{timer2_touched, hso_works}
 use Rattle.kc_block_spec.specs.Rows.{GoesAlone}
 use Rattle.kc_block_spec.proofs.Rows.{timer2_untouched, hso_untouched, hsi_untouched, further_untouched}
-use Rattle.kc_block_lazy.specs.Lanes.{flag_goes, timer2_goes, line, hso_goes, further_goes, shown_units, IsFurther}
+use Rattle.kc_block_lazy.specs.Scheduler.{flag_goes, timer2_goes, line, hso_goes, further_goes, shown_units, IsFurther}
 use Rattle.kc_block_lazy.specs.Rows.{ticked, IsRow, Timer2Row, HsoRow, HsiRow, FlagRow, FurtherRow, ViewsAreLines}
 use Rattle.kc_block_lazy.proofs.Spans.{agrees_after}
 
 -- a unit that goes on by itself
-row : {D : Type 0} (rule : Rule D) (lane : Lane D) (now : ℕ) (slot : Option ℕ) (new : D) → IsLane rule lane now slot →
-    GoesAlone rule now (shown rule lane now) new → IsRow rule lane now slot new
-row rule lane now slot new is alone = record {
-  stays = passes_over rule lane now slot is alone.quiet;
-  shows = next rule lane now is.first ∙ sym alone.step;
+row : {D : Type 0} (rule : Rule D) (deferred : DeferredUnit D) (now : ℕ) (slot : Option ℕ) (new : D) → IsDeferred rule deferred now slot →
+    GoesAlone rule now (shown rule deferred now) new → IsRow rule deferred now slot new
+row rule deferred now slot new is alone = record {
+  stays = passes_over rule deferred now slot is alone.quiet;
+  shows = next rule deferred now is.first ∙ sym alone.step;
 }
 
 module _ {X : Type 0} (f : Further X) (agrees : ℕ → ℕ → X → Type 0) where
@@ -57,12 +57,12 @@ module _ {X : Type 0} (f : Further X) (agrees : ℕ → ℕ → X → Type 0) wh
   further_row keeps h now is none =
       let alone = further_untouched f now (shown_units f h now) none in
       let d : X = shown (further_goes f) h.further now in
-      let agreed : agrees h.steady.levels 0 d =
-      agrees_after f agrees keeps h h.further.at (now - h.further.at) h.steady.levels 0 h.further.kept
-      (subst (λ e. agrees h.steady.levels e h.further.kept) (xor_self h.steady.levels) (is.agreed h.steady.levels)) in
+      let agreed : agrees h.board_registers.levels 0 d =
+      agrees_after f agrees keeps h h.further.at (now - h.further.at) h.board_registers.levels 0 h.further.kept
+      (subst (λ e. agrees h.board_registers.levels e h.further.kept) (xor_self h.board_registers.levels) (is.agreed h.board_registers.levels)) in
       row (further_goes f) h.further now (at_slot h.due 3) (ticked f h now).further is.further (record {
-        step = alone.step ∙ keeps.rests now h.steady.levels d agreed;
-        quiet = ap is_silent (sym (keeps.rests_out now h.steady.levels d agreed)) ∙ alone.silent;
+        step = alone.step ∙ keeps.rests now h.board_registers.levels d agreed;
+        quiet = ap is_silent (sym (keeps.rests_out now h.board_registers.levels d agreed)) ∙ alone.silent;
       })
 
 moved_fits : (down : Bool) (v n : ℕ) → moved down v n < 65536
@@ -70,18 +70,18 @@ moved_fits true v n = omega arith
 moved_fits false v n = omega arith
 
 -- the value of Timer 2 stays in its range
-pub value_fits : (c : T2Control) (lane : Lane T2) (t : ℕ) → lane.kept.value < 65536 → (shown (timer2_rule c) lane t).value < 65536
-value_fits c lane t fits =
-    subst (λ e. e.value < 65536) (sym (timer2_after c lane.at (t - lane.at) lane.kept fits))
-    (moved_fits c.down lane.kept.value (counts_in (every_of c) lane.at (lane.at + (t - lane.at))))
+pub value_fits : (c : T2Control) (deferred : DeferredUnit T2) (t : ℕ) → deferred.kept.value < 65536 → (shown (timer2_rule c) deferred t).value < 65536
+value_fits c deferred t fits =
+    subst (λ e. e.value < 65536) (sym (timer2_after c deferred.at (t - deferred.at) deferred.kept fits))
+    (moved_fits c.down deferred.kept.value (counts_in (every_of c) deferred.at (deferred.at + (t - deferred.at))))
 
 pub views_are_lines : {X : Type 0} → ViewsAreLines X
 views_are_lines h from le fits =
-    let c = control_of h.steady h.steady.levels in
+    let c = control_of h.board_registers h.board_registers.levels in
     let d = shown (timer2_goes h) h.timer2 from in
     let small : d.value < 65536 = value_fits c h.timer2 from fits in
     let same : (t : ℕ) → from ≤ t → value_at (view_of c d) from t ≡ line h t =
-    λ t later. view_tells c from t d small later ∙ ap (λ e. e.value) (sym (after-over (timer2_goes h) h.timer2.at from t h.timer2.kept le later)) in
+    λ t later. view_shows c from t d small later ∙ ap (λ e. e.value) (sym (after-over (timer2_goes h) h.timer2.at from t h.timer2.kept le later)) in
     record {
       step = λ t e later. ap (λ v. tick_of false t v e) (same t later);
       quiet = λ t e later. ap (λ v. not (fires (slot_at e t) t v || loads e t)) (same t later);

@@ -1,4 +1,4 @@
-pub mod Lanes
+pub mod Scheduler
 pub mod Laws
 pub mod Rows
 pub mod Events

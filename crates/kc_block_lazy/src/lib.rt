@@ -3,10 +3,10 @@
 //! definitions and their laws alone.
 #![tactic(auto)]
 
-ghost use Rattle.kc_block_lazy.specs.Lanes.{IsFurther};
+ghost use Rattle.kc_block_lazy.specs.Scheduler.{IsFurther};
 ghost use Rattle.kc_block_lazy.specs.Laws.{QuietState, QuietSpan, GoesOn, EventIsWorked, LeastSlotIsDue, NoSlotIsDue};
 ghost use Rattle.kc_block_lazy.specs.Rows.{Timer2Row, HsoRow, HsiRow, FurtherRow, FlagRow, ViewsAreLines};
-ghost use Rattle.kc_block_lazy.specs.Events.{TouchesAreTold, FurtherAgrees, UntouchedAreSilent, EventsJoin};
+ghost use Rattle.kc_block_lazy.specs.Events.{TouchesAreKnown, FurtherAgrees, UntouchedAreSilent, EventsJoin};
 
 use kc_extra::Extra;
 
@@ -34,7 +34,7 @@ pub fn least_slots_are_due<X: Extra>()
 {}
 
 /// In an event, a unit that the Tick does not touch stands as it is, and shows what the Tick gives.
-pub fn untouched_lanes_stay<X: Extra>()
+pub fn untouched_scheduler_stay<X: Extra>()
     ensures timer2 { Timer2Row X.further X.agrees }
     ensures hso { HsoRow X.further X.agrees }
     ensures hsi { HsiRow X.further X.agrees }
@@ -43,8 +43,8 @@ pub fn untouched_lanes_stay<X: Extra>()
 {}
 
 /// What an event touches is told by edges, due states and the command that fires.
-pub fn touches_are_told<X: Extra>()
-    ensures told { TouchesAreTold X.further X.agrees }
+pub fn touches_are_known<X: Extra>()
+    ensures known { TouchesAreKnown X.further X.agrees }
     ensures agrees { FurtherAgrees X.further X.agrees }
 {}
 

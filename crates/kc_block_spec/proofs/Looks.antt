@@ -91,7 +91,7 @@ levels_shown_stay t outs u levels still =
     ap (λ m. bit_and m (mask_of with_wire pin_count)) (mask_or before along pin_count)
     ∙ mask_and (λ pin. before pin || along pin) with_wire pin_count
     ∙ mask_same _ _ pin_count (λ pin lt. wires_alone (is_input pin) (is_high (level_before u.drives.stimuli pin t)) (wire_to u.drives.wires pin) outs) in
-    ap (λ m. bit_or m (bit_and u.steady.levels (wired_inputs u.drives))) same
+    ap (λ m. bit_or m (bit_and u.board_registers.levels (wired_inputs u.drives))) same
     ∙ ap (λ m. bit_or (stimulated_before u.drives t) (bit_and m (wired_inputs u.drives))) levels
     ∙ ap (bit_or (stimulated_before u.drives t)) kept
     ∙ sym levels

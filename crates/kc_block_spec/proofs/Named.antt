@@ -285,7 +285,7 @@ both_bytes_written_are_asked f t w u addr n even unnamed =
 -- a read changes little
 alike_then : {X : Type 0} (u v x : Units X) → AreReadAlike u v → AreReadAlike v x → AreReadAlike u x
 alike_then {X = X} u v x first second = second ∙ ap {A = Units X} {B = Units X} (λ y. record y {
-  steady = record y.steady { ios1 = x.steady.ios1; ios2 = x.steady.ios2 };
+  board_registers = record y.board_registers { ios1 = x.board_registers.ios1; ios2 = x.board_registers.ios2 };
   overflowed = x.overflowed;
   hsi = record y.hsi { loaded = x.hsi.loaded };
   further = x.further;
@@ -294,8 +294,8 @@ alike_then {X = X} u v x first second = second ∙ ap {A = Units X} {B = Units X
 mild : {X : Type 0} (u v : Units X) → AreReadAlike u v → IsMildRead u v
 mild u v alike = record {
   alike = alike;
-  edges = ap (λ y. latch_edges u y) alike ∙ edges_none (printed u.steady u.hso) 18;
-  wsr = ap (λ y. y.steady.wsr) alike;
+  edges = ap (λ y. latch_edges u y) alike ∙ edges_none (printed u.board_registers u.hso) 18;
+  wsr = ap (λ y. y.board_registers.wsr) alike;
 }
 
 byte_alike : {X : Type 0} (u : Units X) (r : ReadableByte) → AreReadAlike u (after_byte u r)
@@ -384,7 +384,7 @@ module _ {X : Type 0} (f : Further X) (t : ℕ) (w : Window) (P : Units X → Ty
 
 -- WSR after a write
 abbrev HasProfile : {X : Type 0} → Units X → Type 0
-HasProfile u = is_wsr u.steady.wsr ≡ true
+HasProfile u = is_wsr u.board_registers.wsr ≡ true
 
 byte_keeps_wsr : {X : Type 0} (u : Units X) (r : WritableByte) (n : ℕ) → HasProfile u → IfOk (with_byte u r n) HasProfile
 byte_keeps_wsr u writes.Zeros n is = is
@@ -403,7 +403,7 @@ byte_keeps_wsr u writes.Ioc2 n is = if_not_ok HasProfile (bit n 0 && has_timer2_
 byte_keeps_wsr u writes.Ioc3 n is = is
 
 word_keeps_wsr : {X : Type 0} (f : Further X) (t : ℕ) (w : Window) (u : Units X) (r : WritableWord) (n : ℕ) → HasProfile u → IfOk (with_word u r n) HasProfile
-word_keeps_wsr f t w u writes_word.HsoTime n is = load_holds f t w HasProfile u n (load_refusal u.hso (bit u.steady.ioc2 0)) is
+word_keeps_wsr f t w u writes_word.HsoTime n is = load_holds f t w HasProfile u n (load_refusal u.hso (bit u.board_registers.ioc2 0)) is
 word_keeps_wsr f t w u writes_word.Timer2 n is = is
 word_keeps_wsr f t w u writes_word.PtsSelect n is = is
 word_keeps_wsr f t w u writes_word.PtsService n is = is
@@ -411,8 +411,8 @@ word_keeps_wsr f t w u writes_word.PtsService n is = is
 byte_keeps_profile : {X : Type 0} (f : Further X) (t : ℕ) (w : Window) (u : Units X) (addr n : ℕ) → HasProfile u → IfOk (byte_written f t w u addr n) HasProfile
 byte_keeps_profile f t w u addr n is = byte_holds f t w HasProfile u addr n (λ r e. byte_keeps_wsr u r n is) (λ d. is)
 
-pub even_writes_keep_profile : {X : Type 0} (f : Further X) (t : ℕ) (w : Window) (u : Units X) (addr n : ℕ) → is_wsr u.steady.wsr ≡ true →
-    IfOk (even_word_written f t w u addr n) (λ new. is_wsr new.steady.wsr ≡ true)
+pub even_writes_keep_profile : {X : Type 0} (f : Further X) (t : ℕ) (w : Window) (u : Units X) (addr n : ℕ) → is_wsr u.board_registers.wsr ≡ true →
+    IfOk (even_word_written f t w u addr n) (λ new. is_wsr new.board_registers.wsr ≡ true)
 even_writes_keep_profile f t w u addr n is =
     word_holds f t w HasProfile u addr n (λ r. word_keeps_wsr f t w u r n is)
     (if_ok_weaker HasProfile _ (byte_written f t w u addr (n % 256)) (λ mid holds. byte_keeps_profile f t w mid (addr + 1) (n / 256) holds) (byte_keeps_profile f t w u addr (n % 256) is))
@@ -425,7 +425,7 @@ writes_keep_profile f t w u addr n is = (
 
 -- the printed pins after a write
 abbrev AreShownAlike : {X : Type 0} → Units X → Units X → Type 0
-AreShownAlike u new = printed new.steady new.hso ≡ printed u.steady u.hso
+AreShownAlike u new = printed new.board_registers new.hso ≡ printed u.board_registers u.hso
 
 shows_pins : WritableByte → Bool
 shows_pins writes.Port1 = true
@@ -464,13 +464,13 @@ byte_shows_alike u writes.Ioc0 n e = refl
 byte_shows_alike u writes.Ioc1 n e = absurd (false≢true (sym e))
 byte_shows_alike u writes.Ioc2 n e = if_not_ok (AreShownAlike u) (bit n 0 && has_timer2_of u.hso) _ _ (emptied (bit n 7))
   where
-    emptied : (b : Bool) → ◌≡◌ {A = ℕ} (printed u.steady (if b then cam.emptied u.hso else u.hso)) (printed u.steady u.hso)
+    emptied : (b : Bool) → ◌≡◌ {A = ℕ} (printed u.board_registers (if b then cam.emptied u.hso else u.hso)) (printed u.board_registers u.hso)
     emptied true = refl
     emptied false = refl
 byte_shows_alike u writes.Ioc3 n e = refl
 
 word_shows_alike : {X : Type 0} (f : Further X) (t : ℕ) (w : Window) (u : Units X) (r : WritableWord) (n : ℕ) → IfOk (with_word u r n) (AreShownAlike u)
-word_shows_alike f t w u writes_word.HsoTime n = load_holds f t w (AreShownAlike u) u n (load_refusal u.hso (bit u.steady.ioc2 0)) refl
+word_shows_alike f t w u writes_word.HsoTime n = load_holds f t w (AreShownAlike u) u n (load_refusal u.hso (bit u.board_registers.ioc2 0)) refl
 word_shows_alike f t w u writes_word.Timer2 n = refl
 word_shows_alike f t w u writes_word.PtsSelect n = refl
 word_shows_alike f t w u writes_word.PtsService n = refl
@@ -487,7 +487,7 @@ other_writes_move_no_pin {X = X} f t w u addr n low = (
 )
   where
     no_edge : (new : Units X) → AreShownAlike u new → latch_edges u new ≡ []
-    no_edge new alike = ap (edges_between (printed u.steady u.hso)) alike ∙ edges_none (printed u.steady u.hso) 18
+    no_edge new alike = ap (edges_between (printed u.board_registers u.hso)) alike ∙ edges_none (printed u.board_registers u.hso) 18
 
     byte : (u : Units X) (addr n : ℕ) → moves_pins w addr ≡ false → IfOk (byte_written f t w u addr n) (AreShownAlike u)
     byte u addr n unmoved =

@@ -11,10 +11,10 @@ use Rattle.kc_hso.specs.Cam.{fires, slot_at, loads}
 use Rattle.kc_hsi.specs.declared.hsi.HsiOut.{HsiOut}
 use Rattle.kc_hsi.specs.Input.{gathered_with, is_push, is_move}
 use Rattle.kc_extra.specs.Further.{Further, is_silent}
-use Rattle.kc_block_spec.specs.declared.steady.Steady.{Steady}
+use Rattle.kc_block_spec.specs.declared.board_registers.BoardRegisters.{BoardRegisters}
 use Rattle.kc_block_spec.specs.Units.{Units}
 use Rattle.kc_block_spec.specs.Levels.{edges_below}
-use Rattle.kc_block_spec.specs.Tick.{passes, edges_at, timer2_out_at, hsi_edges_at, ◌∪◌, pin_requests, timer_requests, hsi_requests, steady_after, further_out_at}
+use Rattle.kc_block_spec.specs.Tick.{passes, edges_at, timer2_out_at, hsi_edges_at, ◌∪◌, pin_requests, timer_requests, hsi_requests, board_registers_after, further_out_at}
 use Rattle.kc_block_spec.specs.Touch.{hso_works, hsi_works, further_works, worked}
 
 -- masks without a difference are the same
@@ -33,18 +33,18 @@ pub either_off : (b : Bool) → (if b then false else false) ≡ false
 either_off true = refl
 either_off false = refl
 
-pub pins_still : (s : Steady) (rise : ℕ) → rise ≡ 0 → pin_requests s rise ≡ 0
+pub pins_still : (s : BoardRegisters) (rise : ℕ) → rise ≡ 0 → pin_requests s rise ≡ 0
 pins_still s rise none = rw (none, either_off (bit s.ioc1 1)) refl
 
-pub timers_still : (s : Steady) (passed : Bool) (out : T2Out) → (passed && bit s.ioc1 2) ≡ false → out.overflow ≡ false → out.captured ≡ false →
+pub timers_still : (s : BoardRegisters) (passed : Bool) (out : T2Out) → (passed && bit s.ioc1 2) ≡ false → out.overflow ≡ false → out.captured ≡ false →
     timer_requests s passed out ≡ 0
 timers_still s passed out first overflow captured = rw (first, overflow, captured) refl
 
-pub hsi_still : (s : Steady) (out : HsiOut) → out.loaded ≡ false → out.fourth ≡ false → out.sixth ≡ false → hsi_requests s out ≡ 0
+pub hsi_still : (s : BoardRegisters) (out : HsiOut) → out.loaded ≡ false → out.fourth ≡ false → out.sixth ≡ false → hsi_requests s out ≡ 0
 hsi_still s out loaded fourth sixth = rw (loaded, fourth, sixth, either_off (bit s.ioc1 7)) refl
 
-pub steady_still : (s : Steady) (levels ios1 ios2 raised : ℕ) → levels ≡ s.levels → ios1 ≡ 0 → ios2 ≡ 0 → raised ≡ 0 → steady_after s levels ios1 ios2 raised ≡ s
-steady_still s levels ios1 ios2 raised e f g h = rw (e, f, g, h, or_zero_r s.ios1, or_zero_r s.ios2, or_zero_r s.requests.pending) refl
+pub board_registers_still : (s : BoardRegisters) (levels ios1 ios2 raised : ℕ) → levels ≡ s.levels → ios1 ≡ 0 → ios2 ≡ 0 → raised ≡ 0 → board_registers_after s levels ios1 ios2 raised ≡ s
+board_registers_still s levels ios1 ios2 raised e f g h = rw (e, f, g, h, or_zero_r s.ios1, or_zero_r s.ios2, or_zero_r s.requests.pending) refl
 
 -- no bit is set in 0
 pub bit_none : (n : ℕ) → bit 0 n ≡ false
@@ -65,16 +65,16 @@ pub record IsStill {X : Type 0} (f : Further X) (t : ℕ) (u : Units X) : Type 0
   pub no_push : is_push t (gathered_with (hsi_edges_at t u) u.hsi) ≡ false
   pub no_move : is_move t u.hsi ≡ false
   pub silent : is_silent (further_out_at f t u) ≡ true
-  pub no_flag : (passes t && bit u.steady.ioc1 2) ≡ false
+  pub no_flag : (passes t && bit u.board_registers.ioc1 2) ≡ false
 
 pub still : {X : Type 0} (f : Further X) (t : ℕ) (u : Units X) → worked f t u ≡ false → IsStill f t u
 unfolding worked
 still f t u none =
-    let a = or_parts (not (edges_at t u == 0)) (hso_works t u || ((timer2_out_at t u).overflow || (hsi_works t u || (further_works f t u || (passes t && bit u.steady.ioc1 2))))) none in
-    let b = or_parts (hso_works t u) ((timer2_out_at t u).overflow || (hsi_works t u || (further_works f t u || (passes t && bit u.steady.ioc1 2)))) a.1 in
-    let c = or_parts (timer2_out_at t u).overflow (hsi_works t u || (further_works f t u || (passes t && bit u.steady.ioc1 2))) b.1 in
-    let d = or_parts (hsi_works t u) (further_works f t u || (passes t && bit u.steady.ioc1 2)) c.1 in
-    let e = or_parts (further_works f t u) (passes t && bit u.steady.ioc1 2) d.1 in
+    let a = or_parts (not (edges_at t u == 0)) (hso_works t u || ((timer2_out_at t u).overflow || (hsi_works t u || (further_works f t u || (passes t && bit u.board_registers.ioc1 2))))) none in
+    let b = or_parts (hso_works t u) ((timer2_out_at t u).overflow || (hsi_works t u || (further_works f t u || (passes t && bit u.board_registers.ioc1 2)))) a.1 in
+    let c = or_parts (timer2_out_at t u).overflow (hsi_works t u || (further_works f t u || (passes t && bit u.board_registers.ioc1 2))) b.1 in
+    let d = or_parts (hsi_works t u) (further_works f t u || (passes t && bit u.board_registers.ioc1 2)) c.1 in
+    let e = or_parts (further_works f t u) (passes t && bit u.board_registers.ioc1 2) d.1 in
     let hso = or_parts (fires (slot_at u.hso t) t u.timer2.value) (loads u.hso t) b.0 in
     let hsi = or_parts (is_push t (gathered_with (hsi_edges_at t u) u.hsi)) (is_move t u.hsi) d.0 in
     record {

@@ -15,7 +15,7 @@ use Rattle.kc_hsi.specs.Input as hsi
 use Rattle.kc_hsi.specs.Still.{no_edges_with}
 use Rattle.kc_hsi.proofs.Still.{enabled_matter_at_edges_alone, events_none}
 use Rattle.kc_extra.specs.Further.{Further, is_silent}
-use Rattle.kc_block_spec.specs.declared.steady.Steady.{Steady}
+use Rattle.kc_block_spec.specs.declared.board_registers.BoardRegisters.{BoardRegisters}
 use Rattle.kc_block_spec.specs.Units.{Units}
 use Rattle.kc_block_spec.specs.Levels.{levels_at}
 use Rattle.kc_block_spec.specs.Fired.{resets, starts}
@@ -51,7 +51,7 @@ inputs_off control edges rise fired a b c d e r = rw (a, b, c, d, e, r, either_o
     by true = refl
     by false = refl
 
-pub same_control : (s : Steady) (a b : ℕ) → bit a 26 ≡ bit b 26 → control_of s a ≡ control_of s b
+pub same_control : (s : BoardRegisters) (a b : ℕ) → bit a 26 ≡ bit b 26 → control_of s a ≡ control_of s b
 same_control s a b same = rw same refl
 
 pub bits_off : (pins : ℕ) → bit pins 18 ≡ false → bit pins 19 ≡ false → bit pins 20 ≡ false → bit pins 21 ≡ false → hsi_bits pins ≡ 0
@@ -69,8 +69,8 @@ module _ {X : Type 0} (f : Further X) (t : ℕ) (u : Units X) where
       let others = or_parts (bit e 22 || bit e 23) (bit e 26 || bit e 27) pins.1 in
       let clocks = or_parts (bit e 22) (bit e 23) others.0 in
       let ups = or_parts (bit e 26) (bit e 27) others.1 in
-      let control : control_at t u ≡ control_of u.steady u.steady.levels =
-      same_control u.steady (levels_at t u) u.steady.levels (same_bit (levels_at t u) u.steady.levels 26 ups.0) in
+      let control : control_at t u ≡ control_of u.board_registers u.board_registers.levels =
+      same_control u.board_registers (levels_at t u) u.board_registers.levels (same_bit (levels_at t u) u.board_registers.levels 26 ups.0) in
       let inputs : timer2_inputs_at t u ≡ t2.no_inputs =
       inputs_off (control_at t u) e (rises_at t u) (fired_at t u) hsis.1 clocks.0
       (no_bit e (levels_at t u) 18 hsis.0) (no_bit e (levels_at t u) 23 clocks.1) (no_bit e (levels_at t u) 27 ups.1) own.1 in
@@ -91,7 +91,7 @@ module _ {X : Type 0} (f : Further X) (t : ℕ) (u : Units X) where
   hso_untouched none =
       let works = or_parts (hso_works t u) (timer2_touched t u) none in
       let parts = or_parts (cam.fires (cam.slot_at u.hso t) t u.timer2.value) (cam.loads u.hso t) works.0 in
-      record { step = keep_unseen (bit u.steady.ioc2 6) t u.timer2.value u.hso parts.0; quiet = not_from_false _ works.0 }
+      record { step = keep_unseen (bit u.board_registers.ioc2 6) t u.timer2.value u.hso parts.0; quiet = not_from_false _ works.0 }
 
   pub hsi_untouched : hsi_touched t u ≡ false → GoesAlone hsi.hsi_rule t u.hsi (tick f t u).units.hsi
   unfolding tick
@@ -104,14 +104,14 @@ module _ {X : Type 0} (f : Further X) (t : ℕ) (u : Units X) where
       let works = or_parts (hsi.is_push t (hsi.gathered_with (hsi_edges_at t u) u.hsi)) (hsi.is_move t u.hsi) parts.1 in
       let masks : (m : ℕ) → hsi_bits (bit_and e m) ≡ 0 =
       λ m. bits_off (bit_and e m) (no_bit e m 18 low.0) (no_bit e m 19 low.1) (no_bit e m 20 high.0) (no_bit e m 21 high.1) in
-      let edges : hsi_edges_at t u ≡ no_edges_with (hsi_enabled u.steady.ioc0) =
-      λ i. record { rising = masks (levels_at t u) i; falling = masks u.steady.levels i; enabled = hsi_enabled u.steady.ioc0 } in
+      let edges : hsi_edges_at t u ≡ no_edges_with (hsi_enabled u.board_registers.ioc0) =
+      λ i. record { rising = masks (levels_at t u) i; falling = masks u.board_registers.levels i; enabled = hsi_enabled u.board_registers.ioc0 } in
       let push : hsi.is_push t (hsi.gathered_with (hsi_edges_at t u) u.hsi) ≡ hsi.is_push t u.hsi.gathered =
       ap (λ x. hsi.is_push t (hsi.gathered_with x u.hsi)) edges
-      ∙ ap (λ n. hsi.is_push t (bit_or u.hsi.gathered n)) (events_none (hsi_enabled u.steady.ioc0) u.hsi.mode u.hsi.counts)
+      ∙ ap (λ n. hsi.is_push t (bit_or u.hsi.gathered n)) (events_none (hsi_enabled u.board_registers.ioc0) u.hsi.mode u.hsi.counts)
       ∙ ap (hsi.is_push t) (or_zero_r u.hsi.gathered) in
       record {
-        step = ap (λ x. hsi.tick_of x t u.hsi) edges ∙ (enabled_matter_at_edges_alone (hsi_enabled u.steady.ioc0) t u.hsi).tick;
+        step = ap (λ x. hsi.tick_of x t u.hsi) edges ∙ (enabled_matter_at_edges_alone (hsi_enabled u.board_registers.ioc0) t u.hsi).tick;
         quiet = and_from _ _ (not_from_false _ (sym push ∙ works.0)) (not_from_false _ works.1);
       }
 
@@ -121,7 +121,7 @@ module _ {X : Type 0} (f : Further X) (t : ℕ) (u : Units X) where
       let parts = or_parts (not (edges_at t u == 0)) (further_works f t u || starts (fired_at t u)) none in
       let own = or_parts (further_works f t u) (starts (fired_at t u)) parts.1 in
       let inputs : edges_at t u ≡ 0 = eqb-true (edges_at t u) 0 (not-false (edges_at t u == 0) parts.0) in
-      let level : levels_at t u ≡ u.steady.levels = same_masks (levels_at t u) u.steady.levels inputs in
+      let level : levels_at t u ≡ u.board_registers.levels = same_masks (levels_at t u) u.board_registers.levels inputs in
       let silent : is_silent (further_out_at f t u) ≡ true = not-false (is_silent (further_out_at f t u)) own.0 in
       record {
         step =

@@ -28,7 +28,7 @@ or_no_register None = Err NoRegister
 
 -- the edges of printed pins where an access has changed a latch
 abbrev pub latch_edges : {X : Type 0} → Units X → Units X → List Edge
-latch_edges old new = edges_between (printed old.steady old.hso) (printed new.steady new.hso)
+latch_edges old new = edges_between (printed old.board_registers old.hso) (printed new.board_registers new.hso)
 
 module _ {X : Type 0} (f : Further X) where
   -- what no register of the board answers: a half of a word register, a register of the further unit, or nothing

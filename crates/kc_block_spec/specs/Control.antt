@@ -4,18 +4,18 @@ use Rattle.kc_base.specs.Bits.{bit, weight}
 use Rattle.kc_timers.specs.declared.T2Control.{T2Control}
 use Rattle.kc_timers.specs.declared.T2Inputs.{T2Inputs}
 use Rattle.kc_hsi.specs.declared.pins.PinEdges.{PinEdges}
-use Rattle.kc_block_spec.specs.declared.steady.Steady.{Steady}
+use Rattle.kc_block_spec.specs.declared.board_registers.BoardRegisters.{BoardRegisters}
 use Rattle.kc_block_spec.specs.Fired.{resets}
 
 -- how Timer 2 is clocked and reset, at these levels: down where IOC2.1 is 1 and T2UD is high
-abbrev pub control_of : Steady → ℕ → T2Control
-control_of steady levels = record {
-  hsi1 = bit steady.ioc0 7;
-  internal = bit steady.ioc3 0;
-  fast = bit steady.ioc2 0;
-  down = bit steady.ioc2 1 && bit levels 26;
-  reset_on = bit steady.ioc0 3;
-  reset_hsi0 = bit steady.ioc0 5;
+abbrev pub control_of : BoardRegisters → ℕ → T2Control
+control_of board_registers levels = record {
+  hsi1 = bit board_registers.ioc0 7;
+  internal = bit board_registers.ioc3 0;
+  fast = bit board_registers.ioc2 0;
+  down = bit board_registers.ioc2 1 && bit levels 26;
+  reset_on = bit board_registers.ioc0 3;
+  reset_hsi0 = bit board_registers.ioc0 5;
 }
 
 -- what reaches it: either edge of T2CLK or HSI1, a rise of T2RST or HSI0 or channel 14, a rise of T2CAP
@@ -34,5 +34,5 @@ hsi_bits pins = weight (bit pins 18) 1 + weight (bit pins 19) 2 + weight (bit pi
 abbrev pub hsi_enabled : ℕ → ℕ
 hsi_enabled ioc0 = weight (bit ioc0 0) 1 + weight (bit ioc0 2) 2 + weight (bit ioc0 4) 4 + weight (bit ioc0 6) 8
 
-abbrev pub hsi_edges : Steady → ℕ → ℕ → PinEdges
-hsi_edges steady rise fall = record { rising = hsi_bits rise; falling = hsi_bits fall; enabled = hsi_enabled steady.ioc0 }
+abbrev pub hsi_edges : BoardRegisters → ℕ → ℕ → PinEdges
+hsi_edges board_registers rise fall = record { rising = hsi_bits rise; falling = hsi_bits fall; enabled = hsi_enabled board_registers.ioc0 }

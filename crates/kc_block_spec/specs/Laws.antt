@@ -20,12 +20,12 @@ flag_rule raises = record { step = λ t flag. flag || passes t; quiet = λ t fla
 abbrev pub rested : {X : Type 0} → Further X → ℕ → Units X → Units X
 rested f t u = record {
   drives = u.drives;
-  steady = u.steady;
-  overflowed = (flag_rule (bit u.steady.ioc1 2)).step t u.overflowed;
-  timer2 = (t2.timer2_rule (control_of u.steady u.steady.levels)).step t u.timer2;
+  board_registers = u.board_registers;
+  overflowed = (flag_rule (bit u.board_registers.ioc1 2)).step t u.overflowed;
+  timer2 = (t2.timer2_rule (control_of u.board_registers u.board_registers.levels)).step t u.timer2;
   hso = (cam.cam_rule (λ s. u.timer2.value)).step t u.hso;
   hsi = hsi.hsi_rule.step t u.hsi;
-  further = f.step t u.steady.levels 0 u.further;
+  further = f.step t u.board_registers.levels 0 u.further;
 }
 
 -- a Tick that lets each unit go on by itself, gives no edge and touches nothing
@@ -37,17 +37,17 @@ abbrev pub QuietTicksAreRests : Type 0 → Type 0
 QuietTicksAreRests X = (f : Further X) (t : ℕ) (u : Units X) → worked f t u ≡ false → IsQuietTick f t u
 
 -- such a Tick keeps all data beside the units
-abbrev pub QuietTicksKeepSteady : Type 0 → Type 0
-QuietTicksKeepSteady X = (f : Further X) (t : ℕ) (u : Units X) → worked f t u ≡ false → (tick f t u).units.steady ≡ u.steady
+abbrev pub QuietTicksKeepBoardRegisters : Type 0 → Type 0
+QuietTicksKeepBoardRegisters X = (f : Further X) (t : ℕ) (u : Units X) → worked f t u ≡ false → (tick f t u).units.board_registers ≡ u.board_registers
 
 -- no input has an edge, and each unit by itself is quiet
 pub record IsCalm {X : Type 0} (f : Further X) (t : ℕ) (u : Units X) : Type 0 where
   pub inputs : edges_at t u ≡ 0
-  pub flag : (flag_rule (bit u.steady.ioc1 2)).quiet t u.overflowed ≡ true
-  pub timer2 : (t2.timer2_rule (control_of u.steady u.steady.levels)).quiet t u.timer2 ≡ true
+  pub flag : (flag_rule (bit u.board_registers.ioc1 2)).quiet t u.overflowed ≡ true
+  pub timer2 : (t2.timer2_rule (control_of u.board_registers u.board_registers.levels)).quiet t u.timer2 ≡ true
   pub hso : (cam.cam_rule (λ s. u.timer2.value)).quiet t u.hso ≡ true
   pub hsi : hsi.hsi_rule.quiet t u.hsi ≡ true
-  pub further : is_silent (f.out t u.steady.levels 0 u.further) ≡ true
+  pub further : is_silent (f.out t u.board_registers.levels 0 u.further) ≡ true
 
 -- exactly such a Tick is not worked
 abbrev pub CalmTicksAreNotWorked : Type 0 → Type 0

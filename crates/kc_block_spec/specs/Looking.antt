@@ -18,10 +18,10 @@ wired_inputs drives = mask_of (λ pin. is_some (wire_to drives.wires pin)) pin_c
 
 -- an input has the level of its stimuli in state t, a wired one that of the state before
 abbrev pub levels_shown : {X : Type 0} → ℕ → Units X → ℕ
-levels_shown t u = bit_or (stimulated u.drives t) (bit_and u.steady.levels (wired_inputs u.drives))
+levels_shown t u = bit_or (stimulated u.drives t) (bit_and u.board_registers.levels (wired_inputs u.drives))
 
 abbrev pub with_levels : {X : Type 0} → Units X → ℕ → Units X
-with_levels u levels = record u { steady = record u.steady { levels = levels } }
+with_levels u levels = record u { board_registers = record u.board_registers { levels = levels } }
 
 -- the byte of a word that stands at an address
 abbrev pub half_at : ℕ → ℕ → ℕ

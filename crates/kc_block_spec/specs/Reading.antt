@@ -5,7 +5,7 @@ use Rattle.kc_base.specs.Bits.{bit, weight}
 use Rattle.kc_span.specs.Timer1.{timer1_of}
 use Rattle.kc_hso.specs.Cam.{ios0_of}
 use Rattle.kc_hsi.specs.Input.{status_of, flags_of}
-use Rattle.kc_block_spec.specs.declared.steady.Steady.{Steady}
+use Rattle.kc_block_spec.specs.declared.board_registers.BoardRegisters.{BoardRegisters}
 use Rattle.kc_block_spec.specs.declared.registers.ReadableByte.{ReadableByte}
 use Rattle.kc_block_spec.specs.declared.registers.ReadableByte.TheVariants.{Zeros, IntMask, IntMask1, IntPend, IntPend1, Wsr, HsiStatus, Port0, Port1, Port2, Ios0, Ios1, Ios2, Ioc3}
 use Rattle.kc_block_spec.specs.declared.registers.ReadableWord.{ReadableWord}
@@ -21,7 +21,7 @@ abbrev pub port1_levels : ℕ → ℕ
 port1_levels levels = (levels / 2 ^ 6) % 256
 
 -- port 2: its latch in bits 0 and 5, EXTINT, T2CLK and T2RST in bits 2 to 4, latch and level of T2UD and T2CAP in bits 6 and 7
-abbrev pub port2_read : Steady → ℕ
+abbrev pub port2_read : BoardRegisters → ℕ
 port2_read s =
     weight (bit s.port2 0) 1
     + weight (bit s.levels 24) 4 + weight (bit s.levels 22) 8 + weight (bit s.levels 23) 16
@@ -30,19 +30,19 @@ port2_read s =
 
 abbrev pub byte_value : {X : Type 0} → Units X → ReadableByte → ℕ
 byte_value u Zeros = 0
-byte_value u IntMask = u.steady.requests.mask % 256
-byte_value u IntMask1 = u.steady.requests.mask / 256
-byte_value u IntPend = u.steady.requests.pending % 256
-byte_value u IntPend1 = u.steady.requests.pending / 256
-byte_value u Wsr = u.steady.wsr
-byte_value u HsiStatus = status_of u.hsi.held.events (hsi_bits u.steady.levels)
-byte_value u Port0 = port0_levels u.steady.levels
-byte_value u Port1 = bit_and u.steady.port1 (port1_levels u.steady.levels)
-byte_value u Port2 = port2_read u.steady
+byte_value u IntMask = u.board_registers.requests.mask % 256
+byte_value u IntMask1 = u.board_registers.requests.mask / 256
+byte_value u IntPend = u.board_registers.requests.pending % 256
+byte_value u IntPend1 = u.board_registers.requests.pending / 256
+byte_value u Wsr = u.board_registers.wsr
+byte_value u HsiStatus = status_of u.hsi.held.events (hsi_bits u.board_registers.levels)
+byte_value u Port0 = port0_levels u.board_registers.levels
+byte_value u Port1 = bit_and u.board_registers.port1 (port1_levels u.board_registers.levels)
+byte_value u Port2 = port2_read u.board_registers
 byte_value u Ios0 = ios0_of u.hso
-byte_value u Ios1 = u.steady.ios1 % 32 + weight u.overflowed 32 + flags_of u.hsi
-byte_value u Ios2 = u.steady.ios2
-byte_value u Ioc3 = u.steady.ioc3
+byte_value u Ios1 = u.board_registers.ios1 % 32 + weight u.overflowed 32 + flags_of u.hsi
+byte_value u Ios2 = u.board_registers.ios2
+byte_value u Ioc3 = u.board_registers.ioc3
 
 -- in state t
 abbrev pub word_value : {X : Type 0} → ℕ → Units X → ReadableWord → ℕ
@@ -50,13 +50,13 @@ word_value t u HsiTime = u.hsi.held.time
 word_value t u Timer1 = timer1_of t
 word_value t u Timer2 = u.timer2.value
 word_value t u T2Capture = u.timer2.captured
-word_value t u PtsSelect = u.steady.requests.select
-word_value t u PtsService = u.steady.requests.service
+word_value t u PtsSelect = u.board_registers.requests.select
+word_value t u PtsService = u.board_registers.requests.service
 
 -- a read of IOS1 clears its bits 0 to 5, and a read of IOS2 all of it
 abbrev pub after_byte : {X : Type 0} → Units X → ReadableByte → Units X
-after_byte u Ios1 = record u { steady = record u.steady { ios1 = 0 }; overflowed = false }
-after_byte u Ios2 = record u { steady = record u.steady { ios2 = 0 } }
+after_byte u Ios1 = record u { board_registers = record u.board_registers { ios1 = 0 }; overflowed = false }
+after_byte u Ios2 = record u { board_registers = record u.board_registers { ios2 = 0 } }
 after_byte u _ = u
 
 -- a read of HSI_TIME empties the holding register

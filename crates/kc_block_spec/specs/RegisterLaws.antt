@@ -97,7 +97,7 @@ BothBytesWrittenAreAsked X = (f : Further X) (t : ℕ) (w : Window) (u : Units X
 -- a read changes the status bits, the loaded mark of HSI and the further unit at most
 abbrev pub AreReadAlike : {X : Type 0} → Units X → Units X → Type 0
 AreReadAlike old new = new ≡ record old {
-  steady = record old.steady { ios1 = new.steady.ios1; ios2 = new.steady.ios2 };
+  board_registers = record old.board_registers { ios1 = new.board_registers.ios1; ios2 = new.board_registers.ios2 };
   overflowed = new.overflowed;
   hsi = record old.hsi { loaded = new.hsi.loaded };
   further = new.further;
@@ -107,7 +107,7 @@ AreReadAlike old new = new ≡ record old {
 pub record IsMildRead {X : Type 0} (old new : Units X) : Type 0 where
   pub alike : AreReadAlike old new
   pub edges : latch_edges old new ≡ []
-  pub wsr : new.steady.wsr ≡ old.steady.wsr
+  pub wsr : new.board_registers.wsr ≡ old.board_registers.wsr
 
 abbrev pub ReadsAreMild : Type 0 → Type 0
 ReadsAreMild X = (f : Further X) (t : ℕ) (w : Window) (u : Units X) (addr : ℕ) →
@@ -115,8 +115,8 @@ ReadsAreMild X = (f : Further X) (t : ℕ) (w : Window) (u : Units X) (addr : �
 
 -- a write leaves WSR in the profile
 abbrev pub WritesKeepProfile : Type 0 → Type 0
-WritesKeepProfile X = (f : Further X) (t : ℕ) (w : Window) (u : Units X) (addr n : ℕ) → is_wsr u.steady.wsr ≡ true →
-    IfOk (byte_written f t w u addr n) (λ new. is_wsr new.steady.wsr ≡ true) × IfOk (word_written f t w u addr n) (λ new. is_wsr new.steady.wsr ≡ true)
+WritesKeepProfile X = (f : Further X) (t : ℕ) (w : Window) (u : Units X) (addr n : ℕ) → is_wsr u.board_registers.wsr ≡ true →
+    IfOk (byte_written f t w u addr n) (λ new. is_wsr new.board_registers.wsr ≡ true) × IfOk (word_written f t w u addr n) (λ new. is_wsr new.board_registers.wsr ≡ true)
 
 -- port 1, port 2 and IOC1, in window 0
 abbrev pub moves_pins : Window → ℕ → Bool
@@ -138,9 +138,9 @@ pub record IsLook {X : Type 0} (f : Further X) (t : ℕ) (w : Window) (u : Units
   pub none : byte_read f t w u addr ≡ Err NoRegister → looked f t w u addr ≡ 0
 
 abbrev pub LooksAreReads : Type 0 → Type 0
-LooksAreReads X = (f : Further X) (t : ℕ) (w : Window) (u : Units X) (addr : ℕ) → levels_shown t u ≡ u.steady.levels → IsLook f t w u addr
+LooksAreReads X = (f : Further X) (t : ℕ) (w : Window) (u : Units X) (addr : ℕ) → levels_shown t u ≡ u.board_registers.levels → IsLook f t w u addr
 
 -- the inputs show the levels of the state before where no stimulus changes one
 abbrev pub LevelsShownStay : Type 0 → Type 0
-LevelsShownStay X = (t outs : ℕ) (u : Units X) → u.steady.levels ≡ bit_or (stimulated_before u.drives t) (wired u.drives outs) →
-    IsStill u.drives.stimuli t → levels_shown t u ≡ u.steady.levels
+LevelsShownStay X = (t outs : ℕ) (u : Units X) → u.board_registers.levels ≡ bit_or (stimulated_before u.drives t) (wired u.drives outs) →
+    IsStill u.drives.stimuli t → levels_shown t u ≡ u.board_registers.levels

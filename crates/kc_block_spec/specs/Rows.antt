@@ -17,8 +17,8 @@ pub record GoesAlone {D : Type 0} (rule : Rule D) (t : ℕ) (old new : D) : Type
 
 -- Timer 2, under the control that stays as it was
 pub record Timer2Alone {X : Type 0} (f : Further X) (t : ℕ) (u : Units X) : Type 0 where
-  pub alone : GoesAlone (timer2_rule (control_of u.steady u.steady.levels)) t u.timer2 (tick f t u).units.timer2
-  pub control : control_of (tick f t u).units.steady (tick f t u).units.steady.levels ≡ control_of u.steady u.steady.levels
+  pub alone : GoesAlone (timer2_rule (control_of u.board_registers u.board_registers.levels)) t u.timer2 (tick f t u).units.timer2
+  pub control : control_of (tick f t u).units.board_registers (tick f t u).units.board_registers.levels ≡ control_of u.board_registers u.board_registers.levels
 
 abbrev pub Timer2Untouched : Type 0 → Type 0
 Timer2Untouched X = (f : Further X) (t : ℕ) (u : Units X) → timer2_touched t u ≡ false → Timer2Alone f t u
@@ -32,8 +32,8 @@ HsiUntouched X = (f : Further X) (t : ℕ) (u : Units X) → hsi_touched t u ≡
 
 -- the further unit, at the levels of the state before and no edge
 pub record FurtherAlone {X : Type 0} (f : Further X) (t : ℕ) (u : Units X) : Type 0 where
-  pub step : (tick f t u).units.further ≡ f.step t u.steady.levels 0 u.further
-  pub silent : is_silent (f.out t u.steady.levels 0 u.further) ≡ true
+  pub step : (tick f t u).units.further ≡ f.step t u.board_registers.levels 0 u.further
+  pub silent : is_silent (f.out t u.board_registers.levels 0 u.further) ≡ true
 
 abbrev pub FurtherUntouched : Type 0 → Type 0
 FurtherUntouched X = (f : Further X) (t : ℕ) (u : Units X) → further_touched f t u ≡ false → FurtherAlone f t u

@@ -57,7 +57,7 @@ module _ {X : Type 0} (f : Further X) where
   unfoldable pub worked : ℕ → Units X → Bool
   worked t u =
       not (edges_at t u == 0)
-      || (hso_works t u || ((timer2_out_at t u).overflow || (hsi_works t u || (further_works t u || (passes t && bit u.steady.ioc1 2)))))
+      || (hso_works t u || ((timer2_out_at t u).overflow || (hsi_works t u || (further_works t u || (passes t && bit u.board_registers.ioc1 2)))))
 
   -- all units by themselves, without accesses
   abbrev pub block_rule : Rule (Units X)

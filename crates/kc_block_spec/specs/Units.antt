@@ -6,12 +6,12 @@ use Rattle.kc_stim.specs.Drives.{Drives}
 use Rattle.kc_timers.specs.T2.{T2}
 use Rattle.kc_hso.specs.Cam.{Cam}
 use Rattle.kc_hsi.specs.Input.{Input}
-use Rattle.kc_block_spec.specs.declared.steady.Steady.{Steady}
+use Rattle.kc_block_spec.specs.declared.board_registers.BoardRegisters.{BoardRegisters}
 
 pub record Units (X : Type 0) : Type 0 where
   -- stimuli and wires, which nothing changes
   pub drives : Drives
-  pub steady : Steady
+  pub board_registers : BoardRegisters
   -- bit 5 of IOS1: Timer 1 has overflowed
   pub overflowed : Bool
   pub timer2 : T2

@@ -2,25 +2,25 @@
 //! beside them. This crate holds plain data and definitions with their laws alone.
 #![tactic(auto)]
 
-ghost use Rattle.kc_block_spec.specs.Laws.{QuietTicksAreRests, QuietTicksKeepSteady, CalmTicksAreNotWorked, UnworkedTicksAreCalm, EighteenEdges, FourTouched};
+ghost use Rattle.kc_block_spec.specs.Laws.{QuietTicksAreRests, QuietTicksKeepBoardRegisters, CalmTicksAreNotWorked, UnworkedTicksAreCalm, EighteenEdges, FourTouched};
 ghost use Rattle.kc_block_spec.specs.Rows.{Timer2Untouched, HsoUntouched, HsiUntouched, FurtherUntouched};
 
+mod board_registers;
 mod register_laws;
 mod registers;
-mod steady;
 
+pub use board_registers::BoardRegisters;
 pub use register_laws::{
     both_bytes_are_asked, looks_are_reads, named_registers_answer, odd_words_are_refused,
     other_writes_move_no_pin, reads_are_mild, unnamed_bytes_are_refused, writes_keep_profile,
 };
 pub use registers::{ReadableByte, ReadableWord, Window, WritableByte, WritableWord};
-pub use steady::Steady;
 
 /// A Tick in which nothing is worked lets each unit go on by itself, keeps all data beside the units, gives no edge and
 /// touches no unit.
 pub fn quiet_ticks_are_rests<X>()
     ensures rests { QuietTicksAreRests X }
-    ensures steady { QuietTicksKeepSteady X }
+    ensures board_registers { QuietTicksKeepBoardRegisters X }
 {}
 
 /// A Tick is not worked exactly where no input has an edge and each unit by itself is quiet.

@@ -23,7 +23,7 @@ module _ {X : Type 0} where
   beat_due now d = record {
     later = omega arith;
     before = λ k lt. silent (now + k) ∙ ap not (ne_eqb ((now + k) % 1000) 999 (λ e. omega arith));
-    loud = silent (now / 1000 * 1000 + 999) ∙ ap (λ n. not (n == 999)) (let e : (now / 1000 * 1000 + 999) % 1000 ≡ 999 = omega arith in e);
+    active = silent (now / 1000 * 1000 + 999) ∙ ap (λ n. not (n == 999)) (let e : (now / 1000 * 1000 + 999) % 1000 ≡ 999 = omega arith in e);
   }
 
   pub beat_after : (now n : ℕ) (d : X) → after beat_rule now n d ≡ d

@@ -87,7 +87,7 @@ beacon_due now d is some =
     record {
       later = omega arith;
       before = rw whole (quiet_where now (d.inner.left - 1) d is (sooner d.inner.left (d.inner.left - 1) (omega arith)));
-      loud = rw whole (
+      active = rw whole (
           ap (λ e. beacon_rule.quiet (now + (d.inner.left - 1)) e) (free_after now (d.inner.left - 1) d is (sooner d.inner.left (d.inner.left - 1) (omega arith)))
           ∙ silent (record d.inner { left = d.inner.left - (d.inner.left - 1) })
           ∙ ap (λ h. not (not h && (d.inner.left - (d.inner.left - 1) == 1))) is
@@ -105,7 +105,7 @@ beacon_after now n d is quiet = free_after now n d is (λ k lt. elim (cases_eq d
     | inl past ↦
         let due = beacon_due now d is (omega (arith, some)) in
         let at : now + (d.inner.left - 1) - now ≡ d.inner.left - 1 = omega arith in
-        absurd (false≢true (sym due.loud ∙ ap (λ m. beacon_rule.quiet (now + (d.inner.left - 1)) (after beacon_rule now m d)) at ∙ quiet (d.inner.left - 1) past))
+        absurd (false≢true (sym due.active ∙ ap (λ m. beacon_rule.quiet (now + (d.inner.left - 1)) (after beacon_rule now m d)) at ∙ quiet (d.inner.left - 1) past))
     | inr ahead ↦ sooner d.inner.left n (omega (arith, some)) k lt
   ]
 ])

@@ -20,7 +20,7 @@ low_at_start : (drives : Drives) → drives.stimuli.start ≡ [] → bit (stimul
 low_at_start drives first =
     let one : bit_at (stimulated_before drives 0) 21 ≡ weight (is_driven drives 21 && false) 1 =
     mask_bit (λ pin. is_driven drives pin && is_high (level_before drives.stimuli pin 0)) pin_count 21 (omega arith)
-    ∙ ap (λ told. weight (is_driven drives 21 && is_high (start_of told 21)) 1) first in
+    ∙ ap (λ known. weight (is_driven drives 21 && is_high (start_of known 21)) 1) first in
     ap (λ n. n == 1) (one ∙ ap (λ b. weight b 1) (no_level (is_driven drives 21)))
 
 pub fits_each_board : FitsEachBoard beacon_agrees (record { inner = new_beacon; moves = 0 })

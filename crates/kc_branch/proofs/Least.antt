@@ -12,7 +12,7 @@ use Rattle.kc_branch.specs.declared.piece.BranchKind.{BranchKind}
 use Rattle.kc_branch.specs.declared.piece.BranchKind.TheVariants.{Jump, Call, Conditional, BitTest}
 use Rattle.kc_branch.specs.declared.piece.Form.{Form}
 use Rattle.kc_branch.specs.declared.piece.Form.TheVariants.{First, Second, Third}
-use Rattle.kc_branch.specs.Forms.{spans, is_third, reaches, longer, next_form, head_form, raised, round, places, start_forms, forms}
+use Rattle.kc_branch.specs.Forms.{spans, is_third, reaches, longer, next_form, head_form, raised, pass, places, start_forms, forms}
 use Rattle.kc_branch.specs.Laws.{all_reach, settles, rank, no_longer, places_to, is_place_to, IsPlain, IsLeast}
 use Rattle.kc_branch.proofs.Reaching.{raised_length}
 use Rattle.kc_branch.proofs.Gaps.{Wider, Choices, parts, gaps}
@@ -144,16 +144,16 @@ raised_least at bt n (Branch kind target ∷ xs) fs gs k gap c le stands reach =
     (branch_least at bt n kind target (head_form fs) (head_form gs) (k + 1) gap (omega arith) s.0 p.head r.0)
     (raised_least at bt n xs (drop 1 fs) (drop 1 gs) (k + 1) gap record { first = p.first_length; second = p.second_length; longer = p.later } (omega arith) s.1 r.1)
 
-round_least : (pieces : List Piece) (fs gs : List Form) → IsPlain pieces → Choices pieces fs gs → settles pieces gs ≡ true → Choices pieces (round pieces fs) gs
-round_least pieces fs gs plain c reach = record {
+pass_least : (pieces : List Piece) (fs gs : List Form) → IsPlain pieces → Choices pieces fs gs → settles pieces gs ≡ true → Choices pieces (pass pieces fs) gs
+pass_least pieces fs gs plain c reach = record {
   first = raised_length (places pieces fs 0) pieces fs 0;
   second = c.second;
   longer = raised_least (places pieces fs 0) (places pieces gs 0) (length pieces) pieces fs gs 0 (λ i j lt le. gaps pieces fs gs i j plain c lt le) c (omega arith) plain.to_places reach;
 }
 
-rounds_least : (pieces : List Piece) (n : ℕ) (fs gs : List Form) → IsPlain pieces → Choices pieces fs gs → settles pieces gs ≡ true → no_longer (iterate (round pieces) n fs) gs ≡ true
-rounds_least pieces zero fs gs plain c reach = c.longer
-rounds_least pieces (suc n) fs gs plain c reach = rounds_least pieces n (round pieces fs) gs plain (round_least pieces fs gs plain c reach) reach
+relaxation_least : (pieces : List Piece) (n : ℕ) (fs gs : List Form) → IsPlain pieces → Choices pieces fs gs → settles pieces gs ≡ true → no_longer (iterate (pass pieces) n fs) gs ≡ true
+relaxation_least pieces zero fs gs plain c reach = c.longer
+relaxation_least pieces (suc n) fs gs plain c reach = relaxation_least pieces n (pass pieces fs) gs plain (pass_least pieces fs gs plain c reach) reach
 
 first_least : (g : Form) → leb (rank First) (rank g) ≡ true
 first_least First = refl
@@ -177,7 +177,7 @@ start_least bt (Branch kind (Some target) ∷ xs) (g ∷ gs) k e reach =
 pub forms_least : (pieces : List Piece) → IsLeast pieces (forms pieces)
 unfolding forms
 forms_least pieces plain gs e reach =
-    rounds_least pieces (2 * length (start_forms pieces)) (start_forms pieces) gs plain
+    relaxation_least pieces (2 * length (start_forms pieces)) (start_forms pieces) gs plain
     record { first = refl; second = e; longer = start_least (places pieces gs 0) pieces gs 0 e reach } reach
 
 pub least_along : (pieces : List Piece) (fs : List Form) → fs ≡ forms pieces → IsLeast pieces fs

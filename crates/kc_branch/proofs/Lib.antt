@@ -7,4 +7,4 @@ pub mod Reaching
 pub mod Resting
 pub mod Spanning
 pub mod Standing
-pub mod Stirring
+pub mod Changing

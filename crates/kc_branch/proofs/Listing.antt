@@ -7,8 +7,8 @@ use Rattle.std.proofs.lemmas.List.{map-append, take-append-drop}
 use Rattle.kc_branch.specs.declared.piece.Piece.{Piece}
 use Rattle.kc_branch.specs.declared.piece.Piece.TheVariants.{Bytes, Even, At, Branch}
 use Rattle.kc_branch.specs.declared.piece.Form.{Form}
-use Rattle.kc_branch.specs.Forms.{size, end_of, next_form, places, raised, round, start_form, start_forms, forms}
-use Rattle.kc_branch.specs.Layouts.{pieces_of, forms_of, stands, raised_from, begun, all_stirred}
+use Rattle.kc_branch.specs.Forms.{size, end_of, next_form, places, raised, pass, start_form, start_forms, forms}
+use Rattle.kc_branch.specs.Layouts.{pieces_of, forms_of, stands, raised_from, begun, all_changed}
 
 pub forms_append : (xs ys : List (Piece × Form)) → forms_of (xs ++ ys) ≡ forms_of xs ++ forms_of ys
 forms_append [] ys = refl
@@ -34,8 +34,8 @@ listed_raised at ((At m, f) ∷ xs) k = listed_raised at xs (k + 1)
 listed_raised at ((Branch kind target, f) ∷ xs) k =
     ap (λ (gs : List Form). next_form at (Branch kind target) f (slice_index at (k + 1)) ∷ gs) (listed_raised at xs (k + 1))
 
-pub listed_round : (xs : List (Piece × Form)) → round (pieces_of xs) (forms_of xs) ≡ forms_of (raised_from (stands xs 0) xs 0)
-listed_round xs =
+pub listed_pass : (xs : List (Piece × Form)) → pass (pieces_of xs) (forms_of xs) ≡ forms_of (raised_from (stands xs 0) xs 0)
+listed_pass xs =
     ap (λ (at : List ℕ). raised at (pieces_of xs) (forms_of xs) 0) (listed_places xs 0) ∙ listed_raised (stands xs 0) xs 0
 
 pub same_pieces : (at : List ℕ) (xs : List (Piece × Form)) (k : ℕ) → pieces_of (raised_from at xs k) ≡ pieces_of xs
@@ -73,11 +73,11 @@ begun_halves t l r n xs e f g =
     e ∙ (ap (λ (ys : List (Piece × Form)). ys ++ r) f ∙ (ap (λ (ys : List (Piece × Form)). begun (take n xs) ++ ys) second
     ∙ (sym (map-append (λ (x : Piece). (x, start_form x)) (take n xs) (drop n xs)) ∙ ap (λ (ys : List Piece). begun ys) (take-append-drop n xs))))
 
-pub stirred_halves : (t l r : List Bool) (n : ℕ) (xs : List Piece) → t ≡ l ++ r → l ≡ all_stirred (take n xs) → r ≡ all_stirred (take (length xs - n) (drop n xs)) → t ≡ all_stirred xs
-stirred_halves t l r n xs e f g =
-    let second : r ≡ all_stirred (drop n xs) = g ∙ ap (λ (ys : List Piece). all_stirred ys) (rest_taken n xs) in
-    e ∙ (ap (λ (ys : List Bool). ys ++ r) f ∙ (ap (λ (ys : List Bool). all_stirred (take n xs) ++ ys) second
-    ∙ (sym (map-append (λ (x : Piece). true) (take n xs) (drop n xs)) ∙ ap (λ (ys : List Piece). all_stirred ys) (take-append-drop n xs))))
+pub changed_halves : (t l r : List Bool) (n : ℕ) (xs : List Piece) → t ≡ l ++ r → l ≡ all_changed (take n xs) → r ≡ all_changed (take (length xs - n) (drop n xs)) → t ≡ all_changed xs
+changed_halves t l r n xs e f g =
+    let second : r ≡ all_changed (drop n xs) = g ∙ ap (λ (ys : List Piece). all_changed ys) (rest_taken n xs) in
+    e ∙ (ap (λ (ys : List Bool). ys ++ r) f ∙ (ap (λ (ys : List Bool). all_changed (take n xs) ++ ys) second
+    ∙ (sym (map-append (λ (x : Piece). true) (take n xs) (drop n xs)) ∙ ap (λ (ys : List Piece). all_changed ys) (take-append-drop n xs))))
 
 pub begun_length : (xs : List Piece) → length (begun xs) ≡ length xs
 begun_length [] = refl
@@ -85,9 +85,9 @@ begun_length (x ∷ xs) = omega (arith, begun_length xs)
 
 -- ---- rounds
 
-pub round_is : (pieces : List Piece) (xs ys : List (Piece × Form)) → pieces_of xs ≡ pieces → ys ≡ raised_from (stands xs 0) xs 0 → forms_of ys ≡ round pieces (forms_of xs)
-round_is pieces xs ys listed e =
-    ap forms_of e ∙ (sym (listed_round xs) ∙ ap (λ (ps : List Piece). round ps (forms_of xs)) listed)
+pub pass_is : (pieces : List Piece) (xs ys : List (Piece × Form)) → pieces_of xs ≡ pieces → ys ≡ raised_from (stands xs 0) xs 0 → forms_of ys ≡ pass pieces (forms_of xs)
+pass_is pieces xs ys listed e =
+    ap forms_of e ∙ (sym (listed_pass xs) ∙ ap (λ (ps : List Piece). pass ps (forms_of xs)) listed)
 
 eqb_zero : (n : ℕ) → (n == 0) ≡ true → n ≡ 0
 eqb_zero n h = grind arith
@@ -98,12 +98,12 @@ forms_none [] fs e same = same
 forms_none (x ∷ pieces) fs e same = absurd (let z : length (x ∷ pieces) ≡ 0 = eqb_zero (length (x ∷ pieces)) e in omega arith)
 
 pub forms_begun : (pieces : List Piece) (xs : List (Piece × Form)) (n : ℕ) → xs ≡ begun pieces → n ≡ length (start_forms pieces) →
-    iterate (round pieces) (2 * n - 0) (forms_of xs) ≡ forms pieces
+    iterate (pass pieces) (2 * n - 0) (forms_of xs) ≡ forms pieces
 unfolding forms
 forms_begun pieces xs n e is =
     let count : 2 * n - 0 ≡ 2 * length (start_forms pieces) = omega arith in
-    ap (λ k. iterate (round pieces) k (forms_of xs)) count
-    ∙ ap (λ (gs : List Form). iterate (round pieces) (2 * length (start_forms pieces)) gs) (ap (λ (ys : List (Piece × Form)). forms_of ys) e ∙ begun_forms pieces)
+    ap (λ k. iterate (pass pieces) k (forms_of xs)) count
+    ∙ ap (λ (gs : List Form). iterate (pass pieces) (2 * length (start_forms pieces)) gs) (ap (λ (ys : List (Piece × Form)). forms_of ys) e ∙ begun_forms pieces)
 
-pub forms_told : (out gs fs : List Form) (xs : List (Piece × Form)) → fs ≡ out ++ forms_of xs → out ≡ [] → forms_of xs ≡ gs → fs ≡ gs
-forms_told out gs fs xs e none same = e ∙ (ap (λ (hs : List Form). hs ++ forms_of xs) none ∙ same)
+pub forms_reported : (out gs fs : List Form) (xs : List (Piece × Form)) → fs ≡ out ++ forms_of xs → out ≡ [] → forms_of xs ≡ gs → fs ≡ gs
+forms_reported out gs fs xs e none same = e ∙ (ap (λ (hs : List Form). hs ++ forms_of xs) none ∙ same)

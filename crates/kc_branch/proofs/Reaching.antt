@@ -9,7 +9,7 @@ use Rattle.kc_branch.specs.declared.piece.BranchKind.{BranchKind}
 use Rattle.kc_branch.specs.declared.piece.BranchKind.TheVariants.{Jump, Call, Conditional, BitTest}
 use Rattle.kc_branch.specs.declared.piece.Form.{Form}
 use Rattle.kc_branch.specs.declared.piece.Form.TheVariants.{First, Second, Third}
-use Rattle.kc_branch.specs.Forms.{reaches, longer, next_form, raised, round, places, start_forms, forms}
+use Rattle.kc_branch.specs.Forms.{reaches, longer, next_form, raised, pass, places, start_forms, forms}
 use Rattle.kc_branch.specs.Laws.{all_reach, settles, rank}
 use Rattle.kc_branch.proofs.Iterated.{still}
 
@@ -122,28 +122,28 @@ raised_same at (Branch kind target ∷ xs) (f ∷ fs) k e h =
 -- ---- rounds
 
 settled_or : (pieces : List Piece) (fs : List Form) → length fs ≡ count pieces →
-    (settles pieces fs ≡ true) ⊎ (total fs + 1 ≤ total (round pieces fs))
+    (settles pieces fs ≡ true) ⊎ (total fs + 1 ≤ total (pass pieces fs))
 settled_or pieces fs e =
-    elim (settles pieces fs) as (λ b. settles pieces fs ≡ b → (settles pieces fs ≡ true) ⊎ (total fs + 1 ≤ total (round pieces fs))) [
+    elim (settles pieces fs) as (λ b. settles pieces fs ≡ b → (settles pieces fs ≡ true) ⊎ (total fs + 1 ≤ total (pass pieces fs))) [
       | true ↦ λ h. inl h
       | false ↦ λ h. inr (let more = raised_total (places pieces fs 0) pieces fs 0 e in rw h at more)
     ] refl
 
-pub settled_in : (pieces : List Piece) (n : ℕ) (fs : List Form) → length fs ≡ count pieces → 2 * length fs ≤ total fs + n → settles pieces (iterate (round pieces) n fs) ≡ true
+pub settled_in : (pieces : List Piece) (n : ℕ) (fs : List Form) → length fs ≡ count pieces → 2 * length fs ≤ total fs + n → settles pieces (iterate (pass pieces) n fs) ≡ true
 settled_in pieces zero fs e h =
     elim (settled_or pieces fs e) as (λ _. settles pieces fs ≡ true) [
       | inl s ↦ s
-      | inr more ↦ absurd (let b = total_bound (round pieces fs) in let l = raised_length (places pieces fs 0) pieces fs 0 in omega arith)
+      | inr more ↦ absurd (let b = total_bound (pass pieces fs) in let l = raised_length (places pieces fs 0) pieces fs 0 in omega arith)
     ]
 settled_in pieces (suc n) fs e h =
-    elim (settled_or pieces fs e) as (λ _. settles pieces (iterate (round pieces) n (round pieces fs)) ≡ true) [
+    elim (settled_or pieces fs e) as (λ _. settles pieces (iterate (pass pieces) n (pass pieces fs)) ≡ true) [
       | inl s ↦
-          let same : round pieces fs ≡ fs = raised_same (places pieces fs 0) pieces fs 0 e s in
-          let stays : iterate (round pieces) n (round pieces fs) ≡ fs = ap (iterate (round pieces) n) same ∙ still (round pieces) fs n same in
+          let same : pass pieces fs ≡ fs = raised_same (places pieces fs 0) pieces fs 0 e s in
+          let stays : iterate (pass pieces) n (pass pieces fs) ≡ fs = ap (iterate (pass pieces) n) same ∙ still (pass pieces) fs n same in
           ap (settles pieces) stays ∙ s
       | inr more ↦
-          let l : length (round pieces fs) ≡ count pieces = raised_length (places pieces fs 0) pieces fs 0 in
-          settled_in pieces n (round pieces fs) l (omega arith)
+          let l : length (pass pieces fs) ≡ count pieces = raised_length (places pieces fs 0) pieces fs 0 in
+          settled_in pieces n (pass pieces fs) l (omega arith)
     ]
 
 pub forms_settle : (pieces : List Piece) → settles pieces (forms pieces) ≡ true

@@ -10,10 +10,10 @@ use Rattle.kc_branch.specs.declared.piece.BranchKind.TheVariants.{Jump, Call, Co
 use Rattle.kc_branch.specs.declared.piece.Form.{Form}
 use Rattle.kc_branch.specs.declared.piece.Form.TheVariants.{First, Second, Third}
 use Rattle.kc_branch.specs.Forms.{spans, longer, reaches, piece_reaches, next_form}
-use Rattle.kc_branch.specs.Layouts.{any_in, all_stirred, stands, raised_from, is_free, far_end, Stirs, Rests}
+use Rattle.kc_branch.specs.Layouts.{any_in, all_changed, stands, raised_from, is_free, far_end, Changes, Rests}
 use Rattle.kc_branch.proofs.Reaching.{third_reaches}
 use Rattle.kc_branch.proofs.Spanning.{narrower}
-use Rattle.kc_branch.proofs.Stirring.{between, head_at_rest, tail_at_rest}
+use Rattle.kc_branch.proofs.Changing.{between, head_at_rest, tail_at_rest}
 
 -- ---- one piece
 
@@ -121,7 +121,7 @@ first_rests : (all : List Bool) (s : Bool) (ss : List Bool) (k i j : ℕ) → La
 first_rests all s ss k i j late le lt h = head_at_rest s ss 0 (narrower (s ∷ ss) (i - k) (j - k) 0 (suc 0) (omega arith) (omega arith) (late i j h))
 
 rests_behind : (n : ℕ) (all : List Bool) (at to : List ℕ) (xs : List (Piece × Form)) (ss : List Bool) (a b k : ℕ) → Two n all at to → Later all ss k → k + length xs ≡ n →
-    Stirs xs (raised_from at xs k) ss a b → Rests n all to (raised_from at xs k) k
+    Changes xs (raised_from at xs k) ss a b → Rests n all to (raised_from at xs k) k
 rests_behind n all at to [] ss a b k two late e h = tt
 rests_behind n all at to (x ∷ xs) [] a b k two late e h = absurd h
 rests_behind n all at to (x ∷ xs) (s ∷ ss) a b k two late e h =
@@ -149,37 +149,37 @@ raised_length at [] k = refl
 raised_length at (x ∷ xs) k = omega (arith, raised_length at xs (k + 1))
 
 -- a round and what it stirs
-pub round_rests : (xs ys : List (Piece × Form)) (ss : List Bool) (n : ℕ) → n ≡ length xs → ys ≡ raised_from (stands xs 0) xs 0 → Stirs xs ys ss 0 0 → Rests n ss (stands ys 0) ys 0
-round_rests xs ys ss n is e h =
+pub pass_rests : (xs ys : List (Piece × Form)) (ss : List Bool) (n : ℕ) → n ≡ length xs → ys ≡ raised_from (stands xs 0) xs 0 → Changes xs ys ss 0 0 → Rests n ss (stands ys 0) ys 0
+pass_rests xs ys ss n is e h =
     let at = stands xs 0 in
     let next = raised_from at xs 0 in
-    let P : List (Piece × Form) → Type 0 = λ zs. Stirs xs zs ss 0 0 in
+    let P : List (Piece × Form) → Type 0 = λ zs. Changes xs zs ss 0 0 in
     let Q : List (Piece × Form) → Type 0 = λ zs. Rests n ss (stands zs 0) zs 0 in
-    let stirs : Stirs xs next ss 0 0 = subst P e h in
+    let changes : Changes xs next ss 0 0 = subst P e h in
     let two : Two n ss at (stands next 0) = record {
-      gaps = λ i j lt le q. between xs next ss 0 0 i j stirs lt (omega arith) q;
+      gaps = λ i j lt le q. between xs next ss 0 0 i j changes lt (omega arith) q;
       past = λ t lt. past_last xs 0 t (omega arith) ∙ sym (first_place xs 0);
       past_too = λ t lt. past_last next 0 t (omega (arith, raised_length at xs 0)) ∙ sym (first_place next 0);
     } in
     let late : Later ss ss 0 = λ i j q. narrower ss i j (i - 0) (j - 0) (omega arith) (omega arith) q in
-    subst Q (sym e) (rests_behind n ss at (stands next 0) xs ss 0 0 0 two late (omega arith) stirs)
+    subst Q (sym e) (rests_behind n ss at (stands next 0) xs ss 0 0 0 two late (omega arith) changes)
 
 -- ---- the first round
 
-all_in : (xs : List Piece) (k : ℕ) → k < length xs → any_in (all_stirred xs) k (k + 1) ≡ false → ⊥
+all_in : (xs : List Piece) (k : ℕ) → k < length xs → any_in (all_changed xs) k (k + 1) ≡ false → ⊥
 all_in [] k lt h = omega arith
-all_in (x ∷ xs) zero lt h = cc (head_at_rest true (all_stirred xs) 0 (narrower (true ∷ all_stirred xs) zero (zero + 1) 0 (suc 0) (omega arith) (omega arith) h))
-all_in (x ∷ xs) (suc k) lt h = all_in xs k (omega arith) (tail_at_rest true (all_stirred xs) (suc k) (suc k + 1) k (k + 1) (omega arith) (omega arith) h)
+all_in (x ∷ xs) zero lt h = cc (head_at_rest true (all_changed xs) 0 (narrower (true ∷ all_changed xs) zero (zero + 1) 0 (suc 0) (omega arith) (omega arith) h))
+all_in (x ∷ xs) (suc k) lt h = all_in xs k (omega arith) (tail_at_rest true (all_changed xs) (suc k) (suc k + 1) k (k + 1) (omega arith) (omega arith) h)
 
-rests_first : (pieces : List Piece) (n : ℕ) (at : List ℕ) (xs : List (Piece × Form)) (k : ℕ) → k + length xs ≤ length pieces → Rests n (all_stirred pieces) at xs k
+rests_first : (pieces : List Piece) (n : ℕ) (at : List ℕ) (xs : List (Piece × Form)) (k : ℕ) → k + length xs ≤ length pieces → Rests n (all_changed pieces) at xs k
 rests_first pieces n at [] k le = tt
 rests_first pieces n at (x ∷ xs) k le = (
   λ quiet. absurd (all_in pieces k (omega arith)
-      (narrower (all_stirred pieces) (min k (far_end n x.0 x.1 k)) (max (k + 1) (far_end n x.0 x.1 k)) k (k + 1) (omega arith) (omega arith) quiet)),
+      (narrower (all_changed pieces) (min k (far_end n x.0 x.1 k)) (max (k + 1) (far_end n x.0 x.1 k)) k (k + 1) (omega arith) (omega arith) quiet)),
   rests_first pieces n at xs (k + 1) (omega arith),
 )
 
-pub begun_rests : (pieces : List Piece) (n : ℕ) (xs : List (Piece × Form)) (ss : List Bool) → length xs ≡ length pieces → ss ≡ all_stirred pieces → Rests n ss (stands xs 0) xs 0
+pub begun_rests : (pieces : List Piece) (n : ℕ) (xs : List (Piece × Form)) (ss : List Bool) → length xs ≡ length pieces → ss ≡ all_changed pieces → Rests n ss (stands xs 0) xs 0
 begun_rests pieces n xs ss e same =
     let P : List Bool → Type 0 = λ us. Rests n us (stands xs 0) xs 0 in
     subst P (sym same) (rests_first pieces n (stands xs 0) xs 0 (omega arith))

@@ -7,7 +7,7 @@ use Rattle.kc_branch.specs.declared.piece.Form.{Form}
 use Rattle.kc_branch.specs.declared.layout.Layout.{Layout}
 use Rattle.kc_branch.specs.declared.layout.Layout.TheVariants.{Leaf, Fork'}
 use Rattle.kc_branch.specs.Forms.{next_form}
-use Rattle.kc_branch.specs.Layouts.{any_stirred, any_in, far_end, Covers, Rests, AreAtRest, items, raised_from}
+use Rattle.kc_branch.specs.Layouts.{any_changed, any_in, far_end, Covers, Rests, AreAtRest, items, raised_from}
 
 -- ---- pieces that were stirred
 
@@ -43,7 +43,7 @@ any_in-append (s ∷ ss) us i j =
     or_assoc (s && (i == 0) && nat_lt 0 j) (any_in ss (i - 1) (j - 1)) (any_in us (i - length (s ∷ ss)) (j - length (s ∷ ss))) (any_in (ss ++ us) (i - 1) (j - 1))
     (any_in-append ss us (i - 1) (j - 1) ∙ (ap (λ n. any_in ss (i - 1) (j - 1) || any_in us n (j - 1 - length ss)) a ∙ ap (λ n. any_in ss (i - 1) (j - 1) || any_in us (i - length (s ∷ ss)) n) b))
 
-pub none_in : (ss : List Bool) (i j : ℕ) → any_stirred ss ≡ false → any_in ss i j ≡ false
+pub none_in : (ss : List Bool) (i j : ℕ) → any_changed ss ≡ false → any_in ss i j ≡ false
 none_in [] i j h = refl
 none_in (true ∷ ss) i j h = absurd (cc h)
 none_in (false ∷ ss) i j h = none_in ss (i - 1) (j - 1) h

@@ -9,7 +9,7 @@ use Rattle.kc_branch.specs.declared.stretch.Stretch.{Stretch}
 use Rattle.kc_branch.specs.declared.layout.Layout.{Layout}
 use Rattle.kc_branch.specs.declared.layout.Layout.TheVariants.{Leaf, Fork'}
 use Rattle.kc_branch.specs.Forms.{size, end_of}
-use Rattle.kc_branch.specs.Layouts.{end_place, stands, has_at, has_even, any_stirred, end_from, joined, IsShort, IsKnown, IsLaid, items, stirred, known}
+use Rattle.kc_branch.specs.Layouts.{end_place, stands, has_at, has_even, any_changed, end_from, joined, IsShort, IsKnown, IsLaid, items, changed, known}
 
 -- ---- a list behind another
 
@@ -41,10 +41,10 @@ has_even-append ((Even, f) ∷ xs) ys = refl
 has_even-append ((At m, f) ∷ xs) ys = has_even-append xs ys
 has_even-append ((Branch kind target, f) ∷ xs) ys = has_even-append xs ys
 
-pub any_stirred-append : (ss us : List Bool) → any_stirred (ss ++ us) ≡ (any_stirred ss || any_stirred us)
-any_stirred-append [] us = refl
-any_stirred-append (true ∷ ss) us = refl
-any_stirred-append (false ∷ ss) us = any_stirred-append ss us
+pub any_changed-append : (ss us : List Bool) → any_changed (ss ++ us) ≡ (any_changed ss || any_changed us)
+any_changed-append [] us = refl
+any_changed-append (true ∷ ss) us = refl
+any_changed-append (false ∷ ss) us = any_changed-append ss us
 
 -- ---- a list that begins elsewhere
 
@@ -64,7 +64,7 @@ slid ((Branch kind target, f) ∷ xs) a b h e = omega (arith, slid xs (a + size 
 
 -- ---- what is known of a stretch
 
-pub of_laid : (t : Layout) → IsLaid t → IsKnown (known t) (items t) (stirred t)
+pub of_laid : (t : Layout) → IsLaid t → IsKnown (known t) (items t) (changed t)
 of_laid (Leaf x f s) h = h
 of_laid (Fork' p left s q right) h = h.0
 
@@ -103,7 +103,7 @@ known-joined s t xs ys ss us k l short = record {
   short = short;
   has_at = or_both s.has_at t.has_at (has_at xs) (has_at ys) k.has_at l.has_at ∙ sym (has_at-append xs ys);
   has_even = or_both s.has_even t.has_even (has_even xs) (has_even ys) k.has_even l.has_even ∙ sym (has_even-append xs ys);
-  stirred = or_both s.stirred t.stirred (any_stirred ss) (any_stirred us) k.stirred l.stirred ∙ sym (any_stirred-append ss us);
+  changed = or_both s.changed t.changed (any_changed ss) (any_changed us) k.changed l.changed ∙ sym (any_changed-append ss us);
 }
 
 -- ---- a fork
@@ -118,10 +118,10 @@ pub place_from : (left right : Layout) (s : Stretch) (here middle i j : ℕ) →
 place_from left right s here middle i j is laid e at =
     let k = of_laid left laid in
     let count : s.count ≡ length (items left) = ap (λ (k : Stretch). k.count) is ∙ k.count in
-    let from : middle ≡ end_place (items left) here = e ∙ (ap (λ (k : Stretch). end_from k here) is ∙ ends (known left) (items left) (stirred left) here k) in
+    let from : middle ≡ end_place (items left) here = e ∙ (ap (λ (k : Stretch). end_from k here) is ∙ ends (known left) (items left) (changed left) here k) in
     ap (λ n. slice_index (stands (items right) n) j) from ∙ sym (stands-behind (items left) (items right) here i j (omega arith))
 
-pub stirred_length : (t : Layout) → length (stirred t) ≡ length (items t)
-stirred_length (Leaf x f s) = refl
-stirred_length (Fork' p left s q right) =
-    omega (arith, length-append (stirred left) (stirred right), length-append (items left) (items right), stirred_length left, stirred_length right)
+pub changed_length : (t : Layout) → length (changed t) ≡ length (items t)
+changed_length (Leaf x f s) = refl
+changed_length (Fork' p left s q right) =
+    omega (arith, length-append (changed left) (changed right), length-append (items left) (items right), changed_length left, changed_length right)

@@ -116,8 +116,8 @@ raised at [] fs k = []
 raised at (x ∷ xs) fs k =
     with_form x (next_form at x (head_form fs) (slice_index at (k + 1))) (raised at xs (forms_after x fs) (k + 1))
 
-abbrev pub round : List Piece → List Form → List Form
-round pieces fs = raised (places pieces fs 0) pieces fs 0
+abbrev pub pass : List Piece → List Form → List Form
+pass pieces fs = raised (places pieces fs 0) pieces fs 0
 
 -- the first form, but the third for a target elsewhere
 abbrev pub start_form : Piece → Form
@@ -133,4 +133,4 @@ start_forms (x ∷ xs) = with_form x (start_form x) (start_forms xs)
 
 -- as many rounds as twice the number of branches
 unfoldable pub forms : List Piece → List Form
-forms pieces = iterate (round pieces) (2 * length (start_forms pieces)) (start_forms pieces)
+forms pieces = iterate (pass pieces) (2 * length (start_forms pieces)) (start_forms pieces)

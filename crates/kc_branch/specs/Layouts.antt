@@ -9,8 +9,8 @@ use Rattle.kc_branch.specs.declared.piece.Form.TheVariants.{First, Second, Third
 use Rattle.kc_branch.specs.declared.stretch.Stretch.{Stretch}
 use Rattle.kc_branch.specs.declared.layout.Layout.{Layout}
 use Rattle.kc_branch.specs.declared.layout.Layout.TheVariants.{Leaf, Fork'}
-use Rattle.kc_branch.specs.declared.rounds.Raises.{Raises}
-use Rattle.kc_branch.specs.declared.rounds.Raises.TheVariants.{Keep, Raise, Both'}
+use Rattle.kc_branch.specs.declared.relaxation.Raises.{Raises}
+use Rattle.kc_branch.specs.declared.relaxation.Raises.TheVariants.{Keep, Raise, Both'}
 use Rattle.kc_branch.specs.Forms.{end_of, longer, next_form, with_form, start_form, piece_reaches}
 use Rattle.kc_branch.specs.Laws.{is_at, is_even}
 
@@ -52,28 +52,28 @@ has_even (x ∷ xs) = is_even x.0 || has_even xs
 
 -- ---- which pieces were stirred
 
-abbrev pub any_stirred : List Bool → Bool
-any_stirred [] = false
-any_stirred (s ∷ ss) = s || any_stirred ss
+abbrev pub any_changed : List Bool → Bool
+any_changed [] = false
+any_changed (s ∷ ss) = s || any_changed ss
 
 -- one of those from `from` to before `to`
 abbrev pub any_in : List Bool → ℕ → ℕ → Bool
 any_in [] from to = false
 any_in (s ∷ ss) from to = (s && (from == 0) && nat_lt 0 to) || any_in ss (from - 1) (to - 1)
 
-abbrev pub all_stirred : List Piece → List Bool
-all_stirred xs = map (λ x. true) xs
+abbrev pub all_changed : List Piece → List Bool
+all_changed xs = map (λ x. true) xs
 
 -- from a layout that begins at a to one that begins at b: a piece that is not stirred keeps its form and its length
-abbrev pub Stirs : List (Piece × Form) → List (Piece × Form) → List Bool → ℕ → ℕ → Type 0
-Stirs [] [] [] a b = Unit {0}
-Stirs (x ∷ xs) (y ∷ ys) (s ∷ ss) a b =
+abbrev pub Changes : List (Piece × Form) → List (Piece × Form) → List Bool → ℕ → ℕ → Type 0
+Changes [] [] [] a b = Unit {0}
+Changes (x ∷ xs) (y ∷ ys) (s ∷ ss) a b =
     (s ≡ false → (y ≡ x) × (end_of x.0 x.1 a + b ≡ end_of y.0 y.1 b + a))
-    × Stirs xs ys ss (end_of x.0 x.1 a) (end_of y.0 y.1 b)
-Stirs [] [] (s ∷ ss) a b = ⊥
-Stirs [] (y ∷ ys) ss a b = ⊥
-Stirs (x ∷ xs) [] ss a b = ⊥
-Stirs (x ∷ xs) (y ∷ ys) [] a b = ⊥
+    × Changes xs ys ss (end_of x.0 x.1 a) (end_of y.0 y.1 b)
+Changes [] [] (s ∷ ss) a b = ⊥
+Changes [] (y ∷ ys) ss a b = ⊥
+Changes (x ∷ xs) [] ss a b = ⊥
+Changes (x ∷ xs) (y ∷ ys) [] a b = ⊥
 
 -- ---- on which pieces it hangs whether a branch reaches
 
@@ -132,7 +132,7 @@ of_piece n x f k s = record {
   has_even = is_even x;
   from = min k (far_end n x f k);
   to = max (k + 1) (far_end n x f k);
-  stirred = s;
+  changed = s;
 }
 
 abbrev pub joined : Stretch → Stretch → Stretch
@@ -144,7 +144,7 @@ joined s t = record {
   has_even = s.has_even || t.has_even;
   from = min s.from t.from;
   to = max s.to t.to;
-  stirred = s.stirred || t.stirred;
+  changed = s.changed || t.changed;
 }
 
 -- no piece is longer than 65536 bytes
@@ -159,7 +159,7 @@ pub record IsKnown (s : Stretch) (xs : List (Piece × Form)) (ss : List Bool) : 
   pub short : IsShort s
   pub has_at : s.has_at ≡ has_at xs
   pub has_even : s.has_even ≡ has_even xs
-  pub stirred : s.stirred ≡ any_stirred ss
+  pub changed : s.changed ≡ any_changed ss
 
 -- ---- the tree
 
@@ -167,9 +167,9 @@ abbrev pub items : Layout → List (Piece × Form)
 items (Leaf x f s) = (x, f) ∷ []
 items (Fork' p left s q right) = items left ++ items right
 
-abbrev pub stirred : Layout → List Bool
-stirred (Leaf x f s) = s.stirred ∷ []
-stirred (Fork' p left s q right) = stirred left ++ stirred right
+abbrev pub changed : Layout → List Bool
+changed (Leaf x f s) = s.changed ∷ []
+changed (Fork' p left s q right) = changed left ++ changed right
 
 abbrev pub known : Layout → Stretch
 known (Leaf x f s) = s
@@ -177,8 +177,8 @@ known (Fork' p left s q right) = s
 
 -- what is known of each stretch of the tree is so
 abbrev pub IsLaid : Layout → Type 0
-IsLaid (Leaf x f s) = IsKnown s ((x, f) ∷ []) (s.stirred ∷ [])
-IsLaid (Fork' p left s q right) = IsKnown s (items left ++ items right) (stirred left ++ stirred right) × IsLaid left × IsLaid right
+IsLaid (Leaf x f s) = IsKnown s ((x, f) ∷ []) (s.changed ∷ [])
+IsLaid (Fork' p left s q right) = IsKnown s (items left ++ items right) (changed left ++ changed right) × IsLaid left × IsLaid right
 
 -- .. and what each spans, in a list of n pieces
 abbrev pub IsSpanned : ℕ → Layout → ℕ → Type 0
@@ -220,4 +220,4 @@ is_keep Raise = false
 is_keep (Both' p a q b) = false
 
 abbrev pub is_quiet : Stretch → Raises → ℕ → ℕ → Bool
-is_quiet s r old new = is_keep r && not s.stirred && only_moves s old new
+is_quiet s r old new = is_keep r && not s.changed && only_moves s old new

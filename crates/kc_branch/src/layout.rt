@@ -53,19 +53,19 @@ impl Layout {
     }
 
     // Whether a piece from `from` to before `to` is stirred.
-    pub(crate) fn is_stirred(&self, from: usize, to: usize) -> bool
+    pub(crate) fn is_changed(&self, from: usize, to: usize) -> bool
         requires laid { layouts.IsLaid self.now }
-        ensures { result ≡ layouts.any_in (layouts.stirred self.now) from to }
+        ensures { result ≡ layouts.any_in (layouts.changed self.now) from to }
     {
         match self {
-            Layout::Leaf(_, _, known) => known.stirred && from == 0 && 0 < to,
+            Layout::Leaf(_, _, known) => known.changed && from == 0 && 0 < to,
             Layout::Fork(left, known, right) => {
-                if !known.stirred || known.count <= from || to == 0 {
+                if !known.changed || known.count <= from || to == 0 {
                     return false;
                 }
                 let count = left.known().count;
-                left.is_stirred(from, to)
-                    || right.is_stirred(from.saturating_sub(count), to.saturating_sub(count))
+                left.is_changed(from, to)
+                    || right.is_changed(from.saturating_sub(count), to.saturating_sub(count))
             }
         }
     }
@@ -111,7 +111,7 @@ fn fork(alloc: Global, left: Layout, right: Layout) -> Result<Layout, NoMemory>
     requires second { layouts.IsLaid right }
     requires few { length (layouts.items left) + length (layouts.items right) < 2 ^ 63 }
     ensures items { IfOk result (λ t. layouts.items t ≡ layouts.items left ++ layouts.items right) }
-    ensures stirred { IfOk result (λ t. layouts.stirred t ≡ layouts.stirred left ++ layouts.stirred right) }
+    ensures changed { IfOk result (λ t. layouts.changed t ≡ layouts.changed left ++ layouts.changed right) }
     ensures laid { IfOk result layouts.IsLaid }
     ensures spanned { IfOk result (λ t. (n k : ℕ) → layouts.IsSpanned n left k → layouts.IsSpanned n right (k + length (layouts.items left)) → layouts.IsSpanned n t k) }
 {
@@ -131,7 +131,7 @@ pub(crate) fn start(
     requires some { 0 < length pieces.now }
     requires few { at + length pieces.now < 2 ^ 63 }
     ensures items { IfOk result (λ t. layouts.items t ≡ layouts.begun pieces.now) }
-    ensures stirred { IfOk result (λ t. layouts.stirred t ≡ layouts.all_stirred pieces.now) }
+    ensures changed { IfOk result (λ t. layouts.changed t ≡ layouts.all_changed pieces.now) }
     ensures laid { IfOk result layouts.IsLaid }
     ensures spanned { IfOk result (λ t. layouts.IsSpanned count t at) }
 {

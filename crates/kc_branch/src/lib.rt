@@ -4,9 +4,9 @@
 mod branch;
 mod layout;
 mod piece;
-mod rounds;
+mod relaxation;
 mod stretch;
 
 pub use branch::branch_length;
 pub use piece::{BranchKind, Form, Piece};
-pub use rounds::sizes;
+pub use relaxation::sizes;

@@ -26,7 +26,7 @@ pub(crate) struct Stretch {
     // .. to before this one.
     pub(crate) to: usize,
     // Whether one of its pieces was stirred by the last round: has another form or another length.
-    pub(crate) stirred: bool,
+    pub(crate) changed: bool,
 }
 
 // The place after a piece.
@@ -93,9 +93,9 @@ fn is_even(piece: &Piece) -> bool
 }
 
 // A stretch of one piece.
-pub(crate) fn of_piece(piece: &Piece, form: Form, at: usize, count: usize, stirred: bool) -> Stretch
+pub(crate) fn of_piece(piece: &Piece, form: Form, at: usize, count: usize, changed: bool) -> Stretch
     requires { at < 2 ^ 63 }
-    ensures value { result ≡ layouts.of_piece count piece.now form at stirred }
+    ensures value { result ≡ layouts.of_piece count piece.now form at changed }
     ensures short { layouts.IsShort result }
 {
     let far = far_end(piece, form, at, count);
@@ -107,7 +107,7 @@ pub(crate) fn of_piece(piece: &Piece, form: Form, at: usize, count: usize, stirr
         has_even: is_even(piece),
         from: at.min(far),
         to: far.max(at + 1),
-        stirred,
+        changed,
     }
 }
 
@@ -127,7 +127,7 @@ pub(crate) fn joined(left: &Stretch, right: &Stretch) -> Stretch
         has_even: left.has_even || right.has_even,
         from: left.from.min(right.from),
         to: left.to.max(right.to),
-        stirred: left.stirred || right.stirred,
+        changed: left.changed || right.changed,
     }
 }
 

@@ -7,7 +7,7 @@ use Rattle.kc_convert.specs.declared.sample.Sample.{Sample}
 use Rattle.kc_convert.specs.Samples.{value_at}
 use Rattle.kc_convert.specs.Converting.{Converting, new_converter, sample_time, conversion_time, ends_at, sample_of, converted_in, begun_in, is_low, goes, channel_in, converter_further}
 use Rattle.kc_extra.specs.Histories.{Access, Driven, accessed, started_if, data_at}
-use Rattle.kc_convert.specs.Converted.{selected_by, selected_before, begun_by, begins, IsLast, IsWhole, IsConverted, converter_at, ResultsAreConverted, EndsAreTold}
+use Rattle.kc_convert.specs.Converted.{selected_by, selected_before, begun_by, begins, IsLast, IsWhole, IsConverted, converter_at, ResultsAreConverted, EndsAreKnown}
 
 some_same : (m n : ℕ) → Some m ≡ Some n → m ≡ n
 some_same m n e = cc
@@ -232,13 +232,13 @@ holds values from h (suc t) =
 pub results_converted : ResultsAreConverted
 results_converted values from h t = (holds values from h t).result
 
-pub ends_told : EndsAreTold
-ends_told values from h t =
+pub ends_known : EndsAreKnown
+ends_known values from h t =
     let was : Holds values from h t (converter_at values from h t).inner = holds values from h t in
     record {
-      raised = λ told.
+      raised = λ known.
           let end = end_of values from h t (converter_at values from h t).inner was (converter_at values from h t).inner.begun refl
-          (is_raised (ends_at t (converter_at values from h t).inner.begun) told) in
+          (is_raised (ends_at t (converter_at values from h t).inner.begun) known) in
           (end.0, (converter_at values from h t).inner.channel, end.3, end.2);
       whole = λ s channel whole is.
           ap request (ends_on values from h t (converter_at values from h t).inner was s channel whole is);

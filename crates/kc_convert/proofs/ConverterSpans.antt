@@ -65,7 +65,7 @@ conversion_due now s d is le =
     record {
       later = le;
       before = still_quiet now (s + conversion_time - now) d sooner;
-      loud =
+      active =
           ap (converter_rule.quiet (s + conversion_time)) (still_after now (s + conversion_time - now) d sooner)
           ∙ silent (s + conversion_time) d.inner
           ∙ ap not (ap (ends_at (s + conversion_time)) is ∙ eq-eqb (s + conversion_time) (s + conversion_time) refl);

@@ -99,7 +99,7 @@ module _ (pin now : ℕ) (o : Output) where
             let same : periods_before (now + k) ≡ periods_before now = omega arith in
             ap (λ d. is_empty (output_edges pin (now + k) d)) (in_force_still now k o same)
             ∙ on_quiet pin (now + k) o (λ e. omega arith) (λ e. omega arith)));
-        loud =
+        active =
             let place : (now - now % 256 + o.in_force) % 256 ≡ o.in_force = omega arith in
             let same : periods_before (now + (o.in_force - now % 256)) ≡ periods_before now = omega arith in
             ap (λ n. is_empty (output_edges pin (now - now % 256 + o.in_force) (after (output_rule pin) now n o))) span
@@ -125,7 +125,7 @@ module _ (pin now : ℕ) (o : Output) where
       record {
         later = later;
         before = span_quiet (periods_before now * 256 - now) (λ k lt. low_quiet low k (omega arith));
-        loud =
+        active =
             ap (λ d. is_empty (output_edges pin (periods_before now * 256) d)) (output_spans pin now (periods_before now * 256 - now) o)
             ∙ start_rises pin (periods_before now * 256) (output_after now (periods_before now * 256 - now) o) start some;
       }

@@ -54,9 +54,9 @@ abbrev pub ResultsAreConverted : Type 0
 ResultsAreConverted = (values : List Sample) (from : ℕ) (h : Driven) (t : ℕ) → IsConverted values from h t (converter_at values from h t).inner.result
 
 -- request 1 comes in exactly the states in which a conversion has its result
-pub record IsTold (values : List Sample) (from : ℕ) (h : Driven) (t : ℕ) : Type 0 where
+pub record IsReported (values : List Sample) (from : ℕ) (h : Driven) (t : ℕ) : Type 0 where
   pub raised : (converter_out t (converter_at values from h t).inner).raised.0 ≡ 2 → (s : ℕ) × (channel : ℕ) × IsWhole h s channel × (s + conversion_time ≡ t)
   pub whole : (s channel : ℕ) → IsWhole h s channel → s + conversion_time ≡ t → (converter_out t (converter_at values from h t).inner).raised.0 ≡ 2
 
-abbrev pub EndsAreTold : Type 0
-EndsAreTold = (values : List Sample) (from : ℕ) (h : Driven) (t : ℕ) → IsTold values from h t
+abbrev pub EndsAreKnown : Type 0
+EndsAreKnown = (values : List Sample) (from : ℕ) (h : Driven) (t : ℕ) → IsReported values from h t

@@ -6,7 +6,7 @@ ghost use Rattle.kc_convert.specs.Reading.{first_bad, items_of, with_item, IsRef
 use crate::fault::AnalogFault;
 use crate::index::Index;
 use crate::lines::item;
-use kc_base::{NoMemory, StateTime, after, first_line, front};
+use kc_base::{NoMemory, StateTime, after, first_line, prefix};
 use std::alloc::Global;
 use std::marker::Model;
 
@@ -42,7 +42,7 @@ fn index_of(alloc: Global, bytes: &[u8]) -> Result<Index, AnalogFault>
     while !rest.is_empty() {
         let (len, used) = first_line(rest);
         lines += 1;
-        match index.take(alloc, item(front(rest, len))) {
+        match index.take(alloc, item(prefix(rest, len))) {
             Err(NoMemory) => return Err(AnalogFault::NoMemory),
             Ok(false) => return Err(AnalogFault::BadLine(lines)),
             Ok(true) => {}

@@ -1,4 +1,4 @@
-ghost use Rattle.kc_convert.specs.Converted.{ResultsAreConverted, EndsAreTold};
+ghost use Rattle.kc_convert.specs.Converted.{ResultsAreConverted, EndsAreKnown};
 ghost use Rattle.kc_convert.specs.Pulse.{PulsesAreByWidths};
 
 /// Whatever accesses and starts come, the result is that of the last conversion that no later one ended, by the value that
@@ -8,8 +8,8 @@ pub fn results_are_converted()
 {}
 
 /// Whatever accesses and starts come, request 1 comes in exactly the states in which such a conversion has its result.
-pub fn ends_are_told()
-    ensures { EndsAreTold }
+pub fn ends_are_known()
+    ensures { EndsAreKnown }
 {}
 
 /// Whatever is written, an output is high in the states of a period below the width that was written last before it.

@@ -15,6 +15,6 @@ mod sample;
 pub use analog::Analog;
 pub use converter::Converter;
 pub use fault::AnalogFault;
-pub use laws::{ends_are_told, pulses_are_by_widths, results_are_converted};
+pub use laws::{ends_are_known, pulses_are_by_widths, results_are_converted};
 pub use pulses::{Output, Pulses};
 pub use sample::Sample;

@@ -20,11 +20,11 @@ use Rattle.kc_cycles.specs.declared.lives.LivesFault.TheVariants as fault
 use Rattle.kc_watchdog.specs.declared.watchdog.Watchdog.{Watchdog}
 use Rattle.kc_watchdog.specs.Watching.{patience, is_watchdog, new_watchdog, fed}
 use Rattle.kc_cycles.specs.Life.{Life, life_for}
-use Rattle.kc_cycles.specs.Lives.{is_reset, life_from, lives_from, lives_of, restart_line, lives_touch, work_of_lives, AreTold}
+use Rattle.kc_cycles.specs.Lives.{is_reset, life_from, lives_from, lives_of, restart_line, lives_touch, work_of_lives, AreReported}
 use Rattle.kc_cycles.specs.Making.{IsWatched, deadline_of, Lived}
 use Rattle.kc_cycles.proofs.Going.{Moved, Feeds}
 use Rattle.kc_cycles.proofs.Works.{lives-within}
-use Rattle.kc_cycles.proofs.Following.{Told, told-first, told-next, told-wanting, told-cut, told-cut_line, told-last, told-cut_last, told-spent, told-spent_more, lives-some, lives-followed, lives-last}
+use Rattle.kc_cycles.proofs.Following.{Reported, reported-first, reported-next, reported-wanting, reported-cut, reported-cut_line, reported-last, reported-cut_last, reported-spent, reported-spent_more, lives-some, lives-followed, lives-last}
 
 fed-moves : (value t : ℕ) (d : Watchdog) → ((fed value t d).deadline ≡ d.deadline) ⊎ ((fed value t d).deadline ≡ Some (t + patience))
 fed-moves value t d = by_flag (d.half_fed && (value == 0xE1))
@@ -111,7 +111,7 @@ module _ {A : Type 0} {da : extra.Ghosts A} {dw : extra.Ghosts Watchdog} where
   pub record Way (f : Further (Pair A Watchdog da dw)) (made : ℕ → A) (image : List ℕ) (drives : Drives) (until most : ℕ) (o0 : Out) (s0 : ℕ) (left from : ℕ) (o : Out) (s : ℕ) : Type 0 where
     pub unit : ℕ → Pair A Watchdog da dw
     pub is_made : (at : ℕ) → IsWatched (made at) (unit at)
-    pub told : Told (lives_of f deadline_of image drives unit until most) o0 s0 (lives_from f deadline_of image drives unit until left from) o s
+    pub reported : Reported (lives_of f deadline_of image drives unit until most) o0 s0 (lives_from f deadline_of image drives unit until left from) o s
     pub some : 1 ≤ left
     pub within : from ≤ until
     pub unbroken : o.failed ≡ false
@@ -121,7 +121,7 @@ module _ {A : Type 0} {da : extra.Ghosts A} {dw : extra.Ghosts Watchdog} where
   way-first f made image drives until most o s few apart some unbroken = record {
     unit = λ at. watched few apart (made at);
     is_made = λ at. watched-is few apart (made at);
-    told = told-first _ o s;
+    reported = reported-first _ o s;
     some = some;
     within = omega arith;
     unbroken = unbroken;
@@ -146,13 +146,13 @@ module _ {A : Type 0} {da : extra.Ghosts A} {dw : extra.Ghosts Watchdog} where
     pub way-none : (p : Out) → p ≡ o → Lived f made image drives until most o0 s0 (Err fault.NoMemory) p s
     way-none p same =
         let some = lives-some f deadline_of image drives way.unit until left from way.some in
-        let told : Told all_lives o0 s0 (this_life ∷ some.0) o s = subst (λ xs. Told all_lives o0 s0 xs o s) some.1 way.told in
+        let reported : Reported all_lives o0 s0 (this_life ∷ some.0) o s = subst (λ xs. Reported all_lives o0 s0 xs o s) some.1 way.reported in
         record {
           unit = way.unit;
           is_made = way.is_made;
-          told = subst (λ q. AreTold all_lives o0 (Err fault.NoMemory) q) (sym same) (told-wanting all_lives o0 s0 this_life some.0 o s told way.unbroken);
-          spent = told-spent all_lives o0 s0 (this_life ∷ some.0) o s told;
-          worked = own_worked s (told-spent all_lives o0 s0 (this_life ∷ some.0) o s told);
+          reported = subst (λ q. AreReported all_lives o0 (Err fault.NoMemory) q) (sym same) (reported-wanting all_lives o0 s0 this_life some.0 o s reported way.unbroken);
+          spent = reported-spent all_lives o0 s0 (this_life ∷ some.0) o s reported;
+          worked = own_worked s (reported-spent all_lives o0 s0 (this_life ∷ some.0) o s reported);
         }
 
     module _ (life : Life (Pair A Watchdog da dw)) (same : life ≡ this_life) (mid : Out) (t : ℕ) (lines : Puts o (text_of life.ran.records) mid) (spent : t ≤ s + 4 * life.ran.touch) where
@@ -166,47 +166,47 @@ module _ {A : Type 0} {da : extra.Ghosts A} {dw : extra.Ghosts Watchdog} where
       pub way-cut : mid.failed ≡ true → Lived f made image drives until most o0 s0 (Err fault.WriteFault) mid t
       way-cut failed =
           let some = lives-some f deadline_of image drives way.unit until left from way.some in
-          let told : Told all_lives o0 s0 (this_life ∷ some.0) o s = subst (λ xs. Told all_lives o0 s0 xs o s) some.1 way.told in
+          let reported : Reported all_lives o0 s0 (this_life ∷ some.0) o s = subst (λ xs. Reported all_lives o0 s0 xs o s) some.1 way.reported in
           record {
             unit = way.unit;
             is_made = way.is_made;
-            told = told-cut all_lives o0 s0 this_life some.0 o s mid told own_lines failed;
-            spent = told-spent_more all_lives o0 s0 this_life some.0 o s t told own_spent;
-            worked = own_worked t (told-spent_more all_lives o0 s0 this_life some.0 o s t told own_spent);
+            reported = reported-cut all_lives o0 s0 this_life some.0 o s mid reported own_lines failed;
+            spent = reported-spent_more all_lives o0 s0 this_life some.0 o s t reported own_spent;
+            worked = own_worked t (reported-spent_more all_lives o0 s0 this_life some.0 o s t reported own_spent);
           }
 
       -- no other follows
       module _ (none : (is_reset life.how && nat_lt 1 left) ≡ false) where
-        last_told : Told all_lives o0 s0 (this_life ∷ []) o s
-        last_told =
-            subst (λ xs. Told all_lives o0 s0 xs o s)
-            (lives-last f deadline_of image drives way.unit until left from way.some (ap (λ (l : Life (Pair A Watchdog da dw)). is_reset l.how && nat_lt 1 left) (sym same) ∙ none)) way.told
+        last_reported : Reported all_lives o0 s0 (this_life ∷ []) o s
+        last_reported =
+            subst (λ xs. Reported all_lives o0 s0 xs o s)
+            (lives-last f deadline_of image drives way.unit until left from way.some (ap (λ (l : Life (Pair A Watchdog da dw)). is_reset l.how && nat_lt 1 left) (sym same) ∙ none)) way.reported
 
         pub way-last : (p : Out) (how : End) → how ≡ life.how → Puts mid (text_of (finals life.how life.ran.machine)) p → p.failed ≡ false → Lived f made image drives until most o0 s0 (Ok how) p t
         way-last p how is last unbroken = record {
           unit = way.unit;
           is_made = way.is_made;
-          told = told-last all_lives o0 s0 this_life o s mid p how last_told own_lines (subst (λ (l : Life (Pair A Watchdog da dw)). Puts mid (text_of (finals l.how l.ran.machine)) p) same last) unbroken
+          reported = reported-last all_lives o0 s0 this_life o s mid p how last_reported own_lines (subst (λ (l : Life (Pair A Watchdog da dw)). Puts mid (text_of (finals l.how l.ran.machine)) p) same last) unbroken
               (is ∙ ap (λ (l : Life (Pair A Watchdog da dw)). l.how) same);
-          spent = told-spent_more all_lives o0 s0 this_life [] o s t last_told own_spent;
-          worked = own_worked t (told-spent_more all_lives o0 s0 this_life [] o s t last_told own_spent);
+          spent = reported-spent_more all_lives o0 s0 this_life [] o s t last_reported own_spent;
+          worked = own_worked t (reported-spent_more all_lives o0 s0 this_life [] o s t last_reported own_spent);
         }
 
         pub way-cut_last : (p : Out) → Puts mid (text_of (finals life.how life.ran.machine)) p → p.failed ≡ true → Lived f made image drives until most o0 s0 (Err fault.WriteFault) p t
         way-cut_last p last failed = record {
           unit = way.unit;
           is_made = way.is_made;
-          told = told-cut_last all_lives o0 s0 this_life o s mid p last_told own_lines (subst (λ (l : Life (Pair A Watchdog da dw)). Puts mid (text_of (finals l.how l.ran.machine)) p) same last) failed;
-          spent = told-spent_more all_lives o0 s0 this_life [] o s t last_told own_spent;
-          worked = own_worked t (told-spent_more all_lives o0 s0 this_life [] o s t last_told own_spent);
+          reported = reported-cut_last all_lives o0 s0 this_life o s mid p last_reported own_lines (subst (λ (l : Life (Pair A Watchdog da dw)). Puts mid (text_of (finals l.how l.ran.machine)) p) same last) failed;
+          spent = reported-spent_more all_lives o0 s0 this_life [] o s t last_reported own_spent;
+          worked = own_worked t (reported-spent_more all_lives o0 s0 this_life [] o s t last_reported own_spent);
         }
 
       -- another follows
       module _ (reset : is_reset life.how ≡ true) (more : 1 < left) (p : Out) (line : Puts mid (restart_line (life.ran.machine.time - 1) life.by_watchdog) p) where
-        next_told : Told all_lives o0 s0 (this_life ∷ lives_from f deadline_of image drives way.unit until (left - 1) (from + this_life.ran.machine.time)) o s
-        next_told =
-            subst (λ xs. Told all_lives o0 s0 xs o s)
-            (lives-followed f deadline_of image drives way.unit until left from (ap (λ (l : Life (Pair A Watchdog da dw)). is_reset l.how) (sym same) ∙ reset) more) way.told
+        next_reported : Reported all_lives o0 s0 (this_life ∷ lives_from f deadline_of image drives way.unit until (left - 1) (from + this_life.ran.machine.time)) o s
+        next_reported =
+            subst (λ xs. Reported all_lives o0 s0 xs o s)
+            (lives-followed f deadline_of image drives way.unit until left from (ap (λ (l : Life (Pair A Watchdog da dw)). is_reset l.how) (sym same) ∙ reset) more) way.reported
 
         own_line : Puts mid (restart_line (this_life.ran.machine.time - 1) this_life.by_watchdog) p
         own_line = subst (λ (l : Life (Pair A Watchdog da dw)). Puts mid (restart_line (l.ran.machine.time - 1) l.by_watchdog) p) same line
@@ -214,22 +214,22 @@ module _ {A : Type 0} {da : extra.Ghosts A} {dw : extra.Ghosts Watchdog} where
         pub way-cut_line : p.failed ≡ true → Lived f made image drives until most o0 s0 (Err fault.WriteFault) p t
         way-cut_line failed =
             let following = lives-some f deadline_of image drives way.unit until (left - 1) (from + this_life.ran.machine.time) (omega arith) in
-            let told : Told all_lives o0 s0 (this_life ∷ life_from f deadline_of image drives way.unit until (from + this_life.ran.machine.time) ∷ following.0) o s =
-            subst (λ xs. Told all_lives o0 s0 (this_life ∷ xs) o s) following.1 next_told in
+            let reported : Reported all_lives o0 s0 (this_life ∷ life_from f deadline_of image drives way.unit until (from + this_life.ran.machine.time) ∷ following.0) o s =
+            subst (λ xs. Reported all_lives o0 s0 (this_life ∷ xs) o s) following.1 next_reported in
             record {
               unit = way.unit;
               is_made = way.is_made;
-              told = told-cut_line all_lives o0 s0 this_life (life_from f deadline_of image drives way.unit until (from + this_life.ran.machine.time)) following.0 o s mid p told own_lines own_line failed;
-              spent = told-spent_more all_lives o0 s0 this_life (life_from f deadline_of image drives way.unit until (from + this_life.ran.machine.time) ∷ following.0) o s t told own_spent;
-              worked = own_worked t (told-spent_more all_lives o0 s0 this_life (life_from f deadline_of image drives way.unit until (from + this_life.ran.machine.time) ∷ following.0) o s t told own_spent);
+              reported = reported-cut_line all_lives o0 s0 this_life (life_from f deadline_of image drives way.unit until (from + this_life.ran.machine.time)) following.0 o s mid p reported own_lines own_line failed;
+              spent = reported-spent_more all_lives o0 s0 this_life (life_from f deadline_of image drives way.unit until (from + this_life.ran.machine.time) ∷ following.0) o s t reported own_spent;
+              worked = own_worked t (reported-spent_more all_lives o0 s0 this_life (life_from f deadline_of image drives way.unit until (from + this_life.ran.machine.time) ∷ following.0) o s t reported own_spent);
             }
 
         pub way-next : (time : ℕ) → time ≡ life.ran.machine.time → from + time ≤ until → p.failed ≡ false → Way f made image drives until most o0 s0 (left - 1) (from + time) p t
         way-next time is fits unbroken = record {
           unit = way.unit;
           is_made = way.is_made;
-          told = subst (λ n. Told all_lives o0 s0 (lives_from f deadline_of image drives way.unit until (left - 1) (from + n)) p t) (sym (is ∙ ap (λ (l : Life (Pair A Watchdog da dw)). l.ran.machine.time) same))
-              (told-next all_lives o0 s0 this_life (lives_from f deadline_of image drives way.unit until (left - 1) (from + this_life.ran.machine.time)) o s mid p t next_told own_lines own_line own_spent);
+          reported = subst (λ n. Reported all_lives o0 s0 (lives_from f deadline_of image drives way.unit until (left - 1) (from + n)) p t) (sym (is ∙ ap (λ (l : Life (Pair A Watchdog da dw)). l.ran.machine.time) same))
+              (reported-next all_lives o0 s0 this_life (lives_from f deadline_of image drives way.unit until (left - 1) (from + this_life.ran.machine.time)) o s mid p t next_reported own_lines own_line own_spent);
           some = omega arith;
           within = fits;
           unbroken = unbroken;

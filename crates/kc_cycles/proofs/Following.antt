@@ -13,7 +13,7 @@ use Rattle.kc_machine_spec.specs.declared.doing.End.{End}
 use Rattle.kc_machine_spec.specs.Text.{finals}
 use Rattle.kc_cycles.specs.declared.lives.LivesFault.TheVariants as fault
 use Rattle.kc_cycles.specs.Life.{Life}
-use Rattle.kc_cycles.specs.Lives.{is_reset, life_from, lives_from, restart_line, followed_text, last_text, lives_text, last_end, lives_touch, AreTold}
+use Rattle.kc_cycles.specs.Lives.{is_reset, life_from, lives_from, restart_line, followed_text, last_text, lives_text, last_end, lives_touch, AreReported}
 
 touch-none : (X : Type 0) → lives_touch {X = X} [] ≡ 0
 unfolding lives_touch
@@ -67,90 +67,90 @@ module _ {X : Type 0} where
 
   -- ---- some lives are told, and the others are these
 
-  pub record Told (all : List (Life X)) (o0 : Out) (s0 : ℕ) (others : List (Life X)) (o : Out) (s : ℕ) : Type 0 where
+  pub record Reported (all : List (Life X)) (o0 : Out) (s0 : ℕ) (others : List (Life X)) (o : Out) (s : ℕ) : Type 0 where
     pub few : List (Life X)
     pub are : all ≡ few ++ others
     pub lines : Puts o0 (flat_map followed_text few) o
     pub spent : s ≤ s0 + 4 * lives_touch few
 
-  pub told-first : (all : List (Life X)) (o : Out) (s : ℕ) → Told all o s all o s
-  told-first all o s = record { few = []; are = refl; lines = Puts-nothing o; spent = omega arith }
+  pub reported-first : (all : List (Life X)) (o : Out) (s : ℕ) → Reported all o s all o s
+  reported-first all o s = record { few = []; are = refl; lines = Puts-nothing o; spent = omega arith }
 
   -- one life more, with the line after it
-  pub told-next : (all : List (Life X)) (o0 : Out) (s0 : ℕ) (life : Life X) (others : List (Life X)) (o : Out) (s : ℕ) (mid p : Out) (t : ℕ) → Told all o0 s0 (life ∷ others) o s →
-      Puts o (text_of life.ran.records) mid → Puts mid (restart_line (life.ran.machine.time - 1) life.by_watchdog) p → t ≤ s + 4 * life.ran.touch → Told all o0 s0 others p t
-  told-next all o0 s0 life others o s mid p t told lines line spent =
-      let cost = touch-append told.few (life ∷ []) in
+  pub reported-next : (all : List (Life X)) (o0 : Out) (s0 : ℕ) (life : Life X) (others : List (Life X)) (o : Out) (s : ℕ) (mid p : Out) (t : ℕ) → Reported all o0 s0 (life ∷ others) o s →
+      Puts o (text_of life.ran.records) mid → Puts mid (restart_line (life.ran.machine.time - 1) life.by_watchdog) p → t ≤ s + 4 * life.ran.touch → Reported all o0 s0 others p t
+  reported-next all o0 s0 life others o s mid p t reported lines line spent =
+      let cost = touch-append reported.few (life ∷ []) in
       let one = touch-one life [] in
       let none = touch-none X in
       record {
-        few = told.few ++ life ∷ [];
-        are = told.are ∙ sym (append_assoc told.few (life ∷ []) others);
+        few = reported.few ++ life ∷ [];
+        are = reported.are ∙ sym (append_assoc reported.few (life ∷ []) others);
         lines = subst (λ text. Puts o0 text p)
-            (ap (λ xs. flat_map followed_text told.few ++ xs) (sym (append-nil (followed_text life))) ∙ sym (flat_map-append followed_text told.few (life ∷ [])))
-            (Puts-append o0 (flat_map followed_text told.few) o (followed_text life) p told.lines (Puts-append o (text_of life.ran.records) mid (restart_line (life.ran.machine.time - 1) life.by_watchdog) p lines line));
-        spent = omega (arith, cost, one, none, told.spent, spent);
+            (ap (λ xs. flat_map followed_text reported.few ++ xs) (sym (append-nil (followed_text life))) ∙ sym (flat_map-append followed_text reported.few (life ∷ [])))
+            (Puts-append o0 (flat_map followed_text reported.few) o (followed_text life) p reported.lines (Puts-append o (text_of life.ran.records) mid (restart_line (life.ran.machine.time - 1) life.by_watchdog) p lines line));
+        spent = omega (arith, cost, one, none, reported.spent, spent);
       }
 
   -- memory is wanting for the next
-  pub told-wanting : (all : List (Life X)) (o0 : Out) (s0 : ℕ) (life : Life X) (others : List (Life X)) (o : Out) (s : ℕ) → Told all o0 s0 (life ∷ others) o s → o.failed ≡ false → AreTold all o0 (Err fault.NoMemory) o
-  told-wanting all o0 s0 life others o s told unbroken =
-      let many = ap length told.are ∙ length-append told.few (life ∷ others) in (
-        length told.few,
+  pub reported-wanting : (all : List (Life X)) (o0 : Out) (s0 : ℕ) (life : Life X) (others : List (Life X)) (o : Out) (s : ℕ) → Reported all o0 s0 (life ∷ others) o s → o.failed ≡ false → AreReported all o0 (Err fault.NoMemory) o
+  reported-wanting all o0 s0 life others o s reported unbroken =
+      let many = ap length reported.are ∙ length-append reported.few (life ∷ others) in (
+        length reported.few,
         omega (arith, many),
-        subst (λ xs. Puts o0 (flat_map followed_text xs) o) (sym (ap (take (length told.few)) told.are ∙ take-all told.few (life ∷ others))) told.lines,
+        subst (λ xs. Puts o0 (flat_map followed_text xs) o) (sym (ap (take (length reported.few)) reported.are ∙ take-all reported.few (life ∷ others))) reported.lines,
         unbroken,
       )
 
-  told-lines : (all : List (Life X)) (o0 : Out) (s0 : ℕ) (life : Life X) (others : List (Life X)) (o : Out) (s : ℕ) (p : Out) → Told all o0 s0 (life ∷ others) o s → Puts o (lives_text (life ∷ others)) p → Puts o0 (lives_text all) p
-  told-lines all o0 s0 life others o s p told lines =
-      subst (λ text. Puts o0 text p) (sym (text-append told.few life others) ∙ ap lives_text (sym told.are))
-      (Puts-append o0 (flat_map followed_text told.few) o (lives_text (life ∷ others)) p told.lines lines)
+  reported-lines : (all : List (Life X)) (o0 : Out) (s0 : ℕ) (life : Life X) (others : List (Life X)) (o : Out) (s : ℕ) (p : Out) → Reported all o0 s0 (life ∷ others) o s → Puts o (lives_text (life ∷ others)) p → Puts o0 (lives_text all) p
+  reported-lines all o0 s0 life others o s p reported lines =
+      subst (λ text. Puts o0 text p) (sym (text-append reported.few life others) ∙ ap lives_text (sym reported.are))
+      (Puts-append o0 (flat_map followed_text reported.few) o (lives_text (life ∷ others)) p reported.lines lines)
 
   -- the sink has failed in the records of a life
-  pub told-cut : (all : List (Life X)) (o0 : Out) (s0 : ℕ) (life : Life X) (others : List (Life X)) (o : Out) (s : ℕ) (p : Out) → Told all o0 s0 (life ∷ others) o s → Puts o (text_of life.ran.records) p → p.failed ≡ true → AreTold all o0 (Err fault.WriteFault) p
-  told-cut all o0 s0 life others o s p told lines failed =
+  pub reported-cut : (all : List (Life X)) (o0 : Out) (s0 : ℕ) (life : Life X) (others : List (Life X)) (o : Out) (s : ℕ) (p : Out) → Reported all o0 s0 (life ∷ others) o s → Puts o (text_of life.ran.records) p → p.failed ≡ true → AreReported all o0 (Err fault.WriteFault) p
+  reported-cut all o0 s0 life others o s p reported lines failed =
       let begins = text-begins life others in
-      (told-lines all o0 s0 life others o s p told (subst (λ text. Puts o text p) (sym begins.1) (Puts-longer o (text_of life.ran.records) begins.0 p failed lines)), failed)
+      (reported-lines all o0 s0 life others o s p reported (subst (λ text. Puts o text p) (sym begins.1) (Puts-longer o (text_of life.ran.records) begins.0 p failed lines)), failed)
 
   -- and in the line after it
-  pub told-cut_line : (all : List (Life X)) (o0 : Out) (s0 : ℕ) (life next : Life X) (others : List (Life X)) (o : Out) (s : ℕ) (mid p : Out) → Told all o0 s0 (life ∷ next ∷ others) o s →
-      Puts o (text_of life.ran.records) mid → Puts mid (restart_line (life.ran.machine.time - 1) life.by_watchdog) p → p.failed ≡ true → AreTold all o0 (Err fault.WriteFault) p
-  told-cut_line all o0 s0 life next others o s mid p told lines line failed = (
-    told-lines all o0 s0 life (next ∷ others) o s p told
+  pub reported-cut_line : (all : List (Life X)) (o0 : Out) (s0 : ℕ) (life next : Life X) (others : List (Life X)) (o : Out) (s : ℕ) (mid p : Out) → Reported all o0 s0 (life ∷ next ∷ others) o s →
+      Puts o (text_of life.ran.records) mid → Puts mid (restart_line (life.ran.machine.time - 1) life.by_watchdog) p → p.failed ≡ true → AreReported all o0 (Err fault.WriteFault) p
+  reported-cut_line all o0 s0 life next others o s mid p reported lines line failed = (
+    reported-lines all o0 s0 life (next ∷ others) o s p reported
         (subst (λ text. Puts o text p) (sym (text-more life next others))
         (Puts-longer o (followed_text life) (lives_text (next ∷ others)) p failed (Puts-append o (text_of life.ran.records) mid (restart_line (life.ran.machine.time - 1) life.by_watchdog) p lines line))),
     failed,
   )
 
-  told-last_lines : (all : List (Life X)) (o0 : Out) (s0 : ℕ) (life : Life X) (o : Out) (s : ℕ) (mid p : Out) → Told all o0 s0 (life ∷ []) o s →
+  reported-last_lines : (all : List (Life X)) (o0 : Out) (s0 : ℕ) (life : Life X) (o : Out) (s : ℕ) (mid p : Out) → Reported all o0 s0 (life ∷ []) o s →
       Puts o (text_of life.ran.records) mid → Puts mid (text_of (finals life.how life.ran.machine)) p → Puts o0 (lives_text all) p
-  told-last_lines all o0 s0 life o s mid p told lines last =
-      told-lines all o0 s0 life [] o s p told
+  reported-last_lines all o0 s0 life o s mid p reported lines last =
+      reported-lines all o0 s0 life [] o s p reported
       (subst (λ text. Puts o text p) (sym (text_of-append life.ran.records (finals life.how life.ran.machine)) ∙ sym (text-one life))
       (Puts-append o (text_of life.ran.records) mid (text_of (finals life.how life.ran.machine)) p lines last))
 
   -- all are told
-  pub told-last : (all : List (Life X)) (o0 : Out) (s0 : ℕ) (life : Life X) (o : Out) (s : ℕ) (mid p : Out) (how : End) → Told all o0 s0 (life ∷ []) o s →
-      Puts o (text_of life.ran.records) mid → Puts mid (text_of (finals life.how life.ran.machine)) p → p.failed ≡ false → how ≡ life.how → AreTold all o0 (Ok how) p
-  told-last all o0 s0 life o s mid p how told lines last unbroken is =
-      (is ∙ sym (end-append told.few life) ∙ ap last_end (sym told.are), told-last_lines all o0 s0 life o s mid p told lines last, unbroken)
+  pub reported-last : (all : List (Life X)) (o0 : Out) (s0 : ℕ) (life : Life X) (o : Out) (s : ℕ) (mid p : Out) (how : End) → Reported all o0 s0 (life ∷ []) o s →
+      Puts o (text_of life.ran.records) mid → Puts mid (text_of (finals life.how life.ran.machine)) p → p.failed ≡ false → how ≡ life.how → AreReported all o0 (Ok how) p
+  reported-last all o0 s0 life o s mid p how reported lines last unbroken is =
+      (is ∙ sym (end-append reported.few life) ∙ ap last_end (sym reported.are), reported-last_lines all o0 s0 life o s mid p reported lines last, unbroken)
 
-  pub told-cut_last : (all : List (Life X)) (o0 : Out) (s0 : ℕ) (life : Life X) (o : Out) (s : ℕ) (mid p : Out) → Told all o0 s0 (life ∷ []) o s →
-      Puts o (text_of life.ran.records) mid → Puts mid (text_of (finals life.how life.ran.machine)) p → p.failed ≡ true → AreTold all o0 (Err fault.WriteFault) p
-  told-cut_last all o0 s0 life o s mid p told lines last failed = (told-last_lines all o0 s0 life o s mid p told lines last, failed)
+  pub reported-cut_last : (all : List (Life X)) (o0 : Out) (s0 : ℕ) (life : Life X) (o : Out) (s : ℕ) (mid p : Out) → Reported all o0 s0 (life ∷ []) o s →
+      Puts o (text_of life.ran.records) mid → Puts mid (text_of (finals life.how life.ran.machine)) p → p.failed ≡ true → AreReported all o0 (Err fault.WriteFault) p
+  reported-cut_last all o0 s0 life o s mid p reported lines last failed = (reported-last_lines all o0 s0 life o s mid p reported lines last, failed)
 
   -- the calls of all
-  pub told-spent : (all : List (Life X)) (o0 : Out) (s0 : ℕ) (others : List (Life X)) (o : Out) (s : ℕ) → Told all o0 s0 others o s → s ≤ s0 + 4 * lives_touch all
-  told-spent all o0 s0 others o s told =
-      let cost = ap lives_touch told.are ∙ touch-append told.few others in
-      omega (arith, cost, told.spent)
+  pub reported-spent : (all : List (Life X)) (o0 : Out) (s0 : ℕ) (others : List (Life X)) (o : Out) (s : ℕ) → Reported all o0 s0 others o s → s ≤ s0 + 4 * lives_touch all
+  reported-spent all o0 s0 others o s reported =
+      let cost = ap lives_touch reported.are ∙ touch-append reported.few others in
+      omega (arith, cost, reported.spent)
 
-  pub told-spent_more : (all : List (Life X)) (o0 : Out) (s0 : ℕ) (life : Life X) (others : List (Life X)) (o : Out) (s t : ℕ) → Told all o0 s0 (life ∷ others) o s → t ≤ s + 4 * life.ran.touch → t ≤ s0 + 4 * lives_touch all
-  told-spent_more all o0 s0 life others o s t told spent =
-      let cost = ap lives_touch told.are ∙ touch-append told.few (life ∷ others) in
+  pub reported-spent_more : (all : List (Life X)) (o0 : Out) (s0 : ℕ) (life : Life X) (others : List (Life X)) (o : Out) (s t : ℕ) → Reported all o0 s0 (life ∷ others) o s → t ≤ s + 4 * life.ran.touch → t ≤ s0 + 4 * lives_touch all
+  reported-spent_more all o0 s0 life others o s t reported spent =
+      let cost = ap lives_touch reported.are ∙ touch-append reported.few (life ∷ others) in
       let one = touch-one life others in
-      omega (arith, cost, one, told.spent, spent)
+      omega (arith, cost, one, reported.spent, spent)
 
 module _ {X : Type 0} (f : Further X) (deadline : X → Option ℕ) (image : List ℕ) (drives : Drives) (unit : ℕ → X) (until : ℕ) where
   -- the lives from a state on, by the first of them

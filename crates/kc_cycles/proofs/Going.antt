@@ -286,8 +286,8 @@ module _ {X : Type 0} (f : Further X) (deadline : X → Option ℕ) (until : ℕ
   life-whole : (i now : ℕ) (n : Machine X) (last : Life X) → IsLeft i now → n ≡ (run_for f i m0).machine → life_for f deadline (until - now) n ≡ last → life_for f deadline until m0 ≡ goes_on (run_for f i m0) (λ m. last)
   life-whole i now n last left is e = left ∙ before-same f deadline (run_for f i m0) (life_for f deadline (until - now)) (λ m. last) (ap (life_for f deadline (until - now)) (sym is) ∙ e)
 
-  pub record Ends (i : ℕ) (n : Machine X) (told : End) (bites : Bool) : Type 0 where
-    pub how : told ≡ (life_for f deadline until m0).how
+  pub record Ends (i : ℕ) (n : Machine X) (reported : End) (bites : Bool) : Type 0 where
+    pub how : reported ≡ (life_for f deadline until m0).how
     pub by_watchdog : bites ≡ (life_for f deadline until m0).by_watchdog
     pub machine : n ≡ (life_for f deadline until m0).ran.machine
     pub records : (run_for f i m0).records ≡ (life_for f deadline until m0).ran.records

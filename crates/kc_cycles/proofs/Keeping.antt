@@ -30,7 +30,7 @@ use Rattle.kc_block_spec.specs.declared.registers.WritableWord.{WritableWord}
 use Rattle.kc_block_spec.specs.declared.registers.WritableWord.TheVariants as writes_word
 use Rattle.kc_block_spec.specs.Units.{Units}
 use Rattle.kc_block_spec.specs.Registers.{window_number, bytes_read, bytes_written, words_read, words_written, bytes_read_everywhere, bytes_written_everywhere, row_at, is_half}
-use Rattle.kc_block_spec.specs.Writing.{with_byte, with_word, loaded_unless, steady_with, emptied_by}
+use Rattle.kc_block_spec.specs.Writing.{with_byte, with_word, loaded_unless, board_registers_with, emptied_by}
 use Rattle.kc_block_spec.specs.Accesses.{after_byte_read_as, after_byte_read, byte_written_as, byte_written, after_word_read_as, after_even_word_read, after_word_read, word_written_as, even_word_written, word_written, ◌>>=◌}
 use Rattle.kc_block_spec.specs.Fired.{starts}
 use Rattle.kc_block_spec.specs.Levels.{levels_at}
@@ -103,8 +103,8 @@ module _ {X : Type 0} (f : Further X) (t : ℕ) (P : X → Type 0) (k : Keeps f 
 
   with_byte_keeps : (u : Units X) (r : WritableByte) (n : ℕ) → P u.further → HoldsIf f t P (with_byte u r n)
   with_byte_keeps u writes.Ioc2 n p =
-      either_holds (HoldsIf f t P) _ (Err FastTimer2) (Ok (record u { steady = steady_with u.steady writes.Ioc2 n; hso = emptied_by n u.hso })) tt p
-  with_byte_keeps u writes.Wsr n p = either_holds (HoldsIf f t P) (is_wsr n) (Ok (record u { steady = steady_with u.steady writes.Wsr n })) (Err BadWindow) p tt
+      either_holds (HoldsIf f t P) _ (Err FastTimer2) (Ok (record u { board_registers = board_registers_with u.board_registers writes.Ioc2 n; hso = emptied_by n u.hso })) tt p
+  with_byte_keeps u writes.Wsr n p = either_holds (HoldsIf f t P) (is_wsr n) (Ok (record u { board_registers = board_registers_with u.board_registers writes.Wsr n })) (Err BadWindow) p tt
   with_byte_keeps u writes.HsiMode n p = p
   with_byte_keeps u writes.HsoCommand n p = p
   with_byte_keeps u writes.Ioc0 n p = p
@@ -115,7 +115,7 @@ module _ {X : Type 0} (f : Further X) (t : ℕ) (P : X → Type 0) (k : Keeps f 
   loaded_keeps u n None p = p
 
   with_word_keeps : (u : Units X) (r : WritableWord) (n : ℕ) → P u.further → HoldsIf f t P (with_word u r n)
-  with_word_keeps u writes_word.HsoTime n p = loaded_keeps u n (load_refusal u.hso (bit u.steady.ioc2 0)) p
+  with_word_keeps u writes_word.HsoTime n p = loaded_keeps u n (load_refusal u.hso (bit u.board_registers.ioc2 0)) p
   with_word_keeps u writes_word.Timer2 n p = p
   with_word_keeps u writes_word.PtsSelect n p = p
   with_word_keeps u writes_word.PtsService n p = p

@@ -90,7 +90,7 @@ lives_touch (life ∷ others) = life.ran.touch + lives_touch others
 
 -- What is told of these lives. Their text is written whole; or the sink fails in it; or memory is wanting for one of them, and
 -- what was written ends with the line before it.
-abbrev pub AreTold : {X : Type 0} → List (Life X) → Out → Result End LivesFault → Out → Type 0
-AreTold lives old (Ok how) new = (how ≡ last_end lives) × Puts old (lives_text lives) new × (new.failed ≡ false)
-AreTold lives old (Err fault.WriteFault) new = Puts old (lives_text lives) new × (new.failed ≡ true)
-AreTold lives old (Err fault.NoMemory) new = (n : ℕ) × (n < length lives) × Puts old (text_before n lives) new × (new.failed ≡ false)
+abbrev pub AreReported : {X : Type 0} → List (Life X) → Out → Result End LivesFault → Out → Type 0
+AreReported lives old (Ok how) new = (how ≡ last_end lives) × Puts old (lives_text lives) new × (new.failed ≡ false)
+AreReported lives old (Err fault.WriteFault) new = Puts old (lives_text lives) new × (new.failed ≡ true)
+AreReported lives old (Err fault.NoMemory) new = (n : ℕ) × (n < length lives) × Puts old (text_before n lives) new × (new.failed ≡ false)

@@ -10,7 +10,7 @@ use Rattle.kc_machine_spec.specs.declared.doing.End.{End}
 use Rattle.kc_cycles.specs.declared.lives.LivesFault.{LivesFault}
 use Rattle.kc_watchdog.specs.declared.watchdog.Watchdog.{Watchdog}
 use Rattle.kc_watchdog.specs.Watching.{new_watchdog}
-use Rattle.kc_cycles.specs.Lives.{lives_of, lives_touch, work_of_lives, AreTold}
+use Rattle.kc_cycles.specs.Lives.{lives_of, lives_touch, work_of_lives, AreReported}
 
 -- a unit keeps the levels that the inputs have before a state
 abbrev pub KeepsFrom : {X : Type 0} → (ℕ → ℕ → X → Type 0) → Drives → ℕ → X → Type 0
@@ -32,6 +32,6 @@ module _ {X : Type 0} {dx : extra.Ghosts X} {dw : extra.Ghosts Watchdog} where
   pub record Lived (f : Further (Pair X Watchdog dx dw)) (made : ℕ → X) (image : List ℕ) (drives : Drives) (until most : ℕ) (old : Out) (s : ℕ) (result : Result End LivesFault) (new : Out) (t : ℕ) : Type 0 where
     pub unit : ℕ → Pair X Watchdog dx dw
     pub is_made : (from : ℕ) → IsWatched (made from) (unit from)
-    pub told : AreTold (lives_of f deadline_of image drives unit until most) old result new
+    pub reported : AreReported (lives_of f deadline_of image drives unit until most) old result new
     pub spent : t ≤ s + 4 * lives_touch (lives_of f deadline_of image drives unit until most)
     pub worked : t ≤ s + 16 * work_of_lives f deadline_of image drives unit until most

@@ -30,6 +30,6 @@ last-finished (Some activity) xs =
     let m : ℕ = length (drop k xs) - 1 in
     let rest : length (drop k xs) ≡ length xs - k = length-drop k xs in
     let sum : k + m ≡ length xs - 1 = omega arith in
-    let front : length (take (length xs - 1) xs) ≡ length xs - 1 = length-take-le (length xs - 1) xs (omega arith) in
+    let prefix : length (take (length xs - 1) xs) ≡ length xs - 1 = length-take-le (length xs - 1) xs (omega arith) in
     ap (keep_last 32) (sym (drop-take k m xs) ∙ ap (λ i. drop k (take i xs)) sum)
     ∙ last-drop 32 k (take (length xs - 1) xs) (omega arith)

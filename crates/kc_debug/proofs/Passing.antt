@@ -22,7 +22,7 @@ use Rattle.kc_machine.specs.Stepping.{IsBrief}
 use Rattle.kc_debug.specs.declared.activities.Begun.{Begun}
 use Rattle.kc_debug.specs.Activities.{begins_unless, beginning, begun_for}
 use Rattle.kc_debug.specs.Stops.{activity_states, is_at_break, states_at_once}
-use Rattle.kc_debug.specs.Passing.{IsKept, Passed, Told, Stood, Spends}
+use Rattle.kc_debug.specs.Passing.{IsKept, Passed, Reported, Stood, Spends}
 use Rattle.kc_debug.specs.Stands.{FailsWithin}
 use Rattle.kc_debug.proofs.Last.{last-append, last-same}
 use Rattle.kc_debug.proofs.Begins.{begun-none, begun-add, begun-ended, begun-activity}
@@ -110,8 +110,8 @@ module _ {X : Type 0} (f : Further X) where
   along-kept m0 o0 r0 i m o r along = kept-last r (r0 ++ begun_for f i m0) along.begun
 
   -- some states of an activity have been told
-  pub activity-told : (n : ℕ) (m : Machine X) (o : Out) (r : Buffer Begun) (x : Machine X) (p : Out) (q : Buffer Begun) → m.ended ≡ None → Passed f n m o r x p q → Told f n m o r p q
-  activity-told n m o r x p q lives next = record {
+  pub activity-reported : (n : ℕ) (m : Machine X) (o : Out) (r : Buffer Begun) (x : Machine X) (p : Out) (q : Buffer Begun) → m.ended ≡ None → Passed f n m o r x p q → Reported f n m o r p q
+  activity-reported n m o r x p q lives next = record {
     some = next.some;
     lines = next.lines;
     begun = next.begun ∙ ap (λ xs. buffer (keep_last r.capacity (r.items ++ xs)) r.capacity) (sym (begun-activity f n m lives next.some next.few));
@@ -131,8 +131,8 @@ module _ {X : Type 0} (f : Further X) where
 
   -- some states more
   pub along-next : (m0 : Machine X) (o0 : Out) (r0 : List Begun) (i n : ℕ) (m : Machine X) (o : Out) (r : Buffer Begun) (x : Machine X) (p : Out) (q : Buffer Begun) →
-      Along m0 o0 r0 i m o r → Told f n m o r p q → Stood f n m x → Along m0 o0 r0 (i + n) x p q
-  along-next m0 o0 r0 i n m o r x p q along told stood =
+      Along m0 o0 r0 i m o r → Reported f n m o r p q → Stood f n m x → Along m0 o0 r0 (i + n) x p q
+  along-next m0 o0 r0 i n m o r x p q along reported stood =
       let mid : Machine X = (run_for f i m0).machine in
       let same : run_for f n m ≡ run_for f n mid = ap (run_for f n) along.machine in
       let all : run_for f (i + n) m0 ≡ and_then (run_for f i m0) (run_for f n) = run_for-add f i n m0 in
@@ -142,8 +142,8 @@ module _ {X : Type 0} (f : Further X) where
       ∙ ap (λ xs. r0 ++ xs) (sym (begun-add f i n m0)) in
       record {
         machine = stood.machine ∙ ap (λ (s : Stepped X). s.machine) same ∙ ap (λ (s : Stepped X). s.machine) (sym all);
-        lines = along-lines m0 o0 r0 i n m o r p along told.lines;
-        begun = told.begun
+        lines = along-lines m0 o0 r0 i n m o r p along reported.lines;
+        begun = reported.begun
             ∙ ap (λ (b : Buffer Begun). buffer (keep_last b.capacity (b.items ++ begun_for f n m)) b.capacity) along.begun
             ∙ ap (λ xs. buffer xs 33) (last-append 33 (r0 ++ begun_for f i m0) (begun_for f n m) ∙ ap (keep_last 33) more);
       }

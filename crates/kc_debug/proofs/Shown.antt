@@ -31,15 +31,15 @@ module _ {X : Type 0} (f : Further X) (m : Machine X) where
 
 module _ {A : Type 0} (line : A → List ℕ) where
   -- no item yet
-  pub told-none : (o : Out) (first : ℕ) (xs : List A) → Puts o (flat_map line (drop first (take first xs))) o
-  told-none o first xs =
+  pub reported-none : (o : Out) (first : ℕ) (xs : List A) → Puts o (flat_map line (drop first (take first xs))) o
+  reported-none o first xs =
       let none : drop first (take first xs) ≡ [] = drop_all first (take first xs) (omega (arith, length-take first xs)) in
       subst (λ ys. Puts o (flat_map line ys) o) (sym none) (Puts-nothing o)
 
   -- one item more
-  pub told-more : (o p q : Out) (first n : ℕ) (xs : List A) (x : A) → first ≤ n → n < length xs → get_or xs n x ≡ x →
+  pub reported-more : (o p q : Out) (first n : ℕ) (xs : List A) (x : A) → first ≤ n → n < length xs → get_or xs n x ≡ x →
       Puts o (flat_map line (drop first (take n xs))) p → Puts p (line x) q → Puts o (flat_map line (drop first (take (n + 1) xs))) q
-  told-more o p q first n xs x after within is h k =
+  reported-more o p q first n xs x after within is h k =
       let more : take (n + 1) xs ≡ take n xs ++ x ∷ [] = take_more xs n x within ∙ ap (λ y. take n xs ++ y ∷ []) is in
       let longer : drop first (take (n + 1) xs) ≡ drop first (take n xs) ++ x ∷ [] =
       ap (drop first) more ∙ drop-append-le first (take n xs) (x ∷ []) (omega (arith, length-take-le n xs)) in
@@ -64,5 +64,5 @@ lost-behind xs n e = elim (slice_get_cases xs n).1 [
   | inr none ↦ none.0
 ]
 
-pub told-same : {A : Type 0} (line : A → List ℕ) (o p : Out) (first n : ℕ) (xs : List A) → length xs ≤ n → Puts o (flat_map line (drop first (take n xs))) p → Puts o (flat_map line (drop first (take (n + 1) xs))) p
-told-same line o p first n xs past h = subst (λ ys. Puts o (flat_map line (drop first ys)) p) (take_all n xs past ∙ sym (take_all (n + 1) xs (omega arith))) h
+pub reported-same : {A : Type 0} (line : A → List ℕ) (o p : Out) (first n : ℕ) (xs : List A) → length xs ≤ n → Puts o (flat_map line (drop first (take n xs))) p → Puts o (flat_map line (drop first (take (n + 1) xs))) p
+reported-same line o p first n xs past h = subst (λ ys. Puts o (flat_map line (drop first ys)) p) (take_all n xs past ∙ sym (take_all (n + 1) xs (omega arith))) h

@@ -29,7 +29,7 @@ module _ {X : Type 0} (f : Further X) where
   IsClear breaks states m = (i : ℕ) → 0 < i → i < states → is_at_break breaks (run_for f i m).machine ≡ false
 
   -- the lines of some states have been put, and the activities that begin in them are noted
-  pub record Told (states : ℕ) (m : Machine X) (o : Out) (r : Buffer Begun) (p : Out) (q : Buffer Begun) : Type 0 where
+  pub record Reported (states : ℕ) (m : Machine X) (o : Out) (r : Buffer Begun) (p : Out) (q : Buffer Begun) : Type 0 where
     pub some : 0 < states
     pub lines : Prints o (run_for f states m).records p
     pub begun : q ≡ buffer (keep_last r.capacity (r.items ++ begun_for f states m)) r.capacity

@@ -6,8 +6,8 @@ ghost use Rattle.kc_trace.specs.Trace.{out_of};
 ghost use Rattle.kc_machine_spec.specs.Machine.{current};
 ghost use Rattle.kc_machine_spec.specs.Run.{run_for};
 ghost use Rattle.kc_machine.specs.Stepping.{IdlesFor};
-ghost use Rattle.kc_debug.specs.Faults.{TellsFault};
-ghost use Rattle.kc_debug.specs.Passing.{IsKept, Passed, IsClear, Told, Stood, Gone, Spends};
+ghost use Rattle.kc_debug.specs.Faults.{ReportsFault};
+ghost use Rattle.kc_debug.specs.Passing.{IsKept, Passed, IsClear, Reported, Stood, Gone, Spends};
 ghost use Rattle.kc_debug.specs.Stands.{FailsWithin};
 ghost use Rattle.kc_debug.specs.Stops.{activity_states, is_at_break as stands_at_break, states_at_once, states_of_activities, states_of_run};
 
@@ -36,7 +36,7 @@ fn pass_activity<X: Extra + Drop, S: Sink, L: Ledger>(
     ensures passed { Passed X.further (current machine.old.machine).left machine.old.machine (out_of S.written S.faults out.old) begun.old machine.new.machine (out_of S.written S.faults out.new) begun.new }
     ensures few { (current machine.old.machine).left ≤ 255 }
     ensures spent { Spends X.further (current machine.old.machine).left machine.old steps.old machine.new steps.new }
-    ensures fault { TellsFault result out.new.failed }
+    ensures fault { ReportsFault result out.new.failed }
 {
     note(begun, machine);
     match machine.step_activity(out, steps) {
@@ -58,7 +58,7 @@ fn pass_state<X: Extra + Drop, S: Sink, L: Ledger>(
     requires unbroken { out.old.failed ≡ false }
     ensures passed { Passed X.further 1 machine.old.machine (out_of S.written S.faults out.old) begun.old machine.new.machine (out_of S.written S.faults out.new) begun.new }
     ensures spent { Spends X.further 1 machine.old steps.old machine.new steps.new }
-    ensures fault { TellsFault result out.new.failed }
+    ensures fault { ReportsFault result out.new.failed }
 {
     note(begun, machine);
     let next = machine.now() + 1;
@@ -81,12 +81,12 @@ fn pass_idle<X: Extra + Drop, S: Sink, L: Ledger>(
     requires room { end ≤ 2 * 10 ^ 15 }
     requires idles { IdlesFor X.further (end - machine.old.machine.time) machine.old.machine }
     requires unbroken { out.old.failed ≡ false }
-    ensures told { Told X.further (end - machine.old.machine.time) machine.old.machine (out_of S.written S.faults out.old) begun.old (out_of S.written S.faults out.new) begun.new }
+    ensures reported { Reported X.further (end - machine.old.machine.time) machine.old.machine (out_of S.written S.faults out.old) begun.old (out_of S.written S.faults out.new) begun.new }
     ensures stood { OnOk result (Stood X.further (end - machine.old.machine.time) machine.old.machine machine.new.machine) }
     ensures fails { OnErr result (FailsWithin X.further (λ m. 1) (end - machine.old.machine.time) machine.old.machine (out_of S.written S.faults out.old) machine.new.machine (out_of S.written S.faults out.new)) }
     ensures spent { Spends X.further (end - machine.old.machine.time) machine.old steps.old machine.new steps.new }
     ensures within { machine.new.machine.time ≤ end }
-    ensures fault { TellsFault result out.new.failed }
+    ensures fault { ReportsFault result out.new.failed }
 {
     note_idle(begun, end, machine);
     match machine.run(end, out, steps) {
@@ -108,10 +108,10 @@ fn pass_some<X: Extra + Drop, S: Sink, L: Ledger>(
     requires some { 0 < left }
     requires room { machine.old.machine.time + 255 * left ≤ 2 * 10 ^ 15 }
     requires unbroken { out.old.failed ≡ false }
-    ensures passed { (states : ℕ) × (rest : ℕ) × (states_of_activities X.further left machine.old.machine ≡ states + rest) × Told X.further states machine.old.machine (out_of S.written S.faults out.old) begun.old (out_of S.written S.faults out.new) begun.new × OnErr result (FailsWithin X.further activity_states states machine.old.machine (out_of S.written S.faults out.old) machine.new.machine (out_of S.written S.faults out.new)) × Spends X.further states machine.old steps.old machine.new steps.new × IfOk result (λ passed. Stood X.further states machine.old.machine machine.new.machine × (rest ≡ states_of_activities X.further (left - passed) machine.new.machine)) }
+    ensures passed { (states : ℕ) × (rest : ℕ) × (states_of_activities X.further left machine.old.machine ≡ states + rest) × Reported X.further states machine.old.machine (out_of S.written S.faults out.old) begun.old (out_of S.written S.faults out.new) begun.new × OnErr result (FailsWithin X.further activity_states states machine.old.machine (out_of S.written S.faults out.old) machine.new.machine (out_of S.written S.faults out.new)) × Spends X.further states machine.old steps.old machine.new steps.new × IfOk result (λ passed. Stood X.further states machine.old.machine machine.new.machine × (rest ≡ states_of_activities X.further (left - passed) machine.new.machine)) }
     ensures some { IfOk result (λ passed. (0 < passed) × (passed ≤ left) × (machine.new.machine.time + 255 * (left - passed) ≤ machine.old.machine.time + 255 * left)) }
     ensures time { machine.new.machine.time ≤ machine.old.machine.time + 255 * left }
-    ensures fault { TellsFault result out.new.failed }
+    ensures fault { ReportsFault result out.new.failed }
 {
     let now = machine.now();
     let end = machine.idles_to(now + u64::from(left));
@@ -146,7 +146,7 @@ pub(crate) fn step<X: Extra + Drop, S: Sink, L: Ledger>(
     ensures spent { Spends X.further (states_of_activities X.further count machine.old.machine) machine.old steps.old machine.new steps.new }
     ensures time { machine.new.machine.time ≤ machine.old.machine.time + 255 * count }
     ensures capacity { begun.new.capacity ≡ 33 }
-    ensures fault { TellsFault result out.new.failed }
+    ensures fault { ReportsFault result out.new.failed }
 {
     let mut left = count;
     while left > 0 {
@@ -199,7 +199,7 @@ fn pass_one<X: Extra + Drop, S: Sink, L: Ledger>(
     ensures passed { Passed X.further (states_at_once until machine.old.machine) machine.old.machine (out_of S.written S.faults out.old) begun.old machine.new.machine (out_of S.written S.faults out.new) begun.new }
     ensures few { states_at_once until machine.old.machine ≤ until - machine.old.machine.time }
     ensures spent { Spends X.further (states_at_once until machine.old.machine) machine.old steps.old machine.new steps.new }
-    ensures fault { TellsFault result out.new.failed }
+    ensures fault { ReportsFault result out.new.failed }
 {
     if is_near(until, machine.now()) {
         pass_state(begun, machine, out, steps)
@@ -236,9 +236,9 @@ fn pass<X: Extra + Drop, S: Sink, L: Ledger>(
     requires ahead { machine.old.machine.time < until }
     requires room { until ≤ 2 * 10 ^ 15 }
     requires unbroken { out.old.failed ≡ false }
-    ensures passed { (states : ℕ) × (states ≤ until - machine.old.machine.time) × IsClear X.further breaks.now states machine.old.machine × Told X.further states machine.old.machine (out_of S.written S.faults out.old) begun.old (out_of S.written S.faults out.new) begun.new × OnErr result (FailsWithin X.further (states_at_once until) states machine.old.machine (out_of S.written S.faults out.old) machine.new.machine (out_of S.written S.faults out.new)) × Spends X.further states machine.old steps.old machine.new steps.new × OnOk result (Stood X.further states machine.old.machine machine.new.machine) }
+    ensures passed { (states : ℕ) × (states ≤ until - machine.old.machine.time) × IsClear X.further breaks.now states machine.old.machine × Reported X.further states machine.old.machine (out_of S.written S.faults out.old) begun.old (out_of S.written S.faults out.new) begun.new × OnErr result (FailsWithin X.further (states_at_once until) states machine.old.machine (out_of S.written S.faults out.old) machine.new.machine (out_of S.written S.faults out.new)) × Spends X.further states machine.old steps.old machine.new steps.new × OnOk result (Stood X.further states machine.old.machine machine.new.machine) }
     ensures within { machine.new.machine.time ≤ until }
-    ensures fault { TellsFault result out.new.failed }
+    ensures fault { ReportsFault result out.new.failed }
 {
     let end = idle_end(breaks, until, machine);
     if machine.now() < end {
@@ -267,7 +267,7 @@ pub(crate) fn go<X: Extra + Drop, S: Sink, L: Ledger>(
     ensures spent { Spends X.further (states_of_run X.further breaks.now until machine.old.machine) machine.old steps.old machine.new steps.new }
     ensures time { machine.new.machine.time ≤ max until machine.old.machine.time }
     ensures capacity { begun.new.capacity ≡ 33 }
-    ensures fault { TellsFault result out.new.failed }
+    ensures fault { ReportsFault result out.new.failed }
 {
     while machine.now() < until {
         if machine.ended().is_some() {

@@ -6,7 +6,7 @@ ghost use Rattle.kc_machine_spec.specs.Run.{end_of};
 ghost use Rattle.kc_debug_script.specs.Commands.{IsBounded};
 ghost use Rattle.kc_debug_script.specs.declared.fault.DebugFault.TheVariants as faults;
 ghost use Rattle.kc_debug_script.specs.Script.{is_break, AreBounded};
-ghost use Rattle.kc_debug.specs.Faults.{TellsFault};
+ghost use Rattle.kc_debug.specs.Faults.{ReportsFault};
 ghost use Rattle.kc_debug.specs.Passing.{IsKept, Gone, Spends};
 ghost use Rattle.kc_debug.specs.Stops.{activity_states, states_at_once, states_of_activities, states_of_run};
 ghost use Rattle.kc_debug.specs.Transcript.{after_command, gone_for, quits, transcript, untouched};
@@ -15,7 +15,7 @@ ghost use Rattle.kc_debug.specs.Stands.{at_once_in, bytes_of, bytes_shown, state
 
 use crate::activities::{Begun, KEPT};
 use crate::carrying::{go, step};
-use crate::showing::{show, tell_history, tell_stand};
+use crate::showing::{report_history, report_stand, show};
 use arrayvec::ArrayVec;
 use circular_buffer::HeapCircularBuffer;
 use kc_base::{NoMemory, Sink, StateTime, Steps};
@@ -95,11 +95,11 @@ impl Sitting {
         ensures time { machine.new.machine.time ≤ machine.old.machine.time + 255 * count }
         ensures capacity { self.new.begun.capacity ≡ 33 }
         ensures breaks { self.new.breaks ≡ self.old.breaks }
-        ensures fault { TellsFault result out.new.failed }
+        ensures fault { ReportsFault result out.new.failed }
     {
         let before = machine.ended();
         step(&mut self.begun, count, machine, out, steps)?;
-        tell_stand(before, machine, out)
+        report_stand(before, machine, out)
     }
 
     // Goes on to a state or a breakpoint, and tells where the machine stands.
@@ -120,7 +120,7 @@ impl Sitting {
         ensures time { machine.new.machine.time ≤ max until machine.old.machine.time }
         ensures capacity { self.new.begun.capacity ≡ 33 }
         ensures breaks { self.new.breaks ≡ self.old.breaks }
-        ensures fault { TellsFault result out.new.failed }
+        ensures fault { ReportsFault result out.new.failed }
     {
         let before = machine.ended();
         go(
@@ -131,7 +131,7 @@ impl Sitting {
             out,
             steps,
         )?;
-        tell_stand(before, machine, out)
+        report_stand(before, machine, out)
     }
 
     // Carries out a command.
@@ -157,7 +157,7 @@ impl Sitting {
         ensures moves { machine.new.moves ≤ machine.old.moves + (4 * touch_in X.further command (seen machine.old.machine self.old) + bytes_of command) }
         ensures time { machine.new.machine.time ≤ max (10 ^ 15) machine.old.machine.time + 255000000 }
         ensures capacity { self.new.begun.capacity ≡ 33 }
-        ensures fault { TellsFault result out.new.failed }
+        ensures fault { ReportsFault result out.new.failed }
     {
         match command {
             Command::Step(count) => self.step(count, machine, out, steps),
@@ -172,7 +172,7 @@ impl Sitting {
                 machine.poke(addr, value);
                 Ok(())
             }
-            Command::History => tell_history(lines, &self.begun, machine, out),
+            Command::History => report_history(lines, &self.begun, machine, out),
             Command::Quit => Ok(()),
         }
     }
@@ -197,7 +197,7 @@ impl Sitting {
         ensures spent { steps.new ≤ steps.old + 4 * touch_of X.further lines.now commands.now (untouched machine.old.machine) }
         ensures moves { machine.new.moves ≤ machine.old.moves + (4 * touch_of X.further lines.now commands.now (untouched machine.old.machine) + bytes_shown commands.now) }
         ensures capacity { self.new.begun.capacity ≡ 33 }
-        ensures fault { TellsFault result out.new.failed }
+        ensures fault { ReportsFault result out.new.failed }
     {
         for index in 0..commands.len() {
             let command = command_at(commands, index);

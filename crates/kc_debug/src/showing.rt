@@ -7,7 +7,7 @@ ghost use Rattle.kc_trace.specs.Trace.{out_of};
 ghost use Rattle.kc_machine_spec.specs.Text.{HasRun};
 ghost use Rattle.kc_debug_script.specs.LineMap.{entry_at};
 ghost use Rattle.kc_debug.specs.Activities.{finished};
-ghost use Rattle.kc_debug.specs.Faults.{TellsFault};
+ghost use Rattle.kc_debug.specs.Faults.{ReportsFault};
 ghost use Rattle.kc_debug.specs.Lines.{activity_line as line_of_activity, memory_lines, source_place, stand_line as line_of_stand};
 ghost use Rattle.kc_debug.specs.Transcript.{history_length, new_end};
 
@@ -21,10 +21,10 @@ use kc_machine::{End, Machine, WriteFault};
 use kc_trace::TraceOut;
 
 /// How many activities are told.
-const TOLD: usize = 32;
+const REPORTED: usize = 32;
 
 // Tells the end, where the machine lived before.
-fn tell_end<X: Extra + Drop, S: Sink>(
+fn report_end<X: Extra + Drop, S: Sink>(
     before: Option<End>,
     machine: &Machine<X>,
     out: &mut TraceOut<S>,
@@ -32,7 +32,7 @@ fn tell_end<X: Extra + Drop, S: Sink>(
     requires unbroken { out.old.failed ≡ false }
     requires ran { before ≡ None → IfSome machine.now.machine.ended (λ how. HasRun how machine.now.machine.time) }
     ensures text { Puts (out_of S.written S.faults out.old) (text_of (new_end before machine.now.machine)) (out_of S.written S.faults out.new) }
-    ensures fault { TellsFault result out.new.failed }
+    ensures fault { ReportsFault result out.new.failed }
 {
     match before {
         Some(_) => Ok(()),
@@ -44,7 +44,7 @@ fn tell_end<X: Extra + Drop, S: Sink>(
 }
 
 /// Tells the end, where the machine lived before, and where the machine stands.
-pub(crate) fn tell_stand<X: Extra + Drop, S: Sink>(
+pub(crate) fn report_stand<X: Extra + Drop, S: Sink>(
     before: Option<End>,
     machine: &Machine<X>,
     out: &mut TraceOut<S>,
@@ -52,9 +52,9 @@ pub(crate) fn tell_stand<X: Extra + Drop, S: Sink>(
     requires unbroken { out.old.failed ≡ false }
     requires ran { before ≡ None → IfSome machine.now.machine.ended (λ how. HasRun how machine.now.machine.time) }
     ensures text { Puts (out_of S.written S.faults out.old) (text_of (new_end before machine.now.machine) ++ line_of_stand machine.now.machine) (out_of S.written S.faults out.new) }
-    ensures fault { TellsFault result out.new.failed }
+    ensures fault { ReportsFault result out.new.failed }
 {
-    tell_end(before, machine, out)?;
+    report_end(before, machine, out)?;
     out.put_text(stand_line(machine).as_slice());
     out.written()
 }
@@ -70,7 +70,7 @@ pub(crate) fn show<X: Extra + Drop, S: Sink>(
     ensures text { Puts (out_of S.written S.faults out.old) (memory_lines X.further machine.old.machine from count) (out_of S.written S.faults out.new) }
     ensures same { machine.new.machine ≡ machine.old.machine }
     ensures moves { machine.new.moves ≤ machine.old.moves + count }
-    ensures fault { TellsFault result out.new.failed }
+    ensures fault { ReportsFault result out.new.failed }
 {
     for row in 0..(count + 15) / 16 {
         let first = 16 * row;
@@ -81,7 +81,7 @@ pub(crate) fn show<X: Extra + Drop, S: Sink>(
 }
 
 // Tells the source line of an address, where there is one.
-fn tell_place<S: Sink>(lines: &LineMap, addr: u16, out: &mut TraceOut<S>)
+fn report_place<S: Sink>(lines: &LineMap, addr: u16, out: &mut TraceOut<S>)
     ensures { Puts (out_of S.written S.faults out.old) (source_place (entry_at lines.now addr)) (out_of S.written S.faults out.new) }
 {
     match lines.find(addr) {
@@ -95,23 +95,23 @@ fn tell_place<S: Sink>(lines: &LineMap, addr: u16, out: &mut TraceOut<S>)
 }
 
 // Tells an activity, with its source line.
-fn tell_activity<S: Sink>(lines: &LineMap, begun: &Begun, out: &mut TraceOut<S>)
+fn report_activity<S: Sink>(lines: &LineMap, begun: &Begun, out: &mut TraceOut<S>)
     ensures { Puts (out_of S.written S.faults out.old) (line_of_activity lines.now begun.now) (out_of S.written S.faults out.new) }
 {
     out.put_text(activity_fields(begun).as_slice());
-    tell_place(lines, begun.pc, out);
+    report_place(lines, begun.pc, out);
     out.put_text(b"\n");
 }
 
 /// Tells the last activities that have finished, oldest first.
-pub(crate) fn tell_history<X: Extra + Drop, S: Sink>(
+pub(crate) fn report_history<X: Extra + Drop, S: Sink>(
     lines: &LineMap,
     begun: &HeapCircularBuffer<Begun>,
     machine: &Machine<X>,
     out: &mut TraceOut<S>,
 ) -> Result<(), WriteFault>
     ensures text { Puts (out_of S.written S.faults out.old) (flat_map (line_of_activity lines.now) (keep_last history_length (finished machine.now.machine.under_way begun.now.items))) (out_of S.written S.faults out.new) }
-    ensures fault { TellsFault result out.new.failed }
+    ensures fault { ReportsFault result out.new.failed }
 {
     let len = begun.len();
     let done = if machine.between() {
@@ -119,10 +119,10 @@ pub(crate) fn tell_history<X: Extra + Drop, S: Sink>(
     } else {
         len.saturating_sub(1)
     };
-    let first = done.saturating_sub(TOLD);
+    let first = done.saturating_sub(REPORTED);
     for index in first..done {
         match begun.get(index) {
-            Some(activity) => tell_activity(lines, activity, out),
+            Some(activity) => report_activity(lines, activity, out),
             None => {}
         }
     }

@@ -68,7 +68,7 @@ module _ {A : Type 0} (meaning : List ℕ → Option A) (may : List A → A → 
   pub reads : (read : List ℕ → Result (List A) ℕ) → ((text : List ℕ) → read text ≡ said says [] (text_lines text)) → ReadsLines meaning Keep read
   reads read is = record {
     all = λ text xs. (
-      λ h. let told = forward [] (text_lines text) xs rule.none (sym (is text) ∙ h) in record { each = told.1.1 ∙ ap (map Some) (sym told.1.0); keep = told.1.2 },
+      λ h. let reported = forward [] (text_lines text) xs rule.none (sym (is text) ∙ h) in record { each = reported.1.1 ∙ ap (map Some) (sym reported.1.0); keep = reported.1.2 },
       λ h. is text ∙ backward [] (text_lines text) xs h.each h.keep,
     );
     fault = λ text line h.
@@ -76,12 +76,12 @@ module _ {A : Type 0} (meaning : List ℕ → Option A) (may : List A → A → 
         let whole : line - 0 ≡ line = omega arith in
         let upto : said says [] (take line (text_lines text)) ≡ Err line = ap (λ k. said says [] (take k (text_lines text))) (sym whole) ∙ cut.2 in
         let less : line - 0 - 1 ≡ line - 1 = omega arith in
-        let front : said says [] (take (line - 1) (text_lines text)) ≡ Ok cut.3.0 = ap (λ k. said says [] (take k (text_lines text))) (sym less) ∙ cut.3.1 in
-        let told = forward [] (take (line - 1) (text_lines text)) cut.3.0 rule.none front in
+        let prefix : said says [] (take (line - 1) (text_lines text)) ≡ Ok cut.3.0 = ap (λ k. said says [] (take k (text_lines text))) (sym less) ∙ cut.3.1 in
+        let reported = forward [] (take (line - 1) (text_lines text)) cut.3.0 rule.none prefix in
         record {
           first = omega (arith, cut.0);
           within = omega (arith, cut.1);
-          before = (cut.3.0, record { each = told.1.1 ∙ ap (map Some) (sym told.1.0); keep = told.1.2 });
+          before = (cut.3.0, record { each = reported.1.1 ∙ ap (map Some) (sym reported.1.0); keep = reported.1.2 });
           wrong = λ xs say. not_both xs line (said says [] (take line (text_lines text))) (backward [] (take line (text_lines text)) xs say.each say.keep) upto;
         };
   }

@@ -27,22 +27,22 @@ said-nil says before = refl
 pub said-some : {A : Type 0} (says : List A → List ℕ → Option A) (before : List A) (line : List ℕ) (lines : List (List ℕ)) (a : A) →
     says before line ≡ Some a → said says before (line ∷ lines) ≡ said says (before ++ a ∷ []) lines
 unfolding said
-said-some says before line lines a told = ap (or_at (length before + 1) (λ b. said says (before ++ b ∷ []) lines)) told
+said-some says before line lines a reported = ap (or_at (length before + 1) (λ b. said says (before ++ b ∷ []) lines)) reported
 
 pub said-none : {A : Type 0} (says : List A → List ℕ → Option A) (before : List A) (line : List ℕ) (lines : List (List ℕ)) →
     says before line ≡ None → said says before (line ∷ lines) ≡ Err (length before + 1)
 unfolding said
-said-none says before line lines told = ap (or_at (length before + 1) (λ b. said says (before ++ b ∷ []) lines)) told
+said-none says before line lines reported = ap (or_at (length before + 1) (λ b. said says (before ++ b ∷ []) lines)) reported
 
 -- ---- the first line of a text
 
 pub text-some : {A : Type 0} (says : List A → List ℕ → Option A) (before : List A) (text line rest : List ℕ) (a : A) →
     text_lines text ≡ line ∷ text_lines rest → says before line ≡ Some a → said says (before ++ a ∷ []) (text_lines rest) ≡ said says before (text_lines text)
-text-some says before text line rest a split told = sym (ap (said says before) split ∙ said-some says before line (text_lines rest) a told)
+text-some says before text line rest a split reported = sym (ap (said says before) split ∙ said-some says before line (text_lines rest) a reported)
 
 pub text-none : {A : Type 0} (says : List A → List ℕ → Option A) (before : List A) (text line rest : List ℕ) →
     text_lines text ≡ line ∷ text_lines rest → says before line ≡ None → said says before (text_lines text) ≡ Err (length before + 1)
-text-none says before text line rest split told = ap (said says before) split ∙ said-none says before line (text_lines rest) told
+text-none says before text line rest split reported = ap (said says before) split ∙ said-none says before line (text_lines rest) reported
 
 pub text-nil : {A : Type 0} (says : List A → List ℕ → Option A) (before : List A) (text : List ℕ) → length text ≡ 0 → said says before (text_lines text) ≡ Ok before
 unfolding text_lines

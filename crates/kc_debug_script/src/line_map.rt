@@ -6,7 +6,7 @@ ghost use Rattle.kc_debug_script.specs.LineMap.{map_address as address_in_map, i
 
 use crate::fault::DebugFault;
 use crate::fields::number;
-use kc_base::{NoMemory, Text, after, first_line, front, hex_word, split_at_space};
+use kc_base::{NoMemory, Text, after, first_line, hex_word, prefix, split_at_space};
 use kc_obj_module::names::name_is_sound;
 use std::alloc::Global;
 use std::marker::Model;
@@ -145,7 +145,7 @@ impl LineMap {
         let mut rest = bytes;
         while !rest.is_empty() {
             let (len, used) = first_line(rest);
-            match next_entry(alloc, entries.as_slice(), front(rest, len))? {
+            match next_entry(alloc, entries.as_slice(), prefix(rest, len))? {
                 Some(entry) => push(&mut entries, entry)?,
                 None => return Err(DebugFault::BadMap(entries.len() as u32 + 1)),
             }

@@ -3,7 +3,7 @@ ghost use Rattle.kc_debug_script.specs.Script.{is_break as sets_breakpoint, may_
 
 use crate::command::{Command, read_command};
 use crate::fault::DebugFault;
-use kc_base::{NoMemory, after, first_line, front};
+use kc_base::{NoMemory, after, first_line, prefix};
 use std::alloc::Global;
 use std::marker::Model;
 
@@ -84,7 +84,7 @@ impl Script {
         let mut rest = bytes;
         while !rest.is_empty() {
             let (len, used) = first_line(rest);
-            match next_command(commands.as_slice(), front(rest, len)) {
+            match next_command(commands.as_slice(), prefix(rest, len)) {
                 Some(command) => push(&mut commands, command)?,
                 None => return Err(DebugFault::BadCommand(commands.len() as u32 + 1)),
             }

@@ -49,9 +49,9 @@ pub fn combine(op: Operation, byte: bool, a: u16, s: u16, flags: Flags) -> (u16,
         Operation::AddCarry => sum(byte, a, s, true, flags),
         Operation::Sub | Operation::Compare => difference(byte, a, s, false, flags),
         Operation::SubBorrow => difference(byte, a, s, true, flags),
-        Operation::And => judged(byte, and(byte, a, s), flags),
-        Operation::Or => judged(byte, or(byte, a, s), flags),
-        Operation::Xor => judged(byte, xor(byte, a, s), flags),
+        Operation::And => checked(byte, and(byte, a, s), flags),
+        Operation::Or => checked(byte, or(byte, a, s), flags),
+        Operation::Xor => checked(byte, xor(byte, a, s), flags),
     }
 }
 
@@ -64,8 +64,8 @@ pub fn change(how: Alteration, byte: bool, n: u16, flags: Flags) -> (u16, Flags)
     ensures flags { result.1 ≡ altered_flags how (half_of (width byte)) n flags }
 {
     match how {
-        Alteration::Clear => judged(byte, 0, flags),
-        Alteration::Complement => judged(byte, complement(byte, n), flags),
+        Alteration::Clear => checked(byte, 0, flags),
+        Alteration::Complement => checked(byte, complement(byte, n), flags),
         Alteration::Negate => difference(byte, 0, n, false, flags),
         Alteration::Increment => sum(byte, n, 1, false, flags),
         Alteration::Decrement => difference(byte, n, 1, false, flags),
@@ -95,7 +95,7 @@ fn difference(byte: bool, a: u16, s: u16, chained: bool, flags: Flags) -> (u16, 
 }
 
 #[inline(always)]
-fn judged(byte: bool, value: u16, flags: Flags) -> (u16, Flags)
+fn checked(byte: bool, value: u16, flags: Flags) -> (u16, Flags)
     requires { value < limit byte }
     ensures value { result.0 ≡ value }
     ensures flags { result.1 ≡ logic_flags (half_of (width byte)) value flags }

@@ -1,2 +1,2 @@
 mod Fixed
-mod Told
+mod Known

@@ -25,7 +25,7 @@ use Rattle.kc_exec_spec.specs.Plans.{plan_of}
 use Rattle.kc_exec_spec.specs.Places.{is_outside, word_seen, operand_outside, is_push, is_pop, jump_taken, place_of, ◌>>=◌}
 use Rattle.kc_exec_ready.specs.declared.cost.Cost.{Cost}
 use Rattle.kc_exec_ready.specs.declared.cost.Cost.TheVariants as cost
-use Rattle.kc_exec_ready.specs.declared.ready.Ready.{Ready}
+use Rattle.kc_exec_ready.specs.declared.predecoded.Predecoded.{Predecoded}
 
 -- S stands where a pointer or a base leads
 abbrev pub is_pointing : Operand → Bool
@@ -41,9 +41,9 @@ is_counting (Count n) = not (nat_lt n 0x10)
 is_counting _ = false
 
 -- the count that the instruction itself tells
-abbrev pub told_count : Operand → ℕ
-told_count (Count n) = if nat_lt n 0x10 then n else 0
-told_count _ = 0
+abbrev pub known_count : Operand → ℕ
+known_count (Count n) = if nat_lt n 0x10 then n else 0
+known_count _ = 0
 
 abbrev pub is_normalize : Plan → Bool
 is_normalize (Compute Normalize) = true
@@ -104,8 +104,8 @@ is_simple cost.Placed = false
 is_simple _ = true
 
 -- the states, where it was found whether the condition holds
-abbrev pub told_at : Ready → Result Bool Kind → Result ℕ Kind
-told_at r found = found >>= λ holds. Ok (if holds then r.other else r.base)
+abbrev pub known_at : Predecoded → Result Bool Kind → Result ℕ Kind
+known_at r found = found >>= λ holds. Ok (if holds then r.other else r.base)
 
 -- the test of a conditional jump and what it has to be
 abbrev pub test_of : Plan → Test × Bool
@@ -113,8 +113,8 @@ test_of (Jump (When test wanted)) = (test, wanted)
 test_of _ = (Sticky, false)
 
 -- what is told of an instruction of this mnemonic
-unfoldable pub ready_of : Mnemonic → Insn → Ready
-ready_of m i = record {
+unfoldable pub predecoded_of : Mnemonic → Insn → Predecoded
+predecoded_of m i = record {
   insn = i;
   mnemonic = m;
   free = is_free (plan_of m);
@@ -122,19 +122,19 @@ ready_of m i = record {
   cost = cost_of (plan_of m) i.operand;
   test = (test_of (plan_of m)).0;
   wanted = (test_of (plan_of m)).1;
-  base = states_of i (place_when (cost_of (plan_of m) i.operand) (told_count i.operand) false);
-  other = states_of i (place_when (cost_of (plan_of m) i.operand) (told_count i.operand) true);
+  base = states_of i (place_when (cost_of (plan_of m) i.operand) (known_count i.operand) false);
+  other = states_of i (place_when (cost_of (plan_of m) i.operand) (known_count i.operand) true);
 }
 
 -- nothing is told: an instruction of no bytes, after which the program does not go on
-abbrev pub is_blank : Ready → Bool
+abbrev pub is_blank : Predecoded → Bool
 is_blank r = not r.free && r.length == 0
 
 -- a well-formed instruction with what is told of it
-pub record IsReady (r : Ready) : Type 0 where
+pub record IsPredecoded (r : Predecoded) : Type 0 where
   pub formed : IsTrue (is_formed r.insn)
   pub named : mnemonic_at r.insn.opcode r.insn.signed ≡ Some r.mnemonic
-  pub told : r ≡ ready_of r.mnemonic r.insn
+  pub known : r ≡ predecoded_of r.mnemonic r.insn
   -- it takes a state at least
   pub some : 0 < r.base
   pub some_other : 0 < r.other

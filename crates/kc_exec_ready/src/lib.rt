@@ -7,13 +7,13 @@ mod cost;
 mod here;
 mod jumping;
 mod moving;
+mod predecoded;
 mod preparing;
-mod ready;
 mod rows;
 mod timing;
 
 pub use cost::Cost;
-pub use preparing::prepare;
-pub use ready::Ready;
-pub use rows::perform_ready;
-pub use timing::{is_followed_freely, is_told, time_of, told_time_of};
+pub use predecoded::Predecoded;
+pub use preparing::predecode;
+pub use rows::perform_predecoded;
+pub use timing::{is_followed_freely, is_known, known_time_of, time_of};

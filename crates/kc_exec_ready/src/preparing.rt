@@ -2,10 +2,10 @@
 ghost use Rattle.std.specs.Prelude.{◌≡◌, ◌≤◌, ◌<◌, IfSome, IfNone, IsTrue, None};
 ghost use Rattle.kc_isa.specs.Formed.{is_formed};
 ghost use Rattle.kc_isa.specs.Names.{mnemonic_at};
-ghost use Rattle.kc_exec_ready.specs.Preparing.{is_pointing, is_counting, told_count, is_normalize, is_conditional, is_free, is_free_setting, cost_among, cost_of, place_when, test_of, ready_of, IsReady};
+ghost use Rattle.kc_exec_ready.specs.Preparing.{is_pointing, is_counting, known_count, is_normalize, is_conditional, is_free, is_free_setting, cost_among, cost_of, place_when, test_of, predecoded_of, IsPredecoded};
 
 use crate::cost::Cost;
-use crate::ready::Ready;
+use crate::predecoded::Predecoded;
 use kc_exec::{is_popping, is_pushing, make_plan};
 use kc_exec_spec::{Computation, Plan, Route, Setting, Test};
 use kc_isa::{Insn, Mnemonic, Operand, Place, length, mnemonic_of, states};
@@ -35,8 +35,8 @@ fn is_counting(operand: Operand) -> bool
     }
 }
 
-fn told_count(operand: Operand) -> u8
-    ensures value { result ≡ told_count operand }
+fn known_count(operand: Operand) -> u8
+    ensures value { result ≡ known_count operand }
     ensures bound { result ≤ 31 }
 {
     match operand {
@@ -133,18 +133,18 @@ fn test_of(plan: Plan) -> (Test, bool)
     }
 }
 
-#[tactic(auto, unfolding(crate::specs::Preparing::ready_of))]
-fn made_ready(insn: &Insn, mnemonic: Mnemonic) -> Ready
+#[tactic(auto, unfolding(crate::specs::Preparing::predecoded_of))]
+fn made_predecoded(insn: &Insn, mnemonic: Mnemonic) -> Predecoded
     requires { IsTrue (is_formed insn.now) }
-    ensures value { result ≡ ready_of mnemonic insn.now }
+    ensures value { result ≡ predecoded_of mnemonic insn.now }
     ensures some { 0 < result.base }
     ensures other { 0 < result.other }
 {
     let plan = make_plan(mnemonic);
     let cost = cost_of(plan, insn.operand);
-    let shifts = told_count(insn.operand);
+    let shifts = known_count(insn.operand);
     let (test, wanted) = test_of(plan);
-    Ready {
+    Predecoded {
         insn: *insn,
         mnemonic,
         free: is_free(plan),
@@ -158,12 +158,12 @@ fn made_ready(insn: &Insn, mnemonic: Mnemonic) -> Ready
 }
 
 /// A well-formed instruction with what is told of it; `None` where its opcode has no row.
-pub fn prepare(insn: &Insn) -> Option<Ready>
+pub fn predecode(insn: &Insn) -> Option<Predecoded>
     requires { IsTrue (is_formed insn.now) }
-    ensures ready { IfSome result IsReady }
+    ensures predecoded { IfSome result IsPredecoded }
     ensures insn { IfSome result (λ r. r.insn ≡ insn.now) }
     ensures none { IfNone result (mnemonic_at insn.now.opcode insn.now.signed ≡ None) }
 {
     let mnemonic = mnemonic_of(insn.opcode, insn.signed)?;
-    Some(made_ready(insn, mnemonic))
+    Some(made_predecoded(insn, mnemonic))
 }

@@ -6,7 +6,7 @@ ghost use Rattle.kc_exec_spec.specs.Effects.{planned, effect_of};
 ghost use Rattle.kc_exec_spec.specs.Jumping.{next_pc};
 ghost use Rattle.kc_exec_spec.specs.Plans.{plan_of};
 ghost use Rattle.kc_bus.specs.Counting.{KeepsCount};
-ghost use Rattle.kc_exec_ready.specs.Preparing.{is_free, is_free_setting, IsReady, GoesOn, ready_of};
+ghost use Rattle.kc_exec_ready.specs.Preparing.{is_free, is_free_setting, IsPredecoded, GoesOn, predecoded_of};
 
 use crate::computing::{alter, compare_long, divide, extend, multiply, normalize, operate, shift};
 use crate::here::Here;
@@ -14,7 +14,7 @@ use crate::jumping::{
     call, come_back, count_down, go, go_by_register, go_by_table, go_on_bit, go_where,
 };
 use crate::moving::{exchange, load, load_sign, load_zeros, pop, push, store};
-use crate::ready::Ready;
+use crate::predecoded::Predecoded;
 use kc_alu::Shift;
 use kc_base::Kind;
 use kc_bus::Bus;
@@ -211,16 +211,20 @@ fn perform_here<B: Bus>(
 /// Performs a prepared instruction at `cpu.pc` after which the program goes on; answers whether an instruction has to follow, or
 /// any activity may. After a refusal the bus is as after the accesses before the refused one, and the registers are as before.
 #[inline(always)]
-#[tactic(auto, unfolding(kc_exec_spec::specs::Effects::effect_of, crate::specs::Preparing::ready_of))]
-pub fn perform_ready<B: Bus>(ready: &Ready, cpu: &mut Cpu, bus: &mut B) -> Result<bool, Kind>
-    requires ready { IsReady ready.now }
-    requires free { is_free (plan_of ready.now.mnemonic) ≡ true }
-    ensures effect { GoesOn result cpu.old cpu.new (B.held bus.new) (run B.meaning (effect_of ready.now.insn cpu.old) (B.held bus.old)) }
+#[tactic(auto, unfolding(kc_exec_spec::specs::Effects::effect_of, crate::specs::Preparing::predecoded_of))]
+pub fn perform_predecoded<B: Bus>(
+    predecoded: &Predecoded,
+    cpu: &mut Cpu,
+    bus: &mut B,
+) -> Result<bool, Kind>
+    requires predecoded { IsPredecoded predecoded.now }
+    requires free { is_free (plan_of predecoded.now.mnemonic) ≡ true }
+    ensures effect { GoesOn result cpu.old cpu.new (B.held bus.new) (run B.meaning (effect_of predecoded.now.insn cpu.old) (B.held bus.old)) }
     ensures count { KeepsCount B.spent B.held B.allowed B.lent bus.old bus.new }
 {
     let here = Here {
-        next: cpu.pc.wrapping_add(u16::from(ready.length)),
+        next: cpu.pc.wrapping_add(u16::from(predecoded.length)),
         wsr: bus.masks().wsr,
     };
-    perform_here(ready.mnemonic, &ready.insn, here, cpu, bus)
+    perform_here(predecoded.mnemonic, &predecoded.insn, here, cpu, bus)
 }

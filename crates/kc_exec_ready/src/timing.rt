@@ -5,10 +5,10 @@ ghost use Rattle.kc_base.specs.declared.types.Kind.TheVariants.{NoRegister as No
 ghost use Rattle.kc_exec_ready.specs.declared.cost.Cost.TheVariants.{Fixed};
 ghost use Rattle.kc_exec_spec.specs.Window.{is_wsr};
 ghost use Rattle.kc_exec_spec.specs.Plans.{plan_of};
-ghost use Rattle.kc_exec_ready.specs.Preparing.{is_free, is_blank, is_simple, holds_at, told_at, time_at, ready_of, IsReady};
+ghost use Rattle.kc_exec_ready.specs.Preparing.{is_free, is_blank, is_simple, holds_at, known_at, time_at, predecoded_of, IsPredecoded};
 
 use crate::cost::Cost;
-use crate::ready::Ready;
+use crate::predecoded::Predecoded;
 use kc_base::Kind;
 use kc_bus::Bus;
 use kc_exec::{is_met, is_operand_outside, place, stack_pointer};
@@ -17,40 +17,40 @@ use kc_isa::states;
 
 /// Whether the program goes on after the instruction: any activity may follow, or an instruction has to.
 #[inline(always)]
-pub fn is_followed_freely(ready: &Ready) -> bool
-    ensures value { result ≡ ready.now.free }
-    ensures told { OnTrue result (is_blank ready.now ≡ false) }
-    ensures free { IsReady ready.now → result ≡ is_free (plan_of ready.now.mnemonic) }
+pub fn is_followed_freely(predecoded: &Predecoded) -> bool
+    ensures value { result ≡ predecoded.now.free }
+    ensures known { OnTrue result (is_blank predecoded.now ≡ false) }
+    ensures free { IsPredecoded predecoded.now → result ≡ is_free (plan_of predecoded.now.mnemonic) }
 {
-    ready.free
+    predecoded.free
 }
 
 /// The states of a place that has to be asked whole.
 #[inline(never)]
-fn placed_time<B: Bus>(ready: &Ready, cpu: Cpu, bus: &B) -> Result<u8, Kind>
-    requires { IsReady ready.now }
-    ensures value { result ≡ time_at ready.now.insn cpu (B.meaning.masks (B.held bus.now)) (B.byte (B.held bus.now)) }
+fn placed_time<B: Bus>(predecoded: &Predecoded, cpu: Cpu, bus: &B) -> Result<u8, Kind>
+    requires { IsPredecoded predecoded.now }
+    ensures value { result ≡ time_at predecoded.now.insn cpu (B.meaning.masks (B.held bus.now)) (B.byte (B.held bus.now)) }
     ensures only { IfErr result (λ k. k ≡ NotThere) }
     ensures some { IfOk result (λ n. 0 < n) }
 {
-    let place = place(&ready.insn, &cpu, bus)?;
-    Ok(states(&ready.insn, place))
+    let place = place(&predecoded.insn, &cpu, bus)?;
+    Ok(states(&predecoded.insn, place))
 }
 
 /// Whether what the states depend on holds.
 #[inline(always)]
-fn is_held<B: Bus>(ready: &Ready, psw: u8, wsr: u8, bus: &B) -> Result<bool, Kind>
-    requires ready { IsReady ready.now }
+fn is_held<B: Bus>(predecoded: &Predecoded, psw: u8, wsr: u8, bus: &B) -> Result<bool, Kind>
+    requires predecoded { IsPredecoded predecoded.now }
     requires window { IsTrue (is_wsr wsr) }
-    ensures value { result ≡ holds_at ready.now.cost (plan_of ready.now.mnemonic) ready.now.insn.operand psw wsr (B.byte (B.held bus.now)) }
+    ensures value { result ≡ holds_at predecoded.now.cost (plan_of predecoded.now.mnemonic) predecoded.now.insn.operand psw wsr (B.byte (B.held bus.now)) }
     ensures only { IfErr result (λ k. k ≡ NotThere) }
 {
-    match ready.cost {
-        Cost::Points if wsr == 0 => Ok(is_operand_outside(bus, false, 0, ready.insn.operand)?),
-        Cost::Points => Ok(is_operand_outside(bus, false, wsr, ready.insn.operand)?),
+    match predecoded.cost {
+        Cost::Points if wsr == 0 => Ok(is_operand_outside(bus, false, 0, predecoded.insn.operand)?),
+        Cost::Points => Ok(is_operand_outside(bus, false, wsr, predecoded.insn.operand)?),
         Cost::Pushes => Ok(stack_pointer(bus).wrapping_sub(2) >= 0x200),
         Cost::Pops => Ok(stack_pointer(bus) >= 0x200),
-        Cost::When => Ok(is_met(ready.test, ready.wanted, psw)),
+        Cost::When => Ok(is_met(predecoded.test, predecoded.wanted, psw)),
         Cost::Fixed | Cost::Placed => Ok(false),
     }
 }
@@ -68,25 +68,29 @@ fn is_simple(cost: Cost) -> bool
 
 // The states where the condition holds, or does not hold.
 #[inline(always)]
-fn told_time(ready: &Ready, holds: bool) -> u8
-    requires { IsReady ready.now }
-    ensures value { result ≡ (if holds then ready.now.other else ready.now.base) }
+fn known_time(predecoded: &Predecoded, holds: bool) -> u8
+    requires { IsPredecoded predecoded.now }
+    ensures value { result ≡ (if holds then predecoded.now.other else predecoded.now.base) }
     ensures some { 0 < result }
 {
-    if holds { ready.other } else { ready.base }
+    if holds {
+        predecoded.other
+    } else {
+        predecoded.base
+    }
 }
 
 // The states that one condition tells.
 #[inline(always)]
-fn simple_time<B: Bus>(ready: &Ready, psw: u8, wsr: u8, bus: &B) -> Result<u8, Kind>
-    requires ready { IsReady ready.now }
+fn simple_time<B: Bus>(predecoded: &Predecoded, psw: u8, wsr: u8, bus: &B) -> Result<u8, Kind>
+    requires predecoded { IsPredecoded predecoded.now }
     requires window { IsTrue (is_wsr wsr) }
-    ensures value { result ≡ told_at ready.now (holds_at ready.now.cost (plan_of ready.now.mnemonic) ready.now.insn.operand psw wsr (B.byte (B.held bus.now))) }
+    ensures value { result ≡ known_at predecoded.now (holds_at predecoded.now.cost (plan_of predecoded.now.mnemonic) predecoded.now.insn.operand psw wsr (B.byte (B.held bus.now))) }
     ensures only { IfErr result (λ k. k ≡ NotThere) }
     ensures some { IfOk result (λ n. 0 < n) }
 {
-    let holds = is_held(ready, psw, wsr, bus)?;
-    Ok(told_time(ready, holds))
+    let holds = is_held(predecoded, psw, wsr, bus)?;
+    Ok(known_time(predecoded, holds))
 }
 
 // Whether nothing but the instruction tells the states.
@@ -99,42 +103,42 @@ fn is_fixed(cost: Cost) -> bool
 
 /// Whether one condition at most tells the states.
 #[inline(always)]
-pub fn is_told(ready: &Ready) -> bool
-    ensures { result ≡ is_simple ready.now.cost }
+pub fn is_known(predecoded: &Predecoded) -> bool
+    ensures { result ≡ is_simple predecoded.now.cost }
 {
-    is_simple(ready.cost)
+    is_simple(predecoded.cost)
 }
 
 /// The states that one condition tells at most, from the registers and the memory that stand at its start. Refused as
 /// `place` refuses it.
 #[inline(always)]
-#[tactic(auto, using(crate::proofs::Fixed::fixed_told))]
-pub fn told_time_of<B: Bus>(ready: &Ready, cpu: Cpu, bus: &B) -> Result<u8, Kind>
-    requires ready { IsReady ready.now }
-    requires told { is_simple ready.now.cost ≡ true }
-    ensures value { result ≡ time_at ready.now.insn cpu (B.meaning.masks (B.held bus.now)) (B.byte (B.held bus.now)) }
+#[tactic(auto, using(crate::proofs::Fixed::fixed_known))]
+pub fn known_time_of<B: Bus>(predecoded: &Predecoded, cpu: Cpu, bus: &B) -> Result<u8, Kind>
+    requires predecoded { IsPredecoded predecoded.now }
+    requires known { is_simple predecoded.now.cost ≡ true }
+    ensures value { result ≡ time_at predecoded.now.insn cpu (B.meaning.masks (B.held bus.now)) (B.byte (B.held bus.now)) }
     ensures only { IfErr result (λ k. k ≡ NotThere) }
     ensures some { IfOk result (λ n. 0 < n) }
 {
-    if is_fixed(ready.cost) {
-        Ok(told_time(ready, false))
+    if is_fixed(predecoded.cost) {
+        Ok(known_time(predecoded, false))
     } else {
-        simple_time(ready, cpu.psw_high, bus.masks().wsr, bus)
+        simple_time(predecoded, cpu.psw_high, bus.masks().wsr, bus)
     }
 }
 
 /// The states of a prepared instruction, from the registers and the memory that stand at its start. Refused as `place`
 /// refuses it.
 #[inline(always)]
-pub fn time_of<B: Bus>(ready: &Ready, cpu: Cpu, bus: &B) -> Result<u8, Kind>
-    requires { IsReady ready.now }
-    ensures value { result ≡ time_at ready.now.insn cpu (B.meaning.masks (B.held bus.now)) (B.byte (B.held bus.now)) }
+pub fn time_of<B: Bus>(predecoded: &Predecoded, cpu: Cpu, bus: &B) -> Result<u8, Kind>
+    requires { IsPredecoded predecoded.now }
+    ensures value { result ≡ time_at predecoded.now.insn cpu (B.meaning.masks (B.held bus.now)) (B.byte (B.held bus.now)) }
     ensures only { IfErr result (λ k. k ≡ NotThere) }
     ensures some { IfOk result (λ n. 0 < n) }
 {
-    if is_told(ready) {
-        told_time_of(ready, cpu, bus)
+    if is_known(predecoded) {
+        known_time_of(predecoded, cpu, bus)
     } else {
-        Ok(placed_time(ready, cpu, bus)?)
+        Ok(placed_time(predecoded, cpu, bus)?)
     }
 }

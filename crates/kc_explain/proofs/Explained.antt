@@ -13,10 +13,10 @@ use Rattle.kc_link_place.specs.declared.ranges.LinkFault.{LinkFault}
 use Rattle.kc_link_place.specs.declared.ranges.LinkFault.TheVariants as link
 use Rattle.kc_kit_files.specs.declared.status.Status.{Status}
 use Rattle.kc_kit_files.specs.declared.status.Status.TheVariants as status
-use Rattle.kc_kit_files.specs.Notes.{too_long}
+use Rattle.kc_kit_files.specs.Diagnostics.{too_long}
 use Rattle.kc_explain.specs.Meanings.{all_said, source_rows, input_rows, run_rows, instruction_rows, first_rows, second_rows, third_rows, fourth_rows, sentence_of, is_among}
 use Rattle.kc_explain.specs.Codes.{all_codes, instruction_codes, lettered, numbered, kind_code, status_code, stimulus_code, rule_code}
-use Rattle.kc_explain.specs.Laws.{IsExplained, FaultsAreExplained, UsesAreExplained, MnemonicsAreExplained, VectorsAreTold, ends_with, vector_words}
+use Rattle.kc_explain.specs.Laws.{IsExplained, FaultsAreExplained, UsesAreExplained, MnemonicsAreExplained, VectorsAreDescribed, ends_with, vector_words}
 
 abbrev all_below : (ℕ → Bool) → ℕ → Bool
 all_below test zero = true
@@ -153,9 +153,9 @@ uses_are_explained = record { kinds = kinds; requests = requests; statuses = sta
 
 -- ---- the vectors of requests
 
-pub vectors_are_told : VectorsAreTold
+pub vectors_are_described : VectorsAreDescribed
 unfolding all_said source_rows input_rows run_rows instruction_rows first_rows second_rows third_rows fourth_rows
-vectors_are_told number few = each_below (λ n. ends_with (vector_words n) (sentence_of (numbered (codes "request") n))) 18 number refl few
+vectors_are_described number few = each_below (λ n. ends_with (vector_words n) (sentence_of (numbered (codes "request") n))) 18 number refl few
 
 -- ---- instructions
 

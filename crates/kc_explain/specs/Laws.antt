@@ -10,7 +10,7 @@ use Rattle.kc_stim.specs.declared.fault.StimFault.{StimFault}
 use Rattle.kc_link_place.specs.declared.ranges.LinkFault.{LinkFault}
 use Rattle.kc_exec_spec.specs.Entering.{vector_at}
 use Rattle.kc_kit_files.specs.declared.status.Status.{Status}
-use Rattle.kc_kit_files.specs.Notes.{too_long}
+use Rattle.kc_kit_files.specs.Diagnostics.{too_long}
 use Rattle.kc_explain.specs.Codes.{all_codes, lettered, numbered, kind_code, status_code, stimulus_code, rule_code}
 use Rattle.kc_explain.specs.Meanings.{code_of, all_said, sentence_of, is_among}
 
@@ -47,8 +47,8 @@ ends_with end text = bytes_eq (drop (length text - length end) text) end
 abbrev pub vector_words : ℕ → List ℕ
 vector_words number = codes "vector " ++ hex 4 (vector_at number) ++ codes "H"
 
-abbrev pub VectorsAreTold : Type 0
-VectorsAreTold = (number : ℕ) → number < 18 → ends_with (vector_words number) (sentence_of (numbered (codes "request") number)) ≡ true
+abbrev pub VectorsAreDescribed : Type 0
+VectorsAreDescribed = (number : ℕ) → number < 18 → ends_with (vector_words number) (sentence_of (numbered (codes "request") number)) ≡ true
 
 -- the rows are those of the codes, and no two of them have one code
 pub record CodesDiffer : Type 0 where

@@ -1,4 +1,4 @@
-ghost use Rattle.kc_explain.specs.Laws.{CodesDiffer, FaultsAreExplained, MnemonicsAreExplained, UsesAreExplained, VectorsAreTold};
+ghost use Rattle.kc_explain.specs.Laws.{CodesDiffer, FaultsAreExplained, MnemonicsAreExplained, UsesAreExplained, VectorsAreDescribed};
 
 /// Each fault of a source, an object, a library, a hex file, stimuli and other files is explained, and each rule of linking.
 pub fn faults_are_explained()
@@ -16,8 +16,8 @@ pub fn mnemonics_are_explained()
 {}
 
 /// The sentence of each request ends with the vector through which the machine enters its routine.
-pub fn vectors_are_told()
-    ensures { VectorsAreTold }
+pub fn vectors_are_described()
+    ensures { VectorsAreDescribed }
 {}
 
 /// No two rows have one code.

@@ -11,7 +11,7 @@ mod table;
 
 pub use laws::{
     codes_differ, faults_are_explained, mnemonics_are_explained, uses_are_explained,
-    vectors_are_told,
+    vectors_are_described,
 };
 pub use lookup::{explain, sentence};
 pub use meaning::{Example, Meaning};

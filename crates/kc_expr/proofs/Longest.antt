@@ -51,20 +51,20 @@ past_at_least (t ∷ u ∷ v ∷ s) r e = absurd cc
 
 -- ---- what is read derives
 
-pub record Front (l : ℕ) (ts : List Token) (e : Tree) (rest : List Token) : Type 0 where
-  pub front : List Token
-  pub is : ts ≡ front ++ rest
-  pub derives : Derives l front e
+pub record Prefix (l : ℕ) (ts : List Token) (e : Tree) (rest : List Token) : Type 0 where
+  pub prefix : List Token
+  pub is : ts ≡ prefix ++ rest
+  pub derives : Derives l prefix e
 
 abbrev Found : ℕ → List Token → Reading → Type 0
 Found l ts None = Unit {0}
-Found l ts (Some p) = Front l ts p.0 p.1
+Found l ts (Some p) = Prefix l ts p.0 p.1
 
 -- what goes on with an expression that is read already
 pub record Goes (l : ℕ) (before ts : List Token) (e : Tree) (rest : List Token) : Type 0 where
-  pub front : List Token
-  pub is : ts ≡ front ++ rest
-  pub derives : Derives l (before ++ front) e
+  pub prefix : List Token
+  pub is : ts ≡ prefix ++ rest
+  pub derives : Derives l (before ++ prefix) e
 
 abbrev GoesOn : ℕ → List Token → List Token → Reading → Type 0
 GoesOn l before ts None = Unit {0}
@@ -74,18 +74,18 @@ one_token_found : (t : Token) (ts : List Token) (o : Option Tree) → alone t �
 one_token_found t ts None h = tt
 one_token_found t ts (Some e) h =
     let c = cut ts in
-    record { front = t ∷ c.suffix; is = ap (λ (us : List Token). t ∷ us) c.is; derives = from_token h c.proper }
+    record { prefix = t ∷ c.suffix; is = ap (λ (us : List Token). t ∷ us) c.is; derives = from_token h c.proper }
 
-closed_found : (t b : Token) (ts us : List Token) (e : Tree) → is_sign 40 t ≡ true → is_sign 41 b ≡ true → Front 7 ts e (b ∷ us) → Front 0 (t ∷ ts) e (past_suffix us)
+closed_found : (t b : Token) (ts us : List Token) (e : Tree) → is_sign 40 t ≡ true → is_sign 41 b ≡ true → Prefix 7 ts e (b ∷ us) → Prefix 0 (t ∷ ts) e (past_suffix us)
 closed_found t b ts us e opens closes f =
     let c = cut us in
     record {
-      front = t ∷ (f.front ++ b ∷ c.suffix);
-      is = ap (λ (vs : List Token). t ∷ vs) (f.is ∙ ap (λ (vs : List Token). f.front ++ b ∷ vs) c.is ∙ sym (append_assoc f.front (b ∷ c.suffix) (past_suffix us)));
-      derives = from_group b f.front c.suffix opens f.derives closes c.proper;
+      prefix = t ∷ (f.prefix ++ b ∷ c.suffix);
+      is = ap (λ (vs : List Token). t ∷ vs) (f.is ∙ ap (λ (vs : List Token). f.prefix ++ b ∷ vs) c.is ∙ sym (append_assoc f.prefix (b ∷ c.suffix) (past_suffix us)));
+      derives = from_group b f.prefix c.suffix opens f.derives closes c.proper;
     }
 
-group_rest : (t : Token) (ts rest : List Token) (e : Tree) → is_sign 40 t ≡ true → Front 7 ts e rest → Found 0 (t ∷ ts) (cond (begins_sign 41 rest) (Some (e, past_suffix (drop 1 rest))) None)
+group_rest : (t : Token) (ts rest : List Token) (e : Tree) → is_sign 40 t ≡ true → Prefix 7 ts e rest → Found 0 (t ∷ ts) (cond (begins_sign 41 rest) (Some (e, past_suffix (drop 1 rest))) None)
 group_rest t ts [] e opens f = tt
 group_rest t ts (b ∷ us) e opens f =
     elim (is_sign 41 b) as (λ x. is_sign 41 b ≡ x → Found 0 (t ∷ ts) (cond x (Some (e, past_suffix us)) None)) [
@@ -107,7 +107,7 @@ primary_found (t ∷ ts) inner f =
 
 operand_found : (l : ℕ) (t : Token) (ts : List Token) (op : Unary) (operand : Reading) → unary_at l t ≡ Some op → Found l ts operand → Found l (t ∷ ts) (option_map (λ p. (One op p.0, p.1)) operand)
 operand_found l t ts op None h f = tt
-operand_found l t ts op (Some p) h f = record { front = t ∷ f.front; is = ap (λ (us : List Token). t ∷ us) f.is; derives = from_unary h f.derives }
+operand_found l t ts op (Some p) h f = record { prefix = t ∷ f.prefix; is = ap (λ (us : List Token). t ∷ us) f.is; derives = from_unary h f.derives }
 
 prefixed_found : (l : ℕ) (ts : List Token) (o : Option Unary) (operand plain : Reading) → unary_first l ts ≡ o → Found l (drop 1 ts) operand → Found l ts plain → Found l ts (prefixed o operand plain)
 prefixed_found l ts None operand plain h f p = p
@@ -115,21 +115,21 @@ prefixed_found l [] (Some op) operand plain h f p = absurd cc
 prefixed_found l (t ∷ ts) (Some op) operand plain h f p = operand_found l t ts op operand h f
 
 -- an expression with what goes on with it
-with_goes : (l : ℕ) (ts rest : List Token) (e : Tree) (o : Reading) → (f : Front l ts e rest) → GoesOn l f.front rest o → Found l ts o
+with_goes : (l : ℕ) (ts rest : List Token) (e : Tree) (o : Reading) → (f : Prefix l ts e rest) → GoesOn l f.prefix rest o → Found l ts o
 with_goes l ts rest e None f m = tt
-with_goes l ts rest e (Some p) f m = record { front = f.front ++ m.front; is = f.is ∙ ap (λ (us : List Token). f.front ++ us) m.is ∙ sym (append_assoc f.front m.front p.1); derives = m.derives }
+with_goes l ts rest e (Some p) f m = record { prefix = f.prefix ++ m.prefix; is = f.is ∙ ap (λ (us : List Token). f.prefix ++ us) m.is ∙ sym (append_assoc f.prefix m.prefix p.1); derives = m.derives }
 
 stays : (l : ℕ) (before ts : List Token) (left : Tree) → Derives l before left → Goes l before ts left ts
-stays l before ts left d = record { front = []; is = refl; derives = subst (λ (us : List Token). Derives l us left) (sym (append-nil before)) d }
+stays l before ts left d = record { prefix = []; is = refl; derives = subst (λ (us : List Token). Derives l us left) (sym (append-nil before)) d }
 
 -- an operator and its right side, and what goes on with that
-with_right : (l : ℕ) (before ts us : List Token) (t : Token) (op : Binary) (left right : Tree) (o : Reading) → binary_at (suc l) t ≡ Some op → Derives (suc l) before left → (f : Front l ts right us) → GoesOn (suc l) (before ++ t ∷ f.front) us o → GoesOn (suc l) before (t ∷ ts) o
+with_right : (l : ℕ) (before ts us : List Token) (t : Token) (op : Binary) (left right : Tree) (o : Reading) → binary_at (suc l) t ≡ Some op → Derives (suc l) before left → (f : Prefix l ts right us) → GoesOn (suc l) (before ++ t ∷ f.prefix) us o → GoesOn (suc l) before (t ∷ ts) o
 with_right l before ts us t op left right None h d f m = tt
 with_right l before ts us t op left right (Some p) h d f m =
     record {
-      front = t ∷ (f.front ++ m.front);
-      is = ap (λ (vs : List Token). t ∷ vs) (f.is ∙ ap (λ (vs : List Token). f.front ++ vs) m.is ∙ sym (append_assoc f.front m.front p.1));
-      derives = subst (λ (vs : List Token). Derives (suc l) vs p.0) (append_assoc before (t ∷ f.front) m.front) m.derives;
+      prefix = t ∷ (f.prefix ++ m.prefix);
+      is = ap (λ (vs : List Token). t ∷ vs) (f.is ∙ ap (λ (vs : List Token). f.prefix ++ vs) m.is ∙ sym (append_assoc f.prefix m.prefix p.1));
+      derives = subst (λ (vs : List Token). Derives (suc l) vs p.0) (append_assoc before (t ∷ f.prefix) m.prefix) m.derives;
     }
 
 joined_found : (l : ℕ) (before ts : List Token) (left : Tree) (o : Option Binary) (right : Reading) (goes_on : Tree → List Token → Reading) → binary_first (suc l) ts ≡ o → Derives (suc l) before left → Found l (drop 1 ts) right
@@ -138,13 +138,13 @@ joined_found l before ts left None right goes_on h d f more = stays (suc l) befo
 joined_found l before ts left (Some op) None goes_on h d f more = stays (suc l) before ts left d
 joined_found l before [] left (Some op) (Some p) goes_on h d f more = absurd cc
 joined_found l before (t ∷ ts) left (Some op) (Some p) goes_on h d f more =
-    with_right l before ts p.1 t op left p.0 (goes_on (Two op left p.0) p.1) h d f (more (before ++ t ∷ f.front) (Two op left p.0) p.1 (from_binary t before f.front h d f.derives))
+    with_right l before ts p.1 t op left p.0 (goes_on (Two op left p.0) p.1) h d f (more (before ++ t ∷ f.prefix) (Two op left p.0) p.1 (from_binary t before f.prefix h d f.derives))
 
 plain_found : (n l : ℕ) (ts : List Token) (r : Reading) → Found l ts r → ((g : List Token) (e : Tree) (us : List Token) → Derives (suc l) g e → GoesOn (suc l) g us (extended n (suc l) e us)) → Found (suc l) ts (option_and_then (λ p. extended n (suc l) p.0 p.1) r)
 plain_found n l ts None f more = tt
 plain_found n l ts (Some p) f more =
-    let up : Front (suc l) ts p.0 p.1 = record { front = f.front; is = f.is; derives = from_tighter f.derives } in
-    with_goes (suc l) ts p.1 p.0 (extended n (suc l) p.0 p.1) up (more f.front p.0 p.1 (from_tighter f.derives))
+    let up : Prefix (suc l) ts p.0 p.1 = record { prefix = f.prefix; is = f.is; derives = from_tighter f.derives } in
+    with_goes (suc l) ts p.1 p.0 (extended n (suc l) p.0 p.1) up (more f.prefix p.0 p.1 (from_tighter f.derives))
 
 one_less : (l : ℕ) → l ≡ suc l - 1
 one_less l = omega arith
@@ -177,7 +177,7 @@ Shorter (Some p) ts = length p.1 ≤ length ts
 
 found_less : (l : ℕ) (ts : List Token) (o : Reading) → Found l ts o → Less o ts
 found_less l ts None f = tt
-found_less l ts (Some p) f = omega (arith, ap length f.is, length-append f.front p.1)
+found_less l ts (Some p) f = omega (arith, ap length f.is, length-append f.prefix p.1)
 
 longer : (o : Reading) (us ts : List Token) → Shorter o us → length us ≤ length ts → Shorter o ts
 longer None us ts h e = h
@@ -365,14 +365,14 @@ of_reading : (ts : List Token) (o : Reading) → parsed ts ≡ o → Found 7 ts 
 of_reading ts None y f = λ other behind e is d. let some = read_of ts other behind e is d in absurd (let none : Some (some.tree, some.rest) ≡ None = sym some.read ∙ y in cc)
 of_reading ts (Some p) y f =
     record {
-      front = f.front;
+      prefix = f.prefix;
       is = f.is;
       derives = f.derives;
       longest = λ other behind e is d.
           let some = read_of ts other behind e is d in
           let same : some.rest ≡ p.1 = ap (rest_or behind) (sym some.read ∙ y) in
-          omega (arith, some.short, ap length same, ap length is, ap length f.is, length-append other behind, length-append f.front p.1);
-      only = λ e d. one_tree f.front e p.0 d f.derives;
+          omega (arith, some.short, ap length same, ap length is, ap length f.is, length-append other behind, length-append f.prefix p.1);
+      only = λ e d. one_tree f.prefix e p.0 d f.derives;
     }
 
 pub parsed_is_longest : (ts : List Token) → IsLongest (parsed ts) ts

@@ -24,14 +24,14 @@ pub data Derives : ℕ → List Token → Tree → Type 0 where
   from_binary : {l : ℕ} {a b : Tree} {op : Binary} (t : Token) (us vs : List Token) → binary_at (suc l) t ≡ Some op → Derives (suc l) us a → Derives l vs b → Derives (suc l) (us ++ t ∷ vs) (Two op a b)
 
 -- the tokens begin with an expression that is this tree, and with no longer one; the rest is what is left
-pub record IsLongestFront (ts : List Token) (e : Tree) (rest : List Token) : Type 0 where
-  pub front : List Token
-  pub is : ts ≡ front ++ rest
-  pub derives : Derives 7 front e
-  pub longest : (other behind : List Token) (e' : Tree) → ts ≡ other ++ behind → Derives 7 other e' → length other ≤ length front
-  pub only : (e' : Tree) → Derives 7 front e' → e' ≡ e
+pub record IsLongestPrefix (ts : List Token) (e : Tree) (rest : List Token) : Type 0 where
+  pub prefix : List Token
+  pub is : ts ≡ prefix ++ rest
+  pub derives : Derives 7 prefix e
+  pub longest : (other behind : List Token) (e' : Tree) → ts ≡ other ++ behind → Derives 7 other e' → length other ≤ length prefix
+  pub only : (e' : Tree) → Derives 7 prefix e' → e' ≡ e
 
 -- the reading is of the longest expression at the front, or none where no front is an expression
 abbrev pub IsLongest : Reading → List Token → Type 0
 IsLongest None ts = (other behind : List Token) (e : Tree) → ts ≡ other ++ behind → Derives 7 other e → ⊥
-IsLongest (Some p) ts = IsLongestFront ts p.0 p.1
+IsLongest (Some p) ts = IsLongestPrefix ts p.0 p.1

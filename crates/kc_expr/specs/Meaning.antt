@@ -14,7 +14,7 @@ use Rattle.kc_expr.specs.declared.values.Base.TheVariants.{Fixed, Absolute, Piec
 use Rattle.kc_expr.specs.declared.values.Tag.TheVariants.{Memory}
 use Rattle.kc_expr.specs.declared.values.Value.{Value}
 use Rattle.kc_expr.specs.declared.values.NoValue.{NoValue}
-use Rattle.kc_expr.specs.declared.values.NoValue.TheVariants.{Fault, ToldElsewhere}
+use Rattle.kc_expr.specs.declared.values.NoValue.TheVariants.{Fault, ReportedElsewhere}
 use Rattle.kc_expr.specs.declared.expr.Unary.{Unary}
 use Rattle.kc_expr.specs.declared.expr.Unary.TheVariants as unary
 use Rattle.kc_expr.specs.declared.expr.Binary.{Binary}
@@ -125,8 +125,8 @@ lesser_code c d = if nat_lt (code_number d) (code_number c) then d else c
 -- of two faults the one of the lesser code; one that is told elsewhere only where there is no other
 abbrev pub lesser : NoValue → NoValue → NoValue
 lesser (Fault c) (Fault d) = Fault (lesser_code c d)
-lesser (Fault c) ToldElsewhere = Fault c
-lesser ToldElsewhere other = other
+lesser (Fault c) ReportedElsewhere = Fault c
+lesser ReportedElsewhere other = other
 
 -- of the faults of two parts the lesser
 abbrev pub parts_answer : Binary → Answer → Answer → Answer
@@ -176,4 +176,4 @@ answer tree names = answer_by (name_answer names) tree
 abbrev pub IsAnswerAt : ℕ → Answer → Result Value SourceFault → Type 0
 IsAnswerAt line (Ok v) result = result ≡ Ok v
 IsAnswerAt line (Err (Fault c)) result = result ≡ Err (faults.At line (code_number c))
-IsAnswerAt line (Err ToldElsewhere) result = ⊥
+IsAnswerAt line (Err ReportedElsewhere) result = ⊥

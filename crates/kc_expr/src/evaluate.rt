@@ -19,7 +19,7 @@ pub fn value(expr: &Expr, symbols: &Symbols, line: u32) -> Result<Value, SourceF
             line,
             code: code.number(),
         }),
-        Err(NoValue::ToldElsewhere) => unreachable!(),
+        Err(NoValue::ReportedElsewhere) => unreachable!(),
     }
 }
 
@@ -180,8 +180,8 @@ fn lesser(first: NoValue, second: NoValue) -> NoValue
 {
     match (first, second) {
         (NoValue::Fault(a), NoValue::Fault(b)) => NoValue::Fault(lesser_code(a, b)),
-        (NoValue::Fault(_), NoValue::ToldElsewhere) => first,
-        (NoValue::ToldElsewhere, other) => other,
+        (NoValue::Fault(_), NoValue::ReportedElsewhere) => first,
+        (NoValue::ReportedElsewhere, other) => other,
     }
 }
 

@@ -60,13 +60,13 @@ after_record s bs =
     if slice_index bs 3 == 0 then (put s.0 (address_of bs - 0x2000) (data_of bs), s.1)
     else (s.0, s.1 || (slice_index bs 3 == 1))
 
-abbrev pub judged : Option HexCode → State → Result State HexCode
-judged None s = Ok s
-judged (Some code) s = Err code
+abbrev pub checked : Option HexCode → State → Result State HexCode
+checked None s = Ok s
+checked (Some code) s = Err code
 
 abbrev pub recorded : State → Option (List ℕ) → Result State HexCode
 recorded s None = Err codes.Form
-recorded s (Some bs) = judged (fault_of s.1 bs) (after_record s bs)
+recorded s (Some bs) = checked (fault_of s.1 bs) (after_record s bs)
 
 -- a blank line has no effect
 unfoldable pub after_line : State → List ℕ → Result State HexCode

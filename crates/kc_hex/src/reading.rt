@@ -4,7 +4,7 @@ ghost use Rattle.kc_hex.specs.Records.{data_of, address_of, record_of, is_known,
 
 use crate::fault::{HexCode, HexFault};
 use hex::FromHexError;
-use kc_base::{IMAGE_START, Image, NoMemory, after, first_line, front};
+use kc_base::{IMAGE_START, Image, NoMemory, after, first_line, prefix};
 use std::alloc::Global;
 
 // The bytes of a record, if the line has the form of one.
@@ -41,7 +41,7 @@ fn body_of(bytes: &[u8]) -> &[u8]
     ensures { result.now ≡ data_of bytes.now }
 {
     let len = bytes.len() - 5;
-    front(after(bytes, 4), len)
+    prefix(after(bytes, 4), len)
 }
 
 fn address(bytes: &[u8]) -> usize
@@ -142,13 +142,13 @@ pub fn read(alloc: Global, bytes: &[u8]) -> Result<Image, HexFault>
     let mut ended = false;
     while !rest.is_empty() {
         let (len, used) = first_line(rest);
-        match take_line(alloc, &mut image, ended, front(rest, len)) {
+        match take_line(alloc, &mut image, ended, prefix(rest, len)) {
             Ok(Ok(now)) => ended = now,
             Ok(Err(code)) => {
-                let told = code.number();
+                let reported = code.number();
                 return Err(HexFault::At {
                     line: number,
-                    code: told,
+                    code: reported,
                 });
             }
             Err(NoMemory) => return Err(HexFault::NoMemory),

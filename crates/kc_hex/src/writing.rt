@@ -5,7 +5,7 @@ ghost use Rattle.kc_hex.specs.Records.{image_of};
 ghost use Rattle.kc_hex.specs.Spelling.{checksum, data_bytes, record_text, row_text, spelling};
 
 use crate::reading::sum_of;
-use kc_base::{IMAGE_LEN, IMAGE_START, Image, NoMemory, after, front};
+use kc_base::{IMAGE_LEN, IMAGE_START, Image, NoMemory, after, prefix};
 use std::alloc::Global;
 
 /// How many bytes of the image a record has.
@@ -92,7 +92,7 @@ pub fn write(alloc: Global, image: &Image) -> Result<Vec<u8>, NoMemory>
     let bytes = bytes_of(image);
     let mut out = Vec::new(alloc);
     for i in 0..ROWS {
-        let row = front(after(bytes, ROW * i), ROW);
+        let row = prefix(after(bytes, ROW * i), ROW);
         put_row(alloc, &mut out, IMAGE_START as usize + ROW * i, row)?;
     }
     out.extend_from_slice(b":00000001FF\n")?;

@@ -36,9 +36,9 @@ module _ (line : ℕ → ℕ) (held : Held) where
   quiet-held t d (Some entry) e full = rw e refl
 
   -- and one that looks at an empty slot loads it
-  loud-held : (t : ℕ) (d : Cam) (o : Option Entry) → slot_at d t ≡ o → is_none o ≡ true → (cam_rule line).quiet t (with_held d) ≡ false
-  loud-held t d None e empty = rw e refl
-  loud-held t d (Some entry) e empty = absurd (cc empty)
+  active-held : (t : ℕ) (d : Cam) (o : Option Entry) → slot_at d t ≡ o → is_none o ≡ true → (cam_rule line).quiet t (with_held d) ≡ false
+  active-held t d None e empty = rw e refl
+  active-held t d (Some entry) e empty = absurd (cc empty)
 
   module _ (from : ℕ) (d : Cam) where
     -- quiet states leave slots empty or not
@@ -79,10 +79,10 @@ module _ (line : ℕ → ℕ) (held : Held) where
         record {
           later = due.later;
           before = quiet-for (u - from) due.before (λ k lt. full (from + k) (omega arith) (omega arith));
-          loud =
+          active =
               subst (λ t. (cam_rule line).quiet t (after (cam_rule line) from (u - from) (with_held d)) ≡ (cam_rule line).quiet t (after (cam_rule line) from (u - from) d)) e
               (quiet-there (u - from) due.before (λ k lt. full (from + k) (omega arith) (omega (arith, due.later))))
-              ∙ due.loud;
+              ∙ due.active;
         }
 
     -- due where an empty slot takes what is held
@@ -92,9 +92,9 @@ module _ (line : ℕ → ℕ) (held : Held) where
         record {
           later = first.0;
           before = quiet-for (v - from) quiet full;
-          loud =
+          active =
               ap ((cam_rule line).quiet v) (after-held (v - from) quiet full)
-              ∙ loud-held v (after (cam_rule line) from (v - from) d) (slot_at (after (cam_rule line) from (v - from) d) v) refl (empty-stays (v - from) v quiet ∙ first.1);
+              ∙ active-held v (after (cam_rule line) from (v - from) d) (slot_at (after (cam_rule line) from (v - from) d) v) refl (empty-stays (v - from) v quiet ∙ first.1);
         }
 
     held_due : (due visit : Option ℕ) → IsDue (cam_rule line) from d due → IsFirstEmpty from d.slots visit → IsDue (cam_rule line) from (with_held d) (least_of due visit)

@@ -4,7 +4,7 @@ use Rattle.std.proofs.lemmas.List.{map-append}
 use Rattle.std.specs.Prelude.{nat_lt, IsSomeAnd, codes}
 use Rattle.std.specs.Result.{IsOk}
 use Rattle.std.specs.Option.{option_to_list}
-use Rattle.kc_base.specs.Held.{Holding, Told}
+use Rattle.kc_base.specs.Held.{Holding, Reported}
 use Rattle.kc_base.specs.Causes.{Rose}
 use Rattle.kc_base.specs.TextLines.{text_lines}
 use Rattle.kc_vcd.proofs.Readings.{never_wrong}
@@ -32,12 +32,12 @@ use Rattle.kc_hex.specs.Records.{image_of}
 use Rattle.kc_hex.specs.Spelling.{spelling}
 use Rattle.kc_kit_files.specs.declared.status.Status.{Status}
 use Rattle.kc_kit_files.specs.declared.status.Status.TheVariants as status
-use Rattle.kc_kit_files.specs.Reply.{Reply, Write, write, says, tells, before, joined, Then}
+use Rattle.kc_kit_files.specs.Response.{Response, Write, write, says, reports, before, joined, Then}
 use Rattle.kc_kit_files.specs.Writes.{first_long, unless_long, writing_readable, AreReadable}
-use Rattle.kc_kit_files.specs.Reads.{file_limit, read_of, reads_of, long_reply, missing_reply, FailedRead}
-use Rattle.kc_kit_files.specs.Outside.{Kept, Shown, OthersStay, Wrote, WroteByPart, SinkFailed, WriteFailed, IsGiven, Replies}
+use Rattle.kc_kit_files.specs.Reads.{file_limit, read_of, reads_of, long_response, missing_response, FailedRead}
+use Rattle.kc_kit_files.specs.Outside.{Kept, Shown, OthersStay, Wrote, WroteByPart, SinkFailed, WriteFailed, IsGiven, Responses}
 use Rattle.kc_kit_files.proofs.LongLemmas.{written-all}
-use Rattle.kc_kit_files.proofs.ReplyLemmas.{given-of}
+use Rattle.kc_kit_files.proofs.ResponseLemmas.{given-of}
 use Rattle.kc_debug_script.specs.LineMap as maps
 use Rattle.kc_debug_script.specs.Script as scripts
 use Rattle.kc_lib.specs.declared.faults.LibFault.{LibFault}
@@ -49,94 +49,94 @@ use Rattle.kc_kit_words.specs.declared.extent.Extent.{Extent}
 use Rattle.kc_kit_words.specs.declared.inputs.Role.{Role}
 use Rattle.kc_kit_words.specs.declared.inputs.Role.TheVariants as role
 use Rattle.kc_lib.specs.Taking.{AreTaken}
-use Rattle.kc_kit_words.specs.Commands.{Beside, Command, Helps, HelpsOn, TellsVersion, Runs, Profiles, Assembles, Packs, Links, RunsHex, ProfilesHex, Lists, Debugs, Generates, Dumps, Explains, names_of, names_read, names_written, names_beside}
+use Rattle.kc_kit_words.specs.Commands.{Beside, Command, Helps, HelpsOn, ReportsVersion, Runs, Profiles, Assembles, Packs, Links, RunsHex, ProfilesHex, Lists, Debugs, Generates, Dumps, Explains, names_of, names_read, names_written, names_beside}
 use Rattle.kc_kit_words.specs.Words.{placing_of}
 use Rattle.kc_kit_inputs.specs.declared.driving.Driving.{Driving}
 use Rattle.kc_kit_inputs.specs.Analog.{by_bad_line, values_of}
 use Rattle.kc_kit_inputs.specs.Driving.{GivenFiles, given_for, with_drives, driving_of}
 use Rattle.kc_kit_inputs.specs.Hex.{by_image, hex_of}
 use Rattle.kc_kit_inputs.specs.Inputs.{input_for}
-use Rattle.kc_kit_inputs.specs.Library.{fault_reply, by_library, library_of}
+use Rattle.kc_kit_inputs.specs.Library.{fault_response, by_library, library_of}
 use Rattle.kc_kit_inputs.specs.Library as libraries
 use Rattle.kc_kit_inputs.specs.Lines.{coded}
-use Rattle.kc_kit_inputs.specs.Replies.{source_reply, line_reply, byte_reply}
+use Rattle.kc_kit_inputs.specs.Responses.{source_response, line_response, byte_response}
 use Rattle.kc_kit_inputs.specs.Objects.{modules_of, by_object, object_of}
 use Rattle.kc_kit_inputs.specs.Scripts.{by_lines, script_of, lines_of}
 use Rattle.kc_asm.specs.Assembled.{IsFaultless}
-use Rattle.kc_kit_inputs.specs.Sources.{AnyNote, AreModules, TellsFault, TellsFirst, AreFaultless}
+use Rattle.kc_kit_inputs.specs.Sources.{AnyDiagnostic, AreModules, ReportsFault, ReportsFirst, AreFaultless}
 use Rattle.kc_stim.specs.Faults.{place_of}
 use Rattle.kc_kit_inputs.specs.Stimuli.{by_fault, drives_of}
 use Rattle.kc_kit_inputs.specs.Stimuli as stimulus
-use Rattle.kc_kit_answer.specs.Accepting.{Accepting, IsOneText, AreTwoTexts, told}
+use Rattle.kc_kit_answer.specs.Accepting.{Accepting, IsOneText, AreTwoTexts, reported}
 use Rattle.kc_kit_answer.specs.Answer.{OneText, TwoTexts, Parted, CommandAnswer, MayAnswer, IsAccepted, StaysBut}
 use Rattle.kc_kit_answer.specs.Assemble.{AreListings, AssembleAnswer, IsAssemblable}
 use Rattle.kc_kit_running.specs.Scripted.{debugged_by}
-use Rattle.kc_kit_answer.specs.Debug.{debug_reply, DebugAnswer, IsDebuggable}
+use Rattle.kc_kit_answer.specs.Debug.{debug_response, DebugAnswer, IsDebuggable}
 use Rattle.kc_kit_answer.specs.Dump.{DumpAnswer, IsTraceText}
 use Rattle.kc_kit_answer.specs.Explain.{explained_by, explained}
 use Rattle.kc_kit_running.specs.Counted.{summary_of}
 use Rattle.kc_kit_answer.specs.Generate.{made_names, made_texts, made_given}
-use Rattle.kc_kit_answer.specs.Hex.{HexTold, RunHexAnswer, ListingOf, ListAnswer}
+use Rattle.kc_kit_answer.specs.Hex.{HexReported, RunHexAnswer, ListingOf, ListAnswer}
 use Rattle.kc_kit_notes.specs.Rules.{link_line, member_words}
-use Rattle.kc_kit_notes.specs.RuleNotes.{link_note}
+use Rattle.kc_kit_notes.specs.RuleDiagnostics.{link_diagnostic}
 use Rattle.kc_kit_answer.specs.Link.{IsMap, map_writes, LinksTo, Taking, Completed, LinkAnswer, IsReadableMap, ArePlaceable, IsLinkable}
 use Rattle.kc_kit_answer.proofs.HexLengths.{hex-short}
 use Rattle.kc_kit_answer.specs.Pack.{packed, PackAnswer}
 use Rattle.kc_kit_answer.specs.Places.{by_places, places_of, Placing}
 use Rattle.kc_debug_script.specs.declared.line_map.MapEntry.{MapEntry}
-use Rattle.kc_kit_running.specs.Profiled.{profile_reply}
-use Rattle.kc_kit_answer.specs.Profile.{map_entry, DrivenWithLines, LinkedWithLines, LinesTold, ProfileAnswer, ProfileHexAnswer}
-use Rattle.kc_kit_answer.specs.Run.{Driven, LinkedTold, SourcesTold, RunAnswer}
-use Rattle.kc_kit_running.specs.Lives.{board_lives, reply_over, board_reply}
+use Rattle.kc_kit_running.specs.Profiled.{profile_response}
+use Rattle.kc_kit_answer.specs.Profile.{map_entry, DrivenWithLines, LinkedWithLines, LinesReported, ProfileAnswer, ProfileHexAnswer}
+use Rattle.kc_kit_answer.specs.Run.{Driven, LinkedReported, SourcesReported, RunAnswer}
+use Rattle.kc_kit_running.specs.Lives.{board_lives, response_over, board_response}
 use Rattle.kc_kit_running.specs.Running.{status_of, run_of}
 
 -- ---- steps
 
 -- what holds of each refusal and of each answer with the value
-pub then-all : {A : Type 0} (P : Reply → Type 0) (x : Result A Reply) (may : A → Reply → Type 0) (r : Reply) → ((e : Reply) → x ≡ Err e → P e) → ((a : A) → x ≡ Ok a → may a r → P r) → Then x may r → P r
+pub then-all : {A : Type 0} (P : Response → Type 0) (x : Result A Response) (may : A → Response → Type 0) (r : Response) → ((e : Response) → x ≡ Err e → P e) → ((a : A) → x ≡ Ok a → may a r → P r) → Then x may r → P r
 then-all P (Ok a) may r f g h = g a refl h
 then-all P (Err e) may r f g h = subst P (sym h) (f e refl)
 
-joined-err : {A : Type 0} (x : Result A Reply) (others : Result (List A) Reply) (e : Reply) → joined x others ≡ Err e → (x ≡ Err e) ⊎ (others ≡ Err e)
+joined-err : {A : Type 0} (x : Result A Response) (others : Result (List A) Response) (e : Response) → joined x others ≡ Err e → (x ≡ Err e) ⊎ (others ≡ Err e)
 joined-err (Err r) others e h = inl (ap Err (let same : r ≡ e = cc in same))
 joined-err (Ok a) (Err r) e h = inr (ap Err (let same : r ≡ e = cc in same))
 joined-err (Ok a) (Ok more) e h = absurd (cc)
 
 -- ---- statuses other than those of usage and of faults outside
 
-abbrev pub is_told : Status → Bool
-is_told status.Done = true
-is_told status.Missing = true
-is_told status.Source = true
-is_told status.Input = true
-is_told status.Link = true
-is_told status.Undefined = true
-is_told _ = false
+abbrev pub is_reported : Status → Bool
+is_reported status.Done = true
+is_reported status.Missing = true
+is_reported status.Source = true
+is_reported status.Input = true
+is_reported status.Link = true
+is_reported status.Undefined = true
+is_reported _ = false
 
 -- such a status, and no file, or files of these names
-pub record IsSound (names : List (List ℕ)) (r : Reply) : Type 0 where
-  pub told : is_told r.status ≡ true
+pub record IsSound (names : List (List ℕ)) (r : Response) : Type 0 where
+  pub reported : is_reported r.status ≡ true
   pub named : (r.writes ≡ []) ⊎ (map (λ (w : Write). w.name) r.writes ≡ names)
 
-sound-says : (names : List (List ℕ)) (s : Status) (t : List ℕ) → is_told s ≡ true → IsSound names (says s t)
-sound-says names s t h = record { told = h; named = inl refl }
+sound-says : (names : List (List ℕ)) (s : Status) (t : List ℕ) → is_reported s ≡ true → IsSound names (says s t)
+sound-says names s t h = record { reported = h; named = inl refl }
 
 -- a refusal, whatever is said of it in words
-sound-err : (names : List (List ℕ)) (r e : Reply) → is_told r.status ≡ true → r.writes ≡ [] → r ≡ e → IsSound names e
-sound-err names r e h none k = subst (IsSound names) k (record { told = h; named = inl none })
+sound-err : (names : List (List ℕ)) (r e : Response) → is_reported r.status ≡ true → r.writes ≡ [] → r ≡ e → IsSound names e
+sound-err names r e h none k = subst (IsSound names) k (record { reported = h; named = inl none })
 
-ok-err : {A : Type 0} (P : Type 0) (a : A) (e : Reply) → Ok a ≡ Err e → P
+ok-err : {A : Type 0} (P : Type 0) (a : A) (e : Response) → Ok a ≡ Err e → P
 ok-err P a e h = absurd (cc)
 
-sound-read : (names : List (List ℕ)) (name : List ℕ) (content : Option (List ℕ)) (e : Reply) → read_of name content ≡ Err e → IsSound names e
-sound-read names name None e h = sound-err names (missing_reply name) e refl refl (let k : missing_reply name ≡ e = cc in k)
+sound-read : (names : List (List ℕ)) (name : List ℕ) (content : Option (List ℕ)) (e : Response) → read_of name content ≡ Err e → IsSound names e
+sound-read names name None e h = sound-err names (missing_response name) e refl refl (let k : missing_response name ≡ e = cc in k)
 sound-read names name (Some bytes) e h = by (nat_lt 1048576 (length bytes)) h
   where
-    by : (b : Bool) → cond b (Err (long_reply name)) (Ok bytes) ≡ Err e → IsSound names e
-    by true k = sound-err names (long_reply name) e refl refl (let f : long_reply name ≡ e = cc in f)
+    by : (b : Bool) → cond b (Err (long_response name)) (Ok bytes) ≡ Err e → IsSound names e
+    by true k = sound-err names (long_response name) e refl refl (let f : long_response name ≡ e = cc in f)
     by false k = ok-err (IsSound names e) bytes e k
 
-sound-reads : (ns : List (List ℕ)) (names : List (List ℕ)) (contents : List (Option (List ℕ))) (e : Reply) → reads_of names contents ≡ Err e → IsSound ns e
+sound-reads : (ns : List (List ℕ)) (names : List (List ℕ)) (contents : List (Option (List ℕ))) (e : Response) → reads_of names contents ≡ Err e → IsSound ns e
 sound-reads ns [] contents e h = ok-err (IsSound ns e) [] e h
 sound-reads ns (n ∷ names) [] e h = ok-err (IsSound ns e) [] e h
 sound-reads ns (n ∷ names) (c ∷ contents) e h = either (joined-err (read_of n c) (reads_of names contents) e h) (sound-reads ns names contents e)
@@ -145,13 +145,13 @@ sound-reads ns (n ∷ names) (c ∷ contents) e h = either (joined-err (read_of 
     either (inl k) f = sound-read ns n c e k
     either (inr k) f = f k
 
-sound-object : (ns : List (List ℕ)) (name : List ℕ) (x : Result Object Fault) (e : Reply) → by_object name x ≡ Err e → IsSound ns e
+sound-object : (ns : List (List ℕ)) (name : List ℕ) (x : Result Object Fault) (e : Response) → by_object name x ≡ Err e → IsSound ns e
 sound-object ns name (Ok m) e h = ok-err (IsSound ns e) m e h
 sound-object ns name (Err fault) e h =
-    let told = byte_reply name fault.at (coded (codes "O") fault.code) in
-    sound-err ns told e refl refl (let k : told ≡ e = cc in k)
+    let reported = byte_response name fault.at (coded (codes "O") fault.code) in
+    sound-err ns reported e refl refl (let k : reported ≡ e = cc in k)
 
-sound-modules : (ns : List (List ℕ)) (names texts : List (List ℕ)) (e : Reply) → modules_of object_of names texts ≡ Err e → IsSound ns e
+sound-modules : (ns : List (List ℕ)) (names texts : List (List ℕ)) (e : Response) → modules_of object_of names texts ≡ Err e → IsSound ns e
 sound-modules ns [] texts e h = ok-err (IsSound ns e) [] e h
 sound-modules ns (n ∷ names) [] e h = ok-err (IsSound ns e) [] e h
 sound-modules ns (n ∷ names) (t ∷ texts) e h = either (joined-err (object_of n t) (modules_of object_of names texts) e h) (sound-modules ns names texts e)
@@ -160,125 +160,125 @@ sound-modules ns (n ∷ names) (t ∷ texts) e h = either (joined-err (object_of
     either (inl k) f = sound-object ns n (answer_of t) e k
     either (inr k) f = f k
 
-sound-places : (ns names : List (List ℕ)) (ms : List Object) (x : Result Places LinkFault) (e : Reply) → by_places names ms x ≡ Err e → IsSound ns e
+sound-places : (ns names : List (List ℕ)) (ms : List Object) (x : Result Places LinkFault) (e : Response) → by_places names ms x ≡ Err e → IsSound ns e
 sound-places ns names ms (Ok places) e h = ok-err (IsSound ns e) places e h
 sound-places ns names ms (Err fault) e h =
-    let told = tells status.Link (link_line names fault) (link_note names ms fault) in
-    sound-err ns told e refl refl (let k : told ≡ e = cc in k)
+    let reported = reports status.Link (link_line names fault) (link_diagnostic names ms fault) in
+    sound-err ns reported e refl refl (let k : reported ≡ e = cc in k)
 
-sound-hex : (ns : List (List ℕ)) (name text : List ℕ) (x : Result (List ℕ) (ℕ × ℕ)) (e : Reply) → by_image name text x ≡ Err e → IsSound ns e
+sound-hex : (ns : List (List ℕ)) (name text : List ℕ) (x : Result (List ℕ) (ℕ × ℕ)) (e : Response) → by_image name text x ≡ Err e → IsSound ns e
 sound-hex ns name text (Ok image) e h = ok-err (IsSound ns e) image e h
 sound-hex ns name text (Err fault) e h =
-    let told = line_reply name text fault.0 (coded (codes "H") fault.1) in
-    sound-err ns told e refl refl (let k : told ≡ e = cc in k)
+    let reported = line_response name text fault.0 (coded (codes "H") fault.1) in
+    sound-err ns reported e refl refl (let k : reported ≡ e = cc in k)
 
-told-end : (how : End) → is_told (status_of how) ≡ true
-told-end end.Spent = refl
-told-end end.Powerdown = refl
-told-end end.Reset = refl
-told-end (end.Undefined what) = refl
+reported-end : (how : End) → is_reported (status_of how) ≡ true
+reported-end end.Spent = refl
+reported-end end.Powerdown = refl
+reported-end end.Reset = refl
+reported-end (end.Undefined what) = refl
 
-sound-run : (ns : List (List ℕ)) (extent : Extent) (driving : Driving) (image : List ℕ) → IsSound ns (board_reply extent driving image)
+sound-run : (ns : List (List ℕ)) (extent : Extent) (driving : Driving) (image : List ℕ) → IsSound ns (board_response extent driving image)
 sound-run ns extent driving image = by extent.lives
   where
-    by : (lives : Option ℕ) → IsSound ns (reply_over lives extent.states driving image)
-    by None = record { told = told-end (end_of (run_of extent.states driving image).machine); named = inl refl }
-    by (Some most) = record { told = told-end (last_end (board_lives most extent.states driving image)); named = inl refl }
+    by : (lives : Option ℕ) → IsSound ns (response_over lives extent.states driving image)
+    by None = record { reported = reported-end (end_of (run_of extent.states driving image).machine); named = inl refl }
+    by (Some most) = record { reported = reported-end (last_end (board_lives most extent.states driving image)); named = inl refl }
 
 sound-summary : (ns : List (List ℕ)) (number : ℕ) (driving : Driving) (image : List ℕ) → IsSound ns (summary_of number driving image)
-sound-summary ns number driving image = record { told = told-end (end_of (run_of 1000000 driving image).machine); named = inl refl }
+sound-summary ns number driving image = record { reported = reported-end (end_of (run_of 1000000 driving image).machine); named = inl refl }
 
-sound-stimuli : (ns : List (List ℕ)) (name text : List ℕ) (x : Option StimFault) (e : Reply) → by_fault name text x ≡ Err e → IsSound ns e
+sound-stimuli : (ns : List (List ℕ)) (name text : List ℕ) (x : Option StimFault) (e : Response) → by_fault name text x ≡ Err e → IsSound ns e
 sound-stimuli ns name text None e h = ok-err (IsSound ns e) (fold with_item nothing (items_of text)) e h
-sound-stimuli ns name text (Some fault) e h = sound-at (place_of fault) (let k : stimulus.reply_at name text (place_of fault) ≡ e = cc in k)
+sound-stimuli ns name text (Some fault) e h = sound-at (place_of fault) (let k : stimulus.response_at name text (place_of fault) ≡ e = cc in k)
   where
-    sound-at : (place : Option (ℕ × List ℕ)) → stimulus.reply_at name text place ≡ e → IsSound ns e
-    sound-at None k = sound-err ns (stimulus.reply_at name text None) e refl refl k
-    sound-at (Some p) k = sound-err ns (stimulus.reply_at name text (Some p)) e refl refl k
+    sound-at : (place : Option (ℕ × List ℕ)) → stimulus.response_at name text place ≡ e → IsSound ns e
+    sound-at None k = sound-err ns (stimulus.response_at name text None) e refl refl k
+    sound-at (Some p) k = sound-err ns (stimulus.response_at name text (Some p)) e refl refl k
 
-sound-drives : (ns : List (List ℕ)) (stimuli : Option (List ℕ × List ℕ)) (e : Reply) → drives_of stimuli ≡ Err e → IsSound ns e
+sound-drives : (ns : List (List ℕ)) (stimuli : Option (List ℕ × List ℕ)) (e : Response) → drives_of stimuli ≡ Err e → IsSound ns e
 sound-drives ns None e h = ok-err (IsSound ns e) nothing e h
 sound-drives ns (Some file) e h = sound-stimuli ns file.0 file.1 (first_fault 0 nothing (items_of file.1)) e h
 
-sound-values : (ns : List (List ℕ)) (name text : List ℕ) (x : Option ℕ) (e : Reply) → by_bad_line name text x ≡ Err e → IsSound ns e
+sound-values : (ns : List (List ℕ)) (name text : List ℕ) (x : Option ℕ) (e : Response) → by_bad_line name text x ≡ Err e → IsSound ns e
 sound-values ns name text None e h = ok-err (IsSound ns e) (fold values.with_item [] (values.items_of text)) e h
 sound-values ns name text (Some line) e h =
-    let told = line_reply name text line (codes "BADANALOG") in
-    sound-err ns told e refl refl (let k : told ≡ e = cc in k)
+    let reported = line_response name text line (codes "BADANALOG") in
+    sound-err ns reported e refl refl (let k : reported ≡ e = cc in k)
 
-sound-analog : (ns : List (List ℕ)) (analog : Option (List ℕ × List ℕ)) (e : Reply) → values_of analog ≡ Err e → IsSound ns e
+sound-analog : (ns : List (List ℕ)) (analog : Option (List ℕ × List ℕ)) (e : Response) → values_of analog ≡ Err e → IsSound ns e
 sound-analog ns None e h = let none : List Sample = [] in ok-err (IsSound ns e) none e h
 sound-analog ns (Some file) e h = sound-values ns file.0 file.1 (values.first_bad 0 [] (values.items_of file.1)) e h
 
-sound-driving : (ns : List (List ℕ)) (given : GivenFiles) (e : Reply) → driving_of given ≡ Err e → IsSound ns e
+sound-driving : (ns : List (List ℕ)) (given : GivenFiles) (e : Response) → driving_of given ≡ Err e → IsSound ns e
 sound-driving ns given e h = by (drives_of given.stimuli) refl (values_of given.analog) refl h
   where
-    by : (x : Result Drives Reply) → drives_of given.stimuli ≡ x → (y : Result (List Sample) Reply) → values_of given.analog ≡ y → with_drives x y ≡ Err e → IsSound ns e
+    by : (x : Result Drives Response) → drives_of given.stimuli ≡ x → (y : Result (List Sample) Response) → values_of given.analog ≡ y → with_drives x y ≡ Err e → IsSound ns e
     by (Err r) f y g k = sound-drives ns given.stimuli e (f ∙ (let l : Err r ≡ Err e = cc in l))
     by (Ok drives) f (Err r) g k = sound-analog ns given.analog e (g ∙ (let l : Err r ≡ Err e = cc in l))
     by (Ok drives) f (Ok values) g k = absurd (cc)
 
-sound-library : (ns : List (List ℕ)) (name : List ℕ) (x : Result (List Object) LibFault) (e : Reply) → by_library name x ≡ Err e → IsSound ns e
+sound-library : (ns : List (List ℕ)) (name : List ℕ) (x : Result (List Object) LibFault) (e : Response) → by_library name x ≡ Err e → IsSound ns e
 sound-library ns name (Ok members) e h = ok-err (IsSound ns e) members e h
-sound-library ns name (Err fault) e h = sound-at (libraries.place_of fault) (let k : libraries.reply_at name (libraries.place_of fault) ≡ e = cc in k)
+sound-library ns name (Err fault) e h = sound-at (libraries.place_of fault) (let k : libraries.response_at name (libraries.place_of fault) ≡ e = cc in k)
   where
-    sound-at : (place : Option (ℕ × ℕ)) → libraries.reply_at name place ≡ e → IsSound ns e
-    sound-at None k = sound-err ns (libraries.reply_at name None) e refl refl k
-    sound-at (Some p) k = sound-err ns (libraries.reply_at name (Some p)) e refl refl k
+    sound-at : (place : Option (ℕ × ℕ)) → libraries.response_at name place ≡ e → IsSound ns e
+    sound-at None k = sound-err ns (libraries.response_at name None) e refl refl k
+    sound-at (Some p) k = sound-err ns (libraries.response_at name (Some p)) e refl refl k
 
-sound-lines-of : {A : Type 0} (ns : List (List ℕ)) (code name text : List ℕ) (x : Result (List A) ℕ) (e : Reply) → by_lines code name text x ≡ Err e → IsSound ns e
+sound-lines-of : {A : Type 0} (ns : List (List ℕ)) (code name text : List ℕ) (x : Result (List A) ℕ) (e : Response) → by_lines code name text x ≡ Err e → IsSound ns e
 sound-lines-of ns code name text (Ok said) e h = ok-err (IsSound ns e) said e h
-sound-lines-of ns code name text (Err line) e h = sound-err ns (line_reply name text line code) e refl refl (let k : line_reply name text line code ≡ e = cc in k)
+sound-lines-of ns code name text (Err line) e h = sound-err ns (line_response name text line code) e refl refl (let k : line_response name text line code ≡ e = cc in k)
 
-sound-script : (ns : List (List ℕ)) (script : List ℕ × List ℕ) (e : Reply) → script_of script.0 script.1 ≡ Err e → IsSound ns e
+sound-script : (ns : List (List ℕ)) (script : List ℕ × List ℕ) (e : Response) → script_of script.0 script.1 ≡ Err e → IsSound ns e
 sound-script ns script e h = sound-lines-of ns (codes "BADCOMMAND") script.0 script.1 (scripts.script_of script.1) e h
 
-sound-source-lines : (ns : List (List ℕ)) (lines : Option (List ℕ × List ℕ)) (e : Reply) → lines_of lines ≡ Err e → IsSound ns e
+sound-source-lines : (ns : List (List ℕ)) (lines : Option (List ℕ × List ℕ)) (e : Response) → lines_of lines ≡ Err e → IsSound ns e
 sound-source-lines ns None e h = ok-err (IsSound ns e) [] e h
 sound-source-lines ns (Some file) e h = sound-lines-of ns (codes "BADMAP") file.0 file.1 (maps.map_of file.1) e h
 
-sound-told : {A : Type 0} (ns : List (List ℕ)) (x : Result A Reply) (tell : A → Reply) → ((e : Reply) → x ≡ Err e → IsSound ns e) → ((a : A) → IsSound ns (tell a)) → IsSound ns (told x tell)
-sound-told ns (Ok a) tell f g = g a
-sound-told ns (Err e) tell f g = f e refl
+sound-reported : {A : Type 0} (ns : List (List ℕ)) (x : Result A Response) (report : A → Response) → ((e : Response) → x ≡ Err e → IsSound ns e) → ((a : A) → IsSound ns (report a)) → IsSound ns (reported x report)
+sound-reported ns (Ok a) report f g = g a
+sound-reported ns (Err e) report f g = f e refl
 
-sound-debug : (ns : List (List ℕ)) (script : List ℕ × List ℕ) (lines : Option (List ℕ × List ℕ)) (driving : Driving) (image : List ℕ) → IsSound ns (debug_reply script lines driving image)
+sound-debug : (ns : List (List ℕ)) (script : List ℕ × List ℕ) (lines : Option (List ℕ × List ℕ)) (driving : Driving) (image : List ℕ) → IsSound ns (debug_response script lines driving image)
 sound-debug ns script lines driving image =
-    sound-told ns (script_of script.0 script.1) _ (sound-script ns script)
-    (λ commands. sound-told ns (lines_of lines) _ (sound-source-lines ns lines)
-    (λ entries. record { told = told-end (end_of (debugged_by entries commands driving image).machine); named = inl refl }))
+    sound-reported ns (script_of script.0 script.1) _ (sound-script ns script)
+    (λ commands. sound-reported ns (lines_of lines) _ (sound-source-lines ns lines)
+    (λ entries. record { reported = reported-end (end_of (debugged_by entries commands driving image).machine); named = inl refl }))
 
-sound-fault : (ns : List (List ℕ)) (name text : List ℕ) (r : Reply) → TellsFault AnyNote name text r → IsSound ns r
-sound-fault ns name text r h = sound-err ns (source_reply name h.0 h.1 h.3.0) r refl refl (sym h.3.2)
+sound-fault : (ns : List (List ℕ)) (name text : List ℕ) (r : Response) → ReportsFault AnyDiagnostic name text r → IsSound ns r
+sound-fault ns name text r h = sound-err ns (source_response name h.0 h.1 h.3.0) r refl refl (sym h.3.2)
 
-sound-first : (ns names texts : List (List ℕ)) (r : Reply) → TellsFirst AnyNote names texts r → IsSound ns r
+sound-first : (ns names texts : List (List ℕ)) (r : Response) → ReportsFirst AnyDiagnostic names texts r → IsSound ns r
 sound-first ns [] texts r h = absurd h
 sound-first ns (n ∷ names) [] r h = absurd h
 sound-first ns (n ∷ names) (t ∷ texts) r (inl h) = sound-fault ns n t r h
 sound-first ns (n ∷ names) (t ∷ texts) r (inr h) = sound-first ns names texts r h.1
 
-sound-sources : (ns names : List (List ℕ)) (given : GivenFiles) (ranges : Ranges) (texts : List (List ℕ)) (tell : Driving → List ℕ → Reply) (r : Reply) →
-    ((driving : Driving) (image : List ℕ) → IsSound ns (tell driving image)) → SourcesTold AnyNote names given ranges texts tell r → IsSound ns r
-sound-sources ns names given ranges texts tell r f (Ok ms, made, h) =
-    then-all (IsSound ns) (places_of names ms ranges) (Driven given (LinkedTold texts) tell ms) r (sound-places ns names ms (placed ms ranges))
-    (λ places e k. then-all (IsSound ns) (driving_of given) (λ d. LinkedTold texts (tell d) ms places) r (sound-driving ns given) (λ d g l. subst (IsSound ns) (sym l.told) (f d l.image)) k) h
-sound-sources ns names given ranges texts tell r f (Err e, told, h) = subst (IsSound ns) (sym h) (sound-first ns names texts e told)
+sound-sources : (ns names : List (List ℕ)) (given : GivenFiles) (ranges : Ranges) (texts : List (List ℕ)) (report : Driving → List ℕ → Response) (r : Response) →
+    ((driving : Driving) (image : List ℕ) → IsSound ns (report driving image)) → SourcesReported AnyDiagnostic names given ranges texts report r → IsSound ns r
+sound-sources ns names given ranges texts report r f (Ok ms, made, h) =
+    then-all (IsSound ns) (places_of names ms ranges) (Driven given (LinkedReported texts) report ms) r (sound-places ns names ms (placed ms ranges))
+    (λ places e k. then-all (IsSound ns) (driving_of given) (λ d. LinkedReported texts (report d) ms places) r (sound-driving ns given) (λ d g l. subst (IsSound ns) (sym l.reported) (f d l.image)) k) h
+sound-sources ns names given ranges texts report r f (Err e, reported, h) = subst (IsSound ns) (sym h) (sound-first ns names texts e reported)
 
-sound-profile : (states : ℕ) (out : List ℕ) (entries : List MapEntry) (driving : Driving) (image : List ℕ) → IsSound (out ∷ []) (profile_reply states out entries driving image)
-sound-profile states out entries driving image = record { told = told-end (end_of (run_of states driving image).machine); named = inr refl }
+sound-profile : (states : ℕ) (out : List ℕ) (entries : List MapEntry) (driving : Driving) (image : List ℕ) → IsSound (out ∷ []) (profile_response states out entries driving image)
+sound-profile states out entries driving image = record { reported = reported-end (end_of (run_of states driving image).machine); named = inr refl }
 
-sound-lines : (ns names : List (List ℕ)) (given : GivenFiles) (ranges : Ranges) (texts : List (List ℕ)) (tell : List MapEntry → Driving → List ℕ → Reply) (r : Reply) →
-    ((entries : List MapEntry) (driving : Driving) (image : List ℕ) → IsSound ns (tell entries driving image)) → LinesTold AnyNote names given ranges texts tell r → IsSound ns r
-sound-lines ns names given ranges texts tell r f (Ok ms, made, h) =
-    then-all (IsSound ns) (places_of names ms ranges) (DrivenWithLines given (LinkedWithLines texts) tell ms) r (sound-places ns names ms (placed ms ranges))
-    (λ places e k. then-all (IsSound ns) (driving_of given) (λ d. LinkedWithLines texts (λ entries. tell entries d) ms places) r (sound-driving ns given)
-    (λ d g l. subst (IsSound ns) (sym l.told) (f (map map_entry l.entries) d l.image)) k) h
-sound-lines ns names given ranges texts tell r f (Err e, told, h) = subst (IsSound ns) (sym h) (sound-first ns names texts e told)
+sound-lines : (ns names : List (List ℕ)) (given : GivenFiles) (ranges : Ranges) (texts : List (List ℕ)) (report : List MapEntry → Driving → List ℕ → Response) (r : Response) →
+    ((entries : List MapEntry) (driving : Driving) (image : List ℕ) → IsSound ns (report entries driving image)) → LinesReported AnyDiagnostic names given ranges texts report r → IsSound ns r
+sound-lines ns names given ranges texts report r f (Ok ms, made, h) =
+    then-all (IsSound ns) (places_of names ms ranges) (DrivenWithLines given (LinkedWithLines texts) report ms) r (sound-places ns names ms (placed ms ranges))
+    (λ places e k. then-all (IsSound ns) (driving_of given) (λ d. LinkedWithLines texts (λ entries. report entries d) ms places) r (sound-driving ns given)
+    (λ d g l. subst (IsSound ns) (sym l.reported) (f (map map_entry l.entries) d l.image)) k) h
+sound-lines ns names given ranges texts report r f (Err e, reported, h) = subst (IsSound ns) (sym h) (sound-first ns names texts e reported)
 
-sound-hex-told : (ns : List (List ℕ)) (name : List ℕ) (given : GivenFiles) (text : List ℕ) (tell : Driving → List ℕ → Reply) (r : Reply) →
-    ((driving : Driving) (image : List ℕ) → IsSound ns (tell driving image)) → HexTold name given text tell r → IsSound ns r
-sound-hex-told ns name given text tell r f h =
-    then-all (IsSound ns) (hex_of name text) (λ image. Then (driving_of given) (λ driving reply. reply ≡ tell driving image)) r (sound-hex ns name text (image_of text))
-    (λ image e k. then-all (IsSound ns) (driving_of given) (λ driving reply. reply ≡ tell driving image) r (sound-driving ns given) (λ d g l. subst (IsSound ns) (sym l) (f d image)) k) h
+sound-hex-reported : (ns : List (List ℕ)) (name : List ℕ) (given : GivenFiles) (text : List ℕ) (report : Driving → List ℕ → Response) (r : Response) →
+    ((driving : Driving) (image : List ℕ) → IsSound ns (report driving image)) → HexReported name given text report r → IsSound ns r
+sound-hex-reported ns name given text report r f h =
+    then-all (IsSound ns) (hex_of name text) (λ image. Then (driving_of given) (λ driving response. response ≡ report driving image)) r (sound-hex ns name text (image_of text))
+    (λ image e k. then-all (IsSound ns) (driving_of given) (λ driving response. response ≡ report driving image) r (sound-driving ns given) (λ d g l. subst (IsSound ns) (sym l) (f d image)) k) h
 
 abbrev names_in : List Write → List (List ℕ)
 names_in writes = map (λ (w : Write). w.name) writes
@@ -288,8 +288,8 @@ sound-writing : (ns : List (List ℕ)) (readable others : List Write) → names_
 sound-writing ns readable others e = by (first_long readable)
   where
     by : (long : Option (List ℕ)) → IsSound ns (unless_long long (readable ++ others))
-    by None = record { told = refl; named = inr e }
-    by (Some name) = record { told = refl; named = inl refl }
+    by None = record { reported = refl; named = inr e }
+    by (Some name) = record { reported = refl; named = inl refl }
 
 -- the listing is written under the name that asks for it
 
@@ -297,24 +297,24 @@ listing-names : (list : Option (List ℕ)) (text : List ℕ) (m : Object) (write
 listing-names None text m writes h = ap names_in h
 listing-names (Some name) text m writes h = ap names_in h.2
 
-sound-object-of : (name out : List ℕ) (list : Option (List ℕ)) (text : List ℕ) (r : Reply) → AssembleAnswer AnyNote name out list text r → IsSound (out ∷ option_to_list list) r
+sound-object-of : (name out : List ℕ) (list : Option (List ℕ)) (text : List ℕ) (r : Response) → AssembleAnswer AnyDiagnostic name out list text r → IsSound (out ∷ option_to_list list) r
 sound-object-of name out list text r (Ok m, made, h) =
     subst (IsSound (out ∷ option_to_list list)) (sym h.2)
     (sound-writing (out ∷ option_to_list list) (write out (objects.spelling m) ∷ []) h.0 (ap (λ ns. out ∷ ns) (listing-names list text m h.0 h.1)))
-sound-object-of name out list text r (Err e, told, h) = subst (IsSound (out ∷ option_to_list list)) (sym h) (sound-fault (out ∷ option_to_list list) name text e told)
+sound-object-of name out list text r (Err e, reported, h) = subst (IsSound (out ∷ option_to_list list)) (sym h) (sound-fault (out ∷ option_to_list list) name text e reported)
 
-sound-one : (ns : List (List ℕ)) (may : List ℕ → Reply → Type 0) (texts : List (List ℕ)) (r : Reply) → ((t : List ℕ) → may t r → IsSound ns r) → OneText may texts r → IsSound ns r
+sound-one : (ns : List (List ℕ)) (may : List ℕ → Response → Type 0) (texts : List (List ℕ)) (r : Response) → ((t : List ℕ) → may t r → IsSound ns r) → OneText may texts r → IsSound ns r
 sound-one ns may (t ∷ []) r f h = f t h
 sound-one ns may [] r f h = absurd h
 sound-one ns may (t ∷ u ∷ texts) r f h = absurd h
 
-sound-two : (ns : List (List ℕ)) (may : List ℕ → List ℕ → Reply → Type 0) (texts : List (List ℕ)) (r : Reply) → ((t u : List ℕ) → may t u r → IsSound ns r) → TwoTexts may texts r → IsSound ns r
+sound-two : (ns : List (List ℕ)) (may : List ℕ → List ℕ → Response → Type 0) (texts : List (List ℕ)) (r : Response) → ((t u : List ℕ) → may t u r → IsSound ns r) → TwoTexts may texts r → IsSound ns r
 sound-two ns may (t ∷ u ∷ []) r f h = f t u h
 sound-two ns may [] r f h = absurd h
 sound-two ns may (t ∷ []) r f h = absurd h
 sound-two ns may (t ∷ u ∷ v ∷ texts) r f h = absurd h
 
-sound-links : (out : List ℕ) (beside : Beside) (ranges : Ranges) (ms : List Object) (places : Places) (r : Reply) → LinksTo out beside ranges ms places r → IsSound (out ∷ names_beside beside) r
+sound-links : (out : List ℕ) (beside : Beside) (ranges : Ranges) (ms : List Object) (places : Places) (r : Response) → LinksTo out beside ranges ms places r → IsSound (out ∷ names_beside beside) r
 sound-links out beside ranges ms places r h =
     subst (IsSound (out ∷ names_beside beside)) (sym h.done)
     (sound-writing (out ∷ names_beside beside) (write out (spelling h.image) ∷ h.more) (map_writes beside.map ms ranges places)
@@ -329,18 +329,18 @@ sound-links out beside ranges ms places r h =
     named None = refl
     named (Some name) = refl
 
-sound-taking : (ns names : List (List ℕ)) (library : List ℕ) (may : List (List ℕ) → List Object → Reply → Type 0) (ms members : List Object) (r : Reply) →
+sound-taking : (ns names : List (List ℕ)) (library : List ℕ) (may : List (List ℕ) → List Object → Response → Type 0) (ms members : List Object) (r : Response) →
     ((files : List (List ℕ)) (all : List Object) → may files all r → IsSound ns r) → Taking names library may ms members r → IsSound ns r
 sound-taking ns names library may ms members r f (Ok taken, is, h) = f (names ++ member_words library taken) (ms ++ taken) h
-sound-taking ns names library may ms members r f (Err e, is, h) = sound-err ns (fault_reply library faults.TooMany) r refl refl (sym (h ∙ is.3))
+sound-taking ns names library may ms members r f (Err e, is, h) = sound-err ns (fault_response library faults.TooMany) r refl refl (sym (h ∙ is.3))
 
-sound-completed : (ns names : List (List ℕ)) (library : Option (List ℕ × List ℕ)) (may : List (List ℕ) → List Object → Reply → Type 0) (ms : List Object) (r : Reply) →
+sound-completed : (ns names : List (List ℕ)) (library : Option (List ℕ × List ℕ)) (may : List (List ℕ) → List Object → Response → Type 0) (ms : List Object) (r : Response) →
     ((files : List (List ℕ)) (all : List Object) → may files all r → IsSound ns r) → Completed names library may ms r → IsSound ns r
 sound-completed ns names None may ms r f h = f names ms h
 sound-completed ns names (Some library) may ms r f h =
     then-all (IsSound ns) (library_of library.0 library.1) (Taking names library.0 may ms) r (sound-library ns library.0 (read_answer library.1)) (λ members e k. sound-taking ns names library.0 may ms members r f k) h
 
-sound-link : (names : List (List ℕ)) (library : Option (List ℕ × List ℕ)) (out : List ℕ) (beside : Beside) (ranges : Ranges) (texts : List (List ℕ)) (r : Reply) →
+sound-link : (names : List (List ℕ)) (library : Option (List ℕ × List ℕ)) (out : List ℕ) (beside : Beside) (ranges : Ranges) (texts : List (List ℕ)) (r : Response) →
     Then (modules_of object_of names texts) (Completed names library (λ files. Placing files ranges (LinksTo out beside ranges))) r → IsSound (out ∷ names_beside beside) r
 sound-link names library out beside ranges texts r h =
     let ns = out ∷ names_beside beside in
@@ -350,45 +350,45 @@ sound-link names library out beside ranges texts r h =
 
 sound-packed : (names : List (List ℕ)) (out : List ℕ) (ms : List Object) (double : Option (List ℕ)) → IsSound (out ∷ []) (packed names out ms double)
 sound-packed names out ms None = sound-writing (out ∷ []) (write out (library_bytes ms) ∷ []) [] refl
-sound-packed names out ms (Some name) = record { told = refl; named = inl refl }
+sound-packed names out ms (Some name) = record { reported = refl; named = inl refl }
 
-sound-pack : (names : List (List ℕ)) (out : List ℕ) (texts : List (List ℕ)) (r : Reply) → PackAnswer names out texts r → IsSound (out ∷ []) r
+sound-pack : (names : List (List ℕ)) (out : List ℕ) (texts : List (List ℕ)) (r : Response) → PackAnswer names out texts r → IsSound (out ∷ []) r
 sound-pack names out texts r h =
-    then-all (IsSound (out ∷ [])) (modules_of object_of names texts) (λ ms reply. reply ≡ packed names out ms (doubled ms)) r (sound-modules (out ∷ []) names texts)
+    then-all (IsSound (out ∷ [])) (modules_of object_of names texts) (λ ms response. response ≡ packed names out ms (doubled ms)) r (sound-modules (out ∷ []) names texts)
     (λ ms e k. subst (IsSound (out ∷ [])) (sym k) (sound-packed names out ms (doubled ms))) h
 
-sound-dump : (name out : List ℕ) (clock : ℕ) (text : List ℕ) (r : Reply) → DumpAnswer name out clock text r → IsSound (out ∷ []) r
-sound-dump name out clock text r (Ok items, read, h) = subst (IsSound (out ∷ [])) (sym h) (record { told = refl; named = inr refl })
-sound-dump name out clock text r (Err e, told, h) = sound-err (out ∷ []) (line_reply name text told.0 (codes "BADTRACE")) r refl refl (sym (h ∙ told.2))
+sound-dump : (name out : List ℕ) (clock : ℕ) (text : List ℕ) (r : Response) → DumpAnswer name out clock text r → IsSound (out ∷ []) r
+sound-dump name out clock text r (Ok items, read, h) = subst (IsSound (out ∷ [])) (sym h) (record { reported = refl; named = inr refl })
+sound-dump name out clock text r (Err e, reported, h) = sound-err (out ∷ []) (line_response name text reported.0 (codes "BADTRACE")) r refl refl (sym (h ∙ reported.2))
 
 sound-explained : (ns : List (List ℕ)) (code : List ℕ) (row : Option Said) → IsSound ns (explained_by code row)
 sound-explained ns code (Some row) = sound-says ns status.Done _ refl
-sound-explained ns code None = record { told = refl; named = inl refl }
+sound-explained ns code None = record { reported = refl; named = inl refl }
 
-pub sound-command : (c : Command) (contents : List (Option (List ℕ))) (r : Reply) → CommandAnswer AnyNote (Some c) contents r → IsSound (names_written (Some c)) r
+pub sound-command : (c : Command) (contents : List (Option (List ℕ))) (r : Response) → CommandAnswer AnyDiagnostic (Some c) contents r → IsSound (names_written (Some c)) r
 sound-command Helps contents r h = subst (IsSound []) (sym h) (sound-says [] status.Done _ refl)
 sound-command (HelpsOn verb) contents r h = subst (IsSound []) (sym h) (sound-says [] status.Done _ refl)
-sound-command TellsVersion contents r h = subst (IsSound []) (sym h) (sound-says [] status.Done _ refl)
+sound-command ReportsVersion contents r h = subst (IsSound []) (sym h) (sound-says [] status.Done _ refl)
 sound-command (Runs files inputs extent placing) contents r h =
     let names = files ++ names_of inputs in
-    then-all (IsSound []) (reads_of names contents) (Parted (length files) (RunAnswer AnyNote files inputs extent placing)) r (sound-reads [] names contents)
-    (λ texts e k. sound-sources [] files (given_for inputs (drop (length files) texts)) placing (take (length files) texts) (board_reply extent) r
+    then-all (IsSound []) (reads_of names contents) (Parted (length files) (RunAnswer AnyDiagnostic files inputs extent placing)) r (sound-reads [] names contents)
+    (λ texts e k. sound-sources [] files (given_for inputs (drop (length files) texts)) placing (take (length files) texts) (board_response extent) r
     (λ driving image. sound-run [] extent driving image) k) h
 sound-command (Profiles files inputs states placing out) contents r h =
     let ns = out ∷ [] in
     let names = files ++ names_of inputs in
-    then-all (IsSound ns) (reads_of names contents) (Parted (length files) (ProfileAnswer AnyNote files inputs states placing out)) r (sound-reads ns names contents)
-    (λ texts e k. sound-lines ns files (given_for inputs (drop (length files) texts)) placing (take (length files) texts) (profile_reply states out) r (sound-profile states out) k) h
+    then-all (IsSound ns) (reads_of names contents) (Parted (length files) (ProfileAnswer AnyDiagnostic files inputs states placing out)) r (sound-reads ns names contents)
+    (λ texts e k. sound-lines ns files (given_for inputs (drop (length files) texts)) placing (take (length files) texts) (profile_response states out) r (sound-profile states out) k) h
 sound-command (ProfilesHex file inputs states out) contents r h =
     let ns = out ∷ [] in
     let names = file ∷ names_of inputs in
     then-all (IsSound ns) (reads_of names contents) (Parted 1 (λ texts more. OneText (λ text. ProfileHexAnswer file inputs states out text more) texts)) r (sound-reads ns names contents)
     (λ texts e k. sound-one ns (λ text. ProfileHexAnswer file inputs states out text (drop 1 texts)) (take 1 texts) r
-    (λ t l. sound-hex-told ns file (given_for inputs (drop 1 texts)) t (profile_reply states out []) r (sound-profile states out []) l) k) h
+    (λ t l. sound-hex-reported ns file (given_for inputs (drop 1 texts)) t (profile_response states out []) r (sound-profile states out []) l) k) h
 sound-command (Assembles file out list) contents r h =
     let ns = out ∷ option_to_list list in
-    then-all (IsSound ns) (reads_of (file ∷ []) contents) (OneText (AssembleAnswer AnyNote file out list)) r (sound-reads ns (file ∷ []) contents)
-    (λ texts e k. sound-one ns (AssembleAnswer AnyNote file out list) texts r (λ t l. sound-object-of file out list t r l) k) h
+    then-all (IsSound ns) (reads_of (file ∷ []) contents) (OneText (AssembleAnswer AnyDiagnostic file out list)) r (sound-reads ns (file ∷ []) contents)
+    (λ texts e k. sound-one ns (AssembleAnswer AnyDiagnostic file out list) texts r (λ t l. sound-object-of file out list t r l) k) h
 sound-command (Packs files out) contents r h =
     then-all (IsSound (out ∷ [])) (reads_of files contents) (PackAnswer files out) r (sound-reads (out ∷ []) files contents) (λ texts e k. sound-pack files out texts r k) h
 sound-command (Links files inputs out beside placing) contents r h =
@@ -400,7 +400,7 @@ sound-command (RunsHex file inputs extent) contents r h =
     let names = file ∷ names_of inputs in
     then-all (IsSound []) (reads_of names contents) (Parted 1 (λ texts more. OneText (λ text. RunHexAnswer file inputs extent text more) texts)) r (sound-reads [] names contents)
     (λ texts e k. sound-one [] (λ text. RunHexAnswer file inputs extent text (drop 1 texts)) (take 1 texts) r
-    (λ t l. sound-hex-told [] file (given_for inputs (drop 1 texts)) t (board_reply extent) r (λ driving image. sound-run [] extent driving image) l) k) h
+    (λ t l. sound-hex-reported [] file (given_for inputs (drop 1 texts)) t (board_response extent) r (λ driving image. sound-run [] extent driving image) l) k) h
 sound-command (Lists file first last) contents r h =
     then-all (IsSound []) (reads_of (file ∷ []) contents) (OneText (ListAnswer file first last)) r (sound-reads [] (file ∷ []) contents)
     (λ texts e k. sound-one [] (ListAnswer file first last) texts r
@@ -409,7 +409,7 @@ sound-command (Debugs file script inputs) contents r h =
     let names = file ∷ script ∷ names_of inputs in
     then-all (IsSound []) (reads_of names contents) (Parted 2 (λ texts more. TwoTexts (λ text commands. DebugAnswer file script inputs text commands more) texts)) r (sound-reads [] names contents)
     (λ texts e k. sound-two [] (λ text commands. DebugAnswer file script inputs text commands (drop 2 texts)) (take 2 texts) r
-    (λ t u l. sound-hex-told [] file (given_for inputs (drop 2 texts)) t (debug_reply (script, u) (input_for role.Lines inputs (drop 2 texts))) r
+    (λ t u l. sound-hex-reported [] file (given_for inputs (drop 2 texts)) t (debug_response (script, u) (input_for role.Lines inputs (drop 2 texts))) r
     (λ driving image. sound-debug [] (script, u) (input_for role.Lines inputs (drop 2 texts)) driving image) l) k) h
 sound-command (Generates number) contents r h = sound-sources [] made_names (made_given number) (placing_of []) (made_texts number) (summary_of number) r (λ driving image. sound-summary [] number driving image) h
 sound-command (Dumps file out clock) contents r h =
@@ -418,38 +418,38 @@ sound-command (Dumps file out clock) contents r h =
 sound-command (Explains code) contents r h = subst (IsSound []) (sym h) (sound-explained [] code (said_of code))
 
 -- a read that has failed
-failed-says : (names : List (List ℕ)) (contents : List (Option (List ℕ))) (rose : Type 0) (r : Reply) → FailedRead names contents rose r → rose × (r.status ≡ status.ReadFault) × (r.writes ≡ [])
+failed-says : (names : List (List ℕ)) (contents : List (Option (List ℕ))) (rose : Type 0) (r : Response) → FailedRead names contents rose r → rose × (r.status ≡ status.ReadFault) × (r.writes ≡ [])
 failed-says [] contents rose r h = absurd h
 failed-says (n ∷ names) [] rose r h = absurd h
-failed-says (n ∷ names) (c ∷ contents) rose r (inl h) = (h.0, ap (λ (k : Reply). k.status) h.1, ap (λ (k : Reply). k.writes) h.1)
+failed-says (n ∷ names) (c ∷ contents) rose r (inl h) = (h.0, ap (λ (k : Response). k.status) h.1, ap (λ (k : Response). k.writes) h.1)
 failed-says (n ∷ names) (c ∷ contents) rose r (inr h) = failed-says names contents rose r h.1
 
 -- ---- what may be answered to a command
 
 -- it is no usage, or there is no command
-pub may-usage : (c : Option Command) (told : Option Holding) (rose : Type 0) (r : Reply) → MayAnswer AnyNote c told rose r → r.status ≡ status.Usage → c ≡ None
-may-usage None told rose r h e = refl
-may-usage (Some c) told rose r (contents, holds, inl h) e = absurd (let s = (sound-command c contents r h).told in let f : is_told status.Usage ≡ true = subst (λ k. is_told k ≡ true) e s in let g : false ≡ true = f in cc)
-may-usage (Some c) told rose r (contents, holds, inr h) e = absurd (let s = (failed-says (names_read (Some c)) contents rose r h).1 in let g : status.Usage ≡ status.ReadFault = sym e ∙ s in cc)
+pub may-usage : (c : Option Command) (reported : Option Holding) (rose : Type 0) (r : Response) → MayAnswer AnyDiagnostic c reported rose r → r.status ≡ status.Usage → c ≡ None
+may-usage None reported rose r h e = refl
+may-usage (Some c) reported rose r (contents, holds, inl h) e = absurd (let s = (sound-command c contents r h).reported in let f : is_reported status.Usage ≡ true = subst (λ k. is_reported k ≡ true) e s in let g : false ≡ true = f in cc)
+may-usage (Some c) reported rose r (contents, holds, inr h) e = absurd (let s = (failed-says (names_read (Some c)) contents rose r h).1 in let g : status.Usage ≡ status.ReadFault = sym e ∙ s in cc)
 
-pub may-read : (c : Option Command) (told : Option Holding) (rose : Type 0) (r : Reply) → MayAnswer AnyNote c told rose r → r.status ≡ status.ReadFault → rose
-may-read None told rose r (contents, holds, inl h) e = absurd (let g : status.Usage ≡ status.ReadFault = sym (ap (λ (k : Reply). k.status) h) ∙ e in cc)
-may-read None told rose r (contents, holds, inr h) e = (failed-says [] contents rose r h).0
-may-read (Some c) told rose r (contents, holds, inl h) e = absurd (let s = (sound-command c contents r h).told in let f : is_told status.ReadFault ≡ true = subst (λ k. is_told k ≡ true) e s in let g : false ≡ true = f in cc)
-may-read (Some c) told rose r (contents, holds, inr h) e = (failed-says (names_read (Some c)) contents rose r h).0
+pub may-read : (c : Option Command) (reported : Option Holding) (rose : Type 0) (r : Response) → MayAnswer AnyDiagnostic c reported rose r → r.status ≡ status.ReadFault → rose
+may-read None reported rose r (contents, holds, inl h) e = absurd (let g : status.Usage ≡ status.ReadFault = sym (ap (λ (k : Response). k.status) h) ∙ e in cc)
+may-read None reported rose r (contents, holds, inr h) e = (failed-says [] contents rose r h).0
+may-read (Some c) reported rose r (contents, holds, inl h) e = absurd (let s = (sound-command c contents r h).reported in let f : is_reported status.ReadFault ≡ true = subst (λ k. is_reported k ≡ true) e s in let g : false ≡ true = f in cc)
+may-read (Some c) reported rose r (contents, holds, inr h) e = (failed-says (names_read (Some c)) contents rose r h).0
 
-abbrev pub AreNamed : List (List ℕ) → Reply → Type 0
+abbrev pub AreNamed : List (List ℕ) → Response → Type 0
 AreNamed names r = (r.writes ≡ []) ⊎ (map (λ (w : Write). w.name) r.writes ≡ names)
 
-pub may-named : (c : Option Command) (told : Option Holding) (rose : Type 0) (r : Reply) → MayAnswer AnyNote c told rose r → AreNamed (names_written c) r
-may-named None told rose r (contents, holds, inl h) = inl (ap (λ (k : Reply). k.writes) h)
-may-named None told rose r (contents, holds, inr h) = inl (failed-says [] contents rose r h).2
-may-named (Some c) told rose r (contents, holds, inl h) = (sound-command c contents r h).named
-may-named (Some c) told rose r (contents, holds, inr h) = inl (failed-says (names_read (Some c)) contents rose r h).2
+pub may-named : (c : Option Command) (reported : Option Holding) (rose : Type 0) (r : Response) → MayAnswer AnyDiagnostic c reported rose r → AreNamed (names_written c) r
+may-named None reported rose r (contents, holds, inl h) = inl (ap (λ (k : Response). k.writes) h)
+may-named None reported rose r (contents, holds, inr h) = inl (failed-says [] contents rose r h).2
+may-named (Some c) reported rose r (contents, holds, inl h) = (sound-command c contents r h).named
+may-named (Some c) reported rose r (contents, holds, inr h) = inl (failed-says (names_read (Some c)) contents rose r h).2
 
 -- ---- what is written
 
-no_writes : (r : Reply) → AreNamed [] r → r.writes ≡ []
+no_writes : (r : Response) → AreNamed [] r → r.writes ≡ []
 no_writes r (inl e) = e
 no_writes r (inr e) = by r.writes e
   where
@@ -466,23 +466,23 @@ wrote-none old new [] e h = h
 wrote-none old new (w ∷ ws) e h = absurd (cc)
 
 -- how the files are after a reply with each status
-pub record Ends (may : Reply → Type 0) (old new : Kept) : Type 0 where
-  pub how : (new ≡ old) ⊎ ((r : Reply) × may r × (Wrote old r.writes new ⊎ WroteByPart old r.writes new))
+pub record Ends (may : Response → Type 0) (old new : Kept) : Type 0 where
+  pub how : (new ≡ old) ⊎ ((r : Response) × may r × (Wrote old r.writes new ⊎ WroteByPart old r.writes new))
 
-pub ends-of : (may : Reply → Type 0) (old : Kept) (before : Shown) (given : Status) (new : Kept) (now : Shown) → Replies may old before given new now → Ends may old new
+pub ends-of : (may : Response → Type 0) (old : Kept) (before : Shown) (given : Status) (new : Kept) (now : Shown) → Responses may old before given new now → Ends may old new
 ends-of may old before given new now h = by given h
   where
     whole : (s : Status) → IsGiven may s old before new now → Ends may old new
-    whole s k = record { how = inr (k.reply, k.is_answer, inl k.files) }
+    whole s k = record { how = inr (k.response, k.is_answer, inl k.files) }
 
-    wanted : (new ≡ old) ⊎ ((reply : Reply) × may reply × WroteByPart old reply.writes new) → (new ≡ old) ⊎ ((r : Reply) × may r × (Wrote old r.writes new ⊎ WroteByPart old r.writes new))
+    wanted : (new ≡ old) ⊎ ((response : Response) × may response × WroteByPart old response.writes new) → (new ≡ old) ⊎ ((r : Response) × may r × (Wrote old r.writes new ⊎ WroteByPart old r.writes new))
     wanted (inl e) = inl e
     wanted (inr k) = inr (k.0, k.1, inr k.2)
 
-    by : (s : Status) → Replies may old before s new now → Ends may old new
+    by : (s : Status) → Responses may old before s new now → Ends may old new
     by status.NoMemory k = record { how = wanted k.files }
     by status.WriteFault (inl k) = record { how = inl k.files }
-    by status.WriteFault (inr k) = record { how = inr (k.reply, k.is_answer, inr k.files) }
+    by status.WriteFault (inr k) = record { how = inr (k.response, k.is_answer, inr k.files) }
     by status.Done k = whole status.Done k
     by status.Usage k = whole status.Usage k
     by status.Missing k = whole status.Missing k
@@ -493,13 +493,13 @@ ends-of may old before given new now h = by given h
     by status.ReadFault k = whole status.ReadFault k
 
 -- without a file that is written the files stay as they were
-pub ends-same : (may : Reply → Type 0) (old new : Kept) (names : List (List ℕ)) → ((r : Reply) → may r → AreNamed names r) → names ≡ [] → Ends may old new → new ≡ old
+pub ends-same : (may : Response → Type 0) (old new : Kept) (names : List (List ℕ)) → ((r : Response) → may r → AreNamed names r) → names ≡ [] → Ends may old new → new ≡ old
 ends-same may old new names named e h = by h.how
   where
-    none : (r : Reply) → may r → r.writes ≡ []
+    none : (r : Response) → may r → r.writes ≡ []
     none r m = no_writes r (subst (λ ns. AreNamed ns r) e (named r m))
 
-    by : (new ≡ old) ⊎ ((r : Reply) × may r × (Wrote old r.writes new ⊎ WroteByPart old r.writes new)) → new ≡ old
+    by : (new ≡ old) ⊎ ((r : Response) × may r × (Wrote old r.writes new ⊎ WroteByPart old r.writes new)) → new ≡ old
     by (inl k) = k
     by (inr (r, m, inl k)) = wrote-none old new r.writes (none r m) k
     by (inr (r, m, inr k)) = absurd (part-of_none old new r.writes (none r m) k)
@@ -539,8 +539,8 @@ stays-wide : (names : List (List ℕ)) (before : Holding) (now : Option Holding)
 stays-wide names before None h = absurd h
 stays-wide names before (Some now) h = λ name none. h name tt
 
-pub ends-stay : (may : Reply → Type 0) (old new : Kept) (names : List (List ℕ)) → ((r : Reply) → may r → AreNamed names r) → Ends may old new → Told old.held (λ before. StaysBut names before new.held)
-ends-stay may old new names named h = told old.held refl
+pub ends-stay : (may : Response → Type 0) (old new : Kept) (names : List (List ℕ)) → ((r : Response) → may r → AreNamed names r) → Ends may old new → Reported old.held (λ before. StaysBut names before new.held)
+ends-stay may old new names named h = reported old.held refl
   where
     same : (before : Holding) → old.held ≡ Some before → new ≡ old → StaysBut names before new.held
     same before e k = subst (λ n. StaysBut names before n) (sym (ap (λ (k : Kept). k.held) k ∙ e)) (λ name none. refl)
@@ -549,27 +549,27 @@ ends-stay may old new names named h = told old.held refl
     of_names before ws (inl e) k = stays-wide names before new.held (subst (λ (l : List Write). StaysBut (map (λ (w : Write). w.name) l) before new.held) e k)
     of_names before ws (inr e) k = subst (λ l. StaysBut l before new.held) e k
 
-    by : (before : Holding) → old.held ≡ Some before → (new ≡ old) ⊎ ((r : Reply) × may r × (Wrote old r.writes new ⊎ WroteByPart old r.writes new)) → StaysBut names before new.held
+    by : (before : Holding) → old.held ≡ Some before → (new ≡ old) ⊎ ((r : Response) × may r × (Wrote old r.writes new ⊎ WroteByPart old r.writes new)) → StaysBut names before new.held
     by before e (inl k) = same before e k
     by before e (inr (r, m, inl k)) = of_names before r.writes (named r m) (wrote-stays r.writes old new before e k)
     by before e (inr (r, m, inr k)) = of_names before r.writes (named r m) (part-stays r.writes old new before e k)
 
-    told : (o : Option Holding) → old.held ≡ o → Told o (λ before. StaysBut names before new.held)
-    told None e = tt
-    told (Some before) e = by before e h.how
+    reported : (o : Option Holding) → old.held ≡ o → Reported o (λ before. StaysBut names before new.held)
+    reported None e = tt
+    reported (Some before) e = by before e h.how
 
 -- ---- faults outside
 
-pub fault-of : (may : Reply → Type 0) (old : Kept) (before : Shown) (given : Status) (new : Kept) (now : Shown) (names : List (List ℕ)) → ((r : Reply) → may r → AreNamed names r) →
-    Replies may old before given new now → given ≡ status.WriteFault → Rose before.faults now.faults ⊎ ((names ≢ []) × Rose old.faults new.faults)
-fault-of may old before given new now names named h e = by (subst (λ s. Replies may old before s new now) e h)
+pub fault-of : (may : Response → Type 0) (old : Kept) (before : Shown) (given : Status) (new : Kept) (now : Shown) (names : List (List ℕ)) → ((r : Response) → may r → AreNamed names r) →
+    Responses may old before given new now → given ≡ status.WriteFault → Rose before.faults now.faults ⊎ ((names ≢ []) × Rose old.faults new.faults)
+fault-of may old before given new now names named h e = by (subst (λ s. Responses may old before s new now) e h)
   where
     by : SinkFailed may old before new now ⊎ WriteFailed may old before new now → Rose before.faults now.faults ⊎ ((names ≢ []) × Rose old.faults new.faults)
     by (inl k) = inl k.cause
-    by (inr k) = inr (λ none. part-of_none old new k.reply.writes (no_writes k.reply (subst (λ ns. AreNamed ns k.reply) none (named k.reply k.is_answer))) k.files, k.cause)
+    by (inr k) = inr (λ none. part-of_none old new k.response.writes (no_writes k.response (subst (λ ns. AreNamed ns k.response) none (named k.response k.is_answer))) k.files, k.cause)
 
-pub status-of : (may : Reply → Type 0) (old : Kept) (before : Shown) (given : Status) (new : Kept) (now : Shown) → given ≢ status.WriteFault → given ≢ status.NoMemory → Replies may old before given new now → (r : Reply) × may r × (given ≡ r.status)
-status-of may old before given new now f g h = let k = given-of may given old before new now f g h in (k.reply, k.is_answer, k.status)
+pub status-of : (may : Response → Type 0) (old : Kept) (before : Shown) (given : Status) (new : Kept) (now : Shown) → given ≢ status.WriteFault → given ≢ status.NoMemory → Responses may old before given new now → (r : Response) × may r × (given ≡ r.status)
+status-of may old before given new now f g h = let k = given-of may given old before new now f g h in (k.response, k.is_answer, k.status)
 
 -- ---- what is accepted is done
 
@@ -582,94 +582,94 @@ done-end end.Powerdown = inl refl
 done-end end.Reset = inl refl
 done-end (end.Undefined what) = inr refl
 
-done-then : {A : Type 0} (x : Result A Reply) (may : A → Reply → Type 0) (r : Reply) → ((a : A) → may a r → IsDone r.status) → IsOk x → Then x may r → IsDone r.status
+done-then : {A : Type 0} (x : Result A Response) (may : A → Response → Type 0) (r : Response) → ((a : A) → may a r → IsDone r.status) → IsOk x → Then x may r → IsDone r.status
 done-then (Ok a) may r f ok h = f a h
 done-then (Err e) may r f ok h = absurd (let k : false ≡ true = ok in cc)
 
-accepted-then : {A : Type 0} (accepts : A → Type 0) (may : A → Reply → Type 0) (x : Result A Reply) (r : Reply) → ((a : A) → accepts a → may a r → IsDone r.status) → Accepting accepts x → Then x may r → IsDone r.status
+accepted-then : {A : Type 0} (accepts : A → Type 0) (may : A → Response → Type 0) (x : Result A Response) (r : Response) → ((a : A) → accepts a → may a r → IsDone r.status) → Accepting accepts x → Then x may r → IsDone r.status
 accepted-then accepts may (Ok a) r f ok h = f a ok h
 accepted-then accepts may (Err e) r f ok h = absurd ok
 
 -- files that are written, none of them too long
-done-writing : (readable others : List Write) (r : Reply) → AreReadable readable → r ≡ writing_readable readable others → IsDone r.status
-done-writing readable others r h e = inl (ap (λ (k : Reply). k.status) (e ∙ written-all readable others h))
+done-writing : (readable others : List Write) (r : Response) → AreReadable readable → r ≡ writing_readable readable others → IsDone r.status
+done-writing readable others r h e = inl (ap (λ (k : Response). k.status) (e ∙ written-all readable others h))
 
 -- a reply that is said, where its status is this
-done-told : (r told : Reply) → r ≡ told → IsDone told.status → IsDone r.status
-done-told r told e h = subst (λ (k : Reply). IsDone k.status) (sym e) h
+done-reported : (r reported : Response) → r ≡ reported → IsDone reported.status → IsDone r.status
+done-reported r reported e h = subst (λ (k : Response). IsDone k.status) (sym e) h
 
-done-run : (extent : Extent) (driving : Driving) (image : List ℕ) → IsDone (board_reply extent driving image).status
+done-run : (extent : Extent) (driving : Driving) (image : List ℕ) → IsDone (board_response extent driving image).status
 done-run extent driving image = by extent.lives
   where
-    by : (lives : Option ℕ) → IsDone (reply_over lives extent.states driving image).status
+    by : (lives : Option ℕ) → IsDone (response_over lives extent.states driving image).status
     by None = done-end (end_of (run_of extent.states driving image).machine)
     by (Some most) = done-end (last_end (board_lives most extent.states driving image))
 
-no-fault : (name text : List ℕ) (r : Reply) → IsFaultless text → TellsFault AnyNote name text r → ⊥
+no-fault : (name text : List ℕ) (r : Response) → IsFaultless text → ReportsFault AnyDiagnostic name text r → ⊥
 no-fault name text r none h = none h.0 h.1 h.2
 
-none-first : (names texts : List (List ℕ)) (r : Reply) → AreFaultless texts → TellsFirst AnyNote names texts r → ⊥
+none-first : (names texts : List (List ℕ)) (r : Response) → AreFaultless texts → ReportsFirst AnyDiagnostic names texts r → ⊥
 none-first [] texts r none h = h
 none-first (n ∷ names) [] r none h = h
 none-first (n ∷ names) (t ∷ texts) r none (inl h) = no-fault n t r none.0 h
 none-first (n ∷ names) (t ∷ texts) r none (inr h) = none-first names texts r none.1 h.1
 
-done-sources : (names : List (List ℕ)) (given : GivenFiles) (ranges : Ranges) (texts : List (List ℕ)) (tell : Driving → List ℕ → Reply) (r : Reply) → ((driving : Driving) (image : List ℕ) → IsDone (tell driving image).status) →
-    AreFaultless texts → ((ms : List Object) → AreModules texts ms → IsOk (places_of names ms ranges)) → IsOk (driving_of given) → SourcesTold AnyNote names given ranges texts tell r → IsDone r.status
-done-sources names given ranges texts tell r f a b c (Ok ms, made, h) =
-    done-then (places_of names ms ranges) (Driven given (LinkedTold texts) tell ms) r
-    (λ places k. done-then (driving_of given) (λ d. LinkedTold texts (tell d) ms places) r (λ d l. done-told r (tell d l.image) l.told (f d l.image)) c k) (b ms made) h
-done-sources names given ranges texts tell r f a b c (Err e, told, h) = absurd (none-first names texts e a told)
+done-sources : (names : List (List ℕ)) (given : GivenFiles) (ranges : Ranges) (texts : List (List ℕ)) (report : Driving → List ℕ → Response) (r : Response) → ((driving : Driving) (image : List ℕ) → IsDone (report driving image).status) →
+    AreFaultless texts → ((ms : List Object) → AreModules texts ms → IsOk (places_of names ms ranges)) → IsOk (driving_of given) → SourcesReported AnyDiagnostic names given ranges texts report r → IsDone r.status
+done-sources names given ranges texts report r f a b c (Ok ms, made, h) =
+    done-then (places_of names ms ranges) (Driven given (LinkedReported texts) report ms) r
+    (λ places k. done-then (driving_of given) (λ d. LinkedReported texts (report d) ms places) r (λ d l. done-reported r (report d l.image) l.reported (f d l.image)) c k) (b ms made) h
+done-sources names given ranges texts report r f a b c (Err e, reported, h) = absurd (none-first names texts e a reported)
 
-done-profile : (states : ℕ) (out : List ℕ) (entries : List MapEntry) (driving : Driving) (image : List ℕ) → IsDone (profile_reply states out entries driving image).status
+done-profile : (states : ℕ) (out : List ℕ) (entries : List MapEntry) (driving : Driving) (image : List ℕ) → IsDone (profile_response states out entries driving image).status
 done-profile states out entries driving image = done-end (end_of (run_of states driving image).machine)
 
-done-lines : (names : List (List ℕ)) (given : GivenFiles) (ranges : Ranges) (texts : List (List ℕ)) (tell : List MapEntry → Driving → List ℕ → Reply) (r : Reply) → ((entries : List MapEntry) (driving : Driving) (image : List ℕ) → IsDone (tell entries driving image).status) →
-    AreFaultless texts → ((ms : List Object) → AreModules texts ms → IsOk (places_of names ms ranges)) → IsOk (driving_of given) → LinesTold AnyNote names given ranges texts tell r → IsDone r.status
-done-lines names given ranges texts tell r f a b c (Ok ms, made, h) =
-    done-then (places_of names ms ranges) (DrivenWithLines given (LinkedWithLines texts) tell ms) r
-    (λ places k. done-then (driving_of given) (λ d. LinkedWithLines texts (λ entries. tell entries d) ms places) r
-    (λ d l. done-told r (tell (map map_entry l.entries) d l.image) l.told (f (map map_entry l.entries) d l.image)) c k) (b ms made) h
-done-lines names given ranges texts tell r f a b c (Err e, told, h) = absurd (none-first names texts e a told)
+done-lines : (names : List (List ℕ)) (given : GivenFiles) (ranges : Ranges) (texts : List (List ℕ)) (report : List MapEntry → Driving → List ℕ → Response) (r : Response) → ((entries : List MapEntry) (driving : Driving) (image : List ℕ) → IsDone (report entries driving image).status) →
+    AreFaultless texts → ((ms : List Object) → AreModules texts ms → IsOk (places_of names ms ranges)) → IsOk (driving_of given) → LinesReported AnyDiagnostic names given ranges texts report r → IsDone r.status
+done-lines names given ranges texts report r f a b c (Ok ms, made, h) =
+    done-then (places_of names ms ranges) (DrivenWithLines given (LinkedWithLines texts) report ms) r
+    (λ places k. done-then (driving_of given) (λ d. LinkedWithLines texts (λ entries. report entries d) ms places) r
+    (λ d l. done-reported r (report (map map_entry l.entries) d l.image) l.reported (f (map map_entry l.entries) d l.image)) c k) (b ms made) h
+done-lines names given ranges texts report r f a b c (Err e, reported, h) = absurd (none-first names texts e a reported)
 
-done-object : (name out : List ℕ) (list : Option (List ℕ)) (text : List ℕ) (r : Reply) → IsAssemblable text → AssembleAnswer AnyNote name out list text r → IsDone r.status
+done-object : (name out : List ℕ) (list : Option (List ℕ)) (text : List ℕ) (r : Response) → IsAssemblable text → AssembleAnswer AnyDiagnostic name out list text r → IsDone r.status
 done-object name out list text r is (Ok m, made, h) = done-writing (write out (objects.spelling m) ∷ []) h.0 r (is.readable m made, tt) h.2
-done-object name out list text r is (Err e, told, h) = absurd (no-fault name text e is.sound told)
+done-object name out list text r is (Err e, reported, h) = absurd (no-fault name text e is.sound reported)
 
-done-objects : (name out : List ℕ) (list : Option (List ℕ)) (texts : List (List ℕ)) (r : Reply) → IsOneText IsAssemblable texts → OneText (AssembleAnswer AnyNote name out list) texts r → IsDone r.status
+done-objects : (name out : List ℕ) (list : Option (List ℕ)) (texts : List (List ℕ)) (r : Response) → IsOneText IsAssemblable texts → OneText (AssembleAnswer AnyDiagnostic name out list) texts r → IsDone r.status
 done-objects name out list (t ∷ []) r a h = done-object name out list t r a h
 done-objects name out list [] r a h = absurd h
 done-objects name out list (t ∷ u ∷ texts) r a h = absurd h
 
-done-hex : (name text : List ℕ) (may : List ℕ → Reply → Type 0) (x : Result (List ℕ) (ℕ × ℕ)) (r : Reply) → ((image : List ℕ) → may image r → IsDone r.status) → IsOk x → Then (by_image name text x) may r → IsDone r.status
+done-hex : (name text : List ℕ) (may : List ℕ → Response → Type 0) (x : Result (List ℕ) (ℕ × ℕ)) (r : Response) → ((image : List ℕ) → may image r → IsDone r.status) → IsOk x → Then (by_image name text x) may r → IsDone r.status
 done-hex name text may (Ok image) r f a h = f image h
 done-hex name text may (Err fault) r f a h = absurd (let e : false ≡ true = a in cc)
 
-done-one : (name : List ℕ) (may : List ℕ → Reply → Type 0) (texts : List (List ℕ)) (r : Reply) → ((image : List ℕ) → may image r → IsDone r.status) →
+done-one : (name : List ℕ) (may : List ℕ → Response → Type 0) (texts : List (List ℕ)) (r : Response) → ((image : List ℕ) → may image r → IsDone r.status) →
     IsOneText (λ text. IsOk (image_of text)) texts → OneText (λ text. Then (hex_of name text) may) texts r → IsDone r.status
 done-one name may (t ∷ []) r f a h = done-hex name t may (image_of t) r f a h
 done-one name may [] r f a h = absurd h
 done-one name may (t ∷ u ∷ texts) r f a h = absurd h
 
-done-two : (accepts : List ℕ → List ℕ → Type 0) (may : List ℕ → List ℕ → Reply → Type 0) (texts : List (List ℕ)) (r : Reply) → ((t u : List ℕ) → accepts t u → may t u r → IsDone r.status) →
+done-two : (accepts : List ℕ → List ℕ → Type 0) (may : List ℕ → List ℕ → Response → Type 0) (texts : List (List ℕ)) (r : Response) → ((t u : List ℕ) → accepts t u → may t u r → IsDone r.status) →
     AreTwoTexts accepts texts → TwoTexts may texts r → IsDone r.status
 done-two accepts may (t ∷ u ∷ []) r f a h = f t u a h
 done-two accepts may [] r f a h = absurd h
 done-two accepts may (t ∷ []) r f a h = absurd h
 done-two accepts may (t ∷ u ∷ v ∷ texts) r f a h = absurd h
 
-done-step : {A : Type 0} (x : Result A Reply) (tell : A → Reply) → IsOk x → ((a : A) → IsDone (tell a).status) → IsDone (told x tell).status
-done-step (Ok a) tell ok f = f a
-done-step (Err e) tell ok f = absurd (let k : false ≡ true = ok in cc)
+done-step : {A : Type 0} (x : Result A Response) (report : A → Response) → IsOk x → ((a : A) → IsDone (report a).status) → IsDone (reported x report).status
+done-step (Ok a) report ok f = f a
+done-step (Err e) report ok f = absurd (let k : false ≡ true = ok in cc)
 
-done-debug : (file script : List ℕ) (inputs : List (Role × List ℕ)) (text commands : List ℕ) (texts : List (List ℕ)) (r : Reply) →
+done-debug : (file script : List ℕ) (inputs : List (Role × List ℕ)) (text commands : List ℕ) (texts : List (List ℕ)) (r : Response) →
     IsDebuggable script inputs text commands texts → DebugAnswer file script inputs text commands texts r → IsDone r.status
 done-debug file script inputs text commands texts r a h =
     let given = given_for inputs texts in
     let lines = input_for role.Lines inputs texts in
-    done-hex file text (λ image. Then (driving_of given) (λ driving reply. reply ≡ debug_reply (script, commands) lines driving image)) (image_of text) r
-    (λ image k. done-then (driving_of given) (λ driving reply. reply ≡ debug_reply (script, commands) lines driving image) r
-    (λ d m. done-told r (debug_reply (script, commands) lines d image) m
+    done-hex file text (λ image. Then (driving_of given) (λ driving response. response ≡ debug_response (script, commands) lines driving image)) (image_of text) r
+    (λ image k. done-then (driving_of given) (λ driving response. response ≡ debug_response (script, commands) lines driving image) r
+    (λ d m. done-reported r (debug_response (script, commands) lines d image) m
     (done-step (script_of script commands) _ a.script_read (λ cs. done-step (lines_of lines) _ a.lines (λ entries. done-end (end_of (debugged_by entries cs d image).machine))))) a.driving k) a.image h
 
 -- the hex file and the line map
@@ -678,18 +678,18 @@ readable-files : (out : List ℕ) (lines : Option (List ℕ)) (ms : List Object)
 readable-files out None ms places image more a h = (hex-short image, subst AreReadable (sym h) tt)
 readable-files out (Some name) ms places image more a h = (hex-short image, subst AreReadable (sym h.2) (a h.0 h.1, tt))
 
-done-placed : (files : List (List ℕ)) (out : List ℕ) (beside : Beside) (ranges : Ranges) (ms : List Object) (r : Reply) → ArePlaceable files beside.lines ranges ms → Placing files ranges (LinksTo out beside ranges) ms r → IsDone r.status
+done-placed : (files : List (List ℕ)) (out : List ℕ) (beside : Beside) (ranges : Ranges) (ms : List Object) (r : Response) → ArePlaceable files beside.lines ranges ms → Placing files ranges (LinksTo out beside ranges) ms r → IsDone r.status
 done-placed files out beside ranges ms r a h =
     accepted-then (IsReadableMap beside.lines ms) (LinksTo out beside ranges ms) (places_of files ms ranges) r
     (λ places b k. done-writing (write out (spelling k.image) ∷ k.more) (map_writes beside.map ms ranges places) r (readable-files out beside.lines ms places k.image k.more b k.is_map) k.done) a h
 
-done-taking : (names : List (List ℕ)) (library out : List ℕ) (beside : Beside) (ranges : Ranges) (ms members : List Object) (r : Reply) →
+done-taking : (names : List (List ℕ)) (library out : List ℕ) (beside : Beside) (ranges : Ranges) (ms members : List Object) (r : Response) →
     ((taken : List Object) → AreTaken ms members taken → (length ms + length taken ≤ 64) × ArePlaceable (names ++ member_words library taken) beside.lines ranges (ms ++ taken)) →
     Taking names library (λ files. Placing files ranges (LinksTo out beside ranges)) ms members r → IsDone r.status
 done-taking names library out beside ranges ms members r a (Ok taken, is, h) = done-placed (names ++ member_words library taken) out beside ranges (ms ++ taken) r (a taken is.0).1 h
 done-taking names library out beside ranges ms members r a (Err e, is, h) = absurd (omega (arith, (a is.0 is.1).0, is.2))
 
-done-completed : (names : List (List ℕ)) (library : Option (List ℕ × List ℕ)) (out : List ℕ) (beside : Beside) (ranges : Ranges) (ms : List Object) (r : Reply) →
+done-completed : (names : List (List ℕ)) (library : Option (List ℕ × List ℕ)) (out : List ℕ) (beside : Beside) (ranges : Ranges) (ms : List Object) (r : Response) →
     IsLinkable names library beside.lines ranges ms → Completed names library (λ files. Placing files ranges (LinksTo out beside ranges)) ms r → IsDone r.status
 done-completed names None out beside ranges ms r a h = done-placed names out beside ranges ms r a h
 done-completed names (Some library) out beside ranges ms r a h =
@@ -700,9 +700,9 @@ done-packed : (names : List (List ℕ)) (out : List ℕ) (ms : List Object) (dou
 done-packed names out ms None e short = done-writing (write out (library_bytes ms) ∷ []) [] (packed names out ms None) (short, tt) refl
 done-packed names out ms (Some name) e short = absurd (cc)
 
-done-dump : (name out : List ℕ) (clock : ℕ) (texts : List (List ℕ)) (r : Reply) → IsOneText IsTraceText texts → OneText (DumpAnswer name out clock) texts r → IsDone r.status
-done-dump name out clock (t ∷ []) r a (Ok items, read, h) = inl (ap (λ (k : Reply). k.status) h)
-done-dump name out clock (t ∷ []) r a (Err e, told, h) = absurd (never_wrong (text_lines t) a.0 told.0 a.1 told.1)
+done-dump : (name out : List ℕ) (clock : ℕ) (texts : List (List ℕ)) (r : Response) → IsOneText IsTraceText texts → OneText (DumpAnswer name out clock) texts r → IsDone r.status
+done-dump name out clock (t ∷ []) r a (Ok items, read, h) = inl (ap (λ (k : Response). k.status) h)
+done-dump name out clock (t ∷ []) r a (Err e, reported, h) = absurd (never_wrong (text_lines t) a.0 reported.0 a.1 reported.1)
 done-dump name out clock [] r a h = absurd h
 done-dump name out clock (t ∷ u ∷ texts) r a h = absurd h
 
@@ -710,40 +710,40 @@ done-explained : (code : List ℕ) (row : Option Said) → IsAnswer all_codes co
 done-explained code (Some row) is a = inl refl
 done-explained code None is a = absurd (let e : false ≡ true = sym is ∙ a in cc)
 
-pub done-command : (c : Option Command) (contents : List (Option (List ℕ))) (r : Reply) → IsAccepted c contents → CommandAnswer AnyNote c contents r → IsDone r.status
+pub done-command : (c : Option Command) (contents : List (Option (List ℕ))) (r : Response) → IsAccepted c contents → CommandAnswer AnyDiagnostic c contents r → IsDone r.status
 done-command None contents r a h = absurd a
-done-command (Some Helps) contents r a h = inl (ap (λ (k : Reply). k.status) h)
-done-command (Some (HelpsOn verb)) contents r a h = inl (ap (λ (k : Reply). k.status) h)
-done-command (Some TellsVersion) contents r a h = inl (ap (λ (k : Reply). k.status) h)
+done-command (Some Helps) contents r a h = inl (ap (λ (k : Response). k.status) h)
+done-command (Some (HelpsOn verb)) contents r a h = inl (ap (λ (k : Response). k.status) h)
+done-command (Some ReportsVersion) contents r a h = inl (ap (λ (k : Response). k.status) h)
 done-command (Some (Runs files inputs extent placing)) contents r a h =
-    accepted-then _ (Parted (length files) (RunAnswer AnyNote files inputs extent placing)) (reads_of (files ++ names_of inputs) contents) r
-    (λ texts b k. done-sources files (given_for inputs (drop (length files) texts)) placing (take (length files) texts) (board_reply extent) r
+    accepted-then _ (Parted (length files) (RunAnswer AnyDiagnostic files inputs extent placing)) (reads_of (files ++ names_of inputs) contents) r
+    (λ texts b k. done-sources files (given_for inputs (drop (length files) texts)) placing (take (length files) texts) (board_response extent) r
     (λ driving image. done-run extent driving image) b.0 b.1 b.2 k) a h
 done-command (Some (Profiles files inputs states placing out)) contents r a h =
-    accepted-then _ (Parted (length files) (ProfileAnswer AnyNote files inputs states placing out)) (reads_of (files ++ names_of inputs) contents) r
-    (λ texts b k. done-lines files (given_for inputs (drop (length files) texts)) placing (take (length files) texts) (profile_reply states out) r (done-profile states out) b.0 b.1 b.2 k) a h
+    accepted-then _ (Parted (length files) (ProfileAnswer AnyDiagnostic files inputs states placing out)) (reads_of (files ++ names_of inputs) contents) r
+    (λ texts b k. done-lines files (given_for inputs (drop (length files) texts)) placing (take (length files) texts) (profile_response states out) r (done-profile states out) b.0 b.1 b.2 k) a h
 done-command (Some (ProfilesHex file inputs states out)) contents r a h =
     accepted-then _ (Parted 1 (λ texts more. OneText (λ text. ProfileHexAnswer file inputs states out text more) texts)) (reads_of (file ∷ names_of inputs) contents) r
-    (λ texts b k. done-one file (λ image. Then (driving_of (given_for inputs (drop 1 texts))) (λ driving reply. reply ≡ profile_reply states out [] driving image)) (take 1 texts) r
-    (λ image l. done-then (driving_of (given_for inputs (drop 1 texts))) (λ driving reply. reply ≡ profile_reply states out [] driving image) r
-    (λ d m. done-told r (profile_reply states out [] d image) m (done-profile states out [] d image)) b.1 l) b.0 k) a h
+    (λ texts b k. done-one file (λ image. Then (driving_of (given_for inputs (drop 1 texts))) (λ driving response. response ≡ profile_response states out [] driving image)) (take 1 texts) r
+    (λ image l. done-then (driving_of (given_for inputs (drop 1 texts))) (λ driving response. response ≡ profile_response states out [] driving image) r
+    (λ d m. done-reported r (profile_response states out [] d image) m (done-profile states out [] d image)) b.1 l) b.0 k) a h
 done-command (Some (Assembles file out list)) contents r a h =
-    accepted-then _ (OneText (AssembleAnswer AnyNote file out list)) (reads_of (file ∷ []) contents) r (λ texts b k. done-objects file out list texts r b k) a h
+    accepted-then _ (OneText (AssembleAnswer AnyDiagnostic file out list)) (reads_of (file ∷ []) contents) r (λ texts b k. done-objects file out list texts r b k) a h
 done-command (Some (Packs files out)) contents r a h =
     accepted-then _ (PackAnswer files out) (reads_of files contents) r
-    (λ texts b k. accepted-then _ (λ ms reply. reply ≡ packed files out ms (doubled ms)) (modules_of object_of files texts) r (λ ms c l. done-told r (packed files out ms (doubled ms)) l (done-packed files out ms (doubled ms) c.0 c.1)) b k) a h
+    (λ texts b k. accepted-then _ (λ ms response. response ≡ packed files out ms (doubled ms)) (modules_of object_of files texts) r (λ ms c l. done-reported r (packed files out ms (doubled ms)) l (done-packed files out ms (doubled ms) c.0 c.1)) b k) a h
 done-command (Some (Links files inputs out beside placing)) contents r a h =
     accepted-then _ (Parted (length files) (LinkAnswer files inputs out beside placing)) (reads_of (files ++ names_of inputs) contents) r
     (λ texts b k. accepted-then _ (Completed files (input_for role.Library inputs (drop (length files) texts)) (λ names. Placing names placing (LinksTo out beside placing))) (modules_of object_of files (take (length files) texts)) r
     (λ ms c l. done-completed files (input_for role.Library inputs (drop (length files) texts)) out beside placing ms r c l) b k) a h
 done-command (Some (RunsHex file inputs extent)) contents r a h =
     accepted-then _ (Parted 1 (λ texts more. OneText (λ text. RunHexAnswer file inputs extent text more) texts)) (reads_of (file ∷ names_of inputs) contents) r
-    (λ texts b k. done-one file (λ image. Then (driving_of (given_for inputs (drop 1 texts))) (λ driving reply. reply ≡ board_reply extent driving image)) (take 1 texts) r
-    (λ image l. done-then (driving_of (given_for inputs (drop 1 texts))) (λ driving reply. reply ≡ board_reply extent driving image) r
-    (λ d m. done-told r (board_reply extent d image) m (done-run extent d image)) b.1 l) b.0 k) a h
+    (λ texts b k. done-one file (λ image. Then (driving_of (given_for inputs (drop 1 texts))) (λ driving response. response ≡ board_response extent driving image)) (take 1 texts) r
+    (λ image l. done-then (driving_of (given_for inputs (drop 1 texts))) (λ driving response. response ≡ board_response extent driving image) r
+    (λ d m. done-reported r (board_response extent d image) m (done-run extent d image)) b.1 l) b.0 k) a h
 done-command (Some (Lists file first last)) contents r a h =
     accepted-then _ (OneText (ListAnswer file first last)) (reads_of (file ∷ []) contents) r
-    (λ texts b k. done-one file (ListingOf first last) texts r (λ image l. inl (ap (λ (k : Reply). k.status) l)) b k) a h
+    (λ texts b k. done-one file (ListingOf first last) texts r (λ image l. inl (ap (λ (k : Response). k.status) l)) b k) a h
 done-command (Some (Debugs file script inputs)) contents r a h =
     accepted-then _ (Parted 2 (λ texts more. TwoTexts (λ text commands. DebugAnswer file script inputs text commands more) texts)) (reads_of (file ∷ script ∷ names_of inputs) contents) r
     (λ texts b k. done-two (λ text commands. IsDebuggable script inputs text commands (drop 2 texts)) (λ text commands. DebugAnswer file script inputs text commands (drop 2 texts)) (take 2 texts) r
@@ -752,12 +752,12 @@ done-command (Some (Generates number)) contents r a h =
     done-sources made_names (made_given number) (placing_of []) (made_texts number) (summary_of number) r
     (λ driving image. done-end (end_of (run_of 1000000 driving image).machine)) a.sources a.modules a.driving h
 done-command (Some (Dumps file out clock)) contents r a h = accepted-then _ (OneText (DumpAnswer file out clock)) (reads_of (file ∷ []) contents) r (λ texts b k. done-dump file out clock texts r b k) a h
-done-command (Some (Explains code)) contents r a h = done-told r (explained code) h (done-explained code (said_of code) (meaning-is code) a)
+done-command (Some (Explains code)) contents r a h = done-reported r (explained code) h (done-explained code (said_of code) (meaning-is code) a)
 
 -- a reply without a fault outside is done, or for want of memory
-pub done-of : (c : Option Command) (told : Option Holding) (rose : Type 0) (old : Kept) (before : Shown) (given : Status) (new : Kept) (now : Shown) →
-    Replies (MayAnswer AnyNote c told rose) old before given new now →
-    Told told (λ held. IsAccepted c (map held (names_read c)) → ¬ rose → ¬ Rose before.faults now.faults → ¬ Rose old.faults new.faults → (given ≡ status.Done) ⊎ ((given ≡ status.Undefined) ⊎ (given ≡ status.NoMemory)))
+pub done-of : (c : Option Command) (reported : Option Holding) (rose : Type 0) (old : Kept) (before : Shown) (given : Status) (new : Kept) (now : Shown) →
+    Responses (MayAnswer AnyDiagnostic c reported rose) old before given new now →
+    Reported reported (λ held. IsAccepted c (map held (names_read c)) → ¬ rose → ¬ Rose before.faults now.faults → ¬ Rose old.faults new.faults → (given ≡ status.Done) ⊎ ((given ≡ status.Undefined) ⊎ (given ≡ status.NoMemory)))
 done-of c None rose old before given new now h = tt
 done-of c (Some held) rose old before given new now h = λ accepted read sink write. by given refl accepted read sink write
   where
@@ -765,22 +765,22 @@ done-of c (Some held) rose old before given new now h = λ accepted read sink wr
     placed-so s (inl e) f = inl (f ∙ e)
     placed-so s (inr e) f = inr (inl (f ∙ e))
 
-    answer : (r : Reply) → given ≡ r.status → IsAccepted c (map held (names_read c)) → ¬ rose → MayAnswer AnyNote c (Some held) rose r → (given ≡ status.Done) ⊎ ((given ≡ status.Undefined) ⊎ (given ≡ status.NoMemory))
+    answer : (r : Response) → given ≡ r.status → IsAccepted c (map held (names_read c)) → ¬ rose → MayAnswer AnyDiagnostic c (Some held) rose r → (given ≡ status.Done) ⊎ ((given ≡ status.Undefined) ⊎ (given ≡ status.NoMemory))
     answer r e accepted read (contents, holds, inl k) = placed-so r.status (done-command c contents r (subst (IsAccepted c) (sym holds) accepted) k) e
     answer r e accepted read (contents, holds, inr k) = absurd (read (failed-says (names_read c) contents rose r k).0)
 
-    faults : SinkFailed (MayAnswer AnyNote c (Some held) rose) old before new now ⊎ WriteFailed (MayAnswer AnyNote c (Some held) rose) old before new now → ¬ Rose before.faults now.faults → ¬ Rose old.faults new.faults → ⊥
+    faults : SinkFailed (MayAnswer AnyDiagnostic c (Some held) rose) old before new now ⊎ WriteFailed (MayAnswer AnyDiagnostic c (Some held) rose) old before new now → ¬ Rose before.faults now.faults → ¬ Rose old.faults new.faults → ⊥
     faults (inl k) sink write = sink k.cause
     faults (inr k) sink write = write k.cause
 
     whole : (s : Status) → given ≡ s → s ≢ status.WriteFault → s ≢ status.NoMemory → IsAccepted c (map held (names_read c)) → ¬ rose → (given ≡ status.Done) ⊎ ((given ≡ status.Undefined) ⊎ (given ≡ status.NoMemory))
     whole s e f g accepted read =
-        let k = status-of (MayAnswer AnyNote c (Some held) rose) old before s new now f g (subst (λ t. Replies (MayAnswer AnyNote c (Some held) rose) old before t new now) e h) in
+        let k = status-of (MayAnswer AnyDiagnostic c (Some held) rose) old before s new now f g (subst (λ t. Responses (MayAnswer AnyDiagnostic c (Some held) rose) old before t new now) e h) in
         answer k.0 (e ∙ k.2) accepted read k.1
 
     by : (s : Status) → given ≡ s → IsAccepted c (map held (names_read c)) → ¬ rose → ¬ Rose before.faults now.faults → ¬ Rose old.faults new.faults → (given ≡ status.Done) ⊎ ((given ≡ status.Undefined) ⊎ (given ≡ status.NoMemory))
     by status.NoMemory e a read sink write = inr (inr e)
-    by status.WriteFault e a read sink write = absurd (faults (subst (λ t. Replies (MayAnswer AnyNote c (Some held) rose) old before t new now) e h) sink write)
+    by status.WriteFault e a read sink write = absurd (faults (subst (λ t. Responses (MayAnswer AnyDiagnostic c (Some held) rose) old before t new now) e h) sink write)
     by status.Done e a read sink write = inl e
     by status.Undefined e a read sink write = inr (inl e)
     by status.Usage e a read sink write = whole status.Usage e (λ k. cc) (λ k. cc) a read

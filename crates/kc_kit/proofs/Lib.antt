@@ -1,3 +1,3 @@
 mod AnswerLemmas
 pub mod Ending
-mod NoteLemmas
+mod DiagnosticLemmas

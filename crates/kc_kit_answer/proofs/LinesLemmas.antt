@@ -17,7 +17,7 @@ use Rattle.kc_kit_files.specs.declared.refusal.Cause.{Cause}
 use Rattle.kc_kit_files.specs.declared.refusal.Cause.TheVariants as cause
 use Rattle.kc_kit_files.specs.declared.refusal.Refusal.{Refusal}
 use Rattle.kc_kit_files.specs.declared.refusal.Refusal.TheVariants as refusals
-use Rattle.kc_kit_files.specs.Reply.{Reply, Then, says, tells, status_for, IsRefused}
+use Rattle.kc_kit_files.specs.Response.{Response, Then, says, reports, status_for, IsRefused}
 use Rattle.kc_kit_files.proofs.ReadLemmas.{refused-widen}
 use Rattle.kc_kit_inputs.specs.declared.driving.Driving.{Driving}
 use Rattle.kc_kit_inputs.specs.Driving.{GivenFiles, driving_of}
@@ -26,73 +26,73 @@ use Rattle.kc_kit_running.specs.declared.board.Board.{Board}
 use Rattle.kc_kit_answer.specs.Jobs.{IsBoard, IsBoardWithLines}
 use Rattle.kc_kit_answer.specs.Places.{by_places, Placing}
 use Rattle.kc_kit_answer.specs.Profile.{map_entry, FilledWithLines, LinkedWithLines, DrivenWithLines}
-use Rattle.kc_kit_answer.specs.Run.{Driven, FilledTold}
+use Rattle.kc_kit_answer.specs.Run.{Driven, FilledReported}
 use Rattle.kc_kit_answer.proofs.AnswerSteps.{then-map}
 use Rattle.kc_kit_answer.proofs.SourceLemmas.{image-of}
 
 -- what is answered by a board and its line map may be answered more widely
-pub lines-widen : (answer wide : (List MapEntry → Driving → List ℕ → Reply) → Reply → Type 0) (b : Result (Board × Vec MapEntry) Refusal) → ((tell : List MapEntry → Driving → List ℕ → Reply) (r : Reply) → answer tell r → wide tell r) →
+pub lines-widen : (answer wide : (List MapEntry → Driving → List ℕ → Response) → Response → Type 0) (b : Result (Board × Vec MapEntry) Refusal) → ((report : List MapEntry → Driving → List ℕ → Response) (r : Response) → answer report r → wide report r) →
     IsBoardWithLines answer b → IsBoardWithLines wide b
-lines-widen answer wide (Ok made) f h = λ tell. f tell (tell made.1.items made.0.driving made.0.image) (h tell)
-lines-widen answer wide (Err refusal) f h = λ tell. refused-widen (answer tell) (wide tell) refusal (f tell) (h tell)
+lines-widen answer wide (Ok made) f h = λ report. f report (report made.1.items made.0.driving made.0.image) (h report)
+lines-widen answer wide (Err refusal) f h = λ report. refused-widen (answer report) (wide report) refusal (f report) (h report)
 
 -- the line map of the modules that the image is filled from
-pub lines-placing : (names : List (List ℕ)) (given : GivenFiles) (ranges : Ranges) (tell : List MapEntry → Driving → List ℕ → Reply) (ms : List Object) (lines : List LineAt) (at : Places) (r : Reply) → placed ms ranges ≡ Ok at → IsLineMap ms at lines →
-    Placing names ranges (Driven given FilledTold (tell (map map_entry lines))) ms r → Placing names ranges (DrivenWithLines given FilledWithLines tell) ms r
-lines-placing names given ranges tell ms lines at r is is_map h = by (placed ms ranges) refl h
+pub lines-placing : (names : List (List ℕ)) (given : GivenFiles) (ranges : Ranges) (report : List MapEntry → Driving → List ℕ → Response) (ms : List Object) (lines : List LineAt) (at : Places) (r : Response) → placed ms ranges ≡ Ok at → IsLineMap ms at lines →
+    Placing names ranges (Driven given FilledReported (report (map map_entry lines))) ms r → Placing names ranges (DrivenWithLines given FilledWithLines report) ms r
+lines-placing names given ranges report ms lines at r is is_map h = by (placed ms ranges) refl h
   where
-    by : (x : Result Places LinkFault) → placed ms ranges ≡ x → Then (by_places names ms x) (Driven given FilledTold (tell (map map_entry lines)) ms) r → Then (by_places names ms x) (DrivenWithLines given FilledWithLines tell ms) r
+    by : (x : Result Places LinkFault) → placed ms ranges ≡ x → Then (by_places names ms x) (Driven given FilledReported (report (map map_entry lines)) ms) r → Then (by_places names ms x) (DrivenWithLines given FilledWithLines report ms) r
     by (Ok places) e k =
         let same : at ≡ places = cc in
-        then-map (driving_of given) (λ d. FilledTold (tell (map map_entry lines) d) ms places) (λ d. FilledWithLines (λ entries. tell entries d) ms places) r
-        (λ d f. record { image = f.image; is_filled = f.is_filled; entries = lines; is_map = subst (λ (p : Places). IsLineMap ms p lines) same is_map; told = f.told }) k
+        then-map (driving_of given) (λ d. FilledReported (report (map map_entry lines) d) ms places) (λ d. FilledWithLines (λ entries. report entries d) ms places) r
+        (λ d f. record { image = f.image; is_filled = f.is_filled; entries = lines; is_map = subst (λ (p : Places). IsLineMap ms p lines) same is_map; reported = f.reported }) k
     by (Err f) e k = k
 
 -- the same in the image that is linked from sources
-pub lines-linked : SourcesAreReadWell → LinkedImage → (names : List (List ℕ)) (given : GivenFiles) (ranges : Ranges) (texts : List (List ℕ)) (tell : List MapEntry → Driving → List ℕ → Reply) (ms : List Object) (r : Reply) → AreModules texts ms →
-    Placing names ranges (DrivenWithLines given FilledWithLines tell) ms r → Placing names ranges (DrivenWithLines given (LinkedWithLines texts) tell) ms r
-lines-linked read law names given ranges texts tell ms r made h = by (placed ms ranges) refl h
+pub lines-linked : SourcesAreReadWell → LinkedImage → (names : List (List ℕ)) (given : GivenFiles) (ranges : Ranges) (texts : List (List ℕ)) (report : List MapEntry → Driving → List ℕ → Response) (ms : List Object) (r : Response) → AreModules texts ms →
+    Placing names ranges (DrivenWithLines given FilledWithLines report) ms r → Placing names ranges (DrivenWithLines given (LinkedWithLines texts) report) ms r
+lines-linked read law names given ranges texts report ms r made h = by (placed ms ranges) refl h
   where
-    by : (x : Result Places LinkFault) → placed ms ranges ≡ x → Then (by_places names ms x) (DrivenWithLines given FilledWithLines tell ms) r → Then (by_places names ms x) (DrivenWithLines given (LinkedWithLines texts) tell ms) r
+    by : (x : Result Places LinkFault) → placed ms ranges ≡ x → Then (by_places names ms x) (DrivenWithLines given FilledWithLines report ms) r → Then (by_places names ms x) (DrivenWithLines given (LinkedWithLines texts) report ms) r
     by (Ok places) e k =
-        then-map (driving_of given) (λ d. FilledWithLines (λ entries. tell entries d) ms places) (λ d. LinkedWithLines texts (λ entries. tell entries d) ms places) r
-        (λ d f. record { image = f.image; is_filled = f.is_filled; is_image = image-of read law texts ms ranges places f.image made e f.is_filled; entries = f.entries; is_map = f.is_map; told = f.told }) k
+        then-map (driving_of given) (λ d. FilledWithLines (λ entries. report entries d) ms places) (λ d. LinkedWithLines texts (λ entries. report entries d) ms places) r
+        (λ d f. record { image = f.image; is_filled = f.is_filled; is_image = image-of read law texts ms ranges places f.image made e f.is_filled; entries = f.entries; is_map = f.is_map; reported = f.reported }) k
     by (Err f) e k = k
 
 -- ---- a refusal of a board is one of a board with its line map: it is not what a run answers
 
-done-is-none : (c : Cause) (line note : List ℕ) → tells (status_for c) line note ≢ says status.Done []
-done-is-none cause.Usage line note e = absurd (let f : status.Usage ≡ status.Done = ap (λ (r : Reply). r.status) e in cc)
-done-is-none cause.Missing line note e = absurd (let f : status.Missing ≡ status.Done = ap (λ (r : Reply). r.status) e in cc)
-done-is-none cause.Source line note e = absurd (let f : status.Source ≡ status.Done = ap (λ (r : Reply). r.status) e in cc)
-done-is-none cause.Input line note e = absurd (let f : status.Input ≡ status.Done = ap (λ (r : Reply). r.status) e in cc)
-done-is-none cause.Link line note e = absurd (let f : status.Link ≡ status.Done = ap (λ (r : Reply). r.status) e in cc)
-done-is-none cause.ReadFault line note e = absurd (let f : status.ReadFault ≡ status.Done = ap (λ (r : Reply). r.status) e in cc)
+done-is-none : (c : Cause) (line diagnostic : List ℕ) → reports (status_for c) line diagnostic ≢ says status.Done []
+done-is-none cause.Usage line diagnostic e = absurd (let f : status.Usage ≡ status.Done = ap (λ (r : Response). r.status) e in cc)
+done-is-none cause.Missing line diagnostic e = absurd (let f : status.Missing ≡ status.Done = ap (λ (r : Response). r.status) e in cc)
+done-is-none cause.Source line diagnostic e = absurd (let f : status.Source ≡ status.Done = ap (λ (r : Response). r.status) e in cc)
+done-is-none cause.Input line diagnostic e = absurd (let f : status.Input ≡ status.Done = ap (λ (r : Response). r.status) e in cc)
+done-is-none cause.Link line diagnostic e = absurd (let f : status.Link ≡ status.Done = ap (λ (r : Response). r.status) e in cc)
+done-is-none cause.ReadFault line diagnostic e = absurd (let f : status.ReadFault ≡ status.Done = ap (λ (r : Response). r.status) e in cc)
 
 -- a reply that is none of a run
-none-of-a-run : (names : List (List ℕ)) (given : GivenFiles) (ranges : Ranges) (tell : List MapEntry → Driving → List ℕ → Reply) (ms : List Object) (r : Reply) → r ≢ says status.Done [] →
-    Placing names ranges (Driven given FilledTold (λ d image. says status.Done [])) ms r → Placing names ranges (DrivenWithLines given FilledWithLines tell) ms r
-none-of-a-run names given ranges tell ms r un h = by (placed ms ranges) h
+none-of-a-run : (names : List (List ℕ)) (given : GivenFiles) (ranges : Ranges) (report : List MapEntry → Driving → List ℕ → Response) (ms : List Object) (r : Response) → r ≢ says status.Done [] →
+    Placing names ranges (Driven given FilledReported (λ d image. says status.Done [])) ms r → Placing names ranges (DrivenWithLines given FilledWithLines report) ms r
+none-of-a-run names given ranges report ms r un h = by (placed ms ranges) h
   where
-    driven : (places : Places) (x : Result Driving Reply) → Then x (λ d. FilledTold (λ image. says status.Done []) ms places) r → Then x (λ d. FilledWithLines (λ entries. tell entries d) ms places) r
-    driven places (Ok d) k = absurd (un k.told)
+    driven : (places : Places) (x : Result Driving Response) → Then x (λ d. FilledReported (λ image. says status.Done []) ms places) r → Then x (λ d. FilledWithLines (λ entries. report entries d) ms places) r
+    driven places (Ok d) k = absurd (un k.reported)
     driven places (Err e) k = k
 
-    by : (x : Result Places LinkFault) → Then (by_places names ms x) (Driven given FilledTold (λ d image. says status.Done []) ms) r → Then (by_places names ms x) (DrivenWithLines given FilledWithLines tell ms) r
+    by : (x : Result Places LinkFault) → Then (by_places names ms x) (Driven given FilledReported (λ d image. says status.Done []) ms) r → Then (by_places names ms x) (DrivenWithLines given FilledWithLines report ms) r
     by (Ok places) k = driven places (driving_of given) k
     by (Err f) k = k
 
 pub refused-with-lines : (names : List (List ℕ)) (given : GivenFiles) (ranges : Ranges) (ms : List Object) (refusal : Refusal) →
-    ((tell : Driving → List ℕ → Reply) → IsRefused (Placing names ranges (Driven given FilledTold tell) ms) refusal) →
-    (tell : List MapEntry → Driving → List ℕ → Reply) → IsRefused (Placing names ranges (DrivenWithLines given FilledWithLines tell) ms) refusal
-refused-with-lines names given ranges ms (refusals.Says c line note) f tell =
-    none-of-a-run names given ranges tell ms (tells (status_for c) line.items note.items) (done-is-none c line.items note.items) (f (λ d image. says status.Done []))
-refused-with-lines names given ranges ms refusals.NoMemory f tell = tt
+    ((report : Driving → List ℕ → Response) → IsRefused (Placing names ranges (Driven given FilledReported report) ms) refusal) →
+    (report : List MapEntry → Driving → List ℕ → Response) → IsRefused (Placing names ranges (DrivenWithLines given FilledWithLines report) ms) refusal
+refused-with-lines names given ranges ms (refusals.Says c line diagnostic) f report =
+    none-of-a-run names given ranges report ms (reports (status_for c) line.items diagnostic.items) (done-is-none c line.items diagnostic.items) (f (λ d image. says status.Done []))
+refused-with-lines names given ranges ms refusals.NoMemory f report = tt
 
 -- modules that have a board are placed
-pub board-placed : (names : List (List ℕ)) (given : GivenFiles) (ranges : Ranges) (ms : List Object) (board : Board) → IsBoard (λ tell. Placing names ranges (Driven given FilledTold tell) ms) (Ok board) → IsOk (placed ms ranges)
+pub board-placed : (names : List (List ℕ)) (given : GivenFiles) (ranges : Ranges) (ms : List Object) (board : Board) → IsBoard (λ report. Placing names ranges (Driven given FilledReported report) ms) (Ok board) → IsOk (placed ms ranges)
 board-placed names given ranges ms board h = by (placed ms ranges) (h (λ d image. says status.Done []))
   where
-    by : (x : Result Places LinkFault) → Then (by_places names ms x) (Driven given FilledTold (λ d image. says status.Done []) ms) (says status.Done []) → IsOk x
+    by : (x : Result Places LinkFault) → Then (by_places names ms x) (Driven given FilledReported (λ d image. says status.Done []) ms) (says status.Done []) → IsOk x
     by (Ok places) k = refl
-    by (Err fault) k = absurd (let f : status.Done ≡ status.Link = ap (λ (r : Reply). r.status) k in cc)
+    by (Err fault) k = absurd (let f : status.Done ≡ status.Link = ap (λ (r : Response). r.status) k in cc)

@@ -11,7 +11,7 @@ use Rattle.kc_link.specs.Placed.{placed, with_places, or_fault, unfit}
 use Rattle.kc_kit_files.specs.declared.status.Status.TheVariants as status
 use Rattle.kc_kit_files.specs.declared.refusal.Refusal.{Refusal}
 use Rattle.kc_kit_files.specs.declared.refusal.Refusal.TheVariants as refusals
-use Rattle.kc_kit_files.specs.Reply.{Reply, Write, write, tells, Then, IsRefused}
+use Rattle.kc_kit_files.specs.Response.{Response, Write, write, reports, Then, IsRefused}
 use Rattle.kc_kit_files.specs.Writes.{writing_readable}
 use Rattle.kc_kit_words.specs.Commands.{Beside}
 use Rattle.kc_hex.specs.Spelling.{spelling}
@@ -20,28 +20,28 @@ use Rattle.kc_kit_answer.specs.Link.{IsMap, LinksTo, AreLineMaps, AreMaps, map_w
 use Rattle.kc_kit_files.proofs.ReadLemmas.{refused-widen}
 use Rattle.kc_kit_answer.proofs.AnswerSteps.{then-err}
 use Rattle.kc_kit_notes.specs.Rules.{link_line}
-use Rattle.kc_kit_notes.specs.RuleNotes.{link_note}
+use Rattle.kc_kit_notes.specs.RuleDiagnostics.{link_diagnostic}
 use Rattle.kc_kit_answer.specs.Places.{by_places, places_of, Placing}
 
 -- ---- linking
 
 -- a broken rule
-pub link-refused : (names : List (List ℕ)) (ms : List Object) (ranges : Ranges) (may : List Object → Places → Reply → Type 0) (fault : LinkFault) (refusal : Refusal) →
-    IsCause fault (placed ms ranges ≡ Err fault) → IsRefused (λ reply. reply ≡ tells status.Link (link_line names fault) (link_note names ms fault)) refusal → (fault ≡ faults.NoMemory → refusal ≡ refusals.NoMemory) →
+pub link-refused : (names : List (List ℕ)) (ms : List Object) (ranges : Ranges) (may : List Object → Places → Response → Type 0) (fault : LinkFault) (refusal : Refusal) →
+    IsCause fault (placed ms ranges ≡ Err fault) → IsRefused (λ response. response ≡ reports status.Link (link_line names fault) (link_diagnostic names ms fault)) refusal → (fault ≡ faults.NoMemory → refusal ≡ refusals.NoMemory) →
     IsRefused (Placing names ranges may ms) refusal
 link-refused names ms ranges may fault refusal cause line memory = by fault refl cause
   where
-    told : placed ms ranges ≡ Err fault → IsRefused (Placing names ranges may ms) refusal
-    told e = refused-widen (λ reply. reply ≡ tells status.Link (link_line names fault) (link_note names ms fault)) (Placing names ranges may ms) refusal
+    reported : placed ms ranges ≡ Err fault → IsRefused (Placing names ranges may ms) refusal
+    reported e = refused-widen (λ response. response ≡ reports status.Link (link_line names fault) (link_diagnostic names ms fault)) (Placing names ranges may ms) refusal
         (λ r f. then-err (places_of names ms ranges) (may ms) r (ap (by_places names ms) e ∙ ap Err (sym f))) line
 
     by : (f : LinkFault) → fault ≡ f → IsCause f (placed ms ranges ≡ Err fault) → IsRefused (Placing names ranges may ms) refusal
     by faults.NoMemory e c = subst (IsRefused (Placing names ranges may ms)) (sym (memory e)) tt
-    by (faults.Unresolved name) e c = told c
-    by (faults.OverlapName name) e c = told c
-    by (faults.OverlapPlace place) e c = told c
-    by (faults.Capacity kind index) e c = told c
-    by (faults.Range index piece offset) e c = told c
+    by (faults.Unresolved name) e c = reported c
+    by (faults.OverlapName name) e c = reported c
+    by (faults.OverlapPlace place) e c = reported c
+    by (faults.Capacity kind index) e c = reported c
+    by (faults.Range index piece offset) e c = reported c
 
 -- pieces that are placed are located
 pub placed-located : (ms : List Object) (ranges : Ranges) (p : Places) → placed ms ranges ≡ Ok p → located ms ranges ≡ Ok p
@@ -91,12 +91,12 @@ pub linked-files : (names : List (List ℕ)) (out : List ℕ) (beside : Beside) 
 linked-files names out beside ranges ms image bytes first second linked spelled lines maps =
     let places = linked.0 in
     let is : placed ms ranges ≡ Ok places = linked.1.0 in
-    let reply = writing_readable (write out bytes ∷ first) second in
-    let files : LinksTo out beside ranges ms places reply = record {
+    let response = writing_readable (write out bytes ∷ first) second in
+    let files : LinksTo out beside ranges ms places response = record {
       image = image;
       is_filled = linked.1.1;
       more = first;
       is_map = lines-at beside.lines ms ranges places first is lines;
       done = λ i. writing_readable (write out (spelled i) ∷ first) (map-at beside.map ms ranges places second is maps i);
     } in
-    subst (λ r. Then (by_places names ms r) (LinksTo out beside ranges ms) reply) (sym is) files
+    subst (λ r. Then (by_places names ms r) (LinksTo out beside ranges ms) response) (sym is) files

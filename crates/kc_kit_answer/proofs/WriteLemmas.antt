@@ -8,7 +8,7 @@ use Rattle.kc_kit_files.specs.declared.ended.Ended.{Ended}
 use Rattle.kc_kit_files.specs.declared.ended.Said.{Said}
 use Rattle.kc_kit_files.specs.declared.ended.Said.TheVariants as said
 use Rattle.kc_kit_files.specs.Ended.{said_in, EndsBy}
-use Rattle.kc_kit_files.specs.Reply.{Reply, Write, done_writing}
+use Rattle.kc_kit_files.specs.Response.{Response, Write, done_writing}
 use Rattle.kc_kit_files.specs.Outside.{Kept, Shown, Wrote, WroteByPart, RefusedAt}
 use Rattle.kc_kit_running.specs.Writing.{IsRefusedAt, AreWrittenBy, AreWritten}
 
@@ -25,29 +25,29 @@ part-behind : (old mid new : Kept) (ws us : List Write) → Wrote old ws mid →
 part-behind old mid new [] us all h = subst (λ (k : Kept). WroteByPart k us new) all h
 part-behind old mid new (w ∷ ws) us all h = inr (all.0, all.1, part-behind all.0 mid new ws us all.2 h)
 
-part-front : (old new : Kept) (ws us : List Write) → WroteByPart old ws new → WroteByPart old (ws ++ us) new
-part-front old new [] us h = absurd h
-part-front old new (w ∷ ws) us (inl h) = inl h
-part-front old new (w ∷ ws) us (inr h) = inr (h.0, h.1, part-front h.0 new ws us h.2)
+part-prefix : (old new : Kept) (ws us : List Write) → WroteByPart old ws new → WroteByPart old (ws ++ us) new
+part-prefix old new [] us h = absurd h
+part-prefix old new (w ∷ ws) us (inl h) = inl h
+part-prefix old new (w ∷ ws) us (inr h) = inr (h.0, h.1, part-prefix h.0 new ws us h.2)
 
 at-behind : (name : List ℕ) (old mid new : Kept) (ws us : List Write) → Wrote old ws mid → RefusedAt name mid us new → RefusedAt name old (ws ++ us) new
 at-behind name old mid new [] us all h = subst (λ (k : Kept). RefusedAt name k us new) all h
 at-behind name old mid new (w ∷ ws) us all h = inr (all.0, all.1, at-behind name all.0 mid new ws us all.2 h)
 
-at-front : (name : List ℕ) (old new : Kept) (ws us : List Write) → RefusedAt name old ws new → RefusedAt name old (ws ++ us) new
-at-front name old new [] us h = absurd h
-at-front name old new (w ∷ ws) us (inl h) = inl h
-at-front name old new (w ∷ ws) us (inr h) = inr (h.0, h.1, at-front name h.0 new ws us h.2)
+at-prefix : (name : List ℕ) (old new : Kept) (ws us : List Write) → RefusedAt name old ws new → RefusedAt name old (ws ++ us) new
+at-prefix name old new [] us h = absurd h
+at-prefix name old new (w ∷ ws) us (inl h) = inl h
+at-prefix name old new (w ∷ ws) us (inr h) = inr (h.0, h.1, at-prefix name h.0 new ws us h.2)
 
 refused-behind : (old mid new : Kept) (ws us : List Write) (what : Said) → Wrote old ws mid → old.faults ≤ mid.faults → IsRefusedAt what mid us new → IsRefusedAt what old (ws ++ us) new
 refused-behind old mid new ws us (said.File name) all later h = (rose-later old.faults mid.faults new.faults later h.0, at-behind name.now old mid new ws us all h.1)
 refused-behind old mid new ws us said.Nothing all later h = absurd h
-refused-behind old mid new ws us (said.Refusal note) all later h = absurd h
+refused-behind old mid new ws us (said.Refusal diagnostic) all later h = absurd h
 
-refused-front : (old new : Kept) (ws us : List Write) (what : Said) → IsRefusedAt what old ws new → IsRefusedAt what old (ws ++ us) new
-refused-front old new ws us (said.File name) h = (h.0, at-front name.now old new ws us h.1)
-refused-front old new ws us said.Nothing h = absurd h
-refused-front old new ws us (said.Refusal note) h = absurd h
+refused-prefix : (old new : Kept) (ws us : List Write) (what : Said) → IsRefusedAt what old ws new → IsRefusedAt what old (ws ++ us) new
+refused-prefix old new ws us (said.File name) h = (h.0, at-prefix name.now old new ws us h.1)
+refused-prefix old new ws us said.Nothing h = absurd h
+refused-prefix old new ws us (said.Refusal diagnostic) h = absurd h
 
 by-behind : (old mid new : Kept) (ws us : List Write) (given : Status) (what : Said) → Wrote old ws mid → old.faults ≤ mid.faults → AreWrittenBy mid us given what new → AreWrittenBy old (ws ++ us) given what new
 by-behind old mid new ws us status.Done what all later h = wrote-append old mid new ws us all h
@@ -61,17 +61,17 @@ by-behind old mid new ws us status.Link what all later h = absurd h
 by-behind old mid new ws us status.Undefined what all later h = absurd h
 by-behind old mid new ws us status.ReadFault what all later h = absurd h
 
-by-front : (old new : Kept) (ws us : List Write) (given : Status) (what : Said) → given ≢ status.Done → AreWrittenBy old ws given what new → AreWrittenBy old (ws ++ us) given what new
-by-front old new ws us status.Done what is_not h = absurd (is_not refl)
-by-front old new ws us status.WriteFault what is_not h = refused-front old new ws us what h
-by-front old new ws us status.NoMemory what is_not h = part-front old new ws us h
-by-front old new ws us status.Usage what is_not h = absurd h
-by-front old new ws us status.Missing what is_not h = absurd h
-by-front old new ws us status.Source what is_not h = absurd h
-by-front old new ws us status.Input what is_not h = absurd h
-by-front old new ws us status.Link what is_not h = absurd h
-by-front old new ws us status.Undefined what is_not h = absurd h
-by-front old new ws us status.ReadFault what is_not h = absurd h
+by-prefix : (old new : Kept) (ws us : List Write) (given : Status) (what : Said) → given ≢ status.Done → AreWrittenBy old ws given what new → AreWrittenBy old (ws ++ us) given what new
+by-prefix old new ws us status.Done what is_not h = absurd (is_not refl)
+by-prefix old new ws us status.WriteFault what is_not h = refused-prefix old new ws us what h
+by-prefix old new ws us status.NoMemory what is_not h = part-prefix old new ws us h
+by-prefix old new ws us status.Usage what is_not h = absurd h
+by-prefix old new ws us status.Missing what is_not h = absurd h
+by-prefix old new ws us status.Source what is_not h = absurd h
+by-prefix old new ws us status.Input what is_not h = absurd h
+by-prefix old new ws us status.Link what is_not h = absurd h
+by-prefix old new ws us status.Undefined what is_not h = absurd h
+by-prefix old new ws us status.ReadFault what is_not h = absurd h
 
 -- some are written, and then others
 pub written-behind : (old mid new : Kept) (ws us : List Write) (first ended : Ended) → first.status ≡ status.Done → AreWritten old ws first mid → old.faults ≤ mid.faults → AreWritten mid us ended new → AreWritten old (ws ++ us) ended new
@@ -81,18 +81,18 @@ written-behind old mid new ws us first ended is all later h = record {
 }
 
 -- one of some is refused, and the others are not written
-pub written-front : (old new : Kept) (ws us : List Write) (ended : Ended) → ended.status ≢ status.Done → AreWritten old ws ended new → AreWritten old (ws ++ us) ended new
-written-front old new ws us ended is_not h = record { written = by-front old new ws us ended.status ended.said is_not h.written; silent = h.silent }
+pub written-prefix : (old new : Kept) (ws us : List Write) (ended : Ended) → ended.status ≢ status.Done → AreWritten old ws ended new → AreWritten old (ws ++ us) ended new
+written-prefix old new ws us ended is_not h = record { written = by-prefix old new ws us ended.status ended.said is_not h.written; silent = h.silent }
 
 -- ---- the reply of files that are written
 
-ends-refused : (old new : Kept) (out : Shown) (ws : List Write) (what : Said) (may : Reply → Type 0) → may (done_writing ws) → IsRefusedAt what old ws new → EndsBy may old out status.WriteFault what new out
-ends-refused old new out ws (said.File name) may m h = record { reply = done_writing ws; is_answer = m; files = h.1; cause = h.0; text = Grew-nothing out.written out.written refl }
+ends-refused : (old new : Kept) (out : Shown) (ws : List Write) (what : Said) (may : Response → Type 0) → may (done_writing ws) → IsRefusedAt what old ws new → EndsBy may old out status.WriteFault what new out
+ends-refused old new out ws (said.File name) may m h = record { response = done_writing ws; is_answer = m; files = h.1; cause = h.0; text = Grew-nothing out.written out.written refl }
 ends-refused old new out ws said.Nothing may m h = absurd h
-ends-refused old new out ws (said.Refusal note) may m h = absurd h
+ends-refused old new out ws (said.Refusal diagnostic) may m h = absurd h
 
-ends-by-written : (old new : Kept) (out : Shown) (ws : List Write) (given : Status) (what : Said) (may : Reply → Type 0) → may (done_writing ws) → said_in what ≡ [] → AreWrittenBy old ws given what new → EndsBy may old out given what new out
-ends-by-written old new out ws status.Done what may m e h = record { reply = done_writing ws; is_answer = (m, sym e); status = refl; text = Grew-nothing out.written out.written refl; files = h }
+ends-by-written : (old new : Kept) (out : Shown) (ws : List Write) (given : Status) (what : Said) (may : Response → Type 0) → may (done_writing ws) → said_in what ≡ [] → AreWrittenBy old ws given what new → EndsBy may old out given what new out
+ends-by-written old new out ws status.Done what may m e h = record { response = done_writing ws; is_answer = (m, sym e); status = refl; text = Grew-nothing out.written out.written refl; files = h }
 ends-by-written old new out ws status.WriteFault what may m e h = ends-refused old new out ws what may m h
 ends-by-written old new out ws status.NoMemory what may m e h = record { text = inl refl; files = inr (done_writing ws, m, h) }
 ends-by-written old new out ws status.Usage what may m e h = absurd h
@@ -103,5 +103,5 @@ ends-by-written old new out ws status.Link what may m e h = absurd h
 ends-by-written old new out ws status.Undefined what may m e h = absurd h
 ends-by-written old new out ws status.ReadFault what may m e h = absurd h
 
-pub ends-written : (old new : Kept) (out : Shown) (ws : List Write) (ended : Ended) (may : Reply → Type 0) → may (done_writing ws) → AreWritten old ws ended new → EndsBy may old out ended.status ended.said new out
+pub ends-written : (old new : Kept) (out : Shown) (ws : List Write) (ended : Ended) (may : Response → Type 0) → may (done_writing ws) → AreWritten old ws ended new → EndsBy may old out ended.status ended.said new out
 ends-written old new out ws ended may m h = ends-by-written old new out ws ended.status ended.said may m h.silent h.written

@@ -4,13 +4,13 @@ use Rattle.std.specs.Result.{IsOk}
 use Rattle.kc_obj_module.specs.Object.{Object}
 use Rattle.kc_gen.specs.Sources.{program_text}
 use Rattle.kc_gen.specs.Stimuli.{stimuli_text}
-use Rattle.kc_kit_files.specs.Reply.{Reply}
+use Rattle.kc_kit_files.specs.Response.{Response}
 use Rattle.kc_kit_words.specs.Words.{placing_of}
 use Rattle.kc_kit_inputs.specs.Driving.{GivenFiles, driving_of}
-use Rattle.kc_kit_inputs.specs.Sources.{NoteRule, AreModules, AreFaultless}
+use Rattle.kc_kit_inputs.specs.Sources.{DiagnosticRule, AreModules, AreFaultless}
 use Rattle.kc_kit_running.specs.Counted.{summary_of}
 use Rattle.kc_kit_answer.specs.Places.{places_of}
-use Rattle.kc_kit_answer.specs.Run.{SourcesTold}
+use Rattle.kc_kit_answer.specs.Run.{SourcesReported}
 
 -- ---- the made input, as files of these names
 
@@ -24,8 +24,8 @@ abbrev pub made_given : ℕ → GivenFiles
 made_given number = record { stimuli = Some (codes "gens", stimuli_text number); analog = None }
 
 -- the made input is answered as sources that are run, by this summary
-abbrev pub GenerateAnswer : NoteRule → ℕ → Reply → Type 0
-GenerateAnswer IsNote number reply = SourcesTold IsNote made_names (made_given number) (placing_of []) (made_texts number) (summary_of number) reply
+abbrev pub GenerateAnswer : DiagnosticRule → ℕ → Response → Type 0
+GenerateAnswer IsDiagnostic number response = SourcesReported IsDiagnostic made_names (made_given number) (placing_of []) (made_texts number) (summary_of number) response
 
 -- what is accepted: the made sources have no fault, no rule of the linker is broken, and the made stimuli have their form
 pub record IsGenerable (number : ℕ) : Type 0 where

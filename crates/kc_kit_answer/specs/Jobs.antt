@@ -7,21 +7,21 @@ use Rattle.kc_base.specs.Held.{Holding}
 use Rattle.kc_kit_files.specs.declared.status.Status.TheVariants as status
 use Rattle.kc_kit_files.specs.Outside.{OnlyRead}
 use Rattle.kc_kit_files.specs.declared.refusal.Refusal.{Refusal}
-use Rattle.kc_kit_files.specs.Reply.{Reply, Write, says, done_writing, IsRefused, IsSaid}
+use Rattle.kc_kit_files.specs.Response.{Response, Write, says, done_writing, IsRefused, IsSaid}
 use Rattle.kc_kit_words.specs.Asked.{IsBounded}
 use Rattle.kc_kit_words.specs.Values.{max_states}
 use Rattle.kc_kit_words.specs.Commands.{Command}
 use Rattle.kc_kit_inputs.specs.declared.driving.Driving.{Driving}
-use Rattle.kc_kit_inputs.specs.FaultNotes.{IsFaultNote}
+use Rattle.kc_kit_inputs.specs.FaultDiagnostics.{IsFaultDiagnostic}
 use Rattle.kc_kit_running.specs.declared.board.Board.{Board}
 use Rattle.kc_kit_answer.specs.declared.job.Job.{Job}
 use Rattle.kc_kit_answer.specs.declared.job.Job.TheVariants as job
 use Rattle.kc_kit_running.specs.declared.output.Output.{Output}
 use Rattle.kc_kit_answer.specs.Answer.{MayAnswerBy}
-use Rattle.kc_kit_running.specs.Scripted.{debugged_by, script_reply}
+use Rattle.kc_kit_running.specs.Scripted.{debugged_by, script_response}
 use Rattle.kc_kit_running.specs.Counted.{summary_of}
-use Rattle.kc_kit_running.specs.Lives.{board_reply}
-use Rattle.kc_kit_running.specs.Profiled.{profile_reply}
+use Rattle.kc_kit_running.specs.Lives.{board_response}
+use Rattle.kc_kit_running.specs.Profiled.{profile_response}
 use Rattle.kc_kit_running.specs.Writing.{written}
 
 abbrev pub maybe_written : Option Output → List Write
@@ -29,12 +29,12 @@ maybe_written None = []
 maybe_written (Some o) = written o ∷ []
 
 -- the reply of a job
-abbrev pub does : Job → Reply
-does (job.Run board extent) = board_reply extent board.driving board.image
-does (job.Profile board states entries out) = profile_reply states out.now entries.items board.driving board.image
+abbrev pub does : Job → Response
+does (job.Run board extent) = board_response extent board.driving board.image
+does (job.Profile board states entries out) = profile_response states out.now entries.items board.driving board.image
 does (job.Count board number) = summary_of number board.driving board.image
 does (job.List image first last) = says status.Done (listing image first last)
-does (job.Debug board script lines) = script_reply (debugged_by lines script board.driving board.image)
+does (job.Debug board script lines) = script_response (debugged_by lines script board.driving board.image)
 does (job.Write file lines map) = done_writing (written file ∷ maybe_written lines ++ maybe_written map)
 
 -- state times and lives within their limits, and addresses in order
@@ -47,23 +47,23 @@ IsDoable (job.Debug board script lines) = Unit {0}
 IsDoable (job.Write file lines map) = Unit {0}
 
 -- a board with an image and what drives its inputs, on which what is answered depends; or a refusal that may be answered
-abbrev pub IsBoard : ((Driving → List ℕ → Reply) → Reply → Type 0) → Result Board Refusal → Type 0
-IsBoard answer (Ok board) = (tell : Driving → List ℕ → Reply) → answer tell (tell board.driving board.image)
-IsBoard answer (Err refusal) = (tell : Driving → List ℕ → Reply) → IsRefused (answer tell) refusal
+abbrev pub IsBoard : ((Driving → List ℕ → Response) → Response → Type 0) → Result Board Refusal → Type 0
+IsBoard answer (Ok board) = (report : Driving → List ℕ → Response) → answer report (report board.driving board.image)
+IsBoard answer (Err refusal) = (report : Driving → List ℕ → Response) → IsRefused (answer report) refusal
 
 -- a board with the entries of a line map
-abbrev pub IsBoardWithLines : ((List MapEntry → Driving → List ℕ → Reply) → Reply → Type 0) → Result (Board × Vec MapEntry) Refusal → Type 0
-IsBoardWithLines answer (Ok made) = (tell : List MapEntry → Driving → List ℕ → Reply) → answer tell (tell made.1.items made.0.driving made.0.image)
-IsBoardWithLines answer (Err refusal) = (tell : List MapEntry → Driving → List ℕ → Reply) → IsRefused (answer tell) refusal
+abbrev pub IsBoardWithLines : ((List MapEntry → Driving → List ℕ → Response) → Response → Type 0) → Result (Board × Vec MapEntry) Refusal → Type 0
+IsBoardWithLines answer (Ok made) = (report : List MapEntry → Driving → List ℕ → Response) → answer report (report made.1.items made.0.driving made.0.image)
+IsBoardWithLines answer (Err refusal) = (report : List MapEntry → Driving → List ℕ → Response) → IsRefused (answer report) refusal
 
 -- a job or a refusal, of which the reply may be given
-abbrev pub IsPrepared : (Reply → Type 0) → Result Job Refusal → Type 0
+abbrev pub IsPrepared : (Response → Type 0) → Result Job Refusal → Type 0
 IsPrepared may (Ok job) = may (does job) × IsDoable job
 IsPrepared may (Err refusal) = IsRefused may refusal
 
 -- the job or the refusal that a command comes to once its files are read and judged; the files stay
 pub record Prepares {T : Type 0} (held : T → Option Holding) (reads writes : T → ℕ) (command : Command) (old : T) (given : Result Job Refusal) (new : T) : Type 0 where
-  pub answer : IsPrepared (MayAnswerBy IsFaultNote held reads (Some command) old new) given
+  pub answer : IsPrepared (MayAnswerBy IsFaultDiagnostic held reads (Some command) old new) given
   pub only_read : OnlyRead held reads writes old new
 
 abbrev pub IsReady : Result Job Refusal → Type 0
@@ -71,6 +71,6 @@ IsReady (Ok job) = IsDoable job
 IsReady (Err refusal) = Unit {0}
 
 -- the reply of a job or of a refusal
-abbrev pub IsOf : Result Job Refusal → Reply → Type 0
-IsOf (Ok job) reply = reply ≡ does job
-IsOf (Err refusal) reply = IsSaid refusal reply
+abbrev pub IsOf : Result Job Refusal → Response → Type 0
+IsOf (Ok job) response = response ≡ does job
+IsOf (Err refusal) response = IsSaid refusal response

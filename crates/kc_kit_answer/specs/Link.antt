@@ -12,7 +12,7 @@ use Rattle.kc_link.specs.Filled.{IsFilled}
 use Rattle.kc_link.specs.LineMap.{IsLineMap}
 use Rattle.kc_hex.specs.Spelling.{spelling}
 use Rattle.kc_kit_files.specs.Reads.{file_limit}
-use Rattle.kc_kit_files.specs.Reply.{Reply, Write, write, Then}
+use Rattle.kc_kit_files.specs.Response.{Response, Write, write, Then}
 use Rattle.kc_kit_files.specs.Writes.{writing_readable}
 use Rattle.kc_kit_words.specs.Commands.{Beside}
 use Rattle.kc_kit_words.specs.declared.inputs.Role.{Role}
@@ -44,29 +44,29 @@ abbrev pub AreMaps : Option (List ℕ) → List Object → Ranges → List Write
 AreMaps None ms ranges writes = writes ≡ []
 AreMaps (Some name) ms ranges writes = (places : Places) × (located ms ranges ≡ Ok places) × (writes ≡ map_writes (Some name) ms ranges places)
 
-pub record LinksTo (out : List ℕ) (beside : Beside) (ranges : Ranges) (ms : List Object) (places : Places) (reply : Reply) : Type 0 where
+pub record LinksTo (out : List ℕ) (beside : Beside) (ranges : Ranges) (ms : List Object) (places : Places) (response : Response) : Type 0 where
   pub image : List ℕ
   pub is_filled : IsFilled ms places image
   pub more : List Write
   pub is_map : IsMap beside.lines ms places more
-  pub done : reply ≡ writing_readable (write out (spelling image) ∷ more) (map_writes beside.map ms ranges places)
+  pub done : response ≡ writing_readable (write out (spelling image) ∷ more) (map_writes beside.map ms ranges places)
 
 -- ---- a library, by its name and its text: the members that the modules take follow them
 
 -- goes on with the modules and the members that they take from a library of this name
-abbrev pub Taking : List (List ℕ) → List ℕ → (List (List ℕ) → List Object → Reply → Type 0) → List Object → List Object → Reply → Type 0
-Taking names library may ms members reply =
-    (taken : Result (List Object) Reply) × TakenAre library ms members taken × Then taken (λ taken. may (names ++ member_words library taken) (ms ++ taken)) reply
+abbrev pub Taking : List (List ℕ) → List ℕ → (List (List ℕ) → List Object → Response → Type 0) → List Object → List Object → Response → Type 0
+Taking names library may ms members response =
+    (taken : Result (List Object) Response) × TakenAre library ms members taken × Then taken (λ taken. may (names ++ member_words library taken) (ms ++ taken)) response
 
 -- goes on with modules, where a library is named with what they take of it too
-abbrev pub Completed : List (List ℕ) → Option (List ℕ × List ℕ) → (List (List ℕ) → List Object → Reply → Type 0) → List Object → Reply → Type 0
-Completed names None may ms reply = may names ms reply
-Completed names (Some library) may ms reply = Then (library_of library.0 library.1) (Taking names library.0 may ms) reply
+abbrev pub Completed : List (List ℕ) → Option (List ℕ × List ℕ) → (List (List ℕ) → List Object → Response → Type 0) → List Object → Response → Type 0
+Completed names None may ms response = may names ms response
+Completed names (Some library) may ms response = Then (library_of library.0 library.1) (Taking names library.0 may ms) response
 
 -- the answer to objects that were read, and to a library where one was
-abbrev pub LinkAnswer : List (List ℕ) → List (Role × List ℕ) → List ℕ → Beside → Ranges → List (List ℕ) → List (List ℕ) → Reply → Type 0
-LinkAnswer names inputs out beside ranges texts input_texts reply =
-    Then (modules_of object_of names texts) (Completed names (input_for role.Library inputs input_texts) (λ files. Placing files ranges (LinksTo out beside ranges))) reply
+abbrev pub LinkAnswer : List (List ℕ) → List (Role × List ℕ) → List ℕ → Beside → Ranges → List (List ℕ) → List (List ℕ) → Response → Type 0
+LinkAnswer names inputs out beside ranges texts input_texts response =
+    Then (modules_of object_of names texts) (Completed names (input_for role.Library inputs input_texts) (λ files. Placing files ranges (LinksTo out beside ranges))) response
 
 -- ---- what is accepted: at most 64 modules and taken members, no rule of the linker is broken, and commands read the line map that is
 -- ---- asked for. They read every hex file that is written.

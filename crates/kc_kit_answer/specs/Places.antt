@@ -6,18 +6,18 @@ use Rattle.kc_link_place.specs.declared.ranges.LinkFault.{LinkFault}
 use Rattle.kc_link_place.specs.Placing.{Places}
 use Rattle.kc_link.specs.Placed.{placed}
 use Rattle.kc_kit_files.specs.declared.status.Status.TheVariants as status
-use Rattle.kc_kit_files.specs.Reply.{Reply, tells, Then}
+use Rattle.kc_kit_files.specs.Response.{Response, reports, Then}
 use Rattle.kc_kit_notes.specs.Rules.{link_line}
-use Rattle.kc_kit_notes.specs.RuleNotes.{link_note}
+use Rattle.kc_kit_notes.specs.RuleDiagnostics.{link_diagnostic}
 
 -- the places of modules, or the reply to the first broken rule
-abbrev pub by_places : List (List ℕ) → List Object → Result Places LinkFault → Result Places Reply
+abbrev pub by_places : List (List ℕ) → List Object → Result Places LinkFault → Result Places Response
 by_places names ms (Ok places) = Ok places
-by_places names ms (Err fault) = Err (tells status.Link (link_line names fault) (link_note names ms fault))
+by_places names ms (Err fault) = Err (reports status.Link (link_line names fault) (link_diagnostic names ms fault))
 
-abbrev pub places_of : List (List ℕ) → List Object → Ranges → Result Places Reply
+abbrev pub places_of : List (List ℕ) → List Object → Ranges → Result Places Response
 places_of names ms ranges = by_places names ms (placed ms ranges)
 
 -- what may be answered to modules, once they are placed
-abbrev pub Placing : List (List ℕ) → Ranges → (List Object → Places → Reply → Type 0) → List Object → Reply → Type 0
-Placing names ranges may ms reply = Then (places_of names ms ranges) (may ms) reply
+abbrev pub Placing : List (List ℕ) → Ranges → (List Object → Places → Response → Type 0) → List Object → Response → Type 0
+Placing names ranges may ms response = Then (places_of names ms ranges) (may ms) response

@@ -2,7 +2,7 @@
 ghost use Rattle.std.specs.Prelude.{◌≤◌, length, IfOk};
 ghost use Rattle.std.specs.Option.{option_map};
 ghost use Rattle.kc_asm.specs.Assembled.{IsModule};
-ghost use Rattle.kc_kit_inputs.specs.FaultNotes.{IsFaultNote};
+ghost use Rattle.kc_kit_inputs.specs.FaultDiagnostics.{IsFaultDiagnostic};
 ghost use Rattle.kc_kit_words.specs.Asked.{asked};
 ghost use Rattle.kc_kit_answer.specs.Assemble.{AreListings, AssembleAnswer};
 ghost use Rattle.kc_kit_answer.specs.Jobs.{IsPrepared, Prepares, maybe_written};
@@ -36,7 +36,7 @@ pub fn prepare_assemble<'a, F: Files>(
 // The object of the source with a text.
 fn object_text<'a>(alloc: Global, assemble: &Assemble<'a>, text: &[u8]) -> Result<Job<'a>, Refusal>
     requires { length text.now ≤ 1048576 }
-    ensures { IsPrepared (AssembleAnswer IsFaultNote assemble.now.file.now assemble.now.out.now (option_map (λ l. l.now) assemble.now.list) text.now) result }
+    ensures { IsPrepared (AssembleAnswer IsFaultDiagnostic assemble.now.file.now assemble.now.out.now (option_map (λ l. l.now) assemble.now.list) text.now) result }
 {
     let made = match assemble_source(alloc, assemble.file, text) {
         Ok(made) => made,

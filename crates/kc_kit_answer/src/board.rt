@@ -3,11 +3,11 @@ ghost use Rattle.std.specs.Prelude.{◌≡◌, ◌≤◌, length, map, string_by
 ghost use Rattle.kc_kit_files.specs.Reads.{AllShort};
 ghost use Rattle.kc_kit_words.specs.Asked.{AreLinkable};
 ghost use Rattle.kc_kit_inputs.specs.Driving.{given_in, AreShort};
-ghost use Rattle.kc_kit_inputs.specs.FaultNotes.{IsFaultNote};
-ghost use Rattle.kc_kit_answer.specs.Hex.{HexTold};
+ghost use Rattle.kc_kit_inputs.specs.FaultDiagnostics.{IsFaultDiagnostic};
+ghost use Rattle.kc_kit_answer.specs.Hex.{HexReported};
 ghost use Rattle.kc_kit_answer.specs.Jobs.{IsBoard};
 ghost use Rattle.kc_kit_answer.specs.Places.{Placing};
-ghost use Rattle.kc_kit_answer.specs.Run.{Driven, FilledTold, SourcesTold};
+ghost use Rattle.kc_kit_answer.specs.Run.{Driven, FilledReported, SourcesReported};
 
 use kc_asm_earlier_laws::sources_are_read_well;
 use kc_kit_files::Refusal;
@@ -28,7 +28,7 @@ pub(crate) fn board_of_hex(
 ) -> Result<Board, Refusal>
     requires text { length text.now ≤ 1048576 }
     requires given { AreShort given }
-    ensures { IsBoard (HexTold name.now (given_in given.entry) text.now) result }
+    ensures { IsBoard (HexReported name.now (given_in given.entry) text.now) result }
 {
     let image = match image_of(alloc, name, text) {
         Ok(image) => image,
@@ -53,7 +53,7 @@ pub(crate) fn board_of_sources(
     requires count { length texts.now ≡ length names.now }
     requires short { AllShort (map (λ t. t.items) texts.now) }
     requires given { AreShort given }
-    ensures { IsBoard (SourcesTold IsFaultNote (map string_bytes names.now) (given_in given.entry) placing.now (map (λ t. t.items) texts.now)) result }
+    ensures { IsBoard (SourcesReported IsFaultDiagnostic (map string_bytes names.now) (given_in given.entry) placing.now (map (λ t. t.items) texts.now)) result }
 {
     sources_are_read_well();
     linked_image();
@@ -73,7 +73,7 @@ pub(crate) fn board_of_modules(
 ) -> Result<Board, Refusal>
     requires linkable { AreLinkable (length modules.now) placing.now }
     requires given { AreShort given }
-    ensures { IsBoard (λ tell. Placing (map string_bytes names.now) placing.now (Driven (given_in given.entry) FilledTold tell) modules.now) result }
+    ensures { IsBoard (λ report. Placing (map string_bytes names.now) placing.now (Driven (given_in given.entry) FilledReported report) modules.now) result }
 {
     match kc_link::link(alloc, modules, placing) {
         Ok(image) => match driving_in(alloc, given) {

@@ -3,8 +3,8 @@ ghost use Rattle.std.specs.Prelude.{◌≡◌, false, IfOk};
 ghost use Rattle.kc_kit_files.specs.declared.status.Status.TheVariants as status;
 ghost use Rattle.kc_kit_files.specs.Ended.{EndsPrinting};
 ghost use Rattle.kc_kit_files.specs.Outside.{shown_by};
-ghost use Rattle.kc_kit_files.specs.Reply.{tells, IsRefused};
-ghost use Rattle.kc_kit_answer.specs.Explain.{explained, no_code_line, no_code_note};
+ghost use Rattle.kc_kit_files.specs.Response.{reports, IsRefused};
+ghost use Rattle.kc_kit_answer.specs.Explain.{explained, no_code_line, no_code_diagnostic};
 
 use kc_base::{NoMemory, Sink};
 use kc_explain::{explain, meaning_text};
@@ -14,21 +14,28 @@ use kc_trace::TraceOut;
 use std::alloc::Global;
 
 // The note of a code that is none.
-fn no_code_note(alloc: Global, code: &[u8]) -> Result<Vec<u8>, NoMemory>
-    ensures { IfOk result (λ note. note.items ≡ no_code_note code.now) }
+fn no_code_diagnostic(alloc: Global, code: &[u8]) -> Result<Vec<u8>, NoMemory>
+    ensures { IfOk result (λ diagnostic. diagnostic.items ≡ no_code_diagnostic code.now) }
 {
-    let mut note = Vec::from_slice(alloc, b"kc96: error: there is no code ")?;
-    put_word(&mut note, code)?;
-    note.push(b'\n')?;
-    Ok(note)
+    let mut diagnostic = Vec::from_slice(alloc, b"kc96: error: there is no code ")?;
+    put_word(&mut diagnostic, code)?;
+    diagnostic.push(b'\n')?;
+    Ok(diagnostic)
 }
 
 // The refusal of a code that is none.
 fn no_code(alloc: Global, code: &[u8]) -> Refusal
-    ensures { IsRefused (λ reply. reply ≡ tells status.Missing (no_code_line code.now) (no_code_note code.now)) result }
+    ensures { IsRefused (λ response. response ≡ reports status.Missing (no_code_line code.now) (no_code_diagnostic code.now)) result }
 {
-    match no_code_note(alloc, code) {
-        Ok(note) => refusal_of(alloc, Cause::Missing, b"missing code ", code, b"\n", note),
+    match no_code_diagnostic(alloc, code) {
+        Ok(diagnostic) => refusal_of(
+            alloc,
+            Cause::Missing,
+            b"missing code ",
+            code,
+            b"\n",
+            diagnostic,
+        ),
         Err(NoMemory) => Refusal::NoMemory,
     }
 }
@@ -36,7 +43,7 @@ fn no_code(alloc: Global, code: &[u8]) -> Refusal
 /// Prints what a code says, or that there is no such code.
 pub fn explain_code<S: Sink>(alloc: Global, code: &str, out: &mut TraceOut<S>) -> Ended<'static>
     requires { out.old.failed ≡ false }
-    ensures { EndsPrinting (λ reply. reply ≡ explained code.now) (shown_by S.written S.faults out.old.sink) result (shown_by S.written S.faults out.new.sink) }
+    ensures { EndsPrinting (λ response. response ≡ explained code.now) (shown_by S.written S.faults out.old.sink) result (shown_by S.written S.faults out.new.sink) }
 {
     match explain(code) {
         Some(row) => match meaning_text(alloc, &row) {

@@ -2,7 +2,7 @@
 ghost use Rattle.std.specs.Prelude.{◌≡◌, ◌≤◌, IfOk, length, map, string_bytes};
 ghost use Rattle.kc_gen.specs.Stimuli.{stimuli_text};
 ghost use Rattle.kc_kit_files.specs.Reads.{AllShort};
-ghost use Rattle.kc_kit_inputs.specs.FaultNotes.{IsFaultNote};
+ghost use Rattle.kc_kit_inputs.specs.FaultDiagnostics.{IsFaultDiagnostic};
 ghost use Rattle.kc_kit_answer.specs.Generate.{made_names, made_texts, GenerateAnswer};
 ghost use Rattle.kc_kit_answer.specs.Jobs.{IsPrepared};
 
@@ -60,7 +60,7 @@ fn make_input(alloc: Global, number: u16) -> Result<Made, NoMemory>
 
 /// Makes the input of a number, and assembles and links the image that is to be run.
 pub fn prepare_generate<'a>(alloc: Global, number: u16) -> Result<Job<'a>, Refusal>
-    ensures { IsPrepared (GenerateAnswer IsFaultNote number) result }
+    ensures { IsPrepared (GenerateAnswer IsFaultDiagnostic number) result }
 {
     let Ok(made) = make_input(alloc, number) else {
         return Err(Refusal::NoMemory);

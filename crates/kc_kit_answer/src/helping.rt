@@ -4,7 +4,7 @@ ghost use Rattle.std.specs.List.{filter};
 ghost use Rattle.std.specs.Str.{bytes_eq};
 ghost use Rattle.kc_kit_files.specs.declared.status.Status.TheVariants as status;
 ghost use Rattle.kc_kit_files.specs.Outside.{Prints, shown_by};
-ghost use Rattle.kc_kit_files.specs.Reply.{says};
+ghost use Rattle.kc_kit_files.specs.Response.{says};
 ghost use Rattle.kc_kit_answer.specs.Help as spec;
 
 use crate::help::{Row, help_rows};
@@ -67,9 +67,9 @@ fn help_on(alloc: Global, verb: &str) -> Result<Vec<u8>, NoMemory>
 }
 
 /// Prints the help on all commands.
-pub fn tell_help<S: Sink>(alloc: Global, out: &mut TraceOut<S>) -> Status
+pub fn report_help<S: Sink>(alloc: Global, out: &mut TraceOut<S>) -> Status
     requires { out.old.failed ≡ false }
-    ensures { Prints (λ reply. reply ≡ says status.Done spec.help_text) (shown_by S.written S.faults out.old.sink) result (shown_by S.written S.faults out.new.sink) }
+    ensures { Prints (λ response. response ≡ says status.Done spec.help_text) (shown_by S.written S.faults out.old.sink) result (shown_by S.written S.faults out.new.sink) }
 {
     match help_text(alloc) {
         Ok(text) => say(out, &text, Status::Done),
@@ -78,9 +78,9 @@ pub fn tell_help<S: Sink>(alloc: Global, out: &mut TraceOut<S>) -> Status
 }
 
 /// Prints the help on a command.
-pub fn tell_help_on<S: Sink>(alloc: Global, verb: &str, out: &mut TraceOut<S>) -> Status
+pub fn report_help_on<S: Sink>(alloc: Global, verb: &str, out: &mut TraceOut<S>) -> Status
     requires { out.old.failed ≡ false }
-    ensures { Prints (λ reply. reply ≡ says status.Done (spec.help_on verb.now)) (shown_by S.written S.faults out.old.sink) result (shown_by S.written S.faults out.new.sink) }
+    ensures { Prints (λ response. response ≡ says status.Done (spec.help_on verb.now)) (shown_by S.written S.faults out.old.sink) result (shown_by S.written S.faults out.new.sink) }
 {
     match help_on(alloc, verb) {
         Ok(text) => say(out, &text, Status::Done),

@@ -63,7 +63,7 @@ pub fn perform<'a, F: Files, S: Sink>(
 ) -> Ended<'a>
     requires ready { out.old.failed ≡ false }
     requires doable { IsDoable job }
-    ensures answer { Ends F.held F.write_faults S.written S.faults (λ reply. reply ≡ does job.entry) files.old out.old.sink result files.new out.new.sink }
+    ensures answer { Ends F.held F.write_faults S.written S.faults (λ response. response ≡ does job.entry) files.old out.old.sink result files.new out.new.sink }
     ensures no_read { F.read_faults files.new ≡ F.read_faults files.old }
 {
     match job {

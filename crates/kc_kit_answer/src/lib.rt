@@ -25,7 +25,7 @@ pub use dump::prepare_dump;
 pub use explaining::explain_code;
 pub use generate::prepare_generate;
 pub use help::{HELP, VERSION};
-pub use helping::{tell_help, tell_help_on};
+pub use helping::{report_help, report_help_on};
 pub use job::{Job, perform};
 pub use link::prepare_link;
 pub use list::prepare_list;

@@ -52,7 +52,7 @@ fn pack_texts<'a>(alloc: Global, pack: &Pack<'a>, texts: &[Vec<u8>]) -> Result<J
 fn pack_modules<'a>(alloc: Global, pack: &Pack<'a>, modules: &[Module]) -> Result<Job<'a>, Refusal>
     requires few { AreFew (length modules.now) }
     requires short { All (λ m. length (spelling m) < 2 ^ 32) modules.now }
-    ensures { IsPrepared (λ reply. reply ≡ packed (map string_bytes pack.now.files.now) pack.now.out.now modules.now (doubled modules.now)) result }
+    ensures { IsPrepared (λ response. response ≡ packed (map string_bytes pack.now.files.now) pack.now.out.now modules.now (doubled modules.now)) result }
 {
     match kc_lib::pack(alloc, modules) {
         Ok(bytes) => {

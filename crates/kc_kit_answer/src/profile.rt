@@ -5,10 +5,10 @@ ghost use Rattle.kc_kit_words.specs.Asked.{asked, AreLinkable, IsWithin};
 ghost use Rattle.kc_kit_words.specs.Inputs.{inputs_in};
 ghost use Rattle.kc_kit_words.specs.Values.{max_states};
 ghost use Rattle.kc_kit_inputs.specs.Driving.{given_in, AreShort};
-ghost use Rattle.kc_kit_inputs.specs.FaultNotes.{IsFaultNote};
+ghost use Rattle.kc_kit_inputs.specs.FaultDiagnostics.{IsFaultDiagnostic};
 ghost use Rattle.kc_kit_answer.specs.Jobs.{IsBoardWithLines, IsPrepared, Prepares};
 ghost use Rattle.kc_kit_answer.specs.Places.{Placing};
-ghost use Rattle.kc_kit_answer.specs.Profile.{map_entry, DrivenWithLines, FilledWithLines, LinesTold, ProfileAnswer, ProfileHexAnswer};
+ghost use Rattle.kc_kit_answer.specs.Profile.{map_entry, DrivenWithLines, FilledWithLines, LinesReported, ProfileAnswer, ProfileHexAnswer};
 
 use crate::board::{board_of_hex, board_of_modules};
 use crate::job::Job;
@@ -101,7 +101,7 @@ fn profile_texts<'a>(
     requires count { length texts.now ≡ length run.now.files.now }
     requires short { AllShort (map (λ t. t.items) texts.now) }
     requires inputs { AllShort (map (λ t. t.items) inputs.now) }
-    ensures { IsPrepared (ProfileAnswer IsFaultNote (map string_bytes run.now.files.now) (inputs_in run.now.inputs) run.now.states run.now.placing run.now.out.now (map (λ t. t.items) texts.now) (map (λ t. t.items) inputs.now)) result }
+    ensures { IsPrepared (ProfileAnswer IsFaultDiagnostic (map string_bytes run.now.files.now) (inputs_in run.now.inputs) run.now.states run.now.placing run.now.out.now (map (λ t. t.items) texts.now) (map (λ t. t.items) inputs.now)) result }
 {
     let given = given_for(run.inputs, inputs);
     match board_and_lines(alloc, run.files, texts, &run.placing, given) {
@@ -128,7 +128,7 @@ fn board_and_lines(
     requires count { length texts.now ≡ length names.now }
     requires short { AllShort (map (λ t. t.items) texts.now) }
     requires given { AreShort given }
-    ensures { IsBoardWithLines (LinesTold IsFaultNote (map string_bytes names.now) (given_in given.entry) placing.now (map (λ t. t.items) texts.now)) result }
+    ensures { IsBoardWithLines (LinesReported IsFaultDiagnostic (map string_bytes names.now) (given_in given.entry) placing.now (map (λ t. t.items) texts.now)) result }
 {
     sources_are_read_well();
     linked_image();
@@ -148,7 +148,7 @@ fn linked(
 ) -> Result<(Board, Vec<MapEntry>), Refusal>
     requires linkable { AreLinkable (length modules.now) placing.now }
     requires given { AreShort given }
-    ensures { IsBoardWithLines (λ tell. Placing (map string_bytes names.now) placing.now (DrivenWithLines (given_in given.entry) FilledWithLines tell) modules.now) result }
+    ensures { IsBoardWithLines (λ report. Placing (map string_bytes names.now) placing.now (DrivenWithLines (given_in given.entry) FilledWithLines report) modules.now) result }
 {
     let board = match board_of_modules(alloc, names, modules, placing, given) {
         Ok(board) => board,

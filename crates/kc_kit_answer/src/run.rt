@@ -1,7 +1,7 @@
 // The command that runs sources.
 ghost use Rattle.std.specs.Prelude.{◌≡◌, length, map, string_bytes};
 ghost use Rattle.kc_kit_files.specs.Reads.{AllShort};
-ghost use Rattle.kc_kit_inputs.specs.FaultNotes.{IsFaultNote};
+ghost use Rattle.kc_kit_inputs.specs.FaultDiagnostics.{IsFaultDiagnostic};
 ghost use Rattle.kc_kit_words.specs.Asked.{asked, IsWithin};
 ghost use Rattle.kc_kit_words.specs.Inputs.{inputs_in};
 ghost use Rattle.kc_kit_answer.specs.Jobs.{IsPrepared, Prepares};
@@ -45,7 +45,7 @@ fn run_texts<'a>(
     requires count { length texts.now ≡ length run.now.files.now }
     requires short { AllShort (map (λ t. t.items) texts.now) }
     requires inputs { AllShort (map (λ t. t.items) inputs.now) }
-    ensures { IsPrepared (RunAnswer IsFaultNote (map string_bytes run.now.files.now) (inputs_in run.now.inputs) run.now.extent run.now.placing (map (λ t. t.items) texts.now) (map (λ t. t.items) inputs.now)) result }
+    ensures { IsPrepared (RunAnswer IsFaultDiagnostic (map string_bytes run.now.files.now) (inputs_in run.now.inputs) run.now.extent run.now.placing (map (λ t. t.items) texts.now) (map (λ t. t.items) inputs.now)) result }
 {
     let given = given_for(run.inputs, inputs);
     match board_of_sources(alloc, run.files, texts, &run.placing, given) {

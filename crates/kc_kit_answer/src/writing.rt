@@ -39,7 +39,7 @@ pub(crate) fn writing<'a>(
     lines: Option<Output<'a>>,
     map: Option<Output<'a>>,
 ) -> Result<Job<'a>, Refusal>
-    ensures { IsPrepared (λ reply. reply ≡ writing_readable (written file.entry ∷ maybe_written lines.entry) (maybe_written map.entry)) result }
+    ensures { IsPrepared (λ response. response ≡ writing_readable (written file.entry ∷ maybe_written lines.entry) (maybe_written map.entry)) result }
 {
     match first_long(&file, &lines) {
         Some(name) => Err(long_output(alloc, name)),

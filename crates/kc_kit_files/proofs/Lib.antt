@@ -1,4 +1,4 @@
 pub mod EndLemmas
 pub mod LongLemmas
 pub mod ReadLemmas
-pub mod ReplyLemmas
+pub mod ResponseLemmas

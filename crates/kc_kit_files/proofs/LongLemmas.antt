@@ -3,7 +3,7 @@ use Rattle.std.proofs.Common.{◌≡◌, ℕ, ◌≤◌, Bool, true, false, cond
 use Rattle.std.specs.Prelude.{nat_lt}
 use Rattle.std.proofs.lemmas.Bool.Decides.{nat_tests}
 use Rattle.kc_kit_files.specs.Reads.{file_limit}
-use Rattle.kc_kit_files.specs.Reply.{Write, done_writing}
+use Rattle.kc_kit_files.specs.Response.{Write, done_writing}
 use Rattle.kc_kit_files.specs.Writes.{first_long, unless_long, writing_readable, AreReadable}
 
 -- none is too long

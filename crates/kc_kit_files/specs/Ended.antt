@@ -7,59 +7,59 @@ use Rattle.kc_kit_files.specs.declared.status.Status.TheVariants as status
 use Rattle.kc_kit_files.specs.declared.ended.Said.{Said}
 use Rattle.kc_kit_files.specs.declared.ended.Said.TheVariants as said
 use Rattle.kc_kit_files.specs.declared.ended.Ended.{Ended}
-use Rattle.kc_kit_files.specs.Notes.{write_note, output_note, memory_note}
+use Rattle.kc_kit_files.specs.Diagnostics.{write_diagnostic, output_diagnostic, memory_diagnostic}
 use Rattle.kc_kit_files.specs.Outside.{Kept, Shown, kept, shown_by, SinkFailed, WriteFailedAt, MemoryWanted, IsGiven}
-use Rattle.kc_kit_files.specs.Reply.{Reply}
+use Rattle.kc_kit_files.specs.Response.{Response}
 
 -- ---- what is said in words
 
 -- of a reply that is given
 abbrev pub said_in : Said → List ℕ
-said_in (said.Refusal note) = note.items
+said_in (said.Refusal diagnostic) = diagnostic.items
 said_in _ = []
 
 -- of a write that has failed
 abbrev pub unwritten : Said → List ℕ
-unwritten (said.File name) = write_note name.now
-unwritten _ = output_note
+unwritten (said.File name) = write_diagnostic name.now
+unwritten _ = output_diagnostic
 
-abbrev pub note_by : Status → Said → List ℕ
-note_by status.NoMemory what = memory_note
-note_by status.WriteFault what = unwritten what
-note_by given what = said_in what
+abbrev pub diagnostic_by : Status → Said → List ℕ
+diagnostic_by status.NoMemory what = memory_diagnostic
+diagnostic_by status.WriteFault what = unwritten what
+diagnostic_by given what = said_in what
 
 -- the note of a command that has ended so
-abbrev pub note_in : Ended → List ℕ
-note_in ended = note_by ended.status ended.said
+abbrev pub diagnostic_in : Ended → List ℕ
+diagnostic_in ended = diagnostic_by ended.status ended.said
 
 -- ---- what a command has done that has ended so
 
 -- the file that is said could not be written, or else the output
-abbrev pub Unwritten : (Reply → Type 0) → Kept → Shown → Said → Kept → Shown → Type 0
+abbrev pub Unwritten : (Response → Type 0) → Kept → Shown → Said → Kept → Shown → Type 0
 Unwritten may old before (said.File name) new now = WriteFailedAt name.now may old before new now
 Unwritten may old before _ new now = SinkFailed may old before new now
 
-abbrev pub EndsBy : (Reply → Type 0) → Kept → Shown → Status → Said → Kept → Shown → Type 0
+abbrev pub EndsBy : (Response → Type 0) → Kept → Shown → Status → Said → Kept → Shown → Type 0
 EndsBy may old before status.NoMemory what new now = MemoryWanted may old before new now
 EndsBy may old before status.WriteFault what new now = Unwritten may old before what new now
-EndsBy may old before given what new now = IsGiven (λ reply. may reply × (reply.note ≡ said_in what)) given old before new now
+EndsBy may old before given what new now = IsGiven (λ response. may response × (response.diagnostic ≡ said_in what)) given old before new now
 
 -- a text is printed, whatever the files hold, and they stay
-abbrev pub EndsPrinting : (Reply → Type 0) → Shown → Ended → Shown → Type 0
+abbrev pub EndsPrinting : (Response → Type 0) → Shown → Ended → Shown → Type 0
 EndsPrinting may before ended now = (files : Kept) → EndsBy may files before ended.status ended.said files now
 
 -- the same of files and of a sink, by what they tell of themselves
-abbrev pub Ends : {T U : Type 0} → (T → Option Holding) → (T → ℕ) → (U → Option (List ℕ)) → (U → ℕ) → (Reply → Type 0) → T → U → Ended → T → U → Type 0
+abbrev pub Ends : {T U : Type 0} → (T → Option Holding) → (T → ℕ) → (U → Option (List ℕ)) → (U → ℕ) → (Response → Type 0) → T → U → Ended → T → U → Type 0
 Ends held writes written faults may files sink ended files_after sink_after =
     EndsBy may (kept (held files) (writes files)) (shown_by written faults sink) ended.status ended.said (kept (held files_after) (writes files_after)) (shown_by written faults sink_after)
 
 -- ---- notes: a sink of their own. What is put there with a status is the note of the reply that is given; of a write that has failed,
 -- ---- what could not be written; of want of memory, that; and of words that are no command, what is wrong in them.
 
-abbrev pub Noted : List ℕ → (Reply → Type 0) → Kept → Shown → Out → Status → Kept → Shown → Out → Type 0
-Noted usage may old before notes status.NoMemory new now noted = Puts notes memory_note noted
-Noted usage may old before notes status.WriteFault new now noted =
-    (SinkFailed may old before new now × Puts notes output_note noted)
-    ⊎ ((name : List ℕ) × WriteFailedAt name may old before new now × Puts notes (write_note name) noted)
-Noted usage may old before notes status.Usage new now noted = IsGiven may status.Usage old before new now × Puts notes usage noted
-Noted usage may old before notes given new now noted = IsGiven (λ reply. may reply × Puts notes reply.note noted) given old before new now
+abbrev pub Noted : List ℕ → (Response → Type 0) → Kept → Shown → Out → Status → Kept → Shown → Out → Type 0
+Noted usage may old before diagnostics status.NoMemory new now noted = Puts diagnostics memory_diagnostic noted
+Noted usage may old before diagnostics status.WriteFault new now noted =
+    (SinkFailed may old before new now × Puts diagnostics output_diagnostic noted)
+    ⊎ ((name : List ℕ) × WriteFailedAt name may old before new now × Puts diagnostics (write_diagnostic name) noted)
+Noted usage may old before diagnostics status.Usage new now noted = IsGiven may status.Usage old before new now × Puts diagnostics usage noted
+Noted usage may old before diagnostics given new now noted = IsGiven (λ response. may response × Puts diagnostics response.diagnostic noted) given old before new now

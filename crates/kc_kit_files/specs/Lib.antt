@@ -1,6 +1,6 @@
 pub mod Ended
-pub mod Notes
+pub mod Diagnostics
 pub mod Outside
 pub mod Reads
-pub mod Reply
+pub mod Response
 pub mod Writes

@@ -5,7 +5,7 @@ use Rattle.kc_base.specs.Held.{Holding}
 use Rattle.kc_base.specs.Causes.{Rose, Grew, GrewByPart}
 use Rattle.kc_kit_files.specs.declared.status.Status.{Status}
 use Rattle.kc_kit_files.specs.declared.status.Status.TheVariants as status
-use Rattle.kc_kit_files.specs.Reply.{Reply, Write}
+use Rattle.kc_kit_files.specs.Response.{Response, Write}
 
 -- what files tell that they hold, and how often a write has failed
 pub record Kept : Type 0 where
@@ -57,51 +57,51 @@ RefusedAt name before (w ∷ ws) now =
 -- ---- replies
 
 -- the sink has failed: a front of the text is printed, and no file is written
-pub record SinkFailed (may : Reply → Type 0) (old : Kept) (before : Shown) (new : Kept) (now : Shown) : Type 0 where
-  pub reply : Reply
-  pub is_answer : may reply
-  pub text : GrewByPart before.written reply.text now.written
+pub record SinkFailed (may : Response → Type 0) (old : Kept) (before : Shown) (new : Kept) (now : Shown) : Type 0 where
+  pub response : Response
+  pub is_answer : may response
+  pub text : GrewByPart before.written response.text now.written
   pub cause : Rose before.faults now.faults
   pub files : new ≡ old
 
 -- a write has failed: the text is printed
-pub record WriteFailed (may : Reply → Type 0) (old : Kept) (before : Shown) (new : Kept) (now : Shown) : Type 0 where
-  pub reply : Reply
-  pub is_answer : may reply
-  pub files : WroteByPart old reply.writes new
+pub record WriteFailed (may : Response → Type 0) (old : Kept) (before : Shown) (new : Kept) (now : Shown) : Type 0 where
+  pub response : Response
+  pub is_answer : may response
+  pub files : WroteByPart old response.writes new
   pub cause : Rose old.faults new.faults
-  pub text : Grew before.written reply.text now.written
+  pub text : Grew before.written response.text now.written
 
 -- a write to this name has failed: the text is printed
-pub record WriteFailedAt (name : List ℕ) (may : Reply → Type 0) (old : Kept) (before : Shown) (new : Kept) (now : Shown) : Type 0 where
-  pub reply : Reply
-  pub is_answer : may reply
-  pub files : RefusedAt name old reply.writes new
+pub record WriteFailedAt (name : List ℕ) (may : Response → Type 0) (old : Kept) (before : Shown) (new : Kept) (now : Shown) : Type 0 where
+  pub response : Response
+  pub is_answer : may response
+  pub files : RefusedAt name old response.writes new
   pub cause : Rose old.faults new.faults
-  pub text : Grew before.written reply.text now.written
+  pub text : Grew before.written response.text now.written
 
 -- want of memory: nothing is printed, or the text up to a pause; and no file is written, or one is refused
-pub record MemoryWanted (may : Reply → Type 0) (old : Kept) (before : Shown) (new : Kept) (now : Shown) : Type 0 where
-  pub text : (now.written ≡ before.written) ⊎ ((reply : Reply) × may reply × Any (λ front. Grew before.written front now.written) reply.pauses)
-  pub files : (new ≡ old) ⊎ ((reply : Reply) × may reply × WroteByPart old reply.writes new)
+pub record MemoryWanted (may : Response → Type 0) (old : Kept) (before : Shown) (new : Kept) (now : Shown) : Type 0 where
+  pub text : (now.written ≡ before.written) ⊎ ((response : Response) × may response × Any (λ prefix. Grew before.written prefix now.written) response.pauses)
+  pub files : (new ≡ old) ⊎ ((response : Response) × may response × WroteByPart old response.writes new)
 
 -- a reply is given whole
-pub record IsGiven (may : Reply → Type 0) (given : Status) (old : Kept) (before : Shown) (new : Kept) (now : Shown) : Type 0 where
-  pub reply : Reply
-  pub is_answer : may reply
-  pub status : given ≡ reply.status
-  pub text : Grew before.written reply.text now.written
-  pub files : Wrote old reply.writes new
+pub record IsGiven (may : Response → Type 0) (given : Status) (old : Kept) (before : Shown) (new : Kept) (now : Shown) : Type 0 where
+  pub response : Response
+  pub is_answer : may response
+  pub status : given ≡ response.status
+  pub text : Grew before.written response.text now.written
+  pub files : Wrote old response.writes new
 
 -- What is printed and written with this status: all that a reply says, where it may be answered; or a part of it, with the cause.
-abbrev pub Replies : (Reply → Type 0) → Kept → Shown → Status → Kept → Shown → Type 0
-Replies may old before status.NoMemory new now = MemoryWanted may old before new now
-Replies may old before status.WriteFault new now = SinkFailed may old before new now ⊎ WriteFailed may old before new now
-Replies may old before given new now = IsGiven may given old before new now
+abbrev pub Responses : (Response → Type 0) → Kept → Shown → Status → Kept → Shown → Type 0
+Responses may old before status.NoMemory new now = MemoryWanted may old before new now
+Responses may old before status.WriteFault new now = SinkFailed may old before new now ⊎ WriteFailed may old before new now
+Responses may old before given new now = IsGiven may given old before new now
 
 -- a text is printed, whatever the files hold, and they stay
-abbrev pub Prints : (Reply → Type 0) → Shown → Status → Shown → Type 0
-Prints may before given now = (files : Kept) → Replies may files before given files now
+abbrev pub Prints : (Response → Type 0) → Shown → Status → Shown → Type 0
+Prints may before given now = (files : Kept) → Responses may files before given files now
 
 -- ---- the same of files and of a sink, by what they tell of themselves
 
@@ -115,6 +115,6 @@ abbrev pub shown_by : {U : Type 0} → (U → Option (List ℕ)) → (U → ℕ)
 shown_by written faults sink = shown (written sink) (faults sink)
 
 -- what is printed and written with a status
-abbrev pub Replied : {T U : Type 0} → (T → Option Holding) → (T → ℕ) → (U → Option (List ℕ)) → (U → ℕ) → (Reply → Type 0) → T → U → Status → T → U → Type 0
+abbrev pub Replied : {T U : Type 0} → (T → Option Holding) → (T → ℕ) → (U → Option (List ℕ)) → (U → ℕ) → (Response → Type 0) → T → U → Status → T → U → Type 0
 Replied held writes written faults may files sink given files_after sink_after =
-    Replies may (kept (held files) (writes files)) (shown_by written faults sink) given (kept (held files_after) (writes files_after)) (shown_by written faults sink_after)
+    Responses may (kept (held files) (writes files)) (shown_by written faults sink) given (kept (held files_after) (writes files_after)) (shown_by written faults sink_after)

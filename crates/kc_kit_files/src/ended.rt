@@ -3,12 +3,12 @@ ghost use Rattle.std.specs.Prelude.{◌≡◌};
 ghost use Rattle.kc_trace.specs.Out.{Puts};
 ghost use Rattle.kc_trace.specs.Trace.{out_of};
 ghost use Rattle.kc_kit_files.specs.declared.ended.Said.TheVariants as said;
-ghost use Rattle.kc_kit_files.specs.Notes.{output_note};
-ghost use Rattle.kc_kit_files.specs.Ended.{said_in, unwritten, note_in};
+ghost use Rattle.kc_kit_files.specs.Diagnostics.{output_diagnostic};
+ghost use Rattle.kc_kit_files.specs.Ended.{said_in, unwritten, diagnostic_in};
 
 use crate::Status;
 use kc_base::Sink;
-use kc_kit_shown::tell_shown;
+use kc_kit_shown::report_shown;
 use kc_trace::TraceOut;
 
 /// What is said in words, beside what the status says.
@@ -42,44 +42,46 @@ impl<'a> Ended<'a> {
     }
 
     /// Writes what is said of this end in words: nothing where it is done or has come to an undefined use.
-    pub fn put_note<N: Sink>(&self, notes: &mut TraceOut<N>)
-        ensures { Puts (out_of N.written N.faults notes.old) (note_in self.now) (out_of N.written N.faults notes.new) }
+    pub fn put_diagnostic<N: Sink>(&self, diagnostics: &mut TraceOut<N>)
+        ensures { Puts (out_of N.written N.faults diagnostics.old) (diagnostic_in self.now) (out_of N.written N.faults diagnostics.new) }
     {
         match self.status {
-            Status::NoMemory => notes.put_text(b"kc96: error: memory was wanted and not had\n"),
-            Status::WriteFault => put_unwritten(&self.said, notes),
-            _ => put_said(&self.said, notes),
+            Status::NoMemory => diagnostics.put_text(
+                b"kc96: error: memory was wanted and not had\n",
+            ),
+            Status::WriteFault => put_unwritten(&self.said, diagnostics),
+            _ => put_said(&self.said, diagnostics),
         }
     }
 }
 
 // What is said of standard output that could not be written.
-fn put_output<N: Sink>(notes: &mut TraceOut<N>)
-    ensures { Puts (out_of N.written N.faults notes.old) output_note (out_of N.written N.faults notes.new) }
+fn put_output<N: Sink>(diagnostics: &mut TraceOut<N>)
+    ensures { Puts (out_of N.written N.faults diagnostics.old) output_diagnostic (out_of N.written N.faults diagnostics.new) }
 {
-    notes.put_text(b"kc96: error: standard output could not be written\n");
+    diagnostics.put_text(b"kc96: error: standard output could not be written\n");
 }
 
 // What is said of a write that has failed.
-fn put_unwritten<N: Sink>(what: &Said<'_>, notes: &mut TraceOut<N>)
-    ensures { Puts (out_of N.written N.faults notes.old) (unwritten what.now) (out_of N.written N.faults notes.new) }
+fn put_unwritten<N: Sink>(what: &Said<'_>, diagnostics: &mut TraceOut<N>)
+    ensures { Puts (out_of N.written N.faults diagnostics.old) (unwritten what.now) (out_of N.written N.faults diagnostics.new) }
 {
     match what {
         Said::File(name) => {
-            tell_shown(notes, name.as_bytes());
-            notes.put_text(b": error: the file could not be written\n");
+            report_shown(diagnostics, name.as_bytes());
+            diagnostics.put_text(b": error: the file could not be written\n");
         }
-        Said::Nothing => put_output(notes),
-        Said::Refusal(_) => put_output(notes),
+        Said::Nothing => put_output(diagnostics),
+        Said::Refusal(_) => put_output(diagnostics),
     }
 }
 
 // What is said of a reply that is given.
-fn put_said<N: Sink>(what: &Said<'_>, notes: &mut TraceOut<N>)
-    ensures { Puts (out_of N.written N.faults notes.old) (said_in what.now) (out_of N.written N.faults notes.new) }
+fn put_said<N: Sink>(what: &Said<'_>, diagnostics: &mut TraceOut<N>)
+    ensures { Puts (out_of N.written N.faults diagnostics.old) (said_in what.now) (out_of N.written N.faults diagnostics.new) }
 {
     match what {
-        Said::Refusal(note) => notes.put_text(note),
+        Said::Refusal(diagnostic) => diagnostics.put_text(diagnostic),
         _ => {}
     }
 }

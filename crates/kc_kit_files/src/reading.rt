@@ -1,7 +1,7 @@
 // Named files, read in order.
 ghost use Rattle.std.specs.Prelude.{◌≡◌, ◌++◌, ◌∷◌, [], OnOk, map, string_bytes};
 ghost use Rattle.kc_base.specs.Causes.{Rose};
-ghost use Rattle.kc_kit_files.specs.Reply.{tells, status_for, IsRefused};
+ghost use Rattle.kc_kit_files.specs.Response.{reports, status_for, IsRefused};
 ghost use Rattle.kc_kit_files.specs.Outside.{OnlyRead};
 ghost use Rattle.kc_kit_shown.specs.Shown.{shown};
 ghost use Rattle.kc_kit_files.specs.Reads.{IsReadOne, IsRead, IsUnread};
@@ -20,13 +20,13 @@ pub(crate) fn refused(
     after: &[u8],
     words: &[u8],
 ) -> Refusal
-    ensures { IsRefused (λ reply. reply ≡ tells (status_for cause) (before.now ++ name.now ++ after.now) (shown name.now ++ words.now)) result }
+    ensures { IsRefused (λ response. response ≡ reports (status_for cause) (before.now ++ name.now ++ after.now) (shown name.now ++ words.now)) result }
 {
-    let Ok(mut note) = shown(alloc, name) else {
+    let Ok(mut diagnostic) = shown(alloc, name) else {
         return Refusal::NoMemory;
     };
-    match note.extend_from_slice(words) {
-        Ok(()) => refusal_of(alloc, cause, before, name, after, note),
+    match diagnostic.extend_from_slice(words) {
+        Ok(()) => refusal_of(alloc, cause, before, name, after, diagnostic),
         Err(_) => Refusal::NoMemory,
     }
 }

@@ -1,5 +1,5 @@
 ghost use Rattle.std.specs.Prelude.{◌≡◌, ◌≢◌, ◌++◌, IfOk};
-ghost use Rattle.kc_kit_files.specs.Reply.{tells, status_for, IsRefused};
+ghost use Rattle.kc_kit_files.specs.Response.{reports, status_for, IsRefused};
 
 use crate::Status;
 use kc_base::NoMemory;
@@ -45,7 +45,7 @@ pub enum Refusal {
     Says {
         cause: Cause,
         line: Vec<u8>,
-        note: Vec<u8>,
+        diagnostic: Vec<u8>,
     },
     NoMemory,
 }
@@ -78,12 +78,16 @@ pub fn refusal_of(
     before: &[u8],
     name: &[u8],
     after: &[u8],
-    note: Vec<u8>,
+    diagnostic: Vec<u8>,
 ) -> Refusal
-    ensures { IsRefused (λ reply. reply ≡ tells (status_for cause) (before.now ++ name.now ++ after.now) note.items) result }
+    ensures { IsRefused (λ response. response ≡ reports (status_for cause) (before.now ++ name.now ++ after.now) diagnostic.items) result }
 {
     match line_of(alloc, before, name, after) {
-        Ok(line) => Refusal::Says { cause, line, note },
+        Ok(line) => Refusal::Says {
+            cause,
+            line,
+            diagnostic,
+        },
         Err(NoMemory) => Refusal::NoMemory,
     }
 }

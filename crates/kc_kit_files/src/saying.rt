@@ -1,7 +1,7 @@
 // Texts that are no trace: the lines of refusals, the help and the version.
 ghost use Rattle.std.specs.Prelude.{◌≡◌, ◌≢◌, ◌⊎◌, ℕ, List, false};
 ghost use Rattle.kc_base.specs.Causes.{Rose};
-ghost use Rattle.kc_kit_files.specs.Reply.{says, tells, IsSaid};
+ghost use Rattle.kc_kit_files.specs.Response.{says, reports, IsSaid};
 ghost use Rattle.kc_kit_files.specs.declared.refusal.Refusal.TheVariants as refusals;
 ghost use Rattle.kc_kit_files.specs.Ended.{EndsPrinting};
 ghost use Rattle.kc_kit_files.specs.Outside.{Prints, shown_by};
@@ -15,7 +15,7 @@ use kc_trace::TraceOut;
 fn print<S: Sink>(out: &mut TraceOut<S>, text: &[u8], status: Status) -> Status
     requires ready { out.old.failed ≡ false }
     requires wrote { (status ≢ Status.WriteFault) × (status ≢ Status.NoMemory) }
-    ensures reply { (note : List ℕ) → Prints (λ reply. reply ≡ tells status text.now note) (shown_by S.written S.faults out.old.sink) result (shown_by S.written S.faults out.new.sink) }
+    ensures response { (diagnostic : List ℕ) → Prints (λ response. response ≡ reports status text.now diagnostic) (shown_by S.written S.faults out.old.sink) result (shown_by S.written S.faults out.new.sink) }
     ensures status { (result ≡ status) ⊎ (result ≡ Status.WriteFault) }
 {
     out.put_text(text);
@@ -30,7 +30,7 @@ fn print<S: Sink>(out: &mut TraceOut<S>, text: &[u8], status: Status) -> Status
 pub fn say<S: Sink>(out: &mut TraceOut<S>, text: &[u8], status: Status) -> Status
     requires ready { out.old.failed ≡ false }
     requires wrote { (status ≢ Status.WriteFault) × (status ≢ Status.NoMemory) }
-    ensures reply { Prints (λ reply. reply ≡ says status text.now) (shown_by S.written S.faults out.old.sink) result (shown_by S.written S.faults out.new.sink) }
+    ensures response { Prints (λ response. response ≡ says status text.now) (shown_by S.written S.faults out.old.sink) result (shown_by S.written S.faults out.new.sink) }
     ensures status { (result ≡ status) ⊎ (result ≡ Status.WriteFault) }
 {
     print(out, text, status)
@@ -40,13 +40,17 @@ pub fn say<S: Sink>(out: &mut TraceOut<S>, text: &[u8], status: Status) -> Statu
 /// answers want of memory only where the refusal is that.
 pub fn refuse<S: Sink>(out: &mut TraceOut<S>, refusal: Refusal) -> Ended<'static>
     requires { out.old.failed ≡ false }
-    ensures reply { EndsPrinting (IsSaid refusal) (shown_by S.written S.faults out.old.sink) result (shown_by S.written S.faults out.new.sink) }
+    ensures response { EndsPrinting (IsSaid refusal) (shown_by S.written S.faults out.old.sink) result (shown_by S.written S.faults out.new.sink) }
     ensures memory { result.status ≡ Status.NoMemory → refusal ≡ refusals.NoMemory }
 {
     match refusal {
-        Refusal::Says { cause, line, note } => {
+        Refusal::Says {
+            cause,
+            line,
+            diagnostic,
+        } => {
             let status = print(out, &line, cause.status());
-            let said = Said::Refusal(note);
+            let said = Said::Refusal(diagnostic);
             Ended { status, said }
         }
         Refusal::NoMemory => Ended::by(Status::NoMemory),

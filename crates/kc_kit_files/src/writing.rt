@@ -1,8 +1,8 @@
 // A file that is written, or refused since no command would read it.
 ghost use Rattle.std.specs.Prelude.{◌≡◌, ◌≤◌, ◌⊎◌};
 ghost use Rattle.kc_base.specs.Causes.{Rose};
-ghost use Rattle.kc_kit_files.specs.Reply.{write, IsRefused};
-ghost use Rattle.kc_kit_files.specs.Writes.{long_output_reply};
+ghost use Rattle.kc_kit_files.specs.Response.{write, IsRefused};
+ghost use Rattle.kc_kit_files.specs.Writes.{long_output_response};
 ghost use Rattle.kc_kit_files.specs.Outside.{WroteOne, OthersStay};
 
 use crate::Status;
@@ -29,7 +29,7 @@ pub fn write_file<F: Files>(alloc: Global, name: &str, bytes: &[u8], files: &mut
 
 /// The refusal of a file of this name that would be longer than the 1,048,576 bytes that commands read.
 pub fn long_output(alloc: Global, name: &str) -> Refusal
-    ensures { IsRefused (λ reply. reply ≡ long_output_reply name.now) result }
+    ensures { IsRefused (λ response. response ≡ long_output_response name.now) result }
 {
     let name = name.as_bytes();
     let words =

@@ -5,7 +5,7 @@ use Rattle.std.specs.List.{All, slice_index_or}
 use Rattle.std.specs.Global.{Vec}
 use Rattle.std.proofs.lemmas.List.{append-nil}
 use Rattle.kc_obj_module.specs.Object.{Object}
-use Rattle.kc_kit_files.specs.Reply.{Reply, joined}
+use Rattle.kc_kit_files.specs.Response.{Response, joined}
 use Rattle.kc_kit_inputs.specs.Objects.{modules_of, object_of}
 use Rattle.kc_kit_notes.proofs.Words.{names_in, texts_in, name-get, text-get, length-names}
 
@@ -13,11 +13,11 @@ use Rattle.kc_kit_notes.proofs.Words.{names_in, texts_in, name-get, text-get, le
 pub all-one : (P : Object → Type 0) (m : Object) → P m → All P (m ∷ [])
 all-one P m h = λ k d within. subst (λ n. P (slice_index_or (m ∷ []) n d)) (let e : 0 ≡ k = omega (arith, within) in e) h
 
-abbrev pub prepend : List Object → Result (List Object) Reply → Result (List Object) Reply
+abbrev pub prepend : List Object → Result (List Object) Response → Result (List Object) Response
 prepend ms (Ok more) = Ok (ms ++ more)
 prepend ms (Err r) = Err r
 
-pub prepend-none : (x : Result (List Object) Reply) → prepend [] x ≡ x
+pub prepend-none : (x : Result (List Object) Response) → prepend [] x ≡ x
 prepend-none (Ok more) = refl
 prepend-none (Err r) = refl
 
@@ -31,11 +31,11 @@ modules-next (a ∷ names) (b ∷ texts) zero n t e f =
     rw (same, text) refl
 modules-next (a ∷ names) (b ∷ texts) (suc i) n t e f = modules-next names texts i n t e f
 
-push-joined : (ms : List Object) (m : Object) (x : Result Object Reply) (others : Result (List Object) Reply) → x ≡ Ok m → prepend ms (joined x others) ≡ prepend (ms ++ m ∷ []) others
+push-joined : (ms : List Object) (m : Object) (x : Result Object Response) (others : Result (List Object) Response) → x ≡ Ok m → prepend ms (joined x others) ≡ prepend (ms ++ m ∷ []) others
 push-joined ms m x (Ok more) e = ap (λ y. prepend ms (joined y (Ok more))) e ∙ ap Ok (sym (append_assoc ms (m ∷ []) more))
 push-joined ms m x (Err r) e = ap (λ y. prepend ms (joined y (Err r))) e
 
-stop-joined : (ms : List Object) (r : Reply) (x : Result Object Reply) (others : Result (List Object) Reply) → x ≡ Err r → prepend ms (joined x others) ≡ Err r
+stop-joined : (ms : List Object) (r : Response) (x : Result Object Response) (others : Result (List Object) Response) → x ≡ Err r → prepend ms (joined x others) ≡ Err r
 stop-joined ms r x others e = ap (λ y. prepend ms (joined y others)) e
 
 pub object-next : (ws : List (String Global)) (ts : List (Vec ℕ)) (i : ℕ) (w : String Global) (t : Vec ℕ) (ms : List Object) (m : Object) → i < length ws → length ts ≡ length ws → w ≡ get_or ws i w → t ≡ get_or ts i t →
@@ -46,7 +46,7 @@ object-next ws ts i w t ms m h k e f ok =
     rw more (ap (prepend ms) (modules-next (names_in ws) (texts_in ts) i (string_bytes w) t.items (name-get ws i w h e) (text-get ts i t (omega (arith, k)) f))
     ∙ push-joined ms m (object_of (string_bytes w) t.items) (modules_of object_of (drop (suc i) (names_in ws)) (drop (suc i) (texts_in ts))) ok)
 
-pub object-stop : (ws : List (String Global)) (ts : List (Vec ℕ)) (i : ℕ) (w : String Global) (t : Vec ℕ) (ms : List Object) (r : Reply) → i < length ws → length ts ≡ length ws → w ≡ get_or ws i w → t ≡ get_or ts i t →
+pub object-stop : (ws : List (String Global)) (ts : List (Vec ℕ)) (i : ℕ) (w : String Global) (t : Vec ℕ) (ms : List Object) (r : Response) → i < length ws → length ts ≡ length ws → w ≡ get_or ws i w → t ≡ get_or ts i t →
     object_of (string_bytes w) t.items ≡ Err r → prepend ms (modules_of object_of (drop i (names_in ws)) (drop i (texts_in ts))) ≡ Err r
 object-stop ws ts i w t ms r h k e f bad =
     ap (prepend ms) (modules-next (names_in ws) (texts_in ts) i (string_bytes w) t.items (name-get ws i w h e) (text-get ts i t (omega (arith, k)) f))

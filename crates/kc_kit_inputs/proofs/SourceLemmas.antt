@@ -5,18 +5,18 @@ use Rattle.std.specs.Global.{Vec}
 use Rattle.std.proofs.lemmas.List.{append-nil}
 use Rattle.kc_obj_module.specs.Object.{Object}
 use Rattle.kc_asm.specs.Assembled.{IsModule}
-use Rattle.kc_kit_files.specs.Reply.{Reply}
-use Rattle.kc_kit_inputs.specs.FaultNotes.{IsFaultNote}
-use Rattle.kc_kit_inputs.specs.Sources.{AreModules, TellsFault, TellsFirst}
+use Rattle.kc_kit_files.specs.Response.{Response}
+use Rattle.kc_kit_inputs.specs.FaultDiagnostics.{IsFaultDiagnostic}
+use Rattle.kc_kit_inputs.specs.Sources.{AreModules, ReportsFault, ReportsFirst}
 use Rattle.kc_kit_notes.proofs.Words.{names_in, texts_in, name-get, text-get}
 
 -- what follows of the rest follows of the whole
 pub record Onward (names texts : List (List ℕ)) (ms : List Object) (rest-names rest-texts : List (List ℕ)) : Type 0 where
   pub made : (more : List Object) → AreModules rest-texts more → AreModules texts (ms ++ more)
-  pub told : (r : Reply) → TellsFirst IsFaultNote rest-names rest-texts r → TellsFirst IsFaultNote names texts r
+  pub reported : (r : Response) → ReportsFirst IsFaultDiagnostic rest-names rest-texts r → ReportsFirst IsFaultDiagnostic names texts r
 
 pub onward-start : (names texts : List (List ℕ)) → Onward names texts [] names texts
-onward-start names texts = record { made = λ more h. h; told = λ r h. h }
+onward-start names texts = record { made = λ more h. h; reported = λ r h. h }
 
 drop-one : (xs : List (List ℕ)) (i : ℕ) (x : List ℕ) → slice_get xs i ≡ Some x → drop i xs ≡ x ∷ drop (suc i) xs
 drop-one [] i x e = absurd (cc)
@@ -32,15 +32,15 @@ onward-next ws ts i w t ms m h k e f is o =
     let text = drop-one (texts_in ts) i t.items (text-get ts i t (omega (arith, k)) f) in
     rw more (record {
       made = λ rest a. subst (AreModules (texts_in ts)) (sym (append_assoc ms (m ∷ []) rest)) (o.made (m ∷ rest) (subst (λ l. AreModules l (m ∷ rest)) (sym text) (is, a)));
-      told = λ r a. o.told r (subst (λ l. TellsFirst IsFaultNote l (drop i (texts_in ts)) r) (sym name) (subst (λ l. TellsFirst IsFaultNote (string_bytes w ∷ drop (suc i) (names_in ws)) l r) (sym text) (inr ((m, is), a))));
+      reported = λ r a. o.reported r (subst (λ l. ReportsFirst IsFaultDiagnostic l (drop i (texts_in ts)) r) (sym name) (subst (λ l. ReportsFirst IsFaultDiagnostic (string_bytes w ∷ drop (suc i) (names_in ws)) l r) (sym text) (inr ((m, is), a))));
     })
 
-pub onward-stop : (ws : List (String Global)) (ts : List (Vec ℕ)) (i : ℕ) (w : String Global) (t : Vec ℕ) (ms : List Object) (r : Reply) → i < length ws → length ts ≡ length ws → w ≡ get_or ws i w → t ≡ get_or ts i t →
-    TellsFault IsFaultNote (string_bytes w) t.items r → Onward (names_in ws) (texts_in ts) ms (drop i (names_in ws)) (drop i (texts_in ts)) → TellsFirst IsFaultNote (names_in ws) (texts_in ts) r
+pub onward-stop : (ws : List (String Global)) (ts : List (Vec ℕ)) (i : ℕ) (w : String Global) (t : Vec ℕ) (ms : List Object) (r : Response) → i < length ws → length ts ≡ length ws → w ≡ get_or ws i w → t ≡ get_or ts i t →
+    ReportsFault IsFaultDiagnostic (string_bytes w) t.items r → Onward (names_in ws) (texts_in ts) ms (drop i (names_in ws)) (drop i (texts_in ts)) → ReportsFirst IsFaultDiagnostic (names_in ws) (texts_in ts) r
 onward-stop ws ts i w t ms r h k e f bad o =
     let name = drop-one (names_in ws) i (string_bytes w) (name-get ws i w h e) in
     let text = drop-one (texts_in ts) i t.items (text-get ts i t (omega (arith, k)) f) in
-    o.told r (subst (λ l. TellsFirst IsFaultNote l (drop i (texts_in ts)) r) (sym name) (subst (λ l. TellsFirst IsFaultNote (string_bytes w ∷ drop (suc i) (names_in ws)) l r) (sym text) (inl bad)))
+    o.reported r (subst (λ l. ReportsFirst IsFaultDiagnostic l (drop i (texts_in ts)) r) (sym name) (subst (λ l. ReportsFirst IsFaultDiagnostic (string_bytes w ∷ drop (suc i) (names_in ws)) l r) (sym text) (inl bad)))
 
 drop-past : (xs : List (List ℕ)) (i : ℕ) → length xs ≤ i → drop i xs ≡ []
 drop-past [] zero h = refl

@@ -3,7 +3,7 @@ use Rattle.std.specs.Prelude.{ℕ, ◌≤◌, List, length, Option, Result, Ok, 
 use Rattle.std.specs.Option.{option_map}
 use Rattle.kc_stim.specs.Drives.{Drives}
 use Rattle.kc_convert.specs.declared.sample.Sample.{Sample}
-use Rattle.kc_kit_files.specs.Reply.{Reply}
+use Rattle.kc_kit_files.specs.Response.{Response}
 use Rattle.kc_kit_words.specs.declared.inputs.Role.{Role}
 use Rattle.kc_kit_words.specs.declared.inputs.Role.TheVariants as role
 use Rattle.kc_kit_inputs.specs.declared.driving.Driving.{Driving}
@@ -21,16 +21,16 @@ pub record GivenFiles : Type 0 where
 abbrev pub given_for : List (Role × List ℕ) → List (List ℕ) → GivenFiles
 given_for inputs texts = record { stimuli = input_for role.Stimuli inputs texts; analog = input_for role.Analog inputs texts }
 
-abbrev pub with_values : Drives → Result (List Sample) Reply → Result Driving Reply
+abbrev pub with_values : Drives → Result (List Sample) Response → Result Driving Response
 with_values drives (Ok values) = Ok (record { stimuli = drives; values = values })
 with_values drives (Err refusal) = Err refusal
 
-abbrev pub with_drives : Result Drives Reply → Result (List Sample) Reply → Result Driving Reply
+abbrev pub with_drives : Result Drives Response → Result (List Sample) Response → Result Driving Response
 with_drives (Ok drives) values = with_values drives values
 with_drives (Err refusal) values = Err refusal
 
 -- what these drive, or the reply to the first fault: the stimuli are judged before the values
-abbrev pub driving_of : GivenFiles → Result Driving Reply
+abbrev pub driving_of : GivenFiles → Result Driving Response
 driving_of given = with_drives (drives_of given.stimuli) (values_of given.analog)
 
 -- what given files show, and that each is within the limit of a file

@@ -1,12 +1,12 @@
 pub mod Analog
 pub mod Driving
-pub mod FaultNotes
+pub mod FaultDiagnostics
 pub mod Hex
 pub mod Inputs
 pub mod Library
 pub mod Lines
 pub mod Objects
-pub mod Replies
+pub mod Responses
 pub mod Scripts
 pub mod Sources
 pub mod Stimuli

@@ -1,7 +1,7 @@
 // The values of the analogue inputs of a board that is run.
 ghost use Rattle.std.specs.Prelude.{◌≡◌, ◌≤◌, Ok, Err, IfOk, IfErr, IfSome, length};
 ghost use Rattle.std.specs.Option.{option_map};
-ghost use Rattle.kc_kit_files.specs.Reply.{IsRefused};
+ghost use Rattle.kc_kit_files.specs.Response.{IsRefused};
 ghost use Rattle.kc_kit_inputs.specs.Analog.{analog_of, values_of};
 
 use crate::input_lines::line_refusal;
@@ -13,7 +13,7 @@ use std::alloc::Global;
 fn read_analog(alloc: Global, name: &str, text: &[u8]) -> Result<Analog, Refusal>
     requires { length text.now ≤ 1048576 }
     ensures values { IfOk result (λ values. analog_of name.now text.now ≡ Ok values) }
-    ensures refusal { IfErr result (IsRefused (λ reply. analog_of name.now text.now ≡ Err reply)) }
+    ensures refusal { IfErr result (IsRefused (λ response. analog_of name.now text.now ≡ Err response)) }
 {
     match Analog::read(alloc, text) {
         Ok(values) => Ok(values),
@@ -27,7 +27,7 @@ fn read_analog(alloc: Global, name: &str, text: &[u8]) -> Result<Analog, Refusal
 pub(crate) fn values_in(alloc: Global, file: Option<(&str, &[u8])>) -> Result<Analog, Refusal>
     requires { IfSome file (λ f. length f.1.now ≤ 1048576) }
     ensures values { IfOk result (λ values. values_of (option_map (λ f. (f.0.now, f.1.now)) file.entry) ≡ Ok values) }
-    ensures refusal { IfErr result (IsRefused (λ reply. values_of (option_map (λ f. (f.0.now, f.1.now)) file.entry) ≡ Err reply)) }
+    ensures refusal { IfErr result (IsRefused (λ response. values_of (option_map (λ f. (f.0.now, f.1.now)) file.entry) ≡ Err response)) }
 {
     match file {
         Some((name, text)) => read_analog(alloc, name, text),

@@ -1,7 +1,7 @@
 // What drives the inputs of a board that is run: its pins, and its analogue inputs.
 ghost use Rattle.std.specs.Prelude.{◌≡◌, Ok, Err, IfOk, IfErr, map};
 ghost use Rattle.kc_kit_files.specs.Reads.{AllShort};
-ghost use Rattle.kc_kit_files.specs.Reply.{IsRefused};
+ghost use Rattle.kc_kit_files.specs.Response.{IsRefused};
 ghost use Rattle.kc_kit_words.specs.Inputs.{inputs_in};
 ghost use Rattle.kc_kit_inputs.specs.Driving.{driving_of, given_for as given_by, given_in, AreShort};
 
@@ -44,7 +44,7 @@ pub fn given_for<'a>(inputs: Inputs<'a>, texts: &'a [Vec<u8>]) -> Given<'a>
 pub fn driving_in(alloc: Global, given: Given<'_>) -> Result<Driving, Refusal>
     requires { AreShort given }
     ensures driving { IfOk result (λ driving. driving_of (given_in given.entry) ≡ Ok driving) }
-    ensures refusal { IfErr result (IsRefused (λ reply. driving_of (given_in given.entry) ≡ Err reply)) }
+    ensures refusal { IfErr result (IsRefused (λ response. driving_of (given_in given.entry) ≡ Err response)) }
 {
     let stimuli = match stimuli_in(alloc, given.stimuli) {
         Ok(stimuli) => stimuli,

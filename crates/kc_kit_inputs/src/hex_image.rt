@@ -1,9 +1,9 @@
 // Hex files that are read.
 ghost use Rattle.std.specs.Prelude.{◌≡◌, ◌≤◌, codes, Ok, Err, IfOk, IfErr, length};
-ghost use Rattle.kc_kit_files.specs.Reply.{IsRefused};
+ghost use Rattle.kc_kit_files.specs.Response.{IsRefused};
 ghost use Rattle.kc_kit_inputs.specs.Hex.{hex_of};
 ghost use Rattle.kc_kit_inputs.specs.Lines.{coded};
-ghost use Rattle.kc_kit_inputs.specs.Replies.{line_reply};
+ghost use Rattle.kc_kit_inputs.specs.Responses.{line_response};
 
 use crate::input_lines::{coded, line_refusal};
 use kc_base::{Image, NoMemory};
@@ -13,7 +13,7 @@ use std::alloc::Global;
 
 // The refusal of a hex text with a fault: its line, and the number of its code.
 fn hex_refusal(alloc: Global, name: &str, text: &[u8], line: u32, number: u8) -> Refusal
-    ensures { IsRefused (λ reply. reply ≡ line_reply name.now text.now line (coded (codes "H") number)) result }
+    ensures { IsRefused (λ response. response ≡ line_response name.now text.now line (coded (codes "H") number)) result }
 {
     match coded(alloc, b"H", number) {
         Ok(code) => line_refusal(alloc, name, text, line, &code),
@@ -25,7 +25,7 @@ fn hex_refusal(alloc: Global, name: &str, text: &[u8], line: u32, number: u8) ->
 pub fn image_of(alloc: Global, name: &str, text: &[u8]) -> Result<Image, Refusal>
     requires { length text.now ≤ 1048576 }
     ensures image { IfOk result (λ image. hex_of name.now text.now ≡ Ok image) }
-    ensures refusal { IfErr result (IsRefused (λ reply. hex_of name.now text.now ≡ Err reply)) }
+    ensures refusal { IfErr result (IsRefused (λ response. hex_of name.now text.now ≡ Err response)) }
 {
     match kc_hex::read(alloc, text) {
         Ok(image) => Ok(image),

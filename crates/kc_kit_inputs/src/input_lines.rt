@@ -1,14 +1,14 @@
 // Files that leave their form.
 ghost use Rattle.std.specs.Prelude.{◌≡◌, IfOk};
 ghost use Rattle.kc_kit_files.specs.declared.status.Status.TheVariants as status;
-ghost use Rattle.kc_kit_files.specs.Reply.{tells, IsRefused};
+ghost use Rattle.kc_kit_files.specs.Response.{reports, IsRefused};
 ghost use Rattle.kc_kit_inputs.specs.Lines.{coded, place_text, input_line};
-ghost use Rattle.kc_kit_inputs.specs.Replies.{line_reply, byte_reply};
+ghost use Rattle.kc_kit_inputs.specs.Responses.{line_response, byte_response};
 
 use itoa::Buffer;
 use kc_base::NoMemory;
 use kc_kit_files::{Cause, Refusal, refusal_of};
-use kc_kit_notes::{byte_note, line_note};
+use kc_kit_notes::{byte_diagnostic, line_diagnostic};
 use std::alloc::Global;
 
 /// A code of a letter and two digits.
@@ -37,11 +37,18 @@ pub(crate) fn place_text(alloc: Global, place: u32, code: &[u8]) -> Result<Vec<u
 }
 
 // The refusal of a file with a fault, with a note: its place and its code.
-fn refused(alloc: Global, name: &str, place: u32, code: &[u8], note: Vec<u8>) -> Refusal
-    ensures { IsRefused (λ reply. reply ≡ tells status.Input (input_line name.now place code.now) note.items) result }
+fn refused(alloc: Global, name: &str, place: u32, code: &[u8], diagnostic: Vec<u8>) -> Refusal
+    ensures { IsRefused (λ response. response ≡ reports status.Input (input_line name.now place code.now) diagnostic.items) result }
 {
     match place_text(alloc, place, code) {
-        Ok(text) => refusal_of(alloc, Cause::Input, b"input ", name.as_bytes(), &text, note),
+        Ok(text) => refusal_of(
+            alloc,
+            Cause::Input,
+            b"input ",
+            name.as_bytes(),
+            &text,
+            diagnostic,
+        ),
         Err(NoMemory) => Refusal::NoMemory,
     }
 }
@@ -54,10 +61,10 @@ pub(crate) fn line_refusal(
     line: u32,
     code: &[u8],
 ) -> Refusal
-    ensures { IsRefused (λ reply. reply ≡ line_reply name.now text.now line code.now) result }
+    ensures { IsRefused (λ response. response ≡ line_response name.now text.now line code.now) result }
 {
-    match line_note(alloc, name.as_bytes(), text, line, code) {
-        Ok(note) => refused(alloc, name, line, code, note),
+    match line_diagnostic(alloc, name.as_bytes(), text, line, code) {
+        Ok(diagnostic) => refused(alloc, name, line, code, diagnostic),
         Err(NoMemory) => Refusal::NoMemory,
     }
 }
@@ -70,13 +77,13 @@ pub(crate) fn byte_refusal(
     letter: &[u8],
     number: u8,
 ) -> Refusal
-    ensures { IsRefused (λ reply. reply ≡ byte_reply name.now place (coded letter.now number)) result }
+    ensures { IsRefused (λ response. response ≡ byte_response name.now place (coded letter.now number)) result }
 {
     let Ok(code) = coded(alloc, letter, number) else {
         return Refusal::NoMemory;
     };
-    match byte_note(alloc, name.as_bytes(), place, &code) {
-        Ok(note) => refused(alloc, name, place, &code, note),
+    match byte_diagnostic(alloc, name.as_bytes(), place, &code) {
+        Ok(diagnostic) => refused(alloc, name, place, &code, diagnostic),
         Err(NoMemory) => Refusal::NoMemory,
     }
 }

@@ -1,6 +1,6 @@
 // Libraries, and what modules take from them.
 ghost use Rattle.std.specs.Prelude.{◌≡◌, ◌≤◌, Ok, Err, IfOk, IfErr, length};
-ghost use Rattle.kc_kit_files.specs.Reply.{IsRefused};
+ghost use Rattle.kc_kit_files.specs.Response.{IsRefused};
 ghost use Rattle.kc_kit_inputs.specs.Library.{library_of, TakenAre};
 
 use crate::input_lines::byte_refusal;
@@ -13,7 +13,7 @@ use std::alloc::Global;
 pub fn read_library(alloc: Global, name: &str, bytes: &[u8]) -> Result<Library, Refusal>
     requires { length bytes.now ≤ 1048576 }
     ensures library { IfOk result (λ library. library_of name.now bytes.now ≡ Ok library) }
-    ensures refusal { IfErr result (IsRefused (λ reply. library_of name.now bytes.now ≡ Err reply)) }
+    ensures refusal { IfErr result (IsRefused (λ response. library_of name.now bytes.now ≡ Err response)) }
 {
     match Library::read(alloc, bytes) {
         Ok(library) => Ok(library),
@@ -32,7 +32,7 @@ pub fn take_members(
     modules: &[Module],
 ) -> Result<Vec<Module>, Refusal>
     ensures taken { IfOk result (λ taken. TakenAre name.now modules.now library.now (Ok taken.items)) }
-    ensures refusal { IfErr result (IsRefused (λ reply. TakenAre name.now modules.now library.now (Err reply))) }
+    ensures refusal { IfErr result (IsRefused (λ response. TakenAre name.now modules.now library.now (Err response))) }
 {
     match library.take(alloc, modules) {
         Ok(taken) => Ok(taken),

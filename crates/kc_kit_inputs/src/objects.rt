@@ -1,7 +1,7 @@
 // Objects read to modules.
 ghost use Rattle.std.specs.Prelude.{◌≡◌, ◌≤◌, ◌<◌, ◌^◌, ◌++◌, ◌∷◌, [], Ok, Err, IfOk, IfErr, OnOk, All, length, map, string_bytes};
 ghost use Rattle.kc_obj_module.specs.Spelling.{spelling};
-ghost use Rattle.kc_kit_files.specs.Reply.{IsRefused};
+ghost use Rattle.kc_kit_files.specs.Response.{IsRefused};
 ghost use Rattle.kc_kit_files.specs.Reads.{AllShort};
 ghost use Rattle.kc_kit_inputs.specs.Objects.{object_of, modules_of};
 
@@ -17,7 +17,7 @@ fn read_object(alloc: Global, name: &str, bytes: &[u8]) -> Result<Module, Refusa
     requires { length bytes.now ≤ 1048576 }
     ensures object { IfOk result (λ m. object_of name.now bytes.now ≡ Ok m) }
     ensures short { IfOk result (λ m. length (spelling m) < 2 ^ 32) }
-    ensures refusal { IfErr result (IsRefused (λ reply. object_of name.now bytes.now ≡ Err reply)) }
+    ensures refusal { IfErr result (IsRefused (λ response. object_of name.now bytes.now ≡ Err response)) }
 {
     match decode(alloc, bytes) {
         Ok(object) => Ok(object),
@@ -44,7 +44,7 @@ pub fn read_objects(
     ensures objects { IfOk result (λ ms. modules_of object_of (map string_bytes names.now) (map (λ t. t.items) texts.now) ≡ Ok ms.items) }
     ensures count { IfOk result (λ ms. length ms.items ≡ length names.now) }
     ensures short { IfOk result (λ ms. All (λ m. length (spelling m) < 2 ^ 32) ms.items) }
-    ensures refusal { IfErr result (IsRefused (λ reply. modules_of object_of (map string_bytes names.now) (map (λ t. t.items) texts.now) ≡ Err reply)) }
+    ensures refusal { IfErr result (IsRefused (λ response. modules_of object_of (map string_bytes names.now) (map (λ t. t.items) texts.now) ≡ Err response)) }
 {
     let mut modules = Vec::new(alloc);
     for i in 0..names.len() {

@@ -1,7 +1,7 @@
 // Debugger scripts, and the line maps beside them.
 ghost use Rattle.std.specs.Prelude.{◌≡◌, ◌≤◌, Ok, Err, IfOk, IfErr, IfSome, length};
 ghost use Rattle.std.specs.Option.{option_map};
-ghost use Rattle.kc_kit_files.specs.Reply.{IsRefused};
+ghost use Rattle.kc_kit_files.specs.Response.{IsRefused};
 ghost use Rattle.kc_kit_inputs.specs.Scripts.{script_of, map_of, lines_of};
 
 use crate::input_lines::line_refusal;
@@ -13,7 +13,7 @@ use std::alloc::Global;
 pub fn read_script(alloc: Global, name: &str, text: &[u8]) -> Result<Script, Refusal>
     requires { length text.now ≤ 1048576 }
     ensures script { IfOk result (λ script. script_of name.now text.now ≡ Ok script) }
-    ensures refusal { IfErr result (IsRefused (λ reply. script_of name.now text.now ≡ Err reply)) }
+    ensures refusal { IfErr result (IsRefused (λ response. script_of name.now text.now ≡ Err response)) }
 {
     match Script::read(alloc, text) {
         Ok(script) => Ok(script),
@@ -29,7 +29,7 @@ pub fn read_script(alloc: Global, name: &str, text: &[u8]) -> Result<Script, Ref
 fn read_map(alloc: Global, name: &str, text: &[u8]) -> Result<LineMap, Refusal>
     requires { length text.now ≤ 1048576 }
     ensures lines { IfOk result (λ lines. map_of name.now text.now ≡ Ok lines) }
-    ensures refusal { IfErr result (IsRefused (λ reply. map_of name.now text.now ≡ Err reply)) }
+    ensures refusal { IfErr result (IsRefused (λ response. map_of name.now text.now ≡ Err response)) }
 {
     match LineMap::read(alloc, text) {
         Ok(lines) => Ok(lines),
@@ -44,7 +44,7 @@ fn read_map(alloc: Global, name: &str, text: &[u8]) -> Result<LineMap, Refusal>
 pub fn lines_in(alloc: Global, file: Option<(&str, &[u8])>) -> Result<LineMap, Refusal>
     requires { IfSome file (λ f. length f.1.now ≤ 1048576) }
     ensures lines { IfOk result (λ lines. lines_of (option_map (λ f. (f.0.now, f.1.now)) file.entry) ≡ Ok lines) }
-    ensures refusal { IfErr result (IsRefused (λ reply. lines_of (option_map (λ f. (f.0.now, f.1.now)) file.entry) ≡ Err reply)) }
+    ensures refusal { IfErr result (IsRefused (λ response. lines_of (option_map (λ f. (f.0.now, f.1.now)) file.entry) ≡ Err response)) }
 {
     match file {
         Some((name, text)) => read_map(alloc, name, text),

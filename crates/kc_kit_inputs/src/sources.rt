@@ -1,25 +1,25 @@
 // Sources assembled to modules.
 ghost use Rattle.std.specs.Prelude.{◌≡◌, ◌≤◌, ◌++◌, ◌∷◌, [], codes, IfOk, IfErr, OnOk, length, map, string_bytes};
 ghost use Rattle.kc_asm.specs.Assembled.{IsModule};
-ghost use Rattle.kc_kit_files.specs.Reply.{IsRefused};
+ghost use Rattle.kc_kit_files.specs.Response.{IsRefused};
 ghost use Rattle.kc_kit_files.specs.Reads.{AllShort};
 ghost use Rattle.kc_kit_inputs.specs.Lines as spec;
-ghost use Rattle.kc_kit_inputs.specs.FaultNotes.{IsFaultNote};
-ghost use Rattle.kc_kit_inputs.specs.Sources.{AreModules, Tells, TellsFault, TellsFirst};
+ghost use Rattle.kc_kit_inputs.specs.FaultDiagnostics.{IsFaultDiagnostic};
+ghost use Rattle.kc_kit_inputs.specs.Sources.{AreModules, Reports, ReportsFault, ReportsFirst};
 
 use crate::input_lines::{coded, place_text};
 use kc_asm::assemble;
 use kc_asm_cause::cause;
-use kc_asm_subject::subject;
+use kc_asm_subject::symbol;
 use kc_base::NoMemory;
 use kc_kit_files::{Cause, Refusal, refusal_of};
-use kc_kit_notes::{put_body_line, source_note};
+use kc_kit_notes::{put_body_line, source_diagnostic};
 use kc_lex::SourceFault;
 use kc_obj_module::Module;
 use std::alloc::Global;
 
 // The note of a fault of a source: its sentence, with the name that it is about, and the line of a macro's body that has it.
-fn fault_note(
+fn fault_diagnostic(
     alloc: Global,
     name: &[u8],
     text: &[u8],
@@ -29,18 +29,18 @@ fn fault_note(
 ) -> Result<Vec<u8>, NoMemory>
     requires short { length text.now ≤ 1048576 }
     requires code { code.now ≡ spec.coded (codes "E") number }
-    ensures { IfOk result (λ note. IsFaultNote name.now text.now line number note.items) }
+    ensures { IfOk result (λ diagnostic. IsFaultDiagnostic name.now text.now line number diagnostic.items) }
 {
-    let mut note = match subject(alloc, text, line, number)? {
+    let mut diagnostic = match symbol(alloc, text, line, number)? {
         Some(about) => {
             let about = Some(about.as_slice());
-            source_note(alloc, name, text, line, code, number, about)?
+            source_diagnostic(alloc, name, text, line, code, number, about)?
         }
-        None => source_note(alloc, name, text, line, code, number, None)?,
+        None => source_diagnostic(alloc, name, text, line, code, number, None)?,
     };
     let body_line = cause(alloc, text, line, number)?;
-    put_body_line(&mut note, name, text, body_line)?;
-    Ok(note)
+    put_body_line(&mut diagnostic, name, text, body_line)?;
+    Ok(diagnostic)
 }
 
 // The place and the code of a fault of a source as they are printed, and its note.
@@ -53,22 +53,29 @@ fn fault_texts(
 ) -> Result<(Vec<u8>, Vec<u8>), NoMemory>
     requires { length text.now ≤ 1048576 }
     ensures printed { IfOk result (λ texts. texts.0.items ≡ spec.place_text line (spec.coded (codes "E") number)) }
-    ensures note { IfOk result (λ texts. IsFaultNote name.now text.now line number texts.1.items) }
+    ensures diagnostic { IfOk result (λ texts. IsFaultDiagnostic name.now text.now line number texts.1.items) }
 {
     let code = coded(alloc, b"E", number)?;
     let printed = place_text(alloc, line, &code)?;
-    let note = fault_note(alloc, name, text, line, number, &code)?;
-    Ok((printed, note))
+    let diagnostic = fault_diagnostic(alloc, name, text, line, number, &code)?;
+    Ok((printed, diagnostic))
 }
 
 // The refusal of a source with a fault: its line and the number of its code.
 fn source_refusal(alloc: Global, name: &str, text: &[u8], line: u32, number: u8) -> Refusal
     requires { length text.now ≤ 1048576 }
-    ensures { IsRefused (Tells IsFaultNote name.now text.now line number) result }
+    ensures { IsRefused (Reports IsFaultDiagnostic name.now text.now line number) result }
 {
     let name = name.as_bytes();
     match fault_texts(alloc, name, text, line, number) {
-        Ok((printed, note)) => refusal_of(alloc, Cause::Source, b"source ", name, &printed, note),
+        Ok((printed, diagnostic)) => refusal_of(
+            alloc,
+            Cause::Source,
+            b"source ",
+            name,
+            &printed,
+            diagnostic,
+        ),
         Err(NoMemory) => Refusal::NoMemory,
     }
 }
@@ -77,7 +84,7 @@ fn source_refusal(alloc: Global, name: &str, text: &[u8], line: u32, number: u8)
 pub fn assemble_source(alloc: Global, name: &str, text: &[u8]) -> Result<Module, Refusal>
     requires { length text.now ≤ 1048576 }
     ensures made { IfOk result (λ m. IsModule text.now m) }
-    ensures refusal { IfErr result (IsRefused (TellsFault IsFaultNote name.now text.now)) }
+    ensures refusal { IfErr result (IsRefused (ReportsFault IsFaultDiagnostic name.now text.now)) }
 {
     match assemble(alloc, text) {
         Ok(made) => Ok(made),
@@ -103,7 +110,7 @@ pub fn assemble_sources(
     requires short { AllShort (map (λ t. t.items) texts.now) }
     ensures made { IfOk result (λ ms. AreModules (map (λ t. t.items) texts.now) ms.items) }
     ensures count { IfOk result (λ ms. length ms.items ≡ length names.now) }
-    ensures refusal { IfErr result (IsRefused (TellsFirst IsFaultNote (map string_bytes names.now) (map (λ t. t.items) texts.now))) }
+    ensures refusal { IfErr result (IsRefused (ReportsFirst IsFaultDiagnostic (map string_bytes names.now) (map (λ t. t.items) texts.now))) }
 {
     let mut modules = Vec::new(alloc);
     for i in 0..names.len() {

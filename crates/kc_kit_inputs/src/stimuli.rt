@@ -2,7 +2,7 @@
 ghost use Rattle.std.specs.Prelude.{◌≡◌, ◌≤◌, Ok, Err, IfOk, IfErr, IfSome, length};
 ghost use Rattle.std.specs.Option.{option_map};
 ghost use Rattle.kc_kit_files.specs.declared.status.Status.TheVariants as status;
-ghost use Rattle.kc_kit_files.specs.Reply.{says, IsRefused};
+ghost use Rattle.kc_kit_files.specs.Response.{says, IsRefused};
 ghost use Rattle.kc_kit_inputs.specs.Stimuli.{stimuli_of, drives_of};
 
 use crate::input_lines::line_refusal;
@@ -14,7 +14,7 @@ use std::alloc::Global;
 fn read_stimuli(alloc: Global, name: &str, text: &[u8]) -> Result<Stimuli, Refusal>
     requires { length text.now ≤ 1048576 }
     ensures stimuli { IfOk result (λ s. stimuli_of name.now text.now ≡ Ok s) }
-    ensures refusal { IfErr result (IsRefused (λ reply. stimuli_of name.now text.now ≡ Err reply)) }
+    ensures refusal { IfErr result (IsRefused (λ response. stimuli_of name.now text.now ≡ Err response)) }
 {
     match Stimuli::read(alloc, text) {
         Ok(stimuli) => Ok(stimuli),
@@ -31,7 +31,7 @@ fn read_stimuli(alloc: Global, name: &str, text: &[u8]) -> Result<Stimuli, Refus
 pub(crate) fn stimuli_in(alloc: Global, file: Option<(&str, &[u8])>) -> Result<Stimuli, Refusal>
     requires { IfSome file (λ f. length f.1.now ≤ 1048576) }
     ensures stimuli { IfOk result (λ s. drives_of (option_map (λ f. (f.0.now, f.1.now)) file.entry) ≡ Ok s) }
-    ensures refusal { IfErr result (IsRefused (λ reply. drives_of (option_map (λ f. (f.0.now, f.1.now)) file.entry) ≡ Err reply)) }
+    ensures refusal { IfErr result (IsRefused (λ response. drives_of (option_map (λ f. (f.0.now, f.1.now)) file.entry) ≡ Err response)) }
 {
     match file {
         Some((name, text)) => read_stimuli(alloc, name, text),

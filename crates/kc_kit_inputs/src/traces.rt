@@ -2,8 +2,8 @@
 ghost use Rattle.std.specs.Prelude.{◌≤◌, IfOk, IfErr, length};
 ghost use Rattle.kc_base.specs.TextLines.{text_lines};
 ghost use Rattle.kc_vcd.specs.Reading.{IsTrace};
-ghost use Rattle.kc_kit_files.specs.Reply.{IsRefused};
-ghost use Rattle.kc_kit_inputs.specs.Traces.{TellsWrongLine};
+ghost use Rattle.kc_kit_files.specs.Response.{IsRefused};
+ghost use Rattle.kc_kit_inputs.specs.Traces.{ReportsWrongLine};
 
 use crate::input_lines::line_refusal;
 use kc_kit_files::Refusal;
@@ -14,7 +14,7 @@ use std::alloc::Global;
 pub fn read_trace(alloc: Global, name: &str, text: &[u8]) -> Result<Trace, Refusal>
     requires { length text.now ≤ 1048576 }
     ensures trace { IfOk result (λ trace. IsTrace (text_lines text.now) trace) }
-    ensures refusal { IfErr result (IsRefused (TellsWrongLine name.now text.now)) }
+    ensures refusal { IfErr result (IsRefused (ReportsWrongLine name.now text.now)) }
 {
     match Trace::read(alloc, text) {
         Ok(trace) => Ok(trace),

@@ -23,19 +23,19 @@ use Rattle.kc_asm.specs.Assembled.{IsModule}
 use Rattle.kc_asm_laws.specs.Modules.{ModulesFit}
 use Rattle.kc_asm_laws.specs.Images.{AreModulesOf, FilledAreBytes}
 use Rattle.kc_kit_files.specs.declared.status.Status.TheVariants as status
-use Rattle.kc_kit_files.specs.Reply.{Reply, Write, write, done_writing, before, joined, Then}
+use Rattle.kc_kit_files.specs.Response.{Response, Write, write, done_writing, before, joined, Then}
 use Rattle.kc_kit_files.specs.Writes.{AreReadable}
 use Rattle.kc_kit_files.proofs.LongLemmas.{written-all}
 use Rattle.kc_kit_inputs.specs.Hex.{by_image}
 use Rattle.kc_kit_inputs.specs.declared.driving.Driving.{Driving}
 use Rattle.kc_kit_inputs.specs.Driving.{GivenFiles, given_for, driving_of}
 use Rattle.kc_kit_inputs.specs.Objects.{modules_of, by_object, object_of}
-use Rattle.kc_kit_inputs.specs.FaultNotes.{IsFaultNote}
+use Rattle.kc_kit_inputs.specs.FaultDiagnostics.{IsFaultDiagnostic}
 use Rattle.kc_kit_inputs.specs.Sources.{AreModules}
 use Rattle.kc_kit_answer.specs.Link.{Completed, LinksTo}
 use Rattle.kc_kit_answer.specs.Places.{by_places, places_of, Placing}
-use Rattle.kc_kit_answer.specs.Run.{Driven, LinkedTold, RunAnswer}
-use Rattle.kc_kit_running.specs.Lives.{board_reply}
+use Rattle.kc_kit_answer.specs.Run.{Driven, LinkedReported, RunAnswer}
+use Rattle.kc_kit_running.specs.Lives.{board_response}
 use Rattle.kc_kit_answer.proofs.HexLengths.{hex-short}
 use Rattle.kc_kit_answer.proofs.AnswerSteps.{then-ok, then-map}
 use Rattle.kc_kit_answer.proofs.SourceLemmas.{image-of}
@@ -98,27 +98,27 @@ byte-at (b ∷ bs) zero h = h.0
 byte-at (b ∷ bs) (suc k) h = byte-at bs k h.1
 
 pub alike : ModulesFit → FilledAreBytes → SourcesAreReadWell → LinkedImage → SpelledIsDecoded → WrittenIsRead → RunsAlike
-alike fits bytes well linked spelled read names objects texts ms inputs input_texts ranges extent file hex reply made small count l h =
+alike fits bytes well linked spelled read names objects texts ms inputs input_texts ranges extent file hex response made small count l h =
     by (placed ms ranges) refl
-    (subst (λ (x : Result (List Object) Reply). Then x (Completed objects None (λ files. Placing files ranges (LinksTo file hex_alone ranges))) (done_writing (write file hex ∷ []))) (objects-read spelled objects texts ms made (all-fit fits texts ms made small) count) l)
+    (subst (λ (x : Result (List Object) Response). Then x (Completed objects None (λ files. Placing files ranges (LinksTo file hex_alone ranges))) (done_writing (write file hex ∷ []))) (objects-read spelled objects texts ms made (all-fit fits texts ms made small) count) l)
   where
     given : GivenFiles
     given = given_for inputs input_texts
 
-    tell : Driving → List ℕ → Reply
-    tell = board_reply extent
+    report : Driving → List ℕ → Response
+    report = board_response extent
 
-    by : (x : Result Places LinkFault) → placed ms ranges ≡ x → Then (by_places objects ms x) (LinksTo file hex_alone ranges ms) (done_writing (write file hex ∷ [])) → RunAnswer IsFaultNote names inputs extent ranges texts input_texts reply
+    by : (x : Result Places LinkFault) → placed ms ranges ≡ x → Then (by_places objects ms x) (LinksTo file hex_alone ranges ms) (done_writing (write file hex ∷ [])) → RunAnswer IsFaultDiagnostic names inputs extent ranges texts input_texts response
     by (Ok places) e k =
         let written = k.done ∙ written-all (write file (records.spelling k.image) ∷ k.more) [] (hex-short k.image, subst AreReadable (sym k.is_map) tt) in
-        let same : hex ≡ records.spelling k.image = ap (λ (r : Reply). first_bytes r.writes) written in
+        let same : hex ≡ records.spelling k.image = ap (λ (r : Response). first_bytes r.writes) written in
         let image : image_of hex ≡ Ok k.image = ap image_of same ∙ read k.image (record { len = k.is_filled.long; bytes = λ i. byte-at k.image i (bytes texts ms ranges places k.image (of-texts texts ms made) e k.is_filled) }) in
-        let driven : Then (driving_of given) (λ driving reply. reply ≡ tell driving k.image) reply =
-        subst (λ (x : Result (List ℕ) (ℕ × ℕ)). Then (by_image file hex x) (λ image. Then (driving_of given) (λ driving reply. reply ≡ tell driving image)) reply) image h in (
+        let driven : Then (driving_of given) (λ driving response. response ≡ report driving k.image) response =
+        subst (λ (x : Result (List ℕ) (ℕ × ℕ)). Then (by_image file hex x) (λ image. Then (driving_of given) (λ driving response. response ≡ report driving image)) response) image h in (
           Ok ms,
           made,
-          then-ok (places_of names ms ranges) places (Driven given (LinkedTold texts) tell ms) reply (ap (by_places names ms) e)
-              (then-map (driving_of given) (λ driving reply. reply ≡ tell driving k.image) (λ driving. LinkedTold texts (tell driving) ms places) reply
-              (λ d told. record { image = k.image; is_filled = k.is_filled; is_image = image-of well linked texts ms ranges places k.image made e k.is_filled; told = told }) driven),
+          then-ok (places_of names ms ranges) places (Driven given (LinkedReported texts) report ms) response (ap (by_places names ms) e)
+              (then-map (driving_of given) (λ driving response. response ≡ report driving k.image) (λ driving. LinkedReported texts (report driving) ms places) response
+              (λ d reported. record { image = k.image; is_filled = k.is_filled; is_image = image-of well linked texts ms ranges places k.image made e k.is_filled; reported = reported }) driven),
         )
-    by (Err f) e k = absurd (let g : status.Done ≡ status.Link = ap (λ (r : Reply). r.status) k in cc)
+    by (Err f) e k = absurd (let g : status.Done ≡ status.Link = ap (λ (r : Response). r.status) k in cc)

@@ -18,79 +18,79 @@ use Rattle.kc_link.specs.Laws.{OneImage}
 use Rattle.kc_link.specs.declared.lines.LineAt.{LineAt}
 use Rattle.kc_link_laws.specs.Linked.{OneLineMap}
 use Rattle.kc_asm.specs.Assembled.{IsModule}
-use Rattle.kc_asm_subject.specs.Subject.{subject_of}
-use Rattle.kc_asm_cause_laws.specs.OneCause.{OneCause}
+use Rattle.kc_asm_subject.specs.Symbol.{symbol_of}
+use Rattle.kc_asm_cause_laws.specs.OneOrigin.{OneOrigin}
 use Rattle.kc_asm_laws.specs.Modules.{OneAnswerOfText}
 use Rattle.kc_asm_list_laws.specs.Laws.{OneListing}
 use Rattle.kc_kit_files.specs.declared.status.Status.TheVariants as status
-use Rattle.kc_kit_files.specs.Reply.{Reply, Write, write, says, done_writing, Then}
+use Rattle.kc_kit_files.specs.Response.{Response, Write, write, says, done_writing, Then}
 use Rattle.kc_kit_files.specs.Writes.{writing_readable}
 use Rattle.kc_kit_files.specs.Reads.{reads_of}
 use Rattle.kc_kit_words.specs.declared.inputs.Role.{Role}
 use Rattle.kc_kit_words.specs.declared.inputs.Role.TheVariants as role
-use Rattle.kc_kit_words.specs.Commands.{Beside, Command, Helps, HelpsOn, TellsVersion, Runs, Profiles, Assembles, Packs, Links, RunsHex, ProfilesHex, Lists, Debugs, Generates, Dumps, Explains, names_of}
+use Rattle.kc_kit_words.specs.Commands.{Beside, Command, Helps, HelpsOn, ReportsVersion, Runs, Profiles, Assembles, Packs, Links, RunsHex, ProfilesHex, Lists, Debugs, Generates, Dumps, Explains, names_of}
 use Rattle.kc_kit_words.specs.Words.{placing_of}
 use Rattle.kc_kit_inputs.specs.Hex.{hex_of}
 use Rattle.kc_kit_inputs.specs.declared.driving.Driving.{Driving}
 use Rattle.kc_kit_inputs.specs.Driving.{GivenFiles, given_for, driving_of}
 use Rattle.kc_kit_inputs.specs.Inputs.{input_for}
 use Rattle.kc_kit_inputs.specs.Library.{library_of, TakenAre}
-use Rattle.kc_kit_inputs.specs.Replies.{source_reply, line_reply}
+use Rattle.kc_kit_inputs.specs.Responses.{source_response, line_response}
 use Rattle.kc_kit_inputs.specs.Objects.{modules_of, object_of}
-use Rattle.kc_kit_inputs.specs.FaultNotes.{IsFaultNote}
+use Rattle.kc_kit_inputs.specs.FaultDiagnostics.{IsFaultDiagnostic}
 use Rattle.kc_kit_inputs.specs.Lines.{coded}
-use Rattle.kc_kit_inputs.specs.Sources.{NoteRule, AnyNote, Tells, TellsFault, SourceIs, AreModules, TellsFirst, SourcesAre}
+use Rattle.kc_kit_inputs.specs.Sources.{DiagnosticRule, AnyDiagnostic, Reports, ReportsFault, SourceIs, AreModules, ReportsFirst, SourcesAre}
 use Rattle.kc_kit_inputs.specs.Traces.{TraceIs}
 use Rattle.kc_kit_answer.specs.Answer.{OneText, TwoTexts, Parted, CommandAnswer}
 use Rattle.kc_kit_answer.specs.Assemble.{AreListings, WritesObject, AssembleAnswer}
-use Rattle.kc_kit_answer.specs.Debug.{DebugAnswer, debug_reply}
+use Rattle.kc_kit_answer.specs.Debug.{DebugAnswer, debug_response}
 use Rattle.kc_kit_answer.specs.Dump.{WritesDump, DumpAnswer}
 use Rattle.kc_kit_running.specs.Counted.{summary_of}
 use Rattle.kc_kit_answer.specs.Generate.{made_names, made_texts, made_given}
-use Rattle.kc_kit_answer.specs.Hex.{HexTold, RunHexAnswer, ListAnswer, ListingOf}
+use Rattle.kc_kit_answer.specs.Hex.{HexReported, RunHexAnswer, ListAnswer, ListingOf}
 use Rattle.kc_kit_notes.specs.Rules.{member_words}
-use Rattle.kc_kit_notes.specs.Subjects.{source_note, body_note}
+use Rattle.kc_kit_notes.specs.Subjects.{source_diagnostic, body_diagnostic}
 use Rattle.kc_kit_answer.specs.Lines.{map_text}
 use Rattle.kc_kit_answer.specs.Link.{IsMap, map_writes, LinksTo, Taking, Completed, LinkAnswer}
 use Rattle.kc_kit_answer.specs.Pack.{packed, PackAnswer}
 use Rattle.kc_kit_answer.specs.Places.{places_of, Placing}
 use Rattle.kc_debug_script.specs.declared.line_map.MapEntry.{MapEntry}
-use Rattle.kc_kit_running.specs.Profiled.{profile_reply}
-use Rattle.kc_kit_answer.specs.Profile.{map_entry, DrivenWithLines, LinkedWithLines, LinesTold, ProfileAnswer, ProfileHexAnswer}
-use Rattle.kc_kit_answer.specs.Run.{LinkedTold, Driven, SourcesTold, RunAnswer}
-use Rattle.kc_kit_running.specs.Lives.{board_reply}
-use Rattle.kc_kit_laws.specs.OneAnswer.{silent, OneAnswer, OneNote}
+use Rattle.kc_kit_running.specs.Profiled.{profile_response}
+use Rattle.kc_kit_answer.specs.Profile.{map_entry, DrivenWithLines, LinkedWithLines, LinesReported, ProfileAnswer, ProfileHexAnswer}
+use Rattle.kc_kit_answer.specs.Run.{LinkedReported, Driven, SourcesReported, RunAnswer}
+use Rattle.kc_kit_running.specs.Lives.{board_response}
+use Rattle.kc_kit_laws.specs.OneAnswer.{silent, OneAnswer, OneDiagnostic}
 
 -- ---- steps
 
 -- at most one reply may be given
-abbrev IsOne : (Reply → Type 0) → Type 0
-IsOne may = (r s : Reply) → may r → may s → r ≡ s
+abbrev IsOne : (Response → Type 0) → Type 0
+IsOne may = (r s : Response) → may r → may s → r ≡ s
 
-one_told : (told : Reply) → IsOne (λ r. r ≡ told)
-one_told told r s h k = h ∙ sym k
+one_reported : (reported : Response) → IsOne (λ r. r ≡ reported)
+one_reported reported r s h k = h ∙ sym k
 
-one_then : {A : Type 0} (x : Result A Reply) (may : A → Reply → Type 0) → ((a : A) → IsOne (may a)) → IsOne (Then x may)
+one_then : {A : Type 0} (x : Result A Response) (may : A → Response → Type 0) → ((a : A) → IsOne (may a)) → IsOne (Then x may)
 one_then (Ok a) may one r s h k = one a r s h k
 one_then (Err e) may one r s h k = h ∙ sym k
 
 -- the same where a step may give one thing alone
-one_given : {A : Type 0} (Gives : Result A Reply → Type 0) (may : A → Reply → Type 0) → ((x y : Result A Reply) → Gives x → Gives y → x ≡ y) → ((a : A) → IsOne (may a))
-    → IsOne (λ r. (x : Result A Reply) × Gives x × Then x may r)
-one_given {A} Gives may same one r s h k = one_then h.0 may one r s h.2 (subst (λ (x : Result A Reply). Then x may s) (sym (same h.0 k.0 h.1 k.1)) k.2)
+one_given : {A : Type 0} (Gives : Result A Response → Type 0) (may : A → Response → Type 0) → ((x y : Result A Response) → Gives x → Gives y → x ≡ y) → ((a : A) → IsOne (may a))
+    → IsOne (λ r. (x : Result A Response) × Gives x × Then x may r)
+one_given {A} Gives may same one r s h k = one_then h.0 may one r s h.2 (subst (λ (x : Result A Response). Then x may s) (sym (same h.0 k.0 h.1 k.1)) k.2)
 
-one_text : (may : List ℕ → Reply → Type 0) → ((text : List ℕ) → IsOne (may text)) → (texts : List (List ℕ)) → IsOne (OneText may texts)
+one_text : (may : List ℕ → Response → Type 0) → ((text : List ℕ) → IsOne (may text)) → (texts : List (List ℕ)) → IsOne (OneText may texts)
 one_text may one [] r s h k = absurd h
 one_text may one (t ∷ []) r s h k = one t r s h k
 one_text may one (t ∷ u ∷ ts) r s h k = absurd h
 
-one_two : (may : List ℕ → List ℕ → Reply → Type 0) → ((text other : List ℕ) → IsOne (may text other)) → (texts : List (List ℕ)) → IsOne (TwoTexts may texts)
+one_two : (may : List ℕ → List ℕ → Response → Type 0) → ((text other : List ℕ) → IsOne (may text other)) → (texts : List (List ℕ)) → IsOne (TwoTexts may texts)
 one_two may one [] r s h k = absurd h
 one_two may one (t ∷ []) r s h k = absurd h
 one_two may one (t ∷ u ∷ []) r s h k = one t u r s h k
 one_two may one (t ∷ u ∷ v ∷ ts) r s h k = absurd h
 
-one_placing : (names : List (List ℕ)) (ranges : Ranges) (may : List Object → Places → Reply → Type 0) → ((ms : List Object) (places : Places) → IsOne (may ms places)) → (ms : List Object) → IsOne (Placing names ranges may ms)
+one_placing : (names : List (List ℕ)) (ranges : Ranges) (may : List Object → Places → Response → Type 0) → ((ms : List Object) (places : Places) → IsOne (may ms places)) → (ms : List Object) → IsOne (Placing names ranges may ms)
 one_placing names ranges may one ms = one_then (places_of names ms ranges) (may ms) (one ms)
 
 -- the laws that this stands on
@@ -131,22 +131,22 @@ module _ (law : OneAnswerOfText) where
 -- ---- images and line maps
 
 module _ (images : OneImage) where
-  one_linked : (texts : List (List ℕ)) (tell : List ℕ → Reply) (ms : List Object) (places : Places) → IsOne (LinkedTold texts tell ms places)
-  one_linked texts tell ms places r s h k = h.told ∙ (ap tell (images ms places h.image k.image h.is_filled k.is_filled) ∙ sym k.told)
+  one_linked : (texts : List (List ℕ)) (report : List ℕ → Response) (ms : List Object) (places : Places) → IsOne (LinkedReported texts report ms places)
+  one_linked texts report ms places r s h k = h.reported ∙ (ap report (images ms places h.image k.image h.is_filled k.is_filled) ∙ sym k.reported)
 
-  one_driven : (texts : List (List ℕ)) (given : GivenFiles) (tell : Driving → List ℕ → Reply) (ms : List Object) (places : Places) → IsOne (Driven given (LinkedTold texts) tell ms places)
-  one_driven texts given tell ms places = one_then (driving_of given) (λ driving. LinkedTold texts (tell driving) ms places) (λ driving. one_linked texts (tell driving) ms places)
+  one_driven : (texts : List (List ℕ)) (given : GivenFiles) (report : Driving → List ℕ → Response) (ms : List Object) (places : Places) → IsOne (Driven given (LinkedReported texts) report ms places)
+  one_driven texts given report ms places = one_then (driving_of given) (λ driving. LinkedReported texts (report driving) ms places) (λ driving. one_linked texts (report driving) ms places)
 
-  one_linked_lines : OneLineMap → (texts : List (List ℕ)) (tell : List MapEntry → List ℕ → Reply) (ms : List Object) (places : Places) → IsOne (LinkedWithLines texts tell ms places)
-  one_linked_lines maps texts tell ms places r s h k =
+  one_linked_lines : OneLineMap → (texts : List (List ℕ)) (report : List MapEntry → List ℕ → Response) (ms : List Object) (places : Places) → IsOne (LinkedWithLines texts report ms places)
+  one_linked_lines maps texts report ms places r s h k =
       let image : h.image ≡ k.image = images ms places h.image k.image h.is_filled k.is_filled in
       let lines : h.entries ≡ k.entries = maps ms places h.entries k.entries h.is_map k.is_map in
-      let both : tell (map map_entry h.entries) h.image ≡ tell (map map_entry k.entries) k.image = λ i. tell (map map_entry (lines i)) (image i) in
-      h.told ∙ (both ∙ sym k.told)
+      let both : report (map map_entry h.entries) h.image ≡ report (map map_entry k.entries) k.image = λ i. report (map map_entry (lines i)) (image i) in
+      h.reported ∙ (both ∙ sym k.reported)
 
-  one_driven_lines : OneLineMap → (texts : List (List ℕ)) (given : GivenFiles) (tell : List MapEntry → Driving → List ℕ → Reply) (ms : List Object) (places : Places) → IsOne (DrivenWithLines given (LinkedWithLines texts) tell ms places)
-  one_driven_lines maps texts given tell ms places =
-      one_then (driving_of given) (λ driving. LinkedWithLines texts (λ entries. tell entries driving) ms places) (λ driving. one_linked_lines maps texts (λ entries. tell entries driving) ms places)
+  one_driven_lines : OneLineMap → (texts : List (List ℕ)) (given : GivenFiles) (report : List MapEntry → Driving → List ℕ → Response) (ms : List Object) (places : Places) → IsOne (DrivenWithLines given (LinkedWithLines texts) report ms places)
+  one_driven_lines maps texts given report ms places =
+      one_then (driving_of given) (λ driving. LinkedWithLines texts (λ entries. report entries driving) ms places) (λ driving. one_linked_lines maps texts (λ entries. report entries driving) ms places)
 
   one_map : OneLineMap → (lines : Option (List ℕ)) (ms : List Object) (places : Places) (ws us : List Write) → IsMap lines ms places ws → IsMap lines ms places us → ws ≡ us
   one_map maps None ms places ws us h k = h ∙ sym k
@@ -164,10 +164,10 @@ module _ (images : OneImage) where
 
 -- ---- traces
 
-abbrev wrong_line : List ℕ → List ℕ → ℕ → Reply
-wrong_line name text line = line_reply name text line (codes "BADTRACE")
+abbrev wrong_line : List ℕ → List ℕ → ℕ → Response
+wrong_line name text line = line_response name text line (codes "BADTRACE")
 
-one_read : OneReading → (name text : List ℕ) (x y : Result (List Record) Reply) → TraceIs name text x → TraceIs name text y → x ≡ y
+one_read : OneReading → (name text : List ℕ) (x y : Result (List Record) Response) → TraceIs name text x → TraceIs name text y → x ≡ y
 one_read law name text (Ok items) (Ok others) h k = (let same : items ≡ others = law.traces (text_lines text) items others h k in λ i. Ok (same i))
 one_read law name text (Ok items) (Err r) h k = absurd (law.apart (text_lines text) items k.0 h k.1)
 one_read law name text (Err r) (Ok items) h k = absurd (law.apart (text_lines text) items h.0 k h.1)
@@ -175,24 +175,24 @@ one_read law name text (Err r) (Err s) h k = (let same : r ≡ s = h.2 ∙ (ap (
 
 -- ---- members of a library
 
-too_many : TakenOnce → (name : List ℕ) (ms members taken : List Object) (r : Reply) → TakenAre name ms members (Ok taken) → TakenAre name ms members (Err r) → ⊥
+too_many : TakenOnce → (name : List ℕ) (ms members taken : List Object) (r : Response) → TakenAre name ms members (Ok taken) → TakenAre name ms members (Err r) → ⊥
 too_many law name ms members taken r h k =
     let count : length taken ≡ length k.0 = ap (λ (xs : List Object). length xs) (law ms members taken k.0 h.0 k.1) in
     let few = h.1 in
     let many = k.2 in
     omega (arith, count, few, many)
 
-one_taken : TakenOnce → (name : List ℕ) (ms members : List Object) (x y : Result (List Object) Reply) → TakenAre name ms members x → TakenAre name ms members y → x ≡ y
+one_taken : TakenOnce → (name : List ℕ) (ms members : List Object) (x y : Result (List Object) Response) → TakenAre name ms members x → TakenAre name ms members y → x ≡ y
 one_taken law name ms members (Ok t) (Ok u) h k = (let same : t ≡ u = law ms members t u h.0 k.0 in λ i. Ok (same i))
 one_taken law name ms members (Ok t) (Err r) h k = absurd (too_many law name ms members t r h k)
 one_taken law name ms members (Err r) (Ok t) h k = absurd (too_many law name ms members t r k h)
 one_taken law name ms members (Err r) (Err s) h k = (let same : r ≡ s = h.3 ∙ sym k.3 in λ i. Err (same i))
 
 -- what goes on with modules and names of their files gives one thing
-abbrev EachOne : (List (List ℕ) → List Object → Reply → Type 0) → Type 0
+abbrev EachOne : (List (List ℕ) → List Object → Response → Type 0) → Type 0
 EachOne may = (names : List (List ℕ)) (ms : List Object) → IsOne (may names ms)
 
-one_completed : TakenOnce → (names : List (List ℕ)) (library : Option (List ℕ × List ℕ)) (may : List (List ℕ) → List Object → Reply → Type 0) → EachOne may → (ms : List Object) → IsOne (Completed names library may ms)
+one_completed : TakenOnce → (names : List (List ℕ)) (library : Option (List ℕ × List ℕ)) (may : List (List ℕ) → List Object → Response → Type 0) → EachOne may → (ms : List Object) → IsOne (Completed names library may ms)
 one_completed law names None may one ms = one names ms
 one_completed law names (Some library) may one ms =
     one_then (library_of library.0 library.1) (Taking names library.0 may ms)
@@ -214,55 +214,55 @@ module _ (laws : Laws) where
       one_then (modules_of object_of files texts) (Completed files (input_for role.Library inputs more) (λ names. Placing names ranges (LinksTo out beside ranges)))
       (one_completed laws.taken files (input_for role.Library inputs more) (λ names. Placing names ranges (LinksTo out beside ranges)) (λ names. one_placing names ranges (LinksTo out beside ranges) (one_links laws.images laws.maps out beside ranges)))
 
-  one_hex : (file : List ℕ) (given : GivenFiles) (text : List ℕ) (tell : Driving → List ℕ → Reply) → IsOne (HexTold file given text tell)
-  one_hex file given text tell =
-      one_then (hex_of file text) (λ image. Then (driving_of given) (λ driving reply. reply ≡ tell driving image))
-      (λ image. one_then (driving_of given) (λ driving reply. reply ≡ tell driving image) (λ driving. one_told (tell driving image)))
+  one_hex : (file : List ℕ) (given : GivenFiles) (text : List ℕ) (report : Driving → List ℕ → Response) → IsOne (HexReported file given text report)
+  one_hex file given text report =
+      one_then (hex_of file text) (λ image. Then (driving_of given) (λ driving response. response ≡ report driving image))
+      (λ image. one_then (driving_of given) (λ driving response. response ≡ report driving image) (λ driving. one_reported (report driving image)))
 
   one_dump : (file out : List ℕ) (clock : ℕ) (text : List ℕ) → IsOne (DumpAnswer file out clock text)
-  one_dump file out clock text = one_given (TraceIs file text) (WritesDump out clock) (one_read laws.traces file text) (λ items. one_told (done_writing (write out (dump_of (state_length clock) items) ∷ [])))
+  one_dump file out clock text = one_given (TraceIs file text) (WritesDump out clock) (one_read laws.traces file text) (λ items. one_reported (done_writing (write out (dump_of (state_length clock) items) ∷ [])))
 
 -- ---- sources that may be refused, by a rule of notes and a relation of replies that holds of notes of one fault
 
 module _
-    (IsNote : NoteRule) (Same : Reply → Reply → Type 0) (whole : (r : Reply) → Same r r)
-    (noted : (name text : List ℕ) (line code : ℕ) (n m : List ℕ) → IsNote name text line code n → IsNote name text line code m → Same (source_reply name line code n) (source_reply name line code m))
+    (IsDiagnostic : DiagnosticRule) (Same : Response → Response → Type 0) (whole : (r : Response) → Same r r)
+    (noted : (name text : List ℕ) (line code : ℕ) (n m : List ℕ) → IsDiagnostic name text line code n → IsDiagnostic name text line code m → Same (source_response name line code n) (source_response name line code m))
     (laws : Laws) where
   -- at most one reply may be given, but for the relation
-  abbrev AreOne : (Reply → Type 0) → Type 0
-  AreOne may = (r s : Reply) → may r → may s → Same r s
+  abbrev AreOne : (Response → Type 0) → Type 0
+  AreOne may = (r s : Response) → may r → may s → Same r s
 
-  equal : (r s : Reply) → r ≡ s → Same r s
+  equal : (r s : Response) → r ≡ s → Same r s
   equal r s e = subst (Same r) e (whole r)
 
-  moved : (d e r s : Reply) → r ≡ d → s ≡ e → Same d e → Same r s
-  moved d e r s f g h = subst (λ (x : Reply). Same x s) (sym f) (subst (Same d) (sym g) h)
+  moved : (d e r s : Response) → r ≡ d → s ≡ e → Same d e → Same r s
+  moved d e r s f g h = subst (λ (x : Response). Same x s) (sym f) (subst (Same d) (sym g) h)
 
-  then_one : {A : Type 0} (x : Result A Reply) (may : A → Reply → Type 0) → ((a : A) → AreOne (may a)) → AreOne (Then x may)
+  then_one : {A : Type 0} (x : Result A Response) (may : A → Response → Type 0) → ((a : A) → AreOne (may a)) → AreOne (Then x may)
   then_one (Ok a) may one r s h k = one a r s h k
   then_one (Err e) may one r s h k = equal r s (h ∙ sym k)
 
-  told_once : (name text : List ℕ) (f g : Fault) (r s : Reply) → f ≡ g → Tells IsNote name text f.0 f.1 r → Tells IsNote name text g.0 g.1 s → Same r s
-  told_once name text f g r s e h k =
-      let there : Tells IsNote name text g.0 g.1 r = subst (λ (d : Fault). Tells IsNote name text d.0 d.1 r) e h in
-      moved (source_reply name g.0 g.1 there.0) (source_reply name g.0 g.1 k.0) r s there.2 k.2 (noted name text g.0 g.1 there.0 k.0 there.1 k.1)
+  reported_once : (name text : List ℕ) (f g : Fault) (r s : Response) → f ≡ g → Reports IsDiagnostic name text f.0 f.1 r → Reports IsDiagnostic name text g.0 g.1 s → Same r s
+  reported_once name text f g r s e h k =
+      let there : Reports IsDiagnostic name text g.0 g.1 r = subst (λ (d : Fault). Reports IsDiagnostic name text d.0 d.1 r) e h in
+      moved (source_response name g.0 g.1 there.0) (source_response name g.0 g.1 k.0) r s there.2 k.2 (noted name text g.0 g.1 there.0 k.0 there.1 k.1)
 
-  fault_once : (name text : List ℕ) → AreOne (TellsFault IsNote name text)
+  fault_once : (name text : List ℕ) → AreOne (ReportsFault IsDiagnostic name text)
   fault_once name text r s h k =
-      told_once name text (h.0, h.1) (k.0, k.1) r s
+      reported_once name text (h.0, h.1) (k.0, k.1) r s
       (of_err (h.0, h.1) (k.0, k.1) (Err (h.0, h.1)) (Err (k.0, k.1)) refl refl (laws.texts text (Err (h.0, h.1)) (Err (k.0, k.1)) h.2 k.2)) h.3 k.3
 
-  no_fault : (name text : List ℕ) (m : Object) (r : Reply) → IsModule text m → TellsFault IsNote name text r → ⊥
+  no_fault : (name text : List ℕ) (m : Object) (r : Response) → IsModule text m → ReportsFault IsDiagnostic name text r → ⊥
   no_fault name text m r h k = ok_or_err m (k.0, k.1) (Ok m) (Err (k.0, k.1)) refl refl (laws.texts text (Ok m) (Err (k.0, k.1)) h k.2)
 
-  no_first : (names texts : List (List ℕ)) (ms : List Object) (r : Reply) → AreModules texts ms → TellsFirst IsNote names texts r → ⊥
+  no_first : (names texts : List (List ℕ)) (ms : List Object) (r : Response) → AreModules texts ms → ReportsFirst IsDiagnostic names texts r → ⊥
   no_first [] texts ms r h k = absurd k
   no_first (name ∷ names) [] ms r h k = absurd k
   no_first (name ∷ names) (t ∷ ts) [] r h k = absurd h
   no_first (name ∷ names) (t ∷ ts) (m ∷ ms) r h (inl k) = no_fault name t m r h.0 k
   no_first (name ∷ names) (t ∷ ts) (m ∷ ms) r h (inr k) = no_first names ts ms r h.1 k.1
 
-  first_once : (names texts : List (List ℕ)) → AreOne (TellsFirst IsNote names texts)
+  first_once : (names texts : List (List ℕ)) → AreOne (ReportsFirst IsDiagnostic names texts)
   first_once [] texts r s h k = absurd h
   first_once (name ∷ names) [] r s h k = absurd h
   first_once (name ∷ names) (t ∷ ts) r s (inl h) (inl k) = fault_once name t r s h k
@@ -271,78 +271,78 @@ module _
   first_once (name ∷ names) (t ∷ ts) r s (inr h) (inr k) = first_once names ts r s h.1 k.1
 
   -- what goes on with the module of a source, and with those of sources
-  source_once : (name text : List ℕ) (may : Object → Reply → Type 0) → ((m : Object) → IsOne (may m)) → AreOne (λ r. (x : Result Object Reply) × SourceIs IsNote name text x × Then x may r)
+  source_once : (name text : List ℕ) (may : Object → Response → Type 0) → ((m : Object) → IsOne (may m)) → AreOne (λ r. (x : Result Object Response) × SourceIs IsDiagnostic name text x × Then x may r)
   source_once name text may one r s (Ok m, made, h) (Ok n, other, k) = equal r s (one m r s h (subst (λ (o : Object). may o s) (one_module laws.texts text n m other made) k))
-  source_once name text may one r s (Ok m, made, h) (Err e, told, k) = absurd (no_fault name text m e made told)
-  source_once name text may one r s (Err d, told, h) (Ok n, made, k) = absurd (no_fault name text n d made told)
-  source_once name text may one r s (Err d, told, h) (Err e, other, k) = moved d e r s h k (fault_once name text d e told other)
+  source_once name text may one r s (Ok m, made, h) (Err e, reported, k) = absurd (no_fault name text m e made reported)
+  source_once name text may one r s (Err d, reported, h) (Ok n, made, k) = absurd (no_fault name text n d made reported)
+  source_once name text may one r s (Err d, reported, h) (Err e, other, k) = moved d e r s h k (fault_once name text d e reported other)
 
-  sources_once : (names texts : List (List ℕ)) (may : List Object → Reply → Type 0) → ((ms : List Object) → IsOne (may ms)) → AreOne (λ r. (x : Result (List Object) Reply) × SourcesAre IsNote names texts x × Then x may r)
+  sources_once : (names texts : List (List ℕ)) (may : List Object → Response → Type 0) → ((ms : List Object) → IsOne (may ms)) → AreOne (λ r. (x : Result (List Object) Response) × SourcesAre IsDiagnostic names texts x × Then x may r)
   sources_once names texts may one r s (Ok ms, made, h) (Ok ns, other, k) = equal r s (one ms r s h (subst (λ (os : List Object). may os s) (one_modules laws.texts texts ns ms other made) k))
-  sources_once names texts may one r s (Ok ms, made, h) (Err e, told, k) = absurd (no_first names texts ms e made told)
-  sources_once names texts may one r s (Err d, told, h) (Ok ns, made, k) = absurd (no_first names texts ns d made told)
-  sources_once names texts may one r s (Err d, told, h) (Err e, other, k) = moved d e r s h k (first_once names texts d e told other)
+  sources_once names texts may one r s (Ok ms, made, h) (Err e, reported, k) = absurd (no_first names texts ms e made reported)
+  sources_once names texts may one r s (Err d, reported, h) (Ok ns, made, k) = absurd (no_first names texts ns d made reported)
+  sources_once names texts may one r s (Err d, reported, h) (Err e, other, k) = moved d e r s h k (first_once names texts d e reported other)
 
-  told_sources : (names : List (List ℕ)) (given : GivenFiles) (ranges : Ranges) (texts : List (List ℕ)) (tell : Driving → List ℕ → Reply) → AreOne (SourcesTold IsNote names given ranges texts tell)
-  told_sources names given ranges texts tell =
-      sources_once names texts (Placing names ranges (Driven given (LinkedTold texts) tell)) (one_placing names ranges (Driven given (LinkedTold texts) tell) (one_driven laws.images texts given tell))
+  reported_sources : (names : List (List ℕ)) (given : GivenFiles) (ranges : Ranges) (texts : List (List ℕ)) (report : Driving → List ℕ → Response) → AreOne (SourcesReported IsDiagnostic names given ranges texts report)
+  reported_sources names given ranges texts report =
+      sources_once names texts (Placing names ranges (Driven given (LinkedReported texts) report)) (one_placing names ranges (Driven given (LinkedReported texts) report) (one_driven laws.images texts given report))
 
-  told_lines : (names : List (List ℕ)) (given : GivenFiles) (ranges : Ranges) (texts : List (List ℕ)) (tell : List MapEntry → Driving → List ℕ → Reply) → AreOne (LinesTold IsNote names given ranges texts tell)
-  told_lines names given ranges texts tell =
-      sources_once names texts (Placing names ranges (DrivenWithLines given (LinkedWithLines texts) tell))
-      (one_placing names ranges (DrivenWithLines given (LinkedWithLines texts) tell) (one_driven_lines laws.images laws.maps texts given tell))
+  reported_lines : (names : List (List ℕ)) (given : GivenFiles) (ranges : Ranges) (texts : List (List ℕ)) (report : List MapEntry → Driving → List ℕ → Response) → AreOne (LinesReported IsDiagnostic names given ranges texts report)
+  reported_lines names given ranges texts report =
+      sources_once names texts (Placing names ranges (DrivenWithLines given (LinkedWithLines texts) report))
+      (one_placing names ranges (DrivenWithLines given (LinkedWithLines texts) report) (one_driven_lines laws.images laws.maps texts given report))
 
-  assembled : (file out : List ℕ) (list : Option (List ℕ)) (texts : List (List ℕ)) → AreOne (OneText (AssembleAnswer IsNote file out list) texts)
+  assembled : (file out : List ℕ) (list : Option (List ℕ)) (texts : List (List ℕ)) → AreOne (OneText (AssembleAnswer IsDiagnostic file out list) texts)
   assembled file out list [] r s h k = absurd h
   assembled file out list (t ∷ []) r s h k = source_once file t (WritesObject out list t) (one_object laws out list t) r s h k
   assembled file out list (t ∷ u ∷ texts) r s h k = absurd h
 
-  answers : (command : Option Command) (contents : List (Option (List ℕ))) → AreOne (CommandAnswer IsNote command contents)
+  answers : (command : Option Command) (contents : List (Option (List ℕ))) → AreOne (CommandAnswer IsDiagnostic command contents)
   answers None contents r s h k = equal r s (h ∙ sym k)
   answers (Some Helps) contents r s h k = equal r s (h ∙ sym k)
   answers (Some (HelpsOn verb)) contents r s h k = equal r s (h ∙ sym k)
-  answers (Some TellsVersion) contents r s h k = equal r s (h ∙ sym k)
+  answers (Some ReportsVersion) contents r s h k = equal r s (h ∙ sym k)
   answers (Some (Runs files inputs extent ranges)) contents r s h k =
-      then_one (reads_of (files ++ names_of inputs) contents) (Parted (length files) (RunAnswer IsNote files inputs extent ranges))
-      (λ texts. told_sources files (given_for inputs (drop (length files) texts)) ranges (take (length files) texts) (board_reply extent)) r s h k
+      then_one (reads_of (files ++ names_of inputs) contents) (Parted (length files) (RunAnswer IsDiagnostic files inputs extent ranges))
+      (λ texts. reported_sources files (given_for inputs (drop (length files) texts)) ranges (take (length files) texts) (board_response extent)) r s h k
   answers (Some (Profiles files inputs states ranges out)) contents r s h k =
-      then_one (reads_of (files ++ names_of inputs) contents) (Parted (length files) (ProfileAnswer IsNote files inputs states ranges out))
-      (λ texts. told_lines files (given_for inputs (drop (length files) texts)) ranges (take (length files) texts) (profile_reply states out)) r s h k
+      then_one (reads_of (files ++ names_of inputs) contents) (Parted (length files) (ProfileAnswer IsDiagnostic files inputs states ranges out))
+      (λ texts. reported_lines files (given_for inputs (drop (length files) texts)) ranges (take (length files) texts) (profile_response states out)) r s h k
   answers (Some (ProfilesHex file inputs states out)) contents r s h k = equal r s
       (one_then (reads_of (file ∷ names_of inputs) contents) (Parted 1 (λ texts more. OneText (λ text. ProfileHexAnswer file inputs states out text more) texts))
       (λ texts. one_text (λ text. ProfileHexAnswer file inputs states out text (drop 1 texts))
-      (λ text. one_hex laws file (given_for inputs (drop 1 texts)) text (profile_reply states out [])) (take 1 texts)) r s h k)
-  answers (Some (Assembles file out list)) contents r s h k = then_one (reads_of (file ∷ []) contents) (OneText (AssembleAnswer IsNote file out list)) (assembled file out list) r s h k
+      (λ text. one_hex laws file (given_for inputs (drop 1 texts)) text (profile_response states out [])) (take 1 texts)) r s h k)
+  answers (Some (Assembles file out list)) contents r s h k = then_one (reads_of (file ∷ []) contents) (OneText (AssembleAnswer IsDiagnostic file out list)) (assembled file out list) r s h k
   answers (Some (Packs files out)) contents r s h k = equal r s
       (one_then (reads_of files contents) (PackAnswer files out)
-      (λ texts. one_then (modules_of object_of files texts) (λ ms reply. reply ≡ packed files out ms (doubled ms)) (λ ms. one_told (packed files out ms (doubled ms)))) r s h k)
+      (λ texts. one_then (modules_of object_of files texts) (λ ms response. response ≡ packed files out ms (doubled ms)) (λ ms. one_reported (packed files out ms (doubled ms)))) r s h k)
   answers (Some (Links files inputs out beside ranges)) contents r s h k = equal r s
       (one_then (reads_of (files ++ names_of inputs) contents) (Parted (length files) (LinkAnswer files inputs out beside ranges))
       (λ texts. one_link laws files inputs out beside ranges (take (length files) texts) (drop (length files) texts)) r s h k)
   answers (Some (RunsHex file inputs extent)) contents r s h k = equal r s
       (one_then (reads_of (file ∷ names_of inputs) contents) (Parted 1 (λ texts more. OneText (λ text. RunHexAnswer file inputs extent text more) texts))
       (λ texts. one_text (λ text. RunHexAnswer file inputs extent text (drop 1 texts))
-      (λ text. one_hex laws file (given_for inputs (drop 1 texts)) text (board_reply extent)) (take 1 texts)) r s h k)
+      (λ text. one_hex laws file (given_for inputs (drop 1 texts)) text (board_response extent)) (take 1 texts)) r s h k)
   answers (Some (Lists file first last)) contents r s h k = equal r s
       (one_then (reads_of (file ∷ []) contents) (OneText (ListAnswer file first last))
-      (one_text (ListAnswer file first last) (λ text. one_then (hex_of file text) (ListingOf first last) (λ image. one_told (says status.Done (listing image first last))))) r s h k)
+      (one_text (ListAnswer file first last) (λ text. one_then (hex_of file text) (ListingOf first last) (λ image. one_reported (says status.Done (listing image first last))))) r s h k)
   answers (Some (Debugs file script inputs)) contents r s h k = equal r s
       (one_then (reads_of (file ∷ script ∷ names_of inputs) contents) (Parted 2 (λ texts more. TwoTexts (λ text commands. DebugAnswer file script inputs text commands more) texts))
       (λ texts. one_two (λ text commands. DebugAnswer file script inputs text commands (drop 2 texts))
-      (λ text commands. one_hex laws file (given_for inputs (drop 2 texts)) text (debug_reply (script, commands) (input_for role.Lines inputs (drop 2 texts)))) (take 2 texts)) r s h k)
-  answers (Some (Generates number)) contents r s h k = told_sources made_names (made_given number) (placing_of []) (made_texts number) (summary_of number) r s h k
+      (λ text commands. one_hex laws file (given_for inputs (drop 2 texts)) text (debug_response (script, commands) (input_for role.Lines inputs (drop 2 texts)))) (take 2 texts)) r s h k)
+  answers (Some (Generates number)) contents r s h k = reported_sources made_names (made_given number) (placing_of []) (made_texts number) (summary_of number) r s h k
   answers (Some (Dumps file out clock)) contents r s h k = equal r s (one_then (reads_of (file ∷ []) contents) (OneText (DumpAnswer file out clock)) (one_text (DumpAnswer file out clock) (one_dump laws file out clock)) r s h k)
   answers (Some (Explains code)) contents r s h k = equal r s (h ∙ sym k)
 
 -- ---- the whole
 
 pub one_answer : Laws → OneAnswer
-one_answer laws = answers AnyNote (λ r s. silent r ≡ silent s) (λ r. refl) (λ name text line code n m h k. refl) laws
+one_answer laws = answers AnyDiagnostic (λ r s. silent r ≡ silent s) (λ r. refl) (λ name text line code n m h k. refl) laws
 
-one_fault_note : OneCause → (name text : List ℕ) (line code : ℕ) (n m : List ℕ) → IsFaultNote name text line code n → IsFaultNote name text line code m → source_reply name line code n ≡ source_reply name line code m
-one_fault_note law name text line code n m h k =
-    let lead = source_note name text line (coded (codes "E") code) code (subject_of text line code) in
-    ap (source_reply name line code) (h.2 ∙ (ap (λ (c : Option ℕ). lead ++ body_note name text c) (law text line code h.0 k.0 h.1 k.1) ∙ sym k.2))
+one_fault_diagnostic : OneOrigin → (name text : List ℕ) (line code : ℕ) (n m : List ℕ) → IsFaultDiagnostic name text line code n → IsFaultDiagnostic name text line code m → source_response name line code n ≡ source_response name line code m
+one_fault_diagnostic law name text line code n m h k =
+    let lead = source_diagnostic name text line (coded (codes "E") code) code (symbol_of text line code) in
+    ap (source_response name line code) (h.2 ∙ (ap (λ (c : Option ℕ). lead ++ body_diagnostic name text c) (law text line code h.0 k.0 h.1 k.1) ∙ sym k.2))
 
-pub one_note : Laws → OneCause → OneNote
-one_note laws law = answers IsFaultNote (λ r s. r ≡ s) (λ r. refl) (one_fault_note law) laws
+pub one_diagnostic : Laws → OneOrigin → OneDiagnostic
+one_diagnostic laws law = answers IsFaultDiagnostic (λ r s. r ≡ s) (λ r. refl) (one_fault_diagnostic law) laws

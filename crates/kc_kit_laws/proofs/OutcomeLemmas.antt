@@ -3,29 +3,29 @@ use Rattle.std.proofs.Common.{◌≡◌, ◌≢◌, ◌⊎◌, inl, inr, ℕ, ze
 use Rattle.kc_base.specs.Held.{Holding}
 use Rattle.kc_base.specs.Causes.{Rose, Grew}
 use Rattle.kc_kit_files.specs.declared.status.Status.{Status}
-use Rattle.kc_kit_files.specs.Reply.{Reply, Write}
+use Rattle.kc_kit_files.specs.Response.{Response, Write}
 use Rattle.kc_kit_files.specs.Reads.{FailedRead}
 use Rattle.kc_kit_files.specs.Outside.{Kept, Shown, WroteOne, Wrote, IsGiven}
-use Rattle.kc_kit_files.proofs.ReplyLemmas.{given-of}
+use Rattle.kc_kit_files.proofs.ResponseLemmas.{given-of}
 use Rattle.kc_kit_words.specs.Commands.{Command, names_read}
-use Rattle.kc_kit_inputs.specs.Sources.{AnyNote}
+use Rattle.kc_kit_inputs.specs.Sources.{AnyDiagnostic}
 use Rattle.kc_kit_answer.specs.Answer.{CommandAnswer, MayAnswer}
 use Rattle.kc_kit_laws.specs.OneAnswer.{silent, OneAnswer, IsCall, HoldSame, OneOutcome}
 
 -- ---- replies
 
-failed_rose : (names : List (List ℕ)) (contents : List (Option (List ℕ))) (rose : Type 0) (r : Reply) → FailedRead names contents rose r → rose
+failed_rose : (names : List (List ℕ)) (contents : List (Option (List ℕ))) (rose : Type 0) (r : Response) → FailedRead names contents rose r → rose
 failed_rose [] contents rose r h = absurd h
 failed_rose (n ∷ names) [] rose r h = absurd h
 failed_rose (n ∷ names) (c ∷ contents) rose r (inl h) = h.0
 failed_rose (n ∷ names) (c ∷ contents) rose r (inr h) = failed_rose names contents rose r h.1
 
 -- with no failed read, a reply is that of the command over what the files hold
-answered : (command : Option Command) (held : Holding) (rose : Type 0) (r : Reply) → ¬ rose → MayAnswer AnyNote command (Some held) rose r → CommandAnswer AnyNote command (map held (names_read command)) r
+answered : (command : Option Command) (held : Holding) (rose : Type 0) (r : Response) → ¬ rose → MayAnswer AnyDiagnostic command (Some held) rose r → CommandAnswer AnyDiagnostic command (map held (names_read command)) r
 answered command held rose r well h = by h.2
   where
-    by : CommandAnswer AnyNote command h.0 r ⊎ FailedRead (names_read command) h.0 rose r → CommandAnswer AnyNote command (map held (names_read command)) r
-    by (inl a) = subst (λ (contents : List (Option (List ℕ))). CommandAnswer AnyNote command contents r) h.1 a
+    by : CommandAnswer AnyDiagnostic command h.0 r ⊎ FailedRead (names_read command) h.0 rose r → CommandAnswer AnyDiagnostic command (map held (names_read command)) r
+    by (inl a) = subst (λ (contents : List (Option (List ℕ))). CommandAnswer AnyDiagnostic command contents r) h.1 a
     by (inr f) = absurd (well (failed_rose (names_read command) h.0 rose r f))
 
 -- ---- what is printed
@@ -82,26 +82,26 @@ hold_same held x y e f = subst (λ (z : Option Holding). HoldSame z y) (sym e) (
 -- ---- the whole
 
 given_of : (command : Option Command) (held : Holding) (given : List ℕ) (s : Status) (files : Kept) (sink : Shown) (h : IsCall command held given s files sink)
-    → IsGiven (MayAnswer AnyNote command (Some held) (Rose h.reads.0 h.reads.1)) s h.old h.before files sink
-given_of command held given s files sink h = given-of (MayAnswer AnyNote command (Some held) (Rose h.reads.0 h.reads.1)) s h.old h.before files sink h.write h.memory h.answered
+    → IsGiven (MayAnswer AnyDiagnostic command (Some held) (Rose h.reads.0 h.reads.1)) s h.old h.before files sink
+given_of command held given s files sink h = given-of (MayAnswer AnyDiagnostic command (Some held) (Rose h.reads.0 h.reads.1)) s h.old h.before files sink h.write h.memory h.answered
 
 pub one_outcome : OneAnswer → OneOutcome
 one_outcome law command held given s t files others sink other h k = record {
-  status = a.status ∙ (ap (λ (r : Reply). r.status) same ∙ sym b.status);
-  written = grew h.before.written given a.reply.text sink.written h.shows a.text
-      ∙ (ap (λ (r : Reply). Some (given ++ r.text)) same ∙ sym (grew k.before.written given b.reply.text other.written k.shows b.text));
-  held = same_wrote b.reply.writes h.old k.old files others (hold_same held h.old.held k.old.held h.holds k.holds)
-      (subst (λ (r : Reply). Wrote h.old r.writes files) same a.files) b.files;
+  status = a.status ∙ (ap (λ (r : Response). r.status) same ∙ sym b.status);
+  written = grew h.before.written given a.response.text sink.written h.shows a.text
+      ∙ (ap (λ (r : Response). Some (given ++ r.text)) same ∙ sym (grew k.before.written given b.response.text other.written k.shows b.text));
+  held = same_wrote b.response.writes h.old k.old files others (hold_same held h.old.held k.old.held h.holds k.holds)
+      (subst (λ (r : Response). Wrote h.old r.writes files) same a.files) b.files;
 }
   where
-    a : IsGiven (MayAnswer AnyNote command (Some held) (Rose h.reads.0 h.reads.1)) s h.old h.before files sink
+    a : IsGiven (MayAnswer AnyDiagnostic command (Some held) (Rose h.reads.0 h.reads.1)) s h.old h.before files sink
     a = given_of command held given s files sink h
 
-    b : IsGiven (MayAnswer AnyNote command (Some held) (Rose k.reads.0 k.reads.1)) t k.old k.before others other
+    b : IsGiven (MayAnswer AnyDiagnostic command (Some held) (Rose k.reads.0 k.reads.1)) t k.old k.before others other
     b = given_of command held given t others other k
 
-    same : silent a.reply ≡ silent b.reply
+    same : silent a.response ≡ silent b.response
     same =
-        law command (map held (names_read command)) a.reply b.reply
-        (answered command held (Rose h.reads.0 h.reads.1) a.reply h.well_read a.is_answer)
-        (answered command held (Rose k.reads.0 k.reads.1) b.reply k.well_read b.is_answer)
+        law command (map held (names_read command)) a.response b.response
+        (answered command held (Rose h.reads.0 h.reads.1) a.response h.well_read a.is_answer)
+        (answered command held (Rose k.reads.0 k.reads.1) b.response k.well_read b.is_answer)

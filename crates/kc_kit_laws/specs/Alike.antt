@@ -5,14 +5,14 @@ use Rattle.std.specs.List.{list_all}
 use Rattle.kc_obj_module.specs.Object.{Object}
 use Rattle.kc_obj_module.specs.Spelling.{spelling}
 use Rattle.kc_link_place.specs.declared.ranges.Ranges.{Ranges}
-use Rattle.kc_kit_files.specs.Reply.{Reply, write, done_writing}
+use Rattle.kc_kit_files.specs.Response.{Response, write, done_writing}
 use Rattle.kc_kit_words.specs.declared.extent.Extent.{Extent}
 use Rattle.kc_kit_words.specs.declared.inputs.Role.{Role}
 use Rattle.kc_kit_words.specs.Commands.{Beside}
 use Rattle.kc_kit_answer.specs.Hex.{RunHexAnswer}
 use Rattle.kc_kit_answer.specs.Link.{LinkAnswer}
 use Rattle.kc_kit_answer.specs.Run.{RunAnswer}
-use Rattle.kc_kit_inputs.specs.FaultNotes.{IsFaultNote}
+use Rattle.kc_kit_inputs.specs.FaultDiagnostics.{IsFaultDiagnostic}
 use Rattle.kc_kit_inputs.specs.Sources.{AreModules}
 
 -- no file is asked for beside the hex file
@@ -22,8 +22,8 @@ hex_alone = record { lines = None; map = None }
 -- where each text has fewer than 2^32 bytes: an object counts lines in 32 bits
 abbrev pub RunsAlike : Type 0
 RunsAlike =
-    (names objects texts : List (List ℕ)) (ms : List Object) (inputs : List (Role × List ℕ)) (input_texts : List (List ℕ)) (ranges : Ranges) (extent : Extent) (file hex : List ℕ) (reply : Reply)
+    (names objects texts : List (List ℕ)) (ms : List Object) (inputs : List (Role × List ℕ)) (input_texts : List (List ℕ)) (ranges : Ranges) (extent : Extent) (file hex : List ℕ) (response : Response)
     → AreModules texts ms → list_all (λ t. nat_lt (length t) (2 ^ 32)) texts ≡ true → length objects ≡ length ms
     → LinkAnswer objects [] file hex_alone ranges (map spelling ms) [] (done_writing (write file hex ∷ []))
-    → RunHexAnswer file inputs extent hex input_texts reply
-    → RunAnswer IsFaultNote names inputs extent ranges texts input_texts reply
+    → RunHexAnswer file inputs extent hex input_texts response
+    → RunAnswer IsFaultDiagnostic names inputs extent ranges texts input_texts response

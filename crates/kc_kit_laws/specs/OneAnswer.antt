@@ -5,28 +5,28 @@ use Rattle.kc_base.specs.Causes.{Rose}
 use Rattle.kc_base.specs.Held.{Holding}
 use Rattle.kc_kit_files.specs.declared.status.Status.{Status}
 use Rattle.kc_kit_files.specs.declared.status.Status.TheVariants.{NoMemory, WriteFault}
-use Rattle.kc_kit_files.specs.Reply.{Reply}
-use Rattle.kc_kit_files.specs.Outside.{Kept, Shown, Replies}
+use Rattle.kc_kit_files.specs.Response.{Response}
+use Rattle.kc_kit_files.specs.Outside.{Kept, Shown, Responses}
 use Rattle.kc_kit_words.specs.Commands.{Command}
-use Rattle.kc_kit_inputs.specs.FaultNotes.{IsFaultNote}
-use Rattle.kc_kit_inputs.specs.Sources.{AnyNote}
+use Rattle.kc_kit_inputs.specs.FaultDiagnostics.{IsFaultDiagnostic}
+use Rattle.kc_kit_inputs.specs.Sources.{AnyDiagnostic}
 use Rattle.kc_kit_answer.specs.Answer.{CommandAnswer, MayAnswer}
 
 -- what a reply does, without what is said of it in words
-abbrev pub silent : Reply → Reply
-silent reply = record { status = reply.status; text = reply.text; pauses = reply.pauses; writes = reply.writes; note = [] }
+abbrev pub silent : Response → Response
+silent response = record { status = response.status; text = response.text; pauses = response.pauses; writes = response.writes; diagnostic = [] }
 
 -- two replies to a command over the same contents of the files that it reads do the same, whatever is said of a fault of a source
 abbrev pub OneAnswer : Type 0
 OneAnswer =
-    (command : Option Command) (contents : List (Option (List ℕ))) (reply other : Reply)
-    → CommandAnswer AnyNote command contents reply → CommandAnswer AnyNote command contents other → silent reply ≡ silent other
+    (command : Option Command) (contents : List (Option (List ℕ))) (response other : Response)
+    → CommandAnswer AnyDiagnostic command contents response → CommandAnswer AnyDiagnostic command contents other → silent response ≡ silent other
 
 -- and with the notes of such faults they are the same
-abbrev pub OneNote : Type 0
-OneNote =
-    (command : Option Command) (contents : List (Option (List ℕ))) (reply other : Reply)
-    → CommandAnswer IsFaultNote command contents reply → CommandAnswer IsFaultNote command contents other → reply ≡ other
+abbrev pub OneDiagnostic : Type 0
+OneDiagnostic =
+    (command : Option Command) (contents : List (Option (List ℕ))) (response other : Response)
+    → CommandAnswer IsFaultDiagnostic command contents response → CommandAnswer IsFaultDiagnostic command contents other → response ≡ other
 
 -- ---- calls
 
@@ -41,7 +41,7 @@ pub record IsCall (command : Option Command) (held : Holding) (given : List ℕ)
   pub holds : old.held ≡ Some held
   pub before : Shown
   pub shows : before.written ≡ Some given
-  pub answered : Replies (MayAnswer AnyNote command (Some held) (Rose reads.0 reads.1)) old before s files sink
+  pub answered : Responses (MayAnswer AnyDiagnostic command (Some held) (Rose reads.0 reads.1)) old before s files sink
 
 -- files tell that each name holds the same
 abbrev pub HoldSame : Option Holding → Option Holding → Type 0

@@ -3,9 +3,9 @@ use Rattle.std.specs.Prelude.{◌≡◌, ◌≢◌, ◌⊎◌, ℕ, List, [], �
 use Rattle.std.specs.Option.{option_to_list}
 use Rattle.kc_kit_files.specs.declared.status.Status.TheVariants as status
 use Rattle.kc_kit_files.specs.Reads.{read_of}
-use Rattle.kc_kit_files.specs.Reply.{Reply, Write}
+use Rattle.kc_kit_files.specs.Response.{Response, Write}
 use Rattle.kc_kit_words.specs.Commands.{Command, Assembles, Packs, Links}
-use Rattle.kc_kit_inputs.specs.Sources.{AnyNote}
+use Rattle.kc_kit_inputs.specs.Sources.{AnyDiagnostic}
 use Rattle.kc_kit_answer.specs.Answer.{CommandAnswer}
 
 -- the files that a command writes for commands to read: an object, a library, a hex file and a line map. Those behind them, and
@@ -22,13 +22,13 @@ AreReadAgain [] = Unit {0}
 AreReadAgain (w ∷ ws) = (read_of w.name (Some w.bytes) ≡ Ok w.bytes) × AreReadAgain ws
 
 -- first files of these names are written, which are read again; or no file, and the status is not that of what is done
-abbrev pub IsReadable : List (List ℕ) → Reply → Type 0
-IsReadable names reply =
-    ((readable others : List Write) × (reply.writes ≡ readable ++ others) × (map (λ w. w.name) readable ≡ names) × AreReadAgain readable)
-    ⊎ ((reply.status ≢ status.Done) × (reply.writes ≡ []))
+abbrev pub IsReadable : List (List ℕ) → Response → Type 0
+IsReadable names response =
+    ((readable others : List Write) × (response.writes ≡ readable ++ others) × (map (λ w. w.name) readable ≡ names) × AreReadAgain readable)
+    ⊎ ((response.status ≢ status.Done) × (response.writes ≡ []))
 
 -- whatever is answered to a command, over what the files hold
 abbrev pub WrittenIsReadable : Type 0
 WrittenIsReadable =
-    (command : Option Command) (contents : List (Option (List ℕ))) (reply : Reply)
-    → CommandAnswer AnyNote command contents reply → IsReadable (names_for_commands command) reply
+    (command : Option Command) (contents : List (Option (List ℕ))) (response : Response)
+    → CommandAnswer AnyDiagnostic command contents response → IsReadable (names_for_commands command) response

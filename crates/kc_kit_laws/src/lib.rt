@@ -2,11 +2,11 @@
 #![tactic(auto)]
 
 ghost use Rattle.kc_kit_laws.specs.Alike.{RunsAlike};
-ghost use Rattle.kc_kit_laws.specs.OneAnswer.{OneAnswer, OneNote, OneOutcome};
+ghost use Rattle.kc_kit_laws.specs.OneAnswer.{OneAnswer, OneDiagnostic, OneOutcome};
 ghost use Rattle.kc_kit_laws.specs.Readable.{WrittenIsReadable};
 ghost use Rattle.kc_kit_laws.specs.StartLevels.{StartLevelsAgree};
 
-use kc_asm_cause_laws::one_cause;
+use kc_asm_cause_laws::one_origin;
 use kc_asm_earlier_laws::sources_are_read_well;
 use kc_asm_laws::{filled_are_bytes, modules_fit, one_answer_of_text};
 use kc_asm_list_laws::one_listing;
@@ -44,8 +44,8 @@ pub fn one_answer()
 }
 
 /// A command has one note too: what may be replied with what is said of a fault of a source is the same with the same note.
-pub fn one_note()
-    ensures { OneNote }
+pub fn one_diagnostic()
+    ensures { OneDiagnostic }
 {
     one_answer_of_text();
     one_image();
@@ -53,7 +53,7 @@ pub fn one_note()
     taken_once();
     one_reading();
     one_listing();
-    one_cause();
+    one_origin();
 }
 
 /// What a command writes for commands to read, an object, a library, a hex file or a line map, is not too long for them.

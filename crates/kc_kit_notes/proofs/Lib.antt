@@ -1,2 +1,2 @@
-pub mod NoteLemmas
+pub mod DiagnosticLemmas
 pub mod Words

@@ -1,5 +1,5 @@
-pub mod Notes
+pub mod Diagnostics
 pub mod Origins
-pub mod RuleNotes
+pub mod RuleDiagnostics
 pub mod Rules
 pub mod Subjects

@@ -3,7 +3,7 @@
 use Rattle.std.specs.Prelude.{ℕ, ◌==◌, List, [], ◌++◌, codes, Option, Some, None, if◌then◌else◌}
 use Rattle.kc_explain.specs.Meanings.{sentence_of}
 use Rattle.kc_kit_shown.specs.Shown.{shown}
-use Rattle.kc_kit_notes.specs.Notes.{number_text, error_saying, line_at, line_shown}
+use Rattle.kc_kit_notes.specs.Diagnostics.{number_text, error_saying, line_at, line_shown}
 
 -- the words before a name and behind it, by the number of the code
 abbrev pub around : ℕ → Option (List ℕ × List ℕ)
@@ -23,14 +23,14 @@ abbrev pub sentence_about : List ℕ → ℕ → Option (List ℕ) → List ℕ
 sentence_about code number (Some name) = sentence_round code (around number) name
 sentence_about code number None = sentence_of code
 
-abbrev pub source_note : List ℕ → List ℕ → ℕ → List ℕ → ℕ → Option (List ℕ) → List ℕ
-source_note name text line code number subject =
+abbrev pub source_diagnostic : List ℕ → List ℕ → ℕ → List ℕ → ℕ → Option (List ℕ) → List ℕ
+source_diagnostic name text line code number subject =
     shown name ++ number_text line ++ error_saying code [] (sentence_about code number subject) ++ line_shown (line_at text line)
 
 -- behind it the line of a macro's body in which the fault was written, where one is known
 abbrev pub body_place : List ℕ → ℕ → List ℕ
 body_place name line = shown name ++ number_text line ++ codes ": note: it was written here\n"
 
-abbrev pub body_note : List ℕ → List ℕ → Option ℕ → List ℕ
-body_note name text (Some line) = body_place name line ++ line_shown (line_at text line)
-body_note name text None = []
+abbrev pub body_diagnostic : List ℕ → List ℕ → Option ℕ → List ℕ
+body_diagnostic name text (Some line) = body_place name line ++ line_shown (line_at text line)
+body_diagnostic name text None = []

@@ -4,7 +4,7 @@ ghost use Rattle.std.specs.List.{list_any};
 ghost use Rattle.kc_lib.specs.Names.{takes, gives};
 ghost use Rattle.kc_kit_notes.specs.Origins.{words_of};
 ghost use Rattle.kc_kit_notes.specs.Rules.{file_at};
-ghost use Rattle.kc_kit_notes.specs.RuleNotes.{stands_at, concerns, files_from, in_files};
+ghost use Rattle.kc_kit_notes.specs.RuleDiagnostics.{stands_at, concerns, files_from, in_files};
 
 use crate::origins::{Origins, file_at};
 use kc_base::NoMemory;

@@ -1,13 +1,13 @@
 // The lines of broken rules of the linker.
 ghost use Rattle.std.specs.Prelude.{◌≡◌, ◌<◌, ◌++◌, codes, decimal, IfOk, IsErr};
 ghost use Rattle.kc_kit_files.specs.declared.status.Status.TheVariants as status;
-ghost use Rattle.kc_kit_files.specs.Reply.{tells, IsRefused};
+ghost use Rattle.kc_kit_files.specs.Response.{reports, IsRefused};
 ghost use Rattle.kc_kit_notes.specs.Rules.{link_text, link_line};
-ghost use Rattle.kc_kit_notes.specs.RuleNotes.{link_note};
+ghost use Rattle.kc_kit_notes.specs.RuleDiagnostics.{link_diagnostic};
 ghost use Rattle.kc_kit_notes.specs.Origins.{words_of};
 
 use crate::origins::{Origins, file_at, joined};
-use crate::rule_notes::link_note;
+use crate::rule_diagnostics::link_diagnostic;
 use itoa::Buffer;
 use kc_base::NoMemory;
 use kc_kit_files::{Cause, Refusal, refusal_of};
@@ -86,14 +86,14 @@ pub fn link_refusal(
     modules: &[Module],
     fault: &LinkFault,
 ) -> Refusal
-    ensures line { IsRefused (λ reply. reply ≡ tells status.Link (link_line (words_of origins.now) fault.now) (link_note (words_of origins.now) modules.now fault.now)) result }
+    ensures line { IsRefused (λ response. response ≡ reports status.Link (link_line (words_of origins.now) fault.now) (link_diagnostic (words_of origins.now) modules.now fault.now)) result }
     ensures memory { fault.now ≡ LinkFault.NoMemory → result ≡ Refusal.NoMemory }
 {
     let Ok(text) = link_text(alloc, origins, fault) else {
         return Refusal::NoMemory;
     };
-    match link_note(alloc, origins, modules, fault) {
-        Ok(note) => refusal_of(alloc, Cause::Link, b"link ", &text, b"\n", note),
+    match link_diagnostic(alloc, origins, modules, fault) {
+        Ok(diagnostic) => refusal_of(alloc, Cause::Link, b"link ", &text, b"\n", diagnostic),
         Err(NoMemory) => Refusal::NoMemory,
     }
 }

@@ -1,10 +1,10 @@
 // What is said in words of the first fault of a source.
 ghost use Rattle.std.specs.Prelude.{◌≡◌, ◌++◌, [], IfOk, OnOk};
 ghost use Rattle.std.specs.Option.{option_map};
-ghost use Rattle.kc_kit_notes.specs.Notes.{error_saying};
-ghost use Rattle.kc_kit_notes.specs.Subjects.{around, sentence_round, sentence_about, source_note, body_place, body_note};
+ghost use Rattle.kc_kit_notes.specs.Diagnostics.{error_saying};
+ghost use Rattle.kc_kit_notes.specs.Subjects.{around, sentence_round, sentence_about, source_diagnostic, body_place, body_diagnostic};
 
-use crate::notes::{put_line, put_number};
+use crate::diagnostics::{put_line, put_number};
 use kc_base::NoMemory;
 use kc_explain::sentence;
 use kc_kit_shown::{put_shown, shown};
@@ -27,33 +27,33 @@ fn around(number: u8) -> Option<(&'static str, &'static str)>
 }
 
 // Puts the sentence of a code about this name.
-fn put_round(note: &mut Vec<u8>, code: &[u8], number: u8, name: &[u8]) -> Result<(), NoMemory>
-    ensures { OnOk result (note.new.items ≡ note.old.items ++ sentence_round code.now (around number) name.now) }
+fn put_round(diagnostic: &mut Vec<u8>, code: &[u8], number: u8, name: &[u8]) -> Result<(), NoMemory>
+    ensures { OnOk result (diagnostic.new.items ≡ diagnostic.old.items ++ sentence_round code.now (around number) name.now) }
 {
     match around(number) {
         Some((before, behind)) => {
-            note.extend_from_slice(before.as_bytes())?;
-            note.extend_from_slice(name)?;
-            note.extend_from_slice(behind.as_bytes())?;
+            diagnostic.extend_from_slice(before.as_bytes())?;
+            diagnostic.extend_from_slice(name)?;
+            diagnostic.extend_from_slice(behind.as_bytes())?;
         }
-        None => note.extend_from_slice(sentence(code).as_bytes())?,
+        None => diagnostic.extend_from_slice(sentence(code).as_bytes())?,
     }
     Ok(())
 }
 
 // Puts the sentence of a code, which may be about a name.
 fn put_sentence(
-    note: &mut Vec<u8>,
+    diagnostic: &mut Vec<u8>,
     code: &[u8],
     number: u8,
     subject: Option<&[u8]>,
 ) -> Result<(), NoMemory>
-    ensures { OnOk result (note.new.items ≡ note.old.items ++ sentence_about code.now number (option_map (λ n. n.now) subject.entry)) }
+    ensures { OnOk result (diagnostic.new.items ≡ diagnostic.old.items ++ sentence_about code.now number (option_map (λ n. n.now) subject.entry)) }
 {
     match subject {
-        Some(name) => put_round(note, code, number, name),
+        Some(name) => put_round(diagnostic, code, number, name),
         None => {
-            note.extend_from_slice(sentence(code).as_bytes())?;
+            diagnostic.extend_from_slice(sentence(code).as_bytes())?;
             Ok(())
         }
     }
@@ -61,24 +61,24 @@ fn put_sentence(
 
 // Puts a code behind a note, with its sentence.
 fn put_fault(
-    note: &mut Vec<u8>,
+    diagnostic: &mut Vec<u8>,
     code: &[u8],
     number: u8,
     subject: Option<&[u8]>,
 ) -> Result<(), NoMemory>
-    ensures { OnOk result (note.new.items ≡ note.old.items ++ error_saying code.now [] (sentence_about code.now number (option_map (λ n. n.now) subject.entry))) }
+    ensures { OnOk result (diagnostic.new.items ≡ diagnostic.old.items ++ error_saying code.now [] (sentence_about code.now number (option_map (λ n. n.now) subject.entry))) }
 {
-    note.extend_from_slice(b": error ")?;
-    note.extend_from_slice(code)?;
-    note.extend_from_slice(b": ")?;
-    put_sentence(note, code, number, subject)?;
-    note.push(b'\n')?;
+    diagnostic.extend_from_slice(b": error ")?;
+    diagnostic.extend_from_slice(code)?;
+    diagnostic.extend_from_slice(b": ")?;
+    put_sentence(diagnostic, code, number, subject)?;
+    diagnostic.push(b'\n')?;
     Ok(())
 }
 
 /// The note of the first fault of a source, at a line of its text: a code and its number, and the name that it is about, where it
 /// is about one.
-pub fn source_note(
+pub fn source_diagnostic(
     alloc: Global,
     name: &[u8],
     text: &[u8],
@@ -87,38 +87,38 @@ pub fn source_note(
     number: u8,
     subject: Option<&[u8]>,
 ) -> Result<Vec<u8>, NoMemory>
-    ensures { IfOk result (λ note. note.items ≡ source_note name.now text.now line code.now number (option_map (λ n. n.now) subject.entry)) }
+    ensures { IfOk result (λ diagnostic. diagnostic.items ≡ source_diagnostic name.now text.now line code.now number (option_map (λ n. n.now) subject.entry)) }
 {
-    let mut note = shown(alloc, name)?;
-    put_number(&mut note, line)?;
-    put_fault(&mut note, code, number, subject)?;
-    put_line(&mut note, text, line)?;
-    Ok(note)
+    let mut diagnostic = shown(alloc, name)?;
+    put_number(&mut diagnostic, line)?;
+    put_fault(&mut diagnostic, code, number, subject)?;
+    put_line(&mut diagnostic, text, line)?;
+    Ok(diagnostic)
 }
 
 // Puts where a line of a macro's body stands.
-fn put_place(note: &mut Vec<u8>, name: &[u8], line: u32) -> Result<(), NoMemory>
-    ensures { OnOk result (note.new.items ≡ note.old.items ++ body_place name.now line) }
+fn put_place(diagnostic: &mut Vec<u8>, name: &[u8], line: u32) -> Result<(), NoMemory>
+    ensures { OnOk result (diagnostic.new.items ≡ diagnostic.old.items ++ body_place name.now line) }
 {
-    put_shown(note, name)?;
-    put_number(note, line)?;
-    note.extend_from_slice(b": note: it was written here\n")?;
+    put_shown(diagnostic, name)?;
+    put_number(diagnostic, line)?;
+    diagnostic.extend_from_slice(b": note: it was written here\n")?;
     Ok(())
 }
 
 /// Puts behind a note the line of a macro's body that has the fault, where one has it.
 pub fn put_body_line(
-    note: &mut Vec<u8>,
+    diagnostic: &mut Vec<u8>,
     name: &[u8],
     text: &[u8],
     line: Option<u32>,
 ) -> Result<(), NoMemory>
-    ensures { OnOk result (note.new.items ≡ note.old.items ++ body_note name.now text.now line) }
+    ensures { OnOk result (diagnostic.new.items ≡ diagnostic.old.items ++ body_diagnostic name.now text.now line) }
 {
     match line {
         Some(line) => {
-            put_place(note, name, line)?;
-            put_line(note, text, line)?;
+            put_place(diagnostic, name, line)?;
+            put_line(diagnostic, text, line)?;
             Ok(())
         }
         None => Ok(()),

@@ -1,7 +1,7 @@
 // Pins, texts, files and sinks by examples that were worked by hand.
 use kc_base::{
-    FILE_LIMIT, FileFault, Files, HostFiles, HostNotes, HostOut, Image, MemFiles, MemSink,
-    PIN_COUNT, Pin, Sink, Text, after, first_line, front, put_all,
+    FILE_LIMIT, FileFault, Files, HostDiagnostics, HostFiles, HostOut, Image, MemFiles, MemSink,
+    PIN_COUNT, Pin, Sink, Text, after, first_line, prefix, put_all,
 };
 use std::alloc::{AllocError, Global};
 use std::io::ErrorKind;
@@ -45,7 +45,7 @@ fn pins_have_names(rt: HostRuntime) {
 }
 
 #[test]
-fn memory_files_hold_what_was_put_and_fail_when_told(rt: HostRuntime) -> Result<(), Fail> {
+fn memory_files_hold_what_was_put_and_fail_when_reported(rt: HostRuntime) -> Result<(), Fail> {
     let a = rt.alloc();
     let mut files = MemFiles::new(a, numbers(a, &[3])?, numbers(a, &[1])?);
     files.put(a, "a", b"one")?;
@@ -87,7 +87,7 @@ fn texts_have_lines(rt: HostRuntime) -> Result<(), Fail> {
     }
     let text = Text::of(a, b"abc")?;
     assert!(rt; text.as_slice() == b"abc".as_slice());
-    assert!(rt; front(b"abc", 2) == b"ab".as_slice());
+    assert!(rt; prefix(b"abc", 2) == b"ab".as_slice());
     assert!(rt; after(b"abc", 2) == b"c".as_slice());
     let again = Text::from_vec(text.into_vec()?);
     assert!(rt; again.as_slice() == b"abc".as_slice());
@@ -130,7 +130,7 @@ fn host_output_takes_bytes(rt: HostRuntime) {
     let mut out = HostOut::new(&rt);
     assert!(rt; put_all(&mut out, b"kc_base\n").is_ok());
     assert!(rt; !out.is_unread());
-    let mut notes = HostNotes::new(rt.alloc(), &rt);
-    assert!(rt; put_all(&mut notes, b"kc_base\n").is_ok());
-    notes.show();
+    let mut diagnostics = HostDiagnostics::new(rt.alloc(), &rt);
+    assert!(rt; put_all(&mut diagnostics, b"kc_base\n").is_ok());
+    diagnostics.show();
 }

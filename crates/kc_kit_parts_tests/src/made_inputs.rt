@@ -1,7 +1,7 @@
 // Expected values are those of a model in another language, which made the texts from the words of the format.
 ghost use Rattle.std.specs.Prelude.{◌<◌};
 
-use kc_base::{after, first_line, front};
+use kc_base::{after, first_line, prefix};
 use kc_gen::{program, stimuli};
 use std::alloc::Global;
 use std::test::Fail;
@@ -31,7 +31,7 @@ fn line_of(text: &[u8], number: u32) -> Option<&[u8]> {
         return None;
     }
     let (len, _) = first_line(rest);
-    Some(front(rest, len))
+    Some(prefix(rest, len))
 }
 
 fn part_of(alloc: Global, number: u16, part: u8) -> Result<Vec<u8>, Fail>

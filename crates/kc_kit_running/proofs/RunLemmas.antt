@@ -19,24 +19,24 @@ use Rattle.kc_trace.specs.declared.trace.Counts.{Counts}
 use Rattle.kc_trace.specs.Counting.{counted_all}
 use Rattle.kc_trace.specs.Text.{line_of}
 use Rattle.kc_machine_spec.specs.Text.{end_state, end_number}
-use Rattle.kc_kit_files.specs.Reply.{says}
+use Rattle.kc_kit_files.specs.Response.{says}
 use Rattle.kc_kit_running.specs.Counted.{no_counts, counts_text, summary}
-use Rattle.kc_kit_files.specs.Reply.{Reply}
-use Rattle.kc_kit_files.specs.Outside.{Kept, Shown, Replies}
+use Rattle.kc_kit_files.specs.Response.{Response}
+use Rattle.kc_kit_files.specs.Outside.{Kept, Shown, Responses}
 use Rattle.kc_kit_inputs.specs.declared.driving.Driving.{Driving}
 use Rattle.kc_kit_running.specs.Fitted.{FittedUnit, fitted_further}
-use Rattle.kc_kit_running.specs.Running.{machine_of, run_of, run_reply, status_of}
+use Rattle.kc_kit_running.specs.Running.{machine_of, run_of, run_response, status_of}
 
 -- the status of a run, with its text whole
-pub run-whole : {X : Type 0} (ran : Stepped X) (may : Reply → Type 0) (files : Kept) (old new : Shown) (how : End) → may (run_reply ran) → how ≡ end_of ran.machine → Grew old.written (trace_of ran) new.written → Replies may files old (status_of how) files new
-run-whole ran may files old new end.Spent m e h = record { reply = run_reply ran; is_answer = m; status = ap status_of e; text = h; files = refl }
-run-whole ran may files old new end.Powerdown m e h = record { reply = run_reply ran; is_answer = m; status = ap status_of e; text = h; files = refl }
-run-whole ran may files old new end.Reset m e h = record { reply = run_reply ran; is_answer = m; status = ap status_of e; text = h; files = refl }
-run-whole ran may files old new (end.Undefined what) m e h = record { reply = run_reply ran; is_answer = m; status = ap status_of e; text = h; files = refl }
+pub run-whole : {X : Type 0} (ran : Stepped X) (may : Response → Type 0) (files : Kept) (old new : Shown) (how : End) → may (run_response ran) → how ≡ end_of ran.machine → Grew old.written (trace_of ran) new.written → Responses may files old (status_of how) files new
+run-whole ran may files old new end.Spent m e h = record { response = run_response ran; is_answer = m; status = ap status_of e; text = h; files = refl }
+run-whole ran may files old new end.Powerdown m e h = record { response = run_response ran; is_answer = m; status = ap status_of e; text = h; files = refl }
+run-whole ran may files old new end.Reset m e h = record { response = run_response ran; is_answer = m; status = ap status_of e; text = h; files = refl }
+run-whole ran may files old new (end.Undefined what) m e h = record { response = run_response ran; is_answer = m; status = ap status_of e; text = h; files = refl }
 
 -- a run at whose end or in whose middle the sink has failed
-pub run-part : {X : Type 0} (ran : Stepped X) (may : Reply → Type 0) (files : Kept) (old new : Shown) → may (run_reply ran) → GrewByPart old.written (trace_of ran) new.written → Rose old.faults new.faults → Replies may files old status.WriteFault files new
-run-part ran may files old new m h c = inl (record { reply = run_reply ran; is_answer = m; text = h; cause = c; files = refl })
+pub run-part : {X : Type 0} (ran : Stepped X) (may : Response → Type 0) (files : Kept) (old new : Shown) → may (run_response ran) → GrewByPart old.written (trace_of ran) new.written → Rose old.faults new.faults → Responses may files old status.WriteFault files new
+run-part ran may files old new m h c = inl (record { response = run_response ran; is_answer = m; text = h; cause = c; files = refl })
 
 -- what is told of a run whose lines are counted
 pub summary-is : (number : ℕ) (ran : Stepped FittedUnit) (given : Status) (text : List ℕ) (counts : Counts) (how : End) (now : ℕ) → given ≡ status_of how → text ≡ counts_text number counts ++ line_of (Stopped (end_state how now) (end_number how)) →

@@ -5,7 +5,7 @@ use Rattle.kc_kit_files.specs.declared.status.Status.{Status}
 use Rattle.kc_kit_files.specs.declared.status.Status.TheVariants as status
 use Rattle.kc_kit_files.specs.declared.ended.Said.{Said}
 use Rattle.kc_kit_files.specs.declared.ended.Said.TheVariants as said
-use Rattle.kc_kit_files.specs.Reply.{Write}
+use Rattle.kc_kit_files.specs.Response.{Write}
 use Rattle.kc_kit_files.specs.Outside.{Kept, WroteOne, OthersStay}
 use Rattle.kc_kit_running.specs.Writing.{IsRefusedAt, AreWrittenBy}
 
@@ -17,7 +17,7 @@ IsNamed _ file = ⊥
 refused-first : (old new : Kept) (w : Write) (what : Said) → IsNamed what w.name → OthersStay old.held w.name new.held → Rose old.faults new.faults → IsRefusedAt what old (w ∷ []) new
 refused-first old new w (said.File name) is others rose = (rose, inl (is, others))
 refused-first old new w said.Nothing is others rose = absurd is
-refused-first old new w (said.Refusal note) is others rose = absurd is
+refused-first old new w (said.Refusal diagnostic) is others rose = absurd is
 
 pub written-one : (old new : Kept) (w : Write) (given : Status) (what : Said) → IsNamed what w.name → (given ≡ status.Done) ⊎ ((given ≡ status.WriteFault) ⊎ (given ≡ status.NoMemory)) → (given ≡ status.Done → WroteOne old.held w new.held) →
     OthersStay old.held w.name new.held → (given ≡ status.WriteFault → Rose old.faults new.faults) → AreWrittenBy old (w ∷ []) given what new

@@ -7,7 +7,7 @@ use Rattle.kc_trace.specs.Text.{line_of}
 use Rattle.kc_machine_spec.specs.Machine.{Stepped}
 use Rattle.kc_machine_spec.specs.Run.{end_of}
 use Rattle.kc_machine_spec.specs.Text.{end_state, end_number}
-use Rattle.kc_kit_files.specs.Reply.{Reply, says}
+use Rattle.kc_kit_files.specs.Response.{Response, says}
 use Rattle.kc_kit_inputs.specs.declared.driving.Driving.{Driving}
 use Rattle.kc_kit_running.specs.Fitted.{FittedUnit}
 use Rattle.kc_kit_running.specs.Running.{status_of, run_of}
@@ -23,10 +23,10 @@ numbered word number = word ++ codes " " ++ decimal number ++ codes "\n"
 abbrev pub counts_text : ℕ → Counts → List ℕ
 counts_text number counts = numbered (codes "gen") number ++ numbered (codes "P") counts.pins ++ numbered (codes "I") counts.entries ++ numbered (codes "S") counts.cycles
 
-abbrev pub summary : ℕ → Stepped FittedUnit → Reply
+abbrev pub summary : ℕ → Stepped FittedUnit → Response
 summary number ran =
     says (status_of (end_of ran.machine))
     (counts_text number (counted_all ran.records no_counts) ++ line_of (Stopped (end_state (end_of ran.machine) ran.machine.time) (end_number (end_of ran.machine))))
 
-abbrev pub summary_of : ℕ → Driving → List ℕ → Reply
+abbrev pub summary_of : ℕ → Driving → List ℕ → Response
 summary_of number driving image = summary number (run_of 1000000 driving image)

@@ -8,7 +8,7 @@ use Rattle.kc_kit_files.specs.declared.ended.Said.{Said}
 use Rattle.kc_kit_files.specs.declared.ended.Said.TheVariants as said
 use Rattle.kc_kit_files.specs.Ended.{said_in}
 use Rattle.kc_kit_files.specs.Outside.{Kept, Wrote, WroteByPart, RefusedAt}
-use Rattle.kc_kit_files.specs.Reply.{Write, write}
+use Rattle.kc_kit_files.specs.Response.{Write, write}
 use Rattle.kc_kit_running.specs.declared.output.Output.{Output}
 
 abbrev pub written : Output → Write

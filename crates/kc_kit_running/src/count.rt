@@ -87,7 +87,7 @@ pub fn count_board<S: Sink, L: Ledger>(
     requires ready { out.old.failed ≡ false }
     requires fresh { IsFresh blank L.name L.parts }
     requires whole { blank.parts ≡ 1 }
-    ensures { Prints (λ reply. reply ≡ summary_of number board.driving board.image) (shown_by S.written S.faults out.old.sink) result (shown_by S.written S.faults out.new.sink) }
+    ensures { Prints (λ response. response ≡ summary_of number board.driving board.image) (shown_by S.written S.faults out.old.sink) result (shown_by S.written S.faults out.new.sink) }
 {
     let Ok(mut machine) = fitted_machine(alloc, board) else {
         return Status::NoMemory;

@@ -2,7 +2,7 @@
 ghost use Rattle.std.specs.Prelude.{◌≡◌, false};
 ghost use Rattle.kc_base.specs.Fresh.{IsFresh};
 ghost use Rattle.kc_kit_files.specs.Outside.{Prints, shown_by};
-ghost use Rattle.kc_kit_running.specs.Scripted.{debugged_by, script_reply};
+ghost use Rattle.kc_kit_running.specs.Scripted.{debugged_by, script_response};
 
 use crate::board::Board;
 use crate::fitted::fitted_machine;
@@ -27,7 +27,7 @@ pub fn debug_board<S: Sink, L: Ledger>(
     requires ready { out.old.failed ≡ false }
     requires fresh { IsFresh blank L.name L.parts }
     requires whole { blank.parts ≡ 1 }
-    ensures { Prints (λ reply. reply ≡ script_reply (debugged_by lines script.now board.driving board.image)) (shown_by S.written S.faults out.old.sink) result (shown_by S.written S.faults out.new.sink) }
+    ensures { Prints (λ response. response ≡ script_response (debugged_by lines script.now board.driving board.image)) (shown_by S.written S.faults out.old.sink) result (shown_by S.written S.faults out.new.sink) }
 {
     let Ok(mut machine) = fitted_machine(alloc, board) else {
         return Status::NoMemory;

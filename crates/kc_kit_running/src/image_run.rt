@@ -4,8 +4,8 @@ ghost use Rattle.kc_base.specs.Fresh.{IsFresh};
 ghost use Rattle.kc_kit_files.specs.Outside.{Prints, shown_by};
 ghost use Rattle.kc_kit_words.specs.Values.{max_states};
 ghost use Rattle.kc_kit_words.specs.Asked.{IsBounded};
-ghost use Rattle.kc_kit_running.specs.Lives.{board_reply};
-ghost use Rattle.kc_kit_running.specs.Running.{run_of, run_reply, status_of};
+ghost use Rattle.kc_kit_running.specs.Lives.{board_response};
+ghost use Rattle.kc_kit_running.specs.Running.{run_of, run_response, status_of};
 
 use crate::board::Board;
 use crate::fitted::fitted_machine;
@@ -30,7 +30,7 @@ pub fn run_board<S: Sink, L: Ledger>(
     requires bounded { IsBounded extent }
     requires fresh { IsFresh blank L.name L.parts }
     requires whole { blank.parts ≡ 1 }
-    ensures { Prints (λ reply. reply ≡ board_reply extent board.driving board.image) (shown_by S.written S.faults out.old.sink) result (shown_by S.written S.faults out.new.sink) }
+    ensures { Prints (λ response. response ≡ board_response extent board.driving board.image) (shown_by S.written S.faults out.old.sink) result (shown_by S.written S.faults out.new.sink) }
 {
     match extent.lives {
         None => run_once::<S, L>(alloc, board, extent.states, blank, out),
@@ -50,7 +50,7 @@ fn run_once<S: Sink, L: Ledger>(
     requires states { states ≤ max_states }
     requires fresh { IsFresh blank L.name L.parts }
     requires whole { blank.parts ≡ 1 }
-    ensures { Prints (λ reply. reply ≡ run_reply (run_of states board.driving board.image)) (shown_by S.written S.faults out.old.sink) result (shown_by S.written S.faults out.new.sink) }
+    ensures { Prints (λ response. response ≡ run_response (run_of states board.driving board.image)) (shown_by S.written S.faults out.old.sink) result (shown_by S.written S.faults out.new.sink) }
 {
     let Ok(mut machine) = fitted_machine(alloc, board) else {
         return Status::NoMemory;

@@ -3,7 +3,7 @@ ghost use Rattle.std.specs.Prelude.{◌≡◌, ◌≤◌, false};
 ghost use Rattle.kc_base.specs.Fresh.{IsFresh};
 ghost use Rattle.kc_kit_files.specs.Outside.{Prints, shown_by};
 ghost use Rattle.kc_kit_words.specs.Values.{max_states, max_lives};
-ghost use Rattle.kc_kit_running.specs.Lives.{board_lives, lives_reply};
+ghost use Rattle.kc_kit_running.specs.Lives.{board_lives, lives_response};
 
 use crate::board::Board;
 use crate::fitting::Fitting;
@@ -31,7 +31,7 @@ pub(crate) fn run_board_lives<S: Sink, L: Ledger>(
     requires few { lives ≤ max_lives }
     requires fresh { IsFresh blank L.name L.parts }
     requires whole { blank.parts ≡ 1 }
-    ensures { Prints (λ reply. reply ≡ lives_reply (board_lives lives states board.driving board.image)) (shown_by S.written S.faults out.old.sink) result (shown_by S.written S.faults out.new.sink) }
+    ensures { Prints (λ response. response ≡ lives_response (board_lives lives states board.driving board.image)) (shown_by S.written S.faults out.old.sink) result (shown_by S.written S.faults out.new.sink) }
 {
     let Board { image, driving } = board;
     let Driving { stimuli, values } = driving;

@@ -2,12 +2,12 @@
 ghost use Rattle.std.specs.Prelude.{◌≡◌, ◌≤◌, ◌∷◌, [], false};
 ghost use Rattle.kc_base.specs.Fresh.{IsFresh};
 ghost use Rattle.kc_profile.specs.Text.{profile_text};
-ghost use Rattle.kc_kit_files.specs.Reply.{write};
+ghost use Rattle.kc_kit_files.specs.Response.{write};
 ghost use Rattle.kc_kit_files.specs.Outside.{kept};
 ghost use Rattle.kc_kit_files.specs.Ended.{Ends};
 ghost use Rattle.kc_kit_words.specs.Values.{max_states};
 ghost use Rattle.kc_kit_running.specs.Writing.{AreWritten};
-ghost use Rattle.kc_kit_running.specs.Profiled.{profile_reply};
+ghost use Rattle.kc_kit_running.specs.Profiled.{profile_response};
 
 use crate::board::Board;
 use crate::fitted::fitted_machine;
@@ -42,7 +42,7 @@ pub fn profile_board<'a, F: Files, S: Sink, L: Ledger>(
     requires states { states ≤ max_states }
     requires fresh { IsFresh blank L.name L.parts }
     requires whole { blank.parts ≡ 1 }
-    ensures reply { Ends F.held F.write_faults S.written S.faults (λ reply. reply ≡ profile_reply states target.entry.name.now entries.now board.driving board.image) files.old out.old.sink result files.new out.new.sink }
+    ensures response { Ends F.held F.write_faults S.written S.faults (λ response. response ≡ profile_response states target.entry.name.now entries.now board.driving board.image) files.old out.old.sink result files.new out.new.sink }
     ensures no_read { F.read_faults files.new ≡ F.read_faults files.old }
 {
     let Ok(mut profile) = Profile::new(alloc) else {

@@ -4,5 +4,5 @@
 mod text;
 mod word;
 
-pub use text::{put_shown, shown, tell_shown};
-pub use word::{put_word, tell_word};
+pub use text::{put_shown, report_shown, shown};
+pub use word::{put_word, report_word};

@@ -16,26 +16,26 @@ fn is_control(byte: u8) -> bool
 }
 
 // Puts a byte behind a note, as it is shown.
-fn put_byte(note: &mut Vec<u8>, byte: u8) -> Result<(), NoMemory>
-    ensures { OnOk result (note.new.items ≡ note.old.items ++ shown_byte byte) }
+fn put_byte(diagnostic: &mut Vec<u8>, byte: u8) -> Result<(), NoMemory>
+    ensures { OnOk result (diagnostic.new.items ≡ diagnostic.old.items ++ shown_byte byte) }
 {
     if is_control(byte) {
-        note.extend_from_slice(b"\\x")?;
-        note.push(hex_digit(byte / 16))?;
-        note.push(hex_digit(byte % 16))?;
+        diagnostic.extend_from_slice(b"\\x")?;
+        diagnostic.push(hex_digit(byte / 16))?;
+        diagnostic.push(hex_digit(byte % 16))?;
     } else {
-        note.push(byte)?;
+        diagnostic.push(byte)?;
     }
     Ok(())
 }
 
 /// Puts a text behind a note, as it is shown.
-pub fn put_shown(note: &mut Vec<u8>, text: &[u8]) -> Result<(), NoMemory>
-    ensures { OnOk result (note.new.items ≡ note.old.items ++ shown text.now) }
+pub fn put_shown(diagnostic: &mut Vec<u8>, text: &[u8]) -> Result<(), NoMemory>
+    ensures { OnOk result (diagnostic.new.items ≡ diagnostic.old.items ++ shown text.now) }
 {
     let mut left = text;
     while let [byte, rest @ ..] = left {
-        put_byte(note, *byte)?;
+        put_byte(diagnostic, *byte)?;
         left = rest;
     }
     Ok(())
@@ -43,31 +43,31 @@ pub fn put_shown(note: &mut Vec<u8>, text: &[u8]) -> Result<(), NoMemory>
 
 /// A text as it is shown.
 pub fn shown(alloc: Global, text: &[u8]) -> Result<Vec<u8>, NoMemory>
-    ensures { IfOk result (λ note. note.items ≡ shown text.now) }
+    ensures { IfOk result (λ diagnostic. diagnostic.items ≡ shown text.now) }
 {
-    let mut note = Vec::new(alloc);
-    put_shown(&mut note, text)?;
-    Ok(note)
+    let mut diagnostic = Vec::new(alloc);
+    put_shown(&mut diagnostic, text)?;
+    Ok(diagnostic)
 }
 
 // Writes a byte as it is shown.
-fn tell_byte<N: Sink>(notes: &mut TraceOut<N>, byte: u8)
-    ensures { Puts (out_of N.written N.faults notes.old) (shown_byte byte) (out_of N.written N.faults notes.new) }
+fn report_byte<N: Sink>(diagnostics: &mut TraceOut<N>, byte: u8)
+    ensures { Puts (out_of N.written N.faults diagnostics.old) (shown_byte byte) (out_of N.written N.faults diagnostics.new) }
 {
     if is_control(byte) {
-        notes.put_text(&[b'\\', b'x', hex_digit(byte / 16), hex_digit(byte % 16)]);
+        diagnostics.put_text(&[b'\\', b'x', hex_digit(byte / 16), hex_digit(byte % 16)]);
     } else {
-        notes.put_text(&[byte]);
+        diagnostics.put_text(&[byte]);
     }
 }
 
 /// Writes a text as it is shown. It takes no memory.
-pub fn tell_shown<N: Sink>(notes: &mut TraceOut<N>, text: &[u8])
-    ensures { Puts (out_of N.written N.faults notes.old) (shown text.now) (out_of N.written N.faults notes.new) }
+pub fn report_shown<N: Sink>(diagnostics: &mut TraceOut<N>, text: &[u8])
+    ensures { Puts (out_of N.written N.faults diagnostics.old) (shown text.now) (out_of N.written N.faults diagnostics.new) }
 {
     let mut left = text;
     while let [byte, rest @ ..] = left {
-        tell_byte(notes, *byte);
+        report_byte(diagnostics, *byte);
         left = rest;
     }
 }

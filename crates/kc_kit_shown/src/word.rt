@@ -4,8 +4,8 @@ ghost use Rattle.kc_trace.specs.Out.{Puts};
 ghost use Rattle.kc_trace.specs.Trace.{out_of};
 ghost use Rattle.kc_kit_shown.specs.Shown.{is_inner, bytes_of_first, word_shown};
 
-use crate::text::{put_shown, tell_shown};
-use kc_base::{NoMemory, Sink, front};
+use crate::text::{put_shown, report_shown};
+use kc_base::{NoMemory, Sink, prefix};
 use kc_trace::TraceOut;
 
 // The most characters of a word that are shown.
@@ -40,24 +40,24 @@ fn bytes_of_first(word: &[u8]) -> usize
 }
 
 /// Puts a word behind a note, as it is shown: its first 80 characters, and two dots where it has more.
-pub fn put_word(note: &mut Vec<u8>, word: &[u8]) -> Result<(), NoMemory>
-    ensures { OnOk result (note.new.items ≡ note.old.items ++ word_shown word.now) }
+pub fn put_word(diagnostic: &mut Vec<u8>, word: &[u8]) -> Result<(), NoMemory>
+    ensures { OnOk result (diagnostic.new.items ≡ diagnostic.old.items ++ word_shown word.now) }
 {
     let end = bytes_of_first(word);
-    put_shown(note, front(word, end))?;
+    put_shown(diagnostic, prefix(word, end))?;
     if end < word.len() {
-        note.extend_from_slice(b"..")?;
+        diagnostic.extend_from_slice(b"..")?;
     }
     Ok(())
 }
 
 /// Writes a word as it is shown: its first 80 characters, and two dots where it has more. It takes no memory.
-pub fn tell_word<N: Sink>(notes: &mut TraceOut<N>, word: &[u8])
-    ensures { Puts (out_of N.written N.faults notes.old) (word_shown word.now) (out_of N.written N.faults notes.new) }
+pub fn report_word<N: Sink>(diagnostics: &mut TraceOut<N>, word: &[u8])
+    ensures { Puts (out_of N.written N.faults diagnostics.old) (word_shown word.now) (out_of N.written N.faults diagnostics.new) }
 {
     let end = bytes_of_first(word);
-    tell_shown(notes, front(word, end));
+    report_shown(diagnostics, prefix(word, end));
     if end < word.len() {
-        notes.put_text(b"..");
+        diagnostics.put_text(b"..");
     }
 }

@@ -14,7 +14,7 @@ enum Fails {
     Read(u64),
     Write(u64),
     Output(u64),
-    Note(u64),
+    Diagnostic(u64),
 }
 
 /// A command line: the files, the call that fails, the words, the status, what is printed, what is said where that is looked at,
@@ -334,7 +334,7 @@ static ROWS: [Row; 29] = [
     },
     Row {
         files: &[],
-        fails: Fails::Note(1),
+        fails: Fails::Diagnostic(1),
         line: "run a.a96 --states 1",
         status: Status::Missing,
         printed: "missing a.a96\n",
@@ -343,7 +343,7 @@ static ROWS: [Row; 29] = [
     },
     Row {
         files: &[],
-        fails: Fails::Note(2),
+        fails: Fails::Diagnostic(2),
         line: "walk",
         status: Status::Usage,
         printed: "usage\n",
@@ -366,7 +366,7 @@ fn numbers(fails: Fails) -> (u64, u64, u64, u64) {
         Fails::Read(number) => (number, 0, 0, 0),
         Fails::Write(number) => (0, number, 0, 0),
         Fails::Output(number) => (0, 0, number, 0),
-        Fails::Note(number) => (0, 0, 0, number),
+        Fails::Diagnostic(number) => (0, 0, 0, number),
     }
 }
 
@@ -401,15 +401,15 @@ fn holds(alloc: Global, files: &mut MemFiles, name: &str, bytes: &[u8]) -> bool 
 
 // Does a command line, and tells whether its status, what it prints and says, and what files then hold are as in the row.
 fn is_right(alloc: Global, row: &Row) -> Result<bool, NoMemory> {
-    let (read, write, output, note) = numbers(row.fails);
+    let (read, write, output, diagnostic) = numbers(row.fails);
     let words = words(alloc, row.line)?;
     let mut files = files_of(alloc, row.files, read, write)?;
     let mut out = sink(alloc, output)?;
-    let mut notes = sink(alloc, note)?;
-    let given = kit(alloc, &words, &mut files, &mut out, &mut notes);
+    let mut diagnostics = sink(alloc, diagnostic)?;
+    let given = kit(alloc, &words, &mut files, &mut out, &mut diagnostics);
     let printed = out.sink().written() == row.printed.as_bytes();
     let said = match row.said {
-        Some(said) => notes.sink().written() == said.as_bytes(),
+        Some(said) => diagnostics.sink().written() == said.as_bytes(),
         None => true,
     };
     let mut held = true;
@@ -420,7 +420,7 @@ fn is_right(alloc: Global, row: &Row) -> Result<bool, NoMemory> {
 }
 
 #[test]
-fn a_call_that_fails_is_told(rt: HostRuntime) -> Result<(), Fail> {
+fn a_call_that_fails_is_reported(rt: HostRuntime) -> Result<(), Fail> {
     let a = rt.alloc();
     for row in &ROWS {
         assert!(rt; is_right(a, row)?, "{}", row.line);
@@ -430,11 +430,11 @@ fn a_call_that_fails_is_told(rt: HostRuntime) -> Result<(), Fail> {
 
 // The front of a run's text, of so many lines.
 fn first_lines(alloc: Global, count: usize) -> Result<String, AllocError> {
-    let mut front = String::new(alloc);
+    let mut prefix = String::new(alloc);
     for line in PRINTED.iter().take(count) {
-        front.push_str(line)?;
+        prefix.push_str(line)?;
     }
-    Ok(front)
+    Ok(prefix)
 }
 
 // A run whose output fails before each line, and one whose profile is not written.
@@ -442,14 +442,14 @@ fn first_lines(alloc: Global, count: usize) -> Result<String, AllocError> {
 fn lines_before_a_write_that_fails_stand(rt: HostRuntime) -> Result<(), Fail> {
     let a = rt.alloc();
     for before in 0..21u64 {
-        let front = first_lines(a, before as usize)?;
+        let prefix = first_lines(a, before as usize)?;
         let words = words(a, "run a.a96 --states 1 --profile p")?;
         let mut files = files_of(a, ONE, 0, 1)?;
         let mut out = sink(a, before + 1)?;
-        let mut notes = sink(a, 0)?;
-        let given = kit(a, &words, &mut files, &mut out, &mut notes);
+        let mut diagnostics = sink(a, 0)?;
+        let given = kit(a, &words, &mut files, &mut out, &mut diagnostics);
         assert!(rt; given == Status::WriteFault, "{before}");
-        assert!(rt; out.sink().written() == front.as_bytes(), "{before}");
+        assert!(rt; out.sink().written() == prefix.as_bytes(), "{before}");
         assert!(rt; holds(a, &mut files, "p", NOTHING), "{before}");
     }
     Ok(())
@@ -463,8 +463,8 @@ fn a_sink_that_takes_one_byte_of_each_write_gets_all(rt: HostRuntime) -> Result<
     let mut files = files_of(a, ONE, 0, 0)?;
     let sink = MemSink::new(a, 4096, Vec::new(a))?;
     let mut out = TraceOut::new(Narrow { sink });
-    let mut notes = TraceOut::new(MemSink::new(a, 4096, Vec::new(a))?);
-    assert!(rt; kit(a, &words, &mut files, &mut out, &mut notes) == Status::Done);
+    let mut diagnostics = TraceOut::new(MemSink::new(a, 4096, Vec::new(a))?);
+    assert!(rt; kit(a, &words, &mut files, &mut out, &mut diagnostics) == Status::Done);
     assert!(rt; out.sink().sink.written() == text.as_bytes());
     Ok(())
 }

@@ -131,14 +131,14 @@ list_by-other (a ∷ b ∷ c ∷ rest) two = refl
 
 -- ---- the command of words with their verb, of which so many name files
 
-pub command_of-verb : (ws front back : List (String Global)) (v : String Global) (n : ℕ) → 1 ≤ length ws → v ≡ get_or ws 0 v → n ≡ count_files (map string_bytes (take (length ws - 1) (drop 1 ws))) →
-    front ≡ take n (take (length ws - 1) (drop 1 ws)) → back ≡ drop n (take (length ws - 1) (drop 1 ws)) →
-    plain_command_of (map string_bytes ws) ≡ command_with (string_bytes v) (map string_bytes front) (map string_bytes back)
-command_of-verb [] front back v n some first count f b = absurd (omega (arith, some))
-command_of-verb (a ∷ ws) front back v n some first count f b =
+pub command_of-verb : (ws prefix back : List (String Global)) (v : String Global) (n : ℕ) → 1 ≤ length ws → v ≡ get_or ws 0 v → n ≡ count_files (map string_bytes (take (length ws - 1) (drop 1 ws))) →
+    prefix ≡ take n (take (length ws - 1) (drop 1 ws)) → back ≡ drop n (take (length ws - 1) (drop 1 ws)) →
+    plain_command_of (map string_bytes ws) ≡ command_with (string_bytes v) (map string_bytes prefix) (map string_bytes back)
+command_of-verb [] prefix back v n some first count f b = absurd (omega (arith, some))
+command_of-verb (a ∷ ws) prefix back v n some first count f b =
     let whole : take (length (a ∷ ws) - 1) ws ≡ ws = take_all (length (a ∷ ws) - 1) ws (omega arith) in
     let so_many : n ≡ count_files (map string_bytes ws) = count ∙ ap (λ l. count_files (map string_bytes l)) whole in
-    let files : map string_bytes front ≡ take (count_files (map string_bytes ws)) (map string_bytes ws) =
+    let files : map string_bytes prefix ≡ take (count_files (map string_bytes ws)) (map string_bytes ws) =
     ap (map string_bytes) (f ∙ ap (take n) whole) ∙ sym (take-map string_bytes n ws) ∙ ap (λ k. take k (map string_bytes ws)) so_many in
     let options : map string_bytes back ≡ drop (count_files (map string_bytes ws)) (map string_bytes ws) =
     ap (map string_bytes) (b ∙ ap (drop n) whole) ∙ sym (drop-map string_bytes n ws) ∙ ap (λ k. drop k (map string_bytes ws)) so_many in

@@ -36,14 +36,14 @@ either x a b other true true e f v w rest = absurd (let k : true ≡ false = sym
 either x a b other true false e f v w rest = refl
 either x a b other false t e f v w rest = refl
 
-values-alike : (front back : List (List ℕ × List ℕ)) (p q : List ℕ × List ℕ) → bytes_eq p.0 q.0 ≡ false → (x : List ℕ) → value_of x (words_of (front ++ p ∷ q ∷ back)) ≡ value_of x (words_of (front ++ q ∷ p ∷ back))
+values-alike : (prefix back : List (List ℕ × List ℕ)) (p q : List ℕ × List ℕ) → bytes_eq p.0 q.0 ≡ false → (x : List ℕ) → value_of x (words_of (prefix ++ p ∷ q ∷ back)) ≡ value_of x (words_of (prefix ++ q ∷ p ∷ back))
 values-alike [] back p q other x =
     value-first x p.0 p.1 (q.0 ∷ q.1 ∷ words_of back) ∙ ap (cond (bytes_eq p.0 x) (Some p.1)) (value-first x q.0 q.1 (words_of back))
     ∙ either x p.0 q.0 other (bytes_eq p.0 x) (bytes_eq q.0 x) refl refl (Some p.1) (Some q.1) (value_of x (words_of back))
     ∙ ap (cond (bytes_eq q.0 x) (Some q.1)) (sym (value-first x p.0 p.1 (words_of back))) ∙ sym (value-first x q.0 q.1 (p.0 ∷ p.1 ∷ words_of back))
-values-alike (f ∷ front) back p q other x =
-    value-first x f.0 f.1 (words_of (front ++ p ∷ q ∷ back)) ∙ ap (cond (bytes_eq f.0 x) (Some f.1)) (values-alike front back p q other x)
-    ∙ sym (value-first x f.0 f.1 (words_of (front ++ q ∷ p ∷ back)))
+values-alike (f ∷ prefix) back p q other x =
+    value-first x f.0 f.1 (words_of (prefix ++ p ∷ q ∷ back)) ∙ ap (cond (bytes_eq f.0 x) (Some f.1)) (values-alike prefix back p q other x)
+    ∙ sym (value-first x f.0 f.1 (words_of (prefix ++ q ∷ p ∷ back)))
 
 -- ---- files for reading
 
@@ -57,15 +57,15 @@ inputs-turned (Some r) None v w more h = refl
 inputs-turned (Some r) (Some s) v w more (inl e) = absurd (cc)
 inputs-turned (Some r) (Some s) v w more (inr e) = absurd (cc)
 
-inputs-alike : (verb : List ℕ) (front back : List (List ℕ × List ℕ)) (p q : List ℕ × List ℕ) → (role_of verb p.0 ≡ None) ⊎ (role_of verb q.0 ≡ None) →
-    inputs_of verb (words_of (front ++ p ∷ q ∷ back)) ≡ inputs_of verb (words_of (front ++ q ∷ p ∷ back))
+inputs-alike : (verb : List ℕ) (prefix back : List (List ℕ × List ℕ)) (p q : List ℕ × List ℕ) → (role_of verb p.0 ≡ None) ⊎ (role_of verb q.0 ≡ None) →
+    inputs_of verb (words_of (prefix ++ p ∷ q ∷ back)) ≡ inputs_of verb (words_of (prefix ++ q ∷ p ∷ back))
 inputs-alike verb [] back p q none =
     inputs-first verb p.0 p.1 (q.0 ∷ q.1 ∷ words_of back) ∙ ap (with_input (role_of verb p.0) p.1) (inputs-first verb q.0 q.1 (words_of back))
     ∙ inputs-turned (role_of verb p.0) (role_of verb q.0) p.1 q.1 (inputs_of verb (words_of back)) none
     ∙ ap (with_input (role_of verb q.0) q.1) (sym (inputs-first verb p.0 p.1 (words_of back))) ∙ sym (inputs-first verb q.0 q.1 (p.0 ∷ p.1 ∷ words_of back))
-inputs-alike verb (f ∷ front) back p q none =
-    inputs-first verb f.0 f.1 (words_of (front ++ p ∷ q ∷ back)) ∙ ap (with_input (role_of verb f.0) f.1) (inputs-alike verb front back p q none)
-    ∙ sym (inputs-first verb f.0 f.1 (words_of (front ++ q ∷ p ∷ back)))
+inputs-alike verb (f ∷ prefix) back p q none =
+    inputs-first verb f.0 f.1 (words_of (prefix ++ p ∷ q ∷ back)) ∙ ap (with_input (role_of verb f.0) f.1) (inputs-alike verb prefix back p q none)
+    ∙ sym (inputs-first verb f.0 f.1 (words_of (prefix ++ q ∷ p ∷ back)))
 
 -- ---- options that a command takes
 
@@ -94,17 +94,17 @@ two-options verb back p q other =
     ∙ ap (λ v. (takes verb p.0 p.1 && is_none v) && are_options verb (q.0 ∷ q.1 ∷ words_of back)) (other-value p.0 q.0 q.1 (words_of back) other)
     ∙ ap (λ o. (takes verb p.0 p.1 && is_none (value_of p.0 (words_of back))) && o) (options-first verb q.0 q.1 (words_of back))
 
-options-alike : (verb : List ℕ) (front back : List (List ℕ × List ℕ)) (p q : List ℕ × List ℕ) → bytes_eq p.0 q.0 ≡ false →
-    are_options verb (words_of (front ++ p ∷ q ∷ back)) ≡ are_options verb (words_of (front ++ q ∷ p ∷ back))
+options-alike : (verb : List ℕ) (prefix back : List (List ℕ × List ℕ)) (p q : List ℕ × List ℕ) → bytes_eq p.0 q.0 ≡ false →
+    are_options verb (words_of (prefix ++ p ∷ q ∷ back)) ≡ are_options verb (words_of (prefix ++ q ∷ p ∷ back))
 options-alike verb [] back p q other =
     two-options verb back p q (turned p.0 q.0 other)
     ∙ swapped (takes verb p.0 p.1) (is_none (value_of p.0 (words_of back))) (takes verb q.0 q.1) (is_none (value_of q.0 (words_of back))) (are_options verb (words_of back))
     ∙ sym (two-options verb back q p other)
-options-alike verb (f ∷ front) back p q other =
-    options-first verb f.0 f.1 (words_of (front ++ p ∷ q ∷ back))
-    ∙ ap (λ v. (takes verb f.0 f.1 && is_none v) && are_options verb (words_of (front ++ p ∷ q ∷ back))) (values-alike front back p q other f.0)
-    ∙ ap (λ o. (takes verb f.0 f.1 && is_none (value_of f.0 (words_of (front ++ q ∷ p ∷ back)))) && o) (options-alike verb front back p q other)
-    ∙ sym (options-first verb f.0 f.1 (words_of (front ++ q ∷ p ∷ back)))
+options-alike verb (f ∷ prefix) back p q other =
+    options-first verb f.0 f.1 (words_of (prefix ++ p ∷ q ∷ back))
+    ∙ ap (λ v. (takes verb f.0 f.1 && is_none v) && are_options verb (words_of (prefix ++ p ∷ q ∷ back))) (values-alike prefix back p q other f.0)
+    ∙ ap (λ o. (takes verb f.0 f.1 && is_none (value_of f.0 (words_of (prefix ++ q ∷ p ∷ back)))) && o) (options-alike verb prefix back p q other)
+    ∙ sym (options-first verb f.0 f.1 (words_of (prefix ++ q ∷ p ∷ back)))
 
 -- an option that stands twice
 and-false : (a b : Bool) → ((a && false) && b) ≡ false
@@ -115,15 +115,15 @@ all-false : (a : Bool) → (a && false) ≡ false
 all-false true = refl
 all-false false = refl
 
-twice : (verb : List ℕ) (front back : List (List ℕ × List ℕ)) (p q : List ℕ × List ℕ) → bytes_eq q.0 p.0 ≡ true → are_options verb (words_of (front ++ p ∷ q ∷ back)) ≡ false
+twice : (verb : List ℕ) (prefix back : List (List ℕ × List ℕ)) (p q : List ℕ × List ℕ) → bytes_eq q.0 p.0 ≡ true → are_options verb (words_of (prefix ++ p ∷ q ∷ back)) ≡ false
 twice verb [] back p q h =
     options-first verb p.0 p.1 (q.0 ∷ q.1 ∷ words_of back)
     ∙ ap (λ v. (takes verb p.0 p.1 && is_none v) && are_options verb (q.0 ∷ q.1 ∷ words_of back)) (value-first p.0 q.0 q.1 (words_of back) ∙ ap (λ b. cond b (Some q.1) (value_of p.0 (words_of back))) h)
     ∙ and-false (takes verb p.0 p.1) (are_options verb (q.0 ∷ q.1 ∷ words_of back))
-twice verb (f ∷ front) back p q h =
-    options-first verb f.0 f.1 (words_of (front ++ p ∷ q ∷ back))
-    ∙ ap (λ o. (takes verb f.0 f.1 && is_none (value_of f.0 (words_of (front ++ p ∷ q ∷ back)))) && o) (twice verb front back p q h)
-    ∙ all-false (takes verb f.0 f.1 && is_none (value_of f.0 (words_of (front ++ p ∷ q ∷ back))))
+twice verb (f ∷ prefix) back p q h =
+    options-first verb f.0 f.1 (words_of (prefix ++ p ∷ q ∷ back))
+    ∙ ap (λ o. (takes verb f.0 f.1 && is_none (value_of f.0 (words_of (prefix ++ p ∷ q ∷ back)))) && o) (twice verb prefix back p q h)
+    ∙ all-false (takes verb f.0 f.1 && is_none (value_of f.0 (words_of (prefix ++ p ∷ q ∷ back))))
 
 -- ---- commands
 
@@ -137,18 +137,18 @@ commands-alike verb (f ∷ g ∷ h ∷ files) a b values inputs =
     rw (values (codes "--states"), values (codes "--lives"), values (codes "--profile"), values (codes "--out"), values (codes "--lines"), values (codes "--map"), values (codes "--reg"), values (codes "--code"), values (codes "--data"), values (codes "--stack"), inputs) refl
 
 pub in_any_order : OptionsInAnyOrder
-in_any_order verb files front back p q none = by (bytes_eq p.0 q.0) refl
+in_any_order verb files prefix back p q none = by (bytes_eq p.0 q.0) refl
   where
     a : List (List ℕ)
-    a = words_of (front ++ p ∷ q ∷ back)
+    a = words_of (prefix ++ p ∷ q ∷ back)
 
     b : List (List ℕ)
-    b = words_of (front ++ q ∷ p ∷ back)
+    b = words_of (prefix ++ q ∷ p ∷ back)
 
     by : (t : Bool) → bytes_eq p.0 q.0 ≡ t → command_with verb files a ≡ command_with verb files b
     by false e =
-        ap (λ o. cond o (sparing (command_by verb files a)) None) (options-alike verb front back p q e)
-        ∙ ap (λ k. cond (are_options verb b) (sparing k) None) (commands-alike verb files a b (values-alike front back p q e) (inputs-alike verb front back p q none))
+        ap (λ o. cond o (sparing (command_by verb files a)) None) (options-alike verb prefix back p q e)
+        ∙ ap (λ k. cond (are_options verb b) (sparing k) None) (commands-alike verb files a b (values-alike prefix back p q e) (inputs-alike verb prefix back p q none))
     by true e =
-        ap (λ o. cond o (sparing (command_by verb files a)) None) (twice verb front back p q (is-same q.0 p.0 (sym (same p.0 q.0 e))))
-        ∙ sym (ap (λ o. cond o (sparing (command_by verb files b)) None) (twice verb front back q p e))
+        ap (λ o. cond o (sparing (command_by verb files a)) None) (twice verb prefix back p q (is-same q.0 p.0 (sym (same p.0 q.0 e))))
+        ∙ sym (ap (λ o. cond o (sparing (command_by verb files b)) None) (twice verb prefix back q p e))

@@ -15,7 +15,7 @@ use Rattle.kc_kit_words.specs.Options.{form_of, has_form, value_of, are_options,
 use Rattle.kc_kit_words.specs.Values.{is_name, range_of}
 use Rattle.kc_kit_words.specs.Usage.{wrong_text, no_command, bad_value, bad_number, twice, lacks, wrong_value, wrong_last, wrong_option, lacks_out, wrong_run, wrong_extent, wrong_listing, wrong_placing, wrong_outputs, wrong_name, wrong_files, wrong_file, wrong_pair, wrong_range, wrong_list, wrong_number, wrong_word, wrong_more, wrong_by, wrong_with, wrong_writes, overwrites, plain_usage_of}
 use Rattle.kc_kit_words.specs.UsageLaw.{WrongWhereNoCommand}
-use Rattle.kc_kit_words.specs.Commands.{Command, Helps, TellsVersion, Runs, Profiles, Assembles, Packs, Links, ProfilesHex, Lists, Debugs, Generates, overwritten, sparing}
+use Rattle.kc_kit_words.specs.Commands.{Command, Helps, ReportsVersion, Runs, Profiles, Assembles, Packs, Links, ProfilesHex, Lists, Debugs, Generates, overwritten, sparing}
 use Rattle.kc_kit_words.specs.Words.{count_files, files_of, options_of, are_files, placing_of, is_other, are_apart, beside_of, run_so, run_by, assembles_by, assemble_by, pack_by, links_by, link_by, hex_so, hex_by, lists_by, list_by, debug_by, generate_by, dump_by, explain_by, alone, command_by, help_on, plain_command_of}
 use Rattle.kc_kit_words.proofs.OptionLemmas.{behind}
 
@@ -51,14 +51,14 @@ wrong_option-none verb (a ∷ ws) h = absurd (omega (arith, h))
 
 -- ---- the words with their verb, of which so many name files
 
-pub plain_usage-verb : (ws front back : List (String Global)) (v : String Global) (n : ℕ) → 1 ≤ length ws → v ≡ get_or ws 0 v → n ≡ count_files (map string_bytes (take (length ws - 1) (drop 1 ws))) →
-    front ≡ take n (take (length ws - 1) (drop 1 ws)) → back ≡ drop n (take (length ws - 1) (drop 1 ws)) →
-    plain_usage_of (map string_bytes ws) ≡ wrong_with (string_bytes v) (map string_bytes front) (map string_bytes back)
-plain_usage-verb [] front back v n some first count f b = absurd (omega (arith, some))
-plain_usage-verb (a ∷ ws) front back v n some first count f b =
+pub plain_usage-verb : (ws prefix back : List (String Global)) (v : String Global) (n : ℕ) → 1 ≤ length ws → v ≡ get_or ws 0 v → n ≡ count_files (map string_bytes (take (length ws - 1) (drop 1 ws))) →
+    prefix ≡ take n (take (length ws - 1) (drop 1 ws)) → back ≡ drop n (take (length ws - 1) (drop 1 ws)) →
+    plain_usage_of (map string_bytes ws) ≡ wrong_with (string_bytes v) (map string_bytes prefix) (map string_bytes back)
+plain_usage-verb [] prefix back v n some first count f b = absurd (omega (arith, some))
+plain_usage-verb (a ∷ ws) prefix back v n some first count f b =
     let whole : take (length (a ∷ ws) - 1) ws ≡ ws = take_all (length (a ∷ ws) - 1) ws (omega arith) in
     let so_many : n ≡ count_files (map string_bytes ws) = count ∙ ap (λ l. count_files (map string_bytes l)) whole in
-    let files : map string_bytes front ≡ take (count_files (map string_bytes ws)) (map string_bytes ws) =
+    let files : map string_bytes prefix ≡ take (count_files (map string_bytes ws)) (map string_bytes ws) =
     ap (map string_bytes) (f ∙ ap (take n) whole) ∙ sym (take-map string_bytes n ws) ∙ ap (λ k. take k (map string_bytes ws)) so_many in
     let options : map string_bytes back ≡ drop (count_files (map string_bytes ws)) (map string_bytes ws) =
     ap (map string_bytes) (b ∙ ap (drop n) whole) ∙ sym (drop-map string_bytes n ws) ∙ ap (λ k. drop k (map string_bytes ws)) so_many in
@@ -275,7 +275,7 @@ verbs-agree verb files options w b e =
     (choose (bytes_eq verb (codes "vcd")) _ _ b _ _ (gate w _ b _ e (dump-agrees files options))
     (choose (bytes_eq verb (codes "explain")) _ _ b _ _ (gate w _ b _ e (explain-agrees files))
     (choose (bytes_eq verb (codes "--help")) _ _ b _ _ (gate w _ b _ e (alone-agrees files Helps))
-    (choose (bytes_eq verb (codes "--version")) _ _ b _ _ (gate w _ b _ e (alone-agrees files TellsVersion))
+    (choose (bytes_eq verb (codes "--version")) _ _ b _ _ (gate w _ b _ e (alone-agrees files ReportsVersion))
     (other-verb b (no_command verb) None refl))))))))))))
 
 -- and a command that would write over what it reads is none

@@ -9,7 +9,7 @@ use Rattle.kc_kit_words.specs.declared.command.Command.TheVariants as read
 use Rattle.kc_kit_words.specs.declared.extent.Extent.{Extent}
 use Rattle.kc_kit_words.specs.Inputs.{inputs_in}
 use Rattle.kc_kit_words.specs.Values.{max_states, max_lives}
-use Rattle.kc_kit_words.specs.Commands.{Beside, Command, Helps, HelpsOn, TellsVersion, Runs, Profiles, Assembles, Packs, Links, RunsHex, ProfilesHex, Lists, Debugs, Generates, Dumps, Explains}
+use Rattle.kc_kit_words.specs.Commands.{Beside, Command, Helps, HelpsOn, ReportsVersion, Runs, Profiles, Assembles, Packs, Links, RunsHex, ProfilesHex, Lists, Debugs, Generates, Dumps, Explains}
 
 -- the names of the files that are written beside a hex file
 abbrev pub beside_in : ReadBeside → Beside
@@ -18,7 +18,7 @@ beside_in beside = record { lines = option_map (λ l. l.now) beside.lines; map =
 abbrev pub asked : Read → Command
 asked read.Help = Helps
 asked (read.HelpOn help) = HelpsOn help.verb.now
-asked read.Version = TellsVersion
+asked read.Version = ReportsVersion
 asked (read.Profile run) = Profiles (map string_bytes run.files.now) (inputs_in run.inputs) run.states run.placing run.out.now
 asked (read.Run run) = Runs (map string_bytes run.files.now) (inputs_in run.inputs) run.extent run.placing
 asked (read.Assemble assemble) = Assembles assemble.file.now assemble.out.now (option_map (λ l. l.now) assemble.list)

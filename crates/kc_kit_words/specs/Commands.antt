@@ -16,7 +16,7 @@ pub record Beside : Type 0 where
 pub data Command : Type 0 where
   Helps : Command
   HelpsOn : List ℕ → Command
-  TellsVersion : Command
+  ReportsVersion : Command
   Runs : List (List ℕ) → List (Role × List ℕ) → Extent → Ranges → Command
   Profiles : List (List ℕ) → List (Role × List ℕ) → ℕ → Ranges → List ℕ → Command
   Assembles : List ℕ → List ℕ → Option (List ℕ) → Command

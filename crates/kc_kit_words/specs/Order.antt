@@ -11,6 +11,6 @@ words_of (option ∷ options) = option.0 ∷ option.1 ∷ words_of options
 -- two options that stand beside one another may change places, but two that name files for reading
 abbrev pub OptionsInAnyOrder : Type 0
 OptionsInAnyOrder =
-    (verb : List ℕ) (files : List (List ℕ)) (front back : List (List ℕ × List ℕ)) (one other : List ℕ × List ℕ)
+    (verb : List ℕ) (files : List (List ℕ)) (prefix back : List (List ℕ × List ℕ)) (one other : List ℕ × List ℕ)
     → (role_of verb one.0 ≡ None) ⊎ (role_of verb other.0 ≡ None)
-    → command_with verb files (words_of (front ++ one ∷ other ∷ back)) ≡ command_with verb files (words_of (front ++ other ∷ one ∷ back))
+    → command_with verb files (words_of (prefix ++ one ∷ other ∷ back)) ≡ command_with verb files (words_of (prefix ++ other ∷ one ∷ back))

@@ -207,5 +207,5 @@ noted (Some text) = codes "kc96: error: " ++ text ++ codes "; see kc96 --help\n"
 noted None = []
 
 -- the note of some words that are no command
-abbrev pub usage_note : List (List ℕ) → List ℕ
-usage_note words = noted (usage_of words)
+abbrev pub usage_diagnostic : List (List ℕ) → List ℕ
+usage_diagnostic words = noted (usage_of words)

@@ -8,7 +8,7 @@ use Rattle.kc_link_place.specs.declared.ranges.Ranges.{Ranges}
 use Rattle.kc_link_place.specs.Ranges.{are_in_bounds, lies_within}
 use Rattle.kc_kit_words.specs.declared.extent.Extent.{Extent}
 use Rattle.kc_kit_words.specs.declared.inputs.Role.{Role}
-use Rattle.kc_kit_words.specs.Commands.{Beside, Command, Helps, HelpsOn, TellsVersion, Runs, Profiles, Assembles, Packs, Links, RunsHex, ProfilesHex, Lists, Debugs, Generates, Dumps, Explains, sparing}
+use Rattle.kc_kit_words.specs.Commands.{Beside, Command, Helps, HelpsOn, ReportsVersion, Runs, Profiles, Assembles, Packs, Links, RunsHex, ProfilesHex, Lists, Debugs, Generates, Dumps, Explains, sparing}
 use Rattle.kc_kit_words.specs.Options.{are_options, inputs_of, value_of, clock_in, extent_in, range_in, length_in}
 use Rattle.kc_kit_words.specs.Number.{number_of}
 use Rattle.kc_kit_words.specs.Values.{is_name, range_of}
@@ -162,7 +162,7 @@ command_by verb files options =
     else if bytes_eq verb (codes "vcd") then dump_by files options
     else if bytes_eq verb (codes "explain") then explain_by files
     else if bytes_eq verb (codes "--help") then alone files Helps
-    else if bytes_eq verb (codes "--version") then alone files TellsVersion
+    else if bytes_eq verb (codes "--version") then alone files ReportsVersion
     else None
 
 -- the command of words whose options it takes; it writes no file that it reads

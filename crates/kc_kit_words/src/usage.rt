@@ -6,7 +6,7 @@ ghost use Rattle.kc_trace.specs.Trace.{out_of};
 ghost use Rattle.kc_kit_shown.specs.Shown.{word_shown};
 ghost use Rattle.kc_kit_words.specs.Asked.{asked};
 ghost use Rattle.kc_kit_words.specs.Options.{form_of, value_of};
-ghost use Rattle.kc_kit_words.specs.Usage.{wrong_text, bad_value, lacks, unknown, wrong_writes, wrong_value, wrong_last, wrong_option, lacks_out, wrong_extent, wrong_listing, wrong_placing, wrong_outputs, wrong_name, wrong_files, wrong_file, wrong_pair, wrong_range, wrong_list, wrong_number, wrong_word, wrong_more, wrong_by, plain_usage_of, usage_of, usage_note};
+ghost use Rattle.kc_kit_words.specs.Usage.{wrong_text, bad_value, lacks, unknown, wrong_writes, wrong_value, wrong_last, wrong_option, lacks_out, wrong_extent, wrong_listing, wrong_placing, wrong_outputs, wrong_name, wrong_files, wrong_file, wrong_pair, wrong_range, wrong_list, wrong_number, wrong_word, wrong_more, wrong_by, plain_usage_of, usage_of, usage_diagnostic};
 ghost use Rattle.kc_kit_words.specs.UsageLaw.{WrongWhereNoCommand};
 ghost use Rattle.kc_kit_words.specs.Values.{range_of};
 ghost use Rattle.kc_kit_words.specs.Words.{beside_of};
@@ -20,7 +20,7 @@ use crate::words::{
     MAX_FILES, are_apart, are_names, beside_in, help_on, is_other, placing, read_command,
 };
 use kc_base::Sink;
-use kc_kit_shown::tell_word;
+use kc_kit_shown::report_word;
 use kc_trace::TraceOut;
 
 /// What is wrong in words that are no command.
@@ -63,56 +63,64 @@ pub enum Wrong<'a> {
 }
 
 // Puts a text, and a word behind it, as it is shown.
-fn put_word<N: Sink>(notes: &mut TraceOut<N>, text: &str, word: &str)
-    ensures { Puts (out_of N.written N.faults notes.old) (text.now ++ word_shown word.now) (out_of N.written N.faults notes.new) }
+fn put_word<N: Sink>(diagnostics: &mut TraceOut<N>, text: &str, word: &str)
+    ensures { Puts (out_of N.written N.faults diagnostics.old) (text.now ++ word_shown word.now) (out_of N.written N.faults diagnostics.new) }
 {
-    notes.put_text(text.as_bytes());
-    tell_word(notes, word.as_bytes());
+    diagnostics.put_text(text.as_bytes());
+    report_word(diagnostics, word.as_bytes());
 }
 
 // Puts an option that is missing.
-fn put_lack<N: Sink>(notes: &mut TraceOut<N>, option: &str)
-    ensures { Puts (out_of N.written N.faults notes.old) (lacks option.now) (out_of N.written N.faults notes.new) }
+fn put_lack<N: Sink>(diagnostics: &mut TraceOut<N>, option: &str)
+    ensures { Puts (out_of N.written N.faults diagnostics.old) (lacks option.now) (out_of N.written N.faults diagnostics.new) }
 {
-    notes.put_text(b"missing option ");
-    notes.put_text(option.as_bytes());
+    diagnostics.put_text(b"missing option ");
+    diagnostics.put_text(option.as_bytes());
 }
 
 // Puts what is said of a bad value.
-fn put_bad_value<N: Sink>(notes: &mut TraceOut<N>, option: &str, value: &str)
-    ensures { Puts (out_of N.written N.faults notes.old) (bad_value option.now value.now) (out_of N.written N.faults notes.new) }
+fn put_bad_value<N: Sink>(diagnostics: &mut TraceOut<N>, option: &str, value: &str)
+    ensures { Puts (out_of N.written N.faults diagnostics.old) (bad_value option.now value.now) (out_of N.written N.faults diagnostics.new) }
 {
-    put_word(notes, "bad value ", value);
-    put_word(notes, " of option ", option);
+    put_word(diagnostics, "bad value ", value);
+    put_word(diagnostics, " of option ", option);
 }
 
 impl Wrong<'_> {
     // Puts what is said of it.
-    fn put<N: Sink>(self, notes: &mut TraceOut<N>)
-        ensures { Puts (out_of N.written N.faults notes.old) (wrong_text self.entry) (out_of N.written N.faults notes.new) }
+    fn put<N: Sink>(self, diagnostics: &mut TraceOut<N>)
+        ensures { Puts (out_of N.written N.faults diagnostics.old) (wrong_text self.entry) (out_of N.written N.faults diagnostics.new) }
     {
         match self {
-            Wrong::NoWords => notes.put_text(b"no command"),
-            Wrong::NoCommand(verb) => put_word(notes, "unknown command ", verb),
-            Wrong::NoOption(option) => put_word(notes, "unknown option ", option),
-            Wrong::Misplaced(word) => put_word(notes, "files come first, before options: ", word),
-            Wrong::NoValue(option) => put_word(notes, "missing value of option ", option),
-            Wrong::BadValue { option, value } => put_bad_value(notes, option, value),
-            Wrong::Twice(option) => put_word(notes, "repeated option ", option),
-            Wrong::Lacks(option) => put_lack(notes, option),
-            Wrong::FewFiles => notes.put_text(b"too few files"),
-            Wrong::ManyFiles => notes.put_text(b"too many files"),
-            Wrong::BadName => notes.put_text(b"a file's name has not 1 to 255 bytes"),
-            Wrong::FewWords => notes.put_text(b"too few words"),
-            Wrong::ManyWords => notes.put_text(b"too many words"),
-            Wrong::SameFile => notes.put_text(b"two files to write have one name"),
+            Wrong::NoWords => diagnostics.put_text(b"no command"),
+            Wrong::NoCommand(verb) => put_word(diagnostics, "unknown command ", verb),
+            Wrong::NoOption(option) => put_word(diagnostics, "unknown option ", option),
+            Wrong::Misplaced(word) => put_word(
+                diagnostics,
+                "files come first, before options: ",
+                word,
+            ),
+            Wrong::NoValue(option) => put_word(diagnostics, "missing value of option ", option),
+            Wrong::BadValue { option, value } => put_bad_value(diagnostics, option, value),
+            Wrong::Twice(option) => put_word(diagnostics, "repeated option ", option),
+            Wrong::Lacks(option) => put_lack(diagnostics, option),
+            Wrong::FewFiles => diagnostics.put_text(b"too few files"),
+            Wrong::ManyFiles => diagnostics.put_text(b"too many files"),
+            Wrong::BadName => diagnostics.put_text(b"a file's name has not 1 to 255 bytes"),
+            Wrong::FewWords => diagnostics.put_text(b"too few words"),
+            Wrong::ManyWords => diagnostics.put_text(b"too many words"),
+            Wrong::SameFile => diagnostics.put_text(b"two files to write have one name"),
             Wrong::Overwrites(name) => {
-                put_word(notes, "a file that is read would be overwritten: ", name);
+                put_word(
+                    diagnostics,
+                    "a file that is read would be overwritten: ",
+                    name,
+                );
             }
-            Wrong::MoreLives => notes.put_text(b"--profile does not go with --lives"),
-            Wrong::OutOfBounds => notes.put_text(b"a range is out of bounds"),
-            Wrong::BadRange(range) => put_word(notes, "bad range ", range),
-            Wrong::BadNumber(number) => put_word(notes, "bad number ", number),
+            Wrong::MoreLives => diagnostics.put_text(b"--profile does not go with --lives"),
+            Wrong::OutOfBounds => diagnostics.put_text(b"a range is out of bounds"),
+            Wrong::BadRange(range) => put_word(diagnostics, "bad range ", range),
+            Wrong::BadNumber(number) => put_word(diagnostics, "bad number ", number),
         }
     }
 }
@@ -449,13 +457,13 @@ pub fn wrong_words(words: &[String]) -> Option<Wrong<'_>>
 }
 
 /// Writes what is wrong in some words; nothing where they are a command. It takes no memory.
-pub fn put_usage<N: Sink>(words: &[String], notes: &mut TraceOut<N>)
-    ensures { Puts (out_of N.written N.faults notes.old) (usage_note (map string_bytes words.now)) (out_of N.written N.faults notes.new) }
+pub fn put_usage<N: Sink>(words: &[String], diagnostics: &mut TraceOut<N>)
+    ensures { Puts (out_of N.written N.faults diagnostics.old) (usage_diagnostic (map string_bytes words.now)) (out_of N.written N.faults diagnostics.new) }
 {
     if let Some(wrong) = wrong_words(words) {
-        notes.put_text(b"kc96: error: ");
-        wrong.put(notes);
-        notes.put_text(b"; see kc96 --help\n");
+        diagnostics.put_text(b"kc96: error: ");
+        wrong.put(diagnostics);
+        diagnostics.put_text(b"; see kc96 --help\n");
     }
 }
 

@@ -6,7 +6,7 @@ ghost use Rattle.kc_kit_words.specs.Options.{has_form};
 
 use crate::inputs::Role;
 use crate::numbers::{decimal, number};
-use kc_base::{after, front};
+use kc_base::{after, prefix};
 
 /// The form of the value of an option.
 #[derive(Clone, Copy)]
@@ -101,7 +101,7 @@ pub(crate) fn range(word: &str) -> Option<(u16, u16)>
 {
     let word = word.as_bytes();
     let at = dash_of(word)?;
-    let first = short(front(word, at))?;
+    let first = short(prefix(word, at))?;
     let last = short(after(word, at + 1))?;
     Some((first, last))
 }

@@ -65,7 +65,7 @@ pub fn rest(tokens: &[Token], at: usize) -> &[Token]
 }
 
 /// The first n tokens.
-pub fn front(tokens: &[Token], n: usize) -> &[Token]
+pub fn prefix(tokens: &[Token], n: usize) -> &[Token]
     requires { n ≤ length tokens.now }
     ensures { result.now ≡ take n tokens.now }
 {

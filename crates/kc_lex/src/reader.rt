@@ -6,7 +6,7 @@ use crate::chars::is_text;
 use crate::fault::{SourceCode, SourceFault};
 use crate::scan::{scan, word_len};
 use crate::token::{Line, Tokens};
-use kc_base::{NoMemory, after, first_line, front};
+use kc_base::{NoMemory, after, first_line, prefix};
 use std::alloc::Global;
 
 fn begins_control(line: &[u8]) -> bool
@@ -23,7 +23,7 @@ fn is_include(line: &[u8]) -> bool
     ensures { result ≡ includes line.now }
 {
     let rest = after(line, 1);
-    front(rest, word_len(rest)).eq_ignore_ascii_case(b"INCLUDE")
+    prefix(rest, word_len(rest)).eq_ignore_ascii_case(b"INCLUDE")
 }
 
 fn begins_comment(b: u8, quoted: bool) -> bool
@@ -116,7 +116,7 @@ pub fn lines(alloc: Global, source: &[u8]) -> Result<Vec<Line>, SourceFault>
     let mut number = 1;
     while !rest.is_empty() {
         let (len, used) = first_line(rest);
-        let line = match line_at(alloc, number, front(rest, len)) {
+        let line = match line_at(alloc, number, prefix(rest, len)) {
             Ok(line) => line,
             Err(fault) => return Err(fault),
         };

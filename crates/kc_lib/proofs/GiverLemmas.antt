@@ -56,8 +56,8 @@ known_given es ms name k = ap (λ (o : Option ℕ). is_some o) (k name) ∙ give
 -- the names of the first modules, with those of the next one
 pub knows_next : (es : List (Vec ℕ × ℕ)) (ms : List Object) (n : ℕ) (m : Object) → n < length ms → m ≡ get_or ms n m → Knows es (take n ms ++ m ∷ []) → Knows es (take (n + 1) ms)
 knows_next es ms n m l e k =
-    let front : take n ms ++ m ∷ [] ≡ take (n + 1) ms = ap (λ x. take n ms ++ x ∷ []) e ∙ sym (take_more ms n m l) in
-    subst (λ (f : List Object). Knows es f) front k
+    let prefix : take n ms ++ m ∷ [] ≡ take (n + 1) ms = ap (λ x. take n ms ++ x ∷ []) e ∙ sym (take_more ms n m l) in
+    subst (λ (f : List Object). Knows es f) prefix k
 
 -- the first module that gives a name
 pub record Giver (n : ℕ) (ms : List Object) (name : List ℕ) (number : ℕ) : Type 0 where

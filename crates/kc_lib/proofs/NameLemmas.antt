@@ -108,10 +108,10 @@ none_behind (m ∷ ms) before once =
 pub none_from_once : (ms : List Object) → GivenOnce ms → doubled ms ≡ None
 none_from_once ms once = none_behind ms [] once
 
-told_behind : (ms before : List Object) (name : List ℕ) → GivenOnce before → doubled_behind before ms ≡ Some name → IsFirstDouble (before ++ ms) name
+reported_behind : (ms before : List Object) (name : List ℕ) → GivenOnce before → doubled_behind before ms ≡ Some name → IsFirstDouble (before ++ ms) name
 unfolding doubled_behind
-told_behind [] before name once h = absurd (cc h)
-told_behind (m ∷ ms) before name once h = by (second_of before m.publics) refl h (told_behind ms (before ++ m ∷ []) name)
+reported_behind [] before name once h = absurd (cc h)
+reported_behind (m ∷ ms) before name once h = by (second_of before m.publics) refl h (reported_behind ms (before ++ m ∷ []) name)
   where
     by : (o : Option (List ℕ)) → second_of before m.publics ≡ o → option_or o (doubled_behind (before ++ m ∷ []) ms) ≡ Some name
         → (GivenOnce (before ++ m ∷ []) → doubled_behind (before ++ m ∷ []) ms ≡ Some name → IsFirstDouble ((before ++ m ∷ []) ++ ms) name) → IsFirstDouble (before ++ m ∷ ms) name
@@ -133,8 +133,8 @@ told_behind (m ∷ ms) before name once h = by (second_of before m.publics) refl
           no_public_before = s.none_before;
         }
 
-pub told_first : (ms : List Object) (name : List ℕ) → doubled ms ≡ Some name → IsFirstDouble ms name
-told_first ms name h = told_behind ms [] name once_nothing h
+pub reported_first : (ms : List Object) (name : List ℕ) → doubled ms ≡ Some name → IsFirstDouble ms name
+reported_first ms name h = reported_behind ms [] name once_nothing h
 
 -- ---- the code's steps
 
@@ -153,9 +153,9 @@ rest_is ms n m l e = drop_more ms n m l ∙ ap (λ x. x ∷ drop (n + 1) ms) (sy
 pub doubled_step : (ms : List Object) (n : ℕ) (m : Object) → n < length ms → m ≡ get_or ms n m → second_of (take n ms) m.publics ≡ None
     → doubled_behind (take n ms) (drop n ms) ≡ doubled_behind (take (n + 1) ms) (drop (n + 1) ms)
 doubled_step ms n m l e none =
-    let front : take n ms ++ m ∷ [] ≡ take (n + 1) ms = ap (λ x. take n ms ++ x ∷ []) e ∙ sym (take_more ms n m l) in
+    let prefix : take n ms ++ m ∷ [] ≡ take (n + 1) ms = ap (λ x. take n ms ++ x ∷ []) e ∙ sym (take_more ms n m l) in
     ap (λ (r : List Object). doubled_behind (take n ms) r) (rest_is ms n m l e)
-    ∙ (step_none (take n ms) m (drop (n + 1) ms) none ∙ ap (λ (b : List Object). doubled_behind b (drop (n + 1) ms)) front)
+    ∙ (step_none (take n ms) m (drop (n + 1) ms) none ∙ ap (λ (b : List Object). doubled_behind b (drop (n + 1) ms)) prefix)
 
 pub doubled_stop : (ms : List Object) (n : ℕ) (m : Object) (name : List ℕ) → n < length ms → m ≡ get_or ms n m → second_of (take n ms) m.publics ≡ Some name
     → doubled_behind (take n ms) (drop n ms) ≡ Some name

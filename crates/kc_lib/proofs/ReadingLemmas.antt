@@ -22,7 +22,7 @@ use Rattle.kc_lib.specs.declared.faults.LibCode.TheVariants as code
 use Rattle.kc_lib.specs.Names.{GivenOnce, second_of, doubled_behind, doubled}
 use Rattle.kc_lib.specs.Format.{member_bytes, library_bytes, IsMember, IsLibrary, can_be_library}
 use Rattle.kc_lib.specs.Reading.{heads, byte_fault, head_fault, member_size, lengths_fault, unless, and_then, second_fault, by_object, member_of, object_in, members, read_answer}
-use Rattle.kc_lib.specs.Answers.{IsCause, IsPacked, TellsPacked}
+use Rattle.kc_lib.specs.Answers.{IsCause, IsPacked, ReportsPacked}
 use Rattle.kc_lib.proofs.NameLemmas.{once_from_none, none_from_once}
 
 -- ---- numbers of four bytes
@@ -98,9 +98,9 @@ unfolding members
 members_step all n before m t is none =
     let rest = member_bytes m ++ t in
     let size = size_is m t is in
-    let front : take (length (member_bytes m)) rest ≡ member_bytes m = take_at (member_bytes m) t (length (member_bytes m)) refl in
+    let prefix : take (length (member_bytes m)) rest ≡ member_bytes m = take_at (member_bytes m) t (length (member_bytes m)) refl in
     let behind : drop (length (member_bytes m)) rest ≡ t = drop_at (member_bytes m) t (length (member_bytes m)) refl in
-    let object : object_in rest ≡ spelling m = ap (λ (n : ℕ). drop 4 (take n rest)) size ∙ ap (λ (l : List ℕ). drop 4 l) front in
+    let object : object_in rest ≡ spelling m = ap (λ (n : ℕ). drop 4 (take n rest)) size ∙ ap (λ (l : List ℕ). drop 4 l) prefix in
     let ok : member_of (all - length rest) before (object_in rest) ≡ Ok m = ap (member_of (all - length rest) before) object ∙ member_ok (all - length rest) before m is none in
     let left : drop (member_size rest) rest ≡ t = ap (λ (n : ℕ). drop n rest) size ∙ behind in
     ap (λ (r : Result Object LibFault). and_then r (λ x. members all n (before ++ x ∷ []) (drop (member_size rest) rest))) ok ∙ ap (members all n (before ++ m ∷ [])) left
@@ -127,7 +127,7 @@ library_is_read bytes ms is =
     let whole : members all (length ms) [] body ≡ Ok ms = members_ok all ms [] is.members (none_from_once ms is.once) in
     subst (λ (b : List ℕ). read_answer b ≡ Ok ms) is.written (rw (head, lengths) whole)
 
-pub packed_is_library : (ms : List Object) (r : Result (Vec ℕ) LibFault) → 0 < length ms → length ms ≤ 64 → All IsMember ms → IsPacked ms r → TellsPacked ms r
+pub packed_is_library : (ms : List Object) (r : Result (Vec ℕ) LibFault) → 0 < length ms → length ms ≤ 64 → All IsMember ms → IsPacked ms r → ReportsPacked ms r
 packed_is_library ms (Ok bytes) some few members is = record { some = some; few = few; members = members; once = once_from_none ms is.0; written = sym is.1 }
 packed_is_library ms (Err fault) some few members is = tt
 
@@ -370,8 +370,8 @@ cause_by (Duplicate name) P Q f h = f h
 cause_by TooMany P Q f h = f h
 cause_by NoMemory P Q f h = h
 
-pub told_no_library : (bytes : List ℕ) (fault : LibFault) → IsCause fault (read_answer bytes ≡ Err fault) → IsCause fault ((ms : List Object) → IsLibrary bytes ms → ⊥)
-told_no_library bytes fault h =
+pub reported_no_library : (bytes : List ℕ) (fault : LibFault) → IsCause fault (read_answer bytes ≡ Err fault) → IsCause fault ((ms : List Object) → IsLibrary bytes ms → ⊥)
+reported_no_library bytes fault h =
     cause_by fault (read_answer bytes ≡ Err fault) ((ms : List Object) → IsLibrary bytes ms → ⊥)
     (λ no ms is. let ok : read_answer bytes ≡ Ok ms = library_is_read bytes ms is in cc (ok, no)) h
 

@@ -21,13 +21,13 @@ IsPacked ms (Err NoMemory) = Unit {0}
 IsPacked ms (Err _) = ⊥
 
 -- what is packed is a library of the modules, which is read as them
-abbrev pub TellsPacked : List Object → Result (Vec ℕ) LibFault → Type 0
-TellsPacked ms (Ok bytes) = IsLibrary bytes.items ms
-TellsPacked ms (Err fault) = Unit {0}
+abbrev pub ReportsPacked : List Object → Result (Vec ℕ) LibFault → Type 0
+ReportsPacked ms (Ok bytes) = IsLibrary bytes.items ms
+ReportsPacked ms (Err fault) = Unit {0}
 
 abbrev pub IsOnce : Option (List ℕ) → Result (Unit {0}) LibFault → Type 0
 IsOnce name (Ok done) = name ≡ None
-IsOnce name (Err (Duplicate told)) = name ≡ Some told
+IsOnce name (Err (Duplicate reported)) = name ≡ Some reported
 IsOnce name (Err NoMemory) = Unit {0}
 IsOnce name (Err _) = ⊥
 
@@ -46,12 +46,12 @@ IsMemberRead (Err fault) answer = IsCause fault (answer ≡ Err fault)
 
 abbrev pub IsChecked : Option LibFault → Result (Unit {0}) LibFault → Type 0
 IsChecked fault (Ok done) = fault ≡ None
-IsChecked fault (Err told) = IsCause told (fault ≡ Some told)
+IsChecked fault (Err reported) = IsCause reported (fault ≡ Some reported)
 
 -- a call gives the library that the bytes are, and a fault only where they are none
-abbrev pub TellsLibrary : List ℕ → Result (List Object) LibFault → Type 0
-TellsLibrary bytes (Ok ms) = IsLibrary bytes ms
-TellsLibrary bytes (Err fault) = IsCause fault ((ms : List Object) → IsLibrary bytes ms → ⊥)
+abbrev pub ReportsLibrary : List ℕ → Result (List Object) LibFault → Type 0
+ReportsLibrary bytes (Ok ms) = IsLibrary bytes ms
+ReportsLibrary bytes (Err fault) = IsCause fault ((ms : List Object) → IsLibrary bytes ms → ⊥)
 
 -- taking: the members in order, or that there are too many to be linked
 abbrev pub Takes : List Object → List Object → Result (Vec Object) LibFault → Type 0

@@ -16,13 +16,13 @@ abbrev pub LibraryIsRead : Type 0
 LibraryIsRead = (bytes : List ℕ) (ms : List Object) → IsLibrary bytes ms → read_answer bytes ≡ Ok ms
 
 -- a name that is told is the first one that is public in a second module, and none is told where each is given once
-pub record TellsDouble (ms : List Object) : Type 0 where
+pub record ReportsDouble (ms : List Object) : Type 0 where
   pub none : doubled ms ≡ None → GivenOnce ms
   pub once : GivenOnce ms → doubled ms ≡ None
-  pub told : (name : List ℕ) → doubled ms ≡ Some name → IsFirstDouble ms name
+  pub reported : (name : List ℕ) → doubled ms ≡ Some name → IsFirstDouble ms name
 
-abbrev pub DoublesAreTold : Type 0
-DoublesAreTold = (ms : List Object) → TellsDouble ms
+abbrev pub DoublesAreReported : Type 0
+DoublesAreReported = (ms : List Object) → ReportsDouble ms
 
 -- at most one list is taken
 abbrev pub TakenOnce : Type 0

@@ -1,5 +1,5 @@
 // Laws of libraries. Each function does nothing when it runs.
-ghost use Rattle.kc_lib.specs.Laws.{ReadIsLibrary, LibraryIsRead, DoublesAreTold, TakenOnce};
+ghost use Rattle.kc_lib.specs.Laws.{ReadIsLibrary, LibraryIsRead, DoublesAreReported, TakenOnce};
 
 /// Bytes that are read as modules are a library of those modules.
 pub fn read_is_library()
@@ -12,8 +12,8 @@ pub fn library_is_read()
 {}
 
 /// A name is told as given twice exactly where two modules give one, and it is the first one that comes again.
-pub fn doubles_are_told()
-    ensures { DoublesAreTold }
+pub fn doubles_are_reported()
+    ensures { DoublesAreReported }
 {}
 
 /// Of the members of a library modules take one list at most.

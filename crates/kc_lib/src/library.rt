@@ -1,5 +1,5 @@
 ghost use Rattle.std.specs.Prelude.{◌≡◌, ◌≤◌, length};
-ghost use Rattle.kc_lib.specs.Answers.{IsRead, TellsLibrary, Takes};
+ghost use Rattle.kc_lib.specs.Answers.{IsRead, ReportsLibrary, Takes};
 ghost use Rattle.kc_lib.specs.Reading.{read_answer};
 
 use crate::faults::LibFault;
@@ -37,7 +37,7 @@ impl Library {
     pub fn read(alloc: Global, bytes: &[u8]) -> Result<Library, LibFault>
         requires { length bytes.now ≤ 1048576 }
         ensures answer { IsRead result (read_answer bytes.now) }
-        ensures format { TellsLibrary bytes.now result }
+        ensures format { ReportsLibrary bytes.now result }
     {
         let members = read_library(alloc, bytes)?;
         Ok(Library { members })

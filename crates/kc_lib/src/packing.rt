@@ -3,7 +3,7 @@ ghost use Rattle.std.specs.Prelude.{◌≡◌, ◌<◌, ◌≤◌, ◌^◌, ◌+
 ghost use Rattle.kc_obj_module.specs.Spelling.{long_bytes, spelling};
 ghost use Rattle.kc_lib.specs.Format.{member_bytes, library_bytes, IsMember};
 ghost use Rattle.kc_lib.specs.Names as named;
-ghost use Rattle.kc_lib.specs.Answers.{IsPacked, TellsPacked, IsOnce};
+ghost use Rattle.kc_lib.specs.Answers.{IsPacked, ReportsPacked, IsOnce};
 
 use crate::faults::LibFault;
 use crate::givers::Givers;
@@ -87,7 +87,7 @@ pub fn pack(alloc: Global, modules: &[Module]) -> Result<Vec<u8>, LibFault>
     requires few { length modules.now ≤ 64 }
     requires short { All (λ m. length (spelling m) < 2 ^ 32) modules.now }
     ensures answer { IsPacked modules.now result }
-    ensures library { TellsPacked modules.now result }
+    ensures library { ReportsPacked modules.now result }
 {
     can_be_members(modules);
     packed(alloc, modules)

@@ -8,7 +8,7 @@ ghost use Rattle.kc_lib.specs.Answers.{IsChecked, IsMemberRead, AreRead};
 
 use crate::faults::{LibCode, LibFault};
 use crate::givers::Givers;
-use kc_base::{NoMemory, after, front};
+use kc_base::{NoMemory, after, prefix};
 use kc_obj::{ObjFault, decode};
 use kc_obj_fields::fields::long;
 use kc_obj_module::Module;
@@ -145,7 +145,7 @@ fn read_members(alloc: Global, count: u8, bytes: &[u8]) -> Result<Vec<Module>, L
     let mut left = after(bytes, HEAD);
     for _member in 0..count {
         let size = member_size(left);
-        let object = after(front(left, size), LENGTH);
+        let object = after(prefix(left, size), LENGTH);
         let member = read_member(alloc, bytes.len() - left.len(), &givers, object)?;
         keep(alloc, &mut givers, &mut members, member)?;
         left = after(left, size);

@@ -36,12 +36,12 @@ impl Standing {
 
 /// The names that modules give, and those that the members of a library give.
 #[derive(Drop)]
-pub(crate) struct Homes {
+pub(crate) struct DefiningModules {
     pub(crate) given: Givers,
     pub(crate) held: Givers,
 }
 
-impl Homes {
+impl DefiningModules {
     // The number of the member that a name needs: the one that gives it, where no module does.
     fn needed(&self, name: &[u8]) -> Option<usize>
         ensures { (modules members : List Object) → Knows self.now.given.numbers.entries modules → Knows self.now.held.numbers.entries members → result ≡ stands.needed modules members name.now }
@@ -141,12 +141,12 @@ pub(crate) fn standings_of(
     ensures least { IfOk result (λ v. IsLeast modules.now members.now (is_in v.items)) }
     ensures long { IfOk result (λ v. length v.items ≡ length members.now) }
 {
-    let homes = Homes {
+    let defining_modules = DefiningModules {
         given: givers_of(alloc, modules)?,
         held: givers_of(alloc, members)?,
     };
     let mut standings = vec![in alloc; Standing::Out; members.len()]?;
-    homes.find(modules, members, &mut standings);
+    defining_modules.find(modules, members, &mut standings);
     Ok(standings)
 }
 

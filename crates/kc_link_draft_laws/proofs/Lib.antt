@@ -1,7 +1,7 @@
 pub mod Appending
-pub mod Cells
+pub mod PlacedBytes
 pub mod Linking
-pub mod Octets
+pub mod RelocatableBytes
 pub mod Positions
 pub mod Reading
 pub mod Row

@@ -2,7 +2,7 @@
 use Rattle.std.proofs.Common.{◌≡◌, ℕ, zero, suc, ◌+◌, ◌-◌, ◌≤◌, Some, List, [], ◌∷◌, ◌++◌, refl, sym, ap, ◌∙◌, arith}
 use Rattle.std.specs.Prelude.{slice_get, drop}
 use Rattle.kc_obj_relocation.specs.Numbers.{Bases}
-use Rattle.kc_asm_bytes.specs.declared.octet.Octet.{Octet}
+use Rattle.kc_asm_bytes.specs.declared.relocatable_byte.RelocatableByte.{RelocatableByte}
 use Rattle.kc_asm_bytes.specs.Filling.{fill, filled}
 use Rattle.kc_link_draft_laws.specs.Parts.{start, part_bases}
 use Rattle.kc_link_draft_laws.specs.Linked.{IsHeld, HeldIsRead}
@@ -13,9 +13,9 @@ drop_get (y ∷ xs) zero x e = let h : y ≡ x = cc e in ap (λ (z : ℕ). z ∷
 drop_get (y ∷ xs) (suc n) x e = drop_get xs n x e
 
 -- bytes at consecutive places from one on
-read : (image : List ℕ) (bases : Bases) (at place : ℕ) (octets : List Octet)
-    → ((k : ℕ) (o : Octet) → slice_get octets k ≡ Some o → slice_get image (place + k) ≡ Some (fill bases (at + k) o))
-    → (rest : List ℕ) × (drop place image ≡ filled bases at octets ++ rest)
+read : (image : List ℕ) (bases : Bases) (at place : ℕ) (relocatable_bytes : List RelocatableByte)
+    → ((k : ℕ) (o : RelocatableByte) → slice_get relocatable_bytes k ≡ Some o → slice_get image (place + k) ≡ Some (fill bases (at + k) o))
+    → (rest : List ℕ) × (drop place image ≡ filled bases at relocatable_bytes ++ rest)
 unfolding filled
 read image bases at place [] h = (drop place image, refl)
 read image bases at place (o ∷ os) h =
@@ -26,7 +26,7 @@ read image bases at place (o ∷ os) h =
     let s : suc place ≡ place + 1 = omega arith in
     (next.0, drop_get image place (fill bases at o) first ∙ ap (λ (l : List ℕ). fill bases at o ∷ l) (ap (λ (i : ℕ). drop i image) s ∙ next.1))
   where
-    step : (k : ℕ) (x : Octet) → slice_get os k ≡ Some x → slice_get image ((place + 1) + k) ≡ Some (fill bases ((at + 1) + k) x)
+    step : (k : ℕ) (x : RelocatableByte) → slice_get os k ≡ Some x → slice_get image ((place + 1) + k) ≡ Some (fill bases ((at + 1) + k) x)
     step k x e =
         let p : (place + 1) + k ≡ place + suc k = omega arith in
         let q : at + suc k ≡ (at + 1) + k = omega arith in
@@ -37,10 +37,10 @@ unfolding filled
 held_is_read image bases d part offset [] held stand = (drop ((start bases d part + offset) - 0x2000) image, refl)
 held_is_read image bases d part offset (o ∷ os) held stand = read image (part_bases bases d) (start bases d part + offset) ((start bases d part + offset) - 0x2000) (o ∷ os) byte
   where
-    is_held : (k : ℕ) (x : Octet) → slice_get (o ∷ os) k ≡ Some x → IsHeld image bases d part (offset + k) x
-    is_held k x e = held.octets part (offset + k) stand.0 x (record { is_part = stand.1.0; is_octet = stand.1.1 k x e })
+    is_held : (k : ℕ) (x : RelocatableByte) → slice_get (o ∷ os) k ≡ Some x → IsHeld image bases d part (offset + k) x
+    is_held k x e = held.relocatable_bytes part (offset + k) stand.0 x (record { is_part = stand.1.0; is_relocatable_byte = stand.1.1 k x e })
 
-    byte : (k : ℕ) (x : Octet) → slice_get (o ∷ os) k ≡ Some x → slice_get image (((start bases d part + offset) - 0x2000) + k) ≡ Some (fill (part_bases bases d) ((start bases d part + offset) + k) x)
+    byte : (k : ℕ) (x : RelocatableByte) → slice_get (o ∷ os) k ≡ Some x → slice_get image (((start bases d part + offset) - 0x2000) + k) ≡ Some (fill (part_bases bases d) ((start bases d part + offset) + k) x)
     byte k x e =
         let w : 0x2000 ≤ start bases d part + (offset + 0) = (is_held 0 o refl).within in
         let p : ((start bases d part + offset) - 0x2000) + k ≡ (start bases d part + (offset + k)) - 0x2000 = omega (arith, w) in

@@ -3,14 +3,14 @@ use Rattle.std.proofs.Common.{◌≡◌, true, false, List, refl, ap, ◌∙◌}
 use Rattle.kc_obj_relocation.specs.Numbers.{distance, number, first_part, second_part}
 use Rattle.kc_asm_bytes.specs.Filling.{fill}
 use Rattle.kc_asm_bytes.specs.Relocating.{depends, relocated}
-use Rattle.kc_asm_piece.specs.Tape.{Tape}
-use Rattle.kc_asm_piece.specs.declared.draft.Public.{Public}
+use Rattle.kc_asm_piece.specs.Section.{Section}
+use Rattle.kc_asm_piece.specs.declared.unlinked.Public.{Public}
 use Rattle.kc_asm_module.specs.declared.kept.Kept.{Kept}
 use Rattle.kc_asm_module.specs.Order.{is_named, kept_of}
 use Rattle.kc_asm_module.specs.ModuleOf.{kept_in}
 use Rattle.kc_asm_module.specs.Worked.{parts, publics}
 use Rattle.kc_link_draft_laws.specs.Parts.{piece_number}
-use Rattle.kc_link_draft_laws.specs.Worked.{WorkedDraft}
+use Rattle.kc_link_draft_laws.specs.Worked.{WorkedUnlinked}
 
 abbrev two_kept : Kept
 two_kept = record { registers = true; code = true; ram = false }
@@ -19,10 +19,10 @@ kept_is : kept_of parts publics ≡ two_kept
 unfolding kept_of is_named relocated depends
 kept_is = refl
 
-pub worked_draft : WorkedDraft
+pub worked_unlinked : WorkedUnlinked
 unfolding fill number distance first_part second_part
-worked_draft d p q s bases at_code at_absolute =
-    let k : kept_in d ≡ two_kept = ap (λ (l : List Tape). kept_of l d.publics.items) p ∙ (ap (λ (l : List Public). kept_of parts l) q ∙ kept_is) in
+worked_unlinked d p q s bases at_code at_absolute =
+    let k : kept_in d ≡ two_kept = ap (λ (l : List Section). kept_of l d.publics.items) p ∙ (ap (λ (l : List Public). kept_of parts l) q ∙ kept_is) in
     let third : piece_number d 3 ≡ 2 = rw (k, s) refl in
     record {
       code = rw k refl;

@@ -4,12 +4,12 @@ use Rattle.std.specs.Prelude.{◌≡◌, ℕ, true, ◌+◌, ◌-◌, ◌<◌, �
 use Rattle.kc_expr.specs.declared.values.Value.{Value}
 use Rattle.kc_obj_module.specs.Object.{Object}
 use Rattle.kc_obj_relocation.specs.Numbers.{Bases, number, reach, fits}
-use Rattle.kc_asm_bytes.specs.declared.octet.Octet.{Octet}
-use Rattle.kc_asm_bytes.specs.declared.octet.Octet.TheVariants.{First}
+use Rattle.kc_asm_bytes.specs.declared.relocatable_byte.RelocatableByte.{RelocatableByte}
+use Rattle.kc_asm_bytes.specs.declared.relocatable_byte.RelocatableByte.TheVariants.{First}
 use Rattle.kc_asm_bytes.specs.Filling.{address, fill, filled}
-use Rattle.kc_asm_piece.specs.declared.draft.Draft.{Draft}
-use Rattle.kc_asm_piece.specs.Tape.{Tape, octet_at}
-use Rattle.kc_asm_module.specs.Drafts.{IsDraft}
+use Rattle.kc_asm_piece.specs.declared.unlinked.UnlinkedModule.{UnlinkedModule}
+use Rattle.kc_asm_piece.specs.Section.{Section, relocatable_byte_at}
+use Rattle.kc_asm_module.specs.UnlinkedModules.{IsUnlinkedModule}
 use Rattle.kc_asm_module.specs.ModuleOf.{IsModuleOf}
 use Rattle.kc_link_place.specs.declared.ranges.Ranges.{Ranges}
 use Rattle.kc_link_place.specs.Placing.{Places, bases_of}
@@ -21,90 +21,90 @@ use Rattle.kc_link_draft_laws.specs.Settled.{IsWhole, IsSettled}
 -- ---- one draft under the bases of its module
 
 -- an octet stands in the image of program memory, at its place and filled
-pub record IsHeld (image : List ℕ) (bases : Bases) (d : Draft) (part offset : ℕ) (octet : Octet) : Type 0 where
+pub record IsHeld (image : List ℕ) (bases : Bases) (d : UnlinkedModule) (part offset : ℕ) (relocatable_byte : RelocatableByte) : Type 0 where
   pub within : 0x2000 ≤ start bases d part + offset
-  pub byte : slice_get image ((start bases d part + offset) - 0x2000) ≡ Some (fill (part_bases bases d) (start bases d part + offset) octet)
+  pub byte : slice_get image ((start bases d part + offset) - 0x2000) ≡ Some (fill (part_bases bases d) (start bases d part + offset) relocatable_byte)
 
 -- each octet of a draft does
-pub record HoldsDraft (image : List ℕ) (bases : Bases) (d : Draft) : Type 0 where
-  pub octets : (part offset : ℕ) (t : Tape) (octet : Octet) → StandsIn d part t offset octet → IsHeld image bases d part offset octet
+pub record HoldsUnlinkedModule (image : List ℕ) (bases : Bases) (d : UnlinkedModule) : Type 0 where
+  pub relocatable_bytes : (part offset : ℕ) (t : Section) (relocatable_byte : RelocatableByte) → StandsIn d part t offset relocatable_byte → IsHeld image bases d part offset relocatable_byte
 
 -- octets stand one after the other in a part, from an offset on
-abbrev pub StandsFrom : Draft → ℕ → ℕ → List Octet → Type 0
-StandsFrom d part offset octets = (t : Tape) × ((slice_get d.parts.items part ≡ Some t)
-    × ((k : ℕ) (octet : Octet) → slice_get octets k ≡ Some octet → octet_at t (offset + k) ≡ Some octet))
+abbrev pub StandsFrom : UnlinkedModule → ℕ → ℕ → List RelocatableByte → Type 0
+StandsFrom d part offset relocatable_bytes = (t : Section) × ((slice_get d.parts.items part ≡ Some t)
+    × ((k : ℕ) (relocatable_byte : RelocatableByte) → slice_get relocatable_bytes k ≡ Some relocatable_byte → relocatable_byte_at t (offset + k) ≡ Some relocatable_byte))
 
 -- from the place of an offset on the image reads as octets, filled, and what is behind them
-abbrev pub ReadsAs : List ℕ → Bases → Draft → ℕ → ℕ → List Octet → Type 0
-ReadsAs image bases d part offset octets =
-    (rest : List ℕ) × (drop ((start bases d part + offset) - 0x2000) image ≡ filled (part_bases bases d) (start bases d part + offset) octets ++ rest)
+abbrev pub ReadsAs : List ℕ → Bases → UnlinkedModule → ℕ → ℕ → List RelocatableByte → Type 0
+ReadsAs image bases d part offset relocatable_bytes =
+    (rest : List ℕ) × (drop ((start bases d part + offset) - 0x2000) image ≡ filled (part_bases bases d) (start bases d part + offset) relocatable_bytes ++ rest)
 
 -- each number of a draft fits its bytes
-pub record FitsDraft (bases : Bases) (d : Draft) : Type 0 where
-  pub numbers : (part offset kind begin : ℕ) (t : Tape) (v : Value) → StandsIn d part t offset (First kind begin v)
+pub record FitsUnlinkedModule (bases : Bases) (d : UnlinkedModule) : Type 0 where
+  pub numbers : (part offset kind begin : ℕ) (t : Section) (v : Value) → StandsIn d part t offset (First kind begin v)
       → fits kind (number kind ((start bases d part + offset) + reach kind) (address (part_bases bases d) v)) ≡ true
 
 -- each absolute part stands at its address
-pub record StandsAbsolute (bases : Bases) (d : Draft) : Type 0 where
-  pub parts : (part address : ℕ) (t : Tape) → slice_get d.parts.items part ≡ Some t → t.at ≡ Some address → start bases d part ≡ address
+pub record StandsAbsolute (bases : Bases) (d : UnlinkedModule) : Type 0 where
+  pub parts : (part address : ℕ) (t : Section) → slice_get d.parts.items part ≡ Some t → t.at ≡ Some address → start bases d part ≡ address
 
 -- ---- all drafts
 
 -- modules are those of drafts, in order
-pub record AreModulesOf (ds : List Draft) (ms : List Object) : Type 0 where
+pub record AreModulesOf (ds : List UnlinkedModule) (ms : List Object) : Type 0 where
   pub count : length ds ≡ length ms
-  pub are_drafts : (i : ℕ) (d : Draft) → slice_get ds i ≡ Some d → IsDraft d
-  pub are_whole : (i : ℕ) (d : Draft) → slice_get ds i ≡ Some d → IsWhole d
-  pub of : (i : ℕ) (d : Draft) (m : Object) → slice_get ds i ≡ Some d → slice_get ms i ≡ Some m → IsModuleOf d m
+  pub are_unlinked_modules : (i : ℕ) (d : UnlinkedModule) → slice_get ds i ≡ Some d → IsUnlinkedModule d
+  pub are_whole : (i : ℕ) (d : UnlinkedModule) → slice_get ds i ≡ Some d → IsWhole d
+  pub of : (i : ℕ) (d : UnlinkedModule) (m : Object) → slice_get ds i ≡ Some d → slice_get ms i ≡ Some m → IsModuleOf d m
 
-abbrev pub AreSettled : List Draft → Type 0
-AreSettled ds = (i : ℕ) (d : Draft) → slice_get ds i ≡ Some d → IsSettled d
+abbrev pub AreSettled : List UnlinkedModule → Type 0
+AreSettled ds = (i : ℕ) (d : UnlinkedModule) → slice_get ds i ≡ Some d → IsSettled d
 
 -- an octet of a draft has a place of the image
-pub record IsCovered (ds : List Draft) (ms : List Object) (places : Places) (place : ℕ) : Type 0 where
+pub record IsCovered (ds : List UnlinkedModule) (ms : List Object) (places : Places) (place : ℕ) : Type 0 where
   pub index : ℕ
-  pub d : Draft
+  pub d : UnlinkedModule
   pub is_there : slice_get ds index ≡ Some d
   pub m : Object
   pub its_module : slice_get ms index ≡ Some m
   pub part : ℕ
   pub offset : ℕ
-  pub t : Tape
-  pub octet : Octet
-  pub stands : StandsIn d part t offset octet
+  pub t : Section
+  pub relocatable_byte : RelocatableByte
+  pub stands : StandsIn d part t offset relocatable_byte
   pub at : start (bases_of ms places index m) d part + offset ≡ 0x2000 + place
 
 -- the image holds each draft, and FFH where none has an octet
-pub record AreLinked (ds : List Draft) (ms : List Object) (places : Places) (image : List ℕ) : Type 0 where
+pub record AreLinked (ds : List UnlinkedModule) (ms : List Object) (places : Places) (image : List ℕ) : Type 0 where
   pub long : length image ≡ 0xE000
-  pub holds : (i : ℕ) (d : Draft) (m : Object) → slice_get ds i ≡ Some d → slice_get ms i ≡ Some m
-      → HoldsDraft image (bases_of ms places i m) d
+  pub holds : (i : ℕ) (d : UnlinkedModule) (m : Object) → slice_get ds i ≡ Some d → slice_get ms i ≡ Some m
+      → HoldsUnlinkedModule image (bases_of ms places i m) d
   pub blank : (place : ℕ) → place < 0xE000 → (IsCovered ds ms places place → ⊥) → slice_get image place ≡ Some 255
 
 -- ---- laws
 
-abbrev pub DraftsAreLinked : Type 0
-DraftsAreLinked =
-    (ds : List Draft) (ms : List Object) (ranges : Ranges) (places : Places) (image : List ℕ)
+abbrev pub UnlinkedModulesAreLinked : Type 0
+UnlinkedModulesAreLinked =
+    (ds : List UnlinkedModule) (ms : List Object) (ranges : Ranges) (places : Places) (image : List ℕ)
     → AreModulesOf ds ms → placed ms ranges ≡ Ok places → IsFilled ms places image
     → AreLinked ds ms places image
 
 -- what is held can be read in a row
 abbrev pub HeldIsRead : Type 0
 HeldIsRead =
-    (image : List ℕ) (bases : Bases) (d : Draft) (part offset : ℕ) (octets : List Octet)
-    → HoldsDraft image bases d → StandsFrom d part offset octets → ReadsAs image bases d part offset octets
+    (image : List ℕ) (bases : Bases) (d : UnlinkedModule) (part offset : ℕ) (relocatable_bytes : List RelocatableByte)
+    → HoldsUnlinkedModule image bases d → StandsFrom d part offset relocatable_bytes → ReadsAs image bases d part offset relocatable_bytes
 
 abbrev pub NumbersFit : Type 0
 NumbersFit =
-    (ds : List Draft) (ms : List Object) (ranges : Ranges) (places : Places)
+    (ds : List UnlinkedModule) (ms : List Object) (ranges : Ranges) (places : Places)
     → AreModulesOf ds ms → AreSettled ds → placed ms ranges ≡ Ok places
-    → (i : ℕ) (d : Draft) (m : Object) → slice_get ds i ≡ Some d → slice_get ms i ≡ Some m
-    → FitsDraft (bases_of ms places i m) d
+    → (i : ℕ) (d : UnlinkedModule) (m : Object) → slice_get ds i ≡ Some d → slice_get ms i ≡ Some m
+    → FitsUnlinkedModule (bases_of ms places i m) d
 
 abbrev pub AbsolutePartsStand : Type 0
 AbsolutePartsStand =
-    (ds : List Draft) (ms : List Object) (ranges : Ranges) (places : Places)
+    (ds : List UnlinkedModule) (ms : List Object) (ranges : Ranges) (places : Places)
     → AreModulesOf ds ms → placed ms ranges ≡ Ok places
-    → (i : ℕ) (d : Draft) (m : Object) → slice_get ds i ≡ Some d → slice_get ms i ≡ Some m
+    → (i : ℕ) (d : UnlinkedModule) (m : Object) → slice_get ds i ≡ Some d → slice_get ms i ≡ Some m
     → StandsAbsolute (bases_of ms places i m) d

@@ -1,31 +1,31 @@
 -- Where the parts of a draft stand once the pieces of its module have their bases
 -- (after the MCS-96 Macro Assembler User's Guide, "Program Segments").
 use Rattle.std.specs.Prelude.{◌≡◌, ℕ, ◌+◌, ◌-◌, nat_lt, if◌then◌else◌, Some, length, slice_get}
-use Rattle.kc_asm_bytes.specs.declared.octet.Octet.{Octet}
+use Rattle.kc_asm_bytes.specs.declared.relocatable_byte.RelocatableByte.{RelocatableByte}
 use Rattle.kc_obj_relocation.specs.Numbers.{Bases}
-use Rattle.kc_asm_piece.specs.declared.draft.Draft.{Draft}
-use Rattle.kc_asm_piece.specs.Tape.{Tape, octet_at}
+use Rattle.kc_asm_piece.specs.declared.unlinked.UnlinkedModule.{UnlinkedModule}
+use Rattle.kc_asm_piece.specs.Section.{Section, relocatable_byte_at}
 use Rattle.kc_asm_module.specs.Order.{count_of, number_of, stack_pieces}
 use Rattle.kc_asm_module.specs.ModuleOf.{kept_in}
 
 -- an octet stands at an offset of a part
-pub record StandsIn (d : Draft) (part : ℕ) (t : Tape) (offset : ℕ) (octet : Octet) : Type 0 where
+pub record StandsIn (d : UnlinkedModule) (part : ℕ) (t : Section) (offset : ℕ) (relocatable_byte : RelocatableByte) : Type 0 where
   pub is_part : slice_get d.parts.items part ≡ Some t
-  pub is_octet : octet_at t offset ≡ Some octet
+  pub is_relocatable_byte : relocatable_byte_at t offset ≡ Some relocatable_byte
 
 -- the number of the piece that the first absolute part is: relocatable parts that are kept and the stack stand before it
-abbrev pub first_absolute : Draft → ℕ
+abbrev pub first_absolute : UnlinkedModule → ℕ
 first_absolute d =
     count_of (kept_in d).registers + (count_of (kept_in d).code + (count_of (kept_in d).ram + length (stack_pieces d.stack)))
 
 -- the number of the piece that a part is
-abbrev pub piece_number : Draft → ℕ → ℕ
+abbrev pub piece_number : UnlinkedModule → ℕ → ℕ
 piece_number d part = if nat_lt part 3 then number_of (kept_in d) part else first_absolute d + (part - 3)
 
 -- where a part begins, by the bases of the pieces of the module
-abbrev pub start : Bases → Draft → ℕ → ℕ
+abbrev pub start : Bases → UnlinkedModule → ℕ → ℕ
 start bases d part = bases.piece (piece_number d part)
 
 -- what the values of the draft count from: they have the numbers of the relocatable parts
-abbrev pub part_bases : Bases → Draft → Bases
+abbrev pub part_bases : Bases → UnlinkedModule → Bases
 part_bases bases d = record { piece = λ part. bases.piece (number_of (kept_in d) part); external = bases.external }

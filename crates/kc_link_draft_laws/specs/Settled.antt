@@ -5,33 +5,33 @@ use Rattle.std.specs.List.{list_all}
 use Rattle.kc_expr.specs.declared.values.Value.{Value}
 use Rattle.kc_obj_module.specs.Pieces.{kind_number}
 use Rattle.kc_obj_relocation.specs.Numbers.{width}
-use Rattle.kc_asm_bytes.specs.declared.octet.Octet.{Octet}
-use Rattle.kc_asm_bytes.specs.declared.octet.Octet.TheVariants.{First, Second}
+use Rattle.kc_asm_bytes.specs.declared.relocatable_byte.RelocatableByte.{RelocatableByte}
+use Rattle.kc_asm_bytes.specs.declared.relocatable_byte.RelocatableByte.TheVariants.{First, Second}
 use Rattle.kc_asm_bytes.specs.Relocating.{misfit}
-use Rattle.kc_asm_piece.specs.declared.draft.Draft.{Draft}
-use Rattle.kc_asm_piece.specs.Tape.{Tape, is_tape, octet_at}
+use Rattle.kc_asm_piece.specs.declared.unlinked.UnlinkedModule.{UnlinkedModule}
+use Rattle.kc_asm_piece.specs.Section.{Section, is_section, relocatable_byte_at}
 use Rattle.kc_asm_module.specs.Order.{start_of}
 
 -- the first byte of a number of two bytes stands before an offset
-pub record HasFirst (t : Tape) (offset kind : ℕ) (v : Value) : Type 0 where
+pub record HasFirst (t : Section) (offset kind : ℕ) (v : Value) : Type 0 where
   pub before : ℕ
   pub next : before + 1 ≡ offset
   pub wide : width kind ≡ 2
   pub begin : ℕ
-  pub first : octet_at t before ≡ Some (First kind begin v)
+  pub first : relocatable_byte_at t before ≡ Some (First kind begin v)
 
 -- each second byte in a part stands behind its first one
-abbrev pub HasFirsts : Tape → Type 0
-HasFirsts t = (offset kind : ℕ) (v : Value) → octet_at t offset ≡ Some (Second kind v) → HasFirst t offset kind v
+abbrev pub HasFirsts : Section → Type 0
+HasFirsts t = (offset kind : ℕ) (v : Value) → relocatable_byte_at t offset ≡ Some (Second kind v) → HasFirst t offset kind v
 
 -- each number in a part that depends on no base fits its bytes
-abbrev pub HasNoMisfit : Tape → Type 0
-HasNoMisfit t = (offset : ℕ) (octet : Octet) → octet_at t offset ≡ Some octet → misfit t.at (kind_number t.kind) (start_of t.at + offset) octet ≡ None
+abbrev pub HasNoMisfit : Section → Type 0
+HasNoMisfit t = (offset : ℕ) (relocatable_byte : RelocatableByte) → relocatable_byte_at t offset ≡ Some relocatable_byte → misfit t.at (kind_number t.kind) (start_of t.at + offset) relocatable_byte ≡ None
 
 -- octets stand by rising offset within the parts of a draft, in whole numbers
-pub record IsWhole (d : Draft) : Type 0 where
-  pub tapes : list_all is_tape d.parts.items ≡ true
-  pub seconds : (part : ℕ) (t : Tape) → slice_get d.parts.items part ≡ Some t → HasFirsts t
+pub record IsWhole (d : UnlinkedModule) : Type 0 where
+  pub sections : list_all is_section d.parts.items ≡ true
+  pub seconds : (part : ℕ) (t : Section) → slice_get d.parts.items part ≡ Some t → HasFirsts t
 
-abbrev pub IsSettled : Draft → Type 0
-IsSettled d = (part : ℕ) (t : Tape) → slice_get d.parts.items part ≡ Some t → HasNoMisfit t
+abbrev pub IsSettled : UnlinkedModule → Type 0
+IsSettled d = (part : ℕ) (t : Section) → slice_get d.parts.items part ≡ Some t → HasNoMisfit t

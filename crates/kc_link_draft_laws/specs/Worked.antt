@@ -4,11 +4,11 @@ use Rattle.std.specs.Prelude.{◌≡◌}
 use Rattle.kc_expr.specs.declared.values.Base.TheVariants.{Fixed, Piece}
 use Rattle.kc_obj_relocation.specs.Numbers.{Bases}
 use Rattle.kc_asm_bytes.specs.Filling.{fill}
-use Rattle.kc_asm_piece.specs.declared.draft.Draft.{Draft}
+use Rattle.kc_asm_piece.specs.declared.unlinked.UnlinkedModule.{UnlinkedModule}
 use Rattle.kc_asm_module.specs.Worked.{parts, publics, first, second}
 use Rattle.kc_link_draft_laws.specs.Parts.{piece_number, start, part_bases}
 
-pub record WorkedRows (bases : Bases) (d : Draft) : Type 0 where
+pub record WorkedRows (bases : Bases) (d : UnlinkedModule) : Type 0 where
   -- an empty part that a public names, the code, the absolute part
   pub code : piece_number d 1 ≡ 1
   pub absolute : piece_number d 3 ≡ 2
@@ -17,8 +17,8 @@ pub record WorkedRows (bases : Bases) (d : Draft) : Type 0 where
   pub high : fill (part_bases bases d) 0x2082 (second 0 (Piece 1) 0) ≡ 0x21
   pub distance : fill (part_bases bases d) 0x2085 (first 4 0 Fixed 0x2100) ≡ 0x79
 
-abbrev pub WorkedDraft : Type 0
-WorkedDraft =
-    (d : Draft) → d.parts.items ≡ parts → d.publics.items ≡ publics → d.stack ≡ 0
+abbrev pub WorkedUnlinked : Type 0
+WorkedUnlinked =
+    (d : UnlinkedModule) → d.parts.items ≡ parts → d.publics.items ≡ publics → d.stack ≡ 0
     → (bases : Bases) → bases.piece 1 ≡ 0x2100 → bases.piece 2 ≡ 0x2080
     → WorkedRows bases d

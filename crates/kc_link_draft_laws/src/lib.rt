@@ -2,8 +2,8 @@
 #![tactic(auto)]
 
 ghost use Rattle.kc_link_draft_laws.specs.Growing.{FirstsStay, NoMisfitStays};
-ghost use Rattle.kc_link_draft_laws.specs.Linked.{AbsolutePartsStand, DraftsAreLinked, HeldIsRead, NumbersFit};
-ghost use Rattle.kc_link_draft_laws.specs.Worked.{WorkedDraft};
+ghost use Rattle.kc_link_draft_laws.specs.Linked.{AbsolutePartsStand, UnlinkedModulesAreLinked, HeldIsRead, NumbersFit};
+ghost use Rattle.kc_link_draft_laws.specs.Worked.{WorkedUnlinked};
 
 use kc_link::{absolute_pieces_stand, relocations_fit};
 
@@ -16,8 +16,8 @@ pub fn absolute_parts_stand()
 
 /// The image that is filled from the modules of drafts has each octet of each draft at its place, filled under the bases
 /// of its module, and FFH where no draft has an octet.
-pub fn drafts_are_linked()
-    ensures { DraftsAreLinked }
+pub fn unlinked_modules_are_linked()
+    ensures { UnlinkedModulesAreLinked }
 {
     absolute_pieces_stand();
 }
@@ -47,6 +47,6 @@ pub fn no_misfit_stays()
 {}
 
 /// Where the parts of a worked draft stand, and some of its bytes.
-pub fn worked_draft()
-    ensures { WorkedDraft }
+pub fn worked_unlinked()
+    ensures { WorkedUnlinked }
 {}

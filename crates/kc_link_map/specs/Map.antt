@@ -10,8 +10,8 @@ use Rattle.kc_obj_module.specs.Object.{Object}
 use Rattle.kc_trace.specs.Text.{hex}
 use Rattle.kc_link_place.specs.declared.ranges.Ranges.{Ranges}
 use Rattle.kc_link_place.specs.declared.ranges.LinkFault.{LinkFault}
-use Rattle.kc_link_place.specs.Names.{home}
-use Rattle.kc_link_place.specs.Placing.{Places, located, base_at, home_number, stack_size, IsCause}
+use Rattle.kc_link_place.specs.Names.{defining}
+use Rattle.kc_link_place.specs.Placing.{Places, located, base_at, defining_number, stack_size, IsCause}
 use Rattle.kc_link_map.specs.Free.{Run, free_runs, is_free}
 
 abbrev pub kind_word : SegKind → List ℕ
@@ -40,7 +40,7 @@ public_word (Some piece) = codes "public "
 public_word None = codes "number "
 
 abbrev pub public_line : Places → ℕ → List ℕ → Given → List ℕ
-public_line places index name g = public_word g.piece ++ hex 4 (home_number places.pieces (Some (home index g))) ++ codes " " ++ g.name ++ codes " " ++ name ++ codes "\n"
+public_line places index name g = public_word g.piece ++ hex 4 (defining_number places.pieces (Some (defining index g))) ++ codes " " ++ g.name ++ codes " " ++ name ++ codes "\n"
 
 unfoldable pub public_lines : Places → ℕ → List ℕ → List Given → List ℕ
 public_lines places index name [] = []

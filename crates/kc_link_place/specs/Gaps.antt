@@ -62,8 +62,8 @@ open_at [] a = 0
 open_at (s ∷ ss) a = if nat_lt s.at a && nat_le a (s.at + s.piece.size) then 1 + open_at ss a else open_at ss a
 
 -- a table has a number for each address, and for the one behind all
-abbrev pub Tells : List ℕ → (ℕ → ℕ) → Type 0
-Tells table f = (length table ≡ 65537) × ((a : ℕ) → a < 65537 → slice_index table a ≡ f a)
+abbrev pub Reports : List ℕ → (ℕ → ℕ) → Type 0
+Reports table f = (length table ≡ 65537) × ((a : ℕ) → a < 65537 → slice_index table a ≡ f a)
 
 -- all gaps end before an address
 abbrev pub EndBefore : ℕ → List Gap → Type 0

@@ -13,7 +13,7 @@ use Rattle.kc_link_place.specs.declared.ranges.LinkFault.{LinkFault}
 use Rattle.kc_link_place.specs.declared.ranges.LinkFault.TheVariants.{Unresolved, OverlapName, OverlapPlace, Capacity, NoMemory}
 use Rattle.kc_link_place.specs.declared.pieces.Piece.{Piece}
 use Rattle.kc_link_place.specs.declared.pieces.Stand.{Stand}
-use Rattle.kc_link_place.specs.declared.names.Home.{Home}
+use Rattle.kc_link_place.specs.declared.names.DefiningModule.{DefiningModule}
 use Rattle.kc_link_place.specs.declared.gaps.Gap.{Gap}
 use Rattle.kc_link_place.specs.declared.putting.NoPlace.{NoPlace}
 use Rattle.kc_link_place.specs.declared.putting.NoPlace.TheVariants.{NoRoom, NoMemoryLeft}
@@ -21,7 +21,7 @@ use Rattle.kc_link_place.specs.Gaps.{Represents}
 use Rattle.std.specs.Global.{Vec}
 use Rattle.kc_link_place.specs.Ranges.{range_of, step_of}
 use Rattle.kc_link_place.specs.Stands.{how_many, least, least_free, stand_at, same_kind, fixed_from, wanted}
-use Rattle.kc_link_place.specs.Names.{home_of, unresolved, doubled}
+use Rattle.kc_link_place.specs.Names.{defining_of, unresolved, doubled}
 
 -- ---- overlaps: the least address above the special function registers that two absolute pieces have
 
@@ -123,13 +123,13 @@ list_at lists index = elim (slice_get lists index) [ None ↦ [] | Some l ↦ l 
 unfoldable pub base_at : List (List ℕ) → ℕ → ℕ → ℕ
 base_at pieces index number = or_0 (slice_get (list_at pieces index) number)
 
-abbrev pub home_number : List (List ℕ) → Option Home → ℕ
-home_number pieces None = 0
-home_number pieces (Some h) = elim h.piece [ None ↦ h.value | Some p ↦ (base_at pieces h.index p + h.value) % 65536 ]
+abbrev pub defining_number : List (List ℕ) → Option DefiningModule → ℕ
+defining_number pieces None = 0
+defining_number pieces (Some h) = elim h.piece [ None ↦ h.value | Some p ↦ (base_at pieces h.index p + h.value) % 65536 ]
 
 -- the number of a name: the address after the stack, or what the first module that gives the name makes of it
 abbrev pub name_number : List Object → Places → List ℕ → ℕ
-name_number ms places name = if is_stack_name name then places.after_stack else home_number places.pieces (home_of ms name)
+name_number ms places name = if is_stack_name name then places.after_stack else defining_number places.pieces (defining_of ms name)
 
 unfoldable pub base_lists : List Object → Places → ℕ → Object → BaseLists
 base_lists ms places index m = record { pieces = list_at places.pieces index; externals = map (λ t. name_number ms places t.name) m.externals }

@@ -1,5 +1,5 @@
 ghost use Rattle.std.specs.Prelude.{◌≡◌, ◌<◌, ◌≤◌, ◌+◌, ◌++◌, ℕ, List, OnOk, IfOk, ◌^◌, length, slice_index, slice_set};
-ghost use Rattle.kc_link_place.specs.Gaps.{Counts, Tells, Represents, begins_at, ends_at};
+ghost use Rattle.kc_link_place.specs.Gaps.{Counts, Reports, Represents, begins_at, ends_at};
 ghost use Rattle.kc_link_place.specs.Placing as placing;
 ghost use Rattle.kc_link_place.specs.declared.pieces.Stand as the;
 
@@ -28,7 +28,7 @@ fn raise(table: &mut Vec<usize>, place: usize)
 
 // For each address, and for the one behind all, how many pieces begin there.
 fn begins(alloc: Global, stands: &[Stand]) -> Result<Vec<usize>, NoMemory>
-    ensures counts { IfOk result (λ table. Tells table.items (begins_at stands.now)) }
+    ensures counts { IfOk result (λ table. Reports table.items (begins_at stands.now)) }
     ensures few { IfOk result (λ _. length stands.now < 2 ^ 64) }
 {
     let mut table = zeros(alloc, 65_537)?;
@@ -40,7 +40,7 @@ fn begins(alloc: Global, stands: &[Stand]) -> Result<Vec<usize>, NoMemory>
 
 // For each address, and for the one behind all, how many pieces end before it.
 fn ends(alloc: Global, stands: &[Stand]) -> Result<Vec<usize>, NoMemory>
-    ensures { IfOk result (λ table. Tells table.items (ends_at stands.now)) }
+    ensures { IfOk result (λ table. Reports table.items (ends_at stands.now)) }
 {
     let mut table = zeros(alloc, 65_537)?;
     for stand in stands {

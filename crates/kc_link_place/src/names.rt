@@ -2,7 +2,7 @@ ghost use Rattle.std.specs.Prelude.{◌≡◌, ◌+◌, ◌<◌, ◌≤◌, ℕ,
 ghost use Rattle.std.specs.Option.{option_copied, option_or};
 ghost use Rattle.kc_obj_module.specs.Object.{Object};
 ghost use Rattle.kc_link_place.specs.Names as spec;
-ghost use Rattle.kc_link_place.specs.Names.{home_among, home_of, found_in, Knows, if_same};
+ghost use Rattle.kc_link_place.specs.Names.{defining_among, defining_of, found_in, Knows, if_same};
 
 use indexmap::IndexMap;
 use kc_base::{NoMemory, Text};
@@ -11,7 +11,7 @@ use std::alloc::Global;
 
 /// Where a name is public: the number of the module, and a place in one of its pieces or a number alone.
 #[derive(Clone, Copy)]
-pub struct Home {
+pub struct DefiningModule {
     pub index: usize,
     pub piece: Option<u16>,
     pub value: u16,
@@ -20,40 +20,40 @@ pub struct Home {
 /// The public names of modules, each with its first home.
 #[derive(Drop)]
 pub(crate) struct Names {
-    homes: IndexMap<Vec<u8>, Home>,
+    defining_modules: IndexMap<Vec<u8>, DefiningModule>,
 }
 
 impl Names {
     /// The home of a name, if it has one.
-    pub(crate) fn home(&self, name: &[u8]) -> Option<Home>
-        ensures { result ≡ found_in self.now.homes.entries name.now }
+    pub(crate) fn defining(&self, name: &[u8]) -> Option<DefiningModule>
+        ensures { result ≡ found_in self.now.defining_modules.entries name.now }
     {
-        self.homes.get(name).copied()
+        self.defining_modules.get(name).copied()
     }
 
     // Notes the home of a name that has none.
-    fn note(&mut self, alloc: Global, name: &[u8], home: Home) -> Result<(), NoMemory>
-        ensures { OnOk result ((q : List ℕ) → found_in self.new.homes.entries q ≡ option_or (found_in self.old.homes.entries q) (if_same name.now q home)) }
+    fn note(&mut self, alloc: Global, name: &[u8], defining: DefiningModule) -> Result<(), NoMemory>
+        ensures { OnOk result ((q : List ℕ) → found_in self.new.defining_modules.entries q ≡ option_or (found_in self.old.defining_modules.entries q) (if_same name.now q defining)) }
     {
-        if self.home(name).is_none() {
+        if self.defining(name).is_none() {
             let key = Vec::from_slice(alloc, name)?;
-            self.homes.insert(key, home)?;
+            self.defining_modules.insert(key, defining)?;
         }
         Ok(())
     }
 
     // Notes the public names of a module.
     fn note_all(&mut self, alloc: Global, index: usize, publics: &[Given]) -> Result<(), NoMemory>
-        ensures { OnOk result ((q : List ℕ) → found_in self.new.homes.entries q ≡ option_or (found_in self.old.homes.entries q) (home_among index publics.now q)) }
+        ensures { OnOk result ((q : List ℕ) → found_in self.new.defining_modules.entries q ≡ option_or (found_in self.old.defining_modules.entries q) (defining_among index publics.now q)) }
     {
         let mut left = publics;
         while let [given, rest @ ..] = left {
-            let home = Home {
+            let defining = DefiningModule {
                 index,
                 piece: given.piece,
                 value: given.value,
             };
-            self.note(alloc, given.name.as_slice(), home)?;
+            self.note(alloc, given.name.as_slice(), defining)?;
             left = rest;
         }
         Ok(())
@@ -61,12 +61,12 @@ impl Names {
 }
 
 /// The public names of all modules.
-#[tactic(auto, unfolding(crate::specs::Names::home_from))]
+#[tactic(auto, unfolding(crate::specs::Names::defining_from))]
 pub(crate) fn public_names(alloc: Global, modules: &[Module]) -> Result<Names, NoMemory>
-    ensures { IfOk result (λ names. Knows names.homes.entries modules.now) }
+    ensures { IfOk result (λ names. Knows names.defining_modules.entries modules.now) }
 {
     let mut names = Names {
-        homes: IndexMap::new(alloc),
+        defining_modules: IndexMap::new(alloc),
     };
     let mut left = modules;
     let mut index = 0;

@@ -1,10 +1,10 @@
 ghost use Rattle.std.specs.Prelude.{◌≡◌, ◌+◌, ◌<◌, ◌≤◌, ◌%◌, ℕ, List, IfOk, Some, length, map};
 ghost use Rattle.kc_obj_module.specs.Object.{Object};
-ghost use Rattle.kc_link_place.specs.Names.{Knows, home};
+ghost use Rattle.kc_link_place.specs.Names.{Knows, defining};
 ghost use Rattle.kc_link_place.specs.Placing as placing;
-ghost use Rattle.kc_link_place.specs.Placing.{Places, list_at, base_at, home_number, name_number, base_lists, bases_from, places_from};
+ghost use Rattle.kc_link_place.specs.Placing.{Places, list_at, base_at, defining_number, name_number, base_lists, bases_from, places_from};
 
-use crate::names::{Home, Names};
+use crate::names::{DefiningModule, Names};
 use crate::pieces::{Stand, is_kind};
 use crate::rules::is_stack;
 use kc_base::NoMemory;
@@ -131,15 +131,15 @@ fn address_at(pieces: &[Addresses], index: usize, number: usize) -> u16
 }
 
 // The number that a home gives to its name.
-fn number_at(pieces: &[Addresses], home: Option<Home>) -> u16
-    ensures { result ≡ home_number pieces.now home }
+fn number_at(pieces: &[Addresses], defining: Option<DefiningModule>) -> u16
+    ensures { result ≡ defining_number pieces.now defining }
 {
-    match home {
+    match defining {
         None => 0,
-        Some(home) => match home.piece {
-            None => home.value,
-            Some(piece) => address_at(pieces, home.index, usize::from(piece)).wrapping_add(
-                home.value,
+        Some(defining) => match defining.piece {
+            None => defining.value,
+            Some(piece) => address_at(pieces, defining.index, usize::from(piece)).wrapping_add(
+                defining.value,
             ),
         },
     }
@@ -147,13 +147,13 @@ fn number_at(pieces: &[Addresses], home: Option<Home>) -> u16
 
 // The number of a name.
 fn number_of(names: &Names, pieces: &[Addresses], after_stack: u16, name: &[u8]) -> u16
-    ensures { (modules : List Object) → Knows names.now.homes.entries modules
+    ensures { (modules : List Object) → Knows names.now.defining_modules.entries modules
         → result ≡ name_number modules (record { pieces = pieces.now; after_stack = after_stack }) name.now }
 {
     if is_stack(name) {
         after_stack
     } else {
-        number_at(pieces, names.home(name))
+        number_at(pieces, names.defining(name))
     }
 }
 
@@ -165,7 +165,7 @@ fn externals_of(
     after_stack: u16,
     externals: &[Taken],
 ) -> Result<Vec<u16>, NoMemory>
-    ensures { IfOk result (λ numbers. (modules : List Object) → Knows names.now.homes.entries modules
+    ensures { IfOk result (λ numbers. (modules : List Object) → Knows names.now.defining_modules.entries modules
         → numbers.items ≡ map (λ t. name_number modules (record { pieces = pieces.now; after_stack = after_stack }) t.name) externals.now) }
 {
     let mut numbers = Vec::new(alloc);
@@ -187,7 +187,7 @@ fn bases_of(
     index: usize,
     object: &Module,
 ) -> Result<Bases, NoMemory>
-    ensures { IfOk result (λ bases. (modules : List Object) → Knows names.now.homes.entries modules
+    ensures { IfOk result (λ bases. (modules : List Object) → Knows names.now.defining_modules.entries modules
         → bases ≡ base_lists modules (record { pieces = pieces.now; after_stack = after_stack }) index object.now) }
 {
     let addresses = Vec::from_slice(alloc, addresses_at(pieces, index))?;
@@ -204,7 +204,7 @@ fn all_bases(
     after_stack: u16,
     modules: &[Module],
 ) -> Result<Vec<Bases>, NoMemory>
-    ensures { IfOk result (λ bases. Knows names.now.homes.entries modules.now
+    ensures { IfOk result (λ bases. Knows names.now.defining_modules.entries modules.now
         → bases.items ≡ bases_from modules.now (record { pieces = pieces.now; after_stack = after_stack }) 0 modules.now) }
 {
     let mut bases = Vec::new(alloc);
@@ -253,14 +253,14 @@ impl Placed {
     /// The value of a public name of a module, by the number of the module, counted from 0: the address of a place in a piece,
     /// or a number alone.
     pub fn value(&self, index: usize, given: &Given) -> u16
-        ensures { result ≡ home_number self.now.pieces (Some (home index given.now)) }
+        ensures { result ≡ defining_number self.now.pieces (Some (defining index given.now)) }
     {
-        let home = Home {
+        let defining = DefiningModule {
             index,
             piece: given.piece,
             value: given.value,
         };
-        number_at(self.pieces.as_slice(), Some(home))
+        number_at(self.pieces.as_slice(), Some(defining))
     }
 
     /// The address after the stack.
@@ -277,7 +277,7 @@ impl Placed {
         names: &Names,
         modules: &[Module],
     ) -> Result<Vec<Bases>, NoMemory>
-        ensures { IfOk result (λ bases. Knows names.now.homes.entries modules.now → bases.items ≡ bases_from modules.now self.now 0 modules.now) }
+        ensures { IfOk result (λ bases. Knows names.now.defining_modules.entries modules.now → bases.items ≡ bases_from modules.now self.now 0 modules.now) }
     {
         all_bases(
             alloc,

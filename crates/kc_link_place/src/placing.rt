@@ -28,7 +28,7 @@ use std::alloc::Global;
 
 // Whether each name that is taken is given.
 fn check_taken(alloc: Global, names: &Names, size: u32, modules: &[Module]) -> Result<(), LinkFault>
-    ensures { Knows names.now.homes.entries modules.now → IsKept (option_map faults.Unresolved (named.unresolved modules.now size modules.now)) result }
+    ensures { Knows names.now.defining_modules.entries modules.now → IsKept (option_map faults.Unresolved (named.unresolved modules.now size modules.now)) result }
 {
     match unresolved(names, size, modules) {
         None => Ok(()),
@@ -38,7 +38,7 @@ fn check_taken(alloc: Global, names: &Names, size: u32, modules: &[Module]) -> R
 
 // Whether each name is given once.
 fn check_given(alloc: Global, names: &Names, modules: &[Module]) -> Result<(), LinkFault>
-    ensures { Knows names.now.homes.entries modules.now → IsKept (option_map faults.OverlapName (named.doubled modules.now 0 modules.now)) result }
+    ensures { Knows names.now.defining_modules.entries modules.now → IsKept (option_map faults.OverlapName (named.doubled modules.now 0 modules.now)) result }
 {
     match doubled(names, modules) {
         None => Ok(()),
@@ -135,7 +135,7 @@ fn located(
 ) -> Result<Placed, LinkFault>
     requires few { length modules.now ≤ 64 }
     requires ranges { are_in_bounds ranges.now ≡ true }
-    ensures { Knows names.now.homes.entries modules.now → ArePlaced (placing.located modules.now ranges.now) result }
+    ensures { Knows names.now.defining_modules.entries modules.now → ArePlaced (placing.located modules.now ranges.now) result }
 {
     let size = stack_size(ranges, modules);
     check_taken(alloc, names, size, modules)?;

@@ -5,7 +5,7 @@ ghost use Rattle.kc_obj_module.specs.Names.{is_stack_name};
 ghost use Rattle.kc_link_place.specs.Names as spec;
 ghost use Rattle.kc_link_place.specs.Names.{is_resolved, comes_later, Knows};
 
-use crate::names::{Home, Names};
+use crate::names::{DefiningModule, Names};
 use kc_base::Text;
 use kc_obj_module::{Given, Module, Taken};
 
@@ -18,18 +18,18 @@ pub(crate) fn is_stack(name: &[u8]) -> bool
 
 // Whether a name that is taken is given, where the stack has so many bytes.
 fn resolves(names: &Names, stack: u32, name: &[u8]) -> bool
-    ensures { (modules : List Object) → Knows names.now.homes.entries modules → result ≡ is_resolved modules stack name.now }
+    ensures { (modules : List Object) → Knows names.now.defining_modules.entries modules → result ≡ is_resolved modules stack name.now }
 {
     if is_stack(name) {
         0 < stack
     } else {
-        names.home(name).is_some()
+        names.defining(name).is_some()
     }
 }
 
 // The first of these names that nothing gives.
 fn missing_among<'a>(names: &Names, stack: u32, externals: &'a [Taken]) -> Option<&'a Text>
-    ensures { (modules : List Object) → Knows names.now.homes.entries modules → option_copied result ≡ spec.first_missing modules stack externals.now }
+    ensures { (modules : List Object) → Knows names.now.defining_modules.entries modules → option_copied result ≡ spec.first_missing modules stack externals.now }
 {
     let mut left = externals;
     while let [taken, rest @ ..] = left {
@@ -44,7 +44,7 @@ fn missing_among<'a>(names: &Names, stack: u32, externals: &'a [Taken]) -> Optio
 /// The first name that a module takes and none gives, where the stack has so many bytes.
 #[tactic(auto, unfolding(crate::specs::Names::unresolved))]
 pub(crate) fn unresolved<'a>(names: &Names, stack: u32, modules: &'a [Module]) -> Option<&'a Text>
-    ensures { Knows names.now.homes.entries modules.now → option_copied result ≡ spec.unresolved modules.now stack modules.now }
+    ensures { Knows names.now.defining_modules.entries modules.now → option_copied result ≡ spec.unresolved modules.now stack modules.now }
 {
     let mut left = modules;
     while let [module, rest @ ..] = left {
@@ -57,22 +57,22 @@ pub(crate) fn unresolved<'a>(names: &Names, stack: u32, modules: &'a [Module]) -
 }
 
 // Whether a home is one of a module before this one.
-fn is_earlier(home: Option<Home>, index: usize) -> bool
-    ensures { result ≡ comes_later home index }
+fn is_earlier(defining: Option<DefiningModule>, index: usize) -> bool
+    ensures { result ≡ comes_later defining index }
 {
-    match home {
+    match defining {
         None => false,
-        Some(home) => home.index < index,
+        Some(defining) => defining.index < index,
     }
 }
 
 // The first of these names that an earlier module gives.
 fn second_among<'a>(names: &Names, index: usize, publics: &'a [Given]) -> Option<&'a Text>
-    ensures { (modules : List Object) → Knows names.now.homes.entries modules → option_copied result ≡ spec.first_second modules index publics.now }
+    ensures { (modules : List Object) → Knows names.now.defining_modules.entries modules → option_copied result ≡ spec.first_second modules index publics.now }
 {
     let mut left = publics;
     while let [given, rest @ ..] = left {
-        if is_earlier(names.home(given.name.as_slice()), index) {
+        if is_earlier(names.defining(given.name.as_slice()), index) {
             return Some(&given.name);
         }
         left = rest;
@@ -83,7 +83,7 @@ fn second_among<'a>(names: &Names, index: usize, publics: &'a [Given]) -> Option
 /// The first name that a module gives and an earlier one too.
 #[tactic(auto, unfolding(crate::specs::Names::doubled))]
 pub(crate) fn doubled<'a>(names: &Names, modules: &'a [Module]) -> Option<&'a Text>
-    ensures { Knows names.now.homes.entries modules.now → option_copied result ≡ spec.doubled modules.now 0 modules.now }
+    ensures { Knows names.now.defining_modules.entries modules.now → option_copied result ≡ spec.doubled modules.now 0 modules.now }
 {
     let mut left = modules;
     let mut index = 0;

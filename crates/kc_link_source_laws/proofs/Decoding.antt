@@ -11,21 +11,21 @@ use Rattle.kc_code.specs.declared.reader.Decoded.TheVariants.{Insn as Whole}
 use Rattle.kc_code.specs.Reading.{decode_of}
 use Rattle.kc_code.specs.Law.{SpelledIsDecoded}
 use Rattle.kc_code.specs.Spelling.{spelling}
-use Rattle.kc_code.proofs.Fronts.{spelled_count}
+use Rattle.kc_code.proofs.Beginnings.{spelled_count}
 use Rattle.kc_expr.specs.declared.values.Value.{Value}
 use Rattle.kc_expr.specs.Tree.{Tree, Number, Chars, Name, Here, One, Two}
 use Rattle.kc_source_statement.specs.Trees.{ItemTree}
 use Rattle.kc_source_statement.specs.Trees as trees
 use Rattle.kc_obj_relocation.specs.Numbers.{Bases, number, first_part, second_part}
-use Rattle.kc_asm_bytes.specs.declared.octet.Octet.TheVariants.{Plain}
+use Rattle.kc_asm_bytes.specs.declared.relocatable_byte.RelocatableByte.TheVariants.{Plain}
 use Rattle.kc_asm_bytes.specs.Filling.{address, fill, filled}
 use Rattle.kc_asm_operation.specs.Values.{or_zero}
-use Rattle.kc_asm_encoding.specs.Octets.{byte_of, word_of}
+use Rattle.kc_asm_encoding.specs.RelocatableBytes.{byte_of, word_of}
 use Rattle.kc_asm_encoding.specs.Said.{AreSound}
 use Rattle.kc_asm_encoding.specs.Suits.{AllFit}
-use Rattle.kc_asm_encoding.proofs.Fills.{filled-append, filled-plain, filled-bytes, fit-front, fit-behind}
+use Rattle.kc_asm_encoding.proofs.Fills.{filled-append, filled-plain, filled-bytes, fit-beginning, fit-behind}
 use Rattle.kc_asm_emission.specs.Arguments.{Look, value_of}
-use Rattle.kc_asm_emission.specs.Content.{long_octets, item_octets, data_octets}
+use Rattle.kc_asm_emission.specs.Content.{long_relocatables, item_relocatables, data_relocatables}
 use Rattle.kc_link_source_laws.specs.Saying.{number_of, word_bytes, long_bytes, item_bytes}
 use Rattle.kc_link_source_laws.specs.Linked.{Decodes, Reads}
 
@@ -43,18 +43,18 @@ decodes law image (i ∷ is) at rest sound e =
 
 -- ---- bytes
 
-get_front : (image : List ℕ) (at b : ℕ) (rest : List ℕ) → drop at image ≡ b ∷ rest → (slice_get image at ≡ Some b) × (drop (at + 1) image ≡ rest)
-get_front [] zero b rest e = absurd (cc e)
-get_front [] (suc at) b rest e = absurd (cc e)
-get_front (x ∷ xs) zero b rest e = (let f : x ≡ b = cc e in ap (λ (n : ℕ). Some n) f, ap (drop 1) e)
-get_front (x ∷ xs) (suc at) b rest e =
-    let r = get_front xs at b rest e in
+get_prefix : (image : List ℕ) (at b : ℕ) (rest : List ℕ) → drop at image ≡ b ∷ rest → (slice_get image at ≡ Some b) × (drop (at + 1) image ≡ rest)
+get_prefix [] zero b rest e = absurd (cc e)
+get_prefix [] (suc at) b rest e = absurd (cc e)
+get_prefix (x ∷ xs) zero b rest e = (let f : x ≡ b = cc e in ap (λ (n : ℕ). Some n) f, ap (drop 1) e)
+get_prefix (x ∷ xs) (suc at) b rest e =
+    let r = get_prefix xs at b rest e in
     let n : suc at + 1 ≡ suc (at + 1) = omega arith in
     (r.0, ap (λ (k : ℕ). drop k (x ∷ xs)) n ∙ r.1)
 
 pub reads : (image bs : List ℕ) (at : ℕ) (rest : List ℕ) → drop at image ≡ bs ++ rest → Reads image at bs
 reads image [] at rest e = tt
-reads image (b ∷ bs) at rest e = let f = get_front image at b (bs ++ rest) e in (f.0, reads image bs (at + 1) rest f.1)
+reads image (b ∷ bs) at rest e = let f = get_prefix image at b (bs ++ rest) e in (f.0, reads image bs (at + 1) rest f.1)
 
 -- ---- data
 
@@ -70,7 +70,7 @@ four_filled : (b : Bases) (v : Value) (a : ℕ) → filled b a (word_of 0 v ++ (
 four_filled b v a = filled-append b (word_of 0 v) (Plain 0 ∷ Plain 0 ∷ []) a ∙ (λ i. word_filled b v a i ++ zeros_filled b (a + length (word_of 0 v)) i)
 
 module _ (b : Bases) (look : Look) where
-  long_filled : (x : Tree) (a : ℕ) → filled b a (long_octets look x) ≡ long_bytes b look x
+  long_filled : (x : Tree) (a : ℕ) → filled b a (long_relocatables look x) ≡ long_bytes b look x
   long_filled (Number n) a = filled-plain b (to_le_bytes w32 n) a
   long_filled (Chars cs) a = four_filled b (or_zero (value_of look (Chars cs))) a
   long_filled (Name n) a = four_filled b (or_zero (value_of look (Name n))) a
@@ -78,12 +78,12 @@ module _ (b : Bases) (look : Look) where
   long_filled (One op x) a = four_filled b (or_zero (value_of look (One op x))) a
   long_filled (Two op x y) a = four_filled b (or_zero (value_of look (Two op x y))) a
 
-  item_filled : (size : ℕ) (i : ItemTree) (a : ℕ) → AllFit b a (item_octets look size i) → filled b a (item_octets look size i) ≡ item_bytes b look size i
+  item_filled : (size : ℕ) (i : ItemTree) (a : ℕ) → AllFit b a (item_relocatables look size i) → filled b a (item_relocatables look size i) ≡ item_bytes b look size i
   item_filled size (trees.Chars cs) a h = filled-plain b cs a
   item_filled size (trees.Value x) a h = by (size == 1) (size == 2) h
     where
-      by : (s t : Bool) → AllFit b a (if s then byte_of (or_zero (value_of look x)) ∷ [] else (if t then word_of 0 (or_zero (value_of look x)) else long_octets look x))
-          → filled b a (if s then byte_of (or_zero (value_of look x)) ∷ [] else (if t then word_of 0 (or_zero (value_of look x)) else long_octets look x))
+      by : (s t : Bool) → AllFit b a (if s then byte_of (or_zero (value_of look x)) ∷ [] else (if t then word_of 0 (or_zero (value_of look x)) else long_relocatables look x))
+          → filled b a (if s then byte_of (or_zero (value_of look x)) ∷ [] else (if t then word_of 0 (or_zero (value_of look x)) else long_relocatables look x))
           ≡ (if s then number_of b look x ∷ [] else (if t then word_bytes (number_of b look x) else long_bytes b look x))
       by true t h = filled-bytes b (or_zero (value_of look x) ∷ []) a h
       by false true h = word_filled b (or_zero (value_of look x)) a
@@ -93,9 +93,9 @@ module _ (b : Bases) (look : Look) where
   unfolding filled
   nothing_filled a = refl
 
-  pub data_filled : (size : ℕ) (items : List ItemTree) (a : ℕ) → AllFit b a (data_octets look size items) → filled b a (data_octets look size items) ≡ flat_map (item_bytes b look size) items
+  pub data_filled : (size : ℕ) (items : List ItemTree) (a : ℕ) → AllFit b a (data_relocatables look size items) → filled b a (data_relocatables look size items) ≡ flat_map (item_bytes b look size) items
   data_filled size [] a h = nothing_filled a
   data_filled size (i ∷ items) a h =
-      filled-append b (item_octets look size i) (data_octets look size items) a
-      ∙ (λ k. item_filled size i a (fit-front b a (item_octets look size i) (data_octets look size items) h) k
-      ++ data_filled size items (a + length (item_octets look size i)) (fit-behind b a (item_octets look size i) (data_octets look size items) h) k)
+      filled-append b (item_relocatables look size i) (data_relocatables look size items) a
+      ∙ (λ k. item_filled size i a (fit-prefix b a (item_relocatables look size i) (data_relocatables look size items) h) k
+      ++ data_filled size items (a + length (item_relocatables look size i)) (fit-behind b a (item_relocatables look size i) (data_relocatables look size items) h) k)

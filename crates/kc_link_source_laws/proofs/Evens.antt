@@ -10,13 +10,13 @@ use Rattle.kc_expr.specs.declared.values.Base.{Base}
 use Rattle.kc_expr.specs.declared.values.Base.TheVariants.{Fixed, Absolute, Piece, External}
 use Rattle.kc_expr.specs.declared.values.Value.{Value}
 use Rattle.kc_obj_relocation.specs.Numbers.{Bases}
-use Rattle.kc_asm_bytes.specs.declared.octet.Octet.{Octet}
-use Rattle.kc_asm_bytes.specs.declared.octet.Octet.TheVariants.{Plain, First, Second}
+use Rattle.kc_asm_bytes.specs.declared.relocatable_byte.RelocatableByte.{RelocatableByte}
+use Rattle.kc_asm_bytes.specs.declared.relocatable_byte.RelocatableByte.TheVariants.{Plain, First, Second}
 use Rattle.kc_asm_bytes.specs.Filling.{base_address, address}
 use Rattle.kc_asm_operation.specs.declared.word.Word.{Word}
 use Rattle.kc_asm_operation.specs.declared.word.Word.TheVariants.{Absent, Register, Immediate, Indirect, Increment, Short, Long, Count, Jump}
 use Rattle.kc_asm_operation.specs.declared.word.Worded.{Worded}
-use Rattle.kc_asm_encoding.specs.Octets.{byte_of, operand_octets, opcode_octet, laid_octets, row_octets, worded_octets, all_octets}
+use Rattle.kc_asm_encoding.specs.RelocatableBytes.{byte_of, operand_relocatables, opcode_relocatable, laid_relocatables, row_relocatables, worded_relocatables, all_relocatable_bytes}
 use Rattle.kc_asm_encoding.specs.Suits.{IsInstruction, IsEven}
 
 -- ---- what a byte counts from
@@ -27,20 +27,20 @@ HasEvenBase b Fixed = Unit {0}
 HasEvenBase b Absolute = Unit {0}
 HasEvenBase b (External e) = Unit {0}
 
-abbrev pub IsEvenAt : Bases → Octet → Type 0
+abbrev pub IsEvenAt : Bases → RelocatableByte → Type 0
 IsEvenAt b (Plain n) = Unit {0}
 IsEvenAt b (First kind start v) = kind ≡ 1 → HasEvenBase b v.base
 IsEvenAt b (Second kind v) = Unit {0}
 
-abbrev pub AllEven : Bases → List Octet → Type 0
+abbrev pub AllEven : Bases → List RelocatableByte → Type 0
 AllEven b [] = Unit {0}
 AllEven b (o ∷ os) = IsEvenAt b o × AllEven b os
 
-pub even_front : (b : Bases) (xs ys : List Octet) → AllEven b (xs ++ ys) → AllEven b xs
-even_front b [] ys h = tt
-even_front b (x ∷ xs) ys h = (h.0, even_front b xs ys h.1)
+pub even_prefix : (b : Bases) (xs ys : List RelocatableByte) → AllEven b (xs ++ ys) → AllEven b xs
+even_prefix b [] ys h = tt
+even_prefix b (x ∷ xs) ys h = (h.0, even_prefix b xs ys h.1)
 
-pub even_behind : (b : Bases) (xs ys : List Octet) → AllEven b (xs ++ ys) → AllEven b ys
+pub even_behind : (b : Bases) (xs ys : List RelocatableByte) → AllEven b (xs ++ ys) → AllEven b ys
 even_behind b [] ys h = h
 even_behind b (x ∷ xs) ys h = even_behind b xs ys h.1
 
@@ -59,7 +59,7 @@ even_base b (External x) n h k e = absurd (omega (arith, h, k))
 even_value : (b : Bases) (v : Value) → address (bases_at 0) v % 2 ≡ 0 → address (bases_at 1) v % 2 ≡ 0 → HasEvenBase b v.base → address b v % 2 ≡ 0
 even_value b v h k e = even_base b v.base v.number h k e
 
-even_operand : (b : Bases) (form : Form) (byte : Bool) (w : Word) → AllEven b (operand_octets form byte w) → IsEven (bases_at 0) w → IsEven (bases_at 1) w → IsEven b w
+even_operand : (b : Bases) (form : Form) (byte : Bool) (w : Word) → AllEven b (operand_relocatables form byte w) → IsEven (bases_at 0) w → IsEven (bases_at 1) w → IsEven b w
 even_operand b form byte Absent e h k = tt
 even_operand b form byte (Register v) e h k = tt
 even_operand b form byte (Immediate v) e h k = tt
@@ -72,20 +72,20 @@ even_operand b form byte (Jump v) e h k = tt
 
 -- ---- an instruction
 
-operand_even : (b : Bases) (w : Worded) (row : Shown) → AllEven b (row_octets w row) → AllEven b (operand_octets (layout_of row.shape).form (is_byte row.width) w.operand)
+operand_even : (b : Bases) (w : Worded) (row : Shown) → AllEven b (row_relocatables w row) → AllEven b (operand_relocatables (layout_of row.shape).form (is_byte row.width) w.operand)
 operand_even b w row h =
     let l = layout_of row.shape in
-    let laid : AllEven b (laid_octets (layout_of row.shape) (is_byte row.width) w) = (even_behind b (map Plain (prefix w.signed)) (opcode_octet (layout_of row.shape).form w.opcode w.operand ∷ laid_octets (layout_of row.shape) (is_byte row.width) w) h).1 in
-    even_front b (operand_octets (layout_of row.shape).form (is_byte row.width) w.operand) (map byte_of (take (layout_of row.shape).after (drop (layout_of row.shape).before w.regs)))
-    (even_behind b (map byte_of (take (layout_of row.shape).before w.regs)) (operand_octets (layout_of row.shape).form (is_byte row.width) w.operand ++ map byte_of (take (layout_of row.shape).after (drop (layout_of row.shape).before w.regs))) laid)
+    let laid : AllEven b (laid_relocatables (layout_of row.shape) (is_byte row.width) w) = (even_behind b (map Plain (prefix w.signed)) (opcode_relocatable (layout_of row.shape).form w.opcode w.operand ∷ laid_relocatables (layout_of row.shape) (is_byte row.width) w) h).1 in
+    even_prefix b (operand_relocatables (layout_of row.shape).form (is_byte row.width) w.operand) (map byte_of (take (layout_of row.shape).after (drop (layout_of row.shape).before w.regs)))
+    (even_behind b (map byte_of (take (layout_of row.shape).before w.regs)) (operand_relocatables (layout_of row.shape).form (is_byte row.width) w.operand ++ map byte_of (take (layout_of row.shape).after (drop (layout_of row.shape).before w.regs))) laid)
 
-worded_is : (w : Worded) (row : Shown) → row_at w.opcode w.signed ≡ Some row → worded_octets w ≡ row_octets w row
-worded_is w row e = rw (e, worded_octets) refl
+worded_is : (w : Worded) (row : Shown) → row_at w.opcode w.signed ≡ Some row → worded_relocatables w ≡ row_relocatables w row
+worded_is w row e = rw (e, worded_relocatables) refl
 
-even_worded : (b : Bases) (word : List ℕ) (w : Worded) → IsInstruction word w → AllEven b (worded_octets w) → IsEven (bases_at 0) w.operand → IsEven (bases_at 1) w.operand → IsEven b w.operand
+even_worded : (b : Bases) (word : List ℕ) (w : Worded) → IsInstruction word w → AllEven b (worded_relocatables w) → IsEven (bases_at 0) w.operand → IsEven (bases_at 1) w.operand → IsEven b w.operand
 even_worded b word w i e h k =
     even_operand b (layout_of i.row.shape).form (is_byte i.row.width) w.operand (operand_even b w i.row (subst (AllEven b) (worded_is w i.row i.is) e)) h k
 
-pub all_even : (b : Bases) (word : List ℕ) (w : Worded) (ws : List Worded) → IsInstruction word w → AllEven b (all_octets (w ∷ ws))
-    → IsEven (bases_at 0) w.operand → IsEven (bases_at 1) w.operand → IsEven b w.operand × AllEven b (all_octets ws)
-all_even b word w ws i e h k = (even_worded b word w i (even_front b (worded_octets w) (all_octets ws) e) h k, even_behind b (worded_octets w) (all_octets ws) e)
+pub all_even : (b : Bases) (word : List ℕ) (w : Worded) (ws : List Worded) → IsInstruction word w → AllEven b (all_relocatable_bytes (w ∷ ws))
+    → IsEven (bases_at 0) w.operand → IsEven (bases_at 1) w.operand → IsEven b w.operand × AllEven b (all_relocatable_bytes ws)
+all_even b word w ws i e h k = (even_worded b word w i (even_prefix b (worded_relocatables w) (all_relocatable_bytes ws) e) h k, even_behind b (worded_relocatables w) (all_relocatable_bytes ws) e)

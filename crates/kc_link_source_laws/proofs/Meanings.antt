@@ -15,7 +15,7 @@ use Rattle.kc_source_statement.specs.Trees.{ActionTree, action_tree, Bare, Modul
 use Rattle.kc_asm_symbols.specs.declared.segments.Segment.{Segment}
 use Rattle.kc_asm_symbols.specs.Located.{Located, segment_after, value_at, located_from}
 use Rattle.kc_asm_symbols.specs.Externals.{externals, external_in, tag_of_taken, stack_name}
-use Rattle.kc_asm_symbols.specs.Meanings.{or_told, is_label, label_answer, external_answer, with_here, is_taken_by, defines, by_definition, earlier, is_set, is_definition, in_all, throughout, meaning}
+use Rattle.kc_asm_symbols.specs.Meanings.{or_reported, is_label, label_answer, external_answer, with_here, is_taken_by, defines, by_definition, earlier, is_set, is_definition, in_all, throughout, meaning}
 use Rattle.kc_asm_symbols.proofs.KnownLemmas.{reverse_test}
 pub use Rattle.kc_asm_draft_laws.proofs.Lists.{split_test}
 use Rattle.kc_asm_draft_laws.proofs.Read.{located_test}
@@ -46,9 +46,9 @@ word n h = grind (arith, nat_tests, h)
 
 -- ---- names
 
-told_word : (a : Answer) → IsWordAnswer a → IsWordAnswer (or_told a)
-told_word (Ok v) h = h
-told_word (Err fault) h = tt
+reported_word : (a : Answer) → IsWordAnswer a → IsWordAnswer (or_reported a)
+reported_word (Ok v) h = h
+reported_word (Err fault) h = tt
 
 external_in_word : (n : ℕ) (ts : List Taken) (q : List ℕ) → IsWordAnswer (external_in n ts q)
 unfolding external_in
@@ -92,7 +92,7 @@ defines_bytes (Operation name args) q h = tt
 
 definition_word : (o : Option Tree) (look : List ℕ → Answer) (rest : Answer) → IsBytesOption o → ((q : List ℕ) → IsWordAnswer (look q)) → IsWordAnswer rest → IsWordAnswer (by_definition o look rest)
 definition_word None look rest b names h = h
-definition_word (Some x) look rest b names h = told_word (answer_by look x) (answer_word look names x b)
+definition_word (Some x) look rest b names h = reported_word (answer_by look x) (answer_word look names x b)
 
 here_word : (v : Value) (look : List ℕ → Answer) → v.number < 65536 → ((q : List ℕ) → IsWordAnswer (look q)) → (q : List ℕ) → IsWordAnswer (with_here v look q)
 here_word v look h names q = either (bytes_eq q here) (Ok v) (look q) h (names q)

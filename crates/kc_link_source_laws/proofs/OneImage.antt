@@ -8,7 +8,7 @@ use Rattle.kc_code.specs.declared.reader.Decoded.TheVariants.{Insn as Whole}
 use Rattle.kc_base.specs.Bytes.{IsBytes}
 use Rattle.kc_code.specs.Reading.{decode_of}
 use Rattle.kc_code.specs.Law.{OneSpelling}
-use Rattle.kc_code.proofs.Fronts.{in_front}
+use Rattle.kc_code.proofs.Beginnings.{in_front}
 use Rattle.kc_source_statement.specs.Trees.{ActionTree, Define, Operation, Bare, Module, Cseg, Dseg, Rseg, Sseg, Public, Extrn, Equ, Set, Reserve, Org, Even, End}
 use Rattle.kc_asm_symbols.specs.Located.{Located}
 use Rattle.kc_asm_symbols.specs.Meanings.{meaning}
@@ -17,13 +17,13 @@ use Rattle.kc_branch.specs.declared.piece.Form.{Form}
 use Rattle.kc_asm_operation.specs.declared.word.Worded.{Worded}
 use Rattle.kc_asm_operation.specs.Instructions.{instructions}
 use Rattle.kc_asm_encoding.specs.Words.{insn_of}
-use Rattle.kc_asm_encoding.specs.Octets.{worded_octets, all_octets}
+use Rattle.kc_asm_encoding.specs.RelocatableBytes.{worded_relocatables, all_relocatable_bytes}
 use Rattle.kc_asm_encoding.specs.Said.{said}
 use Rattle.kc_link_place.specs.Placing.{bases_of}
 use Rattle.kc_link_draft_laws.specs.Parts.{part_bases}
 use Rattle.kc_asm_emission.specs.Arguments.{Look, fixed_of, arguments}
 use Rattle.kc_asm_emission.specs.Content.{content, reserved, upto}
-use Rattle.kc_asm_check.specs.Judging.{standing}
+use Rattle.kc_asm_check.specs.Checking.{standing}
 use Rattle.kc_link_source_laws.specs.Saying.{data_of, code_of}
 use Rattle.kc_link_source_laws.specs.Linked.{address_of, Decodes, Reads, size_of, Covers, OneImage}
 use Rattle.kc_link_source_laws.proofs.Lengths.{worded_length, data_length}
@@ -49,23 +49,23 @@ get_take (suc n) (suc k) (x ∷ xs) h = get_take n k xs (omega (arith, h))
 -- ---- one statement
 
 module _ (law : OneSpelling) (image other : List ℕ) (bi : IsBytes image) (bo : IsBytes other) where
-  same_front : (i : Insn) (n at k : ℕ) → decode_of (drop at image) ≡ Whole i n → decode_of (drop at other) ≡ Whole i n → k < n → slice_get image (at + k) ≡ slice_get other (at + k)
-  same_front i n at k d e h =
+  same_prefix : (i : Insn) (n at k : ℕ) → decode_of (drop at image) ≡ Whole i n → decode_of (drop at other) ≡ Whole i n → k < n → slice_get image (at + k) ≡ slice_get other (at + k)
+  same_prefix i n at k d e h =
       let t : take n (drop at image) ≡ take n (drop at other) = law i (drop at image) (drop at other) n n (drop_bytes at image bi) (drop_bytes at other bo) d e in
       sym (get_drop at k image) ∙ (sym (get_take n k (drop at image) h) ∙ (ap (λ (l : List ℕ). slice_get l k) t ∙ (get_take n k (drop at other) h ∙ get_drop at k other)))
 
-  same_code : (b : Bases) (ws : List Worded) (at place k : ℕ) → Decodes image at (said b place ws) → Decodes other at (said b place ws) → k < length (all_octets ws)
+  same_code : (b : Bases) (ws : List Worded) (at place k : ℕ) → Decodes image at (said b place ws) → Decodes other at (said b place ws) → k < length (all_relocatable_bytes ws)
       → slice_get image (at + k) ≡ slice_get other (at + k)
   unfolding said
   same_code b [] at place k d e h = absurd (omega (arith, h))
   same_code b (w ∷ ws) at place k d e h =
-      let next : ℕ = place + length (worded_octets w) in
+      let next : ℕ = place + length (worded_relocatables w) in
       let i : Insn = insn_of b next w in
-      let front = in_front (drop at image) i (length_of i) (drop_bytes at image bi) d.0 in
-      let n : length (worded_octets w) ≡ length_of i = worded_length b next w front.has.three in
-      let whole : length (all_octets (w ∷ ws)) ≡ length (worded_octets w) + length (all_octets ws) = length-append (worded_octets w) (all_octets ws) in
+      let prefix = in_front (drop at image) i (length_of i) (drop_bytes at image bi) d.0 in
+      let n : length (worded_relocatables w) ≡ length_of i = worded_length b next w prefix.has.three in
+      let whole : length (all_relocatable_bytes (w ∷ ws)) ≡ length (worded_relocatables w) + length (all_relocatable_bytes ws) = length-append (worded_relocatables w) (all_relocatable_bytes ws) in
       elim (in_or_behind (length_of i) k) [
-        | inl l ↦ same_front i (length_of i) at k d.0 e.0 l
+        | inl l ↦ same_prefix i (length_of i) at k d.0 e.0 l
         | inr r ↦
             let q : (at + length_of i) + r.0 ≡ at + k = omega (arith, r.1) in
             subst (λ (x : ℕ). slice_get image x ≡ slice_get other x) q (same_code b ws (at + length_of i) next r.0 d.1 e.1 (omega (arith, h, whole, n, r.1)))
@@ -133,14 +133,14 @@ from_gets (x ∷ xs) (y ∷ ys) l h =
     cc (e, f)
 
 pub one_image : OneSpelling → OneImage
-one_image law sources drafts modules places image other bi bo p q = from_gets image other (p.long ∙ sym q.long) gets
+one_image law sources unlinked_modules modules places image other bi bo p q = from_gets image other (p.long ∙ sym q.long) gets
   where
-    covered : (place : ℕ) → Covers sources drafts modules places place → slice_get image place ≡ slice_get other place
+    covered : (place : ℕ) → Covers sources unlinked_modules modules places place → slice_get image place ≡ slice_get other place
     covered place c =
         let b : Bases = bases_of modules places c.index c.m in
         let a : ℕ = address_of b c.d c.l.segment c.s in
-        let d = p.stands c.index c.stmts c.d c.m c.before c.l c.s c.source c.draft c.its_module c.statement in
-        let e = q.stands c.index c.stmts c.d c.m c.before c.l c.s c.source c.draft c.its_module c.statement in
+        let d = p.stands c.index c.stmts c.d c.m c.before c.l c.s c.source c.unlinked c.its_module c.statement in
+        let e = q.stands c.index c.stmts c.d c.m c.before c.l c.s c.source c.unlinked c.its_module c.statement in
         let w : 0x2000 ≤ a = d.within (let l = c.below in omega (arith, l)) in
         let at : a + c.byte ≡ 0x2000 + place = c.at in
         let g : (a - 0x2000) + c.byte ≡ place = omega (arith, w, at) in

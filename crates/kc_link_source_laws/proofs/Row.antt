@@ -15,26 +15,26 @@ use Rattle.kc_asm_operation.specs.Opcodes.{opcode_of}
 use Rattle.kc_asm_operation.specs.Instructions.{instruction, instructions}
 use Rattle.kc_asm_operation.specs.Faults.{fault_of}
 use Rattle.kc_asm_encoding.specs.Said.{said}
-use Rattle.kc_asm_outline.specs.Outline.{target, notes_from}
-use Rattle.kc_asm_layout.specs.Places.{opened, sites_from}
+use Rattle.kc_asm_outline.specs.StatementSizes.{target, size_records_from}
+use Rattle.kc_asm_layout.specs.Places.{opened, locations_from}
 use Rattle.kc_asm_layout.specs.Text.{text_by, positions_from, count_main, dealt}
 use Rattle.kc_source.specs.Faults as source_faults
 use Rattle.kc_asm_emission.specs.Faults as value_faults
 use Rattle.kc_asm_check.specs.Codes.{misfits}
-use Rattle.kc_asm_check.specs.Judging.{standing, site_list, faults_from, first_fault}
+use Rattle.kc_asm_check.specs.Checking.{standing, location_list, faults_from, first_fault}
 use Rattle.kc_link_source_laws.specs.Linked.{Decodes}
-use Rattle.kc_link_source_laws.specs.Worked.{source, segment, jump, site, ljmp, WorkedSource}
+use Rattle.kc_link_source_laws.specs.Worked.{source, segment, jump, location, ljmp, WorkedSource}
 
-second_site : slice_get (site_list source) 1 ≡ Some site
-unfolding row_at plain_entry places raised start_forms forms located_from target notes_from opened sites_from text_by positions_from count_main dealt branch_kind instructions instruction opcode_of least
-second_site = refl
+second_location : slice_get (location_list source) 1 ≡ Some location
+unfolding row_at plain_entry places raised start_forms forms located_from target size_records_from opened locations_from text_by positions_from count_main dealt branch_kind instructions instruction opcode_of least
+second_location = refl
 
 all_stand : standing source ≡ segment ∷ jump ∷ []
-unfolding row_at plain_entry places raised start_forms forms located_from target notes_from opened sites_from text_by positions_from count_main dealt branch_kind instructions instruction opcode_of least
+unfolding row_at plain_entry places raised start_forms forms located_from target size_records_from opened locations_from text_by positions_from count_main dealt branch_kind instructions instruction opcode_of least
 all_stand = refl
 
 no_fault : first_fault source ≡ None
-unfolding row_at plain_entry places raised start_forms forms located_from target notes_from opened sites_from text_by positions_from count_main dealt branch_kind instructions instruction opcode_of least
+unfolding row_at plain_entry places raised start_forms forms located_from target size_records_from opened locations_from text_by positions_from count_main dealt branch_kind instructions instruction opcode_of least
     faults_from source_faults.least value_faults.least misfits misfit depends fits number distance fault_of answer_by operands_of first_opcode
 no_fault = refl
 
@@ -46,7 +46,7 @@ pub worked_source : WorkedSource
 unfolding instructions instruction opcode_of least row_at plain_entry said answer_by distance branch_kind
 worked_source bases d at = record {
   sound = no_fault;
-  statement = record { after = []; split = all_stand; site = second_site };
+  statement = record { after = []; split = all_stand; location = second_location };
   stands = ap (λ n. n + 0) at;
   says = refl;
   reads = decoded;

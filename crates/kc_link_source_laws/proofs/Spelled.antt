@@ -13,19 +13,19 @@ use Rattle.kc_asm_operation.specs.Instructions.{instructions}
 use Rattle.kc_asm_operation.specs.Faults.{fault_of}
 use Rattle.kc_asm_encoding.specs.Laws.{FilledIsSpelled, SettledIsSound, OperationsAreInstructions, PointersAreEven, NumbersAreWords}
 use Rattle.kc_asm_encoding.specs.Words.{insn_of}
-use Rattle.kc_asm_encoding.specs.Octets.{worded_octets, all_octets}
+use Rattle.kc_asm_encoding.specs.RelocatableBytes.{worded_relocatables, all_relocatable_bytes}
 use Rattle.kc_asm_encoding.specs.Suits.{IsInstruction, AreInstructions, AllFit, AllWords, IsEven, HasWords, IsSettled, EachOf}
 use Rattle.kc_asm_encoding.specs.Said.{said, IsSaid}
-use Rattle.kc_asm_encoding.proofs.Fills.{filled-append, fit-front, fit-behind}
+use Rattle.kc_asm_encoding.proofs.Fills.{filled-append, fit-beginning, fit-behind}
 use Rattle.kc_link_source_laws.proofs.Evens.{AllEven, bases_at, all_even}
 
 module _ (fills : FilledIsSpelled) (sounds : SettledIsSound) where
-  one_more : (b : Bases) (a : ℕ) (word : List ℕ) (w : Worded) (ws : List Worded) → IsInstruction word w → IsSettled b a w → IsSaid b (a + length (worded_octets w)) ws → IsSaid b a (w ∷ ws)
+  one_more : (b : Bases) (a : ℕ) (word : List ℕ) (w : Worded) (ws : List Worded) → IsInstruction word w → IsSettled b a w → IsSaid b (a + length (worded_relocatables w)) ws → IsSaid b a (w ∷ ws)
   unfolding said
   one_more b a word w ws i s rest =
-      let n : ℕ = a + length (worded_octets w) in
+      let n : ℕ = a + length (worded_relocatables w) in
       record {
-        spelled = filled-append b (worded_octets w) (all_octets ws) a ∙ (rw (fills b a word w i s) (ap (λ (bytes : List ℕ). spelling (insn_of b n w) ++ bytes) rest.spelled));
+        spelled = filled-append b (worded_relocatables w) (all_relocatable_bytes ws) a ∙ (rw (fills b a word w i s) (ap (λ (bytes : List ℕ). spelling (insn_of b n w) ++ bytes) rest.spelled));
         sound = (sounds b a word w i s, rest.sound);
       }
 
@@ -34,17 +34,17 @@ module _ (fills : FilledIsSpelled) (sounds : SettledIsSound) where
   no_more b a = record { spelled = refl; sound = tt }
 
   all_said : (b : Bases) (a : ℕ) (ls : List Line) (ws : List Worded) → AreInstructions ls ws → EachOf (λ w. IsEven (bases_at 0) w.operand) ws → EachOf (λ w. IsEven (bases_at 1) w.operand) ws
-      → EachOf (λ w. HasWords w.operand) ws → AllEven b (all_octets ws) → AllFit b a (all_octets ws) → IsSaid b a ws
+      → EachOf (λ w. HasWords w.operand) ws → AllEven b (all_relocatable_bytes ws) → AllFit b a (all_relocatable_bytes ws) → IsSaid b a ws
   all_said b a [] [] h k m words even fit = no_more b a
   all_said b a [] (w ∷ ws) h k m words even fit = absurd h
   all_said b a (l ∷ ls) [] h k m words even fit = absurd h
   all_said b a (l ∷ ls) (w ∷ ws) h k m words even fit =
       let e = all_even b l.word w ws h.0 even k.0 m.0 in
-      let s : IsSettled b a w = record { fit = fit-front b a (worded_octets w) (all_octets ws) fit; even = e.0; words = words.0 } in
-      one_more b a l.word w ws h.0 s (all_said b (a + length (worded_octets w)) ls ws h.1 k.1 m.1 words.1 e.1 (fit-behind b a (worded_octets w) (all_octets ws) fit))
+      let s : IsSettled b a w = record { fit = fit-prefix b a (worded_relocatables w) (all_relocatable_bytes ws) fit; even = e.0; words = words.0 } in
+      one_more b a l.word w ws h.0 s (all_said b (a + length (worded_relocatables w)) ls ws h.1 k.1 m.1 words.1 e.1 (fit-behind b a (worded_relocatables w) (all_relocatable_bytes ws) fit))
 
 pub operation_said : FilledIsSpelled → SettledIsSound → OperationsAreInstructions → PointersAreEven → NumbersAreWords → (b : Bases) (place : ℕ) (word : List ℕ) (args : List Argument) (form : Form) (here : Value)
-    → is_operation word args ≡ true → fault_of word args ≡ None → AllWords args → AllEven b (all_octets (instructions word args form here)) → AllFit b place (all_octets (instructions word args form here))
+    → is_operation word args ≡ true → fault_of word args ≡ None → AllWords args → AllEven b (all_relocatable_bytes (instructions word args form here)) → AllFit b place (all_relocatable_bytes (instructions word args form here))
     → IsSaid b place (instructions word args form here)
 operation_said fills sounds are evens words b place word args form here h f w even fit =
     all_said fills sounds b place (in_full word args form here) (instructions word args form here) (are word args form here h)

@@ -11,11 +11,11 @@ use Rattle.kc_asm_symbols.specs.Located.{Located, first_segment, value_at, locat
 use Rattle.kc_asm_symbols.specs.Meanings.{meaning}
 use Rattle.kc_obj_relocation.specs.Numbers.{Bases}
 use Rattle.kc_branch.specs.declared.piece.Form.TheVariants.{First}
-use Rattle.kc_asm_piece.specs.declared.draft.Draft.{Draft}
+use Rattle.kc_asm_piece.specs.declared.unlinked.UnlinkedModule.{UnlinkedModule}
 use Rattle.kc_link_draft_laws.specs.Parts.{start, part_bases}
-use Rattle.kc_asm_outline.specs.declared.note.Body.TheVariants.{Bytes}
-use Rattle.kc_asm_layout.specs.declared.site.Site.{Site}
-use Rattle.kc_asm_check.specs.Judging.{first_fault}
+use Rattle.kc_asm_outline.specs.declared.size_record.Body.TheVariants.{Bytes}
+use Rattle.kc_asm_layout.specs.declared.location.Location.{Location}
+use Rattle.kc_asm_check.specs.Checking.{first_fault}
 use Rattle.kc_link_source_laws.specs.Saying.{code_of}
 use Rattle.kc_link_source_laws.specs.Linked.{address_of, IsStatement, Decodes}
 
@@ -32,19 +32,19 @@ abbrev pub jump : Located
 jump = located_at first_segment (value_at first_segment 0) (record { line = 2; label = None; action = Operation (codes "LJMP") (Plain (Number 0x2100) ∷ []) })
 
 -- three bytes, the first of the relocatable code
-abbrev pub site : Site
-site = record { before = 0; place = 0; after = 3; address = None; form = First; body = Bytes 3 }
+abbrev pub location : Location
+location = record { before = 0; place = 0; after = 3; address = None; form = First; body = Bytes 3 }
 
 -- from 2083H to 2100H
 abbrev pub ljmp : Insn
 ljmp = record { opcode = 0xE7; signed = false; operand = Disp (pos 0x7D); regs = 0 ∷ 0 ∷ 0 ∷ [] }
 
-pub record WorkedRows (bases : Bases) (d : Draft) : Type 0 where
+pub record WorkedRows (bases : Bases) (d : UnlinkedModule) : Type 0 where
   pub sound : first_fault source ≡ None
-  pub statement : IsStatement source (segment ∷ []) jump site
-  pub stands : address_of bases d jump.segment site ≡ 0x2080
-  pub says : code_of (part_bases bases d) 0x2080 (meaning (segment ∷ jump ∷ []) (segment ∷ []) jump) site.form jump jump.action ≡ ljmp ∷ []
+  pub statement : IsStatement source (segment ∷ []) jump location
+  pub stands : address_of bases d jump.segment location ≡ 0x2080
+  pub says : code_of (part_bases bases d) 0x2080 (meaning (segment ∷ jump ∷ []) (segment ∷ []) jump) location.form jump jump.action ≡ ljmp ∷ []
   pub reads : Decodes (0xE7 ∷ 0x7D ∷ 0 ∷ []) 0 (ljmp ∷ [])
 
 abbrev pub WorkedSource : Type 0
-WorkedSource = (bases : Bases) (d : Draft) → start bases d 1 ≡ 0x2080 → WorkedRows bases d
+WorkedSource = (bases : Bases) (d : UnlinkedModule) → start bases d 1 ≡ 0x2080 → WorkedRows bases d

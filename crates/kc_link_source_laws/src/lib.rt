@@ -1,21 +1,24 @@
 //! The image that is linked from the modules of sources decodes to their statements: laws of definitions, without code.
 #![tactic(auto)]
 
-ghost use Rattle.kc_link_source_laws.specs.Linked.{LinkedImage, OneImage, OneImageOfSources, StatementsHaveSites};
+ghost use Rattle.kc_link_source_laws.specs.Linked.{LinkedImage, OneImage, OneImageOfSources, StatementsHaveLocations};
 ghost use Rattle.kc_link_source_laws.specs.Worked.{WorkedSource};
 
 use kc_asm_check::no_fault_no_codes;
 use kc_asm_draft_laws::{
-    drafts_are_drafts, drafts_are_settled, drafts_are_whole, nothing_else_stands, statements_stand,
+    nothing_else_stands, statements_stand, unlinked_modules_are_settled,
+    unlinked_modules_are_unlinked, unlinked_modules_are_whole,
 };
 use kc_asm_encoding::laws::{
     filled_is_spelled, numbers_are_words, operations_are_instructions, pointers_are_even,
     settled_is_sound,
 };
 use kc_asm_module::{numbers_stand, one_module};
-use kc_asm_outline::outlines_have_lengths;
+use kc_asm_outline::sizes_have_lengths;
 use kc_code::{one_spelling, spelled_is_decoded};
-use kc_link_draft_laws::{absolute_parts_stand, drafts_are_linked, held_is_read, numbers_fit};
+use kc_link_draft_laws::{
+    absolute_parts_stand, held_is_read, numbers_fit, unlinked_modules_are_linked,
+};
 use kc_source_statement::statements_are_formed;
 
 /// The image that is filled from the modules of sources without a fault, where their pieces are placed, is linked: at the
@@ -26,13 +29,13 @@ pub fn linked_image()
 {
     statements_are_formed();
     no_fault_no_codes();
-    drafts_are_drafts();
-    drafts_are_whole();
-    drafts_are_settled();
+    unlinked_modules_are_unlinked();
+    unlinked_modules_are_whole();
+    unlinked_modules_are_settled();
     statements_stand();
     nothing_else_stands();
     numbers_stand();
-    drafts_are_linked();
+    unlinked_modules_are_linked();
     held_is_read();
     numbers_fit();
     absolute_parts_stand();
@@ -60,10 +63,10 @@ pub fn one_image_of_sources()
 }
 
 /// Each statement of a source has a site, so that the image has what each of them says.
-pub fn statements_have_sites()
-    ensures { StatementsHaveSites }
+pub fn statements_have_locations()
+    ensures { StatementsHaveLocations }
 {
-    outlines_have_lengths();
+    sizes_have_lengths();
 }
 
 /// A worked source: a jump that stands first in the code, where that stands at 2080H.

@@ -31,7 +31,7 @@ use Rattle.kc_block_spec.specs.Costs.{CostsAtMost}
 
 -- an access gives eighteen edges at most
 latch_edges-short : {X : Type 0} (old new : Units X) → length (latch_edges old new) ≤ 18
-latch_edges-short old new = eighteen_edges (printed old.steady old.hso) (printed new.steady new.hso)
+latch_edges-short old new = eighteen_edges (printed old.board_registers old.hso) (printed new.board_registers new.hso)
 
 -- where there is room, all edges are noted
 noted-whole : (old more : List Edge) → length old + length more ≤ 144 → all_noted old more ≡ old ++ more

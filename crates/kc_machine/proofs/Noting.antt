@@ -35,11 +35,11 @@ is_register addr m = grind (arith, common_steps)
 
 -- a read changes no latch
 printed_of : {X : Type 0} → Units X → ℕ
-printed_of u = printed u.steady u.hso
+printed_of u = printed u.board_registers u.hso
 
 latches-kept : {X : Type 0} (u v : Units X) → printed_of v ≡ printed_of u → latch_edges u v ≡ []
 unfolding printed_of
-latches-kept u v e = ap (edges_between (printed u.steady u.hso)) e ∙ edges_none (printed u.steady u.hso) 18
+latches-kept u v e = ap (edges_between (printed u.board_registers u.hso)) e ∙ edges_none (printed u.board_registers u.hso) 18
 
 byte-prints : {X : Type 0} (u : Units X) (r : ReadableByte) → printed_of (after_byte u r) ≡ printed_of u
 unfolding printed_of

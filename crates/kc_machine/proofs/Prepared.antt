@@ -15,12 +15,12 @@ use Rattle.kc_code.specs.Reading.{decode_of}
 use Rattle.kc_exec_spec.specs.Memory.{is_rom}
 use Rattle.kc_exec_spec.specs.Places.{place_of, ◌>>=◌}
 use Rattle.kc_exec_spec.specs.Plans.{plan_of}
-use Rattle.kc_exec_ready.specs.declared.ready.Ready.{Ready}
+use Rattle.kc_exec_ready.specs.declared.predecoded.Predecoded.{Predecoded}
 use Rattle.kc_intc.specs.declared.requests.Choice.TheVariants.{Go}
 use Rattle.kc_intc.specs.declared.requests.Requests.{Requests}
 use Rattle.kc_intc.specs.Choosing.{choice_of}
 use Rattle.kc_intc.proofs.Greatest.{nothing_masked_in}
-use Rattle.kc_exec_ready.specs.Preparing.{is_free, is_blank, time_at, IsReady}
+use Rattle.kc_exec_ready.specs.Preparing.{is_free, is_blank, time_at, IsPredecoded}
 use Rattle.kc_machine_spec.specs.declared.doing.Activity.TheVariants.{Executes}
 use Rattle.kc_exec_spec.specs.declared.cpu.Cpu.{Cpu}
 use Rattle.kc_exec_spec.specs.declared.cpu.After.TheVariants.{Next, Held}
@@ -52,41 +52,41 @@ fetched-put (suc n) memory addr value at out low high =
     let rest : fetched n (slice_set memory addr value) (at + 1) ≡ fetched n memory (at + 1) = fetched-put n memory addr value (at + 1) out (omega arith) (omega arith) in
     rw (here, next, rest) refl
 
-slot-stays : (memory other : List ℕ) (at : ℕ) (r : Ready) → fetched 7 other at ≡ fetched 7 memory at → IsSlot memory at r → IsSlot other at r
-slot-stays memory other at r same h = λ some. record { ready = (h some).ready; read = ap (λ bytes. insn_of (decode_of bytes)) same ∙ (h some).read }
+slot-stays : (memory other : List ℕ) (at : ℕ) (r : Predecoded) → fetched 7 other at ≡ fetched 7 memory at → IsSlot memory at r → IsSlot other at r
+slot-stays memory other at r same h = λ some. record { predecoded = (h some).predecoded; read = ap (λ bytes. insn_of (decode_of bytes)) same ∙ (h some).read }
 
 -- a byte written outside ROM leaves the table true
-pub table_put : (table : List Ready) (memory : List ℕ) (addr value : ℕ) → is_rom addr ≡ false → IsTable table memory → IsTable table (slice_set memory addr value)
-table_put table memory addr value out told = λ k d few inside.
-    slot-stays memory (slice_set memory addr value) (0x2000 + k) (slice_index_or table k d) (fetched-put 7 memory addr value (0x2000 + k) out (omega arith) (omega arith)) (told k d few inside)
+pub table_put : (table : List Predecoded) (memory : List ℕ) (addr value : ℕ) → is_rom addr ≡ false → IsTable table memory → IsTable table (slice_set memory addr value)
+table_put table memory addr value out known = λ k d few inside.
+    slot-stays memory (slice_set memory addr value) (0x2000 + k) (slice_index_or table k d) (fetched-put 7 memory addr value (0x2000 + k) out (omega arith) (omega arith)) (known k d few inside)
 
-slot-at : (table : List Ready) (slot k : ℕ) (r d : Ready) → slot < length table → slice_index_or (slice_set table slot r) k d ≡ (if k == slot then r else slice_index_or table k d)
+slot-at : (table : List Predecoded) (slot k : ℕ) (r d : Predecoded) → slot < length table → slice_index_or (slice_set table slot r) k d ≡ (if k == slot then r else slice_index_or table k d)
 slot-at table slot k r d inside = grind (arith, common_steps)
 
-same-length : (table : List Ready) (slot : ℕ) (r : Ready) → length (slice_set table slot r) ≡ length table
+same-length : (table : List Predecoded) (slot : ℕ) (r : Predecoded) → length (slice_set table slot r) ≡ length table
 same-length table slot r = grind (arith, common_steps)
 
-chosen-slot : (memory : List ℕ) (k slot : ℕ) (r t : Ready) (same : Bool) → (k == slot) ≡ same → IsSlot memory (0x2000 + slot) r → IsSlot memory (0x2000 + k) t → IsSlot memory (0x2000 + k) (if k == slot then r else t)
+chosen-slot : (memory : List ℕ) (k slot : ℕ) (r t : Predecoded) (same : Bool) → (k == slot) ≡ same → IsSlot memory (0x2000 + slot) r → IsSlot memory (0x2000 + k) t → IsSlot memory (0x2000 + k) (if k == slot then r else t)
 chosen-slot memory k slot r t true e a b = rw e (subst (λ x. IsSlot memory (0x2000 + x) r) (let same : slot ≡ k = grind (arith, common_steps) in same) a)
 chosen-slot memory k slot r t false e a b = rw e b
 
 -- one slot told anew leaves the table true
-pub table_keep : (table : List Ready) (memory : List ℕ) (slot : ℕ) (r : Ready) → slot < length table → IsSlot memory (0x2000 + slot) r → IsTable table memory → IsTable (slice_set table slot r) memory
-table_keep table memory slot r inside one told = λ k d few within.
-    subst (IsSlot memory (0x2000 + k)) (sym (slot-at table slot k r d inside)) (chosen-slot memory k slot r (slice_index_or table k d) (k == slot) refl one (told k d few (subst (λ n. k < n) (same-length table slot r) within)))
+pub table_keep : (table : List Predecoded) (memory : List ℕ) (slot : ℕ) (r : Predecoded) → slot < length table → IsSlot memory (0x2000 + slot) r → IsTable table memory → IsTable (slice_set table slot r) memory
+table_keep table memory slot r inside one known = λ k d few within.
+    subst (IsSlot memory (0x2000 + k)) (sym (slot-at table slot k r d inside)) (chosen-slot memory k slot r (slice_index_or table k d) (k == slot) refl one (known k d few (subst (λ n. k < n) (same-length table slot r) within)))
 
-same-slot : (n k : ℕ) (r d : Ready) → k < n → slice_index_or (replicate n r) k d ≡ r
+same-slot : (n k : ℕ) (r d : Predecoded) → k < n → slice_index_or (replicate n r) k d ≡ r
 same-slot zero k r d few = absurd (omega arith)
 same-slot (suc n) zero r d few = refl
 same-slot (suc n) (suc k) r d few = same-slot n k r d (omega arith)
 
 -- a table that tells nothing is true of each memory
-pub table_blank : (memory : List ℕ) (n : ℕ) (r : Ready) → is_blank r ≡ true → IsTable (replicate n r) memory
+pub table_blank : (memory : List ℕ) (n : ℕ) (r : Predecoded) → is_blank r ≡ true → IsTable (replicate n r) memory
 table_blank memory n r blank = λ k d few inside some.
     absurd (let here : slice_index_or (replicate n r) k d ≡ r = same-slot n k r d (grind (arith, common_steps)) in cc (blank, (rw here at some)))
 
 -- a table that was cleared is true of each memory
-pub table_cleared : (table : List Ready) (memory : List ℕ) → All (λ r. is_blank r ≡ true) table → IsTable table memory
+pub table_cleared : (table : List Predecoded) (memory : List ℕ) → All (λ r. is_blank r ≡ true) table → IsTable table memory
 table_cleared table memory none = λ k d few inside some. absurd (cc (none k d inside, some))
 
 begun-so : {X : Type 0} (m : Machine X) (read : Decoded) (insn : Insn) → insn_of read ≡ Some insn → begins m read ≡ placed insn (place_of insn m.cpu (masks_of m.board.units) (byte (scene_of m)))
@@ -109,7 +109,7 @@ placed_not insn (Ok p) kind h = absurd (cc h)
 placed_not insn (Err k) kind h = ap breaks (cc h)
 
 -- the instruction that was read comes next
-pub read_so : {X : Type 0} (m : Machine X) (r : Ready) → IsRead m.board.memory m.cpu.pc r → placed r.insn (place_of r.insn m.cpu (masks_of m.board.units) (byte (scene_of m))) ≡ fetches m
+pub read_so : {X : Type 0} (m : Machine X) (r : Predecoded) → IsRead m.board.memory m.cpu.pc r → placed r.insn (place_of r.insn m.cpu (masks_of m.board.units) (byte (scene_of m))) ≡ fetches m
 unfolding fetches
 read_so m r there = sym (begun-so m (decode_of (fetched 7 m.board.memory m.cpu.pc)) r.insn there.read)
 
@@ -138,14 +138,14 @@ fetches-next m true h between = rw (between.begun, between.alone, h) refl
 fetches-next m false h between = rw (between.begun, between.alone, h, between.none h) refl
 
 -- the next activity is the instruction that is told, at its place
-pub told_next : {X : Type 0} (m : Machine X) (r : Ready) → IsBetween m → IsRead m.board.memory m.cpu.pc r → placed r.insn (place_of r.insn m.cpu (masks_of m.board.units) (byte (scene_of m))) ≡ current m
-told_next m r between there = read_so m r there ∙ sym (fetches-next m m.held refl between)
+pub known_next : {X : Type 0} (m : Machine X) (r : Predecoded) → IsBetween m → IsRead m.board.memory m.cpu.pc r → placed r.insn (place_of r.insn m.cpu (masks_of m.board.units) (byte (scene_of m))) ≡ current m
+known_next m r between there = read_so m r there ∙ sym (fetches-next m m.held refl between)
 
 -- and it has these states
-pub comes_next : {X : Type 0} (m : Machine X) (r : Ready) (n : ℕ) → IsBetween m → IsRead m.board.memory m.cpu.pc r → time_at r.insn m.cpu (masks_of m.board.units) (byte (scene_of m)) ≡ Ok n → executing r n ≡ current m
+pub comes_next : {X : Type 0} (m : Machine X) (r : Predecoded) (n : ℕ) → IsBetween m → IsRead m.board.memory m.cpu.pc r → time_at r.insn m.cpu (masks_of m.board.units) (byte (scene_of m)) ≡ Ok n → executing r n ≡ current m
 comes_next m r n between there time =
     placed_for r.insn (place_of r.insn m.cpu (masks_of m.board.units) (byte (scene_of m))) n (sym time)
-    ∙ told_next m r between there
+    ∙ known_next m r between there
 
 -- whether an instruction has to follow, or any activity may
 followed-by : (insn : Insn) (held : Bool) → next_after insn (if held then Held else Next) ≡ record { held = held; going = None; ended = None }
@@ -163,8 +163,8 @@ no-trap named.Trap h = absurd (cc h)
 no-trap m h = grind (arith, common_steps)
 
 -- no record is its own
-pub silent : (time pc : ℕ) (r : Ready) → IsReady r → is_free (plan_of r.mnemonic) ≡ true → own_records time pc r.insn ≡ []
-silent time pc r ready free = rw (ready.named, no-trap r.mnemonic free) refl
+pub silent : (time pc : ℕ) (r : Predecoded) → IsPredecoded r → is_free (plan_of r.mnemonic) ≡ true → own_records time pc r.insn ≡ []
+silent time pc r predecoded free = rw (predecoded.named, no-trap r.mnemonic free) refl
 
 -- what is prepared is no part of a machine
 pub same-machine : {X : Type 0} {d : extra.Ghosts X} (core : Core X d) (bus : Common X d) → held_of bus ≡ held_of core.bus → machine_of (record core { bus = bus }) ≡ machine_of core

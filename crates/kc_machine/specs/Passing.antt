@@ -19,12 +19,12 @@ use Rattle.kc_machine.specs.Bus.{held_of}
 use Rattle.kc_block_spec.specs.Costs.{CostsAtMost}
 use Rattle.kc_machine.specs.Failing.{Passes}
 use Rattle.kc_machine.specs.Seen.{machine_of}
-use Rattle.kc_machine.specs.Sound.{IsGoing, IsReady, IsSoundGoing}
+use Rattle.kc_machine.specs.Sound.{IsGoing, IsPredecoded, IsSoundGoing}
 
 -- of what comes this activity was told, with states left, and nothing has changed
-pub record Tells {X : Type 0} {d : extra.Ghosts X} (activity told : UnderWay) (old new : Core X d) (steps_before steps_after : ℕ) : Type 0 where
-  pub value : told ≡ activity
-  pub going : IsGoing told
+pub record Knows {X : Type 0} {d : extra.Ghosts X} (activity known : UnderWay) (old new : Core X d) (steps_before steps_after : ℕ) : Type 0 where
+  pub value : known ≡ activity
+  pub going : IsGoing known
   pub same : new ≡ old
   pub steps : steps_after ≡ steps_before
 
@@ -43,7 +43,7 @@ pub record GoesAs {X : Type 0} {d : extra.Ghosts X} (stretch : Stepped X) (old n
 
 -- between two states before this one a living machine may go on
 pub record MayPass {X : Type 0} {d : extra.Ghosts X} (until : ℕ) (core : Core X d) : Type 0 where
-  pub ready : IsReady core
+  pub predecoded : IsPredecoded core
   pub lives : core.ended ≡ None
   pub ahead : core.time < until
   pub room : until ≤ 2 * 10 ^ 15
@@ -52,7 +52,7 @@ pub record MayPass {X : Type 0} {d : extra.Ghosts X} (until : ℕ) (core : Core 
 pub record PassesAs {X : Type 0} {d : extra.Ghosts X} (f : Further X) (until : ℕ) (old new : Core X d) (o p : Out) (steps_before steps_after : ℕ) : Type 0 where
   pub passes : Passes f until (machine_of old) (machine_of new)
   pub goes : GoesAs (run_to f new.time (machine_of old)) old new o p steps_before steps_after
-  pub ready : IsReady new
+  pub predecoded : IsPredecoded new
 
 -- the accesses of an activity's last state come next
 pub record IsInLastState {X : Type 0} {d : extra.Ghosts X} (core : Core X d) : Type 0 where

@@ -5,8 +5,8 @@ use Rattle.kc_isa.specs.declared.insn.Insn.{Insn}
 use Rattle.kc_code.specs.declared.reader.Decoded.{Decoded}
 use Rattle.kc_code.specs.declared.reader.Decoded.TheVariants.{Insn as Whole}
 use Rattle.kc_code.specs.Reading.{decode_of}
-use Rattle.kc_exec_ready.specs.declared.ready.Ready.{Ready}
-use Rattle.kc_exec_ready.specs.Preparing.{is_blank, IsReady}
+use Rattle.kc_exec_ready.specs.declared.predecoded.Predecoded.{Predecoded}
+use Rattle.kc_exec_ready.specs.Preparing.{is_blank, IsPredecoded}
 use Rattle.kc_machine_spec.specs.declared.doing.Activity.TheVariants.{Executes}
 use Rattle.kc_machine_spec.specs.declared.doing.UnderWay.{UnderWay}
 use Rattle.kc_machine_spec.specs.Machine.{Machine, fetched, asked}
@@ -17,17 +17,17 @@ insn_of (Whole insn length) = Some insn
 insn_of _ = None
 
 -- the instruction that stands at an address is this
-pub record IsRead (memory : List ℕ) (at : ℕ) (r : Ready) : Type 0 where
-  pub ready : IsReady r
+pub record IsRead (memory : List ℕ) (at : ℕ) (r : Predecoded) : Type 0 where
+  pub predecoded : IsPredecoded r
   pub read : insn_of (decode_of (fetched 7 memory at)) ≡ Some r.insn
 
 -- what is told at an address: nothing, or the instruction that stands there
-abbrev pub IsSlot : List ℕ → ℕ → Ready → Type 0
+abbrev pub IsSlot : List ℕ → ℕ → Predecoded → Type 0
 IsSlot memory at r = is_blank r ≡ false → IsRead memory at r
 
 -- slot k is that of the address 2000H + k: seven bytes of ROM stand from each of these addresses on
-abbrev pub IsTable : List Ready → List ℕ → Type 0
-IsTable table memory = (k : ℕ) (d : Ready) → k < 0x3FFA → k < length table → IsSlot memory (0x2000 + k) (slice_index_or table k d)
+abbrev pub IsTable : List Predecoded → List ℕ → Type 0
+IsTable table memory = (k : ℕ) (d : Predecoded) → k < 0x3FFA → k < length table → IsSlot memory (0x2000 + k) (slice_index_or table k d)
 
 abbrev pub HasSlot : ℕ → Type 0
 HasSlot addr = (0x2000 ≤ addr) × (addr < 0x5FFA)
@@ -47,5 +47,5 @@ pub record IsBetween {X : Type 0} (m : Machine X) : Type 0 where
   pub none : m.held ≡ false → asked m ≡ Go
 
 -- a prepared instruction with all its states ahead
-abbrev pub executing : Ready → ℕ → UnderWay
+abbrev pub executing : Predecoded → ℕ → UnderWay
 executing r states = record { doing = Executes r.insn; left = states }

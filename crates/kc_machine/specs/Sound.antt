@@ -48,7 +48,7 @@ IsSoundGoing (Some (Serving number cycle)) = IsSoundCycle number cycle
 IsSoundGoing _ = Unit {0}
 
 -- between two states, with the units at the machine's state
-pub record IsReady {X : Type 0} {d : extra.Ghosts X} (core : Core X d) : Type 0 where
+pub record IsPredecoded {X : Type 0} {d : extra.Ghosts X} (core : Core X d) : Type 0 where
   pub activity : IsSoundUnderWay core.under_way
   pub between : IsSoundGoing core.going
   pub stands : core.bus.block.time ≡ core.time

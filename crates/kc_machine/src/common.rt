@@ -23,7 +23,7 @@ use kc_block::Block;
 use kc_block_spec::Window;
 use kc_bus::{Masks, Master};
 use kc_code::{Decoded, decode};
-use kc_exec_ready::{Ready, prepare};
+use kc_exec_ready::{Predecoded, predecode};
 use kc_extra::Extra;
 use std::alloc::Global;
 use std::sync::ledger::Ledger;
@@ -33,13 +33,13 @@ use std::sync::ledger::Ledger;
 #[derive(Drop)]
 pub struct Common<X: Extra + Drop> {
     pub(crate) memory: Vec<u8>,
-    pub(crate) ready: Vec<Ready>,
+    pub(crate) predecoded: Vec<Predecoded>,
     pub(crate) block: Block<X>,
     pub(crate) edges: Noted,
     pub(crate) reached: u8,
     ghost long: { vec_len memory ≡ 65536 },
-    ghost slots: { vec_len ready ≡ 0x3FFA },
-    ghost told: { IsTable ready.items memory.items },
+    ghost slots: { vec_len predecoded ≡ 0x3FFA },
+    ghost known: { IsTable predecoded.items memory.items },
 }
 
 /// The first address from which an instruction is prepared, and how many have a slot: all seven bytes of each stand in ROM.
@@ -48,12 +48,12 @@ const FIRST: u16 = 0x2000;
 const SLOTS: usize = 0x3FFA;
 
 // No slot tells anything any more.
-fn clear(table: &mut [Ready])
+fn clear(table: &mut [Predecoded])
     ensures none { All (λ r. is_blank r ≡ true) table.new }
     ensures count { length table.new ≡ length table.old }
 {
     for slot in table {
-        *slot = Ready::blank();
+        *slot = Predecoded::blank();
     }
 }
 
@@ -83,10 +83,10 @@ impl<X: Extra + Drop> Common<X> {
         ensures memory { IfOk result (λ common. common.memory ≡ memory) }
         ensures block { IfOk result (λ common. common.block ≡ block) }
     {
-        let ready = vec![in alloc; Ready::blank(); SLOTS]?;
+        let predecoded = vec![in alloc; Predecoded::blank(); SLOTS]?;
         Ok(Common {
             memory,
-            ready,
+            predecoded,
             block,
             edges: Noted::none(),
             reached: 0,
@@ -199,13 +199,13 @@ impl<X: Extra + Drop> Common<X> {
     // No instruction is prepared any more.
     #[tactic(auto, using(crate::proofs::Prepared::table_cleared))]
     fn forget_all(&mut self)
-        ensures none { All (λ r. is_blank r ≡ true) self.new.ready.items }
+        ensures none { All (λ r. is_blank r ≡ true) self.new.predecoded.items }
         ensures memory { self.new.memory ≡ self.old.memory }
         ensures edges { self.new.edges ≡ self.old.edges }
         ensures count { self.new.reached ≡ self.old.reached }
         ensures block { self.new.block ≡ self.old.block }
     {
-        clear(&mut self.ready);
+        clear(&mut self.predecoded);
     }
 
     /// Changes the byte at an address, ROM too.
@@ -229,35 +229,39 @@ impl<X: Extra + Drop> Common<X> {
 
     /// The instruction at an address, where it is prepared; else the blank one.
     #[inline(always)]
-    pub(crate) fn ready_at(&self, addr: u16) -> Ready
+    pub(crate) fn predecoded_at(&self, addr: u16) -> Predecoded
         requires { HasSlot addr }
         ensures { IsSlot self.now.memory.items addr result }
     {
-        self.ready[(addr - FIRST) as usize]
+        self.predecoded[(addr - FIRST) as usize]
     }
 
     /// The instruction at an address, where it is prepared.
-    pub(crate) fn known_at(&self, addr: u16) -> Option<Ready>
+    pub(crate) fn known_at(&self, addr: u16) -> Option<Predecoded>
         ensures { IfSome result (IsRead self.now.memory.items addr) }
     {
         if !self.has_slot(addr) {
             return None;
         }
-        let ready = self.ready_at(addr);
-        if ready.is_blank() { None } else { Some(ready) }
+        let predecoded = self.predecoded_at(addr);
+        if predecoded.is_blank() {
+            None
+        } else {
+            Some(predecoded)
+        }
     }
 
     // The instruction at an address, prepared; the blank one where there is none.
-    fn prepared_at(&self, addr: u16) -> Ready
+    fn prepared_at(&self, addr: u16) -> Predecoded
         ensures { IsSlot self.now.memory.items addr result }
     {
         let bytes = fetch(&self.memory, addr);
         match decode(bytes.as_slice()) {
-            Decoded::Insn(insn, _) => match prepare(&insn) {
-                Some(ready) => ready,
-                None => Ready::blank(),
+            Decoded::Insn(insn, _) => match predecode(&insn) {
+                Some(predecoded) => predecoded,
+                None => Predecoded::blank(),
             },
-            Decoded::Unimplemented | Decoded::Undefined | Decoded::Short => Ready::blank(),
+            Decoded::Unimplemented | Decoded::Undefined | Decoded::Short => Predecoded::blank(),
         }
     }
 
@@ -269,8 +273,8 @@ impl<X: Extra + Drop> Common<X> {
         ensures scene { held_of self.new ≡ held_of self.old }
         ensures block { self.new.block ≡ self.old.block }
     {
-        if self.has_slot(addr) && self.ready_at(addr).is_blank() {
-            self.ready[(addr - FIRST) as usize] = self.prepared_at(addr);
+        if self.has_slot(addr) && self.predecoded_at(addr).is_blank() {
+            self.predecoded[(addr - FIRST) as usize] = self.prepared_at(addr);
         }
     }
 

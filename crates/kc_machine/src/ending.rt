@@ -4,7 +4,7 @@ ghost use Rattle.kc_isa.specs.Formed.{is_formed};
 ghost use Rattle.kc_exec_spec.specs.BlockMoves.{IsOfMove};
 ghost use Rattle.kc_exec_spec.specs.Jumping.{next_pc};
 ghost use Rattle.kc_exec_spec.specs.Plans.{plan_of};
-ghost use Rattle.kc_exec_ready.specs.Preparing.{is_free, IsReady};
+ghost use Rattle.kc_exec_ready.specs.Preparing.{is_free, IsPredecoded};
 ghost use Rattle.kc_trace.specs.Printable.{CanPrint};
 ghost use Rattle.kc_machine_spec.specs.declared.doing.Activity.TheVariants.{Executes, MovesWord, Traps, Enters, SetsUp, Transfers, Idles};
 ghost use Rattle.kc_machine_spec.specs.Board.{pins};
@@ -16,11 +16,11 @@ ghost use Rattle.kc_machine.specs.Sound.{IsSoundActivity, IsSoundGoing, IsSoundM
 
 use crate::choosing::{vector_at, vector_of};
 use crate::over::{
-    enter_over, move_over, perform_over, ready_over, serve_over, setup_over, trap_over,
+    enter_over, move_over, perform_over, predecoded_over, serve_over, setup_over, trap_over,
 };
 use crate::parts::Core;
 use kc_base::{Kind, StateTime, Steps, Undefined};
-use kc_exec_ready::Ready;
+use kc_exec_ready::Predecoded;
 use kc_exec_spec::{After, Words};
 use kc_extra::Extra;
 use kc_isa::{Insn, Mnemonic, length, mnemonic_of};
@@ -165,20 +165,20 @@ impl<X: Extra + Drop> Core<X> {
     /// Does a prepared instruction in its last state; answers whether an instruction has to follow, or any activity may. After a
     /// refusal the state is not over yet.
     #[inline(always)]
-    pub(crate) fn execute_ready<L: Ledger>(
+    pub(crate) fn execute_predecoded<L: Ledger>(
         &mut self,
-        ready: &Ready,
+        predecoded: &Predecoded,
         steps: &mut Steps<L>,
     ) -> Result<bool, Kind>
-        requires ready { IsReady ready.now }
-        requires followed { is_free (plan_of ready.now.mnemonic) ≡ true }
+        requires predecoded { IsPredecoded predecoded.now }
+        requires followed { is_free (plan_of predecoded.now.mnemonic) ≡ true }
         requires begun { self.old.under_way ≡ None }
         requires alone { self.old.going ≡ None }
         requires lives { self.old.ended ≡ None }
         requires room { self.old.time < 2 ^ 63 }
         requires scene { held_of self.old.bus ≡ scene_of (machine_of self.old) }
-        ensures ok { OnOk result (stepped_of (machine_of self.new) (pins self.old.time self.new.bus.edges) self.new.bus.reached ≡ finished X.further (Executes ready.now.insn) (machine_of self.old)) }
-        ensures err { IfErr result (λ kind. broken (machine_of self.new) (held_of self.new.bus) self.new.cpu.pc kind ≡ finished X.further (Executes ready.now.insn) (machine_of self.old)) }
+        ensures ok { OnOk result (stepped_of (machine_of self.new) (pins self.old.time self.new.bus.edges) self.new.bus.reached ≡ finished X.further (Executes predecoded.now.insn) (machine_of self.old)) }
+        ensures err { IfErr result (λ kind. broken (machine_of self.new) (held_of self.new.bus) self.new.cpu.pc kind ≡ finished X.further (Executes predecoded.now.insn) (machine_of self.old)) }
         ensures within { WithinState self.old.bus self.new.bus steps.old steps.new }
         ensures time { OnOk result (self.new.time ≡ self.old.time + 1) }
         ensures stays { OnErr result (self.new.time ≡ self.old.time) }
@@ -187,7 +187,7 @@ impl<X: Extra + Drop> Core<X> {
         ensures held { IfOk result (λ held. self.new.held ≡ held) }
         ensures lives { self.new.ended ≡ None }
     {
-        match ready_over(ready, &mut self.cpu, &mut self.bus, steps) {
+        match predecoded_over(predecoded, &mut self.cpu, &mut self.bus, steps) {
             Ok(held) => {
                 self.time += 1;
                 self.held = held;

@@ -4,7 +4,7 @@ ghost use Rattle.kc_trace.specs.Out.{Puts};
 ghost use Rattle.kc_trace.specs.Text.{line_of, text_of};
 ghost use Rattle.kc_exec_spec.specs.Memory.{IsMemory, is_hole};
 ghost use Rattle.kc_block_spec.specs.Levels.{stimulated_before};
-ghost use Rattle.kc_block_lazy.specs.Lanes.{further_goes};
+ghost use Rattle.kc_block_lazy.specs.Scheduler.{further_goes};
 ghost use Rattle.kc_block.specs.Lent.{IsLent};
 ghost use Rattle.kc_intc.specs.declared.requests.Choice.TheVariants.{Go};
 ghost use Rattle.kc_machine_spec.specs.Machine.{start, memory_of, asked, current};
@@ -42,12 +42,12 @@ impl<X: Extra + Drop> Model for Machine<X> {
 
     ghost Value = { Whole X };
 
-    ghost use Rattle.kc_machine.specs.Sound.{IsReady};
+    ghost use Rattle.kc_machine.specs.Sound.{IsPredecoded};
     ghost use Rattle.kc_machine.specs.Seen.{machine_of};
 
     ghost view = { λ m. record { machine = machine_of m.core; held = m.core.bus.block.held; moves = m.core.bus.block.moves } };
 
-    ghost invariant = { λ m. IsReady m.core };
+    ghost invariant = { λ m. IsPredecoded m.core };
 }
 
 fn first_memory(alloc: Global, image: &Image) -> Result<Vec<u8>, NoMemory>
@@ -108,14 +108,14 @@ impl<X: Extra + Drop> Machine<X> {
 
     /// The whole PSW, with INT_MASK as its low byte.
     pub fn psw(&self) -> u16
-        ensures { result ≡ 256 * self.now.machine.cpu.psw_high + self.now.machine.board.units.steady.requests.mask % 256 }
+        ensures { result ≡ 256 * self.now.machine.cpu.psw_high + self.now.machine.board.units.board_registers.requests.mask % 256 }
     {
         word(self.core.cpu.psw_high, self.core.bus.masks().int_mask)
     }
 
     /// WSR, a value of the profile.
     pub fn wsr(&self) -> u8
-        ensures { result ≡ self.now.machine.board.units.steady.wsr }
+        ensures { result ≡ self.now.machine.board.units.board_registers.wsr }
     {
         self.core.bus.block.wsr()
     }

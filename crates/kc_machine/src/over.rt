@@ -7,7 +7,7 @@ ghost use Rattle.kc_exec_spec.specs.BlockMoves.{moved_word, IsUnderWay, IsOfMove
 ghost use Rattle.kc_exec_spec.specs.Entering.{entry, opcode_trap, Loads};
 ghost use Rattle.kc_exec_spec.specs.Places.{place_of};
 ghost use Rattle.kc_exec_spec.specs.Plans.{plan_of};
-ghost use Rattle.kc_exec_ready.specs.Preparing.{is_free, is_simple, time_at, IsReady, GoesOn};
+ghost use Rattle.kc_exec_ready.specs.Preparing.{is_free, is_simple, time_at, IsPredecoded, GoesOn};
 ghost use Rattle.kc_pts.specs.Cycles.{set_up, served, Serves};
 ghost use Rattle.kc_machine_spec.specs.Board.{masks_of};
 ghost use Rattle.kc_machine_spec.specs.Scene.{byte};
@@ -19,7 +19,7 @@ use crate::common::Common;
 use crate::lent::{Began, Lent};
 use kc_base::{Kind, Steps};
 use kc_exec::{enter, move_word, perform, place, trap_opcode};
-use kc_exec_ready::{Ready, is_told, perform_ready, time_of, told_time_of};
+use kc_exec_ready::{Predecoded, is_known, known_time_of, perform_predecoded, time_of};
 use kc_exec_spec::{After, Cpu, Words};
 use kc_extra::Extra;
 use kc_isa::{Insn, Place};
@@ -257,16 +257,16 @@ pub(crate) fn place_over<X: Extra + Drop, L: Ledger>(
 }
 
 #[inline(always)]
-fn ready_from<X: Extra + Drop, L: Ledger, K: Began>(
-    ready: &Ready,
+fn predecoded_from<X: Extra + Drop, L: Ledger, K: Began>(
+    predecoded: &Predecoded,
     cpu: &mut Cpu,
     common: &mut Common<X>,
     steps: &mut Steps<L>,
 ) -> Result<bool, Kind>
     requires began { BeganAt K.steps K.moves common.old steps.old }
-    requires ready { IsReady ready.now }
-    requires followed { is_free (plan_of ready.now.mnemonic) ≡ true }
-    ensures effect { GoesOn result cpu.old cpu.new (held_of common.new) (run (bus_meaning X.further) (effect_of ready.now.insn cpu.old) (held_of common.old)) }
+    requires predecoded { IsPredecoded predecoded.now }
+    requires followed { is_free (plan_of predecoded.now.mnemonic) ≡ true }
+    ensures effect { GoesOn result cpu.old cpu.new (held_of common.new) (run (bus_meaning X.further) (effect_of predecoded.now.insn cpu.old) (held_of common.old)) }
     ensures within { WithinState common.old common.new steps.old steps.new }
 {
     let mut bus = Lent {
@@ -274,37 +274,37 @@ fn ready_from<X: Extra + Drop, L: Ledger, K: Began>(
         steps,
         began: PhantomData::<K>,
     };
-    perform_ready(ready, cpu, &mut bus)
+    perform_predecoded(predecoded, cpu, &mut bus)
 }
 
 /// Performs a prepared instruction over the board; answers whether an instruction has to follow, or any activity may.
 #[inline(always)]
-pub(crate) fn ready_over<X: Extra + Drop, L: Ledger>(
-    ready: &Ready,
+pub(crate) fn predecoded_over<X: Extra + Drop, L: Ledger>(
+    predecoded: &Predecoded,
     cpu: &mut Cpu,
     common: &mut Common<X>,
     steps: &mut Steps<L>,
 ) -> Result<bool, Kind>
     requires unreached { common.old.reached ≡ 0 }
-    requires ready { IsReady ready.now }
-    requires followed { is_free (plan_of ready.now.mnemonic) ≡ true }
-    ensures effect { GoesOn result cpu.old cpu.new (held_of common.new) (run (bus_meaning X.further) (effect_of ready.now.insn cpu.old) (held_of common.old)) }
+    requires predecoded { IsPredecoded predecoded.now }
+    requires followed { is_free (plan_of predecoded.now.mnemonic) ≡ true }
+    ensures effect { GoesOn result cpu.old cpu.new (held_of common.new) (run (bus_meaning X.further) (effect_of predecoded.now.insn cpu.old) (held_of common.old)) }
     ensures within { WithinState common.old common.new steps.old steps.new }
 {
-    ready_from::<X, L, Brand>(ready, cpu, common, steps)
+    predecoded_from::<X, L, Brand>(predecoded, cpu, common, steps)
 }
 
 /// The same where the whole place is asked.
 #[inline(never)]
 #[cold]
 fn placed_time_over<X: Extra + Drop, L: Ledger>(
-    ready: Ready,
+    predecoded: Predecoded,
     cpu: Cpu,
     common: &mut Common<X>,
     steps: &mut Steps<L>,
 ) -> Result<u8, Kind>
-    requires { IsReady ready }
-    ensures value { result ≡ time_at ready.insn cpu (masks_of common.old.block.units) (byte (held_of common.old)) }
+    requires { IsPredecoded predecoded }
+    ensures value { result ≡ time_at predecoded.insn cpu (masks_of common.old.block.units) (byte (held_of common.old)) }
     ensures some { IfOk result (λ n. 0 < n) }
     ensures common { common.new ≡ common.old }
     ensures steps { steps.new ≡ steps.old }
@@ -314,20 +314,20 @@ fn placed_time_over<X: Extra + Drop, L: Ledger>(
         steps,
         began: PhantomData::<Brand>,
     };
-    time_of(&ready, cpu, &bus)
+    time_of(&predecoded, cpu, &bus)
 }
 
 /// The same where one condition at most tells them.
 #[inline(always)]
-fn told_time_over<X: Extra + Drop, L: Ledger>(
-    ready: &Ready,
+fn known_time_over<X: Extra + Drop, L: Ledger>(
+    predecoded: &Predecoded,
     cpu: Cpu,
     common: &mut Common<X>,
     steps: &mut Steps<L>,
 ) -> Result<u8, Kind>
-    requires ready { IsReady ready.now }
-    requires told { is_simple ready.now.cost ≡ true }
-    ensures value { result ≡ time_at ready.now.insn cpu (masks_of common.old.block.units) (byte (held_of common.old)) }
+    requires predecoded { IsPredecoded predecoded.now }
+    requires known { is_simple predecoded.now.cost ≡ true }
+    ensures value { result ≡ time_at predecoded.now.insn cpu (masks_of common.old.block.units) (byte (held_of common.old)) }
     ensures some { IfOk result (λ n. 0 < n) }
     ensures common { common.new ≡ common.old }
     ensures steps { steps.new ≡ steps.old }
@@ -337,26 +337,26 @@ fn told_time_over<X: Extra + Drop, L: Ledger>(
         steps,
         began: PhantomData::<Brand>,
     };
-    told_time_of(ready, cpu, &bus)
+    known_time_of(predecoded, cpu, &bus)
 }
 
 /// The states of a prepared instruction on the board, which stays as it is.
 #[inline(always)]
 pub(crate) fn time_over<X: Extra + Drop, L: Ledger>(
-    ready: &Ready,
+    predecoded: &Predecoded,
     cpu: Cpu,
     common: &mut Common<X>,
     steps: &mut Steps<L>,
 ) -> Result<u8, Kind>
-    requires { IsReady ready.now }
-    ensures value { result ≡ time_at ready.now.insn cpu (masks_of common.old.block.units) (byte (held_of common.old)) }
+    requires { IsPredecoded predecoded.now }
+    ensures value { result ≡ time_at predecoded.now.insn cpu (masks_of common.old.block.units) (byte (held_of common.old)) }
     ensures some { IfOk result (λ n. 0 < n) }
     ensures common { common.new ≡ common.old }
     ensures steps { steps.new ≡ steps.old }
 {
-    if is_told(ready) {
-        told_time_over(ready, cpu, common, steps)
+    if is_known(predecoded) {
+        known_time_over(predecoded, cpu, common, steps)
     } else {
-        Ok(placed_time_over(*ready, cpu, common, steps)?)
+        Ok(placed_time_over(*predecoded, cpu, common, steps)?)
     }
 }

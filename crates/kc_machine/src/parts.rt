@@ -11,9 +11,9 @@ ghost use Rattle.kc_machine_spec.specs.Machine.{breaks, placed, scene_of, pushin
 ghost use Rattle.kc_machine_spec.specs.Passing.{IsIdle};
 ghost use Rattle.kc_machine_spec.specs.Peeking.{peeked};
 ghost use Rattle.kc_exec_ready.specs.Preparing as kc_ready;
-ghost use Rattle.kc_machine.specs.Passing.{Tells};
+ghost use Rattle.kc_machine.specs.Passing.{Knows};
 ghost use Rattle.kc_machine.specs.Prepared.{IsBetween, IsFree, HasSlot};
-ghost use Rattle.kc_machine.specs.Sound.{IsGoing, IsReady, IsSoundGoing};
+ghost use Rattle.kc_machine.specs.Sound.{IsGoing, IsPredecoded, IsSoundGoing};
 
 use crate::choosing::{entry_time, fetch};
 use crate::common::Common;
@@ -23,7 +23,7 @@ use kc_base::{Kind, StateTime, Steps};
 use kc_bus::{Master, is_outside};
 use kc_code::{Decoded, decode};
 use kc_exec::word_states;
-use kc_exec_ready::Ready;
+use kc_exec_ready::Predecoded;
 use kc_exec_spec::Cpu;
 use kc_extra::Extra;
 use kc_intc::Choice;
@@ -104,7 +104,7 @@ impl<X: Extra + Drop> Core<X> {
     // An instruction at its place.
     fn placed<L: Ledger>(&mut self, insn: Insn, steps: &mut Steps<L>) -> UnderWay
         requires { IsTrue (is_formed insn) }
-        ensures tells { Tells (placed insn (place_of insn (machine_of self.old).cpu (masks_of (machine_of self.old).board.units) (byte (scene_of (machine_of self.old))))) result self.old self.new steps.old steps.new }
+        ensures knows { Knows (placed insn (place_of insn (machine_of self.old).cpu (masks_of (machine_of self.old).board.units) (byte (scene_of (machine_of self.old))))) result self.old self.new steps.old steps.new }
     {
         match place_over(&insn, &self.cpu, &mut self.bus, steps) {
             Ok(place) => UnderWay {
@@ -116,17 +116,17 @@ impl<X: Extra + Drop> Core<X> {
     }
 
     /// A prepared instruction at its place.
-    pub(crate) fn placed_ready<L: Ledger>(
+    pub(crate) fn placed_predecoded<L: Ledger>(
         &mut self,
-        ready: &Ready,
+        predecoded: &Predecoded,
         steps: &mut Steps<L>,
     ) -> UnderWay
-        requires { kc_ready.IsReady ready.now }
-        ensures tells { Tells (placed ready.now.insn (place_of ready.now.insn (machine_of self.old).cpu (masks_of (machine_of self.old).board.units) (byte (scene_of (machine_of self.old))))) result self.old self.new steps.old steps.new }
+        requires { kc_ready.IsReady predecoded.now }
+        ensures knows { Knows (placed predecoded.now.insn (place_of predecoded.now.insn (machine_of self.old).cpu (masks_of (machine_of self.old).board.units) (byte (scene_of (machine_of self.old))))) result self.old self.new steps.old steps.new }
     {
-        match time_over(ready, self.cpu, &mut self.bus, steps) {
+        match time_over(predecoded, self.cpu, &mut self.bus, steps) {
             Ok(left) => UnderWay {
-                doing: Activity::Executes(ready.insn),
+                doing: Activity::Executes(predecoded.insn),
                 left,
             },
             Err(kind) => broken_off(kind),
@@ -136,7 +136,7 @@ impl<X: Extra + Drop> Core<X> {
     // The next instruction, by the bytes that stand at PC.
     #[tactic(auto, unfolding(kc_machine_spec::specs::Machine::fetches))]
     fn read_instruction<L: Ledger>(&mut self, steps: &mut Steps<L>) -> UnderWay
-        ensures tells { Tells (fetches (machine_of self.old)) result self.old self.new steps.old steps.new }
+        ensures knows { Knows (fetches (machine_of self.old)) result self.old self.new steps.old steps.new }
     {
         let bytes = fetch(&self.bus.memory, self.cpu.pc);
         match decode(bytes.as_slice()) {
@@ -152,10 +152,10 @@ impl<X: Extra + Drop> Core<X> {
 
     // The next instruction.
     fn instruction<L: Ledger>(&mut self, steps: &mut Steps<L>) -> UnderWay
-        ensures tells { Tells (fetches (machine_of self.old)) result self.old self.new steps.old steps.new }
+        ensures knows { Knows (fetches (machine_of self.old)) result self.old self.new steps.old steps.new }
     {
         match self.bus.known_at(self.cpu.pc) {
-            Some(ready) => self.placed_ready(&ready, steps),
+            Some(predecoded) => self.placed_predecoded(&predecoded, steps),
             None => self.read_instruction(steps),
         }
     }
@@ -163,7 +163,7 @@ impl<X: Extra + Drop> Core<X> {
     // What goes on where no request is served.
     fn go_on<L: Ledger>(&mut self, steps: &mut Steps<L>) -> UnderWay
         requires { IsSoundGoing self.old.going }
-        ensures tells { Tells (goes_on (machine_of self.old) self.old.going) result self.old self.new steps.old steps.new }
+        ensures knows { Knows (goes_on (machine_of self.old) self.old.going) result self.old self.new steps.old steps.new }
     {
         match self.going {
             Some(Going::Moving(insn, words)) => UnderWay {
@@ -199,7 +199,7 @@ impl<X: Extra + Drop> Core<X> {
     pub(crate) fn serves<L: Ledger>(&mut self, choice: Choice, steps: &mut Steps<L>) -> UnderWay
         requires between { IsSoundGoing self.old.going }
         requires below { IsBelow15 choice }
-        ensures tells { Tells (serves (machine_of self.old) choice) result self.old self.new steps.old steps.new }
+        ensures knows { Knows (serves (machine_of self.old) choice) result self.old self.new steps.old steps.new }
     {
         match choice {
             Choice::Nmi => self.entry(15),
@@ -213,7 +213,7 @@ impl<X: Extra + Drop> Core<X> {
     #[tactic(auto, unfolding(kc_machine_spec::specs::Machine::chosen))]
     fn chosen<L: Ledger>(&mut self, steps: &mut Steps<L>) -> UnderWay
         requires { IsSoundGoing self.old.going }
-        ensures tells { Tells (chosen (machine_of self.old)) result self.old self.new steps.old steps.new }
+        ensures knows { Knows (chosen (machine_of self.old)) result self.old self.new steps.old steps.new }
     {
         if goes_first(self.going) {
             return self.go_on(steps);
@@ -228,7 +228,7 @@ impl<X: Extra + Drop> Core<X> {
     /// The activity that has the coming state.
     pub(crate) fn current<L: Ledger>(&mut self, steps: &mut Steps<L>) -> UnderWay
         requires { IsReady self.old }
-        ensures tells { Tells (current (machine_of self.old)) result self.old self.new steps.old steps.new }
+        ensures knows { Knows (current (machine_of self.old)) result self.old self.new steps.old steps.new }
     {
         match self.under_way {
             Some(activity) => activity,

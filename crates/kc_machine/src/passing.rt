@@ -17,7 +17,7 @@ ghost use Rattle.kc_exec_spec.specs.Plans.{plan_of};
 ghost use Rattle.kc_exec_ready.specs.Preparing as kc_ready;
 ghost use Rattle.kc_exec_ready.specs.Preparing.{is_free};
 ghost use Rattle.kc_machine.specs.Prepared.{IsBetween, IsFree, HasSlot, executing};
-ghost use Rattle.kc_machine.specs.Sound.{IsGoing, IsReady, IsSoundGoing};
+ghost use Rattle.kc_machine.specs.Sound.{IsGoing, IsPredecoded, IsSoundGoing};
 ghost use Rattle.kc_machine.specs.Failing.{FailsIn};
 ghost use Rattle.kc_machine.specs.Stepping.{IsBrief, IdlesFor};
 ghost use Rattle.kc_block_spec.specs.Costs.{CostsAtMost};
@@ -26,7 +26,7 @@ ghost use Rattle.kc_machine.specs.Passing.{ticks_to, GoesAs, MayPass, PassesAs};
 use crate::over::time_over;
 use crate::parts::Core;
 use kc_base::{Edge, Kind, Sink, StateTime, Steps};
-use kc_exec_ready::{Ready, is_followed_freely};
+use kc_exec_ready::{Predecoded, is_followed_freely};
 use kc_extra::Extra;
 use kc_intc::Choice;
 use kc_machine_spec::{End, UnderWay};
@@ -80,9 +80,9 @@ impl<X: Extra + Drop> Core<X> {
         requires fewer { until - self.old.time < activity.left }
         requires room { until ≤ 3 * 10 ^ 15 }
         requires sound { IsGoing activity }
-        requires ready { IsReady self.old }
+        requires predecoded { IsReady self.old }
         ensures goes { GoesAs (ticks_to X.further (machine_of self.old) until (until - self.old.time) (left_at activity (activity.left - (until - self.old.time)))) self.old self.new (out_of S.written S.faults out.old) (out_of S.written S.faults out.new) steps.old steps.new }
-        ensures ready { IsReady self.new }
+        ensures predecoded { IsReady self.new }
     {
         let states = until - self.time;
         self.advance(states, out, steps);
@@ -102,9 +102,9 @@ impl<X: Extra + Drop> Core<X> {
     )
         requires some { self.old.time < until }
         requires room { until ≤ 3 * 10 ^ 15 }
-        requires ready { IsReady self.old }
+        requires predecoded { IsReady self.old }
         ensures goes { GoesAs (ticks_to X.further (machine_of self.old) until (until - self.old.time) self.old.under_way) self.old self.new (out_of S.written S.faults out.old) (out_of S.written S.faults out.new) steps.old steps.new }
-        ensures ready { IsReady self.new }
+        ensures predecoded { IsReady self.new }
     {
         self.advance(until - self.time, out, steps);
         self.time = until;
@@ -118,11 +118,11 @@ impl<X: Extra + Drop> Core<X> {
         steps: &mut Steps<L>,
     )
         requires going { IsGoing activity }
-        requires ready { IsReady self.old }
+        requires predecoded { IsReady self.old }
         requires room { self.old.time + activity.left ≤ 3 * 10 ^ 15 }
         ensures goes { GoesAs (whole X.further (machine_of self.old) activity) self.old self.new (out_of S.written S.faults out.old) (out_of S.written S.faults out.new) steps.old steps.new }
         ensures time { self.new.time ≡ self.old.time + activity.left }
-        ensures ready { IsReady self.new }
+        ensures predecoded { IsReady self.new }
     {
         let left = u64::from(activity.left);
         self.advance(left, out, steps);
@@ -148,7 +148,7 @@ impl<X: Extra + Drop> Core<X> {
     /// A state up to which the machine does nothing but idle, `until` at most; the present state where it does not idle, or
     /// where a request is served.
     pub(crate) fn idles_to(&self, until: StateTime) -> StateTime
-        requires ready { IsReady self.now }
+        requires predecoded { IsReady self.now }
         ensures from { self.now.time ≤ result }
         ensures within { result ≤ max until self.now.time }
         ensures idles { IdlesFor X.further (result - self.now.time) (machine_of self.now) }
@@ -269,15 +269,15 @@ impl<X: Extra + Drop> Core<X> {
         ensures passed { PassesAs X.further until self.old self.new (out_of S.written S.faults out.old) (out_of S.written S.faults out.new) steps.old steps.new }
         ensures free { OnTrue result (IsFree (machine_of self.new)) }
     {
-        let ready = self.bus.ready_at(self.cpu.pc);
-        if !is_followed_freely(&ready) {
+        let predecoded = self.bus.predecoded_at(self.cpu.pc);
+        if !is_followed_freely(&predecoded) {
             self.pass_alone(until, out, steps);
             return self.is_free();
         }
-        if let Ok(states) = time_over(&ready, self.cpu, &mut self.bus, steps)
+        if let Ok(states) = time_over(&predecoded, self.cpu, &mut self.bus, steps)
             && u64::from(states) <= until - self.time
         {
-            self.pass_ready(&ready, states, until, out, steps)
+            self.pass_predecoded(&predecoded, states, until, out, steps)
         } else {
             self.pass_other(until, out, steps);
             self.is_free()
@@ -298,11 +298,11 @@ impl<X: Extra + Drop> Core<X> {
         requires may { MayPass until self.old }
         ensures passed { PassesAs X.further until self.old self.new (out_of S.written S.faults out.old) (out_of S.written S.faults out.new) steps.old steps.new }
     {
-        let ready = self.bus.ready_at(self.cpu.pc);
-        if ready.is_blank() {
+        let predecoded = self.bus.predecoded_at(self.cpu.pc);
+        if predecoded.is_blank() {
             self.pass_other(until, out, steps);
         } else {
-            let activity = self.placed_ready(&ready, steps);
+            let activity = self.placed_predecoded(&predecoded, steps);
             self.go_through(activity, until, out, steps);
         }
     }
@@ -357,29 +357,29 @@ impl<X: Extra + Drop> Core<X> {
 
     // Goes on to the end of a prepared instruction. Answers whether the machine is free again.
     #[inline(always)]
-    fn complete_ready<S: Sink, L: Ledger>(
+    fn complete_predecoded<S: Sink, L: Ledger>(
         &mut self,
-        ready: &Ready,
+        predecoded: &Predecoded,
         states: u8,
         out: &mut TraceOut<S>,
         steps: &mut Steps<L>,
     ) -> bool
         requires between { IsBetween (machine_of self.old) }
-        requires told { kc_ready.IsReady ready.now }
-        requires followed { is_free (plan_of ready.now.mnemonic) ≡ true }
+        requires known { kc_ready.IsReady predecoded.now }
+        requires followed { is_free (plan_of predecoded.now.mnemonic) ≡ true }
         requires some { 0 < states }
-        requires ready { IsReady self.old }
+        requires predecoded { IsReady self.old }
         requires lives { self.old.ended ≡ None }
         requires room { self.old.time + states ≤ 3 * 10 ^ 15 }
-        ensures goes { GoesAs (whole X.further (machine_of self.old) (executing ready.now states)) self.old self.new (out_of S.written S.faults out.old) (out_of S.written S.faults out.new) steps.old steps.new }
+        ensures goes { GoesAs (whole X.further (machine_of self.old) (executing predecoded.now states)) self.old self.new (out_of S.written S.faults out.old) (out_of S.written S.faults out.new) steps.old steps.new }
         ensures time { self.new.time ≡ self.old.time + states }
-        ensures ready { IsReady self.new }
+        ensures predecoded { IsReady self.new }
         ensures free { OnTrue result (IsFree (machine_of self.new)) }
     {
         let left = u64::from(states);
         self.advance(left, out, steps);
         let at = self.time;
-        match self.execute_ready(ready, steps) {
+        match self.execute_predecoded(predecoded, steps) {
             Ok(held) => {
                 self.put_edges(at, out);
                 !held
@@ -393,25 +393,25 @@ impl<X: Extra + Drop> Core<X> {
 
     // Passes a prepared instruction that comes next.
     #[inline(always)]
-    fn pass_ready<S: Sink, L: Ledger>(
+    fn pass_predecoded<S: Sink, L: Ledger>(
         &mut self,
-        ready: &Ready,
+        predecoded: &Predecoded,
         states: u8,
         until: StateTime,
         out: &mut TraceOut<S>,
         steps: &mut Steps<L>,
     ) -> bool
         requires between { IsBetween (machine_of self.old) }
-        requires told { kc_ready.IsReady ready.now }
-        requires followed { is_free (plan_of ready.now.mnemonic) ≡ true }
-        requires value { executing ready.now states ≡ current (machine_of self.old) }
+        requires known { kc_ready.IsReady predecoded.now }
+        requires followed { is_free (plan_of predecoded.now.mnemonic) ≡ true }
+        requires value { executing predecoded.now states ≡ current (machine_of self.old) }
         requires some { 0 < states }
         requires within { states ≤ until - self.old.time }
         requires may { MayPass until self.old }
         ensures passed { PassesAs X.further until self.old self.new (out_of S.written S.faults out.old) (out_of S.written S.faults out.new) steps.old steps.new }
         ensures free { OnTrue result (IsFree (machine_of self.new)) }
     {
-        self.complete_ready(ready, states, out, steps)
+        self.complete_predecoded(predecoded, states, out, steps)
     }
 
     // Goes on to the end of the current activity, or to `until` if that comes first.
@@ -442,7 +442,7 @@ impl<X: Extra + Drop> Core<X> {
         out: &mut TraceOut<S>,
         steps: &mut Steps<L>,
     ) -> Result<End, WriteFault>
-        requires ready { IsReady self.old }
+        requires predecoded { IsReady self.old }
         requires until { until ≤ 2 * 10 ^ 15 }
         requires unbroken { out.old.failed ≡ false }
         ensures end { IfOk result (λ end. end ≡ end_of (run_to X.further until (machine_of self.old)).machine) }
@@ -453,7 +453,7 @@ impl<X: Extra + Drop> Core<X> {
         ensures stands { machine_of self.new ≡ (run_to X.further self.new.time (machine_of self.old)).machine }
         ensures within { self.new.time ≤ max until self.old.time }
         ensures goes { self.old.ended ≡ None → self.old.time < until → self.old.time < self.new.time }
-        ensures ready { IsReady self.new }
+        ensures predecoded { IsReady self.new }
         ensures costs { CostsAtMost (4 * (run_to X.further self.new.time (machine_of self.old)).touch) steps.old steps.new self.old.bus.block.moves self.new.bus.block.moves }
     {
         let mut free = self.is_free();
@@ -471,7 +471,7 @@ impl<X: Extra + Drop> Core<X> {
 
     // Goes on to the end of the activity.
     fn pass_current<S: Sink, L: Ledger>(&mut self, out: &mut TraceOut<S>, steps: &mut Steps<L>)
-        requires ready { IsReady self.old }
+        requires predecoded { IsReady self.old }
         requires lives { self.old.ended ≡ None }
         requires room { self.old.time ≤ 2 * 10 ^ 15 }
         ensures passed { PassesAs X.further (activity_end (machine_of self.old)) self.old self.new (out_of S.written S.faults out.old) (out_of S.written S.faults out.new) steps.old steps.new }
@@ -488,7 +488,7 @@ impl<X: Extra + Drop> Core<X> {
         out: &mut TraceOut<S>,
         steps: &mut Steps<L>,
     ) -> Result<Option<End>, WriteFault>
-        requires ready { IsReady self.old }
+        requires predecoded { IsReady self.old }
         requires room { self.old.time ≤ 2 * 10 ^ 15 }
         requires unbroken { out.old.failed ≡ false }
         ensures end { IfOk result (λ end. end ≡ (run_to X.further (activity_end (machine_of self.old)) (machine_of self.old)).machine.ended) }
@@ -497,7 +497,7 @@ impl<X: Extra + Drop> Core<X> {
         ensures goes { GoesAs (run_to X.further (activity_end (machine_of self.old)) (machine_of self.old)) self.old self.new (out_of S.written S.faults out.old) (out_of S.written S.faults out.new) steps.old steps.new }
         ensures written { OnOk result (out.new.failed ≡ false) }
         ensures fails { OnErr result (FailsIn X.further (activity_end (machine_of self.old)) (machine_of self.old) (out_of S.written S.faults out.old) (machine_of self.new) (out_of S.written S.faults out.new)) }
-        ensures ready { IsReady self.new }
+        ensures predecoded { IsReady self.new }
     {
         if let Some(end) = self.ended {
             return Ok(Some(end));

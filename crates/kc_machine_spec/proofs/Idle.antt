@@ -11,10 +11,10 @@ use Rattle.kc_machine_spec.specs.declared.doing.Going.TheVariants.{Idling}
 use Rattle.kc_machine_spec.specs.declared.doing.End.{End}
 use Rattle.kc_machine_spec.specs.declared.doing.UnderWay.{UnderWay}
 use Rattle.kc_extra.specs.Further.{Further}
-use Rattle.kc_block_spec.specs.declared.steady.Steady.{Steady}
+use Rattle.kc_block_spec.specs.declared.board_registers.BoardRegisters.{BoardRegisters}
 use Rattle.kc_block_spec.specs.Units.{Units, Ticked}
 use Rattle.kc_block_spec.specs.Laws.{IsQuietTick}
-use Rattle.kc_block_spec.proofs.Rests.{quiet_ticks_are_rests, quiet_ticks_keep_steady}
+use Rattle.kc_block_spec.proofs.Rests.{quiet_ticks_are_rests, quiet_ticks_keep_board_registers}
 use Rattle.kc_block_spec.specs.Tick.{tick}
 use Rattle.kc_block_spec.specs.Touch.{touched, worked, touch, block_rule, edges_of, in_state}
 use Rattle.kc_machine_spec.specs.Board.{pin_records, pins, edges_in}
@@ -88,15 +88,15 @@ module _ {X : Type 0} (f : Further X) where
       ap (λ i. run_for f i m) e ∙ run_for-add f k 1 m ∙ ap (λ s. and_then s (run_for f 1)) (rests k m idle (λ i within. none i (omega arith))) ∙ rests-next k m idle (none k (omega arith))
 
   -- quiet Ticks keep what the requests are chosen from
-  steady_kept : (from n : ℕ) (u : Units X) → QuietFor (block_rule f) from n u → (after (block_rule f) from n u).steady ≡ u.steady
+  board_registers_kept : (from n : ℕ) (u : Units X) → QuietFor (block_rule f) from n u → (after (block_rule f) from n u).board_registers ≡ u.board_registers
   unfolding after
-  steady_kept from zero u quiet = refl
-  steady_kept from (suc n) u quiet =
-      quiet_ticks_keep_steady f (from + n) (after (block_rule f) from n u) (unworked (worked f (from + n) (after (block_rule f) from n u)) (quiet n (omega arith)))
-      ∙ steady_kept from n u (λ k within. quiet k (omega arith))
+  board_registers_kept from zero u quiet = refl
+  board_registers_kept from (suc n) u quiet =
+      quiet_ticks_keep_board_registers f (from + n) (after (block_rule f) from n u) (unworked (worked f (from + n) (after (block_rule f) from n u)) (quiet n (omega arith)))
+      ∙ board_registers_kept from n u (λ k within. quiet k (omega arith))
 
   none_later : (k : ℕ) (m : Machine X) → asked m ≡ Go → QuietFor (block_rule f) m.time k m.board.units → asked (after_ticks f m k None) ≡ Go
-  none_later k m none quiet = ap (λ (s : Steady). choice_of (has 4 m.cpu.psw_high) (has 2 m.cpu.psw_high) s.requests) (steady_kept m.time k m.board.units quiet) ∙ none
+  none_later k m none quiet = ap (λ (s : BoardRegisters). choice_of (has 4 m.cpu.psw_high) (has 2 m.cpu.psw_high) s.requests) (board_registers_kept m.time k m.board.units quiet) ∙ none
 
   pub rests_to_due : (n : ℕ) (m : Machine X) → IsIdle m → asked m ≡ Go → QuietFor (block_rule f) m.time n m.board.units → run_for f (suc n) m ≡ ticks_of f m (suc n) None
   rests_to_due n m idle none quiet = rests (suc n) m idle (λ k within. none_later k m none (λ i below. quiet i (omega arith)))

@@ -7,7 +7,7 @@ use Rattle.kc_trace.specs.declared.record.Record.{Record}
 use Rattle.kc_trace.specs.declared.record.Record.TheVariants.{Pin}
 use Rattle.kc_block_spec.specs.Units.{Units}
 use Rattle.kc_block_spec.specs.Touch.{in_state, edges_of}
-use Rattle.kc_block_spec.specs.Writing.{with_steady}
+use Rattle.kc_block_spec.specs.Writing.{with_board_registers}
 
 -- the units, and the 65,536 bytes of memory, of which those below 0018H are never seen
 pub record Board (X : Type 0) : Type 0 where
@@ -16,10 +16,10 @@ pub record Board (X : Type 0) : Type 0 where
 
 -- the registers of the units that belong to the processor's state
 abbrev pub masks_of : {X : Type 0} → Units X → Masks
-masks_of u = record { int_mask = u.steady.requests.mask % 256; int_mask1 = u.steady.requests.mask / 256; wsr = u.steady.wsr }
+masks_of u = record { int_mask = u.board_registers.requests.mask % 256; int_mask1 = u.board_registers.requests.mask / 256; wsr = u.board_registers.wsr }
 
 abbrev pub with_masks : {X : Type 0} → Units X → Masks → Units X
-with_masks u m = with_steady u (record u.steady { requests = record u.steady.requests { mask = m.int_mask + 256 * m.int_mask1 }; wsr = m.wsr })
+with_masks u m = with_board_registers u (record u.board_registers { requests = record u.board_registers.requests { mask = m.int_mask + 256 * m.int_mask1 }; wsr = m.wsr })
 
 -- edges, each with its state, as they are printed
 abbrev pub pin_record : ℕ × Edge → Record

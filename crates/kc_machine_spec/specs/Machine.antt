@@ -131,7 +131,7 @@ goes_first _ = false
 
 -- what the requests choose
 abbrev pub asked : {X : Type 0} → Machine X → Choice
-asked machine = choice_of (has 4 machine.cpu.psw_high) (has 2 machine.cpu.psw_high) machine.board.units.steady.requests
+asked machine = choice_of (has 4 machine.cpu.psw_high) (has 2 machine.cpu.psw_high) machine.board.units.board_registers.requests
 
 -- an entry, a cycle of the transfer server, or what goes on
 abbrev pub serves : {X : Type 0} → Machine X → Choice → UnderWay
@@ -207,7 +207,7 @@ settled machine insn records (Refused kind scene) = broken machine scene machine
 -- the board with other requests
 abbrev pub with_asked : {X : Type 0} → (Requests → Requests) → Scene X → Scene X
 with_asked change scene =
-    let units = with_requests scene.board.units (change scene.board.units.steady.requests) in
+    let units = with_requests scene.board.units (change scene.board.units.board_registers.requests) in
     record scene { board = record { units = units; memory = scene.board.memory } }
 
 -- an entry takes its request away

@@ -10,7 +10,7 @@ use Rattle.kc_machine_spec.specs.Machine.{Machine}
 -- the byte at an address, in the window that the processor sees
 abbrev pub peeked : {X : Type 0} → Further X → Machine X → ℕ → ℕ
 peeked f m addr =
-    if nat_lt addr 24 then looked f m.time (window_seen Cpu m.board.units.steady.wsr) m.board.units addr
+    if nat_lt addr 24 then looked f m.time (window_seen Cpu m.board.units.board_registers.wsr) m.board.units addr
     else if is_hole addr then 0
     else slice_index m.board.memory addr
 

@@ -60,7 +60,7 @@ word_weight addr = if nat_lt addr 2 then 0 else 2
 
 -- the window in which an access is made
 abbrev pub window_at : {X : Type 0} → Scene X → Master → Window
-window_at s by = window_seen by s.board.units.steady.wsr
+window_at s by = window_seen by s.board.units.board_registers.wsr
 
 abbrev pub accepted : {X : Type 0} → Result (Units X) Kind → Result ℕ Kind
 accepted r = r >>= λ u. Ok 0

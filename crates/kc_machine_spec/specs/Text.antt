@@ -36,8 +36,8 @@ abbrev pub processor_lines : {X : Type 0} → End → Machine X → List Record
 processor_lines how machine =
     Stopped (end_state how machine.time) (end_number how)
     ∷ Pc machine.cpu.pc
-    ∷ Psw (256 * machine.cpu.psw_high + machine.board.units.steady.requests.mask % 256)
-    ∷ Wsr machine.board.units.steady.wsr
+    ∷ Psw (256 * machine.cpu.psw_high + machine.board.units.board_registers.requests.mask % 256)
+    ∷ Wsr machine.board.units.board_registers.wsr
     ∷ []
 
 -- what is printed at the end

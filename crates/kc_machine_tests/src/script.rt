@@ -43,7 +43,7 @@ fn carried_out(alloc: Global, failing: u64) -> Result<(TraceOut<MemSink>, bool),
 
 // A line with a source line takes five writes, any other one.
 #[test]
-fn a_failed_sink_has_a_front(rt: HostRuntime) -> Result<(), Fail> {
+fn a_failed_sink_has_a_prefix(rt: HostRuntime) -> Result<(), Fail> {
     let rows = [
         (1, "", false),
         (2, "T 7 2080\n", false),

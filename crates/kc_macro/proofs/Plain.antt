@@ -17,7 +17,7 @@ use Rattle.kc_macro.specs.Operands.{noted}
 use Rattle.kc_macro.specs.Steps.{Ended, Counted, counted, ended, emitted, word_step, other_step, plain_step, end_step, labelled_step, line_step, step}
 use Rattle.kc_macro.specs.Expansion.{run_out, place}
 use Rattle.kc_macro.specs.Plain.{is_plain, PlainLinesStay}
-use Rattle.kc_macro.proofs.RunLemmas.{reaches_start, reaches_loud, run_next, run_counted, expanded_is}
+use Rattle.kc_macro.proofs.RunLemmas.{reaches_start, reaches_active, run_next, run_counted, expanded_is}
 
 none_if : (b : Bool) (o : Option Macro) → o ≡ None → cond b o None ≡ None
 none_if true o h = h
@@ -90,7 +90,7 @@ stays [] end rest done values left last h e few =
     let here = before done rest values left last in
     let one : step s ≡ Ended (done ++ end ∷ []) =
     end_out here end.number end.tokens none_called e ∙ ap ended (counted_some end.number (emitted end.number end.tokens here) (some_left left 0 few)) in
-    run_next s (Ended (done ++ end ∷ [])) (reaches_loud s s (Ended (done ++ end ∷ [])) (reaches_start s) (sym one) tt)
+    run_next s (Ended (done ++ end ∷ [])) (reaches_active s s (Ended (done ++ end ∷ [])) (reaches_start s) (sym one) tt)
 stays (l ∷ lines) end rest done values left last h e few =
     let both = and_both (is_plain l) (list_all is_plain lines) h in
     let s = before done (l ∷ (lines ++ end ∷ rest)) values left last in
@@ -99,7 +99,7 @@ stays (l ∷ lines) end rest done values left last h e few =
     let one : step s ≡ Counted t =
     plain_out here l.number l.tokens none_called (other_is (word_of l.tokens) both.0) ∙ counted_some l.number (emitted l.number l.tokens (record here { values = noted l.tokens values })) (some_left left (suc (length lines)) few) in
     let less : suc (left - 1) ≡ left = omega arith in
-    sym (run_counted s t (reaches_loud s s (Counted t) (reaches_start s) (sym one) tt) less)
+    sym (run_counted s t (reaches_active s s (Counted t) (reaches_start s) (sym one) tt) less)
     ∙ stays lines end rest (done ++ l ∷ []) (noted l.tokens values) (left - 1) last both.1 e (omega arith)
     ∙ ap (λ (ls : List Line). Some (Ok ls)) (append_assoc done (l ∷ []) (lines ++ end ∷ []))
 

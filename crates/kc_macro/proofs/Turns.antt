@@ -34,8 +34,8 @@ pub no_turn : (s : State) (number : ℕ) (f : Formals) (head : Piece) (body : Li
 no_turn s number f head body args none = sym (ap (λ (ts : List Piece). begun s number (Ok ts)) (turns_none f head body args none))
 
 -- turns without a fault are what is begun over the lines of a body
-pub over_begun : (s : State) (number : ℕ) (from : List Mark) (over : List ℕ × List (List Token)) (front : List Piece) (f : Formals) (head : Piece) (body : List Piece) (found : Option LineFault) →
-    f ≡ only (over.0 ∷ []) → head ≡ turn_head s.left number from → body ≡ turn_lines s.left front → found ≡ fault_of (fill_turns f head body over.1) → found ≡ None →
-    begun s number (Ok (turns_over f head body over.1)) ≡ over_turns s number from over front
-over_begun s number from over front f head body found is_f is_head is_body is none =
+pub over_begun : (s : State) (number : ℕ) (from : List Mark) (over : List ℕ × List (List Token)) (prefix : List Piece) (f : Formals) (head : Piece) (body : List Piece) (found : Option LineFault) →
+    f ≡ only (over.0 ∷ []) → head ≡ turn_head s.left number from → body ≡ turn_lines s.left prefix → found ≡ fault_of (fill_turns f head body over.1) → found ≡ None →
+    begun s number (Ok (turns_over f head body over.1)) ≡ over_turns s number from over prefix
+over_begun s number from over prefix f head body found is_f is_head is_body is none =
     sym (ap (begun s number) (sound_turns f head body over.1 (sym is ∙ none))) ∙ (λ i. begun s number (fill_turns (is_f i) (is_head i) (is_body i) over.1))

@@ -6,7 +6,7 @@ use Rattle.kc_lex.specs.declared.token.Token.{Token}
 use Rattle.kc_lex.specs.Kinds.{is_free_name, begins_word}
 use Rattle.kc_lex.specs.Lists.{first_text}
 use Rattle.kc_lex.specs.Codes.{code_number, not_fixed}
-use Rattle.kc_expr.specs.declared.values.NoValue.TheVariants.{Fault, ToldElsewhere}
+use Rattle.kc_expr.specs.declared.values.NoValue.TheVariants.{Fault, ReportedElsewhere}
 use Rattle.kc_expr.specs.declared.expr.Expr.{Expr}
 use Rattle.kc_expr.specs.Tree.{Tree, tree_of}
 use Rattle.kc_expr.specs.Names.{NameMap}
@@ -33,7 +33,7 @@ seen_tree (Some e) = Some (tree_of e)
 abbrev pub fixed_value : Answer → Result ℕ ℕ
 fixed_value (Ok v) = if is_fixed v.base then Ok v.number else Err not_fixed
 fixed_value (Err (Fault code)) = Err (code_number code)
-fixed_value (Err ToldElsewhere) = Err not_fixed
+fixed_value (Err ReportedElsewhere) = Err not_fixed
 
 abbrev pub tree_value : Option Tree → NameMap → Result ℕ ℕ
 tree_value None values = Err not_fixed

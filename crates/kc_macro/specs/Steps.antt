@@ -74,7 +74,7 @@ if_step s number from value = if_next s number (if_fault from value) (kept (not 
 
 -- the lines of a body, without the places where turns begin
 abbrev pub turn_lines : ℕ → List Piece → List Piece
-turn_lines left front = map (marked (Turns left)) (filter is_line front)
+turn_lines left prefix = map (marked (Turns left)) (filter is_line prefix)
 
 abbrev pub turn_head : ℕ → ℕ → List Mark → Piece
 turn_head left number from = record { number = number; from = Turns left ∷ from; tokens = None }
@@ -85,14 +85,14 @@ same_turns s number from n (Err f) = Fault f.0 f.1
 same_turns s number from n (Ok ps) = counted number (record s { ahead = ps ++ (repeated (n - 1) (turn_head s.left number from ∷ ps) ++ s.ahead) })
 
 abbrev pub turns_of : State → ℕ → List Mark → ℕ → List Piece → Next
-turns_of s number from n front =
+turns_of s number from n prefix =
     if n == 0 then Quiet s
-    else same_turns s number from n (fill_body (only []) [] 0 (turn_lines s.left front))
+    else same_turns s number from n (fill_body (only []) [] 0 (turn_lines s.left prefix))
 
 abbrev pub rept_next : State → ℕ → List Mark → Result ℕ ℕ → Option Cut → Next
 rept_next s number from value None = Fault number (least_unmatched (code_of value))
 rept_next s number from (Err code) (Some cut) = Fault number code
-rept_next s number from (Ok n) (Some cut) = turns_of (record s { ahead = cut.rest }) number from n cut.front
+rept_next s number from (Ok n) (Some cut) = turns_of (record s { ahead = cut.rest }) number from n cut.prefix
 
 abbrev pub rept_step : State → ℕ → List Mark → Result ℕ ℕ → Next
 rept_step s number from value = rept_next s number from value (cut_at Body 0 s.ahead)
@@ -104,12 +104,12 @@ begun s number (Ok []) = Quiet s
 begun s number (Ok (head ∷ ps)) = counted number (record s { ahead = ps ++ s.ahead })
 
 abbrev pub over_turns : State → ℕ → List Mark → List ℕ × List (List Token) → List Piece → Next
-over_turns s number from f front = begun s number (fill_turns (only (f.0 ∷ [])) (turn_head s.left number from) (turn_lines s.left front) f.1)
+over_turns s number from f prefix = begun s number (fill_turns (only (f.0 ∷ [])) (turn_head s.left number from) (turn_lines s.left prefix) f.1)
 
 abbrev pub irp_next : State → ℕ → List Mark → Option (List ℕ × List (List Token)) → Option Cut → Next
 irp_next s number from None cut = Fault number no_match
 irp_next s number from (Some f) None = Fault number no_match
-irp_next s number from (Some f) (Some cut) = over_turns (record s { ahead = cut.rest }) number from f cut.front
+irp_next s number from (Some f) (Some cut) = over_turns (record s { ahead = cut.rest }) number from f cut.prefix
 
 abbrev pub irp_step : State → ℕ → List Mark → Option (List ℕ × List (List Token)) → Next
 irp_step s number from f = irp_next s number from f (cut_at Body 0 s.ahead)
@@ -125,7 +125,7 @@ exitm_step s number (Some m) = Quiet (record s { ahead = left_out m s.ahead })
 abbrev pub macro_next : State → ℕ → Option (List ℕ × List (List ℕ)) → Option Cut → Next
 macro_next s number None cut = Fault number no_match
 macro_next s number (Some d) None = Fault number no_match
-macro_next s number (Some d) (Some cut) = Quiet (record s { ahead = cut.rest; macros = fm.insert s.macros d.0 (macro_of d.1 (texts_of cut.front)) })
+macro_next s number (Some d) (Some cut) = Quiet (record s { ahead = cut.rest; macros = fm.insert s.macros d.0 (macro_of d.1 (texts_of cut.prefix)) })
 
 abbrev pub macro_step : State → ℕ → Option (List ℕ × List (List ℕ)) → Next
 macro_step s number d = macro_next s number d (cut_at Body 0 s.ahead)
@@ -236,12 +236,12 @@ piece_step s labelled number from None = counted number s
 piece_step s labelled number from (Some ts) = line_step s labelled number from ts
 
 -- a source without END is faulty at the line after its last
-abbrev pub front_step : State → List Piece → Next
-front_step s [] = Fault s.end no_end
-front_step s (p ∷ ps) = piece_step (record s { ahead = ps; labelled = false }) s.labelled p.number p.from p.tokens
+abbrev pub prefix_step : State → List Piece → Next
+prefix_step s [] = Fault s.end no_end
+prefix_step s (p ∷ ps) = piece_step (record s { ahead = ps; labelled = false }) s.labelled p.number p.from p.tokens
 
 abbrev pub step : State → Next
-step s = front_step s s.ahead
+step s = prefix_step s s.ahead
 
 -- what one step of the code did
 abbrev pub next_of : Step → State → Next

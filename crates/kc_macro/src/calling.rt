@@ -37,8 +37,8 @@ pub(crate) fn macro_step(
                 line: number,
                 code: SourceCode::NoMatch.number(),
             }),
-            Some((front, _)) => {
-                let body = texts(alloc, front.as_slice())?;
+            Some((prefix, _)) => {
+                let body = texts(alloc, prefix.as_slice())?;
                 let item = macro_of(alloc, params, body.as_slice())?;
                 state.macros.define(name, item)?;
                 Ok(Step::Quiet)

@@ -78,14 +78,14 @@ fn turns(
     number: u32,
     from: &Marks,
     times: u16,
-    front: &[Piece],
+    prefix: &[Piece],
 ) -> Result<Step, NoMemory>
-    ensures { IfOk result (λ r. steps.next_of r state.new ≡ steps.turns_of state.old number from.now times front.now) }
+    ensures { IfOk result (λ r. steps.next_of r state.new ≡ steps.turns_of state.old number from.now times prefix.now) }
 {
     if times == 0 {
         return Ok(Step::Quiet);
     }
-    let lines = turn_body(alloc, Mark::Turns(state.left), front)?;
+    let lines = turn_body(alloc, Mark::Turns(state.left), prefix)?;
     let none = nothing(alloc);
     let text = fill_body(alloc, &none, &[], Given::none(), lines.as_slice())?;
     same_turns(alloc, state, number, from, times, text)
@@ -106,9 +106,9 @@ pub(crate) fn rept_step(
             line: number,
             code: least_unmatched(code_of(value)),
         }),
-        Some((front, _)) => match value {
+        Some((prefix, _)) => match value {
             Err(code) => Ok(Step::Fault { line: number, code }),
-            Ok(times) => turns(alloc, state, number, from, times, front.as_slice()),
+            Ok(times) => turns(alloc, state, number, from, times, prefix.as_slice()),
         },
     }
 }
@@ -132,12 +132,12 @@ fn over_turns(
     number: u32,
     from: &Marks,
     over: (Text, Texts),
-    front: &[Piece],
+    prefix: &[Piece],
 ) -> Result<Step, NoMemory>
-    ensures { IfOk result (λ r. steps.next_of r state.new ≡ steps.over_turns state.old number from.now over front.now) }
+    ensures { IfOk result (λ r. steps.next_of r state.new ≡ steps.over_turns state.old number from.now over prefix.now) }
 {
     let (name, args) = over;
-    let body = turn_body(alloc, Mark::Turns(state.left), front)?;
+    let body = turn_body(alloc, Mark::Turns(state.left), prefix)?;
     let head = turn_head(alloc, state.left, number, from)?;
     let formals = only(alloc, name)?;
     match turns_fault(alloc, &formals, body.as_slice(), args.as_slice())? {
@@ -179,7 +179,7 @@ pub(crate) fn irp_step(
                 line: number,
                 code: SourceCode::NoMatch.number(),
             }),
-            Some((front, _)) => over_turns(alloc, state, number, from, over, front.as_slice()),
+            Some((prefix, _)) => over_turns(alloc, state, number, from, over, prefix.as_slice()),
         },
     }
 }

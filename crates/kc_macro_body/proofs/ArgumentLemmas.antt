@@ -66,41 +66,41 @@ closes_none d rest all e so_far = sym (ap (closes d) e) ∙ so_far
 -- ---- names
 
 abbrev pub after_names : List (List ℕ) → Option (List (List ℕ)) → Option (List (List ℕ))
-after_names front None = None
-after_names front (Some ns) = Some (front ++ ns)
+after_names prefix None = None
+after_names prefix (Some ns) = Some (prefix ++ ns)
 
-names_regroup : (front : List (List ℕ)) (n : List ℕ) (o : Option (List (List ℕ))) → after_names front (in_front n o) ≡ after_names (front ++ n ∷ []) o
-names_regroup front n None = refl
-names_regroup front n (Some ns) = ap (λ (xs : List (List ℕ)). Some xs) (sym (append_assoc front (n ∷ []) ns))
+names_regroup : (prefix : List (List ℕ)) (n : List ℕ) (o : Option (List (List ℕ))) → after_names prefix (in_front n o) ≡ after_names (prefix ++ n ∷ []) o
+names_regroup prefix n None = refl
+names_regroup prefix n (Some ns) = ap (λ (xs : List (List ℕ)). Some xs) (sym (append_assoc prefix (n ∷ []) ns))
 
 pub names_start : (o : Option (List (List ℕ))) → after_names [] o ≡ o
 names_start None = refl
 names_start (Some ns) = refl
 
-pub names_stop : (front : List (List ℕ)) (t : Token) (ts rest : List Token) (all : Option (List (List ℕ))) → rest ≡ t ∷ ts → is_free_name t ≡ false → after_names front (names_at rest) ≡ all → None ≡ all
+pub names_stop : (prefix : List (List ℕ)) (t : Token) (ts rest : List Token) (all : Option (List (List ℕ))) → rest ≡ t ∷ ts → is_free_name t ≡ false → after_names prefix (names_at rest) ≡ all → None ≡ all
 unfolding names_at
-names_stop front t [] rest all e h so_far = sym (ap (λ ts. after_names front (names_at ts)) e ∙ rw h refl) ∙ so_far
-names_stop front t (u ∷ ts) rest all e h so_far = sym (ap (λ ts. after_names front (names_at ts)) e ∙ rw h refl) ∙ so_far
+names_stop prefix t [] rest all e h so_far = sym (ap (λ ts. after_names prefix (names_at ts)) e ∙ rw h refl) ∙ so_far
+names_stop prefix t (u ∷ ts) rest all e h so_far = sym (ap (λ ts. after_names prefix (names_at ts)) e ∙ rw h refl) ∙ so_far
 
-pub names_last : (front : List (List ℕ)) (t : Token) (rest : List Token) (all : Option (List (List ℕ))) → rest ≡ t ∷ [] → is_free_name t ≡ true → after_names front (names_at rest) ≡ all → Some (front ++ t.text ∷ []) ≡ all
+pub names_last : (prefix : List (List ℕ)) (t : Token) (rest : List Token) (all : Option (List (List ℕ))) → rest ≡ t ∷ [] → is_free_name t ≡ true → after_names prefix (names_at rest) ≡ all → Some (prefix ++ t.text ∷ []) ≡ all
 unfolding names_at
-names_last front t rest all e h so_far = sym (ap (λ ts. after_names front (names_at ts)) e ∙ rw h refl) ∙ so_far
+names_last prefix t rest all e h so_far = sym (ap (λ ts. after_names prefix (names_at ts)) e ∙ rw h refl) ∙ so_far
 
-pub names_bad : (front : List (List ℕ)) (t u : Token) (ts rest : List Token) (all : Option (List (List ℕ))) → rest ≡ t ∷ u ∷ ts → is_free_name t ≡ true → is_sign 44 u ≡ false → after_names front (names_at rest) ≡ all → None ≡ all
+pub names_bad : (prefix : List (List ℕ)) (t u : Token) (ts rest : List Token) (all : Option (List (List ℕ))) → rest ≡ t ∷ u ∷ ts → is_free_name t ≡ true → is_sign 44 u ≡ false → after_names prefix (names_at rest) ≡ all → None ≡ all
 unfolding names_at
-names_bad front t u ts rest all e h k so_far = sym (ap (λ ts. after_names front (names_at ts)) e ∙ rw (h, k) refl) ∙ so_far
+names_bad prefix t u ts rest all e h k so_far = sym (ap (λ ts. after_names prefix (names_at ts)) e ∙ rw (h, k) refl) ∙ so_far
 
-pub names_more : (front : List (List ℕ)) (t u : Token) (ts rest : List Token) (all : Option (List (List ℕ))) → rest ≡ t ∷ u ∷ ts → is_free_name t ≡ true → is_sign 44 u ≡ true → after_names front (names_at rest) ≡ all
-    → after_names (front ++ t.text ∷ []) (names_at ts) ≡ all
+pub names_more : (prefix : List (List ℕ)) (t u : Token) (ts rest : List Token) (all : Option (List (List ℕ))) → rest ≡ t ∷ u ∷ ts → is_free_name t ≡ true → is_sign 44 u ≡ true → after_names prefix (names_at rest) ≡ all
+    → after_names (prefix ++ t.text ∷ []) (names_at ts) ≡ all
 unfolding names_at
-names_more front t u ts rest all e h k so_far = sym (ap (λ ts. after_names front (names_at ts)) e ∙ rw (h, k) (names_regroup front t.text (names_at ts))) ∙ so_far
+names_more prefix t u ts rest all e h k so_far = sym (ap (λ ts. after_names prefix (names_at ts)) e ∙ rw (h, k) (names_regroup prefix t.text (names_at ts))) ∙ so_far
 
-pub names_none : (front : List (List ℕ)) (rest : List Token) (all : Option (List (List ℕ))) → rest ≡ [] → after_names front (names_at rest) ≡ all → None ≡ all
+pub names_none : (prefix : List (List ℕ)) (rest : List Token) (all : Option (List (List ℕ))) → rest ≡ [] → after_names prefix (names_at rest) ≡ all → None ≡ all
 unfolding names_at
-names_none front rest all e so_far = sym (ap (λ ts. after_names front (names_at ts)) e) ∙ so_far
+names_none prefix rest all e so_far = sym (ap (λ ts. after_names prefix (names_at ts)) e) ∙ so_far
 
-pub front_of : {A : Type 0} (xs : List A) (i : ℕ) (x : A) → i < length xs → x ≡ get_or xs i x → drop i xs ≡ x ∷ drop (i + 1) xs
-front_of xs i x h e = rw add-one (drop-cons xs i x h ∙ ap (λ y. y ∷ drop (suc i) xs) (sym e))
+pub prefix_of : {A : Type 0} (xs : List A) (i : ℕ) (x : A) → i < length xs → x ≡ get_or xs i x → drop i xs ≡ x ∷ drop (i + 1) xs
+prefix_of xs i x h e = rw add-one (drop-cons xs i x h ∙ ap (λ y. y ∷ drop (suc i) xs) (sym e))
 
 pub arguments_some : (ts : List Token) → 0 < length ts → map ungrouped (split_at_commas 0 ts) ≡ arguments ts
 arguments_some [] h = absurd (omega arith)

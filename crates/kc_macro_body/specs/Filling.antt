@@ -17,11 +17,11 @@ abbrev pub name_token : List ℕ → Token
 name_token text = record { kind = kinds.Name; text = text; value = 0 }
 
 -- LOCAL names are ??0001 and on, with at least four digits
-abbrev pub local_front : ℕ → List ℕ
-local_front n = if nat_lt n 10 then codes "??000" else if nat_lt n 100 then codes "??00" else if nat_lt n 1000 then codes "??0" else codes "??"
+abbrev pub local_prefix : ℕ → List ℕ
+local_prefix n = if nat_lt n 10 then codes "??000" else if nat_lt n 100 then codes "??00" else if nat_lt n 1000 then codes "??0" else codes "??"
 
 abbrev pub local_name : ℕ → List ℕ
-local_name n = local_front n ++ decimal n
+local_name n = local_prefix n ++ decimal n
 
 -- so many LOCAL names have been given before the call
 abbrev pub local_or : Token → ℕ → Option ℕ → List Token
@@ -77,10 +77,10 @@ joined (t ∷ ts) = if is_join t then None else joined_on t ts
 abbrev pub is_long : List Token → Bool
 is_long ts = nat_lt 255 (length ts)
 
-abbrev pub judged : Bool → Option (List Token) → Result (List Token) ℕ
-judged long None = Err no_statement
-judged long (Some ts) = if long then Err long_line else Ok ts
+abbrev pub checked : Bool → Option (List Token) → Result (List Token) ℕ
+checked long None = Err no_statement
+checked long (Some ts) = if long then Err long_line else Ok ts
 
 -- the tokens are counted before they are joined
 unfoldable pub filled : Formals → List (List Token) → ℕ → List Token → Result (List Token) ℕ
-filled f args given ts = judged (is_long (replaced f args given ts)) (joined (replaced f args given ts))
+filled f args given ts = checked (is_long (replaced f args given ts)) (joined (replaced f args given ts))

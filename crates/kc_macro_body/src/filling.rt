@@ -34,8 +34,8 @@ fn name_token(text: Text) -> Token
     }
 }
 
-fn local_front(number: u128) -> &'static [u8]
-    ensures { result.now ≡ filling.local_front number }
+fn local_prefix(number: u128) -> &'static [u8]
+    ensures { result.now ≡ filling.local_prefix number }
 {
     if number < 10 {
         b"??000"
@@ -62,7 +62,7 @@ fn local_name(alloc: Global, number: u128) -> Result<Text, NoMemory>
 {
     let mut buffer = Buffer::new();
     let digits = buffer.format(number).as_bytes();
-    let both = two_texts(alloc, local_front(number), digits)?;
+    let both = two_texts(alloc, local_prefix(number), digits)?;
     Ok(Text::from_vec(both))
 }
 

@@ -7,11 +7,11 @@ use Rattle.kc_macro.specs.Steps.{Next, Fault, Ended, Quiet, Counted, step}
 use Rattle.kc_macro.specs.Expansion as expansion
 use Rattle.kc_macro.specs.Expansion.{start, begun, expanded, Ends}
 use Rattle.kc_macro.proofs.Ends.{out_ends}
-use Rattle.kc_macro_depth.specs.Depths.{Told, Answer, so_far, depth_ahead, told, on_next, settled, run, run_out, depths_of}
+use Rattle.kc_macro_depth.specs.Depths.{Reported, Answer, so_far, depth_ahead, reported, on_next, settled, run, run_out, depths_of}
 use Rattle.kc_macro_depth.specs.Laws.{Agree}
 use Rattle.kc_macro_depth.proofs.Grown.{IsGrown, Grows, step_grows}
 
-abbrev pub HasEach : Told → Type 0
+abbrev pub HasEach : Reported → Type 0
 HasEach t = length t.depths ≡ length t.state.done
 
 -- neither answer is there yet, or both agree
@@ -24,8 +24,8 @@ grown : (n m : ℕ) → IsGrown n m → (m ≡ n → ⊥) → m ≡ suc n
 grown n m (inl e) other = absurd (other e)
 grown n m (inr e) other = e
 
-told_each : (t : Told) (done : List Line) → HasEach t → IsGrown (length t.state.done) (length done) → length (told t done) ≡ length done
-told_each t done each h =
+reported_each : (t : Reported) (done : List Line) → HasEach t → IsGrown (length t.state.done) (length done) → length (reported t done) ≡ length done
+reported_each t done each h =
     let d = depth_ahead t.state.ahead in
     elim (length done == length t.state.done) as (λ b. (length done == length t.state.done) ≡ b → length (cond b t.depths (t.depths ++ d ∷ [])) ≡ length done) [
       | true ↦ λ e. each ∙ sym (eqb-true (length done) (length t.state.done) e)
@@ -34,20 +34,20 @@ told_each t done each h =
           omega (arith, length-append t.depths (d ∷ []))
     ] refl
 
-next_meets : (next more : State → expansion.Answer) (tells tells_more : Told → Answer) (t : Told) (n : Next) → HasEach t → Grows (length t.state.done) n
-    → ((u : Told) → HasEach u → Meet (next u.state) (tells u)) → ((u : Told) → HasEach u → Meet (more u.state) (tells_more u))
-    → Meet (expansion.on_next next more n) (on_next tells tells_more t n)
-next_meets next more tells tells_more t (Fault line code) each h meet goes_on = refl
-next_meets next more tells tells_more t (Ended lines) each h meet goes_on = told_each t lines each h
-next_meets next more tells tells_more t (Quiet s) each h meet goes_on = goes_on (so_far s (told t s.done)) (told_each t s.done each h)
-next_meets next more tells tells_more t (Counted s) each h meet goes_on = meet (so_far s (told t s.done)) (told_each t s.done each h)
+next_meets : (next more : State → expansion.Answer) (reports reports_more : Reported → Answer) (t : Reported) (n : Next) → HasEach t → Grows (length t.state.done) n
+    → ((u : Reported) → HasEach u → Meet (next u.state) (reports u)) → ((u : Reported) → HasEach u → Meet (more u.state) (reports_more u))
+    → Meet (expansion.on_next next more n) (on_next reports reports_more t n)
+next_meets next more reports reports_more t (Fault line code) each h meet goes_on = refl
+next_meets next more reports reports_more t (Ended lines) each h meet goes_on = reported_each t lines each h
+next_meets next more reports reports_more t (Quiet s) each h meet goes_on = goes_on (so_far s (reported t s.done)) (reported_each t s.done each h)
+next_meets next more reports reports_more t (Counted s) each h meet goes_on = meet (so_far s (reported t s.done)) (reported_each t s.done each h)
 
-settled_meets : (next : State → expansion.Answer) (tells : Told → Answer) (k : ℕ) (t : Told) → HasEach t → ((u : Told) → HasEach u → Meet (next u.state) (tells u)) → Meet (expansion.settled next k t.state) (settled tells k t)
+settled_meets : (next : State → expansion.Answer) (reports : Reported → Answer) (k : ℕ) (t : Reported) → HasEach t → ((u : Reported) → HasEach u → Meet (next u.state) (reports u)) → Meet (expansion.settled next k t.state) (settled reports k t)
 unfolding expansion.settled settled
-settled_meets next tells zero t each meet = tt
-settled_meets next tells (suc k) t each meet = next_meets next (expansion.settled next k) tells (settled tells k) t (step t.state) each (step_grows t.state) meet (λ u h. settled_meets next tells k u h meet)
+settled_meets next reports zero t each meet = tt
+settled_meets next reports (suc k) t each meet = next_meets next (expansion.settled next k) reports (settled reports k) t (step t.state) each (step_grows t.state) meet (λ u h. settled_meets next reports k u h meet)
 
-run_meets : (n : ℕ) (t : Told) → HasEach t → Meet (expansion.run n t.state) (run n t)
+run_meets : (n : ℕ) (t : Reported) → HasEach t → Meet (expansion.run n t.state) (run n t)
 unfolding expansion.run run
 run_meets zero t each = tt
 run_meets (suc n) t each = settled_meets (expansion.run n) (run n) (suc (length t.state.ahead)) t each (λ u h. run_meets n u h)

@@ -18,7 +18,7 @@ use Rattle.kc_macro_input.specs.Pieces.{innermost}
 use Rattle.kc_macro_input.specs.Cuts.{Cut, cut_at}
 use Rattle.kc_macro_input.specs.Filled.{Filled, fill_body}
 use Rattle.kc_macro.specs.declared.state.State.{State}
-use Rattle.kc_macro.specs.Steps.{Next, Fault, Ended, Quiet, Counted, counted, if_next, same_turns, turns_of, turn_lines, rept_next, begun, irp_next, exitm_step, macro_next, call_next, emitted, ended, label_step, plain_step, end_step, other_step, word_step, is_replaced, is_end, labelled_step, line_step, piece_step, front_step, step}
+use Rattle.kc_macro.specs.Steps.{Next, Fault, Ended, Quiet, Counted, counted, if_next, same_turns, turns_of, turn_lines, rept_next, begun, irp_next, exitm_step, macro_next, call_next, emitted, ended, label_step, plain_step, end_step, other_step, word_step, is_replaced, is_end, labelled_step, line_step, piece_step, prefix_step, step}
 
 abbrev pub IsGrown : ℕ → ℕ → Type 0
 IsGrown n m = (m ≡ n) ⊎ (m ≡ suc n)
@@ -55,9 +55,9 @@ same_grows : (s : State) (number : ℕ) (from : List Mark) (n : ℕ) (text : Fil
 same_grows s number from n (Err f) = tt
 same_grows s number from n (Ok ps) = counted_grows (length s.done) number (record s { ahead = _ }) (inl refl)
 
-turns_grow : (s : State) (number : ℕ) (from : List Mark) (n : ℕ) (front : List Piece) → Grows (length s.done) (turns_of s number from n front)
-turns_grow s number from n front =
-    let text = fill_body (only []) [] 0 (turn_lines s.left front) in
+turns_grow : (s : State) (number : ℕ) (from : List Mark) (n : ℕ) (prefix : List Piece) → Grows (length s.done) (turns_of s number from n prefix)
+turns_grow s number from n prefix =
+    let text = fill_body (only []) [] 0 (turn_lines s.left prefix) in
     elim (n == 0) as (λ b. Grows (length s.done) (cond b (Quiet s) (same_turns s number from n text))) [
       | true ↦ inl refl
       | false ↦ same_grows s number from n text
@@ -66,7 +66,7 @@ turns_grow s number from n front =
 rept_grows : (s : State) (number : ℕ) (from : List Mark) (value : Result ℕ ℕ) (o : Option Cut) → Grows (length s.done) (rept_next s number from value o)
 rept_grows s number from value None = tt
 rept_grows s number from (Err code) (Some cut) = tt
-rept_grows s number from (Ok n) (Some cut) = turns_grow (record s { ahead = cut.rest }) number from n cut.front
+rept_grows s number from (Ok n) (Some cut) = turns_grow (record s { ahead = cut.rest }) number from n cut.prefix
 
 begun_grows : (s : State) (number : ℕ) (text : Filled) → Grows (length s.done) (begun s number text)
 begun_grows s number (Err f) = tt
@@ -141,9 +141,9 @@ piece_grows : (s : State) (labelled : Bool) (number : ℕ) (from : List Mark) (o
 piece_grows s labelled number from None = counted_grows (length s.done) number s (inl refl)
 piece_grows s labelled number from (Some ts) = line_grows s labelled number from ts
 
-front_grows : (s : State) (ps : List Piece) → Grows (length s.done) (front_step s ps)
-front_grows s [] = tt
-front_grows s (p ∷ ps) = piece_grows (record s { ahead = ps; labelled = false }) s.labelled p.number p.from p.tokens
+prefix_grows : (s : State) (ps : List Piece) → Grows (length s.done) (prefix_step s ps)
+prefix_grows s [] = tt
+prefix_grows s (p ∷ ps) = piece_grows (record s { ahead = ps; labelled = false }) s.labelled p.number p.from p.tokens
 
 pub step_grows : (s : State) → Grows (length s.done) (step s)
-step_grows s = front_grows s s.ahead
+step_grows s = prefix_grows s s.ahead

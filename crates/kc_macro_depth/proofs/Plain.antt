@@ -11,16 +11,16 @@ use Rattle.kc_macro.specs.Steps.{Ended, Counted, ended, emitted, step}
 use Rattle.kc_macro.specs.Expansion.{place}
 use Rattle.kc_macro.specs.Plain.{is_plain}
 use Rattle.kc_macro.proofs.Plain.{before, none_called, other_is, plain_out, end_out, some_left, counted_some, and_both}
-use Rattle.kc_macro_depth.specs.Depths.{Told, so_far, depth_ahead, told, run, run_out}
+use Rattle.kc_macro_depth.specs.Depths.{Reported, so_far, depth_ahead, reported, run, run_out}
 use Rattle.kc_macro_depth.specs.Laws.{PlainLinesStandAtNone}
-use Rattle.kc_macro_depth.proofs.Course.{reaches_start, reaches_loud, run_settled, run_counted, depths_are}
+use Rattle.kc_macro_depth.proofs.Course.{reaches_start, reaches_active, run_settled, run_counted, depths_are}
 
 more_lines : (done : List Line) (l : Line) → (length (done ++ l ∷ []) == length done) ≡ false
 more_lines done l = let more = length-append done (l ∷ []) in grind arith
 
 -- a line of the source's own text came out
-told_none : (t : Told) (l : Line) → depth_ahead t.state.ahead ≡ 0 → told t (t.state.done ++ l ∷ []) ≡ t.depths ++ 0 ∷ []
-told_none t l none = rw (more_lines t.state.done l, none) refl
+reported_none : (t : Reported) (l : Line) → depth_ahead t.state.ahead ≡ 0 → reported t (t.state.done ++ l ∷ []) ≡ t.depths ++ 0 ∷ []
+reported_none t l none = rw (more_lines t.state.done l, none) refl
 
 stays : (lines : List Line) (end : Line) (rest done : List Line) (ds : List ℕ) (values : NameMap) (left last : ℕ) → list_all is_plain lines ≡ true → word_of end.tokens ≡ words.End → length lines < left
     → run_out (so_far (before done (lines ++ end ∷ rest) values left last) ds) ≡ Some (Ok (ds ++ map (λ l. 0) (lines ++ end ∷ [])))
@@ -30,7 +30,7 @@ stays [] end rest done ds values left last h e few =
     let here = before done rest values left last in
     let one : step s ≡ Ended (done ++ end ∷ []) =
     end_out here end.number end.tokens none_called e ∙ ap ended (counted_some end.number (emitted end.number end.tokens here) (some_left left 0 few)) in
-    run_settled t ∙ reaches_loud t t (Ended (done ++ end ∷ [])) (reaches_start t) (sym one) tt (run left) ∙ ap (λ (es : List ℕ). Some (Ok es)) (told_none t end refl)
+    run_settled t ∙ reaches_active t t (Ended (done ++ end ∷ [])) (reaches_start t) (sym one) tt (run left) ∙ ap (λ (es : List ℕ). Some (Ok es)) (reported_none t end refl)
 stays (l ∷ lines) end rest done ds values left last h e few =
     let both = and_both (is_plain l) (list_all is_plain lines) h in
     let s = before done (l ∷ (lines ++ end ∷ rest)) values left last in
@@ -40,8 +40,8 @@ stays (l ∷ lines) end rest done ds values left last h e few =
     let one : step s ≡ Counted u =
     plain_out here l.number l.tokens none_called (other_is (word_of l.tokens) both.0) ∙ counted_some l.number (emitted l.number l.tokens (record here { values = noted l.tokens values })) (some_left left (suc (length lines)) few) in
     let less : suc (left - 1) ≡ left = omega arith in
-    sym (run_counted t (so_far u (told t u.done)) (reaches_loud t t (Counted u) (reaches_start t) (sym one) tt) less)
-    ∙ ap (λ (es : List ℕ). run_out (so_far u es)) (told_none t l refl)
+    sym (run_counted t (so_far u (reported t u.done)) (reaches_active t t (Counted u) (reaches_start t) (sym one) tt) less)
+    ∙ ap (λ (es : List ℕ). run_out (so_far u es)) (reported_none t l refl)
     ∙ stays lines end rest (done ++ l ∷ []) (ds ++ 0 ∷ []) (noted l.tokens values) (left - 1) last both.1 e (omega arith)
     ∙ ap (λ (es : List ℕ). Some (Ok es)) (append_assoc ds (0 ∷ []) (map (λ l. 0) (lines ++ end ∷ [])))
 

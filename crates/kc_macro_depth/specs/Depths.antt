@@ -29,36 +29,36 @@ depth_ahead [] = 0
 depth_ahead (p ∷ ps) = depth p.from
 
 -- how far an expansion has come, and how deep each line stands that came out
-pub record Told : Type 0 where
+pub record Reported : Type 0 where
   pub state : State
   pub depths : List ℕ
 
-abbrev pub so_far : State → List ℕ → Told
+abbrev pub so_far : State → List ℕ → Reported
 so_far s ds = record { state = s; depths = ds }
 
 -- a line that a rewriting brings out stands as deep as the piece that is rewritten
-abbrev pub told : Told → List Line → List ℕ
-told t done = if length done == length t.state.done then t.depths else t.depths ++ depth_ahead t.state.ahead ∷ []
+abbrev pub reported : Reported → List Line → List ℕ
+reported t done = if length done == length t.state.done then t.depths else t.depths ++ depth_ahead t.state.ahead ∷ []
 
 abbrev pub Answer : Type 0
 Answer = Option (Result (List ℕ) (ℕ × ℕ))
 
-abbrev pub on_next : (Told → Answer) → (Told → Answer) → Told → Next → Answer
+abbrev pub on_next : (Reported → Answer) → (Reported → Answer) → Reported → Next → Answer
 on_next next more t (Fault line code) = Some (Err (line, code))
-on_next next more t (Ended lines) = Some (Ok (told t lines))
-on_next next more t (Quiet s) = more (so_far s (told t s.done))
-on_next next more t (Counted s) = next (so_far s (told t s.done))
+on_next next more t (Ended lines) = Some (Ok (reported t lines))
+on_next next more t (Quiet s) = more (so_far s (reported t s.done))
+on_next next more t (Counted s) = next (so_far s (reported t s.done))
 
 -- the rewritings are those of the expansion
-unfoldable pub settled : (Told → Answer) → ℕ → Told → Answer
+unfoldable pub settled : (Reported → Answer) → ℕ → Reported → Answer
 settled next zero t = None
 settled next (suc k) t = on_next next (settled next k) t (step t.state)
 
-unfoldable pub run : ℕ → Told → Answer
+unfoldable pub run : ℕ → Reported → Answer
 run zero t = None
 run (suc n) t = settled (run n) (suc (length t.state.ahead)) t
 
-abbrev pub run_out : Told → Answer
+abbrev pub run_out : Reported → Answer
 run_out t = run (suc t.state.left) t
 
 unfoldable pub depths_of : List Line → Answer
@@ -78,7 +78,7 @@ GoWith (Err (faults.At line code)) answer = answer ≡ Some (Err (line, code))
 GoWith (Err faults.NoMemory) answer = Unit {0}
 
 -- what one rewriting led to that is an expanded line, the end or a fault
-abbrev pub led : (Told → Answer) → Step → Told → Answer
+abbrev pub led : (Reported → Answer) → Step → Reported → Answer
 led next steps.Quiet t = None
 led next steps.Counted t = next t
 led next steps.Ended t = Some (Ok t.depths)

@@ -2,6 +2,6 @@
 #![tactic(auto)]
 
 pub mod laws;
-mod telling;
+mod reporting;
 
-pub use telling::depths;
+pub use reporting::depths;

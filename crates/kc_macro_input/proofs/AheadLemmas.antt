@@ -11,7 +11,7 @@ use Rattle.kc_macro_input.specs.declared.ahead.Held.{Held}
 use Rattle.kc_macro_input.specs.declared.ahead.Held.TheVariants as held
 use Rattle.kc_macro_input.specs.Ahead.{flat, pieces_of}
 use Rattle.kc_macro_input.specs.Filled.{Filled, together, all_together, single, with_tokens, fill_text, fill_piece, fill_body, lines_of, turns_over}
-use Rattle.kc_macro_input.proofs.FilledLemmas.{front_of}
+use Rattle.kc_macro_input.proofs.FilledLemmas.{prefix_of}
 use Rattle.kc_macro_input.specs.Pieces.{repeated, comes_from}
 use Rattle.kc_macro_input.specs.Pieces.{left_out}
 
@@ -94,7 +94,7 @@ pub one_over : (f : Formals) (head : Piece) (body rest : List Piece) (args : Lis
 unfolding turns_over
 one_over f head body rest args n arg less is =
     ap (λ (ps : List Piece). head ∷ ps) (sym (append_assoc (lines_of (fill_body f (arg ∷ []) 0 body)) (turns_over f head body (drop (n + 1) args)) rest))
-    ∙ ap (λ (left : List (List Token)). turns_over f head body left ++ rest) (sym (front_of args n arg less is))
+    ∙ ap (λ (left : List (List Token)). turns_over f head body left ++ rest) (sym (prefix_of args n arg less is))
 
 lines_together : (m : Mark) (x y : Filled) → list_all (comes_from m) (lines_of x) ≡ true → list_all (comes_from m) (lines_of y) ≡ true → list_all (comes_from m) (lines_of (together x y)) ≡ true
 lines_together m (Ok ps) (Ok qs) h k = all_append m ps qs h k

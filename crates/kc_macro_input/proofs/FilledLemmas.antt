@@ -34,8 +34,8 @@ unfolding all_together
 together_more g x xs rest done more all e is so_far =
     ap (λ y. together y (all_together (map g xs))) is ∙ together_assoc done (g x) (all_together (map g xs)) ∙ sym (ap (λ ys. together done (all_together (map g ys))) e) ∙ so_far
 
-pub front_of : {A : Type 0} (xs : List A) (i : ℕ) (x : A) → i < length xs → x ≡ get_or xs i x → drop i xs ≡ x ∷ drop (i + 1) xs
-front_of xs i x h e = rw add-one (drop-cons xs i x h ∙ ap (λ y. y ∷ drop (suc i) xs) (sym e))
+pub prefix_of : {A : Type 0} (xs : List A) (i : ℕ) (x : A) → i < length xs → x ≡ get_or xs i x → drop i xs ≡ x ∷ drop (i + 1) xs
+prefix_of xs i x h e = rw add-one (drop-cons xs i x h ∙ ap (λ y. y ∷ drop (suc i) xs) (sym e))
 
 -- ---- faults alone
 

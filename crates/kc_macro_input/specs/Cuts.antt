@@ -29,42 +29,42 @@ depth_after e w depth = if opens e w then depth + 1 else if closes e w then dept
 
 -- what stands before the end, the line that ends it, and what follows
 pub record Cut : Type 0 where
-  pub front : List Piece
+  pub prefix : List Piece
   pub ender : Piece
   pub rest : List Piece
 
 abbrev pub after_piece : Piece → Option Cut → Option Cut
 after_piece p None = None
-after_piece p (Some cut) = Some (record cut { front = p ∷ cut.front })
+after_piece p (Some cut) = Some (record cut { prefix = p ∷ cut.prefix })
 
 -- lines are matched as they stand; calls among them are not yet replaced
 unfoldable pub cut_at : Extent → ℕ → List Piece → Option Cut
 cut_at e depth [] = None
 cut_at e depth (p ∷ ps) =
-    if ends e (word_at p.tokens) && (depth == 0) then Some (record { front = []; ender = p; rest = ps })
+    if ends e (word_at p.tokens) && (depth == 0) then Some (record { prefix = []; ender = p; rest = ps })
     else after_piece p (cut_at e (depth_after e (word_at p.tokens) depth) ps)
 
 -- ---- the lines that an IF keeps, and what follows its ENDIF; a second ELSE stays, and is a fault when it is reached
 
 abbrev pub kept_before : List Piece → Option Cut → Option (List Piece × List Piece)
-kept_before front None = None
-kept_before front (Some cut) = Some (front, cut.rest)
+kept_before prefix None = None
+kept_before prefix (Some cut) = Some (prefix, cut.rest)
 
 abbrev pub second_part : List Piece → Option Cut → Option (List Piece × List Piece)
-second_part front None = None
-second_part front (Some cut) =
-    if is_endif (word_at cut.ender.tokens) then Some (front, cut.rest)
-    else kept_before (front ++ cut.ender ∷ []) (cut_at Condition 0 cut.rest)
+second_part prefix None = None
+second_part prefix (Some cut) =
+    if is_endif (word_at cut.ender.tokens) then Some (prefix, cut.rest)
+    else kept_before (prefix ++ cut.ender ∷ []) (cut_at Condition 0 cut.rest)
 
 abbrev pub else_part : Option Cut → Option (List Piece × List Piece)
 else_part None = None
-else_part (Some cut) = Some (cut.front, cut.rest)
+else_part (Some cut) = Some (cut.prefix, cut.rest)
 
 abbrev pub kept_of : Bool → Option Cut → Option (List Piece × List Piece)
 kept_of holds None = None
 kept_of holds (Some cut) =
-    if is_endif (word_at cut.ender.tokens) then Some (if holds then cut.front else [], cut.rest)
-    else if holds then second_part cut.front (cut_at Part 0 cut.rest)
+    if is_endif (word_at cut.ender.tokens) then Some (if holds then cut.prefix else [], cut.rest)
+    else if holds then second_part cut.prefix (cut_at Part 0 cut.rest)
     else else_part (cut_at Condition 0 cut.rest)
 
 unfoldable pub kept : Bool → List Piece → Option (List Piece × List Piece)
@@ -74,7 +74,7 @@ kept holds ps = kept_of holds (cut_at Part 0 ps)
 
 abbrev pub seen_cut : Option (Vec Piece × Piece) → List Piece → Option Cut
 seen_cut None rest = None
-seen_cut (Some p) rest = Some (record { front = p.0.items; ender = p.1; rest = rest })
+seen_cut (Some p) rest = Some (record { prefix = p.0.items; ender = p.1; rest = rest })
 
 abbrev pub seen_kept : Option (Vec Piece) → List Piece → Option (List Piece × List Piece)
 seen_kept None rest = None

@@ -17,12 +17,12 @@ use std::alloc::Global;
 pub type Filled = Result<Vec<Piece>, LineFault>;
 
 /// The lines of a body, each with a mark in front.
-pub fn turn_body(alloc: Global, mark: Mark, front: &[Piece]) -> Result<Vec<Piece>, NoMemory>
-    ensures { IfOk result (λ v. v.items ≡ map (pieces.marked mark) (filter pieces.is_line front.now)) }
+pub fn turn_body(alloc: Global, mark: Mark, prefix: &[Piece]) -> Result<Vec<Piece>, NoMemory>
+    ensures { IfOk result (λ v. v.items ≡ map (pieces.marked mark) (filter pieces.is_line prefix.now)) }
 {
     let mut marking = Marking::new(alloc, mark)?;
     let mut body = Vec::new(alloc);
-    for piece in front {
+    for piece in prefix {
         if let Some(tokens) = &piece.tokens {
             let copy = copy_tokens(alloc, tokens.as_slice())?;
             body.push(Piece {
@@ -36,11 +36,11 @@ pub fn turn_body(alloc: Global, mark: Mark, front: &[Piece]) -> Result<Vec<Piece
 }
 
 /// The tokens of the lines of a body.
-pub fn texts(alloc: Global, front: &[Piece]) -> Result<Texts, NoMemory>
-    ensures { IfOk result (λ t. t ≡ pieces.texts_of front.now) }
+pub fn texts(alloc: Global, prefix: &[Piece]) -> Result<Texts, NoMemory>
+    ensures { IfOk result (λ t. t ≡ pieces.texts_of prefix.now) }
 {
     let mut texts = Texts::new(alloc);
-    for piece in front {
+    for piece in prefix {
         if let Some(tokens) = &piece.tokens {
             texts.push(copy_tokens(alloc, tokens.as_slice())?)?;
         }

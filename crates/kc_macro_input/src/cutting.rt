@@ -92,14 +92,14 @@ pub fn cut_off(
 ) -> Result<Option<(Vec<Piece>, Piece)>, NoMemory>
     ensures { IfOk result (λ o. cuts.cut_at extent 0 ahead.old ≡ cuts.seen_cut o ahead.new) }
 {
-    let mut front = Vec::new(alloc);
+    let mut prefix = Vec::new(alloc);
     let mut depth = 0;
     while let Some(piece) = ahead.next(alloc)? {
         if ends_here(extent, &piece, depth) {
-            return Ok(Some((front, piece)));
+            return Ok(Some((prefix, piece)));
         }
         depth = depth_after(extent, &piece, depth);
-        front.push(piece)?;
+        prefix.push(piece)?;
     }
     Ok(None)
 }
@@ -108,21 +108,21 @@ pub fn cut_off(
 fn pass_second(
     alloc: Global,
     ahead: &mut Ahead,
-    front: Vec<Piece>,
+    prefix: Vec<Piece>,
 ) -> Result<Option<Vec<Piece>>, NoMemory>
-    ensures { IfOk result (λ o. cuts.second_part front.items (cuts.cut_at extents.Part 0 ahead.old) ≡ cuts.seen_kept o ahead.new) }
+    ensures { IfOk result (λ o. cuts.second_part prefix.items (cuts.cut_at extents.Part 0 ahead.old) ≡ cuts.seen_kept o ahead.new) }
 {
-    let mut front = front;
+    let mut prefix = prefix;
     match cut_off(alloc, ahead, Extent::Part)? {
         None => Ok(None),
         Some((_, ender)) => {
             if is_endif(word_at(&ender.tokens)) {
-                return Ok(Some(front));
+                return Ok(Some(prefix));
             }
-            front.push(ender)?;
+            prefix.push(ender)?;
             match cut_off(alloc, ahead, Extent::Condition)? {
                 None => Ok(None),
-                Some(_) => Ok(Some(front)),
+                Some(_) => Ok(Some(prefix)),
             }
         }
     }
@@ -135,19 +135,19 @@ pub fn keep(alloc: Global, ahead: &mut Ahead, holds: bool) -> Result<Option<Vec<
 {
     match cut_off(alloc, ahead, Extent::Part)? {
         None => Ok(None),
-        Some((front, ender)) => {
+        Some((prefix, ender)) => {
             if is_endif(word_at(&ender.tokens)) {
                 if holds {
-                    Ok(Some(front))
+                    Ok(Some(prefix))
                 } else {
                     Ok(Some(Vec::new(alloc)))
                 }
             } else if holds {
-                pass_second(alloc, ahead, front)
+                pass_second(alloc, ahead, prefix)
             } else {
                 match cut_off(alloc, ahead, Extent::Condition)? {
                     None => Ok(None),
-                    Some((front, _)) => Ok(Some(front)),
+                    Some((prefix, _)) => Ok(Some(prefix)),
                 }
             }
         }

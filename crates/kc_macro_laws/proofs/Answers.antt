@@ -5,10 +5,10 @@ use Rattle.kc_macro_input.specs.declared.piece.Piece.{Piece}
 use Rattle.kc_macro.specs.declared.state.State.{State}
 use Rattle.kc_macro.specs.Steps.{Next, Fault, Ended, Quiet, Counted, step}
 use Rattle.kc_macro.specs.Expansion.{Answer, on_next, settled, run, run_out}
-use Rattle.kc_macro.proofs.RunLemmas.{reaches_start, reaches_loud, run_next, run_counted, counted_left, quiet_left, quiet_shorter}
+use Rattle.kc_macro.proofs.RunLemmas.{reaches_start, reaches_active, run_next, run_counted, counted_left, quiet_left, quiet_shorter}
 use Rattle.kc_macro_laws.specs.Course.{IsTooDeep}
 use Rattle.kc_macro_laws.proofs.Pairs.{Calm, pairs_length}
-use Rattle.kc_macro_laws.proofs.Simulation.{is_deep, FrontPairs, Sim, NextPairs, step_pairs}
+use Rattle.kc_macro_laws.proofs.Simulation.{is_deep, PrefixPairs, Sim, NextPairs, step_pairs}
 
 abbrev pub AnswerPairs : Mark → Answer → Answer → Type 0
 AnswerPairs x a b = (b ≡ a) ⊎ ((is_deep x ≡ true) × IsTooDeep a)
@@ -29,16 +29,16 @@ unfolding settled
 settled_alike x next zero on t rs h = inl refl
 settled_alike x next (suc k) on t rs h = next_alike x next (settled next k) (step t) (step (record t { ahead = rs })) on (settled_alike x next k on) (step_pairs x t rs h)
 
-front_length : (x : Mark) (labelled : Bool) (ps qs : List Piece) → FrontPairs x labelled ps qs → length qs ≡ length ps
-front_length x labelled [] [] h = refl
-front_length x labelled [] (q ∷ qs) h = absurd h
-front_length x labelled (p ∷ ps) [] h = absurd h
-front_length x labelled (p ∷ ps) (q ∷ qs) h = ap suc (pairs_length (Calm x) ps qs h.1.1)
+prefix_length : (x : Mark) (labelled : Bool) (ps qs : List Piece) → PrefixPairs x labelled ps qs → length qs ≡ length ps
+prefix_length x labelled [] [] h = refl
+prefix_length x labelled [] (q ∷ qs) h = absurd h
+prefix_length x labelled (p ∷ ps) [] h = absurd h
+prefix_length x labelled (p ∷ ps) (q ∷ qs) h = ap suc (pairs_length (Calm x) ps qs h.1.1)
 
 run_alike : (x : Mark) (n : ℕ) → GoesAlike x (run n)
 unfolding run
 run_alike x zero t rs h = inl refl
-run_alike x (suc n) t rs h = rw (front_length x t.labelled t.ahead rs h.pairs) (settled_alike x (run n) (suc (length t.ahead)) (run_alike x n) t rs h)
+run_alike x (suc n) t rs h = rw (prefix_length x t.labelled t.ahead rs h.pairs) (settled_alike x (run n) (suc (length t.ahead)) (run_alike x n) t rs h)
 
 pub answers_alike : (x : Mark) → GoesAlike x run_out
 answers_alike x t rs h = run_alike x (suc t.left) t rs h
@@ -67,7 +67,7 @@ after_quiet s t e =
     ap (on_next (run s.left) (settled (run s.left) (length s.ahead))) e ∙ enough (run s.left) (length s.ahead) (suc (length t.ahead)) t less (omega arith) ∙ ap (λ n. settled (run n) (suc (length t.ahead)) t) (sym left)
 
 pub after_counted : (s t : State) → step s ≡ Counted t → run_out s ≡ run_out t
-after_counted s t e = sym (run_counted s t (reaches_loud s s (Counted t) (reaches_start s) (sym e) tt) (counted_left s t (sym e)))
+after_counted s t e = sym (run_counted s t (reaches_active s s (Counted t) (reaches_start s) (sym e) tt) (counted_left s t (sym e)))
 
 pub after_fault : (s : State) (line code : ℕ) → step s ≡ Fault line code → run_out s ≡ Some (Err (line, code))
-after_fault s line code e = run_next s (Fault line code) (reaches_loud s s (Fault line code) (reaches_start s) (sym e) tt)
+after_fault s line code e = run_next s (Fault line code) (reaches_active s s (Fault line code) (reaches_start s) (sym e) tt)

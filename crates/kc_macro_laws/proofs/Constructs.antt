@@ -30,7 +30,7 @@ use Rattle.kc_macro_laws.proofs.Marks.{alike_same, alike_less}
 use Rattle.kc_macro_laws.proofs.Pairs.{Pairs, Twin, Calm, pairs_append, pairs_repeated}
 use Rattle.kc_macro_laws.proofs.Filling.{FilledPairs, Fills, body_pairs, turns_pairs}
 use Rattle.kc_macro_laws.proofs.Wholes.{body_is_cut, kept_whole, kept_else}
-use Rattle.kc_macro_laws.proofs.Simulation.{front_of, never_if}
+use Rattle.kc_macro_laws.proofs.Simulation.{prefix_of, never_if}
 use Rattle.kc_macro_laws.proofs.Answers.{AnswerPairs, answers_alike, after_quiet, after_counted, after_fault}
 
 -- ---- the first line
@@ -169,13 +169,13 @@ one_answer left a c (inl e) = sym e
 one_answer left a c (inr h) = let no : false ≡ true = h.0 in absurd (cc)
 
 -- a block is cut off
-pub block_cut : (s : State) (w : Word) (b : Block) → IsBlock s w b → cut_at Body 0 (b.body ++ b.last ∷ b.rest) ≡ Some (record { front = b.body; ender = b.last; rest = b.rest })
+pub block_cut : (s : State) (w : Word) (b : Block) → IsBlock s w b → cut_at Body 0 (b.body ++ b.last ∷ b.rest) ≡ Some (record { prefix = b.body; ender = b.last; rest = b.rest })
 block_cut s w b is = body_is_cut b.body b.last b.rest is.body is.last
 
 -- ---- REPT
 
 pub rept_first : (s : State) (b : Block) (n : ℕ) → IsBlock s words.Rept b → operand (drop 1 b.tokens) s.values ≡ Ok n →
-    step (at_text s (text_of b)) ≡ rept_next (on_text s (b.body ++ b.last ∷ b.rest)) b.number b.from (Ok n) (Some (record { front = b.body; ender = b.last; rest = b.rest }))
+    step (at_text s (text_of b)) ≡ rept_next (on_text s (b.body ++ b.last ∷ b.rest)) b.number b.from (Ok n) (Some (record { prefix = b.body; ender = b.last; rest = b.rest }))
 rept_first s b n is value =
     word_first s b.number b.from b.tokens (b.body ++ b.last ∷ b.rest) words.Rept is.first ∙ rw (value, block_cut s words.Rept b is) refl
 
@@ -197,7 +197,7 @@ rept_copies s b (suc k) copy is old value joined calm =
     (on_text s (map (marked (Turns s.left)) copy ++ (repeated k (turn_head s.left b.number b.from ∷ map (marked (Turns s.left)) copy) ++ b.rest))) b.number ((copy ++ repeated k (one_counted b.number b.from ∷ copy)) ++ b.rest)
     (rept_some s b k copy is value (joined (omega arith))) refl
     (λ some. answers_alike (Turns s.left) (record (on_text s (map (marked (Turns s.left)) copy ++ (repeated k (turn_head s.left b.number b.from ∷ map (marked (Turns s.left)) copy) ++ b.rest))) { left = s.left - 1 })
-    ((copy ++ repeated k (one_counted b.number b.from ∷ copy)) ++ b.rest) (record { pairs = front_of (Turns s.left) false _ _ text; above = above_turns s.left some })))
+    ((copy ++ repeated k (one_counted b.number b.from ∷ copy)) ++ b.rest) (record { pairs = prefix_of (Turns s.left) false _ _ text; above = above_turns s.left some })))
   where
     text : Pairs (Calm (Turns s.left)) (map (marked (Turns s.left)) copy ++ (repeated k (turn_head s.left b.number b.from ∷ map (marked (Turns s.left)) copy) ++ b.rest)) ((copy ++ repeated k (one_counted b.number b.from ∷ copy)) ++ b.rest)
     text = rw append_assoc (pairs_append (Calm (Turns s.left)) (map (marked (Turns s.left)) copy) copy _ _ (marked_pairs (Turns s.left) copy calm)
@@ -211,7 +211,7 @@ rept_is_copies = rept_copies
 -- ---- IRP
 
 irp_first : (s : State) (b : Block) (f : List ℕ × List (List Token)) → IsBlock s words.Irp b → over_arguments (drop 1 b.tokens) ≡ Some f →
-    step (at_text s (text_of b)) ≡ irp_next (on_text s (b.body ++ b.last ∷ b.rest)) b.number b.from (Some f) (Some (record { front = b.body; ender = b.last; rest = b.rest }))
+    step (at_text s (text_of b)) ≡ irp_next (on_text s (b.body ++ b.last ∷ b.rest)) b.number b.from (Some f) (Some (record { prefix = b.body; ender = b.last; rest = b.rest }))
 irp_first s b f is over =
     word_first s b.number b.from b.tokens (b.body ++ b.last ∷ b.rest) words.Irp is.first ∙ rw (over, block_cut s words.Irp b is) refl
 
@@ -245,7 +245,7 @@ irp_copies s b name args (p ∷ copies) is old over filled calm =
     (counted_both (Turns s.left) (at_text s (text_of b)) (on_text s (p ∷ (copies ++ b.rest))) (on_text s (map (marked (Turns s.left)) copies ++ b.rest)) b.number (copies ++ b.rest)
     (irp_begun s b name args (p ∷ copies) is over filled) (ap (λ q. step (on_text s (q ∷ (copies ++ b.rest)))) place)
     (λ some. answers_alike (Turns s.left) (record (on_text s (map (marked (Turns s.left)) copies ++ b.rest)) { left = s.left - 1 }) (copies ++ b.rest) (record {
-      pairs = front_of (Turns s.left) false _ _ (pairs_append (Calm (Turns s.left)) (map (marked (Turns s.left)) copies) copies b.rest b.rest (marked_pairs (Turns s.left) copies rest_calm)
+      pairs = prefix_of (Turns s.left) false _ _ (pairs_append (Calm (Turns s.left)) (map (marked (Turns s.left)) copies) copies b.rest b.rest (marked_pairs (Turns s.left) copies rest_calm)
           (old_pairs s.left (Turns s.left) b.rest (turns_are_new s.left) (rest_old s b old)));
       above = above_turns s.left some;
     })))
@@ -317,7 +317,7 @@ call_body : (s : State) (number : ℕ) (from : List Mark) (tokens : List Token) 
 call_body s number from tokens rest m copy is names old filled calm =
     call_copy s number from tokens rest m copy (copy ++ rest) is names filled
     (λ some. answers_alike (Call s.left) (called_on s (map (marked (Call s.left)) copy ++ rest) m) (copy ++ rest) (record {
-      pairs = front_of (Call s.left) false _ _ (pairs_append (Calm (Call s.left)) (map (marked (Call s.left)) copy) copy rest rest (marked_pairs (Call s.left) copy calm)
+      pairs = prefix_of (Call s.left) false _ _ (pairs_append (Calm (Call s.left)) (map (marked (Call s.left)) copy) copy rest rest (marked_pairs (Call s.left) copy calm)
           (old_pairs s.left (Call s.left) rest (call_is_new s.left) (and_parts _ _ old).1));
       above = above_turns s.left some;
     }))
@@ -332,24 +332,24 @@ if_pairs [] [] = tt
 if_pairs [] (p ∷ rest) = (record { twin = twin_same If p; calm = λ e. absurd (never_if p.from e) }, if_pairs [] rest)
 if_pairs (p ∷ ps) rest = (record { twin = record { number = refl; tokens = refl; marks = alike_less If p.from }; calm = λ e. absurd (never_if (If ∷ p.from) e) }, if_pairs ps rest)
 
-if_kept : (s : State) (number : ℕ) (from : List Mark) (tokens : List Token) (ps front rest : List Piece) (value : ℕ) → matched s.labelled tokens ≡ Some words.If → operand (drop 1 tokens) s.values ≡ Ok value →
-    kept (not (value == 0)) ps ≡ Some (front, rest) →
-    (run_out (at_text s (body_line number from tokens ∷ ps)) ≡ run_out (on_text s (front ++ rest))) ⊎ IsTooDeep (run_out (at_text s (body_line number from tokens ∷ ps)))
-if_kept s number from tokens ps front rest value first is found = choice (nat_le 16 (count_by is_if from)) (word_first s number from tokens ps words.If first ∙ rw (is, found) refl)
+if_kept : (s : State) (number : ℕ) (from : List Mark) (tokens : List Token) (ps prefix rest : List Piece) (value : ℕ) → matched s.labelled tokens ≡ Some words.If → operand (drop 1 tokens) s.values ≡ Ok value →
+    kept (not (value == 0)) ps ≡ Some (prefix, rest) →
+    (run_out (at_text s (body_line number from tokens ∷ ps)) ≡ run_out (on_text s (prefix ++ rest))) ⊎ IsTooDeep (run_out (at_text s (body_line number from tokens ∷ ps)))
+if_kept s number from tokens ps prefix rest value first is found = choice (nat_le 16 (count_by is_if from)) (word_first s number from tokens ps words.If first ∙ rw (is, found) refl)
   where
     a : State
     a = at_text s (body_line number from tokens ∷ ps)
 
     t : State
-    t = on_text s (map (marked If) front ++ rest)
+    t = on_text s (map (marked If) prefix ++ rest)
 
-    turned : AnswerPairs If (run_out t) (run_out (record t { ahead = front ++ rest })) → run_out a ≡ run_out t → (run_out a ≡ run_out (on_text s (front ++ rest))) ⊎ IsTooDeep (run_out a)
+    turned : AnswerPairs If (run_out t) (run_out (record t { ahead = prefix ++ rest })) → run_out a ≡ run_out t → (run_out a ≡ run_out (on_text s (prefix ++ rest))) ⊎ IsTooDeep (run_out a)
     turned (inl e) f = inl (f ∙ sym e)
     turned (inr h) f = inr (h.1.0, f ∙ h.1.1)
 
-    choice : (b : Bool) → step a ≡ if_next (on_text s ps) number (least (code_if b 5) None) (Some (front, rest)) → (run_out a ≡ run_out (on_text s (front ++ rest))) ⊎ IsTooDeep (run_out a)
+    choice : (b : Bool) → step a ≡ if_next (on_text s ps) number (least (code_if b 5) None) (Some (prefix, rest)) → (run_out a ≡ run_out (on_text s (prefix ++ rest))) ⊎ IsTooDeep (run_out a)
     choice true f = inr (number, after_fault a number 5 f)
-    choice false f = turned (answers_alike If t (front ++ rest) (record { pairs = front_of If false _ _ (if_pairs front rest); above = tt })) (after_quiet a t f)
+    choice false f = turned (answers_alike If t (prefix ++ rest) (record { pairs = prefix_of If false _ _ (if_pairs prefix rest); above = tt })) (after_quiet a t f)
 
 value_kept : {A : Type 0} (b : Bool) (x y : A) → cond (not b) x y ≡ cond b y x
 value_kept true x y = refl

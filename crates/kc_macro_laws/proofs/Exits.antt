@@ -143,24 +143,24 @@ counted_same : (a c s : State) (number : ℕ) (ps qs : List Piece) → step a �
     (run_out (record (on_text s ps) { left = s.left - 1 }) ≡ run_out (record (on_text s qs) { left = s.left - 1 })) → run_out a ≡ run_out c
 counted_same a c s number ps qs e f same = one_answer 0 a c (counted_both (Turns 0) a c (on_text s ps) number qs e f (λ _. inl (sym same)))
 
-to_the_exit : (x : Mark) (left : ℕ) (front : List Piece) (last : Piece) (back rest : List Piece) (s : State) → IsOwn x left → come_out s.macros front → Is is_exitm last → ComesNone x rest →
-    run_out (on_text s (map (marked x) (front ++ last ∷ back) ++ rest)) ≡ run_out (on_text s (front ++ rest))
+to_the_exit : (x : Mark) (left : ℕ) (prefix : List Piece) (last : Piece) (back rest : List Piece) (s : State) → IsOwn x left → come_out s.macros prefix → Is is_exitm last → ComesNone x rest →
+    run_out (on_text s (map (marked x) (prefix ++ last ∷ back) ++ rest)) ≡ run_out (on_text s (prefix ++ rest))
 to_the_exit x left [] last back rest s own out exit none =
     after_quiet (on_text s (marked x last ∷ (map (marked x) back ++ rest))) (on_text s rest) (exit_word s x last last.tokens (map (marked x) back ++ rest) refl exit (own.plain last.from) ∙ ap (λ ps. Quiet (on_text s ps)) (leaves x left back rest own none))
-to_the_exit x left (p ∷ front) last back rest s own out exit none =
-    let both : (are_plain s.macros p.tokens ≡ true) × come_out s.macros front = and_parts _ _ out in
+to_the_exit x left (p ∷ prefix) last back rest s own out exit none =
+    let both : (are_plain s.macros p.tokens ≡ true) × come_out s.macros prefix = and_parts _ _ out in
     let first : (next : State) × ((next.macros ≡ s.macros) × ((more : List Piece) (from : List Mark) → step (on_text s (record p { from = from } ∷ more)) ≡ counted p.number (on_text next more))) = plain_first s p p.tokens refl both.0 in
-    counted_same (on_text s (marked x p ∷ (map (marked x) (front ++ last ∷ back) ++ rest))) (on_text s (p ∷ (front ++ rest))) first.0 p.number (map (marked x) (front ++ last ∷ back) ++ rest) (front ++ rest)
-    (first.1.1 (map (marked x) (front ++ last ∷ back) ++ rest) (x ∷ p.from)) (first.1.1 (front ++ rest) p.from)
-    (to_the_exit x left front last back rest (record first.0 { left = first.0.left - 1 }) own (rw first.1.0 both.1) exit none)
+    counted_same (on_text s (marked x p ∷ (map (marked x) (prefix ++ last ∷ back) ++ rest))) (on_text s (p ∷ (prefix ++ rest))) first.0 p.number (map (marked x) (prefix ++ last ∷ back) ++ rest) (prefix ++ rest)
+    (first.1.1 (map (marked x) (prefix ++ last ∷ back) ++ rest) (x ∷ p.from)) (first.1.1 (prefix ++ rest) p.from)
+    (to_the_exit x left prefix last back rest (record first.0 { left = first.0.left - 1 }) own (rw first.1.0 both.1) exit none)
 
 some_left : (n : ℕ) → 0 < n → (n == 0) ≡ false
 some_left n h = grind arith
 
 pub exitm_in_a_call : ExitmInACall
-exitm_in_a_call s number from tokens rest m front last back is names old filled out exit =
-    call_copy s number from tokens rest m (front ++ last ∷ back) (front ++ rest) is names filled
-    (λ some. inl (sym (to_the_exit (Call s.left) s.left front last back rest (called_on s rest m) (own_call s.left (some_left s.left some)) out exit
+exitm_in_a_call s number from tokens rest m prefix last back is names old filled out exit =
+    call_copy s number from tokens rest m (prefix ++ last ∷ back) (prefix ++ rest) is names filled
+    (λ some. inl (sym (to_the_exit (Call s.left) s.left prefix last back rest (called_on s rest m) (own_call s.left (some_left s.left some)) out exit
     (old_none (Call s.left) s.left rest (own_call s.left (some_left s.left some)) (and_parts _ _ old).1))))
 
 -- the later turns have the same mark
@@ -169,29 +169,29 @@ unfolding repeated
 later_turns x zero head ps = refl
 later_turns x (suc k) head ps = ap (λ qs. marked x head ∷ qs) (ap (λ qs. map (marked x) ps ++ qs) (later_turns x k head ps) ∙ sym (map-append (marked x) ps (repeated k (head ∷ ps))))
 
-rept_exit : (s : State) (b : Block) (n : ℕ) (front : List Piece) (last : Piece) (back : List Piece) → IsBlock s words.Rept b → HasOldMarks (at_text s (text_of b)) → operand (drop 1 b.tokens) s.values ≡ Ok n → 0 < n →
-    IsJoined b.body (front ++ last ∷ back) → come_out s.macros front → Is is_exitm last → run_out (at_text s (text_of b)) ≡ run_out (on_text s (one_counted b.number b.from ∷ (front ++ b.rest)))
-rept_exit s b zero front last back is old value some joined out exit = absurd (omega arith)
-rept_exit s b (suc k) front last back is old value some joined out exit =
-    one_answer s.left (at_text s (text_of b)) (on_text s (one_counted b.number b.from ∷ (front ++ b.rest)))
-    (counted_both (Turns s.left) (at_text s (text_of b)) (on_text s (one_counted b.number b.from ∷ (front ++ b.rest))) (on_text s (turns ++ b.rest)) b.number (front ++ b.rest)
-    (rept_some s b k (front ++ last ∷ back) is value joined ∙ ap (λ ps. counted b.number (on_text s ps)) all_turns) refl
-    (λ more. inl (sym (to_the_exit (Turns s.left) s.left front last (back ++ later) b.rest (record s { left = s.left - 1 }) (own_turns s.left (some_left s.left more)) out exit
+rept_exit : (s : State) (b : Block) (n : ℕ) (prefix : List Piece) (last : Piece) (back : List Piece) → IsBlock s words.Rept b → HasOldMarks (at_text s (text_of b)) → operand (drop 1 b.tokens) s.values ≡ Ok n → 0 < n →
+    IsJoined b.body (prefix ++ last ∷ back) → come_out s.macros prefix → Is is_exitm last → run_out (at_text s (text_of b)) ≡ run_out (on_text s (one_counted b.number b.from ∷ (prefix ++ b.rest)))
+rept_exit s b zero prefix last back is old value some joined out exit = absurd (omega arith)
+rept_exit s b (suc k) prefix last back is old value some joined out exit =
+    one_answer s.left (at_text s (text_of b)) (on_text s (one_counted b.number b.from ∷ (prefix ++ b.rest)))
+    (counted_both (Turns s.left) (at_text s (text_of b)) (on_text s (one_counted b.number b.from ∷ (prefix ++ b.rest))) (on_text s (turns ++ b.rest)) b.number (prefix ++ b.rest)
+    (rept_some s b k (prefix ++ last ∷ back) is value joined ∙ ap (λ ps. counted b.number (on_text s ps)) all_turns) refl
+    (λ more. inl (sym (to_the_exit (Turns s.left) s.left prefix last (back ++ later) b.rest (record s { left = s.left - 1 }) (own_turns s.left (some_left s.left more)) out exit
     (old_none (Turns s.left) s.left b.rest (own_turns s.left (some_left s.left more)) (rest_old s b old))))))
   where
     x : Mark
     x = Turns s.left
 
     later : List Piece
-    later = repeated k (one_counted b.number b.from ∷ (front ++ last ∷ back))
+    later = repeated k (one_counted b.number b.from ∷ (prefix ++ last ∷ back))
 
     turns : List Piece
-    turns = map (marked x) (front ++ last ∷ (back ++ later))
+    turns = map (marked x) (prefix ++ last ∷ (back ++ later))
 
-    all_turns : map (marked x) (front ++ last ∷ back) ++ (repeated k (turn_head s.left b.number b.from ∷ map (marked x) (front ++ last ∷ back)) ++ b.rest) ≡ turns ++ b.rest
-    all_turns = ap (λ qs. map (marked x) (front ++ last ∷ back) ++ (qs ++ b.rest)) (later_turns x k (one_counted b.number b.from) (front ++ last ∷ back))
-        ∙ sym (append_assoc (map (marked x) (front ++ last ∷ back)) (map (marked x) later) b.rest)
-        ∙ ap (λ qs. qs ++ b.rest) (sym (map-append (marked x) (front ++ last ∷ back) later) ∙ ap (map (marked x)) (append_assoc front (last ∷ back) later))
+    all_turns : map (marked x) (prefix ++ last ∷ back) ++ (repeated k (turn_head s.left b.number b.from ∷ map (marked x) (prefix ++ last ∷ back)) ++ b.rest) ≡ turns ++ b.rest
+    all_turns = ap (λ qs. map (marked x) (prefix ++ last ∷ back) ++ (qs ++ b.rest)) (later_turns x k (one_counted b.number b.from) (prefix ++ last ∷ back))
+        ∙ sym (append_assoc (map (marked x) (prefix ++ last ∷ back)) (map (marked x) later) b.rest)
+        ∙ ap (λ qs. qs ++ b.rest) (sym (map-append (marked x) (prefix ++ last ∷ back) later) ∙ ap (map (marked x)) (append_assoc prefix (last ∷ back) later))
 
 pub exitm_in_a_rept : ExitmInARept
 exitm_in_a_rept = rept_exit

@@ -15,7 +15,7 @@ use Rattle.kc_macro_body.specs.Calls.{called, is_defining}
 use Rattle.kc_macro_body.specs.Filling.{name_token, local_name, stands_for}
 use Rattle.kc_macro_input.specs.Filled.{Filled}
 use Rattle.kc_macro.specs.declared.state.State.{State}
-use Rattle.kc_macro.specs.Steps.{Next, Quiet, Counted, call_text, call_fault, call_next, call_step, other_step, front_step, step}
+use Rattle.kc_macro.specs.Steps.{Next, Quiet, Counted, call_text, call_fault, call_next, call_step, other_step, prefix_step, step}
 use Rattle.kc_macro_laws.specs.Course.{on_text, Goes}
 use Rattle.kc_macro_laws.specs.Names.{Calls, IsLocal, CallsHaveTheirOwnNames, LocalsHaveTheirOwnNames}
 use Rattle.kc_macro_laws.proofs.Constructs.{word_first}
@@ -91,7 +91,7 @@ not_quiet s number locals None (Ok ps) t e = cc
 
 call_is : (s t : State) (tokens : List Token) (m : Macro) → (c : Calls s tokens m t) → step s ≡ call_step (on_text s c.rest) c.number c.from m (arguments (drop 1 tokens))
 call_is s t tokens m c =
-    ap (front_step s) c.next ∙ word_first s c.number c.from tokens c.rest words.Other c.call.first ∙ ap (other_step (on_text s c.rest) c.number c.from tokens) c.call.named
+    ap (prefix_step s) c.next ∙ word_first s c.number c.from tokens c.rest words.Other c.call.first ∙ ap (other_step (on_text s c.rest) c.number c.from tokens) c.call.named
 
 call_gives : (s t : State) (tokens : List Token) (m : Macro) → Calls s tokens m t → t.given ≡ s.given + m.formals.locals.count
 call_gives s t tokens m c = kinds c.goes

@@ -34,7 +34,7 @@ use Rattle.kc_macro_input.specs.Cuts.{ends, depth_after, Cut, cut_at, after_piec
 use Rattle.kc_macro_input.specs.Filled.{Filled, fill_body, fill_turns}
 use Rattle.kc_macro.specs.declared.state.State.{State}
 use Rattle.kc_macro.specs.Operands.{operand, noted}
-use Rattle.kc_macro.specs.Steps.{Next, Fault, Ended, Quiet, Counted, counted, if_next, turn_lines, turn_head, same_turns, turns_of, rept_next, begun, irp_next, exitm_step, macro_next, call_text, names_run_out, call_next, call_step, call_fault, emitted, plain_step, ended, end_step, label_step, other_step, word_step, is_end, is_replaced, labelled_step, line_step, piece_step, front_step, least, code_if, text_code, step}
+use Rattle.kc_macro.specs.Steps.{Next, Fault, Ended, Quiet, Counted, counted, if_next, turn_lines, turn_head, same_turns, turns_of, rept_next, begun, irp_next, exitm_step, macro_next, call_text, names_run_out, call_next, call_step, call_fault, emitted, plain_step, ended, end_step, label_step, other_step, word_step, is_end, is_replaced, labelled_step, line_step, piece_step, prefix_step, least, code_if, text_code, step}
 use Rattle.kc_macro.specs.Expansion.{start}
 use Rattle.kc_macro_laws.specs.Course.{Goes, GoesBy, Leads, IsReached, is_older}
 use Rattle.kc_macro_laws.proofs.Constructs.{all_append}
@@ -135,7 +135,7 @@ NextGood given (Counted t) = IsGood t × (given ≤ t.given)
 
 abbrev pub CutIs : List Piece → Option Cut → Type 0
 CutIs ps None = Unit {0}
-CutIs ps (Some cut) = ps ≡ cut.front ++ (cut.ender ∷ cut.rest)
+CutIs ps (Some cut) = ps ≡ cut.prefix ++ (cut.ender ∷ cut.rest)
 
 after_is : (p : Piece) (ps : List Piece) (o : Option Cut) → CutIs ps o → CutIs (p ∷ ps) (after_piece p o)
 after_is p ps None h = tt
@@ -146,58 +146,58 @@ unfolding cut_at
 cut_is e d [] = tt
 cut_is e d (p ∷ ps) =
     let later : CutIs (p ∷ ps) (after_piece p (cut_at e (depth_after e (word_at p.tokens) d) ps)) = after_is p ps (cut_at e (depth_after e (word_at p.tokens) d) ps) (cut_is e (depth_after e (word_at p.tokens) d) ps) in
-    elim (ends e (word_at p.tokens) && (d == 0)) as (λ b. CutIs (p ∷ ps) (cond b (Some (record { front = []; ender = p; rest = ps })) (after_piece p (cut_at e (depth_after e (word_at p.tokens) d) ps)))) [
+    elim (ends e (word_at p.tokens) && (d == 0)) as (λ b. CutIs (p ∷ ps) (cond b (Some (record { prefix = []; ender = p; rest = ps })) (after_piece p (cut_at e (depth_after e (word_at p.tokens) d) ps)))) [
       | true ↦ refl
       | false ↦ later
     ]
 
 -- what stands in front and behind is a part of the text
-pub cut_sub : (ps : List Piece) (cut : Cut) → ps ≡ cut.front ++ (cut.ender ∷ cut.rest) → Sub (cut.front ++ cut.rest) ps
-cut_sub ps cut e = subst (λ qs. Sub (cut.front ++ cut.rest) qs) (sym e) (sub_append cut.front cut.front cut.rest (cut.ender ∷ cut.rest) (sub_same cut.front) (Drops cut.ender cut.rest cut.rest (sub_same cut.rest)))
+pub cut_sub : (ps : List Piece) (cut : Cut) → ps ≡ cut.prefix ++ (cut.ender ∷ cut.rest) → Sub (cut.prefix ++ cut.rest) ps
+cut_sub ps cut e = subst (λ qs. Sub (cut.prefix ++ cut.rest) qs) (sym e) (sub_append cut.prefix cut.prefix cut.rest (cut.ender ∷ cut.rest) (sub_same cut.prefix) (Drops cut.ender cut.rest cut.rest (sub_same cut.rest)))
 
-pub rest_sub : (ps : List Piece) (cut : Cut) → ps ≡ cut.front ++ (cut.ender ∷ cut.rest) → Sub cut.rest ps
-rest_sub ps cut e = subst (λ qs. Sub cut.rest qs) (sym e) (sub_append [] cut.front cut.rest (cut.ender ∷ cut.rest) (sub_none cut.front) (Drops cut.ender cut.rest cut.rest (sub_same cut.rest)))
+pub rest_sub : (ps : List Piece) (cut : Cut) → ps ≡ cut.prefix ++ (cut.ender ∷ cut.rest) → Sub cut.rest ps
+rest_sub ps cut e = subst (λ qs. Sub cut.rest qs) (sym e) (sub_append [] cut.prefix cut.rest (cut.ender ∷ cut.rest) (sub_none cut.prefix) (Drops cut.ender cut.rest cut.rest (sub_same cut.rest)))
 
-pub front_sub : (ps : List Piece) (cut : Cut) → ps ≡ cut.front ++ (cut.ender ∷ cut.rest) → Sub cut.front ps
-front_sub ps cut e = subst (λ qs. Sub cut.front qs) (sym e) (subst (λ qs. Sub qs (cut.front ++ (cut.ender ∷ cut.rest))) (append-nil cut.front) (sub_append cut.front cut.front [] (cut.ender ∷ cut.rest) (sub_same cut.front) (sub_none (cut.ender ∷ cut.rest))))
+pub prefix_sub : (ps : List Piece) (cut : Cut) → ps ≡ cut.prefix ++ (cut.ender ∷ cut.rest) → Sub cut.prefix ps
+prefix_sub ps cut e = subst (λ qs. Sub cut.prefix qs) (sym e) (subst (λ qs. Sub qs (cut.prefix ++ (cut.ender ∷ cut.rest))) (append-nil cut.prefix) (sub_append cut.prefix cut.prefix [] (cut.ender ∷ cut.rest) (sub_same cut.prefix) (sub_none (cut.ender ∷ cut.rest))))
 
 abbrev pub KeptSub : List Piece → Option (List Piece × List Piece) → Type 0
 KeptSub ps None = Unit {0}
 KeptSub ps (Some p) = Sub (p.0 ++ p.1) ps
 
 -- a text behind the end of the first part
-behind : (ps front qs : List Piece) (ender : Piece) (rest : List Piece) → ps ≡ front ++ (ender ∷ rest) → Sub qs rest → Sub (front ++ qs) ps
-behind ps front qs ender rest e h = subst (λ rs. Sub (front ++ qs) rs) (sym e) (sub_append front front qs (ender ∷ rest) (sub_same front) (Drops ender qs rest h))
+behind : (ps prefix qs : List Piece) (ender : Piece) (rest : List Piece) → ps ≡ prefix ++ (ender ∷ rest) → Sub qs rest → Sub (prefix ++ qs) ps
+behind ps prefix qs ender rest e h = subst (λ rs. Sub (prefix ++ qs) rs) (sym e) (sub_append prefix prefix qs (ender ∷ rest) (sub_same prefix) (Drops ender qs rest h))
 
-third_sub : (ps : List Piece) (front : List Piece) (ender last : Piece) (rest : List Piece) (o : Option Cut) → CutIs rest o → ((qs : List Piece) → Sub qs (last ∷ rest) → Sub (front ++ qs) ps) → KeptSub ps (kept_before (front ++ last ∷ []) o)
-third_sub ps front ender last rest None h put = tt
-third_sub ps front ender last rest (Some cut) h put =
-    subst (λ qs. Sub qs ps) (sym (append_assoc front (last ∷ []) cut.rest)) (put (last ∷ cut.rest) (Keeps last cut.rest rest (rest_sub rest cut h)))
+third_sub : (ps : List Piece) (prefix : List Piece) (ender last : Piece) (rest : List Piece) (o : Option Cut) → CutIs rest o → ((qs : List Piece) → Sub qs (last ∷ rest) → Sub (prefix ++ qs) ps) → KeptSub ps (kept_before (prefix ++ last ∷ []) o)
+third_sub ps prefix ender last rest None h put = tt
+third_sub ps prefix ender last rest (Some cut) h put =
+    subst (λ qs. Sub qs ps) (sym (append_assoc prefix (last ∷ []) cut.rest)) (put (last ∷ cut.rest) (Keeps last cut.rest rest (rest_sub rest cut h)))
 
-second_sub : (ps front : List Piece) (ender : Piece) (rest : List Piece) (o : Option Cut) → ps ≡ front ++ (ender ∷ rest) → CutIs rest o → KeptSub ps (second_part front o)
-second_sub ps front ender rest None e h = tt
-second_sub ps front ender rest (Some cut) e h =
-    elim (is_endif (word_at cut.ender.tokens)) as (λ b. KeptSub ps (cond b (Some (front, cut.rest)) (kept_before (front ++ cut.ender ∷ []) (cut_at Condition 0 cut.rest)))) [
-      | true ↦ behind ps front cut.rest ender rest e (rest_sub rest cut h)
-      | false ↦ third_sub ps front ender cut.ender cut.rest (cut_at Condition 0 cut.rest) (cut_is Condition 0 cut.rest)
-          (λ qs k. behind ps front qs ender rest e (subst (λ rs. Sub qs rs) (sym h) (sub_append [] cut.front qs (cut.ender ∷ cut.rest) (sub_none cut.front) k)))
+second_sub : (ps prefix : List Piece) (ender : Piece) (rest : List Piece) (o : Option Cut) → ps ≡ prefix ++ (ender ∷ rest) → CutIs rest o → KeptSub ps (second_part prefix o)
+second_sub ps prefix ender rest None e h = tt
+second_sub ps prefix ender rest (Some cut) e h =
+    elim (is_endif (word_at cut.ender.tokens)) as (λ b. KeptSub ps (cond b (Some (prefix, cut.rest)) (kept_before (prefix ++ cut.ender ∷ []) (cut_at Condition 0 cut.rest)))) [
+      | true ↦ behind ps prefix cut.rest ender rest e (rest_sub rest cut h)
+      | false ↦ third_sub ps prefix ender cut.ender cut.rest (cut_at Condition 0 cut.rest) (cut_is Condition 0 cut.rest)
+          (λ qs k. behind ps prefix qs ender rest e (subst (λ rs. Sub qs rs) (sym h) (sub_append [] cut.prefix qs (cut.ender ∷ cut.rest) (sub_none cut.prefix) k)))
     ]
 
 else_sub : (ps rest : List Piece) (o : Option Cut) → ((qs : List Piece) → Sub qs rest → Sub qs ps) → CutIs rest o → KeptSub ps (else_part o)
 else_sub ps rest None put h = tt
-else_sub ps rest (Some cut) put h = put (cut.front ++ cut.rest) (cut_sub rest cut h)
+else_sub ps rest (Some cut) put h = put (cut.prefix ++ cut.rest) (cut_sub rest cut h)
 
 of_sub : (holds : Bool) (ps : List Piece) (o : Option Cut) → CutIs ps o → KeptSub ps (kept_of holds o)
 of_sub holds ps None h = tt
 of_sub true ps (Some cut) h =
-    elim (is_endif (word_at cut.ender.tokens)) as (λ b. KeptSub ps (cond b (Some (cut.front, cut.rest)) (second_part cut.front (cut_at Part 0 cut.rest)))) [
+    elim (is_endif (word_at cut.ender.tokens)) as (λ b. KeptSub ps (cond b (Some (cut.prefix, cut.rest)) (second_part cut.prefix (cut_at Part 0 cut.rest)))) [
       | true ↦ cut_sub ps cut h
-      | false ↦ second_sub ps cut.front cut.ender cut.rest (cut_at Part 0 cut.rest) h (cut_is Part 0 cut.rest)
+      | false ↦ second_sub ps cut.prefix cut.ender cut.rest (cut_at Part 0 cut.rest) h (cut_is Part 0 cut.rest)
     ]
 of_sub false ps (Some cut) h =
     elim (is_endif (word_at cut.ender.tokens)) as (λ b. KeptSub ps (cond b (Some ([], cut.rest)) (else_part (cut_at Condition 0 cut.rest)))) [
       | true ↦ rest_sub ps cut h
-      | false ↦ else_sub ps cut.rest (cut_at Condition 0 cut.rest) (λ qs k. subst (λ rs. Sub qs rs) (sym h) (sub_append [] cut.front qs (cut.ender ∷ cut.rest) (sub_none cut.front) (Drops cut.ender qs cut.rest k))) (cut_is Condition 0 cut.rest)
+      | false ↦ else_sub ps cut.rest (cut_at Condition 0 cut.rest) (λ qs k. subst (λ rs. Sub qs rs) (sym h) (sub_append [] cut.prefix qs (cut.ender ∷ cut.rest) (sub_none cut.prefix) (Drops cut.ender qs cut.rest k))) (cut_is Condition 0 cut.rest)
     ]
 
 pub kept_sub : (holds : Bool) (ps : List Piece) → KeptSub ps (kept holds ps)
@@ -299,8 +299,8 @@ marked_new : (x : Mark) (left : ℕ) (ps : List Piece) → IsOld left ps → All
 marked_new x left [] h = tt
 marked_new x left (p ∷ ps) h = let both : (is_old left p ≡ true) × IsOld left ps = and_parts _ _ h in ((p.from, (refl, both.0)), marked_new x left ps both.1)
 
-lines_new : (left : ℕ) (front : List Piece) → IsOld left front → AllNew (Turns left) left (turn_lines left front)
-lines_new left front h = marked_new (Turns left) left (filter is_line front) (old_sub left (filter is_line front) front (sub_filter is_line front) h)
+lines_new : (left : ℕ) (prefix : List Piece) → IsOld left prefix → AllNew (Turns left) left (turn_lines left prefix)
+lines_new left prefix h = marked_new (Turns left) left (filter is_line prefix) (old_sub left (filter is_line prefix) prefix (sub_filter is_line prefix) h)
 
 call_lines_new : (x : Mark) (left number : ℕ) (from : List Mark) (ls : List (List Token)) → list_all (is_older left) from ≡ true → AllNew x left (map (body_line number (x ∷ from)) ls)
 call_lines_new x left number from [] h = tt
@@ -321,11 +321,11 @@ same_good s number n from (Ok ps) h old new =
     (λ some. subst (λ qs. IsGood (record s { ahead = qs; left = s.left - 1 })) (append_assoc ps (repeated (n - 1) (turn_head s.left number from ∷ ps)) s.ahead)
     (new_good (Turns s.left) s (ps ++ repeated (n - 1) (turn_head s.left number from ∷ ps)) (own_turns s.left some) (new_append (Turns s.left) s.left ps _ new later) h))
 
-turns_good : (s : State) (number n : ℕ) (from : List Mark) (front : List Piece) → IsGood s → list_all (is_older s.left) from ≡ true → IsOld s.left front → NextGood s.given (turns_of s number from n front)
-turns_good s number n from front h old k =
-    elim (n == 0) as (λ b. NextGood s.given (cond b (Quiet s) (same_turns s number from n (fill_body (only []) [] 0 (turn_lines s.left front))))) [
+turns_good : (s : State) (number n : ℕ) (from : List Mark) (prefix : List Piece) → IsGood s → list_all (is_older s.left) from ≡ true → IsOld s.left prefix → NextGood s.given (turns_of s number from n prefix)
+turns_good s number n from prefix h old k =
+    elim (n == 0) as (λ b. NextGood s.given (cond b (Quiet s) (same_turns s number from n (fill_body (only []) [] 0 (turn_lines s.left prefix))))) [
       | true ↦ (h, omega arith)
-      | false ↦ same_good s number n from (fill_body (only []) [] 0 (turn_lines s.left front)) h old (body_new (Turns s.left) s.left (only []) [] 0 (turn_lines s.left front) (lines_new s.left front k))
+      | false ↦ same_good s number n from (fill_body (only []) [] 0 (turn_lines s.left prefix)) h old (body_new (Turns s.left) s.left (only []) [] 0 (turn_lines s.left prefix) (lines_new s.left prefix k))
     ]
 
 -- a place with a part of the text
@@ -336,7 +336,7 @@ rept_good : (s : State) (number : ℕ) (from : List Mark) (value : Result ℕ �
 rept_good s number from value None h old k = tt
 rept_good s number from (Err code) (Some cut) h old k = tt
 rept_good s number from (Ok n) (Some cut) h old k =
-    turns_good (record s { ahead = cut.rest }) number n from cut.front (part_good s cut.rest (rest_sub s.ahead cut k) h) old (old_sub s.left cut.front s.ahead (front_sub s.ahead cut k) h.old)
+    turns_good (record s { ahead = cut.rest }) number n from cut.prefix (part_good s cut.rest (rest_sub s.ahead cut k) h) old (old_sub s.left cut.prefix s.ahead (prefix_sub s.ahead cut k) h.old)
 
 begun_good : (s : State) (number : ℕ) (text : Filled) → IsGood s → FilledNew (Turns s.left) s.left text → NextGood s.given (begun s number text)
 begun_good s number (Err f) h new = tt
@@ -347,8 +347,8 @@ irp_good : (s : State) (number : ℕ) (from : List Mark) (f : Option (List ℕ �
 irp_good s number from None o h old k = tt
 irp_good s number from (Some f) None h old k = tt
 irp_good s number from (Some f) (Some cut) h old k =
-    begun_good (record s { ahead = cut.rest }) number (fill_turns (only (f.0 ∷ [])) (turn_head s.left number from) (turn_lines s.left cut.front) f.1) (part_good s cut.rest (rest_sub s.ahead cut k) h)
-    (turns_new (Turns s.left) s.left (only (f.0 ∷ [])) (turn_head s.left number from) (turn_lines s.left cut.front) f.1 (from, (refl, old)) (lines_new s.left cut.front (old_sub s.left cut.front s.ahead (front_sub s.ahead cut k) h.old)))
+    begun_good (record s { ahead = cut.rest }) number (fill_turns (only (f.0 ∷ [])) (turn_head s.left number from) (turn_lines s.left cut.prefix) f.1) (part_good s cut.rest (rest_sub s.ahead cut k) h)
+    (turns_new (Turns s.left) s.left (only (f.0 ∷ [])) (turn_head s.left number from) (turn_lines s.left cut.prefix) f.1 (from, (refl, old)) (lines_new s.left cut.prefix (old_sub s.left cut.prefix s.ahead (prefix_sub s.ahead cut k) h.old)))
 
 exitm_good : (s : State) (number : ℕ) (o : Option Mark) → IsGood s → NextGood s.given (exitm_step s number o)
 exitm_good s number None h = tt
@@ -359,7 +359,7 @@ macro_good s number None o h k = tt
 macro_good s number (Some d) None h k = tt
 macro_good s number (Some d) (Some cut) h k =
     let rest : IsGood (record s { ahead = cut.rest }) = part_good s cut.rest (rest_sub s.ahead cut k) h in
-    (record { old = rest.old; tidy = rest.tidy; macros = insert_fine s.macros d.0 (macro_of d.1 (texts_of cut.front)) h.macros (macro_fine d.1 (texts_of cut.front)); few = h.few }, omega arith)
+    (record { old = rest.old; tidy = rest.tidy; macros = insert_fine s.macros d.0 (macro_of d.1 (texts_of cut.prefix)) h.macros (macro_fine d.1 (texts_of cut.prefix)); few = h.few }, omega arith)
 
 if_good : (s : State) (number : ℕ) (fault : Option ℕ) (o : Option (List Piece × List Piece)) → IsGood s → KeptSub s.ahead o → NextGood s.given (if_next s number fault o)
 if_good s number fault None h k = tt
@@ -466,14 +466,14 @@ piece_good : (s : State) (labelled : Bool) (number : ℕ) (from : List Mark) (o 
 piece_good s labelled number from None h old runs = counted_good number s.given s (omega arith) (λ _. less_good s h)
 piece_good s labelled number from (Some ts) h old runs = line_good s labelled number from ts h old runs
 
-front_good : (s : State) (ps : List Piece) → IsOld s.left ps → Tidy ps → AllFine s.macros → s.given < 10 ^ 29 → NextGood s.given (front_step s ps)
-front_good s [] old tidy fine few = tt
-front_good s (p ∷ ps) old tidy fine few =
+prefix_good : (s : State) (ps : List Piece) → IsOld s.left ps → Tidy ps → AllFine s.macros → s.given < 10 ^ 29 → NextGood s.given (prefix_step s ps)
+prefix_good s [] old tidy fine few = tt
+prefix_good s (p ∷ ps) old tidy fine few =
     let both : (is_old s.left p ≡ true) × IsOld s.left ps = and_parts _ _ old in
     piece_good (record s { ahead = ps; labelled = false }) s.labelled p.number p.from p.tokens (record { old = both.1; tidy = tidy.1; macros = fine; few = few }) both.0 tidy.0
 
 step_good : (s : State) → IsGood s → NextGood s.given (step s)
-step_good s h = front_good s s.ahead h.old h.tidy h.macros h.few
+step_good s h = prefix_good s s.ahead h.old h.tidy h.macros h.few
 
 -- ---- along the way
 

@@ -23,7 +23,7 @@ use Rattle.kc_macro_input.specs.Cuts.{Cut}
 use Rattle.kc_macro_input.specs.Filled.{Filled, fill_body, fill_turns}
 use Rattle.kc_macro.specs.declared.state.State.{State}
 use Rattle.kc_macro.specs.Operands.{operand, number_of, noted}
-use Rattle.kc_macro.specs.Steps.{Next, Fault, Ended, Quiet, Counted, counted, least, code_if, code_of, if_next, if_fault, turn_lines, turn_head, same_turns, turns_of, rept_next, begun, irp_next, exitm_step, macro_next, call_text, text_code, names_run_out, call_fault, call_next, call_step, emitted, plain_step, ended, end_step, label_step, other_step, word_step, is_end, is_replaced, labelled_step, line_step, piece_step, front_step, step}
+use Rattle.kc_macro.specs.Steps.{Next, Fault, Ended, Quiet, Counted, counted, least, code_if, code_of, if_next, if_fault, turn_lines, turn_head, same_turns, turns_of, rept_next, begun, irp_next, exitm_step, macro_next, call_text, text_code, names_run_out, call_fault, call_next, call_step, emitted, plain_step, ended, end_step, label_step, other_step, word_step, is_end, is_replaced, labelled_step, line_step, piece_step, prefix_step, step}
 use Rattle.kc_macro_laws.specs.Constructs.{is_exitm}
 use Rattle.kc_macro_laws.proofs.Marks.{Alike, FewerOf, alike_on, apart}
 use Rattle.kc_macro_laws.proofs.Pairs.{Pairs, Twin, Calm, Within, within_calm, SameTokens, pairs_append, pairs_repeated, pairs_map, pairs_lines, pairs_texts, pairs_left}
@@ -45,21 +45,21 @@ is_deep (Turns n) = false
 is_deep If = true
 
 -- the first line, whose label may have come out
-abbrev pub FrontPairs : Mark → Bool → List Piece → List Piece → Type 0
-FrontPairs x labelled [] [] = Unit {0}
-FrontPairs x labelled [] (q ∷ qs) = ⊥
-FrontPairs x labelled (p ∷ ps) [] = ⊥
-FrontPairs x labelled (p ∷ ps) (q ∷ qs) = Twin x p q × ((labelled ≡ false → innermost p.from ≡ Some x → is_exitm (word_at p.tokens) ≡ false) × Pairs (Calm x) ps qs)
+abbrev pub PrefixPairs : Mark → Bool → List Piece → List Piece → Type 0
+PrefixPairs x labelled [] [] = Unit {0}
+PrefixPairs x labelled [] (q ∷ qs) = ⊥
+PrefixPairs x labelled (p ∷ ps) [] = ⊥
+PrefixPairs x labelled (p ∷ ps) (q ∷ qs) = Twin x p q × ((labelled ≡ false → innermost p.from ≡ Some x → is_exitm (word_at p.tokens) ≡ false) × Pairs (Calm x) ps qs)
 
-pub front_of : (x : Mark) (labelled : Bool) (ps qs : List Piece) → Pairs (Calm x) ps qs → FrontPairs x labelled ps qs
-front_of x labelled [] [] h = tt
-front_of x labelled [] (q ∷ qs) h = absurd h
-front_of x labelled (p ∷ ps) [] h = absurd h
-front_of x labelled (p ∷ ps) (q ∷ qs) h = (h.0.twin, ((λ _. h.0.calm), h.1))
+pub prefix_of : (x : Mark) (labelled : Bool) (ps qs : List Piece) → Pairs (Calm x) ps qs → PrefixPairs x labelled ps qs
+prefix_of x labelled [] [] h = tt
+prefix_of x labelled [] (q ∷ qs) h = absurd h
+prefix_of x labelled (p ∷ ps) [] h = absurd h
+prefix_of x labelled (p ∷ ps) (q ∷ qs) h = (h.0.twin, ((λ _. h.0.calm), h.1))
 
 -- a place, and another text that is alike
 pub record Sim (x : Mark) (s : State) (qs : List Piece) : Type 0 where
-  pub pairs : FrontPairs x s.labelled s.ahead qs
+  pub pairs : PrefixPairs x s.labelled s.ahead qs
   pub above : IsAbove x s.left
 
 abbrev with_text : State → List Piece → State
@@ -75,7 +75,7 @@ calm_tokens : (x : Mark) → SameTokens (Calm x)
 calm_tokens x p q h = h.twin.tokens
 
 sim_of : (x : Mark) (s : State) (qs : List Piece) → Pairs (Calm x) s.ahead qs → IsAbove x s.left → Sim x s qs
-sim_of x s qs h above = record { pairs = front_of x s.labelled s.ahead qs h; above = above }
+sim_of x s qs h above = record { pairs = prefix_of x s.labelled s.ahead qs h; above = above }
 
 -- ---- one more line
 
@@ -141,12 +141,12 @@ same_pairs x s number n xs ys (Ok ps) (Ok rs) qs marks above h k =
     (sim_of x (with_text s (ps ++ (repeated (n - 1) (turn_head s.left number xs ∷ ps) ++ s.ahead))) _
     (pairs_append (Calm x) ps rs _ _ h (pairs_append (Calm x) _ _ s.ahead qs later k)) above)
 
-turns_of_pairs : (x : Mark) (s : State) (number n : ℕ) (xs ys : List Mark) (front other qs : List Piece) → Alike x xs ys → IsAbove x s.left → Pairs (Calm x) front other → Pairs (Calm x) s.ahead qs →
-    NextPairs x (turns_of s number xs n front) (turns_of (with_text s qs) number ys n other)
-turns_of_pairs x s number n xs ys front other qs marks above h k =
-    let text : FilledPairs (Calm x) (fill_body (only []) [] 0 (turn_lines s.left front)) (fill_body (only []) [] 0 (turn_lines s.left other)) =
-    body_pairs (Within x) (Calm x) (only []) [] 0 (turn_lines s.left front) (turn_lines s.left other) (within_fills x) (lines_pairs x s.left front other above h) in
-    elim (n == 0) as (λ b. NextPairs x (cond b (Quiet s) (same_turns s number xs n (fill_body (only []) [] 0 (turn_lines s.left front)))) (cond b (Quiet (with_text s qs)) (same_turns (with_text s qs) number ys n (fill_body (only []) [] 0 (turn_lines s.left other))))) [
+turns_of_pairs : (x : Mark) (s : State) (number n : ℕ) (xs ys : List Mark) (prefix other qs : List Piece) → Alike x xs ys → IsAbove x s.left → Pairs (Calm x) prefix other → Pairs (Calm x) s.ahead qs →
+    NextPairs x (turns_of s number xs n prefix) (turns_of (with_text s qs) number ys n other)
+turns_of_pairs x s number n xs ys prefix other qs marks above h k =
+    let text : FilledPairs (Calm x) (fill_body (only []) [] 0 (turn_lines s.left prefix)) (fill_body (only []) [] 0 (turn_lines s.left other)) =
+    body_pairs (Within x) (Calm x) (only []) [] 0 (turn_lines s.left prefix) (turn_lines s.left other) (within_fills x) (lines_pairs x s.left prefix other above h) in
+    elim (n == 0) as (λ b. NextPairs x (cond b (Quiet s) (same_turns s number xs n (fill_body (only []) [] 0 (turn_lines s.left prefix)))) (cond b (Quiet (with_text s qs)) (same_turns (with_text s qs) number ys n (fill_body (only []) [] 0 (turn_lines s.left other))))) [
       | true ↦ (qs, (refl, sim_of x s qs k above))
       | false ↦ same_pairs x s number n xs ys _ _ qs marks above text k
     ]
@@ -157,7 +157,7 @@ rept_pairs x s number xs ys value None None qs marks above h = inl refl
 rept_pairs x s number xs ys value None (Some b) qs marks above h = absurd h
 rept_pairs x s number xs ys value (Some a) None qs marks above h = absurd h
 rept_pairs x s number xs ys (Err code) (Some a) (Some b) qs marks above h = inl refl
-rept_pairs x s number xs ys (Ok n) (Some a) (Some b) qs marks above h = turns_of_pairs x (with_text s a.rest) number n xs ys a.front b.front b.rest marks above h.0 h.1.1
+rept_pairs x s number xs ys (Ok n) (Some a) (Some b) qs marks above h = turns_of_pairs x (with_text s a.rest) number n xs ys a.prefix b.prefix b.rest marks above h.0 h.1.1
 
 begun_pairs : (x : Mark) (s : State) (number : ℕ) (a b : Filled) (qs : List Piece) → IsAbove x s.left → FilledPairs (Calm x) a b → Pairs (Calm x) s.ahead qs → NextPairs x (begun s number a) (begun (with_text s qs) number b)
 begun_pairs x s number (Err f) (Err g) qs above h k = inl (rw h refl)
@@ -176,8 +176,8 @@ irp_pairs x s number xs ys (Some f) None None qs marks above h = inl refl
 irp_pairs x s number xs ys (Some f) None (Some b) qs marks above h = absurd h
 irp_pairs x s number xs ys (Some f) (Some a) None qs marks above h = absurd h
 irp_pairs x s number xs ys (Some f) (Some a) (Some b) qs marks above h =
-    begun_pairs x (with_text s a.rest) number (fill_turns (only (f.0 ∷ [])) (turn_head s.left number xs) (turn_lines s.left a.front) f.1) (fill_turns (only (f.0 ∷ [])) (turn_head s.left number ys) (turn_lines s.left b.front) f.1) b.rest above
-    (turns_pairs (Within x) (Calm x) (only (f.0 ∷ [])) (turn_head s.left number xs) (turn_head s.left number ys) (turn_lines s.left a.front) (turn_lines s.left b.front) f.1 (within_fills x) (head_calm x s.left number xs ys above marks) (lines_pairs x s.left a.front b.front above h.0))
+    begun_pairs x (with_text s a.rest) number (fill_turns (only (f.0 ∷ [])) (turn_head s.left number xs) (turn_lines s.left a.prefix) f.1) (fill_turns (only (f.0 ∷ [])) (turn_head s.left number ys) (turn_lines s.left b.prefix) f.1) b.rest above
+    (turns_pairs (Within x) (Calm x) (only (f.0 ∷ [])) (turn_head s.left number xs) (turn_head s.left number ys) (turn_lines s.left a.prefix) (turn_lines s.left b.prefix) f.1 (within_fills x) (head_calm x s.left number xs ys above marks) (lines_pairs x s.left a.prefix b.prefix above h.0))
     h.1.1
 
 -- ---- EXITM and definitions
@@ -202,8 +202,8 @@ macro_pairs x s number (Some d) None None qs above h = inl refl
 macro_pairs x s number (Some d) None (Some b) qs above h = absurd h
 macro_pairs x s number (Some d) (Some a) None qs above h = absurd h
 macro_pairs x s number (Some d) (Some a) (Some b) qs above h =
-    let texts : texts_of b.front ≡ texts_of a.front = pairs_texts (Calm x) a.front b.front (calm_tokens x) h.0 in
-    (b.rest, (rw texts refl, sim_of x (record s { ahead = a.rest; macros = fm.insert s.macros d.0 (macro_of d.1 (texts_of a.front)) }) b.rest h.1.1 above))
+    let texts : texts_of b.prefix ≡ texts_of a.prefix = pairs_texts (Calm x) a.prefix b.prefix (calm_tokens x) h.0 in
+    (b.rest, (rw texts refl, sim_of x (record s { ahead = a.rest; macros = fm.insert s.macros d.0 (macro_of d.1 (texts_of a.prefix)) }) b.rest h.1.1 above))
 
 -- ---- IF
 
@@ -428,12 +428,12 @@ piece_pairs : (x : Mark) (s : State) (labelled : Bool) (number : ℕ) (xs ys : L
 piece_pairs x s labelled number xs ys None qs marks calm above h = counted_pairs x number s qs (sim_of x s qs h above)
 piece_pairs x s labelled number xs ys (Some ts) qs marks calm above h = line_pairs x s labelled number xs ys ts qs marks calm above h
 
-front_pairs : (x : Mark) (s : State) (ps qs : List Piece) → FrontPairs x s.labelled ps qs → IsAbove x s.left → NextPairs x (front_step s ps) (front_step (with_text s qs) qs)
-front_pairs x s [] [] h above = inl refl
-front_pairs x s [] (q ∷ qs) h above = absurd h
-front_pairs x s (p ∷ ps) [] h above = absurd h
-front_pairs x s (p ∷ ps) (q ∷ qs) h above =
+prefix_pairs : (x : Mark) (s : State) (ps qs : List Piece) → PrefixPairs x s.labelled ps qs → IsAbove x s.left → NextPairs x (prefix_step s ps) (prefix_step (with_text s qs) qs)
+prefix_pairs x s [] [] h above = inl refl
+prefix_pairs x s [] (q ∷ qs) h above = absurd h
+prefix_pairs x s (p ∷ ps) [] h above = absurd h
+prefix_pairs x s (p ∷ ps) (q ∷ qs) h above =
     rw (h.0.number, h.0.tokens) (piece_pairs x (record s { ahead = ps; labelled = false }) s.labelled p.number p.from q.from p.tokens qs h.0.marks h.1.0 above h.1.1)
 
 pub step_pairs : (x : Mark) (s : State) (qs : List Piece) → Sim x s qs → NextPairs x (step s) (step (record s { ahead = qs }))
-step_pairs x s qs h = front_pairs x s s.ahead qs h.pairs h.above
+step_pairs x s qs h = prefix_pairs x s s.ahead qs h.pairs h.above

@@ -20,7 +20,7 @@ put_append : (ps qs : List Piece) (o : Option Cut) → put_before (ps ++ qs) o �
 put_append [] qs o = refl
 put_append (p ∷ ps) qs o = ap (after_piece p) (put_append ps qs o)
 
-put_some : (ps : List Piece) (last : Piece) (rest : List Piece) → put_before ps (Some (record { front = []; ender = last; rest = rest })) ≡ Some (record { front = ps; ender = last; rest = rest })
+put_some : (ps : List Piece) (last : Piece) (rest : List Piece) → put_before ps (Some (record { prefix = []; ender = last; rest = rest })) ≡ Some (record { prefix = ps; ender = last; rest = rest })
 put_some [] last rest = refl
 put_some (p ∷ ps) last rest = ap (after_piece p) (put_some ps last rest)
 
@@ -33,7 +33,7 @@ passes_on : (e : Extent) (d f : ℕ) (p : Piece) (ps : List Piece) → Passes e 
 unfolding cut_at
 passes_on e d f p ps h = rw (h.on, h.depth) refl
 
-stops : (e : Extent) (p : Piece) (ps : List Piece) → ends e (word_at p.tokens) ≡ true → cut_at e 0 (p ∷ ps) ≡ Some (record { front = []; ender = p; rest = ps })
+stops : (e : Extent) (p : Piece) (ps : List Piece) → ends e (word_at p.tokens) ≡ true → cut_at e 0 (p ∷ ps) ≡ Some (record { prefix = []; ender = p; rest = ps })
 unfolding cut_at
 stops e p ps h = rw h refl
 
@@ -94,7 +94,7 @@ body_passes d ps _ (BodyAndBody first last inner qs opened closed h k) =
     ∙ sym (put_append inner (last ∷ qs) (cut_at Body d ps)))
 
 -- a body is cut off at its ENDM
-pub body_is_cut : (body : List Piece) (last : Piece) (rest : List Piece) → IsWholeBody body → Is is_endm last → cut_at Body 0 (body ++ last ∷ rest) ≡ Some (record { front = body; ender = last; rest = rest })
+pub body_is_cut : (body : List Piece) (last : Piece) (rest : List Piece) → IsWholeBody body → Is is_endm last → cut_at Body 0 (body ++ last ∷ rest) ≡ Some (record { prefix = body; ender = last; rest = rest })
 body_is_cut body last rest h closed = body_passes 0 (last ∷ rest) body h ∙ ap (put_before body) (stops Body last rest closed) ∙ put_some body last rest
 
 -- ---- parts
@@ -186,13 +186,13 @@ part_passes e d ps _ of_if (IfElseAndPart first mid last inner other qs opened b
     ∙ sym (put_append other (last ∷ qs) (cut_at e d ps))))
     ∙ sym (put_append inner (mid ∷ (other ++ last ∷ qs)) (cut_at e d ps)))
 
-part_is_cut : (e : Extent) (part : List Piece) (last : Piece) (rest : List Piece) → IsOfIf e → IsWholePart part → ends e (word_at last.tokens) ≡ true → cut_at e 0 (part ++ last ∷ rest) ≡ Some (record { front = part; ender = last; rest = rest })
+part_is_cut : (e : Extent) (part : List Piece) (last : Piece) (rest : List Piece) → IsOfIf e → IsWholePart part → ends e (word_at last.tokens) ≡ true → cut_at e 0 (part ++ last ∷ rest) ≡ Some (record { prefix = part; ender = last; rest = rest })
 part_is_cut e part last rest of_if h closed = part_passes e 0 (last ∷ rest) part of_if h ∙ ap (put_before part) (stops e last rest closed) ∙ put_some part last rest
 
 pub kept_whole : (holds : Bool) (part : List Piece) (last : Piece) (rest : List Piece) → IsWholePart part → Is is_endif last → kept holds (part ++ last ∷ rest) ≡ Some (cond holds part [], rest)
 unfolding kept
 kept_whole holds part last rest h closed =
-    let cut : cut_at Part 0 (part ++ last ∷ rest) ≡ Some (record { front = part; ender = last; rest = rest }) = part_is_cut Part part last rest tt h (rw closed refl) in
+    let cut : cut_at Part 0 (part ++ last ∷ rest) ≡ Some (record { prefix = part; ender = last; rest = rest }) = part_is_cut Part part last rest tt h (rw closed refl) in
     ap (kept_of holds) cut ∙ rw closed refl
 
 pub kept_else : (holds : Bool) (part : List Piece) (mid : Piece) (other : List Piece) (last : Piece) (rest : List Piece) → IsWholePart part → Is is_else mid → IsWholePart other → Is is_endif last →
@@ -200,11 +200,11 @@ pub kept_else : (holds : Bool) (part : List Piece) (mid : Piece) (other : List P
 unfolding kept
 kept_else true part mid other last rest h between l closed =
     let no_end : (opens_if (word_at mid.tokens) ≡ false) × (is_endif (word_at mid.tokens) ≡ false) = else_is (word_at mid.tokens) between in
-    let first : cut_at Part 0 (part ++ mid ∷ (other ++ last ∷ rest)) ≡ Some (record { front = part; ender = mid; rest = other ++ last ∷ rest }) = part_is_cut Part part mid (other ++ last ∷ rest) tt h (rw (between, no_end.1) refl) in
-    let second : cut_at Part 0 (other ++ last ∷ rest) ≡ Some (record { front = other; ender = last; rest = rest }) = part_is_cut Part other last rest tt l (rw closed refl) in
+    let first : cut_at Part 0 (part ++ mid ∷ (other ++ last ∷ rest)) ≡ Some (record { prefix = part; ender = mid; rest = other ++ last ∷ rest }) = part_is_cut Part part mid (other ++ last ∷ rest) tt h (rw (between, no_end.1) refl) in
+    let second : cut_at Part 0 (other ++ last ∷ rest) ≡ Some (record { prefix = other; ender = last; rest = rest }) = part_is_cut Part other last rest tt l (rw closed refl) in
     ap (kept_of true) first ∙ rw no_end.1 (ap (second_part part) second ∙ rw closed refl)
 kept_else false part mid other last rest h between l closed =
     let no_end : (opens_if (word_at mid.tokens) ≡ false) × (is_endif (word_at mid.tokens) ≡ false) = else_is (word_at mid.tokens) between in
-    let first : cut_at Part 0 (part ++ mid ∷ (other ++ last ∷ rest)) ≡ Some (record { front = part; ender = mid; rest = other ++ last ∷ rest }) = part_is_cut Part part mid (other ++ last ∷ rest) tt h (rw (between, no_end.1) refl) in
-    let second : cut_at Condition 0 (other ++ last ∷ rest) ≡ Some (record { front = other; ender = last; rest = rest }) = part_is_cut Condition other last rest tt l closed in
+    let first : cut_at Part 0 (part ++ mid ∷ (other ++ last ∷ rest)) ≡ Some (record { prefix = part; ender = mid; rest = other ++ last ∷ rest }) = part_is_cut Part part mid (other ++ last ∷ rest) tt h (rw (between, no_end.1) refl) in
+    let second : cut_at Condition 0 (other ++ last ∷ rest) ≡ Some (record { prefix = other; ender = last; rest = rest }) = part_is_cut Condition other last rest tt l closed in
     ap (kept_of false) first ∙ rw no_end.1 (ap else_part second)

@@ -48,17 +48,17 @@ come_out macros ps = list_all (λ p. are_plain macros p.tokens) ps ≡ true
 
 -- a call whose LOCAL names do not run out comes to no more than what stands before its EXITM
 abbrev pub ExitmInACall : Type 0
-ExitmInACall = (s : State) (number : ℕ) (from : List Mark) (tokens : List Token) (rest : List Piece) (m : Macro) (front : List Piece) (last : Piece) (back : List Piece) →
+ExitmInACall = (s : State) (number : ℕ) (from : List Mark) (tokens : List Token) (rest : List Piece) (m : Macro) (prefix : List Piece) (last : Piece) (back : List Piece) →
     IsCall s tokens m → names_run_out s.given m.formals.locals.count ≡ false → HasOldMarks (at_text s (body_line number from tokens ∷ rest)) →
-    fill_body m.formals (arguments (drop 1 tokens)) s.given (map (body_line number from) m.body) ≡ Ok (front ++ last ∷ back) →
-    come_out s.macros front → Is is_exitm last →
+    fill_body m.formals (arguments (drop 1 tokens)) s.given (map (body_line number from) m.body) ≡ Ok (prefix ++ last ∷ back) →
+    come_out s.macros prefix → Is is_exitm last →
     (run_out (at_text s (body_line number from tokens ∷ rest))
-    ≡ run_out (record (on_text s (one_counted number from ∷ (front ++ rest))) { given = s.given + m.formals.locals.count }))
+    ≡ run_out (record (on_text s (one_counted number from ∷ (prefix ++ rest))) { given = s.given + m.formals.locals.count }))
     ⊎ IsTooDeep (run_out (at_text s (body_line number from tokens ∷ rest)))
 
 -- and a REPT to its first turn up to there: the later turns are left out, too
 abbrev pub ExitmInARept : Type 0
-ExitmInARept = (s : State) (b : Block) (n : ℕ) (front : List Piece) (last : Piece) (back : List Piece) → IsBlock s words.Rept b →
-    HasOldMarks (at_text s (text_of b)) → operand (drop 1 b.tokens) s.values ≡ Ok n → 0 < n → IsJoined b.body (front ++ last ∷ back) →
-    come_out s.macros front → Is is_exitm last →
-    run_out (at_text s (text_of b)) ≡ run_out (on_text s (one_counted b.number b.from ∷ (front ++ b.rest)))
+ExitmInARept = (s : State) (b : Block) (n : ℕ) (prefix : List Piece) (last : Piece) (back : List Piece) → IsBlock s words.Rept b →
+    HasOldMarks (at_text s (text_of b)) → operand (drop 1 b.tokens) s.values ≡ Ok n → 0 < n → IsJoined b.body (prefix ++ last ∷ back) →
+    come_out s.macros prefix → Is is_exitm last →
+    run_out (at_text s (text_of b)) ≡ run_out (on_text s (one_counted b.number b.from ∷ (prefix ++ b.rest)))

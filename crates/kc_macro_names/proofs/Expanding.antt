@@ -24,10 +24,10 @@ use Rattle.kc_macro_input.specs.Cuts.{Cut, cut_at}
 use Rattle.kc_macro_input.specs.Filled.{Filled, fill_body, fill_turns}
 use Rattle.kc_macro.specs.declared.state.State.{State}
 use Rattle.kc_macro.specs.Operands.{operand, noted}
-use Rattle.kc_macro.specs.Steps.{Next, Fault, Ended, Quiet, Counted, counted, if_next, turn_lines, turn_head, same_turns, turns_of, rept_next, begun, irp_next, exitm_step, macro_next, call_text, call_next, call_step, call_fault, emitted, plain_step, ended, end_step, label_step, other_step, word_step, is_end, is_replaced, labelled_step, line_step, piece_step, front_step, step}
+use Rattle.kc_macro.specs.Steps.{Next, Fault, Ended, Quiet, Counted, counted, if_next, turn_lines, turn_head, same_turns, turns_of, rept_next, begun, irp_next, exitm_step, macro_next, call_text, call_next, call_step, call_fault, emitted, plain_step, ended, end_step, label_step, other_step, word_step, is_end, is_replaced, labelled_step, line_step, piece_step, prefix_step, step}
 use Rattle.kc_macro.specs.Expansion.{start}
 use Rattle.kc_macro_laws.proofs.Texts.{Sub, NoneLeft, Keeps, Drops, sub_filter, sub_left}
-use Rattle.kc_macro_laws.proofs.Reached.{IsFine, AllFine, IsGood, goes_good, leads_good, reached_good, get_insert, some_is, CutIs, cut_is, rest_sub, front_sub, KeptSub, kept_sub}
+use Rattle.kc_macro_laws.proofs.Reached.{IsFine, AllFine, IsGood, goes_good, leads_good, reached_good, get_insert, some_is, CutIs, cut_is, rest_sub, prefix_sub, KeptSub, kept_sub}
 use Rattle.kc_macro_laws.specs.Course.{Goes, GoesBy}
 use Rattle.kc_macro_names.specs.Ends.{EndsAt}
 use Rattle.kc_macro_names.specs.Kept.{line_passes, NamesPass, ExpansionKeepsTests}
@@ -163,8 +163,8 @@ module _ (numbers : ℕ → Bool) (test : Token → Bool) (limit : ℕ) (made : 
       let parts : ArePassing p.0 × ArePassing p.1 = all_split (piece_passes numbers test) p.0 p.1 (sub_passing (p.0 ++ p.1) s.ahead k h.ahead) in
       ahead_fit s (map (marked If) p.0 ++ p.1) h (all_join (piece_passes numbers test) (map (marked If) p.0) p.1 (marked_passing If p.0 parts.0) parts.1)
 
-  lines_passing : (left : ℕ) (front : List Piece) → ArePassing front → ArePassing (turn_lines left front)
-  lines_passing left front h = marked_passing (Turns left) (filter is_line front) (sub_passing (filter is_line front) front (sub_filter is_line front) h)
+  lines_passing : (left : ℕ) (prefix : List Piece) → ArePassing prefix → ArePassing (turn_lines left prefix)
+  lines_passing left prefix h = marked_passing (Turns left) (filter is_line prefix) (sub_passing (filter is_line prefix) prefix (sub_filter is_line prefix) h)
 
   head_passing : (left number : ℕ) (from : List Mark) → numbers number ≡ true → piece_passes numbers test (turn_head left number from) ≡ true
   head_passing left number from n = and_from (numbers number) true n refl
@@ -178,19 +178,19 @@ module _ (numbers : ℕ → Bool) (test : Token → Bool) (limit : ℕ) (made : 
       counted_fit number (record s { ahead = ps ++ (repeated (n - 1) (turn_head s.left number from ∷ ps) ++ s.ahead) })
       (ahead_fit s (ps ++ (repeated (n - 1) (turn_head s.left number from ∷ ps) ++ s.ahead)) h (all_join (piece_passes numbers test) ps (repeated (n - 1) (turn_head s.left number from ∷ ps) ++ s.ahead) k rest))
 
-  turns_fit : (s : State) (number n : ℕ) (from : List Mark) (front : List Piece) → IsFit s → numbers number ≡ true → ArePassing front → NextFit (turns_of s number from n front)
-  turns_fit s number n from front h e k =
-      elim (n == 0) as (λ b. NextFit (cond b (Quiet s) (same_turns s number from n (fill_body (only []) [] 0 (turn_lines s.left front))))) [
+  turns_fit : (s : State) (number n : ℕ) (from : List Mark) (prefix : List Piece) → IsFit s → numbers number ≡ true → ArePassing prefix → NextFit (turns_of s number from n prefix)
+  turns_fit s number n from prefix h e k =
+      elim (n == 0) as (λ b. NextFit (cond b (Quiet s) (same_turns s number from n (fill_body (only []) [] 0 (turn_lines s.left prefix))))) [
         | true ↦ h
-        | false ↦ same_fit s number n from (fill_body (only []) [] 0 (turn_lines s.left front)) h e (body_pass numbers test made.of_joins (only []) [] 0 (turn_lines s.left front) (only_pass test [] 0) refl (lines_passing s.left front k))
+        | false ↦ same_fit s number n from (fill_body (only []) [] 0 (turn_lines s.left prefix)) h e (body_pass numbers test made.of_joins (only []) [] 0 (turn_lines s.left prefix) (only_pass test [] 0) refl (lines_passing s.left prefix k))
       ]
 
   rept_fit : (s : State) (number : ℕ) (from : List Mark) (value : Result ℕ ℕ) (o : Option Cut) → IsFit s → numbers number ≡ true → CutIs s.ahead o → NextFit (rept_next s number from value o)
   rept_fit s number from value None h e k = tt
   rept_fit s number from (Err code) (Some cut) h e k = tt
   rept_fit s number from (Ok n) (Some cut) h e k =
-      turns_fit (record s { ahead = cut.rest }) number n from cut.front (ahead_fit s cut.rest h (sub_passing cut.rest s.ahead (rest_sub s.ahead cut k) h.ahead)) e
-      (sub_passing cut.front s.ahead (front_sub s.ahead cut k) h.ahead)
+      turns_fit (record s { ahead = cut.rest }) number n from cut.prefix (ahead_fit s cut.rest h (sub_passing cut.rest s.ahead (rest_sub s.ahead cut k) h.ahead)) e
+      (sub_passing cut.prefix s.ahead (prefix_sub s.ahead cut k) h.ahead)
 
   begun_fit : (s : State) (number : ℕ) (text : Filled) → IsFit s → FilledPasses numbers test text → NextFit (begun s number text)
   begun_fit s number (Err f) h k = tt
@@ -203,10 +203,10 @@ module _ (numbers : ℕ → Bool) (test : Token → Bool) (limit : ℕ) (made : 
   irp_fit s number from None o h e b k = tt
   irp_fit s number from (Some f) None h e b k = tt
   irp_fit s number from (Some f) (Some cut) h e b k =
-      begun_fit (record s { ahead = cut.rest }) number (fill_turns (only (f.0 ∷ [])) (turn_head s.left number from) (turn_lines s.left cut.front) f.1)
+      begun_fit (record s { ahead = cut.rest }) number (fill_turns (only (f.0 ∷ [])) (turn_head s.left number from) (turn_lines s.left cut.prefix) f.1)
       (ahead_fit s cut.rest h (sub_passing cut.rest s.ahead (rest_sub s.ahead cut k) h.ahead))
-      (turns_pass numbers test made.of_joins (f.0 ∷ []) (turn_head s.left number from) (turn_lines s.left cut.front) f.1 (head_passing s.left number from e) b
-      (lines_passing s.left cut.front (sub_passing cut.front s.ahead (front_sub s.ahead cut k) h.ahead)))
+      (turns_pass numbers test made.of_joins (f.0 ∷ []) (turn_head s.left number from) (turn_lines s.left cut.prefix) f.1 (head_passing s.left number from e) b
+      (lines_passing s.left cut.prefix (sub_passing cut.prefix s.ahead (prefix_sub s.ahead cut k) h.ahead)))
 
   exitm_fit : (s : State) (number : ℕ) (o : Option Mark) → IsFit s → NextFit (exitm_step s number o)
   exitm_fit s number None h = tt
@@ -218,7 +218,7 @@ module _ (numbers : ℕ → Bool) (test : Token → Bool) (limit : ℕ) (made : 
   macro_fit s number (Some d) (Some cut) h k = record {
     done = h.done;
     ahead = sub_passing cut.rest s.ahead (rest_sub s.ahead cut k) h.ahead;
-    macros = insert_pass test s.macros d.0 (macro_of d.1 (texts_of cut.front)) h.macros (macro_pass test d.1 (texts_of cut.front) (texts_pass cut.front (sub_passing cut.front s.ahead (front_sub s.ahead cut k) h.ahead)));
+    macros = insert_pass test s.macros d.0 (macro_of d.1 (texts_of cut.prefix)) h.macros (macro_pass test d.1 (texts_of cut.prefix) (texts_pass cut.prefix (sub_passing cut.prefix s.ahead (prefix_sub s.ahead cut k) h.ahead)));
   }
 
   -- what a call puts in passes where so many names may be given
@@ -309,15 +309,15 @@ module _ (numbers : ℕ → Bool) (test : Token → Bool) (limit : ℕ) (made : 
   piece_fit s labelled number from None h fine e b = bound (counted number s) (counted_fit number s h)
   piece_fit s labelled number from (Some ts) h fine e b = line_fit s labelled number from ts h fine e b
 
-  front_fit : (s : State) (ps : List Piece) → IsFit s → AllFine s.macros → ArePassing ps → NextBound (front_step s ps)
-  front_fit s [] h fine k = tt
-  front_fit s (p ∷ ps) h fine k =
+  prefix_fit : (s : State) (ps : List Piece) → IsFit s → AllFine s.macros → ArePassing ps → NextBound (prefix_step s ps)
+  prefix_fit s [] h fine k = tt
+  prefix_fit s (p ∷ ps) h fine k =
       let both : (piece_passes numbers test p ≡ true) × ArePassing ps = and_parts (piece_passes numbers test p) (list_all (piece_passes numbers test) ps) k in
       let parts : (numbers p.number ≡ true) × (text_passes test p.tokens ≡ true) = and_parts (numbers p.number) (text_passes test p.tokens) both.0 in
       piece_fit (record s { ahead = ps; labelled = false }) s.labelled p.number p.from p.tokens (record { done = h.done; ahead = both.1; macros = h.macros }) fine parts.0 parts.1
 
   step_fit : (s : State) → IsFit s → AllFine s.macros → NextBound (step s)
-  step_fit s h fine = front_fit s s.ahead h fine h.ahead
+  step_fit s h fine = prefix_fit s s.ahead h fine h.ahead
 
   -- ---- to the end
 

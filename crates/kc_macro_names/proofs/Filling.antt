@@ -13,7 +13,7 @@ use Rattle.kc_lex.specs.Lists.{in_first}
 use Rattle.kc_macro_body.specs.declared.macros.Formals.{Formals}
 use Rattle.kc_macro_body.specs.Arguments.{group_depth, split_at_commas, is_group, inside, ungrouped, arguments, over_arguments}
 use Rattle.kc_macro_body.specs.Bodies.{only}
-use Rattle.kc_macro_body.specs.Filling.{name_token, local_name, local_or, argument_or, stands_for, replaced, is_join, one_name, before, joined_on, joined_with, joined, is_long, judged, filled}
+use Rattle.kc_macro_body.specs.Filling.{name_token, local_name, local_or, argument_or, stands_for, replaced, is_join, one_name, before, joined_on, joined_with, joined, is_long, checked, filled}
 use Rattle.kc_macro_input.specs.declared.piece.Piece.{Piece}
 use Rattle.kc_macro_input.specs.Filled.{Filled, together, all_together, single, with_tokens, fill_text, fill_piece, fill_body, fill_turn, fill_turns}
 use Rattle.kc_macro_names.proofs.Tests.{all_join, all_drop, all_take, all_map, all_or, Holds, either, HoldsOk, one_ok}
@@ -140,13 +140,13 @@ module _ (test : Token → Bool) (joins : JoinsPass test) where
       let both : (test t ≡ true) × (all_pass test ts ≡ true) = and_parts (test t) (all_pass test ts) h in
       either (all_pass test) (is_join t) None (joined_on t ts) tt (joined_on_pass t ts both.0 both.1)
 
-  judged_pass : (long : Bool) (o : Option (List Token)) → Holds (all_pass test) o → HoldsOk (all_pass test) (judged long o)
-  judged_pass long None h = tt
-  judged_pass long (Some ts) h = one_ok (all_pass test) long (Err 3) (Ok ts) tt h
+  checked_pass : (long : Bool) (o : Option (List Token)) → Holds (all_pass test) o → HoldsOk (all_pass test) (checked long o)
+  checked_pass long None h = tt
+  checked_pass long (Some ts) h = one_ok (all_pass test) long (Err 3) (Ok ts) tt h
 
   filled_pass : (f : Formals) (args : List (List Token)) (given : ℕ) (ts : List Token) → LocalsPass test f given → list_all (all_pass test) args ≡ true → all_pass test ts ≡ true → HoldsOk (all_pass test) (filled f args given ts)
   unfolding filled
-  filled_pass f args given ts l k h = judged_pass (is_long (replaced f args given ts)) (joined (replaced f args given ts)) (joined_pass (replaced f args given ts) (replaced_pass test f args given ts l k h))
+  filled_pass f args given ts l k h = checked_pass (is_long (replaced f args given ts)) (joined (replaced f args given ts)) (joined_pass (replaced f args given ts) (replaced_pass test f args given ts l k h))
 
 -- ---- bodies
 

@@ -17,7 +17,7 @@ use Rattle.kc_base.specs.TextLines.{text_lines}
 use Rattle.kc_lex.specs.Lines.{word_token, tokens_of, is_long_name, any_word, lines_from}
 use Rattle.kc_obj_module.specs.Names.{is_name, is_name_char, is_digit}
 use Rattle.kc_obj_module.specs.Names as obj
-use Rattle.kc_macro_body.specs.Filling.{local_front, local_name}
+use Rattle.kc_macro_body.specs.Filling.{local_prefix, local_name}
 use Rattle.kc_macro_names.specs.Kept.{NamesPass}
 use Rattle.kc_macro_names.specs.Names.{is_named, has_names, LinesHaveNames, ExpansionMakesNames}
 use Rattle.kc_macro_names.proofs.Reading.{LexemesAreProper, lexeme_rest, lines_pass}
@@ -64,8 +64,8 @@ decimal_chars : (n : ℕ) → list_all is_name_char (decimal n) ≡ true
 unfolding digits
 decimal_chars n = onto_chars 64 n [] refl
 
-front_chars : (n : ℕ) → list_all is_name_char (local_front n) ≡ true
-front_chars n = by (nat_lt n 10) (nat_lt n 100) (nat_lt n 1000)
+prefix_chars : (n : ℕ) → list_all is_name_char (local_prefix n) ≡ true
+prefix_chars n = by (nat_lt n 10) (nat_lt n 100) (nat_lt n 1000)
   where
     by : (a b c : Bool) → list_all is_name_char (cond a (codes "??000") (cond b (codes "??00") (cond c (codes "??0") (codes "??")))) ≡ true
     by true b c = refl
@@ -74,11 +74,11 @@ front_chars n = by (nat_lt n 10) (nat_lt n 100) (nat_lt n 1000)
     by false false false = refl
 
 pub local_chars : (n : ℕ) → list_all is_name_char (local_name n) ≡ true
-local_chars n = all_join is_name_char (local_front n) (decimal n) (front_chars n) (decimal_chars n)
+local_chars n = all_join is_name_char (local_prefix n) (decimal n) (prefix_chars n) (decimal_chars n)
 
 -- `??`, zeros, and a number of so many digits
-front_name : (zeros : List ℕ) (n digits_most : ℕ) → list_all is_name_char zeros ≡ true → length (decimal n) ≤ digits_most → length zeros + digits_most ≤ 29 → is_name ((63 ∷ 63 ∷ zeros) ++ decimal n) ≡ true
-front_name zeros n most h few fits =
+prefix_name : (zeros : List ℕ) (n digits_most : ℕ) → list_all is_name_char zeros ≡ true → length (decimal n) ≤ digits_most → length zeros + digits_most ≤ 29 → is_name ((63 ∷ 63 ∷ zeros) ++ decimal n) ≡ true
+prefix_name zeros n most h few fits =
     let count : length (zeros ++ decimal n) ≡ length zeros + length (decimal n) = length-append zeros (decimal n) in
     let long : nat_le (suc (suc (length (zeros ++ decimal n)))) 31 ≡ true = short (length (zeros ++ decimal n)) (omega (arith, count, few, fits)) in
     and_from (nat_le (suc (suc (length (zeros ++ decimal n)))) 31) (list_all is_name_char (zeros ++ decimal n)) long (all_join is_name_char zeros (decimal n) h (decimal_chars n))
@@ -90,10 +90,10 @@ local_is_name : (n : ℕ) → n < 10 ^ 29 → is_name (local_name n) ≡ true
 local_is_name n few = by (nat_lt n 10) (nat_lt n 100) (nat_lt n 1000) refl refl refl
   where
     by : (a b c : Bool) → nat_lt n 10 ≡ a → nat_lt n 100 ≡ b → nat_lt n 1000 ≡ c → is_name (cond a (codes "??000") (cond b (codes "??00") (cond c (codes "??0") (codes "??"))) ++ decimal n) ≡ true
-    by true b c e f g = front_name (48 ∷ 48 ∷ 48 ∷ []) n 1 refl (length-decimal-le_wide 1 n (omega arith) (grind (arith, nat_tests)) (grind (arith, nat_tests))) (omega arith)
-    by false true c e f g = front_name (48 ∷ 48 ∷ []) n 2 refl (length-decimal-le_wide 2 n (omega arith) (grind (arith, nat_tests)) (grind (arith, nat_tests))) (omega arith)
-    by false false true e f g = front_name (48 ∷ []) n 3 refl (length-decimal-le_wide 3 n (omega arith) (grind (arith, nat_tests)) (grind (arith, nat_tests))) (omega arith)
-    by false false false e f g = front_name [] n 29 refl (length-decimal-le_wide 29 n (omega arith) few (omega arith)) (omega arith)
+    by true b c e f g = prefix_name (48 ∷ 48 ∷ 48 ∷ []) n 1 refl (length-decimal-le_wide 1 n (omega arith) (grind (arith, nat_tests)) (grind (arith, nat_tests))) (omega arith)
+    by false true c e f g = prefix_name (48 ∷ 48 ∷ []) n 2 refl (length-decimal-le_wide 2 n (omega arith) (grind (arith, nat_tests)) (grind (arith, nat_tests))) (omega arith)
+    by false false true e f g = prefix_name (48 ∷ []) n 3 refl (length-decimal-le_wide 3 n (omega arith) (grind (arith, nat_tests)) (grind (arith, nat_tests))) (omega arith)
+    by false false false e f g = prefix_name [] n 29 refl (length-decimal-le_wide 29 n (omega arith) few (omega arith)) (omega arith)
 
 pub names_pass : (given : ℕ) → given < 10 ^ 29 → NamesPass is_named given
 names_pass given few = record { of_joins = upper_name; of_locals = λ n less. local_is_name n (omega arith) }

@@ -15,7 +15,7 @@ use Rattle.kc_obj_module.specs.LineEntries.{line_is_sound, lines_in_order, lines
 use Rattle.kc_obj_module.specs.Spelling.{record_bytes}
 use Rattle.kc_obj_fields.specs.declared.faults.Fault.{Fault}
 use Rattle.kc_obj_fields.specs.Fields.{word_at, noted}
-use Rattle.kc_obj.specs.Reading.{Read, Answer, nothing_read, object_read, stage_of, may_come, fits_name, fits, after_head, after_record, stopped, told, ended, at_stage, behind_record, bodied, sized, typed, read_on, answer_of, first_fault}
+use Rattle.kc_obj.specs.Reading.{Read, Answer, nothing_read, object_read, stage_of, may_come, fits_name, fits, after_head, after_record, stopped, reported, ended, at_stage, behind_record, bodied, sized, typed, read_on, answer_of, first_fault}
 use Rattle.kc_base.specs.Bytes.{IsBytes}
 use Rattle.kc_obj_module.specs.Widths.{fixup_fits, lines_fit, numbers_fit}
 use Rattle.kc_obj_module.specs.Spelled.{IsSpelled}
@@ -37,9 +37,9 @@ not_second false x y m never h = absurd (never h)
 stop_is_no_module : (r : Read) (at code : ℕ) (m : Object) → stopped first_fault r at code ≡ Ok m → ⊥
 stop_is_no_module r at code m h = cc h
 
-told_ok : (f : Option Fault) (m x : Object) → told f m ≡ Ok x → (f ≡ None) × (m ≡ x)
-told_ok None m x h = (refl, cc h)
-told_ok (Some f) m x h = absurd (cc h)
+reported_ok : (f : Option Fault) (m x : Object) → reported f m ≡ Ok x → (f ≡ None) × (m ≡ x)
+reported_ok None m x h = (refl, cc h)
+reported_ok (Some f) m x h = absurd (cc h)
 
 record Whole (goes_on : ℕ → Read → Answer) (file : List ℕ) (at : ℕ) (rest : List ℕ) (r : Read) (m : Object) : Type 0 where
   pub comes : may_come r (slice_index rest 0) ≡ true
@@ -79,7 +79,7 @@ read_none (suc n) file at r m h =
     let now = after_record noted kind (at + 3) len file (take len (drop 2 (drop 1 rest))) entered in
     let clear : now.fault ≡ None =
     elim (kind == 0x7F) as (λ b. cond b (ended first_fault now (at + 3) behind) (read_on first_fault n file (at + 3 + len) now) ≡ Ok m → now.fault ≡ None) [
-      | true ↦ λ k. (told_ok now.fault (object_read now) m (not_second (behind == 0) (told now.fault (object_read now)) (stopped first_fault now (at + 3) 5) m (stop_is_no_module now (at + 3) 5 m) k).1).0
+      | true ↦ λ k. (reported_ok now.fault (object_read now) m (not_second (behind == 0) (reported now.fault (object_read now)) (stopped first_fault now (at + 3) 5) m (stop_is_no_module now (at + 3) 5 m) k).1).0
       | false ↦ λ k. read_none n file (at + 3 + len) now m k
     ] w.behind in
     (stage_none at kind r (record_none kind (at + 3) len file (take len (drop 2 (drop 1 rest))) entered clear)).0
@@ -107,17 +107,17 @@ module _ (file : List ℕ) (at : ℕ) (bytes : IsBytes file) (long : 2 ≤ lengt
   pub body_bytes : IsBytes (take len behind)
   body_bytes = bytes_take len behind (bytes_drop 2 (drop 1 rest) (bytes_drop 1 rest (bytes_drop at file bytes)))
 
-name_fits : (front back len : ℕ) (behind : List ℕ) → len ≤ length behind → fits_name front back len behind ≡ true → length (take len behind) ≡ front + slice_index (take len behind) front + 1 + back
-name_fits front back len behind le fit =
+name_fits : (prefix back len : ℕ) (behind : List ℕ) → len ≤ length behind → fits_name prefix back len behind ≡ true → length (take len behind) ≡ prefix + slice_index (take len behind) prefix + 1 + back
+name_fits prefix back len behind le fit =
     let size : length (take len behind) ≡ len = length-take-le len behind le in
-    elim (nat_lt front (length behind)) as (λ b. nat_lt front (length behind) ≡ b → cond b (len == front + slice_index behind front + 1 + back) (nat_le (front + 1 + back) len && nat_le len (front + 256 + back)) ≡ true → length (take len behind) ≡ front + slice_index (take len behind) front + 1 + back) [
+    elim (nat_lt prefix (length behind)) as (λ b. nat_lt prefix (length behind) ≡ b → cond b (len == prefix + slice_index behind prefix + 1 + back) (nat_le (prefix + 1 + back) len && nat_le len (prefix + 256 + back)) ≡ true → length (take len behind) ≡ prefix + slice_index (take len behind) prefix + 1 + back) [
       | true ↦ λ e k.
-          let exact : len ≡ front + slice_index behind front + 1 + back = eqb-true len (front + slice_index behind front + 1 + back) k in
-          let inside : front < len = omega arith in
-          size ∙ exact ∙ ap (λ n. front + n + 1 + back) (sym (get_or-take len behind front 0 inside))
+          let exact : len ≡ prefix + slice_index behind prefix + 1 + back = eqb-true len (prefix + slice_index behind prefix + 1 + back) k in
+          let inside : prefix < len = omega arith in
+          size ∙ exact ∙ ap (λ n. prefix + n + 1 + back) (sym (get_or-take len behind prefix 0 inside))
       | false ↦ λ e k.
-          let out : length behind ≤ front = ltb-false front (length behind) e in
-          let low : front + 1 + back ≤ len = leb-true (front + 1 + back) len (and_parts (nat_le (front + 1 + back) len) (nat_le len (front + 256 + back)) k).0 in
+          let out : length behind ≤ prefix = ltb-false prefix (length behind) e in
+          let low : prefix + 1 + back ≤ len = leb-true (prefix + 1 + back) len (and_parts (nat_le (prefix + 1 + back) len) (nat_le len (prefix + 256 + back)) k).0 in
           absurd (omega arith)
     ] refl fit
 
@@ -309,8 +309,8 @@ reads (suc n) file at r m bytes good h =
     } in
     elim (kind == 0x7F) as (λ b. (kind == 0x7F) ≡ b → cond b (ended first_fault now (at + 3) (length behind)) (read_on first_fault n file (at + 3 + len) now) ≡ Ok m → IsSpelled file m) [
       | true ↦ λ e k.
-          let end = not_second (length behind == 0) (told now.fault (object_read now)) (stopped first_fault now (at + 3) 5) m (stop_is_no_module now (at + 3) 5 m) k in
-          let is = told_ok now.fault (object_read now) m end.1 in
+          let end = not_second (length behind == 0) (reported now.fault (object_read now)) (stopped first_fault now (at + 3) 5) m (stop_is_no_module now (at + 3) 5 m) k in
+          let is = reported_ok now.fault (object_read now) m end.1 in
           let same : kind ≡ 0x7F = eqb-true kind 0x7F e in
           let object : object_read r ≡ m = ap (λ k. object_read (after_record noted k (at + 3) len file (take len behind) (at_stage first_fault at k r))) (sym same) ∙ is.1 in
           subst (IsSpelled file) object (end_spelled file at len behind r (subst (Ready file at len behind r) same (ready is.0)) end.0)

@@ -57,8 +57,8 @@ no_lines true ls h = rw h refl
 no_lines false ls h = refl
 
 -- the records of a module, without the end
-abbrev pub front_of : Object → List ℕ
-front_of m =
+abbrev pub prefix_of : Object → List ℕ
+prefix_of m =
     joined (record_bytes 0x01 (head_body m)) (flat_map segment_record m.segments) (flat_map taken_record m.externals) (flat_map given_record m.publics)
     (flat_map content_record m.contents) (flat_map fixup_record m.fixups) (line_records m.lines)
 
@@ -66,8 +66,8 @@ pub lines_spelled : (name s e p c f : List ℕ) (b : Bool) (ls new : List Lines)
     → joined (record_bytes 0x01 (version_of (cond b (Some ls) None) ∷ name_bytes name)) s e p c f (line_records (cond b (Some ls) None)) ≡ whole
     → joined (record_bytes 0x01 (version_of (cond b (Some (ls ++ new)) None) ∷ name_bytes name)) s e p c f (line_records (cond b (Some (ls ++ new)) None)) ≡ whole ++ x
 lines_spelled name s e p c f true ls new whole x h records spelled =
-    let front = record_bytes 0x01 (2 ∷ name_bytes name) ++ s ++ e ++ p ++ c ++ f in
-    ap (λ (t : List ℕ). front ++ t) records ∙ sym (append_assoc front (block_records [] ls) x) ∙ ap (λ (t : List ℕ). t ++ x) spelled
+    let prefix = record_bytes 0x01 (2 ∷ name_bytes name) ++ s ++ e ++ p ++ c ++ f in
+    ap (λ (t : List ℕ). prefix ++ t) records ∙ sym (append_assoc prefix (block_records [] ls) x) ∙ ap (λ (t : List ℕ). t ++ x) spelled
 lines_spelled name s e p c f false ls new whole x h records spelled = absurd (cc h)
 
 -- an entry that does not go on with the last record
@@ -109,7 +109,7 @@ pub record Good (file : List ℕ) (at : ℕ) (r : Read) : Type 0 where
   pub fault : r.fault ≡ None
   pub rules : Rules r
   pub later : Later r
-  pub spelled : front_of (object_read r) ≡ take at file
+  pub spelled : prefix_of (object_read r) ≡ take at file
   pub hold : PlacesHold file r.contents r.starts
   pub starts : length r.contents ≡ length r.starts
   pub block : OpenIs r.lines r.block

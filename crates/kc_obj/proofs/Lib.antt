@@ -14,6 +14,6 @@ pub mod Order
 pub mod Spelled
 pub mod Seen
 pub mod StepLemmas
-pub mod Telling
+pub mod FirstReported
 pub mod Unmarred
 pub mod Within

@@ -21,7 +21,7 @@ use Rattle.kc_obj.specs.Reading.{Read, Answer, stage_of, may_come, fits_name, fi
 use Rattle.kc_obj_fields.specs.Fields.{last_of, noted}
 use Rattle.kc_obj.proofs.ClearCode.{PlacesHold}
 use Rattle.kc_obj.proofs.Holding.{get_drop, get_take, hold_push}
-use Rattle.kc_obj.proofs.Order.{ordered_last, ordered_front}
+use Rattle.kc_obj.proofs.Order.{ordered_last, ordered_up_to}
 use Rattle.kc_obj.proofs.Forth.{word_back, piece_forth, external_forth, public_forth, run_forth}
 use Rattle.kc_obj.proofs.ForthCode.{number_forth}
 
@@ -44,7 +44,7 @@ record_on goes_on file at r kind body rest low comes fit =
     let entered = at_stage first_fault at kind r in
     let more = body ++ rest in
     let word : lo + 256 * hi ≡ length body = word_back (length body) low in
-    let front : take (lo + 256 * hi) more ≡ body = ap (λ n. take n more) word ∙ take_at body rest (length body) refl in
+    let prefix : take (lo + 256 * hi) more ≡ body = ap (λ n. take n more) word ∙ take_at body rest (length body) refl in
     let some : (length all == 0) ≡ false = ne_eqb (length all) 0 (λ e. absurd (omega arith)) in
     let two : nat_lt (length (lo ∷ hi ∷ more)) 2 ≡ false = le-ltb (length (lo ∷ hi ∷ more)) 2 (omega arith) in
     let fitting : fits kind (lo + 256 * hi) more ≡ true = ap (λ n. fits kind n more) word ∙ fit in
@@ -52,7 +52,7 @@ record_on goes_on file at r kind body rest low comes fit =
     ways (length all == 0) (may_come r kind) (nat_lt (length (lo ∷ hi ∷ more)) 2) (fits kind (lo + 256 * hi) more) (nat_lt (length more) (lo + 256 * hi))
     (stopped first_fault r at 2) (stopped first_fault entered (length file) 2) (stopped first_fault (after_record noted kind (at + 3) (lo + 256 * hi) file more entered) (length file) 2) (stopped first_fault entered (at + 1) 4) (stopped first_fault r at 1)
     (behind_record first_fault goes_on (at + 3) kind (lo + 256 * hi) (length more) (after_record noted kind (at + 3) (lo + 256 * hi) file (take (lo + 256 * hi) more) entered)) some comes two fitting whole
-    ∙ (λ i. behind_record first_fault goes_on (at + 3) kind (word i) (length more) (after_record noted kind (at + 3) (word i) file (front i) entered))
+    ∙ (λ i. behind_record first_fault goes_on (at + 3) kind (word i) (length more) (after_record noted kind (at + 3) (word i) file (prefix i) entered))
 
 pub drop_on : (file : List ℕ) (at kind : ℕ) (body rest : List ℕ) → drop at file ≡ record_bytes kind body ++ rest → drop (at + 3 + length body) file ≡ rest
 drop_on file at kind body rest is =
@@ -105,13 +105,13 @@ comes_later r kind begun known le lines =
     ap (λ b. cond b (kind == 0x01) (nat_le 2 (stage_of kind) && nat_le r.stage (stage_of kind) && (r.has_lines || not (kind == 0x07)))) some
     ∙ and_from (nat_le 2 (stage_of kind) && nat_le r.stage (stage_of kind)) (r.has_lines || not (kind == 0x07)) (and_from (nat_le 2 (stage_of kind)) (nat_le r.stage (stage_of kind)) known (le-leb r.stage (stage_of kind) le)) lines
 
-pub fits_name_forth : (front back : ℕ) (body rest : List ℕ) → length body ≡ front + slice_index body front + 1 + back → fits_name front back (length body) (body ++ rest) ≡ true
-fits_name_forth front back body rest size =
-    let inside : front < length body = omega arith in
-    let some : nat_lt front (length (body ++ rest)) ≡ true = lt-ltb front (length (body ++ rest)) (omega (arith, length-append body rest)) in
-    let same : slice_index (body ++ rest) front ≡ slice_index body front = get_or_append_left body rest 0 front inside in
-    let exact : (length body == front + slice_index (body ++ rest) front + 1 + back) ≡ true = eq-eqb (length body) (front + slice_index (body ++ rest) front + 1 + back) (size ∙ ap (λ n. front + n + 1 + back) (sym same)) in
-    ap (λ b. cond b (length body == front + slice_index (body ++ rest) front + 1 + back) (nat_le (front + 1 + back) (length body) && nat_le (length body) (front + 256 + back))) some ∙ exact
+pub fits_name_forth : (prefix back : ℕ) (body rest : List ℕ) → length body ≡ prefix + slice_index body prefix + 1 + back → fits_name prefix back (length body) (body ++ rest) ≡ true
+fits_name_forth prefix back body rest size =
+    let inside : prefix < length body = omega arith in
+    let some : nat_lt prefix (length (body ++ rest)) ≡ true = lt-ltb prefix (length (body ++ rest)) (omega (arith, length-append body rest)) in
+    let same : slice_index (body ++ rest) prefix ≡ slice_index body prefix = get_or_append_left body rest 0 prefix inside in
+    let exact : (length body == prefix + slice_index (body ++ rest) prefix + 1 + back) ≡ true = eq-eqb (length body) (prefix + slice_index (body ++ rest) prefix + 1 + back) (size ∙ ap (λ n. prefix + n + 1 + back) (sym same)) in
+    ap (λ b. cond b (length body == prefix + slice_index (body ++ rest) prefix + 1 + back) (nat_le (prefix + 1 + back) (length body) && nat_le (length body) (prefix + 256 + back))) some ∙ exact
 
 -- ---- what a module keeps
 
@@ -220,9 +220,9 @@ module _ (m : Object) (file : List ℕ) (sound : Sound m) where
       let stands : (i : ℕ) → i < length c.bytes → slice_get file (at + 3 + 4 + i) ≡ slice_get c.bytes i =
       λ i lt.
       let there : at + 3 + 4 + i ≡ at + 3 + (4 + i) = omega arith in
-      let front : take (length body) (body ++ rest) ≡ body = take_at body rest (length body) refl in
+      let prefix : take (length body) (body ++ rest) ≡ body = take_at body rest (length body) refl in
       let inside : 4 + i < length body = omega (arith, forth.size) in
-      ap (slice_get file) there ∙ sym (get_drop (at + 3) (4 + i) file) ∙ ap (λ t. slice_get t (4 + i)) place ∙ sym (get_take (length body) (4 + i) (body ++ rest) inside) ∙ ap (λ t. slice_get t (4 + i)) front ∙ sym (get_drop 4 i body) in
+      ap (slice_get file) there ∙ sym (get_drop (at + 3) (4 + i) file) ∙ ap (λ t. slice_get t (4 + i)) place ∙ sym (get_take (length body) (4 + i) (body ++ rest) inside) ∙ ap (λ t. slice_get t (4 + i)) prefix ∙ sym (get_drop 4 i body) in
       one_on file n at r 0x03 body rest (λ now. Runs now cs) (record r { stage = 5; contents = r.contents ++ c ∷ []; starts = r.starts ++ (at + 3 + 4) ∷ [] }) is fuel small (comes_later r 0x03 h.begun refl h.stage (either r.has_lines)) forth.fit refl
       (λ i. record r { stage = 5; contents = r.contents ++ forth.again i ∷ []; starts = r.starts ++ (at + 3 + 4) ∷ []; fault = (forth.clear ∙ sym h.fault) i })
       (record {
@@ -254,7 +254,7 @@ module _ (m : Object) (file : List ℕ) (sound : Sound m) where
       let good = all_at (fixup_is_sound m.segments m.externals) r.fixups x fs (ap (list_all (fixup_is_sound m.segments m.externals)) h.fixups ∙ sound.fixups) in
       let narrow = all_at fixup_fits r.fixups x fs (ap (list_all fixup_fits) h.fixups ∙ sound.fixups_narrow) in
       let room = all_at (has_room m.contents) r.fixups x fs (ap (list_all (has_room m.contents)) h.fixups ∙ sound.room) in
-      let ordered : fixups_in_order (r.fixups ++ x ∷ []) ≡ true = ordered_front fixup_follows fixups_in_order (λ x. refl) (λ x y xs. refl) r.fixups x fs (ap fixups_in_order h.fixups ∙ sound.fixups_ordered) in
+      let ordered : fixups_in_order (r.fixups ++ x ∷ []) ≡ true = ordered_up_to fixup_follows fixups_in_order (λ x. refl) (λ x y xs. refl) r.fixups x fs (ap fixups_in_order h.fixups ∙ sound.fixups_ordered) in
       let forth = number_forth (at + 3) file r x h.fault h.hold ((λ i. fixup_is_sound (sym pieces i) (sym externals i) x) ∙ good) narrow ordered (ap (λ cs. has_room cs x) (sym contents) ∙ room) in
       one_on file n at r 0x04 (fixup_body x) rest (λ now. Numbers now fs) (record r { stage = 6; fixups = r.fixups ++ x ∷ [] }) is fuel (omega (arith, forth.size)) (comes_later r 0x04 h.begun refl h.stage (either r.has_lines)) (eq-eqb (length (fixup_body x)) 10 forth.size) refl
       (λ i. record r { stage = 6; fixups = r.fixups ++ forth.again i ∷ []; fault = (forth.clear ∙ sym h.fault) i })

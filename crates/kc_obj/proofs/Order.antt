@@ -65,12 +65,12 @@ ordered_last f order none more (y ∷ z ∷ xs) x ys h =
     let ih : AfterLast f (last_of (z ∷ xs)) x = ordered_last f order none more (z ∷ xs) x ys (ordered_rest f order none more y (z ∷ (xs ++ x ∷ ys)) h) in
     rw (last_cons y z xs) ih
 
-pub ordered_front : {X : Type 0} (f : X → X → Bool) (order : List X → Bool) → ((x : X) → order (x ∷ []) ≡ true) → ((x y : X) (xs : List X) → order (x ∷ y ∷ xs) ≡ (f x y && order (y ∷ xs))) → (xs : List X) (x : X) (ys : List X) → order (xs ++ x ∷ ys) ≡ true → order (xs ++ x ∷ []) ≡ true
-ordered_front f order one more [] x ys h = one x
-ordered_front f order one more (y ∷ []) x ys h = more y x [] ∙ and_from (f y x) (order (x ∷ [])) (and_parts (f y x) (order (x ∷ ys)) (sym (more y x ys) ∙ h)).0 (one x)
-ordered_front f order one more (y ∷ z ∷ xs) x ys h =
+pub ordered_up_to : {X : Type 0} (f : X → X → Bool) (order : List X → Bool) → ((x : X) → order (x ∷ []) ≡ true) → ((x y : X) (xs : List X) → order (x ∷ y ∷ xs) ≡ (f x y && order (y ∷ xs))) → (xs : List X) (x : X) (ys : List X) → order (xs ++ x ∷ ys) ≡ true → order (xs ++ x ∷ []) ≡ true
+ordered_up_to f order one more [] x ys h = one x
+ordered_up_to f order one more (y ∷ []) x ys h = more y x [] ∙ and_from (f y x) (order (x ∷ [])) (and_parts (f y x) (order (x ∷ ys)) (sym (more y x ys) ∙ h)).0 (one x)
+ordered_up_to f order one more (y ∷ z ∷ xs) x ys h =
     let parts = and_parts (f y z) (order (z ∷ (xs ++ x ∷ ys))) (sym (more y z (xs ++ x ∷ ys)) ∙ h) in
-    more y z (xs ++ x ∷ []) ∙ and_from (f y z) (order (z ∷ (xs ++ x ∷ []))) parts.0 (ordered_front f order one more (z ∷ xs) x ys parts.1)
+    more y z (xs ++ x ∷ []) ∙ and_from (f y z) (order (z ∷ (xs ++ x ∷ []))) parts.0 (ordered_up_to f order one more (z ∷ xs) x ys parts.1)
 
 pub ordered_prefix : {X : Type 0} (f : X → X → Bool) (order : List X → Bool) → order [] ≡ true → ((x : X) → order (x ∷ []) ≡ true) → ((x y : X) (xs : List X) → order (x ∷ y ∷ xs) ≡ (f x y && order (y ∷ xs))) → (xs ys : List X) → order (xs ++ ys) ≡ true → order xs ≡ true
 ordered_prefix f order none one more [] ys h = none

@@ -14,7 +14,7 @@ use Rattle.kc_obj_module.specs.Pieces.{all_kept}
 use Rattle.kc_obj_fields.specs.declared.faults.Fault.{Fault}
 use Rattle.kc_obj_fields.specs.Fields.{is_lesser, first_of_both, fault_at, noted, listed, word_at, last_of}
 use Rattle.kc_obj_fields.specs.Records.{head_faults, segment_faults, taken_faults, given_faults, run_faults, target_faults, fixup_place_faults, byte_faults, stands_free, free_faults, under_faults, place_of, fixup_at, entry_faults, block_faults}
-use Rattle.kc_obj.specs.Reading.{ReadBy, Read, Answer, begun, object_read, fits, may_come, after_head, after_segment, after_taken, after_given, after_run, after_fixup, after_entry, after_entries, opened_block, after_block, after_record, told, first_fault, each_fault, stopped, ended, at_stage, behind_record, bodied, sized, typed, read_on, answer_of, faults_of}
+use Rattle.kc_obj.specs.Reading.{ReadBy, Read, Answer, begun, object_read, fits, may_come, after_head, after_segment, after_taken, after_given, after_run, after_fixup, after_entry, after_entries, opened_block, after_block, after_record, reported, first_fault, each_fault, stopped, ended, at_stage, behind_record, bodied, sized, typed, read_on, answer_of, faults_of}
 use Rattle.kc_obj.proofs.Least.{least, IsLeast, one, least_within}
 use Rattle.kc_obj.proofs.Within.{Within, further, listed_within, Ends, ends_further, record_is}
 
@@ -163,14 +163,14 @@ decide n false x y u v h k = k refl
 stops : (n : ℕ) (r : Listed) (at code : ℕ) → Within (n + 1) r.fault → at ≤ n → Agrees n (stopped first_fault (seen r) at code) (stopped each_fault r at code)
 stops n r at code h l = record { first = refl; within = (omega (arith, l), h) }
 
-told_in : (o : Option Fault) (m : Object) → fault_in (told o m) ≡ o
-told_in None m = refl
-told_in (Some f) m = refl
+reported_in : (o : Option Fault) (m : Object) → fault_in (reported o m) ≡ o
+reported_in None m = refl
+reported_in (Some f) m = refl
 
 ends : (n : ℕ) (r : Listed) (at behind : ℕ) → Within (n + 1) r.fault → at ≤ n → Agrees n (ended first_fault (seen r) at behind) (ended each_fault r at behind)
 ends n r at behind h l =
-    decide n (behind == 0) (told (least r.fault) (object_read r)) (stopped first_fault (seen r) at 5) r.fault (stopped each_fault r at 5)
-    (λ e. record { first = told_in (least r.fault) (object_read r); within = h }) (λ e. stops n r at 5 h l)
+    decide n (behind == 0) (reported (least r.fault) (object_read r)) (stopped first_fault (seen r) at 5) r.fault (stopped each_fault r at 5)
+    (λ e. record { first = reported_in (least r.fault) (object_read r); within = h }) (λ e. stops n r at 5 h l)
 
 take_short : (k : ℕ) (xs : List ℕ) → (length (take k xs) ≤ k) × (length (take k xs) ≤ length xs)
 take_short zero xs = (omega arith, omega arith)
@@ -184,11 +184,11 @@ bodied_agrees : (first : ℕ → Read → Answer) (each : ℕ → Listed → Lis
     → Agrees (length file) (bodied first_fault first file at kind len body (seen r)) (bodied each_fault each file at kind len body r)
 bodied_agrees first each file at kind len body r on some l is =
     let n = length file in
-    let front = take_short len body in
+    let prefix = take_short len body in
     let cut = after_record listed kind at len file body r in
     let now = after_record listed kind at len file (take len body) r in
     let cut_ends : Ends (n + 1) cut = record_is (n + 1) kind at len file body r (record { some = omega arith; fits = λ any. omega (arith, l) }) (ends_further at (n + 1) r (omega (arith, l)) is) in
-    let now_ends : Ends (at + len) now = record_is (at + len) kind at len file (take len body) r (record { some = omega (arith, some); fits = λ any. omega (arith, front.0) }) (ends_further at (at + len) r (omega arith) is) in
+    let now_ends : Ends (at + len) now = record_is (at + len) kind at len file (take len body) r (record { some = omega (arith, some); fits = λ any. omega (arith, prefix.0) }) (ends_further at (at + len) r (omega arith) is) in
     decide n (nat_lt (length body) len)
     (stopped first_fault (after_record noted kind at len file body (seen r)) n 2) (behind_record first_fault first at kind len (length body) (after_record noted kind at len file (take len body) (seen r)))
     (stopped each_fault cut n 2) (behind_record each_fault each at kind len (length body) now)

@@ -23,7 +23,7 @@ use Rattle.kc_obj_fields.specs.Fields.{name_at, first_of_both, fault_at}
 use Rattle.kc_obj_module.specs.Widths.{fixup_fits, line_fits, lines_fit, numbers_fit}
 use Rattle.kc_obj_module.specs.Spelled.{IsSpelled}
 use Rattle.kc_obj_fields.specs.Records.{block_falls}
-use Rattle.kc_obj.specs.Reading.{Read, nothing_read, object_read, told, typed, read_on, answer_of, first_fault}
+use Rattle.kc_obj.specs.Reading.{Read, nothing_read, object_read, reported, typed, read_on, answer_of, first_fault}
 use Rattle.kc_obj_fields.specs.Fields.{last_of}
 use Rattle.kc_obj.proofs.Order.{AfterLast, ordered_last, ordered_prefix, all_first, all_second, all_push, last_append, last_passes}
 use Rattle.kc_obj.proofs.Holding.{hold_none}
@@ -155,7 +155,7 @@ end_on file (suc n) at r m is fuel begun stage none kept object =
     ap (λ f. cond (is_none f && not kept_all) (Some (first_of_both f (fault_at at 4))) f) none ∙ ap (λ b. cond (not b) (Some (fault_at at 4)) None) kept in
     ap (λ t. typed first_fault (read_on first_fault n file) file at t r) is
     ∙ record_on (read_on first_fault n file) file at r 0x7F [] [] (omega arith) (comes_later r 0x7F begun refl (omega arith) (either r.has_lines)) refl
-    ∙ (λ i. told (clear i) (object i))
+    ∙ (λ i. reported (clear i) (object i))
   where
     either : (b : Bool) → (b || true) ≡ true
     either true = refl

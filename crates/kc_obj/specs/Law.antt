@@ -18,10 +18,10 @@ abbrev pub SpelledIsDecoded : Type 0
 SpelledIsDecoded = (bytes : List ℕ) (m : Object) → IsSpelled bytes m → answer_of bytes ≡ Ok m
 
 -- a call gives the module of which the bytes are the spelling, and a fault only where they are that of none
-abbrev pub TellsSpelling : List ℕ → Result Module ObjFault → Type 0
-TellsSpelling bytes (Ok m) = IsSpelled bytes m
-TellsSpelling bytes (Err (faults.At at code)) = (m : Object) → IsSpelled bytes m → ⊥
-TellsSpelling bytes (Err faults.NoMemory) = Unit {0}
+abbrev pub ReportsSpelling : List ℕ → Result Module ObjFault → Type 0
+ReportsSpelling bytes (Ok m) = IsSpelled bytes m
+ReportsSpelling bytes (Err (faults.At at code)) = (m : Object) → IsSpelled bytes m → ⊥
+ReportsSpelling bytes (Err faults.NoMemory) = Unit {0}
 
 -- ---- all faults
 

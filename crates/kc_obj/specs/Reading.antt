@@ -61,11 +61,11 @@ may_come r kind =
     if r.stage == 0 then kind == 0x01
     else (nat_le 2 (stage_of kind) && nat_le r.stage (stage_of kind) && (r.has_lines || not (kind == 0x07)))
 
--- a name after `front` bytes and before `back` bytes; where its length byte is cut off, any length byte will do
+-- a name after `prefix` bytes and before `back` bytes; where its length byte is cut off, any length byte will do
 abbrev pub fits_name : ℕ → ℕ → ℕ → List ℕ → Bool
-fits_name front back len body =
-    if nat_lt front (length body) then len == front + slice_index body front + 1 + back
-    else (nat_le (front + 1 + back) len && nat_le len (front + 256 + back))
+fits_name prefix back len body =
+    if nat_lt prefix (length body) then len == prefix + slice_index body prefix + 1 + back
+    else (nat_le (prefix + 1 + back) len && nat_le len (prefix + 256 + back))
 
 abbrev pub fits_lines : ℕ → Bool
 fits_lines len = nat_le 8 len && ((len - 2) / 6 * 6 == len - 2) && nat_le ((len - 2) / 6) 1024
@@ -155,13 +155,13 @@ pub record Reporting (C A : Type 0) : Type 0 where
 abbrev pub Answer : Type 0
 Answer = Result Object Fault
 
-abbrev pub told : Option Fault → Object → Answer
-told None m = Ok m
-told (Some fault) m = Err fault
+abbrev pub reported : Option Fault → Object → Answer
+reported None m = Ok m
+reported (Some fault) m = Err fault
 
 -- a fault that was found stands before the end record, and goes first
 abbrev pub first_fault : Reporting (Option Fault) Answer
-first_fault = record { note = noted; looks_on = is_none; report = told }
+first_fault = record { note = noted; looks_on = is_none; report = reported }
 
 abbrev pub each_fault : Reporting (List Fault) (List Fault)
 each_fault = record { note = listed; looks_on = λ faults. true; report = λ faults m. faults }
@@ -218,7 +218,7 @@ faults_of file = read_on each_fault (length file + 1) file 0 (begun [])
 -- what a step of the reading comes to
 abbrev pub step_answer : (ℕ → Read → Answer) → Step → Read → Answer
 step_answer goes_on (steps.On next) r = goes_on next r
-step_answer goes_on steps.End r = told r.fault (object_read r)
+step_answer goes_on steps.End r = reported r.fault (object_read r)
 step_answer goes_on (steps.Stop fault) r = Err fault
 
 -- the next record begins within the file

@@ -2,25 +2,25 @@
 ghost use Rattle.std.specs.Prelude.{◌≡◌, ◌<◌, ◌≤◌, ◌+◌, ◌-◌, ◌*◌, ◌/◌, ◌^◌, ◌==◌, ℕ, List, length, drop, take, IfOk};
 ghost use Rattle.kc_obj_fields.specs.Fields.{word_at};
 ghost use Rattle.kc_obj.specs.Reading.{Read, Answer, fits_name, fits_lines, fits, ended, behind_record, bodied, sized, typed, step_answer, answer_of, IsWithin, IsDecoded, first_fault};
-ghost use Rattle.kc_obj.specs.Law.{TellsSpelling, ReportsFirst};
+ghost use Rattle.kc_obj.specs.Law.{ReportsSpelling, ReportsFirst};
 
 use crate::reading::Reading;
 use crate::step::Step;
-use kc_base::{NoMemory, after, front};
+use kc_base::{NoMemory, after, prefix};
 use kc_obj_fields::faults::{ObjCode, ObjFault};
 use kc_obj_fields::fields::{byte, word};
 use kc_obj_module::Module;
 use std::alloc::Global;
 
-fn name_fits(front_len: usize, back_len: usize, len: usize, body: &[u8]) -> bool
-    requires front { front_len ≤ 4 }
+fn name_fits(prefix_len: usize, back_len: usize, len: usize, body: &[u8]) -> bool
+    requires prefix { prefix_len ≤ 4 }
     requires back { back_len ≤ 4 }
-    ensures { result ≡ fits_name front_len back_len len body.now }
+    ensures { result ≡ fits_name prefix_len back_len len body.now }
 {
-    if front_len < body.len() {
-        len == front_len + byte(body, front_len) as usize + 1 + back_len
+    if prefix_len < body.len() {
+        len == prefix_len + byte(body, prefix_len) as usize + 1 + back_len
     } else {
-        front_len + 1 + back_len <= len && len <= front_len + 256 + back_len
+        prefix_len + 1 + back_len <= len && len <= prefix_len + 256 + back_len
     }
 }
 
@@ -78,7 +78,7 @@ fn body_step(
         reading.take_record(alloc, kind, at as u32, len, file, body)?;
         return Ok(Step::Stop(reading.stop(file.len() as u32, ObjCode::TooShort)));
     }
-    reading.take_record(alloc, kind, at as u32, len, file, front(body, len))?;
+    reading.take_record(alloc, kind, at as u32, len, file, prefix(body, len))?;
     if kind == 0x7F {
         Ok(end_step(at, body.len(), reading))
     } else {
@@ -164,7 +164,7 @@ fn read(alloc: Global, bytes: &[u8]) -> Result<Module, ObjFault>
 pub fn decode(alloc: Global, bytes: &[u8]) -> Result<Module, ObjFault>
     requires { length bytes.now ≤ 1048576 }
     ensures fault { IsDecoded result (answer_of bytes.now) }
-    ensures spelling { TellsSpelling bytes.now result }
+    ensures spelling { ReportsSpelling bytes.now result }
     ensures first { ReportsFirst bytes.now result }
 {
     read(alloc, bytes)

@@ -7,7 +7,7 @@ ghost use Rattle.kc_obj_fields.specs.Codes.{code_number};
 ghost use Rattle.kc_obj_fields.specs.Fields.{word_at, fault_at, first_of_both, noted};
 ghost use Rattle.kc_obj_module.specs.Pieces.{all_kept};
 ghost use Rattle.kc_obj_fields.specs.Records.{kind_of, segment_at, piece_of, taken_at, given_at, run_at, target_of, fixup_at, entry_at};
-ghost use Rattle.kc_obj.specs.Reading.{nothing_read, after_head, after_segment, after_taken, after_given, new_run_faults, after_run, fixup_faults, after_fixup, after_entry, after_entries, opened_faults, after_block, after_record, may_come, at_stage, stage_of, told, object_read, IsDecoded, first_fault};
+ghost use Rattle.kc_obj.specs.Reading.{nothing_read, after_head, after_segment, after_taken, after_given, new_run_faults, after_run, fixup_faults, after_fixup, after_entry, after_entries, opened_faults, after_block, after_record, may_come, at_stage, stage_of, reported, object_read, IsDecoded, first_fault};
 ghost use Rattle.kc_obj_fields.specs.Fields.{last_of};
 
 use kc_base::{NoMemory, Text};
@@ -390,8 +390,8 @@ impl Reading {
 
     // The module, or the first fault.
     pub(crate) fn finished(self) -> Result<Module, ObjFault>
-        requires { (m : Object) → told self.fault (object_read self) ≡ Ok m → is_module m ≡ true }
-        ensures { IsDecoded result (told self.fault (object_read self)) }
+        requires { (m : Object) → reported self.fault (object_read self) ≡ Ok m → is_module m ≡ true }
+        ensures { IsDecoded result (reported self.fault (object_read self)) }
     {
         let Reading {
             stage: _stage,

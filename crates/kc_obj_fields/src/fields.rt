@@ -1,7 +1,7 @@
 ghost use Rattle.std.specs.Prelude.{◌≡◌, ◌<◌, drop, slice_index};
 ghost use Rattle.kc_obj_fields.specs.Fields.{word_at, long_at, name_at, begins_digit, is_bad_name};
 
-use kc_base::{after, front};
+use kc_base::{after, prefix};
 use kc_obj_module::names::{all_name_chars, digit, is_stack};
 
 /// The byte at a place of a body, 0 past its end.
@@ -45,9 +45,9 @@ pub fn name(body: &[u8]) -> &[u8]
     let len = byte(body, 0) as usize;
     let rest = without(body, 1);
     if len <= rest.len() {
-        front(rest, len)
+        prefix(rest, len)
     } else {
-        front(rest, rest.len())
+        prefix(rest, rest.len())
     }
 }
 

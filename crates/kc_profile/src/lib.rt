@@ -3,9 +3,9 @@
 
 mod laws;
 mod profile;
+mod reporting;
 mod running;
 mod spot;
-mod telling;
 
 pub use laws::tallies_are_one;
 pub use profile::Profile;

@@ -19,10 +19,10 @@ some_read clock before text lines book more some = rw (some, read_lines) refl
 pub refused : (clock : ℕ) (bytes : List ℕ) (lines : ℕ) (text line rest : List ℕ) (book : Book) (fault : RulesFault) → text_lines text ≡ line ∷ text_lines rest →
     read_lines clock lines (text_lines text) book ≡ book_of clock bytes →
     ((n : ℕ) → fault ≡ faults.BadRule n → (n ≡ lines + 1) × (with_line clock (lines + 1) line book ≡ None)) → IsRead clock bytes (Err fault)
-refused clock bytes lines text line rest book (faults.BadRule n) split all told =
-    let here = told n refl in
+refused clock bytes lines text line rest book (faults.BadRule n) split all reported =
+    let here = reported n refl in
     sym all ∙ ap (λ ls. read_lines clock lines ls book) split ∙ none_read clock lines line (text_lines rest) book here.1 ∙ ap (λ m. Err m) (sym here.0)
-refused clock bytes lines text line rest book faults.NoMemory split all told = tt
+refused clock bytes lines text line rest book faults.NoMemory split all reported = tt
 
 -- a line that has one
 pub next : (clock lines : ℕ) (text line rest : List ℕ) (book more : Book) → text_lines text ≡ line ∷ text_lines rest →

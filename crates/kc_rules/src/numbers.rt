@@ -7,7 +7,7 @@ ghost use Rattle.kc_rules.specs.Forms.{proper_share};
 
 use crate::amount::{Amount, Factor, Share, Time};
 use crate::words::is;
-use kc_base::{after, decimal, front};
+use kc_base::{after, decimal, prefix};
 
 /// How many parts a state has.
 const PARTS: u128 = 2_000_000_000_000_000;
@@ -26,7 +26,7 @@ fn digit_count(text: &[u8]) -> usize
 fn digits(text: &[u8]) -> &[u8]
     ensures { result.now ≡ spec.digits_of text.now }
 {
-    front(text, digit_count(text))
+    prefix(text, digit_count(text))
 }
 
 fn behind_digits(text: &[u8]) -> &[u8]

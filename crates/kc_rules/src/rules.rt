@@ -7,7 +7,7 @@ use crate::fault::{ReadFault, RulesFault};
 use crate::lines::{Item, line_item};
 use crate::mark::Mark;
 use crate::rule::Rule;
-use kc_base::{NoMemory, after, first_line, front};
+use kc_base::{NoMemory, after, first_line, prefix};
 use std::alloc::Global;
 use std::marker::Model;
 
@@ -88,7 +88,7 @@ impl Rules {
                 alloc,
                 clock,
                 lines,
-                front(rest, len),
+                prefix(rest, len),
                 &mut marks,
                 &mut rules,
             )?;

@@ -8,7 +8,7 @@ ghost use Rattle.kc_rules.specs.Words.{is_blank, is_edge, words_in, body_of, wor
 ghost use Rattle.kc_rules.specs.Readings.{has, word, word_at};
 
 use crate::fault::ReadFault;
-use kc_base::{NoMemory, Text, after, front};
+use kc_base::{NoMemory, Text, after, prefix};
 use std::alloc::Global;
 use std::marker::Model;
 
@@ -60,7 +60,7 @@ fn body_len(line: &[u8]) -> usize
 fn body(line: &[u8]) -> &[u8]
     ensures { result.now ≡ body_of line.now }
 {
-    front(line, body_len(line))
+    prefix(line, body_len(line))
 }
 
 // How many blanks stand at the front.
@@ -110,7 +110,7 @@ fn split(alloc: Global, text: &[u8]) -> Result<Vec<Text>, NoMemory>
     let mut rest = without_blanks(text);
     while !rest.is_empty() {
         let len = word_len(rest);
-        let word = Text::of(alloc, front(rest, len))?;
+        let word = Text::of(alloc, prefix(rest, len))?;
         words.push(word)?;
         rest = without_blanks(after(rest, len));
     }

@@ -8,7 +8,7 @@ use Rattle.kc_serial.specs.Quiet.{Before}
 
 module _ {D : Type 0} (rule : Rule D) (older : ℕ → D → D) (d : D) (quiet : ℕ → Bool)
     (start : older 0 d ≡ d)
-    (told : (t k : ℕ) → rule.quiet t (older k d) ≡ quiet k)
+    (known : (t k : ℕ) → rule.quiet t (older k d) ≡ quiet k)
     (next : (t k : ℕ) → quiet k ≡ true → rule.step t (older k d) ≡ older (suc k) d) where
   pub closed : (from n : ℕ) → ((k : ℕ) → k < n → quiet k ≡ true) → after rule from n d ≡ older n d
   closed from zero q = after-zero rule from d ∙ sym start
@@ -16,13 +16,13 @@ module _ {D : Type 0} (rule : Rule D) (older : ℕ → D → D) (d : D) (quiet :
       after-suc rule from n d ∙ ap (rule.step (from + n)) (closed from n (λ k lt. q k (omega arith))) ∙ next (from + n) n (q n (omega arith))
 
   pub quiet_ages : (from n : ℕ) → ((k : ℕ) → k < n → quiet k ≡ true) → QuietFor rule from n d
-  quiet_ages from n q k lt = ap (rule.quiet (from + k)) (closed from k (λ j less. q j (omega arith))) ∙ told (from + k) k ∙ q k lt
+  quiet_ages from n q k lt = ap (rule.quiet (from + k)) (closed from k (λ j less. q j (omega arith))) ∙ known (from + k) k ∙ q k lt
 
   pub ages_quiet : (from n : ℕ) → QuietFor rule from n d → (k : ℕ) → k < n → quiet k ≡ true
   ages_quiet from zero q k lt = absurd (omega arith)
   ages_quiet from (suc n) q k lt =
       let before : (j : ℕ) → j < n → quiet j ≡ true = ages_quiet from n (λ j less. q j (omega arith)) in
-      let last : quiet n ≡ true = sym (told (from + n) n) ∙ sym (ap (rule.quiet (from + n)) (closed from n before)) ∙ q n (omega arith) in
+      let last : quiet n ≡ true = sym (known (from + n) n) ∙ sym (ap (rule.quiet (from + n)) (closed from n before)) ∙ q n (omega arith) in
       elim (cases_lt k n) [
         | inl less ↦ before k less
         | inr ge ↦ let same : n ≡ k = omega arith in subst (λ j. quiet j ≡ true) same last
@@ -38,9 +38,9 @@ module _ {D : Type 0} (rule : Rule D) (older : ℕ → D → D) (d : D) (quiet :
       record {
         later = omega arith;
         before = subst (λ m. QuietFor rule from m d) (sym span) (quiet_ages from n q.0);
-        loud =
+        active =
             ap (λ m. rule.quiet (from + n) (after rule from m d)) span
             ∙ ap (rule.quiet (from + n)) (closed from n q.0)
-            ∙ told (from + n) n
+            ∙ known (from + n) n
             ∙ q.1;
       }

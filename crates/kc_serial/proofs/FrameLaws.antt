@@ -111,8 +111,8 @@ module _ (byte rate age : ℕ) where
       ]) in
       and_from _ _ (not_from_false _ on) still
 
-  loud_at : (q x : ℕ) → (suc q < 10 → keeps_level byte (suc q) ≡ false) → suc q ≤ 10 → suc x ≡ suc q * b → is_quiet_sending (frame x) ≡ false
-  loud_at q x other few is = elim (cases_lt (suc q) 10) [
+  active_at : (q x : ℕ) → (suc q < 10 → keeps_level byte (suc q) ≡ false) → suc q ≤ 10 → suc x ≡ suc q * b → is_quiet_sending (frame x) ≡ false
+  active_at q x other few is = elim (cases_lt (suc q) 10) [
     | inl lt ↦
         let before : suc q - 1 ≡ q = omega arith in
         and_right (not (is_over (record { byte = byte; rate = rate; age = x }))) _
@@ -134,4 +134,4 @@ module _ (byte rate age : ℕ) where
       let more : suc (age / b) * b ≡ age / b * b + b = suc-mul (age / b) b in
       let most : suc (age / b) * b ≤ suc q * b = mul-le (suc (age / b)) b (suc q) b (omega arith) (omega arith) in
       let within : suc age ≤ suc q * b = omega arith in
-      (λ k lt. quiet_at (suc q) k few same (omega arith), loud_at q (age + (suc q * b - 1 - age)) other few (omega arith))
+      (λ k lt. quiet_at (suc q) k few same (omega arith), active_at q (age + (suc q * b - 1 - age)) other few (omega arith))

@@ -38,8 +38,8 @@ module _ (d : Serial) where
   start_is : older 0 d ≡ d
   start_is = λ i. record d { sending = sending_start d.sending i; reception = reception_start d.rxd d.reception i }
 
-  told : (t k : ℕ) → is_silent (out (older k d)) ≡ is_quiet k
-  told t k = silent_is d.rate d.waiting (older_sending k d.sending) (completes (older_reception d.rxd k d.reception))
+  known : (t k : ℕ) → is_silent (out (older k d)) ≡ is_quiet k
+  known t k = silent_is d.rate d.waiting (older_sending k d.sending) (completes (older_reception d.rxd k d.reception))
 
   next : (t k : ℕ) → is_quiet k ≡ true → rested (older k d) ≡ older (suc k) d
   next t k quiet =
@@ -60,11 +60,11 @@ module _ (d : Serial) where
       }
 
   pub port_after : (from n : ℕ) → QuietFor port_rule from n d → after port_rule from n d ≡ older n d
-  port_after from n quiet = closed_quiet port_rule older d is_quiet start_is told next from n quiet
+  port_after from n quiet = closed_quiet port_rule older d is_quiet start_is known next from n quiet
 
   pub port_fits : (from n : ℕ) → QuietFor port_rule from n d → SendingFits n d.sending × ReceptionFits d.rxd n d.reception
   port_fits from n quiet =
-      let each : (k : ℕ) → k < n → is_quiet k ≡ true = ages_quiet port_rule older d is_quiet start_is told next from n quiet in
+      let each : (k : ℕ) → k < n → is_quiet k ≡ true = ages_quiet port_rule older d is_quiet start_is known next from n quiet in
       (sending_fits n d.sending (λ k lt. (and_parts _ _ (each k lt)).0), reception_fits d.rxd n d.reception (λ k lt. (and_parts _ _ (each k lt)).1))
 
   before_both : (x y : Option ℕ) → SendingBefore d.sending x → ReceptionBefore d.rxd d.reception y → Before is_quiet (least_of x y)
@@ -78,4 +78,4 @@ module _ (d : Serial) where
 
   pub port_due : (now : ℕ) (x y : Option ℕ) → SendingBefore d.sending x → ReceptionBefore d.rxd d.reception y →
       IsDue port_rule now d (option_map (λ n. now + n) (least_of x y))
-  port_due now x y p q = due_from port_rule older d is_quiet start_is told next now (least_of x y) (before_both x y p q)
+  port_due now x y p q = due_from port_rule older d is_quiet start_is known next now (least_of x y) (before_both x y p q)

@@ -4,5 +4,5 @@ mod ScheduleLaws
 mod UniqueLaws
 mod LineLaws
 mod ReceptionLaws
-mod ToldLaws
+mod KnownLaws
 mod WorkedLaws

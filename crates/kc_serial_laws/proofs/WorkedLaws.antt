@@ -13,11 +13,11 @@ use Rattle.kc_serial.specs.History.{Driven, falls, port_at, sample_state, number
 use Rattle.kc_serial.proofs.SampleLaws.{half_some, two_halves}
 use Rattle.kc_serial_laws.specs.Accesses.{log, is_read_of, control_before, rate_before, comes_since}
 use Rattle.kc_serial_laws.specs.Receptions.{sample_of, forbids, IsReceiving, catches_of, Completes, IsCompletion, byte_of, IsLastByte}
-use Rattle.kc_serial_laws.specs.Told.{IsSet}
+use Rattle.kc_serial_laws.specs.Known.{IsSet}
 use Rattle.kc_serial_laws.specs.Worked.{settings, levels_of, driven, DrivenFramesAreReceived}
 use Rattle.kc_serial_laws.proofs.AccessLaws.{any_done, any_none}
 use Rattle.kc_serial_laws.proofs.ReceptionLaws.{falls_caught, one_completes, bytes_last}
-use Rattle.kc_serial_laws.proofs.ToldLaws.{received_set, framing_set}
+use Rattle.kc_serial_laws.proofs.KnownLaws.{received_set, framing_set}
 
 -- the bits of a byte make it again
 number_same : (f g : ℕ → Bool) → ((k : ℕ) → f k ≡ g k) → (ks : List ℕ) → number_of (map f ks) ≡ number_of (map g ks)

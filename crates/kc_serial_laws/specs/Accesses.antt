@@ -48,5 +48,5 @@ abbrev pub comes_since : (Access → Bool) → ℕ → List Done → Bool
 comes_since such s accesses = list_any (λ d. nat_le s d.at && such d.access) accesses
 
 -- a truth that is told exactly where it holds
-abbrev pub Tells : Bool → Type 0 → Type 0
-Tells told holds = (told ≡ true → holds) × (holds → told ≡ true)
+abbrev pub Decides : Bool → Type 0 → Type 0
+Decides known holds = (known ≡ true → holds) × (holds → known ≡ true)

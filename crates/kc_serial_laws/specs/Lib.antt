@@ -1,5 +1,5 @@
 pub mod Accesses
 pub mod Schedules
 pub mod Receptions
-pub mod Told
+pub mod Known
 pub mod Worked

@@ -5,7 +5,7 @@ use Rattle.kc_extra.specs.Histories.{Access}
 use Rattle.kc_serial.specs.Port.{receives}
 use Rattle.kc_serial.specs.Registers.{sp_con}
 use Rattle.kc_serial.specs.History.{Driven, falls, port_at, sample_state, number_of, byte_levels}
-use Rattle.kc_serial_laws.specs.Accesses.{log, is_write_of, control_before, rate_before, comes_since, Tells}
+use Rattle.kc_serial_laws.specs.Accesses.{log, is_write_of, control_before, rate_before, comes_since, Decides}
 
 -- for each state whether a reception begins in it
 abbrev pub Catches : Type 0
@@ -31,7 +31,7 @@ pub record IsReceiving (h : Driven) (catches : Catches) (e t : ℕ) : Type 0 whe
 -- A reception begins exactly where RXD falls, the port may receive, and none is under way.
 abbrev pub AreReceptions : Driven → Catches → Type 0
 AreReceptions h catches = (t : ℕ) →
-    Tells (catches t) ((falls h t ≡ true) × (receives (control_before h t) ≡ true) × ((e : ℕ) → IsReceiving h catches e t → ⊥))
+    Decides (catches t) ((falls h t ≡ true) × (receives (control_before h t) ≡ true) × ((e : ℕ) → IsReceiving h catches e t → ⊥))
 
 -- RXD and what is written tell all receptions
 abbrev pub ReceptionsAreOne : Type 0

@@ -3,7 +3,7 @@
 
 ghost use Rattle.kc_serial_laws.specs.Schedules.{SchedulesAreOne, FramesAreScheduled, LinesShowFrames};
 ghost use Rattle.kc_serial_laws.specs.Receptions.{ReceptionsAreOne, FallsAreCaught, BytesAreLast};
-ghost use Rattle.kc_serial_laws.specs.Told.{EndsAreRequested, StatusIsByHistory};
+ghost use Rattle.kc_serial_laws.specs.Known.{EndsAreRequested, StatusIsByHistory};
 ghost use Rattle.kc_serial_laws.specs.Worked.{DrivenFramesAreReceived};
 
 /// What is written, and when, tells all frames: no two schedules are of one history.

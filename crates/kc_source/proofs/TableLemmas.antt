@@ -63,7 +63,7 @@ table_grows es fs us u table here others q =
 -- ---- the faults of the uses
 
 -- how far the uses are judged
-pub record Judged (all : List Use) (es : List (Vec ℕ × Known)) (count : ℕ) (found : Option Fault) (rest : List Use) : Type 0 where
+pub record Checked (all : List Use) (es : List (Vec ℕ × Known)) (count : ℕ) (found : Option Fault) (rest : List Use) : Type 0 where
   pub earlier : List Use
   pub table : IsTable es earlier
   pub counts : count ≡ name_count earlier
@@ -83,15 +83,15 @@ one_fault : (all earlier us : List Use) (u : Use) → least (name_faults all ear
 unfolding name_faults
 one_fault all earlier us u = least_one (at_line u.line (use_code u.kind u.name (is_one_too_many u earlier) all earlier)) (name_faults all (u ∷ earlier) us)
 
-pub starts : (uses : List Use) (es : List (Vec ℕ × Known)) → es ≡ [] → Judged uses es 0 None uses
+pub starts : (uses : List Use) (es : List (Vec ℕ × Known)) → es ≡ [] → Checked uses es 0 None uses
 unfolding name_count
 starts uses es none = record { earlier = []; table = empty_table es none; counts = refl; same = refl }
 
-pub judges : (all us : List Use) (u : Use) (es fs everywhere : List (Vec ℕ × Known)) (count : ℕ) (found : Option Fault) → Judged all es count found (u ∷ us) → IsTable everywhere all
+pub checks : (all us : List Use) (u : Use) (es fs everywhere : List (Vec ℕ × Known)) (count : ℕ) (found : Option Fault) → Checked all es count found (u ∷ us) → IsTable everywhere all
     → known_at fs u.name ≡ joined (known_at es u.name) u.kind → ((other : List ℕ) → bytes_eq u.name other ≡ false → known_at fs other ≡ known_at es other)
-    → Judged all fs (count + cond (brings u.kind (known_at es u.name)) 1 0)
+    → Checked all fs (count + cond (brings u.kind (known_at es u.name)) 1 0)
     (lesser found (at_line u.line (known_code u.kind (known_at es u.name) (known_at everywhere u.name) (brings u.kind (known_at es u.name) && nat_le 16384 count)))) us
-judges all us u es fs everywhere count found so_far every here others =
+checks all us u es fs everywhere count found so_far every here others =
     let before : known_at es u.name ≡ summary so_far.earlier u.name = so_far.table u.name in
     let new : brings u.kind (known_at es u.name) ≡ brings_name u so_far.earlier = ap (brings u.kind) before in
     let many : (brings u.kind (known_at es u.name) && nat_le 16384 count) ≡ is_one_too_many u so_far.earlier = λ i. new i && nat_le 16384 (so_far.counts i) in
@@ -106,7 +106,7 @@ judges all us u es fs everywhere count found so_far every here others =
           ∙ ap (lesser found) (sym (one_fault all so_far.earlier us u)) ∙ so_far.same;
     }
 
-pub all_judged : (all : List Use) (es : List (Vec ℕ × Known)) (count : ℕ) (found : Option Fault) → Judged all es count found [] → found ≡ least (name_faults all [] all)
+pub all_checked : (all : List Use) (es : List (Vec ℕ × Known)) (count : ℕ) (found : Option Fault) → Checked all es count found [] → found ≡ least (name_faults all [] all)
 unfolding name_faults least
-all_judged all es count None so_far = so_far.same
-all_judged all es count (Some f) so_far = so_far.same
+all_checked all es count None so_far = so_far.same
+all_checked all es count (Some f) so_far = so_far.same

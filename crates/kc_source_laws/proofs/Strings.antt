@@ -189,8 +189,8 @@ module _ (test : List ℕ → Bool) where
     grouped_passes : (ts : List Token) (r : Reading) → IsLongest r ts → pass ts → Holds (strings_pass test) (grouped_whole r)
     grouped_passes ts None l h = tt
     grouped_passes ts (Some p) l h =
-        let front : pass (l.front ++ p.1) = rw (← l.is) h in
-        either (strings_pass test) (is_end_of_group p.1) (Some p.0) None (derived l.derives (all_split passes l.front p.1 front).0) tt
+        let prefix : pass (l.prefix ++ p.1) = rw (← l.is) h in
+        either (strings_pass test) (is_end_of_group p.1) (Some p.0) None (derived l.derives (all_split passes l.prefix p.1 prefix).0) tt
 
     stack_passes : (ts : List Token) → pass ts → Holds optional_passes (stack_in ts)
     unfolding stack_in

@@ -117,23 +117,23 @@ abbrev Ends : List Token → Type 0
 Ends [] = Unit {0}
 Ends (t ∷ ts) = is_mark t ≡ true
 
-same_front : (vs rest front behind : List Token) → vs ++ rest ≡ front ++ behind → length vs ≤ length front → Ends rest → list_all no_mark front ≡ true → (front ≡ vs) × (behind ≡ rest)
-same_front [] rest [] behind e h s n = (refl, sym e)
-same_front [] [] (f ∷ front) behind e h s n = absurd cc
-same_front [] (r ∷ rest) (f ∷ front) behind e h s n =
+same_prefix : (vs rest prefix behind : List Token) → vs ++ rest ≡ prefix ++ behind → length vs ≤ length prefix → Ends rest → list_all no_mark prefix ≡ true → (prefix ≡ vs) × (behind ≡ rest)
+same_prefix [] rest [] behind e h s n = (refl, sym e)
+same_prefix [] [] (f ∷ prefix) behind e h s n = absurd cc
+same_prefix [] (r ∷ rest) (f ∷ prefix) behind e h s n =
     let same : r ≡ f = cc in
-    absurd (false_and_true (no_mark f) (ap not (subst (λ t. is_mark t ≡ true) same s)) (first (no_mark f) (list_all no_mark front) n))
-same_front (v ∷ vs) rest [] behind e h s n = absurd (omega arith)
-same_front (v ∷ vs) rest (f ∷ front) behind e h s n =
+    absurd (false_and_true (no_mark f) (ap not (subst (λ t. is_mark t ≡ true) same s)) (first (no_mark f) (list_all no_mark prefix) n))
+same_prefix (v ∷ vs) rest [] behind e h s n = absurd (omega arith)
+same_prefix (v ∷ vs) rest (f ∷ prefix) behind e h s n =
     let same : v ≡ f = cc in
-    let tails : vs ++ rest ≡ front ++ behind = cc in
-    let more = same_front vs rest front behind tails (omega arith) s (second (no_mark f) (list_all no_mark front) n) in
+    let tails : vs ++ rest ≡ prefix ++ behind = cc in
+    let more = same_prefix vs rest prefix behind tails (omega arith) s (second (no_mark f) (list_all no_mark prefix) n) in
     ((λ i. sym same i ∷ more.0 i), more.1)
 
 of_longest : (vs rest : List Token) (e : Tree) (o : Reading) → IsLongest o (vs ++ rest) → Derives 7 vs e → Ends rest → o ≡ Some (e, rest)
 of_longest vs rest e None l d s = absurd (l vs rest e refl d)
 of_longest vs rest e (Some p) l d s =
-    let same : (l.front ≡ vs) × (p.1 ≡ rest) = same_front vs rest l.front p.1 l.is (l.longest vs rest e refl d) s (unmarked l.derives) in
+    let same : (l.prefix ≡ vs) × (p.1 ≡ rest) = same_prefix vs rest l.prefix p.1 l.is (l.longest vs rest e refl d) s (unmarked l.derives) in
     let tree : e ≡ p.0 = l.only e (subst (λ f. Derives 7 f e) (sym same.0) d) in
     λ i. Some (sym tree i, same.1 i)
 
@@ -170,7 +170,7 @@ whole_derives : (ts : List Token) (e : Tree) (o : Reading) → IsLongest o ts �
 whole_derives ts e None l h = absurd cc
 whole_derives ts e (Some p) l h =
     chosen (Derives 7 ts e) (is_nil p.1) p.0 e None
-    (λ nil same. subst (λ u. Derives 7 u e) (sym (l.is ∙ ap (λ r. l.front ++ r) (nothing_left p.1 nil) ∙ append-nil l.front)) (subst (λ x. Derives 7 l.front x) same l.derives))
+    (λ nil same. subst (λ u. Derives 7 u e) (sym (l.is ∙ ap (λ r. l.prefix ++ r) (nothing_left p.1 nil) ∙ append-nil l.prefix)) (subst (λ x. Derives 7 l.prefix x) same l.derives))
     (λ more none. never (Derives 7 ts e) e none) h
 
 pub whole_has_form : (ts : List Token) (e : Tree) → whole ts ≡ Some e → Derives 7 ts e
@@ -208,11 +208,11 @@ pointed_form t ts a (Some p) opens l h =
     chosen (IsOperand (t ∷ ts) a) (is_close p.1) (Indirect p.0) a (cond (is_close_plus p.1) (Some (Increment p.0)) None)
     (λ ends same. let c = closed p.1 ends in
     subst (λ x. IsOperand (t ∷ ts) x) same
-    (subst (λ u. IsOperand (t ∷ u) (Indirect p.0)) (sym (l.is ∙ ap (λ r. l.front ++ r) c.is)) (is_indirect l.front c.close opens l.derives c.closes)))
+    (subst (λ u. IsOperand (t ∷ u) (Indirect p.0)) (sym (l.is ∙ ap (λ r. l.prefix ++ r) c.is)) (is_indirect l.prefix c.close opens l.derives c.closes)))
     (λ more rest. chosen (IsOperand (t ∷ ts) a) (is_close_plus p.1) (Increment p.0) a None
     (λ ends same. let c = closed_plus p.1 ends in
     subst (λ x. IsOperand (t ∷ ts) x) same
-    (subst (λ u. IsOperand (t ∷ u) (Increment p.0)) (sym (l.is ∙ ap (λ r. l.front ++ r) c.is)) (is_increment l.front c.close c.plus opens l.derives c.closes c.adds)))
+    (subst (λ u. IsOperand (t ∷ u) (Increment p.0)) (sym (l.is ∙ ap (λ r. l.prefix ++ r) c.is)) (is_increment l.prefix c.close c.plus opens l.derives c.closes c.adds)))
     (λ no none. never (IsOperand (t ∷ ts) a) a none) rest) h
 
 register_form : (us : List Token) (x : Tree) (t : Token) (ts : List Token) (a : ArgTree) (o : Reading) → Derives 7 us x → is_sign 91 t ≡ true → IsLongest o ts → with_register x o ≡ Some a → IsOperand (us ++ t ∷ ts) a
@@ -221,7 +221,7 @@ register_form us x t ts a (Some p) d opens l h =
     chosen (IsOperand (us ++ t ∷ ts) a) (is_close p.1) (Indexed x p.0) a None
     (λ ends same. let c = closed p.1 ends in
     subst (λ y. IsOperand (us ++ t ∷ ts) y) same
-    (subst (λ u. IsOperand (us ++ t ∷ u) (Indexed x p.0)) (sym (l.is ∙ ap (λ r. l.front ++ r) c.is)) (is_indexed us t l.front c.close d opens l.derives c.closes)))
+    (subst (λ u. IsOperand (us ++ t ∷ u) (Indexed x p.0)) (sym (l.is ∙ ap (λ r. l.prefix ++ r) c.is)) (is_indexed us t l.prefix c.close d opens l.derives c.closes)))
     (λ more none. never (IsOperand (us ++ t ∷ ts) a) a none) h
 
 indexed_form : (us : List Token) (x : Tree) (rest : List Token) (a : ArgTree) → Derives 7 us x → cond (begins_sign 91 rest) (with_register x (parsed (drop 1 rest))) None ≡ Some a → IsOperand (us ++ rest) a
@@ -237,8 +237,8 @@ plain_form ts a None l h = absurd cc
 plain_form ts a (Some p) l h =
     chosen (IsOperand ts a) (is_nil p.1) (Plain p.0) a (cond (begins_sign 91 p.1) (with_register p.0 (parsed (drop 1 p.1))) None)
     (λ nil same. subst (λ x. IsOperand ts x) same
-    (is_plain (subst (λ u. Derives 7 u p.0) (sym (l.is ∙ ap (λ r. l.front ++ r) (nothing_left p.1 nil) ∙ append-nil l.front)) l.derives)))
-    (λ more says. subst (λ u. IsOperand u a) (sym l.is) (indexed_form l.front p.0 p.1 a l.derives says)) h
+    (is_plain (subst (λ u. Derives 7 u p.0) (sym (l.is ∙ ap (λ r. l.prefix ++ r) (nothing_left p.1 nil) ∙ append-nil l.prefix)) l.derives)))
+    (λ more says. subst (λ u. IsOperand u a) (sym l.is) (indexed_form l.prefix p.0 p.1 a l.derives says)) h
 
 immediate_form : (t : Token) (ts : List Token) (a : ArgTree) (o : Option Tree) → is_sign 35 t ≡ true → whole ts ≡ o → option_map (λ x. Immediate x) o ≡ Some a → IsOperand (t ∷ ts) a
 immediate_form t ts a None mark is h = absurd cc
@@ -259,9 +259,9 @@ read_has_form (t ∷ ts) a h =
 -- ---- each form is read
 
 -- an expression begins with none of the marks
-no_front : (c : ℕ) (ts : List Token) → ((t : Token) → is_sign c t ≡ true → is_mark t ≡ true) → list_all no_mark ts ≡ true → begins_sign c ts ≡ false
-no_front c [] m h = refl
-no_front c (t ∷ ts) m h =
+no_prefix : (c : ℕ) (ts : List Token) → ((t : Token) → is_sign c t ≡ true → is_mark t ≡ true) → list_all no_mark ts ≡ true → begins_sign c ts ≡ false
+no_prefix c [] m h = refl
+no_prefix c (t ∷ ts) m h =
     elim (is_sign c t) as (λ b. is_sign c t ≡ b → b ≡ false) [
       | true ↦ λ e. absurd (false_and_true (no_mark t) (ap not (m t e)) (first (no_mark t) (list_all no_mark ts) h))
       | false ↦ λ e. refl
@@ -288,7 +288,7 @@ nonempty (from_binary t us vs o da db) = omega (arith, length-append us (t ∷ v
 
 begins_not : (c : ℕ) (us rest : List Token) (x : Tree) → Derives 7 us x → ((t : Token) → is_sign c t ≡ true → is_mark t ≡ true) → begins_sign c (us ++ rest) ≡ false
 begins_not c [] rest x d m = let some : 1 ≤ 0 = nonempty d in absurd (omega arith)
-begins_not c (u ∷ us) rest x d m = no_front c (u ∷ us) m (unmarked d)
+begins_not c (u ∷ us) rest x d m = no_prefix c (u ∷ us) m (unmarked d)
 
 -- an operand that begins with an expression
 begun : (us rest : List Token) (x : Tree) → Derives 7 us x → Ends rest → operand (us ++ rest) ≡ plain_or_indexed (Some (x, rest))

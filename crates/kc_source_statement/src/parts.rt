@@ -9,7 +9,7 @@ use crate::lists::{Args, Items, Names};
 use crate::operands::{item, name, operand};
 use kc_base::NoMemory;
 use kc_lex::Token;
-use kc_lex::kinds::{front, is_sign, rest};
+use kc_lex::kinds::{is_sign, prefix, rest};
 use std::alloc::Global;
 
 // How many tokens stand before the first comma.
@@ -27,7 +27,7 @@ fn operand_parts(alloc: Global, tokens: &[Token]) -> Result<Option<Args>, NoMemo
     let mut left = tokens;
     'parts: loop {
         let n = part_len(left);
-        let Some(arg) = operand(alloc, front(left, n))? else {
+        let Some(arg) = operand(alloc, prefix(left, n))? else {
             return Ok(None);
         };
         args.push(arg)?;
@@ -57,7 +57,7 @@ pub(crate) fn items(alloc: Global, bytes: bool, tokens: &[Token]) -> Result<Opti
     let mut left = tokens;
     'parts: loop {
         let n = part_len(left);
-        let Some(read) = item(alloc, bytes, front(left, n))? else {
+        let Some(read) = item(alloc, bytes, prefix(left, n))? else {
             return Ok(None);
         };
         items.push(read)?;
@@ -76,7 +76,7 @@ pub(crate) fn names(alloc: Global, typed: bool, tokens: &[Token]) -> Result<Opti
     let mut left = tokens;
     'parts: loop {
         let n = part_len(left);
-        let Some(read) = name(alloc, typed, front(left, n))? else {
+        let Some(read) = name(alloc, typed, prefix(left, n))? else {
             return Ok(None);
         };
         names.push(read)?;

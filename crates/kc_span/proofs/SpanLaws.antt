@@ -50,12 +50,12 @@ quiet_until rule from d None t never sooner = never (t - from)
 quiet_until rule from d (Some u) t due sooner = λ k lt. let le : t ≤ u = sooner u refl in due.before k (omega arith)
 
 -- the due state itself is not quiet
-pub loud_at : {D : Type 0} (rule : Rule D) (from : ℕ) (d : D) (due : Option ℕ) (t : ℕ) → IsDue rule from d due → due ≡ Some t →
+pub active_at : {D : Type 0} (rule : Rule D) (from : ℕ) (d : D) (due : Option ℕ) (t : ℕ) → IsDue rule from d due → due ≡ Some t →
     rule.quiet t (after rule from (t - from) d) ≡ false
-loud_at rule from d None t never e = cc
-loud_at rule from d (Some u) t due e =
+active_at rule from d None t never e = cc
+active_at rule from d (Some u) t due e =
     let same : u ≡ t = cc in
-    subst (λ s. rule.quiet s (after rule from (s - from) d) ≡ false) same due.loud
+    subst (λ s. rule.quiet s (after rule from (s - from) d) ≡ false) same due.active
 
 -- what holds of whichever of two states comes first holds of the earlier of both
 pub least_holds : (P : Option ℕ → Type 0) (u v : ℕ) → (u < v → P (Some u)) → (v ≤ u → P (Some v)) → P (least_of (Some u) (Some v))

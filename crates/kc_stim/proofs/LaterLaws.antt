@@ -12,7 +12,7 @@ use Rattle.std.proofs.lemmas.List.Kept.{IsNonDecreasingBy-filter}
 use Rattle.kc_base.specs.Pins.{pin_count}
 use Rattle.kc_base.specs.declared.types.Level.{Level}
 use Rattle.kc_stim.specs.declared.stimulus.Stimulus.{Stimulus}
-use Rattle.kc_stim.specs.Drives.{Drives, Stimulation, of_pin, up_to, last_level, level_at, level_before, start_of, start_level, level_or, sooner_by, from_on, levels_told, driven_from, LevelsGoOn, LevelsStartThere}
+use Rattle.kc_stim.specs.Drives.{Drives, Stimulation, of_pin, up_to, last_level, level_at, level_before, start_of, start_level, level_or, sooner_by, from_on, levels_known, driven_from, LevelsGoOn, LevelsStartThere}
 use Rattle.kc_stim.specs.Fields.{is_input}
 use Rattle.kc_stim.specs.Index.{AllUpTo, AreEdges, IsIndexed, list_of}
 use Rattle.kc_stim.specs.Later.{edges_from}
@@ -81,10 +81,10 @@ of_pin-from_on at pin (x ∷ xs) = elim (cases_Bool (leb at x.at)) [
   ]
 ]
 
-length-told : (stimuli : Stimulation) (at n : ℕ) → length (levels_told stimuli at n) ≡ n
-unfolding levels_told
-length-told stimuli at zero = refl
-length-told stimuli at (suc n) = longer (levels_told stimuli at n) _ ∙ ap suc (length-told stimuli at n)
+length-known : (stimuli : Stimulation) (at n : ℕ) → length (levels_known stimuli at n) ≡ n
+unfolding levels_known
+length-known stimuli at zero = refl
+length-known stimuli at (suc n) = longer (levels_known stimuli at n) _ ∙ ap suc (length-known stimuli at n)
   where
     longer : (xs : List Level) (y : Level) → length (xs ++ y ∷ []) ≡ suc (length xs)
     longer [] y = refl
@@ -99,22 +99,22 @@ get-new : (xs : List Level) (y : Level) → slice_get (xs ++ y ∷ []) (length x
 get-new [] y = refl
 get-new (x ∷ xs) y = get-new xs y
 
-told_at : (stimuli : Stimulation) (at n pin : ℕ) → pin < n → slice_get (levels_told stimuli at n) pin ≡ Some (level_before stimuli pin at)
-unfolding levels_told
-told_at stimuli at zero pin lt = absurd (omega arith)
-told_at stimuli at (suc n) pin lt =
-    let long : length (levels_told stimuli at n) ≡ n = length-told stimuli at n in
+known_at : (stimuli : Stimulation) (at n pin : ℕ) → pin < n → slice_get (levels_known stimuli at n) pin ≡ Some (level_before stimuli pin at)
+unfolding levels_known
+known_at stimuli at zero pin lt = absurd (omega arith)
+known_at stimuli at (suc n) pin lt =
+    let long : length (levels_known stimuli at n) ≡ n = length-known stimuli at n in
     elim (cases_lt pin n) [
-      | inl less ↦ get-old (levels_told stimuli at n) (level_before stimuli n at) pin (omega arith) ∙ told_at stimuli at n pin less
+      | inl less ↦ get-old (levels_known stimuli at n) (level_before stimuli n at) pin (omega arith) ∙ known_at stimuli at n pin less
       | inr last ↦
           let same : n ≡ pin = omega arith in
-          subst (λ k. slice_get (levels_told stimuli at n ++ level_before stimuli n at ∷ []) k ≡ Some (level_before stimuli k at)) same
-          (subst (λ k. slice_get (levels_told stimuli at n ++ level_before stimuli n at ∷ []) k ≡ Some (level_before stimuli n at)) long
-          (get-new (levels_told stimuli at n) (level_before stimuli n at)))
+          subst (λ k. slice_get (levels_known stimuli at n ++ level_before stimuli n at ∷ []) k ≡ Some (level_before stimuli k at)) same
+          (subst (λ k. slice_get (levels_known stimuli at n ++ level_before stimuli n at ∷ []) k ≡ Some (level_before stimuli n at)) long
+          (get-new (levels_known stimuli at n) (level_before stimuli n at)))
     ]
 
-pub start_there : (stimuli : Stimulation) (at pin : ℕ) → pin < pin_count → start_of (levels_told stimuli at pin_count) pin ≡ level_before stimuli pin at
-start_there stimuli at pin lt = ap (λ o. level_or o (start_level pin)) (told_at stimuli at pin_count pin lt)
+pub start_there : (stimuli : Stimulation) (at pin : ℕ) → pin < pin_count → start_of (levels_known stimuli at pin_count) pin ≡ level_before stimuli pin at
+start_there stimuli at pin lt = ap (λ o. level_or o (start_level pin)) (known_at stimuli at pin_count pin lt)
 
 own_level : (stimuli : Stimulation) (at pin u : ℕ) → IsNonDecreasingBy (λ s. s.at) (of_pin pin stimuli.list) →
     last_level (up_to u (from_on at (of_pin pin stimuli.list))) (level_before stimuli pin at) ≡ level_at stimuli pin (at + u)
@@ -127,7 +127,7 @@ own_level stimuli (suc at) pin u rise =
 
 pub levels_go_on : LevelsGoOn
 levels_go_on d at pin u rise lt =
-    ap (λ ys. last_level (up_to u ys) (start_of (levels_told d.stimuli at pin_count) pin)) (of_pin-from_on at pin d.stimuli.list)
+    ap (λ ys. last_level (up_to u ys) (start_of (levels_known d.stimuli at pin_count) pin)) (of_pin-from_on at pin d.stimuli.list)
     ∙ ap (λ l. last_level (up_to u (from_on at (of_pin pin d.stimuli.list))) l) (start_there d.stimuli at pin lt)
     ∙ own_level d.stimuli at pin u (IsNonDecreasingBy-filter (λ s. s.at) (λ s. s.pin.0 == pin) d.stimuli.list rise)
 
@@ -191,9 +191,9 @@ rise_sooner at es rise i j d le lt =
     omega (arith, get_or-map (λ e. e - at) es i d d (omega arith), get_or-map (λ e. e - at) es j d d (omega arith), rise i j d le (omega arith))
 
 module _ (d : Drives) (at : ℕ) (edges : List ℕ) (was : AreEdges edges d.stimuli) (rise : IsNonDecreasingBy (λ s. s.at) d.stimuli.list) (proper : AreProper d) where
-  later_told : (e : ℕ) → Contains (edges_from at edges) e → (pin : ℕ) × (level_at (driven_from at d).stimuli pin e ≢ level_before (driven_from at d).stimuli pin e)
-  later_told e there =
-      let old = was.told (at + e) (edge_back at e edges there.0 there.1 there.2) in
+  later_known : (e : ℕ) → Contains (edges_from at edges) e → (pin : ℕ) × (level_at (driven_from at d).stimuli pin e ≢ level_before (driven_from at d).stimuli pin e)
+  later_known e there =
+      let old = was.known (at + e) (edge_back at e edges there.0 there.1 there.2) in
       let driven : is_driven d old.0 ≡ true = edges_are_of_driven_inputs d old.0 (at + e) proper old.1 in
       let lt : old.0 < pin_count = input_below old.0 (and_parts (is_input old.0) _ driven).0 in
       (old.0, λ same. old.1 (sym (levels_go_on d at old.0 e rise lt) ∙ same ∙ levels_start_there d at old.0 e rise lt))
@@ -209,7 +209,7 @@ module _ (d : Drives) (at : ℕ) (edges : List ℕ) (was : AreEdges edges d.stim
     ]
     | inr ge ↦
         let none : of_pin pin d.stimuli.list ≡ [] = none_of_pin (is_driven d) d.stimuli.list pin proper.stimuli (not_driven pin ge) in
-        inl (still_at (levels_told d.stimuli at pin_count) (from_on at d.stimuli.list) pin t
+        inl (still_at (levels_known d.stimuli at pin_count) (from_on at d.stimuli.list) pin t
         (ap (λ xs. list_any (λ x. x.at == t) xs) (of_pin-from_on at pin d.stimuli.list ∙ ap (from_on at) none)))
   ]
     where
@@ -222,7 +222,7 @@ module _ (d : Drives) (at : ℕ) (edges : List ℕ) (was : AreEdges edges d.stim
     within = λ t all e there.
         let le : at + e ≤ at + t = was.within (at + t) (up_to-from_on at t d.stimuli.list all) (at + e) (edge_back at e edges there.0 there.1 there.2) in
         omega arith;
-    told = later_told;
+    known = later_known;
     all = later_all;
   }
 
@@ -242,13 +242,13 @@ indexed_later d at lists later edges was proper cut = record {
   edges = edges_later d at edges was.edges was.rise proper;
 }
 
-pub told_none : (stimuli : Stimulation) (at : ℕ) → levels_told stimuli at 0 ≡ []
-unfolding levels_told
-told_none stimuli at = refl
+pub known_none : (stimuli : Stimulation) (at : ℕ) → levels_known stimuli at 0 ≡ []
+unfolding levels_known
+known_none stimuli at = refl
 
-pub told_next : (stimuli : Stimulation) (at n : ℕ) → levels_told stimuli at n ++ level_before stimuli n at ∷ [] ≡ levels_told stimuli at (n + 1)
-unfolding levels_told
-told_next stimuli at n = let next : n + 1 ≡ suc n = omega arith in rw next refl
+pub known_next : (stimuli : Stimulation) (at n : ℕ) → levels_known stimuli at n ++ level_before stimuli n at ∷ [] ≡ levels_known stimuli at (n + 1)
+unfolding levels_known
+known_next stimuli at n = let next : n + 1 ≡ suc n = omega arith in rw next refl
 
 -- lists of stimuli
 abbrev pub itemized : List (Vec Stimulus Global) → List (List Stimulus)

@@ -1,7 +1,7 @@
 // What drives the inputs from a state on.
 ghost use Rattle.std.specs.Prelude.{◌≡◌, ◌≤◌, ◌-◌, ℕ, IfOk, map, filter, nat_le, length, Vec};
 ghost use Rattle.kc_base.specs.Pins.{pin_count};
-ghost use Rattle.kc_stim.specs.Drives.{driven_from, from_on, levels_told};
+ghost use Rattle.kc_stim.specs.Drives.{driven_from, from_on, levels_known};
 ghost use Rattle.kc_stim.specs.Index.{list_of};
 ghost use Rattle.kc_stim.specs.Later.{edges_from};
 ghost use Rattle.kc_stim.specs.Parts.{drives_in, IsWhole};
@@ -68,7 +68,7 @@ fn later_edges(
 // The levels of the pins before a state.
 fn levels_before(alloc: Global, index: &Index, at: StateTime) -> Result<Vec<Level>, NoMemory>
     requires { IsWhole index.now }
-    ensures { IfOk result (λ levels. levels.items ≡ levels_told (drives_in index.now).stimuli at pin_count) }
+    ensures { IfOk result (λ levels. levels.items ≡ levels_known (drives_in index.now).stimuli at pin_count) }
 {
     let mut levels = Vec::new(alloc);
     for pin in 0..PIN_COUNT {

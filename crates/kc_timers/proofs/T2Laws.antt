@@ -125,7 +125,7 @@ timer2_due control now d h inner = record {
       let sooner : now + k < due_by control.fast control.down now d.value = omega arith in
       let le : now ≤ now + k = omega arith in
       rw (timer2_after control now k d h, inner, early control.fast control.down d.value now (now + k) h le sooner) refl;
-  loud =
+  active =
       let le : now ≤ due_by control.fast control.down now d.value = not_early control.fast control.down d.value now h in
       let e : now + (due_by control.fast control.down now d.value - now) ≡ due_by control.fast control.down now d.value = omega arith in
       rw (timer2_after control now (due_by control.fast control.down now d.value - now) d h, e, inner, late control.fast control.down d.value now h) refl;
@@ -153,8 +153,8 @@ due_slow control now left d h inner slow e = subst (λ at. DueAt (timer2_rule co
     by false is = ap (λ l. now / 8 * 8 + 7 + 8 * l) (sym e)
 
 -- a view tells the value after as many Ticks
-pub view_tells : (control : T2Control) (from to : ℕ) (d : T2) → d.value < 65536 → from ≤ to →
+pub view_shows : (control : T2Control) (from to : ℕ) (d : T2) → d.value < 65536 → from ≤ to →
     value_at (view_of control d) from to ≡ (after (timer2_rule control) from (to - from) d).value
-view_tells control from to d h le =
+view_shows control from to d h le =
     let whole : from + (to - from) ≡ to = omega arith in
     rw (timer2_after control from (to - from) d h, whole) refl

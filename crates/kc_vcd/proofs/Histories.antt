@@ -69,8 +69,8 @@ spelled-length (x ∷ items) = let rest = spelled-length items in omega (arith, 
 pub lines-push : (all : List (List ℕ)) (items new : List Record) (item : Record) (text line rest lent : List ℕ) →
     all ≡ map fields_of items ++ text_lines text → text_lines text ≡ line ∷ text_lines rest → fields_of item ≡ line → new ≡ items ++ item ∷ [] → lent ≡ rest →
     all ≡ map fields_of new ++ text_lines lent
-lines-push all items new item text line rest lent told split is grown same =
-    told
+lines-push all items new item text line rest lent described split is grown same =
+    described
     ∙ ap (λ ls. map fields_of items ++ ls) split
     ∙ sym (append_assoc (map fields_of items) (line ∷ []) (text_lines rest))
     ∙ ap (λ l. (map fields_of items ++ l ∷ []) ++ text_lines rest) (sym is)
@@ -83,20 +83,20 @@ nothing_left (c ∷ cs) none = absurd (omega arith)
 
 -- all lines are those of records
 pub lines-done : (all : List (List ℕ)) (items : List Record) (text : List ℕ) → all ≡ map fields_of items ++ text_lines text → length text ≡ 0 → all ≡ map fields_of items
-lines-done all items text told none = told ∙ ap (λ ls. map fields_of items ++ ls) (nothing_left text none) ∙ append-nil (map fields_of items)
+lines-done all items text described none = described ∙ ap (λ ls. map fields_of items ++ ls) (nothing_left text none) ∙ append-nil (map fields_of items)
 
 -- a line that is that of no record which may come
 pub refused : (all : List (List ℕ)) (items : List Record) (line : List ℕ) (more : List (List ℕ)) → all ≡ map fields_of items ++ line ∷ more → IsHistory 0 items →
     ((item : Record) → IsSound item → latest 0 items ≤ time_after (latest 0 items) item → fields_of item ≡ line → ⊥) → IsFirstWrong all (length items + 1)
-refused all items line more told history none =
-    let front : List (List ℕ) = map fields_of items in
-    let upto : List (List ℕ) = front ++ line ∷ [] in
-    let long : length front ≡ length items = spelled-length items in
-    let longer : length upto ≡ length items + 1 = length-append front (line ∷ []) ∙ ap (λ n. n + 1) long in
-    let whole : all ≡ upto ++ more = told ∙ sym (append_assoc front (line ∷ []) more) in
+refused all items line more described history none =
+    let prefix : List (List ℕ) = map fields_of items in
+    let upto : List (List ℕ) = prefix ++ line ∷ [] in
+    let long : length prefix ≡ length items = spelled-length items in
+    let longer : length upto ≡ length items + 1 = length-append prefix (line ∷ []) ∙ ap (λ n. n + 1) long in
+    let whole : all ≡ upto ++ more = described ∙ sym (append_assoc prefix (line ∷ []) more) in
     let size : length all ≡ length upto + length more = ap length whole ∙ length-append upto more in
-    let less : length items + 1 - 1 ≡ length front = omega (arith, long) in
-    let first : take (length items + 1 - 1) all ≡ front = (λ i. take (less i) (told i)) ∙ take-append_seam front (line ∷ more) in
+    let less : length items + 1 - 1 ≡ length prefix = omega (arith, long) in
+    let first : take (length items + 1 - 1) all ≡ prefix = (λ i. take (less i) (described i)) ∙ take-append_seam prefix (line ∷ more) in
     let second : take (length items + 1) all ≡ upto = (λ i. take (sym longer i) (whole i)) ∙ take-append_seam upto more in
     record {
       first = omega arith;

@@ -3,5 +3,5 @@ pub mod Pins
 pub mod Spelled
 pub mod Histories
 pub mod Growing
-pub mod Told
+pub mod Described
 pub mod Readings

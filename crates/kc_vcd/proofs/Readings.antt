@@ -26,29 +26,29 @@ one_trace : (lines : List (List ℕ)) (items others : List Record) → IsTrace l
 one_trace lines items others h k = one_history 0 items others h.history k.history (sym h.spelled ∙ k.spelled)
 
 -- a front of a trace is a trace
-front_history : (before n : ℕ) (items : List Record) → IsHistory before items → IsHistory before (take n items)
+prefix_history : (before n : ℕ) (items : List Record) → IsHistory before items → IsHistory before (take n items)
 unfolding IsHistory
-front_history before zero items h = tt
-front_history before (suc n) [] h = tt
-front_history before (suc n) (x ∷ items) h = (h.0, h.1, front_history (time_after before x) n items h.2)
+prefix_history before zero items h = tt
+prefix_history before (suc n) [] h = tt
+prefix_history before (suc n) (x ∷ items) h = (h.0, h.1, prefix_history (time_after before x) n items h.2)
 
-front_trace : (n : ℕ) (lines : List (List ℕ)) (items : List Record) → IsTrace lines items → IsTrace (take n lines) (take n items)
-front_trace n lines items h = record {
+prefix_trace : (n : ℕ) (lines : List (List ℕ)) (items : List Record) → IsTrace lines items → IsTrace (take n lines) (take n items)
+prefix_trace n lines items h = record {
   spelled = ap (take n) h.spelled ∙ take-map fields_of n items;
-  history = front_history 0 n items h.history;
+  history = prefix_history 0 n items h.history;
 }
 
 -- a trace has no wrong line
 pub never_wrong : (lines : List (List ℕ)) (items : List Record) (line : ℕ) → IsTrace lines items → IsFirstWrong lines line → ⊥
-never_wrong lines items line h k = k.wrong (take line items) (front_trace line lines items h)
+never_wrong lines items line h k = k.wrong (take line items) (prefix_trace line lines items h)
 
 -- the lines before the first wrong one are a trace
 not_before : (lines : List (List ℕ)) (line other : ℕ) → line < other → IsFirstWrong lines line → IsFirstWrong lines other → ⊥
 not_before lines line other less h k =
     let items = k.before.0 in
-    let front : IsTrace (take line (take (other - 1) lines)) (take line items) = front_trace line (take (other - 1) lines) items k.before.1 in
+    let prefix : IsTrace (take line (take (other - 1) lines)) (take line items) = prefix_trace line (take (other - 1) lines) items k.before.1 in
     let same : take line (take (other - 1) lines) ≡ take line lines = take-take line (other - 1) lines (omega (arith, less)) in
-    h.wrong (take line items) (subst (λ ls. IsTrace ls (take line items)) same front)
+    h.wrong (take line items) (subst (λ ls. IsTrace ls (take line items)) same prefix)
 
 one_line : (lines : List (List ℕ)) (line other : ℕ) → IsFirstWrong lines line → IsFirstWrong lines other → line ≡ other
 one_line lines line other h k = by (cases_order line other)

@@ -79,9 +79,9 @@ head_end =
     ++ codes "#0\n"
     ++ codes "$dumpvars\n"
 
-abbrev pub front : List ℕ
-front = head ++ pin_declarations pin_count ++ event_declarations ++ head_end ++ start_lines pin_count ++ codes "$end\n"
+abbrev pub prefix : List ℕ
+prefix = head ++ pin_declarations pin_count ++ event_declarations ++ head_end ++ start_lines pin_count ++ codes "$end\n"
 
 -- with state times of so many picoseconds
 abbrev pub dump_of : ℕ → List Record → List ℕ
-dump_of length items = front ++ changes length 0 items
+dump_of length items = prefix ++ changes length 0 items

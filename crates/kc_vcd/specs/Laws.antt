@@ -8,16 +8,16 @@ use Rattle.kc_vcd.specs.History.{IsHistory}
 use Rattle.kc_vcd.specs.Reading.{IsTrace, IsFirstWrong}
 use Rattle.kc_vcd.specs.Levels.{level_at}
 use Rattle.kc_vcd.specs.Dump.{dump_of}
-use Rattle.kc_vcd.specs.Reader.{told}
+use Rattle.kc_vcd.specs.Reader.{described}
 
 -- what the board prints is read as the records that were printed
 abbrev pub TracesAreRead : Type 0
 TracesAreRead = (items : List Record) → IsHistory 0 items → IsTrace (text_lines (text_of items)) items
 
 -- in every state the dump tells of every pin the level after all edges up to it
-abbrev pub DumpsTellLevels : Type 0
-DumpsTellLevels = (length : ℕ) (items : List Record) (pin t : ℕ) → 1 ≤ length → length ≤ 2000000000000 → IsHistory 0 items → IsPin pin →
-    told (dump_of length items) (length * t) (pin_name pin) ≡ Some (level_at items pin t)
+abbrev pub DumpsDescribeLevels : Type 0
+DumpsDescribeLevels = (length : ℕ) (items : List Record) (pin t : ℕ) → 1 ≤ length → length ≤ 2000000000000 → IsHistory 0 items → IsPin pin →
+    described (dump_of length items) (length * t) (pin_name pin) ≡ Some (level_at items pin t)
 
 -- lines are those of one trace, or one line of them is the first wrong one
 pub record OneReading : Type 0 where

@@ -38,14 +38,14 @@ changed_by code reached level (c ∷ d ∷ []) = if reached && (d == code) then 
 changed_by code reached level _ = level
 
 -- the level that the lines up to a time say
-unfoldable pub level_told : ℕ → ℕ → Bool → Option Level → List (List ℕ) → Option Level
-level_told time code reached level [] = level
-level_told time code reached level (line ∷ lines) = level_told time code (reached_by time reached line) (changed_by code reached level line) lines
+unfoldable pub level_described : ℕ → ℕ → Bool → Option Level → List (List ℕ) → Option Level
+level_described time code reached level [] = level
+level_described time code reached level (line ∷ lines) = level_described time code (reached_by time reached line) (changed_by code reached level line) lines
 
-abbrev pub told_with : ℕ → List (List ℕ) → Option ℕ → Option Level
-told_with time lines None = None
-told_with time lines (Some code) = level_told time code false None lines
+abbrev pub described_with : ℕ → List (List ℕ) → Option ℕ → Option Level
+described_with time lines None = None
+described_with time lines (Some code) = level_described time code false None lines
 
 -- the level of a variable at a time; None where the dump tells none
-abbrev pub told : List ℕ → ℕ → List ℕ → Option Level
-told dump time name = told_with time (text_lines dump) (code_of name (text_lines dump))
+abbrev pub described : List ℕ → ℕ → List ℕ → Option Level
+described dump time name = described_with time (text_lines dump) (code_of name (text_lines dump))

@@ -9,7 +9,7 @@ ghost use Rattle.kc_vcd.specs.History.{IsSound};
 
 use crate::fields::{base, end, kind, level, mode, number};
 use kc_base::{
-    Edge, Pin, Undefined, front, hex_byte, hex_word, pin_number, split_at_space, state_time,
+    Edge, Pin, Undefined, hex_byte, hex_word, pin_number, prefix, split_at_space, state_time,
 };
 use kc_trace::{Record, line as line_of};
 
@@ -147,7 +147,7 @@ fn is_spelled(item: &Record, line: &[u8]) -> bool
 {
     let text = line_of(item);
     let text = text.as_slice();
-    front(text, text.len() - 1) == line
+    prefix(text, text.len() - 1) == line
 }
 
 /// The record that is spelled as a line; `None` where no record is that a run may have.

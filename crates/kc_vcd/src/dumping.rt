@@ -3,7 +3,7 @@ ghost use Rattle.std.specs.Prelude.{◌≡◌, ◌≤◌, ◌++◌, IfOk, OnOk};
 ghost use Rattle.kc_base.specs.Pins.{IsPin, pin_count};
 ghost use Rattle.kc_trace.specs.Printable.{CanPrint};
 ghost use Rattle.kc_vcd.specs.History.{IsHistory};
-ghost use Rattle.kc_vcd.specs.Dump.{state_length as picoseconds, pin_code as code_of_pin, declaration, pin_declarations, event_declarations, start_lines, change_of, stamp, record_text, changes, front as front_text, dump_of};
+ghost use Rattle.kc_vcd.specs.Dump.{state_length as picoseconds, pin_code as code_of_pin, declaration, pin_declarations, event_declarations, start_lines, change_of, stamp, record_text, changes, prefix as prefix_text, dump_of};
 
 use crate::levels::start_level;
 use crate::trace::{Trace, time_after};
@@ -85,8 +85,8 @@ fn put_start(text: &mut Vec<u8>) -> Result<(), NoMemory>
     Ok(())
 }
 
-fn put_front(text: &mut Vec<u8>) -> Result<(), NoMemory>
-    ensures { OnOk result (text.new.items ≡ text.old.items ++ front_text) }
+fn put_prefix(text: &mut Vec<u8>) -> Result<(), NoMemory>
+    ensures { OnOk result (text.new.items ≡ text.old.items ++ prefix_text) }
 {
     put(text, HEAD)?;
     put_pins(text)?;
@@ -172,7 +172,7 @@ pub fn dump(alloc: Global, trace: &Trace, clock: u32) -> Result<Vec<u8>, NoMemor
     ensures { IfOk result (λ text. text.items ≡ dump_of (picoseconds clock) trace.now) }
 {
     let mut text = Vec::new(alloc);
-    put_front(&mut text)?;
+    put_prefix(&mut text)?;
     put_records(&mut text, state_length(clock), trace.records())?;
     Ok(text)
 }

@@ -1,4 +1,4 @@
-ghost use Rattle.kc_vcd.specs.Laws.{DumpsTellLevels, OneReading, TracesAreRead};
+ghost use Rattle.kc_vcd.specs.Laws.{DumpsDescribeLevels, OneReading, TracesAreRead};
 
 /// The text of records that a run may have, in the order of time, is read as these records.
 pub fn traces_are_read()
@@ -6,8 +6,8 @@ pub fn traces_are_read()
 {}
 
 /// In every state a dump tells of every pin the level after all edges of the trace up to it, or the one at the start.
-pub fn dumps_tell_levels()
-    ensures { DumpsTellLevels }
+pub fn dumps_describe_levels()
+    ensures { DumpsDescribeLevels }
 {}
 
 /// A text is read as one list of records at most, or one line of it is the first that makes it no trace.

@@ -11,5 +11,5 @@ mod trace;
 
 pub use dumping::dump;
 pub use fault::VcdFault;
-pub use laws::{dumps_tell_levels, one_reading, traces_are_read};
+pub use laws::{dumps_describe_levels, one_reading, traces_are_read};
 pub use trace::Trace;

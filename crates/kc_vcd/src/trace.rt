@@ -7,7 +7,7 @@ ghost use Rattle.kc_vcd.specs.Reading.{IsTraceRead};
 
 use crate::candidates::record;
 use crate::fault::VcdFault;
-use kc_base::{NoMemory, StateTime, after, first_line, front};
+use kc_base::{NoMemory, StateTime, after, first_line, prefix};
 use kc_trace::Record;
 use std::alloc::Global;
 use std::marker::Model;
@@ -78,7 +78,7 @@ impl Trace {
         while !rest.is_empty() {
             let (len, used) = first_line(rest);
             lines += 1;
-            match record_after(time, front(rest, len)) {
+            match record_after(time, prefix(rest, len)) {
                 Some(item) => {
                     time = time_after(time, &item);
                     push(&mut records, item)?;

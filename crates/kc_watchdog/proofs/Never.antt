@@ -10,4 +10,4 @@ use Rattle.kc_watchdog.specs.Watching.{watchdog_further}
 pub never_due : {D : Type 0} (other : Rule D) → ((t : ℕ) (e : D) → other.quiet t e ≡ true) → (now : ℕ) (e : D) (d : Watchdog) (due : Option ℕ) →
     IsDue other now e due → IsDue (further_rule watchdog_further.rest watchdog_further.rest_out) now d due
 never_due other quiet now e d None never = λ n k lt. refl
-never_due other quiet now e d (Some at) due = absurd (false≢true (sym due.loud ∙ quiet _ _))
+never_due other quiet now e d (Some at) due = absurd (false≢true (sym due.active ∙ quiet _ _))

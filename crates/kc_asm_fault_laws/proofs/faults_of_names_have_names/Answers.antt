@@ -1,4 +1,4 @@
-use Rattle.kc_asm_fault_laws.proofs.Subjects.{faults_of_names_have_names}
+use Rattle.kc_asm_fault_laws.proofs.Symbols.{faults_of_names_have_names}
 use Rattle.kc_asm_fault_laws.proofs.faults_of_names_have_names.Goals as goal
 
 pub returns : goal.returns

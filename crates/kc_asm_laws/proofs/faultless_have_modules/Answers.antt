@@ -6,8 +6,8 @@ returns c = faultless_have_modules (record {
   of_text = c.statements_are_of_the_text.ensures;
   read = c.sources_are_read_well.ensures;
   pieces = c.pieces_are_few.ensures;
-  drafts = c.drafts_are_drafts.ensures;
-  whole = c.drafts_are_whole.ensures;
+  unlinked_modules = c.unlinked_modules_are_unlinked.ensures;
+  whole = c.unlinked_modules_are_whole.ensures;
   writable = c.parts_are_writable.ensures;
   sound = c.no_fault_no_codes.ensures;
 })

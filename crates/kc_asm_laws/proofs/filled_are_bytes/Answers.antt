@@ -7,7 +7,7 @@ returns c = filled_are_bytes (record {
   nothing_else = c.nothing_else_stands.ensures;
   of_text = c.statements_are_of_the_text.ensures;
   read = c.sources_are_read_well.ensures;
-  drafts = c.drafts_are_drafts.ensures;
-  whole = c.drafts_are_whole.ensures;
-  linked = c.drafts_are_linked.ensures;
+  unlinked_modules = c.unlinked_modules_are_unlinked.ensures;
+  whole = c.unlinked_modules_are_whole.ensures;
+  linked = c.unlinked_modules_are_linked.ensures;
 })

@@ -1,4 +1,4 @@
-use Rattle.kc_block_lane.proofs.Lanes.{alike, alike_shows}
+use Rattle.kc_block_lane.proofs.Scheduler.{alike, alike_shows}
 use Rattle.kc_block_lane.proofs.alike_rules.Goals as goal
 
 pub returns-clause-due : goal.returns-clause-due

@@ -1,4 +1,4 @@
-use Rattle.kc_block_lane.proofs.Lanes.{lent}
+use Rattle.kc_block_lane.proofs.Scheduler.{lent}
 use Rattle.kc_block_lane.proofs.lent_quietly.Goals as goal
 
 pub returns : goal.returns

@@ -1,4 +1,4 @@
-use Rattle.kc_block_lane.proofs.Lanes.{passes_over}
+use Rattle.kc_block_lane.proofs.Scheduler.{passes_over}
 use Rattle.kc_block_lane.proofs.passes_over.Goals as goal
 
 pub returns : goal.returns

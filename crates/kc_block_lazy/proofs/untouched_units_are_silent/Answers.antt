@@ -1,4 +1,4 @@
-use Rattle.kc_block_lazy.proofs.Told.{untouched_are_silent}
+use Rattle.kc_block_lazy.proofs.Known.{untouched_are_silent}
 use Rattle.kc_block_lazy.proofs.untouched_units_are_silent.Goals as goal
 
 pub returns : goal.returns

@@ -1,9 +1,9 @@
 use Rattle.kc_link_source_laws.proofs.Statements.{Laws}
-use Rattle.kc_link_source_laws.proofs.Linking.{DraftLaws, linked_image}
+use Rattle.kc_link_source_laws.proofs.Linking.{UnlinkedLaws, linked_image}
 use Rattle.kc_link_source_laws.proofs.linked_image.Goals as goal
 
 pub returns : goal.returns
-returns c = linked_image operations drafts
+returns c = linked_image operations unlinked_modules
   where
     operations : Laws
     operations = record {
@@ -15,17 +15,17 @@ returns c = linked_image operations drafts
       words = c.numbers_are_words.ensures;
     }
 
-    drafts : DraftLaws
-    drafts = record {
-      drafts = c.drafts_are_drafts.ensures;
-      whole = c.drafts_are_whole.ensures;
-      settled = c.drafts_are_settled.ensures;
+    unlinked_modules : UnlinkedLaws
+    unlinked_modules = record {
+      unlinked_modules = c.unlinked_modules_are_unlinked.ensures;
+      whole = c.unlinked_modules_are_whole.ensures;
+      settled = c.unlinked_modules_are_settled.ensures;
       stand = c.statements_stand.ensures;
       nothing_else = c.nothing_else_stands.ensures;
       sound = c.no_fault_no_codes.ensures;
       formed = c.statements_are_formed.ensures;
       numbers = c.numbers_stand.ensures;
-      linked = c.drafts_are_linked.ensures;
+      linked = c.unlinked_modules_are_linked.ensures;
       read = c.held_is_read.ensures;
       fit = c.numbers_fit.ensures;
       absolute = c.absolute_parts_stand.ensures;

@@ -1,4 +1,4 @@
-use Rattle.kc_serial_laws.proofs.ToldLaws.{ends_requested}
+use Rattle.kc_serial_laws.proofs.KnownLaws.{ends_requested}
 use Rattle.kc_serial_laws.proofs.ends_are_requested.Goals as goal
 
 pub returns : goal.returns

@@ -1,5 +1,5 @@
-use Rattle.kc_serial_laws.proofs.ToldLaws.{status_told}
+use Rattle.kc_serial_laws.proofs.KnownLaws.{status_known}
 use Rattle.kc_serial_laws.proofs.status_is_by_history.Goals as goal
 
 pub returns : goal.returns
-returns c = status_told
+returns c = status_known

@@ -1,7 +1,7 @@
 use Rattle.std.proofs.Common.{◌≤◌, inr, length, sym, subst, arith, Ok, Err}
 use Rattle.kc_lex.specs.declared.fault.SourceFault.{SourceFault}
 use Rattle.kc_source.specs.Faults.{AreStatements}
-use Rattle.kc_asm_symbols.specs.Told.{AreReadWell}
+use Rattle.kc_asm_symbols.specs.Reported.{AreReadWell}
 use Rattle.kc_asm.specs.Assembled.{AreSaid, IsMade, IsAssembled}
 use Rattle.kc_asm.proofs.Characters.{has_characters}
 use Rattle.kc_asm.proofs.Said.{said_well}
@@ -29,14 +29,14 @@ returns-in-Ok-Ok c =
     let made : IsMade c.in_ok-stmts.stmts.items (Ok c.in-Ok-Ok.module) = rw (c.deref-2.ensures.value, c.in-Ok-Ok.field-0-is) at c.in-Ok-Ok.ensures in
     let characters = has_characters c.args.source.now c.in_ok-stmts.stmts.items
     (c.statements_are_of_the_text.ensures c.args.source.now c.in_ok-lines.lines.items c.in_ok-text.text.items c.in_ok-stmts.stmts.items c.in_ok-lines.ensures (c.in_ok-text.ensures.lines (lines_numbered c.args.source.now c.in_ok-lines.lines.items c.requires c.in_ok-lines.ensures)) statements) in
-    record { stmts = c.in_ok-stmts.stmts.items; said = said; characters = characters; sound = made.1; draft = made.0; drafted = made.2; few = made.3; made = made.4 }
+    record { stmts = c.in_ok-stmts.stmts.items; said = said; characters = characters; sound = made.1; unlinked = made.0; collected = made.2; few = made.3; made = made.4 }
 
 pub returns-in-Ok-Err : goal.returns-in-Ok-Err
 returns-in-Ok-Err c =
     let statements : AreStatements c.in_ok-stmts.stmts.items c.in_ok-text.text.items = rw c.deref.ensures.value at c.in_ok-stmts.ensures in
     let said : AreSaid c.args.source.now c.in_ok-stmts.stmts.items = (c.in_ok-text.text.items, (c.in_ok-lines.lines.items, c.in_ok-lines.ensures, (c.in_ok-text.ensures.lines (lines_numbered c.args.source.now c.in_ok-lines.lines.items c.requires c.in_ok-lines.ensures))), statements) in
-    let told : IsMade c.in_ok-stmts.stmts.items (Err c.in-Ok-Err.fault) = rw (c.deref-2.ensures.value, c.in-Ok-Err.field-0-is) at c.in-Ok-Err.ensures in
-    subst (λ (e : SourceFault). IsAssembled c.args.source.now (Err e)) (sym c.from.ensures) (inr (inr (inr (c.in_ok-stmts.stmts.items, said, told))))
+    let reported : IsMade c.in_ok-stmts.stmts.items (Err c.in-Ok-Err.fault) = rw (c.deref-2.ensures.value, c.in-Ok-Err.field-0-is) at c.in-Ok-Err.ensures in
+    subst (λ (e : SourceFault). IsAssembled c.args.source.now (Err e)) (sym c.from.ensures) (inr (inr (inr (c.in_ok-stmts.stmts.items, said, reported))))
 
 pub returns-in_err-text : goal.returns-in_err-text
 returns-in_err-text c =

@@ -3,7 +3,7 @@ use Rattle.std.proofs.lemmas.List.{length-map}
 use Rattle.kc_source_laws.proofs.Counts.{line_count, lines_numbered}
 use Rattle.kc_macro.specs.Expansion.{AreNumbered, expanded}
 use Rattle.kc_asm_cause.specs.Written.{marked, marked_line}
-use Rattle.kc_asm_cause.specs.Cause.{IsCauseAmong}
+use Rattle.kc_asm_cause.specs.Cause.{IsOriginAmong}
 use Rattle.kc_asm_cause.proofs.Between.{of_expansions, no_text, no_marks}
 use Rattle.kc_asm_cause.proofs.finding.cause.Goals as goal
 
@@ -16,7 +16,7 @@ returns c =
     let as_many : length c.in_ok-marks.marks.items ≡ length read = ap length marks ∙ length-map read marked_line in
     let numbered : AreNumbered c.in_ok-marks.marks.items = omega (arith, as_many, c.requires, line_count c.args.source.now read c.in-Ok.ensures) in
     let expanded_marks : expanded (marked read) ≡ Some (Ok other) = rw (← marks) (c.in-Ok-expand-2.ensures.lines numbered) in
-    let among : IsCauseAmong (c.args.line, c.args.code) text other c.in_ok-found.found = rw (c.deref-2.ensures.value, c.deref-3.ensures.value) at c.in_ok-found.ensures in
+    let among : IsOriginAmong (c.args.line, c.args.code) text other c.in_ok-found.found = rw (c.deref-2.ensures.value, c.deref-3.ensures.value) at c.in_ok-found.ensures in
     of_expansions c.args.source.now c.args.line c.args.code read text other c.in_ok-found.found c.in-Ok.ensures (c.in-Ok-expand.ensures.lines (lines_numbered c.args.source.now read c.requires c.in-Ok.ensures)) expanded_marks among
 
 pub returns-in-Err-At-expand : goal.returns-in-Err-At-expand

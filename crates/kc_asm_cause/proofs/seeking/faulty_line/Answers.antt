@@ -1,25 +1,25 @@
 use Rattle.std.proofs.Common.{◌≡◌, ◌+◌, inl, inr, suc, true, false, refl, arith}
 use Rattle.kc_asm_cause.specs.First.{with_first}
-use Rattle.kc_asm_cause.specs.Told.{Tells}
+use Rattle.kc_asm_cause.specs.Reported.{Reports}
 use Rattle.kc_asm_cause.specs.Cause.{middle, IsHalved}
 use Rattle.kc_asm_cause.proofs.seeking.faulty_line.Goals as goal
 
 pub loop-low-preserved-then-branch : goal.loop-low-preserved-then-branch
 unfolding IsHalved
 loop-low-preserved-then-branch c =
-    let told : Tells (with_first c.args.fault.0 (middle c.loop-low.low c.loop-low.high) c.args.text.now) c.args.fault true = rw c.if-branch.true at c.in_ok-tells_with.ensures in
+    let reported : Reports (with_first c.args.fault.0 (middle c.loop-low.low c.loop-low.high) c.args.text.now) c.args.fault true = rw c.if-branch.true at c.in_ok-reports_with.ensures in
     record {
       below = omega arith;
       within = omega arith;
-      with = told;
+      with = reported;
       without = c.loop-low.invariant.without;
-      halved = λ k rounds h. c.loop-low.invariant.halved k (suc rounds) (c.loop-low-test.true, inl (told, h));
+      halved = λ k rounds h. c.loop-low.invariant.halved k (suc rounds) (c.loop-low-test.true, inl (reported, h));
     }
 
 pub loop-low-preserved : goal.loop-low-preserved
 unfolding IsHalved
 loop-low-preserved c =
-    let untold : Tells (with_first c.args.fault.0 (middle c.loop-low.low c.loop-low.high) c.args.text.now) c.args.fault false = rw c.if-branch.false at c.in_ok-tells_with.ensures in
+    let untold : Reports (with_first c.args.fault.0 (middle c.loop-low.low c.loop-low.high) c.args.text.now) c.args.fault false = rw c.if-branch.false at c.in_ok-reports_with.ensures in
     record {
       below = omega arith;
       within = c.loop-low.invariant.within;

@@ -1,6 +1,6 @@
 use Rattle.std.proofs.Common.{ℕ, ◌-◌, ◌<◌, ◌≤◌, true, false}
 use Rattle.kc_asm_cause.specs.First.{with_first}
-use Rattle.kc_asm_cause.specs.Told.{Tells}
+use Rattle.kc_asm_cause.specs.Reported.{Reports}
 use Rattle.kc_asm_cause.specs.Cause.{IsHalved}
 use Rattle.kc_asm_cause.proofs.seeking.faulty_line.Given as goal
 
@@ -8,8 +8,8 @@ abbrev pub invariant-loop-low : goal.invariant-loop-low
 invariant-loop-low l = record {
   below : l.low < l.high;
   within : l.high ≤ l.count;
-  with : Tells (with_first l.fault.0 l.high l.text) l.fault true;
-  without : Tells (with_first l.fault.0 l.low l.text) l.fault false;
+  with : Reports (with_first l.fault.0 l.high l.text) l.fault true;
+  without : Reports (with_first l.fault.0 l.low l.text) l.fault false;
   halved : (k rounds : ℕ) → IsHalved rounds l.fault l.text l.low l.high k → (r : ℕ) × IsHalved r l.fault l.text 0 l.count k;
 }
 

@@ -2,7 +2,7 @@ use Rattle.std.proofs.Common.{◌+◌, ◌++◌, ℕ, List, drop, ap, sym, ◌�
 use Rattle.kc_asm_symbols.specs.Located.{first_segment}
 use Rattle.kc_asm_symbols.specs.Meanings.{in_all}
 use Rattle.kc_asm_symbols.specs.Tables.{is_marked}
-use Rattle.kc_asm_draft_laws.specs.Drafting.{publics_of as distinct_publics, distinct_from}
+use Rattle.kc_asm_draft_laws.specs.Collecting.{publics_of as distinct_publics, distinct_from}
 use Rattle.std.specs.Prelude.{[]}
 use Rattle.kc_asm_draft.specs.Giving.{given_from}
 use Rattle.kc_asm_draft.proofs.NamedLemmas.{given_in, given_at, given_no_more, given_everywhere}

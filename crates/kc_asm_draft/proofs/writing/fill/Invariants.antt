@@ -1,7 +1,7 @@
 use Rattle.std.proofs.Common.{◌≡◌, ◌+◌, ◌≤◌}
 use Rattle.std.specs.Prelude.{replicate}
-use Rattle.kc_asm_bytes.specs.declared.octet.Octet.TheVariants.{Plain}
-use Rattle.kc_asm_piece.specs.Tape.{laid}
+use Rattle.kc_asm_bytes.specs.declared.relocatable_byte.RelocatableByte.TheVariants.{Plain}
+use Rattle.kc_asm_piece.specs.Section.{laid}
 use Rattle.kc_asm_draft.proofs.writing.fill.Given as goal
 
 abbrev pub invariant-loop-left : goal.invariant-loop-left

@@ -2,7 +2,7 @@ use Rattle.std.proofs.Common.{◌≡◌, ◌∙◌, ap, sym, length, map}
 use Rattle.std.specs.Prelude.{min}
 use Rattle.kc_source_statement.specs.Trees.{item_tree, arg_tree, action_tree}
 use Rattle.kc_asm_operation.specs.Instructions.{instructions}
-use Rattle.kc_asm_encoding.specs.Octets.{all_octets}
+use Rattle.kc_asm_encoding.specs.RelocatableBytes.{all_relocatable_bytes}
 use Rattle.kc_asm_emission.specs.declared.extent.Extent.TheVariants as extent
 use Rattle.kc_asm_emission.specs.Arguments as arguments
 use Rattle.kc_asm_emission.specs.Content as content
@@ -19,5 +19,5 @@ returns-in-Define g c = λ place.
 pub returns-in_ok-count-in-Operation : goal.returns-in_ok-count-in-Operation
 returns-in_ok-count-in-Operation g c = λ place.
     ap extent.Bytes (c.in_ok-count-in-Operation.ensures place
-    ∙ (λ i. min (length (all_octets (instructions (c.as_slice-in-Operation.ensures i) (arguments.arguments (g.S.Scope.answers c.args.scope.now) (map arg_tree (c.as_slice-in-Operation-2.ensures i))) c.args.form place))) most))
+    ∙ (λ i. min (length (all_relocatable_bytes (instructions (c.as_slice-in-Operation.ensures i) (arguments.arguments (g.S.Scope.answers c.args.scope.now) (map arg_tree (c.as_slice-in-Operation-2.ensures i))) c.args.form place))) most))
     ∙ ap (λ a. counted (content.extent_of (content.content (g.S.Scope.answers c.args.scope.now) c.args.form place (action_tree a)))) (sym c.in-Operation.is)

@@ -2,7 +2,7 @@ use Rattle.std.proofs.Common.{◌≡◌, ◌++◌, drop}
 use Rattle.kc_asm_layout.specs.Text as spec
 use Rattle.kc_asm_layout.proofs.text.push_all_absolute.Given as goal
 
-abbrev pub invariant-loop-note : goal.invariant-loop-note
-invariant-loop-note l =
-    l.text.items ++ spec.text_by (spec.absolute_text (spec.target_in l.positions l.fn.notes)) l.later (drop l.note-index l.notes)
-    ≡ l.fn.text.items ++ spec.text_by (spec.absolute_text (spec.target_in l.positions l.fn.notes)) l.gaps l.notes
+abbrev pub invariant-loop-size_record : goal.invariant-loop-size_record
+invariant-loop-size_record l =
+    l.text.items ++ spec.text_by (spec.absolute_text (spec.target_in l.positions l.fn.size_records)) l.later (drop l.size_record-index l.size_records)
+    ≡ l.fn.text.items ++ spec.text_by (spec.absolute_text (spec.target_in l.positions l.fn.size_records)) l.gaps l.size_records

@@ -46,6 +46,6 @@ returns c =
       deep = subst (λ (ls : List Line). depths_of ls ≡ Some (Ok c.in_ok-deep.deep.items)) (sym same) (c.in_ok-deep.ensures.depths (numbered again c.requires c.in_ok-again.ensures));
       stmts = c.in_ok-stmts.stmts.items;
       said = rw c.deref.ensures.value at c.in_ok-stmts.ensures;
-      told = c.in_ok-listed.ensures ∙ ap (listing c.args.object.now c.args.source.now)
+      reported = c.in_ok-listed.ensures ∙ ap (listing c.args.object.now c.args.source.now)
           (c.in_ok-spots.ensures ∙ (λ i. spots_of (c.deref-2.ensures.value i) (c.deref-3.ensures.value i) (c.deref-4.ensures.value i)));
     }

@@ -1,7 +1,7 @@
 use Rattle.std.proofs.Common.{◌≡◌, List, ◌++◌, true, false, eqb, length, take, drop, ◌-◌, sym, ap, subst, ◌∙◌}
 use Rattle.std.specs.Prelude.{All}
 use Rattle.kc_source_statement.specs.Operands.{is_nil}
-use Rattle.kc_asm_outline.specs.declared.note.Note.{Note}
+use Rattle.kc_asm_outline.specs.declared.size_record.SizeRecord.{SizeRecord}
 use Rattle.kc_asm_outline.specs.Bounds.{IsBounded}
 use Rattle.kc_asm_list.specs.Spots.{spots_from}
 use Rattle.kc_asm_list.proofs.Walk.{all_behind, no_tokens, said, blank}
@@ -12,7 +12,7 @@ pub loop-left-preserved : goal.loop-left-preserved
 loop-left-preserved c =
     let l = c.loop-left in
     let line = c.line-item.result in
-    let whole = spots_from c.args.text.now c.args.depths.now c.args.notes.now c.args.sites.now in
+    let whole = spots_from c.args.text.now c.args.depths.now c.args.size_records.now c.args.locations.now in
     let tokens : is_nil line.tokens ≡ c.is_empty.result = no_tokens line.tokens ∙ sym (c.is_empty.ensures ∙ ap (λ ts. eqb (length ts) 0) c.as_slice.ensures) in
     let left = take (length l.left.now - 1) (drop 1 l.left.now) in
     elim c.if-not-is_empty.branch [
@@ -34,6 +34,6 @@ loop-left-preserved c =
           let standing : c.if-not-is_empty.standing.now ≡ l.standing.now = ap (λ b. b.now) w.standing-is in
           record {
             goes_on = (λ i. spots i ++ spots_from left (c.behind-deep.ensures i) (ahead i) (standing i)) ∙ here;
-            bounded = subst (λ (ns : List Note). All IsBounded ns) (sym ahead) l.invariant.bounded;
+            bounded = subst (λ (ns : List SizeRecord). All IsBounded ns) (sym ahead) l.invariant.bounded;
           }
     ]

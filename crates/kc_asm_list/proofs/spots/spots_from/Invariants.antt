@@ -6,7 +6,7 @@ use Rattle.kc_asm_list.proofs.spots.spots_from.Given as goal
 
 abbrev pub invariant-loop-left : goal.invariant-loop-left
 invariant-loop-left l = record {
-  goes_on : l.spots.items ++ spec.spots_from l.left l.deep l.ahead l.standing ≡ spec.spots_from l.text l.depths l.notes l.sites;
+  goes_on : l.spots.items ++ spec.spots_from l.left l.deep l.ahead l.standing ≡ spec.spots_from l.text l.depths l.size_records l.locations;
   bounded : All IsBounded l.ahead;
 }
 

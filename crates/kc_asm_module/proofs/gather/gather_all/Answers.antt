@@ -1,6 +1,6 @@
 use Rattle.std.proofs.Common.{Some, ◌≡◌}
 use Rattle.kc_asm_module.specs.Order.{number_of, kept_if, stack_pieces}
-use Rattle.kc_asm_module.specs.Sheet.{empty}
+use Rattle.kc_asm_module.specs.ModuleContents.{empty}
 use Rattle.kc_asm_module.proofs.Gathering.{room_two, room_three, room_four, room_five, five_added}
 use Rattle.kc_asm_module.proofs.gather.gather_all.Goals as goal
 

@@ -1,7 +1,7 @@
 use Rattle.std.proofs.Common.{length, ap, ◌∙◌}
 use Rattle.kc_asm_symbols.specs.Located.{located_by, place_values, first_segment}
 use Rattle.kc_asm_symbols.proofs.ValueLemmas.{all_values, value_count}
-use Rattle.kc_asm_outline.specs.Outline.{on_its_own}
+use Rattle.kc_asm_outline.specs.StatementSizes.{on_its_own}
 use Rattle.kc_asm_outline.proofs.Steps.{own_starts, own_more}
 use Rattle.kc_asm_outline.proofs.walk.owns.Goals as goal
 

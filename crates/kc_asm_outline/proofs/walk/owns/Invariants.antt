@@ -1,7 +1,7 @@
 use Rattle.std.proofs.Common.{◌≡◌, ◌++◌, drop}
 use Rattle.kc_asm_symbols.specs.declared.segments.Segment.{Segment}
 use Rattle.kc_asm_symbols.specs.Located.{located_by, located_from, place_values}
-use Rattle.kc_asm_outline.specs.Outline.{on_its_own}
+use Rattle.kc_asm_outline.specs.StatementSizes.{on_its_own}
 use Rattle.kc_asm_outline.proofs.walk.owns.Given as goal
 
 abbrev pub invariant-loop-i : goal.invariant-loop-i

@@ -3,9 +3,9 @@ use Rattle.kc_source_statement.specs.declared.statement.Stmt.{Stmt}
 use Rattle.kc_source_statement.specs.Trees.{action_tree}
 use Rattle.kc_asm_symbols.specs.Located.{located_by, located_from, place_values}
 use Rattle.kc_asm_symbols.proofs.SegmentLemmas.{few_pieces}
-use Rattle.kc_asm_symbols.proofs.ExternalLemmas.{front}
+use Rattle.kc_asm_symbols.proofs.ExternalLemmas.{prefix}
 use Rattle.kc_asm_symbols.proofs.ValueLemmas.{value_more, all_values, value_count}
-use Rattle.kc_asm_outline.specs.Outline.{at_zero}
+use Rattle.kc_asm_outline.specs.StatementSizes.{at_zero}
 use Rattle.kc_asm_outline.proofs.walk.zeros.Goals as goal
 
 pub loop-i-preserved : goal.loop-i-preserved
@@ -16,7 +16,7 @@ loop-i-preserved c =
     let g = c.loop-i.segment in
     let vs = c.loop-i.values.items in
     let all = place_values (located_by at_zero stmts) in
-    let split : drop i stmts ≡ s ∷ drop (i + 1) stmts = front stmts i s c.loop-i-test.true c.index-stmts-i.is in
+    let split : drop i stmts ≡ s ∷ drop (i + 1) stmts = prefix stmts i s c.loop-i-test.true c.index-stmts-i.is in
     record {
       few = few_pieces g c.after-segment.result (action_tree s.action) i c.after-segment.ensures.value c.loop-i.invariant.few;
       so_far = value_more at_zero i g c.after-segment.result s (drop (i + 1) stmts) vs c.push.new.self.items all c.after-segment.ensures.value

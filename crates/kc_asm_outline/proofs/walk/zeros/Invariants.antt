@@ -1,6 +1,6 @@
 use Rattle.std.proofs.Common.{◌≡◌, ◌+◌, ◌≤◌, ◌++◌, drop}
 use Rattle.kc_asm_symbols.specs.Located.{located_by, located_from, place_values}
-use Rattle.kc_asm_outline.specs.Outline.{at_zero}
+use Rattle.kc_asm_outline.specs.StatementSizes.{at_zero}
 use Rattle.kc_asm_outline.proofs.walk.zeros.Given as goal
 
 abbrev pub invariant-loop-i : goal.invariant-loop-i

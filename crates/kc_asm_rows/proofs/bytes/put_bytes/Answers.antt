@@ -10,7 +10,7 @@ loop-left-preserved c =
     record {
       columns = c.column_after-column.ensures.within;
       within = omega (arith, some, c.loop-left.invariant.within);
-      goes_on = grind (arith, common_steps, step, c.loop-left.invariant.goes_on, c.in_ok-put_turn.ensures, c.in_ok-put_octet.ensures, c.column_after-column.ensures.value);
+      goes_on = grind (arith, common_steps, step, c.loop-left.invariant.goes_on, c.in_ok-put_turn.ensures, c.in_ok-put_relocatable.ensures, c.column_after-column.ensures.value);
     }
 
 pub returns : goal.returns

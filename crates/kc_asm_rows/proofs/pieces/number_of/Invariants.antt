@@ -1,5 +1,5 @@
 use Rattle.std.proofs.Common.{◌≡◌, ◌+◌, length}
-use Rattle.kc_asm_rows.specs.Octets as spec
+use Rattle.kc_asm_rows.specs.RelocatableBytes as spec
 use Rattle.kc_asm_rows.proofs.pieces.number_of.Given as goal
 
 abbrev pub invariant-loop-left : goal.invariant-loop-left

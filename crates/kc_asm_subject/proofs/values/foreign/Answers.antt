@@ -11,7 +11,7 @@ returns-then-is_foreign c = λ all before behind.
     let rest = foreign_among (in_all all) (drop (c.loop-name.name-index + 1) c.args.names.now) in
     let means : c.last.result ≡ in_all all n = c.last.ensures all before behind ∙ ap (in_all all) c.as_slice-bytes.ensures in
     let counts : true ≡ counts_from_external (in_all all n) = sym c.if-is_foreign.true ∙ c.is_foreign.ensures ∙ ap counts_from_external means in
-    ap Some (c.in_ok-told.ensures ∙ c.as_slice-bytes.ensures) ∙ ap (λ b. cond b (Some n) rest) counts
+    ap Some (c.in_ok-reported.ensures ∙ c.as_slice-bytes.ensures) ∙ ap (λ b. cond b (Some n) rest) counts
     ∙ name (in_all all) c.args.names.now c.loop-name.name-index n c.loop-name-test.true c.name-item.is (c.loop-name.invariant all before behind)
 
 pub loop-name-preserved : goal.loop-name-preserved

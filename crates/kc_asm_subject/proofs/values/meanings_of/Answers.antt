@@ -2,7 +2,7 @@ use Rattle.std.proofs.Common.{◌≡◌, ℕ, List, length, sym, ap, ◌∙◌, 
 use Rattle.kc_asm_symbols.specs.Located.{located, located_by, place_values}
 use Rattle.std.specs.Prelude.{slice_index}
 use Rattle.kc_asm_symbols.specs.Externals.{externals}
-use Rattle.kc_asm_outline.specs.Outline.{at_zero}
+use Rattle.kc_asm_outline.specs.StatementSizes.{at_zero}
 use Rattle.kc_asm_subject.proofs.Walks.{zero_values}
 use Rattle.kc_asm_subject.proofs.values.meanings_of.Goals as goal
 

@@ -2,8 +2,8 @@ use Rattle.std.proofs.Common.{◌≡◌, ◌+◌, ◌∷◌, List, drop, subst, 
 use Rattle.kc_source_statement.specs.declared.statement.Stmt.{Stmt}
 use Rattle.kc_source_statement.specs.Trees.{action_tree}
 use Rattle.kc_asm_symbols.proofs.SegmentLemmas.{few_pieces}
-use Rattle.kc_asm_symbols.proofs.ExternalLemmas.{front}
-use Rattle.kc_asm_subject.proofs.Walks.{Walked, At, walk_starts, enters, told, leaves, walk_ends}
+use Rattle.kc_asm_symbols.proofs.ExternalLemmas.{prefix}
+use Rattle.kc_asm_subject.proofs.Walks.{Walked, At, walk_starts, enters, reported, leaves, walk_ends}
 use Rattle.kc_asm_subject.proofs.values.valued.Goals as goal
 
 pub loop-i-init : goal.loop-i-init
@@ -21,11 +21,11 @@ returns-in-Some c =
     let s = c.index-stmts-i.result in
     let g = c.loop-i.segment in
     let rest = drop (i + 1) stmts in
-    let split : drop i stmts ≡ s ∷ rest = front stmts i s c.loop-i-test.true c.index-stmts-i.is in
+    let split : drop i stmts ≡ s ∷ rest = prefix stmts i s c.loop-i-test.true c.index-stmts-i.is in
     let here : At c.enter.new.self c.args.line c.args.code i g stmts rest s c.in_ok-found.found
     = enters c.loop-i.meanings c.enter.new.self c.args.line c.args.code i g stmts rest s c.value_at.result c.in_ok-found.found c.value_at.ensures c.enter.ensures c.in_ok-found.ensures
     (subst (λ (ss : List Stmt). Walked c.loop-i.meanings c.args.line c.args.code i g stmts ss) split c.loop-i.invariant.walked) in
-    told c.enter.new.self c.args.line c.args.code i g stmts rest s c.in_ok-found.found c.in-Some.name c.in-Some.is here
+    reported c.enter.new.self c.args.line c.args.code i g stmts rest s c.in_ok-found.found c.in-Some.name c.in-Some.is here
 
 pub loop-i-preserved : goal.loop-i-preserved
 loop-i-preserved c =
@@ -34,7 +34,7 @@ loop-i-preserved c =
     let s = c.index-stmts-i.result in
     let g = c.loop-i.segment in
     let rest = drop (i + 1) stmts in
-    let split : drop i stmts ≡ s ∷ rest = front stmts i s c.loop-i-test.true c.index-stmts-i.is in
+    let split : drop i stmts ≡ s ∷ rest = prefix stmts i s c.loop-i-test.true c.index-stmts-i.is in
     let here : At c.enter.new.self c.args.line c.args.code i g stmts rest s c.in_ok-found.found
     = enters c.loop-i.meanings c.enter.new.self c.args.line c.args.code i g stmts rest s c.value_at.result c.in_ok-found.found c.value_at.ensures c.enter.ensures c.in_ok-found.ensures
     (subst (λ (ss : List Stmt). Walked c.loop-i.meanings c.args.line c.args.code i g stmts ss) split c.loop-i.invariant.walked) in

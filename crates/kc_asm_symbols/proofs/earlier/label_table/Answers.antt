@@ -9,7 +9,7 @@ use Rattle.kc_asm_symbols.specs.Tables.{answers, label_number}
 use Rattle.kc_asm_symbols.specs.Walk.{shared}
 use Rattle.kc_asm_symbols.specs.Located.{located_by, listed}
 use Rattle.kc_asm_symbols.specs.Meanings.{label_answer, with_label}
-use Rattle.kc_asm_symbols.proofs.ExternalLemmas.{front}
+use Rattle.kc_asm_symbols.proofs.ExternalLemmas.{prefix}
 use Rattle.kc_asm_symbols.proofs.ValueLemmas.{any_default, one_of}
 use Rattle.kc_asm_symbols.proofs.EarlierLemmas.{cleaned, Labelling, labels_start, label_more, clean_more, all_labels}
 use Rattle.kc_asm_symbols.proofs.earlier.label_table.Goals as goal
@@ -35,7 +35,7 @@ loop-i-preserved c =
     let look = answers numbers c.loop-i.table in
     let next = answers numbers c.set_label.new.table in
     let all = label_answer (located_by (listed values) stmts) in
-    let split : drop i stmts ≡ s ∷ drop (i + 1) stmts = front stmts i s c.loop-i-test.true c.index-stmts-i.is in
+    let split : drop i stmts ≡ s ∷ drop (i + 1) stmts = prefix stmts i s c.loop-i-test.true c.index-stmts-i.is in
     let value : v ≡ get_or values i (plain 0) = any_default values i absent (plain 0) (omega (arith, c.requires.values, c.loop-i-test.true)) in
     let number : c.label.result ≡ label_number numbers s.label
     = c.label.ensures ∙ ap (λ ls. get_or ls i None) c.requires.names.labels ∙ one_of (λ s. label_number numbers s.label) stmts i None s c.loop-i-test.true c.index-stmts-i.is in

@@ -4,7 +4,7 @@ use Rattle.kc_source_statement.specs.declared.statement.Stmt.{Stmt}
 use Rattle.kc_asm_symbols.specs.Located.{located_by, located_from}
 use Rattle.kc_asm_symbols.specs.Externals.{externals, externals_from}
 use Rattle.kc_asm_symbols.proofs.SegmentLemmas.{few_pieces}
-use Rattle.kc_asm_symbols.proofs.ExternalLemmas.{front, declares, all_declared}
+use Rattle.kc_asm_symbols.proofs.ExternalLemmas.{prefix, declares, all_declared}
 use Rattle.kc_asm_symbols.proofs.external_names.externals.Goals as goal
 
 pub loop-stmt-preserved : goal.loop-stmt-preserved
@@ -14,7 +14,7 @@ loop-stmt-preserved c =
     let s = c.stmt-item.result in
     let g = c.loop-stmt.segment in
     let ts = c.loop-stmt.taken.items in
-    let split : drop i stmts ≡ s ∷ drop (i + 1) stmts = front stmts i s c.loop-stmt-test.true c.stmt-item.is in
+    let split : drop i stmts ≡ s ∷ drop (i + 1) stmts = prefix stmts i s c.loop-stmt-test.true c.stmt-item.is in
     record {
       few = few_pieces g c.after-segment.result (action_tree s.action) i c.after-segment.ensures.value c.loop-stmt.invariant.few;
       so_far = λ values. declares values i g c.after-segment.result c.loop-stmt.used c.in_ok-used.used s (drop (i + 1) stmts) ts c.push_declared.new.taken.items (externals (located_by values stmts))

@@ -9,7 +9,7 @@ use Rattle.kc_asm_symbols.specs.Tables.{answers}
 use Rattle.kc_asm_symbols.specs.Located.{located_by, listed}
 use Rattle.kc_asm_symbols.specs.Meanings.{behind}
 use Rattle.kc_asm_symbols.specs.Walk.{shared}
-use Rattle.kc_asm_symbols.proofs.ExternalLemmas.{front}
+use Rattle.kc_asm_symbols.proofs.ExternalLemmas.{prefix}
 use Rattle.kc_asm_symbols.proofs.ValueLemmas.{any_default}
 use Rattle.kc_asm_symbols.proofs.WalkLemmas.{Walking, walk_starts, walks, walked}
 use Rattle.kc_asm_symbols.proofs.meanings.through.Goals as goal
@@ -29,7 +29,7 @@ loop-i-preserved c =
     let e = c.loop-i.earlier in
     let f = c.leave.new.self in
     let a = action_tree s.action in
-    let split : drop i stmts ≡ s ∷ drop (i + 1) stmts = front stmts i s c.loop-i-test.true c.index-stmts-i.is in
+    let split : drop i stmts ≡ s ∷ drop (i + 1) stmts = prefix stmts i s c.loop-i-test.true c.index-stmts-i.is in
     let value : v ≡ get_or values i (plain 0) = any_default values i absent (plain 0) (omega (arith, c.requires.values, c.loop-i-test.true)) in
     let names : f.names ≡ e.names = c.in_ok-leave.ensures.names ∙ c.enter.ensures.names in
     let latest : answers (shared f.names).numbers f.latest ≡ behind (answers (shared e.names).numbers (shared e.names).taken) a v (answers (shared e.names).numbers e.latest)

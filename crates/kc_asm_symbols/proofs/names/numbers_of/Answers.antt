@@ -3,7 +3,7 @@ use Rattle.kc_source_statement.specs.declared.statement.Stmt.{Stmt}
 use Rattle.kc_source_statement.specs.Trees.{action_tree}
 use Rattle.kc_asm_symbols.specs.Meanings.{with_set}
 use Rattle.kc_asm_symbols.specs.Tables.{is_defined_by_set}
-use Rattle.kc_asm_symbols.proofs.ExternalLemmas.{front}
+use Rattle.kc_asm_symbols.proofs.ExternalLemmas.{prefix}
 use Rattle.kc_asm_symbols.proofs.WalkLemmas.{set_in, set_starts, set_more, set_all}
 use Rattle.kc_asm_symbols.proofs.names.numbers_of.Goals as goal
 
@@ -16,7 +16,7 @@ loop-stmt-preserved c =
     let i = c.loop-stmt.stmt-index in
     let s = c.stmt-item.result in
     let look = is_defined_by_set c.loop-stmt.numbers in
-    let split : drop i stmts ≡ s ∷ drop (i + 1) stmts = front stmts i s c.loop-stmt-test.true c.stmt-item.is in
+    let split : drop i stmts ≡ s ∷ drop (i + 1) stmts = prefix stmts i s c.loop-stmt-test.true c.stmt-item.is in
     set_more s (drop (i + 1) stmts) look (is_defined_by_set c.add_defined.new.numbers) (set_in stmts) (c.in_ok-add_defined.ensures ∙ ap (with_set (action_tree s.action)) c.in_ok-add_label.ensures)
     (subst (λ (ss : List Stmt). (q : List ℕ) → (set_in ss q || look q) ≡ set_in stmts q) split c.loop-stmt.invariant)
 

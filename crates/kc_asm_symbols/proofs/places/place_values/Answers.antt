@@ -6,7 +6,7 @@ use Rattle.kc_source_statement.specs.Trees.{action_tree}
 use Rattle.kc_asm_symbols.specs.declared.segments.Segment.{Segment}
 use Rattle.kc_asm_symbols.specs.Located.{located, located_from, place_values, value_at}
 use Rattle.kc_asm_symbols.proofs.SegmentLemmas.{few_pieces}
-use Rattle.kc_asm_symbols.proofs.ExternalLemmas.{front}
+use Rattle.kc_asm_symbols.proofs.ExternalLemmas.{prefix}
 use Rattle.kc_asm_symbols.proofs.ValueLemmas.{value_more, all_values, value_count}
 use Rattle.kc_asm_symbols.proofs.places.place_values.Goals as goal
 
@@ -19,7 +19,7 @@ loop-i-preserved c =
     let g = c.loop-i.segment in
     let vs = c.loop-i.values.items in
     let all = place_values (located (slice_index c.args.places.now) stmts) in
-    let split : drop i stmts ≡ s ∷ drop (i + 1) stmts = front stmts i s c.loop-i-test.true c.index-stmts-i.is in
+    let split : drop i stmts ≡ s ∷ drop (i + 1) stmts = prefix stmts i s c.loop-i-test.true c.index-stmts-i.is in
     record {
       few = few_pieces g c.after-segment.result (action_tree s.action) i c.after-segment.ensures.value c.loop-i.invariant.few;
       so_far = value_more at i g c.after-segment.result s (drop (i + 1) stmts) vs c.push.new.self.items all c.after-segment.ensures.value

@@ -4,7 +4,7 @@ use Rattle.kc_block_access.proofs.acting.write_hsi_mode.Goals as goal
 
 pub returns-clause-left : goal.returns-clause-left
 returns-clause-left g c =
-    hsi_act g.X.Extra.further g.X.Extra.agrees g.X.Extra.plain c.args.lanes.now c.bring_hsi.new.self c.ask_hsi.new.self c.args.now
+    hsi_act g.X.Extra.further g.X.Extra.agrees g.X.Extra.plain c.args.scheduler.now c.catch_up_hsi.new.self c.ask_hsi.new.self c.args.now
     (λ i. record i { mode = c.args.value }) c.set_mode.new.self
-    (record { lazy = c.bring_hsi.ensures.left.lazy; shows = c.bring_hsi.ensures.left.shows }) c.bring_hsi.ensures.standing
+    (record { scheduled = c.catch_up_hsi.ensures.left.scheduled; shows = c.catch_up_hsi.ensures.left.shows }) c.catch_up_hsi.ensures.standing
     (ap (λ u. u.inner) c.set_mode.ensures) c.ask_hsi.ensures.rest c.ask_hsi.ensures.others c.ask_hsi.ensures.due

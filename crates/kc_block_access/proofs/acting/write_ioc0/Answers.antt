@@ -12,9 +12,9 @@ reset_fits false t fits = fits
 
 pub returns-clause-left : goal.returns-clause-left
 returns-clause-left g c =
-    timers_act g.X.Extra.further g.X.Extra.agrees g.X.Extra.plain c.args.lanes.now c.bring_timers.new.self c.ask_timers.new.self c.args.now
+    timers_act g.X.Extra.further g.X.Extra.agrees g.X.Extra.plain c.args.scheduler.now c.catch_up_timers.new.self c.ask_timers.new.self c.args.now
     (λ s. record s { ioc0 = bit_and c.args.value 0xFD }) (reset_by c.args.value) (λ d. d)
-    c.steady_with-lanes.result c.reset_by.new.timer c.bring_timers.new.self.hso.unit
-    (record { lazy = c.bring_timers.ensures.left.lazy; shows = c.bring_timers.ensures.left.shows }) c.bring_timers.ensures.standing
-    (λ s. refl) c.steady_with-lanes.ensures (ap (λ u. u.inner) c.reset_by.ensures) (reset_fits (bit c.args.value 1) c.bring_timers.new.self.timer2.unit.inner c.bring_timers.ensures.left.lazy.value)
+    c.board_registers_with-scheduler.result c.reset_by.new.timer c.catch_up_timers.new.self.hso.unit
+    (record { scheduled = c.catch_up_timers.ensures.left.scheduled; shows = c.catch_up_timers.ensures.left.shows }) c.catch_up_timers.ensures.standing
+    (λ s. refl) c.board_registers_with-scheduler.ensures (ap (λ u. u.inner) c.reset_by.ensures) (reset_fits (bit c.args.value 1) c.catch_up_timers.new.self.timer2.unit.inner c.catch_up_timers.ensures.left.scheduled.value)
     refl (λ d. refl) c.ask_timers.ensures.rest c.ask_timers.ensures.others c.ask_timers.ensures.timer2 c.ask_timers.ensures.hso

@@ -1,10 +1,10 @@
 use Rattle.std.proofs.Common.{sym, ◌∙◌}
 use Rattle.kc_hso.proofs.Kept.{kept_are_seen_alike}
 use Rattle.kc_block_lanes.specs.Standing.{standing}
-use Rattle.kc_block_access.proofs.Left.{standing_tells}
+use Rattle.kc_block_access.proofs.Left.{standing_reports}
 use Rattle.kc_block_access.proofs.writing.has_timer2.Goals as goal
 
 pub returns : goal.returns
 returns g c =
-    let tells = standing_tells g.X.Extra.further g.X.Extra.agrees (standing g.X.Extra.plain c.args.lanes.now) c.args.now c.requires in
-    c.has_timer2.ensures ∙ sym (kept_are_seen_alike _ _ tells.hso).timer2
+    let reports = standing_reports g.X.Extra.further g.X.Extra.agrees (standing g.X.Extra.plain c.args.scheduler.now) c.args.now c.requires in
+    c.has_timer2.ensures ∙ sym (kept_are_seen_alike _ _ reports.hso).timer2

@@ -4,7 +4,7 @@ use Rattle.kc_span.proofs.SpanLaws.{after-none, after-over}
 use Rattle.kc_block_spec.specs.Touch.{block_rule, touch, edges_of}
 use Rattle.kc_block_spec.specs.Leading.{Leads}
 use Rattle.kc_block_inputs.proofs.Leads.{leads_on}
-use Rattle.kc_block_lazy.specs.Lanes.{shown_units, IsLazy}
+use Rattle.kc_block_lazy.specs.Scheduler.{shown_units, IsScheduled}
 use Rattle.kc_block_lanes.specs.Standing.{standing}
 use Rattle.kc_block_event.proofs.Going.{edges-none, edges-over, touch-over}
 use Rattle.kc_block_event.proofs.advancing.advance.Goals as goal
@@ -12,11 +12,11 @@ use Rattle.kc_block_event.proofs.advancing.advance.Goals as goal
 pub loop-time-init : goal.loop-time-init
 loop-time-init g c =
     let f = g.X.Extra.further in
-    let u = shown_units f (standing g.X.Extra.plain c.args.lanes.now) c.args.now in
+    let u = shown_units f (standing g.X.Extra.plain c.args.scheduler.now) c.args.now in
     record {
       later = omega arith;
       within = c.requires.order;
-      lazy = c.requires.lazy;
+      scheduled = c.requires.scheduled;
       units = sym (after-none (block_rule f) c.args.now u);
       edges = subst (λ es. Leads g.O.EdgeOut.led c.args.out.now es c.args.out.now) (sym (edges-none f c.args.now u)) refl;
       steps = omega arith;
@@ -30,8 +30,8 @@ loop-time-preserved g c =
     let now = c.args.now in
     let mid = c.loop-time.time in
     let end = c.go-time.result in
-    let u = shown_units f (standing g.X.Extra.plain c.args.lanes.now) now in
-    let v = shown_units f (standing g.X.Extra.plain c.loop-time.lanes) mid in
+    let u = shown_units f (standing g.X.Extra.plain c.args.scheduler.now) now in
+    let v = shown_units f (standing g.X.Extra.plain c.loop-time.scheduler) mid in
     let before = c.loop-time.invariant in
     let one = c.go-time.ensures in
     let at : v ≡ after (block_rule f) now (mid - now) u = before.units in
@@ -42,7 +42,7 @@ loop-time-preserved g c =
     record {
       later = omega (arith, le, le');
       within = one.within;
-      lazy = one.lazy;
+      scheduled = one.scheduled;
       units = one.units ∙ ap (after (block_rule f) mid (end - mid)) at ∙ sym (after-over (block_rule f) now mid end u le le');
       edges =
           subst (λ es. Leads led c.args.out.now es c.go-time.new.out)
@@ -52,7 +52,7 @@ loop-time-preserved g c =
       moves = omega (arith, all, same, before.moves, one.costs.moves);
     }
 
-pub returns-clause-lazy : goal.returns-clause-lazy
-returns-clause-lazy g c =
+pub returns-clause-scheduled : goal.returns-clause-scheduled
+returns-clause-scheduled g c =
     let all : c.loop-time.time ≡ c.args.to = omega (arith, c.loop-time.invariant.within) in
-    subst (λ t. IsLazy g.X.Extra.further g.X.Extra.agrees (standing g.X.Extra.plain c.loop-time.lanes) t) all c.loop-time.invariant.lazy
+    subst (λ t. IsScheduled g.X.Extra.further g.X.Extra.agrees (standing g.X.Extra.plain c.loop-time.scheduler) t) all c.loop-time.invariant.scheduled

@@ -2,9 +2,9 @@ use Rattle.std.proofs.Common.{◌≡◌, ℕ, ◌<◌, refl, sym, ◌∙◌, sub
 use Rattle.kc_due.specs.Due.{at_slot}
 use Rattle.kc_stim.specs.Drives.{IsNextEdge}
 use Rattle.kc_hsi.specs.Input.{hsi_rule}
-use Rattle.kc_block_lazy.specs.Lanes.{flag_goes, timer2_goes, hso_goes, further_goes}
+use Rattle.kc_block_lazy.specs.Scheduler.{flag_goes, timer2_goes, hso_goes, further_goes}
 use Rattle.kc_block_lazy.specs.Events.{AsksWhere}
-use Rattle.kc_block_lanes.specs.declared.lanes.Lanes.{Lanes}
+use Rattle.kc_block_lanes.specs.declared.scheduler.Scheduler.{Scheduler}
 use Rattle.kc_block_lanes.specs.Standing.{standing}
 use Rattle.kc_block_lanes.proofs.Carried.{slots_join}
 use Rattle.kc_block_event.proofs.Asked.{carried}
@@ -16,14 +16,14 @@ returns-clause-asked g c =
     let plain = g.X.Extra.plain in
     let t = c.args.touched in
     let next = c.args.next in
-    let m0 : Lanes X = c.args.lanes.now in
-    let m1 : Lanes X = c.ask_timer2.new.lanes in
-    let m2 : Lanes X = c.ask_hso.new.lanes in
-    let m3 : Lanes X = c.ask_hsi.new.lanes in
-    let m4 : Lanes X = c.ask_further.new.lanes in
-    let m5 : Lanes X = c.ask_flag.new.lanes in
-    let m6 : Lanes X = c.ask_stimuli.new.lanes in
-    let m7 : Lanes X = c.set_wires.new.self in
+    let m0 : Scheduler X = c.args.scheduler.now in
+    let m1 : Scheduler X = c.ask_timer2.new.scheduler in
+    let m2 : Scheduler X = c.ask_hso.new.scheduler in
+    let m3 : Scheduler X = c.ask_hsi.new.scheduler in
+    let m4 : Scheduler X = c.ask_further.new.scheduler in
+    let m5 : Scheduler X = c.ask_flag.new.scheduler in
+    let m6 : Scheduler X = c.ask_stimuli.new.scheduler in
+    let m7 : Scheduler X = c.set_wires.new.self in
     let r6 : m7 ≡ record m6 { due = m7.due } = c.set_wires.ensures.rest in
     let r5 : m7 ≡ record m5 { due = m7.due } = slots_join m5 m6 m7 c.ask_stimuli.ensures.rest r6 in
     let r4 : m7 ≡ record m4 { due = m7.due } = slots_join m4 m5 m7 c.ask_flag.ensures.rest r5 in
@@ -49,7 +49,7 @@ returns-clause-asked g c =
           carried (λ l o n. AsksWhere t.further (further_goes g.X.Extra.further) next (standing plain l).further.kept o n) m4 m7 r4 (b3 3 (omega arith)) (s4 3 (omega arith)) (λ x. x) c.ask_further.ensures.asks;
       flag = carried (λ l o n. AsksWhere t.flag (flag_goes (standing plain l)) next (standing plain l).flag.kept o n) m5 m7 r5 (b4 4 (omega arith)) (s5 4 (omega arith)) (λ x. x) c.ask_flag.ensures.asks;
       next_edge = λ on.
-          subst (λ (l : Lanes X). IsNextEdge l.stimuli.stimuli next (at_slot l.due 5)) (sym r6)
+          subst (λ (l : Scheduler X). IsNextEdge l.stimuli.stimuli next (at_slot l.due 5)) (sym r6)
           (subst (λ slot. IsNextEdge m6.stimuli.stimuli next slot) (sym (s6 5 (omega arith))) (c.ask_stimuli.ensures.next on));
       same_edge = λ off. s6 5 (omega arith) ∙ c.ask_stimuli.ensures.same off ∙ b5 5 (omega arith);
       wires = c.set_wires.ensures.wires;

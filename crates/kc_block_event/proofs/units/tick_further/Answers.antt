@@ -2,14 +2,14 @@ use Rattle.std.proofs.Common.{List, All, sym, ◌∙◌, ap, subst}
 use Rattle.kc_base.specs.Pins.{IsPin}
 use Rattle.kc_base.specs.declared.types.Edge.{Edge}
 use Rattle.kc_extra.specs.Rising.{named_edges}
-use Rattle.kc_block_lane.specs.Lane.{lane_at, shown}
-use Rattle.kc_block_lazy.specs.Lanes.{further_goes}
+use Rattle.kc_block_lane.specs.DeferredUnit.{deferred_at, shown}
+use Rattle.kc_block_lazy.specs.Scheduler.{further_goes}
 use Rattle.kc_block_event.proofs.units.tick_further.Goals as goal
 
 pub lead_all-requires : goal.lead_all-requires
 lead_all-requires g c =
     let f = g.X.Extra.further in
-    let d = shown (further_goes f) (lane_at c.args.lane.now.at (g.X.Extra.plain c.args.lane.now.unit)) c.args.now in
+    let d = shown (further_goes f) (deferred_at c.args.deferred.now.at (g.X.Extra.plain c.args.deferred.now.unit)) c.args.now in
     let edges = c.as_slice.ensures.edges
     ∙ ap (λ o. o.moved) c.tick-given.ensures.out
     ∙ ap (λ x. (f.out c.args.now c.args.levels c.args.edges x).moved) c.quiet_to.ensures.plain in

@@ -1,25 +1,25 @@
 use Rattle.std.proofs.Common.{◌≡◌, ℕ, ◌<◌, sym, ◌∙◌, subst, arith}
 use Rattle.kc_due.specs.Due.{at_slot}
-use Rattle.kc_block_lazy.specs.Lanes.{AreHeld}
-use Rattle.kc_block_lanes.specs.declared.lanes.Lanes.{Lanes}
+use Rattle.kc_block_lazy.specs.Scheduler.{AreHeld}
+use Rattle.kc_block_lanes.specs.declared.scheduler.Scheduler.{Scheduler}
 use Rattle.kc_block_lanes.proofs.Carried.{slots_join, timer2_carried, hso_carried, hsi_carried, further_carried, flag_carried, stimuli_carried, proper_carried}
 use Rattle.kc_block_lanes.proofs.Started.{start_held}
 use Rattle.kc_block_lanes.proofs.starting.ask_all.Goals as goal
 
 pub set_wires-requires-clause-held : goal.set_wires-requires-clause-held
 set_wires-requires-clause-held g c =
-    let old = c.args.lanes.now in
+    let old = c.args.scheduler.now in
     let m5 = c.set_stimuli.new.self in
     let rest : m5 ≡ record old { due = m5.due } =
     slots_join old c.ask_flag.new.self m5
     (slots_join old c.ask_further.new.self c.ask_flag.new.self
     (slots_join old c.ask_hsi.new.self c.ask_further.new.self
     (slots_join old c.ask_timers.new.self c.ask_hsi.new.self c.ask_timers.ensures.rest c.ask_hsi.ensures.rest) c.ask_further.ensures.rest) c.ask_flag.ensures.rest) c.set_stimuli.ensures.rest in
-    subst (λ (l : Lanes _). AreHeld l.stimuli l.steady.levels 0) (sym rest) (start_held old.stimuli old.steady.levels c.requires.levels)
+    subst (λ (l : Scheduler _). AreHeld l.stimuli l.board_registers.levels 0) (sym rest) (start_held old.stimuli old.board_registers.levels c.requires.levels)
 
 pub returns-clause-asked : goal.returns-clause-asked
 returns-clause-asked g c =
-    let old = c.args.lanes.now in
+    let old = c.args.scheduler.now in
     let m1 = c.ask_timers.new.self in
     let m2 = c.ask_hsi.new.self in
     let m3 = c.ask_further.new.self in

@@ -1,4 +1,4 @@
-use Rattle.kc_code.proofs.Fronts.{rest_is_free}
+use Rattle.kc_code.proofs.Beginnings.{rest_is_free}
 use Rattle.kc_code.proofs.laws.rest_does_not_matter.Goals as goal
 
 pub returns : goal.returns

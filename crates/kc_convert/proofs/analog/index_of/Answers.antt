@@ -11,20 +11,20 @@ use Rattle.kc_convert.proofs.analog.index_of.Goals as goal
 
 pub returns-in-Ok-false-clause-refused : goal.returns-in-Ok-false-clause-refused
 returns-in-Ok-false-clause-refused c =
-    let item_is : c.item.result ≡ item_of (take c.first_line-len.result.0 c.loop-rest.rest.now) = c.item.ensures ∙ ap item_of c.front.ensures in
-    let told : not (is_bad (samples_in c.loop-rest.index) c.item.result) ≡ false = sym c.in-Ok-false.ensures.taken ∙ c.in-Ok-false.field-0-test in
+    let item_is : c.item.result ≡ item_of (take c.first_line-len.result.0 c.loop-rest.rest.now) = c.item.ensures ∙ ap item_of c.prefix.ensures in
+    let known : not (is_bad (samples_in c.loop-rest.index) c.item.result) ≡ false = sym c.in-Ok-false.ensures.taken ∙ c.in-Ok-false.field-0-test in
     sym c.loop-rest.invariant.1
     ∙ fault-found c.loop-rest.lines (samples_in c.loop-rest.index) c.loop-rest.rest.now (take c.first_line-len.result.0 c.loop-rest.rest.now)
     (drop c.first_line-len.result.1 c.loop-rest.rest.now) c.first_line-len.ensures.read
-    (ap (λ i. is_bad (samples_in c.loop-rest.index) i) (sym item_is) ∙ not_false _ told)
+    (ap (λ i. is_bad (samples_in c.loop-rest.index) i) (sym item_is) ∙ not_false _ known)
 
 pub loop-rest-preserved : goal.loop-rest-preserved
 loop-rest-preserved c =
-    let item_is : c.item.result ≡ item_of (take c.first_line-len.result.0 c.loop-rest.rest.now) = c.item.ensures ∙ ap item_of c.front.ensures in
+    let item_is : c.item.result ≡ item_of (take c.first_line-len.result.0 c.loop-rest.rest.now) = c.item.ensures ∙ ap item_of c.prefix.ensures in
     let accepted : c.take.result ≡ Ok true = c.in-Ok-true.is ∙ ap (λ o. Ok o) c.in-Ok-true.field-0-test in
-    let told : not (is_bad (samples_in c.loop-rest.index) c.item.result) ≡ true = sym c.in-Ok-true.ensures.taken ∙ c.in-Ok-true.field-0-test in
+    let known : not (is_bad (samples_in c.loop-rest.index) c.item.result) ≡ true = sym c.in-Ok-true.ensures.taken ∙ c.in-Ok-true.field-0-test in
     let none : is_bad (samples_in c.loop-rest.index) (item_of (take c.first_line-len.result.0 c.loop-rest.rest.now)) ≡ false =
-    ap (λ i. is_bad (samples_in c.loop-rest.index) i) (sym item_is) ∙ not-true _ told in
+    ap (λ i. is_bad (samples_in c.loop-rest.index) i) (sym item_is) ∙ not-true _ known in
     let new : samples_in c.take.new.self ≡ with_item (samples_in c.loop-rest.index) (item_of (take c.first_line-len.result.0 c.loop-rest.rest.now)) =
     c.take.ensures.samples accepted ∙ ap (λ i. with_item (samples_in c.loop-rest.index) i) item_is in
     let behind : c.after-rest.result.now ≡ drop c.first_line-len.result.1 c.loop-rest.rest.now = c.after-rest.ensures in

@@ -40,11 +40,11 @@ returns-in_err-pass-clause-lines g c =
     let i = c.loop-machine.invariant in
     let m = c.loop-machine.machine.machine in
     let n = c.pass.ensures.passed.0 in
-    let told = c.pass.ensures.passed.3 in
+    let reported = c.pass.ensures.passed.3 in
     let sum : c.args.until - m.time ≡ n + (c.args.until - m.time - n) = omega (arith, c.pass.ensures.passed.1) in
-    let rest = break-any f c.args.breaks.now n (c.args.until - m.time - n) m told.some c.pass.ensures.passed.2 in
+    let rest = break-any f c.args.breaks.now n (c.args.until - m.time - n) m reported.some c.pass.ensures.passed.2 in
     let all : states_of_run f c.args.breaks.now c.args.until m ≡ n + rest.0 = ap (λ k. states_to_break f c.args.breaks.now k m) sum ∙ rest.1 in
-    along-cut f _ _ (i.states + n) rest.0 _ _ (along-lines f _ _ _ i.states n m _ _ _ i.along told.lines) c.in_err-pass.ensures.fault.failed (omega (arith, i.rest, all))
+    along-cut f _ _ (i.states + n) rest.0 _ _ (along-lines f _ _ _ i.states n m _ _ _ i.along reported.lines) c.in_err-pass.ensures.fault.failed (omega (arith, i.rest, all))
 
 pub returns-then-is_at_break-clause-lines : goal.returns-then-is_at_break-clause-lines
 returns-then-is_at_break-clause-lines g c =
@@ -53,11 +53,11 @@ returns-then-is_at_break-clause-lines g c =
     let m = c.loop-machine.machine.machine in
     let x = c.pass.new.machine.machine in
     let n = c.in_ok-pass.ensures.passed.0 in
-    let told = c.in_ok-pass.ensures.passed.3 in
+    let reported = c.in_ok-pass.ensures.passed.3 in
     let stood = c.in_ok-pass.ensures.passed.6 in
-    let next = along-next f _ _ _ i.states n m _ _ x _ _ i.along told stood in
+    let next = along-next f _ _ _ i.states n m _ _ x _ _ i.along reported stood in
     let sum : c.args.until - m.time ≡ n + (c.args.until - x.time) = omega (arith, stood.time, c.in_ok-pass.ensures.passed.1) in
-    let all : states_of_run f c.args.breaks.now c.args.until m ≡ n = ap (λ k. states_to_break f c.args.breaks.now k m) sum ∙ break-there f c.args.breaks.now n (c.args.until - x.time) m x told.some c.in_ok-pass.ensures.passed.2 stood.machine (sym c.is_at_break.ensures ∙ c.if-is_at_break.true) in
+    let all : states_of_run f c.args.breaks.now c.args.until m ≡ n = ap (λ k. states_to_break f c.args.breaks.now k m) sum ∙ break-there f c.args.breaks.now n (c.args.until - x.time) m x reported.some c.in_ok-pass.ensures.passed.2 stood.machine (sym c.is_at_break.ensures ∙ c.if-is_at_break.true) in
     (along-done f _ _ _ (i.states + n) _ _ _ _ next (omega (arith, i.rest, all))).lines
 
 pub returns-then-is_at_break-clause-gone : goal.returns-then-is_at_break-clause-gone
@@ -67,11 +67,11 @@ returns-then-is_at_break-clause-gone g c =
     let m = c.loop-machine.machine.machine in
     let x = c.pass.new.machine.machine in
     let n = c.in_ok-pass.ensures.passed.0 in
-    let told = c.in_ok-pass.ensures.passed.3 in
+    let reported = c.in_ok-pass.ensures.passed.3 in
     let stood = c.in_ok-pass.ensures.passed.6 in
-    let next = along-next f _ _ _ i.states n m _ _ x _ _ i.along told stood in
+    let next = along-next f _ _ _ i.states n m _ _ x _ _ i.along reported stood in
     let sum : c.args.until - m.time ≡ n + (c.args.until - x.time) = omega (arith, stood.time, c.in_ok-pass.ensures.passed.1) in
-    let all : states_of_run f c.args.breaks.now c.args.until m ≡ n = ap (λ k. states_to_break f c.args.breaks.now k m) sum ∙ break-there f c.args.breaks.now n (c.args.until - x.time) m x told.some c.in_ok-pass.ensures.passed.2 stood.machine (sym c.is_at_break.ensures ∙ c.if-is_at_break.true) in
+    let all : states_of_run f c.args.breaks.now c.args.until m ≡ n = ap (λ k. states_to_break f c.args.breaks.now k m) sum ∙ break-there f c.args.breaks.now n (c.args.until - x.time) m x reported.some c.in_ok-pass.ensures.passed.2 stood.machine (sym c.is_at_break.ensures ∙ c.if-is_at_break.true) in
     let done = along-done f _ _ _ (i.states + n) _ _ _ _ next (omega (arith, i.rest, all)) in
     record { machine = done.machine; begun = done.begun }
 
@@ -82,14 +82,14 @@ loop-machine-preserved g c =
     let m = c.loop-machine.machine.machine in
     let x = c.pass.new.machine.machine in
     let n = c.in_ok-pass.ensures.passed.0 in
-    let told = c.in_ok-pass.ensures.passed.3 in
+    let reported = c.in_ok-pass.ensures.passed.3 in
     let stood = c.in_ok-pass.ensures.passed.6 in
     let sum : c.args.until - m.time ≡ n + (c.args.until - x.time) = omega (arith, stood.time, c.in_ok-pass.ensures.passed.1) in
     let all : states_of_run f c.args.breaks.now c.args.until m ≡ n + states_of_run f c.args.breaks.now c.args.until x =
     ap (λ k. states_to_break f c.args.breaks.now k m) sum ∙ break-past f c.args.breaks.now n (c.args.until - x.time) m x c.in_ok-pass.ensures.passed.2 stood.machine (sym c.is_at_break.ensures ∙ c.if-is_at_break.false) in
     record {
       states = i.states + n;
-      along = along-next f _ _ _ i.states n m _ _ x _ _ i.along told stood;
+      along = along-next f _ _ _ i.states n m _ _ x _ _ i.along reported stood;
       spent = spends-add f i.states n _ _ _ _ _ _ i.along.machine i.spent c.in_ok-pass.ensures.passed.5;
       rest = omega (arith, i.rest, all);
       time = omega (arith, i.time, stood.time, c.in_ok-pass.ensures.passed.1);

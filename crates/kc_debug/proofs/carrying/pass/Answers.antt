@@ -3,7 +3,7 @@ use Rattle.kc_debug.specs.Stops.{states_at_once}
 use Rattle.kc_debug.proofs.Begins.{activity-clear}
 use Rattle.kc_debug.proofs.Idling.{idles-at-once}
 use Rattle.kc_machine_spec.proofs.Calls.{always, on-fault}
-use Rattle.kc_debug.proofs.Passing.{activity-told, activity-stood, fails-first}
+use Rattle.kc_debug.proofs.Passing.{activity-reported, activity-stood, fails-first}
 use Rattle.kc_debug.proofs.carrying.pass.Goals as goal
 
 pub returns-then-now-end-clause-passed : goal.returns-then-now-end-clause-passed
@@ -13,7 +13,7 @@ returns-then-now-end-clause-passed g c =
       n,
       omega (arith, c.idle_end-end.ensures.within, c.requires.ahead),
       c.idle_end-end.ensures.clear,
-      c.pass_idle.ensures.told,
+      c.pass_idle.ensures.reported,
       on-fault c.pass_idle.result c.pass_idle.ensures.fails (idles-at-once g.X.Extra.further c.args.until n m _ _ _ c.idle_end-end.ensures.idles),
       c.pass_idle.ensures.spent,
       c.pass_idle.ensures.stood,
@@ -28,7 +28,7 @@ returns-else-now-end-clause-passed g c =
       n,
       c.pass_one.ensures.few,
       activity-clear f c.args.breaks.now n m c.requires.lives one.few,
-      activity-told f n m _ _ _ _ _ c.requires.lives one,
+      activity-reported f n m _ _ _ _ _ c.requires.lives one,
       on-fault c.pass_one.result c.pass_one.ensures.fault.failed (fails-first f (states_at_once c.args.until) m _ _ _ _ _ one c.requires.unbroken),
       c.pass_one.ensures.spent,
       always c.pass_one.result (activity-stood f n m _ _ _ _ _ one),

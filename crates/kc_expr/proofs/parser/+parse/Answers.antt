@@ -111,14 +111,14 @@ pub primary_at-returns-in-None-2-clause-read : goal.primary_at-returns-in-None-2
 primary_at-returns-in-None-2-clause-read t c = λ n h.
     let tokens = c.args.tokens.now in
     let token = c.index-tokens-at.result in
-    let front : drop c.args.at tokens ≡ token ∷ drop (suc c.args.at) tokens = drop-cons tokens c.args.at token (omega arith) ∙ ap (λ x. x ∷ drop (suc c.args.at) tokens) (sym c.index-tokens-at.is) in
-    g.one_token n (drop c.args.at tokens) (drop (suc c.args.at) tokens) token (sym c.if-begins.ensures.value) front ∙ rw (c.in_ok-alone.ensures, c.in-None-2.is) refl
+    let prefix : drop c.args.at tokens ≡ token ∷ drop (suc c.args.at) tokens = drop-cons tokens c.args.at token (omega arith) ∙ ap (λ x. x ∷ drop (suc c.args.at) tokens) (sym c.index-tokens-at.is) in
+    g.one_token n (drop c.args.at tokens) (drop (suc c.args.at) tokens) token (sym c.if-begins.ensures.value) prefix ∙ rw (c.in_ok-alone.ensures, c.in-None-2.is) refl
 
 pub primary_at-returns-in-Some-2-clause-read : goal.primary_at-returns-in-Some-2-clause-read
 primary_at-returns-in-Some-2-clause-read t c = λ n h.
     let tokens = c.args.tokens.now in
     let token = c.index-tokens-at.result in
-    let front : drop c.args.at tokens ≡ token ∷ drop (suc c.args.at) tokens = drop-cons tokens c.args.at token (omega arith) ∙ ap (λ x. x ∷ drop (suc c.args.at) tokens) (sym c.index-tokens-at.is) in
+    let prefix : drop c.args.at tokens ≡ token ∷ drop (suc c.args.at) tokens = drop-cons tokens c.args.at token (omega arith) ∙ ap (λ x. x ∷ drop (suc c.args.at) tokens) (sym c.index-tokens-at.is) in
     let next : suc c.args.at ≡ c.args.at + 1 = omega arith in
     let rest : past_suffix (drop (suc c.args.at) tokens) ≡ drop c.suffix_end-end-in-Some-2.result tokens = ap (λ k. past_suffix (drop k tokens)) next ∙ c.suffix_end-end-in-Some-2.ensures.value in
-    g.one_token n (drop c.args.at tokens) (drop (suc c.args.at) tokens) token (sym c.if-begins.ensures.value) front ∙ rw (c.in_ok-alone.ensures, c.in-Some-2.is, rest) refl
+    g.one_token n (drop c.args.at tokens) (drop (suc c.args.at) tokens) token (sym c.if-begins.ensures.value) prefix ∙ rw (c.in_ok-alone.ensures, c.in-Some-2.is, rest) refl

@@ -10,7 +10,7 @@ pub loop-i-preserved : goal.loop-i-preserved
 loop-i-preserved c =
     let bytes = c.bytes_of-bytes.result.now in
     let i = c.loop-i.i in
-    let row = c.front-row.ensures ∙ ap (take 16) c.after.ensures in
+    let row = c.prefix-row.ensures ∙ ap (take 16) c.after.ensures in
     let items = c.in_ok-put_row.ensures ∙ ap (λ r. c.loop-i.out.items ++ row_text (8192 + 16 * i) r) row in
     rw items (row_step c.loop-i.out.items 3584 i bytes (rows 3584 8192 bytes) c.loop-i-test.true c.loop-i.invariant)
 

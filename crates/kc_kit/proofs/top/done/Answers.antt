@@ -1,12 +1,12 @@
 use Rattle.std.proofs.Common.{◌≡◌, ◌∙◌, [], Some, inl, refl, sym, ap, subst}
 use Rattle.kc_base.specs.Causes.{Rose}
 use Rattle.kc_kit_files.specs.declared.status.Status.TheVariants as status
-use Rattle.kc_kit_files.specs.Reply.{Reply, says}
+use Rattle.kc_kit_files.specs.Response.{Response, says}
 use Rattle.kc_kit_files.specs.Outside.{kept}
 use Rattle.kc_kit_files.proofs.EndLemmas.{Ends-widen}
 use Rattle.kc_kit.proofs.Ending.{printed}
 use Rattle.kc_kit_words.specs.Asked.{asked}
-use Rattle.kc_kit_inputs.specs.FaultNotes.{IsFaultNote}
+use Rattle.kc_kit_inputs.specs.FaultDiagnostics.{IsFaultDiagnostic}
 use Rattle.kc_kit_answer.specs.Answer.{MayAnswer}
 use Rattle.kc_kit_answer.specs.Explain.{explained}
 use Rattle.kc_kit_answer.specs.Generate.{GenerateAnswer}
@@ -17,27 +17,27 @@ use Rattle.kc_kit.proofs.top.done.Goals as goal
 
 pub returns-in-Help : goal.returns-in-Help
 returns-in-Help g c =
-    let told = g.F.Files.held c.args.files.now in
+    let reported = g.F.Files.held c.args.files.now in
     let rose : Type 0 = Rose (g.F.Files.read_faults c.args.files.now) (g.F.Files.read_faults c.args.files.now) in
-    printed (says status.Done help_text) (MayAnswer IsFaultNote (Some (asked c.args.command.now)) told rose) _ _ c.by.result c.tell_help.result _ _ refl refl c.by.ensures.status c.by.ensures.said
-    (λ r e. subst (λ k. MayAnswer IsFaultNote (Some (asked k)) told rose r) (sym c.in-Help.is) ([], holds-none told, inl e))
-    (c.tell_help.ensures (kept told (g.F.Files.write_faults c.args.files.now)))
+    printed (says status.Done help_text) (MayAnswer IsFaultDiagnostic (Some (asked c.args.command.now)) reported rose) _ _ c.by.result c.report_help.result _ _ refl refl c.by.ensures.status c.by.ensures.said
+    (λ r e. subst (λ k. MayAnswer IsFaultDiagnostic (Some (asked k)) reported rose r) (sym c.in-Help.is) ([], holds-none reported, inl e))
+    (c.report_help.ensures (kept reported (g.F.Files.write_faults c.args.files.now)))
 
 pub returns-in-HelpOn : goal.returns-in-HelpOn
 returns-in-HelpOn g c =
-    let told = g.F.Files.held c.args.files.now in
+    let reported = g.F.Files.held c.args.files.now in
     let rose : Type 0 = Rose (g.F.Files.read_faults c.args.files.now) (g.F.Files.read_faults c.args.files.now) in
-    printed (says status.Done (help_on c.in-HelpOn.help.verb.now)) (MayAnswer IsFaultNote (Some (asked c.args.command.now)) told rose) _ _ c.by-in-HelpOn.result c.tell_help_on.result _ _ refl refl c.by-in-HelpOn.ensures.status c.by-in-HelpOn.ensures.said
-    (λ r e. subst (λ k. MayAnswer IsFaultNote (Some (asked k)) told rose r) (sym c.in-HelpOn.is) ([], holds-none told, inl e))
-    (c.tell_help_on.ensures (kept told (g.F.Files.write_faults c.args.files.now)))
+    printed (says status.Done (help_on c.in-HelpOn.help.verb.now)) (MayAnswer IsFaultDiagnostic (Some (asked c.args.command.now)) reported rose) _ _ c.by-in-HelpOn.result c.report_help_on.result _ _ refl refl c.by-in-HelpOn.ensures.status c.by-in-HelpOn.ensures.said
+    (λ r e. subst (λ k. MayAnswer IsFaultDiagnostic (Some (asked k)) reported rose r) (sym c.in-HelpOn.is) ([], holds-none reported, inl e))
+    (c.report_help_on.ensures (kept reported (g.F.Files.write_faults c.args.files.now)))
 
 pub returns-in-Version : goal.returns-in-Version
 returns-in-Version g c =
-    let told = g.F.Files.held c.args.files.now in
+    let reported = g.F.Files.held c.args.files.now in
     let rose : Type 0 = Rose (g.F.Files.read_faults c.args.files.now) (g.F.Files.read_faults c.args.files.now) in
-    printed (says status.Done c.as_bytes.result.now) (MayAnswer IsFaultNote (Some (asked c.args.command.now)) told rose) _ _ c.by-in-Version.result c.say.result _ _ refl refl c.by-in-Version.ensures.status c.by-in-Version.ensures.said
-    (λ r e. subst (λ k. MayAnswer IsFaultNote (Some (asked k)) told rose r) (sym c.in-Version.is) ([], holds-none told, inl (e ∙ ap (says status.Done) c.as_bytes.ensures.value)))
-    (c.say.ensures.reply (kept told (g.F.Files.write_faults c.args.files.now)))
+    printed (says status.Done c.as_bytes.result.now) (MayAnswer IsFaultDiagnostic (Some (asked c.args.command.now)) reported rose) _ _ c.by-in-Version.result c.say.result _ _ refl refl c.by-in-Version.ensures.status c.by-in-Version.ensures.said
+    (λ r e. subst (λ k. MayAnswer IsFaultDiagnostic (Some (asked k)) reported rose r) (sym c.in-Version.is) ([], holds-none reported, inl (e ∙ ap (says status.Done) c.as_bytes.ensures.value)))
+    (c.say.ensures.response (kept reported (g.F.Files.write_faults c.args.files.now)))
 
 pub returns-in-Profile : goal.returns-in-Profile
 returns-in-Profile g c =
@@ -86,11 +86,11 @@ returns-in-Debug g c =
 
 pub returns-in-Generate : goal.returns-in-Generate
 returns-in-Generate g c =
-    let told = g.F.Files.held c.args.files.now in
+    let reported = g.F.Files.held c.args.files.now in
     let rose : Type 0 = Rose (g.F.Files.read_faults c.args.files.now) (g.F.Files.read_faults c.finish-in-Generate.new.files) in
-    Ends-widen (IsOf c.prepare_generate.result) (MayAnswer IsFaultNote (Some (asked c.args.command.now)) told rose) _ _ _ _ _ _
-    (λ r e. subst (λ k. MayAnswer IsFaultNote (Some (asked k)) told rose r) (sym c.in-Generate.is)
-    ([], holds-none told, inl (prepared-of (GenerateAnswer IsFaultNote c.in-Generate.generate.number) c.prepare_generate.result c.prepare_generate.ensures r e)))
+    Ends-widen (IsOf c.prepare_generate.result) (MayAnswer IsFaultDiagnostic (Some (asked c.args.command.now)) reported rose) _ _ _ _ _ _
+    (λ r e. subst (λ k. MayAnswer IsFaultDiagnostic (Some (asked k)) reported rose r) (sym c.in-Generate.is)
+    ([], holds-none reported, inl (prepared-of (GenerateAnswer IsFaultDiagnostic c.in-Generate.generate.number) c.prepare_generate.result c.prepare_generate.ensures r e)))
     c.finish-in-Generate.ensures.answer
 
 pub returns-in-Dump : goal.returns-in-Dump
@@ -100,8 +100,8 @@ returns-in-Dump g c =
 
 pub returns-in-Explain : goal.returns-in-Explain
 returns-in-Explain g c =
-    let told = g.F.Files.held c.args.files.now in
+    let reported = g.F.Files.held c.args.files.now in
     let rose : Type 0 = Rose (g.F.Files.read_faults c.args.files.now) (g.F.Files.read_faults c.args.files.now) in
-    Ends-widen (λ (reply : Reply). reply ≡ explained c.in-Explain.explain.code.now) (MayAnswer IsFaultNote (Some (asked c.args.command.now)) told rose) _ _ _ _ _ _
-    (λ r e. subst (λ k. MayAnswer IsFaultNote (Some (asked k)) told rose r) (sym c.in-Explain.is) ([], holds-none told, inl e))
-    (c.explain_code.ensures (kept told (g.F.Files.write_faults c.args.files.now)))
+    Ends-widen (λ (response : Response). response ≡ explained c.in-Explain.explain.code.now) (MayAnswer IsFaultDiagnostic (Some (asked c.args.command.now)) reported rose) _ _ _ _ _ _
+    (λ r e. subst (λ k. MayAnswer IsFaultDiagnostic (Some (asked k)) reported rose r) (sym c.in-Explain.is) ([], holds-none reported, inl e))
+    (c.explain_code.ensures (kept reported (g.F.Files.write_faults c.args.files.now)))

@@ -1,12 +1,12 @@
 use Rattle.std.proofs.Common.{subst, List, ℕ}
 use Rattle.kc_kit_words.specs.Inputs.{inputs_in}
 use Rattle.kc_kit_words.specs.declared.inputs.Role.TheVariants as role
-use Rattle.kc_kit_files.specs.Reply.{IsRefused}
+use Rattle.kc_kit_files.specs.Response.{IsRefused}
 use Rattle.kc_kit_inputs.specs.Driving.{given_for}
 use Rattle.kc_kit_inputs.specs.Inputs.{input_for}
 use Rattle.kc_kit_notes.proofs.Words.{texts_in}
-use Rattle.kc_kit_answer.specs.Debug.{debug_reply}
-use Rattle.kc_kit_answer.specs.Hex.{HexTold}
+use Rattle.kc_kit_answer.specs.Debug.{debug_response}
+use Rattle.kc_kit_answer.specs.Hex.{HexReported}
 use Rattle.kc_kit_answer.proofs.DebugLemmas.{IsGivenBoard, script-refused, lines-refused, script-carried}
 use Rattle.kc_kit_answer.proofs.debug.debug_texts.Goals as goal
 
@@ -15,7 +15,7 @@ returns-in-Err c =
     let debug = c.args.debug.now in
     let script : List ℕ × List ℕ = (debug.script.now, c.args.script.now) in
     let lines = input_for role.Lines (inputs_in debug.inputs) (texts_in c.args.inputs.now) in
-    subst (λ s. IsRefused (HexTold debug.file.now s c.args.text.now (debug_reply script lines)) c.in-Err.refusal) c.given_for-given.ensures.given (c.in-Err.ensures (debug_reply script lines))
+    subst (λ s. IsRefused (HexReported debug.file.now s c.args.text.now (debug_response script lines)) c.in-Err.refusal) c.given_for-given.ensures.given (c.in-Err.ensures (debug_response script lines))
 
 pub returns-in-Err-read_script : goal.returns-in-Err-read_script
 returns-in-Err-read_script c =

@@ -1,14 +1,14 @@
 use Rattle.std.proofs.Common.{◌≡◌, ◌∷◌, ◌++◌, ◌∙◌, refl, ap, sym}
 use Rattle.kc_code_listing.specs.Listing.{listing}
 use Rattle.kc_kit_files.specs.declared.status.Status.TheVariants as status
-use Rattle.kc_kit_files.specs.Reply.{Reply, says}
+use Rattle.kc_kit_files.specs.Response.{Response, says}
 use Rattle.kc_kit_files.specs.Outside.{kept, shown}
-use Rattle.kc_kit_running.specs.Scripted.{debugged_by, script_reply}
+use Rattle.kc_kit_running.specs.Scripted.{debugged_by, script_response}
 use Rattle.kc_kit_running.specs.Writing.{written}
 use Rattle.kc_kit_answer.specs.Jobs.{does, maybe_written}
 use Rattle.kc_kit_running.specs.Counted.{summary_of}
-use Rattle.kc_kit_running.specs.Lives.{board_reply}
-use Rattle.kc_kit_running.specs.Profiled.{profile_reply}
+use Rattle.kc_kit_running.specs.Lives.{board_response}
+use Rattle.kc_kit_running.specs.Profiled.{profile_response}
 use Rattle.kc_kit_files.proofs.EndLemmas.{Ends-widen}
 use Rattle.kc_kit_answer.proofs.EndedLemmas.{board-printed, ends-printed}
 use Rattle.kc_kit_answer.proofs.WriteLemmas.{ends-written}
@@ -16,7 +16,7 @@ use Rattle.kc_kit_answer.proofs.job.perform.Goals as goal
 
 pub returns-in-Run-clause-answer : goal.returns-in-Run-clause-answer
 returns-in-Run-clause-answer g c =
-    ends-printed (board_reply c.in-Run.extent c.in-Run.board.driving c.in-Run.board.image) c.args.job _ _ c.by.result c.run_board-status.result _ _ (board-printed c.in-Run.extent c.in-Run.board.driving c.in-Run.board.image) (sym (ap does c.in-Run.is)) c.by.ensures.status c.by.ensures.said
+    ends-printed (board_response c.in-Run.extent c.in-Run.board.driving c.in-Run.board.image) c.args.job _ _ c.by.result c.run_board-status.result _ _ (board-printed c.in-Run.extent c.in-Run.board.driving c.in-Run.board.image) (sym (ap does c.in-Run.is)) c.by.ensures.status c.by.ensures.said
     (c.run_board-status.ensures (kept (g.F.Files.held c.args.files.now) (g.F.Files.write_faults c.args.files.now)))
 
 pub returns-in-Count-clause-answer : goal.returns-in-Count-clause-answer
@@ -31,15 +31,15 @@ returns-in-List-clause-answer g c =
 
 pub returns-in-Debug-clause-answer : goal.returns-in-Debug-clause-answer
 returns-in-Debug-clause-answer g c =
-    ends-printed (script_reply (debugged_by c.in-Debug.lines c.in-Debug.script c.in-Debug.board.driving c.in-Debug.board.image)) c.args.job _ _ c.by-in-Debug.result c.debug_board-status.result _ _ (record { none = refl; silent = refl }) (sym (ap does c.in-Debug.is)) c.by-in-Debug.ensures.status c.by-in-Debug.ensures.said
+    ends-printed (script_response (debugged_by c.in-Debug.lines c.in-Debug.script c.in-Debug.board.driving c.in-Debug.board.image)) c.args.job _ _ c.by-in-Debug.result c.debug_board-status.result _ _ (record { none = refl; silent = refl }) (sym (ap does c.in-Debug.is)) c.by-in-Debug.ensures.status c.by-in-Debug.ensures.said
     (c.debug_board-status.ensures (kept (g.F.Files.held c.args.files.now) (g.F.Files.write_faults c.args.files.now)))
 
 pub returns-in-Write-clause-answer : goal.returns-in-Write-clause-answer
 returns-in-Write-clause-answer g c =
     ends-written _ _ (shown (g.S.Sink.written c.args.out.now.sink) (g.S.Sink.faults c.args.out.now.sink)) (written c.in-Write.file ∷ maybe_written c.in-Write.lines ++ maybe_written c.in-Write.map) c.write_files.result
-    (λ (reply : Reply). reply ≡ does c.args.job) (sym (ap does c.in-Write.is)) c.write_files.ensures.written
+    (λ (response : Response). response ≡ does c.args.job) (sym (ap does c.in-Write.is)) c.write_files.ensures.written
 
 pub returns-in-Profile-clause-answer : goal.returns-in-Profile-clause-answer
 returns-in-Profile-clause-answer g c =
-    Ends-widen (λ (reply : Reply). reply ≡ profile_reply c.in-Profile.states c.in-Profile.name.now c.in-Profile.entries.items c.in-Profile.board.driving c.in-Profile.board.image) (λ (reply : Reply). reply ≡ does c.args.job) _ _
-    c.profile_board.result.status c.profile_board.result.said _ _ (λ r k. k ∙ sym (ap does c.in-Profile.is)) (rw c.deref.ensures.value at c.profile_board.ensures.reply)
+    Ends-widen (λ (response : Response). response ≡ profile_response c.in-Profile.states c.in-Profile.name.now c.in-Profile.entries.items c.in-Profile.board.driving c.in-Profile.board.image) (λ (response : Response). response ≡ does c.args.job) _ _
+    c.profile_board.result.status c.profile_board.result.said _ _ (λ r k. k ∙ sym (ap does c.in-Profile.is)) (rw c.deref.ensures.value at c.profile_board.ensures.response)

@@ -1,6 +1,6 @@
 use Rattle.std.proofs.Common.{ℕ, List, ◌≡◌, ◌++◌, ◌∙◌, ap, sym, subst, drop, length, map, string_bytes, Ok, Err}
 use Rattle.std.proofs.Math.Seq.{drop-append_seam}
-use Rattle.kc_kit_files.specs.Reply.{Reply, IsRefused}
+use Rattle.kc_kit_files.specs.Response.{Response, IsRefused}
 use Rattle.kc_kit_inputs.specs.Library.{TakenAre}
 use Rattle.kc_kit_words.specs.Asked.{beside_in}
 use Rattle.kc_kit_answer.specs.Jobs.{IsPrepared}
@@ -16,7 +16,7 @@ returns-in-Err-take_members c =
     let library : List ℕ × List ℕ = (c.args.name.now, c.args.bytes.now) in
     let beside = beside_in link.beside in
     taking-refused (map string_bytes link.files.now) library (λ files. Placing files link.placing (LinksTo link.out.now beside link.placing)) c.args.modules.items c.in-Ok.library c.in-Err-take_members.refusal c.in-Ok.ensures.library
-    (subst (λ ms. IsRefused (λ (reply : Reply). TakenAre c.args.name.now ms c.in-Ok.library (Err reply)) c.in-Err-take_members.refusal) c.deref.ensures.value c.in-Err-take_members.ensures.refusal)
+    (subst (λ ms. IsRefused (λ (response : Response). TakenAre c.args.name.now ms c.in-Ok.library (Err response)) c.in-Err-take_members.refusal) c.deref.ensures.value c.in-Err-take_members.ensures.refusal)
 
 pub returns : goal.returns
 returns c =

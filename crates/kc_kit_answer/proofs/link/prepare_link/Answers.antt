@@ -5,7 +5,7 @@ use Rattle.kc_kit_words.specs.Asked.{beside_in}
 use Rattle.kc_kit_words.specs.Inputs.{inputs_in}
 use Rattle.kc_kit_words.specs.Commands.{Links, names_of}
 use Rattle.kc_kit_notes.proofs.Words.{texts_in}
-use Rattle.kc_kit_inputs.specs.FaultNotes.{IsFaultNote}
+use Rattle.kc_kit_inputs.specs.FaultDiagnostics.{IsFaultDiagnostic}
 use Rattle.kc_kit_answer.specs.Answer.{MayAnswer, Parted}
 use Rattle.kc_kit_answer.specs.Link.{LinkAnswer}
 use Rattle.kc_kit_answer.proofs.AnswerSteps.{first-missed, second-missed, parts-then, prepared-widen}
@@ -31,11 +31,11 @@ returns-in-Ok-read_inputs g c =
     let beside = beside_in link.beside in
     let texts = texts_in c.in-Ok.texts.items in
     let more = texts_in c.in-Ok-read_inputs.inputs.items in
-    let told = g.F.Files.held c.args.files.now in
+    let reported = g.F.Files.held c.args.files.now in
     let rose : Type 0 = Rose (g.F.Files.read_faults c.args.files.now) (g.F.Files.read_faults c.read_inputs.new.files) in
     record {
-      answer = prepared-widen (LinkAnswer names inputs link.out.now beside link.placing texts more) (MayAnswer IsFaultNote (Some (Links names inputs link.out.now beside link.placing)) told rose) c.link_texts.result
-          (λ r m. parts-then names (names_of inputs) (length names) (LinkAnswer names inputs link.out.now beside link.placing) told (g.F.Files.held c.read_files.new.files) rose texts more r c.read_files.ensures.stays.same refl
+      answer = prepared-widen (LinkAnswer names inputs link.out.now beside link.placing texts more) (MayAnswer IsFaultDiagnostic (Some (Links names inputs link.out.now beside link.placing)) reported rose) c.link_texts.result
+          (λ r m. parts-then names (names_of inputs) (length names) (LinkAnswer names inputs link.out.now beside link.placing) reported (g.F.Files.held c.read_files.new.files) rose texts more r c.read_files.ensures.stays.same refl
           c.in-Ok.ensures.read c.in-Ok-read_inputs.ensures.read m)
           (rw (c.deref.ensures.value, c.deref-in-Ok-read_inputs.ensures.value) at c.link_texts.ensures);
       only_read = stays-onward g.F.Files.held g.F.Files.read_faults g.F.Files.write_faults _ _ _ c.read_files.ensures.stays c.read_inputs.ensures.stays;
@@ -47,11 +47,11 @@ returns g c =
     let names = map string_bytes link.files.now in
     let inputs = inputs_in link.inputs in
     let beside = beside_in link.beside in
-    let told = g.F.Files.held c.args.files.now in
+    let reported = g.F.Files.held c.args.files.now in
     let rose : Type 0 = Rose (g.F.Files.read_faults c.read_files.new.files) (g.F.Files.read_faults c.read_inputs.new.files) in
     let later : Type 0 = Rose (g.F.Files.read_faults c.args.files.now) (g.F.Files.read_faults c.read_inputs.new.files) in
     record {
-      answer = second-missed names (names_of inputs) (texts_in c.in-Ok.texts.items) (Parted (length names) (LinkAnswer names inputs link.out.now beside link.placing)) told (g.F.Files.held c.read_files.new.files) rose later c.in-Err-read_inputs.refusal
+      answer = second-missed names (names_of inputs) (texts_in c.in-Ok.texts.items) (Parted (length names) (LinkAnswer names inputs link.out.now beside link.placing)) reported (g.F.Files.held c.read_files.new.files) rose later c.in-Err-read_inputs.refusal
           c.read_files.ensures.stays.same c.in-Ok.ensures.read (λ r. omega (arith, r, c.read_files.ensures.stays.later)) c.in-Err-read_inputs.ensures.read;
       only_read = stays-onward g.F.Files.held g.F.Files.read_faults g.F.Files.write_faults _ _ _ c.read_files.ensures.stays c.read_inputs.ensures.stays;
     }

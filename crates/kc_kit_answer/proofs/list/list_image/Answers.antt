@@ -1,7 +1,7 @@
 use Rattle.std.proofs.Common.{◌+◌, ◌∙◌, ap, refl, sym, inl, arith}
 use Rattle.kc_code_listing.specs.Listing.{listing}
 use Rattle.kc_kit_files.specs.declared.status.Status.TheVariants as status
-use Rattle.kc_kit_files.specs.Reply.{says}
+use Rattle.kc_kit_files.specs.Response.{says}
 use Rattle.kc_kit_answer.proofs.Listed.{IsListed-start, IsListed-next, IsListed-whole}
 use Rattle.kc_kit_answer.proofs.list.list_image.Goals as goal
 
@@ -18,9 +18,9 @@ loop-at-preserved g c =
 pub returns-then-failed : goal.returns-then-failed
 returns-then-failed g c = λ files.
     let all = IsListed-whole c.args.image.now c.args.first c.args.last c.loop-at.at _ _ (omega (arith, c.loop-at-test.false, c.from.ensures)) c.loop-at.invariant in
-    inl (record { reply = says status.Done (listing c.args.image.now c.args.first c.args.last); is_answer = refl; text = all.part; cause = all.cause c.requires.ready (sym c.if-failed.ensures); files = refl })
+    inl (record { response = says status.Done (listing c.args.image.now c.args.first c.args.last); is_answer = refl; text = all.part; cause = all.cause c.requires.ready (sym c.if-failed.ensures); files = refl })
 
 pub returns-else-failed : goal.returns-else-failed
 returns-else-failed g c = λ files.
     let all = IsListed-whole c.args.image.now c.args.first c.args.last c.loop-at.at _ _ (omega (arith, c.loop-at-test.false, c.from.ensures)) c.loop-at.invariant in
-    record { reply = says status.Done (listing c.args.image.now c.args.first c.args.last); is_answer = refl; status = refl; text = all.whole (sym c.if-failed.ensures); files = refl }
+    record { response = says status.Done (listing c.args.image.now c.args.first c.args.last); is_answer = refl; status = refl; text = all.whole (sym c.if-failed.ensures); files = refl }

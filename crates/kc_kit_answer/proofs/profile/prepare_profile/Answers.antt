@@ -3,7 +3,7 @@ use Rattle.kc_base.specs.Causes.{Rose}
 use Rattle.kc_kit_files.proofs.ReadLemmas.{stays-onward}
 use Rattle.kc_kit_words.specs.Inputs.{inputs_in}
 use Rattle.kc_kit_words.specs.Commands.{Profiles, names_of}
-use Rattle.kc_kit_inputs.specs.FaultNotes.{IsFaultNote}
+use Rattle.kc_kit_inputs.specs.FaultDiagnostics.{IsFaultDiagnostic}
 use Rattle.kc_kit_answer.specs.Answer.{MayAnswer, Parted}
 use Rattle.kc_kit_answer.specs.Profile.{ProfileAnswer}
 use Rattle.kc_kit_notes.proofs.Words.{texts_in}
@@ -17,7 +17,7 @@ returns-in-Err g c =
     let inputs = inputs_in run.inputs in
     let rose : Type 0 = Rose (g.F.Files.read_faults c.args.files.now) (g.F.Files.read_faults c.read_files.new.files) in
     record {
-      answer = first-missed names (names_of inputs) (Parted (length names) (ProfileAnswer IsFaultNote names inputs run.states run.placing run.out.now)) (g.F.Files.held c.args.files.now) rose c.in-Err.refusal c.in-Err.ensures.read;
+      answer = first-missed names (names_of inputs) (Parted (length names) (ProfileAnswer IsFaultDiagnostic names inputs run.states run.placing run.out.now)) (g.F.Files.held c.args.files.now) rose c.in-Err.refusal c.in-Err.ensures.read;
       only_read = c.read_files.ensures.stays;
     }
 
@@ -28,11 +28,11 @@ returns-in-Ok-read_inputs g c =
     let inputs = inputs_in run.inputs in
     let texts = texts_in c.in-Ok.texts.items in
     let more = texts_in c.in-Ok-read_inputs.inputs.items in
-    let told = g.F.Files.held c.args.files.now in
+    let reported = g.F.Files.held c.args.files.now in
     let rose : Type 0 = Rose (g.F.Files.read_faults c.args.files.now) (g.F.Files.read_faults c.read_inputs.new.files) in
     record {
-      answer = prepared-widen (ProfileAnswer IsFaultNote names inputs run.states run.placing run.out.now texts more) (MayAnswer IsFaultNote (Some (Profiles names inputs run.states run.placing run.out.now)) told rose) c.profile_texts.result
-          (λ r m. parts-then names (names_of inputs) (length names) (ProfileAnswer IsFaultNote names inputs run.states run.placing run.out.now) told (g.F.Files.held c.read_files.new.files) rose texts more r c.read_files.ensures.stays.same refl
+      answer = prepared-widen (ProfileAnswer IsFaultDiagnostic names inputs run.states run.placing run.out.now texts more) (MayAnswer IsFaultDiagnostic (Some (Profiles names inputs run.states run.placing run.out.now)) reported rose) c.profile_texts.result
+          (λ r m. parts-then names (names_of inputs) (length names) (ProfileAnswer IsFaultDiagnostic names inputs run.states run.placing run.out.now) reported (g.F.Files.held c.read_files.new.files) rose texts more r c.read_files.ensures.stays.same refl
           c.in-Ok.ensures.read c.in-Ok-read_inputs.ensures.read m)
           (rw (c.deref.ensures.value, c.deref-in-Ok-read_inputs.ensures.value) at c.profile_texts.ensures);
       only_read = stays-onward g.F.Files.held g.F.Files.read_faults g.F.Files.write_faults _ _ _ c.read_files.ensures.stays c.read_inputs.ensures.stays;
@@ -43,11 +43,11 @@ returns g c =
     let run = c.args.run.now in
     let names = map string_bytes run.files.now in
     let inputs = inputs_in run.inputs in
-    let told = g.F.Files.held c.args.files.now in
+    let reported = g.F.Files.held c.args.files.now in
     let rose : Type 0 = Rose (g.F.Files.read_faults c.read_files.new.files) (g.F.Files.read_faults c.read_inputs.new.files) in
     let later : Type 0 = Rose (g.F.Files.read_faults c.args.files.now) (g.F.Files.read_faults c.read_inputs.new.files) in
     record {
-      answer = second-missed names (names_of inputs) (texts_in c.in-Ok.texts.items) (Parted (length names) (ProfileAnswer IsFaultNote names inputs run.states run.placing run.out.now)) told (g.F.Files.held c.read_files.new.files) rose later c.in-Err-read_inputs.refusal
+      answer = second-missed names (names_of inputs) (texts_in c.in-Ok.texts.items) (Parted (length names) (ProfileAnswer IsFaultDiagnostic names inputs run.states run.placing run.out.now)) reported (g.F.Files.held c.read_files.new.files) rose later c.in-Err-read_inputs.refusal
           c.read_files.ensures.stays.same c.in-Ok.ensures.read (λ r. omega (arith, r, c.read_files.ensures.stays.later)) c.in-Err-read_inputs.ensures.read;
       only_read = stays-onward g.F.Files.held g.F.Files.read_faults g.F.Files.write_faults _ _ _ c.read_files.ensures.stays c.read_inputs.ensures.stays;
     }

@@ -1,11 +1,11 @@
 use Rattle.std.proofs.Common.{Some, List, ℕ, [], ◌∷◌, refl, arith}
 use Rattle.kc_base.specs.Causes.{Rose}
 use Rattle.kc_kit_files.specs.Reads.{MissedOne, MissedRead}
-use Rattle.kc_kit_files.specs.Reply.{Reply}
+use Rattle.kc_kit_files.specs.Response.{Response}
 use Rattle.kc_kit_files.proofs.ReadLemmas.{refused-widen, held-one, missed-one, stays-onward}
 use Rattle.kc_kit_words.specs.Inputs.{inputs_in}
 use Rattle.kc_kit_words.specs.Commands.{ProfilesHex, names_of}
-use Rattle.kc_kit_inputs.specs.FaultNotes.{IsFaultNote}
+use Rattle.kc_kit_inputs.specs.FaultDiagnostics.{IsFaultDiagnostic}
 use Rattle.kc_kit_answer.specs.Answer.{MayAnswer, OneText, Parted}
 use Rattle.kc_kit_answer.specs.Profile.{ProfileHexAnswer}
 use Rattle.kc_kit_notes.proofs.Words.{texts_in}
@@ -17,12 +17,12 @@ returns-in-Err g c =
     let run = c.args.run.now in
     let name = run.file.now in
     let inputs = inputs_in run.inputs in
-    let told = g.F.Files.held c.args.files.now in
+    let reported = g.F.Files.held c.args.files.now in
     let rose : Type 0 = Rose (g.F.Files.read_faults c.args.files.now) (g.F.Files.read_faults c.read_file.new.files) in
-    let may : List (List ℕ) → List (List ℕ) → Reply → Type 0 = λ texts more. OneText (λ text. ProfileHexAnswer name inputs run.states run.out.now text more) texts in
+    let may : List (List ℕ) → List (List ℕ) → Response → Type 0 = λ texts more. OneText (λ text. ProfileHexAnswer name inputs run.states run.out.now text more) texts in
     record {
-      answer = first-missed (name ∷ []) (names_of inputs) (Parted 1 may) told rose c.in-Err.refusal
-          (refused-widen (MissedOne told name rose) (MissedRead told (name ∷ []) rose) c.in-Err.refusal (λ r m. missed-one told name rose r m) c.in-Err.ensures.read);
+      answer = first-missed (name ∷ []) (names_of inputs) (Parted 1 may) reported rose c.in-Err.refusal
+          (refused-widen (MissedOne reported name rose) (MissedRead reported (name ∷ []) rose) c.in-Err.refusal (λ r m. missed-one reported name rose r m) c.in-Err.ensures.read);
       only_read = c.read_file.ensures.stays;
     }
 
@@ -31,15 +31,15 @@ returns-in-Ok-read_inputs g c =
     let run = c.args.run.now in
     let name = run.file.now in
     let inputs = inputs_in run.inputs in
-    let told = g.F.Files.held c.args.files.now in
+    let reported = g.F.Files.held c.args.files.now in
     let rose : Type 0 = Rose (g.F.Files.read_faults c.args.files.now) (g.F.Files.read_faults c.read_inputs.new.files) in
-    let may : List (List ℕ) → List (List ℕ) → Reply → Type 0 = λ texts more. OneText (λ text. ProfileHexAnswer name inputs run.states run.out.now text more) texts in
+    let may : List (List ℕ) → List (List ℕ) → Response → Type 0 = λ texts more. OneText (λ text. ProfileHexAnswer name inputs run.states run.out.now text more) texts in
     let text = c.in-Ok.text.items in
     let more = texts_in c.in-Ok-read_inputs.inputs.items in
     record {
-      answer = prepared-widen (ProfileHexAnswer name inputs run.states run.out.now text more) (MayAnswer IsFaultNote (Some (ProfilesHex name inputs run.states run.out.now)) told rose) c.profile_hex.result
-          (λ r m. parts-then (name ∷ []) (names_of inputs) 1 may told (g.F.Files.held c.read_file.new.files) rose (text ∷ []) more r c.read_file.ensures.stays.same refl
-          (held-one told name text c.in-Ok.ensures.read.0 c.in-Ok.ensures.read.1) c.in-Ok-read_inputs.ensures.read m)
+      answer = prepared-widen (ProfileHexAnswer name inputs run.states run.out.now text more) (MayAnswer IsFaultDiagnostic (Some (ProfilesHex name inputs run.states run.out.now)) reported rose) c.profile_hex.result
+          (λ r m. parts-then (name ∷ []) (names_of inputs) 1 may reported (g.F.Files.held c.read_file.new.files) rose (text ∷ []) more r c.read_file.ensures.stays.same refl
+          (held-one reported name text c.in-Ok.ensures.read.0 c.in-Ok.ensures.read.1) c.in-Ok-read_inputs.ensures.read m)
           (rw (c.deref.ensures.value, c.deref-in-Ok-read_inputs.ensures.value) at c.profile_hex.ensures);
       only_read = stays-onward g.F.Files.held g.F.Files.read_faults g.F.Files.write_faults _ _ _ c.read_file.ensures.stays c.read_inputs.ensures.stays;
     }
@@ -49,12 +49,12 @@ returns g c =
     let run = c.args.run.now in
     let name = run.file.now in
     let inputs = inputs_in run.inputs in
-    let told = g.F.Files.held c.args.files.now in
+    let reported = g.F.Files.held c.args.files.now in
     let rose : Type 0 = Rose (g.F.Files.read_faults c.read_file.new.files) (g.F.Files.read_faults c.read_inputs.new.files) in
     let later : Type 0 = Rose (g.F.Files.read_faults c.args.files.now) (g.F.Files.read_faults c.read_inputs.new.files) in
-    let may : List (List ℕ) → List (List ℕ) → Reply → Type 0 = λ texts more. OneText (λ text. ProfileHexAnswer name inputs run.states run.out.now text more) texts in
+    let may : List (List ℕ) → List (List ℕ) → Response → Type 0 = λ texts more. OneText (λ text. ProfileHexAnswer name inputs run.states run.out.now text more) texts in
     record {
-      answer = second-missed (name ∷ []) (names_of inputs) (c.in-Ok.text.items ∷ []) (Parted 1 may) told (g.F.Files.held c.read_file.new.files) rose later c.in-Err-read_inputs.refusal
-          c.read_file.ensures.stays.same (held-one told name c.in-Ok.text.items c.in-Ok.ensures.read.0 c.in-Ok.ensures.read.1) (λ r. omega (arith, r, c.read_file.ensures.stays.later)) c.in-Err-read_inputs.ensures.read;
+      answer = second-missed (name ∷ []) (names_of inputs) (c.in-Ok.text.items ∷ []) (Parted 1 may) reported (g.F.Files.held c.read_file.new.files) rose later c.in-Err-read_inputs.refusal
+          c.read_file.ensures.stays.same (held-one reported name c.in-Ok.text.items c.in-Ok.ensures.read.0 c.in-Ok.ensures.read.1) (λ r. omega (arith, r, c.read_file.ensures.stays.later)) c.in-Err-read_inputs.ensures.read;
       only_read = stays-onward g.F.Files.held g.F.Files.read_faults g.F.Files.write_faults _ _ _ c.read_file.ensures.stays c.read_inputs.ensures.stays;
     }

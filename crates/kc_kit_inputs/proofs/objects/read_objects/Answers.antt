@@ -4,7 +4,7 @@ use Rattle.std.specs.List.{All}
 use Rattle.std.proofs.lemmas.List.{length-append}
 use Rattle.std.proofs.lemmas.List.Elements.{All-append}
 use Rattle.kc_obj_module.specs.Spelling.{spelling}
-use Rattle.kc_kit_files.specs.Reply.{Reply}
+use Rattle.kc_kit_files.specs.Response.{Response}
 use Rattle.kc_kit_files.proofs.ReadLemmas.{refused-widen}
 use Rattle.kc_kit_inputs.specs.Objects.{modules_of, object_of}
 use Rattle.kc_kit_inputs.proofs.ObjectLemmas.{all-one, prepend, object-next, object-stop}
@@ -20,7 +20,7 @@ pub returns-in-Err-clause-refusal : goal.returns-in-Err-clause-refusal
 returns-in-Err-clause-refusal c =
     let l = c.loop-i in
     let within : l.i < length c.args.names.now = omega (arith, c.loop-i-test.true) in
-    refused-widen (λ (reply : Reply). object_of c.as_str.result.now c.deref.result.now ≡ Err reply) (λ (reply : Reply). modules_of object_of (names_in c.args.names.now) (texts_in c.args.texts.now) ≡ Err reply) c.in-Err.refusal
+    refused-widen (λ (response : Response). object_of c.as_str.result.now c.deref.result.now ≡ Err response) (λ (response : Response). modules_of object_of (names_in c.args.names.now) (texts_in c.args.texts.now) ≡ Err response) c.in-Err.refusal
     (λ r e. l.invariant.same ∙ object-stop c.args.names.now c.args.texts.now l.i c.index-names-i.result c.index-texts-i.result l.modules.items r within c.requires.count c.index-names-i.is c.index-texts-i.is
     (ap (λ n. object_of n c.index-texts-i.result.items) (sym c.as_str.ensures.value) ∙ ap (object_of c.as_str.result.now) (sym c.deref.ensures.value) ∙ e))
     c.in-Err.ensures.refusal

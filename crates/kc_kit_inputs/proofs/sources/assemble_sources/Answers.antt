@@ -2,8 +2,8 @@ use Rattle.std.proofs.Common.{◌≤◌, ◌<◌, ◌+◌, ◌∷◌, [], ◌∙
 use Rattle.std.proofs.lemmas.List.{length-append}
 use Rattle.kc_asm.specs.Assembled.{IsModule}
 use Rattle.kc_kit_files.proofs.ReadLemmas.{refused-widen}
-use Rattle.kc_kit_inputs.specs.FaultNotes.{IsFaultNote}
-use Rattle.kc_kit_inputs.specs.Sources.{TellsFault, TellsFirst}
+use Rattle.kc_kit_inputs.specs.FaultDiagnostics.{IsFaultDiagnostic}
+use Rattle.kc_kit_inputs.specs.Sources.{ReportsFault, ReportsFirst}
 use Rattle.kc_kit_notes.proofs.Words.{names_in, texts_in, short-at}
 use Rattle.kc_kit_inputs.proofs.SourceLemmas.{onward-next, onward-stop, onward-end}
 use Rattle.kc_kit_inputs.proofs.sources.assemble_sources.Goals as goal
@@ -20,9 +20,9 @@ pub returns-in-Err-clause-refusal : goal.returns-in-Err-clause-refusal
 returns-in-Err-clause-refusal c =
     let l = c.loop-i in
     let within : l.i < length c.args.names.now = omega (arith, c.loop-i-test.true) in
-    refused-widen (TellsFault IsFaultNote c.as_str.result.now c.deref.result.now) (TellsFirst IsFaultNote (names_in c.args.names.now) (texts_in c.args.texts.now)) c.in-Err.refusal
+    refused-widen (ReportsFault IsFaultDiagnostic c.as_str.result.now c.deref.result.now) (ReportsFirst IsFaultDiagnostic (names_in c.args.names.now) (texts_in c.args.texts.now)) c.in-Err.refusal
     (λ r e. onward-stop c.args.names.now c.args.texts.now l.i c.index-names-i.result c.index-texts-i.result l.modules.items r within c.requires.count c.index-names-i.is c.index-texts-i.is
-    (subst (λ n. TellsFault IsFaultNote n c.index-texts-i.result.items r) c.as_str.ensures.value (subst (λ b. TellsFault IsFaultNote c.as_str.result.now b r) c.deref.ensures.value e)) l.invariant.onward)
+    (subst (λ n. ReportsFault IsFaultDiagnostic n c.index-texts-i.result.items r) c.as_str.ensures.value (subst (λ b. ReportsFault IsFaultDiagnostic c.as_str.result.now b r) c.deref.ensures.value e)) l.invariant.onward)
     c.in-Err.ensures.refusal
 
 pub loop-i-preserved : goal.loop-i-preserved

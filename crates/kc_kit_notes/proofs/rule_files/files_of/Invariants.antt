@@ -1,6 +1,6 @@
 use Rattle.std.proofs.Common.{◌≡◌, ◌+◌, ◌++◌, length}
 use Rattle.kc_kit_notes.specs.Origins.{words_of}
-use Rattle.kc_kit_notes.specs.RuleNotes.{files_from}
+use Rattle.kc_kit_notes.specs.RuleDiagnostics.{files_from}
 use Rattle.kc_kit_notes.proofs.rule_files.files_of.Given as goal
 
 abbrev pub invariant-loop-left : goal.invariant-loop-left

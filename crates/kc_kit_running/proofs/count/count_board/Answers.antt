@@ -3,8 +3,8 @@ use Rattle.kc_trace.specs.Counting.{counted_all}
 use Rattle.kc_machine_spec.specs.Machine.{Machine, Stepped}
 use Rattle.kc_machine_spec.specs.Run.{run_to, end_of}
 use Rattle.kc_machine_spec.specs.Text.{HasRun}
-use Rattle.kc_kit_files.specs.Reply.{Reply, says}
-use Rattle.kc_kit_files.proofs.ReplyLemmas.{Replies-widen}
+use Rattle.kc_kit_files.specs.Response.{Response, says}
+use Rattle.kc_kit_files.proofs.ResponseLemmas.{Responses-widen}
 use Rattle.kc_kit_running.specs.Counted.{summary, summary_of}
 use Rattle.kc_kit_running.specs.Fitted.{FittedUnit, fitted_further}
 use Rattle.kc_kit_running.proofs.RunLemmas.{HasRun-start, summary-is}
@@ -20,8 +20,8 @@ summary-requires g c =
 pub returns-in-Ok-summary : goal.returns-in-Ok-summary
 returns-in-Ok-summary g c = λ files.
     let ran : Stepped FittedUnit = run_to fitted_further 1000000 c.in-Ok.machine.machine in
-    let told : says c.status_of.result c.deref.result.now ≡ summary c.args.number ran =
+    let reported : says c.status_of.result c.deref.result.now ≡ summary c.args.number ran =
     summary-is c.args.number ran c.status_of.result c.deref.result.now c.counts.result c.in-Ok-run.end c.now.result c.status_of.ensures (c.deref.ensures.value ∙ c.in-Ok-summary.ensures)
     (c.counts.ensures ∙ c.in-Ok-run.ensures.counts ∙ ap (counted_all ran.records) c.new-trace.ensures.counts) c.in-Ok-run.ensures.end (c.now.ensures ∙ ap (λ (m : Machine FittedUnit). m.time) c.in-Ok-run.ensures.machine) in
-    Replies-widen (λ (reply : Reply). reply ≡ says c.status_of.result c.deref.result.now) (λ (reply : Reply). reply ≡ summary_of c.args.number c.args.board.driving c.args.board.image) files _ c.say.result files _
-    (λ r e. e ∙ told ∙ ap (λ (m : Machine FittedUnit). summary c.args.number (run_to fitted_further 1000000 m)) c.in-Ok.ensures) (c.say.ensures.reply files)
+    Responses-widen (λ (response : Response). response ≡ says c.status_of.result c.deref.result.now) (λ (response : Response). response ≡ summary_of c.args.number c.args.board.driving c.args.board.image) files _ c.say.result files _
+    (λ r e. e ∙ reported ∙ ap (λ (m : Machine FittedUnit). summary c.args.number (run_to fitted_further 1000000 m)) c.in-Ok.ensures) (c.say.ensures.response files)

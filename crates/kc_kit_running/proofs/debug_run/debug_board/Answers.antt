@@ -1,9 +1,9 @@
 use Rattle.std.proofs.Common.{◌≡◌, refl, subst}
 use Rattle.kc_debug.specs.Transcript.{Debugged}
 use Rattle.kc_kit_files.specs.declared.status.Status.TheVariants as status
-use Rattle.kc_kit_files.specs.Reply.{Reply}
-use Rattle.kc_kit_files.specs.Outside.{Replies, shown}
-use Rattle.kc_kit_running.specs.Scripted.{debugged_by, script_reply}
+use Rattle.kc_kit_files.specs.Response.{Response}
+use Rattle.kc_kit_files.specs.Outside.{Responses, shown}
+use Rattle.kc_kit_running.specs.Scripted.{debugged_by, script_response}
 use Rattle.kc_kit_running.specs.Fitted.{FittedUnit}
 use Rattle.kc_kit_running.proofs.ScriptLemmas.{carried, carried-start, script-whole, script-part}
 use Rattle.kc_kit_running.proofs.debug_run.debug_board.Goals as goal
@@ -15,8 +15,8 @@ returns-in-Ok-run_script g c = λ files.
     let same : d ≡ debugged_by c.args.lines c.args.script.now board.driving board.image =
     carried-start c.in-Ok-with_lines.session c.args.lines c.args.script.now c.in-Ok.machine.machine board.driving board.image c.in-Ok-with_lines.ensures.lines
     c.in-Ok.ensures in
-    subst (λ (d : Debugged FittedUnit). Replies (λ (reply : Reply). reply ≡ script_reply d) files (shown (g.S.Sink.written c.args.out.now.sink) (g.S.Sink.faults c.args.out.now.sink)) c.status_of.result files (shown (g.S.Sink.written c.run_script.new.out.sink) (g.S.Sink.faults c.run_script.new.out.sink))) same
-    (rw c.status_of.ensures (script-whole d (λ (reply : Reply). reply ≡ script_reply d) files _ _ c.in-Ok-run_script.end refl c.in-Ok-run_script.ensures.end (c.run_script.ensures.text.whole c.in-Ok-run_script.ensures.written)))
+    subst (λ (d : Debugged FittedUnit). Responses (λ (response : Response). response ≡ script_response d) files (shown (g.S.Sink.written c.args.out.now.sink) (g.S.Sink.faults c.args.out.now.sink)) c.status_of.result files (shown (g.S.Sink.written c.run_script.new.out.sink) (g.S.Sink.faults c.run_script.new.out.sink))) same
+    (rw c.status_of.ensures (script-whole d (λ (response : Response). response ≡ script_response d) files _ _ c.in-Ok-run_script.end refl c.in-Ok-run_script.ensures.end (c.run_script.ensures.text.whole c.in-Ok-run_script.ensures.written)))
 
 pub returns : goal.returns
 returns g c = λ files.
@@ -25,5 +25,5 @@ returns g c = λ files.
     let same : d ≡ debugged_by c.args.lines c.args.script.now board.driving board.image =
     carried-start c.in-Ok-with_lines.session c.args.lines c.args.script.now c.in-Ok.machine.machine board.driving board.image c.in-Ok-with_lines.ensures.lines
     c.in-Ok.ensures in
-    subst (λ (d : Debugged FittedUnit). Replies (λ (reply : Reply). reply ≡ script_reply d) files (shown (g.S.Sink.written c.args.out.now.sink) (g.S.Sink.faults c.args.out.now.sink)) status.WriteFault files (shown (g.S.Sink.written c.run_script.new.out.sink) (g.S.Sink.faults c.run_script.new.out.sink))) same
-    (script-part d (λ (reply : Reply). reply ≡ script_reply d) files _ _ refl c.run_script.ensures.text.part (c.run_script.ensures.text.cause c.requires.ready c.in-Err.ensures.failed))
+    subst (λ (d : Debugged FittedUnit). Responses (λ (response : Response). response ≡ script_response d) files (shown (g.S.Sink.written c.args.out.now.sink) (g.S.Sink.faults c.args.out.now.sink)) status.WriteFault files (shown (g.S.Sink.written c.run_script.new.out.sink) (g.S.Sink.faults c.run_script.new.out.sink))) same
+    (script-part d (λ (response : Response). response ≡ script_response d) files _ _ refl c.run_script.ensures.text.part (c.run_script.ensures.text.cause c.requires.ready c.in-Err.ensures.failed))

@@ -2,9 +2,9 @@ use Rattle.std.proofs.Common.{◌≡◌, ◌∙◌, Result, Err, refl, ap, subst
 use Rattle.kc_trace.specs.Trace.{out_of}
 use Rattle.kc_machine_spec.specs.declared.doing.End.{End}
 use Rattle.kc_cycles.specs.declared.lives.LivesFault.{LivesFault}
-use Rattle.kc_cycles.specs.Lives.{AreTold}
-use Rattle.kc_kit_files.specs.Reply.{Reply}
-use Rattle.kc_kit_running.specs.Lives.{board_lives, lives_reply}
+use Rattle.kc_cycles.specs.Lives.{AreReported}
+use Rattle.kc_kit_files.specs.Response.{Response}
+use Rattle.kc_kit_running.specs.Lives.{board_lives, lives_response}
 use Rattle.kc_kit_running.proofs.LivesLemmas.{as-watched, lives-whole, lives-part, lives-pause}
 use Rattle.kc_kit_running.proofs.lives_run.run_board_lives.Goals as goal
 
@@ -14,8 +14,8 @@ returns-in-Ok g c = λ files.
     let lives = board_lives c.args.lives c.args.states board.driving board.image in
     let old = out_of g.S.Sink.written g.S.Sink.faults c.args.out.now in
     let new = out_of g.S.Sink.written g.S.Sink.faults c.run_lives.new.out in
-    let told = as-watched c.args.lives c.args.states board.driving board.image old new _ _ c.run_lives.result c.run_lives.ensures in
-    rw c.status_of.ensures (lives-whole lives (λ (reply : Reply). reply ≡ lives_reply lives) files old new refl c.in-Ok.end (subst (λ (r : Result End LivesFault). AreTold lives old r new) c.in-Ok.is told))
+    let reported = as-watched c.args.lives c.args.states board.driving board.image old new _ _ c.run_lives.result c.run_lives.ensures in
+    rw c.status_of.ensures (lives-whole lives (λ (response : Response). response ≡ lives_response lives) files old new refl c.in-Ok.end (subst (λ (r : Result End LivesFault). AreReported lives old r new) c.in-Ok.is reported))
 
 pub returns-in-Err-WriteFault : goal.returns-in-Err-WriteFault
 returns-in-Err-WriteFault g c = λ files.
@@ -23,8 +23,8 @@ returns-in-Err-WriteFault g c = λ files.
     let lives = board_lives c.args.lives c.args.states board.driving board.image in
     let old = out_of g.S.Sink.written g.S.Sink.faults c.args.out.now in
     let new = out_of g.S.Sink.written g.S.Sink.faults c.run_lives.new.out in
-    let told = as-watched c.args.lives c.args.states board.driving board.image old new _ _ c.run_lives.result c.run_lives.ensures in
-    lives-part lives (λ (reply : Reply). reply ≡ lives_reply lives) files old new refl c.requires.ready (subst (λ (r : Result End LivesFault). AreTold lives old r new) (c.in-Err-WriteFault.is ∙ ap Err c.in-Err-WriteFault.field-0-is) told)
+    let reported = as-watched c.args.lives c.args.states board.driving board.image old new _ _ c.run_lives.result c.run_lives.ensures in
+    lives-part lives (λ (response : Response). response ≡ lives_response lives) files old new refl c.requires.ready (subst (λ (r : Result End LivesFault). AreReported lives old r new) (c.in-Err-WriteFault.is ∙ ap Err c.in-Err-WriteFault.field-0-is) reported)
 
 pub returns : goal.returns
 returns g c = λ files.
@@ -32,5 +32,5 @@ returns g c = λ files.
     let lives = board_lives c.args.lives c.args.states board.driving board.image in
     let old = out_of g.S.Sink.written g.S.Sink.faults c.args.out.now in
     let new = out_of g.S.Sink.written g.S.Sink.faults c.run_lives.new.out in
-    let told = as-watched c.args.lives c.args.states board.driving board.image old new _ _ c.run_lives.result c.run_lives.ensures in
-    lives-pause lives (λ (reply : Reply). reply ≡ lives_reply lives) files old new refl (subst (λ (r : Result End LivesFault). AreTold lives old r new) (c.in-Err-NoMemory.is ∙ ap Err c.in-Err-NoMemory.field-0-is) told)
+    let reported = as-watched c.args.lives c.args.states board.driving board.image old new _ _ c.run_lives.result c.run_lives.ensures in
+    lives-pause lives (λ (response : Response). response ≡ lives_response lives) files old new refl (subst (λ (r : Result End LivesFault). AreReported lives old r new) (c.in-Err-NoMemory.is ∙ ap Err c.in-Err-NoMemory.field-0-is) reported)

@@ -13,23 +13,23 @@ write_finals-requires-clause-ran g c =
     (c.in-Ok-run_profiled.ensures.machine ∙ ap (λ (m : Machine FittedUnit). (run_to fitted_further c.args.states m).machine) c.in-Ok-fitted_machine.ensures)
     (c.in-Ok-run_profiled.ensures.end ∙ ap end_of (sym c.in-Ok-run_profiled.ensures.machine))
 
-pub returns-in_default-run_profiled-clause-reply : goal.returns-in_default-run_profiled-clause-reply
-returns-in_default-run_profiled-clause-reply g c =
+pub returns-in_default-run_profiled-clause-response : goal.returns-in_default-run_profiled-clause-response
+returns-in_default-run_profiled-clause-response g c =
     let m = c.in-Ok-fitted_machine.machine.machine in
     let ran : Stepped FittedUnit = run_to fitted_further c.args.states m in
     counted-short c.args.states c.args.target.name.now c.args.entries.now c.args.board.driving c.args.board.image m _ _ _ c.by-in_default-run_profiled.result c.in-Ok-fitted_machine.ensures c.by-in_default-run_profiled.ensures.status c.by-in_default-run_profiled.ensures.said
     (GrewByPart-trace ran (g.S.Sink.written c.args.out.now.sink) (g.S.Sink.written c.run_profiled.new.out.sink) c.run_profiled.ensures.lines.part) (c.run_profiled.ensures.lines.cause c.requires.ready c.in_default-run_profiled.ensures.fails.failed)
 
-pub returns-clause-reply : goal.returns-clause-reply
-returns-clause-reply g c =
+pub returns-clause-response : goal.returns-clause-response
+returns-clause-response g c =
     let m = c.in-Ok-fitted_machine.machine.machine in
     let ran : Stepped FittedUnit = run_to fitted_further c.args.states m in
     let lines = Puts-trace ran _ _ _ c.in-Ok-run_profiled.end c.run_profiled.new.machine.machine c.in-Ok-run_profiled.ensures.end c.in-Ok-run_profiled.ensures.machine c.run_profiled.ensures.lines c.write_finals.ensures.lines in
     counted-short c.args.states c.args.target.name.now c.args.entries.now c.args.board.driving c.args.board.image m _ _ _ c.by-in-Err.result c.in-Ok-fitted_machine.ensures c.by-in-Err.ensures.status c.by-in-Err.ensures.said
     lines.part (lines.cause c.requires.ready c.in-Err.ensures.failed)
 
-pub returns-in-Done-clause-reply : goal.returns-in-Done-clause-reply
-returns-in-Done-clause-reply g c =
+pub returns-in-Done-clause-response : goal.returns-in-Done-clause-response
+returns-in-Done-clause-response g c =
     let m = c.in-Ok-fitted_machine.machine.machine in
     let ran : Stepped FittedUnit = run_to fitted_further c.args.states m in
     let lines = Puts-trace ran _ _ _ c.in-Ok-run_profiled.end c.run_profiled.new.machine.machine c.in-Ok-run_profiled.ensures.end c.in-Ok-run_profiled.ensures.machine c.run_profiled.ensures.lines c.write_finals.ensures.lines in
@@ -43,7 +43,7 @@ returns-in-Ok-write_finals g c =
     let ran : Stepped FittedUnit = run_to fitted_further c.args.states m in
     let lines = Puts-trace ran _ _ _ c.in-Ok-run_profiled.end c.run_profiled.new.machine.machine c.in-Ok-run_profiled.ensures.end c.in-Ok-run_profiled.ensures.machine c.run_profiled.ensures.lines c.write_finals.ensures.lines in
     record {
-      reply = counted-part c.args.states c.args.target.name.now c.args.entries.now c.args.board.driving c.args.board.image m c.run_profiled.new.profile _ _ _ _ c.in-Ok-run_profiled.end c.write_profile-wrote.result c.in-Ok-fitted_machine.ensures c.in-Ok-run_profiled.ensures.end
+      response = counted-part c.args.states c.args.target.name.now c.args.entries.now c.args.board.driving c.args.board.image m c.run_profiled.new.profile _ _ _ _ c.in-Ok-run_profiled.end c.write_profile-wrote.result c.in-Ok-fitted_machine.ensures c.in-Ok-run_profiled.ensures.end
           (profile-is c.args.states (c.run_profiled.new.machine.machine.time - m.time) m c.in-Ok.profile c.run_profiled.new.profile c.args.entries.now (ap (λ (k : Machine FittedUnit). k.time) c.in-Ok-fitted_machine.ensures) c.in-Ok.ensures c.run_profiled.ensures.profile c.in-Ok-run_profiled.ensures.all)
           c.in_default-status.not-Done (lines.whole c.in-Ok-write_finals.ensures.written) c.write_profile-wrote.ensures.written;
       no_read = c.write_profile-wrote.ensures.no_read;

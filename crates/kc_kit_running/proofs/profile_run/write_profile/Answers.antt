@@ -3,7 +3,7 @@ use Rattle.kc_profile.specs.Text.{profile_text}
 use Rattle.kc_kit_files.specs.declared.status.Status.{Status}
 use Rattle.kc_kit_files.specs.Ended.{said_in}
 use Rattle.kc_kit_files.specs.Outside.{kept}
-use Rattle.kc_kit_files.specs.Reply.{write}
+use Rattle.kc_kit_files.specs.Response.{write}
 use Rattle.kc_kit_running.specs.Writing.{AreWrittenBy}
 use Rattle.kc_kit_running.proofs.ProfileLemmas.{stays-same}
 use Rattle.kc_kit_running.proofs.profile_run.write_profile.Goals as goal

@@ -8,9 +8,9 @@ use Rattle.kc_kit_words.proofs.usage.put_usage.Goals as goal
 
 pub returns-in-Some : goal.returns-in-Some
 returns-in-Some g c =
-    let a = out_of g.N.Sink.written g.N.Sink.faults c.args.notes.now in
+    let a = out_of g.N.Sink.written g.N.Sink.faults c.args.diagnostics.now in
     let b = out_of g.N.Sink.written g.N.Sink.faults c.put_text.new.self in
-    let d = out_of g.N.Sink.written g.N.Sink.faults c.put.new.notes in
+    let d = out_of g.N.Sink.written g.N.Sink.faults c.put.new.diagnostics in
     let e = out_of g.N.Sink.written g.N.Sink.faults c.put_text-in-Some.new.self in
     let text = wrong_text c.in-Some.wrong in
     subst (λ o. Puts a (noted o) e) c.in-Some.ensures

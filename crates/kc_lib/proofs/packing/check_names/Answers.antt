@@ -10,9 +10,9 @@ returns-in-Some c =
     let ms = c.args.modules.now in
     let n = c.loop-number.number in
     let m = c.index-modules-number.result in
-    let told : second_of (take n ms) m.publics ≡ Some c.in_ok-of.field-0 =
+    let reported : second_of (take n ms) m.publics ≡ Some c.in_ok-of.field-0 =
     ap (second_of (take n ms)) (sym c.publics.ensures) ∙ (sym (c.in-Some.ensures (take n ms) c.loop-number.invariant.knows) ∙ ap (λ t. Some t) (sym (c.in_ok-of.ensures ∙ c.as_slice.ensures))) in
-    sym c.loop-number.invariant.same ∙ doubled_stop ms n m _ c.loop-number-test.true c.index-modules-number.is told
+    sym c.loop-number.invariant.same ∙ doubled_stop ms n m _ c.loop-number-test.true c.index-modules-number.is reported
 
 pub loop-number-preserved : goal.loop-number-preserved
 loop-number-preserved c =

@@ -10,12 +10,12 @@ use Rattle.kc_lib.proofs.ReadingLemmas.{cause_by, lengths_whole, members_next, m
 use Rattle.kc_lib.proofs.reading.read_members.Goals as goal
 
 -- the fault that `?` hands on
-told_on : (r : Result (Vec Object) LibFault) (fault : LibFault) (answer : Result (List Object) LibFault) → IsErrAnd r (λ told. told ≡ fault) → IsCause fault (answer ≡ Err fault) → AreRead r answer
-told_on (Ok ms) fault answer is h = absurd is
-told_on (Err told) fault answer is h = subst (λ (f : LibFault). IsCause f (answer ≡ Err f)) (sym is) h
+reported_on : (r : Result (Vec Object) LibFault) (fault : LibFault) (answer : Result (List Object) LibFault) → IsErrAnd r (λ reported. reported ≡ fault) → IsCause fault (answer ≡ Err fault) → AreRead r answer
+reported_on (Ok ms) fault answer is h = absurd is
+reported_on (Err reported) fault answer is h = subst (λ (f : LibFault). IsCause f (answer ≡ Err f)) (sym is) h
 
-pub front-requires : goal.front-requires
-front-requires c =
+pub prefix-requires : goal.prefix-requires
+prefix-requires c =
     let n = c.args.count in
     let i = c.loop-member._member in
     let rest = c.loop-member.left.now in
@@ -30,8 +30,8 @@ after-object-requires c =
     let rest = c.loop-member.left.now in
     let more : n - i ≡ suc (n - (i + 1)) = omega (arith, c.loop-member-test.true) in
     let whole = (lengths_whole _ (n - i) (n - (i + 1)) rest more c.loop-member.invariant.whole).0 in
-    let front : c.front.result.now ≡ take (member_size rest) rest = c.front.ensures ∙ ap (λ (k : ℕ). take k rest) c.member_size-size.ensures in
-    let size : length c.front.result.now ≡ member_size rest = ap (λ (l : List ℕ). length l) front ∙ length-take-le (member_size rest) rest whole in
+    let prefix : c.prefix.result.now ≡ take (member_size rest) rest = c.prefix.ensures ∙ ap (λ (k : ℕ). take k rest) c.member_size-size.ensures in
+    let size : length c.prefix.result.now ≡ member_size rest = ap (λ (l : List ℕ). length l) prefix ∙ length-take-le (member_size rest) rest whole in
     omega (arith, size)
 
 pub returns-in_err-member : goal.returns-in_err-member
@@ -44,9 +44,9 @@ returns-in_err-member c =
     let before = c.loop-member.members.items in
     let fault = c.in_err-member.field-0.0 in
     let more : n - i ≡ suc k = omega (arith, c.loop-member-test.true) in
-    let object : c.after-object.result.now ≡ object_in rest = c.after-object.ensures ∙ ap (λ (l : List ℕ). drop 4 l) (c.front.ensures ∙ ap (λ (j : ℕ). take j rest) c.member_size-size.ensures) in
+    let object : c.after-object.result.now ≡ object_in rest = c.after-object.ensures ∙ ap (λ (l : List ℕ). drop 4 l) (c.prefix.ensures ∙ ap (λ (j : ℕ). take j rest) c.member_size-size.ensures) in
     let at = all - length rest in
-    told_on c.from_residual.result fault (members all n [] (drop 4 c.args.bytes.now)) c.from_residual.ensures.1
+    reported_on c.from_residual.result fault (members all n [] (drop 4 c.args.bytes.now)) c.from_residual.ensures.1
     (cause_by fault (member_of at before c.after-object.result.now ≡ Err fault) (members all n [] (drop 4 c.args.bytes.now) ≡ Err fault)
     (λ wrong. sym c.loop-member.invariant.same ∙ members_stop all (n - i) k before rest fault more (subst (λ (o : List ℕ). member_of at before o ≡ Err fault) object wrong))
     (c.in_err-member.ensures before c.loop-member.invariant.knows))
@@ -72,7 +72,7 @@ loop-member-preserved c =
     let more : n - i ≡ suc k = omega (arith, c.loop-member-test.true) in
     let whole = lengths_whole all (n - i) k rest more c.loop-member.invariant.whole in
     let left : c.after-left-in-loop-member.result.now ≡ drop (member_size rest) rest = c.after-left-in-loop-member.ensures ∙ ap (λ (j : ℕ). drop j rest) c.member_size-size.ensures in
-    let object : c.after-object.result.now ≡ object_in rest = c.after-object.ensures ∙ ap (λ (l : List ℕ). drop 4 l) (c.front.ensures ∙ ap (λ (j : ℕ). take j rest) c.member_size-size.ensures) in
+    let object : c.after-object.result.now ≡ object_in rest = c.after-object.ensures ∙ ap (λ (l : List ℕ). drop 4 l) (c.prefix.ensures ∙ ap (λ (j : ℕ). take j rest) c.member_size-size.ensures) in
     let ok : member_of (all - length rest) before (object_in rest) ≡ Ok m =
     subst (λ (o : List ℕ). member_of (all - length rest) before o ≡ Ok m) object (c.in_ok-member.ensures before c.loop-member.invariant.knows) in
     record {

@@ -5,7 +5,7 @@ use Rattle.kc_link_place.specs.Placing.{name_number}
 use Rattle.kc_link_place.proofs.places.externals_of.Given as goal
 
 abbrev pub invariant-loop-left : goal.invariant-loop-left
-invariant-loop-left l = (modules : List Object) → Knows l.names.homes.entries modules →
+invariant-loop-left l = (modules : List Object) → Knows l.names.defining_modules.entries modules →
     l.numbers.items ++ map (λ t. name_number modules (record { pieces = l.pieces; after_stack = l.after_stack }) t.name) l.left
     ≡ map (λ t. name_number modules (record { pieces = l.pieces; after_stack = l.after_stack }) t.name) l.fn.externals
 

@@ -4,7 +4,7 @@ use Rattle.kc_link_place.specs.Names.{first_second, Knows}
 use Rattle.kc_link_place.proofs.rules.second_among.Given as goal
 
 abbrev pub invariant-loop-left : goal.invariant-loop-left
-invariant-loop-left l = (modules : List Object) → Knows l.names.homes.entries modules → first_second modules l.index l.left ≡ first_second modules l.index l.fn.publics
+invariant-loop-left l = (modules : List Object) → Knows l.names.defining_modules.entries modules → first_second modules l.index l.left ≡ first_second modules l.index l.fn.publics
 
 abbrev pub decreases-loop-left : goal.decreases-loop-left
 decreases-loop-left l = length l.left

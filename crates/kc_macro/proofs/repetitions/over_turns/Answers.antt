@@ -10,6 +10,6 @@ returns-in-None c =
     let head = c.in_ok-head.head in
     let body = c.in_ok-body.body.items in
     subst (λ n. IfOk c.begun.result (λ r. steps.next_of r c.begun.new.state ≡ n))
-    (over_begun c.args.state.now c.args.number c.args.from.now c.args.over c.args.front.now formals head body c.in_ok-fault.field-0 c.in_ok-formals.ensures c.in_ok-head.ensures c.in_ok-body.ensures
+    (over_begun c.args.state.now c.args.number c.args.from.now c.args.over c.args.prefix.now formals head body c.in_ok-fault.field-0 c.in_ok-formals.ensures c.in_ok-head.ensures c.in_ok-body.ensures
     (c.in_ok-fault.ensures head ∙ (λ i. fault_of (fill_turns formals head (c.as_slice.ensures.value i) (c.as_slice-2.ensures i)))) c.in-None.is)
     c.begun.ensures

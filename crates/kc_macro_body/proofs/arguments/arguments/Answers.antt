@@ -1,7 +1,7 @@
 use Rattle.kc_macro_body.specs.Arguments.{ungrouped}
 use Rattle.std.proofs.Common.{map, rules, ◌≡◌, ◌<◌, ◌+◌, ◌++◌, [], length, drop, ap, sym, ◌∙◌, arith, drop_of_length-le}
 use Rattle.kc_macro_body.specs.Arguments.{split_at_commas}
-use Rattle.kc_macro_body.proofs.ArgumentLemmas.{with_last, front_of, split_start, split_comma, split_more, split_end, arguments_some}
+use Rattle.kc_macro_body.proofs.ArgumentLemmas.{with_last, prefix_of, split_start, split_comma, split_more, split_end, arguments_some}
 use Rattle.kc_macro_body.proofs.arguments.arguments.Goals.{then-splits+in_ok-push_argument, else-splits+in_ok-copy_token+in_ok-push}
 use Rattle.kc_macro_body.proofs.arguments.arguments.Goals as goal
 
@@ -11,7 +11,7 @@ loop-token-init c = record { shallow = omega arith; kept = rw (c.new-texts.ensur
 pub loop-token-preserved : goal.loop-token-preserved
 loop-token-preserved c =
     let t = c.token-item.result in
-    let rest = front_of c.args.tokens.now c.loop-token.token-index t (omega arith) c.token-item.is in
+    let rest = prefix_of c.args.tokens.now c.loop-token.token-index t (omega arith) c.token-item.is in
     let later = drop (c.loop-token.token-index + 1) c.args.tokens.now in
     elim c.if-splits.branch [
       | then-splits+in_ok-push_argument w ↦ record {

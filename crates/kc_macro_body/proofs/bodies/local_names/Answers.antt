@@ -1,6 +1,6 @@
 use Rattle.std.proofs.Common.{◌≡◌, ◌+◌, Some, None, drop, ap, sym, ◌∙◌, arith, drop_of_length-le}
 use Rattle.kc_macro_body.specs.Arguments.{names_at}
-use Rattle.kc_macro_body.proofs.ArgumentLemmas.{front_of}
+use Rattle.kc_macro_body.proofs.ArgumentLemmas.{prefix_of}
 use Rattle.kc_macro_body.proofs.BodyLemmas.{names_wrong, names_declared, names_pass, names_last}
 use Rattle.kc_macro_body.proofs.bodies.local_names.Goals.{then-declares+in_ok-names+in-Some+in_ok-append-in-Some, else-declares}
 use Rattle.kc_macro_body.proofs.bodies.local_names.Goals as goal
@@ -10,12 +10,12 @@ returns-in-None c =
     let lines = c.args.lines.now in
     let none : None ≡ names_at (drop 1 c.line-item.result) = sym c.in-None.is ∙ c.in_ok-names.ensures ∙ ap names_at (c.behind_first.ensures ∙ ap (drop 1) c.as_slice.ensures) in
     names_wrong c.loop-line.depth c.line-item.result (drop (c.loop-line.line-index + 1) lines) (drop c.loop-line.line-index lines) c.loop-line.found _
-    (front_of lines c.loop-line.line-index c.line-item.result (omega arith) c.line-item.is) (sym c.if-declares.ensures) none c.loop-line.invariant.kept
+    (prefix_of lines c.loop-line.line-index c.line-item.result (omega arith) c.line-item.is) (sym c.if-declares.ensures) none c.loop-line.invariant.kept
 
 pub loop-line-preserved : goal.loop-line-preserved
 loop-line-preserved c =
     let lines = c.args.lines.now in
-    let rest = front_of lines c.loop-line.line-index c.line-item.result (omega arith) c.line-item.is in
+    let rest = prefix_of lines c.loop-line.line-index c.line-item.result (omega arith) c.line-item.is in
     let later = drop (c.loop-line.line-index + 1) lines in
     elim c.if-declares.branch [
       | then-declares+in_ok-names+in-Some+in_ok-append-in-Some w ↦

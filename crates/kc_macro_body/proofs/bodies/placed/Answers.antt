@@ -1,6 +1,6 @@
 use Rattle.std.proofs.Common.{◌+◌, drop, ap, ◌∙◌, arith, drop_of_length-le}
 use Rattle.kc_macro_body.specs.Bodies.{with_local}
-use Rattle.kc_macro_body.proofs.ArgumentLemmas.{front_of}
+use Rattle.kc_macro_body.proofs.ArgumentLemmas.{prefix_of}
 use Rattle.kc_macro_body.proofs.BodyLemmas.{placed_more, placed_end}
 use Rattle.kc_macro_body.proofs.bodies.placed.Goals as goal
 
@@ -10,7 +10,7 @@ loop-name-preserved c =
     record {
       few = omega (arith, c.loop-name.invariant.few, c.in_ok-add_local.ensures.small);
       kept = placed_more c.args.params.now c.loop-name.locals c.add_local.new.locals _ c.name-item.result (drop (c.loop-name.name-index + 1) names) (drop c.loop-name.name-index names)
-          (front_of names c.loop-name.name-index c.name-item.result (omega arith) c.name-item.is) (c.in_ok-add_local.ensures.value ∙ ap (with_local c.args.params.now c.loop-name.locals) c.as_slice.ensures) c.loop-name.invariant.kept;
+          (prefix_of names c.loop-name.name-index c.name-item.result (omega arith) c.name-item.is) (c.in_ok-add_local.ensures.value ∙ ap (with_local c.args.params.now c.loop-name.locals) c.as_slice.ensures) c.loop-name.invariant.kept;
     }
 
 pub returns : goal.returns

@@ -1,5 +1,5 @@
 use Rattle.std.proofs.Common.{◌+◌, drop, sym, arith, drop_of_length-le}
-use Rattle.kc_macro_body.proofs.ArgumentLemmas.{front_of}
+use Rattle.kc_macro_body.proofs.ArgumentLemmas.{prefix_of}
 use Rattle.kc_macro_body.proofs.BodyLemmas.{plain_passes, plain_keeps, plain_end}
 use Rattle.kc_macro_body.proofs.bodies.plain_lines.Goals as goal
 
@@ -9,7 +9,7 @@ loop-line-preserved-then-declares c =
     record {
       shallow = omega (arith, c.loop-line.invariant.shallow);
       kept = plain_passes c.loop-line.depth c.line-item.result (drop (c.loop-line.line-index + 1) lines) (drop c.loop-line.line-index lines) c.loop-line.plain _
-          (front_of lines c.loop-line.line-index c.line-item.result (omega arith) c.line-item.is) (sym c.if-declares.ensures) c.loop-line.invariant.kept;
+          (prefix_of lines c.loop-line.line-index c.line-item.result (omega arith) c.line-item.is) (sym c.if-declares.ensures) c.loop-line.invariant.kept;
     }
 
 pub loop-line-preserved : goal.loop-line-preserved
@@ -18,7 +18,7 @@ loop-line-preserved c =
     record {
       shallow = omega (arith, c.loop-line.invariant.shallow, c.depth_after-depth.ensures.small);
       kept = rw (c.in_ok-push.ensures, c.in_ok-copy_tokens.ensures, c.as_slice.ensures, c.depth_after-depth.ensures.value) (plain_keeps c.loop-line.depth c.line-item.result (drop (c.loop-line.line-index + 1) lines) (drop c.loop-line.line-index lines) c.loop-line.plain _
-          (front_of lines c.loop-line.line-index c.line-item.result (omega arith) c.line-item.is) (sym c.if-declares.ensures) c.loop-line.invariant.kept);
+          (prefix_of lines c.loop-line.line-index c.line-item.result (omega arith) c.line-item.is) (sym c.if-declares.ensures) c.loop-line.invariant.kept);
     }
 
 pub returns : goal.returns

@@ -6,5 +6,5 @@ use Rattle.kc_macro_input.proofs.bodies.turn_body.Given as goal
 abbrev pub invariant-loop-piece : goal.invariant-loop-piece
 invariant-loop-piece l = record {
   same : l.marking ≡ l.fn.mark;
-  kept : l.body.items ++ map (marked l.fn.mark) (filter is_line (drop l.piece-index l.front)) ≡ map (marked l.fn.mark) (filter is_line l.front);
+  kept : l.body.items ++ map (marked l.fn.mark) (filter is_line (drop l.piece-index l.prefix)) ≡ map (marked l.fn.mark) (filter is_line l.prefix);
 }

@@ -1,4 +1,4 @@
-use Rattle.kc_obj.proofs.Telling.{first_reported}
+use Rattle.kc_obj.proofs.FirstReported.{first_reported}
 use Rattle.kc_obj.proofs.laws.first_is_reported.Goals as goal
 
 pub returns : goal.returns

@@ -69,9 +69,9 @@ returns-in-Some-clause-all g c =
 pub returns-in_err-count-clause-lines : goal.returns-in_err-count-clause-lines
 returns-in_err-count-clause-lines g c =
     let f = g.X.Extra.further in
-    let told = c.count.ensures in
-    let next = along-next f _ _ _ _ _ _ _ _ _ _ _ _ _ _ _ _ c.loop-machine.invariant.along told.went.passed told.went.costs.spent told.went.costs.moves told.profile told.total in
-    (Came-cut f _ _ _ _ c.args.until next.came told.went.passed.within c.in_err-count.ensures.went.fails.failed).text
+    let reported = c.count.ensures in
+    let next = along-next f _ _ _ _ _ _ _ _ _ _ _ _ _ _ _ _ c.loop-machine.invariant.along reported.went.passed reported.went.costs.spent reported.went.costs.moves reported.profile reported.total in
+    (Came-cut f _ _ _ _ c.args.until next.came reported.went.passed.within c.in_err-count.ensures.went.fails.failed).text
 
 pub returns-in_err-count-clause-fails : goal.returns-in_err-count-clause-fails
 returns-in_err-count-clause-fails g c =
@@ -79,25 +79,25 @@ returns-in_err-count-clause-fails g c =
 
 pub returns-in_err-count-clause-stands : goal.returns-in_err-count-clause-stands
 returns-in_err-count-clause-stands g c =
-    let told = c.count.ensures in
-    (along-next g.X.Extra.further _ _ _ _ _ _ _ _ _ _ _ _ _ _ _ _ c.loop-machine.invariant.along told.went.passed told.went.costs.spent told.went.costs.moves told.profile told.total).came.machine
+    let reported = c.count.ensures in
+    (along-next g.X.Extra.further _ _ _ _ _ _ _ _ _ _ _ _ _ _ _ _ c.loop-machine.invariant.along reported.went.passed reported.went.costs.spent reported.went.costs.moves reported.profile reported.total).came.machine
 
 pub returns-in_err-count-clause-spent : goal.returns-in_err-count-clause-spent
 returns-in_err-count-clause-spent g c =
-    let told = c.count.ensures in
-    (along-next g.X.Extra.further _ _ _ _ _ _ _ _ _ _ _ _ _ _ _ _ c.loop-machine.invariant.along told.went.passed told.went.costs.spent told.went.costs.moves told.profile told.total).steps
+    let reported = c.count.ensures in
+    (along-next g.X.Extra.further _ _ _ _ _ _ _ _ _ _ _ _ _ _ _ _ c.loop-machine.invariant.along reported.went.passed reported.went.costs.spent reported.went.costs.moves reported.profile reported.total).steps
 
 pub returns-in_err-count-clause-moves : goal.returns-in_err-count-clause-moves
 returns-in_err-count-clause-moves g c =
-    let told = c.count.ensures in
-    (along-next g.X.Extra.further _ _ _ _ _ _ _ _ _ _ _ _ _ _ _ _ c.loop-machine.invariant.along told.went.passed told.went.costs.spent told.went.costs.moves told.profile told.total).moves
+    let reported = c.count.ensures in
+    (along-next g.X.Extra.further _ _ _ _ _ _ _ _ _ _ _ _ _ _ _ _ c.loop-machine.invariant.along reported.went.passed reported.went.costs.spent reported.went.costs.moves reported.profile reported.total).moves
 
 pub returns-in_err-count-clause-profile : goal.returns-in_err-count-clause-profile
 returns-in_err-count-clause-profile g c =
-    let told = c.count.ensures in
-    (along-next g.X.Extra.further _ _ _ _ _ _ _ _ _ _ _ _ _ _ _ _ c.loop-machine.invariant.along told.went.passed told.went.costs.spent told.went.costs.moves told.profile told.total).tally
+    let reported = c.count.ensures in
+    (along-next g.X.Extra.further _ _ _ _ _ _ _ _ _ _ _ _ _ _ _ _ c.loop-machine.invariant.along reported.went.passed reported.went.costs.spent reported.went.costs.moves reported.profile reported.total).tally
 
 pub returns-in_err-count-clause-passed : goal.returns-in_err-count-clause-passed
 returns-in_err-count-clause-passed g c =
-    let told = c.count.ensures in
-    (along-next g.X.Extra.further _ _ _ _ _ _ _ _ _ _ _ _ _ _ _ _ c.loop-machine.invariant.along told.went.passed told.went.costs.spent told.went.costs.moves told.profile told.total).states
+    let reported = c.count.ensures in
+    (along-next g.X.Extra.further _ _ _ _ _ _ _ _ _ _ _ _ _ _ _ _ c.loop-machine.invariant.along reported.went.passed reported.went.costs.spent reported.went.costs.moves reported.profile reported.total).states

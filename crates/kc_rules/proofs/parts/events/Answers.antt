@@ -9,10 +9,10 @@ pub returns-in_err-atom-clause-none : goal.returns-in_err-atom-clause-none
 returns-in_err-atom-clause-none c =
     let l = c.loop-done in
     let marks = names_of c.args.marks.now in
-    let told : c.in_err-atom.field-0.0 ≡ faults.Wrong → events marks c.args.words.now ≡ None =
+    let reported : c.in_err-atom.field-0.0 ≡ faults.Wrong → events marks c.args.words.now ≡ None =
     λ wrong. ap (λ m. events_up_to m marks c.args.words.now) (sym c.len-most.ensures) ∙ l.invariant
     ∙ ap (λ o. joined l.events o) (events-wrong (c.len-most.result - l._done) marks l.words (c.in_err-atom.ensures.none wrong)) in
-    search (rules, told)
+    search (rules, reported)
 
 pub returns-then-not-has-clause-read : goal.returns-then-not-has-clause-read
 returns-then-not-has-clause-read c =

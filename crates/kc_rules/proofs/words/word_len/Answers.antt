@@ -1,7 +1,7 @@
 use Rattle.std.proofs.Common.{◌≡◌, ◌∷◌, ◌∙◌, sym, ap, subst, false, eqb, take, drop, get_or, arith}
 use Rattle.std.proofs.lemmas.Bool.Decides.{nat_tests}
 use Rattle.kc_rules.specs.Words.{words_in}
-use Rattle.kc_rules.proofs.WordLemmas.{in_word, length-take_while, words-comma, words-first, front_len-some}
+use Rattle.kc_rules.proofs.WordLemmas.{in_word, length-take_while, words-comma, words-first, prefix_len-some}
 use Rattle.kc_rules.proofs.words.word_len.Goals as goal
 
 pub returns-then-text-eq44-clause-word : goal.returns-then-text-eq44-clause-word
@@ -20,5 +20,5 @@ returns-clause-goes c =
     let s = c.args.text.now in
     let other : eqb (get_or s 0 0) 44 ≡ false = grind (arith, nat_tests) in
     let len = c.plain_count.ensures.value ∙ length-take_while in_word s in
-    let some = front_len-some s c.requires.some c.requires.ahead other in
+    let some = prefix_len-some s c.requires.some c.requires.ahead other in
     omega (arith, len, some)

@@ -1,9 +1,9 @@
 use Rattle.std.proofs.Common.{◌≤◌, drop}
-use Rattle.kc_source.proofs.TableLemmas.{Judged}
+use Rattle.kc_source.proofs.TableLemmas.{Checked}
 use Rattle.kc_source.proofs.names.name_fault.Given as goal
 
 abbrev pub invariant-loop-one : goal.invariant-loop-one
 invariant-loop-one l = record {
   few : l.count ≤ l.one-index;
-  judged : Judged l.uses l.earlier.map.entries l.count l.found (drop l.one-index l.uses);
+  checked : Checked l.uses l.earlier.map.entries l.count l.found (drop l.one-index l.uses);
 }

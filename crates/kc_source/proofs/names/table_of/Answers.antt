@@ -15,10 +15,10 @@ loop-left-preserved c =
     let uses = c.args.uses.now in
     let u = c.index-uses-left.result in
     let next : suc (c.loop-left.left - 1) ≡ c.loop-left.left = omega arith in
-    let front : drop (c.loop-left.left - 1) uses ≡ u ∷ drop c.loop-left.left uses = drop-cons uses (c.loop-left.left - 1) u (omega arith) ∙ (λ i. sym c.index-uses-left.is i ∷ drop (next i) uses) in
+    let prefix : drop (c.loop-left.left - 1) uses ≡ u ∷ drop c.loop-left.left uses = drop-cons uses (c.loop-left.left - 1) u (omega arith) ∙ (λ i. sym c.index-uses-left.is i ∷ drop (next i) uses) in
     let here = rw c.as_slice.ensures at c.in_ok-note.ensures.here in
     let others = rw c.as_slice.ensures at c.in_ok-note.ensures.others in
     record {
       within = omega arith;
-      table = λ name. table_grows c.loop-left.table.map.entries c.note.new.self.map.entries (drop c.loop-left.left uses) u c.loop-left.invariant.table here others name ∙ ap (λ us. summary us name) (sym front);
+      table = λ name. table_grows c.loop-left.table.map.entries c.note.new.self.map.entries (drop c.loop-left.left uses) u c.loop-left.invariant.table here others name ∙ ap (λ us. summary us name) (sym prefix);
     }

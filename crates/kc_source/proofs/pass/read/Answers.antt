@@ -10,5 +10,5 @@ loop-line-preserved c =
     let i = c.loop-line.line-index in
     let line = c.line-item.result in
     let next : suc i ≡ i + 1 = omega arith in
-    let front : drop i lines ≡ line ∷ drop (i + 1) lines = drop-cons lines i line c.loop-line-test.true ∙ (λ j. sym c.line-item.is j ∷ drop (next j) lines) in
-    c.in_ok-take_line.ensures (drop (i + 1) lines) lines (subst (λ (ls : List Line). IsReading c.loop-line.pass ls lines) front c.loop-line.invariant)
+    let prefix : drop i lines ≡ line ∷ drop (i + 1) lines = drop-cons lines i line c.loop-line-test.true ∙ (λ j. sym c.line-item.is j ∷ drop (next j) lines) in
+    c.in_ok-take_line.ensures (drop (i + 1) lines) lines (subst (λ (ls : List Line). IsReading c.loop-line.pass ls lines) prefix c.loop-line.invariant)

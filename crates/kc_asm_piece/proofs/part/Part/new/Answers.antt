@@ -1,5 +1,5 @@
 use Rattle.std.proofs.Common.{refl}
-use Rattle.kc_asm_piece.specs.Tape.{rise}
+use Rattle.kc_asm_piece.specs.Section.{rise}
 use Rattle.kc_asm_piece.proofs.part.Part.new.Goals as goal
 
 pub invariant_of-result : goal.invariant_of-result

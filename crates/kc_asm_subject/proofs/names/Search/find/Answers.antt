@@ -8,7 +8,7 @@ returns-then-is_some-clause-found c = λ all earlier known before. found_already
 
 pub returns-then-refused-clause-found : goal.returns-then-refused-clause-found
 returns-then-refused-clause-found c = λ all earlier known before.
-    ap Some c.in_ok-told.ensures
+    ap Some c.in_ok-reported.ensures
     ∙ found_now c.args.self.now.found _ c.args.name.now (sym c.is_some.ensures ∙ c.if-is_some.false) (sym (c.is_refused-refused.ensures all earlier known before) ∙ c.if-refused.true)
 
 pub returns-clause-found : goal.returns-clause-found

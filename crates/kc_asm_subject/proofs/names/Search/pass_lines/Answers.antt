@@ -3,7 +3,7 @@ use Rattle.std.proofs.Math.ListN.{drop_of_length-le}
 use Rattle.kc_lex.specs.declared.token.Line.{Line}
 use Rattle.kc_source.specs.declared.uses.Use.{Use}
 use Rattle.kc_source.specs.Faults.{all_said, all_uses}
-use Rattle.kc_asm_symbols.proofs.ExternalLemmas.{front}
+use Rattle.kc_asm_symbols.proofs.ExternalLemmas.{prefix}
 use Rattle.kc_asm_subject.specs.Seeking.{IsSeeking}
 use Rattle.kc_asm_subject.proofs.Uses.{no_lines}
 use Rattle.kc_asm_subject.proofs.names.Search.pass_lines.Goals as goal
@@ -15,7 +15,7 @@ pub loop-line-preserved : goal.loop-line-preserved
 loop-line-preserved c = λ at code all whole r.
     let lines = c.args.lines.now in
     let i = c.loop-line.line-index in
-    let split = front lines i c.line-item.result c.loop-line-test.true c.line-item.is in
+    let split = prefix lines i c.line-item.result c.loop-line-test.true c.line-item.is in
     c.in_ok-pass_line.ensures at code all (drop (i + 1) lines) whole
     (subst (λ (ls : List Line). IsSeeking c.loop-line.self at code all (all_uses (all_said ls)) whole) split (c.loop-line.invariant at code all whole r))
 

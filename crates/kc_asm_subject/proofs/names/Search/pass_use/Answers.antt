@@ -7,5 +7,5 @@ use Rattle.kc_source.specs.Faults.{use_of}
 pub returns : goal.returns
 returns c = λ line code all rest whole.
     one_use c.args.self.now _ line code all rest whole (use_of c.args.at c.args.kind c.args.name.now) c.in_ok-find.ensures.line c.in_ok-find.ensures.code c.in_ok-find.ensures.all
-    (λ earlier known. c.in_ok-note.ensures earlier (use_of c.args.at c.args.kind c.args.name.now) refl refl (subst (λ k. IsKnown k earlier) (sym c.in_ok-find.ensures.before) known))
+    (λ earlier known. c.in_ok-size_record.ensures earlier (use_of c.args.at c.args.kind c.args.name.now) refl refl (subst (λ k. IsKnown k earlier) (sym c.in_ok-find.ensures.before) known))
     (λ earlier. c.in_ok-find.ensures.found all earlier)

@@ -3,7 +3,7 @@ use Rattle.std.proofs.Math.ListN.{drop_of_length-le}
 use Rattle.kc_asm_symbols.specs.Tables.{answers, answer_at, number_of, updated}
 use Rattle.kc_asm_symbols.specs.Meanings.{with_taken}
 use Rattle.kc_asm_symbols.specs.Walk.{shared}
-use Rattle.kc_asm_symbols.proofs.ExternalLemmas.{front}
+use Rattle.kc_asm_symbols.proofs.ExternalLemmas.{prefix}
 use Rattle.kc_asm_symbols.proofs.EarlierLemmas.{taken_more}
 use Rattle.kc_asm_symbols.proofs.earlier.Earlier.take.Goals as goal
 
@@ -18,7 +18,7 @@ loop-name-preserved c =
     let latest = answers own.numbers c.loop-name.self.latest in
     let next = answers own.numbers c.set.new.self in
     let all = with_taken external names (answers own.numbers c.args.self.now.latest) in
-    let split : drop i names ≡ n ∷ drop (i + 1) names = front names i n c.loop-name-test.true c.name-item.is in
+    let split : drop i names ≡ n ∷ drop (i + 1) names = prefix names i n c.loop-name-test.true c.name-item.is in
     let number : c.number-number.result ≡ number_of own.numbers n
     = c.number-number.ensures ∙ (λ j. number_of ((c.numbers.ensures ∙ ap (λ m. (shared m).numbers) same) j) (c.as_slice.ensures j)) in
     let answer : c.look-answer.result ≡ external n

@@ -1,7 +1,7 @@
 use Rattle.std.proofs.Common.{◌≡◌, ◌-◌, arith, ap, subst}
 use Rattle.std.specs.Prelude.{OnOk}
 use Rattle.kc_block_spec.specs.Accesses.{after_word_read}
-use Rattle.kc_block_lazy.specs.Lanes.{shown_units}
+use Rattle.kc_block_lazy.specs.Scheduler.{shown_units}
 use Rattle.kc_block_lanes.specs.Standing.{standing}
 use Rattle.kc_block.proofs.Calls.{word_few}
 use Rattle.kc_block.proofs.block.Block.read16_here.Goals as goal
@@ -17,5 +17,5 @@ returns-clause-moves g c =
 
 pub returns-clause-ok : goal.returns-clause-ok
 returns-clause-ok g c =
-    subst (λ s. OnOk c.read16.result (shown_units g.X.Extra.further (standing g.X.Extra.plain c.read16.new.lanes) c.self.inside.time ≡ after_word_read g.X.Extra.further (s.time - 1) c.args.window s.units c.args.sfr))
+    subst (λ s. OnOk c.read16.result (shown_units g.X.Extra.further (standing g.X.Extra.plain c.read16.new.scheduler) c.self.inside.time ≡ after_word_read g.X.Extra.further (s.time - 1) c.args.window s.units c.args.sfr))
     c.self.view_is c.read16.ensures.units

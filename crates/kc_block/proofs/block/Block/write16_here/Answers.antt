@@ -1,7 +1,7 @@
 use Rattle.std.proofs.Common.{◌≡◌, ◌-◌, arith, ap, subst}
 use Rattle.std.specs.Prelude.{IfErr, Err, OnOk, Ok}
 use Rattle.kc_block_spec.specs.Accesses.{word_written}
-use Rattle.kc_block_lazy.specs.Lanes.{shown_units}
+use Rattle.kc_block_lazy.specs.Scheduler.{shown_units}
 use Rattle.kc_block_lanes.specs.Standing.{standing}
 use Rattle.kc_block.proofs.Calls.{word_few}
 use Rattle.kc_block.proofs.Written.{kind_of, ok_of}
@@ -23,5 +23,5 @@ returns-clause-moves g c =
 
 pub returns-clause-ok : goal.returns-clause-ok
 returns-clause-ok g c =
-    subst (λ s. OnOk c.write16-written.result (word_written g.X.Extra.further (s.time - 1) c.args.window s.units c.args.sfr c.args.value ≡ Ok (shown_units g.X.Extra.further (standing g.X.Extra.plain c.write16-written.new.lanes) c.self.inside.time)))
-    c.self.view_is (ok_of c.write16-written.result _ (shown_units g.X.Extra.further (standing g.X.Extra.plain c.write16-written.new.lanes) c.self.inside.time) c.write16-written.ensures.answer c.write16-written.ensures.units)
+    subst (λ s. OnOk c.write16-written.result (word_written g.X.Extra.further (s.time - 1) c.args.window s.units c.args.sfr c.args.value ≡ Ok (shown_units g.X.Extra.further (standing g.X.Extra.plain c.write16-written.new.scheduler) c.self.inside.time)))
+    c.self.view_is (ok_of c.write16-written.result _ (shown_units g.X.Extra.further (standing g.X.Extra.plain c.write16-written.new.scheduler) c.self.inside.time) c.write16-written.ensures.answer c.write16-written.ensures.units)

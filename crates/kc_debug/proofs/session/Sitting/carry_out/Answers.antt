@@ -37,7 +37,7 @@ returns-in-History-clause-fails g c =
     let m = c.args.machine.now.machine in
     let d = seen m c.args.self.now in
     let o = out_of g.S.Sink.written g.S.Sink.faults c.args.out.now in
-    let p = out_of g.S.Sink.written g.S.Sink.faults c.tell_history.new.out in
-    on-fault c.tell_history.result c.tell_history.ensures.fault.failed (λ failed.
+    let p = out_of g.S.Sink.written g.S.Sink.faults c.report_history.new.out in
+    on-fault c.report_history.result c.report_history.ensures.fault.failed (λ failed.
     subst (λ k. FailsIn f (at_once_in k) (states_of f k d) (after_command f c.args.lines.now k d).text m o m p) (sym c.in-History.is)
-    (fails-said f activity_states _ m o m p refl c.requires.unbroken c.tell_history.ensures.text failed))
+    (fails-said f activity_states _ m o m p refl c.requires.unbroken c.report_history.ensures.text failed))

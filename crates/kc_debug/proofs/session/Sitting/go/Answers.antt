@@ -22,8 +22,8 @@ returns-in_err-go-clause-text g c =
     let p = out_of g.S.Sink.written g.S.Sink.faults c.go.new.out in
     Puts-longer o _ _ p c.in_err-go.ensures.fault.failed (subst (λ bs. Puts o (text_of (run_for f (states_of_run f bs c.args.until m) m).records) p) c.as_slice.ensures.value c.go.ensures.lines.text)
 
-pub tell_stand-requires-clause-ran : goal.tell_stand-requires-clause-ran
-tell_stand-requires-clause-ran g c = λ lives. ran g.X.Extra.further _ c.args.machine.now.machine c.go.new.machine.machine c.in_ok-go.ensures.gone.machine (sym c.ended-before.ensures ∙ lives)
+pub report_stand-requires-clause-ran : goal.report_stand-requires-clause-ran
+report_stand-requires-clause-ran g c = λ lives. ran g.X.Extra.further _ c.args.machine.now.machine c.go.new.machine.machine c.in_ok-go.ensures.gone.machine (sym c.ended-before.ensures ∙ lives)
 
 pub returns-clause-text : goal.returns-clause-text
 returns-clause-text g c =
@@ -32,10 +32,10 @@ returns-clause-text g c =
     let n = c.go.new.machine.machine in
     let o = out_of g.S.Sink.written g.S.Sink.faults c.args.out.now in
     let p = out_of g.S.Sink.written g.S.Sink.faults c.go.new.out in
-    let q = out_of g.S.Sink.written g.S.Sink.faults c.tell_stand.new.out in
+    let q = out_of g.S.Sink.written g.S.Sink.faults c.report_stand.new.out in
     let lines = subst (λ bs. Puts o (text_of (run_for f (states_of_run f bs c.args.until m) m).records) p) c.as_slice.ensures.value c.go.ensures.lines.text in
     let there = c.in_ok-go.ensures.gone.machine ∙ ap (λ bs. (run_for f (states_of_run f bs c.args.until m) m).machine) c.as_slice.ensures.value in
-    let text = subst (λ e. Puts p (text_of (new_end e n) ++ stand_line n) q) c.ended-before.ensures c.tell_stand.ensures.text in
+    let text = subst (λ e. Puts p (text_of (new_end e n) ++ stand_line n) q) c.ended-before.ensures c.report_stand.ensures.text in
     Puts-append o _ p _ q lines (subst (λ (x : Machine _). Puts p (text_of (new_end m.ended x) ++ stand_line x) q) there text)
 
 pub returns-in_err-go-clause-spent : goal.returns-in_err-go-clause-spent
@@ -65,11 +65,11 @@ returns-clause-fails g c =
     let n = c.go.new.machine.machine in
     let o = out_of g.S.Sink.written g.S.Sink.faults c.args.out.now in
     let p = out_of g.S.Sink.written g.S.Sink.faults c.go.new.out in
-    let q = out_of g.S.Sink.written g.S.Sink.faults c.tell_stand.new.out in
+    let q = out_of g.S.Sink.written g.S.Sink.faults c.report_stand.new.out in
     let there = (run_for f (states_of_run f c.args.self.now.breaks.items c.args.until m) m).machine in
     let stands = c.in_ok-go.ensures.gone.machine ∙ ap (λ bs. (run_for f (states_of_run f bs c.args.until m) m).machine) c.as_slice.ensures.value in
-    let text = subst (λ e. Puts p (text_of (new_end e n) ++ stand_line n) q) c.ended-before.ensures c.tell_stand.ensures.text in
-    on-fault c.tell_stand.result c.tell_stand.ensures.fault.failed (λ failed. inr (record {
+    let text = subst (λ e. Puts p (text_of (new_end e n) ++ stand_line n) q) c.ended-before.ensures c.report_stand.ensures.text in
+    on-fault c.report_stand.result c.report_stand.ensures.fault.failed (λ failed. inr (record {
       mid = p;
       whole = subst (λ bs. Prints o (run_for f (states_of_run f bs c.args.until m) m).records p) c.as_slice.ensures.value c.go.ensures.lines;
       unbroken = c.in_ok-go.ensures.fault.written;

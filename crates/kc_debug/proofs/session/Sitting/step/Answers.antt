@@ -15,15 +15,15 @@ use Rattle.kc_debug.proofs.session.Sitting.step.Goals as goal
 pub returns-in_err-step-clause-text : goal.returns-in_err-step-clause-text
 returns-in_err-step-clause-text g c = Puts-longer _ _ _ _ c.in_err-step.ensures.fault.failed c.step.ensures.lines.text
 
-pub tell_stand-requires-clause-ran : goal.tell_stand-requires-clause-ran
-tell_stand-requires-clause-ran g c = λ lives. ran g.X.Extra.further _ c.args.machine.now.machine c.step.new.machine.machine c.in_ok-step.ensures.gone.machine (sym c.ended-before.ensures ∙ lives)
+pub report_stand-requires-clause-ran : goal.report_stand-requires-clause-ran
+report_stand-requires-clause-ran g c = λ lives. ran g.X.Extra.further _ c.args.machine.now.machine c.step.new.machine.machine c.in_ok-step.ensures.gone.machine (sym c.ended-before.ensures ∙ lives)
 
 pub returns-clause-text : goal.returns-clause-text
 returns-clause-text g c =
     let n = c.step.new.machine.machine in
     let p = out_of g.S.Sink.written g.S.Sink.faults c.step.new.out in
-    let q = out_of g.S.Sink.written g.S.Sink.faults c.tell_stand.new.out in
-    let text = subst (λ o. Puts p (text_of (new_end o n) ++ stand_line n) q) c.ended-before.ensures c.tell_stand.ensures.text in
+    let q = out_of g.S.Sink.written g.S.Sink.faults c.report_stand.new.out in
+    let text = subst (λ o. Puts p (text_of (new_end o n) ++ stand_line n) q) c.ended-before.ensures c.report_stand.ensures.text in
     Puts-append _ _ p _ q c.step.ensures.lines.text (subst (λ (x : Machine _). Puts p (text_of (new_end c.args.machine.now.machine.ended x) ++ stand_line x) q) c.in_ok-step.ensures.gone.machine text)
 
 pub returns-in_err-step-clause-fails : goal.returns-in_err-step-clause-fails
@@ -35,10 +35,10 @@ returns-clause-fails g c =
     let m = c.args.machine.now.machine in
     let n = c.step.new.machine.machine in
     let p = out_of g.S.Sink.written g.S.Sink.faults c.step.new.out in
-    let q = out_of g.S.Sink.written g.S.Sink.faults c.tell_stand.new.out in
+    let q = out_of g.S.Sink.written g.S.Sink.faults c.report_stand.new.out in
     let there = (run_for f (states_of_activities f c.args.count m) m).machine in
-    let text = subst (λ o. Puts p (text_of (new_end o n) ++ stand_line n) q) c.ended-before.ensures c.tell_stand.ensures.text in
-    on-fault c.tell_stand.result c.tell_stand.ensures.fault.failed (λ failed. inr (record {
+    let text = subst (λ o. Puts p (text_of (new_end o n) ++ stand_line n) q) c.ended-before.ensures c.report_stand.ensures.text in
+    on-fault c.report_stand.result c.report_stand.ensures.fault.failed (λ failed. inr (record {
       mid = p;
       whole = c.step.ensures.lines;
       unbroken = c.in_ok-step.ensures.fault.written;

@@ -21,9 +21,9 @@ returns-then-entries-first c =
     let rises = subst Rises (sym c.as_slice-entries.ensures.value) c.self.invariant.rises in
     let parted = IsPartitionedBy-ltb (λ (x : MapEntry). x.addr) es c.args.addr (ordered_by es rises) in
     let point = IsPartitionPoint-from_clause (λ (x : MapEntry). ltb x.addr c.args.addr) _ _ c.partition_point-first.ensures.partitioned parted (λ a r q k. search rules) in
-    let told = found es c.args.addr n d (λ k b below within. point.0 k b (omega arith) below) c.if-first-entries.true c.if-entries-first.true in
+    let reported = found es c.args.addr n d (λ k b below within. point.0 k b (omega arith) below) c.if-first-entries.true c.if-entries-first.true in
     ap (λ (x : MapEntry). Some x) (c.index-entries-first-then-entries-first.is ∙ same_entry es n d _ c.if-first-entries.true)
-    ∙ sym told ∙ ap (λ xs. entry_at xs c.args.addr) (c.as_slice-entries.ensures.value ∙ c.self.view_is)
+    ∙ sym reported ∙ ap (λ xs. entry_at xs c.args.addr) (c.as_slice-entries.ensures.value ∙ c.self.view_is)
 
 pub returns-else-first-entries : goal.returns-else-first-entries
 returns-else-first-entries c =

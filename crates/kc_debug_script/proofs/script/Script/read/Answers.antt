@@ -8,14 +8,14 @@ use Rattle.kc_debug_script.proofs.Saying.{text-some, text-none, text-nil}
 use Rattle.kc_debug_script.proofs.script.Script.read.Goals as goal
 
 -- the command of the first line, where what stands before and the line are lent
-told : (before lent : List Command) (line front : List ℕ) → lent ≡ before → front ≡ line → command_after lent front ≡ command_after before line
-told before lent line front e h = λ i. command_after (e i) (h i)
+reported : (before lent : List Command) (line prefix : List ℕ) → lent ≡ before → prefix ≡ line → command_after lent prefix ≡ command_after before line
+reported before lent line prefix e h = λ i. command_after (e i) (h i)
 
 pub returns-in-None : goal.returns-in-None
 returns-in-None c =
     let before = c.loop-rest.commands.items in
     let line = take c.first_line-len.result.0 c.loop-rest.rest.now in
-    let none : command_after before line ≡ None = sym (told before _ line _ c.as_slice.ensures.value c.front.ensures) ∙ sym c.next_command.ensures.value ∙ c.in-None.is in
+    let none : command_after before line ≡ None = sym (reported before _ line _ c.as_slice.ensures.value c.prefix.ensures) ∙ sym c.next_command.ensures.value ∙ c.in-None.is in
     let count : length before ≡ c.len.result = sym (ap length c.as_slice.ensures.value) ∙ c.as_slice.ensures.len ∙ sym c.len.ensures in
     sym c.loop-rest.invariant.0
     ∙ text-none command_after before c.loop-rest.rest.now line (drop c.first_line-len.result.1 c.loop-rest.rest.now) c.first_line-len.ensures.read none
@@ -27,7 +27,7 @@ loop-rest-preserved c =
     let command = c.in-Some.command in
     let line = take c.first_line-len.result.0 c.loop-rest.rest.now in
     let rest = drop c.first_line-len.result.1 c.loop-rest.rest.now in
-    let some : command_after before line ≡ Some command = sym (told before _ line _ c.as_slice.ensures.value c.front.ensures) ∙ sym c.next_command.ensures.value ∙ c.in-Some.is in
+    let some : command_after before line ≡ Some command = sym (reported before _ line _ c.as_slice.ensures.value c.prefix.ensures) ∙ sym c.next_command.ensures.value ∙ c.in-Some.is in
     let pushed = c.in_ok-push-in-Some.ensures in (
       (λ i. said command_after (pushed i) (text_lines (c.after-rest.ensures i)))
           ∙ text-some command_after before c.loop-rest.rest.now line rest command c.first_line-len.ensures.read some

@@ -18,7 +18,7 @@ returns-then-ahead-from g c =
       passed = record {
         passes = passes-now g.X.Extra.further c.args.until m (machine_of c.wait.new.self) (omega arith) (omega arith);
         goes = goes-same (sym (ap (λ i. run_to g.X.Extra.further i m) time ∙ cut)) c.wait.ensures.goes;
-        ready = c.wait.ensures.ready;
+        predecoded = c.wait.ensures.predecoded;
       };
     }
 
@@ -31,6 +31,6 @@ returns-else-ahead-from g c =
       passed = record {
         passes = passes-now g.X.Extra.further c.args.until m (machine_of c.complete.new.self) (omega arith) (omega arith);
         goes = goes-same (sym all) c.complete.ensures.goes;
-        ready = c.complete.ensures.ready;
+        predecoded = c.complete.ensures.predecoded;
       };
     }

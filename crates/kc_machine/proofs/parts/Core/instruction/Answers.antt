@@ -5,12 +5,12 @@ use Rattle.kc_machine.proofs.parts.Core.instruction.Goals as goal
 
 pub returns-in-Some : goal.returns-in-Some
 returns-in-Some g c =
-    let told = c.placed_ready.ensures.tells in
+    let known = c.placed_predecoded.ensures.knows in
     record {
-      tells = record {
-        value = told.value ∙ read_so (machine_of c.args.self.now) c.in-Some.ready c.in-Some.ensures;
-        going = told.going;
-        same = told.same;
-        steps = told.steps;
+      knows = record {
+        value = known.value ∙ read_so (machine_of c.args.self.now) c.in-Some.predecoded c.in-Some.ensures;
+        going = known.going;
+        same = known.same;
+        steps = known.steps;
       };
     }

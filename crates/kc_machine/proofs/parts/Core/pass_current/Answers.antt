@@ -21,30 +21,30 @@ led f old mid a same e lives some =
 pub returns-clause-passed : goal.returns-clause-passed
 returns-clause-passed g c =
     let m = machine_of c.args.self.now in
-    let left = ap (λ (a : UnderWay). a.left) c.current-activity.ensures.tells.value in
-    let same = ap (λ (core : Core _ _). core.time) c.current-activity.ensures.tells.same in
+    let left = ap (λ (a : UnderWay). a.left) c.current-activity.ensures.knows.value in
+    let same = ap (λ (core : Core _ _). core.time) c.current-activity.ensures.knows.same in
     let time : c.complete.new.self.time ≡ activity_end m = omega arith in
-    let all = led g.X.Extra.further c.args.self.now c.current-activity.new.self c.current-activity.result c.current-activity.ensures.tells.same c.current-activity.ensures.tells.value c.requires.lives c.current-activity.ensures.tells.going.some in
+    let all = led g.X.Extra.further c.args.self.now c.current-activity.new.self c.current-activity.result c.current-activity.ensures.knows.same c.current-activity.ensures.knows.value c.requires.lives c.current-activity.ensures.knows.going.some in
     let went = goes-same (all ∙ sym (ap (λ i. run_to g.X.Extra.further i m) time)) c.complete.ensures.goes in
-    let moves = ap (λ (core : Core _ _). core.bus.block.moves) c.current-activity.ensures.tells.same in
+    let moves = ap (λ (core : Core _ _). core.bus.block.moves) c.current-activity.ensures.knows.same in
     record {
-      passes = passes-now g.X.Extra.further _ m (machine_of c.complete.new.self) (omega (arith, c.current-activity.ensures.tells.going.some)) (omega arith);
+      passes = passes-now g.X.Extra.further _ m (machine_of c.complete.new.self) (omega (arith, c.current-activity.ensures.knows.going.some)) (omega arith);
       goes = record {
         machine = went.machine;
         lines = went.lines;
-        costs = record { spent = omega (arith, went.costs.spent, c.current-activity.ensures.tells.steps); moves = omega (arith, went.costs.moves, moves) };
+        costs = record { spent = omega (arith, went.costs.spent, c.current-activity.ensures.knows.steps); moves = omega (arith, went.costs.moves, moves) };
       };
-      ready = c.complete.ensures.ready;
+      predecoded = c.complete.ensures.predecoded;
     }
 
 pub returns-clause-time : goal.returns-clause-time
 returns-clause-time g c =
-    let left = ap (λ (a : UnderWay). a.left) c.current-activity.ensures.tells.value in
-    let time = ap (λ (core : Core _ _). core.time) c.current-activity.ensures.tells.same in
+    let left = ap (λ (a : UnderWay). a.left) c.current-activity.ensures.knows.value in
+    let time = ap (λ (core : Core _ _). core.time) c.current-activity.ensures.knows.same in
     omega arith
 
 pub returns-clause-states : goal.returns-clause-states
 returns-clause-states g c = record {
-  some = subst (λ (a : UnderWay). 0 < a.left) c.current-activity.ensures.tells.value c.current-activity.ensures.tells.going.some;
-  few = subst (λ (a : UnderWay). a.left ≤ 255) c.current-activity.ensures.tells.value (omega arith);
+  some = subst (λ (a : UnderWay). 0 < a.left) c.current-activity.ensures.knows.value c.current-activity.ensures.knows.going.some;
+  few = subst (λ (a : UnderWay). a.left ≤ 255) c.current-activity.ensures.knows.value (omega arith);
 }

@@ -13,6 +13,6 @@ returns g c =
           lines = rw same at passed.goes.lines;
           costs = rw (same, c.look_ahead.ensures.block) at passed.goes.costs;
         };
-        ready = passed.ready;
+        predecoded = passed.predecoded;
       };
     }

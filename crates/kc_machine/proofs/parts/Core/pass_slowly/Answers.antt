@@ -22,6 +22,6 @@ returns-then-rests g c =
       passed = record {
         passes = passes-idle g.X.Extra.further c.args.until end m (machine_of c.rest.new.self) idle none c.rest_end-end.ensures.further c.rest_end-end.ensures.within c.rest_end-end.ensures.quiet time;
         goes = goes-same (ap (ticks_to g.X.Extra.further m end (end - m.time)) idle.between ∙ sym (ap (λ i. run_to g.X.Extra.further i m) time ∙ all)) c.rest.ensures.goes;
-        ready = c.rest.ensures.ready;
+        predecoded = c.rest.ensures.predecoded;
       };
     }

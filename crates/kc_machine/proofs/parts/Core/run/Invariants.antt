@@ -4,7 +4,7 @@ use Rattle.kc_machine_spec.proofs.Coming.{Came}
 use Rattle.std.specs.Bool.{OnTrue}
 use Rattle.kc_block_spec.specs.Costs.{CostsAtMost}
 use Rattle.kc_machine.specs.Prepared.{IsFree}
-use Rattle.kc_machine.specs.Sound.{IsReady}
+use Rattle.kc_machine.specs.Sound.{IsPredecoded}
 use Rattle.kc_trace.specs.Trace.{out_of}
 use Rattle.kc_machine.specs.Seen.{machine_of}
 use Rattle.kc_machine.proofs.parts.Core.run.Given as goal
@@ -15,7 +15,7 @@ invariant-loop-self g l = record {
   within : l.self.time ≤ max l.until l.initial.self.time;
   unbroken : l.out.failed ≡ false;
   costs : CostsAtMost (4 * (run_to g.X.Extra.further l.self.time (machine_of l.initial.self)).touch) l.initial.steps l.steps l.initial.self.bus.block.moves l.self.bus.block.moves;
-  ready : IsReady l.self;
+  predecoded : IsPredecoded l.self;
   free : OnTrue l.free (IsFree (machine_of l.self));
 }
 

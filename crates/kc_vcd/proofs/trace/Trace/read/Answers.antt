@@ -19,7 +19,7 @@ loop-rest-preserved c =
     let longer : length c.push.new.records.items ≡ length items + 1 = ap length pushed ∙ length-append items (item ∷ []) in
     let shorter : length c.after-rest.result.now ≡ length c.loop-rest.rest.now - c.first_line-len.result.1 = ap length c.after-rest.ensures ∙ length-drop c.first_line-len.result.1 c.loop-rest.rest.now in
     record {
-      lines = lines-push _ items _ item c.loop-rest.rest.now line rest _ c.loop-rest.invariant.lines c.first_line-len.ensures.read (sound.1 ∙ c.front.ensures) pushed c.after-rest.ensures;
+      lines = lines-push _ items _ item c.loop-rest.rest.now line rest _ c.loop-rest.invariant.lines c.first_line-len.ensures.read (sound.1 ∙ c.prefix.ensures) pushed c.after-rest.ensures;
       history = subst (λ xs. IsHistory 0 xs) (sym pushed) (history-push 0 items item c.loop-rest.invariant.history sound.0 later);
       time = c.time_after-time.ensures ∙ ap (λ t. time_after t item) c.loop-rest.invariant.time ∙ sym (latest-push 0 items item) ∙ ap (latest 0) (sym pushed);
       count = omega (arith, longer, c.loop-rest.invariant.count);
@@ -43,10 +43,10 @@ returns-in-None c =
     let items = c.loop-rest.records.items in
     let line = take c.first_line-len.result.0 c.loop-rest.rest.now in
     let rest = drop c.first_line-len.result.1 c.loop-rest.rest.now in
-    let told : text_lines c.args.text.now ≡ map fields_of items ++ line ∷ text_lines rest = c.loop-rest.invariant.lines ∙ ap (λ ls. map fields_of items ++ ls) c.first_line-len.ensures.read in
+    let described : text_lines c.args.text.now ≡ map fields_of items ++ line ∷ text_lines rest = c.loop-rest.invariant.lines ∙ ap (λ ls. map fields_of items ++ ls) c.first_line-len.ensures.read in
     let none = c.record_after.ensures.none c.in-None.is in
-    let wrong = refused all items line (text_lines rest) told c.loop-rest.invariant.history
-    (λ item sound later e. none item sound (subst (λ t. t ≤ time_after t item) (sym c.loop-rest.invariant.time) later) (e ∙ sym c.front.ensures)) in
+    let wrong = refused all items line (text_lines rest) described c.loop-rest.invariant.history
+    (λ item sound later e. none item sound (subst (λ t. t ≤ time_after t item) (sym c.loop-rest.invariant.time) later) (e ∙ sym c.prefix.ensures)) in
     subst (IsFirstWrong all) (ap (λ n. n + 1) (sym c.loop-rest.invariant.count)) wrong
 
 pub returns : goal.returns

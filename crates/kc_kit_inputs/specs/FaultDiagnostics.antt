@@ -1,0 +1,13 @@
+-- What is said in words of the first fault of a source (this kit's own).
+use Rattle.std.specs.Prelude.{◌≡◌, ◌++◌, codes, ℕ, Option}
+use Rattle.kc_asm_cause.specs.Cause.{IsCause}
+use Rattle.kc_asm_subject.specs.Symbol.{symbol_of}
+use Rattle.kc_kit_notes.specs.Subjects.{source_diagnostic, body_diagnostic}
+use Rattle.kc_kit_inputs.specs.Lines.{coded}
+use Rattle.kc_kit_inputs.specs.Sources.{DiagnosticRule}
+
+-- its sentence, with the name that it is about, and behind it the line of a macro's body that has the fault, where one has it
+abbrev pub IsFaultDiagnostic : DiagnosticRule
+IsFaultDiagnostic name text line code diagnostic =
+    (cause : Option ℕ) × IsCause text line code cause
+    × (diagnostic ≡ source_diagnostic name text line (coded (codes "E") code) code (symbol_of text line code) ++ body_diagnostic name text cause)

@@ -1,5 +1,0 @@
-use Rattle.kc_lib.proofs.NameLemmas.{once_from_none, none_from_once, told_first}
-use Rattle.kc_lib.proofs.laws.doubles_are_told.Goals as goal
-
-pub returns : goal.returns
-returns c = λ ms. record { none = once_from_none ms; once = none_from_once ms; told = told_first ms }
