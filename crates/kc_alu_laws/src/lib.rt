@@ -1,10 +1,10 @@
-//! Shifts by many places and normalizing, told by single places: laws of definitions, without code.
+//! Shifts by many places and normalizing, given by single places: laws of definitions, without code.
 #![tactic(auto)]
 
 ghost use Rattle.kc_alu_laws.specs.Laws.{ShiftsGoByPlaces, NormalizingGoesByPlaces, NormalizingIsOne};
 
 /// A shift by n places is n shifts by one place, for each kind, width, value and n: C is the last bit that goes out, ST of a
-/// shift to the right tells of a 1 that went out before it, V of a shift to the left of a place that changed the top bit.
+/// shift to the right reports of a 1 that went out before it, V of a shift to the left of a place that changed the top bit.
 pub fn shifts_go_by_places()
     ensures { ShiftsGoByPlaces }
 {}

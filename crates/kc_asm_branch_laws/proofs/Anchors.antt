@@ -1,4 +1,4 @@
--- What the outline says of a target is so where the statements stand.
+-- What the table of sizes says of a target is so where the statements stand.
 use Rattle.std.proofs.Common.{◌≡◌, ℕ, ◌+◌, ◌*◌, ◌%◌, ◌<◌, ◌≤◌, true, List, [], ◌∷◌, ◌++◌, reverse, length, pos, ℤ, ◌+ℤ◌, refl, sym, ap, subst, ◌∙◌, inl, inr, arith}
 use Rattle.std.specs.Prelude.{Option, Some, None, Ok, Err, slice_get}
 use Rattle.std.specs.Int.{w16, cast_signed}
@@ -174,7 +174,7 @@ external_counted all e v (Ok w) base reported =
     record { value = w; is = refl; external = e; base = same.base }
 external_counted all e v (Err fault) base reported = absurd reported.reports
 
--- ---- the note of a statement
+-- ---- the size record of a statement
 
 abbrev pub zero_look : (stmts : List Stmt) (number : ℕ) (n : SizeRecord) → Noted (located_by at_zero stmts) (located_by on_its_own stmts) number n → Look
 zero_look stmts number n w = meaning (located_by at_zero stmts) w.before w.l

@@ -19,7 +19,7 @@ use Rattle.kc_expr.specs.Meaning.{Answer, plain, is_fixed, same_base, unary_numb
 use Rattle.kc_link_source_laws.specs.Characters.{are_bytes}
 use Rattle.kc_link_source_laws.proofs.Words.{IsWordAnswer, answer_word}
 
--- ---- what a value with own bases tells of the value in a layout, where statements have these places
+-- ---- what a value with own bases reports of the value in a layout, where statements have these places
 
 -- a value so many bytes behind a place
 pub record IsBehind (start : Value) (n : ℕ) (w : Value) : Type 0 where
@@ -42,7 +42,7 @@ abbrev pub DeterminesValue : (ℕ → Value) → Value → Answer → Type 0
 DeterminesValue place v (Ok w) = Reports place v.base v.number w
 DeterminesValue place v (Err fault) = ⊥
 
--- a fault with own bases tells nothing
+-- a fault with own bases reports nothing
 abbrev pub DeterminesAnswer : (ℕ → Value) → Answer → Answer → Type 0
 DeterminesAnswer place (Ok v) b = DeterminesValue place v b
 DeterminesAnswer place (Err fault) b = Unit {0}

@@ -36,7 +36,7 @@ pub data ArePlaced (place : ℕ → Value) : List Located → List Located → T
   none : ArePlaced place [] []
   more : {m l : Located} {ms ls : List Located} → IsPlaced place m l → ArePlaced place ms ls → ArePlaced place (m ∷ ms) (l ∷ ls)
 
--- what an answer with own bases tells, and that it is a word
+-- what an answer with own bases reports, and that it is a word
 pub record IsReported (place : ℕ → Value) (a b : Answer) : Type 0 where
   pub word : IsWordAnswer a
   pub reports : DeterminesAnswer place a b

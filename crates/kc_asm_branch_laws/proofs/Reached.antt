@@ -23,7 +23,7 @@ use Rattle.kc_asm_check.specs.Checking.{location_list, place_in, place_at, stand
 use Rattle.kc_asm_branch_laws.specs.Targets.{in_word, TargetCounts, TargetsAreReached}
 use Rattle.kc_asm_branch_laws.proofs.Anchors.{anchors_hold}
 
--- ---- a statement with a number, its note and its site
+-- ---- a statement with a number, its size record and its location
 
 -- it stands at the place of its number
 record IsAt (values : ℕ → Segment → Value) (i : ℕ) (l : Located) : Type 0 where

@@ -1,5 +1,5 @@
--- Where the targets of generic branches stand. The outline tells what a target counts from by meaning names with each statement
--- as a base of its own, and the forms of branches are chosen by that. Here it is told of what the target means where the
+-- Where the targets of generic branches stand. The table of sizes reports what a target counts from by meaning names with each statement
+-- as a base of its own, and the forms of branches are chosen by that. Here it is known of what the target means where the
 -- statements stand (after the MCS-96 Macro Assembler User's Guide, "Generic Branches").
 use Rattle.std.specs.Prelude.{◌≡◌, ℕ, true, ℤ, pos, ◌+ℤ◌, ◌-ℤ◌, List, ◌∷◌, ◌++◌, reverse, length, Some, Ok, slice_get}
 use Rattle.std.specs.Int.{int_rem_euclid}
@@ -57,7 +57,7 @@ pub record TargetIsExternal (look : Look) (action : ActionTree) : Type 0 where
   pub target : target_of action ≡ Some expression
   pub counts : CountsFromExternal (answer_by look expression)
 
--- a target that counts from a statement by the outline does so in every layout
+-- a target that counts from a statement by the table of sizes does so in every layout
 abbrev pub AnchorsHold : Type 0
 AnchorsHold =
     (stmts : List Stmt) (places : ℕ → ℕ) (before after : List Located) (l : Located)
@@ -68,7 +68,7 @@ AnchorsHold =
     → n.body ≡ Branch kind (anchor.Statement to distance)
     → TargetCounts (meaning (located places stmts) before l) (located places stmts) l.action to distance
 
--- one that counts from an external by the outline does so in every layout
+-- one that counts from an external by the table of sizes does so in every layout
 abbrev pub ExternalAnchorsHold : Type 0
 ExternalAnchorsHold =
     (stmts : List Stmt) (places : ℕ → ℕ) (before after : List Located) (l : Located)

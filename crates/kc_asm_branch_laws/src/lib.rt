@@ -1,4 +1,4 @@
-//! What the outline of a module says of the target of a generic branch is where the target stands: laws of definitions, without
+//! What the table of sizes of a module says of the target of a generic branch is where the target stands: laws of definitions, without
 //! code.
 #![tactic(auto)]
 
@@ -7,13 +7,13 @@ ghost use Rattle.kc_asm_branch_laws.specs.Targets.{AnchorsHold, ExternalAnchorsH
 use kc_asm_layout::branches_reach;
 use kc_asm_outline::sizes_are_numbered;
 
-/// In every layout a target that counts from a statement by the outline is a place of that statement's base, as many bytes
-/// behind the place of the statement as the outline says.
+/// In every layout a target that counts from a statement by the table of sizes is a place of that statement's base, as many bytes
+/// behind the place of the statement as the table of sizes says.
 pub fn anchors_hold()
     ensures { AnchorsHold }
 {}
 
-/// In every layout a target that counts from an external by the outline counts from an external.
+/// In every layout a target that counts from an external by the table of sizes counts from an external.
 pub fn external_anchors_hold()
     ensures { ExternalAnchorsHold }
 {}

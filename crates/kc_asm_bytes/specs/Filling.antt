@@ -1,4 +1,4 @@
--- The bytes that octets are once the bases are known
+-- The bytes that relocatable bytes are once the bases are known
 -- (after the MCS-96 Macro Assembler User's Guide, "Relocation"; 80C196KC User's Manual, "Instruction Format").
 use Rattle.std.specs.Prelude.{ℕ, ◌+◌, ◌%◌, List, [], ◌∷◌}
 use Rattle.kc_expr.specs.declared.values.Base.{Base}

@@ -60,7 +60,7 @@ misfit at piece place (First kind start v) =
     then Some (misfit_code kind) else None
 misfit at piece place (Second kind v) = None
 
--- the number of an octet has room in its byte beside what else stands there
+-- the number of a relocatable byte has room in its byte beside what else stands there
 abbrev pub HasRoom : ℕ → RelocatableByte → Type 0
 HasRoom place (Plain b) = Unit {0}
 HasRoom place (First kind start v) = start + first_part kind (number kind (place + reach kind) (address no_bases v)) < 256

@@ -65,7 +65,7 @@ pub fn relocated(
     }
 }
 
-/// The code of the fault where a number that depends on no base does not fit: 12 for a byte, 19 for a jump. The octet
+/// The code of the fault where a number that depends on no base does not fit: 12 for a byte, 19 for a jump. The relocatable byte
 /// stands at `place`, an address in an absolute piece, else an offset.
 #[tactic(auto, unfolding(crate::specs::Relocating::misfit))]
 pub fn misfit(
@@ -93,7 +93,7 @@ pub fn misfit(
     }
 }
 
-/// The byte that a module has for an octet at `place`, an address in an absolute piece, else an offset.
+/// The byte that a module has for a relocatable byte at `place`, an address in an absolute piece, else an offset.
 #[tactic(auto, unfolding(crate::specs::Relocating::shown, crate::specs::Filling::fill))]
 pub fn shown(at: Option<u16>, piece: u16, place: u16, relocatable_byte: RelocatableByte) -> u8
     requires { relocating.HasRoom place relocatable_byte }

@@ -18,14 +18,14 @@ use Rattle.kc_asm_cause.specs.Reported.{IsReported, IsNotReported}
 abbrev pub AreInPlace : List (Option ℕ) → Type 0
 AreInPlace places = list_all is_none places ≡ true
 
--- whether the fault is told with its lines and not without them; it is not where no pass behind expansion tells it
+-- whether the fault is reported with its lines and not without them; it is not where no pass behind expansion reports it
 abbrev pub IsOfItsLines : Fault → List Line → Type 0
 IsOfItsLines f text = IsReported text (Some f) × IsNotReported (with_first f.0 0 text) f
 
 abbrev pub IsOfOthers : Fault → List Line → Type 0
 IsOfOthers f text = IsNotReported text f ⊎ IsReported (with_first f.0 0 text) (Some f)
 
--- the fault is told with line k of its number, from 0, and not with those before it alone
+-- the fault is reported with line k of its number, from 0, and not with those before it alone
 abbrev pub IsOfLine : Fault → List Line → ℕ → Type 0
 IsOfLine f text k = IsNotReported (with_first f.0 k text) f × IsReported (with_first f.0 (k + 1) text) (Some f)
 

@@ -2,7 +2,7 @@
 use Rattle.std.specs.Prelude.{ℕ, ◌-◌, ◌==◌, nat_lt, Bool, true, false, if◌then◌else◌, List, [], ◌∷◌}
 use Rattle.kc_lex.specs.declared.token.Line.{Line}
 
--- a line that is moved has a number beyond those of all lines: what is told of it stands behind all else
+-- a line that is moved has a number beyond those of all lines: what is known of it stands behind all else
 abbrev pub placed : Bool → Line → Line
 placed true l = l
 placed false l = record { number = 4294967295; tokens = l.tokens }

@@ -1,4 +1,4 @@
--- What the passes behind expansion tell first of a text: of statements and names, else of values and places (the order is this
+-- What the passes behind expansion report first of a text: of statements and names, else of values and places (the order is this
 -- kit's own).
 use Rattle.std.specs.Prelude.{◌≡◌, ◌≢◌, ◌⊎◌, Bool, true, false, List, Option, Some}
 use Rattle.kc_lex.specs.declared.token.Line.{Line}
@@ -15,7 +15,7 @@ ReportedOfValues text reported = (stmts : List Stmt) × AreStatements stmts text
 abbrev pub IsReported : List Line → Option Fault → Type 0
 IsReported text reported = ReportedOfStatements text reported ⊎ ReportedOfValues text reported
 
--- something else is told first
+-- something else is reported first
 abbrev pub IsNotReported : List Line → Fault → Type 0
 IsNotReported text f = (reported : Option Fault) × IsReported text reported × (reported ≢ Some f)
 

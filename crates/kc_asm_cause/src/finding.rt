@@ -27,7 +27,7 @@ fn origin_between(
 }
 
 /// The line of a macro's body that the first fault of a source of at most 1,048,576 bytes comes from, by its line and its code.
-/// Of a line that a call puts in it is told where its first token behind a label was written.
+/// Of a line that a call puts in it is reported where its first token behind a label was written.
 ///
 /// `None`: the line with the fault stands on the line of its number itself, as it does out of REPT, IRP and IF; its first
 /// token is an argument of the call there; or the fault is one of lines or of macros. A call reads the source once again, and

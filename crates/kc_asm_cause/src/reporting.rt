@@ -1,4 +1,4 @@
-//! What the passes behind expansion tell first of a text.
+//! What the passes behind expansion report first of a text.
 
 ghost use Rattle.std.specs.Prelude.{◌≡◌, ◌≤◌, length, Some, None, IfOk};
 ghost use Rattle.kc_asm_symbols.specs.Externals.{externals};
@@ -48,7 +48,7 @@ fn reported(alloc: Global, text: &[Line]) -> Result<Option<LineFault>, NoMemory>
     }
 }
 
-/// Whether the passes behind expansion tell this fault of a text.
+/// Whether the passes behind expansion report this fault of a text.
 pub(crate) fn reports(alloc: Global, text: &[Line], fault: LineFault) -> Result<bool, NoMemory>
     requires { length text.now ≤ 65535 }
     ensures { IfOk result (λ b. spec.Reports text.now fault b) }
@@ -59,7 +59,7 @@ pub(crate) fn reports(alloc: Global, text: &[Line], fault: LineFault) -> Result<
     }
 }
 
-/// Whether they tell it of the text of whose lines of the fault's number only the first k keep it.
+/// Whether they report it of the text of whose lines of the fault's number only the first k keep it.
 pub(crate) fn reports_with(
     alloc: Global,
     text: &[Line],

@@ -1,4 +1,4 @@
--- What the passes tell first of a text is one, halving its lines finds one, and so what is found for a fault is one.
+-- What the passes report first of a text is one, halving its lines finds one, and so what is found for a fault is one.
 use Rattle.std.proofs.Common.{◌≡◌, ◌⊎◌, ◌∙◌, ℕ, zero, suc, ◌+◌, ◌<◌, true, false, List, [], ◌∷◌, length, map, Option, Some, None, Result, Ok, Err, inl, inr, refl, sym, ap, arith}
 use Rattle.std.specs.Prelude.{slice_index_or}
 use Rattle.std.specs.List.{list_all}
@@ -17,7 +17,7 @@ use Rattle.kc_asm_cause.specs.Reported.{IsReported, IsNotReported}
 use Rattle.kc_asm_cause.specs.Cause.{middle, IsHalved, IsOfItsLines, IsOfOthers, AreInPlace, IsOriginIn, IsOriginAmong, IsOriginBetween, IsOriginOfText, IsOriginOfLines}
 use Rattle.kc_asm_cause_laws.specs.OneOrigin.{OneOrigin}
 
--- ---- what is told
+-- ---- what is reported
 
 fault_alike : (ss ts : List Stmt) → map stmt_said ss ≡ map stmt_said ts → first_fault ss ≡ first_fault ts
 fault_alike ss ts same = λ i. least (faults_from (standing_alike ss ts same i) first_regions 0 [] (standing_alike ss ts same i) (locations_alike ss ts same i))

@@ -1,4 +1,4 @@
--- There are as many sites as statements, and they put as many contents.
+-- There are as many locations as statements, and they put as many contents.
 use Rattle.std.proofs.Common.{◌≡◌, ℕ, suc, ◌+◌, ◌≤◌, List, [], ◌∷◌, length, drop, map, refl, ap, sym, ◌∙◌, arith}
 use Rattle.std.specs.Prelude.{Option}
 use Rattle.std.proofs.lemmas.List.{length-map}
@@ -33,7 +33,7 @@ located_count values i g (s ∷ ss) = ap suc (located_count values (i + 1) (segm
 pub standing_count : (stmts : List Stmt) → length (standing stmts) ≡ length stmts
 standing_count stmts = located_count (λ i g. value_at g (place_at (location_list stmts) i)) 0 first_segment stmts
 
--- each statement has its site
+-- each statement has its location
 pub each_location : SizesHaveLengths → (stmts : List Stmt) → length (location_list stmts) ≡ length stmts
 each_location lengths stmts =
     location_count (addresses (statement_sizes stmts)) (statement_forms (forms (text (statement_sizes stmts))) (statement_sizes stmts)) no_bytes (statement_sizes stmts) ∙ lengths stmts

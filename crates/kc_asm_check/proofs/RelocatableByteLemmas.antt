@@ -1,4 +1,4 @@
--- Misfits: of pieces by other numbers, and of places modulo 65536; the least code of a list, one octet at a time.
+-- Misfits: of pieces by other numbers, and of places modulo 65536; the least code of a list, one relocatable byte at a time.
 use Rattle.std.proofs.Common.{◌≡◌, ℕ, ◌+◌, ◌%◌, ◌<◌, ◌≤◌, Bool, not, ◌&&◌, List, [], ◌∷◌, ◌++◌, length, drop, get_or, refl, sym, ap, ◌∙◌, arith}
 use Rattle.std.specs.Prelude.{Option, Some, None, if◌then◌else◌}
 use Rattle.std.specs.Option.{option_to_list}
@@ -56,7 +56,7 @@ misfits_same jumps address piece a b (o ∷ os) same =
     ap (λ (c : Option ℕ). option_to_list (examined jumps c) ++ misfits jumps address piece (a + 1) os) (misfit_same address piece a b o same)
     ∙ ap (λ (cs : List ℕ). option_to_list (examined jumps (misfit address piece b o)) ++ cs) (misfits_same jumps address piece (a + 1) (b + 1) os (next_same a b 1 same))
 
--- ---- one octet more
+-- ---- one relocatable byte more
 
 pub goes_on : (code c : Option ℕ) (codes : List ℕ) → lesser (lesser code c) (least codes) ≡ lesser code (least (option_to_list c ++ codes))
 goes_on code c codes =
@@ -78,7 +78,7 @@ none_left : (jumps : Bool) (address : Option ℕ) (piece place : ℕ) (code : Op
 unfolding least misfits
 none_left jumps address piece place code = lesser_none code
 
--- the least code of the octets before the i-th, and then that of the i-th too
+-- the least code of the relocatable bytes before the i-th, and then that of the i-th too
 pub advances : (jumps : Bool) (address : Option ℕ) (piece place : ℕ) (os : List RelocatableByte) (i : ℕ) (none o : RelocatableByte) (code next whole : Option ℕ)
     → i < length os → o ≡ get_or os i none → next ≡ lesser code (examined jumps (misfit address piece place o))
     → lesser code (least (misfits jumps address piece place (drop i os))) ≡ whole

@@ -145,7 +145,7 @@ no_sum_left all before sum = refl
 all_before : (all before : List Located) → all ≡ reverse before ++ [] → before ≡ reverse all
 all_before all before split = sym (reverse-reverse before) ∙ ap reverse (sym (split ∙ append-nil (reverse before)))
 
--- ---- the i-th statement and its site
+-- ---- the i-th statement and its location
 
 location_prefix : (ss : List Location) (i : ℕ) (s : Location) → slice_get ss i ≡ Some s → drop i ss ≡ s ∷ drop (i + 1) ss
 location_prefix ss i s is =

@@ -61,12 +61,12 @@ branch_faults look b action = []
 
 -- ---- numbers that do not fit
 
--- a jump is not judged where its target has no value
+-- a jump is not examined where its target has no value
 abbrev pub examined : Bool → Option ℕ → Option ℕ
 examined jumps None = None
 examined jumps (Some code) = if not jumps && (code == out_of_reach) then None else Some code
 
--- octets stand at places one by one, in a piece that is absolute at an address or relocatable
+-- relocatable bytes stand at places one by one, in a piece that is absolute at an address or relocatable
 unfoldable pub misfits : Bool → Option ℕ → ℕ → ℕ → List RelocatableByte → List ℕ
 misfits jumps address piece place [] = []
 misfits jumps address piece place (o ∷ os) =
@@ -88,7 +88,7 @@ abbrev pub checks_jumps : Look → ActionTree → Bool
 checks_jumps look (Operation word args) = not (lacks_target look args)
 checks_jumps look action = true
 
--- those of the octets that a statement puts where it stands
+-- those of the relocatable bytes that a statement puts where it stands
 abbrev pub relocatable_faults : Look → ActionTree → Segment → Location → Content → List ℕ
 relocatable_faults look action g s c = content_faults (checks_jumps look action) s.address g.piece s.place c
 

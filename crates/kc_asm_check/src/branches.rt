@@ -63,7 +63,7 @@ fn lacks_target<S: Scope>(args: &[Arg], scope: &S) -> bool
     }
 }
 
-// Whether the jumps of a statement are judged.
+// Whether the jumps of a statement are examined.
 pub(crate) fn checks_jumps<S: Scope>(action: &Action, scope: &S) -> bool
     ensures { result ≡ spec.checks_jumps (S.answers scope.now) (action_tree action.now) }
 {

@@ -56,12 +56,12 @@ fn examined(walk: Walk, stmts: &[Stmt]) -> Result<Checked, LineFault>
 /// What the statements of a module put, its bytes of stack and what names mean in it; or else the first fault of its values
 /// and places: of the least line that has one the least code.
 ///
-/// `locations` tells where each of the statements stands, as the layout of their outline does, and `names` are their names.
+/// `locations` reports where each of the statements stands, as the layout of their table of sizes does, and `names` are their names.
 /// The codes: 7, 9, 10, 11, 12, 13 for values and operands; 12 also for a number that does not fit its byte, and 19 for
 /// a jump that does not reach, where they depend on no base; 24 for a generic branch to what is no label, no external and not
 /// `$`, with a fixed distance or none; 17 for ORG backwards, a label past FFFFH, a piece that is too long, and stack over
 /// 65,535 bytes; 22 for an absolute piece outside the regions of its kind; 20 for a public name that counts from an external.
-/// Instructions and data outside code, and lines and names that no object can tell, are no faults here: statements that were
+/// Instructions and data outside code, and lines and names that no object can report, are no faults here: statements that were
 /// read without a fault have none of them, as `sources_are_read_well` says. (MCS-96 Macro Assembler User's Guide, "Assembler
 /// Directives"; the codes are this kit's own.)
 ///

@@ -38,7 +38,7 @@ pub fn value_at(segment: Segment, place: u64) -> Value
     segment.value_at((place % 65536) as u32)
 }
 
-/// The values of the places of all statements, where each has its site.
+/// The values of the places of all statements, where each has its location.
 pub fn values_of(
     alloc: Global,
     stmts: &[Stmt],

@@ -18,7 +18,7 @@ use kc_expr::{Base, Scope};
 use kc_lex::SourceCode;
 use kc_source_statement::Action;
 
-// A jump is not judged where its target has no value.
+// A jump is not examined where its target has no value.
 fn examined(jumps: bool, code: Option<u8>) -> Option<u8>
     ensures { result ≡ spec.examined jumps code }
 {
@@ -61,7 +61,7 @@ fn relocatable_misfit(
     }
 }
 
-// The least code of the misfits of octets from a place on.
+// The least code of the misfits of relocatable bytes from a place on.
 fn misfits(
     jumps: bool,
     address: Option<u16>,
@@ -109,7 +109,7 @@ fn content_fault(
     }
 }
 
-// Those of the octets that a statement puts where it stands.
+// Those of the relocatable bytes that a statement puts where it stands.
 pub(crate) fn relocatable_fault<S: Scope>(
     content: &Content,
     action: &Action,

@@ -1,4 +1,4 @@
-//! A walk over the statements, which judges each where it stands.
+//! A walk over the statements, which checks each where it stands.
 
 ghost use Rattle.std.specs.Prelude.{◌≡◌, ◌+◌, ◌<◌, ◌≤◌, ◌^◌, List, [], ◌∷◌, ◌++◌, reverse, map, length, IfOk, OnOk};
 ghost use Rattle.kc_lex.specs.LineFaults as faults;
@@ -93,7 +93,7 @@ impl Walk {
         Ok(lesser(own, public))
     }
 
-    /// Enters the next statement, judges it, and keeps what it puts.
+    /// Enters the next statement, checks it, and keeps what it puts.
     pub(crate) fn enter(
         &mut self,
         alloc: Global,
@@ -135,7 +135,7 @@ impl Walk {
         self.meanings.leave(alloc, stmt)
     }
 
-    /// Judges all statements, from before the first of them, where each has its site.
+    /// Checks all statements, from before the first of them, where each has its location.
     pub(crate) fn pass(
         &mut self,
         alloc: Global,

@@ -87,7 +87,7 @@ statement_prefix locations i g stmts stmt s within is location =
 location_prefix : (ss : List Location) (i : ℕ) (s : Location) → slice_get ss i ≡ Some s → drop i ss ≡ s ∷ drop (i + 1) ss
 location_prefix ss i s is = prefix ss i s (slice_get_within ss i s is) (sym (get_or_from_slice_get ss i s s is))
 
--- the i-th statement, its site and what it puts
+-- the i-th statement, its location and what it puts
 pub record IsTurn (stmts : List Stmt) (locations : List Location) (ps : List Made) (i : ℕ) (stmt : Stmt) (s : Location) (p : Made) : Type 0 where
   pub within : i < length stmts
   pub statement : stmt ≡ get_or stmts i stmt

@@ -4,7 +4,7 @@ use Rattle.kc_asm_emission.specs.Content.{Content}
 use Rattle.kc_asm_layout.specs.declared.location.Location.{Location}
 use Rattle.kc_asm_draft_laws.specs.Writable.{HasRoom}
 
--- behind so many bytes a content has room at a site
+-- behind so many bytes a content has room at a location
 pub record ContentFits (c : Content) (s : Location) (size : ℕ) : Type 0 where
   pub forward : s.before ≤ s.place
   pub gap : size + (s.place - s.before) ≤ 65536

@@ -1,4 +1,4 @@
-//! The walk over the statements that writes a draft.
+//! The walk over the statements that writes an unlinked module.
 
 ghost use Rattle.std.specs.Prelude.{◌≡◌, ◌≤◌, ◌<◌, ◌+◌, ◌^◌, [], None, map, length, IfOk, OnOk};
 ghost use Rattle.kc_source_statement.specs.Trees.{action_tree};
@@ -51,7 +51,7 @@ impl Collecting {
         Ok(())
     }
 
-    // Writes what all statements put, from before the first of them, where each has its site. What is written is freed.
+    // Writes what all statements put, from before the first of them, where each has its location. What is written is freed.
     fn write_all(
         &mut self,
         alloc: Global,
@@ -76,7 +76,7 @@ impl Collecting {
     }
 }
 
-// The draft, where all that is written has room.
+// The unlinked module, where all that is written has room.
 fn collected(
     alloc: Global,
     stmts: &[Stmt],
@@ -114,11 +114,11 @@ fn collected(
     })
 }
 
-/// The draft of a module whose statements have no fault, at most 65,536 of them: the bytes that they write, its name, its
+/// The unlinked module of a module whose statements have no fault, at most 65,536 of them: the bytes that they write, its name, its
 /// stack in bytes, and its external and public names.
 ///
-/// `locations` tells where each statement stands, as the layout of their outline does, `taken` the externals in order, which
-/// become those of the draft, and `checked` what their check hands on: it is freed as it is written. In code FFH stands where
+/// `locations` reports where each statement stands, as the layout of their table of sizes does, `taken` the externals in order, which
+/// become those of the unlinked module, and `checked` what their check hands on: it is freed as it is written. In code FFH stands where
 /// a statement leads on to an even place; elsewhere nothing stands there. A name that PUBLIC gives more than once stands
 /// once. (MCS-96 Macro Assembler User's Guide, "Assembler Directives".)
 ///

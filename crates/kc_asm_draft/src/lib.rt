@@ -1,4 +1,4 @@
-//! The draft of a module: the bytes that its statements write, its names and its stack.
+//! The unlinked module of a module: the bytes that its statements write, its names and its stack.
 #![tactic(auto)]
 
 mod collecting;

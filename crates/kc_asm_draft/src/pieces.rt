@@ -55,7 +55,7 @@ fn open(
     Ok(())
 }
 
-/// The pieces behind a statement in a segment at its site, which puts this.
+/// The pieces behind a statement in a segment at its location, which puts this.
 pub(crate) fn pass(
     alloc: Global,
     parts: &mut Vec<Part>,

@@ -75,7 +75,7 @@ fn put(
     }
 }
 
-/// Writes the content of a statement in a segment at its site, at the end of its piece.
+/// Writes the content of a statement in a segment at its location, at the end of its piece.
 pub(crate) fn write(
     part: &mut Part,
     segment: Segment,

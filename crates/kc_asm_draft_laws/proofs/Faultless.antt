@@ -130,7 +130,7 @@ ends_well regions g s e =
 
 -- ---- addresses
 
--- a fixed number where nothing is told elsewhere
+-- a fixed number where nothing is reported elsewhere
 fixed_value : (a : Answer) → is_reported a ≡ false → unless_fixed a ≡ [] → (n : ℕ) × (fixed_in a ≡ Some n)
 fixed_value (Ok v) h e = (v.number, by (is_fixed v.base) e)
   where

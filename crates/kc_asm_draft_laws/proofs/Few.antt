@@ -66,7 +66,7 @@ module _ (n : ℕ) where
   abbrev is_clear : PlacedByte → Bool
   is_clear c = is_good c.relocatable_byte
 
-  -- no octet of the piece counts from it
+  -- no relocatable byte of the piece counts from it
   abbrev IsClear : Section → Type 0
   IsClear t = list_all is_clear t.placed_bytes ≡ true
 

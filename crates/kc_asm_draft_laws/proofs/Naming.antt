@@ -34,7 +34,7 @@ use Rattle.kc_asm_draft_laws.proofs.Faultless.{unless}
 use Rattle.kc_asm_draft_laws.proofs.Walking.{AllSteps}
 use Rattle.kc_asm_draft_laws.proofs.Read.{can_report, names_reported}
 
--- what an object can tell of a statement
+-- what an object can report of a statement
 pub record IsReporting (last : List ℕ → Answer) (l : Located) : Type 0 where
   pub names : list_all is_public (names_said l.action) ≡ true
   pub publics : public_faults last l.action ≡ []

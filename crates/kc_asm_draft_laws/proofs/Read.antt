@@ -1,4 +1,4 @@
--- What is known of each statement where it stands, once it is read well: an object can tell it, and its octets stand in code.
+-- What is known of each statement where it stands, once it is read well: an object can report it, and its relocatable bytes stand in code.
 use Rattle.std.proofs.Common.{◌≡◌, ℕ, ◌+◌, Bool, true, not, ◌&&◌, ◌||◌, List, [], ◌∷◌, ◌++◌, refl, sym, ap, ◌∙◌}
 use Rattle.std.specs.Prelude.{Option, Some, None, nat_lt}
 use Rattle.std.specs.List.{list_all}
@@ -50,7 +50,7 @@ standing_well stmts read = record {
   in_code = read.in_code (λ i g. value_at g (place_at (location_list stmts) i));
 }
 
--- ---- what an object can tell
+-- ---- what an object can report
 
 pub line_reported : (l : Located) → can_report l ≡ true → nat_lt 0 l.line ≡ true
 line_reported l h = (and_parts (nat_lt 0 l.line) (list_all is_public (option_to_list l.label ++ names_said l.action)) h).0
@@ -71,7 +71,7 @@ none_upto : (o : Option ℕ) (os : List RelocatableByte) → upto o ≡ Relocata
 none_upto None os e = cc
 none_upto (Some n) os e = cc
 
--- what puts octets is an instruction or data
+-- what puts relocatable bytes is an instruction or data
 puts_bytes : (look : Look) (form : Form) (place : Value) (action : ActionTree) (os : List RelocatableByte) → content look form place action ≡ RelocatableBytes os → holds_bytes action ≡ true
 puts_bytes look form place (trees.Define size items) os e = refl
 puts_bytes look form place (trees.Operation word args) os e = refl

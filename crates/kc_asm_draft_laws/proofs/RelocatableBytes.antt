@@ -1,4 +1,4 @@
--- What the octets of a source without a fault are: whole numbers from bases that exist, in code.
+-- What the relocatable bytes of a source without a fault are: whole numbers from bases that exist, in code.
 use Rattle.std.proofs.Common.{◌≡◌, ℕ, ◌+◌, ◌<◌, Bool, true, false, ◌&&◌, ◌||◌, cond, eqb, ltb, leb, eq-eqb, List, [], ◌∷◌, ◌++◌, length, refl, sym, ap, ◌∙◌, subst, append_assoc, append-nil, arith}
 use Rattle.std.specs.Prelude.{Option, Some, None, ◌==◌, nat_lt, nat_le}
 use Rattle.std.specs.List.{list_all, AllByRecursion}
@@ -44,7 +44,7 @@ use Rattle.kc_asm_draft_laws.proofs.Walking.{AllSteps}
 use Rattle.kc_asm_draft_laws.proofs.Keeping.{IsAhead, kept}
 use Rattle.kc_asm_draft_laws.proofs.Read.{can_report, line_reported, code_alone}
 
--- ---- cells one after the other
+-- ---- placed bytes one after the other
 
 abbrev pub numbered : ℕ → List RelocatableByte → List PlacedByte
 numbered from [] = []

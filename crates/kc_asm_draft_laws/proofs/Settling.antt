@@ -37,7 +37,7 @@ use Rattle.kc_asm_draft_laws.proofs.Walking.{walked}
 use Rattle.kc_asm_draft_laws.proofs.Room.{step_fits}
 use Rattle.kc_asm_draft_laws.proofs.Keeping.{IsAhead, kept}
 
--- ---- every jump is judged
+-- ---- every jump is checked
 
 there : (a : Answer) → HasValue a → is_none (value_in a) ≡ false
 there a v = ap (λ (b : Answer). is_none (value_in b)) v.1
@@ -60,7 +60,7 @@ all_checked look h (trees.Operation word args) e =
     ap not (has_target look h args (nothing_left (flat_map (operand_faults look) args) _ e).0)
 all_checked look h _ e = refl
 
--- ---- no octet has a misfit
+-- ---- no relocatable byte has a misfit
 
 one_fits : (c : Option ℕ) (codes : List ℕ) → option_to_list (examined true c) ++ codes ≡ [] → (c ≡ None) × (codes ≡ [])
 one_fits None codes e = (refl, e)

@@ -1,4 +1,4 @@
--- The octets of statements stay where they were written, and nothing else is written but filling.
+-- The relocatable bytes of statements stay where they were written, and nothing else is written but filling.
 use Rattle.std.proofs.Common.{◌≡◌, ℕ, zero, suc, ◌+◌, ◌-◌, ◌%◌, Bool, true, false, cond, eqb, ltb, ◌⊎◌, inl, inr, List, [], ◌∷◌, ◌++◌, set, drop, get_or, replicate, reverse, length, length-append, refl, sym, ap, ◌∙◌, subst, append_assoc, append-nil, arith}
 use Rattle.std.specs.Prelude.{Option, Some, None, unwrap_or, slice_get, slice_set}
 use Rattle.std.specs.List.{AllByRecursion}
@@ -143,7 +143,7 @@ still_stand ps qs part place os g h =
           ∙ stays_there h.t.placed_bytes x.1.1.more ((place - start_of h.t.at) + k) o (h.stand k o e);
     }
 
--- ---- the octets of a statement, when it has been written
+-- ---- the relocatable bytes of a statement, when it has been written
 
 begins_at : (all before : List Located) (regions : Regions) (sum : ℕ) (l : Located) (s : Location) (parts : List Section) (h : IsStep all before regions sum l s parts)
     → start_of (led l.segment.kind (s.place - s.before) h.t).at + (led l.segment.kind (s.place - s.before) h.t).length ≡ s.place
@@ -283,7 +283,7 @@ unfolding placed_byte_at
 no_placed_byte i o e = no_element o e
 
 module _ (all : List Located) (whole : List Location) where
-  -- filling, or an octet of a statement
+  -- filling, or a relocatable byte of a statement
   abbrev Said : ℕ → ℕ → RelocatableByte → Type 0
   Said part place o = (o ≡ Plain 255) ⊎ IsOfStatement all whole part place o
 

@@ -62,7 +62,7 @@ put_extends line kind place Even t = led_extends kind (place % 2) t
 pub both_extend : (t u v : Section) (m n : ℕ) → Extends t m u → Extends u n v → Extends t (m + n) v
 both_extend t u v m n a b = record { kind = b.kind ∙ a.kind; at = b.at ∙ a.at; size = b.size ∙ (let s : u.length + n ≡ t.length + (m + n) = omega (arith, a.size) in s) }
 
--- ---- cells and marks stand within the length
+-- ---- placed bytes and marks stand within the length
 
 pub laid_section : (os : List RelocatableByte) (t : Section) → t.length + length os ≤ 65536 → is_section t ≡ true → is_section (laid os t) ≡ true
 unfolding laid
@@ -75,7 +75,7 @@ written_section line [] t room is = is
 written_section line (o ∷ os) t room is =
     laid_section os (begun line o t) (omega (arith, room)) (section_begun t.length t.placed_bytes t.marks is (placed_byte t.length o) (mark t.length line) (omega (arith, room)) refl refl)
 
--- ---- whatever stays while bytes of filling, gaps, and octets are written
+-- ---- whatever stays while bytes of filling, gaps, and relocatable bytes are written
 
 module _ (Q : Section → Type 0) (skip : (n : ℕ) (t : Section) → Q t → Q (skipped n t)) (fill : (t : Section) → t.kind ≡ Code → is_section t ≡ true → Q t → Q (put (Plain 255) t)) where
   abbrev pub Stays : Section → Type 0

@@ -1,4 +1,4 @@
--- The draft of a source without a fault can be made into a module.
+-- The unlinked module of a source without a fault can be made into a module.
 use Rattle.std.proofs.Common.{◌≡◌, ℕ, ◌≤◌, Bool, true, false, ◌&&◌, eqb, ltb, eq-eqb, List, [], ◌∷◌, map, drop, length, refl, sym, ap, ◌∙◌, subst, arith}
 use Rattle.std.specs.Prelude.{Option, Some, None, slice_get, is_some}
 use Rattle.std.specs.List.{list_all, AllByRecursion, IsDistinct}

@@ -1,4 +1,4 @@
--- Where no statement has a fault, no name has a fault that is told elsewhere.
+-- Where no statement has a fault, no name has a fault that is reported elsewhere.
 use Rattle.std.proofs.Common.{◌≡◌, ℕ, ◌+◌, Bool, true, false, cond, List, [], ◌∷◌, ◌++◌, reverse, refl, sym, ap, ◌∙◌, append_assoc}
 use Rattle.std.specs.Prelude.{Some, None, Ok, Err}
 use Rattle.std.specs.Str.{bytes_eq}
@@ -33,7 +33,7 @@ label_untold (l ∷ ls) q = either (is_label q l.label) (Ok l.here) (label_answe
 here_untold : (v : Value) (look : Look) → AreUntold look → AreUntold (with_here v look)
 here_untold v look h q = either (bytes_eq q here) (Ok v) (look q) refl (h q)
 
--- an answer without a fault that is told here or elsewhere is a value
+-- an answer without a fault that is reported here or elsewhere is a value
 abbrev pub HasValue : Answer → Type 0
 HasValue a = (v : Value) × (a ≡ Ok v)
 

@@ -1,4 +1,4 @@
--- The draft of a source without a fault is written by whole numbers.
+-- The unlinked module of a source without a fault is written by whole numbers.
 use Rattle.std.proofs.Common.{◌≡◌, ℕ, Bool, true, ◌&&◌, List, [], ◌∷◌, refl, sym, subst}
 use Rattle.std.specs.Prelude.{Option, Some}
 use Rattle.std.specs.List.{list_all, AllByRecursion}

@@ -1,4 +1,4 @@
--- The draft of a module: what its statements write, each at its site (after the MCS-96 Macro Assembler User's Guide,
+-- The unlinked module of a module: what its statements write, each at its location (after the MCS-96 Macro Assembler User's Guide,
 -- "Assembler Directives").
 use Rattle.std.specs.Prelude.{◌≡◌, ℕ, ◌-◌, ◌%◌, if◌then◌else◌, List, [], ◌∷◌, ◌++◌, replicate, codes, Option, Some, None, unwrap_or, Ok, Err, slice_get, slice_set}
 use Rattle.std.specs.List.{list_any}

@@ -1,4 +1,4 @@
--- The draft of a source without a fault can be made into a module, and its numbers fit.
+-- The unlinked module of a source without a fault can be made into a module, and its numbers fit.
 use Rattle.std.specs.Prelude.{◌≡◌, ◌≤◌, List, length, None}
 use Rattle.kc_source_statement.specs.declared.statement.Stmt.{Stmt}
 use Rattle.kc_asm_symbols.specs.Reported.{AreReadWell}
@@ -9,7 +9,7 @@ use Rattle.kc_link_draft_laws.specs.Settled.{IsWhole, IsSettled}
 use Rattle.kc_asm_check.specs.Checking.{first_fault}
 use Rattle.kc_asm_draft_laws.specs.Collecting.{IsUnlinkedModuleOf}
 
--- where an object can tell its statements, and bytes stand in code
+-- where an object can report its statements, and bytes stand in code
 abbrev pub UnlinkedModulesAreUnlinked : Type 0
 UnlinkedModulesAreUnlinked =
     (stmts : List Stmt) (d : UnlinkedModule) → AreReadWell stmts → first_fault stmts ≡ None → IsUnlinkedModuleOf stmts d

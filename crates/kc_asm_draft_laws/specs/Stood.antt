@@ -1,4 +1,4 @@
--- What stands in the draft of a source without a fault: the octets of each statement, each at its place, and FFH where code
+-- What stands in the unlinked module of a source without a fault: the relocatable bytes of each statement, each at its place, and FFH where code
 -- leads on to another place (after the MCS-96 Macro Assembler User's Guide, "Segments and the Location Counter").
 use Rattle.std.specs.Prelude.{◌≡◌, ◌⊎◌, ℕ, ◌+◌, ◌-◌, ◌≤◌, List, ◌∷◌, ◌++◌, reverse, length, Some, None, slice_get}
 use Rattle.kc_source_statement.specs.declared.statement.Stmt.{Stmt}
@@ -14,14 +14,14 @@ use Rattle.kc_asm_layout.specs.declared.location.Location.{Location}
 use Rattle.kc_asm_check.specs.Checking.{first_fault, location_list, standing}
 use Rattle.kc_asm_draft_laws.specs.Collecting.{IsUnlinkedModuleOf}
 
--- a statement with octets, those before it the latest first, and its site
+-- a statement with relocatable bytes, those before it the latest first, and its location
 pub record HasRelocatableBytes (all : List Located) (ss : List Location) (before : List Located) (l : Located) (s : Location) (os : List RelocatableByte) : Type 0 where
   pub after : List Located
   pub split : all ≡ reverse before ++ l ∷ after
   pub location : slice_get ss (length before) ≡ Some s
   pub relocatable_bytes : content (meaning all before l) s.form l.here l.action ≡ RelocatableBytes os
 
--- octets stand one after the other in a part, from a place on
+-- relocatable bytes stand one after the other in a part, from a place on
 pub record StandAt (parts : List Section) (part place : ℕ) (os : List RelocatableByte) : Type 0 where
   pub t : Section
   pub is_part : slice_get parts part ≡ Some t
@@ -34,7 +34,7 @@ StatementsStand =
     → (before : List Located) (l : Located) (s : Location) (os : List RelocatableByte) → HasRelocatableBytes (standing stmts) (location_list stmts) before l s os
     → StandAt d.parts.items l.segment.piece s.place os
 
--- an octet of a statement, at a place of a part
+-- a relocatable byte of a statement, at a place of a part
 pub record IsOfStatement (all : List Located) (ss : List Location) (part place : ℕ) (o : RelocatableByte) : Type 0 where
   pub before : List Located
   pub l : Located

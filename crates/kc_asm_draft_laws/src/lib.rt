@@ -1,4 +1,4 @@
-//! The draft of a source without a fault: laws of definitions, without code.
+//! The unlinked module of a source without a fault: laws of definitions, without code.
 #![tactic(auto)]
 
 ghost use Rattle.kc_asm_draft_laws.specs.Few.{PiecesAreFew};
@@ -31,7 +31,7 @@ pub fn pieces_are_few()
     contents_are_relocatables();
 }
 
-/// The draft of a source without a fault, whose statements an object can tell and whose bytes stand in code, can be made into a
+/// The unlinked module of a source without a fault, whose statements an object can report and whose bytes stand in code, can be made into a
 /// module, where that has at most 65,536 pieces.
 pub fn unlinked_modules_are_unlinked()
     ensures { UnlinkedModulesAreUnlinked }
@@ -45,7 +45,7 @@ pub fn unlinked_modules_are_unlinked()
     no_fault_no_codes();
 }
 
-/// The draft of a source without a fault is written by whole numbers: the octets of each part stand by rising offset within
+/// The unlinked module of a source without a fault is written by whole numbers: the relocatable bytes of each part stand by rising offset within
 /// it, and each second byte of a number stands behind its first one.
 pub fn unlinked_modules_are_whole()
     ensures { UnlinkedModulesAreWhole }
@@ -59,7 +59,7 @@ pub fn unlinked_modules_are_whole()
     no_fault_no_codes();
 }
 
-/// In the draft of a source without a fault each number that depends on no base fits its bytes.
+/// In the unlinked module of a source without a fault each number that depends on no base fits its bytes.
 pub fn unlinked_modules_are_settled()
     ensures { UnlinkedModulesAreSettled }
 {
@@ -71,7 +71,7 @@ pub fn unlinked_modules_are_settled()
     no_fault_no_codes();
 }
 
-/// In the draft of a source without a fault the octets of each statement stand one after the other from its place on.
+/// In the unlinked module of a source without a fault the relocatable bytes of each statement stand one after the other from its place on.
 pub fn statements_stand()
     ensures { StatementsStand }
 {
@@ -81,7 +81,7 @@ pub fn statements_stand()
     no_fault_no_codes();
 }
 
-/// In the draft of a source without a fault each octet is one of a statement, at its place, or FFH that fills a gap.
+/// In the unlinked module of a source without a fault each relocatable byte is one of a statement, at its place, or FFH that fills a gap.
 pub fn nothing_else_stands()
     ensures { NothingElseStands }
 {

@@ -1,4 +1,4 @@
--- The statements of a source without a fault of lines, macros, statements and names are those that an object can tell, with
+-- The statements of a source without a fault of lines, macros, statements and names are those that an object can report, with
 -- instructions and data in code: the check of values and places has no code for others.
 use Rattle.std.specs.Prelude.{◌≡◌, ℕ, List, Some, Ok}
 use Rattle.kc_lex.specs.declared.token.Line.{Line}

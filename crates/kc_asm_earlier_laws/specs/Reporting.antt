@@ -1,4 +1,4 @@
--- An object can tell each statement of a text: lines are numbered from 1, and a statement takes its names from the words of its
+-- An object can report each statement of a text: lines are numbered from 1, and a statement takes its names from the words of its
 -- line, which are names of at most 31 characters (after the MCS-96 Macro Assembler User's Guide, "Symbols").
 use Rattle.std.specs.Prelude.{◌≡◌, ℕ, Bool, true, nat_lt, List, Some, Ok}
 use Rattle.std.specs.List.{list_all}

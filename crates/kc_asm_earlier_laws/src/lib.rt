@@ -35,7 +35,7 @@ pub fn statements_are_reported()
     names_stand_on_the_line();
 }
 
-/// Where a source and its statements have no fault, an object can tell each statement, and each instruction and all data stand
+/// Where a source and its statements have no fault, an object can report each statement, and each instruction and all data stand
 /// in segments of code.
 pub fn sources_are_read_well()
     ensures { SourcesAreReadWell }

@@ -1,4 +1,4 @@
--- The bytes of statements are octets over the bases that are known.
+-- The bytes of statements are relocatable bytes over the bases that are known.
 use Rattle.std.proofs.Common.{◌≡◌, ℕ, zero, suc, ◌<◌, ◌%◌, Bool, true, false, cond, ◌&&◌, List, [], ◌∷◌, ◌++◌, take, drop, map, refl, subst}
 use Rattle.std.specs.Prelude.{◌==◌, ◌||◌, not, is_some, Option, Some, None, Ok, Err}
 use Rattle.std.specs.Int.{w32, to_le_bytes}

@@ -15,7 +15,7 @@ use Rattle.kc_asm_emission.specs.Arguments.{Look, arguments}
 
 -- ---- expressions
 
--- a fault that is told elsewhere is none here
+-- a fault that is reported elsewhere is none here
 abbrev pub reported_here : NoValue → List ℕ
 reported_here (Fault code) = code_number code ∷ []
 reported_here ReportedElsewhere = []

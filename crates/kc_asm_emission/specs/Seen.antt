@@ -6,7 +6,7 @@ use Rattle.kc_asm_emission.specs.declared.extent.Extent.{Extent}
 use Rattle.kc_asm_emission.specs.declared.extent.Extent.TheVariants as extent
 use Rattle.kc_asm_emission.specs.Content.{Content, Nothing, RelocatableBytes, Reserved, Upto, Even}
 
--- a content without where its octets lie in memory
+-- a content without where its relocatable bytes lie in memory
 abbrev pub seen : Made → Content
 seen made.Nothing = Nothing
 seen (made.RelocatableBytes os) = RelocatableBytes os.items

@@ -1,6 +1,6 @@
 use kc_asm_bytes::RelocatableByte;
 
-/// What a statement puts into its piece: octets; a number of bytes that it reserves; or nothing. ORG goes on to a place, an
+/// What a statement puts into its piece: relocatable bytes; a number of bytes that it reserves; or nothing. ORG goes on to a place, an
 /// address in an absolute piece, else an offset; EVEN goes on to an even place.
 #[derive(Drop)]
 pub enum Content {

@@ -93,7 +93,7 @@ fn upto(place: Option<u16>) -> Extent
     }
 }
 
-/// How far a statement goes on, wherever it stands: what its content tells, without its octets. A count of bytes stops at
+/// How far a statement goes on, wherever it stands: what its content reports, without its relocatable bytes. A count of bytes stops at
 /// 16,777,215, which no statement of a source reaches. (MCS-96 Macro Assembler User's Guide, "Segments and the Location Counter".)
 pub fn extent_of<S: Scope>(
     alloc: Global,

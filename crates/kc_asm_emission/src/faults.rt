@@ -26,7 +26,7 @@ pub fn lesser(a: Option<u8>, b: Option<u8>) -> Option<u8>
     }
 }
 
-// The code of a fault that is told here.
+// The code of a fault that is reported here.
 #[tactic(auto, unfolding(crate::specs::Faults::least))]
 fn reported(fault: NoValue) -> Option<u8>
     ensures { result ≡ faults.least (faults.reported_here fault) }
@@ -184,7 +184,7 @@ fn operation_fault<S: Scope>(
 
 /// The least code of the faults of a statement's values, over what names mean where it stands: those of its expressions (7
 /// for a name without value, 9 for a number over 16 bits that is no item of DCL, 11 for a division by 0, 13 for arithmetic on
-/// places; one that is told where a name is defined is none here); 10 where a value has to be fixed and is not, in AT,
+/// places; one that is reported where a name is defined is none here); 10 where a value has to be fixed and is not, in AT,
 /// SSEG, STACKSIZE, ORG and what is reserved, as the number of a bit or of shifts; 12 for operands that do not fit.
 /// (MCS-96 Macro Assembler User's Guide, "Expressions" and "Operands"; the codes are this kit's own.)
 #[tactic(auto, unfolding(crate::specs::Faults::least))]

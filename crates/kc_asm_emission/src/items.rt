@@ -85,7 +85,7 @@ fn push_item<S: Scope>(
     }
 }
 
-// The octets of a list of data whose items have so many bytes.
+// The relocatable bytes of a list of data whose items have so many bytes.
 pub(crate) fn data_relocatables<S: Scope>(
     alloc: Global,
     size: u8,

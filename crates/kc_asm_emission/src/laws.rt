@@ -18,7 +18,7 @@ pub fn contents_are_paired()
     relocatables_are_paired();
 }
 
-/// Octets count from nothing that the names do not count from, and each number has a kind and stands where it may.
+/// Relocatable bytes count from nothing that the names do not count from, and each number has a kind and stands where it may.
 pub fn contents_are_relocatables()
     ensures { ContentsAreRelocatableBytes }
 {}

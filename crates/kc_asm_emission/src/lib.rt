@@ -1,4 +1,4 @@
-//! What a statement puts into its piece, over what names mean where it stands: its octets, how far it goes on, and the faults
+//! What a statement puts into its piece, over what names mean where it stands: its relocatable bytes, how far it goes on, and the faults
 //! of its values.
 #![tactic(auto)]
 

@@ -39,7 +39,7 @@ use Rattle.kc_asm_encoding.proofs.Found.{three_for}
 use Rattle.kc_asm_encoding.proofs.Exists.{plain_is, behind_plain, signed_is}
 use Rattle.kc_asm_encoding.proofs.Lengths.{lines-relocatable_bytes, branches_have_lengths}
 
--- ---- what an operand without its number tells
+-- ---- what an operand without its number reports
 
 direct_at : (base : Base) (tag : Tag) (n : ℕ) → let v : Value = record { base = base; tag = tag; number = n } in is_direct (blurred_value (Some v)) ≡ is_direct (Some v)
 direct_at Fixed tag n = refl

@@ -39,7 +39,7 @@ abbrev pub LengthStays : Type 0
 LengthStays = (word : List ℕ) (args : List Argument) (form : Form) (here there : Value) →
     length (all_relocatable_bytes (instructions word args form here)) ≡ length (all_relocatable_bytes (instructions word (map blurred args) form there))
 
--- the length of a generic branch is told by its kind and form: an inverse jump leads behind the whole
+-- the length of a generic branch is given by its kind and form: an inverse jump leads behind the whole
 abbrev pub BranchesHaveLengths : Type 0
 BranchesHaveLengths = (word : List ℕ) (args : List Argument) (form : Form) (here : Value) (kind : BranchKind) →
     branch_kind word args ≡ Some kind → length (all_relocatable_bytes (instructions word args form here)) ≡ branch_length kind form

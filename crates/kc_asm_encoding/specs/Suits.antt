@@ -61,7 +61,7 @@ AreInstructions [] (w ∷ ws) = ⊥
 AreInstructions (l ∷ ls) [] = ⊥
 AreInstructions (l ∷ ls) (w ∷ ws) = IsInstruction l.word w × AreInstructions ls ws
 
--- the number of an octet fits its bytes
+-- the number of a relocatable byte fits its bytes
 abbrev pub FitsAt : Bases → ℕ → RelocatableByte → Type 0
 FitsAt bases place (relocatable_bytes.Plain b) = Unit {0}
 FitsAt bases place (relocatable_bytes.First kind start v) = fits kind (number kind (place + reach kind) (address bases v)) ≡ true

@@ -21,7 +21,7 @@ pub fn operations_are_instructions()
     ensures { OperationsAreInstructions }
 {}
 
-/// The length of a generic branch is told by its kind and its form: so an inverse jump leads behind the whole.
+/// The length of a generic branch is given by its kind and its form: so an inverse jump leads behind the whole.
 pub fn branches_have_lengths()
     ensures { BranchesHaveLengths }
 {}

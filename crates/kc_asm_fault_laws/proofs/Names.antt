@@ -1,4 +1,4 @@
--- What names mean at a statement is a value, or nothing, or told elsewhere.
+-- What names mean at a statement is a value, or nothing, or reported elsewhere.
 use Rattle.std.proofs.Common.{◌≡◌, ℕ, ◌+◌, Bool, true, false, cond, List, [], ◌∷◌, reverse, Option, Some, None, Ok, Err, refl}
 use Rattle.std.specs.Str.{bytes_eq}
 use Rattle.kc_expr.specs.declared.values.Base.TheVariants.{External}

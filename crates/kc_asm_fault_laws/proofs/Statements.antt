@@ -1,4 +1,4 @@
--- Faults of statements and names are told at the lines of their text.
+-- Faults of statements and names are reported at the lines of their text.
 use Rattle.std.proofs.Common.{◌≡◌, ℕ, Bool, true, false, cond, List, [], ◌∷◌, map, Option, Some, None, Result, Ok, Err, refl}
 use Rattle.std.specs.List.{list_all}
 use Rattle.std.proofs.lemmas.Bool.{and_parts, and_from}

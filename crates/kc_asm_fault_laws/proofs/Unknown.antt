@@ -114,7 +114,7 @@ pub nothing_is : (c : SourceCode) → means_nothing (Err (Fault c)) ≡ (code_nu
 nothing_is code.NotDefined = refl
 nothing_is c = refl
 
--- what means something, and is told here, is about no name
+-- what means something, and is reported here, is about no name
 plain_of : (a : Answer) → passes tame_code a ≡ true → means_nothing a ≡ false → passes plain_code a ≡ true
 plain_of (Ok v) h e = refl
 plain_of (Err ReportedElsewhere) h e = refl
@@ -146,7 +146,7 @@ two_reported op None None a b h k = two_operators plain_code plain_fine op a b h
 two_reported op None (Some name) a b h k = two_operators tame_code tame_fine op a b (tame_of None a h) k
 two_reported op (Some name) p a b h k = two_operators tame_code tame_fine op a b h (tame_of p b k)
 
--- what names mean: values, or nothing, or what is told elsewhere; the place where a line stands has a value
+-- what names mean: values, or nothing, or what is reported elsewhere; the place where a line stands has a value
 pub record IsTame (look : List ℕ → Answer) : Type 0 where
   pub names : (name : List ℕ) → passes tame_code (look name) ≡ true
   pub place : passes plain_code (look here) ≡ true

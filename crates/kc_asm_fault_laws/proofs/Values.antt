@@ -1,4 +1,4 @@
--- Faults of values and places are told at the lines of their statements.
+-- Faults of values and places are reported at the lines of their statements.
 use Rattle.std.proofs.Common.{◌≡◌, ℕ, ◌+◌, Bool, true, List, [], ◌∷◌, refl}
 use Rattle.std.specs.List.{list_all}
 use Rattle.std.proofs.lemmas.Bool.{and_parts, and_from}

@@ -16,7 +16,7 @@ abbrev pub FaultsStandAtLines : Type 0
 FaultsStandAtLines = (source : List ℕ) (line code : ℕ) → IsFirstFault source (line, code) →
     IsLineOf source line ⊎ ((line ≡ line_count source + 1) × (code ≡ no_end))
 
--- so each fault but that of a missing END is told with the text of its line
+-- so each fault but that of a missing END is reported with the text of its line
 abbrev pub FaultsHaveTheirLines : Type 0
 FaultsHaveTheirLines = (source : List ℕ) (line code : ℕ) → IsFirstFault source (line, code) → code ≢ no_end →
     (1 ≤ line) × ((text : List ℕ) × (slice_get (text_lines source) (line - 1) ≡ Some text))

@@ -12,7 +12,7 @@ pub fn faults_stand_at_lines()
     ensures { FaultsStandAtLines }
 {}
 
-/// So each fault but that of a missing END is told with the text of its line.
+/// So each fault but that of a missing END is reported with the text of its line.
 pub fn faults_have_their_lines()
     ensures { FaultsHaveTheirLines }
 {}

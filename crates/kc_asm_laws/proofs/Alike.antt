@@ -81,7 +81,7 @@ module _ (ss ts : List Stmt) (same : map stmt_said ss ≡ map stmt_said ts) wher
     publics = h.publics ∙ (λ i. publics_of (in_all (standing_alike i)) (distinct_from [] (all_given (standing_alike i))));
   }
 
--- ---- drafts that say the same have one module
+-- ---- unlinked modules that say the same have one module
 
 module _ (stmts : List Stmt) (d e : UnlinkedModule) (h : IsUnlinkedModuleOf stmts d) (k : IsUnlinkedModuleOf stmts e) where
   parts_same : d.parts.items ≡ e.parts.items

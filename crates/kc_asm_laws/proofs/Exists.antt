@@ -1,4 +1,4 @@
--- A text without a fault is read, and each draft of what it says has a module.
+-- A text without a fault is read, and each unlinked module of what it says has a module.
 use Rattle.std.proofs.Common.{◌≡◌, ℕ, ◌<◌, ◌≤◌, List, [], length, refl, arith, inl, inr}
 use Rattle.std.specs.Prelude.{Option, Some, None, Result, Ok, Err}
 use Rattle.kc_lex.specs.declared.token.Line.{Line}

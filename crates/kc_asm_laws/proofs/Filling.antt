@@ -1,4 +1,4 @@
--- What is filled from octets whose numbers are words are bytes.
+-- What is filled from relocatable bytes whose numbers are words are bytes.
 use Rattle.std.proofs.Common.{◌≡◌, ℕ, zero, suc, ◌+◌, ◌/◌, ◌%◌, ◌<◌, Bool, true, false, cond, ◌&&◌, ◌||◌, ◌==◌, List, [], ◌∷◌, refl, subst, arith}
 use Rattle.std.specs.Prelude.{Some, nat_le, slice_get}
 use Rattle.std.specs.List.{AllByRecursion}
@@ -55,7 +55,7 @@ fill_byte externals b place (relocatable_bytes.First kind start v) e h =
     first_byte kind start (number kind (place + reach kind) (address b v)) (and_parts (nat_le kind 4) (may_begin kind (Some start)) prefix).1
 fill_byte externals b place (relocatable_bytes.Second kind v) e h = second_byte kind (number kind (place + 1) (address b v)) (number_word kind (place + 1) (address b v) (base_word b v.base v.number h))
 
--- ---- octets of a part
+-- ---- relocatable bytes of a part
 
 pub relocatable_is : (externals : ℕ) (placed_bytes : List PlacedByte) (offset : ℕ) (o : RelocatableByte) → AreRelocatableBytes externals placed_bytes → placed_byte_at placed_bytes offset ≡ Some o → is_relocatable_byte externals o ≡ true
 unfolding AreRelocatableBytes placed_byte_at

@@ -1,4 +1,4 @@
--- The octets of a statement: plain ones are bytes, and numbers are words.
+-- The relocatable bytes of a statement: plain ones are bytes, and numbers are words.
 use Rattle.std.proofs.Common.{◌≡◌, ℕ, zero, suc, ◌<◌, Bool, true, false, cond, ◌&&◌, ◌==◌, List, [], ◌∷◌, ◌++◌, map, take, drop, subst, arith}
 use Rattle.std.specs.Prelude.{Option, Some, None, Ok, Err, nat_lt, FitsSigned, slice_get}
 use Rattle.std.specs.Int.{w8, bytes_low_first, byte_at}
@@ -167,7 +167,7 @@ all_small : (word : List ℕ) (args : List Argument) (form : Branch) (here : Val
 unfolding instructions
 all_small word args form here h = each_line IsSmall Words laid_small (in_full word args form here) (full_words word args form here (branch_kind word args) h)
 
--- ---- their octets
+-- ---- their relocatable bytes
 
 regs_good : (vs : List Value) → AreWordRegs vs → AllGood (map byte_of vs)
 regs_good [] h = tt
@@ -287,7 +287,7 @@ nothing_led : (o : Option ℕ) (os : List RelocatableByte) → upto o ≡ Reloca
 nothing_led None os e = absurd (cc e)
 nothing_led (Some n) os e = absurd (cc e)
 
--- octets of a statement whose expressions and items have bytes, where names are words
+-- relocatable bytes of a statement whose expressions and items have bytes, where names are words
 pub content_good : NumbersAreWords → (look : emitted.Look) → ((name : List ℕ) → IsWordAnswer (look name)) → (form : Branch) (here : Value) (action : ActionTree) → all_bytes action ≡ true
     → items_pass (λ cs. list_all (λ c. nat_lt c 256) cs) action ≡ true → (os : List RelocatableByte) → content look form here action ≡ RelocatableBytes os → AllGood os
 content_good law look names form here (trees.Define size items) h k os e =

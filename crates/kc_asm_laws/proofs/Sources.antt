@@ -1,4 +1,4 @@
--- What is known of the statements of a text, and of the octets of their draft.
+-- What is known of the statements of a text, and of the relocatable bytes of their unlinked module.
 use Rattle.std.proofs.Common.{◌≡◌, ℕ, ◌+◌, Bool, true, List, [], ◌∷◌, ◌++◌, reverse, refl, sym, ◌∙◌, subst, inl, inr, arith}
 use Rattle.std.specs.Prelude.{Some, None, slice_get, ◌⊎◌}
 use Rattle.std.specs.List.{list_all}
@@ -53,7 +53,7 @@ each_bytes text (s ∷ ss) h =
 pub said_bytes : StatementsAreOfTheText → (text : List ℕ) (stmts : List Stmt) → AreSaid text stmts → AreBytes text stmts
 said_bytes law text stmts said = each_bytes text stmts (law text said.1.0 said.0 stmts said.1.1 said.1.2 said.2)
 
--- ---- octets
+-- ---- relocatable bytes
 
 abbrev pub texts_have_bytes : List Stmt → Type 0
 texts_have_bytes stmts = list_all has_all_bytes (standing stmts) ≡ true

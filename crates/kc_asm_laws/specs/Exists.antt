@@ -12,7 +12,7 @@ use Rattle.kc_asm.specs.Assembled.{IsText, AreSaid, IsFaultless, IsModule}
 abbrev pub FaultlessAreRead : Type 0
 FaultlessAreRead = (text : List ℕ) → IsFaultless text → (lines : List Line) × IsText text lines × (least (faults_of lines) ≡ None)
 
--- each draft of what a text without a fault says has a module, which is the module of the text
+-- each unlinked module of what a text without a fault says has a module, which is the module of the text
 abbrev pub FaultlessHaveModules : Type 0
 FaultlessHaveModules =
     (text : List ℕ) (stmts : List Stmt) (d : UnlinkedModule) → IsFaultless text → AreSaid text stmts → IsUnlinkedModuleOf stmts d → (m : Object) × IsModule text m

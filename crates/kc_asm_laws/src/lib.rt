@@ -105,7 +105,7 @@ pub fn faultless_are_read()
     expansion_ends();
 }
 
-/// A text without a fault has a module, where there is a draft of what it says.
+/// A text without a fault has a module, where there is an unlinked module of what it says.
 pub fn faultless_have_modules()
     ensures { FaultlessHaveModules }
 {

@@ -141,7 +141,7 @@ by_base g h either same = pick (is_absolute h) refl
     pick true a = inr a
     pick false a = inl (main_of g.piece h.piece either same a)
 
--- each site has its note
+-- each location has its size record
 noted : (list : List (Option ℕ)) (ns : List SizeRecord) (fs : List Form) (ends : List ℕ) (k : ℕ) (s : Location) → slice_get (locations_from list fs ends ns) k ≡ Some s
     → (n : SizeRecord) × (slice_get ns k ≡ Some n)
 unfolding locations_from

@@ -13,7 +13,7 @@ use Rattle.kc_asm_layout.specs.declared.location.Location.{Location}
 use Rattle.kc_asm_outline.specs.Numbered.{IsNumbered, is_code}
 use Rattle.kc_asm_layout.specs.Text.{layout, is_same_base, segment_at}
 
--- a statement in code is a branch, with its note and its site
+-- a statement in code is a branch, with its size record and its location
 pub record IsBranchAt (ns : List SizeRecord) (number : ℕ) (n : SizeRecord) (s : Location) (kind : BranchKind) (a : Anchor) : Type 0 where
   pub size_record : slice_get ns number ≡ Some n
   pub location : slice_get (layout ns) number ≡ Some s

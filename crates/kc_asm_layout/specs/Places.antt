@@ -1,4 +1,4 @@
--- Where statements stand, by the outline of their module and the forms of its generic branches: each at the end of its piece,
+-- Where statements stand, by the table of sizes of their module and the forms of its generic branches: each at the end of its piece,
 -- behind a gap where its place has to be divisible (after the MCS-96 Macro Assembler User's Guide, "Segments and the Location
 -- Counter").
 use Rattle.std.specs.Prelude.{ℕ, ◌+◌, ◌%◌, ◌<◌, ◌≤◌, List, [], ◌∷◌, ◌++◌, drop, Option, Some, None, unwrap_or, slice_get, slice_index, slice_set}
@@ -55,7 +55,7 @@ addresses ns = None ∷ None ∷ None ∷ opened ns
 abbrev pub address_in : List (Option ℕ) → ℕ → Option ℕ
 address_in list piece = unwrap_or (slice_get list piece) None
 
--- ---- the sites of all statements in order, with one form for each; behind the last form all are the first
+-- ---- the locations of all statements in order, with one form for each; behind the last form all are the first
 
 abbrev pub location_of : List (Option ℕ) → Form → Ends → SizeRecord → Location
 location_of list form ends n = record {

@@ -26,7 +26,7 @@ fn gaps(alloc: Global, locations: &[Location]) -> Result<Vec<u8>, NoMemory>
     Ok(gaps)
 }
 
-/// Where each statement of a module stands, by its outline.
+/// Where each statement of a module stands, by its table of sizes.
 ///
 /// A statement stands at the end of its piece, behind a gap where its place has to be divisible; an absolute piece begins at
 /// its address. All generic branches begin in their first form, but those to another base, an external or nothing in their

@@ -122,7 +122,7 @@ fn pass(mut ends: Vec<u64>, after: u64, size_record: &SizeRecord) -> Result<Vec<
     Ok(ends)
 }
 
-// The sites of all statements, with one form for each.
+// The locations of all statements, with one form for each.
 #[tactic(auto, unfolding(crate::specs::Places::locations_from))]
 pub(crate) fn locations(
     alloc: Global,

@@ -11,7 +11,7 @@ use Rattle.kc_asm_layout.specs.declared.location.Location.{Location}
 use Rattle.kc_asm_rows.specs.declared.spot.Spot.{Spot}
 use Rattle.kc_asm_list.specs.Spots.{first_spot, spots_from}
 
--- notes behind the first are bounded as all are
+-- size records behind the first are bounded as all are
 pub all_behind : (size_records rest : List SizeRecord) → rest ≡ drop 1 size_records → All IsBounded size_records → All IsBounded rest
 all_behind size_records rest e h = subst (All IsBounded) (sym e) (All-drop IsBounded 1 size_records h)
 

@@ -11,7 +11,7 @@ use Rattle.kc_asm_layout.specs.declared.location.Location.{Location}
 use Rattle.kc_asm_layout.specs.Text.{layout}
 use Rattle.kc_asm_rows.specs.declared.spot.Spot.{Spot}
 
--- each line of the expansion that is not blank is a statement, with its depth, its note and its site
+-- each line of the expansion that is not blank is a statement, with its depth, its size record and its location
 
 abbrev pub spot_of : Line → ℕ → SizeRecord → Location → Spot
 spot_of l depth n s = record {

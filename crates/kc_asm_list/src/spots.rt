@@ -41,7 +41,7 @@ fn first_depth(depths: &[usize]) -> usize
     depths.first().copied().unwrap_or(0)
 }
 
-// Puts the statement that a line of the expansion is, with the first of the depths, of the notes and of the sites.
+// Puts the statement that a line of the expansion is, with the first of the depths, of the size records and of the locations.
 fn put_first(
     spots: &mut Vec<Spot>,
     line: &Line,
@@ -73,7 +73,7 @@ fn behind<T>(items: &[T]) -> &[T]
     }
 }
 
-// The statements of an expansion, with their depths, their notes and their sites.
+// The statements of an expansion, with their depths, their size records and their locations.
 #[tactic(auto, unfolding(crate::specs::Spots::spots_from))]
 fn spots_from(
     alloc: Global,

@@ -57,7 +57,7 @@ module _ (p : Spot → Bool) (f : Segment → Location → Bool) (blind : (l : L
           counted_first p (spot_of t (slice_index ds 0) n s) (spots_from ts (drop 1 ds) ns ss)
           ∙ (λ i. cond ((blind t (slice_index ds 0) n s ∙ ap (λ (g : Segment). f g s) same) i) 1 0 + h ns ss ls (omega (arith, a)) (omega (arith, b)) rest i)
 
--- ---- segments of an outline
+-- ---- segments of a table of sizes
 
 module _ (all : List Located) (whole : List SizeRecord)
     (noted : (before after : List Located) (l : Located) → all ≡ reverse before ++ l ∷ after → (n : SizeRecord) → slice_get whole (length before) ≡ Some n → n.segment ≡ l.segment) where

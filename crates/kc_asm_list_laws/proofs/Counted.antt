@@ -1,4 +1,4 @@
--- Each octet of a part of a draft is shown by one statement.
+-- Each relocatable byte of a part of an unlinked module is shown by one statement.
 use Rattle.std.proofs.Common.{◌≡◌, ℕ, zero, suc, ◌+◌, ◌-◌, ◌<◌, ◌≤◌, Bool, true, false, ◌&&◌, ◌||◌, ◌==◌, cond, leb, ltb, List, [], ◌∷◌, ◌++◌, set, length, ◌⊎◌, inl, inr, refl, sym, ap, ◌∙◌, subst, arith}
 use Rattle.std.specs.Prelude.{Option, Some, None, nat_lt, if◌then◌else◌, is_some, unwrap_or, slice_get, slice_set}
 use Rattle.std.specs.List.{AllByRecursion}
@@ -53,8 +53,8 @@ true_behind : (b : Bool) → (b || true) ≡ true
 true_behind true = refl
 true_behind false = refl
 
--- a statement whose stretch goes from one offset over a gap to another one shows the octet at an offset of it, where each of
--- its two stretches with an octet begins with one
+-- a statement whose stretch goes from one offset over a gap to another one shows the relocatable byte at an offset of it, where each of
+-- its two stretches with a relocatable byte begins with one
 module _ (start size gap count o before place after : ℕ) (a b : Bool)
     (begins : before ≡ start + size) (stands : place ≡ start + (size + gap)) (ends : after ≡ start + ((size + gap) + count))
     (filled : size ≤ o → o < size + gap → a ≡ true) (written : size + gap ≤ o → o < (size + gap) + count → b ≡ true) where
@@ -121,7 +121,7 @@ opened_stays : (kind : SegKind) (at : Option ℕ) (xs : List Section) (p : ℕ) 
 opened_stays kind None xs p t e = e
 opened_stays kind (Some address) xs p t e = prefix_at xs (blank kind (Some address) ∷ []) p t e
 
--- ---- a statement with its segment and its site, as far as bytes depend on it
+-- ---- a statement with its segment and its location, as far as bytes depend on it
 
 abbrev pub spot_with : Segment → Location → Spot
 spot_with g s = record { line = 0; depth = 0; labelled = false; kind = g.kind; piece = g.piece; at = s.address; before = s.before; place = s.place; after = s.after }
@@ -131,7 +131,7 @@ count_seen f [] ss = 0
 count_seen f (l ∷ ls) [] = 0
 count_seen f (l ∷ ls) (s ∷ ss) = cond (f l.segment s) 1 0 + count_seen f ls ss
 
--- what a part had stays, as it goes on to its last octet
+-- what a part had stays, as it goes on to its last relocatable byte
 record IsOld (last t : Section) : Type 0 where
   at : last.at ≡ t.at
   size : t.length ≤ last.length
@@ -145,7 +145,7 @@ abbrev length_of : Option Section → ℕ
 length_of None = 0
 length_of (Some t) = t.length
 
--- the octet at an offset is shown once, by the statements from one on, where it is not there yet
+-- the relocatable byte at an offset is shown once, by the statements from one on, where it is not there yet
 abbrev IsCounted : Section → ℕ → Option Section → ℕ → Type 0
 IsCounted last o now n = Older last now × (n ≡ cond (ltb o (length_of now)) 0 1)
 
@@ -246,7 +246,7 @@ module _ (written_stands : WrittenStands) (put_stands : PutStands) (m : Object) 
         subst (λ (x : Option Section). IsFresh x (slice_get (parts_after look l s parts) p)) (other_set parts l.segment.piece w p e)
         (opened_fresh (kind_opened l.action) (opens look l.action) (slice_set parts l.segment.piece w) p)
 
-    -- of the part in which the octet stands
+    -- of the part in which the relocatable byte stands
     module _ (old : IsOld last v) where
       address : unwrap_or s.address 0 ≡ start_of t.at
       address = start_is s.address ∙ ap start_of h.stands.address

@@ -38,7 +38,7 @@ use Rattle.kc_asm_list_laws.proofs.Counted.{Anything, seen, counted_once}
 use Rattle.kc_asm_symbols.proofs.WalkLemmas.{located_length}
 use Rattle.kc_asm_list_laws.proofs.AllSpots.{spots_counted, segments_alike, said_length}
 
--- a byte of a module is an octet of a piece
+-- a byte of a module is a relocatable byte of a piece
 
 record IsRelocatableByte (o : Option Section) (offset : ℕ) : Type 0 where
   t : Section

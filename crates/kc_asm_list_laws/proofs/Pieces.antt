@@ -1,4 +1,4 @@
--- Which part of a draft a piece of its module is, and which statements stand in it.
+-- Which part of an unlinked module a piece of its module is, and which statements stand in it.
 use Rattle.std.proofs.Common.{◌≡◌, ℕ, zero, suc, ◌+◌, ◌-◌, ◌<◌, ◌≤◌, Bool, true, false, ◌&&◌, ◌==◌, cond, List, [], ◌∷◌, ◌++◌, map, length, refl, sym, ap, ◌∙◌, arith}
 use Rattle.std.specs.Prelude.{Option, Some, None, nat_lt, if◌then◌else◌, is_some, slice_get}
 use Rattle.std.specs.List.{list_all, prefix_len}
@@ -46,7 +46,7 @@ number_behind t segments piece kind none = by (nat_lt piece 3) t.at none
     by b (Some a) e = absurd (cc e)
 
 module _ (parts : List Section) where
-  -- a piece with octets is a part from one on, and the statements of that part alone stand in it
+  -- a piece with relocatable bytes is a part from one on, and the statements of that part alone stand in it
   pub record IsPartOf (from : ℕ) (ts : List Section) (at : ℕ) (t : Section) : Type 0 where
     pub part : ℕ
     pub later : from ≤ part

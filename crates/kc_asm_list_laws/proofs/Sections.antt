@@ -1,4 +1,4 @@
--- A piece grows by whole stretches: what a statement leads over or puts there are octets throughout, or there are none.
+-- A piece grows by whole stretches: what a statement leads over or puts there are relocatable bytes throughout, or there are none.
 use Rattle.std.proofs.Common.{◌≡◌, ℕ, zero, suc, ◌+◌, ◌-◌, ◌%◌, ◌<◌, ◌≤◌, Bool, true, false, cond, ltb, List, [], ◌∷◌, replicate, length, refl, ap, ◌∙◌, arith}
 use Rattle.std.specs.Prelude.{is_some, slice_get}
 use Rattle.std.proofs.lemmas.Bool.Decides.{nat_tests}
@@ -13,7 +13,7 @@ use Rattle.kc_asm_draft_laws.specs.Collecting.{led, put_content}
 use Rattle.kc_asm_draft_laws.specs.Writable.{HasRoom}
 use Rattle.kc_asm_draft_laws.proofs.Taping.{laid_section}
 
--- what stood stays, and behind it are octets throughout, or none
+-- what stood stays, and behind it are relocatable bytes throughout, or none
 pub record Grown (full : Bool) (t u : Section) : Type 0 where
   pub size : t.length ≤ u.length
   pub old : (o : ℕ) → o < t.length → relocatable_byte_at u o ≡ relocatable_byte_at t o

@@ -1,4 +1,4 @@
--- Contents that keep the rules are told by their bytes.
+-- Contents that keep the rules are given by their bytes.
 use Rattle.std.proofs.Common.{◌≡◌, ℕ, ◌+◌, ◌-◌, ◌<◌, ◌≤◌, Bool, true, false, ◌&&◌, ◌||◌, eqb, ltb, leb, Some, None, List, [], ◌∷◌, length, suc, zero, refl, sym, subst, ◌∙◌, arith}
 use Rattle.std.specs.List.{slice_get, list_all}
 use Rattle.std.proofs.lemmas.Bool.{and_parts}

@@ -1,4 +1,4 @@
--- Relocations in order are told by what stands at each place, and public names by rising name by what they are.
+-- Relocations in order are given by what stands at each place, and public names by rising name by what they are.
 use Rattle.std.proofs.Common.{◌≡◌, ℕ, ◌+◌, ◌<◌, Bool, true, false, ◌&&◌, ◌||◌, eqb, ltb, leb, if◌then◌else◌, Option, Some, None, List, [], ◌∷◌, length, get_or, suc, zero, refl, sym, subst, ◌∙◌, ◌⊎◌, inl, inr, arith}
 use Rattle.std.specs.List.{Contains}
 use Rattle.std.specs.List.Sorted.{IsPermutation}

@@ -1,4 +1,4 @@
--- A draft has at most one module.
+-- An unlinked module has at most one module.
 use Rattle.std.proofs.Common.{◌≡◌, true, ◌&&◌, length, sym, subst, ◌∙◌, List, map}
 use Rattle.std.specs.List.{list_all}
 use Rattle.std.proofs.lemmas.Bool.{and_parts}

@@ -130,7 +130,7 @@ module _ (givens : List Given) (fixups : List Fixup) where
       by true e h = nonempty_kept index (segment_of t) (with_bytes (is_relocatable t.at) t.length e)
       by false e h = or_named (is_empty (segment_of t)) (eqb (kind_number t.kind) 3) (object.is_named givens fixups index) (no_stack (kind_number t.kind) kind) (names h)
 
--- ---- what a draft names its module names
+-- ---- what an unlinked module names its module names
 
 or_cases : (a b c d : Bool) → (a ≡ true → c ≡ true) → (b ≡ true → d ≡ true) → (a || b) ≡ true → (c || d) ≡ true
 or_cases true b c d f g h = rw (f refl) refl
@@ -203,7 +203,7 @@ module _ (number : ℕ → ℕ) (n : ℕ) where
       (λ k. sym (list_any-IsPermutation (λ g. object.is_piece g.piece (number n)) (map (given_of number) publics) givens same) ∙ givens_name number n publics k)
       (λ k. pieces_name 0 pieces (sub k)) h
 
--- ---- parts that have octets are pieces
+-- ---- parts that have relocatable bytes are pieces
 
 placed_bytes_long : (t : Section) (n : ℕ) (placed_bytes : List PlacedByte) → rise 0 (placed_byte_offsets placed_bytes) t.length ≡ true → list_any (λ c. aims_at n (relocation t c.relocatable_byte)) placed_bytes ≡ true → ltb 0 t.length ≡ true
 unfolding rise

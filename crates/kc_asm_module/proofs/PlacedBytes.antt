@@ -34,7 +34,7 @@ room_left place (Plain b) h = tt
 room_left place (First kind start v) h = part_room kind start (number kind (place + reach kind) (address no_bases v)) h
 room_left place (Second kind v) h = tt
 
--- ---- the cells stand within the length
+-- ---- the placed bytes stand within the length
 
 next_below : (o to : ℕ) (b : Bool) → o + 1 ≤ to → b ≡ true → (ltb o to && b) ≡ true
 next_below o to true h k = grind (arith, nat_tests)

@@ -58,7 +58,7 @@ all_stand ts = stand_behind [] ts
 append_all : {A : Type 0} (test : A → Bool) (xs ys : List A) → list_all test xs ≡ true → list_all test ys ≡ true → list_all test (xs ++ ys) ≡ true
 append_all test xs ys h k = rw (list_all-append test xs ys) (both (list_all test xs) (list_all test ys) h k)
 
--- ---- octets stand in code
+-- ---- relocatable bytes stand in code
 
 is_code : (is : Bool) (n m : ℕ) → (is || (eqb n 0 && eqb m 0)) ≡ true → 0 < n → is ≡ true
 is_code true n m h lt = refl

@@ -1,4 +1,4 @@
--- The module of a draft keeps the rules, and is the draft's.
+-- The module of an unlinked module keeps the rules, and is the draft's.
 use Rattle.std.proofs.Common.{◌≡◌, ℕ, ◌+◌, ◌<◌, Bool, true, false, not, ◌&&◌, ◌||◌, eqb, ltb, if◌then◌else◌, Option, Some, None, List, [], ◌∷◌, ◌++◌, map, length, refl, sym, ap, subst, ◌∙◌, arith}
 use Rattle.std.specs.List.{slice_get, list_all, list_any, AllByRecursion}
 use Rattle.std.specs.List.Sorted.{IsPermutation}
@@ -249,7 +249,7 @@ module _ (name : List ℕ) (r c m : Section) (absolute : List Section) (stack : 
   pub fixups_are : (piece offset : ℕ) → fixup_at (fixups_of puts) piece offset ≡ relocated_at number piece (slice_get pieces piece) offset
   fixups_are piece offset = fixups_at puts 0 0 piece offset rising fitting ∙ fixups_put number pieces piece offset
 
--- ---- of any draft
+-- ---- of any unlinked module
 
 abbrev pub object_from : List ℕ → List Section → ℕ → List Taken → List Public → List Given → Object
 object_from name parts stack externals publics givens =

@@ -1,4 +1,4 @@
--- A draft has at most one module.
+-- An unlinked module has at most one module.
 use Rattle.std.specs.Prelude.{◌≡◌}
 use Rattle.kc_obj_module.specs.Object.{Object}
 use Rattle.kc_asm_piece.specs.declared.unlinked.UnlinkedModule.{UnlinkedModule}

@@ -1,4 +1,4 @@
--- Which parts of a draft are pieces of its module, in which order (this kit's own).
+-- Which parts of an unlinked module are pieces of its module, in which order (this kit's own).
 use Rattle.std.specs.Prelude.{ℕ, Bool, true, false, ◌+◌, ◌==◌, ◌||◌, nat_lt, if◌then◌else◌, Option, Some, None, List, [], ◌∷◌, ◌++◌, drop, slice_get}
 use Rattle.std.specs.List.{list_any}
 use Rattle.kc_expr.specs.declared.values.Value.{Value}
@@ -16,7 +16,7 @@ abbrev pub start_of : Option ℕ → ℕ
 start_of None = 0
 start_of (Some base) = base
 
--- the number that a relocation at an octet of a part fills in: its kind and its value. The own number of a relocatable part
+-- the number that a relocation at a relocatable byte of a part fills in: its kind and its value. The own number of a relocatable part
 -- is that of its kind; for an absolute part it does not matter
 abbrev pub relocation : Section → RelocatableByte → Option (ℕ × Value)
 relocation t relocatable_byte = relocated t.at (kind_number t.kind) relocatable_byte

@@ -31,7 +31,7 @@ fixup_for number piece offset None = None
 fixup_for number piece offset (Some r) =
     Some (record { piece = piece; offset = offset; kind = r.0; target = target_of number r.1.base; addend = r.1.number })
 
--- the byte that the module has for an octet of a part
+-- the byte that the module has for a relocatable byte of a part
 abbrev pub byte_for : Section → ℕ → RelocatableByte → ℕ
 byte_for t offset relocatable_byte = shown t.at (kind_number t.kind) (start_of t.at + offset) relocatable_byte
 

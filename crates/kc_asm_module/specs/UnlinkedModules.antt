@@ -1,4 +1,4 @@
--- What a source without fault says of its draft.
+-- What a source without fault says of its unlinked module.
 use Rattle.std.specs.Prelude.{◌≡◌, ℕ, Bool, true, false, ◌+◌, ◌≤◌, ◌==◌, ◌&&◌, ◌||◌, not, nat_lt, nat_le, Option, Some, None, List, [], ◌∷◌, length}
 use Rattle.std.specs.List.{list_all, IsDistinct, AllByRecursion}
 use Rattle.kc_expr.specs.declared.values.Base.{Base}
@@ -19,7 +19,7 @@ use Rattle.kc_asm_piece.specs.Section.{Section, placed_byte}
 use Rattle.kc_asm_module.specs.Order.{kept_of, pieces_of}
 use Rattle.kc_asm_module.specs.Publics.{is_same_name}
 
--- ---- octets
+-- ---- relocatable bytes
 
 -- the base of a value is a relocatable part or one of so many externals
 abbrev pub base_exists : ℕ → Base → Bool
@@ -53,7 +53,7 @@ AreRelocatableBytes externals (c ∷ cs) = (is_relocatable_byte externals c.relo
 
 -- ---- parts
 
--- octets and statements stand in code alone
+-- relocatable bytes and statements stand in code alone
 abbrev pub holds_code : Section → Bool
 holds_code t = (kind_number t.kind == 1) || ((length t.placed_bytes == 0) && (length t.marks == 0))
 
@@ -94,7 +94,7 @@ is_given_base (External external) = false
 abbrev pub is_public : Public → Bool
 is_public p = is_name p.name && not (is_stack_name p.name) && is_given_base p.value.base
 
--- ---- the whole draft
+-- ---- the whole unlinked module
 
 pub record IsUnlinkedModule (d : UnlinkedModule) : Type 0 where
   -- names are names; no public has the name of the stack, counts from an external, or has the name of another one

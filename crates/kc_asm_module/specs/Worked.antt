@@ -1,4 +1,4 @@
--- A worked draft: jumps to an external and to a number, words, reserved bytes, an absolute part, and an empty part that
+-- A worked unlinked module: jumps to an external and to a number, words, reserved bytes, an absolute part, and an empty part that
 -- a public names.
 use Rattle.std.specs.Prelude.{ℕ, false, Some, None, List, [], ◌∷◌, codes}
 use Rattle.kc_expr.specs.declared.values.Base.{Base}

@@ -44,7 +44,7 @@ fn is_based(base: Base, part: u16) -> bool
     base == Base::Piece(part)
 }
 
-// Whether an octet begins a relocation whose target is a relocatable part.
+// Whether a relocatable byte begins a relocation whose target is a relocatable part.
 fn aims(part: &Part, relocatable_byte: RelocatableByte, target: u16) -> bool
     ensures { result ≡ order.aims_at target (order.relocation part.now relocatable_byte) }
 {

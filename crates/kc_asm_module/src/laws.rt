@@ -2,7 +2,7 @@ ghost use Rattle.kc_asm_module.specs.Count.{FewPieces};
 ghost use Rattle.kc_asm_module.specs.Numbers.{AbsoluteAlike, NumbersStand};
 ghost use Rattle.kc_asm_module.specs.OneModule.{OneModule};
 
-/// A draft has at most one module: bytes and relocations place by place leave one list of each.
+/// An unlinked module has at most one module: bytes and relocations place by place leave one list of each.
 pub fn one_module()
     ensures { OneModule }
 {}

@@ -11,9 +11,9 @@ use kc_base::NoMemory;
 use kc_obj_module::Module;
 use std::alloc::Global;
 
-/// The module that the draft of a source without fault is. Its pieces are the relocatable parts that are nonempty or
+/// The module that the unlinked module of a source without fault is. Its pieces are the relocatable parts that are nonempty or
 /// named, by kind, then the stack where it has bytes, then the absolute parts. It has line entries. The work grows with the
-/// octets, the marks and the parts, and with the number of public names times its logarithm.
+/// relocatable bytes, the marks and the parts, and with the number of public names times its logarithm.
 pub fn module_of(alloc: Global, unlinked: UnlinkedModule) -> Result<Module, NoMemory>
     requires { IsUnlinkedModule unlinked }
     ensures { IfOk result (λ m. IsModuleOf unlinked m) }

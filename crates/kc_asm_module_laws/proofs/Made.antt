@@ -1,4 +1,4 @@
--- A text without a fault has statements, a draft and a module.
+-- A text without a fault has statements, an unlinked module and a module.
 use Rattle.std.proofs.Common.{◌≡◌, ℕ, suc, ◌+◌, ◌<◌, ◌≤◌, ◌^◌, true, List, [], ◌∷◌, ◌++◌, length, refl, sym, ap, ◌∙◌, arith}
 use Rattle.std.specs.Prelude.{None}
 use Rattle.std.proofs.lemmas.List.{length-map}
@@ -32,7 +32,7 @@ use Rattle.kc_asm_module_laws.proofs.Publics.{few_publics}
 small : (n m : ℕ) → n ≤ m → m ≤ 1000000 → n < 2 ^ 63
 small n m h k = omega (arith, h, k)
 
--- the statements of a text whose lines have no fault, and their draft
+-- the statements of a text whose lines have no fault, and their unlinked module
 pub record Collected (text : List ℕ) : Type 0 where
   pub stmts : List Stmt
   pub said : AreSaid text stmts

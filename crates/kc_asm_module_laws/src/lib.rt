@@ -9,8 +9,8 @@ use kc_link_laws::{placed_have_image, placed_have_lines};
 use kc_macro::laws::expansion_ends;
 use kc_source::names_are_clear;
 
-/// A text without a fault has a module: there are statements that its lines say, a draft that they are, and the module
-/// of that draft.
+/// A text without a fault has a module: there are statements that its lines say, an unlinked module that they are, and the module
+/// of that unlinked module.
 pub fn texts_have_modules()
     ensures { TextsHaveModules }
 {

@@ -1,5 +1,5 @@
 -- Faults of operands: 10 where the number of a bit or of shifts is not fixed; 12 where a bit is over 7, a count over 15, or where
--- S has a pointer or an index whose number is odd or that is an external: the low bit of such a byte tells the modes apart, and
+-- S has a pointer or an index whose number is odd or that is an external: the low bit of such a byte reports the modes apart, and
 -- of an external nobody knows it (after the MCS-96 Macro Assembler User's Guide, "Operands"; the codes are this kit's own).
 use Rattle.std.specs.Prelude.{ℕ, not, ◌%◌, ◌==◌, ◌||◌, nat_lt, if◌then◌else◌, Option, Some, None, List, [], ◌∷◌}
 use Rattle.kc_expr.specs.declared.values.Value.{Value}

@@ -1,4 +1,4 @@
--- The opcode of an instruction as it is written: told from the instruction table alone. It is the first opcode, of those
+-- The opcode of an instruction as it is written: reported from the instruction table alone. It is the first opcode, of those
 -- behind FEH where no other is, whose row has the mnemonic, as many operands, and the mode of S or the number of the bit
 -- in its low bits (80C196KC User's Manual, "Opcode Map").
 use Rattle.std.specs.Prelude.{ℕ, Bool, false, ◌-◌, ◌%◌, ◌==◌, ◌&&◌, Option, Some, None, List, length}

@@ -6,7 +6,7 @@ use crate::word::Word;
 use kc_expr::{Tag, Value, fixed, is_fixed};
 
 /// An operand as it is written: `x`, `#x`, `[reg]`, `[reg]+` or `x[reg]`. `None` stands for an expression without a value,
-/// whose fault is told elsewhere. (MCS-96 Macro Assembler User's Guide, "Operands".)
+/// whose fault is reported elsewhere. (MCS-96 Macro Assembler User's Guide, "Operands".)
 #[derive(Clone, Copy, PartialEq, Eq)]
 pub enum Argument {
     Plain(Option<Value>),

@@ -1,4 +1,4 @@
--- The numbers of an outline are bounded.
+-- The numbers of a table of sizes are bounded.
 use Rattle.std.proofs.Common.{◌≡◌, ℕ, zero, suc, ◌+◌, ◌<◌, ◌≤◌, ◌^◌, Bool, true, false, cond, ◌&&◌, List, [], ◌∷◌, length, refl, arith}
 use Rattle.std.specs.Prelude.{◌==◌, nat_le, Option, Some, None, All, slice_index_or}
 use Rattle.kc_obj_module.specs.declared.parts.SegKind.{SegKind}

@@ -90,7 +90,7 @@ extent_of_body lengths look own form here (trees.Equ name x) = refl
 extent_of_body lengths look own form here (trees.Set name x) = refl
 extent_of_body lengths look own form here trees.End = refl
 
--- ---- fixed numbers: those of ORG tell that they are the same over names that are alike
+-- ---- fixed numbers: those of ORG report that they are the same over names that are alike
 
 abbrev place_in : Extent → Option ℕ
 place_in (extent.Bytes n) = None

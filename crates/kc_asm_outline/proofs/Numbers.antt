@@ -1,4 +1,4 @@
--- The pieces of an outline are numbered as they are opened.
+-- The pieces of a table of sizes are numbered as they are opened.
 use Rattle.std.proofs.Common.{◌≡◌, ℕ, ◌+◌, Bool, true, false, cond, ◌&&◌, ◌||◌, List, [], ◌∷◌, refl, eq-eqb}
 use Rattle.std.specs.Prelude.{◌==◌, nat_le, Option, Some, None}
 use Rattle.kc_obj_module.specs.declared.parts.SegKind.{SegKind}

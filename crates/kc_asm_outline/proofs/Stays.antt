@@ -1,4 +1,4 @@
--- A note is that of its statement wherever the statements stand.
+-- A size record is that of its statement wherever the statements stand.
 use Rattle.std.proofs.Common.{◌≡◌, ℕ, zero, suc, ◌+◌, List, [], ◌∷◌, ◌++◌, map, reverse, length, get_or, true, false, Bool, cond, refl, sym, ap, subst, ◌∙◌, append_assoc, arith}
 use Rattle.std.specs.Prelude.{Some, None, slice_get}
 use Rattle.std.proofs.lemmas.List.{reverse-append, length-reverse, length-map, map-append}
@@ -24,14 +24,14 @@ use Rattle.kc_asm_outline.specs.StatementSizes.{at_zero, on_its_own, opens, size
 use Rattle.kc_asm_outline.specs.Laws.{extent_in, SizesStay}
 use Rattle.kc_asm_outline.proofs.Extents.{extent_of_body, opens_stay}
 
--- ---- a note among the notes
+-- ---- a size record among the size records
 
 -- a statement in the middle of others, the latest before it first
 pub record IsSplit (all before : List Located) (l : Located) : Type 0 where
   pub after : List Located
   pub whole : all ≡ reverse before ++ l ∷ after
 
--- the statement of the note with a number, in both choices of places
+-- the statement of the size record with a number, in both choices of places
 pub record Noted (zeros owns : List Located) (number : ℕ) (n : SizeRecord) : Type 0 where
   pub before : List Located
   pub passed : List Located

@@ -40,7 +40,7 @@ own_more i g ss vs ws v within is grown so_far =
           (subst (λ (rest : List Stmt). vs ++ place_values (located_from on_its_own i g rest) ≡ all) f.1 so_far),
     )
 
--- ---- the notes
+-- ---- the size records
 
 abbrev pub zeros_from : ℕ → Segment → List Stmt → List Located
 zeros_from i g ss = located_from at_zero i g ss
@@ -57,7 +57,7 @@ no_size_record : (zeros owns before passed ms : List Located) → size_records_f
 unfolding size_records_from
 no_size_record zeros owns before passed ms = refl
 
--- the statements that both walks have passed, the latest first, and the notes of those that are left
+-- the statements that both walks have passed, the latest first, and the size records of those that are left
 pub record Walked (look own : Meanings) (size_records : List SizeRecord) (i : ℕ) (g : Segment) (stmts rest : List Stmt) : Type 0 where
   pub before : List Located
   pub passed : List Located
@@ -75,7 +75,7 @@ walk_starts look own size_records g stmts none first look_is own_is = record {
   so_far = λ j. none j ++ size_records_from (located_by at_zero stmts) (located_by on_its_own stmts) [] [] (zeros_from 0 (first j) stmts) (owns_from 0 (first j) stmts);
 }
 
--- one note more
+-- one size record more
 pub size_record_more : (zeros owns before passed : List Located) (size_records more : List SizeRecord) (i : ℕ) (g h : Segment) (s : Stmt) (rest : List Stmt) (n : SizeRecord) (all : List SizeRecord)
     → h ≡ segment_after g (action_tree s.action) → more ≡ size_records ++ n ∷ []
     → n ≡ size_record_of (meaning zeros before (located_at g (at_zero i g) s)) (meaning owns passed (located_at g (on_its_own i g) s)) (located_at g (at_zero i g) s)
@@ -127,7 +127,7 @@ walk_ends look own size_records i g stmts past w =
     ∙ ap (λ ls. size_records ++ size_records_from zeros owns w.before w.passed ls (owns_from i g (drop i stmts))) (sym (none_located at_zero i g) ∙ ap (zeros_from i g) (sym (drop_of_length-le stmts past)))
     ∙ w.so_far
 
--- ---- as many notes as statements
+-- ---- as many size records as statements
 
 count_from : (zeros owns before passed : List Located) (i : ℕ) (g : Segment) (ss : List Stmt)
     → length (size_records_from zeros owns before passed (zeros_from i g ss) (owns_from i g ss)) ≡ length ss

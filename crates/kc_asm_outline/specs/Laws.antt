@@ -1,4 +1,4 @@
--- The outline holds wherever statements stand.
+-- The table of sizes holds wherever statements stand.
 use Rattle.std.specs.Prelude.{◌≡◌, ℕ, List, ◌∷◌, ◌++◌, reverse, length, Some, slice_get}
 use Rattle.kc_source_statement.specs.declared.statement.Stmt.{Stmt}
 use Rattle.kc_asm_symbols.specs.Located.{Located, located}
@@ -23,7 +23,7 @@ extent_in form (body.Upto place) = extent.Upto place
 extent_in form body.Even = extent.Even
 extent_in form (body.Branch kind anchor) = extent.Bytes (branch_length kind form)
 
--- what a note says of a statement, with what names mean there
+-- what a size record says of a statement, with what names mean there
 pub record IsSizeRecordOf (n : SizeRecord) (all before : List Located) (l : Located) : Type 0 where
   pub segment : n.segment ≡ l.segment
   pub alignment : n.alignment ≡ alignment l.segment.kind l.action

@@ -1,4 +1,4 @@
--- What of a list of notes is so wherever it is the outline of a module: pieces are numbered as they are opened, a segment is
+-- What of a list of size records is so wherever it is the table of sizes of a module: pieces are numbered as they are opened, a segment is
 -- in force until another one is opened, and statements in code have the alignment 1 or 2 (after the MCS-96 Macro Assembler
 -- User's Guide, "Segments and the Location Counter").
 use Rattle.std.specs.Prelude.{◌≡◌, ℕ, ◌+◌, Bool, true, ◌&&◌, ◌||◌, not, ◌==◌, if◌then◌else◌, List, [], ◌∷◌, Option, Some, None}

@@ -1,5 +1,5 @@
--- The outline of a module: what of its statements tells where they stand. None of it depends on where they stand: so it is
--- told with all of them at 0. What the target of a generic branch counts from is told with each statement as a base of its
+-- The table of sizes of a module: what of its statements reports where they stand. None of it depends on where they stand: so it is
+-- reported with all of them at 0. What the target of a generic branch counts from is reported with each statement as a base of its
 -- own (after the MCS-96 Macro Assembler User's Guide, "Segments and the Location Counter" and "Generic Branches").
 use Rattle.std.specs.Prelude.{ℕ, List, [], ◌∷◌, Option, Some, None, unwrap_or, Ok, Err}
 use Rattle.std.specs.Int.{w16, cast_signed}

@@ -1,4 +1,4 @@
-//! The outline of a module.
+//! The table of sizes of a module.
 
 ghost use Rattle.std.specs.Prelude.{◌≡◌};
 ghost use Rattle.kc_asm_outline.specs.Bounds.{AreBounded};
@@ -6,7 +6,7 @@ ghost use Rattle.kc_asm_outline.specs.Bounds.{AreBounded};
 use crate::size_record::SizeRecord;
 use std::marker::Model;
 
-/// The outline of a module: a note for each of its statements, of which there are at most 65,536. The place of a statement is
+/// The table of sizes of a module: a size record for each of its statements, of which there are at most 65,536. The place of a statement is
 /// divisible by 4 at most, a statement goes on by at most 16,777,215 bytes, and the numbers of pieces are below 131,072.
 #[derive(Drop)]
 pub struct ModuleSizes {
@@ -26,7 +26,7 @@ impl Model for ModuleSizes {
 }
 
 impl ModuleSizes {
-    /// The outline that has these notes.
+    /// The table of sizes that has these size records.
     pub(crate) fn of(size_records: Vec<SizeRecord>) -> ModuleSizes
         requires { AreBounded size_records.items }
         ensures { result ≡ size_records.items }
@@ -34,7 +34,7 @@ impl ModuleSizes {
         ModuleSizes { size_records }
     }
 
-    /// The note of each statement.
+    /// The size record of each statement.
     pub fn size_records(&self) -> &[SizeRecord]
         ensures value { result.now ≡ self.now }
         ensures bounded { AreBounded self.now }

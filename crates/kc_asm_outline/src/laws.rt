@@ -4,7 +4,7 @@ use kc_asm_emission::extents_stay;
 use kc_asm_encoding::laws::branches_have_lengths;
 use kc_asm_symbols::meanings_are_alike;
 
-/// Whatever places are chosen, the note of a statement has its segment, what its place is divisible by, how far it goes on
+/// Whatever places are chosen, the size record of a statement has its segment, what its place is divisible by, how far it goes on
 /// in each form, and the address of the absolute piece that it opens.
 pub fn sizes_stay()
     ensures { SizesStay }
@@ -14,12 +14,12 @@ pub fn sizes_stay()
     branches_have_lengths();
 }
 
-/// An outline has a note for each statement.
+/// A table of sizes has a size record for each statement.
 pub fn sizes_have_lengths()
     ensures { SizesHaveLengths }
 {}
 
-/// The pieces of an outline are numbered as they are opened, a segment is in force until another one is opened, and in code
+/// The pieces of a table of sizes are numbered as they are opened, a segment is in force until another one is opened, and in code
 /// places are divisible by 1 or 2.
 pub fn sizes_are_numbered()
     ensures { SizesAreNumbered }

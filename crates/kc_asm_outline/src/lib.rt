@@ -1,4 +1,4 @@
-//! The outline of a module: what of its statements tells where they stand, wherever that is.
+//! The table of sizes of a module: what of its statements reports where they stand, wherever that is.
 #![tactic(auto)]
 
 mod anchors;

@@ -20,7 +20,7 @@ pub enum Body {
     Branch { kind: BranchKind, anchor: Anchor },
 }
 
-/// What of a statement tells where statements stand: the segment in force, what its place is divisible by, how far it goes
+/// What of a statement reports where statements stand: the segment in force, what its place is divisible by, how far it goes
 /// on, and the address of the absolute piece that it opens, if it opens one.
 #[derive(Clone, Copy, PartialEq, Eq)]
 pub struct SizeRecord {

@@ -76,7 +76,7 @@ fn body_in<S: Scope, T: Scope>(
     }
 }
 
-/// The note of a statement in a segment, over what names mean with all statements at 0, and with each as a base of its own.
+/// The size record of a statement in a segment, over what names mean with all statements at 0, and with each as a base of its own.
 pub(crate) fn size_record_of<S: Scope, T: Scope>(
     alloc: Global,
     segment: Segment,

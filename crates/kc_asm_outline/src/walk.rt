@@ -52,7 +52,7 @@ fn owns(alloc: Global, stmts: &[Stmt]) -> Result<Vec<Value>, NoMemory>
     Ok(values)
 }
 
-/// The outline of a module: a note for each of its statements, of which there are at most 65,536, where `names` are its
+/// The table of sizes of a module: a size record for each of its statements, of which there are at most 65,536, where `names` are its
 /// names. It is the same wherever the statements stand. (MCS-96 Macro Assembler User's Guide, "Segments and the
 /// Location Counter" and "Generic Branches".)
 pub fn statement_sizes(

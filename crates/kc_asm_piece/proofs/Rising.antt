@@ -56,10 +56,10 @@ module _ (size : ℕ) (placed_bytes : List PlacedByte) (marks : List Mark) (is :
   pub section_skipped : (count : ℕ) → size + count ≤ 65536 → (leb (size + count) 65536 && rise 0 (placed_byte_offsets placed_bytes) (size + count) && rise 0 (mark_offsets marks) (size + count)) ≡ true
   section_skipped count le = three _ _ _ (le_room size count le) (rise_more 0 (placed_byte_offsets placed_bytes) size (size + count) (omega arith) rising.0) (rise_more 0 (mark_offsets marks) size (size + count) (omega arith) rising.1)
 
-  -- one more octet
+  -- one more relocatable byte
   pub section_put : (c : PlacedByte) → size < 65536 → c.offset ≡ size → (leb (size + 1) 65536 && rise 0 (placed_byte_offsets (placed_bytes ++ c ∷ [])) (size + 1) && rise 0 (mark_offsets marks) (size + 1)) ≡ true
   section_put c lt e = three _ _ _ (le_room size 1 (omega arith)) (placed_bytes_push c e) (rise_more 0 (mark_offsets marks) size (size + 1) (omega arith) rising.1)
 
-  -- one more octet, of a new statement
+  -- one more relocatable byte, of a new statement
   pub section_begun : (c : PlacedByte) (m : Mark) → size < 65536 → c.offset ≡ size → m.offset ≡ size → (leb (size + 1) 65536 && rise 0 (placed_byte_offsets (placed_bytes ++ c ∷ [])) (size + 1) && rise 0 (mark_offsets (marks ++ m ∷ [])) (size + 1)) ≡ true
   section_begun c m lt e d = three _ _ _ (le_room size 1 (omega arith)) (placed_bytes_push c e) (marks_push m d)

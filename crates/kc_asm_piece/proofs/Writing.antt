@@ -1,4 +1,4 @@
--- What stands in a piece after octets were written at its end.
+-- What stands in a piece after relocatable bytes were written at its end.
 use Rattle.std.proofs.Common.{◌≡◌, ℕ, ◌+◌, ◌-◌, ◌<◌, ◌≤◌, Bool, true, false, ◌&&◌, eqb, ltb, leb, if◌then◌else◌, Option, Some, None, List, [], ◌∷◌, ◌++◌, length, suc, refl, sym, ap, ◌∙◌, append_assoc, arith}
 use Rattle.std.specs.List.{slice_get, list_all}
 use Rattle.std.proofs.lemmas.List.{append-nil}
@@ -10,7 +10,7 @@ use Rattle.kc_asm_piece.specs.declared.part.Mark.{Mark}
 use Rattle.kc_asm_piece.specs.Section.{Section, section_of, rise, is_section, placed_byte_at, placed_byte, mark, put, laid, begun, placed_byte_offsets, mark_offsets}
 use Rattle.kc_asm_piece.specs.Writing.{IsLonger, WrittenStands, PutStands}
 
--- octets one after the other from an offset on
+-- relocatable bytes one after the other from an offset on
 abbrev numbered : ℕ → List RelocatableByte → List PlacedByte
 numbered n [] = []
 numbered n (o ∷ os) = placed_byte n o ∷ numbered (n + 1) os
@@ -81,7 +81,7 @@ behind_placed_bytes (c ∷ cs) os n i h =
     by true h false k l = absurd (within c.offset n i h k l)
     by false h t k l = refl
 
--- ---- the cells of a piece stand below its length
+-- ---- the placed bytes of a piece stand below its length
 
 end_of : (from : ℕ) (os : List ℕ) (to : ℕ) → rise from os to ≡ true → from ≤ to
 unfolding rise

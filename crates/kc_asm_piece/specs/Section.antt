@@ -1,4 +1,4 @@
--- A piece of a module while it is written: octets at some of its offsets
+-- A piece of a module while it is written: relocatable bytes at some of its offsets
 -- (after the MCS-96 Macro Assembler User's Guide, "Program Segments").
 use Rattle.std.specs.Prelude.{ℕ, Bool, ◌+◌, ◌==◌, ◌&&◌, nat_le, if◌then◌else◌, Option, Some, None, List, [], ◌∷◌, ◌++◌, map}
 use Rattle.kc_obj_module.specs.declared.parts.SegKind.{SegKind}
@@ -6,7 +6,7 @@ use Rattle.kc_asm_bytes.specs.declared.relocatable_byte.RelocatableByte.{Relocat
 use Rattle.kc_asm_piece.specs.declared.part.PlacedByte.{PlacedByte}
 use Rattle.kc_asm_piece.specs.declared.part.Mark.{Mark}
 
--- what is reserved or passed over has no cell; a mark tells where the octets of a statement begin
+-- what is reserved or passed over has no placed byte; a mark reports where the relocatable bytes of a statement begin
 pub record Section : Type 0 where
   pub kind : SegKind
   pub at : Option ℕ
@@ -28,7 +28,7 @@ placed_byte_offsets placed_bytes = map (λ c. c.offset) placed_bytes
 abbrev pub mark_offsets : List Mark → List ℕ
 mark_offsets marks = map (λ m. m.offset) marks
 
--- cells and marks stand within the length, one at an offset
+-- placed bytes and marks stand within the length, one at an offset
 abbrev pub is_section : Section → Bool
 is_section t = nat_le t.length 65536 && rise 0 (placed_byte_offsets t.placed_bytes) t.length && rise 0 (mark_offsets t.marks) t.length
 
@@ -61,12 +61,12 @@ unfoldable pub laid : List RelocatableByte → Section → Section
 laid [] t = t
 laid (o ∷ os) t = laid os (put o t)
 
--- the first octet of the statement on a line
+-- the first relocatable byte of the statement on a line
 abbrev pub begun : ℕ → RelocatableByte → Section → Section
 begun line relocatable_byte t =
     section_of t.kind t.at (t.length + 1) (t.placed_bytes ++ placed_byte t.length relocatable_byte ∷ []) (t.marks ++ mark t.length line ∷ [])
 
--- all octets of the statement on a line
+-- all relocatable bytes of the statement on a line
 abbrev pub written : ℕ → List RelocatableByte → Section → Section
 written line [] t = t
 written line (o ∷ os) t = laid os (begun line o t)

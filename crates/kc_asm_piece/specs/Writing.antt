@@ -1,17 +1,17 @@
--- What stands in a piece after octets were written at its end.
+-- What stands in a piece after relocatable bytes were written at its end.
 use Rattle.std.specs.Prelude.{◌≡◌, ℕ, true, ◌+◌, ◌-◌, nat_lt, if◌then◌else◌, List, [], ◌∷◌, ◌++◌, length, slice_get}
 use Rattle.kc_asm_bytes.specs.declared.relocatable_byte.RelocatableByte.{RelocatableByte}
 use Rattle.kc_asm_piece.specs.declared.part.Mark.{Mark}
 use Rattle.kc_asm_piece.specs.Section.{Section, is_section, relocatable_byte_at, mark, put, written}
 
--- the octets stand one after the other behind what stood
+-- the relocatable bytes stand one after the other behind what stood
 pub record IsLonger (t : Section) (relocatable_bytes : List RelocatableByte) (u : Section) : Type 0 where
   pub kind : u.kind ≡ t.kind
   pub at : u.at ≡ t.at
   pub size : u.length ≡ t.length + length relocatable_bytes
   pub stand : (i : ℕ) → relocatable_byte_at u i ≡ (if nat_lt i t.length then relocatable_byte_at t i else slice_get relocatable_bytes (i - t.length))
 
--- a statement with octets has one mark more
+-- a statement with relocatable bytes has one mark more
 abbrev pub marks_after : ℕ → List RelocatableByte → Section → List Mark
 marks_after line [] t = t.marks
 marks_after line (o ∷ os) t = t.marks ++ mark t.length line ∷ []

@@ -1,11 +1,11 @@
 ghost use Rattle.kc_asm_piece.specs.Writing.{PutStands, WrittenStands};
 
-/// The octets of a statement that is written stand behind what stood, and their line is marked where there are such.
+/// The relocatable bytes of a statement that is written stand behind what stood, and their line is marked where there are such.
 pub fn written_stands()
     ensures { WrittenStands }
 {}
 
-/// An octet that is put stands behind what stood.
+/// A relocatable byte that is put stands behind what stood.
 pub fn put_stands()
     ensures { PutStands }
 {}

@@ -14,7 +14,7 @@ pub struct PlacedByte {
     pub relocatable_byte: RelocatableByte,
 }
 
-/// The offset where the octets of the statement on a line begin.
+/// The offset where the relocatable bytes of the statement on a line begin.
 #[derive(Clone, Copy)]
 pub struct Mark {
     pub offset: u16,
@@ -95,7 +95,7 @@ impl Part {
         self.marks.as_slice()
     }
 
-    /// Puts an octet at the end. A refusal changes nothing.
+    /// Puts a relocatable byte at the end. A refusal changes nothing.
     pub fn push(&mut self, relocatable_byte: RelocatableByte) -> Result<(), NoMemory>
         requires { self.old.length < 65536 }
         ensures ok { OnOk result (self.new ≡ section.put relocatable_byte self.old) }
@@ -118,7 +118,7 @@ impl Part {
         self.size += count;
     }
 
-    // Puts the first octet of a statement at the end.
+    // Puts the first relocatable byte of a statement at the end.
     fn begin(&mut self, line: u32, relocatable_byte: RelocatableByte) -> Result<(), NoMemory>
         requires { self.old.length < 65536 }
         ensures { OnOk result (self.new ≡ section.begun line relocatable_byte self.old) }
@@ -133,7 +133,7 @@ impl Part {
         Ok(())
     }
 
-    // Puts octets at the end.
+    // Puts relocatable bytes at the end.
     #[tactic(auto, unfolding(crate::specs::Section::laid))]
     fn append(&mut self, relocatable_bytes: &[RelocatableByte]) -> Result<(), NoMemory>
         requires { self.old.length + length relocatable_bytes.now ≤ 65536 }
@@ -147,7 +147,7 @@ impl Part {
         Ok(())
     }
 
-    /// Puts the octets of the statement on a line at the end: the line is marked where there is at least one. After
+    /// Puts the relocatable bytes of the statement on a line at the end: the line is marked where there is at least one. After
     /// a refusal some of them may stand.
     pub fn write(
         &mut self,

@@ -1,4 +1,4 @@
--- Statements by rising line: those of a line stand at the front, where none before it is left.
+-- Statements by rising line: those of a line stand at the beginning, where none before it is left.
 use Rattle.std.proofs.Common.{◌≡◌, ℕ, suc, ◌+◌, ◌<◌, ◌≤◌, Bool, true, false, not, ◌&&◌, ◌==◌, List, [], ◌∷◌, length, take, drop, refl, sym, ap, ◌∙◌, None, arith}
 use Rattle.std.specs.Prelude.{nat_lt, if◌then◌else◌, slice_index_or}
 use Rattle.std.specs.List.{filter, prefix_len}

@@ -10,7 +10,7 @@ use Rattle.kc_obj_module.specs.Object.{Object}
 use Rattle.kc_asm_rows.specs.declared.spot.Spot.{Spot}
 use Rattle.kc_asm_rows.specs.RelocatableBytes.{relocatable_text, reported}
 
--- ---- the front of a row
+-- ---- the prefix of a row
 
 -- a number at the right of seven columns
 abbrev pub number_text : ℕ → List ℕ
@@ -57,7 +57,7 @@ filling_rows m s (suc n) = prefix s s.before ++ bytes_text m s 0 s.before (suc n
 abbrev pub filling_text : Object → Spot → List ℕ
 filling_text m s = filling_rows m s (reported m s s.before s.place)
 
--- ---- a statement: its place is told where it has a label or takes up room
+-- ---- a statement: its place is reported where it has a label or takes up room
 
 abbrev pub is_reported : Spot → Bool
 is_reported s = s.labelled || nat_lt s.before s.after

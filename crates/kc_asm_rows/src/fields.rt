@@ -1,4 +1,4 @@
-//! The front of a row.
+//! The prefix of a row.
 
 ghost use Rattle.std.specs.Prelude.{◌≡◌, ◌++◌, replicate, OnOk};
 ghost use Rattle.kc_base.specs.Digits.{hex};
@@ -78,7 +78,7 @@ fn put_depth(text: &mut Vec<u8>, depth: usize) -> Result<(), NoMemory>
     Ok(())
 }
 
-/// Puts the front of a row behind a text: the line and the depth of a statement, the kind of its piece, and a place.
+/// Puts the prefix of a row behind a text: the line and the depth of a statement, the kind of its piece, and a place.
 pub(crate) fn put_prefix(text: &mut Vec<u8>, spot: &Spot, place: u64) -> Result<(), NoMemory>
     ensures { OnOk result (text.new.items ≡ text.old.items ++ spec.prefix spot.now place) }
 {

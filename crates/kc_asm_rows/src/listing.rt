@@ -44,7 +44,7 @@ fn prefix_count(spots: &[Spot], line: u32) -> usize
     spots.iter().take_while(|s| s.line == line).count()
 }
 
-// How many statements at the front are on a line, where none before it is left.
+// How many statements at the beginning are on a line, where none before it is left.
 fn count_on(spots: &[Spot], line: u32) -> usize
     requires { Rises line spots.now }
     ensures within { result ≤ length spots.now }
@@ -95,7 +95,7 @@ fn rows_of(
 /// The listing of a source of at most 1,048,576 bytes, whose module and statements are these, in the order in which they
 /// come out: for each of its lines the number, and from column 42 on the text. Where the line is a statement, its place and
 /// up to eight bytes stand between, further ones in rows behind; a statement that a macro, REPT or IRP makes of the line
-/// stands behind it, with `+` and its depth, as `+1` or `+2`. A place is told where the statement has a label or takes up room: the kind of its piece (`R`
+/// stands behind it, with `+` and its depth, as `+1` or `+2`. A place is reported where the statement has a label or takes up room: the kind of its piece (`R`
 /// registers, `C` code, `D` data), `'` where it counts from the base of a relocatable piece, and four hexadecimal digits. A
 /// byte that a relocation fills in stands behind `*`. Bytes that lead on to an even place stand in a row before.
 ///

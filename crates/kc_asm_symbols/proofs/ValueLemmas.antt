@@ -72,7 +72,7 @@ listed_from vs i g (s ∷ ss) long =
 pub listed_values : (vs : List Value) (ss : List Stmt) → length vs ≡ length ss → place_values (located_by (listed vs) ss) ≡ vs
 listed_values vs ss long = listed_from vs 0 first_segment ss (omega (arith, long))
 
--- ---- the values tell where statements stand
+-- ---- the values report where statements stand
 
 head_same : (v w : Value) (vs ws : List Value) → v ∷ vs ≡ w ∷ ws → v ≡ w
 head_same v w vs ws e = cc

@@ -75,7 +75,7 @@ pub record Located : Type 0 where
 abbrev pub located_at : Segment → Value → Stmt → Located
 located_at g value s = record { line = s.line; label = s.label; action = action_tree s.action; segment = g; here = value }
 
--- the statements from one on, where the values of all places are told by the numbers of the statements and their segments
+-- the statements from one on, where the values of all places are given by the numbers of the statements and their segments
 unfoldable pub located_from : (ℕ → Segment → Value) → ℕ → Segment → List Stmt → List Located
 located_from values i g [] = []
 located_from values i g (s ∷ ss) = located_at g (values i g) s ∷ located_from values (i + 1) (segment_after g (action_tree s.action)) ss

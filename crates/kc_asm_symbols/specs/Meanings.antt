@@ -1,5 +1,5 @@
 -- What names mean at a statement. EQU and SET use names of earlier lines and any labels; every other statement uses all
--- names of the module, and of a name that SET defines the latest value before it. A fault of a definition is told there
+-- names of the module, and of a name that SET defines the latest value before it. A fault of a definition is reported there
 -- alone: at a use the name has no value, but that is no fault (after the MCS-96 Macro Assembler User's Guide, "EQU and SET").
 use Rattle.std.specs.Prelude.{ℕ, Bool, true, false, ◌||◌, if◌then◌else◌, List, [], ◌∷◌, reverse, Option, Some, None, Ok, Err}
 use Rattle.std.specs.List.{list_any}

@@ -1,4 +1,4 @@
--- What the passes over lines and statements make sure of, so that an object can tell each statement: it has the number of a line,
+-- What the passes over lines and statements make sure of, so that an object can report each statement: it has the number of a line,
 -- its names are names of an object, and instructions and data stand in segments of code (after the MCS-96 Macro Assembler User's
 -- Guide, "Symbols" and "Segments and the Location Counter").
 use Rattle.std.specs.Prelude.{◌≡◌, ℕ, Bool, true, false, not, ◌&&◌, ◌||◌, nat_lt, List, ◌++◌}

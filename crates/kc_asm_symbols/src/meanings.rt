@@ -49,7 +49,7 @@ fn through(
 
 /// What names mean at each statement of a module, in a walk over the statements, which enters each and leaves it. In the
 /// statement where it is, a name answers its value, or why it has none: it is not defined where it means nothing there, and
-/// the fault is told elsewhere where its own definition has one. EQU and SET use names of earlier lines and any labels, other
+/// the fault is reported elsewhere where its own definition has one. EQU and SET use names of earlier lines and any labels, other
 /// statements all names of the module, and of a name that SET defines the latest value before them. (MCS-96 Macro Assembler
 /// User's Guide, "EQU and SET".)
 #[derive(Drop)]
@@ -122,7 +122,7 @@ impl Meanings {
     }
 
     /// What a name means by all statements, as a public name does: its value, or that it is not defined, or that its
-    /// definition has a fault, which is told there.
+    /// definition has a fault, which is reported there.
     pub fn last(&self, name: &[u8]) -> Result<Value, NoValue>
         ensures { (all before : List Located) → IsBehind self.now all before → result ≡ spec.in_all all name.now }
     {

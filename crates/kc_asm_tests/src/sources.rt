@@ -15,7 +15,7 @@ fn joined(alloc: Global, source: &[&str]) -> Result<String, NoMemory> {
     Ok(text)
 }
 
-/// The outline of a source of these lines, if its lines and its names have no fault.
+/// The table of sizes of a source of these lines, if its lines and its names have no fault.
 pub(crate) fn sizes_of(alloc: Global, source: &[&str]) -> Option<ModuleSizes> {
     let text = joined(alloc, source).ok()?;
     if text.len() > 60000 {

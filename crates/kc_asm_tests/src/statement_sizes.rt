@@ -1,4 +1,4 @@
-// What statements are to the steps behind the outline.
+// What statements are to the steps behind the table of sizes.
 use crate::sources::sizes_of;
 use kc_asm_outline::{Anchor, Body, opens};
 use kc_asm_symbols::Segment;

@@ -32,7 +32,7 @@ fn said(alloc: Global, text: &str) -> Option<Action> {
     read_statement(alloc, tokens).ok()?.ok()
 }
 
-/// Names that all have a fault that is told elsewhere.
+/// Names that all have a fault that is reported elsewhere.
 struct Elsewhere;
 
 impl Scope for Elsewhere {

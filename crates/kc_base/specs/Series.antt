@@ -1,4 +1,4 @@
--- What holds over time, told by items that each come at a state time and bring a value (this kit's own).
+-- What holds over time, given by items that each come at a state time and bring a value (this kit's own).
 use Rattle.std.specs.Prelude.{ℕ, nat_le, List, [], ◌∷◌, filter}
 
 -- the items up to a state

@@ -143,7 +143,7 @@ pub enum PtsMode {
     Scan,
 }
 
-/// Memory was wanted and not had.
+/// There was no memory.
 #[derive(Clone, Copy, Debug, PartialEq, Eq)]
 pub struct NoMemory;
 

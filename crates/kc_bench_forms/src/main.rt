@@ -1,5 +1,5 @@
 //! Finds the forms of one long chain of branches, as many as its word says: `bench/run forms` measures by it how the work
-//! grows with the chain. Each round raises one branch, so that there are as many rounds as branches.
+//! grows with the chain. Each pass raises one branch, so that there are as many passes as branches.
 #![tactic(auto)]
 
 ghost use Rattle.std.specs.Prelude.{◌≤◌, IfSome};

@@ -10,7 +10,7 @@ use Rattle.kc_block_inputs.proofs.Leads.{leads_on}
 before_next : (time at : ℕ) → time ≡ at + 1 → time - 1 ≡ at
 before_next time at next = omega arith
 
--- what is told of the state whose Tick was the last, and of the units after it
+-- what is known of the state whose Tick was the last, and of the units after it
 pub there : {A X : Type 0} (reports : ℕ → Units X → A) (time at : ℕ) (u v : Units X) → time ≡ at + 1 → u ≡ v → reports (time - 1) u ≡ reports at v
 there reports time at u v next same = ap (λ t. reports t u) (before_next time at next) ∙ ap (reports at) same
 

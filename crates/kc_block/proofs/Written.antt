@@ -1,4 +1,4 @@
--- The kind that a refused write tells, and what a write leaves.
+-- The kind that a refused write reports, and what a write leaves.
 use Rattle.std.proofs.Common.{◌≡◌, Some, None, sym, ap}
 use Rattle.std.specs.Prelude.{Result, Ok, Err, IfErr, IfOk, OnOk}
 use Rattle.kc_base.specs.declared.types.Kind.{Kind}

@@ -1,4 +1,4 @@
--- A unit is brought to the present state, changed, and asked anew.
+-- A unit is caught up to the present state, changed, and rescheduled.
 use Rattle.std.proofs.Common.{◌≡◌, ℕ, ◌<◌, false, refl, sym, ◌∙◌, ap, subst, arith}
 use Rattle.kc_base.specs.Bits.{bit}
 use Rattle.kc_span.specs.Span.{IsDue, Counted}
@@ -19,14 +19,14 @@ use Rattle.kc_block_access.specs.Left.{AreSameBut, AreSameButTwo, AreGatedAlike}
 use Rattle.kc_block_access.proofs.Left.{unread_left, flag_left, hsi_left, further_left, hso_left, timers_left, gate_left}
 
 module _ {X : Type 0} (f : Further X) (agrees : ℕ → ℕ → X → Type 0) (plain : X → X) where
-  -- the lanes as they stand, and what they show
+  -- the deferred units as they stand, and what they show
   abbrev h : Scheduler X → scheduled.Scheduler X
   h a = standing plain a
 
   abbrev units : Scheduler X → ℕ → Units X
   units a now = shown_units f (standing plain a) now
 
-  -- lanes of the present state that show the same as others
+  -- deferred units of the present state that show the same as others
   pub record IsCaughtUp (a b : Scheduler X) (now : ℕ) : Type 0 where
     pub scheduled : IsScheduled f agrees (standing plain b) now
     pub shows : shown_units f (standing plain b) now ≡ shown_units f (standing plain a) now

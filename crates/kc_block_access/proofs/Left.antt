@@ -1,4 +1,4 @@
--- Proofs of what an access leaves of the lanes.
+-- Proofs of what an access leaves of the deferred units.
 use Rattle.std.proofs.Common.{◌≡◌, ℕ, zero, suc, ◌+◌, ◌-◌, ◌<◌, Bool, Some, None, refl, sym, ◌∙◌, ap, subst, arith, Option, bit_or, bit_xor}
 use Rattle.kc_base.specs.Bits.{bit}
 use Rattle.kc_span.specs.Span.{IsDue, QuietFor, after}

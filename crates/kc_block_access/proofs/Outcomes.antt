@@ -96,7 +96,7 @@ plain_unread s Ioc1 n plain = other plain
 plain_unread s Ioc2 n plain = other plain
 plain_unread s Ioc3 n plain = other plain
 
--- the profile of the lanes is that of the units that they show
+-- the profile of the deferred units is that of the units that they show
 pub profile_left : {X : Type 0} (f : Further X) (agrees : ℕ → ℕ → X → Type 0) (now : ℕ) (h : Scheduler X) (u : Units X) → IsLeft f agrees now h u →
     is_wsr u.board_registers.wsr ≡ true → is_wsr h.board_registers.wsr ≡ true
 profile_left f agrees now h u left is = ap (λ v. is_wsr v.board_registers.wsr) left.shows ∙ is

@@ -24,7 +24,7 @@ module _ {X : Type 0} (f : Further X) (agrees : ℕ → ℕ → X → Type 0) (t
       o ≡ refusal (even_word_written f t w u addr n)
   refused_high o low high = (λ j. first_refusal (low j) (high j)) ∙ sym asked
 
-  -- the low byte leaves lanes that show the units in which the high byte is written
+  -- the low byte leaves deferred units that show the units in which the high byte is written
   pub two_left : (now : ℕ) (mid new : Scheduler X) → IfOk (byte_written f t w u addr (n % 256)) (IsLeft f agrees now mid) →
       IfOk (byte_written f t w (shown_units f mid now) (addr + 1) (n / 256)) (IsLeft f agrees now new) → IfOk (even_word_written f t w u addr n) (IsLeft f agrees now new)
   two_left now mid new low high =

@@ -7,7 +7,7 @@ use Rattle.kc_block_spec.specs.declared.registers.WritableByte.TheVariants.{HsiM
 abbrev pub is_free : ℕ → Bool
 is_free sfr = (sfr == 0x00) || (sfr == 0x01) || (sfr == 0x08) || (sfr == 0x09) || (sfr == 0x12) || (sfr == 0x13) || (sfr == 0x14)
 
--- none for those, else four: two units are brought and asked
+-- none for those, else four: two units are caught up and asked
 abbrev pub byte_calls : ℕ → ℕ
 byte_calls sfr = if is_free sfr then 0 else 4
 

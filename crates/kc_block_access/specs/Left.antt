@@ -1,4 +1,4 @@
--- What an access leaves of the lanes: those that it concerns stand in the present state, with its data and with the due states
+-- What an access leaves of the deferred units: those that it concerns stand in the present state, with its data and with the due states
 -- that were asked there; the others stay (this kit's own).
 use Rattle.std.specs.Prelude.{◌≡◌, ◌≢◌, ℕ, ◌<◌, Bool}
 use Rattle.kc_base.specs.Bits.{bit}
@@ -93,7 +93,7 @@ module _ {X : Type 0} (f : Further X) (agrees : ℕ → ℕ → X → Type 0) wh
       at_slot times 6 ≡ wire_slot now (levels_ahead (record h { board_registers = s }) now) h.board_registers.levels →
       IsLeft f agrees now (record h { board_registers = s; flag = deferred_at now b; due = times }) (record (shown_units f h now) { board_registers = s })
 
--- What units that stand earlier tell of the present state. HSI is as it stands; of Timer 2 the capture, and its value by its
+-- What units that stand earlier report of the present state. HSI is as it stands; of Timer 2 the capture, and its value by its
 -- view; of HSO all but done marks.
 pub record ReportsShown {X : Type 0} (h : Scheduler X) (now : ℕ) : Type 0 where
   pub hsi : shown hsi_rule h.hsi now ≡ h.hsi.kept

@@ -1,4 +1,4 @@
-//! What accesses do to the units that they concern: those are brought to the present state, changed, and asked anew when they
+//! What accesses do to the units that they concern: those are caught up to the present state, changed, and rescheduled when they
 //! are due.
 ghost use Rattle.std.specs.Prelude.{◌≡◌, ◌≢◌, ℕ, ◌+◌, ◌-◌, ◌*◌, ◌≤◌, ◌<◌, ◌^◌, false, None};
 ghost use Rattle.kc_base.specs.Bits.{bit as bit_of};

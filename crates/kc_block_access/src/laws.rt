@@ -2,7 +2,7 @@ ghost use Rattle.kc_block_access.specs.Left.{UnreadLeft, FlagLeft, HsiLeft, Furt
 
 use kc_extra::Extra;
 
-/// What an access leaves of the lanes shows the units that the access leaves, and needs no other due state asked.
+/// What an access leaves of the deferred units shows the units that the access leaves, and needs no other due state asked.
 pub fn what_is_left_is_scheduled<X: Extra>()
     ensures unread { UnreadLeft X.further X.agrees }
     ensures flag { FlagLeft X.further X.agrees }
@@ -14,7 +14,7 @@ pub fn what_is_left_is_scheduled<X: Extra>()
     ensures gate { GateLeft X.further X.agrees }
 {}
 
-/// What units that stand earlier tell of the present state, without being moved.
+/// What units that stand earlier report of the present state, without being moved.
 pub fn standing_units_report_what_is_shown<X: Extra>()
     ensures { StandingReports X.further X.agrees }
 {}

@@ -1,5 +1,5 @@
 //! Accesses of the special function registers below 0018H, each master's alike: which units an access brings to the present
-//! state, what it does to them, and which due states it asks anew.
+//! state, what it does to them, and which due states it reschedules.
 #![tactic(auto)]
 
 mod acting;

@@ -4,7 +4,7 @@ ghost use Rattle.kc_block_spec.specs.Registers.{row_at, bytes_read, bytes_read_e
 
 use kc_block_spec::{ReadableByte, ReadableWord, Window, WritableByte, WritableWord};
 
-/// The window's number, as a further unit is told it.
+/// The window's number, as a further unit is given it.
 pub(crate) fn number(window: Window) -> u8
     ensures { result ≡ window_number window }
 {

@@ -1,4 +1,4 @@
--- The lanes after an event, from what was asked.
+-- The deferred units after an event, from what was asked.
 use Rattle.std.proofs.Common.{◌≡◌, ℕ, ◌+◌, ◌<◌, ◌≤◌, Bool, true, false, sym, ◌∙◌, ap, subst, arith, inl, inr}
 use Rattle.std.proofs.lemmas.Bool.{cases_Bool}
 use Rattle.kc_due.specs.Due.{Times, at_slot}
@@ -14,7 +14,7 @@ use Rattle.kc_block_event.specs.declared.asks.Touched.{Touched}
 use Rattle.kc_block_event.specs.Asking.{AreAskedWhere}
 use Rattle.kc_block_event.specs.Ticking.{touched_by}
 
--- a lane after the Tick of a state does not stand after the next
+-- a deferred unit after the Tick of a state does not stand after the next
 pub not_after : {D : Type 0} (on : Bool) (now : ℕ) (d : D) (deferred : DeferredUnit D) → deferred.at ≤ now → (moved_deferred on now d deferred).at ≤ now + 1
 not_after true now d deferred le = omega arith
 not_after false now d deferred le = omega arith

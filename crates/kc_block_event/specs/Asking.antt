@@ -1,4 +1,4 @@
--- The slots after an event: those of touched units asked anew, the others as they were (this kit's own).
+-- The slots after an event: those of touched units rescheduled, the others as they were (this kit's own).
 use Rattle.std.specs.Prelude.{◌≡◌, ℕ, ◌≤◌, true, false}
 use Rattle.kc_due.specs.Due.{Times, at_slot}
 use Rattle.kc_stim.specs.Drives.{IsNextEdge}

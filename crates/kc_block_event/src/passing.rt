@@ -15,7 +15,7 @@ use kc_extra::Extra;
 use std::sync::ledger::Ledger;
 
 /// The Tick of state `now`, and its edges. Only the units that it touches are called, each three times at most: they are
-/// brought there, ticked, and asked anew.
+/// caught up there, ticked, and rescheduled.
 #[inline(never)]
 #[cold]
 pub fn pass<X: Extra, O: EdgeOut, L: Ledger>(

@@ -21,7 +21,7 @@ use kc_hsi::HsiOut;
 use kc_timers::T2Out;
 use std::sync::ledger::Ledger;
 
-/// What the units give in a Tick: which of them it touches, the command that fired, what Timer 2 and HSI tell, and what the
+/// What the units give in a Tick: which of them it touches, the command that fired, what Timer 2 and HSI report, and what the
 /// further unit raises.
 #[derive(Clone, Copy)]
 pub(crate) struct Given {
@@ -130,7 +130,7 @@ fn tick_scheduler<X: Extra, O: EdgeOut, L: Ledger>(
     }
 }
 
-/// The Tick of state `now` of all units that it touches, and of the data beside them; no unit is asked yet. Tells what it
+/// The Tick of state `now` of all units that it touches, and of the data beside them; no unit is asked yet. Reports what it
 /// touches.
 pub(crate) fn tick_all<X: Extra, O: EdgeOut, L: Ledger>(
     scheduler: &mut Scheduler<X>,

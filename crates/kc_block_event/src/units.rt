@@ -1,4 +1,4 @@
-// The Tick of each unit, where it is touched: it is brought to the state, and ticked.
+// The Tick of each unit, where it is touched: it is caught up to the state, and ticked.
 ghost use Rattle.std.specs.Prelude.{◌≡◌, ℕ, ◌+◌, ◌-◌, ◌*◌, ◌≤◌, ◌^◌, if◌then◌else◌, None, [], false};
 ghost use Rattle.kc_base.specs.Bits.{bit};
 ghost use Rattle.kc_span.specs.Span.{QuietFor};

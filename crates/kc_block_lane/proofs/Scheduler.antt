@@ -1,4 +1,4 @@
--- Proofs of the laws of lanes, and two laws of due states.
+-- Proofs of the laws of deferred units, and two laws of due states.
 use Rattle.std.proofs.Common.{not, ◌≡◌, ℕ, ◌+◌, ◌-◌, ◌<◌, ◌≤◌, ◌==◌, true, false, Option, Some, None, refl, sym, ◌∙◌, ap, subst, arith, inl, inr}
 use Rattle.std.proofs.lemmas.Bool.{false≢true, cases_eq, eq-eqb, ne_eqb, not_from_false, not_from_true}
 use Rattle.kc_span.specs.Span.{Rule, after, QuietFor, IsDue}

@@ -11,11 +11,11 @@ pub record DeferredUnit (D : Type 0) : Type 0 where
 abbrev pub shown : {D : Type 0} → Rule D → DeferredUnit D → ℕ → D
 shown rule deferred t = after rule deferred.at (t - deferred.at) deferred.kept
 
--- a lane that stands at a state
+-- a deferred unit that stands at a state
 abbrev pub deferred_at : {D : Type 0} → ℕ → D → DeferredUnit D
 deferred_at at kept = record { at = at; kept = kept }
 
--- the lane brought forward to the present state
+-- the deferred unit caught up forward to the present state
 abbrev pub caught_up_to : {D : Type 0} → Rule D → ℕ → DeferredUnit D → DeferredUnit D
 caught_up_to rule now deferred = deferred_at now (shown rule deferred now)
 
@@ -24,7 +24,7 @@ abbrev pub is_due_in : ℕ → Option ℕ → Bool
 is_due_in t None = false
 is_due_in t (Some u) = u == t
 
--- a lane in the present state, and its due state as it was asked where the lane stands
+-- a deferred unit in the present state, and its due state as it was asked where the deferred unit stands
 pub record IsDeferred {D : Type 0} (rule : Rule D) (deferred : DeferredUnit D) (now : ℕ) (slot : Option ℕ) : Type 0 where
   pub first : deferred.at ≤ now
   pub due : IsDue rule deferred.at deferred.kept slot

@@ -1,16 +1,16 @@
-//! Units that stand each at a state of their own, while the board shows them all in the present state: what a lane is,
-//! and the laws by which it goes on, waits, is brought forward and asked anew. This crate holds definitions and their
+//! Units that stand each at a state of their own, while the board shows them all in the present state: what a deferred unit is,
+//! and the laws by which it goes on, waits, is caught up forward and rescheduled. This crate holds definitions and their
 //! laws alone.
 #![tactic(auto)]
 
 ghost use Rattle.kc_block_lane.specs.Laws.{Next, Calm, Event, Waits, Lent, CaughtUp, CaughtUpShows, Asked, AskedShows, Alike, AlikeShows, PassesOver};
 
-/// What is shown of a lane goes on by one Tick from state to state.
+/// What is shown of a deferred unit goes on by one Tick from state to state.
 pub fn next_state<D>()
     ensures { Next D }
 {}
 
-/// Before its due state each Tick of a lane is quiet.
+/// Before its due state each Tick of a deferred unit is quiet.
 pub fn calm_before_due<D>()
     ensures { Calm D }
 {}
@@ -30,19 +30,19 @@ pub fn lent_quietly<D>()
     ensures { Lent D }
 {}
 
-/// Brought forward to the present state, a lane keeps its due state: it is not asked anew.
+/// Caught up forward to the present state, a deferred unit keeps its due state: it is not rescheduled.
 pub fn caught_up_forward<D>()
     ensures due { CaughtUp D }
     ensures shows { CaughtUpShows D }
 {}
 
-/// What was asked in the present state makes a lane that stands there.
+/// What was asked in the present state makes a deferred unit that stands there.
 pub fn rescheduled<D>()
     ensures due { Asked D }
     ensures shows { AskedShows D }
 {}
 
-/// Rules that do the same from where a lane stands have the same lanes, and show the same of them.
+/// Rules that do the same from where a deferred unit stands have the same deferred units, and show the same of them.
 pub fn alike_rules<D>()
     ensures due { Alike D }
     ensures shows { AlikeShows D }

@@ -1,4 +1,4 @@
--- Lanes that all stand where they were asked.
+-- Deferred units that all stand where they were asked.
 use Rattle.std.proofs.Common.{◌≡◌, ℕ, ◌<◌, false, refl, sym, ◌∙◌, ap, subst, arith, Option, Some, None}
 use Rattle.std.specs.Prelude.{bit_or, bit_xor}
 use lib.Bits.{or_zero_r}

@@ -1,10 +1,10 @@
--- What the lanes are apart from how often their units were moved (this kit's own).
+-- What the deferred units are apart from how often their units were moved (this kit's own).
 use Rattle.std.specs.Prelude.{ℕ, ◌+◌}
 use Rattle.kc_block_lane.specs.DeferredUnit.{deferred_at}
 use Rattle.kc_block_lazy.specs.Scheduler as scheduled
 use Rattle.kc_block_lanes.specs.declared.scheduler.Scheduler.{Scheduler}
 
--- each lane with the data of its unit
+-- each deferred unit with the data of its unit
 abbrev pub standing : {X : Type 0} → (X → X) → Scheduler X → scheduled.Scheduler X
 standing plain h = record {
   drives = h.stimuli;

@@ -1,4 +1,4 @@
-// Units asked anew when they are next due, and the slots of stimuli and wires.
+// Units rescheduled when they are next due, and the slots of stimuli and wires.
 ghost use Rattle.std.specs.Prelude.{◌≡◌, ◌≢◌, ℕ, ◌*◌, ◌≤◌, ◌^◌, ◌+◌, ◌<◌, ◌==◌, not};
 ghost use Rattle.kc_span.specs.Span.{IsDue};
 ghost use Rattle.kc_due.specs.Due.{at_slot};

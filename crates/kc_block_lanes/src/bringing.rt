@@ -1,4 +1,4 @@
-// Units brought to the present state over quiet states.
+// Units caught up to the present state over quiet states.
 ghost use Rattle.std.specs.Prelude.{◌≡◌, ℕ, ◌*◌, ◌≤◌, ◌^◌, ◌+◌, ◌/◌, ◌<◌, Bool};
 ghost use Rattle.kc_span.specs.Span.{one_more};
 ghost use Rattle.kc_hsi.specs.Input.{hsi_rule};

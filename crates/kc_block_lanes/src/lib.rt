@@ -1,5 +1,5 @@
 //! The units of the board as the block keeps them: each at a state time of its own, beside the list of their due states.
-//! Here they are made, brought to the present state, and asked anew when they are next due.
+//! Here they are made, caught up to the present state, and rescheduled when they are next due.
 #![tactic(auto)]
 
 mod asking;

@@ -1,4 +1,4 @@
-// What is seen of the lanes without a call of a unit that counts.
+// What is seen of the deferred units without a call of a unit that counts.
 ghost use Rattle.std.specs.Prelude.{◌≡◌, ℕ, ◌*◌, ◌≤◌, ◌^◌, ◌+◌, ◌<◌, ◌&&◌, ◌||◌};
 ghost use Rattle.kc_base.specs.Bits.{bit};
 ghost use Rattle.kc_timers.specs.T2.{view_of};

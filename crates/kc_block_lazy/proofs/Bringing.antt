@@ -1,4 +1,4 @@
--- Units brought to the present state: the lanes are still those of the present, and show the same.
+-- Units caught up to the present state: the deferred units are still those of the present, and show the same.
 use Rattle.std.proofs.Common.{◌≡◌, ℕ, ◌-◌, ◌<◌, ◌≤◌, ◌||◌, false, not, refl, sym, ◌∙◌, ap, subst, arith, Option, Some}
 use Rattle.std.specs.Prelude.{bit_or, bit_xor}
 use Rattle.kc_span.specs.Span.{Rule, QuietFor, IsDue}
@@ -86,7 +86,7 @@ module _ {X : Type 0} (f : Further X) (agrees : ℕ → ℕ → X → Type 0) (k
   pub hso_caught_up_shows : shown_units f (record h { hso = caught_up_to (hso_goes h) now h.hso }) now ≡ shown_units f h now
   hso_caught_up_shows = same_units h.drives h.board_registers refl refl (caught_up_shows (hso_goes h) h.hso now now is.hso.first (omega arith)) refl refl
 
-  -- HSO has been brought before Timer 2, which it sees
+  -- HSO has been caught up before Timer 2, which it sees
   module _ (there : h.hso.at ≡ now) where
     same_line : AreAlike (hso_goes h) (hso_goes (record h { timer2 = caught_up_to (timer2_goes h) now h.timer2 })) h.hso.at
     same_line =

@@ -1,4 +1,4 @@
--- The lanes after an event are those of the next state.
+-- The deferred units after an event are those of the next state.
 use Rattle.std.proofs.Common.{◌≡◌, ℕ, ◌+◌, ◌<◌, ◌≤◌, ◌==◌, Bool, true, false, not, ◌&&◌, ◌||◌, refl, sym, ◌∙◌, ap, subst, arith, Option, bit_or, bit_xor, add-one}
 use Rattle.std.specs.Prelude.{if◌then◌else◌}
 use Rattle.std.proofs.lemmas.Bool.{or_parts, eqb-true, not-false, false≢true}
@@ -31,7 +31,7 @@ use Rattle.kc_block_lazy.proofs.Levels.{before-suc}
 use Rattle.kc_block_lazy.proofs.Rows.{value_fits, timer2_row, hso_row, hsi_row, further_row, flag_row}
 use Rattle.kc_block_lazy.proofs.Known.{further_agrees}
 
--- a lane that was asked, or is a row
+-- a deferred unit that was asked, or is a row
 row_either : {D : Type 0} (touched : Bool) (rule : Rule D) (now : ℕ) (deferred : DeferredUnit D) (old new : Option ℕ) (d : D) →
     AsksWhere touched rule (now + 1) (moved_deferred touched now d deferred).kept old new → (touched ≡ false → IsRow rule deferred now old d) →
     IsRow rule (moved_deferred touched now d deferred) now new d

@@ -68,7 +68,7 @@ module _ {X : Type 0} (t : ℕ) (u : Units X) where
       by None off = refl
       by (Some entry) off = rw off refl
 
--- a lane is loud in the present state where that is its due state
+-- a deferred unit is active in the present state where that is its due state
 active : {D : Type 0} (rule : Rule D) (deferred : DeferredUnit D) (now : ℕ) (slot : Option ℕ) → IsDeferred rule deferred now slot → not (rule.quiet now (shown rule deferred now)) ≡ is_due_in now slot
 active rule deferred now slot is = ap not (event rule deferred now slot is) ∙ twice (is_due_in now slot)
   where

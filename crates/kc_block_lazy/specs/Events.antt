@@ -1,4 +1,4 @@
--- One event: which units the Tick touches, by what is due, and why the lanes that it leaves are those of the next state (this
+-- One event: which units the Tick touches, by what is due, and why the deferred units that it leaves are those of the next state (this
 -- kit's own).
 use Rattle.std.specs.Prelude.{◌≡◌, ℕ, ◌+◌, ◌<◌, ◌≤◌, ◌==◌, Bool, true, false, not, ◌&&◌, ◌||◌, if◌then◌else◌, Option, None, []}
 use Rattle.kc_base.specs.Bits.{bit}
@@ -28,7 +28,7 @@ has_hsi_edge e = (bit e 18 || bit e 19) || (bit e 20 || bit e 21)
 abbrev pub flag_touched : {X : Type 0} → Scheduler X → ℕ → Bool
 flag_touched h now = passes now && bit h.board_registers.ioc1 2
 
--- what the Tick of the present state touches is told by edges, by the due states, and by the command that fires
+-- what the Tick of the present state touches is given by edges, by the due states, and by the command that fires
 pub record AreKnown {X : Type 0} (f : Further X) (h : Scheduler X) (now : ℕ) (u : Units X) : Type 0 where
   pub timer2 : timer2_touched now u ≡ (has_timer2_edge (edges_at now u) || (is_due_in now (at_slot h.due 0) || resets (fired_at now u)))
   pub hso : hso_touched now u ≡ (is_due_in now (at_slot h.due 1) || (has_timer2_edge (edges_at now u) || is_due_in now (at_slot h.due 0)))
@@ -59,7 +59,7 @@ FurtherAgrees {X = X} f agrees = (h : Scheduler X) (now : ℕ) → IsScheduled f
 abbrev pub moved_deferred : {D : Type 0} → Bool → ℕ → D → DeferredUnit D → DeferredUnit D
 moved_deferred touched now new deferred = if touched then deferred_at (now + 1) new else deferred
 
--- the lanes after the Tick, before any is asked
+-- the deferred units after the Tick, before any is asked
 abbrev pub ticked_scheduler : {X : Type 0} → Further X → Scheduler X → ℕ → Scheduler X
 ticked_scheduler f h now = record {
   drives = h.drives;
@@ -72,12 +72,12 @@ ticked_scheduler f h now = record {
   further = moved_deferred (further_touched f now (shown_units f h now)) now (ticked f h now).further h.further;
 }
 
--- a slot is asked anew where its unit was touched, and else kept
+-- a slot is rescheduled where its unit was touched, and else kept
 abbrev pub AsksWhere : {D : Type 0} → Bool → Rule D → ℕ → D → Option ℕ → Option ℕ → Type 0
 AsksWhere true rule now d old new = IsDue rule now d new
 AsksWhere false rule now d old new = new ≡ old
 
--- the lanes after the Tick, each touched unit asked in the next state
+-- the deferred units after the Tick, each touched unit asked in the next state
 pub record ArePast {X : Type 0} (f : Further X) (h : Scheduler X) (now : ℕ) (k : Scheduler X) : Type 0 where
   pub scheduler : k ≡ record (ticked_scheduler f h now) { due = k.due }
   pub timer2 : AsksWhere (timer2_touched now (shown_units f h now)) (timer2_goes k) (now + 1) k.timer2.kept (at_slot h.due 0) (at_slot k.due 0)
@@ -89,7 +89,7 @@ pub record ArePast {X : Type 0} (f : Further X) (h : Scheduler X) (now : ℕ) (k
   pub wires : at_slot k.due 6 ≡ wire_slot (now + 1) (levels_ahead k (now + 1)) k.board_registers.levels
   pub spare : (slot : ℕ) → 7 ≤ slot → slot < 16 → at_slot k.due slot ≡ None
 
--- such lanes are those of the next state, and show what the Tick gives
+-- such deferred units are those of the next state, and show what the Tick gives
 pub record IsJoined {X : Type 0} (f : Further X) (agrees : ℕ → ℕ → X → Type 0) (h : Scheduler X) (now : ℕ) (k : Scheduler X) : Type 0 where
   pub scheduled : IsScheduled f agrees k (now + 1)
   pub shows : shown_units f k (now + 1) ≡ ticked f h now

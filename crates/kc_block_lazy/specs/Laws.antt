@@ -31,7 +31,7 @@ abbrev pub QuietSpan : {X : Type 0} → Further X → (ℕ → ℕ → X → Typ
 QuietSpan {X = X} f agrees = (h : Scheduler X) (now n : ℕ) → IsScheduled f agrees h now → IsUpTo h (now + n) →
     IsQuietSpan f h now n
 
--- and the same lanes are those of the later state
+-- and the same deferred units are those of the later state
 abbrev pub GoesOn : {X : Type 0} → Further X → (ℕ → ℕ → X → Type 0) → Type 0
 GoesOn {X = X} f agrees = (h : Scheduler X) (now to : ℕ) → IsScheduled f agrees h now → now ≤ to → IsUpTo h to →
     IsScheduled f agrees h to

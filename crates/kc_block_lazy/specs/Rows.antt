@@ -19,7 +19,7 @@ use Rattle.kc_block_lazy.specs.Scheduler.{Scheduler, timer2_goes, hso_goes, furt
 abbrev pub ticked : {X : Type 0} → Further X → Scheduler X → ℕ → Units X
 ticked f h now = (tick f now (shown_units f h now)).units
 
--- a lane stays as it is, and shows what the Tick gives
+-- a deferred unit stays as it is, and shows what the Tick gives
 pub record IsRow {D : Type 0} (rule : Rule D) (deferred : DeferredUnit D) (now : ℕ) (slot : Option ℕ) (new : D) : Type 0 where
   pub stays : IsDeferred rule deferred (now + 1) slot
   pub shows : shown rule deferred (now + 1) ≡ new

@@ -77,7 +77,7 @@ pub record AreHeld (drives : Drives) (levels now : ℕ) : Type 0 where
   pub outs : ℕ
   pub are : levels ≡ bit_or (stimulated_before drives now) (wired drives outs)
 
--- the lanes in the present state
+-- the deferred units in the present state
 pub record IsScheduled {X : Type 0} (f : Further X) (agrees : ℕ → ℕ → X → Type 0) (h : Scheduler X) (now : ℕ) : Type 0 where
   pub timer2 : IsDeferred (timer2_goes h) h.timer2 now (at_slot h.due 0)
   pub hso : IsDeferred (hso_goes h) h.hso now (at_slot h.due 1)
@@ -94,12 +94,12 @@ pub record IsScheduled {X : Type 0} (f : Further X) (agrees : ℕ → ℕ → X 
   -- the slots from 7 on are of no use
   pub spare : (slot : ℕ) → 7 ≤ slot → slot < 16 → at_slot h.due slot ≡ None
 
--- lanes in the present state, past which no run goes
+-- deferred units in the present state, past which no run goes
 pub record IsPresent {X : Type 0} (f : Further X) (agrees : ℕ → ℕ → X → Type 0) (h : Scheduler X) (now : ℕ) : Type 0 where
   pub bound : now ≤ 3 * 10 ^ 15
   pub scheduled : IsScheduled f agrees h now
 
--- lanes in the present state that show these units
+-- deferred units in the present state that show these units
 pub record IsLeft {X : Type 0} (f : Further X) (agrees : ℕ → ℕ → X → Type 0) (now : ℕ) (h : Scheduler X) (units : Units X) : Type 0 where
   pub scheduled : IsScheduled f agrees h now
   pub shows : shown_units f h now ≡ units

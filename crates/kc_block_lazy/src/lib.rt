@@ -42,7 +42,7 @@ pub fn untouched_scheduler_stay<X: Extra>()
     ensures flag { FlagRow X.further X.agrees }
 {}
 
-/// What an event touches is told by edges, due states and the command that fires.
+/// What an event touches is given by edges, due states and the command that fires.
 pub fn touches_are_known<X: Extra>()
     ensures known { TouchesAreKnown X.further X.agrees }
     ensures agrees { FurtherAgrees X.further X.agrees }
@@ -53,7 +53,7 @@ pub fn untouched_units_are_silent<X>()
     ensures { UntouchedAreSilent X }
 {}
 
-/// Lanes of which each was asked after the Tick, or is one that the Tick does not touch, are those of the next state, and show
+/// Deferred units of which each was asked after the Tick, or is one that the Tick does not touch, are those of the next state, and show
 /// what the Tick gives.
 pub fn events_join<X: Extra>()
     ensures { EventsJoin X.further X.agrees }

@@ -19,7 +19,7 @@ abbrev pub window_seen : Master → ℕ → Window
 window_seen Server wsr = Window0
 window_seen Cpu wsr = if wsr == 1 then Window1 else if wsr == 15 then Window15 else Window0
 
--- the number of a window, as further units are told it
+-- the number of a window, as further units are given it
 abbrev pub window_number : Window → ℕ
 window_number Window0 = 0
 window_number Window1 = 1

@@ -120,7 +120,7 @@ impl Beacon {
             + 128 * u8::from(self.ended)
     }
 
-    /// The end of a period: turns the lamps, and tells their edges.
+    /// The end of a period: turns the lamps, and reports their edges.
     fn turn(&mut self) -> Moved
         ensures inner { self.new.inner ≡ turned self.old.inner }
         ensures moves { self.new.moves ≡ self.old.moves }

@@ -51,7 +51,7 @@ fn lends<L: Ledger>(
     }
     assert!(rt; block.due() == 209);
     assert!(rt; block.requests().pending == 64);
-    // A read of the lamps tells once that a period has ended; a look does not take it away.
+    // A read of the lamps reports once that a period has ended; a look does not take it away.
     for shown in [0x82, 0x02] {
         assert!(rt; block.look(Window::Window1, 0x16) == shown);
         assert!(rt; block.read8_here(Window::Window1, 0x16, &mut steps) == Ok(shown));

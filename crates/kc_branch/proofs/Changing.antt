@@ -1,4 +1,4 @@
--- What a round stirs, and what stays at rest.
+-- What a pass changes, and what stays at rest.
 use Rattle.std.proofs.Common.{◌≡◌, ℕ, zero, suc, Bool, true, false, ◌+◌, ◌-◌, ◌%◌, ◌≤◌, ◌&&◌, ◌||◌, ◌==◌, ◌⊎◌, inl, inr, List, [], ◌∷◌, ◌++◌, length, refl, ap, sym, ◌∙◌, arith}
 use Rattle.std.specs.Prelude.{not, nat_lt, slice_index}
 use Rattle.kc_branch.specs.declared.piece.Piece.{Piece}
@@ -74,7 +74,7 @@ changes-append (x ∷ xs) (y ∷ ys) (s ∷ ss) xs' ys' ss' a b h g =
 
 -- ---- from one place to another
 
--- a piece that stands in a range where none was stirred
+-- a piece that stands in a range where none was changed
 pub head_at_rest : (s : Bool) (ss : List Bool) (j : ℕ) → any_in (s ∷ ss) 0 (suc j) ≡ false → s ≡ false
 head_at_rest true ss j h = absurd (first_is j (earlier _ (any_in ss (0 - 1) (suc j - 1)) h))
 head_at_rest false ss j h = refl

@@ -1,4 +1,4 @@
--- Rounds that are left, and rounds that change nothing.
+-- Passes that are left, and passes that change nothing.
 use Rattle.std.proofs.Common.{◌≡◌, ℕ, zero, suc, ◌+◌, ◌-◌, ◌<◌, ◌≤◌, ap, ◌∙◌, sym, refl, arith}
 use Rattle.std.specs.Fn.{iterate}
 

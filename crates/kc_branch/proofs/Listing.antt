@@ -83,7 +83,7 @@ pub begun_length : (xs : List Piece) → length (begun xs) ≡ length xs
 begun_length [] = refl
 begun_length (x ∷ xs) = omega (arith, begun_length xs)
 
--- ---- rounds
+-- ---- passes
 
 pub pass_is : (pieces : List Piece) (xs ys : List (Piece × Form)) → pieces_of xs ≡ pieces → ys ≡ raised_from (stands xs 0) xs 0 → forms_of ys ≡ pass pieces (forms_of xs)
 pass_is pieces xs ys listed e =

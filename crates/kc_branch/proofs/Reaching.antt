@@ -1,4 +1,4 @@
--- After twice as many rounds as there are branches each branch reaches: a round that changes something raises a rank.
+-- After twice as many passes as there are branches each branch reaches: a pass that changes something raises a rank.
 use Rattle.std.proofs.Common.{◌≡◌, ℕ, zero, suc, Bool, true, false, ◌+◌, ◌*◌, ◌≤◌, ◌&&◌, cond, ◌⊎◌, inl, inr, List, [], ◌∷◌, length, Option, Some, None, ℤ, drop, refl, ap, ◌∙◌, arith}
 use Rattle.std.specs.Prelude.{slice_index}
 use Rattle.std.proofs.lemmas.Bool.{and_parts}
@@ -32,7 +32,7 @@ third_reaches at Conditional (Some t) end = refl
 third_reaches at BitTest None end = refl
 third_reaches at BitTest (Some t) end = refl
 
--- how much a round raises the rank of a form that reaches, or does not
+-- how much a pass raises the rank of a form that reaches, or does not
 abbrev step : Bool → ℕ
 step true = 0
 step false = 1
@@ -90,7 +90,7 @@ one_more true false = omega arith
 one_more false true = omega arith
 one_more false false = omega arith
 
--- a round raises the ranks by one or more, unless each branch reaches
+-- a pass raises the ranks by one or more, unless each branch reaches
 pub raised_total : (at : List ℕ) (xs : List Piece) (fs : List Form) (k : ℕ) → length fs ≡ count xs →
     total fs + step (all_reach at xs fs k) ≤ total (raised at xs fs k)
 unfolding raised all_reach start_forms
@@ -106,7 +106,7 @@ raised_total at (Branch kind target ∷ xs) (f ∷ fs) k e =
     let sum = one_more (reaches at kind target f (slice_index at (k + 1))) (all_reach at xs fs (k + 1)) in
     omega arith
 
--- where each branch reaches, a round changes nothing
+-- where each branch reaches, a pass changes nothing
 pub raised_same : (at : List ℕ) (xs : List Piece) (fs : List Form) (k : ℕ) → length fs ≡ count xs → all_reach at xs fs k ≡ true → raised at xs fs k ≡ fs
 unfolding raised all_reach start_forms
 raised_same at [] [] k e h = refl
@@ -119,7 +119,7 @@ raised_same at (Branch kind target ∷ xs) (f ∷ fs) k e h =
     let both = and_parts (reaches at kind target f (slice_index at (k + 1))) (all_reach at xs fs (k + 1)) h in
     rw both.0 (ap (λ gs. f ∷ gs) (raised_same at xs fs (k + 1) (omega arith) both.1))
 
--- ---- rounds
+-- ---- passes
 
 settled_or : (pieces : List Piece) (fs : List Form) → length fs ≡ count pieces →
     (settles pieces fs ≡ true) ⊎ (total fs + 1 ≤ total (pass pieces fs))

@@ -1,4 +1,4 @@
--- After a round each piece reaches, or spans one that the round stirred.
+-- After a pass each piece reaches, or spans one that the pass changed.
 use Rattle.std.proofs.Common.{◌≡◌, ℕ, zero, suc, Bool, true, false, ◌+◌, ◌-◌, ◌<◌, ◌≤◌, leb, cond, min, max, List, [], ◌∷◌, length, Some, None, ℤ, pos, ◌+ℤ◌, ◌-ℤ◌, refl, ap, sym, ◌∙◌, subst, arith}
 use Rattle.std.specs.Prelude.{slice_index}
 use Rattle.std.proofs.lemmas.Bool.Decides.{nat_tests}
@@ -37,7 +37,7 @@ kept_form false First h e = absurd (cc e)
 kept_form false Second h e = absurd (cc e)
 kept_form false Third h e = h refl
 
--- a piece that keeps its form in a round reached
+-- a piece that keeps its form in a pass reached
 kept_reaches : (at : List ℕ) (x : Piece) (f : Form) (end : ℕ) → next_form at x f end ≡ f → piece_reaches at x f end ≡ true
 kept_reaches at (Bytes m) f end e = refl
 kept_reaches at Even f end e = refl
@@ -94,7 +94,7 @@ active n ss at to kind f t d k two le quiet h =
     let e : slice_index at (k + 1) + slice_index to t ≡ slice_index at t + slice_index to (k + 1) = omega (arith, gap, first, second) in
     sym (ap (λ a. spans kind f a) (same_away (slice_index at (k + 1)) (slice_index to (k + 1)) (slice_index at t) (slice_index to t) d e)) ∙ h
 
--- a branch that reached reaches still, where no piece that it spans was stirred
+-- a branch that reached reaches still, where no piece that it spans was changed
 reaches_still : (n : ℕ) (ss : List Bool) (at to : List ℕ) (x : Piece) (f : Form) (k : ℕ) → Two n ss at to → k + 1 ≤ n →
     any_in ss (min k (far_end n x f k)) (max (k + 1) (far_end n x f k)) ≡ false → piece_reaches at x f (slice_index at (k + 1)) ≡ true → piece_reaches to x f (slice_index to (k + 1)) ≡ true
 reaches_still n ss at to (Bytes m) f k two le quiet h = refl
@@ -148,7 +148,7 @@ raised_length : (at : List ℕ) (xs : List (Piece × Form)) (k : ℕ) → length
 raised_length at [] k = refl
 raised_length at (x ∷ xs) k = omega (arith, raised_length at xs (k + 1))
 
--- a round and what it stirs
+-- a pass and what it changes
 pub pass_rests : (xs ys : List (Piece × Form)) (ss : List Bool) (n : ℕ) → n ≡ length xs → ys ≡ raised_from (stands xs 0) xs 0 → Changes xs ys ss 0 0 → Rests n ss (stands ys 0) ys 0
 pass_rests xs ys ss n is e h =
     let at = stands xs 0 in
@@ -164,7 +164,7 @@ pass_rests xs ys ss n is e h =
     let late : Later ss ss 0 = λ i j q. narrower ss i j (i - 0) (j - 0) (omega arith) (omega arith) q in
     subst Q (sym e) (rests_behind n ss at (stands next 0) xs ss 0 0 0 two late (omega arith) changes)
 
--- ---- the first round
+-- ---- the first pass
 
 all_in : (xs : List Piece) (k : ℕ) → k < length xs → any_in (all_changed xs) k (k + 1) ≡ false → ⊥
 all_in [] k lt h = omega arith

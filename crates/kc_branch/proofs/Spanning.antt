@@ -9,7 +9,7 @@ use Rattle.kc_branch.specs.declared.layout.Layout.TheVariants.{Leaf, Fork'}
 use Rattle.kc_branch.specs.Forms.{next_form}
 use Rattle.kc_branch.specs.Layouts.{any_changed, any_in, far_end, Covers, Rests, AreAtRest, items, raised_from}
 
--- ---- pieces that were stirred
+-- ---- pieces that were changed
 
 or_assoc : (a b c d : Bool) → d ≡ (b || c) → (a || d) ≡ ((a || b) || c)
 or_assoc true b c d e = refl
@@ -116,7 +116,7 @@ rests_in_tree n ss at (Fork' p left s q right) k h = (
   rests_in_tree n ss at right (k + length (items left)) (rests-behind n ss at (items left) (items right) k (k + length (items left)) refl h),
 )
 
--- where no piece that the list spans was stirred, a round leaves it as it is
+-- where no piece that the list spans was changed, a pass leaves it as it is
 pub left_alone : (n from to : ℕ) (ss : List Bool) (at : List ℕ) (xs : List (Piece × Form)) (k : ℕ) → Covers n from to xs k → Rests n ss at xs k → any_in ss from to ≡ false →
     raised_from at xs k ≡ xs
 left_alone n from to ss at [] k c r h = refl

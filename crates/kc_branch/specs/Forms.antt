@@ -99,9 +99,9 @@ piece_reaches at Even f end = true
 piece_reaches at (At place) f end = true
 piece_reaches at (Branch kind target) f end = reaches at kind target f end
 
--- ---- rounds
+-- ---- passes
 
--- the form of a branch after a round
+-- the form of a branch after a pass
 abbrev pub next_form : List ℕ → Piece → Form → ℕ → Form
 next_form at x f end = if piece_reaches at x f end then f else longer f
 
@@ -131,6 +131,6 @@ unfoldable pub start_forms : List Piece → List Form
 start_forms [] = []
 start_forms (x ∷ xs) = with_form x (start_form x) (start_forms xs)
 
--- as many rounds as twice the number of branches
+-- as many passes as twice the number of branches
 unfoldable pub forms : List Piece → List Form
 forms pieces = iterate (pass pieces) (2 * length (start_forms pieces)) (start_forms pieces)

@@ -1,4 +1,4 @@
--- A layout as a tree: what stands in it, what is known of each of its stretches, and what a round leaves at rest.
+-- A layout as a tree: what stands in it, what is known of each of its stretches, and what a pass leaves at rest.
 use Rattle.std.specs.Prelude.{◌≡◌, ℕ, Bool, true, false, ◌+◌, ◌*◌, ◌-◌, ◌%◌, ◌≤◌, ◌==◌, ◌&&◌, ◌||◌, not, min, max, if◌then◌else◌, nat_le, nat_lt, Some, None, List, [], ◌∷◌, ◌++◌, map, length, slice_index}
 use Rattle.kc_branch.specs.declared.piece.Piece.{Piece}
 use Rattle.kc_branch.specs.declared.piece.Piece.TheVariants.{Bytes, Even, At, Branch}
@@ -34,7 +34,7 @@ abbrev pub stands : List (Piece × Form) → ℕ → List ℕ
 stands [] here = here ∷ []
 stands (x ∷ xs) here = here ∷ stands xs (end_of x.0 x.1 here)
 
--- a round over the layout with these places; the first one is the k-th
+-- a pass over the layout with these places; the first one is the k-th
 abbrev pub raised_from : List ℕ → List (Piece × Form) → ℕ → List (Piece × Form)
 raised_from at [] k = []
 raised_from at (x ∷ xs) k = (x.0, next_form at x.0 x.1 (slice_index at (k + 1))) ∷ raised_from at xs (k + 1)
@@ -50,7 +50,7 @@ abbrev pub has_even : List (Piece × Form) → Bool
 has_even [] = false
 has_even (x ∷ xs) = is_even x.0 || has_even xs
 
--- ---- which pieces were stirred
+-- ---- which pieces were changed
 
 abbrev pub any_changed : List Bool → Bool
 any_changed [] = false
@@ -64,7 +64,7 @@ any_in (s ∷ ss) from to = (s && (from == 0) && nat_lt 0 to) || any_in ss (from
 abbrev pub all_changed : List Piece → List Bool
 all_changed xs = map (λ x. true) xs
 
--- from a layout that begins at a to one that begins at b: a piece that is not stirred keeps its form and its length
+-- from a layout that begins at a to one that begins at b: a piece that is not changed keeps its form and its length
 abbrev pub Changes : List (Piece × Form) → List (Piece × Form) → List Bool → ℕ → ℕ → Type 0
 Changes [] [] [] a b = Unit {0}
 Changes (x ∷ xs) (y ∷ ys) (s ∷ ss) a b =
@@ -106,7 +106,7 @@ Covers n from to [] k = Unit {0}
 Covers n from to (x ∷ xs) k =
     (from ≤ min k (far_end n x.0 x.1 k)) × (max (k + 1) (far_end n x.0 x.1 k) ≤ to) × Covers n from to xs (k + 1)
 
--- each piece reaches, or spans one that was stirred
+-- each piece reaches, or spans one that was changed
 abbrev pub Rests : ℕ → List Bool → List ℕ → List (Piece × Form) → ℕ → Type 0
 Rests n ss at [] k = Unit {0}
 Rests n ss at (x ∷ xs) k =
@@ -186,7 +186,7 @@ IsSpanned n (Leaf x f s) k = Covers n s.from s.to ((x, f) ∷ []) k
 IsSpanned n (Fork' p left s q right) k =
     Covers n s.from s.to (items left ++ items right) k × IsSpanned n left k × IsSpanned n right (k + length (items left))
 
--- .. and each piece reaches, or spans one that was stirred
+-- .. and each piece reaches, or spans one that was changed
 abbrev pub AreAtRest : ℕ → List Bool → List ℕ → Layout → ℕ → Type 0
 AreAtRest n ss at (Leaf x f s) k = Rests n ss at ((x, f) ∷ []) k
 AreAtRest n ss at (Fork' p left s q right) k = AreAtRest n ss at left k × AreAtRest n ss at right (k + length (items left))

@@ -52,7 +52,7 @@ impl Layout {
         }
     }
 
-    // Whether a piece from `from` to before `to` is stirred.
+    // Whether a piece from `from` to before `to` is changed.
     pub(crate) fn is_changed(&self, from: usize, to: usize) -> bool
         requires laid { layouts.IsLaid self.now }
         ensures { result ≡ layouts.any_in (layouts.changed self.now) from to }
@@ -121,7 +121,7 @@ fn fork(alloc: Global, left: Layout, right: Layout) -> Result<Layout, NoMemory>
     Ok(Layout::Fork(left, known, right))
 }
 
-// The layout with which the rounds begin, where the first of `pieces` is the piece `at` of `count`.
+// The layout with which the passes begin, where the first of `pieces` is the piece `at` of `count`.
 pub(crate) fn start(
     alloc: Global,
     pieces: &[Piece],

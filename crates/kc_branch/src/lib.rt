@@ -1,4 +1,4 @@
-//! The forms of generic branches: the shortest with which each branch of a module reaches its target, found in rounds.
+//! The forms of generic branches: the shortest with which each branch of a module reaches its target, found in passes.
 #![tactic(auto)]
 
 mod branch;

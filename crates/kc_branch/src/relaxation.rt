@@ -1,4 +1,4 @@
-//! Rounds, each over the branches on which the one before bears.
+//! Passes, each over the branches on which the one before bears.
 
 ghost use Rattle.std.specs.Prelude.{◌≡◌, ℕ, ◌+◌, ◌*◌, ◌<◌, ◌≤◌, ◌^◌, true, length, slice_index, IfOk};
 ghost use Rattle.kc_branch.specs.declared.relaxation.Raises.TheVariants.{Keep};
@@ -194,12 +194,12 @@ fn branches(pieces: &[Piece]) -> usize
 
 /// The form of each generic branch of a list of pieces, in order.
 ///
-/// All branches begin in their first form, but one without target in its third. In each round every branch that does not
+/// All branches begin in their first form, but one without target in its third. In each pass every branch that does not
 /// reach its target in the present layout takes its next form, until none does. A form reaches -128 to 127 bytes (the
 /// first one of a conditional jump or a jump on a bit) or -1024 to 1023 bytes from the end of the branch; the third form,
 /// and the second one of a jump or call, reach any place. Places are whole numbers, not taken modulo 65536. A target past
-/// the last place counts as the place 0. A round looks only at
-/// branches on which the round before bears.
+/// the last place counts as the place 0. A pass looks only at
+/// branches on which the pass before bears.
 /// (MCS-96 Macro Assembler guide, "Generic jumps and calls"; 80C196KC User's Manual, "Jump and Call Instructions".)
 ///
 /// `NoMemory`: memory ran out. That is the only error.

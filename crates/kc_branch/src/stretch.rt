@@ -25,7 +25,7 @@ pub(crate) struct Stretch {
     pub(crate) from: usize,
     // .. to before this one.
     pub(crate) to: usize,
-    // Whether one of its pieces was stirred by the last round: has another form or another length.
+    // Whether one of its pieces was changed by the last pass: has another form or another length.
     pub(crate) changed: bool,
 }
 

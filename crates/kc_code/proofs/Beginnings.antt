@@ -1,4 +1,4 @@
--- Which bytes are the front of an instruction, and that nothing behind one matters.
+-- Which bytes are the beginning of an instruction, and that nothing behind one matters.
 use Rattle.std.proofs.Common.{◌≡◌, ℕ, ◌+◌, ◌-◌, ◌*◌, ◌%◌, ◌≤◌, Bool, true, false, List, [], ◌∷◌, ◌++◌, Option, Some, None, refl, sym, ◌∙◌, ap, subst, arith, ◌⊎◌, inl, inr, length, take, drop, append_assoc, length-append, lit≤, lit<, ◌↔◌}
 use Rattle.std.specs.Prelude.{◌==◌, if◌then◌else◌, ◌&&◌, ◌||◌, not}
 use Rattle.std.specs.Int.{w8, w16, cast_signed}
@@ -261,7 +261,7 @@ shape_some TableJump = laid_some 0 NoOperand 3 (lit≤ tt) got_0 got_3
 shape_some Far = laid_some 0 Distance16 0 (lit≤ tt) got_0 got_0
 shape_some Key = laid_some 0 OneByte 0 (lit≤ tt) got_0 got_0
 
--- proper fronts
+-- proper beginnings
 
 -- one of two beginnings of a list goes on with the other
 compared : (a b c d : List ℕ) → a ++ b ≡ c ++ d → ((r : List ℕ) × (a ≡ c ++ r)) ⊎ ((x : ℕ) × ((r : List ℕ) × ((c ≡ a ++ (x ∷ r)) × (b ≡ (x ∷ r) ++ d))))

@@ -1,4 +1,4 @@
--- What decoding says of the front of some bytes: an instruction, the beginning of one, or an opcode without one
+-- What decoding says of the beginning of some bytes: an instruction, the beginning of one, or an opcode without one
 -- (80C196KC User's Manual, "Opcode Map"; what an opcode without instruction does is this kit's own).
 use Rattle.std.specs.Prelude.{◌≡◌, ◌≢◌, ℕ, Bool, true, false, not, ◌==◌, ◌≤◌, ◌&&◌, ◌||◌, Option, Some, None, List, [], ◌∷◌, ◌++◌, length, take}
 use Rattle.kc_isa.specs.declared.insn.Insn.{Insn}
@@ -11,7 +11,7 @@ use Rattle.kc_code.specs.Reading.{decode_of}
 use Rattle.kc_code.specs.Spelling.{spelling, is_in_range}
 use Rattle.kc_code.specs.Ranges.{InsnHas}
 
--- what holds of an instruction that is told, with its length
+-- what holds of an instruction that is reported, with its length
 abbrev pub IfWhole : Decoded → (Insn → ℕ → Type 0) → Type 0
 IfWhole (Whole i n) P = P i n
 IfWhole _ P = Unit {0}

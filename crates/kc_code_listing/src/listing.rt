@@ -58,7 +58,7 @@ fn push_data(line: &mut Line, byte: u8)
     line.push(b'H');
 }
 
-// What stands at the front of some bytes, as the words of a line.
+// What stands at the beginning of some bytes, as the words of a line.
 fn push_words(line: &mut Line, found: Decoded, at: u16, byte: u8)
     requires room { array_vec_len line.old ≤ 40 }
     requires formed { listing.IsFormedWhole found }

@@ -42,7 +42,7 @@ first_bad lines samples (item ∷ items) =
 abbrev pub items_of : List ℕ → List Item
 items_of bytes = map item_of (text_lines bytes)
 
--- a refusal is the first line that is at fault; want of memory may come at any time
+-- a refusal is the first line that is at fault; memory may run out at any time
 abbrev pub IsRefusal : List ℕ → AnalogFault → Type 0
 IsRefusal bytes NoMemory = Unit {0}
 IsRefusal bytes (BadLine line) = first_bad 0 [] (items_of bytes) ≡ Some line

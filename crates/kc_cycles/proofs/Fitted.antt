@@ -235,7 +235,7 @@ module _ {A : Type 0} {da : extra.Ghosts A} {dw : extra.Ghosts Watchdog} where
           unbroken = unbroken;
         }
 
--- ---- the end of a life, as it is told
+-- ---- the end of a life, as it is reported
 
 pub followed-by : (how : End) (left : ℕ) → (is_reset how && nat_lt 1 left) ≡ true → (is_reset how ≡ true) × (1 < left)
 followed-by how left e =

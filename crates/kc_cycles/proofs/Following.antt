@@ -65,7 +65,7 @@ module _ {X : Type 0} where
   take-all [] others = refl
   take-all (first ∷ few) others = ap (λ xs. first ∷ xs) (take-all few others)
 
-  -- ---- some lives are told, and the others are these
+  -- ---- some lives are reported, and the others are these
 
   pub record Reported (all : List (Life X)) (o0 : Out) (s0 : ℕ) (others : List (Life X)) (o : Out) (s : ℕ) : Type 0 where
     pub few : List (Life X)
@@ -92,7 +92,7 @@ module _ {X : Type 0} where
         spent = omega (arith, cost, one, none, reported.spent, spent);
       }
 
-  -- memory is wanting for the next
+  -- memory runs out for the next
   pub reported-wanting : (all : List (Life X)) (o0 : Out) (s0 : ℕ) (life : Life X) (others : List (Life X)) (o : Out) (s : ℕ) → Reported all o0 s0 (life ∷ others) o s → o.failed ≡ false → AreReported all o0 (Err fault.NoMemory) o
   reported-wanting all o0 s0 life others o s reported unbroken =
       let many = ap length reported.are ∙ length-append reported.few (life ∷ others) in (
@@ -130,7 +130,7 @@ module _ {X : Type 0} where
       (subst (λ text. Puts o text p) (sym (text_of-append life.ran.records (finals life.how life.ran.machine)) ∙ sym (text-one life))
       (Puts-append o (text_of life.ran.records) mid (text_of (finals life.how life.ran.machine)) p lines last))
 
-  -- all are told
+  -- all are reported
   pub reported-last : (all : List (Life X)) (o0 : Out) (s0 : ℕ) (life : Life X) (o : Out) (s : ℕ) (mid p : Out) (how : End) → Reported all o0 s0 (life ∷ []) o s →
       Puts o (text_of life.ran.records) mid → Puts mid (text_of (finals life.how life.ran.machine)) p → p.failed ≡ false → how ≡ life.how → AreReported all o0 (Ok how) p
   reported-last all o0 s0 life o s mid p how reported lines last unbroken is =

@@ -334,7 +334,7 @@ module _ {X : Type 0} (f : Further X) (deadline : X → Option ℕ) (until : ℕ
       let all = ap (λ (life : Life X). life.ran.touch) left in
       omega (arith, all, spent)
 
-  -- a machine that lived at first, and is told to be reset or powered down, has run
+  -- a machine that lived at first, and is reported to be reset or powered down, has run
   pub ran-over : (i : ℕ) (n : Machine X) → n ≡ (run_for f i m0).machine → m0.ended ≡ None → HasRun (end_of n) n.time
   ran-over i n is lives = by_end n.ended refl
     where

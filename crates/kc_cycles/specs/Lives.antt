@@ -88,7 +88,7 @@ unfoldable pub lives_touch : {X : Type 0} → List (Life X) → ℕ
 lives_touch [] = 0
 lives_touch (life ∷ others) = life.ran.touch + lives_touch others
 
--- What is told of these lives. Their text is written whole; or the sink fails in it; or memory is wanting for one of them, and
+-- What is known of these lives. Their text is written whole; or the sink fails in it; or memory runs out for one of them, and
 -- what was written ends with the line before it.
 abbrev pub AreReported : {X : Type 0} → List (Life X) → Out → Result End LivesFault → Out → Type 0
 AreReported lives old (Ok how) new = (how ≡ last_end lives) × Puts old (lives_text lives) new × (new.failed ≡ false)

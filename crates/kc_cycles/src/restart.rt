@@ -14,7 +14,7 @@ fn name_of(by_watchdog: bool) -> &'static [u8]
     if by_watchdog { b"watchdog" } else { b"reset" }
 }
 
-/// Writes the line that tells the last state of a life, and what has reset it.
+/// Writes the line that reports the last state of a life, and what has reset it.
 pub(crate) fn put_restart<S: Sink>(at: StateTime, by_watchdog: bool, out: &mut TraceOut<S>)
     ensures { Puts (out_of S.written S.faults out.old) (restart_line at by_watchdog) (out_of S.written S.faults out.new) }
 {

@@ -64,7 +64,7 @@ not_at_break m breaks b e h = by_way m.under_way refl
     by_way (Some activity) is = ap (λ u. is_none u && list_any (λ addr. addr == m.cpu.pc) breaks) (sym is)
     by_way None is = absurd (let t : b ≡ true = h.1 is in let f : true ≡ false = sym t ∙ e in cc)
 
--- how many states pass at once, as a test of their number tells
+-- how many states pass at once, as a test of their number reports
 pub at-once-near : {X : Type 0} (until now : ℕ) (m : Machine X) (b : Bool) → now ≡ m.time → b ≡ nat_lt (until - now) 255 → b ≡ true → states_at_once until m ≡ 1
 at-once-near until now m b e is near =
     ap (λ t. if nat_lt (until - t) 255 then 1 else activity_states m) (sym e) ∙ ap (λ c. if c then 1 else activity_states m) (sym is ∙ near)
@@ -109,7 +109,7 @@ module _ {X : Type 0} (f : Further X) where
   pub along-kept : (m0 : Machine X) (o0 : Out) (r0 : List Begun) (i : ℕ) (m : Machine X) (o : Out) (r : Buffer Begun) → Along m0 o0 r0 i m o r → IsKept r
   along-kept m0 o0 r0 i m o r along = kept-last r (r0 ++ begun_for f i m0) along.begun
 
-  -- some states of an activity have been told
+  -- some states of an activity have been reported
   pub activity-reported : (n : ℕ) (m : Machine X) (o : Out) (r : Buffer Begun) (x : Machine X) (p : Out) (q : Buffer Begun) → m.ended ≡ None → Passed f n m o r x p q → Reported f n m o r p q
   activity-reported n m o r x p q lives next = record {
     some = next.some;

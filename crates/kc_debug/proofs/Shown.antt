@@ -1,4 +1,4 @@
--- Bytes that are shown one after the other, and activities that are told so.
+-- Bytes that are shown one after the other, and activities that are reported so.
 use Rattle.std.proofs.Common.{◌≡◌, ℕ, suc, ◌+◌, ◌-◌, ◌*◌, ◌%◌, ◌^◌, ◌<◌, ◌≤◌, min, List, [], ◌∷◌, ◌++◌, Some, None, length, take, drop, get_or, flat_map, refl, sym, ap, subst, ◌∙◌, append-nil, arith, length-take, length-take-le, inl, inr}
 use Rattle.std.specs.Prelude.{slice_get}
 use Rattle.std.proofs.lemmas.Grind.{flat_map-append}

@@ -1,4 +1,4 @@
--- What is told of a sink that fails (this kit's own).
+-- What is known of a sink that fails (this kit's own).
 use Rattle.std.specs.Prelude.{◌≡◌, Bool, true, false, Result, OnOk, OnErr}
 use Rattle.kc_trace.specs.declared.trace.WriteFault.{WriteFault}
 

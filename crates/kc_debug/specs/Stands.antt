@@ -40,7 +40,7 @@ module _ {X : Type 0} (f : Further X) where
   touch_in command d = (run_for f (states_of command d) d.machine).touch
 
   -- The sink has failed in the lines of states that pass at once, as many as a machine says: those of the states before them
-  -- were written whole, and of their own a front. The machine stands behind them, within so many states.
+  -- were written whole, and of their own a prefix. The machine stands behind them, within so many states.
   pub record FailsWithin (at_once : Machine X → ℕ) (most : ℕ) (m : Machine X) (o : Out) (n : Machine X) (p : Out) : Type 0 where
     -- how many states have passed before them, the machine there, and the trace
     pub before : ℕ
@@ -54,7 +54,7 @@ module _ {X : Type 0} (f : Further X) where
     pub few : before + at_once there ≤ most
     pub machine : n ≡ (run_for f (at_once there) there).machine
 
-  -- The sink has failed in what is said behind so many states: their own lines were written whole, and of the rest a front. The
+  -- The sink has failed in what is said behind so many states: their own lines were written whole, and of the rest a prefix. The
   -- machine stands behind all of them.
   pub record FailsBehind (states : ℕ) (said : List ℕ) (m : Machine X) (o : Out) (n : Machine X) (p : Out) : Type 0 where
     pub mid : Out
@@ -77,7 +77,7 @@ module _ {X : Type 0} (f : Further X) (entries : List MapEntry) where
   touch_of (Quit ∷ commands) d = 0
   touch_of (command ∷ commands) d = touch_in f command d + touch_of commands (after_command f entries command d)
 
-  -- The sink has failed in what a command prints: all that the commands before it print was written, and a front of its own.
+  -- The sink has failed in what a command prints: all that the commands before it print was written, and a prefix of its own.
   -- The machine stands at the end of the activity, or of the idle state, in whose lines that was.
   pub record StandsIn (commands : List Command) (m : Machine X) (o : Out) (n : Machine X) (p : Out) : Type 0 where
     pub before : List Command

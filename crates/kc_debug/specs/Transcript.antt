@@ -17,7 +17,7 @@ use Rattle.kc_debug.specs.Activities.{begun_for, finished}
 use Rattle.kc_debug.specs.Stops.{states_of_activities, states_of_run}
 use Rattle.kc_debug.specs.Lines.{stand_line, activity_line, memory_lines}
 
--- a machine that a script has brought so far: its breakpoints, the activities that have begun since the script began, and
+-- a machine that a script has caught up so far: its breakpoints, the activities that have begun since the script began, and
 -- all that was printed
 pub record Debugged (X : Type 0) : Type 0 where
   pub machine : Machine X
@@ -38,12 +38,12 @@ abbrev pub end_lines : {X : Type 0} → Option End → Machine X → List Record
 end_lines None m = []
 end_lines (Some how) m = end_line how m ∷ []
 
--- an end is told by the command in which it comes, and by no later one
+-- an end is given by the command in which it comes, and by no later one
 abbrev pub new_end : {X : Type 0} → Option End → Machine X → List Record
 new_end None m = end_lines m.ended m
 new_end (Some how) m = []
 
--- how many activities are told
+-- how many activities are reported
 abbrev pub history_length : ℕ
 history_length = 32
 

@@ -17,7 +17,7 @@ pub(crate) struct Begun {
     pub(crate) pc: u16,
 }
 
-/// How many are kept: those that are told, and one that is under way.
+/// How many are kept: those that are reported, and one that is under way.
 pub(crate) const KEPT: usize = 33;
 
 /// Notes the activity that begins in the coming state, where none is under way.

@@ -77,7 +77,7 @@ fn command_at(commands: &[Command], index: usize) -> Command
 impl Sitting {
     ghost use Rattle.kc_trace.specs.Trace.{out_of};
 
-    // Goes on by activities, and tells where the machine stands.
+    // Goes on by activities, and reports where the machine stands.
     fn step<X: Extra + Drop, S: Sink, L: Ledger>(
         &mut self,
         count: u32,
@@ -102,7 +102,7 @@ impl Sitting {
         report_stand(before, machine, out)
     }
 
-    // Goes on to a state or a breakpoint, and tells where the machine stands.
+    // Goes on to a state or a breakpoint, and reports where the machine stands.
     fn go<X: Extra + Drop, S: Sink, L: Ledger>(
         &mut self,
         until: StateTime,
@@ -213,7 +213,7 @@ impl Sitting {
 impl Session {
     ghost use Rattle.kc_trace.specs.Trace.{out_of};
 
-    /// A session without source lines. The only refusal is want of memory.
+    /// A session without source lines. The only refusal is that memory ran out.
     pub fn new(alloc: Global) -> Result<Session, DebugFault>
         ensures lines { IfOk result (λ session. session ≡ []) }
         ensures fault { IfErr result (λ fault. fault ≡ faults.NoMemory) }
@@ -221,7 +221,7 @@ impl Session {
         Session::with_lines(alloc, LineMap::none(alloc))
     }
 
-    /// A session with the source lines of a map. The only refusal is want of memory.
+    /// A session with the source lines of a map. The only refusal is that memory ran out.
     pub fn with_lines(alloc: Global, lines: LineMap) -> Result<Session, DebugFault>
         ensures lines { IfOk result (λ session. session ≡ lines) }
         ensures fault { IfErr result (λ fault. fault ≡ faults.NoMemory) }
@@ -236,7 +236,7 @@ impl Session {
 
     /// Carries out a script over a machine that stands at state 10^15 at most, from no breakpoint and no activity on, and writes
     /// its transcript. Answers how the machine has ended, or `Spent` while it lives. The only refusal is that the sink failed;
-    /// a front of the transcript is written then, and the machine stands at the end of the activity, or of the idle state, in whose
+    /// a prefix of the transcript is written then, and the machine stands at the end of the activity, or of the idle state, in whose
     /// lines the sink failed, or where the command left it whose other text was not written. The last 254 states before the one
     /// that `g` names pass one by one, so it stands at the end of such a state. Units are called at most four times the touch of the
     /// states that pass.

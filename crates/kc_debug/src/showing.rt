@@ -20,10 +20,10 @@ use kc_extra::Extra;
 use kc_machine::{End, Machine, WriteFault};
 use kc_trace::TraceOut;
 
-/// How many activities are told.
+/// How many activities are reported.
 const REPORTED: usize = 32;
 
-// Tells the end, where the machine lived before.
+// Reports the end, where the machine lived before.
 fn report_end<X: Extra + Drop, S: Sink>(
     before: Option<End>,
     machine: &Machine<X>,
@@ -43,7 +43,7 @@ fn report_end<X: Extra + Drop, S: Sink>(
     }
 }
 
-/// Tells the end, where the machine lived before, and where the machine stands.
+/// Reports the end, where the machine lived before, and where the machine stands.
 pub(crate) fn report_stand<X: Extra + Drop, S: Sink>(
     before: Option<End>,
     machine: &Machine<X>,
@@ -80,7 +80,7 @@ pub(crate) fn show<X: Extra + Drop, S: Sink>(
     out.written()
 }
 
-// Tells the source line of an address, where there is one.
+// Reports the source line of an address, where there is one.
 fn report_place<S: Sink>(lines: &LineMap, addr: u16, out: &mut TraceOut<S>)
     ensures { Puts (out_of S.written S.faults out.old) (source_place (entry_at lines.now addr)) (out_of S.written S.faults out.new) }
 {
@@ -94,7 +94,7 @@ fn report_place<S: Sink>(lines: &LineMap, addr: u16, out: &mut TraceOut<S>)
     }
 }
 
-// Tells an activity, with its source line.
+// Reports an activity, with its source line.
 fn report_activity<S: Sink>(lines: &LineMap, begun: &Begun, out: &mut TraceOut<S>)
     ensures { Puts (out_of S.written S.faults out.old) (line_of_activity lines.now begun.now) (out_of S.written S.faults out.new) }
 {
@@ -103,7 +103,7 @@ fn report_activity<S: Sink>(lines: &LineMap, begun: &Begun, out: &mut TraceOut<S
     out.put_text(b"\n");
 }
 
-/// Tells the last activities that have finished, oldest first.
+/// Reports the last activities that have finished, oldest first.
 pub(crate) fn report_history<X: Extra + Drop, S: Sink>(
     lines: &LineMap,
     begun: &HeapCircularBuffer<Begun>,

@@ -64,7 +64,7 @@ module _ {A : Type 0} (meaning : List ℕ → Option A) (may : List A → A → 
       said-some says before line lines a (if_is-true (may before) (meaning line) a head allowed)
       ∙ backward (before ++ a ∷ []) lines xs tail longer ∙ ap (λ (all : List A). Ok all) shape
 
-  -- reading is told of the whole text
+  -- reading is known of the whole text
   pub reads : (read : List ℕ → Result (List A) ℕ) → ((text : List ℕ) → read text ≡ said says [] (text_lines text)) → ReadsLines meaning Keep read
   reads read is = record {
     all = λ text xs. (

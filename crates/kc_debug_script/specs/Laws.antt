@@ -20,7 +20,7 @@ pub record IsFirstWrong {A : Type 0} (meaning : List ℕ → Option A) (Keep : L
   pub before : (xs : List A) × Say meaning Keep (take (line - 1) lines) xs
   pub wrong : (xs : List A) → ¬ Say meaning Keep (take line lines) xs
 
--- what is read of a text is what its lines say, and exactly that; a fault is told at the first line that is wrong
+-- what is read of a text is what its lines say, and exactly that; a fault is reported at the first line that is wrong
 pub record ReadsLines {A : Type 0} (meaning : List ℕ → Option A) (Keep : List A → Type 0) (read : List ℕ → Result (List A) ℕ) : Type 0 where
   pub all : (text : List ℕ) (xs : List A) → (read text ≡ Ok xs) ↔ Say meaning Keep (text_lines text) xs
   pub fault : (text : List ℕ) (line : ℕ) → read text ≡ Err line → IsFirstWrong meaning Keep (text_lines text) line

@@ -47,7 +47,7 @@ entry_after before line = if_is (may_come before) (entry_of line)
 abbrev pub map_of : List ℕ → Result (List MapEntry) ℕ
 map_of text = said entry_after [] (text_lines text)
 
--- what a reader answers; want of memory may come at any time
+-- what a reader answers; memory may run out at any time
 abbrev pub IsMapRead : Result (List MapEntry) DebugFault → Result (List MapEntry) ℕ → Type 0
 IsMapRead (Ok entries) read = read ≡ Ok entries
 IsMapRead (Err (faults.BadMap line)) read = read ≡ Err line

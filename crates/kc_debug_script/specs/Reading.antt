@@ -1,7 +1,7 @@
 -- Lines that are read one after the other, up to the first that says nothing (this kit's own).
 use Rattle.std.specs.Prelude.{ℕ, ◌+◌, Option, Some, None, Result, Ok, Err, List, [], ◌∷◌, ◌++◌, length}
 
--- goes on with what a line says, or tells its number
+-- goes on with what a line says, or reports its number
 abbrev pub or_at : {A : Type 0} → ℕ → (A → Result (List A) ℕ) → Option A → Result (List A) ℕ
 or_at line goes_on None = Err line
 or_at line goes_on (Some a) = goes_on a

@@ -25,7 +25,7 @@ command_after before line = if_is (may_follow before) (command_of line)
 abbrev pub script_of : List ℕ → Result (List Command) ℕ
 script_of text = said command_after [] (text_lines text)
 
--- what a reader answers; want of memory may come at any time
+-- what a reader answers; memory may run out at any time
 abbrev pub IsScriptRead : Result (List Command) DebugFault → Result (List Command) ℕ → Type 0
 IsScriptRead (Ok commands) read = read ≡ Ok commands
 IsScriptRead (Err (faults.BadCommand line)) read = read ≡ Err line

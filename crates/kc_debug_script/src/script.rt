@@ -75,7 +75,7 @@ fn push(commands: &mut Vec<Command>, command: Command) -> Result<(), NoMemory>
 
 impl Script {
     /// The commands of a script of 1,048,576 bytes at most, or the number of its first line that is no command. The 65,536th line
-    /// is none, nor is the seventeenth breakpoint; lines behind the end of the script are judged too.
+    /// is none, nor is the seventeenth breakpoint; lines behind the end of the script are checked too.
     pub fn read(alloc: Global, bytes: &[u8]) -> Result<Script, DebugFault>
         requires { length bytes.now ≤ 1048576 }
         ensures { IsScriptRead result (script_of bytes.now) }

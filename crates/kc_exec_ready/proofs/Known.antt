@@ -1,4 +1,4 @@
--- Where one condition at most tells the states of an instruction, it tells the whole of its place.
+-- Where one condition at most knows the states of an instruction, it knows the whole of its place.
 use Rattle.std.proofs.Common.{◌≡◌, ℕ, ◌+◌, ◌%◌, ◌<◌, Bool, true, false, not, nat_lt, ◌&&◌, ◌||◌, if◌then◌else◌, IsTrue, Option, Some, None, Result, Ok, Err, refl, sym, ap, subst, ◌∙◌}
 use Rattle.kc_base.specs.declared.types.Kind.{Kind}
 use Rattle.kc_isa.specs.declared.insn.Insn.{Insn}
@@ -110,7 +110,7 @@ place-of-parts : (plan : Plan) (i : Insn) (psw wsr : ℕ) (byte : ℕ → ℕ) (
 unfolding planned_place
 place-of-parts plan i psw wsr byte operand o s = rw (o, s) refl
 
--- what is told by one condition at most
+-- what is given by one condition at most
 known-by : (points pushes pops when : Bool) (plan : Plan) (i : Insn) (psw wsr : ℕ) (byte : ℕ → ℕ) →
     is_pointing i.operand ≡ points → is_push plan ≡ pushes → is_pop plan ≡ pops → is_conditional plan ≡ when →
     shifts_seen plan i wsr byte ≡ Ok (known_count i.operand) →
@@ -170,7 +170,7 @@ timed r (Ok true) place base other = ap Ok (sym other)
 timed r (Ok false) place base other = ap Ok (sym base)
 timed r (Err k) place base other = refl
 
--- the states of a prepared instruction, where one condition at most tells them
+-- the states of a prepared instruction, where one condition at most knows them
 pub time_known : (r : Predecoded) (cpu : Cpu) (masks : Masks) (byte : ℕ → ℕ) → IsPredecoded r → is_simple r.cost ≡ true →
     time_at r.insn cpu masks byte ≡ known_at r (holds_at r.cost (plan_of r.mnemonic) r.insn.operand cpu.psw_high masks.wsr byte)
 unfolding predecoded_of
@@ -188,7 +188,7 @@ pub free_known : (r : Predecoded) → IsPredecoded r → r.free ≡ is_free (pla
 unfolding predecoded_of
 free_known r predecoded = ap (λ (x : Predecoded). x.free) predecoded.known
 
--- what is told of a well-formed instruction under its own mnemonic
+-- what is known of a well-formed instruction under its own mnemonic
 pub known_so : (m : Mnemonic) (i : Insn) (r : Predecoded) → IsTrue (is_formed i) → mnemonic_at i.opcode i.signed ≡ Some m → r ≡ predecoded_of m i → 0 < r.base → 0 < r.other → IsPredecoded r
 unfolding predecoded_of
 known_so m i r formed named known some other =

@@ -1,4 +1,4 @@
--- What is told of an instruction once, before it is performed many times (this kit's own).
+-- What is known of an instruction once, before it is performed many times (this kit's own).
 use Rattle.std.specs.Prelude.{◌≡◌, ℕ, Bool, true, false, not, ◌+◌, ◌%◌, ◌<◌, nat_lt, ◌==◌, ◌&&◌, ◌||◌, if◌then◌else◌, Some, Result, Ok, Err, IsTrue}
 use Rattle.kc_base.specs.declared.types.Kind.{Kind}
 use Rattle.kc_isa.specs.declared.insn.Insn.{Insn}
@@ -40,7 +40,7 @@ abbrev pub is_counting : Operand → Bool
 is_counting (Count n) = not (nat_lt n 0x10)
 is_counting _ = false
 
--- the count that the instruction itself tells
+-- the count that the instruction itself knows
 abbrev pub known_count : Operand → ℕ
 known_count (Count n) = if nat_lt n 0x10 then n else 0
 known_count _ = 0
@@ -98,7 +98,7 @@ holds_at cost.Pops plan o psw wsr byte = Ok (is_outside (word_seen byte 0x18))
 holds_at cost.When plan o psw wsr byte = Ok (jump_taken plan psw)
 holds_at _ plan o psw wsr byte = Ok false
 
--- one condition tells the states, or none is needed
+-- one condition knows the states, or none is needed
 abbrev pub is_simple : Cost → Bool
 is_simple cost.Placed = false
 is_simple _ = true
@@ -112,7 +112,7 @@ abbrev pub test_of : Plan → Test × Bool
 test_of (Jump (When test wanted)) = (test, wanted)
 test_of _ = (Sticky, false)
 
--- what is told of an instruction of this mnemonic
+-- what is known of an instruction of this mnemonic
 unfoldable pub predecoded_of : Mnemonic → Insn → Predecoded
 predecoded_of m i = record {
   insn = i;
@@ -126,11 +126,11 @@ predecoded_of m i = record {
   other = states_of i (place_when (cost_of (plan_of m) i.operand) (known_count i.operand) true);
 }
 
--- nothing is told: an instruction of no bytes, after which the program does not go on
+-- nothing is known: an instruction of no bytes, after which the program does not go on
 abbrev pub is_blank : Predecoded → Bool
 is_blank r = not r.free && r.length == 0
 
--- a well-formed instruction with what is told of it
+-- a well-formed instruction with what is known of it
 pub record IsPredecoded (r : Predecoded) : Type 0 where
   pub formed : IsTrue (is_formed r.insn)
   pub named : mnemonic_at r.insn.opcode r.insn.signed ≡ Some r.mnemonic

@@ -1,4 +1,4 @@
-//! Instructions that are told of once and then performed many times: what their states depend on, and a straight way through
+//! Instructions that are known of once and then performed many times: what their states depend on, and a straight way through
 //! each of them.
 #![tactic(auto)]
 

@@ -5,7 +5,7 @@ use crate::cost::Cost;
 use kc_exec_spec::Test;
 use kc_isa::{Insn, Mnemonic, Operand};
 
-/// An instruction with what is told of it once: whether the program goes on after it (`free`); its length in bytes; what its
+/// An instruction with what is known of it once: whether the program goes on after it (`free`); its length in bytes; what its
 /// states depend on, with the test of a conditional jump and what it has to be; and its states where that does not hold (`base`)
 /// and where it holds (`other`).
 #[derive(Clone, Copy, Drop)]
@@ -22,7 +22,7 @@ pub struct Predecoded {
 }
 
 impl Predecoded {
-    /// What tells nothing: an instruction of no bytes, after which the program does not go on.
+    /// What knows nothing: an instruction of no bytes, after which the program does not go on.
     pub fn blank() -> Predecoded
         ensures { is_blank result ≡ true }
     {
@@ -44,7 +44,7 @@ impl Predecoded {
         }
     }
 
-    /// Whether nothing is told.
+    /// Whether nothing is known.
     pub fn is_blank(&self) -> bool
         ensures { result ≡ is_blank self.now }
     {

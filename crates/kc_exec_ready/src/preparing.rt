@@ -1,4 +1,4 @@
-// What is told of an instruction once.
+// What is known of an instruction once.
 ghost use Rattle.std.specs.Prelude.{◌≡◌, ◌≤◌, ◌<◌, IfSome, IfNone, IsTrue, None};
 ghost use Rattle.kc_isa.specs.Formed.{is_formed};
 ghost use Rattle.kc_isa.specs.Names.{mnemonic_at};
@@ -157,7 +157,7 @@ fn made_predecoded(insn: &Insn, mnemonic: Mnemonic) -> Predecoded
     }
 }
 
-/// A well-formed instruction with what is told of it; `None` where its opcode has no row.
+/// A well-formed instruction with what is known of it; `None` where its opcode has no row.
 pub fn predecode(insn: &Insn) -> Option<Predecoded>
     requires { IsTrue (is_formed insn.now) }
     ensures predecoded { IfSome result IsPredecoded }

@@ -1,4 +1,4 @@
--- What an instruction does, told from the answers of its accesses, and what that comes to over a bus (this kit's own).
+-- What an instruction does, described from the answers of its accesses, and what that comes to over a bus (this kit's own).
 use Rattle.std.specs.Prelude.{◌≡◌, ℕ, Result, Ok, Err}
 use Rattle.kc_base.specs.declared.types.Kind.{Kind}
 use Rattle.kc_exec_spec.specs.declared.access.Masks.{Masks}
@@ -42,7 +42,7 @@ run bus (Undefined k) h = Refused k h
 run bus (Look next) h = run bus (next (bus.masks h)) h
 run bus (Ask r next) h = answered (bus.answer h r) (λ n. run bus (next n) (bus.after h r)) h
 
--- a call returned this, seen by view, and left the bus holding h, where the outcome is told
+-- a call returned this, seen by view, and left the bus holding h, where the outcome is described
 abbrev pub Gives : {X A H : Type 0} → (X → A) → Result X Kind → H → Outcome A H → Type 0
 Gives view (Ok x) h outcome = outcome ≡ Done (view x) h
 Gives view (Err k) h outcome = outcome ≡ Refused k h

@@ -38,7 +38,7 @@ planned Reset i wsr cpu = ended Ended (next_pc i cpu.pc) cpu.psw_high
 unfoldable pub effect_of : Insn → Cpu → Effect (After × Cpu)
 effect_of i cpu = elim (mnemonic_at i.opcode i.signed) [ None ↦ Undefined Opcode | Some mnemonic ↦ Look (λ m. planned (plan_of mnemonic) i m.wsr cpu) ]
 
--- a call ended so, and left these registers, where the outcome is told; a refusal leaves them as they were
+-- a call ended so, and left these registers, where the outcome is described; a refusal leaves them as they were
 abbrev pub Performs : {H : Type 0} → Result After Kind → Cpu → Cpu → H → Outcome (After × Cpu) H → Type 0
 Performs (Ok after) old new h outcome = outcome ≡ Done (after, new) h
 Performs (Err k) old new h outcome = (outcome ≡ Refused k h) × (new ≡ old)

@@ -34,7 +34,7 @@ opcode_trap pc = trap 0x2012 ((pc + 1) % 0x10000)
 abbrev pub entry_states : ℕ → ℕ
 entry_states sp = if nat_lt ((sp + 0xFFFE) % 0x10000) 0x200 then 12 else 14
 
--- a call loaded the program counter so, where the outcome is told; a refusal leaves the registers as they were
+-- a call loaded the program counter so, where the outcome is described; a refusal leaves the registers as they were
 abbrev pub Loads : {H : Type 0} → Result (Unit {0}) Kind → Cpu → Cpu → H → Outcome ℕ H → Type 0
 Loads (Ok u) old new h outcome = (outcome ≡ Done new.pc h) × (new.psw_high ≡ old.psw_high)
 Loads (Err k) old new h outcome = (outcome ≡ Refused k h) × (new ≡ old)

@@ -36,7 +36,7 @@ IsOfRegister (WriteByte by addr n) = addr < 24
 IsOfRegister (WriteWord by addr n) = addr < 24
 IsOfRegister (SetMasks m) = Unit {0}
 
--- Memory is bytes apart from the registers: byte tells them, and put changes one. What a bus holds is whole.
+-- Memory is bytes apart from the registers: byte reports them, and put changes one. What a bus holds is whole.
 pub record IsLawful {B H : Type 0} (held : B → H) (bus : Meaning H) (IsWhole : H → Type 0) (byte : H → ℕ → ℕ) (put : H → ℕ → ℕ → H) : Type 0 where
   pub whole : (b : B) → IsWhole (held b)
   pub read_byte : (h : H) (by : Master) (addr : ℕ) → IsMemory addr → bus.answer h (ReadByte by addr) ≡ reads addr (byte h addr)

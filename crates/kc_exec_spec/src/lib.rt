@@ -1,4 +1,4 @@
-//! What an instruction, an entry or a transfer does to the common memory, told access by access. This crate holds plain
+//! What an instruction, an entry or a transfer does to the common memory, described access by access. This crate holds plain
 //! data and definitions alone; the crates above perform them over any bus.
 #![tactic(auto)]
 

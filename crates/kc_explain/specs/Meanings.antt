@@ -16,7 +16,7 @@ pub record Said : Type 0 where
 abbrev pub said : Meaning → Said
 said row = record { code = row.code.now; sentence = row.sentence.now; example = option_map (λ e. (e.wrong.now, e.right.now)) row.example }
 
--- the rows of the table: the faults of sources, those of all other files, what linking and runs tell, and
+-- the rows of the table: the faults of sources, those of all other files, what linking and runs describe, and
 -- the instructions in four parts
 unfoldable pub source_rows : List Said
 source_rows = map (λ row. record { code = row.0.now; sentence = row.1.now; example = option_map (λ e. (e.0.now, e.1.now)) row.2 }) SOURCES

@@ -1,4 +1,4 @@
--- Where no name has a fault that is told elsewhere, no expression has.
+-- Where no name has a fault that is reported elsewhere, no expression has.
 use Rattle.std.proofs.Common.{◌≡◌, ℕ, Bool, true, false, cond, List, [], ◌∷◌, refl, sym, ap, ◌∙◌}
 use Rattle.std.specs.Prelude.{Option, Some, None, Ok, Err, nat_lt, ◌^◌}
 use Rattle.std.specs.FinMap.{get}

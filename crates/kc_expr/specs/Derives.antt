@@ -31,7 +31,7 @@ pub record IsLongestPrefix (ts : List Token) (e : Tree) (rest : List Token) : Ty
   pub longest : (other behind : List Token) (e' : Tree) → ts ≡ other ++ behind → Derives 7 other e' → length other ≤ length prefix
   pub only : (e' : Tree) → Derives 7 prefix e' → e' ≡ e
 
--- the reading is of the longest expression at the front, or none where no front is an expression
+-- the reading is of the longest expression at the beginning, or none where no prefix is an expression
 abbrev pub IsLongest : Reading → List Token → Type 0
 IsLongest None ts = (other behind : List Token) (e : Tree) → ts ≡ other ++ behind → Derives 7 other e → ⊥
 IsLongest (Some p) ts = IsLongestPrefix ts p.0 p.1

@@ -1,4 +1,4 @@
--- The grammar of expressions, as a function on tokens that gives the longest expression at the front and the rest
+-- The grammar of expressions, as a function on tokens that gives the longest expression at the beginning and the rest
 -- (after the MCS-96 Macro Assembler User's Guide, "Expressions"; the exact precedence is this kit's own).
 use Rattle.std.specs.Prelude.{ℕ, zero, suc, ◌+◌, ◌-◌, ◌*◌, Bool, false, not, ◌&&◌, ◌||◌, ◌==◌, if◌then◌else◌, List, [], ◌∷◌, length, drop, Option, Some, None, codes, option_and_then, ◌≡◌, Result, Ok, Err}
 use Rattle.std.specs.Option.{option_map}

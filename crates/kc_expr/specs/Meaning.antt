@@ -122,7 +122,7 @@ unary_answer op (Err e) = Err e
 unfoldable pub lesser_code : SourceCode → SourceCode → SourceCode
 lesser_code c d = if nat_lt (code_number d) (code_number c) then d else c
 
--- of two faults the one of the lesser code; one that is told elsewhere only where there is no other
+-- of two faults the one of the lesser code; one that is reported elsewhere only where there is no other
 abbrev pub lesser : NoValue → NoValue → NoValue
 lesser (Fault c) (Fault d) = Fault (lesser_code c d)
 lesser (Fault c) ReportedElsewhere = Fault c
@@ -172,7 +172,7 @@ name_answer names name = found (get names name)
 abbrev pub answer : Tree → NameMap → Answer
 answer tree names = answer_by (name_answer names) tree
 
--- what a call answers at a line: where names have values or none, nothing is told elsewhere
+-- what a call answers at a line: where names have values or none, nothing is reported elsewhere
 abbrev pub IsAnswerAt : ℕ → Answer → Result Value SourceFault → Type 0
 IsAnswerAt line (Ok v) result = result ≡ Ok v
 IsAnswerAt line (Err (Fault c)) result = result ≡ Err (faults.At line (code_number c))

@@ -40,7 +40,7 @@ impl Scope for Symbols {
 }
 
 /// The value of an expression over what its names answer, or the one of its faults that has the least code; a fault that is
-/// told elsewhere only where it has no other.
+/// reported elsewhere only where it has no other.
 #[tactic(auto, unfolding(crate::specs::Meaning::answer_by))]
 pub fn value_over<S: Scope>(expr: &Expr, names: &S) -> Result<Value, NoValue>
     ensures { result ≡ answer_by (S.answers names.now) (tree_of expr.now) }

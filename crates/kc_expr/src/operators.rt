@@ -172,7 +172,7 @@ pub fn is_type(token: &Token) -> bool
         || is_word(token, b"NULL")
 }
 
-/// Whether a suffix stands at the front.
+/// Whether a suffix stands at the beginning.
 pub(crate) fn has_suffix(tokens: &[Token]) -> bool
     ensures { result ≡ grammar.has_suffix tokens.now }
 {

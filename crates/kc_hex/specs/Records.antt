@@ -19,7 +19,7 @@ data_of bs = take (length bs - 5) (drop 4 bs)
 abbrev pub address_of : List ℕ → ℕ
 address_of bs = 256 * slice_index bs 1 + slice_index bs 2
 
--- the length that the first byte tells is that of the data
+-- the length that the first byte reports is that of the data
 abbrev pub whole : Result (List ℕ) FromHexError → Option (List ℕ)
 whole (Err e) = None
 whole (Ok bs) = if nat_le 5 (length bs) && (length bs == slice_index bs 0 + 5) then Some bs else None
@@ -80,7 +80,7 @@ abbrev pub read_on : ℕ → (State → Answer) → Result State HexCode → Ans
 read_on number goes_on (Ok s) = goes_on s
 read_on number goes_on (Err code) = Err (number, code_number code)
 
--- that there is no end is told at the line after the last
+-- that there is no end is reported at the line after the last
 unfoldable pub read_from : ℕ → List (List ℕ) → State → Answer
 read_from number [] s = if s.1 then Ok s.0 else Err (number, code_number codes.NoEnd)
 read_from number (l ∷ ls) s = read_on number (read_from (number + 1) ls) (after_line s l)

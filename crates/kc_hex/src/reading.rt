@@ -89,7 +89,7 @@ fn fault(ended: bool, bytes: &[u8]) -> Option<HexCode>
     }
 }
 
-// Does what a record without fault says, and tells whether the end was read.
+// Does what a record without fault says, and reports whether the end was read.
 #[tactic(auto, unfolding(crate::specs::Records::fault_of))]
 fn apply(image: &mut Image, ended: bool, bytes: &[u8]) -> bool
     requires short { 5 ≤ length bytes.now }
@@ -130,7 +130,7 @@ fn take_line(
 }
 
 /// The image that a text of records stands for, FFH where no record says otherwise, or the first line that is wrong,
-/// counted from 1, with the number of the least code of its faults, as `HexCode` has them; that there is no end record is told at the
+/// counted from 1, with the number of the least code of its faults, as `HexCode` has them; that there is no end record is reported at the
 /// line after the last (Intel hexadecimal object file format).
 pub fn read(alloc: Global, bytes: &[u8]) -> Result<Image, HexFault>
     requires { length bytes.now ≤ 1048576 }

@@ -465,7 +465,7 @@ wrote-none : (old new : Kept) (ws : List Write) → ws ≡ [] → Wrote old ws n
 wrote-none old new [] e h = h
 wrote-none old new (w ∷ ws) e h = absurd (cc)
 
--- how the files are after a reply with each status
+-- how the files are after a response with each status
 pub record Ends (may : Response → Type 0) (old new : Kept) : Type 0 where
   pub how : (new ≡ old) ⊎ ((r : Response) × may r × (Wrote old r.writes new ⊎ WroteByPart old r.writes new))
 
@@ -594,7 +594,7 @@ accepted-then accepts may (Err e) r f ok h = absurd ok
 done-writing : (readable others : List Write) (r : Response) → AreReadable readable → r ≡ writing_readable readable others → IsDone r.status
 done-writing readable others r h e = inl (ap (λ (k : Response). k.status) (e ∙ written-all readable others h))
 
--- a reply that is said, where its status is this
+-- a response that is said, where its status is this
 done-reported : (r reported : Response) → r ≡ reported → IsDone reported.status → IsDone r.status
 done-reported r reported e h = subst (λ (k : Response). IsDone k.status) (sym e) h
 
@@ -754,7 +754,7 @@ done-command (Some (Generates number)) contents r a h =
 done-command (Some (Dumps file out clock)) contents r a h = accepted-then _ (OneText (DumpAnswer file out clock)) (reads_of (file ∷ []) contents) r (λ texts b k. done-dump file out clock texts r b k) a h
 done-command (Some (Explains code)) contents r a h = done-reported r (explained code) h (done-explained code (said_of code) (meaning-is code) a)
 
--- a reply without a fault outside is done, or for want of memory
+-- a response without a fault outside is done, or because memory ran out
 pub done-of : (c : Option Command) (reported : Option Holding) (rose : Type 0) (old : Kept) (before : Shown) (given : Status) (new : Kept) (now : Shown) →
     Responses (MayAnswer AnyDiagnostic c reported rose) old before given new now →
     Reported reported (λ held. IsAccepted c (map held (names_read c)) → ¬ rose → ¬ Rose before.faults now.faults → ¬ Rose old.faults new.faults → (given ≡ status.Done) ⊎ ((given ≡ status.Undefined) ⊎ (given ≡ status.NoMemory)))

@@ -1,4 +1,4 @@
--- What may be answered with the notes of a rule may be answered whatever is said of a fault of a source.
+-- What may be answered with the diagnostics of a rule may be answered whatever is said of a fault of a source.
 use Rattle.std.proofs.Common.{inl, inr, ℕ, List, [], ◌∷◌, ◌++◌, length, take, Option, Some, None, Result, Ok, Err}
 use Rattle.kc_base.specs.Held.{Holding}
 use Rattle.kc_obj_module.specs.Object.{Object}

@@ -1,4 +1,4 @@
--- A text alone that is printed, and nothing is said of it; and the notes of what has ended.
+-- A text alone that is printed, and nothing is said of it; and the diagnostics of what has ended.
 use Rattle.std.proofs.Common.{◌≡◌, ◌≢◌, ◌∙◌, [], Option, Some, None, ap}
 use Rattle.kc_base.specs.Held.{Holding}
 use Rattle.kc_kit_files.specs.declared.status.Status.{Status}
@@ -21,6 +21,6 @@ printed reported may old before ended given new now none silent e f wide h =
     Ends-widen (λ (response : Response). response ≡ reported) may old before ended.status ended.said new now wide
     (ends-by (λ (response : Response). response ≡ reported) old before ended given new now e f (λ r k. ap (λ (w : Response). w.writes) k ∙ none) (λ r k. ap (λ (w : Response). w.diagnostic) k ∙ silent) h)
 
--- a command is not answered as words that are none, whatever notes may be said
+-- a command is not answered as words that are none, whatever diagnostics may be said
 pub no-usage : (IsDiagnostic : DiagnosticRule) (command : Command) (held : Option Holding) (rose : Type 0) (r : Response) → MayAnswer IsDiagnostic (Some command) held rose r → r.status ≢ status.Usage
 no-usage IsDiagnostic command held rose r may e = absurd (let none : Some command ≡ None = may-usage (Some command) held rose r (may-any IsDiagnostic (Some command) held rose r may) e in cc)

@@ -46,7 +46,7 @@ pub fn kit<F: Files, S: Sink, N: Sink>(
     ensures answer { Replied F.held F.write_faults S.written S.faults (MayAnswerBy AnyDiagnostic F.held F.read_faults (command_of (map string_bytes words.now)) files.old files.new)
         files.old out.old.sink result files.new out.new.sink }
 
-    // What is said in words is the note of the same answer, with that of a fault of a source, or what could not be written, or that memory is wanted, or what is
+    // What is said in words is the diagnostic of the same answer, with that of a fault of a source, or what could not be written, or that memory is wanted, or what is
     // wrong in words that are no command.
     ensures diagnostics { Noted (usage_diagnostic (map string_bytes words.now)) (MayAnswerBy IsFaultDiagnostic F.held F.read_faults (command_of (map string_bytes words.now)) files.old files.new)
         (kept (F.held files.old) (F.write_faults files.old)) (shown_by S.written S.faults out.old.sink) (out_of N.written N.faults diagnostics.old) result
@@ -71,7 +71,7 @@ pub fn kit<F: Files, S: Sink, N: Sink>(
     answered(alloc, words, files, out, diagnostics)
 }
 
-// The answer to some words, with its note.
+// The answer to some words, with its diagnostic.
 fn answered<F: Files, S: Sink, N: Sink>(
     alloc: Global,
     words: &[String],

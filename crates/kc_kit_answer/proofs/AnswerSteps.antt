@@ -89,7 +89,7 @@ taking-prepared names library may ms members taken p e t h =
     prepared-widen (may (names ++ member_words library.0 taken) (ms ++ taken)) (Completed names (Some library) may ms) p
     (λ r m. then-ok (library_of library.0 library.1) members (Taking names library.0 may ms) r e (Ok taken, t, m)) h
 
--- a command whose files are read and judged is finished
+-- a command whose files are read and checked is finished
 pub finished : {T : Type 0} (held : T → Option Holding) (reads writes : T → ℕ) (command read : Read) (old mid new : T) (p : Result Job Refusal) (before now : Shown) (ended : Ended) →
     command ≡ read → Prepares held reads writes (asked read) old p mid → EndsBy (IsOf p) (kept (held mid) (writes mid)) before ended.status ended.said (kept (held new) (writes new)) now → reads new ≡ reads mid →
     EndsBy (MayAnswerBy IsFaultDiagnostic held reads (Some (asked command)) old new) (kept (held old) (writes old)) before ended.status ended.said (kept (held new) (writes new)) now

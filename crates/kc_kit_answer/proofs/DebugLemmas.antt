@@ -1,4 +1,4 @@
--- A script that is judged and carried out.
+-- A script that is checked and carried out.
 use Rattle.std.proofs.Common.{◌≡◌, ℕ, ◌≤◌, List, [], ◌∷◌, length, Option, Result, Ok, Err, ap, subst, ◌∙◌}
 use Rattle.std.specs.Prelude.{Some}
 use Rattle.kc_base.specs.Held.{Holding, Reported}
@@ -32,9 +32,9 @@ second-of-both held mid first second one rose later refusal same a b f h =
     refused-widen (MissedOne mid second rose) (MissedRead held (first ∷ second ∷ []) later) refusal
     (λ r m. missed-second held mid (first ∷ []) (second ∷ []) (one ∷ []) rose later r same (held-one held first one a b) f (missed-one mid second rose r m)) h
 
--- ---- a script that is judged behind a board
+-- ---- a script that is checked behind a board
 
--- where an image and what drives the inputs are given, it may be answered what is told of them
+-- where an image and what drives the inputs are given, it may be answered what is known of them
 abbrev pub IsGivenBoard : List ℕ → GivenFiles → List ℕ → Driving → List ℕ → Type 0
 IsGivenBoard name given text driving image = (report : Driving → List ℕ → Response) → HexReported name given text report (report driving image)
 
@@ -51,7 +51,7 @@ script-refused name text given script lines driving image refusal board h =
     (λ r e. subst (HexReported name given text (debug_response script lines))
     (reported-err (script_of script.0 script.1) (λ commands. reported (lines_of lines) (λ entries. script_response (debugged_by entries commands driving image))) r e) (board (debug_response script lines))) h
 
--- what is told with the commands of the script
+-- what is reported with the commands of the script
 with-commands : (script : List ℕ × List ℕ) (lines : Option (List ℕ × List ℕ)) (driving : Driving) (image : List ℕ) (commands : List Command) → script_of script.0 script.1 ≡ Ok commands →
     debug_response script lines driving image ≡ reported (lines_of lines) (λ entries. script_response (debugged_by entries commands driving image))
 with-commands script lines driving image commands e = reported-ok (script_of script.0 script.1) commands (λ commands. reported (lines_of lines) (λ entries. script_response (debugged_by entries commands driving image))) e

@@ -69,7 +69,7 @@ done-is-none cause.Input line diagnostic e = absurd (let f : status.Input ≡ st
 done-is-none cause.Link line diagnostic e = absurd (let f : status.Link ≡ status.Done = ap (λ (r : Response). r.status) e in cc)
 done-is-none cause.ReadFault line diagnostic e = absurd (let f : status.ReadFault ≡ status.Done = ap (λ (r : Response). r.status) e in cc)
 
--- a reply that is none of a run
+-- a response that is none of a run
 none-of-a-run : (names : List (List ℕ)) (given : GivenFiles) (ranges : Ranges) (report : List MapEntry → Driving → List ℕ → Response) (ms : List Object) (r : Response) → r ≢ says status.Done [] →
     Placing names ranges (Driven given FilledReported (λ d image. says status.Done [])) ms r → Placing names ranges (DrivenWithLines given FilledWithLines report) ms r
 none-of-a-run names given ranges report ms r un h = by (placed ms ranges) h

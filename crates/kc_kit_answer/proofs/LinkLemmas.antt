@@ -56,7 +56,7 @@ placed-located ms ranges p e = by (located ms ranges) refl e
     by (Ok q) f e = f ∙ ap Ok (or-ok (unfit ms q 0 ms) q e)
     by (Err fault) f e = absurd (cc)
 
--- modules that are placed have places before their numbers are judged
+-- modules that are placed have places before their numbers are checked
 pub is-located : (ms : List Object) (ranges : Ranges) → IsOk (placed ms ranges) → IsOk (located ms ranges)
 is-located ms ranges ok = by (placed ms ranges) refl ok
   where

@@ -84,7 +84,7 @@ written-behind old mid new ws us first ended is all later h = record {
 pub written-prefix : (old new : Kept) (ws us : List Write) (ended : Ended) → ended.status ≢ status.Done → AreWritten old ws ended new → AreWritten old (ws ++ us) ended new
 written-prefix old new ws us ended is_not h = record { written = by-prefix old new ws us ended.status ended.said is_not h.written; silent = h.silent }
 
--- ---- the reply of files that are written
+-- ---- the response of files that are written
 
 ends-refused : (old new : Kept) (out : Shown) (ws : List Write) (what : Said) (may : Response → Type 0) → may (done_writing ws) → IsRefusedAt what old ws new → EndsBy may old out status.WriteFault what new out
 ends-refused old new out ws (said.File name) may m h = record { response = done_writing ws; is_answer = m; files = h.1; cause = h.0; text = Grew-nothing out.written out.written refl }

@@ -7,7 +7,7 @@ abbrev pub Accepting : {A : Type 0} → (A → Type 0) → Result A Response →
 Accepting accepts (Ok a) = accepts a
 Accepting accepts (Err refusal) = ⊥
 
--- the reply that a step's value has, or the refusal
+-- the response that a step's value has, or the refusal
 abbrev pub reported : {A : Type 0} → Result A Response → (A → Response) → Response
 reported (Ok a) report = report a
 reported (Err refusal) report = refusal

@@ -42,7 +42,7 @@ TwoTexts may _ response = ⊥
 abbrev pub Parted : ℕ → (List (List ℕ) → List (List ℕ) → Response → Type 0) → List (List ℕ) → Response → Type 0
 Parted count may texts response = may (take count texts) (drop count texts) response
 
--- what may be answered, over what the files that are read hold, in the order of their names; the rule says which notes may be said
+-- what may be answered, over what the files that are read hold, in the order of their names; the rule says which diagnostics may be said
 -- of a fault of a source
 abbrev pub CommandAnswer : DiagnosticRule → Option Command → List (Option (List ℕ)) → Response → Type 0
 CommandAnswer IsDiagnostic None contents response = response ≡ says status.Usage usage_line
@@ -67,13 +67,13 @@ CommandAnswer IsDiagnostic (Some (Generates number)) contents response = Generat
 CommandAnswer IsDiagnostic (Some (Dumps file out clock)) contents response = Then (reads_of (file ∷ []) contents) (OneText (DumpAnswer file out clock)) response
 CommandAnswer IsDiagnostic (Some (Explains code)) contents response = response ≡ explained code
 
--- What may be answered to a command, over what the files tell that they hold: all files are read before any is judged. A read may
+-- What may be answered to a command, over what the files report that they hold: all files are read before any is checked. A read may
 -- fail where the count of failed reads rose.
 abbrev pub MayAnswer : DiagnosticRule → Option Command → Option Holding → Type 0 → Response → Type 0
 MayAnswer IsDiagnostic command reported rose response =
     (contents : List (Option (List ℕ))) × Holds reported (names_read command) contents × (CommandAnswer IsDiagnostic command contents response ⊎ FailedRead (names_read command) contents rose response)
 
--- the same of files, by what they tell of themselves before and after the command
+-- the same of files, by what they report of themselves before and after the command
 abbrev pub MayAnswerBy : {T : Type 0} → DiagnosticRule → (T → Option Holding) → (T → ℕ) → Option Command → T → T → Response → Type 0
 MayAnswerBy IsDiagnostic held reads command old new response = MayAnswer IsDiagnostic command (held old) (Rose (reads old) (reads new)) response
 

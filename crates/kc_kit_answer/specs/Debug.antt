@@ -13,7 +13,7 @@ use Rattle.kc_kit_running.specs.Scripted.{debugged_by, script_response}
 use Rattle.kc_kit_answer.specs.Accepting.{reported}
 use Rattle.kc_kit_answer.specs.Hex.{HexReported}
 
--- with an image and what drives the inputs, the script is judged, then the line map, and then the script is carried out
+-- with an image and what drives the inputs, the script is checked, then the line map, and then the script is carried out
 abbrev pub debug_response : List ℕ × List ℕ → Option (List ℕ × List ℕ) → Driving → List ℕ → Response
 debug_response script lines driving image =
     reported (script_of script.0 script.1) (λ commands. reported (lines_of lines) (λ entries. script_response (debugged_by entries commands driving image)))

@@ -10,7 +10,7 @@ use Rattle.kc_kit_inputs.specs.Driving.{GivenFiles, given_for, driving_of}
 use Rattle.kc_kit_inputs.specs.Hex.{hex_of}
 use Rattle.kc_kit_running.specs.Lives.{board_response}
 
--- the image of a hex file is judged, then what drives the inputs, and with both the answer is this
+-- the image of a hex file is checked, then what drives the inputs, and with both the answer is this
 abbrev pub HexReported : List ℕ → GivenFiles → List ℕ → (Driving → List ℕ → Response) → Response → Type 0
 HexReported name given text report response = Then (hex_of name text) (λ image. Then (driving_of given) (λ driving response. response ≡ report driving image)) response
 

@@ -1,4 +1,4 @@
--- What is left to do once a command's files are read and judged (this kit's own).
+-- What is left to do once a command's files are read and checked (this kit's own).
 use Rattle.std.specs.Prelude.{◌≡◌, ℕ, ◌≤◌, List, [], ◌∷◌, ◌++◌, Option, Some, None, Result, Ok, Err}
 use Rattle.std.specs.Global.{Vec}
 use Rattle.kc_code_listing.specs.Listing.{listing}
@@ -28,7 +28,7 @@ abbrev pub maybe_written : Option Output → List Write
 maybe_written None = []
 maybe_written (Some o) = written o ∷ []
 
--- the reply of a job
+-- the response of a job
 abbrev pub does : Job → Response
 does (job.Run board extent) = board_response extent board.driving board.image
 does (job.Profile board states entries out) = profile_response states out.now entries.items board.driving board.image
@@ -56,12 +56,12 @@ abbrev pub IsBoardWithLines : ((List MapEntry → Driving → List ℕ → Respo
 IsBoardWithLines answer (Ok made) = (report : List MapEntry → Driving → List ℕ → Response) → answer report (report made.1.items made.0.driving made.0.image)
 IsBoardWithLines answer (Err refusal) = (report : List MapEntry → Driving → List ℕ → Response) → IsRefused (answer report) refusal
 
--- a job or a refusal, of which the reply may be given
+-- a job or a refusal, of which the response may be given
 abbrev pub IsPrepared : (Response → Type 0) → Result Job Refusal → Type 0
 IsPrepared may (Ok job) = may (does job) × IsDoable job
 IsPrepared may (Err refusal) = IsRefused may refusal
 
--- the job or the refusal that a command comes to once its files are read and judged; the files stay
+-- the job or the refusal that a command comes to once its files are read and checked; the files stay
 pub record Prepares {T : Type 0} (held : T → Option Holding) (reads writes : T → ℕ) (command : Command) (old : T) (given : Result Job Refusal) (new : T) : Type 0 where
   pub answer : IsPrepared (MayAnswerBy IsFaultDiagnostic held reads (Some command) old new) given
   pub only_read : OnlyRead held reads writes old new
@@ -70,7 +70,7 @@ abbrev pub IsReady : Result Job Refusal → Type 0
 IsReady (Ok job) = IsDoable job
 IsReady (Err refusal) = Unit {0}
 
--- the reply of a job or of a refusal
+-- the response of a job or of a refusal
 abbrev pub IsOf : Result Job Refusal → Response → Type 0
 IsOf (Ok job) response = response ≡ does job
 IsOf (Err refusal) response = IsSaid refusal response

@@ -13,7 +13,7 @@ use Rattle.kc_kit_answer.specs.Accepting.{Accepting}
 use Rattle.kc_kit_notes.specs.Rules.{link_line}
 use Rattle.kc_kit_notes.specs.RuleDiagnostics.{link_diagnostic}
 
--- the library of modules is written, which commands read, or the first name is told that is public in two of them
+-- the library of modules is written, which commands read, or the first name is reported that is public in two of them
 abbrev pub packed : List (List ℕ) → List ℕ → List Object → Option (List ℕ) → Response
 packed names out ms None = writing_readable (write out (library_bytes ms) ∷ []) []
 packed names out ms (Some name) = reports status.Link (link_line names (faults.OverlapName name)) (link_diagnostic names ms (faults.OverlapName name))

@@ -10,7 +10,7 @@ use Rattle.kc_kit_files.specs.Response.{Response, reports, Then}
 use Rattle.kc_kit_notes.specs.Rules.{link_line}
 use Rattle.kc_kit_notes.specs.RuleDiagnostics.{link_diagnostic}
 
--- the places of modules, or the reply to the first broken rule
+-- the places of modules, or the response to the first broken rule
 abbrev pub by_places : List (List ℕ) → List Object → Result Places LinkFault → Result Places Response
 by_places names ms (Ok places) = Ok places
 by_places names ms (Err fault) = Err (reports status.Link (link_line names fault) (link_diagnostic names ms fault))

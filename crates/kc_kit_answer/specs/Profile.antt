@@ -44,7 +44,7 @@ pub record LinkedWithLines (texts : List (List ℕ)) (report : List MapEntry →
   pub is_map : IsLineMap ms places entries
   pub reported : response ≡ report (map map_entry entries) image
 
--- once modules are placed, it is judged what drives the inputs
+-- once modules are placed, it is checked what drives the inputs
 abbrev pub DrivenWithLines : GivenFiles → ((List MapEntry → List ℕ → Response) → List Object → Places → Response → Type 0) → (List MapEntry → Driving → List ℕ → Response) → List Object → Places → Response → Type 0
 DrivenWithLines given may report ms places response = Then (driving_of given) (λ driving. may (λ entries. report entries driving) ms places) response
 

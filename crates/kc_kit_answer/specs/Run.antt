@@ -50,11 +50,11 @@ pub record LinkedReported (texts : List (List ℕ)) (report : List ℕ → Respo
   pub is_image : IsImageOfTexts texts ms places image
   pub reported : response ≡ report image
 
--- once modules are placed, it is judged what drives the inputs
+-- once modules are placed, it is checked what drives the inputs
 abbrev pub Driven : GivenFiles → ((List ℕ → Response) → List Object → Places → Response → Type 0) → (Driving → List ℕ → Response) → List Object → Places → Response → Type 0
 Driven given may report ms places response = Then (driving_of given) (λ driving. may (report driving) ms places) response
 
--- sources are judged, their modules are placed, it is judged what drives the inputs, and with the image the answer is this
+-- sources are checked, their modules are placed, it is checked what drives the inputs, and with the image the answer is this
 abbrev pub SourcesReported : DiagnosticRule → List (List ℕ) → GivenFiles → Ranges → List (List ℕ) → (Driving → List ℕ → Response) → Response → Type 0
 SourcesReported IsDiagnostic names given ranges texts report response =
     (sources : Result (List Object) Response) × SourcesAre IsDiagnostic names texts sources × Then sources (Placing names ranges (Driven given (LinkedReported texts) report)) response

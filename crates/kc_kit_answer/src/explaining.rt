@@ -13,7 +13,7 @@ use kc_kit_shown::put_word;
 use kc_trace::TraceOut;
 use std::alloc::Global;
 
-// The note of a code that is none.
+// The diagnostic of a code that is none.
 fn no_code_diagnostic(alloc: Global, code: &[u8]) -> Result<Vec<u8>, NoMemory>
     ensures { IfOk result (λ diagnostic. diagnostic.items ≡ no_code_diagnostic code.now) }
 {

@@ -1,4 +1,4 @@
-// What is left to do once a command's files are read and judged.
+// What is left to do once a command's files are read and checked.
 ghost use Rattle.std.specs.Prelude.{◌≡◌, ◌≤◌, ◌∷◌, ◌++◌, false};
 ghost use Rattle.kc_kit_files.specs.Ended.{Ends};
 ghost use Rattle.kc_kit_files.specs.Outside.{kept};

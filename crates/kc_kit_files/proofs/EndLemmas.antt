@@ -12,7 +12,7 @@ use Rattle.kc_kit_files.specs.Outside.{Kept, Shown, WroteByPart, RefusedAt, Sink
 use Rattle.kc_kit_files.specs.Ended.{said_in, unwritten, diagnostic_by, Unwritten, EndsBy, Noted}
 use Rattle.kc_kit_files.proofs.ResponseLemmas.{given-widen, Responses-widen}
 
--- a reply that is given with its note
+-- a response that is given with its diagnostic
 abbrev pub WithDiagnostic : (Response → Type 0) → Said → Response → Type 0
 WithDiagnostic may what response = may response × (response.diagnostic ≡ said_in what)
 
@@ -75,7 +75,7 @@ Ends-responses may old before status.Link what new now h = bare may status.Link 
 Ends-responses may old before status.Undefined what new now h = bare may status.Undefined old before what new now h
 Ends-responses may old before status.ReadFault what new now h = bare may status.ReadFault old before what new now h
 
--- ---- a text alone is printed, and nothing is said of it but what the note of its reply is
+-- ---- a text alone is printed, and nothing is said of it but what the diagnostic of its response is
 
 only-sink : (may : Response → Type 0) (old : Kept) (before : Shown) (new : Kept) (now : Shown) → ((r : Response) → may r → r.writes ≡ []) → SinkFailed may old before new now ⊎ WriteFailed may old before new now → SinkFailed may old before new now
 only-sink may old before new now f (inl h) = h
@@ -113,7 +113,7 @@ pub ends-by : (may : Response → Type 0) (old : Kept) (before : Shown) (ended :
 ends-by may old before ended given new now e f none diagnostic h =
     subst (λ s. EndsBy may old before s ended.said new now) (sym e) (subst (λ w. EndsBy may old before given w new now) (sym f) (Ends-printed may old before given said.Nothing new now tt none diagnostic h))
 
--- ---- the notes of a command that has ended so, which is no refusal of its words
+-- ---- the diagnostics of a command that has ended so, which is no refusal of its words
 
 noted-unwritten : (usage : List ℕ) (may : Response → Type 0) (old : Kept) (before : Shown) (diagnostics : Out) (what : Said) (new : Kept) (now : Shown) (noted : Out) → Unwritten may old before what new now → Puts diagnostics (unwritten what) noted →
     Noted usage may old before diagnostics status.WriteFault new now noted
@@ -139,7 +139,7 @@ Ends-noted usage may old before diagnostics status.Link what new now noted f h p
 Ends-noted usage may old before diagnostics status.Undefined what new now noted f h p = noted-given may status.Undefined old before diagnostics what new now noted h p
 Ends-noted usage may old before diagnostics status.ReadFault what new now noted f h p = noted-given may status.ReadFault old before diagnostics what new now noted h p
 
--- ---- the notes of words that are no command: of a reply that says nothing else
+-- ---- the diagnostics of words that are no command: of a response that says nothing else
 
 pub noted-usage : (usage : List ℕ) (may wide : Response → Type 0) (old : Kept) (before : Shown) (diagnostics : Out) (given : Status) (new : Kept) (now : Shown) (noted : Out) → ((r : Response) → may r → wide r) → ((r : Response) → may r → r.writes ≡ []) →
     (given ≡ status.Usage) ⊎ (given ≡ status.WriteFault) → Responses may old before given new now → (given ≡ status.Usage → Puts diagnostics usage noted) → (given ≡ status.WriteFault → Puts diagnostics output_diagnostic noted) →

@@ -1,4 +1,4 @@
--- What is printed and written for a reply.
+-- What is printed and written for a response.
 use Rattle.std.proofs.Common.{◌≡◌, ◌≢◌, ◌⊎◌, inl, inr, refl, sym, subst}
 use Rattle.std.specs.List.{Any}
 use Rattle.kc_base.specs.Causes.{Grew}
@@ -36,7 +36,7 @@ Responses-widen may wide old before status.Link new now f h = given-widen may wi
 Responses-widen may wide old before status.Undefined new now f h = given-widen may wide status.Undefined old before new now f h
 Responses-widen may wide old before status.ReadFault new now f h = given-widen may wide status.ReadFault old before new now f h
 
--- a reply that is given whole
+-- a response that is given whole
 pub Responses-given : (may : Response → Type 0) (given : Status) (old : Kept) (before : Shown) (new : Kept) (now : Shown) → given ≢ status.WriteFault → given ≢ status.NoMemory → IsGiven may given old before new now → Responses may old before given new now
 Responses-given may status.NoMemory old before new now f g h = absurd (g refl)
 Responses-given may status.WriteFault old before new now f g h = absurd (f refl)
@@ -49,12 +49,12 @@ Responses-given may status.Link old before new now f g h = h
 Responses-given may status.Undefined old before new now f g h = h
 Responses-given may status.ReadFault old before new now f g h = h
 
--- the reply of a refusal that may be given
+-- the response of a refusal that may be given
 pub said-refused : (may : Response → Type 0) (refusal : Refusal) → IsRefused may refusal → (r : Response) → IsSaid refusal r → may r
 said-refused may (refusals.Says cause line diagnostic) h r e = subst may (sym e) h
 said-refused may refusals.NoMemory h r e = absurd e
 
--- what a reply is that a status other than those of faults gives
+-- what a response is that a status other than those of faults gives
 pub given-of : (may : Response → Type 0) (given : Status) (old : Kept) (before : Shown) (new : Kept) (now : Shown) → given ≢ status.WriteFault → given ≢ status.NoMemory → Responses may old before given new now → IsGiven may given old before new now
 given-of may status.NoMemory old before new now f g h = absurd (g refl)
 given-of may status.WriteFault old before new now f g h = absurd (f refl)

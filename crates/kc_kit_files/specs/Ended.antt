@@ -13,7 +13,7 @@ use Rattle.kc_kit_files.specs.Response.{Response}
 
 -- ---- what is said in words
 
--- of a reply that is given
+-- of a response that is given
 abbrev pub said_in : Said → List ℕ
 said_in (said.Refusal diagnostic) = diagnostic.items
 said_in _ = []
@@ -28,7 +28,7 @@ diagnostic_by status.NoMemory what = memory_diagnostic
 diagnostic_by status.WriteFault what = unwritten what
 diagnostic_by given what = said_in what
 
--- the note of a command that has ended so
+-- the diagnostic of a command that has ended so
 abbrev pub diagnostic_in : Ended → List ℕ
 diagnostic_in ended = diagnostic_by ended.status ended.said
 
@@ -48,13 +48,13 @@ EndsBy may old before given what new now = IsGiven (λ response. may response ×
 abbrev pub EndsPrinting : (Response → Type 0) → Shown → Ended → Shown → Type 0
 EndsPrinting may before ended now = (files : Kept) → EndsBy may files before ended.status ended.said files now
 
--- the same of files and of a sink, by what they tell of themselves
+-- the same of files and of a sink, by what they report of themselves
 abbrev pub Ends : {T U : Type 0} → (T → Option Holding) → (T → ℕ) → (U → Option (List ℕ)) → (U → ℕ) → (Response → Type 0) → T → U → Ended → T → U → Type 0
 Ends held writes written faults may files sink ended files_after sink_after =
     EndsBy may (kept (held files) (writes files)) (shown_by written faults sink) ended.status ended.said (kept (held files_after) (writes files_after)) (shown_by written faults sink_after)
 
--- ---- notes: a sink of their own. What is put there with a status is the note of the reply that is given; of a write that has failed,
--- ---- what could not be written; of want of memory, that; and of words that are no command, what is wrong in them.
+-- ---- diagnostics: a sink of their own. What is put there with a status is the diagnostic of the response that is given; of a write that has failed,
+-- ---- what could not be written; of memory that ran out, that; and of words that are no command, what is wrong in them.
 
 abbrev pub Noted : List ℕ → (Response → Type 0) → Kept → Shown → Out → Status → Kept → Shown → Out → Type 0
 Noted usage may old before diagnostics status.NoMemory new now noted = Puts diagnostics memory_diagnostic noted

@@ -1,4 +1,4 @@
--- What a reply does to the files and to the output (this kit's own).
+-- What a response does to the files and to the output (this kit's own).
 use Rattle.std.specs.Prelude.{◌≡◌, ◌≢◌, ◌⊎◌, ℕ, ◌≤◌, List, [], ◌∷◌, Option, Some, None, IsSomeAnd}
 use Rattle.std.specs.List.{Any}
 use Rattle.kc_base.specs.Held.{Holding}
@@ -7,7 +7,7 @@ use Rattle.kc_kit_files.specs.declared.status.Status.{Status}
 use Rattle.kc_kit_files.specs.declared.status.Status.TheVariants as status
 use Rattle.kc_kit_files.specs.Response.{Response, Write}
 
--- what files tell that they hold, and how often a write has failed
+-- what files report that they hold, and how often a write has failed
 pub record Kept : Type 0 where
   pub held : Option Holding
   pub faults : ℕ
@@ -15,7 +15,7 @@ pub record Kept : Type 0 where
 abbrev pub kept : Option Holding → ℕ → Kept
 kept held faults = record { held = held; faults = faults }
 
--- what a sink tells that it was given, and how often it has failed
+-- what a sink reports that it was given, and how often it has failed
 pub record Shown : Type 0 where
   pub written : Option (List ℕ)
   pub faults : ℕ
@@ -23,7 +23,7 @@ pub record Shown : Type 0 where
 abbrev pub shown : Option (List ℕ) → ℕ → Shown
 shown written faults = record { written = written; faults = faults }
 
--- ---- writes, by files that tell what they hold
+-- ---- writes, by files that report what they hold
 
 -- every other name holds what it held
 abbrev pub OthersStay : Option Holding → List ℕ → Option Holding → Type 0
@@ -54,9 +54,9 @@ RefusedAt name before [] now = ⊥
 RefusedAt name before (w ∷ ws) now =
     ((w.name ≡ name) × OthersStay before.held w.name now.held) ⊎ ((mid : Kept) × WroteOne before.held w mid.held × RefusedAt name mid ws now)
 
--- ---- replies
+-- ---- responses
 
--- the sink has failed: a front of the text is printed, and no file is written
+-- the sink has failed: a prefix of the text is printed, and no file is written
 pub record SinkFailed (may : Response → Type 0) (old : Kept) (before : Shown) (new : Kept) (now : Shown) : Type 0 where
   pub response : Response
   pub is_answer : may response
@@ -80,12 +80,12 @@ pub record WriteFailedAt (name : List ℕ) (may : Response → Type 0) (old : Ke
   pub cause : Rose old.faults new.faults
   pub text : Grew before.written response.text now.written
 
--- want of memory: nothing is printed, or the text up to a pause; and no file is written, or one is refused
+-- out of memory: nothing is printed, or the text up to a pause; and no file is written, or one is refused
 pub record MemoryWanted (may : Response → Type 0) (old : Kept) (before : Shown) (new : Kept) (now : Shown) : Type 0 where
   pub text : (now.written ≡ before.written) ⊎ ((response : Response) × may response × Any (λ prefix. Grew before.written prefix now.written) response.pauses)
   pub files : (new ≡ old) ⊎ ((response : Response) × may response × WroteByPart old response.writes new)
 
--- a reply is given whole
+-- a response is given whole
 pub record IsGiven (may : Response → Type 0) (given : Status) (old : Kept) (before : Shown) (new : Kept) (now : Shown) : Type 0 where
   pub response : Response
   pub is_answer : may response
@@ -93,7 +93,7 @@ pub record IsGiven (may : Response → Type 0) (given : Status) (old : Kept) (be
   pub text : Grew before.written response.text now.written
   pub files : Wrote old response.writes new
 
--- What is printed and written with this status: all that a reply says, where it may be answered; or a part of it, with the cause.
+-- What is printed and written with this status: all that a response says, where it may be answered; or a part of it, with the cause.
 abbrev pub Responses : (Response → Type 0) → Kept → Shown → Status → Kept → Shown → Type 0
 Responses may old before status.NoMemory new now = MemoryWanted may old before new now
 Responses may old before status.WriteFault new now = SinkFailed may old before new now ⊎ WriteFailed may old before new now
@@ -103,7 +103,7 @@ Responses may old before given new now = IsGiven may given old before new now
 abbrev pub Prints : (Response → Type 0) → Shown → Status → Shown → Type 0
 Prints may before given now = (files : Kept) → Responses may files before given files now
 
--- ---- the same of files and of a sink, by what they tell of themselves
+-- ---- the same of files and of a sink, by what they report of themselves
 
 -- files are read alone: they hold what they held, no failed read is forgotten, and none is written
 pub record OnlyRead {T : Type 0} (held : T → Option Holding) (reads writes : T → ℕ) (old new : T) : Type 0 where

@@ -23,7 +23,7 @@ long_line name = codes "input " ++ name ++ codes ":0: LONG\n"
 abbrev pub read_line : List ℕ → List ℕ
 read_line name = codes "read " ++ name ++ codes "\n"
 
--- ---- the replies to a file that is not there, that is too long, and that could not be read
+-- ---- the responses to a file that is not there, that is too long, and that could not be read
 
 abbrev pub missing_response : List ℕ → Response
 missing_response name = reports status.Missing (missing_line name) (missing_diagnostic name)
@@ -36,12 +36,12 @@ read_response name = reports status.ReadFault (read_line name) (read_diagnostic 
 
 -- ---- names that are read
 
--- the bytes that a name holds, or the reply where it holds none or too many
+-- the bytes that a name holds, or the response where it holds none or too many
 abbrev pub read_of : List ℕ → Option (List ℕ) → Result (List ℕ) Response
 read_of name None = Err (missing_response name)
 read_of name (Some bytes) = if nat_lt file_limit (length bytes) then Err (long_response name) else Ok bytes
 
--- the bytes of each name, of which the second list has what it holds; or the reply to the first that cannot be read
+-- the bytes of each name, of which the second list has what it holds; or the response to the first that cannot be read
 abbrev pub reads_of : List (List ℕ) → List (Option (List ℕ)) → Result (List (List ℕ)) Response
 reads_of (name ∷ names) (content ∷ contents) = joined (read_of name content) (reads_of names contents)
 reads_of _ _ = Ok []
@@ -52,7 +52,7 @@ FailedRead (name ∷ names) (content ∷ contents) rose response =
     (rose × (response ≡ read_response name)) ⊎ (IsOk (read_of name content) × FailedRead names contents rose response)
 FailedRead _ _ rose response = ⊥
 
--- Names hold these contents. Files that do not tell what they hold may hold anything, and another thing at each read.
+-- Names hold these contents. Files that do not report what they hold may hold anything, and another thing at each read.
 abbrev pub Holds : Option Holding → List (List ℕ) → List (Option (List ℕ)) → Type 0
 Holds (Some held) names contents = contents ≡ map held names
 Holds None names contents = length contents ≡ length names

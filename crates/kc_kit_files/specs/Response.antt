@@ -17,7 +17,7 @@ abbrev pub write : List ℕ → List ℕ → Write
 write name bytes = record { name = name; bytes = bytes }
 
 -- Memory may be wanted before anything is printed or written. Behind a text that has begun it may be wanted only where that is
--- one of the pauses, which are fronts of the text.
+-- one of the pauses, which are prefixes of the text.
 pub record Response : Type 0 where
   pub status : Status
   pub text : List ℕ
@@ -33,7 +33,7 @@ says_with status text pauses = record { status = status; text = text; pauses = p
 abbrev pub says : Status → List ℕ → Response
 says status text = says_with status text []
 
--- the same with a note
+-- the same with a diagnostic
 abbrev pub reports : Status → List ℕ → List ℕ → Response
 reports status text diagnostic = record { status = status; text = text; pauses = []; writes = []; diagnostic = diagnostic }
 
@@ -45,12 +45,12 @@ says_writing status text writes = record { status = status; text = text; pauses 
 abbrev pub done_writing : List Write → Response
 done_writing writes = record { status = status.Done; text = []; pauses = []; writes = writes; diagnostic = [] }
 
--- a step gives a value, or a reply; with the value the answer goes on
+-- a step gives a value, or a response; with the value the answer goes on
 abbrev pub Then : {A : Type 0} → Result A Response → (A → Response → Type 0) → Response → Type 0
 Then (Ok a) may response = may a response
 Then (Err refusal) may response = response ≡ refusal
 
--- the values of steps, or the first reply
+-- the values of steps, or the first response
 abbrev pub before : {A : Type 0} → A → Result (List A) Response → Result (List A) Response
 before a (Ok more) = Ok (a ∷ more)
 before a (Err response) = Err response
@@ -68,12 +68,12 @@ status_for cause.Input = status.Input
 status_for cause.Link = status.Link
 status_for cause.ReadFault = status.ReadFault
 
--- a refusal is a reply that may be given, or want of memory
+-- a refusal is a response that may be given, or memory ran out
 abbrev pub IsRefused : (Response → Type 0) → Refusal → Type 0
 IsRefused may (refusals.Says cause line diagnostic) = may (reports (status_for cause) line.items diagnostic.items)
 IsRefused may refusals.NoMemory = Unit {0}
 
--- the reply of a refusal
+-- the response of a refusal
 abbrev pub IsSaid : Refusal → Response → Type 0
 IsSaid (refusals.Says cause line diagnostic) response = response ≡ reports (status_for cause) line.items diagnostic.items
 IsSaid refusals.NoMemory response = ⊥

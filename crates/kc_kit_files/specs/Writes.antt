@@ -8,7 +8,7 @@ use Rattle.kc_kit_files.specs.Response.{Response, Write, reports, done_writing}
 abbrev pub long_output_line : List ℕ → List ℕ
 long_output_line name = codes "output " ++ name ++ codes ":0: LONG\n"
 
--- the reply where the file of this name would be longer than commands read
+-- the response where the file of this name would be longer than commands read
 abbrev pub long_output_response : List ℕ → Response
 long_output_response name = reports status.Input (long_output_line name) (long_output_diagnostic name)
 

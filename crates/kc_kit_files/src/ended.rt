@@ -76,7 +76,7 @@ fn put_unwritten<N: Sink>(what: &Said<'_>, diagnostics: &mut TraceOut<N>)
     }
 }
 
-// What is said of a reply that is given.
+// What is said of a response that is given.
 fn put_said<N: Sink>(what: &Said<'_>, diagnostics: &mut TraceOut<N>)
     ensures { Puts (out_of N.written N.faults diagnostics.old) (said_in what.now) (out_of N.written N.faults diagnostics.new) }
 {

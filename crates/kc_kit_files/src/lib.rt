@@ -1,4 +1,4 @@
-//! Reading and writing named files, and what a command says of it: statuses, refusals, and what a reply does to files and output.
+//! Reading and writing named files, and what a command says of it: statuses, refusals, and what a response does to files and output.
 #![tactic(auto)]
 
 mod ended;

@@ -39,7 +39,7 @@ impl Cause {
     }
 }
 
-/// A command that is refused, with the line that is printed and what is said in words; or want of memory.
+/// A command that is refused, with the line that is printed and what is said in words; or memory ran out.
 #[derive(Drop)]
 pub enum Refusal {
     Says {
@@ -71,7 +71,7 @@ fn line_of(alloc: Global, before: &[u8], name: &[u8], after: &[u8]) -> Result<Ve
     Ok(line)
 }
 
-/// The refusal with this cause, a line of these three texts, and this note.
+/// The refusal with this cause, a line of these three texts, and this diagnostic.
 pub fn refusal_of(
     alloc: Global,
     cause: Cause,

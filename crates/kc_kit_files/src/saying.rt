@@ -36,8 +36,8 @@ pub fn say<S: Sink>(out: &mut TraceOut<S>, text: &[u8], status: Status) -> Statu
     print(out, text, status)
 }
 
-/// Prints the line of a refusal, and gives how the command has ended, with the note of the refusal. It takes no memory: it
-/// answers want of memory only where the refusal is that.
+/// Prints the line of a refusal, and gives how the command has ended, with the diagnostic of the refusal. It takes no memory: it
+/// answers that memory ran out only where the refusal is that.
 pub fn refuse<S: Sink>(out: &mut TraceOut<S>, refusal: Refusal) -> Ended<'static>
     requires { out.old.failed ≡ false }
     ensures response { EndsPrinting (IsSaid refusal) (shown_by S.written S.faults out.old.sink) result (shown_by S.written S.faults out.new.sink) }

@@ -58,7 +58,7 @@ short-first ts t some e h = subst AllShort (texts-first ts t some e) h
 pub stimuli-read : (name text : List ℕ) (fault : Option StimFault) → first_fault 0 nothing (items_of text) ≡ fault → stimuli_of name text ≡ by_fault name text fault
 stimuli-read name text fault e = ap (by_fault name text) e
 
--- with one that is told
+-- with one that is reported
 pub stimuli-refused : (name text : List ℕ) (fault : StimFault) (P : Type 0) → IsRefusal text fault → (fault ≡ faults.NoMemory → P) → (stimuli_of name text ≡ by_fault name text (Some fault) → P) → P
 stimuli-refused name text faults.NoMemory P h none some = none refl
 stimuli-refused name text (faults.BadLine line) P h none some = some (stimuli-read name text (Some (faults.BadLine line)) h)

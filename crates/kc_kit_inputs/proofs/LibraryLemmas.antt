@@ -1,4 +1,4 @@
--- Libraries that are refused: what reading tells of a library is a place in it.
+-- Libraries that are refused: what reading reports of a library is a place in it.
 use Rattle.std.proofs.Common.{◌≡◌, ℕ, zero, suc, ◌-◌, ◌==◌, Bool, true, false, cond, List, [], ◌∷◌, ◌++◌, length, drop, Option, Some, None, Result, Ok, Err, subst}
 use Rattle.std.specs.Prelude.{nat_le, slice_get, slice_index}
 use Rattle.std.specs.Option.{option_or}

@@ -9,7 +9,7 @@ abbrev pub by_bad_line : List ℕ → List ℕ → Option ℕ → Result (List S
 by_bad_line name text None = Ok (fold with_item [] (items_of text))
 by_bad_line name text (Some line) = Err (line_response name text line (codes "BADANALOG"))
 
--- the values of an analogue file, or the reply to its first line that is at fault
+-- the values of an analogue file, or the response to its first line that is at fault
 abbrev pub analog_of : List ℕ → List ℕ → Result (List Sample) Response
 analog_of name text = by_bad_line name text (first_bad 0 [] (items_of text))
 

@@ -29,7 +29,7 @@ abbrev pub with_drives : Result Drives Response → Result (List Sample) Respons
 with_drives (Ok drives) values = with_values drives values
 with_drives (Err refusal) values = Err refusal
 
--- what these drive, or the reply to the first fault: the stimuli are judged before the values
+-- what these drive, or the response to the first fault: the stimuli are checked before the values
 abbrev pub driving_of : GivenFiles → Result Driving Response
 driving_of given = with_drives (drives_of given.stimuli) (values_of given.analog)
 

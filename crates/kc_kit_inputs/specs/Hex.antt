@@ -9,6 +9,6 @@ abbrev pub by_image : List ℕ → List ℕ → Result (List ℕ) (ℕ × ℕ) �
 by_image name text (Ok image) = Ok image
 by_image name text (Err fault) = Err (line_response name text fault.0 (coded (codes "H") fault.1))
 
--- the image of a hex file, or the reply to its first fault
+-- the image of a hex file, or the response to its first fault
 abbrev pub hex_of : List ℕ → List ℕ → Result (List ℕ) Response
 hex_of name text = by_image name text (image_of text)

@@ -23,7 +23,7 @@ abbrev pub response_at : List ℕ → Option (ℕ × ℕ) → Response
 response_at name (Some place) = byte_response name place.0 (coded (codes "B") place.1)
 response_at name None = says status.Input []
 
--- the reply to a fault of a library
+-- the response to a fault of a library
 abbrev pub fault_response : List ℕ → LibFault → Response
 fault_response name fault = response_at name (place_of fault)
 
@@ -31,11 +31,11 @@ abbrev pub by_library : List ℕ → Result (List Object) LibFault → Result (L
 by_library name (Ok members) = Ok members
 by_library name (Err fault) = Err (fault_response name fault)
 
--- the members of a library, or the reply to its first fault
+-- the members of a library, or the response to its first fault
 abbrev pub library_of : List ℕ → List ℕ → Result (List Object) Response
 library_of name bytes = by_library name (read_answer bytes)
 
--- the members that modules take from a library, 64 at most with the modules; or the reply that they are more
+-- the members that modules take from a library, 64 at most with the modules; or the response that they are more
 abbrev pub TakenAre : List ℕ → List Object → List Object → Result (List Object) Response → Type 0
 TakenAre name ms members (Ok taken) = AreTaken ms members taken × (length ms + length taken ≤ 64)
 TakenAre name ms members (Err response) = (taken : List Object) × AreTaken ms members taken × (64 < length ms + length taken) × (response ≡ fault_response name faults.TooMany)

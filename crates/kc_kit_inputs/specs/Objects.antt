@@ -7,7 +7,7 @@ use Rattle.kc_kit_files.specs.Response.{Response, joined}
 use Rattle.kc_kit_inputs.specs.Lines.{coded}
 use Rattle.kc_kit_inputs.specs.Responses.{byte_response}
 
--- each file to its module, or the reply to the first with a fault
+-- each file to its module, or the response to the first with a fault
 abbrev pub modules_of : (List ℕ → List ℕ → Result Object Response) → List (List ℕ) → List (List ℕ) → Result (List Object) Response
 modules_of module_of (name ∷ names) (text ∷ texts) = joined (module_of name text) (modules_of module_of names texts)
 modules_of module_of _ _ = Ok []

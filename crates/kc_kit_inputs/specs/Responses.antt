@@ -1,4 +1,4 @@
--- The replies to a source, to another file that has lines, and to one that has none: by the place and the code of their fault
+-- The responses to a source, to another file that has lines, and to one that has none: by the place and the code of their fault
 -- (this kit's own).
 use Rattle.std.specs.Prelude.{ℕ, List}
 use Rattle.kc_kit_files.specs.declared.status.Status.TheVariants as status
@@ -6,7 +6,7 @@ use Rattle.kc_kit_files.specs.Response.{Response, reports}
 use Rattle.kc_kit_notes.specs.Diagnostics.{line_diagnostic, byte_diagnostic}
 use Rattle.kc_kit_inputs.specs.Lines.{source_line, input_line}
 
--- that to a source has this note (`FaultDiagnostics`)
+-- that to a source has this diagnostic (`FaultDiagnostics`)
 abbrev pub source_response : List ℕ → ℕ → ℕ → List ℕ → Response
 source_response name line code diagnostic = reports status.Source (source_line name line code) diagnostic
 

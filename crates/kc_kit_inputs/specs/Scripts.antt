@@ -7,16 +7,16 @@ use Rattle.kc_debug_script.specs.Script as scripts
 use Rattle.kc_kit_files.specs.Response.{Response}
 use Rattle.kc_kit_inputs.specs.Responses.{line_response}
 
--- what the lines of a file say, or the reply to the first that says nothing, with this code
+-- what the lines of a file say, or the response to the first that says nothing, with this code
 abbrev pub by_lines : {A : Type 0} → List ℕ → List ℕ → List ℕ → Result (List A) ℕ → Result (List A) Response
 by_lines code name text (Ok said) = Ok said
 by_lines code name text (Err line) = Err (line_response name text line code)
 
--- the commands of a script, or the reply to its first line that is none
+-- the commands of a script, or the response to its first line that is none
 abbrev pub script_of : List ℕ → List ℕ → Result (List Command) Response
 script_of name text = by_lines (codes "BADCOMMAND") name text (scripts.script_of text)
 
--- the entries of a line map, or the reply to its first line that is none
+-- the entries of a line map, or the response to its first line that is none
 abbrev pub map_of : List ℕ → List ℕ → Result (List MapEntry) Response
 map_of name text = by_lines (codes "BADMAP") name text (maps.map_of text)
 

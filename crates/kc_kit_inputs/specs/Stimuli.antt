@@ -16,7 +16,7 @@ abbrev pub by_fault : List ℕ → List ℕ → Option StimFault → Result Driv
 by_fault name text None = Ok (fold with_item nothing (items_of text))
 by_fault name text (Some fault) = Err (response_at name text (place_of fault))
 
--- what a stimulus file drives, or the reply to its first fault
+-- what a stimulus file drives, or the response to its first fault
 abbrev pub stimuli_of : List ℕ → List ℕ → Result Drives Response
 stimuli_of name text = by_fault name text (first_fault 0 nothing (items_of text))
 

@@ -40,7 +40,7 @@ pub fn given_for<'a>(inputs: Inputs<'a>, texts: &'a [Vec<u8>]) -> Given<'a>
     }
 }
 
-/// What drives the inputs of a run, or the refusal of the first fault: the stimuli are judged before the analogue file.
+/// What drives the inputs of a run, or the refusal of the first fault: the stimuli are checked before the analogue file.
 pub fn driving_in(alloc: Global, given: Given<'_>) -> Result<Driving, Refusal>
     requires { AreShort given }
     ensures driving { IfOk result (λ driving. driving_of (given_in given.entry) ≡ Ok driving) }

@@ -36,7 +36,7 @@ pub(crate) fn place_text(alloc: Global, place: u32, code: &[u8]) -> Result<Vec<u
     Ok(text)
 }
 
-// The refusal of a file with a fault, with a note: its place and its code.
+// The refusal of a file with a fault, with a diagnostic: its place and its code.
 fn refused(alloc: Global, name: &str, place: u32, code: &[u8], diagnostic: Vec<u8>) -> Refusal
     ensures { IsRefused (λ response. response ≡ reports status.Input (input_line name.now place code.now) diagnostic.items) result }
 {

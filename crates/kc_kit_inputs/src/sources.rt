@@ -18,7 +18,7 @@ use kc_lex::SourceFault;
 use kc_obj_module::Module;
 use std::alloc::Global;
 
-// The note of a fault of a source: its sentence, with the name that it is about, and the line of a macro's body that has it.
+// The diagnostic of a fault of a source: its sentence, with the name that it is about, and the line of a macro's body that has it.
 fn fault_diagnostic(
     alloc: Global,
     name: &[u8],
@@ -43,7 +43,7 @@ fn fault_diagnostic(
     Ok(diagnostic)
 }
 
-// The place and the code of a fault of a source as they are printed, and its note.
+// The place and the code of a fault of a source as they are printed, and its diagnostic.
 fn fault_texts(
     alloc: Global,
     name: &[u8],

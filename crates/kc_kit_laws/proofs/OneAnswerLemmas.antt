@@ -1,4 +1,4 @@
--- A command has one answer and one note: each step gives one thing, by the laws of texts, images, line maps and libraries.
+-- A command has one answer and one diagnostic: each step gives one thing, by the laws of texts, images, line maps and libraries.
 use Rattle.std.specs.Prelude.{codes}
 use Rattle.std.proofs.Common.{◌≡◌, inl, inr, ℕ, List, [], ◌∷◌, ◌++◌, length, take, drop, Option, Some, None, Result, Ok, Err, map, refl, sym, ◌∙◌, ap, subst, arith}
 use Rattle.kc_source.specs.Faults.{Fault}
@@ -63,7 +63,7 @@ use Rattle.kc_kit_laws.specs.OneAnswer.{silent, OneAnswer, OneDiagnostic}
 
 -- ---- steps
 
--- at most one reply may be given
+-- at most one response may be given
 abbrev IsOne : (Response → Type 0) → Type 0
 IsOne may = (r s : Response) → may r → may s → r ≡ s
 
@@ -222,13 +222,13 @@ module _ (laws : Laws) where
   one_dump : (file out : List ℕ) (clock : ℕ) (text : List ℕ) → IsOne (DumpAnswer file out clock text)
   one_dump file out clock text = one_given (TraceIs file text) (WritesDump out clock) (one_read laws.traces file text) (λ items. one_reported (done_writing (write out (dump_of (state_length clock) items) ∷ [])))
 
--- ---- sources that may be refused, by a rule of notes and a relation of replies that holds of notes of one fault
+-- ---- sources that may be refused, by a rule of diagnostics and a relation of responses that holds of diagnostics of one fault
 
 module _
     (IsDiagnostic : DiagnosticRule) (Same : Response → Response → Type 0) (whole : (r : Response) → Same r r)
     (noted : (name text : List ℕ) (line code : ℕ) (n m : List ℕ) → IsDiagnostic name text line code n → IsDiagnostic name text line code m → Same (source_response name line code n) (source_response name line code m))
     (laws : Laws) where
-  -- at most one reply may be given, but for the relation
+  -- at most one response may be given, but for the relation
   abbrev AreOne : (Response → Type 0) → Type 0
   AreOne may = (r s : Response) → may r → may s → Same r s
 

@@ -1,4 +1,4 @@
--- Calls with a command leave the same: one reply is given, and it is given whole.
+-- Calls with a command leave the same: one response is given, and it is given whole.
 use Rattle.std.proofs.Common.{◌≡◌, ◌≢◌, ◌⊎◌, inl, inr, ℕ, zero, suc, List, [], ◌∷◌, ◌++◌, map, Option, Some, None, refl, sym, ◌∙◌, ap, subst, arith}
 use Rattle.kc_base.specs.Held.{Holding}
 use Rattle.kc_base.specs.Causes.{Rose, Grew}
@@ -12,7 +12,7 @@ use Rattle.kc_kit_inputs.specs.Sources.{AnyDiagnostic}
 use Rattle.kc_kit_answer.specs.Answer.{CommandAnswer, MayAnswer}
 use Rattle.kc_kit_laws.specs.OneAnswer.{silent, OneAnswer, IsCall, HoldSame, OneOutcome}
 
--- ---- replies
+-- ---- responses
 
 failed_rose : (names : List (List ℕ)) (contents : List (Option (List ℕ))) (rose : Type 0) (r : Response) → FailedRead names contents rose r → rose
 failed_rose [] contents rose r h = absurd h
@@ -20,7 +20,7 @@ failed_rose (n ∷ names) [] rose r h = absurd h
 failed_rose (n ∷ names) (c ∷ contents) rose r (inl h) = h.0
 failed_rose (n ∷ names) (c ∷ contents) rose r (inr h) = failed_rose names contents rose r h.1
 
--- with no failed read, a reply is that of the command over what the files hold
+-- with no failed read, a response is that of the command over what the files hold
 answered : (command : Option Command) (held : Holding) (rose : Type 0) (r : Response) → ¬ rose → MayAnswer AnyDiagnostic command (Some held) rose r → CommandAnswer AnyDiagnostic command (map held (names_read command)) r
 answered command held rose r well h = by h.2
   where

@@ -12,17 +12,17 @@ use Rattle.kc_kit_inputs.specs.FaultDiagnostics.{IsFaultDiagnostic}
 use Rattle.kc_kit_inputs.specs.Sources.{AnyDiagnostic}
 use Rattle.kc_kit_answer.specs.Answer.{CommandAnswer, MayAnswer}
 
--- what a reply does, without what is said of it in words
+-- what a response does, without what is said of it in words
 abbrev pub silent : Response → Response
 silent response = record { status = response.status; text = response.text; pauses = response.pauses; writes = response.writes; diagnostic = [] }
 
--- two replies to a command over the same contents of the files that it reads do the same, whatever is said of a fault of a source
+-- two responses to a command over the same contents of the files that it reads do the same, whatever is said of a fault of a source
 abbrev pub OneAnswer : Type 0
 OneAnswer =
     (command : Option Command) (contents : List (Option (List ℕ))) (response other : Response)
     → CommandAnswer AnyDiagnostic command contents response → CommandAnswer AnyDiagnostic command contents other → silent response ≡ silent other
 
--- and with the notes of such faults they are the same
+-- and with the diagnostics of such faults they are the same
 abbrev pub OneDiagnostic : Type 0
 OneDiagnostic =
     (command : Option Command) (contents : List (Option (List ℕ))) (response other : Response)
@@ -43,7 +43,7 @@ pub record IsCall (command : Option Command) (held : Holding) (given : List ℕ)
   pub shows : before.written ≡ Some given
   pub answered : Responses (MayAnswer AnyDiagnostic command (Some held) (Rose reads.0 reads.1)) old before s files sink
 
--- files tell that each name holds the same
+-- files report that each name holds the same
 abbrev pub HoldSame : Option Holding → Option Holding → Type 0
 HoldSame (Some now) (Some other) = (name : List ℕ) → now name ≡ other name
 HoldSame (Some now) None = ⊥

@@ -43,7 +43,7 @@ pub fn one_answer()
     one_listing();
 }
 
-/// A command has one note too: what may be replied with what is said of a fault of a source is the same with the same note.
+/// A command has one diagnostic too: what may be replied with what is said of a fault of a source is the same with the same diagnostic.
 pub fn one_diagnostic()
     ensures { OneDiagnostic }
 {

@@ -52,7 +52,7 @@ files_from names fault number (m ∷ ms) = (if concerns fault m then codes " " +
 abbrev pub in_files : List (List ℕ) → LinkFault → List Object → List ℕ
 in_files names fault ms = codes " in" ++ files_from names fault 0 ms
 
--- ---- notes
+-- ---- diagnostics
 
 abbrev pub rule_diagnostic : List ℕ → List ℕ → List ℕ → List ℕ
 rule_diagnostic place rule more = shown place ++ error_text rule (codes " " ++ shown more)

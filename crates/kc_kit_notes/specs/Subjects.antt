@@ -1,5 +1,5 @@
 -- What is said in words of the first fault of a source: where it is about a name, its sentence has the name, and where it stands in a
--- macro's body, that line is told too (this kit's own).
+-- macro's body, that line is reported too (this kit's own).
 use Rattle.std.specs.Prelude.{ℕ, ◌==◌, List, [], ◌++◌, codes, Option, Some, None, if◌then◌else◌}
 use Rattle.kc_explain.specs.Meanings.{sentence_of}
 use Rattle.kc_kit_shown.specs.Shown.{shown}

@@ -39,7 +39,7 @@ pub(crate) fn put_number(diagnostic: &mut Vec<u8>, line: u32) -> Result<(), NoMe
     Ok(())
 }
 
-/// Puts a code behind a note, with more behind it, and with its sentence.
+/// Puts a code behind a diagnostic, with more behind it, and with its sentence.
 pub(crate) fn put_error(diagnostic: &mut Vec<u8>, code: &[u8], more: &[u8]) -> Result<(), NoMemory>
     ensures { OnOk result (diagnostic.new.items ≡ diagnostic.old.items ++ error_text code.now more.now) }
 {
@@ -52,7 +52,7 @@ pub(crate) fn put_error(diagnostic: &mut Vec<u8>, code: &[u8], more: &[u8]) -> R
     Ok(())
 }
 
-/// Puts the line of this number behind a note.
+/// Puts the line of this number behind a diagnostic.
 pub(crate) fn put_line(diagnostic: &mut Vec<u8>, text: &[u8], line: u32) -> Result<(), NoMemory>
     ensures { OnOk result (diagnostic.new.items ≡ diagnostic.old.items ++ line_shown (line_at text.now line)) }
 {
@@ -66,7 +66,7 @@ pub(crate) fn put_line(diagnostic: &mut Vec<u8>, text: &[u8], line: u32) -> Resu
     }
 }
 
-/// The note of a fault in a line of a text.
+/// The diagnostic of a fault in a line of a text.
 pub fn line_diagnostic(
     alloc: Global,
     name: &[u8],
@@ -83,7 +83,7 @@ pub fn line_diagnostic(
     Ok(diagnostic)
 }
 
-// The place of a fault as it is told behind its code.
+// The place of a fault as it is reported behind its code.
 fn byte_text(alloc: Global, place: u32) -> Result<Vec<u8>, NoMemory>
     ensures { IfOk result (λ text. text.items ≡ codes " at byte " ++ decimal place) }
 {
@@ -93,7 +93,7 @@ fn byte_text(alloc: Global, place: u32) -> Result<Vec<u8>, NoMemory>
     Ok(text)
 }
 
-/// The note of a fault at a byte of a file.
+/// The diagnostic of a fault at a byte of a file.
 pub fn byte_diagnostic(
     alloc: Global,
     name: &[u8],

@@ -32,7 +32,7 @@ fn line_of(piece: u16, offset: u16, entries: &[Lines]) -> Option<u32>
     found
 }
 
-// The line of the source from which the bytes at an offset of a piece of a module come, where line entries tell it.
+// The line of the source from which the bytes at an offset of a piece of a module come, where line entries report it.
 fn line_among(piece: u16, offset: u16, entries: Option<&[Lines]>) -> Option<u32>
     ensures { result ≡ line_among piece offset (option_copied entries.entry) }
 {
@@ -107,7 +107,7 @@ fn range_diagnostic(
     rule_diagnostic(alloc, &place, b"range", &more)
 }
 
-/// The note of modules from these files that break a rule of the linker.
+/// The diagnostic of modules from these files that break a rule of the linker.
 pub(crate) fn link_diagnostic(
     alloc: Global,
     origins: &Origins<'_, '_, '_>,

@@ -93,7 +93,7 @@ fn files_of(
     Ok(text)
 }
 
-/// The files of the modules that a broken rule is about, in a note behind what the rule is about.
+/// The files of the modules that a broken rule is about, in a diagnostic behind what the rule is about.
 pub(crate) fn in_files(
     alloc: Global,
     origins: &Origins<'_, '_, '_>,

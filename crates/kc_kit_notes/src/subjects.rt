@@ -59,7 +59,7 @@ fn put_sentence(
     }
 }
 
-// Puts a code behind a note, with its sentence.
+// Puts a code behind a diagnostic, with its sentence.
 fn put_fault(
     diagnostic: &mut Vec<u8>,
     code: &[u8],
@@ -76,7 +76,7 @@ fn put_fault(
     Ok(())
 }
 
-/// The note of the first fault of a source, at a line of its text: a code and its number, and the name that it is about, where it
+/// The diagnostic of the first fault of a source, at a line of its text: a code and its number, and the name that it is about, where it
 /// is about one.
 pub fn source_diagnostic(
     alloc: Global,
@@ -106,7 +106,7 @@ fn put_place(diagnostic: &mut Vec<u8>, name: &[u8], line: u32) -> Result<(), NoM
     Ok(())
 }
 
-/// Puts behind a note the line of a macro's body that has the fault, where one has it.
+/// Puts behind a diagnostic the line of a macro's body that has the fault, where one has it.
 pub fn put_body_line(
     diagnostic: &mut Vec<u8>,
     name: &[u8],

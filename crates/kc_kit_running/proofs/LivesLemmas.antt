@@ -1,4 +1,4 @@
--- The reply of a run of several lives.
+-- The response of a run of several lives.
 use Rattle.std.proofs.Common.{◌≡◌, inl, inr, ℕ, false, List, length, Result, Ok, Err, refl, ap, subst, arith}
 use Rattle.std.proofs.lemmas.List.FromFn.{length-map-range_with_len, get_or-map-range_with_len}
 use Rattle.kc_extra.proofs.Pairs.{same_pair}
@@ -19,7 +19,7 @@ use Rattle.kc_kit_running.specs.Lives.{board_lives, lives_response}
 use Rattle.kc_kit_running.specs.Running.{status_of}
 use Rattle.kc_kit_running.specs.Watched.{WatchedUnit, watched_further, watched_for}
 
--- what is told of lives whose units were made is told of the lives of the board
+-- what is known of lives whose units were made is known of the lives of the board
 pub as-watched : (most states : ℕ) (driving : Driving) (image : List ℕ) (old new : Out) (s t : ℕ) (result : Result End LivesFault) →
     Lived watched_further (fitted_for driving.values driving.stimuli) image driving.stimuli states most old s result new t → AreReported (board_lives most states driving image) old result new
 as-watched most states driving image old new s t result h =
@@ -38,7 +38,7 @@ module _ {X : Type 0} (lives : List (Life X)) (may : Response → Type 0) (files
   pub lives-part : old.failed ≡ false → AreReported lives old (Err fault.WriteFault) new → Responses may files (shown old.written old.faults) status.WriteFault files (shown new.written new.faults)
   lives-part ready h = inl (record { response = lives_response lives; is_answer = is; text = h.0.part; cause = h.0.cause ready h.1; files = refl })
 
-  -- memory is wanting for a life
+  -- memory runs out for a life
   pub lives-pause : AreReported lives old (Err fault.NoMemory) new → Responses may files (shown old.written old.faults) status.NoMemory files (shown new.written new.faults)
   lives-pause h =
       let prefix : ℕ → List ℕ = λ n. text_before n lives in

@@ -1,4 +1,4 @@
--- The reply of a run whose states are counted.
+-- The response of a run whose states are counted.
 use Rattle.std.proofs.Common.{◌≡◌, inr, ℕ, ◌+◌, ◌-◌, List, [], ◌∷◌, ◌++◌, Option, Some, None, refl, sym, ◌∙◌, ap, subst, arith}
 use Rattle.std.specs.List.{Any}
 use Rattle.kc_base.specs.Causes.{Rose, Grew, GrewByPart}

@@ -1,4 +1,4 @@
--- The reply of a run.
+-- The response of a run.
 use Rattle.std.proofs.Common.{◌≡◌, inl, ℕ, ◌<◌, List, ◌++◌, Option, Some, None, refl, sym, ◌∙◌, ap, subst}
 use Rattle.std.specs.Option.{unwrap_or}
 use Rattle.kc_base.specs.Causes.{Rose, Grew, GrewByPart}
@@ -38,7 +38,7 @@ run-whole ran may files old new (end.Undefined what) m e h = record { response =
 pub run-part : {X : Type 0} (ran : Stepped X) (may : Response → Type 0) (files : Kept) (old new : Shown) → may (run_response ran) → GrewByPart old.written (trace_of ran) new.written → Rose old.faults new.faults → Responses may files old status.WriteFault files new
 run-part ran may files old new m h c = inl (record { response = run_response ran; is_answer = m; text = h; cause = c; files = refl })
 
--- what is told of a run whose lines are counted
+-- what is known of a run whose lines are counted
 pub summary-is : (number : ℕ) (ran : Stepped FittedUnit) (given : Status) (text : List ℕ) (counts : Counts) (how : End) (now : ℕ) → given ≡ status_of how → text ≡ counts_text number counts ++ line_of (Stopped (end_state how now) (end_number how)) →
     counts ≡ counted_all ran.records no_counts → how ≡ end_of ran.machine → now ≡ ran.machine.time → says given text ≡ summary number ran
 summary-is number ran given text counts how now s t c h n = rw (s, t, c, h, n) refl
@@ -51,7 +51,7 @@ Puts-trace ran old mid new how machine e f h k =
     subst (λ m. Puts mid (text_of (finals (end_of ran.machine) m)) new) f (subst (λ (w : End). Puts mid (text_of (finals w machine)) new) e k) in
     subst (λ text. Puts old text new) (sym (text_of-append ran.records last)) (Puts-append old (text_of ran.records) mid (text_of last) new h written)
 
--- a front of the lines of a run
+-- a prefix of the lines of a run
 pub GrewByPart-trace : {X : Type 0} (ran : Stepped X) (old new : Option (List ℕ)) → GrewByPart old (text_of ran.records) new → GrewByPart old (trace_of ran) new
 GrewByPart-trace ran old new h =
     let last = text_of (finals (end_of ran.machine) ran.machine) in

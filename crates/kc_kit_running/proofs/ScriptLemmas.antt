@@ -30,6 +30,6 @@ script-whole d may files old new end.Powerdown m e h = record { response = scrip
 script-whole d may files old new end.Reset m e h = record { response = script_response d; is_answer = m; status = ap status_of e; text = h; files = refl }
 script-whole d may files old new (end.Undefined what) m e h = record { response = script_response d; is_answer = m; status = ap status_of e; text = h; files = refl }
 
--- with a front of it, where the sink has failed
+-- with a prefix of it, where the sink has failed
 pub script-part : {X : Type 0} (d : Debugged X) (may : Response → Type 0) (files : Kept) (old new : Shown) → may (script_response d) → GrewByPart old.written d.text new.written → Rose old.faults new.faults → Responses may files old status.WriteFault files new
 script-part d may files old new m h c = inl (record { response = script_response d; is_answer = m; text = h; cause = c; files = refl })

@@ -12,7 +12,7 @@ use Rattle.kc_kit_inputs.specs.declared.driving.Driving.{Driving}
 use Rattle.kc_kit_running.specs.Fitted.{FittedUnit}
 use Rattle.kc_kit_running.specs.Running.{status_of, run_of}
 
--- ---- what is told of such a run: how many pin edges, entries and cycles of the transfer server it has, and its end
+-- ---- what is known of such a run: how many pin edges, entries and cycles of the transfer server it has, and its end
 
 abbrev pub no_counts : Counts
 no_counts = record { pins = 0; entries = 0; cycles = 0 }

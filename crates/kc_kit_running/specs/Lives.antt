@@ -19,12 +19,12 @@ board_lives most states driving image = lives_of watched_further deadline_of ima
 abbrev pub lives_response : {X : Type 0} → List (Life X) → Response
 lives_response lives = says_with (status_of (last_end lives)) (lives_text lives) (map (λ n. text_before n lives) (range_with_len 0 (length lives)))
 
--- ---- a run, with lives where their number is told
+-- ---- a run, with lives where their number is reported
 
 abbrev pub response_over : Option ℕ → ℕ → Driving → List ℕ → Response
 response_over None states driving image = run_response (run_of states driving image)
 response_over (Some most) states driving image = lives_response (board_lives most states driving image)
 
--- the reply of a board that is run so far
+-- the response of a board that is run so far
 abbrev pub board_response : Extent → Driving → List ℕ → Response
 board_response extent driving image = response_over extent.lives extent.states driving image

@@ -16,7 +16,7 @@ abbrev pub status_of : End → Status
 status_of (end.Undefined what) = status.Undefined
 status_of _ = status.Done
 
--- the reply of a run: how it ended, and its text
+-- the response of a run: how it ended, and its text
 abbrev pub run_response : {X : Type 0} → Stepped X → Response
 run_response ran = says (status_of (end_of ran.machine)) (trace_of ran)
 

@@ -9,7 +9,7 @@ use Rattle.kc_kit_inputs.specs.declared.driving.Driving.{Driving}
 use Rattle.kc_kit_running.specs.Fitted.{FittedUnit, fitted_further}
 use Rattle.kc_kit_running.specs.Running.{machine_of, status_of}
 
--- the reply of a script that was carried out: how its machine stands when the script ends, and the transcript
+-- the response of a script that was carried out: how its machine stands when the script ends, and the transcript
 abbrev pub script_response : {X : Type 0} → Debugged X → Response
 script_response d = says (status_of (end_of d.machine)) d.text
 

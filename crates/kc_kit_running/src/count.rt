@@ -21,7 +21,7 @@ use std::sync::ledger::{Blank, Ledger};
 /// How many state times a made input runs.
 const STATES: StateTime = 1_000_000;
 
-/// A sink that takes all and tells nothing.
+/// A sink that takes all and reports nothing.
 #[derive(Drop)]
 struct Silence;
 

@@ -1,4 +1,4 @@
--- A text is told byte by byte.
+-- A text is reported byte by byte.
 use Rattle.std.proofs.Common.{ℕ, ◌≤◌, ◌<◌, ◌-◌, List, [], ◌∷◌, length, take, drop, get_or, subst, arith}
 use Rattle.std.proofs.lemmas.List.{take_all}
 use Rattle.kc_trace.specs.Out.{Out, Puts}

@@ -1,5 +1,5 @@
 -- How a text from outside stands on standard error, where it can neither end a line nor reach what a terminal acts on (this kit's
--- own): a byte below a space, and 7FH, by its number, as `\x1B`. The LF that ends a line of a note is the note's own.
+-- own): a byte below a space, and 7FH, by its number, as `\x1B`. The LF that ends a line of a diagnostic is the note's own.
 use Rattle.std.specs.Prelude.{ℕ, ◌+◌, ◌-◌, ◌==◌, Bool, ◌||◌, ◌&&◌, nat_lt, nat_le, List, [], ◌∷◌, ◌++◌, codes, length, take, if◌then◌else◌}
 use Rattle.kc_base.specs.Digits.{hex}
 

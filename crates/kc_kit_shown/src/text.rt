@@ -15,7 +15,7 @@ fn is_control(byte: u8) -> bool
     byte < 0x20 || byte == 0x7f
 }
 
-// Puts a byte behind a note, as it is shown.
+// Puts a byte behind a diagnostic, as it is shown.
 fn put_byte(diagnostic: &mut Vec<u8>, byte: u8) -> Result<(), NoMemory>
     ensures { OnOk result (diagnostic.new.items ≡ diagnostic.old.items ++ shown_byte byte) }
 {
@@ -29,7 +29,7 @@ fn put_byte(diagnostic: &mut Vec<u8>, byte: u8) -> Result<(), NoMemory>
     Ok(())
 }
 
-/// Puts a text behind a note, as it is shown.
+/// Puts a text behind a diagnostic, as it is shown.
 pub fn put_shown(diagnostic: &mut Vec<u8>, text: &[u8]) -> Result<(), NoMemory>
     ensures { OnOk result (diagnostic.new.items ≡ diagnostic.old.items ++ shown text.now) }
 {

@@ -39,7 +39,7 @@ fn bytes_of_first(word: &[u8]) -> usize
     end
 }
 
-/// Puts a word behind a note, as it is shown: its first 80 characters, and two dots where it has more.
+/// Puts a word behind a diagnostic, as it is shown: its first 80 characters, and two dots where it has more.
 pub fn put_word(diagnostic: &mut Vec<u8>, word: &[u8]) -> Result<(), NoMemory>
     ensures { OnOk result (diagnostic.new.items ≡ diagnostic.old.items ++ word_shown word.now) }
 {

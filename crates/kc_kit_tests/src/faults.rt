@@ -8,7 +8,7 @@ use kc_trace::TraceOut;
 use std::alloc::{AllocError, Global};
 use std::test::Fail;
 
-/// The call that fails, counted from 1: a read or a write of a file, a write of the output or of the notes.
+/// The call that fails, counted from 1: a read or a write of a file, a write of the output or of the diagnostics.
 #[derive(Clone, Copy)]
 enum Fails {
     Read(u64),
@@ -360,7 +360,7 @@ fn words(alloc: Global, line: &str) -> Result<Vec<String>, AllocError> {
     Ok(words)
 }
 
-// The numbers of the calls that fail: of a read, a write, a write of the output, one of the notes; 0 is no call.
+// The numbers of the calls that fail: of a read, a write, a write of the output, one of the diagnostics; 0 is no call.
 fn numbers(fails: Fails) -> (u64, u64, u64, u64) {
     match fails {
         Fails::Read(number) => (number, 0, 0, 0),
@@ -399,7 +399,7 @@ fn holds(alloc: Global, files: &mut MemFiles, name: &str, bytes: &[u8]) -> bool 
     }
 }
 
-// Does a command line, and tells whether its status, what it prints and says, and what files then hold are as in the row.
+// Does a command line, and reports whether its status, what it prints and says, and what files then hold are as in the row.
 fn is_right(alloc: Global, row: &Row) -> Result<bool, NoMemory> {
     let (read, write, output, diagnostic) = numbers(row.fails);
     let words = words(alloc, row.line)?;
@@ -428,7 +428,7 @@ fn a_call_that_fails_is_reported(rt: HostRuntime) -> Result<(), Fail> {
     Ok(())
 }
 
-// The front of a run's text, of so many lines.
+// The prefix of a run's text, of so many lines.
 fn first_lines(alloc: Global, count: usize) -> Result<String, AllocError> {
     let mut prefix = String::new(alloc);
     for line in PRINTED.iter().take(count) {

@@ -103,7 +103,7 @@ options-agree verb (option ∷ []) = refl
 options-agree verb (option ∷ value ∷ words) =
     pair-agrees (form_of verb option) option value (value_of option words) (wrong_option verb words) (are_options verb words) (options-agree verb words)
 
--- what is judged first, and then the others
+-- what is checked first, and then the others
 gate : (w u : Option (List ℕ)) (b : Bool) (c : Option Command) → is_none w ≡ b → is_some u ≡ is_none c → is_some (option_or w u) ≡ is_none (cond b c None)
 gate None u true c e f = f
 gate None u false c e f = absurd (cc)

@@ -166,7 +166,7 @@ abbrev pub wrong_more : List (List ℕ) → Option (List ℕ)
 wrong_more [] = None
 wrong_more (word ∷ words) = Some (wrong_text wrong.ManyWords)
 
--- ---- commands: the options are judged before the files
+-- ---- commands: the options are checked before the files
 
 abbrev pub wrong_by : List ℕ → List (List ℕ) → List (List ℕ) → Option (List ℕ) → Option (List ℕ)
 wrong_by verb files options wrong_options =
@@ -206,6 +206,6 @@ abbrev pub noted : Option (List ℕ) → List ℕ
 noted (Some text) = codes "kc96: error: " ++ text ++ codes "; see kc96 --help\n"
 noted None = []
 
--- the note of some words that are no command
+-- the diagnostic of some words that are no command
 abbrev pub usage_diagnostic : List (List ℕ) → List ℕ
 usage_diagnostic words = noted (usage_of words)

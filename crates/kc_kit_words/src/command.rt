@@ -107,7 +107,7 @@ pub struct Explain<'a> {
     pub code: &'a str,
 }
 
-/// A command that is told of.
+/// A command that is known of.
 #[derive(Clone, Copy)]
 pub struct HelpOn<'a> {
     pub verb: &'a str,

@@ -61,7 +61,7 @@ no_blank c h = not_true (is_blank c) (one_of (λ c. not (is_blank c)) c signs h 
 
 -- ---- proper lexemes are read
 
--- the word that is open at the front, and the lexemes behind it
+-- the word that is open at the beginning, and the lexemes behind it
 abbrev opened : List Lexeme → List ℕ × List Lexeme
 opened [] = ([], [])
 opened (Word w ∷ xs) = (w, xs)

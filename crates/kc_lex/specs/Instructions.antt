@@ -1,4 +1,4 @@
--- Which words are instructions, and what operands each takes: told from the instruction table alone. A word is one if some
+-- Which words are instructions, and what operands each takes: reported from the instruction table alone. A word is one if some
 -- row has it as its mnemonic, and the first such row says its operands (80C196KC User's Manual, "Instruction Set"; MCS-96 Macro
 -- Assembler User's Guide, "Operands").
 use Rattle.std.specs.Prelude.{ℕ, zero, suc, Bool, true, false, ◌+◌, ◌-◌, ◌%◌, if◌then◌else◌, List, Option, Some, None}

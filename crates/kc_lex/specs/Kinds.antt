@@ -40,7 +40,7 @@ is_word w t = is_name_kind t.kind && bytes_eq t.text w
 abbrev pub is_free_name : Token → Bool
 is_free_name t = is_name_kind t.kind && not (is_reserved t.text)
 
--- ---- what stands at the front of some tokens
+-- ---- what stands at the beginning of some tokens
 
 -- a label is a name and a colon
 abbrev pub has_label : List Token → Bool

@@ -43,7 +43,7 @@ pub enum Operands {
     Key,
 }
 
-/// How an operand is written, which tells its mode of addressing. (MCS-96 Macro Assembler User's Guide, "Operands".)
+/// How an operand is written, which shows its mode of addressing. (MCS-96 Macro Assembler User's Guide, "Operands".)
 #[derive(Clone, Copy, PartialEq, Eq)]
 pub enum Notation {
     /// `x`: direct, or an address in memory

@@ -362,7 +362,7 @@ pub members_done : (all n : ℕ) (before : List Object) (rest : List ℕ) → n 
 unfolding members
 members_done all n before rest e = ap (λ (i : ℕ). members all i before rest) e
 
--- ---- what a call of reading tells
+-- ---- what a call of reading reports
 
 pub cause_by : (fault : LibFault) (P Q : Type 0) → (P → Q) → IsCause fault P → IsCause fault Q
 cause_by (At at c) P Q f h = f h

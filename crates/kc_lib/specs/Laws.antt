@@ -15,7 +15,7 @@ ReadIsLibrary = (bytes : List ℕ) (ms : List Object) → IsBytes bytes → read
 abbrev pub LibraryIsRead : Type 0
 LibraryIsRead = (bytes : List ℕ) (ms : List Object) → IsLibrary bytes ms → read_answer bytes ≡ Ok ms
 
--- a name that is told is the first one that is public in a second module, and none is told where each is given once
+-- a name that is reported is the first one that is public in a second module, and none is reported where each is given once
 pub record ReportsDouble (ms : List Object) : Type 0 where
   pub none : doubled ms ≡ None → GivenOnce ms
   pub once : GivenOnce ms → doubled ms ≡ None

@@ -1,4 +1,4 @@
--- A library read: its members, or the first fault. The head and the lengths are judged first, and then member by member
+-- A library read: its members, or the first fault. The head and the lengths are checked first, and then member by member
 -- (this kit's own format and codes).
 use Rattle.std.specs.Prelude.{ℕ, zero, suc, Bool, ◌+◌, ◌-◌, ◌==◌, ◌&&◌, nat_le, if◌then◌else◌, Option, Some, None, Result, Ok, Err, List, [], ◌∷◌, ◌++◌, length, take, drop, slice_get, slice_index}
 use Rattle.std.specs.Option.{option_or}

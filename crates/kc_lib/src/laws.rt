@@ -11,7 +11,7 @@ pub fn library_is_read()
     ensures { LibraryIsRead }
 {}
 
-/// A name is told as given twice exactly where two modules give one, and it is the first one that comes again.
+/// A name is reported as given twice exactly where two modules give one, and it is the first one that comes again.
 pub fn doubles_are_reported()
     ensures { DoublesAreReported }
 {}

@@ -32,7 +32,7 @@ impl Model for Library {
 
 impl Library {
     /// The library that the bytes are, at most 1,048,576 of them, or the first fault. First the head and the lengths are
-    /// judged (a wrong byte of the head, the end before the last member ends, bytes behind the last member), then member
+    /// checked (a wrong byte of the head, the end before the last member ends, bytes behind the last member), then member
     /// by member (no object, a name that an earlier member gives).
     pub fn read(alloc: Global, bytes: &[u8]) -> Result<Library, LibFault>
         requires { length bytes.now ≤ 1048576 }

@@ -51,7 +51,7 @@ pub record IsLife (life : Life) : Type 0 where
   pub within : IsUpTo life.last life.events
   pub short : life.last ≤ 10 ^ 15
 
--- ---- states: a life told one state at a time
+-- ---- states: a life reported one state at a time
 
 -- what happens in a state, in its order
 pub record State : Type 0 where

@@ -1,4 +1,4 @@
-//! Links modules: fills an image at the places of their pieces, and tells which line stands where.
+//! Links modules: fills an image at the places of their pieces, and reports which line stands where.
 #![tactic(auto)]
 
 mod filling;

@@ -79,7 +79,7 @@ fn blank_image(alloc: Global) -> Result<Image, NoMemory>
 /// Links 1 to 64 modules, with relocatable pieces in ranges within their bounds, to the image of program memory: the
 /// contents of all code pieces at their places, with relocations filled in, and FFH elsewhere. The refusal is the first
 /// broken rule: a name that is taken and not given, a name that is given twice, an address that two absolute pieces
-/// have, a piece without room, a number that does not fit its relocation; or want of memory.
+/// have, a piece without room, a number that does not fit its relocation; or memory ran out.
 pub fn link(alloc: Global, modules: &[Module], ranges: &Ranges) -> Result<Image, LinkFault>
     requires some { 0 < length modules.now }
     requires few { length modules.now ≤ 64 }

@@ -1,4 +1,4 @@
--- What stands in a part stays while octets are written behind it.
+-- What stands in a part stays while relocatable bytes are written behind it.
 use Rattle.std.proofs.Common.{◌≡◌, ℕ, zero, suc, ◌+◌, ◌-◌, ◌<◌, Bool, true, false, ltb, eqb, Option, Some, None, List, [], ◌∷◌, refl, sym, ap, ◌∙◌, subst, inl, inr, ◌⊎◌, arith}
 use Rattle.std.specs.Prelude.{if◌then◌else◌, slice_get}
 use Rattle.std.proofs.lemmas.Bool.Decides.{nat_tests}
@@ -77,7 +77,7 @@ module _ (t u : Section) (relocatable_bytes : List RelocatableByte) (h : IsLonge
       let s : (t.length + k) - t.length ≡ k = omega arith in
       h.stand (t.length + k) ∙ (rw (b, s) refl)
 
-  -- an octet stood before, or is one of those that are written
+  -- a relocatable byte stood before, or is one of those that are written
   either_of : (i : ℕ) (o : RelocatableByte) → relocatable_byte_at u i ≡ Some o → ((i < t.length) × (relocatable_byte_at t i ≡ Some o)) ⊎ ((k : ℕ) × ((t.length + k ≡ i) × (slice_get relocatable_bytes k ≡ Some o)))
   either_of i o e = by (ltb i t.length) refl (sym (h.stand i) ∙ e)
     where

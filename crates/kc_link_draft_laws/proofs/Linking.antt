@@ -1,4 +1,4 @@
--- Each octet of a draft stands in the filled image, and where none does the image is blank.
+-- Each relocatable byte of an unlinked module stands in the filled image, and where none does the image is blank.
 use Rattle.std.proofs.Common.{◌≡◌, ℕ, zero, suc, ◌+◌, ◌-◌, ◌<◌, ◌≤◌, Bool, true, false, ◌&&◌, not, ltb, Option, Some, None, List, [], ◌∷◌, length, refl, sym, ap, ◌∙◌, subst, inl, inr, arith}
 use Rattle.std.specs.Prelude.{if◌then◌else◌, slice_get}
 use Rattle.std.specs.Option.{option_map}
@@ -33,9 +33,9 @@ use Rattle.kc_link_draft_laws.proofs.PlacedBytes.{is_within, follows, section_of
 use Rattle.kc_link_draft_laws.proofs.RelocatableBytes.{IsPlaced, same_number, same_target, own_second, second_by, no_second, whole, plain_total, first_total, second_total}
 use Rattle.kc_link_draft_laws.proofs.Positions.{piece_is, part_is}
 
--- ---- one part of one draft
+-- ---- one part of one unlinked module
 
--- what is known of a part of a draft, of its module, and of the bases
+-- what is known of a part of an unlinked module, of its module, and of the bases
 pub record IsOf (d : UnlinkedModule) (m : Object) (c : Bases) (part : ℕ) (t : Section) : Type 0 where
   pub of : IsModuleOf d m
   pub there : slice_get (pieces_in d) (piece_number d part) ≡ Some t
@@ -128,7 +128,7 @@ module _ (d : UnlinkedModule) (m : Object) (c : Bases) (part : ℕ) (t : Section
       by true q = refl
       by false q = absurd (cc q)
 
--- ---- a draft of several
+-- ---- an unlinked module of several
 
 get_some : {A : Type 0} (xs : List A) (i : ℕ) → i < length xs → (x : A) × (slice_get xs i ≡ Some x)
 get_some [] i h = absurd (omega arith)
@@ -172,7 +172,7 @@ placed_is d c part t unlinked stand is_part = elim (own_or_absolute d.parts.item
   }
 ]
 
--- a part in which an octet stands
+-- a part in which a relocatable byte stands
 part_is_of : (d : UnlinkedModule) (m : Object) (c : Bases) (part offset : ℕ) (t : Section) (o : RelocatableByte) → IsUnlinkedModule d → IsWhole d → IsModuleOf d m → StandsAbsolute c d → StandsIn d part t offset o → IsOf d m c part t
 part_is_of d m c part offset t o unlinked is_whole of stand s =
     let section : is_section t ≡ true = section_of d.parts.items part t is_whole.sections s.is_part in
@@ -205,7 +205,7 @@ held ms places image i d m part offset t o filled is_there h e =
       });
     }
 
--- ---- each byte of a module is an octet of its draft
+-- ---- each byte of a module is a relocatable byte of its unlinked module
 
 its_relocatable : (t : Option Section) (offset n value : ℕ) → plus n (byte_at t offset) ≡ Some value → (u : Section) × ((t ≡ Some u) × ((o : RelocatableByte) × (relocatable_byte_at u offset ≡ Some o)))
 its_relocatable None offset n value e = absurd (cc e)

@@ -1,4 +1,4 @@
--- In a part whose octets rise, a second byte follows its first one, and each octet stands within the length.
+-- In a part whose relocatable bytes rise, a second byte follows its first one, and each relocatable byte stands within the length.
 use Rattle.std.proofs.Common.{◌≡◌, ℕ, zero, suc, ◌+◌, ◌<◌, ◌≤◌, Bool, true, false, ◌&&◌, eqb, ltb, leb, Option, Some, None, List, [], ◌∷◌, length, refl, ap, ◌∙◌, subst, inl, inr, ◌⊎◌, arith}
 use Rattle.std.specs.Prelude.{if◌then◌else◌, slice_get}
 use Rattle.std.specs.List.{list_all, AllByRecursion}
@@ -32,7 +32,7 @@ rise_end from (c ∷ cs) to h =
     let rest : c.offset + 1 ≤ to = rise_end (c.offset + 1) cs to parts.1 in
     omega (arith, first, rest)
 
--- an octet stands from where the offsets rise, and below where they end
+-- a relocatable byte stands from where the offsets rise, and below where they end
 between : (from : ℕ) (placed_bytes : List PlacedByte) (to offset : ℕ) (relocatable_byte : RelocatableByte) → rise from (placed_byte_offsets placed_bytes) to ≡ true → placed_byte_at placed_bytes offset ≡ Some relocatable_byte → (from ≤ offset) × (offset < to)
 unfolding rise placed_byte_at
 between from [] to offset relocatable_byte h e = absurd (cc e)

@@ -1,4 +1,4 @@
--- Each part of a draft that has bytes is a piece with its number, and each piece in which octets stand is such a part.
+-- Each part of an unlinked module that has bytes is a piece with its number, and each piece in which relocatable bytes stand is such a part.
 use Rattle.std.proofs.Common.{◌≡◌, ℕ, zero, suc, ◌+◌, ◌-◌, ◌<◌, ◌≤◌, Bool, true, false, eqb, ltb, Some, List, [], ◌∷◌, ◌++◌, length, refl, sym, ap, ◌∙◌, subst, inl, inr, ◌⊎◌, arith}
 use Rattle.std.specs.Prelude.{if◌then◌else◌, slice_get}
 use Rattle.std.proofs.lemmas.Bool.Decides.{nat_tests}
@@ -119,7 +119,7 @@ pub piece_is : (d : UnlinkedModule) → 3 ≤ length d.parts.items → (part : �
     → slice_get (pieces_in d) (piece_number d part) ≡ Some t
 piece_is d three part t e h = part_stands d.parts.items d.publics.items d.stack three part t e h
 
--- ---- a piece in which an octet stands is a part
+-- ---- a piece in which a relocatable byte stands is a part
 
 pub record IsPart (parts : List Section) (k : Kept) (stack piece : ℕ) (t : Section) : Type 0 where
   pub part : ℕ

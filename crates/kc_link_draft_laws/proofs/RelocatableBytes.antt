@@ -1,4 +1,4 @@
--- The byte that the linker makes of a module's byte and relocations is the filled octet of the draft.
+-- The byte that the linker makes of a module's byte and relocations is the filled relocatable byte of the unlinked module.
 use Rattle.std.proofs.Common.{◌≡◌, ℕ, suc, ◌+◌, ◌%◌, Bool, true, false, eqb, Option, Some, None, refl, ap, ◌∙◌, subst, arith}
 use Rattle.std.specs.Prelude.{if◌then◌else◌}
 use Rattle.std.proofs.lemmas.Bool.Decides.{nat_tests}

@@ -1,4 +1,4 @@
--- The worked draft, computed.
+-- The worked unlinked module, computed.
 use Rattle.std.proofs.Common.{◌≡◌, true, false, List, refl, ap, ◌∙◌}
 use Rattle.kc_obj_relocation.specs.Numbers.{distance, number, first_part, second_part}
 use Rattle.kc_asm_bytes.specs.Filling.{fill}

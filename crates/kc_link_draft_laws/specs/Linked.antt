@@ -1,4 +1,4 @@
--- The image that is filled from the modules of drafts holds the octets of the drafts
+-- The image that is filled from the modules of unlinked modules holds the relocatable bytes of the unlinked modules
 -- (after the MCS-96 Macro Assembler User's Guide, "Relocation").
 use Rattle.std.specs.Prelude.{◌≡◌, ℕ, true, ◌+◌, ◌-◌, ◌<◌, ◌≤◌, Some, Ok, List, ◌++◌, length, drop, slice_get}
 use Rattle.kc_expr.specs.declared.values.Value.{Value}
@@ -18,28 +18,28 @@ use Rattle.kc_link.specs.Filled.{IsFilled}
 use Rattle.kc_link_draft_laws.specs.Parts.{StandsIn, start, part_bases}
 use Rattle.kc_link_draft_laws.specs.Settled.{IsWhole, IsSettled}
 
--- ---- one draft under the bases of its module
+-- ---- one unlinked module under the bases of its module
 
--- an octet stands in the image of program memory, at its place and filled
+-- a relocatable byte stands in the image of program memory, at its place and filled
 pub record IsHeld (image : List ℕ) (bases : Bases) (d : UnlinkedModule) (part offset : ℕ) (relocatable_byte : RelocatableByte) : Type 0 where
   pub within : 0x2000 ≤ start bases d part + offset
   pub byte : slice_get image ((start bases d part + offset) - 0x2000) ≡ Some (fill (part_bases bases d) (start bases d part + offset) relocatable_byte)
 
--- each octet of a draft does
+-- each relocatable byte of an unlinked module does
 pub record HoldsUnlinkedModule (image : List ℕ) (bases : Bases) (d : UnlinkedModule) : Type 0 where
   pub relocatable_bytes : (part offset : ℕ) (t : Section) (relocatable_byte : RelocatableByte) → StandsIn d part t offset relocatable_byte → IsHeld image bases d part offset relocatable_byte
 
--- octets stand one after the other in a part, from an offset on
+-- relocatable bytes stand one after the other in a part, from an offset on
 abbrev pub StandsFrom : UnlinkedModule → ℕ → ℕ → List RelocatableByte → Type 0
 StandsFrom d part offset relocatable_bytes = (t : Section) × ((slice_get d.parts.items part ≡ Some t)
     × ((k : ℕ) (relocatable_byte : RelocatableByte) → slice_get relocatable_bytes k ≡ Some relocatable_byte → relocatable_byte_at t (offset + k) ≡ Some relocatable_byte))
 
--- from the place of an offset on the image reads as octets, filled, and what is behind them
+-- from the place of an offset on the image reads as relocatable bytes, filled, and what is behind them
 abbrev pub ReadsAs : List ℕ → Bases → UnlinkedModule → ℕ → ℕ → List RelocatableByte → Type 0
 ReadsAs image bases d part offset relocatable_bytes =
     (rest : List ℕ) × (drop ((start bases d part + offset) - 0x2000) image ≡ filled (part_bases bases d) (start bases d part + offset) relocatable_bytes ++ rest)
 
--- each number of a draft fits its bytes
+-- each number of an unlinked module fits its bytes
 pub record FitsUnlinkedModule (bases : Bases) (d : UnlinkedModule) : Type 0 where
   pub numbers : (part offset kind begin : ℕ) (t : Section) (v : Value) → StandsIn d part t offset (First kind begin v)
       → fits kind (number kind ((start bases d part + offset) + reach kind) (address (part_bases bases d) v)) ≡ true
@@ -48,9 +48,9 @@ pub record FitsUnlinkedModule (bases : Bases) (d : UnlinkedModule) : Type 0 wher
 pub record StandsAbsolute (bases : Bases) (d : UnlinkedModule) : Type 0 where
   pub parts : (part address : ℕ) (t : Section) → slice_get d.parts.items part ≡ Some t → t.at ≡ Some address → start bases d part ≡ address
 
--- ---- all drafts
+-- ---- all unlinked modules
 
--- modules are those of drafts, in order
+-- modules are those of unlinked modules, in order
 pub record AreModulesOf (ds : List UnlinkedModule) (ms : List Object) : Type 0 where
   pub count : length ds ≡ length ms
   pub are_unlinked_modules : (i : ℕ) (d : UnlinkedModule) → slice_get ds i ≡ Some d → IsUnlinkedModule d
@@ -60,7 +60,7 @@ pub record AreModulesOf (ds : List UnlinkedModule) (ms : List Object) : Type 0 w
 abbrev pub AreSettled : List UnlinkedModule → Type 0
 AreSettled ds = (i : ℕ) (d : UnlinkedModule) → slice_get ds i ≡ Some d → IsSettled d
 
--- an octet of a draft has a place of the image
+-- a relocatable byte of an unlinked module has a place of the image
 pub record IsCovered (ds : List UnlinkedModule) (ms : List Object) (places : Places) (place : ℕ) : Type 0 where
   pub index : ℕ
   pub d : UnlinkedModule
@@ -74,7 +74,7 @@ pub record IsCovered (ds : List UnlinkedModule) (ms : List Object) (places : Pla
   pub stands : StandsIn d part t offset relocatable_byte
   pub at : start (bases_of ms places index m) d part + offset ≡ 0x2000 + place
 
--- the image holds each draft, and FFH where none has an octet
+-- the image holds each unlinked module, and FFH where none has a relocatable byte
 pub record AreLinked (ds : List UnlinkedModule) (ms : List Object) (places : Places) (image : List ℕ) : Type 0 where
   pub long : length image ≡ 0xE000
   pub holds : (i : ℕ) (d : UnlinkedModule) (m : Object) → slice_get ds i ≡ Some d → slice_get ms i ≡ Some m

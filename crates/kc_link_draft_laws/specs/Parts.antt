@@ -1,4 +1,4 @@
--- Where the parts of a draft stand once the pieces of its module have their bases
+-- Where the parts of an unlinked module stand once the pieces of its module have their bases
 -- (after the MCS-96 Macro Assembler User's Guide, "Program Segments").
 use Rattle.std.specs.Prelude.{◌≡◌, ℕ, ◌+◌, ◌-◌, nat_lt, if◌then◌else◌, Some, length, slice_get}
 use Rattle.kc_asm_bytes.specs.declared.relocatable_byte.RelocatableByte.{RelocatableByte}
@@ -8,7 +8,7 @@ use Rattle.kc_asm_piece.specs.Section.{Section, relocatable_byte_at}
 use Rattle.kc_asm_module.specs.Order.{count_of, number_of, stack_pieces}
 use Rattle.kc_asm_module.specs.ModuleOf.{kept_in}
 
--- an octet stands at an offset of a part
+-- a relocatable byte stands at an offset of a part
 pub record StandsIn (d : UnlinkedModule) (part : ℕ) (t : Section) (offset : ℕ) (relocatable_byte : RelocatableByte) : Type 0 where
   pub is_part : slice_get d.parts.items part ≡ Some t
   pub is_relocatable_byte : relocatable_byte_at t offset ≡ Some relocatable_byte
@@ -26,6 +26,6 @@ piece_number d part = if nat_lt part 3 then number_of (kept_in d) part else firs
 abbrev pub start : Bases → UnlinkedModule → ℕ → ℕ
 start bases d part = bases.piece (piece_number d part)
 
--- what the values of the draft count from: they have the numbers of the relocatable parts
+-- what the values of the unlinked module count from: they have the numbers of the relocatable parts
 abbrev pub part_bases : Bases → UnlinkedModule → Bases
 part_bases bases d = record { piece = λ part. bases.piece (number_of (kept_in d) part); external = bases.external }

@@ -1,4 +1,4 @@
--- What stands in a draft that is written by whole numbers, each of which fits
+-- What stands in an unlinked module that is written by whole numbers, each of which fits
 -- (80C196KC User's Manual, "Instruction Format").
 use Rattle.std.specs.Prelude.{◌≡◌, ℕ, true, ◌+◌, Some, None, slice_get}
 use Rattle.std.specs.List.{list_all}
@@ -28,7 +28,7 @@ HasFirsts t = (offset kind : ℕ) (v : Value) → relocatable_byte_at t offset �
 abbrev pub HasNoMisfit : Section → Type 0
 HasNoMisfit t = (offset : ℕ) (relocatable_byte : RelocatableByte) → relocatable_byte_at t offset ≡ Some relocatable_byte → misfit t.at (kind_number t.kind) (start_of t.at + offset) relocatable_byte ≡ None
 
--- octets stand by rising offset within the parts of a draft, in whole numbers
+-- relocatable bytes stand by rising offset within the parts of an unlinked module, in whole numbers
 pub record IsWhole (d : UnlinkedModule) : Type 0 where
   pub sections : list_all is_section d.parts.items ≡ true
   pub seconds : (part : ℕ) (t : Section) → slice_get d.parts.items part ≡ Some t → HasFirsts t

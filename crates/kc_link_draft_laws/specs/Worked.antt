@@ -1,4 +1,4 @@
--- A worked draft: its code stands at 2100H and its absolute part at 2080H, where an instruction loads the address of the code
+-- A worked unlinked module: its code stands at 2100H and its absolute part at 2080H, where an instruction loads the address of the code
 -- and a jump goes to 2100H.
 use Rattle.std.specs.Prelude.{◌≡◌}
 use Rattle.kc_expr.specs.declared.values.Base.TheVariants.{Fixed, Piece}

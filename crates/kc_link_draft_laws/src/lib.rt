@@ -1,4 +1,4 @@
-//! The image that is filled from the modules of drafts holds the octets of the drafts: laws of definitions, without code.
+//! The image that is filled from the modules of unlinked modules holds the relocatable bytes of the unlinked modules: laws of definitions, without code.
 #![tactic(auto)]
 
 ghost use Rattle.kc_link_draft_laws.specs.Growing.{FirstsStay, NoMisfitStays};
@@ -7,28 +7,28 @@ ghost use Rattle.kc_link_draft_laws.specs.Worked.{WorkedUnlinked};
 
 use kc_link::{absolute_pieces_stand, relocations_fit};
 
-/// Where no rule of the linker is broken, each absolute part of a draft stands at its address.
+/// Where no rule of the linker is broken, each absolute part of an unlinked module stands at its address.
 pub fn absolute_parts_stand()
     ensures { AbsolutePartsStand }
 {
     absolute_pieces_stand();
 }
 
-/// The image that is filled from the modules of drafts has each octet of each draft at its place, filled under the bases
-/// of its module, and FFH where no draft has an octet.
+/// The image that is filled from the modules of unlinked modules has each relocatable byte of each unlinked module at its place, filled under the bases
+/// of its module, and FFH where no unlinked module has a relocatable byte.
 pub fn unlinked_modules_are_linked()
     ensures { UnlinkedModulesAreLinked }
 {
     absolute_pieces_stand();
 }
 
-/// Octets that stand one after the other in a part of a draft are read one after the other, filled, from their place on in
-/// an image that holds the draft.
+/// Relocatable bytes that stand one after the other in a part of an unlinked module are read one after the other, filled, from their place on in
+/// an image that holds the unlinked module.
 pub fn held_is_read()
     ensures { HeldIsRead }
 {}
 
-/// Where no rule of the linker is broken, each number of each draft fits its bytes.
+/// Where no rule of the linker is broken, each number of each unlinked module fits its bytes.
 pub fn numbers_fit()
     ensures { NumbersFit }
 {
@@ -36,17 +36,17 @@ pub fn numbers_fit()
     relocations_fit();
 }
 
-/// In a part at whose end paired octets are written each second byte of a number stands behind its first one.
+/// In a part at whose end paired relocatable bytes are written each second byte of a number stands behind its first one.
 pub fn firsts_stay()
     ensures { FirstsStay }
 {}
 
-/// A part at whose end octets without misfits are written has no misfit.
+/// A part at whose end relocatable bytes without misfits are written has no misfit.
 pub fn no_misfit_stays()
     ensures { NoMisfitStays }
 {}
 
-/// Where the parts of a worked draft stand, and some of its bytes.
+/// Where the parts of a worked unlinked module stand, and some of its bytes.
 pub fn worked_unlinked()
     ensures { WorkedUnlinked }
 {}

@@ -143,7 +143,7 @@ bases_from all places index (m ∷ ms) = base_lists all places index m ∷ bases
 
 -- ---- what a call of placing answers
 
--- want of memory has no cause here
+-- where memory ran out there is no cause here
 abbrev pub IsCause : LinkFault → Type 0 → Type 0
 IsCause NoMemory P = Unit {0}
 IsCause _ P = P

@@ -45,7 +45,7 @@ fn lies(low: u16, high: u16, range: (u16, u16)) -> bool
     low <= range.0 && range.0 <= range.1 && range.1 <= high
 }
 
-/// The first rule of the linker that is broken, or want of memory.
+/// The first rule of the linker that is broken, or memory ran out.
 #[derive(Drop)]
 pub enum LinkFault {
     /// No module makes this name public.

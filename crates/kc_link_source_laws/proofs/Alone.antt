@@ -1,4 +1,4 @@
--- Sources have at most one image in the ranges: their drafts say the same, and so they have the same modules and places.
+-- Sources have at most one image in the ranges: their unlinked modules say the same, and so they have the same modules and places.
 use Rattle.std.proofs.Common.{◌≡◌, ℕ, zero, suc, ◌+◌, ◌-◌, ◌<◌, ◌≤◌, List, [], ◌∷◌, length, map, refl, sym, ap, ◌∙◌, subst, arith}
 use Rattle.std.specs.Prelude.{Some, Result, Ok, nat_lt, if◌then◌else◌, slice_get}
 use Rattle.std.specs.List.Sorted.{IsPermutation}
@@ -28,7 +28,7 @@ use Rattle.kc_link_source_laws.specs.Saying.{data_of, code_of}
 use Rattle.kc_link_source_laws.specs.Linked.{address_of, Decodes, Reads, Stands, AreSources, Covers, IsLinked, OneImageOfSources}
 use Rattle.kc_link_source_laws.proofs.OneImage.{one_image}
 
--- ---- drafts that say the same
+-- ---- unlinked modules that say the same
 
 record AreSame (d e : UnlinkedModule) : Type 0 where
   name : d.name ≡ e.name
@@ -127,7 +127,7 @@ module _ (sources : List (List Stmt)) (unlinked_modules others : List UnlinkedMo
   modules_same : OneModule → modules ≡ objects
   modules_same law = from_gets modules objects (sym are.modules_count ∙ also.modules_count) (one_module_each law)
 
--- what is linked for some drafts is linked for others of the same sources
+-- what is linked for some unlinked modules is linked for others of the same sources
 move_linked : (sources : List (List Stmt)) (unlinked_modules others : List UnlinkedModule) (modules : List Object) (places : Places) (image : List ℕ) → AreSources sources unlinked_modules modules → AreSources sources others modules
     → IsLinked sources unlinked_modules modules places image → IsLinked sources others modules places image
 move_linked sources unlinked_modules others modules places image are also h = record {

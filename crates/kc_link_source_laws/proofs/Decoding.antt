@@ -1,4 +1,4 @@
--- An image that reads as the filled octets of a statement has what the statement says.
+-- An image that reads as the filled relocatable bytes of a statement has what the statement says.
 use Rattle.std.proofs.Common.{◌≡◌, ℕ, zero, suc, ◌+◌, Bool, true, false, List, [], ◌∷◌, ◌++◌, length, drop, refl, sym, ap, ◌∙◌, subst, append_assoc, zero-add, arith}
 use Rattle.std.specs.Prelude.{Some, slice_get, ◌==◌, if◌then◌else◌}
 use Rattle.std.specs.Int.{w32, to_le_bytes}

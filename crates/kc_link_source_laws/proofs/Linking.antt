@@ -61,7 +61,7 @@ get_some [] i h = absurd (omega arith)
 get_some (x ∷ xs) zero h = (x, refl)
 get_some (x ∷ xs) (suc i) h = get_some xs i (omega (arith, h))
 
--- a statement among all statements, by what is known of the draft and the bases
+-- a statement among all statements, by what is known of the unlinked module and the bases
 record IsBased (image : List ℕ) (c : Bases) (d : UnlinkedModule) : Type 0 where
   unlinked : IsUnlinkedModule d
   held : HoldsUnlinkedModule image c d

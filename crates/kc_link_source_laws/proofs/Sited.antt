@@ -1,4 +1,4 @@
--- Each statement has a site.
+-- Each statement has a location.
 use Rattle.std.proofs.Common.{◌≡◌, ℕ, zero, suc, ◌+◌, ◌<◌, List, [], ◌∷◌, length, drop, reverse, refl, ap, ◌∙◌, length-append, arith}
 use Rattle.std.specs.Prelude.{Option, Some, slice_get}
 use Rattle.std.proofs.lemmas.List.{length-reverse}

@@ -1,4 +1,4 @@
--- The filled octets of an operation spell the instructions that it says.
+-- The filled relocatable bytes of an operation spell the instructions that it says.
 use Rattle.std.proofs.Common.{◌≡◌, ℕ, ◌+◌, true, List, [], ◌∷◌, ◌++◌, length, refl, ap, ◌∙◌, None}
 use Rattle.kc_expr.specs.declared.values.Value.{Value}
 use Rattle.kc_code.specs.Spelling.{spelling}

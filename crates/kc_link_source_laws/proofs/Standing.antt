@@ -31,7 +31,7 @@ use Rattle.kc_link_source_laws.proofs.Evens.{HasEvenBase, IsEvenAt, AllEven}
 
 -- ---- which pieces numbers of one byte count from
 
--- an octet is one of the cells
+-- a relocatable byte is one of the placed bytes
 placed_byte_any : (p : RelocatableByte → Bool) (placed_bytes : List PlacedByte) (offset : ℕ) (o : RelocatableByte) → placed_byte_at placed_bytes offset ≡ Some o → p o ≡ true → list_any (λ (c : PlacedByte). p c.relocatable_byte) placed_bytes ≡ true
 unfolding placed_byte_at
 placed_byte_any p [] offset o e h = absurd (cc e)
@@ -86,7 +86,7 @@ pub base_is : (ms : List Object) (places : Places) (i : ℕ) (m : Object) (piece
 unfolding base_lists base_at
 base_is ms places i m piece = refl
 
--- the pieces of a draft that stand at even addresses
+-- the pieces of an unlinked module that stand at even addresses
 abbrev pub RelocatableEven : Bases → Object → Type 0
 RelocatableEven c m = (piece : ℕ) (s : ObjectSegment) → slice_get m.segments piece ≡ Some s → s.at ≡ None → c.piece piece % 2 ≡ 0
 
@@ -124,7 +124,7 @@ even_relocatable law d m c unlinked of even part offset t (First kind begin v) s
         even_part law d m c unlinked of even p (exists_below kind begin (length d.externals.items) p v e relocatable_byte)
         (names_part d part offset begin p t v (record { is_part = s.is_part; is_relocatable_byte = s.is_relocatable_byte ∙ ap (λ (x : RelocatableByte). Some x) f }) e)
 
--- ---- octets in a row
+-- ---- relocatable bytes in a row
 
 pub all_even_from : NumbersStand → (d : UnlinkedModule) (m : Object) (c : Bases) → IsUnlinkedModule d → IsModuleOf d m → RelocatableEven c m → (part offset : ℕ) (t : Section) (os : List RelocatableByte) → slice_get d.parts.items part ≡ Some t
     → ((k : ℕ) (o : RelocatableByte) → slice_get os k ≡ Some o → relocatable_byte_at t (offset + k) ≡ Some o) → AllEven (part_bases c d) os

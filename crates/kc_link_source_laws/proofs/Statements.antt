@@ -100,7 +100,7 @@ address_is d c unlinked stand g s t is_part low = elim (own_or_absolute d.parts.
       rw is (omega (arith, z, y, low))
 ]
 
--- octets of a statement, as the image reads from an address on
+-- relocatable bytes of a statement, as the image reads from an address on
 pub record IsRead (b : Bases) (image : List ℕ) (a : ℕ) (os : List RelocatableByte) : Type 0 where
   pub within : 0 < length os → 0x2000 ≤ a
   pub rest : List ℕ

@@ -1,4 +1,4 @@
--- An image that is judged by decoding: at the place of each statement of each source stands what the statement says, and FFH
+-- An image that is checked by decoding: at the place of each statement of each source stands what the statement says, and FFH
 -- where no statement stands.
 use Rattle.std.specs.Prelude.{◌≡◌, ℕ, true, ◌+◌, ◌-◌, ◌<◌, ◌≤◌, if◌then◌else◌, Some, None, Ok, List, [], ◌∷◌, ◌++◌, length, reverse, drop, slice_get}
 use Rattle.std.specs.List.{list_all}
@@ -30,14 +30,14 @@ use Rattle.kc_asm_draft_laws.specs.Collecting.{IsUnlinkedModuleOf}
 use Rattle.kc_link_source_laws.specs.Saying.{data_of, code_of}
 use Rattle.kc_link_source_laws.specs.Characters.{has_bytes}
 
--- ---- a source without a fault, with its draft and its module
+-- ---- a source without a fault, with its unlinked module and its module
 
 pub record IsSource (stmts : List Stmt) (d : UnlinkedModule) (m : Object) : Type 0 where
   -- what its lines say, where no line has a fault and characters are bytes
   pub lines : List Line
   pub read : AreStatements stmts lines
   pub characters : list_all has_bytes stmts ≡ true
-  -- where an object can tell each of them, and bytes stand in code
+  -- where an object can report each of them, and bytes stand in code
   pub well : AreReadWell stmts
   -- where no value and no place has a fault
   pub sound : first_fault stmts ≡ None
@@ -52,7 +52,7 @@ pub record IsSource (stmts : List Stmt) (d : UnlinkedModule) (m : Object) : Type
 abbrev pub address_of : Bases → UnlinkedModule → Segment → Location → ℕ
 address_of bases d g s = if is_absolute g then s.place else start bases d g.piece + s.place
 
--- a statement of a source, those before it the latest first, and its site
+-- a statement of a source, those before it the latest first, and its location
 pub record IsStatement (stmts : List Stmt) (before : List Located) (l : Located) (s : Location) : Type 0 where
   pub after : List Located
   pub split : standing stmts ≡ reverse before ++ l ∷ after
@@ -155,7 +155,7 @@ OneImageOfSources =
     → IsBytes image → IsBytes other
     → IsImageOf sources ranges image → IsImageOf sources ranges other → image ≡ other
 
--- each statement has a site
+-- each statement has a location
 abbrev pub StatementsHaveLocations : Type 0
 StatementsHaveLocations =
     (stmts : List Stmt) (before after : List Located) (l : Located) → standing stmts ≡ reverse before ++ l ∷ after

@@ -54,7 +54,7 @@ pub fn one_image()
     one_spelling();
 }
 
-/// Sources have at most one image in the ranges: it does not matter which drafts, modules and places are told.
+/// Sources have at most one image in the ranges: it does not matter which unlinked modules, modules and places are reported.
 pub fn one_image_of_sources()
     ensures { OneImageOfSources }
 {
@@ -62,7 +62,7 @@ pub fn one_image_of_sources()
     one_module();
 }
 
-/// Each statement of a source has a site, so that the image has what each of them says.
+/// Each statement of a source has a location, so that the image has what each of them says.
 pub fn statements_have_locations()
     ensures { StatementsHaveLocations }
 {

@@ -16,7 +16,7 @@ pub record Passes {X : Type 0} (f : Further X) (until : ℕ) (m n : Machine X) :
   pub over : n.time ≡ min until (activity_end (run_to f began m).machine)
 
 -- The sink has failed in the lines of an activity, or of an idle state: those of the states before it were written whole, and
--- of its own a front. The machine stands where this activity is over, or at the end of the run if that comes first.
+-- of its own a prefix. The machine stands where this activity is over, or at the end of the run if that comes first.
 pub record FailsIn {X : Type 0} (f : Further X) (until : ℕ) (m : Machine X) (o : Out) (n : Machine X) (p : Out) : Type 0 where
   -- the state at which the activity begins, and the trace there
   pub began : ℕ

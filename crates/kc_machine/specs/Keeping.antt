@@ -18,6 +18,6 @@ counted a b = if nat_lt a 64 then a + b else a
 abbrev pub fitting : Keeping
 fitting = record { note = all_noted; count = counted }
 
--- a number that is told while the count goes on
+-- a number that is known while the count goes on
 abbrev pub while_counted : ℕ → ℕ → ℕ
 while_counted count n = if nat_lt count 64 then n else 0

@@ -21,7 +21,7 @@ use Rattle.kc_machine.specs.Failing.{Passes}
 use Rattle.kc_machine.specs.Seen.{machine_of}
 use Rattle.kc_machine.specs.Sound.{IsGoing, IsPredecoded, IsSoundGoing}
 
--- of what comes this activity was told, with states left, and nothing has changed
+-- of what comes this activity was known, with states left, and nothing has changed
 pub record Knows {X : Type 0} {d : extra.Ghosts X} (activity known : UnderWay) (old new : Core X d) (steps_before steps_after : ℕ) : Type 0 where
   pub value : known ≡ activity
   pub going : IsGoing known

@@ -21,7 +21,7 @@ pub record IsRead (memory : List ℕ) (at : ℕ) (r : Predecoded) : Type 0 where
   pub predecoded : IsPredecoded r
   pub read : insn_of (decode_of (fetched 7 memory at)) ≡ Some r.insn
 
--- what is told at an address: nothing, or the instruction that stands there
+-- what is known at an address: nothing, or the instruction that stands there
 abbrev pub IsSlot : List ℕ → ℕ → Predecoded → Type 0
 IsSlot memory at r = is_blank r ≡ false → IsRead memory at r
 

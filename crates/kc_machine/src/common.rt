@@ -47,7 +47,7 @@ const FIRST: u16 = 0x2000;
 
 const SLOTS: usize = 0x3FFA;
 
-// No slot tells anything any more.
+// No slot knows anything any more.
 fn clear(table: &mut [Predecoded])
     ensures none { All (λ r. is_blank r ≡ true) table.new }
     ensures count { length table.new ≡ length table.old }

@@ -317,7 +317,7 @@ fn placed_time_over<X: Extra + Drop, L: Ledger>(
     time_of(&predecoded, cpu, &bus)
 }
 
-/// The same where one condition at most tells them.
+/// The same where one condition at most knows them.
 #[inline(always)]
 fn known_time_over<X: Extra + Drop, L: Ledger>(
     predecoded: &Predecoded,

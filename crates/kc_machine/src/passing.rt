@@ -284,7 +284,7 @@ impl<X: Extra + Drop> Core<X> {
         }
     }
 
-    // The same, where the program does not go on after the instruction that comes next, or nothing is told of it.
+    // The same, where the program does not go on after the instruction that comes next, or nothing is known of it.
     #[inline(never)]
     #[cold]
     fn pass_alone<S: Sink, L: Ledger>(

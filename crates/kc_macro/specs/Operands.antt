@@ -29,7 +29,7 @@ abbrev pub seen_tree : Option Expr → Option Tree
 seen_tree None = None
 seen_tree (Some e) = Some (tree_of e)
 
--- the value of an operand, which must be fixed; here, where names have values or none, nothing is told elsewhere
+-- the value of an operand, which must be fixed; here, where names have values or none, nothing is reported elsewhere
 abbrev pub fixed_value : Answer → Result ℕ ℕ
 fixed_value (Ok v) = if is_fixed v.base then Ok v.number else Err not_fixed
 fixed_value (Err (Fault code)) = Err (code_number code)

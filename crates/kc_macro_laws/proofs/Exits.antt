@@ -94,7 +94,7 @@ plain_out s number from [] e none = plain_bare s number from [] e none
 plain_out s number from (t ∷ []) e none = plain_bare s number from (t ∷ []) e none
 plain_out s number from (t ∷ u ∷ us) e none = plain_two s number from t u us (is_free_name t && is_sign 58 u) e none
 
--- a line at the front that comes out, with any marks
+-- a line at the beginning that comes out, with any marks
 plain_first : (s : State) (p : Piece) (o : Option (List Token)) → p.tokens ≡ o → are_plain s.macros o ≡ true →
     (next : State) × ((next.macros ≡ s.macros) × ((rest : List Piece) (from : List Mark) → step (on_text s (record p { from = from } ∷ rest)) ≡ counted p.number (on_text next rest)))
 plain_first s p None e h = absurd (cc)

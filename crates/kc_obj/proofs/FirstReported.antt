@@ -1,4 +1,4 @@
--- What a call tells of the spelling.
+-- What a call reports of the spelling.
 use Rattle.std.proofs.Common.{◌≡◌, ℕ, ◌+◌, true, List, length, Result, Ok, Err, sym, ap, subst, ◌∙◌, arith}
 use Rattle.kc_obj_module.specs.declared.module.Module.{Module}
 use Rattle.kc_obj_module.specs.Object.{Object}

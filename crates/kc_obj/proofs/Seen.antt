@@ -151,7 +151,7 @@ abbrev pub fault_in : Answer → Option Fault
 fault_in (Ok m) = None
 fault_in (Err f) = Some f
 
--- the first fault is told, and each stands within the file or at its end (n: its length)
+-- the first fault is reported, and each stands within the file or at its end (n: its length)
 pub record Agrees (n : ℕ) (answer : Answer) (faults : List Fault) : Type 0 where
   pub first : fault_in answer ≡ least faults
   pub within : Within (n + 1) faults

@@ -34,7 +34,7 @@ listed_within n fs false at code h k = h
 abbrev Fits : ℕ → ℕ → List ℕ → Type 0
 Fits n at body = 1 ≤ length body → at + length body ≤ n
 
--- a field is judged where all of it is there: m bytes of the body
+-- a field is checked where all of it is there: m bytes of the body
 field : (n at : ℕ) (body : List ℕ) (fs : List Fault) (m place code : ℕ) (x : Bool) → Fits n at body → 1 ≤ m → place < at + m → Within n fs → Within n (listed fs (nat_le m (length body) && x) place code)
 field n at body fs m place code x fits some near h =
     listed_within n fs (nat_le m (length body) && x) place code h (λ e.

@@ -1,5 +1,5 @@
 -- The laws of the format (this kit's own): the bytes that are read as a module are the one spelling of that module, and the
--- spelling of each module is read as it; of all faults the first is told.
+-- spelling of each module is read as it; of all faults the first is reported.
 use Rattle.std.specs.Prelude.{◌≡◌, ℕ, ◌≤◌, Result, Ok, Err, List, [], length}
 use Rattle.kc_base.specs.Bytes.{IsBytes}
 use Rattle.kc_obj_module.specs.declared.module.Module.{Module}

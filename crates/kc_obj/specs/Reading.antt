@@ -174,7 +174,7 @@ stopped by r at code = by.report (by.note r.fault true at code) (object_read r)
 abbrev pub ended : {C A : Type 0} → Reporting C A → ReadBy C → ℕ → ℕ → A
 ended by r at behind = if behind == 0 then by.report r.fault (object_read r) else stopped by r at bytes_behind
 
--- an empty piece that nothing names is told at the end record
+-- an empty piece that nothing names is reported at the end record
 abbrev pub at_stage : {C A : Type 0} → Reporting C A → ℕ → ℕ → ReadBy C → ReadBy C
 at_stage by at kind r =
     record r { stage = stage_of kind; fault = by.note r.fault ((kind == 0x7F) && by.looks_on r.fault && not (all_kept r.publics r.fixups 0 r.segments)) at other_spelling }

@@ -23,7 +23,7 @@ pub fn encoded_is_decoded(module: &Module)
     module.has_room();
 }
 
-/// Of all faults of an object the first is told, by offset, and of two at one offset the one of the lesser code; and an
+/// Of all faults of an object the first is reported, by offset, and of two at one offset the one of the lesser code; and an
 /// object is read exactly where it has none.
 pub fn first_is_reported()
     ensures { FirstIsReported }

@@ -1,4 +1,4 @@
--- The fields of a record's body, and how the faults of an object are told (this kit's own format and codes).
+-- The fields of a record's body, and how the faults of an object are reported (this kit's own format and codes).
 use Rattle.std.specs.Prelude.{◌≡◌, ℕ, Bool, false, not, All, Contains, ◌+◌, ◌-◌, ◌*◌, ◌==◌, ◌&&◌, ◌||◌, nat_lt, nat_le, if◌then◌else◌, Option, Some, None, List, [], ◌∷◌, length, take, drop, slice_index, slice_get}
 use Rattle.std.specs.List.{list_all}
 use Rattle.kc_obj_fields.specs.declared.faults.Fault.{Fault}

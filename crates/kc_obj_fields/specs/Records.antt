@@ -1,5 +1,5 @@
 -- The faults of each record, and the part that it gives (this kit's own format and codes). Of a record, `at` is where its
--- body begins in the file, and the body is as much as the file has of it: a field is judged where all of it is there.
+-- body begins in the file, and the body is as much as the file has of it: a field is checked where all of it is there.
 -- `note` takes a fault down, where a rule is broken.
 use Rattle.std.specs.Prelude.{ℕ, Bool, true, false, not, ◌+◌, ◌-◌, ◌==◌, ◌&&◌, ◌||◌, nat_lt, nat_le, if◌then◌else◌, Option, Some, None, is_some, List, [], ◌∷◌, length, drop, slice_index, slice_get}
 use Rattle.std.specs.List.{list_any}

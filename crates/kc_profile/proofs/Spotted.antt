@@ -100,7 +100,7 @@ module _ {X : Type 0} (f : Further X) where
       ap (λ (s : Stepped X). s.machine.time) (run-none f m) ∙ e
   lasts-activity n m lives few (suc k) within = ap (λ (s : Stepped X). s.machine.time) (run_for-cut f (suc k) m (current m) lives refl (omega arith) (omega arith))
 
-  -- where an activity ends is told in each of its states
+  -- where an activity ends is reported in each of its states
   pub end-stays : (began : ℕ) (m : Machine X) → m.ended ≡ None → m.time ≤ began → began < activity_end m → activity_end (run_to f began m).machine ≡ activity_end m
   end-stays began m lives from before = elim (cases_lt m.time began) [
     | inl more ↦

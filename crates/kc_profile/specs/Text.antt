@@ -6,7 +6,7 @@ use Rattle.kc_trace.specs.Text.{hex}
 use Rattle.kc_debug_script.specs.declared.line_map.MapEntry.{MapEntry}
 use Rattle.kc_profile.specs.Tally.{Tally}
 
--- nothing is told of what has no states
+-- nothing is known of what has no states
 abbrev pub unless_none : ℕ → List ℕ → List ℕ
 unless_none states line = if states == 0 then [] else line
 
@@ -53,8 +53,8 @@ goes_on entry (next ∷ entries) = is_same_line entry next
 abbrev pub line_line : MapEntry → ℕ → List ℕ
 line_line entry states = codes "line " ++ entry.name ++ codes " " ++ decimal entry.line ++ codes " " ++ decimal states ++ codes "\n"
 
--- What is told of the lines of entries. The addresses of an entry go from its own up to that of the next. Entries of one line that
--- follow one another are told as one: here the line of the first entry goes from another address on.
+-- What is known of the lines of entries. The addresses of an entry go from its own up to that of the next. Entries of one line that
+-- follow one another are reported as one: here the line of the first entry goes from another address on.
 unfoldable pub line_lines : List ℕ → ℕ → List MapEntry → List ℕ
 line_lines at from [] = []
 line_lines at from (entry ∷ entries) =

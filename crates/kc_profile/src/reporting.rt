@@ -180,7 +180,7 @@ impl Profile {
     /// line map with these entries. A state at an address belongs to the line of the last entry at or below it.
     ///
     /// `at HHHH STATES`, `entry NUMBER STATES`, `server NUMBER STATES`, `idle STATES` and `line MODULE LINE STATES`, in this
-    /// order, and each by rising address or number. Entries of one line that follow one another are told as one.
+    /// order, and each by rising address or number. Entries of one line that follow one another are reported as one.
     pub fn text(&self, alloc: Global, entries: &[MapEntry]) -> Result<Vec<u8>, NoMemory>
         ensures { IfOk result (λ text. text.items ≡ spec.profile_text self.now entries.now) }
     {

@@ -6,7 +6,7 @@ use Rattle.std.proofs.lemmas.List.Sums.{take_while-cons}
 use Rattle.kc_base.specs.TextLines.{with_first}
 use Rattle.kc_rules.specs.Words.{is_blank, is_edge, joined_to, words_in}
 
--- how many characters at the front pass
+-- how many characters at the beginning pass
 abbrev pub prefix_len : (ℕ → Bool) → List ℕ → ℕ
 prefix_len p [] = 0
 prefix_len p (c ∷ cs) = cond (p c) (suc (prefix_len p cs)) 0

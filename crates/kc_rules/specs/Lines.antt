@@ -52,7 +52,7 @@ no_lines = record { marks = []; rules = [] }
 abbrev pub book_of : ℕ → List ℕ → Result Book ℕ
 book_of clock bytes = read_lines clock 0 (text_lines bytes) no_lines
 
--- what a reader answers; want of memory may come at any time
+-- what a reader answers; memory may run out at any time
 abbrev pub IsRead : ℕ → List ℕ → Result Book RulesFault → Type 0
 IsRead clock bytes (Ok book) = book_of clock bytes ≡ Ok book
 IsRead clock bytes (Err (faults.BadRule line)) = book_of clock bytes ≡ Err line

@@ -1,4 +1,4 @@
-// Rules, by the words at the front.
+// Rules, by the words at the beginning.
 ghost use Rattle.std.specs.Prelude.{◌≡◌, Some, None, IfOk, IfErr, IfSome};
 ghost use Rattle.kc_rules.specs.declared.fault.ReadFault.TheVariants as faults;
 ghost use Rattle.kc_rules.specs.Readings.{one};

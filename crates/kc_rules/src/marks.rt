@@ -1,4 +1,4 @@
-// Marks, by the words at the front.
+// Marks, by the words at the beginning.
 ghost use Rattle.std.specs.Prelude.{◌≡◌, map, Some, None, IfOk, IfErr};
 ghost use Rattle.std.specs.List.{list_all, list_any};
 ghost use Rattle.std.specs.Str.{bytes_eq};

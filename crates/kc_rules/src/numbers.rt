@@ -15,7 +15,7 @@ const PARTS: u128 = 2_000_000_000_000_000;
 /// The greatest time in states.
 const STATE_LIMIT: u128 = 1_000_000_000_000_000;
 
-// How many digits stand at the front.
+// How many digits stand at the beginning.
 fn digit_count(text: &[u8]) -> usize
     ensures value { result ≡ length (spec.digits_of text.now) }
     ensures within { result ≤ length text.now }

@@ -1,4 +1,4 @@
-// Signals, levels and events, by the words at the front.
+// Signals, levels and events, by the words at the beginning.
 ghost use Rattle.std.specs.Prelude.{◌≡◌, Some, None, IfOk, IfErr};
 ghost use Rattle.std.specs.List.{position_from};
 ghost use Rattle.std.specs.Str.{bytes_eq};

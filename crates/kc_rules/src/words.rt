@@ -63,7 +63,7 @@ fn body(line: &[u8]) -> &[u8]
     prefix(line, body_len(line))
 }
 
-// How many blanks stand at the front.
+// How many blanks stand at the beginning.
 fn blank_count(text: &[u8]) -> usize
     ensures value { result ≡ length (take_while is_blank text.now) }
     ensures within { result ≤ length text.now }
@@ -71,7 +71,7 @@ fn blank_count(text: &[u8]) -> usize
     text.iter().take_while(|c| is_blank_byte(**c)).count()
 }
 
-// The text without the blanks at its front.
+// The text without the blanks at its beginning.
 fn without_blanks(text: &[u8]) -> &[u8]
     ensures same { words_in result.now ≡ words_in text.now }
     ensures ahead { 0 < length result.now → is_blank (slice_index result.now 0) ≡ false }
@@ -80,7 +80,7 @@ fn without_blanks(text: &[u8]) -> &[u8]
     after(text, blank_count(text))
 }
 
-// How many characters at the front end no word.
+// How many characters at the beginning end no word.
 fn plain_count(text: &[u8]) -> usize
     ensures value { result ≡ length (take_while (λ c. not (is_edge c)) text.now) }
     ensures within { result ≤ length text.now }
@@ -88,7 +88,7 @@ fn plain_count(text: &[u8]) -> usize
     text.iter().take_while(|c| !is_edge_byte(**c)).count()
 }
 
-// How long the word at the front is.
+// How long the word at the beginning is.
 fn word_len(text: &[u8]) -> usize
     requires some { 0 < length text.now }
     requires ahead { is_blank (slice_index text.now 0) ≡ false }
@@ -166,7 +166,7 @@ impl Words {
         }
     }
 
-    /// Takes the first word if it is this one, and tells whether it is.
+    /// Takes the first word if it is this one, and reports whether it is.
     pub(crate) fn has(&mut self, this: &[u8]) -> bool
         ensures { has this.now self.old ≡ Some (result, self.new) }
     {

@@ -47,6 +47,6 @@ rate_before h t = rate_after (log h t)
 abbrev pub comes_since : (Access → Bool) → ℕ → List Done → Bool
 comes_since such s accesses = list_any (λ d. nat_le s d.at && such d.access) accesses
 
--- a truth that is told exactly where it holds
+-- a truth that is known exactly where it holds
 abbrev pub Decides : Bool → Type 0 → Type 0
 Decides known holds = (known ≡ true → holds) × (holds → known ≡ true)

@@ -62,7 +62,7 @@ table_grows es fs us u table here others q =
 
 -- ---- the faults of the uses
 
--- how far the uses are judged
+-- how far the uses are checked
 pub record Checked (all : List Use) (es : List (Vec ℕ × Known)) (count : ℕ) (found : Option Fault) (rest : List Use) : Type 0 where
   pub earlier : List Use
   pub table : IsTable es earlier

@@ -15,7 +15,7 @@ use kc_lex::words::takes;
 use kc_lex::{Notation, Operands, SourceFault, Token};
 use std::alloc::Global;
 
-// The longest expression at the front, and how many tokens it takes.
+// The longest expression at the beginning, and how many tokens it takes.
 pub(crate) fn expression(alloc: Global, tokens: &[Token]) -> Result<Option<(Expr, usize)>, NoMemory>
     ensures read { IfOk result (λ o. parsed tokens.now ≡ seen tokens.now o) }
     ensures within { IfOk result (λ o. IfSome o (λ p. p.1 ≤ length tokens.now)) }

@@ -68,7 +68,7 @@ pub fn timer1_due(t: StateTime) -> StateTime
     t / 524288 * 524288 + 524287
 }
 
-/// A view of Timer 2 tells the value that the timer has after as many Ticks without an input.
+/// A view of Timer 2 reports the value that the timer has after as many Ticks without an input.
 pub fn view_shows_values()
     ensures { (control : T2Control) (from to : ℕ) (d : T2) → d.value < 65536 → from ≤ to →
         value_at (view_of control d) from to ≡ (after (timer2_rule control) from (to - from) d).value }

@@ -16,11 +16,11 @@ Puts-nothing a = record {
   silent = λ h. refl;
 }
 
--- what is a front of a text is a front of a longer one
+-- what is a prefix of a text is a prefix of a longer one
 pub GrewByPart-longer : (a : Option (List ℕ)) (x y : List ℕ) (b : Option (List ℕ)) → GrewByPart a x b → GrewByPart a (x ++ y) b
 GrewByPart-longer a x y b h = (h.0, h.1 ++ y, ap (λ t. t ++ y) h.2 ∙ append_assoc h.0 h.1 y, h.3)
 
--- a whole text, and then a front of another
+-- a whole text, and then a prefix of another
 GrewByPart-after : (a : Option (List ℕ)) (x : List ℕ) (b : Option (List ℕ)) (y : List ℕ) (c : Option (List ℕ)) → Grew a x b → GrewByPart b y c → GrewByPart a (x ++ y) c
 GrewByPart-after a x b y c h k = (x ++ k.0, k.1, ap (λ t. x ++ t) k.2 ∙ sym (append_assoc x k.0 k.1), Grew-append a x b k.0 c h k.3)
 
@@ -52,7 +52,7 @@ Puts-append a x b y c h k = record {
     by_cause true e i j = let r = h.cause i e in omega (arith, r, h.later, k.later)
     by_cause false e i j = let r = k.cause e j in omega (arith, r, h.later, k.later)
 
--- a trace that has failed has put a front of any longer text
+-- a trace that has failed has put a prefix of any longer text
 pub Puts-longer : (a : Out) (x y : List ℕ) (b : Out) → b.failed ≡ true → Puts a x b → Puts a (x ++ y) b
 Puts-longer a x y b over h = record {
   whole = λ e. absurd (let t : true ≡ false = sym over ∙ e in cc);

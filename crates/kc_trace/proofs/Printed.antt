@@ -71,7 +71,7 @@ Prints-append a xs b ys c h k = record {
 pub Prints-cons : (a : Out) (item : Record) (b : Out) (items : List Record) (c : Out) → IsPut a item b → Prints b items c → Prints a (item ∷ items) c
 Prints-cons a item b items c h k = Prints-append a (item ∷ []) b items c (Prints-one a item b h) k
 
--- a trace that has failed has put a front of any longer list
+-- a trace that has failed has put a prefix of any longer list
 pub Prints-longer : (a : Out) (xs ys : List Record) (b : Out) → b.failed ≡ true → Prints a xs b → Prints a (xs ++ ys) b
 Prints-longer a xs ys b over h = record {
   text = subst (λ text. Puts a text b) (sym (text_of-append xs ys)) (Puts-longer a (text_of xs) (text_of ys) b over h.text);

@@ -6,14 +6,14 @@ use Rattle.kc_trace.specs.declared.trace.Counts.{Counts}
 use Rattle.kc_trace.specs.Text.{line_of, text_of}
 use Rattle.kc_trace.specs.Counting.{counted_unless, counted_all}
 
--- what the sink tells that was written, how often it has failed, whether it has failed this trace, and what was counted
+-- what the sink reports that was written, how often it has failed, whether it has failed this trace, and what was counted
 pub record Out : Type 0 where
   pub written : Option (List ℕ)
   pub faults : ℕ
   pub failed : Bool
   pub counts : Counts
 
--- The text is written whole, or the sink fails and a front of it is written. After a fault nothing more is written.
+-- The text is written whole, or the sink fails and a prefix of it is written. After a fault nothing more is written.
 pub record Puts (old : Out) (text : List ℕ) (new : Out) : Type 0 where
   pub whole : new.failed ≡ false → Grew old.written text new.written
   pub part : GrewByPart old.written text new.written

@@ -1,4 +1,4 @@
--- What a trace shows of itself, by what its sink tells (this kit's own).
+-- What a trace shows of itself, by what its sink reports (this kit's own).
 use Rattle.std.specs.Prelude.{ℕ, List, Option}
 use Rattle.kc_base.specs.declared.types.Edge.{Edge}
 use Rattle.kc_trace.specs.declared.record.Record.TheVariants.{Pin}

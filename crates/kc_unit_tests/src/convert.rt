@@ -47,7 +47,7 @@ fn raised<L: Ledger>(converter: &mut Converter, at: StateTime, steps: &mut Steps
     converter.tick(at, 0, 0, steps).raised.0
 }
 
-// Goes on to the next end of a conversion, and tells its state; 0 where there is none.
+// Goes on to the next end of a conversion, and reports its state; 0 where there is none.
 fn ended<L: Ledger>(converter: &mut Converter, now: StateTime, steps: &mut Steps<L>) -> StateTime
     requires { now ≤ 4 * 10 ^ 15 }
 {
@@ -127,7 +127,7 @@ fn pulses_from<L: Ledger>(rt: &impl Abort, width: u8, phase: u8, steps: &mut Ste
     }
 }
 
-// Goes on to the next edge of the first output, and tells its state; 0 where there is none.
+// Goes on to the next edge of the first output, and reports its state; 0 where there is none.
 fn edge_from<L: Ledger>(pulses: &mut Pulses, now: StateTime, steps: &mut Steps<L>) -> StateTime
     requires { now ≤ 4 * 10 ^ 15 }
 {

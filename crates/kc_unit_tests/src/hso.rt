@@ -19,7 +19,7 @@ const LOADED: Fired = Fired {
     loaded: true,
 };
 
-/// Goes on to `to` where nothing is due before, and tells so.
+/// Goes on to `to` where nothing is due before, and reports so.
 fn goes_to<L: Ledger>(
     hso: &mut Hso,
     now: StateTime,

@@ -57,7 +57,7 @@ impl Wired {
         self.port.read(0, sfr, 0)
     }
 
-    // Goes on to the next state that is due, and tells it.
+    // Goes on to the next state that is due, and reports it.
     fn goes_on<L: Ledger>(&mut self, now: u64, steps: &mut Steps<L>) -> Option<u64>
         requires { now ≤ 4 * 10 ^ 15 }
     {

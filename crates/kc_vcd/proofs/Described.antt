@@ -1,4 +1,4 @@
--- What a reader is told of a dump.
+-- What a reader is known of a dump.
 use Rattle.std.proofs.Common.{◌≡◌, ℕ, ◌+◌, ◌*◌, ◌^◌, ◌<◌, ◌≤◌, inl, inr, Bool, true, false, cond, ◌&&◌, eqb, leb, Option, Some, None, List, [], ◌∷◌, ◌++◌, map, flat_map, refl, sym, ap, ◌∙◌, append_assoc, arith}
 use Rattle.std.specs.Prelude.{codes, decimal}
 use Rattle.std.specs.List.{range_with_len}
@@ -68,7 +68,7 @@ unfolding code_of
 code-prefix name code [] ys h = absurd (let e : None ≡ Some code = h in cc)
 code-prefix name code (x ∷ xs) ys h = by_name _ _ code (code_of name xs) (code_of name (xs ++ ys)) (code-prefix name code xs ys) h
 
--- ---- the front of a dump
+-- ---- the prefix of a dump
 
 abbrev pin_line : ℕ → List ℕ
 pin_line pin = codes "$var wire 1 " ++ pin_code pin ∷ [] ++ codes " " ++ pin_name pin ++ codes " $end"

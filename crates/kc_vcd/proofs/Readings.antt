@@ -25,7 +25,7 @@ one_history before (x ∷ items) (o ∷ others) h k e =
 one_trace : (lines : List (List ℕ)) (items others : List Record) → IsTrace lines items → IsTrace lines others → items ≡ others
 one_trace lines items others h k = one_history 0 items others h.history k.history (sym h.spelled ∙ k.spelled)
 
--- a front of a trace is a trace
+-- a prefix of a trace is a trace
 prefix_history : (before n : ℕ) (items : List Record) → IsHistory before items → IsHistory before (take n items)
 unfolding IsHistory
 prefix_history before zero items h = tt

@@ -1,4 +1,4 @@
--- What a trace tells: records in the order of time (this kit's own).
+-- What a trace describes: records in the order of time (this kit's own).
 use Rattle.std.specs.Prelude.{◌≡◌, ℕ, ◌^◌, ◌<◌, ◌≤◌, List, [], ◌∷◌, length}
 use Rattle.kc_base.specs.Bytes.{IsBytes}
 use Rattle.kc_trace.specs.declared.record.Record.{Record}

@@ -1,7 +1,7 @@
 -- The levels of the pins over a run, by the edges of its trace (80C196KC User's Manual, "Pin Descriptions", "I/O Ports"; the
 -- levels at the start are this kit's own).
 --
--- A trace has the edges of printed pins alone, and no level: what a pin is before its first edge is told here. Of an input
+-- A trace has the edges of printed pins alone, and no level: what a pin is before its first edge is described here. Of an input
 -- that only stimuli move a trace has no edge, so that it stands as before state 0.
 use Rattle.std.specs.Prelude.{ℕ, nat_le, if◌then◌else◌, ◌==◌, Bool, ◌&&◌, ◌||◌, List, [], ◌∷◌}
 use Rattle.kc_base.specs.declared.types.Level.{Level}

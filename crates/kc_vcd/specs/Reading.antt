@@ -20,7 +20,7 @@ pub record IsFirstWrong (lines : List (List ℕ)) (line : ℕ) : Type 0 where
   pub before : (items : List Record) × IsTrace (take (line - 1) lines) items
   pub wrong : (items : List Record) → ¬ IsTrace (take line lines) items
 
--- what a reader answers; want of memory may come at any time
+-- what a reader answers; memory may run out at any time
 abbrev pub IsTraceRead : List ℕ → Result (List Record) VcdFault → Type 0
 IsTraceRead text (Ok items) = IsTrace (text_lines text) items
 IsTraceRead text (Err (faults.BadTrace line)) = IsFirstWrong (text_lines text) line

@@ -22,7 +22,7 @@ write_all-requires-clause-puts c =
     c.requires.checked.puts
     ∙ ap (λ (ss : List Location). puts_from (located (place_at ss) stmts) [] (located (place_at ss) stmts) ss) (sym c.requires.locations)
 
--- field by field, so that a draft with one field wrong is refused at once
+-- field by field, so that an unlinked module with one field wrong is refused at once
 pub returns : goal.returns
 returns c =
     let stmts = c.args.stmts.now in

@@ -5,7 +5,7 @@ use Rattle.kc_watchdog.specs.contracts.watchdog.WatchdogExtra.TheImpl as watchdo
 use Rattle.kc_cycles.proofs.Fitted.{Way}
 use Rattle.kc_cycles.proofs.lives.run_lives.Given as goal
 
--- the lives before this one have been told
+-- the lives before this one have been reported
 abbrev pub invariant-lives : goal.invariant-lives
 invariant-lives g l =
     Way (pair.ghosts g.row.M-X watchdog_type.the_row g.M.X.Extra pair.no_dict watchdog.ghosts pair.no_dict).further (g.M.Maker.made l.maker l.stimuli) l.image l.stimuli l.until l.lives

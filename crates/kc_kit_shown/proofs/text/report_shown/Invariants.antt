@@ -4,7 +4,7 @@ use Rattle.kc_trace.specs.Trace.{out_of}
 use Rattle.kc_kit_shown.specs.Shown.{shown}
 use Rattle.kc_kit_shown.proofs.text.report_shown.Given as goal
 
--- what is still to be told completes the text
+-- what is still to be reported completes the text
 abbrev pub invariant-loop-left : goal.invariant-loop-left
 invariant-loop-left g l = (end : Out) → Puts (out_of g.N.Sink.written g.N.Sink.faults l.diagnostics) (shown l.left) end
     → Puts (out_of g.N.Sink.written g.N.Sink.faults l.initial.diagnostics) (shown l.text) end
