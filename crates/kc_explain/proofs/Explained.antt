@@ -1,5 +1,5 @@
 -- Each code has a row.
-use Rattle.std.proofs.Common.{◌≡◌, ℕ, zero, suc, ◌+◌, ◌-◌, ◌<◌, ◌≤◌, Bool, true, ◌&&◌, inl, inr, List, refl, ap, ◌∙◌, arith}
+use Rattle.std.proofs.Common.{◌≡◌, ℕ, zero, suc, ◌<◌, Bool, true, ◌&&◌, inl, inr, List, refl, ap, ◌∙◌, arith}
 use Rattle.std.specs.Prelude.{codes}
 use Rattle.std.proofs.lemmas.Bool.{and_parts, cases_lt}
 use Rattle.kc_base.specs.declared.types.Kind.{Kind}
@@ -7,6 +7,18 @@ use Rattle.kc_base.specs.declared.types.Kind.TheVariants as kind
 use Rattle.kc_isa.specs.declared.table.Mnemonic.{Mnemonic}
 use Rattle.kc_isa.specs.declared.table.Mnemonic.TheVariants as mnemonic
 use Rattle.kc_isa.specs.Names.{name_of}
+use Rattle.kc_lex.specs.declared.fault.SourceCode.{SourceCode}
+use Rattle.kc_lex.specs.declared.fault.SourceCode.TheVariants as source
+use Rattle.kc_lex.specs.Codes.{code_number as source_number}
+use Rattle.kc_obj_fields.specs.declared.faults.ObjCode.{ObjCode}
+use Rattle.kc_obj_fields.specs.declared.faults.ObjCode.TheVariants as object
+use Rattle.kc_obj_fields.specs.Codes.{code_number as object_number}
+use Rattle.kc_lib.specs.declared.faults.LibCode.{LibCode}
+use Rattle.kc_lib.specs.declared.faults.LibCode.TheVariants as library
+use Rattle.kc_lib.specs.Codes.{code_number as library_number}
+use Rattle.kc_hex.specs.declared.fault.HexCode.{HexCode}
+use Rattle.kc_hex.specs.declared.fault.HexCode.TheVariants as hex
+use Rattle.kc_hex.specs.Codes.{code_number as hex_number}
 use Rattle.kc_stim.specs.declared.fault.StimFault.{StimFault}
 use Rattle.kc_stim.specs.declared.fault.StimFault.TheVariants as stim
 use Rattle.kc_link_place.specs.declared.ranges.LinkFault.{LinkFault}
@@ -31,30 +43,62 @@ each_below test (suc n) k all less =
       | inr last ↦ let same : k ≡ n = omega arith in ap test same ∙ both.0
     ]
 
--- from 1 on
-each_from : (test : ℕ → Bool) (n k : ℕ) → all_below (λ j. test (j + 1)) n ≡ true → 1 ≤ k → k ≤ n → test k ≡ true
-each_from test n k all some few =
-    let same : k ≡ k - 1 + 1 = omega arith in
-    ap test same ∙ each_below (λ j. test (j + 1)) n (k - 1) all (omega arith)
-
 abbrev has_row : List ℕ → Bool
 has_row code = is_among code all_codes
 
-sources : (n : ℕ) → 1 ≤ n → n ≤ 24 → IsExplained (lettered (codes "E") n)
+sources : (code : SourceCode) → IsExplained (lettered (codes "E") (source_number code))
 unfolding all_codes instruction_codes
-sources n some few = each_from (λ k. has_row (lettered (codes "E") k)) 24 n refl some few
+sources source.NoStatement = refl
+sources source.NoEnd = refl
+sources source.LongLine = refl
+sources source.ManyLines = refl
+sources source.TooDeep = refl
+sources source.DefinedTwice = refl
+sources source.NotDefined = refl
+sources source.ManyNames = refl
+sources source.BadNumber = refl
+sources source.NotFixed = refl
+sources source.DivisionByZero = refl
+sources source.DoesNotFit = refl
+sources source.NotRelocatable = refl
+sources source.OtherOperands = refl
+sources source.NoMatch = refl
+sources source.ManyArguments = refl
+sources source.PastTheEnd = refl
+sources source.OutsideCode = refl
+sources source.OutOfReach = refl
+sources source.NotPublic = refl
+sources source.NotExternal = refl
+sources source.OutsideRegion = refl
+sources source.SecondModule = refl
+sources source.NoLabel = refl
 
-objects : (n : ℕ) → 1 ≤ n → n ≤ 6 → IsExplained (lettered (codes "O") n)
+objects : (code : ObjCode) → IsExplained (lettered (codes "O") (object_number code))
 unfolding all_codes instruction_codes
-objects n some few = each_from (λ k. has_row (lettered (codes "O") k)) 6 n refl some few
+objects object.WrongOrder = refl
+objects object.TooShort = refl
+objects object.OutOfRange = refl
+objects object.OtherSpelling = refl
+objects object.BytesBehind = refl
+objects object.NoName = refl
 
-libraries : (n : ℕ) → 1 ≤ n → n ≤ 6 → IsExplained (lettered (codes "B") n)
+libraries : (code : LibCode) → IsExplained (lettered (codes "B") (library_number code))
 unfolding all_codes instruction_codes
-libraries n some few = each_from (λ k. has_row (lettered (codes "B") k)) 6 n refl some few
+libraries library.Head = refl
+libraries library.End = refl
+libraries library.NoObject = refl
+libraries library.SecondName = refl
+libraries library.TooMany = refl
+libraries library.Behind = refl
 
-hex_files : (n : ℕ) → 1 ≤ n → n ≤ 6 → IsExplained (lettered (codes "H") n)
+hex_files : (code : HexCode) → IsExplained (lettered (codes "H") (hex_number code))
 unfolding all_codes instruction_codes
-hex_files n some few = each_from (λ k. has_row (lettered (codes "H") k)) 6 n refl some few
+hex_files hex.Form = refl
+hex_files hex.Checksum = refl
+hex_files hex.Type = refl
+hex_files hex.Address = refl
+hex_files hex.Behind = refl
+hex_files hex.NoEnd = refl
 
 statuses : (given : Status) → IsExplained (status_code given)
 unfolding all_codes instruction_codes

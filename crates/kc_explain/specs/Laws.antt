@@ -1,11 +1,19 @@
 -- Each code is one of those that are explained (this kit's own).
-use Rattle.std.specs.Prelude.{◌≡◌, ℕ, ◌-◌, ◌<◌, ◌≤◌, Bool, true, List, ◌++◌, codes, drop, length, map}
+use Rattle.std.specs.Prelude.{◌≡◌, ℕ, ◌-◌, ◌<◌, Bool, true, List, ◌++◌, codes, drop, length, map}
 use Rattle.std.specs.List.{IsDistinct}
 use Rattle.std.specs.Str.{bytes_eq}
 use Rattle.kc_base.specs.declared.types.Kind.{Kind}
 use Rattle.kc_base.specs.Digits.{hex}
 use Rattle.kc_isa.specs.declared.table.Mnemonic.{Mnemonic}
 use Rattle.kc_isa.specs.Names.{name_of}
+use Rattle.kc_lex.specs.declared.fault.SourceCode.{SourceCode}
+use Rattle.kc_lex.specs.Codes.{code_number as source_number}
+use Rattle.kc_obj_fields.specs.declared.faults.ObjCode.{ObjCode}
+use Rattle.kc_obj_fields.specs.Codes.{code_number as object_number}
+use Rattle.kc_lib.specs.declared.faults.LibCode.{LibCode}
+use Rattle.kc_lib.specs.Codes.{code_number as library_number}
+use Rattle.kc_hex.specs.declared.fault.HexCode.{HexCode}
+use Rattle.kc_hex.specs.Codes.{code_number as hex_number}
 use Rattle.kc_stim.specs.declared.fault.StimFault.{StimFault}
 use Rattle.kc_link_place.specs.declared.ranges.LinkFault.{LinkFault}
 use Rattle.kc_exec_spec.specs.Entering.{vector_at}
@@ -19,10 +27,10 @@ IsExplained code = is_among code all_codes ≡ true
 
 -- the codes of sources, objects, libraries and hex files, and of what has one code alone
 pub record FaultsAreExplained : Type 0 where
-  pub sources : (n : ℕ) → 1 ≤ n → n ≤ 24 → IsExplained (lettered (codes "E") n)
-  pub objects : (n : ℕ) → 1 ≤ n → n ≤ 6 → IsExplained (lettered (codes "O") n)
-  pub libraries : (n : ℕ) → 1 ≤ n → n ≤ 6 → IsExplained (lettered (codes "B") n)
-  pub hex : (n : ℕ) → 1 ≤ n → n ≤ 6 → IsExplained (lettered (codes "H") n)
+  pub sources : (code : SourceCode) → IsExplained (lettered (codes "E") (source_number code))
+  pub objects : (code : ObjCode) → IsExplained (lettered (codes "O") (object_number code))
+  pub libraries : (code : LibCode) → IsExplained (lettered (codes "B") (library_number code))
+  pub hex : (code : HexCode) → IsExplained (lettered (codes "H") (hex_number code))
   pub stimuli : (fault : StimFault) → IsExplained (stimulus_code fault)
   pub rules : (fault : LinkFault) → IsExplained (rule_code fault)
   pub analog : IsExplained (codes "BADANALOG")
