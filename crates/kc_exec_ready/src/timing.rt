@@ -1,4 +1,4 @@
-// How many states an instruction takes that was prepared.
+// How many states a predecoded instruction takes.
 ghost use Rattle.std.specs.Prelude.{◌≡◌, ◌<◌, ◌≤◌, IfErr, IfOk, IsTrue, true, false, if◌then◌else◌};
 ghost use Rattle.std.specs.Bool.{OnTrue};
 ghost use Rattle.kc_base.specs.declared.types.Kind.TheVariants.{NoRegister as NotThere};
@@ -127,7 +127,7 @@ pub fn known_time_of<B: Bus>(predecoded: &Predecoded, cpu: Cpu, bus: &B) -> Resu
     }
 }
 
-/// The states of a prepared instruction, from the registers and the memory that stand at its start. Refused as `place`
+/// The states of a predecoded instruction, from the registers and the memory that stand at its start. Refused as `place`
 /// refuses it.
 #[inline(always)]
 pub fn time_of<B: Bus>(predecoded: &Predecoded, cpu: Cpu, bus: &B) -> Result<u8, Kind>

@@ -277,7 +277,7 @@ fn predecoded_from<X: Extra + Drop, L: Ledger, K: Began>(
     perform_predecoded(predecoded, cpu, &mut bus)
 }
 
-/// Performs a prepared instruction over the board; answers whether an instruction has to follow, or any activity may.
+/// Performs a predecoded instruction over the board; answers whether an instruction has to follow, or any activity may.
 #[inline(always)]
 pub(crate) fn predecoded_over<X: Extra + Drop, L: Ledger>(
     predecoded: &Predecoded,
@@ -340,7 +340,7 @@ fn known_time_over<X: Extra + Drop, L: Ledger>(
     known_time_of(predecoded, cpu, &bus)
 }
 
-/// The states of a prepared instruction on the board, which stays as it is.
+/// The states of a predecoded instruction on the board, which stays as it is.
 #[inline(always)]
 pub(crate) fn time_over<X: Extra + Drop, L: Ledger>(
     predecoded: &Predecoded,

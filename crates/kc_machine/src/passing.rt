@@ -168,7 +168,7 @@ impl<X: Extra + Drop> Core<X> {
     }
 
     // Goes on to the end of the activity, or over idle states up to where the units do something, or to `until` if that
-    // comes first. `free` says that the machine is known to be free, and the answer that it is so again: a row of prepared
+    // comes first. `free` says that the machine is known to be free, and the answer that it is so again: a row of predecoded
     // instructions asks for no more between two of them than whether a request is served.
     #[inline(always)]
     fn pass<S: Sink, L: Ledger>(
@@ -307,7 +307,7 @@ impl<X: Extra + Drop> Core<X> {
         }
     }
 
-    // The same, where the next activity is no prepared instruction; the instruction at PC is prepared for the next time.
+    // The same, where the next activity is no predecoded instruction; the instruction at PC is predecoded for the next time.
     #[inline(never)]
     #[cold]
     fn pass_other<S: Sink, L: Ledger>(
@@ -355,7 +355,7 @@ impl<X: Extra + Drop> Core<X> {
         put_one(out, &record);
     }
 
-    // Goes on to the end of a prepared instruction. Answers whether the machine is free again.
+    // Goes on to the end of a predecoded instruction. Answers whether the machine is free again.
     #[inline(always)]
     fn complete_predecoded<S: Sink, L: Ledger>(
         &mut self,
@@ -391,7 +391,7 @@ impl<X: Extra + Drop> Core<X> {
         }
     }
 
-    // Passes a prepared instruction that comes next.
+    // Passes a predecoded instruction that comes next.
     #[inline(always)]
     fn pass_predecoded<S: Sink, L: Ledger>(
         &mut self,
