@@ -30,7 +30,7 @@ fn writer_of(name: &str) -> Option<u32> {
     process.parse::<u32>().ok()
 }
 
-// Whether the system, which reports of its processes, has none of this number.
+// Whether the system, which lists its processes, has none of this number.
 fn is_gone<R: FileSystem>(system: &R, alloc: Global, writer: u32) -> bool {
     let Ok(place) = format!(in alloc; "/proc/{writer}") else {
         return false;

@@ -100,7 +100,7 @@ fn rights_of<R: FileSystem>(system: &R, name: &str) -> io::Result<u32> {
     Ok(rights.mode() & 0o777)
 }
 
-// Sees that what was written to a file or a folder has reached the device. A pipe or a terminal knows no such thing.
+// Sees that what was written to a file or a folder has reached the device. A pipe or a terminal has no such thing.
 fn settle<F: OpenFile>(file: &F) -> io::Result<()> {
     match file.sync_all() {
         Ok(()) => Ok(()),

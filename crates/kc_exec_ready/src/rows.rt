@@ -208,8 +208,8 @@ fn perform_here<B: Bus>(
     }
 }
 
-/// Performs a predecoded instruction at `cpu.pc` after which the program goes on; answers whether an instruction has to follow, or
-/// any activity may. After a refusal the bus is as after the accesses before the refused one, and the registers are as before.
+/// Performs a predecoded instruction at `cpu.pc` after which the program goes on; answers whether an instruction has to follow,
+/// or any activity may. After a refusal the bus is as after the accesses before the refused one, and the registers are as before.
 #[inline(always)]
 #[tactic(auto, unfolding(kc_exec_spec::specs::Effects::effect_of, crate::specs::Preparing::predecoded_of))]
 pub fn perform_predecoded<B: Bus>(

@@ -28,8 +28,9 @@ use kc_extra::Extra;
 use std::alloc::Global;
 use std::sync::ledger::Ledger;
 
-/// The memory and the units of a board, and the predecoded instructions of its ROM. After the Tick of a state they are those that the accesses of the state meet; beside
-/// them stand the edges of pins that these accesses have made, and how many of their bytes have reached a unit.
+/// The memory and the units of a board, and the predecoded instructions of its ROM. After the Tick of a state they are those that
+/// the accesses of the state meet; beside them stand the edges of pins that these accesses have made, and how many of their bytes
+/// have reached a unit.
 #[derive(Drop)]
 pub struct Common<X: Extra + Drop> {
     pub(crate) memory: Vec<u8>,

@@ -162,8 +162,8 @@ impl<X: Extra + Drop> Core<X> {
         }
     }
 
-    /// Does a predecoded instruction in its last state; answers whether an instruction has to follow, or any activity may. After a
-    /// refusal the state is not over yet.
+    /// Does a predecoded instruction in its last state; answers whether an instruction has to follow, or any activity may. After
+    /// a refusal the state is not over yet.
     #[inline(always)]
     pub(crate) fn execute_predecoded<L: Ledger>(
         &mut self,
