@@ -48,7 +48,7 @@ const FIRST: u16 = 0x2000;
 
 const SLOTS: usize = 0x3FFA;
 
-// No slot knows anything any more.
+// No slot has a predecoded instruction any more.
 fn clear(table: &mut [Predecoded])
     ensures none { All (λ r. is_blank r ≡ true) table.new }
     ensures count { length table.new ≡ length table.old }
@@ -332,7 +332,7 @@ impl<X: Extra + Drop> Common<X> {
         Ok(value)
     }
 
-    /// The same in line: the room for the answer is cleared where such a word is read, and nowhere else.
+    /// A word read below 0018H, in line: the room for the answer is cleared where such a word is read, and nowhere else.
     #[inline(always)]
     pub(crate) fn read_word_here<L: Ledger>(
         &mut self,

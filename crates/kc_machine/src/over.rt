@@ -294,7 +294,7 @@ pub(crate) fn predecoded_over<X: Extra + Drop, L: Ledger>(
     predecoded_from::<X, L, Brand>(predecoded, cpu, common, steps)
 }
 
-/// The same where the whole place is asked.
+/// The states of a predecoded instruction on the board, where its whole place is asked.
 #[inline(never)]
 #[cold]
 fn placed_time_over<X: Extra + Drop, L: Ledger>(
@@ -317,7 +317,7 @@ fn placed_time_over<X: Extra + Drop, L: Ledger>(
     time_of(&predecoded, cpu, &bus)
 }
 
-/// The same where one condition at most knows them.
+/// The states of a predecoded instruction on the board, where they depend on one condition at most.
 #[inline(always)]
 fn known_time_over<X: Extra + Drop, L: Ledger>(
     predecoded: &Predecoded,
