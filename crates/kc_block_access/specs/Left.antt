@@ -1,5 +1,5 @@
--- What an access leaves of the deferred units: those that it concerns stand in the present state, with its data and with the due states
--- that were asked there; the others stay (this kit's own).
+-- What an access leaves of the deferred units: those that it concerns stand in the present state, with its data and with the due
+-- states that were asked there; the others stay (this kit's own).
 use Rattle.std.specs.Prelude.{◌≡◌, ◌≢◌, ℕ, ◌<◌, Bool}
 use Rattle.kc_base.specs.Bits.{bit}
 use Rattle.kc_span.specs.Span.{IsDue}

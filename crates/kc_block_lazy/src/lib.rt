@@ -56,8 +56,8 @@ pub fn untouched_units_are_silent<X>()
     ensures { UntouchedAreSilent X }
 {}
 
-/// Deferred units of which each was asked after the Tick, or is one that the Tick does not touch, are those of the next state, and
-/// show what the Tick gives.
+/// Deferred units of which each was asked after the Tick, or is one that the Tick does not touch, are those of the next state,
+/// and show what the Tick gives.
 pub fn events_join<X: Extra>()
     ensures { EventsJoin X.further X.agrees }
 {}

@@ -99,8 +99,8 @@ pub static ROWS: [Row; 13] = [
         memory: &[],
     },
     // LDB 02H,#10; LDB 14H,#1; LD 16H,#1
-    // The period that was begun in state 4 ends in the state of the refusal, which leaves the first lamp lit, single states as the
-    // unit, and an end that was not read.
+    // The period that was begun in state 4 ends in the state of the refusal, which leaves the first lamp lit, single states as
+    // the unit, and an end that was not read.
     Row {
         shows: "the second byte of a word is no register of window 1, and so neither is written",
         program: &[0xB1, 0x0A, 0x02, 0xB1, 0x01, 0x14, 0xA1, 0x01, 0x00, 0x16],

@@ -61,8 +61,8 @@ fn place_is_late(before: Option<Fixup>, piece: u16, offset: u16) -> bool
     }
 }
 
-/// The first of the fault so far and the faults of a relocation's place: its piece, its order behind the relocation before it, and
-/// its kind.
+/// The first of the fault so far and the faults of a relocation's place: its piece, its order behind the relocation before it,
+/// and its kind.
 pub fn fixup_place_fault(
     at: u32,
     before: Option<Fixup>,

@@ -2,7 +2,7 @@
 //! the bus without units too.
 //! It stands on the crates of the processor and of the units; nothing stands on it. The expected values come from outside the
 //! program.
-//! A row of the watchdog: 1EH written in state 4 and E1H in state 9 give the deadline 65545.
+//! A row of `watchdog.rt`: the writes `(0x1E, 4)` and `(0xE1, 9)`, each a value with its state, give the deadline `65_545`.
 #![tactic(auto)]
 
 #[cfg(test)]
