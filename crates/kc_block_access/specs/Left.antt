@@ -23,7 +23,7 @@ AreSameBut slot old new = (k : ℕ) → k ≢ slot → at_slot new k ≡ at_slot
 abbrev pub AreSameButTwo : ℕ → ℕ → Times → Times → Type 0
 AreSameButTwo slot other old new = (k : ℕ) → k ≢ slot → k ≢ other → at_slot new k ≡ at_slot old k
 
--- data that no lane's rule, output or level reads: status bits, requests, WSR, port latches
+-- data that no deferred unit's rule, output or level reads: status bits, requests, WSR, port latches
 abbrev pub AreUnread : BoardRegisters → BoardRegisters → Type 0
 AreUnread old new = new ≡ record old {
   ios1 = new.ios1;
