@@ -57,7 +57,7 @@ unfoldable pub by_places : Shift → ℕ → ℕ → ℕ → Passage
 by_places kind half value zero = at_start value
 by_places kind half value (suc n) = a_place_on kind half (by_places kind half value n)
 
--- Z and N by the value, C the last bit out; to the left V reports of a changed top bit, to the right ST of a 1 before the last
+-- Z and N by the value, C the last bit out; to the left V shows a changed top bit, to the right ST a 1 before the last
 abbrev pub flags_by_places : Shift → ℕ → Passage → Flags → Flags
 flags_by_places Left half p flags =
     record { z = p.value == 0; n = top_bit half p.value; v = p.turned; vt = flags.vt || p.turned; c = p.last; st = flags.st }

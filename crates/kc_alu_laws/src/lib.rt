@@ -4,7 +4,7 @@
 ghost use Rattle.kc_alu_laws.specs.Laws.{ShiftsGoByPlaces, NormalizingGoesByPlaces, NormalizingIsOne};
 
 /// A shift by n places is n shifts by one place, for each kind, width, value and n: C is the last bit that goes out, ST of a
-/// shift to the right reports of a 1 that went out before it, V of a shift to the left of a place that changed the top bit.
+/// shift to the right shows a 1 that went out before it, V of a shift to the left of a place that changed the top bit.
 pub fn shifts_go_by_places()
     ensures { ShiftsGoByPlaces }
 {}

@@ -41,7 +41,7 @@ fn marked_line(alloc: Global, line: &Line) -> Result<Line, NoMemory>
     })
 }
 
-/// The same lines, in which each token that is no number has the number of its line for a value.
+/// A copy of lines in which each token that is no number has the number of its line for a value.
 pub(crate) fn marked(alloc: Global, lines: &[Line]) -> Result<Vec<Line>, NoMemory>
     ensures { IfOk result (λ v. v.items ≡ spec.marked lines.now) }
 {

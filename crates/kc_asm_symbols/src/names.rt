@@ -141,7 +141,7 @@ impl Names {
         Ok(Names { listed })
     }
 
-    /// The same names again.
+    /// These names once more, which share their list.
     pub(crate) fn copy(&self) -> Result<Names, NoMemory>
         ensures { IfOk result (λ n. shared n ≡ shared self.now) }
     {

@@ -31,7 +31,7 @@ found_prefix time xs n t point = up_to-take time xs n t (λ k d lt within. point
 pub found_none : {X V : Type 0} (time : X → ℕ) (value : X → V) (xs : List X) (n t : ℕ) (before : V) → EndsAt time xs t n → n ≡ 0 → last_of value (up_to time t xs) before ≡ before
 found_none time value xs n t before point none = ap (λ ys. last_of value ys before) (found_prefix time xs n t point ∙ ap (λ k. take k xs) none)
 
--- the item before its end reports what is left
+-- the item before its end brings the value that stands
 pub found_last : {X V : Type 0} (time : X → ℕ) (value : X → V) (xs : List X) (n t : ℕ) (d : X) (before : V) → EndsAt time xs t n → 0 < n → n ≤ length xs →
     last_of value (up_to time t xs) before ≡ value (get_or xs (n - 1) d)
 found_last time value xs n t d before point some within =

@@ -6,8 +6,8 @@ use std::random::RandomSource;
 use std::rt::Files as FileSystem;
 
 /// A name for a file that this process is about to write: it has the number of the process, and random digits, so that no other
-/// write has it, not even that of a process with the same number which sees other processes. Where the system gives nothing random,
-/// the turn alone distinguishes names.
+/// write has it, not even that of a process with the same number which sees other processes. Where the system gives nothing
+/// random, the turn alone distinguishes names.
 pub(crate) fn name_beside<R: RandomSource>(
     system: &R,
     alloc: Global,
@@ -30,7 +30,7 @@ fn writer_of(name: &str) -> Option<u32> {
     process.parse::<u32>().ok()
 }
 
-// Whether the system, which reports of its processes, has none of this number.
+// Whether the system, which lists its processes, has none of this number.
 fn is_gone<R: FileSystem>(system: &R, alloc: Global, writer: u32) -> bool {
     let Ok(place) = format!(in alloc; "/proc/{writer}") else {
         return false;
@@ -64,8 +64,8 @@ fn remove_if_left<R: FileSystem>(
     }
 }
 
-/// Removes what processes that have gone were writing in a folder: a process that is killed leaves its file. What cannot be read or
-/// removed stays.
+/// Removes what processes that have gone were writing in a folder: a process that is killed leaves its file. What cannot be read
+/// or removed stays.
 pub(crate) fn remove_left<R: FileSystem>(system: &R, alloc: Global, process: u32, folder: &str) {
     let Ok(mut listing) = system.open_dir(folder) else {
         return;

@@ -45,9 +45,9 @@ struct Target<'n, F> {
     rights: Option<u32>,
 }
 
-/// Makes a file hold these bytes. A plain file is written beside its place and then takes it in one step, with the rights of the one
-/// before it: where something fails, the old one stands as it was. What is no plain file (a device, a pipe) is written into, and so
-/// is a file whose folder takes no new one. What is written has reached the device, where the system says so of it.
+/// Makes a file hold these bytes. A plain file is written beside its place and then takes it in one step, with the rights of the
+/// one before it: where something fails, the old one stands as it was. What is no plain file (a device, a pipe) is written into,
+/// and so is a file whose folder takes no new one. What is written has reached the device, where the system says so of it.
 pub(crate) fn write_whole<R: FileSystem + RandomSource>(
     place: &Place<'_, R>,
     name: &str,
@@ -100,7 +100,7 @@ fn rights_of<R: FileSystem>(system: &R, name: &str) -> io::Result<u32> {
     Ok(rights.mode() & 0o777)
 }
 
-// Sees that what was written to a file or a folder has reached the device. A pipe or a terminal knows no such thing.
+// Sees that what was written to a file or a folder has reached the device. A pipe or a terminal has no such thing.
 fn settle<F: OpenFile>(file: &F) -> io::Result<()> {
     match file.sync_all() {
         Ok(()) => Ok(()),
@@ -165,7 +165,8 @@ fn begin<R: FileSystem>(system: &R, beside: &PathBuf, rights: Option<u32>) -> io
     options.open(system, beside)
 }
 
-// Writes a new file beside a target and gives it the name. Whether it is done: another may have the new file's name, or take it away.
+// Writes a new file beside a target and gives it the name. Whether it is done: another may have the new file's name, or take it
+// away.
 fn put_beside<R: FileSystem + RandomSource>(
     place: &Place<'_, R>,
     target: &Target<'_, R::File>,

@@ -1,4 +1,7 @@
 //! What every part of the kit speaks of: state times, pins, undefined uses, texts, images, files and sinks.
+//! It stands on no other crate of the kit. The host's files and standard streams are called in the files whose names begin with
+//! `host`.
+//! `pin_number(b"RXD")` gives `Some(37)`, `hex_word(b"20A2")` gives `Some(0x20A2)`, and `hex_word(b"20A")` gives `None`.
 #![tactic(auto)]
 
 mod bits;

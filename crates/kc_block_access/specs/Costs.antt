@@ -14,7 +14,7 @@ byte_calls sfr = if is_free sfr then 0 else 4
 abbrev pub word_calls : ℕ → ℕ
 word_calls sfr = byte_calls sfr + byte_calls (sfr + 1)
 
--- the registers of which no unit, output or lane's rule reads anything
+-- the registers of which no unit, output or deferred unit's rule reads anything
 abbrev pub is_plain : WritableByte → Bool
 is_plain HsiMode = false
 is_plain HsoCommand = false

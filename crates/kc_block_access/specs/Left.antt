@@ -1,5 +1,5 @@
--- What an access leaves of the deferred units: those that it concerns stand in the present state, with its data and with the due states
--- that were asked there; the others stay (this kit's own).
+-- What an access leaves of the deferred units: those that it concerns stand in the present state, with its data and with the due
+-- states that were asked there; the others stay (this kit's own).
 use Rattle.std.specs.Prelude.{◌≡◌, ◌≢◌, ℕ, ◌<◌, Bool}
 use Rattle.kc_base.specs.Bits.{bit}
 use Rattle.kc_span.specs.Span.{IsDue}
@@ -23,7 +23,7 @@ AreSameBut slot old new = (k : ℕ) → k ≢ slot → at_slot new k ≡ at_slot
 abbrev pub AreSameButTwo : ℕ → ℕ → Times → Times → Type 0
 AreSameButTwo slot other old new = (k : ℕ) → k ≢ slot → k ≢ other → at_slot new k ≡ at_slot old k
 
--- data that no lane's rule, output or level reads: status bits, requests, WSR, port latches
+-- data that no deferred unit's rule, output or level reads: status bits, requests, WSR, port latches
 abbrev pub AreUnread : BoardRegisters → BoardRegisters → Type 0
 AreUnread old new = new ≡ record old {
   ios1 = new.ios1;

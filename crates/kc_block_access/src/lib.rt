@@ -1,5 +1,8 @@
-//! Accesses of the special function registers below 0018H, each master's alike: which units an access brings to the present
-//! state, what it does to them, and which due states it reschedules.
+//! Accesses of the special function registers below 0018H, each master's alike: which units an access catches up to the present
+//! state, what it does to them, and which it reschedules.
+//! It stands on the deferred units and the scheduler (`kc_block_lanes`), and computes what `kc_block_spec` defines.
+//! In window 0, `read16` of 0AH gives Timer 1, which is 1 in state 9, without a call of any unit; `read8` of 0AH gives
+//! `Err(Kind::ByteAccess)`.
 #![tactic(auto)]
 
 mod acting;

@@ -27,7 +27,7 @@ fn half(sfr: u8, word: u16) -> u8
     }
 }
 
-// Brings the further unit to the present state, with a counter of its own.
+// Catches the further unit up to the present state, with a counter of its own.
 fn catch_up_further<X: Extra, L: Ledger>(scheduler: &mut Scheduler<X>, now: StateTime, blank: Blank)
     requires present { IsPresent X.further X.agrees (standing X.plain scheduler.old) now }
     requires fresh { IsFresh blank L.name L.parts }

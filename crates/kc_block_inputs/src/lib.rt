@@ -1,4 +1,7 @@
 //! The levels of the pins of the board as masks, bit n pin n, and the edges between two masks.
+//! It stands on stimuli and on the data of the board (`kc_stim`, `kc_block_spec`).
+//! `hsi_bits(0x3C_0000)` gives 0FH, since HSI0 to HSI3 are pins 18 to 21; `lead_edges(0, 5, at, out)` hands out two edges, HSO0
+//! and then HSO2, each to high.
 #![tactic(auto)]
 
 mod edges;

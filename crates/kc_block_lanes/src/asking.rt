@@ -18,7 +18,7 @@ use kc_timers::timer1_due;
 use std::sync::ledger::Ledger;
 
 impl<X: Extra> Scheduler<X> {
-    /// Asks when Timer 2 is due from state `now` on, in which it stands.
+    /// Reschedules Timer 2 from state `now` on, in which it stands: asks when it is next due.
     pub fn ask_timer2<L: Ledger>(&mut self, now: StateTime, steps: &mut Steps<L>)
         requires { now ≤ 4 * 10 ^ 15 }
         ensures due { IsDue (timer2_goes (standing X.plain self.new)) now (standing X.plain self.new).timer2.kept (at_slot self.new.due 0) }
@@ -31,7 +31,7 @@ impl<X: Extra> Scheduler<X> {
         set_slot(&mut self.due, 0, due);
     }
 
-    /// Asks when HSO is due from state `now` on, in which it stands, by what it sees of Timer 2.
+    /// Reschedules HSO from state `now` on, in which it stands, by what it sees of Timer 2.
     pub fn ask_hso<L: Ledger>(&mut self, now: StateTime, steps: &mut Steps<L>)
         requires bound { now ≤ 4 * 10 ^ 15 }
         requires timer2 { self.old.timer2.at ≤ now }
@@ -45,7 +45,7 @@ impl<X: Extra> Scheduler<X> {
         set_slot(&mut self.due, 1, due);
     }
 
-    /// Asks when Timer 2 and HSO are due from state `now` on, in which both stand.
+    /// Reschedules Timer 2 and HSO from state `now` on, in which both stand.
     pub fn ask_timers<L: Ledger>(&mut self, now: StateTime, steps: &mut Steps<L>)
         requires bound { now ≤ 4 * 10 ^ 15 }
         requires timer2 { self.old.timer2.at ≤ now }
@@ -59,7 +59,7 @@ impl<X: Extra> Scheduler<X> {
         self.ask_hso(now, steps);
     }
 
-    /// Asks when HSI is due from state `now` on, in which it stands.
+    /// Reschedules HSI from state `now` on, in which it stands.
     pub fn ask_hsi<L: Ledger>(&mut self, now: StateTime, steps: &mut Steps<L>)
         requires { now ≤ 4 * 10 ^ 15 }
         ensures due { IsDue hsi_rule now (standing X.plain self.new).hsi.kept (at_slot self.new.due 2) }
@@ -71,7 +71,7 @@ impl<X: Extra> Scheduler<X> {
         set_slot(&mut self.due, 2, due);
     }
 
-    /// Asks when the further unit is due from state `now` on, in which it stands.
+    /// Reschedules the further unit from state `now` on, in which it stands.
     pub fn ask_further<L: Ledger>(&mut self, now: StateTime, steps: &mut Steps<L>)
         requires { now ≤ 4 * 10 ^ 15 }
         ensures due { IsDue (further_goes X.further) now (standing X.plain self.new).further.kept (at_slot self.new.due 3) }

@@ -17,7 +17,7 @@ use std::sync::ledger::Ledger;
 const TIMER1_TURN: u64 = 524_288;
 
 impl<X: Extra> Scheduler<X> {
-    /// Brings HSO to the start of state `now`.
+    /// Catches HSO up to the start of state `now`.
     pub fn catch_up_hso<L: Ledger>(&mut self, now: StateTime, steps: &mut Steps<L>)
         requires present { IsPresent X.further X.agrees (standing X.plain self.old) now }
         ensures left { IsLeft X.further X.agrees now (standing X.plain self.new) (shown_units X.further (standing X.plain self.old) now) }
@@ -33,7 +33,7 @@ impl<X: Extra> Scheduler<X> {
         self.hso.at = now;
     }
 
-    /// Brings Timer 2, and HSO which sees it, to the start of state `now`.
+    /// Catches Timer 2, and HSO which sees it, up to the start of state `now`.
     pub fn catch_up_timers<L: Ledger>(&mut self, now: StateTime, steps: &mut Steps<L>)
         requires present { IsPresent X.further X.agrees (standing X.plain self.old) now }
         ensures left { IsLeft X.further X.agrees now (standing X.plain self.new) (shown_units X.further (standing X.plain self.old) now) }
@@ -54,7 +54,7 @@ impl<X: Extra> Scheduler<X> {
         self.timer2.at = now;
     }
 
-    /// Brings HSI to the start of state `now`.
+    /// Catches HSI up to the start of state `now`.
     pub fn catch_up_hsi<L: Ledger>(&mut self, now: StateTime, steps: &mut Steps<L>)
         requires present { IsPresent X.further X.agrees (standing X.plain self.old) now }
         ensures left { IsLeft X.further X.agrees now (standing X.plain self.new) (shown_units X.further (standing X.plain self.old) now) }
@@ -69,7 +69,7 @@ impl<X: Extra> Scheduler<X> {
         self.hsi.at = now;
     }
 
-    /// Brings the further unit to the start of state `now`.
+    /// Catches the further unit up to the start of state `now`.
     pub fn catch_up_further<L: Ledger>(&mut self, now: StateTime, steps: &mut Steps<L>)
         requires present { IsPresent X.further X.agrees (standing X.plain self.old) now }
         ensures left { IsLeft X.further X.agrees now (standing X.plain self.new) (shown_units X.further (standing X.plain self.old) now) }
@@ -84,7 +84,7 @@ impl<X: Extra> Scheduler<X> {
         self.further.at = now;
     }
 
-    /// Brings bit 5 of IOS1 to the start of state `now`, by arithmetic.
+    /// Catches bit 5 of IOS1 up to the start of state `now`, by arithmetic.
     pub fn catch_up_flag(&mut self, now: StateTime)
         requires scheduled { IsScheduled X.further X.agrees (standing X.plain self.old) now }
         ensures left { IsLeft X.further X.agrees now (standing X.plain self.new) (shown_units X.further (standing X.plain self.old) now) }

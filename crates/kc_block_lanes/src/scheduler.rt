@@ -15,8 +15,8 @@ pub struct DeferredUnit<U> {
 }
 
 /// All units with what joins them: stimuli and wires, the data that only worked Ticks and accesses change, the due states
-/// (slot 0 Timer 2, 1 HSO, 2 HSI, 3 the further unit, 4 Timer 1's flag, 5 stimuli, 6 wires), and the deferred units. `flag` is bit 5
-/// of IOS1.
+/// (slot 0 Timer 2, 1 HSO, 2 HSI, 3 the further unit, 4 Timer 1's flag, 5 stimuli, 6 wires), and the deferred units. `flag` is
+/// bit 5 of IOS1.
 #[derive(Drop)]
 pub struct Scheduler<X> {
     pub stimuli: Stimuli,

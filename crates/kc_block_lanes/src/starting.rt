@@ -44,7 +44,7 @@ fn first_board_registers(stimuli: &Stimuli) -> BoardRegisters
 
 ghost use Rattle.kc_block_spec.specs.Start.{first_board_registers as board_registers_at_start};
 
-/// Asks when all are due from state 0 on, with a counter of its own.
+/// Schedules all units from state 0 on, with a counter of its own.
 fn ask_all<X: Extra, L: Ledger>(scheduler: &mut Scheduler<X>, blank: Blank)
     requires fresh { IsFresh blank L.name L.parts }
     requires timer2 { scheduler.old.timer2.at ≡ 0 }

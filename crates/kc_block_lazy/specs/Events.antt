@@ -1,5 +1,5 @@
--- One event: which units the Tick touches, by what is due, and why the deferred units that it leaves are those of the next state (this
--- kit's own).
+-- One event: which units the Tick touches, by what is due, and why the deferred units that it leaves are those of the next state
+-- (this kit's own).
 use Rattle.std.specs.Prelude.{◌≡◌, ℕ, ◌+◌, ◌<◌, ◌≤◌, ◌==◌, Bool, true, false, not, ◌&&◌, ◌||◌, if◌then◌else◌, Option, None, []}
 use Rattle.kc_base.specs.Bits.{bit}
 use Rattle.kc_span.specs.Span.{Rule, IsDue}

@@ -1,6 +1,9 @@
-//! The units of the board as the block keeps them, each at a state of its own, and why it need not step: in a state before
-//! each due state the Tick of all units leads to what is shown in the next state, and does nothing else. This crate holds
-//! definitions and their laws alone.
+//! The units of the board as the block keeps them, each a deferred unit at a state of its own beside the due states of the
+//! scheduler: made, caught up and rescheduled; and the laws why the block need not step: before the least due state the Tick of
+//! all units does nothing but lead to what is shown in the next state.
+//! It stands on deferred units (`kc_block_lane`), on the units, and on all units in one state (`kc_block_spec`).
+//! With HSO due in state 82 and no other unit before, the states 11 to 81 pass without a call. `has_overflowed(524_287, 524_288)`
+//! is true: Timer 1 overflows in state 524287.
 #![tactic(auto)]
 
 ghost use Rattle.kc_block_lazy.specs.Scheduler.{IsFurther};
@@ -53,8 +56,8 @@ pub fn untouched_units_are_silent<X>()
     ensures { UntouchedAreSilent X }
 {}
 
-/// Deferred units of which each was asked after the Tick, or is one that the Tick does not touch, are those of the next state, and show
-/// what the Tick gives.
+/// Deferred units of which each was asked after the Tick, or is one that the Tick does not touch, are those of the next state,
+/// and show what the Tick gives.
 pub fn events_join<X: Extra>()
     ensures { EventsJoin X.further X.agrees }
 {}

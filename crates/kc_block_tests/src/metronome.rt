@@ -21,6 +21,7 @@ fn beats(now: StateTime) -> bool
 }
 
 impl Metronome {
+    /// A metronome that has had no `quiet_to` and no `tick`.
     pub fn new() -> Metronome
         ensures { result ≡ record { moves = 0 } }
     {

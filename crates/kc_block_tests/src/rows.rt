@@ -14,6 +14,7 @@ pub struct Row {
     pub memory: &'static [(u16, u8)],
 }
 
+/// Boards with a beacon alone. The comment over each has its program, and how its states are counted.
 pub static ROWS: [Row; 13] = [
     // LDB 02H,#10; LDB 16H,#01H; L: SJMP L
     // The count is written in state 4. 16H of window 0 is IOC1, so no period begins in state 9. After 49 five states of the
@@ -98,8 +99,8 @@ pub static ROWS: [Row; 13] = [
         memory: &[],
     },
     // LDB 02H,#10; LDB 14H,#1; LD 16H,#1
-    // The period that was begun in state 4 ends in the state of the refusal, which leaves the first lamp lit, single states as the
-    // unit, and an end that was not read.
+    // The period that was begun in state 4 ends in the state of the refusal, which leaves the first lamp lit, single states as
+    // the unit, and an end that was not read.
     Row {
         shows: "the second byte of a word is no register of window 1, and so neither is written",
         program: &[0xB1, 0x0A, 0x02, 0xB1, 0x01, 0x14, 0xA1, 0x01, 0x00, 0x16],
@@ -184,9 +185,8 @@ pub static ROWS: [Row; 13] = [
     },
 ];
 
-// LDB 02H,#205; L: SJMP L
-// The beacon is held before its count is written in state 4, and until 795: 795 + 205 - 1 = 999. That is the first state in which
-// the metronome beats. Before it no request was raised.
+/// A board with a beacon and a metronome: `LDB 02H,#205`; `L: SJMP L`. The beacon is held before its count is written in state 4,
+/// and until 795: 795 + 205 - 1 = 999. That is the first state in which the metronome beats. Before it no request was raised.
 pub static ROW_OF_TWO: Row = Row {
     shows: "two units end in one state: their edges come in the order of the pins, and both requests are raised",
     program: &[0xB1, 0xCD, 0x02, 0x27, 0xFE],

@@ -1,4 +1,5 @@
--- A bus that keeps a byte for each address, those below 0018H without meaning, and beside them registers of its own, which answer there.
+-- A bus that keeps a byte for each address, those below 0018H without meaning, and beside them registers of its own, which answer
+-- there.
 use Rattle.std.specs.Prelude.{ℕ, ◌+◌, ◌*◌, ◌/◌, ◌%◌, nat_lt, if◌then◌else◌, Result, List, slice_index, slice_set}
 use Rattle.kc_base.specs.declared.types.Kind.{Kind}
 use Rattle.kc_exec_spec.specs.Access.{Access, ReadByte, ReadWord, WriteByte, WriteWord, SetMasks}

@@ -1,4 +1,7 @@
-//! The common memory as its masters see it: accesses, windows, and a bus without units.
+//! The common memory as its masters see it: accesses, windows, and `Flat`, a bus without units.
+//! It stands on what an access is (`kc_exec_spec`).
+//! `window(0x41, 0xE0)` gives `Ok(0x20)`: under WSR 41H the last 32 registers are 20H to 3FH. `window(2, 0x20)` gives
+//! `Err(Kind::BadWindow)`. `is_fixed(0x2080)` is true: ROM stands there.
 #![tactic(auto)]
 
 mod bus;

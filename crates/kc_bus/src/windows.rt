@@ -23,7 +23,7 @@ pub fn window(wsr: u8, register: u8) -> Result<u16, Kind>
     }
 }
 
-// The same out of line, where the window may be a vertical one.
+// The address of a register byte out of line, where the window is vertical, or WSR has no value of the profile.
 #[cold]
 #[inline(never)]
 fn other_window(wsr: u8, register: u8) -> Result<u16, Kind>

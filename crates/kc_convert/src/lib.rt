@@ -1,5 +1,8 @@
 //! Two further units of the board: the converter of the analogue inputs, whose values over time a file gives, and the three
 //! pulse-width outputs.
+//! It stands on what a further unit is (`kc_extra`).
+//! With the file `@0 2 777`, a start of channel 2 ends 80 states later, with 42H in the low byte of the result and C2H in the
+//! high one, since 777 is 309H. PWM0 of width 4 is high in the first four states of each 256.
 #![tactic(auto)]
 
 mod analog;

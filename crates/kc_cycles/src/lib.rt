@@ -1,4 +1,7 @@
-//! Runs that go on after a reset: lives of a board with a watchdog, one after the other.
+//! Runs that go on after a reset: lives of a board with a watchdog, a further unit with a deadline, one after the other.
+//! It stands on the machine and on what a further unit is (`kc_machine`, `kc_extra`).
+//! FFH, RST, at 2080H over 10 states and 2 lives prints `B 3 reset` and `X 3 reset`. 1EH in state 4 and E1H in state 9 feed the
+//! watchdog, whose deadline is then state 65545: a life that feeds it no more ends as `B 65544 watchdog`.
 #![tactic(auto)]
 
 mod life;

@@ -1,5 +1,5 @@
--- Sixteen nodes linked both ways (this kit's own): the slots that have a time, in order of time and slot. A link is a slot or None; None
--- stands for the head where one goes on from it, and for the end where one comes to it.
+-- Sixteen nodes linked both ways (this kit's own): the slots that have a time, in order of time and slot. A link is a slot or
+-- None; None stands for the head where one goes on from it, and for the end where one comes to it.
 use Rattle.std.specs.Prelude.{◌≡◌, ◌≢◌, ℕ, ◌+◌, ◌*◌, ◌<◌, Option, Some, None, IsSome, IfSome, map, length, slice_index_or, unwrap_or}
 use Rattle.kc_due.specs.declared.node.Node.{Node}
 use Rattle.kc_due.specs.declared.links.Links.{Links}

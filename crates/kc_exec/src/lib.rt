@@ -1,5 +1,8 @@
-//! What each instruction, each word of a block move and each entry does over a bus, and what the count of an
-//! instruction's states depends on.
+//! What each instruction, each word of a block move and each entry does over a bus, and what the count of an instruction's states
+//! depends on.
+//! It stands on the parts of instructions (`kc_exec_operands`), and performs what `kc_exec_spec` describes.
+//! `perform` of `LDB 20H,#0AH` writes 0AH to 20H; `word_states` gives 8 for a word that is moved within the register file, and 14
+//! for one that is moved between two places outside it.
 #![tactic(auto)]
 
 mod blocks;

@@ -1,5 +1,8 @@
-//! The parts that instructions are made of, over any bus: registers in the window, long registers, the operand S, the
-//! stack; and numbers and flags of each width.
+//! The parts that instructions are made of, over any bus: registers in the window, long registers, the operand S, the stack; and
+//! numbers and flags of each width.
+//! It stands on the bus (`kc_bus`) and on results with their flags (`kc_alu`).
+//! With SP at 0300H, `push_word(bus, 0x1234)` leaves SP at 02FEH, 34H at 02FEH and 12H at 02FFH; `pop_word(bus)` then gives
+//! `Ok(0x1234)`.
 #![tactic(auto)]
 
 mod numbers;

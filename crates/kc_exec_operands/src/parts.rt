@@ -52,7 +52,7 @@ pub fn read_register<B: Bus>(bus: &mut B, byte: bool, wsr: u8, register: u8) -> 
     }
 }
 
-// The same out of line, where a window may be open.
+// Reads a register out of line, where a window may be open.
 #[cold]
 #[inline(never)]
 #[tactic(auto, using(kc_exec_spec::proofs::Running::run_bind), unfolding(kc_exec_spec::specs::Parts::read_register))]
@@ -86,7 +86,7 @@ pub fn write_register<B: Bus>(
     }
 }
 
-// The same out of line, where a window may be open.
+// Writes a register out of line, where a window may be open.
 #[cold]
 #[inline(never)]
 #[tactic(auto, using(kc_exec_spec::proofs::Running::run_bind), unfolding(kc_exec_spec::specs::Parts::write_register))]

@@ -1,4 +1,4 @@
--- Where nothing but an instruction knows its states, they are its base.
+-- Where the states of an instruction depend on nothing but itself, they are its base.
 use Rattle.std.proofs.Common.{◌≡◌, ℕ, Ok, ap, ◌∙◌}
 use Rattle.kc_exec_spec.specs.declared.access.Masks.{Masks}
 use Rattle.kc_exec_spec.specs.declared.cpu.Cpu.{Cpu}

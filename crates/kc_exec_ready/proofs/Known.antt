@@ -1,4 +1,4 @@
--- Where one condition at most knows the states of an instruction, it knows the whole of its place.
+-- Where the states of an instruction depend on one condition at most, they depend on nothing else of its place.
 use Rattle.std.proofs.Common.{◌≡◌, ℕ, ◌+◌, ◌%◌, ◌<◌, Bool, true, false, not, nat_lt, ◌&&◌, ◌||◌, if◌then◌else◌, IsTrue, Option, Some, None, Result, Ok, Err, refl, sym, ap, subst, ◌∙◌}
 use Rattle.kc_base.specs.declared.types.Kind.{Kind}
 use Rattle.kc_isa.specs.declared.insn.Insn.{Insn}
@@ -170,7 +170,7 @@ timed r (Ok true) place base other = ap Ok (sym other)
 timed r (Ok false) place base other = ap Ok (sym base)
 timed r (Err k) place base other = refl
 
--- the states of a prepared instruction, where one condition at most knows them
+-- the states of a predecoded instruction, where they depend on one condition at most
 pub time_known : (r : Predecoded) (cpu : Cpu) (masks : Masks) (byte : ℕ → ℕ) → IsPredecoded r → is_simple r.cost ≡ true →
     time_at r.insn cpu masks byte ≡ known_at r (holds_at r.cost (plan_of r.mnemonic) r.insn.operand cpu.psw_high masks.wsr byte)
 unfolding predecoded_of

@@ -40,7 +40,7 @@ abbrev pub is_counting : Operand → Bool
 is_counting (Count n) = not (nat_lt n 0x10)
 is_counting _ = false
 
--- the count that the instruction itself knows
+-- the count that the instruction itself has
 abbrev pub known_count : Operand → ℕ
 known_count (Count n) = if nat_lt n 0x10 then n else 0
 known_count _ = 0
@@ -98,7 +98,7 @@ holds_at cost.Pops plan o psw wsr byte = Ok (is_outside (word_seen byte 0x18))
 holds_at cost.When plan o psw wsr byte = Ok (jump_taken plan psw)
 holds_at _ plan o psw wsr byte = Ok false
 
--- one condition knows the states, or none is needed
+-- the states depend on one condition, or on none
 abbrev pub is_simple : Cost → Bool
 is_simple cost.Placed = false
 is_simple _ = true

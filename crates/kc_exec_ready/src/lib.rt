@@ -1,5 +1,7 @@
-//! Instructions that are known of once and then performed many times: what their states depend on, and a straight way through
-//! each of them.
+//! Predecoded instructions, which are looked at once and performed many times: what their states depend on, and a straight way
+//! through each of them.
+//! It stands on the processor (`kc_exec`), and does over a bus exactly what `perform` does there.
+//! `predecode` of `JE` finds that its states depend on the jump alone: `time_of` gives 8 where Z is 1, and 4 where Z is 0.
 #![tactic(auto)]
 
 mod computing;

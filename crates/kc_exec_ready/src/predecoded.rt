@@ -22,7 +22,7 @@ pub struct Predecoded {
 }
 
 impl Predecoded {
-    /// What knows nothing: an instruction of no bytes, after which the program does not go on.
+    /// The blank one, of which nothing is known: an instruction of no bytes, after which the program does not go on.
     pub fn blank() -> Predecoded
         ensures { is_blank result ≡ true }
     {

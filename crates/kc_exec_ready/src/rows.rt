@@ -1,4 +1,4 @@
-// A prepared instruction is performed by one match on its mnemonic.
+// A predecoded instruction is performed by one match on its mnemonic.
 ghost use Rattle.std.specs.Prelude.{◌≡◌, true};
 ghost use Rattle.kc_exec_spec.specs.declared.plan.Plan.TheVariants.{Save as Saves, Set as Sets};
 ghost use Rattle.kc_exec_spec.specs.Effect.{run};
@@ -169,7 +169,7 @@ fn perform_row<B: Bus>(
     }
 }
 
-// The same out of line, where a window may be open.
+// Performs a predecoded instruction out of line, where a window may be open.
 #[cold]
 #[inline(never)]
 fn perform_in_window<B: Bus>(
@@ -187,7 +187,7 @@ fn perform_in_window<B: Bus>(
     perform_row(mnemonic, insn, here, cpu, bus)
 }
 
-// The same, with WSR asked once.
+// Performs a predecoded instruction with WSR asked once, which chooses the way: in line where no window is open.
 #[inline(always)]
 fn perform_here<B: Bus>(
     mnemonic: Mnemonic,
@@ -208,8 +208,8 @@ fn perform_here<B: Bus>(
     }
 }
 
-/// Performs a prepared instruction at `cpu.pc` after which the program goes on; answers whether an instruction has to follow, or
-/// any activity may. After a refusal the bus is as after the accesses before the refused one, and the registers are as before.
+/// Performs a predecoded instruction at `cpu.pc` after which the program goes on; answers whether an instruction has to follow,
+/// or any activity may. After a refusal the bus is as after the accesses before the refused one, and the registers are as before.
 #[inline(always)]
 #[tactic(auto, unfolding(kc_exec_spec::specs::Effects::effect_of, crate::specs::Preparing::predecoded_of))]
 pub fn perform_predecoded<B: Bus>(

@@ -1,4 +1,4 @@
-// How many states an instruction takes that was prepared.
+// How many states a predecoded instruction takes.
 ghost use Rattle.std.specs.Prelude.{◌≡◌, ◌<◌, ◌≤◌, IfErr, IfOk, IsTrue, true, false, if◌then◌else◌};
 ghost use Rattle.std.specs.Bool.{OnTrue};
 ghost use Rattle.kc_base.specs.declared.types.Kind.TheVariants.{NoRegister as NotThere};
@@ -55,7 +55,7 @@ fn is_held<B: Bus>(predecoded: &Predecoded, psw: u8, wsr: u8, bus: &B) -> Result
     }
 }
 
-// Whether one condition knows the states, or none is needed.
+// Whether the states depend on one condition, or on none.
 #[inline(always)]
 fn is_simple(cost: Cost) -> bool
     ensures { result ≡ is_simple cost }
@@ -80,7 +80,7 @@ fn known_time(predecoded: &Predecoded, holds: bool) -> u8
     }
 }
 
-// The states that one condition knows.
+// The states by one condition.
 #[inline(always)]
 fn simple_time<B: Bus>(predecoded: &Predecoded, psw: u8, wsr: u8, bus: &B) -> Result<u8, Kind>
     requires predecoded { IsPredecoded predecoded.now }
@@ -93,7 +93,7 @@ fn simple_time<B: Bus>(predecoded: &Predecoded, psw: u8, wsr: u8, bus: &B) -> Re
     Ok(known_time(predecoded, holds))
 }
 
-// Whether nothing but the instruction knows the states.
+// Whether the states depend on nothing but the instruction.
 #[inline(always)]
 fn is_fixed(cost: Cost) -> bool
     ensures { IsTrue result → cost ≡ Fixed }
@@ -101,7 +101,7 @@ fn is_fixed(cost: Cost) -> bool
     matches!(cost, Cost::Fixed)
 }
 
-/// Whether one condition at most knows the states.
+/// Whether the states depend on one condition at most.
 #[inline(always)]
 pub fn is_known(predecoded: &Predecoded) -> bool
     ensures { result ≡ is_simple predecoded.now.cost }
@@ -109,7 +109,7 @@ pub fn is_known(predecoded: &Predecoded) -> bool
     is_simple(predecoded.cost)
 }
 
-/// The states that one condition knows at most, from the registers and the memory that stand at its start. Refused as
+/// The states that depend on one condition at most, from the registers and the memory that stand at its start. Refused as
 /// `place` refuses it.
 #[inline(always)]
 #[tactic(auto, using(crate::proofs::Fixed::fixed_known))]
@@ -127,7 +127,7 @@ pub fn known_time_of<B: Bus>(predecoded: &Predecoded, cpu: Cpu, bus: &B) -> Resu
     }
 }
 
-/// The states of a prepared instruction, from the registers and the memory that stand at its start. Refused as `place`
+/// The states of a predecoded instruction, from the registers and the memory that stand at its start. Refused as `place`
 /// refuses it.
 #[inline(always)]
 pub fn time_of<B: Bus>(predecoded: &Predecoded, cpu: Cpu, bus: &B) -> Result<u8, Kind>

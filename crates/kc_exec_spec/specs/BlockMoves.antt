@@ -1,4 +1,5 @@
--- Block moves: what BMOV and BMOVI do before the first word, and with each word (80C196KC User's Manual, "Instruction Set"; the moments at which pointers and count are written are this kit's own).
+-- Block moves: what BMOV and BMOVI do before the first word, and with each word (80C196KC User's Manual, "Instruction Set"; the
+-- moments at which pointers and count are written are this kit's own).
 use Rattle.std.specs.Prelude.{◌≡◌, ℕ, Bool, false, ◌+◌, ◌-◌, ◌*◌, ◌/◌, ◌%◌, ◌<◌, ◌≤◌, ◌==◌, nat_le, ◌||◌, if◌then◌else◌, Some}
 use Rattle.kc_isa.specs.declared.insn.Insn.{Insn}
 use Rattle.kc_isa.specs.declared.table.Mnemonic.TheVariants.{Bmov, Bmovi}

@@ -1,4 +1,5 @@
--- What arithmetic, logic and shifts do, access by access; each ends with the new high byte of the PSW (80C196KC User's Manual, "Instruction Set"; the order of accesses is this kit's own).
+-- What arithmetic, logic and shifts do, access by access; each ends with the new high byte of the PSW (80C196KC User's Manual,
+-- "Instruction Set"; the order of accesses is this kit's own).
 use Rattle.std.specs.Prelude.{ℕ, Bool, true, false, ◌%◌, ◌^◌, nat_lt, if◌then◌else◌, slice_index}
 use Rattle.kc_isa.specs.declared.insn.Insn.{Insn}
 use Rattle.kc_isa.specs.declared.insn.Operand.{Operand}

@@ -1,4 +1,5 @@
--- The effect of each instruction: its accesses in order, and then the new registers and what follows (80C196KC User's Manual, "Instruction Set").
+-- The effect of each instruction: its accesses in order, and then the new registers and what follows (80C196KC User's Manual,
+-- "Instruction Set").
 use Rattle.std.specs.Prelude.{◌≡◌, ℕ, Some, None, Result, Ok, Err}
 use Rattle.kc_base.specs.declared.types.Kind.{Kind}
 use Rattle.kc_base.specs.declared.types.Kind.TheVariants.{Opcode}

@@ -1,4 +1,5 @@
--- Where jumps, calls and returns lead, and what they do on the way (80C196KC User's Manual, "Instruction Set"; the byte order of TIJMP and that JVT and JNVT clear VT are this kit's own).
+-- Where jumps, calls and returns lead, and what they do on the way (80C196KC User's Manual, "Instruction Set"; the byte order of
+-- TIJMP and that JVT and JNVT clear VT are this kit's own).
 use Rattle.std.specs.Prelude.{ℕ, Bool, true, false, ◌+◌, ◌-◌, ◌*◌, ◌%◌, ◌^◌, ◌==◌, ◌&&◌, ◌||◌, not, bit_and, if◌then◌else◌}
 use Rattle.std.specs.Int.{w16, cast_unsigned}
 use Rattle.kc_isa.specs.declared.insn.Insn.{Insn}

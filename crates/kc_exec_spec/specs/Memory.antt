@@ -1,4 +1,5 @@
--- The memory from 0018H on, and what a bus keeps to there (80C196KC User's Manual, "Memory Map"; the ROM and the hole are this kit's own).
+-- The memory from 0018H on, and what a bus keeps to there (80C196KC User's Manual, "Memory Map"; the ROM and the hole are this
+-- kit's own).
 use Rattle.std.specs.Prelude.{◌≡◌, ℕ, Bool, ◌+◌, ◌*◌, ◌/◌, ◌%◌, ◌^◌, ◌<◌, ◌≤◌, ◌==◌, nat_lt, nat_le, ◌&&◌, if◌then◌else◌, Result, Ok, Err}
 use Rattle.kc_base.specs.declared.types.Kind.{Kind}
 use Rattle.kc_base.specs.declared.types.Kind.TheVariants.{OddWord, RomWrite, OutsideMap, BadWindow}
@@ -36,7 +37,7 @@ IsOfRegister (WriteByte by addr n) = addr < 24
 IsOfRegister (WriteWord by addr n) = addr < 24
 IsOfRegister (SetMasks m) = Unit {0}
 
--- Memory is bytes apart from the registers: byte reports them, and put changes one. What a bus holds is whole.
+-- Memory is bytes apart from the registers: byte reads one, and put changes one. What a bus holds is whole.
 pub record IsLawful {B H : Type 0} (held : B → H) (bus : Meaning H) (IsWhole : H → Type 0) (byte : H → ℕ → ℕ) (put : H → ℕ → ℕ → H) : Type 0 where
   pub whole : (b : B) → IsWhole (held b)
   pub read_byte : (h : H) (by : Master) (addr : ℕ) → IsMemory addr → bus.answer h (ReadByte by addr) ≡ reads addr (byte h addr)

@@ -1,4 +1,5 @@
--- What loads, stores, exchanges, PUSH and POP do, access by access (80C196KC User's Manual, "Instruction Set"; the order of accesses is this kit's own).
+-- What loads, stores, exchanges, PUSH and POP do, access by access (80C196KC User's Manual, "Instruction Set"; the order of
+-- accesses is this kit's own).
 use Rattle.std.specs.Prelude.{ℕ, Bool, true, false, ◌+◌, nat_lt, if◌then◌else◌}
 use Rattle.kc_isa.specs.declared.insn.Insn.{Insn}
 use Rattle.kc_exec_spec.specs.declared.plan.Movement.{Movement}

@@ -1,4 +1,5 @@
--- The operand S: its value, or the place where it stands (80C196KC User's Manual, "Addressing Modes"; the order of accesses is this kit's own).
+-- The operand S: its value, or the place where it stands (80C196KC User's Manual, "Addressing Modes"; the order of accesses is
+-- this kit's own).
 use Rattle.std.specs.Prelude.{ℕ, Bool, false, ◌+◌, ◌%◌, if◌then◌else◌}
 use Rattle.std.specs.Int.{w16, cast_unsigned}
 use Rattle.kc_isa.specs.declared.insn.Operand.{Operand}

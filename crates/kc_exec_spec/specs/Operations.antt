@@ -1,4 +1,5 @@
--- Results and flags of the operations on one or two numbers of a width (80C196KC User's Manual, "Instruction Set"; what each does to the flags is this kit's own).
+-- Results and flags of the operations on one or two numbers of a width (80C196KC User's Manual, "Instruction Set"; what each does
+-- to the flags is this kit's own).
 use Rattle.std.specs.Prelude.{ℕ, Bool, true, false, ◌-◌, ◌*◌, if◌then◌else◌, bit_and, bit_or, bit_xor}
 use Rattle.kc_alu.specs.declared.flags.Flags.{Flags}
 use Rattle.kc_alu.specs.Arithmetic.{carry_in, borrow_in, sum_result, sum_flags, difference_result, difference_flags, logic_flags}

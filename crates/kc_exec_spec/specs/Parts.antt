@@ -1,4 +1,5 @@
--- The accesses that instructions are made of: a byte or a word at an address, a register in the window, the stack (80C196KC User's Manual, "Memory Map" and "Windows"; the order inside a long register is this kit's own).
+-- The accesses that instructions are made of: a byte or a word at an address, a register in the window, the stack (80C196KC
+-- User's Manual, "Memory Map" and "Windows"; the order inside a long register is this kit's own).
 use Rattle.std.specs.Prelude.{ℕ, Bool, true, false, ◌+◌, ◌*◌, ◌/◌, ◌%◌, ◌==◌, if◌then◌else◌, Result, Ok, Err}
 use Rattle.kc_base.specs.declared.types.Kind.{Kind}
 use Rattle.kc_base.specs.declared.types.Kind.TheVariants.{LongAlign}

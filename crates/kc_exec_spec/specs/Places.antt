@@ -1,4 +1,5 @@
--- What the count of states reads at the start of an instruction: where S and the stack are, how many shifts there will be, whether a jump is taken (this kit's own).
+-- What the count of states reads at the start of an instruction: where S and the stack are, how many shifts there will be,
+-- whether a jump is taken (this kit's own).
 use Rattle.std.specs.Prelude.{ℕ, Bool, true, false, ◌+◌, ◌*◌, ◌%◌, ◌==◌, nat_lt, nat_le, ◌&&◌, ◌||◌, if◌then◌else◌, Some, None, Result, Ok, Err}
 use Rattle.std.specs.Int.{w16, cast_unsigned}
 use Rattle.kc_base.specs.declared.types.Kind.{Kind}
@@ -107,6 +108,6 @@ planned_place plan i psw wsr byte =
     shifts_seen plan i wsr byte >>= λ shifts.
     Ok (record { operand_memory = operand; stack_memory = stack_outside plan (word_seen byte 0x18); shifts = shifts; taken = jump_taken plan psw })
 
--- The place of an instruction, where byte reports the memory; refused where a register that is needed stands below 0018H.
+-- The place of an instruction, where byte reads the memory; refused where a register that is needed stands below 0018H.
 unfoldable pub place_of : Insn → Cpu → Masks → (ℕ → ℕ) → Result Place Kind
 place_of i cpu masks byte = elim (mnemonic_at i.opcode i.signed) [ None ↦ Ok (record { operand_memory = false; stack_memory = false; shifts = 0; taken = false }) | Some mnemonic ↦ planned_place (plan_of mnemonic) i cpu.psw_high masks.wsr byte ]

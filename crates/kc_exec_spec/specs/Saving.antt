@@ -1,4 +1,5 @@
--- What PUSHF, POPF, PUSHA and POPA do, access by access; each ends with the new high byte of the PSW (80C196KC User's Manual, "Interrupts").
+-- What PUSHF, POPF, PUSHA and POPA do, access by access; each ends with the new high byte of the PSW (80C196KC User's Manual,
+-- "Interrupts").
 use Rattle.std.specs.Prelude.{ℕ, ◌+◌, ◌*◌, ◌/◌, ◌%◌}
 use Rattle.kc_exec_spec.specs.declared.access.Masks.{Masks}
 use Rattle.kc_exec_spec.specs.declared.plan.Saving.{Saving}

@@ -1,4 +1,5 @@
--- The instructions that set one bit of the PSW, and IDLPD (80C196KC User's Manual, "Program Status Word", "Interrupts" and "Idle and Powerdown").
+-- The instructions that set one bit of the PSW, and IDLPD (80C196KC User's Manual, "Program Status Word", "Interrupts" and "Idle
+-- and Powerdown").
 use Rattle.std.specs.Prelude.{ℕ, false}
 use Rattle.kc_base.specs.declared.types.Kind.{Kind}
 use Rattle.kc_base.specs.declared.types.Kind.TheVariants.{IdleKey}

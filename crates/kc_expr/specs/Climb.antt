@@ -7,7 +7,8 @@ abbrev pub at_level : {Op : Type 0} → ℕ → Option (Op × ℕ) → Option Op
 at_level level None = None
 at_level level (Some found) = if level == found.1 then Some found.0 else None
 
--- what is read, gone on with at so many levels that are looser than the tight one; steps says how many steps each level takes at most
+-- what is read, gone on with at so many levels that are looser than the tight one; steps says how many steps each level takes at
+-- most
 unfoldable pub climbed : (ℕ → ℕ) → ℕ → ℕ → Reading → Reading
 climbed steps tight zero read = read
 climbed steps tight (suc n) read = option_and_then (λ p. extended (steps (tight + suc n)) (tight + suc n) p.0 p.1) (climbed steps tight n read)

@@ -1,4 +1,6 @@
 //! Expressions: their tree, and their values.
+//! It stands on the tokens of lines (`kc_lex`), and asks a `Scope` what names mean.
+//! `2+3*4` is 14, `LOW 1234H SHL 4` is 0340H, `-1` is FFFFH and `NOT 1 EQ 1 OR 2` is 2; `1/0` is refused with code 11.
 #![tactic(auto)]
 
 pub mod evaluate;

@@ -19,7 +19,7 @@ data_of bs = take (length bs - 5) (drop 4 bs)
 abbrev pub address_of : List ℕ → ℕ
 address_of bs = 256 * slice_index bs 1 + slice_index bs 2
 
--- the length that the first byte reports is that of the data
+-- the length that the first byte gives is that of the data
 abbrev pub whole : Result (List ℕ) FromHexError → Option (List ℕ)
 whole (Err e) = None
 whole (Ok bs) = if nat_le 5 (length bs) && (length bs == slice_index bs 0 + 5) then Some bs else None

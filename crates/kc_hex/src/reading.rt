@@ -130,8 +130,8 @@ fn take_line(
 }
 
 /// The image that a text of records stands for, FFH where no record says otherwise, or the first line that is wrong,
-/// counted from 1, with the number of the least code of its faults, as `HexCode` has them; that there is no end record is reported at the
-/// line after the last (Intel hexadecimal object file format).
+/// counted from 1, with the number of the least code of its faults, as `HexCode` has them; that there is no end record is
+/// reported at the line after the last (Intel hexadecimal object file format).
 pub fn read(alloc: Global, bytes: &[u8]) -> Result<Image, HexFault>
     requires { length bytes.now ≤ 1048576 }
     ensures { IsRead result (image_of bytes.now) }

@@ -1,4 +1,5 @@
--- A search by halves in a list that is in the order of its texts: what is found has the text, and where nothing is found, nothing has it.
+-- A search by halves in a list that is in the order of its texts: what is found has the text, and where nothing is found, nothing
+-- has it.
 use Rattle.std.proofs.Common.{◌≡◌, ℕ, zero, suc, ◌+◌, ◌<◌, Bool, true, false, refl, sym, ap, subst, ◌∙◌, List, [], ◌∷◌, length, get_or, arith, inl, inr}
 use Rattle.std.specs.Prelude.{◌&&◌, not}
 use Rattle.std.specs.List.{list_all, list_any}

@@ -1,4 +1,4 @@
--- Which words are instructions, and what operands each takes: reported from the instruction table alone. A word is one if some
+-- Which words are instructions, and what operands each takes, by the instruction table alone. A word is one if some
 -- row has it as its mnemonic, and the first such row says its operands (80C196KC User's Manual, "Instruction Set"; MCS-96 Macro
 -- Assembler User's Guide, "Operands").
 use Rattle.std.specs.Prelude.{ℕ, zero, suc, Bool, true, false, ◌+◌, ◌-◌, ◌%◌, if◌then◌else◌, List, Option, Some, None}
@@ -37,8 +37,8 @@ abbrev pub is_jump : Group → Bool
 is_jump Jump = true
 is_jump group = false
 
--- the operands by the bytes behind the opcode. A row of three operands has one of two beside it; a jump by a register also leads, as a
--- generic branch, to a plain target
+-- the operands by the bytes behind the opcode. A row of three operands has one of two beside it; a jump by a register also leads,
+-- as a generic branch, to a plain target
 abbrev pub operands_in : Shape → Bool → Bool → Operands
 operands_in Nothing numbers jumps = operands.Nothing
 operands_in One numbers jumps = if jumps then operands.Branch else operands.One

@@ -1,4 +1,5 @@
--- The words of the language that are no names, and what operands each operation takes (after the MCS-96 Macro Assembler User's Guide, "Reserved Words"; the list is this kit's own).
+-- The words of the language that are no names, and what operands each operation takes (after the MCS-96 Macro Assembler User's
+-- Guide, "Reserved Words"; the list is this kit's own).
 use Rattle.std.specs.Prelude.{ℕ, Bool, false, not, ◌&&◌, ◌||◌, nat_le, if◌then◌else◌, List, [], ◌∷◌, length, Option, Some, None, is_some, codes}
 use Rattle.std.specs.List.{list_any, list_all}
 use Rattle.std.specs.Option.{option_or}

@@ -1,4 +1,7 @@
 //! The lines of a source, their tokens, and the words of the language that are no names.
+//! It stands on the instruction table (`kc_isa`), which says what instructions there are.
+//! `lines` gives ` ADD 20H,#V` five tokens: the word `ADD`, the number 20H, `,`, `#` and the name `V`. A name of 32 letters is
+//! refused with code 1, and the number 4294967296 with code 9.
 #![tactic(auto)]
 
 mod chars;

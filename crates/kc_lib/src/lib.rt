@@ -1,4 +1,7 @@
 //! Libraries: modules packed into one file, read again, and taken from where they resolve a name.
+//! It stands on object files (`kc_obj`).
+//! A library of two modules begins with `4B 4C 01 02`. Of the modules that give `F` and `G`, `take` for a module with `EXTRN F`
+//! gives a copy of the first alone.
 #![tactic(auto)]
 
 mod copying;

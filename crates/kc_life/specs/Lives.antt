@@ -1,8 +1,8 @@
 -- A life of a board, from its start or a reset to its end, as what happens in it (this kit's own).
 --
--- In a state the edges of inputs come first, in the order of their pins; then what the board prints, in its order; then, in the last
--- state of a life, a reset, the watchdog or powerdown. A position is a place in this list: of two events of one state the one that
--- comes first in the list is earlier.
+-- In a state the edges of inputs come first, in the order of their pins; then what the board prints, in its order; then, in the
+-- last state of a life, a reset, the watchdog or powerdown. A position is a place in this list: of two events of one state the
+-- one that comes first in the list is earlier.
 use Rattle.std.specs.Prelude.{◌≡◌, ℕ, ◌≤◌, ◌^◌, ◌+◌, if◌then◌else◌, List, [], ◌∷◌, fold, map, flat_map}
 use Rattle.kc_base.specs.Series.{up_to}
 use Rattle.kc_base.specs.declared.types.Level.{Level}
@@ -51,7 +51,7 @@ pub record IsLife (life : Life) : Type 0 where
   pub within : IsUpTo life.last life.events
   pub short : life.last ≤ 10 ^ 15
 
--- ---- states: a life reported one state at a time
+-- ---- states: a life, one state at a time
 
 -- what happens in a state, in its order
 pub record State : Type 0 where

@@ -1,5 +1,5 @@
--- Where all pieces stand, or the first broken rule of the linker, the range of relocations among them (after RL96 of the MCS-96 utilities, in outline;
--- the order of the rules is this kit's own).
+-- Where all pieces stand, or the first broken rule of the linker, the range of relocations among them (after RL96 of the MCS-96
+-- utilities, in outline; the order of the rules is this kit's own).
 use Rattle.std.specs.Prelude.{ℕ, ◌+◌, Option, Some, None, Result, Ok, Err, List, [], ◌∷◌}
 use Rattle.std.specs.Option.{option_or}
 use Rattle.kc_obj_module.specs.declared.parts.Fixup.{Fixup}

@@ -1,4 +1,8 @@
-//! Links modules: fills an image at the places of their pieces, and reports which line stands where.
+//! Links modules: fills an image at the places of their pieces, and says which line stands where (`line_map`) and what is where
+//! (the map); with the laws that placed modules have one image and one line map.
+//! It stands on the places of pieces (`kc_link_place`).
+//! A module whose only code is NOP, on line 3 in ` CSEG`, gives an image with FDH at 2080H, the line `2080 NONAME 3` of the line
+//! map, and `piece code 2080 1 NONAME` of the map.
 #![tactic(auto)]
 
 mod filling;

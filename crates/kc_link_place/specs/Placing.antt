@@ -1,5 +1,5 @@
--- Where all pieces stand, or the first of the rules on names, overlaps and room that is broken (after RL96 of the MCS-96 utilities, in outline;
--- the order of the rules is this kit's own).
+-- Where all pieces stand, or the first of the rules on names, overlaps and room that is broken (after RL96 of the MCS-96
+-- utilities, in outline; the order of the rules is this kit's own).
 use Rattle.std.specs.Prelude.{◌≡◌, ℕ, Bool, ◌+◌, ◌*◌, ◌/◌, ◌%◌, ◌==◌, ◌&&◌, nat_le, if◌then◌else◌, Option, Some, None, Result, Ok, Err, List, [], ◌∷◌, ◌++◌, length, map, slice_get}
 use Rattle.std.specs.Option.{option_map}
 use Rattle.kc_obj_module.specs.declared.parts.SegKind.TheVariants.{Stack}

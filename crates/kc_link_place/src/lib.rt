@@ -1,4 +1,8 @@
-//! The places of pieces: names, overlaps and room, by the rules of the linker.
+//! The places of pieces: names, overlaps and room, by the rules of the linker; and what relocations put into bytes once the bases
+//! are known.
+//! It stands on object modules (`kc_obj_module`).
+//! In the ranges of `Ranges::new()` the first relocatable piece of code stands at 2080H. ` RSEG`, ` DSB 229` is refused for want
+//! of room: relocatable registers begin at a multiple of 4, and from 1CH to FFH there are 228.
 #![tactic(auto)]
 
 mod apart;

@@ -70,7 +70,7 @@ chosen-slot : (memory : List ℕ) (k slot : ℕ) (r t : Predecoded) (same : Bool
 chosen-slot memory k slot r t true e a b = rw e (subst (λ x. IsSlot memory (0x2000 + x) r) (let same : slot ≡ k = grind (arith, common_steps) in same) a)
 chosen-slot memory k slot r t false e a b = rw e b
 
--- one slot known anew leaves the table true
+-- one slot that is filled anew leaves the table true
 pub table_keep : (table : List Predecoded) (memory : List ℕ) (slot : ℕ) (r : Predecoded) → slot < length table → IsSlot memory (0x2000 + slot) r → IsTable table memory → IsTable (slice_set table slot r) memory
 table_keep table memory slot r inside one known = λ k d few within.
     subst (IsSlot memory (0x2000 + k)) (sym (slot-at table slot k r d inside)) (chosen-slot memory k slot r (slice_index_or table k d) (k == slot) refl one (known k d few (subst (λ n. k < n) (same-length table slot r) within)))
@@ -80,7 +80,7 @@ same-slot zero k r d few = absurd (omega arith)
 same-slot (suc n) zero r d few = refl
 same-slot (suc n) (suc k) r d few = same-slot n k r d (omega arith)
 
--- a table that knows nothing is true of each memory
+-- a table of blank slots is true of each memory
 pub table_blank : (memory : List ℕ) (n : ℕ) (r : Predecoded) → is_blank r ≡ true → IsTable (replicate n r) memory
 table_blank memory n r blank = λ k d few inside some.
     absurd (let here : slice_index_or (replicate n r) k d ≡ r = same-slot n k r d (grind (arith, common_steps)) in cc (blank, (rw here at some)))

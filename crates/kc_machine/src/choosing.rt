@@ -1,4 +1,4 @@
-// What the next activity is known from.
+// What the next activity follows from.
 ghost use Rattle.std.specs.Prelude.{◌≡◌, ◌<◌, length};
 ghost use Rattle.kc_exec_spec.specs.Entering.{vector_at, entry_states};
 ghost use Rattle.kc_pts.specs.Cycles.{vector_of};

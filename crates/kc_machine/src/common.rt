@@ -28,8 +28,9 @@ use kc_extra::Extra;
 use std::alloc::Global;
 use std::sync::ledger::Ledger;
 
-/// The memory and the units of a board, and the instructions of its ROM that were prepared. After the Tick of a state they are those that the accesses of the state meet; beside
-/// them stand the edges of pins that these accesses have made, and how many of their bytes have reached a unit.
+/// The memory and the units of a board, and the predecoded instructions of its ROM. After the Tick of a state they are those that
+/// the accesses of the state meet; beside them stand the edges of pins that these accesses have made, and how many of their bytes
+/// have reached a unit.
 #[derive(Drop)]
 pub struct Common<X: Extra + Drop> {
     pub(crate) memory: Vec<u8>,
@@ -42,12 +43,12 @@ pub struct Common<X: Extra + Drop> {
     ghost known: { IsTable predecoded.items memory.items },
 }
 
-/// The first address from which an instruction is prepared, and how many have a slot: all seven bytes of each stand in ROM.
+/// The first address from which an instruction is predecoded, and how many have a slot: all seven bytes of each stand in ROM.
 const FIRST: u16 = 0x2000;
 
 const SLOTS: usize = 0x3FFA;
 
-// No slot knows anything any more.
+// No slot has a predecoded instruction any more.
 fn clear(table: &mut [Predecoded])
     ensures none { All (λ r. is_blank r ≡ true) table.new }
     ensures count { length table.new ≡ length table.old }
@@ -73,7 +74,7 @@ impl<X: Extra + Drop> Common<X> {
     ghost use Rattle.kc_block_spec.specs.Costs.{CostsAtMost};
     ghost use Rattle.kc_machine.specs.Accessing.{ReachesNone, CountsAccess};
 
-    /// The board of a memory and its units, with no instruction prepared and no access made.
+    /// The board of a memory and its units, with no instruction predecoded and no access made.
     pub(crate) fn new(
         alloc: Global,
         memory: Vec<u8>,
@@ -196,7 +197,7 @@ impl<X: Extra + Drop> Common<X> {
         self.memory[addr as usize] = value;
     }
 
-    // No instruction is prepared any more.
+    // No instruction is predecoded any more.
     #[tactic(auto, using(crate::proofs::Prepared::table_cleared))]
     fn forget_all(&mut self)
         ensures none { All (λ r. is_blank r ≡ true) self.new.predecoded.items }
@@ -219,7 +220,7 @@ impl<X: Extra + Drop> Common<X> {
         self.memory[addr as usize] = value;
     }
 
-    /// Whether an address has a slot in the table of prepared instructions.
+    /// Whether an address has a slot in the table of predecoded instructions.
     #[inline(always)]
     pub(crate) fn has_slot(&self, addr: u16) -> bool
         ensures { OnTrue result (HasSlot addr) }
@@ -227,7 +228,7 @@ impl<X: Extra + Drop> Common<X> {
         (FIRST..FIRST + SLOTS as u16).contains(&addr)
     }
 
-    /// The instruction at an address, where it is prepared; else the blank one.
+    /// The instruction at an address, where it is predecoded; else the blank one.
     #[inline(always)]
     pub(crate) fn predecoded_at(&self, addr: u16) -> Predecoded
         requires { HasSlot addr }
@@ -236,7 +237,7 @@ impl<X: Extra + Drop> Common<X> {
         self.predecoded[(addr - FIRST) as usize]
     }
 
-    /// The instruction at an address, where it is prepared.
+    /// The instruction at an address, where it is predecoded.
     pub(crate) fn known_at(&self, addr: u16) -> Option<Predecoded>
         ensures { IfSome result (IsRead self.now.memory.items addr) }
     {
@@ -251,7 +252,7 @@ impl<X: Extra + Drop> Common<X> {
         }
     }
 
-    // The instruction at an address, prepared; the blank one where there is none.
+    // The instruction at an address, predecoded; the blank one where there is none.
     fn prepared_at(&self, addr: u16) -> Predecoded
         ensures { IsSlot self.now.memory.items addr result }
     {
@@ -265,7 +266,7 @@ impl<X: Extra + Drop> Common<X> {
         }
     }
 
-    /// Prepares the instruction at an address, where it stands in ROM and is not prepared yet.
+    /// Predecodes the instruction at an address, where it stands in ROM and is not predecoded yet.
     #[inline(never)]
     #[cold]
     #[tactic(auto, using(crate::proofs::Prepared::table_keep))]
@@ -331,7 +332,7 @@ impl<X: Extra + Drop> Common<X> {
         Ok(value)
     }
 
-    /// The same in line: the room for the answer is cleared where such a word is read, and nowhere else.
+    /// A word read below 0018H, in line: the room for the answer is cleared where such a word is read, and nowhere else.
     #[inline(always)]
     pub(crate) fn read_word_here<L: Ledger>(
         &mut self,

@@ -145,7 +145,7 @@ impl<X: Extra + Drop> Core<X> {
         Record::Undef(what)
     }
 
-    // Does an instruction in its last state; knows what is printed behind the edges.
+    // Does an instruction in its last state; answers what is printed behind the edges.
     fn execute<L: Ledger>(&mut self, insn: &Insn, steps: &mut Steps<L>) -> Option<Record>
         requires sound { IsTrue (is_formed insn.now) }
         requires last { IsInLastState self.old }
@@ -162,8 +162,8 @@ impl<X: Extra + Drop> Core<X> {
         }
     }
 
-    /// Does a prepared instruction in its last state; answers whether an instruction has to follow, or any activity may. After a
-    /// refusal the state is not over yet.
+    /// Does a predecoded instruction in its last state; answers whether an instruction has to follow, or any activity may. After
+    /// a refusal the state is not over yet.
     #[inline(always)]
     pub(crate) fn execute_predecoded<L: Ledger>(
         &mut self,
@@ -197,7 +197,7 @@ impl<X: Extra + Drop> Core<X> {
         }
     }
 
-    // Moves a word of a block move in its last state; knows what is printed behind the edges.
+    // Moves a word of a block move in its last state; answers what is printed behind the edges.
     fn move_on<L: Ledger>(
         &mut self,
         insn: &Insn,
@@ -218,7 +218,7 @@ impl<X: Extra + Drop> Core<X> {
         }
     }
 
-    // Takes the trap of an opcode that no instruction has, in its last state; knows what is printed behind the edges.
+    // Takes the trap of an opcode that no instruction has, in its last state; answers what is printed behind the edges.
     fn trap<L: Ledger>(&mut self, steps: &mut Steps<L>) -> Option<Record>
         requires last { IsInLastState self.old }
         ensures over { IsOver X.further Traps self.old self.new result }
@@ -239,7 +239,7 @@ impl<X: Extra + Drop> Core<X> {
         }
     }
 
-    // Enters through the vector of a request in its last state; knows what is printed behind the edges.
+    // Enters through the vector of a request in its last state; answers what is printed behind the edges.
     fn enter<L: Ledger>(&mut self, number: u8, steps: &mut Steps<L>) -> Option<Record>
         requires number { number < 16 }
         requires last { IsInLastState self.old }
@@ -262,7 +262,7 @@ impl<X: Extra + Drop> Core<X> {
         }
     }
 
-    // Sets up a cycle of the transfer server in its last state; knows what is printed behind the edges.
+    // Sets up a cycle of the transfer server in its last state; answers what is printed behind the edges.
     fn set_up<L: Ledger>(&mut self, number: u8, steps: &mut Steps<L>) -> Option<Record>
         requires number { number < 15 }
         requires last { IsInLastState self.old }
@@ -279,7 +279,7 @@ impl<X: Extra + Drop> Core<X> {
         }
     }
 
-    // Makes a transfer of a cycle in its last state; knows what is printed behind the edges.
+    // Makes a transfer of a cycle in its last state; answers what is printed behind the edges.
     fn transfer<L: Ledger>(
         &mut self,
         number: u8,
@@ -323,7 +323,7 @@ impl<X: Extra + Drop> Core<X> {
         None
     }
 
-    /// Ends an activity in its last state; knows what is printed behind the edges.
+    /// Ends an activity in its last state; answers what is printed behind the edges.
     pub(crate) fn finish<L: Ledger>(
         &mut self,
         doing: Activity,

@@ -243,7 +243,7 @@ impl<X: Extra + Drop> Machine<X> {
         self.core.bus.poke(addr, value);
     }
 
-    /// Writes the line that knows how the run has ended.
+    /// Writes the line that says how the run has ended.
     pub fn write_end<S: Sink>(&self, how: End, out: &mut TraceOut<S>) -> Result<(), WriteFault>
         requires unbroken { out.old.failed ≡ false }
         requires ran { HasRun how self.now.machine.time }

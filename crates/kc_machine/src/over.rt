@@ -277,7 +277,7 @@ fn predecoded_from<X: Extra + Drop, L: Ledger, K: Began>(
     perform_predecoded(predecoded, cpu, &mut bus)
 }
 
-/// Performs a prepared instruction over the board; answers whether an instruction has to follow, or any activity may.
+/// Performs a predecoded instruction over the board; answers whether an instruction has to follow, or any activity may.
 #[inline(always)]
 pub(crate) fn predecoded_over<X: Extra + Drop, L: Ledger>(
     predecoded: &Predecoded,
@@ -294,7 +294,7 @@ pub(crate) fn predecoded_over<X: Extra + Drop, L: Ledger>(
     predecoded_from::<X, L, Brand>(predecoded, cpu, common, steps)
 }
 
-/// The same where the whole place is asked.
+/// The states of a predecoded instruction on the board, where its whole place is asked.
 #[inline(never)]
 #[cold]
 fn placed_time_over<X: Extra + Drop, L: Ledger>(
@@ -317,7 +317,7 @@ fn placed_time_over<X: Extra + Drop, L: Ledger>(
     time_of(&predecoded, cpu, &bus)
 }
 
-/// The same where one condition at most knows them.
+/// The states of a predecoded instruction on the board, where they depend on one condition at most.
 #[inline(always)]
 fn known_time_over<X: Extra + Drop, L: Ledger>(
     predecoded: &Predecoded,
@@ -340,7 +340,7 @@ fn known_time_over<X: Extra + Drop, L: Ledger>(
     known_time_of(predecoded, cpu, &bus)
 }
 
-/// The states of a prepared instruction on the board, which stays as it is.
+/// The states of a predecoded instruction on the board, which stays as it is.
 #[inline(always)]
 pub(crate) fn time_over<X: Extra + Drop, L: Ledger>(
     predecoded: &Predecoded,

@@ -115,7 +115,7 @@ impl<X: Extra + Drop> Core<X> {
         }
     }
 
-    /// A prepared instruction at its place.
+    /// A predecoded instruction at its place.
     pub(crate) fn placed_predecoded<L: Ledger>(
         &mut self,
         predecoded: &Predecoded,

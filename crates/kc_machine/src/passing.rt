@@ -168,7 +168,7 @@ impl<X: Extra + Drop> Core<X> {
     }
 
     // Goes on to the end of the activity, or over idle states up to where the units do something, or to `until` if that
-    // comes first. `free` says that the machine is known to be free, and the answer that it is so again: a row of prepared
+    // comes first. `free` says that the machine is known to be free, and the answer that it is so again: a row of predecoded
     // instructions asks for no more between two of them than whether a request is served.
     #[inline(always)]
     fn pass<S: Sink, L: Ledger>(
@@ -192,7 +192,8 @@ impl<X: Extra + Drop> Core<X> {
         }
     }
 
-    // The same, where no request is served if the machine is known to be free.
+    // Passes as `pass` does, where no request is served if the machine is known to be free: by the slot of the instruction that
+    // comes next, or slowly.
     #[inline(always)]
     fn pass_unasked<S: Sink, L: Ledger>(
         &mut self,
@@ -215,7 +216,7 @@ impl<X: Extra + Drop> Core<X> {
         }
     }
 
-    // The same, where the machine is free and its requests choose so.
+    // Goes through the entry or the setup that the requests of a free machine choose.
     #[inline(never)]
     #[cold]
     fn pass_served<S: Sink, L: Ledger>(
@@ -235,7 +236,7 @@ impl<X: Extra + Drop> Core<X> {
         self.go_through(activity, until, out, steps);
     }
 
-    // The same, whatever is known of the machine.
+    // Rests over idle states, or goes through the next activity, whatever is known of the machine.
     #[inline(never)]
     #[cold]
     fn pass_slowly<S: Sink, L: Ledger>(
@@ -255,7 +256,8 @@ impl<X: Extra + Drop> Core<X> {
         }
     }
 
-    // The same, where the instruction at PC comes next and has a slot.
+    // Goes through the instruction at PC, which comes next and has a slot: from its slot, where it is predecoded there, its
+    // program goes on after it, and it ends by `until`.
     #[inline(always)]
     fn pass_slot<S: Sink, L: Ledger>(
         &mut self,
@@ -284,7 +286,7 @@ impl<X: Extra + Drop> Core<X> {
         }
     }
 
-    // The same, where the program does not go on after the instruction that comes next, or nothing is known of it.
+    // Goes through the instruction at PC after which the program does not go on, or of which nothing is known.
     #[inline(never)]
     #[cold]
     fn pass_alone<S: Sink, L: Ledger>(
@@ -307,7 +309,7 @@ impl<X: Extra + Drop> Core<X> {
         }
     }
 
-    // The same, where the next activity is no prepared instruction; the instruction at PC is prepared for the next time.
+    // Goes through an activity that is taken from no slot; the instruction at PC is predecoded for the next time.
     #[inline(never)]
     #[cold]
     fn pass_other<S: Sink, L: Ledger>(
@@ -323,7 +325,7 @@ impl<X: Extra + Drop> Core<X> {
         self.pass_any(until, out, steps);
     }
 
-    // The same, whatever the next activity is.
+    // Goes through the activity that has the coming state, whatever it is.
     fn pass_any<S: Sink, L: Ledger>(
         &mut self,
         until: StateTime,
@@ -355,7 +357,7 @@ impl<X: Extra + Drop> Core<X> {
         put_one(out, &record);
     }
 
-    // Goes on to the end of a prepared instruction. Answers whether the machine is free again.
+    // Goes on to the end of a predecoded instruction. Answers whether the machine is free again.
     #[inline(always)]
     fn complete_predecoded<S: Sink, L: Ledger>(
         &mut self,
@@ -391,7 +393,7 @@ impl<X: Extra + Drop> Core<X> {
         }
     }
 
-    // Passes a prepared instruction that comes next.
+    // Passes a predecoded instruction that comes next.
     #[inline(always)]
     fn pass_predecoded<S: Sink, L: Ledger>(
         &mut self,

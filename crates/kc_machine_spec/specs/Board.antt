@@ -1,4 +1,5 @@
--- What the accesses of both masters see and change, and how it goes on by itself (80C196KC User's Manual, "Memory Map", "Interrupts").
+-- What the accesses of both masters see and change, and how it goes on by itself (80C196KC User's Manual, "Memory Map",
+-- "Interrupts").
 use Rattle.std.specs.Prelude.{ℕ, ◌+◌, ◌*◌, ◌/◌, ◌%◌, List, map, slice_index}
 use Rattle.kc_base.specs.declared.types.Edge.{Edge}
 use Rattle.kc_exec_spec.specs.declared.access.Masks.{Masks}

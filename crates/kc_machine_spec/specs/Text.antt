@@ -15,7 +15,7 @@ end_number end.Powerdown = 1
 end_number end.Reset = 2
 end_number (end.Undefined what) = 3
 
--- the state that is known of an end
+-- the state that is printed of an end
 abbrev pub end_state : End → ℕ → ℕ
 end_state end.Spent now = now
 end_state (end.Undefined what) now = what.at

@@ -48,7 +48,8 @@ number_of (Err code) = 0
 
 -- ---- EQU and SET
 
--- the value that EQU or SET gives to a name; a malformed line gives none, and a value that is not fixed takes the earlier one away
+-- the value that EQU or SET gives to a name; a malformed line gives none, and a value that is not fixed takes the earlier one
+-- away
 abbrev pub fixed_name : List ℕ → Answer → NameMap → NameMap
 fixed_name n (Err fault) values = fm.remove values n
 fixed_name n (Ok v) values = if is_fixed v.base then fm.insert values n v else fm.remove values n

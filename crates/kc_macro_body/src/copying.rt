@@ -4,7 +4,7 @@ use kc_base::{NoMemory, Text};
 use kc_lex::{Token, Tokens};
 use std::alloc::Global;
 
-/// The same token again.
+/// A copy of a token, with memory of its own.
 pub fn copy_token(alloc: Global, token: &Token) -> Result<Token, NoMemory>
     ensures { IfOk result (λ t. t ≡ token.now) }
 {
@@ -15,7 +15,7 @@ pub fn copy_token(alloc: Global, token: &Token) -> Result<Token, NoMemory>
     })
 }
 
-/// The same tokens again.
+/// A copy of tokens, with memory of its own.
 pub fn copy_tokens(alloc: Global, tokens: &[Token]) -> Result<Tokens, NoMemory>
     ensures { IfOk result (λ t. t ≡ tokens.now) }
 {

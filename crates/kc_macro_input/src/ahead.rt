@@ -296,6 +296,7 @@ fn put_held(stack: &mut Vec<Held>, held: Held) -> Result<(), NoMemory>
 }
 
 impl Ahead {
+    /// No text.
     #[tactic(auto, unfolding(crate::specs::Ahead::flat))]
     pub fn new(alloc: Global) -> Ahead
         ensures { result ≡ [] }

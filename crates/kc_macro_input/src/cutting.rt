@@ -83,8 +83,8 @@ fn depth_after(extent: Extent, piece: &Piece, depth: usize) -> usize
     }
 }
 
-/// Takes off the prefix of a text what stands before the line that ends it, and that line. None where it has no end: then
-/// the text is used up.
+/// Takes off a text, from its beginning on, what stands before the line that ends it, and that line. None where it has no end:
+/// then the text is used up.
 pub fn cut_off(
     alloc: Global,
     ahead: &mut Ahead,

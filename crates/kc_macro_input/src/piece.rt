@@ -141,7 +141,7 @@ impl Marks {
         Ok(Marks { items })
     }
 
-    /// The same marks again: shared, or, where no more lines can share them, in a list of their own.
+    /// A copy of these marks: shared, or, where no more lines can share them, in a list of its own.
     pub fn copy(&self, alloc: Global) -> Result<Marks, NoMemory>
         ensures { IfOk result (λ m. m ≡ self.now) }
     {
@@ -217,7 +217,7 @@ fn copy_text(alloc: Global, tokens: &Option<Tokens>) -> Result<Option<Tokens>, N
     }
 }
 
-/// The same piece again.
+/// A copy of a piece, which shares its marks where it can.
 pub fn copy_piece(alloc: Global, piece: &Piece) -> Result<Piece, NoMemory>
     ensures { IfOk result (λ p. p ≡ piece.now) }
 {
@@ -230,7 +230,7 @@ pub fn copy_piece(alloc: Global, piece: &Piece) -> Result<Piece, NoMemory>
     })
 }
 
-/// The same pieces again.
+/// Copies of pieces, which share their marks where they can.
 pub fn copy_pieces(alloc: Global, pieces: &[Piece]) -> Result<Vec<Piece>, NoMemory>
     ensures { IfOk result (λ v. v.items ≡ pieces.now) }
 {

@@ -47,7 +47,7 @@ matched labelled ts = if labelled then Some (behind_label ts) else if has_label 
 abbrev pub one_counted : ℕ → List Mark → Piece
 one_counted number from = record { number = number; from = from; tokens = None }
 
--- ---- marks report from which calls and repetitions a line comes; each new one is named by how many lines are left then
+-- ---- marks say from which calls and repetitions a line comes; each new one is named by how many lines are left then
 
 abbrev pub is_older : ℕ → Mark → Bool
 is_older left (Call n) = nat_lt left n

@@ -6,7 +6,7 @@ use Rattle.kc_macro_body.specs.Words.{opens_body, is_endm, opens_if, is_endif, i
 use Rattle.kc_macro_input.specs.declared.piece.Piece.{Piece}
 use Rattle.kc_macro_input.specs.Pieces.{word_at}
 
--- a line is matched as a word that the test reports
+-- a line is matched as a word for which the test holds
 abbrev pub Is : (Word → Bool) → Piece → Type 0
 Is test p = test (word_at p.tokens) ≡ true
 

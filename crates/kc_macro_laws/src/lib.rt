@@ -1,5 +1,8 @@
 //! What stands for macros, repetitions and conditions, in the words of the language: laws of the rewriting that expansion is,
-//! without code.
+//! without code; and that each word which they make is a name.
+//! It stands on the definitions of the expansion (`kc_macro`).
+//! ` REPT 2`, ` NOP`, ` ENDM` is two copies of ` NOP`, by `rept_is_copies`; the LOCAL names `??0001`, `??0002` and on have at
+//! most 31 characters.
 #![tactic(auto)]
 
 ghost use Rattle.kc_macro_laws.specs.Course.{RewritingKeepsTheAnswer, ReachedMarksAreOld};

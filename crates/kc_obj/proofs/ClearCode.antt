@@ -170,7 +170,7 @@ module _ (at : ℕ) (file : List ℕ) (r : Read) (a b c d k t i j e g : ℕ) (by
       let n1 = noted_none under (nat_lt 2 t || ((t == 2) && nat_lt k 2)) (at + 5) 3 n2.0 in
       (n1.0, n1.1, n2.1)
 
-  -- a kind or a piece that there is not is given by itself
+  -- a kind or a piece that there is not is reported by itself
   place_none : (asked_for : Bool) → cond asked_for (free_faults noted at file r.fixups x first second place) place ≡ None → place ≡ None
   place_none true h = (free_clear at file r.fixups x first second place h).0
   place_none false h = h

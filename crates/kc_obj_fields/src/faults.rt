@@ -66,6 +66,7 @@ fn comes_first(fault: Fault, other: Fault) -> bool
     fault.at < other.at || fault.at == other.at && fault.code < other.code
 }
 
+/// The fault that comes first: the one so far, if there is one, or the other; at one offset the one of the lesser code.
 pub fn earlier(fault: Option<Fault>, other: Fault) -> Fault
     ensures { result ≡ first_of_both fault other }
 {

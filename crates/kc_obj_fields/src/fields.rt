@@ -60,6 +60,7 @@ fn starts_with_digit(name: &[u8]) -> bool
     }
 }
 
+/// Whether the bytes at the beginning of a body are no name; a public one may not be STACK.
 pub fn bad_name(public: bool, body: &[u8]) -> bool
     ensures { result ≡ is_bad_name public body.now }
 {

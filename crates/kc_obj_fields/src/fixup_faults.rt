@@ -25,6 +25,7 @@ fn index_is_bad(pieces: usize, externals: usize, code: u8, index: u16) -> bool
     }
 }
 
+/// The first of the fault so far and the faults of a relocation's target: its kind, and the number of the piece or external.
 pub fn target_fault(
     at: u32,
     pieces: usize,
@@ -60,6 +61,8 @@ fn place_is_late(before: Option<Fixup>, piece: u16, offset: u16) -> bool
     }
 }
 
+/// The first of the fault so far and the faults of a relocation's place: its piece, its order behind the relocation before it,
+/// and its kind.
 pub fn fixup_place_fault(
     at: u32,
     before: Option<Fixup>,
@@ -167,6 +170,7 @@ pub struct Around<'a> {
     pub fixups: &'a Numbers,
 }
 
+/// The first of the fault so far and the faults of the bytes under a relocation: they have to be there and free.
 pub fn under_fault(
     at: u32,
     around: Around,
@@ -205,6 +209,8 @@ fn entry_is_late(before: Option<Lines>, entry: Lines) -> bool
     }
 }
 
+/// The first of the fault so far and the faults of a line entry: its place in a code piece, its order behind the entry before it,
+/// and its line, which is not 0.
 pub fn entry_fault(
     at: u32,
     before: Option<Lines>,
@@ -243,6 +249,8 @@ fn block_is_late(before: Option<Lines>, block: usize, piece: u16) -> bool
     }
 }
 
+/// The first of the fault so far and the faults of the head of a record of line entries: its piece, which is code, and its order
+/// behind the record before it, which is full where it has the same piece.
 pub fn block_fault(
     at: u32,
     before: Option<Lines>,

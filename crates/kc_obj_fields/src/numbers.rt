@@ -71,6 +71,7 @@ impl Model for Numbers {
 }
 
 impl Numbers {
+    /// No relocations.
     pub fn new(alloc: Global) -> Numbers
         ensures { result ≡ [] }
     {
@@ -101,12 +102,14 @@ impl Numbers {
         self.under.contains(&(piece, offset))
     }
 
+    /// The relocations, lent.
     pub fn as_slice(&self) -> &[Fixup]
         ensures { result.now ≡ self.now }
     {
         self.fixups.as_slice()
     }
 
+    /// The relocations, handed over.
     pub fn into_fixups(self) -> Vec<Fixup>
         ensures { result.items ≡ self }
     {

@@ -10,6 +10,7 @@ use kc_obj_module::names::comes_below;
 use kc_obj_module::pieces::{fits_region, is_code_to, number_of};
 use kc_obj_module::{Content, Given, Segment, contents};
 
+/// The first of the fault so far and the faults of the head record: its version, 1 or 2, and the name of the module.
 pub fn head_fault(at: u32, body: &[u8], fault: Option<Fault>) -> Option<Fault>
     requires { at < 2 ^ 31 }
     ensures { result ≡ head_faults noted at body.now fault }
@@ -108,6 +109,7 @@ fn flag_fault(
     )
 }
 
+/// The first of the fault so far and the faults of a piece: its kind, its flag, its base and its length.
 pub fn segment_fault(
     at: u32,
     before: Option<Segment>,
@@ -136,6 +138,7 @@ pub fn segment_fault(
     )
 }
 
+/// The first of the fault so far and the faults of an external: its name, and the flag behind it, 0 or 1.
 pub fn taken_fault(at: u32, body: &[u8], fault: Option<Fault>) -> Option<Fault>
     requires { at < 2 ^ 31 }
     ensures { result ≡ taken_faults noted at body.now fault }
@@ -160,6 +163,7 @@ fn name_is_late(before: Option<&Given>, name: &[u8]) -> bool
     }
 }
 
+/// The first of the fault so far and the faults of a public name: its name, its order behind the name before it, and its piece.
 pub fn given_fault(
     at: u32,
     before: Option<&Given>,
@@ -213,6 +217,8 @@ fn run_overlaps(before: Option<&Content>, piece: u16, offset: u16) -> bool
     }
 }
 
+/// The first of the fault so far and the faults of a run of bytes: its piece, which is code, its order behind the run before it,
+/// from which it stands apart, and that it ends within the piece.
 pub fn run_fault(
     at: u32,
     before: Option<&Content>,

@@ -95,6 +95,7 @@ impl Model for Runs {
 }
 
 impl Runs {
+    /// No runs.
     #[tactic(auto, using(crate::proofs::PlaceLemmas::table_none, crate::proofs::PlaceLemmas::no_places))]
     pub fn new(alloc: Global) -> Runs
         ensures { result ≡ laid [] [] }
@@ -128,6 +129,7 @@ impl Runs {
         }
     }
 
+    /// The run that was read last.
     pub fn last(&self) -> Option<&Content>
         ensures { option_copied result ≡ last_of self.now.contents }
     {
@@ -141,6 +143,7 @@ impl Runs {
         self.places.get(&(piece, offset)).copied()
     }
 
+    /// The runs, handed over.
     pub fn into_contents(self) -> Vec<Content>
         ensures { result.items ≡ self.contents }
     {

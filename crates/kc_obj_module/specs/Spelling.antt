@@ -1,4 +1,5 @@
--- The one spelling of a module as records: a type, the length of the body (2, low byte first) and the body (this kit's own format).
+-- The one spelling of a module as records: a type, the length of the body (2, low byte first) and the body (this kit's own
+-- format).
 use Rattle.std.specs.Prelude.{ℕ, Bool, true, false, ◌/◌, ◌%◌, ◌==◌, ◌&&◌, nat_lt, if◌then◌else◌, Option, Some, None, List, [], ◌∷◌, ◌++◌, length}
 use Rattle.std.specs.List.{flat_map}
 use Rattle.kc_obj_module.specs.declared.parts.Segment.{Segment}

@@ -1,4 +1,5 @@
--- How a grammar is reported: a reading takes words at the beginning and leaves those behind them, or there is none (this kit's own).
+-- How a grammar is written: a reading takes words at the beginning and leaves those behind them, or there is none (this kit's
+-- own).
 use Rattle.std.specs.Prelude.{ℕ, ◌==◌, Bool, if◌then◌else◌, List, [], length, drop, slice_index_or, Option, Some, None, option_and_then}
 use Rattle.std.specs.Option.{option_map}
 use Rattle.std.specs.Str.{bytes_eq}

@@ -71,8 +71,8 @@ impl Model for Rules {
 }
 
 impl Rules {
-    /// What a rules file says, of 1,048,576 bytes at most, at an oscillator of so many hertz. Refused is the first line that has no
-    /// reading.
+    /// What a rules file says, of 1,048,576 bytes at most, at an oscillator of so many hertz. Refused is the first line that has
+    /// no reading.
     pub fn read(alloc: Global, clock: u32, bytes: &[u8]) -> Result<Rules, RulesFault>
         requires { length bytes.now ≤ 1048576 }
         ensures { IsRead clock bytes.now result }

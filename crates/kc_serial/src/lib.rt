@@ -1,5 +1,9 @@
-//! The serial port of the board, a further unit: bytes are sent on TXD and received from RXD, each as a start bit, eight
-//! bits and a stop bit.
+//! The serial port of the board, a further unit: bytes are sent on TXD and received from RXD, each as a start bit, eight bits and
+//! a stop bit. Laws say the same of whole histories: all frames, receptions, requests and answers, by what was written and read
+//! and by the levels of RXD.
+//! It stands on what a further unit is (`kc_extra`).
+//! At the rate 8000H, 55H written to SBUF in state 19 gives `P 20 TXD 0`, `P 28 TXD 1`, `P 36 TXD 0`, and so on each eight
+//! states.
 #![tactic(auto)]
 
 mod laws;

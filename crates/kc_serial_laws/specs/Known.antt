@@ -30,8 +30,8 @@ pub record IsSet (h : Driven) (Sets : ℕ → Type 0) (t : ℕ) : Type 0 where
 abbrev pub IsReceived : Driven → Catches → ℕ → Type 0
 IsReceived h catches t = IsSet h (λ c. IsCompletion h catches c) t
 
--- SP_STAT as state t begins: RI where a reception has completed, TI where a frame has ended, FE where the stop bit was 0, OE where RI
--- still was, and whether no byte waits
+-- SP_STAT as state t begins: RI where a reception has completed, TI where a frame has ended, FE where the stop bit was 0, OE
+-- where RI still was, and whether no byte waits
 pub record IsStatus (h : Driven) (frames : Frames) (catches : Catches) (t byte : ℕ) : Type 0 where
   pub ri : Bool
   pub ti : Bool

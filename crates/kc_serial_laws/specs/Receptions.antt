@@ -33,7 +33,7 @@ abbrev pub AreReceptions : Driven → Catches → Type 0
 AreReceptions h catches = (t : ℕ) →
     Decides (catches t) ((falls h t ≡ true) × (receives (control_before h t) ≡ true) × ((e : ℕ) → IsReceiving h catches e t → ⊥))
 
--- RXD and what is written report all receptions
+-- RXD and what is written determine all receptions
 abbrev pub ReceptionsAreOne : Type 0
 ReceptionsAreOne = (h : Driven) (catches others : Catches) → AreReceptions h catches → AreReceptions h others → (t : ℕ) → catches t ≡ others t
 

@@ -78,7 +78,7 @@ pub record IsSchedule (h : Driven) (frames : Frames) : Type 0 where
   pub at_once : (t byte : ℕ) → BeginsAtOnce h frames t byte → frames (suc t) ≡ Some byte
   pub later : (t byte : ℕ) → Ends h frames (suc t) → Waits h frames (log h (suc t)) (suc t) byte → frames (suc t) ≡ Some byte
 
--- what is written decides all frames
+-- what is written determines all frames
 abbrev pub SchedulesAreOne : Type 0
 SchedulesAreOne = (h : Driven) (frames others : Frames) → IsSchedule h frames → IsSchedule h others → (t : ℕ) → frames t ≡ others t
 

@@ -1,4 +1,4 @@
-//! The serial port over whole histories: laws of its frames, its receptions and what it decides of them, without code.
+//! The serial port over whole histories: laws of its frames, its receptions and what it reports of them, without code.
 #![tactic(auto)]
 
 ghost use Rattle.kc_serial_laws.specs.Schedules.{SchedulesAreOne, FramesAreScheduled, LinesShowFrames};
@@ -6,7 +6,7 @@ ghost use Rattle.kc_serial_laws.specs.Receptions.{ReceptionsAreOne, FallsAreCaug
 ghost use Rattle.kc_serial_laws.specs.Known.{EndsAreRequested, StatusIsByHistory};
 ghost use Rattle.kc_serial_laws.specs.Worked.{DrivenFramesAreReceived};
 
-/// What is written, and when, decides all frames: no two schedules are of one history.
+/// What is written, and when, determines all frames: no two schedules are of one history.
 pub fn schedules_are_one()
     ensures { SchedulesAreOne }
 {}
@@ -22,7 +22,7 @@ pub fn lines_show_frames()
     ensures { LinesShowFrames }
 {}
 
-/// RXD and what is written report all receptions.
+/// RXD and what is written determine all receptions.
 pub fn receptions_are_one()
     ensures { ReceptionsAreOne }
 {}
@@ -43,7 +43,7 @@ pub fn ends_are_requested()
     ensures { EndsAreRequested }
 {}
 
-/// SP_STAT decides what has happened since it was read last, and whether a byte waits.
+/// SP_STAT reports what has happened since it was read last, and whether a byte waits.
 pub fn status_is_by_history()
     ensures { StatusIsByHistory }
 {}

@@ -1,4 +1,6 @@
 //! The statements of a source, and the first fault of reading them.
+//! It stands on what a line says (`kc_source_statement`).
+//! Of the lines `A: NOP`, `A: NOP`, ` END`, `statements` refuses line 2 with code 6, since line 1 defines `A`.
 #![tactic(auto)]
 
 mod laws;

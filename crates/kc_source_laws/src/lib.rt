@@ -1,4 +1,7 @@
-//! What stands in the statements of a source stands in its text: laws of definitions, without code.
+//! What stands in the statements of a source stands in its text, and what the passes over lines, macros, statements and names
+//! make sure of: laws of definitions, without code.
+//! It stands on the definitions of the expansion, of statements and of names (`kc_macro`, `kc_source`, `kc_asm_symbols`).
+//! The statement of ` DCB 'AB'` on line 3 has the number 3, and its string is the bytes 41H and 42H of that line.
 #![tactic(auto)]
 
 ghost use Rattle.kc_source_laws.specs.Lines.{ExpansionKeepsLines, LinesAreOfTheText, StatementsAreOfTheText, StatementsKeepLines};

@@ -1,4 +1,7 @@
 //! The statements of a source: what they are made of, and what a line says.
+//! It stands on tokens and expressions (`kc_lex`, `kc_expr`).
+//! `read_label` gives for `L: ADD 20H,#1` the label `L`; `read_statement` gives `Action::Operation` with the name `ADD` and the
+//! operands `Arg::Plain` and `Arg::Immediate`.
 #![tactic(auto)]
 
 mod forms;

@@ -152,7 +152,7 @@ due_slow control now left d h inner slow e = subst (λ at. DueAt (timer2_rule co
     by true is = cc
     by false is = ap (λ l. now / 8 * 8 + 7 + 8 * l) (sym e)
 
--- a view reports the value after as many Ticks
+-- a view gives the value after as many Ticks
 pub view_shows : (control : T2Control) (from to : ℕ) (d : T2) → d.value < 65536 → from ≤ to →
     value_at (view_of control d) from to ≡ (after (timer2_rule control) from (to - from) d).value
 view_shows control from to d h le =

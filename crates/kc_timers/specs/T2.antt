@@ -68,10 +68,10 @@ counts_left down value = if down then value else 65535 - value
 abbrev pub moved : Bool → ℕ → ℕ → ℕ
 moved down value n = if down then (value + n * 65535) % 65536 else (value + n) % 65536
 
--- the value that a view of state from reports of state to
+-- the value that a view of state from gives for state to
 abbrev pub value_at : T2View → ℕ → ℕ → ℕ
 value_at view from to = moved view.down view.value (counts_in view.every from to)
 
--- what HSO is known of the timer
+-- what HSO sees of the timer
 abbrev pub view_of : T2Control → T2 → T2View
 view_of control d = record { value = d.value; every = every_of control; down = control.down }

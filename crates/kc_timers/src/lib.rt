@@ -1,6 +1,8 @@
-//! Timer 1 and Timer 2 of the board, each alone: what one Tick does, what a quiet span leaves without a loop over its
-//! states, and when an overflow comes (80C196KC User's Manual, "Timer 1" and "Timer 2"; the order inside a state is this
-//! kit's own).
+//! Timer 1 and Timer 2 of the board, each alone: what one Tick does, what a quiet span leaves without a loop over its states, and
+//! when an overflow comes (80C196KC User's Manual, "Timer 1" and "Timer 2"; the order inside a state is this kit's own).
+//! It stands on spans of state times (`kc_span`).
+//! `timer1(87)` gives 10, and `timer1_due(87)` gives 524287. A Timer 2 at FFFFH that counts up at each eighth state is due from
+//! state 9 on in state 15.
 #![tactic(auto)]
 
 ghost use Rattle.kc_span.specs.Timer1.{timer1_of};
@@ -68,7 +70,7 @@ pub fn timer1_due(t: StateTime) -> StateTime
     t / 524288 * 524288 + 524287
 }
 
-/// A view of Timer 2 reports the value that the timer has after as many Ticks without an input.
+/// A view of Timer 2 gives the value that the timer has after as many Ticks without an input.
 pub fn view_shows_values()
     ensures { (control : T2Control) (from to : ℕ) (d : T2) → d.value < 65536 → from ≤ to →
         value_at (view_of control d) from to ≡ (after (timer2_rule control) from (to - from) d).value }

@@ -6,7 +6,7 @@ use Rattle.kc_trace.specs.declared.trace.Counts.{Counts}
 use Rattle.kc_trace.specs.Text.{line_of, text_of}
 use Rattle.kc_trace.specs.Counting.{counted_unless, counted_all}
 
--- what the sink reports that was written, how often it has failed, whether it has failed this trace, and what was counted
+-- what the sink reports as written, how often it has failed, whether it has failed this trace, and what was counted
 pub record Out : Type 0 where
   pub written : Option (List ℕ)
   pub faults : ℕ

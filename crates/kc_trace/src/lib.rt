@@ -1,4 +1,7 @@
 //! The lines of a trace: what is printed as a line, how it is spelled, and how lines are written to a sink.
+//! It stands on `kc_base` alone.
+//! A rise of HSO0 in state 82 is the line `P 82 HSO0 1`; an entry through vector 7 in state 92, with the return address 20A2H, is
+//! `I 92 7 20A2`.
 #![tactic(auto)]
 
 mod edge_out;

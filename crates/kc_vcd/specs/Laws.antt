@@ -1,4 +1,4 @@
--- What a dump describes of a run (this kit's own).
+-- What a dump says of a run (this kit's own).
 use Rattle.std.specs.Prelude.{◌≡◌, ℕ, ◌*◌, ◌≤◌, Some, List}
 use Rattle.kc_base.specs.Pins.{IsPin, pin_name}
 use Rattle.kc_base.specs.TextLines.{text_lines}
@@ -14,7 +14,7 @@ use Rattle.kc_vcd.specs.Reader.{described}
 abbrev pub TracesAreRead : Type 0
 TracesAreRead = (items : List Record) → IsHistory 0 items → IsTrace (text_lines (text_of items)) items
 
--- in every state the dump describes of every pin the level after all edges up to it
+-- in every state the dump has for every pin the level after all edges up to it
 abbrev pub DumpsDescribeLevels : Type 0
 DumpsDescribeLevels = (length : ℕ) (items : List Record) (pin t : ℕ) → 1 ≤ length → length ≤ 2000000000000 → IsHistory 0 items → IsPin pin →
     described (dump_of length items) (length * t) (pin_name pin) ≡ Some (level_at items pin t)

@@ -1,4 +1,4 @@
--- What a reader of value change dumps is known of a variable of one bit, line by line (IEEE 1364, "Value change dump files").
+-- What a reader of value change dumps knows of a variable of one bit, line by line (IEEE 1364, "Value change dump files").
 use Rattle.std.specs.Prelude.{ℕ, zero, suc, ◌==◌, nat_le, if◌then◌else◌, Bool, false, ◌&&◌, Option, Some, None, List, [], ◌∷◌, codes, slice_index}
 use Rattle.std.specs.List.{before_first, after_first}
 use Rattle.std.specs.Str.{bytes_eq}
@@ -46,6 +46,6 @@ abbrev pub described_with : ℕ → List (List ℕ) → Option ℕ → Option Le
 described_with time lines None = None
 described_with time lines (Some code) = level_described time code false None lines
 
--- the level of a variable at a time; None where the dump describes none
+-- the level of a variable at a time; None where the dump gives none
 abbrev pub described : List ℕ → ℕ → List ℕ → Option Level
 described dump time name = described_with time (text_lines dump) (code_of name (text_lines dump))

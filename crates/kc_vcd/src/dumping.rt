@@ -165,8 +165,8 @@ fn put_records(text: &mut Vec<u8>, length: u64, records: &[Record]) -> Result<()
 }
 
 /// A trace as a value change dump (IEEE 1364) with times in picoseconds, of a board whose oscillator has so many hertz: a state
-/// time is two of its periods, rounded down. Each pin of the board is a wire under its name, with its level before state 0; entries,
-/// transfers and the undefined use are events. A change stands at the beginning of its state.
+/// time is two of its periods, rounded down. Each pin of the board is a wire under its name, with its level before state 0;
+/// entries, transfers and the undefined use are events. A change stands at the beginning of its state.
 pub fn dump(alloc: Global, trace: &Trace, clock: u32) -> Result<Vec<u8>, NoMemory>
     requires { 1 ≤ clock }
     ensures { IfOk result (λ text. text.items ≡ dump_of (picoseconds clock) trace.now) }

@@ -5,7 +5,7 @@ pub fn traces_are_read()
     ensures { TracesAreRead }
 {}
 
-/// In every state a dump describes of every pin the level after all edges of the trace up to it, or the one at the start.
+/// In every state a dump has for every pin the level after all edges of the trace up to it, or the one at the start.
 pub fn dumps_describe_levels()
     ensures { DumpsDescribeLevels }
 {}

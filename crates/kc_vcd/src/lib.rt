@@ -1,4 +1,6 @@
 //! A trace as a value change dump, which shows the pins of a board over a run in a viewer of waveforms.
+//! It stands on the lines of a trace (`kc_trace`).
+//! `P 82 HSO0 1` at an oscillator of 16 MHz becomes the time `#10250000`, in picoseconds, and `1A`, where `A` is the wire HSO0.
 #![tactic(auto)]
 
 mod candidates;

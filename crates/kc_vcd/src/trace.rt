@@ -65,8 +65,8 @@ fn push(records: &mut Vec<Record>, item: Record) -> Result<(), NoMemory>
 }
 
 impl Trace {
-    /// The records of the text of a trace of 1,048,576 bytes at most, as the board prints it, also of a prefix of it. Refused is the
-    /// first line that is that of no record, or of one that is earlier than a record before it.
+    /// The records of the text of a trace of 1,048,576 bytes at most, as the board prints it, also of a prefix of it. Refused is
+    /// the first line that is that of no record, or of one that is earlier than a record before it.
     pub fn read(alloc: Global, text: &[u8]) -> Result<Trace, VcdFault>
         requires { length text.now ≤ 1048576 }
         ensures { IsTraceRead text.now result }
