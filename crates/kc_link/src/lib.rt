@@ -1,4 +1,4 @@
-//! Links modules: fills an image at the places of their pieces, and reports which line stands where.
+//! Links modules: places their pieces, fills an image at these places, and reports which line stands where.
 #![tactic(auto)]
 
 mod filling;
@@ -6,7 +6,7 @@ mod laws;
 mod lines;
 mod linking;
 
-pub use kc_link_place::{LinkFault, Ranges};
+pub use kc_link_place::{LinkFault, Placement, Ranges};
 pub use laws::{absolute_pieces_stand, one_image, relocations_fit};
-pub use lines::{LineAt, line_map};
-pub use linking::link;
+pub use lines::{LineAt, line_map, lines_at};
+pub use linking::{image_at, link, linked_places};
