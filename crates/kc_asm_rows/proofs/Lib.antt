@@ -1,4 +1,5 @@
 mod Kept
 mod Order
+pub mod Places
 mod Sorted
 mod Steps

@@ -6,7 +6,7 @@ ghost use Rattle.kc_asm_rows.specs.Rows as spec;
 
 use crate::spot::Spot;
 use itoa::Buffer;
-use kc_base::{NoMemory, hex_digit};
+use kc_base::{NoMemory, put_address};
 use kc_obj_module::SegKind;
 
 /// Puts blanks behind a text.
@@ -51,17 +51,11 @@ fn tick(at: Option<u16>) -> u8
 }
 
 // Puts the four lowest hexadecimal digits of a place behind a text.
+#[tactic(auto, using(crate::proofs::Places::lowest_four))]
 fn put_place(text: &mut Vec<u8>, place: u64) -> Result<(), NoMemory>
     ensures { OnOk result (text.new.items ≡ text.old.items ++ hex 4 place) }
 {
-    let second = place / 16;
-    let third = second / 16;
-    let fourth = third / 16;
-    text.push(hex_digit((fourth % 16) as u8))?;
-    text.push(hex_digit((third % 16) as u8))?;
-    text.push(hex_digit((second % 16) as u8))?;
-    text.push(hex_digit((place % 16) as u8))?;
-    Ok(())
+    put_address(text, (place % 65_536) as u16)
 }
 
 // Puts how deep a statement stands behind a text.
@@ -72,10 +66,8 @@ fn put_depth(text: &mut Vec<u8>, depth: usize) -> Result<(), NoMemory>
         text.extend_from_slice(b"  ")?;
         return Ok(());
     }
-    let mut buffer = Buffer::new();
     text.push(b'+')?;
-    text.extend_from_slice(buffer.format(depth).as_bytes())?;
-    Ok(())
+    kc_base::put_number(text, depth as u64)
 }
 
 /// Puts the prefix of a row behind a text: the line and the depth of a statement, the kind of its piece, and a place.

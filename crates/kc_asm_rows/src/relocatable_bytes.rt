@@ -10,7 +10,7 @@ ghost use Rattle.kc_asm_rows.specs.RelocatableBytes as spec;
 
 use crate::pieces::piece_of;
 use crate::spot::Spot;
-use kc_base::{NoMemory, hex_digit};
+use kc_base::{NoMemory, byte_text};
 use kc_obj_module::{Content, Fixup, Module};
 use kc_obj_relocation::width;
 
@@ -112,8 +112,7 @@ fn put_byte(text: &mut Vec<u8>, filled: bool, byte: u8) -> Result<(), NoMemory>
     ensures { OnOk result (text.new.items ≡ text.old.items ++ spec.byte_text filled byte) }
 {
     text.push(if filled { b'*' } else { b' ' })?;
-    text.push(hex_digit(byte / 16))?;
-    text.push(hex_digit(byte % 16))?;
+    text.extend_from_slice(byte_text(byte).as_slice())?;
     Ok(())
 }
 

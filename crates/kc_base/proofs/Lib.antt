@@ -1,5 +1,6 @@
 pub mod BitLemmas
 pub mod ByteLemmas
+pub mod DigitLemmas
 mod Faults
 pub mod Growth
 pub mod NameLemmas

@@ -1,10 +1,9 @@
 -- The fields of a line of a text file: what stands between spaces, numbers, and names of pins (this kit's own).
-use Rattle.std.specs.Prelude.{ℕ, ◌+◌, ◌-◌, ◌*◌, ◌^◌, ◌==◌, nat_le, if◌then◌else◌, Bool, ◌&&◌, Option, Some, None, Result, Ok, Err, List, [], ◌∷◌, fold, slice_index}
-use Rattle.std.specs.List.{list_all, position_from, before_first, after_first}
+use Rattle.std.specs.Prelude.{ℕ, ◌+◌, ◌-◌, ◌*◌, ◌==◌, if◌then◌else◌, Bool, Option, None, List, [], ◌∷◌, fold, length}
+use Rattle.std.specs.List.{position_from, before_first, after_first}
 use Rattle.std.specs.Str.{bytes_eq}
-use Rattle.std.specs.Char.{is_ascii_digit}
-use Rattle.hex.specs.declared.error.FromHexError.{FromHexError}
-use Rattle.hex.specs.Hex.{decode_sized}
+use Rattle.kc_base.specs.Digits.{digits_from, up_to}
+use Rattle.kc_base.specs.Limits.{max_states}
 use Rattle.kc_base.specs.Pins.{pin_names}
 
 abbrev pub is_space : ℕ → Bool
@@ -30,28 +29,23 @@ decimal_value digits = fold (λ n c. 10 * n + (c - 48)) 0 digits
 -- decimal digits, this number at most
 abbrev pub decimal_of : ℕ → List ℕ → Option ℕ
 decimal_of most [] = None
-decimal_of most (c ∷ digits) =
-    if list_all is_ascii_digit (c ∷ digits) && nat_le (decimal_value (c ∷ digits)) most then Some (decimal_value (c ∷ digits)) else None
+decimal_of most (c ∷ digits) = up_to most (digits_from 10 0 (c ∷ digits))
 
--- a state time: decimal digits, 10^15 at most
+-- a state time: decimal digits, as many states at most as a run may have
 abbrev pub time_of : List ℕ → Option ℕ
-time_of text = decimal_of (10 ^ 15) text
+time_of text = decimal_of max_states text
 
-abbrev pub word_in : Result (List ℕ) FromHexError → Option ℕ
-word_in (Ok bytes) = Some (256 * slice_index bytes 0 + slice_index bytes 1)
-word_in (Err fault) = None
+-- so many hex digits in either case, this number at most
+abbrev pub hex_of : ℕ → ℕ → List ℕ → Option ℕ
+hex_of count most text = if length text == count then up_to most (digits_from 16 0 text) else None
 
 -- a word: four hex digits in either case
 abbrev pub word_of : List ℕ → Option ℕ
-word_of text = word_in (decode_sized text 2)
-
-abbrev pub byte_in : Result (List ℕ) FromHexError → Option ℕ
-byte_in (Ok bytes) = Some (slice_index bytes 0)
-byte_in (Err fault) = None
+word_of text = hex_of 4 0xFFFF text
 
 -- a byte: two hex digits in either case
 abbrev pub byte_of : List ℕ → Option ℕ
-byte_of text = byte_in (decode_sized text 1)
+byte_of text = hex_of 2 0xFF text
 
 -- the pin of a name
 unfoldable pub pin_of : List ℕ → Option ℕ

@@ -7,6 +7,7 @@ pub mod Fields
 pub mod Fresh
 pub mod Held
 pub mod Levels
+pub mod Limits
 pub mod Memory
 pub mod Pins
 pub mod Series

@@ -1,39 +1,32 @@
-ghost use Rattle.std.specs.Prelude.{◌≡◌, ◌<◌, ◌≤◌, ◌^◌, ◌+◌, ◌*◌, ◌==◌, not, length, IfSome};
+ghost use Rattle.std.specs.Prelude.{◌≡◌, ◌<◌, ◌≤◌, ◌==◌, not, length, IfSome};
 ghost use Rattle.std.specs.List.{before_first, after_first, take_while};
-ghost use Rattle.kc_base.specs.Fields.{is_space, decimal_of, time_of, word_of, byte_of, pin_of};
+ghost use Rattle.kc_base.specs.Fields.{is_space, decimal_of, time_of, hex_of, word_of, byte_of, pin_of};
+ghost use Rattle.kc_base.specs.Limits.{max_states};
 ghost use Rattle.kc_base.specs.Pins.{IsPin};
 
+use crate::digits::read_digits;
+use crate::limits::MAX_STATES;
 use crate::text_lines::{after, prefix};
 use crate::types::{PIN_COUNT, Pin, StateTime};
 
-/// The greatest state time that a line of a text file may have.
-const TIME_LIMIT: u64 = 1_000_000_000_000_000;
-
 /// A number in decimal digits, at most `most`; `None` for any other text. Zeros may stand in front.
 pub fn decimal(most: u64, text: &[u8]) -> Option<u64>
-    requires { most ≤ 10 ^ 15 }
+    requires { most ≤ max_states }
     ensures value { result ≡ decimal_of most text.now }
     ensures bounded { IfSome result (λ n. n ≤ most) }
 {
-    if text.is_empty() {
-        return None;
+    match text {
+        [] => None,
+        digits => read_digits(10, most, digits),
     }
-    let mut value = 0u64;
-    for digit in text {
-        if !digit.is_ascii_digit() {
-            return None;
-        }
-        value = (10 * value + u64::from(*digit - b'0')).min(most + 1);
-    }
-    if value <= most { Some(value) } else { None }
 }
 
 /// A state time: decimal digits, 10^15 at most; `None` for any other text.
 pub fn state_time(text: &[u8]) -> Option<StateTime>
     ensures value { result ≡ time_of text.now }
-    ensures bounded { IfSome result (λ n. n ≤ 10 ^ 15) }
+    ensures bounded { IfSome result (λ n. n ≤ max_states) }
 {
-    decimal(TIME_LIMIT, text)
+    decimal(MAX_STATES, text)
 }
 
 // How many characters stand before the first space.
@@ -57,10 +50,17 @@ pub fn split_at_space(text: &[u8]) -> (&[u8], &[u8])
     }
 }
 
-fn join(high: u8, low: u8) -> u16
-    ensures { result ≡ 256 * high + low }
+// So many hex digits in either case, this number at most; `None` for any other text.
+fn hex_number(count: usize, most: u64, text: &[u8]) -> Option<u64>
+    requires { most ≤ max_states }
+    ensures value { result ≡ hex_of count most text.now }
+    ensures bounded { IfSome result (λ n. n ≤ most) }
 {
-    256 * u16::from(high) + u16::from(low)
+    if text.len() == count {
+        read_digits(16, most, text)
+    } else {
+        None
+    }
 }
 
 /// A word: four hex digits in either case; `None` for any other text.
@@ -68,22 +68,16 @@ pub fn hex_word(text: &[u8]) -> Option<u16>
     ensures value { result ≡ word_of text.now }
     ensures bounded { IfSome result (λ n. n < 65536) }
 {
-    let mut bytes = [0u8; 2];
-    match hex::decode_to_slice(text, &mut bytes) {
-        Ok(()) => Some(join(bytes[0], bytes[1])),
-        Err(_) => None,
-    }
+    let word = hex_number(4, 0xFFFF, text)?;
+    Some(word as u16)
 }
 
 /// A byte: two hex digits in either case; `None` for any other text.
 pub fn hex_byte(text: &[u8]) -> Option<u8>
     ensures { result ≡ byte_of text.now }
 {
-    let mut bytes = [0u8; 1];
-    match hex::decode_to_slice(text, &mut bytes) {
-        Ok(()) => Some(bytes[0]),
-        Err(_) => None,
-    }
+    let byte = hex_number(2, 0xFF, text)?;
+    Some(byte as u8)
 }
 
 /// The number of the pin of a name; `None` for any other text.

@@ -15,7 +15,9 @@ mod host_output;
 mod host_reading;
 mod host_writing;
 mod image;
+mod limits;
 mod memory;
+mod pins;
 mod sink;
 mod steps;
 mod text;
@@ -23,18 +25,18 @@ mod text_lines;
 mod types;
 
 pub use bits::{bit, weight};
-pub use digits::hex_digit;
+pub use digits::{address_text, byte_text, hex_digit, put_address, put_number, read_digits};
 pub use edge_out::EdgeOut;
 pub use fields::{decimal, hex_byte, hex_word, pin_number, split_at_space, state_time};
 pub use files::{FILE_LIMIT, FileFault, Files};
 pub use host::HostFiles;
 pub use host_output::{HostDiagnostics, HostOut};
 pub use image::{IMAGE_LEN, IMAGE_START, Image};
+pub use limits::MAX_STATES;
 pub use memory::{MemFiles, MemSink};
+pub use pins::{PIN_COUNT, constants_are_named};
 pub use sink::{Failed, Sink, put_all};
 pub use steps::Steps;
 pub use text::Text;
 pub use text_lines::{after, first_line, prefix};
-pub use types::{
-    Edge, IntSet, Kind, Level, NoMemory, PIN_COUNT, Pin, PtsMode, StateTime, Undefined,
-};
+pub use types::{Edge, IntSet, Kind, Level, NoMemory, Pin, PtsMode, StateTime, Undefined};

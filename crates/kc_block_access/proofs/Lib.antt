@@ -2,3 +2,4 @@ pub mod Left
 pub mod Acts
 pub mod Outcomes
 pub mod Words
+pub mod Calls

@@ -1,18 +1,26 @@
 -- How many calls of units an access makes at most (this kit's own).
-use Rattle.std.specs.Prelude.{ℕ, ◌+◌, ◌==◌, Bool, true, false, ◌||◌, if◌then◌else◌}
+use Rattle.std.specs.Prelude.{ℕ, ◌+◌, Bool, true, false, is_some, if◌then◌else◌}
 use Rattle.kc_block_spec.specs.declared.registers.WritableByte.{WritableByte}
 use Rattle.kc_block_spec.specs.declared.registers.WritableByte.TheVariants.{HsiMode, HsoCommand, Ioc0, Ioc1, Ioc2, Ioc3}
+use Rattle.kc_block_spec.specs.Registers.{bytes_read_everywhere, bytes_written_everywhere, row_at}
 
--- the bytes that stand in every window, of which none is a unit's: zero, the masks and pending requests, and WSR
-abbrev pub is_free : ℕ → Bool
-is_free sfr = (sfr == 0x00) || (sfr == 0x01) || (sfr == 0x08) || (sfr == 0x09) || (sfr == 0x12) || (sfr == 0x13) || (sfr == 0x14)
+-- none for what is no unit's, else four: two units are caught up and asked
+abbrev pub calls_unless : Bool → ℕ
+calls_unless free = if free then 0 else 4
 
--- none for those, else four: two units are caught up and asked
-abbrev pub byte_calls : ℕ → ℕ
-byte_calls sfr = if is_free sfr then 0 else 4
+-- a byte register that every window has is no unit's
+abbrev pub read_calls : ℕ → ℕ
+read_calls sfr = calls_unless (is_some (row_at bytes_read_everywhere sfr))
 
-abbrev pub word_calls : ℕ → ℕ
-word_calls sfr = byte_calls sfr + byte_calls (sfr + 1)
+abbrev pub write_calls : ℕ → ℕ
+write_calls sfr = calls_unless (is_some (row_at bytes_written_everywhere sfr))
+
+-- and for the two bytes of a word
+abbrev pub word_read_calls : ℕ → ℕ
+word_read_calls sfr = read_calls sfr + read_calls (sfr + 1)
+
+abbrev pub word_write_calls : ℕ → ℕ
+word_write_calls sfr = write_calls sfr + write_calls (sfr + 1)
 
 -- the registers of which no unit, output or deferred unit's rule reads anything
 abbrev pub is_plain : WritableByte → Bool
@@ -26,4 +34,4 @@ is_plain _ = true
 
 -- and by the register that is written: those that no unit holds need none
 abbrev pub named_calls : WritableByte → ℕ
-named_calls r = if is_plain r then 0 else 4
+named_calls r = calls_unless (is_plain r)

@@ -7,11 +7,11 @@ ghost use Rattle.kc_block_spec.specs.Looking.{half_at, looked};
 ghost use Rattle.kc_block_lazy.specs.Scheduler.{shown_units, IsScheduled, IsPresent};
 ghost use Rattle.kc_block_lanes.specs.Standing.{standing, moves_of};
 
-use crate::registers::{number, readable_byte, readable_word};
+use crate::registers::number;
 use crate::seeing::{byte_at, seen_at, word_at};
 use kc_base::{StateTime, Steps};
 use kc_block_lanes::Scheduler;
-use kc_block_spec::Window;
+use kc_block_spec::{Window, readable_byte, readable_word};
 use kc_extra::Extra;
 use std::marker::Brand;
 use std::sync::ledger::{Blank, Ledger};

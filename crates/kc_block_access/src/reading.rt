@@ -9,15 +9,15 @@ ghost use Rattle.kc_block_spec.specs.RegisterLaws.{refusal};
 ghost use Rattle.kc_block_lazy.specs.Scheduler.{shown_units, IsScheduled, IsLeft, IsPresent};
 ghost use Rattle.kc_block_lanes.specs.Standing.{standing, moves_of};
 ghost use Rattle.kc_block_spec.specs.Costs.{CostsAtMost, RefusesFreely};
-ghost use Rattle.kc_block_access.specs.Costs.{byte_calls, word_calls};
+ghost use Rattle.kc_block_access.specs.Costs.{read_calls, word_read_calls};
 
 use crate::acting::{clear_ios1, read_further, take_hsi_time};
-use crate::registers::{is_half_read, number, readable_byte, readable_word};
+use crate::registers::{is_half_read, number};
 use crate::seeing::{byte_at, word_at};
 use crate::values::state_before;
 use kc_base::{Kind, StateTime, Steps};
 use kc_block_lanes::Scheduler;
-use kc_block_spec::{ReadableByte, ReadableWord, Window};
+use kc_block_spec::{ReadableByte, ReadableWord, Window, readable_byte, readable_word};
 use kc_extra::Extra;
 use std::sync::ledger::Ledger;
 
@@ -81,7 +81,7 @@ fn read_byte<X: Extra, L: Ledger>(
     ensures value { byte_read X.further (now - 1) window (shown_units X.further (standing X.plain scheduler.old) now) sfr ≡ Ok result }
     ensures left { IsLeft X.further X.agrees now (standing X.plain scheduler.new)
         (after_byte_read X.further (now - 1) window (shown_units X.further (standing X.plain scheduler.old) now) sfr) }
-    ensures costs { CostsAtMost (byte_calls sfr) steps.old steps.new (moves_of X.moved scheduler.old) (moves_of X.moved scheduler.new) }
+    ensures costs { CostsAtMost (read_calls sfr) steps.old steps.new (moves_of X.moved scheduler.old) (moves_of X.moved scheduler.new) }
 {
     match readable_byte(window, sfr) {
         Some(register) => read_named(scheduler, now, register),
@@ -107,7 +107,7 @@ pub fn read8<X: Extra, L: Ledger>(
     ensures units { OnOk result (shown_units X.further (standing X.plain scheduler.new) now
         ≡ after_byte_read X.further (now - 1) window (shown_units X.further (standing X.plain scheduler.old) now) sfr) }
     ensures refused { RefusesFreely result scheduler.old scheduler.new steps.old steps.new }
-    ensures costs { CostsAtMost (byte_calls sfr) steps.old steps.new (moves_of X.moved scheduler.old) (moves_of X.moved scheduler.new) }
+    ensures costs { CostsAtMost (read_calls sfr) steps.old steps.new (moves_of X.moved scheduler.old) (moves_of X.moved scheduler.new) }
 {
     if let Some(kind) = read_refusal(scheduler, now, window, sfr) {
         return Err(kind);
@@ -149,7 +149,7 @@ fn read_two<X: Extra, L: Ledger>(
     ensures left { OnOk result (IsLeft X.further X.agrees now (standing X.plain scheduler.new)
         (after_even_word_read X.further (now - 1) window (shown_units X.further (standing X.plain scheduler.old) now) sfr)) }
     ensures refused { RefusesFreely result scheduler.old scheduler.new steps.old steps.new }
-    ensures costs { CostsAtMost (word_calls sfr) steps.old steps.new (moves_of X.moved scheduler.old) (moves_of X.moved scheduler.new) }
+    ensures costs { CostsAtMost (word_read_calls sfr) steps.old steps.new (moves_of X.moved scheduler.old) (moves_of X.moved scheduler.new) }
 {
     if let Some(kind) = read_refusal(scheduler, now, window, sfr) {
         return Err(kind);
@@ -179,7 +179,7 @@ fn read_even<X: Extra, L: Ledger>(
     ensures units { OnOk result (shown_units X.further (standing X.plain scheduler.new) now
         ≡ after_even_word_read X.further (now - 1) window (shown_units X.further (standing X.plain scheduler.old) now) sfr) }
     ensures refused { RefusesFreely result scheduler.old scheduler.new steps.old steps.new }
-    ensures costs { CostsAtMost (word_calls sfr) steps.old steps.new (moves_of X.moved scheduler.old) (moves_of X.moved scheduler.new) }
+    ensures costs { CostsAtMost (word_read_calls sfr) steps.old steps.new (moves_of X.moved scheduler.old) (moves_of X.moved scheduler.new) }
 {
     match readable_word(window, sfr) {
         Some(register) => Ok(read_word(scheduler, now, register, steps)),
@@ -206,7 +206,7 @@ pub fn read16<X: Extra, L: Ledger>(
     ensures units { OnOk result (shown_units X.further (standing X.plain scheduler.new) now
         ≡ after_word_read X.further (now - 1) window (shown_units X.further (standing X.plain scheduler.old) now) sfr) }
     ensures refused { RefusesFreely result scheduler.old scheduler.new steps.old steps.new }
-    ensures costs { CostsAtMost (word_calls sfr) steps.old steps.new (moves_of X.moved scheduler.old) (moves_of X.moved scheduler.new) }
+    ensures costs { CostsAtMost (word_read_calls sfr) steps.old steps.new (moves_of X.moved scheduler.old) (moves_of X.moved scheduler.new) }
 {
     if sfr % 2 == 1 {
         return Err(Kind::OddWord);

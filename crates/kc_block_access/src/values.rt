@@ -3,7 +3,7 @@ ghost use Rattle.std.specs.Prelude.{◌≡◌, ◌+◌, ◌-◌, ◌%◌, ◌<�
 ghost use Rattle.kc_base.specs.Bits.{weight as weight_of};
 ghost use Rattle.kc_block_spec.specs.Reading.{port0_levels, port1_levels, port2_read};
 
-use kc_base::{StateTime, bit, weight};
+use kc_base::{Pin, StateTime, bit, weight};
 use kc_block_inputs::has_pin;
 use kc_block_spec::BoardRegisters;
 
@@ -36,12 +36,12 @@ pub(crate) fn port2(board_registers: &BoardRegisters) -> u8
     let latch = board_registers.port2;
     let levels = board_registers.levels;
     weight(bit(latch, 0), 1)
-        + weight(has_pin(levels, 24), 4)
-        + weight(has_pin(levels, 22), 8)
-        + weight(has_pin(levels, 23), 16)
+        + weight(has_pin(levels, Pin::EXTINT.0), 4)
+        + weight(has_pin(levels, Pin::T2CLK.0), 8)
+        + weight(has_pin(levels, Pin::T2RST.0), 16)
         + weight(bit(latch, 5), 32)
-        + weight(bit(latch, 6) && has_pin(levels, 26), 64)
-        + weight(bit(latch, 7) && has_pin(levels, 27), 128)
+        + weight(bit(latch, 6) && has_pin(levels, Pin::T2UD.0), 64)
+        + weight(bit(latch, 7) && has_pin(levels, Pin::T2CAP.0), 128)
 }
 
 /// The state of an access, whose Tick was the last before the present state.

@@ -10,17 +10,17 @@ ghost use Rattle.kc_block_spec.specs.RegisterLaws.{refusal};
 ghost use Rattle.kc_block_lazy.specs.Scheduler.{shown_units, IsScheduled, IsLeft, IsPresent};
 ghost use Rattle.kc_block_lanes.specs.Standing.{standing, moves_of};
 ghost use Rattle.kc_block_spec.specs.Costs.{CostsAtMost, RefusesFreely};
-ghost use Rattle.kc_block_access.specs.Costs.{is_plain as has_no_unit, named_calls, byte_calls, word_calls};
+ghost use Rattle.kc_block_access.specs.Costs.{is_plain as has_no_unit, named_calls, write_calls, word_write_calls};
 
 use crate::acting::{
     load_hso, write_further, write_hsi_mode, write_hso_command, write_ioc0, write_ioc1, write_ioc2,
     write_ioc3, write_timer2,
 };
 use crate::keeping_registers::board_registers_with;
-use crate::registers::{is_half_written, number, writable_byte, writable_word};
+use crate::registers::{is_half_written, number};
 use kc_base::{Kind, StateTime, Steps, bit};
 use kc_block_lanes::Scheduler;
-use kc_block_spec::{Window, WritableByte, WritableWord};
+use kc_block_spec::{Window, WritableByte, WritableWord, writable_byte, writable_word};
 use kc_bus::is_known;
 use kc_extra::Extra;
 use std::sync::ledger::Ledger;
@@ -147,7 +147,7 @@ fn write_byte<X: Extra, L: Ledger>(
     requires present { IsPresent X.further X.agrees (standing X.plain scheduler.old) now }
     ensures left { IfOk (byte_written X.further (now - 1) window (shown_units X.further (standing X.plain scheduler.old) now) sfr value)
         (IsLeft X.further X.agrees now (standing X.plain scheduler.new)) }
-    ensures costs { CostsAtMost (byte_calls sfr) steps.old steps.new (moves_of X.moved scheduler.old) (moves_of X.moved scheduler.new) }
+    ensures costs { CostsAtMost (write_calls sfr) steps.old steps.new (moves_of X.moved scheduler.old) (moves_of X.moved scheduler.new) }
 {
     match writable_byte(window, sfr) {
         Some(register) => write_named(scheduler, now, register, value, steps),
@@ -176,7 +176,7 @@ pub fn write8<X: Extra, L: Ledger>(
     ensures scheduled { IsScheduled X.further X.agrees (standing X.plain scheduler.new) now }
     ensures profile { in_profile scheduler.new.board_registers.wsr ≡ true }
     ensures refused { RefusesFreely result scheduler.old scheduler.new steps.old steps.new }
-    ensures costs { CostsAtMost (byte_calls sfr) steps.old steps.new (moves_of X.moved scheduler.old) (moves_of X.moved scheduler.new) }
+    ensures costs { CostsAtMost (write_calls sfr) steps.old steps.new (moves_of X.moved scheduler.old) (moves_of X.moved scheduler.new) }
 {
     if let Some(kind) = write_refusal(scheduler, now, window, sfr, value) {
         return Err(kind);
@@ -267,7 +267,7 @@ fn write_two<X: Extra, L: Ledger>(
     ensures left { IfOk (even_word_written X.further (now - 1) window (shown_units X.further (standing X.plain scheduler.old) now) sfr value)
         (IsLeft X.further X.agrees now (standing X.plain scheduler.new)) }
     ensures refused { RefusesFreely result scheduler.old scheduler.new steps.old steps.new }
-    ensures costs { CostsAtMost (word_calls sfr) steps.old steps.new (moves_of X.moved scheduler.old) (moves_of X.moved scheduler.new) }
+    ensures costs { CostsAtMost (word_write_calls sfr) steps.old steps.new (moves_of X.moved scheduler.old) (moves_of X.moved scheduler.new) }
 {
     let low = (value % 256) as u8;
     let high = (value / 256) as u8;
@@ -301,7 +301,7 @@ fn write_even<X: Extra, L: Ledger>(
     ensures scheduled { IsScheduled X.further X.agrees (standing X.plain scheduler.new) now }
     ensures profile { in_profile scheduler.new.board_registers.wsr ≡ true }
     ensures refused { RefusesFreely result scheduler.old scheduler.new steps.old steps.new }
-    ensures costs { CostsAtMost (word_calls sfr) steps.old steps.new (moves_of X.moved scheduler.old) (moves_of X.moved scheduler.new) }
+    ensures costs { CostsAtMost (word_write_calls sfr) steps.old steps.new (moves_of X.moved scheduler.old) (moves_of X.moved scheduler.new) }
 {
     match writable_word(window, sfr) {
         Some(register) => write_one(scheduler, now, register, value, steps),
@@ -331,7 +331,7 @@ pub fn write16<X: Extra, L: Ledger>(
     ensures scheduled { IsScheduled X.further X.agrees (standing X.plain scheduler.new) now }
     ensures profile { in_profile scheduler.new.board_registers.wsr ≡ true }
     ensures refused { RefusesFreely result scheduler.old scheduler.new steps.old steps.new }
-    ensures costs { CostsAtMost (word_calls sfr) steps.old steps.new (moves_of X.moved scheduler.old) (moves_of X.moved scheduler.new) }
+    ensures costs { CostsAtMost (word_write_calls sfr) steps.old steps.new (moves_of X.moved scheduler.old) (moves_of X.moved scheduler.new) }
 {
     if sfr % 2 == 1 {
         return Err(Kind::OddWord);

@@ -20,7 +20,7 @@ use Rattle.kc_block_spec.specs.Tick.{passes, edges_at, fired_at, control_at, tim
 use Rattle.kc_block_spec.specs.Touch.{in_state, one_if, timer2_touched, hso_touched, hsi_touched, further_touched, touched}
 use Rattle.kc_block_lazy.specs.Scheduler.{Scheduler, further_goes, shown_units, IsFurther, IsScheduled}
 use Rattle.kc_block_lazy.specs.Events.{has_timer2_edge, has_hsi_edge, flag_touched, moved_deferred, ticked_scheduler}
-use Rattle.kc_block_lazy.proofs.Bringing.{view_then, hso_seen}
+use Rattle.kc_block_lazy.proofs.CatchingUp.{view_then, hso_seen}
 use Rattle.kc_block_lazy.proofs.Known.{touches_are_known, untouched_are_silent}
 
 -- a choice of two that are the same where the second is taken

@@ -4,7 +4,7 @@ ghost use Rattle.kc_block_spec.specs.Control.{timer2_inputs as inputs_of, hsi_en
 ghost use Rattle.kc_block_lazy.specs.Events.{has_timer2_edge as timer2_edge_in, has_hsi_edge as hsi_edge_in};
 
 use crate::commands::resets;
-use kc_base::weight;
+use kc_base::{Pin, weight};
 use kc_block_inputs::{has_pin, hsi_bits};
 use kc_block_spec::BoardRegisters;
 use kc_hsi::PinEdges;
@@ -23,9 +23,9 @@ pub(crate) struct Inputs {
 pub(crate) fn has_timer2_edge(edges: u64) -> bool
     ensures { result ≡ timer2_edge_in edges }
 {
-    let hsi = has_pin(edges, 18) | has_pin(edges, 19);
-    let clocks = has_pin(edges, 22) | has_pin(edges, 23);
-    let others = has_pin(edges, 26) | has_pin(edges, 27);
+    let hsi = has_pin(edges, Pin::HSI0.0) | has_pin(edges, Pin::HSI1.0);
+    let clocks = has_pin(edges, Pin::T2CLK.0) | has_pin(edges, Pin::T2RST.0);
+    let others = has_pin(edges, Pin::T2UD.0) | has_pin(edges, Pin::T2CAP.0);
     hsi | (clocks | others)
 }
 
@@ -33,8 +33,8 @@ pub(crate) fn has_timer2_edge(edges: u64) -> bool
 pub(crate) fn has_hsi_edge(edges: u64) -> bool
     ensures { result ≡ hsi_edge_in edges }
 {
-    let low = has_pin(edges, 18) | has_pin(edges, 19);
-    low | (has_pin(edges, 20) | has_pin(edges, 21))
+    let low = has_pin(edges, Pin::HSI0.0) | has_pin(edges, Pin::HSI1.0);
+    low | (has_pin(edges, Pin::HSI2.0) | has_pin(edges, Pin::HSI3.0))
 }
 
 /// What reaches Timer 2: an edge of the chosen clock pin, a rise of the chosen and enabled reset pin or a fired channel 14, a
@@ -42,12 +42,16 @@ pub(crate) fn has_hsi_edge(edges: u64) -> bool
 pub(crate) fn timer2_inputs(control: T2Control, inputs: Inputs, fired: Option<u8>) -> T2Inputs
     ensures { result ≡ inputs_of control inputs.edges inputs.rise fired }
 {
-    let clock = if control.hsi1 { 19 } else { 22 };
-    let reset = if control.reset_hsi0 { 18 } else { 23 };
+    let clock = if control.hsi1 { Pin::HSI1 } else { Pin::T2CLK };
+    let reset = if control.reset_hsi0 {
+        Pin::HSI0
+    } else {
+        Pin::T2RST
+    };
     T2Inputs {
-        clock: has_pin(inputs.edges, clock),
-        reset: control.reset_on && has_pin(inputs.rise, reset) || resets(fired),
-        capture: has_pin(inputs.rise, 27),
+        clock: has_pin(inputs.edges, clock.0),
+        reset: control.reset_on && has_pin(inputs.rise, reset.0) || resets(fired),
+        capture: has_pin(inputs.rise, Pin::T2CAP.0),
     }
 }
 

@@ -4,7 +4,7 @@ ghost use Rattle.kc_block_spec.specs.Tick.{passes as passes_in, pin_requests, ti
 ghost use Rattle.kc_block_spec.specs.Fired.{fired_request};
 
 use crate::commands::request_bits;
-use kc_base::{IntSet, StateTime};
+use kc_base::{IntSet, Pin, StateTime};
 use kc_block_inputs::has_pin;
 use kc_block_spec::BoardRegisters;
 use kc_hsi::HsiOut;
@@ -29,14 +29,14 @@ fn by_pins(board_registers: &BoardRegisters, rise: u64) -> u16
     ensures { result ≡ pin_requests board_registers.now rise }
 {
     let chosen = if has_pin(u64::from(board_registers.ioc1), 1) {
-        35
+        Pin::P07
     } else {
-        24
+        Pin::EXTINT
     };
-    request(4, has_pin(rise, 18))
-        | request(7, has_pin(rise, chosen))
-        | request(13, has_pin(rise, 24))
-        | request(15, has_pin(rise, 25))
+    request(4, has_pin(rise, Pin::HSI0.0))
+        | request(7, has_pin(rise, chosen.0))
+        | request(13, has_pin(rise, Pin::EXTINT.0))
+        | request(15, has_pin(rise, Pin::NMI.0))
 }
 
 fn by_timers(board_registers: &BoardRegisters, passed: bool, counted: T2Out) -> u16

@@ -1,16 +1,16 @@
 -- Masks of inputs, pin by pin.
 use Rattle.std.proofs.Common.{◌≡◌, ℕ, zero, suc, ◌+◌, ◌-◌, ◌^◌, ◌<◌, ◌≤◌, ◌==◌, Bool, true, false, ◌&&◌, refl, sym, ◌∙◌, ap, arith, Option, Some, None, inl, inr, min, max, add-zero, add-suc, add-one, List, [], ◌∷◌, length}
-use Rattle.std.specs.Prelude.{nat_lt, is_some, is_none, bit_and, bit_or}
+use Rattle.std.specs.Prelude.{not, is_some, is_none, bit_and, bit_or}
 use Rattle.std.specs.Int.{bit_at, bit_not}
 use Rattle.std.proofs.Common.{w64}
 use Rattle.std.proofs.lemmas.Nat.Bits.{bit_at_or, bit_at_and, bit_at_not, same_from_bits}
-use Rattle.std.proofs.lemmas.Bool.{false≢true, and_left, and_right, or_from, cases_lt, false_from_ne_true, lt-leb, lt-ltb, le-ltb}
+use Rattle.std.proofs.lemmas.Bool.{not-true, false≢true, cases_lt}
 use lib.Bits.{or_zero_r}
 use Rattle.kc_base.specs.Bits.{weight}
 use Rattle.kc_base.specs.Levels.{is_high}
-use Rattle.kc_base.specs.Pins.{pin_count}
+use Rattle.kc_base.specs.Pins.{pin_count, pin_facts, is_input, may_be_wired, hsi0, extint}
+use Rattle.kc_base.proofs.PinLemmas.{each_below, no_facts}
 use Rattle.kc_stim.specs.Drives.{Drives, level_before, wire_to}
-use Rattle.kc_stim.specs.Fields.{is_input, is_wire_input}
 use Rattle.kc_stim.specs.Proper.{AreProper, is_driven}
 use Rattle.kc_stim.proofs.Proper.{wires_lead_from_outputs}
 use Rattle.kc_block_spec.specs.Levels.{mask_of, follows, stimulated_before, wired}
@@ -35,32 +35,35 @@ mask_rest test n (suc k) none =
     (mask_rest test n k (λ i le lt. none i le (omega arith)))
 
 -- an input that may not be wired has no wire
-pub no_wire : (d : Drives) (pin : ℕ) → AreProper d → is_wire_input pin ≡ false → wire_to d.wires pin ≡ None
+pub no_wire : (d : Drives) (pin : ℕ) → AreProper d → may_be_wired pin ≡ false → wire_to d.wires pin ≡ None
 no_wire d pin proper other = by (wire_to d.wires pin) refl
   where
     by : (o : Option ℕ) → wire_to d.wires pin ≡ o → wire_to d.wires pin ≡ None
     by None e = e
     by (Some output) e = absurd (false≢true (sym other ∙ (wires_lead_from_outputs d pin output proper e).to))
 
-low_pin : (pin : ℕ) → pin < 18 → is_wire_input pin ≡ false
-low_pin pin lt = or_from _ _ (and_left _ _ (lt-leb 18 pin lt)) (ne pin lt)
-  where
-    ne : (p : ℕ) → p < 18 → (p == 24) ≡ false
-    ne p below = false_from_ne_true _ (λ e. absurd (grind arith))
+-- HSI0 is the first that may be wired, EXTINT the last
+low_pin : (pin : ℕ) → pin < hsi0 → may_be_wired pin ≡ false
+unfolding pin_facts
+low_pin pin lt = not-true (may_be_wired pin) (each_below (λ n. not (may_be_wired n)) hsi0 pin refl lt)
 
-high_pin : (pin : ℕ) → 25 ≤ pin → is_wire_input pin ≡ false
-high_pin pin le = or_from _ _ (and_right _ _ (lt-leb pin 22 (omega arith))) (ne pin le)
-  where
-    ne : (p : ℕ) → 25 ≤ p → (p == 24) ≡ false
-    ne p above = false_from_ne_true _ (λ e. absurd (grind arith))
+high_pin : (pin : ℕ) → extint + 1 ≤ pin → may_be_wired pin ≡ false
+unfolding pin_facts
+high_pin pin le = elim (cases_lt pin pin_count) [
+  | inl less ↦
+      let same : extint + 1 + (pin - (extint + 1)) ≡ pin = omega (arith, le) in
+      let none = each_below (λ k. not (may_be_wired (extint + 1 + k))) (pin_count - (extint + 1)) (pin - (extint + 1)) refl (omega (arith, le, less)) in
+      sym (ap may_be_wired same) ∙ not-true (may_be_wired (extint + 1 + (pin - (extint + 1)))) none
+  | inr past ↦ ap (λ facts. facts.wirable) (no_facts pin past)
+]
 
 -- a test of wires, below the inputs that may be wired and from there on
 module _ (d : Drives) (proper : AreProper d) (q : Option ℕ → Bool) (none : q None ≡ false) where
-  pub wires_below : mask_of (λ pin. q (wire_to d.wires pin)) 18 ≡ 0
-  wires_below = mask_rest (λ pin. q (wire_to d.wires pin)) 0 18 (λ i le lt. ap q (no_wire d i proper (low_pin i lt)) ∙ none) ∙ mask_start (λ pin. q (wire_to d.wires pin))
+  pub wires_below : mask_of (λ pin. q (wire_to d.wires pin)) hsi0 ≡ 0
+  wires_below = mask_rest (λ pin. q (wire_to d.wires pin)) 0 hsi0 (λ i le lt. ap q (no_wire d i proper (low_pin i lt)) ∙ none) ∙ mask_start (λ pin. q (wire_to d.wires pin))
 
-  pub wires_above : mask_of (λ pin. q (wire_to d.wires pin)) pin_count ≡ mask_of (λ pin. q (wire_to d.wires pin)) 25
-  wires_above = mask_rest (λ pin. q (wire_to d.wires pin)) 25 16 (λ i le lt. ap q (no_wire d i proper (high_pin i le)) ∙ none)
+  pub wires_above : mask_of (λ pin. q (wire_to d.wires pin)) pin_count ≡ mask_of (λ pin. q (wire_to d.wires pin)) (extint + 1)
+  wires_above = mask_rest (λ pin. q (wire_to d.wires pin)) (extint + 1) (pin_count - (extint + 1)) (λ i le lt. ap q (no_wire d i proper (high_pin i le)) ∙ none)
 
 not-none : (n : ℕ) → (suc n == 0) ≡ false
 not-none n = grind arith

@@ -1,5 +1,5 @@
 -- Edges that are handed out one after the other.
-use Rattle.std.proofs.Common.{◌≡◌, ℕ, ◌+◌, ◌-◌, ◌*◌, ◌/◌, ◌%◌, ◌^◌, ◌<◌, ◌≤◌, zero, suc, ◌==◌, inl, inr, false, List, [], ◌∷◌, ◌++◌, length, take, get_or, refl, subst, sym, ◌∙◌, ap, add-one, arith}
+use Rattle.std.proofs.Common.{◌≡◌, ℕ, ◌+◌, ◌*◌, ◌/◌, ◌%◌, ◌^◌, ◌<◌, ◌≤◌, zero, suc, ◌==◌, inl, inr, false, List, [], ◌∷◌, ◌++◌, length, take, get_or, refl, subst, sym, ◌∙◌, ap, add-one, arith}
 use Rattle.std.specs.Int.Bits.{bit_xor}
 use Rattle.std.proofs.lemmas.Nat.Bits.{bit_at_above}
 use Rattle.std.proofs.lemmas.Nat.{div-add-mod', pow_pos}

@@ -3,16 +3,15 @@ use Rattle.std.proofs.Common.{◌≡◌, ℕ, ◌<◌, ◌==◌, Bool, true, fal
 use Rattle.std.specs.Prelude.{is_none}
 use Rattle.kc_base.specs.Bits.{bit, weight}
 use Rattle.kc_base.specs.Levels.{is_high}
-use Rattle.kc_base.specs.Pins.{pin_count}
+use Rattle.kc_base.specs.Pins.{pin_count, pin_facts, is_input, may_be_wired, rxd}
 use Rattle.kc_stim.specs.Drives.{Drives, start_of}
-use Rattle.kc_stim.specs.Fields.{is_input, is_wire_input}
 use Rattle.kc_stim.specs.Proper.{AreProper, is_driven}
 use Rattle.kc_block_spec.specs.Levels.{stimulated_before}
 use Rattle.kc_block_spec.proofs.Masks.{mask_bit}
 use Rattle.kc_block_inputs.proofs.InputMasks.{no_wire}
 
 -- an input that may not be wired has its level of the start
-pub unwired_start : (d : Drives) (pin : ℕ) → AreProper d → pin < pin_count → is_input pin ≡ true → is_wire_input pin ≡ false →
+pub unwired_start : (d : Drives) (pin : ℕ) → AreProper d → pin < pin_count → is_input pin ≡ true → may_be_wired pin ≡ false →
     bit (stimulated_before d 0) pin ≡ is_high (start_of d.stimuli.start pin)
 unwired_start d pin proper lt input other =
     let driven : is_driven d pin ≡ true =
@@ -24,6 +23,7 @@ unwired_start d pin proper lt input other =
     weighed true = refl
     weighed false = refl
 
-pub rxd_starts_high : (d : Drives) → AreProper d → d.stimuli.start ≡ [] → bit (stimulated_before d 0) 37 ≡ true
+pub rxd_starts_high : (d : Drives) → AreProper d → d.stimuli.start ≡ [] → bit (stimulated_before d 0) rxd ≡ true
+unfolding pin_facts
 rxd_starts_high d proper first =
-    unwired_start d 37 proper (omega arith) refl refl ∙ ap (λ known. is_high (start_of known 37)) first
+    unwired_start d rxd proper (omega arith) refl refl ∙ ap (λ known. is_high (start_of known rxd)) first

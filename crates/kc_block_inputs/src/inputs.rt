@@ -10,10 +10,10 @@ use crate::masks::with_pin;
 use kc_base::{PIN_COUNT, Pin, StateTime, bit};
 use kc_stim::{Stimuli, is_input};
 
-/// The first input that may be wired, HSI0, and the one after the last, EXTINT.
-const FIRST_WIRED: u8 = 18;
+/// The first input that may be wired, and the one after the last.
+const FIRST_WIRED: u8 = Pin::HSI0.0;
 
-const AFTER_WIRED: u8 = 25;
+const AFTER_WIRED: u8 = Pin::EXTINT.0 + 1;
 
 /// Whether stimuli drive an input: it has no wire.
 fn is_driven(stimuli: &Stimuli, pin: u8) -> bool

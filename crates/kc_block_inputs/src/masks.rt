@@ -3,7 +3,7 @@ ghost use Rattle.std.specs.Prelude.{◌≡◌, ◌<◌, ◌^◌, bit_or};
 ghost use Rattle.kc_base.specs.Bits.{bit, weight};
 ghost use Rattle.kc_block_spec.specs.Control.{hsi_bits as hsi_bits_of};
 
-use kc_base::weight;
+use kc_base::{Pin, weight};
 
 /// Whether a mask has a pin.
 pub fn has_pin(mask: u64, pin: u8) -> bool
@@ -17,10 +17,10 @@ pub fn has_pin(mask: u64, pin: u8) -> bool
 pub fn hsi_bits(pins: u64) -> u8
     ensures { result ≡ hsi_bits_of pins }
 {
-    weight(has_pin(pins, 18), 1)
-        + weight(has_pin(pins, 19), 2)
-        + weight(has_pin(pins, 20), 4)
-        + weight(has_pin(pins, 21), 8)
+    weight(has_pin(pins, Pin::HSI0.0), 1)
+        + weight(has_pin(pins, Pin::HSI1.0), 2)
+        + weight(has_pin(pins, Pin::HSI2.0), 4)
+        + weight(has_pin(pins, Pin::HSI3.0), 8)
 }
 
 /// A mask with a pin where it is high.

@@ -3,13 +3,13 @@
 #![tactic(auto)]
 
 mod asking;
-mod bringing;
+mod catching_up;
 mod scheduler;
 mod seeing;
 mod slots;
 mod starting;
 
-pub use bringing::has_overflowed;
+pub use catching_up::has_overflowed;
 pub use scheduler::{DeferredUnit, Scheduler};
 pub use seeing::control;
 pub use slots::is_due;

@@ -14,7 +14,7 @@ ghost use Rattle.kc_block_lanes.specs.Next.{IsDueOrLast};
 
 use crate::scheduler::Scheduler;
 use crate::slots::is_due;
-use kc_base::StateTime;
+use kc_base::{Pin, StateTime};
 use kc_block_inputs::{has_pin, outputs, stimulated, unwired, wired};
 use kc_block_spec::BoardRegisters;
 use kc_extra::Extra;
@@ -30,7 +30,7 @@ pub fn control(board_registers: &BoardRegisters, levels: u64) -> T2Control
         hsi1: has_pin(ioc0, 7),
         internal: has_pin(u64::from(board_registers.ioc3), 0),
         fast: has_pin(ioc2, 0),
-        down: has_pin(ioc2, 1) && has_pin(levels, 26),
+        down: has_pin(ioc2, 1) && has_pin(levels, Pin::T2UD.0),
         reset_on: has_pin(ioc0, 3),
         reset_hsi0: has_pin(ioc0, 5),
     }

@@ -3,6 +3,7 @@ use Rattle.std.proofs.Common.{◌≡◌, ℕ, ◌-◌, ◌==◌, Bool, true, fal
 use Rattle.std.proofs.lemmas.Nat.{xor_comm}
 use Rattle.std.proofs.lemmas.Bool.{or_parts, and_parts, eqb-true, not-false, false≢true}
 use lib.Bits.{or_zero_r, xor_self}
+use Rattle.kc_base.specs.Pins.{hsi0, hsi1, hsi2, hsi3, t2clk, t2rst, t2ud, t2cap}
 use Rattle.kc_base.specs.Bits.{bit}
 use Rattle.kc_span.specs.Span.{Rule}
 use Rattle.kc_timers.specs.T2 as t2
@@ -35,26 +36,26 @@ module _ {X : Type 0} (t : ℕ) (u : Units X) where
       (timer2_out_at t u).overflow ≡ t2.overflows (control_of u.board_registers u.board_registers.levels) t2.no_inputs t u.timer2
   same_overflow none no_reset =
       let e = edges_at t u in
-      let pins = or_parts (bit e 18 || bit e 19) ((bit e 22 || bit e 23) || (bit e 26 || bit e 27)) none in
-      let hsis = or_parts (bit e 18) (bit e 19) pins.0 in
-      let others = or_parts (bit e 22 || bit e 23) (bit e 26 || bit e 27) pins.1 in
-      let clocks = or_parts (bit e 22) (bit e 23) others.0 in
-      let ups = or_parts (bit e 26) (bit e 27) others.1 in
+      let pins = or_parts (bit e hsi0 || bit e hsi1) ((bit e t2clk || bit e t2rst) || (bit e t2ud || bit e t2cap)) none in
+      let hsis = or_parts (bit e hsi0) (bit e hsi1) pins.0 in
+      let others = or_parts (bit e t2clk || bit e t2rst) (bit e t2ud || bit e t2cap) pins.1 in
+      let clocks = or_parts (bit e t2clk) (bit e t2rst) others.0 in
+      let ups = or_parts (bit e t2ud) (bit e t2cap) others.1 in
       let control : control_at t u ≡ control_of u.board_registers u.board_registers.levels =
-      same_control u.board_registers (levels_at t u) u.board_registers.levels (same_bit (levels_at t u) u.board_registers.levels 26 ups.0) in
+      same_control u.board_registers (levels_at t u) u.board_registers.levels (same_bit (levels_at t u) u.board_registers.levels t2ud ups.0) in
       let inputs : timer2_inputs_at t u ≡ t2.no_inputs =
       inputs_off (control_at t u) e (rises_at t u) (fired_at t u) hsis.1 clocks.0
-      (no_bit e (levels_at t u) 18 hsis.0) (no_bit e (levels_at t u) 23 clocks.1) (no_bit e (levels_at t u) 27 ups.1) no_reset in
+      (no_bit e (levels_at t u) hsi0 hsis.0) (no_bit e (levels_at t u) t2rst clocks.1) (no_bit e (levels_at t u) t2cap ups.1) no_reset in
       ap (λ i. t2.overflows (control_at t u) i t u.timer2) inputs ∙ ap (λ c. t2.overflows c t2.no_inputs t u.timer2) control
 
   same_push : has_hsi_edge (edges_at t u) ≡ false → hsi.is_push t (hsi.gathered_with (hsi_edges_at t u) u.hsi) ≡ hsi.is_push t u.hsi.gathered
   same_push none =
       let e = edges_at t u in
-      let pins = or_parts (bit e 18 || bit e 19) (bit e 20 || bit e 21) none in
-      let low = or_parts (bit e 18) (bit e 19) pins.0 in
-      let high = or_parts (bit e 20) (bit e 21) pins.1 in
+      let pins = or_parts (bit e hsi0 || bit e hsi1) (bit e hsi2 || bit e hsi3) none in
+      let low = or_parts (bit e hsi0) (bit e hsi1) pins.0 in
+      let high = or_parts (bit e hsi2) (bit e hsi3) pins.1 in
       let masks : (m : ℕ) → hsi_bits (bit_and e m) ≡ 0 =
-      λ m. bits_off (bit_and e m) (no_bit e m 18 low.0) (no_bit e m 19 low.1) (no_bit e m 20 high.0) (no_bit e m 21 high.1) in
+      λ m. bits_off (bit_and e m) (no_bit e m hsi0 low.0) (no_bit e m hsi1 low.1) (no_bit e m hsi2 high.0) (no_bit e m hsi3 high.1) in
       let edges : hsi_edges_at t u ≡ no_edges_with (hsi_enabled u.board_registers.ioc0) =
       λ i. record { rising = masks (levels_at t u) i; falling = masks u.board_registers.levels i; enabled = hsi_enabled u.board_registers.ioc0 } in
       ap (λ x. hsi.is_push t (hsi.gathered_with x u.hsi)) edges
@@ -165,10 +166,10 @@ untouched_are_silent f now u =
       timer2 = λ off.
           let parts = or_parts (has_timer2_edge e) ((timer2_out_at now u).overflow || resets (fired_at now u)) off in
           let own = or_parts (timer2_out_at now u).overflow (resets (fired_at now u)) parts.1 in
-          let pins = or_parts (bit e 18 || bit e 19) ((bit e 22 || bit e 23) || (bit e 26 || bit e 27)) parts.0 in
-          let others = or_parts (bit e 22 || bit e 23) (bit e 26 || bit e 27) pins.1 in
-          let ups = or_parts (bit e 26) (bit e 27) others.1 in
-          λ i. record { overflow = own.0 i; captured = no_bit e (levels_at now u) 27 ups.1 i };
+          let pins = or_parts (bit e hsi0 || bit e hsi1) ((bit e t2clk || bit e t2rst) || (bit e t2ud || bit e t2cap)) parts.0 in
+          let others = or_parts (bit e t2clk || bit e t2rst) (bit e t2ud || bit e t2cap) pins.1 in
+          let ups = or_parts (bit e t2ud) (bit e t2cap) others.1 in
+          λ i. record { overflow = own.0 i; captured = no_bit e (levels_at now u) t2cap ups.1 i };
       hso = λ off. no_fire now u (quiet off);
       printed = λ off.
           ap (λ latches. edges_between (printed u.board_registers u.hso) (printed u.board_registers (record u.hso { latches = latches })))

@@ -1,16 +1,16 @@
 -- The levels of the inputs while no slot comes.
-use Rattle.std.proofs.Common.{◌≢◌, max, true, inl, inr, ◌≡◌, ℕ, zero, suc, ◌+◌, ◌-◌, ◌<◌, ◌≤◌, ◌==◌, Bool, false, ◌&&◌, ◌||◌, refl, sym, ◌∙◌, ap, arith, Option, Some, None, add-zero, add-suc}
-use Rattle.std.specs.Prelude.{nat_le, is_none, bit_or}
+use Rattle.std.proofs.Common.{◌≢◌, max, true, inl, inr, ◌≡◌, ℕ, zero, suc, ◌+◌, ◌-◌, ◌<◌, ◌≤◌, ◌==◌, Bool, false, ◌&&◌, refl, sym, ◌∙◌, ap, arith, Option, Some, None, add-zero, add-suc}
+use Rattle.std.specs.Prelude.{is_none, bit_or}
 use Rattle.std.specs.Int.{bit_at}
 use Rattle.std.proofs.lemmas.Nat.Bits.{bit_at_or}
-use Rattle.std.proofs.lemmas.Bool.{ne_eqb, false≢true, and_parts, or_cases, cases_Bool, leb-true, eqb-true}
+use Rattle.std.proofs.lemmas.Bool.{ne_eqb, false≢true, and_parts, cases_Bool}
 use Rattle.kc_base.specs.Bits.{weight}
 use Rattle.kc_base.specs.Levels.{is_high}
 use Rattle.kc_stim.specs.Drives.{Drives, Stimulation, level_at, level_before, wire_to, IsStill, IsNextEdge}
 use Rattle.kc_stim.specs.Proper.{is_driven, AreProper}
-use Rattle.kc_stim.specs.Fields.{is_input}
 use Rattle.kc_stim.proofs.Proper.{edges_are_of_driven_inputs}
-use Rattle.kc_base.specs.Pins.{pin_count}
+use Rattle.kc_base.specs.Pins.{pin_count, is_input}
+use Rattle.kc_base.proofs.PinLemmas.{input_is_pin}
 use Rattle.kc_base.specs.declared.types.Level.{Level}
 use Rattle.kc_base.specs.declared.types.Level.TheVariants.{Low, High}
 use Rattle.kc_block_spec.specs.Levels.{mask_of, follows, stimulated, stimulated_before, wired}
@@ -65,15 +65,6 @@ driven_parts drives pin outs driven = by (wire_to drives.wires pin) (and_parts (
     by None none = refl
     by (Some n) none = absurd (false≢true none)
 
-input_below : (pin : ℕ) → is_input pin ≡ true → pin < pin_count
-input_below pin is = elim (or_cases (nat_le 6 pin && nat_le pin 13) ((nat_le 18 pin && nat_le pin 35) || (pin == 37)) is) [
-  | inl port ↦ let le : pin ≤ 13 = leb-true pin 13 (and_parts (nat_le 6 pin) (nat_le pin 13) port).1 in omega arith
-  | inr more ↦ elim (or_cases (nat_le 18 pin && nat_le pin 35) (pin == 37) more) [
-    | inl other ↦ let le : pin ≤ 35 = leb-true pin 35 (and_parts (nat_le 18 pin) (nat_le pin 35) other).1 in omega arith
-    | inr serial ↦ let same : pin ≡ 37 = eqb-true pin 37 serial in omega arith
-  ]
-]
-
 weights : (a b : Bool) → weight a 1 ≡ weight b 1 → a ≡ b
 weights true true e = refl
 weights true false e = absurd (omega arith)
@@ -116,5 +107,5 @@ pub edge_changes : (drives : Drives) (t a b pin : ℕ) → AreProper drives → 
     bit_or (stimulated drives t) (wired drives a) ≡ bit_or (stimulated_before drives t) (wired drives b) → ⊥
 edge_changes drives t a b pin proper edge same =
     let driven : is_driven drives pin ≡ true = edges_are_of_driven_inputs drives pin t proper edge in
-    let below : pin < pin_count = input_below pin (and_parts (is_input pin) (is_none (wire_to drives.wires pin)) driven).0 in
+    let below : pin < pin_count = input_is_pin pin (and_parts (is_input pin) (is_none (wire_to drives.wires pin)) driven).0 in
     edge (high_same _ _ (same_driven drives (λ n. is_high (level_at drives.stimuli n t)) (λ n. is_high (level_before drives.stimuli n t)) a b same pin below driven))

@@ -2,6 +2,6 @@ pub mod Levels
 pub mod Spans
 pub mod Rows
 pub mod Due
-pub mod Bringing
+pub mod CatchingUp
 pub mod Known
 pub mod Joins

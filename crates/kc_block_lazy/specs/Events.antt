@@ -2,6 +2,7 @@
 -- (this kit's own).
 use Rattle.std.specs.Prelude.{◌≡◌, ℕ, ◌+◌, ◌<◌, ◌≤◌, ◌==◌, Bool, true, false, not, ◌&&◌, ◌||◌, if◌then◌else◌, Option, None, []}
 use Rattle.kc_base.specs.Bits.{bit}
+use Rattle.kc_base.specs.Pins.{hsi0, hsi1, hsi2, hsi3, t2clk, t2rst, t2ud, t2cap}
 use Rattle.kc_span.specs.Span.{Rule, IsDue}
 use Rattle.kc_due.specs.Due.{at_slot}
 use Rattle.kc_stim.specs.Drives.{IsNextEdge}
@@ -18,11 +19,11 @@ use Rattle.kc_block_lazy.specs.Rows.{ticked}
 
 -- an edge of HSI0, HSI1, T2CLK, T2RST, T2UD or T2CAP
 abbrev pub has_timer2_edge : ℕ → Bool
-has_timer2_edge e = (bit e 18 || bit e 19) || ((bit e 22 || bit e 23) || (bit e 26 || bit e 27))
+has_timer2_edge e = (bit e hsi0 || bit e hsi1) || ((bit e t2clk || bit e t2rst) || (bit e t2ud || bit e t2cap))
 
 -- an edge of HSI0 to HSI3
 abbrev pub has_hsi_edge : ℕ → Bool
-has_hsi_edge e = (bit e 18 || bit e 19) || (bit e 20 || bit e 21)
+has_hsi_edge e = (bit e hsi0 || bit e hsi1) || (bit e hsi2 || bit e hsi3)
 
 -- Timer 1 raises its request
 abbrev pub flag_touched : {X : Type 0} → Scheduler X → ℕ → Bool

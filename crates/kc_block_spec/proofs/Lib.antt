@@ -3,6 +3,7 @@ pub mod Rests
 pub mod Rows
 pub mod Masks
 pub mod Counts
+pub mod Searches
 pub mod Tables
 pub mod Named
 pub mod Looks

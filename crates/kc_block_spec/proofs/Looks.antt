@@ -14,7 +14,7 @@ use Rattle.kc_base.specs.declared.types.Kind.{Kind}
 use Rattle.kc_base.specs.declared.types.Kind.TheVariants.{OddWord, NoRegister, ByteAccess}
 use Rattle.kc_stim.specs.Drives.{wire_to, level_before}
 use Rattle.kc_stim.specs.Proper.{is_driven}
-use Rattle.kc_stim.specs.Fields.{is_input}
+use Rattle.kc_base.specs.Pins.{is_input}
 use Rattle.kc_block_spec.specs.declared.registers.ReadableByte.{ReadableByte}
 use Rattle.kc_block_spec.specs.declared.registers.ReadableWord.{ReadableWord}
 use Rattle.kc_block_spec.specs.Levels.{mask_of, follows, stimulated, stimulated_before}

@@ -1,9 +1,8 @@
 -- Proofs of what the register tables come to.
-use Rattle.std.proofs.Common.{◌≡◌, ℕ, ◌+◌, ◌*◌, ◌/◌, ◌%◌, ◌==◌, Bool, true, false, ◌&&◌, refl, sym, ◌∙◌, ap, subst, arith, Option, Some, None, Result, Ok, Err, []}
-use Rattle.std.specs.Prelude.{is_some, IfOk, if◌then◌else◌}
-use Rattle.std.specs.List.{All, AllByRecursion}
-use Rattle.std.proofs.lemmas.Bool.{false≢true, false_from_ne_true}
-use Rattle.std.proofs.lemmas.List.Elements.{All-from_recursion}
+use Rattle.std.proofs.Common.{◌≡◌, ℕ, ◌+◌, ◌*◌, ◌/◌, ◌%◌, ◌==◌, Bool, true, false, ◌&&◌, ◌||◌, refl, sym, ◌∙◌, ap, subst, arith, Option, Some, None, Result, Ok, Err, []}
+use Rattle.std.specs.Prelude.{is_some, not, IfOk, if◌then◌else◌}
+use Rattle.std.specs.List.{All, list_all}
+use Rattle.std.proofs.lemmas.Bool.{false≢true, eqb-true}
 use Rattle.kc_base.specs.Bits.{bit}
 use Rattle.kc_base.specs.declared.types.Kind.{Kind}
 use Rattle.kc_base.specs.declared.types.Kind.TheVariants.{OddWord, NoRegister, ByteAccess, FastTimer2, BadWindow}
@@ -23,71 +22,78 @@ use Rattle.kc_block_spec.specs.declared.registers.WritableWord.{WritableWord}
 use Rattle.kc_block_spec.specs.declared.registers.WritableWord.TheVariants as writes_word
 use Rattle.kc_block_spec.specs.Units.{Units}
 use Rattle.kc_block_spec.specs.Levels.{printed, edges_between}
-use Rattle.kc_block_spec.specs.Registers.{window_number, bytes_read, bytes_written, words_read, words_written, row_at, is_half}
+use Rattle.kc_block_spec.specs.Registers.{registers, window_number, bytes_read, bytes_written, words_read, words_written, row_at, is_half}
 use Rattle.kc_block_spec.specs.Reading.{byte_value, word_value, after_byte, after_word}
 use Rattle.kc_block_spec.specs.Writing.{with_byte, with_word, loaded_unless}
 use Rattle.kc_block_spec.specs.Accesses.{◌>>=◌, or_no_register, latch_edges, other_read, other_written, byte_read, after_byte_read, byte_read_as, after_byte_read_as, byte_written_as, byte_written, word_read, even_word_read, after_word_read, after_even_word_read, after_word_read_as, word_read_as, word_written, even_word_written, word_written_as}
-use Rattle.kc_block_spec.specs.RegisterLaws.{AnswersWhereReadable, Names, NamedRegistersAnswer, UnnamedReads, UnnamedWrites, refusal, first_refusal, OddWordsAreRefused, BothBytesReadAreAsked, BothBytesWrittenAreAsked, AreReadAlike, IsMildRead, ReadsAreMild, WritesKeepProfile, moves_pins, OtherWritesMoveNoPin}
+use Rattle.kc_block_spec.specs.RegisterLaws.{AnswersWhereReadable, Names, NamedRegistersAnswer, UnnamedReads, UnnamedWrites, refusal, first_refusal, OddWordsAreRefused, BothBytesReadAreAsked, BothBytesWrittenAreAsked, AreReadAlike, IsMildRead, ReadsAreMild, WritesKeepProfile, shows_pins, moves_pins, OtherWritesMoveNoPin}
 use Rattle.kc_block_spec.proofs.Quiet.{edges_none}
-use Rattle.kc_block_spec.proofs.Tables.{none_row, row_law, AreEven, half_found, half_none}
+use Rattle.kc_block_spec.proofs.Tables.{none_row, row_law, AreEven, half_found, half_none, stand_apart, each_found, all_when, all_even}
 
--- each row answers at its address, by computing
-module _ {X : Type 0} (f : Further X) (t : ℕ) (u : Units X) where
-  by_reads : (w : Window) → AllByRecursion (λ row. byte_read f t w u row.0 ≡ Ok (byte_value u row.1)) (bytes_read w)
-  by_reads Window0 = (refl, (refl, (refl, (refl, (refl, (refl, (refl, (refl, (refl, (refl, (refl, (refl, (refl, (refl, tt))))))))))))))
-  by_reads Window1 = (refl, (refl, (refl, (refl, (refl, (refl, (refl, (refl, tt))))))))
-  by_reads Window15 = (refl, (refl, (refl, (refl, (refl, (refl, (refl, tt)))))))
-
-  by_after_reads : (w : Window) → AllByRecursion (λ row. after_byte_read f t w u row.0 ≡ after_byte u row.1) (bytes_read w)
-  by_after_reads Window0 = (refl, (refl, (refl, (refl, (refl, (refl, (refl, (refl, (refl, (refl, (refl, (refl, (refl, (refl, tt))))))))))))))
-  by_after_reads Window1 = (refl, (refl, (refl, (refl, (refl, (refl, (refl, (refl, tt))))))))
-  by_after_reads Window15 = (refl, (refl, (refl, (refl, (refl, (refl, (refl, tt)))))))
-
-  by_writes : (w : Window) → AllByRecursion (λ row. (n : ℕ) → byte_written f t w u row.0 n ≡ with_byte u row.1 n) (bytes_written w)
-  by_writes Window0 = (λ n. refl, (λ n. refl, (λ n. refl, (λ n. refl, (λ n. refl, (λ n. refl, (λ n. refl, (λ n. refl, (λ n. refl, (λ n. refl, (λ n. refl, (λ n. refl, (λ n. refl, (λ n. refl, tt))))))))))))))
-  by_writes Window1 = (λ n. refl, (λ n. refl, (λ n. refl, (λ n. refl, (λ n. refl, (λ n. refl, (λ n. refl, (λ n. refl, tt))))))))
-  by_writes Window15 = (λ n. refl, (λ n. refl, (λ n. refl, (λ n. refl, (λ n. refl, (λ n. refl, (λ n. refl, tt)))))))
-
-  by_reads_of_words : (w : Window) → AllByRecursion (λ row. word_read f t w u row.0 ≡ Ok (word_value t u row.1)) (words_read w)
-  by_reads_of_words Window0 = (refl, (refl, (refl, tt)))
-  by_reads_of_words Window1 = (refl, (refl, tt))
-  by_reads_of_words Window15 = (refl, tt)
-
-  by_after_reads_of_words : (w : Window) → AllByRecursion (λ row. after_word_read f t w u row.0 ≡ after_word u row.1) (words_read w)
-  by_after_reads_of_words Window0 = (refl, (refl, (refl, tt)))
-  by_after_reads_of_words Window1 = (refl, (refl, tt))
-  by_after_reads_of_words Window15 = (refl, tt)
-
-  by_writes_of_words : (w : Window) → AllByRecursion (λ row. (n : ℕ) → word_written f t w u row.0 n ≡ with_word u row.1 n) (words_written w)
-  by_writes_of_words Window0 = (λ n. refl, (λ n. refl, tt))
-  by_writes_of_words Window1 = (λ n. refl, (λ n. refl, tt))
-  by_writes_of_words Window15 = tt
-
-pub named_registers_answer : {X : Type 0} → NamedRegistersAnswer X
-named_registers_answer f t w u = record {
-  reads = All-from_recursion (λ row. byte_read f t w u row.0 ≡ Ok (byte_value u row.1)) (bytes_read w) (by_reads f t u w);
-  after_reads = All-from_recursion (λ row. after_byte_read f t w u row.0 ≡ after_byte u row.1) (bytes_read w) (by_after_reads f t u w);
-  writes = All-from_recursion (λ row. (n : ℕ) → byte_written f t w u row.0 n ≡ with_byte u row.1 n) (bytes_written w) (by_writes f t u w);
-  reads_of_words = All-from_recursion (λ row. word_read f t w u row.0 ≡ Ok (word_value t u row.1)) (words_read w) (by_reads_of_words f t u w);
-  after_reads_of_words = All-from_recursion (λ row. after_word_read f t w u row.0 ≡ after_word u row.1) (words_read w) (by_after_reads_of_words f t u w);
-  writes_of_words = All-from_recursion (λ row. (n : ℕ) → word_written f t w u row.0 n ≡ with_word u row.1 n) (words_written w) (by_writes_of_words f t u w);
-}
-
+-- word registers stand at even addresses
 pub even_reads : (w : Window) → AreEven (words_read w)
-even_reads w = All-from_recursion (λ row. row.0 % 2 ≡ 0) (words_read w) (by w)
+unfolding words_read registers
+even_reads w = all_even (words_read w) (by w)
   where
-    by : (w : Window) → AllByRecursion (λ row. row.0 % 2 ≡ 0) (words_read w)
-    by Window0 = (refl, (refl, (refl, tt)))
-    by Window1 = (refl, (refl, tt))
-    by Window15 = (refl, tt)
+    by : (w : Window) → list_all (λ row. row.0 % 2 == 0) (words_read w) ≡ true
+    by Window0 = refl
+    by Window1 = refl
+    by Window15 = refl
 
 pub even_writes : (w : Window) → AreEven (words_written w)
-even_writes w = All-from_recursion (λ row. row.0 % 2 ≡ 0) (words_written w) (by w)
+unfolding words_written registers
+even_writes w = all_even (words_written w) (by w)
   where
-    by : (w : Window) → AllByRecursion (λ row. row.0 % 2 ≡ 0) (words_written w)
-    by Window0 = (refl, (refl, tt))
-    by Window1 = (refl, (refl, tt))
-    by Window15 = tt
+    by : (w : Window) → list_all (λ row. row.0 % 2 == 0) (words_written w) ≡ true
+    by Window0 = refl
+    by Window1 = refl
+    by Window15 = refl
+
+-- no two registers of a window stand at the same address
+apart_bytes_read : (w : Window) → stand_apart (bytes_read w) ≡ true
+unfolding bytes_read registers
+apart_bytes_read Window0 = refl
+apart_bytes_read Window1 = refl
+apart_bytes_read Window15 = refl
+
+apart_bytes_written : (w : Window) → stand_apart (bytes_written w) ≡ true
+unfolding bytes_written registers
+apart_bytes_written Window0 = refl
+apart_bytes_written Window1 = refl
+apart_bytes_written Window15 = refl
+
+apart_words_read : (w : Window) → stand_apart (words_read w) ≡ true
+unfolding words_read registers
+apart_words_read Window0 = refl
+apart_words_read Window1 = refl
+apart_words_read Window15 = refl
+
+apart_words_written : (w : Window) → stand_apart (words_written w) ≡ true
+unfolding words_written registers
+apart_words_written Window0 = refl
+apart_words_written Window1 = refl
+apart_words_written Window15 = refl
+
+-- a word is refused at an odd address, and is what stands there at an even one
+at_odd : {A : Type 0} (addr : ℕ) (x y : A) → addr % 2 ≡ 1 → (if addr % 2 == 1 then x else y) ≡ x
+at_odd addr x y odd = rw odd refl
+
+at_even : {A : Type 0} (addr : ℕ) (x y : A) → addr % 2 ≡ 0 → (if addr % 2 == 1 then x else y) ≡ y
+at_even addr x y even = rw even refl
+
+-- each row answers at its address
+pub named_registers_answer : {X : Type 0} → NamedRegistersAnswer X
+named_registers_answer f t w u = record {
+  reads = each_found (λ a r. byte_read f t w u a ≡ Ok (byte_value u r)) (bytes_read w) (apart_bytes_read w) (λ a r e. ap (byte_read_as f t w u a) e);
+  after_reads = each_found (λ a r. after_byte_read f t w u a ≡ after_byte u r) (bytes_read w) (apart_bytes_read w) (λ a r e. ap (after_byte_read_as f t w u a) e);
+  writes = each_found (λ a r. (n : ℕ) → byte_written f t w u a n ≡ with_byte u r n) (bytes_written w) (apart_bytes_written w) (λ a r e n. ap (byte_written_as f t w u a n) e);
+  reads_of_words = each_found (λ a r. word_read f t w u a ≡ Ok (word_value t u r)) (words_read w) (apart_words_read w)
+      (λ a r e. at_even a (Err OddWord) (even_word_read f t w u a) (row_law (λ a r. a % 2 ≡ 0) (words_read w) a r (even_reads w) e) ∙ ap (word_read_as f t w u a) e);
+  after_reads_of_words = each_found (λ a r. after_word_read f t w u a ≡ after_word u r) (words_read w) (apart_words_read w)
+      (λ a r e. at_even a u (after_even_word_read f t w u a) (row_law (λ a r. a % 2 ≡ 0) (words_read w) a r (even_reads w) e) ∙ ap (after_word_read_as f t w u a) e);
+  writes_of_words = each_found (λ a r. (n : ℕ) → word_written f t w u a n ≡ with_word u r n) (words_written w) (apart_words_written w)
+      (λ a r e n. at_even a (Err OddWord) (even_word_written f t w u a n) (row_law (λ a r. a % 2 ≡ 0) (words_written w) a r (even_writes w) e) ∙ ap (word_written_as f t w u a n) e);
+}
 
 is_answered : (answer : Option ℕ) → is_some answer ≡ true → (n : ℕ) × (answer ≡ Some n) × (or_no_register answer ≡ Ok n)
 is_answered None there = absurd (false≢true there)
@@ -156,13 +162,6 @@ bound_ok : {A B : Type 0} (r : Result A Kind) (g : A → B) → refusal (r >>= �
 bound_ok (Ok a) g = refl
 bound_ok (Err kind) g = refl
 
--- a word is refused at an odd address, and is what stands there at an even one
-at_odd : {A : Type 0} (addr : ℕ) (x y : A) → addr % 2 ≡ 1 → (if addr % 2 == 1 then x else y) ≡ x
-at_odd addr x y odd = rw odd refl
-
-at_even : {A : Type 0} (addr : ℕ) (x y : A) → addr % 2 ≡ 0 → (if addr % 2 == 1 then x else y) ≡ y
-at_even addr x y even = rw even refl
-
 pub odd_words_are_refused : {X : Type 0} → OddWordsAreRefused X
 odd_words_are_refused f t w u addr n odd = record {
   read = at_odd addr _ _ odd;
@@ -218,20 +217,27 @@ with_refusal_same u v writes.Ioc2 n same = either _ _ (bit n 0 && has_timer2_of 
 with_refusal_same u v writes.Ioc3 n same = refl
 
 -- IOC2 stands in window 0 alone, at the high byte of a word whose low byte is no register of the board
-ioc2_at : (w : Window) → All (λ row. is_ioc2 row.1 ≡ true → (w ≡ Window0) × (row.0 ≡ 11)) (bytes_written w)
-unfolding is_ioc2
-ioc2_at w = All-from_recursion (λ row. is_ioc2 row.1 ≡ true → (w ≡ Window0) × (row.0 ≡ 11)) (bytes_written w) (by w)
-  where
-    other : {P : Type 0} → ◌≡◌ {A = Bool} false true → P
-    other e = absurd (false≢true e)
+is_first : Window → Bool
+is_first Window0 = true
+is_first _ = false
 
-    by : (w : Window) → AllByRecursion (λ row. is_ioc2 row.1 ≡ true → (w ≡ Window0) × (row.0 ≡ 11)) (bytes_written w)
-    by Window0 = (other, (other, (λ e. (refl, refl), (other, (other, (other, (other, (other, (other, (other, (other, (other, (other, (other, tt))))))))))))))
-    by Window1 = (other, (other, (other, (other, (other, (other, (other, (other, tt))))))))
-    by Window15 = (other, (other, (other, (other, (other, (other, (other, tt)))))))
+ioc2_at : (w : Window) → All (λ row. is_ioc2 row.1 ≡ true → (w ≡ Window0) × (row.0 ≡ 11)) (bytes_written w)
+unfolding bytes_written registers is_ioc2 is_first
+ioc2_at w = all_when (λ row. is_ioc2 row.1) (λ row. is_first w && (row.0 == 11)) (λ row. (w ≡ Window0) × (row.0 ≡ 11)) (bytes_written w) (by w) (λ row. place w row.0)
+  where
+    by : (w : Window) → list_all (λ row. not (is_ioc2 row.1) || (is_first w && (row.0 == 11))) (bytes_written w) ≡ true
+    by Window0 = refl
+    by Window1 = refl
+    by Window15 = refl
+
+    place : (w : Window) (addr : ℕ) → (is_first w && (addr == 11)) ≡ true → (w ≡ Window0) × (addr ≡ 11)
+    place Window0 addr h = (refl, eqb-true addr 11 h)
+    place Window1 addr h = absurd (false≢true h)
+    place Window15 addr h = absurd (false≢true h)
 
 low_keeps_entries : {X : Type 0} (f : Further X) (t : ℕ) (u mid : Units X) (low : ℕ) → byte_written f t Window0 u 10 low ≡ Ok mid →
     has_timer2_of mid.hso ≡ has_timer2_of u.hso
+unfolding bytes_written words_written registers
 low_keeps_entries {X = X} f t u mid low e = by (f.writable 0 10) e
   where
     by : (c : Bool) → ◌≡◌ {A = Result (Units X) Kind} (if c then Ok (record u { further = f.after_write 0 10 low t u.further }) else Err NoRegister) (Ok mid) →
@@ -427,29 +433,7 @@ writes_keep_profile f t w u addr n is = (
 abbrev AreShownAlike : {X : Type 0} → Units X → Units X → Type 0
 AreShownAlike u new = printed new.board_registers new.hso ≡ printed u.board_registers u.hso
 
-shows_pins : WritableByte → Bool
-shows_pins writes.Port1 = true
-shows_pins writes.Port2 = true
-shows_pins writes.Ioc1 = true
-shows_pins _ = false
-
-pins_at : (w : Window) → All (λ row. shows_pins row.1 ≡ true → moves_pins w row.0 ≡ true) (bytes_written w)
-unfolding shows_pins
-pins_at w = All-from_recursion (λ row. shows_pins row.1 ≡ true → moves_pins w row.0 ≡ true) (bytes_written w) (by w)
-  where
-    other : {P : Type 0} → ◌≡◌ {A = Bool} false true → P
-    other e = absurd (false≢true e)
-
-    here : ◌≡◌ {A = Bool} true true → ◌≡◌ {A = Bool} true true
-    here e = e
-
-    by : (w : Window) → AllByRecursion (λ row. shows_pins row.1 ≡ true → moves_pins w row.0 ≡ true) (bytes_written w)
-    by Window0 = (other, (other, (other, (here, (here, (other, (here, (other, (other, (other, (other, (other, (other, (other, tt))))))))))))))
-    by Window1 = (other, (other, (other, (other, (other, (other, (other, (other, tt))))))))
-    by Window15 = (other, (other, (other, (other, (other, (other, (other, tt)))))))
-
-byte_shows_alike : {X : Type 0} (u : Units X) (r : WritableByte) (n : ℕ) → shows_pins r ≡ false → IfOk (with_byte u r n) (AreShownAlike u)
-unfolding shows_pins
+byte_shows_alike : {X : Type 0} (u : Units X) (r : WritableByte) (n : ℕ) → shows_pins (Some r) ≡ false → IfOk (with_byte u r n) (AreShownAlike u)
 byte_shows_alike u writes.Zeros n e = refl
 byte_shows_alike u writes.IntMask n e = refl
 byte_shows_alike u writes.IntMask1 n e = refl
@@ -492,7 +476,5 @@ other_writes_move_no_pin {X = X} f t w u addr n low = (
     byte : (u : Units X) (addr n : ℕ) → moves_pins w addr ≡ false → IfOk (byte_written f t w u addr n) (AreShownAlike u)
     byte u addr n unmoved =
         byte_holds f t w (AreShownAlike u) u addr n
-        (λ r e. byte_shows_alike u r n (false_from_ne_true (shows_pins r) (λ shows.
-        let moved : moves_pins w addr ≡ true = row_law (λ a r. shows_pins r ≡ true → moves_pins w a ≡ true) (bytes_written w) addr r (pins_at w) e shows in
-        false≢true (sym unmoved ∙ moved))))
+        (λ r e. byte_shows_alike u r n (ap shows_pins (sym e) ∙ unmoved))
         (λ d. refl)

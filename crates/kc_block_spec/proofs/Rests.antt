@@ -3,6 +3,7 @@ use Rattle.std.proofs.Common.{◌≡◌, ℕ, ◌+◌, ◌==◌, Bool, true, fal
 use Rattle.std.specs.Prelude.{if◌then◌else◌}
 use Rattle.std.proofs.lemmas.Bool.{false≢true, or_from, or_parts, and_parts, and_from, and_left, eqb-true, not-true, not_from_false, not_from_true}
 use lib.Bits.{and_zero_l, or_zero_r}
+use Rattle.kc_base.specs.Pins.{hsi0, hsi1, hsi2, hsi3, t2clk, t2rst, t2ud, t2cap}
 use Rattle.kc_base.specs.Bits.{bit}
 use Rattle.kc_base.specs.declared.types.Edge.{Edge}
 use Rattle.kc_stim.specs.Drives.{Drives}
@@ -45,10 +46,10 @@ hsi_none : (s : BoardRegisters) (rise fall : ℕ) → rise ≡ 0 → fall ≡ 0 
 hsi_none s rise fall p q = rw (p, q) refl
 
 -- the edges of the pins that touch Timer 2
-no_pin : (edges : ℕ) → edges ≡ 0 → ((bit edges 18 || bit edges 19) || ((bit edges 22 || bit edges 23) || (bit edges 26 || bit edges 27))) ≡ false
+no_pin : (edges : ℕ) → edges ≡ 0 → ((bit edges hsi0 || bit edges hsi1) || ((bit edges t2clk || bit edges t2rst) || (bit edges t2ud || bit edges t2cap))) ≡ false
 no_pin edges none = rw none refl
 
-no_hsi_pin : (edges : ℕ) → edges ≡ 0 → ((bit edges 18 || bit edges 19) || (bit edges 20 || bit edges 21)) ≡ false
+no_hsi_pin : (edges : ℕ) → edges ≡ 0 → ((bit edges hsi0 || bit edges hsi1) || (bit edges hsi2 || bit edges hsi3)) ≡ false
 no_hsi_pin edges none = rw none refl
 
 none_touched : (a b c d : Bool) → a ≡ false → b ≡ false → c ≡ false → d ≡ false → one_if a + one_if b + one_if c + one_if d ≡ 0
@@ -83,7 +84,7 @@ module _ {X : Type 0} (t : ℕ) (u : Units X) (inputs : edges_at t u ≡ 0) (no_
   none_fired = no_command (cam.slot_at u.hso t) t u.timer2.value no_fire
 
   pub none_captured : (timer2_out_at t u).captured ≡ false
-  none_captured = ap (λ r. bit r 27) rise ∙ bit_none 27
+  none_captured = ap (λ r. bit r t2cap) rise ∙ bit_none t2cap
 
   pub timer2_alone : timer2_inputs_at t u ≡ t2.no_inputs
   timer2_alone = inputs_none (control_at t u) (edges_at t u) (rises_at t u) (fired_at t u) inputs rise none_fired

@@ -5,6 +5,7 @@ use Rattle.std.specs.Int.{bit_at}
 use Rattle.std.proofs.lemmas.Nat.Bits.{bit_at_xor, bit_at_and, bit_at-lt}
 use Rattle.std.proofs.lemmas.Bool.{or_parts, and_from, eqb-true, eqb-false, ne_eqb, not-false, not_from_false}
 use lib.Bits.{or_zero_r}
+use Rattle.kc_base.specs.Pins.{hsi0, hsi1, hsi2, hsi3, t2clk, t2rst, t2ud, t2cap}
 use Rattle.kc_base.specs.Bits.{bit}
 use Rattle.kc_timers.specs.declared.T2Control.{T2Control}
 use Rattle.kc_timers.specs.declared.T2Inputs.{T2Inputs}
@@ -43,18 +44,18 @@ no_bit a b n off =
     let not_one : bit_at a n ≡ 1 → ⊥ = eqb-false (bit_at a n) 1 off in
     ne_eqb (bit_at (bit_and a b) n) 1 (λ e. omega arith)
 
-pub inputs_off : (control : T2Control) (edges rise : ℕ) (fired : Option ℕ) → bit edges 19 ≡ false → bit edges 22 ≡ false → bit rise 18 ≡ false → bit rise 23 ≡ false →
-    bit rise 27 ≡ false → resets fired ≡ false → timer2_inputs control edges rise fired ≡ t2.no_inputs
+pub inputs_off : (control : T2Control) (edges rise : ℕ) (fired : Option ℕ) → bit edges hsi1 ≡ false → bit edges t2clk ≡ false → bit rise hsi0 ≡ false → bit rise t2rst ≡ false →
+    bit rise t2cap ≡ false → resets fired ≡ false → timer2_inputs control edges rise fired ≡ t2.no_inputs
 inputs_off control edges rise fired a b c d e r = rw (a, b, c, d, e, r, either_off control.hsi1, either_off control.reset_hsi0) (by control.reset_on)
   where
     by : (on : Bool) → ◌≡◌ {A = T2Inputs} (record { clock = false; reset = (on && false) || false; capture = false }) t2.no_inputs
     by true = refl
     by false = refl
 
-pub same_control : (s : BoardRegisters) (a b : ℕ) → bit a 26 ≡ bit b 26 → control_of s a ≡ control_of s b
+pub same_control : (s : BoardRegisters) (a b : ℕ) → bit a t2ud ≡ bit b t2ud → control_of s a ≡ control_of s b
 same_control s a b same = rw same refl
 
-pub bits_off : (pins : ℕ) → bit pins 18 ≡ false → bit pins 19 ≡ false → bit pins 20 ≡ false → bit pins 21 ≡ false → hsi_bits pins ≡ 0
+pub bits_off : (pins : ℕ) → bit pins hsi0 ≡ false → bit pins hsi1 ≡ false → bit pins hsi2 ≡ false → bit pins hsi3 ≡ false → hsi_bits pins ≡ 0
 bits_off pins a b c d = rw (a, b, c, d) refl
 
 module _ {X : Type 0} (f : Further X) (t : ℕ) (u : Units X) where
@@ -62,18 +63,18 @@ module _ {X : Type 0} (f : Further X) (t : ℕ) (u : Units X) where
   unfolding tick
   timer2_untouched none =
       let e = edges_at t u in
-      let parts = or_parts ((bit e 18 || bit e 19) || ((bit e 22 || bit e 23) || (bit e 26 || bit e 27))) ((timer2_out_at t u).overflow || resets (fired_at t u)) none in
+      let parts = or_parts ((bit e hsi0 || bit e hsi1) || ((bit e t2clk || bit e t2rst) || (bit e t2ud || bit e t2cap))) ((timer2_out_at t u).overflow || resets (fired_at t u)) none in
       let own = or_parts (timer2_out_at t u).overflow (resets (fired_at t u)) parts.1 in
-      let pins = or_parts (bit e 18 || bit e 19) ((bit e 22 || bit e 23) || (bit e 26 || bit e 27)) parts.0 in
-      let hsis = or_parts (bit e 18) (bit e 19) pins.0 in
-      let others = or_parts (bit e 22 || bit e 23) (bit e 26 || bit e 27) pins.1 in
-      let clocks = or_parts (bit e 22) (bit e 23) others.0 in
-      let ups = or_parts (bit e 26) (bit e 27) others.1 in
+      let pins = or_parts (bit e hsi0 || bit e hsi1) ((bit e t2clk || bit e t2rst) || (bit e t2ud || bit e t2cap)) parts.0 in
+      let hsis = or_parts (bit e hsi0) (bit e hsi1) pins.0 in
+      let others = or_parts (bit e t2clk || bit e t2rst) (bit e t2ud || bit e t2cap) pins.1 in
+      let clocks = or_parts (bit e t2clk) (bit e t2rst) others.0 in
+      let ups = or_parts (bit e t2ud) (bit e t2cap) others.1 in
       let control : control_at t u ≡ control_of u.board_registers u.board_registers.levels =
-      same_control u.board_registers (levels_at t u) u.board_registers.levels (same_bit (levels_at t u) u.board_registers.levels 26 ups.0) in
+      same_control u.board_registers (levels_at t u) u.board_registers.levels (same_bit (levels_at t u) u.board_registers.levels t2ud ups.0) in
       let inputs : timer2_inputs_at t u ≡ t2.no_inputs =
       inputs_off (control_at t u) e (rises_at t u) (fired_at t u) hsis.1 clocks.0
-      (no_bit e (levels_at t u) 18 hsis.0) (no_bit e (levels_at t u) 23 clocks.1) (no_bit e (levels_at t u) 27 ups.1) own.1 in
+      (no_bit e (levels_at t u) hsi0 hsis.0) (no_bit e (levels_at t u) t2rst clocks.1) (no_bit e (levels_at t u) t2cap ups.1) own.1 in
       record {
         alone = record {
           step =
@@ -97,13 +98,13 @@ module _ {X : Type 0} (f : Further X) (t : ℕ) (u : Units X) where
   unfolding tick
   hsi_untouched none =
       let e = edges_at t u in
-      let parts = or_parts ((bit e 18 || bit e 19) || (bit e 20 || bit e 21)) (hsi_works t u) none in
-      let pins = or_parts (bit e 18 || bit e 19) (bit e 20 || bit e 21) parts.0 in
-      let low = or_parts (bit e 18) (bit e 19) pins.0 in
-      let high = or_parts (bit e 20) (bit e 21) pins.1 in
+      let parts = or_parts ((bit e hsi0 || bit e hsi1) || (bit e hsi2 || bit e hsi3)) (hsi_works t u) none in
+      let pins = or_parts (bit e hsi0 || bit e hsi1) (bit e hsi2 || bit e hsi3) parts.0 in
+      let low = or_parts (bit e hsi0) (bit e hsi1) pins.0 in
+      let high = or_parts (bit e hsi2) (bit e hsi3) pins.1 in
       let works = or_parts (hsi.is_push t (hsi.gathered_with (hsi_edges_at t u) u.hsi)) (hsi.is_move t u.hsi) parts.1 in
       let masks : (m : ℕ) → hsi_bits (bit_and e m) ≡ 0 =
-      λ m. bits_off (bit_and e m) (no_bit e m 18 low.0) (no_bit e m 19 low.1) (no_bit e m 20 high.0) (no_bit e m 21 high.1) in
+      λ m. bits_off (bit_and e m) (no_bit e m hsi0 low.0) (no_bit e m hsi1 low.1) (no_bit e m hsi2 high.0) (no_bit e m hsi3 high.1) in
       let edges : hsi_edges_at t u ≡ no_edges_with (hsi_enabled u.board_registers.ioc0) =
       λ i. record { rising = masks (levels_at t u) i; falling = masks u.board_registers.levels i; enabled = hsi_enabled u.board_registers.ioc0 } in
       let push : hsi.is_push t (hsi.gathered_with (hsi_edges_at t u) u.hsi) ≡ hsi.is_push t u.hsi.gathered =

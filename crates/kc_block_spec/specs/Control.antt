@@ -1,6 +1,7 @@
 -- How the registers choose what reaches Timer 2 and HSI (80C196KC User's Manual, "Timer 2", "High-Speed Input").
 use Rattle.std.specs.Prelude.{ℕ, ◌+◌, ◌&&◌, ◌||◌, if◌then◌else◌, Option}
 use Rattle.kc_base.specs.Bits.{bit, weight}
+use Rattle.kc_base.specs.Pins.{hsi0, hsi1, hsi2, hsi3, t2clk, t2rst, t2ud, t2cap}
 use Rattle.kc_timers.specs.declared.T2Control.{T2Control}
 use Rattle.kc_timers.specs.declared.T2Inputs.{T2Inputs}
 use Rattle.kc_hsi.specs.declared.pins.PinEdges.{PinEdges}
@@ -13,7 +14,7 @@ control_of board_registers levels = record {
   hsi1 = bit board_registers.ioc0 7;
   internal = bit board_registers.ioc3 0;
   fast = bit board_registers.ioc2 0;
-  down = bit board_registers.ioc2 1 && bit levels 26;
+  down = bit board_registers.ioc2 1 && bit levels t2ud;
   reset_on = bit board_registers.ioc0 3;
   reset_hsi0 = bit board_registers.ioc0 5;
 }
@@ -21,14 +22,14 @@ control_of board_registers levels = record {
 -- what reaches it: either edge of T2CLK or HSI1, a rise of T2RST or HSI0 or channel 14, a rise of T2CAP
 abbrev pub timer2_inputs : T2Control → ℕ → ℕ → Option ℕ → T2Inputs
 timer2_inputs control edges rise fired = record {
-  clock = if control.hsi1 then bit edges 19 else bit edges 22;
-  reset = (control.reset_on && (if control.reset_hsi0 then bit rise 18 else bit rise 23)) || resets fired;
-  capture = bit rise 27;
+  clock = if control.hsi1 then bit edges hsi1 else bit edges t2clk;
+  reset = (control.reset_on && (if control.reset_hsi0 then bit rise hsi0 else bit rise t2rst)) || resets fired;
+  capture = bit rise t2cap;
 }
 
 -- HSI0 to HSI3 as the low four bits
 abbrev pub hsi_bits : ℕ → ℕ
-hsi_bits pins = weight (bit pins 18) 1 + weight (bit pins 19) 2 + weight (bit pins 20) 4 + weight (bit pins 21) 8
+hsi_bits pins = weight (bit pins hsi0) 1 + weight (bit pins hsi1) 2 + weight (bit pins hsi2) 4 + weight (bit pins hsi3) 8
 
 -- the pins that IOC0 enables for HSI
 abbrev pub hsi_enabled : ℕ → ℕ

@@ -1,6 +1,7 @@
 -- What special function registers read, and what a read takes away (80C196KC User's Manual, "Special Function Registers", "I/O
 -- Ports", "I/O Status Registers").
 use Rattle.std.specs.Prelude.{ℕ, ◌+◌, ◌/◌, ◌%◌, ◌^◌, false, ◌&&◌, bit_and}
+use Rattle.kc_base.specs.Pins.{t2clk, t2rst, extint, t2ud, t2cap}
 use Rattle.kc_base.specs.Bits.{bit, weight}
 use Rattle.kc_span.specs.Timer1.{timer1_of}
 use Rattle.kc_hso.specs.Cam.{ios0_of}
@@ -24,9 +25,9 @@ port1_levels levels = (levels / 2 ^ 6) % 256
 abbrev pub port2_read : BoardRegisters → ℕ
 port2_read s =
     weight (bit s.port2 0) 1
-    + weight (bit s.levels 24) 4 + weight (bit s.levels 22) 8 + weight (bit s.levels 23) 16
+    + weight (bit s.levels extint) 4 + weight (bit s.levels t2clk) 8 + weight (bit s.levels t2rst) 16
     + weight (bit s.port2 5) 32
-    + weight (bit s.port2 6 && bit s.levels 26) 64 + weight (bit s.port2 7 && bit s.levels 27) 128
+    + weight (bit s.port2 6 && bit s.levels t2ud) 64 + weight (bit s.port2 7 && bit s.levels t2cap) 128
 
 abbrev pub byte_value : {X : Type 0} → Units X → ReadableByte → ℕ
 byte_value u Zeros = 0

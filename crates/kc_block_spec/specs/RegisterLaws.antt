@@ -1,6 +1,6 @@
 -- What the register tables come to (80C196KC User's Manual, "Special Function Registers"; the orders of asking are this
 -- kit's own).
-use Rattle.std.specs.Prelude.{◌≡◌, ◌⊎◌, ℕ, ◌+◌, ◌-◌, ◌/◌, ◌%◌, ◌==◌, Bool, true, false, ◌||◌, is_some, Option, Some, None, Result, Ok, Err, IfOk, List, [], All, bit_or}
+use Rattle.std.specs.Prelude.{◌≡◌, ◌⊎◌, ℕ, ◌+◌, ◌-◌, ◌/◌, ◌%◌, Bool, true, false, is_some, Option, Some, None, Result, Ok, Err, IfOk, List, [], All, bit_or}
 use Rattle.std.specs.List.{Contains}
 use Rattle.kc_base.specs.declared.types.Kind.{Kind}
 use Rattle.kc_base.specs.declared.types.Kind.TheVariants.{OddWord, NoRegister, ByteAccess}
@@ -8,10 +8,11 @@ use Rattle.kc_exec_spec.specs.Window.{is_wsr}
 use Rattle.kc_stim.specs.Drives.{IsStill}
 use Rattle.kc_extra.specs.Further.{Further}
 use Rattle.kc_block_spec.specs.declared.registers.Window.{Window}
-use Rattle.kc_block_spec.specs.declared.registers.Window.TheVariants.{Window0, Window1, Window15}
+use Rattle.kc_block_spec.specs.declared.registers.WritableByte.{WritableByte}
+use Rattle.kc_block_spec.specs.declared.registers.WritableByte.TheVariants.{Port1, Port2, Ioc1}
 use Rattle.kc_block_spec.specs.Units.{Units}
 use Rattle.kc_block_spec.specs.Levels.{stimulated_before, wired}
-use Rattle.kc_block_spec.specs.Registers.{window_number, bytes_read, bytes_written, words_read, words_written}
+use Rattle.kc_block_spec.specs.Registers.{window_number, bytes_read, bytes_written, words_read, words_written, row_at}
 use Rattle.kc_block_spec.specs.Reading.{byte_value, word_value, after_byte, after_word}
 use Rattle.kc_block_spec.specs.Writing.{with_byte, with_word}
 use Rattle.kc_block_spec.specs.Accesses.{latch_edges, byte_read, after_byte_read, byte_written, word_read, after_word_read, word_written}
@@ -118,11 +119,15 @@ abbrev pub WritesKeepProfile : Type 0 → Type 0
 WritesKeepProfile X = (f : Further X) (t : ℕ) (w : Window) (u : Units X) (addr n : ℕ) → is_wsr u.board_registers.wsr ≡ true →
     IfOk (byte_written f t w u addr n) (λ new. is_wsr new.board_registers.wsr ≡ true) × IfOk (word_written f t w u addr n) (λ new. is_wsr new.board_registers.wsr ≡ true)
 
--- port 1, port 2 and IOC1, in window 0
+-- port 1, port 2 and IOC1
+abbrev pub shows_pins : Option WritableByte → Bool
+shows_pins (Some Port1) = true
+shows_pins (Some Port2) = true
+shows_pins (Some Ioc1) = true
+shows_pins _ = false
+
 abbrev pub moves_pins : Window → ℕ → Bool
-moves_pins Window0 addr = (addr == 0x0F) || (addr == 0x10) || (addr == 0x16)
-moves_pins Window1 addr = false
-moves_pins Window15 addr = false
+moves_pins w addr = shows_pins (row_at (bytes_written w) addr)
 
 -- a write of any other byte gives no edge, and so a word write of two others
 abbrev pub OtherWritesMoveNoPin : Type 0 → Type 0

@@ -1,18 +1,19 @@
--- Which special function register answers an access, by window (80C196KC User's Manual, "Special Function Registers"; which
--- registers appear in which window is this kit's own).
-use Rattle.std.specs.Prelude.{ℕ, ◌-◌, ◌%◌, ◌==◌, Bool, is_some, Option, Some, None, List, [], ◌∷◌, if◌then◌else◌}
+-- Which special function register answers an access, by window. The tables are the constants WINDOW0, WINDOW1, WINDOW15 and
+-- EVERYWHERE (80C196KC User's Manual, "Special Function Registers"; which registers appear in which window is this kit's own).
+use Rattle.std.specs.Prelude.{ℕ, ◌-◌, ◌%◌, ◌==◌, Bool, is_some, Option, Some, None, List, [], ◌∷◌, ◌++◌, find, filter_map, if◌then◌else◌}
+use Rattle.std.specs.Option.{option_map}
 use Rattle.kc_exec_spec.specs.declared.access.Master.{Master}
 use Rattle.kc_exec_spec.specs.declared.access.Master.TheVariants.{Cpu, Server}
 use Rattle.kc_block_spec.specs.declared.registers.Window.{Window}
 use Rattle.kc_block_spec.specs.declared.registers.Window.TheVariants.{Window0, Window1, Window15}
 use Rattle.kc_block_spec.specs.declared.registers.ReadableByte.{ReadableByte}
-use Rattle.kc_block_spec.specs.declared.registers.ReadableByte.TheVariants as reads
 use Rattle.kc_block_spec.specs.declared.registers.WritableByte.{WritableByte}
-use Rattle.kc_block_spec.specs.declared.registers.WritableByte.TheVariants as writes
 use Rattle.kc_block_spec.specs.declared.registers.ReadableWord.{ReadableWord}
-use Rattle.kc_block_spec.specs.declared.registers.ReadableWord.TheVariants as reads_word
 use Rattle.kc_block_spec.specs.declared.registers.WritableWord.{WritableWord}
-use Rattle.kc_block_spec.specs.declared.registers.WritableWord.TheVariants as writes_word
+use Rattle.kc_block_spec.specs.declared.table.Register.{Register}
+use Rattle.kc_block_spec.specs.declared.table.Uses.{Uses}
+use Rattle.kc_block_spec.specs.declared.table.Uses.TheVariants.{Byte, Word}
+use Rattle.kc_block_spec.specs.declared.table.TheConstants.{EVERYWHERE, WINDOW0, WINDOW1, WINDOW15}
 
 -- the horizontal window that a master sees: the transfer server always window 0, and so the processor under a vertical one
 abbrev pub window_seen : Master → ℕ → Window
@@ -25,42 +26,61 @@ window_number Window0 = 0
 window_number Window1 = 1
 window_number Window15 = 15
 
--- byte registers with their addresses, for reading: those of every window, then those of each
-abbrev pub bytes_read_everywhere : List (ℕ × ReadableByte)
-bytes_read_everywhere =
-    (0x00, reads.Zeros) ∷ (0x01, reads.Zeros) ∷ (0x08, reads.IntMask) ∷ (0x09, reads.IntPend)
-    ∷ (0x12, reads.IntPend1) ∷ (0x13, reads.IntMask1) ∷ (0x14, reads.Wsr) ∷ []
+-- the registers that a window has besides those of every window, and all that it has
+abbrev pub own_registers : Window → List Register
+own_registers Window0 = WINDOW0
+own_registers Window1 = WINDOW1
+own_registers Window15 = WINDOW15
 
-abbrev pub bytes_read : Window → List (ℕ × ReadableByte)
-bytes_read Window0 =
-    (0x06, reads.HsiStatus) ∷ (0x0E, reads.Port0) ∷ (0x0F, reads.Port1) ∷ (0x10, reads.Port2)
-    ∷ (0x15, reads.Ios0) ∷ (0x16, reads.Ios1) ∷ (0x17, reads.Ios2) ∷ bytes_read_everywhere
-bytes_read Window1 = (0x0C, reads.Ioc3) ∷ bytes_read_everywhere
-bytes_read Window15 = bytes_read_everywhere
+unfoldable pub registers : Window → List Register
+registers w = own_registers w ++ EVERYWHERE
 
--- and for writing
-abbrev pub bytes_written_everywhere : List (ℕ × WritableByte)
-bytes_written_everywhere =
-    (0x00, writes.Zeros) ∷ (0x01, writes.Zeros) ∷ (0x08, writes.IntMask) ∷ (0x09, writes.IntPend)
-    ∷ (0x12, writes.IntPend1) ∷ (0x13, writes.IntMask1) ∷ (0x14, writes.Wsr) ∷ []
+-- what stands at an address of a table
+unfoldable pub uses_in : List Register → ℕ → Option Uses
+uses_in table addr = option_map (λ r. r.uses) (find (λ r. addr == r.address) table)
 
-abbrev pub bytes_written : Window → List (ℕ × WritableByte)
-bytes_written Window0 =
-    (0x03, writes.HsiMode) ∷ (0x06, writes.HsoCommand) ∷ (0x0B, writes.Ioc2) ∷ (0x0F, writes.Port1)
-    ∷ (0x10, writes.Port2) ∷ (0x15, writes.Ioc0) ∷ (0x16, writes.Ioc1) ∷ bytes_written_everywhere
-bytes_written Window1 = (0x0C, writes.Ioc3) ∷ bytes_written_everywhere
-bytes_written Window15 = bytes_written_everywhere
+unfoldable pub uses_at : Window → ℕ → Option Uses
+uses_at w addr = uses_in (registers w) addr
 
--- word registers with their addresses
-abbrev pub words_read : Window → List (ℕ × ReadableWord)
-words_read Window0 = (0x04, reads_word.HsiTime) ∷ (0x0A, reads_word.Timer1) ∷ (0x0C, reads_word.Timer2) ∷ []
-words_read Window1 = (0x04, reads_word.PtsSelect) ∷ (0x06, reads_word.PtsService) ∷ []
-words_read Window15 = (0x0C, reads_word.T2Capture) ∷ []
+-- for reading and for writing, as a byte and as a word
+abbrev pub byte_read_by : Uses → Option ReadableByte
+byte_read_by (Byte read written) = read
+byte_read_by (Word read written) = None
 
-abbrev pub words_written : Window → List (ℕ × WritableWord)
-words_written Window0 = (0x04, writes_word.HsoTime) ∷ (0x0C, writes_word.Timer2) ∷ []
-words_written Window1 = (0x04, writes_word.PtsSelect) ∷ (0x06, writes_word.PtsService) ∷ []
-words_written Window15 = []
+abbrev pub byte_written_by : Uses → Option WritableByte
+byte_written_by (Byte read written) = written
+byte_written_by (Word read written) = None
+
+abbrev pub word_read_by : Uses → Option ReadableWord
+word_read_by (Byte read written) = None
+word_read_by (Word read written) = read
+
+abbrev pub word_written_by : Uses → Option WritableWord
+word_written_by (Byte read written) = None
+word_written_by (Word read written) = written
+
+-- the registers of a table that have one of these, with their addresses
+abbrev pub that_have : {R : Type 0} → (Uses → Option R) → List Register → List (ℕ × R)
+that_have part table = filter_map (λ r. option_map (λ used. (r.address, used)) (part r.uses)) table
+
+unfoldable pub bytes_read : Window → List (ℕ × ReadableByte)
+bytes_read w = that_have byte_read_by (registers w)
+
+unfoldable pub bytes_written : Window → List (ℕ × WritableByte)
+bytes_written w = that_have byte_written_by (registers w)
+
+unfoldable pub words_read : Window → List (ℕ × ReadableWord)
+words_read w = that_have word_read_by (registers w)
+
+unfoldable pub words_written : Window → List (ℕ × WritableWord)
+words_written w = that_have word_written_by (registers w)
+
+-- and those of every window
+unfoldable pub bytes_read_everywhere : List (ℕ × ReadableByte)
+bytes_read_everywhere = that_have byte_read_by EVERYWHERE
+
+unfoldable pub bytes_written_everywhere : List (ℕ × WritableByte)
+bytes_written_everywhere = that_have byte_written_by EVERYWHERE
 
 -- the register at an address
 abbrev pub row_at : {R : Type 0} → List (ℕ × R) → ℕ → Option R

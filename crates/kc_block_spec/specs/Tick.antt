@@ -2,6 +2,7 @@
 -- is this kit's own: each unit sees the others as the state began, but for a reset of Timer 2 by channel 14, and a start of
 -- the further unit by channel 15 comes after its Tick).
 use Rattle.std.specs.Prelude.{ℕ, ◌+◌, ◌%◌, ◌^◌, ◌==◌, Bool, ◌&&◌, ◌||◌, if◌then◌else◌, Option, ◌++◌, bit_and, bit_or, bit_xor}
+use Rattle.kc_base.specs.Pins.{hsi0, extint, nmi, p07}
 use Rattle.kc_base.specs.Bits.{bit}
 use Rattle.kc_timers.specs.declared.T2Control.{T2Control}
 use Rattle.kc_timers.specs.declared.T2Inputs.{T2Inputs}
@@ -63,8 +64,8 @@ m ∪ n = bit_or m n
 -- the requests of pins: HSI0, EXTINT, P07, NMI
 abbrev pub pin_requests : BoardRegisters → ℕ → ℕ
 pin_requests board_registers rise =
-    request 4 (bit rise 18) ∪ request 7 (if bit board_registers.ioc1 1 then bit rise 35 else bit rise 24)
-    ∪ request 13 (bit rise 24) ∪ request 15 (bit rise 25)
+    request 4 (bit rise hsi0) ∪ request 7 (if bit board_registers.ioc1 1 then bit rise p07 else bit rise extint)
+    ∪ request 13 (bit rise extint) ∪ request 15 (bit rise nmi)
 
 -- those of the timers
 abbrev pub timer_requests : BoardRegisters → Bool → T2Out → ℕ

@@ -1,6 +1,7 @@
 -- Which units a Tick touches, and whether it does anything (this kit's own).
 use Rattle.std.specs.Prelude.{ℕ, zero, suc, ◌+◌, ◌==◌, Bool, not, ◌&&◌, ◌||◌, if◌then◌else◌, List, [], ◌++◌, map}
 use Rattle.kc_base.specs.Bits.{bit}
+use Rattle.kc_base.specs.Pins.{hsi0, hsi1, hsi2, hsi3, t2clk, t2rst, t2ud, t2cap}
 use Rattle.kc_base.specs.declared.types.Edge.{Edge}
 use Rattle.kc_span.specs.Span.{Rule, after}
 use Rattle.kc_hso.specs.Cam.{fires, slot_at, loads}
@@ -22,7 +23,7 @@ hsi_works t u = is_push t (gathered_with (hsi_edges_at t u) u.hsi) || is_move t 
 abbrev pub timer2_touched : {X : Type 0} → ℕ → Units X → Bool
 timer2_touched t u =
     let e = edges_at t u in
-    ((bit e 18 || bit e 19) || ((bit e 22 || bit e 23) || (bit e 26 || bit e 27)))
+    ((bit e hsi0 || bit e hsi1) || ((bit e t2clk || bit e t2rst) || (bit e t2ud || bit e t2cap)))
     || ((timer2_out_at t u).overflow || resets (fired_at t u))
 
 abbrev pub hso_touched : {X : Type 0} → ℕ → Units X → Bool
@@ -32,7 +33,7 @@ hso_touched t u = hso_works t u || timer2_touched t u
 abbrev pub hsi_touched : {X : Type 0} → ℕ → Units X → Bool
 hsi_touched t u =
     let e = edges_at t u in
-    ((bit e 18 || bit e 19) || (bit e 20 || bit e 21)) || hsi_works t u
+    ((bit e hsi0 || bit e hsi1) || (bit e hsi2 || bit e hsi3)) || hsi_works t u
 
 abbrev pub one_if : Bool → ℕ
 one_if b = if b then 1 else 0

@@ -12,6 +12,7 @@ ghost use Rattle.kc_block_spec.specs.Rows.{Timer2Untouched, HsoUntouched, HsiUnt
 mod board_registers;
 mod register_laws;
 mod registers;
+mod table;
 
 pub use board_registers::BoardRegisters;
 pub use register_laws::{
@@ -19,6 +20,10 @@ pub use register_laws::{
     other_writes_move_no_pin, reads_are_mild, unnamed_bytes_are_refused, writes_keep_profile,
 };
 pub use registers::{ReadableByte, ReadableWord, Window, WritableByte, WritableWord};
+pub use table::{
+    Register, Uses, readable_byte, readable_everywhere, readable_word, writable_byte,
+    writable_everywhere, writable_word,
+};
 
 /// A Tick in which nothing is worked lets each unit go on by itself, keeps all data beside the units, gives no edge and
 /// touches no unit.

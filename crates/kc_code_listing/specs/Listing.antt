@@ -6,11 +6,12 @@ use Rattle.kc_code.specs.declared.reader.Decoded.TheVariants.{Insn as Whole, Uni
 use Rattle.kc_code.specs.Reading.{decode_of}
 use Rattle.kc_isa.specs.Formed.{is_formed}
 use Rattle.kc_base.specs.Digits.{hex_digit}
+use Rattle.kc_base.specs.Limits.{image_start}
 use Rattle.kc_code.specs.Text.{byte_text, text_of}
 
--- the bytes from an address on; an image begins at 2000H
+-- the bytes from an address on
 abbrev pub bytes_from : List ℕ → ℕ → List ℕ
-bytes_from image at = drop (at - 0x2000) image
+bytes_from image at = drop (at - image_start) image
 
 -- how many bytes a line takes
 abbrev pub count_of : Decoded → ℕ

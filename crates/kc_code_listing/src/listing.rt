@@ -75,7 +75,7 @@ fn push_words(line: &mut Line, found: Decoded, at: u16, byte: u8)
 /// `DCB` where no instruction is whole.
 #[tactic(auto, unfolding(crate::specs::Listing::line_at, crate::specs::Listing::next_after))]
 pub fn line_at(image: &Image, at: u16) -> (Line, u8)
-    requires { 0x2000 ≤ at }
+    requires { IMAGE_START ≤ at }
     ensures line { result.0.items ≡ listing.line_at image.now at }
     ensures next { at + result.1 ≡ listing.next_after image.now at }
     ensures count { 1 ≤ result.1 }

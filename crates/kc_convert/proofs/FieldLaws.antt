@@ -4,27 +4,13 @@ use Rattle.std.specs.Prelude.{if◌then◌else◌, nat_le}
 use Rattle.std.specs.List.{list_all, before_first}
 use Rattle.std.proofs.lemmas.Bool.{cases_Bool, and_parts, leb-true}
 use Rattle.std.specs.Char.{is_ascii_digit}
-use Rattle.kc_base.specs.Fields.{is_space, second_of, third_of, time_of, decimal_value, decimal_of}
+use Rattle.kc_base.specs.Fields.{is_space, second_of, third_of, time_of}
+use Rattle.kc_base.proofs.Numbers.{number-small}
 use Rattle.kc_convert.specs.declared.sample.Sample.{Sample}
 use Rattle.kc_convert.specs.declared.sample.Item.{Item}
 use Rattle.kc_convert.specs.declared.sample.Item.TheVariants.{Blank, Sampled, Wrong}
 use Rattle.kc_convert.specs.Fields.{channel_of, value_of}
 use Rattle.kc_convert.specs.Lines.{sampled, sample_line, item_of}
-
--- a number is at most what it may be
-pub number_small : (most : ℕ) (text : List ℕ) (n : ℕ) → decimal_of most text ≡ Some n → n ≤ most
-number_small most [] n is = absurd (cc)
-number_small most (c ∷ digits) n is = elim (cases_Bool (list_all is_ascii_digit (c ∷ digits) && nat_le (decimal_value (c ∷ digits)) most)) [
-  | inl on ↦
-      let parts = and_parts (list_all is_ascii_digit (c ∷ digits)) (nat_le (decimal_value (c ∷ digits)) most) on in
-      let le : decimal_value (c ∷ digits) ≤ most = leb-true _ _ parts.1 in
-      let found : Some (decimal_value (c ∷ digits)) ≡ Some n = sym (ap (λ b. if b then Some (decimal_value (c ∷ digits)) else None) on) ∙ is in
-      let same : decimal_value (c ∷ digits) ≡ n = cc in
-      omega arith
-  | inr off ↦
-      let none : None ≡ Some n = sym (ap (λ b. if b then Some (decimal_value (c ∷ digits)) else None) off) ∙ is in
-      absurd (cc)
-]
 
 IsSmall : Item → Type 0
 IsSmall Blank = Unit {0}
@@ -48,7 +34,7 @@ line_small [] = tt
 line_small (c ∷ cs) =
     either (c == 59) Blank (if c == 64 then sample_line cs else Wrong) tt
     (either (c == 64) (sample_line cs) Wrong
-    (sampled_small (time_of (before_first is_space cs)) (channel_of (second_of cs)) (value_of (third_of cs)) (λ n is. number_small 1023 (third_of cs) n is)) tt)
+    (sampled_small (time_of (before_first is_space cs)) (channel_of (second_of cs)) (value_of (third_of cs)) (λ n is. number-small 1023 (third_of cs) n is)) tt)
 
 -- a value of a line has ten bits
 pub item_small : (line : List ℕ) (s : Sample) → item_of line ≡ Sampled s → s.value ≤ 1023

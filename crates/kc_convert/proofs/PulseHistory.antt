@@ -6,7 +6,8 @@ use Rattle.std.proofs.lemmas.List.Elements.{All-tail}
 use Rattle.kc_extra.specs.Two.{either_holds}
 use Rattle.kc_convert.specs.declared.pulses.Output.{Output}
 use Rattle.kc_convert.specs.declared.pulses.Pulses.{Pulses}
-use Rattle.kc_convert.specs.Pulsing.{period, level, level_before, taken_over, edge_between, output_edges, pwm0, pwm1, pwm2, new_output, new_pulses, pulsed_in, is_first, is_second, is_third, written_if, with_width, pulses_further}
+use Rattle.kc_base.specs.Pins.{pwm0, pwm1, pwm2}
+use Rattle.kc_convert.specs.Pulsing.{period, level, level_before, taken_over, edge_between, output_edges, new_output, new_pulses, pulsed_in, is_first, is_second, is_third, written_if, with_width, pulses_further}
 use Rattle.kc_extra.specs.Histories.{Access, Driven, accessed, started_if, data_at}
 use Rattle.kc_convert.specs.Pulse.{width_by, width_before, pulse, pulse_before, pulses_at, WritesBytes, PulsesAreByWidths}
 

@@ -7,7 +7,8 @@ use Rattle.kc_extra.specs.Further.{further_rule, is_silent, is_empty}
 use Rattle.kc_extra.specs.Two.{after_part, due_both}
 use Rattle.kc_convert.specs.declared.pulses.Output.{Output}
 use Rattle.kc_convert.specs.declared.pulses.Pulses.{Pulses}
-use Rattle.kc_convert.specs.Pulsing.{taken_over, output_edges, output_rule, pwm0, pwm1, pwm2, pulses_further, pulses_out}
+use Rattle.kc_base.specs.Pins.{pwm0, pwm1, pwm2}
+use Rattle.kc_convert.specs.Pulsing.{taken_over, output_edges, output_rule, pulses_further, pulses_out}
 use Rattle.kc_convert.specs.PulseSpans.{output_after}
 use Rattle.kc_convert.proofs.PulseSpanLaws.{output_spans}
 

@@ -2,7 +2,8 @@
 use Rattle.std.specs.Prelude.{◌≡◌, ℕ, ◌*◌, ◌/◌, ◌<◌, Bool, false, ◌&&◌, if◌then◌else◌, ◌++◌, fold, All}
 use Rattle.std.proofs.Common.{zero, suc}
 use Rattle.kc_convert.specs.declared.pulses.Pulses.{Pulses}
-use Rattle.kc_convert.specs.Pulsing.{period, level, edge_between, pwm0, pwm1, pwm2, new_pulses, is_first, is_second, is_third, pulses_out, pulses_further}
+use Rattle.kc_base.specs.Pins.{pwm0, pwm1, pwm2}
+use Rattle.kc_convert.specs.Pulsing.{period, level, edge_between, new_pulses, is_first, is_second, is_third, pulses_out, pulses_further}
 use Rattle.kc_extra.specs.Histories.{Access, Driven, data_at}
 
 abbrev pub width_by : (ℕ → ℕ → Bool) → ℕ → Access → ℕ

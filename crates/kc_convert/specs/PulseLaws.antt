@@ -1,10 +1,10 @@
 -- The pulse-width outputs keep the laws of further units.
 use Rattle.std.proofs.Common.{◌≡◌, ℕ, zero, suc, ◌<◌, ◌≤◌, Bool, true, false, ◌||◌, ◌++◌, get_or, refl, arith}
 use Rattle.std.proofs.lemmas.Bool.{or_parts}
-use Rattle.kc_base.specs.Pins.{IsPin}
+use Rattle.kc_base.specs.Pins.{IsPin, pwm0, pwm1, pwm2}
 use Rattle.kc_extra.specs.Pins.{AreFew, Rise, MoveSome}
 use Rattle.kc_convert.specs.declared.pulses.Pulses.{Pulses}
-use Rattle.kc_convert.specs.Pulsing.{level, level_before, taken_over, edge_between, pwm0, pwm1, pwm2, pulse_pins, pulses_out, is_first, is_second, is_third, is_width, with_width}
+use Rattle.kc_convert.specs.Pulsing.{level, level_before, taken_over, edge_between, pulse_pins, pulses_out, is_first, is_second, is_third, is_width, with_width}
 
 pub no_width_elsewhere : (w s v : ℕ) (d : Pulses) → is_width w s ≡ false → with_width w s v d ≡ d
 no_width_elsewhere w s v d none =

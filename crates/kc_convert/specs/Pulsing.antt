@@ -2,6 +2,7 @@
 -- start of each period of 256 states on, for as many states as its width says; the pins of their own, and that a width is
 -- taken over at the start of a period, are this kit's own).
 use Rattle.std.specs.Prelude.{ℕ, ◌-◌, ◌%◌, ◌==◌, Bool, true, false, ◌&&◌, ◌||◌, nat_lt, if◌then◌else◌, None, List, [], ◌∷◌, ◌++◌}
+use Rattle.kc_base.specs.Pins.{pwm0, pwm1, pwm2}
 use Rattle.kc_base.specs.declared.types.Edge.{Edge}
 use Rattle.kc_base.specs.declared.types.Level.TheVariants.{Low, High}
 use Rattle.kc_span.specs.Span.{Rule}
@@ -38,16 +39,6 @@ output_edges pin t o = edge_between pin (level_before o.in_force t) (level (take
 -- one output by itself, on this pin
 abbrev pub output_rule : ℕ → Rule Output
 output_rule pin = record { step = λ t o. taken_over t o; quiet = λ t o. is_empty (output_edges pin t o) }
-
--- the numbers of the pins
-abbrev pub pwm0 : ℕ
-pwm0 = 38
-
-abbrev pub pwm1 : ℕ
-pwm1 = 39
-
-abbrev pub pwm2 : ℕ
-pwm2 = 40
 
 abbrev pub pulse_pins : List ℕ
 pulse_pins = pwm0 ∷ pwm1 ∷ pwm2 ∷ []

@@ -19,13 +19,6 @@ const WIDTH: u8 = 0x17;
 /// PWM1_CONTROL in window 1.
 const WIDTH_OF_PWM1: u8 = 0x16;
 
-/// The pins.
-const PWM0: u8 = 38;
-
-const PWM1: u8 = 39;
-
-const PWM2: u8 = 40;
-
 /// An output by its widths: the last one written, and the one in force.
 #[derive(Clone, Copy, Default)]
 pub struct Output {
@@ -188,9 +181,9 @@ impl Extra for Pulses {
         steps.add();
         self.moves = self.moves.saturating_add(1);
         let mut moved = Moved::none();
-        self.first.tick(now, PWM0, &mut moved);
-        self.second.tick(now, PWM1, &mut moved);
-        self.third.tick(now, PWM2, &mut moved);
+        self.first.tick(now, Pin::PWM0.0, &mut moved);
+        self.second.tick(now, Pin::PWM1.0, &mut moved);
+        self.third.tick(now, Pin::PWM2.0, &mut moved);
         ExtraOut {
             raised: IntSet(0),
             moved,

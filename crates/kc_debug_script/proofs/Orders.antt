@@ -1,4 +1,5 @@
 -- The order of a line map, entry by entry, and what a binary search finds in it.
+use Rattle.kc_base.specs.Limits.{image_start}
 use Rattle.std.proofs.Common.{◌≡◌, ℕ, zero, suc, ◌-◌, ◌<◌, ◌≤◌, true, false, ◌&&◌, eqb, ltb, leb, Option, Some, None, List, [], ◌∷◌, ◌++◌, length, get_or, refl, sym, ap, ◌∙◌, arith}
 use Rattle.std.specs.Prelude.{slice_get, All}
 use Rattle.std.specs.List.Sorted.{IsNonDecreasingBy}
@@ -76,15 +77,15 @@ ordered_none = record { high = λ k d lt. absurd (omega arith); rises = tt }
 
 pub ordered_push : (es : List MapEntry) (e : MapEntry) → IsOrdered es → may_come es e ≡ true → IsOrdered (es ++ e ∷ [])
 ordered_push es e ordered may =
-    let both = and_parts (leb 0x2000 e.addr) (is_below e.addr (slice_get es (length es - 1))) may in
+    let both = and_parts (leb image_start e.addr) (is_below e.addr (slice_get es (length es - 1))) may in
     record {
-      high = All-append (λ x. 0x2000 ≤ x.addr) es (e ∷ []) ordered.high (one (λ x. 0x2000 ≤ x.addr) e (leb-true 0x2000 e.addr both.0));
+      high = All-append (λ x. image_start ≤ x.addr) es (e ∷ []) ordered.high (one (λ x. image_start ≤ x.addr) e (leb-true image_start e.addr both.0));
       rises = rises-push es e ordered.rises (ap (is_below e.addr) (sym (last-same es)) ∙ both.1);
     }
 
 pull : (es : List MapEntry) (e : MapEntry) → IsOrdered (es ++ e ∷ []) → may_come es e ≡ true
 pull es e ordered =
-    let high : leb 0x2000 e.addr ≡ true = le-leb 0x2000 e.addr (all-last (λ x. 0x2000 ≤ x.addr) es e ordered.high) in
+    let high : leb image_start e.addr ≡ true = le-leb image_start e.addr (all-last (λ x. image_start ≤ x.addr) es e ordered.high) in
     ap (λ b. b && is_below e.addr (slice_get es (length es - 1))) high ∙ ap (is_below e.addr) (last-same es) ∙ rises-pull es e ordered.rises
 
 orders : IsRule may_come IsOrdered
@@ -92,7 +93,7 @@ orders = record {
   none = ordered_none;
   push = ordered_push;
   pull = pull;
-  cut = λ es more ordered. record { high = all-cut (λ x. 0x2000 ≤ x.addr) es more ordered.high; rises = rises-cut es more ordered.rises };
+  cut = λ es more ordered. record { high = all-cut (λ x. image_start ≤ x.addr) es more ordered.high; rises = rises-cut es more ordered.rises };
 }
 
 pub maps_are_entries : MapsAreEntries

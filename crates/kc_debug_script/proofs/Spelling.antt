@@ -5,6 +5,7 @@ use Rattle.std.specs.List.{list_all, before_first, after_first}
 use Rattle.std.specs.Option.{option_map}
 use Rattle.std.proofs.lemmas.Bool.{le-leb, lt-leb, ne_eqb, and_parts, cases_lt}
 use Rattle.std.proofs.lemmas.List.Elements.{All-head, All-tail}
+use Rattle.kc_base.specs.Limits.{max_states}
 use Rattle.kc_base.specs.Digits.{hex}
 use Rattle.kc_base.specs.TextLines.{text_lines}
 use Rattle.kc_base.specs.Fields.{is_space, word_of, byte_of}
@@ -78,7 +79,7 @@ writable-read addr o is passes = ap (if_is is_writable) is ∙ ap (λ b. cond b 
 
 pub commands_are_read_back : CommandsAreReadBack
 commands_are_read_back (Step count) c = ap (option_map Step) (number-read 1000000 count c.bounded.0 c.bounded.1 (let few = c.bounded.1 in omega arith))
-commands_are_read_back (Go until) c = ap (option_map Go) (number-read (10 ^ 15) until c.bounded.0 c.bounded.1 (let few = c.bounded.1 in omega arith))
+commands_are_read_back (Go until) c = ap (option_map Go) (number-read max_states until c.bounded.0 c.bounded.1 (let few = c.bounded.1 in omega arith))
 commands_are_read_back (Break addr) c = ap (option_map Break) (word-read addr c.widths)
 commands_are_read_back Registers c = refl
 commands_are_read_back (Show from count) c =

@@ -1,7 +1,8 @@
 -- What a line of a debugger script asks for (this kit's own).
-use Rattle.std.specs.Prelude.{ℕ, ◌≤◌, ◌^◌, ◌==◌, nat_le, not, if◌then◌else◌, Bool, true, ◌&&◌, ◌||◌, ◌≡◌, Option, Some, None, List, [], ◌∷◌}
+use Rattle.std.specs.Prelude.{ℕ, ◌≤◌, ◌==◌, nat_le, not, if◌then◌else◌, Bool, true, ◌&&◌, ◌||◌, ◌≡◌, Option, Some, None, List, [], ◌∷◌}
 use Rattle.std.specs.Option.{option_map}
 use Rattle.std.specs.List.{before_first, after_first}
+use Rattle.kc_base.specs.Limits.{max_states}
 use Rattle.kc_base.specs.Fields.{is_space, word_of, byte_of}
 use Rattle.kc_debug_script.specs.declared.command.Command.{Command}
 use Rattle.kc_debug_script.specs.declared.command.Command.TheVariants.{Step, Go, Break, Registers, Show, Write, History, Quit}
@@ -35,7 +36,7 @@ letter_alone c =
 abbrev pub letter_with : ℕ → List ℕ → Option Command
 letter_with c fields =
     if c == 98 then option_map Break (word_of fields)
-    else if c == 103 then option_map Go (number_of (10 ^ 15) fields)
+    else if c == 103 then option_map Go (number_of max_states fields)
     else if c == 109 then shown (word_of (before_first is_space fields)) (number_of 256 (after_first is_space fields))
     else if c == 115 then option_map Step (number_of 1000000 fields)
     else if c == 119 then written (if_is is_writable (word_of (before_first is_space fields))) (byte_of (after_first is_space fields))
@@ -50,7 +51,7 @@ command_of (c ∷ d ∷ fields) = if is_space d then letter_with c fields else N
 -- what a command asks for is within its bounds
 abbrev pub IsBounded : Command → Type 0
 IsBounded (Step count) = (1 ≤ count) × (count ≤ 1000000)
-IsBounded (Go until) = (1 ≤ until) × (until ≤ 10 ^ 15)
+IsBounded (Go until) = (1 ≤ until) × (until ≤ max_states)
 IsBounded (Show from count) = (1 ≤ count) × (count ≤ 256)
 IsBounded (Write addr value) = is_writable addr ≡ true
 IsBounded _ = Unit {0}

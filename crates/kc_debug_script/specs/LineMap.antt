@@ -3,6 +3,7 @@ use Rattle.std.specs.Prelude.{◌≡◌, ℕ, ◌-◌, ◌<◌, ◌≤◌, ◌^�
 use Rattle.std.specs.List.{list_any}
 use Rattle.std.specs.Char.{is_ascii_lowercase}
 use Rattle.kc_base.specs.Fields.{first_of, second_of, third_of, word_of}
+use Rattle.kc_base.specs.Limits.{image_start}
 use Rattle.kc_base.specs.TextLines.{text_lines}
 use Rattle.kc_obj_module.specs.Names.{is_name}
 use Rattle.kc_debug_script.specs.declared.line_map.MapEntry.{MapEntry}
@@ -30,14 +31,14 @@ abbrev pub entry_of : List ℕ → Option MapEntry
 entry_of text =
     entry_with (map_address (first_of text)) (map_name (second_of text)) (number_of (2 ^ 32 - 1) (third_of text))
 
--- ---- a map: addresses from 2000H on, each above the one before
+-- ---- a map: addresses of an image, each above the one before
 
 abbrev pub is_below : ℕ → Option MapEntry → Bool
 is_below addr None = true
 is_below addr (Some last) = nat_lt last.addr addr
 
 abbrev pub may_come : List MapEntry → MapEntry → Bool
-may_come before entry = nat_le 0x2000 entry.addr && is_below entry.addr (slice_get before (length before - 1))
+may_come before entry = nat_le image_start entry.addr && is_below entry.addr (slice_get before (length before - 1))
 
 -- the entry of a line behind these entries
 abbrev pub entry_after : List MapEntry → List ℕ → Option MapEntry
@@ -63,7 +64,7 @@ Rises (e ∷ f ∷ es) = (e.addr < f.addr) × Rises (f ∷ es)
 
 -- what is known of the entries of a map
 pub record IsOrdered (entries : List MapEntry) : Type 0 where
-  pub high : All (λ e. 0x2000 ≤ e.addr) entries
+  pub high : All (λ e. image_start ≤ e.addr) entries
   pub rises : Rises entries
 
 -- the entry of an address

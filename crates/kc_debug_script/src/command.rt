@@ -3,7 +3,7 @@ ghost use Rattle.std.specs.Prelude.{◌≡◌, IfSome};
 ghost use Rattle.kc_debug_script.specs.Commands.{is_writable as may_be_written, letter_alone as alone, letter_with as with_fields, command_of, IsBounded};
 
 use crate::fields::number;
-use kc_base::{StateTime, hex_byte, hex_word, split_at_space};
+use kc_base::{MAX_STATES, StateTime, hex_byte, hex_word, split_at_space};
 
 /// What a line of a script asks for.
 #[derive(Clone, Copy, PartialEq, Eq, Drop)]
@@ -29,9 +29,6 @@ pub enum Command {
 /// The most activities of one command.
 const STEP_LIMIT: u64 = 1_000_000;
 
-/// The greatest state time that a run goes to.
-const TIME_LIMIT: u64 = 1_000_000_000_000_000;
-
 /// The most bytes that one command shows.
 const SHOW_LIMIT: u64 = 256;
 
@@ -56,7 +53,7 @@ fn go(fields: &[u8]) -> Option<Command>
     ensures value { result ≡ with_fields 103 fields.now }
     ensures bounded { IfSome result IsBounded }
 {
-    Some(Command::Go(number(fields, TIME_LIMIT)?))
+    Some(Command::Go(number(fields, MAX_STATES)?))
 }
 
 fn step(fields: &[u8]) -> Option<Command>

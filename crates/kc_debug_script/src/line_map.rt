@@ -6,13 +6,10 @@ ghost use Rattle.kc_debug_script.specs.LineMap.{map_address as address_in_map, i
 
 use crate::fault::DebugFault;
 use crate::fields::number;
-use kc_base::{NoMemory, Text, after, first_line, hex_word, prefix, split_at_space};
+use kc_base::{IMAGE_START, NoMemory, Text, after, first_line, hex_word, prefix, split_at_space};
 use kc_obj_module::names::name_is_sound;
 use std::alloc::Global;
 use std::marker::Model;
-
-/// The least address of a line map, where the code begins.
-const FIRST_ADDRESS: u16 = 0x2000;
 
 /// The greatest number of a line.
 const LINE_LIMIT: u64 = 4_294_967_295;
@@ -96,7 +93,7 @@ fn is_below(addr: u16, last: Option<&MapEntry>) -> bool
 fn may_come(before: &[MapEntry], entry: &MapEntry) -> bool
     ensures { result ≡ is_next before.now entry.now }
 {
-    FIRST_ADDRESS <= entry.addr && is_below(entry.addr, before.last())
+    IMAGE_START <= entry.addr && is_below(entry.addr, before.last())
 }
 
 // The entry of a line behind these entries.

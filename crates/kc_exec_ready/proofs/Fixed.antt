@@ -5,7 +5,7 @@ use Rattle.kc_exec_spec.specs.declared.cpu.Cpu.{Cpu}
 use Rattle.kc_exec_spec.specs.Plans.{plan_of}
 use Rattle.kc_exec_ready.specs.declared.cost.Cost.TheVariants.{Fixed}
 use Rattle.kc_exec_ready.specs.declared.predecoded.Predecoded.{Predecoded}
-use Rattle.kc_exec_ready.specs.Preparing.{holds_at, is_simple, known_at, time_at, IsPredecoded}
+use Rattle.kc_exec_ready.specs.Predecoding.{holds_at, is_simple, known_at, time_at, IsPredecoded}
 use Rattle.kc_exec_ready.proofs.Known.{time_known}
 
 pub fixed_known : (r : Predecoded) (cpu : Cpu) (masks : Masks) (byte : ℕ → ℕ) → IsPredecoded r → r.cost ≡ Fixed → time_at r.insn cpu masks byte ≡ Ok r.base

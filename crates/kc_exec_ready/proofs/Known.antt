@@ -20,7 +20,7 @@ use Rattle.kc_exec_spec.specs.Plans.{plan_of}
 use Rattle.kc_exec_spec.specs.Places.{is_outside, word_seen, operand_outside, is_push, is_pop, is_pop_target, stack_outside, count_seen, shifts_seen, jump_taken, planned_place, place_of, ◌>>=◌}
 use Rattle.kc_exec_ready.specs.declared.cost.Cost.TheVariants as cost
 use Rattle.kc_exec_ready.specs.declared.predecoded.Predecoded.{Predecoded}
-use Rattle.kc_exec_ready.specs.Preparing.{is_pointing, is_counting, known_count, is_normalize, is_conditional, is_free, cost_among, cost_of, place_when, test_of, holds_at, is_simple, predecoded_of, known_at, time_at, IsPredecoded}
+use Rattle.kc_exec_ready.specs.Predecoding.{is_pointing, is_counting, known_count, is_normalize, is_conditional, is_free, cost_among, cost_of, place_when, test_of, holds_at, is_simple, predecoded_of, known_at, time_at, IsPredecoded}
 
 shifts-plain : (plan : Plan) (i : Insn) (wsr : ℕ) (byte : ℕ → ℕ) → is_normalize plan ≡ false → shifts_seen plan i wsr byte ≡ count_seen wsr byte i.operand
 shifts-plain (Compute (Operate op byte)) i wsr bytes h = refl

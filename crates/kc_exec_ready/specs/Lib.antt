@@ -1,1 +1,1 @@
-pub mod Preparing
+pub mod Predecoding

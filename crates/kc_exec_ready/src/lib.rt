@@ -10,12 +10,12 @@ mod here;
 mod jumping;
 mod moving;
 mod predecoded;
-mod preparing;
+mod predecoding;
 mod rows;
 mod timing;
 
 pub use cost::Cost;
 pub use predecoded::Predecoded;
-pub use preparing::predecode;
+pub use predecoding::predecode;
 pub use rows::perform_predecoded;
 pub use timing::{is_followed_freely, is_known, known_time_of, time_of};

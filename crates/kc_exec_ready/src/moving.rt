@@ -6,7 +6,7 @@ ghost use Rattle.kc_exec_spec.specs.Effect.{run};
 ghost use Rattle.kc_exec_spec.specs.Effects.{planned};
 ghost use Rattle.kc_exec_spec.specs.Jumping.{next_pc};
 ghost use Rattle.kc_bus.specs.Counting.{KeepsCount};
-ghost use Rattle.kc_exec_ready.specs.Preparing.{GoesOn};
+ghost use Rattle.kc_exec_ready.specs.Predecoding.{GoesOn};
 
 use crate::here::Here;
 use kc_base::Kind;

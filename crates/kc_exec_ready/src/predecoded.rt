@@ -1,5 +1,5 @@
 ghost use Rattle.std.specs.Prelude.{◌≡◌, true};
-ghost use Rattle.kc_exec_ready.specs.Preparing.{is_blank};
+ghost use Rattle.kc_exec_ready.specs.Predecoding.{is_blank};
 
 use crate::cost::Cost;
 use kc_exec_spec::Test;

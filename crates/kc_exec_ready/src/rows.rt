@@ -6,7 +6,7 @@ ghost use Rattle.kc_exec_spec.specs.Effects.{planned, effect_of};
 ghost use Rattle.kc_exec_spec.specs.Jumping.{next_pc};
 ghost use Rattle.kc_exec_spec.specs.Plans.{plan_of};
 ghost use Rattle.kc_bus.specs.Counting.{KeepsCount};
-ghost use Rattle.kc_exec_ready.specs.Preparing.{is_free, is_free_setting, IsPredecoded, GoesOn, predecoded_of};
+ghost use Rattle.kc_exec_ready.specs.Predecoding.{is_free, is_free_setting, IsPredecoded, GoesOn, predecoded_of};
 
 use crate::computing::{alter, compare_long, divide, extend, multiply, normalize, operate, shift};
 use crate::here::Here;
@@ -211,7 +211,7 @@ fn perform_here<B: Bus>(
 /// Performs a predecoded instruction at `cpu.pc` after which the program goes on; answers whether an instruction has to follow,
 /// or any activity may. After a refusal the bus is as after the accesses before the refused one, and the registers are as before.
 #[inline(always)]
-#[tactic(auto, unfolding(kc_exec_spec::specs::Effects::effect_of, crate::specs::Preparing::predecoded_of))]
+#[tactic(auto, unfolding(kc_exec_spec::specs::Effects::effect_of, crate::specs::Predecoding::predecoded_of))]
 pub fn perform_predecoded<B: Bus>(
     predecoded: &Predecoded,
     cpu: &mut Cpu,

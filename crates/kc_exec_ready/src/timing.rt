@@ -5,7 +5,7 @@ ghost use Rattle.kc_base.specs.declared.types.Kind.TheVariants.{NoRegister as No
 ghost use Rattle.kc_exec_ready.specs.declared.cost.Cost.TheVariants.{Fixed};
 ghost use Rattle.kc_exec_spec.specs.Window.{is_wsr};
 ghost use Rattle.kc_exec_spec.specs.Plans.{plan_of};
-ghost use Rattle.kc_exec_ready.specs.Preparing.{is_free, is_blank, is_simple, holds_at, known_at, time_at, predecoded_of, IsPredecoded};
+ghost use Rattle.kc_exec_ready.specs.Predecoding.{is_free, is_blank, is_simple, holds_at, known_at, time_at, predecoded_of, IsPredecoded};
 
 use crate::cost::Cost;
 use crate::predecoded::Predecoded;

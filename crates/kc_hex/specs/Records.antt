@@ -3,6 +3,7 @@
 use Rattle.std.specs.Prelude.{◌≡◌, ℕ, ◌+◌, ◌-◌, ◌*◌, ◌%◌, Bool, false, not, ◌&&◌, ◌||◌, ◌==◌, nat_le, if◌then◌else◌, List, [], ◌∷◌, ◌++◌, length, take, drop, sum, replicate, Option, Some, None, Result, Ok, Err, slice_index}
 use Rattle.hex.specs.declared.FromHexError.{FromHexError}
 use Rattle.hex.specs.Hex.{decode_of}
+use Rattle.kc_base.specs.Limits.{image_start}
 use Rattle.kc_base.specs.TextLines.{text_lines}
 use Rattle.kc_base.specs.declared.image.Image.{Image}
 use Rattle.kc_hex.specs.declared.fault.HexCode.{HexCode}
@@ -36,7 +37,7 @@ is_known kind body =
 
 -- within the image
 abbrev pub is_inside : ℕ → ℕ → Bool
-is_inside address len = nat_le 0x2000 address && nat_le (address + len) 0x10000
+is_inside address len = nat_le image_start address && nat_le (address + len) 0x10000
 
 -- the least code of a record's faults
 unfoldable pub fault_of : Bool → List ℕ → Option HexCode
@@ -57,7 +58,7 @@ put image at body = take at image ++ body ++ drop (at + length body) image
 
 abbrev pub after_record : State → List ℕ → State
 after_record s bs =
-    if slice_index bs 3 == 0 then (put s.0 (address_of bs - 0x2000) (data_of bs), s.1)
+    if slice_index bs 3 == 0 then (put s.0 (address_of bs - image_start) (data_of bs), s.1)
     else (s.0, s.1 || (slice_index bs 3 == 1))
 
 abbrev pub checked : Option HexCode → State → Result State HexCode

@@ -3,6 +3,7 @@
 use Rattle.std.specs.Prelude.{ℕ, zero, suc, ◌+◌, ◌-◌, ◌/◌, ◌%◌, ◌==◌, if◌then◌else◌, List, [], ◌∷◌, ◌++◌, length, take, drop, sum, codes}
 use Rattle.std.specs.List.{list_all}
 use Rattle.hex.specs.Hex.{encode_upper}
+use Rattle.kc_base.specs.Limits.{image_start}
 
 -- what makes the sum 0 modulo 256
 abbrev pub checksum : List ℕ → ℕ
@@ -25,4 +26,4 @@ rows zero address image = []
 rows (suc n) address image = row_text address (take 16 image) ++ rows n (address + 16) (drop 16 image)
 
 abbrev pub spelling : List ℕ → List ℕ
-spelling image = rows 3584 0x2000 image ++ (codes ":00000001FF" ++ 10 ∷ [])
+spelling image = rows 3584 image_start image ++ (codes ":00000001FF" ++ 10 ∷ [])

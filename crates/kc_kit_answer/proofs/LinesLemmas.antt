@@ -1,7 +1,6 @@
 -- The image of modules, and their line map.
-use Rattle.std.proofs.Common.{◌≡◌, ◌≢◌, ℕ, List, [], map, Result, Ok, Err, refl, ap, subst}
+use Rattle.std.proofs.Common.{◌≡◌, ◌≢◌, ℕ, List, [], map, Result, Ok, Err, refl, ap}
 use Rattle.std.specs.Global.{Vec}
-use Rattle.std.specs.Result.{IsOk}
 use Rattle.kc_link_place.specs.declared.ranges.Ranges.{Ranges}
 use Rattle.kc_link_place.specs.declared.ranges.LinkFault.{LinkFault}
 use Rattle.kc_link_place.specs.Placing.{Places}
@@ -23,7 +22,7 @@ use Rattle.kc_kit_inputs.specs.declared.driving.Driving.{Driving}
 use Rattle.kc_kit_inputs.specs.Driving.{GivenFiles, driving_of}
 use Rattle.kc_kit_inputs.specs.Sources.{AreModules}
 use Rattle.kc_kit_running.specs.declared.board.Board.{Board}
-use Rattle.kc_kit_answer.specs.Jobs.{IsBoard, IsBoardWithLines}
+use Rattle.kc_kit_answer.specs.Jobs.{IsBoardWithLines}
 use Rattle.kc_kit_answer.specs.Places.{by_places, Placing}
 use Rattle.kc_kit_answer.specs.Profile.{map_entry, FilledWithLines, LinkedWithLines, DrivenWithLines}
 use Rattle.kc_kit_answer.specs.Run.{Driven, FilledReported}
@@ -37,16 +36,11 @@ lines-widen answer wide (Ok made) f h = λ report. f report (report made.1.items
 lines-widen answer wide (Err refusal) f h = λ report. refused-widen (answer report) (wide report) refusal (f report) (h report)
 
 -- the line map of the modules that the image is filled from
-pub lines-placing : (names : List (List ℕ)) (given : GivenFiles) (ranges : Ranges) (report : List MapEntry → Driving → List ℕ → Response) (ms : List Object) (lines : List LineAt) (at : Places) (r : Response) → placed ms ranges ≡ Ok at → IsLineMap ms at lines →
-    Placing names ranges (Driven given FilledReported (report (map map_entry lines))) ms r → Placing names ranges (DrivenWithLines given FilledWithLines report) ms r
-lines-placing names given ranges report ms lines at r is is_map h = by (placed ms ranges) refl h
-  where
-    by : (x : Result Places LinkFault) → placed ms ranges ≡ x → Then (by_places names ms x) (Driven given FilledReported (report (map map_entry lines)) ms) r → Then (by_places names ms x) (DrivenWithLines given FilledWithLines report ms) r
-    by (Ok places) e k =
-        let same : at ≡ places = cc in
-        then-map (driving_of given) (λ d. FilledReported (report (map map_entry lines) d) ms places) (λ d. FilledWithLines (λ entries. report entries d) ms places) r
-        (λ d f. record { image = f.image; is_filled = f.is_filled; entries = lines; is_map = subst (λ (p : Places). IsLineMap ms p lines) same is_map; reported = f.reported }) k
-    by (Err f) e k = k
+pub lines-filled : (given : GivenFiles) (report : List MapEntry → Driving → List ℕ → Response) (ms : List Object) (places : Places) (lines : List LineAt) (r : Response) → IsLineMap ms places lines →
+    Driven given FilledReported (report (map map_entry lines)) ms places r → DrivenWithLines given FilledWithLines report ms places r
+lines-filled given report ms places lines r is_map h =
+    then-map (driving_of given) (λ d. FilledReported (report (map map_entry lines) d) ms places) (λ d. FilledWithLines (λ entries. report entries d) ms places) r
+    (λ d f. record { image = f.image; is_filled = f.is_filled; entries = lines; is_map = is_map; reported = f.reported }) h
 
 -- the same in the image that is linked from sources
 pub lines-linked : SourcesAreReadWell → LinkedImage → (names : List (List ℕ)) (given : GivenFiles) (ranges : Ranges) (texts : List (List ℕ)) (report : List MapEntry → Driving → List ℕ → Response) (ms : List Object) (r : Response) → AreModules texts ms →
@@ -70,29 +64,16 @@ done-is-none cause.Link line diagnostic e = absurd (let f : status.Link ≡ stat
 done-is-none cause.ReadFault line diagnostic e = absurd (let f : status.ReadFault ≡ status.Done = ap (λ (r : Response). r.status) e in cc)
 
 -- a response that is none of a run
-none-of-a-run : (names : List (List ℕ)) (given : GivenFiles) (ranges : Ranges) (report : List MapEntry → Driving → List ℕ → Response) (ms : List Object) (r : Response) → r ≢ says status.Done [] →
-    Placing names ranges (Driven given FilledReported (λ d image. says status.Done [])) ms r → Placing names ranges (DrivenWithLines given FilledWithLines report) ms r
-none-of-a-run names given ranges report ms r un h = by (placed ms ranges) h
+none-of-a-run : (given : GivenFiles) (report : List MapEntry → Driving → List ℕ → Response) (ms : List Object) (places : Places) (r : Response) → r ≢ says status.Done [] →
+    Driven given FilledReported (λ d image. says status.Done []) ms places r → DrivenWithLines given FilledWithLines report ms places r
+none-of-a-run given report ms places r un h = driven (driving_of given) h
   where
-    driven : (places : Places) (x : Result Driving Response) → Then x (λ d. FilledReported (λ image. says status.Done []) ms places) r → Then x (λ d. FilledWithLines (λ entries. report entries d) ms places) r
-    driven places (Ok d) k = absurd (un k.reported)
-    driven places (Err e) k = k
+    driven : (x : Result Driving Response) → Then x (λ d. FilledReported (λ image. says status.Done []) ms places) r → Then x (λ d. FilledWithLines (λ entries. report entries d) ms places) r
+    driven (Ok d) k = absurd (un k.reported)
+    driven (Err e) k = k
 
-    by : (x : Result Places LinkFault) → Then (by_places names ms x) (Driven given FilledReported (λ d image. says status.Done []) ms) r → Then (by_places names ms x) (DrivenWithLines given FilledWithLines report ms) r
-    by (Ok places) k = driven places (driving_of given) k
-    by (Err f) k = k
-
-pub refused-with-lines : (names : List (List ℕ)) (given : GivenFiles) (ranges : Ranges) (ms : List Object) (refusal : Refusal) →
-    ((report : Driving → List ℕ → Response) → IsRefused (Placing names ranges (Driven given FilledReported report) ms) refusal) →
-    (report : List MapEntry → Driving → List ℕ → Response) → IsRefused (Placing names ranges (DrivenWithLines given FilledWithLines report) ms) refusal
-refused-with-lines names given ranges ms (refusals.Says c line diagnostic) f report =
-    none-of-a-run names given ranges report ms (reports (status_for c) line.items diagnostic.items) (done-is-none c line.items diagnostic.items) (f (λ d image. says status.Done []))
-refused-with-lines names given ranges ms refusals.NoMemory f report = tt
-
--- modules that have a board are placed
-pub board-placed : (names : List (List ℕ)) (given : GivenFiles) (ranges : Ranges) (ms : List Object) (board : Board) → IsBoard (λ report. Placing names ranges (Driven given FilledReported report) ms) (Ok board) → IsOk (placed ms ranges)
-board-placed names given ranges ms board h = by (placed ms ranges) (h (λ d image. says status.Done []))
-  where
-    by : (x : Result Places LinkFault) → Then (by_places names ms x) (Driven given FilledReported (λ d image. says status.Done []) ms) (says status.Done []) → IsOk x
-    by (Ok places) k = refl
-    by (Err fault) k = absurd (let f : status.Done ≡ status.Link = ap (λ (r : Response). r.status) k in cc)
+pub refused-with-lines : (given : GivenFiles) (ms : List Object) (places : Places) (refusal : Refusal) →
+    ((report : Driving → List ℕ → Response) → IsRefused (Driven given FilledReported report ms places) refusal) →
+    (report : List MapEntry → Driving → List ℕ → Response) → IsRefused (DrivenWithLines given FilledWithLines report ms places) refusal
+refused-with-lines given ms places (refusals.Says c line diagnostic) f report = none-of-a-run given report ms places (reports (status_for c) line.items diagnostic.items) (done-is-none c line.items diagnostic.items) (f (λ d image. says status.Done []))
+refused-with-lines given ms places refusals.NoMemory f report = tt

@@ -4,6 +4,11 @@ use Rattle.std.specs.Global.{Vec}
 use Rattle.kc_code_listing.specs.Listing.{listing}
 use Rattle.kc_debug_script.specs.declared.line_map.MapEntry.{MapEntry}
 use Rattle.kc_base.specs.Held.{Holding}
+use Rattle.kc_obj_module.specs.Object.{Object}
+use Rattle.kc_link_place.specs.declared.ranges.Ranges.{Ranges}
+use Rattle.kc_link_place.specs.declared.placing.Placement.{Placement}
+use Rattle.kc_link_place.specs.Placements.{IsPlacement}
+use Rattle.kc_link.specs.Placed.{placed}
 use Rattle.kc_kit_files.specs.declared.status.Status.TheVariants as status
 use Rattle.kc_kit_files.specs.Outside.{OnlyRead}
 use Rattle.kc_kit_files.specs.declared.refusal.Refusal.{Refusal}
@@ -18,6 +23,7 @@ use Rattle.kc_kit_answer.specs.declared.job.Job.{Job}
 use Rattle.kc_kit_answer.specs.declared.job.Job.TheVariants as job
 use Rattle.kc_kit_running.specs.declared.output.Output.{Output}
 use Rattle.kc_kit_answer.specs.Answer.{MayAnswerBy}
+use Rattle.kc_kit_answer.specs.Places.{places_of}
 use Rattle.kc_kit_running.specs.Scripted.{debugged_by, script_response}
 use Rattle.kc_kit_running.specs.Counted.{summary_of}
 use Rattle.kc_kit_running.specs.Lives.{board_response}
@@ -45,6 +51,11 @@ IsDoable (job.Count board number) = Unit {0}
 IsDoable (job.List image first last) = (0x2000 ≤ first) × (first ≤ last)
 IsDoable (job.Debug board script lines) = Unit {0}
 IsDoable (job.Write file lines map) = Unit {0}
+
+-- where modules stand; or the refusal of the first broken rule
+abbrev pub IsPlaced : List (List ℕ) → Ranges → List Object → Result Placement Refusal → Type 0
+IsPlaced names ranges ms (Ok p) = IsPlacement ms (placed ms ranges) p
+IsPlaced names ranges ms (Err refusal) = IsRefused (λ response. places_of names ms ranges ≡ Err response) refusal
 
 -- a board with an image and what drives its inputs, on which what is answered depends; or a refusal that may be answered
 abbrev pub IsBoard : ((Driving → List ℕ → Response) → Response → Type 0) → Result Board Refusal → Type 0

@@ -1,11 +1,10 @@
 -- The command that links objects: the hex file first, and then the line map and the map of pieces and names where they are asked
 -- for (this kit's own). Commands read a hex file and a line map.
-use Rattle.std.specs.Prelude.{◌≡◌, ℕ, ◌+◌, ◌≤◌, List, [], ◌∷◌, ◌++◌, length, Option, Some, None, Result, Ok}
+use Rattle.std.specs.Prelude.{◌≡◌, ℕ, ◌+◌, ◌≤◌, List, [], ◌∷◌, ◌++◌, length, Option, Some, None, Result}
 use Rattle.kc_obj_module.specs.Object.{Object}
 use Rattle.kc_lib.specs.Taking.{AreTaken}
 use Rattle.kc_link_place.specs.declared.ranges.Ranges.{Ranges}
-use Rattle.kc_link_place.specs.Placing.{Places, located}
-use Rattle.kc_link.specs.Placed.{placed}
+use Rattle.kc_link_place.specs.Placing.{Places}
 use Rattle.kc_link_map.specs.Map.{map_text as link_map_text}
 use Rattle.kc_link.specs.declared.lines.LineAt.{LineAt}
 use Rattle.kc_link.specs.Filled.{IsFilled}
@@ -34,15 +33,6 @@ IsMap (Some name) ms places writes = (entries : List LineAt) × IsLineMap ms pla
 abbrev pub map_writes : Option (List ℕ) → List Object → Ranges → Places → List Write
 map_writes None ms ranges places = []
 map_writes (Some name) ms ranges places = write name (link_map_text ms ranges places) ∷ []
-
--- what is written of a line map, and of a map, once all pieces are placed
-abbrev pub AreLineMaps : Option (List ℕ) → List Object → Ranges → List Write → Type 0
-AreLineMaps None ms ranges writes = writes ≡ []
-AreLineMaps (Some name) ms ranges writes = (places : Places) × (placed ms ranges ≡ Ok places) × IsMap (Some name) ms places writes
-
-abbrev pub AreMaps : Option (List ℕ) → List Object → Ranges → List Write → Type 0
-AreMaps None ms ranges writes = writes ≡ []
-AreMaps (Some name) ms ranges writes = (places : Places) × (located ms ranges ≡ Ok places) × (writes ≡ map_writes (Some name) ms ranges places)
 
 pub record LinksTo (out : List ℕ) (beside : Beside) (ranges : Ranges) (ms : List Object) (places : Places) (response : Response) : Type 0 where
   pub image : List ℕ

@@ -27,6 +27,10 @@ ProfileHexAnswer name inputs states out text input_texts response = HexReported 
 abbrev pub map_entry : LineAt → MapEntry
 map_entry entry = record { addr = entry.addr; name = entry.name; line = entry.line }
 
+-- the entries of the line map of modules at their places
+abbrev pub AreEntries : List Object → Places → List MapEntry → Type 0
+AreEntries ms places entries = (lines : List LineAt) × IsLineMap ms places lines × (entries ≡ map map_entry lines)
+
 -- in the image that is filled from modules, with their line map, the answer is this
 pub record FilledWithLines (report : List MapEntry → List ℕ → Response) (ms : List Object) (places : Places) (response : Response) : Type 0 where
   pub image : List ℕ

@@ -1,5 +1,6 @@
 // Boards that are to be run.
 ghost use Rattle.std.specs.Prelude.{◌≡◌, ◌≤◌, length, map, string_bytes};
+ghost use Rattle.kc_link.specs.Placed.{ArePlacedAt};
 ghost use Rattle.kc_kit_files.specs.Reads.{AllShort};
 ghost use Rattle.kc_kit_words.specs.Asked.{AreLinkable};
 ghost use Rattle.kc_kit_inputs.specs.Driving.{given_in, AreShort};
@@ -9,12 +10,14 @@ ghost use Rattle.kc_kit_answer.specs.Jobs.{IsBoard};
 ghost use Rattle.kc_kit_answer.specs.Places.{Placing};
 ghost use Rattle.kc_kit_answer.specs.Run.{Driven, FilledReported, SourcesReported};
 
+use crate::placing::place_modules;
 use kc_asm_earlier_laws::sources_are_read_well;
 use kc_kit_files::Refusal;
 use kc_kit_inputs::{Given, assemble_sources, driving_in, image_of};
-use kc_kit_notes::{Origins, link_refusal};
+use kc_kit_notes::Origins;
 use kc_kit_running::Board;
 use kc_kit_words::Ranges;
+use kc_link::{Placement, image_at};
 use kc_link_source_laws::linked_image;
 use kc_obj_module::Module;
 use std::alloc::Global;
@@ -63,8 +66,8 @@ pub(crate) fn board_of_sources(
     }
 }
 
-/// The board of the image that is linked from modules.
-pub(crate) fn board_of_modules(
+// The board of the image that is linked from modules.
+fn board_of_modules(
     alloc: Global,
     names: &[String],
     modules: &[Module],
@@ -75,17 +78,32 @@ pub(crate) fn board_of_modules(
     requires given { AreShort given }
     ensures { IsBoard (λ report. Placing (map string_bytes names.now) placing.now (Driven (given_in given.entry) FilledReported report) modules.now) result }
 {
-    match kc_link::link(alloc, modules, placing) {
-        Ok(image) => match driving_in(alloc, given) {
-            Ok(driving) => Ok(Board { image, driving }),
-            Err(refusal) => Err(refusal),
-        },
-        Err(fault) => {
-            let origins = Origins {
-                files: names,
-                members: None,
-            };
-            Err(link_refusal(alloc, &origins, modules, &fault))
-        }
+    let origins = Origins {
+        files: names,
+        members: None,
+    };
+    match place_modules(alloc, &origins, modules, placing) {
+        Ok(placement) => board_at(alloc, modules, &placement, given),
+        Err(refusal) => Err(refusal),
+    }
+}
+
+/// The board of the image of modules at their places, with what given files drive; or the refusal of the first fault in those.
+pub(crate) fn board_at(
+    alloc: Global,
+    modules: &[Module],
+    placement: &Placement,
+    given: Given<'_>,
+) -> Result<Board, Refusal>
+    requires placed { ArePlacedAt modules.now placement.now }
+    requires given { AreShort given }
+    ensures { IsBoard (λ report. Driven (given_in given.entry) FilledReported report modules.now placement.now.places) result }
+{
+    let Ok(image) = image_at(alloc, modules, placement) else {
+        return Err(Refusal::NoMemory);
+    };
+    match driving_in(alloc, given) {
+        Ok(driving) => Ok(Board { image, driving }),
+        Err(refusal) => Err(refusal),
     }
 }

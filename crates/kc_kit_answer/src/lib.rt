@@ -14,6 +14,7 @@ mod line_map;
 mod link;
 mod list;
 mod pack;
+mod placing;
 mod profile;
 mod run;
 mod run_hex;

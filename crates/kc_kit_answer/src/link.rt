@@ -1,9 +1,7 @@
 // The command that links objects.
-ghost use Rattle.std.specs.Prelude.{◌≡◌, ◌≤◌, ◌++◌, ℕ, Ok, Some, IfOk, List, length, map, string_bytes};
-ghost use Rattle.std.specs.Result.{IsOk};
-ghost use Rattle.kc_link_place.specs.Placing.{Places};
-ghost use Rattle.kc_link.specs.Placed.{placed};
-ghost use Rattle.kc_link.specs.Filled.{IsImage};
+ghost use Rattle.std.specs.Prelude.{◌≡◌, ◌≤◌, ◌++◌, ℕ, Some, IfOk, List, length, map, string_bytes};
+ghost use Rattle.kc_link_place.specs.Placements.{IsPlacement};
+ghost use Rattle.kc_link.specs.Placed.{placed, ArePlacedAt};
 ghost use Rattle.kc_link.specs.LineMap.{IsLineMap};
 ghost use Rattle.kc_link.specs.declared.lines.LineAt.{LineAt};
 ghost use Rattle.kc_kit_files.specs.Reads.{AllShort};
@@ -11,21 +9,22 @@ ghost use Rattle.kc_kit_words.specs.Asked.{asked, beside_in, AreLinkable, IsWith
 ghost use Rattle.kc_kit_words.specs.Inputs.{inputs_in};
 ghost use Rattle.kc_kit_answer.specs.Jobs.{IsPrepared, Prepares, maybe_written};
 ghost use Rattle.kc_kit_answer.specs.Lines.{map_text};
-ghost use Rattle.kc_kit_answer.specs.Link.{Completed, LinkAnswer, LinksTo, AreLineMaps, AreMaps};
+ghost use Rattle.kc_kit_answer.specs.Link.{Completed, LinkAnswer, LinksTo, IsMap, map_writes};
 ghost use Rattle.kc_kit_notes.specs.Origins.{words_of};
 ghost use Rattle.kc_kit_answer.specs.Places.{Placing};
 
 use crate::job::Job;
 use crate::line_map::map_text;
+use crate::placing::place_modules;
 use crate::writing::writing;
-use kc_base::{Files, Image, NoMemory};
+use kc_base::{Files, NoMemory};
 use kc_kit_files::{Refusal, read_files};
 use kc_kit_inputs::{input_for, read_inputs, read_library, read_objects, take_members};
-use kc_kit_notes::{Members, Origins, link_refusal};
+use kc_kit_notes::{Members, Origins};
 use kc_kit_running::Output;
 use kc_kit_words::{Command, Link, Role};
-use kc_link::{LinkFault, line_map};
-use kc_link_map::link_map;
+use kc_link::{Placement, image_at, lines_at};
+use kc_link_map::map_at;
 use kc_obj_module::Module;
 use std::alloc::Global;
 
@@ -132,31 +131,34 @@ fn link_modules<'a>(
     requires { AreLinkable (length modules.now) link.now.placing }
     ensures { IsPrepared (Placing (words_of origins.now) link.now.placing (LinksTo link.now.out.now (beside_in link.now.beside) link.now.placing) modules.now) result }
 {
-    match kc_link::link(alloc, modules, &link.placing) {
-        Ok(image) => outputs(alloc, link, modules, &image),
-        Err(fault) => Err(link_refusal(alloc, origins, modules, &fault)),
+    match place_modules(alloc, origins, modules, &link.placing) {
+        Ok(placement) => outputs(alloc, link, modules, &placement),
+        Err(refusal) => Err(refusal),
     }
 }
 
-// The files of a linked image: the hex file, and those beside it that are asked for.
+// The files of modules at their places: the hex file of the image, and those beside it that are asked for.
 fn outputs<'a>(
     alloc: Global,
     link: &Link<'a>,
     modules: &[Module],
-    image: &Image,
+    placement: &Placement,
 ) -> Result<Job<'a>, Refusal>
     requires linkable { AreLinkable (length modules.now) link.now.placing }
-    requires linked { IsImage modules.now link.now.placing (Ok image.now) }
+    requires placed { IsPlacement modules.now (placed modules.now link.now.placing) placement.now }
     ensures { (names : List (List ℕ)) → IsPrepared (Placing names link.now.placing (LinksTo link.now.out.now (beside_in link.now.beside) link.now.placing) modules.now) result }
 {
-    let Ok(bytes) = kc_hex::write(alloc, image) else {
+    let Ok(image) = image_at(alloc, modules, placement) else {
+        return Err(Refusal::NoMemory);
+    };
+    let Ok(bytes) = kc_hex::write(alloc, &image) else {
         return Err(Refusal::NoMemory);
     };
     let file = Output {
         name: link.out,
         bytes,
     };
-    match beside(alloc, link, modules) {
+    match beside(alloc, link, modules, placement) {
         Ok((lines, map)) => writing(alloc, file, lines, map),
         Err(NoMemory) => Err(Refusal::NoMemory),
     }
@@ -167,68 +169,61 @@ fn beside<'a>(
     alloc: Global,
     link: &Link<'a>,
     modules: &[Module],
+    placement: &Placement,
 ) -> Result<(Option<Output<'a>>, Option<Output<'a>>), NoMemory>
     requires linkable { AreLinkable (length modules.now) link.now.placing }
-    requires placed { IsOk (placed modules.now link.now.placing) }
-    ensures lines { IfOk result (λ files. AreLineMaps (beside_in link.now.beside).lines modules.now link.now.placing (maybe_written files.0)) }
-    ensures map { IfOk result (λ files. AreMaps (beside_in link.now.beside).map modules.now link.now.placing (maybe_written files.1)) }
+    requires placed { ArePlacedAt modules.now placement.now }
+    ensures lines { IfOk result (λ files. IsMap (beside_in link.now.beside).lines modules.now placement.now.places (maybe_written files.0)) }
+    ensures map { IfOk result (λ files. maybe_written files.1 ≡ map_writes (beside_in link.now.beside).map modules.now link.now.placing placement.now.places) }
 {
-    let lines = lines_file(alloc, link, modules)?;
-    let map = map_file(alloc, link, modules)?;
+    let lines = lines_file(alloc, link, modules, placement)?;
+    let map = map_file(alloc, link, modules, placement)?;
     Ok((lines, map))
 }
 
-// The line map of modules that are linked, where one is asked for.
+// The line map of modules at their places, where one is asked for.
 fn lines_file<'a>(
     alloc: Global,
     link: &Link<'a>,
     modules: &[Module],
+    placement: &Placement,
 ) -> Result<Option<Output<'a>>, NoMemory>
-    requires linkable { AreLinkable (length modules.now) link.now.placing }
-    requires placed { IsOk (placed modules.now link.now.placing) }
-    ensures { IfOk result (λ file. AreLineMaps (beside_in link.now.beside).lines modules.now link.now.placing (maybe_written file)) }
+    requires { ArePlacedAt modules.now placement.now }
+    ensures { IfOk result (λ file. IsMap (beside_in link.now.beside).lines modules.now placement.now.places (maybe_written file)) }
 {
     match link.beside.lines {
         None => Ok(None),
         Some(name) => {
-            let bytes = lines_of(alloc, link, modules)?;
+            let bytes = lines_of(alloc, modules, placement)?;
             Ok(Some(Output { name, bytes }))
         }
     }
 }
 
-// The text of the line map of modules that are linked.
-fn lines_of(alloc: Global, link: &Link<'_>, modules: &[Module]) -> Result<Vec<u8>, NoMemory>
-    requires linkable { AreLinkable (length modules.now) link.now.placing }
-    requires placed { IsOk (placed modules.now link.now.placing) }
-    ensures { IfOk result (λ text. (entries : List LineAt) × (places : Places) × (placed modules.now link.now.placing ≡ Ok places) × IsLineMap modules.now places entries × (text.items ≡ map_text entries)) }
+// The text of the line map of modules at their places.
+fn lines_of(alloc: Global, modules: &[Module], placement: &Placement) -> Result<Vec<u8>, NoMemory>
+    requires { ArePlacedAt modules.now placement.now }
+    ensures { IfOk result (λ text. (entries : List LineAt) × IsLineMap modules.now placement.now.places entries × (text.items ≡ map_text entries)) }
 {
-    match line_map(alloc, modules, &link.placing) {
-        Ok(entries) => {
-            let text = map_text(alloc, &entries)?;
-            Ok(text)
-        }
-        Err(LinkFault::NoMemory) => Err(NoMemory),
-        Err(_) => unreachable!(),
-    }
+    let entries = lines_at(alloc, modules, placement)?;
+    map_text(alloc, &entries)
 }
 
-// The map of the pieces and names of modules that are linked, where one is asked for.
+// The map of the pieces and names of modules at their places, where one is asked for.
 fn map_file<'a>(
     alloc: Global,
     link: &Link<'a>,
     modules: &[Module],
+    placement: &Placement,
 ) -> Result<Option<Output<'a>>, NoMemory>
-    requires linkable { AreLinkable (length modules.now) link.now.placing }
-    requires placed { IsOk (placed modules.now link.now.placing) }
-    ensures { IfOk result (λ file. AreMaps (beside_in link.now.beside).map modules.now link.now.placing (maybe_written file)) }
+    requires { AreLinkable (length modules.now) link.now.placing }
+    ensures { IfOk result (λ file. maybe_written file ≡ map_writes (beside_in link.now.beside).map modules.now link.now.placing placement.now.places) }
 {
     match link.beside.map {
         None => Ok(None),
-        Some(name) => match link_map(alloc, modules, &link.placing) {
-            Ok(bytes) => Ok(Some(Output { name, bytes })),
-            Err(LinkFault::NoMemory) => Err(NoMemory),
-            Err(_) => unreachable!(),
-        },
+        Some(name) => {
+            let bytes = map_at(alloc, modules, &placement.places, &link.placing)?;
+            Ok(Some(Output { name, bytes }))
+        }
     }
 }

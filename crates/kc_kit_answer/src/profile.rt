@@ -1,5 +1,6 @@
 // The commands that run a board and write where its states go.
 ghost use Rattle.std.specs.Prelude.{◌≡◌, ◌≤◌, IfOk, length, map, string_bytes};
+ghost use Rattle.kc_link.specs.Placed.{ArePlacedAt};
 ghost use Rattle.kc_kit_files.specs.Reads.{AllShort};
 ghost use Rattle.kc_kit_words.specs.Asked.{asked, AreLinkable, IsWithin};
 ghost use Rattle.kc_kit_words.specs.Inputs.{inputs_in};
@@ -8,18 +9,20 @@ ghost use Rattle.kc_kit_inputs.specs.Driving.{given_in, AreShort};
 ghost use Rattle.kc_kit_inputs.specs.FaultDiagnostics.{IsFaultDiagnostic};
 ghost use Rattle.kc_kit_answer.specs.Jobs.{IsBoardWithLines, IsPrepared, Prepares};
 ghost use Rattle.kc_kit_answer.specs.Places.{Placing};
-ghost use Rattle.kc_kit_answer.specs.Profile.{map_entry, DrivenWithLines, FilledWithLines, LinesReported, ProfileAnswer, ProfileHexAnswer};
+ghost use Rattle.kc_kit_answer.specs.Profile.{map_entry, AreEntries, DrivenWithLines, FilledWithLines, LinesReported, ProfileAnswer, ProfileHexAnswer};
 
-use crate::board::{board_of_hex, board_of_modules};
+use crate::board::{board_at, board_of_hex};
 use crate::job::Job;
+use crate::placing::place_modules;
 use kc_asm_earlier_laws::sources_are_read_well;
 use kc_base::{Files, NoMemory};
 use kc_debug_script::MapEntry;
 use kc_kit_files::{Refusal, read_file, read_files};
 use kc_kit_inputs::{Given, assemble_sources, given_for, read_inputs};
+use kc_kit_notes::Origins;
 use kc_kit_running::Board;
 use kc_kit_words::{Command, Profile, ProfileHex, Ranges};
-use kc_link::{LineAt, LinkFault, line_map};
+use kc_link::{LineAt, Placement, lines_at};
 use kc_link_source_laws::linked_image;
 use kc_obj_module::Module;
 use std::alloc::Global;
@@ -150,19 +153,48 @@ fn linked(
     requires given { AreShort given }
     ensures { IsBoardWithLines (λ report. Placing (map string_bytes names.now) placing.now (DrivenWithLines (given_in given.entry) FilledWithLines report) modules.now) result }
 {
-    let board = match board_of_modules(alloc, names, modules, placing, given) {
+    let origins = Origins {
+        files: names,
+        members: None,
+    };
+    match place_modules(alloc, &origins, modules, placing) {
+        Ok(placement) => linked_at(alloc, modules, &placement, given),
+        Err(refusal) => Err(refusal),
+    }
+}
+
+// The board of the image of modules at their places, and their line map.
+fn linked_at(
+    alloc: Global,
+    modules: &[Module],
+    placement: &Placement,
+    given: Given<'_>,
+) -> Result<(Board, Vec<MapEntry>), Refusal>
+    requires placed { ArePlacedAt modules.now placement.now }
+    requires given { AreShort given }
+    ensures { IsBoardWithLines (λ report. DrivenWithLines (given_in given.entry) FilledWithLines report modules.now placement.now.places) result }
+{
+    let board = match board_at(alloc, modules, placement, given) {
         Ok(board) => board,
         Err(refusal) => return Err(refusal),
     };
-    let lines = match line_map(alloc, modules, placing) {
-        Ok(lines) => lines,
-        Err(LinkFault::NoMemory) => return Err(Refusal::NoMemory),
-        Err(_) => unreachable!(),
-    };
-    match entries_of(alloc, lines) {
+    match entries_at(alloc, modules, placement) {
         Ok(entries) => Ok((board, entries)),
         Err(NoMemory) => Err(Refusal::NoMemory),
     }
+}
+
+// The entries of the line map of modules at their places.
+fn entries_at(
+    alloc: Global,
+    modules: &[Module],
+    placement: &Placement,
+) -> Result<Vec<MapEntry>, NoMemory>
+    requires { ArePlacedAt modules.now placement.now }
+    ensures { IfOk result (λ entries. AreEntries modules.now placement.now.places entries.items) }
+{
+    let lines = lines_at(alloc, modules, placement)?;
+    entries_of(alloc, lines)
 }
 
 fn entry_of(line: LineAt) -> MapEntry

@@ -54,7 +54,7 @@ Ends held writes written faults may files sink ended files_after sink_after =
     EndsBy may (kept (held files) (writes files)) (shown_by written faults sink) ended.status ended.said (kept (held files_after) (writes files_after)) (shown_by written faults sink_after)
 
 -- ---- diagnostics: a sink of their own. What is put there with a status is the diagnostic of the response that is given; of a write that has failed,
--- ---- what could not be written; of memory that ran out, that; and of words that are no command, what is wrong in them.
+-- ---- what could not be written; of that memory ran out, that; and of words that are no command, what is wrong in them.
 
 abbrev pub Noted : List ℕ → (Response → Type 0) → Kept → Shown → Out → Status → Kept → Shown → Out → Type 0
 Noted usage may old before diagnostics status.NoMemory new now noted = Puts diagnostics memory_diagnostic noted

@@ -8,7 +8,7 @@ use Rattle.kc_lib.specs.Names.{takes, gives}
 use Rattle.kc_link_place.specs.declared.ranges.LinkFault.{LinkFault}
 use Rattle.kc_link_place.specs.declared.ranges.LinkFault.TheVariants as fault
 use Rattle.kc_link_map.specs.Map.{kind_word}
-use Rattle.kc_trace.specs.Text.{hex}
+use Rattle.kc_base.specs.Digits.{hex}
 use Rattle.kc_kit_shown.specs.Shown.{shown}
 use Rattle.kc_kit_notes.specs.Diagnostics.{number_text, error_text}
 use Rattle.kc_kit_notes.specs.Rules.{file_at}

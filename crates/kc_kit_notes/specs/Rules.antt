@@ -4,7 +4,7 @@ use Rattle.kc_obj_module.specs.Object.{Object}
 use Rattle.kc_link_place.specs.declared.ranges.LinkFault.{LinkFault}
 use Rattle.kc_link_place.specs.declared.ranges.LinkFault.TheVariants as fault
 use Rattle.kc_link_map.specs.Map.{kind_word}
-use Rattle.kc_trace.specs.Text.{hex}
+use Rattle.kc_base.specs.Digits.{hex}
 
 -- the word that names a module's file; that of the one stack of all modules is `-`
 abbrev pub file_at : List (List ℕ) → ℕ → List ℕ

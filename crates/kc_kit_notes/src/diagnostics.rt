@@ -3,7 +3,6 @@ ghost use Rattle.std.specs.Prelude.{◌≡◌, ◌++◌, codes, decimal, IfOk, O
 ghost use Rattle.std.specs.Option.{option_map};
 ghost use Rattle.kc_kit_notes.specs.Diagnostics.{line_at, line_shown, number_text, error_text, line_diagnostic, byte_diagnostic};
 
-use itoa::Buffer;
 use kc_base::{NoMemory, after, first_line, prefix};
 use kc_explain::sentence;
 use kc_kit_shown::{put_shown, shown};
@@ -33,10 +32,8 @@ fn line_at(text: &[u8], number: u32) -> Option<&[u8]>
 pub(crate) fn put_number(diagnostic: &mut Vec<u8>, line: u32) -> Result<(), NoMemory>
     ensures { OnOk result (diagnostic.new.items ≡ diagnostic.old.items ++ number_text line) }
 {
-    let mut buffer = Buffer::new();
     diagnostic.push(b':')?;
-    diagnostic.extend_from_slice(buffer.format(line).as_bytes())?;
-    Ok(())
+    kc_base::put_number(diagnostic, u64::from(line))
 }
 
 /// Puts a code behind a diagnostic, with more behind it, and with its sentence.
@@ -88,8 +85,7 @@ fn byte_text(alloc: Global, place: u32) -> Result<Vec<u8>, NoMemory>
     ensures { IfOk result (λ text. text.items ≡ codes " at byte " ++ decimal place) }
 {
     let mut text = Vec::from_slice(alloc, b" at byte ")?;
-    let mut buffer = Buffer::new();
-    text.extend_from_slice(buffer.format(place).as_bytes())?;
+    kc_base::put_number(&mut text, u64::from(place))?;
     Ok(text)
 }
 

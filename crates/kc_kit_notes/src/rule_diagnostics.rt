@@ -9,12 +9,11 @@ use crate::diagnostics::{put_error, put_number};
 use crate::origins::{Origins, file_at, joined};
 use crate::rule_files::in_files;
 use crate::rule_lines::place_text;
-use kc_base::NoMemory;
+use kc_base::{NoMemory, address_text};
 use kc_kit_shown::{put_shown, shown};
 use kc_link_map::kind_word;
 use kc_link_place::LinkFault;
 use kc_obj_module::{Lines, Module};
-use kc_trace::address_text;
 use std::alloc::Global;
 
 // The line of the last of these entries that belongs to a piece and stands at an offset or below it.

@@ -8,13 +8,11 @@ ghost use Rattle.kc_kit_notes.specs.Origins.{words_of};
 
 use crate::origins::{Origins, file_at, joined};
 use crate::rule_diagnostics::link_diagnostic;
-use itoa::Buffer;
-use kc_base::NoMemory;
+use kc_base::{NoMemory, address_text, put_number};
 use kc_kit_files::{Cause, Refusal, refusal_of};
 use kc_link_map::kind_word;
 use kc_link_place::LinkFault;
 use kc_obj_module::Module;
-use kc_trace::address_text;
 use std::alloc::Global;
 
 fn capacity_text(alloc: Global, kind: &[u8], file: &[u8]) -> Result<Vec<u8>, NoMemory>
@@ -30,11 +28,10 @@ fn capacity_text(alloc: Global, kind: &[u8], file: &[u8]) -> Result<Vec<u8>, NoM
 pub(crate) fn place_text(alloc: Global, piece: u16, offset: u16) -> Result<Vec<u8>, NoMemory>
     ensures { IfOk result (λ text. text.items ≡ decimal piece ++ codes " " ++ decimal offset) }
 {
-    let mut buffer = Buffer::new();
-    let mut text = Vec::from_slice(alloc, buffer.format(piece).as_bytes())?;
+    let mut text = Vec::new(alloc);
+    put_number(&mut text, u64::from(piece))?;
     text.push(b' ')?;
-    let mut digits = Buffer::new();
-    text.extend_from_slice(digits.format(offset).as_bytes())?;
+    put_number(&mut text, u64::from(offset))?;
     Ok(text)
 }
 

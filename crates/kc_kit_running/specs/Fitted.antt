@@ -11,7 +11,8 @@ use Rattle.kc_extra.specs.declared.extra.Extra as extra
 use Rattle.kc_extra.specs.declared.pair.Pair.{Pair}
 use Rattle.kc_extra.specs.contracts.pair.Pair as pair_type
 use Rattle.kc_extra.specs.contracts.pair_unit.PairExtra.TheImpl as pair
-use Rattle.kc_serial.specs.Port.{rxd, start as start_of_port}
+use Rattle.kc_base.specs.Pins.{rxd}
+use Rattle.kc_serial.specs.Port.{start as start_of_port}
 use Rattle.kc_serial.specs.declared.serial.Serial.{Serial}
 use Rattle.kc_serial.specs.contracts.serial.Serial as serial_type
 use Rattle.kc_serial.specs.contracts.serial.SerialExtra.TheImpl as serial

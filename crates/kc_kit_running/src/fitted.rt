@@ -5,7 +5,7 @@ ghost use Rattle.kc_kit_running.specs.Fitted.{units_at, fitted_agrees, rxd_befor
 ghost use Rattle.kc_kit_running.specs.Running.{machine_of};
 
 use crate::board::Board;
-use kc_base::{Level, NoMemory, StateTime};
+use kc_base::{Level, NoMemory, Pin, StateTime};
 use kc_block_inputs::{has_pin, start_levels};
 use kc_convert::{Analog, Converter, Pulses};
 use kc_extra::Pair;
@@ -15,9 +15,6 @@ use kc_serial::Serial;
 use kc_stim::Stimuli;
 use std::alloc::Global;
 
-/// The pin from which the serial port receives.
-const RXD: u8 = 37;
-
 /// The further units that are fitted to the board.
 pub(crate) type FittedUnit = Pair<Serial, Pair<Converter, Pulses>>;
 
@@ -25,7 +22,7 @@ pub(crate) type FittedUnit = Pair<Serial, Pair<Converter, Pulses>>;
 fn rxd_level(stimuli: &Stimuli) -> Level
     ensures { result ≡ rxd_before stimuli.now }
 {
-    Level::of(has_pin(start_levels(stimuli), RXD))
+    Level::of(has_pin(start_levels(stimuli), Pin::RXD.0))
 }
 
 /// The units before the first state of a run, where these drive the inputs: the pins from their state 0 on, the analogue

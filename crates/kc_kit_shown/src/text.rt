@@ -4,7 +4,7 @@ ghost use Rattle.kc_trace.specs.Out.{Puts};
 ghost use Rattle.kc_trace.specs.Trace.{out_of};
 ghost use Rattle.kc_kit_shown.specs.Shown.{is_control, shown_byte, shown};
 
-use kc_base::{NoMemory, Sink, hex_digit};
+use kc_base::{NoMemory, Sink, byte_text};
 use kc_trace::TraceOut;
 use std::alloc::Global;
 
@@ -21,8 +21,7 @@ fn put_byte(diagnostic: &mut Vec<u8>, byte: u8) -> Result<(), NoMemory>
 {
     if is_control(byte) {
         diagnostic.extend_from_slice(b"\\x")?;
-        diagnostic.push(hex_digit(byte / 16))?;
-        diagnostic.push(hex_digit(byte % 16))?;
+        diagnostic.extend_from_slice(byte_text(byte).as_slice())?;
     } else {
         diagnostic.push(byte)?;
     }
@@ -55,7 +54,8 @@ fn report_byte<N: Sink>(diagnostics: &mut TraceOut<N>, byte: u8)
     ensures { Puts (out_of N.written N.faults diagnostics.old) (shown_byte byte) (out_of N.written N.faults diagnostics.new) }
 {
     if is_control(byte) {
-        diagnostics.put_text(&[b'\\', b'x', hex_digit(byte / 16), hex_digit(byte % 16)]);
+        let [high, low] = byte_text(byte);
+        diagnostics.put_text(&[b'\\', b'x', high, low]);
     } else {
         diagnostics.put_text(&[byte]);
     }

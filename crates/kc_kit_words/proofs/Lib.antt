@@ -1,4 +1,3 @@
-pub mod Digits
 pub mod OptionLemmas
 pub mod OrderLemmas
 pub mod UsageLemmas

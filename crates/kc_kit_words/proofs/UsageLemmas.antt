@@ -6,6 +6,7 @@ use Rattle.std.specs.Option.{option_map, option_map_or, option_or}
 use Rattle.std.specs.Str.{bytes_eq}
 use Rattle.std.proofs.lemmas.Bool.Decides.{nat_tests}
 use Rattle.std.proofs.lemmas.List.{take_all, take-map, drop-map}
+use Rattle.kc_base.specs.Limits.{image_start}
 use Rattle.kc_link_place.specs.Ranges.{are_in_bounds, lies_within}
 use Rattle.kc_kit_words.specs.declared.extent.Extent.{Extent}
 use Rattle.kc_kit_words.specs.declared.values.Form.{Form}
@@ -216,7 +217,7 @@ list-agrees (file ∷ range ∷ []) = gate (wrong_name file) (wrong_range range 
 
     by : (r : Option (ℕ × ℕ)) → is_some (wrong_range range r) ≡ is_none (lists_by file r)
     by None = refl
-    by (Some r) = within r (lies_within 0x2000 0xFFFF r)
+    by (Some r) = within r (lies_within image_start 0xFFFF r)
 list-agrees (file ∷ range ∷ word ∷ words) = refl
 
 debug-agrees : (files : List (List ℕ)) (verb : List ℕ) (options : List (List ℕ)) → is_some (wrong_pair files) ≡ is_none (debug_by files verb options)

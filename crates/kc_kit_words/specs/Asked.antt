@@ -1,6 +1,7 @@
 -- What a read command asks for, and what a read option sets (this kit's own).
 use Rattle.std.specs.Prelude.{◌≡◌, ℕ, ◌≤◌, ◌<◌, true, map, length, string_bytes, IfSome}
 use Rattle.std.specs.Option.{option_map}
+use Rattle.kc_base.specs.Limits.{image_start}
 use Rattle.kc_link_place.specs.declared.ranges.Ranges.{Ranges}
 use Rattle.kc_link_place.specs.Ranges.{are_in_bounds}
 use Rattle.kc_kit_words.specs.declared.command.Beside.{Beside as ReadBeside}
@@ -57,6 +58,6 @@ IsWithin (read.Pack pack) = AreFew (length pack.files.now)
 IsWithin (read.Link link) = AreLinkable (length link.files.now) link.placing
 IsWithin (read.ProfileHex run) = run.states ≤ max_states
 IsWithin (read.RunHex run) = IsBounded run.extent
-IsWithin (read.List list) = (0x2000 ≤ list.first) × (list.first ≤ list.last)
+IsWithin (read.List list) = (image_start ≤ list.first) × (list.first ≤ list.last)
 IsWithin (read.Dump dump) = 1 ≤ dump.clock
 IsWithin _ = Unit {0}

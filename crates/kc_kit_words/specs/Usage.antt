@@ -3,6 +3,7 @@ use Rattle.std.specs.Prelude.{ℕ, nat_le, List, [], ◌∷◌, ◌++◌, codes,
 use Rattle.std.specs.List.{list_all}
 use Rattle.std.specs.Option.{option_map, option_or}
 use Rattle.std.specs.Str.{bytes_eq}
+use Rattle.kc_base.specs.Limits.{image_start}
 use Rattle.kc_base.specs.TextLines.{begins_with}
 use Rattle.kc_link_place.specs.Ranges.{are_in_bounds, lies_within}
 use Rattle.kc_kit_shown.specs.Shown.{word_shown}
@@ -142,7 +143,7 @@ wrong_pair _ = Some (wrong_text wrong.FewFiles)
 -- a file and a range of addresses of an image
 abbrev pub wrong_range : List ℕ → Option (ℕ × ℕ) → Option (List ℕ)
 wrong_range word None = Some (bad_range word)
-wrong_range word (Some range) = if lies_within 0x2000 0xFFFF range then None else Some (wrong_text wrong.OutOfBounds)
+wrong_range word (Some range) = if lies_within image_start 0xFFFF range then None else Some (wrong_text wrong.OutOfBounds)
 
 abbrev pub wrong_list : List (List ℕ) → Option (List ℕ)
 wrong_list (file ∷ range ∷ []) = option_or (wrong_name file) (wrong_range range (range_of range))

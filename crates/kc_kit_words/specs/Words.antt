@@ -3,6 +3,7 @@ use Rattle.std.specs.Prelude.{ℕ, Bool, true, not, is_none, ◌&&◌, nat_le, L
 use Rattle.std.specs.List.{prefix_len, list_all, list_any}
 use Rattle.std.specs.Option.{option_map, option_or, unwrap_or}
 use Rattle.std.specs.Str.{bytes_eq}
+use Rattle.kc_base.specs.Limits.{image_start}
 use Rattle.kc_base.specs.TextLines.{begins_with}
 use Rattle.kc_link_place.specs.declared.ranges.Ranges.{Ranges}
 use Rattle.kc_link_place.specs.Ranges.{are_in_bounds, lies_within}
@@ -113,7 +114,7 @@ hex_by _ verb options = None
 -- the addresses of a listing are those of an image
 abbrev pub lists_by : List ℕ → Option (ℕ × ℕ) → Option Command
 lists_by file None = None
-lists_by file (Some range) = if lies_within 0x2000 0xFFFF range then Some (Lists file range.0 range.1) else None
+lists_by file (Some range) = if lies_within image_start 0xFFFF range then Some (Lists file range.0 range.1) else None
 
 abbrev pub list_of : List ℕ → List ℕ → Option Command
 list_of file range = if is_name file then lists_by file (range_of range) else None

@@ -19,7 +19,7 @@ use crate::values::{has_form, is_name, range, short};
 use crate::words::{
     MAX_FILES, are_apart, are_names, beside_in, help_on, is_other, placing, read_command,
 };
-use kc_base::Sink;
+use kc_base::{IMAGE_START, Sink};
 use kc_kit_shown::report_word;
 use kc_trace::TraceOut;
 
@@ -316,7 +316,7 @@ fn wrong_range(word: &str) -> Option<Wrong<'_>>
     match range(word) {
         None => Some(Wrong::BadRange(word)),
         Some((first, last)) => {
-            if 0x2000 <= first && first <= last {
+            if IMAGE_START <= first && first <= last {
                 None
             } else {
                 Some(Wrong::OutOfBounds)

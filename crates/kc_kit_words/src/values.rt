@@ -6,7 +6,7 @@ ghost use Rattle.kc_kit_words.specs.Options.{has_form};
 
 use crate::inputs::Role;
 use crate::numbers::{decimal, number};
-use kc_base::{after, prefix};
+use kc_base::{MAX_STATES, after, prefix};
 
 /// The form of the value of an option.
 #[derive(Clone, Copy)]
@@ -26,9 +26,6 @@ pub(crate) enum Form {
     /// The name of a file that is read beside the first ones.
     Input(Role),
 }
-
-/// The most state times that a run may have.
-const MAX_STATES: u64 = 1_000_000_000_000_000;
 
 /// The most lives that a run may have.
 const MAX_LIVES: u64 = 1_000;

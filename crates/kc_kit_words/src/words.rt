@@ -19,6 +19,7 @@ use crate::options::{
 };
 use crate::overwriting::sparing;
 use crate::values::{is_name, range, short};
+use kc_base::IMAGE_START;
 use kc_link_place::Ranges;
 
 /// The most files of one command.
@@ -280,7 +281,7 @@ fn listing<'a>(file: &'a str, addresses: &str) -> Option<Command<'a>>
         return None;
     }
     let (first, last) = range(addresses)?;
-    if 0x2000 <= first && first <= last {
+    if IMAGE_START <= first && first <= last {
         Some(Command::List(List { file, first, last }))
     } else {
         None

@@ -8,7 +8,7 @@ use Rattle.kc_lib.specs.Names.{doubled}
 use Rattle.kc_lib.specs.Format.{library_bytes, IsLibrary}
 use Rattle.kc_lib.specs.Taking.{AreTaken}
 
--- where memory ran out there is no cause here
+-- out of memory has no cause here
 abbrev pub IsCause : LibFault → Type 0 → Type 0
 IsCause NoMemory P = Unit {0}
 IsCause _ P = P

@@ -3,7 +3,8 @@
 -- In a state the edges of inputs come first, in the order of their pins; then what the board prints, in its order; then, in the
 -- last state of a life, a reset, the watchdog or powerdown. A position is a place in this list: of two events of one state the
 -- one that comes first in the list is earlier.
-use Rattle.std.specs.Prelude.{◌≡◌, ℕ, ◌≤◌, ◌^◌, ◌+◌, if◌then◌else◌, List, [], ◌∷◌, fold, map, flat_map}
+use Rattle.std.specs.Prelude.{ℕ, ◌≤◌, ◌^◌, ◌+◌, if◌then◌else◌, List, [], ◌∷◌, fold, map, flat_map, ◌≡◌}
+use Rattle.kc_base.specs.Limits.{max_states}
 use Rattle.kc_base.specs.Series.{up_to}
 use Rattle.kc_base.specs.declared.types.Level.{Level}
 use Rattle.kc_life.specs.declared.life.Signal.{Signal}
@@ -49,7 +50,7 @@ IsUpTo last (e ∷ events) = (e.at ≤ last) × IsUpTo last events
 pub record IsLife (life : Life) : Type 0 where
   pub order : IsOrderedFrom 0 life.events
   pub within : IsUpTo life.last life.events
-  pub short : life.last ≤ 10 ^ 15
+  pub short : life.last ≤ max_states
 
 -- ---- states: a life, one state at a time
 

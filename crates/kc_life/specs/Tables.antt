@@ -1,5 +1,5 @@
 -- What a table of levels says (this kit's own).
-use Rattle.std.specs.Prelude.{ℕ, slice_index_or}
+use Rattle.std.specs.Prelude.{slice_index_or}
 use Rattle.kc_base.specs.declared.types.Level.{Level}
 use Rattle.kc_base.specs.declared.types.Level.TheVariants.{Low}
 use Rattle.kc_life.specs.declared.life.Signal.{Signal}

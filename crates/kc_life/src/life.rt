@@ -27,10 +27,8 @@ impl Signal {
         ensures { result ≡ is_signal self }
     {
         match self {
-            Signal::Output(pin) => pin.0 <= 17 || pin.0 == 36 || (38..=40).contains(&pin.0),
-            Signal::Input(pin) => {
-                (6..=13).contains(&pin.0) || (18..=35).contains(&pin.0) || pin.0 == 37
-            }
+            Signal::Output(pin) => pin.is_printed(),
+            Signal::Input(pin) => pin.is_input(),
         }
     }
 
@@ -39,10 +37,8 @@ impl Signal {
         ensures { result ≡ level_at_start self }
     {
         match self {
-            Signal::Output(pin) => Level::of((6..=17).contains(&pin.0) || pin.0 == 36),
-            Signal::Input(pin) => Level::of(
-                (6..=13).contains(&pin.0) || pin.0 == 26 || pin.0 == 27 || pin.0 == 37,
-            ),
+            Signal::Output(pin) => Level::of(pin.is_printed() && pin.starts_high()),
+            Signal::Input(pin) => Level::of(pin.is_input() && pin.starts_high()),
         }
     }
 }

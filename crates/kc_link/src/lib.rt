@@ -10,7 +10,7 @@ mod laws;
 mod lines;
 mod linking;
 
-pub use kc_link_place::{LinkFault, Ranges};
+pub use kc_link_place::{LinkFault, Placement, Ranges};
 pub use laws::{absolute_pieces_stand, one_image, relocations_fit};
-pub use lines::{LineAt, line_map};
-pub use linking::link;
+pub use lines::{LineAt, line_map, lines_at};
+pub use linking::{image_at, link, linked_places};

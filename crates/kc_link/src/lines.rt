@@ -2,12 +2,13 @@ ghost use Rattle.std.specs.Prelude.{◌≡◌, ◌<◌, ◌≤◌, ◌++◌, IfO
 ghost use Rattle.std.specs.List.Sorted.{IsPermutation, IsNonDecreasingBy};
 ghost use Rattle.kc_link_fill.specs.BaseLists.{bases_in};
 ghost use Rattle.kc_link_place.specs.Ranges.{are_in_bounds};
-ghost use Rattle.kc_link.specs.LineMap.{line_at, lines_in, lines_by, LinesStand, MaybeLinesStand, AllLinesStand, IsLines};
+ghost use Rattle.kc_link.specs.Placed.{ArePlacedAt};
+ghost use Rattle.kc_link.specs.LineMap.{line_at, lines_in, lines_by, LinesStand, MaybeLinesStand, AllLinesStand, IsLineMap, IsLines};
 
-use crate::linking::{keep_rules, linked_bases};
+use crate::linking::{keep_rules, linked_places};
 use kc_base::{NoMemory, Text};
 use kc_link_fill::Bases;
-use kc_link_place::{LinkFault, Ranges, code_stands_apart};
+use kc_link_place::{LinkFault, Placement, Ranges, code_stands_apart};
 use kc_obj_module::{Lines, Module};
 use std::alloc::Global;
 
@@ -91,6 +92,23 @@ fn sort(entries: &mut Vec<LineAt>) -> Result<(), NoMemory>
     Ok(())
 }
 
+/// The line map of modules at their places: each line entry with the address at which it stands, by rising address. A module
+/// without line entries gives none.
+pub fn lines_at(
+    alloc: Global,
+    modules: &[Module],
+    placement: &Placement,
+) -> Result<Vec<LineAt>, NoMemory>
+    requires { ArePlacedAt modules.now placement.now }
+    ensures { IfOk result (λ entries. IsLineMap modules.now placement.now.places entries.items) }
+{
+    keep_rules(modules);
+    code_stands_apart();
+    let mut entries = all_lines(alloc, modules, &placement.bases)?;
+    sort(&mut entries)?;
+    Ok(entries)
+}
+
 /// The line map of 1 to 64 modules that are linked in these ranges: each line entry with the address at which it stands,
 /// by rising address. It is refused as `link` is, for the same causes. A module without line entries gives none.
 pub fn line_map(
@@ -103,10 +121,6 @@ pub fn line_map(
     requires ranges { are_in_bounds ranges.now ≡ true }
     ensures { IsLines modules.now ranges.now result }
 {
-    let bases = linked_bases(alloc, modules, ranges)?;
-    keep_rules(modules);
-    code_stands_apart();
-    let mut entries = all_lines(alloc, modules, &bases)?;
-    sort(&mut entries)?;
-    Ok(entries)
+    let placement = linked_places(alloc, modules, ranges)?;
+    Ok(lines_at(alloc, modules, &placement)?)
 }

@@ -1,15 +1,16 @@
 ghost use Rattle.std.specs.Prelude.{◌≡◌, ◌+◌, ◌<◌, ◌≤◌, ℕ, List, IfOk, true, length};
 ghost use Rattle.kc_link_place.specs.Ranges.{are_in_bounds};
-ghost use Rattle.kc_link_place.specs.Placing.{IsAnswer, IsKept};
+ghost use Rattle.kc_link_place.specs.Placing.{IsKept};
+ghost use Rattle.kc_link_place.specs.Placements.{IsAnswer};
 ghost use Rattle.kc_link_place.specs.Apart.{AllKeepRules};
-ghost use Rattle.kc_link.specs.Placed.{placed, unfit_by};
+ghost use Rattle.kc_link.specs.Placed.{placed, unfit_by, ArePlacedAt};
 ghost use Rattle.kc_link.specs.Writes.{IsBlank};
-ghost use Rattle.kc_link.specs.Filled.{IsImage};
+ghost use Rattle.kc_link.specs.Filled.{IsFilled, IsImage};
 
 use crate::filling::fill;
 use kc_base::{Image, NoMemory};
 use kc_link_fill::{Bases, first_unfit};
-use kc_link_place::{LinkFault, Ranges, code_stands_apart, place};
+use kc_link_place::{LinkFault, Placement, Ranges, code_stands_apart, place};
 use kc_obj_module::Module;
 use std::alloc::Global;
 
@@ -42,21 +43,22 @@ fn check_fits(modules: &[Module], bases: &[Bases]) -> Result<(), LinkFault>
     Ok(())
 }
 
-/// What the numbers of each module count from, where no rule of the linker is broken.
+/// Places 1 to 64 modules, with relocatable pieces in ranges within their bounds: the image, the line map and the map can be
+/// made at these places. The refusal is that of `link`.
 #[tactic(auto, unfolding(crate::specs::Placed::placed))]
-pub(crate) fn linked_bases(
+pub fn linked_places(
     alloc: Global,
     modules: &[Module],
     ranges: &Ranges,
-) -> Result<Vec<Bases>, LinkFault>
+) -> Result<Placement, LinkFault>
     requires some { 0 < length modules.now }
     requires few { length modules.now ≤ 64 }
     requires ranges { are_in_bounds ranges.now ≡ true }
     ensures { IsAnswer modules.now (placed modules.now ranges.now) result }
 {
-    let bases = place(alloc, modules, ranges)?;
-    match check_fits(modules, &bases) {
-        Ok(()) => Ok(bases),
+    let placement = place(alloc, modules, ranges)?;
+    match check_fits(modules, &placement.bases) {
+        Ok(()) => Ok(placement),
         Err(fault) => Err(fault),
     }
 }
@@ -76,6 +78,18 @@ fn blank_image(alloc: Global) -> Result<Image, NoMemory>
     Image::blank(alloc)
 }
 
+/// The image of modules at their places: the contents of all code pieces, with relocations filled in, and FFH elsewhere.
+pub fn image_at(alloc: Global, modules: &[Module], placement: &Placement) -> Result<Image, NoMemory>
+    requires { ArePlacedAt modules.now placement.now }
+    ensures { IfOk result (λ image. IsFilled modules.now placement.now.places image) }
+{
+    let mut image = blank_image(alloc)?;
+    keep_rules(modules);
+    code_stands_apart();
+    fill(&mut image, modules, &placement.bases);
+    Ok(image)
+}
+
 /// Links 1 to 64 modules, with relocatable pieces in ranges within their bounds, to the image of program memory: the
 /// contents of all code pieces at their places, with relocations filled in, and FFH elsewhere. The refusal is the first
 /// broken rule: a name that is taken and not given, a name that is given twice, an address that two absolute pieces
@@ -86,10 +100,6 @@ pub fn link(alloc: Global, modules: &[Module], ranges: &Ranges) -> Result<Image,
     requires ranges { are_in_bounds ranges.now ≡ true }
     ensures { IsImage modules.now ranges.now result }
 {
-    let bases = linked_bases(alloc, modules, ranges)?;
-    let mut image = blank_image(alloc)?;
-    keep_rules(modules);
-    code_stands_apart();
-    fill(&mut image, modules, &bases);
-    Ok(image)
+    let placement = linked_places(alloc, modules, ranges)?;
+    Ok(image_at(alloc, modules, &placement)?)
 }

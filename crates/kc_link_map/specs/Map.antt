@@ -7,7 +7,7 @@ use Rattle.kc_obj_module.specs.declared.parts.SegKind.TheVariants as kind
 use Rattle.kc_obj_module.specs.declared.parts.Segment.{Segment}
 use Rattle.kc_obj_module.specs.declared.parts.Given.{Given}
 use Rattle.kc_obj_module.specs.Object.{Object}
-use Rattle.kc_trace.specs.Text.{hex}
+use Rattle.kc_base.specs.Digits.{hex}
 use Rattle.kc_link_place.specs.declared.ranges.Ranges.{Ranges}
 use Rattle.kc_link_place.specs.declared.ranges.LinkFault.{LinkFault}
 use Rattle.kc_link_place.specs.Names.{defining}

@@ -3,9 +3,8 @@ ghost use Rattle.std.specs.Prelude.{◌≡◌, ◌<◌, ◌≤◌, ◌+◌, ◌-
 ghost use Rattle.kc_link_map.specs.Free as spec;
 ghost use Rattle.kc_link_map.specs.Map as map;
 
-use crate::fields::{put_address, put_number};
 use crate::taken::is_taken;
-use kc_base::NoMemory;
+use kc_base::{NoMemory, put_address, put_number};
 
 /// The stack: its first address and its length in bytes.
 #[derive(Clone, Copy)]

@@ -8,6 +8,7 @@ mod map;
 mod modules;
 mod taken;
 
-pub use fields::{kind_word, put_number};
+pub use fields::kind_word;
+pub use kc_base::put_number;
 pub use laws::free_runs_are_free;
-pub use map::link_map;
+pub use map::{link_map, map_at};

@@ -4,11 +4,10 @@ ghost use Rattle.kc_link_place.specs.Placing.{stack_size as size_of};
 ghost use Rattle.kc_link_map.specs.Map as spec;
 ghost use Rattle.kc_link_map.specs.Map.{IsMap};
 
-use crate::fields::{put_address, put_number};
 use crate::free::{StackAt, put_free};
 use crate::modules::{put_all_pieces, put_all_publics};
 use crate::taken::taken_by;
-use kc_base::NoMemory;
+use kc_base::{NoMemory, put_address, put_number};
 use kc_link_place::{LinkFault, Placed, Ranges, locate, stack_size};
 use kc_obj_module::Module;
 use std::alloc::Global;
@@ -53,11 +52,11 @@ fn put_ranges(
     Ok(())
 }
 
-// The map at some places.
-fn map_at(
+/// The map of at most 64 modules that stand at some places within ranges: what `link_map` reports of modules that it places.
+pub fn map_at(
     alloc: Global,
-    placed: &Placed,
     modules: &[Module],
+    placed: &Placed,
     ranges: &Ranges,
 ) -> Result<Vec<u8>, NoMemory>
     requires few { length modules.now ≤ 64 }
@@ -83,5 +82,5 @@ pub fn link_map(alloc: Global, modules: &[Module], ranges: &Ranges) -> Result<Ve
     ensures { IsMap modules.now ranges.now result }
 {
     let placed = locate(alloc, modules, ranges)?;
-    Ok(map_at(alloc, &placed, modules, ranges)?)
+    Ok(map_at(alloc, modules, &placed, ranges)?)
 }

@@ -2,8 +2,8 @@
 ghost use Rattle.std.specs.Prelude.{◌≡◌, ◌++◌, OnOk};
 ghost use Rattle.kc_link_map.specs.Map as spec;
 
-use crate::fields::{kind_word, put_address, put_number};
-use kc_base::{NoMemory, Text};
+use crate::fields::kind_word;
+use kc_base::{NoMemory, Text, put_address, put_number};
 use kc_link_place::Placed;
 use kc_obj_module::{Given, Module, SegKind, Segment};
 

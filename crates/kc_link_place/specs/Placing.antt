@@ -143,7 +143,7 @@ bases_from all places index (m ∷ ms) = base_lists all places index m ∷ bases
 
 -- ---- what a call of placing answers
 
--- where memory ran out there is no cause here
+-- out of memory has no cause here
 abbrev pub IsCause : LinkFault → Type 0 → Type 0
 IsCause NoMemory P = Unit {0}
 IsCause _ P = P
@@ -152,15 +152,6 @@ IsCause _ P = P
 abbrev pub ArePlaced : Result Places LinkFault → Result Places LinkFault → Type 0
 ArePlaced located (Ok places) = located ≡ Ok places
 ArePlaced located (Err fault) = IsCause fault (located ≡ Err fault)
-
--- the bases of each module at the places, or the fault
-abbrev pub IsAnswer : List Object → Result Places LinkFault → Result (Vec BaseLists) LinkFault → Type 0
-IsAnswer ms placed (Ok bases) = (places : Places) × ((placed ≡ Ok places) × (bases.items ≡ bases_from ms places 0 ms))
-IsAnswer ms placed (Err fault) = IsCause fault (placed ≡ Err fault)
-
--- the first broken rule, if there is one
-abbrev pub IsLocated : List Object → Ranges → Result (Vec BaseLists) LinkFault → Type 0
-IsLocated ms ranges result = IsAnswer ms (located ms ranges) result
 
 -- a rule is kept, or broken with this fault
 abbrev pub IsKept : {A : Type 0} → Option LinkFault → Result A LinkFault → Type 0

@@ -19,6 +19,6 @@ mod stack;
 
 pub use apart::code_stands_apart;
 pub use places::Placed;
-pub use placing::{locate, place};
+pub use placing::{Placement, locate, place};
 pub use ranges::{LinkFault, Ranges};
 pub use stack::stack_size;

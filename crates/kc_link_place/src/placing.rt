@@ -10,7 +10,8 @@ ghost use Rattle.kc_link_place.specs.Gaps.{Represents};
 ghost use Rattle.kc_link_place.specs.Names as named;
 ghost use Rattle.kc_link_place.specs.Names.{Knows};
 ghost use Rattle.kc_link_place.specs.Placing as placing;
-ghost use Rattle.kc_link_place.specs.Placing.{ArePlaced, IsKept, IsLocated, stack_at, with_puts};
+ghost use Rattle.kc_link_place.specs.Placing.{ArePlaced, IsKept, stack_at, with_puts};
+ghost use Rattle.kc_link_place.specs.Placements.{IsLocated};
 
 use crate::cover::{cover, gaps_between, overlap};
 use crate::gaps::{Gap, find};
@@ -156,16 +157,24 @@ pub fn locate(alloc: Global, modules: &[Module], ranges: &Ranges) -> Result<Plac
     located(alloc, &names, modules, ranges)
 }
 
+/// Where the pieces of modules stand, and what the numbers of each module count from there.
+#[derive(Drop)]
+pub struct Placement {
+    pub places: Placed,
+    pub bases: Vec<Bases>,
+}
+
 /// Places the pieces of 1 to 64 modules within ranges that are within bounds, and gives for each module what its
 /// numbers count from. The refusal is the first broken rule: a name that is taken and not given, a name that is given
 /// twice, an address from 001AH on that two absolute pieces have, a piece without room.
-pub fn place(alloc: Global, modules: &[Module], ranges: &Ranges) -> Result<Vec<Bases>, LinkFault>
+pub fn place(alloc: Global, modules: &[Module], ranges: &Ranges) -> Result<Placement, LinkFault>
     requires some { 0 < length modules.now }
     requires few { length modules.now ≤ 64 }
     requires ranges { are_in_bounds ranges.now ≡ true }
     ensures { IsLocated modules.now ranges.now result }
 {
     let names = public_names(alloc, modules)?;
-    let placed = located(alloc, &names, modules, ranges)?;
-    Ok(placed.bases(alloc, &names, modules)?)
+    let places = located(alloc, &names, modules, ranges)?;
+    let bases = places.bases(alloc, &names, modules)?;
+    Ok(Placement { places, bases })
 }

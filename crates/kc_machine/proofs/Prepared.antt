@@ -20,7 +20,7 @@ use Rattle.kc_intc.specs.declared.requests.Choice.TheVariants.{Go}
 use Rattle.kc_intc.specs.declared.requests.Requests.{Requests}
 use Rattle.kc_intc.specs.Choosing.{choice_of}
 use Rattle.kc_intc.proofs.Greatest.{nothing_masked_in}
-use Rattle.kc_exec_ready.specs.Preparing.{is_free, is_blank, time_at, IsPredecoded}
+use Rattle.kc_exec_ready.specs.Predecoding.{is_free, is_blank, time_at, IsPredecoded}
 use Rattle.kc_machine_spec.specs.declared.doing.Activity.TheVariants.{Executes}
 use Rattle.kc_exec_spec.specs.declared.cpu.Cpu.{Cpu}
 use Rattle.kc_exec_spec.specs.declared.cpu.After.TheVariants.{Next, Held}

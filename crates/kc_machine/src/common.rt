@@ -12,12 +12,12 @@ ghost use Rattle.kc_machine_spec.specs.Scene.{opened, byte, put, window_at, scen
 ghost use Rattle.kc_machine_spec.specs.Machine.{taken, claimed, handed};
 ghost use Rattle.kc_exec_spec.specs.Memory.{is_rom};
 ghost use Rattle.kc_machine.specs.Keeping.{fitting, counted};
-ghost use Rattle.kc_exec_ready.specs.Preparing.{is_blank};
+ghost use Rattle.kc_exec_ready.specs.Predecoding.{is_blank};
 ghost use Rattle.kc_machine.specs.Prepared.{HasSlot, IsRead, IsSlot, IsTable};
 
 use crate::choosing::fetch;
 use crate::noted::Noted;
-use crate::weights::{weigh_byte, weigh_word, window_for};
+use crate::weights::{weigh_read, weigh_word, weigh_write, window_for};
 use kc_base::{EdgeOut, Kind, NoMemory, StateTime, Steps};
 use kc_block::Block;
 use kc_block_spec::Window;
@@ -303,7 +303,7 @@ impl<X: Extra + Drop> Common<X> {
     {
         let window = self.window(by);
         let value = self.block.read8_here(window, addr as u8, steps)?;
-        self.reached = count(self.reached, weigh_byte(addr));
+        self.reached = count(self.reached, weigh_read(addr as u8));
         Ok(value)
     }
 
@@ -372,7 +372,7 @@ impl<X: Extra + Drop> Common<X> {
             .write8_here(window, addr as u8, value, &mut self.edges, steps)
         {
             Ok(()) => {
-                self.reached = count(self.reached, weigh_byte(addr));
+                self.reached = count(self.reached, weigh_write(addr as u8));
                 Ok(())
             }
             Err(kind) => Err(kind),

@@ -7,7 +7,7 @@ ghost use Rattle.kc_exec_spec.specs.BlockMoves.{moved_word, IsUnderWay, IsOfMove
 ghost use Rattle.kc_exec_spec.specs.Entering.{entry, opcode_trap, Loads};
 ghost use Rattle.kc_exec_spec.specs.Places.{place_of};
 ghost use Rattle.kc_exec_spec.specs.Plans.{plan_of};
-ghost use Rattle.kc_exec_ready.specs.Preparing.{is_free, is_simple, time_at, IsPredecoded, GoesOn};
+ghost use Rattle.kc_exec_ready.specs.Predecoding.{is_free, is_simple, time_at, IsPredecoded, GoesOn};
 ghost use Rattle.kc_pts.specs.Cycles.{set_up, served, Serves};
 ghost use Rattle.kc_machine_spec.specs.Board.{masks_of};
 ghost use Rattle.kc_machine_spec.specs.Scene.{byte};

@@ -10,7 +10,7 @@ ghost use Rattle.kc_machine_spec.specs.Scene.{byte};
 ghost use Rattle.kc_machine_spec.specs.Machine.{breaks, placed, scene_of, pushing_states, fetches, enters, sets_up, goes_on, goes_first, asked, serves, chosen, current};
 ghost use Rattle.kc_machine_spec.specs.Passing.{IsIdle};
 ghost use Rattle.kc_machine_spec.specs.Peeking.{peeked};
-ghost use Rattle.kc_exec_ready.specs.Preparing as kc_ready;
+ghost use Rattle.kc_exec_ready.specs.Predecoding as kc_ready;
 ghost use Rattle.kc_machine.specs.Passing.{Knows};
 ghost use Rattle.kc_machine.specs.Prepared.{IsBetween, IsFree, HasSlot};
 ghost use Rattle.kc_machine.specs.Sound.{IsGoing, IsPredecoded, IsSoundGoing};

@@ -14,8 +14,8 @@ ghost use Rattle.kc_machine_spec.specs.Machine.{scene_of, current, asked, broken
 ghost use Rattle.kc_machine_spec.specs.Passing.{IsIdle, left_at, whole, activity_end};
 ghost use Rattle.kc_machine_spec.specs.Run.{run_to, end_of};
 ghost use Rattle.kc_exec_spec.specs.Plans.{plan_of};
-ghost use Rattle.kc_exec_ready.specs.Preparing as kc_ready;
-ghost use Rattle.kc_exec_ready.specs.Preparing.{is_free};
+ghost use Rattle.kc_exec_ready.specs.Predecoding as kc_ready;
+ghost use Rattle.kc_exec_ready.specs.Predecoding.{is_free};
 ghost use Rattle.kc_machine.specs.Prepared.{IsBetween, IsFree, HasSlot, executing};
 ghost use Rattle.kc_machine.specs.Sound.{IsGoing, IsPredecoded, IsSoundGoing};
 ghost use Rattle.kc_machine.specs.Failing.{FailsIn};

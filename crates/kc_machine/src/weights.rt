@@ -3,7 +3,7 @@ ghost use Rattle.std.specs.Prelude.{◌≡◌, ◌≤◌};
 ghost use Rattle.kc_block_spec.specs.Registers.{window_seen, bytes_read_everywhere, bytes_written_everywhere};
 ghost use Rattle.kc_machine_spec.specs.Scene.{byte_weight, word_weight};
 
-use kc_block_spec::Window;
+use kc_block_spec::{Window, readable_everywhere, writable_everywhere};
 use kc_bus::Master;
 
 /// The horizontal window that a master sees under this value of WSR.
@@ -17,15 +17,27 @@ pub(crate) fn window_for(by: Master, wsr: u8) -> Window
     }
 }
 
-/// As how many a byte access counts.
-pub(crate) fn weigh_byte(addr: u16) -> u8
-    ensures read { result ≡ byte_weight bytes_read_everywhere addr }
-    ensures written { result ≡ byte_weight bytes_written_everywhere addr }
+/// As how many a byte read counts: a register that every window has stands beside the units.
+pub(crate) fn weigh_read(sfr: u8) -> u8
+    ensures read { result ≡ byte_weight bytes_read_everywhere sfr }
     ensures bound { result ≤ 1 }
 {
-    match addr {
-        0x00 | 0x01 | 0x08 | 0x09 | 0x12..=0x14 => 0,
-        _ => 1,
+    if readable_everywhere(sfr).is_some() {
+        0
+    } else {
+        1
+    }
+}
+
+/// As how many a byte write counts.
+pub(crate) fn weigh_write(sfr: u8) -> u8
+    ensures written { result ≡ byte_weight bytes_written_everywhere sfr }
+    ensures bound { result ≤ 1 }
+{
+    if writable_everywhere(sfr).is_some() {
+        0
+    } else {
+        1
     }
 }
 

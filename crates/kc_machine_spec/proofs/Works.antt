@@ -45,6 +45,7 @@ one_most true = omega arith
 one_most false = omega arith
 
 read_within : (addr : ℕ) → addr < 24 → byte_weight bytes_read_everywhere addr ≤ 2 * of_register addr
+unfolding bytes_read_everywhere
 read_within zero below = let e : byte_weight bytes_read_everywhere 0 ≡ 0 = refl in omega (arith, e)
 read_within (suc zero) below = let e : byte_weight bytes_read_everywhere 1 ≡ 0 = refl in omega (arith, e)
 read_within (suc (suc n)) below =
@@ -53,6 +54,7 @@ read_within (suc (suc n)) below =
     omega (arith, one, few)
 
 written_within : (addr : ℕ) → addr < 24 → byte_weight bytes_written_everywhere addr ≤ 2 * of_register addr
+unfolding bytes_written_everywhere
 written_within zero below = let e : byte_weight bytes_written_everywhere 0 ≡ 0 = refl in omega (arith, e)
 written_within (suc zero) below = let e : byte_weight bytes_written_everywhere 1 ≡ 0 = refl in omega (arith, e)
 written_within (suc (suc n)) below =

@@ -5,6 +5,7 @@ use Rattle.std.specs.List.{take_while}
 use Rattle.std.specs.Char.{is_ascii_digit}
 use Rattle.std.specs.Str.{bytes_eq}
 use Rattle.kc_base.specs.Fields.{decimal_of}
+use Rattle.kc_base.specs.Limits.{max_states}
 use Rattle.kc_base.specs.TextLines.{begins_with}
 use Rattle.kc_rules.specs.declared.amount.Time.{Time}
 use Rattle.kc_rules.specs.declared.amount.Share.{Share}
@@ -34,7 +35,7 @@ whole_number most limit text = option_and_then (if_nothing (behind_digits text))
 
 -- a count: at most 15 digits
 abbrev pub count_of : Word → Option ℕ
-count_of w = whole_number 15 (10 ^ 15) w
+count_of w = whole_number 15 max_states w
 
 abbrev pub if_up_to : ℕ → ℕ → Option ℕ
 if_up_to most n = if nat_le n most then Some n else None
@@ -72,7 +73,7 @@ unfoldable pub fraction_of : Word → Option ℕ
 fraction_of w = if has_point w then millionths (digits_of (behind_point w)) else Some 0
 
 unfoldable pub value_of : Word → Option ℕ
-value_of w = option_and_then (λ n. option_map (λ f. n * 10 ^ 6 + f) (fraction_of w)) (number_of 15 (10 ^ 15) (digits_of w))
+value_of w = option_and_then (λ n. option_map (λ f. n * 10 ^ 6 + f) (fraction_of w)) (number_of 15 max_states (digits_of w))
 
 -- what stands behind a decimal
 abbrev pub unit_of : Word → List ℕ
@@ -92,15 +93,15 @@ unit_parts clock unit =
     else (if bytes_eq unit (codes "s") then Some (clock * 10 ^ 9)
     else (if length unit == 0 then Some (2 * 10 ^ 9) else None))))
 
--- at most 10^15 states
+-- at most as many states as a run may have
 unfoldable pub time_in : ℕ → Option Amount
 time_in parts =
-    if nat_le parts (10 ^ 15 * parts_in_state)
+    if nat_le parts (max_states * parts_in_state)
     then Some (amounts.Time (record { states = parts / parts_in_state; parts = parts % parts_in_state })) else None
 
--- a time is at most 10^15 states
+-- a time is at most as many states as a run may have
 abbrev pub IsShort : Time → Type 0
-IsShort time = time.states ≤ 10 ^ 15
+IsShort time = time.states ≤ max_states
 
 abbrev pub IsSmall : Amount → Type 0
 IsSmall (amounts.Time time) = IsShort time

@@ -4,11 +4,11 @@ use Rattle.std.specs.Prelude.{ℕ, zero, suc, if◌then◌else◌, Bool, Option,
 use Rattle.std.specs.List.{position_from}
 use Rattle.std.specs.Str.{bytes_eq}
 use Rattle.kc_base.specs.Fields.{pin_of}
+use Rattle.kc_base.specs.Pins.{is_input, is_printed}
 use Rattle.kc_base.specs.declared.types.Level.{Level}
 use Rattle.kc_base.specs.declared.types.Level.TheVariants.{Low, High}
 use Rattle.kc_life.specs.declared.life.Signal.{Signal}
 use Rattle.kc_life.specs.declared.life.Signal.TheVariants.{Output, Input}
-use Rattle.kc_life.specs.Signals.{is_output, is_input}
 use Rattle.kc_rules.specs.declared.events.Way.{Way}
 use Rattle.kc_rules.specs.declared.events.Way.TheVariants.{Rise, Fall, Either}
 use Rattle.kc_rules.specs.declared.events.Wanted.{Wanted}
@@ -21,11 +21,11 @@ use Rattle.kc_rules.specs.Amounts.{up_to}
 
 -- ---- signals and levels
 
--- a printed pin; or one that comes from outside, which P10 to P17 are only behind the word `input`
+-- a printed pin; or one that comes from outside, which a printed pin is only behind the word `input`
 abbrev pub signal_by_number : Bool → ℕ → Option Signal
 signal_by_number outside n =
     if outside then (if is_input n then Some (Input (record { 0 = n })) else None)
-    else (if is_output n then Some (Output (record { 0 = n })) else (if is_input n then Some (Input (record { 0 = n })) else None))
+    else (if is_printed n then Some (Output (record { 0 = n })) else (if is_input n then Some (Input (record { 0 = n })) else None))
 
 abbrev pub signal_named : Bool → Word → Option Signal
 signal_named outside w = option_and_then (signal_by_number outside) (pin_of w)

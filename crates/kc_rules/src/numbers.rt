@@ -1,5 +1,6 @@
 // Numbers, times and shares, each a word.
 ghost use Rattle.std.specs.Prelude.{◌≡◌, ◌*◌, ◌^◌, ◌≤◌, ◌<◌, length, drop, IfSome};
+ghost use Rattle.kc_base.specs.Limits.{max_states};
 ghost use Rattle.kc_base.specs.TextLines.{begins_with};
 ghost use Rattle.kc_rules.specs.Amounts.{IsSmall, IsShort};
 ghost use Rattle.kc_rules.specs.Amounts as spec;
@@ -7,13 +8,10 @@ ghost use Rattle.kc_rules.specs.Forms.{proper_share};
 
 use crate::amount::{Amount, Factor, Share, Time};
 use crate::words::is;
-use kc_base::{after, decimal, prefix};
+use kc_base::{MAX_STATES, after, decimal, prefix};
 
 /// How many parts a state has.
 const PARTS: u128 = 2_000_000_000_000_000;
-
-/// The greatest time in states.
-const STATE_LIMIT: u128 = 1_000_000_000_000_000;
 
 // How many digits stand at the beginning.
 fn digit_count(text: &[u8]) -> usize
@@ -37,7 +35,7 @@ fn behind_digits(text: &[u8]) -> &[u8]
 
 // The number of at least one digit and at most so many, which is at most the limit.
 fn number(most: usize, limit: u64, digits: &[u8]) -> Option<u64>
-    requires { limit ≤ 10 ^ 15 }
+    requires { limit ≤ max_states }
     ensures value { result ≡ spec.number_of most limit digits.now }
     ensures bounded { IfSome result (λ n. n ≤ limit) }
 {
@@ -51,7 +49,7 @@ fn number(most: usize, limit: u64, digits: &[u8]) -> Option<u64>
 // A text that is such digits alone.
 #[tactic(auto, unfolding(crate::specs::Amounts::whole_number))]
 fn whole_number(most: usize, limit: u64, text: &[u8]) -> Option<u64>
-    requires { limit ≤ 10 ^ 15 }
+    requires { limit ≤ max_states }
     ensures value { result ≡ spec.whole_number most limit text.now }
     ensures bounded { IfSome result (λ n. n ≤ limit) }
 {
@@ -67,7 +65,7 @@ fn whole_number(most: usize, limit: u64, text: &[u8]) -> Option<u64>
 pub(crate) fn count(word: &[u8]) -> Option<u64>
     ensures { result ≡ spec.count_of word.now }
 {
-    whole_number(15, 1_000_000_000_000_000, word)
+    whole_number(15, MAX_STATES, word)
 }
 
 /// A number that is at most this one.
@@ -187,7 +185,7 @@ fn value(word: &[u8]) -> Option<u128>
     ensures value { result ≡ spec.value_of word.now }
     ensures bounded { IfSome result (λ n. n ≤ 10 ^ 22) }
 {
-    let n = number(15, 1_000_000_000_000_000, digits(word))?;
+    let n = number(15, MAX_STATES, digits(word))?;
     let f = fraction(word)?;
     Some(u128::from(n) * 1_000_000 + u128::from(f))
 }
@@ -229,7 +227,7 @@ fn time_in(parts: u128) -> Option<Amount>
     ensures value { result ≡ spec.time_in parts }
     ensures small { IfSome result IsSmall }
 {
-    if parts <= STATE_LIMIT * PARTS {
+    if parts <= u128::from(MAX_STATES) * PARTS {
         Some(Amount::Time(Time {
             states: (parts / PARTS) as u64,
             parts: (parts % PARTS) as u64,

@@ -1,17 +1,17 @@
 -- What the serial port keeps of RXD, and the pin that it moves.
-use Rattle.std.proofs.Common.{◌≡◌, ℕ, zero, suc, ◌<◌, ◌==◌, Bool, true, false, not, ◌&&◌, [], ◌∷◌, get_or, refl, sym, ◌∙◌, ap, arith, Some, None}
+use Rattle.std.proofs.Common.{◌≡◌, ℕ, zero, suc, ◌<◌, ◌==◌, Bool, true, false, ◌&&◌, [], ◌∷◌, get_or, refl, sym, ◌∙◌, ap, arith, Some, None}
 use Rattle.std.specs.Prelude.{bit_xor, is_some, if◌then◌else◌}
 use lib.Bits.{xor_comm, xor_assoc, xor_self, xor_zero_l, xor_zero_r}
 use Rattle.kc_base.specs.Bits.{bit}
 use Rattle.kc_base.specs.Levels.{is_high}
-use Rattle.kc_base.specs.Pins.{IsPin}
+use Rattle.kc_base.specs.Pins.{IsPin, txd, rxd}
 use Rattle.kc_base.specs.declared.types.Level.{Level}
 use Rattle.kc_extra.specs.Pins.{AreFew, MoveSome}
 use Rattle.kc_extra.specs.Two.{either_holds}
 use Rattle.kc_serial.specs.declared.sending.Sending.{Sending}
 use Rattle.kc_serial.specs.declared.sending.Sending.TheVariants.{Idle, Next, Busy}
 use Rattle.kc_serial.specs.declared.serial.Serial.{Serial}
-use Rattle.kc_serial.specs.Port.{ticked, ticked_at, rested, Keeps, txd, rxd, txd_edges, is_on, start}
+use Rattle.kc_serial.specs.Port.{ticked, ticked_at, rested, Keeps, txd_edges, is_on, start}
 use Rattle.kc_serial.specs.Registers.{sbuf, baud_rate, is_readable, is_writable, after_read, after_write, queued, with_byte, with_rate, with_control}
 
 xor_none : (l : ℕ) → bit_xor l 0 ≡ l

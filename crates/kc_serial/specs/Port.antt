@@ -1,6 +1,7 @@
 -- The serial port in one state (80C196KC User's Manual, "Serial Port": SP_CON, SP_STAT, SBUF, baud rate register; the pins and
 -- the order inside a state are this kit's own).
 use Rattle.std.specs.Prelude.{◌≡◌, ℕ, ◌%◌, ◌==◌, Bool, true, false, not, ◌&&◌, ◌||◌, if◌then◌else◌, List, [], ◌∷◌, None, bit_or, bit_xor}
+use Rattle.kc_base.specs.Pins.{txd, rxd}
 use Rattle.kc_base.specs.Bits.{bit}
 use Rattle.kc_base.specs.Levels.{is_high}
 use Rattle.kc_base.specs.declared.types.Edge.{Edge}
@@ -46,13 +47,6 @@ ticked high falls d = record {
 -- an end of a frame raises 8 and 6, one of a reception 9 and 6
 abbrev pub requests : Bool → Bool → ℕ
 requests sent received = bit_or (if sent then 0x140 else 0) (if received then 0x240 else 0)
-
--- the numbers of the pins TXD and RXD
-abbrev pub txd : ℕ
-txd = 36
-
-abbrev pub rxd : ℕ
-rxd = 37
 
 -- TXD has an edge where it shows another level than before
 abbrev pub txd_edges : Bool → Bool → List Edge

@@ -22,12 +22,6 @@ use kc_extra::{Extra, ExtraOut, Moved};
 use kc_span::earlier;
 use std::sync::ledger::Ledger;
 
-/// The pin on which bytes are sent.
-const TXD: u8 = 36;
-
-/// The pin from which they are received.
-const RXD: u8 = 37;
-
 /// The flags of SP_STAT that a read of it clears: RI, TI, FE and OE.
 #[derive(Clone, Copy, Default, PartialEq, Eq)]
 pub struct Flags {
@@ -55,7 +49,7 @@ impl Serial {
     /// A port that is off, with the level of RXD before its first state.
     pub fn new(rxd: Level) -> Serial
         ensures start { result ≡ start_of rxd }
-        ensures keeps { (before levels : ℕ) → has_pin before 37 ≡ is_high_level rxd → Keeps levels (bit_xor before levels) result }
+        ensures keeps { (before levels : ℕ) → has_pin before rxd_pin ≡ is_high_level rxd → Keeps levels (bit_xor before levels) result }
     {
         Serial {
             rate: 0,
@@ -72,9 +66,9 @@ impl Serial {
 }
 
 fn is_rxd(mask: u64) -> bool
-    ensures { result ≡ has_pin mask 37 }
+    ensures { result ≡ has_pin mask rxd_pin }
 {
-    (mask >> RXD) % 2 == 1
+    (mask >> Pin::RXD.0) % 2 == 1
 }
 
 /// The requests of a state in which a frame ends, or a reception.
@@ -108,7 +102,7 @@ fn txd_edges(old: bool, new: bool) -> Moved
     if old != new {
         let level = if new { Level::High } else { Level::Low };
         moved.push(Edge {
-            pin: Pin(TXD),
+            pin: Pin::TXD,
             level,
         });
     }
@@ -116,6 +110,7 @@ fn txd_edges(old: bool, new: bool) -> Moved
 }
 
 ghost use Rattle.kc_base.specs.Bits.{bit as has_pin};
+ghost use Rattle.kc_base.specs.Pins.{txd as txd_pin, rxd as rxd_pin};
 
 impl Extra for Serial {
     ghost plain = { λ x. record x { moves = 0 } };
@@ -126,7 +121,7 @@ impl Extra for Serial {
 
     ghost agrees = { λ l e d. Keeps l e d };
 
-    ghost pins = { 36 ∷ [] };
+    ghost pins = { txd_pin ∷ [] };
 
     fn due<L: Ledger>(&self, now: StateTime, steps: &mut Steps<L>) -> Option<StateTime> {
         steps.add();

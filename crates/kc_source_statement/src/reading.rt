@@ -40,7 +40,7 @@ fn operation(
 fn or_form_fault(action: Option<Action>) -> Result<Action, u8>
     ensures { spec.or_form_fault (option_map action_tree action) ≡ action_read result }
 {
-    action.ok_or(14)
+    action.ok_or(SourceCode::OtherOperands.number())
 }
 
 fn by_directive(

@@ -5,7 +5,6 @@ use Rattle.std.specs.declared.alloc.Global.{Global}
 use Rattle.std.specs.List.{Contains, list_any}
 use Rattle.std.specs.List.Sorted.{IsNonDecreasingBy, IsNonDecreasing}
 use Rattle.std.proofs.lemmas.Bool.{cases_Bool, cases_lt, ne_eqb, le-leb, lt-leb, leb-true, leb-false, and_parts}
-use Rattle.std.proofs.lemmas.Bool.Decides.{nat_tests}
 use Rattle.std.proofs.lemmas.List.{get_or-map, length-map}
 use Rattle.std.proofs.lemmas.List.Elements.{All-filter, All-map}
 use Rattle.std.proofs.lemmas.List.Kept.{IsNonDecreasingBy-filter}
@@ -13,7 +12,8 @@ use Rattle.kc_base.specs.Pins.{pin_count}
 use Rattle.kc_base.specs.declared.types.Level.{Level}
 use Rattle.kc_stim.specs.declared.stimulus.Stimulus.{Stimulus}
 use Rattle.kc_stim.specs.Drives.{Drives, Stimulation, of_pin, up_to, last_level, level_at, level_before, start_of, start_level, level_or, sooner_by, from_on, levels_known, driven_from, LevelsGoOn, LevelsStartThere}
-use Rattle.kc_stim.specs.Fields.{is_input}
+use Rattle.kc_base.specs.Pins.{is_input}
+use Rattle.kc_base.proofs.PinLemmas.{input_is_pin, no_input}
 use Rattle.kc_stim.specs.Index.{AllUpTo, AreEdges, IsIndexed, list_of}
 use Rattle.kc_stim.specs.Later.{edges_from}
 use Rattle.kc_stim.specs.Proper.{AreProper, is_driven, StaysProper}
@@ -195,11 +195,8 @@ module _ (d : Drives) (at : ℕ) (edges : List ℕ) (was : AreEdges edges d.stim
   later_known e there =
       let old = was.known (at + e) (edge_back at e edges there.0 there.1 there.2) in
       let driven : is_driven d old.0 ≡ true = edges_are_of_driven_inputs d old.0 (at + e) proper old.1 in
-      let lt : old.0 < pin_count = input_below old.0 (and_parts (is_input old.0) _ driven).0 in
+      let lt : old.0 < pin_count = input_is_pin old.0 (and_parts (is_input old.0) _ driven).0 in
       (old.0, λ same. old.1 (sym (levels_go_on d at old.0 e rise lt) ∙ same ∙ levels_start_there d at old.0 e rise lt))
-    where
-      input_below : (pin : ℕ) → is_input pin ≡ true → pin < pin_count
-      input_below pin is = grind (arith, nat_tests)
 
   later_all : (t pin : ℕ) → (level_at (driven_from at d).stimuli pin t ≡ level_before (driven_from at d).stimuli pin t) ⊎ Contains (edges_from at edges) t
   later_all t pin = elim (cases_lt pin pin_count) [
@@ -214,7 +211,7 @@ module _ (d : Drives) (at : ℕ) (edges : List ℕ) (was : AreEdges edges d.stim
   ]
     where
       not_driven : (pin : ℕ) → pin_count ≤ pin → is_driven d pin ≡ false
-      not_driven pin ge = let off : is_input pin ≡ false = grind (arith, nat_tests) in rw off refl
+      not_driven pin ge = let off : is_input pin ≡ false = no_input pin ge in rw off refl
 
   pub edges_later : AreEdges (edges_from at edges) (driven_from at d).stimuli
   edges_later = record {

@@ -10,7 +10,8 @@ mod record;
 mod spelling;
 mod trace;
 
+pub use kc_base::address_text;
 pub use laws::{records_join, texts_join};
 pub use record::Record;
-pub use spelling::{LineBytes, address_text, level_digit, line, put_decimal, put_hex, put_text};
+pub use spelling::{LineBytes, level_digit, line, put_decimal, put_hex, put_text};
 pub use trace::{Counts, TraceOut, WriteFault};

@@ -8,7 +8,7 @@ ghost use Rattle.kc_trace.specs.Printable.{CanPrint};
 use crate::Record;
 use arrayvec::ArrayVec;
 use itoa::Buffer;
-use kc_base::{Edge, Kind, Level, PtsMode, Undefined, hex_digit};
+use kc_base::{Edge, Kind, Level, PtsMode, Undefined, address_text, hex_digit};
 
 /// A line that is made in place, with the byte that ends it.
 pub type LineBytes = ArrayVec<u8, 160>;
@@ -34,21 +34,6 @@ pub fn put_decimal(line: &mut LineBytes, number: u64)
 {
     let mut buffer = Buffer::new();
     put_text(line, buffer.format(number).as_bytes());
-}
-
-/// An address as four upper-case hex digits.
-pub fn address_text(address: u16) -> [u8; 4]
-    ensures { result ≡ hex 4 address }
-{
-    let second = address / 16;
-    let third = second / 16;
-    let fourth = third / 16;
-    [
-        hex_digit((fourth % 16) as u8),
-        hex_digit((third % 16) as u8),
-        hex_digit((second % 16) as u8),
-        hex_digit((address % 16) as u8),
-    ]
 }
 
 /// Puts so many upper-case hex digits of a number behind a line.

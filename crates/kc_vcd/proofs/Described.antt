@@ -4,11 +4,13 @@ use Rattle.std.specs.Prelude.{codes, decimal}
 use Rattle.std.specs.List.{range_with_len}
 use Rattle.std.proofs.lemmas.Bool.{le-leb, lt-leb, eq-eqb, ne_eqb, eqb-true, cases_lt}
 use Rattle.std.proofs.Math.Nat.{mul-le-mul_left}
+use Rattle.kc_base.specs.Limits.{max_states}
 use Rattle.kc_base.specs.declared.types.Level.{Level}
 use Rattle.kc_base.specs.declared.types.Level.TheVariants.{Low, High}
 use Rattle.kc_base.specs.Fields.{decimal_value}
 use Rattle.kc_base.specs.TextLines.{text_lines}
-use Rattle.kc_base.specs.Pins.{pin_name}
+use Rattle.kc_base.specs.Pins.{pin_name, pin_count, pin_facts}
+use Rattle.kc_base.proofs.PinLemmas.{each_below}
 use Rattle.kc_trace.specs.declared.record.Record.{Record}
 use Rattle.kc_trace.specs.declared.record.Record.TheVariants.{Pin, Entered, Served, Undef, Stopped, Pc, Psw, Wsr, Registers}
 use Rattle.kc_trace.specs.Text.{level_digit, fields_of, line_of, text_of}
@@ -19,7 +21,7 @@ use Rattle.kc_vcd.specs.Reader.{code_of, reached_by, digit_level, changed_by, le
 use Rattle.kc_vcd.specs.Laws.{TracesAreRead, DumpsDescribeLevels}
 use Rattle.kc_base.proofs.Words.{plain_line, plain-word, no_lines}
 use Rattle.kc_base.proofs.Numbers.{word-decimal, value-decimal}
-use Rattle.kc_vcd.proofs.Pins.{each_below, is_number, number_is}
+use Rattle.kc_vcd.proofs.Pins.{is_number, number_is}
 use Rattle.kc_vcd.proofs.Spelled.{plain}
 use Rattle.kc_vcd.proofs.Histories.{history-head, history-tail}
 use Rattle.kc_vcd.proofs.Growing.{changes-none, changes-cons}
@@ -82,7 +84,7 @@ declared =
     codes "$comment kc96: inputs are not in a trace and stand as before state 0 $end"
     ∷ codes "$timescale 1 ps $end"
     ∷ codes "$scope module board $end"
-    ∷ (map pin_line (range_with_len 0 41)
+    ∷ (map pin_line (range_with_len 0 pin_count)
     ++ codes "$var event 1 j entry $end"
     ∷ codes "$var event 1 k transfer $end"
     ∷ codes "$var event 1 l undefined $end"
@@ -92,17 +94,17 @@ declared =
 
 -- and behind it
 abbrev started : List (List ℕ)
-started = codes "$dumpvars" ∷ (map start_of (range_with_len 0 41) ++ codes "$end" ∷ [])
+started = codes "$dumpvars" ∷ (map start_of (range_with_len 0 pin_count) ++ codes "$end" ∷ [])
 
 prefix-lines : (rest : List ℕ) → text_lines (prefix ++ rest) ≡ declared ++ (started ++ text_lines rest)
-unfolding text_lines pin_declarations start_lines
+unfolding text_lines pin_declarations start_lines pin_facts
 prefix-lines rest = refl
 
-code-found : (pin : ℕ) (rest : List (List ℕ)) → pin < 41 → code_of (pin_name pin) (declared ++ rest) ≡ Some (pin_code pin)
+code-found : (pin : ℕ) (rest : List (List ℕ)) → pin < pin_count → code_of (pin_name pin) (declared ++ rest) ≡ Some (pin_code pin)
 unfolding code_of
 code-found pin rest less =
     code-prefix (pin_name pin) (pin_code pin) declared rest
-    (number_is (code_of (pin_name pin) declared) (pin_code pin) (each_below (λ n. is_number (code_of (pin_name n) declared) (pin_code n)) 41 pin refl less))
+    (number_is (code_of (pin_name pin) declared) (pin_code pin) (each_below (λ n. is_number (code_of (pin_name n) declared) (pin_code n)) pin_count pin refl less))
 
 declared-reached : (time : ℕ) → reached_over time false declared ≡ true
 declared-reached time = le-leb 0 time (omega arith)
@@ -112,6 +114,7 @@ unfolding level_described
 declared-described time code = refl
 
 started-reached : (time : ℕ) → reached_over time true started ≡ true
+unfolding pin_facts
 started-reached time = refl
 
 abbrev is_level : Option Level → Level → Bool
@@ -128,13 +131,13 @@ level_is (Some Low) High h = absurd (let e : false ≡ true = h in cc)
 level_is (Some High) Low h = absurd (let e : false ≡ true = h in cc)
 level_is (Some High) High h = refl
 
-started-described : (time pin : ℕ) → pin < 41 → level_described time (pin_code pin) true None started ≡ Some (start_level pin)
-unfolding level_described
+started-described : (time pin : ℕ) → pin < pin_count → level_described time (pin_code pin) true None started ≡ Some (start_level pin)
+unfolding level_described pin_facts
 started-described time pin less =
     level_is (level_described time (pin_code pin) true None started) (start_level pin)
-    (each_below (λ n. is_level (level_described time (pin_code n) true None started) (start_level n)) 41 pin refl less)
+    (each_below (λ n. is_level (level_described time (pin_code n) true None started) (start_level n)) pin_count pin refl less)
 
-prefix-described : (time pin : ℕ) (rest : List (List ℕ)) → pin < 41 →
+prefix-described : (time pin : ℕ) (rest : List (List ℕ)) → pin < pin_count →
     level_described time (pin_code pin) false None (declared ++ (started ++ rest)) ≡ level_described time (pin_code pin) true (Some (start_level pin)) rest
 prefix-described time pin rest less =
     let first = described-append time (pin_code pin) false None declared (started ++ rest) in
@@ -161,17 +164,17 @@ stamp-keeps code reached level [] = refl
 stamp-keeps code reached level (d ∷ []) = elim (reached && eqb d code) as (λ b. cond b (digit_level 35 level) level ≡ level) [ true ↦ refl | false ↦ refl ]
 stamp-keeps code reached level (d ∷ e ∷ ds) = refl
 
-module _ (m t pin : ℕ) (some : 1 ≤ m) (few : m ≤ 2000000000000) (is : pin < 41) where
+module _ (m t pin : ℕ) (some : 1 ≤ m) (few : m ≤ 2000000000000) (is : pin < pin_count) where
   abbrev reads : ℕ → Level → List (List ℕ) → Option Level
   reads at v lines = level_described (m * t) (pin_code pin) (leb at t) (Some v) lines
 
-  stamp-line : (at : ℕ) (more : List ℕ) → at ≤ 10 ^ 15 → text_lines ((codes "#" ++ decimal (m * at) ++ codes "\n") ++ more) ≡ (35 ∷ decimal (m * at)) ∷ text_lines more
+  stamp-line : (at : ℕ) (more : List ℕ) → at ≤ max_states → text_lines ((codes "#" ++ decimal (m * at) ++ codes "\n") ++ more) ≡ (35 ∷ decimal (m * at)) ∷ text_lines more
   stamp-line at more early =
       let product : at * m ≤ at * 2000000000000 = mul-le-mul_left at few in
       let w = plain-word (decimal (m * at)) (word-decimal (m * at) (omega (arith, product))) in
       ap text_lines (append_assoc (35 ∷ decimal (m * at)) (10 ∷ []) more) ∙ plain_line (35 ∷ decimal (m * at)) more (omega arith, w)
 
-  stamp-described : (before at : ℕ) (v : Level) (more : List ℕ) → at ≤ 10 ^ 15 → reads before v (text_lines (stamp m before at ++ more)) ≡ reads at v (text_lines more)
+  stamp-described : (before at : ℕ) (v : Level) (more : List ℕ) → at ≤ max_states → reads before v (text_lines (stamp m before at ++ more)) ≡ reads at v (text_lines more)
   stamp-described before at v more early = by_same (eqb at before) refl
     where
       by_same : (b : Bool) → eqb at before ≡ b → reads before v (text_lines (cond b [] (codes "#" ++ decimal (m * at) ++ codes "\n") ++ more)) ≡ reads at v (text_lines more)
@@ -241,7 +244,7 @@ module _ (m t pin : ℕ) (some : 1 ≤ m) (few : m ≤ 2000000000000) (is : pin 
   change-described before (Wsr value) v more = refl
   change-described before (Registers base bytes) v more = refl
 
-  early : (before : ℕ) (item : Record) → before ≤ 10 ^ 15 → IsSound item → time_after before item ≤ 10 ^ 15
+  early : (before : ℕ) (item : Record) → before ≤ max_states → IsSound item → time_after before item ≤ max_states
   early before (Pin at edge) b h = h.1
   early before (Entered at vector back) b h = h.1.0
   early before (Served at vector mode count) b h = h.1.0
@@ -252,7 +255,7 @@ module _ (m t pin : ℕ) (some : 1 ≤ m) (few : m ≤ 2000000000000) (is : pin 
   early before (Wsr value) b h = b
   early before (Registers base bytes) b h = b
 
-  changes-described : (before : ℕ) (items : List Record) (v : Level) → before ≤ 10 ^ 15 → IsHistory before items →
+  changes-described : (before : ℕ) (items : List Record) (v : Level) → before ≤ max_states → IsHistory before items →
       reads before v (text_lines (changes m before items)) ≡ Some (level_after pin t items v)
   unfolding level_after
   changes-described before [] v b h =
@@ -262,7 +265,7 @@ module _ (m t pin : ℕ) (some : 1 ≤ m) (few : m ≤ 2000000000000) (is : pin 
   changes-described before (x ∷ items) v b h =
       let at = time_after before x in
       let rest = changes m at items in
-      let soon : at ≤ 10 ^ 15 = early before x b (history-head before x items h) in
+      let soon : at ≤ max_states = early before x b (history-head before x items h) in
       ap (λ text. reads before v (text_lines text)) (changes-cons m before x items ∙ append_assoc (stamp m before at) (change_of x) rest)
       ∙ stamp-described before at v (change_of x ++ rest) soon
       ∙ change-described before x v rest

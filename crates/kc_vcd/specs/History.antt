@@ -1,5 +1,6 @@
 -- What a trace describes: records in the order of time (this kit's own).
 use Rattle.std.specs.Prelude.{◌≡◌, ℕ, ◌^◌, ◌<◌, ◌≤◌, List, [], ◌∷◌, length}
+use Rattle.kc_base.specs.Limits.{max_states}
 use Rattle.kc_base.specs.Bytes.{IsBytes}
 use Rattle.kc_trace.specs.declared.record.Record.{Record}
 use Rattle.kc_trace.specs.declared.record.Record.TheVariants.{Pin, Entered, Served, Undef, Stopped, Pc, Psw, Wsr, Registers}
@@ -16,11 +17,11 @@ time_after before _ = before
 
 -- the numbers of a record are as wide as a run has them: 10^15 states, eight bits, sixteen bits, 32 bytes
 abbrev pub HasWidths : Record → Type 0
-HasWidths (Pin at edge) = at ≤ 10 ^ 15
-HasWidths (Entered at vector back) = (at ≤ 10 ^ 15) × (vector < 256) × (back < 65536)
-HasWidths (Served at vector mode count) = (at ≤ 10 ^ 15) × (vector < 256) × (count < 256)
-HasWidths (Undef what) = (what.at ≤ 10 ^ 15) × (what.addr < 65536)
-HasWidths (Stopped at how) = at ≤ 10 ^ 15
+HasWidths (Pin at edge) = at ≤ max_states
+HasWidths (Entered at vector back) = (at ≤ max_states) × (vector < 256) × (back < 65536)
+HasWidths (Served at vector mode count) = (at ≤ max_states) × (vector < 256) × (count < 256)
+HasWidths (Undef what) = (what.at ≤ max_states) × (what.addr < 65536)
+HasWidths (Stopped at how) = at ≤ max_states
 HasWidths (Pc value) = value < 65536
 HasWidths (Psw value) = value < 65536
 HasWidths (Wsr value) = value < 256

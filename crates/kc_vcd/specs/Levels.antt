@@ -1,20 +1,17 @@
--- The levels of the pins over a run, by the edges of its trace (80C196KC User's Manual, "Pin Descriptions", "I/O Ports"; the
--- levels at the start are this kit's own).
+-- The levels of the pins over a run, by the edges of its trace (this kit's own).
 --
 -- A trace has the edges of printed pins alone, and no level: what a pin is before its first edge is described here. Of an input
 -- that only stimuli move a trace has no edge, so that it stands as before state 0.
-use Rattle.std.specs.Prelude.{ℕ, nat_le, if◌then◌else◌, ◌==◌, Bool, ◌&&◌, ◌||◌, List, [], ◌∷◌}
+use Rattle.std.specs.Prelude.{ℕ, nat_le, if◌then◌else◌, ◌==◌, ◌&&◌, List, [], ◌∷◌}
 use Rattle.kc_base.specs.declared.types.Level.{Level}
-use Rattle.kc_base.specs.declared.types.Level.TheVariants.{Low, High}
+use Rattle.kc_base.specs.Levels.{level_of}
+use Rattle.kc_base.specs.Pins.{starts_high}
 use Rattle.kc_trace.specs.declared.record.Record.{Record}
 use Rattle.kc_trace.specs.declared.record.Record.TheVariants.{Pin}
 
--- high before state 0: P10 to P17, P20, P25, P26 and P27, whose latches are 1 after a reset, T2UD, T2CAP, TXD and RXD
-abbrev pub starts_high : ℕ → Bool
-starts_high pin = (nat_le 6 pin && nat_le pin 17) || ((pin == 26) || ((pin == 27) || ((pin == 36) || (pin == 37))))
-
+-- the level of a pin before state 0
 abbrev pub start_level : ℕ → Level
-start_level pin = if starts_high pin then High else Low
+start_level pin = level_of (starts_high pin)
 
 -- the level that a pin takes by a record of state t at the latest, or keeps
 abbrev pub moved_by : ℕ → ℕ → Record → Level → Level

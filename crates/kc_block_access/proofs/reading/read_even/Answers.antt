@@ -1,9 +1,10 @@
-use Rattle.std.proofs.Common.{◌≡◌, true, ◌∙◌, ap, ◌-◌}
+use Rattle.std.proofs.Common.{◌≡◌, true, sym, ◌∙◌, ap, arith, ◌-◌}
 use Rattle.kc_exec_spec.specs.Window.{is_wsr}
 use Rattle.kc_block_spec.specs.Accesses.{after_even_word_read}
 use Rattle.kc_block_spec.proofs.Named.{even_reads_are_mild}
 use Rattle.kc_block_lazy.specs.Scheduler.{shown_units, IsLeft}
 use Rattle.kc_block_lanes.specs.Standing.{standing}
+use Rattle.kc_block_access.proofs.Calls.{word_read}
 use Rattle.kc_block_access.proofs.Outcomes.{profile_read, ok_or_err}
 use Rattle.kc_block_access.proofs.reading.read_even.Goals as goal
 
@@ -17,3 +18,8 @@ returns-in-None-clause-profile g c =
     (λ left. profile_read g.X.Extra.further g.X.Extra.agrees c.args.now new u after left
     (even_reads_are_mild g.X.Extra.further (c.args.now - 1) c.args.window u c.args.sfr) c.requires.profile)
     (λ same. ap (λ l. is_wsr l.board_registers.wsr) same ∙ c.requires.profile)
+
+pub returns-in-Some-clause-costs : goal.returns-in-Some-clause-costs
+returns-in-Some-clause-costs g c =
+    let four = word_read c.args.window c.args.sfr c.in-Some.register (sym c.readable_word.ensures ∙ c.in-Some.is) in
+    record { spent = omega (arith, four, c.read_word.ensures.steps); moves = omega (arith, four, c.read_word.ensures.moves) }

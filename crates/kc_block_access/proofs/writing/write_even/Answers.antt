@@ -1,4 +1,4 @@
-use Rattle.std.proofs.Common.{◌≡◌, true, sym, ◌∙◌, ap, subst, Some, ◌-◌}
+use Rattle.std.proofs.Common.{◌≡◌, true, sym, ◌∙◌, ap, arith, subst, Some, ◌-◌}
 use Rattle.std.specs.Prelude.{IfOk}
 use Rattle.kc_exec_spec.specs.Window.{is_wsr}
 use Rattle.kc_block_spec.specs.Registers.{row_at, words_written}
@@ -7,6 +7,7 @@ use Rattle.kc_block_spec.specs.Writing.{with_word}
 use Rattle.kc_block_spec.proofs.Named.{even_writes_keep_profile}
 use Rattle.kc_block_lazy.specs.Scheduler.{shown_units, IsScheduled, IsLeft}
 use Rattle.kc_block_lanes.specs.Standing.{standing}
+use Rattle.kc_block_access.proofs.Calls.{word_written}
 use Rattle.kc_block_access.proofs.Outcomes.{profile_left, both_of, either_way, weaker}
 use Rattle.kc_block_access.proofs.writing.write_even.Goals as goal
 
@@ -57,3 +58,8 @@ returns-in-None-clause-profile g c =
     (even_writes_keep_profile g.X.Extra.further (c.args.now - 1) c.args.window u c.args.sfr c.args.value c.requires.profile)) c.write_two.ensures.refused.same
     (λ v both. profile_left g.X.Extra.further g.X.Extra.agrees c.args.now new v both.0 both.1)
     (λ same. ap (λ l. is_wsr l.board_registers.wsr) same ∙ c.requires.profile)
+
+pub returns-in-Some-clause-costs : goal.returns-in-Some-clause-costs
+returns-in-Some-clause-costs g c =
+    let four = word_written c.args.window c.args.sfr c.in-Some.register (sym c.writable_word.ensures ∙ c.in-Some.is) in
+    record { spent = omega (arith, four, c.write_one.ensures.steps); moves = omega (arith, four, c.write_one.ensures.moves) }

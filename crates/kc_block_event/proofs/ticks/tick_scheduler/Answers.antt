@@ -9,7 +9,7 @@ use Rattle.kc_block_spec.specs.Leading.{Leads}
 use Rattle.kc_block_inputs.proofs.Leads.{leads_on}
 use Rattle.kc_block_lazy.specs.Scheduler.{shown_units}
 use Rattle.kc_block_lazy.specs.Events.{has_timer2_edge, has_hsi_edge, flag_touched}
-use Rattle.kc_block_lazy.proofs.Bringing.{hso_quiet}
+use Rattle.kc_block_lazy.proofs.CatchingUp.{hso_quiet}
 use Rattle.kc_block_lazy.proofs.Known.{further_agrees}
 use Rattle.kc_block_lanes.specs.Standing.{standing}
 use Rattle.kc_block_event.specs.declared.pins.Inputs.{Inputs}

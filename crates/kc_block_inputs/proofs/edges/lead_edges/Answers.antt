@@ -1,6 +1,6 @@
-use Rattle.std.proofs.Common.{◌≡◌, ◌^◌, ◌/◌, ap, refl, sym, subst, arith}
+use Rattle.std.proofs.Common.{◌≡◌, ◌^◌, ◌/◌, refl, sym, subst, arith}
 use Rattle.std.specs.Int.Bits.{bit_xor}
-use Rattle.kc_block_spec.specs.Levels.{edges_below, edges_between}
+use Rattle.kc_block_spec.specs.Levels.{edges_below}
 use Rattle.kc_block_spec.specs.Touch.{in_state}
 use Rattle.kc_block_spec.specs.Leading.{Leads}
 use Rattle.kc_block_inputs.proofs.Leads.{leads_on, edges_next, all_below}

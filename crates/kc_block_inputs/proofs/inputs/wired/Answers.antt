@@ -1,6 +1,7 @@
-use Rattle.std.proofs.Common.{◌≡◌, ◌^◌, refl, sym, ◌∙◌, ap, arith}
+use Rattle.std.proofs.Common.{◌≡◌, ◌+◌, ◌^◌, refl, sym, ◌∙◌, ap, arith}
 use Rattle.std.specs.Prelude.{bit_or}
 use Rattle.kc_base.specs.Bits.{weight}
+use Rattle.kc_base.specs.Pins.{extint}
 use Rattle.kc_stim.specs.Drives.{wire_to}
 use Rattle.kc_block_spec.specs.Levels.{mask_of, follows}
 use Rattle.kc_block_inputs.proofs.InputMasks.{mask_next, wires_below, wires_above, no_wires}
@@ -21,7 +22,7 @@ loop-pin-preserved c =
 
 pub returns : goal.returns
 returns c =
-    let all : c.loop-pin.pin ≡ 25 = omega arith in
+    let all : c.loop-pin.pin ≡ extint + 1 = omega arith in
     c.loop-pin.invariant
     ∙ ap (mask_of (λ pin. follows (wire_to c.args.stimuli.now.wires pin) c.args.outputs)) all
     ∙ sym (wires_above c.args.stimuli.now c.requires (λ o. follows o c.args.outputs) refl)

@@ -1,6 +1,6 @@
 use Rattle.std.proofs.Common.{Ok, ap, sym, ◌∙◌}
 use Rattle.kc_exec_spec.specs.Plans.{plan_of}
-use Rattle.kc_exec_ready.specs.Preparing.{holds_at}
+use Rattle.kc_exec_ready.specs.Predecoding.{holds_at}
 use Rattle.kc_exec_ready.proofs.Known.{when_known}
 use Rattle.kc_exec_ready.proofs.timing.is_held.Goals as goal
 

@@ -1,22 +1,23 @@
-use Rattle.std.proofs.Common.{rules, map, string_bytes, sym, subst, List}
-use Rattle.kc_debug_script.specs.declared.line_map.MapEntry.{MapEntry}
+use Rattle.std.proofs.Common.{map, string_bytes}
 use Rattle.kc_kit_inputs.specs.Driving.{given_in}
 use Rattle.kc_kit_answer.specs.Places.{Placing}
-use Rattle.kc_kit_answer.specs.Profile.{map_entry, DrivenWithLines, FilledWithLines}
-use Rattle.kc_kit_answer.proofs.LinesLemmas.{board-placed, lines-placing, refused-with-lines}
+use Rattle.kc_kit_answer.specs.Profile.{DrivenWithLines, FilledWithLines}
+use Rattle.kc_kit_answer.proofs.LinesLemmas.{lines-widen}
+use Rattle.kc_kit_answer.proofs.LinkLemmas.{placing-ok, placing-refused}
 use Rattle.kc_kit_answer.proofs.profile.linked.Goals as goal
 
-pub returns-in-Err : goal.returns-in-Err
-returns-in-Err c = refused-with-lines (map string_bytes c.args.names.now) (given_in c.args.given) c.args.placing.now c.args.modules.now c.in-Err.refusal c.in-Err.ensures
+pub linked_at-requires-clause-placed : goal.linked_at-requires-clause-placed
+linked_at-requires-clause-placed c = record { ranges = c.args.placing.now; in_bounds = c.requires.linkable.bounds; placement = c.in-Ok.ensures }
 
-pub returns-in-Ok-entries_of : goal.returns-in-Ok-entries_of
-returns-in-Ok-entries_of c = λ report.
+pub returns-in-Ok : goal.returns-in-Ok
+returns-in-Ok c =
     let names = map string_bytes c.args.names.now in
     let given = given_in c.args.given in
-    let lines = c.in-Ok-line_map.lines.items in
-    let mapped = c.in-Ok-line_map.ensures in
-    subst (λ (es : List MapEntry). Placing names c.args.placing.now (DrivenWithLines given FilledWithLines report) c.args.modules.now (report es c.in-Ok.board.driving c.in-Ok.board.image)) (sym c.in-Ok-entries_of.ensures)
-    (lines-placing names given c.args.placing.now report c.args.modules.now lines mapped.0 (report (map map_entry lines) c.in-Ok.board.driving c.in-Ok.board.image) mapped.1.0 mapped.1.1 (c.in-Ok.ensures (report (map map_entry lines))))
+    let ranges = c.args.placing.now in
+    let ms = c.args.modules.now in
+    let places = c.in-Ok.placement.places in
+    lines-widen (λ report. DrivenWithLines given FilledWithLines report ms places) (λ report. Placing names ranges (DrivenWithLines given FilledWithLines report) ms) c.linked_at.result
+    (λ report r m. placing-ok names ranges (DrivenWithLines given FilledWithLines report) ms places r c.in-Ok.ensures.0 m) c.linked_at.ensures
 
-pub unreachable-requires : goal.unreachable-requires
-unreachable-requires c = search (rules, board-placed (map string_bytes c.args.names.now) (given_in c.args.given) c.args.placing.now c.args.modules.now c.in-Ok.board c.in-Ok.ensures)
+pub returns-in-Err : goal.returns-in-Err
+returns-in-Err c = λ report. placing-refused (map string_bytes c.args.names.now) c.args.placing.now (DrivenWithLines (given_in c.args.given) FilledWithLines report) c.args.modules.now c.in-Err.refusal c.in-Err.ensures

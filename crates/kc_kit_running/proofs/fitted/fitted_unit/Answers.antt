@@ -3,7 +3,8 @@ use Rattle.std.specs.Prelude.{bit_xor}
 use Rattle.kc_base.specs.Bits.{bit}
 use Rattle.kc_base.specs.Levels.{is_high, level_of}
 use Rattle.kc_extra.proofs.Pairs.{same_pair}
-use Rattle.kc_serial.specs.Port.{Keeps, rxd, start}
+use Rattle.kc_base.specs.Pins.{rxd}
+use Rattle.kc_serial.specs.Port.{Keeps, start}
 use Rattle.kc_serial.specs.declared.serial.Serial.{Serial}
 use Rattle.kc_block_spec.specs.Levels.{stimulated_before}
 use Rattle.kc_kit_running.specs.Fitted.{units_at}

@@ -3,15 +3,15 @@ use Rattle.std.specs.Prelude.{OnOk}
 use Rattle.kc_block_spec.specs.Accesses.{after_word_read}
 use Rattle.kc_block_lazy.specs.Scheduler.{shown_units}
 use Rattle.kc_block_lanes.specs.Standing.{standing}
-use Rattle.kc_block.proofs.Calls.{word_few}
+use Rattle.kc_block.proofs.Calls.{word_read_few}
 use Rattle.kc_block.proofs.block.Block.read16_here.Goals as goal
 
 pub returns-clause-steps : goal.returns-clause-steps
-returns-clause-steps g c = let few = word_few c.args.sfr in omega (arith, c.read16.ensures.costs.spent)
+returns-clause-steps g c = let few = word_read_few c.args.sfr in omega (arith, c.read16.ensures.costs.spent)
 
 pub returns-clause-moves : goal.returns-clause-moves
 returns-clause-moves g c =
-    let few = word_few c.args.sfr in
+    let few = word_read_few c.args.sfr in
     let seen = ap (λ s. s.moves) c.self.view_is in
     omega (arith, c.read16.ensures.costs.moves)
 

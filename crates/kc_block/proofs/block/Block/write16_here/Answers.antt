@@ -3,7 +3,7 @@ use Rattle.std.specs.Prelude.{IfErr, Err, OnOk, Ok}
 use Rattle.kc_block_spec.specs.Accesses.{word_written}
 use Rattle.kc_block_lazy.specs.Scheduler.{shown_units}
 use Rattle.kc_block_lanes.specs.Standing.{standing}
-use Rattle.kc_block.proofs.Calls.{word_few}
+use Rattle.kc_block.proofs.Calls.{word_write_few}
 use Rattle.kc_block.proofs.Written.{kind_of, ok_of}
 use Rattle.kc_block.proofs.block.Block.write16_here.Goals as goal
 
@@ -13,11 +13,11 @@ returns-clause-kind g c =
     c.self.view_is (kind_of c.write16-written.result _ c.write16-written.ensures.answer)
 
 pub returns-clause-steps : goal.returns-clause-steps
-returns-clause-steps g c = let few = word_few c.args.sfr in omega (arith, c.write16-written.ensures.costs.spent)
+returns-clause-steps g c = let few = word_write_few c.args.sfr in omega (arith, c.write16-written.ensures.costs.spent)
 
 pub returns-clause-moves : goal.returns-clause-moves
 returns-clause-moves g c =
-    let few = word_few c.args.sfr in
+    let few = word_write_few c.args.sfr in
     let seen = ap (λ s. s.moves) c.self.view_is in
     omega (arith, c.write16-written.ensures.costs.moves)
 

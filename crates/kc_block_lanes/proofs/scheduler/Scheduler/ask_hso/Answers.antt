@@ -1,7 +1,7 @@
 use Rattle.std.proofs.Common.{sym, subst}
 use Rattle.kc_span.specs.Span.{IsDue}
 use Rattle.kc_block_lazy.specs.Scheduler.{hso_goes}
-use Rattle.kc_block_lazy.proofs.Bringing.{hso_asked}
+use Rattle.kc_block_lazy.proofs.CatchingUp.{hso_asked}
 use Rattle.kc_block_lanes.specs.Standing.{standing}
 use Rattle.kc_block_lanes.proofs.scheduler.Scheduler.ask_hso.Goals as goal
 

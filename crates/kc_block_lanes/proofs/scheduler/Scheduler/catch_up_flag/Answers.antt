@@ -2,7 +2,7 @@ use Rattle.std.proofs.Common.{sym, ◌∙◌, ap, subst}
 use Rattle.kc_base.specs.Bits.{bit}
 use Rattle.kc_block_lane.specs.DeferredUnit.{deferred_at}
 use Rattle.kc_block_lazy.specs.Scheduler.{shown_units, IsScheduled}
-use Rattle.kc_block_lazy.proofs.Bringing.{flag_caught_up, flag_caught_up_shows}
+use Rattle.kc_block_lazy.proofs.CatchingUp.{flag_caught_up, flag_caught_up_shows}
 use Rattle.kc_block_lanes.specs.Standing.{standing}
 use Rattle.kc_block_lanes.proofs.scheduler.Scheduler.catch_up_flag.Goals as goal
 

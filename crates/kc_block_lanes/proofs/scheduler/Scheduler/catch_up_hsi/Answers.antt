@@ -1,7 +1,7 @@
 use Rattle.std.proofs.Common.{sym, ◌∙◌, ap, subst}
 use Rattle.kc_block_lane.specs.DeferredUnit.{deferred_at}
 use Rattle.kc_block_lazy.specs.Scheduler.{shown_units, IsScheduled}
-use Rattle.kc_block_lazy.proofs.Bringing.{hsi_caught_up, hsi_caught_up_shows}
+use Rattle.kc_block_lazy.proofs.CatchingUp.{hsi_caught_up, hsi_caught_up_shows}
 use Rattle.kc_block_lanes.specs.Standing.{standing}
 use Rattle.kc_block_lanes.proofs.scheduler.Scheduler.catch_up_hsi.Goals as goal
 

@@ -1,7 +1,7 @@
 use Rattle.std.proofs.Common.{sym, ◌∙◌, ap, subst}
 use Rattle.kc_block_lane.specs.DeferredUnit.{deferred_at}
 use Rattle.kc_block_lazy.specs.Scheduler.{shown_units, IsScheduled}
-use Rattle.kc_block_lazy.proofs.Bringing.{hso_seen, hso_quiet, hso_caught_up, hso_caught_up_shows}
+use Rattle.kc_block_lazy.proofs.CatchingUp.{hso_seen, hso_quiet, hso_caught_up, hso_caught_up_shows}
 use Rattle.kc_block_lanes.specs.Standing.{standing}
 use Rattle.kc_block_lanes.proofs.scheduler.Scheduler.catch_up_hso.Goals as goal
 

@@ -3,7 +3,7 @@ use Rattle.kc_span.specs.Span.{after}
 use Rattle.kc_timers.specs.T2.{timer2_rule}
 use Rattle.kc_block_lane.specs.DeferredUnit.{deferred_at}
 use Rattle.kc_block_lazy.specs.Scheduler.{shown_units, IsScheduled}
-use Rattle.kc_block_lazy.proofs.Bringing.{timer2_caught_up, timer2_caught_up_shows}
+use Rattle.kc_block_lazy.proofs.CatchingUp.{timer2_caught_up, timer2_caught_up_shows}
 use Rattle.kc_block_lanes.specs.Standing.{standing}
 use Rattle.kc_block_lanes.proofs.scheduler.Scheduler.catch_up_timers.Goals as goal
 

@@ -1,7 +1,7 @@
 use Rattle.std.proofs.Common.{sym, ◌∙◌, ap, arith}
 use Rattle.std.specs.Prelude.{bit_or}
 use Rattle.kc_block_spec.specs.Levels.{wired}
-use Rattle.kc_block_lazy.proofs.Bringing.{levels_stay, levels_from}
+use Rattle.kc_block_lazy.proofs.CatchingUp.{levels_stay, levels_from}
 use Rattle.kc_block_lazy.proofs.Due.{slot_ahead}
 use Rattle.kc_block_lanes.specs.Standing.{standing}
 use Rattle.kc_block_lanes.proofs.scheduler.Scheduler.levels.Goals as goal

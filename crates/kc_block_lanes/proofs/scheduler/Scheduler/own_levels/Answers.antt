@@ -1,5 +1,5 @@
 use Rattle.std.proofs.Common.{sym, ◌∙◌, arith}
-use Rattle.kc_block_lazy.proofs.Bringing.{no_stimulus}
+use Rattle.kc_block_lazy.proofs.CatchingUp.{no_stimulus}
 use Rattle.kc_block_lazy.proofs.Due.{slot_ahead}
 use Rattle.kc_block_lanes.specs.Standing.{standing}
 use Rattle.kc_block_lanes.proofs.scheduler.Scheduler.own_levels.Goals as goal

@@ -1,6 +1,6 @@
 use Rattle.std.proofs.Common.{sym, ◌∙◌, ap, subst}
 use Rattle.kc_span.specs.Span.{IsDue, least_of}
-use Rattle.kc_convert.specs.Pulsing.{pwm0, pwm1, pwm2}
+use Rattle.kc_base.specs.Pins.{pwm0, pwm1, pwm2}
 use Rattle.kc_convert.proofs.PulseRules.{pulses_rule, pulses_due}
 use Rattle.kc_convert.proofs.pulses.PulsesExtra.due.Goals as goal
 

@@ -9,14 +9,14 @@ use Rattle.kc_machine.proofs.common.Common.write_byte.Goals as goal
 pub returns-in-Ok-clause-ok : goal.returns-in-Ok-clause-ok
 returns-in-Ok-clause-ok g c =
     byte-was-written g.X.Extra.further (held_of c.args.self.now) c.args.by c.args.addr c.args.value c.window-window.result _ _ _ _ c.requires c.window-window.ensures
-    c.in-Ok.ensures.ok (ap (λ t. t - 1) c.write8_here.ensures.time) c.write8_here.ensures.edges (rw c.weigh_byte.ensures.written at c.count-self.ensures)
+    c.in-Ok.ensures.ok (ap (λ t. t - 1) c.write8_here.ensures.time) c.write8_here.ensures.edges (rw c.weigh_write.ensures.written at c.count-self.ensures)
 
 pub returns-in-Ok-clause-counts : goal.returns-in-Ok-clause-counts
 returns-in-Ok-clause-counts g c = record {
   time = first_of (search rules, grind (arith, common_steps));
   later = first_of (search rules, grind (arith, common_steps));
-  steps = byte-counts (is_some (row_at bytes_written_everywhere c.args.addr)) _ _ _ _ _ c.weigh_byte.ensures.written c.write8_here.ensures.free c.write8_here.ensures.steps c.count-self.ensures;
-  moves = byte-counts (is_some (row_at bytes_written_everywhere c.args.addr)) _ _ _ _ _ c.weigh_byte.ensures.written c.write8_here.ensures.free_moves c.write8_here.ensures.moves c.count-self.ensures;
+  steps = byte-counts (is_some (row_at bytes_written_everywhere c.args.addr)) _ _ _ _ _ c.weigh_write.ensures.written c.write8_here.ensures.free c.write8_here.ensures.steps c.count-self.ensures;
+  moves = byte-counts (is_some (row_at bytes_written_everywhere c.args.addr)) _ _ _ _ _ c.weigh_write.ensures.written c.write8_here.ensures.free_moves c.write8_here.ensures.moves c.count-self.ensures;
 }
 
 pub returns-in-Err-clause-err : goal.returns-in-Err-clause-err

@@ -1,4 +1,4 @@
-use Rattle.std.proofs.Common.{◌-◌, sym, ◌∙◌, arith}
+use Rattle.std.proofs.Common.{◌-◌, sym, ◌∙◌}
 use Rattle.kc_serial.proofs.PortLaws.{port_after, port_fits}
 use Rattle.kc_serial.proofs.serial.SerialExtra.quiet_to.Goals as goal
 

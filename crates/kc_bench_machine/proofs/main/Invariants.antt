@@ -1,4 +1,0 @@
-use Rattle.kc_bench_machine.proofs.main.Given as goal
-
-abbrev pub ghosts-run_loop : goal.ghosts-run_loop
-ghosts-run_loop a = record { name = a.blank.name; parts = a.blank.parts }

@@ -1,9 +1,0 @@
-use Rattle.std.proofs.Common.{◌∙◌, ap, sym}
-use Rattle.kc_kit_words.specs.Number.{up_to}
-use Rattle.kc_kit_words.proofs.Digits.{digits-next, digits-past}
-use Rattle.kc_kit_words.proofs.numbers.digits.Goals as goal
-
-pub returns-then-so_far-limit-clause-value : goal.returns-then-so_far-limit-clause-value
-returns-then-so_far-limit-clause-value c =
-    let next = digits-next c.args.base c.loop-c.so_far c.args.text.now c.loop-c.c-index c.loop-c-test.true (rw c.digit-digit.ensures at c.if-digit-base.false) in
-    sym (c.loop-c.invariant.same ∙ ap (up_to c.args.limit) next ∙ digits-past c.args.limit c.args.base _ _ c.requires.some (rw c.digit-digit.ensures at c.if-so_far-limit.true))
