@@ -1,4 +1,6 @@
-//! The kit's program: its words, the real files, standard output and standard error, and the status.
+//! The kit's program: its words, the real files, standard output and standard error, and the status. It makes the host's
+//! files and sinks of `kc_base` and calls `kit` of `kc_kit`; nothing else is decided here. Example: `kc96 --version` prints
+//! `kc96 0.1.0` and ends with status 0.
 #![tactic(auto)]
 
 use kc_base::{HostDiagnostics, HostFiles, HostOut, Sink};

@@ -2,7 +2,7 @@
 use Rattle.std.specs.Prelude.{ℕ, List}
 use Rattle.kc_source_statement.specs.declared.statement.Stmt.{Stmt}
 use Rattle.kc_asm_symbols.specs.Reported.{AreReadWell}
-use Rattle.kc_asm_earlier_laws.specs.Read.{SourcesAreReadWell}
+use Rattle.kc_source_laws.specs.Read.{SourcesAreReadWell}
 use Rattle.kc_asm.specs.Assembled.{AreSaid}
 
 pub said_well : SourcesAreReadWell → (source : List ℕ) (stmts : List Stmt) → AreSaid source stmts → AreReadWell stmts

@@ -6,19 +6,17 @@ ghost use Rattle.kc_asm_check.specs.Checking.{standing};
 ghost use Rattle.kc_asm.specs.Assembled as spec;
 
 use kc_asm_check::check;
-use kc_asm_draft::unlinked;
-use kc_asm_draft_laws::{pieces_are_few, unlinked_modules_are_unlinked};
-use kc_asm_earlier_laws::sources_are_read_well;
-use kc_asm_layout::layout;
-use kc_asm_module::module_of;
-use kc_asm_outline::statement_sizes;
+use kc_asm_layout::{layout, statement_sizes};
+use kc_asm_section::module_of;
 use kc_asm_symbols::{Names, externals, externals_are_few};
+use kc_asm_unlinked::unlinked;
+use kc_asm_unlinked_laws::{pieces_are_few, unlinked_modules_are_unlinked};
 use kc_base::NoMemory;
 use kc_lex::{LineFault, SourceFault, lines};
 use kc_macro::expand;
 use kc_obj_module::Module;
 use kc_source::statements;
-use kc_source_laws::statements_are_of_the_text;
+use kc_source_laws::{sources_are_read_well, statements_are_of_the_text};
 use kc_source_statement::Stmt;
 use std::alloc::Global;
 

@@ -4,7 +4,7 @@ use Rattle.std.specs.Prelude.{ℕ, ◌+◌, ◌%◌, List, [], ◌∷◌}
 use Rattle.kc_expr.specs.declared.values.Base.{Base}
 use Rattle.kc_expr.specs.declared.values.Base.TheVariants.{Fixed, Absolute, Piece, External}
 use Rattle.kc_expr.specs.declared.values.Value.{Value}
-use Rattle.kc_obj_relocation.specs.Numbers.{Bases, number, reach, first_part, second_part}
+use Rattle.kc_obj_module.specs.Numbers.{Bases, number, reach, first_part, second_part}
 use Rattle.kc_asm_bytes.specs.declared.relocatable_byte.RelocatableByte.{RelocatableByte}
 use Rattle.kc_asm_bytes.specs.declared.relocatable_byte.RelocatableByte.TheVariants.{Plain, First, Second}
 

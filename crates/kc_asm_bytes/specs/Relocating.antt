@@ -5,7 +5,7 @@ use Rattle.kc_lex.specs.Codes.{does_not_fit, out_of_reach}
 use Rattle.kc_expr.specs.declared.values.Base.{Base}
 use Rattle.kc_expr.specs.declared.values.Base.TheVariants.{Fixed, Absolute, Piece, External}
 use Rattle.kc_expr.specs.declared.values.Value.{Value}
-use Rattle.kc_obj_relocation.specs.Numbers.{Bases, is_distance, number, reach, first_part, fits}
+use Rattle.kc_obj_module.specs.Numbers.{Bases, is_distance, number, reach, first_part, fits}
 use Rattle.kc_asm_bytes.specs.declared.relocatable_byte.RelocatableByte.{RelocatableByte}
 use Rattle.kc_asm_bytes.specs.declared.relocatable_byte.RelocatableByte.TheVariants.{Plain, First, Second}
 use Rattle.kc_asm_bytes.specs.Filling.{address, fill}

@@ -1,15 +1,15 @@
 ghost use Rattle.std.specs.Prelude.{◌≡◌, ◌+◌, ◌≤◌, ◌<◌};
-ghost use Rattle.kc_obj_relocation.specs.Numbers as numbers;
+ghost use Rattle.kc_obj_module.specs.Numbers as numbers;
 ghost use Rattle.kc_asm_bytes.specs.Filling as filling;
 ghost use Rattle.kc_asm_bytes.specs.Relocating as relocating;
 
 use crate::RelocatableByte;
 use kc_expr::{Base, Value};
 use kc_lex::SourceCode;
-use kc_obj_relocation::{first_part, fits, is_distance, number, reach, second_part};
+use kc_obj_module::{first_part, fits, is_distance, number, reach, second_part};
 
 // The number of a value with all pieces at 0, where the next instruction begins some bytes behind a place.
-#[tactic(auto, unfolding(kc_obj_relocation::specs::Numbers::number, kc_obj_relocation::specs::Numbers::distance))]
+#[tactic(auto, unfolding(kc_obj_module::specs::Numbers::number, kc_obj_module::specs::Numbers::distance))]
 fn number_at(kind: u8, place: u16, behind: u16, value: Value) -> u16
     ensures { result ≡ numbers.number kind (place + behind) (filling.address relocating.no_bases value) }
 {

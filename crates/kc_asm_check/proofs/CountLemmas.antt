@@ -8,9 +8,9 @@ use Rattle.kc_source_statement.specs.declared.statement.Stmt.{Stmt}
 use Rattle.kc_source_statement.specs.Trees.{action_tree}
 use Rattle.kc_asm_symbols.specs.declared.segments.Segment.{Segment}
 use Rattle.kc_asm_symbols.specs.Located.{Located, located_from, value_at, first_segment, segment_after}
-use Rattle.kc_asm_outline.specs.declared.size_record.SizeRecord.{SizeRecord}
-use Rattle.kc_asm_outline.specs.Laws.{SizesHaveLengths}
-use Rattle.kc_asm_outline.specs.StatementSizes.{statement_sizes}
+use Rattle.kc_asm_layout.specs.declared.size_record.SizeRecord.{SizeRecord}
+use Rattle.kc_asm_layout.specs.SizesLaws.{SizesHaveLengths}
+use Rattle.kc_asm_layout.specs.StatementSizes.{statement_sizes}
 use Rattle.kc_asm_layout.specs.declared.location.Location.{Location}
 use Rattle.kc_asm_layout.specs.Places.{Ends, locations_from, ends_after, addresses, no_bytes}
 use Rattle.kc_asm_layout.specs.Text.{statement_forms, text}

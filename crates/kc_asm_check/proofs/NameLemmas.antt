@@ -4,8 +4,8 @@ use Rattle.std.specs.Prelude.{Option}
 use Rattle.std.proofs.Math.Seq.{drop-cons}
 use Rattle.std.proofs.lemmas.List.{drop_all}
 use Rattle.std.specs.List.{flat_map}
-use Rattle.kc_asm_emission.specs.Faults.{lesser, least}
-use Rattle.kc_asm_emission.proofs.FaultLemmas.{lesser_assoc, lesser_none, least_append}
+use Rattle.kc_asm_emit.specs.Faults.{lesser, least}
+use Rattle.kc_asm_emit.proofs.FaultLemmas.{lesser_assoc, lesser_none, least_append}
 
 one_more : {X : Type 0} (f : X → List ℕ) (x : X) (xs : List X) (code : Option ℕ)
     → lesser (lesser code (least (f x))) (least (flat_map f xs)) ≡ lesser code (least (flat_map f (x ∷ xs)))

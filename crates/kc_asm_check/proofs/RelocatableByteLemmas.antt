@@ -4,13 +4,13 @@ use Rattle.std.specs.Prelude.{Option, Some, None, if◌then◌else◌}
 use Rattle.std.specs.Option.{option_to_list}
 use Rattle.std.proofs.lemmas.List.{drop_all}
 use Rattle.kc_expr.specs.declared.values.Value.{Value}
-use Rattle.kc_obj_relocation.specs.Numbers.{is_distance, number, distance, reach, fits}
+use Rattle.kc_obj_module.specs.Numbers.{is_distance, number, distance, reach, fits}
 use Rattle.kc_asm_bytes.specs.declared.relocatable_byte.RelocatableByte.{RelocatableByte}
 use Rattle.kc_asm_bytes.specs.declared.relocatable_byte.RelocatableByte.TheVariants.{Plain, First, Second}
 use Rattle.kc_asm_bytes.specs.Filling.{address as address_of}
 use Rattle.kc_asm_bytes.specs.Relocating.{counts, depends, is_piece, misfit, misfit_code, no_bases}
-use Rattle.kc_asm_emission.specs.Faults.{lesser, least}
-use Rattle.kc_asm_emission.proofs.FaultLemmas.{lesser_assoc, lesser_none, least_append, least_option}
+use Rattle.kc_asm_emit.specs.Faults.{lesser, least}
+use Rattle.kc_asm_emit.proofs.FaultLemmas.{lesser_assoc, lesser_none, least_append, least_option}
 use Rattle.kc_asm_check.specs.Codes.{examined, misfits}
 use Rattle.kc_asm_check.proofs.NameLemmas.{prefix_of}
 

@@ -6,7 +6,7 @@ use Rattle.kc_lex.specs.LineFaults.{Fault, at_line}
 use Rattle.kc_lex.proofs.FaultLemmas.{no_least}
 use Rattle.kc_asm_symbols.specs.Located.{Located}
 use Rattle.kc_asm_symbols.specs.Meanings.{meaning, in_all}
-use Rattle.kc_asm_emission.specs.Faults.{lesser, least}
+use Rattle.kc_asm_emit.specs.Faults.{lesser, least}
 use Rattle.kc_asm_layout.specs.declared.location.Location.{Location}
 use Rattle.kc_asm_check.specs.Codes.{Regions, regions_after, stack_after, first_regions}
 use Rattle.kc_asm_check.specs.Checking.{codes_of, faults_from, standing, location_list}

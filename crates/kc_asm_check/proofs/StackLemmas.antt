@@ -5,9 +5,9 @@ use Rattle.std.specs.Prelude.{nat_le, nat_lt, ◌&&◌}
 use Rattle.kc_asm_symbols.specs.Located.{Located}
 use Rattle.kc_asm_symbols.specs.Meanings.{meaning, in_all}
 use Rattle.kc_asm_layout.specs.declared.location.Location.{Location}
-use Rattle.kc_asm_emission.specs.Arguments.{Look}
-use Rattle.kc_asm_emission.specs.Content.{content}
-use Rattle.kc_asm_emission.specs.Faults as values
+use Rattle.kc_asm_emit.specs.Arguments.{Look}
+use Rattle.kc_asm_emit.specs.Content.{content}
+use Rattle.kc_asm_emit.specs.Faults as values
 use Rattle.kc_asm_check.specs.Codes.{Regions, when, branch_faults, relocatable_faults, place_faults, stack_faults, stack_after, regions_after}
 use Rattle.kc_asm_check.specs.Checking.{own_codes, codes_of}
 use Rattle.kc_asm_check.specs.Laws.{AreSound}

@@ -16,8 +16,8 @@ use Rattle.kc_asm_symbols.specs.Located.{Located, located, located_from, located
 use Rattle.kc_asm_symbols.specs.Meanings.{meaning, in_all}
 use Rattle.kc_asm_symbols.specs.Walk.{at_statement, IsAt, IsBehind}
 use Rattle.kc_asm_symbols.proofs.WalkLemmas.{one_located, further}
-use Rattle.kc_asm_emission.specs.Faults.{lesser, least}
-use Rattle.kc_asm_emission.proofs.FaultLemmas.{least_append}
+use Rattle.kc_asm_emit.specs.Faults.{lesser, least}
+use Rattle.kc_asm_emit.proofs.FaultLemmas.{least_append}
 use Rattle.kc_asm_layout.specs.declared.location.Location.{Location}
 use Rattle.kc_asm_check.specs.declared.walk.Walk.{Walk}
 use Rattle.kc_asm_check.specs.Codes.{Regions, first_regions, regions_after, stack_after, public_faults}

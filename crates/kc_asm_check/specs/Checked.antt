@@ -4,7 +4,7 @@ use Rattle.std.specs.Prelude.{◌≡◌, List, reverse, map, Some, None, Result,
 use Rattle.kc_lex.specs.LineFaults.{Fault}
 use Rattle.kc_source_statement.specs.declared.statement.Stmt.{Stmt}
 use Rattle.kc_asm_symbols.specs.Walk.{IsBehind}
-use Rattle.kc_asm_emission.specs.Seen.{seen}
+use Rattle.kc_asm_emit.specs.Seen.{seen}
 use Rattle.kc_asm_check.specs.declared.checked.Checked.{Checked}
 use Rattle.kc_asm_check.specs.declared.checked.Put.{Put as Made}
 use Rattle.kc_asm_check.specs.Checking.{first_fault, standing}

@@ -7,10 +7,10 @@ use Rattle.kc_expr.specs.Meaning.{Answer}
 use Rattle.kc_source_statement.specs.declared.statement.Stmt.{Stmt}
 use Rattle.kc_asm_symbols.specs.Located.{Located, located}
 use Rattle.kc_asm_symbols.specs.Meanings.{meaning, in_all}
-use Rattle.kc_asm_emission.specs.Arguments.{Look}
-use Rattle.kc_asm_emission.specs.Content.{content}
-use Rattle.kc_asm_emission.specs.Faults as values
-use Rattle.kc_asm_outline.specs.StatementSizes.{statement_sizes}
+use Rattle.kc_asm_emit.specs.Arguments.{Look}
+use Rattle.kc_asm_emit.specs.Content.{content}
+use Rattle.kc_asm_emit.specs.Faults as values
+use Rattle.kc_asm_layout.specs.StatementSizes.{statement_sizes}
 use Rattle.kc_asm_layout.specs.declared.location.Location.{Location}
 use Rattle.kc_asm_layout.specs.Text.{layout}
 use Rattle.kc_asm_check.specs.Codes.{Regions, first_regions, branch_faults, relocatable_faults, place_faults, regions_after, stack_after, stack_faults, public_faults}

@@ -18,14 +18,14 @@ use Rattle.kc_asm_symbols.specs.declared.segments.Segment.{Segment}
 use Rattle.kc_asm_symbols.specs.Located.{is_absolute}
 use Rattle.kc_asm_bytes.specs.declared.relocatable_byte.RelocatableByte.{RelocatableByte}
 use Rattle.kc_asm_bytes.specs.Relocating.{misfit}
-use Rattle.kc_asm_operation.specs.Values.{is_external}
-use Rattle.kc_asm_emission.specs.Arguments.{Look, value_of, fixed_of}
-use Rattle.kc_asm_emission.specs.Content.{Content, RelocatableBytes}
-use Rattle.kc_asm_outline.specs.declared.size_record.Anchor.{Anchor}
-use Rattle.kc_asm_outline.specs.declared.size_record.Anchor.TheVariants as anchor
-use Rattle.kc_asm_outline.specs.declared.size_record.Body.{Body}
-use Rattle.kc_asm_outline.specs.declared.size_record.Body.TheVariants as body
-use Rattle.kc_asm_outline.specs.StatementSizes.{target}
+use Rattle.kc_asm_encode.specs.Values.{is_external}
+use Rattle.kc_asm_emit.specs.Arguments.{Look, value_of, fixed_of}
+use Rattle.kc_asm_emit.specs.Content.{Content, RelocatableBytes}
+use Rattle.kc_asm_layout.specs.declared.size_record.Anchor.{Anchor}
+use Rattle.kc_asm_layout.specs.declared.size_record.Anchor.TheVariants as anchor
+use Rattle.kc_asm_layout.specs.declared.size_record.Body.{Body}
+use Rattle.kc_asm_layout.specs.declared.size_record.Body.TheVariants as body
+use Rattle.kc_asm_layout.specs.StatementSizes.{target}
 use Rattle.kc_asm_layout.specs.declared.location.Location.{Location}
 
 -- the code, where there is the fault

@@ -4,9 +4,9 @@ use Rattle.std.specs.Prelude.{ℕ, List, [], ◌∷◌, Option}
 use Rattle.kc_source_statement.specs.declared.statement.Stmt.{Stmt}
 use Rattle.kc_asm_symbols.specs.Located.{Located}
 use Rattle.kc_asm_symbols.specs.Meanings.{meaning}
-use Rattle.kc_asm_emission.specs.Arguments.{Look}
-use Rattle.kc_asm_emission.specs.Content.{Content, content}
-use Rattle.kc_asm_outline.specs.StatementSizes.{opens}
+use Rattle.kc_asm_emit.specs.Arguments.{Look}
+use Rattle.kc_asm_emit.specs.Content.{Content, content}
+use Rattle.kc_asm_layout.specs.StatementSizes.{opens}
 use Rattle.kc_asm_layout.specs.declared.location.Location.{Location}
 use Rattle.kc_asm_check.specs.Codes.{stack_after}
 use Rattle.kc_asm_check.specs.Checking.{location_list, standing}

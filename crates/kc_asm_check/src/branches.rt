@@ -2,12 +2,12 @@
 
 ghost use Rattle.std.specs.Prelude.{◌≡◌, map};
 ghost use Rattle.kc_source_statement.specs.Trees.{arg_tree, action_tree};
-ghost use Rattle.kc_asm_emission.specs.Faults.{least};
+ghost use Rattle.kc_asm_emit.specs.Faults.{least};
 ghost use Rattle.kc_asm_check.specs.Codes as spec;
 
 use crate::codes::when;
-use kc_asm_emission::value_of;
-use kc_asm_outline::{Anchor, Body, target};
+use kc_asm_emit::value_of;
+use kc_asm_layout::{Anchor, Body, target};
 use kc_expr::Scope;
 use kc_lex::SourceCode;
 use kc_source_statement::{Action, Arg};

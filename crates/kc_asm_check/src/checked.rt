@@ -1,6 +1,6 @@
 //! What a check hands on.
 
-use kc_asm_emission::Content;
+use kc_asm_emit::Content;
 use kc_asm_symbols::Meanings;
 
 /// What a statement puts where it stands, and the address of the absolute piece that it opens, if it opens one: that of AT,

@@ -1,4 +1,6 @@
-//! The first fault of the values and places of a module's statements, or what they put where they stand.
+//! The first fault of the values and places of a module's statements, by line and then by code; or what the statements put
+//! where they stand. It stands on `kc_asm_layout` and `kc_asm_symbols`. Example: `LDB 1CH,#300` is refused by E12, since 300
+//! does not fit a byte, and `DCB 1` in DSEG by E18.
 #![tactic(auto)]
 
 mod branches;

@@ -8,13 +8,13 @@ ghost use Rattle.kc_source_statement.specs.Trees.{action_tree};
 ghost use Rattle.kc_asm_symbols.specs.Located.{Located};
 ghost use Rattle.kc_asm_symbols.specs.Meanings.{in_all};
 ghost use Rattle.kc_asm_symbols.specs.Walk.{IsBehind};
-ghost use Rattle.kc_asm_emission.specs.Faults.{least};
-ghost use Rattle.kc_asm_operation.specs.Values as values;
+ghost use Rattle.kc_asm_emit.specs.Faults.{least};
+ghost use Rattle.kc_asm_encode.specs.Values as values;
 ghost use Rattle.kc_asm_check.specs.Codes as spec;
 
 use crate::codes::when;
-use kc_asm_emission::faults::lesser;
-use kc_asm_emission::fixed_of;
+use kc_asm_emit::faults::lesser;
+use kc_asm_emit::fixed_of;
 use kc_asm_symbols::Meanings;
 use kc_base::Text;
 use kc_expr::{Base, Expr, NoValue, Scope, Value};

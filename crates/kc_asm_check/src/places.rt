@@ -5,12 +5,12 @@ ghost use Rattle.std.specs.Option.{option_map};
 ghost use Rattle.kc_expr.specs.Tree.{tree_of};
 ghost use Rattle.kc_source_statement.specs.Trees.{action_tree};
 ghost use Rattle.kc_obj_module.specs.Pieces.{in_region};
-ghost use Rattle.kc_asm_emission.specs.Faults.{least};
+ghost use Rattle.kc_asm_emit.specs.Faults.{least};
 ghost use Rattle.kc_asm_check.specs.Codes as spec;
 
 use crate::codes::when;
-use kc_asm_emission::faults::lesser;
-use kc_asm_emission::fixed_of;
+use kc_asm_emit::faults::lesser;
+use kc_asm_emit::fixed_of;
 use kc_asm_layout::Location;
 use kc_asm_symbols::Segment;
 use kc_base::{NoMemory, Text};
@@ -69,7 +69,7 @@ fn region_of(regions: &[Option<u16>], piece: usize) -> Option<u16>
 }
 
 // 17 past the end of memory, 22 past the end of the region.
-#[tactic(auto, using(kc_asm_emission::proofs::FaultLemmas::least_append))]
+#[tactic(auto, using(kc_asm_emit::proofs::FaultLemmas::least_append))]
 fn end_fault(regions: &[Option<u16>], segment: Segment, location: &Location) -> Option<u8>
     ensures { result ≡ least (spec.end_faults regions.now segment location.now) }
 {
@@ -205,7 +205,7 @@ fn goes_on_fault(
 }
 
 // 17 and 22 for places.
-#[tactic(auto, using(kc_asm_emission::proofs::FaultLemmas::least_append))]
+#[tactic(auto, using(kc_asm_emit::proofs::FaultLemmas::least_append))]
 pub(crate) fn place_fault<S: Scope>(
     regions: &[Option<u16>],
     label: &Option<Text>,

@@ -7,9 +7,8 @@ ghost use Rattle.kc_asm_check.specs.Putting as spec;
 
 use crate::checked::Put;
 use crate::locations::value_at;
-use kc_asm_emission::content_of;
-use kc_asm_layout::Location;
-use kc_asm_outline::opens;
+use kc_asm_emit::content_of;
+use kc_asm_layout::{Location, opens};
 use kc_asm_symbols::Segment;
 use kc_base::NoMemory;
 use kc_expr::Scope;

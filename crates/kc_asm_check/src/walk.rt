@@ -6,7 +6,7 @@ ghost use Rattle.kc_source_statement.specs.Trees.{action_tree};
 ghost use Rattle.kc_asm_symbols.specs.Located.{Located, located, first_segment, segment_after};
 ghost use Rattle.kc_asm_symbols.specs.Meanings.{meaning, in_all};
 ghost use Rattle.kc_asm_symbols.specs.Walk.{at_statement, IsBehind, IsAt};
-ghost use Rattle.kc_asm_emission.specs.Faults.{least};
+ghost use Rattle.kc_asm_emit.specs.Faults.{least};
 ghost use Rattle.kc_asm_check.specs.Checked.{seen_put};
 ghost use Rattle.kc_asm_check.specs.Codes.{regions_after as following_regions, stack_after as following_sum};
 ghost use Rattle.kc_asm_check.specs.Putting.{put_of as put_there, puts_from, stack_from};
@@ -20,8 +20,8 @@ use crate::module::{public_fault, stack_after, stack_fault};
 use crate::places::{place_fault, push_region};
 use crate::putting::put_of;
 use crate::relocatable_bytes::relocatable_fault;
-use kc_asm_emission::fault;
-use kc_asm_emission::faults::lesser;
+use kc_asm_emit::fault;
+use kc_asm_emit::faults::lesser;
 use kc_asm_layout::Location;
 use kc_asm_symbols::{Meanings, Segment};
 use kc_base::NoMemory;
@@ -44,7 +44,7 @@ pub(crate) struct Walk {
 
 impl Walk {
     // By what names mean at the statement.
-    #[tactic(auto, using(kc_asm_emission::proofs::FaultLemmas::least_append))]
+    #[tactic(auto, using(kc_asm_emit::proofs::FaultLemmas::least_append))]
     fn own_code(
         &self,
         alloc: Global,

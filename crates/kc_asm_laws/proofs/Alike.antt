@@ -15,19 +15,19 @@ use Rattle.kc_asm_symbols.specs.Externals.{externals}
 use Rattle.kc_asm_symbols.specs.Meanings.{in_all}
 use Rattle.kc_obj_module.specs.declared.parts.Given.{Given}
 use Rattle.kc_obj_module.specs.Object.{Object}
-use Rattle.kc_asm_piece.specs.declared.unlinked.UnlinkedModule.{UnlinkedModule}
-use Rattle.kc_asm_piece.specs.Section.{Section}
-use Rattle.kc_asm_module.specs.Order.{kept_of, number_of, pieces_of, segment_of}
-use Rattle.kc_asm_module.specs.Publics.{given_of}
-use Rattle.kc_asm_module.specs.ModuleOf.{byte_at, relocated_at, entries_from, kept_in, pieces_in, IsModuleOf}
-use Rattle.kc_asm_module.specs.OneModule.{OneModule}
-use Rattle.kc_asm_outline.specs.StatementSizes.{at_zero, on_its_own, size_records_from, statement_sizes}
-use Rattle.kc_asm_outline.specs.declared.size_record.SizeRecord.{SizeRecord}
+use Rattle.kc_asm_section.specs.declared.unlinked.UnlinkedModule.{UnlinkedModule}
+use Rattle.kc_asm_section.specs.Section.{Section}
+use Rattle.kc_asm_section.specs.Order.{kept_of, number_of, pieces_of, segment_of}
+use Rattle.kc_asm_section.specs.Publics.{given_of}
+use Rattle.kc_asm_section.specs.ModuleOf.{byte_at, relocated_at, entries_from, kept_in, pieces_in, IsModuleOf}
+use Rattle.kc_asm_section.specs.OneModule.{OneModule}
+use Rattle.kc_asm_layout.specs.StatementSizes.{at_zero, on_its_own, size_records_from, statement_sizes}
+use Rattle.kc_asm_layout.specs.declared.size_record.SizeRecord.{SizeRecord}
 use Rattle.kc_asm_layout.specs.declared.location.Location.{Location}
 use Rattle.kc_asm_layout.specs.Text.{layout}
 use Rattle.kc_asm_check.specs.Checking.{location_list, standing, place_at}
 use Rattle.kc_asm_check.specs.Putting.{stack_from}
-use Rattle.kc_asm_draft_laws.specs.Collecting.{name_of, parts_from, first_parts, all_given, distinct_from, publics_of, IsUnlinkedModuleOf}
+use Rattle.kc_asm_unlinked_laws.specs.Collecting.{name_of, parts_from, first_parts, all_given, distinct_from, publics_of, IsUnlinkedModuleOf}
 use Rattle.kc_asm.specs.Assembled.{IsText, AreSaid}
 use Rattle.kc_asm_laws.specs.Modules.{OneModuleOfText}
 

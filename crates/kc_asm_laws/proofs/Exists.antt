@@ -6,24 +6,24 @@ use Rattle.kc_lex.specs.Lines.{lines_of}
 use Rattle.kc_macro.specs.Expansion.{Answer, expanded, Ends, ExpansionEnds}
 use Rattle.kc_source_statement.specs.declared.statement.Stmt.{Stmt}
 use Rattle.kc_source.specs.Faults.{Fault, least, faults_of}
-use Rattle.kc_asm_piece.specs.declared.unlinked.UnlinkedModule.{UnlinkedModule}
-use Rattle.kc_asm_module.specs.UnlinkedModules.{IsUnlinkedModule}
-use Rattle.kc_asm_module.specs.Order.{number_of}
-use Rattle.kc_asm_module.specs.ModuleOf.{kept_in, pieces_in}
-use Rattle.kc_asm_module.proofs.Whole.{object_from, module_is}
+use Rattle.kc_asm_section.specs.declared.unlinked.UnlinkedModule.{UnlinkedModule}
+use Rattle.kc_asm_section.specs.UnlinkedModules.{IsUnlinkedModule}
+use Rattle.kc_asm_section.specs.Order.{number_of}
+use Rattle.kc_asm_section.specs.ModuleOf.{kept_in, pieces_in}
+use Rattle.kc_asm_section.proofs.Whole.{object_from, module_is}
 use Rattle.kc_asm_check.specs.Codes.{first_regions}
 use Rattle.kc_asm_check.specs.Checking.{first_fault, location_list, standing}
 use Rattle.kc_asm_check.specs.Laws.{SoundStatements}
-use Rattle.kc_asm_draft_laws.specs.Collecting.{first_parts, IsUnlinkedModuleOf}
-use Rattle.kc_asm_draft_laws.specs.Few.{PiecesAreFew}
-use Rattle.kc_asm_draft_laws.specs.Sound.{UnlinkedModulesAreUnlinked, UnlinkedModulesAreWhole}
-use Rattle.kc_asm_draft_laws.specs.Writable.{PartsAreWritable}
+use Rattle.kc_asm_unlinked_laws.specs.Collecting.{first_parts, IsUnlinkedModuleOf}
+use Rattle.kc_asm_unlinked_laws.specs.Few.{PiecesAreFew}
+use Rattle.kc_asm_unlinked_laws.specs.Sound.{UnlinkedModulesAreUnlinked, UnlinkedModulesAreWhole}
+use Rattle.kc_asm_unlinked_laws.specs.Writable.{PartsAreWritable}
 use Rattle.kc_asm.specs.Assembled.{IsText, AreSaid, IsFaultless}
 use Rattle.kc_asm.proofs.Said.{said_well}
 use Rattle.kc_source_laws.specs.Lines.{StatementsAreOfTheText}
 use Rattle.kc_source_laws.proofs.Counts.{stmt_count}
 use Rattle.kc_source_laws.proofs.Expanded.{few_lines}
-use Rattle.kc_asm_earlier_laws.specs.Read.{SourcesAreReadWell}
+use Rattle.kc_source_laws.specs.Read.{SourcesAreReadWell}
 use Rattle.kc_asm_laws.specs.Exists.{FaultlessAreRead, FaultlessHaveModules}
 use Rattle.kc_asm_laws.proofs.Sources.{said_bytes}
 use Rattle.kc_asm_laws.proofs.Sorted.{sorted, sorted_same, sorted_ordered}

@@ -6,14 +6,14 @@ use Rattle.std.proofs.lemmas.Bool.{and_parts}
 use Rattle.std.proofs.lemmas.Bool.Decides.{nat_tests}
 use Rattle.kc_expr.specs.declared.values.Base.{Base}
 use Rattle.kc_expr.specs.declared.values.Base.TheVariants as bases
-use Rattle.kc_obj_relocation.specs.Numbers.{Bases, is_distance, distance, number, reach, first_part, second_part}
+use Rattle.kc_obj_module.specs.Numbers.{Bases, is_distance, distance, number, reach, first_part, second_part}
 use Rattle.kc_obj_module.specs.Fixups.{may_begin}
 use Rattle.kc_asm_bytes.specs.declared.relocatable_byte.RelocatableByte.{RelocatableByte}
 use Rattle.kc_asm_bytes.specs.declared.relocatable_byte.RelocatableByte.TheVariants as relocatable_bytes
 use Rattle.kc_asm_bytes.specs.Filling.{base_address, address, fill}
-use Rattle.kc_asm_piece.specs.declared.part.PlacedByte.{PlacedByte}
-use Rattle.kc_asm_piece.specs.Section.{placed_byte_at}
-use Rattle.kc_asm_module.specs.UnlinkedModules.{base_exists, is_relocatable_byte, AreRelocatableBytes}
+use Rattle.kc_asm_section.specs.declared.part.PlacedByte.{PlacedByte}
+use Rattle.kc_asm_section.specs.Section.{placed_byte_at}
+use Rattle.kc_asm_section.specs.UnlinkedModules.{base_exists, is_relocatable_byte, AreRelocatableBytes}
 use Rattle.kc_asm_laws.proofs.RelocatableBytes.{IsGoodRelocatableByte}
 
 begins : (kind start : ℕ) (b : Bool) → (kind == 3) ≡ b → cond b ((start == 0x20) || (start == 0x28)) (start == 0) ≡ true → (n : ℕ) → start + cond b (n % 2048 / 256) (n % 256) < 256

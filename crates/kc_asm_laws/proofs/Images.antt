@@ -7,10 +7,10 @@ use Rattle.kc_base.specs.Bytes.{IsBytes}
 use Rattle.kc_source_statement.specs.declared.statement.Stmt.{Stmt}
 use Rattle.kc_obj_module.specs.Object.{Object}
 use Rattle.kc_asm_bytes.specs.Filling.{fill}
-use Rattle.kc_asm_encoding.specs.Laws.{NumbersAreWords}
-use Rattle.kc_asm_piece.specs.declared.unlinked.UnlinkedModule.{UnlinkedModule}
-use Rattle.kc_asm_module.specs.UnlinkedModules.{IsPart, IsUnlinkedModule}
-use Rattle.kc_asm_module.proofs.OneContents.{same_list}
+use Rattle.kc_asm_encode.specs.Laws.{NumbersAreWords}
+use Rattle.kc_asm_section.specs.declared.unlinked.UnlinkedModule.{UnlinkedModule}
+use Rattle.kc_asm_section.specs.UnlinkedModules.{IsPart, IsUnlinkedModule}
+use Rattle.kc_asm_section.proofs.OneContents.{same_list}
 use Rattle.kc_link_place.specs.declared.ranges.Ranges.{Ranges}
 use Rattle.kc_link_place.specs.declared.ranges.LinkFault.{LinkFault}
 use Rattle.kc_link_place.specs.Placing.{Places, bases_of}
@@ -18,17 +18,17 @@ use Rattle.kc_link_place.specs.Apart.{AllKeepRules}
 use Rattle.kc_link.specs.Placed.{placed}
 use Rattle.kc_link.specs.Filled.{IsFilled}
 use Rattle.kc_link.specs.Laws.{OneImage as OneFilled}
-use Rattle.kc_link_laws.specs.Linked.{PlacedHaveImage}
-use Rattle.kc_link_draft_laws.specs.Parts.{start, part_bases}
-use Rattle.kc_link_draft_laws.specs.Linked.{IsCovered, AreLinked, UnlinkedModulesAreLinked}
-use Rattle.kc_link_draft_laws.specs.Linked as unlinked_modules
-use Rattle.kc_asm_draft_laws.specs.Sound.{UnlinkedModulesAreUnlinked, UnlinkedModulesAreWhole}
-use Rattle.kc_asm_draft_laws.specs.Stood.{NothingElseStands}
+use Rattle.kc_link.specs.Linked.{PlacedHaveImage}
+use Rattle.kc_link_unlinked_laws.specs.Parts.{start, part_bases}
+use Rattle.kc_link_unlinked_laws.specs.Linked.{IsCovered, AreLinked, UnlinkedModulesAreLinked}
+use Rattle.kc_link_unlinked_laws.specs.Linked as unlinked_modules
+use Rattle.kc_asm_unlinked_laws.specs.Sound.{UnlinkedModulesAreUnlinked, UnlinkedModulesAreWhole}
+use Rattle.kc_asm_unlinked_laws.specs.Stood.{NothingElseStands}
 use Rattle.kc_asm.specs.Assembled.{AreSaid, IsModule}
 use Rattle.kc_asm.proofs.Said.{said_well}
 use Rattle.kc_link_source_laws.specs.Linked.{IsSource, AreSources, LinkedImage, OneImage}
 use Rattle.kc_source_laws.specs.Lines.{StatementsAreOfTheText}
-use Rattle.kc_asm_earlier_laws.specs.Read.{SourcesAreReadWell}
+use Rattle.kc_source_laws.specs.Read.{SourcesAreReadWell}
 use Rattle.kc_asm_laws.specs.Modules.{OneModuleOfText}
 use Rattle.kc_asm_laws.specs.Images.{AreModulesOf, IsLinkedOf, FilledIsLinked, LinkedIsFilled, OneImageOfTexts, OneLinkedImageOfTexts, FilledAreBytes}
 use Rattle.kc_asm_laws.proofs.Filling.{fill_byte, relocatable_is, each_at}

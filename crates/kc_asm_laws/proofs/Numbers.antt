@@ -25,7 +25,7 @@ use Rattle.kc_obj_module.specs.Fixups.{target_exists, fixup_is_sound, fixup_foll
 use Rattle.kc_obj_module.specs.LineEntries.{line_is_sound, lines_are_sound}
 use Rattle.kc_obj_module.specs.Rules.{is_module, contents_are_sound, fixups_are_sound}
 use Rattle.kc_obj_module.proofs.RoomLemmas.{rest_in_order, next_follows}
-use Rattle.kc_obj_relocation.specs.Numbers.{width}
+use Rattle.kc_obj_module.specs.Numbers.{width}
 use Rattle.kc_obj_module.specs.Widths.{target_fits, fixup_fits, line_fits, lines_fit, numbers_fit}
 use Rattle.kc_asm_symbols.specs.Few.{ExternalsAreFew}
 use Rattle.kc_asm_symbols.specs.Externals.{externals}
@@ -34,30 +34,30 @@ use Rattle.kc_asm_symbols.specs.Meanings.{in_all}
 use Rattle.kc_asm_bytes.specs.declared.relocatable_byte.RelocatableByte.{RelocatableByte}
 use Rattle.kc_asm_bytes.specs.declared.relocatable_byte.RelocatableByte.TheVariants as relocatable_bytes
 use Rattle.kc_asm_bytes.specs.Relocating.{depends, relocated}
-use Rattle.kc_asm_encoding.specs.Laws.{NumbersAreWords}
-use Rattle.kc_asm_piece.specs.declared.unlinked.Public.{Public}
-use Rattle.kc_asm_piece.specs.Section.{Section, placed_byte_at, relocatable_byte_at}
-use Rattle.kc_asm_module.specs.UnlinkedModules.{IsUnlinkedModule}
-use Rattle.kc_asm_module.specs.Order.{number_of, segment_of, relocation}
-use Rattle.kc_asm_module.specs.Publics.{given_of}
-use Rattle.kc_asm_module.specs.Puts.{fixup_for}
-use Rattle.kc_asm_module.specs.ModuleOf.{fixup_from, relocated_at, entries_from, kept_in, pieces_in}
-use Rattle.kc_asm_module.proofs.Collecting.{parts_addable}
-use Rattle.kc_asm_module.proofs.Gathering.{addable_at}
+use Rattle.kc_asm_encode.specs.Laws.{NumbersAreWords}
+use Rattle.kc_asm_section.specs.declared.unlinked.Public.{Public}
+use Rattle.kc_asm_section.specs.Section.{Section, placed_byte_at, relocatable_byte_at}
+use Rattle.kc_asm_section.specs.UnlinkedModules.{IsUnlinkedModule}
+use Rattle.kc_asm_section.specs.Order.{number_of, segment_of, relocation}
+use Rattle.kc_asm_section.specs.Publics.{given_of}
+use Rattle.kc_asm_section.specs.Puts.{fixup_for}
+use Rattle.kc_asm_section.specs.ModuleOf.{fixup_from, relocated_at, entries_from, kept_in, pieces_in}
+use Rattle.kc_asm_section.proofs.Collecting.{parts_addable}
+use Rattle.kc_asm_section.proofs.Gathering.{addable_at}
 use Rattle.kc_link.proofs.ContentLemmas.{InCode, code_to, byte_in_code}
 use Rattle.kc_asm_check.specs.Codes.{first_regions}
 use Rattle.kc_asm_check.specs.Checking.{location_list, standing, place_at}
 use Rattle.kc_asm_check.specs.Laws.{SoundStatements}
-use Rattle.kc_asm_draft_laws.specs.Collecting.{first_parts, publics_of, given_as, all_given, distinct_from}
-use Rattle.kc_asm_draft_laws.specs.Sound.{UnlinkedModulesAreUnlinked}
-use Rattle.kc_asm_draft_laws.specs.Stood.{NothingElseStands}
-use Rattle.kc_asm_draft_laws.specs.Writable.{PartsAreWritable}
+use Rattle.kc_asm_unlinked_laws.specs.Collecting.{first_parts, publics_of, given_as, all_given, distinct_from}
+use Rattle.kc_asm_unlinked_laws.specs.Sound.{UnlinkedModulesAreUnlinked}
+use Rattle.kc_asm_unlinked_laws.specs.Stood.{NothingElseStands}
+use Rattle.kc_asm_unlinked_laws.specs.Writable.{PartsAreWritable}
 use Rattle.kc_asm.specs.Assembled.{IsModule}
 use Rattle.kc_asm.proofs.Said.{said_well}
 use Rattle.kc_link_source_laws.proofs.Words.{IsWordAnswer}
 use Rattle.kc_link_source_laws.proofs.Meanings.{places_are_words, in_all_word}
 use Rattle.kc_source_laws.specs.Lines.{is_line_of, StatementsAreOfTheText}
-use Rattle.kc_asm_earlier_laws.specs.Read.{SourcesAreReadWell}
+use Rattle.kc_source_laws.specs.Read.{SourcesAreReadWell}
 use Rattle.kc_source_laws.proofs.Tests.{all_join, all_map}
 use Rattle.kc_asm_laws.specs.Modules.{ModulesFit}
 use Rattle.kc_asm_laws.proofs.RelocatableBytes.{IsGoodRelocatableByte}

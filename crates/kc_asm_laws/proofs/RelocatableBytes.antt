@@ -23,21 +23,21 @@ use Rattle.kc_source_statement.specs.Trees as trees
 use Rattle.kc_asm_bytes.specs.declared.relocatable_byte.RelocatableByte.{RelocatableByte}
 use Rattle.kc_asm_bytes.specs.declared.relocatable_byte.RelocatableByte.TheVariants as relocatable_bytes
 use Rattle.kc_branch.specs.declared.piece.Form.{Form as Branch}
-use Rattle.kc_asm_operation.specs.declared.argument.Argument.{Argument}
-use Rattle.kc_asm_operation.specs.declared.word.Word.{Word}
-use Rattle.kc_asm_operation.specs.declared.word.Word.TheVariants as words
-use Rattle.kc_asm_operation.specs.declared.word.Worded.{Worded}
-use Rattle.kc_asm_operation.specs.Values.{or_zero, moved, argument, value_of}
-use Rattle.kc_asm_operation.specs.Branches.{branch_kind, in_full}
-use Rattle.kc_asm_operation.specs.Instructions.{regs_for, instructions}
-use Rattle.kc_asm_encoding.specs.RelocatableBytes.{byte_of, word_of, immediate_relocatables, jump_relocatables, operand_relocatables, opcode_relocatable, laid_relocatables, row_relocatables, worded_relocatables, all_relocatable_bytes}
-use Rattle.kc_asm_encoding.specs.Suits.{HasWords, EachOf, IsWord, AreWords, AllWords}
-use Rattle.kc_asm_encoding.specs.Laws.{NumbersAreWords}
-use Rattle.kc_asm_encoding.proofs.Found.{IsLaid}
-use Rattle.kc_asm_encoding.proofs.Evens.{each_line, argument_words, value_word, Words, full_words}
+use Rattle.kc_asm_encode.specs.declared.argument.Argument.{Argument}
+use Rattle.kc_asm_encode.specs.declared.word.Word.{Word}
+use Rattle.kc_asm_encode.specs.declared.word.Word.TheVariants as words
+use Rattle.kc_asm_encode.specs.declared.word.Worded.{Worded}
+use Rattle.kc_asm_encode.specs.Values.{or_zero, moved, argument, value_of}
+use Rattle.kc_asm_encode.specs.Branches.{branch_kind, in_full}
+use Rattle.kc_asm_encode.specs.Instructions.{regs_for, instructions}
+use Rattle.kc_asm_encode.specs.RelocatableBytes.{byte_of, word_of, immediate_relocatables, jump_relocatables, operand_relocatables, opcode_relocatable, laid_relocatables, row_relocatables, worded_relocatables, all_relocatable_bytes}
+use Rattle.kc_asm_encode.specs.Suits.{HasWords, EachOf, IsWord, AreWords, AllWords}
+use Rattle.kc_asm_encode.specs.Laws.{NumbersAreWords}
+use Rattle.kc_asm_encode.proofs.Found.{IsLaid}
+use Rattle.kc_asm_encode.proofs.Evens.{each_line, argument_words, value_word, Words, full_words}
 use Rattle.kc_asm_symbols.specs.Externals.{all_trees, arg_trees, item_trees}
-use Rattle.kc_asm_emission.specs.Arguments as emitted
-use Rattle.kc_asm_emission.specs.Content.{RelocatableBytes, long_relocatables, value_relocatables, data_relocatables, content, reserved, upto}
+use Rattle.kc_asm_emit.specs.Arguments as emitted
+use Rattle.kc_asm_emit.specs.Content.{RelocatableBytes, long_relocatables, value_relocatables, data_relocatables, content, reserved, upto}
 use Rattle.kc_link_source_laws.specs.Characters.{are_bytes, all_bytes}
 use Rattle.kc_link_source_laws.proofs.Words.{IsWordAnswer, answer_word}
 use Rattle.kc_source_laws.specs.Strings.{item_passes, items_pass}

@@ -15,25 +15,25 @@ use Rattle.kc_asm_symbols.specs.Located.{Located, segment_after, located_from}
 use Rattle.kc_asm_symbols.specs.Meanings.{meaning}
 use Rattle.kc_asm_bytes.specs.declared.relocatable_byte.RelocatableByte.{RelocatableByte}
 use Rattle.kc_asm_bytes.specs.declared.relocatable_byte.RelocatableByte.TheVariants.{Plain}
-use Rattle.kc_asm_piece.specs.declared.part.Mark.{Mark}
-use Rattle.kc_asm_piece.specs.Section.{Section, blank, mark, begun, put, laid}
-use Rattle.kc_asm_module.specs.declared.kept.Kept.{Kept}
-use Rattle.kc_asm_module.specs.Order.{kept_if, stack_section, stack_pieces, pieces_of}
-use Rattle.kc_asm_module.specs.ModuleOf.{entries_from}
-use Rattle.kc_asm_module.specs.Puts.{entry_of}
-use Rattle.kc_asm_emission.specs.Arguments.{Look}
-use Rattle.kc_asm_emission.specs.Content.{Content, Nothing, RelocatableBytes, Reserved, Upto, Even, content}
-use Rattle.kc_asm_emission.specs.Faults.{faults_of}
-use Rattle.kc_asm_outline.specs.StatementSizes.{opens}
+use Rattle.kc_asm_section.specs.declared.part.Mark.{Mark}
+use Rattle.kc_asm_section.specs.Section.{Section, blank, mark, begun, put, laid}
+use Rattle.kc_asm_section.specs.declared.kept.Kept.{Kept}
+use Rattle.kc_asm_section.specs.Order.{kept_if, stack_section, stack_pieces, pieces_of}
+use Rattle.kc_asm_section.specs.ModuleOf.{entries_from}
+use Rattle.kc_asm_section.specs.Puts.{entry_of}
+use Rattle.kc_asm_emit.specs.Arguments.{Look}
+use Rattle.kc_asm_emit.specs.Content.{Content, Nothing, RelocatableBytes, Reserved, Upto, Even, content}
+use Rattle.kc_asm_emit.specs.Faults.{faults_of}
+use Rattle.kc_asm_layout.specs.StatementSizes.{opens}
 use Rattle.kc_asm_layout.specs.declared.location.Location.{Location}
 use Rattle.kc_asm_check.specs.Codes.{Regions, regions_after, stack_after, branch_faults, relocatable_faults, place_faults}
 use Rattle.kc_asm_check.specs.Checking.{own_codes}
 use Rattle.kc_asm_check.specs.Laws.{AreSound}
 use Rattle.kc_asm_check.specs.Putting.{stack_from}
-use Rattle.kc_asm_draft_laws.specs.Collecting.{led, put_content, section_after, kind_opened, with_opened, first_section, parts_after, parts_from, first_parts}
-use Rattle.kc_asm_draft_laws.specs.Writable.{AllWritable}
-use Rattle.kc_asm_draft_laws.proofs.Lists.{nothing_left}
-use Rattle.kc_asm_draft_laws.proofs.Faultless.{unless}
+use Rattle.kc_asm_unlinked_laws.specs.Collecting.{led, put_content, section_after, kind_opened, with_opened, first_section, parts_after, parts_from, first_parts}
+use Rattle.kc_asm_unlinked_laws.specs.Writable.{AllWritable}
+use Rattle.kc_asm_unlinked_laws.proofs.Lists.{nothing_left}
+use Rattle.kc_asm_unlinked_laws.proofs.Faultless.{unless}
 use Rattle.kc_source_laws.proofs.Tests.{all_join, all_drop, all_map, Holds}
 
 -- ---- marks

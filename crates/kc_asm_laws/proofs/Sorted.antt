@@ -10,8 +10,8 @@ use Rattle.std.proofs.lemmas.List.Sorted.{IsPermutation-refl, IsPermutation-cons
 use Rattle.kc_obj_module.specs.declared.parts.Given.{Given}
 use Rattle.kc_obj_module.specs.Names.{is_below}
 use Rattle.kc_obj_module.specs.Rules.{publics_in_order}
-use Rattle.kc_asm_piece.specs.declared.unlinked.Public.{Public}
-use Rattle.kc_asm_module.specs.Publics.{given_of, is_same_name}
+use Rattle.kc_asm_section.specs.declared.unlinked.Public.{Public}
+use Rattle.kc_asm_section.specs.Publics.{given_of, is_same_name}
 use Rattle.kc_asm_laws.proofs.Numbers.{all_permuted}
 
 -- ---- of two names that are not the same one is below the other

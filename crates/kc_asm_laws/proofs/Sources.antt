@@ -10,14 +10,14 @@ use Rattle.kc_asm_symbols.specs.Externals.{action_trees}
 use Rattle.kc_asm_symbols.specs.Meanings.{meaning}
 use Rattle.kc_asm_bytes.specs.declared.relocatable_byte.RelocatableByte.{RelocatableByte}
 use Rattle.kc_asm_bytes.specs.declared.relocatable_byte.RelocatableByte.TheVariants.{Plain}
-use Rattle.kc_asm_encoding.specs.Laws.{NumbersAreWords}
-use Rattle.kc_asm_piece.specs.declared.unlinked.UnlinkedModule.{UnlinkedModule}
-use Rattle.kc_asm_piece.specs.Section.{Section, relocatable_byte_at}
-use Rattle.kc_asm_module.specs.Order.{start_of}
+use Rattle.kc_asm_encode.specs.Laws.{NumbersAreWords}
+use Rattle.kc_asm_section.specs.declared.unlinked.UnlinkedModule.{UnlinkedModule}
+use Rattle.kc_asm_section.specs.Section.{Section, relocatable_byte_at}
+use Rattle.kc_asm_section.specs.Order.{start_of}
 use Rattle.kc_asm_layout.specs.declared.location.Location.{Location}
 use Rattle.kc_asm_check.specs.Checking.{first_fault, location_list, standing, place_at}
-use Rattle.kc_asm_draft_laws.specs.Collecting.{IsUnlinkedModuleOf}
-use Rattle.kc_asm_draft_laws.specs.Stood.{HasRelocatableBytes, IsOfStatement, NothingElseStands}
+use Rattle.kc_asm_unlinked_laws.specs.Collecting.{IsUnlinkedModuleOf}
+use Rattle.kc_asm_unlinked_laws.specs.Stood.{HasRelocatableBytes, IsOfStatement, NothingElseStands}
 use Rattle.kc_asm.specs.Assembled.{AreSaid}
 use Rattle.kc_asm.proofs.Characters.{trees_alike}
 use Rattle.kc_link_source_laws.specs.Characters.{all_bytes, has_bytes}

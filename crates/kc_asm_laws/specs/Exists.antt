@@ -4,8 +4,8 @@ use Rattle.kc_lex.specs.declared.token.Line.{Line}
 use Rattle.kc_source_statement.specs.declared.statement.Stmt.{Stmt}
 use Rattle.kc_source.specs.Faults.{least, faults_of}
 use Rattle.kc_obj_module.specs.Object.{Object}
-use Rattle.kc_asm_piece.specs.declared.unlinked.UnlinkedModule.{UnlinkedModule}
-use Rattle.kc_asm_draft_laws.specs.Collecting.{IsUnlinkedModuleOf}
+use Rattle.kc_asm_section.specs.declared.unlinked.UnlinkedModule.{UnlinkedModule}
+use Rattle.kc_asm_unlinked_laws.specs.Collecting.{IsUnlinkedModuleOf}
 use Rattle.kc_asm.specs.Assembled.{IsText, AreSaid, IsFaultless, IsModule}
 
 -- the lines that macros, repetitions and conditions leave of it, of which none has a fault

@@ -1,3 +1,11 @@
 pub mod Modules
 pub mod Images
 pub mod Exists
+pub mod OneOrigin
+pub mod Lines
+pub mod Symbols
+pub mod Standing
+pub mod Laws
+pub mod Shown
+pub mod Made
+pub mod Targets

@@ -11,10 +11,10 @@ use Rattle.kc_branch.specs.declared.piece.Form.{Form}
 use Rattle.kc_branch.specs.declared.piece.Form.TheVariants.{First}
 use Rattle.kc_branch.specs.declared.piece.Piece.{Piece}
 use Rattle.kc_branch.specs.Forms.{head_form}
-use Rattle.kc_asm_emission.specs.Alignment.{gap}
-use Rattle.kc_asm_outline.specs.declared.size_record.SizeRecord.{SizeRecord}
+use Rattle.kc_asm_emit.specs.Alignment.{gap}
+use Rattle.kc_asm_layout.specs.declared.size_record.SizeRecord.{SizeRecord}
 use Rattle.kc_asm_layout.specs.declared.location.Location.{Location}
-use Rattle.kc_asm_outline.specs.Numbered.{is_code, aligns_well, may_follow, numbered_after}
+use Rattle.kc_asm_layout.specs.Numbered.{is_code, aligns_well, may_follow, numbered_after}
 use Rattle.kc_asm_layout.specs.Places.{passed, end_of, ends_after, location_of, locations_from}
 use Rattle.kc_asm_layout.specs.Text.{Target, nowhere, lead, body_text, own_text, main_text, absolute_text, opening, text_by, position, positions_from, is_main, is_code_branch, is_main_branch, is_absolute_branch, form_for, left_behind, dealt, gap_before}
 use Rattle.kc_asm_layout.proofs.Walking.{here_after, forms_behind, behind_append, after_append}

@@ -2,7 +2,7 @@
 use Rattle.std.proofs.Common.{◌≡◌, ℕ, zero, suc, ◌-◌, ◌%◌, ◌<◌, ◌≤◌, List, [], ◌∷◌, ◌++◌, get_or, ap, arith}
 use Rattle.std.proofs.Math.ListN.{set}
 use Rattle.std.proofs.Math.Nat.{mod-mod}
-use Rattle.kc_asm_emission.specs.Alignment.{gap}
+use Rattle.kc_asm_emit.specs.Alignment.{gap}
 
 pub gap_again : (place align : ℕ) → 0 < align → gap (place % align) align ≡ gap place align
 gap_again place align h = ap (λ r. (align - r) % align) (mod-mod place align)

@@ -14,13 +14,13 @@ use Rattle.kc_branch.specs.declared.piece.BranchKind.{BranchKind}
 use Rattle.kc_branch.specs.Forms.{size, spans, is_third, reaches, piece_reaches, head_form, forms_after, places, forms}
 use Rattle.kc_branch.specs.Laws.{all_reach}
 use Rattle.kc_branch.proofs.Reaching.{forms_settle}
-use Rattle.kc_asm_outline.specs.declared.size_record.Anchor.{Anchor}
-use Rattle.kc_asm_outline.specs.declared.size_record.Anchor.TheVariants as anchor
-use Rattle.kc_asm_outline.specs.declared.size_record.Body.{Body}
-use Rattle.kc_asm_outline.specs.declared.size_record.Body.TheVariants.{Branch}
-use Rattle.kc_asm_outline.specs.declared.size_record.SizeRecord.{SizeRecord}
+use Rattle.kc_asm_layout.specs.declared.size_record.Anchor.{Anchor}
+use Rattle.kc_asm_layout.specs.declared.size_record.Anchor.TheVariants as anchor
+use Rattle.kc_asm_layout.specs.declared.size_record.Body.{Body}
+use Rattle.kc_asm_layout.specs.declared.size_record.Body.TheVariants.{Branch}
+use Rattle.kc_asm_layout.specs.declared.size_record.SizeRecord.{SizeRecord}
 use Rattle.kc_asm_layout.specs.declared.location.Location.{Location}
-use Rattle.kc_asm_outline.specs.Numbered.{IsNumbered, is_code}
+use Rattle.kc_asm_layout.specs.Numbered.{IsNumbered, is_code}
 use Rattle.kc_asm_layout.specs.Places.{addresses, no_bytes, passed, ends_after, locations_from}
 use Rattle.kc_asm_layout.specs.Text.{Target, nowhere, body_text, main_text, absolute_text, text_by, positions, target_in, is_same_base, segment_in, is_main, is_branch, is_code_branch, is_main_branch, count_main, left_behind, dealt, gaps, text, next_gap, layout}
 use Rattle.kc_asm_layout.specs.Laws.{is_near, BranchesReach, OtherBranchesAreLong}

@@ -11,7 +11,7 @@ use Rattle.kc_obj_module.specs.Pieces.{kind_number}
 use Rattle.kc_asm_symbols.specs.declared.segments.Segment.{Segment}
 use Rattle.kc_asm_symbols.specs.Located.{first_segment}
 use Rattle.kc_asm_layout.specs.Places.{begun}
-use Rattle.kc_asm_outline.specs.Numbered.{may_follow, is_same_piece, is_relocatable}
+use Rattle.kc_asm_layout.specs.Numbered.{may_follow, is_same_piece, is_relocatable}
 
 -- of the piece p of kind k in force, where there are c pieces, which end as `ends` says, and with first forms as `firsts`
 -- says; the text of the relocatable code has come `here`, that of the absolute pieces `there`

@@ -9,11 +9,11 @@ use Rattle.kc_branch.specs.declared.piece.Form.TheVariants.{First}
 use Rattle.kc_branch.specs.declared.piece.Piece.{Piece}
 use Rattle.kc_branch.specs.declared.piece.Piece.TheVariants as piece
 use Rattle.kc_branch.specs.Forms.{size, head_form}
-use Rattle.kc_asm_emission.specs.Alignment.{gap}
-use Rattle.kc_asm_outline.specs.declared.size_record.Body.{Body}
-use Rattle.kc_asm_outline.specs.declared.size_record.Body.TheVariants.{Bytes, Upto, Even, Branch}
-use Rattle.kc_asm_outline.specs.declared.size_record.SizeRecord.{SizeRecord}
-use Rattle.kc_asm_outline.specs.Numbered.{is_code, aligns_well}
+use Rattle.kc_asm_emit.specs.Alignment.{gap}
+use Rattle.kc_asm_layout.specs.declared.size_record.Body.{Body}
+use Rattle.kc_asm_layout.specs.declared.size_record.Body.TheVariants.{Bytes, Upto, Even, Branch}
+use Rattle.kc_asm_layout.specs.declared.size_record.SizeRecord.{SizeRecord}
+use Rattle.kc_asm_layout.specs.Numbered.{is_code, aligns_well}
 use Rattle.kc_asm_layout.specs.Places.{passed}
 use Rattle.kc_asm_layout.specs.Text.{Target, nowhere, bytes_text, body_text, lead, own_text, main_text, absolute_text, opening, is_main, is_branch, left_behind, form_for, is_main_branch, is_absolute_branch}
 use Rattle.kc_asm_layout.proofs.Walking.{here_after, forms_behind, behind_append, after_append, bytes_after, bytes_behind}

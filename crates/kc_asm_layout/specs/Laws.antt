@@ -5,12 +5,12 @@ use Rattle.kc_branch.specs.declared.piece.BranchKind.{BranchKind}
 use Rattle.kc_branch.specs.declared.piece.Form.TheVariants.{Third}
 use Rattle.kc_branch.specs.Forms.{spans}
 use Rattle.kc_asm_symbols.specs.declared.segments.Segment.{Segment}
-use Rattle.kc_asm_outline.specs.declared.size_record.Anchor.{Anchor}
-use Rattle.kc_asm_outline.specs.declared.size_record.Anchor.TheVariants as anchor
-use Rattle.kc_asm_outline.specs.declared.size_record.Body.TheVariants.{Branch}
-use Rattle.kc_asm_outline.specs.declared.size_record.SizeRecord.{SizeRecord}
+use Rattle.kc_asm_layout.specs.declared.size_record.Anchor.{Anchor}
+use Rattle.kc_asm_layout.specs.declared.size_record.Anchor.TheVariants as anchor
+use Rattle.kc_asm_layout.specs.declared.size_record.Body.TheVariants.{Branch}
+use Rattle.kc_asm_layout.specs.declared.size_record.SizeRecord.{SizeRecord}
 use Rattle.kc_asm_layout.specs.declared.location.Location.{Location}
-use Rattle.kc_asm_outline.specs.Numbered.{IsNumbered, is_code}
+use Rattle.kc_asm_layout.specs.Numbered.{IsNumbered, is_code}
 use Rattle.kc_asm_layout.specs.Text.{layout, is_same_base, segment_at}
 
 -- a statement in code is a branch, with its size record and its location

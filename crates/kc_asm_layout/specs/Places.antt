@@ -4,10 +4,10 @@
 use Rattle.std.specs.Prelude.{ℕ, ◌+◌, ◌%◌, ◌<◌, ◌≤◌, List, [], ◌∷◌, ◌++◌, drop, Option, Some, None, unwrap_or, slice_get, slice_index, slice_set}
 use Rattle.kc_branch.specs.declared.piece.Form.{Form}
 use Rattle.kc_branch.specs.Forms.{size, head_form}
-use Rattle.kc_asm_emission.specs.Alignment.{gap}
-use Rattle.kc_asm_outline.specs.declared.size_record.Body.{Body}
-use Rattle.kc_asm_outline.specs.declared.size_record.Body.TheVariants.{Bytes, Upto, Even, Branch}
-use Rattle.kc_asm_outline.specs.declared.size_record.SizeRecord.{SizeRecord}
+use Rattle.kc_asm_emit.specs.Alignment.{gap}
+use Rattle.kc_asm_layout.specs.declared.size_record.Body.{Body}
+use Rattle.kc_asm_layout.specs.declared.size_record.Body.TheVariants.{Bytes, Upto, Even, Branch}
+use Rattle.kc_asm_layout.specs.declared.size_record.SizeRecord.{SizeRecord}
 use Rattle.kc_asm_layout.specs.declared.location.Location.{Location}
 
 -- where each piece ends so far, by its number; the first three are the relocatable ones

@@ -8,13 +8,13 @@ use Rattle.kc_branch.specs.declared.piece.Form.TheVariants.{First}
 use Rattle.kc_branch.specs.declared.piece.Piece.{Piece}
 use Rattle.kc_branch.specs.declared.piece.Piece.TheVariants as piece
 use Rattle.kc_branch.specs.Forms.{size, head_form, forms}
-use Rattle.kc_asm_outline.specs.declared.size_record.Anchor.{Anchor}
-use Rattle.kc_asm_outline.specs.declared.size_record.Anchor.TheVariants as anchor
-use Rattle.kc_asm_outline.specs.declared.size_record.Body.{Body}
-use Rattle.kc_asm_outline.specs.declared.size_record.Body.TheVariants.{Bytes, Upto, Even, Branch}
-use Rattle.kc_asm_outline.specs.declared.size_record.SizeRecord.{SizeRecord}
+use Rattle.kc_asm_layout.specs.declared.size_record.Anchor.{Anchor}
+use Rattle.kc_asm_layout.specs.declared.size_record.Anchor.TheVariants as anchor
+use Rattle.kc_asm_layout.specs.declared.size_record.Body.{Body}
+use Rattle.kc_asm_layout.specs.declared.size_record.Body.TheVariants.{Bytes, Upto, Even, Branch}
+use Rattle.kc_asm_layout.specs.declared.size_record.SizeRecord.{SizeRecord}
 use Rattle.kc_asm_layout.specs.declared.location.Location.{Location}
-use Rattle.kc_asm_outline.specs.Numbered.{is_code}
+use Rattle.kc_asm_layout.specs.Numbered.{is_code}
 use Rattle.kc_asm_layout.specs.Places.{locations}
 
 -- ---- one statement

@@ -4,8 +4,8 @@ ghost use Rattle.std.specs.Prelude.{◌≡◌, ◌+◌, ◌≤◌, length, drop,
 ghost use Rattle.kc_asm_layout.specs.Text as spec;
 
 use crate::places::{head_form, rest_of};
+use crate::size_record::{Body, SizeRecord};
 use crate::text::{is_code, is_main};
-use kc_asm_outline::{Body, SizeRecord};
 use kc_base::NoMemory;
 use kc_branch::Form;
 use std::alloc::Global;

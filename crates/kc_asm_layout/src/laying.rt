@@ -4,12 +4,12 @@ ghost use Rattle.std.specs.Prelude.{◌≡◌, ◌≤◌, map, length, All, IfOk
 ghost use Rattle.kc_asm_layout.specs.Places.{IsNear};
 ghost use Rattle.kc_asm_layout.specs.Text as spec;
 
+use crate::bounded::ModuleSizes;
 use crate::dealt::statement_forms;
 use crate::location::Location;
 use crate::places::locations;
 use crate::positions::positions;
 use crate::text::text;
-use kc_asm_outline::ModuleSizes;
 use kc_base::NoMemory;
 use kc_branch::sizes;
 use std::alloc::Global;

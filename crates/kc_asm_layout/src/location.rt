@@ -1,4 +1,4 @@
-use kc_asm_outline::Body;
+use crate::size_record::Body;
 use kc_branch::Form;
 
 /// Where a statement stands in its piece: where the piece ended before it, its own place, which is that of its label and of

@@ -2,13 +2,13 @@
 
 ghost use Rattle.std.specs.Prelude.{◌≡◌, ℕ, ◌+◌, ◌-◌, ◌<◌, ◌≤◌, ◌^◌, length, drop, slice_index, slice_set, All, IfOk};
 ghost use Rattle.kc_branch.specs.Forms.{head_form};
-ghost use Rattle.kc_asm_emission.specs.Alignment as alignment;
-ghost use Rattle.kc_asm_outline.specs.Bounds.{AreBounded, IsBounded};
+ghost use Rattle.kc_asm_emit.specs.Alignment as alignment;
+ghost use Rattle.kc_asm_layout.specs.Bounds.{AreBounded, IsBounded};
 ghost use Rattle.kc_asm_layout.specs.Places as spec;
 
 use crate::location::Location;
-use kc_asm_emission::gap;
-use kc_asm_outline::{Body, SizeRecord};
+use crate::size_record::{Body, SizeRecord};
+use kc_asm_emit::gap;
 use kc_base::NoMemory;
 use kc_branch::{Form, branch_length};
 use std::alloc::Global;

@@ -1,12 +1,12 @@
 //! How many pieces of text stand before the place of each statement.
 
 ghost use Rattle.std.specs.Prelude.{◌≡◌, ◌+◌, ◌*◌, ◌≤◌, ◌<◌, ◌^◌, length, IfOk};
-ghost use Rattle.kc_asm_emission.specs.Seen.{most};
-ghost use Rattle.kc_asm_outline.specs.Bounds.{AreBounded, IsBounded};
+ghost use Rattle.kc_asm_emit.specs.Seen.{most};
+ghost use Rattle.kc_asm_layout.specs.Bounds.{AreBounded, IsBounded};
 ghost use Rattle.kc_asm_layout.specs.Text as spec;
 
+use crate::size_record::{Body, SizeRecord};
 use crate::text::{behind_gap, is_code, is_main, next_gap};
-use kc_asm_outline::{Body, SizeRecord};
 use kc_base::NoMemory;
 use std::alloc::Global;
 

@@ -1,11 +1,11 @@
 //! The text in which the forms of generic branches are chosen.
 
 ghost use Rattle.std.specs.Prelude.{◌≡◌, ◌++◌, ◌∷◌, [], Some, drop, slice_index, IfOk};
-ghost use Rattle.kc_asm_outline.specs.declared.size_record.Body.TheVariants.{Branch};
-ghost use Rattle.kc_asm_outline.specs.Numbered as numbered;
+ghost use Rattle.kc_asm_layout.specs.declared.size_record.Body.TheVariants.{Branch};
+ghost use Rattle.kc_asm_layout.specs.Numbered as numbered;
 ghost use Rattle.kc_asm_layout.specs.Text as spec;
 
-use kc_asm_outline::{Anchor, Body, SizeRecord};
+use crate::size_record::{Anchor, Body, SizeRecord};
 use kc_asm_symbols::Segment;
 use kc_base::NoMemory;
 use kc_branch::{BranchKind, Form, Piece, branch_length};

@@ -5,10 +5,10 @@ use Rattle.std.proofs.lemmas.List.Elements.{All-drop}
 use Rattle.kc_lex.specs.declared.token.Line.{Line}
 use Rattle.kc_lex.specs.declared.token.Token.{Token}
 use Rattle.kc_source_statement.specs.Operands.{is_nil}
-use Rattle.kc_asm_outline.specs.declared.size_record.SizeRecord.{SizeRecord}
-use Rattle.kc_asm_outline.specs.Bounds.{IsBounded}
+use Rattle.kc_asm_layout.specs.declared.size_record.SizeRecord.{SizeRecord}
+use Rattle.kc_asm_layout.specs.Bounds.{IsBounded}
 use Rattle.kc_asm_layout.specs.declared.location.Location.{Location}
-use Rattle.kc_asm_rows.specs.declared.spot.Spot.{Spot}
+use Rattle.kc_asm_list.specs.declared.spot.Spot.{Spot}
 use Rattle.kc_asm_list.specs.Spots.{first_spot, spots_from}
 
 -- size records behind the first are bounded as all are

@@ -1,2 +1,5 @@
 pub mod Spots
 pub mod Listed
+pub mod RelocatableBytes
+pub mod Rows
+pub mod Order

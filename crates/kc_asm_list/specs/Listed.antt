@@ -10,7 +10,7 @@ use Rattle.kc_macro_depth.specs.Depths.{depths_of}
 use Rattle.kc_source_statement.specs.declared.statement.Stmt.{Stmt}
 use Rattle.kc_source.specs.Faults.{Fault, AreStatements, faults_of, least}
 use Rattle.kc_obj_module.specs.Object.{Object}
-use Rattle.kc_asm_rows.specs.Rows.{listing}
+use Rattle.kc_asm_list.specs.Rows.{listing}
 use Rattle.kc_asm_list.specs.Spots.{spots_of}
 
 -- the lines of a source, and what they expand to

@@ -5,11 +5,11 @@ use Rattle.kc_lex.specs.declared.token.Line.{Line}
 use Rattle.kc_lex.specs.Kinds.{has_label}
 use Rattle.kc_source_statement.specs.declared.statement.Stmt.{Stmt}
 use Rattle.kc_source_statement.specs.Operands.{is_nil}
-use Rattle.kc_asm_outline.specs.declared.size_record.SizeRecord.{SizeRecord}
-use Rattle.kc_asm_outline.specs.StatementSizes.{statement_sizes}
+use Rattle.kc_asm_layout.specs.declared.size_record.SizeRecord.{SizeRecord}
+use Rattle.kc_asm_layout.specs.StatementSizes.{statement_sizes}
 use Rattle.kc_asm_layout.specs.declared.location.Location.{Location}
 use Rattle.kc_asm_layout.specs.Text.{layout}
-use Rattle.kc_asm_rows.specs.declared.spot.Spot.{Spot}
+use Rattle.kc_asm_list.specs.declared.spot.Spot.{Spot}
 
 -- each line of the expansion that is not blank is a statement, with its depth, its size record and its location
 

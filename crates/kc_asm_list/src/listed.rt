@@ -1,8 +1,8 @@
 ghost use Rattle.std.specs.Prelude.{◌≡◌, ◌≤◌, length};
 ghost use Rattle.kc_asm_list.specs.Listed as spec;
 
+use crate::rows_listing::rows;
 use crate::spots::spots_of;
-use kc_asm_rows::rows;
 use kc_asm_symbols::externals_are_few;
 use kc_lex::{SourceFault, lines};
 use kc_macro::expand;

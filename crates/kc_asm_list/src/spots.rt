@@ -3,13 +3,12 @@
 ghost use Rattle.std.specs.Prelude.{◌≡◌, ◌≤◌, ◌++◌, drop, length, slice_index, All, IfOk, OnOk};
 ghost use Rattle.kc_asm_symbols.specs.Externals.{externals};
 ghost use Rattle.kc_asm_symbols.specs.Located.{located_by};
-ghost use Rattle.kc_asm_outline.specs.StatementSizes.{at_zero};
-ghost use Rattle.kc_asm_outline.specs.Bounds.{IsBounded};
+ghost use Rattle.kc_asm_layout.specs.StatementSizes.{at_zero};
+ghost use Rattle.kc_asm_layout.specs.Bounds.{IsBounded};
 ghost use Rattle.kc_asm_list.specs.Spots as spec;
 
-use kc_asm_layout::{Location, layout};
-use kc_asm_outline::{SizeRecord, statement_sizes};
-use kc_asm_rows::Spot;
+use crate::spot::Spot;
+use kc_asm_layout::{Location, SizeRecord, layout, statement_sizes};
 use kc_asm_symbols::{Names, externals};
 use kc_base::NoMemory;
 use kc_lex::Line;

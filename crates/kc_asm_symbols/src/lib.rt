@@ -1,4 +1,6 @@
-//! What names mean at each statement of a source.
+//! What the names of a module mean at each of its statements: labels, EQU, SET, externals and segments. It stands on the
+//! statements of `kc_source`; names are numbered once, and a meaning is a value over the bases of pieces. Example: of the
+//! lines `N SET 1`, `DCB N`, `N SET 2`, `DCB N` the second means 1 by `N`, and the last 2.
 #![tactic(auto)]
 
 mod earlier;

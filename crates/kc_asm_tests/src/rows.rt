@@ -1,7 +1,7 @@
 // The order of a listing's rows, which was worked by hand.
 ghost use Rattle.std.specs.Prelude.{◌≤◌, length};
 
-use kc_asm_rows::{Spot, rows};
+use kc_asm_list::{Spot, rows};
 use kc_base::Text;
 use kc_obj_module::{Content, Module, SegKind, Segment};
 use std::test::*;

@@ -1,5 +1,5 @@
 // Sources that stand in tests, line by line.
-use kc_asm_outline::{ModuleSizes, statement_sizes};
+use kc_asm_layout::{ModuleSizes, statement_sizes};
 use kc_asm_symbols::{Names, externals};
 use kc_base::NoMemory;
 use kc_lex::lines;

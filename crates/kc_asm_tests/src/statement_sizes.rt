@@ -1,6 +1,6 @@
 // What statements are to the steps behind the table of sizes.
 use crate::sources::sizes_of;
-use kc_asm_outline::{Anchor, Body, opens};
+use kc_asm_layout::{Anchor, Body, opens};
 use kc_asm_symbols::Segment;
 use kc_branch::BranchKind;
 use kc_obj_module::SegKind;

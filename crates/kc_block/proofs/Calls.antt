@@ -1,7 +1,7 @@
 -- How many calls an access makes.
 use Rattle.std.proofs.Common.{◌≡◌, ℕ, zero, ◌+◌, ◌≤◌, Bool, true, false, is_some, refl, arith}
 use Rattle.kc_block_spec.specs.Registers.{row_at, bytes_read_everywhere, bytes_written_everywhere}
-use Rattle.kc_block_access.specs.Costs.{calls_unless, read_calls, write_calls, word_read_calls, word_write_calls}
+use Rattle.kc_block_sfr.specs.Costs.{calls_unless, read_calls, write_calls, word_read_calls, word_write_calls}
 
 few : (free : Bool) → calls_unless free ≤ 4
 few true = omega arith

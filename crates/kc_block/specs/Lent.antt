@@ -3,8 +3,8 @@ use Rattle.std.specs.Prelude.{◌≡◌, ℕ, ◌-◌, ◌≤◌}
 use Rattle.kc_span.specs.Span.{Rule, after, QuietFor}
 use Rattle.kc_extra.specs.Further.{Further}
 use Rattle.kc_hsi.specs.Input.{hsi_rule}
-use Rattle.kc_block_lane.specs.DeferredUnit.{DeferredUnit}
-use Rattle.kc_block_lazy.specs.Scheduler.{timer2_goes, hso_goes, further_goes}
+use Rattle.kc_span.specs.DeferredUnit.{DeferredUnit}
+use Rattle.kc_block_units.specs.Scheduler.{timer2_goes, hso_goes, further_goes}
 use Rattle.kc_block.specs.Seen.{Seen}
 
 -- a unit stands at a state not after the present one, is quiet from there on, and quiet Ticks lead to the shown data

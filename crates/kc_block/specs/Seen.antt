@@ -1,7 +1,7 @@
 -- What a block shows of itself (this kit's own).
 use Rattle.std.specs.Prelude.{ℕ}
 use Rattle.kc_block_spec.specs.Units.{Units}
-use Rattle.kc_block_lazy.specs.Scheduler.{Scheduler}
+use Rattle.kc_block_units.specs.Scheduler.{Scheduler}
 
 pub record Seen (X : Type 0) : Type 0 where
   -- the present state

@@ -5,15 +5,15 @@ ghost use Rattle.kc_block_spec.specs.Leading.{Leads};
 ghost use Rattle.kc_block_spec.specs.Accesses.{byte_read, after_byte_read, byte_written, word_read, after_word_read, word_written, latch_edges};
 ghost use Rattle.kc_block_spec.specs.Looking.{looked};
 ghost use Rattle.kc_block_spec.specs.Levels.{printed as printed_of};
-ghost use Rattle.kc_block_lazy.specs.Scheduler.{shown_units, IsScheduled};
-ghost use Rattle.kc_block_lanes.specs.Standing.{standing};
+ghost use Rattle.kc_block_units.specs.Scheduler.{shown_units, IsScheduled};
+ghost use Rattle.kc_block_units.specs.Standing.{standing};
 
 use crate::block::Block;
 use kc_base::{EdgeOut, Kind, StateTime, Steps};
-use kc_block_access as access;
-use kc_block_inputs::{lead_edges, printed};
-use kc_block_lanes::Scheduler;
+use kc_block_pins::{lead_edges, printed};
+use kc_block_sfr as access;
 use kc_block_spec::Window;
+use kc_block_units::Scheduler;
 use kc_extra::Extra;
 use std::sync::ledger::Ledger;
 

@@ -6,11 +6,11 @@ ghost use Rattle.kc_block_spec.specs.Touch.{block_rule, touch, edges_of};
 ghost use Rattle.kc_block_spec.specs.Start.{first_units};
 ghost use Rattle.kc_block_spec.specs.Leading.{Leads};
 ghost use Rattle.kc_block_spec.specs.Writing.{with_board_registers};
-ghost use Rattle.kc_block_lanes.specs.Next.{IsDueOrLast};
+ghost use Rattle.kc_block_units.specs.Next.{IsDueOrLast};
 
 use kc_base::{EdgeOut, NoMemory, StateTime, Steps};
-use kc_block_event::advance;
-use kc_block_lanes::Scheduler;
+use kc_block_tick::advance;
+use kc_block_units::Scheduler;
 use kc_extra::Extra;
 use kc_intc::Requests;
 use kc_stim::Stimuli;
@@ -30,8 +30,8 @@ impl<X: Extra + Drop> Model for Block<X> {
 
     ghost Value = { Seen X };
 
-    ghost use Rattle.kc_block_lanes.specs.Standing.{standing, moves_of};
-    ghost use Rattle.kc_block_lazy.specs.Scheduler.{shown_units};
+    ghost use Rattle.kc_block_units.specs.Standing.{standing, moves_of};
+    ghost use Rattle.kc_block_units.specs.Scheduler.{shown_units};
     ghost use Rattle.kc_block.specs.Sound.{IsSound};
 
     ghost view = { λ b. record {

@@ -17,8 +17,8 @@ use Rattle.kc_machine_spec.specs.declared.doing.End.{End}
 use Rattle.kc_machine_spec.specs.Machine.{Machine, start}
 use Rattle.kc_machine_spec.specs.Text.{finals}
 use Rattle.kc_cycles.specs.declared.lives.LivesFault.TheVariants as fault
-use Rattle.kc_watchdog.specs.declared.watchdog.Watchdog.{Watchdog}
-use Rattle.kc_watchdog.specs.Watching.{patience, is_watchdog, new_watchdog, fed}
+use Rattle.kc_cycles.specs.declared.watchdog.Watchdog.{Watchdog}
+use Rattle.kc_cycles.specs.Watching.{patience, is_watchdog, new_watchdog, fed}
 use Rattle.kc_cycles.specs.Life.{Life, life_for}
 use Rattle.kc_cycles.specs.Lives.{is_reset, life_from, lives_from, lives_of, restart_line, lives_touch, work_of_lives, AreReported}
 use Rattle.kc_cycles.specs.Making.{IsWatched, deadline_of, Lived}

@@ -14,7 +14,7 @@ use Rattle.kc_machine_spec.specs.Text.{HasRun}
 use Rattle.kc_machine_spec.specs.Machine.{Machine, Stepped, step, before}
 use Rattle.kc_machine_spec.specs.Run.{still, and_then, end_of, run_for}
 use Rattle.kc_machine_spec.proofs.Runs.{run_for-ended, run_for-suc, run_for-add, run_for-has_run}
-use Rattle.kc_watchdog.specs.Watching.{patience}
+use Rattle.kc_cycles.specs.Watching.{patience}
 use Rattle.kc_cycles.specs.Life.{Life, over, bitten, is_at, goes_on, life_for}
 use Rattle.kc_cycles.specs.Spans.{end_of_span}
 use Rattle.kc_cycles.proofs.Keeping.{Keeps, step_keeps}

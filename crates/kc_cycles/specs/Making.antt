@@ -8,8 +8,8 @@ use Rattle.kc_trace.specs.Out.{Out}
 use Rattle.kc_block_spec.specs.Levels.{stimulated_before}
 use Rattle.kc_machine_spec.specs.declared.doing.End.{End}
 use Rattle.kc_cycles.specs.declared.lives.LivesFault.{LivesFault}
-use Rattle.kc_watchdog.specs.declared.watchdog.Watchdog.{Watchdog}
-use Rattle.kc_watchdog.specs.Watching.{new_watchdog}
+use Rattle.kc_cycles.specs.declared.watchdog.Watchdog.{Watchdog}
+use Rattle.kc_cycles.specs.Watching.{new_watchdog}
 use Rattle.kc_cycles.specs.Lives.{lives_of, lives_touch, work_of_lives, AreReported}
 
 -- a unit keeps the levels that the inputs have before a state

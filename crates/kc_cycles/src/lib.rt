@@ -2,13 +2,17 @@
 //! It stands on the machine and on what a further unit is (`kc_machine`, `kc_extra`).
 //! FFH, RST, at 2080H over 10 states and 2 lives prints `B 3 reset` and `X 3 reset`. 1EH in state 4 and E1H in state 9 feed the
 //! watchdog, whose deadline is then state 65545: a life that feeds it no more ends as `B 65544 watchdog`.
+//! The watchdog of the board, a further unit: two values written to its register feed it, and it has a deadline from then on.
 #![tactic(auto)]
 
+mod laws;
 mod life;
 mod lives;
 mod maker;
 mod restart;
+mod watchdog;
 
-pub use kc_watchdog::{PATIENCE, Watchdog};
+pub use laws::deadlines_are_of_last_feedings;
 pub use lives::{LivesFault, run_lives};
 pub use maker::Maker;
+pub use watchdog::{PATIENCE, Watchdog};

@@ -8,11 +8,11 @@ ghost use Rattle.kc_cycles.specs.Life.{is_at, life_for};
 ghost use Rattle.kc_cycles.specs.Making.{deadline_of};
 ghost use Rattle.kc_cycles.specs.Spans.{end_of_span};
 
+use crate::watchdog::{PATIENCE, Watchdog};
 use kc_base::{Sink, StateTime, Steps};
 use kc_extra::{Extra, Pair};
 use kc_machine::{End, Machine, WriteFault};
 use kc_trace::TraceOut;
-use kc_watchdog::{PATIENCE, Watchdog};
 use std::sync::ledger::Ledger;
 
 /// How a life has ended.

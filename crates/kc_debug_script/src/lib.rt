@@ -1,4 +1,6 @@
-//! The texts that a debugger reads: scripts of commands, and maps from addresses to lines of sources.
+//! The texts that a debugger reads: scripts of commands, and maps from addresses to lines of sources, each read to exactly
+//! what its lines say, or to its first line that is wrong. It stands on `kc_base`. Example: the script `b 2094`, `g 1000`,
+//! `l` stops before the instruction at 2094H, or in state 1000, and prints the last activities.
 #![tactic(auto)]
 
 mod command;

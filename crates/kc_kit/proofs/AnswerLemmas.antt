@@ -8,9 +8,9 @@ use Rattle.kc_base.specs.Held.{Holding, Reported}
 use Rattle.kc_base.specs.Causes.{Rose}
 use Rattle.kc_base.specs.TextLines.{text_lines}
 use Rattle.kc_vcd.proofs.Readings.{never_wrong}
-use Rattle.kc_explain.specs.Codes.{all_codes}
-use Rattle.kc_explain.specs.Meanings.{Said, is_among, said_of, IsAnswer}
-use Rattle.kc_explain.proofs.Distinct.{meaning-is}
+use Rattle.kc_kit_messages.specs.Codes.{all_codes}
+use Rattle.kc_kit_messages.specs.Meanings.{Said, is_among, said_of, IsAnswer}
+use Rattle.kc_kit_messages.proofs.Distinct.{meaning-is}
 use Rattle.kc_machine_spec.specs.declared.doing.End.{End}
 use Rattle.kc_machine_spec.specs.declared.doing.End.TheVariants as end
 use Rattle.kc_machine_spec.specs.Run.{end_of}
@@ -77,8 +77,8 @@ use Rattle.kc_kit_answer.specs.Explain.{explained_by, explained}
 use Rattle.kc_kit_running.specs.Counted.{summary_of}
 use Rattle.kc_kit_answer.specs.Generate.{made_names, made_texts, made_given}
 use Rattle.kc_kit_answer.specs.Hex.{HexReported, RunHexAnswer, ListingOf, ListAnswer}
-use Rattle.kc_kit_notes.specs.Rules.{link_line, member_words}
-use Rattle.kc_kit_notes.specs.RuleDiagnostics.{link_diagnostic}
+use Rattle.kc_kit_messages.specs.Rules.{link_line, member_words}
+use Rattle.kc_kit_messages.specs.RuleDiagnostics.{link_diagnostic}
 use Rattle.kc_kit_answer.specs.Link.{IsMap, map_writes, LinksTo, Taking, Completed, LinkAnswer, IsReadableMap, ArePlaceable, IsLinkable}
 use Rattle.kc_kit_answer.proofs.HexLengths.{hex-short}
 use Rattle.kc_kit_answer.specs.Pack.{packed, PackAnswer}

@@ -19,7 +19,7 @@ use Rattle.kc_kit_words.specs.Asked.{asked}
 use Rattle.kc_obj_module.specs.Object.{Object}
 use Rattle.kc_kit_inputs.specs.Hex.{hex_of}
 use Rattle.kc_kit_inputs.specs.Library.{library_of, TakenAre}
-use Rattle.kc_kit_notes.specs.Rules.{member_words}
+use Rattle.kc_kit_messages.specs.Rules.{member_words}
 use Rattle.kc_kit_answer.specs.Link.{Taking, Completed}
 use Rattle.kc_kit_answer.specs.Answer.{OneText, Parted, MayAnswer, MayAnswerBy}
 use Rattle.kc_kit_inputs.specs.declared.driving.Driving.{Driving}

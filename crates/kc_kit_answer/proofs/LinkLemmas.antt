@@ -17,8 +17,8 @@ use Rattle.kc_link.specs.Filled.{IsFilled}
 use Rattle.kc_kit_answer.specs.Link.{IsMap, LinksTo, map_writes}
 use Rattle.kc_kit_files.proofs.ReadLemmas.{refused-widen}
 use Rattle.kc_kit_answer.proofs.AnswerSteps.{then-ok, then-err}
-use Rattle.kc_kit_notes.specs.Rules.{link_line}
-use Rattle.kc_kit_notes.specs.RuleDiagnostics.{link_diagnostic}
+use Rattle.kc_kit_messages.specs.Rules.{link_line}
+use Rattle.kc_kit_messages.specs.RuleDiagnostics.{link_diagnostic}
 use Rattle.kc_kit_answer.specs.Places.{by_places, places_of, Placing}
 
 -- ---- linking

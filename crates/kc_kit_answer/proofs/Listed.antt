@@ -5,7 +5,7 @@ use Rattle.std.proofs.lemmas.Bool.Decides.{nat_tests}
 use Rattle.std.proofs.lemmas.List.{append-nil, append_assoc}
 use Rattle.kc_trace.specs.Out.{Out, Puts}
 use Rattle.kc_trace.proofs.Outs.{Puts-append, Puts-nothing}
-use Rattle.kc_code_listing.specs.Listing.{listing, lines_from, line_at, next_after}
+use Rattle.kc_code.specs.Listing.{listing, lines_from, line_at, next_after}
 
 -- some lines of the listing are put, and the rest stands from an address on
 pub record IsListed (image : List ℕ) (first last at : ℕ) (old now : Out) : Type 0 where

@@ -4,9 +4,9 @@ use Rattle.std.specs.Prelude.{slice_get, true}
 use Rattle.std.specs.List.{list_all}
 use Rattle.kc_source_statement.specs.declared.statement.Stmt.{Stmt}
 use Rattle.kc_asm_check.specs.Checking.{first_fault}
-use Rattle.kc_asm_piece.specs.declared.unlinked.UnlinkedModule.{UnlinkedModule}
-use Rattle.kc_asm_module.specs.ModuleOf.{IsModuleOf, pieces_in}
-use Rattle.kc_asm_draft_laws.specs.Collecting.{IsUnlinkedModuleOf}
+use Rattle.kc_asm_section.specs.declared.unlinked.UnlinkedModule.{UnlinkedModule}
+use Rattle.kc_asm_section.specs.ModuleOf.{IsModuleOf, pieces_in}
+use Rattle.kc_asm_unlinked_laws.specs.Collecting.{IsUnlinkedModuleOf}
 use Rattle.kc_link_place.specs.declared.ranges.Ranges.{Ranges}
 use Rattle.kc_link_place.specs.declared.ranges.LinkFault.{LinkFault}
 use Rattle.kc_link_place.specs.Placing.{Places}
@@ -17,7 +17,7 @@ use Rattle.kc_link_source_laws.specs.Linked.{IsSource, LinkedImage}
 use Rattle.kc_obj_module.specs.Object.{Object}
 use Rattle.kc_asm.specs.Assembled.{AreSaid}
 use Rattle.kc_asm.proofs.Said.{said_well}
-use Rattle.kc_asm_earlier_laws.specs.Read.{SourcesAreReadWell}
+use Rattle.kc_source_laws.specs.Read.{SourcesAreReadWell}
 use Rattle.kc_kit_files.specs.Response.{Response, Then}
 use Rattle.kc_kit_answer.specs.Places.{by_places, Placing}
 use Rattle.kc_kit_answer.specs.Run.{AreCollected, IsImageOfTexts, Driven, FilledReported, LinkedReported}

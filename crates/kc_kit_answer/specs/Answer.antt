@@ -4,8 +4,8 @@ use Rattle.std.specs.Result.{IsOk}
 use Rattle.kc_base.specs.Causes.{Rose}
 use Rattle.kc_base.specs.Held.{Holding}
 use Rattle.kc_hex.specs.Records.{image_of}
-use Rattle.kc_explain.specs.Codes.{all_codes}
-use Rattle.kc_explain.specs.Meanings.{is_among}
+use Rattle.kc_kit_messages.specs.Codes.{all_codes}
+use Rattle.kc_kit_messages.specs.Meanings.{is_among}
 use Rattle.kc_kit_files.specs.declared.status.Status.TheVariants as status
 use Rattle.kc_kit_files.specs.Response.{Response, says, Then}
 use Rattle.kc_kit_files.specs.Reads.{reads_of, Holds, FailedRead}

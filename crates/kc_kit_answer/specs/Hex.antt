@@ -1,6 +1,6 @@
 -- The commands that run or list a hex file (this kit's own).
 use Rattle.std.specs.Prelude.{◌≡◌, ℕ, List}
-use Rattle.kc_code_listing.specs.Listing.{listing}
+use Rattle.kc_code.specs.Listing.{listing}
 use Rattle.kc_kit_files.specs.declared.status.Status.TheVariants as status
 use Rattle.kc_kit_files.specs.Response.{Response, says, Then}
 use Rattle.kc_kit_words.specs.declared.extent.Extent.{Extent}

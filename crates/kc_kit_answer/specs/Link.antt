@@ -5,7 +5,7 @@ use Rattle.kc_obj_module.specs.Object.{Object}
 use Rattle.kc_lib.specs.Taking.{AreTaken}
 use Rattle.kc_link_place.specs.declared.ranges.Ranges.{Ranges}
 use Rattle.kc_link_place.specs.Placing.{Places}
-use Rattle.kc_link_map.specs.Map.{map_text as link_map_text}
+use Rattle.kc_link.specs.Map.{map_text as link_map_text}
 use Rattle.kc_link.specs.declared.lines.LineAt.{LineAt}
 use Rattle.kc_link.specs.Filled.{IsFilled}
 use Rattle.kc_link.specs.LineMap.{IsLineMap}
@@ -20,7 +20,7 @@ use Rattle.kc_kit_inputs.specs.Inputs.{input_for}
 use Rattle.kc_kit_inputs.specs.Library.{library_of, TakenAre}
 use Rattle.kc_kit_inputs.specs.Objects.{modules_of, object_of}
 use Rattle.kc_kit_answer.specs.Accepting.{Accepting}
-use Rattle.kc_kit_notes.specs.Rules.{member_words}
+use Rattle.kc_kit_messages.specs.Rules.{member_words}
 use Rattle.kc_kit_answer.specs.Lines.{map_text}
 use Rattle.kc_kit_answer.specs.Places.{places_of, Placing}
 

@@ -10,8 +10,8 @@ use Rattle.kc_kit_files.specs.Response.{Response, reports, write, Then}
 use Rattle.kc_kit_files.specs.Writes.{writing_readable}
 use Rattle.kc_kit_inputs.specs.Objects.{modules_of, object_of}
 use Rattle.kc_kit_answer.specs.Accepting.{Accepting}
-use Rattle.kc_kit_notes.specs.Rules.{link_line}
-use Rattle.kc_kit_notes.specs.RuleDiagnostics.{link_diagnostic}
+use Rattle.kc_kit_messages.specs.Rules.{link_line}
+use Rattle.kc_kit_messages.specs.RuleDiagnostics.{link_diagnostic}
 
 -- the library of modules is written, which commands read, or the first name is reported that is public in two of them
 abbrev pub packed : List (List ℕ) → List ℕ → List Object → Option (List ℕ) → Response

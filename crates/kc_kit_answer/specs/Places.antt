@@ -7,8 +7,8 @@ use Rattle.kc_link_place.specs.Placing.{Places}
 use Rattle.kc_link.specs.Placed.{placed}
 use Rattle.kc_kit_files.specs.declared.status.Status.TheVariants as status
 use Rattle.kc_kit_files.specs.Response.{Response, reports, Then}
-use Rattle.kc_kit_notes.specs.Rules.{link_line}
-use Rattle.kc_kit_notes.specs.RuleDiagnostics.{link_diagnostic}
+use Rattle.kc_kit_messages.specs.Rules.{link_line}
+use Rattle.kc_kit_messages.specs.RuleDiagnostics.{link_diagnostic}
 
 -- the places of modules, or the response to the first broken rule
 abbrev pub by_places : List (List ℕ) → List Object → Result Places LinkFault → Result Places Response

@@ -5,9 +5,9 @@ use Rattle.std.specs.Result.{IsOk}
 use Rattle.kc_obj_module.specs.Object.{Object}
 use Rattle.kc_source_statement.specs.declared.statement.Stmt.{Stmt}
 use Rattle.kc_asm_check.specs.Checking.{first_fault}
-use Rattle.kc_asm_piece.specs.declared.unlinked.UnlinkedModule.{UnlinkedModule}
-use Rattle.kc_asm_module.specs.ModuleOf.{IsModuleOf, pieces_in}
-use Rattle.kc_asm_draft_laws.specs.Collecting.{IsUnlinkedModuleOf}
+use Rattle.kc_asm_section.specs.declared.unlinked.UnlinkedModule.{UnlinkedModule}
+use Rattle.kc_asm_section.specs.ModuleOf.{IsModuleOf, pieces_in}
+use Rattle.kc_asm_unlinked_laws.specs.Collecting.{IsUnlinkedModuleOf}
 use Rattle.kc_asm.specs.Assembled.{AreSaid}
 use Rattle.kc_link_source_laws.specs.Characters.{has_bytes}
 use Rattle.kc_link_source_laws.specs.Linked.{IsLinked}

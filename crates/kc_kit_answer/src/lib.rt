@@ -1,4 +1,6 @@
-//! What each command answers, over what its files say: what it prints, which files it writes, and its status.
+//! What each command answers, over what its files say: what it prints, which files it writes, and its status; a file of
+//! definitions and one of code for each command. It stands on `kc_kit_inputs` and `kc_kit_running`. Example: `specs/Hex.antt`
+//! is the whole answer of `hex`, and `src/run_hex.rt` gives it.
 #![tactic(auto)]
 
 mod assemble;

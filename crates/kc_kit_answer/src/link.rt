@@ -10,7 +10,7 @@ ghost use Rattle.kc_kit_words.specs.Inputs.{inputs_in};
 ghost use Rattle.kc_kit_answer.specs.Jobs.{IsPrepared, Prepares, maybe_written};
 ghost use Rattle.kc_kit_answer.specs.Lines.{map_text};
 ghost use Rattle.kc_kit_answer.specs.Link.{Completed, LinkAnswer, LinksTo, IsMap, map_writes};
-ghost use Rattle.kc_kit_notes.specs.Origins.{words_of};
+ghost use Rattle.kc_kit_messages.specs.Origins.{words_of};
 ghost use Rattle.kc_kit_answer.specs.Places.{Placing};
 
 use crate::job::Job;
@@ -20,11 +20,10 @@ use crate::writing::writing;
 use kc_base::{Files, NoMemory};
 use kc_kit_files::{Refusal, read_files};
 use kc_kit_inputs::{input_for, read_inputs, read_library, read_objects, take_members};
-use kc_kit_notes::{Members, Origins};
+use kc_kit_messages::{Members, Origins};
 use kc_kit_running::Output;
 use kc_kit_words::{Command, Link, Role};
-use kc_link::{Placement, image_at, lines_at};
-use kc_link_map::map_at;
+use kc_link::{Placement, image_at, lines_at, map_at};
 use kc_obj_module::Module;
 use std::alloc::Global;
 

@@ -7,7 +7,7 @@ ghost use Rattle.kc_kit_answer.specs.Jobs.{Prepares};
 
 use crate::job::Job;
 use kc_base::{Files, Image, Sink};
-use kc_code_listing::line_at;
+use kc_code::line_at;
 use kc_kit_files::{Refusal, Status, read_file};
 use kc_kit_inputs::image_of;
 use kc_kit_words::{Command, List};

@@ -12,7 +12,7 @@ use crate::writing::writing;
 use kc_base::Files;
 use kc_kit_files::{Refusal, read_files};
 use kc_kit_inputs::read_objects;
-use kc_kit_notes::{Origins, link_refusal};
+use kc_kit_messages::{Origins, link_refusal};
 use kc_kit_running::Output;
 use kc_kit_words::{Command, Pack};
 use kc_lib::LibFault;

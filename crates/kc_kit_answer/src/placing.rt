@@ -1,11 +1,11 @@
 // Modules that are placed.
 ghost use Rattle.std.specs.Prelude.{length};
 ghost use Rattle.kc_kit_words.specs.Asked.{AreLinkable};
-ghost use Rattle.kc_kit_notes.specs.Origins.{words_of};
+ghost use Rattle.kc_kit_messages.specs.Origins.{words_of};
 ghost use Rattle.kc_kit_answer.specs.Jobs.{IsPlaced};
 
 use kc_kit_files::Refusal;
-use kc_kit_notes::{Origins, link_refusal};
+use kc_kit_messages::{Origins, link_refusal};
 use kc_kit_words::Ranges;
 use kc_link::{Placement, linked_places};
 use kc_obj_module::Module;

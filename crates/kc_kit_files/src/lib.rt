@@ -1,4 +1,6 @@
-//! Reading and writing named files, and what a command says of it: statuses, refusals, and what a response does to files and output.
+//! Files read in the order of their names, and what a command says of them: statuses, refusals with their lines and
+//! diagnostics, and what a response does to files and output. It stands on the files and sinks of `kc_base`. Example: a name
+//! without a file prints `missing NAME` with status 2, and nothing is written.
 #![tactic(auto)]
 
 mod ended;

@@ -5,7 +5,7 @@ use Rattle.std.proofs.lemmas.List.{take_all}
 use Rattle.kc_kit_files.specs.Reads.{AllShort}
 use Rattle.kc_kit_words.specs.declared.inputs.Role.{Role}
 use Rattle.kc_kit_inputs.specs.Inputs.{is_role, input_for}
-use Rattle.kc_kit_notes.proofs.Words.{texts_in}
+use Rattle.kc_kit_messages.proofs.Words.{texts_in}
 use Rattle.kc_stim.specs.declared.fault.StimFault.{StimFault}
 use Rattle.kc_stim.specs.declared.fault.StimFault.TheVariants as faults
 use Rattle.kc_stim.specs.Reading.{nothing, first_fault, items_of, IsRefusal}

@@ -7,7 +7,7 @@ use Rattle.std.proofs.lemmas.List.{append-nil}
 use Rattle.kc_obj_module.specs.Object.{Object}
 use Rattle.kc_kit_files.specs.Response.{Response, joined}
 use Rattle.kc_kit_inputs.specs.Objects.{modules_of, object_of}
-use Rattle.kc_kit_notes.proofs.Words.{names_in, texts_in, name-get, text-get, length-names}
+use Rattle.kc_kit_messages.proofs.Words.{names_in, texts_in, name-get, text-get, length-names}
 
 -- the one element of a list
 pub all-one : (P : Object → Type 0) (m : Object) → P m → All P (m ∷ [])

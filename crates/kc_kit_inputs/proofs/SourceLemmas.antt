@@ -8,7 +8,7 @@ use Rattle.kc_asm.specs.Assembled.{IsModule}
 use Rattle.kc_kit_files.specs.Response.{Response}
 use Rattle.kc_kit_inputs.specs.FaultDiagnostics.{IsFaultDiagnostic}
 use Rattle.kc_kit_inputs.specs.Sources.{AreModules, ReportsFault, ReportsFirst}
-use Rattle.kc_kit_notes.proofs.Words.{names_in, texts_in, name-get, text-get}
+use Rattle.kc_kit_messages.proofs.Words.{names_in, texts_in, name-get, text-get}
 
 -- what follows of the rest follows of the whole
 pub record Onward (names texts : List (List ℕ)) (ms : List Object) (rest-names rest-texts : List (List ℕ)) : Type 0 where

@@ -1,8 +1,8 @@
 -- What is said in words of the first fault of a source (this kit's own).
 use Rattle.std.specs.Prelude.{◌≡◌, ◌++◌, codes, ℕ, Option}
-use Rattle.kc_asm_cause.specs.Cause.{IsCause}
-use Rattle.kc_asm_subject.specs.Symbol.{symbol_of}
-use Rattle.kc_kit_notes.specs.Subjects.{source_diagnostic, body_diagnostic}
+use Rattle.kc_asm_origin.specs.Cause.{IsCause}
+use Rattle.kc_asm_origin.specs.Symbol.{symbol_of}
+use Rattle.kc_kit_messages.specs.Subjects.{source_diagnostic, body_diagnostic}
 use Rattle.kc_kit_inputs.specs.Lines.{coded}
 use Rattle.kc_kit_inputs.specs.Sources.{DiagnosticRule}
 

@@ -3,7 +3,7 @@
 use Rattle.std.specs.Prelude.{ℕ, List}
 use Rattle.kc_kit_files.specs.declared.status.Status.TheVariants as status
 use Rattle.kc_kit_files.specs.Response.{Response, reports}
-use Rattle.kc_kit_notes.specs.Diagnostics.{line_diagnostic, byte_diagnostic}
+use Rattle.kc_kit_messages.specs.Diagnostics.{line_diagnostic, byte_diagnostic}
 use Rattle.kc_kit_inputs.specs.Lines.{source_line, input_line}
 
 -- that to a source has this diagnostic (`FaultDiagnostics`)

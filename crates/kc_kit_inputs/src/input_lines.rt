@@ -8,7 +8,7 @@ ghost use Rattle.kc_kit_inputs.specs.Responses.{line_response, byte_response};
 use itoa::Buffer;
 use kc_base::NoMemory;
 use kc_kit_files::{Cause, Refusal, refusal_of};
-use kc_kit_notes::{byte_diagnostic, line_diagnostic};
+use kc_kit_messages::{byte_diagnostic, line_diagnostic};
 use std::alloc::Global;
 
 /// A code of a letter and two digits.

@@ -1,5 +1,6 @@
 //! What named files say to a command, or the refusal of their first fault: sources, objects, libraries, hex files, stimuli,
-//! analogue files, debugger scripts, traces.
+//! analogue files, scripts of the debugger, traces. It stands on `kc_kit_files` and on the reader of each format. Example: a
+//! source with a fault in line 3 is the refusal `source NAME:3: E12` of status 3.
 #![tactic(auto)]
 
 mod analog;

@@ -9,11 +9,10 @@ ghost use Rattle.kc_kit_inputs.specs.Sources.{AreModules, Reports, ReportsFault,
 
 use crate::input_lines::{coded, place_text};
 use kc_asm::assemble;
-use kc_asm_cause::cause;
-use kc_asm_subject::symbol;
+use kc_asm_origin::{cause, symbol};
 use kc_base::NoMemory;
 use kc_kit_files::{Cause, Refusal, refusal_of};
-use kc_kit_notes::{put_body_line, source_diagnostic};
+use kc_kit_messages::{put_body_line, source_diagnostic};
 use kc_lex::SourceFault;
 use kc_obj_module::Module;
 use std::alloc::Global;

@@ -18,7 +18,7 @@ use Rattle.kc_hex.specs.Law.{WrittenIsRead}
 use Rattle.kc_hex.specs.Records.{image_of}
 use Rattle.kc_hex.specs.Spelling as records
 use Rattle.kc_link_source_laws.specs.Linked.{LinkedImage}
-use Rattle.kc_asm_earlier_laws.specs.Read.{SourcesAreReadWell}
+use Rattle.kc_source_laws.specs.Read.{SourcesAreReadWell}
 use Rattle.kc_asm.specs.Assembled.{IsModule}
 use Rattle.kc_asm_laws.specs.Modules.{ModulesFit}
 use Rattle.kc_asm_laws.specs.Images.{AreModulesOf, FilledAreBytes}

@@ -2,7 +2,7 @@
 use Rattle.std.specs.Prelude.{codes}
 use Rattle.std.proofs.Common.{◌≡◌, inl, inr, ℕ, List, [], ◌∷◌, ◌++◌, length, take, drop, Option, Some, None, Result, Ok, Err, map, refl, sym, ◌∙◌, ap, subst, arith}
 use Rattle.kc_source.specs.Faults.{Fault}
-use Rattle.kc_code_listing.specs.Listing.{listing}
+use Rattle.kc_code.specs.Listing.{listing}
 use Rattle.kc_base.specs.TextLines.{text_lines}
 use Rattle.kc_trace.specs.declared.record.Record.{Record}
 use Rattle.kc_vcd.specs.Dump.{state_length, dump_of}
@@ -16,12 +16,12 @@ use Rattle.kc_link_place.specs.declared.ranges.Ranges.{Ranges}
 use Rattle.kc_link_place.specs.Placing.{Places}
 use Rattle.kc_link.specs.Laws.{OneImage}
 use Rattle.kc_link.specs.declared.lines.LineAt.{LineAt}
-use Rattle.kc_link_laws.specs.Linked.{OneLineMap}
+use Rattle.kc_link.specs.Linked.{OneLineMap}
 use Rattle.kc_asm.specs.Assembled.{IsModule}
-use Rattle.kc_asm_subject.specs.Symbol.{symbol_of}
-use Rattle.kc_asm_cause_laws.specs.OneOrigin.{OneOrigin}
+use Rattle.kc_asm_origin.specs.Symbol.{symbol_of}
+use Rattle.kc_asm_laws.specs.OneOrigin.{OneOrigin}
 use Rattle.kc_asm_laws.specs.Modules.{OneAnswerOfText}
-use Rattle.kc_asm_list_laws.specs.Laws.{OneListing}
+use Rattle.kc_asm_laws.specs.Laws.{OneListing}
 use Rattle.kc_kit_files.specs.declared.status.Status.TheVariants as status
 use Rattle.kc_kit_files.specs.Response.{Response, Write, write, says, done_writing, Then}
 use Rattle.kc_kit_files.specs.Writes.{writing_readable}
@@ -48,8 +48,8 @@ use Rattle.kc_kit_answer.specs.Dump.{WritesDump, DumpAnswer}
 use Rattle.kc_kit_running.specs.Counted.{summary_of}
 use Rattle.kc_kit_answer.specs.Generate.{made_names, made_texts, made_given}
 use Rattle.kc_kit_answer.specs.Hex.{HexReported, RunHexAnswer, ListAnswer, ListingOf}
-use Rattle.kc_kit_notes.specs.Rules.{member_words}
-use Rattle.kc_kit_notes.specs.Subjects.{source_diagnostic, body_diagnostic}
+use Rattle.kc_kit_messages.specs.Rules.{member_words}
+use Rattle.kc_kit_messages.specs.Subjects.{source_diagnostic, body_diagnostic}
 use Rattle.kc_kit_answer.specs.Lines.{map_text}
 use Rattle.kc_kit_answer.specs.Link.{IsMap, map_writes, LinksTo, Taking, Completed, LinkAnswer}
 use Rattle.kc_kit_answer.specs.Pack.{packed, PackAnswer}

@@ -31,8 +31,8 @@ use Rattle.kc_kit_inputs.specs.Lines.{coded}
 use Rattle.kc_kit_inputs.specs.Objects.{modules_of, by_object, object_of}
 use Rattle.kc_kit_inputs.specs.Responses.{source_response, byte_response}
 use Rattle.kc_kit_inputs.specs.Sources.{AnyDiagnostic, ReportsFault}
-use Rattle.kc_kit_notes.specs.Rules.{link_line, member_words}
-use Rattle.kc_kit_notes.specs.RuleDiagnostics.{link_diagnostic}
+use Rattle.kc_kit_messages.specs.Rules.{link_line, member_words}
+use Rattle.kc_kit_messages.specs.RuleDiagnostics.{link_diagnostic}
 use Rattle.kc_kit_answer.specs.Answer.{OneText, Parted}
 use Rattle.kc_kit_answer.specs.Assemble.{AssembleAnswer}
 use Rattle.kc_kit_answer.specs.Link.{IsMap, map_writes, LinksTo, Taking, Completed, LinkAnswer}

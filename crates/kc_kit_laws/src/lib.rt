@@ -1,4 +1,6 @@
-//! What is known of the answers of commands: laws of definitions, without code.
+//! Laws of answers, without code: sources that are linked and run answer as their objects do; a command has one answer; what
+//! it writes for other commands is read again. They stand on `kc_kit_answer`. Example: `run a.a96` prints what `hex` prints
+//! of the file that `asm` and `link` make of that source.
 #![tactic(auto)]
 
 ghost use Rattle.kc_kit_laws.specs.Alike.{RunsAlike};
@@ -6,16 +8,13 @@ ghost use Rattle.kc_kit_laws.specs.OneAnswer.{OneAnswer, OneDiagnostic, OneOutco
 ghost use Rattle.kc_kit_laws.specs.Readable.{WrittenIsReadable};
 ghost use Rattle.kc_kit_laws.specs.StartLevels.{StartLevelsAgree};
 
-use kc_asm_cause_laws::one_origin;
-use kc_asm_earlier_laws::sources_are_read_well;
-use kc_asm_laws::{filled_are_bytes, modules_fit, one_answer_of_text};
-use kc_asm_list_laws::one_listing;
+use kc_asm_laws::{filled_are_bytes, modules_fit, one_answer_of_text, one_listing, one_origin};
 use kc_hex::written_is_read;
 use kc_lib::laws::taken_once;
-use kc_link::one_image;
-use kc_link_laws::one_line_map;
+use kc_link::{one_image, one_line_map};
 use kc_link_source_laws::linked_image;
 use kc_obj::laws::spelled_is_decoded;
+use kc_source_laws::sources_are_read_well;
 use kc_vcd::one_reading;
 
 /// Objects that are assembled of each source and linked to a hex file, and that file run, answer as the sources run. Each

@@ -14,10 +14,10 @@ use Rattle.kc_convert.specs.contracts.converter.Converter as converter_type
 use Rattle.kc_convert.specs.contracts.converter.ConverterExtra.TheImpl as converter
 use Rattle.kc_convert.specs.contracts.pulses.Pulses as pulses_type
 use Rattle.kc_convert.specs.contracts.pulses.PulsesExtra.TheImpl as pulses
-use Rattle.kc_watchdog.specs.declared.watchdog.Watchdog.{Watchdog}
-use Rattle.kc_watchdog.specs.contracts.watchdog.Watchdog as watchdog_type
-use Rattle.kc_watchdog.specs.contracts.watchdog.WatchdogExtra.TheImpl as watchdog
-use Rattle.kc_watchdog.specs.Watching.{new_watchdog}
+use Rattle.kc_cycles.specs.declared.watchdog.Watchdog.{Watchdog}
+use Rattle.kc_cycles.specs.contracts.watchdog.Watchdog as watchdog_type
+use Rattle.kc_cycles.specs.contracts.watchdog.WatchdogExtra.TheImpl as watchdog
+use Rattle.kc_cycles.specs.Watching.{new_watchdog}
 use Rattle.kc_kit_running.specs.Fitted.{FittedUnit, analog_says, fitted_says, fitted_for}
 
 abbrev pub WatchedUnit : Type 0

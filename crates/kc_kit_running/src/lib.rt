@@ -1,5 +1,6 @@
-//! Runs of a board: the further units that are fitted to it, and what a run of it prints and writes: once or over several
-//! lives, with a profile, as a script says, or counted.
+//! Runs of a board: the further units that are fitted to it, and what a run prints and writes, once or over several lives,
+//! with a profile, counted, or as a script says. It stands on `kc_machine`, `kc_cycles`, `kc_profile` and `kc_debug`.
+//! Example: every board of a command has the serial port, the converter and the three pulse-width outputs.
 #![tactic(auto)]
 
 mod board;

@@ -1,4 +1,5 @@
-//! How texts from outside stand on standard error.
+//! How texts from outside stand on standard error: without what a terminal acts on, and words of at most 80 characters. It
+//! stands on the sinks of `kc_base`. Example: a name of a file with the byte ESC in it cannot turn the screen red.
 #![tactic(auto)]
 
 mod text;

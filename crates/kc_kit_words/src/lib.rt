@@ -1,4 +1,6 @@
-//! The words of a command line, read as a command: its files, and its options with their values.
+//! The words of a command line as a command: its files, and its options with their values; and what is wrong in words that
+//! are none. It stands on `kc_base` and on the regions of `kc_link_place`. Example: `run a.a96 --states 1000` is a command
+//! with one file and a number; of `run a.a96 --states x` it says `bad value x of option --states`.
 #![tactic(auto)]
 
 mod command;

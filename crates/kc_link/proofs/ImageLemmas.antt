@@ -4,10 +4,10 @@ use Rattle.std.specs.Prelude.{slice_get, slice_index, if◌then◌else◌, ◌�
 use Rattle.kc_obj_module.specs.declared.parts.Content.{Content}
 use Rattle.kc_obj_module.specs.Object.{Object}
 use Rattle.kc_obj_module.specs.Contents.{content_end, covers, content_at}
-use Rattle.kc_obj_relocation.specs.Numbers.{Bases}
-use Rattle.kc_link_fill.specs.BaseLists.{or_0}
-use Rattle.kc_link_fill.specs.Filled.{filled_at, part_at, plus}
-use Rattle.kc_link_fill.proofs.Modules.{kept}
+use Rattle.kc_obj_module.specs.Numbers.{Bases}
+use Rattle.kc_link_place.specs.BaseLists.{or_0}
+use Rattle.kc_link_place.specs.Filled.{filled_at, part_at, plus}
+use Rattle.kc_link_place.proofs.Modules.{kept}
 use Rattle.kc_link_place.specs.Placing.{Places, base_at, base_lists, bases_of, bases_from}
 use Rattle.kc_link_place.specs.Apart.{CodeAt, AllKeepRules, CodeIsApart}
 use Rattle.kc_link.specs.Placed.{unfit}

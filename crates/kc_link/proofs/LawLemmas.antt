@@ -3,9 +3,9 @@ use Rattle.std.proofs.Common.{◌≡◌, ℕ, zero, suc, ◌+◌, ◌<◌, Bool,
 use Rattle.std.specs.Prelude.{slice_get, if◌then◌else◌, ◌==◌, ◌&&◌, ◌⊎◌}
 use Rattle.std.proofs.lemmas.Bool.Decides.{nat_tests}
 use Rattle.kc_obj_module.specs.declared.parts.Fixup.{Fixup}
-use Rattle.kc_obj_relocation.specs.Numbers.{Bases, fits}
+use Rattle.kc_obj_module.specs.Numbers.{Bases, fits}
 use Rattle.kc_obj_module.specs.Fixups.{fixup_at}
-use Rattle.kc_link_fill.specs.Filled.{fixup_number, is_fit, unfit_in}
+use Rattle.kc_link_place.specs.Filled.{fixup_number, is_fit, unfit_in}
 use Rattle.kc_link_place.specs.Placing.{base_at, bases_of, place_of}
 use Rattle.kc_link_place.proofs.ApartLemmas.{located-by, base-is}
 use Rattle.kc_link.specs.Filled.{StandsAt}

@@ -4,3 +4,8 @@ pub mod ContentLemmas
 pub mod ImageLemmas
 pub mod PlacedLemmas
 pub mod WriteLemmas
+pub mod Image
+pub mod PlacedLines
+pub mod OneLines
+pub mod Runs
+pub mod Marking

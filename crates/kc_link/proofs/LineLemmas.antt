@@ -12,9 +12,9 @@ use Rattle.kc_obj_module.specs.declared.parts.Segment.{Segment}
 use Rattle.kc_obj_module.specs.Object.{Object}
 use Rattle.kc_obj_module.specs.Pieces.{has_code}
 use Rattle.kc_obj_module.specs.LineEntries.{line_is_sound, line_follows, lines_in_order, lines_are_sound}
-use Rattle.kc_obj_relocation.specs.Numbers.{Bases}
-use Rattle.kc_link_fill.specs.BaseLists.{BaseLists}
-use Rattle.kc_link_fill.proofs.Modules.{kept}
+use Rattle.kc_obj_module.specs.Numbers.{Bases}
+use Rattle.kc_link_place.specs.BaseLists.{BaseLists}
+use Rattle.kc_link_place.proofs.Modules.{kept}
 use Rattle.kc_link_place.specs.Placing.{Places, bases_of, bases_from}
 use Rattle.kc_link_place.specs.Apart.{CodeAt, AllKeepRules, CodeIsApart}
 use Rattle.kc_link.specs.declared.lines.LineAt.{LineAt}

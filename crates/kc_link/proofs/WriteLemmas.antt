@@ -7,9 +7,9 @@ use Rattle.kc_base.specs.declared.types.NoMemory.{NoMemory}
 use Rattle.std.proofs.Math.Seq.{take-length}
 use Rattle.kc_obj_module.specs.declared.parts.Content.{Content}
 use Rattle.kc_obj_module.specs.Object.{Object}
-use Rattle.kc_obj_relocation.specs.Numbers.{Bases}
-use Rattle.kc_link_fill.specs.BaseLists.{BaseLists, bases_in, or_0}
-use Rattle.kc_link_fill.specs.Filled.{filled_at, unfit_in}
+use Rattle.kc_obj_module.specs.Numbers.{Bases}
+use Rattle.kc_link_place.specs.BaseLists.{BaseLists, bases_in, or_0}
+use Rattle.kc_link_place.specs.Filled.{filled_at, unfit_in}
 use Rattle.kc_link.specs.Writes.{written, bytes_of, runs_of, all_bytes, RunStands, RunsStand, ModulesStand, IsBlank}
 
 abbrev pub tail : {X : Type 0} → List X → List X

@@ -2,9 +2,9 @@
 use Rattle.std.specs.Prelude.{◌≡◌, ℕ, true, ◌+◌, ◌<◌, ◌≤◌, Some, Ok, Err, Result, List, length, slice_get}
 use Rattle.kc_obj_module.specs.declared.parts.Fixup.{Fixup}
 use Rattle.kc_obj_module.specs.Object.{Object}
-use Rattle.kc_obj_relocation.specs.Numbers.{fits}
+use Rattle.kc_obj_module.specs.Numbers.{fits}
 use Rattle.kc_obj_module.specs.Fixups.{fixup_at}
-use Rattle.kc_link_fill.specs.Filled.{fixup_number, filled_at}
+use Rattle.kc_link_place.specs.Filled.{fixup_number, filled_at}
 use Rattle.kc_link_place.specs.declared.ranges.Ranges.{Ranges}
 use Rattle.kc_link_place.specs.declared.ranges.LinkFault.{LinkFault}
 use Rattle.kc_link_place.specs.Placing.{Places, bases_of, IsCause}

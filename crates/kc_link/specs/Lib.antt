@@ -3,3 +3,7 @@ pub mod Laws
 pub mod LineMap
 pub mod Placed
 pub mod Writes
+pub mod Linked
+pub mod Free
+pub mod Map
+pub mod MapLaws

@@ -4,8 +4,8 @@ use Rattle.std.specs.List.Sorted.{IsPermutation}
 use Rattle.std.specs.Global.{Vec}
 use Rattle.kc_obj_module.specs.declared.parts.Lines.{Lines}
 use Rattle.kc_obj_module.specs.Object.{Object}
-use Rattle.kc_obj_relocation.specs.Numbers.{Bases}
-use Rattle.kc_link_fill.specs.BaseLists.{BaseLists, bases_in}
+use Rattle.kc_obj_module.specs.Numbers.{Bases}
+use Rattle.kc_link_place.specs.BaseLists.{BaseLists, bases_in}
 use Rattle.kc_link_place.specs.declared.ranges.Ranges.{Ranges}
 use Rattle.kc_link_place.specs.declared.ranges.LinkFault.{LinkFault}
 use Rattle.kc_link_place.specs.Placing.{Places, bases_of, IsCause}

@@ -4,8 +4,8 @@ use Rattle.std.specs.Prelude.{◌≡◌, ℕ, ◌+◌, true, Option, Some, None,
 use Rattle.std.specs.Option.{option_or}
 use Rattle.kc_obj_module.specs.declared.parts.Fixup.{Fixup}
 use Rattle.kc_obj_module.specs.Object.{Object}
-use Rattle.kc_link_fill.specs.BaseLists.{BaseLists, bases_in}
-use Rattle.kc_link_fill.specs.Filled.{unfit_in}
+use Rattle.kc_link_place.specs.BaseLists.{BaseLists, bases_in}
+use Rattle.kc_link_place.specs.Filled.{unfit_in}
 use Rattle.kc_link_place.specs.declared.ranges.Ranges.{Ranges}
 use Rattle.kc_link_place.specs.declared.ranges.LinkFault.{LinkFault}
 use Rattle.kc_link_place.specs.declared.ranges.LinkFault.TheVariants.{Range}

@@ -3,9 +3,9 @@ use Rattle.std.specs.Prelude.{◌≡◌, ℕ, zero, suc, ◌+◌, ◌-◌, ◌<�
 use Rattle.kc_obj_module.specs.declared.parts.Content.{Content}
 use Rattle.kc_obj_module.specs.Object.{Object}
 use Rattle.kc_obj_module.specs.Contents.{content_at}
-use Rattle.kc_obj_relocation.specs.Numbers.{Bases}
-use Rattle.kc_link_fill.specs.BaseLists.{BaseLists, bases_in, or_0}
-use Rattle.kc_link_fill.specs.Filled.{filled_at, unfit_in}
+use Rattle.kc_obj_module.specs.Numbers.{Bases}
+use Rattle.kc_link_place.specs.BaseLists.{BaseLists, bases_in, or_0}
+use Rattle.kc_link_place.specs.Filled.{filled_at, unfit_in}
 
 unfoldable pub written : List ℕ → List (ℕ × ℕ) → List ℕ
 written image [] = image

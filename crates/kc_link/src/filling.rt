@@ -1,10 +1,10 @@
 ghost use Rattle.std.specs.Prelude.{◌≡◌, ◌+◌, ◌-◌, ◌<◌, ◌≤◌, ℕ, List, None, length, slice_index};
-ghost use Rattle.kc_link_fill.specs.BaseLists.{bases_in};
-ghost use Rattle.kc_link_fill.specs.Filled.{unfit_in};
+ghost use Rattle.kc_link_place.specs.BaseLists.{bases_in};
+ghost use Rattle.kc_link_place.specs.Filled.{unfit_in};
 ghost use Rattle.kc_link.specs.Writes.{written, bytes_of, runs_of, all_bytes, RunStands, RunsStand, ModulesStand};
 
 use kc_base::{IMAGE_START, Image};
-use kc_link_fill::{Bases, filled_byte};
+use kc_link_place::{Bases, filled_byte};
 use kc_obj_module::{Content, Module};
 
 // Puts the filled bytes of a run into the image.

@@ -1,14 +1,13 @@
 ghost use Rattle.std.specs.Prelude.{◌≡◌, ◌<◌, ◌≤◌, ◌++◌, IfOk, OnOk, true, length, map};
 ghost use Rattle.std.specs.List.Sorted.{IsPermutation, IsNonDecreasingBy};
-ghost use Rattle.kc_link_fill.specs.BaseLists.{bases_in};
+ghost use Rattle.kc_link_place.specs.BaseLists.{bases_in};
 ghost use Rattle.kc_link_place.specs.Ranges.{are_in_bounds};
 ghost use Rattle.kc_link.specs.Placed.{ArePlacedAt};
 ghost use Rattle.kc_link.specs.LineMap.{line_at, lines_in, lines_by, LinesStand, MaybeLinesStand, AllLinesStand, IsLineMap, IsLines};
 
 use crate::linking::{keep_rules, linked_places};
 use kc_base::{NoMemory, Text};
-use kc_link_fill::Bases;
-use kc_link_place::{LinkFault, Placement, Ranges, code_stands_apart};
+use kc_link_place::{Bases, LinkFault, Placement, Ranges, code_stands_apart};
 use kc_obj_module::{Lines, Module};
 use std::alloc::Global;
 

@@ -9,8 +9,7 @@ ghost use Rattle.kc_link.specs.Filled.{IsFilled, IsImage};
 
 use crate::filling::fill;
 use kc_base::{Image, NoMemory};
-use kc_link_fill::{Bases, first_unfit};
-use kc_link_place::{LinkFault, Placement, Ranges, code_stands_apart, place};
+use kc_link_place::{Bases, LinkFault, Placement, Ranges, code_stands_apart, first_unfit, place};
 use kc_obj_module::Module;
 use std::alloc::Global;
 

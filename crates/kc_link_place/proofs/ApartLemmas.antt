@@ -22,8 +22,8 @@ use Rattle.kc_link_place.specs.Placing.{Places, overlap, put_all, is_at, put_at,
 use Rattle.kc_link_place.specs.Apart.{CodeAt, AllKeepRules, CodeIsApart, CodeStandsApart}
 use Rattle.kc_link_place.proofs.FirstFit.{room_of_least, room-at}
 use Rattle.kc_link_place.proofs.Covers.{free_is}
-use Rattle.kc_link_fill.specs.BaseLists.{or_0}
-use Rattle.kc_link_fill.proofs.Modules.{kept}
+use Rattle.kc_link_place.specs.BaseLists.{or_0}
+use Rattle.kc_link_place.proofs.Modules.{kept}
 
 -- ---- how many pieces have an address
 

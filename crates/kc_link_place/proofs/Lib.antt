@@ -4,3 +4,6 @@ pub mod StackLemmas
 pub mod StepLemmas
 pub mod AnswerLemmas
 pub mod ApartLemmas
+pub mod Modules
+pub mod Room
+pub mod Sorted

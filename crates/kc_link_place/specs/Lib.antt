@@ -5,3 +5,5 @@ pub mod Placements
 pub mod Placing
 pub mod Ranges
 pub mod Stands
+pub mod BaseLists
+pub mod Filled

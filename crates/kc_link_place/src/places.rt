@@ -4,11 +4,11 @@ ghost use Rattle.kc_link_place.specs.Names.{Knows, defining};
 ghost use Rattle.kc_link_place.specs.Placing as placing;
 ghost use Rattle.kc_link_place.specs.Placing.{Places, list_at, base_at, defining_number, name_number, base_lists, bases_from, places_from};
 
+use crate::bases::Bases;
 use crate::names::{DefiningModule, Names};
 use crate::pieces::{Stand, is_kind};
 use crate::rules::is_stack;
 use kc_base::NoMemory;
-use kc_link_fill::Bases;
 use kc_obj_module::{Given, Module, SegKind, Segment, Taken};
 use std::alloc::Global;
 use std::marker::Model;

@@ -13,6 +13,7 @@ ghost use Rattle.kc_link_place.specs.Placing as placing;
 ghost use Rattle.kc_link_place.specs.Placing.{ArePlaced, IsKept, stack_at, with_puts};
 ghost use Rattle.kc_link_place.specs.Placements.{IsLocated};
 
+use crate::bases::Bases;
 use crate::cover::{cover, gaps_between, overlap};
 use crate::gaps::{Gap, find};
 use crate::names::{Names, public_names};
@@ -23,7 +24,6 @@ use crate::ranges::{LinkFault, Ranges};
 use crate::rules::{doubled, unresolved};
 use crate::stack::stack_size;
 use kc_base::Text;
-use kc_link_fill::Bases;
 use kc_obj_module::{Module, SegKind};
 use std::alloc::Global;
 

@@ -10,20 +10,20 @@ use Rattle.kc_asm_symbols.specs.Located.{Located, is_absolute}
 use Rattle.kc_asm_symbols.specs.Meanings.{meaning}
 use Rattle.kc_obj_module.specs.declared.parts.Given.{Given}
 use Rattle.kc_obj_module.specs.Object.{Object}
-use Rattle.kc_obj_relocation.specs.Numbers.{Bases}
-use Rattle.kc_asm_piece.specs.declared.unlinked.UnlinkedModule.{UnlinkedModule}
-use Rattle.kc_asm_piece.specs.Section.{Section}
-use Rattle.kc_asm_module.specs.Order.{kept_of, count_of, number_of, stack_pieces, pieces_of, segment_of}
-use Rattle.kc_asm_module.specs.Publics.{given_of}
-use Rattle.kc_asm_module.specs.ModuleOf.{byte_at, relocated_at, entries_from, kept_in, pieces_in, IsModuleOf}
-use Rattle.kc_asm_module.specs.OneModule.{OneModule}
+use Rattle.kc_obj_module.specs.Numbers.{Bases}
+use Rattle.kc_asm_section.specs.declared.unlinked.UnlinkedModule.{UnlinkedModule}
+use Rattle.kc_asm_section.specs.Section.{Section}
+use Rattle.kc_asm_section.specs.Order.{kept_of, count_of, number_of, stack_pieces, pieces_of, segment_of}
+use Rattle.kc_asm_section.specs.Publics.{given_of}
+use Rattle.kc_asm_section.specs.ModuleOf.{byte_at, relocated_at, entries_from, kept_in, pieces_in, IsModuleOf}
+use Rattle.kc_asm_section.specs.OneModule.{OneModule}
 use Rattle.kc_link_place.specs.declared.ranges.LinkFault.{LinkFault}
 use Rattle.kc_link_place.specs.Placing.{Places, bases_of}
 use Rattle.kc_link.specs.Placed.{placed}
-use Rattle.kc_link_draft_laws.specs.Parts.{part_bases}
+use Rattle.kc_link_unlinked_laws.specs.Parts.{part_bases}
 use Rattle.kc_asm_layout.specs.declared.location.Location.{Location}
 use Rattle.kc_asm_check.specs.Checking.{standing}
-use Rattle.kc_asm_draft_laws.specs.Collecting.{IsUnlinkedModuleOf}
+use Rattle.kc_asm_unlinked_laws.specs.Collecting.{IsUnlinkedModuleOf}
 use Rattle.kc_link_source_laws.specs.Saying.{data_of, code_of}
 use Rattle.kc_link_source_laws.specs.Linked.{address_of, Decodes, Reads, Stands, AreSources, Covers, IsLinked, OneImageOfSources}
 use Rattle.kc_link_source_laws.proofs.OneImage.{one_image}

@@ -16,16 +16,16 @@ use Rattle.kc_expr.specs.declared.values.Value.{Value}
 use Rattle.kc_expr.specs.Tree.{Tree, Number, Chars, Name, Here, One, Two}
 use Rattle.kc_source_statement.specs.Trees.{ItemTree}
 use Rattle.kc_source_statement.specs.Trees as trees
-use Rattle.kc_obj_relocation.specs.Numbers.{Bases, number, first_part, second_part}
+use Rattle.kc_obj_module.specs.Numbers.{Bases, number, first_part, second_part}
 use Rattle.kc_asm_bytes.specs.declared.relocatable_byte.RelocatableByte.TheVariants.{Plain}
 use Rattle.kc_asm_bytes.specs.Filling.{address, fill, filled}
-use Rattle.kc_asm_operation.specs.Values.{or_zero}
-use Rattle.kc_asm_encoding.specs.RelocatableBytes.{byte_of, word_of}
-use Rattle.kc_asm_encoding.specs.Said.{AreSound}
-use Rattle.kc_asm_encoding.specs.Suits.{AllFit}
-use Rattle.kc_asm_encoding.proofs.Fills.{filled-append, filled-plain, filled-bytes, fit-beginning, fit-behind}
-use Rattle.kc_asm_emission.specs.Arguments.{Look, value_of}
-use Rattle.kc_asm_emission.specs.Content.{long_relocatables, item_relocatables, data_relocatables}
+use Rattle.kc_asm_encode.specs.Values.{or_zero}
+use Rattle.kc_asm_encode.specs.RelocatableBytes.{byte_of, word_of}
+use Rattle.kc_asm_encode.specs.Said.{AreSound}
+use Rattle.kc_asm_encode.specs.Suits.{AllFit}
+use Rattle.kc_asm_encode.proofs.Fills.{filled-append, filled-plain, filled-bytes, fit-beginning, fit-behind}
+use Rattle.kc_asm_emit.specs.Arguments.{Look, value_of}
+use Rattle.kc_asm_emit.specs.Content.{long_relocatables, item_relocatables, data_relocatables}
 use Rattle.kc_link_source_laws.specs.Saying.{number_of, word_bytes, long_bytes, item_bytes}
 use Rattle.kc_link_source_laws.specs.Linked.{Decodes, Reads}
 

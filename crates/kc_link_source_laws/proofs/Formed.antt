@@ -16,9 +16,9 @@ use Rattle.kc_source_statement.specs.Operands.{is_nil}
 use Rattle.kc_source_statement.specs.Formed.{is_formed, IsFormed, StatementsAreFormed}
 use Rattle.kc_source.specs.Faults.{Said, said, all_said, stmt_said, AreStatements}
 use Rattle.kc_asm_symbols.specs.Externals.{arg_trees, all_trees}
-use Rattle.kc_asm_operation.specs.Takes.{notation, is_operation}
-use Rattle.kc_asm_encoding.specs.Suits.{IsWord, AreWords, AllWords}
-use Rattle.kc_asm_emission.specs.Arguments.{Look, value_in, value_of, argument, arguments}
+use Rattle.kc_asm_encode.specs.Takes.{notation, is_operation}
+use Rattle.kc_asm_encode.specs.Suits.{IsWord, AreWords, AllWords}
+use Rattle.kc_asm_emit.specs.Arguments.{Look, value_in, value_of, argument, arguments}
 use Rattle.kc_link_source_laws.specs.Characters.{are_bytes}
 use Rattle.kc_link_source_laws.proofs.Words.{IsWordAnswer, answer_word}
 

@@ -17,18 +17,18 @@ use Rattle.kc_expr.specs.declared.values.Value.{Value}
 use Rattle.kc_expr.specs.Tree.{Tree, Number, Chars, Name, Here, One, Two}
 use Rattle.kc_source_statement.specs.Trees.{ItemTree}
 use Rattle.kc_source_statement.specs.Trees as trees
-use Rattle.kc_obj_relocation.specs.Numbers.{Bases}
+use Rattle.kc_obj_module.specs.Numbers.{Bases}
 use Rattle.kc_asm_bytes.specs.declared.relocatable_byte.RelocatableByte.{RelocatableByte}
 use Rattle.kc_asm_bytes.specs.declared.relocatable_byte.RelocatableByte.TheVariants.{Plain}
 use Rattle.kc_asm_bytes.specs.Filling.{address}
-use Rattle.kc_asm_operation.specs.declared.word.Word.{Word}
-use Rattle.kc_asm_operation.specs.declared.word.Word.TheVariants as words
-use Rattle.kc_asm_operation.specs.declared.word.Worded.{Worded}
-use Rattle.kc_asm_encoding.specs.Words.{operand_of, insn_of}
-use Rattle.kc_asm_encoding.specs.RelocatableBytes.{byte_of, word_of, operand_relocatables, opcode_relocatable, laid_relocatables, row_relocatables, worded_relocatables}
-use Rattle.kc_asm_operation.specs.Values.{or_zero}
-use Rattle.kc_asm_emission.specs.Arguments.{Look, value_of}
-use Rattle.kc_asm_emission.specs.Content.{item_relocatables, data_relocatables, long_relocatables}
+use Rattle.kc_asm_encode.specs.declared.word.Word.{Word}
+use Rattle.kc_asm_encode.specs.declared.word.Word.TheVariants as words
+use Rattle.kc_asm_encode.specs.declared.word.Worded.{Worded}
+use Rattle.kc_asm_encode.specs.Words.{operand_of, insn_of}
+use Rattle.kc_asm_encode.specs.RelocatableBytes.{byte_of, word_of, operand_relocatables, opcode_relocatable, laid_relocatables, row_relocatables, worded_relocatables}
+use Rattle.kc_asm_encode.specs.Values.{or_zero}
+use Rattle.kc_asm_emit.specs.Arguments.{Look, value_of}
+use Rattle.kc_asm_emit.specs.Content.{item_relocatables, data_relocatables, long_relocatables}
 use Rattle.kc_link_source_laws.specs.Saying.{number_of, word_bytes, long_bytes, item_bytes}
 
 -- ---- an instruction

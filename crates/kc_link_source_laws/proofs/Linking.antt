@@ -8,26 +8,26 @@ use Rattle.kc_source_statement.specs.Formed.{is_formed, StatementsAreFormed}
 use Rattle.kc_asm_symbols.specs.Located.{Located, first_segment, value_at}
 use Rattle.kc_asm_symbols.specs.Meanings.{meaning}
 use Rattle.kc_obj_module.specs.Object.{Object}
-use Rattle.kc_obj_relocation.specs.Numbers.{Bases}
+use Rattle.kc_obj_module.specs.Numbers.{Bases}
 use Rattle.kc_asm_bytes.specs.declared.relocatable_byte.RelocatableByte.{RelocatableByte}
 use Rattle.kc_asm_bytes.specs.declared.relocatable_byte.RelocatableByte.TheVariants.{Plain}
 use Rattle.kc_asm_bytes.specs.Filling.{fill}
-use Rattle.kc_asm_piece.specs.declared.unlinked.UnlinkedModule.{UnlinkedModule}
-use Rattle.kc_asm_piece.specs.Section.{Section}
-use Rattle.kc_asm_module.specs.UnlinkedModules.{IsUnlinkedModule}
-use Rattle.kc_asm_module.specs.Order.{start_of}
-use Rattle.kc_asm_module.specs.Numbers.{NumbersStand}
+use Rattle.kc_asm_section.specs.declared.unlinked.UnlinkedModule.{UnlinkedModule}
+use Rattle.kc_asm_section.specs.Section.{Section}
+use Rattle.kc_asm_section.specs.UnlinkedModules.{IsUnlinkedModule}
+use Rattle.kc_asm_section.specs.Order.{start_of}
+use Rattle.kc_asm_section.specs.Numbers.{NumbersStand}
 use Rattle.kc_link_place.specs.Placing.{Places, bases_of}
-use Rattle.kc_link_draft_laws.specs.Parts.{start, part_bases}
-use Rattle.kc_link_draft_laws.specs.Linked.{HoldsUnlinkedModule, FitsUnlinkedModule, StandsAbsolute, AreModulesOf, AreSettled, AreLinked, IsCovered, UnlinkedModulesAreLinked, HeldIsRead, NumbersFit, AbsolutePartsStand}
-use Rattle.kc_asm_emission.specs.Content.{Content, content, RelocatableBytes}
-use Rattle.kc_asm_emission.specs.Faults.{faults_of}
+use Rattle.kc_link_unlinked_laws.specs.Parts.{start, part_bases}
+use Rattle.kc_link_unlinked_laws.specs.Linked.{HoldsUnlinkedModule, FitsUnlinkedModule, StandsAbsolute, AreModulesOf, AreSettled, AreLinked, IsCovered, UnlinkedModulesAreLinked, HeldIsRead, NumbersFit, AbsolutePartsStand}
+use Rattle.kc_asm_emit.specs.Content.{Content, content, RelocatableBytes}
+use Rattle.kc_asm_emit.specs.Faults.{faults_of}
 use Rattle.kc_asm_layout.specs.declared.location.Location.{Location}
 use Rattle.kc_asm_check.specs.Codes.{first_regions}
 use Rattle.kc_asm_check.specs.Checking.{location_list, standing, place_at}
 use Rattle.kc_asm_check.specs.Laws.{SoundStatements}
-use Rattle.kc_asm_draft_laws.specs.Sound.{UnlinkedModulesAreUnlinked, UnlinkedModulesAreWhole, UnlinkedModulesAreSettled}
-use Rattle.kc_asm_draft_laws.specs.Stood.{StatementsStand, IsOfStatement, NothingElseStands}
+use Rattle.kc_asm_unlinked_laws.specs.Sound.{UnlinkedModulesAreUnlinked, UnlinkedModulesAreWhole, UnlinkedModulesAreSettled}
+use Rattle.kc_asm_unlinked_laws.specs.Stood.{StatementsStand, IsOfStatement, NothingElseStands}
 use Rattle.kc_link_source_laws.specs.Characters.{all_bytes}
 use Rattle.kc_link_source_laws.specs.Linked.{IsSource, address_of, IsStatement, size_of, Stands, AreSources, Covers, LinkedImage}
 use Rattle.kc_link_source_laws.proofs.Words.{IsWordAnswer}

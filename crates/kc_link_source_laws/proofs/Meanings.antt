@@ -17,8 +17,8 @@ use Rattle.kc_asm_symbols.specs.Located.{Located, segment_after, value_at, locat
 use Rattle.kc_asm_symbols.specs.Externals.{externals, external_in, tag_of_taken, stack_name}
 use Rattle.kc_asm_symbols.specs.Meanings.{or_reported, is_label, label_answer, external_answer, with_here, is_taken_by, defines, by_definition, earlier, is_set, is_definition, in_all, throughout, meaning}
 use Rattle.kc_asm_symbols.proofs.KnownLemmas.{reverse_test}
-pub use Rattle.kc_asm_draft_laws.proofs.Lists.{split_test}
-use Rattle.kc_asm_draft_laws.proofs.Read.{located_test}
+pub use Rattle.kc_asm_unlinked_laws.proofs.Lists.{split_test}
+use Rattle.kc_asm_unlinked_laws.proofs.Read.{located_test}
 use Rattle.kc_link_source_laws.specs.Characters.{are_bytes, all_bytes}
 use Rattle.kc_link_source_laws.proofs.Words.{IsWordAnswer, either, answer_word}
 

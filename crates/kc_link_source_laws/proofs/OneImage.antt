@@ -12,17 +12,17 @@ use Rattle.kc_code.proofs.Beginnings.{in_front}
 use Rattle.kc_source_statement.specs.Trees.{ActionTree, Define, Operation, Bare, Module, Cseg, Dseg, Rseg, Sseg, Public, Extrn, Equ, Set, Reserve, Org, Even, End}
 use Rattle.kc_asm_symbols.specs.Located.{Located}
 use Rattle.kc_asm_symbols.specs.Meanings.{meaning}
-use Rattle.kc_obj_relocation.specs.Numbers.{Bases}
+use Rattle.kc_obj_module.specs.Numbers.{Bases}
 use Rattle.kc_branch.specs.declared.piece.Form.{Form}
-use Rattle.kc_asm_operation.specs.declared.word.Worded.{Worded}
-use Rattle.kc_asm_operation.specs.Instructions.{instructions}
-use Rattle.kc_asm_encoding.specs.Words.{insn_of}
-use Rattle.kc_asm_encoding.specs.RelocatableBytes.{worded_relocatables, all_relocatable_bytes}
-use Rattle.kc_asm_encoding.specs.Said.{said}
+use Rattle.kc_asm_encode.specs.declared.word.Worded.{Worded}
+use Rattle.kc_asm_encode.specs.Instructions.{instructions}
+use Rattle.kc_asm_encode.specs.Words.{insn_of}
+use Rattle.kc_asm_encode.specs.RelocatableBytes.{worded_relocatables, all_relocatable_bytes}
+use Rattle.kc_asm_encode.specs.Said.{said}
 use Rattle.kc_link_place.specs.Placing.{bases_of}
-use Rattle.kc_link_draft_laws.specs.Parts.{part_bases}
-use Rattle.kc_asm_emission.specs.Arguments.{Look, fixed_of, arguments}
-use Rattle.kc_asm_emission.specs.Content.{content, reserved, upto}
+use Rattle.kc_link_unlinked_laws.specs.Parts.{part_bases}
+use Rattle.kc_asm_emit.specs.Arguments.{Look, fixed_of, arguments}
+use Rattle.kc_asm_emit.specs.Content.{content, reserved, upto}
 use Rattle.kc_asm_check.specs.Checking.{standing}
 use Rattle.kc_link_source_laws.specs.Saying.{data_of, code_of}
 use Rattle.kc_link_source_laws.specs.Linked.{address_of, Decodes, Reads, size_of, Covers, OneImage}

@@ -8,18 +8,18 @@ use Rattle.kc_lex.specs.Instructions.{least, first_opcode, operands_of}
 use Rattle.kc_branch.specs.Forms.{places, raised, start_forms, forms}
 use Rattle.kc_expr.specs.Meaning.{answer_by}
 use Rattle.kc_asm_symbols.specs.Located.{located_from}
-use Rattle.kc_obj_relocation.specs.Numbers.{distance, number, fits}
+use Rattle.kc_obj_module.specs.Numbers.{distance, number, fits}
 use Rattle.kc_asm_bytes.specs.Relocating.{depends, misfit}
-use Rattle.kc_asm_operation.specs.Branches.{branch_kind}
-use Rattle.kc_asm_operation.specs.Opcodes.{opcode_of}
-use Rattle.kc_asm_operation.specs.Instructions.{instruction, instructions}
-use Rattle.kc_asm_operation.specs.Faults.{fault_of}
-use Rattle.kc_asm_encoding.specs.Said.{said}
-use Rattle.kc_asm_outline.specs.StatementSizes.{target, size_records_from}
+use Rattle.kc_asm_encode.specs.Branches.{branch_kind}
+use Rattle.kc_asm_encode.specs.Opcodes.{opcode_of}
+use Rattle.kc_asm_encode.specs.Instructions.{instruction, instructions}
+use Rattle.kc_asm_encode.specs.Faults.{fault_of}
+use Rattle.kc_asm_encode.specs.Said.{said}
+use Rattle.kc_asm_layout.specs.StatementSizes.{target, size_records_from}
 use Rattle.kc_asm_layout.specs.Places.{opened, locations_from}
 use Rattle.kc_asm_layout.specs.Text.{text_by, positions_from, count_main, dealt}
 use Rattle.kc_source.specs.Faults as source_faults
-use Rattle.kc_asm_emission.specs.Faults as value_faults
+use Rattle.kc_asm_emit.specs.Faults as value_faults
 use Rattle.kc_asm_check.specs.Codes.{misfits}
 use Rattle.kc_asm_check.specs.Checking.{standing, location_list, faults_from, first_fault}
 use Rattle.kc_link_source_laws.specs.Linked.{Decodes}

@@ -9,9 +9,9 @@ use Rattle.kc_asm_symbols.specs.Located.{Located, first_segment, segment_after, 
 use Rattle.kc_expr.specs.declared.values.Value.{Value}
 use Rattle.kc_branch.specs.declared.piece.Form.{Form}
 use Rattle.kc_branch.specs.Forms.{head_form, forms}
-use Rattle.kc_asm_outline.specs.declared.size_record.SizeRecord.{SizeRecord}
-use Rattle.kc_asm_outline.specs.StatementSizes.{statement_sizes}
-use Rattle.kc_asm_outline.specs.Laws.{SizesHaveLengths}
+use Rattle.kc_asm_layout.specs.declared.size_record.SizeRecord.{SizeRecord}
+use Rattle.kc_asm_layout.specs.StatementSizes.{statement_sizes}
+use Rattle.kc_asm_layout.specs.SizesLaws.{SizesHaveLengths}
 use Rattle.kc_asm_layout.specs.Places.{Ends, addresses, no_bytes, ends_after, locations_from}
 use Rattle.kc_asm_layout.specs.Text.{text, statement_forms}
 use Rattle.kc_asm_check.specs.Checking.{location_list, standing, place_at}

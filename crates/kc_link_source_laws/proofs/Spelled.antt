@@ -2,21 +2,21 @@
 use Rattle.std.proofs.Common.{◌≡◌, ℕ, ◌+◌, true, List, [], ◌∷◌, ◌++◌, length, refl, ap, ◌∙◌, None}
 use Rattle.kc_expr.specs.declared.values.Value.{Value}
 use Rattle.kc_code.specs.Spelling.{spelling}
-use Rattle.kc_obj_relocation.specs.Numbers.{Bases}
+use Rattle.kc_obj_module.specs.Numbers.{Bases}
 use Rattle.kc_asm_bytes.specs.Filling.{filled}
-use Rattle.kc_asm_operation.specs.declared.argument.Argument.{Argument}
+use Rattle.kc_asm_encode.specs.declared.argument.Argument.{Argument}
 use Rattle.kc_branch.specs.declared.piece.Form.{Form}
-use Rattle.kc_asm_operation.specs.declared.word.Worded.{Worded}
-use Rattle.kc_asm_operation.specs.Takes.{is_operation}
-use Rattle.kc_asm_operation.specs.Branches.{Line, in_full}
-use Rattle.kc_asm_operation.specs.Instructions.{instructions}
-use Rattle.kc_asm_operation.specs.Faults.{fault_of}
-use Rattle.kc_asm_encoding.specs.Laws.{FilledIsSpelled, SettledIsSound, OperationsAreInstructions, PointersAreEven, NumbersAreWords}
-use Rattle.kc_asm_encoding.specs.Words.{insn_of}
-use Rattle.kc_asm_encoding.specs.RelocatableBytes.{worded_relocatables, all_relocatable_bytes}
-use Rattle.kc_asm_encoding.specs.Suits.{IsInstruction, AreInstructions, AllFit, AllWords, IsEven, HasWords, IsSettled, EachOf}
-use Rattle.kc_asm_encoding.specs.Said.{said, IsSaid}
-use Rattle.kc_asm_encoding.proofs.Fills.{filled-append, fit-beginning, fit-behind}
+use Rattle.kc_asm_encode.specs.declared.word.Worded.{Worded}
+use Rattle.kc_asm_encode.specs.Takes.{is_operation}
+use Rattle.kc_asm_encode.specs.Branches.{Line, in_full}
+use Rattle.kc_asm_encode.specs.Instructions.{instructions}
+use Rattle.kc_asm_encode.specs.Faults.{fault_of}
+use Rattle.kc_asm_encode.specs.Laws.{FilledIsSpelled, SettledIsSound, OperationsAreInstructions, PointersAreEven, NumbersAreWords}
+use Rattle.kc_asm_encode.specs.Words.{insn_of}
+use Rattle.kc_asm_encode.specs.RelocatableBytes.{worded_relocatables, all_relocatable_bytes}
+use Rattle.kc_asm_encode.specs.Suits.{IsInstruction, AreInstructions, AllFit, AllWords, IsEven, HasWords, IsSettled, EachOf}
+use Rattle.kc_asm_encode.specs.Said.{said, IsSaid}
+use Rattle.kc_asm_encode.proofs.Fills.{filled-append, fit-beginning, fit-behind}
 use Rattle.kc_link_source_laws.proofs.Evens.{AllEven, bases_at, all_even}
 
 module _ (fills : FilledIsSpelled) (sounds : SettledIsSound) where

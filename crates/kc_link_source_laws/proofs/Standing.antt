@@ -11,22 +11,22 @@ use Rattle.kc_expr.specs.declared.values.Base.TheVariants.{Fixed, Absolute, Piec
 use Rattle.kc_expr.specs.declared.values.Value.{Value}
 use Rattle.kc_obj_module.specs.declared.parts.Segment.{Segment as ObjectSegment}
 use Rattle.kc_obj_module.specs.Object.{Object}
-use Rattle.kc_obj_relocation.specs.Numbers.{Bases}
+use Rattle.kc_obj_module.specs.Numbers.{Bases}
 use Rattle.kc_asm_bytes.specs.declared.relocatable_byte.RelocatableByte.{RelocatableByte}
 use Rattle.kc_asm_bytes.specs.declared.relocatable_byte.RelocatableByte.TheVariants.{Plain, First, Second}
 use Rattle.kc_asm_bytes.specs.Relocating.{depends, relocated}
-use Rattle.kc_asm_encoding.specs.Suits.{FitsAt, AllFit}
-use Rattle.kc_asm_piece.specs.declared.part.PlacedByte.{PlacedByte}
-use Rattle.kc_asm_piece.specs.declared.unlinked.UnlinkedModule.{UnlinkedModule}
-use Rattle.kc_asm_piece.specs.Section.{Section, placed_byte_at, relocatable_byte_at}
-use Rattle.kc_asm_module.specs.UnlinkedModules.{IsUnlinkedModule, AreRelocatableBytes, is_relocatable_byte, base_exists}
-use Rattle.kc_asm_module.specs.Order.{relocation, aims_at, is_named, number_of, segment_of}
-use Rattle.kc_asm_module.specs.ModuleOf.{IsModuleOf, kept_in, pieces_in}
-use Rattle.kc_asm_module.specs.Numbers.{NumbersStand}
+use Rattle.kc_asm_encode.specs.Suits.{FitsAt, AllFit}
+use Rattle.kc_asm_section.specs.declared.part.PlacedByte.{PlacedByte}
+use Rattle.kc_asm_section.specs.declared.unlinked.UnlinkedModule.{UnlinkedModule}
+use Rattle.kc_asm_section.specs.Section.{Section, placed_byte_at, relocatable_byte_at}
+use Rattle.kc_asm_section.specs.UnlinkedModules.{IsUnlinkedModule, AreRelocatableBytes, is_relocatable_byte, base_exists}
+use Rattle.kc_asm_section.specs.Order.{relocation, aims_at, is_named, number_of, segment_of}
+use Rattle.kc_asm_section.specs.ModuleOf.{IsModuleOf, kept_in, pieces_in}
+use Rattle.kc_asm_section.specs.Numbers.{NumbersStand}
 use Rattle.kc_link_place.specs.Placing.{Places, base_lists, bases_of, base_at}
-use Rattle.kc_link_draft_laws.specs.Parts.{StandsIn, start, part_bases}
-use Rattle.kc_link_draft_laws.specs.Linked.{FitsUnlinkedModule}
-use Rattle.kc_link_draft_laws.proofs.PlacedBytes.{three_parts, part_of, own_or_absolute}
+use Rattle.kc_link_unlinked_laws.specs.Parts.{StandsIn, start, part_bases}
+use Rattle.kc_link_unlinked_laws.specs.Linked.{FitsUnlinkedModule}
+use Rattle.kc_link_unlinked_laws.proofs.PlacedBytes.{three_parts, part_of, own_or_absolute}
 use Rattle.kc_link_source_laws.proofs.Evens.{HasEvenBase, IsEvenAt, AllEven}
 
 -- ---- which pieces numbers of one byte count from

@@ -11,31 +11,31 @@ use Rattle.kc_source_statement.specs.Formed.{is_formed}
 use Rattle.kc_asm_symbols.specs.declared.segments.Segment.{Segment}
 use Rattle.kc_asm_symbols.specs.Located.{Located}
 use Rattle.kc_asm_symbols.specs.Meanings.{meaning, in_all}
-use Rattle.kc_obj_relocation.specs.Numbers.{Bases}
+use Rattle.kc_obj_module.specs.Numbers.{Bases}
 use Rattle.kc_asm_bytes.specs.declared.relocatable_byte.RelocatableByte.{RelocatableByte}
 use Rattle.kc_asm_bytes.specs.Filling.{filled}
 use Rattle.kc_branch.specs.declared.piece.Form.{Form}
-use Rattle.kc_asm_operation.specs.Instructions.{instructions}
-use Rattle.kc_asm_operation.specs.Faults.{fault_of}
-use Rattle.kc_asm_encoding.specs.Laws.{FilledIsSpelled, SettledIsSound, OperationsAreInstructions, PointersAreEven, NumbersAreWords}
-use Rattle.kc_asm_encoding.specs.RelocatableBytes.{all_relocatable_bytes}
-use Rattle.kc_asm_encoding.specs.Said.{said, IsSaid}
-use Rattle.kc_asm_encoding.specs.Suits.{AllFit}
-use Rattle.kc_asm_piece.specs.declared.unlinked.UnlinkedModule.{UnlinkedModule}
-use Rattle.kc_asm_piece.specs.Section.{Section, relocatable_byte_at}
-use Rattle.kc_asm_module.specs.UnlinkedModules.{IsUnlinkedModule}
-use Rattle.kc_asm_module.specs.Order.{start_of}
-use Rattle.kc_link_draft_laws.specs.Parts.{start, part_bases}
-use Rattle.kc_link_draft_laws.specs.Linked.{HoldsUnlinkedModule, StandsAbsolute, HeldIsRead}
-use Rattle.kc_link_draft_laws.proofs.PlacedBytes.{own_or_absolute}
-use Rattle.kc_asm_emission.specs.Arguments.{Look, arguments}
-use Rattle.kc_asm_emission.specs.Content.{Content, Nothing, RelocatableBytes, Reserved, Upto, Even as Content_Even, content, data_relocatables}
-use Rattle.kc_asm_emission.specs.Faults.{faults_of, operand_faults}
+use Rattle.kc_asm_encode.specs.Instructions.{instructions}
+use Rattle.kc_asm_encode.specs.Faults.{fault_of}
+use Rattle.kc_asm_encode.specs.Laws.{FilledIsSpelled, SettledIsSound, OperationsAreInstructions, PointersAreEven, NumbersAreWords}
+use Rattle.kc_asm_encode.specs.RelocatableBytes.{all_relocatable_bytes}
+use Rattle.kc_asm_encode.specs.Said.{said, IsSaid}
+use Rattle.kc_asm_encode.specs.Suits.{AllFit}
+use Rattle.kc_asm_section.specs.declared.unlinked.UnlinkedModule.{UnlinkedModule}
+use Rattle.kc_asm_section.specs.Section.{Section, relocatable_byte_at}
+use Rattle.kc_asm_section.specs.UnlinkedModules.{IsUnlinkedModule}
+use Rattle.kc_asm_section.specs.Order.{start_of}
+use Rattle.kc_link_unlinked_laws.specs.Parts.{start, part_bases}
+use Rattle.kc_link_unlinked_laws.specs.Linked.{HoldsUnlinkedModule, StandsAbsolute, HeldIsRead}
+use Rattle.kc_link_unlinked_laws.proofs.PlacedBytes.{own_or_absolute}
+use Rattle.kc_asm_emit.specs.Arguments.{Look, arguments}
+use Rattle.kc_asm_emit.specs.Content.{Content, Nothing, RelocatableBytes, Reserved, Upto, Even as Content_Even, content, data_relocatables}
+use Rattle.kc_asm_emit.specs.Faults.{faults_of, operand_faults}
 use Rattle.kc_asm_layout.specs.declared.location.Location.{Location}
 use Rattle.kc_asm_check.specs.Codes.{Regions, regions_after, stack_after}
 use Rattle.kc_asm_check.specs.Checking.{own_codes, codes_of}
 use Rattle.kc_asm_check.specs.Laws.{AreSound}
-use Rattle.kc_asm_draft_laws.specs.Stood.{StandAt}
+use Rattle.kc_asm_unlinked_laws.specs.Stood.{StandAt}
 use Rattle.kc_link_source_laws.specs.Characters.{all_bytes}
 use Rattle.kc_link_source_laws.specs.Saying.{item_bytes, data_of, code_of}
 use Rattle.kc_link_source_laws.specs.Linked.{address_of, Decodes, Reads, size_of}

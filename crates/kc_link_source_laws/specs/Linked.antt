@@ -15,18 +15,18 @@ use Rattle.kc_asm_symbols.specs.Located.{Located, is_absolute}
 use Rattle.kc_asm_symbols.specs.Meanings.{meaning}
 use Rattle.kc_asm_symbols.specs.Reported.{AreReadWell}
 use Rattle.kc_obj_module.specs.Object.{Object}
-use Rattle.kc_obj_relocation.specs.Numbers.{Bases}
-use Rattle.kc_asm_piece.specs.declared.unlinked.UnlinkedModule.{UnlinkedModule}
-use Rattle.kc_asm_module.specs.ModuleOf.{IsModuleOf, pieces_in}
+use Rattle.kc_obj_module.specs.Numbers.{Bases}
+use Rattle.kc_asm_section.specs.declared.unlinked.UnlinkedModule.{UnlinkedModule}
+use Rattle.kc_asm_section.specs.ModuleOf.{IsModuleOf, pieces_in}
 use Rattle.kc_link_place.specs.declared.ranges.Ranges.{Ranges}
 use Rattle.kc_link_place.specs.Placing.{Places, bases_of}
 use Rattle.kc_link.specs.Placed.{placed}
 use Rattle.kc_link.specs.Filled.{IsFilled}
-use Rattle.kc_link_draft_laws.specs.Parts.{start, part_bases}
-use Rattle.kc_asm_emission.specs.Content.{Content, Nothing, RelocatableBytes, Reserved, Upto, Even, content}
+use Rattle.kc_link_unlinked_laws.specs.Parts.{start, part_bases}
+use Rattle.kc_asm_emit.specs.Content.{Content, Nothing, RelocatableBytes, Reserved, Upto, Even, content}
 use Rattle.kc_asm_layout.specs.declared.location.Location.{Location}
 use Rattle.kc_asm_check.specs.Checking.{first_fault, location_list, standing}
-use Rattle.kc_asm_draft_laws.specs.Collecting.{IsUnlinkedModuleOf}
+use Rattle.kc_asm_unlinked_laws.specs.Collecting.{IsUnlinkedModuleOf}
 use Rattle.kc_link_source_laws.specs.Saying.{data_of, code_of}
 use Rattle.kc_link_source_laws.specs.Characters.{has_bytes}
 

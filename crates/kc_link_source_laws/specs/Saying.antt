@@ -8,13 +8,13 @@ use Rattle.kc_expr.specs.Tree.{Tree, Number}
 use Rattle.kc_source_statement.specs.Trees.{ItemTree, ActionTree, Define, Operation}
 use Rattle.kc_source_statement.specs.Trees as trees
 use Rattle.kc_asm_symbols.specs.Located.{Located}
-use Rattle.kc_obj_relocation.specs.Numbers.{Bases}
+use Rattle.kc_obj_module.specs.Numbers.{Bases}
 use Rattle.kc_asm_bytes.specs.Filling.{address}
 use Rattle.kc_branch.specs.declared.piece.Form.{Form}
-use Rattle.kc_asm_operation.specs.Values.{or_zero}
-use Rattle.kc_asm_operation.specs.Instructions.{instructions}
-use Rattle.kc_asm_encoding.specs.Said.{said}
-use Rattle.kc_asm_emission.specs.Arguments.{Look, value_of, arguments}
+use Rattle.kc_asm_encode.specs.Values.{or_zero}
+use Rattle.kc_asm_encode.specs.Instructions.{instructions}
+use Rattle.kc_asm_encode.specs.Said.{said}
+use Rattle.kc_asm_emit.specs.Arguments.{Look, value_of, arguments}
 
 -- the number of a value, once the bases are known
 abbrev pub number_of : Bases → Look → Tree → ℕ

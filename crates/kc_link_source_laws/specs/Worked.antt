@@ -9,11 +9,11 @@ use Rattle.kc_source_statement.specs.declared.statement.Action.TheVariants.{Cseg
 use Rattle.kc_source_statement.specs.declared.statement.Stmt.{Stmt}
 use Rattle.kc_asm_symbols.specs.Located.{Located, first_segment, value_at, located_at}
 use Rattle.kc_asm_symbols.specs.Meanings.{meaning}
-use Rattle.kc_obj_relocation.specs.Numbers.{Bases}
+use Rattle.kc_obj_module.specs.Numbers.{Bases}
 use Rattle.kc_branch.specs.declared.piece.Form.TheVariants.{First}
-use Rattle.kc_asm_piece.specs.declared.unlinked.UnlinkedModule.{UnlinkedModule}
-use Rattle.kc_link_draft_laws.specs.Parts.{start, part_bases}
-use Rattle.kc_asm_outline.specs.declared.size_record.Body.TheVariants.{Bytes}
+use Rattle.kc_asm_section.specs.declared.unlinked.UnlinkedModule.{UnlinkedModule}
+use Rattle.kc_link_unlinked_laws.specs.Parts.{start, part_bases}
+use Rattle.kc_asm_layout.specs.declared.size_record.Body.TheVariants.{Bytes}
 use Rattle.kc_asm_layout.specs.declared.location.Location.{Location}
 use Rattle.kc_asm_check.specs.Checking.{first_fault}
 use Rattle.kc_link_source_laws.specs.Saying.{code_of}

@@ -1,22 +1,24 @@
-//! The image that is linked from the modules of sources decodes to their statements: laws of definitions, without code.
+//! Laws of definitions, without code: the image that is linked from the modules of sources decodes to their statements, each
+//! operation at its place, and no other image does. They stand on `kc_asm_unlinked_laws` and `kc_link`. Example: where a
+//! source has `ADD 1CH,1AH` at 2080H, the image decodes there to that instruction.
 #![tactic(auto)]
 
 ghost use Rattle.kc_link_source_laws.specs.Linked.{LinkedImage, OneImage, OneImageOfSources, StatementsHaveLocations};
 ghost use Rattle.kc_link_source_laws.specs.Worked.{WorkedSource};
 
 use kc_asm_check::no_fault_no_codes;
-use kc_asm_draft_laws::{
-    nothing_else_stands, statements_stand, unlinked_modules_are_settled,
-    unlinked_modules_are_unlinked, unlinked_modules_are_whole,
-};
-use kc_asm_encoding::laws::{
+use kc_asm_encode::laws::{
     filled_is_spelled, numbers_are_words, operations_are_instructions, pointers_are_even,
     settled_is_sound,
 };
-use kc_asm_module::{numbers_stand, one_module};
-use kc_asm_outline::sizes_have_lengths;
+use kc_asm_layout::sizes_have_lengths;
+use kc_asm_section::{numbers_stand, one_module};
+use kc_asm_unlinked_laws::{
+    nothing_else_stands, statements_stand, unlinked_modules_are_settled,
+    unlinked_modules_are_unlinked, unlinked_modules_are_whole,
+};
 use kc_code::{one_spelling, spelled_is_decoded};
-use kc_link_draft_laws::{
+use kc_link_unlinked_laws::{
     absolute_parts_stand, held_is_read, numbers_fit, unlinked_modules_are_linked,
 };
 use kc_source_statement::statements_are_formed;

@@ -11,7 +11,7 @@ use Rattle.kc_exec_spec.specs.declared.cpu.After.{After}
 use Rattle.kc_exec_spec.specs.Effects.{Performs}
 use Rattle.kc_exec_spec.specs.declared.cpu.After.TheVariants.{Next, Held}
 use Rattle.kc_exec_spec.specs.Entering.{Loads}
-use Rattle.kc_exec_ready.specs.Predecoding.{GoesOn}
+use Rattle.kc_exec_predecode.specs.Predecoding.{GoesOn}
 use Rattle.kc_exec_spec.specs.Accesses.{AtMost}
 use Rattle.kc_exec_spec.proofs.Counting.{AtMost-more}
 use Rattle.kc_pts.specs.declared.cycle.Cycle.{Cycle}

@@ -15,12 +15,12 @@ use Rattle.kc_code.specs.Reading.{decode_of}
 use Rattle.kc_exec_spec.specs.Memory.{is_rom}
 use Rattle.kc_exec_spec.specs.Places.{place_of, ◌>>=◌}
 use Rattle.kc_exec_spec.specs.Plans.{plan_of}
-use Rattle.kc_exec_ready.specs.declared.predecoded.Predecoded.{Predecoded}
+use Rattle.kc_exec_predecode.specs.declared.predecoded.Predecoded.{Predecoded}
 use Rattle.kc_intc.specs.declared.requests.Choice.TheVariants.{Go}
 use Rattle.kc_intc.specs.declared.requests.Requests.{Requests}
 use Rattle.kc_intc.specs.Choosing.{choice_of}
 use Rattle.kc_intc.proofs.Greatest.{nothing_masked_in}
-use Rattle.kc_exec_ready.specs.Predecoding.{is_free, is_blank, time_at, IsPredecoded}
+use Rattle.kc_exec_predecode.specs.Predecoding.{is_free, is_blank, time_at, IsPredecoded}
 use Rattle.kc_machine_spec.specs.declared.doing.Activity.TheVariants.{Executes}
 use Rattle.kc_exec_spec.specs.declared.cpu.Cpu.{Cpu}
 use Rattle.kc_exec_spec.specs.declared.cpu.After.TheVariants.{Next, Held}

@@ -1,6 +1,6 @@
 -- The whole of a board that is run (this kit's own).
 use Rattle.std.specs.Prelude.{ℕ}
-use Rattle.kc_block_lazy.specs.Scheduler.{Scheduler}
+use Rattle.kc_block_units.specs.Scheduler.{Scheduler}
 use Rattle.kc_machine_spec.specs.Machine.{Machine}
 
 -- a machine; beside it the units as its block holds them, each at a state of its own, and how often they were moved, together

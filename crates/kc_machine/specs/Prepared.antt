@@ -5,8 +5,8 @@ use Rattle.kc_isa.specs.declared.insn.Insn.{Insn}
 use Rattle.kc_code.specs.declared.reader.Decoded.{Decoded}
 use Rattle.kc_code.specs.declared.reader.Decoded.TheVariants.{Insn as Whole}
 use Rattle.kc_code.specs.Reading.{decode_of}
-use Rattle.kc_exec_ready.specs.declared.predecoded.Predecoded.{Predecoded}
-use Rattle.kc_exec_ready.specs.Predecoding.{is_blank, IsPredecoded}
+use Rattle.kc_exec_predecode.specs.declared.predecoded.Predecoded.{Predecoded}
+use Rattle.kc_exec_predecode.specs.Predecoding.{is_blank, IsPredecoded}
 use Rattle.kc_machine_spec.specs.declared.doing.Activity.TheVariants.{Executes}
 use Rattle.kc_machine_spec.specs.declared.doing.UnderWay.{UnderWay}
 use Rattle.kc_machine_spec.specs.Machine.{Machine, fetched, asked}

@@ -12,7 +12,7 @@ ghost use Rattle.kc_machine_spec.specs.Scene.{opened, byte, put, window_at, scen
 ghost use Rattle.kc_machine_spec.specs.Machine.{taken, claimed, handed};
 ghost use Rattle.kc_exec_spec.specs.Memory.{is_rom};
 ghost use Rattle.kc_machine.specs.Keeping.{fitting, counted};
-ghost use Rattle.kc_exec_ready.specs.Predecoding.{is_blank};
+ghost use Rattle.kc_exec_predecode.specs.Predecoding.{is_blank};
 ghost use Rattle.kc_machine.specs.Prepared.{HasSlot, IsRead, IsSlot, IsTable};
 
 use crate::choosing::fetch;
@@ -23,7 +23,7 @@ use kc_block::Block;
 use kc_block_spec::Window;
 use kc_bus::{Masks, Master};
 use kc_code::{Decoded, decode};
-use kc_exec_ready::{Predecoded, predecode};
+use kc_exec_predecode::{Predecoded, predecode};
 use kc_extra::Extra;
 use std::alloc::Global;
 use std::sync::ledger::Ledger;

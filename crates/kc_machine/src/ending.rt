@@ -4,7 +4,7 @@ ghost use Rattle.kc_isa.specs.Formed.{is_formed};
 ghost use Rattle.kc_exec_spec.specs.BlockMoves.{IsOfMove};
 ghost use Rattle.kc_exec_spec.specs.Jumping.{next_pc};
 ghost use Rattle.kc_exec_spec.specs.Plans.{plan_of};
-ghost use Rattle.kc_exec_ready.specs.Predecoding.{is_free, IsPredecoded};
+ghost use Rattle.kc_exec_predecode.specs.Predecoding.{is_free, IsPredecoded};
 ghost use Rattle.kc_trace.specs.Printable.{CanPrint};
 ghost use Rattle.kc_machine_spec.specs.declared.doing.Activity.TheVariants.{Executes, MovesWord, Traps, Enters, SetsUp, Transfers, Idles};
 ghost use Rattle.kc_machine_spec.specs.Board.{pins};
@@ -20,7 +20,7 @@ use crate::over::{
 };
 use crate::parts::Core;
 use kc_base::{Kind, StateTime, Steps, Undefined};
-use kc_exec_ready::Predecoded;
+use kc_exec_predecode::Predecoded;
 use kc_exec_spec::{After, Words};
 use kc_extra::Extra;
 use kc_isa::{Insn, Mnemonic, length, mnemonic_of};

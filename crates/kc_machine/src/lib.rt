@@ -1,5 +1,5 @@
 //! The machine: an image that is run in state times, with the units of its board, and the lines of its trace.
-//! It stands on the processor, on the block of units and on the transfer server (`kc_exec`, `kc_exec_ready`, `kc_block`,
+//! It stands on the processor, on the block of units and on the transfer server (`kc_exec`, `kc_exec_predecode`, `kc_block`,
 //! `kc_pts`), and computes what `kc_machine_spec` defines.
 //! An image with the bytes `F601` at 2080H, which idle, is run to state 1000000000000000 at once: `X 1000000000000000 spent` and
 //! `PC 2082`.

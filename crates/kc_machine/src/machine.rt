@@ -4,7 +4,7 @@ ghost use Rattle.kc_trace.specs.Out.{Puts};
 ghost use Rattle.kc_trace.specs.Text.{line_of, text_of};
 ghost use Rattle.kc_exec_spec.specs.Memory.{IsMemory, is_hole};
 ghost use Rattle.kc_block_spec.specs.Levels.{stimulated_before};
-ghost use Rattle.kc_block_lazy.specs.Scheduler.{further_goes};
+ghost use Rattle.kc_block_units.specs.Scheduler.{further_goes};
 ghost use Rattle.kc_block.specs.Lent.{IsLent};
 ghost use Rattle.kc_intc.specs.declared.requests.Choice.TheVariants.{Go};
 ghost use Rattle.kc_machine_spec.specs.Machine.{start, memory_of, asked, current};

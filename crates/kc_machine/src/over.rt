@@ -7,7 +7,7 @@ ghost use Rattle.kc_exec_spec.specs.BlockMoves.{moved_word, IsUnderWay, IsOfMove
 ghost use Rattle.kc_exec_spec.specs.Entering.{entry, opcode_trap, Loads};
 ghost use Rattle.kc_exec_spec.specs.Places.{place_of};
 ghost use Rattle.kc_exec_spec.specs.Plans.{plan_of};
-ghost use Rattle.kc_exec_ready.specs.Predecoding.{is_free, is_simple, time_at, IsPredecoded, GoesOn};
+ghost use Rattle.kc_exec_predecode.specs.Predecoding.{is_free, is_simple, time_at, IsPredecoded, GoesOn};
 ghost use Rattle.kc_pts.specs.Cycles.{set_up, served, Serves};
 ghost use Rattle.kc_machine_spec.specs.Board.{masks_of};
 ghost use Rattle.kc_machine_spec.specs.Scene.{byte};
@@ -19,7 +19,7 @@ use crate::common::Common;
 use crate::lent::{Began, Lent};
 use kc_base::{Kind, Steps};
 use kc_exec::{enter, move_word, perform, place, trap_opcode};
-use kc_exec_ready::{Predecoded, is_known, known_time_of, perform_predecoded, time_of};
+use kc_exec_predecode::{Predecoded, is_known, known_time_of, perform_predecoded, time_of};
 use kc_exec_spec::{After, Cpu, Words};
 use kc_extra::Extra;
 use kc_isa::{Insn, Place};

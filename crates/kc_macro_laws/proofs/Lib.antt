@@ -12,3 +12,9 @@ pub mod Course
 pub mod PlainBodies
 pub mod Exits
 pub mod Names
+pub mod Tests
+pub mod Reading
+pub mod NameFilling
+pub mod Expanding
+pub mod Ends
+pub mod MadeNames

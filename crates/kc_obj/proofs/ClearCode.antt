@@ -9,7 +9,7 @@ use Rattle.kc_obj_module.specs.declared.parts.Content.{Content}
 use Rattle.kc_obj_module.specs.declared.parts.Fixup.{Fixup}
 use Rattle.kc_obj_module.specs.Pieces.{has_code}
 use Rattle.kc_obj_module.specs.Contents.{content_is_sound, content_follows, content_at}
-use Rattle.kc_obj_relocation.specs.Numbers.{width}
+use Rattle.kc_obj_module.specs.Numbers.{width}
 use Rattle.kc_obj_module.specs.Fixups.{target_exists, fixup_is_sound, fixup_follows, fills, may_begin, is_zero, has_room}
 use Rattle.kc_obj_module.specs.Spelling.{content_body, target_bytes, fixup_body}
 use Rattle.kc_obj_fields.specs.declared.faults.Fault.{Fault}

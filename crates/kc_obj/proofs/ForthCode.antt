@@ -13,7 +13,7 @@ use Rattle.kc_obj_module.specs.declared.parts.Target.{Target}
 use Rattle.kc_obj_module.specs.declared.parts.Target.TheVariants as targets
 use Rattle.kc_obj_module.specs.Pieces.{has_code}
 use Rattle.kc_obj_module.specs.Contents.{content_at}
-use Rattle.kc_obj_relocation.specs.Numbers.{width}
+use Rattle.kc_obj_module.specs.Numbers.{width}
 use Rattle.kc_obj_module.specs.Fixups.{target_exists, fixup_is_sound, fixup_follows, fixups_in_order, fills, may_begin, is_zero, has_room}
 use Rattle.kc_obj_module.specs.LineEntries.{line_is_sound, line_follows, lines_in_order}
 use Rattle.kc_obj_module.specs.Spelling.{word_bytes, target_bytes, fixup_body, entry_bytes}

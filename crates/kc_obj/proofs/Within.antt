@@ -10,7 +10,7 @@ use Rattle.kc_obj_module.specs.declared.parts.Fixup.{Fixup}
 use Rattle.kc_obj_module.specs.declared.parts.Lines.{Lines}
 use Rattle.kc_obj_module.specs.Contents.{covers, content_end}
 use Rattle.kc_obj_module.specs.Fixups.{may_begin, is_zero}
-use Rattle.kc_obj_relocation.specs.Numbers.{width}
+use Rattle.kc_obj_module.specs.Numbers.{width}
 use Rattle.kc_obj_fields.specs.declared.faults.Fault.{Fault}
 use Rattle.kc_obj_fields.specs.Fields.{listed, word_at, last_of}
 use Rattle.kc_obj_fields.specs.Records.{head_faults, segment_faults, taken_faults, given_faults, run_faults, run_at, target_faults, fixup_place_faults, byte_of_file, place_of, place_or_zero, byte_faults, stands_free, free_faults, under_faults, fixup_at, entry_faults, block_faults}

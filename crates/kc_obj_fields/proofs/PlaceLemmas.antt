@@ -9,7 +9,7 @@ use Rattle.std.proofs.lemmas.Bool.Decides.{nat_tests}
 use Rattle.kc_obj_module.specs.declared.parts.Content.{Content}
 use Rattle.kc_obj_module.specs.declared.parts.Fixup.{Fixup}
 use Rattle.kc_obj_module.specs.Contents.{covers}
-use Rattle.kc_obj_relocation.specs.Numbers.{width}
+use Rattle.kc_obj_module.specs.Numbers.{width}
 use Rattle.kc_obj_module.specs.Fixups.{fills}
 use Rattle.kc_obj_fields.specs.Records.{place_of, is_under}
 use Rattle.kc_obj_fields.specs.Places.{same_place, or_else, place_in_run, PutsRun, IsTable, Covers, CoversNumber, HasCovered}

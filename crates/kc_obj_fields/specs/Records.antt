@@ -16,7 +16,7 @@ use Rattle.kc_obj_module.specs.declared.parts.Target.TheVariants as targets
 use Rattle.kc_obj_module.specs.Names.{is_below}
 use Rattle.kc_obj_module.specs.Pieces.{kind_number, in_region, is_relocatable, has_code}
 use Rattle.kc_obj_module.specs.Contents.{leaves_place, covers}
-use Rattle.kc_obj_relocation.specs.Numbers.{width}
+use Rattle.kc_obj_module.specs.Numbers.{width}
 use Rattle.kc_obj_module.specs.Fixups.{fills, may_begin, is_zero}
 use Rattle.kc_obj_module.specs.LineEntries.{line_follows}
 use Rattle.kc_obj_fields.specs.Codes.{out_of_range, other_spelling, no_name}

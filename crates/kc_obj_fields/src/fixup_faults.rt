@@ -10,8 +10,7 @@ use crate::numbers::Numbers;
 use crate::runs::Runs;
 use kc_obj_module::fixups::{begins_free, zero};
 use kc_obj_module::pieces::is_code;
-use kc_obj_module::{Fixup, Lines, Segment, line_entries};
-use kc_obj_relocation::width;
+use kc_obj_module::{Fixup, Lines, Segment, line_entries, width};
 
 fn index_is_bad(pieces: usize, externals: usize, code: u8, index: u16) -> bool
     ensures { result ≡ bad_index pieces externals code index }

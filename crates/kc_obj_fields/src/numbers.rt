@@ -5,8 +5,7 @@ ghost use Rattle.kc_obj_fields.specs.Records.{is_under};
 ghost use Rattle.kc_obj_fields.specs.Places.{Covers, CoversNumber};
 
 use kc_base::NoMemory;
-use kc_obj_module::Fixup;
-use kc_obj_relocation::width;
+use kc_obj_module::{Fixup, width};
 use std::alloc::Global;
 use std::collections::HashSet;
 use std::marker::Model;

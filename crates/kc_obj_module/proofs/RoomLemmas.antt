@@ -6,7 +6,7 @@ use Rattle.std.proofs.lemmas.Bool.Decides.{nat_tests}
 use Rattle.kc_obj_module.specs.declared.parts.Content.{Content}
 use Rattle.kc_obj_module.specs.declared.parts.Fixup.{Fixup}
 use Rattle.kc_obj_module.specs.Contents.{content_at, is_from, SameFrom}
-use Rattle.kc_obj_relocation.specs.Numbers.{width}
+use Rattle.kc_obj_module.specs.Numbers.{width}
 use Rattle.kc_obj_module.specs.Fixups.{fixup_follows, fixups_in_order, may_begin, is_zero, has_room}
 
 from_same : (p o : ℕ) → is_from p o p o ≡ true

@@ -1,7 +1,7 @@
 -- Relocations of a module (80C196KC User's Manual, "Jump and Call instructions", for the displacements of 8, 11 and 16 bits; the
 -- kinds are this kit's own).
 use Rattle.std.specs.Prelude.{ℕ, Bool, true, false, ◌+◌, ◌==◌, ◌&&◌, ◌||◌, nat_lt, nat_le, if◌then◌else◌, Option, Some, None, List, [], ◌∷◌, length}
-use Rattle.kc_obj_relocation.specs.Numbers.{is_distance, width}
+use Rattle.kc_obj_module.specs.Numbers.{is_distance, width}
 use Rattle.kc_obj_module.specs.declared.parts.Segment.{Segment}
 use Rattle.kc_obj_module.specs.declared.parts.Taken.{Taken}
 use Rattle.kc_obj_module.specs.declared.parts.Content.{Content}

@@ -8,3 +8,4 @@ pub mod Rules
 pub mod Spelled
 pub mod Spelling
 pub mod Widths
+pub mod Numbers

@@ -1,12 +1,12 @@
 ghost use Rattle.std.specs.Prelude.{◌≡◌, true};
 ghost use Rattle.std.specs.List.{list_all};
 ghost use Rattle.kc_obj_module.specs.Contents.{contents_in_order};
-ghost use Rattle.kc_obj_relocation.specs.Numbers.{width};
+ghost use Rattle.kc_obj_module.specs.Numbers.{width};
 ghost use Rattle.kc_obj_module.specs.Fixups.{target_exists, fixup_is_sound, fixup_follows, fixups_in_order, may_begin, is_zero, has_room};
 
 use crate::contents::{byte_at, from_place};
 use crate::parts::{Content, Fixup, Segment, Taken, Target};
-use kc_obj_relocation::{is_distance, width};
+use crate::relocation::{is_distance, width};
 
 fn target_sound(segments: &[Segment], externals: &[Taken], kind: u8, target: Target) -> bool
     ensures { result ≡ target_exists segments.now externals.now kind target }

@@ -12,10 +12,12 @@ mod module;
 pub mod names;
 mod parts;
 pub mod pieces;
+mod relocation;
 mod rules;
 mod widths;
 mod writing;
 
 pub use module::Module;
 pub use parts::{Content, Fixup, Given, Lines, SegKind, Segment, Taken, Target};
+pub use relocation::{distance, first_part, fits, is_distance, number, reach, second_part, width};
 pub use writing::encode;

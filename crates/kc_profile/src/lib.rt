@@ -1,4 +1,6 @@
-//! Where the states of a run go: a run that is counted, and the text of its numbers.
+//! Where the states of a run go: a run that is counted while it is printed, and the text of its numbers, by address and by
+//! line. It stands on `kc_machine` and the line map of `kc_debug_script`. Example: `run a.a96 --states 1000 --profile p.txt`
+//! prints what it prints without, and p.txt has the states of each address.
 #![tactic(auto)]
 
 mod laws;

@@ -5,7 +5,7 @@ ghost use Rattle.kc_profile.specs.Text as spec;
 use crate::Profile;
 use kc_base::NoMemory;
 use kc_debug_script::MapEntry;
-use kc_link_map::put_number;
+use kc_link::put_number;
 use kc_trace::address_text;
 use std::alloc::Global;
 

@@ -7,3 +7,8 @@ pub mod Spans
 pub mod Quiet
 pub mod Laws
 pub mod History
+pub mod Accesses
+pub mod Schedules
+pub mod Receptions
+pub mod Known
+pub mod Worked

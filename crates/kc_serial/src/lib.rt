@@ -6,12 +6,18 @@
 //! states.
 #![tactic(auto)]
 
+mod histories;
 mod laws;
 mod receiving;
 mod registers;
 mod sending;
 mod serial;
 
+pub use histories::{
+    bytes_are_last, driven_frames_are_received, ends_are_requested, falls_are_caught,
+    frames_are_scheduled, lines_show_frames, receptions_are_one, schedules_are_one,
+    status_is_by_history,
+};
 pub use laws::{frames_are_shown, levels_are_kept, received_bytes_are_samples};
 pub use receiving::Reception;
 pub use sending::{Frame, Sending};

@@ -8,9 +8,9 @@ use Rattle.kc_lex.specs.Chars.{is_word_char}
 use Rattle.kc_lex.specs.Words.{begins_name, is_name_text}
 use Rattle.kc_obj_module.specs.Names.{is_name_char}
 use Rattle.kc_macro_body.specs.Filling.{local_name}
-use Rattle.kc_macro_names.specs.Ends.{ExpansionEndsAtAPlace}
-use Rattle.kc_macro_names.specs.Kept.{NamesPass, ExpansionKeepsTests}
-use Rattle.kc_macro_names.proofs.Names.{local_chars}
+use Rattle.kc_macro_laws.specs.Ends.{ExpansionEndsAtAPlace}
+use Rattle.kc_macro_laws.specs.Kept.{NamesPass, ExpansionKeepsTests}
+use Rattle.kc_macro_laws.proofs.MadeNames.{local_chars}
 use Rattle.kc_source_laws.specs.Lines.{are_bytes, has_bytes, ExpansionKeepsLines}
 use Rattle.kc_source_laws.proofs.Reading.{upper_bytes, word_byte, every_byte}
 

@@ -5,3 +5,5 @@ pub mod Reading
 pub mod Expanding
 pub mod Strings
 pub mod Statements
+pub mod Places
+pub mod Reporting

@@ -11,7 +11,7 @@ use Rattle.kc_lex.specs.Chars.{is_text_char, is_word_char, is_sign, signs, upper
 use Rattle.kc_lex.specs.Numbers.{number_value}
 use Rattle.kc_lex.specs.Lexemes.{Lexeme, Blank, Word, Quoted, Mark, Comment, all_proper}
 use Rattle.kc_lex.specs.Lines.{is_number, word_token, tokens_of, lines_from}
-use Rattle.kc_macro_names.proofs.Reading.{LexemesAreProper, lexeme_rest, lines_pass}
+use Rattle.kc_macro_laws.proofs.Reading.{LexemesAreProper, lexeme_rest, lines_pass}
 use Rattle.kc_source_laws.specs.Lines.{are_bytes, has_bytes, is_good, is_line_of, LinesAreOfTheText}
 use Rattle.kc_source_laws.proofs.Tests.{ok_at, all_map}
 

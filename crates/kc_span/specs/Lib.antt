@@ -1,2 +1,4 @@
 pub mod Span
 pub mod Timer1
+pub mod DeferredUnit
+pub mod Laws

@@ -5,28 +5,11 @@
 //! `earlier(Some(16), Some(9))` gives `Some(9)`. A timer that is due in state 15 is quiet over the six states from 9 on.
 #![tactic(auto)]
 
-ghost use Rattle.std.specs.Prelude.{◌≡◌, ℕ, ◌+◌, ◌-◌, ◌≤◌, ◌<◌, Option, Some};
-ghost use Rattle.kc_span.specs.Span.{Rule, after, QuietFor, IsDue, least_of};
+mod lane;
+mod span;
 
-/// Two spans, one after the other, are one span.
-pub fn spans_join<D>()
-    ensures { (rule : Rule D) (from m n : ℕ) (d : D) →
-        after rule from (m + n) d ≡ after rule (from + m) n (after rule from m d) }
-{}
-
-/// A span that does not go past the due state is quiet.
-pub fn quiet_up_to_due<D>()
-    ensures { (rule : Rule D) (from : ℕ) (d : D) (due : Option ℕ) (t : ℕ) → IsDue rule from d due →
-        ((u : ℕ) → due ≡ Some u → t ≤ u) → QuietFor rule from (t - from) d }
-{}
-
-/// The earlier of two state times, where there is one; of two numbers of states the smaller.
-pub fn earlier(a: Option<u64>, b: Option<u64>) -> Option<u64>
-    ensures { result ≡ least_of a b }
-{
-    match (a, b) {
-        (None, b) => b,
-        (a, None) => a,
-        (Some(a), Some(b)) => Some(a.min(b)),
-    }
-}
+pub use lane::{
+    alike_rules, calm_before_due, caught_up_forward, event_at_due, lent_quietly, next_state,
+    passes_over, rescheduled, waits_up_to_due,
+};
+pub use span::{earlier, quiet_up_to_due, spans_join};

@@ -1,6 +1,6 @@
 use kc_base::StateTime;
+use kc_cycles::{PATIENCE, Watchdog};
 use kc_extra::Extra;
-use kc_watchdog::{PATIENCE, Watchdog};
 
 /// Writes of the register, each with its state, and the deadline after them.
 struct Row {

@@ -2,7 +2,7 @@ use Rattle.std.proofs.Common.{◌≤◌, Result, length, subst, arith}
 use Rattle.kc_asm_check.specs.Checked.{IsExamined}
 use Rattle.kc_asm_check.specs.declared.checked.Checked.{Checked}
 use Rattle.kc_lex.specs.LineFaults.{Fault}
-use Rattle.kc_asm_module.specs.ModuleOf.{pieces_in}
+use Rattle.kc_asm_section.specs.ModuleOf.{pieces_in}
 use Rattle.kc_asm.proofs.assembling.module_or_fault.Goals as goal
 
 pub module_of-requires : goal.module_of-requires

@@ -1,6 +1,6 @@
 use Rattle.std.proofs.Common.{◌∙◌, ap}
 use Rattle.kc_asm_symbols.specs.Meanings.{in_all}
-use Rattle.kc_asm_emission.specs.Faults.{lesser}
+use Rattle.kc_asm_emit.specs.Faults.{lesser}
 use Rattle.kc_asm_check.specs.Codes.{name_faults}
 use Rattle.kc_asm_check.proofs.NameLemmas.{advances, ends}
 use Rattle.kc_asm_check.proofs.module.names_fault.Goals as goal

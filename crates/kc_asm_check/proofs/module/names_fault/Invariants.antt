@@ -3,7 +3,7 @@ use Rattle.std.specs.List.{flat_map}
 use Rattle.kc_asm_symbols.specs.Located.{Located}
 use Rattle.kc_asm_symbols.specs.Meanings.{in_all}
 use Rattle.kc_asm_symbols.specs.Walk.{IsBehind}
-use Rattle.kc_asm_emission.specs.Faults.{lesser, least}
+use Rattle.kc_asm_emit.specs.Faults.{lesser, least}
 use Rattle.kc_asm_check.specs.Codes as spec
 use Rattle.kc_asm_check.proofs.module.names_fault.Given as goal
 

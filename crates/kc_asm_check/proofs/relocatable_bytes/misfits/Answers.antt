@@ -1,6 +1,6 @@
 use Rattle.std.proofs.Common.{◌∙◌, ap, refl}
 use Rattle.kc_asm_bytes.specs.declared.relocatable_byte.RelocatableByte.TheVariants.{Plain}
-use Rattle.kc_asm_emission.specs.Faults.{lesser}
+use Rattle.kc_asm_emit.specs.Faults.{lesser}
 use Rattle.kc_asm_check.specs.Codes.{examined}
 use Rattle.kc_asm_check.proofs.RelocatableByteLemmas.{advances, ends}
 use Rattle.kc_asm_check.proofs.relocatable_bytes.misfits.Goals as goal

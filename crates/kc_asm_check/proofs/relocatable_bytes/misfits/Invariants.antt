@@ -1,5 +1,5 @@
 use Rattle.std.proofs.Common.{◌≡◌, drop}
-use Rattle.kc_asm_emission.specs.Faults.{lesser, least}
+use Rattle.kc_asm_emit.specs.Faults.{lesser, least}
 use Rattle.kc_asm_check.specs.Codes as spec
 use Rattle.kc_asm_check.proofs.relocatable_bytes.misfits.Given as goal
 

@@ -1,8 +1,8 @@
 use Rattle.std.proofs.Common.{◌≡◌, List, ◌++◌, true, false, eqb, length, take, drop, ◌-◌, sym, ap, subst, ◌∙◌}
 use Rattle.std.specs.Prelude.{All}
 use Rattle.kc_source_statement.specs.Operands.{is_nil}
-use Rattle.kc_asm_outline.specs.declared.size_record.SizeRecord.{SizeRecord}
-use Rattle.kc_asm_outline.specs.Bounds.{IsBounded}
+use Rattle.kc_asm_layout.specs.declared.size_record.SizeRecord.{SizeRecord}
+use Rattle.kc_asm_layout.specs.Bounds.{IsBounded}
 use Rattle.kc_asm_list.specs.Spots.{spots_from}
 use Rattle.kc_asm_list.proofs.Walk.{all_behind, no_tokens, said, blank}
 use Rattle.kc_asm_list.proofs.spots.spots_from.Goals.{then-not-is_empty+in_ok-put_first, else-not-is_empty}

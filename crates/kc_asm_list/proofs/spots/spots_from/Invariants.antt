@@ -1,6 +1,6 @@
 use Rattle.std.proofs.Common.{◌≡◌, ◌++◌, length}
 use Rattle.std.specs.Prelude.{All}
-use Rattle.kc_asm_outline.specs.Bounds.{IsBounded}
+use Rattle.kc_asm_layout.specs.Bounds.{IsBounded}
 use Rattle.kc_asm_list.specs.Spots as spec
 use Rattle.kc_asm_list.proofs.spots.spots_from.Given as goal
 

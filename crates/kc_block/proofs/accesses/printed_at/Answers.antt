@@ -1,7 +1,7 @@
 use Rattle.std.proofs.Common.{sym, ◌∙◌, ap}
 use Rattle.kc_block_spec.specs.Levels.{printed}
-use Rattle.kc_block_lanes.specs.Standing.{standing}
-use Rattle.kc_block_access.proofs.Left.{standing_reports}
+use Rattle.kc_block_units.specs.Standing.{standing}
+use Rattle.kc_block_sfr.proofs.Left.{standing_reports}
 use Rattle.kc_block.proofs.accesses.printed_at.Goals as goal
 
 pub returns : goal.returns

@@ -1,5 +1,5 @@
 use Rattle.std.proofs.Common.{◌-◌, refl, sym, ◌∙◌, ap}
-use Rattle.kc_watchdog.specs.declared.watchdog.Watchdog.{Watchdog}
+use Rattle.kc_cycles.specs.declared.watchdog.Watchdog.{Watchdog}
 use Rattle.kc_cycles.specs.Making.{deadline_of}
 use Rattle.kc_cycles.proofs.Fitted.{deadline-stands}
 use Rattle.kc_cycles.proofs.life.deadline_in.Goals as goal

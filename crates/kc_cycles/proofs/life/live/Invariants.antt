@@ -1,8 +1,8 @@
 use Rattle.std.proofs.Common.{◌≡◌, ◌≤◌, ◌-◌, ℕ, None, false}
 use Rattle.kc_extra.specs.contracts.pair_unit.PairExtra.TheImpl as pair
 use Rattle.kc_trace.specs.Trace.{out_of}
-use Rattle.kc_watchdog.specs.contracts.watchdog.Watchdog as watchdog_type
-use Rattle.kc_watchdog.specs.contracts.watchdog.WatchdogExtra.TheImpl as watchdog
+use Rattle.kc_cycles.specs.contracts.watchdog.Watchdog as watchdog_type
+use Rattle.kc_cycles.specs.contracts.watchdog.WatchdogExtra.TheImpl as watchdog
 use Rattle.kc_cycles.specs.Making.{deadline_of}
 use Rattle.kc_cycles.proofs.Going.{Along, IsAhead, IsLeft}
 use Rattle.kc_cycles.proofs.life.live.Given as goal

@@ -2,7 +2,7 @@ use Rattle.std.proofs.Common.{refl, sym, ◌∙◌, ap, subst}
 use Rattle.std.specs.Prelude.{bit_xor}
 use Rattle.kc_stim.specs.Drives.{driven_from}
 use Rattle.kc_block_spec.specs.Levels.{stimulated_before}
-use Rattle.kc_watchdog.specs.declared.watchdog.Watchdog.{Watchdog}
+use Rattle.kc_cycles.specs.declared.watchdog.Watchdog.{Watchdog}
 use Rattle.kc_cycles.proofs.Fitted.{room-left, apart-none, made-unit, made-machine}
 use Rattle.kc_cycles.proofs.lives.born.Goals as goal
 

@@ -2,8 +2,8 @@ use Rattle.std.proofs.Common.{◌-◌, ◌&&◌, refl, sym, ◌∙◌, ap, arith
 use Rattle.std.specs.Prelude.{nat_lt}
 use Rattle.kc_machine_spec.specs.Machine.{Machine}
 use Rattle.kc_extra.specs.contracts.pair_unit.PairExtra.TheImpl as pair
-use Rattle.kc_watchdog.specs.contracts.watchdog.Watchdog as watchdog_type
-use Rattle.kc_watchdog.specs.contracts.watchdog.WatchdogExtra.TheImpl as watchdog
+use Rattle.kc_cycles.specs.contracts.watchdog.Watchdog as watchdog_type
+use Rattle.kc_cycles.specs.contracts.watchdog.WatchdogExtra.TheImpl as watchdog
 use Rattle.kc_cycles.specs.Life.{life_for}
 use Rattle.kc_cycles.specs.Lives.{is_reset}
 use Rattle.kc_cycles.specs.Making.{deadline_of}

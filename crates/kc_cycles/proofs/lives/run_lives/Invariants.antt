@@ -1,7 +1,7 @@
 use Rattle.kc_extra.specs.contracts.pair_unit.PairExtra.TheImpl as pair
 use Rattle.kc_trace.specs.Trace.{out_of}
-use Rattle.kc_watchdog.specs.contracts.watchdog.Watchdog as watchdog_type
-use Rattle.kc_watchdog.specs.contracts.watchdog.WatchdogExtra.TheImpl as watchdog
+use Rattle.kc_cycles.specs.contracts.watchdog.Watchdog as watchdog_type
+use Rattle.kc_cycles.specs.contracts.watchdog.WatchdogExtra.TheImpl as watchdog
 use Rattle.kc_cycles.proofs.Fitted.{Way}
 use Rattle.kc_cycles.proofs.lives.run_lives.Given as goal
 

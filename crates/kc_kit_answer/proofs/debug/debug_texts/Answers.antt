@@ -4,7 +4,7 @@ use Rattle.kc_kit_words.specs.declared.inputs.Role.TheVariants as role
 use Rattle.kc_kit_files.specs.Response.{IsRefused}
 use Rattle.kc_kit_inputs.specs.Driving.{given_for}
 use Rattle.kc_kit_inputs.specs.Inputs.{input_for}
-use Rattle.kc_kit_notes.proofs.Words.{texts_in}
+use Rattle.kc_kit_messages.proofs.Words.{texts_in}
 use Rattle.kc_kit_answer.specs.Debug.{debug_response}
 use Rattle.kc_kit_answer.specs.Hex.{HexReported}
 use Rattle.kc_kit_answer.proofs.DebugLemmas.{IsGivenBoard, script-refused, lines-refused, script-carried}

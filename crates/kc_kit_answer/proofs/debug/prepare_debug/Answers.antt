@@ -7,7 +7,7 @@ use Rattle.kc_kit_words.specs.Commands.{Debugs, names_of}
 use Rattle.kc_kit_inputs.specs.FaultDiagnostics.{IsFaultDiagnostic}
 use Rattle.kc_kit_answer.specs.Answer.{MayAnswer, TwoTexts, Parted}
 use Rattle.kc_kit_answer.specs.Debug.{DebugAnswer}
-use Rattle.kc_kit_notes.proofs.Words.{texts_in}
+use Rattle.kc_kit_messages.proofs.Words.{texts_in}
 use Rattle.kc_kit_answer.proofs.AnswerSteps.{first-missed, second-missed, parts-then, prepared-widen}
 use Rattle.kc_kit_answer.proofs.debug.prepare_debug.Goals as goal
 

@@ -4,7 +4,7 @@ use Rattle.kc_kit_files.specs.declared.status.Status.TheVariants as status
 use Rattle.kc_kit_files.specs.Response.{Response, says, reports, IsSaid}
 use Rattle.kc_kit_files.proofs.EndLemmas.{Ends-widen, ends-by}
 use Rattle.kc_kit_files.proofs.ResponseLemmas.{said-refused}
-use Rattle.kc_explain.specs.Meanings.{said}
+use Rattle.kc_kit_messages.specs.Meanings.{said}
 use Rattle.kc_kit_answer.specs.Explain.{no_code_line, explained, explained_by}
 use Rattle.kc_kit_answer.specs.Explain.{no_code_diagnostic}
 use Rattle.kc_kit_answer.proofs.explaining.explain_code.Goals as goal

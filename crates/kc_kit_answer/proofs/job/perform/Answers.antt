@@ -1,5 +1,5 @@
 use Rattle.std.proofs.Common.{◌≡◌, ◌∷◌, ◌++◌, ◌∙◌, refl, ap, sym}
-use Rattle.kc_code_listing.specs.Listing.{listing}
+use Rattle.kc_code.specs.Listing.{listing}
 use Rattle.kc_kit_files.specs.declared.status.Status.TheVariants as status
 use Rattle.kc_kit_files.specs.Response.{Response, says}
 use Rattle.kc_kit_files.specs.Outside.{kept, shown}

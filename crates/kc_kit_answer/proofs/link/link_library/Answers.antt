@@ -4,7 +4,7 @@ use Rattle.kc_kit_files.specs.Response.{Response, IsRefused}
 use Rattle.kc_kit_inputs.specs.Library.{TakenAre}
 use Rattle.kc_kit_words.specs.Asked.{beside_in}
 use Rattle.kc_kit_answer.specs.Jobs.{IsPrepared}
-use Rattle.kc_kit_notes.specs.Rules.{member_words}
+use Rattle.kc_kit_messages.specs.Rules.{member_words}
 use Rattle.kc_kit_answer.specs.Link.{LinksTo}
 use Rattle.kc_kit_answer.specs.Places.{Placing}
 use Rattle.kc_kit_answer.proofs.AnswerSteps.{taking-refused, taking-prepared}

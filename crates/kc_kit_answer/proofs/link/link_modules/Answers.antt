@@ -1,4 +1,4 @@
-use Rattle.kc_kit_notes.specs.Origins.{words_of}
+use Rattle.kc_kit_messages.specs.Origins.{words_of}
 use Rattle.kc_kit_words.specs.Asked.{beside_in}
 use Rattle.kc_kit_answer.specs.Link.{LinksTo}
 use Rattle.kc_kit_answer.proofs.LinkLemmas.{placing-refused}

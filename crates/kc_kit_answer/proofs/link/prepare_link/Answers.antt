@@ -4,7 +4,7 @@ use Rattle.kc_kit_files.proofs.ReadLemmas.{stays-onward}
 use Rattle.kc_kit_words.specs.Asked.{beside_in}
 use Rattle.kc_kit_words.specs.Inputs.{inputs_in}
 use Rattle.kc_kit_words.specs.Commands.{Links, names_of}
-use Rattle.kc_kit_notes.proofs.Words.{texts_in}
+use Rattle.kc_kit_messages.proofs.Words.{texts_in}
 use Rattle.kc_kit_inputs.specs.FaultDiagnostics.{IsFaultDiagnostic}
 use Rattle.kc_kit_answer.specs.Answer.{MayAnswer, Parted}
 use Rattle.kc_kit_answer.specs.Link.{LinkAnswer}

@@ -1,5 +1,5 @@
 use Rattle.std.proofs.Common.{◌+◌, ◌∙◌, ap, refl, sym, inl, arith}
-use Rattle.kc_code_listing.specs.Listing.{listing}
+use Rattle.kc_code.specs.Listing.{listing}
 use Rattle.kc_kit_files.specs.declared.status.Status.TheVariants as status
 use Rattle.kc_kit_files.specs.Response.{says}
 use Rattle.kc_kit_answer.proofs.Listed.{IsListed-start, IsListed-next, IsListed-whole}

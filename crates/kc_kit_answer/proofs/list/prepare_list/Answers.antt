@@ -1,6 +1,6 @@
 use Rattle.kc_base.specs.Causes.{Rose}
 use Rattle.std.proofs.Common.{refl}
-use Rattle.kc_code_listing.specs.Listing.{listing}
+use Rattle.kc_code.specs.Listing.{listing}
 use Rattle.kc_kit_files.specs.declared.status.Status.TheVariants as status
 use Rattle.kc_kit_files.specs.Response.{says}
 use Rattle.kc_kit_answer.specs.Answer.{OneText}

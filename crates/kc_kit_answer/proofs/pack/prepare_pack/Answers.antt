@@ -2,7 +2,7 @@ use Rattle.std.proofs.Common.{map, string_bytes}
 use Rattle.std.specs.Prelude.{Some}
 use Rattle.kc_base.specs.Causes.{Rose}
 use Rattle.kc_kit_words.specs.Commands.{Packs}
-use Rattle.kc_kit_notes.proofs.Words.{texts_in}
+use Rattle.kc_kit_messages.proofs.Words.{texts_in}
 use Rattle.kc_kit_inputs.specs.FaultDiagnostics.{IsFaultDiagnostic}
 use Rattle.kc_kit_answer.specs.Answer.{MayAnswer}
 use Rattle.kc_kit_answer.specs.Pack.{PackAnswer}

@@ -1,4 +1,4 @@
-use Rattle.kc_kit_notes.specs.Origins.{words_of}
+use Rattle.kc_kit_messages.specs.Origins.{words_of}
 use Rattle.kc_kit_answer.proofs.LinkLemmas.{link-refused}
 use Rattle.kc_kit_answer.proofs.placing.place_modules.Goals as goal
 

@@ -2,7 +2,7 @@ use Rattle.std.proofs.Common.{map, string_bytes, Ok, Err, refl}
 use Rattle.kc_kit_files.proofs.ReadLemmas.{refused-widen}
 use Rattle.kc_kit_inputs.specs.Driving.{given_in}
 use Rattle.kc_kit_inputs.specs.Sources.{ReportsFirst}
-use Rattle.kc_kit_notes.proofs.Words.{texts_in}
+use Rattle.kc_kit_messages.proofs.Words.{texts_in}
 use Rattle.kc_kit_inputs.specs.FaultDiagnostics.{IsFaultDiagnostic}
 use Rattle.kc_kit_answer.specs.Places.{Placing}
 use Rattle.kc_kit_answer.specs.Profile.{DrivenWithLines, FilledWithLines, LinesReported}

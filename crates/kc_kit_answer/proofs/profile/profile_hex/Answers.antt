@@ -4,7 +4,7 @@ use Rattle.kc_kit_files.specs.Response.{Response, IsRefused}
 use Rattle.kc_kit_inputs.specs.declared.driving.Driving.{Driving}
 use Rattle.kc_kit_words.specs.Inputs.{inputs_in}
 use Rattle.kc_kit_inputs.specs.Driving.{given_for}
-use Rattle.kc_kit_notes.proofs.Words.{texts_in}
+use Rattle.kc_kit_messages.proofs.Words.{texts_in}
 use Rattle.kc_kit_answer.specs.Hex.{HexReported}
 use Rattle.kc_kit_running.specs.Profiled.{profile_response}
 use Rattle.kc_kit_answer.proofs.profile.profile_hex.Goals as goal

@@ -2,7 +2,7 @@ use Rattle.std.proofs.Common.{map, string_bytes, subst, ℕ, List}
 use Rattle.kc_debug_script.specs.declared.line_map.MapEntry.{MapEntry}
 use Rattle.kc_kit_files.specs.Response.{Response, IsRefused}
 use Rattle.kc_kit_inputs.specs.declared.driving.Driving.{Driving}
-use Rattle.kc_kit_notes.proofs.Words.{texts_in}
+use Rattle.kc_kit_messages.proofs.Words.{texts_in}
 use Rattle.kc_kit_running.specs.Profiled.{profile_response}
 use Rattle.kc_kit_inputs.specs.FaultDiagnostics.{IsFaultDiagnostic}
 use Rattle.kc_kit_answer.specs.Profile.{LinesReported}

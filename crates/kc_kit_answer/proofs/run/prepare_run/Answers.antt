@@ -6,7 +6,7 @@ use Rattle.kc_kit_words.specs.Commands.{Runs, names_of}
 use Rattle.kc_kit_inputs.specs.FaultDiagnostics.{IsFaultDiagnostic}
 use Rattle.kc_kit_answer.specs.Answer.{MayAnswer, Parted}
 use Rattle.kc_kit_answer.specs.Run.{RunAnswer}
-use Rattle.kc_kit_notes.proofs.Words.{texts_in}
+use Rattle.kc_kit_messages.proofs.Words.{texts_in}
 use Rattle.kc_kit_answer.proofs.AnswerSteps.{first-missed, second-missed, parts-then, prepared-widen}
 use Rattle.kc_kit_answer.proofs.run.prepare_run.Goals as goal
 

@@ -8,7 +8,7 @@ use Rattle.kc_kit_words.specs.Commands.{RunsHex, names_of}
 use Rattle.kc_kit_inputs.specs.FaultDiagnostics.{IsFaultDiagnostic}
 use Rattle.kc_kit_answer.specs.Answer.{MayAnswer, OneText, Parted}
 use Rattle.kc_kit_answer.specs.Hex.{RunHexAnswer}
-use Rattle.kc_kit_notes.proofs.Words.{texts_in}
+use Rattle.kc_kit_messages.proofs.Words.{texts_in}
 use Rattle.kc_kit_answer.proofs.AnswerSteps.{first-missed, second-missed, parts-then, prepared-widen}
 use Rattle.kc_kit_answer.proofs.run_hex.prepare_hex.Goals as goal
 

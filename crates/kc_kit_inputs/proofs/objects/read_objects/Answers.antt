@@ -8,7 +8,7 @@ use Rattle.kc_kit_files.specs.Response.{Response}
 use Rattle.kc_kit_files.proofs.ReadLemmas.{refused-widen}
 use Rattle.kc_kit_inputs.specs.Objects.{modules_of, object_of}
 use Rattle.kc_kit_inputs.proofs.ObjectLemmas.{all-one, prepend, object-next, object-stop}
-use Rattle.kc_kit_notes.proofs.Words.{names_in, texts_in, short-at}
+use Rattle.kc_kit_messages.proofs.Words.{names_in, texts_in, short-at}
 use Rattle.kc_kit_inputs.proofs.objects.read_objects.Goals as goal
 
 pub read_object-requires : goal.read_object-requires

@@ -3,7 +3,7 @@ use Rattle.std.specs.List.{All}
 use Rattle.kc_obj_module.specs.Spelling.{spelling}
 use Rattle.kc_kit_inputs.specs.Objects.{modules_of, object_of}
 use Rattle.kc_kit_inputs.proofs.ObjectLemmas.{prepend}
-use Rattle.kc_kit_notes.proofs.Words.{names_in, texts_in}
+use Rattle.kc_kit_messages.proofs.Words.{names_in, texts_in}
 use Rattle.kc_kit_inputs.proofs.objects.read_objects.Given as goal
 
 abbrev pub invariant-loop-i : goal.invariant-loop-i

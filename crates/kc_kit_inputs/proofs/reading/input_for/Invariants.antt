@@ -2,7 +2,7 @@ use Rattle.std.proofs.Common.{◌≡◌, length}
 use Rattle.kc_kit_files.specs.Reads.{AllShort}
 use Rattle.kc_kit_words.specs.Inputs.{inputs_in}
 use Rattle.kc_kit_inputs.specs.Inputs.{input_for}
-use Rattle.kc_kit_notes.proofs.Words.{texts_in}
+use Rattle.kc_kit_messages.proofs.Words.{texts_in}
 use Rattle.kc_kit_inputs.proofs.reading.input_for.Given as goal
 
 abbrev pub invariant-loop-behind : goal.invariant-loop-behind

@@ -4,7 +4,7 @@ use Rattle.kc_kit_files.proofs.ReadLemmas.{missed-step, held-step, stays-onward}
 use Rattle.kc_kit_words.specs.Inputs.{input_in, inputs_in}
 use Rattle.kc_kit_words.specs.Commands.{names_of}
 use Rattle.kc_kit_inputs.proofs.InputLemmas.{first-some}
-use Rattle.kc_kit_notes.proofs.Words.{texts_in}
+use Rattle.kc_kit_messages.proofs.Words.{texts_in}
 use Rattle.kc_kit_inputs.proofs.reading.read_inputs.Goals as goal
 
 pub loop-input-preserved : goal.loop-input-preserved

@@ -4,7 +4,7 @@ use Rattle.kc_asm.specs.Assembled.{IsModule}
 use Rattle.kc_kit_files.proofs.ReadLemmas.{refused-widen}
 use Rattle.kc_kit_inputs.specs.FaultDiagnostics.{IsFaultDiagnostic}
 use Rattle.kc_kit_inputs.specs.Sources.{ReportsFault, ReportsFirst}
-use Rattle.kc_kit_notes.proofs.Words.{names_in, texts_in, short-at}
+use Rattle.kc_kit_messages.proofs.Words.{names_in, texts_in, short-at}
 use Rattle.kc_kit_inputs.proofs.SourceLemmas.{onward-next, onward-stop, onward-end}
 use Rattle.kc_kit_inputs.proofs.sources.assemble_sources.Goals as goal
 

@@ -1,5 +1,5 @@
 use Rattle.std.proofs.Common.{◌≡◌, drop, length}
-use Rattle.kc_kit_notes.proofs.Words.{names_in, texts_in}
+use Rattle.kc_kit_messages.proofs.Words.{names_in, texts_in}
 use Rattle.kc_kit_inputs.proofs.SourceLemmas.{Onward}
 use Rattle.kc_kit_inputs.proofs.sources.assemble_sources.Given as goal
 

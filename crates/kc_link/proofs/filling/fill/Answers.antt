@@ -1,5 +1,5 @@
 use Rattle.std.proofs.Common.{◌≡◌, ◌∙◌, sym, ap, arith}
-use Rattle.kc_link_fill.specs.BaseLists.{bases_in}
+use Rattle.kc_link_place.specs.BaseLists.{bases_in}
 use Rattle.kc_obj_module.specs.declared.parts.Content.{Content}
 use Rattle.std.specs.Prelude.{List}
 use Rattle.kc_link.specs.Writes.{written, runs_of}

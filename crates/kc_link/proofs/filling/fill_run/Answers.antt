@@ -1,5 +1,5 @@
 use Rattle.std.proofs.Common.{◌+◌, ◌-◌, length, ap, ◌∙◌, sym, arith}
-use Rattle.kc_link_fill.specs.BaseLists.{bases_in}
+use Rattle.kc_link_place.specs.BaseLists.{bases_in}
 use Rattle.kc_link.proofs.WriteLemmas.{bytes_step, bytes_end}
 use Rattle.kc_link.proofs.filling.fill_run.Goals as goal
 

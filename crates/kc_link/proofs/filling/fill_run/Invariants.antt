@@ -1,5 +1,5 @@
 use Rattle.std.proofs.Common.{◌≡◌, ◌+◌, ◌-◌, length}
-use Rattle.kc_link_fill.specs.BaseLists.{bases_in}
+use Rattle.kc_link_place.specs.BaseLists.{bases_in}
 use Rattle.kc_link.specs.Writes.{written, bytes_of}
 use Rattle.kc_link.proofs.filling.fill_run.Given as goal
 

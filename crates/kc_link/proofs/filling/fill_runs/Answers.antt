@@ -1,5 +1,5 @@
 use Rattle.std.proofs.Common.{◌∙◌, sym, arith}
-use Rattle.kc_link_fill.specs.BaseLists.{bases_in}
+use Rattle.kc_link_place.specs.BaseLists.{bases_in}
 use Rattle.kc_link.proofs.WriteLemmas.{runs_step, runs_stand, runs_end}
 use Rattle.kc_link.proofs.filling.fill_runs.Goals as goal
 

@@ -1,5 +1,5 @@
 use Rattle.std.proofs.Common.{◌≡◌, length}
-use Rattle.kc_link_fill.specs.BaseLists.{bases_in}
+use Rattle.kc_link_place.specs.BaseLists.{bases_in}
 use Rattle.kc_link.specs.Writes.{written, runs_of, RunsStand}
 use Rattle.kc_link.proofs.filling.fill_runs.Given as goal
 

@@ -1,5 +1,5 @@
 use Rattle.std.proofs.Common.{◌≡◌, ◌++◌, map, length}
-use Rattle.kc_link_fill.specs.BaseLists.{bases_in}
+use Rattle.kc_link_place.specs.BaseLists.{bases_in}
 use Rattle.kc_link.specs.LineMap.{line_at, LinesStand}
 use Rattle.kc_link.proofs.lines.add_lines.Given as goal
 

@@ -1,5 +1,5 @@
 use Rattle.std.proofs.Common.{◌≡◌, ◌∙◌, ap, List}
-use Rattle.kc_link_fill.specs.BaseLists.{BaseLists}
+use Rattle.kc_link_place.specs.BaseLists.{BaseLists}
 use Rattle.kc_link_place.specs.Placing.{bases_from}
 use Rattle.kc_link_place.specs.Apart.{CodeIsApart}
 use Rattle.kc_link.specs.Writes.{written, all_bytes}

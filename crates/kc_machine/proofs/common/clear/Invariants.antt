@@ -1,6 +1,6 @@
 use Rattle.std.proofs.Common.{◌≡◌, true}
 use Rattle.std.specs.List.{AllWithin}
-use Rattle.kc_exec_ready.specs.Predecoding.{is_blank}
+use Rattle.kc_exec_predecode.specs.Predecoding.{is_blank}
 use Rattle.kc_machine.proofs.common.clear.Given as goal
 
 abbrev pub invariant-loop-slot : goal.invariant-loop-slot

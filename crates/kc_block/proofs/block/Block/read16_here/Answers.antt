@@ -1,8 +1,8 @@
 use Rattle.std.proofs.Common.{◌≡◌, ◌-◌, arith, ap, subst}
 use Rattle.std.specs.Prelude.{OnOk}
 use Rattle.kc_block_spec.specs.Accesses.{after_word_read}
-use Rattle.kc_block_lazy.specs.Scheduler.{shown_units}
-use Rattle.kc_block_lanes.specs.Standing.{standing}
+use Rattle.kc_block_units.specs.Scheduler.{shown_units}
+use Rattle.kc_block_units.specs.Standing.{standing}
 use Rattle.kc_block.proofs.Calls.{word_read_few}
 use Rattle.kc_block.proofs.block.Block.read16_here.Goals as goal
 

@@ -1,8 +1,8 @@
 use Rattle.std.proofs.Common.{◌≡◌, ◌-◌, arith, ap, subst}
 use Rattle.std.specs.Prelude.{IfErr, Err, OnOk, Ok}
 use Rattle.kc_block_spec.specs.Accesses.{word_written}
-use Rattle.kc_block_lazy.specs.Scheduler.{shown_units}
-use Rattle.kc_block_lanes.specs.Standing.{standing}
+use Rattle.kc_block_units.specs.Scheduler.{shown_units}
+use Rattle.kc_block_units.specs.Standing.{standing}
 use Rattle.kc_block.proofs.Calls.{word_write_few}
 use Rattle.kc_block.proofs.Written.{kind_of, ok_of}
 use Rattle.kc_block.proofs.block.Block.write16_here.Goals as goal

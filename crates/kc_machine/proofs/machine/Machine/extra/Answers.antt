@@ -1,6 +1,6 @@
 use Rattle.std.proofs.Common.{subst}
 use Rattle.kc_block.specs.Lent.{IsLent}
-use Rattle.kc_block_lazy.specs.Scheduler.{further_goes}
+use Rattle.kc_block_units.specs.Scheduler.{further_goes}
 use Rattle.kc_machine.proofs.machine.Machine.extra.Goals as goal
 
 pub returns-clause-lent : goal.returns-clause-lent

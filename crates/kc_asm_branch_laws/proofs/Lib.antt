@@ -1,4 +1,0 @@
-pub mod Expressions
-pub mod Names
-pub mod Anchors
-pub mod Reached

@@ -1,5 +1,0 @@
-use Rattle.kc_asm_branch_laws.proofs.Anchors.{anchors_hold}
-use Rattle.kc_asm_branch_laws.proofs.anchors_hold.Goals as goal
-
-pub returns : goal.returns
-returns c = anchors_hold

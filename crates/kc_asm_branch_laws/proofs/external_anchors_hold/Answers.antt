@@ -1,5 +1,0 @@
-use Rattle.kc_asm_branch_laws.proofs.Anchors.{external_anchors_hold}
-use Rattle.kc_asm_branch_laws.proofs.external_anchors_hold.Goals as goal
-
-pub returns : goal.returns
-returns c = external_anchors_hold

@@ -1,5 +1,0 @@
-use Rattle.kc_asm_branch_laws.proofs.Reached.{targets_are_reached}
-use Rattle.kc_asm_branch_laws.proofs.targets_are_reached.Goals as goal
-
-pub returns : goal.returns
-returns c = targets_are_reached c.sizes_are_numbered.ensures c.branches_reach.ensures

@@ -1,9 +1,0 @@
-//! A fault has one cause: a law of definitions, without code.
-#![tactic(auto)]
-
-ghost use Rattle.kc_asm_cause_laws.specs.OneOrigin.{OneOrigin};
-
-/// What is found for a fault of a source is one: the line of a body, or none.
-pub fn one_origin()
-    ensures { OneOrigin }
-{}

@@ -1,5 +1,0 @@
-use Rattle.kc_asm_earlier_laws.proofs.Reporting.{statements_are_reported}
-use Rattle.kc_asm_earlier_laws.proofs.statements_are_reported.Goals as goal
-
-pub returns : goal.returns
-returns c = statements_are_reported c.names_stand_on_the_line.ensures

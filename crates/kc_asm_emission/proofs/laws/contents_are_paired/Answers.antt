@@ -1,5 +1,0 @@
-use Rattle.kc_asm_emission.proofs.PairLemmas.{content_pairs}
-use Rattle.kc_asm_emission.proofs.laws.contents_are_paired.Goals as goal
-
-pub returns : goal.returns
-returns c = content_pairs c.relocatables_are_paired.ensures

@@ -1,0 +1,17 @@
+pub mod Search
+pub mod EncodingSearch
+pub mod Fills
+pub mod Spelled
+pub mod Found
+pub mod Paired
+pub mod Sound
+pub mod Rows
+pub mod Exists
+pub mod Operations
+pub mod Lengths
+pub mod Stays
+pub mod Most
+pub mod Evens
+pub mod Pointers
+pub mod Saying
+pub mod Opposites

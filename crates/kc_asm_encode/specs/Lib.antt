@@ -1,0 +1,15 @@
+pub mod Values
+pub mod Sources
+pub mod Takes
+pub mod Opcodes
+pub mod Branches
+pub mod Instructions
+pub mod Faults
+pub mod Words
+pub mod RelocatableBytes
+pub mod Suits
+pub mod Pairs
+pub mod Blurred
+pub mod Laws
+pub mod Said
+pub mod Opposite

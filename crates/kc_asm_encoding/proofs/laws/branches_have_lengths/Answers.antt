@@ -1,5 +1,0 @@
-use Rattle.kc_asm_encoding.proofs.Lengths.{branches_have_lengths}
-use Rattle.kc_asm_encoding.proofs.laws.branches_have_lengths.Goals as goal
-
-pub returns : goal.returns
-returns c = branches_have_lengths

@@ -1,5 +1,0 @@
-use Rattle.kc_asm_encoding.proofs.Spelled.{filled_is_spelled}
-use Rattle.kc_asm_encoding.proofs.laws.filled_is_spelled.Goals as goal
-
-pub returns : goal.returns
-returns c = filled_is_spelled

@@ -1,5 +1,0 @@
-use Rattle.kc_asm_encoding.proofs.Evens.{numbers_are_words}
-use Rattle.kc_asm_encoding.proofs.laws.numbers_are_words.Goals as goal
-
-pub returns : goal.returns
-returns c = numbers_are_words

@@ -1,5 +1,0 @@
-use Rattle.kc_asm_encoding.proofs.Operations.{operations_are_instructions}
-use Rattle.kc_asm_encoding.proofs.laws.operations_are_instructions.Goals as goal
-
-pub returns : goal.returns
-returns c = operations_are_instructions

@@ -1,5 +1,0 @@
-use Rattle.kc_asm_encoding.proofs.Sound.{settled_is_sound}
-use Rattle.kc_asm_encoding.proofs.laws.settled_is_sound.Goals as goal
-
-pub returns : goal.returns
-returns c = settled_is_sound

@@ -1,5 +1,0 @@
-use Rattle.kc_asm_fault_laws.proofs.Lines.{faults_have_their_lines}
-use Rattle.kc_asm_fault_laws.proofs.faults_have_their_lines.Goals as goal
-
-pub returns : goal.returns
-returns c = faults_have_their_lines

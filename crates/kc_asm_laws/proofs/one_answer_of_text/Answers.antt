@@ -1,5 +1,0 @@
-use Rattle.kc_asm_laws.proofs.OneAnswer.{one_answer_of_text}
-use Rattle.kc_asm_laws.proofs.one_answer_of_text.Goals as goal
-
-pub returns : goal.returns
-returns c = one_answer_of_text c.one_module_of_text.ensures c.expansion_ends.ensures

@@ -1,7 +1,0 @@
-mod Sections
-mod Pieces
-mod Counted
-mod AllSpots
-mod Once
-mod One
-mod Follow

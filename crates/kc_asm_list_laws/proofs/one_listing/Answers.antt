@@ -1,5 +1,0 @@
-use Rattle.kc_asm_list_laws.proofs.One as one
-use Rattle.kc_asm_list_laws.proofs.one_listing.Goals as goal
-
-pub returns : goal.returns
-returns c = one.one_listing

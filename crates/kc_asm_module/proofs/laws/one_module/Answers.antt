@@ -1,5 +1,0 @@
-use Rattle.kc_asm_module.proofs.OneModule.{at_most_one}
-use Rattle.kc_asm_module.proofs.laws.one_module.Goals as goal
-
-pub returns : goal.returns
-returns c = at_most_one

@@ -1,5 +1,0 @@
-use Rattle.kc_asm_module_laws.proofs.Linking.{texts_are_linked}
-use Rattle.kc_asm_module_laws.proofs.texts_are_linked.Goals as goal
-
-pub returns : goal.returns
-returns c = texts_are_linked c.texts_have_modules.ensures c.placed_have_image.ensures c.placed_have_lines.ensures

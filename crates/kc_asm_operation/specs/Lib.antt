@@ -1,7 +1,0 @@
-pub mod Values
-pub mod Sources
-pub mod Takes
-pub mod Opcodes
-pub mod Branches
-pub mod Instructions
-pub mod Faults

@@ -1,0 +1,5 @@
+pub mod Between
+pub mod Whole
+pub mod Uses
+pub mod Walks
+pub mod SymbolWhole

@@ -1,0 +1,9 @@
+pub mod Written
+pub mod Alike
+pub mod First
+pub mod Reported
+pub mod Cause
+pub mod Uses
+pub mod Values
+pub mod Seeking
+pub mod Symbol

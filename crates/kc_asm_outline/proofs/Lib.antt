@@ -1,5 +1,0 @@
-pub mod Steps
-pub mod Numbers
-pub mod BoundLemmas
-mod Extents
-pub mod Stays

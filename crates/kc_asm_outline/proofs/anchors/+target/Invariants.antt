@@ -1,5 +1,0 @@
-use Rattle.std.proofs.Common.{length}
-use Rattle.kc_asm_outline.proofs.anchors.+target.Given as goal
-
-abbrev pub decreases-target : goal.decreases-target
-decreases-target l = length l.args.now

@@ -1,4 +1,0 @@
-pub mod StatementSizes
-pub mod Numbered
-pub mod Bounds
-pub mod Laws

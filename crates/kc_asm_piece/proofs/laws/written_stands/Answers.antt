@@ -1,5 +1,0 @@
-use Rattle.kc_asm_piece.proofs.Writing.{written_there}
-use Rattle.kc_asm_piece.proofs.laws.written_stands.Goals as goal
-
-pub returns : goal.returns
-returns c = written_there

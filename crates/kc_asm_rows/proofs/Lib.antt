@@ -1,5 +1,0 @@
-mod Kept
-mod Order
-pub mod Places
-mod Sorted
-mod Steps

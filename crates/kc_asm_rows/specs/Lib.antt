@@ -1,3 +1,0 @@
-pub mod RelocatableBytes
-pub mod Rows
-pub mod Order

@@ -1,0 +1,13 @@
+pub mod Section
+pub mod Writing
+pub mod UnlinkedModules
+pub mod ModuleOf
+pub mod Order
+pub mod Publics
+pub mod Puts
+pub mod Runs
+pub mod ModuleContents
+pub mod OneModule
+pub mod Worked
+pub mod Count
+pub mod Numbers

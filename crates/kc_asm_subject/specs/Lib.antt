@@ -1,4 +1,0 @@
-pub mod Uses
-pub mod Values
-pub mod Seeking
-pub mod Symbol

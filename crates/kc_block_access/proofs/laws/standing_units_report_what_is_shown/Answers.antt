@@ -1,5 +1,0 @@
-use Rattle.kc_block_access.proofs.Left.{standing_reports}
-use Rattle.kc_block_access.proofs.laws.standing_units_report_what_is_shown.Goals as goal
-
-pub returns : goal.returns
-returns g c = standing_reports g.X.Extra.further g.X.Extra.agrees

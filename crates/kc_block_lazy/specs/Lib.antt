@@ -1,4 +1,0 @@
-pub mod Scheduler
-pub mod Laws
-pub mod Rows
-pub mod Events

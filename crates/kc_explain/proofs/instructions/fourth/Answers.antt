@@ -1,7 +1,0 @@
-use Rattle.std.proofs.Common.{refl}
-use Rattle.kc_explain.specs.Meanings.{fourth_rows}
-use Rattle.kc_explain.proofs.instructions.fourth.Goals as goal
-
-pub returns : goal.returns
-unfolding fourth_rows
-returns c = refl

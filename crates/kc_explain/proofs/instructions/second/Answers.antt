@@ -1,7 +1,0 @@
-use Rattle.std.proofs.Common.{refl}
-use Rattle.kc_explain.specs.Meanings.{second_rows}
-use Rattle.kc_explain.proofs.instructions.second.Goals as goal
-
-pub returns : goal.returns
-unfolding second_rows
-returns c = refl

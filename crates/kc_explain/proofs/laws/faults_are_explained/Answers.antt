@@ -1,5 +1,0 @@
-use Rattle.kc_explain.proofs.Explained.{faults_are_explained}
-use Rattle.kc_explain.proofs.laws.faults_are_explained.Goals as goal
-
-pub returns : goal.returns
-returns c = faults_are_explained

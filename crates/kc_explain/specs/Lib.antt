@@ -1,5 +1,0 @@
-pub mod Mnemonics
-pub mod Codes
-pub mod Meanings
-pub mod Text
-pub mod Laws

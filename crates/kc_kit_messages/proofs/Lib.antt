@@ -1,0 +1,5 @@
+pub mod Rows
+pub mod Explained
+pub mod Distinct
+pub mod DiagnosticLemmas
+pub mod Words

@@ -1,0 +1,10 @@
+pub mod Mnemonics
+pub mod Codes
+pub mod Meanings
+pub mod Text
+pub mod Laws
+pub mod Diagnostics
+pub mod Origins
+pub mod RuleDiagnostics
+pub mod Rules
+pub mod Subjects

@@ -1,0 +1,43 @@
+// What is printed of a meaning.
+ghost use Rattle.std.specs.Prelude.{◌≡◌, ◌++◌, IfOk, OnOk};
+ghost use Rattle.std.specs.Option.{option_map};
+ghost use Rattle.kc_kit_messages.specs.Meanings.{said};
+ghost use Rattle.kc_kit_messages.specs.Text.{example_text, meaning_text};
+
+use crate::meaning::{Example, Meaning};
+use kc_base::NoMemory;
+use std::alloc::Global;
+
+fn put(text: &mut Vec<u8>, more: &str) -> Result<(), NoMemory>
+    ensures { OnOk result (text.new.items ≡ text.old.items ++ more.now) }
+{
+    text.extend_from_slice(more.as_bytes())?;
+    Ok(())
+}
+
+fn put_example(text: &mut Vec<u8>, example: &Option<Example>) -> Result<(), NoMemory>
+    ensures { OnOk result (text.new.items ≡ text.old.items ++ example_text (option_map (λ e. (e.wrong.now, e.right.now)) example.now)) }
+{
+    let Some(example) = example else {
+        return Ok(());
+    };
+    put(text, "wrong:\n")?;
+    put(text, example.wrong)?;
+    put(text, "\nright:\n")?;
+    put(text, example.right)?;
+    put(text, "\n")
+}
+
+/// What is printed of a meaning: its code and its sentence in a line, and where it has an example, the line `wrong:` with the
+/// wrong lines behind it, and the line `right:` with the right ones.
+pub fn meaning_text(alloc: Global, row: &Meaning) -> Result<Vec<u8>, NoMemory>
+    ensures { IfOk result (λ text. text.items ≡ meaning_text (said row.now)) }
+{
+    let mut text = Vec::new(alloc);
+    put(&mut text, row.code)?;
+    put(&mut text, ": ")?;
+    put(&mut text, row.sentence)?;
+    put(&mut text, ".\n")?;
+    put_example(&mut text, &row.example)?;
+    Ok(text)
+}

@@ -1,2 +1,0 @@
-pub mod DiagnosticLemmas
-pub mod Words

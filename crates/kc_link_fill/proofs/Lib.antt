@@ -1,3 +1,0 @@
-pub mod Modules
-pub mod Room
-pub mod Sorted

@@ -1,2 +1,0 @@
-pub mod BaseLists
-pub mod Filled

@@ -1,5 +1,0 @@
-use Rattle.kc_link_laws.proofs.Lines.{placed_have_lines}
-use Rattle.kc_link_laws.proofs.placed_have_lines.Goals as goal
-
-pub returns : goal.returns
-returns c = placed_have_lines c.code_stands_apart.ensures

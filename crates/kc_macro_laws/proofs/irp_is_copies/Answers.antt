@@ -1,5 +1,0 @@
-use Rattle.kc_macro_laws.proofs.Constructs.{irp_is_copies}
-use Rattle.kc_macro_laws.proofs.irp_is_copies.Goals as goal
-
-pub returns : goal.returns
-returns c = irp_is_copies

@@ -1,5 +1,0 @@
-use Rattle.kc_macro_names.proofs.Expanding.{expansion_keeps_tests}
-use Rattle.kc_macro_names.proofs.expansion_keeps_tests.Goals as goal
-
-pub returns : goal.returns
-returns c = expansion_keeps_tests

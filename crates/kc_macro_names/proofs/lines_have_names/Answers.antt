@@ -1,5 +1,0 @@
-use Rattle.kc_macro_names.proofs.Names.{lines_have_names}
-use Rattle.kc_macro_names.proofs.lines_have_names.Goals as goal
-
-pub returns : goal.returns
-returns c = lines_have_names c.lexemes_are_proper.ensures

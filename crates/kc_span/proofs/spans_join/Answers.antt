@@ -1,5 +1,0 @@
-use Rattle.kc_span.proofs.SpanLaws.{after-add}
-use Rattle.kc_span.proofs.spans_join.Goals as goal
-
-pub returns : goal.returns
-returns g c = after-add

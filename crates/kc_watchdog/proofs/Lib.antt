@@ -1,2 +1,0 @@
-mod Never
-mod FeedingLaws
