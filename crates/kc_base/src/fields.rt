@@ -6,8 +6,9 @@ ghost use Rattle.kc_base.specs.Pins.{IsPin};
 
 use crate::digits::read_digits;
 use crate::limits::MAX_STATES;
+use crate::pins::PIN_COUNT;
 use crate::text_lines::{after, prefix};
-use crate::types::{PIN_COUNT, Pin, StateTime};
+use crate::types::{Pin, StateTime};
 
 /// A number in decimal digits, at most `most`; `None` for any other text. Zeros may stand in front.
 pub fn decimal(most: u64, text: &[u8]) -> Option<u64>

@@ -1,7 +1,6 @@
 ghost use Rattle.std.specs.Prelude.{◌≡◌};
 ghost use Rattle.kc_base.specs.Levels.{level_of, is_high as is_high_level};
 
-pub use crate::pins::PIN_COUNT;
 use std::alloc::{AllocError, AllocFailed};
 
 /// A moment, counted in state times from 0.

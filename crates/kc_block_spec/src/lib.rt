@@ -1,7 +1,7 @@
 //! The peripheral units of the board joined: all of them in one state time, which of them a Tick touches, the data beside them
 //! (the board registers), and their registers below 0018H.
 //! It stands on the data of the units (`kc_timers`, `kc_hso`, `kc_hsi`, `kc_intc`, `kc_extra`) and on stimuli (`kc_stim`). It
-//! holds plain data and definitions with their laws alone.
+//! holds plain data, the tables of registers, and definitions with their laws.
 //! In window 0 a word read of 0AH is Timer 1, 1 in state 9; a byte read of 0AH is refused as `Kind::ByteAccess`, since it is half
 //! of a word register.
 #![tactic(auto)]

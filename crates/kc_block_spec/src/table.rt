@@ -174,7 +174,10 @@ fn uses_in(table: &[Register], sfr: u8) -> Option<Uses>
 fn uses_at(window: Window, sfr: u8) -> Option<Uses>
     ensures { result ≡ uses_stand window sfr }
 {
-    uses_in(registers_of(window), sfr).or(uses_in(&EVERYWHERE, sfr))
+    match uses_in(registers_of(window), sfr) {
+        Some(uses) => Some(uses),
+        None => uses_in(&EVERYWHERE, sfr),
+    }
 }
 
 /// The register that a byte read of the window names.
