@@ -14,7 +14,7 @@ use Rattle.kc_hsi.specs.Input.{hsi_rule}
 use Rattle.kc_hsi.proofs.QuietSpans.{quiet_after}
 use Rattle.kc_extra.specs.Further.{Further}
 use Rattle.kc_span.specs.DeferredUnit.{shown, deferred_at, IsDeferred}
-use Rattle.kc_span.proofs.Scheduler.{asked, asked_shows, lent}
+use Rattle.kc_span.proofs.DeferredUnits.{asked, asked_shows, lent}
 use Rattle.kc_block_spec.specs.declared.board_registers.BoardRegisters.{BoardRegisters}
 use Rattle.kc_block_spec.specs.Levels.{stimulated_before, wired, outputs}
 use Rattle.kc_block_spec.specs.Control.{control_of}

@@ -9,7 +9,7 @@ use Rattle.kc_hsi.specs.Input.{hsi_rule}
 use Rattle.kc_extra.specs.Further.{Further}
 use Rattle.kc_due.specs.Due.{at_slot}
 use Rattle.kc_span.specs.DeferredUnit.{shown, caught_up_to, AreAlike}
-use Rattle.kc_span.proofs.Scheduler.{caught_up, caught_up_shows, alike, alike_shows, due_alike, lent}
+use Rattle.kc_span.proofs.DeferredUnits.{caught_up, caught_up_shows, alike, alike_shows, due_alike, lent}
 use Rattle.kc_block_spec.specs.Control.{control_of}
 use Rattle.kc_block_spec.specs.Levels.{stimulated, stimulated_before, wired, outputs, levels_at}
 use Rattle.kc_block_units.specs.Scheduler.{Scheduler, flag_goes, timer2_goes, line, hso_goes, further_goes, shown_units, levels_ahead, wire_slot, IsFurther, IsScheduled}

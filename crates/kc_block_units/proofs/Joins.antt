@@ -16,7 +16,7 @@ use Rattle.kc_extra.specs.Further.{Further}
 use Rattle.kc_extra.specs.Two.{either_holds}
 use Rattle.kc_due.specs.Due.{Times, at_slot}
 use Rattle.kc_span.specs.DeferredUnit.{DeferredUnit, shown}
-use Rattle.kc_span.proofs.Scheduler.{asked, asked_shows}
+use Rattle.kc_span.proofs.DeferredUnits.{asked, asked_shows}
 use Rattle.kc_block_spec.specs.Levels.{stimulated, stimulated_before, wired, outputs, levels_at}
 use Rattle.kc_block_spec.specs.Fired.{starts}
 use Rattle.kc_block_spec.specs.Control.{control_of}

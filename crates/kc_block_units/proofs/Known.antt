@@ -16,7 +16,7 @@ use Rattle.kc_extra.specs.Further.{Further, is_silent, is_empty}
 use Rattle.kc_extra.specs.declared.outcome.ExtraOut.{ExtraOut}
 use Rattle.kc_due.specs.Due.{at_slot}
 use Rattle.kc_span.specs.DeferredUnit.{DeferredUnit, shown, is_due_in, IsDeferred}
-use Rattle.kc_span.proofs.Scheduler.{event}
+use Rattle.kc_span.proofs.DeferredUnits.{event}
 use Rattle.kc_block_spec.specs.Units.{Units}
 use Rattle.kc_block_spec.specs.Levels.{levels_at, printed, edges_between}
 use Rattle.kc_block_spec.specs.Fired.{resets, starts}

@@ -12,7 +12,7 @@ use Rattle.kc_hso.specs.Cam.{cam_rule, tick_of, fires, slot_at, loads}
 use Rattle.kc_hsi.specs.Input.{hsi_rule}
 use Rattle.kc_extra.specs.Further.{Further, is_silent}
 use Rattle.kc_span.specs.DeferredUnit.{DeferredUnit, shown, IsDeferred}
-use Rattle.kc_span.proofs.Scheduler.{next, passes_over}
+use Rattle.kc_span.proofs.DeferredUnits.{next, passes_over}
 use Rattle.kc_block_spec.specs.Control.{control_of}
 use Rattle.kc_block_spec.specs.Tick.{tick}
 use Rattle.kc_block_spec.specs.Touch.{timer2_touched, hso_works}

@@ -16,7 +16,7 @@ use Rattle.kc_hsi.specs.Input.{Input, hsi_rule}
 use Rattle.kc_extra.specs.Further.{Further, is_silent}
 use Rattle.kc_due.specs.Due.{at_slot}
 use Rattle.kc_span.specs.DeferredUnit.{DeferredUnit, shown, IsDeferred, is_due_in}
-use Rattle.kc_span.proofs.Scheduler.{next, calm, event, waits}
+use Rattle.kc_span.proofs.DeferredUnits.{next, calm, event, waits}
 use Rattle.kc_span.proofs.SpanLaws.{quiet_until}
 use Rattle.kc_block_spec.specs.declared.board_registers.BoardRegisters.{BoardRegisters}
 use Rattle.kc_block_spec.specs.Units.{Units}

@@ -9,7 +9,7 @@ use Rattle.kc_stim.specs.Drives.{Drives, wire_to}
 use Rattle.kc_hsi.specs.Input.{hsi_rule}
 use Rattle.kc_extra.specs.Further.{Further}
 use Rattle.kc_span.specs.DeferredUnit.{DeferredUnit, deferred_at, IsDeferred}
-use Rattle.kc_span.proofs.Scheduler.{asked}
+use Rattle.kc_span.proofs.DeferredUnits.{asked}
 use Rattle.kc_block_spec.specs.Levels.{follows, wired, stimulated_before}
 use Rattle.kc_block_spec.proofs.Quiet.{bit_none}
 use Rattle.kc_block_pins.proofs.InputMasks.{mask_rest, mask_start}

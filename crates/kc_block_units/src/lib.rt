@@ -1,21 +1,25 @@
-//! The units of the board as the block keeps them: each at a state time of its own, beside the list of their due states.
-//! Here they are made, caught up to the present state, and rescheduled when they are next due.
+//! The units of the board as the block keeps them, each a deferred unit at a state of its own beside the due states of the
+//! scheduler: made, caught up and rescheduled; and the laws why the block need not step: before the least due state the Tick of
+//! all units does nothing but lead to what is shown in the next state.
+//! It stands on deferred units (`kc_span`), on the units, and on all units in one state (`kc_block_spec`).
+//! With HSO due in state 82 and no other unit before, the states 11 to 81 pass without a call. `has_overflowed(524_287, 524_288)`
+//! is true: Timer 1 overflows in state 524287.
 #![tactic(auto)]
 
 mod asking;
 mod catching_up;
-mod lazy;
 mod scheduler;
+mod scheduling;
 mod seeing;
 mod slots;
 mod starting;
 
 pub use catching_up::has_overflowed;
-pub use lazy::{
+pub use scheduler::{DeferredUnit, Scheduler};
+pub use scheduling::{
     due_states_are_worked, events_join, extras_are_further, least_slots_are_due,
     quiet_states_only_rest, touches_are_known, untouched_scheduler_stay,
     untouched_units_are_silent, views_are_lines,
 };
-pub use scheduler::{DeferredUnit, Scheduler};
 pub use seeing::control;
 pub use slots::is_due;

@@ -1,2 +1,2 @@
 pub mod SpanLaws
-pub mod Scheduler
+pub mod DeferredUnits

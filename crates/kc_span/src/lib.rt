@@ -5,10 +5,10 @@
 //! `earlier(Some(16), Some(9))` gives `Some(9)`. A timer that is due in state 15 is quiet over the six states from 9 on.
 #![tactic(auto)]
 
-mod lane;
+mod deferred;
 mod span;
 
-pub use lane::{
+pub use deferred::{
     alike_rules, calm_before_due, caught_up_forward, event_at_due, lent_quietly, next_state,
     passes_over, rescheduled, waits_up_to_due,
 };

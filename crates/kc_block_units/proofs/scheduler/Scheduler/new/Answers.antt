@@ -1,7 +1,7 @@
 use Rattle.std.proofs.Common.{◌≡◌, ◌<◌, false, refl, sym, ◌∙◌, ap, subst, arith}
 use Rattle.std.specs.Prelude.{bit_xor}
 use Rattle.kc_hsi.specs.Input.{hsi_rule}
-use Rattle.kc_span.proofs.Scheduler.{asked_shows}
+use Rattle.kc_span.proofs.DeferredUnits.{asked_shows}
 use Rattle.kc_block_spec.specs.declared.board_registers.BoardRegisters.{BoardRegisters}
 use Rattle.kc_block_units.specs.Scheduler.{flag_goes, timer2_goes, hso_goes, further_goes, shown_units, IsScheduled}
 use Rattle.kc_block_units.specs.declared.scheduler.Scheduler.{Scheduler}

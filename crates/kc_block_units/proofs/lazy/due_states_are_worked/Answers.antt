@@ -1,6 +1,0 @@
-use Rattle.kc_block_units.proofs.Spans.{event_is_worked}
-use Rattle.kc_block_units.proofs.lazy.due_states_are_worked.Goals as goal
-
-pub returns : goal.returns
-returns g c =
-    event_is_worked g.X.Extra.further g.X.Extra.agrees (record { rests = g.met.X.Extra.rests; rests_out = g.met.X.Extra.rests_out; rest_keeps = g.met.X.Extra.rest_keeps; keeps = g.met.X.Extra.keeps; start_keeps = g.met.X.Extra.start_keeps })

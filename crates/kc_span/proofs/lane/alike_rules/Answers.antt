@@ -1,8 +1,0 @@
-use Rattle.kc_span.proofs.Scheduler.{alike, alike_shows}
-use Rattle.kc_span.proofs.lane.alike_rules.Goals as goal
-
-pub returns-clause-due : goal.returns-clause-due
-returns-clause-due g c = alike
-
-pub returns-clause-shows : goal.returns-clause-shows
-returns-clause-shows g c = alike_shows

@@ -1,8 +1,0 @@
-use Rattle.kc_span.proofs.Scheduler.{asked, asked_shows}
-use Rattle.kc_span.proofs.lane.rescheduled.Goals as goal
-
-pub returns-clause-due : goal.returns-clause-due
-returns-clause-due g c = asked
-
-pub returns-clause-shows : goal.returns-clause-shows
-returns-clause-shows g c = asked_shows
