@@ -16,7 +16,7 @@ use Rattle.kc_trace.specs.declared.record.Record.TheVariants.{Pin, Entered, Serv
 use Rattle.kc_trace.specs.Text.{level_digit, fields_of, line_of, text_of}
 use Rattle.kc_vcd.specs.History.{time_after, IsSound, IsHistory}
 use Rattle.kc_vcd.specs.Levels.{start_level, moved_by, level_after}
-use Rattle.kc_vcd.specs.Dump.{pin_code, pin_declarations, start_lines, change_of, stamp, changes, prefix}
+use Rattle.kc_vcd.specs.Dump.{pin_code, event_code, pin_declarations, start_lines, change_of, stamp, changes, prefix}
 use Rattle.kc_vcd.specs.Reader.{code_of, reached_by, digit_level, changed_by, level_described, described_with}
 use Rattle.kc_vcd.specs.Laws.{TracesAreRead, DumpsDescribeLevels}
 use Rattle.kc_base.proofs.Words.{plain_line, plain-word, no_lines}
@@ -193,7 +193,7 @@ module _ (m t pin : ℕ) (some : 1 ≤ m) (few : m ≤ 2000000000000) (is : pin 
   others code other true v = ap (λ b. cond b (Some High) (Some v)) other
   others code other false v = refl
 
-  event-described : (at code : ℕ) (v : Level) (more : List ℕ) → 105 < code → reads at v (text_lines (49 ∷ code ∷ 10 ∷ more)) ≡ reads at v (text_lines more)
+  event-described : (at code : ℕ) (v : Level) (more : List ℕ) → pin_code pin_count ≤ code → reads at v (text_lines (49 ∷ code ∷ 10 ∷ more)) ≡ reads at v (text_lines more)
   event-described at code v more far =
       let other : eqb code (pin_code pin) ≡ false = ne_eqb code (pin_code pin) (λ e. omega arith) in
       ap (reads at v) (plain_line (49 ∷ code ∷ []) more (omega arith, (omega arith, tt)))
@@ -235,9 +235,9 @@ module _ (m t pin : ℕ) (some : 1 ≤ m) (few : m ≤ 2000000000000) (is : pin 
   change-described : (before : ℕ) (item : Record) (v : Level) (more : List ℕ) →
       reads (time_after before item) v (text_lines (change_of item ++ more)) ≡ reads (time_after before item) (moved_by pin t item v) (text_lines more)
   change-described before (Pin at edge) v more = edge-described at edge.pin.0 edge.level v more
-  change-described before (Entered at vector back) v more = event-described at 106 v more (omega arith)
-  change-described before (Served at vector mode count) v more = event-described at 107 v more (omega arith)
-  change-described before (Undef what) v more = event-described what.at 108 v more (omega arith)
+  change-described before (Entered at vector back) v more = event-described at (event_code 0) v more (omega arith)
+  change-described before (Served at vector mode count) v more = event-described at (event_code 1) v more (omega arith)
+  change-described before (Undef what) v more = event-described what.at (event_code 2) v more (omega arith)
   change-described before (Stopped at how) v more = refl
   change-described before (Pc value) v more = refl
   change-described before (Psw value) v more = refl

@@ -17,6 +17,10 @@ state_length clock = 2000000000000 / clock
 abbrev pub pin_code : ℕ → ℕ
 pin_code pin = 65 + pin
 
+-- the codes of the events come behind those of the pins
+abbrev pub event_code : ℕ → ℕ
+event_code event = pin_code (pin_count + event)
+
 -- ---- declarations
 
 abbrev pub declaration : List ℕ → ℕ → List ℕ → List ℕ
@@ -28,12 +32,11 @@ pin_declaration pin = declaration (codes "wire") (pin_code pin) (pin_name pin)
 unfoldable pub pin_declarations : ℕ → List ℕ
 pin_declarations count = flat_map pin_declaration (range_with_len 0 count)
 
--- the codes of the events come behind those of the pins: `j`, `k` and `l`
 abbrev pub event_declarations : List ℕ
 event_declarations =
-    declaration (codes "event") 106 (codes "entry")
-    ++ declaration (codes "event") 107 (codes "transfer")
-    ++ declaration (codes "event") 108 (codes "undefined")
+    declaration (codes "event") (event_code 0) (codes "entry")
+    ++ declaration (codes "event") (event_code 1) (codes "transfer")
+    ++ declaration (codes "event") (event_code 2) (codes "undefined")
 
 -- ---- levels and events
 
@@ -44,12 +47,15 @@ start_line pin = level_digit (start_level pin) ∷ pin_code pin ∷ 10 ∷ []
 unfoldable pub start_lines : ℕ → List ℕ
 start_lines count = flat_map start_line (range_with_len 0 count)
 
+abbrev pub event_line : ℕ → List ℕ
+event_line event = codes "1" ++ event_code event ∷ 10 ∷ []
+
 -- what a record changes: the level of a pin, or an event happens
 abbrev pub change_of : Record → List ℕ
 change_of (Pin at edge) = level_digit edge.level ∷ pin_code edge.pin.0 ∷ 10 ∷ []
-change_of (Entered at vector back) = codes "1j\n"
-change_of (Served at vector mode count) = codes "1k\n"
-change_of (Undef what) = codes "1l\n"
+change_of (Entered at vector back) = event_line 0
+change_of (Served at vector mode count) = event_line 1
+change_of (Undef what) = event_line 2
 change_of _ = []
 
 -- the time, where it is another one than before

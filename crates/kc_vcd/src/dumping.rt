@@ -1,9 +1,9 @@
 // A trace as a value change dump.
-ghost use Rattle.std.specs.Prelude.{◌≡◌, ◌≤◌, ◌++◌, IfOk, OnOk};
+ghost use Rattle.std.specs.Prelude.{◌≡◌, ◌<◌, ◌≤◌, ◌++◌, IfOk, OnOk};
 ghost use Rattle.kc_base.specs.Pins.{IsPin, pin_count};
 ghost use Rattle.kc_trace.specs.Printable.{CanPrint};
 ghost use Rattle.kc_vcd.specs.History.{IsHistory};
-ghost use Rattle.kc_vcd.specs.Dump.{state_length as picoseconds, pin_code as code_of_pin, declaration, pin_declarations, event_declarations, start_lines, change_of, stamp, record_text, changes, prefix as prefix_text, dump_of};
+ghost use Rattle.kc_vcd.specs.Dump.{state_length as picoseconds, pin_code as code_of_pin, event_code as code_of_event, declaration, pin_declarations, event_declarations, start_lines, change_of, stamp, record_text, changes, prefix as prefix_text, dump_of};
 
 use crate::levels::start_level;
 use crate::trace::{Trace, time_after};
@@ -59,6 +59,14 @@ fn put_declaration(text: &mut Vec<u8>, kind: &[u8], code: u8, name: &[u8]) -> Re
     put(text, b" $end\n")
 }
 
+// The code of an event: of an entry (0), a transfer (1) or an undefined use (2).
+fn event_code(event: u8) -> u8
+    requires { event < 3 }
+    ensures { result ≡ code_of_event event }
+{
+    b'A' + (PIN_COUNT + event)
+}
+
 fn put_pins(text: &mut Vec<u8>) -> Result<(), NoMemory>
     ensures { OnOk result (text.new.items ≡ text.old.items ++ pin_declarations pin_count) }
 {
@@ -71,9 +79,9 @@ fn put_pins(text: &mut Vec<u8>) -> Result<(), NoMemory>
 fn put_events(text: &mut Vec<u8>) -> Result<(), NoMemory>
     ensures { OnOk result (text.new.items ≡ text.old.items ++ event_declarations) }
 {
-    put_declaration(text, b"event", b'j', b"entry")?;
-    put_declaration(text, b"event", b'k', b"transfer")?;
-    put_declaration(text, b"event", b'l', b"undefined")
+    put_declaration(text, b"event", event_code(0), b"entry")?;
+    put_declaration(text, b"event", event_code(1), b"transfer")?;
+    put_declaration(text, b"event", event_code(2), b"undefined")
 }
 
 fn put_start(text: &mut Vec<u8>) -> Result<(), NoMemory>
@@ -129,9 +137,9 @@ fn put_change(text: &mut Vec<u8>, item: &Record) -> Result<(), NoMemory>
                 &[level_digit(edge.level), pin_code(edge.pin.0), b'\n'],
             )
         }
-        Record::Entered { .. } => put(text, b"1j\n"),
-        Record::Served { .. } => put(text, b"1k\n"),
-        Record::Undef(_) => put(text, b"1l\n"),
+        Record::Entered { .. } => put(text, &[b'1', event_code(0), b'\n']),
+        Record::Served { .. } => put(text, &[b'1', event_code(1), b'\n']),
+        Record::Undef(_) => put(text, &[b'1', event_code(2), b'\n']),
         _ => Ok(()),
     }
 }
