@@ -7,7 +7,7 @@ ghost use Rattle.kc_base.specs.Causes.{Rose};
 
 use crate::stopped::Stopped;
 use arrayvec::ArrayVec;
-use kc_base::{Failed, HostOut, Image, NoMemory, Sink, Steps, put_all};
+use kc_base::{Failed, HostOut, Image, MAX_STATES, NoMemory, Sink, Steps, put_all};
 use kc_extra::NoExtra;
 use kc_machine::{End, Machine};
 use kc_stim::Stimuli;
@@ -18,9 +18,6 @@ use std::sync::ledger::{Blank, Ledger};
 
 /// The place of 2080H in an image.
 const ORIGIN: usize = 0x80;
-
-/// The most state times of a run.
-const MOST_STATES: u64 = 1_000_000_000_000_000;
 
 /// The bytes of each loop at 2080H, from `bench/NAME.a96`.
 const BUSY: [u8; 32] = [
@@ -164,7 +161,7 @@ fn run_loop<S: Sink, L: Ledger>(
     matches!(end, End::Spent) && machine.write_finals(End::Spent, out).is_ok()
 }
 
-/// Runs a loop for so many state times, at most MOST_STATES, and prints how the run ended.
+/// Runs a loop for so many state times, at most MAX_STATES, and prints how the run ended.
 pub fn run(rt: &HostRuntime, which: Loop, states: u64) -> Result<(), Stopped> {
     let mut machine = machine_of(rt.alloc(), which)?;
     let mut gathered = Gathered {
@@ -174,7 +171,7 @@ pub fn run(rt: &HostRuntime, which: Loop, states: u64) -> Result<(), Stopped> {
     let mut out = TraceOut::new(Lines {
         gathered: &mut gathered,
     });
-    let states = states.min(MOST_STATES);
+    let states = states.min(MAX_STATES);
     let ran = run_loop::<_, Brand>(&mut machine, states, &mut out, Blank::new(1));
     if ran && gathered.hand_on().is_ok() {
         Ok(())

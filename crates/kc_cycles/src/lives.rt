@@ -1,4 +1,5 @@
-ghost use Rattle.std.specs.Prelude.{◌≡◌, ◌≤◌, ◌<◌, ◌+◌, ◌-◌, ◌*◌, ◌^◌, ℕ, Bool, true, false, ◌&&◌, nat_lt, IfOk};
+ghost use Rattle.std.specs.Prelude.{◌≡◌, ◌≤◌, ◌<◌, ◌+◌, ◌-◌, ◌*◌, ℕ, Bool, true, false, ◌&&◌, nat_lt, IfOk};
+ghost use Rattle.kc_base.specs.Limits.{max_states};
 ghost use Rattle.kc_trace.specs.Trace.{out_of};
 ghost use Rattle.kc_stim.specs.Drives.{driven_from};
 ghost use Rattle.kc_machine_spec.specs.Machine.{start};
@@ -43,7 +44,7 @@ fn born<M: Maker>(
     maker: &M,
     from: StateTime,
 ) -> Result<Machine<Pair<M::X, Watchdog>>, NoMemory>
-    requires { from ≤ 10 ^ 15 }
+    requires { from ≤ max_states }
     ensures unit { IfOk result (λ machine. IsWatched (M.made maker.now stimuli.now from) machine.machine.board.units.further) }
     ensures machine { IfOk result (λ machine. machine.machine ≡ start image.now (driven_from from stimuli.now) machine.machine.board.units.further) }
 {
@@ -74,7 +75,7 @@ pub fn run_lives<M: Maker, S: Sink, L: Ledger>(
     out: &mut TraceOut<S>,
     steps: &mut Steps<L>,
 ) -> Result<End, LivesFault>
-    requires until { until ≤ 10 ^ 15 }
+    requires until { until ≤ max_states }
     requires some { 1 ≤ lives }
     requires unbroken { out.old.failed ≡ false }
     ensures { Lived ⟦<Pair<M::X, Watchdog> as Extra>⟧.further (M.made maker.now stimuli.now) image.now stimuli.now until lives (out_of S.written S.faults out.old) steps.old result (out_of S.written S.faults out.new) steps.new }

@@ -1,4 +1,5 @@
-ghost use Rattle.std.specs.Prelude.{◌≡◌, ◌≤◌, ◌^◌, ℕ, false, IfOk};
+ghost use Rattle.std.specs.Prelude.{◌≡◌, ◌≤◌, ℕ, false, IfOk};
+ghost use Rattle.kc_base.specs.Limits.{max_states};
 ghost use Rattle.kc_stim.specs.Drives.{Drives};
 ghost use Rattle.kc_cycles.specs.Making.{KeepsFrom};
 
@@ -16,7 +17,7 @@ pub trait Maker {
 
     /// The unit of a life that begins at state `from` of these stimuli. The levels that it keeps are those before that state.
     fn make(&self, alloc: Global, stimuli: &Stimuli, from: StateTime) -> Result<Self::X, NoMemory>
-        requires { from ≤ 10 ^ 15 }
+        requires { from ≤ max_states }
         ensures value { IfOk result (λ unit. Self.X.plain unit ≡ made self.now stimuli.now from) }
         ensures levels { IfOk result (λ unit. KeepsFrom Self.X.agrees stimuli.now from (Self.X.plain unit)) };
 

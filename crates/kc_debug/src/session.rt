@@ -1,5 +1,6 @@
 // Sessions: a script that is carried out over a machine.
 ghost use Rattle.std.specs.Prelude.{◌≡◌, ◌+◌, ◌*◌, ◌^◌, ◌<◌, ◌≤◌, max, [], ◌∷◌, length, drop, count_by, IfOk, IfErr, OnOk, OnErr, false, true};
+ghost use Rattle.kc_base.specs.Limits.{max_states};
 ghost use Rattle.circular_buffer.specs.Buffer.{buffer, keep_last};
 ghost use Rattle.kc_trace.specs.Out.{Puts};
 ghost use Rattle.kc_machine_spec.specs.Run.{end_of};
@@ -155,7 +156,7 @@ impl Sitting {
         ensures fails { OnErr result (FailsIn X.further (at_once_in command) (states_of X.further command (seen machine.old.machine self.old)) (after_command X.further lines.now command (seen machine.old.machine self.old)).text machine.old.machine (out_of S.written S.faults out.old) machine.new.machine (out_of S.written S.faults out.new)) }
         ensures spent { steps.new ≤ steps.old + 4 * touch_in X.further command (seen machine.old.machine self.old) }
         ensures moves { machine.new.moves ≤ machine.old.moves + (4 * touch_in X.further command (seen machine.old.machine self.old) + bytes_of command) }
-        ensures time { machine.new.machine.time ≤ max (10 ^ 15) machine.old.machine.time + 255000000 }
+        ensures time { machine.new.machine.time ≤ max max_states machine.old.machine.time + 255000000 }
         ensures capacity { self.new.begun.capacity ≡ 33 }
         ensures fault { ReportsFault result out.new.failed }
     {
@@ -189,7 +190,7 @@ impl Sitting {
         requires bounded { AreBounded commands.now }
         requires breaks { self.old.breaks.items ≡ [] }
         requires begun { self.old.begun ≡ buffer [] 33 }
-        requires room { machine.old.machine.time ≤ 10 ^ 15 }
+        requires room { machine.old.machine.time ≤ max_states }
         requires unbroken { out.old.failed ≡ false }
         ensures text { Puts (out_of S.written S.faults out.old) (transcript X.further lines.now commands.now machine.old.machine).text (out_of S.written S.faults out.new) }
         ensures machine { OnOk result (machine.new.machine ≡ (transcript X.further lines.now commands.now machine.old.machine).machine) }
@@ -247,7 +248,7 @@ impl Session {
         out: &mut TraceOut<S>,
         steps: &mut Steps<L>,
     ) -> Result<End, DebugFault>
-        requires room { machine.old.machine.time ≤ 10 ^ 15 }
+        requires room { machine.old.machine.time ≤ max_states }
         requires unbroken { out.old.failed ≡ false }
         ensures text { Puts (out_of S.written S.faults out.old) (transcript X.further self.old script.now machine.old.machine).text (out_of S.written S.faults out.new) }
         ensures machine { OnOk result (machine.new.machine ≡ (transcript X.further self.old script.now machine.old.machine).machine) }

@@ -4,6 +4,7 @@ use Rattle.std.specs.Global.{Vec}
 use Rattle.kc_code.specs.Listing.{listing}
 use Rattle.kc_debug_script.specs.declared.line_map.MapEntry.{MapEntry}
 use Rattle.kc_base.specs.Held.{Holding}
+use Rattle.kc_base.specs.Limits.{image_start}
 use Rattle.kc_obj_module.specs.Object.{Object}
 use Rattle.kc_link_place.specs.declared.ranges.Ranges.{Ranges}
 use Rattle.kc_link_place.specs.declared.placing.Placement.{Placement}
@@ -48,7 +49,7 @@ abbrev pub IsDoable : Job → Type 0
 IsDoable (job.Run board extent) = IsBounded extent
 IsDoable (job.Profile board states entries out) = states ≤ max_states
 IsDoable (job.Count board number) = Unit {0}
-IsDoable (job.List image first last) = (0x2000 ≤ first) × (first ≤ last)
+IsDoable (job.List image first last) = (image_start ≤ first) × (first ≤ last)
 IsDoable (job.Debug board script lines) = Unit {0}
 IsDoable (job.Write file lines map) = Unit {0}
 

@@ -1,5 +1,6 @@
 // The command that lists the instructions of a hex file.
 ghost use Rattle.std.specs.Prelude.{◌≡◌, ◌≤◌, false};
+ghost use Rattle.kc_base.specs.Limits.{image_start};
 ghost use Rattle.kc_kit_files.specs.Outside.{Prints, shown_by};
 ghost use Rattle.kc_kit_words.specs.Asked.{asked, IsWithin};
 ghost use Rattle.kc_kit_answer.specs.Hex.{ListingOf};
@@ -45,7 +46,7 @@ pub(crate) fn list_image<S: Sink>(
     out: &mut TraceOut<S>,
 ) -> Status
     requires ready { out.old.failed ≡ false }
-    requires first { 0x2000 ≤ first }
+    requires first { image_start ≤ first }
     requires order { first ≤ last }
     ensures { Prints (ListingOf first last image.now) (shown_by S.written S.faults out.old.sink) result (shown_by S.written S.faults out.new.sink) }
 {

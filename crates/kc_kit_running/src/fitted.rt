@@ -1,5 +1,6 @@
 // The machine of a board with its further units.
 ghost use Rattle.std.specs.Prelude.{◌≡◌, ◌≤◌, ℕ, bit_xor, IfOk};
+ghost use Rattle.kc_base.specs.Limits.{max_states};
 ghost use Rattle.kc_block_spec.specs.Levels.{stimulated_before};
 ghost use Rattle.kc_kit_running.specs.Fitted.{units_at, fitted_agrees, rxd_before};
 ghost use Rattle.kc_kit_running.specs.Running.{machine_of};
@@ -28,7 +29,7 @@ fn rxd_level(stimuli: &Stimuli) -> Level
 /// The units before the first state of a run, where these drive the inputs: the pins from their state 0 on, the analogue
 /// inputs from state `from` on.
 pub(crate) fn fitted_unit(stimuli: &Stimuli, values: Analog, from: StateTime) -> FittedUnit
-    requires { from ≤ 1000000000000000 }
+    requires { from ≤ max_states }
     ensures unit { result ≡ units_at stimuli.now values from }
     ensures agrees { (edges : ℕ) → fitted_agrees edges (bit_xor (stimulated_before stimuli.now 0) edges) result }
 {

@@ -18,7 +18,7 @@ ghost use Rattle.kc_machine.specs.Prepared.{HasSlot, IsRead, IsSlot, IsTable};
 use crate::choosing::fetch;
 use crate::noted::Noted;
 use crate::weights::{weigh_read, weigh_word, weigh_write, window_for};
-use kc_base::{EdgeOut, Kind, NoMemory, StateTime, Steps};
+use kc_base::{EdgeOut, IMAGE_START, Kind, NoMemory, StateTime, Steps};
 use kc_block::Block;
 use kc_block_spec::Window;
 use kc_bus::{Masks, Master};
@@ -44,7 +44,7 @@ pub struct Common<X: Extra + Drop> {
 }
 
 /// The first address from which an instruction is predecoded, and how many have a slot: all seven bytes of each stand in ROM.
-const FIRST: u16 = 0x2000;
+const FIRST: u16 = IMAGE_START;
 
 const SLOTS: usize = 0x3FFA;
 

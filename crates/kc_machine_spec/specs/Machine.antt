@@ -4,6 +4,7 @@ use Rattle.std.specs.Prelude.{ℕ, zero, suc, ◌+◌, ◌-◌, ◌*◌, ◌%◌
 use Rattle.kc_base.specs.declared.types.Kind.{Kind}
 use Rattle.kc_base.specs.declared.types.Kind.TheVariants.{OutsideMap, Opcode}
 use Rattle.kc_base.specs.declared.types.Undefined.{Undefined}
+use Rattle.kc_base.specs.Limits.{image_start}
 use Rattle.kc_isa.specs.declared.insn.Insn.{Insn}
 use Rattle.kc_isa.specs.declared.insn.Place.{Place}
 use Rattle.kc_isa.specs.declared.table.Mnemonic.{Mnemonic}
@@ -292,7 +293,7 @@ module _ {X : Type 0} (f : Further X) where
 
 -- the memory of an image: all bytes below it are 0
 unfoldable pub memory_of : List ℕ → List ℕ
-memory_of image = replicate 0x2000 0 ++ image
+memory_of image = replicate image_start 0 ++ image
 
 -- the machine of an image at state 0, with these stimuli and wires and these data of the further unit
 abbrev pub start : {X : Type 0} → List ℕ → Drives → X → Machine X
