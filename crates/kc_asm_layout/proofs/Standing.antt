@@ -3,7 +3,7 @@
 use Rattle.std.proofs.Common.{◌≡◌, ◌≢◌, ℕ, Bool, true, false, ◌+◌, ◌<◌, ◌≤◌, ◌||◌, not, eqb, leb, ◌⊎◌, inl, inr, Option, Some, None, List, [], ◌∷◌, ◌++◌, length, get_or, refl, sym, ◌∙◌, arith}
 use Rattle.std.proofs.Math.ListN.{set}
 use Rattle.std.proofs.lemmas.Bool.{and_parts}
-use Rattle.std.proofs.lemmas.Bool.Decides.{nat_tests, eqb_reports}
+use Rattle.std.proofs.lemmas.Bool.Decides.{nat_tests, eqb_tells}
 use Rattle.std.proofs.lemmas.Grind.{common_steps, get_or-set_at}
 use Rattle.std.proofs.lemmas.List.{length-append, get_or-set_other}
 use Rattle.std.proofs.Math.ListN.{length-set}
@@ -73,7 +73,7 @@ pub record Passes (p k v w here next_here next_there : ℕ) : Type 0 where
 
 one : (ends : List ℕ) (p v here next_here : ℕ) → here ≡ get_or ends 1 0 → 3 ≤ length ends → (p ≡ 1 → next_here ≡ v) → (p ≢ 1 → next_here ≡ here)
     → next_here ≡ get_or (set ends p v) 1 0
-one ends p v here next_here m many is other = elim (eqb_reports p 1) [
+one ends p v here next_here m many is other = elim (eqb_tells p 1) [
   | inl e ↦ is e.1 ∙ sym (get_or-set_at ends p 1 v 0 (sym e.1) (omega arith))
   | inr d ↦ other d.1 ∙ m ∙ sym (get_or-set_other ends p 1 v 0 (λ e. d.1 (sym e)))
 ]
