@@ -2,8 +2,7 @@
 ghost use Rattle.std.specs.Prelude.{◌≡◌, ◌++◌, IfOk, OnOk};
 ghost use Rattle.kc_kit_answer.specs.Lines.{map_line, map_text};
 
-use itoa::Buffer;
-use kc_base::NoMemory;
+use kc_base::{NoMemory, put_number};
 use kc_link::LineAt;
 use kc_trace::address_text;
 use std::alloc::Global;
@@ -15,8 +14,7 @@ fn put_line(text: &mut Vec<u8>, entry: &LineAt) -> Result<(), NoMemory>
     text.push(b' ')?;
     text.extend_from_slice(entry.name.as_slice())?;
     text.push(b' ')?;
-    let mut buffer = Buffer::new();
-    text.extend_from_slice(buffer.format(entry.line).as_bytes())?;
+    put_number(text, u64::from(entry.line))?;
     text.push(b'\n')?;
     Ok(())
 }

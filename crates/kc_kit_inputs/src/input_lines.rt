@@ -5,8 +5,7 @@ ghost use Rattle.kc_kit_files.specs.Response.{reports, IsRefused};
 ghost use Rattle.kc_kit_inputs.specs.Lines.{coded, place_text, input_line};
 ghost use Rattle.kc_kit_inputs.specs.Responses.{line_response, byte_response};
 
-use itoa::Buffer;
-use kc_base::NoMemory;
+use kc_base::{NoMemory, put_number};
 use kc_kit_files::{Cause, Refusal, refusal_of};
 use kc_kit_messages::{byte_diagnostic, line_diagnostic};
 use std::alloc::Global;
@@ -16,10 +15,8 @@ pub(crate) fn coded(alloc: Global, letter: &[u8], number: u8) -> Result<Vec<u8>,
     ensures { IfOk result (λ text. text.items ≡ coded letter.now number) }
 {
     let mut text = Vec::from_slice(alloc, letter)?;
-    let mut tens = Buffer::new();
-    text.extend_from_slice(tens.format(number / 10).as_bytes())?;
-    let mut ones = Buffer::new();
-    text.extend_from_slice(ones.format(number % 10).as_bytes())?;
+    put_number(&mut text, u64::from(number / 10))?;
+    put_number(&mut text, u64::from(number % 10))?;
     Ok(text)
 }
 
@@ -27,9 +24,8 @@ pub(crate) fn coded(alloc: Global, letter: &[u8], number: u8) -> Result<Vec<u8>,
 pub(crate) fn place_text(alloc: Global, place: u32, code: &[u8]) -> Result<Vec<u8>, NoMemory>
     ensures { IfOk result (λ text. text.items ≡ place_text place code.now) }
 {
-    let mut buffer = Buffer::new();
     let mut text = Vec::from_slice(alloc, b":")?;
-    text.extend_from_slice(buffer.format(place).as_bytes())?;
+    put_number(&mut text, u64::from(place))?;
     text.extend_from_slice(b": ")?;
     text.extend_from_slice(code)?;
     text.push(b'\n')?;

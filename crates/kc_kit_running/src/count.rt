@@ -10,8 +10,7 @@ ghost use Rattle.kc_kit_running.specs.Counted.{counts_text, numbered, summary_of
 use crate::board::Board;
 use crate::fitted::fitted_machine;
 use crate::image_run::status_of;
-use itoa::Buffer;
-use kc_base::{Failed, NoMemory, Sink, StateTime, Steps};
+use kc_base::{Failed, NoMemory, Sink, StateTime, Steps, put_number};
 use kc_kit_files::{Status, say};
 use kc_machine::{End, stopped};
 use kc_trace::{Counts, TraceOut, line};
@@ -37,13 +36,12 @@ impl Sink for Silence {
     }
 }
 
-fn put_number(text: &mut Vec<u8>, word: &[u8], number: u64) -> Result<(), NoMemory>
+fn put_numbered(text: &mut Vec<u8>, word: &[u8], number: u64) -> Result<(), NoMemory>
     ensures { OnOk result (text.new.items ≡ text.old.items ++ numbered word.now number) }
 {
-    let mut buffer = Buffer::new();
     text.extend_from_slice(word)?;
     text.push(b' ')?;
-    text.extend_from_slice(buffer.format(number).as_bytes())?;
+    put_number(text, number)?;
     text.push(b'\n')?;
     Ok(())
 }
@@ -53,10 +51,10 @@ fn counts_text(alloc: Global, number: u16, counts: Counts) -> Result<Vec<u8>, No
     ensures { IfOk result (λ text. text.items ≡ counts_text number counts) }
 {
     let mut text = Vec::new(alloc);
-    put_number(&mut text, b"gen", u64::from(number))?;
-    put_number(&mut text, b"P", counts.pins)?;
-    put_number(&mut text, b"I", counts.entries)?;
-    put_number(&mut text, b"S", counts.cycles)?;
+    put_numbered(&mut text, b"gen", u64::from(number))?;
+    put_numbered(&mut text, b"P", counts.pins)?;
+    put_numbered(&mut text, b"I", counts.entries)?;
+    put_numbered(&mut text, b"S", counts.cycles)?;
     Ok(text)
 }
 
