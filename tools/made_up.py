@@ -17,7 +17,7 @@ MADE = {
         [("table.rt", "LJMP, GAP, GAP, GAP, GAP,", "LJMP, XORBX, XORBX, XORBX, XORBX,")],
     ),
     "A register of a unit": (
-        r"^ +Ioc3,$|^ +(pub )?ioc3: (u8|0),|byte!\(0x0C: IOC3|::Ioc3 => [sS]teady",
+        r"^ +Ioc3,$|^ +(pub )?ioc3: (u8|0),|byte!\(0x0C: IOC3|::Ioc3 => [bB]oard_?[rR]egisters",
         None,
         [(r"\bIOC3\b", "IOC4"), (r"\bIoc3\b", "Ioc4"), (r"\bioc3\b", "ioc4"), (r"\b0x0C\b", "0x0D")],
         [],
