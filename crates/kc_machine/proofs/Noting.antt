@@ -17,7 +17,7 @@ use Rattle.kc_block_spec.specs.Units.{Units}
 use Rattle.kc_block_spec.specs.Levels.{printed, edges_between}
 use Rattle.kc_block_spec.specs.Touch.{in_state}
 use Rattle.kc_block_spec.specs.Leading.{Leads}
-use Rattle.kc_block_spec.specs.Registers.{bytes_read, bytes_read_everywhere, bytes_written_everywhere, words_read, row_at, is_half}
+use Rattle.kc_block_spec.specs.Registers.{bytes_read, bytes_read_everywhere, bytes_written_everywhere, words_read, row_at, is_half, words_written, bytes_written, registers}
 use Rattle.kc_block_spec.specs.Reading.{after_byte, after_word}
 use Rattle.kc_block_spec.specs.Accesses.{latch_edges, after_byte_read, after_byte_read_as, byte_written, word_read, after_word_read, after_word_read_as, word_written}
 use Rattle.kc_block_spec.proofs.Quiet.{edges_none}
@@ -170,16 +170,19 @@ module _ {X : Type 0} (f : Further X) where
 
   -- the word at 0000H reads 0, and ignores writes
   pub zeros-read : (t : ℕ) (w : Window) (u : Units X) → word_read f t w u 0 ≡ Ok 0
+  unfolding words_read bytes_read registers
   zeros-read t Window0 u = refl
   zeros-read t Window1 u = refl
   zeros-read t Window15 u = refl
 
   pub zeros-stay : (t : ℕ) (w : Window) (u : Units X) → u ≡ after_word_read f t w u 0
+  unfolding words_read bytes_read registers
   zeros-stay t Window0 u = refl
   zeros-stay t Window1 u = refl
   zeros-stay t Window15 u = refl
 
   pub zeros-written : (t : ℕ) (w : Window) (u : Units X) (n : ℕ) → word_written f t w u 0 n ≡ Ok u
+  unfolding words_written bytes_written registers
   zeros-written t Window0 u n = refl
   zeros-written t Window1 u n = refl
   zeros-written t Window15 u n = refl

@@ -10,7 +10,7 @@ ghost use Rattle.kc_machine_spec.specs.Scene.{byte};
 ghost use Rattle.kc_machine_spec.specs.Machine.{breaks, placed, scene_of, pushing_states, fetches, enters, sets_up, goes_on, goes_first, asked, serves, chosen, current};
 ghost use Rattle.kc_machine_spec.specs.Passing.{IsIdle};
 ghost use Rattle.kc_machine_spec.specs.Peeking.{peeked};
-ghost use Rattle.kc_exec_predecode.specs.Predecoding as kc_ready;
+ghost use Rattle.kc_exec_predecode.specs.Predecoding as predecoding;
 ghost use Rattle.kc_machine.specs.Passing.{Knows};
 ghost use Rattle.kc_machine.specs.Prepared.{IsBetween, IsFree, HasSlot};
 ghost use Rattle.kc_machine.specs.Sound.{IsGoing, IsPredecoded, IsSoundGoing};
@@ -121,7 +121,7 @@ impl<X: Extra + Drop> Core<X> {
         predecoded: &Predecoded,
         steps: &mut Steps<L>,
     ) -> UnderWay
-        requires { kc_ready.IsReady predecoded.now }
+        requires { predecoding.IsPredecoded predecoded.now }
         ensures knows { Knows (placed predecoded.now.insn (place_of predecoded.now.insn (machine_of self.old).cpu (masks_of (machine_of self.old).board.units) (byte (scene_of (machine_of self.old))))) result self.old self.new steps.old steps.new }
     {
         match time_over(predecoded, self.cpu, &mut self.bus, steps) {
@@ -227,7 +227,7 @@ impl<X: Extra + Drop> Core<X> {
 
     /// The activity that has the coming state.
     pub(crate) fn current<L: Ledger>(&mut self, steps: &mut Steps<L>) -> UnderWay
-        requires { IsReady self.old }
+        requires { IsPredecoded self.old }
         ensures knows { Knows (current (machine_of self.old)) result self.old self.new steps.old steps.new }
     {
         match self.under_way {

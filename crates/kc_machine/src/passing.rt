@@ -14,7 +14,7 @@ ghost use Rattle.kc_machine_spec.specs.Machine.{scene_of, current, asked, broken
 ghost use Rattle.kc_machine_spec.specs.Passing.{IsIdle, left_at, whole, activity_end};
 ghost use Rattle.kc_machine_spec.specs.Run.{run_to, end_of};
 ghost use Rattle.kc_exec_spec.specs.Plans.{plan_of};
-ghost use Rattle.kc_exec_predecode.specs.Predecoding as kc_ready;
+ghost use Rattle.kc_exec_predecode.specs.Predecoding as predecoding;
 ghost use Rattle.kc_exec_predecode.specs.Predecoding.{is_free};
 ghost use Rattle.kc_machine.specs.Prepared.{IsBetween, IsFree, HasSlot, executing};
 ghost use Rattle.kc_machine.specs.Sound.{IsGoing, IsPredecoded, IsSoundGoing};
@@ -80,9 +80,9 @@ impl<X: Extra + Drop> Core<X> {
         requires fewer { until - self.old.time < activity.left }
         requires room { until ≤ 3 * 10 ^ 15 }
         requires sound { IsGoing activity }
-        requires predecoded { IsReady self.old }
+        requires predecoded { IsPredecoded self.old }
         ensures goes { GoesAs (ticks_to X.further (machine_of self.old) until (until - self.old.time) (left_at activity (activity.left - (until - self.old.time)))) self.old self.new (out_of S.written S.faults out.old) (out_of S.written S.faults out.new) steps.old steps.new }
-        ensures predecoded { IsReady self.new }
+        ensures predecoded { IsPredecoded self.new }
     {
         let states = until - self.time;
         self.advance(states, out, steps);
@@ -102,9 +102,9 @@ impl<X: Extra + Drop> Core<X> {
     )
         requires some { self.old.time < until }
         requires room { until ≤ 3 * 10 ^ 15 }
-        requires predecoded { IsReady self.old }
+        requires predecoded { IsPredecoded self.old }
         ensures goes { GoesAs (ticks_to X.further (machine_of self.old) until (until - self.old.time) self.old.under_way) self.old self.new (out_of S.written S.faults out.old) (out_of S.written S.faults out.new) steps.old steps.new }
-        ensures predecoded { IsReady self.new }
+        ensures predecoded { IsPredecoded self.new }
     {
         self.advance(until - self.time, out, steps);
         self.time = until;
@@ -118,11 +118,11 @@ impl<X: Extra + Drop> Core<X> {
         steps: &mut Steps<L>,
     )
         requires going { IsGoing activity }
-        requires predecoded { IsReady self.old }
+        requires predecoded { IsPredecoded self.old }
         requires room { self.old.time + activity.left ≤ 3 * 10 ^ 15 }
         ensures goes { GoesAs (whole X.further (machine_of self.old) activity) self.old self.new (out_of S.written S.faults out.old) (out_of S.written S.faults out.new) steps.old steps.new }
         ensures time { self.new.time ≡ self.old.time + activity.left }
-        ensures predecoded { IsReady self.new }
+        ensures predecoded { IsPredecoded self.new }
     {
         let left = u64::from(activity.left);
         self.advance(left, out, steps);
@@ -148,7 +148,7 @@ impl<X: Extra + Drop> Core<X> {
     /// A state up to which the machine does nothing but idle, `until` at most; the present state where it does not idle, or
     /// where a request is served.
     pub(crate) fn idles_to(&self, until: StateTime) -> StateTime
-        requires predecoded { IsReady self.now }
+        requires predecoded { IsPredecoded self.now }
         ensures from { self.now.time ≤ result }
         ensures within { result ≤ max until self.now.time }
         ensures idles { IdlesFor X.further (result - self.now.time) (machine_of self.now) }
@@ -367,15 +367,15 @@ impl<X: Extra + Drop> Core<X> {
         steps: &mut Steps<L>,
     ) -> bool
         requires between { IsBetween (machine_of self.old) }
-        requires known { kc_ready.IsReady predecoded.now }
+        requires known { predecoding.IsPredecoded predecoded.now }
         requires followed { is_free (plan_of predecoded.now.mnemonic) ≡ true }
         requires some { 0 < states }
-        requires predecoded { IsReady self.old }
+        requires predecoded { IsPredecoded self.old }
         requires lives { self.old.ended ≡ None }
         requires room { self.old.time + states ≤ 3 * 10 ^ 15 }
         ensures goes { GoesAs (whole X.further (machine_of self.old) (executing predecoded.now states)) self.old self.new (out_of S.written S.faults out.old) (out_of S.written S.faults out.new) steps.old steps.new }
         ensures time { self.new.time ≡ self.old.time + states }
-        ensures predecoded { IsReady self.new }
+        ensures predecoded { IsPredecoded self.new }
         ensures free { OnTrue result (IsFree (machine_of self.new)) }
     {
         let left = u64::from(states);
@@ -404,7 +404,7 @@ impl<X: Extra + Drop> Core<X> {
         steps: &mut Steps<L>,
     ) -> bool
         requires between { IsBetween (machine_of self.old) }
-        requires known { kc_ready.IsReady predecoded.now }
+        requires known { predecoding.IsPredecoded predecoded.now }
         requires followed { is_free (plan_of predecoded.now.mnemonic) ≡ true }
         requires value { executing predecoded.now states ≡ current (machine_of self.old) }
         requires some { 0 < states }
@@ -444,7 +444,7 @@ impl<X: Extra + Drop> Core<X> {
         out: &mut TraceOut<S>,
         steps: &mut Steps<L>,
     ) -> Result<End, WriteFault>
-        requires predecoded { IsReady self.old }
+        requires predecoded { IsPredecoded self.old }
         requires until { until ≤ 2 * 10 ^ 15 }
         requires unbroken { out.old.failed ≡ false }
         ensures end { IfOk result (λ end. end ≡ end_of (run_to X.further until (machine_of self.old)).machine) }
@@ -455,7 +455,7 @@ impl<X: Extra + Drop> Core<X> {
         ensures stands { machine_of self.new ≡ (run_to X.further self.new.time (machine_of self.old)).machine }
         ensures within { self.new.time ≤ max until self.old.time }
         ensures goes { self.old.ended ≡ None → self.old.time < until → self.old.time < self.new.time }
-        ensures predecoded { IsReady self.new }
+        ensures predecoded { IsPredecoded self.new }
         ensures costs { CostsAtMost (4 * (run_to X.further self.new.time (machine_of self.old)).touch) steps.old steps.new self.old.bus.block.moves self.new.bus.block.moves }
     {
         let mut free = self.is_free();
@@ -473,7 +473,7 @@ impl<X: Extra + Drop> Core<X> {
 
     // Goes on to the end of the activity.
     fn pass_current<S: Sink, L: Ledger>(&mut self, out: &mut TraceOut<S>, steps: &mut Steps<L>)
-        requires predecoded { IsReady self.old }
+        requires predecoded { IsPredecoded self.old }
         requires lives { self.old.ended ≡ None }
         requires room { self.old.time ≤ 2 * 10 ^ 15 }
         ensures passed { PassesAs X.further (activity_end (machine_of self.old)) self.old self.new (out_of S.written S.faults out.old) (out_of S.written S.faults out.new) steps.old steps.new }
@@ -490,7 +490,7 @@ impl<X: Extra + Drop> Core<X> {
         out: &mut TraceOut<S>,
         steps: &mut Steps<L>,
     ) -> Result<Option<End>, WriteFault>
-        requires predecoded { IsReady self.old }
+        requires predecoded { IsPredecoded self.old }
         requires room { self.old.time ≤ 2 * 10 ^ 15 }
         requires unbroken { out.old.failed ≡ false }
         ensures end { IfOk result (λ end. end ≡ (run_to X.further (activity_end (machine_of self.old)) (machine_of self.old)).machine.ended) }
@@ -499,7 +499,7 @@ impl<X: Extra + Drop> Core<X> {
         ensures goes { GoesAs (run_to X.further (activity_end (machine_of self.old)) (machine_of self.old)) self.old self.new (out_of S.written S.faults out.old) (out_of S.written S.faults out.new) steps.old steps.new }
         ensures written { OnOk result (out.new.failed ≡ false) }
         ensures fails { OnErr result (FailsIn X.further (activity_end (machine_of self.old)) (machine_of self.old) (out_of S.written S.faults out.old) (machine_of self.new) (out_of S.written S.faults out.new)) }
-        ensures predecoded { IsReady self.new }
+        ensures predecoded { IsPredecoded self.new }
     {
         if let Some(end) = self.ended {
             return Ok(Some(end));
