@@ -97,5 +97,5 @@ module _ (b : Bases) (look : Look) where
   data_filled size [] a h = nothing_filled a
   data_filled size (i ∷ items) a h =
       filled-append b (item_relocatables look size i) (data_relocatables look size items) a
-      ∙ (λ k. item_filled size i a (fit-prefix b a (item_relocatables look size i) (data_relocatables look size items) h) k
+      ∙ (λ k. item_filled size i a (fit-beginning b a (item_relocatables look size i) (data_relocatables look size items) h) k
       ++ data_filled size items (a + length (item_relocatables look size i)) (fit-behind b a (item_relocatables look size i) (data_relocatables look size items) h) k)

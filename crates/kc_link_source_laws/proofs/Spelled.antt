@@ -40,7 +40,7 @@ module _ (fills : FilledIsSpelled) (sounds : SettledIsSound) where
   all_said b a (l ∷ ls) [] h k m words even fit = absurd h
   all_said b a (l ∷ ls) (w ∷ ws) h k m words even fit =
       let e = all_even b l.word w ws h.0 even k.0 m.0 in
-      let s : IsSettled b a w = record { fit = fit-prefix b a (worded_relocatables w) (all_relocatable_bytes ws) fit; even = e.0; words = words.0 } in
+      let s : IsSettled b a w = record { fit = fit-beginning b a (worded_relocatables w) (all_relocatable_bytes ws) fit; even = e.0; words = words.0 } in
       one_more b a l.word w ws h.0 s (all_said b (a + length (worded_relocatables w)) ls ws h.1 k.1 m.1 words.1 e.1 (fit-behind b a (worded_relocatables w) (all_relocatable_bytes ws) fit))
 
 pub operation_said : FilledIsSpelled → SettledIsSound → OperationsAreInstructions → PointersAreEven → NumbersAreWords → (b : Bases) (place : ℕ) (word : List ℕ) (args : List Argument) (form : Form) (here : Value)

@@ -13,7 +13,7 @@ loop-rest-preserved c =
     let words = c.prefix.result.now in
     let ls = text_lines c.after-rest.result.now in
     let texts : text_lines c.loop-rest.rest.now ≡ words ∷ ls = c.first_line-len.ensures.read ∙ (λ i. sym c.prefix.ensures i ∷ text_lines (sym c.after-rest.ensures i)) in
-    let own : c.split_at.result.0.now ≡ filter (is_on c.loop-rest.line) c.loop-rest.later.now = c.split_at.ensures.prefix ∙ c.count_on-count.ensures.own in
+    let own : c.split_at.result.0.now ≡ filter (is_on c.loop-rest.line) c.loop-rest.later.now = c.split_at.ensures.front ∙ c.count_on-count.ensures.own in
     let so_far = ap (λ t. c.loop-rest.text.items ++ lines_text c.args.object.now c.loop-rest.later.now c.loop-rest.line t) (sym texts) ∙ c.loop-rest.invariant.goes_on in
     record {
       few = omega (arith, c.first_line-len.ensures.goes, ap length c.after-rest.ensures, length-drop c.first_line-len.result.1 c.loop-rest.rest.now);

@@ -12,4 +12,4 @@ returns c =
     ∙ ap (option_or (wrong_by c.as_str-verb.result.now files options (wrong_option c.as_str-verb.result.now options))) (c.wrong_writes.ensures ∙ ap wrong_writes c.read_command.ensures.asked)
     ∙ ap (λ v. wrong_with v files options) c.as_str-verb.ensures.value
     ∙ sym (plain_usage-verb c.args.words.now c.split_at.result.0.now c.split_at.result.1.now c.verb-item.result c.count_files.result (omega (arith, c.in-len1-up.len_at_least)) c.verb-item.is c.count_files.ensures.count
-    c.split_at.ensures.prefix c.split_at.ensures.back)
+    c.split_at.ensures.front c.split_at.ensures.back)

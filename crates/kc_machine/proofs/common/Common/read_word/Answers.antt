@@ -1,11 +1,14 @@
 use Rattle.std.proofs.Common.{◌-◌, ◌≤◌, ap, sym, subst, arith, rules}
 use Rattle.std.proofs.lemmas.Grind.{common_steps}
 use Rattle.kc_machine.specs.Bus.{held_of}
-use Rattle.kc_machine.proofs.Noting.{word-was-read, word-counts, word-some, zeros-were-read}
+use Rattle.kc_machine.proofs.Noting.{word-was-read, word-counts, word-some, zeros-were-read, zeros-answer}
 use Rattle.kc_machine.proofs.common.Common.read_word.Goals as goal
 
 pub returns-then-addr-lt2-clause-ok : goal.returns-then-addr-lt2-clause-ok
 returns-then-addr-lt2-clause-ok g c = zeros-were-read g.X.Extra.further (held_of c.args.self.now) c.args.by c.args.addr (omega arith)
+
+pub returns-then-addr-lt2-clause-answer : goal.returns-then-addr-lt2-clause-answer
+returns-then-addr-lt2-clause-answer g c = zeros-answer g.X.Extra.further (held_of c.args.self.now) c.args.by c.args.addr (omega arith)
 
 pub returns-clause-ok : goal.returns-clause-ok
 returns-clause-ok g c =

@@ -2,11 +2,14 @@ use Rattle.std.proofs.Common.{◌-◌, ◌≤◌, ap, sym, subst, arith, rules}
 use Rattle.std.proofs.lemmas.Grind.{common_steps}
 use Rattle.kc_block.specs.Seen.{Seen}
 use Rattle.kc_machine.specs.Bus.{held_of}
-use Rattle.kc_machine.proofs.Noting.{word-was-written, word-counts, word-some, zeros-were-written, refused-scene}
+use Rattle.kc_machine.proofs.Noting.{word-was-written, word-counts, word-some, zeros-were-written, zeros-accept, refused-scene}
 use Rattle.kc_machine.proofs.common.Common.write_word.Goals as goal
 
 pub returns-then-addr-lt2-clause-ok : goal.returns-then-addr-lt2-clause-ok
 returns-then-addr-lt2-clause-ok g c = zeros-were-written g.X.Extra.further (held_of c.args.self.now) c.args.by c.args.addr c.args.value (omega arith)
+
+pub returns-then-addr-lt2-clause-answer : goal.returns-then-addr-lt2-clause-answer
+returns-then-addr-lt2-clause-answer g c = zeros-accept g.X.Extra.further (held_of c.args.self.now) c.args.by c.args.addr c.args.value (omega arith)
 
 pub returns-in-Ok-clause-ok : goal.returns-in-Ok-clause-ok
 returns-in-Ok-clause-ok g c =
