@@ -3,7 +3,7 @@ use Rattle.std.proofs.Common.{[], ◌≡◌, ◌==◌, Bool, true, false, ◌&&�
 use Rattle.std.specs.Int.{bit_at}
 use Rattle.kc_base.specs.Bits.{bit, weight}
 use Rattle.kc_base.specs.Levels.{is_high}
-use Rattle.kc_base.specs.Pins.{pin_count}
+use Rattle.kc_base.specs.Pins.{pin_count, pin_facts}
 use Rattle.kc_stim.specs.Drives.{Drives, level_before, start_of}
 use Rattle.kc_stim.specs.Proper.{is_driven}
 use Rattle.kc_block_spec.specs.Levels.{stimulated_before}
@@ -17,6 +17,7 @@ no_level true = refl
 no_level false = refl
 
 low_at_start : (drives : Drives) → drives.stimuli.start ≡ [] → bit (stimulated_before drives 0) 21 ≡ false
+unfolding pin_facts
 low_at_start drives first =
     let one : bit_at (stimulated_before drives 0) 21 ≡ weight (is_driven drives 21 && false) 1 =
     mask_bit (λ pin. is_driven drives pin && is_high (level_before drives.stimuli pin 0)) pin_count 21 (omega arith)
