@@ -15,5 +15,5 @@ returns-in-Ok-entries_at c = λ report.
     let places = c.args.placement.now.places in
     let board = c.in-Ok.board in
     let are = c.in-Ok-entries_at.ensures in
-    subst (λ (es : List MapEntry). DrivenWithLines given FilledWithLines report ms places (report es board.driving board.image)) (sym are.1.1)
-    (lines-filled given report ms places are.0 (report (map map_entry are.0) board.driving board.image) are.1.0 (c.in-Ok.ensures (report (map map_entry are.0))))
+    subst (λ (es : List MapEntry). DrivenWithLines given FilledWithLines report ms places (report es board.driving board.image)) (sym are.2)
+    (lines-filled given report ms places are.0 (report (map map_entry are.0) board.driving board.image) are.1 (c.in-Ok.ensures (report (map map_entry are.0))))
