@@ -1,0 +1,9 @@
+pub mod MarkLemmas
+pub mod MachineLemmas
+pub mod WatchLemmas
+pub mod StepLemmas
+pub mod RowLemmas
+pub mod BegunLemmas
+pub mod RunLemmas
+pub mod ReportedLemmas
+pub mod AllLivesLemmas

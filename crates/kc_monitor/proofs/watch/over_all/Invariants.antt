@@ -1,0 +1,10 @@
+use Rattle.std.proofs.Common.{◌≡◌, length, take, drop}
+use Rattle.kc_monitor.specs.Watching.{AllThree, IsFinish}
+use Rattle.kc_monitor.proofs.watch.over_all.Given as goal
+
+abbrev pub invariant-loop-i : goal.invariant-loop-i
+invariant-loop-i l = record {
+  many : length l.monitors ≡ length l.fn.monitors;
+  past : length l.rules ≡ length l.fn.monitors → AllThree (IsFinish l.last) (take l.i l.rules) (take l.i l.fn.monitors) (take l.i l.monitors);
+  rest : drop l.i l.monitors ≡ drop l.i l.fn.monitors;
+}

@@ -1,0 +1,13 @@
+pub mod Matching
+pub mod Marked
+pub mod Seens
+pub mod Marking
+pub mod Rows
+pub mod Rules
+pub mod Verdicts
+pub mod Machines
+pub mod Watching
+pub mod Watches
+pub mod Runs
+pub mod Reported
+pub mod AllLives

@@ -1,0 +1,11 @@
+pub mod Obligations
+pub mod Tallies
+pub mod Spans
+pub mod Never
+pub mod Gaps
+pub mod Shares
+pub mod After
+pub mod Pieces
+pub mod Apart
+pub mod Machines
+pub mod Sides
