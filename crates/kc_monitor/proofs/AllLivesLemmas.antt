@@ -1,11 +1,10 @@
 -- What all rules of a file have known of all lives of a run.
-use Rattle.std.proofs.Common.{◌≡◌, ℕ, zero, suc, ◌+◌, ◌<◌, ◌≤◌, ◌^◌, ◌%◌, List, [], ◌∷◌, ◌++◌, length, get_or, map, Option, Some, None, refl, sym, ap, subst, ◌∙◌, arith}
+use Rattle.std.proofs.Common.{◌≡◌, ℕ, suc, ◌+◌, ◌<◌, ◌≤◌, ◌^◌, List, [], ◌∷◌, length, get_or, map, Option, Some, None, refl, sym, ap, subst, ◌∙◌, arith}
 use Rattle.std.specs.Prelude.{IfSome}
 use Rattle.std.proofs.Math.Nat.{mod-eq_of_lt}
 use Rattle.kc_base.specs.declared.types.Level.{Level}
 use Rattle.kc_life.specs.declared.life.Signal.{Signal}
-use Rattle.kc_life.specs.declared.life.What.{What}
-use Rattle.kc_life.specs.Lives.{Life, State, AreStatesFrom, level_after}
+use Rattle.kc_life.specs.Lives.{State, level_after}
 use Rattle.kc_life.specs.Tables.{level_in}
 use Rattle.kc_rules.specs.declared.mark.Mark.{Mark}
 use Rattle.kc_rules.specs.declared.mark.MarkForm.{MarkForm}
@@ -16,7 +15,7 @@ use Rattle.kc_monitor_forms.specs.declared.obligation.Answer.TheVariants.{Good, 
 use Rattle.kc_monitor_forms.specs.declared.obligation.Obligation.{Obligation}
 use Rattle.kc_monitor_forms.specs.declared.tally.Tally.{Tally}
 use Rattle.kc_monitor_forms.specs.declared.tally.Found.{Found}
-use Rattle.kc_monitor_forms.specs.Tallies.{with_one, with_all, answered, first_of, found, none}
+use Rattle.kc_monitor_forms.specs.Tallies.{with_one, with_all, answered, first_of, found}
 use Rattle.kc_monitor.specs.declared.marks.Marking.{Marking}
 use Rattle.kc_monitor.specs.declared.monitor.Monitor.{Monitor}
 use Rattle.kc_monitor.specs.declared.watch.Watch.{Watch}
@@ -26,11 +25,11 @@ use Rattle.kc_monitor.specs.Rules.{times_one, times_other, obligations}
 use Rattle.kc_monitor.specs.Rows.{seens_in, hists_over, IsTrack}
 use Rattle.kc_monitor.specs.Verdicts.{tally_from, tally_of, verdict_of}
 use Rattle.kc_monitor.specs.Watching.{Moment, AllThree, IsStart, IsStep, IsFinish}
-use Rattle.kc_monitor.specs.Runs.{Runs, asked_of, IsLifeSeen}
-use Rattle.kc_monitor.specs.Reported.{life_of, levels_after, moments_by, unseen, moments_of}
-use Rattle.kc_monitor.specs.Watches.{IsNew, IsBegin, IsState, IsOver}
+use Rattle.kc_monitor.specs.Runs.{Runs, IsLifeSeen}
+use Rattle.kc_monitor.specs.Reported.{levels_after, moments_by, unseen, moments_of}
+use Rattle.kc_monitor.specs.Watches.{IsNew, IsBegin, IsOver}
 use Rattle.kc_monitor.specs.AllLives.{ReportedLife, life_reported, IsReportedLife, AreReportedLives, Sees, SeesAll}
-use Rattle.kc_monitor.proofs.RowLemmas.{three_at, three_second, three_third}
+use Rattle.kc_monitor.proofs.RowLemmas.{three_at, three_third}
 use Rattle.kc_monitor.proofs.RunLemmas as runs
 use Rattle.kc_monitor.proofs.ReportedLemmas.{obligations_reported, fitting_reported, moments_from, moments_upto}
 

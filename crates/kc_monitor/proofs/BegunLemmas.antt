@@ -1,35 +1,20 @@
 -- A machine of a form, before the first point, has all of the form's obligations still to report.
-use Rattle.std.proofs.Common.{◌≡◌, ℕ, zero, suc, ◌+◌, ◌-◌, ◌^◌, ◌≤◌, min, Bool, true, false, cond, List, [], ◌∷◌, ◌++◌, length, Option, Some, None, refl, sym, ap, subst, ◌∙◌, inl, inr, arith}
-use Rattle.std.specs.Prelude.{filter, map, flat_map, if◌then◌else◌}
-use Rattle.std.proofs.lemmas.Bool.{cases_Bool, cond-true, cond-false}
-use Rattle.kc_rules.specs.declared.amount.Share.{Share}
-use Rattle.kc_rules.specs.declared.rule.Span.{Span}
-use Rattle.kc_rules.specs.declared.rule.Shares.{Shares}
-use Rattle.kc_rules.specs.declared.rule.Within.{Within}
+use Rattle.std.proofs.Common.{◌≡◌, ℕ, ◌+◌, ◌-◌, ◌^◌, ◌≤◌, min, Bool, List, [], ◌∷◌, length, None, sym, ap, ◌∙◌, inl, inr, arith}
+use Rattle.std.specs.Prelude.{filter, if◌then◌else◌}
+use Rattle.std.proofs.lemmas.Bool.{cases_Bool}
 use Rattle.kc_rules.specs.declared.rule.Form.{Form}
 use Rattle.kc_rules.specs.declared.rule.Form.TheVariants as forms
-use Rattle.kc_monitor_forms.specs.declared.obligation.Obligation.{Obligation}
 use Rattle.kc_monitor_forms.specs.declared.obligation.Point.{Point}
 use Rattle.kc_monitor_forms.specs.declared.tally.Tally.{Tally}
-use Rattle.kc_monitor_forms.specs.declared.never.Never.{Never}
-use Rattle.kc_monitor_forms.specs.declared.never.InLife.{InLife}
 use Rattle.kc_monitor_forms.specs.declared.after.After.{After}
-use Rattle.kc_monitor_forms.specs.declared.pieces.Placed.{Placed}
-use Rattle.kc_monitor_forms.specs.declared.pieces.Counted.{Counted}
-use Rattle.kc_monitor_forms.specs.declared.gaps.Gaps.{Gaps}
-use Rattle.kc_monitor_forms.specs.declared.shares.Duty.{Duty}
-use Rattle.kc_monitor_forms.specs.declared.apart.Apart.{Apart}
 use Rattle.kc_monitor_forms.specs.Tallies.{one_more, with_all}
 use Rattle.kc_monitor_forms.specs.Obligations.{measured}
 use Rattle.kc_monitor_forms.specs.Spans.{is_within}
-use Rattle.kc_monitor_forms.specs.Never.{never, in_life, count_of}
-use Rattle.kc_monitor_forms.specs.Gaps.{gaps}
-use Rattle.kc_monitor_forms.specs.Shares.{for_shares}
+use Rattle.kc_monitor_forms.specs.Never.{never, count_of}
 use Rattle.kc_monitor_forms.specs.After.{after}
-use Rattle.kc_monitor_forms.specs.Pieces.{in_each, at_share}
-use Rattle.kc_monitor_forms.specs.Apart.{Times, apart}
+use Rattle.kc_monitor_forms.specs.Apart.{Times}
 use Rattle.kc_monitor_forms.specs.Sides.{asked_from}
-use Rattle.kc_monitor_forms.specs.Machines.{count_with, counted_rest, placed_rest, gaps_rest, duty_rest, in_life_rest, after_total, waiting_total, next_event}
+use Rattle.kc_monitor_forms.specs.Machines.{count_with, counted_rest, placed_rest, gaps_rest, duty_rest, in_life_rest, after_total, waiting_total}
 use Rattle.kc_monitor_forms.proofs.PointLemmas.{counted_kept, placed_kept}
 use Rattle.kc_monitor_forms.proofs.SideLemmas.{apart_kept}
 use Rattle.kc_monitor.specs.declared.machine.Machine.{Machine}

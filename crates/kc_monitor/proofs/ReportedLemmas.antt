@@ -1,7 +1,6 @@
 -- The levels, the marks and the points of a life are those of its moments.
-use Rattle.std.proofs.Common.{◌≡◌, ℕ, ◌+◌, ◌<◌, ◌≤◌, min, Bool, true, false, cond, ◌||◌, leb, ltb, List, [], ◌∷◌, ◌++◌, Option, Some, None, refl, sym, ap, subst, ◌∙◌, inl, inr, arith}
+use Rattle.std.proofs.Common.{◌≡◌, ℕ, ◌+◌, ◌<◌, ◌≤◌, min, false, cond, ◌||◌, leb, ltb, List, [], ◌∷◌, ◌++◌, Option, Some, None, refl, sym, ap, subst, ◌∙◌, inl, inr, arith}
 use Rattle.std.specs.Prelude.{filter, map, flat_map, fold, if◌then◌else◌}
-use Rattle.std.specs.List.{list_any}
 use Rattle.std.proofs.lemmas.Bool.{cases_Bool, cond-true, cond-false, le-leb, lt-leb}
 use Rattle.std.proofs.lemmas.List.{map-append}
 use Rattle.std.proofs.lemmas.List.Sums.{fold-append}
@@ -14,20 +13,17 @@ use Rattle.kc_life.specs.declared.life.Event.{Event}
 use Rattle.kc_life.specs.Lives.{Life, State, events_in, events_of, AreStatesFrom, level_after, level_at, moved_by}
 use Rattle.kc_rules.specs.declared.events.Atom.{Atom}
 use Rattle.kc_rules.specs.declared.mark.Mark.{Mark}
-use Rattle.kc_rules.specs.declared.mark.MarkForm.{MarkForm}
 use Rattle.kc_rules.specs.declared.rule.Form.{Form}
 use Rattle.kc_rules.specs.declared.rule.Form.TheVariants as forms
 use Rattle.kc_rules.specs.declared.rule.When.{When}
 use Rattle.kc_rules.specs.declared.rule.When.TheVariants as whens
-use Rattle.kc_monitor_forms.specs.declared.obligation.Point.{Point}
-use Rattle.kc_monitor_forms.specs.Apart.{Times}
 use Rattle.kc_monitor.specs.Matching.{is_one, holds}
 use Rattle.kc_monitor.specs.Marked.{Hit}
-use Rattle.kc_monitor.specs.Seens.{Seen, is_among, hit_at, hit_of, is_marked, column, with_column, with_mark, unmarked, seens_of}
+use Rattle.kc_monitor.specs.Seens.{Seen, is_among, hit_of, is_marked, column, with_column, with_mark, unmarked, seens_of}
 use Rattle.kc_rules.specs.declared.rule.Rule.{Rule}
 use Rattle.kc_monitor.specs.Rules.{first_state, first_of, end_of, or_end, is_between, point_at, point_of, times_one, times_other, asked, obligations, asked_in as asked_life, asked_of as obligations_in}
 use Rattle.kc_monitor.specs.Rows.{row, hists_after, seen_now, seens_in, hists_over}
-use Rattle.kc_monitor.specs.Watching.{Moment, moment, AreMomentsFrom, is_any, comes, state_of, first_moment, first_in, first_by, end_by, end_in, points_at, one_at, other_at, AreKept, AreNow}
+use Rattle.kc_monitor.specs.Watching.{Moment, AreMomentsFrom, is_any, comes, first_moment, first_in, first_by, end_in, points_at, one_at, other_at, AreKept, AreNow}
 use Rattle.kc_monitor.specs.Runs.{AreFitting, AreUpTo, asked_of, asked_in as asked_moments}
 use Rattle.kc_monitor.specs.Reported.{AreStatesUpTo, life_of, levels_after, moments_by, unseen, moments_of}
 use Rattle.kc_monitor.proofs.WatchLemmas.{first_none}

@@ -5,10 +5,9 @@ use Rattle.kc_base.specs.declared.types.Level.{Level}
 use Rattle.kc_life.specs.declared.life.Signal.{Signal}
 use Rattle.kc_life.specs.declared.life.What.{What}
 use Rattle.kc_rules.specs.declared.mark.Mark.{Mark}
-use Rattle.kc_monitor.specs.declared.marks.Marking.{Marking}
 use Rattle.kc_monitor.specs.Marked.{Hit}
-use Rattle.kc_monitor.specs.Seens.{Seen, hit_at, is_marked}
-use Rattle.kc_monitor.specs.Rows.{row, hists_after, seen_now, seens_in, hists_over, IsTrack}
+use Rattle.kc_monitor.specs.Seens.{hit_at, is_marked}
+use Rattle.kc_monitor.specs.Rows.{row, hists_after, seen_now, seens_in, hists_over}
 use Rattle.kc_monitor.specs.Watching.{AllThree}
 use Rattle.kc_monitor.proofs.StepLemmas.{three_push}
 

@@ -1,27 +1,25 @@
 -- A monitor over all moments of a life reports what its rule asks of them.
-use Rattle.std.proofs.Common.{◌≡◌, ℕ, ◌+◌, ◌<◌, ◌≤◌, ◌^◌, Bool, true, false, cond, ltb, eqb, ◌&&◌, List, [], ◌∷◌, Option, Some, None, refl, sym, ap, subst, ◌∙◌, inl, inr, arith}
+use Rattle.std.proofs.Common.{◌≡◌, ℕ, ◌+◌, ◌<◌, ◌≤◌, ◌^◌, Bool, true, false, ltb, eqb, ◌&&◌, List, [], ◌∷◌, Option, Some, None, refl, sym, ap, subst, ◌∙◌, inl, inr, arith}
 use Rattle.std.specs.Prelude.{IfSome, is_none}
 use Rattle.std.proofs.lemmas.Bool.{cases_Bool, cond-true, cond-false, ne_eqb}
 use Rattle.kc_base.specs.declared.types.Level.{Level}
 use Rattle.kc_life.specs.declared.life.Signal.{Signal}
 use Rattle.kc_rules.specs.declared.rule.Form.{Form}
 use Rattle.kc_rules.specs.declared.rule.Form.TheVariants as forms
-use Rattle.kc_rules.specs.declared.rule.When.{When}
-use Rattle.kc_rules.specs.declared.rule.When.TheVariants as whens
 use Rattle.kc_rules.specs.declared.rule.Rule.{Rule}
 use Rattle.kc_monitor_forms.specs.declared.tally.Tally.{Tally}
 use Rattle.kc_monitor_forms.specs.declared.tally.Found.{Found}
 use Rattle.kc_monitor_forms.specs.declared.after.After.{After}
-use Rattle.kc_monitor_forms.specs.Tallies.{with_all, one_more}
+use Rattle.kc_monitor_forms.specs.Tallies.{with_all}
 use Rattle.kc_monitor_forms.specs.Apart.{Times}
-use Rattle.kc_monitor_forms.specs.Machines.{IsWaiting, IsRisingFrom, IsUpTo, IsLate, IsReported, late_last, patched}
+use Rattle.kc_monitor_forms.specs.Machines.{IsWaiting, IsRisingFrom, IsUpTo, IsLate, IsReported, late_last}
 use Rattle.kc_monitor_forms.proofs.TallyLemmas.{with_all_none}
 use Rattle.kc_monitor.specs.declared.machine.Machine.{Machine}
 use Rattle.kc_monitor.specs.declared.machine.Machine.TheVariants as machines
 use Rattle.kc_monitor.specs.declared.monitor.Monitor.{Monitor}
 use Rattle.kc_monitor.specs.Rules.{asked}
 use Rattle.kc_monitor.specs.Machines.{machine_total, IsReady, IsBegun}
-use Rattle.kc_monitor.specs.Watching.{Moment, AreMomentsFrom, state_of, first_in, first_by, end_in, points_in, start_of, total_in, monitor_total, one_at, other_at, AreKept, AreNow, IsOpen, IsStart, IsStep, IsFinish}
+use Rattle.kc_monitor.specs.Watching.{Moment, AreMomentsFrom, state_of, first_in, first_by, end_in, points_in, start_of, total_in, monitor_total, one_at, other_at, AreKept, AreNow, IsOpen, IsStart, IsFinish}
 use Rattle.kc_monitor.specs.Runs.{Runs, AreUpTo, AreFitting, asked_in, asked_of, IsLifeSeen}
 use Rattle.kc_monitor.proofs.BegunLemmas.{begun_total}
 

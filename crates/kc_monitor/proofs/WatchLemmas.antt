@@ -1,6 +1,6 @@
 -- What a monitor has reported, with what it has still to report, from moment to moment.
-use Rattle.std.proofs.Common.{◌≡◌, ℕ, suc, ◌+◌, ◌<◌, ◌≤◌, min, Bool, true, false, cond, ◌&&◌, leb, ltb, List, [], ◌∷◌, ◌++◌, Option, Some, None, refl, sym, ap, subst, ◌∙◌, ◌⊎◌, inl, inr, arith}
-use Rattle.std.specs.Prelude.{filter, map, flat_map, IfSome}
+use Rattle.std.proofs.Common.{◌≡◌, ℕ, ◌+◌, ◌<◌, ◌≤◌, true, false, cond, ◌&&◌, leb, ltb, List, [], ◌∷◌, ◌++◌, Option, Some, None, refl, sym, ap, subst, ◌∙◌, ◌⊎◌, inl, inr, arith}
+use Rattle.std.specs.Prelude.{filter, flat_map, IfSome}
 use Rattle.std.proofs.lemmas.Bool.{cases_Bool, cond-true, cond-false, le-leb, lt-leb, lt-ltb, le-ltb, leb-true, leb-false}
 use Rattle.std.proofs.lemmas.List.Elements.{filter-append}
 use Rattle.kc_base.specs.declared.types.Level.{Level}
@@ -9,14 +9,13 @@ use Rattle.kc_rules.specs.declared.rule.Form.{Form}
 use Rattle.kc_rules.specs.declared.rule.When.{When}
 use Rattle.kc_rules.specs.declared.rule.When.TheVariants as whens
 use Rattle.kc_monitor_forms.specs.declared.obligation.Point.{Point}
-use Rattle.kc_monitor_forms.specs.declared.tally.Tally.{Tally}
 use Rattle.kc_monitor_forms.specs.Apart.{Times}
 use Rattle.kc_monitor_forms.specs.Machines.{IsOrderedFrom}
 use Rattle.kc_monitor.specs.declared.monitor.Monitor.{Monitor}
 use Rattle.kc_monitor.specs.Seens.{Seen}
 use Rattle.kc_monitor.specs.Rules.{or_end, is_between, point_at}
 use Rattle.kc_monitor.specs.Machines.{machine_total}
-use Rattle.kc_monitor.specs.Watching.{Moment, moment, AreMomentsFrom, comes, state_of, first_moment, first_in, end_by, end_in, points_at, points_in, start_of, total_in, from_after, past, end_now, IsFirst}
+use Rattle.kc_monitor.specs.Watching.{Moment, AreMomentsFrom, comes, state_of, first_moment, first_in, end_by, end_in, points_at, points_in, start_of, total_in, from_after, past, end_now, IsFirst}
 use Rattle.kc_monitor.proofs.MachineLemmas.{point_state, ordered_at}
 
 -- ---- points within a scope

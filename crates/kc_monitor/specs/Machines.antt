@@ -1,6 +1,6 @@
 -- What the machine of a form has reported, with what it has still to report (this kit's own): of the points to come, and of two signals that
 -- have their levels or not in the states from `next` on.
-use Rattle.std.specs.Prelude.{◌≡◌, ℕ, ◌-◌, Bool, false, Option, None, List, []}
+use Rattle.std.specs.Prelude.{◌≡◌, ℕ, ◌-◌, Bool, false, None, List, []}
 use Rattle.kc_rules.specs.declared.rule.Form.{Form}
 use Rattle.kc_rules.specs.declared.rule.Form.TheVariants as forms
 use Rattle.kc_monitor_forms.specs.declared.obligation.Point.{Point}

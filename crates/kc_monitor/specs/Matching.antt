@@ -1,5 +1,5 @@
 -- Which events an event is: by its kind, its marks, and the levels at the end of its state (this kit's own).
-use Rattle.std.specs.Prelude.{ℕ, ◌==◌, Bool, true, false, not, ◌&&◌, Option, Some, None, List, slice_index_or}
+use Rattle.std.specs.Prelude.{◌==◌, Bool, true, false, not, ◌&&◌, Option, Some, None, List, slice_index_or}
 use Rattle.std.specs.List.{list_any}
 use Rattle.kc_base.specs.declared.types.Level.{Level}
 use Rattle.kc_base.specs.declared.types.Level.TheVariants.{Low, High}

@@ -1,12 +1,10 @@
 -- A monitor over all moments of a life (this kit's own).
-use Rattle.std.specs.Prelude.{◌≡◌, ℕ, ◌+◌, ◌<◌, ◌≤◌, ◌^◌, nat_lt, if◌then◌else◌, Bool, false, Option, Some, None, IfSome, List, [], ◌∷◌}
+use Rattle.std.specs.Prelude.{◌≡◌, ℕ, ◌+◌, ◌<◌, ◌≤◌, ◌^◌, nat_lt, if◌then◌else◌, Bool, Option, Some, None, IfSome, List, [], ◌∷◌}
 use Rattle.kc_base.specs.declared.types.Level.{Level}
 use Rattle.kc_life.specs.declared.life.Signal.{Signal}
 use Rattle.kc_rules.specs.declared.rule.Form.{Form}
 use Rattle.kc_rules.specs.declared.rule.Rule.{Rule}
 use Rattle.kc_monitor_forms.specs.declared.obligation.Obligation.{Obligation}
-use Rattle.kc_monitor_forms.specs.declared.tally.Tally.{Tally}
-use Rattle.kc_monitor_forms.specs.Tallies.{with_all}
 use Rattle.kc_monitor_forms.specs.Apart.{Times}
 use Rattle.kc_monitor.specs.declared.monitor.Monitor.{Monitor}
 use Rattle.kc_monitor.specs.Rules.{asked}

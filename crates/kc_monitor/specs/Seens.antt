@@ -1,5 +1,5 @@
 -- The positions of a life, each with the marks that it has (this kit's own). A mark may be one of the events of a later mark.
-use Rattle.std.specs.Prelude.{ℕ, Bool, false, Option, Some, None, List, [], ◌∷◌, ◌++◌, map, fold}
+use Rattle.std.specs.Prelude.{ℕ, Bool, List, [], ◌∷◌, ◌++◌, map, fold}
 use Rattle.kc_base.specs.declared.types.Level.{Level}
 use Rattle.kc_life.specs.declared.life.Signal.{Signal}
 use Rattle.kc_life.specs.declared.life.What.{What}

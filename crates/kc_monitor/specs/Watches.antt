@@ -1,5 +1,5 @@
 -- How all rules of a file go on together (this kit's own): before the first life, as a life begins, with a state, and as it ends.
-use Rattle.std.specs.Prelude.{◌≡◌, ℕ, List, [], length, EachIndex, slice_index_or}
+use Rattle.std.specs.Prelude.{◌≡◌, ℕ, List, length, EachIndex, slice_index_or}
 use Rattle.kc_base.specs.declared.types.Level.{Level}
 use Rattle.kc_life.specs.declared.life.Signal.{Signal}
 use Rattle.kc_life.specs.declared.life.What.{What}

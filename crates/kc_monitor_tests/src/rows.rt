@@ -99,8 +99,13 @@ fn verdict(alloc: Global, watch: &Watch) -> Result<Vec<u8>, Fail> {
     Ok(text)
 }
 
+// The verdict of a short text of rules.
 fn reported(alloc: Global, text: &str, events: &[(u64, What)], last: u64) -> Result<Vec<u8>, Fail> {
-    match Rules::read(alloc, 20_000_000, text.as_bytes()) {
+    let bytes = text.as_bytes();
+    if bytes.len() > 1000 {
+        return Ok(Vec::new(alloc));
+    }
+    match Rules::read(alloc, 20_000_000, bytes) {
         Ok(rules) => {
             let mut watch = Watch::new(alloc, rules)?;
             see(alloc, &mut watch, events, last)?;
@@ -117,15 +122,13 @@ fn reported_right(
     last: u64,
     rows: &[(&str, &str)],
 ) -> Result<usize, Fail> {
-    let mut right = 0;
-    for (rules, answer) in rows {
-        let text = reported(alloc, rules, events, last)?;
-        if text.as_slice() != answer.as_bytes() {
-            return Ok(right);
+    for (i, row) in rows.iter().enumerate() {
+        let text = reported(alloc, row.0, events, last)?;
+        if text.as_slice() != row.1.as_bytes() {
+            return Ok(i);
         }
-        right += 1;
     }
-    Ok(right)
+    Ok(rows.len())
 }
 
 #[test]

@@ -1,6 +1,6 @@
-use Rattle.std.proofs.Common.{◌≡◌, ◌<◌, ◌+◌, length, take, drop, sym, ap, ◌∙◌, refl, arith}
+use Rattle.std.proofs.Common.{length, ap, ◌∙◌, refl, arith}
 use Rattle.kc_life.specs.Tables.{level_in}
-use Rattle.kc_monitor.specs.Watching.{AllThree, IsStart}
+use Rattle.kc_monitor.specs.Watching.{IsStart}
 use Rattle.kc_monitor.proofs.StepLemmas.{three_none, three_more, three_rest, drop_next}
 use Rattle.kc_monitor.proofs.watch.begin_all.Goals as goal
 use Rattle.kc_monitor.proofs.watch.begin_all.Goals.{then-i-rules, else-i-rules}

@@ -1,4 +1,4 @@
-use Rattle.std.proofs.Common.{◌≡◌, ◌+◌, ◌-◌, sym, ap, ◌∙◌}
+use Rattle.std.proofs.Common.{◌+◌, ◌-◌, sym, ap, ◌∙◌}
 use Rattle.kc_monitor_forms.specs.Tallies.{with_all}
 use Rattle.kc_monitor_forms.specs.Sides.{side_at, asked_in, asked_from}
 use Rattle.kc_monitor_forms.proofs.SideLemmas.{from_next}

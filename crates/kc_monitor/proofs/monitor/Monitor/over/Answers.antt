@@ -1,5 +1,5 @@
-use Rattle.std.proofs.Common.{◌≡◌, ◌≤◌, ◌+◌, [], refl, sym, ap, ◌∙◌, arith}
-use Rattle.std.proofs.lemmas.Bool.{cond-true, cond-false}
+use Rattle.std.proofs.Common.{◌≡◌, ◌≤◌, ◌+◌, [], sym, ap, ◌∙◌, arith}
+use Rattle.std.proofs.lemmas.Bool.{cond-false}
 use Rattle.kc_monitor.specs.Watching.{AreKept, total_in, first_in, end_in, end_by, state_of}
 use Rattle.kc_monitor.proofs.WatchLemmas.{first_end, end_end, end_by_ahead, end_by_within}
 use Rattle.kc_monitor.proofs.monitor.Monitor.over.Goals as goal

@@ -1,8 +1,8 @@
-use Rattle.std.proofs.Common.{◌≡◌, ◌∷◌, ◌++◌, ◌+◌, ◌≤◌, [], drop, length, refl, sym, ap, ◌∙◌, arith}
+use Rattle.std.proofs.Common.{◌≡◌, ◌∷◌, ◌++◌, ◌+◌, ◌≤◌, [], drop, refl, sym, ap, ◌∙◌, arith}
 use Rattle.std.proofs.lemmas.List.{drop_all}
 use Rattle.kc_life.specs.Tables.{level_in}
 use Rattle.kc_monitor_forms.specs.Machines.{IsOrderedFrom}
-use Rattle.kc_monitor.specs.Machines.{machine_total, IsReady}
+use Rattle.kc_monitor.specs.Machines.{machine_total}
 use Rattle.kc_monitor.specs.Rules.{point_at}
 use Rattle.kc_monitor.specs.Watching.{points_at}
 use Rattle.kc_monitor.proofs.MachineLemmas.{points_next, ordered_at, point_state, ready_same, same_machine}
