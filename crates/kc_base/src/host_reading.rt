@@ -21,15 +21,9 @@ fn fault_of(kind: ErrorKind) -> FileFault {
     }
 }
 
-/// The bytes of a plain file of up to the limit. What is no plain file (a folder, a pipe, a device) is missing: it is not opened,
-/// since that may wait for ever, and where it has taken the place of a plain file just before that is opened, it is not read.
-pub(crate) fn read_plain<R: FileSystem>(
-    system: &R,
-    alloc: Global,
-    name: &str,
-) -> Result<Vec<u8>, FileFault>
-    ensures { IfOk result (λ bytes. length bytes.items ≤ 1048576) }
-{
+/// Opens a plain file. What is no plain file (a folder, a pipe, a device) is missing: it is not opened, since that may wait for
+/// ever, and where it has taken the place of a plain file just before that is opened, it is not read.
+pub fn open_plain<R: FileSystem>(system: &R, name: &str) -> Result<R::File, FileFault> {
     match fs::metadata(system, name) {
         Ok(found) => {
             if !found.is_file() {
@@ -39,24 +33,36 @@ pub(crate) fn read_plain<R: FileSystem>(
         Err(error) => return Err(fault_of(error.kind())),
     }
     match fs::open(system, name) {
-        Ok(file) => read_opened(alloc, file),
+        Ok(file) => still_plain(file),
         Err(error) => Err(fault_of(error.kind())),
     }
 }
 
-// The bytes of what was opened, where that is a plain file.
-fn read_opened<F: Read + OpenFile + Drop>(alloc: Global, file: F) -> Result<Vec<u8>, FileFault>
-    ensures { IfOk result (λ bytes. length bytes.items ≤ 1048576) }
-{
+// What was opened, where that is a plain file.
+fn still_plain<F: OpenFile + Drop>(file: F) -> Result<F, FileFault> {
     match file.metadata() {
         Ok(found) => {
             if found.is_file() {
-                read_all(alloc, file)
+                Ok(file)
             } else {
                 Err(FileFault::Missing)
             }
         }
         Err(error) => Err(fault_of(error.kind())),
+    }
+}
+
+/// The bytes of a plain file of up to the limit.
+pub(crate) fn read_plain<R: FileSystem>(
+    system: &R,
+    alloc: Global,
+    name: &str,
+) -> Result<Vec<u8>, FileFault>
+    ensures { IfOk result (λ bytes. length bytes.items ≤ 1048576) }
+{
+    match open_plain(system, name) {
+        Ok(file) => read_all(alloc, file),
+        Err(fault) => Err(fault),
     }
 }
 

@@ -31,6 +31,7 @@ pub use fields::{decimal, hex_byte, hex_word, pin_number, split_at_space, state_
 pub use files::{FILE_LIMIT, FileFault, Files};
 pub use host::HostFiles;
 pub use host_output::{HostDiagnostics, HostOut};
+pub use host_reading::open_plain;
 pub use image::{IMAGE_LEN, IMAGE_START, Image};
 pub use limits::MAX_STATES;
 pub use memory::{MemFiles, MemSink};
