@@ -3,8 +3,7 @@ ghost use Rattle.std.specs.Prelude.{◌≡◌, ◌≤◌, ◌<◌, ◌+◌, ◌*
 ghost use Rattle.kc_gen.specs.Stimuli.{edge_line, edge_lines, stimuli_text};
 
 use crate::random::random_after;
-use itoa::Buffer;
-use kc_base::NoMemory;
+use kc_base::{NoMemory, put_number};
 use std::alloc::Global;
 
 /// How many edges a made input has.
@@ -16,9 +15,8 @@ fn put_edge(text: &mut Vec<u8>, at: u32, number: u32) -> Result<(), NoMemory>
     ensures text { OnOk result (text.new.items ≡ text.old.items ++ edge_line at number) }
     ensures short { OnOk result (length text.new.items ≤ length text.old.items + 15) }
 {
-    let mut buffer = Buffer::new();
     text.push(b'@')?;
-    text.extend_from_slice(buffer.format(at).as_bytes())?;
+    put_number(text, u128::from(at))?;
     text.extend_from_slice(b" HSI0 ")?;
     text.push(if number % 2 == 0 { b'1' } else { b'0' })?;
     text.push(b'\n')?;

@@ -3,8 +3,7 @@ ghost use Rattle.std.specs.Prelude.{◌≡◌, ◌≤◌, ◌<◌, ◌+◌, ◌*
 ghost use Rattle.kc_gen.specs.Sources.{main_text, crank_text, log_text, word_line, word_lines, program_text};
 
 use crate::random::random_after;
-use itoa::Buffer;
-use kc_base::NoMemory;
+use kc_base::{NoMemory, put_number};
 use std::alloc::Global;
 
 const MAIN: &[u8] = b"MAIN MODULE
@@ -85,9 +84,8 @@ fn put_line(text: &mut Vec<u8>, before: &[u8], number: u16) -> Result<(), NoMemo
     ensures text { OnOk result (text.new.items ≡ text.old.items ++ (before.now ++ decimal number ++ 10 ∷ [])) }
     ensures short { OnOk result (length text.new.items ≤ length text.old.items + length before.now + 6) }
 {
-    let mut buffer = Buffer::new();
     text.extend_from_slice(before)?;
-    text.extend_from_slice(buffer.format(number).as_bytes())?;
+    put_number(text, u128::from(number))?;
     text.push(b'\n')?;
     Ok(())
 }
