@@ -37,7 +37,7 @@ _kc96() {
     local options files option left=
     COMPREPLY=()
     if [ "$COMP_CWORD" -eq 1 ]; then
-        mapfile -t COMPREPLY < <(compgen -W 'run asm lib link hex dis debug vcd gen explain --help --version' -- "$word")
+        mapfile -t COMPREPLY < <(compgen -W 'run asm lib link hex dis debug vcd check gen explain --help --version' -- "$word")
         return
     fi
     case $command in
@@ -48,6 +48,7 @@ _kc96() {
     hex) options='--states --lives --profile --stim --analog' files='hex' ;;
     dis) options='' files='hex' ;;
     vcd) options='--out --clock' files='trace' ;;
+    check) options='--stim --clock' files='trace' ;;
     debug) options='--stim --analog --lines' files='hex' ;;
     *) return ;;
     esac

@@ -1,10 +1,11 @@
 //! The kit's program: its words, the real files, standard output and standard error, and the status. It makes the host's
-//! files and sinks of `kc_base` and calls `kit` of `kc_kit`; nothing else is decided here. Example: `kc96 --version` prints
+//! files and sinks of `kc_base` and `kc_kit_streams` and calls `kit` of `kc_kit`; nothing else is decided here. Example: `kc96 --version` prints
 //! `kc96 0.1.0` and ends with status 0.
 #![tactic(auto)]
 
-use kc_base::{HostDiagnostics, HostFiles, HostOut, Sink};
+use kc_base::{HostDiagnostics, HostOut, Sink};
 use kc_kit::{Ended, Status, kit};
+use kc_kit_streams::HostStreams;
 use kc_trace::TraceOut;
 use std::env;
 use std::io::{self, ErrorKind};
@@ -32,7 +33,7 @@ fn answered<N: Sink>(
     words: &[String],
     diagnostics: &mut TraceOut<N>,
 ) -> (Status, bool) {
-    let mut files = HostFiles::new(rt, process::id(rt.process()));
+    let mut files = HostStreams::new(rt, process::id(rt.process()), rt.stdin());
     let mut out = TraceOut::new(HostOut::new(rt));
     let status = kit(rt.alloc(), words, &mut files, &mut out, diagnostics);
     if let Some(error) = files.hindrance() {

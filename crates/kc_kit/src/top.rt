@@ -15,24 +15,25 @@ ghost use Rattle.kc_kit_words.specs.Usage.{usage_diagnostic};
 ghost use Rattle.kc_kit_words.specs.Words.{command_of};
 ghost use Rattle.kc_kit_words.specs.Asked.{asked, IsWithin};
 ghost use Rattle.kc_kit_words.specs.Commands.{names_read, names_written};
-ghost use Rattle.kc_kit_answer.specs.Answer.{MayAnswerBy, IsAccepted, StaysBut};
+ghost use Rattle.kc_kit_answer.specs.Answer.{MayAnswerBy, IsAccepted, EndsAccepted, StaysBut};
 ghost use Rattle.kc_kit_answer.specs.Jobs.{IsDoable, IsOf, IsReady};
 ghost use Rattle.kc_kit_answer.specs.Lines.{usage_line};
 
 use kc_base::{Files, Sink};
 use kc_kit_answer::{
-    Job, VERSION, explain_code, perform, prepare_assemble, prepare_debug, prepare_dump,
-    prepare_generate, prepare_hex, prepare_link, prepare_list, prepare_pack, prepare_profile,
-    prepare_profile_hex, prepare_run, report_help, report_help_on,
+    Job, VERSION, explain_code, perform, prepare_assemble, prepare_check, prepare_debug,
+    prepare_dump, prepare_generate, prepare_hex, prepare_link, prepare_list, prepare_pack,
+    prepare_profile, prepare_profile_hex, prepare_run, report_help, report_help_on,
 };
 use kc_kit_files::{Ended, Refusal, Status, refuse, say};
+use kc_kit_streams::Streams;
 use kc_kit_words::{Command, put_usage, read_words};
 use kc_trace::TraceOut;
 use std::alloc::Global;
 
 /// Does what the words ask for: reads the files that they name, prints the text of the answer, writes the files that it
 /// has, and gives its status. What is said of a refusal in words goes to `diagnostics`: that a write fails there changes nothing.
-pub fn kit<F: Files, S: Sink, N: Sink>(
+pub fn kit<F: Streams, S: Sink, N: Sink>(
     alloc: Global,
     words: &[String],
     files: &mut F,
@@ -55,7 +56,7 @@ pub fn kit<F: Files, S: Sink, N: Sink>(
     // What is accepted, with no fault counted in this call, is done.
     ensures complete { Reported (F.held files.old) (λ held. IsAccepted (command_of (map string_bytes words.now)) (map held (names_read (command_of (map string_bytes words.now))))
         → ¬ Rose (F.read_faults files.old) (F.read_faults files.new) → ¬ Rose (S.faults out.old.sink) (S.faults out.new.sink) → ¬ Rose (F.write_faults files.old) (F.write_faults files.new)
-        → (result ≡ Status.Done) ⊎ ((result ≡ Status.Undefined) ⊎ (result ≡ Status.NoMemory))) }
+        → EndsAccepted (command_of (map string_bytes words.now)) result) }
 
     ensures usage { result ≡ Status.Usage → command_of (map string_bytes words.now) ≡ None }
     ensures no_command { command_of (map string_bytes words.now) ≡ None → (result ≡ Status.Usage) ⊎ (result ≡ Status.WriteFault) }
@@ -72,7 +73,7 @@ pub fn kit<F: Files, S: Sink, N: Sink>(
 }
 
 // The answer to some words, with its diagnostic.
-fn answered<F: Files, S: Sink, N: Sink>(
+fn answered<F: Streams, S: Sink, N: Sink>(
     alloc: Global,
     words: &[String],
     files: &mut F,
@@ -119,7 +120,7 @@ fn refuse_words<S: Sink, N: Sink>(
 }
 
 // Does a command.
-fn done<'a, F: Files, S: Sink>(
+fn done<'a, F: Streams, S: Sink>(
     alloc: Global,
     command: &Command<'a>,
     files: &mut F,
@@ -151,6 +152,7 @@ fn done<'a, F: Files, S: Sink>(
             finish(alloc, prepare_generate(alloc, generate.number), files, out)
         }
         Command::Dump(dump) => finish(alloc, prepare_dump(alloc, dump, files), files, out),
+        Command::Check(check) => finish(alloc, prepare_check(alloc, check, files), files, out),
         Command::Explain(explain) => explain_code(alloc, explain.code, out),
     }
 }

@@ -6,14 +6,16 @@ use Rattle.kc_base.specs.Held.{Holding}
 use Rattle.kc_hex.specs.Records.{image_of}
 use Rattle.kc_kit_messages.specs.Codes.{all_codes}
 use Rattle.kc_kit_messages.specs.Meanings.{is_among}
+use Rattle.kc_kit_files.specs.declared.status.Status.{Status}
 use Rattle.kc_kit_files.specs.declared.status.Status.TheVariants as status
 use Rattle.kc_kit_files.specs.Response.{Response, says, Then}
 use Rattle.kc_kit_files.specs.Reads.{reads_of, Holds, FailedRead}
-use Rattle.kc_kit_words.specs.Commands.{Command, Helps, HelpsOn, ReportsVersion, Runs, Profiles, Assembles, Packs, Links, RunsHex, ProfilesHex, Lists, Debugs, Generates, Dumps, Explains, names_of, names_read}
+use Rattle.kc_kit_words.specs.Commands.{Command, Helps, HelpsOn, ReportsVersion, Runs, Profiles, Assembles, Packs, Links, RunsHex, ProfilesHex, Lists, Debugs, Generates, Dumps, Checks, Explains, names_of, names_read}
 use Rattle.kc_kit_inputs.specs.Driving.{given_for, driving_of}
 use Rattle.kc_kit_inputs.specs.Sources.{DiagnosticRule}
 use Rattle.kc_kit_answer.specs.Accepting.{Accepting, IsOneText, AreTwoTexts}
 use Rattle.kc_kit_answer.specs.Assemble.{AssembleAnswer, IsAssemblable}
+use Rattle.kc_kit_answer.specs.Check.{CheckFiles, CheckAccepted}
 use Rattle.kc_kit_answer.specs.Debug.{DebugAnswer, IsDebuggable}
 use Rattle.kc_kit_answer.specs.Dump.{DumpAnswer, IsTraceText}
 use Rattle.kc_kit_answer.specs.Explain.{explained}
@@ -65,6 +67,7 @@ CommandAnswer IsDiagnostic (Some (Debugs file script inputs)) contents response 
     Then (reads_of (file ∷ script ∷ names_of inputs) contents) (Parted 2 (λ texts more. TwoTexts (λ text commands. DebugAnswer file script inputs text commands more) texts)) response
 CommandAnswer IsDiagnostic (Some (Generates number)) contents response = GenerateAnswer IsDiagnostic number response
 CommandAnswer IsDiagnostic (Some (Dumps file out clock)) contents response = Then (reads_of (file ∷ []) contents) (OneText (DumpAnswer file out clock)) response
+CommandAnswer IsDiagnostic (Some (Checks trace rules inputs clock)) contents response = CheckFiles trace rules inputs clock contents response
 CommandAnswer IsDiagnostic (Some (Explains code)) contents response = response ≡ explained code
 
 -- What may be answered to a command, over what the files report that they hold: all files are read before any is checked. A read may
@@ -102,7 +105,14 @@ IsAccepted (Some (Debugs file script inputs)) contents =
     Accepting (λ texts. AreTwoTexts (λ text commands. IsDebuggable script inputs text commands (drop 2 texts)) (take 2 texts)) (reads_of (file ∷ script ∷ names_of inputs) contents)
 IsAccepted (Some (Generates number)) contents = IsGenerable number
 IsAccepted (Some (Dumps file out clock)) contents = Accepting (IsOneText IsTraceText) (reads_of (file ∷ []) contents)
+IsAccepted (Some (Checks trace rules inputs clock)) contents = CheckAccepted trace rules inputs clock contents
 IsAccepted (Some (Explains code)) contents = is_among code all_codes ≡ true
+
+-- how a command may end whose files are accepted: a check says with its status whether a rule is broken, a run whether it has ended in
+-- an undefined use
+abbrev pub EndsAccepted : Option Command → Status → Type 0
+EndsAccepted (Some (Checks trace rules inputs clock)) given = (given ≡ status.Done) ⊎ ((given ≡ status.Broken) ⊎ (given ≡ status.NoMemory))
+EndsAccepted _ given = (given ≡ status.Done) ⊎ ((given ≡ status.Undefined) ⊎ (given ≡ status.NoMemory))
 
 -- ---- no name changes but those of files that are written
 

@@ -1,5 +1,5 @@
 -- What is left to do once a command's files are read and checked (this kit's own).
-use Rattle.std.specs.Prelude.{◌≡◌, ℕ, ◌≤◌, List, [], ◌∷◌, ◌++◌, Option, Some, None, Result, Ok, Err}
+use Rattle.std.specs.Prelude.{◌≡◌, ℕ, ◌≤◌, Bool, true, false, List, [], ◌∷◌, ◌++◌, Option, Some, None, Result, Ok, Err}
 use Rattle.std.specs.Global.{Vec}
 use Rattle.kc_code.specs.Listing.{listing}
 use Rattle.kc_debug_script.specs.declared.line_map.MapEntry.{MapEntry}
@@ -10,10 +10,11 @@ use Rattle.kc_link_place.specs.declared.ranges.Ranges.{Ranges}
 use Rattle.kc_link_place.specs.declared.placing.Placement.{Placement}
 use Rattle.kc_link_place.specs.Placements.{IsPlacement}
 use Rattle.kc_link.specs.Placed.{placed}
+use Rattle.kc_kit_files.specs.declared.status.Status.{Status}
 use Rattle.kc_kit_files.specs.declared.status.Status.TheVariants as status
 use Rattle.kc_kit_files.specs.Outside.{OnlyRead}
 use Rattle.kc_kit_files.specs.declared.refusal.Refusal.{Refusal}
-use Rattle.kc_kit_files.specs.Response.{Response, Write, says, done_writing, IsRefused, IsSaid}
+use Rattle.kc_kit_files.specs.Response.{Response, Write, says, reports, done_writing, IsRefused, IsSaid}
 use Rattle.kc_kit_words.specs.Asked.{IsBounded}
 use Rattle.kc_kit_words.specs.Values.{max_states}
 use Rattle.kc_kit_words.specs.Commands.{Command}
@@ -35,6 +36,11 @@ abbrev pub maybe_written : Option Output → List Write
 maybe_written None = []
 maybe_written (Some o) = written o ∷ []
 
+-- the status of a verdict
+abbrev pub status_of : Bool → Status
+status_of true = status.Broken
+status_of false = status.Done
+
 -- the response of a job
 abbrev pub does : Job → Response
 does (job.Run board extent) = board_response extent board.driving board.image
@@ -42,6 +48,7 @@ does (job.Profile board states entries out) = profile_response states out.now en
 does (job.Count board number) = summary_of number board.driving board.image
 does (job.List image first last) = says status.Done (listing image first last)
 does (job.Debug board script lines) = script_response (debugged_by lines script board.driving board.image)
+does (job.Report verdict) = reports (status_of verdict.is_broken) verdict.text.items verdict.diagnostic.items
 does (job.Write file lines map) = done_writing (written file ∷ maybe_written lines ++ maybe_written map)
 
 -- state times and lives within their limits, and addresses in order
@@ -51,6 +58,7 @@ IsDoable (job.Profile board states entries out) = states ≤ max_states
 IsDoable (job.Count board number) = Unit {0}
 IsDoable (job.List image first last) = (image_start ≤ first) × (first ≤ last)
 IsDoable (job.Debug board script lines) = Unit {0}
+IsDoable (job.Report verdict) = Unit {0}
 IsDoable (job.Write file lines map) = Unit {0}
 
 -- where modules stand; or the refusal of the first broken rule

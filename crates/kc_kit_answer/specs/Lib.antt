@@ -1,6 +1,8 @@
 pub mod Accepting
 pub mod Answer
 pub mod Assemble
+pub mod Check
+pub mod Checking
 pub mod Debug
 pub mod Dump
 pub mod Explain

@@ -6,7 +6,7 @@ ghost use Rattle.kc_kit_answer.specs.Help.{help_rows};
 pub type Row = (&'static str, &'static str);
 
 /// The text of `--help` in parts, each with the command that it is on; the first is on none.
-pub static HELP: [Row; 13] = [
+pub static HELP: [Row; 14] = [
     (
         "",
         "kc96 assembles, links and runs programs of the 80C196KC.
@@ -69,6 +69,13 @@ pub static HELP: [Row; 13] = [
     (
         "vcd",
         "  kc96 vcd TRACE --out FILE       write a printed trace as waveforms, a value change dump
+       [--clock HZ]               of a board whose oscillator has HZ hertz, else 20 million
+",
+    ),
+    (
+        "check",
+        "  kc96 check TRACE RULES          check a printed trace by timing rules; TRACE - is standard input
+       [--stim FILE]              with the edges of what drove the input pins
        [--clock HZ]               of a board whose oscillator has HZ hertz, else 20 million
 ",
     ),

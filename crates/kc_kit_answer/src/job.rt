@@ -1,14 +1,15 @@
 // What is left to do once a command's files are read and checked.
 ghost use Rattle.std.specs.Prelude.{◌≡◌, ◌≤◌, ◌∷◌, ◌++◌, false};
-ghost use Rattle.kc_kit_files.specs.Ended.{Ends};
-ghost use Rattle.kc_kit_files.specs.Outside.{kept};
+ghost use Rattle.kc_kit_files.specs.Ended.{Ends, EndsPrinting};
+ghost use Rattle.kc_kit_files.specs.Outside.{kept, shown_by};
+ghost use Rattle.kc_kit_files.specs.Response.{reports};
 ghost use Rattle.kc_kit_running.specs.Writing.{AreWritten, written};
-ghost use Rattle.kc_kit_answer.specs.Jobs.{IsDoable, does, maybe_written};
+ghost use Rattle.kc_kit_answer.specs.Jobs.{IsDoable, does, maybe_written, status_of};
 
 use crate::list::list_image;
 use kc_base::{Files, Image, Sink};
 use kc_debug_script::{LineMap, MapEntry, Script};
-use kc_kit_files::{Ended, Status};
+use kc_kit_files::{Ended, Status, report};
 use kc_kit_running::{
     Board, Output, Target, count_board, debug_board, profile_board, run_board, write_output,
 };
@@ -18,8 +19,16 @@ use std::alloc::Global;
 use std::marker::Brand;
 use std::sync::ledger::Blank;
 
+/// What is printed and said of the rules by which a run was checked, and whether one of them is broken.
+#[derive(Drop)]
+pub struct Verdict {
+    pub text: Vec<u8>,
+    pub diagnostic: Vec<u8>,
+    pub is_broken: bool,
+}
+
 /// What is left to do: a run of a board that is printed, with or without a profile that is written, or of which the lines are counted, a listing of an image, a script
-/// over a board, or files to write: a first one, and
+/// over a board, a verdict to be printed, or files to write: a first one, and
 /// others beside it: a line map, and a map of pieces and names or the listing of a source.
 #[derive(Drop)]
 pub enum Job<'a> {
@@ -46,6 +55,9 @@ pub enum Job<'a> {
         board: Board,
         script: Script,
         lines: LineMap,
+    },
+    Report {
+        verdict: Verdict,
     },
     Write {
         file: Output<'a>,
@@ -100,8 +112,27 @@ pub fn perform<'a, F: Files, S: Sink>(
             let status = debug_board::<S, Brand>(alloc, board, &script, lines, blank, out);
             Ended::by(status)
         }
+        Job::Report { verdict } => report_verdict(out, verdict),
         Job::Write { file, lines, map } => write_files(alloc, &file, &lines, &map, files),
     }
+}
+
+// Prints a verdict, with what is said of it.
+fn report_verdict<S: Sink>(out: &mut TraceOut<S>, verdict: Verdict) -> Ended<'static>
+    requires { out.old.failed ≡ false }
+    ensures { EndsPrinting (λ response. response ≡ reports (status_of verdict.is_broken) verdict.text.items verdict.diagnostic.items) (shown_by S.written S.faults out.old.sink) result (shown_by S.written S.faults out.new.sink) }
+{
+    let Verdict {
+        text,
+        diagnostic,
+        is_broken,
+    } = verdict;
+    let status = if is_broken {
+        Status::Broken
+    } else {
+        Status::Done
+    };
+    report(out, &text, status, diagnostic)
 }
 
 // Writes a file, if there is one.

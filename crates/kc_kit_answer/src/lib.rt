@@ -5,6 +5,7 @@
 
 mod assemble;
 mod board;
+mod check;
 mod debug;
 mod dump;
 mod explaining;
@@ -20,16 +21,18 @@ mod placing;
 mod profile;
 mod run;
 mod run_hex;
+mod watching;
 mod writing;
 
 pub use assemble::prepare_assemble;
+pub use check::prepare_check;
 pub use debug::prepare_debug;
 pub use dump::prepare_dump;
 pub use explaining::explain_code;
 pub use generate::prepare_generate;
 pub use help::{HELP, VERSION};
 pub use helping::{report_help, report_help_on};
-pub use job::{Job, perform};
+pub use job::{Job, Verdict, perform};
 pub use link::prepare_link;
 pub use list::prepare_list;
 pub use pack::prepare_pack;

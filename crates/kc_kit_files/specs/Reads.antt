@@ -46,6 +46,11 @@ abbrev pub reads_of : List (List ℕ) → List (Option (List ℕ)) → Result (L
 reads_of (name ∷ names) (content ∷ contents) = joined (read_of name content) (reads_of names contents)
 reads_of _ _ = Ok []
 
+-- the text that a name holds, of any length, or the response where it holds none
+abbrev pub text_of : List ℕ → Option (List ℕ) → Result (List ℕ) Response
+text_of name None = Err (missing_response name)
+text_of name (Some text) = Ok text
+
 -- A read has failed, where the count of failed reads rose: the files before it are held within their limit.
 abbrev pub FailedRead : List (List ℕ) → List (Option (List ℕ)) → Type 0 → Response → Type 0
 FailedRead (name ∷ names) (content ∷ contents) rose response =

@@ -16,7 +16,7 @@ use kc_trace::TraceOut;
 pub enum Said<'a> {
     /// Nothing more.
     Nothing,
-    /// Why a command is refused.
+    /// Why a command is refused, or which rules are broken.
     Refusal(Vec<u8>),
     /// The name of the file that was to be written last.
     File(&'a str),

@@ -11,8 +11,8 @@ mod status;
 mod writing;
 
 pub use ended::{Ended, Said};
-pub use reading::{read_file, read_files};
+pub use reading::{read_file, read_files, unread};
 pub use refusal::{Cause, Refusal, refusal_of};
-pub use saying::{refuse, say};
+pub use saying::{refuse, report, say};
 pub use status::Status;
 pub use writing::{long_output, write_file};

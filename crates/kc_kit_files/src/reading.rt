@@ -31,8 +31,8 @@ pub(crate) fn refused(
     }
 }
 
-// The refusal where a file cannot be read.
-fn unread(alloc: Global, name: &str, fault: FileFault) -> Refusal
+/// The refusal where a file cannot be read.
+pub fn unread(alloc: Global, name: &str, fault: FileFault) -> Refusal
     ensures { IsRefused (IsUnread name.now fault) result }
 {
     let name = name.as_bytes();

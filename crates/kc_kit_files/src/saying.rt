@@ -36,6 +36,26 @@ pub fn say<S: Sink>(out: &mut TraceOut<S>, text: &[u8], status: Status) -> Statu
     print(out, text, status)
 }
 
+/// Prints a text, which is all that this status prints, and gives how the command has ended, with what is said of it in words.
+pub fn report<S: Sink>(
+    out: &mut TraceOut<S>,
+    text: &[u8],
+    status: Status,
+    diagnostic: Vec<u8>,
+) -> Ended<'static>
+    requires ready { out.old.failed ≡ false }
+    requires wrote { (status ≢ Status.WriteFault) × (status ≢ Status.NoMemory) }
+    ensures { EndsPrinting (λ response. response ≡ reports status text.now diagnostic.items) (shown_by S.written S.faults out.old.sink) result (shown_by S.written S.faults out.new.sink) }
+{
+    let status = print(out, text, status);
+    if status == Status::WriteFault {
+        Ended::by(status)
+    } else {
+        let said = Said::Refusal(diagnostic);
+        Ended { status, said }
+    }
+}
+
 /// Prints the line of a refusal, and gives how the command has ended, with the diagnostic of the refusal. It takes no memory: it
 /// answers that memory ran out only where the refusal is that.
 pub fn refuse<S: Sink>(out: &mut TraceOut<S>, refusal: Refusal) -> Ended<'static>

@@ -7,6 +7,8 @@ pub mod Library
 pub mod Lines
 pub mod Objects
 pub mod Responses
+pub mod Rules
+pub mod Runs
 pub mod Scripts
 pub mod Sources
 pub mod Stimuli

@@ -3,7 +3,7 @@
 use Rattle.std.specs.Prelude.{ℕ, List}
 use Rattle.kc_kit_files.specs.declared.status.Status.TheVariants as status
 use Rattle.kc_kit_files.specs.Response.{Response, reports}
-use Rattle.kc_kit_messages.specs.Diagnostics.{line_diagnostic, byte_diagnostic}
+use Rattle.kc_kit_messages.specs.Diagnostics.{line_diagnostic, unkept_diagnostic, byte_diagnostic}
 use Rattle.kc_kit_inputs.specs.Lines.{source_line, input_line}
 
 -- that to a source has this diagnostic (`FaultDiagnostics`)
@@ -12,6 +12,10 @@ source_response name line code diagnostic = reports status.Source (source_line n
 
 abbrev pub line_response : List ℕ → List ℕ → ℕ → List ℕ → Response
 line_response name text line code = reports status.Input (input_line name line code) (line_diagnostic name text line code)
+
+-- of a text of which no line is kept
+abbrev pub unkept_response : List ℕ → ℕ → List ℕ → Response
+unkept_response name line code = reports status.Input (input_line name line code) (unkept_diagnostic name line code)
 
 abbrev pub byte_response : List ℕ → ℕ → List ℕ → Response
 byte_response name place code = reports status.Input (input_line name place code) (byte_diagnostic name place code)

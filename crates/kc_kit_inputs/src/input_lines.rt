@@ -3,11 +3,11 @@ ghost use Rattle.std.specs.Prelude.{◌≡◌, IfOk};
 ghost use Rattle.kc_kit_files.specs.declared.status.Status.TheVariants as status;
 ghost use Rattle.kc_kit_files.specs.Response.{reports, IsRefused};
 ghost use Rattle.kc_kit_inputs.specs.Lines.{coded, place_text, input_line};
-ghost use Rattle.kc_kit_inputs.specs.Responses.{line_response, byte_response};
+ghost use Rattle.kc_kit_inputs.specs.Responses.{line_response, unkept_response, byte_response};
 
 use kc_base::{NoMemory, put_number};
 use kc_kit_files::{Cause, Refusal, refusal_of};
-use kc_kit_messages::{byte_diagnostic, line_diagnostic};
+use kc_kit_messages::{byte_diagnostic, line_diagnostic, unkept_diagnostic};
 use std::alloc::Global;
 
 /// A code of a letter and two digits.
@@ -21,7 +21,7 @@ pub(crate) fn coded(alloc: Global, letter: &[u8], number: u8) -> Result<Vec<u8>,
 }
 
 /// The place and the code of a fault, behind the name of its file.
-pub(crate) fn place_text(alloc: Global, place: u32, code: &[u8]) -> Result<Vec<u8>, NoMemory>
+pub(crate) fn place_text(alloc: Global, place: u64, code: &[u8]) -> Result<Vec<u8>, NoMemory>
     ensures { IfOk result (λ text. text.items ≡ place_text place code.now) }
 {
     let mut text = Vec::from_slice(alloc, b":")?;
@@ -33,7 +33,7 @@ pub(crate) fn place_text(alloc: Global, place: u32, code: &[u8]) -> Result<Vec<u
 }
 
 // The refusal of a file with a fault, with a diagnostic: its place and its code.
-fn refused(alloc: Global, name: &str, place: u32, code: &[u8], diagnostic: Vec<u8>) -> Refusal
+fn refused(alloc: Global, name: &str, place: u64, code: &[u8], diagnostic: Vec<u8>) -> Refusal
     ensures { IsRefused (λ response. response ≡ reports status.Input (input_line name.now place code.now) diagnostic.items) result }
 {
     match place_text(alloc, place, code) {
@@ -60,6 +60,16 @@ pub(crate) fn line_refusal(
     ensures { IsRefused (λ response. response ≡ line_response name.now text.now line code.now) result }
 {
     match line_diagnostic(alloc, name.as_bytes(), text, line, code) {
+        Ok(diagnostic) => refused(alloc, name, u64::from(line), code, diagnostic),
+        Err(NoMemory) => Refusal::NoMemory,
+    }
+}
+
+/// The refusal of a file with a fault in a line of its text, of which no line is kept: its line and its code.
+pub(crate) fn unkept_refusal(alloc: Global, name: &str, line: u64, code: &[u8]) -> Refusal
+    ensures { IsRefused (λ response. response ≡ unkept_response name.now line code.now) result }
+{
+    match unkept_diagnostic(alloc, name.as_bytes(), line, code) {
         Ok(diagnostic) => refused(alloc, name, line, code, diagnostic),
         Err(NoMemory) => Refusal::NoMemory,
     }
@@ -79,7 +89,7 @@ pub(crate) fn byte_refusal(
         return Refusal::NoMemory;
     };
     match byte_diagnostic(alloc, name.as_bytes(), place, &code) {
-        Ok(diagnostic) => refused(alloc, name, place, &code, diagnostic),
+        Ok(diagnostic) => refused(alloc, name, u64::from(place), &code, diagnostic),
         Err(NoMemory) => Refusal::NoMemory,
     }
 }

@@ -1,5 +1,5 @@
 //! What named files say to a command, or the refusal of their first fault: sources, objects, libraries, hex files, stimuli,
-//! analogue files, scripts of the debugger, traces. It stands on `kc_kit_files` and on the reader of each format. Example: a
+//! analogue files, scripts of the debugger, traces, rules. It stands on `kc_kit_files` and on the reader of each format. Example: a
 //! source with a fault in line 3 is the refusal `source NAME:3: E12` of status 3.
 #![tactic(auto)]
 
@@ -10,6 +10,7 @@ mod input_lines;
 mod library;
 mod objects;
 mod reading;
+mod rules;
 mod scripts;
 mod sources;
 mod stimuli;
@@ -20,6 +21,8 @@ pub use hex_image::image_of;
 pub use library::{read_library, take_members};
 pub use objects::read_objects;
 pub use reading::{input_for, read_inputs};
+pub use rules::{read_rules, trace_refusal};
 pub use scripts::{lines_in, read_script};
 pub use sources::{assemble_source, assemble_sources};
+pub use stimuli::stimuli_in;
 pub use traces::read_trace;

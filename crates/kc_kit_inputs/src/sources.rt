@@ -55,7 +55,7 @@ fn fault_texts(
     ensures diagnostic { IfOk result (λ texts. IsFaultDiagnostic name.now text.now line number texts.1.items) }
 {
     let code = coded(alloc, b"E", number)?;
-    let printed = place_text(alloc, line, &code)?;
+    let printed = place_text(alloc, u64::from(line), &code)?;
     let diagnostic = fault_diagnostic(alloc, name, text, line, number, &code)?;
     Ok((printed, diagnostic))
 }

@@ -28,7 +28,7 @@ fn read_stimuli(alloc: Global, name: &str, text: &[u8]) -> Result<Stimuli, Refus
 
 /// What drives the inputs of a run: the stimuli of a file by its name and its text, or the refusal of its first fault; none
 /// without such a file.
-pub(crate) fn stimuli_in(alloc: Global, file: Option<(&str, &[u8])>) -> Result<Stimuli, Refusal>
+pub fn stimuli_in(alloc: Global, file: Option<(&str, &[u8])>) -> Result<Stimuli, Refusal>
     requires { IfSome file (λ f. length f.1.now ≤ 1048576) }
     ensures stimuli { IfOk result (λ s. drives_of (option_map (λ f. (f.0.now, f.1.now)) file.entry) ≡ Ok s) }
     ensures refusal { IfErr result (IsRefused (λ response. drives_of (option_map (λ f. (f.0.now, f.1.now)) file.entry) ≡ Err response)) }

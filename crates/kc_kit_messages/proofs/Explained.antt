@@ -112,6 +112,7 @@ statuses status.Undefined = refl
 statuses status.ReadFault = refl
 statuses status.WriteFault = refl
 statuses status.NoMemory = refl
+statuses status.Broken = refl
 
 stimuli : (fault : StimFault) → IsExplained (stimulus_code fault)
 unfolding all_codes instruction_codes
@@ -168,6 +169,10 @@ traces : IsExplained (codes "BADTRACE")
 unfolding all_codes instruction_codes
 traces = refl
 
+rule_files : IsExplained (codes "BADRULE")
+unfolding all_codes instruction_codes
+rule_files = refl
+
 files : IsExplained (codes "LONG")
 unfolding all_codes instruction_codes
 files = refl
@@ -188,6 +193,7 @@ faults_are_explained = record {
   scripts = scripts;
   maps = maps;
   traces = traces;
+  rule_files = rule_files;
   files = files;
   long = long;
 }

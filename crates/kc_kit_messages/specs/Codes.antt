@@ -38,6 +38,7 @@ status_number status.Undefined = 6
 status_number status.ReadFault = 7
 status_number status.WriteFault = 8
 status_number status.NoMemory = 9
+status_number status.Broken = 10
 
 abbrev pub status_code : Status → List ℕ
 status_code given = numbered (codes "status") (status_number given)
@@ -70,7 +71,7 @@ abbrev pub input_codes : List (List ℕ)
 input_codes =
     lettered_to (codes "O") 6 ++ lettered_to (codes "B") 6 ++ lettered_to (codes "H") 6
     ++ codes "LONG" ∷ codes "BADLINE" ∷ codes "WIRED" ∷ codes "FALLING" ∷ codes "TWICE" ∷ codes "TOOMANY"
-    ∷ codes "BADANALOG" ∷ codes "BADCOMMAND" ∷ codes "BADMAP" ∷ codes "BADTRACE" ∷ []
+    ∷ codes "BADANALOG" ∷ codes "BADCOMMAND" ∷ codes "BADMAP" ∷ codes "BADTRACE" ∷ codes "BADRULE" ∷ []
 
 abbrev pub rule_codes : List (List ℕ)
 rule_codes = codes "unresolved" ∷ codes "duplicate" ∷ codes "overlap" ∷ codes "capacity" ∷ codes "range" ∷ []
@@ -78,7 +79,7 @@ rule_codes = codes "unresolved" ∷ codes "duplicate" ∷ codes "overlap" ∷ co
 abbrev pub run_codes : List (List ℕ)
 run_codes =
     rule_codes ++ map (numbered (codes "kind")) (range_with_len 1 14)
-    ++ map (numbered (codes "request")) (range_with_len 0 18) ++ map (numbered (codes "status")) (range_with_len 0 10)
+    ++ map (numbered (codes "request")) (range_with_len 0 18) ++ map (numbered (codes "status")) (range_with_len 0 11)
 
 -- an instruction by its name
 unfoldable pub instruction_codes : List (List ℕ)

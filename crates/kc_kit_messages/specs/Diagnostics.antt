@@ -28,5 +28,13 @@ error_text code more = error_saying code more (sentence_of code)
 abbrev pub line_diagnostic : List ℕ → List ℕ → ℕ → List ℕ → List ℕ
 line_diagnostic name text line code = shown name ++ number_text line ++ error_text code [] ++ line_shown (line_at text line)
 
+-- of a text of which no line is kept
+abbrev pub unkept_diagnostic : List ℕ → ℕ → List ℕ → List ℕ
+unkept_diagnostic name line code = shown name ++ number_text line ++ error_text code []
+
+-- of a rule that is broken, by the line of its file
+abbrev pub broken_diagnostic : List ℕ → List ℕ → ℕ → List ℕ
+broken_diagnostic name text line = shown name ++ number_text line ++ codes ": error broken: " ++ line_shown (line_at text line)
+
 abbrev pub byte_diagnostic : List ℕ → ℕ → List ℕ → List ℕ
 byte_diagnostic name place code = shown name ++ error_text code (codes " at byte " ++ decimal place)

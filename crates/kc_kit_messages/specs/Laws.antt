@@ -37,6 +37,7 @@ pub record FaultsAreExplained : Type 0 where
   pub scripts : IsExplained (codes "BADCOMMAND")
   pub maps : IsExplained (codes "BADMAP")
   pub traces : IsExplained (codes "BADTRACE")
+  pub rule_files : IsExplained (codes "BADRULE")
   pub files : IsExplained (codes "LONG")
   pub long : sentence_of (codes "LONG") ≡ too_long
 

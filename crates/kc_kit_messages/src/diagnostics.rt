@@ -1,7 +1,7 @@
 // What is said in words of a fault in a file.
 ghost use Rattle.std.specs.Prelude.{◌≡◌, ◌++◌, codes, decimal, IfOk, OnOk};
 ghost use Rattle.std.specs.Option.{option_map};
-ghost use Rattle.kc_kit_messages.specs.Diagnostics.{line_at, line_shown, number_text, error_text, line_diagnostic, byte_diagnostic};
+ghost use Rattle.kc_kit_messages.specs.Diagnostics.{line_at, line_shown, number_text, error_text, line_diagnostic, unkept_diagnostic, broken_diagnostic, byte_diagnostic};
 
 use crate::lookup::sentence;
 use kc_base::{NoMemory, after, first_line, prefix};
@@ -78,6 +78,37 @@ pub fn line_diagnostic(
     put_error(&mut diagnostic, code, b"")?;
     put_line(&mut diagnostic, text, line)?;
     Ok(diagnostic)
+}
+
+/// The diagnostic of a fault in a line of a text of which no line is kept.
+pub fn unkept_diagnostic(
+    alloc: Global,
+    name: &[u8],
+    line: u64,
+    code: &[u8],
+) -> Result<Vec<u8>, NoMemory>
+    ensures { IfOk result (λ diagnostic. diagnostic.items ≡ unkept_diagnostic name.now line code.now) }
+{
+    let mut diagnostic = shown(alloc, name)?;
+    diagnostic.push(b':')?;
+    kc_base::put_number(&mut diagnostic, u128::from(line))?;
+    put_error(&mut diagnostic, code, b"")?;
+    Ok(diagnostic)
+}
+
+/// Puts the diagnostic of a rule that is broken behind others, by the line of its file.
+pub fn put_broken(
+    diagnostic: &mut Vec<u8>,
+    name: &[u8],
+    text: &[u8],
+    line: u32,
+) -> Result<(), NoMemory>
+    ensures { OnOk result (diagnostic.new.items ≡ diagnostic.old.items ++ broken_diagnostic name.now text.now line) }
+{
+    put_shown(diagnostic, name)?;
+    put_number(diagnostic, line)?;
+    diagnostic.extend_from_slice(b": error broken: ")?;
+    put_line(diagnostic, text, line)
 }
 
 // The place of a fault as it is reported behind its code.

@@ -17,7 +17,7 @@ mod rule_lines;
 mod subjects;
 mod table;
 
-pub use diagnostics::{byte_diagnostic, line_diagnostic};
+pub use diagnostics::{byte_diagnostic, line_diagnostic, put_broken, unkept_diagnostic};
 pub use laws::{
     codes_differ, faults_are_explained, mnemonics_are_explained, uses_are_explained,
     vectors_are_described,

@@ -51,7 +51,7 @@ static SOURCES: [Row; 24] = [
     row!("E24", "a generic branch goes to what is no label, no external and not `$`"; " BE 5" => "L: NOP\n BE L"),
 ];
 
-static INPUTS: [Row; 28] = [
+static INPUTS: [Row; 29] = [
     row!(
         "O01",
         "an object has a record of a type that does not come at this place"
@@ -104,9 +104,10 @@ static INPUTS: [Row; 28] = [
     row!("BADCOMMAND", "a line of a script is no command of the debugger, or is one too many"; "b 94" => "b 2094"),
     row!("BADMAP", "a line of a line map is no address, module and line, or its address is not above the one before"; "20aA MAIN 7" => "20AA MAIN 7"),
     row!("BADTRACE", "a line is none of a trace, or is earlier than a line before it"; "P 82 HSO9 1" => "P 82 HSO0 1"),
+    row!("BADRULE", "a line of a rules file is no mark and no rule"; "never P10" => "never P10 rise"),
 ];
 
-static RUNS: [Row; 47] = [
+static RUNS: [Row; 48] = [
     row!("unresolved", "a module takes a name that no module gives; or takes STACK, and there is no stack"; " EXTRN SPEED\n CSEG\n LD 20H,#SPEED" => "SPEEDS MODULE\n PUBLIC SPEED\nSPEED EQU 10"),
     row!("duplicate", "two modules give one name"),
     row!("overlap", "two absolute pieces have this address"; " CSEG AT 2080H\n NOP\n CSEG AT 2080H\n NOP" => " CSEG AT 2080H\n NOP\n CSEG AT 2081H\n NOP"),
@@ -183,13 +184,14 @@ static RUNS: [Row; 47] = [
     row!("status3", "a source has a fault"),
     row!(
         "status4",
-        "an object, a library, a hex, stimulus or analogue file, a script, a line map or a trace leaves its form, or a file is too long"
+        "an object, a library, a hex, stimulus or analogue file, a script, a line map, a trace or a rules file leaves its form, or a file is too long"
     ),
     row!("status5", "a rule of linking is broken"),
     row!("status6", "the run has ended in an undefined use"),
     row!("status7", "a file could not be read"),
     row!("status8", "the output or a file could not be written"),
     row!("status9", "memory was wanted and not had"),
+    row!("status10", "a rule is broken"),
 ];
 
 /// The faults of sources.

@@ -86,9 +86,51 @@ const SOURCES: &[(&str, &[u8])] = &[
 // A hex file, a script, a line map and stimuli, of which the last three have faults.
 const FAULTY: &[(&str, &[u8])] = &[("h", NOP), ("d", b"z\n"), ("m", b"z\n"), ("s", b"z\n")];
 
+// A trace, and rules of which it breaks one.
+const CHECKED: &[(&str, &[u8])] = &[
+    ("t", b"P 5 HSO0 1\nX 9 spent\n"),
+    ("r", b"never reset\nnever HSO0 rise\n"),
+];
+
 const STEPPED: &[(&str, &[u8])] = &[("h", NOP), ("d", b"s 1\nl\n")];
 
-static ROWS: [Row; 29] = [
+static ROWS: [Row; 33] = [
+    Row {
+        files: CHECKED,
+        fails: Fails::Read(3),
+        line: "check t r",
+        status: Status::Broken,
+        printed: "held 1 1\nbroken 2 5 - 1 0\n",
+        said: Some("r:2: error broken: never HSO0 rise\n"),
+        held: &[],
+    },
+    Row {
+        files: CHECKED,
+        fails: Fails::Read(1),
+        line: "check t r",
+        status: Status::ReadFault,
+        printed: "read r\n",
+        said: Some("r: error: the file could not be read\n"),
+        held: &[],
+    },
+    Row {
+        files: CHECKED,
+        fails: Fails::Read(2),
+        line: "check t r",
+        status: Status::ReadFault,
+        printed: "read t\n",
+        said: Some("t: error: the file could not be read\n"),
+        held: &[],
+    },
+    Row {
+        files: CHECKED,
+        fails: Fails::Output(1),
+        line: "check t r",
+        status: Status::WriteFault,
+        printed: "",
+        said: Some("kc96: error: standard output could not be written\n"),
+        held: &[],
+    },
     Row {
         files: ONE,
         fails: Fails::Read(1),

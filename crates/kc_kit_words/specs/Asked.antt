@@ -10,7 +10,7 @@ use Rattle.kc_kit_words.specs.declared.command.Command.TheVariants as read
 use Rattle.kc_kit_words.specs.declared.extent.Extent.{Extent}
 use Rattle.kc_kit_words.specs.Inputs.{inputs_in}
 use Rattle.kc_kit_words.specs.Values.{max_states, max_lives}
-use Rattle.kc_kit_words.specs.Commands.{Beside, Command, Helps, HelpsOn, ReportsVersion, Runs, Profiles, Assembles, Packs, Links, RunsHex, ProfilesHex, Lists, Debugs, Generates, Dumps, Explains}
+use Rattle.kc_kit_words.specs.Commands.{Beside, Command, Helps, HelpsOn, ReportsVersion, Runs, Profiles, Assembles, Packs, Links, RunsHex, ProfilesHex, Lists, Debugs, Generates, Dumps, Checks, Explains}
 
 -- the names of the files that are written beside a hex file
 abbrev pub beside_in : ReadBeside → Beside
@@ -31,6 +31,7 @@ asked (read.List list) = Lists list.file.now list.first list.last
 asked (read.Debug debug) = Debugs debug.file.now debug.script.now (inputs_in debug.inputs)
 asked (read.Generate generate) = Generates generate.number
 asked (read.Dump dump) = Dumps dump.file.now dump.out.now dump.clock
+asked (read.Check check) = Checks check.trace.now check.rules.now (inputs_in check.inputs) check.clock
 asked (read.Explain explain) = Explains explain.code.now
 
 -- 1 to 64 files
@@ -60,4 +61,5 @@ IsWithin (read.ProfileHex run) = run.states ≤ max_states
 IsWithin (read.RunHex run) = IsBounded run.extent
 IsWithin (read.List list) = (image_start ≤ list.first) × (list.first ≤ list.last)
 IsWithin (read.Dump dump) = 1 ≤ dump.clock
+IsWithin (read.Check check) = 1 ≤ check.clock
 IsWithin _ = Unit {0}

@@ -28,6 +28,7 @@ pub data Command : Type 0 where
   Debugs : List ℕ → List ℕ → List (Role × List ℕ) → Command
   Generates : ℕ → Command
   Dumps : List ℕ → List ℕ → ℕ → Command
+  Checks : List ℕ → List ℕ → List (Role × List ℕ) → ℕ → Command
   Explains : List ℕ → Command
 
 -- ---- the files that a command names: those that are read, in this order, and those that are written
@@ -35,6 +36,10 @@ pub data Command : Type 0 where
 -- those that options name for reading
 abbrev pub names_of : List (Role × List ℕ) → List (List ℕ)
 names_of inputs = map (λ i. i.1) inputs
+
+-- those that `check` reads whole; the trace comes behind them, since it is read once, piece by piece
+abbrev pub names_whole : List ℕ → List (Role × List ℕ) → List (List ℕ)
+names_whole rules inputs = rules ∷ names_of inputs
 
 abbrev pub names_read : Option Command → List (List ℕ)
 names_read (Some (Runs files inputs extent placing)) = files ++ names_of inputs
@@ -47,6 +52,7 @@ names_read (Some (RunsHex file inputs extent)) = file ∷ names_of inputs
 names_read (Some (Lists file first last)) = file ∷ []
 names_read (Some (Debugs file script inputs)) = file ∷ script ∷ names_of inputs
 names_read (Some (Dumps file out clock)) = file ∷ []
+names_read (Some (Checks trace rules inputs clock)) = names_whole rules inputs ++ trace ∷ []
 names_read _ = []
 
 -- the files beside a hex file

@@ -1,13 +1,18 @@
 -- The options of a command, each with its value (this kit's own).
-use Rattle.std.specs.Prelude.{ℕ, Bool, true, false, ◌&&◌, List, [], ◌∷◌, ◌++◌, codes, Option, Some, None, is_some, is_none, if◌then◌else◌}
+use Rattle.std.specs.Prelude.{ℕ, Bool, true, false, not, ◌&&◌, List, [], ◌∷◌, ◌++◌, codes, Option, Some, None, is_some, is_none, if◌then◌else◌}
 use Rattle.std.specs.Option.{option_map, option_and_then, option_map_or, unwrap_or}
 use Rattle.std.specs.Str.{bytes_eq}
+use Rattle.kc_base.specs.TextLines.{begins_with}
 use Rattle.kc_kit_words.specs.declared.extent.Extent.{Extent}
 use Rattle.kc_kit_words.specs.declared.inputs.Role.{Role}
 use Rattle.kc_kit_words.specs.declared.inputs.Role.TheVariants as role
 use Rattle.kc_kit_words.specs.declared.values.Form.{Form}
 use Rattle.kc_kit_words.specs.declared.values.Form.TheVariants as form
-use Rattle.kc_kit_words.specs.Values.{is_name, states_of, lives_of, length_of, clock_of, range_of}
+use Rattle.kc_kit_words.specs.Values.{is_name, is_dash, states_of, lives_of, length_of, clock_of, range_of}
+
+-- a word stands where an option does: it begins with `-`, and is more than that
+abbrev pub is_option : List ℕ → Bool
+is_option word = begins_with 45 word && not (is_dash word)
 
 -- ---- the options that each command takes, with the form of their values
 
@@ -33,6 +38,7 @@ options_for verb =
     else if bytes_eq verb (codes "link") then out_option ∷ (codes "--lines", form.File) ∷ (codes "--map", form.File) ∷ (codes "--lib", form.Input role.Library) ∷ placing_options
     else if bytes_eq verb (codes "hex") then running_options
     else if bytes_eq verb (codes "vcd") then out_option ∷ (codes "--clock", form.Clock) ∷ []
+    else if bytes_eq verb (codes "check") then (codes "--stim", form.Input role.Stimuli) ∷ (codes "--clock", form.Clock) ∷ []
     else if bytes_eq verb (codes "debug") then (codes "--lines", form.Input role.Lines) ∷ driving_options
     else []
 

@@ -4,7 +4,6 @@ use Rattle.std.specs.List.{list_all}
 use Rattle.std.specs.Option.{option_map, option_or}
 use Rattle.std.specs.Str.{bytes_eq}
 use Rattle.kc_base.specs.Limits.{image_start}
-use Rattle.kc_base.specs.TextLines.{begins_with}
 use Rattle.kc_link_place.specs.Ranges.{are_in_bounds, lies_within}
 use Rattle.kc_kit_shown.specs.Shown.{word_shown}
 use Rattle.kc_kit_words.specs.declared.extent.Extent.{Extent}
@@ -12,8 +11,8 @@ use Rattle.kc_kit_words.specs.declared.usage.Wrong.{Wrong}
 use Rattle.kc_kit_words.specs.declared.usage.Wrong.TheVariants as wrong
 use Rattle.kc_kit_words.specs.declared.values.Form.{Form}
 use Rattle.kc_kit_words.specs.Number.{number_of}
-use Rattle.kc_kit_words.specs.Options.{form_of, has_form, value_of, extent_in}
-use Rattle.kc_kit_words.specs.Values.{is_name, range_of}
+use Rattle.kc_kit_words.specs.Options.{is_option, form_of, has_form, value_of, extent_in}
+use Rattle.kc_kit_words.specs.Values.{is_name, is_trace_name, range_of}
 use Rattle.kc_kit_words.specs.Commands.{Beside, Command, overwritten}
 use Rattle.kc_kit_words.specs.Words.{files_of, options_of, placing_of, is_other, are_apart, beside_of, command_by, help_on}
 
@@ -61,7 +60,7 @@ wrong_text (wrong.Twice option) = twice option.now
 wrong_text (wrong.Lacks option) = lacks option.now
 wrong_text wrong.FewFiles = codes "too few files"
 wrong_text wrong.ManyFiles = codes "too many files"
-wrong_text wrong.BadName = codes "a file's name has not 1 to 255 bytes"
+wrong_text wrong.BadName = codes "a file's name is -, or has not 1 to 255 bytes"
 wrong_text wrong.FewWords = codes "too few words"
 wrong_text wrong.ManyWords = codes "too many words"
 wrong_text wrong.SameFile = codes "two files to write have one name"
@@ -75,7 +74,7 @@ wrong_text (wrong.BadNumber number) = bad_number number.now
 
 -- a word where an option stands that the command does not take: it begins as an option does, or it is a file behind options
 abbrev pub unknown : List ℕ → List ℕ
-unknown word = if begins_with 45 word then no_option word else misplaced word
+unknown word = if is_option word then no_option word else misplaced word
 
 -- an option with its value before other words: the command does not take it, its value has another form, or it stands again
 abbrev pub wrong_value : Option Form → List ℕ → List ℕ → Option (List ℕ) → Option (List ℕ)
@@ -140,6 +139,15 @@ wrong_pair (file ∷ other ∷ []) = option_or (wrong_name file) (wrong_name oth
 wrong_pair (file ∷ other ∷ third ∷ files) = Some (wrong_text wrong.ManyFiles)
 wrong_pair _ = Some (wrong_text wrong.FewFiles)
 
+-- a trace and rules
+abbrev pub wrong_trace : List ℕ → Option (List ℕ)
+wrong_trace trace = if is_trace_name trace then None else Some (wrong_text wrong.BadName)
+
+abbrev pub wrong_check : List (List ℕ) → Option (List ℕ)
+wrong_check (trace ∷ rules ∷ []) = option_or (wrong_trace trace) (wrong_name rules)
+wrong_check (trace ∷ rules ∷ third ∷ files) = Some (wrong_text wrong.ManyFiles)
+wrong_check _ = Some (wrong_text wrong.FewFiles)
+
 -- a file and a range of addresses of an image
 abbrev pub wrong_range : List ℕ → Option (ℕ × ℕ) → Option (List ℕ)
 wrong_range word None = Some (bad_range word)
@@ -182,6 +190,7 @@ wrong_by verb files options wrong_options =
     else if bytes_eq verb (codes "debug") then option_or wrong_options (wrong_pair files)
     else if bytes_eq verb (codes "gen") then option_or wrong_options (wrong_number files)
     else if bytes_eq verb (codes "vcd") then option_or wrong_options (option_or (wrong_file files) (lacks_out options))
+    else if bytes_eq verb (codes "check") then option_or wrong_options (wrong_check files)
     else if bytes_eq verb (codes "explain") then option_or wrong_options (wrong_word files)
     else if bytes_eq verb (codes "--help") then option_or wrong_options (wrong_more files)
     else if bytes_eq verb (codes "--version") then option_or wrong_options (wrong_more files)

@@ -1,6 +1,7 @@
 -- The values of options (this kit's own).
-use Rattle.std.specs.Prelude.{ℕ, ◌+◌, Bool, not, ◌&&◌, ◌==◌, nat_lt, nat_le, List, length, take, drop, slice_index, Option, Some, None, if◌then◌else◌}
+use Rattle.std.specs.Prelude.{ℕ, ◌+◌, Bool, not, ◌&&◌, ◌||◌, ◌==◌, nat_lt, nat_le, List, codes, length, take, drop, slice_index, Option, Some, None, if◌then◌else◌}
 use Rattle.std.specs.List.{position}
+use Rattle.std.specs.Str.{bytes_eq}
 -- the most state times that a run may have
 pub use Rattle.kc_base.specs.Limits.{max_states}
 use Rattle.kc_kit_words.specs.Number.{digits_from, up_to, from_one, number_of}
@@ -8,6 +9,14 @@ use Rattle.kc_kit_words.specs.Number.{digits_from, up_to, from_one, number_of}
 -- the name of a file: 1 to 255 bytes, of which the first is no `-`
 abbrev pub is_name : List ℕ → Bool
 is_name name = nat_lt 0 (length name) && nat_le (length name) 255 && not (slice_index name 0 == 45)
+
+-- the word that stands for standard input
+abbrev pub is_dash : List ℕ → Bool
+is_dash word = bytes_eq word (codes "-")
+
+-- the name of a trace that is read piece by piece: a file, or standard input
+abbrev pub is_trace_name : List ℕ → Bool
+is_trace_name name = is_name name || is_dash name
 
 -- a number of state times
 abbrev pub states_of : List ℕ → Option ℕ

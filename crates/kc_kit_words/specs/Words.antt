@@ -4,20 +4,19 @@ use Rattle.std.specs.List.{prefix_len, list_all, list_any}
 use Rattle.std.specs.Option.{option_map, option_or, unwrap_or}
 use Rattle.std.specs.Str.{bytes_eq}
 use Rattle.kc_base.specs.Limits.{image_start}
-use Rattle.kc_base.specs.TextLines.{begins_with}
 use Rattle.kc_link_place.specs.declared.ranges.Ranges.{Ranges}
 use Rattle.kc_link_place.specs.Ranges.{are_in_bounds, default_ranges, lies_within}
 use Rattle.kc_kit_words.specs.declared.extent.Extent.{Extent}
 use Rattle.kc_kit_words.specs.declared.inputs.Role.{Role}
-use Rattle.kc_kit_words.specs.Commands.{Beside, Command, Helps, HelpsOn, ReportsVersion, Runs, Profiles, Assembles, Packs, Links, RunsHex, ProfilesHex, Lists, Debugs, Generates, Dumps, Explains, sparing}
-use Rattle.kc_kit_words.specs.Options.{are_options, inputs_of, value_of, clock_in, extent_in, range_in, length_in}
+use Rattle.kc_kit_words.specs.Commands.{Beside, Command, Helps, HelpsOn, ReportsVersion, Runs, Profiles, Assembles, Packs, Links, RunsHex, ProfilesHex, Lists, Debugs, Generates, Dumps, Checks, Explains, sparing}
+use Rattle.kc_kit_words.specs.Options.{is_option, are_options, inputs_of, value_of, clock_in, extent_in, range_in, length_in}
 use Rattle.kc_kit_words.specs.Number.{number_of}
-use Rattle.kc_kit_words.specs.Values.{is_name, range_of}
+use Rattle.kc_kit_words.specs.Values.{is_name, is_trace_name, range_of}
 
--- ---- files stand before the options, and an option begins with `-`
+-- ---- files stand before the options
 
 abbrev pub count_files : List (List ℕ) → ℕ
-count_files words = prefix_len (λ w. not (begins_with 45 w)) words
+count_files words = prefix_len (λ w. not (is_option w)) words
 
 abbrev pub files_of : List (List ℕ) → List (List ℕ)
 files_of words = take (count_files words) words
@@ -141,6 +140,14 @@ abbrev pub dump_by : List (List ℕ) → List (List ℕ) → Option Command
 dump_by (file ∷ []) options = if is_name file then option_map (λ out. Dumps file out (clock_in options)) (value_of (codes "--out") options) else None
 dump_by _ options = None
 
+-- a trace and rules
+abbrev pub check_of : List ℕ → List ℕ → List ℕ → List (List ℕ) → Option Command
+check_of trace rules verb options = if is_trace_name trace && is_name rules then Some (Checks trace rules (inputs_of verb options) (clock_in options)) else None
+
+abbrev pub check_by : List (List ℕ) → List ℕ → List (List ℕ) → Option Command
+check_by (trace ∷ rules ∷ []) verb options = check_of trace rules verb options
+check_by _ verb options = None
+
 -- a code, or a word that is none
 abbrev pub explain_by : List (List ℕ) → Option Command
 explain_by (code ∷ []) = Some (Explains code)
@@ -161,6 +168,7 @@ command_by verb files options =
     else if bytes_eq verb (codes "debug") then debug_by files verb options
     else if bytes_eq verb (codes "gen") then generate_by files
     else if bytes_eq verb (codes "vcd") then dump_by files options
+    else if bytes_eq verb (codes "check") then check_by files verb options
     else if bytes_eq verb (codes "explain") then explain_by files
     else if bytes_eq verb (codes "--help") then alone files Helps
     else if bytes_eq verb (codes "--version") then alone files ReportsVersion
@@ -178,7 +186,7 @@ plain_command_of (verb ∷ words) = command_with verb (files_of words) (options_
 -- ---- help on a command: its word, and `--help`
 
 abbrev pub verbs : List (List ℕ)
-verbs = codes "run" ∷ codes "asm" ∷ codes "lib" ∷ codes "link" ∷ codes "hex" ∷ codes "dis" ∷ codes "debug" ∷ codes "gen" ∷ codes "vcd" ∷ codes "explain" ∷ []
+verbs = codes "run" ∷ codes "asm" ∷ codes "lib" ∷ codes "link" ∷ codes "hex" ∷ codes "dis" ∷ codes "debug" ∷ codes "gen" ∷ codes "vcd" ∷ codes "check" ∷ codes "explain" ∷ []
 
 abbrev pub is_verb : List ℕ → Bool
 is_verb word = list_any (λ verb. bytes_eq word verb) verbs

@@ -101,6 +101,15 @@ pub struct Dump<'a> {
     pub clock: u32,
 }
 
+/// A trace that is checked by rules, of a board whose oscillator has so many hertz.
+#[derive(Clone, Copy)]
+pub struct Check<'a> {
+    pub trace: &'a str,
+    pub rules: &'a str,
+    pub inputs: Inputs<'a>,
+    pub clock: u32,
+}
+
 /// A code that is to be explained.
 #[derive(Clone, Copy)]
 pub struct Explain<'a> {
@@ -130,5 +139,6 @@ pub enum Command<'a> {
     Debug(Debug<'a>),
     Generate(Generate),
     Dump(Dump<'a>),
+    Check(Check<'a>),
     Explain(Explain<'a>),
 }

@@ -3,16 +3,16 @@ ghost use Rattle.std.specs.Prelude.{◌≡◌, ◌≤◌, ◌&&◌, is_none, map
 ghost use Rattle.std.specs.Option.{option_map, option_and_then};
 ghost use Rattle.kc_base.specs.TextLines.{begins_with};
 ghost use Rattle.kc_kit_words.specs.Asked.{IsBounded};
-ghost use Rattle.kc_kit_words.specs.Options.{placing_options, driving_options, running_options, form_among, form_of, takes, value_of, are_options, states_in, lives_in, extent_in, clock_in, range_in, length_in};
+ghost use Rattle.kc_kit_words.specs.Options.{is_option, placing_options, driving_options, running_options, form_among, form_of, takes, value_of, are_options, states_in, lives_in, extent_in, clock_in, range_in, length_in};
 ghost use Rattle.kc_kit_words.specs.Values.{clock_of, max_states, max_lives};
 ghost use Rattle.kc_kit_words.specs.Words as spec;
 
 use crate::extent::Extent;
 use crate::inputs::Role;
-use crate::values::{Form, bytes, clock, has_form, lives, range, states};
+use crate::values::{Form, bytes, clock, has_form, is_dash, lives, range, states};
 
-/// Whether a word stands where an option does: it begins with `-`.
-pub(crate) fn is_option(word: &str) -> bool
+// Whether a word begins with `-`.
+fn begins_with_dash(word: &str) -> bool
     ensures { result ≡ begins_with 45 word.now }
 {
     match word.as_bytes().first() {
@@ -21,7 +21,14 @@ pub(crate) fn is_option(word: &str) -> bool
     }
 }
 
-/// How many words stand before the first that begins with `-`.
+/// Whether a word stands where an option does: it begins with `-`, and is more than that.
+pub(crate) fn is_option(word: &str) -> bool
+    ensures { result ≡ is_option word.now }
+{
+    begins_with_dash(word) && !is_dash(word)
+}
+
+/// How many words stand before the first that stands where an option does.
 pub(crate) fn count_files(words: &[String]) -> usize
     ensures count { result ≡ spec.count_files (map string_bytes words.now) }
     ensures within { result ≤ length words.now }
@@ -97,6 +104,11 @@ pub(crate) fn form_of(verb: &str, option: &str) -> Option<Form>
         "hex" => running_form(option),
         "vcd" => match option {
             "--out" => Some(Form::File),
+            "--clock" => Some(Form::Clock),
+            _ => None,
+        },
+        "check" => match option {
+            "--stim" => Some(Form::Input(Role::Stimuli)),
             "--clock" => Some(Form::Clock),
             _ => None,
         },

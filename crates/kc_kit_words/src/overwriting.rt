@@ -64,6 +64,9 @@ fn reads(command: &Command<'_>, name: &str) -> bool
             debug.file == name || debug.script == name || is_input(name, debug.inputs)
         }
         Command::Dump(dump) => dump.file == name,
+        Command::Check(check) => {
+            check.rules == name || is_input(name, check.inputs) || check.trace == name
+        }
         _ => false,
     }
 }

@@ -6,7 +6,7 @@ ghost use Rattle.kc_trace.specs.Trace.{out_of};
 ghost use Rattle.kc_kit_shown.specs.Shown.{word_shown};
 ghost use Rattle.kc_kit_words.specs.Asked.{asked};
 ghost use Rattle.kc_kit_words.specs.Options.{form_of, value_of};
-ghost use Rattle.kc_kit_words.specs.Usage.{wrong_text, bad_value, lacks, unknown, wrong_writes, wrong_value, wrong_last, wrong_option, lacks_out, wrong_extent, wrong_listing, wrong_placing, wrong_outputs, wrong_name, wrong_files, wrong_file, wrong_pair, wrong_range, wrong_list, wrong_number, wrong_word, wrong_more, wrong_by, plain_usage_of, usage_of, usage_diagnostic};
+ghost use Rattle.kc_kit_words.specs.Usage.{wrong_text, bad_value, lacks, unknown, wrong_writes, wrong_value, wrong_last, wrong_option, lacks_out, wrong_extent, wrong_listing, wrong_placing, wrong_outputs, wrong_name, wrong_files, wrong_file, wrong_pair, wrong_trace, wrong_check, wrong_range, wrong_list, wrong_number, wrong_word, wrong_more, wrong_by, plain_usage_of, usage_of, usage_diagnostic};
 ghost use Rattle.kc_kit_words.specs.UsageLaw.{WrongWhereNoCommand};
 ghost use Rattle.kc_kit_words.specs.Values.{range_of};
 ghost use Rattle.kc_kit_words.specs.Words.{beside_of};
@@ -15,7 +15,7 @@ use crate::command::Command;
 use crate::extent::Extent;
 use crate::options::{count_files, extent_in, form_of, is_option, value_of};
 use crate::overwriting::overwritten;
-use crate::values::{has_form, is_name, range, short};
+use crate::values::{has_form, is_name, is_trace_name, range, short};
 use crate::words::{
     MAX_FILES, are_apart, are_names, beside_in, help_on, is_other, placing, read_command,
 };
@@ -106,7 +106,9 @@ impl Wrong<'_> {
             Wrong::Lacks(option) => put_lack(diagnostics, option),
             Wrong::FewFiles => diagnostics.put_text(b"too few files"),
             Wrong::ManyFiles => diagnostics.put_text(b"too many files"),
-            Wrong::BadName => diagnostics.put_text(b"a file's name has not 1 to 255 bytes"),
+            Wrong::BadName => diagnostics.put_text(
+                b"a file's name is -, or has not 1 to 255 bytes",
+            ),
             Wrong::FewWords => diagnostics.put_text(b"too few words"),
             Wrong::ManyWords => diagnostics.put_text(b"too many words"),
             Wrong::SameFile => diagnostics.put_text(b"two files to write have one name"),
@@ -309,6 +311,28 @@ fn wrong_pair<'a>(files: &[String]) -> Option<Wrong<'a>>
     }
 }
 
+// What is wrong with the name of a trace.
+fn wrong_trace<'a>(trace: &str) -> Option<Wrong<'a>>
+    ensures { option_map wrong_text result ≡ wrong_trace trace.now }
+{
+    if is_trace_name(trace) {
+        None
+    } else {
+        Some(Wrong::BadName)
+    }
+}
+
+// What is wrong with a trace and rules.
+fn wrong_check<'a>(files: &[String]) -> Option<Wrong<'a>>
+    ensures { option_map wrong_text result ≡ wrong_check (map string_bytes files.now) }
+{
+    match files {
+        [] | [_] => Some(Wrong::FewFiles),
+        [trace, rules] => first(wrong_trace(trace.as_str()), wrong_name(rules.as_str())),
+        _ => Some(Wrong::ManyFiles),
+    }
+}
+
 // What is wrong with a range of addresses of an image.
 fn wrong_range(word: &str) -> Option<Wrong<'_>>
     ensures { option_map wrong_text result ≡ wrong_range word.now (range_of word.now) }
@@ -413,6 +437,7 @@ fn wrong_by<'a>(verb: &'a str, files: &'a [String], options: &'a [String]) -> Op
         "debug" => first(wrong_options, wrong_pair(files)),
         "gen" => first(wrong_options, wrong_number(files)),
         "vcd" => first(wrong_options, first(wrong_file(files), lacks_out(options))),
+        "check" => first(wrong_options, wrong_check(files)),
         "explain" => first(wrong_options, wrong_word(files)),
         "--help" | "--version" => first(wrong_options, wrong_more(files)),
         _ => Some(Wrong::NoCommand(verb)),

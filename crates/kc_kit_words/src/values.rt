@@ -1,7 +1,7 @@
 // The values of options.
 ghost use Rattle.std.specs.Prelude.{◌≡◌, ◌≤◌, ◌<◌, ◌==◌, IfSome, position, length};
 ghost use Rattle.kc_kit_words.specs.Number.{number_of};
-ghost use Rattle.kc_kit_words.specs.Values.{is_name, max_states, max_lives, states_of, lives_of, length_of, clock_of, range_of};
+ghost use Rattle.kc_kit_words.specs.Values.{is_name, is_dash, is_trace_name, max_states, max_lives, states_of, lives_of, length_of, clock_of, range_of};
 ghost use Rattle.kc_kit_words.specs.Options.{has_form};
 
 use crate::inputs::Role;
@@ -38,6 +38,20 @@ pub(crate) fn is_name(name: &str) -> bool
         Some(first) => bytes.len() <= 255 && *first != b'-',
         None => false,
     }
+}
+
+/// Whether a word stands for standard input.
+pub(crate) fn is_dash(word: &str) -> bool
+    ensures { result ≡ is_dash word.now }
+{
+    word == "-"
+}
+
+/// Whether a word names a trace that is read piece by piece: a file, or standard input.
+pub(crate) fn is_trace_name(name: &str) -> bool
+    ensures { result ≡ is_trace_name name.now }
+{
+    is_name(name) || is_dash(name)
 }
 
 /// A number of state times.

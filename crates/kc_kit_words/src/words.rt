@@ -3,14 +3,14 @@ ghost use Rattle.std.specs.Prelude.{◌≡◌, Some, IfSome, length, map, string
 ghost use Rattle.std.specs.List.{list_all};
 ghost use Rattle.std.specs.Option.{option_map, unwrap_or};
 ghost use Rattle.kc_kit_words.specs.Values.{is_name};
-ghost use Rattle.kc_kit_words.specs.Words.{command_of, plain_command_of, command_by, run_by, assemble_by, pack_by, link_by, hex_by, hex_of, list_by, list_of, debug_by, debug_of, generate_by, dump_by, explain_by, are_files, beside_of, placing_of};
+ghost use Rattle.kc_kit_words.specs.Words.{command_of, plain_command_of, command_by, run_by, assemble_by, pack_by, link_by, hex_by, hex_of, list_by, list_of, debug_by, debug_of, generate_by, dump_by, check_by, check_of, explain_by, are_files, beside_of, placing_of};
 ghost use Rattle.kc_kit_words.specs.Words as spec;
 ghost use Rattle.kc_kit_words.specs.Asked.{asked, beside_in, AreLinkable, IsBounded, IsWithin};
 ghost use Rattle.kc_kit_words.specs.Inputs.{inputs_in};
 
 use crate::command::{
-    Assemble, Beside, Command, Debug, Dump, Explain, Generate, HelpOn, Link, List, Pack, Profile,
-    ProfileHex, Run, RunHex,
+    Assemble, Beside, Check, Command, Debug, Dump, Explain, Generate, HelpOn, Link, List, Pack,
+    Profile, ProfileHex, Run, RunHex,
 };
 use crate::extent::Extent;
 use crate::inputs::Inputs;
@@ -18,7 +18,7 @@ use crate::options::{
     are_options, clock_in, count_files, extent_in, length_in, range_in, value_of,
 };
 use crate::overwriting::sparing;
-use crate::values::{is_name, range, short};
+use crate::values::{is_name, is_trace_name, range, short};
 use kc_base::IMAGE_START;
 use kc_link_place::Ranges;
 
@@ -360,6 +360,41 @@ fn read_dump<'a>(files: &'a [String], options: &'a [String]) -> Option<Command<'
     }))
 }
 
+// The check of a trace by rules.
+fn checking<'a>(
+    trace: &'a str,
+    rules: &'a str,
+    verb: &'a str,
+    options: &'a [String],
+) -> Option<Command<'a>>
+    ensures asked { option_map asked result ≡ check_of trace.now rules.now verb.now (map string_bytes options.now) }
+    ensures within { IfSome result IsWithin }
+{
+    if is_trace_name(trace) && is_name(rules) {
+        Some(Command::Check(Check {
+            trace,
+            rules,
+            inputs: Inputs {
+                verb,
+                words: options,
+            },
+            clock: clock_in(options),
+        }))
+    } else {
+        None
+    }
+}
+
+fn read_check<'a>(files: &'a [String], verb: &'a str, options: &'a [String]) -> Option<Command<'a>>
+    ensures asked { option_map asked result ≡ check_by (map string_bytes files.now) verb.now (map string_bytes options.now) }
+    ensures within { IfSome result IsWithin }
+{
+    if files.len() != 2 {
+        return None;
+    }
+    checking(files[0].as_str(), files[1].as_str(), verb, options)
+}
+
 fn read_explain<'a>(files: &'a [String]) -> Option<Command<'a>>
     ensures asked { option_map asked result ≡ explain_by (map string_bytes files.now) }
     ensures within { IfSome result IsWithin }
@@ -404,6 +439,7 @@ pub(crate) fn read_command<'a>(
         "debug" => read_debug(files, verb, options),
         "gen" => read_generate(files),
         "vcd" => read_dump(files, options),
+        "check" => read_check(files, verb, options),
         "explain" => read_explain(files),
         "--help" => alone(files, Command::Help),
         "--version" => alone(files, Command::Version),
@@ -417,7 +453,17 @@ fn is_verb(word: &str) -> bool
 {
     matches!(
         word,
-        "run" | "asm" | "lib" | "link" | "hex" | "dis" | "debug" | "gen" | "vcd" | "explain"
+        "run"
+            | "asm"
+            | "lib"
+            | "link"
+            | "hex"
+            | "dis"
+            | "debug"
+            | "gen"
+            | "vcd"
+            | "check"
+            | "explain"
     )
 }
 
