@@ -1,4 +1,5 @@
 ghost use Rattle.std.specs.Prelude.{◌≡◌, ◌≤◌, length, IfOk};
+ghost use Rattle.kc_base.specs.Limits.{file_limit};
 ghost use Rattle.kc_asm_origin.specs.Cause as spec;
 
 use crate::alike::are_lines_alike;
@@ -33,7 +34,7 @@ fn origin_between(
 /// token is an argument of the call there; or the fault is one of lines or of macros. A call reads the source once again, and
 /// has at most 19 runs of the passes behind expansion.
 pub fn cause(alloc: Global, source: &[u8], line: u32, code: u8) -> Result<Option<u32>, NoMemory>
-    requires { length source.now ≤ 1048576 }
+    requires { length source.now ≤ file_limit }
     ensures { IfOk result (λ found. spec.IsCause source.now line code found) }
 {
     let read = match lines(alloc, source) {
