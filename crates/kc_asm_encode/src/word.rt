@@ -19,8 +19,8 @@ pub enum Word {
     Jump(Value),
 }
 
-/// An instruction with values in the places of its numbers: `signed` where FEH stands before it, and in `regs` the other
-/// bytes in their order, the rest 0.
+/// An instruction before the bases are known, with values in the places of its numbers: `signed` where FEH stands before it,
+/// and in `regs` the other bytes in their order, the rest 0.
 #[derive(Clone, Copy, PartialEq, Eq)]
 pub struct RelocatableInsn {
     pub opcode: u8,
