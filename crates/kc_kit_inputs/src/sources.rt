@@ -10,7 +10,7 @@ ghost use Rattle.kc_kit_inputs.specs.Sources.{AreModules, Reports, ReportsFault,
 
 use crate::input_lines::{coded, place_text};
 use kc_asm::assemble;
-use kc_asm_origin::{cause, symbol};
+use kc_asm_origin::{origin, symbol};
 use kc_base::NoMemory;
 use kc_kit_files::{Cause, Refusal, refusal_of};
 use kc_kit_messages::{put_body_line, source_diagnostic};
@@ -38,7 +38,7 @@ fn fault_diagnostic(
         }
         None => source_diagnostic(alloc, name, text, line, code, number, None)?,
     };
-    let body_line = cause(alloc, text, line, number)?;
+    let body_line = origin(alloc, text, line, number)?;
     put_body_line(&mut diagnostic, name, text, body_line)?;
     Ok(diagnostic)
 }
