@@ -48,7 +48,6 @@ fn is_input(name: &str, inputs: Inputs<'_>) -> bool
 }
 
 // Whether a command reads the file of this name.
-#[tactic(auto, using(std::proofs::lemmas::List::Folds::list_any-append))]
 fn reads(command: &Command<'_>, name: &str) -> bool
     ensures { result ≡ is_read (Some (asked command.now)) name.now }
 {
