@@ -1,7 +1,7 @@
 // The lives of a run, step by step, as rules watch them.
 ghost use Rattle.std.specs.Prelude.{◌≡◌, ◌≢◌, ◌≤◌, None, Ok, Err, List, OnOk, IfErr};
 ghost use Rattle.kc_events.specs.Steps.{Seen};
-ghost use Rattle.kc_events.specs.Telling.{AreToCome};
+ghost use Rattle.kc_events.specs.Reporting.{AreToCome};
 ghost use Rattle.kc_kit_answer.specs.Checking.{HasWatched};
 
 use kc_base::NoMemory;
