@@ -13,24 +13,24 @@ use Rattle.kc_events.specs.declared.line.Line.{Line}
 use Rattle.kc_events.specs.declared.line.Line.TheVariants.{Printed, Restarted}
 use Rattle.kc_events.specs.declared.course.Known.{Known}
 use Rattle.kc_events.specs.declared.course.Known.TheVariants.{Living, Ending, Ended}
-use Rattle.kc_events.specs.Lives.{input_edges, start_levels, levels_after, told_in, states_from, event_of, end_event, count_at, restart_event}
+use Rattle.kc_events.specs.Lives.{input_edges, start_levels, levels_after, reported_in, states_from, event_of, end_event, count_at, restart_event}
 use Rattle.kc_events.specs.Steps.{Seen, Begins, Passes, Ends, passes, seen_of, steps_with}
 use Rattle.kc_events.specs.Coming.{Present, start_of, states_on, begin_of, rest_of, rest_by, events_ahead, others_of, rest_at, AreFrom, state_behind, AreDue, AreDueIf, MayCome, behind, GoesOn, IsBeyond, HasSameRest, HasPassed, IsFed}
 
--- ---- what is told of a state
+-- ---- what is known of a state
 
-told-other : (t : ℕ) (e : Event) (told : List Event) → (e.at ≡ t → ⊥) → told_in t (e ∷ told) ≡ told_in t told
-told-other t e told differs = ap (λ b. map (λ (x : Event). x.what) (cond b (e ∷ filter (λ x. eqb x.at t) told) (filter (λ x. eqb x.at t) told))) (ne_eqb e.at t differs)
+reported-other : (t : ℕ) (e : Event) (reported : List Event) → (e.at ≡ t → ⊥) → reported_in t (e ∷ reported) ≡ reported_in t reported
+reported-other t e reported differs = ap (λ b. map (λ (x : Event). x.what) (cond b (e ∷ filter (λ x. eqb x.at t) reported) (filter (λ x. eqb x.at t) reported))) (ne_eqb e.at t differs)
 
-told-here : (t : ℕ) (e : Event) (told : List Event) → e.at ≡ t → told_in t (e ∷ told) ≡ e.what ∷ told_in t told
-told-here t e told same = ap (λ b. map (λ (x : Event). x.what) (cond b (e ∷ filter (λ x. eqb x.at t) told) (filter (λ x. eqb x.at t) told))) (eq-eqb e.at t same)
+reported-here : (t : ℕ) (e : Event) (reported : List Event) → e.at ≡ t → reported_in t (e ∷ reported) ≡ e.what ∷ reported_in t reported
+reported-here t e reported same = ap (λ b. map (λ (x : Event). x.what) (cond b (e ∷ filter (λ x. eqb x.at t) reported) (filter (λ x. eqb x.at t) reported))) (eq-eqb e.at t same)
 
--- what is told of later states says nothing of this one
-told-later : (t : ℕ) (told : List Event) → AreFrom (t + 1) told → told_in t told ≡ []
-told-later t [] h = refl
-told-later t (e ∷ told) h =
+-- what is known of later states says nothing of this one
+reported-later : (t : ℕ) (reported : List Event) → AreFrom (t + 1) reported → reported_in t reported ≡ []
+reported-later t [] h = refl
+reported-later t (e ∷ reported) h =
     let first : t + 1 ≤ e.at = h.0 in
-    told-other t e told (λ same. omega (arith, first, same)) ∙ told-later t told h.1
+    reported-other t e reported (λ same. omega (arith, first, same)) ∙ reported-later t reported h.1
 
 from-append : (t : ℕ) (xs ys : List Event) → AreFrom t xs → AreFrom t ys → AreFrom t (xs ++ ys)
 from-append t [] ys h k = k
@@ -42,38 +42,38 @@ from-less t s (x ∷ xs) less h = (let first : t ≤ x.at = h.0 in omega (arith,
 
 -- ---- the states from one on
 
--- what is told of an earlier state does not change them
-states-earlier : (d : Drives) (base : ℕ) (e : Event) (told : List Event) (more t : ℕ) (levels : Signal → Level) → e.at < t → states_from d base (e ∷ told) more t levels ≡ states_from d base told more t levels
+-- what is known of an earlier state does not change them
+states-earlier : (d : Drives) (base : ℕ) (e : Event) (reported : List Event) (more t : ℕ) (levels : Signal → Level) → e.at < t → states_from d base (e ∷ reported) more t levels ≡ states_from d base reported more t levels
 unfolding states_from
-states-earlier d base e told zero t levels less = refl
-states-earlier d base e told (suc more) t levels less =
-    let same : told_in t (e ∷ told) ≡ told_in t told = told-other t e told (λ is. omega (arith, is, less)) in
+states-earlier d base e reported zero t levels less = refl
+states-earlier d base e reported (suc more) t levels less =
+    let same : reported_in t (e ∷ reported) ≡ reported_in t reported = reported-other t e reported (λ is. omega (arith, is, less)) in
     let edges = input_edges d levels (base + t) in
-    (λ i. record { at = t; whats = edges ++ same i } ∷ states_from d base (e ∷ told) more (t + 1) (levels_after levels (edges ++ same i)))
-    ∙ ap (λ (states : List State). record { at = t; whats = edges ++ told_in t told } ∷ states) (states-earlier d base e told more (t + 1) (levels_after levels (edges ++ told_in t told)) (omega (arith, less)))
+    (λ i. record { at = t; whats = edges ++ same i } ∷ states_from d base (e ∷ reported) more (t + 1) (levels_after levels (edges ++ same i)))
+    ∙ ap (λ (states : List State). record { at = t; whats = edges ++ reported_in t reported } ∷ states) (states-earlier d base e reported more (t + 1) (levels_after levels (edges ++ reported_in t reported)) (omega (arith, less)))
 
 -- the states from one on begin with its edges
-states-on : (d : Drives) (base : ℕ) (told : List Event) (more t : ℕ) (levels : Signal → Level) → states_from d base told more t levels ≡ states_on d base told more t levels (input_edges d levels (base + t))
+states-on : (d : Drives) (base : ℕ) (reported : List Event) (more t : ℕ) (levels : Signal → Level) → states_from d base reported more t levels ≡ states_on d base reported more t levels (input_edges d levels (base + t))
 unfolding states_from
-states-on d base told zero t levels = refl
-states-on d base told (suc more) t levels = refl
+states-on d base reported zero t levels = refl
+states-on d base reported (suc more) t levels = refl
 
 -- an event of the present state has happened
-states-pushed : (d : Drives) (base : ℕ) (e : Event) (told : List Event) (more t : ℕ) (levels : Signal → Level) (whats : List What) → e.at ≡ t →
-    states_on d base (e ∷ told) more t levels whats ≡ states_on d base told more t levels (whats ++ e.what ∷ [])
-states-pushed d base e told zero t levels whats same = refl
-states-pushed d base e told (suc more) t levels whats same =
-    let all : whats ++ told_in t (e ∷ told) ≡ (whats ++ e.what ∷ []) ++ told_in t told = ap (λ ws. whats ++ ws) (told-here t e told same) ∙ sym (append_assoc whats (e.what ∷ []) (told_in t told)) in
-    (λ i. record { at = t; whats = all i } ∷ states_from d base (e ∷ told) more (t + 1) (levels_after levels (all i)))
-    ∙ ap (λ (states : List State). record { at = t; whats = (whats ++ e.what ∷ []) ++ told_in t told } ∷ states) (states-earlier d base e told more (t + 1) (levels_after levels ((whats ++ e.what ∷ []) ++ told_in t told)) (omega (arith, same)))
+states-pushed : (d : Drives) (base : ℕ) (e : Event) (reported : List Event) (more t : ℕ) (levels : Signal → Level) (whats : List What) → e.at ≡ t →
+    states_on d base (e ∷ reported) more t levels whats ≡ states_on d base reported more t levels (whats ++ e.what ∷ [])
+states-pushed d base e reported zero t levels whats same = refl
+states-pushed d base e reported (suc more) t levels whats same =
+    let all : whats ++ reported_in t (e ∷ reported) ≡ (whats ++ e.what ∷ []) ++ reported_in t reported = ap (λ ws. whats ++ ws) (reported-here t e reported same) ∙ sym (append_assoc whats (e.what ∷ []) (reported_in t reported)) in
+    (λ i. record { at = t; whats = all i } ∷ states_from d base (e ∷ reported) more (t + 1) (levels_after levels (all i)))
+    ∙ ap (λ (states : List State). record { at = t; whats = (whats ++ e.what ∷ []) ++ reported_in t reported } ∷ states) (states-earlier d base e reported more (t + 1) (levels_after levels ((whats ++ e.what ∷ []) ++ reported_in t reported)) (omega (arith, same)))
 
--- the present state passes, of which nothing more is told
-states-passed : (d : Drives) (base : ℕ) (told : List Event) (more t : ℕ) (levels : Signal → Level) (whats : List What) → AreFrom (t + 1) told →
-    states_on d base told (suc more) t levels whats ≡ record { at = t; whats = whats } ∷ states_on d base told more (t + 1) (levels_after levels whats) (input_edges d (levels_after levels whats) (base + (t + 1)))
-states-passed d base told more t levels whats later =
-    let all : whats ++ told_in t told ≡ whats = ap (λ ws. whats ++ ws) (told-later t told later) ∙ append-nil whats in
-    (λ i. record { at = t; whats = all i } ∷ states_from d base told more (t + 1) (levels_after levels (all i)))
-    ∙ ap (λ (states : List State). record { at = t; whats = whats } ∷ states) (states-on d base told more (t + 1) (levels_after levels whats))
+-- the present state passes, of which nothing more is reported
+states-passed : (d : Drives) (base : ℕ) (reported : List Event) (more t : ℕ) (levels : Signal → Level) (whats : List What) → AreFrom (t + 1) reported →
+    states_on d base reported (suc more) t levels whats ≡ record { at = t; whats = whats } ∷ states_on d base reported more (t + 1) (levels_after levels whats) (input_edges d (levels_after levels whats) (base + (t + 1)))
+states-passed d base reported more t levels whats later =
+    let all : whats ++ reported_in t reported ≡ whats = ap (λ ws. whats ++ ws) (reported-later t reported later) ∙ append-nil whats in
+    (λ i. record { at = t; whats = all i } ∷ states_from d base reported more (t + 1) (levels_after levels (all i)))
+    ∙ ap (λ (states : List State). record { at = t; whats = whats } ∷ states) (states-on d base reported more (t + 1) (levels_after levels whats))
 
 -- ---- a state passes
 
@@ -89,23 +89,23 @@ passes-cons s states = by s.whats
     by (w ∷ whats) = refl
 
 -- the rest of a life that has begun, once its present state has passed
-rest-passed : (p : Present) (told : List Event) (count : ℕ) → p.has_begun ≡ true → p.now + 1 ≤ count → AreFrom (p.now + 1) told → rest_of p told count ≡ passing p ++ rest_of (behind p) told count
-rest-passed p told zero begun less later = absurd (omega (arith, less))
-rest-passed p told (suc last) begun less later =
+rest-passed : (p : Present) (reported : List Event) (count : ℕ) → p.has_begun ≡ true → p.now + 1 ≤ count → AreFrom (p.now + 1) reported → rest_of p reported count ≡ passing p ++ rest_of (behind p) reported count
+rest-passed p reported zero begun less later = absurd (omega (arith, less))
+rest-passed p reported (suc last) begun less later =
     let more = last - p.now in
     let size : suc last - p.now ≡ suc more = omega (arith, less) in
     let rest : suc last - (p.now + 1) ≡ more = omega (arith, less) in
     let s : State = record { at = p.now; whats = p.whats } in
     let q = behind p in
-    let states = states-passed p.drives p.base told more p.now p.levels p.whats later in
+    let states = states-passed p.drives p.base reported more p.now p.levels p.whats later in
     let none : begin_of p.has_begun p.levels ≡ [] = ap (λ b. begin_of b p.levels) begun in
     let none_behind : begin_of p.has_begun q.levels ≡ [] = ap (λ b. begin_of b q.levels) begun in
-    let left = passes (states_on p.drives p.base told more q.now q.levels q.whats) in
-    (λ i. none i ++ (passes (states_on p.drives p.base told (size i) p.now p.levels p.whats) ++ Ends last ∷ []))
+    let left = passes (states_on p.drives p.base reported more q.now q.levels q.whats) in
+    (λ i. none i ++ (passes (states_on p.drives p.base reported (size i) p.now p.levels p.whats) ++ Ends last ∷ []))
     ∙ ap (λ (all : List State). passes all ++ Ends last ∷ []) states
-    ∙ ap (λ (seen : List Seen). seen ++ Ends last ∷ []) (passes-cons s (states_on p.drives p.base told more q.now q.levels q.whats))
+    ∙ ap (λ (seen : List Seen). seen ++ Ends last ∷ []) (passes-cons s (states_on p.drives p.base reported more q.now q.levels q.whats))
     ∙ append_assoc (passes (s ∷ [])) left (Ends last ∷ [])
-    ∙ (λ i. passes (s ∷ []) ++ (sym none_behind i ++ (passes (states_on p.drives p.base told (sym rest i) q.now q.levels q.whats) ++ Ends last ∷ [])))
+    ∙ (λ i. passes (s ∷ []) ++ (sym none_behind i ++ (passes (states_on p.drives p.base reported (sym rest i) q.now q.levels q.whats) ++ Ends last ∷ [])))
 
 -- lines that are due from one state on are due from an earlier one on
 due-less : (t s : ℕ) (lines : List Line) → s ≤ t → AreDue t lines → AreDue s lines
@@ -141,38 +141,38 @@ come-less t s (Ending count is_followed) lines less h =
     (omega (arith, first, less), h.1)
 come-less t s Ended lines less h = tt
 
-by-passed : (p : Present) (told : List Event) (lines : List Line) → p.has_begun ≡ true → AreFrom (p.now + 1) told → AreDue (p.now + 1) lines → rest_by p told lines ≡ passing p ++ rest_by (behind p) told lines
+by-passed : (p : Present) (reported : List Event) (lines : List Line) → p.has_begun ≡ true → AreFrom (p.now + 1) reported → AreDue (p.now + 1) lines → rest_by p reported lines ≡ passing p ++ rest_by (behind p) reported lines
 unfolding rest_by AreDue
-by-passed p told [] begun later due = absurd due
-by-passed p told (Printed (Pin at edge) ∷ lines) begun later due = by-passed p (told ++ event_of (Pin at edge)) lines begun (from-append (p.now + 1) told (event_of (Pin at edge)) later due.0) (due-behind (p.now + 1) (event_of (Pin at edge)) lines due.0 due.1)
-by-passed p told (Printed (Entered at vector back) ∷ lines) begun later due = by-passed p (told ++ event_of (Entered at vector back)) lines begun (from-append (p.now + 1) told (event_of (Entered at vector back)) later due.0) (due-behind (p.now + 1) (event_of (Entered at vector back)) lines due.0 due.1)
-by-passed p told (Printed (Served at vector mode count) ∷ lines) begun later due = by-passed p (told ++ event_of (Served at vector mode count)) lines begun (from-append (p.now + 1) told (event_of (Served at vector mode count)) later due.0) (due-behind (p.now + 1) (event_of (Served at vector mode count)) lines due.0 due.1)
-by-passed p told (Printed (Undef what) ∷ lines) begun later due = by-passed p (told ++ event_of (Undef what)) lines begun (from-append (p.now + 1) told (event_of (Undef what)) later due.0) (due-behind (p.now + 1) (event_of (Undef what)) lines due.0 due.1)
-by-passed p told (Printed (Stopped at how) ∷ lines) begun later due =
-    rest-passed p (told ++ end_event at how) (count_at at how) begun due.1 (from-append (p.now + 1) told (end_event at how) later due.0)
-by-passed p told (Printed (Pc value) ∷ lines) begun later due = by-passed p (told ++ []) lines begun (from-append (p.now + 1) told [] later tt) due.1
-by-passed p told (Printed (Psw value) ∷ lines) begun later due = by-passed p (told ++ []) lines begun (from-append (p.now + 1) told [] later tt) due.1
-by-passed p told (Printed (Wsr value) ∷ lines) begun later due = by-passed p (told ++ []) lines begun (from-append (p.now + 1) told [] later tt) due.1
-by-passed p told (Printed (Registers base bytes) ∷ lines) begun later due = by-passed p (told ++ []) lines begun (from-append (p.now + 1) told [] later tt) due.1
-by-passed p told (Restarted at by_watchdog ∷ lines) begun later due =
+by-passed p reported [] begun later due = absurd due
+by-passed p reported (Printed (Pin at edge) ∷ lines) begun later due = by-passed p (reported ++ event_of (Pin at edge)) lines begun (from-append (p.now + 1) reported (event_of (Pin at edge)) later due.0) (due-behind (p.now + 1) (event_of (Pin at edge)) lines due.0 due.1)
+by-passed p reported (Printed (Entered at vector back) ∷ lines) begun later due = by-passed p (reported ++ event_of (Entered at vector back)) lines begun (from-append (p.now + 1) reported (event_of (Entered at vector back)) later due.0) (due-behind (p.now + 1) (event_of (Entered at vector back)) lines due.0 due.1)
+by-passed p reported (Printed (Served at vector mode count) ∷ lines) begun later due = by-passed p (reported ++ event_of (Served at vector mode count)) lines begun (from-append (p.now + 1) reported (event_of (Served at vector mode count)) later due.0) (due-behind (p.now + 1) (event_of (Served at vector mode count)) lines due.0 due.1)
+by-passed p reported (Printed (Undef what) ∷ lines) begun later due = by-passed p (reported ++ event_of (Undef what)) lines begun (from-append (p.now + 1) reported (event_of (Undef what)) later due.0) (due-behind (p.now + 1) (event_of (Undef what)) lines due.0 due.1)
+by-passed p reported (Printed (Stopped at how) ∷ lines) begun later due =
+    rest-passed p (reported ++ end_event at how) (count_at at how) begun due.1 (from-append (p.now + 1) reported (end_event at how) later due.0)
+by-passed p reported (Printed (Pc value) ∷ lines) begun later due = by-passed p (reported ++ []) lines begun (from-append (p.now + 1) reported [] later tt) due.1
+by-passed p reported (Printed (Psw value) ∷ lines) begun later due = by-passed p (reported ++ []) lines begun (from-append (p.now + 1) reported [] later tt) due.1
+by-passed p reported (Printed (Wsr value) ∷ lines) begun later due = by-passed p (reported ++ []) lines begun (from-append (p.now + 1) reported [] later tt) due.1
+by-passed p reported (Printed (Registers base bytes) ∷ lines) begun later due = by-passed p (reported ++ []) lines begun (from-append (p.now + 1) reported [] later tt) due.1
+by-passed p reported (Restarted at by_watchdog ∷ lines) begun later due =
     let e = restart_event at by_watchdog in
     let first : p.now + 1 ≤ at = due.0 in
     let others = steps_with p.drives (p.base + at + 1) [] lines in
-    ap (λ (seen : List Seen). seen ++ others) (rest-passed p (told ++ e ∷ []) (at + 1) begun (omega (arith, first)) (from-append (p.now + 1) told (e ∷ []) later (first, tt)))
-    ∙ append_assoc (passing p) (rest_of (behind p) (told ++ e ∷ []) (at + 1)) others
+    ap (λ (seen : List Seen). seen ++ others) (rest-passed p (reported ++ e ∷ []) (at + 1) begun (omega (arith, first)) (from-append (p.now + 1) reported (e ∷ []) later (first, tt)))
+    ∙ append_assoc (passing p) (rest_of (behind p) (reported ++ e ∷ []) (at + 1)) others
 
-at-passed : (p : Present) (told : List Event) (known : Known) (lines : List Line) → p.has_begun ≡ true → AreFrom (p.now + 1) told → MayCome (p.now + 1) known lines → GoesOn known →
-    rest_at p told known lines ≡ passing p ++ rest_at (behind p) told known lines
-at-passed p told Living lines begun later due goes = by-passed p told lines begun later due
-at-passed p told (Ending count is_followed) lines begun later due goes =
+at-passed : (p : Present) (reported : List Event) (known : Known) (lines : List Line) → p.has_begun ≡ true → AreFrom (p.now + 1) reported → MayCome (p.now + 1) known lines → GoesOn known →
+    rest_at p reported known lines ≡ passing p ++ rest_at (behind p) reported known lines
+at-passed p reported Living lines begun later due goes = by-passed p reported lines begun later due
+at-passed p reported (Ending count is_followed) lines begun later due goes =
     let others = others_of is_followed p.drives (p.base + count) lines in
-    ap (λ (seen : List Seen). seen ++ others) (rest-passed p told count begun due.0 later)
-    ∙ append_assoc (passing p) (rest_of (behind p) told count) others
-at-passed p told Ended lines begun later due goes = absurd goes
+    ap (λ (seen : List Seen). seen ++ others) (rest-passed p reported count begun due.0 later)
+    ∙ append_assoc (passing p) (rest_of (behind p) reported count) others
+at-passed p reported Ended lines begun later due goes = absurd goes
 
-passed : (p : Present) (at : ℕ) → p.has_begun ≡ true → p.now + 1 ≤ at → (told : List Event) (known : Known) (lines : List Line) → IsBeyond at told known lines →
-    rest_at p told known lines ≡ passing p ++ rest_at (behind p) told known lines
-passed p at begun less told known lines b = at-passed p told known lines begun (from-less at (p.now + 1) told less b.events) (come-less at (p.now + 1) known lines less b.coming) b.goes
+passed : (p : Present) (at : ℕ) → p.has_begun ≡ true → p.now + 1 ≤ at → (reported : List Event) (known : Known) (lines : List Line) → IsBeyond at reported known lines →
+    rest_at p reported known lines ≡ passing p ++ rest_at (behind p) reported known lines
+passed p at begun less reported known lines b = at-passed p reported known lines begun (from-less at (p.now + 1) reported less b.events) (come-less at (p.now + 1) known lines less b.coming) b.goes
 
 passes_some : (t : ℕ) (whats : List What) → (whats ≡ [] → ⊥) → passes (record { at = t; whats = whats } ∷ []) ≡ Passes (record { at = t; whats = whats }) ∷ []
 passes_some t [] some = absurd (some refl)
@@ -184,8 +184,8 @@ passes_none t (w ∷ whats) none = absurd cc
 
 -- a state in which anything has happened
 pub has_passed : (p : Present) (at : ℕ) → p.has_begun ≡ true → (p.whats ≡ [] → ⊥) → p.now + 1 ≤ at → HasPassed at p (record { at = p.now; whats = p.whats }) (behind p)
-has_passed p at begun some less = λ told known lines b.
-    passed p at begun less told known lines b ∙ ap (λ (seen : List Seen). seen ++ rest_at (behind p) told known lines) (passes_some p.now p.whats some)
+has_passed p at begun some less = λ reported known lines b.
+    passed p at begun less reported known lines b ∙ ap (λ (seen : List Seen). seen ++ rest_at (behind p) reported known lines) (passes_some p.now p.whats some)
 
 -- in a later state, behind which nothing has happened
 abbrev pub later_at : Present → ℕ → Present
@@ -199,10 +199,10 @@ behind_still p none = λ i. record p {
 }
 
 step_still : (p : Present) (at : ℕ) → p.has_begun ≡ true → p.whats ≡ [] → p.now + 1 ≤ at → HasSameRest at p (later_at p (p.now + 1))
-step_still p at begun none less = λ told known lines b.
-    passed p at begun less told known lines b
-    ∙ ap (λ (seen : List Seen). seen ++ rest_at (behind p) told known lines) (passes_none p.now p.whats none)
-    ∙ ap (λ q. rest_at q told known lines) (behind_still p none)
+step_still p at begun none less = λ reported known lines b.
+    passed p at begun less reported known lines b
+    ∙ ap (λ (seen : List Seen). seen ++ rest_at (behind p) reported known lines) (passes_none p.now p.whats none)
+    ∙ ap (λ q. rest_at q reported known lines) (behind_still p none)
 
 -- states in which nothing happens
 skipped : (more : ℕ) (p : Present) (at to : ℕ) → to ≡ p.now + 1 + more → p.has_begun ≡ true → p.whats ≡ [] → to ≤ at →
@@ -215,7 +215,7 @@ skipped (suc more) p at to is begun none within still =
     let first = step_still p at begun none (omega (arith, is, within)) in
     let there : to ≡ p.now + 1 + 1 + more = omega (arith, is) in
     let rest = skipped more q at to there begun (still (p.now + 1) (omega arith) (omega (arith, is))) within (λ t after before. still t (omega (arith, after)) before) in
-    λ told known lines b. first told known lines b ∙ rest told known lines b
+    λ reported known lines b. first reported known lines b ∙ rest reported known lines b
 
 pub has_skipped : (p : Present) (at to : ℕ) → p.now < to → p.has_begun ≡ true → p.whats ≡ [] → to ≤ at →
     ((t : ℕ) → p.now < t → t < to → input_edges p.drives p.levels (p.base + t) ≡ []) → HasSameRest at p (later_at p to)
@@ -226,25 +226,25 @@ has_skipped p at to later begun none within still = skipped (to - (p.now + 1)) p
 abbrev pub pushed : Present → What → Present
 pushed p what = record p { whats = p.whats ++ what ∷ [] }
 
-rest-pushed : (p : Present) (e : Event) (told : List Event) (count : ℕ) → e.at ≡ p.now → rest_of p (e ∷ told) count ≡ rest_of (pushed p e.what) told count
-rest-pushed p e told zero same = refl
-rest-pushed p e told (suc last) same =
-    ap (λ (states : List State). begin_of p.has_begun p.levels ++ (passes states ++ Ends last ∷ [])) (states-pushed p.drives p.base e told (suc last - p.now) p.now p.levels p.whats same)
+rest-pushed : (p : Present) (e : Event) (reported : List Event) (count : ℕ) → e.at ≡ p.now → rest_of p (e ∷ reported) count ≡ rest_of (pushed p e.what) reported count
+rest-pushed p e reported zero same = refl
+rest-pushed p e reported (suc last) same =
+    ap (λ (states : List State). begin_of p.has_begun p.levels ++ (passes states ++ Ends last ∷ [])) (states-pushed p.drives p.base e reported (suc last - p.now) p.now p.levels p.whats same)
 
-by-pushed : (p : Present) (e : Event) (told : List Event) (lines : List Line) → e.at ≡ p.now → rest_by p (e ∷ told) lines ≡ rest_by (pushed p e.what) told lines
+by-pushed : (p : Present) (e : Event) (reported : List Event) (lines : List Line) → e.at ≡ p.now → rest_by p (e ∷ reported) lines ≡ rest_by (pushed p e.what) reported lines
 unfolding rest_by
-by-pushed p e told [] same = refl
-by-pushed p e told (Printed (Pin at edge) ∷ lines) same = by-pushed p e (told ++ event_of (Pin at edge)) lines same
-by-pushed p e told (Printed (Entered at vector back) ∷ lines) same = by-pushed p e (told ++ event_of (Entered at vector back)) lines same
-by-pushed p e told (Printed (Served at vector mode count) ∷ lines) same = by-pushed p e (told ++ event_of (Served at vector mode count)) lines same
-by-pushed p e told (Printed (Undef what) ∷ lines) same = by-pushed p e (told ++ event_of (Undef what)) lines same
-by-pushed p e told (Printed (Stopped at how) ∷ lines) same = rest-pushed p e (told ++ end_event at how) (count_at at how) same
-by-pushed p e told (Printed (Pc value) ∷ lines) same = by-pushed p e (told ++ []) lines same
-by-pushed p e told (Printed (Psw value) ∷ lines) same = by-pushed p e (told ++ []) lines same
-by-pushed p e told (Printed (Wsr value) ∷ lines) same = by-pushed p e (told ++ []) lines same
-by-pushed p e told (Printed (Registers base bytes) ∷ lines) same = by-pushed p e (told ++ []) lines same
-by-pushed p e told (Restarted at by_watchdog ∷ lines) same =
-    ap (λ (seen : List Seen). seen ++ steps_with p.drives (p.base + at + 1) [] lines) (rest-pushed p e (told ++ restart_event at by_watchdog ∷ []) (at + 1) same)
+by-pushed p e reported [] same = refl
+by-pushed p e reported (Printed (Pin at edge) ∷ lines) same = by-pushed p e (reported ++ event_of (Pin at edge)) lines same
+by-pushed p e reported (Printed (Entered at vector back) ∷ lines) same = by-pushed p e (reported ++ event_of (Entered at vector back)) lines same
+by-pushed p e reported (Printed (Served at vector mode count) ∷ lines) same = by-pushed p e (reported ++ event_of (Served at vector mode count)) lines same
+by-pushed p e reported (Printed (Undef what) ∷ lines) same = by-pushed p e (reported ++ event_of (Undef what)) lines same
+by-pushed p e reported (Printed (Stopped at how) ∷ lines) same = rest-pushed p e (reported ++ end_event at how) (count_at at how) same
+by-pushed p e reported (Printed (Pc value) ∷ lines) same = by-pushed p e (reported ++ []) lines same
+by-pushed p e reported (Printed (Psw value) ∷ lines) same = by-pushed p e (reported ++ []) lines same
+by-pushed p e reported (Printed (Wsr value) ∷ lines) same = by-pushed p e (reported ++ []) lines same
+by-pushed p e reported (Printed (Registers base bytes) ∷ lines) same = by-pushed p e (reported ++ []) lines same
+by-pushed p e reported (Restarted at by_watchdog ∷ lines) same =
+    ap (λ (seen : List Seen). seen ++ steps_with p.drives (p.base + at + 1) [] lines) (rest-pushed p e (reported ++ restart_event at by_watchdog ∷ []) (at + 1) same)
 
 pub at-pushed : (p : Present) (e : Event) (known : Known) (lines : List Line) → e.at ≡ p.now → rest_at p (e ∷ []) known lines ≡ rest_at (pushed p e.what) [] known lines
 at-pushed p e Living lines same = by-pushed p e [] lines same
@@ -256,55 +256,55 @@ at-pushed p e Ended lines same = refl
 abbrev pub begun : Present → Present
 begun p = record p { has_begun = true }
 
-rest-begun : (p : Present) (told : List Event) (count : ℕ) → p.has_begun ≡ false → rest_of p told count ≡ Begins p.levels ∷ rest_of (begun p) told count
-rest-begun p told zero none = ap (λ b. begin_of b p.levels) none
-rest-begun p told (suc last) none = ap (λ b. begin_of b p.levels ++ (passes (states_on p.drives p.base told (suc last - p.now) p.now p.levels p.whats) ++ Ends last ∷ [])) none
+rest-begun : (p : Present) (reported : List Event) (count : ℕ) → p.has_begun ≡ false → rest_of p reported count ≡ Begins p.levels ∷ rest_of (begun p) reported count
+rest-begun p reported zero none = ap (λ b. begin_of b p.levels) none
+rest-begun p reported (suc last) none = ap (λ b. begin_of b p.levels ++ (passes (states_on p.drives p.base reported (suc last - p.now) p.now p.levels p.whats) ++ Ends last ∷ [])) none
 
-by-begun : (p : Present) (told : List Event) (t : ℕ) (lines : List Line) → p.has_begun ≡ false → AreDue t lines → rest_by p told lines ≡ Begins p.levels ∷ rest_by (begun p) told lines
+by-begun : (p : Present) (reported : List Event) (t : ℕ) (lines : List Line) → p.has_begun ≡ false → AreDue t lines → rest_by p reported lines ≡ Begins p.levels ∷ rest_by (begun p) reported lines
 unfolding rest_by AreDue
-by-begun p told t [] none due = absurd due
-by-begun p told t (Printed (Pin at edge) ∷ lines) none due = by-begun p (told ++ event_of (Pin at edge)) at lines none due.1
-by-begun p told t (Printed (Entered at vector back) ∷ lines) none due = by-begun p (told ++ event_of (Entered at vector back)) at lines none due.1
-by-begun p told t (Printed (Served at vector mode count) ∷ lines) none due = by-begun p (told ++ event_of (Served at vector mode count)) at lines none due.1
-by-begun p told t (Printed (Undef what) ∷ lines) none due = by-begun p (told ++ event_of (Undef what)) what.at lines none due.1
-by-begun p told t (Printed (Stopped at how) ∷ lines) none due = rest-begun p (told ++ end_event at how) (count_at at how) none
-by-begun p told t (Printed (Pc value) ∷ lines) none due = by-begun p (told ++ []) t lines none due.1
-by-begun p told t (Printed (Psw value) ∷ lines) none due = by-begun p (told ++ []) t lines none due.1
-by-begun p told t (Printed (Wsr value) ∷ lines) none due = by-begun p (told ++ []) t lines none due.1
-by-begun p told t (Printed (Registers base bytes) ∷ lines) none due = by-begun p (told ++ []) t lines none due.1
-by-begun p told t (Restarted at by_watchdog ∷ lines) none due =
-    ap (λ (seen : List Seen). seen ++ steps_with p.drives (p.base + at + 1) [] lines) (rest-begun p (told ++ restart_event at by_watchdog ∷ []) (at + 1) none)
+by-begun p reported t [] none due = absurd due
+by-begun p reported t (Printed (Pin at edge) ∷ lines) none due = by-begun p (reported ++ event_of (Pin at edge)) at lines none due.1
+by-begun p reported t (Printed (Entered at vector back) ∷ lines) none due = by-begun p (reported ++ event_of (Entered at vector back)) at lines none due.1
+by-begun p reported t (Printed (Served at vector mode count) ∷ lines) none due = by-begun p (reported ++ event_of (Served at vector mode count)) at lines none due.1
+by-begun p reported t (Printed (Undef what) ∷ lines) none due = by-begun p (reported ++ event_of (Undef what)) what.at lines none due.1
+by-begun p reported t (Printed (Stopped at how) ∷ lines) none due = rest-begun p (reported ++ end_event at how) (count_at at how) none
+by-begun p reported t (Printed (Pc value) ∷ lines) none due = by-begun p (reported ++ []) t lines none due.1
+by-begun p reported t (Printed (Psw value) ∷ lines) none due = by-begun p (reported ++ []) t lines none due.1
+by-begun p reported t (Printed (Wsr value) ∷ lines) none due = by-begun p (reported ++ []) t lines none due.1
+by-begun p reported t (Printed (Registers base bytes) ∷ lines) none due = by-begun p (reported ++ []) t lines none due.1
+by-begun p reported t (Restarted at by_watchdog ∷ lines) none due =
+    ap (λ (seen : List Seen). seen ++ steps_with p.drives (p.base + at + 1) [] lines) (rest-begun p (reported ++ restart_event at by_watchdog ∷ []) (at + 1) none)
 
-pub at-begun : (p : Present) (told : List Event) (t : ℕ) (known : Known) (lines : List Line) → p.has_begun ≡ false → GoesOn known → MayCome t known lines →
-    rest_at p told known lines ≡ Begins p.levels ∷ rest_at (begun p) told known lines
-at-begun p told t Living lines none goes due = by-begun p told t lines none due
-at-begun p told t (Ending count is_followed) lines none goes due =
-    ap (λ (seen : List Seen). seen ++ others_of is_followed p.drives (p.base + count) lines) (rest-begun p told count none)
-at-begun p told t Ended lines none goes due = absurd goes
+pub at-begun : (p : Present) (reported : List Event) (t : ℕ) (known : Known) (lines : List Line) → p.has_begun ≡ false → GoesOn known → MayCome t known lines →
+    rest_at p reported known lines ≡ Begins p.levels ∷ rest_at (begun p) reported known lines
+at-begun p reported t Living lines none goes due = by-begun p reported t lines none due
+at-begun p reported t (Ending count is_followed) lines none goes due =
+    ap (λ (seen : List Seen). seen ++ others_of is_followed p.drives (p.base + count) lines) (rest-begun p reported count none)
+at-begun p reported t Ended lines none goes due = absurd goes
 
 -- ---- the first life
 
 -- the rest of a life that is to begin is all of it
-rest-start : (d : Drives) (base : ℕ) (told : List Event) (count : ℕ) → seen_of d base told count ≡ rest_of (start_of d base) told count
-rest-start d base told zero = refl
-rest-start d base told (suc last) =
+rest-start : (d : Drives) (base : ℕ) (reported : List Event) (count : ℕ) → seen_of d base reported count ≡ rest_of (start_of d base) reported count
+rest-start d base reported zero = refl
+rest-start d base reported (suc last) =
     let here : base + 0 ≡ base = omega arith in
-    ap (λ (states : List State). Begins (start_levels d base) ∷ passes states ++ Ends last ∷ []) (states-on d base told (suc last) 0 (start_levels d base))
-    ∙ ap (λ b. Begins (start_levels d base) ∷ passes (states_on d base told (suc last) 0 (start_levels d base) (input_edges d (start_levels d base) b)) ++ Ends last ∷ []) here
+    ap (λ (states : List State). Begins (start_levels d base) ∷ passes states ++ Ends last ∷ []) (states-on d base reported (suc last) 0 (start_levels d base))
+    ∙ ap (λ b. Begins (start_levels d base) ∷ passes (states_on d base reported (suc last) 0 (start_levels d base) (input_edges d (start_levels d base) b)) ++ Ends last ∷ []) here
 
-pub by-start : (d : Drives) (base : ℕ) (told : List Event) (lines : List Line) → steps_with d base told lines ≡ rest_by (start_of d base) told lines
+pub by-start : (d : Drives) (base : ℕ) (reported : List Event) (lines : List Line) → steps_with d base reported lines ≡ rest_by (start_of d base) reported lines
 unfolding rest_by steps_with
-by-start d base told [] = refl
-by-start d base told (Printed (Pin at edge) ∷ lines) = by-start d base (told ++ event_of (Pin at edge)) lines
-by-start d base told (Printed (Entered at vector back) ∷ lines) = by-start d base (told ++ event_of (Entered at vector back)) lines
-by-start d base told (Printed (Served at vector mode count) ∷ lines) = by-start d base (told ++ event_of (Served at vector mode count)) lines
-by-start d base told (Printed (Undef what) ∷ lines) = by-start d base (told ++ event_of (Undef what)) lines
-by-start d base told (Printed (Stopped at how) ∷ lines) = rest-start d base (told ++ end_event at how) (count_at at how)
-by-start d base told (Printed (Pc value) ∷ lines) = by-start d base (told ++ []) lines
-by-start d base told (Printed (Psw value) ∷ lines) = by-start d base (told ++ []) lines
-by-start d base told (Printed (Wsr value) ∷ lines) = by-start d base (told ++ []) lines
-by-start d base told (Printed (Registers at bytes) ∷ lines) = by-start d base (told ++ []) lines
-by-start d base told (Restarted at by_watchdog ∷ lines) = ap (λ (seen : List Seen). seen ++ steps_with d (base + at + 1) [] lines) (rest-start d base (told ++ restart_event at by_watchdog ∷ []) (at + 1))
+by-start d base reported [] = refl
+by-start d base reported (Printed (Pin at edge) ∷ lines) = by-start d base (reported ++ event_of (Pin at edge)) lines
+by-start d base reported (Printed (Entered at vector back) ∷ lines) = by-start d base (reported ++ event_of (Entered at vector back)) lines
+by-start d base reported (Printed (Served at vector mode count) ∷ lines) = by-start d base (reported ++ event_of (Served at vector mode count)) lines
+by-start d base reported (Printed (Undef what) ∷ lines) = by-start d base (reported ++ event_of (Undef what)) lines
+by-start d base reported (Printed (Stopped at how) ∷ lines) = rest-start d base (reported ++ end_event at how) (count_at at how)
+by-start d base reported (Printed (Pc value) ∷ lines) = by-start d base (reported ++ []) lines
+by-start d base reported (Printed (Psw value) ∷ lines) = by-start d base (reported ++ []) lines
+by-start d base reported (Printed (Wsr value) ∷ lines) = by-start d base (reported ++ []) lines
+by-start d base reported (Printed (Registers at bytes) ∷ lines) = by-start d base (reported ++ []) lines
+by-start d base reported (Restarted at by_watchdog ∷ lines) = ap (λ (seen : List Seen). seen ++ steps_with d (base + at + 1) [] lines) (rest-start d base (reported ++ restart_event at by_watchdog ∷ []) (at + 1))
 
 -- ---- a life ends
 
@@ -359,31 +359,43 @@ fed_record item ahead no is = record {
 }
 
 pub fed_end : (at how : ℕ) (ahead : Option Event) → events_ahead ahead ≡ end_event at how → IsFed (Printed (Stopped at how)) ahead (Ending (count_at at how) false)
+unfolding rest_by AreDue
 fed_end at how ahead is = record {
   steps = λ p lines. append-nil (rest_of p (events_ahead ahead) (count_at at how)) ∙ ap (λ (events : List Event). rest_of p events (count_at at how)) is ∙ stop_steps p lines;
   next = λ t lines h. subst (λ (events : List Event). AreFrom t events × (state_behind t events ≤ count_at at how) × Unit {0}) (sym is) (stop_due t lines h);
 }
   where
     stop_steps : (p : Present) (lines : List Line) → rest_of p (end_event at how) (count_at at how) ≡ rest_by p [] (Printed (Stopped at how) ∷ lines)
-    unfolding rest_by
     stop_steps p lines = refl
+
     due_at : (t n : ℕ) → AreFrom t (end_event at n) → t ≤ count_at at n → AreFrom t (end_event at n) × (state_behind t (end_event at n) ≤ count_at at n) × Unit {0}
     due_at t zero from less = (from, (less, tt))
     due_at t (suc zero) from less = (from, (omega arith, tt))
     due_at t (suc (suc zero)) from less = (from, (omega arith, tt))
     due_at t (suc (suc (suc n))) from less = (from, (less, tt))
+
     stop_due : (t : ℕ) (lines : List Line) → AreDue t (Printed (Stopped at how) ∷ lines) → AreFrom t (end_event at how) × (state_behind t (end_event at how) ≤ count_at at how) × Unit {0}
-    unfolding AreDue
     stop_due t lines h = due_at t how h.0 h.1
 
 pub fed_restart : (at : ℕ) (by_watchdog : Bool) → IsFed (Restarted at by_watchdog) (Some (restart_event at by_watchdog)) (Ending (at + 1) true)
+unfolding rest_by AreDue
 fed_restart at by_watchdog = record { steps = restart_steps; next = restart_due }
   where
     restart_steps : (p : Present) (lines : List Line) → rest_at p (restart_event at by_watchdog ∷ []) (Ending (at + 1) true) lines ≡ rest_by p [] (Restarted at by_watchdog ∷ lines)
-    unfolding rest_by
     restart_steps p lines =
         let same : p.base + (at + 1) ≡ p.base + at + 1 = omega arith in
         ap (λ b. rest_of p (restart_event at by_watchdog ∷ []) (at + 1) ++ steps_with p.drives b [] lines) same
+
     restart_due : (t : ℕ) (lines : List Line) → AreDue t (Restarted at by_watchdog ∷ lines) → AreFrom t (restart_event at by_watchdog ∷ []) × MayCome at (Ending (at + 1) true) lines
-    unfolding AreDue
     restart_due t lines h = ((h.0, tt), (omega arith, h.1))
+
+pub no_end : (item : Record) → ((at how : ℕ) → item ≡ Stopped at how → ⊥) → IsNoEnd item
+no_end (Pin at edge) no = tt
+no_end (Entered at vector back) no = tt
+no_end (Served at vector mode count) no = tt
+no_end (Undef what) no = tt
+no_end (Stopped at how) no = no at how refl
+no_end (Pc value) no = tt
+no_end (Psw value) no = tt
+no_end (Wsr value) no = tt
+no_end (Registers base bytes) no = tt

@@ -8,4 +8,5 @@ pub mod CourseLemmas
 pub mod InputLemmas
 pub mod StepLemmas
 pub mod DueLemmas
-pub mod TellLemmas
+pub mod ReportLemmas
+pub mod LifeLemmas

@@ -24,9 +24,9 @@ use Rattle.kc_events.specs.Grammar.{Place, start_place, is_in_order, may_restart
 use Rattle.kc_events.specs.Printed.{place_in}
 use Rattle.kc_events.specs.Reading.{Reading, GaveNext, IsWrong, IsWrongNext, one_more}
 use Rattle.kc_events.specs.Steps.{Seen}
-use Rattle.kc_events.specs.Coming.{Present, start_of, rest_by, events_ahead, rest_at, steps_to_come, AreFrom, AreDue, state_behind, MayCome, MayBeNext}
-use Rattle.kc_events.specs.Underway.{Underway, present_in, running_in, seen_by, needs_line, base_ahead, base_behind, IsOpen, IsEarly, Gives, TellsNone, KeepsBase}
-use Rattle.kc_events.specs.Telling.{Telling, HasText, AreToCome, AreStepsOf, count_with, IsFirstWrong, IsFirstWrongIn, IsAnswer, IsInStep, telling, HasRead}
+use Rattle.kc_events.specs.Coming.{Present, start_of, rest_by, events_ahead, rest_at, steps_to_come, AreFrom, AreDue, state_behind, MayCome, MayBeNext, IsStillIn}
+use Rattle.kc_events.specs.Underway.{Underway, present_in, running_in, seen_by, needs_line, base_ahead, base_behind, IsOpen, IsEarly, Gives, ReportsNone, KeepsBase}
+use Rattle.kc_events.specs.Reporting.{Reporting, HasText, AreToCome, AreStepsOf, count_with, IsFirstWrong, IsFirstWrongIn, IsAnswer, IsInStep, reporting, HasRead}
 use Rattle.kc_events.proofs.CourseLemmas.{by-start}
 use Rattle.kc_events.proofs.DueLemmas.{due_start}
 
@@ -74,13 +74,13 @@ wrong_first p (Some text) count n is wrong = record { before = []; others = text
 
 -- a line was read, and the course was fed with it
 pub has_read : (a b : Reading) (c d : Underway) (line : Line) → GaveNext a line b → b.count ≡ one_more a.count → b.faults ≡ a.faults →
-    ((lines : List Line) → steps_to_come (running_in d) lines ≡ steps_to_come (running_in c) (line ∷ lines)) → HasRead (telling a c) (telling b d)
+    ((lines : List Line) → steps_to_come (running_in d) lines ≡ steps_to_come (running_in c) (line ∷ lines)) → HasRead (reporting a c) (reporting b d)
 has_read a b c d line gave count calm fed = record {
   steps = λ steps h. record {
     lines = line ∷ h.lines;
     text = text_more a.left b.left line h.lines gave.text h.text;
     run = run_more (place_in a.reader) line h.lines gave.fits (subst (λ p. IsRun p h.lines) gave.place h.run);
-    told = h.told ∙ fed h.lines;
+    reported = h.reported ∙ fed h.lines;
   };
   wrong = λ n w. wrong_more (place_in a.reader) (place_in b.reader) a.left b.left a.count b.count line gave.text gave.fits gave.place count n w;
   calm = calm;
@@ -98,12 +98,13 @@ after_base p (Printed (Wsr value)) = refl
 after_base p (Printed (Registers base bytes)) = refl
 after_base p (Restarted at by_watchdog) = refl
 
-near : (a : Reading) (c : Underway) → IsInStep (telling a c) → c.known ≡ Living → (place_in a.reader).base ≡ c.base
+near : (a : Reading) (c : Underway) → IsInStep (reporting a c) → c.known ≡ Living → (place_in a.reader).base ≡ c.base
 near a c h lives = h.base (subst IsOpen (sym lives) tt) ∙ ap (base_ahead c.base) lives
 
-pub fed_in_step : (a b : Reading) (c d : Underway) (line : Line) → IsInStep (telling a c) → GaveNext a line b → ((lines : List Line) → MayBeNext (running_in c) (line ∷ lines) → MayBeNext (running_in d) lines) →
-    (IsOpen d.known → base_ahead d.base d.known ≡ base_behind c.base line) → (IsOpen d.known → c.known ≡ Living) → IsInStep (telling b d)
-fed_in_step a b c d line h gave next base lives = record {
+pub fed_in_step : (a b : Reading) (c d : Underway) (line : Line) → IsInStep (reporting a c) → GaveNext a line b → ((lines : List Line) → MayBeNext (running_in c) (line ∷ lines) → MayBeNext (running_in d) lines) →
+    (IsOpen d.known → base_ahead d.base d.known ≡ base_behind c.base line) → (IsOpen d.known → c.known ≡ Living) → present_in d ≡ present_in c → IsInStep (reporting b d)
+fed_in_step a b c d line h gave next base lives same = record {
+  still = subst IsStillIn (sym same) h.still;
   base = λ is. ap (λ (p : Place). p.base) gave.place ∙ after_base (place_in a.reader) line ∙ (λ i. base_behind (near a c h (lives is) i) line) ∙ sym (base is);
   due = λ lines run. next lines (h.due (line ∷ lines) (run_more (place_in a.reader) line lines gave.fits (subst (λ p. IsRun p lines) gave.place run)));
 }
@@ -122,7 +123,7 @@ early_by p base Living (Restarted at by_watchdog) same fits = subst (λ b. b + a
 early_by p base (Ending count is_followed) line same fits = tt
 early_by p base Ended line same fits = tt
 
-pub early_line : (a : Reading) (c : Underway) (line : Line) → IsInStep (telling a c) → MayFollow (place_in a.reader) line → IsEarly c.base c.known line
+pub early_line : (a : Reading) (c : Underway) (line : Line) → IsInStep (reporting a c) → MayFollow (place_in a.reader) line → IsEarly c.base c.known line
 early_line a c line h fits = early_by (place_in a.reader) c.base c.known line (near a c h) fits.fits
 
 -- ---- no line more
@@ -140,66 +141,69 @@ run_over : (p : Place) → is_over p.stage ≡ true → IsRun p []
 unfolding AreLines place_after
 run_over p over = record { follow = tt; whole = over }
 
-pub none_left : (a : Reading) (c : Underway) → IsAtEnd a.left → is_over a.reader.stage ≡ true → needs_line c.ahead c.known ≡ true → AreToCome (telling a c) []
-none_left a c over whole needs = record { lines = []; text = text_over a.left over; run = run_over (place_in a.reader) whole; told = none_to_come (present_in c) c.ahead c.known needs }
+pub none_left : (a : Reading) (c : Underway) → IsAtEnd a.left → is_over a.reader.stage ≡ true → needs_line c.ahead c.known ≡ true → AreToCome (reporting a c) []
+none_left a c over whole needs = record { lines = []; text = text_over a.left over; run = run_over (place_in a.reader) whole; reported = none_to_come (present_in c) c.ahead c.known needs }
 
 -- nothing was read
-pub same_in_step : (a b : Reading) (c : Underway) → b.reader ≡ a.reader → IsInStep (telling a c) → IsInStep (telling b c)
+pub same_in_step : (a b : Reading) (c : Underway) → b.reader ≡ a.reader → IsInStep (reporting a c) → IsInStep (reporting b c)
 same_in_step a b c same h = record {
+  still = h.still;
   base = λ is. ap (λ k. (place_in k).base) same ∙ h.base is;
   due = λ lines run. h.due lines (subst (λ k. IsRun (place_in k) lines) same run);
 }
 
-pub same_steps : (a b : Reading) (c : Underway) → b.reader ≡ a.reader → Keeps a.left b.left → (steps : List Seen) → AreToCome (telling b c) steps → AreToCome (telling a c) steps
+pub same_steps : (a b : Reading) (c : Underway) → b.reader ≡ a.reader → Keeps a.left b.left → (steps : List Seen) → AreToCome (reporting b c) steps → AreToCome (reporting a c) steps
 same_steps a b c same kept steps h = record {
   lines = h.lines;
   text = text_kept a.left b.left h.lines kept h.text;
   run = subst (λ k. IsRun (place_in k) h.lines) same h.run;
-  told = h.told;
+  reported = h.reported;
 }
 
 -- ---- a step of the course
 
-pub gave_step : (a : Reading) (c d : Underway) (step : Step) → IsInStep (telling a c) → Gives c step d → (steps : List Seen) → AreToCome (telling a d) steps → AreToCome (telling a c) (seen_by step d ∷ steps)
+pub gave_step : (a : Reading) (c d : Underway) (step : Step) → IsInStep (reporting a c) → Gives c step d → (steps : List Seen) → AreToCome (reporting a d) steps → AreToCome (reporting a c) (seen_by step d ∷ steps)
 gave_step a c d step h gives steps t = record {
   lines = t.lines;
   text = t.text;
   run = t.run;
-  told = ap (λ (seen : List Seen). seen_by step d ∷ seen) t.told ∙ sym (gives.steps t.lines (h.due t.lines t.run));
+  reported = ap (λ (seen : List Seen). seen_by step d ∷ seen) t.reported ∙ sym (gives.steps t.lines (h.due t.lines t.run));
 }
 
-pub gave_in_step : (a : Reading) (c d : Underway) (step : Step) → IsInStep (telling a c) → Gives c step d → KeepsBase c d → IsInStep (telling a d)
-gave_in_step a c d step h gives keeps = record {
+pub gave_in_step : (a : Reading) (c d : Underway) (step : Step) → IsInStep (reporting a c) → Gives c step d → KeepsBase c d → IsStillIn (present_in d) → IsInStep (reporting a d)
+gave_in_step a c d step h gives keeps still = record {
+  still = still;
   base = λ is. h.base (keeps is).0 ∙ sym (keeps is).1;
   due = λ lines run. gives.next lines (h.due lines run);
 }
 
-pub told_none : (a : Reading) (c d : Underway) → IsInStep (telling a c) → TellsNone c d → HasRead (telling a c) (telling a d)
-told_none a c d h none = record {
-  steps = λ steps t. record { lines = t.lines; text = t.text; run = t.run; told = t.told ∙ sym (none.steps t.lines (h.due t.lines t.run)) };
+pub reported_none : (a : Reading) (c d : Underway) → IsInStep (reporting a c) → ReportsNone c d → HasRead (reporting a c) (reporting a d)
+reported_none a c d h none = record {
+  steps = λ steps t. record { lines = t.lines; text = t.text; run = t.run; reported = t.reported ∙ sym (none.steps t.lines (h.due t.lines t.run)) };
   wrong = λ n w. w;
   calm = refl;
 }
 
-pub none_in_step : (a : Reading) (c d : Underway) → IsInStep (telling a c) → TellsNone c d → KeepsBase c d → IsInStep (telling a d)
-none_in_step a c d h none keeps = record {
+pub none_in_step : (a : Reading) (c d : Underway) → IsInStep (reporting a c) → ReportsNone c d → KeepsBase c d → IsStillIn (present_in d) → IsInStep (reporting a d)
+none_in_step a c d h none keeps still = record {
+  still = still;
   base = λ is. h.base (keeps is).0 ∙ sym (keeps is).1;
   due = λ lines run. none.next lines (h.due lines run);
 }
 
 -- ---- one behind the other
 
-pub read_none : (t : Telling) → HasRead t t
+pub read_none : (t : Reporting) → HasRead t t
 read_none t = record { steps = λ steps h. h; wrong = λ n w. w; calm = refl }
 
-pub read_after : (a b c : Telling) → HasRead a b → HasRead b c → HasRead a c
+pub read_after : (a b c : Reporting) → HasRead a b → HasRead b c → HasRead a c
 read_after a b c first rest = record {
   steps = λ steps h. first.steps steps (rest.steps steps h);
   wrong = λ n w. first.wrong n (rest.wrong n w);
   calm = rest.calm ∙ first.calm;
 }
 
-pub answer_after : (a b c : Telling) (result : Result (Option Step) LivesFault) → HasRead a b → IsAnswer b result c → IsAnswer a result c
+pub answer_after : (a b c : Reporting) (result : Result (Option Step) LivesFault) → HasRead a b → IsAnswer b result c → IsAnswer a result c
 answer_after a b c (Ok (Some step)) first answer = λ steps h. first.steps (seen_by step c.course ∷ steps) (answer steps h)
 answer_after a b c (Ok None) first answer = first.steps [] answer
 answer_after a b c (Err (BadTrace line)) first answer = first.wrong line answer
@@ -209,20 +213,21 @@ answer_after a b c (Err NoMemory) first answer = tt
 -- ---- the start
 
 pub start_steps : (a : Reading) (c : Underway) (d : Drives) (left : Option (List ℕ)) → place_in a.reader ≡ start_place 0 → a.left ≡ left → present_in c ≡ start_of d 0 → c.ahead ≡ None → c.known ≡ Living →
-    (steps : List Seen) → AreToCome (telling a c) steps → AreStepsOf d left steps
+    (steps : List Seen) → AreToCome (reporting a c) steps → AreStepsOf d left steps
 start_steps a c d left place text present none lives steps h = record {
   lines = h.lines;
   text = subst (λ t. HasText t h.lines) text h.text;
   run = subst (λ p. IsRun p h.lines) place h.run;
-  told = h.told ∙ (λ i. rest_at (present i) (events_ahead (none i)) (lives i) h.lines) ∙ sym (by-start d 0 [] h.lines);
+  reported = h.reported ∙ (λ i. rest_at (present i) (events_ahead (none i)) (lives i) h.lines) ∙ sym (by-start d 0 [] h.lines);
 }
 
-pub start_in_step : (a : Reading) (c : Underway) (d : Drives) → place_in a.reader ≡ start_place 0 → present_in c ≡ start_of d 0 → c.ahead ≡ None → c.known ≡ Living → IsInStep (telling a c)
-start_in_step a c d place present none lives = record {
+pub start_in_step : (a : Reading) (c : Underway) (d : Drives) → place_in a.reader ≡ start_place 0 → present_in c ≡ start_of d 0 → c.ahead ≡ None → c.known ≡ Living → IsStillIn (present_in c) → IsInStep (reporting a c)
+start_in_step a c d place present none lives still = record {
+  still = still;
   base = λ is. ap (λ (p : Place). p.base) place ∙ sym (ap (λ (p : Present). p.base) present) ∙ sym (ap (base_ahead c.base) lives);
   due = λ lines run. record {
-    ahead = subst (λ o. AreFrom c.now (events_ahead o)) (sym none) tt;
-    coming = subst (λ k. MayCome (state_behind c.now (events_ahead c.ahead)) k lines) (sym lives)
-        (subst (λ o. AreDue (state_behind c.now (events_ahead o)) lines) (sym none) (subst (λ t. AreDue t lines) (sym (ap (λ (p : Present). p.now) present)) (due_start lines (subst (λ p. IsRun p lines) place run))));
+    ahead = subst (λ o. AreFrom c.time (events_ahead o)) (sym none) tt;
+    coming = subst (λ k. MayCome (state_behind c.time (events_ahead c.ahead)) k lines) (sym lives)
+        (subst (λ o. AreDue (state_behind c.time (events_ahead o)) lines) (sym none) (subst (λ t. AreDue t lines) (sym (ap (λ (p : Present). p.now) present)) (due_start lines (subst (λ p. IsRun p lines) place run))));
   };
 }
