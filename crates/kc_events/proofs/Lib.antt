@@ -1,0 +1,12 @@
+pub mod Numbers
+pub mod Pins
+pub mod Spelled
+pub mod LineLemmas
+pub mod TraceLemmas
+pub mod PlaceLemmas
+pub mod CourseLemmas
+pub mod InputLemmas
+pub mod StepLemmas
+pub mod DueLemmas
+pub mod ReportLemmas
+pub mod LifeLemmas
