@@ -4,8 +4,7 @@ use Rattle.std.proofs.lemmas.Bool.{cases_Bool, cases_lt, ne_eqb, and_parts}
 use Rattle.kc_base.specs.declared.types.Edge.{Edge}
 use Rattle.kc_base.specs.declared.types.Level.{Level}
 use Rattle.kc_base.specs.Levels.{level_of}
-use Rattle.kc_base.specs.declared.pins.Facts.{Facts}
-use Rattle.kc_base.specs.Pins.{IsPin, is_printed}
+use Rattle.kc_base.specs.Pins.{IsPin, is_printed, pin_facts}
 use Rattle.kc_base.proofs.PinLemmas.{no_facts}
 use Rattle.kc_life.specs.declared.life.Signal.{Signal}
 use Rattle.kc_life.specs.declared.life.Signal.TheVariants.{Output}
@@ -28,9 +27,10 @@ abbrev pub output : ℕ → Signal
 output pin = Output (record { 0 = pin })
 
 pub out_small : (pin : ℕ) → is_printed pin ≡ true → pin < 41
+unfolding pin_facts
 out_small pin is = elim (cases_lt pin 41) [
   | inl less ↦ less
-  | inr past ↦ absurd (apart (sym is ∙ ap (λ (facts : Facts). facts.printed) (no_facts pin past)))
+  | inr past ↦ absurd (apart (sym is ∙ rw (no_facts pin past) refl))
 ]
 
 pub out_low : (pin : ℕ) → is_printed pin ≡ false → starts_high (output pin) ≡ false

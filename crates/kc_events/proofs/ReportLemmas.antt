@@ -27,7 +27,7 @@ use Rattle.kc_events.specs.Steps.{Seen}
 use Rattle.kc_events.specs.Coming.{Present, start_of, rest_by, events_ahead, rest_at, steps_to_come, AreFrom, AreDue, state_behind, MayCome, MayBeNext, IsStillIn}
 use Rattle.kc_events.specs.Underway.{Underway, present_in, running_in, seen_by, needs_line, base_ahead, base_behind, IsOpen, IsEarly, Gives, ReportsNone, KeepsBase}
 use Rattle.kc_events.specs.Reporting.{Reporting, HasText, AreToCome, AreStepsOf, count_with, IsFirstWrong, IsFirstWrongIn, IsAnswer, IsInStep, reporting, HasRead}
-use Rattle.kc_events.proofs.CourseLemmas.{by-start}
+use Rattle.kc_events.proofs.StartLemmas.{by-start}
 use Rattle.kc_events.proofs.DueLemmas.{due_start}
 
 -- ---- the text
