@@ -6,7 +6,7 @@ use Rattle.kc_life.specs.declared.life.Signal.{Signal}
 use Rattle.kc_life.specs.declared.life.What.{What}
 use Rattle.kc_life.specs.declared.life.Event.{Event}
 use Rattle.kc_life.specs.declared.levels.Levels.{Levels}
-use Rattle.kc_life.specs.Lives.{State, level_after}
+use Rattle.kc_life.specs.Lives.{level_after}
 use Rattle.kc_life.specs.Tables.{level_in}
 use Rattle.kc_stim.specs.Drives.{Drives, IsStill}
 use Rattle.kc_events.specs.declared.line.Line.{Line}
@@ -15,13 +15,13 @@ use Rattle.kc_events.specs.declared.course.Step.TheVariants as step
 use Rattle.kc_events.specs.declared.course.Known.{Known}
 use Rattle.kc_events.specs.declared.course.Known.TheVariants.{Living, Ending, Ended}
 use Rattle.kc_events.specs.Lives.{input_edges, start_levels}
-use Rattle.kc_events.specs.Steps.{Seen, Passes, Ends, steps_with}
+use Rattle.kc_events.specs.Steps.{Seen, Passes, Ends}
 use Rattle.kc_events.specs.Coming.{Present, start_of, rest_by, events_ahead, others_of, rest_at, steps_to_come, AreFrom, state_behind, AreDueIf, MayCome, MayBeNext, behind, GoesOn, IsBeyond, HasSameRest, HasPassed, IsFed, IsStillIn}
 use Rattle.kc_events.specs.Underway.{Underway, present_in, running_in, state_passed, needs_line, GoesIfAhead, Gives, ReportsNone, Stepped, IsSameLife}
 use Rattle.kc_events.proofs.InputLemmas.{edges_still}
 use Rattle.kc_events.proofs.CourseLemmas.{at-begun, at-pushed, last_of, at_end}
 use Rattle.kc_events.proofs.StartLemmas.{by-start}
-use Rattle.kc_events.proofs.PassedLemmas.{has_passed, has_skipped, later_at}
+use Rattle.kc_events.proofs.PassedLemmas.{has_passed, has_skipped}
 
 -- ---- a line is fed
 

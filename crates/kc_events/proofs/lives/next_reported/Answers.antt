@@ -1,6 +1,5 @@
-use Rattle.std.proofs.Common.{◌≡◌, Ok, Err, None, true, sym, subst, rules}
+use Rattle.std.proofs.Common.{◌≡◌, Ok, Err, true, sym, subst, rules}
 use Rattle.kc_events.specs.Underway.{Underway, ReportsNone}
-use Rattle.kc_events.specs.Reading.{Reading}
 use Rattle.kc_events.specs.Reporting.{Reporting, IsAnswer, reporting}
 use Rattle.kc_events.proofs.ReportLemmas.{reported_none, read_after, answer_after}
 use Rattle.kc_events.proofs.lives.next_reported.Goals as goal

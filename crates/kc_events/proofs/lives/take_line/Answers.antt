@@ -1,4 +1,4 @@
-use Rattle.std.proofs.Common.{◌≡◌, Ok, Err, Some, None, sym, rules}
+use Rattle.std.proofs.Common.{◌≡◌, Ok, None, rules}
 use Rattle.kc_events.specs.Printed.{place_in}
 use Rattle.kc_events.specs.Reading.{GaveNext, IsRefused}
 use Rattle.kc_events.specs.declared.trace.TraceFault.TheVariants.{BadTrace}
