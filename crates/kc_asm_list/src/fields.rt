@@ -67,7 +67,7 @@ fn put_depth(text: &mut Vec<u8>, depth: usize) -> Result<(), NoMemory>
         return Ok(());
     }
     text.push(b'+')?;
-    kc_base::put_number(text, depth as u64)
+    kc_base::put_number(text, depth as u128)
 }
 
 /// Puts the prefix of a row behind a text: the line and the depth of a statement, the kind of its piece, and a place.

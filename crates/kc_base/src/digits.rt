@@ -49,7 +49,7 @@ pub fn put_address(text: &mut Vec<u8>, address: u16) -> Result<(), NoMemory>
 }
 
 /// Puts a number in decimal behind a text.
-pub fn put_number(text: &mut Vec<u8>, number: u64) -> Result<(), NoMemory>
+pub fn put_number(text: &mut Vec<u8>, number: u128) -> Result<(), NoMemory>
     ensures { OnOk result (text.new.items ≡ text.old.items ++ decimal number) }
 {
     let mut buffer = Buffer::new();

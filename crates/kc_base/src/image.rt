@@ -1,11 +1,9 @@
 ghost use Rattle.std.specs.Prelude.{◌≡◌, ◌+◌, ◌-◌, ◌≤◌, ◌++◌, length, take, drop, replicate, slice_index, slice_set, IfOk};
 
 use crate::NoMemory;
+use crate::limits::IMAGE_START;
 use std::alloc::Global;
 use std::marker::Model;
-
-/// The first address of an image.
-pub const IMAGE_START: u16 = 0x2000;
 
 /// How many bytes an image has.
 pub const IMAGE_LEN: usize = 57_344;

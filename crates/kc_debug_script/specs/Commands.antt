@@ -1,8 +1,8 @@
 -- What a line of a debugger script asks for (this kit's own).
-use Rattle.std.specs.Prelude.{ℕ, ◌≤◌, ◌==◌, nat_le, not, if◌then◌else◌, Bool, true, ◌&&◌, ◌||◌, ◌≡◌, Option, Some, None, List, [], ◌∷◌}
+use Rattle.std.specs.Prelude.{ℕ, ◌≤◌, ◌==◌, nat_lt, nat_le, not, if◌then◌else◌, Bool, true, ◌&&◌, ◌||◌, ◌≡◌, Option, Some, None, List, [], ◌∷◌}
 use Rattle.std.specs.Option.{option_map}
 use Rattle.std.specs.List.{before_first, after_first}
-use Rattle.kc_base.specs.Limits.{max_states}
+use Rattle.kc_base.specs.Limits.{max_states, hole_start, image_start}
 use Rattle.kc_base.specs.Fields.{is_space, word_of, byte_of}
 use Rattle.kc_debug_script.specs.declared.command.Command.{Command}
 use Rattle.kc_debug_script.specs.declared.command.Command.TheVariants.{Step, Go, Break, Registers, Show, Write, History, Quit}
@@ -10,7 +10,7 @@ use Rattle.kc_debug_script.specs.Fields.{if_is, number_of}
 
 -- memory that a script may write: from 0018H on, without 1FFEH and 1FFFH
 abbrev pub is_writable : ℕ → Bool
-is_writable addr = nat_le 0x18 addr && not ((addr == 0x1FFE) || (addr == 0x1FFF))
+is_writable addr = nat_le 0x18 addr && not (nat_le hole_start addr && nat_lt addr image_start)
 
 -- an address and a number of bytes, 256 at most
 abbrev pub shown : Option ℕ → Option ℕ → Option Command

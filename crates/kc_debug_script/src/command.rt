@@ -3,7 +3,7 @@ ghost use Rattle.std.specs.Prelude.{◌≡◌, IfSome};
 ghost use Rattle.kc_debug_script.specs.Commands.{is_writable as may_be_written, letter_alone as alone, letter_with as with_fields, command_of, IsBounded};
 
 use crate::fields::number;
-use kc_base::{MAX_STATES, StateTime, hex_byte, hex_word, split_at_space};
+use kc_base::{HOLE_START, IMAGE_START, MAX_STATES, StateTime, hex_byte, hex_word, split_at_space};
 
 /// What a line of a script asks for.
 #[derive(Clone, Copy, PartialEq, Eq, Drop)]
@@ -35,7 +35,7 @@ const SHOW_LIMIT: u64 = 256;
 fn is_writable(addr: u16) -> bool
     ensures { result ≡ may_be_written addr }
 {
-    0x18 <= addr && !(addr == 0x1FFE || addr == 0x1FFF)
+    0x18 <= addr && !(HOLE_START..IMAGE_START).contains(&addr)
 }
 
 fn letter_alone(letter: u8) -> Option<Command>

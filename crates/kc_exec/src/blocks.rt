@@ -6,7 +6,7 @@ ghost use Rattle.kc_exec_spec.specs.Effects.{Performs};
 ghost use Rattle.kc_bus.specs.Counting.{KeepsCount};
 
 use crate::jumping::following;
-use kc_base::Kind;
+use kc_base::{Kind, REGISTER_FILE_END};
 use kc_bus::Bus;
 use kc_exec_operands::{read_at, read_long, read_register, write_at, write_long, write_register};
 use kc_exec_spec::{After, Cpu, Words};
@@ -148,7 +148,15 @@ pub fn move_word<B: Bus>(
 pub fn word_states(words: &Words) -> u8
     ensures { result ≡ word_states_of words.now }
 {
-    let source = if words.source >= 0x200 { 3 } else { 0 };
-    let target = if words.target >= 0x200 { 3 } else { 0 };
+    let source = if words.source >= REGISTER_FILE_END {
+        3
+    } else {
+        0
+    };
+    let target = if words.target >= REGISTER_FILE_END {
+        3
+    } else {
+        0
+    };
     8 + source + target
 }

@@ -8,12 +8,10 @@ ghost use Rattle.kc_exec_spec.specs.Places.{word_seen, long_seen, or_register, i
 use crate::jumping::is_met;
 use crate::plan::make_plan;
 use kc_alu::{Flags, normalize};
-use kc_base::Kind;
+use kc_base::{Kind, REGISTER_FILE_END};
 use kc_bus::{Bus, window};
 use kc_exec_spec::{Computation, Cpu, Movement, Plan, Route, Saving};
 use kc_isa::{Insn, Operand, Place, mnemonic_of};
-
-const OUTSIDE: u16 = 0x200;
 
 #[inline(always)]
 fn glance_word<B: Bus>(bus: &B, addr: u16) -> u16
@@ -83,7 +81,7 @@ fn is_pointed_outside<B: Bus>(
     let addr = window(wsr, register)?;
     let pointer = pointer_at(bus, addr)?;
     let popped = if pops && addr == 0x18 { 2 } else { 0 };
-    Ok(pointer.wrapping_add(offset).wrapping_add(popped) >= OUTSIDE)
+    Ok(pointer.wrapping_add(offset).wrapping_add(popped) >= REGISTER_FILE_END)
 }
 
 /// Whether the address of S is outside the register file; POP counts with SP as it will be.
@@ -141,7 +139,8 @@ pub fn is_popping(plan: Plan) -> bool
 fn is_stack_outside(plan: Plan, sp: u16) -> bool
     ensures { result ≡ stack_outside plan sp }
 {
-    (is_pushing(plan) && sp.wrapping_sub(2) >= OUTSIDE) || (is_popping(plan) && sp >= OUTSIDE)
+    (is_pushing(plan) && sp.wrapping_sub(2) >= REGISTER_FILE_END)
+        || (is_popping(plan) && sp >= REGISTER_FILE_END)
 }
 
 #[tactic(auto, unfolding(kc_exec_spec::specs::Places::count_seen))]

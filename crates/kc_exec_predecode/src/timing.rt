@@ -9,7 +9,7 @@ ghost use Rattle.kc_exec_predecode.specs.Predecoding.{is_free, is_blank, is_simp
 
 use crate::cost::Cost;
 use crate::predecoded::Predecoded;
-use kc_base::Kind;
+use kc_base::{Kind, REGISTER_FILE_END};
 use kc_bus::Bus;
 use kc_exec::{is_met, is_operand_outside, place, stack_pointer};
 use kc_exec_spec::Cpu;
@@ -48,8 +48,8 @@ fn is_held<B: Bus>(predecoded: &Predecoded, psw: u8, wsr: u8, bus: &B) -> Result
     match predecoded.cost {
         Cost::Points if wsr == 0 => Ok(is_operand_outside(bus, false, 0, predecoded.insn.operand)?),
         Cost::Points => Ok(is_operand_outside(bus, false, wsr, predecoded.insn.operand)?),
-        Cost::Pushes => Ok(stack_pointer(bus).wrapping_sub(2) >= 0x200),
-        Cost::Pops => Ok(stack_pointer(bus) >= 0x200),
+        Cost::Pushes => Ok(stack_pointer(bus).wrapping_sub(2) >= REGISTER_FILE_END),
+        Cost::Pops => Ok(stack_pointer(bus) >= REGISTER_FILE_END),
         Cost::When => Ok(is_met(predecoded.test, predecoded.wanted, psw)),
         Cost::Fixed | Cost::Placed => Ok(false),
     }

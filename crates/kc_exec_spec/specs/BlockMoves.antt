@@ -1,6 +1,7 @@
 -- Block moves: what BMOV and BMOVI do before the first word, and with each word (80C196KC User's Manual, "Instruction Set"; the
 -- moments at which pointers and count are written are this kit's own).
 use Rattle.std.specs.Prelude.{◌≡◌, ℕ, Bool, false, ◌+◌, ◌-◌, ◌*◌, ◌/◌, ◌%◌, ◌<◌, ◌≤◌, ◌==◌, nat_le, ◌||◌, if◌then◌else◌, Some}
+use Rattle.kc_base.specs.Limits.{register_file_end}
 use Rattle.kc_isa.specs.declared.insn.Insn.{Insn}
 use Rattle.kc_isa.specs.declared.table.Mnemonic.TheVariants.{Bmov, Bmovi}
 use Rattle.kc_isa.specs.Names.{mnemonic_at}
@@ -55,7 +56,7 @@ moved_word i w cpu = Look (λ m. move_one m.wsr i w >>= λ u. End (after_words (
 
 -- the states of one word, by how many of its two places are outside the register file
 abbrev pub word_states_of : Words → ℕ
-word_states_of w = 8 + (if nat_le 0x200 w.source then 3 else 0) + (if nat_le 0x200 w.target then 3 else 0)
+word_states_of w = 8 + (if nat_le register_file_end w.source then 3 else 0) + (if nat_le register_file_end w.target then 3 else 0)
 
 -- these words are of this block move, and some are left
 abbrev pub IsUnderWay : Insn → Words → Type 0

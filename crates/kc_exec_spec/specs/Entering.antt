@@ -1,5 +1,6 @@
 -- Entries through a vector (80C196KC User's Manual, "Interrupts"; the order of accesses and the states are this kit's own).
 use Rattle.std.specs.Prelude.{◌≡◌, ℕ, ◌+◌, ◌-◌, ◌*◌, ◌%◌, ◌==◌, nat_lt, false, if◌then◌else◌, Result, Ok, Err}
+use Rattle.kc_base.specs.Limits.{register_file_end}
 use Rattle.kc_base.specs.declared.types.Kind.{Kind}
 use Rattle.kc_exec_spec.specs.declared.cpu.Cpu.{Cpu}
 use Rattle.kc_exec_spec.specs.Effect.{Effect, End, ◌>>=◌, Outcome, Done, Refused}
@@ -32,7 +33,7 @@ opcode_trap pc = trap 0x2012 ((pc + 1) % 0x10000)
 
 -- the states of an entry, and of the trap of such an opcode: two more where the stack stands outside the register file
 abbrev pub entry_states : ℕ → ℕ
-entry_states sp = if nat_lt ((sp + 0xFFFE) % 0x10000) 0x200 then 12 else 14
+entry_states sp = if nat_lt ((sp + 0xFFFE) % 0x10000) register_file_end then 12 else 14
 
 -- a call loaded the program counter so, where the outcome is described; a refusal leaves the registers as they were
 abbrev pub Loads : {H : Type 0} → Result (Unit {0}) Kind → Cpu → Cpu → H → Outcome ℕ H → Type 0

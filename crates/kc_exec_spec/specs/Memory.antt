@@ -1,6 +1,7 @@
 -- The memory from 0018H on, and what a bus keeps to there (80C196KC User's Manual, "Memory Map"; the ROM and the hole are this
 -- kit's own).
 use Rattle.std.specs.Prelude.{◌≡◌, ℕ, Bool, ◌+◌, ◌*◌, ◌/◌, ◌%◌, ◌^◌, ◌<◌, ◌≤◌, ◌==◌, nat_lt, nat_le, ◌&&◌, if◌then◌else◌, Result, Ok, Err}
+use Rattle.kc_base.specs.Limits.{hole_start, image_start, rom_end}
 use Rattle.kc_base.specs.declared.types.Kind.{Kind}
 use Rattle.kc_base.specs.declared.types.Kind.TheVariants.{OddWord, RomWrite, OutsideMap, BadWindow}
 use Rattle.kc_exec_spec.specs.declared.access.Master.{Master}
@@ -10,10 +11,10 @@ use Rattle.kc_exec_spec.specs.Effect.{Meaning}
 use Rattle.kc_exec_spec.specs.Window.{is_wsr}
 
 abbrev pub is_hole : ℕ → Bool
-is_hole addr = nat_le 0x1FFE addr && nat_lt addr 0x2000
+is_hole addr = nat_le hole_start addr && nat_lt addr image_start
 
 abbrev pub is_rom : ℕ → Bool
-is_rom addr = nat_le 0x2000 addr && nat_lt addr 0x6000
+is_rom addr = nat_le image_start addr && nat_lt addr rom_end
 
 abbrev pub if_even : ℕ → Result ℕ Kind → Result ℕ Kind
 if_even addr r = if addr % 2 == 1 then Err OddWord else r

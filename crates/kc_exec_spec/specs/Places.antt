@@ -2,6 +2,7 @@
 -- whether a jump is taken (this kit's own).
 use Rattle.std.specs.Prelude.{ℕ, Bool, true, false, ◌+◌, ◌*◌, ◌%◌, ◌==◌, nat_lt, nat_le, ◌&&◌, ◌||◌, if◌then◌else◌, Some, None, Result, Ok, Err}
 use Rattle.std.specs.Int.{w16, cast_unsigned}
+use Rattle.kc_base.specs.Limits.{register_file_end}
 use Rattle.kc_base.specs.declared.types.Kind.{Kind}
 use Rattle.kc_base.specs.declared.types.Kind.TheVariants.{NoRegister}
 use Rattle.kc_isa.specs.declared.insn.Insn.{Insn}
@@ -41,7 +42,7 @@ abbrev pub or_register : ℕ → ℕ → Result ℕ Kind
 or_register addr n = if nat_lt addr 2 then Ok 0 else if nat_lt addr 24 then Err NoRegister else Ok n
 
 abbrev pub is_outside : ℕ → Bool
-is_outside addr = nat_le 0x200 addr
+is_outside addr = nat_le register_file_end addr
 
 -- whether the address in a register and an offset is outside the register file; POP counts with SP as it will be
 unfoldable pub is_outside_at : Bool → ℕ → (ℕ → ℕ) → ℕ → ℕ → Result Bool Kind

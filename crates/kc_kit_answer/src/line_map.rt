@@ -14,7 +14,7 @@ fn put_line(text: &mut Vec<u8>, entry: &LineAt) -> Result<(), NoMemory>
     text.push(b' ')?;
     text.extend_from_slice(entry.name.as_slice())?;
     text.push(b' ')?;
-    put_number(text, u64::from(entry.line))?;
+    put_number(text, u128::from(entry.line))?;
     text.push(b'\n')?;
     Ok(())
 }

@@ -2,6 +2,7 @@
 use Rattle.std.specs.Prelude.{◌≡◌, ◌⊎◌, ℕ, ◌≤◌, List, [], ◌∷◌, ◌++◌, codes, length, map, nat_lt, if◌then◌else◌, Option, Some, None, Result, Ok, Err}
 use Rattle.std.specs.Global.{Vec}
 use Rattle.std.specs.Result.{IsOk}
+use Rattle.kc_base.specs.Limits.{file_limit}
 use Rattle.kc_base.specs.Held.{Holding, Reported}
 use Rattle.kc_base.specs.declared.files.FileFault.{FileFault}
 use Rattle.kc_base.specs.declared.files.FileFault.TheVariants as fault
@@ -12,7 +13,7 @@ use Rattle.kc_kit_files.specs.Response.{Response, reports, joined, IsRefused}
 
 -- the most bytes of a file
 abbrev pub file_limit : ℕ
-file_limit = 1048576
+file_limit = file_limit
 
 abbrev pub missing_line : List ℕ → List ℕ
 missing_line name = codes "missing " ++ name ++ codes "\n"

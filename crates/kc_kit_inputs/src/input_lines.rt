@@ -15,8 +15,8 @@ pub(crate) fn coded(alloc: Global, letter: &[u8], number: u8) -> Result<Vec<u8>,
     ensures { IfOk result (λ text. text.items ≡ coded letter.now number) }
 {
     let mut text = Vec::from_slice(alloc, letter)?;
-    put_number(&mut text, u64::from(number / 10))?;
-    put_number(&mut text, u64::from(number % 10))?;
+    put_number(&mut text, u128::from(number / 10))?;
+    put_number(&mut text, u128::from(number % 10))?;
     Ok(text)
 }
 
@@ -25,7 +25,7 @@ pub(crate) fn place_text(alloc: Global, place: u32, code: &[u8]) -> Result<Vec<u
     ensures { IfOk result (λ text. text.items ≡ place_text place code.now) }
 {
     let mut text = Vec::from_slice(alloc, b":")?;
-    put_number(&mut text, u64::from(place))?;
+    put_number(&mut text, u128::from(place))?;
     text.extend_from_slice(b": ")?;
     text.extend_from_slice(code)?;
     text.push(b'\n')?;

@@ -33,7 +33,7 @@ pub(crate) fn put_number(diagnostic: &mut Vec<u8>, line: u32) -> Result<(), NoMe
     ensures { OnOk result (diagnostic.new.items ≡ diagnostic.old.items ++ number_text line) }
 {
     diagnostic.push(b':')?;
-    kc_base::put_number(diagnostic, u64::from(line))
+    kc_base::put_number(diagnostic, u128::from(line))
 }
 
 /// Puts a code behind a diagnostic, with more behind it, and with its sentence.
@@ -85,7 +85,7 @@ fn byte_text(alloc: Global, place: u32) -> Result<Vec<u8>, NoMemory>
     ensures { IfOk result (λ text. text.items ≡ codes " at byte " ++ decimal place) }
 {
     let mut text = Vec::from_slice(alloc, b" at byte ")?;
-    kc_base::put_number(&mut text, u64::from(place))?;
+    kc_base::put_number(&mut text, u128::from(place))?;
     Ok(text)
 }
 

@@ -29,9 +29,9 @@ pub(crate) fn place_text(alloc: Global, piece: u16, offset: u16) -> Result<Vec<u
     ensures { IfOk result (λ text. text.items ≡ decimal piece ++ codes " " ++ decimal offset) }
 {
     let mut text = Vec::new(alloc);
-    put_number(&mut text, u64::from(piece))?;
+    put_number(&mut text, u128::from(piece))?;
     text.push(b' ')?;
-    put_number(&mut text, u64::from(offset))?;
+    put_number(&mut text, u128::from(offset))?;
     Ok(text)
 }
 

@@ -41,7 +41,7 @@ fn put_numbered(text: &mut Vec<u8>, word: &[u8], number: u64) -> Result<(), NoMe
 {
     text.extend_from_slice(word)?;
     text.push(b' ')?;
-    put_number(text, number)?;
+    put_number(text, u128::from(number))?;
     text.push(b'\n')?;
     Ok(())
 }

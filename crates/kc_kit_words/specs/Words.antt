@@ -6,7 +6,7 @@ use Rattle.std.specs.Str.{bytes_eq}
 use Rattle.kc_base.specs.Limits.{image_start}
 use Rattle.kc_base.specs.TextLines.{begins_with}
 use Rattle.kc_link_place.specs.declared.ranges.Ranges.{Ranges}
-use Rattle.kc_link_place.specs.Ranges.{are_in_bounds, lies_within}
+use Rattle.kc_link_place.specs.Ranges.{are_in_bounds, default_ranges, lies_within}
 use Rattle.kc_kit_words.specs.declared.extent.Extent.{Extent}
 use Rattle.kc_kit_words.specs.declared.inputs.Role.{Role}
 use Rattle.kc_kit_words.specs.Commands.{Beside, Command, Helps, HelpsOn, ReportsVersion, Runs, Profiles, Assembles, Packs, Links, RunsHex, ProfilesHex, Lists, Debugs, Generates, Dumps, Explains, sparing}
@@ -33,9 +33,9 @@ are_files names = nat_le 1 (length names) && nat_le (length names) 64 && list_al
 
 abbrev pub placing_of : List (List ℕ) → Ranges
 placing_of options = record {
-  reg = unwrap_or (range_in (codes "--reg") options) (0x1A, 0xFF);
-  code = unwrap_or (range_in (codes "--code") options) (0x2080, 0x5FFF);
-  ram = unwrap_or (range_in (codes "--data") options) (0x200, 0x1FFD);
+  reg = unwrap_or (range_in (codes "--reg") options) default_ranges.reg;
+  code = unwrap_or (range_in (codes "--code") options) default_ranges.code;
+  ram = unwrap_or (range_in (codes "--data") options) default_ranges.ram;
   stack = length_in (codes "--stack") options;
 }
 

@@ -1,4 +1,3 @@
-pub mod NumberLemmas
 pub mod LexemeLemmas
 pub mod ScanLemmas
 pub mod ControlLemmas

@@ -1,5 +1,6 @@
 -- The image: contents at their places, filled by relocations, and FFH elsewhere.
 use Rattle.std.specs.Prelude.{◌≡◌, ℕ, true, ◌+◌, ◌<◌, ◌≤◌, Some, Ok, Err, Result, List, length, slice_get}
+use Rattle.kc_base.specs.Limits.{image_start}
 use Rattle.kc_obj_module.specs.declared.parts.Fixup.{Fixup}
 use Rattle.kc_obj_module.specs.Object.{Object}
 use Rattle.kc_obj_module.specs.Numbers.{fits}
@@ -19,11 +20,11 @@ pub record StandsAt (modules : List Object) (places : Places) (place : ℕ) : Ty
   pub offset : ℕ
   pub value : ℕ
   pub stands : filled_at (bases_of modules places index m) m piece offset ≡ Some value
-  pub at : (bases_of modules places index m).piece piece + offset ≡ 0x2000 + place
+  pub at : (bases_of modules places index m).piece piece + offset ≡ image_start + place
 
 pub record IsFilled (modules : List Object) (places : Places) (image : List ℕ) : Type 0 where
   pub long : length image ≡ 0xE000
-  pub within : (i piece offset value : ℕ) (m : Object) → slice_get modules i ≡ Some m → filled_at (bases_of modules places i m) m piece offset ≡ Some value → 0x2000 ≤ (bases_of modules places i m).piece piece + offset
+  pub within : (i piece offset value : ℕ) (m : Object) → slice_get modules i ≡ Some m → filled_at (bases_of modules places i m) m piece offset ≡ Some value → image_start ≤ (bases_of modules places i m).piece piece + offset
   pub stands : (place : ℕ) (s : StandsAt modules places place) → slice_get image place ≡ Some s.value
   pub blank : (place : ℕ) → place < 0xE000 → (StandsAt modules places place → ⊥) → slice_get image place ≡ Some 255
 

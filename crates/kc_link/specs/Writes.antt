@@ -1,5 +1,6 @@
 -- The bytes of an image, written one after the other.
 use Rattle.std.specs.Prelude.{◌≡◌, ℕ, zero, suc, ◌+◌, ◌-◌, ◌<◌, ◌≤◌, Some, None, List, [], ◌∷◌, ◌++◌, length, slice_get, slice_set, slice_index}
+use Rattle.kc_base.specs.Limits.{image_start}
 use Rattle.kc_obj_module.specs.declared.parts.Content.{Content}
 use Rattle.kc_obj_module.specs.Object.{Object}
 use Rattle.kc_obj_module.specs.Contents.{content_at}
@@ -14,7 +15,7 @@ written image (w ∷ ws) = written (slice_set image w.0 w.1) ws
 -- so many filled bytes of a piece from an offset on, each at its place of the image
 unfoldable pub bytes_of : Bases → Object → ℕ → ℕ → ℕ → List (ℕ × ℕ)
 bytes_of b m piece offset zero = []
-bytes_of b m piece offset (suc count) = ((b.piece piece + offset) - 0x2000, or_0 (filled_at b m piece offset)) ∷ bytes_of b m piece (offset + 1) count
+bytes_of b m piece offset (suc count) = ((b.piece piece + offset) - image_start, or_0 (filled_at b m piece offset)) ∷ bytes_of b m piece (offset + 1) count
 
 -- those of all runs of a module, and of all modules
 unfoldable pub runs_of : Bases → Object → List Content → List (ℕ × ℕ)
@@ -28,7 +29,7 @@ all_bytes (m ∷ ms) (b ∷ bs) = runs_of (bases_in b) m m.contents ++ all_bytes
 
 -- a run of the module stands in program memory, and its bytes are those of the module
 pub record RunStands (b : Bases) (m : Object) (c : Content) : Type 0 where
-  pub low : 0x2000 ≤ b.piece c.piece + c.offset
+  pub low : image_start ≤ b.piece c.piece + c.offset
   pub high : (b.piece c.piece + c.offset) + length c.bytes ≤ 65536
   pub bytes : (k : ℕ) → k < length c.bytes → content_at m.contents c.piece (c.offset + k) ≡ Some (slice_index c.bytes k)
 

@@ -37,7 +37,7 @@ fn put_line(text: &mut Vec<u8>, word: &[u8], first: u16, length: u32) -> Result<
     text.push(b' ')?;
     put_address(text, first)?;
     text.push(b' ')?;
-    put_number(text, u64::from(length))?;
+    put_number(text, u128::from(length))?;
     text.push(b'\n')?;
     Ok(())
 }

@@ -27,7 +27,7 @@ fn put_stack(text: &mut Vec<u8>, stack: StackAt) -> Result<(), NoMemory>
     text.extend_from_slice(b"stack ")?;
     put_address(text, stack.first)?;
     text.push(b' ')?;
-    put_number(text, u64::from(stack.size))?;
+    put_number(text, u128::from(stack.size))?;
     text.push(b'\n')?;
     Ok(())
 }

@@ -21,7 +21,7 @@ fn put_piece(
     text.push(b' ')?;
     put_address(text, at)?;
     text.push(b' ')?;
-    put_number(text, u64::from(length))?;
+    put_number(text, u128::from(length))?;
     text.push(b' ')?;
     text.extend_from_slice(name.as_slice())?;
     text.push(b'\n')?;

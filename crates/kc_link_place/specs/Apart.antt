@@ -1,5 +1,6 @@
 -- Code pieces that are placed stand in program memory, no two at one address.
 use Rattle.std.specs.Prelude.{◌≡◌, ℕ, ◌+◌, ◌<◌, ◌≤◌, true, Some, Ok, List, slice_get}
+use Rattle.kc_base.specs.Limits.{image_start}
 use Rattle.kc_obj_module.specs.declared.parts.SegKind.TheVariants.{Code}
 use Rattle.kc_obj_module.specs.declared.parts.Segment.{Segment}
 use Rattle.kc_obj_module.specs.Object.{Object}
@@ -22,7 +23,7 @@ abbrev pub AllKeepRules : List Object → Type 0
 AllKeepRules ms = (i : ℕ) (m : Object) → slice_get ms i ≡ Some m → is_module m ≡ true
 
 pub record CodeIsApart (ms : List Object) (places : Places) : Type 0 where
-  pub within : (i p a : ℕ) → CodeAt ms places i p a → (0x2000 ≤ a) × (a < 65536)
+  pub within : (i p a : ℕ) → CodeAt ms places i p a → (image_start ≤ a) × (a < 65536)
   pub apart : (i p j q a : ℕ) → CodeAt ms places i p a → CodeAt ms places j q a → (i ≡ j) × (p ≡ q)
 
 abbrev pub CodeStandsApart : Type 0

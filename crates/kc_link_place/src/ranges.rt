@@ -1,7 +1,7 @@
 ghost use Rattle.std.specs.Prelude.{◌≡◌, ℕ, None};
-ghost use Rattle.kc_link_place.specs.Ranges.{are_in_bounds, lies_within};
+ghost use Rattle.kc_link_place.specs.Ranges.{are_in_bounds, default_ranges, lies_within};
 
-use kc_base::{NoMemory, Text};
+use kc_base::{HOLE_START, IMAGE_START, NoMemory, REGISTER_FILE_END, ROM_END, Text};
 use kc_obj_module::SegKind;
 
 /// Where relocatable pieces may stand: the first and the last address for registers, code, and data with the stack.
@@ -18,12 +18,12 @@ impl Ranges {
     /// The ranges of a board that has nothing special: registers 001AH to 00FFH, code 2080H to 5FFFH, data and stack
     /// 0200H to 1FFDH, and the stack of all stack pieces.
     pub fn new() -> Ranges
-        ensures { result ≡ record { reg = (0x1A, 0xFF); code = (0x2080, 0x5FFF); ram = (0x200, 0x1FFD); stack = None } }
+        ensures { result ≡ default_ranges }
     {
         Ranges {
             reg: (0x1A, 0xFF),
-            code: (0x2080, 0x5FFF),
-            ram: (0x200, 0x1FFD),
+            code: (0x2080, ROM_END - 1),
+            ram: (REGISTER_FILE_END, HOLE_START - 1),
             stack: None,
         }
     }
@@ -33,9 +33,10 @@ impl Ranges {
     pub fn are_within_bounds(&self) -> bool
         ensures { result ≡ are_in_bounds self.now }
     {
-        lies(0x1A, 0x1FF, self.reg)
-            && lies(0x2000, 0xFFFF, self.code)
-            && (lies(0x200, 0x1FFD, self.ram) || lies(0x6000, 0xFFFF, self.ram))
+        lies(0x1A, REGISTER_FILE_END - 1, self.reg)
+            && lies(IMAGE_START, 0xFFFF, self.code)
+            && (lies(REGISTER_FILE_END, HOLE_START - 1, self.ram)
+                || lies(ROM_END, 0xFFFF, self.ram))
     }
 }
 

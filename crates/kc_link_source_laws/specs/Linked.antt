@@ -2,6 +2,7 @@
 -- where no statement stands.
 use Rattle.std.specs.Prelude.{◌≡◌, ℕ, true, ◌+◌, ◌-◌, ◌<◌, ◌≤◌, if◌then◌else◌, Some, None, Ok, List, [], ◌∷◌, ◌++◌, length, reverse, drop, slice_get}
 use Rattle.std.specs.List.{list_all}
+use Rattle.kc_base.specs.Limits.{image_start}
 use Rattle.kc_isa.specs.declared.insn.Insn.{Insn}
 use Rattle.kc_isa.specs.Formed.{length_of}
 use Rattle.kc_code.specs.declared.reader.Decoded.TheVariants as says
@@ -83,10 +84,10 @@ bytes_at stmts before l s = size_of (content (meaning (standing stmts) before l)
 
 -- what a statement says stands at its address, in program memory
 pub record Stands (image : List ℕ) (bases : Bases) (stmts : List Stmt) (d : UnlinkedModule) (before : List Located) (l : Located) (s : Location) : Type 0 where
-  pub within : 0 < bytes_at stmts before l s → 0x2000 ≤ address_of bases d l.segment s
-  pub code : Decodes image (address_of bases d l.segment s - 0x2000)
+  pub within : 0 < bytes_at stmts before l s → image_start ≤ address_of bases d l.segment s
+  pub code : Decodes image (address_of bases d l.segment s - image_start)
       (code_of (part_bases bases d) (address_of bases d l.segment s) (meaning (standing stmts) before l) s.form l l.action)
-  pub bytes : Reads image (address_of bases d l.segment s - 0x2000) (data_of (part_bases bases d) (meaning (standing stmts) before l) l.action)
+  pub bytes : Reads image (address_of bases d l.segment s - image_start) (data_of (part_bases bases d) (meaning (standing stmts) before l) l.action)
 
 -- ---- all sources
 
@@ -112,7 +113,7 @@ pub record Covers (sources : List (List Stmt)) (unlinked_modules : List Unlinked
   pub statement : IsStatement stmts before l s
   pub byte : ℕ
   pub below : byte < bytes_at stmts before l s
-  pub at : address_of (bases_of modules places index m) d l.segment s + byte ≡ 0x2000 + place
+  pub at : address_of (bases_of modules places index m) d l.segment s + byte ≡ image_start + place
 
 pub record IsLinked (sources : List (List Stmt)) (unlinked_modules : List UnlinkedModule) (modules : List Object) (places : Places) (image : List ℕ) : Type 0 where
   pub long : length image ≡ 0xE000

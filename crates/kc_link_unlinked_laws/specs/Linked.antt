@@ -1,6 +1,7 @@
 -- The image that is filled from the modules of unlinked modules holds the relocatable bytes of the unlinked modules
 -- (after the MCS-96 Macro Assembler User's Guide, "Relocation").
 use Rattle.std.specs.Prelude.{◌≡◌, ℕ, true, ◌+◌, ◌-◌, ◌<◌, ◌≤◌, Some, Ok, List, ◌++◌, length, drop, slice_get}
+use Rattle.kc_base.specs.Limits.{image_start}
 use Rattle.kc_expr.specs.declared.values.Value.{Value}
 use Rattle.kc_obj_module.specs.Object.{Object}
 use Rattle.kc_obj_module.specs.Numbers.{Bases, number, reach, fits}
@@ -22,8 +23,8 @@ use Rattle.kc_link_unlinked_laws.specs.Settled.{IsWhole, IsSettled}
 
 -- a relocatable byte stands in the image of program memory, at its place and filled
 pub record IsHeld (image : List ℕ) (bases : Bases) (d : UnlinkedModule) (part offset : ℕ) (relocatable_byte : RelocatableByte) : Type 0 where
-  pub within : 0x2000 ≤ start bases d part + offset
-  pub byte : slice_get image ((start bases d part + offset) - 0x2000) ≡ Some (fill (part_bases bases d) (start bases d part + offset) relocatable_byte)
+  pub within : image_start ≤ start bases d part + offset
+  pub byte : slice_get image ((start bases d part + offset) - image_start) ≡ Some (fill (part_bases bases d) (start bases d part + offset) relocatable_byte)
 
 -- each relocatable byte of an unlinked module does
 pub record HoldsUnlinkedModule (image : List ℕ) (bases : Bases) (d : UnlinkedModule) : Type 0 where
@@ -37,7 +38,7 @@ StandsFrom d part offset relocatable_bytes = (t : Section) × ((slice_get d.part
 -- from the place of an offset on the image reads as relocatable bytes, filled, and what is behind them
 abbrev pub ReadsAs : List ℕ → Bases → UnlinkedModule → ℕ → ℕ → List RelocatableByte → Type 0
 ReadsAs image bases d part offset relocatable_bytes =
-    (rest : List ℕ) × (drop ((start bases d part + offset) - 0x2000) image ≡ filled (part_bases bases d) (start bases d part + offset) relocatable_bytes ++ rest)
+    (rest : List ℕ) × (drop ((start bases d part + offset) - image_start) image ≡ filled (part_bases bases d) (start bases d part + offset) relocatable_bytes ++ rest)
 
 -- each number of an unlinked module fits its bytes
 pub record FitsUnlinkedModule (bases : Bases) (d : UnlinkedModule) : Type 0 where
@@ -72,7 +73,7 @@ pub record IsCovered (ds : List UnlinkedModule) (ms : List Object) (places : Pla
   pub t : Section
   pub relocatable_byte : RelocatableByte
   pub stands : StandsIn d part t offset relocatable_byte
-  pub at : start (bases_of ms places index m) d part + offset ≡ 0x2000 + place
+  pub at : start (bases_of ms places index m) d part + offset ≡ image_start + place
 
 -- the image holds each unlinked module, and FFH where none has a relocatable byte
 pub record AreLinked (ds : List UnlinkedModule) (ms : List Object) (places : Places) (image : List ℕ) : Type 0 where

@@ -1,5 +1,6 @@
 -- Instructions of ROM that were prepared (this kit's own).
 use Rattle.std.specs.Prelude.{◌≡◌, ℕ, ◌+◌, ◌<◌, ◌≤◌, List, length, Option, Some, None, slice_index_or, false}
+use Rattle.kc_base.specs.Limits.{image_start}
 use Rattle.kc_intc.specs.declared.requests.Choice.TheVariants.{Go}
 use Rattle.kc_isa.specs.declared.insn.Insn.{Insn}
 use Rattle.kc_code.specs.declared.reader.Decoded.{Decoded}
@@ -27,10 +28,10 @@ IsSlot memory at r = is_blank r ≡ false → IsRead memory at r
 
 -- slot k is that of the address 2000H + k: seven bytes of ROM stand from each of these addresses on
 abbrev pub IsTable : List Predecoded → List ℕ → Type 0
-IsTable table memory = (k : ℕ) (d : Predecoded) → k < 0x3FFA → k < length table → IsSlot memory (0x2000 + k) (slice_index_or table k d)
+IsTable table memory = (k : ℕ) (d : Predecoded) → k < 0x3FFA → k < length table → IsSlot memory (image_start + k) (slice_index_or table k d)
 
 abbrev pub HasSlot : ℕ → Type 0
-HasSlot addr = (0x2000 ≤ addr) × (addr < 0x5FFA)
+HasSlot addr = (image_start ≤ addr) × (addr < 0x5FFA)
 
 -- the machine lives, nothing is under way or goes on, and no instruction is held for
 pub record IsFree {X : Type 0} (m : Machine X) : Type 0 where

@@ -5,12 +5,13 @@ ghost use Rattle.kc_pts.specs.Cycles.{vector_of};
 ghost use Rattle.kc_machine_spec.specs.Machine.{fetched, can_fetch};
 
 use arrayvec::ArrayVec;
+use kc_base::REGISTER_FILE_END;
 use kc_bus::is_outside;
 
 fn can_fetch(addr: u16) -> bool
     ensures { result ≡ can_fetch addr }
 {
-    !(addr < 0x200 || is_outside(addr))
+    !(addr < REGISTER_FILE_END || is_outside(addr))
 }
 
 /// The bytes from an address on, up to seven and up to the first that can't be fetched.
@@ -35,7 +36,7 @@ pub(crate) fn entry_time(sp: u16) -> u8
     ensures value { result ≡ entry_states sp }
     ensures some { 0 < result }
 {
-    if sp.wrapping_add(0xFFFE) < 0x200 {
+    if sp.wrapping_add(0xFFFE) < REGISTER_FILE_END {
         12
     } else {
         14

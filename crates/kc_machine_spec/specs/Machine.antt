@@ -4,7 +4,7 @@ use Rattle.std.specs.Prelude.{ℕ, zero, suc, ◌+◌, ◌-◌, ◌*◌, ◌%◌
 use Rattle.kc_base.specs.declared.types.Kind.{Kind}
 use Rattle.kc_base.specs.declared.types.Kind.TheVariants.{OutsideMap, Opcode}
 use Rattle.kc_base.specs.declared.types.Undefined.{Undefined}
-use Rattle.kc_base.specs.Limits.{image_start}
+use Rattle.kc_base.specs.Limits.{image_start, register_file_end}
 use Rattle.kc_isa.specs.declared.insn.Insn.{Insn}
 use Rattle.kc_isa.specs.declared.insn.Place.{Place}
 use Rattle.kc_isa.specs.declared.table.Mnemonic.{Mnemonic}
@@ -78,7 +78,7 @@ scene_of machine = opened machine.time machine.board
 
 -- an instruction may be fetched from here
 abbrev pub can_fetch : ℕ → Bool
-can_fetch addr = not (nat_lt addr 0x200 || is_hole addr)
+can_fetch addr = not (nat_lt addr register_file_end || is_hole addr)
 
 -- the bytes from an address on, at most so many, up to the first that can't be fetched
 unfoldable pub fetched : ℕ → List ℕ → ℕ → List ℕ

@@ -7,8 +7,7 @@ use crate::bodies::place_of;
 use crate::copying::copy_token;
 use crate::given::Given;
 use crate::macros::{Formals, Locals};
-use itoa::Buffer;
-use kc_base::{NoMemory, Text};
+use kc_base::{NoMemory, Text, put_number};
 use kc_lex::kinds::{is_name, is_sign};
 use kc_lex::words::{is_name_text, upper};
 use kc_lex::{SourceCode, Token, TokenKind, Tokens};
@@ -60,10 +59,9 @@ fn two_texts(alloc: Global, first: &[u8], second: &[u8]) -> Result<Vec<u8>, NoMe
 fn local_name(alloc: Global, number: u128) -> Result<Text, NoMemory>
     ensures { IfOk result (λ t. t ≡ filling.local_name number) }
 {
-    let mut buffer = Buffer::new();
-    let digits = buffer.format(number).as_bytes();
-    let both = two_texts(alloc, local_prefix(number), digits)?;
-    Ok(Text::from_vec(both))
+    let mut name = Vec::from_slice(alloc, local_prefix(number))?;
+    put_number(&mut name, number)?;
+    Ok(Text::from_vec(name))
 }
 
 // Appends what stands for a name that is no parameter. So many LOCAL names have been given before.

@@ -2,8 +2,7 @@
 ghost use Rattle.std.specs.Prelude.{◌≡◌, ◌++◌, OnOk, decimal, Some};
 ghost use Rattle.kc_monitor.specs.Verdicts as spec;
 
-use itoa::Buffer;
-use kc_base::NoMemory;
+use kc_base::{NoMemory, put_number};
 use kc_monitor_forms::{Found, Offset, Spread, Tally};
 use kc_rules::{Form, Rule};
 
@@ -12,13 +11,6 @@ fn put(text: &mut Vec<u8>, bytes: &[u8]) -> Result<(), NoMemory>
 {
     text.extend_from_slice(bytes)?;
     Ok(())
-}
-
-fn put_number(text: &mut Vec<u8>, n: u128) -> Result<(), NoMemory>
-    ensures { OnOk result (text.new.items ≡ text.old.items ++ decimal n) }
-{
-    let mut buffer = Buffer::new();
-    put(text, buffer.format(n).as_bytes())
 }
 
 fn put_field(text: &mut Vec<u8>, n: u64) -> Result<(), NoMemory>

@@ -1,6 +1,7 @@
 -- The pieces of a module (80C196KC User's Manual, "Memory Map"; the order and the regions are this kit's own).
-use Rattle.std.specs.Prelude.{ℕ, Bool, true, false, not, ◌+◌, ◌&&◌, ◌||◌, ◌==◌, nat_lt, nat_le, Option, Some, None, List, [], ◌∷◌}
+use Rattle.std.specs.Prelude.{ℕ, Bool, true, false, not, ◌+◌, ◌-◌, ◌&&◌, ◌||◌, ◌==◌, nat_lt, nat_le, Option, Some, None, List, [], ◌∷◌}
 use Rattle.std.specs.List.{list_any}
+use Rattle.kc_base.specs.Limits.{register_file_end, hole_start, image_start, rom_end}
 use Rattle.kc_obj_module.specs.declared.parts.SegKind.{SegKind}
 use Rattle.kc_obj_module.specs.declared.parts.SegKind.TheVariants.{Reg, Code, Ram, Stack}
 use Rattle.kc_obj_module.specs.declared.parts.Segment.{Segment}
@@ -27,9 +28,9 @@ lies_in low high base len = nat_le low base && nat_le base high && nat_le (base 
 
 -- registers, program memory, data memory; a stack is never absolute
 abbrev pub in_region : SegKind → ℕ → ℕ → Bool
-in_region Reg base len = lies_in 0 0x1FF base len
-in_region Code base len = lies_in 0x2000 0xFFFF base len
-in_region Ram base len = lies_in 0x200 0x1FFD base len || lies_in 0x6000 0xFFFF base len
+in_region Reg base len = lies_in 0 (register_file_end - 1) base len
+in_region Code base len = lies_in image_start 0xFFFF base len
+in_region Ram base len = lies_in register_file_end (hole_start - 1) base len || lies_in rom_end 0xFFFF base len
 in_region Stack base len = false
 
 abbrev pub based_well : SegKind → ℕ → Option ℕ → Bool

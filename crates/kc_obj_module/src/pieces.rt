@@ -4,6 +4,7 @@ ghost use Rattle.std.specs.Option.{option_copied};
 ghost use Rattle.kc_obj_module.specs.Pieces.{kind_number, is_register_kind, lies_in, in_region, is_placed, segment_follows, segments_in_order, is_piece, targets_piece, is_named, is_empty, is_kept, all_kept, has_code};
 
 use crate::parts::{Fixup, Given, SegKind, Segment, Target};
+use kc_base::{HOLE_START, IMAGE_START, REGISTER_FILE_END, ROM_END};
 
 /// The number that a kind has in an object.
 pub fn number_of(kind: SegKind) -> u8
@@ -27,11 +28,10 @@ pub fn is_register(kind: SegKind) -> bool
     }
 }
 
-fn lies(low: u32, high: u32, base: u16, len: u16) -> bool
-    requires { high < 65536 }
+fn lies(low: u16, high: u16, base: u16, len: u16) -> bool
     ensures { result ≡ lies_in low high base len }
 {
-    low <= base as u32 && base as u32 <= high && base as u32 + len as u32 <= high + 1
+    low <= base && base <= high && u32::from(base) + u32::from(len) <= u32::from(high) + 1
 }
 
 /// Whether an absolute piece of this kind may stand there.
@@ -39,9 +39,11 @@ pub fn fits_region(kind: SegKind, base: u16, len: u16) -> bool
     ensures { result ≡ in_region kind base len }
 {
     match kind {
-        SegKind::Reg => lies(0, 0x1FF, base, len),
-        SegKind::Code => lies(0x2000, 0xFFFF, base, len),
-        SegKind::Ram => lies(0x200, 0x1FFD, base, len) || lies(0x6000, 0xFFFF, base, len),
+        SegKind::Reg => lies(0, REGISTER_FILE_END - 1, base, len),
+        SegKind::Code => lies(IMAGE_START, 0xFFFF, base, len),
+        SegKind::Ram => {
+            lies(REGISTER_FILE_END, HOLE_START - 1, base, len) || lies(ROM_END, 0xFFFF, base, len)
+        },
         SegKind::Stack => false,
     }
 }

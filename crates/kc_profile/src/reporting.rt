@@ -17,7 +17,7 @@ fn put_states(text: &mut Vec<u8>, states: u64) -> Result<(), NoMemory>
     ensures { OnOk result (text.new.items ≡ text.old.items ++ (codes " " ++ decimal states ++ codes "\n")) }
 {
     text.push(b' ')?;
-    put_number(text, states)?;
+    put_number(text, u128::from(states))?;
     text.push(b'\n')?;
     Ok(())
 }
@@ -61,7 +61,7 @@ fn put_numbered(text: &mut Vec<u8>, word: &[u8], number: usize, states: u64) -> 
     }
     text.extend_from_slice(word)?;
     text.push(b' ')?;
-    put_number(text, number as u64)?;
+    put_number(text, number as u128)?;
     put_states(text, states)
 }
 
@@ -151,7 +151,7 @@ fn put_line(text: &mut Vec<u8>, entry: &MapEntry, states: u64) -> Result<(), NoM
     text.extend_from_slice(b"line ")?;
     text.extend_from_slice(entry.name.as_slice())?;
     text.push(b' ')?;
-    put_number(text, u64::from(entry.line))?;
+    put_number(text, u128::from(entry.line))?;
     put_states(text, states)
 }
 

@@ -7,8 +7,7 @@ ghost use Rattle.kc_vcd.specs.Dump.{state_length as picoseconds, pin_code as cod
 
 use crate::levels::start_level;
 use crate::trace::{Trace, time_after};
-use itoa::Buffer;
-use kc_base::{NoMemory, PIN_COUNT, Pin, StateTime};
+use kc_base::{NoMemory, PIN_COUNT, Pin, StateTime, put_number};
 use kc_trace::{Record, level_digit};
 use std::alloc::Global;
 
@@ -115,14 +114,8 @@ fn put_time(
     if at == before {
         return Ok(());
     }
-    let mut buffer = Buffer::new();
     put(text, b"#")?;
-    put(
-        text,
-        buffer
-            .format(u128::from(length) * u128::from(at))
-            .as_bytes(),
-    )?;
+    put_number(text, u128::from(length) * u128::from(at))?;
     put(text, b"\n")
 }
 

@@ -72,5 +72,5 @@ IsOriginOfLines f (Ok lines) found = IsOriginOfText f (expanded lines) (expanded
 IsOriginOfLines f (Err g) found = found ≡ None
 
 -- what is found for the fault of a source at a line with a code; a fault of its lines or its macros has none
-abbrev pub IsCause : List ℕ → ℕ → ℕ → Option ℕ → Type 0
-IsCause source line code found = IsOriginOfLines (line, code) (lines_of source) found
+abbrev pub IsOrigin : List ℕ → ℕ → ℕ → Option ℕ → Type 0
+IsOrigin source line code found = IsOriginOfLines (line, code) (lines_of source) found

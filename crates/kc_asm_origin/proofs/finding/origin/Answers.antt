@@ -3,9 +3,9 @@ use Rattle.std.proofs.lemmas.List.{length-map}
 use Rattle.kc_source_laws.proofs.Counts.{line_count, lines_numbered}
 use Rattle.kc_macro.specs.Expansion.{AreNumbered, expanded}
 use Rattle.kc_asm_origin.specs.Written.{marked, marked_line}
-use Rattle.kc_asm_origin.specs.Cause.{IsOriginAmong}
+use Rattle.kc_asm_origin.specs.Origin.{IsOriginAmong}
 use Rattle.kc_asm_origin.proofs.Between.{of_expansions, no_text, no_marks}
-use Rattle.kc_asm_origin.proofs.finding.cause.Goals as goal
+use Rattle.kc_asm_origin.proofs.finding.origin.Goals as goal
 
 pub returns : goal.returns
 returns c =

@@ -14,7 +14,7 @@ use Rattle.kc_asm_laws.proofs.Alike.{standing_alike, locations_alike}
 use Rattle.kc_asm_origin.specs.Written.{marked, places_of}
 use Rattle.kc_asm_origin.specs.First.{with_first}
 use Rattle.kc_asm_origin.specs.Reported.{IsReported, IsNotReported}
-use Rattle.kc_asm_origin.specs.Cause.{middle, IsHalved, IsOfItsLines, IsOfOthers, AreInPlace, IsOriginIn, IsOriginAmong, IsOriginBetween, IsOriginOfText, IsOriginOfLines}
+use Rattle.kc_asm_origin.specs.Origin.{middle, IsHalved, IsOfItsLines, IsOfOthers, AreInPlace, IsOriginIn, IsOriginAmong, IsOriginBetween, IsOriginOfText, IsOriginOfLines}
 use Rattle.kc_asm_laws.specs.OneOrigin.{OneOrigin}
 
 -- ---- what is reported
