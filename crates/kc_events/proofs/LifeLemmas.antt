@@ -1,5 +1,5 @@
 -- The lives of a run, by its steps.
-use Rattle.std.proofs.Common.{◌≡◌, ℕ, zero, suc, ◌+◌, ◌-◌, ◌<◌, ◌≤◌, ◌^◌, Bool, true, false, List, [], ◌∷◌, ◌++◌, map, filter, flat_map, not, refl, sym, ap, ◌∙◌, append_assoc, append-nil, arith}
+use Rattle.std.proofs.Common.{◌≡◌, ℕ, zero, suc, ◌+◌, ◌≤◌, ◌^◌, List, [], ◌∷◌, ◌++◌, filter, not, refl, sym, ap, ◌∙◌, append_assoc, append-nil, arith}
 use Rattle.std.specs.Prelude.{All}
 use Rattle.std.proofs.lemmas.List.Elements.{All-nil, All-cons}
 use Rattle.kc_base.specs.declared.types.Level.{Level}
@@ -12,33 +12,33 @@ use Rattle.kc_trace.specs.declared.record.Record.TheVariants.{Pin, Entered, Serv
 use Rattle.kc_events.specs.declared.line.Line.{Line}
 use Rattle.kc_events.specs.declared.line.Line.TheVariants.{Printed, Restarted}
 use Rattle.kc_events.specs.Grammar.{Place, start_place, AreLines, after_line}
-use Rattle.kc_events.specs.Lives.{input_edges, start_levels, levels_after, reported_in, states_from, life_of, event_of, end_event, count_at, restart_event, lives_with, lives_of}
-use Rattle.kc_events.specs.Steps.{Seen, Begins, Passes, Ends, is_still, passes, seen_of, steps_with, lives_seen}
+use Rattle.kc_events.specs.Lives.{input_edges, start_levels, levels_after, reported_in, states_from, life_of, event_of, end_event, count_at, restart_event, lives_with}
+use Rattle.kc_events.specs.Steps.{Seen, Ends, is_still, passes, seen_of, steps_with, lives_seen}
 use Rattle.kc_events.specs.Laws.{StepsMakeLives, LivesAreLives}
 
 -- ---- the steps of a life make it up
 
 -- the states in which anything happens
-abbrev pub moving : List State → List State
+abbrev moving : List State → List State
 moving states = filter (λ s. not (is_still s.whats)) states
 
-pub events_moving : (states : List State) → events_of (moving states) ≡ events_of states
+events_moving : (states : List State) → events_of (moving states) ≡ events_of states
 events_moving [] = refl
-events_moving (s ∷ states) = by s.whats
+events_moving (s ∷ states) = by s.whats (events_moving states)
   where
-    by : (whats : List What) → events_of (moving (record { at = s.at; whats = whats } ∷ states)) ≡ events_in s.at whats ++ events_of states
-    by [] = events_moving states
-    by (w ∷ whats) = ap (λ (events : List Event). events_in s.at (w ∷ whats) ++ events) (events_moving states)
+    by : (whats : List What) → events_of (moving states) ≡ events_of states → events_of (moving (record { at = s.at; whats = whats } ∷ states)) ≡ events_in s.at whats ++ events_of states
+    by [] others = others
+    by (w ∷ whats) others = ap (λ (events : List Event). events_in s.at (w ∷ whats) ++ events) others
 
 seen_passes : (start : Signal → Level) (before states : List State) (rest : List Seen) → lives_seen start before (passes states ++ rest) ≡ lives_seen start (before ++ moving states) rest
 seen_passes start before [] rest = ap (λ (all : List State). lives_seen start all rest) (sym (append-nil before))
-seen_passes start before (s ∷ states) rest = by s.whats
+seen_passes start before (s ∷ states) rest = by s.whats (λ more. seen_passes start more states rest)
   where
-    by : (whats : List What) → lives_seen start before (passes (record { at = s.at; whats = whats } ∷ states) ++ rest) ≡ lives_seen start (before ++ moving (record { at = s.at; whats = whats } ∷ states)) rest
-    by [] = seen_passes start before states rest
-    by (w ∷ whats) =
+    by : (whats : List What) → ((more : List State) → lives_seen start more (passes states ++ rest) ≡ lives_seen start (more ++ moving states) rest) → lives_seen start before (passes (record { at = s.at; whats = whats } ∷ states) ++ rest) ≡ lives_seen start (before ++ moving (record { at = s.at; whats = whats } ∷ states)) rest
+    by [] others = others before
+    by (w ∷ whats) others =
         let t : State = record { at = s.at; whats = w ∷ whats } in
-        seen_passes start (before ++ t ∷ []) states rest ∙ ap (λ (all : List State). lives_seen start all rest) (append_assoc before (t ∷ []) (moving states))
+        others (before ++ t ∷ []) ∙ ap (λ (all : List State). lives_seen start all rest) (append_assoc before (t ∷ []) (moving states))
 
 seen_life : (d : Drives) (base : ℕ) (reported : List Event) (count : ℕ) (start : Signal → Level) (rest : List Seen) (lives : List Life) → ((other : Signal → Level) → lives_seen other [] rest ≡ lives) →
     lives_seen start [] (seen_of d base reported count ++ rest) ≡ life_of d base reported count ++ lives

@@ -1,5 +1,5 @@
 -- The steps of a run whose trace is read line by line.
-use Rattle.std.proofs.Common.{◌≡◌, ℕ, ◌+◌, ◌-◌, ◌≤◌, ◌^◌, Bool, true, false, Option, Some, None, Result, Ok, Err, List, [], ◌∷◌, ◌++◌, map, refl, sym, ap, subst, ◌∙◌, arith}
+use Rattle.std.proofs.Common.{◌≡◌, ℕ, ◌+◌, ◌<◌, ◌≤◌, ◌^◌, true, false, Option, Some, None, Result, Ok, Err, List, [], ◌∷◌, refl, sym, ap, subst, ◌∙◌, arith}
 use Rattle.std.specs.Prelude.{nat_le}
 use Rattle.std.specs.Io.KnownBytes.{Keeps, IsAtEnd}
 use Rattle.std.proofs.lemmas.Bool.{leb-true, and_parts}
@@ -20,14 +20,14 @@ use Rattle.kc_events.specs.declared.course.Known.TheVariants.{Living, Ending, En
 use Rattle.kc_events.specs.declared.lives.LivesFault.{LivesFault}
 use Rattle.kc_events.specs.declared.lives.LivesFault.TheVariants.{BadTrace, Failed, NoMemory}
 use Rattle.kc_events.specs.Lines.{line_text}
-use Rattle.kc_events.specs.Grammar.{Place, start_place, is_in_order, may_restart, may_follow, MayFollow, after_line, AreLines, place_after, is_over, IsRun}
+use Rattle.kc_events.specs.Grammar.{Place, start_place, may_restart, may_follow, MayFollow, after_line, AreLines, place_after, is_over, IsRun}
 use Rattle.kc_events.specs.Printed.{place_in}
 use Rattle.kc_events.specs.Reading.{Reading, GaveNext, IsWrong, IsWrongNext, one_more}
 use Rattle.kc_events.specs.Steps.{Seen}
 use Rattle.kc_events.specs.Coming.{Present, start_of, rest_by, events_ahead, rest_at, steps_to_come, AreFrom, AreDue, state_behind, MayCome, MayBeNext, IsStillIn}
 use Rattle.kc_events.specs.Underway.{Underway, present_in, running_in, seen_by, needs_line, base_ahead, base_behind, IsOpen, IsEarly, Gives, ReportsNone, KeepsBase}
-use Rattle.kc_events.specs.Reporting.{Reporting, HasText, AreToCome, AreStepsOf, count_with, IsFirstWrong, IsFirstWrongIn, IsAnswer, IsInStep, reporting, HasRead}
-use Rattle.kc_events.proofs.CourseLemmas.{by-start}
+use Rattle.kc_events.specs.Reporting.{Reporting, HasText, AreToCome, AreStepsOf, count_with, IsFirstWrongIn, IsAnswer, IsInStep, reporting, HasRead}
+use Rattle.kc_events.proofs.StartLemmas.{by-start}
 use Rattle.kc_events.proofs.DueLemmas.{due_start}
 
 -- ---- the text
@@ -52,10 +52,33 @@ run_more : (p : Place) (line : Line) (lines : List Line) → MayFollow p line �
 unfolding AreLines place_after
 run_more p line lines fits run = record { follow = (fits, run.follow); whole = run.whole }
 
+-- a line behind the next is behind this one
+later : (count n : ℕ) → one_more (one_more count) ≤ n → one_more count ≤ n
+later count n h = grind (arith, h)
+
+one_higher : (count : ℕ) → count < 2 ^ 64 → (count ≤ one_more count) × (one_more count < 2 ^ 64)
+one_higher count few = grind (arith, few)
+
+-- lines that are counted make a number no lower
+counted : (lines : List Line) (count : ℕ) → count < 2 ^ 64 → count ≤ count_with count lines
+unfolding count_with
+counted [] count few = omega arith
+counted (line ∷ lines) count few =
+    let higher = one_higher count few in
+    let rest = counted lines (one_more count) higher.1 in
+    omega (arith, higher.0, rest)
+
+number_later : (count more n : ℕ) (lines : List Line) → more ≡ one_more count → n ≡ one_more (count_with more lines) → (one_more count ≤ n) × (n < 2 ^ 64)
+number_later count more n lines is number =
+    let low : more < 2 ^ 64 = grind (arith, is) in
+    let high = counted lines more low in
+    grind (arith, is, number, high, low)
+
 wrong_more : (p q : Place) (left now : Option (List ℕ)) (count more : ℕ) (line : Line) → GaveLine left (line_text line) now → MayFollow p line → q ≡ after_line p line → more ≡ one_more count →
     (n : ℕ) → IsFirstWrongIn q now more n → IsFirstWrongIn p left count n
 unfolding AreLines place_after count_with
-wrong_more p q None now count more line gave fits there is n w = tt
+wrong_more p q None None count more line gave fits there is n w = (later count n (subst (λ k. one_more k ≤ n) is w.0), w.1)
+wrong_more p q None (Some rest) count more line gave fits there is n w = number_later count more n w.before is w.number
 wrong_more p q (Some text) None count more line gave fits there is n w = absurd gave
 wrong_more p q (Some text) (Some rest) count more line gave fits there is n w = record {
   before = line ∷ w.before;
@@ -69,7 +92,7 @@ wrong_more p q (Some text) (Some rest) count more line gave fits there is n w = 
 -- the first of these lines is wrong
 pub wrong_first : (p : Place) (left : Option (List ℕ)) (count n : ℕ) → n ≡ one_more count → IsWrongNext p left → IsFirstWrongIn p left count n
 unfolding AreLines place_after count_with
-wrong_first p None count n is wrong = tt
+wrong_first p None count n is wrong = grind (arith, is)
 wrong_first p (Some text) count n is wrong = record { before = []; others = text_lines text; spelled = refl; follow = tt; wrong = wrong; number = is }
 
 -- a line was read, and the course was fed with it

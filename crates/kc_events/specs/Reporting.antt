@@ -1,5 +1,5 @@
 -- The run whose trace a source gives, reported one step at a time (this kit's own).
-use Rattle.std.specs.Prelude.{◌≡◌, ℕ, Option, Some, None, Result, Ok, Err, List, [], ◌∷◌, ◌++◌, map}
+use Rattle.std.specs.Prelude.{◌≡◌, ℕ, ◌<◌, ◌≤◌, ◌^◌, Option, Some, None, Result, Ok, Err, List, [], ◌∷◌, ◌++◌, map}
 use Rattle.kc_base.specs.TextLines.{text_lines}
 use Rattle.kc_stim.specs.Drives.{Drives}
 use Rattle.kc_events.specs.declared.line.Line.{Line}
@@ -55,33 +55,19 @@ pub record IsFirstWrong (p : Place) (text : List ℕ) (count line : ℕ) : Type 
   pub wrong : IsWrong (place_after p before) others
   pub number : line ≡ one_more (count_with count before)
 
+-- The same where the source may not report its text: its number is that of a line that was not asked for yet.
 abbrev pub IsFirstWrongIn : Place → Option (List ℕ) → ℕ → ℕ → Type 0
-IsFirstWrongIn p None count line = Unit {0}
+IsFirstWrongIn p None count line = (one_more count ≤ line) × (line < 2 ^ 64)
 IsFirstWrongIn p (Some text) count line = IsFirstWrong p text count line
-
--- of the text that is left, the line of this number is the first wrong one
-abbrev pub IsWrongAt : Reporting → ℕ → Type 0
-IsWrongAt t line = IsFirstWrongIn (place_in t.trace.reader) t.trace.left t.trace.count line
-
--- behind these steps those to come now are to come, and the first wrong line is the same
-pub record IsBehind (old : Reporting) (passed : List Seen) (new : Reporting) : Type 0 where
-  pub steps : (steps : List Seen) → AreToCome new steps → AreToCome old (passed ++ steps)
-  pub wrong : (line : ℕ) → IsWrongAt new line → IsWrongAt old line
 
 -- What is answered: a step, and the steps to come are those behind it; none, where none is to come; the first line that no board
 -- prints there; or the source has failed, and the same steps are to come.
 abbrev pub IsAnswer : Reporting → Result (Option Step) LivesFault → Reporting → Type 0
-IsAnswer old (Ok (Some step)) new = IsBehind old (seen_by step new.course ∷ []) new
+IsAnswer old (Ok (Some step)) new = (steps : List Seen) → AreToCome new steps → AreToCome old (seen_by step new.course ∷ steps)
 IsAnswer old (Ok None) new = AreToCome old []
-IsAnswer old (Err (BadTrace line)) new = IsWrongAt old line
-IsAnswer old (Err Failed) new = Rose old.trace.faults new.trace.faults × IsBehind old [] new
+IsAnswer old (Err (BadTrace line)) new = IsFirstWrongIn (place_in old.trace.reader) old.trace.left old.trace.count line
+IsAnswer old (Err Failed) new = Rose old.trace.faults new.trace.faults × ((steps : List Seen) → AreToCome new steps → AreToCome old steps)
 IsAnswer old (Err NoMemory) new = Unit {0}
-
--- the fault behind which no step is reported any more
-abbrev pub stop_of : Result (Option Step) LivesFault → Option LivesFault
-stop_of (Err (BadTrace line)) = Some (BadTrace line)
-stop_of (Err NoMemory) = Some NoMemory
-stop_of _ = None
 
 -- the next call may go on
 abbrev pub MayGoOn : Result (Option Step) LivesFault → Type 0
