@@ -1,5 +1,6 @@
 // The real files and standard input, read piece by piece. They report nothing of what they hold: only their faults are counted.
-ghost use Rattle.std.specs.Prelude.{◌≡◌, ◌≢◌, None, Err};
+ghost use Rattle.std.specs.Prelude.{◌≡◌, ◌≢◌, None, Ok, Err, codes};
+ghost use Rattle.kc_kit_streams.specs.declared.host_reader.HostReader.TheVariants as reader;
 
 use crate::counted::Counted;
 use crate::host_reader::HostReader;
@@ -78,7 +79,9 @@ fn opened<R: FileSystem, I: Read + Drop>(
     input: I,
     name: &str,
 ) -> Result<HostReader<I, R::File>, FileFault>
-    ensures { result ≢ Err FileFault.TooLong }
+    ensures input { name.now ≡ codes "-" → result ≡ Ok (reader.Input input) }
+    ensures file { name.now ≢ codes "-" → result ≢ Ok (reader.Input input) }
+    ensures not_long { result ≢ Err FileFault.TooLong }
 {
     if name == "-" {
         return Ok(HostReader::Input(input));
