@@ -25,6 +25,8 @@ pub struct HostStreams<'a, R: FileSystem + RandomSource, I: Read + Copy + Drop> 
 impl<'a, R: FileSystem + RandomSource, I: Read + Copy + Drop> HostStreams<'a, R, I> {
     /// The files and standard input, of which no read and no write has failed, for the process of this number.
     pub fn new(system: &'a R, process: u32, input: I) -> Self
+        ensures process { result.files.process ≡ process }
+        ensures input { result.input ≡ input }
         ensures reads { result.read_faults ≡ 0 }
         ensures writes { result.write_faults ≡ 0 }
     {
@@ -38,7 +40,9 @@ impl<'a, R: FileSystem + RandomSource, I: Read + Copy + Drop> HostStreams<'a, R,
     }
 
     /// What stood in the way of the last write, where that has failed.
-    pub fn hindrance(&self) -> Option<io::Error> {
+    pub fn hindrance(&self) -> Option<io::Error>
+        ensures { result ≡ self.now.files.hindrance }
+    {
         self.files.hindrance()
     }
 }
