@@ -1,5 +1,6 @@
 // The real files and standard input, read piece by piece. They report nothing of what they hold: only their faults are counted.
-ghost use Rattle.std.specs.Prelude.{◌≡◌, ◌≢◌, None, Err};
+ghost use Rattle.std.specs.Prelude.{◌≡◌, ◌≢◌, None, Ok, Err, codes};
+ghost use Rattle.kc_kit_streams.specs.declared.host_reader.HostReader.TheVariants as reader;
 
 use crate::counted::Counted;
 use crate::host_reader::HostReader;
@@ -24,6 +25,8 @@ pub struct HostStreams<'a, R: FileSystem + RandomSource, I: Read + Copy + Drop> 
 impl<'a, R: FileSystem + RandomSource, I: Read + Copy + Drop> HostStreams<'a, R, I> {
     /// The files and standard input, of which no read and no write has failed, for the process of this number.
     pub fn new(system: &'a R, process: u32, input: I) -> Self
+        ensures process { result.files.process ≡ process }
+        ensures input { result.input ≡ input }
         ensures reads { result.read_faults ≡ 0 }
         ensures writes { result.write_faults ≡ 0 }
     {
@@ -37,7 +40,9 @@ impl<'a, R: FileSystem + RandomSource, I: Read + Copy + Drop> HostStreams<'a, R,
     }
 
     /// What stood in the way of the last write, where that has failed.
-    pub fn hindrance(&self) -> Option<io::Error> {
+    pub fn hindrance(&self) -> Option<io::Error>
+        ensures { result ≡ self.now.files.hindrance }
+    {
         self.files.hindrance()
     }
 }
@@ -78,7 +83,9 @@ fn opened<R: FileSystem, I: Read + Drop>(
     input: I,
     name: &str,
 ) -> Result<HostReader<I, R::File>, FileFault>
-    ensures { result ≢ Err FileFault.TooLong }
+    ensures input { name.now ≡ codes "-" → result ≡ Ok (reader.Input input) }
+    ensures file { name.now ≢ codes "-" → result ≢ Ok (reader.Input input) }
+    ensures not_long { result ≢ Err FileFault.TooLong }
 {
     if name == "-" {
         return Ok(HostReader::Input(input));

@@ -1,4 +1,4 @@
-ghost use Rattle.std.specs.Prelude.{◌≡◌, ◌≢◌, ◌<◌, ◌≤◌, None, Err, IfOk};
+ghost use Rattle.std.specs.Prelude.{◌≡◌, ◌≢◌, ◌<◌, ◌≤◌, ◌+◌, None, Err, IfOk};
 ghost use Rattle.kc_base.specs.Causes.{Rose};
 ghost use Rattle.kc_base.specs.Held.{Reported};
 
@@ -14,11 +14,12 @@ pub trait Streams: Files {
     /// Opens the file of this name: its bytes are to come.
     fn open(&mut self, alloc: Global, name: &str) -> Result<Self::Stream, FileFault>
         ensures bytes { Reported (Self.held self.old) (λ held. IfOk result (λ stream. (held name.now ≢ None) × (Self.Stream.to_come stream ≡ held name.now))) }
-        ensures calm { IfOk result (λ stream. Self.Stream.faults stream ≡ 0) }
+        ensures fresh { IfOk result (λ stream. Self.Stream.faults stream ≡ 0) }
 
         ensures missing { Reported (Self.held self.old) (λ held. result ≡ Err FileFault.Missing → held name.now ≡ None) }
         ensures not_long { result ≢ Err FileFault.TooLong }
         ensures failed { result ≡ Err FileFault.Failed → Rose (Self.read_faults self.old) (Self.read_faults self.new) }
+        ensures calm { result ≢ Err FileFault.Failed → Self.read_faults self.new ≡ Self.read_faults self.old }
 
         ensures same { Self.held self.new ≡ Self.held self.old }
         ensures later { Self.read_faults self.old ≤ Self.read_faults self.new }
@@ -27,6 +28,7 @@ pub trait Streams: Files {
     /// Closes a file: the reads of it that have failed count among those of all files.
     fn close(&mut self, stream: Self::Stream)
         ensures failed { 0 < Self.Stream.faults stream → Rose (Self.read_faults self.old) (Self.read_faults self.new) }
+        ensures counted { Self.read_faults self.new ≤ Self.read_faults self.old + Self.Stream.faults stream }
 
         ensures same { Self.held self.new ≡ Self.held self.old }
         ensures later { Self.read_faults self.old ≤ Self.read_faults self.new }

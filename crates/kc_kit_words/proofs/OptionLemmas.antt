@@ -1,5 +1,5 @@
 -- The words of a command line as strings: options are taken in pairs with their values.
-use Rattle.std.proofs.Common.{◌≡◌, ℕ, Bool, true, false, ◌&&◌, cond, List, [], ◌∷◌, length, take, drop, map, get_or, string_bytes, String, Global, ◌-◌, ◌≤◌, ◌<◌, arith, Option, Some, None, refl, sym, ap, ◌∙◌}
+use Rattle.std.proofs.Common.{◌≡◌, ℕ, Bool, true, false, ◌&&◌, cond, List, [], ◌∷◌, ◌++◌, length, take, drop, map, get_or, string_bytes, String, Global, ◌-◌, ◌≤◌, ◌<◌, arith, Option, Some, None, refl, sym, ap, ◌∙◌}
 use Rattle.std.specs.Prelude.{◌||◌, is_none, is_some, nat_eq}
 use Rattle.std.specs.List.{list_any}
 use Rattle.std.specs.Str.{bytes_eq}
@@ -109,6 +109,19 @@ is_named-first verb option value name ws x y b two f g e h is =
         ≡ ((is_some role && bytes_eq value name) || list_any (λ n. bytes_eq n name) (names_of (inputs_of verb (behind ws))))
     by None = refl
     by (Some role) = refl
+
+-- whether one of some names and a last one is this
+pub named_last : (name last : List ℕ) (names : List (List ℕ)) → list_any (λ n. bytes_eq n name) (names ++ last ∷ []) ≡ (list_any (λ n. bytes_eq n name) names || bytes_eq last name)
+named_last name last [] = by (bytes_eq last name)
+  where
+    by : (b : Bool) → (b || false) ≡ (false || b)
+    by true = refl
+    by false = refl
+named_last name last (n ∷ names) = by (bytes_eq n name) (named_last name last names)
+  where
+    by : {x y : Bool} (b : Bool) → x ≡ (y || bytes_eq last name) → (b || x) ≡ ((b || y) || bytes_eq last name)
+    by true e = refl
+    by false e = e
 
 -- ---- a hex file is one word, a listing has two, and so have a debugger and a check
 

@@ -48,6 +48,7 @@ fn is_input(name: &str, inputs: Inputs<'_>) -> bool
 }
 
 // Whether a command reads the file of this name.
+#[tactic(auto, using(crate::proofs::OptionLemmas::named_last))]
 fn reads(command: &Command<'_>, name: &str) -> bool
     ensures { result ≡ is_read (Some (asked command.now)) name.now }
 {

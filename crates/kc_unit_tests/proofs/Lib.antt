@@ -1,0 +1,3 @@
+pub mod Blinks
+pub mod Beats
+pub mod Starts
