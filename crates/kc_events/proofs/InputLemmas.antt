@@ -1,13 +1,12 @@
 -- Levels and edges of inputs.
-use Rattle.std.proofs.Common.{◌≡◌, ℕ, zero, suc, ◌+◌, ◌-◌, ◌<◌, ◌≤◌, ◌==◌, Bool, true, false, ◌&&◌, cond, inl, inr, Option, Some, None, List, [], ◌∷◌, ◌++◌, flat_map, refl, sym, ap, subst, ◌∙◌, append-nil, add-one, arith}
+use Rattle.std.proofs.Common.{◌≡◌, ℕ, zero, suc, ◌+◌, ◌-◌, ◌<◌, ◌≤◌, ◌==◌, Bool, true, false, cond, inl, inr, Option, Some, None, List, [], ◌∷◌, ◌++◌, flat_map, refl, sym, ap, subst, ◌∙◌, append-nil, add-one, arith}
 use Rattle.std.specs.List.{range_with_len}
 use Rattle.std.proofs.lemmas.Bool.{cases_Bool, cases_lt}
 use Rattle.std.proofs.lemmas.Grind.{flat_map-append}
 use Rattle.kc_base.specs.declared.types.Level.{Level}
 use Rattle.kc_base.specs.declared.types.Level.TheVariants.{Low, High}
 use Rattle.kc_base.specs.Levels.{level_of}
-use Rattle.kc_base.specs.declared.pins.Facts.{Facts}
-use Rattle.kc_base.specs.Pins.{pin_count, is_input}
+use Rattle.kc_base.specs.Pins.{pin_count, pin_facts, is_input}
 use Rattle.kc_base.proofs.PinLemmas.{no_facts, no_input}
 use Rattle.kc_life.specs.declared.life.Signal.{Signal}
 use Rattle.kc_life.specs.declared.life.Signal.TheVariants.{Output, Input}
@@ -77,7 +76,8 @@ edges_still d levels s t still h = pins_still d levels s t (range_with_len 0 pin
 -- ---- levels before state 0
 
 past_low : (pin : ℕ) → 41 ≤ pin → starts_high (Output (record { 0 = pin })) ≡ false
-past_low pin past = ap (λ (facts : Facts). facts.printed && facts.starts_high) (no_facts pin past)
+unfolding pin_facts
+past_low pin past = rw (no_facts pin past) refl
 
 -- a number of no pin has low levels
 pub start_past : (d : Drives) (base : ℕ) (signal : Signal) → 41 ≤ pin_of signal → start_levels d base signal ≡ Low

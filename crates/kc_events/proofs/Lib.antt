@@ -5,6 +5,10 @@ pub mod LineLemmas
 pub mod TraceLemmas
 pub mod PlaceLemmas
 pub mod CourseLemmas
+pub mod FedLemmas
+pub mod PassedLemmas
+pub mod StateLemmas
+pub mod StartLemmas
 pub mod InputLemmas
 pub mod StepLemmas
 pub mod DueLemmas

@@ -24,21 +24,21 @@ moving states = filter (λ s. not (is_still s.whats)) states
 
 pub events_moving : (states : List State) → events_of (moving states) ≡ events_of states
 events_moving [] = refl
-events_moving (s ∷ states) = by s.whats
+events_moving (s ∷ states) = by s.whats (events_moving states)
   where
-    by : (whats : List What) → events_of (moving (record { at = s.at; whats = whats } ∷ states)) ≡ events_in s.at whats ++ events_of states
-    by [] = events_moving states
-    by (w ∷ whats) = ap (λ (events : List Event). events_in s.at (w ∷ whats) ++ events) (events_moving states)
+    by : (whats : List What) → events_of (moving states) ≡ events_of states → events_of (moving (record { at = s.at; whats = whats } ∷ states)) ≡ events_in s.at whats ++ events_of states
+    by [] others = others
+    by (w ∷ whats) others = ap (λ (events : List Event). events_in s.at (w ∷ whats) ++ events) others
 
 seen_passes : (start : Signal → Level) (before states : List State) (rest : List Seen) → lives_seen start before (passes states ++ rest) ≡ lives_seen start (before ++ moving states) rest
 seen_passes start before [] rest = ap (λ (all : List State). lives_seen start all rest) (sym (append-nil before))
-seen_passes start before (s ∷ states) rest = by s.whats
+seen_passes start before (s ∷ states) rest = by s.whats (λ more. seen_passes start more states rest)
   where
-    by : (whats : List What) → lives_seen start before (passes (record { at = s.at; whats = whats } ∷ states) ++ rest) ≡ lives_seen start (before ++ moving (record { at = s.at; whats = whats } ∷ states)) rest
-    by [] = seen_passes start before states rest
-    by (w ∷ whats) =
+    by : (whats : List What) → ((more : List State) → lives_seen start more (passes states ++ rest) ≡ lives_seen start (more ++ moving states) rest) → lives_seen start before (passes (record { at = s.at; whats = whats } ∷ states) ++ rest) ≡ lives_seen start (before ++ moving (record { at = s.at; whats = whats } ∷ states)) rest
+    by [] others = others before
+    by (w ∷ whats) others =
         let t : State = record { at = s.at; whats = w ∷ whats } in
-        seen_passes start (before ++ t ∷ []) states rest ∙ ap (λ (all : List State). lives_seen start all rest) (append_assoc before (t ∷ []) (moving states))
+        others (before ++ t ∷ []) ∙ ap (λ (all : List State). lives_seen start all rest) (append_assoc before (t ∷ []) (moving states))
 
 seen_life : (d : Drives) (base : ℕ) (reported : List Event) (count : ℕ) (start : Signal → Level) (rest : List Seen) (lives : List Life) → ((other : Signal → Level) → lives_seen other [] rest ≡ lives) →
     lives_seen start [] (seen_of d base reported count ++ rest) ≡ life_of d base reported count ++ lives

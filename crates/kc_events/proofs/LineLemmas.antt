@@ -16,7 +16,7 @@ use Rattle.kc_events.specs.declared.line.Line.TheVariants.{Printed, Restarted}
 use Rattle.kc_events.specs.Candidates.{restart_with, restart_of}
 use Rattle.kc_events.specs.Sound.{IsSound}
 use Rattle.kc_events.specs.Lines.{reset_name, line_text, IsSoundLine}
-use Rattle.kc_events.proofs.Pins.{each_below}
+use Rattle.kc_base.proofs.PinLemmas.{each_below}
 use Rattle.kc_events.proofs.Spelled.{time-read, behind-time, time-word, two, same_line, plain, kind-small}
 
 -- ---- the end of a life

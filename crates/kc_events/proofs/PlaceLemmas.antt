@@ -1,11 +1,11 @@
 -- Where the next line stands, by what a reader keeps.
-use Rattle.std.proofs.Common.{◌≡◌, ℕ, ◌<◌, ◌==◌, true, false, not, ◌&&◌, cond, inl, inr, List, refl, sym, ap, ◌∙◌, arith}
+use Rattle.std.proofs.Common.{◌≡◌, ℕ, ◌<◌, ◌==◌, Bool, true, false, not, ◌&&◌, cond, inl, inr, List, refl, sym, ap, ◌∙◌, arith}
 use Rattle.std.proofs.lemmas.Bool.{cases_Bool, cases_lt, ne_eqb, and_parts}
 use Rattle.kc_base.specs.declared.types.Edge.{Edge}
 use Rattle.kc_base.specs.declared.types.Level.{Level}
+use Rattle.kc_base.specs.declared.types.Level.TheVariants.{Low}
 use Rattle.kc_base.specs.Levels.{level_of}
-use Rattle.kc_base.specs.declared.pins.Facts.{Facts}
-use Rattle.kc_base.specs.Pins.{IsPin, is_printed}
+use Rattle.kc_base.specs.Pins.{IsPin, is_printed, pin_facts}
 use Rattle.kc_base.proofs.PinLemmas.{no_facts}
 use Rattle.kc_life.specs.declared.life.Signal.{Signal}
 use Rattle.kc_life.specs.declared.life.Signal.TheVariants.{Output}
@@ -28,22 +28,21 @@ abbrev pub output : ℕ → Signal
 output pin = Output (record { 0 = pin })
 
 pub out_small : (pin : ℕ) → is_printed pin ≡ true → pin < 41
+unfolding pin_facts
 out_small pin is = elim (cases_lt pin 41) [
   | inl less ↦ less
-  | inr past ↦ absurd (apart (sym is ∙ ap (λ (facts : Facts). facts.printed) (no_facts pin past)))
+  | inr past ↦ absurd (apart (sym is ∙ rw (no_facts pin past) refl))
 ]
 
 pub out_low : (pin : ℕ) → is_printed pin ≡ false → starts_high (output pin) ≡ false
 out_low pin none = rw none refl
 
+level_if : (levels : Levels) → ((signal : Signal) → IsPin (pin_of signal) → level_in levels signal ≡ start_level signal) → (pin : ℕ) (b : Bool) → is_printed pin ≡ b → cond b (level_in levels (output pin)) Low ≡ start_level (output pin)
+level_if levels start pin true is = start (output pin) (out_small pin is)
+level_if levels start pin false none = ap level_of (sym (out_low pin none))
+
 pub printed_start : (levels : Levels) → ((signal : Signal) → IsPin (pin_of signal) → level_in levels signal ≡ start_level signal) → printed_levels levels ≡ (λ pin. start_level (output pin))
-printed_start levels start = λ i pin. at pin i
-  where
-    at : (pin : ℕ) → printed_levels levels pin ≡ start_level (output pin)
-    at pin = elim (cases_Bool (is_printed pin)) [
-      | inl is ↦ rw is (start (output pin) (out_small pin is))
-      | inr none ↦ rw none (ap level_of (sym (out_low pin none)))
-    ]
+printed_start levels start = λ i pin. level_if levels start pin (is_printed pin) refl i
 
 pub printed_moved : (old new : Levels) (pin : ℕ) (level : Level) → is_printed pin ≡ true →
     ((signal : Signal) → level_in new signal ≡ cond (same_signal signal (output pin)) level (level_in old signal)) → printed_levels new ≡ moved_to pin level (printed_levels old)

@@ -18,7 +18,9 @@ use Rattle.kc_events.specs.Steps.{Seen, Passes, Ends, steps_with}
 use Rattle.kc_events.specs.Coming.{Present, start_of, rest_by, events_ahead, others_of, rest_at, steps_to_come, AreFrom, state_behind, AreDueIf, MayCome, MayBeNext, behind, GoesOn, IsBeyond, HasSameRest, HasPassed, IsFed, IsStillIn}
 use Rattle.kc_events.specs.Underway.{Underway, present_in, running_in, state_passed, needs_line, GoesIfAhead, Gives, ReportsNone, Stepped, IsSameLife}
 use Rattle.kc_events.proofs.InputLemmas.{edges_still}
-use Rattle.kc_events.proofs.CourseLemmas.{at-begun, at-pushed, by-start, last_of, at_end, has_passed, has_skipped, later_at}
+use Rattle.kc_events.proofs.CourseLemmas.{at-begun, at-pushed, last_of, at_end}
+use Rattle.kc_events.proofs.StartLemmas.{by-start}
+use Rattle.kc_events.proofs.PassedLemmas.{has_passed, has_skipped, later_at}
 
 -- ---- a line is fed
 

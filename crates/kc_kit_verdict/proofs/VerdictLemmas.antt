@@ -115,7 +115,7 @@ run_verdict : (name text : List ℕ) (book : Book) (drives : Drives) (left : Opt
     HasWatched v steps w → IsVerdict name text w.rules.rules w.monitors.items verdict → IsRunVerdict name text book drives left verdict
 run_verdict name text book drives left v w steps verdict new are watched is =
     let seen = runs_are_seen book drives are.lines v w are.run new (subst (λ all. HasWatched v all w) are.reported watched) in
-    let rules : w.rules.rules ≡ book.rules = ap (λ (b : Book). b.rules) (rules_stay steps v w watched) ∙ new.rules_are in
+    let rules : w.rules.rules ≡ book.rules = ap (λ b. b.rules) (rules_stay steps v w watched) ∙ new.rules_are in
     let count = count_lives are.lines in
     let lives = lives_of drives are.lines in
     let broken : broken_by w.rules.rules w.monitors.items ≡ broken_in book lives =
@@ -143,19 +143,9 @@ run_checked name text book drives left t v w (Err NoMemory) result new start wro
 
 pub faults_counted : {A : Type 0} (P : Verdict → Type 0) (before now : ℕ) (watched : Result A LivesFault) (result : Result Verdict LivesFault) → IsPassedOn watched P result → Counts before watched now → Counts before result now
 faults_counted P before now (Ok u) (Ok verdict) is h = h
-faults_counted P before now (Ok u) (Err e) is h = subst (λ (f : LivesFault). Counts before (err_of f) now) (sym is) h
-  where
-    err_of : LivesFault → Result Verdict LivesFault
-    err_of f = Err f
-faults_counted P before now (Err e) result is h = subst (λ (r : Result Verdict LivesFault). Counts before r now) (sym is) (same_fault e h)
-  where
-    watched_by : LivesFault → Result A LivesFault
-    watched_by e = Err e
-
-    given_by : LivesFault → Result Verdict LivesFault
-    given_by e = Err e
-
-    same_fault : (e : LivesFault) → Counts before (watched_by e) now → Counts before (given_by e) now
-    same_fault (BadTrace line) h = h
-    same_fault Failed h = h
-    same_fault NoMemory h = h
+faults_counted P before now (Ok u) (Err (BadTrace line)) is h = h
+faults_counted P before now (Ok u) (Err Failed) is h = absurd cc
+faults_counted P before now (Ok u) (Err NoMemory) is h = h
+faults_counted P before now (Err (BadTrace line)) result is h = subst (λ r. Counts before r now) (sym is) h
+faults_counted P before now (Err Failed) result is h = subst (λ r. Counts before r now) (sym is) h
+faults_counted P before now (Err NoMemory) result is h = subst (λ r. Counts before r now) (sym is) h

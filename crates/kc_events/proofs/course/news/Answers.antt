@@ -2,7 +2,7 @@ use Rattle.std.proofs.Common.{◌+◌, true, Some, sym, subst}
 use Rattle.kc_events.specs.declared.line.Line.TheVariants.{Restarted}
 use Rattle.kc_events.specs.declared.course.Known.TheVariants.{Ending}
 use Rattle.kc_events.specs.Coming.{IsFed}
-use Rattle.kc_events.proofs.CourseLemmas.{fed_restart}
+use Rattle.kc_events.proofs.FedLemmas.{fed_restart}
 use Rattle.kc_events.proofs.course.news.Goals as goal
 
 pub returns-in-Printed-clause-end : goal.returns-in-Printed-clause-end

@@ -3,7 +3,7 @@ use Rattle.kc_trace.specs.declared.record.Record.TheVariants.{Stopped}
 use Rattle.kc_events.specs.declared.line.Line.TheVariants.{Printed}
 use Rattle.kc_events.specs.declared.course.Known.TheVariants.{Living, Ending}
 use Rattle.kc_events.specs.Coming.{IsFed}
-use Rattle.kc_events.proofs.CourseLemmas.{fed_end, fed_record, no_end}
+use Rattle.kc_events.proofs.FedLemmas.{fed_end, fed_record, no_end}
 use Rattle.kc_events.proofs.course.record_news.Goals as goal
 
 pub returns-in-Stopped-clause-fed : goal.returns-in-Stopped-clause-fed
