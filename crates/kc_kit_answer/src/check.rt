@@ -1,5 +1,6 @@
 // The command that checks a trace by timing rules.
 ghost use Rattle.std.specs.Prelude.{◌≡◌, ◌≤◌, length, map};
+ghost use Rattle.kc_base.specs.Limits.{file_limit};
 ghost use Rattle.kc_base.specs.Causes.{Rose};
 ghost use Rattle.kc_kit_files.specs.Outside.{OnlyRead};
 ghost use Rattle.kc_kit_files.specs.Reads.{AllShort};
@@ -53,7 +54,7 @@ fn check_stream<'a, F: Streams>(
     files: &mut F,
 ) -> Result<Job<'a>, Refusal>
     requires clock { 1 ≤ check.now.clock }
-    requires short { length text.now ≤ 1048576 }
+    requires short { length text.now ≤ file_limit }
     requires inputs { AllShort (map (λ t. t.items) inputs.now) }
     requires calm { F.Stream.faults stream ≡ 0 }
     ensures answer { IsChecked (F.Stream.to_come stream) (MayCheck check.now.trace.now (Rose (F.read_faults files.old) (F.read_faults files.new))
