@@ -273,7 +273,7 @@ restart_early p (stage.Over n) at fits = absurd (differ fits)
 
 few_restarts : (p : Place) (lines : List Line) → p.base ≤ 10 ^ 15 + 1 → AreLines p lines → length (filter is_restart lines) + p.base ≤ 10 ^ 15 + 1
 unfolding AreLines
-few_restarts p [] early h = early
+few_restarts p [] early h = omega (arith, early)
 few_restarts p (Printed item ∷ lines) early h =
     let same = same_base p item in
     let few = few_restarts (after_line p (Printed item)) lines (subst (λ n. n ≤ 10 ^ 15 + 1) (sym same) early) h.1 in
