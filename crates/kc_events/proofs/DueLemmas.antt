@@ -1,17 +1,16 @@
 -- Lines that end a run report what happens in the order of states.
-use Rattle.std.proofs.Common.{◌≡◌, ℕ, zero, suc, ◌+◌, ◌-◌, ◌<◌, ◌≤◌, ◌^◌, ◌==◌, Bool, true, false, not, ◌&&◌, leb, ltb, List, [], ◌∷◌, refl, sym, ap, ◌∙◌, arith}
-use Rattle.std.specs.Prelude.{nat_le, nat_lt}
+use Rattle.std.proofs.Common.{◌≡◌, ℕ, zero, suc, ◌+◌, ◌-◌, ◌≤◌, ◌^◌, ◌==◌, true, false, not, ◌&&◌, List, [], ◌∷◌, sym, ◌∙◌, arith}
+use Rattle.std.specs.Prelude.{nat_le}
 use Rattle.std.proofs.lemmas.Bool.{leb-true, eqb-true, and_parts}
 use Rattle.std.proofs.lemmas.Bool.Decides.{nat_tests}
 use Rattle.kc_base.specs.declared.types.Level.{Level}
 use Rattle.kc_base.specs.Pins.{is_printed}
-use Rattle.kc_trace.specs.declared.record.Record.{Record}
 use Rattle.kc_trace.specs.declared.record.Record.TheVariants.{Pin, Entered, Served, Undef, Stopped, Pc, Psw, Wsr, Registers}
 use Rattle.kc_events.specs.declared.line.Line.{Line}
 use Rattle.kc_events.specs.declared.line.Line.TheVariants.{Printed, Restarted}
 use Rattle.kc_events.specs.declared.reader.Stage.{Stage}
-use Rattle.kc_events.specs.declared.reader.Stage.TheVariants.{Living, Broken, Over}
-use Rattle.kc_events.specs.Grammar.{Place, start_place, same_level, is_in_order, is_end, MayFollow, AreLines, place_after, after_line, is_over, IsRun, moved_to}
+use Rattle.kc_events.specs.declared.reader.Stage.TheVariants.{Living, Broken}
+use Rattle.kc_events.specs.Grammar.{Place, start_place, same_level, is_in_order, is_end, AreLines, place_after, is_over, IsRun, moved_to}
 use Rattle.kc_events.specs.Lives.{end_event, count_at}
 use Rattle.kc_events.specs.Coming.{AreFrom, AreDue}
 

@@ -1,5 +1,5 @@
 -- The lives of a run, by its steps.
-use Rattle.std.proofs.Common.{◌≡◌, ℕ, zero, suc, ◌+◌, ◌-◌, ◌<◌, ◌≤◌, ◌^◌, Bool, true, false, List, [], ◌∷◌, ◌++◌, map, filter, flat_map, not, refl, sym, ap, ◌∙◌, append_assoc, append-nil, arith}
+use Rattle.std.proofs.Common.{◌≡◌, ℕ, zero, suc, ◌+◌, ◌≤◌, ◌^◌, List, [], ◌∷◌, ◌++◌, filter, not, refl, sym, ap, ◌∙◌, append_assoc, append-nil, arith}
 use Rattle.std.specs.Prelude.{All}
 use Rattle.std.proofs.lemmas.List.Elements.{All-nil, All-cons}
 use Rattle.kc_base.specs.declared.types.Level.{Level}
@@ -12,8 +12,8 @@ use Rattle.kc_trace.specs.declared.record.Record.TheVariants.{Pin, Entered, Serv
 use Rattle.kc_events.specs.declared.line.Line.{Line}
 use Rattle.kc_events.specs.declared.line.Line.TheVariants.{Printed, Restarted}
 use Rattle.kc_events.specs.Grammar.{Place, start_place, AreLines, after_line}
-use Rattle.kc_events.specs.Lives.{input_edges, start_levels, levels_after, reported_in, states_from, life_of, event_of, end_event, count_at, restart_event, lives_with, lives_of}
-use Rattle.kc_events.specs.Steps.{Seen, Begins, Passes, Ends, is_still, passes, seen_of, steps_with, lives_seen}
+use Rattle.kc_events.specs.Lives.{input_edges, start_levels, levels_after, reported_in, states_from, life_of, event_of, end_event, count_at, restart_event, lives_with}
+use Rattle.kc_events.specs.Steps.{Seen, Ends, is_still, passes, seen_of, steps_with, lives_seen}
 use Rattle.kc_events.specs.Laws.{StepsMakeLives, LivesAreLives}
 
 -- ---- the steps of a life make it up

@@ -1,22 +1,17 @@
 -- States of a run pass.
-use Rattle.std.proofs.Common.{◌≡◌, ℕ, zero, suc, ◌+◌, ◌-◌, ◌<◌, ◌≤◌, Bool, true, false, cond, eqb, not, Option, Some, None, List, [], ◌∷◌, ◌++◌, map, filter, flat_map, refl, sym, ap, subst, ◌∙◌, append_assoc, append-nil, arith}
-use Rattle.std.proofs.lemmas.Bool.{ne_eqb, eq-eqb}
-use Rattle.kc_base.specs.declared.types.Level.{Level}
-use Rattle.kc_life.specs.declared.life.Signal.{Signal}
+use Rattle.std.proofs.Common.{◌≡◌, ℕ, zero, suc, ◌+◌, ◌-◌, ◌<◌, ◌≤◌, true, List, [], ◌∷◌, ◌++◌, refl, sym, ap, subst, ◌∙◌, append_assoc, arith}
 use Rattle.kc_life.specs.declared.life.What.{What}
 use Rattle.kc_life.specs.declared.life.Event.{Event}
 use Rattle.kc_life.specs.Lives.{State}
-use Rattle.kc_stim.specs.Drives.{Drives}
-use Rattle.kc_trace.specs.declared.record.Record.{Record}
 use Rattle.kc_trace.specs.declared.record.Record.TheVariants.{Pin, Entered, Served, Undef, Stopped, Pc, Psw, Wsr, Registers}
 use Rattle.kc_events.specs.declared.line.Line.{Line}
 use Rattle.kc_events.specs.declared.line.Line.TheVariants.{Printed, Restarted}
 use Rattle.kc_events.specs.declared.course.Known.{Known}
 use Rattle.kc_events.specs.declared.course.Known.TheVariants.{Living, Ending, Ended}
-use Rattle.kc_events.specs.Lives.{input_edges, start_levels, levels_after, reported_in, states_from, event_of, end_event, count_at, restart_event}
-use Rattle.kc_events.specs.Steps.{Seen, Begins, Passes, Ends, passes, seen_of, steps_with}
-use Rattle.kc_events.specs.Coming.{Present, start_of, states_on, begin_of, rest_of, rest_by, events_ahead, others_of, rest_at, AreFrom, state_behind, AreDue, AreDueIf, MayCome, behind, GoesOn, IsBeyond, HasSameRest, HasPassed, IsFed}
-use Rattle.kc_events.proofs.StateLemmas.{from-append, from-less, states-on, states-pushed, states-passed}
+use Rattle.kc_events.specs.Lives.{input_edges, levels_after, event_of, end_event, count_at, restart_event}
+use Rattle.kc_events.specs.Steps.{Seen, Passes, Ends, passes, steps_with}
+use Rattle.kc_events.specs.Coming.{Present, states_on, begin_of, rest_of, rest_by, others_of, rest_at, AreFrom, state_behind, AreDue, MayCome, behind, GoesOn, IsBeyond, HasSameRest, HasPassed}
+use Rattle.kc_events.proofs.StateLemmas.{from-append, from-less, states-passed}
 
 -- ---- a state passes
 

@@ -1,5 +1,5 @@
 -- The steps of a run whose trace is read line by line.
-use Rattle.std.proofs.Common.{◌≡◌, ℕ, ◌+◌, ◌-◌, ◌≤◌, ◌^◌, Bool, true, false, Option, Some, None, Result, Ok, Err, List, [], ◌∷◌, ◌++◌, map, refl, sym, ap, subst, ◌∙◌, arith}
+use Rattle.std.proofs.Common.{◌≡◌, ℕ, ◌+◌, ◌≤◌, ◌^◌, true, false, Option, Some, None, Result, Ok, Err, List, [], ◌∷◌, refl, sym, ap, subst, ◌∙◌}
 use Rattle.std.specs.Prelude.{nat_le}
 use Rattle.std.specs.Io.KnownBytes.{Keeps, IsAtEnd}
 use Rattle.std.proofs.lemmas.Bool.{leb-true, and_parts}
@@ -20,13 +20,13 @@ use Rattle.kc_events.specs.declared.course.Known.TheVariants.{Living, Ending, En
 use Rattle.kc_events.specs.declared.lives.LivesFault.{LivesFault}
 use Rattle.kc_events.specs.declared.lives.LivesFault.TheVariants.{BadTrace, Failed, NoMemory}
 use Rattle.kc_events.specs.Lines.{line_text}
-use Rattle.kc_events.specs.Grammar.{Place, start_place, is_in_order, may_restart, may_follow, MayFollow, after_line, AreLines, place_after, is_over, IsRun}
+use Rattle.kc_events.specs.Grammar.{Place, start_place, may_restart, may_follow, MayFollow, after_line, AreLines, place_after, is_over, IsRun}
 use Rattle.kc_events.specs.Printed.{place_in}
 use Rattle.kc_events.specs.Reading.{Reading, GaveNext, IsWrong, IsWrongNext, one_more}
 use Rattle.kc_events.specs.Steps.{Seen}
 use Rattle.kc_events.specs.Coming.{Present, start_of, rest_by, events_ahead, rest_at, steps_to_come, AreFrom, AreDue, state_behind, MayCome, MayBeNext, IsStillIn}
 use Rattle.kc_events.specs.Underway.{Underway, present_in, running_in, seen_by, needs_line, base_ahead, base_behind, IsOpen, IsEarly, Gives, ReportsNone, KeepsBase}
-use Rattle.kc_events.specs.Reporting.{Reporting, HasText, AreToCome, AreStepsOf, count_with, IsFirstWrong, IsFirstWrongIn, IsBehind, IsAnswer, IsInStep, reporting, HasRead}
+use Rattle.kc_events.specs.Reporting.{Reporting, HasText, AreToCome, AreStepsOf, count_with, IsFirstWrongIn, IsBehind, IsAnswer, IsInStep, reporting, HasRead}
 use Rattle.kc_events.proofs.StartLemmas.{by-start}
 use Rattle.kc_events.proofs.DueLemmas.{due_start}
 

@@ -1,11 +1,12 @@
 -- The steps of a run, by what a course keeps of it.
-use Rattle.std.proofs.Common.{◌≡◌, ℕ, zero, suc, ◌+◌, ◌-◌, ◌<◌, ◌≤◌, Bool, true, false, Option, Some, None, List, [], ◌∷◌, ◌++◌, refl, sym, ap, subst, ◌∙◌, arith}
+use Rattle.std.proofs.Common.{◌≡◌, ℕ, zero, suc, ◌+◌, ◌-◌, ◌<◌, ◌≤◌, Bool, true, false, Option, Some, None, Result, Ok, Err, List, [], ◌∷◌, ◌++◌, refl, sym, ap, subst, ◌∙◌, arith}
+use Rattle.std.specs.Prelude.{IfOk}
 use Rattle.kc_base.specs.declared.types.Level.{Level}
 use Rattle.kc_life.specs.declared.life.Signal.{Signal}
 use Rattle.kc_life.specs.declared.life.What.{What}
 use Rattle.kc_life.specs.declared.life.Event.{Event}
 use Rattle.kc_life.specs.declared.levels.Levels.{Levels}
-use Rattle.kc_life.specs.Lives.{State, level_after}
+use Rattle.kc_life.specs.Lives.{level_after}
 use Rattle.kc_life.specs.Tables.{level_in}
 use Rattle.kc_stim.specs.Drives.{Drives, IsStill}
 use Rattle.kc_events.specs.declared.line.Line.{Line}
@@ -14,13 +15,13 @@ use Rattle.kc_events.specs.declared.course.Step.TheVariants as step
 use Rattle.kc_events.specs.declared.course.Known.{Known}
 use Rattle.kc_events.specs.declared.course.Known.TheVariants.{Living, Ending, Ended}
 use Rattle.kc_events.specs.Lives.{input_edges, start_levels}
-use Rattle.kc_events.specs.Steps.{Seen, Passes, Ends, steps_with}
+use Rattle.kc_events.specs.Steps.{Seen, Passes, Ends}
 use Rattle.kc_events.specs.Coming.{Present, start_of, rest_by, events_ahead, others_of, rest_at, steps_to_come, AreFrom, state_behind, AreDueIf, MayCome, MayBeNext, behind, GoesOn, IsBeyond, HasSameRest, HasPassed, IsFed, IsStillIn}
 use Rattle.kc_events.specs.Underway.{Underway, present_in, running_in, state_passed, needs_line, GoesIfAhead, Gives, ReportsNone, Stepped, IsSameLife}
 use Rattle.kc_events.proofs.InputLemmas.{edges_still}
 use Rattle.kc_events.proofs.CourseLemmas.{at-begun, at-pushed, last_of, at_end}
 use Rattle.kc_events.proofs.StartLemmas.{by-start}
-use Rattle.kc_events.proofs.PassedLemmas.{has_passed, has_skipped, later_at}
+use Rattle.kc_events.proofs.PassedLemmas.{has_passed, has_skipped}
 
 -- ---- a line is fed
 
@@ -78,6 +79,10 @@ after_none a b c (Some s) first rest = record {
   next = λ lines h. rest.next lines (first.next lines h);
 }
 
+pub after_none_ok : {E : Type 0} (a b c : Underway) (r : Result (Option Step) E) → ReportsNone a b → IfOk r (λ next. Stepped b next c) → IfOk r (λ next. Stepped a next c)
+after_none_ok a b c (Ok next) first rest = after_none a b c next first rest
+after_none_ok a b c (Err e) first rest = rest
+
 pub reports_none : (u : Underway) → ReportsNone u u
 reports_none u = record { steps = λ lines h. refl; next = λ lines h. h }
 
@@ -93,6 +98,9 @@ begins u none goes = record {
 -- lines that may come behind it
 coming_at : (u : Underway) (e : Event) (lines : List Line) → u.ahead ≡ Some e → MayBeNext (running_in u) lines → MayCome e.at u.known lines
 coming_at u e lines is h = subst (λ a. MayCome (state_behind u.time (events_ahead a)) u.known lines) is h.coming
+
+time_ahead : (u : Underway) (e : Event) (lines : List Line) → u.ahead ≡ Some e → MayBeNext (running_in u) lines → u.time ≤ e.at
+time_ahead u e lines is h = (subst (λ a. AreFrom u.time (events_ahead a)) is h.ahead).0
 
 beyond : (u : Underway) (e : Event) (lines : List Line) → u.ahead ≡ Some e → GoesOn u.known → MayBeNext (running_in u) lines → IsBeyond e.at (e ∷ []) u.known lines
 beyond u e lines is goes h = record { goes = goes; events = (omega arith, tt); coming = coming_at u e lines is h }
@@ -119,7 +127,7 @@ event_passes u w e is goes passed within life = record { steps = steps; next = n
     }
 
 -- it happens
-pub event_happens : (u w : Underway) (e : Event) → u.ahead ≡ Some e → GoesOn u.known → HasSameRest e.at (present_in u) (present_in w) → w.time ≡ e.at → IsSameLife u w →
+pub event_happens : (u w : Underway) (e : Event) → u.ahead ≡ Some e → GoesOn u.known → HasSameRest e.at (present_in u) (present_in w) → (u.time ≤ e.at → w.time ≡ e.at) → IsSameLife u w →
     ReportsNone u (record w { whats = w.whats ++ e.what ∷ []; ahead = None })
 event_happens u w e is goes rest there life = record { steps = steps; next = next }
   where
@@ -127,13 +135,13 @@ event_happens u w e is goes rest there life = record { steps = steps; next = nex
     steps lines h =
         (λ i. rest_at (present_in u) (events_ahead (is i)) u.known lines)
         ∙ rest (e ∷ []) u.known lines (beyond u e lines is goes h)
-        ∙ at-pushed (present_in w) e u.known lines (sym there)
+        ∙ at-pushed (present_in w) e u.known lines (sym (there (time_ahead u e lines is h)))
         ∙ (λ i. rest_at (record (present_in w) { whats = w.whats ++ e.what ∷ [] }) [] (sym life.known i) lines)
 
     next : (lines : List Line) → MayBeNext (running_in u) lines → MayBeNext (running_in (record w { whats = w.whats ++ e.what ∷ []; ahead = None })) lines
     next lines h = record {
       ahead = tt;
-      coming = subst (λ k. MayCome w.time k lines) (sym life.known) (subst (λ t. MayCome t u.known lines) (sym there) (coming_at u e lines is h));
+      coming = subst (λ k. MayCome w.time k lines) (sym life.known) (subst (λ t. MayCome t u.known lines) (sym (there (time_ahead u e lines is h))) (coming_at u e lines is h));
     }
 
 -- ---- the end is known
@@ -142,6 +150,11 @@ due_at_end : (u : Underway) (count : ℕ) (is_followed : Bool) (lines : List Lin
 due_at_end u count is_followed lines none known h =
     let first = subst (λ a. MayCome (state_behind u.time (events_ahead a)) u.known lines) none h.coming in
     (subst (λ k. MayCome u.time k lines) known first).1
+
+time_end : (u : Underway) (count : ℕ) (is_followed : Bool) (lines : List Line) → u.ahead ≡ None → u.known ≡ Ending count is_followed → MayBeNext (running_in u) lines → u.time ≤ count
+time_end u count is_followed lines none known h =
+    let first = subst (λ a. MayCome (state_behind u.time (events_ahead a)) u.known lines) none h.coming in
+    (subst (λ k. MayCome u.time k lines) known first).0
 
 beyond_end : (count : ℕ) (is_followed : Bool) (lines : List Line) → AreDueIf is_followed lines → IsBeyond count [] (Ending count is_followed) lines
 beyond_end count is_followed lines due = record { goes = tt; events = tt; coming = (omega arith, due) }
@@ -166,13 +179,13 @@ end_passes u w count is_followed none known passed within life = record { steps 
 
 -- it comes
 module _ (u w v : Underway) (count : ℕ) (is_followed : Bool) (none : u.ahead ≡ None) (known : u.known ≡ Ending count is_followed) (same : HasSameRest count (present_in u) (present_in w))
-    (there : w.time ≡ count) (begun : w.has_begun ≡ true) (rest : (lines : List Line) → rest_at (present_in v) [] v.known lines ≡ others_of is_followed w.drives (w.base + count) lines)
+    (there : u.time ≤ count → w.time ≡ count) (begun : w.has_begun ≡ true) (rest : (lines : List Line) → rest_at (present_in v) [] v.known lines ≡ others_of is_followed w.drives (w.base + count) lines)
     (none_then : v.ahead ≡ None) (coming : (lines : List Line) → AreDueIf is_followed lines → MayCome v.time v.known lines) where
   end_steps : (lines : List Line) → MayBeNext (running_in u) lines → steps_to_come (running_in u) lines ≡ last_of count ++ steps_to_come (running_in v) lines
   end_steps lines h =
       (λ i. rest_at (present_in u) (events_ahead (none i)) (known i) lines)
       ∙ same [] (Ending count is_followed) lines (beyond_end count is_followed lines (due_at_end u count is_followed lines none known h))
-      ∙ at_end (present_in w) count is_followed lines begun there
+      ∙ at_end (present_in w) count is_followed lines begun (there (time_end u count is_followed lines none known h))
       ∙ ap (λ (seen : List Seen). last_of count ++ seen) (sym (rest lines))
       ∙ (λ i. last_of count ++ rest_at (present_in v) (events_ahead (sym none_then i)) v.known lines)
 

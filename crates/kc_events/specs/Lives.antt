@@ -4,7 +4,7 @@
 -- In each state inputs take their levels first, in the order of their pins: a wired one that of its output at the end of the state
 -- before, another one that of the stimuli, which count the states of the run. Then comes what is printed, in its order, and in the
 -- last state of a life what has ended it, where that is no undefined use, which has a line of its own.
-use Rattle.std.specs.Prelude.{ℕ, zero, suc, ◌+◌, ◌-◌, ◌==◌, if◌then◌else◌, Bool, true, false, not, Option, Some, None, List, [], ◌∷◌, ◌++◌, map, filter, flat_map}
+use Rattle.std.specs.Prelude.{ℕ, zero, suc, ◌+◌, ◌==◌, if◌then◌else◌, Bool, Option, Some, None, List, [], ◌∷◌, ◌++◌, map, filter, flat_map}
 use Rattle.std.specs.List.{range_with_len}
 use Rattle.kc_base.specs.declared.types.Level.{Level}
 use Rattle.kc_base.specs.declared.types.Level.TheVariants.{Low}
@@ -19,7 +19,7 @@ use Rattle.kc_life.specs.Signals.{start_level}
 use Rattle.kc_life.specs.Lives.{Life, State, level_after, events_of}
 use Rattle.kc_stim.specs.Drives.{Drives, wire_to, level_at, level_before}
 use Rattle.kc_trace.specs.declared.record.Record.{Record}
-use Rattle.kc_trace.specs.declared.record.Record.TheVariants.{Pin, Entered, Served, Undef, Stopped, Pc, Psw, Wsr, Registers}
+use Rattle.kc_trace.specs.declared.record.Record.TheVariants.{Pin, Entered, Served, Undef, Stopped}
 use Rattle.kc_events.specs.declared.line.Line.{Line}
 use Rattle.kc_events.specs.declared.line.Line.TheVariants.{Printed, Restarted}
 use Rattle.kc_events.specs.Grammar.{same_level}

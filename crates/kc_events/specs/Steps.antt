@@ -10,7 +10,7 @@ use Rattle.kc_stim.specs.Drives.{Drives}
 use Rattle.kc_trace.specs.declared.record.Record.TheVariants.{Stopped}
 use Rattle.kc_events.specs.declared.line.Line.{Line}
 use Rattle.kc_events.specs.declared.line.Line.TheVariants.{Printed, Restarted}
-use Rattle.kc_events.specs.Lives.{start_levels, levels_after, reported_in, states_from, event_of, end_event, count_at, restart_event}
+use Rattle.kc_events.specs.Lives.{start_levels, states_from, event_of, end_event, count_at, restart_event}
 
 pub data Seen : Type 0 where
   -- a life begins, with these levels before state 0

@@ -12,7 +12,6 @@ use Rattle.kc_events.specs.declared.course.Step.{Step}
 use Rattle.kc_events.specs.declared.course.Step.TheVariants as step
 use Rattle.kc_events.specs.declared.course.Known.{Known}
 use Rattle.kc_events.specs.declared.course.Known.TheVariants.{Living, Ending, Ended}
-use Rattle.kc_events.specs.Lines.{IsSoundLine}
 use Rattle.kc_events.specs.Steps.{Seen, Begins, Passes, Ends}
 use Rattle.kc_events.specs.Coming.{Present, Running, GoesOn, steps_to_come, MayBeNext}
 

@@ -256,15 +256,28 @@ impl Course {
         ensures base { OnOk result (KeepsBase self.old self.new) }
         ensures still { OnOk result (IsStillIn (present_in self.new)) }
     {
-        if let Some(event) = self.ahead {
-            let step = self.step_to(event)?;
-            if step.is_some() {
-                return Ok(step);
-            }
+        let step = self.step_ahead()?;
+        if step.is_some() {
+            return Ok(step);
         }
         match self.known {
             Known::Ending { count, is_followed } => self.finish(count, is_followed),
             _ => Ok(None),
+        }
+    }
+
+    // The next step on the way to the event that is reported; none, where it has happened, or none is reported.
+    fn step_ahead(&mut self) -> Result<Option<Step>, NoMemory>
+        requires { IsStillIn (present_in self.old) }
+        ensures stepped { IfOk result (λ next. Stepped self.old next self.new) }
+        ensures happened { result ≡ Ok None → self.new.ahead ≡ None }
+        ensures known { OnOk result (self.new.known ≡ self.old.known) }
+        ensures base { OnOk result (self.new.base ≡ self.old.base) }
+        ensures still { OnOk result (IsStillIn (present_in self.new)) }
+    {
+        match self.ahead {
+            Some(event) => self.step_to(event),
+            None => Ok(None),
         }
     }
 
@@ -317,7 +330,6 @@ impl Course {
 
     // Goes on to a state, or behind the first one before it in which something happens: whether there is one.
     fn reach(&mut self, at: StateTime) -> Result<bool, NoMemory>
-        requires order { self.old.time ≤ at }
         requires early { at ≤ 10 ^ 15 + 1 }
         requires begun { self.old.has_begun ≡ true }
         requires still { IsStillIn (present_in self.old) }
@@ -325,7 +337,7 @@ impl Course {
         ensures within { result ≡ Ok true → self.new.time ≤ at }
         ensures some { result ≡ Ok true → 0 < self.new.time }
         ensures reached { result ≡ Ok false → HasSameRest at (present_in self.old) (present_in self.new) }
-        ensures there { result ≡ Ok false → self.new.time ≡ at }
+        ensures there { result ≡ Ok false → self.old.time ≤ at → self.new.time ≡ at }
         ensures kept { OnOk result (IsSameLife self.old self.new) }
         ensures still { OnOk result (IsStillIn (present_in self.new)) }
     {

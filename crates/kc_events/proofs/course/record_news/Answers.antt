@@ -1,7 +1,7 @@
-use Rattle.std.proofs.Common.{◌≡◌, ℕ, false, refl, sym, ap, subst, ◌∙◌}
+use Rattle.std.proofs.Common.{false, refl, sym, subst}
 use Rattle.kc_trace.specs.declared.record.Record.TheVariants.{Stopped}
 use Rattle.kc_events.specs.declared.line.Line.TheVariants.{Printed}
-use Rattle.kc_events.specs.declared.course.Known.TheVariants.{Living, Ending}
+use Rattle.kc_events.specs.declared.course.Known.TheVariants.{Ending}
 use Rattle.kc_events.specs.Coming.{IsFed}
 use Rattle.kc_events.proofs.FedLemmas.{fed_end, fed_record, no_end}
 use Rattle.kc_events.proofs.course.record_news.Goals as goal

@@ -1,4 +1,4 @@
-use Rattle.std.proofs.Common.{◌≡◌, ◌++◌, ◌+◌, List, sym, ap, ◌∙◌, append_assoc, rules}
+use Rattle.std.proofs.Common.{◌≡◌, ◌++◌, List, sym, ap, ◌∙◌, append_assoc, rules}
 use Rattle.kc_life.specs.declared.life.What.{What}
 use Rattle.kc_life.specs.Tables.{level_in}
 use Rattle.kc_events.specs.Lives.{edge_if_input}

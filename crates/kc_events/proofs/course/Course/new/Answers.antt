@@ -1,4 +1,4 @@
-use Rattle.std.proofs.Common.{◌≡◌, ◌++◌, false, List, refl, ap, ◌∙◌}
+use Rattle.std.proofs.Common.{◌++◌, false, List, refl, ap, ◌∙◌}
 use Rattle.kc_life.specs.declared.life.What.{What}
 use Rattle.kc_life.specs.Tables.{level_in}
 use Rattle.kc_events.specs.Lives.{input_edges}

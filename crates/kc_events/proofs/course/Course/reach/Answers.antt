@@ -16,7 +16,7 @@ loop-self-preserved c =
     let life = c.loop-self.invariant.2 in
     let kept = c.in_ok-skip.ensures.kept in (
       reach_same c.args.self.now c.loop-self.self c.skip.new.self c.args.at c.loop-self.invariant.0 c.in_ok-skip.ensures.same,
-      c.in_ok-skip.ensures.within,
+      λ first. c.in_ok-skip.ensures.within,
       record { base = kept.base ∙ life.base; begun = kept.begun ∙ life.begun; ahead = kept.ahead ∙ life.ahead; known = kept.known ∙ life.known },
       c.in_ok-skip.ensures.still,
     )
