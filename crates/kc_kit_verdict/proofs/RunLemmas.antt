@@ -326,9 +326,9 @@ ended_seen book all count v w lives behind new sees are same few (inl h) =
 ended_seen book all count v w lives behind new sees are same few (inr h) =
     let short : length lives < 2 ^ 63 = omega (arith, few, h.2) in
     let starts : 0 < length book.rules → AllThree (IsStart h.0) book.rules behind.monitors.items w.monitors.items = λ some.
-        let kept = all_kept lives v behind book.marks book.rules new sees are short some in
-        let rules : behind.rules.rules ≡ book.rules = ap (λ b. b.rules) kept.0 ∙ new.rules_are in
-        subst (λ rs. AllThree (IsStart h.0) rs behind.monitors.items w.monitors.items) rules (h.1.monitors (ap length rules ∙ sym kept.1)) in
+    let kept = all_kept lives v behind book.marks book.rules new sees are short some in
+    let rules : behind.rules.rules ≡ book.rules = ap (λ b. b.rules) kept.0 ∙ new.rules_are in
+    subst (λ rs. AllThree (IsStart h.0) rs behind.monitors.items w.monitors.items) rules (h.1.monitors (ap length rules ∙ sym kept.1)) in
     record {
       many = λ some. three_third (IsStart h.0) book.rules behind.monitors.items w.monitors.items (starts some);
       each = λ k less r m.

@@ -141,7 +141,7 @@ run_checked name text book drives left t v w (Err (BadTrace line)) result new st
 run_checked name text book drives left t v w (Err Failed) result new start wrong all fault is = subst (IsChecked name text book drives left) (sym is) tt
 run_checked name text book drives left t v w (Err NoMemory) result new start wrong all fault is = subst (IsChecked name text book drives left) (sym is) tt
 
-pub faults_counted : {A : Type 0} (P : Verdict → Type 0) (before now : ℕ) (watched : Result A LivesFault) (result : Result Verdict LivesFault) → IsPassedOn watched P result → Counts before watched now → Counts before result now
+faults_counted : {A : Type 0} (P : Verdict → Type 0) (before now : ℕ) (watched : Result A LivesFault) (result : Result Verdict LivesFault) → IsPassedOn watched P result → Counts before watched now → Counts before result now
 faults_counted P before now (Ok u) (Ok verdict) is h = h
 faults_counted P before now (Ok u) (Err (BadTrace line)) is h = h
 faults_counted P before now (Ok u) (Err Failed) is h = absurd cc
@@ -149,3 +149,9 @@ faults_counted P before now (Ok u) (Err NoMemory) is h = h
 faults_counted P before now (Err (BadTrace line)) result is h = subst (λ r. Counts before r now) (sym is) h
 faults_counted P before now (Err Failed) result is h = subst (λ r. Counts before r now) (sym is) h
 faults_counted P before now (Err NoMemory) result is h = subst (λ r. Counts before r now) (sym is) h
+
+-- and the source that comes back has counted the same
+pub faults_given : {A : Type 0} (P : Verdict → Type 0) (source before now given : ℕ) (watched : Result A LivesFault) (result : Result Verdict LivesFault) → before ≡ source → given ≡ now →
+    IsPassedOn watched P result → Counts before watched now → Counts source result given
+faults_given P source before now given watched result first last is h =
+    subst (λ n. Counts source result n) (sym last) (subst (λ n. Counts n result now) first (faults_counted P before now watched result is h))
