@@ -1,5 +1,5 @@
 -- The verdict of rules that have watched a run.
-use Rattle.std.proofs.Common.{◌≡◌, ℕ, Bool, true, false, ◌||◌, Option, Result, Ok, Err, List, [], ◌∷◌, ◌++◌, filter, flat_map, if◌then◌else◌, refl, sym, ap, subst, ◌∙◌, append_assoc, append-nil}
+use Rattle.std.proofs.Common.{◌≡◌, ℕ, ◌≤◌, length, get_or, tail, arith, Bool, true, false, ◌||◌, Option, Result, Ok, Err, List, [], ◌∷◌, ◌++◌, filter, flat_map, if◌then◌else◌, refl, sym, ap, subst, ◌∙◌, append_assoc, append-nil}
 use Rattle.std.specs.Prelude.{OnOk}
 use Rattle.kc_life.specs.Lives.{Life}
 use Rattle.kc_stim.specs.Drives.{Drives}
@@ -88,6 +88,32 @@ all_put name text rules monitors ahead verdict h = whole name text rules monitor
 pub no_more : (name text : List ℕ) (rules : List Rule) (monitors : List Monitor) (rule : Rule) (left : List Rule) (verdict : Verdict) → IsSoFar name text rules monitors (rule ∷ left) [] verdict → IsVerdict name text rules monitors verdict
 unfolding verdicts_by broken_by
 no_more name text rules monitors rule left verdict h = whole name text rules monitors (rule ∷ left) [] verdict refl refl h
+
+tail_is : {A : Type 0} (x : A) (xs : List A) → tail (x ∷ xs) ≡ xs
+tail_is x xs = refl
+
+pub first_put : (name text : List ℕ) (rules : List Rule) (monitors : List Monitor) (left : List Rule) (ahead : List Monitor) (rule : Rule) (m : Monitor) (old new : Verdict) → 1 ≤ length left → 1 ≤ length ahead →
+    rule ≡ get_or left 0 rule → m ≡ get_or ahead 0 m → IsSoFar name text rules monitors left ahead old → new.text.items ≡ old.text.items ++ verdict_of rule m.life m.tally →
+    new.diagnostic.items ≡ old.diagnostic.items ++ said_of name text rule m.tally → new.is_broken ≡ (old.is_broken || is_broken rule m.tally) →
+    IsSoFar name text rules monitors (tail left) (tail ahead) new
+first_put name text rules monitors [] ahead rule m old new some more is_rule is_m h printed said broken = absurd (omega arith)
+first_put name text rules monitors (x ∷ left) [] rule m old new some more is_rule is_m h printed said broken = absurd (omega arith)
+first_put name text rules monitors (x ∷ left) (y ∷ ahead) rule m old new some more is_rule is_m h printed said broken =
+    let e : rule ≡ x = is_rule in
+    let f : m ≡ y = is_m in
+    subst (λ l. IsSoFar name text rules monitors l (tail (y ∷ ahead)) new) (sym (tail_is x left))
+    (subst (λ a. IsSoFar name text rules monitors left a new) (sym (tail_is y ahead))
+    (one_put name text rules monitors x left y ahead old new h (printed ∙ (λ i. old.text.items ++ verdict_of (e i) (f i).life (f i).tally))
+    (said ∙ (λ i. old.diagnostic.items ++ said_of name text (e i) (f i).tally)) (broken ∙ (λ i. old.is_broken || is_broken (e i) (f i).tally))))
+
+pub last_put : (name text : List ℕ) (rules : List Rule) (monitors : List Monitor) (left : List Rule) (ahead : List Monitor) (verdict : Verdict) → length left ≤ 0 → IsSoFar name text rules monitors left ahead verdict → IsVerdict name text rules monitors verdict
+last_put name text rules monitors [] ahead verdict none h = all_put name text rules monitors ahead verdict h
+last_put name text rules monitors (x ∷ left) ahead verdict none h = absurd (omega arith)
+
+pub none_ahead : (name text : List ℕ) (rules : List Rule) (monitors : List Monitor) (left : List Rule) (ahead : List Monitor) (verdict : Verdict) → length ahead ≤ 0 → IsSoFar name text rules monitors left ahead verdict → IsVerdict name text rules monitors verdict
+none_ahead name text rules monitors [] ahead verdict none h = all_put name text rules monitors ahead verdict h
+none_ahead name text rules monitors (x ∷ left) [] verdict none h = no_more name text rules monitors x left verdict h
+none_ahead name text rules monitors (x ∷ left) (y ∷ ahead) verdict none h = absurd (omega arith)
 
 -- ---- rules whose monitors have seen lives
 
