@@ -1,5 +1,6 @@
 -- The verdict of rules that have watched a run.
-use Rattle.std.proofs.Common.{◌≡◌, ℕ, ◌≤◌, length, get_or, tail, arith, Bool, true, false, ◌||◌, Option, Result, Ok, Err, List, [], ◌∷◌, ◌++◌, filter, flat_map, if◌then◌else◌, refl, sym, ap, subst, ◌∙◌, append_assoc, append-nil}
+use Rattle.std.proofs.Math.Seq.{take-length}
+use Rattle.std.proofs.Common.{◌≡◌, ℕ, ◌≤◌, length, get_or, take, drop, ◌-◌, arith, Bool, true, false, ◌||◌, Option, Result, Ok, Err, List, [], ◌∷◌, ◌++◌, filter, flat_map, if◌then◌else◌, refl, sym, ap, subst, ◌∙◌, append_assoc, append-nil}
 use Rattle.std.specs.Prelude.{OnOk}
 use Rattle.kc_life.specs.Lives.{Life}
 use Rattle.kc_stim.specs.Drives.{Drives}
@@ -89,8 +90,13 @@ pub no_more : (name text : List ℕ) (rules : List Rule) (monitors : List Monito
 unfolding verdicts_by broken_by
 no_more name text rules monitors rule left verdict h = whole name text rules monitors (rule ∷ left) [] verdict refl refl h
 
-tail_is : {A : Type 0} (x : A) (xs : List A) → tail (x ∷ xs) ≡ xs
-tail_is x xs = refl
+abbrev pub tail : {X : Type 0} → List X → List X
+tail xs = take (length xs - 1) (drop 1 xs)
+
+tail_is : {X : Type 0} (x : X) (xs : List X) → tail (x ∷ xs) ≡ xs
+tail_is x xs =
+    let n : length (x ∷ xs) - 1 ≡ length xs = omega arith in
+    rw n (take-length xs)
 
 pub first_put : (name text : List ℕ) (rules : List Rule) (monitors : List Monitor) (left : List Rule) (ahead : List Monitor) (rule : Rule) (m : Monitor) (old new : Verdict) → 1 ≤ length left → 1 ≤ length ahead →
     rule ≡ get_or left 0 rule → m ≡ get_or ahead 0 m → IsSoFar name text rules monitors left ahead old → new.text.items ≡ old.text.items ++ verdict_of rule m.life m.tally →
