@@ -19,10 +19,10 @@ use Rattle.kc_events.specs.Laws.{StepsMakeLives, LivesAreLives}
 -- ---- the steps of a life make it up
 
 -- the states in which anything happens
-abbrev moving : List State → List State
+abbrev pub moving : List State → List State
 moving states = filter (λ s. not (is_still s.whats)) states
 
-events_moving : (states : List State) → events_of (moving states) ≡ events_of states
+pub events_moving : (states : List State) → events_of (moving states) ≡ events_of states
 events_moving [] = refl
 events_moving (s ∷ states) = by s.whats (events_moving states)
   where

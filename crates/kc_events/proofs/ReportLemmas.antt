@@ -26,7 +26,7 @@ use Rattle.kc_events.specs.Reading.{Reading, GaveNext, IsWrong, IsWrongNext, one
 use Rattle.kc_events.specs.Steps.{Seen}
 use Rattle.kc_events.specs.Coming.{Present, start_of, rest_by, events_ahead, rest_at, steps_to_come, AreFrom, AreDue, state_behind, MayCome, MayBeNext, IsStillIn}
 use Rattle.kc_events.specs.Underway.{Underway, present_in, running_in, seen_by, needs_line, base_ahead, base_behind, IsOpen, IsEarly, Gives, ReportsNone, KeepsBase}
-use Rattle.kc_events.specs.Reporting.{Reporting, HasText, AreToCome, AreStepsOf, count_with, IsFirstWrongIn, IsAnswer, IsInStep, reporting, HasRead}
+use Rattle.kc_events.specs.Reporting.{Reporting, HasText, AreToCome, AreStepsOf, count_with, IsFirstWrongIn, IsBehind, IsAnswer, IsInStep, reporting, HasRead}
 use Rattle.kc_events.proofs.StartLemmas.{by-start}
 use Rattle.kc_events.proofs.DueLemmas.{due_start}
 
@@ -67,6 +67,19 @@ counted (line ∷ lines) count few =
     let higher = one_higher count few in
     let rest = counted lines (one_more count) higher.1 in
     omega (arith, higher.0, rest)
+
+-- lines that are counted come behind the next
+counted_behind : (lines : List Line) (count : ℕ) → one_more count ≤ one_more (count_with count lines)
+unfolding count_with
+counted_behind [] count = omega arith
+counted_behind (line ∷ lines) count =
+    let behind = counted_behind lines (one_more count) in
+    later count (one_more (count_with (one_more count) lines)) behind
+
+number_behind : (count more n : ℕ) (lines : List Line) → more ≡ count → n ≡ one_more (count_with more lines) → (one_more count ≤ n) × (n < 2 ^ 64)
+number_behind count more n lines is number =
+    let behind : one_more more ≤ one_more (count_with more lines) = counted_behind lines more in
+    grind (arith, is, number, behind)
 
 number_later : (count more n : ℕ) (lines : List Line) → more ≡ one_more count → n ≡ one_more (count_with more lines) → (one_more count ≤ n) × (n < 2 ^ 64)
 number_later count more n lines is number =
@@ -175,22 +188,42 @@ same_in_step a b c same h = record {
   due = λ lines run. h.due lines (subst (λ k. IsRun (place_in k) lines) same run);
 }
 
-pub same_steps : (a b : Reading) (c : Underway) → b.reader ≡ a.reader → Keeps a.left b.left → (steps : List Seen) → AreToCome (reporting b c) steps → AreToCome (reporting a c) steps
-same_steps a b c same kept steps h = record {
-  lines = h.lines;
-  text = text_kept a.left b.left h.lines kept h.text;
-  run = subst (λ k. IsRun (place_in k) h.lines) same h.run;
-  reported = h.reported;
+wrong_kept : (p q : Place) (left now : Option (List ℕ)) (count more : ℕ) → q ≡ p → Keeps left now → more ≡ count → (n : ℕ) → IsFirstWrongIn q now more n → IsFirstWrongIn p left count n
+wrong_kept p q None None count more same kept is n w = (subst (λ k. one_more k ≤ n) is w.0, w.1)
+wrong_kept p q None (Some rest) count more same kept is n w =
+    number_behind count more n w.before is w.number
+wrong_kept p q (Some text) None count more same kept is n w = absurd kept
+wrong_kept p q (Some text) (Some rest) count more same kept is n w = record {
+  before = w.before;
+  others = w.others;
+  spelled = ap text_lines (sym kept) ∙ w.spelled;
+  follow = subst (λ r. AreLines r w.before) same w.follow;
+  wrong = subst (λ r. IsWrong (place_after r w.before) w.others) same w.wrong;
+  number = w.number ∙ ap (λ m. one_more (count_with m w.before)) is;
+}
+
+pub nothing_read : (a b : Reading) (c : Underway) → b.reader ≡ a.reader → Keeps a.left b.left → b.count ≡ a.count → IsBehind (reporting a c) [] (reporting b c)
+nothing_read a b c same kept is = record {
+  steps = λ steps h. record {
+    lines = h.lines;
+    text = text_kept a.left b.left h.lines kept h.text;
+    run = subst (λ k. IsRun (place_in k) h.lines) same h.run;
+    reported = h.reported;
+  };
+  wrong = λ n w. wrong_kept (place_in a.reader) (place_in b.reader) a.left b.left a.count b.count (ap place_in same) kept is n w;
 }
 
 -- ---- a step of the course
 
-pub gave_step : (a : Reading) (c d : Underway) (step : Step) → IsInStep (reporting a c) → Gives c step d → (steps : List Seen) → AreToCome (reporting a d) steps → AreToCome (reporting a c) (seen_by step d ∷ steps)
-gave_step a c d step h gives steps t = record {
-  lines = t.lines;
-  text = t.text;
-  run = t.run;
-  reported = ap (λ (seen : List Seen). seen_by step d ∷ seen) t.reported ∙ sym (gives.steps t.lines (h.due t.lines t.run));
+pub gave_step : (a : Reading) (c d : Underway) (step : Step) → IsInStep (reporting a c) → Gives c step d → IsBehind (reporting a c) (seen_by step d ∷ []) (reporting a d)
+gave_step a c d step h gives = record {
+  steps = λ steps t. record {
+    lines = t.lines;
+    text = t.text;
+    run = t.run;
+    reported = ap (λ (seen : List Seen). seen_by step d ∷ seen) t.reported ∙ sym (gives.steps t.lines (h.due t.lines t.run));
+  };
+  wrong = λ n w. w;
 }
 
 pub gave_in_step : (a : Reading) (c d : Underway) (step : Step) → IsInStep (reporting a c) → Gives c step d → KeepsBase c d → IsStillIn (present_in d) → IsInStep (reporting a d)
@@ -227,10 +260,16 @@ read_after a b c first rest = record {
 }
 
 pub answer_after : (a b c : Reporting) (result : Result (Option Step) LivesFault) → HasRead a b → IsAnswer b result c → IsAnswer a result c
-answer_after a b c (Ok (Some step)) first answer = λ steps h. first.steps (seen_by step c.course ∷ steps) (answer steps h)
+answer_after a b c (Ok (Some step)) first answer = record {
+  steps = λ steps h. first.steps (seen_by step c.course ∷ steps) (answer.steps steps h);
+  wrong = λ n w. first.wrong n (answer.wrong n w);
+}
 answer_after a b c (Ok None) first answer = first.steps [] answer
 answer_after a b c (Err (BadTrace line)) first answer = first.wrong line answer
-answer_after a b c (Err Failed) first answer = (subst (λ n. Rose n c.trace.faults) first.calm answer.0, λ steps h. first.steps steps (answer.1 steps h))
+answer_after a b c (Err Failed) first answer = (
+  subst (λ n. Rose n c.trace.faults) first.calm answer.0,
+  record { steps = λ steps h. first.steps steps (answer.1.steps steps h); wrong = λ n w. first.wrong n (answer.1.wrong n w) },
+)
 answer_after a b c (Err NoMemory) first answer = tt
 
 -- ---- the start
@@ -243,6 +282,10 @@ start_steps a c d left place text present none lives steps h = record {
   run = subst (λ p. IsRun p h.lines) place h.run;
   reported = h.reported ∙ (λ i. rest_at (present i) (events_ahead (none i)) (lives i) h.lines) ∙ sym (by-start d 0 [] h.lines);
 }
+
+pub start_wrong : (a : Reading) (left : Option (List ℕ)) → place_in a.reader ≡ start_place 0 → a.left ≡ left → a.count ≡ 0 → (n : ℕ) →
+    IsFirstWrongIn (place_in a.reader) a.left a.count n → IsFirstWrongIn (start_place 0) left 0 n
+start_wrong a left place text none n w = subst (λ m. IsFirstWrongIn (start_place 0) left m n) none (subst (λ t. IsFirstWrongIn (start_place 0) t a.count n) text (subst (λ p. IsFirstWrongIn p a.left a.count n) place w))
 
 pub start_in_step : (a : Reading) (c : Underway) (d : Drives) → place_in a.reader ≡ start_place 0 → present_in c ≡ start_of d 0 → c.ahead ≡ None → c.known ≡ Living → IsStillIn (present_in c) → IsInStep (reporting a c)
 start_in_step a c d place present none lives still = record {

@@ -60,14 +60,29 @@ abbrev pub IsFirstWrongIn : Place → Option (List ℕ) → ℕ → ℕ → Type
 IsFirstWrongIn p None count line = (one_more count ≤ line) × (line < 2 ^ 64)
 IsFirstWrongIn p (Some text) count line = IsFirstWrong p text count line
 
+-- of the text that is left, the line of this number is the first wrong one
+abbrev pub IsWrongAt : Reporting → ℕ → Type 0
+IsWrongAt t line = IsFirstWrongIn (place_in t.trace.reader) t.trace.left t.trace.count line
+
+-- behind these steps those to come now are to come, and the first wrong line is the same
+pub record IsBehind (old : Reporting) (passed : List Seen) (new : Reporting) : Type 0 where
+  pub steps : (steps : List Seen) → AreToCome new steps → AreToCome old (passed ++ steps)
+  pub wrong : (line : ℕ) → IsWrongAt new line → IsWrongAt old line
+
 -- What is answered: a step, and the steps to come are those behind it; none, where none is to come; the first line that no board
 -- prints there; or the source has failed, and the same steps are to come.
 abbrev pub IsAnswer : Reporting → Result (Option Step) LivesFault → Reporting → Type 0
-IsAnswer old (Ok (Some step)) new = (steps : List Seen) → AreToCome new steps → AreToCome old (seen_by step new.course ∷ steps)
+IsAnswer old (Ok (Some step)) new = IsBehind old (seen_by step new.course ∷ []) new
 IsAnswer old (Ok None) new = AreToCome old []
-IsAnswer old (Err (BadTrace line)) new = IsFirstWrongIn (place_in old.trace.reader) old.trace.left old.trace.count line
-IsAnswer old (Err Failed) new = Rose old.trace.faults new.trace.faults × ((steps : List Seen) → AreToCome new steps → AreToCome old steps)
+IsAnswer old (Err (BadTrace line)) new = IsWrongAt old line
+IsAnswer old (Err Failed) new = Rose old.trace.faults new.trace.faults × IsBehind old [] new
 IsAnswer old (Err NoMemory) new = Unit {0}
+
+-- the fault behind which no step is reported any more
+abbrev pub stop_of : Result (Option Step) LivesFault → Option LivesFault
+stop_of (Err (BadTrace line)) = Some (BadTrace line)
+stop_of (Err NoMemory) = Some NoMemory
+stop_of _ = None
 
 -- the next call may go on
 abbrev pub MayGoOn : Result (Option Step) LivesFault → Type 0

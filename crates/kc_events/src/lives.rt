@@ -1,8 +1,9 @@
 // What happens in the lives of the run whose trace a source gives.
-ghost use Rattle.std.specs.Prelude.{◌≡◌, ◌≢◌, ◌≤◌, List, true, false, None, Some, Ok, Err, IfOk, IfErr, IfSome};
+ghost use Rattle.std.specs.Prelude.{◌≡◌, ◌≢◌, ◌≤◌, ℕ, List, true, false, None, Some, Ok, Err, IfOk, IfErr, IfSome};
+ghost use Rattle.kc_events.specs.Grammar.{start_place};
 ghost use Rattle.kc_events.specs.Steps.{Seen};
 ghost use Rattle.kc_events.specs.Underway.{needs_line};
-ghost use Rattle.kc_events.specs.Reporting.{AreToCome, AreStepsOf, IsAnswer, MayGoOn, HasRead, IsInStep, reporting};
+ghost use Rattle.kc_events.specs.Reporting.{AreToCome, AreStepsOf, IsFirstWrongIn, IsWrongAt, IsAnswer, stop_of, MayGoOn, HasRead, IsInStep, reporting};
 
 use crate::course::{Course, Step};
 use crate::trace::{Trace, TraceFault};
@@ -98,6 +99,7 @@ impl<S: Source + Drop> Lives<S> {
     /// The lives of the run whose trace a source gives, and whose inputs these stimuli drive, of which no step is reported.
     pub fn new(alloc: Global, source: S, stimuli: Stimuli) -> Result<Self, NoMemory>
         ensures steps { IfOk result (λ lives. (steps : List Seen) → AreToCome lives steps → AreStepsOf stimuli (S.to_come source) steps) }
+        ensures wrong { IfOk result (λ lives. (line : ℕ) → IsWrongAt lives line → IsFirstWrongIn (start_place 0) (S.to_come source) 0 line) }
         ensures count { IfOk result (λ lives. lives.trace.count ≡ 0) }
         ensures faults { IfOk result (λ lives. lives.trace.faults ≡ S.faults source) }
         ensures stopped { IfOk result (λ lives. lives.stopped ≡ None) }
@@ -114,6 +116,7 @@ impl<S: Source + Drop> Lives<S> {
     pub fn next_step(&mut self) -> Result<Option<Step>, LivesFault>
         ensures answer { self.old.stopped ≡ None → IsAnswer self.old result self.new }
         ensures stopped { IfSome self.old.stopped (λ fault. (result ≡ Err fault) × (self.new ≡ self.old)) }
+        ensures stops { self.old.stopped ≡ None → self.new.stopped ≡ stop_of result }
         ensures calm { result ≢ Err LivesFault.Failed → self.new.trace.faults ≡ self.old.trace.faults }
         ensures later { self.old.trace.faults ≤ self.new.trace.faults }
     {

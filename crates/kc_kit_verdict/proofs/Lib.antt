@@ -1,3 +1,3 @@
-mod RunLemmas
-mod VerdictLemmas
-mod WatchLemmas
+pub mod RunLemmas
+pub mod VerdictLemmas
+pub mod WatchLemmas

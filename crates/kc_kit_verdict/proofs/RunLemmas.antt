@@ -1,6 +1,6 @@
 -- What the rules of a file have seen of a run: its lives.
-use Rattle.std.proofs.Common.{◌≡◌, ℕ, zero, suc, ◌+◌, ◌<◌, ◌≤◌, ◌^◌, Bool, true, false, List, [], ◌∷◌, ◌++◌, length, map, filter, get_or, not, refl, sym, ap, subst, ◌∙◌, append_assoc, append-nil, arith}
-use Rattle.std.specs.Prelude.{◌⊎◌, inl, inr, min, nat_le, ◌&&◌}
+use Rattle.std.proofs.Common.{◌≡◌, ℕ, zero, suc, ◌+◌, ◌<◌, ◌≤◌, ◌^◌, ◌⊎◌, inl, inr, Bool, true, false, List, [], ◌∷◌, ◌++◌, length, map, filter, get_or, refl, sym, ap, subst, ◌∙◌, append_assoc, append-nil, arith}
+use Rattle.std.specs.Prelude.{nat_le}
 use Rattle.std.proofs.lemmas.Bool.{leb-true, and_parts}
 use Rattle.kc_base.specs.declared.types.Level.{Level}
 use Rattle.kc_life.specs.declared.life.Signal.{Signal}
@@ -20,7 +20,7 @@ use Rattle.kc_events.specs.declared.reader.Stage.{Stage}
 use Rattle.kc_events.specs.declared.reader.Stage.TheVariants as stage
 use Rattle.kc_events.specs.Grammar.{Place, start_place, AreLines, place_after, after_line, is_over, is_of_life, is_break, may_print, may_restart, next_stage, IsRun}
 use Rattle.kc_events.specs.Lives.{input_edges, start_levels, levels_after, reported_in, states_from, life_of, event_of, end_event, count_at, restart_event, lives_with, lives_of}
-use Rattle.kc_events.specs.Steps.{Seen, Begins, Passes, Ends, is_still, passes, seen_of, steps_with, steps_of}
+use Rattle.kc_events.specs.Steps.{Seen, Begins, Passes, Ends, passes, seen_of, steps_with, steps_of}
 use Rattle.kc_events.proofs.LifeLemmas.{moving, events_moving}
 use Rattle.kc_monitor_forms.specs.declared.tally.Tally.{Tally}
 use Rattle.kc_monitor_forms.specs.Tallies.{one_more}
@@ -49,14 +49,15 @@ record IsPassed (states : List State) (last : ℕ) (rest : List Seen) (v w : Wat
 passes_seen : (states : List State) (last : ℕ) (rest : List Seen) (v w : Watch) → HasWatched v (passes states ++ Ends last ∷ rest) w → IsPassed states last rest v w
 unfolding HasWatched Sees
 passes_seen [] last rest v w h = record { passed = v; ended = h.0; sees = refl; over = h.1; others = h.2 }
-passes_seen (s ∷ states) last rest v w h = by s.whats h
+passes_seen (s ∷ states) last rest v w h = by s.whats h (λ u g. passes_seen states last rest u w g)
   where
-    by : (whats : List What) → HasWatched v (passes (record { at = s.at; whats = whats } ∷ states) ++ Ends last ∷ rest) w → IsPassed (record { at = s.at; whats = whats } ∷ states) last rest v w
-    by [] h =
-        let r = passes_seen states last rest v w h in
+    by : (whats : List What) → HasWatched v (passes (record { at = s.at; whats = whats } ∷ states) ++ Ends last ∷ rest) w →
+        ((u : Watch) → HasWatched u (passes states ++ Ends last ∷ rest) w → IsPassed states last rest u w) → IsPassed (record { at = s.at; whats = whats } ∷ states) last rest v w
+    by [] h others =
+        let r = others v h in
         record { passed = r.passed; ended = r.ended; sees = r.sees; over = r.over; others = r.others }
-    by (x ∷ whats) h =
-        let r = passes_seen states last rest h.0 w h.2 in
+    by (x ∷ whats) h others =
+        let r = others h.0 h.2 in
         record { passed = r.passed; ended = r.ended; sees = (h.0, h.1, r.sees); over = r.over; others = r.others }
 
 moving_from : (d : Drives) (base : ℕ) (reported : List Event) (more first t : ℕ) (levels : Signal → Level) → first ≤ t → AreStatesFrom first (moving (states_from d base reported more t levels))
@@ -109,7 +110,7 @@ is_reported d base reported last short = record {
 -- ---- lives one behind the other
 
 -- so many lives are whole, and of the last one none or only its begin was seen
-IsEnded : ℕ → ℕ → Watch → Watch → Type 0
+abbrev IsEnded : ℕ → ℕ → Watch → Watch → Type 0
 IsEnded whole count v w = ((w ≡ v) × (whole ≡ count)) ⊎ ((levels : Signal → Level) × IsBegin levels v w × (whole + 1 ≡ count))
 
 -- these lives were seen, of so many
@@ -205,9 +206,9 @@ none_restarted p (Restarted at by_watchdog ∷ lines) over h = absurd (none_rest
 
 -- and before it nothing stands that comes behind it
 none_behind : (p : Place) (s : Stage) (item : Record) → is_over s ≡ false → is_of_life p item ≡ false → ((at : ℕ) → is_break at item ≡ false) → may_print p s item ≡ true → ⊥
-none_behind p stage.Living item going life break fits = differ (sym life ∙ fits)
-none_behind p (stage.Broken t) item going life break fits = differ (sym (break t) ∙ fits)
-none_behind p (stage.Over n) item going life break fits = differ (sym going)
+none_behind p stage.Living item going life breaks fits = differ (sym life ∙ fits)
+none_behind p (stage.Broken t) item going life breaks fits = differ (sym (breaks t) ∙ fits)
+none_behind p (stage.Over n) item going life breaks fits = differ (sym going)
 
 count_short : (at how : ℕ) → at ≤ 10 ^ 15 → count_at at how ≤ 10 ^ 15 + 1
 count_short at zero short = omega (arith, short)
@@ -247,7 +248,7 @@ run_seen p d base reported (Restarted at by_watchdog ∷ lines) v w going run h 
     let short : at ≤ 10 ^ 15 = run.follow.0.sound in
     let behind = run_behind p (Restarted at by_watchdog) lines run in
     let told = reported ++ restart_event at by_watchdog ∷ [] in
-    let more : count_lives lines + 1 ≡ count_lives (Restarted at by_watchdog ∷ lines) = omega arith in
+    let more : length (filter is_restart lines) + 1 + 1 ≡ suc (length (filter is_restart lines)) + 1 = omega arith in
     subst (λ n. HasSeen (life_of d base told (at + 1) ++ lives_with d (base + at + 1) [] lines) n v w) more
     (life_seen d base told (at + 1) (steps_with d (base + at + 1) [] lines) (lives_with d (base + at + 1) [] lines) (count_lives lines) v w (omega arith) (omega (arith, short))
     (λ u g. run_seen (start_place (p.base + at + 1)) d (base + at + 1) [] lines u w refl behind g) h)
@@ -272,7 +273,7 @@ restart_early p (stage.Over n) at fits = absurd (differ fits)
 
 few_restarts : (p : Place) (lines : List Line) → p.base ≤ 10 ^ 15 + 1 → AreLines p lines → length (filter is_restart lines) + p.base ≤ 10 ^ 15 + 1
 unfolding AreLines
-few_restarts p [] early h = early
+few_restarts p [] early h = omega (arith, early)
 few_restarts p (Printed item ∷ lines) early h =
     let same = same_base p item in
     let few = few_restarts (after_line p (Printed item)) lines (subst (λ n. n ≤ 10 ^ 15 + 1) (sym same) early) h.1 in
@@ -280,20 +281,23 @@ few_restarts p (Printed item ∷ lines) early h =
 few_restarts p (Restarted at by_watchdog ∷ lines) early h =
     let now = restart_early p p.stage at h.0.fits in
     let few : length (filter is_restart lines) + (p.base + at + 1) ≤ 10 ^ 15 + 1 = few_restarts (start_place (p.base + at + 1)) lines (omega (arith, now)) h.1 in
-    omega (arith, few)
+    let goal : suc (length (filter is_restart lines)) + p.base ≤ 10 ^ 15 + 1 = omega (arith, few) in
+    goal
 
 few_lives : (lines : List Line) → AreLines (start_place 0) lines → count_lives lines ≤ 10 ^ 15 + 2
-few_lives lines h = let few = few_restarts (start_place 0) lines (omega arith) h in omega (arith, few)
+few_lives lines h =
+    let few : length (filter is_restart lines) + 0 ≤ 10 ^ 15 + 1 = few_restarts (start_place 0) lines (omega arith) h in
+    omega (arith, few)
 
 -- ---- each rule with its monitor
 
 -- a monitor has counted these lives, and has what became of what its rule asks of them
-HasCounted : Book → ℕ → List Life → Rule → Monitor → Type 0
+abbrev HasCounted : Book → ℕ → List Life → Rule → Monitor → Type 0
 HasCounted book count lives rule m = (m.life ≡ count) × (m.tally ≡ tally_in book lives rule)
 
 have_seen : (book : Book) (count : ℕ) (lives : List Life) (rules : List Rule) (monitors : List Monitor) → (0 < length rules → length monitors ≡ length rules) →
     ((k : ℕ) → k < length rules → (r : Rule) (m : Monitor) → HasCounted book count lives (get_or rules k r) (get_or monitors k m)) → HaveSeen book count lives rules monitors
-unfolding HaveSeen HasCounted
+unfolding HaveSeen
 have_seen book count lives [] monitors many all = tt
 have_seen book count lives (rule ∷ rules) [] many all = let none = many (omega arith) in absurd (omega (arith, none))
 have_seen book count lives (rule ∷ rules) (m ∷ monitors) many all =
@@ -309,7 +313,6 @@ record Ended (book : Book) (count : ℕ) (lives : List Life) (w : Watch) : Type 
 
 ended_seen : (book : Book) (all : List Life) (count : ℕ) (v w : Watch) (lives : List ReportedLife) (behind : Watch) → IsNew book.marks book.rules v → SeesAll lives v behind → AreReportedLives lives →
     map life_reported lives ≡ all → count ≤ 10 ^ 15 + 2 → IsEnded (length lives) count behind w → Ended book count all w
-unfolding HasCounted
 ended_seen book all count v w lives behind new sees are same few (inl h) =
     let short : length lives < 2 ^ 63 = omega (arith, few, h.1) in
     record {
@@ -322,10 +325,10 @@ ended_seen book all count v w lives behind new sees are same few (inl h) =
     }
 ended_seen book all count v w lives behind new sees are same few (inr h) =
     let short : length lives < 2 ^ 63 = omega (arith, few, h.2) in
-    let starts = λ (some : 0 < length book.rules).
-        let kept = all_kept lives v behind book.marks book.rules new sees are short some in
-        let rules : behind.rules.rules ≡ book.rules = ap (λ (b : Book). b.rules) kept.0 ∙ new.rules_are in
-        subst (λ rs. AllThree (IsStart h.0) rs behind.monitors.items w.monitors.items) rules (h.1.monitors (ap length rules ∙ sym kept.1)) in
+    let starts : 0 < length book.rules → AllThree (IsStart h.0) book.rules behind.monitors.items w.monitors.items = λ some.
+    let kept = all_kept lives v behind book.marks book.rules new sees are short some in
+    let rules : behind.rules.rules ≡ book.rules = ap (λ b. b.rules) kept.0 ∙ new.rules_are in
+    subst (λ rs. AllThree (IsStart h.0) rs behind.monitors.items w.monitors.items) rules (h.1.monitors (ap length rules ∙ sym kept.1)) in
     record {
       many = λ some. three_third (IsStart h.0) book.rules behind.monitors.items w.monitors.items (starts some);
       each = λ k less r m.

@@ -1,5 +1,6 @@
 -- The verdict of rules that have watched a run.
-use Rattle.std.proofs.Common.{◌≡◌, ℕ, Bool, true, false, ◌||◌, Option, Result, Ok, Err, List, [], ◌∷◌, ◌++◌, filter, flat_map, if◌then◌else◌, refl, sym, ap, subst, ◌∙◌, append_assoc, append-nil}
+use Rattle.std.proofs.Math.Seq.{take-length}
+use Rattle.std.proofs.Common.{◌≡◌, ℕ, ◌≤◌, length, get_or, take, drop, ◌-◌, arith, Bool, true, false, ◌||◌, Option, Result, Ok, Err, List, [], ◌∷◌, ◌++◌, filter, flat_map, if◌then◌else◌, refl, sym, ap, subst, ◌∙◌, append_assoc, append-nil}
 use Rattle.std.specs.Prelude.{OnOk}
 use Rattle.kc_life.specs.Lives.{Life}
 use Rattle.kc_stim.specs.Drives.{Drives}
@@ -89,6 +90,37 @@ pub no_more : (name text : List ℕ) (rules : List Rule) (monitors : List Monito
 unfolding verdicts_by broken_by
 no_more name text rules monitors rule left verdict h = whole name text rules monitors (rule ∷ left) [] verdict refl refl h
 
+abbrev pub tail : {X : Type 0} → List X → List X
+tail xs = take (length xs - 1) (drop 1 xs)
+
+tail_is : {X : Type 0} (x : X) (xs : List X) → tail (x ∷ xs) ≡ xs
+tail_is x xs =
+    let n : length (x ∷ xs) - 1 ≡ length xs = omega arith in
+    rw n (take-length xs)
+
+pub first_put : (name text : List ℕ) (rules : List Rule) (monitors : List Monitor) (left : List Rule) (ahead : List Monitor) (rule : Rule) (m : Monitor) (old new : Verdict) → 1 ≤ length left → 1 ≤ length ahead →
+    rule ≡ get_or left 0 rule → m ≡ get_or ahead 0 m → IsSoFar name text rules monitors left ahead old → new.text.items ≡ old.text.items ++ verdict_of rule m.life m.tally →
+    new.diagnostic.items ≡ old.diagnostic.items ++ said_of name text rule m.tally → new.is_broken ≡ (old.is_broken || is_broken rule m.tally) →
+    IsSoFar name text rules monitors (tail left) (tail ahead) new
+first_put name text rules monitors [] ahead rule m old new some more is_rule is_m h printed said broken = absurd (omega arith)
+first_put name text rules monitors (x ∷ left) [] rule m old new some more is_rule is_m h printed said broken = absurd (omega arith)
+first_put name text rules monitors (x ∷ left) (y ∷ ahead) rule m old new some more is_rule is_m h printed said broken =
+    let e : rule ≡ x = is_rule in
+    let f : m ≡ y = is_m in
+    subst (λ l. IsSoFar name text rules monitors l (tail (y ∷ ahead)) new) (sym (tail_is x left))
+    (subst (λ a. IsSoFar name text rules monitors left a new) (sym (tail_is y ahead))
+    (one_put name text rules monitors x left y ahead old new h (printed ∙ (λ i. old.text.items ++ verdict_of (e i) (f i).life (f i).tally))
+    (said ∙ (λ i. old.diagnostic.items ++ said_of name text (e i) (f i).tally)) (broken ∙ (λ i. old.is_broken || is_broken (e i) (f i).tally))))
+
+pub last_put : (name text : List ℕ) (rules : List Rule) (monitors : List Monitor) (left : List Rule) (ahead : List Monitor) (verdict : Verdict) → length left ≤ 0 → IsSoFar name text rules monitors left ahead verdict → IsVerdict name text rules monitors verdict
+last_put name text rules monitors [] ahead verdict none h = all_put name text rules monitors ahead verdict h
+last_put name text rules monitors (x ∷ left) ahead verdict none h = absurd (omega arith)
+
+pub none_ahead : (name text : List ℕ) (rules : List Rule) (monitors : List Monitor) (left : List Rule) (ahead : List Monitor) (verdict : Verdict) → length ahead ≤ 0 → IsSoFar name text rules monitors left ahead verdict → IsVerdict name text rules monitors verdict
+none_ahead name text rules monitors [] ahead verdict none h = all_put name text rules monitors ahead verdict h
+none_ahead name text rules monitors (x ∷ left) [] verdict none h = no_more name text rules monitors x left verdict h
+none_ahead name text rules monitors (x ∷ left) (y ∷ ahead) verdict none h = absurd (omega arith)
+
 -- ---- rules whose monitors have seen lives
 
 verdicts_seen : (book : Book) (count : ℕ) (lives : List Life) (rules : List Rule) (monitors : List Monitor) → HaveSeen book count lives rules monitors →
@@ -115,7 +147,7 @@ run_verdict : (name text : List ℕ) (book : Book) (drives : Drives) (left : Opt
     HasWatched v steps w → IsVerdict name text w.rules.rules w.monitors.items verdict → IsRunVerdict name text book drives left verdict
 run_verdict name text book drives left v w steps verdict new are watched is =
     let seen = runs_are_seen book drives are.lines v w are.run new (subst (λ all. HasWatched v all w) are.reported watched) in
-    let rules : w.rules.rules ≡ book.rules = ap (λ (b : Book). b.rules) (rules_stay steps v w watched) ∙ new.rules_are in
+    let rules : w.rules.rules ≡ book.rules = ap (λ b. b.rules) (rules_stay steps v w watched) ∙ new.rules_are in
     let count = count_lives are.lines in
     let lives = lives_of drives are.lines in
     let broken : broken_by w.rules.rules w.monitors.items ≡ broken_in book lives =
@@ -124,7 +156,7 @@ run_verdict name text book drives left v w steps verdict new are watched is =
       lines = are.lines;
       spelled = are.text;
       run = are.run;
-      verdict = record {
+      answer = record {
         printed = is.printed ∙ ap (λ (rs : List Rule). verdicts_by rs w.monitors.items) rules ∙ verdicts_seen book count lives book.rules w.monitors.items seen;
         said = is.said ∙ ap (diagnostics name text) broken;
         broken = is.broken ∙ ap is_any broken;
@@ -141,21 +173,17 @@ run_checked name text book drives left t v w (Err (BadTrace line)) result new st
 run_checked name text book drives left t v w (Err Failed) result new start wrong all fault is = subst (IsChecked name text book drives left) (sym is) tt
 run_checked name text book drives left t v w (Err NoMemory) result new start wrong all fault is = subst (IsChecked name text book drives left) (sym is) tt
 
-pub faults_counted : {A : Type 0} (P : Verdict → Type 0) (before now : ℕ) (watched : Result A LivesFault) (result : Result Verdict LivesFault) → IsPassedOn watched P result → Counts before watched now → Counts before result now
+faults_counted : {A : Type 0} (P : Verdict → Type 0) (before now : ℕ) (watched : Result A LivesFault) (result : Result Verdict LivesFault) → IsPassedOn watched P result → Counts before watched now → Counts before result now
 faults_counted P before now (Ok u) (Ok verdict) is h = h
-faults_counted P before now (Ok u) (Err e) is h = subst (λ (f : LivesFault). Counts before (err_of f) now) (sym is) h
-  where
-    err_of : LivesFault → Result Verdict LivesFault
-    err_of f = Err f
-faults_counted P before now (Err e) result is h = subst (λ (r : Result Verdict LivesFault). Counts before r now) (sym is) (same_fault e h)
-  where
-    watched_by : LivesFault → Result A LivesFault
-    watched_by e = Err e
+faults_counted P before now (Ok u) (Err (BadTrace line)) is h = h
+faults_counted P before now (Ok u) (Err Failed) is h = absurd cc
+faults_counted P before now (Ok u) (Err NoMemory) is h = h
+faults_counted P before now (Err (BadTrace line)) result is h = subst (λ r. Counts before r now) (sym is) h
+faults_counted P before now (Err Failed) result is h = subst (λ r. Counts before r now) (sym is) h
+faults_counted P before now (Err NoMemory) result is h = subst (λ r. Counts before r now) (sym is) h
 
-    given_by : LivesFault → Result Verdict LivesFault
-    given_by e = Err e
-
-    same_fault : (e : LivesFault) → Counts before (watched_by e) now → Counts before (given_by e) now
-    same_fault (BadTrace line) h = h
-    same_fault Failed h = h
-    same_fault NoMemory h = h
+-- and the source that comes back has counted the same
+pub faults_given : {A : Type 0} (P : Verdict → Type 0) (source before now given : ℕ) (watched : Result A LivesFault) (result : Result Verdict LivesFault) → before ≡ source → given ≡ now →
+    IsPassedOn watched P result → Counts before watched now → Counts source result given
+faults_given P source before now given watched result first last is h =
+    subst (λ n. Counts source result n) (sym last) (subst (λ n. Counts n result now) first (faults_counted P before now watched result is h))

@@ -34,7 +34,7 @@ pub record IsRunVerdict (name text : List ℕ) (book : Book) (drives : Drives) (
   pub lines : List Line
   pub spelled : HasText left lines
   pub run : IsRun (start_place 0) lines
-  pub verdict : IsVerdictOf name text book drives lines verdict
+  pub answer : IsVerdictOf name text book drives lines verdict
 
 -- what is answered of a text, where the source reports it: the verdict of its run, or the first line that no board prints there
 abbrev pub IsChecked : List ℕ → List ℕ → Book → Drives → Option (List ℕ) → Result Verdict LivesFault → Type 0

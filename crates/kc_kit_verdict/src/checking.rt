@@ -44,13 +44,7 @@ fn run_verdict(
     ensures { IsPassedOn watched (IsVerdict name.now text.now watch.now.rules.rules watch.now.monitors.items) result }
 {
     match watched {
-        Ok(()) => match verdict_of(
-            alloc,
-            name,
-            text,
-            watch.rules().rules(),
-            watch.monitors(),
-        ) {
+        Ok(()) => match verdict_of(alloc, name, text, watch.rules().rules(), watch.monitors()) {
             Ok(verdict) => Ok(verdict),
             Err(NoMemory) => Err(LivesFault::NoMemory),
         },

@@ -1,8 +1,8 @@
 use Rattle.std.proofs.Common.{◌≡◌, Ok, None, rules}
 use Rattle.kc_events.specs.Printed.{place_in}
 use Rattle.kc_events.specs.Reading.{GaveNext, IsRefused}
-use Rattle.kc_events.specs.declared.trace.TraceFault.TheVariants.{BadTrace}
-use Rattle.kc_events.proofs.ReportLemmas.{has_read, fed_in_step, none_left, same_in_step, wrong_first}
+use Rattle.kc_events.specs.declared.trace.TraceFault.TheVariants.{BadTrace, Failed}
+use Rattle.kc_events.proofs.ReportLemmas.{has_read, fed_in_step, none_left, same_in_step, wrong_first, nothing_read}
 use Rattle.kc_events.proofs.lives.take_line.Goals as goal
 
 pub returns-in-Ok-Some-clause-fed : goal.returns-in-Ok-Some-clause-fed
@@ -30,3 +30,11 @@ returns-in-Err-BadTrace-clause-fault g c =
     let line = c.in-Err-BadTrace.line in
     let refused : IsRefused a b (BadTrace line) = search rules in
     wrong_first (place_in a.reader) a.left a.count line refused.0 refused.1
+
+pub returns-in-Err-Failed-clause-fault : goal.returns-in-Err-Failed-clause-fault
+returns-in-Err-Failed-clause-fault g c =
+    let a = c.args.trace.now in
+    let b = c.next_line.new.self in
+    let refused : IsRefused a b Failed = search rules in
+    let count : b.count ≡ a.count = search rules in
+    (refused.0, nothing_read a b c.args.course.now refused.2 refused.1 count)
