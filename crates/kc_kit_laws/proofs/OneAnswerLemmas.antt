@@ -202,7 +202,7 @@ one_run_of name text (Ok lines) (Err r) h k = absurd (run_or_wrong lines k.0 (Ok
 one_run_of name text (Err r) (Ok lines) h k = absurd (run_or_wrong lines h.0 (Ok lines) (Err h.0) refl refl (one_run text (Ok lines) (Err h.0) (k.spelled, k.run) h.1))
 one_run_of name text (Err r) (Err s) h k =
     (let line : h.0 ≡ k.0 = of_wrong h.0 k.0 (Err h.0) (Err k.0) refl refl (one_run text (Err h.0) (Err k.0) h.1 k.1) in
-     let same : r ≡ s = h.2 ∙ (ap (λ number. unkept_response name number (codes "BADTRACE")) line ∙ sym k.2) in λ i. Err (same i))
+    let same : r ≡ s = h.2 ∙ (ap (λ number. unkept_response name number (codes "BADTRACE")) line ∙ sym k.2) in λ i. Err (same i))
 
 one_checked : (trace printed rules text : List ℕ) (book : Book) (drives : Drives) → IsOne (Checked trace printed rules text book drives)
 one_checked trace printed rules text book drives =

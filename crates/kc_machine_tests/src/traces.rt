@@ -39,8 +39,16 @@ static ROWS: [(&str, &str, &str); 20] = [
         "",
         "begins/5 undefined/ends 5/",
     ),
-    ("B 9 reset/X 0 spent", "@10 NMI 1", "begins/9 reset/ends 9/begins/"),
-    ("S 7 3 single 4/X 8 spent", "", "begins/7 transfer 3/ends 7/"),
+    (
+        "B 9 reset/X 0 spent",
+        "@10 NMI 1",
+        "begins/9 reset/ends 9/begins/",
+    ),
+    (
+        "S 7 3 single 4/X 8 spent",
+        "",
+        "begins/7 transfer 3/ends 7/",
+    ),
     ("P 10 P10 0/P 10 P10 0/X 20 spent", "", "line 2"),
     ("P 10 P10 0/P 9 P11 0/X 20 spent", "", "line 2"),
     ("P 10 P10 0/X 10 spent", "", "line 2"),
