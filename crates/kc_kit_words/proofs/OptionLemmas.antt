@@ -117,11 +117,11 @@ named_last name last [] = by (bytes_eq last name)
     by : (b : Bool) → (b || false) ≡ (false || b)
     by true = refl
     by false = refl
-named_last name last (n ∷ names) = by (bytes_eq n name) (named_last name last names)
+named_last name last (n ∷ names) = by (list_any (λ n. bytes_eq n name) (names ++ last ∷ [])) (list_any (λ n. bytes_eq n name) names) (bytes_eq n name) (named_last name last names)
   where
-    by : {x y : Bool} (b : Bool) → x ≡ (y || bytes_eq last name) → (b || x) ≡ ((b || y) || bytes_eq last name)
-    by true e = refl
-    by false e = e
+    by : (x y b : Bool) → x ≡ (y || bytes_eq last name) → (b || x) ≡ ((b || y) || bytes_eq last name)
+    by x y true e = refl
+    by x y false e = e
 
 -- ---- a hex file is one word, a listing has two, and so have a debugger and a check
 
