@@ -1,0 +1,12 @@
+pub mod Sound
+pub mod Candidates
+pub mod Lines
+pub mod Grammar
+pub mod Printed
+pub mod Reading
+pub mod Laws
+pub mod Lives
+pub mod Steps
+pub mod Coming
+pub mod Underway
+pub mod Reporting
