@@ -139,10 +139,12 @@ module _ (trace rules : List ℕ) (inputs : List (Role × List ℕ)) (clock : �
   check-then reported rose texts content r h one m =
       let contents = map Some texts ++ content ∷ [] in
       let count : length (map Some texts) ≡ length whole = length-map texts Some ∙ h.count in
-      let last : drop (length whole) contents ≡ content ∷ [] = subst (λ n. drop n contents ≡ content ∷ []) count (drop-append_seam (map Some texts) (content ∷ [])) in
-      (contents, holds-last reported whole texts trace content h one,
-       inl (then-ok (reads_of whole contents) texts (λ texts. TraceThen trace (λ printed. CheckTexts trace rules inputs clock printed texts) (drop (length whole) contents)) r (reads-more whole texts (content ∷ []) h.count h.short)
-           (subst (λ (l : List (Option (List ℕ))). TraceThen trace (λ printed. CheckTexts trace rules inputs clock printed texts) l r) (sym last) m)))
+      let last : drop (length whole) contents ≡ content ∷ [] = subst (λ n. drop n contents ≡ content ∷ []) count (drop-append_seam (map Some texts) (content ∷ [])) in (
+        contents,
+        holds-last reported whole texts trace content h one,
+        inl (then-ok (reads_of whole contents) texts (λ texts. TraceThen trace (λ printed. CheckTexts trace rules inputs clock printed texts) (drop (length whole) contents)) r (reads-more whole texts (content ∷ []) h.count h.short)
+            (subst (λ (l : List (Option (List ℕ))). TraceThen trace (λ printed. CheckTexts trace rules inputs clock printed texts) l r) (sym last) m)),
+      )
 
   check-failed : (reported : Option Holding) (rose : Type 0) (texts : List (List ℕ)) (content : Option (List ℕ)) (r : Response) → AreHeld reported whole texts → Reported reported (λ held. held trace ≡ content) →
       rose → r ≡ read_response trace → MayBe reported rose r
@@ -174,7 +176,7 @@ module _ (trace rules : List ℕ) (inputs : List (Role × List ℕ)) (clock : �
   -- the trace is open, and this is answered by its text
   pub trace-open : (reported : Option Holding) (rose later : Type 0) (text : List ℕ) (more : List (List ℕ)) (left : Option (List ℕ)) (given : Result Job Refusal) → AreHeld reported whole (text ∷ more) → (rose → later) →
       Reported reported (λ held. (held trace ≢ None) × (left ≡ held trace)) → IsChecked left (MayCheck trace rose (λ printed. CheckAnswer trace rules inputs clock printed text more)) given → IsPrepared (MayBe reported later) given
-  trace-open reported rose later text more left given h f open checked = by reported h open left refl checked
+  trace-open reported rose later text more left given h f opened checked = by reported h opened left refl checked
     where
       may : List ℕ → Response → Type 0
       may printed r = MayCheck trace rose (λ printed. CheckAnswer trace rules inputs clock printed text more) printed r
@@ -184,10 +186,10 @@ module _ (trace rules : List ℕ) (inputs : List (Role × List ℕ)) (clock : �
       answered reported h printed one r (inr k) = check-failed reported later (text ∷ more) (Some printed) r h one (f k.0) k.1
 
       by : (reported : Option Holding) → AreHeld reported whole (text ∷ more) → Reported reported (λ held. (held trace ≢ None) × (left ≡ held trace)) → (l : Option (List ℕ)) → left ≡ l → IsChecked l may given → IsPrepared (MayBe reported later) given
-      by None h open (Some printed) e k = prepared-widen (may printed) (MayBe None later) given (answered None h printed tt) k
-      by None h open None e k = prepared-widen (may k.0) (MayBe None later) given (answered None h k.0 tt) k.1
-      by (Some held) h open (Some printed) e k = prepared-widen (may printed) (MayBe (Some held) later) given (answered (Some held) h printed (sym open.1 ∙ e)) k
-      by (Some held) h open None e k = absurd (open.0 (sym open.1 ∙ e))
+      by None h opened (Some printed) e k = prepared-widen (may printed) (MayBe None later) given (answered None h printed tt) k
+      by None h opened None e k = prepared-widen (may k.0) (MayBe None later) given (answered None h k.0 tt) k.1
+      by (Some held) h opened (Some printed) e k = prepared-widen (may printed) (MayBe (Some held) later) given (answered (Some held) h printed (sym opened.1 ∙ e)) k
+      by (Some held) h opened None e k = absurd (opened.0 (sym opened.1 ∙ e))
 
 -- ---- what is answered of the text of a trace
 
