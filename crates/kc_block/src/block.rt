@@ -1,4 +1,5 @@
-ghost use Rattle.std.specs.Prelude.{◌≡◌, ℕ, ◌+◌, ◌-◌, ◌*◌, ◌≤◌, ◌<◌, ◌^◌, IsTrue, IfOk, Option, Some, None, bit_xor};
+ghost use Rattle.std.specs.Prelude.{◌≡◌, ℕ, ◌+◌, ◌-◌, ◌*◌, ◌≤◌, ◌<◌, IsTrue, IfOk, Option, Some, None, bit_xor};
+ghost use Rattle.kc_base.specs.Limits.{max_states};
 ghost use Rattle.kc_span.specs.Span.{after, IsDue};
 ghost use Rattle.kc_exec_spec.specs.Window.{is_wsr};
 ghost use Rattle.kc_block_spec.specs.Levels.{stimulated_before};
@@ -60,7 +61,7 @@ impl<X: Extra + Drop> Block<X> {
     /// The present state.
     pub fn time(&self) -> StateTime
         ensures value { result ≡ self.now.time }
-        ensures bound { result ≤ 3 * 10 ^ 15 }
+        ensures bound { result ≤ 3 * max_states }
     {
         self.time
     }
@@ -82,7 +83,7 @@ impl<X: Extra + Drop> Block<X> {
         steps: &mut Steps<L>,
     )
         requires order { self.old.time ≤ to }
-        requires bound { to ≤ 3 * 10 ^ 15 }
+        requires bound { to ≤ 3 * max_states }
         ensures time { self.new.time ≡ to }
         ensures units { self.new.units ≡ after (block_rule X.further) self.old.time (to - self.old.time) self.old.units }
         ensures edges { Leads O.led out.old (edges_of X.further self.old.time (to - self.old.time) self.old.units) out.new }

@@ -1,4 +1,5 @@
-ghost use Rattle.std.specs.Prelude.{◌≡◌, ℕ, ◌+◌, ◌*◌, ◌≤◌, ◌<◌, ◌^◌, OnOk, OnErr, IfErr, Ok, Err, is_some, true};
+ghost use Rattle.std.specs.Prelude.{◌≡◌, ℕ, ◌+◌, ◌*◌, ◌≤◌, ◌<◌, OnOk, OnErr, IfErr, Ok, Err, is_some, true};
+ghost use Rattle.kc_base.specs.Limits.{max_states};
 ghost use Rattle.kc_block_spec.specs.Registers.{row_at, bytes_read_everywhere, bytes_written_everywhere};
 ghost use Rattle.kc_block_spec.specs.Leading.{Leads};
 ghost use Rattle.kc_block_spec.specs.Accesses.{byte_read, after_byte_read, byte_written, word_read, after_word_read, word_written};
@@ -17,7 +18,7 @@ impl<X: Extra + Drop> Block<X> {
     // Goes on past the Tick of state `at`.
     fn go_past<O: EdgeOut, L: Ledger>(&mut self, at: StateTime, out: &mut O, steps: &mut Steps<L>)
         requires order { self.old.time ≤ at + 1 }
-        requires bound { at < 3 * 10 ^ 15 }
+        requires bound { at < 3 * max_states }
         ensures time { self.new.time ≡ at + 1 }
         ensures units { self.new.units ≡ units_past X.further self.old at }
         ensures edges { Leads O.led out.old (edges_past X.further self.old at) out.new }
@@ -38,7 +39,7 @@ impl<X: Extra + Drop> Block<X> {
     ) -> Result<u8, Kind>
         requires register { sfr < 24 }
         requires order { self.old.time ≤ at + 1 }
-        requires bound { at < 3 * 10 ^ 15 }
+        requires bound { at < 3 * max_states }
         ensures answer { result ≡ byte_read X.further at window (units_past X.further self.old at) sfr }
         ensures ok { OnOk result (self.new.units ≡ after_byte_read X.further at window (units_past X.further self.old at) sfr) }
         ensures refused { OnErr result (self.new.units ≡ units_past X.further self.old at) }
@@ -66,7 +67,7 @@ impl<X: Extra + Drop> Block<X> {
     ) -> Result<u16, Kind>
         requires register { sfr < 24 }
         requires order { self.old.time ≤ at + 1 }
-        requires bound { at < 3 * 10 ^ 15 }
+        requires bound { at < 3 * max_states }
         ensures answer { result ≡ word_read X.further at window (units_past X.further self.old at) sfr }
         ensures ok { OnOk result (self.new.units ≡ after_word_read X.further at window (units_past X.further self.old at) sfr) }
         ensures refused { OnErr result (self.new.units ≡ units_past X.further self.old at) }
@@ -93,7 +94,7 @@ impl<X: Extra + Drop> Block<X> {
     ) -> Result<(), Kind>
         requires register { sfr < 24 }
         requires order { self.old.time ≤ at + 1 }
-        requires bound { at < 3 * 10 ^ 15 }
+        requires bound { at < 3 * max_states }
         ensures ok { OnOk result (byte_written X.further at window (units_past X.further self.old at) sfr value ≡ Ok self.new.units) }
         ensures kind { IfErr result (λ kind. byte_written X.further at window (units_past X.further self.old at) sfr value ≡ Err kind) }
         ensures refused { OnErr result (self.new.units ≡ units_past X.further self.old at) }
@@ -123,7 +124,7 @@ impl<X: Extra + Drop> Block<X> {
     ) -> Result<(), Kind>
         requires register { sfr < 24 }
         requires order { self.old.time ≤ at + 1 }
-        requires bound { at < 3 * 10 ^ 15 }
+        requires bound { at < 3 * max_states }
         ensures ok { OnOk result (word_written X.further at window (units_past X.further self.old at) sfr value ≡ Ok self.new.units) }
         ensures kind { IfErr result (λ kind. word_written X.further at window (units_past X.further self.old at) sfr value ≡ Err kind) }
         ensures refused { OnErr result (self.new.units ≡ units_past X.further self.old at) }

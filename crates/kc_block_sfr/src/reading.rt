@@ -1,5 +1,6 @@
 //! Reads of the special function registers.
-ghost use Rattle.std.specs.Prelude.{◌≡◌, ℕ, ◌+◌, ◌-◌, ◌*◌, ◌≤◌, ◌<◌, ◌^◌, true, None, Ok, OnOk, OnErr};
+ghost use Rattle.std.specs.Prelude.{◌≡◌, ℕ, ◌+◌, ◌-◌, ◌*◌, ◌≤◌, ◌<◌, true, None, Ok, OnOk, OnErr};
+ghost use Rattle.kc_base.specs.Limits.{max_states};
 ghost use Rattle.kc_exec_spec.specs.Window.{is_wsr};
 ghost use Rattle.kc_block_spec.specs.Units.{Units};
 ghost use Rattle.kc_block_spec.specs.Registers.{row_at, words_read};
@@ -28,7 +29,7 @@ fn read_refusal<X: Extra>(
     window: Window,
     sfr: u8,
 ) -> Option<Kind>
-    requires { now ≤ 3 * 10 ^ 15 }
+    requires { now ≤ 3 * max_states }
     ensures { (t : ℕ) (u : Units X) → result ≡ refusal (byte_read X.further t window u sfr) }
 {
     if readable_byte(window, sfr).is_some() {

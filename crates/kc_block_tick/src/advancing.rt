@@ -1,5 +1,6 @@
 // The way from one event to the next.
-ghost use Rattle.std.specs.Prelude.{◌≡◌, ℕ, ◌+◌, ◌-◌, ◌*◌, ◌<◌, ◌≤◌, ◌^◌};
+ghost use Rattle.std.specs.Prelude.{◌≡◌, ℕ, ◌+◌, ◌-◌, ◌*◌, ◌<◌, ◌≤◌};
+ghost use Rattle.kc_base.specs.Limits.{max_states};
 ghost use Rattle.kc_span.specs.Span.{after};
 ghost use Rattle.kc_block_spec.specs.Costs.{CostsAtMost};
 ghost use Rattle.kc_block_spec.specs.Touch.{block_rule, touch, edges_of};
@@ -22,7 +23,7 @@ fn go<X: Extra, O: EdgeOut, L: Ledger>(
     steps: &mut Steps<L>,
 ) -> StateTime
     requires order { now < to }
-    requires bound { to ≤ 3 * 10 ^ 15 }
+    requires bound { to ≤ 3 * max_states }
     requires scheduled { IsScheduled X.further X.agrees (standing X.plain scheduler.old) now }
     ensures later { now < result }
     ensures within { result ≤ to }
@@ -49,7 +50,7 @@ pub fn advance<X: Extra, O: EdgeOut, L: Ledger>(
     steps: &mut Steps<L>,
 )
     requires order { now ≤ to }
-    requires bound { to ≤ 3 * 10 ^ 15 }
+    requires bound { to ≤ 3 * max_states }
     requires scheduled { IsScheduled X.further X.agrees (standing X.plain scheduler.old) now }
     ensures scheduled { IsScheduled X.further X.agrees (standing X.plain scheduler.new) to }
     ensures units { shown_units X.further (standing X.plain scheduler.new) to ≡ after (block_rule X.further) now (to - now) (shown_units X.further (standing X.plain scheduler.old) now) }

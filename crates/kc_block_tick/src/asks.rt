@@ -1,5 +1,6 @@
 // Touched units asked in the next state.
-ghost use Rattle.std.specs.Prelude.{◌≡◌, ◌≢◌, ℕ, ◌+◌, ◌*◌, ◌≤◌, ◌<◌, ◌^◌, if◌then◌else◌, true, false};
+ghost use Rattle.std.specs.Prelude.{◌≡◌, ◌≢◌, ℕ, ◌+◌, ◌*◌, ◌≤◌, ◌<◌, if◌then◌else◌, true, false};
+ghost use Rattle.kc_base.specs.Limits.{max_states};
 ghost use Rattle.kc_due.specs.Due.{at_slot};
 ghost use Rattle.kc_stim.specs.Drives.{IsNextEdge};
 ghost use Rattle.kc_stim.specs.Proper.{AreProper};
@@ -32,7 +33,7 @@ fn ask_timer2<X: Extra, L: Ledger>(
     next: StateTime,
     steps: &mut Steps<L>,
 )
-    requires { next ≤ 4 * 10 ^ 15 }
+    requires { next ≤ 4 * max_states }
     ensures asks { AsksWhere touched (timer2_goes (standing X.plain scheduler.new)) next (standing X.plain scheduler.new).timer2.kept (at_slot scheduler.old.due 0) (at_slot scheduler.new.due 0) }
     ensures rest { scheduler.new ≡ record scheduler.old { due = scheduler.new.due } }
     ensures others { (k : ℕ) → k ≢ 0 → at_slot scheduler.new.due k ≡ at_slot scheduler.old.due k }
@@ -49,7 +50,7 @@ fn ask_hso<X: Extra, L: Ledger>(
     next: StateTime,
     steps: &mut Steps<L>,
 )
-    requires bound { next ≤ 4 * 10 ^ 15 }
+    requires bound { next ≤ 4 * max_states }
     requires timer2 { scheduler.old.timer2.at ≤ next }
     ensures asks { AsksWhere touched (hso_goes (standing X.plain scheduler.new)) next (standing X.plain scheduler.new).hso.kept (at_slot scheduler.old.due 1) (at_slot scheduler.new.due 1) }
     ensures rest { scheduler.new ≡ record scheduler.old { due = scheduler.new.due } }
@@ -67,7 +68,7 @@ fn ask_hsi<X: Extra, L: Ledger>(
     next: StateTime,
     steps: &mut Steps<L>,
 )
-    requires { next ≤ 4 * 10 ^ 15 }
+    requires { next ≤ 4 * max_states }
     ensures asks { AsksWhere touched hsi_rule next (standing X.plain scheduler.new).hsi.kept (at_slot scheduler.old.due 2) (at_slot scheduler.new.due 2) }
     ensures rest { scheduler.new ≡ record scheduler.old { due = scheduler.new.due } }
     ensures others { (k : ℕ) → k ≢ 2 → at_slot scheduler.new.due k ≡ at_slot scheduler.old.due k }
@@ -84,7 +85,7 @@ fn ask_further<X: Extra, L: Ledger>(
     next: StateTime,
     steps: &mut Steps<L>,
 )
-    requires { next ≤ 4 * 10 ^ 15 }
+    requires { next ≤ 4 * max_states }
     ensures asks { AsksWhere touched (further_goes X.further) next (standing X.plain scheduler.new).further.kept (at_slot scheduler.old.due 3) (at_slot scheduler.new.due 3) }
     ensures rest { scheduler.new ≡ record scheduler.old { due = scheduler.new.due } }
     ensures others { (k : ℕ) → k ≢ 3 → at_slot scheduler.new.due k ≡ at_slot scheduler.old.due k }
@@ -96,7 +97,7 @@ fn ask_further<X: Extra, L: Ledger>(
 }
 
 fn ask_flag<X: Extra>(scheduler: &mut Scheduler<X>, touched: bool, next: StateTime)
-    requires { next ≤ 4 * 10 ^ 15 }
+    requires { next ≤ 4 * max_states }
     ensures asks { AsksWhere touched (flag_goes (standing X.plain scheduler.new)) next (standing X.plain scheduler.new).flag.kept (at_slot scheduler.old.due 4) (at_slot scheduler.new.due 4) }
     ensures rest { scheduler.new ≡ record scheduler.old { due = scheduler.new.due } }
     ensures others { (k : ℕ) → k ≢ 4 → at_slot scheduler.new.due k ≡ at_slot scheduler.old.due k }
@@ -125,7 +126,7 @@ pub(crate) fn ask_touched<X: Extra, L: Ledger>(
     next: StateTime,
     steps: &mut Steps<L>,
 )
-    requires bound { next ≤ 4 * 10 ^ 15 }
+    requires bound { next ≤ 4 * max_states }
     requires timer2 { scheduler.old.timer2.at ≤ next }
     requires proper { AreProper scheduler.old.stimuli }
     requires held { AreHeld scheduler.old.stimuli scheduler.old.board_registers.levels next }

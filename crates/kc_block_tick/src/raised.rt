@@ -1,5 +1,6 @@
 // The requests that a Tick raises, and the data beside the units after it.
-ghost use Rattle.std.specs.Prelude.{◌≡◌, ◌*◌, ◌≤◌, ◌^◌, Bool, Option, ℕ};
+ghost use Rattle.std.specs.Prelude.{◌≡◌, ◌*◌, ◌≤◌, Bool, Option, ℕ};
+ghost use Rattle.kc_base.specs.Limits.{max_states};
 ghost use Rattle.kc_block_spec.specs.Tick.{passes as passes_in, pin_requests, timer_requests, hsi_requests, board_registers_after, request as request_of, ◌∪◌};
 ghost use Rattle.kc_block_spec.specs.Fired.{fired_request};
 
@@ -12,7 +13,7 @@ use kc_timers::T2Out;
 
 /// Whether Timer 1 passes from FFFFH to 0 at the end of a state.
 pub(crate) fn passes(now: StateTime) -> bool
-    requires { now ≤ 4 * 10 ^ 15 }
+    requires { now ≤ 4 * max_states }
     ensures { result ≡ passes_in now }
 {
     (now + 1) % 0x80000 == 0

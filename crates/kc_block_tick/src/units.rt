@@ -1,5 +1,6 @@
 // The Tick of each unit, where it is touched: it is caught up to the state, and ticked.
-ghost use Rattle.std.specs.Prelude.{◌≡◌, ℕ, ◌+◌, ◌-◌, ◌*◌, ◌≤◌, ◌^◌, if◌then◌else◌, None, [], false};
+ghost use Rattle.std.specs.Prelude.{◌≡◌, ℕ, ◌+◌, ◌-◌, ◌*◌, ◌≤◌, if◌then◌else◌, None, [], false};
+ghost use Rattle.kc_base.specs.Limits.{max_states};
 ghost use Rattle.kc_base.specs.Bits.{bit};
 ghost use Rattle.kc_span.specs.Span.{QuietFor};
 ghost use Rattle.kc_timers.specs.T2.{timer2_rule, tick_of as timer2_tick_of, out_of as timer2_out_of};
@@ -35,7 +36,7 @@ pub(crate) fn tick_hso<O: EdgeOut, L: Ledger>(
     out: &mut O,
     steps: &mut Steps<L>,
 ) -> Option<u8>
-    requires bound { now ≤ 3 * 10 ^ 15 }
+    requires bound { now ≤ 3 * max_states }
     requires order { deferred.old.at ≤ now }
     requires quiet { QuietFor (hso_rule seen deferred.old.at) deferred.old.at (now - deferred.old.at) deferred.old.unit.inner }
     ensures deferred { let old = deferred_at deferred.old.at deferred.old.unit.inner in
@@ -69,7 +70,7 @@ pub(crate) fn tick_timer2<L: Ledger>(
     now: StateTime,
     steps: &mut Steps<L>,
 ) -> T2Out
-    requires bound { now ≤ 3 * 10 ^ 15 }
+    requires bound { now ≤ 3 * max_states }
     requires order { deferred.old.at ≤ now }
     requires quiet { QuietFor (timer2_rule before) deferred.old.at (now - deferred.old.at) deferred.old.unit.inner }
     ensures deferred { let old = deferred_at deferred.old.at deferred.old.unit.inner in
@@ -97,7 +98,7 @@ pub(crate) fn tick_hsi<L: Ledger>(
     now: StateTime,
     steps: &mut Steps<L>,
 ) -> HsiOut
-    requires bound { now ≤ 3 * 10 ^ 15 }
+    requires bound { now ≤ 3 * max_states }
     requires order { deferred.old.at ≤ now }
     requires quiet { QuietFor hsi_rule deferred.old.at (now - deferred.old.at) deferred.old.unit.inner }
     ensures deferred { let old = deferred_at deferred.old.at deferred.old.unit.inner in
@@ -134,7 +135,7 @@ pub(crate) fn tick_further<X: Extra, O: EdgeOut, L: Ledger>(
     out: &mut O,
     steps: &mut Steps<L>,
 ) -> IntSet
-    requires bound { now ≤ 3 * 10 ^ 15 }
+    requires bound { now ≤ 3 * max_states }
     requires order { deferred.old.at ≤ now }
     requires quiet { QuietFor (further_goes X.further) deferred.old.at (now - deferred.old.at) (X.plain deferred.old.unit) }
     requires agrees { X.agrees levels edges (shown (further_goes X.further) (deferred_at deferred.old.at (X.plain deferred.old.unit)) now) }
@@ -160,7 +161,7 @@ pub(crate) fn tick_further<X: Extra, O: EdgeOut, L: Ledger>(
 
 /// Starts the further unit, if a fired command says so.
 fn start_if<X: Extra>(unit: &mut X, started: bool, now: StateTime)
-    requires { now ≤ 3 * 10 ^ 15 }
+    requires { now ≤ 3 * max_states }
     ensures plain { X.plain unit.new ≡ (if started then X.further.started now (X.plain unit.old) else X.plain unit.old) }
     ensures moves { X.moved unit.new ≡ X.moved unit.old }
 {
@@ -171,7 +172,7 @@ fn start_if<X: Extra>(unit: &mut X, started: bool, now: StateTime)
 
 /// Timer 1's flag, which is set where its overflow raises a request.
 pub(crate) fn tick_flag(deferred: &mut DeferredUnit<bool>, touched: bool, now: StateTime)
-    requires { now ≤ 3 * 10 ^ 15 }
+    requires { now ≤ 3 * max_states }
     ensures { deferred_at deferred.new.at deferred.new.unit ≡ moved_deferred touched now true (deferred_at deferred.old.at deferred.old.unit) }
 {
     if touched {

@@ -1,5 +1,6 @@
 -- The units as the block keeps them, each at a state of its own, and as it shows them (this kit's own).
-use Rattle.std.specs.Prelude.{◌≡◌, ℕ, ◌*◌, ◌^◌, ◌<◌, ◌≤◌, ◌==◌, Bool, if◌then◌else◌, Option, Some, None, bit_or, bit_xor}
+use Rattle.std.specs.Prelude.{◌≡◌, ℕ, ◌*◌, ◌<◌, ◌≤◌, ◌==◌, Bool, if◌then◌else◌, Option, Some, None, bit_or, bit_xor}
+use Rattle.kc_base.specs.Limits.{max_states}
 use Rattle.kc_base.specs.Bits.{bit}
 use Rattle.kc_span.specs.Span.{Rule}
 use Rattle.kc_due.specs.Due.{Times, at_slot}
@@ -96,7 +97,7 @@ pub record IsScheduled {X : Type 0} (f : Further X) (agrees : ℕ → ℕ → X 
 
 -- deferred units in the present state, past which no run goes
 pub record IsPresent {X : Type 0} (f : Further X) (agrees : ℕ → ℕ → X → Type 0) (h : Scheduler X) (now : ℕ) : Type 0 where
-  pub bound : now ≤ 3 * 10 ^ 15
+  pub bound : now ≤ 3 * max_states
   pub scheduled : IsScheduled f agrees h now
 
 -- deferred units in the present state that show these units

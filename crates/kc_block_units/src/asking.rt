@@ -1,5 +1,6 @@
 // Units rescheduled when they are next due, and the slots of stimuli and wires.
-ghost use Rattle.std.specs.Prelude.{◌≡◌, ◌≢◌, ℕ, ◌*◌, ◌≤◌, ◌^◌, ◌+◌, ◌<◌, ◌==◌, not};
+ghost use Rattle.std.specs.Prelude.{◌≡◌, ◌≢◌, ℕ, ◌*◌, ◌≤◌, ◌+◌, ◌<◌, ◌==◌, not};
+ghost use Rattle.kc_base.specs.Limits.{max_states};
 ghost use Rattle.kc_span.specs.Span.{IsDue};
 ghost use Rattle.kc_due.specs.Due.{at_slot};
 ghost use Rattle.kc_stim.specs.Drives.{IsNextEdge};
@@ -20,7 +21,7 @@ use std::sync::ledger::Ledger;
 impl<X: Extra> Scheduler<X> {
     /// Reschedules Timer 2 from state `now` on, in which it stands: asks when it is next due.
     pub fn ask_timer2<L: Ledger>(&mut self, now: StateTime, steps: &mut Steps<L>)
-        requires { now ≤ 4 * 10 ^ 15 }
+        requires { now ≤ 4 * max_states }
         ensures due { IsDue (timer2_goes (standing X.plain self.new)) now (standing X.plain self.new).timer2.kept (at_slot self.new.due 0) }
         ensures rest { self.new ≡ record self.old { due = self.new.due } }
         ensures others { (k : ℕ) → k ≢ 0 → at_slot self.new.due k ≡ at_slot self.old.due k }
@@ -33,7 +34,7 @@ impl<X: Extra> Scheduler<X> {
 
     /// Reschedules HSO from state `now` on, in which it stands, by what it sees of Timer 2.
     pub fn ask_hso<L: Ledger>(&mut self, now: StateTime, steps: &mut Steps<L>)
-        requires bound { now ≤ 4 * 10 ^ 15 }
+        requires bound { now ≤ 4 * max_states }
         requires timer2 { self.old.timer2.at ≤ now }
         ensures due { IsDue (hso_goes (standing X.plain self.new)) now (standing X.plain self.new).hso.kept (at_slot self.new.due 1) }
         ensures rest { self.new ≡ record self.old { due = self.new.due } }
@@ -47,7 +48,7 @@ impl<X: Extra> Scheduler<X> {
 
     /// Reschedules Timer 2 and HSO from state `now` on, in which both stand.
     pub fn ask_timers<L: Ledger>(&mut self, now: StateTime, steps: &mut Steps<L>)
-        requires bound { now ≤ 4 * 10 ^ 15 }
+        requires bound { now ≤ 4 * max_states }
         requires timer2 { self.old.timer2.at ≤ now }
         ensures timer2 { IsDue (timer2_goes (standing X.plain self.new)) now (standing X.plain self.new).timer2.kept (at_slot self.new.due 0) }
         ensures hso { IsDue (hso_goes (standing X.plain self.new)) now (standing X.plain self.new).hso.kept (at_slot self.new.due 1) }
@@ -61,7 +62,7 @@ impl<X: Extra> Scheduler<X> {
 
     /// Reschedules HSI from state `now` on, in which it stands.
     pub fn ask_hsi<L: Ledger>(&mut self, now: StateTime, steps: &mut Steps<L>)
-        requires { now ≤ 4 * 10 ^ 15 }
+        requires { now ≤ 4 * max_states }
         ensures due { IsDue hsi_rule now (standing X.plain self.new).hsi.kept (at_slot self.new.due 2) }
         ensures rest { self.new ≡ record self.old { due = self.new.due } }
         ensures others { (k : ℕ) → k ≢ 2 → at_slot self.new.due k ≡ at_slot self.old.due k }
@@ -73,7 +74,7 @@ impl<X: Extra> Scheduler<X> {
 
     /// Reschedules the further unit from state `now` on, in which it stands.
     pub fn ask_further<L: Ledger>(&mut self, now: StateTime, steps: &mut Steps<L>)
-        requires { now ≤ 4 * 10 ^ 15 }
+        requires { now ≤ 4 * max_states }
         ensures due { IsDue (further_goes X.further) now (standing X.plain self.new).further.kept (at_slot self.new.due 3) }
         ensures rest { self.new ≡ record self.old { due = self.new.due } }
         ensures others { (k : ℕ) → k ≢ 3 → at_slot self.new.due k ≡ at_slot self.old.due k }
@@ -85,7 +86,7 @@ impl<X: Extra> Scheduler<X> {
 
     /// Sets when Timer 1 next raises its request from state `now` on: its next overflow, if IOC1.2 is 1.
     pub fn ask_flag(&mut self, now: StateTime)
-        requires { now ≤ 4 * 10 ^ 15 }
+        requires { now ≤ 4 * max_states }
         ensures due { IsDue (flag_goes (standing X.plain self.new)) now (standing X.plain self.new).flag.kept (at_slot self.new.due 4) }
         ensures rest { self.new ≡ record self.old { due = self.new.due } }
         ensures others { (k : ℕ) → k ≢ 4 → at_slot self.new.due k ≡ at_slot self.old.due k }

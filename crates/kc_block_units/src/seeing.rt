@@ -1,5 +1,6 @@
 // What is seen of the deferred units without a call of a unit that counts.
-ghost use Rattle.std.specs.Prelude.{◌≡◌, ℕ, ◌*◌, ◌≤◌, ◌^◌, ◌+◌, ◌<◌, ◌&&◌, ◌||◌};
+ghost use Rattle.std.specs.Prelude.{◌≡◌, ℕ, ◌*◌, ◌≤◌, ◌+◌, ◌<◌, ◌&&◌, ◌||◌};
+ghost use Rattle.kc_base.specs.Limits.{max_states};
 ghost use Rattle.kc_base.specs.Bits.{bit};
 ghost use Rattle.kc_timers.specs.T2.{view_of};
 ghost use Rattle.kc_due.specs.Due.{at_slot};
@@ -40,7 +41,7 @@ impl<X: Extra> Scheduler<X> {
     /// What HSO sees of Timer 2 in state `at`, by arithmetic.
     pub fn view(&self, at: StateTime) -> T2View
         requires order { self.now.timer2.at ≤ at }
-        requires bound { at ≤ 4 * 10 ^ 15 }
+        requires bound { at ≤ 4 * max_states }
         ensures view { result ≡ view_of (control_of self.now.board_registers self.now.board_registers.levels)
             (shown (timer2_goes (standing X.plain self.now)) (standing X.plain self.now).timer2 at) }
         ensures range { self.now.timer2.unit.inner.value < 65536 }

@@ -1,9 +1,10 @@
 -- Numbers that a converter never passes.
-use Rattle.std.specs.Prelude.{ℕ, ◌*◌, ◌^◌, ◌<◌, ◌≤◌, Option, IfSome}
+use Rattle.std.specs.Prelude.{ℕ, ◌*◌, ◌<◌, ◌≤◌, Option, IfSome}
+use Rattle.kc_base.specs.Limits.{max_states}
 
 pub record IsBounded (first command last : ℕ) (start : Option ℕ) (value : ℕ) : Type 0 where
-  pub from : first ≤ 4 * 10 ^ 15
+  pub from : first ≤ 4 * max_states
   pub selected : command < 8
   pub channel : last < 8
-  pub begun : IfSome start (λ s. s ≤ 4 * 10 ^ 15)
+  pub begun : IfSome start (λ s. s ≤ 4 * max_states)
   pub result : value ≤ 1023

@@ -1,4 +1,5 @@
-ghost use Rattle.std.specs.Prelude.{◌≡◌, ℕ, ◌+◌, ◌-◌, ◌*◌, ◌≤◌, ◌<◌, ◌^◌, Bool, List, [], Option, false, is_some, bit_xor};
+ghost use Rattle.std.specs.Prelude.{◌≡◌, ℕ, ◌+◌, ◌-◌, ◌*◌, ◌≤◌, ◌<◌, Bool, List, [], Option, false, is_some, bit_xor};
+ghost use Rattle.kc_base.specs.Limits.{max_states};
 ghost use Rattle.kc_span.specs.Span.{after, QuietFor, IsDue};
 ghost use Rattle.kc_extra.specs.Further.{further_rule};
 ghost use Rattle.kc_extra.specs.Pins.{AreFew, MoveSome};
@@ -74,7 +75,7 @@ fn goes(value: u8) -> bool
 impl Converter {
     /// A converter that has begun no conversion.
     pub fn new(values: Analog, from: StateTime) -> Converter
-        requires { from ≤ 4 * 10 ^ 15 }
+        requires { from ≤ 4 * max_states }
         ensures { result ≡ record { inner = new_converter values from; moves = 0 } }
     {
         Converter {
@@ -90,7 +91,7 @@ impl Converter {
 
     /// Begins a conversion of the channel of the last command.
     fn begin(&mut self, now: StateTime)
-        requires { now ≤ 4 * 10 ^ 15 }
+        requires { now ≤ 4 * max_states }
         ensures inner { self.new.inner ≡ begun_in now self.old.inner }
         ensures moves { self.new.moves ≡ self.old.moves }
     {
@@ -100,7 +101,7 @@ impl Converter {
 
     /// A write of a command.
     fn command(&mut self, value: u8, now: StateTime)
-        requires { now ≤ 4 * 10 ^ 15 }
+        requires { now ≤ 4 * max_states }
         ensures inner { self.new.inner ≡ commanded now value self.old.inner }
         ensures moves { self.new.moves ≡ self.old.moves }
     {

@@ -1,4 +1,5 @@
-ghost use Rattle.std.specs.Prelude.{◌≡◌, ℕ, ◌+◌, ◌-◌, ◌*◌, ◌/◌, ◌%◌, ◌≤◌, ◌<◌, ◌^◌, ◌++◌, Bool, List, Option, false, is_some, bit_xor, length, if◌then◌else◌};
+ghost use Rattle.std.specs.Prelude.{◌≡◌, ℕ, ◌+◌, ◌-◌, ◌*◌, ◌/◌, ◌%◌, ◌≤◌, ◌<◌, ◌++◌, Bool, List, Option, false, is_some, bit_xor, length, if◌then◌else◌};
+ghost use Rattle.kc_base.specs.Limits.{max_states};
 ghost use Rattle.kc_span.specs.Span.{after, QuietFor, IsDue};
 ghost use Rattle.kc_extra.specs.Further.{further_rule};
 ghost use Rattle.kc_extra.specs.Pins.{AreFew, MoveSome};
@@ -70,7 +71,7 @@ fn push_edge(moved: &mut Moved, pin: u8, before: bool, high: bool)
 
 /// The next state in which an output with these widths has an edge.
 fn next_edge(now: StateTime, written: u8, in_force: u8) -> Option<StateTime>
-    requires { now ≤ 4 * 10 ^ 15 }
+    requires { now ≤ 4 * max_states }
     ensures { (pin : ℕ) → IsDue (output_rule pin) now (record { written = written; in_force = in_force }) result }
 {
     let place = now % PERIOD;
@@ -86,7 +87,7 @@ fn next_edge(now: StateTime, written: u8, in_force: u8) -> Option<StateTime>
 
 /// How many periods have begun before a state.
 fn periods_before(at: StateTime) -> u64
-    requires { at ≤ 4 * 10 ^ 15 }
+    requires { at ≤ 4 * max_states }
     ensures { result ≡ begun_before at }
 {
     (at + (PERIOD - 1)) / PERIOD
@@ -95,7 +96,7 @@ fn periods_before(at: StateTime) -> u64
 /// The width in force after a span.
 fn width_later(now: StateTime, to: StateTime, output: Output) -> u8
     requires order { now ≤ to }
-    requires bound { to ≤ 4 * 10 ^ 15 }
+    requires bound { to ≤ 4 * max_states }
     ensures { result ≡ width_after now (to - now) output }
 {
     if periods_before(now) < periods_before(to) {
@@ -109,7 +110,7 @@ impl Output {
     /// Goes on over a span.
     fn go_on(&mut self, now: StateTime, to: StateTime)
         requires order { now ≤ to }
-        requires bound { to ≤ 4 * 10 ^ 15 }
+        requires bound { to ≤ 4 * max_states }
         ensures { self.new ≡ output_after now (to - now) self.old }
     {
         self.in_force = width_later(now, to, *self);

@@ -1,5 +1,6 @@
 // One life: a machine that is run in spans inside which no deadline can fall.
 ghost use Rattle.std.specs.Prelude.{◌≡◌, ◌≤◌, ◌+◌, ◌*◌, ◌^◌, ◌==◌, ◌||◌, None, Option, ℕ, is_some, false, true, IfOk, OnOk, OnErr};
+ghost use Rattle.kc_base.specs.Limits.{max_states};
 ghost use Rattle.kc_trace.specs.Out.{Puts};
 ghost use Rattle.kc_trace.specs.Text.{text_of};
 ghost use Rattle.kc_trace.specs.Trace.{out_of};
@@ -64,7 +65,7 @@ pub(crate) fn live<X: Extra + Drop, S: Sink, L: Ledger>(
     out: &mut TraceOut<S>,
     steps: &mut Steps<L>,
 ) -> Result<Ending, WriteFault>
-    requires until { until ≤ 2 * 10 ^ 15 }
+    requires until { until ≤ 2 * max_states }
     requires first { machine.old.machine.time ≡ 0 }
     requires lives { machine.old.machine.ended ≡ None }
     requires unfed { deadline_of machine.old.machine.board.units.further ≡ None }

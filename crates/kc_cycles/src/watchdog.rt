@@ -1,4 +1,5 @@
-ghost use Rattle.std.specs.Prelude.{◌≡◌, ℕ, ◌+◌, ◌-◌, ◌*◌, ◌≤◌, ◌^◌, Bool, List, [], Option, false, is_some, bit_xor};
+ghost use Rattle.std.specs.Prelude.{◌≡◌, ℕ, ◌+◌, ◌-◌, ◌*◌, ◌≤◌, Bool, List, [], Option, false, is_some, bit_xor};
+ghost use Rattle.kc_base.specs.Limits.{max_states};
 ghost use Rattle.kc_cycles.specs.Watching.{new_watchdog, fed, watchdog_further};
 
 use kc_base::{StateTime, Steps};
@@ -48,7 +49,7 @@ impl Watchdog {
 
     // A value is written in a state.
     fn take(&mut self, value: u8, now: StateTime)
-        requires { now ≤ 4 * 10 ^ 15 }
+        requires { now ≤ 4 * max_states }
         ensures { self.new ≡ fed value now self.old }
     {
         if self.half_fed && value == SECOND_HALF {

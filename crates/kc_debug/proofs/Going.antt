@@ -1,11 +1,12 @@
 -- A script on its way: so many commands have been carried out.
-use Rattle.std.proofs.Common.{◌≡◌, ℕ, suc, ◌+◌, ◌-◌, ◌*◌, ◌^◌, ◌≤◌, Bool, false, true, ◌||◌, cond, List, [], ◌∷◌, ◌++◌, length, take, drop, refl, sym, ap, subst, ◌∙◌, arith, length-append, length-drop, length-take-le, inr}
+use Rattle.std.proofs.Common.{◌≡◌, ℕ, suc, ◌+◌, ◌-◌, ◌*◌, ◌≤◌, Bool, false, true, ◌||◌, cond, List, [], ◌∷◌, ◌++◌, length, take, drop, refl, sym, ap, subst, ◌∙◌, arith, length-append, length-drop, length-take-le, inr}
 use Rattle.std.specs.Prelude.{count_by}
 use Rattle.std.specs.List.{list_any}
 use Rattle.std.proofs.Math.Seq.{take-append-add}
 use Rattle.std.proofs.lemmas.List.{drop_all, take-append-drop}
 use Rattle.std.proofs.lemmas.List.Folds.{list_any-append}
 use Rattle.std.proofs.lemmas.List.Sums.{sum_by-append}
+use Rattle.kc_base.specs.Limits.{max_states}
 use Rattle.circular_buffer.specs.Buffer.{buffer, keep_last}
 use Rattle.kc_extra.specs.Further.{Further}
 use Rattle.kc_trace.specs.Out.{Out, Puts, Prints}
@@ -98,11 +99,11 @@ module _ {X : Type 0} (f : Further X) (entries : List MapEntry) where
     pub begun : s.begun ≡ buffer (keep_last 33 so_far.begun) 33
     pub text : Puts o0 so_far.text o
     pub few : length s.breaks.items + count_by is_break (drop index all) ≤ 16
-    pub time : m.time ≤ 10 ^ 15 + 255000000 * index
+    pub time : m.time ≤ max_states + 255000000 * index
     pub done : so_far ≡ transcript f entries (take index all) m0
     pub whole : list_any quits (take index all) ≡ false
 
-  pub going-first : (all : List Command) (m : Machine X) (s : Sitting) (o : Out) → AreBounded all → s.breaks.items ≡ [] → s.begun ≡ buffer [] 33 → m.time ≤ 10 ^ 15 → Going all m o 0 m s o
+  pub going-first : (all : List Command) (m : Machine X) (s : Sitting) (o : Out) → AreBounded all → s.breaks.items ≡ [] → s.begun ≡ buffer [] 33 → m.time ≤ max_states → Going all m o 0 m s o
   going-first all m s o bounded breaks begun time = record {
     so_far = untouched m;
     rest = refl;
@@ -144,7 +145,7 @@ module _ {X : Type 0} (f : Further X) (entries : List MapEntry) where
       Going all m0 o0 index m s o → drop index all ≡ c ∷ drop (index + 1) all → quits c ≡ false →
       n ≡ (after_command f entries c (seen m s)).machine → t.breaks.items ≡ (after_command f entries c (seen m s)).breaks →
       t.begun ≡ buffer (keep_last 33 (after_command f entries c (seen m s)).begun) 33 → Puts o (after_command f entries c (seen m s)).text p →
-      n.time ≤ 10 ^ 15 + 255000000 * (index + 1) → Going all m0 o0 (index + 1) n t p
+      n.time ≤ max_states + 255000000 * (index + 1) → Going all m0 o0 (index + 1) n t p
   going-next all m0 o0 index m s o c n t p g here goes machine breaks begun text time =
       let d : Debugged X = g.so_far in
       let is : after_command f entries c (seen m s) ≡ after_command f entries c (kept_of d) = ap (after_command f entries c) (seen-kept all m0 o0 index m s o g) in

@@ -1,6 +1,7 @@
 // The commands that let the machine go on.
-ghost use Rattle.std.specs.Prelude.{◌≡◌, ◌==◌, ℕ, ◌+◌, ◌-◌, ◌*◌, ◌^◌, ◌<◌, ◌≤◌, max, nat_lt, None, IfOk, OnOk, OnErr, false};
+ghost use Rattle.std.specs.Prelude.{◌≡◌, ◌==◌, ℕ, ◌+◌, ◌-◌, ◌*◌, ◌<◌, ◌≤◌, max, nat_lt, None, IfOk, OnOk, OnErr, false};
 ghost use Rattle.std.specs.List.{list_any};
+ghost use Rattle.kc_base.specs.Limits.{max_states};
 ghost use Rattle.kc_trace.specs.Out.{Prints};
 ghost use Rattle.kc_trace.specs.Trace.{out_of};
 ghost use Rattle.kc_machine_spec.specs.Machine.{current};
@@ -31,7 +32,7 @@ fn pass_activity<X: Extra + Drop, S: Sink, L: Ledger>(
 ) -> Result<(), WriteFault>
     requires kept { IsKept begun.old }
     requires lives { machine.old.machine.ended ≡ None }
-    requires room { machine.old.machine.time ≤ 2 * 10 ^ 15 }
+    requires room { machine.old.machine.time ≤ 2 * max_states }
     requires unbroken { out.old.failed ≡ false }
     ensures passed { Passed X.further (current machine.old.machine).left machine.old.machine (out_of S.written S.faults out.old) begun.old machine.new.machine (out_of S.written S.faults out.new) begun.new }
     ensures few { (current machine.old.machine).left ≤ 255 }
@@ -54,7 +55,7 @@ fn pass_state<X: Extra + Drop, S: Sink, L: Ledger>(
 ) -> Result<(), WriteFault>
     requires kept { IsKept begun.old }
     requires lives { machine.old.machine.ended ≡ None }
-    requires room { machine.old.machine.time < 2 * 10 ^ 15 }
+    requires room { machine.old.machine.time < 2 * max_states }
     requires unbroken { out.old.failed ≡ false }
     ensures passed { Passed X.further 1 machine.old.machine (out_of S.written S.faults out.old) begun.old machine.new.machine (out_of S.written S.faults out.new) begun.new }
     ensures spent { Spends X.further 1 machine.old steps.old machine.new steps.new }
@@ -78,7 +79,7 @@ fn pass_idle<X: Extra + Drop, S: Sink, L: Ledger>(
 ) -> Result<(), WriteFault>
     requires kept { IsKept begun.old }
     requires ahead { machine.old.machine.time < end }
-    requires room { end ≤ 2 * 10 ^ 15 }
+    requires room { end ≤ 2 * max_states }
     requires idles { IdlesFor X.further (end - machine.old.machine.time) machine.old.machine }
     requires unbroken { out.old.failed ≡ false }
     ensures reported { Reported X.further (end - machine.old.machine.time) machine.old.machine (out_of S.written S.faults out.old) begun.old (out_of S.written S.faults out.new) begun.new }
@@ -106,7 +107,7 @@ fn pass_some<X: Extra + Drop, S: Sink, L: Ledger>(
     requires kept { IsKept begun.old }
     requires lives { machine.old.machine.ended ≡ None }
     requires some { 0 < left }
-    requires room { machine.old.machine.time + 255 * left ≤ 2 * 10 ^ 15 }
+    requires room { machine.old.machine.time + 255 * left ≤ 2 * max_states }
     requires unbroken { out.old.failed ≡ false }
     ensures passed { (states : ℕ) × (rest : ℕ) × (states_of_activities X.further left machine.old.machine ≡ states + rest) × Reported X.further states machine.old.machine (out_of S.written S.faults out.old) begun.old (out_of S.written S.faults out.new) begun.new × OnErr result (FailsWithin X.further activity_states states machine.old.machine (out_of S.written S.faults out.old) machine.new.machine (out_of S.written S.faults out.new)) × Spends X.further states machine.old steps.old machine.new steps.new × IfOk result (λ passed. Stood X.further states machine.old.machine machine.new.machine × (rest ≡ states_of_activities X.further (left - passed) machine.new.machine)) }
     ensures some { IfOk result (λ passed. (0 < passed) × (passed ≤ left) × (machine.new.machine.time + 255 * (left - passed) ≤ machine.old.machine.time + 255 * left)) }
@@ -138,7 +139,7 @@ pub(crate) fn step<X: Extra + Drop, S: Sink, L: Ledger>(
     steps: &mut Steps<L>,
 ) -> Result<(), WriteFault>
     requires kept { IsKept begun.old }
-    requires room { machine.old.machine.time + 255 * count ≤ 2 * 10 ^ 15 }
+    requires room { machine.old.machine.time + 255 * count ≤ 2 * max_states }
     requires unbroken { out.old.failed ≡ false }
     ensures lines { Prints (out_of S.written S.faults out.old) (run_for X.further (states_of_activities X.further count machine.old.machine) machine.old.machine).records (out_of S.written S.faults out.new) }
     ensures gone { OnOk result (Gone X.further (states_of_activities X.further count machine.old.machine) machine.old.machine begun.old machine.new.machine begun.new) }
@@ -194,7 +195,7 @@ fn pass_one<X: Extra + Drop, S: Sink, L: Ledger>(
     requires kept { IsKept begun.old }
     requires lives { machine.old.machine.ended ≡ None }
     requires ahead { machine.old.machine.time < until }
-    requires room { until ≤ 2 * 10 ^ 15 }
+    requires room { until ≤ 2 * max_states }
     requires unbroken { out.old.failed ≡ false }
     ensures passed { Passed X.further (states_at_once until machine.old.machine) machine.old.machine (out_of S.written S.faults out.old) begun.old machine.new.machine (out_of S.written S.faults out.new) begun.new }
     ensures few { states_at_once until machine.old.machine ≤ until - machine.old.machine.time }
@@ -234,7 +235,7 @@ fn pass<X: Extra + Drop, S: Sink, L: Ledger>(
     requires kept { IsKept begun.old }
     requires lives { machine.old.machine.ended ≡ None }
     requires ahead { machine.old.machine.time < until }
-    requires room { until ≤ 2 * 10 ^ 15 }
+    requires room { until ≤ 2 * max_states }
     requires unbroken { out.old.failed ≡ false }
     ensures passed { (states : ℕ) × (states ≤ until - machine.old.machine.time) × IsClear X.further breaks.now states machine.old.machine × Reported X.further states machine.old.machine (out_of S.written S.faults out.old) begun.old (out_of S.written S.faults out.new) begun.new × OnErr result (FailsWithin X.further (states_at_once until) states machine.old.machine (out_of S.written S.faults out.old) machine.new.machine (out_of S.written S.faults out.new)) × Spends X.further states machine.old steps.old machine.new steps.new × OnOk result (Stood X.further states machine.old.machine machine.new.machine) }
     ensures within { machine.new.machine.time ≤ until }
@@ -259,7 +260,7 @@ pub(crate) fn go<X: Extra + Drop, S: Sink, L: Ledger>(
     steps: &mut Steps<L>,
 ) -> Result<(), WriteFault>
     requires kept { IsKept begun.old }
-    requires room { until ≤ 2 * 10 ^ 15 }
+    requires room { until ≤ 2 * max_states }
     requires unbroken { out.old.failed ≡ false }
     ensures lines { Prints (out_of S.written S.faults out.old) (run_for X.further (states_of_run X.further breaks.now until machine.old.machine) machine.old.machine).records (out_of S.written S.faults out.new) }
     ensures gone { OnOk result (Gone X.further (states_of_run X.further breaks.now until machine.old.machine) machine.old.machine begun.old machine.new.machine begun.new) }

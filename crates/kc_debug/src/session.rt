@@ -1,5 +1,5 @@
 // Sessions: a script that is carried out over a machine.
-ghost use Rattle.std.specs.Prelude.{◌≡◌, ◌+◌, ◌*◌, ◌^◌, ◌<◌, ◌≤◌, max, [], ◌∷◌, length, drop, count_by, IfOk, IfErr, OnOk, OnErr, false, true};
+ghost use Rattle.std.specs.Prelude.{◌≡◌, ◌+◌, ◌*◌, ◌<◌, ◌≤◌, max, [], ◌∷◌, length, drop, count_by, IfOk, IfErr, OnOk, OnErr, false, true};
 ghost use Rattle.kc_base.specs.Limits.{max_states};
 ghost use Rattle.circular_buffer.specs.Buffer.{buffer, keep_last};
 ghost use Rattle.kc_trace.specs.Out.{Puts};
@@ -87,7 +87,7 @@ impl Sitting {
         steps: &mut Steps<L>,
     ) -> Result<(), WriteFault>
         requires kept { IsKept self.old.begun }
-        requires room { machine.old.machine.time + 255 * count ≤ 2 * 10 ^ 15 }
+        requires room { machine.old.machine.time + 255 * count ≤ 2 * max_states }
         requires unbroken { out.old.failed ≡ false }
         ensures text { Puts (out_of S.written S.faults out.old) (gone_for X.further (states_of_activities X.further count machine.old.machine) (seen machine.old.machine self.old)).text (out_of S.written S.faults out.new) }
         ensures gone { OnOk result (Gone X.further (states_of_activities X.further count machine.old.machine) machine.old.machine self.old.begun machine.new.machine self.new.begun) }
@@ -112,7 +112,7 @@ impl Sitting {
         steps: &mut Steps<L>,
     ) -> Result<(), WriteFault>
         requires kept { IsKept self.old.begun }
-        requires room { until ≤ 2 * 10 ^ 15 }
+        requires room { until ≤ 2 * max_states }
         requires unbroken { out.old.failed ≡ false }
         ensures text { Puts (out_of S.written S.faults out.old) (gone_for X.further (states_of_run X.further self.old.breaks.items until machine.old.machine) (seen machine.old.machine self.old)).text (out_of S.written S.faults out.new) }
         ensures gone { OnOk result (Gone X.further (states_of_run X.further self.old.breaks.items until machine.old.machine) machine.old.machine self.old.begun machine.new.machine self.new.begun) }
@@ -147,7 +147,7 @@ impl Sitting {
         requires bounded { IsBounded command }
         requires kept { IsKept self.old.begun }
         requires few { length self.old.breaks.items + count_by is_break (command ∷ []) ≤ 16 }
-        requires room { machine.old.machine.time + 255000000 ≤ 2 * 10 ^ 15 }
+        requires room { machine.old.machine.time + 255000000 ≤ 2 * max_states }
         requires unbroken { out.old.failed ≡ false }
         ensures text { Puts (out_of S.written S.faults out.old) (after_command X.further lines.now command (seen machine.old.machine self.old)).text (out_of S.written S.faults out.new) }
         ensures machine { OnOk result (machine.new.machine ≡ (after_command X.further lines.now command (seen machine.old.machine self.old)).machine) }

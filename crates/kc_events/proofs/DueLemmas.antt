@@ -1,8 +1,9 @@
 -- Lines that end a run report what happens in the order of states.
-use Rattle.std.proofs.Common.{◌≡◌, ℕ, zero, suc, ◌+◌, ◌-◌, ◌≤◌, ◌^◌, ◌==◌, true, false, not, ◌&&◌, List, [], ◌∷◌, sym, ◌∙◌, arith}
+use Rattle.std.proofs.Common.{◌≡◌, ℕ, zero, suc, ◌+◌, ◌-◌, ◌≤◌, ◌==◌, true, false, not, ◌&&◌, List, [], ◌∷◌, sym, ◌∙◌, arith}
 use Rattle.std.specs.Prelude.{nat_le}
 use Rattle.std.proofs.lemmas.Bool.{leb-true, eqb-true, and_parts}
 use Rattle.std.proofs.lemmas.Bool.Decides.{nat_tests}
+use Rattle.kc_base.specs.Limits.{max_states}
 use Rattle.kc_base.specs.declared.types.Level.{Level}
 use Rattle.kc_base.specs.Pins.{is_printed}
 use Rattle.kc_trace.specs.declared.record.Record.TheVariants.{Pin, Entered, Served, Undef, Stopped, Pc, Psw, Wsr, Registers}
@@ -19,7 +20,7 @@ apart e = absurd cc
 
 order_at : (p : Place) (t at : ℕ) → t ≤ p.past - 1 → is_in_order p at ≡ true → t ≤ at
 order_at p t at early h =
-    let less : p.past ≤ at + 1 = leb-true p.past (at + 1) (and_parts (nat_le p.past (at + 1)) (nat_le (p.base + at) (10 ^ 15)) h).0 in
+    let less : p.past ≤ at + 1 = leb-true p.past (at + 1) (and_parts (nat_le p.past (at + 1)) (nat_le (p.base + at) max_states) h).0 in
     omega (arith, early, less)
 
 big_end : (p : Place) (at how : ℕ) → 3 ≤ how → is_end p at how ≡ false
@@ -28,7 +29,7 @@ big_end p at how big = grind (arith, nat_tests)
 -- the end of a life
 end_due : (p : Place) (t at how : ℕ) → t ≤ p.past - 1 → is_end p at how ≡ true → AreFrom t (end_event at how) × (t ≤ count_at at how)
 end_due p t at zero early h =
-    let less : p.past ≤ at = leb-true p.past at (and_parts (nat_le p.past at) (nat_le (p.base + at) (10 ^ 15)) h).0 in
+    let less : p.past ≤ at = leb-true p.past at (and_parts (nat_le p.past at) (nat_le (p.base + at) max_states) h).0 in
     (tt, omega (arith, early, less))
 end_due p t at (suc zero) early h = let there = order_at p t at early h in ((there, tt), omega (arith, there))
 end_due p t at (suc (suc zero)) early h = let there = order_at p t at early h in ((there, tt), omega (arith, there))

@@ -1,7 +1,8 @@
 -- The lives of a run, by its steps.
-use Rattle.std.proofs.Common.{◌≡◌, ℕ, zero, suc, ◌+◌, ◌≤◌, ◌^◌, List, [], ◌∷◌, ◌++◌, filter, not, refl, sym, ap, ◌∙◌, append_assoc, append-nil, arith}
+use Rattle.std.proofs.Common.{◌≡◌, ℕ, zero, suc, ◌+◌, ◌≤◌, List, [], ◌∷◌, ◌++◌, filter, not, refl, sym, ap, ◌∙◌, append_assoc, append-nil, arith}
 use Rattle.std.specs.Prelude.{All}
 use Rattle.std.proofs.lemmas.List.Elements.{All-nil, All-cons}
+use Rattle.kc_base.specs.Limits.{max_states}
 use Rattle.kc_base.specs.declared.types.Level.{Level}
 use Rattle.kc_life.specs.declared.life.Signal.{Signal}
 use Rattle.kc_life.specs.declared.life.What.{What}
@@ -117,7 +118,7 @@ life d base reported last = record {
   last = last;
 }
 
-life_and : (d : Drives) (base : ℕ) (reported : List Event) (count : ℕ) (others : List Life) → count ≤ 10 ^ 15 + 1 → All IsLife others → All IsLife (life_of d base reported count ++ others)
+life_and : (d : Drives) (base : ℕ) (reported : List Event) (count : ℕ) (others : List Life) → count ≤ max_states + 1 → All IsLife others → All IsLife (life_of d base reported count ++ others)
 life_and d base reported zero others short h = h
 life_and d base reported (suc last) others short h =
     All-cons IsLife (life d base reported last) others (record {
@@ -126,7 +127,7 @@ life_and d base reported (suc last) others short h =
       short = omega (arith, short);
     }) h
 
-count_short : (at how : ℕ) → at ≤ 10 ^ 15 → count_at at how ≤ 10 ^ 15 + 1
+count_short : (at how : ℕ) → at ≤ max_states → count_at at how ≤ max_states + 1
 count_short at zero short = omega (arith, short)
 count_short at (suc how) short = omega (arith, short)
 
@@ -139,7 +140,7 @@ lives_with_order p d base reported (Printed (Served at vector mode count) ∷ li
 lives_with_order p d base reported (Printed (Undef what) ∷ lines) h = lives_with_order (after_line p (Printed (Undef what))) d base (reported ++ event_of (Undef what)) lines h.1
 lives_with_order p d base reported (Printed (Stopped at how) ∷ lines) h = last_life (reported ++ end_event at how) (count_at at how) (count_short at how h.0.sound.1)
   where
-    last_life : (all : List Event) (count : ℕ) → count ≤ 10 ^ 15 + 1 → All IsLife (life_of d base all count)
+    last_life : (all : List Event) (count : ℕ) → count ≤ max_states + 1 → All IsLife (life_of d base all count)
     last_life all zero short = All-nil IsLife
     last_life all (suc last) short = life_and d base all (suc last) [] short (All-nil IsLife)
 lives_with_order p d base reported (Printed (Pc value) ∷ lines) h = lives_with_order (after_line p (Printed (Pc value))) d base (reported ++ []) lines h.1
@@ -147,7 +148,7 @@ lives_with_order p d base reported (Printed (Psw value) ∷ lines) h = lives_wit
 lives_with_order p d base reported (Printed (Wsr value) ∷ lines) h = lives_with_order (after_line p (Printed (Wsr value))) d base (reported ++ []) lines h.1
 lives_with_order p d base reported (Printed (Registers at bytes) ∷ lines) h = lives_with_order (after_line p (Printed (Registers at bytes))) d base (reported ++ []) lines h.1
 lives_with_order p d base reported (Restarted at by_watchdog ∷ lines) h =
-    let short : at ≤ 10 ^ 15 = h.0.sound in
+    let short : at ≤ max_states = h.0.sound in
     life_and d base (reported ++ restart_event at by_watchdog ∷ []) (at + 1) (lives_with d (base + at + 1) [] lines) (omega (arith, short)) (lives_with_order (after_line p (Restarted at by_watchdog)) d (base + at + 1) [] lines h.1)
 
 pub lives_are_lives : LivesAreLives

@@ -1,8 +1,9 @@
 -- The text of a line: it is that of no other line, has no end within it, and is short.
-use Rattle.std.proofs.Common.{◌≡◌, ℕ, zero, suc, ◌<◌, ◌≤◌, ◌^◌, Bool, true, false, leb, Option, Some, None, List, [], ◌∷◌, ◌++◌, length, refl, sym, ap, subst, ◌∙◌, length-append, arith}
+use Rattle.std.proofs.Common.{◌≡◌, ℕ, zero, suc, ◌<◌, ◌≤◌, Bool, true, false, leb, Option, Some, None, List, [], ◌∷◌, ◌++◌, length, refl, sym, ap, subst, ◌∙◌, length-append, arith}
 use Rattle.std.specs.Prelude.{codes, decimal}
 use Rattle.std.proofs.lemmas.Bool.{leb-true}
 use Rattle.std.proofs.lemmas.Fmt.{length-decimal-le}
+use Rattle.kc_base.specs.Limits.{max_states}
 use Rattle.kc_base.specs.declared.types.PtsMode.{PtsMode}
 use Rattle.kc_base.specs.declared.types.PtsMode.TheVariants as mode
 use Rattle.kc_base.specs.Pins.{pin_name}
@@ -32,7 +33,7 @@ name-read : (at : ℕ) (by_watchdog : Bool) → restart_with (Some at) (reset_na
 name-read at true = refl
 name-read at false = refl
 
-pub restart-read : (at : ℕ) (by_watchdog : Bool) → at ≤ 10 ^ 15 → restart_of (line_text (Restarted at by_watchdog)) ≡ Some (at, by_watchdog)
+pub restart-read : (at : ℕ) (by_watchdog : Bool) → at ≤ max_states → restart_of (line_text (Restarted at by_watchdog)) ≡ Some (at, by_watchdog)
 restart-read at by_watchdog early =
     let time = time-read at (reset_name by_watchdog) early in
     let name = behind-time at (reset_name by_watchdog) early in
@@ -50,13 +51,13 @@ not_none : (r : ℕ × Bool) → Some r ≡ None → ⊥
 not_none r e = absurd cc
 
 -- a text that can be none is none
-pub no_restart : (text : List ℕ) → restart_of text ≡ None → (at : ℕ) (by_watchdog : Bool) → at ≤ 10 ^ 15 → line_text (Restarted at by_watchdog) ≡ text → ⊥
+pub no_restart : (text : List ℕ) → restart_of text ≡ None → (at : ℕ) (by_watchdog : Bool) → at ≤ max_states → line_text (Restarted at by_watchdog) ≡ text → ⊥
 no_restart text none at by_watchdog early e =
     not_none (at, by_watchdog) (sym (restart-read at by_watchdog early) ∙ ap restart_of e ∙ none)
 
 -- a text that another one could be is none
 pub other_restart : (text : List ℕ) (t : ℕ) (by_other : Bool) → restart_of text ≡ Some (t, by_other) → (line_text (Restarted t by_other) ≡ text → ⊥) →
-    (at : ℕ) (by_watchdog : Bool) → at ≤ 10 ^ 15 → line_text (Restarted at by_watchdog) ≡ text → ⊥
+    (at : ℕ) (by_watchdog : Bool) → at ≤ max_states → line_text (Restarted at by_watchdog) ≡ text → ⊥
 other_restart text t by_other is differs at by_watchdog early e =
     let both = sym (restart-read at by_watchdog early) ∙ ap restart_of e ∙ is in
     differs ((λ i. line_text (Restarted (sym (ap time_in both) i) (sym (ap origin_in both) i))) ∙ e)
@@ -101,7 +102,7 @@ plain_text (Restarted at by_watchdog) h =
 
 -- ---- it is short
 
-number_short : (n : ℕ) → n ≤ 10 ^ 15 → length (decimal n) ≤ 16
+number_short : (n : ℕ) → n ≤ max_states → length (decimal n) ≤ 16
 number_short n h = length-decimal-le 16 n (omega arith) (omega arith) (omega arith)
 
 pin_short : (pin : ℕ) → pin < 41 → length (pin_name pin) ≤ 6

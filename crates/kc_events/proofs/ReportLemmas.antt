@@ -3,6 +3,7 @@ use Rattle.std.proofs.Common.{◌≡◌, ℕ, ◌+◌, ◌<◌, ◌≤◌, ◌^�
 use Rattle.std.specs.Prelude.{nat_le}
 use Rattle.std.specs.Io.KnownBytes.{Keeps, IsAtEnd}
 use Rattle.std.proofs.lemmas.Bool.{leb-true, and_parts}
+use Rattle.kc_base.specs.Limits.{max_states}
 use Rattle.kc_base.specs.Causes.{Rose}
 use Rattle.kc_base.specs.TextLines.{text_lines}
 use Rattle.kc_base.proofs.Words.{no_lines}
@@ -148,14 +149,14 @@ fed_in_step a b c d line h gave next base lives same = record {
 apart : true ≡ false → ⊥
 apart e = absurd cc
 
-restart_early : (p : Place) (s : Stage) (at : ℕ) → may_restart p s at ≡ true → p.base + at ≤ 10 ^ 15
-restart_early p stage.Living at fits = leb-true (p.base + at) (10 ^ 15) (and_parts (nat_le p.past (at + 1)) (nat_le (p.base + at) (10 ^ 15)) fits).1
+restart_early : (p : Place) (s : Stage) (at : ℕ) → may_restart p s at ≡ true → p.base + at ≤ max_states
+restart_early p stage.Living at fits = leb-true (p.base + at) max_states (and_parts (nat_le p.past (at + 1)) (nat_le (p.base + at) max_states) fits).1
 restart_early p (stage.Broken t) at fits = absurd (apart (sym fits))
 restart_early p (stage.Over n) at fits = absurd (apart (sym fits))
 
 early_by : (p : Place) (base : ℕ) (known : Known) (line : Line) → (known ≡ Living → p.base ≡ base) → may_follow p line ≡ true → IsEarly base known line
 early_by p base Living (Printed item) same fits = tt
-early_by p base Living (Restarted at by_watchdog) same fits = subst (λ b. b + at ≤ 10 ^ 15) (same refl) (restart_early p p.stage at fits)
+early_by p base Living (Restarted at by_watchdog) same fits = subst (λ b. b + at ≤ max_states) (same refl) (restart_early p p.stage at fits)
 early_by p base (Ending count is_followed) line same fits = tt
 early_by p base Ended line same fits = tt
 

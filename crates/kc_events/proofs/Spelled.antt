@@ -1,8 +1,9 @@
 -- The record of a line is the one that its line can be.
-use Rattle.std.proofs.Common.{◌≡◌, ℕ, zero, suc, ◌+◌, ◌-◌, ◌<◌, ◌≤◌, ◌^◌, Some, None, Ok, List, [], ◌∷◌, ◌++◌, length, take, flat_map, length-append, refl, sym, ap, subst, ◌∙◌, append_assoc, arith}
+use Rattle.std.proofs.Common.{◌≡◌, ℕ, zero, suc, ◌+◌, ◌-◌, ◌<◌, ◌≤◌, Some, None, Ok, List, [], ◌∷◌, ◌++◌, length, take, flat_map, length-append, refl, sym, ap, subst, ◌∙◌, append_assoc, arith}
 use Rattle.std.specs.Prelude.{codes, decimal}
 use Rattle.std.specs.Option.{option_map}
 use Rattle.std.proofs.Math.Seq.{take-append_seam}
+use Rattle.kc_base.specs.Limits.{max_states}
 use Rattle.hex.specs.Hex.{decode_sized}
 use Rattle.kc_base.specs.declared.types.Edge.{Edge}
 use Rattle.kc_base.specs.declared.types.Kind.{Kind}
@@ -109,13 +110,13 @@ two a b = append_assoc a (32 ∷ []) b
 abbrev pin_text : ℕ → Edge → List ℕ
 pin_text at edge = decimal at ++ 32 ∷ (pin_name edge.pin.0 ++ 32 ∷ level_digit edge.level ∷ [])
 
-pub time-word : (at : ℕ) → at ≤ 10 ^ 15 → Word (decimal at)
+pub time-word : (at : ℕ) → at ≤ max_states → Word (decimal at)
 time-word at h = word-decimal at (omega arith)
 
-pub time-read : (at : ℕ) (rest : List ℕ) → at ≤ 10 ^ 15 → time_of (first_of (decimal at ++ 32 ∷ rest)) ≡ Some at
-time-read at rest h = ap time_of (word-before (decimal at) rest (time-word at h)) ∙ number-read (10 ^ 15) at h (omega arith)
+pub time-read : (at : ℕ) (rest : List ℕ) → at ≤ max_states → time_of (first_of (decimal at ++ 32 ∷ rest)) ≡ Some at
+time-read at rest h = ap time_of (word-before (decimal at) rest (time-word at h)) ∙ number-read max_states at h (omega arith)
 
-pub behind-time : (at : ℕ) (rest : List ℕ) → at ≤ 10 ^ 15 → rest_of (decimal at ++ 32 ∷ rest) ≡ rest
+pub behind-time : (at : ℕ) (rest : List ℕ) → at ≤ max_states → rest_of (decimal at ++ 32 ∷ rest) ≡ rest
 behind-time at rest h = word-after (decimal at) rest (time-word at h)
 
 byte-word : (n : ℕ) → n < 256 → Word (decimal n)
@@ -127,7 +128,7 @@ below-256 n m few less = omega arith
 number-byte : (n : ℕ) → n < 256 → byte_number (decimal n) ≡ Some n
 number-byte n h = number-read 255 n (omega arith) (omega arith)
 
-pin-line : (at : ℕ) (edge : Edge) → edge.pin.0 < 41 → at ≤ 10 ^ 15 → pin_record (pin_text at edge) ≡ Some (Pin at edge)
+pin-line : (at : ℕ) (edge : Edge) → edge.pin.0 < 41 → at ≤ max_states → pin_record (pin_text at edge) ≡ Some (Pin at edge)
 pin-line at edge is early =
     let rest : List ℕ = pin_name edge.pin.0 ++ 32 ∷ level_digit edge.level ∷ [] in
     let behind = behind-time at rest early in
@@ -137,7 +138,7 @@ pin-line at edge is early =
     let level = ap level_of (ap rest_of behind ∙ word-after (pin_name edge.pin.0) (level_digit edge.level ∷ []) name) ∙ level-read edge.level in
     λ i. pin_with (time i) (pin i) (level i)
 
-entered-line : (at vector back : ℕ) → at ≤ 10 ^ 15 → vector < 18 → back < 65536 → entered_record (decimal at ++ 32 ∷ (decimal vector ++ 32 ∷ hex 4 back)) ≡ Some (Entered at vector back)
+entered-line : (at vector back : ℕ) → at ≤ max_states → vector < 18 → back < 65536 → entered_record (decimal at ++ 32 ∷ (decimal vector ++ 32 ∷ hex 4 back)) ≡ Some (Entered at vector back)
 entered-line at vector back early few small =
     let rest : List ℕ = decimal vector ++ 32 ∷ hex 4 back in
     let behind = behind-time at rest early in
@@ -147,7 +148,7 @@ entered-line at vector back early few small =
     let address = ap word_of (ap rest_of behind ∙ word-after (decimal vector) (hex 4 back) w) ∙ word-read back small in
     λ i. entered_with (time i) (number i) (address i)
 
-served-line : (at vector : ℕ) (m : PtsMode) (count : ℕ) → at ≤ 10 ^ 15 → vector < 15 → count < 256 →
+served-line : (at vector : ℕ) (m : PtsMode) (count : ℕ) → at ≤ max_states → vector < 15 → count < 256 →
     served_record (decimal at ++ 32 ∷ (decimal vector ++ 32 ∷ (mode_name m ++ 32 ∷ decimal count))) ≡ Some (Served at vector m count)
 served-line at vector m count early few least =
     let last : List ℕ = mode_name m ++ 32 ∷ decimal count in
@@ -161,7 +162,7 @@ served-line at vector m count early few least =
     let left = ap byte_number (ap rest_of third ∙ word-after (mode_name m) (decimal count) (mode-word m)) ∙ number-byte count least in
     λ i. served_with (time i) (number i) (how i) (left i)
 
-undefined-line : (what : Undefined) → what.at ≤ 10 ^ 15 → what.addr < 65536 →
+undefined-line : (what : Undefined) → what.at ≤ max_states → what.addr < 65536 →
     undefined_record (decimal what.at ++ 32 ∷ (decimal (kind_number what.kind) ++ 32 ∷ hex 4 what.addr)) ≡ Some (Undef what)
 undefined-line what early small =
     let few : kind_number what.kind < 256 = omega (arith, kind-small what.kind) in
@@ -175,7 +176,7 @@ undefined-line what early small =
     λ i. undefined_with (time i) (number i) (address i) in
     all ∙ ap (λ (k : Kind). Some (Undef (record { kind = k; at = what.at; addr = what.addr }))) (kind-read what.kind)
 
-stopped-line : (at how : ℕ) → at ≤ 10 ^ 15 → how < 4 → stopped_record (decimal at ++ 32 ∷ end_name how) ≡ Some (Stopped at how)
+stopped-line : (at how : ℕ) → at ≤ max_states → how < 4 → stopped_record (decimal at ++ 32 ∷ end_name how) ≡ Some (Stopped at how)
 stopped-line at how early few =
     let time = time-read at (end_name how) early in
     let end = ap end_of (behind-time at (end_name how) early) ∙ end-read how few in

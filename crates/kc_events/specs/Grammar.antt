@@ -4,7 +4,8 @@
 -- states, which count from its start. An edge changes the level of a pin that is printed. An undefined use is followed by the
 -- end of the run, in its state. Behind X stand the program counter, PSW, WSR and the 16 rows of the register file, or the first
 -- of these. No line stands behind state 10^15 of the run.
-use Rattle.std.specs.Prelude.{◌≡◌, ℕ, ◌+◌, ◌-◌, ◌*◌, ◌^◌, ◌==◌, nat_le, nat_lt, if◌then◌else◌, Bool, true, false, not, ◌&&◌, List, [], ◌∷◌}
+use Rattle.std.specs.Prelude.{◌≡◌, ℕ, ◌+◌, ◌-◌, ◌*◌, ◌==◌, nat_le, nat_lt, if◌then◌else◌, Bool, true, false, not, ◌&&◌, List, [], ◌∷◌}
+use Rattle.kc_base.specs.Limits.{max_states}
 use Rattle.kc_base.specs.declared.types.Level.{Level}
 use Rattle.kc_base.specs.Levels.{is_high}
 use Rattle.kc_life.specs.declared.life.Signal.TheVariants.{Output}
@@ -37,11 +38,11 @@ same_level a b = if is_high a then is_high b else not (is_high b)
 
 -- no earlier than the line before it
 abbrev pub is_in_order : Place → ℕ → Bool
-is_in_order p at = nat_le p.past (at + 1) && nat_le (p.base + at) (10 ^ 15)
+is_in_order p at = nat_le p.past (at + 1) && nat_le (p.base + at) max_states
 
 -- a run that is spent has printed nothing in the state of this number, which it has not seen
 abbrev pub is_end : Place → ℕ → ℕ → Bool
-is_end p at how = if how == 0 then nat_le p.past at && nat_le (p.base + at) (10 ^ 15) else nat_lt how 3 && is_in_order p at
+is_end p at how = if how == 0 then nat_le p.past at && nat_le (p.base + at) max_states else nat_lt how 3 && is_in_order p at
 
 abbrev pub is_of_life : Place → Record → Bool
 is_of_life p (Pin at edge) = is_in_order p at && (is_printed edge.pin.0 && not (same_level edge.level (p.levels edge.pin.0)))

@@ -1,5 +1,6 @@
 -- The lines of a trace, and their text (this kit's own).
-use Rattle.std.specs.Prelude.{ℕ, ◌^◌, ◌≤◌, Bool, true, false, List, [], ◌∷◌, ◌++◌, codes, decimal, flat_map}
+use Rattle.std.specs.Prelude.{ℕ, ◌≤◌, Bool, true, false, List, [], ◌∷◌, ◌++◌, codes, decimal, flat_map}
+use Rattle.kc_base.specs.Limits.{max_states}
 use Rattle.kc_trace.specs.Text.{fields_of}
 use Rattle.kc_events.specs.declared.line.Line.{Line}
 use Rattle.kc_events.specs.declared.line.Line.TheVariants.{Printed, Restarted}
@@ -22,4 +23,4 @@ trace_text lines = flat_map (λ line. line_text line ++ 10 ∷ []) lines
 -- the numbers of a line are those of a run
 abbrev pub IsSoundLine : Line → Type 0
 IsSoundLine (Printed item) = IsSound item
-IsSoundLine (Restarted at by_watchdog) = at ≤ 10 ^ 15
+IsSoundLine (Restarted at by_watchdog) = at ≤ max_states

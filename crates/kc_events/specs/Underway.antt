@@ -1,5 +1,6 @@
 -- What a course keeps of a run (this kit's own).
-use Rattle.std.specs.Prelude.{◌≡◌, ℕ, ◌+◌, ◌-◌, ◌≤◌, ◌^◌, Bool, true, false, Option, Some, None, List, ◌∷◌}
+use Rattle.std.specs.Prelude.{◌≡◌, ℕ, ◌+◌, ◌-◌, ◌≤◌, Bool, true, false, Option, Some, None, List, ◌∷◌}
+use Rattle.kc_base.specs.Limits.{max_states}
 use Rattle.kc_life.specs.declared.life.What.{What}
 use Rattle.kc_life.specs.declared.life.Event.{Event}
 use Rattle.kc_life.specs.declared.levels.Levels.{Levels}
@@ -69,7 +70,7 @@ IsOpen _ = ⊥
 
 -- the next life begins no later than a run may last
 abbrev pub IsEarly : ℕ → Known → Line → Type 0
-IsEarly base Living (Restarted at by_watchdog) = base + at ≤ 10 ^ 15
+IsEarly base Living (Restarted at by_watchdog) = base + at ≤ max_states
 IsEarly base _ _ = Unit {0}
 
 -- ---- what a step does
@@ -105,11 +106,11 @@ pub record IsSameLife (old new : Underway) : Type 0 where
 
 abbrev pub IsEarlyEvent : Option Event → Type 0
 IsEarlyEvent None = Unit {0}
-IsEarlyEvent (Some e) = e.at ≤ 10 ^ 15
+IsEarlyEvent (Some e) = e.at ≤ max_states
 
 abbrev pub IsEarlyEnd : ℕ → Known → Type 0
-IsEarlyEnd base (Ending count true) = base + count ≤ 10 ^ 15 + 1
-IsEarlyEnd base (Ending count false) = count ≤ 10 ^ 15 + 1
+IsEarlyEnd base (Ending count true) = base + count ≤ max_states + 1
+IsEarlyEnd base (Ending count false) = count ≤ max_states + 1
 IsEarlyEnd base _ = Unit {0}
 
 -- an event that is reported is one of a life that goes on
@@ -118,8 +119,8 @@ GoesIfAhead None known = Unit {0}
 GoesIfAhead (Some e) known = GoesOn known
 
 pub record IsSteady (u : Underway) : Type 0 where
-  pub base : u.base ≤ 10 ^ 15 + 1
-  pub time : u.time ≤ 10 ^ 15 + 1
+  pub base : u.base ≤ max_states + 1
+  pub time : u.time ≤ max_states + 1
   pub event : IsEarlyEvent u.ahead
   pub end : IsEarlyEnd u.base u.known
   pub goes : GoesIfAhead u.ahead u.known

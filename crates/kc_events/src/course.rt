@@ -1,5 +1,6 @@
 // What happens in the lives of a run, one state at a time.
-ghost use Rattle.std.specs.Prelude.{◌≡◌, ℕ, ◌+◌, ◌-◌, ◌<◌, ◌≤◌, ◌^◌, ◌∷◌, [], List, true, false, None, Some, Ok, IfOk, OnOk};
+ghost use Rattle.std.specs.Prelude.{◌≡◌, ℕ, ◌+◌, ◌-◌, ◌<◌, ◌≤◌, ◌∷◌, [], List, true, false, None, Some, Ok, IfOk, OnOk};
+ghost use Rattle.kc_base.specs.Limits.{max_states};
 ghost use Rattle.kc_life.specs.Tables.{level_in};
 ghost use Rattle.kc_stim.specs.Drives.{IsStill};
 ghost use Rattle.kc_events.specs.declared.line.Line.{Line};
@@ -108,7 +109,7 @@ fn event_of(item: &Record) -> Option<Event>
 // What ends a run, where that is no undefined use, which has a line of its own.
 fn end_event(at: StateTime, how: u8) -> Option<Event>
     ensures reported { events_ahead result ≡ end_by at how }
-    ensures early { at ≤ 10 ^ 15 → IsEarlyEvent result }
+    ensures early { at ≤ max_states → IsEarlyEvent result }
 {
     match how {
         1 => event(at, What::Powerdown),
@@ -131,7 +132,7 @@ fn restart_event(at: StateTime, by_watchdog: bool) -> Event
 
 // How many states a life has that a run ends so.
 fn count_of(at: StateTime, how: u8) -> StateTime
-    requires { at ≤ 10 ^ 15 }
+    requires { at ≤ max_states }
     ensures { result ≡ count_at at how }
 {
     if how == 0 { at } else { at + 1 }
@@ -182,8 +183,8 @@ fn news(line: &Line) -> (Option<Event>, Known)
 // The first state of a life behind this one in which the stimuli move an input, up to a state.
 fn next_state(stimuli: &Stimuli, base: StateTime, now: StateTime, at: StateTime) -> StateTime
     requires order { now < at }
-    requires base { base ≤ 10 ^ 15 + 1 }
-    requires at { at ≤ 10 ^ 15 + 1 }
+    requires base { base ≤ max_states + 1 }
+    requires at { at ≤ max_states + 1 }
     ensures later { now < result }
     ensures within { result ≤ at }
     ensures still { (t : ℕ) → now < t → t < result → IsStill stimuli.now.stimuli (base + t) }
@@ -330,7 +331,7 @@ impl Course {
 
     // Goes on to a state, or behind the first one before it in which something happens: whether there is one.
     fn reach(&mut self, at: StateTime) -> Result<bool, NoMemory>
-        requires early { at ≤ 10 ^ 15 + 1 }
+        requires early { at ≤ max_states + 1 }
         requires begun { self.old.has_begun ≡ true }
         requires still { IsStillIn (present_in self.old) }
         ensures passed { result ≡ Ok true → HasPassed at (present_in self.old) (state_passed self.new) (present_in self.new) }
@@ -353,7 +354,7 @@ impl Course {
 
     // Goes behind the present state.
     fn pass(&mut self) -> Result<(), NoMemory>
-        requires early { self.old.time ≤ 10 ^ 15 }
+        requires early { self.old.time ≤ max_states }
         ensures present { OnOk result (present_in self.new ≡ behind (present_in self.old)) }
         ensures passed { OnOk result (self.new.passed ≡ self.old.whats) }
         ensures kept { OnOk result (IsSameLife self.old self.new) }
@@ -374,7 +375,7 @@ impl Course {
     // Goes on to a state, or to the first one before it in which the stimuli move an input.
     fn skip(&mut self, at: StateTime) -> Result<(), NoMemory>
         requires order { self.old.time < at }
-        requires early { at ≤ 10 ^ 15 + 1 }
+        requires early { at ≤ max_states + 1 }
         requires still { self.old.whats ≡ [] }
         requires begun { self.old.has_begun ≡ true }
         requires quiet { IsStillIn (present_in self.old) }

@@ -14,6 +14,7 @@ mod reader;
 mod trace;
 
 pub use course::{Course, Known, Step};
+pub use inputs::start_levels;
 pub use laws::{lives_are_lives, one_reading, one_trace, steps_make_lives, traces_are_read};
 pub use line::Line;
 pub use lives::{Lives, LivesFault};

@@ -1,5 +1,6 @@
 // Which line has a text.
-ghost use Rattle.std.specs.Prelude.{◌≡◌, ◌≢◌, ◌≤◌, ◌^◌, ℕ, Bool, false, None, IfSome, IsTrue};
+ghost use Rattle.std.specs.Prelude.{◌≡◌, ◌≢◌, ◌≤◌, ℕ, Bool, false, None, IfSome, IsTrue};
+ghost use Rattle.kc_base.specs.Limits.{max_states};
 ghost use Rattle.kc_events.specs.Candidates.{restart_of};
 ghost use Rattle.kc_events.specs.Lines.{IsSoundLine, line_text, reset_name as name_of};
 ghost use Rattle.kc_events.specs.declared.line.Line.{Line};
@@ -32,7 +33,7 @@ fn is_spelled(at: StateTime, by_watchdog: bool, text: &[u8]) -> bool
 // The end of a life that a text can be: its last state, and whether the watchdog has reset the chip.
 fn candidate(text: &[u8]) -> Option<(StateTime, bool)>
     ensures value { result ≡ restart_of text.now }
-    ensures bounded { IfSome result (λ r. r.0 ≤ 10 ^ 15) }
+    ensures bounded { IfSome result (λ r. r.0 ≤ max_states) }
 {
     let (_, rest) = split_at_space(text);
     let (time, name) = split_at_space(rest);
@@ -46,7 +47,7 @@ fn candidate(text: &[u8]) -> Option<(StateTime, bool)>
 // The end of a life that has this text.
 fn restarted(text: &[u8]) -> Option<Line>
     ensures sound { IfSome result (λ line. IsSoundLine line × (line_text line ≡ text.now)) }
-    ensures none { result ≡ None → (at : ℕ) (by_watchdog : Bool) → at ≤ 10 ^ 15 → line_text (Restarted at by_watchdog) ≢ text.now }
+    ensures none { result ≡ None → (at : ℕ) (by_watchdog : Bool) → at ≤ max_states → line_text (Restarted at by_watchdog) ≢ text.now }
 {
     let (at, by_watchdog) = candidate(text)?;
     if is_spelled(at, by_watchdog, text) {

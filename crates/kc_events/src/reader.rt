@@ -1,5 +1,6 @@
 // The lines of a trace, one behind the other.
-ghost use Rattle.std.specs.Prelude.{◌≡◌, ◌≢◌, ◌+◌, ◌≤◌, ◌^◌, ◌&&◌, not, true, None, IfSome};
+ghost use Rattle.std.specs.Prelude.{◌≡◌, ◌≢◌, ◌+◌, ◌≤◌, ◌&&◌, not, true, None, IfSome};
+ghost use Rattle.kc_base.specs.Limits.{max_states};
 ghost use Rattle.kc_base.specs.Pins.{is_printed};
 ghost use Rattle.kc_events.specs.Printed.{is_short, place_in};
 ghost use Rattle.kc_events.specs.Sound.{IsSound};
@@ -8,13 +9,10 @@ ghost use Rattle.kc_events.specs.Grammar.{Place, start_place, same_level, is_in_
 
 use crate::line::Line;
 use crate::lines::line_of;
-use kc_base::{Edge, Level, StateTime};
+use kc_base::{Edge, Level, MAX_STATES, StateTime};
 use kc_life::{Levels, Signal};
 use kc_trace::Record;
 use std::marker::Model;
-
-/// The greatest state of a run in which a line may stand.
-const LAST: StateTime = 1_000_000_000_000_000;
 
 /// How far a life has come.
 #[derive(Clone, Copy)]
@@ -37,14 +35,15 @@ pub struct Reader {
 }
 
 impl Model for Reader {
-    ghost use Rattle.std.specs.Prelude.{◌≡◌, ◌≤◌, ◌+◌, ◌^◌, true};
+    ghost use Rattle.std.specs.Prelude.{◌≡◌, ◌≤◌, ◌+◌, true};
     ghost use Rattle.kc_events.specs.Printed.{Kept, is_short};
+    ghost use Rattle.kc_base.specs.Limits.{max_states};
 
     ghost Value = { Kept };
 
     ghost view = { λ r. record { base = r.base; past = r.past; levels = r.levels; stage = r.stage } };
 
-    ghost invariant = { λ r. (r.base ≤ 10 ^ 15 + 1) × (r.past ≤ 10 ^ 15 + 1) × (is_short 19 r.stage ≡ true) };
+    ghost invariant = { λ r. (r.base ≤ max_states + 1) × (r.past ≤ max_states + 1) × (is_short 19 r.stage ≡ true) };
 }
 
 pub(crate) fn is_same(a: Level, b: Level) -> bool
@@ -96,10 +95,10 @@ fn next_stage(stage: Stage) -> Stage
 impl Reader {
     // Whether a line of this state is no earlier than the line before it.
     fn is_in_order(&self, at: StateTime) -> bool
-        requires { at ≤ 10 ^ 15 }
+        requires { at ≤ max_states }
         ensures { result ≡ in_order (place_in self.now) at }
     {
-        self.past <= at + 1 && self.base + at <= LAST
+        self.past <= at + 1 && self.base + at <= MAX_STATES
     }
 
     // Whether an edge moves a printed pin.
@@ -112,11 +111,11 @@ impl Reader {
 
     // Whether a life may end so.
     fn is_end(&self, at: StateTime, how: u8) -> bool
-        requires { at ≤ 10 ^ 15 }
+        requires { at ≤ max_states }
         ensures { result ≡ ends (place_in self.now) at how }
     {
         if how == 0 {
-            self.past <= at && self.base + at <= LAST
+            self.past <= at && self.base + at <= MAX_STATES
         } else {
             how < 3 && self.is_in_order(at)
         }

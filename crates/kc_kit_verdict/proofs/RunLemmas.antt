@@ -2,6 +2,7 @@
 use Rattle.std.proofs.Common.{◌≡◌, ℕ, zero, suc, ◌+◌, ◌<◌, ◌≤◌, ◌^◌, ◌⊎◌, inl, inr, Bool, true, false, List, [], ◌∷◌, ◌++◌, length, map, filter, get_or, refl, sym, ap, subst, ◌∙◌, append_assoc, append-nil, arith}
 use Rattle.std.specs.Prelude.{nat_le}
 use Rattle.std.proofs.lemmas.Bool.{leb-true, and_parts}
+use Rattle.kc_base.specs.Limits.{max_states}
 use Rattle.kc_base.specs.declared.types.Level.{Level}
 use Rattle.kc_life.specs.declared.life.Signal.{Signal}
 use Rattle.kc_life.specs.declared.life.What.{What}
@@ -100,7 +101,7 @@ reported_life d base reported last = record {
   last = last;
 }
 
-is_reported : (d : Drives) (base : ℕ) (reported : List Event) (last : ℕ) → last ≤ 10 ^ 15 → IsReportedLife (reported_life d base reported last)
+is_reported : (d : Drives) (base : ℕ) (reported : List Event) (last : ℕ) → last ≤ max_states → IsReportedLife (reported_life d base reported last)
 is_reported d base reported last short = record {
   order = moving_from d base reported (suc last) 0 0 (start_levels d base) (omega arith);
   within = moving_upto d base reported (suc last) 0 last (start_levels d base) (omega arith);
@@ -127,7 +128,7 @@ one_more_ended whole count v w (inl h) = inl (h.0, omega (arith, h.1))
 one_more_ended whole count v w (inr h) = inr (h.0, h.1, omega (arith, h.2))
 
 -- a life with others behind it
-life_seen : (d : Drives) (base : ℕ) (reported : List Event) (n : ℕ) (rest : List Seen) (others : List Life) (count : ℕ) (v w : Watch) → 0 < n → n ≤ 10 ^ 15 + 1 →
+life_seen : (d : Drives) (base : ℕ) (reported : List Event) (n : ℕ) (rest : List Seen) (others : List Life) (count : ℕ) (v w : Watch) → 0 < n → n ≤ max_states + 1 →
     ((u : Watch) → HasWatched u rest w → HasSeen others count u w) → HasWatched v (seen_of d base reported n ++ rest) w → HasSeen (life_of d base reported n ++ others) (count + 1) v w
 unfolding HasWatched SeesAll AreReportedLives
 life_seen d base reported zero rest others count v w some short goes h = absurd (omega (arith, some))
@@ -151,7 +152,7 @@ unfolding HasWatched SeesAll AreReportedLives
 none_seen u w h = record { lives = []; behind = u; seen = refl; are = tt; same = refl; ended = inl (h, refl) }
 
 -- the last life
-last_seen : (d : Drives) (base : ℕ) (reported : List Event) (n : ℕ) (v w : Watch) → n ≤ 10 ^ 15 + 1 → HasWatched v (seen_of d base reported n) w → HasSeen (life_of d base reported n) 1 v w
+last_seen : (d : Drives) (base : ℕ) (reported : List Event) (n : ℕ) (v w : Watch) → n ≤ max_states + 1 → HasWatched v (seen_of d base reported n) w → HasSeen (life_of d base reported n) 1 v w
 unfolding HasWatched SeesAll AreReportedLives
 last_seen d base reported zero v w short h = record {
   lives = [];
@@ -210,7 +211,7 @@ none_behind p stage.Living item going life breaks fits = differ (sym life ∙ fi
 none_behind p (stage.Broken t) item going life breaks fits = differ (sym (breaks t) ∙ fits)
 none_behind p (stage.Over n) item going life breaks fits = differ (sym going)
 
-count_short : (at how : ℕ) → at ≤ 10 ^ 15 → count_at at how ≤ 10 ^ 15 + 1
+count_short : (at how : ℕ) → at ≤ max_states → count_at at how ≤ max_states + 1
 count_short at zero short = omega (arith, short)
 count_short at (suc how) short = omega (arith, short)
 
@@ -245,7 +246,7 @@ run_seen p d base reported (Printed (Psw value) ∷ lines) v w going run h = abs
 run_seen p d base reported (Printed (Wsr value) ∷ lines) v w going run h = absurd (none_behind p p.stage (Wsr value) going refl (λ at. refl) run.follow.0.fits)
 run_seen p d base reported (Printed (Registers at bytes) ∷ lines) v w going run h = absurd (none_behind p p.stage (Registers at bytes) going refl (λ at. refl) run.follow.0.fits)
 run_seen p d base reported (Restarted at by_watchdog ∷ lines) v w going run h =
-    let short : at ≤ 10 ^ 15 = run.follow.0.sound in
+    let short : at ≤ max_states = run.follow.0.sound in
     let behind = run_behind p (Restarted at by_watchdog) lines run in
     let told = reported ++ restart_event at by_watchdog ∷ [] in
     let more : length (filter is_restart lines) + 1 + 1 ≡ suc (length (filter is_restart lines)) + 1 = omega arith in
@@ -266,27 +267,27 @@ same_base p (Psw value) = refl
 same_base p (Wsr value) = refl
 same_base p (Registers base bytes) = refl
 
-restart_early : (p : Place) (s : Stage) (at : ℕ) → may_restart p s at ≡ true → p.base + at ≤ 10 ^ 15
-restart_early p stage.Living at fits = leb-true (p.base + at) (10 ^ 15) (and_parts (nat_le p.past (at + 1)) (nat_le (p.base + at) (10 ^ 15)) fits).1
+restart_early : (p : Place) (s : Stage) (at : ℕ) → may_restart p s at ≡ true → p.base + at ≤ max_states
+restart_early p stage.Living at fits = leb-true (p.base + at) max_states (and_parts (nat_le p.past (at + 1)) (nat_le (p.base + at) max_states) fits).1
 restart_early p (stage.Broken t) at fits = absurd (differ fits)
 restart_early p (stage.Over n) at fits = absurd (differ fits)
 
-few_restarts : (p : Place) (lines : List Line) → p.base ≤ 10 ^ 15 + 1 → AreLines p lines → length (filter is_restart lines) + p.base ≤ 10 ^ 15 + 1
+few_restarts : (p : Place) (lines : List Line) → p.base ≤ max_states + 1 → AreLines p lines → length (filter is_restart lines) + p.base ≤ max_states + 1
 unfolding AreLines
 few_restarts p [] early h = omega (arith, early)
 few_restarts p (Printed item ∷ lines) early h =
     let same = same_base p item in
-    let few = few_restarts (after_line p (Printed item)) lines (subst (λ n. n ≤ 10 ^ 15 + 1) (sym same) early) h.1 in
-    subst (λ n. length (filter is_restart lines) + n ≤ 10 ^ 15 + 1) same few
+    let few = few_restarts (after_line p (Printed item)) lines (subst (λ n. n ≤ max_states + 1) (sym same) early) h.1 in
+    subst (λ n. length (filter is_restart lines) + n ≤ max_states + 1) same few
 few_restarts p (Restarted at by_watchdog ∷ lines) early h =
     let now = restart_early p p.stage at h.0.fits in
-    let few : length (filter is_restart lines) + (p.base + at + 1) ≤ 10 ^ 15 + 1 = few_restarts (start_place (p.base + at + 1)) lines (omega (arith, now)) h.1 in
-    let goal : suc (length (filter is_restart lines)) + p.base ≤ 10 ^ 15 + 1 = omega (arith, few) in
+    let few : length (filter is_restart lines) + (p.base + at + 1) ≤ max_states + 1 = few_restarts (start_place (p.base + at + 1)) lines (omega (arith, now)) h.1 in
+    let goal : suc (length (filter is_restart lines)) + p.base ≤ max_states + 1 = omega (arith, few) in
     goal
 
-few_lives : (lines : List Line) → AreLines (start_place 0) lines → count_lives lines ≤ 10 ^ 15 + 2
+few_lives : (lines : List Line) → AreLines (start_place 0) lines → count_lives lines ≤ max_states + 2
 few_lives lines h =
-    let few : length (filter is_restart lines) + 0 ≤ 10 ^ 15 + 1 = few_restarts (start_place 0) lines (omega arith) h in
+    let few : length (filter is_restart lines) + 0 ≤ max_states + 1 = few_restarts (start_place 0) lines (omega arith) h in
     omega (arith, few)
 
 -- ---- each rule with its monitor
@@ -312,7 +313,7 @@ record Ended (book : Book) (count : ℕ) (lives : List Life) (w : Watch) : Type 
   each : (k : ℕ) → k < length book.rules → (r : Rule) (m : Monitor) → HasCounted book count lives (get_or book.rules k r) (get_or w.monitors.items k m)
 
 ended_seen : (book : Book) (all : List Life) (count : ℕ) (v w : Watch) (lives : List ReportedLife) (behind : Watch) → IsNew book.marks book.rules v → SeesAll lives v behind → AreReportedLives lives →
-    map life_reported lives ≡ all → count ≤ 10 ^ 15 + 2 → IsEnded (length lives) count behind w → Ended book count all w
+    map life_reported lives ≡ all → count ≤ max_states + 2 → IsEnded (length lives) count behind w → Ended book count all w
 ended_seen book all count v w lives behind new sees are same few (inl h) =
     let short : length lives < 2 ^ 63 = omega (arith, few, h.1) in
     record {

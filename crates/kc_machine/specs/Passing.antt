@@ -1,6 +1,7 @@
 -- How the parts of a machine go on: by states without accesses, by the last state of an activity, and by whole activities (this
 -- kit's own).
 use Rattle.std.specs.Prelude.{◌≡◌, ℕ, ◌+◌, ◌*◌, ◌^◌, ◌<◌, ◌≤◌, ◌++◌, Option, None, IfSome, option_to_list}
+use Rattle.kc_base.specs.Limits.{max_states}
 use Rattle.kc_span.specs.Span.{after}
 use Rattle.kc_extra.specs.Further.{Further}
 use Rattle.kc_extra.specs.declared.extra.Extra as extra
@@ -46,7 +47,7 @@ pub record MayPass {X : Type 0} {d : extra.Ghosts X} (until : ℕ) (core : Core 
   pub predecoded : IsPredecoded core
   pub lives : core.ended ≡ None
   pub ahead : core.time < until
-  pub room : until ≤ 2 * 10 ^ 15
+  pub room : until ≤ 2 * max_states
 
 -- the parts have gone on as the run does, to the end of an activity or of idle states, or to this state if that comes first
 pub record PassesAs {X : Type 0} {d : extra.Ghosts X} (f : Further X) (until : ℕ) (old new : Core X d) (o p : Out) (steps_before steps_after : ℕ) : Type 0 where

@@ -1,6 +1,7 @@
 // The common board of both masters in a state.
-ghost use Rattle.std.specs.Prelude.{◌≡◌, ℕ, ◌+◌, ◌*◌, ◌<◌, ◌≤◌, ◌-◌, ◌%◌, ◌^◌, Err, IsTrue, OnOk, OnErr, IfOk, All, vec_len, length, [], true, false, IfSome};
+ghost use Rattle.std.specs.Prelude.{◌≡◌, ℕ, ◌+◌, ◌*◌, ◌<◌, ◌≤◌, ◌-◌, ◌%◌, Err, IsTrue, OnOk, OnErr, IfOk, All, vec_len, length, [], true, false, IfSome};
 ghost use Rattle.std.specs.Bool.{OnTrue};
+ghost use Rattle.kc_base.specs.Limits.{max_states};
 ghost use Rattle.kc_span.specs.Span.{after};
 ghost use Rattle.kc_exec_spec.specs.Access.{ReadByte, ReadWord, WriteByte, WriteWord, SetMasks, Accepts};
 ghost use Rattle.kc_exec_spec.specs.Window.{is_wsr};
@@ -106,7 +107,7 @@ impl<X: Extra + Drop> Common<X> {
     )
         requires from { self.old.block.time ≡ from }
         requires some { 0 < count }
-        requires room { from + count ≤ 3 * 10 ^ 15 }
+        requires room { from + count ≤ 3 * max_states }
         ensures edges { Leads O.led out.old (edges_of X.further from count self.old.block.units) out.new }
         ensures scene { held_of self.new ≡ opened (from + (count - 1)) (record { units = after (block_rule X.further) from count self.old.block.units; memory = self.old.memory.items }) }
         ensures time { self.new.block.time ≡ from + count }

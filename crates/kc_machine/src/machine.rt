@@ -1,4 +1,5 @@
-ghost use Rattle.std.specs.Prelude.{◌≡◌, ◌≤◌, ◌<◌, ◌+◌, ◌-◌, ◌*◌, ◌^◌, ◌%◌, ◌↔◌, ℕ, None, IfOk, OnOk, OnErr, IsTrue, false, true, max, vec_len, bit_xor};
+ghost use Rattle.std.specs.Prelude.{◌≡◌, ◌≤◌, ◌<◌, ◌+◌, ◌-◌, ◌*◌, ◌%◌, ◌↔◌, ℕ, None, IfOk, OnOk, OnErr, IsTrue, false, true, max, vec_len, bit_xor};
+ghost use Rattle.kc_base.specs.Limits.{max_states};
 ghost use Rattle.kc_trace.specs.Counting.{counted_all};
 ghost use Rattle.kc_trace.specs.Out.{Puts};
 ghost use Rattle.kc_trace.specs.Text.{line_of, text_of};
@@ -175,7 +176,7 @@ impl<X: Extra + Drop> Machine<X> {
         out: &mut TraceOut<S>,
         steps: &mut Steps<L>,
     ) -> Result<End, WriteFault>
-        requires until { until ≤ 2 * 10 ^ 15 }
+        requires until { until ≤ 2 * max_states }
         requires unbroken { out.old.failed ≡ false }
         ensures end { IfOk result (λ end. end ≡ end_of (run_to X.further until self.old.machine).machine) }
         ensures machine { OnOk result (self.new.machine ≡ (run_to X.further until self.old.machine).machine) }
@@ -203,7 +204,7 @@ impl<X: Extra + Drop> Machine<X> {
         out: &mut TraceOut<S>,
         steps: &mut Steps<L>,
     ) -> Result<Option<End>, WriteFault>
-        requires room { self.old.machine.time ≤ 2 * 10 ^ 15 }
+        requires room { self.old.machine.time ≤ 2 * max_states }
         requires unbroken { out.old.failed ≡ false }
         ensures end { IfOk result (λ end. end ≡ (run_to X.further (activity_end self.old.machine) self.old.machine).machine.ended) }
         ensures states { self.old.machine.ended ≡ None → IsBrief self.old.machine }

@@ -2,6 +2,7 @@
 ghost use Rattle.std.specs.Prelude.{◌≡◌, ◌≤◌, ◌<◌, ◌+◌, ◌-◌, ◌*◌, ◌^◌, ℕ, ◌++◌, IfSome, IfOk, OnOk, OnErr, None, [], option_to_list, max, true, false};
 ghost use Rattle.std.specs.List.{All};
 ghost use Rattle.std.specs.Bool.{OnTrue};
+ghost use Rattle.kc_base.specs.Limits.{max_states};
 ghost use Rattle.kc_span.specs.Span.{QuietFor};
 ghost use Rattle.kc_trace.specs.Out.{IsPut, Prints};
 ghost use Rattle.kc_trace.specs.Printable.{CanPrint, HasName};
@@ -46,7 +47,7 @@ impl<X: Extra + Drop> Core<X> {
         steps: &mut Steps<L>,
     )
         requires some { 0 < count }
-        requires room { self.old.time + count ≤ 3 * 10 ^ 15 }
+        requires room { self.old.time + count ≤ 3 * max_states }
         requires stands { self.old.bus.block.time ≡ self.old.time }
         ensures goes { GoesAs (ticks_to X.further (machine_of self.old) (self.old.time + (count - 1)) count self.old.under_way) self.old self.new (out_of S.written S.faults out.old) (out_of S.written S.faults out.new) steps.old steps.new }
         ensures scene { held_of self.new.bus ≡ scene_of (machine_of self.new) }
@@ -78,7 +79,7 @@ impl<X: Extra + Drop> Core<X> {
     )
         requires some { self.old.time < until }
         requires fewer { until - self.old.time < activity.left }
-        requires room { until ≤ 3 * 10 ^ 15 }
+        requires room { until ≤ 3 * max_states }
         requires sound { IsGoing activity }
         requires predecoded { IsPredecoded self.old }
         ensures goes { GoesAs (ticks_to X.further (machine_of self.old) until (until - self.old.time) (left_at activity (activity.left - (until - self.old.time)))) self.old self.new (out_of S.written S.faults out.old) (out_of S.written S.faults out.new) steps.old steps.new }
@@ -101,7 +102,7 @@ impl<X: Extra + Drop> Core<X> {
         steps: &mut Steps<L>,
     )
         requires some { self.old.time < until }
-        requires room { until ≤ 3 * 10 ^ 15 }
+        requires room { until ≤ 3 * max_states }
         requires predecoded { IsPredecoded self.old }
         ensures goes { GoesAs (ticks_to X.further (machine_of self.old) until (until - self.old.time) self.old.under_way) self.old self.new (out_of S.written S.faults out.old) (out_of S.written S.faults out.new) steps.old steps.new }
         ensures predecoded { IsPredecoded self.new }
@@ -119,7 +120,7 @@ impl<X: Extra + Drop> Core<X> {
     )
         requires going { IsGoing activity }
         requires predecoded { IsPredecoded self.old }
-        requires room { self.old.time + activity.left ≤ 3 * 10 ^ 15 }
+        requires room { self.old.time + activity.left ≤ 3 * max_states }
         ensures goes { GoesAs (whole X.further (machine_of self.old) activity) self.old self.new (out_of S.written S.faults out.old) (out_of S.written S.faults out.new) steps.old steps.new }
         ensures time { self.new.time ≡ self.old.time + activity.left }
         ensures predecoded { IsPredecoded self.new }
@@ -372,7 +373,7 @@ impl<X: Extra + Drop> Core<X> {
         requires some { 0 < states }
         requires predecoded { IsPredecoded self.old }
         requires lives { self.old.ended ≡ None }
-        requires room { self.old.time + states ≤ 3 * 10 ^ 15 }
+        requires room { self.old.time + states ≤ 3 * max_states }
         ensures goes { GoesAs (whole X.further (machine_of self.old) (executing predecoded.now states)) self.old self.new (out_of S.written S.faults out.old) (out_of S.written S.faults out.new) steps.old steps.new }
         ensures time { self.new.time ≡ self.old.time + states }
         ensures predecoded { IsPredecoded self.new }
@@ -445,7 +446,7 @@ impl<X: Extra + Drop> Core<X> {
         steps: &mut Steps<L>,
     ) -> Result<End, WriteFault>
         requires predecoded { IsPredecoded self.old }
-        requires until { until ≤ 2 * 10 ^ 15 }
+        requires until { until ≤ 2 * max_states }
         requires unbroken { out.old.failed ≡ false }
         ensures end { IfOk result (λ end. end ≡ end_of (run_to X.further until (machine_of self.old)).machine) }
         ensures machine { OnOk result (machine_of self.new ≡ (run_to X.further until (machine_of self.old)).machine) }
@@ -475,7 +476,7 @@ impl<X: Extra + Drop> Core<X> {
     fn pass_current<S: Sink, L: Ledger>(&mut self, out: &mut TraceOut<S>, steps: &mut Steps<L>)
         requires predecoded { IsPredecoded self.old }
         requires lives { self.old.ended ≡ None }
-        requires room { self.old.time ≤ 2 * 10 ^ 15 }
+        requires room { self.old.time ≤ 2 * max_states }
         ensures passed { PassesAs X.further (activity_end (machine_of self.old)) self.old self.new (out_of S.written S.faults out.old) (out_of S.written S.faults out.new) steps.old steps.new }
         ensures time { self.new.time ≡ activity_end (machine_of self.old) }
         ensures states { IsBrief (machine_of self.old) }
@@ -491,7 +492,7 @@ impl<X: Extra + Drop> Core<X> {
         steps: &mut Steps<L>,
     ) -> Result<Option<End>, WriteFault>
         requires predecoded { IsPredecoded self.old }
-        requires room { self.old.time ≤ 2 * 10 ^ 15 }
+        requires room { self.old.time ≤ 2 * max_states }
         requires unbroken { out.old.failed ≡ false }
         ensures end { IfOk result (λ end. end ≡ (run_to X.further (activity_end (machine_of self.old)) (machine_of self.old)).machine.ended) }
         ensures states { self.old.ended ≡ None → IsBrief (machine_of self.old) }

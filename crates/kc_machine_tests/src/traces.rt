@@ -1,5 +1,5 @@
 // What traces report, a row each: lines and steps are separated by `/`.
-use kc_base::Level;
+use kc_base::{Level, PIN_COUNT, Pin};
 use kc_byte_source::MemSource;
 use kc_events::{Lives, LivesFault, Step};
 use kc_life::{Signal, What};
@@ -76,14 +76,22 @@ fn sign(level: Level) -> &'static str {
     if level.is_high() { "+" } else { "-" }
 }
 
+fn name_of(pin: Pin) -> &'static str {
+    if pin.0 < PIN_COUNT {
+        pin.name()
+    } else {
+        "no pin"
+    }
+}
+
 // What happens, in words.
 fn words(alloc: Global, what: What) -> Result<String, AllocError> {
     match what {
         What::Edge(Signal::Output(pin), level) => {
-            format!(in alloc; "{}{}", pin.name(), sign(level))
+            format!(in alloc; "{}{}", name_of(pin), sign(level))
         }
         What::Edge(Signal::Input(pin), level) => {
-            format!(in alloc; "in {}{}", pin.name(), sign(level))
+            format!(in alloc; "in {}{}", name_of(pin), sign(level))
         }
         What::Entry(vector) => format!(in alloc; "entry {vector}"),
         What::Transfer(vector) => format!(in alloc; "transfer {vector}"),

@@ -1,5 +1,6 @@
 // A run whose states are counted.
 ghost use Rattle.std.specs.Prelude.{◌≡◌, ◌+◌, ◌-◌, ◌*◌, ◌^◌, ◌<◌, ◌≤◌, max, List, ◌++◌, length, replicate, None, IfOk, OnOk, OnErr, false, true};
+ghost use Rattle.kc_base.specs.Limits.{max_states};
 ghost use Rattle.kc_trace.specs.Counting.{counted_all};
 ghost use Rattle.kc_trace.specs.Out.{Puts, Prints};
 ghost use Rattle.kc_trace.specs.Text.{text_of};
@@ -32,7 +33,7 @@ fn go_to<X: Extra + Drop, S: Sink, L: Ledger>(
     requires lives { machine.old.machine.ended ≡ None }
     requires ahead { machine.old.machine.time < stop }
     requires lasts { LastsFor X.further (stop - machine.old.machine.time) machine.old.machine }
-    requires room { stop ≤ 2 * 10 ^ 15 }
+    requires room { stop ≤ 2 * max_states }
     requires unbroken { out.old.failed ≡ false }
     ensures forward { machine.old.machine.time < machine.new.machine.time }
     ensures within { machine.new.machine.time ≤ stop }
@@ -60,7 +61,7 @@ fn rest<X: Extra + Drop, S: Sink, L: Ledger>(
     requires ahead { machine.old.machine.time < stop }
     requires idles { IdlesFor X.further (stop - machine.old.machine.time) machine.old.machine }
     requires within { stop ≤ until }
-    requires room { until ≤ 2 * 10 ^ 15 }
+    requires room { until ≤ 2 * max_states }
     requires unbroken { out.old.failed ≡ false }
     ensures went { Went X.further until result machine.old (out_of S.written S.faults out.old) steps.old machine.new (out_of S.written S.faults out.new) steps.new }
 {
@@ -76,7 +77,7 @@ fn finish<X: Extra + Drop, S: Sink, L: Ledger>(
 ) -> Result<(), WriteFault>
     requires lives { machine.old.machine.ended ≡ None }
     requires within { activity_end machine.old.machine ≤ until }
-    requires room { until ≤ 2 * 10 ^ 15 }
+    requires room { until ≤ 2 * max_states }
     requires unbroken { out.old.failed ≡ false }
     ensures went { Went X.further until result machine.old (out_of S.written S.faults out.old) steps.old machine.new (out_of S.written S.faults out.new) steps.new }
 {
@@ -96,7 +97,7 @@ fn begin<X: Extra + Drop, S: Sink, L: Ledger>(
     requires lives { machine.old.machine.ended ≡ None }
     requires ahead { machine.old.machine.time < until }
     requires within { until < activity_end machine.old.machine }
-    requires room { until ≤ 2 * 10 ^ 15 }
+    requires room { until ≤ 2 * max_states }
     requires unbroken { out.old.failed ≡ false }
     ensures went { Went X.further until result machine.old (out_of S.written S.faults out.old) steps.old machine.new (out_of S.written S.faults out.new) steps.new }
 {
@@ -114,7 +115,7 @@ fn pass<X: Extra + Drop, S: Sink, L: Ledger>(
     requires lives { machine.old.machine.ended ≡ None }
     requires left { left ≡ (current machine.old.machine).left }
     requires ahead { machine.old.machine.time < until }
-    requires room { until ≤ 2 * 10 ^ 15 }
+    requires room { until ≤ 2 * max_states }
     requires unbroken { out.old.failed ≡ false }
     ensures went { Went X.further until result machine.old (out_of S.written S.faults out.old) steps.old machine.new (out_of S.written S.faults out.new) steps.new }
 {
@@ -139,7 +140,7 @@ fn count<X: Extra + Drop, S: Sink, L: Ledger>(
 ) -> Result<(), WriteFault>
     requires lives { machine.old.machine.ended ≡ None }
     requires ahead { machine.old.machine.time < until }
-    requires room { until ≤ 2 * 10 ^ 15 }
+    requires room { until ≤ 2 * max_states }
     requires fits { total profile.old + (until - machine.old.machine.time) < 2 ^ 64 }
     requires unbroken { out.old.failed ≡ false }
     ensures went { Went X.further until result machine.old (out_of S.written S.faults out.old) steps.old machine.new (out_of S.written S.faults out.new) steps.new }
@@ -166,7 +167,7 @@ pub fn run_profiled<X: Extra + Drop, S: Sink, L: Ledger>(
     out: &mut TraceOut<S>,
     steps: &mut Steps<L>,
 ) -> Result<End, WriteFault>
-    requires until { until ≤ 2 * 10 ^ 15 }
+    requires until { until ≤ 2 * max_states }
     requires unbroken { out.old.failed ≡ false }
     requires room { total profile.old + until < 2 ^ 64 }
     ensures end { IfOk result (λ end. end ≡ end_of (run_to X.further until machine.old.machine).machine) }

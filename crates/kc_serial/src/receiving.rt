@@ -1,5 +1,6 @@
 // The receiving half: samples of RXD.
 ghost use Rattle.std.specs.Prelude.{◌≡◌, ◌-◌, ◌+◌, ◌*◌, ◌≤◌, ◌<◌, ◌^◌, IfSome};
+ghost use Rattle.kc_base.specs.Limits.{max_states};
 ghost use Rattle.kc_serial.specs.Samples.{half_bit as half_bit_of, shifted as shifted_from, is_sample as is_sample_at, is_complete as is_complete_now, completes as completes_now, sampled as sampled_at, with_sample as sample_taken, reception_after as after_state, received_after as received_by};
 ghost use Rattle.kc_serial.specs.Spans.{bits_by as bits_up_to, shifted_by as shifted_times, starts_within as starts_in, older_reception as older_by, ReceptionFits};
 ghost use Rattle.kc_serial.specs.Quiet.{ReceptionBefore};
@@ -123,7 +124,7 @@ fn shifted_by(high: bool, count: u64, register: u8) -> u8
 
 /// Whether the start bit is sampled within the next states.
 fn starts_within(states: u64, reception: Reception) -> bool
-    requires { states ≤ 4 * 10 ^ 15 }
+    requires { states ≤ 4 * max_states }
     ensures { result ≡ starts_in states reception }
 {
     let half = half_bit(reception.rate);
@@ -136,7 +137,7 @@ pub(crate) fn older_reception(
     states: u64,
     reception: Option<Reception>,
 ) -> Option<Reception>
-    requires bound { states ≤ 4 * 10 ^ 15 }
+    requires bound { states ≤ 4 * max_states }
     requires fits { ReceptionFits high states reception }
     ensures { result ≡ older_by high states reception }
 {

@@ -6,7 +6,8 @@
 #![tactic(auto)]
 
 ghost use Rattle.kc_span.specs.Timer1.{timer1_of};
-ghost use Rattle.std.specs.Prelude.{◌≡◌, ℕ, ◌+◌, ◌-◌, ◌*◌, ◌/◌, ◌%◌, ◌<◌, ◌≤◌, ◌^◌, ◌≢◌};
+ghost use Rattle.std.specs.Prelude.{◌≡◌, ℕ, ◌+◌, ◌-◌, ◌*◌, ◌/◌, ◌%◌, ◌<◌, ◌≤◌, ◌≢◌};
+ghost use Rattle.kc_base.specs.Limits.{max_states};
 ghost use Rattle.kc_span.specs.Span.{after};
 ghost use Rattle.kc_timers.specs.T2.{T2, timer2_rule, value_at, view_of};
 
@@ -62,7 +63,7 @@ pub fn timer1(t: StateTime) -> u16
 
 /// The least state from `t` on in which Timer 1 overflows.
 pub fn timer1_due(t: StateTime) -> StateTime
-    requires { t ≤ 4 * 10 ^ 15 }
+    requires { t ≤ 4 * max_states }
     ensures later { t ≤ result }
     ensures overflows { (result + 1) % 524288 ≡ 0 }
     ensures least { (u : ℕ) → t ≤ u → u < result → (u + 1) % 524288 ≢ 0 }

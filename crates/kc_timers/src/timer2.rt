@@ -1,5 +1,6 @@
 //! Timer 2 with its capture register.
-ghost use Rattle.std.specs.Prelude.{◌≡◌, ℕ, ◌+◌, ◌-◌, ◌*◌, ◌≤◌, ◌^◌};
+ghost use Rattle.std.specs.Prelude.{◌≡◌, ℕ, ◌+◌, ◌-◌, ◌*◌, ◌≤◌};
+ghost use Rattle.kc_base.specs.Limits.{max_states};
 ghost use Rattle.kc_span.specs.Span.{after, QuietFor, IsDue, one_more};
 ghost use Rattle.kc_timers.specs.T2.{tick_of, out_of, timer2_rule, view_of};
 
@@ -84,7 +85,7 @@ impl Timer2 {
         control: T2Control,
         steps: &mut Steps<L>,
     ) -> Option<StateTime>
-        requires bound { now ≤ 4 * 10 ^ 15 }
+        requires bound { now ≤ 4 * max_states }
         ensures due { IsDue (timer2_rule control) now self.now.inner result }
         ensures steps { steps.new ≡ steps.old + 1 }
     {
@@ -105,7 +106,7 @@ impl Timer2 {
         steps: &mut Steps<L>,
     )
         requires order { now ≤ to }
-        requires bound { to ≤ 4 * 10 ^ 15 }
+        requires bound { to ≤ 4 * max_states }
         requires quiet { QuietFor (timer2_rule control) now (to - now) self.old.inner }
         ensures inner { self.new.inner ≡ after (timer2_rule control) now (to - now) self.old.inner }
         ensures moves { self.new.moves ≡ one_more self.old.moves }
@@ -156,7 +157,7 @@ impl T2View {
     /// What the timer stands at in state `to`, if this view is of state `from`.
     pub fn value_at(&self, from: StateTime, to: StateTime) -> u16
         requires order { from ≤ to }
-        requires bound { to ≤ 5 * 10 ^ 15 }
+        requires bound { to ≤ 5 * max_states }
         ensures { result ≡ value_of self.now from to }
     {
         moved(self.down, self.value, counts_in(self.every, from, to))
@@ -215,7 +216,7 @@ fn counts_in(every: u8, from: StateTime, to: StateTime) -> u64
 
 /// The value after so many counts.
 fn moved(down: bool, value: u16, counts: u64) -> u16
-    requires { counts ≤ 5 * 10 ^ 15 }
+    requires { counts ≤ 5 * max_states }
     ensures { result ≡ moved_by down value counts }
 {
     let value = value as u64;
@@ -235,7 +236,7 @@ fn counts_left(down: bool, value: u16) -> u16
 
 /// The state in which the inner clock makes the timer pass between FFFFH and 0.
 fn due_state(control: T2Control, now: StateTime, value: u16) -> StateTime
-    requires bound { now ≤ 4 * 10 ^ 15 }
+    requires bound { now ≤ 4 * max_states }
     requires inner { control.internal ≡ true }
     ensures { (captured : ℕ) →
         DueAt (timer2_rule control) now (record { value = value; captured = captured }) result }

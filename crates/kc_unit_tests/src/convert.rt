@@ -1,4 +1,5 @@
-ghost use Rattle.std.specs.Prelude.{◌≤◌, ◌*◌, ◌^◌};
+ghost use Rattle.std.specs.Prelude.{◌≤◌, ◌*◌};
+ghost use Rattle.kc_base.specs.Limits.{max_states};
 ghost use Rattle.kc_base.specs.Fresh.{IsFresh};
 
 use kc_base::{Level, StateTime, Steps};
@@ -42,14 +43,14 @@ fn a_value_stands_until_the_next_one_of_its_channel(rt: HostRuntime) -> Result<(
 
 // A state of a converter, and what it raises.
 fn raised<L: Ledger>(converter: &mut Converter, at: StateTime, steps: &mut Steps<L>) -> u16
-    requires { at ≤ 4 * 10 ^ 15 }
+    requires { at ≤ 4 * max_states }
 {
     converter.tick(at, 0, 0, steps).raised.0
 }
 
 // Goes on to the next end of a conversion, and reports its state; 0 where there is none.
 fn ended<L: Ledger>(converter: &mut Converter, now: StateTime, steps: &mut Steps<L>) -> StateTime
-    requires { now ≤ 4 * 10 ^ 15 }
+    requires { now ≤ 4 * max_states }
 {
     match converter.due(now, steps) {
         Some(due) if due <= 1000 => {
@@ -66,7 +67,7 @@ fn ended<L: Ledger>(converter: &mut Converter, now: StateTime, steps: &mut Steps
 
 // The result in two bytes.
 fn result(converter: &mut Converter, now: StateTime) -> (Option<u8>, Option<u8>)
-    requires { now ≤ 4 * 10 ^ 15 }
+    requires { now ≤ 4 * max_states }
 {
     let low = converter.read(0, COMMAND, now);
     (low, converter.read(0, RESULT_HIGH, now))
@@ -103,7 +104,7 @@ fn converts<L: Ledger>(rt: &impl Abort, values: Analog, steps: &mut Steps<L>) {
 
 // The edge of a state of the first output: its level, if it has one.
 fn edge<L: Ledger>(pulses: &mut Pulses, at: StateTime, steps: &mut Steps<L>) -> Option<Level>
-    requires { at ≤ 4 * 10 ^ 15 }
+    requires { at ≤ 4 * max_states }
 {
     let out = pulses.tick(at, 0, 0, steps);
     match out.moved.as_slice() {
@@ -129,7 +130,7 @@ fn pulses_from<L: Ledger>(rt: &impl Abort, width: u8, phase: u8, steps: &mut Ste
 
 // Goes on to the next edge of the first output, and reports its state; 0 where there is none.
 fn edge_from<L: Ledger>(pulses: &mut Pulses, now: StateTime, steps: &mut Steps<L>) -> StateTime
-    requires { now ≤ 4 * 10 ^ 15 }
+    requires { now ≤ 4 * max_states }
 {
     match pulses.due(now, steps) {
         Some(due) if due <= 1000 => {

@@ -1,4 +1,5 @@
 ghost use Rattle.std.specs.Prelude.{◌≤◌, ◌^◌, ◌*◌};
+ghost use Rattle.kc_base.specs.Limits.{max_states};
 ghost use Rattle.kc_base.specs.Fresh.{IsFresh};
 
 use kc_base::{Kind, StateTime, Steps};
@@ -28,7 +29,7 @@ fn goes_to<L: Ledger>(
     steps: &mut Steps<L>,
 ) -> bool
     requires order { now ≤ to }
-    requires bound { to ≤ 4 * 10 ^ 15 }
+    requires bound { to ≤ 4 * max_states }
 {
     let due = hso.due(now, t2, steps);
     let quiet = match due {

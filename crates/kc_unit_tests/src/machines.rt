@@ -1,5 +1,6 @@
 // Machines that have a beacon, alone and in a pair: each row has to come out the same.
-ghost use Rattle.std.specs.Prelude.{◌≡◌, ◌≤◌, ◌^◌, ◌*◌, false, length};
+ghost use Rattle.std.specs.Prelude.{◌≡◌, ◌≤◌, ◌*◌, false, length};
+ghost use Rattle.kc_base.specs.Limits.{max_states};
 ghost use Rattle.kc_base.specs.Fresh.{IsFresh};
 ghost use Rattle.kc_unit_tests.specs.Starting.{FitsEachBoard};
 
@@ -36,7 +37,7 @@ fn run<X: Extra + Drop, L: Ledger>(
 ) -> bool
     requires fresh { IsFresh blank L.name L.parts }
     requires unbroken { out.old.failed ≡ false }
-    requires until { until ≤ 2 * 10 ^ 15 }
+    requires until { until ≤ 2 * max_states }
 {
     let mut steps = Steps::<L>::new(blank);
     match machine.run(until, out, &mut steps) {

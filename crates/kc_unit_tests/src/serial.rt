@@ -1,4 +1,5 @@
-ghost use Rattle.std.specs.Prelude.{◌≡◌, ◌+◌, ◌≤◌, ◌*◌, ◌^◌, bit_xor};
+ghost use Rattle.std.specs.Prelude.{◌≡◌, ◌+◌, ◌≤◌, ◌*◌, bit_xor};
+ghost use Rattle.kc_base.specs.Limits.{max_states};
 ghost use Rattle.kc_base.specs.Fresh.{IsFresh};
 ghost use Rattle.kc_base.specs.Bits.{bit};
 
@@ -59,7 +60,7 @@ impl Wired {
 
     // Goes on to the next state that is due, and reports it.
     fn goes_on<L: Ledger>(&mut self, now: u64, steps: &mut Steps<L>) -> Option<u64>
-        requires { now ≤ 4 * 10 ^ 15 }
+        requires { now ≤ 4 * max_states }
     {
         let due = self.port.due(now, steps)?;
         if due > 1000 {
@@ -76,7 +77,7 @@ impl Wired {
         high: bool,
         steps: &mut Steps<L>,
     ) -> (u16, Option<Level>)
-        requires { at ≤ 4 * 10 ^ 15 }
+        requires { at ≤ 4 * max_states }
     {
         let (levels, edges) = masks(self.high, high);
         let out = self.port.tick(at, levels, edges, steps);
