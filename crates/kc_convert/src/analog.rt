@@ -1,4 +1,5 @@
-ghost use Rattle.std.specs.Prelude.{◌≡◌, ◌≤◌, [], length, IfOk, IfErr, None, fold};
+ghost use Rattle.std.specs.Prelude.{◌≡◌, ◌≤◌, [], All, length, IfOk, IfErr, None, fold};
+ghost use Rattle.std.specs.List.Sorted.{IsNonDecreasingBy};
 ghost use Rattle.kc_convert.specs.Parts.{samples_in, IsWhole};
 ghost use Rattle.kc_convert.specs.Samples.{value_at};
 ghost use Rattle.kc_convert.specs.Reading.{first_bad, items_of, with_item, IsRefusal, IsRead};
@@ -6,6 +7,7 @@ ghost use Rattle.kc_convert.specs.Reading.{first_bad, items_of, with_item, IsRef
 use crate::fault::AnalogFault;
 use crate::index::Index;
 use crate::lines::item;
+use crate::sample::Sample;
 use kc_base::{NoMemory, StateTime, after, first_line, prefix};
 use std::alloc::Global;
 use std::marker::Model;
@@ -94,6 +96,15 @@ impl Analog {
             Ok(index) => Ok(Analog { index }),
             Err(fault) => Err(fault),
         }
+    }
+
+    /// The values, in the order of their times.
+    pub fn samples(&self) -> &[Sample]
+        ensures samples { result.now ≡ self.now }
+        ensures order { IsNonDecreasingBy (λ s. s.at) result.now }
+        ensures small { All (λ s. s.value ≤ 1023) result.now }
+    {
+        self.index.samples.as_slice()
     }
 
     /// The value of a channel in a state: the last one with time at most `at`, or 0.

@@ -108,7 +108,7 @@ fn set_start(levels: &mut Levels, stimuli: &Stimuli, pin: Pin, base: StateTime)
 }
 
 /// The levels before state 0 of a life that begins in a state of the run.
-pub(crate) fn start_levels(stimuli: &Stimuli, base: StateTime) -> Levels
+pub fn start_levels(stimuli: &Stimuli, base: StateTime) -> Levels
     ensures { level_in result ≡ levels_at_start stimuli.now base }
 {
     let mut levels = Levels::low();

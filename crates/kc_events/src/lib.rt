@@ -14,6 +14,7 @@ mod reader;
 mod trace;
 
 pub use course::{Course, Known, Step};
+pub use inputs::start_levels;
 pub use laws::{one_trace, traces_are_read};
 pub use line::Line;
 pub use lives::{Lives, LivesFault};

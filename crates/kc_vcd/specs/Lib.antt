@@ -1,7 +1,5 @@
-pub mod History
-pub mod Reading
-pub mod Candidates
-pub mod Levels
+pub mod Variables
+pub mod Changes
 pub mod Dump
 pub mod Reader
 pub mod Laws

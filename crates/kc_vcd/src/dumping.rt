@@ -1,179 +1,177 @@
-// A trace as a value change dump.
-ghost use Rattle.std.specs.Prelude.{◌≡◌, ◌<◌, ◌≤◌, ◌++◌, IfOk, OnOk};
-ghost use Rattle.kc_base.specs.Pins.{IsPin, pin_count};
-ghost use Rattle.kc_trace.specs.Printable.{CanPrint};
-ghost use Rattle.kc_vcd.specs.History.{IsHistory};
-ghost use Rattle.kc_vcd.specs.Dump.{state_length as picoseconds, pin_code as code_of_pin, event_code as code_of_event, declaration, pin_declarations, event_declarations, start_lines, change_of, stamp, record_text, changes, prefix as prefix_text, dump_of};
+// A run as a value change dump, written as it is told.
+ghost use Rattle.std.specs.Prelude.{◌≡◌, ◌≢◌, ◌≤◌, ◌++◌, List, None, IfOk, OnOk};
+ghost use Rattle.kc_life.specs.Tables.{level_in};
+ghost use Rattle.kc_events.specs.Steps.{Seen};
+ghost use Rattle.kc_events.specs.Telling.{AreToCome};
+ghost use Rattle.kc_vcd.specs.Dump.{dump_of};
 
-use crate::levels::start_level;
-use crate::trace::{Trace, time_after};
-use kc_base::{NoMemory, PIN_COUNT, Pin, StateTime, put_number};
-use kc_trace::{Record, level_digit};
+use crate::shown::Shown;
+use crate::variable::Variable;
+use crate::writing::{put_event, put_level, put_stamp, put_value};
+use kc_base::{NoMemory, StateTime};
+use kc_byte_source::Source;
+use kc_events::{Lives, LivesFault, Step};
+use kc_life::{Levels, Signal, What};
 use std::alloc::Global;
 
-const HEAD: &[u8] = b"$comment kc96: inputs are not in a trace and stand as before state 0 $end
-$timescale 1 ps $end
-$scope module board $end
-";
-
-const HEAD_END: &[u8] = b"$upscope $end
-$enddefinitions $end
-#0
-$dumpvars
-";
-
-// How many picoseconds a state time has.
-fn state_length(clock: u32) -> u64
-    requires { 1 ≤ clock }
-    ensures value { result ≡ picoseconds clock }
-    ensures bounded { result ≤ 2000000000000 }
-{
-    2_000_000_000_000 / u64::from(clock)
+// A dump that is written: its text, the state of the run that was stamped last, the one in which the life began, whether the next
+// life is the first, the levels at the end of the last state, and how many values were put.
+struct Writer<'a> {
+    shown: &'a Shown,
+    text: Vec<u8>,
+    stamped: StateTime,
+    base: StateTime,
+    is_first: bool,
+    levels: Levels,
+    taken: usize,
 }
 
-// The code of a pin.
-fn pin_code(pin: u8) -> u8
-    requires { IsPin pin }
-    ensures { result ≡ code_of_pin pin }
-{
-    b'A' + pin
-}
-
-fn put(text: &mut Vec<u8>, more: &[u8]) -> Result<(), NoMemory>
-    ensures { OnOk result (text.new.items ≡ text.old.items ++ more.now) }
-{
-    text.extend_from_slice(more)?;
-    Ok(())
-}
-
-fn put_declaration(text: &mut Vec<u8>, kind: &[u8], code: u8, name: &[u8]) -> Result<(), NoMemory>
-    ensures { OnOk result (text.new.items ≡ text.old.items ++ declaration kind.now code name.now) }
-{
-    put(text, b"$var ")?;
-    put(text, kind)?;
-    put(text, b" 1 ")?;
-    put(text, &[code])?;
-    put(text, b" ")?;
-    put(text, name)?;
-    put(text, b" $end\n")
-}
-
-// The code of an event: of an entry (0), a transfer (1) or an undefined use (2).
-fn event_code(event: u8) -> u8
-    requires { event < 3 }
-    ensures { result ≡ code_of_event event }
-{
-    b'A' + (PIN_COUNT + event)
-}
-
-fn put_pins(text: &mut Vec<u8>) -> Result<(), NoMemory>
-    ensures { OnOk result (text.new.items ≡ text.old.items ++ pin_declarations pin_count) }
-{
-    for pin in 0..PIN_COUNT {
-        put_declaration(text, b"wire", pin_code(pin), Pin(pin).name().as_bytes())?;
+impl<'a> Writer<'a> {
+    // Goes to a state of the run.
+    fn stamp(&mut self, at: StateTime) -> Result<(), NoMemory> {
+        put_stamp(&mut self.text, self.shown.length, self.stamped, at)?;
+        self.stamped = at;
+        Ok(())
     }
-    Ok(())
-}
 
-fn put_events(text: &mut Vec<u8>) -> Result<(), NoMemory>
-    ensures { OnOk result (text.new.items ≡ text.old.items ++ event_declarations) }
-{
-    put_declaration(text, b"event", event_code(0), b"entry")?;
-    put_declaration(text, b"event", event_code(1), b"transfer")?;
-    put_declaration(text, b"event", event_code(2), b"undefined")
-}
-
-fn put_start(text: &mut Vec<u8>) -> Result<(), NoMemory>
-    ensures { OnOk result (text.new.items ≡ text.old.items ++ start_lines pin_count) }
-{
-    for pin in 0..PIN_COUNT {
-        put(text, &[level_digit(start_level(pin)), pin_code(pin), b'\n'])?;
-    }
-    Ok(())
-}
-
-fn put_prefix(text: &mut Vec<u8>) -> Result<(), NoMemory>
-    ensures { OnOk result (text.new.items ≡ text.old.items ++ prefix_text) }
-{
-    put(text, HEAD)?;
-    put_pins(text)?;
-    put_events(text)?;
-    put(text, HEAD_END)?;
-    put_start(text)?;
-    put(text, b"$end\n")
-}
-
-fn put_time(
-    text: &mut Vec<u8>,
-    length: u64,
-    before: StateTime,
-    at: StateTime,
-) -> Result<(), NoMemory>
-    ensures { OnOk result (text.new.items ≡ text.old.items ++ stamp length before at) }
-{
-    if at == before {
-        return Ok(());
-    }
-    put(text, b"#")?;
-    put_number(text, u128::from(length) * u128::from(at))?;
-    put(text, b"\n")
-}
-
-fn put_change(text: &mut Vec<u8>, item: &Record) -> Result<(), NoMemory>
-    requires { CanPrint item.now }
-    ensures { OnOk result (text.new.items ≡ text.old.items ++ change_of item.now) }
-{
-    match item {
-        Record::Pin { edge, .. } => {
-            put(
-                text,
-                &[level_digit(edge.level), pin_code(edge.pin.0), b'\n'],
-            )
+    // Puts the values of the analogue inputs up to a state of the run, each in its own.
+    fn put_values(&mut self, at: StateTime) -> Result<(), NoMemory> {
+        let shown = self.shown;
+        let samples = shown.values.samples();
+        while self.taken < samples.len() && samples[self.taken].at <= at {
+            let sample = samples[self.taken];
+            self.taken += 1;
+            self.stamp(sample.at)?;
+            put_value(&mut self.text, sample.channel, sample.value)?;
         }
-        Record::Entered { .. } => put(text, &[b'1', event_code(0), b'\n']),
-        Record::Served { .. } => put(text, &[b'1', event_code(1), b'\n']),
-        Record::Undef(_) => put(text, &[b'1', event_code(2), b'\n']),
-        _ => Ok(()),
+        Ok(())
+    }
+
+    // Goes to a state of the run, with the values up to it.
+    fn reach(&mut self, at: StateTime) -> Result<(), NoMemory> {
+        self.put_values(at)?;
+        self.stamp(at)
+    }
+
+    // Puts the level of a signal, where it has another one than this.
+    fn put_difference(&mut self, signal: Signal, levels: &Levels) -> Result<(), NoMemory> {
+        let level = levels.level(signal);
+        if level.is_high() != self.levels.level(signal).is_high() {
+            put_level(&mut self.text, signal, level)?;
+        }
+        Ok(())
+    }
+
+    // Puts the levels of the signals that a life finds at others than those at the end of the life before it.
+    fn put_differences(&mut self, levels: &Levels) -> Result<(), NoMemory> {
+        let shown = self.shown;
+        for variable in shown.variables.as_slice() {
+            if let Variable::Wire(signal) = variable {
+                self.put_difference(*signal, levels)?;
+            }
+        }
+        Ok(())
+    }
+
+    // A life begins, with these levels before its state 0.
+    fn begin(&mut self, levels: &Levels) -> Result<(), NoMemory> {
+        if self.is_first {
+            self.is_first = false;
+        } else {
+            self.reach(self.base)?;
+            put_event(&mut self.text, Variable::Life)?;
+        }
+        self.put_differences(levels)?;
+        self.levels = *levels;
+        Ok(())
+    }
+
+    // Puts what happens.
+    fn put_what(&mut self, what: What) -> Result<(), NoMemory> {
+        match what {
+            What::Edge(signal, level) => put_level(&mut self.text, signal, level),
+            What::Entry(number) => put_event(&mut self.text, Variable::Entry(number)),
+            What::Transfer(number) => put_event(&mut self.text, Variable::Transfer(number)),
+            What::Undefined => put_event(&mut self.text, Variable::Undefined),
+            _ => Ok(()),
+        }
+    }
+
+    // A state of the life passes, in which this happens.
+    fn pass(&mut self, at: StateTime, whats: &[What]) -> Result<(), NoMemory> {
+        self.reach(self.base.saturating_add(at))?;
+        for what in whats {
+            self.put_what(*what)?;
+        }
+        self.levels.take_all(whats);
+        Ok(())
+    }
+
+    // The life ends behind its last state.
+    fn end(&mut self, last: StateTime) -> Result<(), NoMemory> {
+        self.put_values(self.base.saturating_add(last))?;
+        self.base = self.base.saturating_add(last).saturating_add(1);
+        Ok(())
+    }
+
+    // Takes a step that was just told.
+    fn take<S: Source + Drop>(&mut self, step: Step, lives: &Lives<S>) -> Result<(), NoMemory> {
+        match step {
+            Step::Begins => self.begin(lives.levels()),
+            Step::Passes(at) => self.pass(at, lives.whats()),
+            Step::Ends(last) => self.end(last),
+        }
     }
 }
 
-fn put_record(
-    text: &mut Vec<u8>,
-    length: u64,
-    before: StateTime,
-    item: &Record,
-) -> Result<(), NoMemory>
-    requires { CanPrint item.now }
-    ensures { OnOk result (text.new.items ≡ text.old.items ++ record_text length before item.now) }
-{
-    put_time(text, length, before, time_after(before, item))?;
-    put_change(text, item)
-}
-
-#[tactic(auto, unfolding(crate::specs::Dump::changes, crate::specs::History::IsHistory))]
-fn put_records(text: &mut Vec<u8>, length: u64, records: &[Record]) -> Result<(), NoMemory>
-    requires { IsHistory 0 records.now }
-    ensures { OnOk result (text.new.items ≡ text.old.items ++ changes length 0 records.now) }
-{
-    let mut time = 0;
-    let mut left = records;
-    while let [item, rest @ ..] = left {
-        put_record(text, length, time, item)?;
-        time = time_after(time, item);
-        left = rest;
-    }
-    Ok(())
-}
-
-/// A trace as a value change dump (IEEE 1364) with times in picoseconds, of a board whose oscillator has so many hertz: a state
-/// time is two of its periods, rounded down. Each pin of the board is a wire under its name, with its level before state 0;
-/// entries, transfers and the undefined use are events. A change stands at the beginning of its state.
-pub fn dump(alloc: Global, trace: &Trace, clock: u32) -> Result<Vec<u8>, NoMemory>
-    requires { 1 ≤ clock }
-    ensures { IfOk result (λ text. text.items ≡ dump_of (picoseconds clock) trace.now) }
-{
+// A dump with its declarations and its levels before state 0.
+fn begun(alloc: Global, shown: &Shown) -> Result<Writer<'_>, NoMemory> {
     let mut text = Vec::new(alloc);
-    put_prefix(&mut text)?;
-    put_records(&mut text, state_length(clock), trace.records())?;
+    shown.put_prefix(&mut text)?;
+    Ok(Writer {
+        shown,
+        text,
+        stamped: 0,
+        base: 0,
+        is_first: true,
+        levels: shown.start,
+        taken: 0,
+    })
+}
+
+/// The dump (IEEE 1364) of the run whose lives are told, to its end. Times are in picoseconds; a change stands at the beginning of
+/// its state, and the states of each life stand behind those of the life before it. Memory grows with the dump.
+pub fn dump<S: Source + Drop>(
+    alloc: Global,
+    shown: &Shown,
+    lives: &mut Lives<S>,
+) -> Result<Vec<u8>, LivesFault>
+    requires { lives.old.stopped ≡ None }
+    ensures dump { IfOk result (λ text. (steps : List Seen) × AreToCome lives.old steps × (text.items ≡ dump_of shown.now steps)) }
+    ensures calm { result ≢ Err LivesFault.Failed → lives.new.trace.faults ≡ lives.old.trace.faults }
+    ensures later { lives.old.trace.faults ≤ lives.new.trace.faults }
+{
+    let Ok(mut writer) = begun(alloc, shown) else {
+        return Err(LivesFault::NoMemory);
+    };
+    for _ in 0..u64::MAX {
+        let Some(step) = lives.next_step()? else {
+            return ended(writer);
+        };
+        if writer.take(step, lives).is_err() {
+            return Err(LivesFault::NoMemory);
+        }
+    }
+    Err(LivesFault::NoMemory)
+}
+
+// The text, with the time at which the run is over.
+fn ended(writer: Writer<'_>) -> Result<Vec<u8>, LivesFault> {
+    let mut writer = writer;
+    let base = writer.base;
+    if writer.stamp(base).is_err() {
+        return Err(LivesFault::NoMemory);
+    }
+    let Writer { text, .. } = writer;
     Ok(text)
 }
