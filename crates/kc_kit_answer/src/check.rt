@@ -90,8 +90,8 @@ fn check_stream<'a, F: Streams>(
     }
 }
 
-/// The refusal where a run cannot be told to its end.
-pub(crate) fn run_refusal(alloc: Global, name: &str, fault: LivesFault) -> Refusal
+// The refusal where a run cannot be told to its end.
+fn run_refusal(alloc: Global, name: &str, fault: LivesFault) -> Refusal
     ensures wrong { IfWrong fault (λ line. IsRefused (λ response. response ≡ unkept_response name.now line (codes "BADTRACE")) result) }
     ensures failed { fault ≡ LivesFault.Failed → IsRefused (λ response. response ≡ read_response name.now) result }
 {

@@ -6,18 +6,18 @@ ghost use Rattle.kc_kit_files.specs.Reads.{AllShort};
 ghost use Rattle.kc_kit_words.specs.Asked.{asked, IsWithin};
 ghost use Rattle.kc_kit_words.specs.Inputs.{inputs_in};
 ghost use Rattle.kc_kit_answer.specs.Checking.{IsChecked, MayCheck};
-ghost use Rattle.kc_kit_answer.specs.Dump.{DumpAnswer};
+ghost use Rattle.kc_kit_answer.specs.Dump.{DumpAnswer, IsDumpJob};
 ghost use Rattle.kc_kit_answer.specs.Jobs.{Prepares};
 
-use crate::check::run_refusal;
 use crate::job::Job;
-use kc_events::Lives;
+use kc_base::{FileFault, NoMemory};
+use kc_events::LivesFault;
 use kc_kit_files::{Refusal, unread};
-use kc_kit_inputs::{Driving, driving_in, given_for, read_inputs};
+use kc_kit_inputs::{Driving, driving_in, given_for, read_inputs, trace_refusal};
 use kc_kit_running::Output;
 use kc_kit_streams::Streams;
 use kc_kit_words::{Command, Dump};
-use kc_vcd::Shown;
+use kc_vcd::dump_run;
 use std::alloc::Global;
 
 /// Reads what drives the inputs, opens a trace, and makes the dump that is to be written.
@@ -59,14 +59,23 @@ fn dump_stream<'a, F: Streams>(
         Ok(driving) => driving,
         Err(refusal) => return Err(refusal),
     };
-    let Ok(shown) = Shown::new(alloc, dump.clock, &stimuli, values) else {
-        return Err(Refusal::NoMemory);
-    };
-    let Ok(mut lives) = Lives::new(alloc, stream, stimuli) else {
-        return Err(Refusal::NoMemory);
-    };
-    let made = kc_vcd::dump(alloc, &shown, &mut lives);
-    files.close(lives.into_source());
+    match dump_run(alloc, dump.clock, stimuli, values, stream) {
+        Ok((stream, made)) => {
+            files.close(stream);
+            dump_job(alloc, dump, made)
+        }
+        Err(NoMemory) => Err(Refusal::NoMemory),
+    }
+}
+
+// The job that writes a dump, or the refusal where the run of the trace could not be told to its end.
+fn dump_job<'a>(
+    alloc: Global,
+    dump: &Dump<'a>,
+    made: Result<Vec<u8>, LivesFault>,
+) -> Result<Job<'a>, Refusal>
+    ensures { IsDumpJob dump.now.trace.now dump.now.out.now made.entry result }
+{
     match made {
         Ok(bytes) => Ok(Job::Write {
             file: Output {
@@ -76,6 +85,8 @@ fn dump_stream<'a, F: Streams>(
             lines: None,
             map: None,
         }),
-        Err(fault) => Err(run_refusal(alloc, dump.trace, fault)),
+        Err(LivesFault::BadTrace(line)) => Err(trace_refusal(alloc, dump.trace, line)),
+        Err(LivesFault::Failed) => Err(unread(alloc, dump.trace, FileFault::Failed)),
+        Err(LivesFault::NoMemory) => Err(Refusal::NoMemory),
     }
 }

@@ -10,20 +10,12 @@ use Rattle.kc_convert.specs.declared.sample.Sample.{Sample}
 use Rattle.kc_events.specs.Grammar.{same_level}
 use Rattle.kc_events.specs.Lives.{levels_after}
 use Rattle.kc_events.specs.Steps.{Seen, Begins, Passes, Ends}
+use Rattle.kc_vcd.specs.declared.change.Change.{Change}
+use Rattle.kc_vcd.specs.declared.change.Change.TheVariants.{Moves, Takes, Happens, Unseen}
 use Rattle.kc_vcd.specs.declared.variable.Variable.{Variable}
 use Rattle.kc_vcd.specs.declared.variable.Variable.TheVariants as variable
 
-pub data Change : Type 0 where
-  -- a signal takes a level
-  Moves : Signal → Level → Change
-  -- an analogue input takes a value
-  Takes : ℕ → ℕ → Change
-  -- this happens
-  Happens : Variable → Change
-  -- what no variable shows
-  Unseen : Change
-
--- in a state of the run
+-- what changes, in a state of the run
 pub record Timed : Type 0 where
   pub at : ℕ
   pub change : Change

@@ -1,5 +1,5 @@
 -- A run as a value change dump (IEEE 1364, "Value change dump files"; what it shows and how it is called is this kit's own).
-use Rattle.std.specs.Prelude.{ℕ, ◌+◌, ◌-◌, ◌*◌, ◌/◌, ◌%◌, ◌^◌, ◌==◌, if◌then◌else◌, List, [], ◌∷◌, ◌++◌, codes, decimal, flat_map, map}
+use Rattle.std.specs.Prelude.{ℕ, true, ◌+◌, ◌-◌, ◌*◌, ◌/◌, ◌%◌, ◌^◌, ◌==◌, if◌then◌else◌, List, [], ◌∷◌, ◌++◌, codes, decimal, flat_map, map}
 use Rattle.kc_base.specs.declared.types.Level.{Level}
 use Rattle.kc_life.specs.declared.life.Signal.{Signal}
 use Rattle.kc_stim.specs.Drives.{Drives}
@@ -10,7 +10,9 @@ use Rattle.kc_events.specs.Steps.{Seen}
 use Rattle.kc_vcd.specs.declared.variable.Variable.{Variable}
 use Rattle.kc_vcd.specs.declared.variable.Variable.TheVariants.{Wire, Analog}
 use Rattle.kc_vcd.specs.Variables.{variables_of, name_of, code_of}
-use Rattle.kc_vcd.specs.Changes.{Change, Moves, Takes, Happens, Unseen, Timed, changes_by, end_by, with_values}
+use Rattle.kc_vcd.specs.declared.change.Change.{Change}
+use Rattle.kc_vcd.specs.declared.change.Change.TheVariants.{Moves, Takes, Happens, Unseen}
+use Rattle.kc_vcd.specs.Changes.{Timed, changes_by, end_by, with_values}
 
 -- what a dump shows: its variables, the levels before state 0, the values of the analogue inputs, and how many picoseconds a state
 -- time has
@@ -98,11 +100,10 @@ head_end = codes "$upscope $end\n" ++ codes "$enddefinitions $end\n" ++ codes "#
 abbrev pub prefix : Shown → List ℕ
 prefix shown = head ++ declarations shown.variables ++ head_end ++ start_lines shown.start shown.variables ++ codes "$end\n"
 
--- what changes, and last the time at which the run is over
-abbrev pub timed : Shown → List Seen → List Timed
-timed shown steps =
-    with_values shown.samples (end_by 0 steps) (changes_by shown.variables true 0 shown.start steps)
-    ++ record { at = end_by 0 steps; change = Unseen } ∷ []
+-- what changes, with the values between, and last the time at which the run is over
+abbrev pub timed_to : List Sample → ℕ → List Timed → List Timed
+timed_to samples end changes = with_values samples end changes ++ record { at = end; change = Unseen } ∷ []
 
 abbrev pub dump_of : Shown → List Seen → List ℕ
-dump_of shown steps = prefix shown ++ texts shown.length 0 (timed shown steps)
+dump_of shown steps =
+    prefix shown ++ texts shown.length 0 (timed_to shown.samples (end_by 0 steps) (changes_by shown.variables true 0 shown.start steps))

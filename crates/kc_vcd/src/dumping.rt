@@ -1,21 +1,33 @@
 // A run as a value change dump, written as it is told.
-ghost use Rattle.std.specs.Prelude.{◌≡◌, ◌≢◌, ◌≤◌, ◌++◌, List, None, IfOk, OnOk};
+ghost use Rattle.std.specs.Prelude.{◌≡◌, ◌≤◌, ℕ, ◌∷◌, [], map, List, None, Err, IfOk, IfSome, OnOk};
+ghost use Rattle.kc_base.specs.Series.{up_to};
 ghost use Rattle.kc_life.specs.Tables.{level_in};
-ghost use Rattle.kc_events.specs.Steps.{Seen};
-ghost use Rattle.kc_events.specs.Telling.{AreToCome};
+ghost use Rattle.kc_events.specs.Steps.{Seen, Begins, Passes, Ends};
+ghost use Rattle.kc_events.specs.Printed.{place_in};
+ghost use Rattle.kc_events.specs.Telling.{AreToCome, IsFirstWrongIn};
+ghost use Rattle.kc_events.specs.Underway.{seen_by};
+ghost use Rattle.kc_vcd.specs.declared.variable.Variable.TheVariants.{Wire};
+ghost use Rattle.kc_vcd.specs.Changes.{difference, differences, all_at, change_by as change_of, later as later_by, behind as state_behind, taken, after};
 ghost use Rattle.kc_vcd.specs.Dump.{dump_of};
+ghost use Rattle.kc_vcd.specs.Dumped.{IsDumped, Counts};
+ghost use Rattle.kc_vcd.specs.Writing.{start_of, with_steps, HasTold, HasPut, HasChanged, IsSameLife};
 
+use crate::change::{Change, change_by, put_change};
 use crate::shown::Shown;
 use crate::variable::Variable;
-use crate::writing::{put_event, put_level, put_stamp, put_value};
+use crate::writing::put_stamp;
 use kc_base::{NoMemory, StateTime};
 use kc_byte_source::Source;
+use kc_convert::{Analog, Sample};
 use kc_events::{Lives, LivesFault, Step};
 use kc_life::{Levels, Signal, What};
+use kc_stim::Stimuli;
 use std::alloc::Global;
+use std::marker::Model;
 
 // A dump that is written: its text, the state of the run that was stamped last, the one in which the life began, whether the next
 // life is the first, the levels at the end of the last state, and how many values were put.
+#[derive(Drop)]
 struct Writer<'a> {
     shown: &'a Shown,
     text: Vec<u8>,
@@ -26,106 +38,191 @@ struct Writer<'a> {
     taken: usize,
 }
 
+impl<'a> Model for Writer<'a> {
+    ghost use Rattle.std.specs.Prelude.{◌≤◌, length, drop};
+    ghost use Rattle.kc_life.specs.Tables.{level_in};
+    ghost use Rattle.kc_vcd.specs.Writing.{Written};
+
+    ghost Value = { Written };
+
+    ghost view = { λ w. record {
+        shown = w.shown.now;
+        text = w.text.items;
+        stamped = w.stamped;
+        base = w.base;
+        first = w.is_first;
+        levels = level_in w.levels;
+        samples = drop w.taken w.shown.now.samples
+    } };
+
+    ghost invariant = { λ w. w.taken ≤ length w.shown.now.samples };
+}
+
+// So many states behind a state, up to the last number of 64 bits.
+fn later(base: StateTime, t: StateTime) -> StateTime
+    ensures { result ≡ later_by base t }
+{
+    base.saturating_add(t)
+}
+
+// The state behind those of a life, by its last one.
+fn behind(base: StateTime, last: StateTime) -> StateTime
+    ensures { result ≡ state_behind base last }
+{
+    later(later(base, last), 1)
+}
+
 impl<'a> Writer<'a> {
-    // Goes to a state of the run.
-    fn stamp(&mut self, at: StateTime) -> Result<(), NoMemory> {
+    // Puts a change with its time, where that is another one than before.
+    fn put(&mut self, at: StateTime, change: Change) -> Result<(), NoMemory>
+        ensures put { OnOk result (HasPut self.old (record { at = at; change = change } ∷ []) self.new) }
+        ensures samples { OnOk result (self.new.samples ≡ self.old.samples) }
+        ensures same { OnOk result (IsSameLife self.old self.new) }
+    {
         put_stamp(&mut self.text, self.shown.length, self.stamped, at)?;
         self.stamped = at;
-        Ok(())
+        put_change(&mut self.text, change)
+    }
+
+    // The next value of an analogue input, where it comes up to a state of the run.
+    fn next_value(&mut self, at: StateTime) -> Option<Sample>
+        ensures none { result ≡ None → up_to (λ s. s.at) at self.old.samples ≡ [] }
+        ensures some { IfSome result (λ s. (self.old.samples ≡ s ∷ self.new.samples) × (s.at ≤ at)) }
+        ensures kept { result ≡ None → self.new ≡ self.old }
+        ensures same { IsSameLife self.old self.new }
+        ensures text { self.new.text ≡ self.old.text }
+        ensures stamped { self.new.stamped ≡ self.old.stamped }
+    {
+        match self.shown.values.samples().get(self.taken) {
+            Some(sample) if sample.at <= at => {
+                self.taken += 1;
+                Some(*sample)
+            }
+            _ => None,
+        }
     }
 
     // Puts the values of the analogue inputs up to a state of the run, each in its own.
-    fn put_values(&mut self, at: StateTime) -> Result<(), NoMemory> {
-        let shown = self.shown;
-        let samples = shown.values.samples();
-        while self.taken < samples.len() && samples[self.taken].at <= at {
-            let sample = samples[self.taken];
-            self.taken += 1;
-            self.stamp(sample.at)?;
-            put_value(&mut self.text, sample.channel, sample.value)?;
+    fn put_values(&mut self, at: StateTime) -> Result<(), NoMemory>
+        ensures put { OnOk result (HasPut self.old (taken (up_to (λ s. s.at) at self.old.samples)) self.new) }
+        ensures samples { OnOk result (self.new.samples ≡ after at self.old.samples) }
+        ensures same { OnOk result (IsSameLife self.old self.new) }
+    {
+        while let Some(sample) = self.next_value(at) {
+            self.put(sample.at, Change::Takes(sample.channel, sample.value))?;
         }
         Ok(())
     }
 
-    // Goes to a state of the run, with the values up to it.
-    fn reach(&mut self, at: StateTime) -> Result<(), NoMemory> {
+    // A change in a state of the run, with the values up to it.
+    fn change(&mut self, at: StateTime, change: Change) -> Result<(), NoMemory>
+        ensures changed { OnOk result (HasChanged self.old (record { at = at; change = change } ∷ []) self.new) }
+        ensures same { OnOk result (IsSameLife self.old self.new) }
+    {
         self.put_values(at)?;
-        self.stamp(at)
+        self.put(at, change)
     }
 
-    // Puts the level of a signal, where it has another one than this.
-    fn put_difference(&mut self, signal: Signal, levels: &Levels) -> Result<(), NoMemory> {
+    // The level of a signal, where it has another one than at the end of the last state.
+    fn change_level(
+        &mut self,
+        at: StateTime,
+        signal: Signal,
+        levels: &Levels,
+    ) -> Result<(), NoMemory>
+        ensures changed { OnOk result (HasChanged self.old (all_at at (difference self.old.levels (level_in levels.now) (Wire signal))) self.new) }
+        ensures same { OnOk result (IsSameLife self.old self.new) }
+    {
         let level = levels.level(signal);
-        if level.is_high() != self.levels.level(signal).is_high() {
-            put_level(&mut self.text, signal, level)?;
+        if level.is_high() == self.levels.level(signal).is_high() {
+            return Ok(());
         }
-        Ok(())
+        self.change(at, Change::Moves(signal, level))
     }
 
-    // Puts the levels of the signals that a life finds at others than those at the end of the life before it.
-    fn put_differences(&mut self, levels: &Levels) -> Result<(), NoMemory> {
+    // The levels of the signals that a life finds at others than those at the end of the life before it.
+    fn change_levels(&mut self, at: StateTime, levels: &Levels) -> Result<(), NoMemory>
+        ensures changed { OnOk result (HasChanged self.old (all_at at (differences self.old.shown.variables self.old.levels (level_in levels.now))) self.new) }
+        ensures same { OnOk result (IsSameLife self.old self.new) }
+    {
         let shown = self.shown;
         for variable in shown.variables.as_slice() {
             if let Variable::Wire(signal) = variable {
-                self.put_difference(*signal, levels)?;
+                self.change_level(at, *signal, levels)?;
             }
         }
         Ok(())
     }
 
-    // A life begins, with these levels before its state 0.
-    fn begin(&mut self, levels: &Levels) -> Result<(), NoMemory> {
-        if self.is_first {
-            self.is_first = false;
-        } else {
-            self.reach(self.base)?;
-            put_event(&mut self.text, Variable::Life)?;
+    // A life begins, with these levels before its state 0. The first one of a run is not told.
+    fn begin(&mut self, levels: &Levels) -> Result<(), NoMemory>
+        ensures { OnOk result (HasTold self.old (Begins (level_in levels.now) ∷ []) self.new) }
+    {
+        let base = self.base;
+        if !self.is_first {
+            self.change(base, Change::Happens(Variable::Life))?;
         }
-        self.put_differences(levels)?;
+        self.change_levels(base, levels)?;
+        self.is_first = false;
         self.levels = *levels;
         Ok(())
     }
 
-    // Puts what happens.
-    fn put_what(&mut self, what: What) -> Result<(), NoMemory> {
-        match what {
-            What::Edge(signal, level) => put_level(&mut self.text, signal, level),
-            What::Entry(number) => put_event(&mut self.text, Variable::Entry(number)),
-            What::Transfer(number) => put_event(&mut self.text, Variable::Transfer(number)),
-            What::Undefined => put_event(&mut self.text, Variable::Undefined),
-            _ => Ok(()),
+    // What happens in a state of the run.
+    fn change_all(&mut self, at: StateTime, whats: &[What]) -> Result<(), NoMemory>
+        ensures changed { OnOk result (HasChanged self.old (all_at at (map change_of whats.now)) self.new) }
+        ensures same { OnOk result (IsSameLife self.old self.new) }
+    {
+        for what in whats {
+            self.change(at, change_by(*what))?;
         }
+        Ok(())
     }
 
     // A state of the life passes, in which this happens.
-    fn pass(&mut self, at: StateTime, whats: &[What]) -> Result<(), NoMemory> {
-        self.reach(self.base.saturating_add(at))?;
-        for what in whats {
-            self.put_what(*what)?;
-        }
+    fn pass(&mut self, at: StateTime, whats: &[What]) -> Result<(), NoMemory>
+        ensures { OnOk result (HasTold self.old (Passes (record { at = at; whats = whats.now }) ∷ []) self.new) }
+    {
+        self.change_all(later(self.base, at), whats)?;
         self.levels.take_all(whats);
         Ok(())
     }
 
     // The life ends behind its last state.
-    fn end(&mut self, last: StateTime) -> Result<(), NoMemory> {
-        self.put_values(self.base.saturating_add(last))?;
-        self.base = self.base.saturating_add(last).saturating_add(1);
-        Ok(())
+    fn end(&mut self, last: StateTime)
+        ensures { HasTold self.old (Ends last ∷ []) self.new }
+    {
+        self.base = behind(self.base, last);
     }
 
     // Takes a step that was just told.
-    fn take<S: Source + Drop>(&mut self, step: Step, lives: &Lives<S>) -> Result<(), NoMemory> {
+    fn take<S: Source + Drop>(&mut self, step: Step, lives: &Lives<S>) -> Result<(), NoMemory>
+        ensures { OnOk result (HasTold self.old (seen_by step lives.now.course ∷ []) self.new) }
+    {
         match step {
-            Step::Begins => self.begin(lives.levels()),
-            Step::Passes(at) => self.pass(at, lives.whats()),
+            Step::Begins => self.begin(lives.levels())?,
+            Step::Passes(at) => self.pass(at, lives.whats())?,
             Step::Ends(last) => self.end(last),
         }
+        Ok(())
+    }
+
+    // The end of the run, with the values before it.
+    fn finish(&mut self) -> Result<(), NoMemory>
+        ensures { OnOk result (self.new.text ≡ with_steps self.old []) }
+    {
+        let base = self.base;
+        if base > 0 {
+            self.put_values(base - 1)?;
+        }
+        self.put(base, Change::Unseen)
     }
 }
 
 // A dump with its declarations and its levels before state 0.
-fn begun(alloc: Global, shown: &Shown) -> Result<Writer<'_>, NoMemory> {
+fn begun(alloc: Global, shown: &Shown) -> Result<Writer<'_>, NoMemory>
+    ensures { IfOk result (λ writer. writer ≡ start_of shown.now) }
+{
     let mut text = Vec::new(alloc);
     shown.put_prefix(&mut text)?;
     Ok(Writer {
@@ -139,24 +236,26 @@ fn begun(alloc: Global, shown: &Shown) -> Result<Writer<'_>, NoMemory> {
     })
 }
 
-/// The dump (IEEE 1364) of the run whose lives are told, to its end. Times are in picoseconds; a change stands at the beginning of
-/// its state, and the states of each life stand behind those of the life before it. Memory grows with the dump.
-pub fn dump<S: Source + Drop>(
-    alloc: Global,
-    shown: &Shown,
-    lives: &mut Lives<S>,
-) -> Result<Vec<u8>, LivesFault>
-    requires { lives.old.stopped ≡ None }
-    ensures dump { IfOk result (λ text. (steps : List Seen) × AreToCome lives.old steps × (text.items ≡ dump_of shown.now steps)) }
-    ensures calm { result ≢ Err LivesFault.Failed → lives.new.trace.faults ≡ lives.old.trace.faults }
-    ensures later { lives.old.trace.faults ≤ lives.new.trace.faults }
+// The text, once the run is over.
+fn ended(writer: Writer<'_>) -> Result<Vec<u8>, NoMemory>
+    ensures { IfOk result (λ text. text.items ≡ with_steps writer.entry []) }
 {
-    let Ok(mut writer) = begun(alloc, shown) else {
-        return Err(LivesFault::NoMemory);
-    };
+    let mut writer = writer;
+    writer.finish()?;
+    let Writer { text, .. } = writer;
+    Ok(text)
+}
+
+// Tells a run to its end.
+fn tell<S: Source + Drop>(writer: &mut Writer<'_>, lives: &mut Lives<S>) -> Result<(), LivesFault>
+    requires { lives.old.stopped ≡ None }
+    ensures told { OnOk result ((steps : List Seen) × AreToCome lives.old steps × HasTold writer.old steps writer.new) }
+    ensures wrong { (line : ℕ) → result ≡ Err (LivesFault.BadTrace line) → IsFirstWrongIn (place_in lives.old.trace.reader) lives.old.trace.left lives.old.trace.count line }
+    ensures faults { Counts lives.old.trace.faults result lives.new.trace.faults }
+{
     for _ in 0..u64::MAX {
         let Some(step) = lives.next_step()? else {
-            return ended(writer);
+            return Ok(());
         };
         if writer.take(step, lives).is_err() {
             return Err(LivesFault::NoMemory);
@@ -165,13 +264,44 @@ pub fn dump<S: Source + Drop>(
     Err(LivesFault::NoMemory)
 }
 
-// The text, with the time at which the run is over.
-fn ended(writer: Writer<'_>) -> Result<Vec<u8>, LivesFault> {
-    let mut writer = writer;
-    let base = writer.base;
-    if writer.stamp(base).is_err() {
+// The dump of a run whose lives are told, to its end.
+fn dump_of_lives<S: Source + Drop>(
+    alloc: Global,
+    shown: &Shown,
+    lives: &mut Lives<S>,
+) -> Result<Vec<u8>, LivesFault>
+    requires { lives.old.stopped ≡ None }
+    ensures dump { IfOk result (λ text. (steps : List Seen) × AreToCome lives.old steps × (text.items ≡ dump_of shown.now steps)) }
+    ensures wrong { (line : ℕ) → result ≡ Err (LivesFault.BadTrace line) → IsFirstWrongIn (place_in lives.old.trace.reader) lives.old.trace.left lives.old.trace.count line }
+    ensures faults { Counts lives.old.trace.faults result lives.new.trace.faults }
+{
+    let Ok(mut writer) = begun(alloc, shown) else {
         return Err(LivesFault::NoMemory);
+    };
+    tell(&mut writer, lives)?;
+    match ended(writer) {
+        Ok(text) => Ok(text),
+        Err(NoMemory) => Err(LivesFault::NoMemory),
     }
-    let Writer { text, .. } = writer;
-    Ok(text)
+}
+
+/// The dump (IEEE 1364) of the run whose trace a source gives, and whose inputs these stimuli and values drive, of a board whose
+/// oscillator has so many hertz; or the fault that has ended it. Times are in picoseconds; a change stands at the beginning of its
+/// state, and the states of each life stand behind those of the life before it. Memory grows with the dump. The source comes back, with
+/// as many faults as it has counted; where memory runs out before its first read, it is dropped.
+pub fn dump_run<S: Source + Drop>(
+    alloc: Global,
+    clock: u32,
+    stimuli: Stimuli,
+    values: Analog,
+    source: S,
+) -> Result<(S, Result<Vec<u8>, LivesFault>), NoMemory>
+    requires { 1 ≤ clock }
+    ensures answer { IfOk result (λ r. IsDumped clock stimuli.entry values.entry (S.to_come source) r.1) }
+    ensures faults { IfOk result (λ r. Counts (S.faults source) r.1 (S.faults r.0)) }
+{
+    let shown = Shown::new(alloc, clock, &stimuli, values)?;
+    let mut lives = Lives::new(alloc, source, stimuli)?;
+    let dump = dump_of_lives(alloc, &shown, &mut lives);
+    Ok((lives.into_source(), dump))
 }

@@ -3,13 +3,12 @@
 //! `P 82 HSO0 1` at an oscillator of 16 MHz becomes the time `#10250000`, in picoseconds, and `1A`, where `A` is the wire HSO0.
 #![tactic(auto)]
 
+mod change;
 mod dumping;
 mod laws;
 mod shown;
 mod variable;
 mod writing;
 
-pub use dumping::dump;
+pub use dumping::dump_run;
 pub use laws::{dumps_show_events, dumps_show_levels, dumps_show_values};
-pub use shown::Shown;
-pub use variable::Variable;

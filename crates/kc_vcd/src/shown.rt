@@ -33,11 +33,11 @@ const TRANSFERS: u8 = 15;
 /// What a dump shows: its variables, the levels before state 0, the values of the analogue inputs, and how many picoseconds a state
 /// time has.
 #[derive(Drop)]
-pub struct Shown {
-    pub(crate) variables: Vec<Variable>,
-    pub(crate) start: Levels,
-    pub(crate) values: Analog,
-    pub(crate) length: u64,
+pub(crate) struct Shown {
+    pub variables: Vec<Variable>,
+    pub start: Levels,
+    pub values: Analog,
+    pub length: u64,
 }
 
 impl Model for Shown {
@@ -155,7 +155,7 @@ fn put_start(text: &mut Vec<u8>, variable: Variable, start: &Levels) -> Result<(
 
 impl Shown {
     /// What a dump shows of a run whose inputs these stimuli and values drive, of a board whose oscillator has so many hertz.
-    pub fn new(
+    pub(crate) fn new(
         alloc: Global,
         clock: u32,
         stimuli: &Stimuli,

@@ -11,7 +11,7 @@ use kc_life::Signal;
 /// A variable of a dump: the level of a signal, the value of an analogue input, or what happens: an entry through the vector of a
 /// request, a cycle of the transfer server for one, an undefined use, or a life that begins behind another one.
 #[derive(Clone, Copy)]
-pub enum Variable {
+pub(crate) enum Variable {
     Wire(Signal),
     Analog(u8),
     Entry(u8),

@@ -1,7 +1,7 @@
 // The lines of a dump.
 ghost use Rattle.std.specs.Prelude.{◌≡◌, ◌<◌, ◌+◌, ◌/◌, ◌%◌, ◌^◌, ◌++◌, OnOk};
 ghost use Rattle.kc_vcd.specs.Variables.{IsVariable};
-ghost use Rattle.kc_vcd.specs.Changes.{Happens};
+ghost use Rattle.kc_vcd.specs.declared.change.Change.TheVariants.{Happens};
 ghost use Rattle.kc_vcd.specs.Dump.{type_of, declaration, level_line, digits, significant, value_line, change_text, stamp};
 
 use crate::variable::Variable;
@@ -55,7 +55,7 @@ fn digit(value: u16, place: u8) -> u8
     requires { place < 10 }
     ensures { result ≡ 48 + value / 2 ^ place % 2 }
 {
-    b'0' + ((value >> place) & 1) as u8
+    b'0' + ((value >> place) % 2) as u8
 }
 
 // The ten binary digits of a value, the highest first.
