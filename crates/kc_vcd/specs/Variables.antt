@@ -4,15 +4,14 @@
 -- First come the pins that are printed and the inputs that are driven, then the analogue inputs that have values, then what happens:
 -- entries through the vector of each request, cycles of the transfer server for each, an undefined use, and a life that begins
 -- behind another one.
-use Rattle.std.specs.Prelude.{ℕ, ◌+◌, ◌%◌, ◌<◌, ◌==◌, if◌then◌else◌, Bool, not, ◌&&◌, List, [], ◌∷◌, ◌++◌, map, filter, length, codes, decimal}
-use Rattle.std.specs.List.{range_with_len}
+use Rattle.std.specs.Prelude.{ℕ, ◌+◌, ◌%◌, ◌<◌, ◌==◌, if◌then◌else◌, Bool, ◌&&◌, List, [], ◌∷◌, ◌++◌, flat_map, codes, decimal}
+use Rattle.std.specs.List.{range_with_len, list_any}
 use Rattle.kc_base.specs.Pins.{IsPin, pin_count, pin_name, is_printed, is_input}
 use Rattle.kc_life.specs.declared.life.Signal.{Signal}
 use Rattle.kc_life.specs.declared.life.Signal.TheVariants.{Output, Input}
 use Rattle.kc_life.specs.Signals.{pin_of}
 use Rattle.kc_stim.specs.Drives.{Drives, is_driven}
 use Rattle.kc_convert.specs.declared.sample.Sample.{Sample}
-use Rattle.kc_convert.specs.Samples.{of_channel}
 use Rattle.kc_vcd.specs.declared.variable.Variable.{Variable}
 use Rattle.kc_vcd.specs.declared.variable.Variable.TheVariants.{Wire, Analog, Entry, Transfer, Undefined, Life}
 
@@ -27,31 +26,49 @@ entry_count = 18
 abbrev pub transfer_count : ℕ
 transfer_count = 15
 
-abbrev pub pins : List ℕ
-pins = range_with_len 0 pin_count
+-- a pin that is printed
+abbrev pub output_at : ℕ → List Variable
+output_at pin = if is_printed pin then Wire (Output (record { 0 = pin })) ∷ [] else []
 
-unfoldable pub outputs : List Variable
-outputs = map (λ pin. Wire (Output (record { 0 = pin }))) (filter is_printed pins)
+-- among the pins below a number
+unfoldable pub outputs : ℕ → List Variable
+outputs count = flat_map output_at (range_with_len 0 count)
 
 -- an input that a wire leads to, or that stimuli set
 abbrev pub is_shown_input : Drives → ℕ → Bool
 is_shown_input d pin = is_input pin && is_driven d pin
 
-unfoldable pub inputs : Drives → List Variable
-inputs d = map (λ pin. Wire (Input (record { 0 = pin }))) (filter (is_shown_input d) pins)
+abbrev pub input_at : Drives → ℕ → List Variable
+input_at d pin = if is_shown_input d pin then Wire (Input (record { 0 = pin })) ∷ [] else []
+
+unfoldable pub inputs : Drives → ℕ → List Variable
+inputs d count = flat_map (input_at d) (range_with_len 0 count)
 
 -- a channel that has a value
 abbrev pub has_value : List Sample → ℕ → Bool
-has_value samples channel = not (length (of_channel channel samples) == 0)
+has_value samples channel = list_any (λ s. s.channel == channel) samples
 
-unfoldable pub channels : List Sample → List Variable
-channels samples = map Analog (filter (has_value samples) (range_with_len 0 channel_count))
+abbrev pub channel_at : List Sample → ℕ → List Variable
+channel_at samples channel = if has_value samples channel then Analog channel ∷ [] else []
 
-unfoldable pub events : List Variable
-events = map Entry (range_with_len 0 entry_count) ++ map Transfer (range_with_len 0 transfer_count) ++ Undefined ∷ Life ∷ []
+unfoldable pub channels : List Sample → ℕ → List Variable
+channels samples count = flat_map (channel_at samples) (range_with_len 0 count)
+
+-- the first so many vectors, and requests that the transfer server serves
+unfoldable pub entries : ℕ → List Variable
+entries count = flat_map (λ number. Entry number ∷ []) (range_with_len 0 count)
+
+unfoldable pub transfers : ℕ → List Variable
+transfers count = flat_map (λ number. Transfer number ∷ []) (range_with_len 0 count)
 
 abbrev pub variables_of : Drives → List Sample → List Variable
-variables_of d samples = outputs ++ inputs d ++ channels samples ++ events
+variables_of d samples =
+    outputs pin_count
+    ++ inputs d pin_count
+    ++ channels samples channel_count
+    ++ entries entry_count
+    ++ transfers transfer_count
+    ++ Undefined ∷ Life ∷ []
 
 -- ---- names
 

@@ -140,16 +140,32 @@ impl<'a> Writer<'a> {
         self.change(at, Change::Moves(signal, level))
     }
 
+    // The level of a variable, where it is one of a signal that has another one than at the end of the last state.
+    fn change_variable(
+        &mut self,
+        at: StateTime,
+        variable: Variable,
+        levels: &Levels,
+    ) -> Result<(), NoMemory>
+        ensures changed { OnOk result (HasChanged self.old (all_at at (difference self.old.levels (level_in levels.now) variable)) self.new) }
+        ensures same { OnOk result (IsSameLife self.old self.new) }
+    {
+        match variable {
+            Variable::Wire(signal) => self.change_level(at, signal, levels),
+            _ => Ok(()),
+        }
+    }
+
     // The levels of the signals that a life finds at others than those at the end of the life before it.
+    #[tactic(auto, unfolding(crate::specs::Changes::differences))]
     fn change_levels(&mut self, at: StateTime, levels: &Levels) -> Result<(), NoMemory>
         ensures changed { OnOk result (HasChanged self.old (all_at at (differences self.old.shown.variables self.old.levels (level_in levels.now))) self.new) }
         ensures same { OnOk result (IsSameLife self.old self.new) }
     {
-        let shown = self.shown;
-        for variable in shown.variables.as_slice() {
-            if let Variable::Wire(signal) = variable {
-                self.change_level(at, *signal, levels)?;
-            }
+        let mut left = self.shown.variables.as_slice();
+        while let [variable, rest @ ..] = left {
+            self.change_variable(at, *variable, levels)?;
+            left = rest;
         }
         Ok(())
     }
@@ -173,8 +189,10 @@ impl<'a> Writer<'a> {
         ensures changed { OnOk result (HasChanged self.old (all_at at (map change_of whats.now)) self.new) }
         ensures same { OnOk result (IsSameLife self.old self.new) }
     {
-        for what in whats {
+        let mut left = whats;
+        while let [what, rest @ ..] = left {
             self.change(at, change_by(*what))?;
+            left = rest;
         }
         Ok(())
     }

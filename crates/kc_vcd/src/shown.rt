@@ -1,7 +1,8 @@
 // What a dump shows of a run.
 ghost use Rattle.std.specs.Prelude.{◌≡◌, ◌≤◌, ◌++◌, ◌∷◌, [], All, IfOk, OnOk};
 ghost use Rattle.kc_life.specs.Tables.{level_in};
-ghost use Rattle.kc_vcd.specs.Variables.{outputs, inputs, channels, events, variables_of, has_value as value_stands, IsVariable};
+ghost use Rattle.kc_base.specs.Pins.{pin_count};
+ghost use Rattle.kc_vcd.specs.Variables.{outputs, inputs, channels, entries, transfers, variables_of, has_value as value_stands, IsVariable, channel_count, entry_count, transfer_count};
 ghost use Rattle.kc_vcd.specs.Dump.{state_length as picoseconds, shown_of, prefix as prefix_text, declarations, start_line, start_lines};
 
 use crate::variable::Variable;
@@ -62,7 +63,7 @@ fn push(variables: &mut Vec<Variable>, variable: Variable) -> Result<(), NoMemor
 
 // The pins that are printed.
 fn push_outputs(variables: &mut Vec<Variable>) -> Result<(), NoMemory>
-    ensures { OnOk result (variables.new.items ≡ variables.old.items ++ outputs) }
+    ensures { OnOk result (variables.new.items ≡ variables.old.items ++ outputs pin_count) }
 {
     for pin in 0..PIN_COUNT {
         if Pin(pin).is_printed() {
@@ -74,7 +75,7 @@ fn push_outputs(variables: &mut Vec<Variable>) -> Result<(), NoMemory>
 
 // The inputs that are driven.
 fn push_inputs(variables: &mut Vec<Variable>, stimuli: &Stimuli) -> Result<(), NoMemory>
-    ensures { OnOk result (variables.new.items ≡ variables.old.items ++ inputs stimuli.now) }
+    ensures { OnOk result (variables.new.items ≡ variables.old.items ++ inputs stimuli.now pin_count) }
 {
     for pin in 0..PIN_COUNT {
         if Pin(pin).is_input() && stimuli.is_driven(Pin(pin)) {
@@ -93,7 +94,7 @@ fn has_value(samples: &[Sample], channel: u8) -> bool
 
 // The analogue inputs that have values.
 fn push_channels(variables: &mut Vec<Variable>, samples: &[Sample]) -> Result<(), NoMemory>
-    ensures { OnOk result (variables.new.items ≡ variables.old.items ++ channels samples.now) }
+    ensures { OnOk result (variables.new.items ≡ variables.old.items ++ channels samples.now channel_count) }
 {
     for channel in 0..CHANNELS {
         if has_value(samples, channel) {
@@ -103,18 +104,24 @@ fn push_channels(variables: &mut Vec<Variable>, samples: &[Sample]) -> Result<()
     Ok(())
 }
 
-// What may happen.
-fn push_events(variables: &mut Vec<Variable>) -> Result<(), NoMemory>
-    ensures { OnOk result (variables.new.items ≡ variables.old.items ++ events) }
+// The vectors.
+fn push_entries(variables: &mut Vec<Variable>) -> Result<(), NoMemory>
+    ensures { OnOk result (variables.new.items ≡ variables.old.items ++ entries entry_count) }
 {
     for number in 0..ENTRIES {
         push(variables, Variable::Entry(number))?;
     }
+    Ok(())
+}
+
+// The requests that the transfer server serves.
+fn push_transfers(variables: &mut Vec<Variable>) -> Result<(), NoMemory>
+    ensures { OnOk result (variables.new.items ≡ variables.old.items ++ transfers transfer_count) }
+{
     for number in 0..TRANSFERS {
         push(variables, Variable::Transfer(number))?;
     }
-    push(variables, Variable::Undefined)?;
-    push(variables, Variable::Life)
+    Ok(())
 }
 
 fn variables_in(
@@ -129,7 +136,10 @@ fn variables_in(
     push_outputs(&mut variables)?;
     push_inputs(&mut variables, stimuli)?;
     push_channels(&mut variables, samples)?;
-    push_events(&mut variables)?;
+    push_entries(&mut variables)?;
+    push_transfers(&mut variables)?;
+    push(&mut variables, Variable::Undefined)?;
+    push(&mut variables, Variable::Life)?;
     Ok(variables)
 }
 
@@ -153,6 +163,37 @@ fn put_start(text: &mut Vec<u8>, variable: Variable, start: &Levels) -> Result<(
     }
 }
 
+// Declares variables.
+#[tactic(auto, unfolding(crate::specs::Dump::declarations))]
+fn put_declarations(text: &mut Vec<u8>, variables: &[Variable]) -> Result<(), NoMemory>
+    requires { All IsVariable variables.now }
+    ensures { OnOk result (text.new.items ≡ text.old.items ++ declarations variables.now) }
+{
+    let mut left = variables;
+    while let [variable, rest @ ..] = left {
+        put_declaration(text, *variable)?;
+        left = rest;
+    }
+    Ok(())
+}
+
+// The levels and values of variables before state 0.
+#[tactic(auto, unfolding(crate::specs::Dump::start_lines))]
+fn put_starts(
+    text: &mut Vec<u8>,
+    variables: &[Variable],
+    start: &Levels,
+) -> Result<(), NoMemory>
+    ensures { OnOk result (text.new.items ≡ text.old.items ++ start_lines (level_in start.now) variables.now) }
+{
+    let mut left = variables;
+    while let [variable, rest @ ..] = left {
+        put_start(text, *variable, start)?;
+        left = rest;
+    }
+    Ok(())
+}
+
 impl Shown {
     /// What a dump shows of a run whose inputs these stimuli and values drive, of a board whose oscillator has so many hertz.
     pub(crate) fn new(
@@ -172,32 +213,14 @@ impl Shown {
         })
     }
 
-    fn put_declarations(&self, text: &mut Vec<u8>) -> Result<(), NoMemory>
-        ensures { OnOk result (text.new.items ≡ text.old.items ++ declarations self.now.variables) }
-    {
-        for variable in self.variables.as_slice() {
-            put_declaration(text, *variable)?;
-        }
-        Ok(())
-    }
-
-    fn put_starts(&self, text: &mut Vec<u8>) -> Result<(), NoMemory>
-        ensures { OnOk result (text.new.items ≡ text.old.items ++ start_lines self.now.start self.now.variables) }
-    {
-        for variable in self.variables.as_slice() {
-            put_start(text, *variable, &self.start)?;
-        }
-        Ok(())
-    }
-
     /// Puts the declarations, and the levels before state 0.
     pub(crate) fn put_prefix(&self, text: &mut Vec<u8>) -> Result<(), NoMemory>
         ensures { OnOk result (text.new.items ≡ text.old.items ++ prefix_text self.now) }
     {
         put(text, HEAD)?;
-        self.put_declarations(text)?;
+        put_declarations(text, self.variables.as_slice())?;
         put(text, HEAD_END)?;
-        self.put_starts(text)?;
+        put_starts(text, self.variables.as_slice(), &self.start)?;
         put(text, b"$end\n")
     }
 }
