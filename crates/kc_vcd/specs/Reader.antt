@@ -55,7 +55,7 @@ value_by code (c ∷ cs) value = if (c == 98) && bytes_eq (word 1 cs) (code ∷ 
 
 -- how often the event of a code has happened, as a line says
 abbrev pub count_by : ℕ → List ℕ → ℕ → ℕ
-count_by code (c ∷ d ∷ []) n = if d == code then n + 1 else n
+count_by code (c ∷ d ∷ []) n = if (c == 49) && (d == code) then n + 1 else n
 count_by code _ n = n
 
 -- what the lines up to a time say
