@@ -91,6 +91,6 @@ count_in is_wanted t life = length (filter (λ e. (e.at == t) && is_wanted e.wha
 -- at each state the event of a vector happens as often as the board enters there, and so for the transfer server
 pub record DumpsShowEvents : Type 0 where
   pub entries : (run : Run) (count t number : ℕ) (life : Life) → IsShownRun run → IsIn count life t run → number < entry_count →
-    count_described (dump_for run) (time_of count t run) (name_of (Entry number)) ≡ Some (count_in (is_entry number) t life)
+      count_described (dump_for run) (time_of count t run) (name_of (Entry number)) ≡ Some (count_in (is_entry number) t life)
   pub transfers : (run : Run) (count t number : ℕ) (life : Life) → IsShownRun run → IsIn count life t run → number < transfer_count →
-    count_described (dump_for run) (time_of count t run) (name_of (Transfer number)) ≡ Some (count_in (is_transfer number) t life)
+      count_described (dump_for run) (time_of count t run) (name_of (Transfer number)) ≡ Some (count_in (is_transfer number) t life)

@@ -46,13 +46,13 @@ impl<'a> Model for Writer<'a> {
     ghost Value = { Written };
 
     ghost view = { λ w. record {
-        shown = w.shown.now;
-        text = w.text.items;
-        stamped = w.stamped;
-        base = w.base;
-        first = w.is_first;
-        levels = level_in w.levels;
-        samples = drop w.taken w.shown.now.samples
+      shown = w.shown.now;
+      text = w.text.items;
+      stamped = w.stamped;
+      base = w.base;
+      first = w.is_first;
+      levels = level_in w.levels;
+      samples = drop w.taken w.shown.now.samples;
     } };
 
     ghost invariant = { λ w. w.taken ≤ length w.shown.now.samples };

@@ -179,11 +179,7 @@ fn put_declarations(text: &mut Vec<u8>, variables: &[Variable]) -> Result<(), No
 
 // The levels and values of variables before state 0.
 #[tactic(auto, unfolding(crate::specs::Dump::start_lines))]
-fn put_starts(
-    text: &mut Vec<u8>,
-    variables: &[Variable],
-    start: &Levels,
-) -> Result<(), NoMemory>
+fn put_starts(text: &mut Vec<u8>, variables: &[Variable], start: &Levels) -> Result<(), NoMemory>
     ensures { OnOk result (text.new.items ≡ text.old.items ++ start_lines (level_in start.now) variables.now) }
 {
     let mut left = variables;

@@ -39,11 +39,7 @@ pub(crate) fn put_declaration(text: &mut Vec<u8>, variable: Variable) -> Result<
 }
 
 /// Puts the level that a signal takes.
-pub(crate) fn put_level(
-    text: &mut Vec<u8>,
-    signal: Signal,
-    level: Level,
-) -> Result<(), NoMemory>
+pub(crate) fn put_level(text: &mut Vec<u8>, signal: Signal, level: Level) -> Result<(), NoMemory>
     ensures { OnOk result (text.new.items ≡ text.old.items ++ level_line signal level) }
 {
     let code = Variable::Wire(signal).code();

@@ -9,7 +9,7 @@ abbrev pub invariant-loop : goal.invariant-loop
 invariant-loop l = record {
   told : (past : List Seen) × ((steps : List Seen) → AreToCome l.lives steps → AreToCome l.initial.lives (past ++ steps)) × HasTold l.initial.writer past l.writer;
   wrong : (line : ℕ) → IsFirstWrongIn (place_in l.lives.trace.reader) l.lives.trace.left l.lives.trace.count line
-    → IsFirstWrongIn (place_in l.initial.lives.trace.reader) l.initial.lives.trace.left l.initial.lives.trace.count line;
+      → IsFirstWrongIn (place_in l.initial.lives.trace.reader) l.initial.lives.trace.left l.initial.lives.trace.count line;
   faults : l.lives.trace.faults ≡ l.initial.lives.trace.faults;
   stopped : l.lives.stopped ≡ None;
 }

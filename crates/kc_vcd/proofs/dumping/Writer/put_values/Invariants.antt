@@ -8,7 +8,7 @@ use Rattle.kc_vcd.proofs.dumping.Writer.put_values.Given as goal
 abbrev pub invariant-loop : goal.invariant-loop
 invariant-loop l = record {
   put : (more : List Timed) → l.self.text ++ texts l.self.shown.length l.self.stamped (taken (up_to (λ s. s.at) l.at l.self.samples) ++ more)
-    ≡ l.initial.self.text ++ texts l.initial.self.shown.length l.initial.self.stamped (taken (up_to (λ s. s.at) l.at l.initial.self.samples) ++ more);
+      ≡ l.initial.self.text ++ texts l.initial.self.shown.length l.initial.self.stamped (taken (up_to (λ s. s.at) l.at l.initial.self.samples) ++ more);
   left : after l.at l.self.samples ≡ after l.at l.initial.self.samples;
   same : IsSameLife l.initial.self l.self;
 }
