@@ -47,7 +47,7 @@ _kc96() {
     link) options='--out --lib --lines --map --reg --code --data --stack' files='obj' ;;
     hex) options='--states --lives --profile --stim --analog' files='hex' ;;
     dis) options='' files='hex' ;;
-    vcd) options='--out --clock' files='trace' ;;
+    vcd) options='--out --stim --analog --clock' files='trace' ;;
     check) options='--stim --clock' files='trace' ;;
     debug) options='--stim --analog --lines' files='hex' ;;
     *) return ;;

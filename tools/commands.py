@@ -77,6 +77,7 @@ ROWS = [
     "debug nop.hex good.scr --lines good.lines",
     "debug nop.hex bad.scr",
     "vcd good.trace --out new.vcd",
+    "vcd good.trace --stim turns.stm --analog good.ana --out new.vcd",
     "check good.trace good.rules --stim turns.stm",
     "check good.trace good.rules --clock 16000000",
     "explain E07",

@@ -17,7 +17,7 @@ use Rattle.kc_kit_answer.specs.Accepting.{Accepting, IsOneText, AreTwoTexts}
 use Rattle.kc_kit_answer.specs.Assemble.{AssembleAnswer, IsAssemblable}
 use Rattle.kc_kit_answer.specs.Check.{CheckFiles, CheckAccepted}
 use Rattle.kc_kit_answer.specs.Debug.{DebugAnswer, IsDebuggable}
-use Rattle.kc_kit_answer.specs.Dump.{DumpAnswer, IsTraceText}
+use Rattle.kc_kit_answer.specs.Dump.{DumpFiles, DumpAccepted}
 use Rattle.kc_kit_answer.specs.Explain.{explained}
 use Rattle.kc_kit_answer.specs.Generate.{GenerateAnswer, IsGenerable}
 use Rattle.kc_kit_answer.specs.Help.{help_text, help_on}
@@ -66,7 +66,7 @@ CommandAnswer IsDiagnostic (Some (Lists file first last)) contents response = Th
 CommandAnswer IsDiagnostic (Some (Debugs file script inputs)) contents response =
     Then (reads_of (file ∷ script ∷ names_of inputs) contents) (Parted 2 (λ texts more. TwoTexts (λ text commands. DebugAnswer file script inputs text commands more) texts)) response
 CommandAnswer IsDiagnostic (Some (Generates number)) contents response = GenerateAnswer IsDiagnostic number response
-CommandAnswer IsDiagnostic (Some (Dumps file out clock)) contents response = Then (reads_of (file ∷ []) contents) (OneText (DumpAnswer file out clock)) response
+CommandAnswer IsDiagnostic (Some (Dumps trace inputs out clock)) contents response = DumpFiles trace inputs out clock contents response
 CommandAnswer IsDiagnostic (Some (Checks trace rules inputs clock)) contents response = CheckFiles trace rules inputs clock contents response
 CommandAnswer IsDiagnostic (Some (Explains code)) contents response = response ≡ explained code
 
@@ -104,7 +104,7 @@ IsAccepted (Some (Lists file first last)) contents = Accepting (IsOneText (λ te
 IsAccepted (Some (Debugs file script inputs)) contents =
     Accepting (λ texts. AreTwoTexts (λ text commands. IsDebuggable script inputs text commands (drop 2 texts)) (take 2 texts)) (reads_of (file ∷ script ∷ names_of inputs) contents)
 IsAccepted (Some (Generates number)) contents = IsGenerable number
-IsAccepted (Some (Dumps file out clock)) contents = Accepting (IsOneText IsTraceText) (reads_of (file ∷ []) contents)
+IsAccepted (Some (Dumps trace inputs out clock)) contents = DumpAccepted trace inputs contents
 IsAccepted (Some (Checks trace rules inputs clock)) contents = CheckAccepted trace rules inputs clock contents
 IsAccepted (Some (Explains code)) contents = is_among code all_codes ≡ true
 

@@ -1,20 +1,27 @@
-// The command that writes a trace as a value change dump.
-ghost use Rattle.std.specs.Prelude.{◌≤◌, length};
-ghost use Rattle.kc_base.specs.Limits.{file_limit};
+// The command that writes a run as a value change dump.
+ghost use Rattle.std.specs.Prelude.{◌≡◌, ◌≤◌, map};
+ghost use Rattle.kc_base.specs.Causes.{Rose};
+ghost use Rattle.kc_kit_files.specs.Outside.{OnlyRead};
+ghost use Rattle.kc_kit_files.specs.Reads.{AllShort};
 ghost use Rattle.kc_kit_words.specs.Asked.{asked, IsWithin};
-ghost use Rattle.kc_kit_answer.specs.Dump.{DumpAnswer};
-ghost use Rattle.kc_kit_answer.specs.Jobs.{IsPrepared, Prepares};
+ghost use Rattle.kc_kit_words.specs.Inputs.{inputs_in};
+ghost use Rattle.kc_kit_answer.specs.Checking.{IsChecked, MayCheck};
+ghost use Rattle.kc_kit_answer.specs.Dump.{DumpAnswer, IsDumpJob};
+ghost use Rattle.kc_kit_answer.specs.Jobs.{Prepares};
 
 use crate::job::Job;
-use kc_base::Files;
-use kc_kit_files::{Refusal, read_file};
-use kc_kit_inputs::read_trace;
+use kc_base::{FileFault, NoMemory};
+use kc_events::LivesFault;
+use kc_kit_files::{Refusal, unread};
+use kc_kit_inputs::{Driving, driving_in, given_for, read_inputs, trace_refusal};
 use kc_kit_running::Output;
+use kc_kit_streams::Streams;
 use kc_kit_words::{Command, Dump};
+use kc_vcd::dump_run;
 use std::alloc::Global;
 
-/// Reads a trace and makes the dump that is to be written.
-pub fn prepare_dump<'a, F: Files>(
+/// Reads what drives the inputs, opens a trace, and makes the dump that is to be written.
+pub fn prepare_dump<'a, F: Streams>(
     alloc: Global,
     dump: &Dump<'a>,
     files: &mut F,
@@ -22,32 +29,64 @@ pub fn prepare_dump<'a, F: Files>(
     requires { IsWithin (Command.Dump dump.now) }
     ensures { Prepares F.held F.read_faults F.write_faults (asked (Command.Dump dump.now)) files.old result files.new }
 {
-    match read_file(alloc, dump.file, files) {
-        Ok(text) => dump_text(alloc, dump, &text),
-        Err(refusal) => Err(refusal),
+    let inputs = match read_inputs(alloc, dump.inputs, files) {
+        Ok(inputs) => inputs,
+        Err(refusal) => return Err(refusal),
+    };
+    match files.open(alloc, dump.trace) {
+        Ok(stream) => dump_stream(alloc, dump, &inputs, stream, files),
+        Err(fault) => Err(unread(alloc, dump.trace, fault)),
     }
 }
 
-// The dump of the trace with a text.
-fn dump_text<'a>(alloc: Global, dump: &Dump<'a>, text: &[u8]) -> Result<Job<'a>, Refusal>
+// The dump of the run whose trace is open, with inputs with these texts. A stream that is not read is dropped: none of its reads has
+// failed.
+fn dump_stream<'a, F: Streams>(
+    alloc: Global,
+    dump: &Dump<'a>,
+    inputs: &[Vec<u8>],
+    stream: F::Stream,
+    files: &mut F,
+) -> Result<Job<'a>, Refusal>
     requires clock { 1 ≤ dump.now.clock }
-    requires short { length text.now ≤ file_limit }
-    ensures { IsPrepared (DumpAnswer dump.now.file.now dump.now.out.now dump.now.clock text.now) result }
+    requires inputs { AllShort (map (λ t. t.items) inputs.now) }
+    requires calm { F.Stream.faults stream ≡ 0 }
+    ensures answer { IsChecked (F.Stream.to_come stream) (MayCheck dump.now.trace.now (Rose (F.read_faults files.old) (F.read_faults files.new))
+        (λ printed. DumpAnswer dump.now.trace.now (inputs_in dump.now.inputs) dump.now.out.now dump.now.clock printed (map (λ t. t.items) inputs.now))) result }
+    ensures only_read { OnlyRead F.held F.read_faults F.write_faults files.old files.new }
 {
-    let trace = match read_trace(alloc, dump.file, text) {
-        Ok(trace) => trace,
+    let Driving { stimuli, values } = match driving_in(alloc, given_for(dump.inputs, inputs)) {
+        Ok(driving) => driving,
         Err(refusal) => return Err(refusal),
     };
-    let Ok(bytes) = kc_vcd::dump(alloc, &trace, dump.clock) else {
-        return Err(Refusal::NoMemory);
-    };
-    let file = Output {
-        name: dump.out,
-        bytes,
-    };
-    Ok(Job::Write {
-        file,
-        lines: None,
-        map: None,
-    })
+    match dump_run(alloc, dump.clock, stimuli, values, stream) {
+        Ok((stream, made)) => {
+            files.close(stream);
+            dump_job(alloc, dump, made)
+        }
+        Err(NoMemory) => Err(Refusal::NoMemory),
+    }
+}
+
+// The job that writes a dump, or the refusal where the run of the trace could not be told to its end.
+fn dump_job<'a>(
+    alloc: Global,
+    dump: &Dump<'a>,
+    made: Result<Vec<u8>, LivesFault>,
+) -> Result<Job<'a>, Refusal>
+    ensures { IsDumpJob dump.now.trace.now dump.now.out.now made.entry result }
+{
+    match made {
+        Ok(bytes) => Ok(Job::Write {
+            file: Output {
+                name: dump.out,
+                bytes,
+            },
+            lines: None,
+            map: None,
+        }),
+        Err(LivesFault::BadTrace(line)) => Err(trace_refusal(alloc, dump.trace, line)),
+        Err(LivesFault::Failed) => Err(unread(alloc, dump.trace, FileFault::Failed)),
+        Err(LivesFault::NoMemory) => Err(Refusal::NoMemory),
+    }
 }

@@ -68,7 +68,9 @@ pub static HELP: [Row; 14] = [
     ),
     (
         "vcd",
-        "  kc96 vcd TRACE --out FILE       write a printed trace as waveforms, a value change dump
+        "  kc96 vcd TRACE --out FILE       write a printed trace as waveforms; TRACE - is standard input
+       [--stim FILE]              with what drove the input pins
+       [--analog FILE]            and the analogue inputs
        [--clock HZ]               of a board whose oscillator has HZ hertz, else 20 million
 ",
     ),

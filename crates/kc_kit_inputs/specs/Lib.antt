@@ -12,4 +12,3 @@ pub mod Runs
 pub mod Scripts
 pub mod Sources
 pub mod Stimuli
-pub mod Traces

@@ -14,7 +14,6 @@ mod rules;
 mod scripts;
 mod sources;
 mod stimuli;
-mod traces;
 
 pub use driving::{Driving, Given, driving_in, given_for};
 pub use hex_image::image_of;
@@ -25,4 +24,3 @@ pub use rules::{read_rules, trace_refusal};
 pub use scripts::{lines_in, read_script};
 pub use sources::{assemble_source, assemble_sources};
 pub use stimuli::stimuli_in;
-pub use traces::read_trace;

@@ -9,13 +9,13 @@ ghost use Rattle.kc_kit_laws.specs.Readable.{WrittenIsReadable};
 ghost use Rattle.kc_kit_laws.specs.StartLevels.{StartLevelsAgree};
 
 use kc_asm_laws::{filled_are_bytes, modules_fit, one_answer_of_text, one_listing, one_origin};
+use kc_events::one_trace;
 use kc_hex::written_is_read;
 use kc_lib::laws::taken_once;
 use kc_link::{one_image, one_line_map};
 use kc_link_source_laws::linked_image;
 use kc_obj::laws::spelled_is_decoded;
 use kc_source_laws::sources_are_read_well;
-use kc_vcd::one_reading;
 
 /// Objects that are assembled of each source and linked to a hex file, and that file run, answer as the sources run. Each
 /// source has fewer than 2^32 bytes.
@@ -38,7 +38,7 @@ pub fn one_answer()
     one_image();
     one_line_map();
     taken_once();
-    one_reading();
+    one_trace();
     one_listing();
 }
 
@@ -50,7 +50,7 @@ pub fn one_diagnostic()
     one_image();
     one_line_map();
     taken_once();
-    one_reading();
+    one_trace();
     one_listing();
     one_origin();
 }
@@ -68,7 +68,7 @@ pub fn one_outcome()
     one_answer();
 }
 
-/// Before state 0 a dump of waveforms shows each input with the level that it has where nothing has driven it yet.
+/// Before state 0 of a run an input has in its lives the level that it has where nothing has driven it yet.
 pub fn start_levels_agree()
     ensures { StartLevelsAgree }
 {}

@@ -103,7 +103,7 @@ static INPUTS: [Row; 29] = [
     row!("BADANALOG", "a line of an analogue file is no channel with its value (@TIME CHANNEL VALUE, as @100 0 512), is earlier than the one before, comes twice at one time, or is one too many"; "@100 0 1024" => "@100 0 1023"),
     row!("BADCOMMAND", "a line of a script is no command of the debugger, or is one too many"; "b 94" => "b 2094"),
     row!("BADMAP", "a line of a line map is no address, module and line, or its address is not above the one before"; "20aA MAIN 7" => "20AA MAIN 7"),
-    row!("BADTRACE", "a line is none of a trace, or is earlier than a line before it"; "P 82 HSO9 1" => "P 82 HSO0 1"),
+    row!("BADTRACE", "a line is none that a board prints there, or the line X at the end is lacking"; "X 4 stopped" => "X 4 spent"),
     row!("BADRULE", "a line of a rules file is no mark and no rule"; "never P10" => "never P10 rise"),
 ];
 

@@ -366,7 +366,7 @@ static ROWS: [Row; 33] = [
         held: &[("h", HEX), ("l", LINES), ("m", NOTHING)],
     },
     Row {
-        files: &[("edges", b"P 82 HSO0 1\n")],
+        files: &[("edges", b"P 82 HSO0 1\nX 83 spent\n")],
         fails: Fails::Write(1),
         line: "vcd edges --out w",
         status: Status::WriteFault,

@@ -12,12 +12,12 @@ use Rattle.kc_kit_words.specs.declared.extent.Extent.{Extent}
 use Rattle.kc_kit_words.specs.declared.values.Form.{Form}
 use Rattle.kc_kit_words.specs.declared.usage.Wrong.TheVariants as wrong
 use Rattle.kc_kit_words.specs.Number.{number_of}
-use Rattle.kc_kit_words.specs.Options.{form_of, has_form, value_of, are_options, inputs_of, extent_in, clock_in}
+use Rattle.kc_kit_words.specs.Options.{form_of, has_form, value_of, are_options, inputs_of, clock_in, extent_in}
 use Rattle.kc_kit_words.specs.Values.{is_name, is_trace_name, range_of}
-use Rattle.kc_kit_words.specs.Usage.{wrong_text, no_command, bad_value, bad_number, twice, lacks, wrong_value, wrong_last, wrong_option, lacks_out, wrong_run, wrong_extent, wrong_listing, wrong_placing, wrong_outputs, wrong_name, wrong_files, wrong_file, wrong_pair, wrong_check, wrong_range, wrong_list, wrong_number, wrong_word, wrong_more, wrong_by, wrong_with, wrong_writes, overwrites, plain_usage_of}
+use Rattle.kc_kit_words.specs.Usage.{wrong_text, no_command, bad_value, bad_number, twice, lacks, wrong_value, wrong_last, wrong_option, lacks_out, wrong_run, wrong_extent, wrong_listing, wrong_placing, wrong_outputs, wrong_name, wrong_files, wrong_file, wrong_trace, wrong_dump, wrong_pair, wrong_range, wrong_list, wrong_number, wrong_word, wrong_more, wrong_by, wrong_with, wrong_writes, overwrites, plain_usage_of, wrong_check}
 use Rattle.kc_kit_words.specs.UsageLaw.{WrongWhereNoCommand}
-use Rattle.kc_kit_words.specs.Commands.{Command, Helps, ReportsVersion, Runs, Profiles, Assembles, Packs, Links, ProfilesHex, Lists, Debugs, Generates, Checks, overwritten, sparing}
-use Rattle.kc_kit_words.specs.Words.{count_files, files_of, options_of, are_files, placing_of, is_other, are_apart, beside_of, run_so, run_by, assembles_by, assemble_by, pack_by, links_by, link_by, hex_so, hex_by, lists_by, list_by, debug_by, generate_by, dump_by, check_by, explain_by, alone, command_by, help_on, plain_command_of}
+use Rattle.kc_kit_words.specs.Commands.{Command, Helps, ReportsVersion, Runs, Profiles, Assembles, Packs, Links, ProfilesHex, Lists, Debugs, Generates, overwritten, sparing, Checks}
+use Rattle.kc_kit_words.specs.Words.{count_files, files_of, options_of, are_files, placing_of, is_other, are_apart, beside_of, run_so, run_by, assembles_by, assemble_by, pack_by, links_by, link_by, hex_so, hex_by, lists_by, list_by, debug_by, generate_by, dumps_by, dump_by, explain_by, alone, command_by, help_on, plain_command_of, check_by}
 use Rattle.kc_kit_words.proofs.OptionLemmas.{behind}
 
 -- ---- options, in pairs with their values
@@ -240,10 +240,23 @@ number-agrees (number ∷ []) = by (number_of 65535 number)
     by (Some n) = refl
 number-agrees (number ∷ word ∷ words) = refl
 
-dump-agrees : (files options : List (List ℕ)) → is_some (option_or (wrong_file files) (lacks_out options)) ≡ is_none (dump_by files options)
-dump-agrees [] options = refl
-dump-agrees (file ∷ []) options = gate (wrong_name file) (lacks_out options) (is_name file) _ (name-agrees file) (out-agrees _ (value_of (codes "--out") options))
-dump-agrees (file ∷ other ∷ files) options = refl
+trace-agrees : (trace : List ℕ) → is_none (wrong_trace trace) ≡ is_trace_name trace
+trace-agrees trace = by (is_trace_name trace)
+  where
+    by : (b : Bool) → is_none (cond b None (Some (wrong_text wrong.BadName))) ≡ b
+    by true = refl
+    by false = refl
+
+dump-agrees : (files : List (List ℕ)) (verb : List ℕ) (options : List (List ℕ)) → is_some (option_or (wrong_dump files) (lacks_out options)) ≡ is_none (dump_by files verb options)
+dump-agrees [] verb options = refl
+dump-agrees (trace ∷ []) verb options =
+    gate (wrong_trace trace) (lacks_out options) (is_trace_name trace) (dumps_by trace (inputs_of verb options) (clock_in options) (value_of (codes "--out") options)) (trace-agrees trace)
+    (by (value_of (codes "--out") options))
+  where
+    by : (out : Option (List ℕ)) → is_some (cond (is_some out) None (Some (lacks (codes "--out")))) ≡ is_none (dumps_by trace (inputs_of verb options) (clock_in options) out)
+    by None = refl
+    by (Some out) = refl
+dump-agrees (trace ∷ other ∷ files) verb options = refl
 
 check-agrees : (files : List (List ℕ)) (verb : List ℕ) (options : List (List ℕ)) → is_some (wrong_check files) ≡ is_none (check_by files verb options)
 check-agrees [] verb options = refl
@@ -284,7 +297,7 @@ verbs-agree verb files options w b e =
     (choose (bytes_eq verb (codes "dis")) _ _ b _ _ (gate w _ b _ e (list-agrees files))
     (choose (bytes_eq verb (codes "debug")) _ _ b _ _ (gate w _ b _ e (debug-agrees files verb options))
     (choose (bytes_eq verb (codes "gen")) _ _ b _ _ (gate w _ b _ e (number-agrees files))
-    (choose (bytes_eq verb (codes "vcd")) _ _ b _ _ (gate w _ b _ e (dump-agrees files options))
+    (choose (bytes_eq verb (codes "vcd")) _ _ b _ _ (gate w _ b _ e (dump-agrees files verb options))
     (choose (bytes_eq verb (codes "check")) _ _ b _ _ (gate w _ b _ e (check-agrees files verb options))
     (choose (bytes_eq verb (codes "explain")) _ _ b _ _ (gate w _ b _ e (explain-agrees files))
     (choose (bytes_eq verb (codes "--help")) _ _ b _ _ (gate w _ b _ e (alone-agrees files Helps))

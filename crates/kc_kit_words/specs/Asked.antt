@@ -30,7 +30,7 @@ asked (read.RunHex run) = RunsHex run.file.now (inputs_in run.inputs) run.extent
 asked (read.List list) = Lists list.file.now list.first list.last
 asked (read.Debug debug) = Debugs debug.file.now debug.script.now (inputs_in debug.inputs)
 asked (read.Generate generate) = Generates generate.number
-asked (read.Dump dump) = Dumps dump.file.now dump.out.now dump.clock
+asked (read.Dump dump) = Dumps dump.trace.now (inputs_in dump.inputs) dump.out.now dump.clock
 asked (read.Check check) = Checks check.trace.now check.rules.now (inputs_in check.inputs) check.clock
 asked (read.Explain explain) = Explains explain.code.now
 

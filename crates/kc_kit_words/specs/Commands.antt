@@ -27,7 +27,7 @@ pub data Command : Type 0 where
   Lists : List ℕ → ℕ → ℕ → Command
   Debugs : List ℕ → List ℕ → List (Role × List ℕ) → Command
   Generates : ℕ → Command
-  Dumps : List ℕ → List ℕ → ℕ → Command
+  Dumps : List ℕ → List (Role × List ℕ) → List ℕ → ℕ → Command
   Checks : List ℕ → List ℕ → List (Role × List ℕ) → ℕ → Command
   Explains : List ℕ → Command
 
@@ -37,7 +37,7 @@ pub data Command : Type 0 where
 abbrev pub names_of : List (Role × List ℕ) → List (List ℕ)
 names_of inputs = map (λ i. i.1) inputs
 
--- those that `check` reads whole; the trace comes behind them, since it is read once, piece by piece
+-- those that `check` reads whole; a trace comes behind them, here and for `vcd`, since it is read once, piece by piece
 abbrev pub names_whole : List ℕ → List (Role × List ℕ) → List (List ℕ)
 names_whole rules inputs = rules ∷ names_of inputs
 
@@ -51,7 +51,7 @@ names_read (Some (ProfilesHex file inputs states out)) = file ∷ names_of input
 names_read (Some (RunsHex file inputs extent)) = file ∷ names_of inputs
 names_read (Some (Lists file first last)) = file ∷ []
 names_read (Some (Debugs file script inputs)) = file ∷ script ∷ names_of inputs
-names_read (Some (Dumps file out clock)) = file ∷ []
+names_read (Some (Dumps trace inputs out clock)) = names_of inputs ++ trace ∷ []
 names_read (Some (Checks trace rules inputs clock)) = names_whole rules inputs ++ trace ∷ []
 names_read _ = []
 
@@ -63,7 +63,7 @@ abbrev pub names_written : Option Command → List (List ℕ)
 names_written (Some (Assembles file out list)) = out ∷ option_to_list list
 names_written (Some (Packs files out)) = out ∷ []
 names_written (Some (Links files inputs out beside placing)) = out ∷ names_beside beside
-names_written (Some (Dumps file out clock)) = out ∷ []
+names_written (Some (Dumps trace inputs out clock)) = out ∷ []
 names_written (Some (Profiles files inputs states placing out)) = out ∷ []
 names_written (Some (ProfilesHex file inputs states out)) = out ∷ []
 names_written _ = []

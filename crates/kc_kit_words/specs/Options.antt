@@ -37,7 +37,7 @@ options_for verb =
     else if bytes_eq verb (codes "lib") then out_option ∷ []
     else if bytes_eq verb (codes "link") then out_option ∷ (codes "--lines", form.File) ∷ (codes "--map", form.File) ∷ (codes "--lib", form.Input role.Library) ∷ placing_options
     else if bytes_eq verb (codes "hex") then running_options
-    else if bytes_eq verb (codes "vcd") then out_option ∷ (codes "--clock", form.Clock) ∷ []
+    else if bytes_eq verb (codes "vcd") then out_option ∷ (codes "--clock", form.Clock) ∷ driving_options
     else if bytes_eq verb (codes "check") then (codes "--stim", form.Input role.Stimuli) ∷ (codes "--clock", form.Clock) ∷ []
     else if bytes_eq verb (codes "debug") then (codes "--lines", form.Input role.Lines) ∷ driving_options
     else []

@@ -139,10 +139,16 @@ wrong_pair (file ∷ other ∷ []) = option_or (wrong_name file) (wrong_name oth
 wrong_pair (file ∷ other ∷ third ∷ files) = Some (wrong_text wrong.ManyFiles)
 wrong_pair _ = Some (wrong_text wrong.FewFiles)
 
--- a trace and rules
+-- a trace
 abbrev pub wrong_trace : List ℕ → Option (List ℕ)
 wrong_trace trace = if is_trace_name trace then None else Some (wrong_text wrong.BadName)
 
+abbrev pub wrong_dump : List (List ℕ) → Option (List ℕ)
+wrong_dump [] = Some (wrong_text wrong.FewFiles)
+wrong_dump (trace ∷ []) = wrong_trace trace
+wrong_dump (trace ∷ other ∷ files) = Some (wrong_text wrong.ManyFiles)
+
+-- a trace and rules
 abbrev pub wrong_check : List (List ℕ) → Option (List ℕ)
 wrong_check (trace ∷ rules ∷ []) = option_or (wrong_trace trace) (wrong_name rules)
 wrong_check (trace ∷ rules ∷ third ∷ files) = Some (wrong_text wrong.ManyFiles)
@@ -189,7 +195,7 @@ wrong_by verb files options wrong_options =
     else if bytes_eq verb (codes "dis") then option_or wrong_options (wrong_list files)
     else if bytes_eq verb (codes "debug") then option_or wrong_options (wrong_pair files)
     else if bytes_eq verb (codes "gen") then option_or wrong_options (wrong_number files)
-    else if bytes_eq verb (codes "vcd") then option_or wrong_options (option_or (wrong_file files) (lacks_out options))
+    else if bytes_eq verb (codes "vcd") then option_or wrong_options (option_or (wrong_dump files) (lacks_out options))
     else if bytes_eq verb (codes "check") then option_or wrong_options (wrong_check files)
     else if bytes_eq verb (codes "explain") then option_or wrong_options (wrong_word files)
     else if bytes_eq verb (codes "--help") then option_or wrong_options (wrong_more files)

@@ -136,9 +136,16 @@ generate_by (number ∷ []) = option_map Generates (number_of 65535 number)
 generate_by _ = None
 
 -- a trace, which is written as a value change dump
-abbrev pub dump_by : List (List ℕ) → List (List ℕ) → Option Command
-dump_by (file ∷ []) options = if is_name file then option_map (λ out. Dumps file out (clock_in options)) (value_of (codes "--out") options) else None
-dump_by _ options = None
+abbrev pub dumps_by : List ℕ → List (Role × List ℕ) → ℕ → Option (List ℕ) → Option Command
+dumps_by trace inputs clock None = None
+dumps_by trace inputs clock (Some out) = Some (Dumps trace inputs out clock)
+
+abbrev pub dump_of : List ℕ → List ℕ → List (List ℕ) → Option Command
+dump_of trace verb options = if is_trace_name trace then dumps_by trace (inputs_of verb options) (clock_in options) (value_of (codes "--out") options) else None
+
+abbrev pub dump_by : List (List ℕ) → List ℕ → List (List ℕ) → Option Command
+dump_by (trace ∷ []) verb options = dump_of trace verb options
+dump_by _ verb options = None
 
 -- a trace and rules
 abbrev pub check_of : List ℕ → List ℕ → List ℕ → List (List ℕ) → Option Command
@@ -167,7 +174,7 @@ command_by verb files options =
     else if bytes_eq verb (codes "dis") then list_by files
     else if bytes_eq verb (codes "debug") then debug_by files verb options
     else if bytes_eq verb (codes "gen") then generate_by files
-    else if bytes_eq verb (codes "vcd") then dump_by files options
+    else if bytes_eq verb (codes "vcd") then dump_by files verb options
     else if bytes_eq verb (codes "check") then check_by files verb options
     else if bytes_eq verb (codes "explain") then explain_by files
     else if bytes_eq verb (codes "--help") then alone files Helps

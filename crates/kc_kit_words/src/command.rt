@@ -93,10 +93,11 @@ pub struct Generate {
     pub number: u16,
 }
 
-/// A trace that is written as a value change dump, of a board whose oscillator has so many hertz.
+/// A trace that is written as a value change dump with what drives its inputs, of a board whose oscillator has so many hertz.
 #[derive(Clone, Copy)]
 pub struct Dump<'a> {
-    pub file: &'a str,
+    pub trace: &'a str,
+    pub inputs: Inputs<'a>,
     pub out: &'a str,
     pub clock: u32,
 }

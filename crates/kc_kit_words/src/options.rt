@@ -105,7 +105,7 @@ pub(crate) fn form_of(verb: &str, option: &str) -> Option<Form>
         "vcd" => match option {
             "--out" => Some(Form::File),
             "--clock" => Some(Form::Clock),
-            _ => None,
+            _ => driving_form(option),
         },
         "check" => match option {
             "--stim" => Some(Form::Input(Role::Stimuli)),

@@ -64,7 +64,7 @@ fn reads(command: &Command<'_>, name: &str) -> bool
         Command::Debug(debug) => {
             debug.file == name || debug.script == name || is_input(name, debug.inputs)
         }
-        Command::Dump(dump) => dump.file == name,
+        Command::Dump(dump) => is_input(name, dump.inputs) || dump.trace == name,
         Command::Check(check) => {
             check.rules == name || is_input(name, check.inputs) || check.trace == name
         }

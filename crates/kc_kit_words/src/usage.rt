@@ -6,7 +6,7 @@ ghost use Rattle.kc_trace.specs.Trace.{out_of};
 ghost use Rattle.kc_kit_files.specs.Shown.{word_shown};
 ghost use Rattle.kc_kit_words.specs.Asked.{asked};
 ghost use Rattle.kc_kit_words.specs.Options.{form_of, value_of};
-ghost use Rattle.kc_kit_words.specs.Usage.{wrong_text, bad_value, lacks, unknown, wrong_writes, wrong_value, wrong_last, wrong_option, lacks_out, wrong_extent, wrong_listing, wrong_placing, wrong_outputs, wrong_name, wrong_files, wrong_file, wrong_pair, wrong_trace, wrong_check, wrong_range, wrong_list, wrong_number, wrong_word, wrong_more, wrong_by, plain_usage_of, usage_of, usage_diagnostic};
+ghost use Rattle.kc_kit_words.specs.Usage.{wrong_text, bad_value, lacks, unknown, wrong_writes, wrong_value, wrong_last, wrong_option, lacks_out, wrong_extent, wrong_listing, wrong_placing, wrong_outputs, wrong_name, wrong_files, wrong_file, wrong_pair, wrong_trace, wrong_dump, wrong_check, wrong_range, wrong_list, wrong_number, wrong_word, wrong_more, wrong_by, plain_usage_of, usage_of, usage_diagnostic};
 ghost use Rattle.kc_kit_words.specs.UsageLaw.{WrongWhereNoCommand};
 ghost use Rattle.kc_kit_words.specs.Values.{range_of};
 ghost use Rattle.kc_kit_words.specs.Words.{beside_of};
@@ -322,6 +322,17 @@ fn wrong_trace<'a>(trace: &str) -> Option<Wrong<'a>>
     }
 }
 
+// What is wrong with a trace alone.
+fn wrong_dump<'a>(files: &[String]) -> Option<Wrong<'a>>
+    ensures { option_map wrong_text result ≡ wrong_dump (map string_bytes files.now) }
+{
+    match files {
+        [] => Some(Wrong::FewFiles),
+        [trace] => wrong_trace(trace.as_str()),
+        _ => Some(Wrong::ManyFiles),
+    }
+}
+
 // What is wrong with a trace and rules.
 fn wrong_check<'a>(files: &[String]) -> Option<Wrong<'a>>
     ensures { option_map wrong_text result ≡ wrong_check (map string_bytes files.now) }
@@ -436,7 +447,7 @@ fn wrong_by<'a>(verb: &'a str, files: &'a [String], options: &'a [String]) -> Op
         "dis" => first(wrong_options, wrong_list(files)),
         "debug" => first(wrong_options, wrong_pair(files)),
         "gen" => first(wrong_options, wrong_number(files)),
-        "vcd" => first(wrong_options, first(wrong_file(files), lacks_out(options))),
+        "vcd" => first(wrong_options, first(wrong_dump(files), lacks_out(options))),
         "check" => first(wrong_options, wrong_check(files)),
         "explain" => first(wrong_options, wrong_word(files)),
         "--help" | "--version" => first(wrong_options, wrong_more(files)),

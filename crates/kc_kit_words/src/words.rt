@@ -3,7 +3,7 @@ ghost use Rattle.std.specs.Prelude.{◌≡◌, Some, IfSome, length, map, string
 ghost use Rattle.std.specs.List.{list_all};
 ghost use Rattle.std.specs.Option.{option_map, unwrap_or};
 ghost use Rattle.kc_kit_words.specs.Values.{is_name};
-ghost use Rattle.kc_kit_words.specs.Words.{command_of, plain_command_of, command_by, run_by, assemble_by, pack_by, link_by, hex_by, hex_of, list_by, list_of, debug_by, debug_of, generate_by, dump_by, check_by, check_of, explain_by, are_files, beside_of, placing_of};
+ghost use Rattle.kc_kit_words.specs.Words.{command_of, plain_command_of, command_by, run_by, assemble_by, pack_by, link_by, hex_by, hex_of, list_by, list_of, debug_by, debug_of, generate_by, dump_by, dump_of, check_by, check_of, explain_by, are_files, beside_of, placing_of};
 ghost use Rattle.kc_kit_words.specs.Words as spec;
 ghost use Rattle.kc_kit_words.specs.Asked.{asked, beside_in, AreLinkable, IsBounded, IsWithin};
 ghost use Rattle.kc_kit_words.specs.Inputs.{inputs_in};
@@ -343,21 +343,33 @@ fn read_generate<'a>(files: &'a [String]) -> Option<Command<'a>>
     Some(Command::Generate(Generate { number }))
 }
 
-fn read_dump<'a>(files: &'a [String], options: &'a [String]) -> Option<Command<'a>>
-    ensures asked { option_map asked result ≡ dump_by (map string_bytes files.now) (map string_bytes options.now) }
+// The dump of a trace.
+fn dumping<'a>(trace: &'a str, verb: &'a str, options: &'a [String]) -> Option<Command<'a>>
+    ensures asked { option_map asked result ≡ dump_of trace.now verb.now (map string_bytes options.now) }
     ensures within { IfSome result IsWithin }
 {
-    let [file] = files else {
-        return None;
-    };
-    if !is_name(file.as_str()) {
+    if !is_trace_name(trace) {
         return None;
     }
     Some(Command::Dump(Dump {
-        file: file.as_str(),
+        trace,
+        inputs: Inputs {
+            verb,
+            words: options,
+        },
         out: value_of("--out", options)?,
         clock: clock_in(options),
     }))
+}
+
+fn read_dump<'a>(files: &'a [String], verb: &'a str, options: &'a [String]) -> Option<Command<'a>>
+    ensures asked { option_map asked result ≡ dump_by (map string_bytes files.now) verb.now (map string_bytes options.now) }
+    ensures within { IfSome result IsWithin }
+{
+    let [trace] = files else {
+        return None;
+    };
+    dumping(trace.as_str(), verb, options)
 }
 
 // The check of a trace by rules.
@@ -438,7 +450,7 @@ pub(crate) fn read_command<'a>(
         "dis" => read_list(files),
         "debug" => read_debug(files, verb, options),
         "gen" => read_generate(files),
-        "vcd" => read_dump(files, options),
+        "vcd" => read_dump(files, verb, options),
         "check" => read_check(files, verb, options),
         "explain" => read_explain(files),
         "--help" => alone(files, Command::Help),

@@ -1,7 +1,1 @@
-pub mod Numbers
-pub mod Pins
-pub mod Spelled
-pub mod Histories
-pub mod Growing
-pub mod Described
-pub mod Readings
+mod Pieces

@@ -1,26 +1,96 @@
 -- What a dump says of a run (this kit's own).
-use Rattle.std.specs.Prelude.{◌≡◌, ℕ, ◌*◌, ◌≤◌, Some, List}
-use Rattle.kc_base.specs.Pins.{IsPin, pin_name}
-use Rattle.kc_base.specs.TextLines.{text_lines}
-use Rattle.kc_trace.specs.declared.record.Record.{Record}
-use Rattle.kc_trace.specs.Text.{text_of}
-use Rattle.kc_vcd.specs.History.{IsHistory}
-use Rattle.kc_vcd.specs.Reading.{IsTrace, IsFirstWrong}
-use Rattle.kc_vcd.specs.Levels.{level_at}
-use Rattle.kc_vcd.specs.Dump.{dump_of}
-use Rattle.kc_vcd.specs.Reader.{described}
+use Rattle.std.specs.Prelude.{◌≡◌, ℕ, ◌+◌, ◌*◌, ◌<◌, ◌≤◌, ◌==◌, Some, true, Bool, false, ◌&&◌, ◌||◌, List, [], ◌∷◌, All, filter, length, slice_get, sum, map, take}
+use Rattle.std.specs.List.Sorted.{IsNonDecreasingBy}
+use Rattle.kc_base.specs.Pins.{is_printed}
+use Rattle.kc_life.specs.declared.life.Signal.{Signal}
+use Rattle.kc_life.specs.declared.life.Signal.TheVariants.{Output, Input}
+use Rattle.kc_life.specs.declared.life.What.{What}
+use Rattle.kc_life.specs.declared.life.What.TheVariants as what
+use Rattle.kc_life.specs.declared.life.Event.{Event}
+use Rattle.kc_life.specs.Lives.{Life, level_at}
+use Rattle.kc_stim.specs.Drives.{Drives}
+use Rattle.kc_convert.specs.declared.sample.Sample.{Sample}
+use Rattle.kc_convert.specs.Samples.{value_at}
+use Rattle.kc_events.specs.declared.line.Line.{Line}
+use Rattle.kc_events.specs.Grammar.{start_place, IsRun}
+use Rattle.kc_events.specs.Lives.{lives_of}
+use Rattle.kc_events.specs.Steps.{steps_of}
+use Rattle.kc_vcd.specs.declared.variable.Variable.TheVariants.{Analog, Entry, Transfer}
+use Rattle.kc_vcd.specs.Variables.{is_shown_input, has_value, channel_count, entry_count, transfer_count, signal_name, name_of}
+use Rattle.kc_vcd.specs.Dump.{state_length, shown_of, dump_of}
+use Rattle.kc_vcd.specs.Reader.{level_described, value_described, count_described}
 
--- what the board prints is read as the records that were printed
-abbrev pub TracesAreRead : Type 0
-TracesAreRead = (items : List Record) → IsHistory 0 items → IsTrace (text_lines (text_of items)) items
+-- ---- a run, and its dump
 
--- in every state the dump has for every pin the level after all edges up to it
-abbrev pub DumpsDescribeLevels : Type 0
-DumpsDescribeLevels = (length : ℕ) (items : List Record) (pin t : ℕ) → 1 ≤ length → length ≤ 2000000000000 → IsHistory 0 items → IsPin pin →
-    described (dump_of length items) (length * t) (pin_name pin) ≡ Some (level_at items pin t)
+-- lines of a whole run, with what drives its inputs and an oscillator of 1 to 2 * 10^12 hertz
+pub record Run : Type 0 where
+  pub lines : List Line
+  pub drives : Drives
+  pub samples : List Sample
+  pub clock : ℕ
 
--- lines are those of one trace, or one line of them is the first wrong one
-pub record OneReading : Type 0 where
-  pub traces : (lines : List (List ℕ)) (items others : List Record) → IsTrace lines items → IsTrace lines others → items ≡ others
-  pub apart : (lines : List (List ℕ)) (items : List Record) (line : ℕ) → IsTrace lines items → ¬ IsFirstWrong lines line
-  pub lines : (lines : List (List ℕ)) (line other : ℕ) → IsFirstWrong lines line → IsFirstWrong lines other → line ≡ other
+pub record IsShownRun (run : Run) : Type 0 where
+  pub run : IsRun (start_place 0) run.lines
+  pub order : IsNonDecreasingBy (λ s. s.at) run.samples
+  pub small : All (λ s. s.value ≤ 1023) run.samples
+  pub goes : 1 ≤ run.clock
+  pub slow : run.clock ≤ 2000000000000
+
+abbrev pub dump_for : Run → List ℕ
+dump_for run = dump_of (shown_of run.clock run.drives run.samples) (steps_of run.drives run.lines)
+
+abbrev pub lives_in : Run → List Life
+lives_in run = lives_of run.drives run.lines
+
+-- the state of the run in which the life behind so many others begins
+abbrev pub begin_of : ℕ → List Life → ℕ
+begin_of count lives = sum (map (λ life. life.last + 1) (take count lives))
+
+-- the life behind so many others, and a state of it
+pub record IsIn (count : ℕ) (life : Life) (t : ℕ) (run : Run) : Type 0 where
+  pub life : slice_get (lives_in run) count ≡ Some life
+  pub state : t ≤ life.last
+
+-- when that state begins, in picoseconds
+abbrev pub time_of : ℕ → ℕ → Run → ℕ
+time_of count t run = state_length run.clock * (begin_of count (lives_in run) + t)
+
+-- ---- levels
+
+-- a pin that is printed, or an input that is driven
+abbrev pub is_shown : Drives → Signal → Bool
+is_shown d (Output pin) = is_printed pin.0
+is_shown d (Input pin) = is_shown_input d pin.0
+
+-- in each state of each life a dump has for each printed pin and for each input that is driven its level
+abbrev pub DumpsShowLevels : Type 0
+DumpsShowLevels = (run : Run) (count t : ℕ) (life : Life) (signal : Signal) → IsShownRun run → IsIn count life t run → is_shown run.drives signal ≡ true →
+    level_described (dump_for run) (time_of count t run) (signal_name signal) ≡ Some (level_at life signal t)
+
+-- ---- values
+
+-- and for each analogue input that has values the one that it has
+abbrev pub DumpsShowValues : Type 0
+DumpsShowValues = (run : Run) (count t channel : ℕ) (life : Life) → IsShownRun run → IsIn count life t run → channel < channel_count → has_value run.samples channel ≡ true →
+    value_described (dump_for run) (time_of count t run) (name_of (Analog channel)) ≡ Some (value_at run.samples channel (begin_of count (lives_in run) + t))
+
+-- ---- events
+
+abbrev pub is_entry : ℕ → What → Bool
+is_entry number (what.Entry n) = n == number
+is_entry number _ = false
+
+abbrev pub is_transfer : ℕ → What → Bool
+is_transfer number (what.Transfer n) = n == number
+is_transfer number _ = false
+
+-- how often something happens in a state of a life
+abbrev pub count_in : (What → Bool) → ℕ → Life → ℕ
+count_in is_wanted t life = length (filter (λ e. (e.at == t) && is_wanted e.what) life.events)
+
+-- at each state the event of a vector happens as often as the board enters there, and so for the transfer server
+pub record DumpsShowEvents : Type 0 where
+  pub entries : (run : Run) (count t number : ℕ) (life : Life) → IsShownRun run → IsIn count life t run → number < entry_count →
+      count_described (dump_for run) (time_of count t run) (name_of (Entry number)) ≡ Some (count_in (is_entry number) t life)
+  pub transfers : (run : Run) (count t number : ℕ) (life : Life) → IsShownRun run → IsIn count life t run → number < transfer_count →
+      count_described (dump_for run) (time_of count t run) (name_of (Transfer number)) ≡ Some (count_in (is_transfer number) t life)

@@ -1,7 +1,7 @@
-pub mod History
-pub mod Reading
-pub mod Candidates
-pub mod Levels
+pub mod Variables
+pub mod Changes
 pub mod Dump
+pub mod Writing
+pub mod Dumped
 pub mod Reader
 pub mod Laws

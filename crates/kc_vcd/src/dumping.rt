@@ -1,179 +1,325 @@
-// A trace as a value change dump.
-ghost use Rattle.std.specs.Prelude.{◌≡◌, ◌<◌, ◌≤◌, ◌++◌, IfOk, OnOk};
-ghost use Rattle.kc_base.specs.Pins.{IsPin, pin_count};
-ghost use Rattle.kc_trace.specs.Printable.{CanPrint};
-ghost use Rattle.kc_vcd.specs.History.{IsHistory};
-ghost use Rattle.kc_vcd.specs.Dump.{state_length as picoseconds, pin_code as code_of_pin, event_code as code_of_event, declaration, pin_declarations, event_declarations, start_lines, change_of, stamp, record_text, changes, prefix as prefix_text, dump_of};
+// A run as a value change dump, written as it is told.
+ghost use Rattle.std.specs.Prelude.{◌≡◌, ◌≤◌, ℕ, ◌∷◌, [], map, List, None, Err, IfOk, IfSome, OnOk};
+ghost use Rattle.kc_base.specs.Series.{up_to};
+ghost use Rattle.kc_life.specs.Tables.{level_in};
+ghost use Rattle.kc_events.specs.Steps.{Seen, Begins, Passes, Ends};
+ghost use Rattle.kc_events.specs.Printed.{place_in};
+ghost use Rattle.kc_events.specs.Telling.{AreToCome, IsFirstWrongIn};
+ghost use Rattle.kc_events.specs.Underway.{seen_by};
+ghost use Rattle.kc_vcd.specs.declared.variable.Variable.TheVariants.{Wire};
+ghost use Rattle.kc_vcd.specs.Changes.{difference, differences, all_at, change_by as change_of, later as later_by, behind as state_behind, taken, after};
+ghost use Rattle.kc_vcd.specs.Dump.{dump_of};
+ghost use Rattle.kc_vcd.specs.Dumped.{IsDumped, Counts};
+ghost use Rattle.kc_vcd.specs.Writing.{start_of, with_steps, HasTold, HasPut, HasChanged, IsSameLife};
 
-use crate::levels::start_level;
-use crate::trace::{Trace, time_after};
-use kc_base::{NoMemory, PIN_COUNT, Pin, StateTime, put_number};
-use kc_trace::{Record, level_digit};
+use crate::change::{Change, change_by, put_change};
+use crate::shown::Shown;
+use crate::variable::Variable;
+use crate::writing::put_stamp;
+use kc_base::{NoMemory, StateTime};
+use kc_byte_source::Source;
+use kc_convert::{Analog, Sample};
+use kc_events::{Lives, LivesFault, Step};
+use kc_life::{Levels, Signal, What};
+use kc_stim::Stimuli;
 use std::alloc::Global;
+use std::marker::Model;
 
-const HEAD: &[u8] = b"$comment kc96: inputs are not in a trace and stand as before state 0 $end
-$timescale 1 ps $end
-$scope module board $end
-";
-
-const HEAD_END: &[u8] = b"$upscope $end
-$enddefinitions $end
-#0
-$dumpvars
-";
-
-// How many picoseconds a state time has.
-fn state_length(clock: u32) -> u64
-    requires { 1 ≤ clock }
-    ensures value { result ≡ picoseconds clock }
-    ensures bounded { result ≤ 2000000000000 }
-{
-    2_000_000_000_000 / u64::from(clock)
+// A dump that is written: its text, the state of the run that was stamped last, the one in which the life began, whether the next
+// life is the first, the levels at the end of the last state, and how many values were put.
+#[derive(Drop)]
+struct Writer<'a> {
+    shown: &'a Shown,
+    text: Vec<u8>,
+    stamped: StateTime,
+    base: StateTime,
+    is_first: bool,
+    levels: Levels,
+    taken: usize,
 }
 
-// The code of a pin.
-fn pin_code(pin: u8) -> u8
-    requires { IsPin pin }
-    ensures { result ≡ code_of_pin pin }
-{
-    b'A' + pin
+impl<'a> Model for Writer<'a> {
+    ghost use Rattle.std.specs.Prelude.{◌≤◌, length, drop};
+    ghost use Rattle.kc_life.specs.Tables.{level_in};
+    ghost use Rattle.kc_vcd.specs.Writing.{Written};
+
+    ghost Value = { Written };
+
+    ghost view = { λ w. record {
+      shown = w.shown.now;
+      text = w.text.items;
+      stamped = w.stamped;
+      base = w.base;
+      first = w.is_first;
+      levels = level_in w.levels;
+      samples = drop w.taken w.shown.now.samples;
+    } };
+
+    ghost invariant = { λ w. w.taken ≤ length w.shown.now.samples };
 }
 
-fn put(text: &mut Vec<u8>, more: &[u8]) -> Result<(), NoMemory>
-    ensures { OnOk result (text.new.items ≡ text.old.items ++ more.now) }
+// So many states behind a state, up to the last number of 64 bits.
+fn later(base: StateTime, t: StateTime) -> StateTime
+    ensures { result ≡ later_by base t }
 {
-    text.extend_from_slice(more)?;
-    Ok(())
+    base.saturating_add(t)
 }
 
-fn put_declaration(text: &mut Vec<u8>, kind: &[u8], code: u8, name: &[u8]) -> Result<(), NoMemory>
-    ensures { OnOk result (text.new.items ≡ text.old.items ++ declaration kind.now code name.now) }
+// The state behind those of a life, by its last one.
+fn behind(base: StateTime, last: StateTime) -> StateTime
+    ensures { result ≡ state_behind base last }
 {
-    put(text, b"$var ")?;
-    put(text, kind)?;
-    put(text, b" 1 ")?;
-    put(text, &[code])?;
-    put(text, b" ")?;
-    put(text, name)?;
-    put(text, b" $end\n")
+    later(later(base, last), 1)
 }
 
-// The code of an event: of an entry (0), a transfer (1) or an undefined use (2).
-fn event_code(event: u8) -> u8
-    requires { event < 3 }
-    ensures { result ≡ code_of_event event }
-{
-    b'A' + (PIN_COUNT + event)
-}
-
-fn put_pins(text: &mut Vec<u8>) -> Result<(), NoMemory>
-    ensures { OnOk result (text.new.items ≡ text.old.items ++ pin_declarations pin_count) }
-{
-    for pin in 0..PIN_COUNT {
-        put_declaration(text, b"wire", pin_code(pin), Pin(pin).name().as_bytes())?;
+impl<'a> Writer<'a> {
+    // Puts a change with its time, where that is another one than before.
+    fn put(&mut self, at: StateTime, change: Change) -> Result<(), NoMemory>
+        ensures put { OnOk result (HasPut self.old (record { at = at; change = change } ∷ []) self.new) }
+        ensures samples { OnOk result (self.new.samples ≡ self.old.samples) }
+        ensures same { OnOk result (IsSameLife self.old self.new) }
+    {
+        put_stamp(&mut self.text, self.shown.length, self.stamped, at)?;
+        self.stamped = at;
+        put_change(&mut self.text, change)
     }
-    Ok(())
-}
 
-fn put_events(text: &mut Vec<u8>) -> Result<(), NoMemory>
-    ensures { OnOk result (text.new.items ≡ text.old.items ++ event_declarations) }
-{
-    put_declaration(text, b"event", event_code(0), b"entry")?;
-    put_declaration(text, b"event", event_code(1), b"transfer")?;
-    put_declaration(text, b"event", event_code(2), b"undefined")
-}
-
-fn put_start(text: &mut Vec<u8>) -> Result<(), NoMemory>
-    ensures { OnOk result (text.new.items ≡ text.old.items ++ start_lines pin_count) }
-{
-    for pin in 0..PIN_COUNT {
-        put(text, &[level_digit(start_level(pin)), pin_code(pin), b'\n'])?;
-    }
-    Ok(())
-}
-
-fn put_prefix(text: &mut Vec<u8>) -> Result<(), NoMemory>
-    ensures { OnOk result (text.new.items ≡ text.old.items ++ prefix_text) }
-{
-    put(text, HEAD)?;
-    put_pins(text)?;
-    put_events(text)?;
-    put(text, HEAD_END)?;
-    put_start(text)?;
-    put(text, b"$end\n")
-}
-
-fn put_time(
-    text: &mut Vec<u8>,
-    length: u64,
-    before: StateTime,
-    at: StateTime,
-) -> Result<(), NoMemory>
-    ensures { OnOk result (text.new.items ≡ text.old.items ++ stamp length before at) }
-{
-    if at == before {
-        return Ok(());
-    }
-    put(text, b"#")?;
-    put_number(text, u128::from(length) * u128::from(at))?;
-    put(text, b"\n")
-}
-
-fn put_change(text: &mut Vec<u8>, item: &Record) -> Result<(), NoMemory>
-    requires { CanPrint item.now }
-    ensures { OnOk result (text.new.items ≡ text.old.items ++ change_of item.now) }
-{
-    match item {
-        Record::Pin { edge, .. } => {
-            put(
-                text,
-                &[level_digit(edge.level), pin_code(edge.pin.0), b'\n'],
-            )
+    // The next value of an analogue input, where it comes up to a state of the run.
+    fn next_value(&mut self, at: StateTime) -> Option<Sample>
+        ensures none { result ≡ None → up_to (λ s. s.at) at self.old.samples ≡ [] }
+        ensures some { IfSome result (λ s. (self.old.samples ≡ s ∷ self.new.samples) × (s.at ≤ at)) }
+        ensures kept { result ≡ None → self.new ≡ self.old }
+        ensures same { IsSameLife self.old self.new }
+        ensures text { self.new.text ≡ self.old.text }
+        ensures stamped { self.new.stamped ≡ self.old.stamped }
+    {
+        match self.shown.values.samples().get(self.taken) {
+            Some(sample) if sample.at <= at => {
+                self.taken += 1;
+                Some(*sample)
+            }
+            _ => None,
         }
-        Record::Entered { .. } => put(text, &[b'1', event_code(0), b'\n']),
-        Record::Served { .. } => put(text, &[b'1', event_code(1), b'\n']),
-        Record::Undef(_) => put(text, &[b'1', event_code(2), b'\n']),
-        _ => Ok(()),
+    }
+
+    // Puts the values of the analogue inputs up to a state of the run, each in its own.
+    fn put_values(&mut self, at: StateTime) -> Result<(), NoMemory>
+        ensures put { OnOk result (HasPut self.old (taken (up_to (λ s. s.at) at self.old.samples)) self.new) }
+        ensures samples { OnOk result (self.new.samples ≡ after at self.old.samples) }
+        ensures same { OnOk result (IsSameLife self.old self.new) }
+    {
+        while let Some(sample) = self.next_value(at) {
+            self.put(sample.at, Change::Takes(sample.channel, sample.value))?;
+        }
+        Ok(())
+    }
+
+    // A change in a state of the run, with the values up to it.
+    fn change(&mut self, at: StateTime, change: Change) -> Result<(), NoMemory>
+        ensures changed { OnOk result (HasChanged self.old (record { at = at; change = change } ∷ []) self.new) }
+        ensures same { OnOk result (IsSameLife self.old self.new) }
+    {
+        self.put_values(at)?;
+        self.put(at, change)
+    }
+
+    // The level of a signal, where it has another one than at the end of the last state.
+    fn change_level(
+        &mut self,
+        at: StateTime,
+        signal: Signal,
+        levels: &Levels,
+    ) -> Result<(), NoMemory>
+        ensures changed { OnOk result (HasChanged self.old (all_at at (difference self.old.levels (level_in levels.now) (Wire signal))) self.new) }
+        ensures same { OnOk result (IsSameLife self.old self.new) }
+    {
+        let level = levels.level(signal);
+        if level.is_high() == self.levels.level(signal).is_high() {
+            return Ok(());
+        }
+        self.change(at, Change::Moves(signal, level))
+    }
+
+    // The level of a variable, where it is one of a signal that has another one than at the end of the last state.
+    fn change_variable(
+        &mut self,
+        at: StateTime,
+        variable: Variable,
+        levels: &Levels,
+    ) -> Result<(), NoMemory>
+        ensures changed { OnOk result (HasChanged self.old (all_at at (difference self.old.levels (level_in levels.now) variable)) self.new) }
+        ensures same { OnOk result (IsSameLife self.old self.new) }
+    {
+        match variable {
+            Variable::Wire(signal) => self.change_level(at, signal, levels),
+            _ => Ok(()),
+        }
+    }
+
+    // The levels of the signals that a life finds at others than those at the end of the life before it.
+    #[tactic(auto, unfolding(crate::specs::Changes::differences))]
+    fn change_levels(&mut self, at: StateTime, levels: &Levels) -> Result<(), NoMemory>
+        ensures changed { OnOk result (HasChanged self.old (all_at at (differences self.old.shown.variables self.old.levels (level_in levels.now))) self.new) }
+        ensures same { OnOk result (IsSameLife self.old self.new) }
+    {
+        let mut left = self.shown.variables.as_slice();
+        while let [variable, rest @ ..] = left {
+            self.change_variable(at, *variable, levels)?;
+            left = rest;
+        }
+        Ok(())
+    }
+
+    // A life begins, with these levels before its state 0. The first one of a run is not told.
+    fn begin(&mut self, levels: &Levels) -> Result<(), NoMemory>
+        ensures { OnOk result (HasTold self.old (Begins (level_in levels.now) ∷ []) self.new) }
+    {
+        let base = self.base;
+        if !self.is_first {
+            self.change(base, Change::Happens(Variable::Life))?;
+        }
+        self.change_levels(base, levels)?;
+        self.is_first = false;
+        self.levels = *levels;
+        Ok(())
+    }
+
+    // What happens in a state of the run.
+    fn change_all(&mut self, at: StateTime, whats: &[What]) -> Result<(), NoMemory>
+        ensures changed { OnOk result (HasChanged self.old (all_at at (map change_of whats.now)) self.new) }
+        ensures same { OnOk result (IsSameLife self.old self.new) }
+    {
+        let mut left = whats;
+        while let [what, rest @ ..] = left {
+            self.change(at, change_by(*what))?;
+            left = rest;
+        }
+        Ok(())
+    }
+
+    // A state of the life passes, in which this happens.
+    fn pass(&mut self, at: StateTime, whats: &[What]) -> Result<(), NoMemory>
+        ensures { OnOk result (HasTold self.old (Passes (record { at = at; whats = whats.now }) ∷ []) self.new) }
+    {
+        self.change_all(later(self.base, at), whats)?;
+        self.levels.take_all(whats);
+        Ok(())
+    }
+
+    // The life ends behind its last state.
+    fn end(&mut self, last: StateTime)
+        ensures { HasTold self.old (Ends last ∷ []) self.new }
+    {
+        self.base = behind(self.base, last);
+    }
+
+    // Takes a step that was just told.
+    fn take<S: Source + Drop>(&mut self, step: Step, lives: &Lives<S>) -> Result<(), NoMemory>
+        ensures { OnOk result (HasTold self.old (seen_by step lives.now.course ∷ []) self.new) }
+    {
+        match step {
+            Step::Begins => self.begin(lives.levels())?,
+            Step::Passes(at) => self.pass(at, lives.whats())?,
+            Step::Ends(last) => self.end(last),
+        }
+        Ok(())
+    }
+
+    // The end of the run, with the values before it.
+    fn finish(&mut self) -> Result<(), NoMemory>
+        ensures { OnOk result (self.new.text ≡ with_steps self.old []) }
+    {
+        let base = self.base;
+        if base > 0 {
+            self.put_values(base - 1)?;
+        }
+        self.put(base, Change::Unseen)
     }
 }
 
-fn put_record(
-    text: &mut Vec<u8>,
-    length: u64,
-    before: StateTime,
-    item: &Record,
-) -> Result<(), NoMemory>
-    requires { CanPrint item.now }
-    ensures { OnOk result (text.new.items ≡ text.old.items ++ record_text length before item.now) }
-{
-    put_time(text, length, before, time_after(before, item))?;
-    put_change(text, item)
-}
-
-#[tactic(auto, unfolding(crate::specs::Dump::changes, crate::specs::History::IsHistory))]
-fn put_records(text: &mut Vec<u8>, length: u64, records: &[Record]) -> Result<(), NoMemory>
-    requires { IsHistory 0 records.now }
-    ensures { OnOk result (text.new.items ≡ text.old.items ++ changes length 0 records.now) }
-{
-    let mut time = 0;
-    let mut left = records;
-    while let [item, rest @ ..] = left {
-        put_record(text, length, time, item)?;
-        time = time_after(time, item);
-        left = rest;
-    }
-    Ok(())
-}
-
-/// A trace as a value change dump (IEEE 1364) with times in picoseconds, of a board whose oscillator has so many hertz: a state
-/// time is two of its periods, rounded down. Each pin of the board is a wire under its name, with its level before state 0;
-/// entries, transfers and the undefined use are events. A change stands at the beginning of its state.
-pub fn dump(alloc: Global, trace: &Trace, clock: u32) -> Result<Vec<u8>, NoMemory>
-    requires { 1 ≤ clock }
-    ensures { IfOk result (λ text. text.items ≡ dump_of (picoseconds clock) trace.now) }
+// A dump with its declarations and its levels before state 0.
+fn begun(alloc: Global, shown: &Shown) -> Result<Writer<'_>, NoMemory>
+    ensures { IfOk result (λ writer. writer ≡ start_of shown.now) }
 {
     let mut text = Vec::new(alloc);
-    put_prefix(&mut text)?;
-    put_records(&mut text, state_length(clock), trace.records())?;
+    shown.put_prefix(&mut text)?;
+    Ok(Writer {
+        shown,
+        text,
+        stamped: 0,
+        base: 0,
+        is_first: true,
+        levels: shown.start,
+        taken: 0,
+    })
+}
+
+// The text, once the run is over.
+fn ended(writer: Writer<'_>) -> Result<Vec<u8>, NoMemory>
+    ensures { IfOk result (λ text. text.items ≡ with_steps writer.entry []) }
+{
+    let mut writer = writer;
+    writer.finish()?;
+    let Writer { text, .. } = writer;
     Ok(text)
+}
+
+// Tells a run to its end.
+fn tell<S: Source + Drop>(writer: &mut Writer<'_>, lives: &mut Lives<S>) -> Result<(), LivesFault>
+    requires { lives.old.stopped ≡ None }
+    ensures told { OnOk result ((steps : List Seen) × AreToCome lives.old steps × HasTold writer.old steps writer.new) }
+    ensures wrong { (line : ℕ) → result ≡ Err (LivesFault.BadTrace line) → IsFirstWrongIn (place_in lives.old.trace.reader) lives.old.trace.left lives.old.trace.count line }
+    ensures faults { Counts lives.old.trace.faults result lives.new.trace.faults }
+{
+    for _ in 0..u64::MAX {
+        let Some(step) = lives.next_step()? else {
+            return Ok(());
+        };
+        if writer.take(step, lives).is_err() {
+            return Err(LivesFault::NoMemory);
+        }
+    }
+    Err(LivesFault::NoMemory)
+}
+
+// The dump of a run whose lives are told, to its end.
+fn dump_of_lives<S: Source + Drop>(
+    alloc: Global,
+    shown: &Shown,
+    lives: &mut Lives<S>,
+) -> Result<Vec<u8>, LivesFault>
+    requires { lives.old.stopped ≡ None }
+    ensures dump { IfOk result (λ text. (steps : List Seen) × AreToCome lives.old steps × (text.items ≡ dump_of shown.now steps)) }
+    ensures wrong { (line : ℕ) → result ≡ Err (LivesFault.BadTrace line) → IsFirstWrongIn (place_in lives.old.trace.reader) lives.old.trace.left lives.old.trace.count line }
+    ensures faults { Counts lives.old.trace.faults result lives.new.trace.faults }
+{
+    let Ok(mut writer) = begun(alloc, shown) else {
+        return Err(LivesFault::NoMemory);
+    };
+    tell(&mut writer, lives)?;
+    match ended(writer) {
+        Ok(text) => Ok(text),
+        Err(NoMemory) => Err(LivesFault::NoMemory),
+    }
+}
+
+/// The dump (IEEE 1364) of the run whose trace a source gives, and whose inputs these stimuli and values drive, of a board whose
+/// oscillator has so many hertz; or the fault that has ended it. Times are in picoseconds; a change stands at the beginning of its
+/// state, and the states of each life stand behind those of the life before it. Memory grows with the dump. The source comes back, with
+/// as many faults as it has counted; where memory runs out before its first read, it is dropped.
+pub fn dump_run<S: Source + Drop>(
+    alloc: Global,
+    clock: u32,
+    stimuli: Stimuli,
+    values: Analog,
+    source: S,
+) -> Result<(S, Result<Vec<u8>, LivesFault>), NoMemory>
+    requires { 1 ≤ clock }
+    ensures answer { IfOk result (λ r. IsDumped clock stimuli.entry values.entry (S.to_come source) r.1) }
+    ensures faults { IfOk result (λ r. Counts (S.faults source) r.1 (S.faults r.0)) }
+{
+    let shown = Shown::new(alloc, clock, &stimuli, values)?;
+    let mut lives = Lives::new(alloc, source, stimuli)?;
+    let dump = dump_of_lives(alloc, &shown, &mut lives);
+    Ok((lives.into_source(), dump))
 }

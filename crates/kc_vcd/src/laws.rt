@@ -1,16 +1,16 @@
-ghost use Rattle.kc_vcd.specs.Laws.{DumpsDescribeLevels, OneReading, TracesAreRead};
+ghost use Rattle.kc_vcd.specs.Laws.{DumpsShowEvents, DumpsShowLevels, DumpsShowValues};
 
-/// The text of records that a run may have, in the order of time, is read as these records.
-pub fn traces_are_read()
-    ensures { TracesAreRead }
+/// In each state of each life a dump has for each printed pin, and for each input that is driven, its level.
+pub fn dumps_show_levels()
+    ensures { DumpsShowLevels }
 {}
 
-/// In every state a dump has for every pin the level after all edges of the trace up to it, or the one at the start.
-pub fn dumps_describe_levels()
-    ensures { DumpsDescribeLevels }
+/// And for each analogue input that has values the one that it has.
+pub fn dumps_show_values()
+    ensures { DumpsShowValues }
 {}
 
-/// A text is read as one list of records at most, or one line of it is the first that makes it no trace.
-pub fn one_reading()
-    ensures { OneReading }
+/// At each state the event of a vector happens as often as the board enters there, and so for the transfer server.
+pub fn dumps_show_events()
+    ensures { DumpsShowEvents }
 {}

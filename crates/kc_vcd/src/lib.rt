@@ -1,17 +1,14 @@
-//! A trace as a value change dump, which shows the pins of a board over a run in a viewer of waveforms.
-//! It stands on the lines of a trace (`kc_trace`).
+//! A run as a value change dump, which shows the pins of a board, its inputs and what happens over time in a viewer of waveforms.
+//! It stands on the lives of a run (`kc_events`), and reads no trace itself.
 //! `P 82 HSO0 1` at an oscillator of 16 MHz becomes the time `#10250000`, in picoseconds, and `1A`, where `A` is the wire HSO0.
 #![tactic(auto)]
 
-mod candidates;
+mod change;
 mod dumping;
-mod fault;
-mod fields;
 mod laws;
-mod levels;
-mod trace;
+mod shown;
+mod variable;
+mod writing;
 
-pub use dumping::dump;
-pub use fault::VcdFault;
-pub use laws::{dumps_describe_levels, one_reading, traces_are_read};
-pub use trace::Trace;
+pub use dumping::dump_run;
+pub use laws::{dumps_show_events, dumps_show_levels, dumps_show_values};

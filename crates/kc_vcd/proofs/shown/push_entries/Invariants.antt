@@ -1,0 +1,6 @@
+use Rattle.std.proofs.Common.{◌≡◌, ◌++◌}
+use Rattle.kc_vcd.specs.Variables.{entries}
+use Rattle.kc_vcd.proofs.shown.push_entries.Given as goal
+
+abbrev pub invariant-loop-number : goal.invariant-loop-number
+invariant-loop-number l = l.variables.items ≡ l.initial.variables.items ++ entries l.number
