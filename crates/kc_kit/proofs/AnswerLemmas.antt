@@ -7,7 +7,6 @@ use Rattle.std.specs.Option.{option_to_list}
 use Rattle.kc_base.specs.Held.{Holding, Reported}
 use Rattle.kc_base.specs.Causes.{Rose}
 use Rattle.kc_base.specs.TextLines.{text_lines}
-use Rattle.kc_vcd.proofs.Readings.{never_wrong}
 use Rattle.kc_kit_messages.specs.Codes.{all_codes}
 use Rattle.kc_kit_messages.specs.Meanings.{Said, is_among, said_of, IsAnswer}
 use Rattle.kc_kit_messages.proofs.Distinct.{meaning-is}
@@ -73,7 +72,7 @@ use Rattle.kc_kit_answer.specs.Answer.{OneText, TwoTexts, Parted, CommandAnswer,
 use Rattle.kc_kit_answer.specs.Assemble.{AreListings, AssembleAnswer, IsAssemblable}
 use Rattle.kc_kit_running.specs.Scripted.{debugged_by}
 use Rattle.kc_kit_answer.specs.Debug.{debug_response, DebugAnswer, IsDebuggable}
-use Rattle.kc_kit_answer.specs.Dump.{DumpAnswer, IsTraceText}
+use Rattle.kc_kit_answer.specs.Dump.{Dumped, DumpAnswer, IsDumpable}
 use Rattle.kc_kit_answer.specs.Check.{Checked, CheckAnswer, CheckTexts, TraceThen, AreCheckable, IsTraceHeld, CheckAccepted}
 use Rattle.kc_kit_verdict.specs.Runs.{count_lives, broken_in, status_by, verdict_response}
 use Rattle.kc_rules.specs.declared.rule.Rule.{Rule}
@@ -370,10 +369,6 @@ sound-pack names out texts r h =
     then-all (IsSound (out ∷ [])) (modules_of object_of names texts) (λ ms response. response ≡ packed names out ms (doubled ms)) r (sound-modules (out ∷ []) names texts)
     (λ ms e k. subst (IsSound (out ∷ [])) (sym k) (sound-packed names out ms (doubled ms))) h
 
-sound-dump : (name out : List ℕ) (clock : ℕ) (text : List ℕ) (r : Response) → DumpAnswer name out clock text r → IsSound (out ∷ []) r
-sound-dump name out clock text r (Ok items, read, h) = subst (IsSound (out ∷ [])) (sym h) (record { reported = refl; named = inr refl })
-sound-dump name out clock text r (Err e, reported, h) = sound-err (out ∷ []) (line_response name text reported.0 (codes "BADTRACE")) r refl refl (sym (h ∙ reported.2))
-
 -- a trace that is checked
 
 sound-text : (ns : List (List ℕ)) (name : List ℕ) (content : Option (List ℕ)) (e : Response) → text_of name content ≡ Err e → IsSound ns e
@@ -405,10 +400,21 @@ sound-check-texts : (trace rules : List ℕ) (inputs : List (Role × List ℕ)) 
 sound-check-texts trace rules inputs clock printed (text ∷ more) r h = sound-check trace rules inputs clock printed text more r h
 sound-check-texts trace rules inputs clock printed [] r h = absurd h
 
-sound-trace : (trace : List ℕ) (may : List ℕ → Response → Type 0) (contents : List (Option (List ℕ))) (r : Response) → ((printed : List ℕ) → may printed r → IsSound [] r) → TraceThen trace may contents r → IsSound [] r
-sound-trace trace may (content ∷ []) r f h = then-all (IsSound []) (text_of trace content) may r (sound-text [] trace content) (λ printed e k. f printed k) h
-sound-trace trace may [] r f h = absurd h
-sound-trace trace may (content ∷ other ∷ contents) r f h = absurd h
+sound-trace : (ns : List (List ℕ)) (trace : List ℕ) (may : List ℕ → Response → Type 0) (contents : List (Option (List ℕ))) (r : Response) → ((printed : List ℕ) → may printed r → IsSound ns r) → TraceThen trace may contents r → IsSound ns r
+sound-trace ns trace may (content ∷ []) r f h = then-all (IsSound ns) (text_of trace content) may r (sound-text ns trace content) (λ printed e k. f printed k) h
+sound-trace ns trace may [] r f h = absurd h
+sound-trace ns trace may (content ∷ other ∷ contents) r f h = absurd h
+
+-- a trace that is written as a dump
+
+sound-dumped : (trace out : List ℕ) (clock : ℕ) (printed : List ℕ) (driving : Driving) (r : Response) → Dumped trace out clock printed driving r → IsSound (out ∷ []) r
+sound-dumped trace out clock printed driving r (Ok lines, is, h) = subst (IsSound (out ∷ [])) (sym h) (record { reported = refl; named = inr refl })
+sound-dumped trace out clock printed driving r (Err e, is, h) = sound-err (out ∷ []) (unkept_response trace is.0 (codes "BADTRACE")) r refl refl (sym (h ∙ is.2))
+
+sound-dump : (trace : List ℕ) (inputs : List (Role × List ℕ)) (out : List ℕ) (clock : ℕ) (printed : List ℕ) (texts : List (List ℕ)) (r : Response) → DumpAnswer trace inputs out clock printed texts r → IsSound (out ∷ []) r
+sound-dump trace inputs out clock printed texts r h =
+    then-all (IsSound (out ∷ [])) (driving_of (given_for inputs texts)) (Dumped trace out clock printed) r (sound-driving (out ∷ []) (given_for inputs texts))
+    (λ driving e k. sound-dumped trace out clock printed driving r k) h
 
 sound-explained : (ns : List (List ℕ)) (code : List ℕ) (row : Option Said) → IsSound ns (explained_by code row)
 sound-explained ns code (Some row) = sound-says ns status.Done _ refl
@@ -461,13 +467,14 @@ sound-command (Debugs file script inputs) contents r h =
     (λ t u l. sound-hex-reported [] file (given_for inputs (drop 2 texts)) t (debug_response (script, u) (input_for role.Lines inputs (drop 2 texts))) r
     (λ driving image. sound-debug [] (script, u) (input_for role.Lines inputs (drop 2 texts)) driving image) l) k) h
 sound-command (Generates number) contents r h = sound-sources [] made_names (made_given number) (placing_of []) (made_texts number) (summary_of number) r (λ driving image. sound-summary [] number driving image) h
-sound-command (Dumps file out clock) contents r h =
-    then-all (IsSound (out ∷ [])) (reads_of (file ∷ []) contents) (OneText (DumpAnswer file out clock)) r (sound-reads (out ∷ []) (file ∷ []) contents)
-    (λ texts e k. sound-one (out ∷ []) (DumpAnswer file out clock) texts r (λ t l. sound-dump file out clock t r l) k) h
+sound-command (Dumps trace inputs out clock) contents r h =
+    let names = names_of inputs in
+    then-all (IsSound (out ∷ [])) (reads_of names contents) (λ texts. TraceThen trace (λ printed. DumpAnswer trace inputs out clock printed texts) (drop (length names) contents)) r (sound-reads (out ∷ []) names contents)
+    (λ texts e k. sound-trace (out ∷ []) trace (λ printed. DumpAnswer trace inputs out clock printed texts) (drop (length names) contents) r (λ printed l. sound-dump trace inputs out clock printed texts r l) k) h
 sound-command (Checks trace rules inputs clock) contents r h =
     let names = names_whole rules inputs in
     then-all (IsSound []) (reads_of names contents) (λ texts. TraceThen trace (λ printed. CheckTexts trace rules inputs clock printed texts) (drop (length names) contents)) r (sound-reads [] names contents)
-    (λ texts e k. sound-trace trace (λ printed. CheckTexts trace rules inputs clock printed texts) (drop (length names) contents) r (λ printed l. sound-check-texts trace rules inputs clock printed texts r l) k) h
+    (λ texts e k. sound-trace [] trace (λ printed. CheckTexts trace rules inputs clock printed texts) (drop (length names) contents) r (λ printed l. sound-check-texts trace rules inputs clock printed texts r l) k) h
 sound-command (Explains code) contents r h = subst (IsSound []) (sym h) (sound-explained [] code (said_of code))
 
 -- a read that has failed
@@ -754,15 +761,22 @@ done-packed : (names : List (List ℕ)) (out : List ℕ) (ms : List Object) (dou
 done-packed names out ms None e short = done-writing (write out (library_bytes ms) ∷ []) [] (packed names out ms None) (short, tt) refl
 done-packed names out ms (Some name) e short = absurd (cc)
 
-done-dump : (name out : List ℕ) (clock : ℕ) (texts : List (List ℕ)) (r : Response) → IsOneText IsTraceText texts → OneText (DumpAnswer name out clock) texts r → IsDone r.status
-done-dump name out clock (t ∷ []) r a (Ok items, read, h) = inl (ap (λ (k : Response). k.status) h)
-done-dump name out clock (t ∷ []) r a (Err e, reported, h) = absurd (never_wrong (text_lines t) a.0 reported.0 a.1 reported.1)
-done-dump name out clock [] r a h = absurd h
-done-dump name out clock (t ∷ u ∷ texts) r a h = absurd h
-
 done-explained : (code : List ℕ) (row : Option Said) → IsAnswer all_codes code row → is_among code all_codes ≡ true → IsDone (explained_by code row).status
 done-explained code (Some row) is a = inl refl
 done-explained code None is a = absurd (let e : false ≡ true = sym is ∙ a in cc)
+
+-- a trace of a run that is written as a dump: no line of it is wrong
+
+done-dumped : (trace out : List ℕ) (clock : ℕ) (printed : List ℕ) (driving : Driving) (r : Response) → ((lines : List Line) × IsRunText printed lines) → Dumped trace out clock printed driving r → IsDone r.status
+done-dumped trace out clock printed driving r run (Ok lines, is, h) = inl (ap (λ (k : Response). k.status) h)
+done-dumped trace out clock printed driving r run (Err e, is, h) =
+    let same : Ok run.0 ≡ Err is.0 = one_reading printed (Ok run.0) (Err is.0) (run.1.spelled, run.1.run) is.1 in
+    absurd (cc)
+
+done-dump : (trace : List ℕ) (inputs : List (Role × List ℕ)) (out : List ℕ) (clock : ℕ) (printed : List ℕ) (texts : List (List ℕ)) (r : Response) →
+    IsDumpable inputs printed texts → DumpAnswer trace inputs out clock printed texts r → IsDone r.status
+done-dump trace inputs out clock printed texts r a h =
+    done-then (driving_of (given_for inputs texts)) (Dumped trace out clock printed) r (λ driving k. done-dumped trace out clock printed driving r a.1 k) a.0 h
 
 -- a trace of a run that is checked: no line of it is wrong
 
@@ -798,12 +812,12 @@ done-check trace rules inputs clock printed (text ∷ more) r a h =
     (λ book k. verdict-then (drives_of stimuli) (Checked trace printed rules text book) r (λ drives l. done-checked trace printed rules text book drives r a.2 l) a.1 k)
     (read-book rules text (book_of clock text) a.0) h
 
-done-trace : (trace : List ℕ) (accepts : List ℕ → Type 0) (may : List ℕ → Response → Type 0) (contents : List (Option (List ℕ))) (r : Response) →
-    ((printed : List ℕ) → accepts printed → may printed r → IsVerdictStatus r.status) → IsTraceHeld trace accepts contents → TraceThen trace may contents r → IsVerdictStatus r.status
-done-trace trace accepts may [] r f a h = absurd a
-done-trace trace accepts may (None ∷ []) r f a h = absurd a
-done-trace trace accepts may (Some printed ∷ []) r f a h = f printed a h
-done-trace trace accepts may (content ∷ other ∷ contents) r f a h = absurd a
+done-trace : (P : Status → Type 0) (trace : List ℕ) (accepts : List ℕ → Type 0) (may : List ℕ → Response → Type 0) (contents : List (Option (List ℕ))) (r : Response) →
+    ((printed : List ℕ) → accepts printed → may printed r → P r.status) → IsTraceHeld trace accepts contents → TraceThen trace may contents r → P r.status
+done-trace P trace accepts may [] r f a h = absurd a
+done-trace P trace accepts may (None ∷ []) r f a h = absurd a
+done-trace P trace accepts may (Some printed ∷ []) r f a h = f printed a h
+done-trace P trace accepts may (content ∷ other ∷ contents) r f a h = absurd a
 
 accepted-check : {A : Type 0} (accepts : A → Type 0) (may : A → Response → Type 0) (x : Result A Response) (r : Response) → ((a : A) → accepts a → may a r → IsVerdictStatus r.status) → Accepting accepts x → Then x may r → IsVerdictStatus r.status
 accepted-check accepts may (Ok a) r f ok h = f a ok h
@@ -855,12 +869,16 @@ done-command (Some (Debugs file script inputs)) contents r a h =
 done-command (Some (Generates number)) contents r a h =
     done-sources made_names (made_given number) (placing_of []) (made_texts number) (summary_of number) r
     (λ driving image. done-end (end_of (run_of 1000000 driving image).machine)) a.sources a.modules a.driving h
-done-command (Some (Dumps file out clock)) contents r a h = accepted-then _ (OneText (DumpAnswer file out clock)) (reads_of (file ∷ []) contents) r (λ texts b k. done-dump file out clock texts r b k) a h
+done-command (Some (Dumps trace inputs out clock)) contents r a h =
+    let names = names_of inputs in
+    let held = drop (length names) contents in
+    accepted-then (λ texts. IsTraceHeld trace (λ printed. IsDumpable inputs printed texts) held) (λ texts. TraceThen trace (λ printed. DumpAnswer trace inputs out clock printed texts) held) (reads_of names contents) r
+    (λ texts b k. done-trace IsDone trace (λ printed. IsDumpable inputs printed texts) (λ printed. DumpAnswer trace inputs out clock printed texts) held r (λ printed c l. done-dump trace inputs out clock printed texts r c l) b k) a h
 done-command (Some (Checks trace rules inputs clock)) contents r a h =
     let names = names_whole rules inputs in
     let held = drop (length names) contents in
     accepted-check (λ texts. IsTraceHeld trace (λ printed. AreCheckable inputs clock printed texts) held) (λ texts. TraceThen trace (λ printed. CheckTexts trace rules inputs clock printed texts) held) (reads_of names contents) r
-    (λ texts b k. done-trace trace (λ printed. AreCheckable inputs clock printed texts) (λ printed. CheckTexts trace rules inputs clock printed texts) held r (λ printed c l. done-check trace rules inputs clock printed texts r c l) b k) a h
+    (λ texts b k. done-trace IsVerdictStatus trace (λ printed. AreCheckable inputs clock printed texts) (λ printed. CheckTexts trace rules inputs clock printed texts) held r (λ printed c l. done-check trace rules inputs clock printed texts r c l) b k) a h
 done-command (Some (Explains code)) contents r a h = done-reported r (explained code) h (done-explained code (said_of code) (meaning-is code) a)
 
 -- how it ends then is how the command may end, and so where memory ran out
@@ -893,7 +911,7 @@ ends-by (Some (RunsHex file inputs extent)) given h = ends-other given h
 ends-by (Some (Lists file first last)) given h = ends-other given h
 ends-by (Some (Debugs file script inputs)) given h = ends-other given h
 ends-by (Some (Generates number)) given h = ends-other given h
-ends-by (Some (Dumps file out clock)) given h = ends-other given h
+ends-by (Some (Dumps trace inputs out clock)) given h = ends-other given h
 ends-by (Some (Checks trace rules inputs clock)) given h = ends-check given h
 ends-by (Some (Explains code)) given h = ends-other given h
 

@@ -1,5 +1,7 @@
 pub mod AnswerSteps
+pub mod CheckLemmas
 pub mod DebugLemmas
+pub mod DumpLemmas
 pub mod EndedLemmas
 pub mod HelpLemmas
 pub mod HexLengths
@@ -8,5 +10,5 @@ pub mod LinkLemmas
 pub mod Listed
 pub mod MadeLemmas
 pub mod SourceLemmas
+pub mod TraceLemmas
 pub mod WriteLemmas
-pub mod CheckLemmas

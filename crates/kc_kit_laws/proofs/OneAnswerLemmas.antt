@@ -3,10 +3,6 @@ use Rattle.std.specs.Prelude.{codes}
 use Rattle.std.proofs.Common.{◌≡◌, inl, inr, ℕ, List, [], ◌∷◌, ◌++◌, length, take, drop, Option, Some, None, Result, Ok, Err, map, refl, sym, ◌∙◌, ap, subst, arith}
 use Rattle.kc_source.specs.Faults.{Fault}
 use Rattle.kc_code.specs.Listing.{listing}
-use Rattle.kc_base.specs.TextLines.{text_lines}
-use Rattle.kc_trace.specs.declared.record.Record.{Record}
-use Rattle.kc_vcd.specs.Dump.{state_length, dump_of}
-use Rattle.kc_vcd.specs.Laws.{OneReading}
 use Rattle.kc_stim.specs.Drives.{Drives}
 use Rattle.kc_rules.specs.Lines.{Book}
 use Rattle.kc_events.specs.declared.line.Line.{Line}
@@ -40,7 +36,7 @@ use Rattle.kc_kit_inputs.specs.declared.driving.Driving.{Driving}
 use Rattle.kc_kit_inputs.specs.Driving.{GivenFiles, given_for, driving_of}
 use Rattle.kc_kit_inputs.specs.Inputs.{input_for}
 use Rattle.kc_kit_inputs.specs.Library.{library_of, TakenAre}
-use Rattle.kc_kit_inputs.specs.Responses.{source_response, line_response}
+use Rattle.kc_kit_inputs.specs.Responses.{source_response}
 use Rattle.kc_kit_inputs.specs.Objects.{modules_of, object_of}
 use Rattle.kc_kit_inputs.specs.FaultDiagnostics.{IsFaultDiagnostic}
 use Rattle.kc_kit_inputs.specs.Lines.{coded}
@@ -49,13 +45,12 @@ use Rattle.kc_kit_inputs.specs.Responses.{unkept_response}
 use Rattle.kc_kit_inputs.specs.Rules.{rules_of}
 use Rattle.kc_kit_inputs.specs.Runs.{RunIs}
 use Rattle.kc_kit_inputs.specs.Stimuli.{drives_of}
-use Rattle.kc_kit_inputs.specs.Traces.{TraceIs}
 use Rattle.kc_kit_verdict.specs.Runs.{count_lives, verdict_response}
 use Rattle.kc_kit_answer.specs.Answer.{OneText, TwoTexts, Parted, CommandAnswer}
 use Rattle.kc_kit_answer.specs.Assemble.{AreListings, WritesObject, AssembleAnswer}
 use Rattle.kc_kit_answer.specs.Debug.{DebugAnswer, debug_response}
 use Rattle.kc_kit_answer.specs.Check.{Checked, CheckAnswer, CheckTexts, TraceThen}
-use Rattle.kc_kit_answer.specs.Dump.{WritesDump, DumpAnswer}
+use Rattle.kc_kit_answer.specs.Dump.{dump_for, WritesDump, Dumped, DumpAnswer}
 use Rattle.kc_kit_running.specs.Counted.{summary_of}
 use Rattle.kc_kit_answer.specs.Generate.{made_names, made_texts, made_given}
 use Rattle.kc_kit_answer.specs.Hex.{HexReported, RunHexAnswer, ListAnswer, ListingOf}
@@ -110,7 +105,6 @@ pub record Laws : Type 0 where
   pub images : OneImage
   pub maps : OneLineMap
   pub taken : TakenOnce
-  pub traces : OneReading
   pub listings : OneListing
 
 -- ---- sources
@@ -175,17 +169,6 @@ module _ (images : OneImage) where
 
 -- ---- traces
 
-abbrev wrong_line : List ℕ → List ℕ → ℕ → Response
-wrong_line name text line = line_response name text line (codes "BADTRACE")
-
-one_read : OneReading → (name text : List ℕ) (x y : Result (List Record) Response) → TraceIs name text x → TraceIs name text y → x ≡ y
-one_read law name text (Ok items) (Ok others) h k = (let same : items ≡ others = law.traces (text_lines text) items others h k in λ i. Ok (same i))
-one_read law name text (Ok items) (Err r) h k = absurd (law.apart (text_lines text) items k.0 h k.1)
-one_read law name text (Err r) (Ok items) h k = absurd (law.apart (text_lines text) items h.0 k h.1)
-one_read law name text (Err r) (Err s) h k = (let same : r ≡ s = h.2 ∙ (ap (wrong_line name text) (law.lines (text_lines text) h.0 k.0 h.1 k.1) ∙ sym k.2) in λ i. Err (same i))
-
--- ---- traces that are checked
-
 of_run : (lines others : List Line) (x y : Result (List Line) ℕ) → x ≡ Ok lines → y ≡ Ok others → x ≡ y → lines ≡ others
 of_run lines others x y e f g = cc (e, f, g)
 
@@ -208,6 +191,13 @@ one_checked : (trace printed rules text : List ℕ) (book : Book) (drives : Driv
 one_checked trace printed rules text book drives =
     one_given (RunIs trace printed) (λ lines response. response ≡ verdict_response rules text book (count_lives lines) (lives_of drives lines)) (one_run_of trace printed)
     (λ lines. one_reported (verdict_response rules text book (count_lives lines) (lives_of drives lines)))
+
+one_dumped : (trace out : List ℕ) (clock : ℕ) (printed : List ℕ) (driving : Driving) → IsOne (Dumped trace out clock printed driving)
+one_dumped trace out clock printed driving =
+    one_given (RunIs trace printed) (WritesDump out clock driving) (one_run_of trace printed) (λ lines. one_reported (done_writing (write out (dump_for clock driving lines) ∷ [])))
+
+one_dump : (trace : List ℕ) (inputs : List (Role × List ℕ)) (out : List ℕ) (clock : ℕ) (printed : List ℕ) (texts : List (List ℕ)) → IsOne (DumpAnswer trace inputs out clock printed texts)
+one_dump trace inputs out clock printed texts = one_then (driving_of (given_for inputs texts)) (Dumped trace out clock printed) (one_dumped trace out clock printed)
 
 one_check : (trace rules : List ℕ) (inputs : List (Role × List ℕ)) (clock : ℕ) (printed text : List ℕ) (more : List (List ℕ)) → IsOne (CheckAnswer trace rules inputs clock printed text more)
 one_check trace rules inputs clock printed text more =
@@ -269,9 +259,6 @@ module _ (laws : Laws) where
   one_hex file given text report =
       one_then (hex_of file text) (λ image. Then (driving_of given) (λ driving response. response ≡ report driving image))
       (λ image. one_then (driving_of given) (λ driving response. response ≡ report driving image) (λ driving. one_reported (report driving image)))
-
-  one_dump : (file out : List ℕ) (clock : ℕ) (text : List ℕ) → IsOne (DumpAnswer file out clock text)
-  one_dump file out clock text = one_given (TraceIs file text) (WritesDump out clock) (one_read laws.traces file text) (λ items. one_reported (done_writing (write out (dump_of (state_length clock) items) ∷ [])))
 
 -- ---- sources that may be refused, by a rule of diagnostics and a relation of responses that holds of diagnostics of one fault
 
@@ -382,7 +369,10 @@ module _
       (λ texts. one_two (λ text commands. DebugAnswer file script inputs text commands (drop 2 texts))
       (λ text commands. one_hex laws file (given_for inputs (drop 2 texts)) text (debug_response (script, commands) (input_for role.Lines inputs (drop 2 texts)))) (take 2 texts)) r s h k)
   answers (Some (Generates number)) contents r s h k = reported_sources made_names (made_given number) (placing_of []) (made_texts number) (summary_of number) r s h k
-  answers (Some (Dumps file out clock)) contents r s h k = equal r s (one_then (reads_of (file ∷ []) contents) (OneText (DumpAnswer file out clock)) (one_text (DumpAnswer file out clock) (one_dump laws file out clock)) r s h k)
+  answers (Some (Dumps trace inputs out clock)) contents r s h k =
+      let held = drop (length (names_of inputs)) contents in
+      equal r s (one_then (reads_of (names_of inputs) contents) (λ texts. TraceThen trace (λ printed. DumpAnswer trace inputs out clock printed texts) held)
+      (λ texts. one_trace_then trace (λ printed. DumpAnswer trace inputs out clock printed texts) (λ printed. one_dump trace inputs out clock printed texts) held) r s h k)
   answers (Some (Checks trace rules inputs clock)) contents r s h k =
       let held = drop (length (names_whole rules inputs)) contents in
       equal r s (one_then (reads_of (names_whole rules inputs) contents) (λ texts. TraceThen trace (λ printed. CheckTexts trace rules inputs clock printed texts) held)

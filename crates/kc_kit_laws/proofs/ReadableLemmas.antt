@@ -203,6 +203,6 @@ written_is_readable (Some (RunsHex file inputs extent)) contents r h = of_none r
 written_is_readable (Some (Lists file first last)) contents r h = of_none r
 written_is_readable (Some (Debugs file script inputs)) contents r h = of_none r
 written_is_readable (Some (Generates number)) contents r h = of_none r
-written_is_readable (Some (Dumps file out clock)) contents r h = of_none r
+written_is_readable (Some (Dumps trace inputs out clock)) contents r h = of_none r
 written_is_readable (Some (Checks trace rules inputs clock)) contents r h = of_none r
 written_is_readable (Some (Explains code)) contents r h = of_none r

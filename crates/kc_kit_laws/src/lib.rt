@@ -9,7 +9,6 @@ ghost use Rattle.kc_kit_laws.specs.Readable.{WrittenIsReadable};
 ghost use Rattle.kc_kit_laws.specs.StartLevels.{StartLevelsAgree};
 
 use kc_asm_laws::{filled_are_bytes, modules_fit, one_answer_of_text, one_listing, one_origin};
-use kc_events::one_trace;
 use kc_hex::written_is_read;
 use kc_lib::laws::taken_once;
 use kc_link::{one_image, one_line_map};
@@ -38,7 +37,6 @@ pub fn one_answer()
     one_image();
     one_line_map();
     taken_once();
-    one_trace();
     one_listing();
 }
 
@@ -50,7 +48,6 @@ pub fn one_diagnostic()
     one_image();
     one_line_map();
     taken_once();
-    one_trace();
     one_listing();
     one_origin();
 }
