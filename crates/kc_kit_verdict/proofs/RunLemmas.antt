@@ -1,5 +1,5 @@
 -- What the rules of a file have seen of a run: its lives.
-use Rattle.std.proofs.Common.{◌≡◌, ℕ, zero, suc, ◌+◌, ◌<◌, ◌≤◌, ◌^◌, ◌⊎◌, inl, inr, Bool, true, false, List, [], ◌∷◌, ◌++◌, length, map, filter, get_or, refl, sym, ap, subst, ◌∙◌, append_assoc, append-nil, arith}
+use Rattle.std.proofs.Common.{◌≡◌, ℕ, zero, suc, ◌+◌, ◌<◌, ◌≤◌, ◌^◌, ◌⊎◌, inl, inr, true, false, List, [], ◌∷◌, ◌++◌, length, map, filter, get_or, refl, sym, ap, subst, ◌∙◌, append_assoc, append-nil, arith}
 use Rattle.std.specs.Prelude.{nat_le}
 use Rattle.std.proofs.lemmas.Bool.{leb-true, and_parts}
 use Rattle.kc_base.specs.Limits.{max_states}
@@ -7,13 +7,12 @@ use Rattle.kc_base.specs.declared.types.Level.{Level}
 use Rattle.kc_life.specs.declared.life.Signal.{Signal}
 use Rattle.kc_life.specs.declared.life.What.{What}
 use Rattle.kc_life.specs.declared.life.Event.{Event}
-use Rattle.kc_life.specs.Lives.{Life, State, AreStatesFrom, events_of}
+use Rattle.kc_life.specs.Lives.{Life, State, AreStatesFrom}
 use Rattle.kc_stim.specs.Drives.{Drives}
 use Rattle.kc_base.specs.declared.types.Undefined.{Undefined}
 use Rattle.kc_trace.specs.declared.record.Record.{Record}
 use Rattle.kc_trace.specs.declared.record.Record.TheVariants.{Pin, Entered, Served, Undef, Stopped, Pc, Psw, Wsr, Registers}
 use Rattle.kc_rules.specs.declared.rule.Rule.{Rule}
-use Rattle.kc_rules.specs.declared.mark.Mark.{Mark}
 use Rattle.kc_rules.specs.Lines.{Book}
 use Rattle.kc_events.specs.declared.line.Line.{Line}
 use Rattle.kc_events.specs.declared.line.Line.TheVariants.{Printed, Restarted}
@@ -21,9 +20,8 @@ use Rattle.kc_events.specs.declared.reader.Stage.{Stage}
 use Rattle.kc_events.specs.declared.reader.Stage.TheVariants as stage
 use Rattle.kc_events.specs.Grammar.{Place, start_place, AreLines, place_after, after_line, is_over, is_of_life, is_break, may_print, may_restart, next_stage, IsRun}
 use Rattle.kc_events.specs.Lives.{input_edges, start_levels, levels_after, reported_in, states_from, life_of, event_of, end_event, count_at, restart_event, lives_with, lives_of}
-use Rattle.kc_events.specs.Steps.{Seen, Begins, Passes, Ends, passes, seen_of, steps_with, steps_of}
+use Rattle.kc_events.specs.Steps.{Seen, Begins, Passes, Ends, passes, seen_of, steps_with}
 use Rattle.kc_events.proofs.LifeLemmas.{moving, events_moving}
-use Rattle.kc_monitor_forms.specs.declared.tally.Tally.{Tally}
 use Rattle.kc_monitor_forms.specs.Tallies.{one_more}
 use Rattle.kc_monitor.specs.declared.monitor.Monitor.{Monitor}
 use Rattle.kc_monitor.specs.declared.watch.Watch.{Watch}
@@ -35,7 +33,7 @@ use Rattle.kc_monitor.specs.AllLives.{ReportedLife, life_reported, IsReportedLif
 use Rattle.kc_monitor.proofs.RowLemmas.{three_at, three_third}
 use Rattle.kc_monitor.proofs.AllLivesLemmas.{all_reported, all_kept}
 use Rattle.kc_kit_verdict.specs.Runs.{is_restart, count_lives, tally_in}
-use Rattle.kc_kit_verdict.specs.Watched.{IsWatched, HasWatched, HaveSeen, RunsAreSeen}
+use Rattle.kc_kit_verdict.specs.Watched.{HasWatched, HaveSeen, RunsAreSeen}
 
 -- ---- the states of a life
 

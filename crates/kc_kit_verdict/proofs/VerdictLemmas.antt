@@ -6,21 +6,19 @@ use Rattle.kc_life.specs.Lives.{Life}
 use Rattle.kc_stim.specs.Drives.{Drives}
 use Rattle.kc_rules.specs.declared.rule.Rule.{Rule}
 use Rattle.kc_rules.specs.Lines.{Book}
-use Rattle.kc_events.specs.declared.line.Line.{Line}
 use Rattle.kc_events.specs.declared.lives.LivesFault.{LivesFault}
 use Rattle.kc_events.specs.declared.lives.LivesFault.TheVariants.{BadTrace, Failed, NoMemory}
 use Rattle.kc_events.specs.Grammar.{start_place}
 use Rattle.kc_events.specs.Lives.{lives_of}
 use Rattle.kc_events.specs.Steps.{Seen}
 use Rattle.kc_events.specs.Reporting.{Reporting, AreToCome, AreStepsOf, IsFirstWrongIn, IsWrongAt}
-use Rattle.kc_monitor_forms.specs.declared.tally.Tally.{Tally}
 use Rattle.kc_monitor.specs.declared.monitor.Monitor.{Monitor}
 use Rattle.kc_monitor.specs.declared.watch.Watch.{Watch}
 use Rattle.kc_monitor.specs.Verdicts.{verdict_of, is_broken}
 use Rattle.kc_kit_messages.specs.Diagnostics.{broken_diagnostic}
 use Rattle.kc_monitor.specs.Watches.{IsNew}
 use Rattle.kc_kit_verdict.specs.declared.verdict.Verdict.{Verdict}
-use Rattle.kc_kit_verdict.specs.Runs.{count_lives, tally_in, verdicts, broken_in, diagnostics}
+use Rattle.kc_kit_verdict.specs.Runs.{count_lives, tally_in, broken_in, diagnostics}
 use Rattle.kc_kit_verdict.specs.Watched.{HasWatched, HaveSeen}
 use Rattle.kc_kit_verdict.specs.Verdicts.{is_any, IsRunVerdict, IsChecked, IfWrong, Counts, verdicts_by, broken_by, IsVerdict, said_of, IsPassedOn}
 use Rattle.kc_kit_verdict.proofs.RunLemmas.{runs_are_seen, rules_stay}

@@ -1,5 +1,5 @@
 -- The steps of a run, as rules watch them.
-use Rattle.std.proofs.Common.{◌≡◌, ℕ, Option, None, List, [], ◌∷◌, ◌++◌, refl, sym, ap, subst, ◌∙◌, append_assoc, append-nil}
+use Rattle.std.proofs.Common.{◌≡◌, None, List, [], ◌∷◌, ◌++◌, refl, sym, subst, ◌∙◌, append_assoc, append-nil}
 use Rattle.kc_events.specs.Steps.{Seen}
 use Rattle.kc_events.specs.Reporting.{Reporting, AreToCome, IsBehind}
 use Rattle.kc_monitor.specs.declared.watch.Watch.{Watch}
