@@ -71,6 +71,7 @@ writing-part response may old new before now ended m p f g h = by ended.status e
     by status.Link what un k = absurd k
     by status.Undefined what un k = absurd k
     by status.ReadFault what un k = absurd k
+    by status.Broken what un k = absurd k
 
 -- the profile of a run is the tally of its states
 pub profile-is : (states now : ℕ) (m : Machine FittedUnit) (first last : Tally) (entries : List MapEntry) → m.time ≡ 0 → IsTallyOf [] first →

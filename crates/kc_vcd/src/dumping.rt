@@ -315,7 +315,7 @@ pub fn dump_run<S: Source + Drop>(
     source: S,
 ) -> Result<(S, Result<Vec<u8>, LivesFault>), NoMemory>
     requires { 1 ≤ clock }
-    ensures answer { IfOk result (λ r. IsDumped clock stimuli.entry values.entry (S.to_come source) r.1) }
+    ensures answer { IfOk result (λ r. IsDumped clock stimuli values (S.to_come source) r.1) }
     ensures faults { IfOk result (λ r. Counts (S.faults source) r.1 (S.faults r.0)) }
 {
     let shown = Shown::new(alloc, clock, &stimuli, values)?;
