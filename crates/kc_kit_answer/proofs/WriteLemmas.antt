@@ -60,6 +60,7 @@ by-behind old mid new ws us status.Input what all later h = absurd h
 by-behind old mid new ws us status.Link what all later h = absurd h
 by-behind old mid new ws us status.Undefined what all later h = absurd h
 by-behind old mid new ws us status.ReadFault what all later h = absurd h
+by-behind old mid new ws us status.Broken what all later h = absurd h
 
 by-prefix : (old new : Kept) (ws us : List Write) (given : Status) (what : Said) → given ≢ status.Done → AreWrittenBy old ws given what new → AreWrittenBy old (ws ++ us) given what new
 by-prefix old new ws us status.Done what is_not h = absurd (is_not refl)
@@ -72,6 +73,7 @@ by-prefix old new ws us status.Input what is_not h = absurd h
 by-prefix old new ws us status.Link what is_not h = absurd h
 by-prefix old new ws us status.Undefined what is_not h = absurd h
 by-prefix old new ws us status.ReadFault what is_not h = absurd h
+by-prefix old new ws us status.Broken what is_not h = absurd h
 
 -- some are written, and then others
 pub written-behind : (old mid new : Kept) (ws us : List Write) (first ended : Ended) → first.status ≡ status.Done → AreWritten old ws first mid → old.faults ≤ mid.faults → AreWritten mid us ended new → AreWritten old (ws ++ us) ended new
@@ -102,6 +104,7 @@ ends-by-written old new out ws status.Input what may m e h = absurd h
 ends-by-written old new out ws status.Link what may m e h = absurd h
 ends-by-written old new out ws status.Undefined what may m e h = absurd h
 ends-by-written old new out ws status.ReadFault what may m e h = absurd h
+ends-by-written old new out ws status.Broken what may m e h = absurd h
 
 pub ends-written : (old new : Kept) (out : Shown) (ws : List Write) (ended : Ended) (may : Response → Type 0) → may (done_writing ws) → AreWritten old ws ended new → EndsBy may old out ended.status ended.said new out
 ends-written old new out ws ended may m h = ends-by-written old new out ws ended.status ended.said may m h.silent h.written
