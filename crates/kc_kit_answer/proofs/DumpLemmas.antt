@@ -22,8 +22,8 @@ use Rattle.kc_kit_inputs.specs.declared.driving.Driving.{Driving}
 use Rattle.kc_kit_inputs.specs.Driving.{given_for, driving_of}
 use Rattle.kc_kit_inputs.specs.Responses.{unkept_response}
 use Rattle.kc_kit_answer.specs.declared.job.Job.{Job}
-use Rattle.kc_kit_answer.specs.Checking.{MayCheck, IsChecked}
-use Rattle.kc_kit_answer.specs.Dump.{dump_for, Dumped, DumpAnswer, IsDumpJob}
+use Rattle.kc_kit_answer.specs.Checking.{IsDumpJob, MayCheck, IsChecked}
+use Rattle.kc_kit_answer.specs.Dump.{dump_for, Dumped, DumpAnswer}
 use Rattle.kc_kit_answer.specs.Jobs.{IsPrepared}
 use Rattle.kc_kit_answer.proofs.AnswerSteps.{then-ok, then-err, prepared-widen}
 use Rattle.kc_kit_answer.proofs.TraceLemmas.{MayTrace, missed-whole, checked-whatever}

@@ -1,11 +1,12 @@
--- What a checked run leads to: its verdict is printed, or it is refused (this kit's own).
-use Rattle.std.specs.Prelude.{◌≡◌, ◌⊎◌, ℕ, List, codes, Option, Some, None, Result, Ok, Err}
+-- What a run leads to whose trace is read: its verdict is printed, its dump is written, or it is refused (this kit's own).
+use Rattle.std.specs.Prelude.{◌≡◌, ◌⊎◌, ℕ, List, [], ◌∷◌, codes, Option, Some, None, Result, Ok, Err}
+use Rattle.std.specs.Global.{Vec}
 use Rattle.kc_events.specs.declared.lives.LivesFault.{LivesFault}
 use Rattle.kc_events.specs.declared.lives.LivesFault.TheVariants as faults
 use Rattle.kc_kit_files.specs.declared.refusal.Refusal.{Refusal}
 use Rattle.kc_kit_files.specs.declared.refusal.Refusal.TheVariants as refusals
 use Rattle.kc_kit_files.specs.Reads.{read_response}
-use Rattle.kc_kit_files.specs.Response.{Response}
+use Rattle.kc_kit_files.specs.Response.{Response, write, done_writing}
 use Rattle.kc_kit_inputs.specs.Responses.{unkept_response}
 use Rattle.kc_kit_verdict.specs.declared.verdict.Verdict.{Verdict}
 use Rattle.kc_kit_answer.specs.declared.job.Job.{Job}
@@ -18,6 +19,13 @@ IsVerdictJob name (Ok verdict) given = given ≡ Ok (job.Report verdict)
 IsVerdictJob name (Err (faults.BadTrace line)) given = IsPrepared (λ response. response ≡ unkept_response name line (codes "BADTRACE")) given
 IsVerdictJob name (Err faults.Failed) given = IsPrepared (λ response. response ≡ read_response name) given
 IsVerdictJob name (Err faults.NoMemory) given = given ≡ Err refusals.NoMemory
+
+-- the same where a dump is to be written to this file
+abbrev pub IsDumpJob : List ℕ → List ℕ → Result (Vec ℕ) LivesFault → Result Job Refusal → Type 0
+IsDumpJob name out (Ok dump) given = IsPrepared (λ response. response ≡ done_writing (write out dump.items ∷ [])) given
+IsDumpJob name out (Err (faults.BadTrace line)) given = IsPrepared (λ response. response ≡ unkept_response name line (codes "BADTRACE")) given
+IsDumpJob name out (Err faults.Failed) given = IsPrepared (λ response. response ≡ read_response name) given
+IsDumpJob name out (Err faults.NoMemory) given = given ≡ Err refusals.NoMemory
 
 -- what is answered where a trace is open: by its text, where that is known; or a read of it has failed
 abbrev pub MayCheck : List ℕ → Type 0 → (List ℕ → Response → Type 0) → List ℕ → Response → Type 0

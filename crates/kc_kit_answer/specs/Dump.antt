@@ -1,27 +1,19 @@
 -- The command that writes a run as a value change dump (this kit's own). What drives the inputs is read whole; the trace comes last, and
 -- is read once, line by line, whatever its length.
-use Rattle.std.specs.Prelude.{◌≡◌, ℕ, List, [], ◌∷◌, codes, length, drop, Option, Result, Ok, Err}
-use Rattle.std.specs.Global.{Vec}
+use Rattle.std.specs.Prelude.{◌≡◌, ℕ, List, [], ◌∷◌, length, drop, Option, Result}
 use Rattle.std.specs.Result.{IsOk}
 use Rattle.kc_events.specs.declared.line.Line.{Line}
-use Rattle.kc_events.specs.declared.lives.LivesFault.{LivesFault}
-use Rattle.kc_events.specs.declared.lives.LivesFault.TheVariants.{BadTrace, Failed, NoMemory}
 use Rattle.kc_events.specs.Steps.{steps_of}
 use Rattle.kc_vcd.specs.Dump.{shown_of, dump_of}
-use Rattle.kc_kit_files.specs.declared.refusal.Refusal.{Refusal}
-use Rattle.kc_kit_files.specs.declared.refusal.Refusal.TheVariants as refusal
-use Rattle.kc_kit_files.specs.Reads.{reads_of, read_response}
+use Rattle.kc_kit_files.specs.Reads.{reads_of}
 use Rattle.kc_kit_files.specs.Response.{Response, write, done_writing, Then}
 use Rattle.kc_kit_words.specs.declared.inputs.Role.{Role}
 use Rattle.kc_kit_words.specs.Commands.{names_of}
 use Rattle.kc_kit_inputs.specs.declared.driving.Driving.{Driving}
 use Rattle.kc_kit_inputs.specs.Driving.{given_for, driving_of}
-use Rattle.kc_kit_inputs.specs.Responses.{unkept_response}
 use Rattle.kc_kit_inputs.specs.Runs.{RunIs, IsRunText}
-use Rattle.kc_kit_answer.specs.declared.job.Job.{Job}
 use Rattle.kc_kit_answer.specs.Accepting.{Accepting}
 use Rattle.kc_kit_answer.specs.Check.{TraceThen, IsTraceHeld}
-use Rattle.kc_kit_answer.specs.Jobs.{IsPrepared}
 
 -- ---- what is answered of a run
 
@@ -59,11 +51,3 @@ abbrev pub DumpAccepted : List ℕ → List (Role × List ℕ) → List (Option 
 DumpAccepted trace inputs contents =
     Accepting (λ texts. IsTraceHeld trace (λ printed. IsDumpable inputs printed texts) (drop (length (names_of inputs)) contents))
     (reads_of (names_of inputs) contents)
-
--- ---- the job that a run comes to: its dump is written, or the run could not be told to its end; memory may have run out
-
-abbrev pub IsDumpJob : List ℕ → List ℕ → Result (Vec ℕ) LivesFault → Result Job Refusal → Type 0
-IsDumpJob trace out (Ok dump) result = IsPrepared (λ response. response ≡ done_writing (write out dump.items ∷ [])) result
-IsDumpJob trace out (Err (BadTrace line)) result = IsPrepared (λ response. response ≡ unkept_response trace line (codes "BADTRACE")) result
-IsDumpJob trace out (Err Failed) result = IsPrepared (λ response. response ≡ read_response trace) result
-IsDumpJob trace out (Err NoMemory) result = result ≡ Err refusal.NoMemory

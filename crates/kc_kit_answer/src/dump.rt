@@ -5,8 +5,8 @@ ghost use Rattle.kc_kit_files.specs.Outside.{OnlyRead};
 ghost use Rattle.kc_kit_files.specs.Reads.{AllShort};
 ghost use Rattle.kc_kit_words.specs.Asked.{asked, IsWithin};
 ghost use Rattle.kc_kit_words.specs.Inputs.{inputs_in};
-ghost use Rattle.kc_kit_answer.specs.Checking.{IsChecked, MayCheck};
-ghost use Rattle.kc_kit_answer.specs.Dump.{DumpAnswer, IsDumpJob};
+ghost use Rattle.kc_kit_answer.specs.Checking.{IsChecked, IsDumpJob, MayCheck};
+ghost use Rattle.kc_kit_answer.specs.Dump.{DumpAnswer};
 ghost use Rattle.kc_kit_answer.specs.Jobs.{Prepares};
 
 use crate::job::Job;
