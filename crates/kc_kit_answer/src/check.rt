@@ -84,7 +84,7 @@ fn verdict_job<'a>(
     name: &str,
     verdict: Result<Verdict, LivesFault>,
 ) -> Result<Job<'a>, Refusal>
-    ensures { IsVerdictJob name.now verdict.entry result }
+    ensures { IsVerdictJob name.now verdict result }
 {
     match verdict {
         Ok(verdict) => Ok(Job::Report { verdict }),

@@ -74,7 +74,7 @@ fn dump_job<'a>(
     dump: &Dump<'a>,
     made: Result<Vec<u8>, LivesFault>,
 ) -> Result<Job<'a>, Refusal>
-    ensures { IsDumpJob dump.now.trace.now dump.now.out.now made.entry result }
+    ensures { IsDumpJob dump.now.trace.now dump.now.out.now made result }
 {
     match made {
         Ok(bytes) => Ok(Job::Write {
