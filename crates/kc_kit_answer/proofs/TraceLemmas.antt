@@ -1,12 +1,15 @@
 -- A trace that is read last: the files before it, and what may be answered of what its name holds.
 use Rattle.std.specs.Prelude.{length, drop}
-use Rattle.std.proofs.Common.{◌≡◌, ◌≢◌, ◌⊎◌, inl, inr, ℕ, suc, ◌+◌, ◌≤◌, List, [], ◌∷◌, ◌++◌, map, Option, Some, None, Result, Ok, Err, refl, sym, ◌∙◌, ap, subst, arith}
+use Rattle.std.proofs.Common.{◌≡◌, ◌≢◌, ◌⊎◌, inl, inr, ℕ, suc, ◌+◌, ◌<◌, ◌≤◌, List, [], ◌∷◌, ◌++◌, map, Option, Some, None, Result, Ok, Err, refl, sym, ◌∙◌, ap, subst, arith}
 use Rattle.std.specs.Result.{IsOk}
 use Rattle.std.proofs.Math.Seq.{drop-append_seam}
 use Rattle.std.proofs.lemmas.List.{length-append, length-map}
 use Rattle.kc_base.specs.Held.{Holding, Reported}
 use Rattle.kc_base.specs.declared.files.FileFault.{FileFault}
 use Rattle.kc_base.specs.declared.files.FileFault.TheVariants as fault
+use Rattle.kc_base.specs.Causes.{Rose}
+use Rattle.kc_events.specs.declared.lives.LivesFault.{LivesFault}
+use Rattle.kc_events.specs.declared.lives.LivesFault.TheVariants.{Failed}
 use Rattle.kc_kit_files.specs.declared.refusal.Refusal.{Refusal}
 use Rattle.kc_kit_files.specs.Response.{Response, before, Then, IsRefused}
 use Rattle.kc_kit_files.specs.Reads.{reads_of, text_of, missing_response, read_response, FailedRead, Holds, MissedRead, AllShort, AreHeld, IsUnread}
@@ -74,6 +77,14 @@ holds-count : (reported : Option Holding) (names : List (List ℕ)) (contents : 
 holds-count None names contents h = h
 holds-count (Some held) names contents h = ap length h ∙ length-map names held
 
+-- a file that could not be opened
+abbrev pub failed-open : {S : Type 0} → FileFault → Result S FileFault
+failed-open why = Err why
+
+-- a source that counts no fault before its reads counts one where a read has failed
+pub counts-failed : {A : Type 0} (before now : ℕ) (result : Result A LivesFault) → (result ≡ Err Failed → Rose before now) → before ≡ 0 → result ≡ Err Failed → 0 < now
+counts-failed before now result h calm e = let rose : 1 ≤ now = subst (λ n. Rose n now) calm (h e) in omega (arith, rose)
+
 -- ---- what may be answered where these names are read whole and a trace comes behind them
 
 module _ (trace : List ℕ) (whole : List (List ℕ)) (answer : List ℕ → List (List ℕ) → Response → Type 0) where
@@ -132,6 +143,17 @@ module _ (trace : List ℕ) (whole : List (List ℕ)) (answer : List ℕ → Lis
       by fault.TooLong none short failed r u = absurd (short refl)
       by fault.Failed none short failed r u = read-failed reported rose texts (content_of reported trace) r h (held-content reported) (failed refl) u
       by fault.NoMemory none short failed r u = absurd u
+
+  -- the same by what opening it reports, where the files stayed since the names were read
+  pub trace-missed : {S : Type 0} (reported mid : Option Holding) (rose later : Type 0) (texts : List (List ℕ)) (why : FileFault) (refusal : Refusal) → AreHeld reported whole texts → mid ≡ reported → (rose → later) →
+      Reported mid (λ held. failed-open {S} why ≡ Err fault.Missing → held trace ≡ None) → failed-open {S} why ≢ Err fault.TooLong → (failed-open {S} why ≡ Err fault.Failed → rose) →
+      IsRefused (IsUnread trace why) refusal → IsRefused (MayTrace reported later) refusal
+  trace-missed {S} reported mid rose later texts why refusal h same f none short failed refused =
+      trace-unread reported later texts why refusal h (subst (λ r. Reported r (λ held. why ≡ fault.Missing → held trace ≡ None)) same (missing mid none)) (λ e. short (ap Err e)) (λ e. f (failed (ap Err e))) refused
+    where
+      missing : (mid : Option Holding) → Reported mid (λ held. failed-open {S} why ≡ Err fault.Missing → held trace ≡ None) → Reported mid (λ held. why ≡ fault.Missing → held trace ≡ None)
+      missing None none = tt
+      missing (Some held) none = λ e. none (ap Err e)
 
   -- the trace is open, and this is answered by its text
   pub trace-open : (reported : Option Holding) (rose later : Type 0) (texts : List (List ℕ)) (left : Option (List ℕ)) (given : Result Job Refusal) → AreHeld reported whole texts → (rose → later) →

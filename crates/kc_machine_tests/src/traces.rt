@@ -1,5 +1,5 @@
 // What traces report, a row each: lines and steps are separated by `/`.
-use kc_base::{Level, PIN_COUNT, Pin};
+use kc_base::{FILE_LIMIT, Level, PIN_COUNT, Pin};
 use kc_byte_source::MemSource;
 use kc_events::{Lives, LivesFault, Step};
 use kc_life::{Signal, What};
@@ -125,7 +125,11 @@ fn put_step(
 
 // The steps of a trace that a source gives in pieces, whose second read fails; or the line that is refused.
 fn reported(alloc: Global, trace: &str, stim: &str, piece: usize) -> Result<String, Fail> {
-    let stimuli = Stimuli::read(alloc, &lines_of(alloc, stim)?);
+    let text = lines_of(alloc, stim)?;
+    if text.len() > FILE_LIMIT {
+        return Err(Fail::from("too long"));
+    }
+    let stimuli = Stimuli::read(alloc, &text);
     let stimuli = stimuli.ok().ok_or("no stimuli")?;
     let failing = Vec::from_slice(alloc, &[2])?;
     let source = MemSource::new(lines_of(alloc, trace)?, piece, failing);
