@@ -1,1 +1,4 @@
-mod Pieces
+pub mod Pieces
+pub mod Samples
+pub mod Written
+pub mod Told

@@ -30,9 +30,10 @@ pub record Run : Type 0 where
   pub clock : ℕ
 
 pub record IsShownRun (run : Run) : Type 0 where
-  pub run : IsRun (start_place 0) run.lines
+  pub whole : IsRun (start_place 0) run.lines
   pub order : IsNonDecreasingBy (λ s. s.at) run.samples
   pub small : All (λ s. s.value ≤ 1023) run.samples
+  pub channels : All (λ s. s.channel < channel_count) run.samples
   pub goes : 1 ≤ run.clock
   pub slow : run.clock ≤ 2000000000000
 
@@ -48,7 +49,7 @@ begin_of count lives = sum (map (λ life. life.last + 1) (take count lives))
 
 -- the life behind so many others, and a state of it
 pub record IsIn (count : ℕ) (life : Life) (t : ℕ) (run : Run) : Type 0 where
-  pub life : slice_get (lives_in run) count ≡ Some life
+  pub place : slice_get (lives_in run) count ≡ Some life
   pub state : t ≤ life.last
 
 -- when that state begins, in picoseconds
