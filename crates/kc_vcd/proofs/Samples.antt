@@ -1,5 +1,5 @@
 -- Values of the analogue inputs up to a state, and behind it.
-use Rattle.std.proofs.Common.{◌≡◌, ℕ, zero, suc, ◌+◌, ◌-◌, ◌<◌, ◌≤◌, Bool, true, false, ltb, leb, filter, Some, None, List, [], ◌∷◌, length, drop, refl, sym, ap, subst, ◌∙◌, arith}
+use Rattle.std.proofs.Common.{◌≡◌, ℕ, zero, suc, ◌+◌, ◌-◌, ◌<◌, ◌≤◌, Bool, true, false, cond, ltb, leb, filter, Some, None, List, [], ◌∷◌, length, drop, refl, sym, ap, subst, ◌∙◌, arith}
 use Rattle.std.specs.Prelude.{slice_get}
 use Rattle.std.specs.List.Sorted.{IsNonDecreasingBy}
 use Rattle.std.proofs.lemmas.Bool.{lt-leb, le-leb, lt-ltb, le-ltb, leb-true, leb-false, ltb-true, ltb-false}
@@ -52,9 +52,9 @@ all_behind at [] none = refl
 all_behind at (s ∷ samples) none = by_test (all_behind at samples) (leb s.at at) refl
   where
     by_test : (up_to (λ x. x.at) at samples ≡ [] → after at samples ≡ samples) → (b : Bool) → leb s.at at ≡ b → after at (s ∷ samples) ≡ s ∷ samples
-    by_test others true on = absurd (let some : s ∷ up_to (λ x. x.at) at samples ≡ [] = rw (sym on) none in cc)
+    by_test others true on = absurd (let some : s ∷ up_to (λ x. x.at) at samples ≡ [] = subst (λ b. cond b (s ∷ up_to (λ x. x.at) at samples) (up_to (λ x. x.at) at samples) ≡ []) on none in cc)
     by_test others false off =
-        let rest : up_to (λ x. x.at) at samples ≡ [] = rw (sym off) none in
+        let rest : up_to (λ x. x.at) at samples ≡ [] = subst (λ b. cond b (s ∷ up_to (λ x. x.at) at samples) (up_to (λ x. x.at) at samples) ≡ []) off none in
         rw (lt-ltb at s.at (leb-false s.at at off)) (ap (λ (more : List Sample). s ∷ more) (others rest))
 
 pub taken_sooner : (at : ℕ) (s : Sample) (samples : List Sample) → s.at ≤ at → up_to (λ x. x.at) at (s ∷ samples) ≡ s ∷ up_to (λ x. x.at) at samples
