@@ -9,9 +9,9 @@ use Rattle.kc_events.specs.Grammar.{start_place}
 use Rattle.kc_events.specs.Steps.{Seen}
 use Rattle.kc_events.specs.Reporting.{Reporting, AreToCome, AreStepsOf, IsBehind, IsFirstWrongIn, IsWrongAt}
 use Rattle.kc_vcd.specs.Changes.{changes_by, end_by}
-use Rattle.kc_vcd.specs.Dump.{Shown, shown_of, dump_of}
+use Rattle.kc_vcd.specs.Dump.{shown_of, dump_of}
 use Rattle.kc_vcd.specs.Dumped.{IsDumped, IfWrong, Counts}
-use Rattle.kc_vcd.specs.Writing.{Written, start_of, with_steps, HasTold}
+use Rattle.kc_vcd.specs.Writing.{Kept, shown_in, Written, start_of, with_steps, HasTold}
 use Rattle.kc_vcd.proofs.Written.{told_none, told_more}
 
 -- the steps that have passed were told, and the source has not failed
@@ -42,15 +42,15 @@ pub all_steps : (old : Reporting) (v : Written) (mid : Reporting) (w : Written) 
 all_steps old v mid w h none = (h.passed, subst (λ all. AreToCome old all) (append-nil h.passed) (h.behind.steps [] none), h.told)
 
 -- the text of a dump to which all steps were told
-pub dumped_all : (shown : Shown) (v w : Written) (steps : List Seen) (text : List ℕ) → v ≡ start_of shown → HasTold v steps w → text ≡ with_steps w [] → text ≡ dump_of shown steps
+pub dumped_all : (shown : Kept) (v w : Written) (steps : List Seen) (text : List ℕ) → v ≡ start_of shown → HasTold v steps w → text ≡ with_steps w [] → text ≡ dump_of (shown_in shown) steps
 dumped_all shown v w steps text start told all =
     all ∙ told [] ∙ ap (with_steps v) (append-nil steps) ∙ ap (λ (u : Written). with_steps u steps) start
 
 -- ---- the run of a source
 
-pub run_dumped : (clock : ℕ) (drives : Drives) (samples : List Sample) (left : Option (List ℕ)) (t : Reporting) (shown : Shown) (result : Result (Vec ℕ) LivesFault) → shown ≡ shown_of clock drives samples →
+pub run_dumped : (clock : ℕ) (drives : Drives) (samples : List Sample) (left : Option (List ℕ)) (t : Reporting) (shown : Kept) (result : Result (Vec ℕ) LivesFault) → shown_in shown ≡ shown_of clock drives samples →
     ((steps : List Seen) → AreToCome t steps → AreStepsOf drives left steps) → ((line : ℕ) → IsWrongAt t line → IsFirstWrongIn (start_place 0) left 0 line) →
-    IfOk result (λ text. (steps : List Seen) × AreToCome t steps × (text.items ≡ dump_of shown steps)) → IfWrong result (IsWrongAt t) → IsDumped clock drives samples left result
+    IfOk result (λ text. (steps : List Seen) × AreToCome t steps × (text.items ≡ dump_of (shown_in shown) steps)) → IfWrong result (IsWrongAt t) → IsDumped clock drives samples left result
 run_dumped clock drives samples left t shown (Ok dump) is start wrong all fault =
     let are = start all.0 all.1 in
     record { lines = are.lines; spelled = are.text; run = are.run; dump = all.2 ∙ (λ i. dump_of (is i) (are.reported i)) }

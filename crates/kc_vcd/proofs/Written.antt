@@ -5,6 +5,8 @@ use Rattle.kc_base.specs.declared.types.Level.{Level}
 use Rattle.kc_base.specs.Series.{up_to}
 use Rattle.kc_life.specs.declared.life.Signal.{Signal}
 use Rattle.kc_life.specs.declared.life.What.{What}
+use Rattle.kc_life.specs.declared.levels.Levels.{Levels}
+use Rattle.kc_life.specs.Tables.{level_in}
 use Rattle.kc_convert.specs.declared.sample.Sample.{Sample}
 use Rattle.kc_events.specs.Lives.{levels_after}
 use Rattle.kc_events.specs.Steps.{Seen, Begins, Passes, Ends}
@@ -82,28 +84,28 @@ told_none w = λ more. refl
 pub told_more : (old mid new : Written) (first second : List Seen) → HasTold old first mid → HasTold mid second new → HasTold old (first ++ second) new
 told_more old mid new first second h k = λ more. k more ∙ h (second ++ more) ∙ ap (with_steps old) (sym (append_assoc first second more))
 
-pub told_begin : (old mid late : Written) (levels : Signal → Level) → HasChanged old (all_at old.base (beginning old.first)) mid → IsSameLife old mid →
-    HasChanged mid (all_at old.base (differences mid.shown.variables mid.levels levels)) late → IsSameLife mid late → HasTold old (Begins levels ∷ []) (record late { first = false; levels = levels })
+pub told_begin : (old mid late : Written) (levels : Levels) → HasChanged old (all_at old.base (beginning old.first)) mid → IsSameLife old mid →
+    HasChanged mid (all_at old.base (differences mid.shown.variables (level_in mid.levels) (level_in levels))) late → IsSameLife mid late → HasTold old (Begins (level_in levels) ∷ []) (record late { first = false; levels = levels })
 unfolding changes_by end_by
 told_begin old mid late levels first same second kept = λ more.
     let base : late.base ≡ old.base = kept.base ∙ same.base in
     let shown : late.shown ≡ old.shown = kept.shown ∙ same.shown in
     let end = end_by old.base more in
-    let rest = changes_by old.shown.variables false old.base levels more in
-    let apart = differences old.shown.variables old.levels levels in
-    (λ i. with_changes late (end_by (base i) more) (changes_by (shown i).variables false (base i) levels more))
+    let rest = changes_by old.shown.variables false old.base (level_in levels) more in
+    let apart = differences old.shown.variables (level_in old.levels) (level_in levels) in
+    (λ i. with_changes late (end_by (base i) more) (changes_by (shown i).variables false (base i) (level_in levels) more))
     ∙ second end rest
-    ∙ first end (all_at old.base (differences mid.shown.variables mid.levels levels) ++ rest)
-    ∙ (λ i. with_changes old end (all_at old.base (beginning old.first) ++ (all_at old.base (differences (same.shown i).variables (same.levels i) levels) ++ rest)))
+    ∙ first end (all_at old.base (differences mid.shown.variables (level_in mid.levels) (level_in levels)) ++ rest)
+    ∙ (λ i. with_changes old end (all_at old.base (beginning old.first) ++ (all_at old.base (differences (same.shown i).variables (level_in (same.levels i)) (level_in levels)) ++ rest)))
     ∙ ap (λ (all : List Timed). with_changes old end all) (sym (append_assoc (all_at old.base (beginning old.first)) (all_at old.base apart) rest))
     ∙ ap (λ (all : List Timed). with_changes old end (all ++ rest)) (sym (all_at-append old.base (beginning old.first) apart))
 
-pub told_pass : (old late : Written) (at : ℕ) (whats : List What) (levels : Signal → Level) → HasChanged old (all_at (later old.base at) (map change_by whats)) late → IsSameLife old late →
-    levels ≡ levels_after old.levels whats → HasTold old (Passes (record { at = at; whats = whats }) ∷ []) (record late { levels = levels })
+pub told_pass : (old late : Written) (at : ℕ) (whats : List What) (levels : Levels) → HasChanged old (all_at (later old.base at) (map change_by whats)) late → IsSameLife old late →
+    ((signal : Signal) → level_in levels signal ≡ levels_after (level_in old.levels) whats signal) → HasTold old (Passes (record { at = at; whats = whats }) ∷ []) (record late { levels = levels })
 unfolding changes_by end_by
 told_pass old late at whats levels changed same after = λ more.
-    (λ i. with_changes late (end_by (same.base i) more) (changes_by (same.shown i).variables (same.first i) (same.base i) (after i) more))
-    ∙ changed (end_by old.base more) (changes_by old.shown.variables old.first old.base (levels_after old.levels whats) more)
+    (λ i. with_changes late (end_by (same.base i) more) (changes_by (same.shown i).variables (same.first i) (same.base i) (λ signal. after signal i) more))
+    ∙ changed (end_by old.base more) (changes_by old.shown.variables old.first old.base (levels_after (level_in old.levels) whats) more)
 
 pub told_end : (old : Written) (last : ℕ) → HasTold old (Ends last ∷ []) (record old { base = behind old.base last })
 unfolding changes_by end_by

@@ -10,7 +10,7 @@ ghost use Rattle.kc_vcd.specs.declared.variable.Variable.TheVariants.{Wire};
 ghost use Rattle.kc_vcd.specs.Changes.{beginning, difference, differences, all_at, change_by as change_of, later as later_by, behind as state_behind, taken, before, after};
 ghost use Rattle.kc_vcd.specs.Dump.{dump_of};
 ghost use Rattle.kc_vcd.specs.Dumped.{IsDumped, IfWrong, Counts};
-ghost use Rattle.kc_vcd.specs.Writing.{start_of, with_steps, HasTold, HasPut, HasChanged, IsSameLife};
+ghost use Rattle.kc_vcd.specs.Writing.{shown_in, start_of, with_steps, HasTold, HasPut, HasChanged, IsSameLife};
 
 use crate::change::{Change, change_by, put_change};
 use crate::shown::Shown;
@@ -40,7 +40,6 @@ struct Writer<'a> {
 
 impl<'a> Model for Writer<'a> {
     ghost use Rattle.std.specs.Prelude.{◌≤◌, length, drop};
-    ghost use Rattle.kc_life.specs.Tables.{level_in};
     ghost use Rattle.kc_vcd.specs.Writing.{Written};
 
     ghost Value = { Written };
@@ -51,7 +50,7 @@ impl<'a> Model for Writer<'a> {
       stamped = w.stamped;
       base = w.base;
       first = w.is_first;
-      levels = level_in w.levels;
+      levels = w.levels;
       samples = drop w.taken w.shown.now.samples;
     } };
 
@@ -89,7 +88,8 @@ impl<'a> Writer<'a> {
         ensures samples { OnOk result (self.new.samples ≡ self.old.samples) }
         ensures same { OnOk result (IsSameLife self.old self.new) }
     {
-        put_stamp(&mut self.text, self.shown.length, self.stamped, at)?;
+        let shown = self.shown;
+        put_stamp(&mut self.text, shown.length, self.stamped, at)?;
         self.stamped = at;
         put_change(&mut self.text, change)
     }
@@ -103,7 +103,8 @@ impl<'a> Writer<'a> {
         ensures text { self.new.text ≡ self.old.text }
         ensures stamped { self.new.stamped ≡ self.old.stamped }
     {
-        match self.shown.values.samples().get(self.taken) {
+        let shown = self.shown;
+        match shown.values.samples().get(self.taken) {
             Some(sample) if sample.at <= at => {
                 self.taken += 1;
                 Some(*sample)
@@ -140,7 +141,7 @@ impl<'a> Writer<'a> {
         signal: Signal,
         levels: &Levels,
     ) -> Result<(), NoMemory>
-        ensures changed { OnOk result (HasChanged self.old (all_at at (difference self.old.levels (level_in levels.now) (Wire signal))) self.new) }
+        ensures changed { OnOk result (HasChanged self.old (all_at at (difference (level_in self.old.levels) (level_in levels.now) (Wire signal))) self.new) }
         ensures same { OnOk result (IsSameLife self.old self.new) }
     {
         let level = levels.level(signal);
@@ -157,7 +158,7 @@ impl<'a> Writer<'a> {
         variable: Variable,
         levels: &Levels,
     ) -> Result<(), NoMemory>
-        ensures changed { OnOk result (HasChanged self.old (all_at at (difference self.old.levels (level_in levels.now) variable)) self.new) }
+        ensures changed { OnOk result (HasChanged self.old (all_at at (difference (level_in self.old.levels) (level_in levels.now) variable)) self.new) }
         ensures same { OnOk result (IsSameLife self.old self.new) }
     {
         match variable {
@@ -169,10 +170,11 @@ impl<'a> Writer<'a> {
     // The levels of the signals that a life finds at others than those at the end of the life before it.
     #[tactic(auto, unfolding(crate::specs::Changes::differences))]
     fn change_levels(&mut self, at: StateTime, levels: &Levels) -> Result<(), NoMemory>
-        ensures changed { OnOk result (HasChanged self.old (all_at at (differences self.old.shown.variables self.old.levels (level_in levels.now))) self.new) }
+        ensures changed { OnOk result (HasChanged self.old (all_at at (differences self.old.shown.variables (level_in self.old.levels) (level_in levels.now))) self.new) }
         ensures same { OnOk result (IsSameLife self.old self.new) }
     {
-        let mut left = self.shown.variables.as_slice();
+        let shown = self.shown;
+        let mut left = shown.variables.as_slice();
         while let [variable, rest @ ..] = left {
             self.change_variable(at, *variable, levels)?;
             left = rest;
@@ -284,7 +286,7 @@ fn begun(alloc: Global, shown: &Shown) -> Result<Writer<'_>, NoMemory>
 
 // The text, once the run is over.
 fn ended(writer: Writer<'_>) -> Result<Vec<u8>, NoMemory>
-    ensures { IfOk result (λ text. text.items ≡ with_steps writer.entry []) }
+    ensures { IfOk result (λ text. text.items ≡ with_steps writer []) }
 {
     let mut writer = writer;
     writer.finish()?;
@@ -320,7 +322,7 @@ fn dump_of_lives<S: Source + Drop>(
     lives: &mut Lives<S>,
 ) -> Result<Vec<u8>, LivesFault>
     requires { lives.old.stopped ≡ None }
-    ensures dump { IfOk result (λ text. (steps : List Seen) × AreToCome lives.old steps × (text.items ≡ dump_of shown.now steps)) }
+    ensures dump { IfOk result (λ text. (steps : List Seen) × AreToCome lives.old steps × (text.items ≡ dump_of (shown_in shown.now) steps)) }
     ensures wrong { IfWrong result (IsWrongAt lives.old) }
     ensures faults { Counts lives.old.trace.faults result lives.new.trace.faults }
 {
@@ -348,7 +350,7 @@ pub fn dump_run<S: Source + Drop>(
     source: S,
 ) -> Result<(S, Result<Vec<u8>, LivesFault>), NoMemory>
     requires { 1 ≤ clock }
-    ensures answer { IfOk result (λ r. IsDumped clock stimuli.entry values.entry (S.to_come source) r.1) }
+    ensures answer { IfOk result (λ r. IsDumped clock stimuli values (S.to_come source) r.1) }
     ensures faults { IfOk result (λ r. Counts (S.faults source) r.1 (S.faults r.0)) }
 {
     let shown = Shown::new(alloc, clock, &stimuli, values)?;

@@ -3,6 +3,7 @@ ghost use Rattle.std.specs.Prelude.{◌≡◌, ◌≤◌, ◌++◌, ◌∷◌, [
 ghost use Rattle.kc_life.specs.Tables.{level_in};
 ghost use Rattle.kc_base.specs.Pins.{pin_count};
 ghost use Rattle.kc_vcd.specs.Variables.{outputs, inputs, channels, entries, transfers, variables_of, has_value as value_stands, IsVariable, channel_count, entry_count, transfer_count};
+ghost use Rattle.kc_vcd.specs.Writing.{shown_in};
 ghost use Rattle.kc_vcd.specs.Dump.{state_length as picoseconds, shown_of, prefix as prefix_text, declarations, start_line, start_lines};
 
 use crate::variable::Variable;
@@ -43,13 +44,12 @@ pub(crate) struct Shown {
 
 impl Model for Shown {
     ghost use Rattle.std.specs.Prelude.{◌≤◌, All};
-    ghost use Rattle.kc_life.specs.Tables.{level_in};
     ghost use Rattle.kc_vcd.specs.Variables.{IsVariable};
-    ghost use Rattle.kc_vcd.specs.Dump.{Shown};
+    ghost use Rattle.kc_vcd.specs.Writing.{Kept};
 
-    ghost Value = { Shown };
+    ghost Value = { Kept };
 
-    ghost view = { λ s. record { variables = s.variables.items; start = level_in s.start; samples = s.values; length = s.length } };
+    ghost view = { λ s. record { variables = s.variables.items; start = s.start; samples = s.values; length = s.length } };
 
     ghost invariant = { λ s. All IsVariable s.variables.items × (s.length ≤ 2000000000000) };
 }
@@ -199,7 +199,7 @@ impl Shown {
         values: Analog,
     ) -> Result<Shown, NoMemory>
         requires { 1 ≤ clock }
-        ensures { IfOk result (λ shown. shown ≡ shown_of clock stimuli.now values.entry) }
+        ensures { IfOk result (λ shown. shown_in shown ≡ shown_of clock stimuli.now values) }
     {
         Ok(Shown {
             variables: variables_in(alloc, stimuli, values.samples())?,
@@ -211,7 +211,7 @@ impl Shown {
 
     /// Puts the declarations, and the levels before state 0.
     pub(crate) fn put_prefix(&self, text: &mut Vec<u8>) -> Result<(), NoMemory>
-        ensures { OnOk result (text.new.items ≡ text.old.items ++ prefix_text self.now) }
+        ensures { OnOk result (text.new.items ≡ text.old.items ++ prefix_text (shown_in self.now)) }
     {
         put(text, HEAD)?;
         put_declarations(text, self.variables.as_slice())?;
