@@ -91,7 +91,8 @@ impl<'a> Writer<'a> {
         let shown = self.shown;
         put_stamp(&mut self.text, shown.length, self.stamped, at)?;
         self.stamped = at;
-        put_change(&mut self.text, change)
+        put_change(&mut self.text, change)?;
+        Ok(())
     }
 
     // The next value of an analogue input, where it comes up to a state of the run.
@@ -131,7 +132,8 @@ impl<'a> Writer<'a> {
         ensures same { OnOk result (IsSameLife self.old self.new) }
     {
         self.put_values(at)?;
-        self.put(at, change)
+        self.put(at, change)?;
+        Ok(())
     }
 
     // The level of a signal, where it has another one than at the end of the last state.
@@ -148,7 +150,8 @@ impl<'a> Writer<'a> {
         if is_same(self.levels.level(signal), level) {
             return Ok(());
         }
-        self.change(at, Change::Moves(signal, level))
+        self.change(at, Change::Moves(signal, level))?;
+        Ok(())
     }
 
     // The level of a variable, where it is one of a signal that has another one than at the end of the last state.
@@ -190,7 +193,8 @@ impl<'a> Writer<'a> {
         if self.is_first {
             return Ok(());
         }
-        self.change(at, Change::Happens(Variable::Life))
+        self.change(at, Change::Happens(Variable::Life))?;
+        Ok(())
     }
 
     // A life begins, with these levels before its state 0.
@@ -254,7 +258,8 @@ impl<'a> Writer<'a> {
         if end == 0 {
             return Ok(());
         }
-        self.put_values(end - 1)
+        self.put_values(end - 1)?;
+        Ok(())
     }
 
     // The end of the run, with the values before it.
@@ -263,7 +268,8 @@ impl<'a> Writer<'a> {
     {
         let base = self.base;
         self.put_before(base)?;
-        self.put(base, Change::Unseen)
+        self.put(base, Change::Unseen)?;
+        Ok(())
     }
 }
 
@@ -286,7 +292,7 @@ fn begun(alloc: Global, shown: &Shown) -> Result<Writer<'_>, NoMemory>
 
 // The text, once the run is over.
 fn ended(writer: Writer<'_>) -> Result<Vec<u8>, NoMemory>
-    ensures { IfOk result (λ text. text.items ≡ with_steps writer []) }
+    ensures { IfOk result (λ text. text.items ≡ with_steps writer.entry []) }
 {
     let mut writer = writer;
     writer.finish()?;
