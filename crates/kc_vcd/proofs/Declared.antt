@@ -1,5 +1,5 @@
 -- The variables of a dump are such as a dump may have.
-use Rattle.std.proofs.Common.{◌≡◌, ℕ, zero, suc, ◌+◌, ◌<◌, Bool, true, false, cond, List, [], ◌∷◌, ◌++◌, All, flat_map, sym, ap, subst, ◌∙◌, add-one, arith}
+use Rattle.std.proofs.Common.{◌≡◌, ℕ, zero, suc, ◌+◌, ◌<◌, Bool, true, false, cond, List, [], ◌∷◌, ◌++◌, All, flat_map, sym, ap, subst, ◌∙◌, append_assoc, arith}
 use Rattle.std.specs.List.{range_with_len}
 use Rattle.std.proofs.lemmas.List.Elements.{All-nil, All-cons, All-append}
 use Rattle.kc_base.specs.Pins.{pin_count, is_printed}
@@ -53,3 +53,11 @@ variables_known d samples =
     let e = All-append IsVariable (outputs pin_count ++ inputs d pin_count ++ channels samples channel_count ++ entries entry_count) (transfers transfer_count) c transfers_known in
     All-append IsVariable (outputs pin_count ++ inputs d pin_count ++ channels samples channel_count ++ entries entry_count ++ transfers transfer_count) (Undefined ∷ Life ∷ []) e
     (All-cons IsVariable Undefined (Life ∷ []) tt (one Life tt))
+
+pub all_put : (d : Drives) (samples : List Sample) (a b c e f g h : List Variable) → a ≡ [] ++ outputs pin_count → b ≡ a ++ inputs d pin_count → c ≡ b ++ channels samples channel_count → e ≡ c ++ entries entry_count →
+    f ≡ e ++ transfers transfer_count → g ≡ f ++ Undefined ∷ [] → h ≡ g ++ Life ∷ [] → All IsVariable h
+all_put d samples a b c e f g h ia ib ic ie if' ig ih =
+    let five : f ≡ outputs pin_count ++ inputs d pin_count ++ channels samples channel_count ++ entries entry_count ++ transfers transfer_count =
+    if' ∙ ap (λ (t : List Variable). t ++ transfers transfer_count) (ie ∙ ap (λ (t : List Variable). t ++ entries entry_count) (ic ∙ ap (λ (t : List Variable). t ++ channels samples channel_count) (ib ∙ ap (λ (t : List Variable). t ++ inputs d pin_count) ia))) in
+    let whole : h ≡ variables_of d samples = ih ∙ ap (λ (t : List Variable). t ++ Life ∷ []) ig ∙ append_assoc f (Undefined ∷ []) (Life ∷ []) ∙ ap (λ (t : List Variable). t ++ Undefined ∷ Life ∷ []) five in
+    subst (λ vs. All IsVariable vs) (sym whole) (variables_known d samples)

@@ -1,5 +1,5 @@
 -- What a reader knows of a whole dump.
-use Rattle.std.proofs.Common.{◌≡◌, ℕ, zero, suc, ◌+◌, ◌*◌, ◌<◌, ◌≤◌, ltb, Bool, true, false, cond, ◌&&◌, ◌⊎◌, inl, inr, Option, Some, None, List, [], ◌∷◌, ◌++◌, codes, map, flat_map, refl, sym, ap, subst, ◌∙◌, append_assoc, mul-zero, arith}
+use Rattle.std.proofs.Common.{◌≡◌, ℕ, zero, suc, ◌+◌, ◌*◌, ◌%◌, ◌<◌, ◌≤◌, ltb, Bool, true, false, cond, ◌&&◌, ◌⊎◌, inl, inr, Option, Some, None, List, [], ◌∷◌, ◌++◌, codes, map, flat_map, refl, sym, ap, subst, ◌∙◌, append_assoc, mul-zero, arith}
 use Rattle.std.specs.Prelude.{slice_index}
 use Rattle.std.specs.Str.{bytes_eq}
 use Rattle.std.proofs.lemmas.Bool.{and_parts, ltb-true}
@@ -30,7 +30,7 @@ from_code v = code_of v ∷ 32 ∷ (name_of v ++ codes " $end")
 abbrev declared : Variable → List ℕ
 declared v = before_code v ++ from_code v
 
-is_plain : List ℕ → Bool
+abbrev is_plain : List ℕ → Bool
 is_plain [] = true
 is_plain (c ∷ cs) = ltb 13 c && is_plain cs
 

@@ -1,5 +1,5 @@
 -- Lists that grow by a piece.
-use Rattle.std.proofs.Common.{◌≡◌, ℕ, zero, suc, ◌+◌, List, [], ◌∷◌, ◌++◌, flat_map, All, refl, ap, ◌∙◌, append-nil, add-one, arith}
+use Rattle.std.proofs.Common.{◌≡◌, ℕ, zero, suc, ◌+◌, ◌-◌, ◌≤◌, length, take, drop, take_all, get_or, sym, subst, append_assoc, List, [], ◌∷◌, ◌++◌, flat_map, All, refl, ap, ◌∙◌, append-nil, add-one, arith}
 use Rattle.std.specs.List.{range_with_len}
 use Rattle.std.proofs.lemmas.Grind.{flat_map-append}
 use Rattle.std.proofs.lemmas.List.Elements.{All-tail}
@@ -7,7 +7,8 @@ use Rattle.kc_stim.specs.Drives.{Drives}
 use Rattle.kc_convert.specs.declared.sample.Sample.{Sample}
 use Rattle.kc_vcd.specs.declared.variable.Variable.{Variable}
 use Rattle.kc_vcd.specs.declared.variable.Variable.TheVariants.{Entry, Transfer}
-use Rattle.kc_vcd.specs.Variables.{IsVariable, output_at, outputs, input_at, inputs, channel_at, channels, entries, transfers}
+use Rattle.kc_vcd.specs.Variables.{IsVariable,  output_at, outputs, input_at, inputs, channel_at, channels, entries, transfers}
+use Rattle.kc_vcd.specs.Dump.{declaration, declarations}
 
 -- a range with one number more
 range-more : (a n : ℕ) → range_with_len a (n + 1) ≡ range_with_len a n ++ (a + n) ∷ []
@@ -64,3 +65,14 @@ transfers-more n = pieces-more (λ number. Transfer number ∷ []) n
 
 pub known_rest : (v : Variable) (vs : List Variable) → All IsVariable (v ∷ vs) → All IsVariable vs
 known_rest v vs all = All-tail IsVariable v vs all
+
+pub declared_step : (first before now : List ℕ) (vs : List Variable) (d : Variable) → 1 ≤ length vs → now ≡ before ++ declaration (get_or vs 0 d) → before ++ declarations vs ≡ first →
+    now ++ declarations (take (length vs - 1) (drop 1 vs)) ≡ first
+unfolding declarations
+declared_step first before now [] d some put so_far = absurd (omega (arith, some))
+declared_step first before now (v ∷ vs) d some put so_far =
+    (λ i. put i ++ declarations (take_all (length (v ∷ vs) - 1) vs (omega arith) i)) ∙ append_assoc before (declaration v) (declarations vs) ∙ so_far
+
+pub known_step : (vs : List Variable) → 1 ≤ length vs → All IsVariable vs → All IsVariable (take (length vs - 1) (drop 1 vs))
+known_step [] some all = absurd (omega (arith, some))
+known_step (v ∷ vs) some all = subst (λ ws. All IsVariable ws) (sym (take_all (length (v ∷ vs) - 1) vs (omega arith))) (known_rest v vs all)

@@ -67,7 +67,7 @@ significant_digits (d ∷ e ∷ more) h = by_test (eqb d 48) (significant_digits
     by_test false rest = h
 
 digits_are : (value : ℕ) → Digits (digits value)
-digits_are value = (omega arith, omega arith, omega arith, omega arith, omega arith, omega arith, omega arith, omega arith, omega arith, omega arith, tt)
+digits_are value = (omega arith, (omega arith, (omega arith, (omega arith, (omega arith, (omega arith, (omega arith, (omega arith, (omega arith, (omega arith, tt))))))))))
 
 digits_word : (ds : List ℕ) → Digits ds → Word ds
 digits_word [] h = tt
@@ -187,5 +187,5 @@ module _ {A : Type 0} (wanted : Option ℕ → Bool) (by : List ℕ → A → A)
   changes_read before (c ∷ changes) a known =
       ap (reads before a) (texts-cons m before c changes ∙ append_assoc (stamp m before c.at) (change_text c.change) (texts m c.at changes))
       ∙ stamp_read before c.at a (change_text c.change ++ texts m c.at changes) known.0
-      ∙ change_read c.at c.change a (texts m c.at changes) known.1.0
-      ∙ changes_read c.at changes (cond (wanted (Some (m * c.at))) (effect c.change a) a) known.1.1
+      ∙ change_read c.at c.change a (texts m c.at changes) known.1
+      ∙ changes_read c.at changes (cond (wanted (Some (m * c.at))) (effect c.change a) a) known.2

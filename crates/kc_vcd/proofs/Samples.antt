@@ -1,6 +1,7 @@
 -- Values of the analogue inputs up to a state, and behind it.
-use Rattle.std.proofs.Common.{◌≡◌, ℕ, zero, suc, ◌+◌, ◌-◌, ◌<◌, ◌≤◌, Bool, true, false, cond, ltb, leb, filter, Some, None, List, [], ◌∷◌, length, drop, refl, sym, ap, subst, ◌∙◌, arith}
+use Rattle.std.proofs.Common.{◌≡◌, ℕ, zero, suc, ◌+◌, ◌-◌, ◌<◌, ◌≤◌, Bool, true, false, cond, ltb, leb, filter, Some, None, List, [], ◌∷◌, length, drop, Bor, slice_index_or, refl, sym, ap, subst, ◌∙◌, arith}
 use Rattle.std.specs.Prelude.{slice_get}
+use Rattle.core.specs.Slice.{IsItemAt}
 use Rattle.std.specs.List.Sorted.{IsNonDecreasingBy}
 use Rattle.std.proofs.lemmas.Bool.{lt-leb, le-leb, lt-ltb, le-ltb, leb-true, leb-false, ltb-true, ltb-false}
 use Rattle.kc_base.specs.Series.{up_to}
@@ -45,6 +46,14 @@ pub next_later : (samples : List Sample) (n at : ℕ) (s : Sample) → InOrder s
 next_later samples n at s order is less =
     let there = next_there samples n s is in
     ap (up_to (λ x. x.at) at) there ∙ none_sooner at s (drop (n + 1) samples) (subst InOrder there (order_drop samples n order)) less
+
+there_held : (samples : List Sample) (n : ℕ) (s : Sample) → n < length samples → s ≡ slice_index_or samples n s → slice_get samples n ≡ Some s
+there_held [] n s less same = absurd (omega (arith, less))
+there_held (x ∷ samples) zero s less same = ap (λ y. Some y) (sym same)
+there_held (x ∷ samples) (suc n) s less same = there_held samples n s (omega (arith, less)) same
+
+pub next_held : (samples : List Sample) (n at : ℕ) (s : Bor Sample) → InOrder samples → IsItemAt samples n (Some s) → at < s.now.at → up_to (λ x. x.at) at (drop n samples) ≡ []
+next_held samples n at s order held less = next_later samples n at s.now order (there_held samples n s.now held.3.0 held.1) less
 
 -- where none is up to a state, all are behind it
 pub all_behind : (at : ℕ) (samples : List Sample) → up_to (λ s. s.at) at samples ≡ [] → after at samples ≡ samples

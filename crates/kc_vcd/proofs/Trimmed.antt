@@ -1,5 +1,5 @@
 -- Digits without the zeros in front.
-use Rattle.std.proofs.Common.{◌≡◌, ◌≢◌, ℕ, ◌<◌, Bool, true, false, List, [], ◌∷◌, length, refl, ap, arith}
+use Rattle.std.proofs.Common.{◌≡◌, ◌≢◌, ℕ, ◌-◌, ◌<◌, Bool, true, false, List, [], ◌∷◌, length, take, drop, take_all, get_or, refl, sym, ap, ◌∙◌, arith}
 use Rattle.std.proofs.lemmas.Bool.{ne_eqb}
 use Rattle.kc_vcd.specs.Dump.{significant}
 
@@ -22,3 +22,7 @@ pub skips : (d : ℕ) (ds : List ℕ) → d ≡ 48 → 0 < length ds → signifi
 unfolding significant
 skips d [] zero some = absurd (omega (arith, some))
 skips d (e ∷ ds) zero some = rw zero refl
+
+pub skip_step : (ds all : List ℕ) → get_or ds 0 0 ≡ 48 → 1 < length ds → significant ds ≡ significant all → significant (take (length ds - 1) (drop 1 ds)) ≡ significant all
+skip_step [] all zero some same = absurd (omega (arith, some))
+skip_step (d ∷ ds) all zero some same = ap significant (take_all (length (d ∷ ds) - 1) ds (omega arith)) ∙ skips d ds zero (omega (arith, some)) ∙ same

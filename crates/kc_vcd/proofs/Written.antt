@@ -1,5 +1,5 @@
 -- A dump that is written, one change behind the other.
-use Rattle.std.proofs.Common.{◌≡◌, ℕ, ◌≤◌, Bool, true, false, List, [], ◌∷◌, ◌++◌, map, refl, sym, ap, ◌∙◌, append_assoc, append-nil}
+use Rattle.std.proofs.Common.{◌≡◌, ℕ, ◌-◌, ◌<◌, ◌≤◌, length, take, drop, take_all, get_or, arith, Bool, true, false, List, [], ◌∷◌, ◌++◌, map, refl, sym, ap, ◌∙◌, append_assoc, append-nil}
 use Rattle.std.proofs.lemmas.List.{map-append}
 use Rattle.kc_base.specs.declared.types.Level.{Level}
 use Rattle.kc_base.specs.Series.{up_to}
@@ -75,6 +75,32 @@ same_life w = record { shown = refl; base = refl; first = refl; levels = refl }
 
 pub life_after : (a b c : Written) → IsSameLife a b → IsSameLife b c → IsSameLife a c
 life_after a b c h k = record { shown = k.shown ∙ h.shown; base = k.base ∙ h.base; first = k.first ∙ h.first; levels = k.levels ∙ h.levels }
+
+-- ---- levels that a life finds
+
+pub levels_step : (old mid new : Written) (vs : List Variable) (d : Variable) (at : ℕ) (now : Signal → Level) → 1 ≤ length vs → mid.levels ≡ old.levels →
+    HasChanged mid (all_at at (difference (level_in mid.levels) now (get_or vs 0 d))) new →
+    ((end : ℕ) (more : List Timed) → with_changes mid end (all_at at (differences vs (level_in old.levels) now) ++ more) ≡ with_changes old end (all_at at (differences old.shown.variables (level_in old.levels) now) ++ more)) →
+    (end : ℕ) (more : List Timed) → with_changes new end (all_at at (differences (take (length vs - 1) (drop 1 vs)) (level_in old.levels) now) ++ more)
+    ≡ with_changes old end (all_at at (differences old.shown.variables (level_in old.levels) now) ++ more)
+unfolding differences
+levels_step old mid new [] d at now some levels changed so_far = absurd (omega (arith, some))
+levels_step old mid new (v ∷ vs) d at now some levels changed so_far = λ end more.
+    let first = difference (level_in old.levels) now v in
+    let rest = differences vs (level_in old.levels) now in
+    (λ i. with_changes new end (all_at at (differences (take_all (length (v ∷ vs) - 1) vs (omega arith) i) (level_in old.levels) now) ++ more))
+    ∙ changed end (all_at at rest ++ more)
+    ∙ (λ i. with_changes mid end (all_at at (difference (level_in (levels i)) now v) ++ (all_at at rest ++ more)))
+    ∙ ap (λ (all : List Timed). with_changes mid end all) (sym (append_assoc (all_at at first) (all_at at rest) more))
+    ∙ ap (λ (all : List Timed). with_changes mid end (all ++ more)) (sym (all_at-append at first rest))
+    ∙ so_far end more
+
+pub levels_over : (old new : Written) (vs : List Variable) (at : ℕ) (now : Signal → Level) → length vs < 1 →
+    ((end : ℕ) (more : List Timed) → with_changes new end (all_at at (differences vs (level_in old.levels) now) ++ more) ≡ with_changes old end (all_at at (differences old.shown.variables (level_in old.levels) now) ++ more)) →
+    HasChanged old (all_at at (differences old.shown.variables (level_in old.levels) now)) new
+unfolding differences
+levels_over old new [] at now none so_far = so_far
+levels_over old new (v ∷ vs) at now none so_far = absurd (omega (arith, none))
 
 -- ---- steps
 
