@@ -54,10 +54,10 @@ variables_known d samples =
     All-append IsVariable (outputs pin_count ++ inputs d pin_count ++ channels samples channel_count ++ entries entry_count ++ transfers transfer_count) (Undefined ∷ Life ∷ []) e
     (All-cons IsVariable Undefined (Life ∷ []) tt (one Life tt))
 
-pub all_put : (d : Drives) (samples : List Sample) (a b c e f g h : List Variable) → a ≡ [] ++ outputs pin_count → b ≡ a ++ inputs d pin_count → c ≡ b ++ channels samples channel_count → e ≡ c ++ entries entry_count →
+pub all_put : (d : Drives) (samples : List Sample) (z a b c e f g h : List Variable) → z ≡ [] → a ≡ z ++ outputs pin_count → b ≡ a ++ inputs d pin_count → c ≡ b ++ channels samples channel_count → e ≡ c ++ entries entry_count →
     f ≡ e ++ transfers transfer_count → g ≡ f ++ Undefined ∷ [] → h ≡ g ++ Life ∷ [] → All IsVariable h
-all_put d samples a b c e f g h ia ib ic ie if' ig ih =
+all_put d samples z a b c e f g h none ia ib ic ie if' ig ih =
     let five : f ≡ outputs pin_count ++ inputs d pin_count ++ channels samples channel_count ++ entries entry_count ++ transfers transfer_count =
-    if' ∙ ap (λ (t : List Variable). t ++ transfers transfer_count) (ie ∙ ap (λ (t : List Variable). t ++ entries entry_count) (ic ∙ ap (λ (t : List Variable). t ++ channels samples channel_count) (ib ∙ ap (λ (t : List Variable). t ++ inputs d pin_count) ia))) in
+    if' ∙ ap (λ (t : List Variable). t ++ transfers transfer_count) (ie ∙ ap (λ (t : List Variable). t ++ entries entry_count) (ic ∙ ap (λ (t : List Variable). t ++ channels samples channel_count) (ib ∙ ap (λ (t : List Variable). t ++ inputs d pin_count) (ia ∙ ap (λ (t : List Variable). t ++ outputs pin_count) none)))) in
     let whole : h ≡ variables_of d samples = ih ∙ ap (λ (t : List Variable). t ++ Life ∷ []) ig ∙ append_assoc f (Undefined ∷ []) (Life ∷ []) ∙ ap (λ (t : List Variable). t ++ Undefined ∷ Life ∷ []) five in
     subst (λ vs. All IsVariable vs) (sym whole) (variables_known d samples)

@@ -76,3 +76,10 @@ declared_step first before now (v ∷ vs) d some put so_far =
 pub known_step : (vs : List Variable) → 1 ≤ length vs → All IsVariable vs → All IsVariable (take (length vs - 1) (drop 1 vs))
 known_step [] some all = absurd (omega (arith, some))
 known_step (v ∷ vs) some all = subst (λ ws. All IsVariable ws) (sym (take_all (length (v ∷ vs) - 1) vs (omega arith))) (known_rest v vs all)
+
+-- five pieces, one behind the other
+pub five_put : (old a b c d e one two three four five : List ℕ) → one ≡ old ++ a → two ≡ one ++ b → three ≡ two ++ c → four ≡ three ++ d → five ≡ four ++ e → five ≡ old ++ (a ++ b ++ c ++ d ++ e)
+five_put old a b c d e one two three four five ia ib ic id ie =
+    ie
+    ∙ ap (λ (t : List ℕ). t ++ e) (id ∙ ap (λ (t : List ℕ). t ++ d) (ic ∙ ap (λ (t : List ℕ). t ++ c) (ib ∙ ap (λ (t : List ℕ). t ++ b) ia ∙ append_assoc old a b) ∙ append_assoc old (a ++ b) c) ∙ append_assoc old (a ++ b ++ c) d)
+    ∙ append_assoc old (a ++ b ++ c ++ d) e

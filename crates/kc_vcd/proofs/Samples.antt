@@ -1,7 +1,7 @@
 -- Values of the analogue inputs up to a state, and behind it.
 use Rattle.std.proofs.Common.{◌≡◌, ℕ, zero, suc, ◌+◌, ◌-◌, ◌<◌, ◌≤◌, Bool, true, false, cond, ltb, leb, filter, Some, None, List, [], ◌∷◌, length, drop, Bor, slice_index_or, refl, sym, ap, subst, ◌∙◌, arith}
 use Rattle.std.specs.Prelude.{slice_get}
-use Rattle.core.specs.Slice.{IsItemAt}
+use Rattle.std.specs.Slice.{IsItemAt}
 use Rattle.std.specs.List.Sorted.{IsNonDecreasingBy}
 use Rattle.std.proofs.lemmas.Bool.{lt-leb, le-leb, lt-ltb, le-ltb, leb-true, leb-false, ltb-true, ltb-false}
 use Rattle.kc_base.specs.Series.{up_to}

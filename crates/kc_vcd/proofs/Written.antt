@@ -16,7 +16,7 @@ use Rattle.kc_vcd.specs.declared.variable.Variable.{Variable}
 use Rattle.kc_vcd.specs.Changes.{Timed, all_at, beginning, difference, differences, change_by, changes_by, end_by, later, behind, taken, before, after, with_values}
 use Rattle.kc_vcd.specs.Dump.{stamp, change_text, texts}
 use Rattle.kc_vcd.specs.Writing.{Written, with_changes, with_steps, HasPut, HasTold, HasChanged, IsSameLife}
-use Rattle.kc_vcd.proofs.Samples.{taken_sooner}
+use Rattle.kc_vcd.proofs.Samples.{taken_sooner, before_zero}
 
 -- ---- changes with their times
 
@@ -34,6 +34,9 @@ put_one old new c shown stamped text = λ more.
     ∙ ap (λ (t : List ℕ). t ++ texts old.shown.length c.at more) (append_assoc old.text (stamp old.shown.length old.stamped c.at) (change_text c.change))
     ∙ append_assoc old.text (stamp old.shown.length old.stamped c.at ++ change_text c.change) (texts old.shown.length c.at more)
     ∙ ap (λ (t : List ℕ). old.text ++ t) (sym (texts-cons old.shown.length old.stamped c more))
+
+pub put_zero : (w : Written) (end : ℕ) → end ≡ 0 → HasPut w (taken (before end w.samples)) w
+put_zero w end zero = λ more. ap (λ (xs : List Sample). w.text ++ texts w.shown.length w.stamped (taken xs ++ more)) (sym (ap (λ t. before t w.samples) zero ∙ before_zero w.samples))
 
 pub put_more : (old mid new : Written) (first second : List Timed) → HasPut old first mid → HasPut mid second new → HasPut old (first ++ second) new
 put_more old mid new first second h k = λ more.

@@ -1,0 +1,8 @@
+use Rattle.kc_vcd.proofs.Told.{run_dumped}
+use Rattle.kc_vcd.proofs.dumping.dump_run.Goals as goal
+
+pub returns-clause-answer : goal.returns-clause-answer
+returns-clause-answer g c =
+    let lives = c.in_ok-new-2.ensures in
+    run_dumped c.args.clock c.args.stimuli c.args.values (g.S.Source.to_come c.args.source) c.in_ok-new-2.field-0 c.in_ok-new.field-0 c.dump_of_lives.result
+    c.in_ok-new.ensures lives.steps lives.wrong c.dump_of_lives.ensures.dump c.dump_of_lives.ensures.wrong
