@@ -7,7 +7,7 @@ use Rattle.kc_stim.specs.Drives.{Drives}
 use Rattle.kc_convert.specs.declared.sample.Sample.{Sample}
 use Rattle.kc_vcd.specs.declared.variable.Variable.{Variable}
 use Rattle.kc_vcd.specs.declared.variable.Variable.TheVariants.{Entry, Transfer}
-use Rattle.kc_vcd.specs.Variables.{IsVariable,  output_at, outputs, input_at, inputs, channel_at, channels, entries, transfers}
+use Rattle.kc_vcd.specs.Variables.{IsVariable, output_at, outputs, input_at, inputs, channel_at, channels, entries, transfers}
 use Rattle.kc_vcd.specs.Dump.{declaration, declarations}
 
 -- a range with one number more

@@ -82,11 +82,7 @@ fn push_outputs(variables: &mut Vec<Variable>) -> Result<(), NoMemory>
 }
 
 // An input, where it is driven.
-fn push_input(
-    variables: &mut Vec<Variable>,
-    stimuli: &Stimuli,
-    pin: u8,
-) -> Result<(), NoMemory>
+fn push_input(variables: &mut Vec<Variable>, stimuli: &Stimuli, pin: u8) -> Result<(), NoMemory>
     ensures { OnOk result (variables.new.items ≡ variables.old.items ++ input_at stimuli.now pin) }
 {
     if !Pin(pin).is_input() || !stimuli.is_driven(Pin(pin)) {

@@ -18,6 +18,6 @@ returns-clause-put c = λ more.
     } in
     let now : Timed = record { at = c.args.at; change = c.args.change } in
     let text = c.in_ok-put_change.ensures
-        ∙ ap (λ t. t ++ change_text c.args.change) (c.in_ok-put_stamp.ensures ∙ ap (λ (k : Kept). c.self.inside.text.items ++ stamp k.length c.self.inside.stamped c.args.at) c.shown.view_is) in
+    ∙ ap (λ t. t ++ change_text c.args.change) (c.in_ok-put_stamp.ensures ∙ ap (λ (k : Kept). c.self.inside.text.items ++ stamp k.length c.self.inside.stamped c.args.at) c.shown.view_is) in
     put_one w (record w { text = c.put_change.new.text.items; stamped = c.args.at }) now refl refl text more
     ∙ ap (λ (v : Written). v.text ++ texts v.shown.length v.stamped (now ∷ more)) c.self.view_is
