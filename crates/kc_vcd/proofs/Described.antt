@@ -1,22 +1,23 @@
 -- What a reader knows of a whole dump.
-use Rattle.std.proofs.Common.{◌≡◌, ℕ, zero, suc, ◌+◌, ◌*◌, ◌%◌, ◌<◌, ◌≤◌, ltb, Bool, true, false, cond, ◌&&◌, ◌⊎◌, inl, inr, Option, Some, None, List, [], ◌∷◌, ◌++◌, codes, map, flat_map, refl, sym, ap, subst, ◌∙◌, append_assoc, mul-zero, arith}
+use Rattle.std.proofs.Common.{◌≡◌, ℕ, ◌+◌, ◌*◌, ◌%◌, ◌≤◌, ltb, Bool, true, false, cond, ◌&&◌, ◌⊎◌, inl, inr, Option, Some, None, List, [], ◌∷◌, ◌++◌, codes, map, flat_map, refl, sym, ap, ◌∙◌, append_assoc, mul-zero, arith}
 use Rattle.std.specs.Prelude.{slice_index}
 use Rattle.std.specs.Str.{bytes_eq}
 use Rattle.std.proofs.lemmas.Bool.{and_parts, ltb-true}
 use Rattle.kc_base.specs.TextLines.{text_lines}
 use Rattle.kc_base.specs.declared.types.Level.{Level}
-use Rattle.kc_base.proofs.Words.{Word, word-before, word-after, Plain, plain-word, plain_line}
+use Rattle.kc_base.proofs.Words.{word-before, word-after, Plain, plain-word, plain_line}
 use Rattle.kc_life.specs.declared.life.Signal.{Signal}
 use Rattle.kc_vcd.specs.declared.change.Change.{Change}
-use Rattle.kc_vcd.specs.declared.change.Change.TheVariants.{Moves, Takes, Happens, Unseen}
+use Rattle.kc_vcd.specs.declared.change.Change.TheVariants.{Moves, Takes, Unseen}
 use Rattle.kc_vcd.specs.declared.variable.Variable.{Variable}
 use Rattle.kc_vcd.specs.declared.variable.Variable.TheVariants.{Wire, Analog, Entry, Transfer, Undefined, Life}
 use Rattle.kc_vcd.specs.Variables.{name_of, code_of}
 use Rattle.kc_vcd.specs.Changes.{Timed}
 use Rattle.kc_vcd.specs.Dump.{Shown, type_of, declaration, declarations, change_text, start_line, start_lines, head, head_end, prefix, texts}
-use Rattle.kc_vcd.specs.Reader.{word, declares, code_in, time_by}
-use Rattle.kc_vcd.proofs.Known.{IsKnown, code_high, name_same, name_word}
-use Rattle.kc_vcd.proofs.Readings.{read_if, IsKnownChange, Reads, applied, applied-append, AreKnown, plain_both, reads, change_read, changes_read}
+use Rattle.kc_vcd.specs.Reader.{word, declares, code_in}
+use Rattle.kc_vcd.specs.Laws.{IsKnown, AllKnown, Member, IsKnownChange, AreKnown}
+use Rattle.kc_vcd.proofs.Known.{code_high, name_same, name_word}
+use Rattle.kc_vcd.proofs.Readings.{read_if, Reads, applied, applied-append, plain_both, reads, change_read, changes_read}
 
 -- ---- declarations
 
@@ -85,14 +86,6 @@ declares_named name Undefined known = ap (λ w. bytes_eq w name) (word_named Und
 declares_named name Life known = ap (λ w. bytes_eq w name) (word_named Life known)
 
 -- ---- variables that are declared
-
-abbrev pub AllKnown : List Variable → Type 0
-AllKnown [] = Unit {0}
-AllKnown (v ∷ vs) = IsKnown v × AllKnown vs
-
-abbrev pub Member : Variable → List Variable → Type 0
-Member v [] = ⊥
-Member v (w ∷ ws) = (w ≡ v) ⊎ Member v ws
 
 bytes_same : (cs : List ℕ) → bytes_eq cs cs ≡ true
 bytes_same [] = refl

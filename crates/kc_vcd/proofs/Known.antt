@@ -1,27 +1,19 @@
 -- The variables that a dump may have, each with a name and a code of its own.
-use Rattle.std.proofs.Common.{◌≡◌, ℕ, zero, suc, ◌+◌, ◌-◌, ◌/◌, ◌%◌, ◌<◌, ◌≤◌, ◌==◌, Bool, true, false, cond, not, ◌&&◌, ◌||◌, eqb, leb, ltb, List, [], ◌∷◌, ◌++◌, codes, decimal, ◌⊎◌, inl, inr, refl, sym, ap, subst, ◌∙◌, append-nil, arith}
-use Rattle.std.specs.List.{range_with_len}
+use Rattle.std.proofs.Common.{◌≡◌, ℕ, ◌+◌, ◌-◌, ◌/◌, ◌%◌, ◌<◌, ◌≤◌, Bool, true, false, cond, not, ◌&&◌, ◌||◌, eqb, leb, ltb, List, [], ◌∷◌, ◌++◌, codes, decimal, inl, inr, refl, sym, ap, ◌∙◌, append-nil, arith}
 use Rattle.std.specs.Str.{bytes_eq}
-use Rattle.std.proofs.lemmas.Bool.{and_parts, leb-true, eq-eqb, ne_eqb, eqb-true, eqb-false, cases_lt, cases_Bool, lt-ltb, le-ltb, ltb-true, false≢true}
+use Rattle.std.proofs.lemmas.Bool.{leb-true, eq-eqb, ne_eqb, eqb-true, eqb-false, cases_lt, cases_Bool, lt-ltb, le-ltb, ltb-true, false≢true}
 use Rattle.std.proofs.lemmas.Fmt.{decimal_by_steps}
-use Rattle.kc_base.specs.Pins.{pin_count, pin_name, pin_facts, facts_of, is_input, is_printed}
+use Rattle.kc_base.specs.Pins.{pin_count, pin_name, pin_facts, is_input, is_printed}
 use Rattle.kc_base.proofs.PinLemmas.{all_below, each_below, no_facts, input_is_pin}
-use Rattle.kc_base.proofs.Words.{Word, word-from, is_word, word-append, Plain, plain-word}
+use Rattle.kc_base.proofs.Words.{Word, word-from, is_word, word-append}
 use Rattle.kc_base.proofs.Numbers.{word-decimal}
 use Rattle.kc_life.specs.declared.life.Signal.{Signal}
 use Rattle.kc_life.specs.declared.life.Signal.TheVariants.{Output, Input}
 use Rattle.kc_life.specs.Signals.{same_signal, is_signal}
 use Rattle.kc_vcd.specs.declared.variable.Variable.{Variable}
 use Rattle.kc_vcd.specs.declared.variable.Variable.TheVariants.{Wire, Analog, Entry, Transfer, Undefined, Life}
-use Rattle.kc_vcd.specs.Variables.{signal_name, name_of, signal_number, number_of, code_of, channel_count, entry_count, transfer_count}
-
--- a variable that some dump has
-abbrev pub IsKnown : Variable → Type 0
-IsKnown (Wire signal) = is_signal signal ≡ true
-IsKnown (Analog channel) = channel < channel_count
-IsKnown (Entry number) = number < entry_count
-IsKnown (Transfer number) = number < transfer_count
-IsKnown _ = Unit {0}
+use Rattle.kc_vcd.specs.Variables.{name_of, signal_number, number_of, code_of}
+use Rattle.kc_vcd.specs.Laws.{IsKnown}
 
 -- ---- numbers
 

@@ -8,3 +8,4 @@ pub mod Known
 pub mod Readings
 pub mod Described
 pub mod Readers
+pub mod Behind

@@ -1,5 +1,5 @@
 -- What each line of a dump is for a level, for a value and for an event.
-use Rattle.std.proofs.Common.{◌≡◌, ℕ, zero, suc, ◌+◌, ◌-◌, ◌*◌, ◌/◌, ◌%◌, ◌^◌, ◌<◌, ◌≤◌, Bool, true, false, cond, ◌&&◌, eqb, Option, Some, None, List, [], ◌∷◌, ◌++◌, fold, refl, sym, ap, subst, ◌∙◌, arith}
+use Rattle.std.proofs.Common.{◌≡◌, ℕ, ◌+◌, ◌-◌, ◌*◌, ◌/◌, ◌%◌, ◌<◌, ◌≤◌, Bool, true, false, cond, ◌&&◌, eqb, Option, Some, List, [], ◌∷◌, ◌++◌, refl, sym, ap, ◌∙◌, arith}
 use Rattle.std.specs.List.{before_first}
 use Rattle.std.specs.Str.{bytes_eq}
 use Rattle.std.proofs.lemmas.Bool.{eq-eqb, ne_eqb, eqb-true, eqb-false}
@@ -17,8 +17,9 @@ use Rattle.kc_vcd.specs.declared.variable.Variable.TheVariants.{Wire, Analog}
 use Rattle.kc_vcd.specs.Variables.{number_of, code_of, signal_number, channel_count}
 use Rattle.kc_vcd.specs.Dump.{digits, significant}
 use Rattle.kc_vcd.specs.Reader.{word, digit_level, level_by, value_by, count_by, binary_value}
-use Rattle.kc_vcd.proofs.Known.{IsKnown, code_same, code_high, signal_same, signal_apart}
-use Rattle.kc_vcd.proofs.Readings.{lines_by, value_text, value_word, IsKnownChange, Reads}
+use Rattle.kc_vcd.specs.Laws.{IsKnown, IsKnownChange}
+use Rattle.kc_vcd.proofs.Known.{code_same, code_high, signal_same, signal_apart}
+use Rattle.kc_vcd.proofs.Readings.{lines_by, value_text, value_word, Reads}
 
 -- ---- a level
 

@@ -1,23 +1,22 @@
 -- What a reader knows behind the changes of a dump.
-use Rattle.std.proofs.Common.{◌≡◌, ℕ, zero, suc, ◌+◌, ◌-◌, ◌*◌, ◌/◌, ◌%◌, ◌^◌, ◌<◌, ◌≤◌, Bool, true, false, cond, eqb, leb, Option, Some, None, List, [], ◌∷◌, ◌++◌, codes, decimal, map, refl, sym, ap, subst, ◌∙◌, append_assoc, arith}
-use Rattle.std.proofs.lemmas.Bool.{eqb-true, eqb-false}
+use Rattle.std.proofs.Common.{◌≡◌, ℕ, ◌*◌, ◌^◌, ◌<◌, ◌≤◌, Bool, true, false, cond, eqb, Option, Some, List, [], ◌∷◌, ◌++◌, codes, decimal, refl, sym, ap, ◌∙◌, append_assoc, arith}
+use Rattle.std.proofs.lemmas.Bool.{eqb-true}
 use Rattle.std.proofs.Math.Nat.{mul-le-mul_left}
 use Rattle.kc_base.specs.Fields.{decimal_value}
 use Rattle.kc_base.specs.TextLines.{text_lines}
 use Rattle.kc_base.specs.declared.types.Level.{Level}
 use Rattle.kc_base.specs.declared.types.Level.TheVariants.{Low, High}
-use Rattle.kc_base.proofs.Words.{Word, word-append, Plain, plain-word, plain_line, no_lines}
+use Rattle.kc_base.proofs.Words.{Word, Plain, plain-word, plain_line, no_lines}
 use Rattle.kc_base.proofs.Numbers.{word-decimal, value-decimal}
-use Rattle.kc_life.specs.Signals.{is_signal}
 use Rattle.kc_trace.specs.Text.{level_digit}
 use Rattle.kc_vcd.specs.declared.change.Change.{Change}
 use Rattle.kc_vcd.specs.declared.change.Change.TheVariants.{Moves, Takes, Happens, Unseen}
 use Rattle.kc_vcd.specs.declared.variable.Variable.TheVariants.{Wire, Analog}
-use Rattle.kc_vcd.specs.Variables.{number_of, code_of, channel_count}
+use Rattle.kc_vcd.specs.Variables.{code_of}
 use Rattle.kc_vcd.specs.Changes.{Timed}
 use Rattle.kc_vcd.specs.Dump.{digits, significant, change_text, stamp, texts}
 use Rattle.kc_vcd.specs.Reader.{time_by, is_up_to, is_now, read_up_to, read_at}
-use Rattle.kc_vcd.proofs.Known.{IsKnown}
+use Rattle.kc_vcd.specs.Laws.{IsKnownChange, AreKnown}
 
 -- ---- the lines of a time, or up to one
 
@@ -45,12 +44,6 @@ lines_by (Moves signal level) = (level_digit level ∷ code_of (Wire signal) ∷
 lines_by (Takes channel value) = value_text channel value ∷ []
 lines_by (Happens v) = (49 ∷ code_of v ∷ []) ∷ []
 lines_by Unseen = []
-
-abbrev pub IsKnownChange : Change → Type 0
-IsKnownChange (Moves signal level) = is_signal signal ≡ true
-IsKnownChange (Takes channel value) = (channel < channel_count) × (value ≤ 1023)
-IsKnownChange (Happens v) = IsKnown v × (57 ≤ number_of v)
-IsKnownChange Unseen = Unit {0}
 
 abbrev Digits : List ℕ → Type 0
 Digits [] = Unit {0}
@@ -116,11 +109,6 @@ applied wanted effect a (c ∷ changes) = applied wanted effect (cond (wanted c.
 pub applied-append : {A : Type 0} (wanted : ℕ → Bool) (effect : Change → A → A) (a : A) (xs ys : List Timed) → applied wanted effect a (xs ++ ys) ≡ applied wanted effect (applied wanted effect a xs) ys
 applied-append wanted effect a [] ys = refl
 applied-append wanted effect a (x ∷ xs) ys = applied-append wanted effect (cond (wanted x.at) (effect x.change a) a) xs ys
-
--- changes in states that a run may have, of variables that a dump may have
-abbrev pub AreKnown : List Timed → Type 0
-AreKnown [] = Unit {0}
-AreKnown (c ∷ changes) = (c.at < 2 ^ 64) × IsKnownChange c.change × AreKnown changes
 
 texts-none : (length before : ℕ) → texts length before [] ≡ []
 unfolding texts

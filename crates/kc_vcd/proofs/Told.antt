@@ -1,5 +1,5 @@
 -- The steps of a run, as they are told to a dump.
-use Rattle.std.proofs.Common.{◌≡◌, ℕ, Option, Some, None, Result, Ok, Err, List, [], ◌∷◌, ◌++◌, OnOk, IfOk, refl, sym, ap, subst, ◌∙◌, append_assoc, append-nil}
+use Rattle.std.proofs.Common.{◌≡◌, ℕ, Option, None, Result, Ok, Err, List, [], ◌∷◌, ◌++◌, IfOk, refl, sym, ap, subst, ◌∙◌, append_assoc, append-nil}
 use Rattle.std.specs.Global.{Vec}
 use Rattle.kc_stim.specs.Drives.{Drives}
 use Rattle.kc_convert.specs.declared.sample.Sample.{Sample}
@@ -8,7 +8,6 @@ use Rattle.kc_events.specs.declared.lives.LivesFault.TheVariants.{BadTrace, Fail
 use Rattle.kc_events.specs.Grammar.{start_place}
 use Rattle.kc_events.specs.Steps.{Seen}
 use Rattle.kc_events.specs.Reporting.{Reporting, AreToCome, AreStepsOf, IsBehind, IsFirstWrongIn, IsWrongAt}
-use Rattle.kc_vcd.specs.Changes.{changes_by, end_by}
 use Rattle.kc_vcd.specs.Dump.{shown_of, dump_of}
 use Rattle.kc_vcd.specs.Dumped.{IsDumped, IfWrong, Counts}
 use Rattle.kc_vcd.specs.Writing.{Kept, shown_in, Written, start_of, with_steps, HasTold}

@@ -1,5 +1,5 @@
 -- What is answered where the run whose trace a source gives is written as a dump (this kit's own).
-use Rattle.std.specs.Prelude.{◌≡◌, ℕ, Option, Some, None, Result, Ok, Err, List}
+use Rattle.std.specs.Prelude.{◌≡◌, ℕ, Option, Result, Ok, Err, List}
 use Rattle.std.specs.Global.{Vec}
 use Rattle.kc_base.specs.Causes.{Rose}
 use Rattle.kc_stim.specs.Drives.{Drives}

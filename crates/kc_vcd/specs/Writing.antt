@@ -1,5 +1,5 @@
 -- A dump that is written as its run is told (this kit's own).
-use Rattle.std.specs.Prelude.{◌≡◌, ℕ, Bool, true, List, [], ◌∷◌, ◌++◌}
+use Rattle.std.specs.Prelude.{◌≡◌, ℕ, Bool, true, List, ◌++◌}
 use Rattle.kc_life.specs.declared.levels.Levels.{Levels}
 use Rattle.kc_life.specs.Tables.{level_in}
 use Rattle.kc_convert.specs.declared.sample.Sample.{Sample}

@@ -1,4 +1,4 @@
-use Rattle.std.proofs.Common.{List, [], ◌∷◌, ◌++◌, sym, ◌∙◌, ap, append-nil, append_assoc}
+use Rattle.std.proofs.Common.{List, ◌++◌, sym, ◌∙◌, ap, append-nil, append_assoc}
 use Rattle.kc_vcd.specs.declared.variable.Variable.{Variable}
 use Rattle.kc_vcd.specs.Variables.{channels, channel_at}
 use Rattle.kc_vcd.proofs.Pieces.{channels-none, channels-more}

@@ -1,4 +1,4 @@
-use Rattle.std.proofs.Common.{◌≡◌, ◌<◌, drop, sym, ap, ◌∙◌, rules}
+use Rattle.std.proofs.Common.{◌<◌, drop, sym, ap, ◌∙◌, rules}
 use Rattle.kc_base.specs.Series.{up_to}
 use Rattle.kc_vcd.specs.Writing.{Written, Kept}
 use Rattle.kc_vcd.proofs.Samples.{next_held}

@@ -1,4 +1,4 @@
-use Rattle.std.proofs.Common.{◌≡◌, List, [], ◌∷◌, ◌++◌, drop, refl, ap, ◌∙◌}
+use Rattle.std.proofs.Common.{◌∷◌, ◌++◌, drop, refl, ap, ◌∙◌}
 use Rattle.kc_vcd.specs.Changes.{Timed}
 use Rattle.kc_vcd.specs.Dump.{stamp, change_text, texts}
 use Rattle.kc_vcd.specs.Writing.{Written, Kept}
