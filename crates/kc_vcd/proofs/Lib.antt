@@ -1,1 +1,11 @@
-mod Pieces
+pub mod Pieces
+pub mod Declared
+pub mod Trimmed
+pub mod Samples
+pub mod Written
+pub mod Told
+pub mod Known
+pub mod Readings
+pub mod Described
+pub mod Readers
+pub mod Behind

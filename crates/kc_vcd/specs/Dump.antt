@@ -1,5 +1,5 @@
 -- A run as a value change dump (IEEE 1364, "Value change dump files"; what it shows and how it is called is this kit's own).
-use Rattle.std.specs.Prelude.{ℕ, true, ◌+◌, ◌-◌, ◌*◌, ◌/◌, ◌%◌, ◌^◌, ◌==◌, if◌then◌else◌, List, [], ◌∷◌, ◌++◌, codes, decimal, flat_map, map}
+use Rattle.std.specs.Prelude.{ℕ, true, ◌+◌, ◌*◌, ◌/◌, ◌%◌, ◌^◌, ◌==◌, if◌then◌else◌, List, [], ◌∷◌, ◌++◌, codes, decimal, flat_map, map}
 use Rattle.kc_base.specs.declared.types.Level.{Level}
 use Rattle.kc_life.specs.declared.life.Signal.{Signal}
 use Rattle.kc_stim.specs.Drives.{Drives}

@@ -1,96 +1,103 @@
--- What a dump says of a run (this kit's own).
-use Rattle.std.specs.Prelude.{◌≡◌, ℕ, ◌+◌, ◌*◌, ◌<◌, ◌≤◌, ◌==◌, Some, true, Bool, false, ◌&&◌, ◌||◌, List, [], ◌∷◌, All, filter, length, slice_get, sum, map, take}
-use Rattle.std.specs.List.Sorted.{IsNonDecreasingBy}
-use Rattle.kc_base.specs.Pins.{is_printed}
+-- What a reader of a dump knows of what changes in it (this kit's own).
+use Rattle.std.specs.Prelude.{◌≡◌, ℕ, ◌*◌, ◌^◌, ◌<◌, ◌≤◌, ◌==◌, if◌then◌else◌, Bool, true, false, Some, ◌⊎◌, List, [], ◌∷◌, filter, length, map}
+use Rattle.kc_base.specs.Series.{up_to}
+use Rattle.kc_base.specs.declared.types.Level.{Level}
 use Rattle.kc_life.specs.declared.life.Signal.{Signal}
-use Rattle.kc_life.specs.declared.life.Signal.TheVariants.{Output, Input}
-use Rattle.kc_life.specs.declared.life.What.{What}
-use Rattle.kc_life.specs.declared.life.What.TheVariants as what
-use Rattle.kc_life.specs.declared.life.Event.{Event}
-use Rattle.kc_life.specs.Lives.{Life, level_at}
-use Rattle.kc_stim.specs.Drives.{Drives}
-use Rattle.kc_convert.specs.declared.sample.Sample.{Sample}
-use Rattle.kc_convert.specs.Samples.{value_at}
-use Rattle.kc_events.specs.declared.line.Line.{Line}
-use Rattle.kc_events.specs.Grammar.{start_place, IsRun}
-use Rattle.kc_events.specs.Lives.{lives_of}
-use Rattle.kc_events.specs.Steps.{steps_of}
-use Rattle.kc_vcd.specs.declared.variable.Variable.TheVariants.{Analog, Entry, Transfer}
-use Rattle.kc_vcd.specs.Variables.{is_shown_input, has_value, channel_count, entry_count, transfer_count, signal_name, name_of}
-use Rattle.kc_vcd.specs.Dump.{state_length, shown_of, dump_of}
+use Rattle.kc_life.specs.Signals.{same_signal, is_signal}
+use Rattle.kc_events.specs.Steps.{Seen}
+use Rattle.kc_vcd.specs.declared.change.Change.{Change}
+use Rattle.kc_vcd.specs.declared.change.Change.TheVariants.{Moves, Takes, Happens, Unseen}
+use Rattle.kc_vcd.specs.declared.variable.Variable.{Variable}
+use Rattle.kc_vcd.specs.declared.variable.Variable.TheVariants.{Wire, Analog, Entry, Transfer}
+use Rattle.kc_vcd.specs.Variables.{name_of, number_of, channel_count, entry_count, transfer_count}
+use Rattle.kc_vcd.specs.Changes.{Timed, changes_by, end_by}
+use Rattle.kc_vcd.specs.Dump.{Shown, timed_to, dump_of}
 use Rattle.kc_vcd.specs.Reader.{level_described, value_described, count_described}
 
--- ---- a run, and its dump
+-- ---- what a dump may have
 
--- lines of a whole run, with what drives its inputs and an oscillator of 1 to 2 * 10^12 hertz
-pub record Run : Type 0 where
-  pub lines : List Line
-  pub drives : Drives
-  pub samples : List Sample
-  pub clock : ℕ
+-- a variable: a pin that is printed, an input, an analogue input, or what happens
+abbrev pub IsKnown : Variable → Type 0
+IsKnown (Wire signal) = is_signal signal ≡ true
+IsKnown (Analog channel) = channel < channel_count
+IsKnown (Entry number) = number < entry_count
+IsKnown (Transfer number) = number < transfer_count
+IsKnown _ = Unit {0}
 
-pub record IsShownRun (run : Run) : Type 0 where
-  pub run : IsRun (start_place 0) run.lines
-  pub order : IsNonDecreasingBy (λ s. s.at) run.samples
-  pub small : All (λ s. s.value ≤ 1023) run.samples
-  pub goes : 1 ≤ run.clock
-  pub slow : run.clock ≤ 2000000000000
+-- the numbers of what happens are those behind the analogue inputs
+abbrev pub IsEvent : Variable → Type 0
+IsEvent v = 57 ≤ number_of v
 
-abbrev pub dump_for : Run → List ℕ
-dump_for run = dump_of (shown_of run.clock run.drives run.samples) (steps_of run.drives run.lines)
+abbrev pub AllKnown : List Variable → Type 0
+AllKnown [] = Unit {0}
+AllKnown (v ∷ vs) = IsKnown v × AllKnown vs
 
-abbrev pub lives_in : Run → List Life
-lives_in run = lives_of run.drives run.lines
+abbrev pub Member : Variable → List Variable → Type 0
+Member v [] = ⊥
+Member v (w ∷ ws) = (w ≡ v) ⊎ Member v ws
 
--- the state of the run in which the life behind so many others begins
-abbrev pub begin_of : ℕ → List Life → ℕ
-begin_of count lives = sum (map (λ life. life.last + 1) (take count lives))
+-- a change of one; a value has ten bits
+abbrev pub IsKnownChange : Change → Type 0
+IsKnownChange (Moves signal level) = IsKnown (Wire signal)
+IsKnownChange (Takes channel value) = IsKnown (Analog channel) × (value ≤ 1023)
+IsKnownChange (Happens v) = IsKnown v × IsEvent v
+IsKnownChange Unseen = Unit {0}
 
--- the life behind so many others, and a state of it
-pub record IsIn (count : ℕ) (life : Life) (t : ℕ) (run : Run) : Type 0 where
-  pub life : slice_get (lives_in run) count ≡ Some life
-  pub state : t ≤ life.last
+-- changes in states that a run may have
+abbrev pub AreKnown : List Timed → Type 0
+AreKnown [] = Unit {0}
+AreKnown (c ∷ changes) = (c.at < 2 ^ 64) × IsKnownChange c.change × AreKnown changes
 
--- when that state begins, in picoseconds
-abbrev pub time_of : ℕ → ℕ → Run → ℕ
-time_of count t run = state_length run.clock * (begin_of count (lives_in run) + t)
+-- all that changes in the dump of steps, in its order
+abbrev pub changes_of : Shown → List Seen → List Timed
+changes_of shown steps = timed_to shown.samples (end_by 0 steps) (changes_by shown.variables true 0 shown.start steps)
 
--- ---- levels
+-- variables and changes are such, and an oscillator has 1 to 2 * 10^12 hertz
+pub record IsSound (shown : Shown) (steps : List Seen) : Type 0 where
+  pub variables : AllKnown shown.variables
+  pub changes : AreKnown (changes_of shown steps)
+  pub goes : 1 ≤ shown.length
+  pub slow : shown.length ≤ 2000000000000
 
--- a pin that is printed, or an input that is driven
-abbrev pub is_shown : Drives → Signal → Bool
-is_shown d (Output pin) = is_printed pin.0
-is_shown d (Input pin) = is_shown_input d pin.0
+-- ---- what changes say
 
--- in each state of each life a dump has for each printed pin and for each input that is driven its level
-abbrev pub DumpsShowLevels : Type 0
-DumpsShowLevels = (run : Run) (count t : ℕ) (life : Life) (signal : Signal) → IsShownRun run → IsIn count life t run → is_shown run.drives signal ≡ true →
-    level_described (dump_for run) (time_of count t run) (signal_name signal) ≡ Some (level_at life signal t)
+-- those up to a state
+abbrev pub changes_to : ℕ → List Timed → List Change
+changes_to t changes = map (λ c. c.change) (up_to (λ c. c.at) t changes)
 
--- ---- values
+-- those in a state
+abbrev pub changes_in : ℕ → List Timed → List Change
+changes_in t changes = map (λ c. c.change) (filter (λ c. c.at == t) changes)
 
--- and for each analogue input that has values the one that it has
-abbrev pub DumpsShowValues : Type 0
-DumpsShowValues = (run : Run) (count t channel : ℕ) (life : Life) → IsShownRun run → IsIn count life t run → channel < channel_count → has_value run.samples channel ≡ true →
-    value_described (dump_for run) (time_of count t run) (name_of (Analog channel)) ≡ Some (value_at run.samples channel (begin_of count (lives_in run) + t))
+-- the level that a signal took last, else the one before
+abbrev pub level_behind : Signal → Level → List Change → Level
+level_behind signal before [] = before
+level_behind signal before (Moves other level ∷ changes) = level_behind signal (if same_signal signal other then level else before) changes
+level_behind signal before (c ∷ changes) = level_behind signal before changes
 
--- ---- events
+-- the value that an analogue input took last, else the one before
+abbrev pub value_behind : ℕ → ℕ → List Change → ℕ
+value_behind channel before [] = before
+value_behind channel before (Takes other value ∷ changes) = value_behind channel (if other == channel then value else before) changes
+value_behind channel before (c ∷ changes) = value_behind channel before changes
 
-abbrev pub is_entry : ℕ → What → Bool
-is_entry number (what.Entry n) = n == number
-is_entry number _ = false
+abbrev pub is_happening : Variable → Change → Bool
+is_happening event (Happens v) = number_of v == number_of event
+is_happening event _ = false
 
-abbrev pub is_transfer : ℕ → What → Bool
-is_transfer number (what.Transfer n) = n == number
-is_transfer number _ = false
+-- how often an event is among changes
+abbrev pub count_among : Variable → List Change → ℕ
+count_among event changes = length (filter (is_happening event) changes)
 
--- how often something happens in a state of a life
-abbrev pub count_in : (What → Bool) → ℕ → Life → ℕ
-count_in is_wanted t life = length (filter (λ e. (e.at == t) && is_wanted e.what) life.events)
+-- ---- what a reader knows of a variable of the dump, at the time of a state
 
--- at each state the event of a vector happens as often as the board enters there, and so for the transfer server
-pub record DumpsShowEvents : Type 0 where
-  pub entries : (run : Run) (count t number : ℕ) (life : Life) → IsShownRun run → IsIn count life t run → number < entry_count →
-      count_described (dump_for run) (time_of count t run) (name_of (Entry number)) ≡ Some (count_in (is_entry number) t life)
-  pub transfers : (run : Run) (count t number : ℕ) (life : Life) → IsShownRun run → IsIn count life t run → number < transfer_count →
-      count_described (dump_for run) (time_of count t run) (name_of (Transfer number)) ≡ Some (count_in (is_transfer number) t life)
+pub record DumpsShowChanges : Type 0 where
+  -- the level that a signal took last up to there, else that before state 0
+  pub levels : (shown : Shown) (steps : List Seen) (signal : Signal) (t : ℕ) → IsSound shown steps → Member (Wire signal) shown.variables →
+      level_described (dump_of shown steps) (shown.length * t) (name_of (Wire signal)) ≡ Some (level_behind signal (shown.start signal) (changes_to t (changes_of shown steps)))
+  -- the value that an analogue input took last up to there, else 0
+  pub values : (shown : Shown) (steps : List Seen) (channel t : ℕ) → IsSound shown steps → Member (Analog channel) shown.variables →
+      value_described (dump_of shown steps) (shown.length * t) (name_of (Analog channel)) ≡ Some (value_behind channel 0 (changes_to t (changes_of shown steps)))
+  -- how often an event happens there
+  pub events : (shown : Shown) (steps : List Seen) (event : Variable) (t : ℕ) → IsSound shown steps → IsEvent event → Member event shown.variables →
+      count_described (dump_of shown steps) (shown.length * t) (name_of event) ≡ Some (count_among event (changes_in t (changes_of shown steps)))

@@ -1,5 +1,5 @@
 -- What a reader of value change dumps knows of a variable, line by line (IEEE 1364, "Value change dump files").
-use Rattle.std.specs.Prelude.{ℕ, zero, suc, ◌+◌, ◌-◌, ◌*◌, ◌==◌, nat_le, if◌then◌else◌, Bool, false, true, ◌&&◌, Option, Some, None, List, [], ◌∷◌, codes, slice_index, fold}
+use Rattle.std.specs.Prelude.{ℕ, zero, suc, ◌+◌, ◌-◌, ◌*◌, ◌==◌, nat_le, if◌then◌else◌, Bool, false, ◌&&◌, Option, Some, None, List, [], ◌∷◌, codes, slice_index, fold}
 use Rattle.std.specs.List.{before_first, after_first}
 use Rattle.std.specs.Str.{bytes_eq}
 use Rattle.kc_base.specs.Fields.{is_space, decimal_value}
@@ -70,15 +70,15 @@ read_at by at time a [] = a
 read_at by at time a (line ∷ lines) =
     read_at by at (time_by time line) (if is_now at (time_by time line) then by line a else a) lines
 
-abbrev level_with : ℕ → List (List ℕ) → Option ℕ → Option Level
+abbrev pub level_with : ℕ → List (List ℕ) → Option ℕ → Option Level
 level_with time lines None = None
 level_with time lines (Some code) = read_up_to (level_by code) time None None lines
 
-abbrev value_with : ℕ → List (List ℕ) → Option ℕ → Option ℕ
+abbrev pub value_with : ℕ → List (List ℕ) → Option ℕ → Option ℕ
 value_with time lines None = None
 value_with time lines (Some code) = read_up_to (value_by code) time None None lines
 
-abbrev count_with : ℕ → List (List ℕ) → Option ℕ → Option ℕ
+abbrev pub count_with : ℕ → List (List ℕ) → Option ℕ → Option ℕ
 count_with time lines None = None
 count_with time lines (Some code) = Some (read_at (count_by code) time None 0 lines)
 

@@ -1,22 +1,22 @@
 // A run as a value change dump, written as it is told.
-ghost use Rattle.std.specs.Prelude.{◌≡◌, ◌≤◌, ℕ, ◌∷◌, [], map, List, None, Err, IfOk, IfSome, OnOk};
+ghost use Rattle.std.specs.Prelude.{◌≡◌, ◌≤◌, ℕ, ◌∷◌, [], map, List, None, IfOk, IfSome, OnOk};
 ghost use Rattle.kc_base.specs.Series.{up_to};
 ghost use Rattle.kc_life.specs.Tables.{level_in};
 ghost use Rattle.kc_events.specs.Steps.{Seen, Begins, Passes, Ends};
-ghost use Rattle.kc_events.specs.Printed.{place_in};
-ghost use Rattle.kc_events.specs.Telling.{AreToCome, IsFirstWrongIn};
+ghost use Rattle.kc_events.specs.Grammar.{same_level};
+ghost use Rattle.kc_events.specs.Reporting.{AreToCome, IsWrongAt};
 ghost use Rattle.kc_events.specs.Underway.{seen_by};
 ghost use Rattle.kc_vcd.specs.declared.variable.Variable.TheVariants.{Wire};
-ghost use Rattle.kc_vcd.specs.Changes.{difference, differences, all_at, change_by as change_of, later as later_by, behind as state_behind, taken, after};
+ghost use Rattle.kc_vcd.specs.Changes.{beginning, difference, differences, all_at, change_by as change_of, later as later_by, behind as state_behind, taken, before, after};
 ghost use Rattle.kc_vcd.specs.Dump.{dump_of};
-ghost use Rattle.kc_vcd.specs.Dumped.{IsDumped, Counts};
-ghost use Rattle.kc_vcd.specs.Writing.{start_of, with_steps, HasTold, HasPut, HasChanged, IsSameLife};
+ghost use Rattle.kc_vcd.specs.Dumped.{IsDumped, IfWrong, Counts};
+ghost use Rattle.kc_vcd.specs.Writing.{shown_in, start_of, with_steps, HasTold, HasPut, HasChanged, IsSameLife};
 
 use crate::change::{Change, change_by, put_change};
 use crate::shown::Shown;
 use crate::variable::Variable;
 use crate::writing::put_stamp;
-use kc_base::{NoMemory, StateTime};
+use kc_base::{Level, NoMemory, StateTime};
 use kc_byte_source::Source;
 use kc_convert::{Analog, Sample};
 use kc_events::{Lives, LivesFault, Step};
@@ -40,7 +40,6 @@ struct Writer<'a> {
 
 impl<'a> Model for Writer<'a> {
     ghost use Rattle.std.specs.Prelude.{◌≤◌, length, drop};
-    ghost use Rattle.kc_life.specs.Tables.{level_in};
     ghost use Rattle.kc_vcd.specs.Writing.{Written};
 
     ghost Value = { Written };
@@ -51,7 +50,7 @@ impl<'a> Model for Writer<'a> {
       stamped = w.stamped;
       base = w.base;
       first = w.is_first;
-      levels = level_in w.levels;
+      levels = w.levels;
       samples = drop w.taken w.shown.now.samples;
     } };
 
@@ -72,6 +71,16 @@ fn behind(base: StateTime, last: StateTime) -> StateTime
     later(later(base, last), 1)
 }
 
+fn is_same(a: Level, b: Level) -> bool
+    ensures { result ≡ same_level a b }
+{
+    if a.is_high() {
+        b.is_high()
+    } else {
+        !b.is_high()
+    }
+}
+
 impl<'a> Writer<'a> {
     // Puts a change with its time, where that is another one than before.
     fn put(&mut self, at: StateTime, change: Change) -> Result<(), NoMemory>
@@ -79,9 +88,11 @@ impl<'a> Writer<'a> {
         ensures samples { OnOk result (self.new.samples ≡ self.old.samples) }
         ensures same { OnOk result (IsSameLife self.old self.new) }
     {
-        put_stamp(&mut self.text, self.shown.length, self.stamped, at)?;
+        let shown = self.shown;
+        put_stamp(&mut self.text, shown.length, self.stamped, at)?;
         self.stamped = at;
-        put_change(&mut self.text, change)
+        put_change(&mut self.text, change)?;
+        Ok(())
     }
 
     // The next value of an analogue input, where it comes up to a state of the run.
@@ -93,7 +104,8 @@ impl<'a> Writer<'a> {
         ensures text { self.new.text ≡ self.old.text }
         ensures stamped { self.new.stamped ≡ self.old.stamped }
     {
-        match self.shown.values.samples().get(self.taken) {
+        let shown = self.shown;
+        match shown.values.samples().get(self.taken) {
             Some(sample) if sample.at <= at => {
                 self.taken += 1;
                 Some(*sample)
@@ -120,7 +132,8 @@ impl<'a> Writer<'a> {
         ensures same { OnOk result (IsSameLife self.old self.new) }
     {
         self.put_values(at)?;
-        self.put(at, change)
+        self.put(at, change)?;
+        Ok(())
     }
 
     // The level of a signal, where it has another one than at the end of the last state.
@@ -130,14 +143,15 @@ impl<'a> Writer<'a> {
         signal: Signal,
         levels: &Levels,
     ) -> Result<(), NoMemory>
-        ensures changed { OnOk result (HasChanged self.old (all_at at (difference self.old.levels (level_in levels.now) (Wire signal))) self.new) }
+        ensures changed { OnOk result (HasChanged self.old (all_at at (difference (level_in self.old.levels) (level_in levels.now) (Wire signal))) self.new) }
         ensures same { OnOk result (IsSameLife self.old self.new) }
     {
         let level = levels.level(signal);
-        if level.is_high() == self.levels.level(signal).is_high() {
+        if is_same(self.levels.level(signal), level) {
             return Ok(());
         }
-        self.change(at, Change::Moves(signal, level))
+        self.change(at, Change::Moves(signal, level))?;
+        Ok(())
     }
 
     // The level of a variable, where it is one of a signal that has another one than at the end of the last state.
@@ -147,7 +161,7 @@ impl<'a> Writer<'a> {
         variable: Variable,
         levels: &Levels,
     ) -> Result<(), NoMemory>
-        ensures changed { OnOk result (HasChanged self.old (all_at at (difference self.old.levels (level_in levels.now) variable)) self.new) }
+        ensures changed { OnOk result (HasChanged self.old (all_at at (difference (level_in self.old.levels) (level_in levels.now) variable)) self.new) }
         ensures same { OnOk result (IsSameLife self.old self.new) }
     {
         match variable {
@@ -159,10 +173,11 @@ impl<'a> Writer<'a> {
     // The levels of the signals that a life finds at others than those at the end of the life before it.
     #[tactic(auto, unfolding(crate::specs::Changes::differences))]
     fn change_levels(&mut self, at: StateTime, levels: &Levels) -> Result<(), NoMemory>
-        ensures changed { OnOk result (HasChanged self.old (all_at at (differences self.old.shown.variables self.old.levels (level_in levels.now))) self.new) }
+        ensures changed { OnOk result (HasChanged self.old (all_at at (differences self.old.shown.variables (level_in self.old.levels) (level_in levels.now))) self.new) }
         ensures same { OnOk result (IsSameLife self.old self.new) }
     {
-        let mut left = self.shown.variables.as_slice();
+        let shown = self.shown;
+        let mut left = shown.variables.as_slice();
         while let [variable, rest @ ..] = left {
             self.change_variable(at, *variable, levels)?;
             left = rest;
@@ -170,14 +185,24 @@ impl<'a> Writer<'a> {
         Ok(())
     }
 
-    // A life begins, with these levels before its state 0. The first one of a run is not told.
+    // A life begins behind another one. The first one of a run is not told.
+    fn change_life(&mut self, at: StateTime) -> Result<(), NoMemory>
+        ensures changed { OnOk result (HasChanged self.old (all_at at (beginning self.old.first)) self.new) }
+        ensures same { OnOk result (IsSameLife self.old self.new) }
+    {
+        if self.is_first {
+            return Ok(());
+        }
+        self.change(at, Change::Happens(Variable::Life))?;
+        Ok(())
+    }
+
+    // A life begins, with these levels before its state 0.
     fn begin(&mut self, levels: &Levels) -> Result<(), NoMemory>
         ensures { OnOk result (HasTold self.old (Begins (level_in levels.now) ∷ []) self.new) }
     {
         let base = self.base;
-        if !self.is_first {
-            self.change(base, Change::Happens(Variable::Life))?;
-        }
+        self.change_life(base)?;
         self.change_levels(base, levels)?;
         self.is_first = false;
         self.levels = *levels;
@@ -225,15 +250,26 @@ impl<'a> Writer<'a> {
         Ok(())
     }
 
+    // Puts the values of the analogue inputs before a state of the run.
+    fn put_before(&mut self, end: StateTime) -> Result<(), NoMemory>
+        ensures put { OnOk result (HasPut self.old (taken (before end self.old.samples)) self.new) }
+        ensures same { OnOk result (IsSameLife self.old self.new) }
+    {
+        if end == 0 {
+            return Ok(());
+        }
+        self.put_values(end - 1)?;
+        Ok(())
+    }
+
     // The end of the run, with the values before it.
     fn finish(&mut self) -> Result<(), NoMemory>
         ensures { OnOk result (self.new.text ≡ with_steps self.old []) }
     {
         let base = self.base;
-        if base > 0 {
-            self.put_values(base - 1)?;
-        }
-        self.put(base, Change::Unseen)
+        self.put_before(base)?;
+        self.put(base, Change::Unseen)?;
+        Ok(())
     }
 }
 
@@ -268,15 +304,18 @@ fn ended(writer: Writer<'_>) -> Result<Vec<u8>, NoMemory>
 fn tell<S: Source + Drop>(writer: &mut Writer<'_>, lives: &mut Lives<S>) -> Result<(), LivesFault>
     requires { lives.old.stopped ≡ None }
     ensures told { OnOk result ((steps : List Seen) × AreToCome lives.old steps × HasTold writer.old steps writer.new) }
-    ensures wrong { (line : ℕ) → result ≡ Err (LivesFault.BadTrace line) → IsFirstWrongIn (place_in lives.old.trace.reader) lives.old.trace.left lives.old.trace.count line }
+    ensures wrong { IfWrong result (IsWrongAt lives.old) }
     ensures faults { Counts lives.old.trace.faults result lives.new.trace.faults }
 {
     for _ in 0..u64::MAX {
-        let Some(step) = lives.next_step()? else {
-            return Ok(());
-        };
-        if writer.take(step, lives).is_err() {
-            return Err(LivesFault::NoMemory);
+        match lives.next_step() {
+            Ok(Some(step)) => {
+                if writer.take(step, lives).is_err() {
+                    return Err(LivesFault::NoMemory);
+                }
+            }
+            Ok(None) => return Ok(()),
+            Err(fault) => return Err(fault),
         }
     }
     Err(LivesFault::NoMemory)
@@ -289,17 +328,19 @@ fn dump_of_lives<S: Source + Drop>(
     lives: &mut Lives<S>,
 ) -> Result<Vec<u8>, LivesFault>
     requires { lives.old.stopped ≡ None }
-    ensures dump { IfOk result (λ text. (steps : List Seen) × AreToCome lives.old steps × (text.items ≡ dump_of shown.now steps)) }
-    ensures wrong { (line : ℕ) → result ≡ Err (LivesFault.BadTrace line) → IsFirstWrongIn (place_in lives.old.trace.reader) lives.old.trace.left lives.old.trace.count line }
+    ensures dump { IfOk result (λ text. (steps : List Seen) × AreToCome lives.old steps × (text.items ≡ dump_of (shown_in shown.now) steps)) }
+    ensures wrong { IfWrong result (IsWrongAt lives.old) }
     ensures faults { Counts lives.old.trace.faults result lives.new.trace.faults }
 {
     let Ok(mut writer) = begun(alloc, shown) else {
         return Err(LivesFault::NoMemory);
     };
-    tell(&mut writer, lives)?;
-    match ended(writer) {
-        Ok(text) => Ok(text),
-        Err(NoMemory) => Err(LivesFault::NoMemory),
+    match tell(&mut writer, lives) {
+        Ok(()) => match ended(writer) {
+            Ok(text) => Ok(text),
+            Err(NoMemory) => Err(LivesFault::NoMemory),
+        },
+        Err(fault) => Err(fault),
     }
 }
 

@@ -2,7 +2,8 @@
 ghost use Rattle.std.specs.Prelude.{◌≡◌, ◌≤◌, ◌++◌, ◌∷◌, [], All, IfOk, OnOk};
 ghost use Rattle.kc_life.specs.Tables.{level_in};
 ghost use Rattle.kc_base.specs.Pins.{pin_count};
-ghost use Rattle.kc_vcd.specs.Variables.{outputs, inputs, channels, entries, transfers, variables_of, has_value as value_stands, IsVariable, channel_count, entry_count, transfer_count};
+ghost use Rattle.kc_vcd.specs.Variables.{output_at, outputs, input_at, inputs, channel_at, channels, entries, transfers, variables_of, has_value as value_stands, IsVariable, channel_count, entry_count, transfer_count};
+ghost use Rattle.kc_vcd.specs.Writing.{shown_in};
 ghost use Rattle.kc_vcd.specs.Dump.{state_length as picoseconds, shown_of, prefix as prefix_text, declarations, start_line, start_lines};
 
 use crate::variable::Variable;
@@ -43,13 +44,12 @@ pub(crate) struct Shown {
 
 impl Model for Shown {
     ghost use Rattle.std.specs.Prelude.{◌≤◌, All};
-    ghost use Rattle.kc_life.specs.Tables.{level_in};
     ghost use Rattle.kc_vcd.specs.Variables.{IsVariable};
-    ghost use Rattle.kc_vcd.specs.Dump.{Shown};
+    ghost use Rattle.kc_vcd.specs.Writing.{Kept};
 
-    ghost Value = { Shown };
+    ghost Value = { Kept };
 
-    ghost view = { λ s. record { variables = s.variables.items; start = level_in s.start; samples = s.values; length = s.length } };
+    ghost view = { λ s. record { variables = s.variables.items; start = s.start; samples = s.values; length = s.length } };
 
     ghost invariant = { λ s. All IsVariable s.variables.items × (s.length ≤ 2000000000000) };
 }
@@ -61,16 +61,34 @@ fn push(variables: &mut Vec<Variable>, variable: Variable) -> Result<(), NoMemor
     Ok(())
 }
 
+// A pin, where it is printed.
+fn push_output(variables: &mut Vec<Variable>, pin: u8) -> Result<(), NoMemory>
+    ensures { OnOk result (variables.new.items ≡ variables.old.items ++ output_at pin) }
+{
+    if !Pin(pin).is_printed() {
+        return Ok(());
+    }
+    push(variables, Variable::Wire(Signal::Output(Pin(pin))))
+}
+
 // The pins that are printed.
 fn push_outputs(variables: &mut Vec<Variable>) -> Result<(), NoMemory>
     ensures { OnOk result (variables.new.items ≡ variables.old.items ++ outputs pin_count) }
 {
     for pin in 0..PIN_COUNT {
-        if Pin(pin).is_printed() {
-            push(variables, Variable::Wire(Signal::Output(Pin(pin))))?;
-        }
+        push_output(variables, pin)?;
     }
     Ok(())
+}
+
+// An input, where it is driven.
+fn push_input(variables: &mut Vec<Variable>, stimuli: &Stimuli, pin: u8) -> Result<(), NoMemory>
+    ensures { OnOk result (variables.new.items ≡ variables.old.items ++ input_at stimuli.now pin) }
+{
+    if !Pin(pin).is_input() || !stimuli.is_driven(Pin(pin)) {
+        return Ok(());
+    }
+    push(variables, Variable::Wire(Signal::Input(Pin(pin))))
 }
 
 // The inputs that are driven.
@@ -78,9 +96,7 @@ fn push_inputs(variables: &mut Vec<Variable>, stimuli: &Stimuli) -> Result<(), N
     ensures { OnOk result (variables.new.items ≡ variables.old.items ++ inputs stimuli.now pin_count) }
 {
     for pin in 0..PIN_COUNT {
-        if Pin(pin).is_input() && stimuli.is_driven(Pin(pin)) {
-            push(variables, Variable::Wire(Signal::Input(Pin(pin))))?;
-        }
+        push_input(variables, stimuli, pin)?;
     }
     Ok(())
 }
@@ -92,14 +108,26 @@ fn has_value(samples: &[Sample], channel: u8) -> bool
     samples.iter().any(|s| s.channel == channel)
 }
 
+// An analogue input, where it has values.
+fn push_channel(
+    variables: &mut Vec<Variable>,
+    samples: &[Sample],
+    channel: u8,
+) -> Result<(), NoMemory>
+    ensures { OnOk result (variables.new.items ≡ variables.old.items ++ channel_at samples.now channel) }
+{
+    if !has_value(samples, channel) {
+        return Ok(());
+    }
+    push(variables, Variable::Analog(channel))
+}
+
 // The analogue inputs that have values.
 fn push_channels(variables: &mut Vec<Variable>, samples: &[Sample]) -> Result<(), NoMemory>
     ensures { OnOk result (variables.new.items ≡ variables.old.items ++ channels samples.now channel_count) }
 {
     for channel in 0..CHANNELS {
-        if has_value(samples, channel) {
-            push(variables, Variable::Analog(channel))?;
-        }
+        push_channel(variables, samples, channel)?;
     }
     Ok(())
 }
@@ -164,7 +192,7 @@ fn put_start(text: &mut Vec<u8>, variable: Variable, start: &Levels) -> Result<(
 }
 
 // Declares variables.
-#[tactic(auto, unfolding(crate::specs::Dump::declarations))]
+#[tactic(auto, using(crate::proofs::Pieces::known_rest), unfolding(crate::specs::Dump::declarations))]
 fn put_declarations(text: &mut Vec<u8>, variables: &[Variable]) -> Result<(), NoMemory>
     requires { All IsVariable variables.now }
     ensures { OnOk result (text.new.items ≡ text.old.items ++ declarations variables.now) }
@@ -199,7 +227,7 @@ impl Shown {
         values: Analog,
     ) -> Result<Shown, NoMemory>
         requires { 1 ≤ clock }
-        ensures { IfOk result (λ shown. shown ≡ shown_of clock stimuli.now values.entry) }
+        ensures { IfOk result (λ shown. shown_in shown ≡ shown_of clock stimuli.now values) }
     {
         Ok(Shown {
             variables: variables_in(alloc, stimuli, values.samples())?,
@@ -211,12 +239,13 @@ impl Shown {
 
     /// Puts the declarations, and the levels before state 0.
     pub(crate) fn put_prefix(&self, text: &mut Vec<u8>) -> Result<(), NoMemory>
-        ensures { OnOk result (text.new.items ≡ text.old.items ++ prefix_text self.now) }
+        ensures { OnOk result (text.new.items ≡ text.old.items ++ prefix_text (shown_in self.now)) }
     {
         put(text, HEAD)?;
         put_declarations(text, self.variables.as_slice())?;
         put(text, HEAD_END)?;
         put_starts(text, self.variables.as_slice(), &self.start)?;
-        put(text, b"$end\n")
+        put(text, b"$end\n")?;
+        Ok(())
     }
 }

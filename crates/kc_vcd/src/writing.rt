@@ -73,11 +73,15 @@ fn digits_of(value: u16) -> [u8; 10]
 }
 
 // Digits without the zeros in front, but for the last digit.
+#[tactic(auto, using(crate::proofs::Trimmed::none_left, crate::proofs::Trimmed::stops, crate::proofs::Trimmed::last_stays, crate::proofs::Trimmed::skips))]
 fn trimmed(digits: &[u8]) -> &[u8]
     ensures { result.now ≡ significant digits.now }
 {
     let mut left = digits;
-    while let [b'0', rest @ ..] = left {
+    while let [digit, rest @ ..] = left {
+        if *digit != b'0' {
+            return left;
+        }
         if rest.is_empty() {
             return left;
         }
