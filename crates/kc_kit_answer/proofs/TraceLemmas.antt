@@ -146,12 +146,12 @@ module _ (trace : List ℕ) (whole : List (List ℕ)) (answer : List ℕ → Lis
 
   -- the same by what opening it reports, where the files stayed since the names were read
   pub trace-missed : {S : Type 0} (reported mid : Option Holding) (rose later : Type 0) (texts : List (List ℕ)) (why : FileFault) (refusal : Refusal) → AreHeld reported whole texts → mid ≡ reported → (rose → later) →
-      Reported mid (λ held. failed-open {S} why ≡ Err fault.Missing → held trace ≡ None) → failed-open {S} why ≢ Err fault.TooLong → (failed-open {S} why ≡ Err fault.Failed → rose) →
+      Reported mid (λ held. failed-open {S = S} why ≡ Err fault.Missing → held trace ≡ None) → failed-open {S = S} why ≢ Err fault.TooLong → (failed-open {S = S} why ≡ Err fault.Failed → rose) →
       IsRefused (IsUnread trace why) refusal → IsRefused (MayTrace reported later) refusal
-  trace-missed {S} reported mid rose later texts why refusal h same f none short failed refused =
+  trace-missed {S = S} reported mid rose later texts why refusal h same f none short failed refused =
       trace-unread reported later texts why refusal h (subst (λ r. Reported r (λ held. why ≡ fault.Missing → held trace ≡ None)) same (missing mid none)) (λ e. short (ap Err e)) (λ e. f (failed (ap Err e))) refused
     where
-      missing : (mid : Option Holding) → Reported mid (λ held. failed-open {S} why ≡ Err fault.Missing → held trace ≡ None) → Reported mid (λ held. why ≡ fault.Missing → held trace ≡ None)
+      missing : (mid : Option Holding) → Reported mid (λ held. failed-open {S = S} why ≡ Err fault.Missing → held trace ≡ None) → Reported mid (λ held. why ≡ fault.Missing → held trace ≡ None)
       missing None none = tt
       missing (Some held) none = λ e. none (ap Err e)
 

@@ -1,11 +1,11 @@
 use Rattle.std.proofs.Common.{◌≡◌, ◌∷◌, ◌++◌, ◌∙◌, refl, ap, sym}
 use Rattle.kc_code.specs.Listing.{listing}
 use Rattle.kc_kit_files.specs.declared.status.Status.TheVariants as status
-use Rattle.kc_kit_files.specs.Response.{Response, says}
+use Rattle.kc_kit_files.specs.Response.{Response, says, reports}
 use Rattle.kc_kit_files.specs.Outside.{kept, shown}
 use Rattle.kc_kit_running.specs.Scripted.{debugged_by, script_response}
 use Rattle.kc_kit_running.specs.Writing.{written}
-use Rattle.kc_kit_answer.specs.Jobs.{does, maybe_written}
+use Rattle.kc_kit_answer.specs.Jobs.{does, maybe_written, status_of}
 use Rattle.kc_kit_running.specs.Counted.{summary_of}
 use Rattle.kc_kit_running.specs.Lives.{board_response}
 use Rattle.kc_kit_running.specs.Profiled.{profile_response}
@@ -33,6 +33,13 @@ pub returns-in-Debug-clause-answer : goal.returns-in-Debug-clause-answer
 returns-in-Debug-clause-answer g c =
     ends-printed (script_response (debugged_by c.in-Debug.lines c.in-Debug.script c.in-Debug.board.driving c.in-Debug.board.image)) c.args.job _ _ c.by-in-Debug.result c.debug_board-status.result _ _ (record { none = refl; silent = refl }) (sym (ap does c.in-Debug.is)) c.by-in-Debug.ensures.status c.by-in-Debug.ensures.said
     (c.debug_board-status.ensures (kept (g.F.Files.held c.args.files.now) (g.F.Files.write_faults c.args.files.now)))
+
+pub returns-in-Report-clause-answer : goal.returns-in-Report-clause-answer
+returns-in-Report-clause-answer g c =
+    let verdict = c.in-Report.verdict in
+    Ends-widen (λ (response : Response). response ≡ reports (status_of verdict.is_broken) verdict.text.items verdict.diagnostic.items) (λ (response : Response). response ≡ does c.args.job) _ _
+    c.report_verdict.result.status c.report_verdict.result.said _ _ (λ r k. k ∙ sym (ap does c.in-Report.is))
+    (c.report_verdict.ensures (kept (g.F.Files.held c.args.files.now) (g.F.Files.write_faults c.args.files.now)))
 
 pub returns-in-Write-clause-answer : goal.returns-in-Write-clause-answer
 returns-in-Write-clause-answer g c =
