@@ -10,8 +10,8 @@ pub returns : goal.returns
 returns g c =
     let verdict = c.args.verdict in
     let same : c.if-is_broken.status ≡ status_of verdict.is_broken = elim c.if-is_broken.branch [
-      | then-is_broken w ↦ w.status-is ∙ sym (ap status_of w.if-is_broken)
-      | else-is_broken w ↦ w.status-is ∙ sym (ap status_of w.if-is_broken)
+      | then-is_broken w ↦ w.status-is ∙ sym (ap status_of w.if-is_broken.true)
+      | else-is_broken w ↦ w.status-is ∙ sym (ap status_of w.if-is_broken.false)
     ] in
     let all : reports c.if-is_broken.status c.deref.result.now verdict.diagnostic.items ≡ reports (status_of verdict.is_broken) verdict.text.items verdict.diagnostic.items =
     λ i. reports (same i) (c.deref.ensures.value i) verdict.diagnostic.items in
