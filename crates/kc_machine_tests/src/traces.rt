@@ -126,8 +126,8 @@ fn put_step(
 // The steps of a trace that a source gives in pieces, whose second read fails; or the line that is refused.
 fn reported(alloc: Global, trace: &str, stim: &str, piece: usize) -> Result<String, Fail> {
     let text = lines_of(alloc, stim)?;
-    if text.len() > FILE_LIMIT {
-        return Err(Fail::from("too long"));
+    if text.len() > FILE_LIMIT || piece == 0 {
+        return Err(Fail::from("no stimuli or no piece"));
     }
     let stimuli = Stimuli::read(alloc, &text);
     let stimuli = stimuli.ok().ok_or("no stimuli")?;
