@@ -9,3 +9,4 @@ pub mod Readings
 pub mod Described
 pub mod Readers
 pub mod Behind
+pub mod Shows
