@@ -10,3 +10,8 @@ pub mod Described
 pub mod Readers
 pub mod Behind
 pub mod Shows
+pub mod Spans
+pub mod Picked
+pub mod RunLevels
+pub mod Valued
+pub mod RunDumps

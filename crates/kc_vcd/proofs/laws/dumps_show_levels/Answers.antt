@@ -1,5 +1,5 @@
-use Rattle.kc_vcd.proofs.Shows.{shown_known, signal_there, channel_there, entry_there, transfer_there}
+use Rattle.kc_vcd.proofs.RunDumps.{run_levels}
 use Rattle.kc_vcd.proofs.laws.dumps_show_levels.Goals as goal
 
 pub returns : goal.returns
-returns c = ?
+returns c = run_levels
