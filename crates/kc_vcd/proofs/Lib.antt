@@ -15,3 +15,4 @@ pub mod Picked
 pub mod RunLevels
 pub mod Valued
 pub mod RunDumps
+pub mod RunCounts

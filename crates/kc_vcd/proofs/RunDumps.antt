@@ -1,5 +1,5 @@
 -- What a reader of the dump of a run knows in each state of its lives.
-use Rattle.std.proofs.Common.{◌≡◌, ℕ, zero, suc, ◌+◌, ◌*◌, ◌/◌, ◌^◌, ◌<◌, ◌≤◌, Bool, true, false, leb, Some, List, [], ◌∷◌, ◌++◌, refl, sym, ap, subst, ◌∙◌, arith}
+use Rattle.std.proofs.Common.{◌≡◌, ℕ, zero, suc, ◌+◌, ◌*◌, ◌/◌, ◌^◌, ◌<◌, ◌≤◌, Bool, true, false, eqb, leb, Some, List, [], ◌∷◌, ◌++◌, refl, sym, ap, subst, ◌∙◌, arith}
 use Rattle.std.specs.Prelude.{slice_get}
 use Rattle.std.proofs.Math.Nat.{lt-div-mul-add, div-le_self}
 use Rattle.kc_life.specs.declared.life.Signal.{Signal}
@@ -12,13 +12,20 @@ use Rattle.kc_vcd.specs.Variables.{variables_of}
 use Rattle.kc_vcd.specs.Changes.{Timed, changes_by, end_by}
 use Rattle.kc_vcd.specs.Dump.{Shown, state_length, shown_of}
 use Rattle.kc_vcd.specs.Laws.{IsSound, level_behind}
-use Rattle.kc_vcd.specs.Runs.{Run, IsShownRun, IsIn, begin_of, lives_in, DumpsShowLevels}
+use Rattle.kc_life.specs.declared.life.What.{What}
+use Rattle.kc_vcd.specs.declared.variable.Variable.TheVariants.{Entry, Transfer}
+use Rattle.kc_vcd.specs.Dump.{dump_of}
+use Rattle.kc_vcd.specs.Variables.{name_of}
+use Rattle.kc_vcd.specs.Reader.{count_described}
+use Rattle.kc_vcd.specs.Laws.{IsEvent, Member, count_among}
+use Rattle.kc_vcd.specs.Runs.{Run, IsShownRun, IsIn, begin_of, lives_in, dump_for, time_of, count_in, is_entry, is_transfer, DumpsShowLevels, DumpsShowEvents}
+use Rattle.kc_vcd.proofs.RunCounts.{Shows, entry_shows, transfer_shows, spans_count}
 use Rattle.kc_vcd.proofs.Behind.{shown_changes}
 use Rattle.kc_vcd.proofs.Shows.{shown_known, signal_there, channel_there, entry_there, transfer_there}
 use Rattle.kc_vcd.proofs.Spans.{Span, span_steps, span_lives, spans_with, AreSpans, steps_spans, lives_spans, are_spans}
 use Rattle.kc_vcd.proofs.Picked.{picked, spans_known}
 use Rattle.kc_vcd.proofs.RunLevels.{spans_level}
-use Rattle.kc_vcd.proofs.Valued.{are_samples, timed_known, end_few, level_timed}
+use Rattle.kc_vcd.proofs.Valued.{are_samples, timed_known, end_few, level_timed, count_timed}
 
 length_some : (clock : ℕ) → 1 ≤ clock → clock ≤ 2000000000000 → 1 ≤ state_length clock
 length_some clock goes slow = by (2000000000000 / clock) (lt-div-mul-add goes)
@@ -70,3 +77,21 @@ run_levels run count t life signal is there shown =
     ∙ ap (λ l. Some l) (level_timed signal (start signal) test run.samples (end_by 0 (steps_in run)) (changes_by vs true 0 start (steps_in run))
     ∙ ap (λ (steps : List Seen). level_behind signal (start signal) (picked test (changes_by vs true 0 start steps))) (steps_spans run.drives 0 [] run.lines)
     ∙ spans_level signal vs run.drives (spans_in run) true 0 0 count t time start life member (spans_sound run is) refl (omega arith) (life_there run count t life there) there.state (time_there run count t))
+
+event_counts : (run : Run) (count t : ℕ) (life : Life) (event : Variable) (wanted : What → Bool) → IsShownRun run → IsIn count life t run → IsEvent event → Member event (variables_of run.drives run.samples) → Shows event wanted →
+    count_described (dump_for run) (time_of count t run) (name_of event) ≡ Some (count_in wanted t life)
+event_counts run count t life event wanted is there high member shows =
+    let vs = variables_of run.drives run.samples in
+    let start = start_levels run.drives 0 in
+    let time = begin_of count (lives_in run) + t in
+    let test : ℕ → Bool = λ at. eqb at time in
+    shown_changes.events (shown_in_run run) (steps_in run) event time (run_sound run is) high member
+    ∙ ap (λ n. Some n) (count_timed event test run.samples (end_by 0 (steps_in run)) (changes_by vs true 0 start (steps_in run))
+    ∙ ap (λ (steps : List Seen). count_among event (picked test (changes_by vs true 0 start steps))) (steps_spans run.drives 0 [] run.lines)
+    ∙ spans_count event wanted shows vs run.drives (spans_in run) true 0 0 count t time start life (spans_sound run is) refl (omega arith) (life_there run count t life there) there.state (time_there run count t))
+
+pub run_events : DumpsShowEvents
+run_events = record {
+  entries = λ run count t number life is there less. event_counts run count t life (Entry number) (is_entry number) is there (omega arith) (entry_there run.drives run.samples number less) (entry_shows number less);
+  transfers = λ run count t number life is there less. event_counts run count t life (Transfer number) (is_transfer number) is there (omega arith) (transfer_there run.drives run.samples number less) (transfer_shows number less);
+}
