@@ -16,3 +16,4 @@ pub mod RunLevels
 pub mod Valued
 pub mod RunDumps
 pub mod RunCounts
+pub mod RunValues

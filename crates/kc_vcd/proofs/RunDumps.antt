@@ -18,7 +18,9 @@ use Rattle.kc_vcd.specs.Dump.{dump_of}
 use Rattle.kc_vcd.specs.Variables.{name_of}
 use Rattle.kc_vcd.specs.Reader.{count_described}
 use Rattle.kc_vcd.specs.Laws.{IsEvent, Member, count_among}
-use Rattle.kc_vcd.specs.Runs.{Run, IsShownRun, IsIn, begin_of, lives_in, dump_for, time_of, count_in, is_entry, is_transfer, DumpsShowLevels, DumpsShowEvents}
+use Rattle.kc_vcd.specs.Runs.{Run, IsShownRun, IsIn, begin_of, lives_in, dump_for, time_of, count_in, is_entry, is_transfer, DumpsShowLevels, DumpsShowValues, DumpsShowEvents}
+use Rattle.kc_convert.specs.Samples.{value_at}
+use Rattle.kc_vcd.proofs.RunValues.{steps_none, value_timed, spans_end}
 use Rattle.kc_vcd.proofs.RunCounts.{Shows, entry_shows, transfer_shows, spans_count}
 use Rattle.kc_vcd.proofs.Behind.{shown_changes}
 use Rattle.kc_vcd.proofs.Shows.{shown_known, signal_there, channel_there, entry_there, transfer_there}
@@ -77,6 +79,16 @@ run_levels run count t life signal is there shown =
     ∙ ap (λ l. Some l) (level_timed signal (start signal) test run.samples (end_by 0 (steps_in run)) (changes_by vs true 0 start (steps_in run))
     ∙ ap (λ (steps : List Seen). level_behind signal (start signal) (picked test (changes_by vs true 0 start steps))) (steps_spans run.drives 0 [] run.lines)
     ∙ spans_level signal vs run.drives (spans_in run) true 0 0 count t time start life member (spans_sound run is) refl (omega arith) (life_there run count t life there) there.state (time_there run count t))
+
+pub run_values : DumpsShowValues
+run_values run count t channel life is there less has =
+    let vs = variables_of run.drives run.samples in
+    let start = start_levels run.drives 0 in
+    let time = begin_of count (lives_in run) + t in
+    let end_spans = spans_end run.drives (spans_in run) 0 0 count t time life (spans_sound run is) refl (omega arith) (life_there run count t life there) there.state (time_there run count t) in
+    let end : time < end_by 0 (steps_in run) = subst (λ steps. time < end_by 0 steps) (sym (steps_spans run.drives 0 [] run.lines)) end_spans in
+    shown_changes.values (shown_in_run run) (steps_in run) channel time (run_sound run is) (channel_there run.drives run.samples channel less has)
+    ∙ ap (λ n. Some n) (value_timed channel time (end_by 0 (steps_in run)) run.samples (changes_by vs true 0 start (steps_in run)) is.order end (steps_none vs true 0 start (steps_in run)))
 
 event_counts : (run : Run) (count t : ℕ) (life : Life) (event : Variable) (wanted : What → Bool) → IsShownRun run → IsIn count life t run → IsEvent event → Member event (variables_of run.drives run.samples) → Shows event wanted →
     count_described (dump_for run) (time_of count t run) (name_of event) ≡ Some (count_in wanted t life)
