@@ -1,23 +1,22 @@
 -- The changes in some states of a run, by the spans of its lives.
-use Rattle.std.proofs.Common.{◌≡◌, ℕ, zero, suc, ◌+◌, ◌-◌, ◌^◌, ◌<◌, ◌≤◌, Bool, true, false, cond, leb, ◌⊎◌, inl, inr, List, [], ◌∷◌, ◌++◌, filter, map, refl, sym, ap, subst, ◌∙◌, append_assoc, arith}
+use Rattle.std.proofs.Common.{◌≡◌, ℕ, zero, suc, ◌+◌, ◌^◌, ◌<◌, ◌≤◌, Bool, true, false, cond, List, [], ◌∷◌, ◌++◌, filter, map, refl, sym, ap, subst, ◌∙◌, append_assoc, arith}
 use Rattle.std.proofs.lemmas.List.{map-append}
 use Rattle.std.proofs.lemmas.List.Elements.{filter-append}
 use Rattle.kc_base.specs.declared.types.Level.{Level}
 use Rattle.kc_life.specs.declared.life.Signal.{Signal}
 use Rattle.kc_life.specs.declared.life.What.{What}
-use Rattle.kc_life.specs.declared.life.What.TheVariants as what
 use Rattle.kc_life.specs.declared.life.Event.{Event}
 use Rattle.kc_life.specs.Lives.{State}
 use Rattle.kc_stim.specs.Drives.{Drives}
 use Rattle.kc_events.specs.Grammar.{same_level}
 use Rattle.kc_events.specs.Lives.{levels_after, start_levels, states_from}
-use Rattle.kc_events.specs.Steps.{Seen, Begins, Passes, Ends, is_still, passes, seen_of}
+use Rattle.kc_events.specs.Steps.{Seen, Begins, Passes, Ends, passes, seen_of}
 use Rattle.kc_vcd.specs.declared.change.Change.{Change}
-use Rattle.kc_vcd.specs.declared.change.Change.TheVariants.{Moves, Takes, Happens, Unseen}
+use Rattle.kc_vcd.specs.declared.change.Change.TheVariants.{Moves}
 use Rattle.kc_vcd.specs.declared.variable.Variable.{Variable}
 use Rattle.kc_vcd.specs.declared.variable.Variable.TheVariants.{Wire, Analog, Entry, Transfer, Undefined, Life}
-use Rattle.kc_vcd.specs.Changes.{Timed, change_by, difference, differences, beginning, all_at, later, behind, changes_by, end_by}
-use Rattle.kc_vcd.specs.Laws.{IsKnown, AllKnown, IsKnownChange, AreKnown}
+use Rattle.kc_vcd.specs.Changes.{Timed, change_by, differences, beginning, all_at, later, behind, changes_by}
+use Rattle.kc_vcd.specs.Laws.{AllKnown, IsKnownChange, AreKnown}
 use Rattle.kc_vcd.proofs.Spans.{Span, Lasts, span_steps, AreSpans, AreStates, AreWhats, are_states}
 
 -- ---- changes in the states of a test

@@ -13,12 +13,12 @@ use Rattle.kc_stim.specs.Drives.{Drives}
 use Rattle.kc_events.specs.Grammar.{same_level}
 use Rattle.kc_events.specs.Lives.{start_levels}
 use Rattle.kc_vcd.specs.declared.change.Change.{Change}
-use Rattle.kc_vcd.specs.declared.change.Change.TheVariants.{Moves, Takes, Happens, Unseen}
+use Rattle.kc_vcd.specs.declared.change.Change.TheVariants.{Moves, Happens}
 use Rattle.kc_vcd.specs.declared.variable.Variable.{Variable}
 use Rattle.kc_vcd.specs.declared.variable.Variable.TheVariants.{Wire, Analog, Entry, Transfer, Undefined}
 use Rattle.kc_vcd.specs.declared.variable.Variable.TheVariants as variable
-use Rattle.kc_vcd.specs.Variables.{number_of, entry_count, transfer_count}
-use Rattle.kc_vcd.specs.Changes.{Timed, change_by, differences, beginning, all_at, later, behind, changes_by}
+use Rattle.kc_vcd.specs.Variables.{entry_count, transfer_count}
+use Rattle.kc_vcd.specs.Changes.{Timed, change_by, differences, all_at, later, behind, changes_by}
 use Rattle.kc_vcd.specs.Laws.{IsKnownChange, is_happening, count_among}
 use Rattle.kc_vcd.specs.Runs.{begin_of, is_entry, is_transfer, count_in}
 use Rattle.kc_vcd.proofs.Spans.{Span, Lasts, span_steps, span_lives, AreSpans, AreStates, AreWhats, are_states}

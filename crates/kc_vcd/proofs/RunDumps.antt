@@ -1,30 +1,26 @@
 -- What a reader of the dump of a run knows in each state of its lives.
-use Rattle.std.proofs.Common.{◌≡◌, ℕ, zero, suc, ◌+◌, ◌*◌, ◌/◌, ◌^◌, ◌<◌, ◌≤◌, Bool, true, false, eqb, leb, Some, List, [], ◌∷◌, ◌++◌, refl, sym, ap, subst, ◌∙◌, arith}
+use Rattle.std.proofs.Common.{◌≡◌, ℕ, zero, suc, ◌+◌, ◌*◌, ◌/◌, ◌<◌, ◌≤◌, Bool, true, eqb, leb, Some, List, [], refl, sym, ap, subst, ◌∙◌, arith}
 use Rattle.std.specs.Prelude.{slice_get}
 use Rattle.std.proofs.Math.Nat.{lt-div-mul-add, div-le_self}
-use Rattle.kc_life.specs.declared.life.Signal.{Signal}
 use Rattle.kc_life.specs.Lives.{Life}
 use Rattle.kc_events.specs.Grammar.{start_place}
 use Rattle.kc_events.specs.Lives.{start_levels}
 use Rattle.kc_events.specs.Steps.{Seen, steps_of}
 use Rattle.kc_vcd.specs.declared.variable.Variable.{Variable}
 use Rattle.kc_vcd.specs.Variables.{variables_of}
-use Rattle.kc_vcd.specs.Changes.{Timed, changes_by, end_by}
+use Rattle.kc_vcd.specs.Changes.{changes_by, end_by}
 use Rattle.kc_vcd.specs.Dump.{Shown, state_length, shown_of}
-use Rattle.kc_vcd.specs.Laws.{IsSound, level_behind}
+use Rattle.kc_vcd.specs.Laws.{AreKnown, IsSound, IsEvent, Member, level_behind, count_among}
 use Rattle.kc_life.specs.declared.life.What.{What}
 use Rattle.kc_vcd.specs.declared.variable.Variable.TheVariants.{Entry, Transfer}
-use Rattle.kc_vcd.specs.Dump.{dump_of}
 use Rattle.kc_vcd.specs.Variables.{name_of}
 use Rattle.kc_vcd.specs.Reader.{count_described}
-use Rattle.kc_vcd.specs.Laws.{IsEvent, Member, count_among}
 use Rattle.kc_vcd.specs.Runs.{Run, IsShownRun, IsIn, begin_of, lives_in, dump_for, time_of, count_in, is_entry, is_transfer, DumpsShowLevels, DumpsShowValues, DumpsShowEvents}
-use Rattle.kc_convert.specs.Samples.{value_at}
 use Rattle.kc_vcd.proofs.RunValues.{steps_none, value_timed, spans_end}
 use Rattle.kc_vcd.proofs.RunCounts.{Shows, entry_shows, transfer_shows, spans_count}
 use Rattle.kc_vcd.proofs.Behind.{shown_changes}
 use Rattle.kc_vcd.proofs.Shows.{shown_known, signal_there, channel_there, entry_there, transfer_there}
-use Rattle.kc_vcd.proofs.Spans.{Span, span_steps, span_lives, spans_with, AreSpans, steps_spans, lives_spans, are_spans}
+use Rattle.kc_vcd.proofs.Spans.{Span, span_lives, spans_with, AreSpans, steps_spans, lives_spans, are_spans}
 use Rattle.kc_vcd.proofs.Picked.{picked, spans_known}
 use Rattle.kc_vcd.proofs.RunLevels.{spans_level}
 use Rattle.kc_vcd.proofs.Valued.{are_samples, timed_known, end_few, level_timed, count_timed}
@@ -56,7 +52,7 @@ run_sound run is =
     record {
       variables = known;
       changes = timed_known run.samples (end_by 0 (steps_in run)) (changes_by vs true 0 start (steps_in run)) (are_samples run.samples is.small is.channels) (end_few 0 (steps_in run) (omega arith))
-          (subst (λ steps. Rattle.kc_vcd.specs.Laws.AreKnown (changes_by vs true 0 start steps)) (sym (steps_spans run.drives 0 [] run.lines)) (spans_known vs true 0 start run.drives 0 (spans_in run) known (omega arith) (spans_sound run is)));
+          (subst (λ steps. AreKnown (changes_by vs true 0 start steps)) (sym (steps_spans run.drives 0 [] run.lines)) (spans_known vs true 0 start run.drives 0 (spans_in run) known (omega arith) (spans_sound run is)));
       goes = length_some run.clock is.goes is.slow;
       slow = div-le_self 2000000000000 run.clock;
     }

@@ -1,5 +1,5 @@
 -- The level that a dump has for a signal in a state of a life.
-use Rattle.std.proofs.Common.{◌≡◌, ℕ, zero, suc, ◌+◌, ◌-◌, ◌^◌, ◌<◌, ◌≤◌, Bool, true, false, cond, leb, ◌⊎◌, inl, inr, Some, List, [], ◌∷◌, ◌++◌, filter, fold, map, take, refl, sym, ap, subst, ◌∙◌, arith}
+use Rattle.std.proofs.Common.{◌≡◌, ℕ, zero, suc, ◌+◌, ◌-◌, ◌^◌, ◌<◌, ◌≤◌, Bool, true, false, cond, leb, ◌⊎◌, inl, inr, Some, List, [], ◌∷◌, ◌++◌, fold, map, take, refl, sym, ap, subst, ◌∙◌, arith}
 use Rattle.std.specs.Prelude.{slice_get}
 use Rattle.std.proofs.lemmas.Bool.{le-leb, lt-leb, leb-true, leb-false, false≢true}
 use Rattle.std.proofs.lemmas.List.{map-append}
@@ -16,16 +16,16 @@ use Rattle.kc_life.specs.Signals.{same_signal}
 use Rattle.kc_life.specs.Lives.{Life, State, moved_by, level_after, level_at, events_in, events_of}
 use Rattle.kc_stim.specs.Drives.{Drives}
 use Rattle.kc_events.specs.Grammar.{same_level}
-use Rattle.kc_events.specs.Lives.{levels_after, start_levels, states_from}
+use Rattle.kc_events.specs.Lives.{levels_after, start_levels}
 use Rattle.kc_vcd.specs.declared.change.Change.{Change}
 use Rattle.kc_vcd.specs.declared.change.Change.TheVariants.{Moves, Takes, Happens, Unseen}
 use Rattle.kc_vcd.specs.declared.variable.Variable.{Variable}
 use Rattle.kc_vcd.specs.declared.variable.Variable.TheVariants.{Wire, Analog, Entry, Transfer, Undefined}
 use Rattle.kc_vcd.specs.declared.variable.Variable.TheVariants as variable
-use Rattle.kc_vcd.specs.Changes.{Timed, change_by, difference, differences, beginning, all_at, later, behind, changes_by}
+use Rattle.kc_vcd.specs.Changes.{Timed, change_by, differences, all_at, later, behind, changes_by}
 use Rattle.kc_vcd.specs.Laws.{Member, level_behind}
 use Rattle.kc_vcd.specs.Runs.{begin_of}
-use Rattle.kc_vcd.proofs.Behind.{signal_is, same_self, passed}
+use Rattle.kc_vcd.proofs.Behind.{signal_is, same_self}
 use Rattle.kc_vcd.proofs.Spans.{Span, Lasts, span_steps, span_lives, AreSpans, AreStates, are_states}
 use Rattle.kc_vcd.proofs.Picked.{picked, picked-append, picked-at, picked-late, life_changes, levels_over, states_of, begin_changes, span_changes, span_none}
 

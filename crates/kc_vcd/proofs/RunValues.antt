@@ -1,7 +1,7 @@
 -- The value that a dump has for an analogue input in a state of the run.
-use Rattle.std.proofs.Common.{◌≡◌, ℕ, zero, suc, ◌+◌, ◌-◌, ◌^◌, ◌<◌, ◌≤◌, Bool, true, false, cond, eqb, leb, ltb, Some, List, [], ◌∷◌, ◌++◌, filter, map, refl, sym, ap, subst, ◌∙◌, arith}
+use Rattle.std.proofs.Common.{◌≡◌, ℕ, zero, suc, ◌+◌, ◌^◌, ◌<◌, ◌≤◌, Bool, true, false, cond, eqb, leb, ltb, Some, List, [], ◌∷◌, ◌++◌, filter, map, refl, sym, ap, subst, ◌∙◌, append_assoc, arith}
 use Rattle.std.specs.Prelude.{slice_get}
-use Rattle.std.proofs.lemmas.Bool.{le-leb, lt-leb, leb-true, leb-false, le-ltb, lt-ltb, ltb-true, ltb-false}
+use Rattle.std.proofs.lemmas.Bool.{lt-leb, leb-true, leb-false, ltb-false}
 use Rattle.kc_base.specs.Series.{up_to}
 use Rattle.kc_base.specs.declared.types.Level.{Level}
 use Rattle.kc_life.specs.declared.life.Signal.{Signal}
@@ -25,7 +25,7 @@ use Rattle.kc_vcd.specs.Laws.{value_behind}
 use Rattle.kc_vcd.specs.Runs.{begin_of}
 use Rattle.kc_vcd.proofs.Samples.{InOrder, order_rest, none_sooner, all_behind, taken_sooner, left_sooner}
 use Rattle.kc_vcd.proofs.Spans.{Span, Lasts, span_steps, span_lives, AreSpans}
-use Rattle.kc_vcd.proofs.Picked.{picked, picked-append}
+use Rattle.kc_vcd.proofs.Picked.{picked, picked-append, states_of}
 use Rattle.kc_vcd.proofs.RunLevels.{begin_next}
 
 value-append : (channel v : ℕ) (xs ys : List Change) → value_behind channel v (xs ++ ys) ≡ value_behind channel (value_behind channel v xs) ys
@@ -248,7 +248,7 @@ spans_end d (Lasts reported (suc last) ∷ spans) base from count t time life h 
     few = h.0
 
     states : List State
-    states = Rattle.kc_vcd.proofs.Picked.states_of d from reported last
+    states = states_of d from reported last
 
     steps : List Seen
     steps = span_steps d (from + suc last) spans
@@ -260,7 +260,7 @@ spans_end d (Lasts reported (suc last) ∷ spans) base from count t time life h 
     this = record { start = start_levels d from; events = events_of states; last = last }
 
     end : end_by base (seen_of d from reported (suc last) ++ steps) ≡ end_by (behind base last) steps
-    end = ap (end_by base) (Rattle.std.proofs.Common.append_assoc (passes states) (Ends last ∷ []) steps) ∙ pass_end base states (Ends last ∷ steps)
+    end = ap (end_by base) (append_assoc (passes states) (Ends last ∷ []) steps) ∙ pass_end base states (Ends last ∷ steps)
 
     by_count : (n : ℕ) → slice_get (this ∷ others) n ≡ Some life → time ≡ base + (begin_of n (this ∷ others) + t) → from + suc last ≤ 4000000000000000 →
         ((m : ℕ) → behind base last ≡ from + suc last → from + suc last ≤ 4000000000000000 → slice_get others m ≡ Some life → t ≤ life.last → time ≡ behind base last + (begin_of m others + t) → time < end_by (behind base last) steps) →

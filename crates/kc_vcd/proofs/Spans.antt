@@ -1,11 +1,12 @@
 -- The lives of a run, each by what is reported of it and by how many states it has.
-use Rattle.std.proofs.Common.{◌≡◌, ℕ, zero, suc, ◌+◌, ◌<◌, ◌≤◌, Bool, true, false, cond, eqb, leb, ◌&&◌, not, List, [], ◌∷◌, ◌++◌, flat_map, filter, map, refl, sym, ap, subst, ◌∙◌, append-nil, arith}
+use Rattle.std.proofs.Common.{◌≡◌, ℕ, zero, suc, ◌+◌, ◌≤◌, Bool, true, false, cond, eqb, leb, ◌&&◌, not, List, [], ◌∷◌, ◌++◌, flat_map, filter, map, refl, sym, ap, subst, ◌∙◌, append-nil, arith}
 use Rattle.std.specs.List.{range_with_len}
-use Rattle.std.proofs.lemmas.Bool.{and_parts, leb-true, cases_Bool, false≢true}
+use Rattle.std.proofs.lemmas.Bool.{and_parts, leb-true, false≢true}
 use Rattle.kc_base.specs.Limits.{max_states}
 use Rattle.kc_base.specs.Pins.{pin_count, is_input, is_printed}
 use Rattle.kc_base.specs.declared.types.Level.{Level}
 use Rattle.kc_life.specs.declared.life.Signal.{Signal}
+use Rattle.kc_life.specs.declared.life.Signal.TheVariants.{Input}
 use Rattle.kc_life.specs.declared.life.What.{What}
 use Rattle.kc_life.specs.declared.life.What.TheVariants as what
 use Rattle.kc_life.specs.declared.life.Event.{Event}
@@ -16,8 +17,8 @@ use Rattle.kc_events.specs.declared.line.Line.{Line}
 use Rattle.kc_events.specs.declared.line.Line.TheVariants.{Printed, Restarted}
 use Rattle.kc_events.specs.declared.reader.Stage.{Stage}
 use Rattle.kc_events.specs.declared.reader.Stage.TheVariants.{Living, Broken, Over}
-use Rattle.kc_events.specs.Grammar.{Place, is_in_order, is_of_life, same_level, may_print, may_restart, after_line, AreLines}
-use Rattle.kc_events.specs.Lives.{edge_between, input_level, input_before, edge_if_input, input_edges, reported_in, levels_after, states_from, life_of, event_of, end_event, count_at, restart_event, lives_with, start_levels}
+use Rattle.kc_events.specs.Grammar.{Place, is_in_order, same_level, may_print, may_restart, after_line, AreLines}
+use Rattle.kc_events.specs.Lives.{edge_between, input_level, input_before, edge_if_input, input_edges, reported_in, levels_after, states_from, life_of, event_of, end_event, count_at, restart_event, lives_with}
 use Rattle.kc_events.specs.Steps.{Seen, seen_of, steps_with}
 use Rattle.kc_vcd.specs.Changes.{change_by}
 use Rattle.kc_vcd.specs.Laws.{IsKnownChange}
@@ -137,9 +138,11 @@ are_spans p reported (Printed (Wsr value) ∷ lines) h low known = are_spans (af
 are_spans p reported (Printed (Registers at bytes) ∷ lines) h low known = are_spans (after_line p (Printed (Registers at bytes))) (reported ++ []) lines h.1 low (both_events reported [] known tt)
 are_spans p reported (Restarted at by_watchdog ∷ lines) h low known =
     let short = restart_short p p.stage at h.0.fits in
-    let next : p.base + at + 1 ≡ p.base + (at + 1) = omega arith in
-    (omega (arith, short), both_events reported (restart_event at by_watchdog ∷ []) known (restart_known at by_watchdog),
-    subst (λ b. AreSpans b (spans_with [] lines)) next (are_spans (after_line p (Restarted at by_watchdog)) [] lines h.1 (omega (arith, short)) tt))
+    let next : p.base + at + 1 ≡ p.base + (at + 1) = omega arith in (
+      omega (arith, short),
+      both_events reported (restart_event at by_watchdog ∷ []) known (restart_known at by_watchdog),
+      subst (λ b. AreSpans b (spans_with [] lines)) next (are_spans (after_line p (Restarted at by_watchdog)) [] lines h.1 (omega (arith, short)) tt),
+    )
 
 -- ---- the states of a life
 
@@ -163,7 +166,7 @@ reported_known t (e ∷ reported) known = by_test (eqb e.at t) (reported_known t
 edge_known : (pin : ℕ) (a b : Level) → is_input pin ≡ true → AreWhats (edge_between pin a b)
 edge_known pin a b is = by_test (same_level a b)
   where
-    by_test : (same : Bool) → AreWhats (cond same [] (what.Edge (Rattle.kc_life.specs.declared.life.Signal.TheVariants.Input (record { 0 = pin })) b ∷ []))
+    by_test : (same : Bool) → AreWhats (cond same [] (what.Edge (Input (record { 0 = pin })) b ∷ []))
     by_test true = tt
     by_test false = (is, tt)
 
@@ -183,6 +186,8 @@ pub are_states : (d : Drives) (base : ℕ) (reported : List Event) (more t last 
 unfolding states_from
 are_states d base reported zero t last levels known few = tt
 are_states d base reported (suc more) t last levels known few =
-    let whats = input_edges d levels (base + t) ++ reported_in t reported in
-    (omega (arith, few), both_whats (input_edges d levels (base + t)) (reported_in t reported) (edges_known d levels (base + t)) (reported_known t reported known),
-    are_states d base reported more (t + 1) last (levels_after levels whats) known (omega (arith, few)))
+    let whats = input_edges d levels (base + t) ++ reported_in t reported in (
+      omega (arith, few),
+      both_whats (input_edges d levels (base + t)) (reported_in t reported) (edges_known d levels (base + t)) (reported_known t reported known),
+      are_states d base reported more (t + 1) last (levels_after levels whats) known (omega (arith, few)),
+    )

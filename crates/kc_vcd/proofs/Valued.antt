@@ -1,19 +1,19 @@
 -- The changes of a dump with the values of its analogue inputs between them.
-use Rattle.std.proofs.Common.{◌≡◌, ℕ, zero, suc, ◌+◌, ◌-◌, ◌^◌, ◌<◌, ◌≤◌, Bool, true, false, cond, leb, ltb, List, [], ◌∷◌, ◌++◌, All, filter, map, refl, sym, ap, subst, ◌∙◌, arith}
+use Rattle.std.proofs.Common.{◌≡◌, ℕ, ◌+◌, ◌^◌, ◌<◌, ◌≤◌, Bool, true, false, cond, leb, ltb, List, [], ◌∷◌, ◌++◌, All, filter, length, length-append, map, refl, sym, ap, ◌∙◌, arith}
 use Rattle.std.proofs.lemmas.Bool.{leb-true, ltb-true}
-use Rattle.std.proofs.lemmas.List.Elements.{All-head, All-tail}
+use Rattle.std.proofs.lemmas.List.Elements.{All-head, All-tail, filter-append}
 use Rattle.kc_base.specs.Series.{up_to}
 use Rattle.kc_base.specs.declared.types.Level.{Level}
 use Rattle.kc_life.specs.declared.life.Signal.{Signal}
 use Rattle.kc_convert.specs.declared.sample.Sample.{Sample}
 use Rattle.kc_events.specs.Steps.{Seen, Begins, Passes, Ends}
 use Rattle.kc_vcd.specs.declared.change.Change.{Change}
-use Rattle.kc_vcd.specs.declared.change.Change.TheVariants.{Moves, Takes, Happens, Unseen}
+use Rattle.kc_vcd.specs.declared.change.Change.TheVariants.{Takes, Unseen}
 use Rattle.kc_vcd.specs.declared.variable.Variable.{Variable}
 use Rattle.kc_vcd.specs.Variables.{channel_count}
 use Rattle.kc_vcd.specs.Changes.{Timed, behind, end_by, taken, before, after, with_values}
 use Rattle.kc_vcd.specs.Dump.{timed_to}
-use Rattle.kc_vcd.specs.Laws.{IsKnownChange, AreKnown, level_behind, is_happening, count_among}
+use Rattle.kc_vcd.specs.Laws.{AreKnown, level_behind, is_happening, count_among}
 use Rattle.kc_vcd.proofs.Picked.{picked, picked-append, both_known}
 use Rattle.kc_vcd.proofs.RunLevels.{level-append}
 
@@ -25,9 +25,11 @@ AreSamples (s ∷ samples) = (s.channel < channel_count) × (s.value ≤ 1023) �
 
 pub are_samples : (samples : List Sample) → All (λ s. s.value ≤ 1023) samples → All (λ s. s.channel < channel_count) samples → AreSamples samples
 are_samples [] small few = tt
-are_samples (s ∷ samples) small few =
-    (All-head (λ s. s.channel < channel_count) s samples few, All-head (λ s. s.value ≤ 1023) s samples small,
-    are_samples samples (All-tail (λ s. s.value ≤ 1023) s samples small) (All-tail (λ s. s.channel < channel_count) s samples few))
+are_samples (s ∷ samples) small few = (
+  All-head (λ s. s.channel < channel_count) s samples few,
+  All-head (λ s. s.value ≤ 1023) s samples small,
+  are_samples samples (All-tail (λ s. s.value ≤ 1023) s samples small) (All-tail (λ s. s.channel < channel_count) s samples few),
+)
 
 to_known : (t : ℕ) (samples : List Sample) → t < 2 ^ 64 → AreSamples samples → AreKnown (taken (up_to (λ s. s.at) t samples))
 to_known t [] few h = tt
@@ -115,7 +117,7 @@ level_timed signal l test samples end changes =
 -- ---- and counts
 
 pub count-append : (event : Variable) (xs ys : List Change) → count_among event (xs ++ ys) ≡ count_among event xs + count_among event ys
-count-append event xs ys = ap Rattle.std.proofs.Common.length (Rattle.std.proofs.lemmas.List.Elements.filter-append (is_happening event) xs ys) ∙ Rattle.std.proofs.Common.length-append (filter (is_happening event) xs) (filter (is_happening event) ys)
+count-append event xs ys = ap length (filter-append (is_happening event) xs ys) ∙ length-append (filter (is_happening event) xs) (filter (is_happening event) ys)
 
 count_taken : (event : Variable) (test : ℕ → Bool) (samples : List Sample) → count_among event (picked test (taken samples)) ≡ 0
 count_taken event test [] = refl

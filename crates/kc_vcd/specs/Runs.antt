@@ -1,12 +1,11 @@
 -- What a dump says of the lives of a run (this kit's own).
-use Rattle.std.specs.Prelude.{◌≡◌, ℕ, ◌+◌, ◌*◌, ◌<◌, ◌≤◌, ◌==◌, Some, true, Bool, false, ◌&&◌, ◌||◌, List, [], ◌∷◌, All, filter, length, slice_get, sum, map, take}
+use Rattle.std.specs.Prelude.{◌≡◌, ℕ, ◌+◌, ◌*◌, ◌<◌, ◌≤◌, ◌==◌, Some, true, Bool, false, ◌&&◌, List, All, filter, length, slice_get, sum, map, take}
 use Rattle.std.specs.List.Sorted.{IsNonDecreasingBy}
 use Rattle.kc_base.specs.Pins.{is_printed}
 use Rattle.kc_life.specs.declared.life.Signal.{Signal}
 use Rattle.kc_life.specs.declared.life.Signal.TheVariants.{Output, Input}
 use Rattle.kc_life.specs.declared.life.What.{What}
 use Rattle.kc_life.specs.declared.life.What.TheVariants as what
-use Rattle.kc_life.specs.declared.life.Event.{Event}
 use Rattle.kc_life.specs.Lives.{Life, level_at}
 use Rattle.kc_stim.specs.Drives.{Drives}
 use Rattle.kc_convert.specs.declared.sample.Sample.{Sample}
