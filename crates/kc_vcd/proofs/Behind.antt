@@ -69,7 +69,7 @@ member_known v (w ∷ ws) all (inl same) = subst IsKnown same all.0
 member_known v (w ∷ ws) all (inr there) = member_known v ws all.1 there
 
 -- where a variable is among others and is not the first one, it is behind it
-passed : {P M : Type 0} {v w : Variable} → P ⊎ ((w ≡ v) ⊎ M) → (w ≡ v → ⊥) → P ⊎ M
+pub passed : {P M : Type 0} {v w : Variable} → P ⊎ ((w ≡ v) ⊎ M) → (w ≡ v → ⊥) → P ⊎ M
 passed (inl is) other = inl is
 passed (inr (inl same)) other = absurd (other same)
 passed (inr (inr there)) other = inr there
@@ -88,13 +88,13 @@ levels_done signal level (Takes channel value ∷ changes) = levels_done signal 
 levels_done signal level (Happens v ∷ changes) = levels_done signal level changes
 levels_done signal level (Unseen ∷ changes) = levels_done signal level changes
 
-signal_is : (signal other : Signal) → same_signal signal other ≡ true → other ≡ signal
+pub signal_is : (signal other : Signal) → same_signal signal other ≡ true → other ≡ signal
 signal_is (Output p) (Output q) same = ap (λ n. Output (record { 0 = n })) (sym (eqb-true p.0 q.0 same))
 signal_is (Output p) (Input q) same = absurd (false≢true same)
 signal_is (Input p) (Output q) same = absurd (false≢true same)
 signal_is (Input p) (Input q) same = ap (λ n. Input (record { 0 = n })) (sym (eqb-true p.0 q.0 same))
 
-same_self : (signal : Signal) → same_signal signal signal ≡ true
+pub same_self : (signal : Signal) → same_signal signal signal ≡ true
 same_self (Output p) = eq-eqb p.0 p.0 refl
 same_self (Input p) = eq-eqb p.0 p.0 refl
 

@@ -9,3 +9,11 @@ pub mod Readings
 pub mod Described
 pub mod Readers
 pub mod Behind
+pub mod Shows
+pub mod Spans
+pub mod Picked
+pub mod RunLevels
+pub mod Valued
+pub mod RunDumps
+pub mod RunCounts
+pub mod RunValues

@@ -15,7 +15,7 @@ pub order_rest : (s : Sample) (samples : List Sample) → InOrder (s ∷ samples
 order_rest s samples order = λ i j d le lt. order (suc i) (suc j) d (omega (arith, le)) (omega (arith, lt))
 
 -- none is up to a state before the first one
-none_sooner : (at : ℕ) (s : Sample) (samples : List Sample) → InOrder (s ∷ samples) → at < s.at → up_to (λ x. x.at) at (s ∷ samples) ≡ []
+pub none_sooner : (at : ℕ) (s : Sample) (samples : List Sample) → InOrder (s ∷ samples) → at < s.at → up_to (λ x. x.at) at (s ∷ samples) ≡ []
 none_sooner at s [] order less = rw (lt-leb s.at at less) refl
 none_sooner at s (x ∷ samples) order less =
     let later : s.at ≤ x.at = order 0 1 s (omega arith) (omega arith) in

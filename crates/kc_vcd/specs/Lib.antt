@@ -5,3 +5,4 @@ pub mod Writing
 pub mod Dumped
 pub mod Reader
 pub mod Laws
+pub mod Runs

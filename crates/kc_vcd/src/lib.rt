@@ -11,4 +11,4 @@ mod variable;
 mod writing;
 
 pub use dumping::dump_run;
-pub use laws::dumps_show_changes;
+pub use laws::{dumps_show_changes, dumps_show_events, dumps_show_levels, dumps_show_values};
