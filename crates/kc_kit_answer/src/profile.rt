@@ -15,6 +15,7 @@ ghost use Rattle.kc_kit_answer.specs.Profile.{map_entry, AreEntries, DrivenWithL
 use crate::board::{board_at, board_of_hex};
 use crate::job::Job;
 use crate::placing::place_modules;
+use kc_asm::linked_image;
 use kc_base::{Files, NoMemory};
 use kc_debug_script::MapEntry;
 use kc_kit_files::{Refusal, read_file, read_files};
@@ -23,7 +24,6 @@ use kc_kit_messages::Origins;
 use kc_kit_running::Board;
 use kc_kit_words::{Command, Profile, ProfileHex, Ranges};
 use kc_link::{LineAt, Placement, lines_at};
-use kc_link_source_laws::linked_image;
 use kc_obj_module::Module;
 use kc_source_laws::sources_are_read_well;
 use std::alloc::Global;

@@ -131,7 +131,10 @@ static RUNS: [Row; 48] = [
         "a command on Timer 2 while it counts every state, or the reverse"
     ),
     row!("kind6", "HSO_TIME is written with channel 12 or 13"; " LDB 06H,#0CH\n LD 04H,#10" => " LDB 06H,#20H\n LD 04H,#10"),
-    row!("kind7", "a register that is not there in this window"),
+    row!(
+        "kind7",
+        "a register that is not there in this window, as the watchdog, 0AH, without --lives"
+    ),
     row!("kind8", "a value of WSR that is no window"; " LDB 14H,#02H" => " LDB 14H,#01H"),
     row!(
         "kind9",
@@ -190,7 +193,7 @@ static RUNS: [Row; 48] = [
     row!("status6", "the run has ended in an undefined use"),
     row!("status7", "a file could not be read"),
     row!("status8", "the output or a file could not be written"),
-    row!("status9", "memory was wanted and not had"),
+    row!("status9", "memory has run out"),
     row!("status10", "a rule is broken"),
 ];
 

@@ -1,5 +1,5 @@
 // How the machine passes whole activities, and spans of idle states, at once.
-ghost use Rattle.std.specs.Prelude.{◌≡◌, ◌≤◌, ◌<◌, ◌+◌, ◌-◌, ◌*◌, ◌^◌, ℕ, ◌++◌, IfSome, IfOk, OnOk, OnErr, None, [], option_to_list, max, true, false};
+ghost use Rattle.std.specs.Prelude.{◌≡◌, ◌≤◌, ◌<◌, ◌+◌, ◌-◌, ◌*◌, ◌^◌, ℕ, ◌++◌, IfSome, IfOk, OnOk, OnErr, None, [], option_to_list, max, min, true, false};
 ghost use Rattle.std.specs.List.{All};
 ghost use Rattle.std.specs.Bool.{OnTrue};
 ghost use Rattle.kc_base.specs.Limits.{max_states};
@@ -10,7 +10,7 @@ ghost use Rattle.kc_trace.specs.Trace.{out_of};
 ghost use Rattle.kc_block_spec.specs.Touch.{block_rule};
 ghost use Rattle.kc_machine_spec.specs.Board.{pins};
 ghost use Rattle.kc_intc.specs.declared.requests.Choice.TheVariants.{Go};
-ghost use Rattle.kc_intc.specs.Choosing.{IsBelow15};
+ghost use Rattle.kc_intc.specs.Choosing.{IsBelowNmi};
 ghost use Rattle.kc_machine_spec.specs.Machine.{scene_of, current, asked, broken};
 ghost use Rattle.kc_machine_spec.specs.Passing.{IsIdle, left_at, whole, activity_end};
 ghost use Rattle.kc_machine_spec.specs.Run.{run_to, end_of};
@@ -38,9 +38,9 @@ impl<X: Extra + Drop> Core<X> {
     ghost use Rattle.kc_machine.specs.Bus.{held_of};
     ghost use Rattle.kc_machine.specs.Seen.{machine_of};
 
-    // All units go so many states on, past the last of these states, and the edges that they give are printed.
+    /// All units go so many states on, past the last of these states, and the edges that they give are printed.
     #[inline(always)]
-    fn advance<S: Sink, L: Ledger>(
+    pub(crate) fn advance<S: Sink, L: Ledger>(
         &mut self,
         count: u64,
         out: &mut TraceOut<S>,
@@ -58,9 +58,9 @@ impl<X: Extra + Drop> Core<X> {
         self.time = last;
     }
 
-    // The edges that the accesses of a state have given are printed.
+    /// The edges that the accesses of a state have given are printed.
     #[inline(always)]
-    fn put_edges<S: Sink>(&self, at: StateTime, out: &mut TraceOut<S>)
+    pub(crate) fn put_edges<S: Sink>(&self, at: StateTime, out: &mut TraceOut<S>)
         ensures { Prints (out_of S.written S.faults out.old) (pins at self.now.bus.edges) (out_of S.written S.faults out.new) }
     {
         if self.bus.edges.is_empty() {
@@ -229,7 +229,7 @@ impl<X: Extra + Drop> Core<X> {
     )
         requires free { IsFree (machine_of self.old) }
         requires choice { choice ≡ asked (machine_of self.old) }
-        requires below { IsBelow15 choice }
+        requires below { IsBelowNmi choice }
         requires may { MayPass until self.old }
         ensures passed { PassesAs X.further until self.old self.new (out_of S.written S.faults out.old) (out_of S.written S.faults out.new) steps.old steps.new }
     {
@@ -417,8 +417,8 @@ impl<X: Extra + Drop> Core<X> {
         self.complete_predecoded(predecoded, states, out, steps)
     }
 
-    // Goes on to the end of the current activity, or to `until` if that comes first.
-    fn go_through<S: Sink, L: Ledger>(
+    /// Goes on to the end of the current activity, or to `until` if that comes first.
+    pub(crate) fn go_through<S: Sink, L: Ledger>(
         &mut self,
         activity: UnderWay,
         until: StateTime,
@@ -429,6 +429,7 @@ impl<X: Extra + Drop> Core<X> {
         requires going { IsGoing activity }
         requires may { MayPass until self.old }
         ensures passed { PassesAs X.further until self.old self.new (out_of S.written S.faults out.old) (out_of S.written S.faults out.new) steps.old steps.new }
+        ensures over { self.new.time ≡ min until (activity_end (machine_of self.old)) }
     {
         let ahead = until - self.time;
         if ahead < u64::from(activity.left) {
@@ -543,8 +544,8 @@ fn put_pins<S: Sink>(edges: &[Edge], at: StateTime, out: &mut TraceOut<S>)
     }
 }
 
-// The record is printed, if there is one.
-fn put_last<S: Sink>(last: Option<Record>, out: &mut TraceOut<S>)
+/// The record is printed, if there is one.
+pub(crate) fn put_last<S: Sink>(last: Option<Record>, out: &mut TraceOut<S>)
     requires { IfSome last CanPrint }
     ensures { Prints (out_of S.written S.faults out.old) (option_to_list last) (out_of S.written S.faults out.new) }
 {

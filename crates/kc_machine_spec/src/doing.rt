@@ -1,5 +1,5 @@
 use kc_base::{Kind, Undefined};
-use kc_exec_spec::Words;
+use kc_exec_spec::{Access, Words};
 use kc_isa::Insn;
 use kc_pts::Cycle;
 
@@ -14,7 +14,7 @@ pub enum Activity {
     Traps,
     /// An entry through the vector of this number, below 16.
     Enters(u8),
-    /// The setup of a cycle of the transfer server for the request of this number, below 15.
+    /// The setup of a cycle of the transfer server for the request of this number, below NMI.
     SetsUp(u8),
     /// One transfer of a cycle for the request of this number, with the end of the cycle after the last.
     Transfers(u8, Cycle),
@@ -46,7 +46,8 @@ pub enum End {
     Spent,
     Powerdown,
     Reset,
-    Undefined(Undefined),
+    /// An undefined use, with the access that was refused, where it is one that was.
+    Undefined(Undefined, Option<Access>),
 }
 
 /// How the machine goes on after an activity.
