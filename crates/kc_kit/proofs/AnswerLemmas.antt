@@ -176,7 +176,7 @@ reported-end : (how : End) → is_reported (status_of how) ≡ true
 reported-end end.Spent = refl
 reported-end end.Powerdown = refl
 reported-end end.Reset = refl
-reported-end (end.Undefined what) = refl
+reported-end (end.Undefined what access) = refl
 
 sound-run : (ns : List (List ℕ)) (extent : Extent) (driving : Driving) (image : List ℕ) → IsSound ns (board_response extent driving image)
 sound-run ns extent driving image = by extent.lives
@@ -580,7 +580,7 @@ done-end : (how : End) → IsDone (status_of how)
 done-end end.Spent = inl refl
 done-end end.Powerdown = inl refl
 done-end end.Reset = inl refl
-done-end (end.Undefined what) = inr refl
+done-end (end.Undefined what access) = inr refl
 
 done-then : {A : Type 0} (x : Result A Response) (may : A → Response → Type 0) (r : Response) → ((a : A) → may a r → IsDone r.status) → IsOk x → Then x may r → IsDone r.status
 done-then (Ok a) may r f ok h = f a h

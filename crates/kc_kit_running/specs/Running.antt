@@ -13,7 +13,7 @@ use Rattle.kc_kit_running.specs.Fitted.{FittedUnit, fitted, fitted_further}
 
 -- the status of a run that has ended so
 abbrev pub status_of : End → Status
-status_of (end.Undefined what) = status.Undefined
+status_of (end.Undefined what access) = status.Undefined
 status_of _ = status.Done
 
 -- the response of a run: how it ended, and its text

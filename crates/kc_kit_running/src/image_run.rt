@@ -70,7 +70,7 @@ pub(crate) fn status_of(end: End) -> Status
     ensures { result ≡ status_of end }
 {
     match end {
-        End::Undefined(_) => Status::Undefined,
+        End::Undefined(_, _) => Status::Undefined,
         _ => Status::Done,
     }
 }
