@@ -1,17 +1,18 @@
 -- A board that is debugged by a script (this kit's own).
-use Rattle.std.specs.Prelude.{ℕ, List}
+use Rattle.std.specs.Prelude.{ℕ, List, []}
 use Rattle.kc_machine_spec.specs.Run.{end_of}
 use Rattle.kc_debug_script.specs.declared.command.Command.{Command}
 use Rattle.kc_debug_script.specs.declared.line_map.MapEntry.{MapEntry}
 use Rattle.kc_debug.specs.Transcript.{Debugged, transcript}
-use Rattle.kc_kit_files.specs.Response.{Response, says}
+use Rattle.kc_kit_files.specs.Response.{Response}
 use Rattle.kc_kit_inputs.specs.declared.driving.Driving.{Driving}
 use Rattle.kc_kit_running.specs.Fitted.{FittedUnit, fitted_further}
-use Rattle.kc_kit_running.specs.Running.{machine_of, status_of}
+use Rattle.kc_kit_running.specs.Running.{ends_with, machine_of}
+use Rattle.kc_kit_running.specs.Sources.{no_lines}
 
 -- the response of a script that was carried out: how its machine stands when the script ends, and the transcript
 abbrev pub script_response : {X : Type 0} → Debugged X → Response
-script_response d = says (status_of (end_of d.machine)) d.text
+script_response d = ends_with no_lines (end_of d.machine) d.text []
 
 -- commands over the machine of an image that was reset, where these drive the inputs; with the entries of a line map
 abbrev pub debugged_by : List MapEntry → List Command → Driving → List ℕ → Debugged FittedUnit

@@ -16,6 +16,7 @@ mod map;
 mod map_laws;
 mod modules;
 mod placed;
+mod source_line;
 mod taken;
 
 pub use fields::kind_word;
@@ -27,3 +28,4 @@ pub use linking::{image_at, link, linked_places};
 pub use map::{link_map, map_at};
 pub use map_laws::free_runs_are_free;
 pub use placed::{one_line_map, placed_have_image, placed_have_lines};
+pub use source_line::{SourceLine, source_line};
