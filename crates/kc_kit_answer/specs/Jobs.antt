@@ -15,7 +15,7 @@ use Rattle.kc_kit_files.specs.declared.status.Status.TheVariants as status
 use Rattle.kc_kit_files.specs.Outside.{OnlyRead}
 use Rattle.kc_kit_files.specs.declared.refusal.Refusal.{Refusal}
 use Rattle.kc_kit_files.specs.Response.{Response, Write, says, reports, done_writing, IsRefused, IsSaid}
-use Rattle.kc_kit_words.specs.Asked.{IsBounded}
+use Rattle.kc_kit_words.specs.Asked.{AreLives, IsBounded}
 use Rattle.kc_kit_words.specs.Values.{max_states}
 use Rattle.kc_kit_words.specs.Commands.{Command}
 use Rattle.kc_kit_inputs.specs.declared.driving.Driving.{Driving}
@@ -26,7 +26,7 @@ use Rattle.kc_kit_answer.specs.declared.job.Job.TheVariants as job
 use Rattle.kc_kit_running.specs.declared.output.Output.{Output}
 use Rattle.kc_kit_answer.specs.Answer.{MayAnswerBy}
 use Rattle.kc_kit_answer.specs.Places.{places_of}
-use Rattle.kc_kit_running.specs.Scripted.{debugged_by, script_response}
+use Rattle.kc_kit_running.specs.Scripted.{debugger_response}
 use Rattle.kc_kit_running.specs.Counted.{summary_of}
 use Rattle.kc_kit_running.specs.Lives.{board_response}
 use Rattle.kc_kit_running.specs.Profiled.{profile_response}
@@ -49,7 +49,7 @@ does (job.Run board sources extent) = board_response (lines_in sources) extent b
 does (job.Profile board states entries out) = profile_response states out.now entries.items board.driving board.image
 does (job.Count board number) = summary_of number board.driving board.image
 does (job.List image first last) = says status.Done (listing image first last)
-does (job.Debug board script lines) = script_response (debugged_by lines script board.driving board.image)
+does (job.Debug board lives script lines) = debugger_response lives lines script board.driving board.image
 does (job.Report verdict) = reports (status_of verdict.is_broken) verdict.text.items verdict.diagnostic.items
 does (job.Write file lines map) = done_writing (written file ∷ maybe_written lines ++ maybe_written map)
 
@@ -59,7 +59,7 @@ IsDoable (job.Run board sources extent) = IsBounded extent
 IsDoable (job.Profile board states entries out) = states ≤ max_states
 IsDoable (job.Count board number) = Unit {0}
 IsDoable (job.List image first last) = (image_start ≤ first) × (first ≤ last)
-IsDoable (job.Debug board script lines) = Unit {0}
+IsDoable (job.Debug board lives script lines) = AreLives lives
 IsDoable (job.Report verdict) = Unit {0}
 IsDoable (job.Write file lines map) = Unit {0}
 

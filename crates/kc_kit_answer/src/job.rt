@@ -55,6 +55,7 @@ pub enum Job<'a> {
     },
     Debug {
         board: Board,
+        lives: Option<u16>,
         script: Script,
         lines: LineMap,
     },
@@ -107,11 +108,12 @@ pub fn perform<'a, F: Files, S: Sink>(
         Job::List { image, first, last } => Ended::by(list_image(&image, first, last, out)),
         Job::Debug {
             board,
+            lives,
             script,
             lines,
         } => {
             let blank = Blank::new(1);
-            debug_board::<S, Brand>(alloc, board, &script, lines, blank, out)
+            debug_board::<S, Brand>(alloc, board, lives, &script, lines, blank, out)
         }
         Job::Report { verdict } => report_verdict(out, verdict),
         Job::Write { file, lines, map } => write_files(alloc, &file, &lines, &map, files),
