@@ -42,7 +42,9 @@ fn run<X: Extra + Drop, L: Ledger>(
     match machine.run(until, out, &mut steps) {
         Ok(End::Spent) => machine.write_finals(End::Spent, out).is_ok(),
         Ok(End::Undefined(what, access)) => {
-            machine.write_finals(End::Undefined(what, access), out).is_ok()
+            machine
+                .write_finals(End::Undefined(what, access), out)
+                .is_ok()
         }
         _ => false,
     }

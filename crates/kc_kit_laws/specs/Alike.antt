@@ -29,4 +29,4 @@ RunsAlike =
     → LinkAnswer objects [] file hex_alone ranges (map spelling ms) [] (done_writing (write file hex ∷ []))
     → RunHexAnswer file inputs extent hex input_texts response
     → (other : Response) × RunAnswer IsFaultDiagnostic names inputs extent ranges texts input_texts other
-      × (silent other ≡ silent response) × (response.status ≢ status.Undefined → other ≡ response)
+    × (silent other ≡ silent response) × (response.status ≢ status.Undefined → other ≡ response)

@@ -18,7 +18,7 @@ no_lines addr = None
 
 abbrev pub line_of_file : List (List ℕ) → Option SourceLine → Option FileLine
 line_of_file files None = None
-line_of_file files (Some at) = option_map (λ file. record { file = file; line = at.line }) (slice_get files at.module)
+line_of_file files (Some at) = option_map (λ file. record { file = file; line = at.line }) (slice_get files at.index)
 
 -- of modules at their places, one of each of these files
 abbrev pub lines_of_files : List (List ℕ) → List Object → Places → FileLines

@@ -74,11 +74,7 @@ fn run_once<S: Sink, L: Ledger>(
 }
 
 /// How a command has ended whose run has ended so, with what is said of it in words.
-pub(crate) fn ended_run(
-    alloc: Global,
-    sources: &Option<Sources<'_>>,
-    how: End,
-) -> Ended<'static>
+pub(crate) fn ended_run(alloc: Global, sources: &Option<Sources<'_>>, how: End) -> Ended<'static>
     ensures status { (result.status ≡ status_of how) ⊎ ((result.status ≡ Status.NoMemory) × (status_of how ≡ Status.Undefined)) }
     ensures said { result.status ≡ status_of how → said_in result.said ≡ said_of (lines_in sources.now) how }
 {

@@ -27,7 +27,7 @@ pub(crate) fn line_in<'s, 'a>(sources: &'s Option<Sources<'a>>, addr: u16) -> Op
     let Some(at) = source_line(&sources.modules, &sources.placement, addr) else {
         return None;
     };
-    match sources.files.get(at.module) {
+    match sources.files.get(at.index) {
         None => None,
         Some(file) => Some(FileLine {
             file: file.as_str(),

@@ -18,7 +18,7 @@ line_begun b addr None = None
 line_begun b addr (Some lines) = option_map (λ l. l.line) (find (begins_at b addr) lines)
 
 abbrev pub or_later : ℕ → Option ℕ → Option SourceLine → Option SourceLine
-or_later index (Some line) later = Some (record { module = index; line = line })
+or_later index (Some line) later = Some (record { index = index; line = line })
 or_later index None later = later
 
 -- the same of modules with their bases, of which the first has this number

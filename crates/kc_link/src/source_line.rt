@@ -8,10 +8,10 @@ ghost use Rattle.kc_link.specs.SourceLine.{begins_at, line_begun, source_line, s
 use kc_link_place::{Bases, Placement};
 use kc_obj_module::{Lines, Module};
 
-/// A line of the source of a module, which is told by its number, counted from 0.
+/// A line of the source of a module, by the number of its module, counted from 0.
 #[derive(Clone, Copy, Drop)]
 pub struct SourceLine {
-    pub module: usize,
+    pub index: usize,
     pub line: u32,
 }
 
@@ -47,19 +47,19 @@ pub fn source_line(modules: &[Module], placement: &Placement, addr: u16) -> Opti
 {
     let mut left = modules;
     let mut ahead = placement.bases.as_slice();
-    let mut module = 0;
+    let mut index = 0;
     while let [object, rest @ ..] = left {
         match ahead {
             [] => return None,
             [own, others @ ..] => {
                 match line_begun(own, addr, object.lines()) {
-                    Some(line) => return Some(SourceLine { module, line }),
+                    Some(line) => return Some(SourceLine { index, line }),
                     None => {}
                 }
                 ahead = others;
             }
         }
-        module += 1;
+        index += 1;
         left = rest;
     }
     None
