@@ -23,6 +23,7 @@ use std::alloc::Global;
 use std::sync::ledger::Ledger;
 
 /// What each life of a board is made of, and how many there are at most.
+#[derive(Drop)]
 pub struct Lives<'a, M: Maker> {
     pub image: &'a Image,
     pub stimuli: &'a Stimuli,

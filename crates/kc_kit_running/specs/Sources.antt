@@ -3,7 +3,7 @@ use Rattle.std.specs.Prelude.{ℕ, List, map, string_bytes, Option, Some, None, 
 use Rattle.std.specs.Option.{option_map}
 use Rattle.kc_obj_module.specs.Object.{Object}
 use Rattle.kc_link_place.specs.Placing.{Places}
-use Rattle.kc_link.specs.declared.source_line.SourceLine.{SourceLine}
+use Rattle.kc_link.specs.declared.addresses.SourceLine.{SourceLine}
 use Rattle.kc_link.specs.SourceLine.{source_line}
 use Rattle.kc_kit_messages.specs.Uses.{FileLine}
 use Rattle.kc_kit_running.specs.declared.sources.Sources.{Sources}

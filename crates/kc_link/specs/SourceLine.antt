@@ -6,7 +6,7 @@ use Rattle.kc_obj_module.specs.Object.{Object}
 use Rattle.kc_obj_module.specs.Numbers.{Bases}
 use Rattle.kc_link_place.specs.BaseLists.{BaseLists, bases_in}
 use Rattle.kc_link_place.specs.Placing.{Places, bases_from}
-use Rattle.kc_link.specs.declared.source_line.SourceLine.{SourceLine}
+use Rattle.kc_link.specs.declared.addresses.SourceLine.{SourceLine}
 
 -- the bytes of a line entry begin at an address
 abbrev pub begins_at : Bases → ℕ → Lines → Bool

@@ -6,6 +6,7 @@
 //! The map of modules that are linked: where pieces and public names went, the stack, and what is left free.
 #![tactic(auto)]
 
+mod addresses;
 mod fields;
 mod filling;
 mod free;
@@ -16,9 +17,9 @@ mod map;
 mod map_laws;
 mod modules;
 mod placed;
-mod source_line;
 mod taken;
 
+pub use addresses::{SourceLine, source_line};
 pub use fields::kind_word;
 pub use kc_base::put_number;
 pub use kc_link_place::{LinkFault, Placement, Ranges};
@@ -28,4 +29,3 @@ pub use linking::{image_at, link, linked_places};
 pub use map::{link_map, map_at};
 pub use map_laws::free_runs_are_free;
 pub use placed::{one_line_map, placed_have_image, placed_have_lines};
-pub use source_line::{SourceLine, source_line};
