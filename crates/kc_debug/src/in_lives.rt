@@ -1,7 +1,14 @@
 // Scripts that are carried out over the lives of a board.
-ghost use Rattle.std.specs.Prelude.{◌≡◌, ◌≤◌, false};
+ghost use Rattle.std.specs.Prelude.{◌≡◌, ◌≤◌, ◌+◌, ◌*◌, ◌^◌, IfOk, false};
+ghost use Rattle.kc_trace.specs.Out.{Puts};
+ghost use Rattle.kc_trace.specs.Text.{text_of};
 ghost use Rattle.kc_trace.specs.Trace.{out_of};
-ghost use Rattle.kc_debug.specs.Debugging.{ToldOf};
+ghost use Rattle.kc_cycles.specs.Life.{life_for};
+ghost use Rattle.kc_cycles.specs.Making.{deadline_of};
+ghost use Rattle.kc_debug.specs.Debugging.{HasLived, IsAhead, ToldOf};
+ghost use Rattle.kc_debug.specs.Faults.{ReportsFault};
+ghost use Rattle.kc_debug.specs.Passing.{IsKept};
+ghost use Rattle.kc_debug.specs.Stops.{states_of_activities, states_of_run};
 
 use crate::activities::{Begun, note};
 use crate::carrying::{go, is_at_break};
@@ -11,9 +18,7 @@ use crate::showing::{REPORTED, report_place, show};
 use arrayvec::ArrayVec;
 use circular_buffer::HeapCircularBuffer;
 use kc_base::{Image, MAX_STATES, NoMemory, Sink, StateTime, Steps};
-use kc_cycles::{
-    LivesFault, Maker, Watchdog, born, deadline_in, has_come, put_restart, span_end,
-};
+use kc_cycles::{LivesFault, Maker, Watchdog, born, deadline_in, has_come, put_restart, span_end};
 use kc_debug_script::{Command, LineMap, Script};
 use kc_extra::{Extra, Pair};
 use kc_machine::{End, Machine, WriteFault};
@@ -97,7 +102,15 @@ fn step_in_life<X: Extra + Drop, S: Sink, L: Ledger>(
     machine: &mut Machine<Pair<X, Watchdog>>,
     out: &mut TraceOut<S>,
     steps: &mut Steps<L>,
-) -> Result<bool, WriteFault> {
+) -> Result<bool, WriteFault>
+    requires kept { IsKept begun.old }
+    requires ahead { IsAhead (deadline_of machine.old.machine.board.units.further) machine.old.machine.time }
+    requires room { machine.old.machine.time + 255 * count ≤ 2 * 10 ^ 15 }
+    requires unbroken { out.old.failed ≡ false }
+    ensures lines { Puts (out_of S.written S.faults out.old) (text_of (life_for ⟦<Pair<X, Watchdog> as Extra>⟧.further deadline_of (states_of_activities ⟦<Pair<X, Watchdog> as Extra>⟧.further count machine.old.machine) machine.old.machine).ran.records) (out_of S.written S.faults out.new) }
+    ensures lived { IfOk result (λ late. HasLived ⟦<Pair<X, Watchdog> as Extra>⟧.further deadline_of (states_of_activities ⟦<Pair<X, Watchdog> as Extra>⟧.further count machine.old.machine) machine.old.machine begun.old late machine.new.machine begun.new) }
+    ensures fault { ReportsFault result out.new.failed }
+{
     let mut left = count;
     while left > 0 {
         if machine.ended().is_some() {
@@ -122,7 +135,15 @@ fn go_in_life<X: Extra + Drop, S: Sink, L: Ledger>(
     machine: &mut Machine<Pair<X, Watchdog>>,
     out: &mut TraceOut<S>,
     steps: &mut Steps<L>,
-) -> Result<bool, WriteFault> {
+) -> Result<bool, WriteFault>
+    requires kept { IsKept begun.old }
+    requires ahead { IsAhead (deadline_of machine.old.machine.board.units.further) machine.old.machine.time }
+    requires room { until ≤ 2 * 10 ^ 15 }
+    requires unbroken { out.old.failed ≡ false }
+    ensures lines { Puts (out_of S.written S.faults out.old) (text_of (life_for ⟦<Pair<X, Watchdog> as Extra>⟧.further deadline_of (states_of_run ⟦<Pair<X, Watchdog> as Extra>⟧.further breaks.now until machine.old.machine) machine.old.machine).ran.records) (out_of S.written S.faults out.new) }
+    ensures lived { IfOk result (λ late. HasLived ⟦<Pair<X, Watchdog> as Extra>⟧.further deadline_of (states_of_run ⟦<Pair<X, Watchdog> as Extra>⟧.further breaks.now until machine.old.machine) machine.old.machine begun.old late machine.new.machine begun.new) }
+    ensures fault { ReportsFault result out.new.failed }
+{
     while machine.now() < until {
         if machine.ended().is_some() {
             return Ok(false);
