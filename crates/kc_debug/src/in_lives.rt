@@ -170,8 +170,8 @@ fn written<S: Sink>(out: &TraceOut<S>) -> Result<(), LivesFault> {
     }
 }
 
-fn or_fault(result: Result<(), WriteFault>) -> Result<(), LivesFault> {
-    match result {
+fn or_fault(given: Result<(), WriteFault>) -> Result<(), LivesFault> {
+    match given {
         Ok(()) => Ok(()),
         Err(_) => Err(LivesFault::WriteFault),
     }
