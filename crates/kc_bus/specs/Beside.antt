@@ -32,4 +32,4 @@ after_beside own h (WriteWord by addr n) = if nat_lt addr 24 then with_registers
 after_beside own h (SetMasks m) = with_registers h (own.after h.registers (SetMasks m))
 
 abbrev pub beside : {R : Type 0} → Meaning R → Meaning (Beside R)
-beside own = record { answer = answer_beside own; after = after_beside own; masks = λ h. own.masks h.registers }
+beside own = record { answer = answer_beside own; after = after_beside own; refused = λ h r. h; masks = λ h. own.masks h.registers }

@@ -42,7 +42,7 @@ mask_after m (WriteWord by addr n) = kept m (with_word m addr n)
 mask_after m (SetMasks new) = new
 
 abbrev pub masks_alone : Meaning Masks
-masks_alone = record { answer = mask_answer; after = mask_after; masks = λ m. m }
+masks_alone = record { answer = mask_answer; after = mask_after; refused = λ m r. m; masks = λ m. m }
 
 abbrev pub flat_meaning : Meaning (Beside Masks)
 flat_meaning = beside masks_alone

@@ -63,8 +63,8 @@ CommandAnswer IsDiagnostic (Some (Links files inputs out beside placing)) conten
 CommandAnswer IsDiagnostic (Some (RunsHex file inputs extent)) contents response =
     Then (reads_of (file ∷ names_of inputs) contents) (Parted 1 (λ texts more. OneText (λ text. RunHexAnswer file inputs extent text more) texts)) response
 CommandAnswer IsDiagnostic (Some (Lists file first last)) contents response = Then (reads_of (file ∷ []) contents) (OneText (ListAnswer file first last)) response
-CommandAnswer IsDiagnostic (Some (Debugs file script inputs)) contents response =
-    Then (reads_of (file ∷ script ∷ names_of inputs) contents) (Parted 2 (λ texts more. TwoTexts (λ text commands. DebugAnswer file script inputs text commands more) texts)) response
+CommandAnswer IsDiagnostic (Some (Debugs file script inputs lives)) contents response =
+    Then (reads_of (file ∷ script ∷ names_of inputs) contents) (Parted 2 (λ texts more. TwoTexts (λ text commands. DebugAnswer file script inputs lives text commands more) texts)) response
 CommandAnswer IsDiagnostic (Some (Generates number)) contents response = GenerateAnswer IsDiagnostic number response
 CommandAnswer IsDiagnostic (Some (Dumps trace inputs out clock)) contents response = DumpFiles trace inputs out clock contents response
 CommandAnswer IsDiagnostic (Some (Checks trace rules inputs clock)) contents response = CheckFiles trace rules inputs clock contents response
@@ -101,7 +101,7 @@ IsAccepted (Some (Links files inputs out beside placing)) contents =
 IsAccepted (Some (RunsHex file inputs extent)) contents =
     Accepting (λ texts. IsOneText (λ text. IsOk (image_of text)) (take 1 texts) × IsOk (driving_of (given_for inputs (drop 1 texts)))) (reads_of (file ∷ names_of inputs) contents)
 IsAccepted (Some (Lists file first last)) contents = Accepting (IsOneText (λ text. IsOk (image_of text))) (reads_of (file ∷ []) contents)
-IsAccepted (Some (Debugs file script inputs)) contents =
+IsAccepted (Some (Debugs file script inputs lives)) contents =
     Accepting (λ texts. AreTwoTexts (λ text commands. IsDebuggable script inputs text commands (drop 2 texts)) (take 2 texts)) (reads_of (file ∷ script ∷ names_of inputs) contents)
 IsAccepted (Some (Generates number)) contents = IsGenerable number
 IsAccepted (Some (Dumps trace inputs out clock)) contents = DumpAccepted trace inputs contents

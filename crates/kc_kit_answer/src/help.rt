@@ -61,6 +61,7 @@ pub static HELP: [Row; 14] = [
     (
         "debug",
         "  kc96 debug NAME SCRIPT          debug the hex file NAME by the commands of SCRIPT
+       [--lives K]                go on after a reset, over K lives at most, with the watchdog
        [--lines FILE]             with the source lines of a line map
        [--stim FILE]              with what drives the input pins
        [--analog FILE]            and the analogue inputs

@@ -1,5 +1,5 @@
 //! Runs of a board: the further units that are fitted to it, and what a run prints and writes, once or over several lives,
-//! with a profile, counted, or as a script says. It stands on `kc_machine`, `kc_cycles`, `kc_profile` and `kc_debug`.
+//! with a profile, counted, or as a script says, and what is said of an undefined use in which one has ended. It stands on `kc_machine`, `kc_cycles`, `kc_profile` and `kc_debug`.
 //! Example: every board of a command has the serial port, the converter and the three pulse-width outputs.
 #![tactic(auto)]
 
@@ -12,6 +12,7 @@ mod image_run;
 mod lives_run;
 mod output;
 mod profile_run;
+mod sources;
 
 pub use board::Board;
 pub use count::count_board;
@@ -19,3 +20,4 @@ pub use debug_run::debug_board;
 pub use image_run::run_board;
 pub use output::{Output, write_output};
 pub use profile_run::{Target, profile_board};
+pub use sources::Sources;

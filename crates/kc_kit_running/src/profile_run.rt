@@ -11,7 +11,7 @@ ghost use Rattle.kc_kit_running.specs.Profiled.{profile_response};
 
 use crate::board::Board;
 use crate::fitted::fitted_machine;
-use crate::image_run::status_of;
+use crate::image_run::ended_run;
 use crate::output::{Output, write_output};
 use kc_base::{Files, NoMemory, Sink, Steps};
 use kc_debug_script::MapEntry;
@@ -59,7 +59,7 @@ pub fn profile_board<'a, F: Files, S: Sink, L: Ledger>(
         Ok(()) => {
             let wrote = write_profile(alloc, &profile, entries, target.name, files);
             match wrote.status {
-                Status::Done => Ended::by(status_of(end)),
+                Status::Done => ended_run(alloc, &None, end),
                 _ => wrote,
             }
         }

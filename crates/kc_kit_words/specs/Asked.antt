@@ -28,7 +28,7 @@ asked (read.Link link) = Links (map string_bytes link.files.now) (inputs_in link
 asked (read.ProfileHex run) = ProfilesHex run.file.now (inputs_in run.inputs) run.states run.out.now
 asked (read.RunHex run) = RunsHex run.file.now (inputs_in run.inputs) run.extent
 asked (read.List list) = Lists list.file.now list.first list.last
-asked (read.Debug debug) = Debugs debug.file.now debug.script.now (inputs_in debug.inputs)
+asked (read.Debug debug) = Debugs debug.file.now debug.script.now (inputs_in debug.inputs) debug.lives
 asked (read.Generate generate) = Generates generate.number
 asked (read.Dump dump) = Dumps dump.trace.now (inputs_in dump.inputs) dump.out.now dump.clock
 asked (read.Check check) = Checks check.trace.now check.rules.now (inputs_in check.inputs) check.clock
@@ -51,6 +51,11 @@ pub record IsBounded (extent : Extent) : Type 0 where
   pub some : IfSome extent.lives (λ n. 1 ≤ n)
   pub few : IfSome extent.lives (λ n. n ≤ max_lives)
 
+-- lives within their limits, where their number is reported
+pub record AreLives (lives : Option ℕ) : Type 0 where
+  pub some : IfSome lives (λ n. 1 ≤ n)
+  pub few : IfSome lives (λ n. n ≤ max_lives)
+
 -- a run is within its limits, files may be linked, addresses are in order, an oscillator goes
 abbrev pub IsWithin : Read → Type 0
 IsWithin (read.Profile run) = (run.states ≤ max_states) × AreLinkable (length run.files.now) run.placing
@@ -60,6 +65,7 @@ IsWithin (read.Link link) = AreLinkable (length link.files.now) link.placing
 IsWithin (read.ProfileHex run) = run.states ≤ max_states
 IsWithin (read.RunHex run) = IsBounded run.extent
 IsWithin (read.List list) = (image_start ≤ list.first) × (list.first ≤ list.last)
+IsWithin (read.Debug debug) = AreLives debug.lives
 IsWithin (read.Dump dump) = 1 ≤ dump.clock
 IsWithin (read.Check check) = 1 ≤ check.clock
 IsWithin _ = Unit {0}

@@ -25,7 +25,7 @@ pub data Command : Type 0 where
   RunsHex : List ℕ → List (Role × List ℕ) → Extent → Command
   ProfilesHex : List ℕ → List (Role × List ℕ) → ℕ → List ℕ → Command
   Lists : List ℕ → ℕ → ℕ → Command
-  Debugs : List ℕ → List ℕ → List (Role × List ℕ) → Command
+  Debugs : List ℕ → List ℕ → List (Role × List ℕ) → Option ℕ → Command
   Generates : ℕ → Command
   Dumps : List ℕ → List (Role × List ℕ) → List ℕ → ℕ → Command
   Checks : List ℕ → List ℕ → List (Role × List ℕ) → ℕ → Command
@@ -50,7 +50,7 @@ names_read (Some (Profiles files inputs states placing out)) = files ++ names_of
 names_read (Some (ProfilesHex file inputs states out)) = file ∷ names_of inputs
 names_read (Some (RunsHex file inputs extent)) = file ∷ names_of inputs
 names_read (Some (Lists file first last)) = file ∷ []
-names_read (Some (Debugs file script inputs)) = file ∷ script ∷ names_of inputs
+names_read (Some (Debugs file script inputs lives)) = file ∷ script ∷ names_of inputs
 names_read (Some (Dumps trace inputs out clock)) = names_of inputs ++ trace ∷ []
 names_read (Some (Checks trace rules inputs clock)) = names_whole rules inputs ++ trace ∷ []
 names_read _ = []

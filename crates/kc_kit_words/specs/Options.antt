@@ -39,7 +39,7 @@ options_for verb =
     else if bytes_eq verb (codes "hex") then running_options
     else if bytes_eq verb (codes "vcd") then out_option ∷ (codes "--clock", form.Clock) ∷ driving_options
     else if bytes_eq verb (codes "check") then (codes "--stim", form.Input role.Stimuli) ∷ (codes "--clock", form.Clock) ∷ []
-    else if bytes_eq verb (codes "debug") then (codes "--lines", form.Input role.Lines) ∷ driving_options
+    else if bytes_eq verb (codes "debug") then (codes "--lines", form.Input role.Lines) ∷ (codes "--lives", form.Lives) ∷ driving_options
     else []
 
 abbrev pub form_among : List ℕ → List (List ℕ × Form) → Option Form

@@ -9,7 +9,7 @@ use Rattle.kc_link_place.specs.Ranges.{are_in_bounds, default_ranges, lies_withi
 use Rattle.kc_kit_words.specs.declared.extent.Extent.{Extent}
 use Rattle.kc_kit_words.specs.declared.inputs.Role.{Role}
 use Rattle.kc_kit_words.specs.Commands.{Beside, Command, Helps, HelpsOn, ReportsVersion, Runs, Profiles, Assembles, Packs, Links, RunsHex, ProfilesHex, Lists, Debugs, Generates, Dumps, Checks, Explains, sparing}
-use Rattle.kc_kit_words.specs.Options.{is_option, are_options, inputs_of, value_of, clock_in, extent_in, range_in, length_in}
+use Rattle.kc_kit_words.specs.Options.{lives_in, is_option, are_options, inputs_of, value_of, clock_in, extent_in, range_in, length_in}
 use Rattle.kc_kit_words.specs.Number.{number_of}
 use Rattle.kc_kit_words.specs.Values.{is_name, is_trace_name, range_of}
 
@@ -124,7 +124,7 @@ list_by _ = None
 
 -- a hex file and a script
 abbrev pub debug_of : List ℕ → List ℕ → List ℕ → List (List ℕ) → Option Command
-debug_of file script verb options = if is_name file && is_name script then Some (Debugs file script (inputs_of verb options)) else None
+debug_of file script verb options = if is_name file && is_name script then Some (Debugs file script (inputs_of verb options) (lives_in options)) else None
 
 abbrev pub debug_by : List (List ℕ) → List ℕ → List (List ℕ) → Option Command
 debug_by (file ∷ script ∷ []) verb options = debug_of file script verb options

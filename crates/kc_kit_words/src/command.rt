@@ -79,12 +79,13 @@ pub struct List<'a> {
     pub last: u16,
 }
 
-/// A run of a hex file as the commands of a script say.
+/// A run of a hex file as the commands of a script say, over at most so many lives, where an option says it.
 #[derive(Clone, Copy)]
 pub struct Debug<'a> {
     pub file: &'a str,
     pub script: &'a str,
     pub inputs: Inputs<'a>,
+    pub lives: Option<u16>,
 }
 
 /// A run of the input that is made from a number.

@@ -114,6 +114,7 @@ pub(crate) fn form_of(verb: &str, option: &str) -> Option<Form>
         },
         "debug" => match option {
             "--lines" => Some(Form::Input(Role::Lines)),
+            "--lives" => Some(Form::Lives),
             _ => driving_form(option),
         },
         _ => None,
@@ -173,8 +174,8 @@ fn states_in(words: &[String]) -> Option<u64>
     states(value_of("--states", words)?)
 }
 
-// How many lives a run has at most, where an option says it.
-fn lives_in(words: &[String]) -> Option<u16>
+/// How many lives a run has at most, where an option says it.
+pub(crate) fn lives_in(words: &[String]) -> Option<u16>
     ensures value { result ≡ lives_in (map string_bytes words.now) }
     ensures some { IfSome result (λ n. 1 ≤ n) }
     ensures within { IfSome result (λ n. n ≤ max_lives) }

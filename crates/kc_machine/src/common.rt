@@ -9,7 +9,7 @@ ghost use Rattle.kc_block_spec.specs.Touch.{block_rule, touch, edges_of};
 ghost use Rattle.kc_block_spec.specs.Leading.{Leads};
 ghost use Rattle.kc_block_spec.specs.Looking.{looked};
 ghost use Rattle.kc_machine_spec.specs.Board.{masks_of};
-ghost use Rattle.kc_machine_spec.specs.Scene.{opened, byte, put, window_at, scene_answer, after_by};
+ghost use Rattle.kc_machine_spec.specs.Scene.{opened, byte, put, refusing, window_at, scene_answer, after_by};
 ghost use Rattle.kc_machine_spec.specs.Machine.{taken, claimed, handed};
 ghost use Rattle.kc_exec_spec.specs.Memory.{is_rom};
 ghost use Rattle.kc_machine.specs.Keeping.{fitting, counted};
@@ -25,13 +25,14 @@ use kc_block_spec::Window;
 use kc_bus::{Masks, Master};
 use kc_code::{Decoded, decode};
 use kc_exec_predecode::{Predecoded, predecode};
+use kc_exec_spec::Access;
 use kc_extra::Extra;
 use std::alloc::Global;
 use std::sync::ledger::Ledger;
 
 /// The memory and the units of a board, and the predecoded instructions of its ROM. After the Tick of a state they are those that
-/// the accesses of the state meet; beside them stand the edges of pins that these accesses have made, and how many of their bytes
-/// have reached a unit.
+/// the accesses of the state meet; beside them stand the edges of pins that these accesses have made, how many of their bytes have
+/// reached a unit, and the one that was refused.
 #[derive(Drop)]
 pub struct Common<X: Extra + Drop> {
     pub(crate) memory: Vec<u8>,
@@ -39,6 +40,7 @@ pub struct Common<X: Extra + Drop> {
     pub(crate) block: Block<X>,
     pub(crate) edges: Noted,
     pub(crate) reached: u8,
+    pub(crate) refused: Option<Access>,
     ghost long: { vec_len memory ≡ 65536 },
     ghost slots: { vec_len predecoded ≡ 0x3FFA },
     ghost known: { IsTable predecoded.items memory.items },
@@ -92,6 +94,7 @@ impl<X: Extra + Drop> Common<X> {
             block,
             edges: Noted::none(),
             reached: 0,
+            refused: None,
         })
     }
 
@@ -116,6 +119,19 @@ impl<X: Extra + Drop> Common<X> {
         self.block.advance(from + count, out, steps);
         self.edges.forget();
         self.reached = 0;
+        self.refused = None;
+    }
+
+    /// Keeps an access that is refused, and gives the kind.
+    #[inline(never)]
+    #[cold]
+    pub(crate) fn refuse(&mut self, access: Access, kind: Kind) -> Kind
+        ensures kind { result ≡ kind }
+        ensures scene { refusing (held_of self.old) access ≡ held_of self.new }
+        ensures none { ReachesNone self.old self.new }
+    {
+        self.refused = Some(access);
+        kind
     }
 
     /// The registers of the units that belong to the processor's state.
