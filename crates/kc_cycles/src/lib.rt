@@ -15,4 +15,5 @@ mod watchdog;
 pub use laws::deadlines_are_of_last_feedings;
 pub use lives::{LivesFault, run_lives};
 pub use maker::Maker;
+pub use restart::put_restart;
 pub use watchdog::{PATIENCE, Watchdog};

@@ -12,6 +12,7 @@ ghost use Rattle.kc_kit_answer.specs.Places.{Placing};
 ghost use Rattle.kc_kit_answer.specs.Profile.{map_entry, AreEntries, DrivenWithLines, FilledWithLines, LinesReported, ProfileAnswer, ProfileHexAnswer};
 
 use crate::board::{board_at, board_of_hex};
+use crate::cover::sources_at;
 use crate::job::Job;
 use crate::placing::place_modules;
 use kc_base::{Files, NoMemory};
@@ -19,8 +20,8 @@ use kc_debug_script::MapEntry;
 use kc_kit_files::{Refusal, read_file, read_files};
 use kc_kit_inputs::{Given, assemble_sources, given_for, read_inputs};
 use kc_kit_messages::Origins;
-use kc_kit_running::Board;
-use kc_kit_words::{Command, Profile, ProfileHex, Ranges};
+use kc_kit_running::{Board, Lines};
+use kc_kit_words::{Behind, Command, Profile, ProfileHex, Ranges};
 use kc_link::{LineAt, Placement, lines_at};
 use kc_link_source_laws::linked_image;
 use kc_obj_module::Module;
@@ -64,9 +65,15 @@ fn profile_hex<'a>(
     match board_of_hex(alloc, run.file, text, given) {
         Ok(board) => Ok(Job::Profile {
             board,
-            states: run.states,
-            entries: Vec::new(alloc),
-            out: run.out,
+            extent: run.extent,
+            lines: Lines {
+                entries: Vec::new(alloc),
+                sources: Vec::new(alloc),
+            },
+            behind: Behind {
+                profile: Some(run.out),
+                cover: None,
+            },
         }),
         Err(refusal) => Err(refusal),
     }
@@ -108,25 +115,25 @@ fn profile_texts<'a>(
 {
     let given = given_for(run.inputs, inputs);
     match board_and_lines(alloc, run.files, texts, &run.placing, given) {
-        Ok((board, entries)) => Ok(Job::Profile {
+        Ok((board, lines)) => Ok(Job::Profile {
             board,
-            states: run.states,
-            entries,
-            out: run.out,
+            extent: run.extent,
+            lines,
+            behind: run.behind,
         }),
         Err(refusal) => Err(refusal),
     }
 }
 
-// The board of the image that is linked from sources by their names and texts, with what given files drive, and the line map of
-// the modules; or the refusal of the first fault or broken rule.
-fn board_and_lines(
+// The board of the image that is linked from sources by their names and texts, with what given files drive, and what is known of
+// their lines; or the refusal of the first fault or broken rule.
+fn board_and_lines<'a>(
     alloc: Global,
-    names: &[String],
+    names: &'a [String],
     texts: &[Vec<u8>],
     placing: &Ranges,
     given: Given<'_>,
-) -> Result<(Board, Vec<MapEntry>), Refusal>
+) -> Result<(Board, Lines<'a>), Refusal>
     requires linkable { AreLinkable (length names.now) placing.now }
     requires count { length texts.now ≡ length names.now }
     requires short { AllShort (map (λ t. t.items) texts.now) }
@@ -136,19 +143,20 @@ fn board_and_lines(
     sources_are_read_well();
     linked_image();
     match assemble_sources(alloc, names, texts) {
-        Ok(modules) => linked(alloc, names, &modules, placing, given),
+        Ok(modules) => linked(alloc, names, texts, &modules, placing, given),
         Err(refusal) => Err(refusal),
     }
 }
 
-// The board of the image that is linked from modules, and their line map.
-fn linked(
+// The board of the image that is linked from modules, and what is known of the lines of their sources.
+fn linked<'a>(
     alloc: Global,
-    names: &[String],
+    names: &'a [String],
+    texts: &[Vec<u8>],
     modules: &[Module],
     placing: &Ranges,
     given: Given<'_>,
-) -> Result<(Board, Vec<MapEntry>), Refusal>
+) -> Result<(Board, Lines<'a>), Refusal>
     requires linkable { AreLinkable (length modules.now) placing.now }
     requires given { AreShort given }
     ensures { IsBoardWithLines (λ report. Placing (map string_bytes names.now) placing.now (DrivenWithLines (given_in given.entry) FilledWithLines report) modules.now) result }
@@ -158,18 +166,20 @@ fn linked(
         members: None,
     };
     match place_modules(alloc, &origins, modules, placing) {
-        Ok(placement) => linked_at(alloc, modules, &placement, given),
+        Ok(placement) => linked_at(alloc, names, texts, modules, &placement, given),
         Err(refusal) => Err(refusal),
     }
 }
 
-// The board of the image of modules at their places, and their line map.
-fn linked_at(
+// The board of the image of modules at their places, and what is known of the lines of their sources.
+fn linked_at<'a>(
     alloc: Global,
+    names: &'a [String],
+    texts: &[Vec<u8>],
     modules: &[Module],
     placement: &Placement,
     given: Given<'_>,
-) -> Result<(Board, Vec<MapEntry>), Refusal>
+) -> Result<(Board, Lines<'a>), Refusal>
     requires placed { ArePlacedAt modules.now placement.now }
     requires given { AreShort given }
     ensures { IsBoardWithLines (λ report. DrivenWithLines (given_in given.entry) FilledWithLines report modules.now placement.now.places) result }
@@ -178,10 +188,25 @@ fn linked_at(
         Ok(board) => board,
         Err(refusal) => return Err(refusal),
     };
-    match entries_at(alloc, modules, placement) {
-        Ok(entries) => Ok((board, entries)),
+    match lines_of(alloc, names, texts, modules, placement, &board) {
+        Ok(lines) => Ok((board, lines)),
         Err(NoMemory) => Err(Refusal::NoMemory),
     }
+}
+
+// What is known of the lines of sources, with their modules at their places on a board.
+fn lines_of<'a>(
+    alloc: Global,
+    names: &'a [String],
+    texts: &[Vec<u8>],
+    modules: &[Module],
+    placement: &Placement,
+    board: &Board,
+) -> Result<Lines<'a>, NoMemory> {
+    Ok(Lines {
+        entries: entries_at(alloc, modules, placement)?,
+        sources: sources_at(alloc, names, texts, modules, placement, &board.image)?,
+    })
 }
 
 // The entries of the line map of modules at their places.

@@ -7,9 +7,18 @@ mod laws;
 mod profile;
 mod reporting;
 mod running;
+mod sight;
 mod spot;
+mod spread;
+mod told;
+mod telling;
+mod waits;
 
 pub use laws::tallies_are_one;
 pub use profile::Profile;
+pub use reporting::report;
 pub use running::run_profiled;
+pub use sight::is_branch;
 pub use spot::Spot;
+pub use telling::Scope;
+pub use told::Told;

@@ -40,6 +40,13 @@ fn raise(numbers: &mut [u64], index: usize, states: u64)
     numbers[index] += states;
 }
 
+// Adds numbers to others, each to its own.
+fn raise_all(numbers: &mut [u64], more: &[u64]) {
+    for (number, other) in numbers.iter_mut().zip(more.iter()) {
+        *number += *other;
+    }
+}
+
 fn no_numbers() -> [u64; 256]
     ensures { result ≡ replicate 256 0 }
 {
@@ -69,6 +76,14 @@ impl Profile {
             Spot::Server(number) => self.server[usize::from(number)],
             Spot::Idle => self.idle,
         }
+    }
+
+    /// Adds the states of another run.
+    pub fn add_all(&mut self, other: &Profile) {
+        raise_all(&mut self.at, &other.at);
+        raise_all(&mut self.entries, &other.entries);
+        raise_all(&mut self.server, &other.server);
+        self.idle += other.idle;
     }
 
     /// So many states more went to a spot.

@@ -3,6 +3,8 @@ ghost use Rattle.std.specs.Prelude.{◌≡◌, ◌+◌, ◌^◌, ◌<◌, ◌≤
 ghost use Rattle.kc_profile.specs.Text as spec;
 
 use crate::Profile;
+use crate::telling::Scope;
+use crate::told::Told;
 use kc_base::NoMemory;
 use kc_debug_script::MapEntry;
 use kc_link::put_number;
@@ -173,6 +175,19 @@ fn put_lines(text: &mut Vec<u8>, at: &[u64], entries: &[MapEntry]) -> Result<(),
         left = rest;
     }
     Ok(())
+}
+
+/// The text of a profile and of what was told beside it.
+pub fn report(
+    alloc: Global,
+    profile: &Profile,
+    told: &Told,
+    entries: &[MapEntry],
+    scope: Scope,
+) -> Result<Vec<u8>, NoMemory> {
+    let mut text = profile.text(alloc, entries)?;
+    told.put(&mut text, scope)?;
+    Ok(text)
 }
 
 impl Profile {

@@ -13,12 +13,21 @@ ghost use Rattle.kc_profile.specs.declared.spot.Spot as spots;
 ghost use Rattle.kc_profile.specs.Spots.{coming_spot, spots_for};
 ghost use Rattle.kc_profile.specs.Tally.{IsTallyOf, total};
 ghost use Rattle.kc_profile.specs.Passing.{Went, LastsFor};
+ghost use Rattle.kc_profile.specs.Sights.{seen_of};
+ghost use Rattle.kc_span.specs.Span.{QuietFor};
+ghost use Rattle.kc_block_spec.specs.Touch.{block_rule};
+ghost use Rattle.kc_machine_spec.specs.Board.{word_at};
+ghost use Rattle.kc_machine.specs.Telling.{raised_in};
 
 use crate::Profile;
+use crate::sight::{Sight, is_undefined};
 use crate::spot::spot_of;
-use kc_base::{Sink, StateTime, Steps};
+use crate::told::Told;
+use kc_base::{IntSet, Sink, StateTime, Steps};
 use kc_extra::Extra;
+use kc_intc::Requests;
 use kc_machine::{End, Machine, WriteFault};
+use kc_machine_spec::UnderWay;
 use kc_trace::TraceOut;
 use std::sync::ledger::Ledger;
 
@@ -129,10 +138,89 @@ fn pass<X: Extra + Drop, S: Sink, L: Ledger>(
     }
 }
 
+// Goes on by states of one spot in which the units do nothing but perhaps in the last, or by one state. Answers which requests are
+// raised in the last of them; none is in those before.
+fn pass_told<X: Extra + Drop, S: Sink, L: Ledger>(
+    machine: &mut Machine<X>,
+    left: u8,
+    until: StateTime,
+    out: &mut TraceOut<S>,
+    steps: &mut Steps<L>,
+) -> Result<IntSet, WriteFault>
+    requires lives { machine.old.machine.ended ≡ None }
+    requires left { left ≡ (current machine.old.machine).left }
+    requires ahead { machine.old.machine.time < until }
+    requires room { until ≤ 2 * 10 ^ 15 }
+    requires unbroken { out.old.failed ≡ false }
+    ensures went { Went X.further until result machine.old (out_of S.written S.faults out.old) steps.old machine.new (out_of S.written S.faults out.new) steps.new }
+    ensures quiet { OnOk result (QuietFor (block_rule X.further) machine.old.machine.time (machine.new.machine.time - 1 - machine.old.machine.time) machine.old.machine.board.units) }
+    ensures raised { IfOk result (λ set. set.0 ≡ raised_in X.further (run_to X.further (machine.new.machine.time - 1) machine.old.machine).machine) }
+{
+    let quiet = machine.due().min(until);
+    if machine.now() < quiet {
+        match pass(machine, left, quiet, out, steps) {
+            Ok(()) => Ok(IntSet(0)),
+            Err(fault) => Err(fault),
+        }
+    } else {
+        machine.step_state(until, out, steps)
+    }
+}
+
+/// What a machine shows at the start of a state.
+#[derive(Clone, Copy)]
+struct Start {
+    at: StateTime,
+    requests: Requests,
+    pc: u16,
+    stack: u16,
+}
+
+// What a machine shows now.
+fn start_of<X: Extra + Drop>(machine: &Machine<X>) -> Start
+    ensures at { result.at ≡ machine.now.machine.time }
+    ensures requests { result.requests ≡ machine.now.machine.board.units.board_registers.requests }
+    ensures pc { result.pc ≡ machine.now.machine.cpu.pc }
+    ensures stack { result.stack ≡ word_at machine.now.machine.board.memory 0x18 }
+{
+    Start {
+        at: machine.now(),
+        requests: machine.requests(),
+        pc: machine.pc(),
+        stack: machine.stack(),
+    }
+}
+
+// What the last state has shown of those that have passed since a start, of an activity that came then.
+fn sight_of<X: Extra + Drop>(
+    start: Start,
+    activity: UnderWay,
+    raised: IntSet,
+    machine: &Machine<X>,
+) -> Sight
+    requires passed { start.at < machine.now.machine.time }
+    ensures { result ≡ seen_of start.at start.requests start.pc start.stack activity raised machine.now.machine }
+{
+    let passed = machine.now() - start.at;
+    Sight {
+        at: machine.now() - 1,
+        raised,
+        before: start.requests,
+        after: machine.requests(),
+        ends: if u64::from(activity.left) <= passed { Some(activity.doing) } else { None },
+        is_broken: is_undefined(machine.ended()),
+        pc: start.pc,
+        next_pc: machine.pc(),
+        stack: start.stack,
+        next_stack: machine.stack(),
+    }
+}
+
 // Goes on by states of one spot, and counts them.
 fn count<X: Extra + Drop, S: Sink, L: Ledger>(
     machine: &mut Machine<X>,
     profile: &mut Profile,
+    told: &mut Told,
     until: StateTime,
     out: &mut TraceOut<S>,
     steps: &mut Steps<L>,
@@ -148,20 +236,27 @@ fn count<X: Extra + Drop, S: Sink, L: Ledger>(
 {
     let activity = machine.current(steps);
     let spot = spot_of(activity.doing, machine.pc());
-    let began = machine.now();
-    let passed = pass(machine, activity.left, until, out, steps);
-    profile.add(spot, machine.now() - began);
-    passed
+    let start = start_of(machine);
+    let passed = pass_told(machine, activity.left, until, out, steps);
+    profile.add(spot, machine.now() - start.at);
+    match passed {
+        Ok(raised) => {
+            told.see(&sight_of(start, activity, raised, machine));
+            Ok(())
+        }
+        Err(fault) => Err(fault),
+    }
 }
 
-/// Runs a machine as `Machine::run` does, and adds to a profile where each state that passes goes, of which all are counted once.
-/// Idle states are passed and counted at once, as many as there are.
+/// Runs a machine as `Machine::run` does, and adds to a profile where each state that passes goes, of which all are counted once,
+/// and to what is told what each state shows. Idle states are passed at once up to the next in which the units do something.
 ///
 /// After a fault of the sink the machine stands at the end of the activity, or of the idle state, in whose lines the sink failed,
 /// and the states up to there are counted.
 pub fn run_profiled<X: Extra + Drop, S: Sink, L: Ledger>(
     machine: &mut Machine<X>,
     profile: &mut Profile,
+    told: &mut Told,
     until: StateTime,
     out: &mut TraceOut<S>,
     steps: &mut Steps<L>,
@@ -189,7 +284,7 @@ pub fn run_profiled<X: Extra + Drop, S: Sink, L: Ledger>(
         if let Some(end) = machine.ended() {
             return Ok(end);
         }
-        count(machine, profile, until, out, steps)?;
+        count(machine, profile, told, until, out, steps)?;
     }
     Ok(machine.ended().unwrap_or(End::Spent))
 }

@@ -1,0 +1,157 @@
+// A run of an image that goes on after a reset and whose states are counted, each life apart.
+use crate::accounts::{Account, Accounts, Lines};
+use crate::board::Board;
+use crate::fitted::FittedUnit;
+use crate::fitting::Fitting;
+use crate::image_run::status_of;
+use kc_base::{Image, NoMemory, Sink, StateTime, Steps};
+use kc_cycles::{Maker, PATIENCE, Watchdog, put_restart};
+use kc_extra::Pair;
+use kc_kit_files::Status;
+use kc_kit_inputs::Driving;
+use kc_machine::{End, Machine, WriteFault};
+use kc_profile::run_profiled;
+use kc_stim::Stimuli;
+use kc_trace::TraceOut;
+use std::alloc::Global;
+use std::sync::ledger::Ledger;
+
+/// For how many states a board is run, and over how many lives at most.
+#[derive(Clone, Copy)]
+pub(crate) struct Watched {
+    pub states: u64,
+    pub most: u16,
+}
+
+type WatchedMachine = Machine<Pair<FittedUnit, Watchdog>>;
+
+// How a life has ended.
+struct Ending {
+    how: End,
+    by_watchdog: bool,
+}
+
+// The machine of the life that begins at a state.
+fn born(
+    alloc: Global,
+    image: &Image,
+    stimuli: &Stimuli,
+    fitting: &Fitting,
+    from: StateTime,
+) -> Result<WatchedMachine, NoMemory> {
+    let unit = fitting.make(alloc, stimuli, from)?;
+    let later = stimuli.after(alloc, from)?;
+    let mut copy = Image::blank(alloc)?;
+    copy.put(0, image.as_slice());
+    Machine::new(alloc, copy, later, Pair::of(unit, Watchdog::new()))
+}
+
+// The end of the span that begins in a state: no deadline can fall inside it.
+fn span_end(now: StateTime, deadline: Option<StateTime>, until: StateTime) -> StateTime {
+    match deadline {
+        Some(at) => until.min(at),
+        None => until.min(now + PATIENCE),
+    }
+}
+
+// Runs a machine up to an end, to its deadline or to the state `until`, and counts its states.
+fn live<S: Sink, L: Ledger>(
+    machine: &mut WatchedMachine,
+    account: &mut Account,
+    until: StateTime,
+    out: &mut TraceOut<S>,
+    steps: &mut Steps<L>,
+) -> Result<Ending, WriteFault> {
+    'spans: loop {
+        let deadline = machine.extra().second().deadline();
+        let stop = span_end(machine.now(), deadline, until);
+        let how = run_profiled(
+            machine,
+            &mut account.profile,
+            &mut account.told,
+            stop,
+            out,
+            steps,
+        )?;
+        if machine.ended().is_some() || stop == until {
+            return Ok(Ending {
+                how,
+                by_watchdog: false,
+            });
+        }
+        if machine.extra().second().deadline() == Some(stop) {
+            return Ok(Ending {
+                how: End::Reset,
+                by_watchdog: true,
+            });
+        }
+    }
+}
+
+// Adds what was counted of a life to the accounts, and to the sums.
+fn account_for(
+    alloc: Global,
+    life: u16,
+    account: &Account,
+    lines: &Lines<'_>,
+    accounts: &mut Accounts,
+    sums: &mut Account,
+) -> Result<(), NoMemory> {
+    accounts.put_life(alloc, life, account, lines)?;
+    sums.add(account);
+    Ok(())
+}
+
+/// Runs a board over several lives, prints their traces, and adds what was counted to the accounts: each life under its heading, and
+/// the sums behind them.
+pub(crate) fn watch_lives<S: Sink, L: Ledger>(
+    alloc: Global,
+    board: Board,
+    watched: Watched,
+    lines: &Lines<'_>,
+    accounts: &mut Accounts,
+    out: &mut TraceOut<S>,
+    steps: &mut Steps<L>,
+) -> Status {
+    let Board { image, driving } = board;
+    let Driving { stimuli, values } = driving;
+    let fitting = Fitting { values };
+    let Ok(mut sums) = Account::new(alloc, 1) else {
+        return Status::NoMemory;
+    };
+    let mut from = 0;
+    let mut life = 1u16;
+    'lives: loop {
+        let Ok(mut account) = Account::new(alloc, life) else {
+            return Status::NoMemory;
+        };
+        let Ok(mut machine) = born(alloc, &image, &stimuli, &fitting, from) else {
+            return Status::NoMemory;
+        };
+        let Ok(ending) = live(&mut machine, &mut account, watched.states - from, out, steps) else {
+            return Status::WriteFault;
+        };
+        let is_last = !matches!(ending.how, End::Reset) || life >= watched.most;
+        if is_last {
+            if machine.write_finals(ending.how, out).is_err() {
+                return Status::WriteFault;
+            }
+        } else {
+            put_restart(machine.now() - 1, ending.by_watchdog, out);
+            if out.failed() {
+                return Status::WriteFault;
+            }
+        }
+        let Ok(()) = account_for(alloc, life, &account, lines, accounts, &mut sums) else {
+            return Status::NoMemory;
+        };
+        if is_last {
+            return match accounts.put_sums(alloc, life, &sums, lines) {
+                Ok(()) => status_of(ending.how),
+                Err(_) => Status::NoMemory,
+            };
+        }
+        from += machine.now();
+        life += 1;
+    }
+}

@@ -1,0 +1,128 @@
+// What a run tells of its requests, of its stack, and of the instructions that it has done.
+ghost use Rattle.std.specs.Prelude.{◌≡◌, ◌+◌, ◌<◌, ◌^◌, ◌∷◌, List, IfOk};
+
+use crate::sight::{Sight, Way};
+use crate::spread::Moment;
+use crate::waits::Waits;
+use kc_base::NoMemory;
+use std::alloc::Global;
+
+/// How many addresses there are.
+const ADDRESSES: usize = 0x10000;
+
+/// The least value to which a run moves the stack pointer, and when it came first.
+#[derive(Clone, Copy)]
+pub struct Depth {
+    pub word: u16,
+    pub when: Moment,
+}
+
+/// What a run tells of its requests, of its stack, and of the instructions that it has done.
+#[derive(Drop)]
+pub struct Told {
+    /// The number of the present life, from 1.
+    pub(crate) life: u16,
+    pub(crate) waits: [Waits; 16],
+    pub(crate) deepest: Option<Depth>,
+    /// At each address, how often an instruction was done, how often a conditional jump was taken, and how often not.
+    pub(crate) hits: Vec<u64>,
+    pub(crate) taken: Vec<u64>,
+    pub(crate) passed: Vec<u64>,
+}
+
+// Counts once more.
+fn count(numbers: &mut [u64], addr: u16) {
+    numbers[usize::from(addr)] += 1;
+}
+
+// Adds numbers to others.
+fn add_all(numbers: &mut [u64], more: &[u64]) {
+    for (number, other) in numbers.iter_mut().zip(more.iter()) {
+        *number += *other;
+    }
+}
+
+// The deeper of two depths, the first of those that are equal.
+fn deeper(first: Option<Depth>, second: Depth) -> Depth {
+    match first {
+        Some(first) if first.word <= second.word => first,
+        _ => second,
+    }
+}
+
+impl Told {
+    /// Of a life with this number of which no state has passed.
+    pub fn new(alloc: Global, life: u16) -> Result<Told, NoMemory> {
+        Ok(Told {
+            life,
+            waits: [Waits::none(); 16],
+            deepest: None,
+            hits: vec![in alloc; 0u64; ADDRESSES]?,
+            taken: vec![in alloc; 0u64; ADDRESSES]?,
+            passed: vec![in alloc; 0u64; ADDRESSES]?,
+        })
+    }
+
+    // Takes what a state shows of the instructions.
+    fn see_instructions(&mut self, sight: &Sight) {
+        if sight.hits() {
+            count(&mut self.hits, sight.pc);
+        }
+        match sight.way() {
+            Some(Way::Taken) => count(&mut self.taken, sight.pc),
+            Some(Way::Passed) => count(&mut self.passed, sight.pc),
+            None => {}
+        }
+    }
+
+    // Takes what a state shows of the stack.
+    fn see_stack(&mut self, sight: &Sight) {
+        if sight.moves_stack() {
+            let depth = Depth {
+                word: sight.next_stack,
+                when: Moment {
+                    life: self.life,
+                    at: sight.at,
+                },
+            };
+            self.deepest = Some(deeper(self.deepest, depth));
+        }
+    }
+
+    // Takes what a state shows of each request.
+    fn see_requests(&mut self, sight: &Sight) {
+        for n in 0..16u8 {
+            self.waits[usize::from(n)].see(n, self.life, sight);
+        }
+    }
+
+    /// Takes the next state of the present life.
+    pub(crate) fn see(&mut self, sight: &Sight) {
+        self.see_instructions(sight);
+        self.see_stack(sight);
+        self.see_requests(sight);
+    }
+
+    /// Adds what a later life tells.
+    pub fn add(&mut self, later: &Told) {
+        for n in 0..16usize {
+            self.waits[n].add(&later.waits[n]);
+        }
+        if let Some(depth) = later.deepest {
+            self.deepest = Some(deeper(self.deepest, depth));
+        }
+        add_all(&mut self.hits, &later.hits);
+        add_all(&mut self.taken, &later.taken);
+        add_all(&mut self.passed, &later.passed);
+    }
+
+    /// How often an instruction was done at an address.
+    pub fn hits(&self, addr: u16) -> u64 {
+        self.hits[usize::from(addr)]
+    }
+
+    /// How often the conditional jump at an address was taken, and how often not.
+    pub fn ways(&self, addr: u16) -> (u64, u64) {
+        (self.taken[usize::from(addr)], self.passed[usize::from(addr)])
+    }
+}
