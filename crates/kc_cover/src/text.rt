@@ -1,4 +1,7 @@
 // The text of a coverage, after the manual page of geninfo ("FILES", the tracefile).
+ghost use Rattle.std.specs.Prelude.{◌≡◌, ◌++◌, OnOk};
+ghost use Rattle.kc_cover.specs.Cover as spec;
+
 use crate::source::{Instruction, Source};
 use kc_base::{NoMemory, put_number};
 use kc_profile::Told;
@@ -25,7 +28,9 @@ impl Tally {
 }
 
 // Puts a word, a number and the end of a line.
-fn put_count(text: &mut Vec<u8>, word: &[u8], number: u64) -> Result<(), NoMemory> {
+fn put_count(text: &mut Vec<u8>, word: &[u8], number: u64) -> Result<(), NoMemory>
+    ensures { OnOk result (text.new.items ≡ text.old.items ++ spec.count_line word.now number) }
+{
     text.extend_from_slice(word)?;
     put_number(text, u128::from(number))?;
     text.push(b'\n')?;
@@ -40,7 +45,8 @@ fn put_way(text: &mut Vec<u8>, line: u32, jump: u64, way: &[u8]) -> Result<(), N
     put_number(text, u128::from(line))?;
     text.push(b',')?;
     put_number(text, u128::from(jump))?;
-    text.extend_from_slice(way)
+    text.extend_from_slice(way)?;
+    Ok(())
 }
 
 // Puts the two lines of a jump: how often it was taken, and how often not.
@@ -139,9 +145,14 @@ fn put_lines(
 // ---- sources
 
 // Puts the name of the test: none, or that of a life.
-fn put_test(text: &mut Vec<u8>, life: Option<u16>) -> Result<(), NoMemory> {
+fn put_test(text: &mut Vec<u8>, life: Option<u16>) -> Result<(), NoMemory>
+    ensures { OnOk result (text.new.items ≡ text.old.items ++ spec.test_line life) }
+{
     match life {
-        None => text.extend_from_slice(b"TN:\n"),
+        None => {
+            text.extend_from_slice(b"TN:\n")?;
+            Ok(())
+        }
         Some(life) => put_count(text, b"TN:life_", u64::from(life)),
     }
 }
@@ -151,14 +162,17 @@ fn put_source(
     source: &Source<'_>,
     life: Option<u16>,
     told: &Told,
-) -> Result<(), NoMemory> {
+) -> Result<(), NoMemory>
+    ensures { OnOk result (text.new.items ≡ text.old.items ++ spec.source_text life told.now source.now) }
+{
     put_test(text, life)?;
     text.extend_from_slice(b"SF:")?;
     text.extend_from_slice(source.name.as_bytes())?;
     text.push(b'\n')?;
     put_jumps(text, &source.instructions, told)?;
     put_lines(text, &source.instructions, told)?;
-    text.extend_from_slice(b"end_of_record\n")
+    text.extend_from_slice(b"end_of_record\n")?;
+    Ok(())
 }
 
 /// Puts which lines of sources have run behind a text, by what a run has told; the name of the test is that of the life, where there
@@ -168,7 +182,9 @@ pub fn put_sources(
     sources: &[Source<'_>],
     life: Option<u16>,
     told: &Told,
-) -> Result<(), NoMemory> {
+) -> Result<(), NoMemory>
+    ensures { OnOk result (text.new.items ≡ text.old.items ++ spec.cover_text life told.now sources.now) }
+{
     let mut left = sources;
     while let [source, rest @ ..] = left {
         put_source(text, source, life, told)?;

@@ -2,14 +2,13 @@
 ghost use Rattle.std.specs.Prelude.{◌≡◌, ◌≤◌, IfOk, length, map, string_bytes};
 ghost use Rattle.kc_link.specs.Placed.{ArePlacedAt};
 ghost use Rattle.kc_kit_files.specs.Reads.{AllShort};
-ghost use Rattle.kc_kit_words.specs.Asked.{asked, AreLinkable, IsWithin};
+ghost use Rattle.kc_kit_words.specs.Asked.{asked, behind_in, AreLinkable, IsBounded, IsWithin};
 ghost use Rattle.kc_kit_words.specs.Inputs.{inputs_in};
-ghost use Rattle.kc_kit_words.specs.Values.{max_states};
 ghost use Rattle.kc_kit_inputs.specs.Driving.{given_in, AreShort};
 ghost use Rattle.kc_kit_inputs.specs.FaultDiagnostics.{IsFaultDiagnostic};
 ghost use Rattle.kc_kit_answer.specs.Jobs.{IsBoardWithLines, IsPrepared, Prepares};
 ghost use Rattle.kc_kit_answer.specs.Places.{Placing};
-ghost use Rattle.kc_kit_answer.specs.Profile.{map_entry, AreEntries, DrivenWithLines, FilledWithLines, LinesReported, ProfileAnswer, ProfileHexAnswer};
+ghost use Rattle.kc_kit_answer.specs.Profile.{map_entry, AreEntries, AreLines, DrivenWithLines, FilledWithLines, LinesReported, ProfileAnswer, ProfileHexAnswer};
 
 use crate::board::{board_at, board_of_hex};
 use crate::cover::sources_at;
@@ -56,10 +55,10 @@ fn profile_hex<'a>(
     text: &[u8],
     inputs: &[Vec<u8>],
 ) -> Result<Job<'a>, Refusal>
-    requires states { run.now.states ≤ max_states }
+    requires bounded { IsBounded run.now.extent }
     requires short { length text.now ≤ 1048576 }
     requires inputs { AllShort (map (λ t. t.items) inputs.now) }
-    ensures { IsPrepared (ProfileHexAnswer run.now.file.now (inputs_in run.now.inputs) run.now.states run.now.out.now text.now (map (λ t. t.items) inputs.now)) result }
+    ensures { IsPrepared (ProfileHexAnswer run.now.file.now (inputs_in run.now.inputs) run.now.extent run.now.out.now text.now (map (λ t. t.items) inputs.now)) result }
 {
     let given = given_for(run.inputs, inputs);
     match board_of_hex(alloc, run.file, text, given) {
@@ -111,7 +110,7 @@ fn profile_texts<'a>(
     requires count { length texts.now ≡ length run.now.files.now }
     requires short { AllShort (map (λ t. t.items) texts.now) }
     requires inputs { AllShort (map (λ t. t.items) inputs.now) }
-    ensures { IsPrepared (ProfileAnswer IsFaultDiagnostic (map string_bytes run.now.files.now) (inputs_in run.now.inputs) run.now.states run.now.placing run.now.out.now (map (λ t. t.items) texts.now) (map (λ t. t.items) inputs.now)) result }
+    ensures { IsPrepared (ProfileAnswer IsFaultDiagnostic (map string_bytes run.now.files.now) (inputs_in run.now.inputs) run.now.extent run.now.placing (behind_in run.now.behind) (map (λ t. t.items) texts.now) (map (λ t. t.items) inputs.now)) result }
 {
     let given = given_for(run.inputs, inputs);
     match board_and_lines(alloc, run.files, texts, &run.placing, given) {
@@ -159,7 +158,7 @@ fn linked<'a>(
 ) -> Result<(Board, Lines<'a>), Refusal>
     requires linkable { AreLinkable (length modules.now) placing.now }
     requires given { AreShort given }
-    ensures { IsBoardWithLines (λ report. Placing (map string_bytes names.now) placing.now (DrivenWithLines (given_in given.entry) FilledWithLines report) modules.now) result }
+    ensures { IsBoardWithLines (λ report. Placing (map string_bytes names.now) placing.now (DrivenWithLines (given_in given.entry) (FilledWithLines (map string_bytes names.now) (map (λ t. t.items) texts.now)) report) modules.now) result }
 {
     let origins = Origins {
         files: names,
@@ -182,7 +181,7 @@ fn linked_at<'a>(
 ) -> Result<(Board, Lines<'a>), Refusal>
     requires placed { ArePlacedAt modules.now placement.now }
     requires given { AreShort given }
-    ensures { IsBoardWithLines (λ report. DrivenWithLines (given_in given.entry) FilledWithLines report modules.now placement.now.places) result }
+    ensures { IsBoardWithLines (λ report. DrivenWithLines (given_in given.entry) (FilledWithLines (map string_bytes names.now) (map (λ t. t.items) texts.now)) report modules.now placement.now.places) result }
 {
     let board = match board_at(alloc, modules, placement, given) {
         Ok(board) => board,
@@ -202,7 +201,13 @@ fn lines_of<'a>(
     modules: &[Module],
     placement: &Placement,
     board: &Board,
-) -> Result<Lines<'a>, NoMemory> {
+) -> Result<Lines<'a>, NoMemory>
+    requires placed { ArePlacedAt modules.now placement.now }
+    requires count { length texts.now ≡ length names.now }
+    requires modules { length modules.now ≡ length names.now }
+    requires short { AllShort (map (λ t. t.items) texts.now) }
+    ensures { IfOk result (AreLines (map string_bytes names.now) (map (λ t. t.items) texts.now) board.now.image modules.now placement.now.places) }
+{
     Ok(Lines {
         entries: entries_at(alloc, modules, placement)?,
         sources: sources_at(alloc, names, texts, modules, placement, &board.image)?,

@@ -70,7 +70,8 @@ impl Accounts {
         scope: Scope,
     ) -> Result<(), NoMemory> {
         let text = report(alloc, &account.profile, &account.told, &lines.entries, scope)?;
-        self.profile.extend_from_slice(&text)
+        self.profile.extend_from_slice(&text)?;
+        Ok(())
     }
 
     /// Adds what was counted of a run of one life.

@@ -142,9 +142,9 @@ pub(crate) fn watch_lives<S: Sink, L: Ledger>(
                 return Status::WriteFault;
             }
         }
-        let Ok(()) = account_for(alloc, life, &account, lines, accounts, &mut sums) else {
+        if account_for(alloc, life, &account, lines, accounts, &mut sums).is_err() {
             return Status::NoMemory;
-        };
+        }
         if is_last {
             return match accounts.put_sums(alloc, life, &sums, lines) {
                 Ok(()) => status_of(ending.how),

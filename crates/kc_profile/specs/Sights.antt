@@ -62,6 +62,12 @@ module _ {X : Type 0} (f : Further X) where
   history zero m = []
   history (suc t) m = let now = (run_for f t m).machine in unless_ended now.ended (sight_of now) (history t m)
 
+-- a machine with which a life begins: at its state 0, and with no request
+pub record Begins {X : Type 0} (m : Machine X) : Type 0 where
+  pub time : m.time ≡ 0
+  pub pending : m.board.units.board_registers.requests.pending ≡ 0
+  pub handed : m.board.units.board_registers.requests.service ≡ 0
+
 -- ---- what ends in a state
 
 -- the activity that ends there, where no undefined use ends the run

@@ -1,6 +1,6 @@
 -- Some numbers, each with the time at which it came, in four: how many, the least, the greatest, and when the first that is the
 -- greatest came (this kit's own).
-use Rattle.std.specs.Prelude.{◌≡◌, ℕ, ◌+◌, ◌≤◌, ◌<◌, nat_lt, min, max, if◌then◌else◌, List, [], ◌∷◌, ◌++◌, length, Option, Some, None, All}
+use Rattle.std.specs.Prelude.{◌≡◌, ℕ, ◌+◌, ◌≤◌, ◌<◌, nat_lt, min, max, if◌then◌else◌, List, [], ◌∷◌, ◌++◌, length, Option, Some, None, All, IfSome}
 use Rattle.kc_profile.specs.declared.spread.Moment.{Moment}
 use Rattle.kc_profile.specs.declared.spread.Spread.{Spread}
 
@@ -33,6 +33,10 @@ with_number number when (Some earlier) = both earlier (one number when)
 unfoldable pub spread_of : List Dated → Option Spread
 spread_of [] = None
 spread_of (last ∷ earlier) = Some (with_number last.0 last.1 (spread_of earlier))
+
+-- at most so many numbers
+abbrev pub AreFew : ℕ → Option Spread → Type 0
+AreFew limit spread = IfSome spread (λ s. s.count ≤ limit)
 
 -- ---- the same in words
 

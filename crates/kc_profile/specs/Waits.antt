@@ -1,6 +1,6 @@
 -- How long requests wait (80C196KC User's Manual, "Interrupts": latency; "Peripheral Transaction Server"). Of states the last
 -- comes first.
-use Rattle.std.specs.Prelude.{◌≡◌, ℕ, zero, suc, ◌+◌, ◌-◌, ◌<◌, Bool, true, false, ◌&&◌, ◌||◌, if◌then◌else◌, List, [], ◌∷◌, ◌++◌, Option, Some, None, is_some, count_by}
+use Rattle.std.specs.Prelude.{◌≡◌, ℕ, zero, suc, ◌+◌, ◌-◌, ◌<◌, ◌≤◌, Bool, true, false, ◌&&◌, ◌||◌, if◌then◌else◌, List, [], ◌∷◌, ◌++◌, Option, Some, None, is_some, count_by}
 use Rattle.kc_base.specs.Bits.{bit}
 use Rattle.kc_profile.specs.declared.sight.Sight.{Sight}
 use Rattle.kc_profile.specs.declared.spread.Moment.{Moment}
@@ -8,7 +8,7 @@ use Rattle.kc_profile.specs.declared.spread.Spread.{Spread}
 use Rattle.kc_profile.specs.declared.waits.Waiting.{Waiting}
 use Rattle.kc_profile.specs.declared.waits.Waits.{Waits}
 use Rattle.kc_profile.specs.Sights.{enters, sets_up}
-use Rattle.kc_profile.specs.Spreads.{Dated, spread_of, with_number, together}
+use Rattle.kc_profile.specs.Spreads.{AreFew, Dated, spread_of, with_number, together}
 
 -- the pending requests at the start of a state, and those that the transfer server has handed to their interrupts (PTSSRV)
 abbrev pub pending : Sight → ℕ
@@ -62,13 +62,29 @@ abbrev pub time_since : Option ℕ → ℕ → ℕ
 time_since None at = 0
 time_since (Some since) at = at - since
 
--- a request waits since the states that are told
-pub record WaitsSince (n : ℕ) (waiting : Waiting) (next : Sight) (sights : List Sight) : Type 0 where
-  pub pending : time_since waiting.pending next.at ≡ row pending n (next ∷ sights)
-  pub handed : time_since waiting.handed next.at ≡ row handed n (next ∷ sights)
+unfoldable pub came : (Sight → ℕ) → ℕ → List Sight → Option ℕ
+came set n [] = None
+came set n (s ∷ earlier) = since_after (came set n earlier) (bit (set s) n) s.at
+
+abbrev pub pending_after : Sight → ℕ
+pending_after s = s.after.pending
+
+abbrev pub handed_after : Sight → ℕ
+handed_after s = s.after.service
+
+-- a state follows others of a life, at whose start no request was there
+abbrev pub Follows : Sight → List Sight → Type 0
+Follows s [] = (s.before.pending ≡ 0) × (s.before.service ≡ 0)
+Follows s (last ∷ earlier) = (s.at ≡ last.at + 1) × (s.before ≡ last.after)
+
+unfoldable pub AreConsecutive : Sight → List Sight → Type 0
+AreConsecutive s [] = Follows s []
+AreConsecutive s (last ∷ earlier) = Follows s (last ∷ earlier) × AreConsecutive last earlier
 
 -- what is told of a request after these states of a life
 pub record AreWaitsOf (n life : ℕ) (sights : List Sight) (w : Waits) : Type 0 where
+  pub pending : w.waiting.pending ≡ came pending_after n sights
+  pub handed : w.waiting.handed ≡ came handed_after n sights
   pub latency : w.latency ≡ spread_of (latencies n life sights)
   pub served : w.served ≡ spread_of (services n life sights)
   pub missed : w.missed ≡ missed n sights
@@ -93,6 +109,12 @@ see n life s w = record {
 -- of a request that has never come
 abbrev pub no_waits : Waits
 no_waits = record { waiting = record { pending = None; handed = None }; latency = None; served = None; missed = 0 }
+
+-- no count is more than a limit
+pub record AreFewWaits (limit : ℕ) (w : Waits) : Type 0 where
+  pub latency : AreFew limit w.latency
+  pub served : AreFew limit w.served
+  pub missed : w.missed ≤ limit
 
 -- of one life and a later one
 abbrev pub added : Waits → Waits → Waits

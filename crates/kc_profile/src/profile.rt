@@ -2,6 +2,7 @@
 ghost use Rattle.std.specs.Prelude.{◌≡◌, ◌+◌, ◌^◌, ◌<◌, List, [], ◌++◌, length, replicate, sum, slice_index, slice_set, IfOk};
 ghost use Rattle.kc_profile.specs.declared.spot.Spot as spots;
 ghost use Rattle.kc_profile.specs.Tally.{IsTallyOf, number_of, total};
+ghost use Rattle.kc_profile.specs.Told.{sums};
 
 use crate::Spot;
 use kc_base::NoMemory;
@@ -41,9 +42,13 @@ fn raise(numbers: &mut [u64], index: usize, states: u64)
 }
 
 // Adds numbers to others, each to its own.
-fn raise_all(numbers: &mut [u64], more: &[u64]) {
-    for (number, other) in numbers.iter_mut().zip(more.iter()) {
-        *number += *other;
+fn raise_all(numbers: &mut [u64], more: &[u64])
+    requires same { length numbers.old ≡ length more.now }
+    requires fits { sum numbers.old + sum more.now < 2 ^ 64 }
+    ensures { numbers.new ≡ sums numbers.old more.now }
+{
+    for i in 0..numbers.len() {
+        numbers[i] += more[i];
     }
 }
 
@@ -79,7 +84,11 @@ impl Profile {
     }
 
     /// Adds the states of another run.
-    pub fn add_all(&mut self, other: &Profile) {
+    pub fn add_all(&mut self, other: &Profile)
+        requires { total self.old + total other.now < 2 ^ 64 }
+        ensures total { total self.new ≡ total self.old + total other.now }
+        ensures tally { (before others : List spots.Spot) → IsTallyOf before self.old → IsTallyOf others other.now → IsTallyOf (before ++ others) self.new }
+    {
         raise_all(&mut self.at, &other.at);
         raise_all(&mut self.entries, &other.entries);
         raise_all(&mut self.server, &other.server);

@@ -1,13 +1,13 @@
 // The text of a profile.
 ghost use Rattle.std.specs.Prelude.{◌≡◌, ◌+◌, ◌^◌, ◌<◌, ◌≤◌, ◌++◌, ◌&&◌, ◌==◌, codes, decimal, length, sum, IfOk, OnOk};
+ghost use Rattle.kc_profile.specs.Telling.{told_text};
 ghost use Rattle.kc_profile.specs.Text as spec;
 
 use crate::Profile;
 use crate::telling::Scope;
 use crate::told::Told;
-use kc_base::NoMemory;
+use kc_base::{NoMemory, put_number};
 use kc_debug_script::MapEntry;
-use kc_link::put_number;
 use kc_trace::address_text;
 use std::alloc::Global;
 
@@ -184,7 +184,9 @@ pub fn report(
     told: &Told,
     entries: &[MapEntry],
     scope: Scope,
-) -> Result<Vec<u8>, NoMemory> {
+) -> Result<Vec<u8>, NoMemory>
+    ensures { IfOk result (λ text. text.items ≡ spec.profile_text profile.now entries.now ++ told_text scope told.now) }
+{
     let mut text = profile.text(alloc, entries)?;
     told.put(&mut text, scope)?;
     Ok(text)

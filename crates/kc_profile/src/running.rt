@@ -1,10 +1,10 @@
 // A run whose states are counted.
-ghost use Rattle.std.specs.Prelude.{◌≡◌, ◌+◌, ◌-◌, ◌*◌, ◌^◌, ◌<◌, ◌≤◌, max, List, ◌++◌, length, replicate, None, IfOk, OnOk, OnErr, false, true};
+ghost use Rattle.std.specs.Prelude.{◌≡◌, ◌+◌, ◌-◌, ◌*◌, ◌^◌, ◌<◌, ◌≤◌, max, ℕ, List, ◌++◌, length, replicate, None, IfOk, OnOk, OnErr, false, true};
 ghost use Rattle.kc_trace.specs.Counting.{counted_all};
 ghost use Rattle.kc_trace.specs.Out.{Puts, Prints};
 ghost use Rattle.kc_trace.specs.Text.{text_of};
 ghost use Rattle.kc_trace.specs.Trace.{out_of};
-ghost use Rattle.kc_machine_spec.specs.Machine.{current};
+ghost use Rattle.kc_machine_spec.specs.Machine.{Machine, current};
 ghost use Rattle.kc_machine_spec.specs.Run.{run_to, end_of};
 ghost use Rattle.kc_machine_spec.specs.Passing.{activity_end};
 ghost use Rattle.kc_machine.specs.Failing.{FailsIn};
@@ -13,7 +13,8 @@ ghost use Rattle.kc_profile.specs.declared.spot.Spot as spots;
 ghost use Rattle.kc_profile.specs.Spots.{coming_spot, spots_for};
 ghost use Rattle.kc_profile.specs.Tally.{IsTallyOf, total};
 ghost use Rattle.kc_profile.specs.Passing.{Went, LastsFor};
-ghost use Rattle.kc_profile.specs.Sights.{seen_of};
+ghost use Rattle.kc_profile.specs.Sights.{seen_of, history, Begins};
+ghost use Rattle.kc_profile.specs.Told.{AreAllFew, IsToldOf};
 ghost use Rattle.kc_span.specs.Span.{QuietFor};
 ghost use Rattle.kc_block_spec.specs.Touch.{block_rule};
 ghost use Rattle.kc_machine_spec.specs.Board.{word_at};
@@ -230,7 +231,10 @@ fn count<X: Extra + Drop, S: Sink, L: Ledger>(
     requires room { until ≤ 2 * 10 ^ 15 }
     requires fits { total profile.old + (until - machine.old.machine.time) < 2 ^ 64 }
     requires unbroken { out.old.failed ≡ false }
+    requires few { AreAllFew (2 ^ 64 - 2) told.old }
     ensures went { Went X.further until result machine.old (out_of S.written S.faults out.old) steps.old machine.new (out_of S.written S.faults out.new) steps.new }
+    ensures told { (first : Machine X) → Begins first → machine.old.machine ≡ (run_to X.further machine.old.machine.time first).machine → IsToldOf told.old.life (history X.further machine.old.machine.time first) told.old → OnOk result (IsToldOf told.old.life (history X.further machine.new.machine.time first) told.new) }
+    ensures few { (n : ℕ) → AreAllFew n told.old → AreAllFew (n + 1) told.new }
     ensures profile { (before : List spots.Spot) → IsTallyOf before profile.old → IsTallyOf (before ++ replicate (machine.new.machine.time - machine.old.machine.time) (coming_spot machine.old.machine)) profile.new }
     ensures total { total profile.new ≡ total profile.old + (machine.new.machine.time - machine.old.machine.time) }
 {
@@ -264,6 +268,7 @@ pub fn run_profiled<X: Extra + Drop, S: Sink, L: Ledger>(
     requires until { until ≤ 2 * 10 ^ 15 }
     requires unbroken { out.old.failed ≡ false }
     requires room { total profile.old + until < 2 ^ 64 }
+    requires few { AreAllFew (2 ^ 64 - 1 - until) told.old }
     ensures end { IfOk result (λ end. end ≡ end_of (run_to X.further until machine.old.machine).machine) }
     ensures machine { OnOk result (machine.new.machine ≡ (run_to X.further until machine.old.machine).machine) }
     ensures lines { Puts (out_of S.written S.faults out.old) (text_of (run_to X.further until machine.old.machine).records) (out_of S.written S.faults out.new) }
@@ -279,6 +284,8 @@ pub fn run_profiled<X: Extra + Drop, S: Sink, L: Ledger>(
     ensures all { OnOk result (spots_for X.further (until - machine.old.machine.time) machine.old.machine ≡ spots_for X.further (machine.new.machine.time - machine.old.machine.time) machine.old.machine) }
     ensures passed { length (spots_for X.further (machine.new.machine.time - machine.old.machine.time) machine.old.machine) ≡ machine.new.machine.time - machine.old.machine.time }
     ensures total { total profile.new ≡ total profile.old + (machine.new.machine.time - machine.old.machine.time) }
+    ensures told { (first : Machine X) → Begins first → machine.old.machine ≡ (run_to X.further machine.old.machine.time first).machine → IsToldOf told.old.life (history X.further machine.old.machine.time first) told.old → OnOk result (IsToldOf told.old.life (history X.further machine.new.machine.time first) told.new) }
+    ensures few { (n : ℕ) → AreAllFew n told.old → AreAllFew (n + (machine.new.machine.time - machine.old.machine.time)) told.new }
 {
     while machine.now() < until {
         if let Some(end) = machine.ended() {

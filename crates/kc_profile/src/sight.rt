@@ -68,14 +68,20 @@ impl Sight {
     pub(crate) fn enters(&self, n: u8) -> bool
         ensures { result ≡ spec.enters n self.now }
     {
-        matches!(self.done(), Some(Activity::Enters(number)) if number == n)
+        match self.done() {
+            Some(Activity::Enters(number)) => number == n,
+            _ => false,
+        }
     }
 
     /// Whether the setup of a cycle of the transfer server for a request has ended in the state.
     pub(crate) fn sets_up(&self, n: u8) -> bool
         ensures { result ≡ spec.sets_up n self.now }
     {
-        matches!(self.done(), Some(Activity::SetsUp(number)) if number == n)
+        match self.done() {
+            Some(Activity::SetsUp(number)) => number == n,
+            _ => false,
+        }
     }
 
     /// Whether an instruction, a trap of an opcode that no instruction has, or an undefined use that is found at the start has its last

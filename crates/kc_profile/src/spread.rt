@@ -1,4 +1,5 @@
-ghost use Rattle.std.specs.Prelude.{◌≡◌, ◌+◌, ◌<◌, ◌^◌, Some};
+ghost use Rattle.std.specs.Prelude.{◌≡◌, ◌+◌, ◌-◌, ◌<◌, ◌^◌};
+ghost use Rattle.kc_profile.specs.Spreads.{AreFew};
 ghost use Rattle.kc_profile.specs.Spreads as spec;
 
 use kc_base::StateTime;
@@ -21,6 +22,7 @@ pub struct Spread {
 
 /// The spread of numbers and of one number more.
 pub(crate) fn with_number(spread: Option<Spread>, number: u64, when: Moment) -> Spread
+    requires { AreFew (2 ^ 64 - 2) spread }
     ensures { result ≡ spec.with_number number when spread }
 {
     let one = Spread {
@@ -37,6 +39,7 @@ pub(crate) fn with_number(spread: Option<Spread>, number: u64, when: Moment) -> 
 
 /// The spread of numbers and of later ones.
 pub(crate) fn both(earlier: Spread, later: Spread) -> Spread
+    requires { earlier.count + later.count < 2 ^ 64 }
     ensures { result ≡ spec.both earlier later }
 {
     Spread {
@@ -49,6 +52,8 @@ pub(crate) fn both(earlier: Spread, later: Spread) -> Spread
 
 /// The spread of numbers and of later ones, of which there may be none.
 pub(crate) fn together(earlier: Option<Spread>, later: Option<Spread>) -> Option<Spread>
+    requires earlier { AreFew (2 ^ 63 - 1) earlier }
+    requires later { AreFew (2 ^ 63 - 1) later }
     ensures { result ≡ spec.together earlier later }
 {
     match (earlier, later) {

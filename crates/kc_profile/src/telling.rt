@@ -1,9 +1,12 @@
 // The text of what a run tells besides where its states went.
+ghost use Rattle.std.specs.Prelude.{◌≡◌, ◌++◌, ◌≤◌, ◌<◌, ◌^◌, length, OnOk};
+ghost use Rattle.kc_profile.specs.Text.{unless_none};
+ghost use Rattle.kc_profile.specs.Telling as spec;
+
 use crate::spread::{Moment, Spread};
 use crate::told::{Depth, Told};
 use crate::waits::Waits;
-use kc_base::NoMemory;
-use kc_link::put_number;
+use kc_base::{NoMemory, put_number};
 use kc_trace::address_text;
 
 /// Which runs a text is about.
@@ -16,13 +19,17 @@ pub enum Scope {
 }
 
 // Puts a blank and a number.
-fn put_behind(text: &mut Vec<u8>, number: u64) -> Result<(), NoMemory> {
+fn put_behind(text: &mut Vec<u8>, number: u64) -> Result<(), NoMemory>
+    ensures { OnOk result (text.new.items ≡ text.old.items ++ spec.behind number) }
+{
     text.push(b' ')?;
     put_number(text, u128::from(number))
 }
 
 // Puts when something was.
-fn put_when(text: &mut Vec<u8>, scope: Scope, when: Moment) -> Result<(), NoMemory> {
+fn put_when(text: &mut Vec<u8>, scope: Scope, when: Moment) -> Result<(), NoMemory>
+    ensures { OnOk result (text.new.items ≡ text.old.items ++ spec.when_text scope when) }
+{
     put_behind(text, when.at)?;
     match scope {
         Scope::Life => Ok(()),
@@ -36,7 +43,9 @@ fn put_when(text: &mut Vec<u8>, scope: Scope, when: Moment) -> Result<(), NoMemo
 // ---- instructions
 
 // Puts the line of an address at which instructions were done.
-fn put_hit(text: &mut Vec<u8>, addr: u16, hits: u64) -> Result<(), NoMemory> {
+fn put_hit(text: &mut Vec<u8>, addr: u16, hits: u64) -> Result<(), NoMemory>
+    ensures { OnOk result (text.new.items ≡ text.old.items ++ unless_none hits (spec.hit_line addr hits)) }
+{
     if hits == 0 {
         return Ok(());
     }
@@ -48,7 +57,11 @@ fn put_hit(text: &mut Vec<u8>, addr: u16, hits: u64) -> Result<(), NoMemory> {
 }
 
 // Puts the lines of addresses, from 0 on.
-fn put_hits(text: &mut Vec<u8>, hits: &[u64]) -> Result<(), NoMemory> {
+#[tactic(auto, unfolding(crate::specs::Telling::hit_lines))]
+fn put_hits(text: &mut Vec<u8>, hits: &[u64]) -> Result<(), NoMemory>
+    requires { length hits.now ≤ 65536 }
+    ensures { OnOk result (text.new.items ≡ text.old.items ++ spec.hit_lines 0 hits.now) }
+{
     let mut left = hits;
     let mut addr = 0u32;
     while let [first, rest @ ..] = left {
@@ -68,7 +81,9 @@ fn put_spread(
     n: u64,
     spread: Option<Spread>,
     scope: Scope,
-) -> Result<(), NoMemory> {
+) -> Result<(), NoMemory>
+    ensures { OnOk result (text.new.items ≡ text.old.items ++ spec.spread_line word.now n scope spread) }
+{
     let Some(spread) = spread else {
         return Ok(());
     };
@@ -83,7 +98,11 @@ fn put_spread(
 }
 
 // Puts the lines of the latency of each request.
-fn put_latencies(text: &mut Vec<u8>, waits: &[Waits], scope: Scope) -> Result<(), NoMemory> {
+#[tactic(auto, unfolding(crate::specs::Telling::latency_lines))]
+fn put_latencies(text: &mut Vec<u8>, waits: &[Waits], scope: Scope) -> Result<(), NoMemory>
+    requires { length waits.now ≤ 16 }
+    ensures { OnOk result (text.new.items ≡ text.old.items ++ spec.latency_lines 0 scope waits.now) }
+{
     let mut left = waits;
     let mut n = 0u64;
     while let [first, rest @ ..] = left {
@@ -95,7 +114,11 @@ fn put_latencies(text: &mut Vec<u8>, waits: &[Waits], scope: Scope) -> Result<()
 }
 
 // Puts the lines of how long each request waited for the transfer server.
-fn put_services(text: &mut Vec<u8>, waits: &[Waits], scope: Scope) -> Result<(), NoMemory> {
+#[tactic(auto, unfolding(crate::specs::Telling::served_lines))]
+fn put_services(text: &mut Vec<u8>, waits: &[Waits], scope: Scope) -> Result<(), NoMemory>
+    requires { length waits.now ≤ 16 }
+    ensures { OnOk result (text.new.items ≡ text.old.items ++ spec.served_lines 0 scope waits.now) }
+{
     let mut left = waits;
     let mut n = 0u64;
     while let [first, rest @ ..] = left {
@@ -107,7 +130,9 @@ fn put_services(text: &mut Vec<u8>, waits: &[Waits], scope: Scope) -> Result<(),
 }
 
 // Puts the line of how often a request was raised while it was pending.
-fn put_missed(text: &mut Vec<u8>, n: u64, waits: &Waits) -> Result<(), NoMemory> {
+fn put_missed(text: &mut Vec<u8>, n: u64, waits: &Waits) -> Result<(), NoMemory>
+    ensures { OnOk result (text.new.items ≡ text.old.items ++ spec.missed_line n waits.now) }
+{
     if waits.missed == 0 || !waits.is_told() {
         return Ok(());
     }
@@ -119,7 +144,11 @@ fn put_missed(text: &mut Vec<u8>, n: u64, waits: &Waits) -> Result<(), NoMemory>
 }
 
 // Puts the lines of how often each request was raised while it was pending.
-fn put_all_missed(text: &mut Vec<u8>, waits: &[Waits]) -> Result<(), NoMemory> {
+#[tactic(auto, unfolding(crate::specs::Telling::missed_lines))]
+fn put_all_missed(text: &mut Vec<u8>, waits: &[Waits]) -> Result<(), NoMemory>
+    requires { length waits.now ≤ 16 }
+    ensures { OnOk result (text.new.items ≡ text.old.items ++ spec.missed_lines 0 waits.now) }
+{
     let mut left = waits;
     let mut n = 0u64;
     while let [first, rest @ ..] = left {
@@ -137,7 +166,9 @@ fn put_depth(
     text: &mut Vec<u8>,
     deepest: Option<Depth>,
     scope: Scope,
-) -> Result<(), NoMemory> {
+) -> Result<(), NoMemory>
+    ensures { OnOk result (text.new.items ≡ text.old.items ++ spec.stack_line scope deepest) }
+{
     let Some(depth) = deepest else {
         return Ok(());
     };
@@ -153,7 +184,9 @@ impl Told {
     ///
     /// `hit HHHH TIMES`, `latency NUMBER COUNT MIN MAX AT`, `served NUMBER COUNT MIN MAX AT`, `missed NUMBER COUNT` and `stack HHHH
     /// AT`, in this order, and each by rising address or number; over several lives ` life NUMBER` stands behind AT.
-    pub(crate) fn put(&self, text: &mut Vec<u8>, scope: Scope) -> Result<(), NoMemory> {
+    pub(crate) fn put(&self, text: &mut Vec<u8>, scope: Scope) -> Result<(), NoMemory>
+        ensures { OnOk result (text.new.items ≡ text.old.items ++ spec.told_text scope self.now) }
+    {
         put_hits(text, self.hits.as_slice())?;
         put_latencies(text, self.waits.as_slice(), scope)?;
         put_services(text, self.waits.as_slice(), scope)?;

@@ -1,5 +1,6 @@
 // How long a request waits.
-ghost use Rattle.std.specs.Prelude.{◌≡◌, ◌+◌, ◌<◌, ◌^◌, ◌∷◌, List};
+ghost use Rattle.std.specs.Prelude.{◌≡◌, ◌+◌, ◌-◌, ◌<◌, ◌^◌, ℕ};
+ghost use Rattle.kc_profile.specs.Waits.{AreFewWaits};
 ghost use Rattle.kc_profile.specs.Waits as spec;
 
 use crate::sight::{Sight, is_in};
@@ -50,7 +51,9 @@ fn since_after(since: Option<StateTime>, is_set: bool, at: StateTime) -> Option<
 
 impl Waits {
     /// Of a request that has never come.
-    pub(crate) fn none() -> Waits {
+    pub(crate) fn none() -> Waits
+        ensures { result ≡ spec.no_waits }
+    {
         Waits {
             waiting: Waiting {
                 pending: None,
@@ -63,7 +66,10 @@ impl Waits {
     }
 
     // How long the request of an entry has waited: since the transfer server handed it over, or since it came.
-    fn entered_after(&self, n: u8, sight: &Sight) -> u64 {
+    fn entered_after(&self, n: u8, sight: &Sight) -> u64
+        requires { n < 16 }
+        ensures { result ≡ spec.wait_of_entry n sight.now self.now.waiting }
+    {
         if is_in(sight.before.service, n) {
             time_since(self.waiting.handed, sight.at)
         } else {
@@ -72,7 +78,11 @@ impl Waits {
     }
 
     /// Takes the next state of a life.
-    pub(crate) fn see(&mut self, n: u8, life: u16, sight: &Sight) {
+    pub(crate) fn see(&mut self, n: u8, life: u16, sight: &Sight)
+        requires number { n < 16 }
+        requires few { AreFewWaits (2 ^ 64 - 2) self.old }
+        ensures { self.new ≡ spec.see n life sight.now self.old }
+    {
         let when = Moment { life, at: sight.at };
         if sight.enters(n) {
             let wait = self.entered_after(n, sight);
@@ -100,14 +110,20 @@ impl Waits {
     }
 
     /// Adds what is told of the request in a later life.
-    pub(crate) fn add(&mut self, later: &Waits) {
+    pub(crate) fn add(&mut self, later: &Waits)
+        requires few { AreFewWaits (2 ^ 63 - 1) self.old }
+        requires later { AreFewWaits (2 ^ 63 - 1) later.now }
+        ensures { self.new ≡ spec.added self.old later.now }
+    {
         self.latency = together(self.latency, later.latency);
         self.served = together(self.served, later.served);
         self.missed += later.missed;
     }
 
     /// Whether it was entered or served at all.
-    pub(crate) fn is_told(&self) -> bool {
+    pub(crate) fn is_told(&self) -> bool
+        ensures { result ≡ spec.is_told self.now }
+    {
         self.latency.is_some() || self.served.is_some()
     }
 }
