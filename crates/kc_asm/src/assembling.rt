@@ -1,4 +1,5 @@
 ghost use Rattle.std.specs.Prelude.{◌≡◌, ◌≤◌, length, IfOk};
+ghost use Rattle.kc_base.specs.Limits.{file_limit};
 ghost use Rattle.kc_obj_module.specs.Object.{Object};
 ghost use Rattle.kc_asm_symbols.specs.Externals.{externals};
 ghost use Rattle.kc_asm_symbols.specs.Reported.{AreReadWell};
@@ -49,7 +50,7 @@ fn module_or_fault(alloc: Global, stmts: &[Stmt]) -> Result<Result<Module, LineF
 /// 19, 20, 22, 24). The work of each pass grows with its lines and their tokens.
 /// (MCS-96 Macro Assembler User's Guide; passes and codes are this kit's own.)
 pub fn assemble(alloc: Global, source: &[u8]) -> Result<Module, SourceFault>
-    requires { length source.now ≤ 1048576 }
+    requires { length source.now ≤ file_limit }
     ensures { spec.IsAssembled source.now result }
 {
     let lines = lines(alloc, source)?;

@@ -9,7 +9,8 @@ use Rattle.kc_asm_bytes.specs.declared.relocatable_byte.RelocatableByte.{Relocat
 use Rattle.kc_asm_bytes.specs.declared.relocatable_byte.RelocatableByte.TheVariants.{Plain, First, Second}
 use Rattle.kc_asm_bytes.specs.Filling.{address as address_of}
 use Rattle.kc_asm_bytes.specs.Relocating.{counts, depends, is_piece, misfit, misfit_code, no_bases}
-use Rattle.kc_asm_emit.specs.Faults.{lesser, least}
+use Rattle.kc_lex.specs.Codes.{lesser_number}
+use Rattle.kc_asm_emit.specs.Faults.{least}
 use Rattle.kc_asm_emit.proofs.FaultLemmas.{lesser_assoc, lesser_none, least_append, least_option}
 use Rattle.kc_asm_check.specs.Codes.{examined, misfits}
 use Rattle.kc_asm_check.proofs.NameLemmas.{prefix_of}
@@ -58,42 +59,42 @@ misfits_same jumps address piece a b (o ∷ os) same =
 
 -- ---- one relocatable byte more
 
-pub goes_on : (code c : Option ℕ) (codes : List ℕ) → lesser (lesser code c) (least codes) ≡ lesser code (least (option_to_list c ++ codes))
+pub goes_on : (code c : Option ℕ) (codes : List ℕ) → lesser_number (lesser_number code c) (least codes) ≡ lesser_number code (least (option_to_list c ++ codes))
 goes_on code c codes =
     lesser_assoc code c (least codes)
-    ∙ ap (lesser code) (ap (λ (n : Option ℕ). lesser n (least codes)) (sym (least_option c)) ∙ sym (least_append (option_to_list c) codes))
+    ∙ ap (lesser_number code) (ap (λ (n : Option ℕ). lesser_number n (least codes)) (sym (least_option c)) ∙ sym (least_append (option_to_list c) codes))
 
 place_same : (n : ℕ) → n % 65536 % 65536 ≡ n % 65536
 place_same n = omega arith
 
 one_more : (jumps : Bool) (address : Option ℕ) (piece place : ℕ) (o : RelocatableByte) (os : List RelocatableByte) (code : Option ℕ)
-    → lesser (lesser code (examined jumps (misfit address piece place o))) (least (misfits jumps address piece ((place + 1) % 65536) os))
-    ≡ lesser code (least (misfits jumps address piece place (o ∷ os)))
+    → lesser_number (lesser_number code (examined jumps (misfit address piece place o))) (least (misfits jumps address piece ((place + 1) % 65536) os))
+    ≡ lesser_number code (least (misfits jumps address piece place (o ∷ os)))
 unfolding misfits
 one_more jumps address piece place o os code =
-    ap (λ (cs : List ℕ). lesser (lesser code (examined jumps (misfit address piece place o))) (least cs)) (misfits_same jumps address piece ((place + 1) % 65536) (place + 1) os (place_same (place + 1)))
+    ap (λ (cs : List ℕ). lesser_number (lesser_number code (examined jumps (misfit address piece place o))) (least cs)) (misfits_same jumps address piece ((place + 1) % 65536) (place + 1) os (place_same (place + 1)))
     ∙ goes_on code (examined jumps (misfit address piece place o)) (misfits jumps address piece (place + 1) os)
 
-none_left : (jumps : Bool) (address : Option ℕ) (piece place : ℕ) (code : Option ℕ) → lesser code (least (misfits jumps address piece place [])) ≡ code
+none_left : (jumps : Bool) (address : Option ℕ) (piece place : ℕ) (code : Option ℕ) → lesser_number code (least (misfits jumps address piece place [])) ≡ code
 unfolding least misfits
 none_left jumps address piece place code = lesser_none code
 
 -- the least code of the relocatable bytes before the i-th, and then that of the i-th too
 pub advances : (jumps : Bool) (address : Option ℕ) (piece place : ℕ) (os : List RelocatableByte) (i : ℕ) (none o : RelocatableByte) (code next whole : Option ℕ)
-    → i < length os → o ≡ get_or os i none → next ≡ lesser code (examined jumps (misfit address piece place o))
-    → lesser code (least (misfits jumps address piece place (drop i os))) ≡ whole
-    → lesser next (least (misfits jumps address piece ((place + 1) % 65536) (drop (i + 1) os))) ≡ whole
+    → i < length os → o ≡ get_or os i none → next ≡ lesser_number code (examined jumps (misfit address piece place o))
+    → lesser_number code (least (misfits jumps address piece place (drop i os))) ≡ whole
+    → lesser_number next (least (misfits jumps address piece ((place + 1) % 65536) (drop (i + 1) os))) ≡ whole
 advances jumps address piece place os i none o code next whole small is e so_far =
-    ap (λ n. lesser n (least (misfits jumps address piece ((place + 1) % 65536) (drop (i + 1) os)))) e
+    ap (λ n. lesser_number n (least (misfits jumps address piece ((place + 1) % 65536) (drop (i + 1) os)))) e
     ∙ one_more jumps address piece place o (drop (i + 1) os) code
-    ∙ sym (ap (λ ys. lesser code (least (misfits jumps address piece place ys))) (prefix_of os i none o small is))
+    ∙ sym (ap (λ ys. lesser_number code (least (misfits jumps address piece place ys))) (prefix_of os i none o small is))
     ∙ so_far
 
 pub ends : (jumps : Bool) (address : Option ℕ) (piece place : ℕ) (os : List RelocatableByte) (i : ℕ) (code whole : Option ℕ)
-    → length os ≤ i → lesser code (least (misfits jumps address piece place (drop i os))) ≡ whole → code ≡ whole
+    → length os ≤ i → lesser_number code (least (misfits jumps address piece place (drop i os))) ≡ whole → code ≡ whole
 ends jumps address piece place os i code whole past so_far =
     sym (none_left jumps address piece place code)
-    ∙ sym (ap (λ ys. lesser code (least (misfits jumps address piece place ys))) (drop_all i os past))
+    ∙ sym (ap (λ ys. lesser_number code (least (misfits jumps address piece place ys))) (drop_all i os past))
     ∙ so_far
 
 pub modulo : (jumps : Bool) (address : Option ℕ) (piece place : ℕ) (os : List RelocatableByte) → misfits jumps address piece (place % 65536) os ≡ misfits jumps address piece place os

@@ -6,13 +6,14 @@ use Rattle.kc_lex.specs.LineFaults.{Fault, at_line}
 use Rattle.kc_lex.proofs.FaultLemmas.{no_least}
 use Rattle.kc_asm_symbols.specs.Located.{Located}
 use Rattle.kc_asm_symbols.specs.Meanings.{meaning, in_all}
-use Rattle.kc_asm_emit.specs.Faults.{lesser, least}
+use Rattle.kc_lex.specs.Codes.{lesser_number}
+use Rattle.kc_asm_emit.specs.Faults.{least}
 use Rattle.kc_asm_layout.specs.declared.location.Location.{Location}
 use Rattle.kc_asm_check.specs.Codes.{Regions, regions_after, stack_after, first_regions}
 use Rattle.kc_asm_check.specs.Checking.{codes_of, faults_from, standing, location_list}
 use Rattle.kc_asm_check.specs.Laws.{AreSound, SoundStatements}
 
-lesser_some : (m : ℕ) (o : Option ℕ) → lesser (Some m) o ≡ None → ⊥
+lesser_some : (m : ℕ) (o : Option ℕ) → lesser_number (Some m) o ≡ None → ⊥
 lesser_some m None e = cc
 lesser_some m (Some n) e = cc
 

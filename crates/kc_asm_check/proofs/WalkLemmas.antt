@@ -16,7 +16,8 @@ use Rattle.kc_asm_symbols.specs.Located.{Located, located, located_from, located
 use Rattle.kc_asm_symbols.specs.Meanings.{meaning, in_all}
 use Rattle.kc_asm_symbols.specs.Walk.{at_statement, IsAt, IsBehind}
 use Rattle.kc_asm_symbols.proofs.WalkLemmas.{one_located, further}
-use Rattle.kc_asm_emit.specs.Faults.{lesser, least}
+use Rattle.kc_lex.specs.Codes.{lesser_number}
+use Rattle.kc_asm_emit.specs.Faults.{least}
 use Rattle.kc_asm_emit.proofs.FaultLemmas.{least_append}
 use Rattle.kc_asm_layout.specs.declared.location.Location.{Location}
 use Rattle.kc_asm_check.specs.declared.walk.Walk.{Walk}
@@ -39,12 +40,12 @@ same_value g place = ap (λ (n : ℕ). record { base = base_of g; tag = tag_of g
 
 pub codes_joined : (m : Meanings) (all before : List Located) (l : Located) (regions : Regions) (sum : ℕ) (s : Location) (own public code : Option ℕ)
     → IsAt m all before l → own ≡ least (own_codes (at_statement m) regions sum l s) → public ≡ least (public_faults (in_all all) l.action)
-    → code ≡ lesser own public
+    → code ≡ lesser_number own public
     → code ≡ least (codes_of (meaning all before l) (in_all all) regions sum l s)
 codes_joined m all before l regions sum s own public code at is_own is_public is_code =
     let mine : own ≡ least (own_codes (meaning all before l) regions sum l s)
     = is_own ∙ ap (λ (look : List ℕ → Answer). least (own_codes look regions sum l s)) at.means in
-    is_code ∙ (λ i. lesser (mine i) (is_public i)) ∙ sym (least_append (own_codes (meaning all before l) regions sum l s) (public_faults (in_all all) l.action))
+    is_code ∙ (λ i. lesser_number (mine i) (is_public i)) ∙ sym (least_append (own_codes (meaning all before l) regions sum l s) (public_faults (in_all all) l.action))
 
 -- ---- the statements that are left
 

@@ -13,12 +13,12 @@ ghost use Rattle.kc_asm_encode.specs.Values as values;
 ghost use Rattle.kc_asm_check.specs.Codes as spec;
 
 use crate::codes::when;
-use kc_asm_emit::faults::lesser;
 use kc_asm_emit::fixed_of;
 use kc_asm_symbols::Meanings;
 use kc_base::Text;
 use kc_expr::{Base, Expr, NoValue, Scope, Value};
 use kc_lex::SourceCode;
+use kc_lex::fault::lesser_number;
 use kc_source_statement::Action;
 
 fn stack_part<S: Scope>(stack: &Option<Expr>, scope: &S) -> Option<u16>
@@ -92,7 +92,7 @@ fn names_fault(names: &[Text], meanings: &Meanings) -> Option<u8>
 {
     let mut code = None;
     for name in names {
-        code = lesser(code, name_fault(name, meanings));
+        code = lesser_number(code, name_fault(name, meanings));
     }
     code
 }

@@ -9,13 +9,13 @@ ghost use Rattle.kc_asm_emit.specs.Faults.{least};
 ghost use Rattle.kc_asm_check.specs.Codes as spec;
 
 use crate::codes::when;
-use kc_asm_emit::faults::lesser;
 use kc_asm_emit::fixed_of;
 use kc_asm_layout::Location;
 use kc_asm_symbols::Segment;
 use kc_base::{NoMemory, Text};
 use kc_expr::{Expr, Scope};
 use kc_lex::SourceCode;
+use kc_lex::fault::lesser_number;
 use kc_obj_module::SegKind;
 use kc_obj_module::pieces::fits_region;
 use kc_source_statement::Action;
@@ -74,7 +74,7 @@ fn end_fault(regions: &[Option<u16>], segment: Segment, location: &Location) -> 
     ensures { result ≡ least (spec.end_faults regions.now segment location.now) }
 {
     let region = region_of(regions, segment.piece);
-    lesser(
+    lesser_number(
         when(
             most_of(segment) < location.after,
             SourceCode::PastTheEnd.number(),
@@ -216,11 +216,11 @@ pub(crate) fn place_fault<S: Scope>(
 ) -> Option<u8>
     ensures { result ≡ least (spec.place_faults regions.now (S.answers scope.now) label.now (action_tree action.now) segment location.now) }
 {
-    lesser(
+    lesser_number(
         label_fault(label, location.place),
-        lesser(
+        lesser_number(
             goes_on_fault(regions, action, segment, location),
-            lesser(
+            lesser_number(
                 back_fault(action, location.before, scope),
                 opening_fault(opening(action, scope)),
             ),

@@ -11,11 +11,11 @@ use crate::branches::checks_jumps;
 use crate::codes::when;
 use kc_asm_bytes::{RelocatableByte, misfit};
 use kc_asm_emit::Content;
-use kc_asm_emit::faults::lesser;
 use kc_asm_layout::Location;
 use kc_asm_symbols::Segment;
 use kc_expr::{Base, Scope};
 use kc_lex::SourceCode;
+use kc_lex::fault::lesser_number;
 use kc_source_statement::Action;
 
 // A jump is not examined where its target has no value.
@@ -74,7 +74,7 @@ fn misfits(
     let mut code = None;
     let mut at = place;
     for relocatable_byte in relocatable_bytes {
-        code = lesser(
+        code = lesser_number(
             code,
             examined(
                 jumps,

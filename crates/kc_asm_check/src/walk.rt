@@ -21,11 +21,11 @@ use crate::places::{place_fault, push_region};
 use crate::putting::put_of;
 use crate::relocatable_bytes::relocatable_fault;
 use kc_asm_emit::fault;
-use kc_asm_emit::faults::lesser;
 use kc_asm_layout::Location;
 use kc_asm_symbols::{Meanings, Segment};
 use kc_base::NoMemory;
 use kc_lex::LineFault;
+use kc_lex::fault::lesser_number;
 use kc_lex::line_fault::{at_line, lesser as lesser_fault};
 use kc_source_statement::Stmt;
 use std::alloc::Global;
@@ -70,9 +70,12 @@ impl Walk {
         let regions = self.regions.as_slice();
         let places = place_fault(regions, &stmt.label, action, self.segment, location, scope);
         let stack = stack_fault(self.sum, action, scope);
-        Ok(lesser(
+        Ok(lesser_number(
             values,
-            lesser(branch, lesser(relocatable_bytes, lesser(places, stack))),
+            lesser_number(
+                branch,
+                lesser_number(relocatable_bytes, lesser_number(places, stack)),
+            ),
         ))
     }
 
@@ -90,7 +93,7 @@ impl Walk {
     {
         let own = self.own_code(alloc, stmt, location, put)?;
         let public = public_fault(&stmt.action, &self.meanings);
-        Ok(lesser(own, public))
+        Ok(lesser_number(own, public))
     }
 
     /// Enters the next statement, checks it, and keeps what it puts.

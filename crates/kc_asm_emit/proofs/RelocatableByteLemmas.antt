@@ -34,13 +34,13 @@ use Rattle.kc_branch.specs.declared.piece.BranchKind.{BranchKind}
 use Rattle.kc_branch.specs.declared.piece.BranchKind.TheVariants as kinds
 use Rattle.kc_asm_encode.specs.declared.word.Word.{Word}
 use Rattle.kc_asm_encode.specs.declared.word.Word.TheVariants.{Absent, Register, Immediate, Indirect, Increment, Short, Long, Count, Jump}
-use Rattle.kc_asm_encode.specs.declared.word.Worded.{Worded}
+use Rattle.kc_asm_encode.specs.declared.word.RelocatableInsn.{RelocatableInsn}
 use Rattle.kc_asm_encode.specs.Values.{or_zero, moved, is_direct, is_short, argument, value_of}
 use Rattle.kc_asm_encode.specs.Opcodes.{low_bits, wanted_bits}
 use Rattle.kc_asm_encode.specs.Sources.{plain_source, indexed_source, source}
 use Rattle.kc_asm_encode.specs.Branches.{Line, line, branch_kind, branch_lines, in_full}
 use Rattle.kc_asm_encode.specs.Instructions.{operand_for, regs_for, laid, instructions}
-use Rattle.kc_asm_encode.specs.RelocatableBytes.{byte_of, word_of, immediate_relocatables, jump_relocatables, operand_relocatables, opcode_relocatable, row_relocatables, worded_relocatables, all_relocatable_bytes}
+use Rattle.kc_asm_encode.specs.RelocatableBytes.{byte_of, word_of, immediate_relocatables, jump_relocatables, operand_relocatables, opcode_relocatable, row_relocatables, insn_relocatables, all_relocatable_bytes}
 use Rattle.kc_asm_encode.specs.Suits.{EachOf}
 use Rattle.kc_asm_encode.proofs.Found.{IsLaid}
 use Rattle.kc_asm_encode.proofs.Lengths.{not_some}
@@ -271,13 +271,13 @@ module _ (known : Base → Bool) (fixed : known bases.Fixed ≡ true) where
       (all-append (is_relocatable_byte known) O B (operand_are l.form (is_byte row.width) (operand_for row.shape args) (operand_known row.shape args h))
       (bytes_are (take l.after (drop l.before regs)) (all-take (λ v. known v.base) l.after (drop l.before regs) (all-drop (λ v. known v.base) l.before regs r))))))
 
-  worded_are : (word : List ℕ) (args : List Argument) (w : Worded) → KnownArguments known args → IsLaid word args w → Are (worded_relocatables w)
-  worded_are word args w h l =
+  insn_are : (word : List ℕ) (args : List Argument) (w : RelocatableInsn) → KnownArguments known args → IsLaid word args w → Are (insn_relocatables w)
+  insn_are word args w h l =
       let j : is_high (layout_of l.row.shape).form ≡ true → is_jump l.opcode ≡ true = λ n.
       (let near : is_near l.row.shape ≡ true = high_is_near l.row.shape n in
       near_jump l.opcode l.signed l.row l.below l.at near (near_bits l.row.shape l.opcode args near (both _ _ (both _ _ l.fits).1).1)) in
-      let p : Are (worded_relocatables (laid l.opcode l.signed args l.row.shape)) = rw (l.at, worded_relocatables) (row_are l.opcode l.signed args l.row j h) in
-      subst (λ (v : Worded). Are (worded_relocatables v)) l.is p
+      let p : Are (insn_relocatables (laid l.opcode l.signed args l.row.shape)) = rw (l.at, insn_relocatables) (row_are l.opcode l.signed args l.row j h) in
+      subst (λ (v : RelocatableInsn). Are (insn_relocatables v)) l.is p
 
   -- ---- lines
 
@@ -304,15 +304,15 @@ module _ (known : Base → Bool) (fixed : known bases.Fixed ≡ true) where
   full_known word args form here None k h = (h, tt)
   full_known word args form here (Some kind) k h = branch_known kind word args form here k h
 
-  each_are : (ws : List Worded) → EachOf (λ w. Are (worded_relocatables w)) ws → Are (all_relocatable_bytes ws)
+  each_are : (ws : List RelocatableInsn) → EachOf (λ w. Are (insn_relocatables w)) ws → Are (all_relocatable_bytes ws)
   each_are [] h = refl
-  each_are (w ∷ ws) h = all-append (is_relocatable_byte known) (worded_relocatables w) (all_relocatable_bytes ws) h.0 (each_are ws h.1)
+  each_are (w ∷ ws) h = all-append (is_relocatable_byte known) (insn_relocatables w) (all_relocatable_bytes ws) h.0 (each_are ws h.1)
 
   operation_are : (word : List ℕ) (args : List Argument) (form : Form) (here : Value) → known here.base ≡ true → KnownArguments known args → Are (all_relocatable_bytes (instructions word args form here))
   unfolding instructions
   operation_are word args form here k h =
       each_are (instructions word args form here)
-      (each_line (λ (w : Worded). Are (worded_relocatables w)) KnownLine worded_are (in_full word args form here) (full_known word args form here (branch_kind word args) k h))
+      (each_line (λ (w : RelocatableInsn). Are (insn_relocatables w)) KnownLine insn_are (in_full word args form here) (full_known word args form here (branch_kind word args) k h))
 
 -- ---- statements
 

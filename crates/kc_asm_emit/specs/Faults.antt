@@ -1,9 +1,9 @@
 -- The faults of a statement's values: what its expressions have, 10 where a value must be fixed and is not, and those of an
 -- operation's operands (after the MCS-96 Macro Assembler User's Guide, "Expressions"; the codes are this kit's own).
-use Rattle.std.specs.Prelude.{ℕ, ◌==◌, ◌||◌, if◌then◌else◌, min, List, [], ◌∷◌, ◌++◌, Option, Some, None, Ok, Err}
+use Rattle.std.specs.Prelude.{ℕ, ◌==◌, ◌||◌, if◌then◌else◌, List, [], ◌∷◌, ◌++◌, Option, Some, None, Ok, Err}
 use Rattle.std.specs.List.{flat_map}
 use Rattle.std.specs.Option.{option_to_list}
-use Rattle.kc_lex.specs.Codes.{code_number, not_fixed}
+use Rattle.kc_lex.specs.Codes.{code_number, lesser_number, not_fixed}
 use Rattle.kc_expr.specs.declared.values.NoValue.{NoValue}
 use Rattle.kc_expr.specs.declared.values.NoValue.TheVariants.{Fault, ReportedElsewhere}
 use Rattle.kc_expr.specs.Tree.{Tree, Number}
@@ -80,11 +80,6 @@ faults_of look End = []
 
 -- ---- the least of some codes
 
-abbrev pub lesser : Option ℕ → Option ℕ → Option ℕ
-lesser None b = b
-lesser (Some m) None = Some m
-lesser (Some m) (Some n) = Some (min m n)
-
 unfoldable pub least : List ℕ → Option ℕ
 least [] = None
-least (code ∷ more) = lesser (Some code) (least more)
+least (code ∷ more) = lesser_number (Some code) (least more)

@@ -11,19 +11,19 @@ use crate::items::data_relocatables;
 use crate::operands::arguments;
 use crate::values::fixed_of;
 use kc_asm_bytes::RelocatableByte;
-use kc_asm_encode::{Argument, Worded, instructions, relocatables_of};
+use kc_asm_encode::{Argument, RelocatableInsn, instructions, relocatables_of};
 use kc_base::NoMemory;
 use kc_branch::Form;
 use kc_expr::{Scope, Value};
 use kc_source_statement::{Action, Arg};
 use std::alloc::Global;
 
-fn joined(alloc: Global, list: &[Worded]) -> Result<Vec<RelocatableByte>, NoMemory>
+fn joined(alloc: Global, list: &[RelocatableInsn]) -> Result<Vec<RelocatableByte>, NoMemory>
     ensures { IfOk result (λ v. v.items ≡ all_relocatable_bytes list.now) }
 {
     let mut relocatable_bytes = Vec::new(alloc);
-    for worded in list {
-        relocatable_bytes.extend_from_slice(relocatables_of(worded).as_slice())?;
+    for insn in list {
+        relocatable_bytes.extend_from_slice(relocatables_of(insn).as_slice())?;
     }
     Ok(relocatable_bytes)
 }

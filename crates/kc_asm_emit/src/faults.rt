@@ -12,19 +12,9 @@ use kc_asm_encode::{Argument, fault as operand_fault};
 use kc_base::NoMemory;
 use kc_expr::{Base, Expr, NoValue, Scope, Value, value_over};
 use kc_lex::SourceCode;
+use kc_lex::fault::lesser_number;
 use kc_source_statement::{Action, Arg, Item};
 use std::alloc::Global;
-
-/// Of two codes the lesser one.
-pub fn lesser(a: Option<u8>, b: Option<u8>) -> Option<u8>
-    ensures { result ≡ faults.lesser a b }
-{
-    match (a, b) {
-        (Some(m), Some(n)) => Some(m.min(n)),
-        (Some(m), None) => Some(m),
-        (None, other) => other,
-    }
-}
 
 // The code of a fault that is reported here.
 #[tactic(auto, unfolding(crate::specs::Faults::least))]
@@ -106,7 +96,7 @@ fn data_fault<S: Scope>(size: u8, items: &[Item], scope: &S) -> Option<u8>
 {
     let mut code = None;
     for item in items {
-        code = lesser(code, item_fault(size, item, scope));
+        code = lesser_number(code, item_fault(size, item, scope));
     }
     code
 }
@@ -118,7 +108,7 @@ fn operand_values_fault<S: Scope>(arg: &Arg, scope: &S) -> Option<u8>
     match arg {
         Arg::Plain(value) | Arg::Immediate(value) => value_fault(value, scope),
         Arg::Indirect(register) | Arg::Increment(register) => value_fault(register, scope),
-        Arg::Indexed(value, register) => lesser(
+        Arg::Indexed(value, register) => lesser_number(
             value_fault(value, scope),
             value_fault(register, scope),
         ),
@@ -130,7 +120,7 @@ fn operands_fault<S: Scope>(args: &[Arg], scope: &S) -> Option<u8>
 {
     let mut code = None;
     for arg in args {
-        code = lesser(code, operand_values_fault(arg, scope));
+        code = lesser_number(code, operand_values_fault(arg, scope));
     }
     code
 }
@@ -176,7 +166,7 @@ fn operation_fault<S: Scope>(
     ensures { IfOk result (λ c. c ≡ faults.least (faults.faults_of (S.answers scope.now) (trees.Operation word.now (map arg_tree args.now)))) }
 {
     let values = arguments(alloc, args, scope)?;
-    Ok(lesser(
+    Ok(lesser_number(
         values_fault(args, values.as_slice(), scope),
         operand_fault(word, values.as_slice()),
     ))

@@ -12,7 +12,7 @@ use Rattle.kc_branch.specs.declared.piece.Form.{Form}
 use Rattle.kc_branch.specs.declared.piece.Form.TheVariants.{First, Second, Third}
 use Rattle.kc_branch.specs.declared.piece.BranchKind.{BranchKind}
 use Rattle.kc_branch.specs.declared.piece.BranchKind.TheVariants.{Jump, Call, Conditional, BitTest}
-use Rattle.kc_asm_encode.specs.declared.word.Worded.{Worded}
+use Rattle.kc_asm_encode.specs.declared.word.RelocatableInsn.{RelocatableInsn}
 use Rattle.kc_asm_encode.specs.Values.{or_zero, is_direct, is_short, argument, value_of}
 use Rattle.kc_asm_encode.specs.Sources.{plain_source, indexed_source, source}
 use Rattle.kc_asm_encode.specs.Branches.{Line, line, over, branch_kind, branch_lines, in_full}
@@ -26,8 +26,8 @@ abbrev pub EachLine : (List ℕ → List Argument → Type 0) → List Line → 
 EachLine P [] = Unit {0}
 EachLine P (l ∷ ls) = P l.word l.args × EachLine P ls
 
-module _ (Q : Worded → Type 0) (P : List ℕ → List Argument → Type 0) (each : (word : List ℕ) (args : List Argument) (w : Worded) → P word args → IsLaid word args w → Q w) where
-  pub each_listed : (word : List ℕ) (args : List Argument) (o : Option Worded) (rest : List Worded) → instruction word args ≡ o → P word args → EachOf Q rest → EachOf Q (listed o ++ rest)
+module _ (Q : RelocatableInsn → Type 0) (P : List ℕ → List Argument → Type 0) (each : (word : List ℕ) (args : List Argument) (w : RelocatableInsn) → P word args → IsLaid word args w → Q w) where
+  pub each_listed : (word : List ℕ) (args : List Argument) (o : Option RelocatableInsn) (rest : List RelocatableInsn) → instruction word args ≡ o → P word args → EachOf Q rest → EachOf Q (listed o ++ rest)
   each_listed word args None rest e p r = r
   each_listed word args (Some w) rest e p r = (each word args w p (instruction_laid word args w e), r)
 
@@ -88,8 +88,8 @@ operand_words shapes.TableJump args h = tt
 operand_words shapes.Far args h = value_word (argument args 0) (argument_words args 0 h)
 operand_words shapes.Key args h = value_word (argument args 0) (argument_words args 0 h)
 
-laid_words : (word : List ℕ) (args : List Argument) (w : Worded) → AllWords args → IsLaid word args w → HasWords w.operand
-laid_words word args w h l = subst (λ (v : Worded). HasWords v.operand) l.is (operand_words l.row.shape args h)
+laid_words : (word : List ℕ) (args : List Argument) (w : RelocatableInsn) → AllWords args → IsLaid word args w → HasWords w.operand
+laid_words word args w h l = subst (λ (v : RelocatableInsn). HasWords v.operand) l.is (operand_words l.row.shape args h)
 
 over_words : (here : Value) (n : ℕ) → AreWords (over here n)
 over_words here n = omega arith
@@ -118,4 +118,4 @@ full_words word args form here (Some kind) h = branch_words kind word args form 
 
 pub numbers_are_words : (word : List ℕ) (args : List Argument) (form : Form) (here : Value) → AllWords args → EachOf (λ w. HasWords w.operand) (instructions word args form here)
 unfolding instructions
-numbers_are_words word args form here h = each_line (λ (w : Worded). HasWords w.operand) Words laid_words (in_full word args form here) (full_words word args form here (branch_kind word args) h)
+numbers_are_words word args form here h = each_line (λ (w : RelocatableInsn). HasWords w.operand) Words laid_words (in_full word args form here) (full_words word args form here (branch_kind word args) h)

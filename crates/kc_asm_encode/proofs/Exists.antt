@@ -15,7 +15,7 @@ use Rattle.kc_lex.proofs.IndexLemmas.{least-passes}
 use Rattle.kc_lex.specs.Instructions.{least}
 use Rattle.kc_asm_encode.specs.declared.argument.Argument.{Argument}
 use Rattle.kc_asm_encode.specs.declared.argument.Argument.TheVariants.{Plain, Immediate, Indirect, Increment, Indexed}
-use Rattle.kc_asm_encode.specs.declared.word.Worded.{Worded}
+use Rattle.kc_asm_encode.specs.declared.word.RelocatableInsn.{RelocatableInsn}
 use Rattle.kc_expr.specs.Meaning.{is_fixed}
 use Rattle.kc_asm_encode.specs.Values.{is_direct, value_of, bit_of}
 use Rattle.kc_asm_encode.specs.Sources.{mode}
@@ -107,15 +107,15 @@ has_opcode word args shape low signed h count wanted =
 -- ---- an opcode gives an instruction
 
 abbrev pub IsFound : List ℕ → List Argument → Type 0
-IsFound word args = (w : Worded) × (instruction word args ≡ Some w)
+IsFound word args = (w : RelocatableInsn) × (instruction word args ≡ Some w)
 
 at_row : (word : List ℕ) (args : List Argument) (signed : Bool) (opcode : ℕ) (r : Option Shown) →
     (elim r as (λ _. Bool) [ None ↦ false | Some row ↦ is_row_for word args opcode row ]) ≡ true →
-    (w : Worded) × (option_map (λ (row : Shown). laid opcode signed args row.shape) r ≡ Some w)
+    (w : RelocatableInsn) × (option_map (λ (row : Shown). laid opcode signed args row.shape) r ≡ Some w)
 at_row word args signed opcode None h = absurd (cc h)
 at_row word args signed opcode (Some row) h = (laid opcode signed args row.shape, refl)
 
-at_opcode : (word : List ℕ) (args : List Argument) (signed : Bool) (opcode : ℕ) → opcode_of word args signed ≡ Some opcode → (w : Worded) × (instruction_at signed args opcode ≡ Some w)
+at_opcode : (word : List ℕ) (args : List Argument) (signed : Bool) (opcode : ℕ) → opcode_of word args signed ≡ Some opcode → (w : RelocatableInsn) × (instruction_at signed args opcode ≡ Some w)
 at_opcode word args signed opcode e =
     let h : (is_opcode_for word args signed opcode ≡ true) × (opcode < 256) = opcode-passes word args signed opcode e in
     at_row word args signed opcode (row_at opcode signed) h.0
@@ -132,11 +132,11 @@ pub signed_is : (word : List ℕ) (args : List Argument) (j : ℕ) → opcode_of
 signed_is word args j e = rw (e, signed_instruction) refl
 
 from_plain : (word : List ℕ) (args : List Argument) (j : ℕ) → opcode_of word args false ≡ Some j → IsFound word args
-from_plain word args j e = let r : (w : Worded) × (instruction_at false args j ≡ Some w) = at_opcode word args false j e in (r.0, plain_is word args j e ∙ r.1)
+from_plain word args j e = let r : (w : RelocatableInsn) × (instruction_at false args j ≡ Some w) = at_opcode word args false j e in (r.0, plain_is word args j e ∙ r.1)
 
 from_signed : (word : List ℕ) (args : List Argument) (j : ℕ) (o : Option ℕ) → opcode_of word args false ≡ o → opcode_of word args true ≡ Some j → IsFound word args
 from_signed word args j None e f =
-    let r : (w : Worded) × (instruction_at true args j ≡ Some w) = at_opcode word args true j f in
+    let r : (w : RelocatableInsn) × (instruction_at true args j ≡ Some w) = at_opcode word args true j f in
     (r.0, behind_plain word args e ∙ (signed_is word args j f ∙ r.1))
 from_signed word args j (Some k) e f = from_plain word args k e
 

@@ -12,7 +12,7 @@ use Rattle.kc_isa.specs.Layout.{layout_of}
 use Rattle.kc_expr.specs.declared.values.Value.{Value}
 use Rattle.kc_asm_encode.specs.declared.argument.Argument.{Argument}
 use Rattle.kc_asm_encode.specs.declared.argument.Argument.TheVariants.{Plain, Immediate, Indirect, Increment, Indexed}
-use Rattle.kc_asm_encode.specs.declared.word.Worded.{Worded}
+use Rattle.kc_asm_encode.specs.declared.word.RelocatableInsn.{RelocatableInsn}
 use Rattle.kc_asm_encode.specs.Values.{is_direct, is_short}
 use Rattle.kc_asm_encode.specs.Sources.{mode, source, plain_source, indexed_source}
 use Rattle.kc_asm_encode.specs.Opcodes.{operand_count, source_of, low_bits, wanted_bits, is_row_for, is_opcode_for, opcode_of}
@@ -113,7 +113,7 @@ laid_instruction word args signed opcode row e h k =
     }
 
 -- how the table gives an instruction for a line
-pub record IsLaid (word : List ℕ) (args : List Argument) (w : Worded) : Type 0 where
+pub record IsLaid (word : List ℕ) (args : List Argument) (w : RelocatableInsn) : Type 0 where
   pub opcode : ℕ
   pub signed : Bool
   pub row : Shown
@@ -124,33 +124,33 @@ pub record IsLaid (word : List ℕ) (args : List Argument) (w : Worded) : Type 0
 
 found_at : (word : List ℕ) (args : List Argument) (signed : Bool) (opcode : ℕ) (r : Option Shown) → row_at opcode signed ≡ r →
     (elim r as (λ _. Bool) [ None ↦ false | Some row ↦ is_row_for word args opcode row ]) ≡ true → opcode < 256 →
-    (w : Worded) → option_map (λ (row : Shown). laid opcode signed args row.shape) r ≡ Some w → IsLaid word args w
+    (w : RelocatableInsn) → option_map (λ (row : Shown). laid opcode signed args row.shape) r ≡ Some w → IsLaid word args w
 found_at word args signed opcode None e h k w f = absurd (cc h)
 found_at word args signed opcode (Some row) e h k w f = record { opcode = opcode; signed = signed; row = row; at = e; fits = h; below = k; is = cc f }
 
-at_opcode : (word : List ℕ) (args : List Argument) (signed : Bool) (opcode : ℕ) → opcode_of word args signed ≡ Some opcode → (w : Worded) → instruction_at signed args opcode ≡ Some w → IsLaid word args w
+at_opcode : (word : List ℕ) (args : List Argument) (signed : Bool) (opcode : ℕ) → opcode_of word args signed ≡ Some opcode → (w : RelocatableInsn) → instruction_at signed args opcode ≡ Some w → IsLaid word args w
 at_opcode word args signed opcode e w f =
     let h : (is_opcode_for word args signed opcode ≡ true) × (opcode < 256) = opcode-passes word args signed opcode e in
     found_at word args signed opcode (row_at opcode signed) refl h.0 h.1 w f
 
-signed_found : (word : List ℕ) (args : List Argument) (o : Option ℕ) → opcode_of word args true ≡ o → (w : Worded) →
-    (elim o as (λ _. Option Worded) [ None ↦ None | Some opcode ↦ instruction_at true args opcode ]) ≡ Some w → IsLaid word args w
+signed_found : (word : List ℕ) (args : List Argument) (o : Option ℕ) → opcode_of word args true ≡ o → (w : RelocatableInsn) →
+    (elim o as (λ _. Option RelocatableInsn) [ None ↦ None | Some opcode ↦ instruction_at true args opcode ]) ≡ Some w → IsLaid word args w
 signed_found word args None e w f = absurd (cc f)
 signed_found word args (Some opcode) e w f = at_opcode word args true opcode e w f
 
-plain_found : (word : List ℕ) (args : List Argument) (o : Option ℕ) → opcode_of word args false ≡ o → (w : Worded) →
-    (elim o as (λ _. Option Worded) [ None ↦ signed_instruction word args | Some opcode ↦ instruction_at false args opcode ]) ≡ Some w → IsLaid word args w
+plain_found : (word : List ℕ) (args : List Argument) (o : Option ℕ) → opcode_of word args false ≡ o → (w : RelocatableInsn) →
+    (elim o as (λ _. Option RelocatableInsn) [ None ↦ signed_instruction word args | Some opcode ↦ instruction_at false args opcode ]) ≡ Some w → IsLaid word args w
 plain_found word args None e w f = signed_found word args (opcode_of word args true) refl w f
 plain_found word args (Some opcode) e w f = at_opcode word args false opcode e w f
 
-pub instruction_laid : (word : List ℕ) (args : List Argument) (w : Worded) → instruction word args ≡ Some w → IsLaid word args w
+pub instruction_laid : (word : List ℕ) (args : List Argument) (w : RelocatableInsn) → instruction word args ≡ Some w → IsLaid word args w
 unfolding instruction
 instruction_laid word args w f = plain_found word args (opcode_of word args false) refl w f
 
-pub instruction_found : (word : List ℕ) (args : List Argument) (w : Worded) → instruction word args ≡ Some w → IsInstruction word w
+pub instruction_found : (word : List ℕ) (args : List Argument) (w : RelocatableInsn) → instruction word args ≡ Some w → IsInstruction word w
 instruction_found word args w f =
     let l : IsLaid word args w = instruction_laid word args w f in
-    subst (λ (v : Worded). IsInstruction word v) l.is (laid_instruction word args l.signed l.opcode l.row l.at l.fits l.below)
+    subst (λ (v : RelocatableInsn). IsInstruction word v) l.is (laid_instruction word args l.signed l.opcode l.row l.at l.fits l.below)
 
-pub laid_count : (word : List ℕ) (args : List Argument) (w : Worded) (l : IsLaid word args w) → operand_count l.row.shape ≡ length args
+pub laid_count : (word : List ℕ) (args : List Argument) (w : RelocatableInsn) (l : IsLaid word args w) → operand_count l.row.shape ≡ length args
 laid_count word args w l = same-number _ _ (both (operand_count l.row.shape == length args) _ (both (bytes_eq l.row.name word) _ l.fits).1).0

@@ -20,11 +20,11 @@ use Rattle.kc_branch.specs.declared.piece.BranchKind.TheVariants.{Jump, Call, Co
 use Rattle.kc_branch.specs.Forms.{size as branch_length}
 use Rattle.kc_asm_encode.specs.declared.word.Word.{Word}
 use Rattle.kc_asm_encode.specs.declared.word.Word.TheVariants as words
-use Rattle.kc_asm_encode.specs.declared.word.Worded.{Worded}
+use Rattle.kc_asm_encode.specs.declared.word.RelocatableInsn.{RelocatableInsn}
 use Rattle.kc_asm_encode.specs.Values.{argument}
 use Rattle.kc_asm_encode.specs.Branches.{Line, line, tested, over, branch_kind, branch_lines, jump_of, inverse_of, in_full}
 use Rattle.kc_asm_encode.specs.Instructions.{instruction, listed, all_lines, instructions}
-use Rattle.kc_asm_encode.specs.RelocatableBytes.{opcode_relocatable, laid_relocatables, row_relocatables, worded_relocatables, all_relocatable_bytes}
+use Rattle.kc_asm_encode.specs.RelocatableBytes.{opcode_relocatable, laid_relocatables, row_relocatables, insn_relocatables, all_relocatable_bytes}
 use Rattle.kc_asm_encode.specs.Suits.{operand_suits, IsInstruction}
 use Rattle.kc_asm_encode.proofs.EncodingSearch.{least-finds}
 use Rattle.kc_asm_encode.proofs.Spelled.{relocatables_are}
@@ -77,7 +77,7 @@ jump_size shape = 2
 
 abbrev body : Shape → Bool → ℕ → Bool → Word → List Value → List RelocatableByte
 body shape byte opcode signed o regs =
-    let w : Worded = record { opcode = opcode; signed = signed; operand = o; regs = regs } in
+    let w : RelocatableInsn = record { opcode = opcode; signed = signed; operand = o; regs = regs } in
     opcode_relocatable (layout_of shape).form opcode o ∷ laid_relocatables (layout_of shape) byte w
 
 near_body : (byte : Bool) (opcode : ℕ) (signed : Bool) (o : Word) (regs : List Value) → operand_suits (layout_of shapes.Near).form opcode o ≡ true → length (body shapes.Near byte opcode signed o regs) ≡ 2
@@ -112,24 +112,24 @@ jump_body shapes.Conditional byte opcode signed o regs j h k = conditional_body 
 jump_body shapes.BitTest byte opcode signed o regs j h k = test_body byte opcode signed o regs h k
 jump_body shape byte opcode signed o regs j h k = absurd j
 
-row_jump : (w : Worded) (row : Shown) (shape : Shape) → IsJump shape → w.signed ≡ false → row.shape ≡ shape → operand_suits (layout_of row.shape).form w.opcode w.operand ≡ true → length w.regs ≡ 3 →
+row_jump : (w : RelocatableInsn) (row : Shown) (shape : Shape) → IsJump shape → w.signed ≡ false → row.shape ≡ shape → operand_suits (layout_of row.shape).form w.opcode w.operand ≡ true → length w.regs ≡ 3 →
     length (row_relocatables w row) ≡ jump_size shape
 row_jump w row shape j s e h k =
     let p : length (map Plain (prefix w.signed)) ≡ 0 = rw s refl in
     let b : length (body row.shape (is_byte row.width) w.opcode w.signed w.operand w.regs) ≡ jump_size row.shape = jump_body row.shape (is_byte row.width) w.opcode w.signed w.operand w.regs (subst (λ (x : Shape). IsJump x) (sym e) j) h k in
     omega (arith, length-append (map Plain (prefix w.signed)) (body row.shape (is_byte row.width) w.opcode w.signed w.operand w.regs), p, b, ap jump_size e)
 
-jump_length : (v : List ℕ) (shape : Shape) (w : Worded) → IsJump shape → has_one_shape shape v ≡ true → IsInstruction v w → length (worded_relocatables w) ≡ jump_size shape
+jump_length : (v : List ℕ) (shape : Shape) (w : RelocatableInsn) → IsJump shape → has_one_shape shape v ≡ true → IsInstruction v w → length (insn_relocatables w) ≡ jump_size shape
 jump_length v shape w j h i =
     let s : (w.signed ≡ false) × (i.row.shape ≡ shape) = shape_of v shape w.opcode w.signed i.row h i.opcode i.is i.named in
     ap (λ (os : List RelocatableByte). length os) (relocatables_are v w i) ∙ row_jump w i.row shape j s.0 s.1 i.operand i.three
 
 -- ---- lines
 
-listed_length : (word : List ℕ) (args : List Argument) (shape : Shape) (o : Option Worded) → instruction word args ≡ o → IsFound word args → IsJump shape → has_one_shape shape word ≡ true →
+listed_length : (word : List ℕ) (args : List Argument) (shape : Shape) (o : Option RelocatableInsn) → instruction word args ≡ o → IsFound word args → IsJump shape → has_one_shape shape word ≡ true →
     length (all_relocatable_bytes (listed o)) ≡ jump_size shape
 listed_length word args shape None e f j h = absurd (cc (e, f.1))
-listed_length word args shape (Some w) e f j h = omega (arith, length-append (worded_relocatables w) [], jump_length word shape w j h (instruction_found word args w e))
+listed_length word args shape (Some w) e f j h = omega (arith, length-append (insn_relocatables w) [], jump_length word shape w j h (instruction_found word args w e))
 
 line_length : (word : List ℕ) (args : List Argument) (shape : Shape) → IsFound word args → IsJump shape → has_one_shape shape word ≡ true → length (all_relocatable_bytes (listed (instruction word args))) ≡ jump_size shape
 line_length word args shape f j h = listed_length word args shape (instruction word args) refl f j h

@@ -29,11 +29,11 @@ use Rattle.kc_branch.specs.declared.piece.BranchKind.TheVariants as kinds
 use Rattle.kc_branch.specs.Forms.{size as branch_length}
 use Rattle.kc_asm_encode.specs.declared.word.Word.{Word}
 use Rattle.kc_asm_encode.specs.declared.word.Word.TheVariants.{Absent, Register, Immediate, Indirect, Increment, Short, Long, Count, Jump}
-use Rattle.kc_asm_encode.specs.declared.word.Worded.{Worded}
+use Rattle.kc_asm_encode.specs.declared.word.RelocatableInsn.{RelocatableInsn}
 use Rattle.kc_asm_encode.specs.Values.{moved}
 use Rattle.kc_asm_encode.specs.Branches.{branch_kind}
 use Rattle.kc_asm_encode.specs.Instructions.{instruction, instructions}
-use Rattle.kc_asm_encode.specs.RelocatableBytes.{byte_of, word_of, immediate_relocatables, jump_relocatables, operand_relocatables, opcode_relocatable, row_relocatables, worded_relocatables, all_relocatable_bytes}
+use Rattle.kc_asm_encode.specs.RelocatableBytes.{byte_of, word_of, immediate_relocatables, jump_relocatables, operand_relocatables, opcode_relocatable, row_relocatables, insn_relocatables, all_relocatable_bytes}
 use Rattle.kc_asm_encode.specs.Suits.{operand_suits, IsInstruction}
 use Rattle.kc_asm_encode.proofs.Spelled.{relocatables_are}
 use Rattle.kc_asm_encode.proofs.Found.{instruction_found}
@@ -91,10 +91,10 @@ prefix_most : (signed : Bool) → length (map Plain (prefix signed)) ≤ 1
 prefix_most true = omega arith
 prefix_most false = omega arith
 
-instruction_most : (word : List ℕ) (w : Worded) → IsInstruction word w → (length (worded_relocatables w) ≤ 7) × (0 < length (worded_relocatables w))
+instruction_most : (word : List ℕ) (w : RelocatableInsn) → IsInstruction word w → (length (insn_relocatables w) ≤ 7) × (0 < length (insn_relocatables w))
 instruction_most word w h =
     let l : Layout = layout_of h.row.shape in
-    let e : length (worded_relocatables w) ≡ length (row_relocatables w h.row) = ap (λ (os : List RelocatableByte). length os) (relocatables_are word w h) in (
+    let e : length (insn_relocatables w) ≡ length (row_relocatables w h.row) = ap (λ (os : List RelocatableByte). length os) (relocatables_are word w h) in (
       omega (
         arith,
         e,
@@ -108,7 +108,7 @@ instruction_most word w h =
       omega (arith, e, row_length w h.row),
     )
 
-found_most : (word : List ℕ) (args : List Argument) (o : Option Worded) → instruction word args ≡ o → size o ≤ 7
+found_most : (word : List ℕ) (args : List Argument) (o : Option RelocatableInsn) → instruction word args ≡ o → size o ≤ 7
 found_most word args None e = omega arith
 found_most word args (Some w) e = omega (arith, single_length w, (instruction_most word w (instruction_found word args w e)).0)
 
@@ -239,7 +239,7 @@ pub high_is_near : (shape : Shape) → is_high (layout_of shape).form ≡ true �
 high_is_near shapes.Near h = refl
 high_is_near shape h = absurd (cc h)
 
-room_row : (place : ℕ) (w : Worded) (row : Shown) → w.opcode < 256 → row_at w.opcode w.signed ≡ Some row → HaveRoom place (row_relocatables w row)
+room_row : (place : ℕ) (w : RelocatableInsn) (row : Shown) → w.opcode < 256 → row_at w.opcode w.signed ≡ Some row → HaveRoom place (row_relocatables w row)
 room_row place w row b e =
     let l : Layout = layout_of row.shape in
     let byte : Bool = is_byte row.width in
@@ -252,9 +252,9 @@ room_row place w row b e =
           (rooms-append place O B (room_operand place l.form byte w.operand) (room_bytes place (take l.after (drop l.before w.regs)))),
     )
 
-room_at : (place : ℕ) (w : Worded) (r : Option Shown) → w.opcode < 256 → row_at w.opcode w.signed ≡ r → HaveRoom place (worded_relocatables w)
-room_at place w None b e = rw (e, worded_relocatables) tt
-room_at place w (Some row) b e = rw (e, worded_relocatables) (room_row place w row b e)
+room_at : (place : ℕ) (w : RelocatableInsn) (r : Option Shown) → w.opcode < 256 → row_at w.opcode w.signed ≡ r → HaveRoom place (insn_relocatables w)
+room_at place w None b e = rw (e, insn_relocatables) tt
+room_at place w (Some row) b e = rw (e, insn_relocatables) (room_row place w row b e)
 
-pub relocatables_have_room : (w : Worded) → w.opcode < 256 → (place : ℕ) → All (HasRoom place) (worded_relocatables w)
-relocatables_have_room w b place = each_room place (worded_relocatables w) (room_at place w (row_at w.opcode w.signed) b refl)
+pub relocatables_have_room : (w : RelocatableInsn) → w.opcode < 256 → (place : ℕ) → All (HasRoom place) (insn_relocatables w)
+relocatables_have_room w b place = each_room place (insn_relocatables w) (room_at place w (row_at w.opcode w.signed) b refl)

@@ -20,7 +20,7 @@ use Rattle.kc_branch.specs.declared.piece.Form.{Form}
 use Rattle.kc_branch.specs.declared.piece.Form.TheVariants.{First, Second, Third}
 use Rattle.kc_branch.specs.declared.piece.BranchKind.{BranchKind}
 use Rattle.kc_branch.specs.declared.piece.BranchKind.TheVariants.{Jump, Call, Conditional, BitTest}
-use Rattle.kc_asm_encode.specs.declared.word.Worded.{Worded}
+use Rattle.kc_asm_encode.specs.declared.word.RelocatableInsn.{RelocatableInsn}
 use Rattle.kc_asm_encode.specs.Values.{argument}
 use Rattle.kc_asm_encode.specs.Takes.{notation, is_operation}
 use Rattle.kc_asm_encode.specs.Opcodes.{operand_count, source_of, wanted_bits}
@@ -250,7 +250,7 @@ pub are_instructions : (ls : List Line) → AllFound ls → AreInstructions ls (
 are_instructions [] h = tt
 are_instructions (l ∷ ls) h = found l.word l.args (instruction l.word l.args) refl h.0 (are_instructions ls h.1)
   where
-    found : (word : List ℕ) (args : List Argument) (o : Option Worded) → instruction word args ≡ o → IsFound word args → AreInstructions ls (all_lines ls) → AreInstructions (line word args ∷ ls) (listed o ++ all_lines ls)
+    found : (word : List ℕ) (args : List Argument) (o : Option RelocatableInsn) → instruction word args ≡ o → IsFound word args → AreInstructions ls (all_lines ls) → AreInstructions (line word args ∷ ls) (listed o ++ all_lines ls)
     found word args None e f r = absurd (cc (e, f.1))
     found word args (Some w) e f r = (instruction_found word args w e, r)
 

@@ -14,10 +14,10 @@ use Rattle.kc_asm_encode.specs.declared.argument.Argument.{Argument}
 use Rattle.kc_branch.specs.declared.piece.Form.{Form as BranchForm}
 use Rattle.kc_asm_encode.specs.declared.word.Word.{Word}
 use Rattle.kc_asm_encode.specs.declared.word.Word.TheVariants.{Absent, Register, Immediate, Indirect, Increment, Short, Long, Count, Jump}
-use Rattle.kc_asm_encode.specs.declared.word.Worded.{Worded}
+use Rattle.kc_asm_encode.specs.declared.word.RelocatableInsn.{RelocatableInsn}
 use Rattle.kc_asm_encode.specs.Branches.{Line, in_full}
 use Rattle.kc_asm_encode.specs.Instructions.{instruction, listed, all_lines, instructions}
-use Rattle.kc_asm_encode.specs.RelocatableBytes.{byte_of, operand_relocatables, opcode_relocatable, laid_relocatables, row_relocatables, worded_relocatables, all_relocatable_bytes}
+use Rattle.kc_asm_encode.specs.RelocatableBytes.{byte_of, operand_relocatables, opcode_relocatable, laid_relocatables, row_relocatables, insn_relocatables, all_relocatable_bytes}
 use Rattle.kc_asm_encode.specs.Suits.{IsInstruction}
 use Rattle.kc_asm_encode.specs.Pairs.{Pending, opens, Follows, IsPairedFrom, IsPaired}
 use Rattle.kc_asm_encode.proofs.Spelled.{JumpLast, jump_last, relocatables_are}
@@ -54,7 +54,7 @@ paired_operand Distance11 byte (Jump v) e = absurd (cc e)
 paired_operand Distance16 byte (Jump v) e = (tt, ((refl, refl), refl))
 paired_operand form byte (Jump v) e = (tt, refl)
 
-plain_laid : (l : Layout) (byte : Bool) (w : Worded) → opens (opcode_relocatable l.form 0 w.operand) ≡ None → IsPaired (laid_relocatables l byte w)
+plain_laid : (l : Layout) (byte : Bool) (w : RelocatableInsn) → opens (opcode_relocatable l.form 0 w.operand) ≡ None → IsPaired (laid_relocatables l byte w)
 plain_laid l byte w e =
     paired-append (map byte_of (take l.before w.regs)) (operand_relocatables l.form byte w.operand ++ map byte_of (take l.after (drop l.before w.regs)))
     (paired-bytes (take l.before w.regs))
@@ -65,43 +65,43 @@ OpensNothing form opcode o = (opens (opcode_relocatable form opcode o) ≡ None)
 
 plain_opcode : (before after : ℕ) (form : Form) (byte : Bool) (opcode : ℕ) (signed : Bool) (o : Word) (regs : List Value) → OpensNothing form opcode o →
     let l : Layout = record { before = before; form = form; after = after } in
-    let w : Worded = record { opcode = opcode; signed = signed; operand = o; regs = regs } in
+    let w : RelocatableInsn = record { opcode = opcode; signed = signed; operand = o; regs = regs } in
     IsPaired (opcode_relocatable form opcode o ∷ laid_relocatables l byte w)
 plain_opcode before after form byte opcode signed o regs h =
     let l : Layout = record { before = before; form = form; after = after } in
-    let w : Worded = record { opcode = opcode; signed = signed; operand = o; regs = regs } in
+    let w : RelocatableInsn = record { opcode = opcode; signed = signed; operand = o; regs = regs } in
     (h.2, subst (λ (p : Pending). IsPairedFrom p (laid_relocatables l byte w)) (sym h.0) (plain_laid l byte w h.1))
 
 near_opcode : (before after : ℕ) (byte : Bool) (opcode : ℕ) (signed : Bool) (v : Value) (regs : List Value) → before ≡ 0 → after ≡ 0 →
     let l : Layout = record { before = before; form = Distance11; after = after } in
-    let w : Worded = record { opcode = opcode; signed = signed; operand = Jump v; regs = regs } in
+    let w : RelocatableInsn = record { opcode = opcode; signed = signed; operand = Jump v; regs = regs } in
     IsPaired (First 3 opcode v ∷ laid_relocatables l byte w)
 near_opcode before after byte opcode signed v regs h k = rw (h, k) (tt, ((refl, refl), refl))
 
 paired_laid : (before after : ℕ) (form : Form) (byte : Bool) (opcode : ℕ) (signed : Bool) (o : Word) (regs : List Value) →
     let l : Layout = record { before = before; form = form; after = after } in
     JumpLast l o →
-    let w : Worded = record { opcode = opcode; signed = signed; operand = o; regs = regs } in
+    let w : RelocatableInsn = record { opcode = opcode; signed = signed; operand = o; regs = regs } in
     IsPaired (opcode_relocatable form opcode o ∷ laid_relocatables l byte w)
 paired_laid before after Distance11 byte opcode signed (Jump v) regs h = near_opcode before after byte opcode signed v regs h.1 h.0
 paired_laid before after Distance11 byte opcode signed o regs h = plain_opcode before after Distance11 byte opcode signed o regs (refl, refl, tt)
 paired_laid before after form byte opcode signed o regs h = plain_opcode before after form byte opcode signed o regs (refl, refl, tt)
 
-paired_row : (w : Worded) (row : Shown) → JumpLast (layout_of row.shape) w.operand → IsPaired (row_relocatables w row)
+paired_row : (w : RelocatableInsn) (row : Shown) → JumpLast (layout_of row.shape) w.operand → IsPaired (row_relocatables w row)
 paired_row w row h =
     let l : Layout = layout_of row.shape in
     paired-append (map Plain (prefix w.signed)) (opcode_relocatable l.form w.opcode w.operand ∷ laid_relocatables l (is_byte row.width) w)
     (paired-plain (prefix w.signed)) (paired_laid l.before l.after l.form (is_byte row.width) w.opcode w.signed w.operand w.regs h)
 
-pub paired_worded : (word : List ℕ) (w : Worded) → IsInstruction word w → IsPaired (worded_relocatables w)
-paired_worded word w h =
+pub paired_insn : (word : List ℕ) (w : RelocatableInsn) → IsInstruction word w → IsPaired (insn_relocatables w)
+paired_insn word w h =
     subst (λ (os : List RelocatableByte). IsPaired os) (sym (relocatables_are word w h)) (paired_row w h.row (jump_last h.row.shape w.opcode w.operand h.operand))
 
-paired_listed : (word : List ℕ) (args : List Argument) (o : Option Worded) → instruction word args ≡ o → IsPaired (all_relocatable_bytes (listed o))
+paired_listed : (word : List ℕ) (args : List Argument) (o : Option RelocatableInsn) → instruction word args ≡ o → IsPaired (all_relocatable_bytes (listed o))
 paired_listed word args None e = refl
-paired_listed word args (Some w) e = paired-append (worded_relocatables w) [] (paired_worded word w (instruction_found word args w e)) refl
+paired_listed word args (Some w) e = paired-append (insn_relocatables w) [] (paired_insn word w (instruction_found word args w e)) refl
 
-pub listed-relocatable_bytes : (o : Option Worded) (ws : List Worded) → all_relocatable_bytes (listed o ++ ws) ≡ all_relocatable_bytes (listed o) ++ all_relocatable_bytes ws
+pub listed-relocatable_bytes : (o : Option RelocatableInsn) (ws : List RelocatableInsn) → all_relocatable_bytes (listed o ++ ws) ≡ all_relocatable_bytes (listed o) ++ all_relocatable_bytes ws
 listed-relocatable_bytes None ws = refl
 listed-relocatable_bytes (Some w) ws = simp append_assoc
 

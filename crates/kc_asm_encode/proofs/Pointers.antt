@@ -22,7 +22,7 @@ use Rattle.kc_branch.specs.declared.piece.Form.{Form}
 use Rattle.kc_branch.specs.declared.piece.Form.TheVariants.{First, Second, Third}
 use Rattle.kc_branch.specs.declared.piece.BranchKind.{BranchKind}
 use Rattle.kc_branch.specs.declared.piece.BranchKind.TheVariants.{Jump, Call, Conditional, BitTest}
-use Rattle.kc_asm_encode.specs.declared.word.Worded.{Worded}
+use Rattle.kc_asm_encode.specs.declared.word.RelocatableInsn.{RelocatableInsn}
 use Rattle.kc_asm_encode.specs.Values.{or_zero, is_external, is_direct, is_short, argument}
 use Rattle.kc_asm_encode.specs.Sources.{plain_source, indexed_source, source}
 use Rattle.kc_asm_encode.specs.Takes.{notation, is_operation}
@@ -103,14 +103,14 @@ HasNoSource word = (shape : Shape) × (IsSourceless shape × (has_one_shape shap
 abbrev IsHarmless : List ℕ → List Argument → Type 0
 IsHarmless word args = (source_fault (argument args (length args - 1)) ≡ None) ⊎ HasNoSource word
 
-laid_even : (b : Bases) → ((p : ℕ) → b.piece p % 2 ≡ 0) → (word : List ℕ) (args : List Argument) (w : Worded) → IsHarmless word args → IsLaid word args w → IsEven b w.operand
+laid_even : (b : Bases) → ((p : ℕ) → b.piece p % 2 ≡ 0) → (word : List ℕ) (args : List Argument) (w : RelocatableInsn) → IsHarmless word args → IsLaid word args w → IsEven b w.operand
 laid_even b h word args w (inl f) l =
     let g : source_fault (argument args (operand_count l.row.shape - 1)) ≡ None = ap (λ (n : ℕ). source_fault (argument args (n - 1))) (laid_count word args w l) ∙ f in
-    subst (λ (v : Worded). IsEven b v.operand) l.is (operand_even b l.row.shape args h g)
+    subst (λ (v : RelocatableInsn). IsEven b v.operand) l.is (operand_even b l.row.shape args h g)
 laid_even b h word args w (inr s) l =
     let n : l.row.name ≡ word = (bytes_eq-Decides l.row.name word).0 (both (bytes_eq l.row.name word) _ l.fits).0 in
     let e : l.row.shape ≡ s.0 = (shape_of word s.0 l.opcode l.signed l.row s.1.1 l.below l.at n).1 in
-    subst (λ (v : Worded). IsEven b v.operand) l.is (sourceless_even b l.row.shape args (subst (λ (x : Shape). IsSourceless x) (sym e) s.1.0))
+    subst (λ (v : RelocatableInsn). IsEven b v.operand) l.is (sourceless_even b l.row.shape args (subst (λ (x : Shape). IsSourceless x) (sym e) s.1.0))
 
 -- ---- the last operand
 
@@ -218,4 +218,4 @@ pub pointers_are_even : (b : Bases) (word : List ℕ) (args : List Argument) (fo
     EachOf (λ w. IsEven b w.operand) (instructions word args form here)
 unfolding instructions
 pointers_are_even b word args form here h f even =
-    each_line (λ (w : Worded). IsEven b w.operand) IsHarmless (laid_even b even) (in_full word args form here) (full_harmless word args form here (branch_kind word args) refl h f)
+    each_line (λ (w : RelocatableInsn). IsEven b w.operand) IsHarmless (laid_even b even) (in_full word args form here) (full_harmless word args form here (branch_kind word args) refl h f)

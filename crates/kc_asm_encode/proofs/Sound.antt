@@ -22,10 +22,10 @@ use Rattle.kc_asm_bytes.specs.declared.relocatable_byte.RelocatableByte.TheVaria
 use Rattle.kc_asm_bytes.specs.Filling.{base_address, address}
 use Rattle.kc_asm_encode.specs.declared.word.Word.{Word}
 use Rattle.kc_asm_encode.specs.declared.word.Word.TheVariants.{Absent, Register, Immediate, Indirect, Increment, Short, Long, Count, Jump}
-use Rattle.kc_asm_encode.specs.declared.word.Worded.{Worded}
+use Rattle.kc_asm_encode.specs.declared.word.RelocatableInsn.{RelocatableInsn}
 use Rattle.kc_asm_encode.specs.Instructions.{no_regs}
 use Rattle.kc_asm_encode.specs.Words.{operand_of, insn_of}
-use Rattle.kc_asm_encode.specs.RelocatableBytes.{operand_relocatables, opcode_relocatable, laid_relocatables, row_relocatables, worded_relocatables}
+use Rattle.kc_asm_encode.specs.RelocatableBytes.{operand_relocatables, opcode_relocatable, laid_relocatables, row_relocatables, insn_relocatables}
 use Rattle.kc_asm_encode.specs.Suits.{operand_suits, FitsAt, AllFit, IsEven, HasWords, IsInstruction, IsSettled, IsSound}
 use Rattle.kc_asm_encode.proofs.Fills.{fit-beginning, fit-behind, distance-small, IsNext, IsOver}
 use Rattle.kc_asm_encode.proofs.Spelled.{JumpLast, jump_last, jump_next, jump_over, beginning_relocatables, back_relocatables, relocatables_are}
@@ -139,7 +139,7 @@ formed-row i row e h = rw (e, is_formed) h
 range-row : (i : Insn) (row : Shown) → row_at i.opcode i.signed ≡ Some row → operand_in_range (layout_of row.shape).form i.operand ≡ true → is_in_range i ≡ true
 range-row i row e h = rw (e, is_in_range) h
 
-sound_row : (b : Bases) (a : ℕ) (word : List ℕ) (w : Worded) (h : IsInstruction word w) → AllFit b a (row_relocatables w h.row) → IsEven b w.operand → HasWords w.operand →
+sound_row : (b : Bases) (a : ℕ) (word : List ℕ) (w : RelocatableInsn) (h : IsInstruction word w) → AllFit b a (row_relocatables w h.row) → IsEven b w.operand → HasWords w.operand →
     IsSound (insn_of b (a + length (row_relocatables w h.row)) w)
 sound_row b a word w h fit even words =
     let row : Shown = h.row in
@@ -167,8 +167,8 @@ sound_row b a word w h fit even words =
       has = record { operand = operand_has b w.operand n words; three = length-map w.regs (address b) ∙ h.three; opcode = h.opcode };
     })
 
-pub settled_is_sound : (b : Bases) (a : ℕ) (word : List ℕ) (w : Worded) → IsInstruction word w → IsSettled b a w → IsSound (insn_of b (a + length (worded_relocatables w)) w)
+pub settled_is_sound : (b : Bases) (a : ℕ) (word : List ℕ) (w : RelocatableInsn) → IsInstruction word w → IsSettled b a w → IsSound (insn_of b (a + length (insn_relocatables w)) w)
 settled_is_sound b a word w h s =
-    let e : worded_relocatables w ≡ row_relocatables w h.row = relocatables_are word w h in
+    let e : insn_relocatables w ≡ row_relocatables w h.row = relocatables_are word w h in
     subst (λ (os : List RelocatableByte). IsSound (insn_of b (a + length os) w)) (sym e)
     (sound_row b a word w h (subst (λ (os : List RelocatableByte). AllFit b a os) e s.fit) s.even s.words)

@@ -17,9 +17,9 @@ use Rattle.kc_asm_bytes.specs.declared.relocatable_byte.RelocatableByte.TheVaria
 use Rattle.kc_asm_bytes.specs.Filling.{address, filled}
 use Rattle.kc_asm_encode.specs.declared.word.Word.{Word}
 use Rattle.kc_asm_encode.specs.declared.word.Word.TheVariants.{Absent, Register, Immediate, Indirect, Increment, Short, Long, Count, Jump}
-use Rattle.kc_asm_encode.specs.declared.word.Worded.{Worded}
+use Rattle.kc_asm_encode.specs.declared.word.RelocatableInsn.{RelocatableInsn}
 use Rattle.kc_asm_encode.specs.Words.{insn_of}
-use Rattle.kc_asm_encode.specs.RelocatableBytes.{byte_of, jump_relocatables, operand_relocatables, opcode_relocatable, laid_relocatables, row_relocatables, worded_relocatables}
+use Rattle.kc_asm_encode.specs.RelocatableBytes.{byte_of, jump_relocatables, operand_relocatables, opcode_relocatable, laid_relocatables, row_relocatables, insn_relocatables}
 use Rattle.kc_asm_encode.specs.Suits.{operand_suits, AllFit, IsInstruction, IsSettled, IsEven, HasWords}
 use Rattle.kc_asm_encode.proofs.Fills.{filled-append, fit-beginning, fit-behind, filled-plain, filled-bytes, jump_length, IsNext, operand_filled, IsOver, opcode_filled}
 
@@ -61,13 +61,13 @@ jump_last shapes.TableJump opcode w h = jump_only NoOperand opcode 0 3 w h (λ v
 jump_last shapes.Far opcode w h = jump_only Distance16 opcode 0 0 w h (λ v e. (refl, tt))
 jump_last shapes.Key opcode w h = jump_only OneByte opcode 0 0 w h (λ v e. absurd (cc e))
 
-abbrev pub beginning_relocatables : Layout → Worded → List RelocatableByte
+abbrev pub beginning_relocatables : Layout → RelocatableInsn → List RelocatableByte
 beginning_relocatables l w = map byte_of (take l.before w.regs)
 
-abbrev pub back_relocatables : Layout → Worded → List RelocatableByte
+abbrev pub back_relocatables : Layout → RelocatableInsn → List RelocatableByte
 back_relocatables l w = map byte_of (take l.after (drop l.before w.regs))
 
-body_filled : (b : Bases) (l : Layout) (byte : Bool) (w : Worded) (a next : ℕ) → IsNext l.form w.operand (a + length (beginning_relocatables l w)) next →
+body_filled : (b : Bases) (l : Layout) (byte : Bool) (w : RelocatableInsn) (a next : ℕ) → IsNext l.form w.operand (a + length (beginning_relocatables l w)) next →
     AllFit b a (laid_relocatables l byte w) → IsEven b w.operand → HasWords w.operand →
     filled b a (laid_relocatables l byte w) ≡ laid_bytes l byte (insn_of b next w)
 body_filled b l byte w a next e h even words =
@@ -87,7 +87,7 @@ jump-length Distance16 v = refl
 jump-length form v = refl
 
 pub jump_next : (l : Layout) (byte : Bool) (opcode : ℕ) (signed : Bool) (o : Word) (regs : List Value) (a : ℕ) → JumpLast l o →
-    let w : Worded = record { opcode = opcode; signed = signed; operand = o; regs = regs } in
+    let w : RelocatableInsn = record { opcode = opcode; signed = signed; operand = o; regs = regs } in
     IsNext l.form o (a + length (beginning_relocatables l w)) (a + length (laid_relocatables l byte w))
 jump_next l byte opcode signed (Jump v) regs a h =
     let B : List RelocatableByte = map byte_of (take l.before regs) in
@@ -99,14 +99,14 @@ jump_next l byte opcode signed o regs a h = tt
 pub jump_over : (before after : ℕ) (form : Form) (byte : Bool) (opcode : ℕ) (signed : Bool) (o : Word) (regs : List Value) (a : ℕ) →
     let l : Layout = record { before = before; form = form; after = after } in
     JumpLast l o →
-    let w : Worded = record { opcode = opcode; signed = signed; operand = o; regs = regs } in
+    let w : RelocatableInsn = record { opcode = opcode; signed = signed; operand = o; regs = regs } in
     IsOver form o a ((a + 1) + length (laid_relocatables l byte w))
 jump_over before after Distance11 byte opcode signed (Jump v) regs a h = rw (h.0, h.1) (omega arith)
 jump_over before after Distance11 byte opcode signed o regs a h = tt
 jump_over before after form byte opcode signed o regs a h = tt
 
 -- the filled bytes of an instruction with a row
-row_filled : (b : Bases) (w : Worded) (row : Shown) (a : ℕ) → JumpLast (layout_of row.shape) w.operand → AllFit b a (row_relocatables w row) → IsEven b w.operand → HasWords w.operand →
+row_filled : (b : Bases) (w : RelocatableInsn) (row : Shown) (a : ℕ) → JumpLast (layout_of row.shape) w.operand → AllFit b a (row_relocatables w row) → IsEven b w.operand → HasWords w.operand →
     filled b a (row_relocatables w row) ≡ row_spelling (insn_of b (a + length (row_relocatables w row)) w) row
 unfolding filled
 row_filled b w row a h fit even words =
@@ -124,12 +124,12 @@ row_filled b w row a h fit even words =
     (rw (opcode_filled b l.form w.opcode w.operand p n (jump_over l.before l.after l.form (is_byte row.width) w.opcode w.signed w.operand w.regs p h))
     (rw (body_filled b l (is_byte row.width) w (p + 1) n (jump_next l (is_byte row.width) w.opcode w.signed w.operand w.regs (p + 1) h) body even words) refl))))
 
-pub relocatables_are : (word : List ℕ) (w : Worded) (h : IsInstruction word w) → worded_relocatables w ≡ row_relocatables w h.row
-relocatables_are word w h = rw (h.is, worded_relocatables) refl
+pub relocatables_are : (word : List ℕ) (w : RelocatableInsn) (h : IsInstruction word w) → insn_relocatables w ≡ row_relocatables w h.row
+relocatables_are word w h = rw (h.is, insn_relocatables) refl
 
-pub filled_is_spelled : (b : Bases) (a : ℕ) (word : List ℕ) (w : Worded) → IsInstruction word w → IsSettled b a w → filled b a (worded_relocatables w) ≡ spelling (insn_of b (a + length (worded_relocatables w)) w)
+pub filled_is_spelled : (b : Bases) (a : ℕ) (word : List ℕ) (w : RelocatableInsn) → IsInstruction word w → IsSettled b a w → filled b a (insn_relocatables w) ≡ spelling (insn_of b (a + length (insn_relocatables w)) w)
 filled_is_spelled b a word w h s =
-    let e : worded_relocatables w ≡ row_relocatables w h.row = relocatables_are word w h in
+    let e : insn_relocatables w ≡ row_relocatables w h.row = relocatables_are word w h in
     let fit : AllFit b a (row_relocatables w h.row) = subst (λ (os : List RelocatableByte). AllFit b a os) e s.fit in
     let f : filled b a (row_relocatables w h.row) ≡ row_spelling (insn_of b (a + length (row_relocatables w h.row)) w) h.row = row_filled b w h.row a (jump_last h.row.shape w.opcode w.operand h.operand) fit s.even s.words in
     let g : spelling (insn_of b (a + length (row_relocatables w h.row)) w) ≡ row_spelling (insn_of b (a + length (row_relocatables w h.row)) w) h.row = rw (h.is, spelling) refl in

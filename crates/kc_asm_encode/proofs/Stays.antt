@@ -25,14 +25,14 @@ use Rattle.kc_branch.specs.declared.piece.Form.{Form as BranchForm}
 use Rattle.kc_branch.specs.declared.piece.BranchKind.{BranchKind}
 use Rattle.kc_asm_encode.specs.declared.word.Word.{Word}
 use Rattle.kc_asm_encode.specs.declared.word.Word.TheVariants as words
-use Rattle.kc_asm_encode.specs.declared.word.Worded.{Worded}
+use Rattle.kc_asm_encode.specs.declared.word.RelocatableInsn.{RelocatableInsn}
 use Rattle.kc_expr.specs.Meaning.{is_fixed}
 use Rattle.kc_asm_encode.specs.Values.{or_zero, is_direct, is_short, argument, value_of, bit_of}
 use Rattle.kc_asm_encode.specs.Sources.{mode, plain_source, indexed_source, source}
 use Rattle.kc_asm_encode.specs.Opcodes.{wanted_bits, is_row_for, is_opcode_for, opcode_of}
 use Rattle.kc_asm_encode.specs.Branches.{Line, line, plain_branch, branch_kind, in_full}
 use Rattle.kc_asm_encode.specs.Instructions.{operand_for, regs_for, laid, signed_instruction, instruction, listed, all_lines, instructions}
-use Rattle.kc_asm_encode.specs.RelocatableBytes.{byte_of, operand_relocatables, opcode_relocatable, laid_relocatables, row_relocatables, worded_relocatables, all_relocatable_bytes}
+use Rattle.kc_asm_encode.specs.RelocatableBytes.{byte_of, operand_relocatables, opcode_relocatable, laid_relocatables, row_relocatables, insn_relocatables, all_relocatable_bytes}
 use Rattle.kc_asm_encode.specs.Blurred.{blurred_value, blurred}
 use Rattle.kc_asm_encode.proofs.EncodingSearch.{opcode-alike}
 use Rattle.kc_asm_encode.proofs.Found.{three_for}
@@ -179,7 +179,7 @@ behind : (m n : ℕ) (xs ys : List Value) → length xs ≡ length ys → length
 behind m n xs ys e = taken n (drop m xs) (drop m ys) (omega (arith, length-drop m xs, length-drop m ys))
 
 abbrev pub parts : Layout → Bool → ℕ → Bool → Word → List Value → List RelocatableByte
-parts l byte opcode signed o regs = let w : Worded = record { opcode = opcode; signed = signed; operand = o; regs = regs } in laid_relocatables l byte w
+parts l byte opcode signed o regs = let w : RelocatableInsn = record { opcode = opcode; signed = signed; operand = o; regs = regs } in laid_relocatables l byte w
 
 pub parts_length : (l : Layout) (byte : Bool) (opcode : ℕ) (signed : Bool) (o : Word) (regs : List Value) →
     length (parts l byte opcode signed o regs) ≡ length (map byte_of (take l.before regs)) + (length (operand_relocatables l.form byte o) + length (map byte_of (take l.after (drop l.before regs))))
@@ -190,7 +190,7 @@ parts_length l byte opcode signed o regs =
       length-append (operand_relocatables l.form byte o) (map byte_of (take l.after (drop l.before regs))),
     )
 
-pub row_length : (w : Worded) (row : Shown) → length (row_relocatables w row) ≡ length (map relocatable_bytes.Plain (prefix w.signed)) + (1 + length (laid_relocatables (layout_of row.shape) (is_byte row.width) w))
+pub row_length : (w : RelocatableInsn) (row : Shown) → length (row_relocatables w row) ≡ length (map relocatable_bytes.Plain (prefix w.signed)) + (1 + length (laid_relocatables (layout_of row.shape) (is_byte row.width) w))
 row_length w row = omega (arith, length-append (map relocatable_bytes.Plain (prefix w.signed)) (opcode_relocatable (layout_of row.shape).form w.opcode w.operand ∷ laid_relocatables (layout_of row.shape) (is_byte row.width) w))
 
 laid_same : (opcode : ℕ) (signed : Bool) (args : List Argument) (row : Shown) → length (row_relocatables (laid opcode signed (map blurred args) row.shape) row) ≡ length (row_relocatables (laid opcode signed args row.shape) row)
@@ -214,21 +214,21 @@ laid_same opcode signed args row =
       operand_same row.shape args l.form byte,
     )
 
-worded_is : (w : Worded) (row : Shown) → row_at w.opcode w.signed ≡ Some row → worded_relocatables w ≡ row_relocatables w row
-worded_is w row e = rw (e, worded_relocatables) refl
+insn_is : (w : RelocatableInsn) (row : Shown) → row_at w.opcode w.signed ≡ Some row → insn_relocatables w ≡ row_relocatables w row
+insn_is w row e = rw (e, insn_relocatables) refl
 
-pub single_length : (w : Worded) → length (all_relocatable_bytes (w ∷ [])) ≡ length (worded_relocatables w)
-single_length w = omega (arith, length-append (worded_relocatables w) [])
+pub single_length : (w : RelocatableInsn) → length (all_relocatable_bytes (w ∷ [])) ≡ length (insn_relocatables w)
+single_length w = omega (arith, length-append (insn_relocatables w) [])
 
 at_row : (opcode : ℕ) (signed : Bool) (args : List Argument) (r : Option Shown) → row_at opcode signed ≡ r →
     length (all_relocatable_bytes (listed (option_map (λ (row : Shown). laid opcode signed (map blurred args) row.shape) r))) ≡ length (all_relocatable_bytes (listed (option_map (λ (row : Shown). laid opcode signed args row.shape) r)))
 at_row opcode signed args None e = refl
 at_row opcode signed args (Some row) e =
-    let v : Worded = laid opcode signed (map blurred args) row.shape in
-    let w : Worded = laid opcode signed args row.shape in
-    single_length v ∙ (ap (λ (os : List RelocatableByte). length os) (worded_is v row e) ∙ (laid_same opcode signed args row ∙ (sym (ap (λ (os : List RelocatableByte). length os) (worded_is w row e)) ∙ sym (single_length w))))
+    let v : RelocatableInsn = laid opcode signed (map blurred args) row.shape in
+    let w : RelocatableInsn = laid opcode signed args row.shape in
+    single_length v ∙ (ap (λ (os : List RelocatableByte). length os) (insn_is v row e) ∙ (laid_same opcode signed args row ∙ (sym (ap (λ (os : List RelocatableByte). length os) (insn_is w row e)) ∙ sym (single_length w))))
 
-abbrev pub size : Option Worded → ℕ
+abbrev pub size : Option RelocatableInsn → ℕ
 size o = length (all_relocatable_bytes (listed o))
 
 signed_at : (word : List ℕ) (args : List Argument) (o : Option ℕ) → opcode_of word args true ≡ o → size (signed_instruction word (map blurred args)) ≡ size (signed_instruction word args)

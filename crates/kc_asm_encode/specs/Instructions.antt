@@ -11,7 +11,7 @@ use Rattle.kc_asm_encode.specs.declared.argument.Argument.{Argument}
 use Rattle.kc_branch.specs.declared.piece.Form.{Form}
 use Rattle.kc_asm_encode.specs.declared.word.Word.{Word}
 use Rattle.kc_asm_encode.specs.declared.word.Word.TheVariants.{Absent, Immediate, Count, Jump}
-use Rattle.kc_asm_encode.specs.declared.word.Worded.{Worded}
+use Rattle.kc_asm_encode.specs.declared.word.RelocatableInsn.{RelocatableInsn}
 use Rattle.kc_asm_encode.specs.Values.{argument, value_of}
 use Rattle.kc_asm_encode.specs.Sources.{source}
 use Rattle.kc_asm_encode.specs.Opcodes.{source_of, opcode_of}
@@ -62,31 +62,31 @@ regs_for shapes.Conditional args = no_regs
 regs_for shapes.Far args = no_regs
 regs_for shapes.Key args = no_regs
 
-abbrev pub laid : ℕ → Bool → List Argument → Shape → Worded
+abbrev pub laid : ℕ → Bool → List Argument → Shape → RelocatableInsn
 laid opcode signed args shape = record { opcode = opcode; signed = signed; operand = operand_for shape args; regs = regs_for shape args }
 
-abbrev pub instruction_at : Bool → List Argument → ℕ → Option Worded
+abbrev pub instruction_at : Bool → List Argument → ℕ → Option RelocatableInsn
 instruction_at signed args opcode = option_map (λ row. laid opcode signed args row.shape) (row_at opcode signed)
 
-abbrev pub signed_instruction : List ℕ → List Argument → Option Worded
+abbrev pub signed_instruction : List ℕ → List Argument → Option RelocatableInsn
 signed_instruction word args = elim (opcode_of word args true) [ None ↦ None | Some opcode ↦ instruction_at true args opcode ]
 
 -- an instruction as it is written, if there is one
-unfoldable pub instruction : List ℕ → List Argument → Option Worded
+unfoldable pub instruction : List ℕ → List Argument → Option RelocatableInsn
 instruction word args = elim (opcode_of word args false) [ None ↦ signed_instruction word args | Some opcode ↦ instruction_at false args opcode ]
 
-abbrev pub listed : Option Worded → List Worded
+abbrev pub listed : Option RelocatableInsn → List RelocatableInsn
 listed None = []
 listed (Some w) = w ∷ []
 
-abbrev pub all_lines : List Line → List Worded
+abbrev pub all_lines : List Line → List RelocatableInsn
 all_lines [] = []
 all_lines (l ∷ ls) = listed (instruction l.word l.args) ++ all_lines ls
 
 -- the instructions of an operation that stands at a place; a generic branch has a form
-unfoldable pub instructions : List ℕ → List Argument → Form → Value → List Worded
+unfoldable pub instructions : List ℕ → List Argument → Form → Value → List RelocatableInsn
 instructions word args form here = all_lines (in_full word args form here)
 
 -- what an empty place of a list holds
-abbrev pub nop : Worded
+abbrev pub nop : RelocatableInsn
 nop = record { opcode = 0xFD; signed = false; operand = Absent; regs = no_regs }

@@ -8,26 +8,26 @@ use Rattle.kc_asm_encode.specs.declared.argument.Argument.{Argument}
 use Rattle.kc_branch.specs.declared.piece.Form.{Form}
 use Rattle.kc_branch.specs.declared.piece.BranchKind.{BranchKind}
 use Rattle.kc_branch.specs.Forms.{size as branch_length}
-use Rattle.kc_asm_encode.specs.declared.word.Worded.{Worded}
+use Rattle.kc_asm_encode.specs.declared.word.RelocatableInsn.{RelocatableInsn}
 use Rattle.kc_asm_encode.specs.Takes.{is_operation}
 use Rattle.kc_asm_encode.specs.Branches.{branch_kind, in_full}
 use Rattle.kc_asm_encode.specs.Instructions.{instructions}
 use Rattle.kc_asm_encode.specs.Faults.{fault_of}
 use Rattle.kc_asm_encode.specs.Words.{insn_of}
-use Rattle.kc_asm_encode.specs.RelocatableBytes.{worded_relocatables, all_relocatable_bytes}
+use Rattle.kc_asm_encode.specs.RelocatableBytes.{insn_relocatables, all_relocatable_bytes}
 use Rattle.kc_asm_encode.specs.Suits.{IsInstruction, AreInstructions, IsSettled, IsSound, IsEven, HasWords, EachOf, AllWords}
 use Rattle.kc_asm_encode.specs.Pairs.{IsPaired}
 use Rattle.kc_asm_encode.specs.Blurred.{blurred}
 
 -- once the bases are known, the bytes of an instruction spell it
 abbrev pub FilledIsSpelled : Type 0
-FilledIsSpelled = (bases : Bases) (place : ℕ) (word : List ℕ) (w : Worded) → IsInstruction word w → IsSettled bases place w →
-    filled bases place (worded_relocatables w) ≡ spelling (insn_of bases (place + length (worded_relocatables w)) w)
+FilledIsSpelled = (bases : Bases) (place : ℕ) (word : List ℕ) (w : RelocatableInsn) → IsInstruction word w → IsSettled bases place w →
+    filled bases place (insn_relocatables w) ≡ spelling (insn_of bases (place + length (insn_relocatables w)) w)
 
 -- and it is well formed
 abbrev pub SettledIsSound : Type 0
-SettledIsSound = (bases : Bases) (place : ℕ) (word : List ℕ) (w : Worded) → IsInstruction word w → IsSettled bases place w →
-    IsSound (insn_of bases (place + length (worded_relocatables w)) w)
+SettledIsSound = (bases : Bases) (place : ℕ) (word : List ℕ) (w : RelocatableInsn) → IsInstruction word w → IsSettled bases place w →
+    IsSound (insn_of bases (place + length (insn_relocatables w)) w)
 
 -- an operation is written in full by instructions of the table
 abbrev pub OperationsAreInstructions : Type 0

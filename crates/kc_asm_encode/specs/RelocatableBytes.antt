@@ -14,7 +14,7 @@ use Rattle.kc_asm_bytes.specs.declared.relocatable_byte.RelocatableByte.{Relocat
 use Rattle.kc_asm_bytes.specs.declared.relocatable_byte.RelocatableByte.TheVariants.{Plain, First, Second}
 use Rattle.kc_asm_encode.specs.declared.word.Word.{Word}
 use Rattle.kc_asm_encode.specs.declared.word.Word.TheVariants as words
-use Rattle.kc_asm_encode.specs.declared.word.Worded.{Worded}
+use Rattle.kc_asm_encode.specs.declared.word.RelocatableInsn.{RelocatableInsn}
 use Rattle.kc_asm_encode.specs.Values.{moved}
 
 abbrev pub byte_of : Value → RelocatableByte
@@ -49,17 +49,17 @@ abbrev pub opcode_relocatable : Form → ℕ → Word → RelocatableByte
 opcode_relocatable Distance11 opcode (words.Jump v) = First 3 opcode v
 opcode_relocatable form opcode w = Plain opcode
 
-abbrev pub laid_relocatables : Layout → Bool → Worded → List RelocatableByte
+abbrev pub laid_relocatables : Layout → Bool → RelocatableInsn → List RelocatableByte
 laid_relocatables l byte w = map byte_of (take l.before w.regs) ++ (operand_relocatables l.form byte w.operand ++ map byte_of (take l.after (drop l.before w.regs)))
 
-abbrev pub row_relocatables : Worded → Shown → List RelocatableByte
+abbrev pub row_relocatables : RelocatableInsn → Shown → List RelocatableByte
 row_relocatables w row =
     let l = layout_of row.shape in
     map Plain (prefix w.signed) ++ (opcode_relocatable l.form w.opcode w.operand ∷ laid_relocatables l (is_byte row.width) w)
 
-abbrev pub worded_relocatables : Worded → List RelocatableByte
-worded_relocatables w = elim (row_at w.opcode w.signed) [ None ↦ [] | Some row ↦ row_relocatables w row ]
+abbrev pub insn_relocatables : RelocatableInsn → List RelocatableByte
+insn_relocatables w = elim (row_at w.opcode w.signed) [ None ↦ [] | Some row ↦ row_relocatables w row ]
 
 -- the bytes of some instructions
-abbrev pub all_relocatable_bytes : List Worded → List RelocatableByte
-all_relocatable_bytes ws = flat_map worded_relocatables ws
+abbrev pub all_relocatable_bytes : List RelocatableInsn → List RelocatableByte
+all_relocatable_bytes ws = flat_map insn_relocatables ws

@@ -8,25 +8,25 @@ use Rattle.kc_obj_module.specs.Numbers.{Bases}
 use Rattle.kc_asm_bytes.specs.Filling.{filled}
 use Rattle.kc_asm_encode.specs.declared.argument.Argument.{Argument}
 use Rattle.kc_branch.specs.declared.piece.Form.{Form}
-use Rattle.kc_asm_encode.specs.declared.word.Worded.{Worded}
+use Rattle.kc_asm_encode.specs.declared.word.RelocatableInsn.{RelocatableInsn}
 use Rattle.kc_asm_encode.specs.Takes.{is_operation}
 use Rattle.kc_asm_encode.specs.Instructions.{instructions}
 use Rattle.kc_asm_encode.specs.Faults.{fault_of}
 use Rattle.kc_asm_encode.specs.Words.{insn_of}
-use Rattle.kc_asm_encode.specs.RelocatableBytes.{worded_relocatables, all_relocatable_bytes}
+use Rattle.kc_asm_encode.specs.RelocatableBytes.{insn_relocatables, all_relocatable_bytes}
 use Rattle.kc_asm_encode.specs.Suits.{AllFit, AllWords, IsSound}
 
 -- a distance counts from the address of the next instruction
-unfoldable pub said : Bases → ℕ → List Worded → List Insn
+unfoldable pub said : Bases → ℕ → List RelocatableInsn → List Insn
 said bases place [] = []
-said bases place (w ∷ ws) = let next = place + length (worded_relocatables w) in insn_of bases next w ∷ said bases next ws
+said bases place (w ∷ ws) = let next = place + length (insn_relocatables w) in insn_of bases next w ∷ said bases next ws
 
 abbrev pub AreSound : List Insn → Type 0
 AreSound [] = Unit {0}
 AreSound (i ∷ is) = IsSound i × AreSound is
 
 -- the bytes from an address on spell the instructions, which are well formed
-pub record IsSaid (bases : Bases) (place : ℕ) (ws : List Worded) : Type 0 where
+pub record IsSaid (bases : Bases) (place : ℕ) (ws : List RelocatableInsn) : Type 0 where
   pub spelled : filled bases place (all_relocatable_bytes ws) ≡ flat_map spelling (said bases place ws)
   pub sound : AreSound (said bases place ws)
 

@@ -19,10 +19,10 @@ use Rattle.kc_asm_encode.specs.declared.argument.Argument.{Argument}
 use Rattle.kc_asm_encode.specs.declared.argument.Argument.TheVariants as arguments
 use Rattle.kc_asm_encode.specs.declared.word.Word.{Word}
 use Rattle.kc_asm_encode.specs.declared.word.Word.TheVariants.{Absent, Register, Immediate, Indirect, Increment, Short, Long, Count, Jump}
-use Rattle.kc_asm_encode.specs.declared.word.Worded.{Worded}
+use Rattle.kc_asm_encode.specs.declared.word.RelocatableInsn.{RelocatableInsn}
 use Rattle.kc_asm_encode.specs.Branches.{Line}
 use Rattle.kc_asm_encode.specs.Instructions.{no_regs}
-use Rattle.kc_asm_encode.specs.RelocatableBytes.{worded_relocatables}
+use Rattle.kc_asm_encode.specs.RelocatableBytes.{insn_relocatables}
 
 -- the operand S in the mode that the two low bits of the opcode choose
 abbrev pub mode_suits : ℕ → Word → Bool
@@ -45,7 +45,7 @@ operand_suits OneByte opcode (Immediate v) = true
 operand_suits form opcode w = false
 
 -- an instruction has a row of this name, the operand suits its layout, and the rest of the registers is 0
-pub record IsInstruction (word : List ℕ) (w : Worded) : Type 0 where
+pub record IsInstruction (word : List ℕ) (w : RelocatableInsn) : Type 0 where
   pub row : Shown
   pub is : row_at w.opcode w.signed ≡ Some row
   pub named : row.name ≡ word
@@ -55,7 +55,7 @@ pub record IsInstruction (word : List ℕ) (w : Worded) : Type 0 where
   pub opcode : w.opcode < 256
 
 -- one instruction for each line
-abbrev pub AreInstructions : List Line → List Worded → Type 0
+abbrev pub AreInstructions : List Line → List RelocatableInsn → Type 0
 AreInstructions [] [] = Unit {0}
 AreInstructions [] (w ∷ ws) = ⊥
 AreInstructions (l ∷ ls) [] = ⊥
@@ -92,8 +92,8 @@ HasWords (Count v) = v.number < 65536
 HasWords (Jump v) = v.number < 65536
 
 -- under these bases the instruction that stands at a place can be spelled
-pub record IsSettled (bases : Bases) (place : ℕ) (w : Worded) : Type 0 where
-  pub fit : AllFit bases place (worded_relocatables w)
+pub record IsSettled (bases : Bases) (place : ℕ) (w : RelocatableInsn) : Type 0 where
+  pub fit : AllFit bases place (insn_relocatables w)
   pub even : IsEven bases w.operand
   pub words : HasWords w.operand
 
@@ -104,7 +104,7 @@ pub record IsSound (i : Insn) : Type 0 where
   pub has : InsnHas i
 
 -- so much holds of each instruction
-abbrev pub EachOf : (Worded → Type 0) → List Worded → Type 0
+abbrev pub EachOf : (RelocatableInsn → Type 0) → List RelocatableInsn → Type 0
 EachOf P [] = Unit {0}
 EachOf P (w ∷ ws) = P w × EachOf P ws
 

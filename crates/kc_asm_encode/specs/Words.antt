@@ -8,7 +8,7 @@ use Rattle.kc_obj_module.specs.Numbers.{Bases, distance}
 use Rattle.kc_asm_bytes.specs.Filling.{address}
 use Rattle.kc_asm_encode.specs.declared.word.Word.{Word}
 use Rattle.kc_asm_encode.specs.declared.word.Word.TheVariants.{Absent, Register, Immediate, Indirect, Increment, Short, Long, Count, Jump}
-use Rattle.kc_asm_encode.specs.declared.word.Worded.{Worded}
+use Rattle.kc_asm_encode.specs.declared.word.RelocatableInsn.{RelocatableInsn}
 
 -- the operand, where the next instruction begins at an address
 abbrev pub operand_of : Bases → ℕ → Word → Operand
@@ -22,6 +22,6 @@ operand_of bases next (Long base offset) = operands.Long (address bases base) (a
 operand_of bases next (Count v) = operands.Count (address bases v)
 operand_of bases next (Jump v) = operands.Disp (cast_signed w16 (distance (address bases v) next))
 
-abbrev pub insn_of : Bases → ℕ → Worded → Insn
+abbrev pub insn_of : Bases → ℕ → RelocatableInsn → Insn
 insn_of bases next w =
     record { opcode = w.opcode; signed = w.signed; operand = operand_of bases next w.operand; regs = map (address bases) w.regs }

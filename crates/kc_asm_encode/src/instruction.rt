@@ -6,7 +6,7 @@ ghost use Rattle.kc_asm_encode.specs.Instructions as instructions;
 use crate::argument::{Argument, moved, operand_at, source, value_of};
 use crate::branch::{branch_kind, inverse_of, jump_of};
 use crate::opcode::{opcode_of, source_of};
-use crate::word::{Word, Worded};
+use crate::word::{RelocatableInsn, Word};
 use arrayvec::ArrayVec;
 use kc_branch::{BranchKind, Form, branch_length};
 use kc_expr::{Value, fixed};
@@ -50,11 +50,11 @@ fn regs_for(shape: Shape, args: &[Argument]) -> [Value; 3]
 }
 
 #[tactic(auto, unfolding(kc_isa::specs::Names::row_at))]
-fn instruction_at(signed: bool, args: &[Argument], opcode: u8) -> Option<Worded>
+fn instruction_at(signed: bool, args: &[Argument], opcode: u8) -> Option<RelocatableInsn>
     ensures { result ≡ instructions.instruction_at signed args.now opcode }
 {
     let row = row_of(opcode, signed)?;
-    Some(Worded {
+    Some(RelocatableInsn {
         opcode,
         signed,
         operand: operand_for(row.shape, args),
@@ -62,7 +62,7 @@ fn instruction_at(signed: bool, args: &[Argument], opcode: u8) -> Option<Worded>
     })
 }
 
-fn signed_instruction(word: &[u8], args: &[Argument]) -> Option<Worded>
+fn signed_instruction(word: &[u8], args: &[Argument]) -> Option<RelocatableInsn>
     ensures { result ≡ instructions.signed_instruction word.now args.now }
 {
     match opcode_of(word, args, true) {
@@ -73,7 +73,7 @@ fn signed_instruction(word: &[u8], args: &[Argument]) -> Option<Worded>
 
 /// An instruction as it is written, or none where the table has none.
 #[tactic(auto, unfolding(crate::specs::Instructions::instruction))]
-fn instruction(word: &[u8], args: &[Argument]) -> Option<Worded>
+fn instruction(word: &[u8], args: &[Argument]) -> Option<RelocatableInsn>
     ensures { result ≡ instructions.instruction word.now args.now }
 {
     match opcode_of(word, args, false) {
@@ -82,17 +82,17 @@ fn instruction(word: &[u8], args: &[Argument]) -> Option<Worded>
     }
 }
 
-fn add(list: &mut ArrayVec<Worded, 2>, found: Option<Worded>)
+fn add(list: &mut ArrayVec<RelocatableInsn, 2>, found: Option<RelocatableInsn>)
     requires { array_vec_len list.old < 2 }
     ensures items { list.new.items ≡ list.old.items ++ instructions.listed found }
     ensures len { array_vec_len list.new ≤ array_vec_len list.old + 1 }
 {
-    if let Some(worded) = found {
-        list.push(worded);
+    if let Some(insn) = found {
+        list.push(insn);
     }
 }
 
-fn one(word: &[u8], args: &[Argument]) -> ArrayVec<Worded, 2>
+fn one(word: &[u8], args: &[Argument]) -> ArrayVec<RelocatableInsn, 2>
     ensures { result.items ≡ instructions.all_lines (branches.line word.now args.now ∷ []) }
 {
     let mut list = ArrayVec::new();
@@ -100,7 +100,12 @@ fn one(word: &[u8], args: &[Argument]) -> ArrayVec<Worded, 2>
     list
 }
 
-fn two(word: &[u8], args: &[Argument], jump: &[u8], target: Argument) -> ArrayVec<Worded, 2>
+fn two(
+    word: &[u8],
+    args: &[Argument],
+    jump: &[u8],
+    target: Argument,
+) -> ArrayVec<RelocatableInsn, 2>
     ensures { result.items ≡ instructions.all_lines (branches.line word.now args.now ∷ branches.line jump.now (target ∷ []) ∷ []) }
 {
     let mut list = one(word, args);
@@ -120,7 +125,7 @@ fn tested(args: &[Argument], target: Argument) -> [Argument; 3]
     [operand_at(args, 0), operand_at(args, 1), target]
 }
 
-fn jump(form: Form, target: Argument) -> ArrayVec<Worded, 2>
+fn jump(form: Form, target: Argument) -> ArrayVec<RelocatableInsn, 2>
     ensures { result.items ≡ instructions.all_lines (branches.jump_lines form target) }
 {
     match form {
@@ -129,7 +134,7 @@ fn jump(form: Form, target: Argument) -> ArrayVec<Worded, 2>
     }
 }
 
-fn call(form: Form, target: Argument) -> ArrayVec<Worded, 2>
+fn call(form: Form, target: Argument) -> ArrayVec<RelocatableInsn, 2>
     ensures { result.items ≡ instructions.all_lines (branches.call_lines form target) }
 {
     match form {
@@ -138,7 +143,12 @@ fn call(form: Form, target: Argument) -> ArrayVec<Worded, 2>
     }
 }
 
-fn conditional(word: &[u8], form: Form, target: Argument, here: Value) -> ArrayVec<Worded, 2>
+fn conditional(
+    word: &[u8],
+    form: Form,
+    target: Argument,
+    here: Value,
+) -> ArrayVec<RelocatableInsn, 2>
     ensures { result.items ≡ instructions.all_lines (branches.conditional_lines word.now form target here) }
 {
     let behind = over(here, branch_length(BranchKind::Conditional, form));
@@ -149,7 +159,7 @@ fn conditional(word: &[u8], form: Form, target: Argument, here: Value) -> ArrayV
     }
 }
 
-fn bit_test(word: &[u8], form: Form, args: &[Argument], here: Value) -> ArrayVec<Worded, 2>
+fn bit_test(word: &[u8], form: Form, args: &[Argument], here: Value) -> ArrayVec<RelocatableInsn, 2>
     ensures { result.items ≡ instructions.all_lines (branches.test_lines word.now form args.now here) }
 {
     let target = operand_at(args, 2);
@@ -166,7 +176,12 @@ fn bit_test(word: &[u8], form: Form, args: &[Argument], here: Value) -> ArrayVec
 /// matters for generic branches alone. None where the word is no operation or does not take these operands.
 /// (MCS-96 Macro Assembler User's Guide, "Operands" and "Generic Branches".)
 #[tactic(auto, unfolding(crate::specs::Instructions::instructions))]
-pub fn instructions(word: &[u8], args: &[Argument], form: Form, here: Value) -> ArrayVec<Worded, 2>
+pub fn instructions(
+    word: &[u8],
+    args: &[Argument],
+    form: Form,
+    here: Value,
+) -> ArrayVec<RelocatableInsn, 2>
     ensures { result.items ≡ instructions.instructions word.now args.now form here }
 {
     match branch_kind(word, args) {

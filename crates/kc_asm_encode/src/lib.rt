@@ -19,4 +19,4 @@ pub use faults::fault;
 pub use instruction::instructions;
 pub use inverse::{conditions_are_opposite, tests_are_opposite};
 pub use relocatable_bytes::{length, relocatables_of};
-pub use word::{Word, Worded};
+pub use word::{RelocatableInsn, Word};

@@ -8,7 +8,7 @@ ghost use Rattle.kc_asm_encode.specs.RelocatableBytes as relocatable_bytes;
 
 use crate::argument::{Argument, moved};
 use crate::instruction::instructions;
-use crate::word::{Word, Worded};
+use crate::word::{RelocatableInsn, Word};
 use arrayvec::ArrayVec;
 use kc_asm_bytes::RelocatableByte;
 use kc_branch::Form;
@@ -113,50 +113,50 @@ fn opcode_relocatable(form: Bytes, opcode: u8, operand: Word) -> RelocatableByte
     }
 }
 
-fn row_relocatables(worded: &Worded) -> ArrayVec<RelocatableByte, 8>
-    ensures items { result.items ≡ relocatable_bytes.worded_relocatables worded.now }
-    ensures opcode { worded.now.opcode < 256 }
+fn row_relocatables(insn: &RelocatableInsn) -> ArrayVec<RelocatableByte, 8>
+    ensures items { result.items ≡ relocatable_bytes.insn_relocatables insn.now }
+    ensures opcode { insn.now.opcode < 256 }
 {
     let mut list = ArrayVec::new();
-    let Some(row) = row_of(worded.opcode, worded.signed) else {
+    let Some(row) = row_of(insn.opcode, insn.signed) else {
         return list;
     };
     let layout = layout_for(row.shape);
-    if worded.signed {
+    if insn.signed {
         list.push(RelocatableByte::Plain(0xFE));
     }
-    list.push(opcode_relocatable(layout.form, worded.opcode, worded.operand));
-    push_registers(&mut list, 0, layout.before, worded.regs);
+    list.push(opcode_relocatable(layout.form, insn.opcode, insn.operand));
+    push_registers(&mut list, 0, layout.before, insn.regs);
     let byte = is_byte_wide(row.width);
-    push_operand(&mut list, layout.form, byte, worded.operand);
-    push_registers(&mut list, layout.before, layout.after, worded.regs);
+    push_operand(&mut list, layout.form, byte, insn.operand);
+    push_registers(&mut list, layout.before, layout.after, insn.regs);
     list
 }
 
 /// The bytes of an instruction before the bases are known, at most eight, each number with room in its bytes. None where
 /// its opcode has no row.
 /// (80C196KC User's Manual, "Instruction Format".)
-pub fn relocatables_of(worded: &Worded) -> ArrayVec<RelocatableByte, 8>
-    ensures items { result.items ≡ relocatable_bytes.worded_relocatables worded.now }
+pub fn relocatables_of(insn: &RelocatableInsn) -> ArrayVec<RelocatableByte, 8>
+    ensures items { result.items ≡ relocatable_bytes.insn_relocatables insn.now }
     ensures room { (place : ℕ) → All (HasRoom place) result.items }
 {
-    row_relocatables(worded)
+    row_relocatables(insn)
 }
 
-fn relocatable_count(worded: &Worded) -> u16
-    ensures value { result ≡ length (relocatable_bytes.worded_relocatables worded.now) }
+fn relocatable_count(insn: &RelocatableInsn) -> u16
+    ensures value { result ≡ length (relocatable_bytes.insn_relocatables insn.now) }
     ensures bound { result ≤ 8 }
 {
-    relocatables_of(worded).len() as u16
+    relocatables_of(insn).len() as u16
 }
 
-fn total(list: &[Worded]) -> u16
+fn total(list: &[RelocatableInsn]) -> u16
     requires { length list.now ≤ 2 }
     ensures { result ≡ length (relocatable_bytes.all_relocatable_bytes list.now) }
 {
     let mut count = 0;
-    for worded in list {
-        count += relocatable_count(worded);
+    for insn in list {
+        count += relocatable_count(insn);
     }
     count
 }

@@ -19,22 +19,22 @@ pub enum Word {
     Jump(Value),
 }
 
-/// An instruction with values in the places of its numbers: `signed` where FEH stands before it, and in `regs` the other
-/// bytes in their order, the rest 0.
+/// An instruction before the bases are known, with values in the places of its numbers: `signed` where FEH stands before it,
+/// and in `regs` the other bytes in their order, the rest 0.
 #[derive(Clone, Copy, PartialEq, Eq)]
-pub struct Worded {
+pub struct RelocatableInsn {
     pub opcode: u8,
     pub signed: bool,
     pub operand: Word,
     pub regs: [Value; 3],
 }
 
-impl Default for Worded {
+impl Default for RelocatableInsn {
     /// NOP.
-    fn default() -> Worded
+    fn default() -> RelocatableInsn
         ensures { result ≡ instructions.nop }
     {
-        Worded {
+        RelocatableInsn {
             opcode: 0xFD,
             signed: false,
             operand: Word::Absent,

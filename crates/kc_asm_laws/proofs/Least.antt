@@ -4,6 +4,7 @@ use Rattle.std.specs.Prelude.{min}
 use Rattle.std.specs.List.{list_all}
 use Rattle.std.specs.Option.{option_to_list}
 use Rattle.std.proofs.lemmas.Bool.{and_parts, and_from, cases_lt}
+use Rattle.kc_lex.specs.Codes.{lesser_number}
 use Rattle.kc_lex.specs.LineFaults.{Fault, is_before, first_of, lesser, least, at_line}
 use Rattle.kc_asm_emit.specs.Faults as codes
 use Rattle.kc_source_laws.proofs.Tests.{Holds}
@@ -37,13 +38,13 @@ min_holds p m n h k = elim (cases_lt m n) [
   | inr le ↦ (let same : n ≡ min m n = omega (arith, le) in subst (λ (x : ℕ). p x ≡ true) same k)
 ]
 
-lesser_code : (p : ℕ → Bool) (m : ℕ) (o : Option ℕ) → p m ≡ true → Holds p o → Holds p (codes.lesser (Some m) o)
-lesser_code p m None h k = h
-lesser_code p m (Some n) h k = min_holds p m n h k
+lesser_number_holds : (p : ℕ → Bool) (m : ℕ) (o : Option ℕ) → p m ≡ true → Holds p o → Holds p (lesser_number (Some m) o)
+lesser_number_holds p m None h k = h
+lesser_number_holds p m (Some n) h k = min_holds p m n h k
 
 pub least_code : (p : ℕ → Bool) (cs : List ℕ) → list_all p cs ≡ true → Holds p (codes.least cs)
 unfolding codes.least
 least_code p [] h = tt
 least_code p (c ∷ cs) h =
     let both : (p c ≡ true) × (list_all p cs ≡ true) = and_parts (p c) (list_all p cs) h in
-    lesser_code p c (codes.least cs) both.0 (least_code p cs both.1)
+    lesser_number_holds p c (codes.least cs) both.0 (least_code p cs both.1)

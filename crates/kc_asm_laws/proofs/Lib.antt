@@ -8,7 +8,7 @@ pub mod Numbers
 pub mod Sorted
 pub mod Exists
 pub mod OneAnswer
-mod CauseLemmas
+mod OriginLemmas
 pub mod Reading
 pub mod FaultFilling
 pub mod Expanding

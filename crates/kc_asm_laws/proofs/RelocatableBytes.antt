@@ -26,11 +26,11 @@ use Rattle.kc_branch.specs.declared.piece.Form.{Form as Branch}
 use Rattle.kc_asm_encode.specs.declared.argument.Argument.{Argument}
 use Rattle.kc_asm_encode.specs.declared.word.Word.{Word}
 use Rattle.kc_asm_encode.specs.declared.word.Word.TheVariants as words
-use Rattle.kc_asm_encode.specs.declared.word.Worded.{Worded}
+use Rattle.kc_asm_encode.specs.declared.word.RelocatableInsn.{RelocatableInsn}
 use Rattle.kc_asm_encode.specs.Values.{or_zero, moved, argument, value_of}
 use Rattle.kc_asm_encode.specs.Branches.{branch_kind, in_full}
 use Rattle.kc_asm_encode.specs.Instructions.{regs_for, instructions}
-use Rattle.kc_asm_encode.specs.RelocatableBytes.{byte_of, word_of, immediate_relocatables, jump_relocatables, operand_relocatables, opcode_relocatable, laid_relocatables, row_relocatables, worded_relocatables, all_relocatable_bytes}
+use Rattle.kc_asm_encode.specs.RelocatableBytes.{byte_of, word_of, immediate_relocatables, jump_relocatables, operand_relocatables, opcode_relocatable, laid_relocatables, row_relocatables, insn_relocatables, all_relocatable_bytes}
 use Rattle.kc_asm_encode.specs.Suits.{HasWords, EachOf, IsWord, AreWords, AllWords}
 use Rattle.kc_asm_encode.specs.Laws.{NumbersAreWords}
 use Rattle.kc_asm_encode.proofs.Found.{IsLaid}
@@ -156,11 +156,11 @@ regs_words shapes.Far args h = (zero_is_word, (zero_is_word, (zero_is_word, tt))
 regs_words shapes.Key args h = (zero_is_word, (zero_is_word, (zero_is_word, tt)))
 
 -- its opcode is a byte, and its registers are words
-record IsSmall (w : Worded) : Type 0 where
+record IsSmall (w : RelocatableInsn) : Type 0 where
   opcode : w.opcode < 256
   regs : AreWordRegs w.regs
 
-laid_small : (word : List ℕ) (args : List Argument) (w : Worded) → AllWords args → IsLaid word args w → IsSmall w
+laid_small : (word : List ℕ) (args : List Argument) (w : RelocatableInsn) → AllWords args → IsLaid word args w → IsSmall w
 laid_small word args w h l = subst IsSmall l.is (record { opcode = l.below; regs = regs_words l.row.shape args h })
 
 all_small : (word : List ℕ) (args : List Argument) (form : Branch) (here : Value) → AllWords args → EachOf IsSmall (instructions word args form here)
@@ -237,14 +237,14 @@ prefix_good : (signed : Bool) → AllGood (map relocatable_bytes.Plain (prefix s
 prefix_good true = (omega arith, tt)
 prefix_good false = tt
 
-laid_good : (l : Layout) (byte : Bool) (w : Worded) → IsSmall w → HasWords w.operand → AllGood (laid_relocatables l byte w)
+laid_good : (l : Layout) (byte : Bool) (w : RelocatableInsn) → IsSmall w → HasWords w.operand → AllGood (laid_relocatables l byte w)
 laid_good l byte w s h =
     good_join (map byte_of (take l.before w.regs)) (operand_relocatables l.form byte w.operand ++ map byte_of (take l.after (drop l.before w.regs))) (regs_good (take l.before w.regs) (regs_take l.before w.regs s.regs))
     (good_join (operand_relocatables l.form byte w.operand) (map byte_of (take l.after (drop l.before w.regs))) (operand_good l.form byte w.operand h)
     (regs_good (take l.after (drop l.before w.regs)) (regs_take l.after (drop l.before w.regs) (regs_drop l.before w.regs s.regs))))
 
-worded_good : (w : Worded) → IsSmall w → HasWords w.operand → AllGood (worded_relocatables w)
-worded_good w s h = by (row_at w.opcode w.signed)
+insn_good : (w : RelocatableInsn) → IsSmall w → HasWords w.operand → AllGood (insn_relocatables w)
+insn_good w s h = by (row_at w.opcode w.signed)
   where
     by : (o : Option Shown) → AllGood (elim o as (λ _. List RelocatableByte) [ None ↦ [] | Some row ↦ row_relocatables w row ])
     by None = tt
@@ -253,9 +253,9 @@ worded_good w s h = by (row_at w.opcode w.signed)
         good_join (map relocatable_bytes.Plain (prefix w.signed)) (opcode_relocatable (layout_of row.shape).form w.opcode w.operand ∷ laid_relocatables (layout_of row.shape) (is_byte row.width) w) (prefix_good w.signed)
         (opcode_good (layout_of row.shape).form w.opcode w.operand s.opcode h, laid_good (layout_of row.shape) (is_byte row.width) w s h)
 
-all_good : (ws : List Worded) → EachOf IsSmall ws → EachOf (λ w. HasWords w.operand) ws → AllGood (all_relocatable_bytes ws)
+all_good : (ws : List RelocatableInsn) → EachOf IsSmall ws → EachOf (λ w. HasWords w.operand) ws → AllGood (all_relocatable_bytes ws)
 all_good [] s h = tt
-all_good (w ∷ ws) s h = good_join (worded_relocatables w) (all_relocatable_bytes ws) (worded_good w s.0 h.0) (all_good ws s.1 h.1)
+all_good (w ∷ ws) s h = good_join (insn_relocatables w) (all_relocatable_bytes ws) (insn_good w s.0 h.0) (all_good ws s.1 h.1)
 
 -- ---- a statement
 

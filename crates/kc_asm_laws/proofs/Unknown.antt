@@ -5,7 +5,7 @@ use Rattle.std.specs.Option.{option_or}
 use Rattle.std.proofs.lemmas.Bool.{or_cases, or_left, false≢true}
 use Rattle.kc_lex.specs.declared.fault.SourceCode.{SourceCode}
 use Rattle.kc_lex.specs.declared.fault.SourceCode.TheVariants as code
-use Rattle.kc_lex.specs.Codes.{code_number, not_defined}
+use Rattle.kc_lex.specs.Codes.{code_number, lesser_code, not_defined}
 use Rattle.kc_expr.specs.declared.values.NoValue.{NoValue}
 use Rattle.kc_expr.specs.declared.values.NoValue.TheVariants.{Fault, ReportedElsewhere}
 use Rattle.kc_expr.specs.declared.values.Value.{Value}
@@ -13,7 +13,7 @@ use Rattle.kc_expr.specs.declared.expr.Unary.{Unary}
 use Rattle.kc_expr.specs.declared.expr.Binary.{Binary}
 use Rattle.kc_expr.specs.declared.expr.Binary.TheVariants as binary
 use Rattle.kc_expr.specs.Tree.{Tree, Number, Chars, Name, Here, One, Two}
-use Rattle.kc_expr.specs.Meaning.{Answer, plain, number_answer, chars_answer, is_fixed, same_base, unary_number, binary_number, divided, moved, moved_to, distance, on_one, on_two, unary_answer, lesser_code, lesser, parts_answer, divides_by_zero, by_zero, binary_answer, here, answer_by}
+use Rattle.kc_expr.specs.Meaning.{Answer, plain, number_answer, chars_answer, is_fixed, same_base, unary_number, binary_number, divided, moved, moved_to, distance, on_one, on_two, unary_answer, lesser, parts_answer, divides_by_zero, by_zero, binary_answer, here, answer_by}
 use Rattle.kc_asm_origin.specs.Values.{means_nothing, unknown_in}
 use Rattle.kc_asm_laws.proofs.Others.{is_other}
 

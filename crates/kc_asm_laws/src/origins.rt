@@ -1,4 +1,4 @@
-//! A fault has one cause: a law of definitions, without code.
+//! A fault has one origin: a law of definitions, without code.
 
 ghost use Rattle.kc_asm_laws.specs.OneOrigin.{OneOrigin};
 

@@ -1,4 +1,5 @@
 ghost use Rattle.std.specs.Prelude.{◌≡◌, ◌≤◌, length};
+ghost use Rattle.kc_base.specs.Limits.{file_limit};
 ghost use Rattle.kc_asm_list.specs.Listed as spec;
 
 use crate::rows_listing::rows;
@@ -19,7 +20,7 @@ use std::alloc::Global;
 /// macros, or its statements and names have; a source that has a module has none.
 /// (MCS-96 Macro Assembler User's Guide, "List File", in outline; the rows are this kit's own.)
 pub fn listing(alloc: Global, source: &[u8], object: &Module) -> Result<Vec<u8>, SourceFault>
-    requires { length source.now ≤ 1048576 }
+    requires { length source.now ≤ file_limit }
     ensures { spec.IsListed source.now object.now result }
 {
     let read = lines(alloc, source)?;

@@ -1,6 +1,7 @@
 //! The listing of a source.
 
 ghost use Rattle.std.specs.Prelude.{◌≡◌, ℕ, ◌++◌, ◌+◌, ◌<◌, ◌≤◌, length, take, drop, IfOk, OnOk};
+ghost use Rattle.kc_base.specs.Limits.{file_limit};
 ghost use Rattle.std.specs.List.{filter, prefix_len};
 ghost use Rattle.kc_base.specs.TextLines.{text_lines};
 ghost use Rattle.kc_asm_list.specs.Order.{Rises};
@@ -72,7 +73,7 @@ fn rows_of(
     object: &Module,
     spots: &[Spot],
 ) -> Result<Vec<u8>, NoMemory>
-    requires short { length source.now ≤ 1048576 }
+    requires short { length source.now ≤ file_limit }
     requires rises { Rises 1 spots.now }
     ensures { IfOk result (λ text. text.items ≡ spec.listing object.now source.now spots.now) }
 {
@@ -106,7 +107,7 @@ pub fn rows(
     object: &Module,
     spots: Vec<Spot>,
 ) -> Result<Vec<u8>, NoMemory>
-    requires { length source.now ≤ 1048576 }
+    requires { length source.now ≤ file_limit }
     ensures { IfOk result (λ text. text.items ≡ spec.listing object.now source.now spots.items) }
 {
     let sorted = by_line(spots)?;

@@ -7,10 +7,10 @@ use Rattle.kc_lex.specs.declared.fault.SourceFault.TheVariants as faults
 use Rattle.kc_macro.specs.Expansion.{Answer, IsExpanded, expanded}
 use Rattle.kc_source.specs.Faults.{Fault}
 use Rattle.kc_asm_origin.specs.Written.{marked}
-use Rattle.kc_asm_origin.specs.Cause.{IsOriginAmong, IsOriginBetween, IsOriginOfText, IsOriginOfLines, IsCause}
+use Rattle.kc_asm_origin.specs.Origin.{IsOriginAmong, IsOriginBetween, IsOriginOfText, IsOriginOfLines, IsOrigin}
 
 pub of_expansions : (source : List ℕ) (line code : ℕ) (read text other : List Line) (found : Option ℕ)
-    → lines_of source ≡ Ok read → expanded read ≡ Some (Ok text) → expanded (marked read) ≡ Some (Ok other) → IsOriginAmong (line, code) text other found → IsCause source line code found
+    → lines_of source ≡ Ok read → expanded read ≡ Some (Ok text) → expanded (marked read) ≡ Some (Ok other) → IsOriginAmong (line, code) text other found → IsOrigin source line code found
 of_expansions source line code read text other found r e m h =
     subst (λ (a : Result (List Line) Fault). IsOriginOfLines (line, code) a found) (sym r)
     (subst (λ (a : Answer). IsOriginOfText (line, code) a (expanded (marked read)) found) (sym e)
@@ -21,13 +21,13 @@ reported : {line code : ℕ} (fault : SourceFault) (a : Answer) → fault ≡ fa
 reported fault a is h = subst (λ (e : SourceFault). IsExpanded (Err e) a) is h
 
 pub no_text : {l k : ℕ} (source : List ℕ) (line code : ℕ) (read : List Line) (fault : SourceFault) → fault ≡ faults.At l k
-    → lines_of source ≡ Ok read → IsExpanded (Err fault) (expanded read) → IsCause source line code None
+    → lines_of source ≡ Ok read → IsExpanded (Err fault) (expanded read) → IsOrigin source line code None
 no_text source line code read fault is r h =
     subst (λ (a : Result (List Line) Fault). IsOriginOfLines (line, code) a None) (sym r)
     (subst (λ (a : Answer). IsOriginOfText (line, code) a (expanded (marked read)) None) (sym (reported fault (expanded read) is h)) refl)
 
 pub no_marks : {l k : ℕ} (source : List ℕ) (line code : ℕ) (read text : List Line) (fault : SourceFault) → fault ≡ faults.At l k
-    → lines_of source ≡ Ok read → expanded read ≡ Some (Ok text) → IsExpanded (Err fault) (expanded (marked read)) → IsCause source line code None
+    → lines_of source ≡ Ok read → expanded read ≡ Some (Ok text) → IsExpanded (Err fault) (expanded (marked read)) → IsOrigin source line code None
 no_marks source line code read text fault is r e h =
     subst (λ (a : Result (List Line) Fault). IsOriginOfLines (line, code) a None) (sym r)
     (subst (λ (a : Answer). IsOriginOfText (line, code) a (expanded (marked read)) None) (sym e)

@@ -2,7 +2,7 @@ pub mod Written
 pub mod Alike
 pub mod First
 pub mod Reported
-pub mod Cause
+pub mod Origin
 pub mod Uses
 pub mod Values
 pub mod Seeking

@@ -1,5 +1,6 @@
 ghost use Rattle.std.specs.Prelude.{◌≡◌, ◌≤◌, length, IfOk};
-ghost use Rattle.kc_asm_origin.specs.Cause as spec;
+ghost use Rattle.kc_base.specs.Limits.{file_limit};
+ghost use Rattle.kc_asm_origin.specs.Origin as spec;
 
 use crate::alike::are_lines_alike;
 use crate::seeking::origin_in;
@@ -32,9 +33,9 @@ fn origin_between(
 /// `None`: the line with the fault stands on the line of its number itself, as it does out of REPT, IRP and IF; its first
 /// token is an argument of the call there; or the fault is one of lines or of macros. A call reads the source once again, and
 /// has at most 19 runs of the passes behind expansion.
-pub fn cause(alloc: Global, source: &[u8], line: u32, code: u8) -> Result<Option<u32>, NoMemory>
-    requires { length source.now ≤ 1048576 }
-    ensures { IfOk result (λ found. spec.IsCause source.now line code found) }
+pub fn origin(alloc: Global, source: &[u8], line: u32, code: u8) -> Result<Option<u32>, NoMemory>
+    requires { length source.now ≤ file_limit }
+    ensures { IfOk result (λ found. spec.IsOrigin source.now line code found) }
 {
     let read = match lines(alloc, source) {
         Ok(read) => read,

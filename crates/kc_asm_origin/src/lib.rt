@@ -14,5 +14,5 @@ mod symbol_reporting;
 mod values;
 mod written;
 
-pub use finding::cause;
+pub use finding::origin;
 pub use symbol_reporting::symbol;

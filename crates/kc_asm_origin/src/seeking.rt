@@ -3,7 +3,7 @@
 ghost use Rattle.std.specs.Prelude.{◌≡◌, ◌≤◌, ◌<◌, length, true, false, IfOk};
 ghost use Rattle.std.specs.List.{list_all};
 ghost use Rattle.std.specs.Option.{is_none};
-ghost use Rattle.kc_asm_origin.specs.Cause as spec;
+ghost use Rattle.kc_asm_origin.specs.Origin as spec;
 ghost use Rattle.kc_asm_origin.specs.First.{with_first};
 ghost use Rattle.kc_asm_origin.specs.Reported.{Reports};
 

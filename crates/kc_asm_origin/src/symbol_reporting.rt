@@ -1,4 +1,5 @@
 ghost use Rattle.std.specs.Prelude.{◌≡◌, ◌≤◌, length, IfOk};
+ghost use Rattle.kc_base.specs.Limits.{file_limit};
 ghost use Rattle.kc_asm_origin.specs.Symbol.{symbol_of};
 
 use crate::names::used;
@@ -14,7 +15,7 @@ use std::alloc::Global;
 /// defined again, 7 the first name of a statement that means nothing there, 20 a name that PUBLIC may not give, 21 one that
 /// EXTRN may not take. `None` for other codes, and for a fault of lines, macros or conditions.
 pub fn symbol(alloc: Global, source: &[u8], line: u32, code: u8) -> Result<Option<Text>, NoMemory>
-    requires { length source.now ≤ 1048576 }
+    requires { length source.now ≤ file_limit }
     ensures { IfOk result (λ name. name ≡ symbol_of source.now line code) }
 {
     let read = match lines(alloc, source) {

@@ -5,6 +5,10 @@ use Rattle.std.specs.Prelude.{ℕ, ◌^◌}
 abbrev pub max_states : ℕ
 max_states = 10 ^ 15
 
+-- the most bytes that a file may have
+abbrev pub file_limit : ℕ
+file_limit = 1048576
+
 -- the memory map: the first address behind the register file, that of the hole where nothing answers, that of an image with
 -- its ROM, and the first behind the ROM (the hole and the ROM's end are this kit's own)
 abbrev pub register_file_end : ℕ

@@ -1,5 +1,6 @@
 // Real files, read whole.
 ghost use Rattle.std.specs.Prelude.{◌≤◌, length, IfOk};
+ghost use Rattle.kc_base.specs.Limits.{file_limit};
 
 use crate::{FILE_LIMIT, FileFault};
 use std::alloc::Global;
@@ -58,7 +59,7 @@ pub(crate) fn read_plain<R: FileSystem>(
     alloc: Global,
     name: &str,
 ) -> Result<Vec<u8>, FileFault>
-    ensures { IfOk result (λ bytes. length bytes.items ≤ 1048576) }
+    ensures { IfOk result (λ bytes. length bytes.items ≤ file_limit) }
 {
     match open_plain(system, name) {
         Ok(file) => read_all(alloc, file),
@@ -68,7 +69,7 @@ pub(crate) fn read_plain<R: FileSystem>(
 
 // What is left of a file, up to the limit.
 fn read_all<F: Read + Drop>(alloc: Global, file: F) -> Result<Vec<u8>, FileFault>
-    ensures { IfOk result (λ bytes. length bytes.items ≤ 1048576) }
+    ensures { IfOk result (λ bytes. length bytes.items ≤ file_limit) }
 {
     let mut file = file;
     let mut bytes = Vec::new(alloc);

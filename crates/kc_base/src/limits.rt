@@ -1,6 +1,9 @@
 /// The most state times that a run may have, and the greatest state time that a text may name.
 pub const MAX_STATES: u64 = 1_000_000_000_000_000;
 
+/// The most bytes that a file may have.
+pub const FILE_LIMIT: usize = 1_048_576;
+
 /// The first address behind the register file.
 pub const REGISTER_FILE_END: u16 = 0x200;
 

@@ -3,3 +3,4 @@ pub mod Acts
 pub mod Outcomes
 pub mod Words
 pub mod Calls
+pub mod PlainLemmas

@@ -15,7 +15,10 @@ mod seeing;
 mod values;
 mod writing;
 
-pub use laws::{standing_units_report_what_is_shown, what_is_left_is_scheduled};
+pub use laws::{
+    plain_bus_has_the_masks_of_the_table, standing_units_report_what_is_shown,
+    what_is_left_is_scheduled,
+};
 pub use looking::look;
 pub use reading::{read8, read16};
 pub use writing::{write8, write16};

@@ -41,9 +41,9 @@ ended a rest n len used b up less is is_len is_used =
     let is_all : b ≡ (ltb 0 n && eqb (get_or (a ++ rest) (n - 1) 0) 13) = is ∙ ap (λ v. ltb 0 n && eqb v 13) (sym last) in
     let first = ended_line (a ++ rest) n b up_all (omega (arith, long, less)) is_all in
     let small : len ≤ length a = small_len b is_len in
-    let front : take (cond b (n - 1) n) (a ++ rest) ≡ take len a = ap (λ k. take k (a ++ rest)) (sym is_len) ∙ take-append-le len a rest small in
+    let prefix : take (cond b (n - 1) n) (a ++ rest) ≡ take len a = ap (λ k. take k (a ++ rest)) (sym is_len) ∙ take-append-le len a rest small in
     let back : drop (n + 1) (a ++ rest) ≡ drop used a ++ rest = ap (λ k. drop k (a ++ rest)) (sym is_used) ∙ drop-append-le used a rest (omega (arith, is_used, less)) in
-    record { lines = first ∙ (λ i. front i ∷ text_lines (back i)) }
+    record { lines = first ∙ (λ i. prefix i ∷ text_lines (back i)) }
   where
     small_len : (v : Bool) → len ≡ cond v (n - 1) n → len ≤ length a
     small_len true e = omega arith

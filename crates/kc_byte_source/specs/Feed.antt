@@ -2,7 +2,7 @@
 use Rattle.std.specs.Prelude.{◌≡◌, ℕ, ◌<◌, Option, Some, None, List, ◌∷◌, ◌++◌, length, take, drop}
 use Rattle.kc_base.specs.TextLines.{text_lines}
 
--- The line that was given last, and what is left of the text behind it, where the source tells it. Lines have at most so many
+-- The line that was given last, and what is left of the text behind it, where the source reports it. Lines have at most so many
 -- bytes; and so often has the source failed.
 pub record Feed : Type 0 where
   pub line : List ℕ

@@ -1,4 +1,4 @@
-// Standard input, and opened files. What they hold is told as far as their reader tells it: not at all, with those of the system.
+// Standard input, and opened files. What they hold is reported as far as their reader reports it: not at all, with those of the system.
 ghost use Rattle.std.specs.Prelude.{◌≡◌, ◌<◌, ◌≤◌, Ok, take, length, IfOk, OnErr};
 ghost use Rattle.std.specs.Io.KnownBytes.{Consumes, Keeps, IsAtEnd};
 

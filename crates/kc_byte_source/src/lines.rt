@@ -143,7 +143,7 @@ impl<S: Source + Drop> Lines<S> {
 
     /// The source, given back, with as many faults as these lines have counted.
     pub fn into_source(self) -> S
-        ensures { S.faults result ≡ self.entry.faults }
+        ensures { S.faults result ≡ self.faults }
     {
         let Lines { window, .. } = self;
         let Window { source, .. } = window;

@@ -21,8 +21,8 @@ fn count_call(calls: &mut u64, failing: &[u64]) -> bool
     failing.contains(&number)
 }
 
-// Copies the front of a text to the front of the room, at most so many bytes of it, and says how many.
-fn copy_front(room: &mut [u8], text: &[u8], most: usize) -> usize
+// Copies a prefix of a text to the beginning of the room, at most so many bytes of it, and says how many.
+fn copy_prefix(room: &mut [u8], text: &[u8], most: usize) -> usize
     ensures count { result ≡ min most (min (length room.old) (length text.now)) }
     ensures bytes { take result room.new ≡ take result text.now }
 {
@@ -84,7 +84,7 @@ impl Source for MemSource {
         if count_call(&mut self.reads, &self.failing) {
             return Err(Failed);
         }
-        let count = copy_front(room, &self.bytes[self.at..], self.piece);
+        let count = copy_prefix(room, &self.bytes[self.at..], self.piece);
         self.at += count;
         Ok(count)
     }

@@ -8,13 +8,13 @@ pub struct Failed;
 
 /// Gives bytes in order.
 pub trait Source {
-    /// The bytes to come, where the source tells them.
+    /// The bytes to come, where the source reports them.
     ghost to_come: { Self → Option (List ℕ) };
 
     /// How often a read has failed.
     ghost faults: { Self → ℕ };
 
-    /// Puts some of the bytes to come at the front of the room, and says how many; none where no byte is to come, and else at
+    /// Puts some of the bytes to come at the beginning of the room, and says how many; none where no byte is to come, and else at
     /// least one. What stands behind them in the room is not known.
     fn read(&mut self, room: &mut [u8]) -> Result<usize, Failed>
         requires { 0 < length room.old }

@@ -31,7 +31,7 @@ fn read_behind<S: Source>(source: &mut S, room: &mut [u8], to: usize) -> Result<
     requires { to < length room.old }
     ensures within { IfOk result (λ count. to + count ≤ length room.new) }
     ensures given { IfOk result (λ count. Consumes (S.to_come source.old) (S.to_come source.new) (take count (drop to room.new))) }
-    ensures front { take to room.new ≡ take to room.old }
+    ensures prefix { take to room.new ≡ take to room.old }
     ensures end { result ≡ Ok 0 → IsAtEnd (S.to_come source.new) }
     ensures refused { OnErr result (Keeps (S.to_come source.old) (S.to_come source.new)) }
     ensures failed { OnErr result (Rose (S.faults source.old) (S.faults source.new)) }
@@ -52,7 +52,7 @@ impl<S: Source> Window<S> {
         &self.room[self.from..self.to]
     }
 
-    // Moves what nobody has taken yet to the front of the room.
+    // Moves what nobody has taken yet to the beginning of the room.
     fn shift(&mut self)
         requires { IsWhole S.to_come self.old }
         ensures whole { IsWhole S.to_come self.new }

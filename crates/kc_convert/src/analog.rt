@@ -1,4 +1,5 @@
 ghost use Rattle.std.specs.Prelude.{◌≡◌, ◌≤◌, [], length, IfOk, IfErr, None, fold};
+ghost use Rattle.kc_base.specs.Limits.{file_limit};
 ghost use Rattle.kc_convert.specs.Parts.{samples_in, IsWhole};
 ghost use Rattle.kc_convert.specs.Samples.{value_at};
 ghost use Rattle.kc_convert.specs.Reading.{first_bad, items_of, with_item, IsRefusal, IsRead};
@@ -30,7 +31,7 @@ impl Model for Analog {
 
 // The values of the lines of a file, or its first line that is at fault.
 fn index_of(alloc: Global, bytes: &[u8]) -> Result<Index, AnalogFault>
-    requires { length bytes.now ≤ 1048576 }
+    requires { length bytes.now ≤ file_limit }
     ensures none { IfOk result (λ index. first_bad 0 [] (items_of bytes.now) ≡ None) }
     ensures samples { IfOk result (λ index. samples_in index ≡ fold with_item [] (items_of bytes.now)) }
     ensures whole { IfOk result IsWhole }
@@ -77,7 +78,7 @@ impl Analog {
 
     /// What an analogue file says, of 1,048,576 bytes at most. A fault is that of its first line that has one.
     pub fn read(alloc: Global, bytes: &[u8]) -> Result<Analog, AnalogFault>
-        requires { length bytes.now ≤ 1048576 }
+        requires { length bytes.now ≤ file_limit }
         ensures { IsRead bytes.now result }
     {
         match index_of(alloc, bytes) {

@@ -1,4 +1,5 @@
 ghost use Rattle.std.specs.Prelude.{◌≡◌, ◌≤◌, ◌++◌, [], ◌∷◌, length, IfOk, IfSome, OnOk};
+ghost use Rattle.kc_base.specs.Limits.{file_limit};
 ghost use Rattle.std.specs.Char.{is_ascii_lowercase};
 ghost use Rattle.std.specs.List.{list_any};
 ghost use Rattle.std.specs.Option.{option_copied};
@@ -135,7 +136,7 @@ impl LineMap {
     /// The entries of a line map of 1,048,576 bytes at most, or the number of its first line that is none: an address of 2000H or
     /// above in four upper-case hex digits, above that of the line before, the name of a module, and a line, 1 to 4,294,967,295.
     pub fn read(alloc: Global, bytes: &[u8]) -> Result<LineMap, DebugFault>
-        requires { length bytes.now ≤ 1048576 }
+        requires { length bytes.now ≤ file_limit }
         ensures { IsMapRead result (map_of bytes.now) }
     {
         let mut entries = Vec::new(alloc);

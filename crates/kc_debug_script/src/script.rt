@@ -1,4 +1,5 @@
 ghost use Rattle.std.specs.Prelude.{◌≡◌, ◌≤◌, ◌++◌, [], ◌∷◌, length, count_by, IfSome, OnOk};
+ghost use Rattle.kc_base.specs.Limits.{file_limit};
 ghost use Rattle.kc_debug_script.specs.Script.{is_break as sets_breakpoint, may_follow as allows, command_after, script_of, IsScriptRead, AreBounded};
 
 use crate::command::{Command, read_command};
@@ -77,7 +78,7 @@ impl Script {
     /// The commands of a script of 1,048,576 bytes at most, or the number of its first line that is no command. The 65,536th line
     /// is none, nor is the seventeenth breakpoint; lines behind the end of the script are checked too.
     pub fn read(alloc: Global, bytes: &[u8]) -> Result<Script, DebugFault>
-        requires { length bytes.now ≤ 1048576 }
+        requires { length bytes.now ≤ file_limit }
         ensures { IsScriptRead result (script_of bytes.now) }
     {
         let mut commands = Vec::new(alloc);

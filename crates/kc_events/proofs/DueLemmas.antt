@@ -1,16 +1,16 @@
--- Lines that end a run tell what happens in the order of states.
-use Rattle.std.proofs.Common.{◌≡◌, ℕ, zero, suc, ◌+◌, ◌-◌, ◌<◌, ◌≤◌, ◌^◌, ◌==◌, Bool, true, false, not, ◌&&◌, leb, ltb, List, [], ◌∷◌, refl, sym, ap, ◌∙◌, arith}
-use Rattle.std.specs.Prelude.{nat_le, nat_lt}
+-- Lines that end a run report what happens in the order of states.
+use Rattle.std.proofs.Common.{◌≡◌, ℕ, zero, suc, ◌+◌, ◌-◌, ◌≤◌, ◌^◌, ◌==◌, true, false, not, ◌&&◌, List, [], ◌∷◌, sym, ◌∙◌, arith}
+use Rattle.std.specs.Prelude.{nat_le}
 use Rattle.std.proofs.lemmas.Bool.{leb-true, eqb-true, and_parts}
+use Rattle.std.proofs.lemmas.Bool.Decides.{nat_tests}
 use Rattle.kc_base.specs.declared.types.Level.{Level}
-use Rattle.kc_base.specs.Pins.{is_printed as is_output}
-use Rattle.kc_trace.specs.declared.record.Record.{Record}
+use Rattle.kc_base.specs.Pins.{is_printed}
 use Rattle.kc_trace.specs.declared.record.Record.TheVariants.{Pin, Entered, Served, Undef, Stopped, Pc, Psw, Wsr, Registers}
 use Rattle.kc_events.specs.declared.line.Line.{Line}
 use Rattle.kc_events.specs.declared.line.Line.TheVariants.{Printed, Restarted}
 use Rattle.kc_events.specs.declared.reader.Stage.{Stage}
-use Rattle.kc_events.specs.declared.reader.Stage.TheVariants.{Living, Broken, Over}
-use Rattle.kc_events.specs.Grammar.{Place, start_place, same_level, is_in_order, is_end, MayFollow, AreLines, place_after, after_line, is_over, IsRun, moved_to}
+use Rattle.kc_events.specs.declared.reader.Stage.TheVariants.{Living, Broken}
+use Rattle.kc_events.specs.Grammar.{Place, start_place, same_level, is_in_order, is_end, AreLines, place_after, is_over, IsRun, moved_to}
 use Rattle.kc_events.specs.Lives.{end_event, count_at}
 use Rattle.kc_events.specs.Coming.{AreFrom, AreDue}
 
@@ -22,6 +22,9 @@ order_at p t at early h =
     let less : p.past ≤ at + 1 = leb-true p.past (at + 1) (and_parts (nat_le p.past (at + 1)) (nat_le (p.base + at) (10 ^ 15)) h).0 in
     omega (arith, early, less)
 
+big_end : (p : Place) (at how : ℕ) → 3 ≤ how → is_end p at how ≡ false
+big_end p at how big = grind (arith, nat_tests)
+
 -- the end of a life
 end_due : (p : Place) (t at how : ℕ) → t ≤ p.past - 1 → is_end p at how ≡ true → AreFrom t (end_event at how) × (t ≤ count_at at how)
 end_due p t at zero early h =
@@ -29,7 +32,7 @@ end_due p t at zero early h =
     (tt, omega (arith, early, less))
 end_due p t at (suc zero) early h = let there = order_at p t at early h in ((there, tt), omega (arith, there))
 end_due p t at (suc (suc zero)) early h = let there = order_at p t at early h in ((there, tt), omega (arith, there))
-end_due p t at (suc (suc (suc how))) early h = absurd (apart (sym h))
+end_due p t at (suc (suc (suc how))) early h = absurd (apart (sym h ∙ big_end p at (suc (suc (suc how))) (omega arith)))
 
 -- a life that goes on
 abbrev place : ℕ → ℕ → (ℕ → Level) → Stage → Place
@@ -62,7 +65,7 @@ unfolding AreLines place_after AreDue
 due_living base past levels t [] early h over = absurd (apart (sym over))
 due_living base past levels t (Printed (Pin at edge) ∷ lines) early h over =
     let p = place base past levels Living in
-    let there = order_at p t at early (and_parts (is_in_order p at) (is_output edge.pin.0 && not (same_level edge.level (levels edge.pin.0))) h.0.fits).0 in
+    let there = order_at p t at early (and_parts (is_in_order p at) (is_printed edge.pin.0 && not (same_level edge.level (levels edge.pin.0))) h.0.fits).0 in
     ((there, tt), due_living base (at + 1) (moved_to edge.pin.0 edge.level levels) at lines (omega arith) h.1 over)
 due_living base past levels t (Printed (Entered at vector back) ∷ lines) early h over =
     ((order_at (place base past levels Living) t at early h.0.fits, tt), due_living base (at + 1) levels at lines (omega arith) h.1 over)

@@ -1,17 +1,16 @@
 -- Levels and edges of inputs.
-use Rattle.std.proofs.Common.{◌≡◌, ℕ, zero, suc, ◌+◌, ◌-◌, ◌<◌, ◌≤◌, ◌==◌, Bool, true, false, cond, inl, inr, Option, Some, None, List, [], ◌∷◌, ◌++◌, flat_map, refl, sym, ap, subst, ◌∙◌, append-nil, add-one, arith}
+use Rattle.std.proofs.Common.{◌≡◌, ℕ, zero, suc, ◌+◌, ◌<◌, ◌≤◌, Bool, true, false, cond, inl, inr, Option, Some, None, List, [], ◌∷◌, ◌++◌, flat_map, refl, sym, ap, ◌∙◌, append-nil, add-one, arith}
 use Rattle.std.specs.List.{range_with_len}
-use Rattle.std.proofs.lemmas.Bool.{cases_Bool, cases_lt}
-use Rattle.std.proofs.lemmas.Bool.Decides.{nat_tests}
+use Rattle.std.proofs.lemmas.Bool.{cases_lt}
 use Rattle.std.proofs.lemmas.Grind.{flat_map-append}
 use Rattle.kc_base.specs.declared.types.Level.{Level}
 use Rattle.kc_base.specs.declared.types.Level.TheVariants.{Low, High}
 use Rattle.kc_base.specs.Levels.{level_of}
-use Rattle.kc_base.specs.Pins.{pin_count}
+use Rattle.kc_base.specs.Pins.{pin_count, pin_facts, is_input}
+use Rattle.kc_base.proofs.PinLemmas.{no_facts, no_input}
 use Rattle.kc_life.specs.declared.life.Signal.{Signal}
 use Rattle.kc_life.specs.declared.life.Signal.TheVariants.{Output, Input}
 use Rattle.kc_life.specs.declared.life.What.{What}
-use Rattle.kc_base.specs.Pins.{is_input}
 use Rattle.kc_life.specs.Signals.{pin_of, starts_high}
 use Rattle.kc_stim.specs.Drives.{Drives, wire_to, level_at, level_before, IsStill}
 use Rattle.kc_events.specs.Lives.{input_level, input_before, edge_between, edge_if_input, input_edges, start_by, start_levels}
@@ -77,15 +76,13 @@ edges_still d levels s t still h = pins_still d levels s t (range_with_len 0 pin
 -- ---- levels before state 0
 
 past_low : (pin : ℕ) → 41 ≤ pin → starts_high (Output (record { 0 = pin })) ≡ false
-past_low pin past = grind (arith, nat_tests)
-
-past_none : (pin : ℕ) → 41 ≤ pin → is_input pin ≡ false
-past_none pin past = grind (arith, nat_tests)
+unfolding pin_facts
+past_low pin past = rw (no_facts pin past) refl
 
 -- a number of no pin has low levels
 pub start_past : (d : Drives) (base : ℕ) (signal : Signal) → 41 ≤ pin_of signal → start_levels d base signal ≡ Low
 start_past d base (Output pin) past = ap level_of (past_low pin.0 past)
-start_past d base (Input pin) past = ap (λ b. cond b (start_by d base pin.0 (wire_to d.wires pin.0)) Low) (past_none pin.0 past)
+start_past d base (Input pin) past = ap (λ b. cond b (start_by d base pin.0 (wire_to d.wires pin.0)) Low) (no_input pin.0 past)
 
 pub all_start : (d : Drives) (base n : ℕ) (levels : Signal → Level) → n ≡ 41 → ((signal : Signal) → pin_of signal < n → levels signal ≡ start_levels d base signal) →
     ((signal : Signal) → n ≤ pin_of signal → levels signal ≡ Low) → levels ≡ start_levels d base
@@ -93,6 +90,6 @@ all_start d base n levels all start past = λ i signal. at signal i
   where
     at : (signal : Signal) → levels signal ≡ start_levels d base signal
     at signal = elim (cases_lt (pin_of signal) n) [
-        | inl less ↦ start signal less
-        | inr most ↦ past signal most ∙ sym (start_past d base signal (omega (arith, most, all)))
-      ]
+      | inl less ↦ start signal less
+      | inr most ↦ past signal most ∙ sym (start_past d base signal (omega (arith, most, all)))
+    ]

@@ -5,7 +5,14 @@ pub mod LineLemmas
 pub mod TraceLemmas
 pub mod PlaceLemmas
 pub mod CourseLemmas
+pub mod FedLemmas
+pub mod PassedLemmas
+pub mod StateLemmas
+pub mod StartLemmas
 pub mod InputLemmas
 pub mod StepLemmas
 pub mod DueLemmas
-pub mod TellLemmas
+pub mod ReportLemmas
+pub mod LifeLemmas
+pub mod OneReading
+pub mod SomeTrace

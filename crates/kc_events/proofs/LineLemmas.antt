@@ -16,7 +16,7 @@ use Rattle.kc_events.specs.declared.line.Line.TheVariants.{Printed, Restarted}
 use Rattle.kc_events.specs.Candidates.{restart_with, restart_of}
 use Rattle.kc_events.specs.Sound.{IsSound}
 use Rattle.kc_events.specs.Lines.{reset_name, line_text, IsSoundLine}
-use Rattle.kc_events.proofs.Pins.{each_below}
+use Rattle.kc_base.proofs.PinLemmas.{each_below}
 use Rattle.kc_events.proofs.Spelled.{time-read, behind-time, time-word, two, same_line, plain, kind-small}
 
 -- ---- the end of a life
@@ -42,9 +42,9 @@ abbrev pub time_in : Option (ℕ × Bool) → ℕ
 time_in None = 0
 time_in (Some r) = r.0
 
-abbrev pub cause_in : Option (ℕ × Bool) → Bool
-cause_in None = false
-cause_in (Some r) = r.1
+abbrev pub origin_in : Option (ℕ × Bool) → Bool
+origin_in None = false
+origin_in (Some r) = r.1
 
 not_none : (r : ℕ × Bool) → Some r ≡ None → ⊥
 not_none r e = absurd cc
@@ -59,7 +59,7 @@ pub other_restart : (text : List ℕ) (t : ℕ) (by_other : Bool) → restart_of
     (at : ℕ) (by_watchdog : Bool) → at ≤ 10 ^ 15 → line_text (Restarted at by_watchdog) ≡ text → ⊥
 other_restart text t by_other is differs at by_watchdog early e =
     let both = sym (restart-read at by_watchdog early) ∙ ap restart_of e ∙ is in
-    differs ((λ i. line_text (Restarted (sym (ap time_in both) i) (sym (ap cause_in both) i))) ∙ e)
+    differs ((λ i. line_text (Restarted (sym (ap time_in both) i) (sym (ap origin_in both) i))) ∙ e)
 
 -- ---- one line
 
@@ -89,7 +89,7 @@ same_text (Printed item) (Restarted at by_watchdog) h k e = absurd (record_lette
 same_text (Restarted at by_watchdog) (Printed item) h k e = absurd (record_letter item (ap first (sym e ∙ restart_text at by_watchdog)))
 same_text (Restarted at by_watchdog) (Restarted t by_other) h k e =
     let both = sym (restart-read at by_watchdog h) ∙ ap restart_of e ∙ restart-read t by_other k in
-    (λ i. Restarted (ap time_in both i) (ap cause_in both i))
+    (λ i. Restarted (ap time_in both i) (ap origin_in both i))
 
 -- ---- no end of line within it
 

@@ -1,23 +1,18 @@
 -- Numbers of a trace as they are spelled, read again.
-use Rattle.std.proofs.Common.{◌≡◌, ℕ, suc, ◌+◌, ◌*◌, ◌/◌, ◌%◌, ◌<◌, Some, Ok, Err, Result, List, [], ◌∷◌, length, flat_map, refl, sym, ap, ◌∙◌, arith}
+use Rattle.std.proofs.Common.{◌≡◌, ℕ, suc, ◌*◌, ◌<◌, Some, Ok, Err, Result, List, [], ◌∷◌, length, flat_map, refl, sym, ap, ◌∙◌, arith}
 use Rattle.std.specs.Prelude.{slice_index, MatchResult}
 use Rattle.hex.specs.declared.error.FromHexError.{FromHexError}
-use Rattle.std.proofs.lemmas.Bool.{lt-ltb}
-use Rattle.hex.specs.Hex.{hex_digit_value, decode_sized}
+use Rattle.std.proofs.lemmas.Bool.{lt-ltb, le-leb}
+use Rattle.hex.specs.Hex.{decode_sized}
 use Rattle.hex.proofs.HexLemmas.{decode_of-ok, decode_sized-twice, decode_sized-ok}
 use Rattle.kc_base.specs.Bytes.{IsBytes}
-use Rattle.kc_base.specs.Digits.{hex_digit, hex}
-use Rattle.kc_base.specs.Fields.{word_of}
-use Rattle.kc_base.proofs.Numbers.{digit_value, four-read, pairs-read, two-long}
+use Rattle.kc_base.specs.Digits.{hex, up_to}
+use Rattle.kc_base.proofs.Numbers.{digits-hex, pairs-read, two-long}
 use Rattle.kc_events.specs.Candidates.{small as below_1000, base_of}
 
 pub base-read : (n : ℕ) → n < 0x1000 → base_of (hex 3 n) ≡ Some n
 base-read n small =
-    let whole : 256 * (0 * 16 + n / 16 / 16 % 16) + ((n / 16 % 16) * 16 + n % 16) ≡ n = omega arith in
-    let zero_value : hex_digit_value 48 ≡ Some 0 = refl in
-    let read : word_of (48 ∷ hex_digit (n / 16 / 16 % 16) ∷ hex_digit (n / 16 % 16) ∷ hex_digit (n % 16) ∷ []) ≡ Some n =
-    four-read _ _ _ _ _ _ _ _ zero_value (digit_value (n / 16 / 16 % 16) (omega arith)) (digit_value (n / 16 % 16) (omega arith)) (digit_value (n % 16) (omega arith)) ∙ ap Some whole in
-    ap below_1000 read ∙ rw (lt-ltb n 0x1000 small) refl
+    ap (λ o. below_1000 (up_to 0xFFFF o)) (digits-hex 3 n (omega (arith, small))) ∙ rw (le-leb n 0xFFFF (omega (arith, small)), lt-ltb n 0x1000 small) refl
 
 pub bytes-read : (bytes : List ℕ) → length bytes ≡ 32 → IsBytes bytes → decode_sized (flat_map (hex 2) bytes) 32 ≡ Ok bytes
 bytes-read bytes len h =

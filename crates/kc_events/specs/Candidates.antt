@@ -1,4 +1,4 @@
--- Which record a line can be at all: if it is the line of a record, then of this one. Whether it is, spelling the record tells.
+-- Which record a line can be at all: if it is the line of a record, then of this one. Whether it is, spelling the record reports.
 use Rattle.std.specs.Prelude.{ℕ, ◌==◌, nat_lt, if◌then◌else◌, Bool, false, Option, Some, None, Result, Ok, Err, List, [], ◌∷◌}
 use Rattle.std.specs.Option.{option_map}
 use Rattle.hex.specs.declared.error.FromHexError.{FromHexError}

@@ -1,5 +1,5 @@
 -- The steps of a run that are to come, while its lines become known (this kit's own).
-use Rattle.std.specs.Prelude.{◌≡◌, ◌≢◌, ℕ, zero, suc, ◌+◌, ◌-◌, ◌≤◌, Bool, true, false, Option, Some, None, List, [], ◌∷◌, ◌++◌}
+use Rattle.std.specs.Prelude.{◌≡◌, ℕ, zero, suc, ◌+◌, ◌-◌, ◌≤◌, Bool, true, false, Option, Some, None, List, [], ◌∷◌, ◌++◌}
 use Rattle.kc_base.specs.declared.types.Level.{Level}
 use Rattle.kc_life.specs.declared.life.Signal.{Signal}
 use Rattle.kc_life.specs.declared.life.What.{What}
@@ -11,11 +11,11 @@ use Rattle.kc_events.specs.declared.line.Line.{Line}
 use Rattle.kc_events.specs.declared.line.Line.TheVariants.{Printed, Restarted}
 use Rattle.kc_events.specs.declared.course.Known.{Known}
 use Rattle.kc_events.specs.declared.course.Known.TheVariants.{Living, Ending, Ended}
-use Rattle.kc_events.specs.Lives.{input_edges, start_levels, levels_after, told_in, states_from, event_of, end_event, count_at, restart_event}
+use Rattle.kc_events.specs.Lives.{input_edges, start_levels, levels_after, reported_in, states_from, event_of, end_event, count_at, restart_event}
 use Rattle.kc_events.specs.Steps.{Seen, Begins, Passes, Ends, passes, steps_with}
 
 -- What drives the inputs, the state of the run in which the life began, the present state of the life, the levels at the end of the
--- state before it, what has happened in it so far, and whether it was told that the life begins.
+-- state before it, what has happened in it so far, and whether it was reported that the life begins.
 pub record Present : Type 0 where
   pub drives : Drives
   pub base : ℕ
@@ -24,7 +24,7 @@ pub record Present : Type 0 where
   pub whats : List What
   pub has_begun : Bool
 
--- Beside it what has happened in the state that passed last, the event that was told last and is still to happen, and what is known
+-- Beside it what has happened in the state that passed last, the event that was reported last and is still to happen, and what is known
 -- of the end.
 pub record Running : Type 0 where
   pub present : Present
@@ -45,26 +45,26 @@ start_of d base = record {
 
 -- so many states from one on, in which this has happened already
 abbrev pub states_on : Drives → ℕ → List Event → ℕ → ℕ → (Signal → Level) → List What → List State
-states_on d base told zero t levels whats = []
-states_on d base told (suc more) t levels whats =
-    let all = whats ++ told_in t told in
-    record { at = t; whats = all } ∷ states_from d base told more (t + 1) (levels_after levels all)
+states_on d base reported zero t levels whats = []
+states_on d base reported (suc more) t levels whats =
+    let all = whats ++ reported_in t reported in
+    record { at = t; whats = all } ∷ states_from d base reported more (t + 1) (levels_after levels all)
 
 abbrev pub begin_of : Bool → (Signal → Level) → List Seen
 begin_of true levels = []
 begin_of false levels = Begins levels ∷ []
 
--- the rest of a life of so many states, of which this is told
+-- the rest of a life of so many states, of which this is reported
 abbrev pub rest_of : Present → List Event → ℕ → List Seen
-rest_of p told zero = begin_of p.has_begun p.levels
-rest_of p told (suc last) = begin_of p.has_begun p.levels ++ (passes (states_on p.drives p.base told (suc last - p.now) p.now p.levels p.whats) ++ Ends last ∷ [])
+rest_of p reported zero = begin_of p.has_begun p.levels
+rest_of p reported (suc last) = begin_of p.has_begun p.levels ++ (passes (states_on p.drives p.base reported (suc last - p.now) p.now p.levels p.whats) ++ Ends last ∷ [])
 
 unfoldable pub rest_by : Present → List Event → List Line → List Seen
-rest_by p told [] = []
-rest_by p told (Printed (Stopped at how) ∷ lines) = rest_of p (told ++ end_event at how) (count_at at how)
-rest_by p told (Printed item ∷ lines) = rest_by p (told ++ event_of item) lines
-rest_by p told (Restarted at by_watchdog ∷ lines) =
-    rest_of p (told ++ restart_event at by_watchdog ∷ []) (at + 1) ++ steps_with p.drives (p.base + at + 1) [] lines
+rest_by p reported [] = []
+rest_by p reported (Printed (Stopped at how) ∷ lines) = rest_of p (reported ++ end_event at how) (count_at at how)
+rest_by p reported (Printed item ∷ lines) = rest_by p (reported ++ event_of item) lines
+rest_by p reported (Restarted at by_watchdog ∷ lines) =
+    rest_of p (reported ++ restart_event at by_watchdog ∷ []) (at + 1) ++ steps_with p.drives (p.base + at + 1) [] lines
 
 abbrev pub events_ahead : Option Event → List Event
 events_ahead None = []
@@ -75,9 +75,9 @@ others_of true d base lines = steps_with d base [] lines
 others_of false d base lines = []
 
 abbrev pub rest_at : Present → List Event → Known → List Line → List Seen
-rest_at p told Living lines = rest_by p told lines
-rest_at p told (Ending count is_followed) lines = rest_of p told count ++ others_of is_followed p.drives (p.base + count) lines
-rest_at p told Ended lines = []
+rest_at p reported Living lines = rest_by p reported lines
+rest_at p reported (Ending count is_followed) lines = rest_of p reported count ++ others_of is_followed p.drives (p.base + count) lines
+rest_at p reported Ended lines = []
 
 -- the steps to come, where these lines are
 abbrev pub steps_to_come : Running → List Line → List Seen
@@ -94,7 +94,7 @@ abbrev pub state_behind : ℕ → List Event → ℕ
 state_behind t [] = t
 state_behind t (e ∷ events) = state_behind e.at events
 
--- What lines tell of a life stands in the order of states from this one on, and the life ends; and so on for the lives behind it.
+-- What lines report of a life stands in the order of states from this one on, and the life ends; and so on for the lives behind it.
 unfoldable pub AreDue : ℕ → List Line → Type 0
 AreDue t [] = ⊥
 AreDue t (Printed (Stopped at how) ∷ lines) = AreFrom t (end_event at how) × (t ≤ count_at at how)
@@ -134,21 +134,21 @@ abbrev pub GoesOn : Known → Type 0
 GoesOn Ended = ⊥
 GoesOn _ = Unit {0}
 
--- what is told of a life that goes on, and lines that may be to come, are of this state or later ones
-pub record IsBeyond (at : ℕ) (told : List Event) (known : Known) (lines : List Line) : Type 0 where
+-- what is known of a life that goes on, and lines that may be to come, are of this state or later ones
+pub record IsBeyond (at : ℕ) (reported : List Event) (known : Known) (lines : List Line) : Type 0 where
   pub goes : GoesOn known
-  pub events : AreFrom at told
+  pub events : AreFrom at reported
   pub coming : MayCome at known lines
 
 -- no state in which anything happens has passed on the way to this state
 abbrev pub HasSameRest : ℕ → Present → Present → Type 0
-HasSameRest at old new = (told : List Event) (known : Known) (lines : List Line) → IsBeyond at told known lines → rest_at old told known lines ≡ rest_at new told known lines
+HasSameRest at old new = (reported : List Event) (known : Known) (lines : List Line) → IsBeyond at reported known lines → rest_at old reported known lines ≡ rest_at new reported known lines
 
 -- this state has passed on the way to this one
 abbrev pub HasPassed : ℕ → Present → State → Present → Type 0
-HasPassed at old state new = (told : List Event) (known : Known) (lines : List Line) → IsBeyond at told known lines → rest_at old told known lines ≡ Passes state ∷ rest_at new told known lines
+HasPassed at old state new = (reported : List Event) (known : Known) (lines : List Line) → IsBeyond at reported known lines → rest_at old reported known lines ≡ Passes state ∷ rest_at new reported known lines
 
--- a line tells this event, which is ahead then, and this of the end
+-- a line reports this event, which is ahead then, and this of the end
 pub record IsFed (line : Line) (ahead : Option Event) (known : Known) : Type 0 where
   pub steps : (p : Present) (lines : List Line) → rest_at p (events_ahead ahead) known lines ≡ rest_by p [] (line ∷ lines)
   pub next : (t : ℕ) (lines : List Line) → AreDue t (line ∷ lines) → AreFrom t (events_ahead ahead) × MayCome (state_behind t (events_ahead ahead)) known lines

@@ -8,7 +8,7 @@ use Rattle.std.specs.Prelude.{◌≡◌, ℕ, ◌+◌, ◌-◌, ◌*◌, ◌^◌
 use Rattle.kc_base.specs.declared.types.Level.{Level}
 use Rattle.kc_base.specs.Levels.{is_high}
 use Rattle.kc_life.specs.declared.life.Signal.TheVariants.{Output}
-use Rattle.kc_base.specs.Pins.{is_printed as is_output}
+use Rattle.kc_base.specs.Pins.{is_printed}
 use Rattle.kc_life.specs.Signals.{start_level}
 use Rattle.kc_trace.specs.declared.record.Record.{Record}
 use Rattle.kc_trace.specs.declared.record.Record.TheVariants.{Pin, Entered, Served, Undef, Stopped, Pc, Psw, Wsr, Registers}
@@ -44,7 +44,7 @@ abbrev pub is_end : Place → ℕ → ℕ → Bool
 is_end p at how = if how == 0 then nat_le p.past at && nat_le (p.base + at) (10 ^ 15) else nat_lt how 3 && is_in_order p at
 
 abbrev pub is_of_life : Place → Record → Bool
-is_of_life p (Pin at edge) = is_in_order p at && (is_output edge.pin.0 && not (same_level edge.level (p.levels edge.pin.0)))
+is_of_life p (Pin at edge) = is_in_order p at && (is_printed edge.pin.0 && not (same_level edge.level (p.levels edge.pin.0)))
 is_of_life p (Entered at vector back) = is_in_order p at
 is_of_life p (Served at vector mode count) = is_in_order p at
 is_of_life p (Undef what) = is_in_order p what.at

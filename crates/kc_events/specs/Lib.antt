@@ -9,4 +9,4 @@ pub mod Lives
 pub mod Steps
 pub mod Coming
 pub mod Underway
-pub mod Telling
+pub mod Reporting

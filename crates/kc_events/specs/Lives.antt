@@ -4,7 +4,7 @@
 -- In each state inputs take their levels first, in the order of their pins: a wired one that of its output at the end of the state
 -- before, another one that of the stimuli, which count the states of the run. Then comes what is printed, in its order, and in the
 -- last state of a life what has ended it, where that is no undefined use, which has a line of its own.
-use Rattle.std.specs.Prelude.{ℕ, zero, suc, ◌+◌, ◌-◌, ◌==◌, if◌then◌else◌, Bool, true, false, not, Option, Some, None, List, [], ◌∷◌, ◌++◌, map, filter, flat_map}
+use Rattle.std.specs.Prelude.{ℕ, zero, suc, ◌+◌, ◌==◌, if◌then◌else◌, Bool, Option, Some, None, List, [], ◌∷◌, ◌++◌, map, filter, flat_map}
 use Rattle.std.specs.List.{range_with_len}
 use Rattle.kc_base.specs.declared.types.Level.{Level}
 use Rattle.kc_base.specs.declared.types.Level.TheVariants.{Low}
@@ -19,7 +19,7 @@ use Rattle.kc_life.specs.Signals.{start_level}
 use Rattle.kc_life.specs.Lives.{Life, State, level_after, events_of}
 use Rattle.kc_stim.specs.Drives.{Drives, wire_to, level_at, level_before}
 use Rattle.kc_trace.specs.declared.record.Record.{Record}
-use Rattle.kc_trace.specs.declared.record.Record.TheVariants.{Pin, Entered, Served, Undef, Stopped, Pc, Psw, Wsr, Registers}
+use Rattle.kc_trace.specs.declared.record.Record.TheVariants.{Pin, Entered, Served, Undef, Stopped}
 use Rattle.kc_events.specs.declared.line.Line.{Line}
 use Rattle.kc_events.specs.declared.line.Line.TheVariants.{Printed, Restarted}
 use Rattle.kc_events.specs.Grammar.{same_level}
@@ -63,27 +63,27 @@ start_levels d base (Input pin) = if is_input pin.0 then start_by d base pin.0 (
 abbrev pub levels_after : (Signal → Level) → List What → Signal → Level
 levels_after levels whats signal = level_after signal (levels signal) whats
 
--- what is told of a state
-abbrev pub told_in : ℕ → List Event → List What
-told_in t told = map (λ e. e.what) (filter (λ e. e.at == t) told)
+-- what is known of a state
+abbrev pub reported_in : ℕ → List Event → List What
+reported_in t reported = map (λ e. e.what) (filter (λ e. e.at == t) reported)
 
 -- so many states from one on, where the life began in this state of the run: the levels are those at the end of the state before
 unfoldable pub states_from : Drives → ℕ → List Event → ℕ → ℕ → (Signal → Level) → List State
-states_from d base told zero t levels = []
-states_from d base told (suc more) t levels =
-    let whats = input_edges d levels (base + t) ++ told_in t told in
-    record { at = t; whats = whats } ∷ states_from d base told more (t + 1) (levels_after levels whats)
+states_from d base reported zero t levels = []
+states_from d base reported (suc more) t levels =
+    let whats = input_edges d levels (base + t) ++ reported_in t reported in
+    record { at = t; whats = whats } ∷ states_from d base reported more (t + 1) (levels_after levels whats)
 
 -- a life of so many states; one of none is no life
 abbrev pub life_of : Drives → ℕ → List Event → ℕ → List Life
-life_of d base told zero = []
-life_of d base told (suc last) = record {
+life_of d base reported zero = []
+life_of d base reported (suc last) = record {
   start = start_levels d base;
-  events = events_of (states_from d base told (suc last) 0 (start_levels d base));
+  events = events_of (states_from d base reported (suc last) 0 (start_levels d base));
   last = last;
 } ∷ []
 
--- ---- what lines tell
+-- ---- what lines report
 
 abbrev pub event_of : Record → List Event
 event_of (Pin at edge) = record { at = at; what = Edge (Output edge.pin) edge.level } ∷ []
@@ -105,13 +105,13 @@ count_at at (suc how) = at + 1
 abbrev pub restart_event : ℕ → Bool → Event
 restart_event at by_watchdog = record { at = at; what = if by_watchdog then Watchdog else Reset }
 
--- the lives of lines, where the first began in this state of the run, and this was told of it before
+-- the lives of lines, where the first began in this state of the run, and this was known of it before
 unfoldable pub lives_with : Drives → ℕ → List Event → List Line → List Life
-lives_with d base told [] = []
-lives_with d base told (Printed (Stopped at how) ∷ lines) = life_of d base (told ++ end_event at how) (count_at at how)
-lives_with d base told (Printed item ∷ lines) = lives_with d base (told ++ event_of item) lines
-lives_with d base told (Restarted at by_watchdog ∷ lines) =
-    life_of d base (told ++ restart_event at by_watchdog ∷ []) (at + 1) ++ lives_with d (base + at + 1) [] lines
+lives_with d base reported [] = []
+lives_with d base reported (Printed (Stopped at how) ∷ lines) = life_of d base (reported ++ end_event at how) (count_at at how)
+lives_with d base reported (Printed item ∷ lines) = lives_with d base (reported ++ event_of item) lines
+lives_with d base reported (Restarted at by_watchdog ∷ lines) =
+    life_of d base (reported ++ restart_event at by_watchdog ∷ []) (at + 1) ++ lives_with d (base + at + 1) [] lines
 
 -- the lives of a trace
 abbrev pub lives_of : Drives → List Line → List Life

@@ -4,7 +4,7 @@ use Rattle.kc_base.specs.declared.types.Level.{Level}
 use Rattle.kc_base.specs.declared.types.Level.TheVariants.{Low}
 use Rattle.kc_life.specs.declared.life.Signal.TheVariants.{Output}
 use Rattle.kc_life.specs.declared.levels.Levels.{Levels}
-use Rattle.kc_base.specs.Pins.{is_printed as is_output}
+use Rattle.kc_base.specs.Pins.{is_printed}
 use Rattle.kc_life.specs.Tables.{level_in}
 use Rattle.kc_events.specs.declared.reader.Stage.{Stage}
 use Rattle.kc_events.specs.declared.reader.Stage.TheVariants.{Over}
@@ -19,7 +19,7 @@ pub record Kept : Type 0 where
 
 -- the levels of the printed pins; others have none
 abbrev pub printed_levels : Levels → ℕ → Level
-printed_levels levels pin = if is_output pin then level_in levels (Output (record { 0 = pin })) else Low
+printed_levels levels pin = if is_printed pin then level_in levels (Output (record { 0 = pin })) else Low
 
 abbrev pub place_in : Kept → Place
 place_in kept = record { base = kept.base; past = kept.past; levels = printed_levels kept.levels; stage = kept.stage }

@@ -11,7 +11,7 @@ use Rattle.kc_events.specs.Lines.{line_text}
 use Rattle.kc_events.specs.Grammar.{Place, MayFollow, after_line, is_over}
 use Rattle.kc_events.specs.Printed.{Kept, place_in}
 
--- Where the next line stands, what is left of the text, where the source tells it, how many lines were asked for, up to the last
+-- Where the next line stands, what is left of the text, where the source reports it, how many lines were asked for, up to the last
 -- number of 64 bits, and how often the source has failed.
 pub record Reading : Type 0 where
   pub reader : Kept

@@ -10,7 +10,7 @@ use Rattle.kc_stim.specs.Drives.{Drives}
 use Rattle.kc_trace.specs.declared.record.Record.TheVariants.{Stopped}
 use Rattle.kc_events.specs.declared.line.Line.{Line}
 use Rattle.kc_events.specs.declared.line.Line.TheVariants.{Printed, Restarted}
-use Rattle.kc_events.specs.Lives.{start_levels, levels_after, told_in, states_from, event_of, end_event, count_at, restart_event}
+use Rattle.kc_events.specs.Lives.{start_levels, states_from, event_of, end_event, count_at, restart_event}
 
 pub data Seen : Type 0 where
   -- a life begins, with these levels before state 0
@@ -20,7 +20,7 @@ pub data Seen : Type 0 where
   -- the life ends behind this state
   Ends : ℕ → Seen
 
-abbrev is_still : List What → Bool
+abbrev pub is_still : List What → Bool
 is_still [] = true
 is_still (w ∷ whats) = false
 
@@ -30,16 +30,16 @@ passes states = map Passes (filter (λ s. not (is_still s.whats)) states)
 
 -- a life of so many states; one of none begins, and has no last state
 abbrev pub seen_of : Drives → ℕ → List Event → ℕ → List Seen
-seen_of d base told zero = Begins (start_levels d base) ∷ []
-seen_of d base told (suc last) = Begins (start_levels d base) ∷ passes (states_from d base told (suc last) 0 (start_levels d base)) ++ Ends last ∷ []
+seen_of d base reported zero = Begins (start_levels d base) ∷ []
+seen_of d base reported (suc last) = Begins (start_levels d base) ∷ passes (states_from d base reported (suc last) 0 (start_levels d base)) ++ Ends last ∷ []
 
--- the steps of lines, where the first life began in this state of the run, and this was told of it before
+-- the steps of lines, where the first life began in this state of the run, and this was known of it before
 unfoldable pub steps_with : Drives → ℕ → List Event → List Line → List Seen
-steps_with d base told [] = []
-steps_with d base told (Printed (Stopped at how) ∷ lines) = seen_of d base (told ++ end_event at how) (count_at at how)
-steps_with d base told (Printed item ∷ lines) = steps_with d base (told ++ event_of item) lines
-steps_with d base told (Restarted at by_watchdog ∷ lines) =
-    seen_of d base (told ++ restart_event at by_watchdog ∷ []) (at + 1) ++ steps_with d (base + at + 1) [] lines
+steps_with d base reported [] = []
+steps_with d base reported (Printed (Stopped at how) ∷ lines) = seen_of d base (reported ++ end_event at how) (count_at at how)
+steps_with d base reported (Printed item ∷ lines) = steps_with d base (reported ++ event_of item) lines
+steps_with d base reported (Restarted at by_watchdog ∷ lines) =
+    seen_of d base (reported ++ restart_event at by_watchdog ∷ []) (at + 1) ++ steps_with d (base + at + 1) [] lines
 
 abbrev pub steps_of : Drives → List Line → List Seen
 steps_of d lines = steps_with d 0 [] lines

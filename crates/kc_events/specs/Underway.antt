@@ -12,15 +12,14 @@ use Rattle.kc_events.specs.declared.course.Step.{Step}
 use Rattle.kc_events.specs.declared.course.Step.TheVariants as step
 use Rattle.kc_events.specs.declared.course.Known.{Known}
 use Rattle.kc_events.specs.declared.course.Known.TheVariants.{Living, Ending, Ended}
-use Rattle.kc_events.specs.Lines.{IsSoundLine}
 use Rattle.kc_events.specs.Steps.{Seen, Begins, Passes, Ends}
-use Rattle.kc_events.specs.Coming.{Present, Running, GoesOn, IsStillIn, steps_to_come, MayBeNext}
+use Rattle.kc_events.specs.Coming.{Present, Running, GoesOn, steps_to_come, MayBeNext}
 
 -- the present state of a run, what happened in the state that passed last, and what is known, with the levels in a table
 pub record Underway : Type 0 where
   pub drives : Drives
   pub base : ℕ
-  pub now : ℕ
+  pub time : ℕ
   pub levels : Levels
   pub whats : List What
   pub has_begun : Bool
@@ -29,14 +28,14 @@ pub record Underway : Type 0 where
   pub known : Known
 
 abbrev pub present_in : Underway → Present
-present_in u = record { drives = u.drives; base = u.base; now = u.now; levels = level_in u.levels; whats = u.whats; has_begun = u.has_begun }
+present_in u = record { drives = u.drives; base = u.base; now = u.time; levels = level_in u.levels; whats = u.whats; has_begun = u.has_begun }
 
 abbrev pub running_in : Underway → Running
 running_in u = record { present = present_in u; passed = u.passed; ahead = u.ahead; known = u.known }
 
 -- the state that has passed last
 abbrev pub state_passed : Underway → State
-state_passed u = record { at = u.now - 1; whats = u.passed }
+state_passed u = record { at = u.time - 1; whats = u.passed }
 
 -- the step that is given, with what has happened
 abbrev pub seen_by : Step → Underway → Seen
@@ -46,13 +45,13 @@ seen_by (step.Ends at) u = Ends at
 
 -- ---- when a line is fed
 
--- no step is left that the lines so far tell
+-- no step is left that the lines so far report
 abbrev pub needs_line : Option Event → Known → Bool
 needs_line None Living = true
 needs_line None Ended = true
 needs_line _ _ = false
 
--- the state of the run in which the life began, of which the next line tells
+-- the state of the run in which the life began, of which the next line reports
 abbrev pub base_ahead : ℕ → Known → ℕ
 base_ahead base (Ending count true) = base + count
 base_ahead base _ = base
@@ -62,7 +61,7 @@ abbrev pub base_behind : ℕ → Line → ℕ
 base_behind base (Printed item) = base
 base_behind base (Restarted at by_watchdog) = base + at + 1
 
--- another line may tell of a life
+-- another line may report of a life
 abbrev pub IsOpen : Known → Type 0
 IsOpen Living = Unit {0}
 IsOpen (Ending count true) = Unit {0}
@@ -75,23 +74,23 @@ IsEarly base _ _ = Unit {0}
 
 -- ---- what a step does
 
--- a step is told, and the others are to come
+-- a step is reported, and the others are to come
 pub record Gives (old : Underway) (step : Step) (new : Underway) : Type 0 where
   pub steps : (lines : List Line) → MayBeNext (running_in old) lines → steps_to_come (running_in old) lines ≡ seen_by step new ∷ steps_to_come (running_in new) lines
   pub next : (lines : List Line) → MayBeNext (running_in old) lines → MayBeNext (running_in new) lines
 
--- no step is told
-pub record TellsNone (old new : Underway) : Type 0 where
+-- no step is reported
+pub record ReportsNone (old new : Underway) : Type 0 where
   pub steps : (lines : List Line) → MayBeNext (running_in old) lines → steps_to_come (running_in old) lines ≡ steps_to_come (running_in new) lines
   pub next : (lines : List Line) → MayBeNext (running_in old) lines → MayBeNext (running_in new) lines
 
 abbrev pub Stepped : Underway → Option Step → Underway → Type 0
-Stepped old None new = TellsNone old new
+Stepped old None new = ReportsNone old new
 Stepped old (Some step) new = Gives old step new
 
 -- ---- what stays
 
--- the next line tells of the same life
+-- the next line reports of the same life
 abbrev pub KeepsBase : Underway → Underway → Type 0
 KeepsBase old new = IsOpen new.known → IsOpen old.known × (base_ahead new.base new.known ≡ base_ahead old.base old.known)
 
@@ -113,15 +112,14 @@ IsEarlyEnd base (Ending count true) = base + count ≤ 10 ^ 15 + 1
 IsEarlyEnd base (Ending count false) = count ≤ 10 ^ 15 + 1
 IsEarlyEnd base _ = Unit {0}
 
--- an event that is told is one of a life that goes on
+-- an event that is reported is one of a life that goes on
 abbrev pub GoesIfAhead : Option Event → Known → Type 0
 GoesIfAhead None known = Unit {0}
 GoesIfAhead (Some e) known = GoesOn known
 
 pub record IsSteady (u : Underway) : Type 0 where
   pub base : u.base ≤ 10 ^ 15 + 1
-  pub now : u.now ≤ 10 ^ 15 + 1
+  pub time : u.time ≤ 10 ^ 15 + 1
   pub event : IsEarlyEvent u.ahead
   pub end : IsEarlyEnd u.base u.known
   pub goes : GoesIfAhead u.ahead u.known
-  pub still : IsStillIn (present_in u)

@@ -6,7 +6,7 @@ ghost use Rattle.kc_events.specs.declared.line.Line.{Line};
 ghost use Rattle.kc_events.specs.Sound.{IsSound};
 ghost use Rattle.kc_events.specs.Lines.{IsSoundLine};
 ghost use Rattle.kc_events.specs.Lives.{event_of as events_by, end_event as end_by, restart_event as restart_by, count_at};
-ghost use Rattle.kc_events.specs.Coming.{events_ahead, start_of, steps_to_come, rest_at, others_of, behind, AreDueIf, MayCome, MayBeNext, GoesOn, HasSameRest, HasPassed, IsFed};
+ghost use Rattle.kc_events.specs.Coming.{events_ahead, start_of, steps_to_come, rest_at, others_of, behind, AreDueIf, MayCome, MayBeNext, IsStillIn, GoesOn, HasSameRest, HasPassed, IsFed};
 ghost use Rattle.kc_events.specs.Underway.{present_in, running_in, state_passed, needs_line as wants, base_ahead, base_behind, IsOpen, IsEarly, IsEarlyEvent, IsEarlyEnd, Stepped, KeepsBase, IsSameLife};
 
 use crate::inputs::{put_edges, start_levels};
@@ -25,7 +25,7 @@ pub enum Step {
     Begins,
     /// The state of this number has passed, in which something has happened.
     Passes(StateTime),
-    /// The life has ended behind the state of this number. One without a state does not tell it.
+    /// The life has ended behind the state of this number. One without a state does not report it.
     Ends(StateTime),
 }
 
@@ -35,10 +35,7 @@ pub enum Known {
     /// Nothing: it goes on.
     Living,
     /// It has so many states, and another one follows, or none.
-    Ending {
-        count: StateTime,
-        is_followed: bool,
-    },
+    Ending { count: StateTime, is_followed: bool },
     /// It has ended, and the run with it.
     Ended,
 }
@@ -49,7 +46,7 @@ pub enum Known {
 pub struct Course {
     stimuli: Stimuli,
     base: StateTime,
-    now: StateTime,
+    time: StateTime,
     levels: Levels,
     whats: Vec<What>,
     has_begun: bool,
@@ -64,27 +61,27 @@ impl Model for Course {
     ghost Value = { Underway };
 
     ghost view = { λ c. record {
-        drives = c.stimuli;
-        base = c.base;
-        now = c.now;
-        levels = c.levels;
-        whats = c.whats.items;
-        has_begun = c.has_begun;
-        passed = c.passed.items;
-        ahead = c.ahead;
-        known = c.known
+      drives = c.stimuli;
+      base = c.base;
+      time = c.time;
+      levels = c.levels;
+      whats = c.whats.items;
+      has_begun = c.has_begun;
+      passed = c.passed.items;
+      ahead = c.ahead;
+      known = c.known;
     } };
 
     ghost invariant = { λ c. IsSteady (record {
-        drives = c.stimuli;
-        base = c.base;
-        now = c.now;
-        levels = c.levels;
-        whats = c.whats.items;
-        has_begun = c.has_begun;
-        passed = c.passed.items;
-        ahead = c.ahead;
-        known = c.known
+      drives = c.stimuli;
+      base = c.base;
+      time = c.time;
+      levels = c.levels;
+      whats = c.whats.items;
+      has_begun = c.has_begun;
+      passed = c.passed.items;
+      ahead = c.ahead;
+      known = c.known;
     }) };
 }
 
@@ -94,9 +91,9 @@ fn event(at: StateTime, what: What) -> Option<Event>
     Some(Event { at, what })
 }
 
-// What a record that is no end tells.
+// What a record that is no end reports.
 fn event_of(item: &Record) -> Option<Event>
-    ensures told { events_ahead result ≡ events_by item.now }
+    ensures reported { events_ahead result ≡ events_by item.now }
     ensures early { IsSound item.now → IsEarlyEvent result }
 {
     match item {
@@ -110,7 +107,7 @@ fn event_of(item: &Record) -> Option<Event>
 
 // What ends a run, where that is no undefined use, which has a line of its own.
 fn end_event(at: StateTime, how: u8) -> Option<Event>
-    ensures told { events_ahead result ≡ end_by at how }
+    ensures reported { events_ahead result ≡ end_by at how }
     ensures early { at ≤ 10 ^ 15 → IsEarlyEvent result }
 {
     match how {
@@ -140,7 +137,7 @@ fn count_of(at: StateTime, how: u8) -> StateTime
     if how == 0 { at } else { at + 1 }
 }
 
-// What a record tells, and what is known of the end then.
+// What a record reports, and what is known of the end then.
 fn record_news(item: &Record) -> (Option<Event>, Known)
     requires { IsSound item.now }
     ensures fed { IsFed (Line.Printed item.now) result.0 result.1 }
@@ -161,7 +158,7 @@ fn record_news(item: &Record) -> (Option<Event>, Known)
     }
 }
 
-// What a line tells, and what is known of the end then.
+// What a line reports, and what is known of the end then.
 fn news(line: &Line) -> (Option<Event>, Known)
     requires { IsSoundLine line.now }
     ensures fed { IsFed line.now result.0 result.1 }
@@ -183,12 +180,7 @@ fn news(line: &Line) -> (Option<Event>, Known)
 }
 
 // The first state of a life behind this one in which the stimuli move an input, up to a state.
-fn next_state(
-    stimuli: &Stimuli,
-    base: StateTime,
-    now: StateTime,
-    at: StateTime,
-) -> StateTime
+fn next_state(stimuli: &Stimuli, base: StateTime, now: StateTime, at: StateTime) -> StateTime
     requires order { now < at }
     requires base { base ≤ 10 ^ 15 + 1 }
     requires at { at ≤ 10 ^ 15 + 1 }
@@ -208,6 +200,7 @@ impl Course {
         ensures present { IfOk result (λ c. present_in c ≡ start_of stimuli 0) }
         ensures ahead { IfOk result (λ c. c.ahead ≡ None) }
         ensures known { IfOk result (λ c. c.known ≡ Known.Living) }
+        ensures still { IfOk result (λ c. IsStillIn (present_in c)) }
     {
         let levels = start_levels(&stimuli, 0);
         let mut whats = Vec::new(alloc);
@@ -215,7 +208,7 @@ impl Course {
         Ok(Course {
             stimuli,
             base: 0,
-            now: 0,
+            time: 0,
             levels,
             whats,
             has_begun: false,
@@ -225,7 +218,7 @@ impl Course {
         })
     }
 
-    /// Whether no step is left that the lines so far tell, so that the next line is needed.
+    /// Whether no step is left that the lines so far report, so that the next line is needed.
     pub fn needs_line(&self) -> bool
         ensures { result ≡ wants self.now.ahead self.now.known }
     {
@@ -245,6 +238,7 @@ impl Course {
         ensures next { (lines : List Line) → MayBeNext (running_in self.old) (line.now ∷ lines) → MayBeNext (running_in self.new) lines }
         ensures base { IsOpen self.new.known → base_ahead self.new.base self.new.known ≡ base_behind self.old.base line.now }
         ensures lives { IsOpen self.new.known → self.old.known ≡ Known.Living }
+        ensures present { present_in self.new ≡ present_in self.old }
     {
         if let Known::Ended = self.known {
             return;
@@ -254,17 +248,17 @@ impl Course {
         self.known = known;
     }
 
-    /// The next step that the lines so far tell; none, where the next line is needed. After a want of memory nothing is known.
+    /// The next step that the lines so far report; none, where the next line is needed. Once memory has run out nothing is known.
     pub fn next_step(&mut self) -> Result<Option<Step>, NoMemory>
+        requires { IsStillIn (present_in self.old) }
         ensures stepped { IfOk result (λ next. Stepped self.old next self.new) }
         ensures needs { result ≡ Ok None → wants self.new.ahead self.new.known ≡ true }
         ensures base { OnOk result (KeepsBase self.old self.new) }
+        ensures still { OnOk result (IsStillIn (present_in self.new)) }
     {
-        if let Some(event) = self.ahead {
-            let step = self.step_to(event)?;
-            if step.is_some() {
-                return Ok(step);
-            }
+        let step = self.step_ahead()?;
+        if step.is_some() {
+            return Ok(step);
         }
         match self.known {
             Known::Ending { count, is_followed } => self.finish(count, is_followed),
@@ -272,20 +266,37 @@ impl Course {
         }
     }
 
-    // The next step on the way to an event that is told; none, where the event has happened.
-    fn step_to(&mut self, event: Event) -> Result<Option<Step>, NoMemory>
-        requires { self.old.ahead ≡ Some event }
+    // The next step on the way to the event that is reported; none, where it has happened, or none is reported.
+    fn step_ahead(&mut self) -> Result<Option<Step>, NoMemory>
+        requires { IsStillIn (present_in self.old) }
         ensures stepped { IfOk result (λ next. Stepped self.old next self.new) }
         ensures happened { result ≡ Ok None → self.new.ahead ≡ None }
         ensures known { OnOk result (self.new.known ≡ self.old.known) }
         ensures base { OnOk result (self.new.base ≡ self.old.base) }
+        ensures still { OnOk result (IsStillIn (present_in self.new)) }
+    {
+        match self.ahead {
+            Some(event) => self.step_to(event),
+            None => Ok(None),
+        }
+    }
+
+    // The next step on the way to an event that is reported; none, where the event has happened.
+    fn step_to(&mut self, event: Event) -> Result<Option<Step>, NoMemory>
+        requires ahead { self.old.ahead ≡ Some event }
+        requires still { IsStillIn (present_in self.old) }
+        ensures stepped { IfOk result (λ next. Stepped self.old next self.new) }
+        ensures happened { result ≡ Ok None → self.new.ahead ≡ None }
+        ensures known { OnOk result (self.new.known ≡ self.old.known) }
+        ensures base { OnOk result (self.new.base ≡ self.old.base) }
+        ensures still { OnOk result (IsStillIn (present_in self.new)) }
     {
         if !self.has_begun {
             self.has_begun = true;
             return Ok(Some(Step::Begins));
         }
         if self.reach(event.at)? {
-            return Ok(Some(Step::Passes(self.now - 1)));
+            return Ok(Some(Step::Passes(self.time - 1)));
         }
         self.whats.push(event.what)?;
         self.ahead = None;
@@ -296,16 +307,18 @@ impl Course {
     fn finish(&mut self, count: StateTime, is_followed: bool) -> Result<Option<Step>, NoMemory>
         requires known { self.old.known ≡ Known.Ending count is_followed }
         requires ahead { self.old.ahead ≡ None }
+        requires still { IsStillIn (present_in self.old) }
         ensures stepped { IfOk result (λ next. Stepped self.old next self.new) }
         ensures needs { result ≡ Ok None → wants self.new.ahead self.new.known ≡ true }
         ensures base { OnOk result (KeepsBase self.old self.new) }
+        ensures still { OnOk result (IsStillIn (present_in self.new)) }
     {
         if !self.has_begun {
             self.has_begun = true;
             return Ok(Some(Step::Begins));
         }
         if self.reach(count)? {
-            return Ok(Some(Step::Passes(self.now - 1)));
+            return Ok(Some(Step::Passes(self.time - 1)));
         }
         self.end(count, is_followed)?;
         if count == 0 {
@@ -317,16 +330,18 @@ impl Course {
 
     // Goes on to a state, or behind the first one before it in which something happens: whether there is one.
     fn reach(&mut self, at: StateTime) -> Result<bool, NoMemory>
-        requires order { self.old.now ≤ at }
         requires early { at ≤ 10 ^ 15 + 1 }
         requires begun { self.old.has_begun ≡ true }
+        requires still { IsStillIn (present_in self.old) }
         ensures passed { result ≡ Ok true → HasPassed at (present_in self.old) (state_passed self.new) (present_in self.new) }
-        ensures within { result ≡ Ok true → self.new.now ≤ at }
+        ensures within { result ≡ Ok true → self.new.time ≤ at }
+        ensures some { result ≡ Ok true → 0 < self.new.time }
         ensures reached { result ≡ Ok false → HasSameRest at (present_in self.old) (present_in self.new) }
-        ensures there { result ≡ Ok false → self.new.now ≡ at }
+        ensures there { result ≡ Ok false → self.old.time ≤ at → self.new.time ≡ at }
         ensures kept { OnOk result (IsSameLife self.old self.new) }
+        ensures still { OnOk result (IsStillIn (present_in self.new)) }
     {
-        while self.now < at {
+        while self.time < at {
             if !self.whats.is_empty() {
                 self.pass()?;
                 return Ok(true);
@@ -338,40 +353,43 @@ impl Course {
 
     // Goes behind the present state.
     fn pass(&mut self) -> Result<(), NoMemory>
-        requires early { self.old.now ≤ 10 ^ 15 }
+        requires early { self.old.time ≤ 10 ^ 15 }
         ensures present { OnOk result (present_in self.new ≡ behind (present_in self.old)) }
         ensures passed { OnOk result (self.new.passed ≡ self.old.whats) }
         ensures kept { OnOk result (IsSameLife self.old self.new) }
+        ensures still { OnOk result (IsStillIn (present_in self.new)) }
     {
         self.levels.take_all(self.whats.as_slice());
         std::mem::swap(&mut self.passed, &mut self.whats);
         self.whats.clear();
-        self.now += 1;
+        self.time += 1;
         put_edges(
             &mut self.whats,
             &self.stimuli,
             &self.levels,
-            self.base + self.now,
+            self.base + self.time,
         )
     }
 
     // Goes on to a state, or to the first one before it in which the stimuli move an input.
     fn skip(&mut self, at: StateTime) -> Result<(), NoMemory>
-        requires order { self.old.now < at }
+        requires order { self.old.time < at }
         requires early { at ≤ 10 ^ 15 + 1 }
         requires still { self.old.whats ≡ [] }
         requires begun { self.old.has_begun ≡ true }
+        requires quiet { IsStillIn (present_in self.old) }
         ensures same { OnOk result (HasSameRest at (present_in self.old) (present_in self.new)) }
-        ensures goes { OnOk result (self.old.now < self.new.now) }
-        ensures within { OnOk result (self.new.now ≤ at) }
+        ensures goes { OnOk result (self.old.time < self.new.time) }
+        ensures within { OnOk result (self.new.time ≤ at) }
         ensures kept { OnOk result (IsSameLife self.old self.new) }
+        ensures still { OnOk result (IsStillIn (present_in self.new)) }
     {
-        self.now = next_state(&self.stimuli, self.base, self.now, at);
+        self.time = next_state(&self.stimuli, self.base, self.time, at);
         put_edges(
             &mut self.whats,
             &self.stimuli,
             &self.levels,
-            self.base + self.now,
+            self.base + self.time,
         )
     }
 
@@ -379,10 +397,12 @@ impl Course {
     fn end(&mut self, count: StateTime, is_followed: bool) -> Result<(), NoMemory>
         requires known { self.old.known ≡ Known.Ending count is_followed }
         requires ahead { self.old.ahead ≡ None }
+        requires still { IsStillIn (present_in self.old) }
         ensures rest { OnOk result ((lines : List Line) → rest_at (present_in self.new) [] self.new.known lines ≡ others_of is_followed self.old.drives (self.old.base + count) lines) }
-        ensures coming { OnOk result ((lines : List Line) → AreDueIf is_followed lines → MayCome self.new.now self.new.known lines) }
+        ensures coming { OnOk result ((lines : List Line) → AreDueIf is_followed lines → MayCome self.new.time self.new.known lines) }
         ensures needs { OnOk result (wants self.new.ahead self.new.known ≡ true) }
         ensures base { OnOk result (KeepsBase self.old self.new) }
+        ensures still { OnOk result (IsStillIn (present_in self.new)) }
         ensures ahead { self.new.ahead ≡ None }
     {
         if !is_followed {
@@ -391,16 +411,11 @@ impl Course {
         }
         self.known = Known::Living;
         self.base += count;
-        self.now = 0;
+        self.time = 0;
         self.has_begun = false;
         self.levels = start_levels(&self.stimuli, self.base);
         self.whats.clear();
-        put_edges(
-            &mut self.whats,
-            &self.stimuli,
-            &self.levels,
-            self.base,
-        )
+        put_edges(&mut self.whats, &self.stimuli, &self.levels, self.base)
     }
 
     /// What has happened in the state that has passed last.

@@ -37,12 +37,7 @@ fn input_levels(stimuli: &Stimuli, levels: &Levels, pin: Pin, at: StateTime) -> 
 }
 
 // Puts the edge of an input between two levels, where they differ.
-fn put_between(
-    whats: &mut Vec<What>,
-    pin: Pin,
-    before: Level,
-    level: Level,
-) -> Result<(), NoMemory>
+fn put_between(whats: &mut Vec<What>, pin: Pin, before: Level, level: Level) -> Result<(), NoMemory>
     ensures { OnOk result (whats.new.items ≡ whats.old.items ++ edge_between pin.0 before level) }
 {
     if !is_same(before, level) {

@@ -14,7 +14,7 @@ mod reader;
 mod trace;
 
 pub use course::{Course, Known, Step};
-pub use laws::{one_trace, traces_are_read};
+pub use laws::{lives_are_lives, one_reading, one_trace, steps_make_lives, traces_are_read};
 pub use line::Line;
 pub use lives::{Lives, LivesFault};
 pub use reader::{Reader, Stage};

@@ -2,7 +2,7 @@
 ghost use Rattle.std.specs.Prelude.{◌≡◌, ◌≢◌, ◌≤◌, List, true, false, None, Some, Ok, Err, IfOk, IfErr, IfSome};
 ghost use Rattle.kc_events.specs.Steps.{Seen};
 ghost use Rattle.kc_events.specs.Underway.{needs_line};
-ghost use Rattle.kc_events.specs.Telling.{AreToCome, AreStepsOf, IsAnswer, MayGoOn, HasRead, IsInStep, telling};
+ghost use Rattle.kc_events.specs.Reporting.{AreToCome, AreStepsOf, IsAnswer, MayGoOn, HasRead, IsInStep, reporting};
 
 use crate::course::{Course, Step};
 use crate::trace::{Trace, TraceFault};
@@ -14,7 +14,7 @@ use std::alloc::Global;
 use std::marker::Model;
 use thiserror::Error;
 
-/// Why no step is told.
+/// Why no step is reported.
 #[derive(Clone, Copy, Debug, PartialEq, Eq, Error)]
 pub enum LivesFault {
     /// The line of this number, counted from 1, is the first that no board prints there; or it is lacking.
@@ -31,12 +31,12 @@ fn take_line<S: Source + Drop>(
     trace: &mut Trace<S>,
     course: &mut Course,
 ) -> Result<bool, LivesFault>
-    requires in_step { IsInStep (telling trace.old course.old) }
+    requires in_step { IsInStep (reporting trace.old course.old) }
     requires needs { needs_line course.old.ahead course.old.known ≡ true }
-    ensures fed { result ≡ Ok true → HasRead (telling trace.old course.old) (telling trace.new course.new) × IsInStep (telling trace.new course.new) }
-    ensures over { result ≡ Ok false → IsAnswer (telling trace.old course.old) (Ok None) (telling trace.new course.new) × IsInStep (telling trace.new course.new) }
-    ensures fault { IfErr result (λ fault. IsAnswer (telling trace.old course.old) (Err fault) (telling trace.new course.new)) }
-    ensures failed { result ≡ Err LivesFault.Failed → IsInStep (telling trace.new course.new) }
+    ensures fed { result ≡ Ok true → HasRead (reporting trace.old course.old) (reporting trace.new course.new) × IsInStep (reporting trace.new course.new) }
+    ensures over { result ≡ Ok false → IsAnswer (reporting trace.old course.old) (Ok None) (reporting trace.new course.new) × IsInStep (reporting trace.new course.new) }
+    ensures fault { IfErr result (λ fault. IsAnswer (reporting trace.old course.old) (Err fault) (reporting trace.new course.new)) }
+    ensures failed { result ≡ Err LivesFault.Failed → IsInStep (reporting trace.new course.new) }
     ensures calm { result ≢ Err LivesFault.Failed → trace.new.faults ≡ trace.old.faults }
     ensures later { trace.old.faults ≤ trace.new.faults }
 {
@@ -52,13 +52,13 @@ fn take_line<S: Source + Drop>(
 }
 
 // The next step of a run whose trace is read.
-fn next_told<S: Source + Drop>(
+fn next_reported<S: Source + Drop>(
     trace: &mut Trace<S>,
     course: &mut Course,
 ) -> Result<Option<Step>, LivesFault>
-    requires { IsInStep (telling trace.old course.old) }
-    ensures answer { IsAnswer (telling trace.old course.old) result (telling trace.new course.new) }
-    ensures in_step { MayGoOn result → IsInStep (telling trace.new course.new) }
+    requires { IsInStep (reporting trace.old course.old) }
+    ensures answer { IsAnswer (reporting trace.old course.old) result (reporting trace.new course.new) }
+    ensures in_step { MayGoOn result → IsInStep (reporting trace.new course.new) }
     ensures calm { result ≢ Err LivesFault.Failed → trace.new.faults ≡ trace.old.faults }
     ensures later { trace.old.faults ≤ trace.new.faults }
 {
@@ -85,17 +85,17 @@ pub struct Lives<S: Source> {
 }
 
 impl<S: Source> Model for Lives<S> {
-    ghost use Rattle.kc_events.specs.Telling.{Telling, IsTold};
+    ghost use Rattle.kc_events.specs.Reporting.{Reporting, IsReported};
 
-    ghost Value = { Telling };
+    ghost Value = { Reporting };
 
     ghost view = { λ l. record { trace = l.trace; course = l.course; stopped = l.stopped } };
 
-    ghost invariant = { λ l. IsTold (record { trace = l.trace; course = l.course; stopped = l.stopped }) };
+    ghost invariant = { λ l. IsReported (record { trace = l.trace; course = l.course; stopped = l.stopped }) };
 }
 
 impl<S: Source + Drop> Lives<S> {
-    /// The lives of the run whose trace a source gives, and whose inputs these stimuli drive, of which no step is told.
+    /// The lives of the run whose trace a source gives, and whose inputs these stimuli drive, of which no step is reported.
     pub fn new(alloc: Global, source: S, stimuli: Stimuli) -> Result<Self, NoMemory>
         ensures steps { IfOk result (λ lives. (steps : List Seen) → AreToCome lives steps → AreStepsOf stimuli (S.to_come source) steps) }
         ensures count { IfOk result (λ lives. lives.trace.count ≡ 0) }
@@ -109,7 +109,7 @@ impl<S: Source + Drop> Lives<S> {
         })
     }
 
-    /// The next step; none where the run has ended. After a line that no board prints, and after a want of memory, it answers the
+    /// The next step; none where the run has ended. After a line that no board prints, and once memory has run out, it answers the
     /// same again; after a read that has failed, the next call goes on where it has stopped.
     pub fn next_step(&mut self) -> Result<Option<Step>, LivesFault>
         ensures answer { self.old.stopped ≡ None → IsAnswer self.old result self.new }
@@ -120,7 +120,7 @@ impl<S: Source + Drop> Lives<S> {
         if let Some(fault) = self.stopped {
             return Err(fault);
         }
-        match next_told(&mut self.trace, &mut self.course) {
+        match next_reported(&mut self.trace, &mut self.course) {
             Ok(next) => Ok(next),
             Err(LivesFault::Failed) => Err(LivesFault::Failed),
             Err(fault) => {
@@ -132,7 +132,7 @@ impl<S: Source + Drop> Lives<S> {
 
     /// The source, given back, with as many faults as its trace has counted.
     pub fn into_source(self) -> S
-        ensures { S.faults result ≡ self.entry.trace.faults }
+        ensures { S.faults result ≡ self.trace.faults }
     {
         let Lives { trace, .. } = self;
         trace.into_source()

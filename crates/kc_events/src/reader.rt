@@ -1,6 +1,6 @@
 // The lines of a trace, one behind the other.
 ghost use Rattle.std.specs.Prelude.{◌≡◌, ◌≢◌, ◌+◌, ◌≤◌, ◌^◌, ◌&&◌, not, true, None, IfSome};
-ghost use Rattle.kc_base.specs.Pins.{is_printed as is_output};
+ghost use Rattle.kc_base.specs.Pins.{is_printed};
 ghost use Rattle.kc_events.specs.Printed.{is_short, place_in};
 ghost use Rattle.kc_events.specs.Sound.{IsSound};
 ghost use Rattle.kc_events.specs.Lines.{IsSoundLine, line_text};
@@ -104,7 +104,7 @@ impl Reader {
 
     // Whether an edge moves a printed pin.
     fn moves(&self, edge: Edge) -> bool
-        ensures { result ≡ (is_output edge.pin.0 && not (same_level edge.level ((place_in self.now).levels edge.pin.0))) }
+        ensures { result ≡ (is_printed edge.pin.0 && not (same_level edge.level ((place_in self.now).levels edge.pin.0))) }
     {
         let signal = Signal::Output(edge.pin);
         signal.is_known() && !is_same(edge.level, self.levels.level(signal))

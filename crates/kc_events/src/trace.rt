@@ -110,7 +110,7 @@ impl<S: Source + Drop> Trace<S> {
 
     /// The source, given back, with as many faults as this trace has counted.
     pub fn into_source(self) -> S
-        ensures { S.faults result ≡ self.entry.faults }
+        ensures { S.faults result ≡ self.faults }
     {
         let Trace { lines, .. } = self;
         lines.into_source()

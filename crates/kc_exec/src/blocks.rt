@@ -148,7 +148,15 @@ pub fn move_word<B: Bus>(
 pub fn word_states(words: &Words) -> u8
     ensures { result ≡ word_states_of words.now }
 {
-    let source = if words.source >= REGISTER_FILE_END { 3 } else { 0 };
-    let target = if words.target >= REGISTER_FILE_END { 3 } else { 0 };
+    let source = if words.source >= REGISTER_FILE_END {
+        3
+    } else {
+        0
+    };
+    let target = if words.target >= REGISTER_FILE_END {
+        3
+    } else {
+        0
+    };
     8 + source + target
 }

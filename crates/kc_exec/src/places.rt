@@ -139,7 +139,8 @@ pub fn is_popping(plan: Plan) -> bool
 fn is_stack_outside(plan: Plan, sp: u16) -> bool
     ensures { result ≡ stack_outside plan sp }
 {
-    (is_pushing(plan) && sp.wrapping_sub(2) >= REGISTER_FILE_END) || (is_popping(plan) && sp >= REGISTER_FILE_END)
+    (is_pushing(plan) && sp.wrapping_sub(2) >= REGISTER_FILE_END)
+        || (is_popping(plan) && sp >= REGISTER_FILE_END)
 }
 
 #[tactic(auto, unfolding(kc_exec_spec::specs::Places::count_seen))]

@@ -6,9 +6,8 @@ use Rattle.std.specs.Prelude.{◌≡◌, ℕ, ◌+◌, ◌-◌, ◌*◌, ◌/◌
 use Rattle.std.specs.FinMap.{get}
 use Rattle.kc_lex.specs.declared.fault.SourceFault.{SourceFault}
 use Rattle.kc_lex.specs.declared.fault.SourceFault.TheVariants as faults
-use Rattle.kc_lex.specs.declared.fault.SourceCode.{SourceCode}
 use Rattle.kc_lex.specs.declared.fault.SourceCode.TheVariants as code
-use Rattle.kc_lex.specs.Codes.{code_number}
+use Rattle.kc_lex.specs.Codes.{code_number, lesser_code}
 use Rattle.kc_expr.specs.declared.values.Base.{Base}
 use Rattle.kc_expr.specs.declared.values.Base.TheVariants.{Fixed, Absolute, Piece, External}
 use Rattle.kc_expr.specs.declared.values.Tag.TheVariants.{Memory}
@@ -118,9 +117,6 @@ on_two op a b =
 abbrev pub unary_answer : Unary → Answer → Answer
 unary_answer op (Ok v) = on_one op v
 unary_answer op (Err e) = Err e
-
-unfoldable pub lesser_code : SourceCode → SourceCode → SourceCode
-lesser_code c d = if nat_lt (code_number d) (code_number c) then d else c
 
 -- of two faults the one of the lesser code; one that is reported elsewhere only where there is no other
 abbrev pub lesser : NoValue → NoValue → NoValue

@@ -163,23 +163,12 @@ fn divides_by_zero(op: Binary, right: Result<Value, NoValue>) -> bool
     }
 }
 
-#[tactic(auto, unfolding(crate::specs::Meaning::lesser_code))]
-fn lesser_code(first: SourceCode, second: SourceCode) -> SourceCode
-    ensures { result ≡ meaning.lesser_code first second }
-{
-    if second.number() < first.number() {
-        second
-    } else {
-        first
-    }
-}
-
 // Of two faults the one of the lesser code.
 fn lesser(first: NoValue, second: NoValue) -> NoValue
     ensures { result ≡ meaning.lesser first second }
 {
     match (first, second) {
-        (NoValue::Fault(a), NoValue::Fault(b)) => NoValue::Fault(lesser_code(a, b)),
+        (NoValue::Fault(a), NoValue::Fault(b)) => NoValue::Fault(a.lesser(b)),
         (NoValue::Fault(_), NoValue::ReportedElsewhere) => first,
         (NoValue::ReportedElsewhere, other) => other,
     }

@@ -1,5 +1,6 @@
 // The stimuli of a made input.
 ghost use Rattle.std.specs.Prelude.{◌≡◌, ◌≤◌, ◌<◌, ◌+◌, ◌*◌, ◌++◌, length, IfOk, OnOk};
+ghost use Rattle.kc_base.specs.Limits.{file_limit};
 ghost use Rattle.kc_gen.specs.Stimuli.{edge_line, edge_lines, stimuli_text};
 
 use crate::random::random_after;
@@ -26,7 +27,7 @@ fn put_edge(text: &mut Vec<u8>, at: u32, number: u32) -> Result<(), NoMemory>
 /// The text of the stimuli of the made input of a number: 2,000 edges of HSI0. It is short enough to be read as a file.
 pub fn stimuli(alloc: Global, number: u16) -> Result<Vec<u8>, NoMemory>
     ensures text { IfOk result (λ text. text.items ≡ stimuli_text number) }
-    ensures short { IfOk result (λ text. length text.items ≤ 1048576) }
+    ensures short { IfOk result (λ text. length text.items ≤ file_limit) }
 {
     let mut text = Vec::new(alloc);
     let mut value = number;

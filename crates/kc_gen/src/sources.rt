@@ -1,5 +1,6 @@
 // The sources of a made input.
 ghost use Rattle.std.specs.Prelude.{◌≡◌, ◌≤◌, ◌<◌, ◌+◌, ◌*◌, ◌++◌, [], ◌∷◌, length, decimal, IfOk, OnOk};
+ghost use Rattle.kc_base.specs.Limits.{file_limit};
 ghost use Rattle.kc_gen.specs.Sources.{main_text, crank_text, log_text, word_line, word_lines, program_text};
 
 use crate::random::random_after;
@@ -93,7 +94,7 @@ fn put_line(text: &mut Vec<u8>, before: &[u8], number: u16) -> Result<(), NoMemo
 fn crank(alloc: Global, rise: u16) -> Result<Vec<u8>, NoMemory>
     requires { rise ≤ 17 }
     ensures text { IfOk result (λ text. text.items ≡ crank_text rise (rise + 4)) }
-    ensures short { IfOk result (λ text. length text.items ≤ 1048576) }
+    ensures short { IfOk result (λ text. length text.items ≤ file_limit) }
 {
     let mut text = Vec::from_slice(alloc, CRANK)?;
     put_line(&mut text, b" HSO 36H,", rise)?;
@@ -117,7 +118,7 @@ fn put_words(text: &mut Vec<u8>, number: u16) -> Result<(), NoMemory>
 
 fn log(alloc: Global, number: u16) -> Result<Vec<u8>, NoMemory>
     ensures text { IfOk result (λ text. text.items ≡ log_text number) }
-    ensures short { IfOk result (λ text. length text.items ≤ 1048576) }
+    ensures short { IfOk result (λ text. length text.items ≤ file_limit) }
 {
     let mut text = Vec::from_slice(alloc, LOG)?;
     put_words(&mut text, number)?;
@@ -130,7 +131,7 @@ fn log(alloc: Global, number: u16) -> Result<Vec<u8>, NoMemory>
 pub fn program(alloc: Global, number: u16, part: u8) -> Result<Vec<u8>, NoMemory>
     requires { part < 3 }
     ensures text { IfOk result (λ text. text.items ≡ program_text number part) }
-    ensures short { IfOk result (λ text. length text.items ≤ 1048576) }
+    ensures short { IfOk result (λ text. length text.items ≤ file_limit) }
 {
     match part {
         0 => Ok(Vec::from_slice(alloc, MAIN)?),

@@ -1,4 +1,5 @@
 ghost use Rattle.std.specs.Prelude.{◌≡◌, ◌≤◌, ◌<◌, ◌+◌, length, sum, None, Ok, Err, IfOk, IfSome, MatchResult};
+ghost use Rattle.kc_base.specs.Limits.{file_limit};
 ghost use Rattle.std.specs.Option.{option_map};
 ghost use Rattle.kc_hex.specs.Records.{data_of, address_of, record_of, is_known, is_inside, fault_of, after_record, after_line, image_of, IsRead};
 
@@ -133,7 +134,7 @@ fn take_line(
 /// counted from 1, with the number of the least code of its faults, as `HexCode` has them; that there is no end record is
 /// reported at the line after the last (Intel hexadecimal object file format).
 pub fn read(alloc: Global, bytes: &[u8]) -> Result<Image, HexFault>
-    requires { length bytes.now ≤ 1048576 }
+    requires { length bytes.now ≤ file_limit }
     ensures { IsRead result (image_of bytes.now) }
 {
     let mut image = Image::blank(alloc)?;

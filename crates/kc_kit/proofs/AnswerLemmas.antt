@@ -34,7 +34,8 @@ use Rattle.kc_kit_files.specs.declared.status.Status.{Status}
 use Rattle.kc_kit_files.specs.declared.status.Status.TheVariants as status
 use Rattle.kc_kit_files.specs.Response.{Response, Write, write, says, reports, before, joined, Then}
 use Rattle.kc_kit_files.specs.Writes.{first_long, unless_long, writing_readable, AreReadable}
-use Rattle.kc_kit_files.specs.Reads.{file_limit, read_of, reads_of, long_response, missing_response, FailedRead}
+use Rattle.kc_base.specs.Limits.{file_limit}
+use Rattle.kc_kit_files.specs.Reads.{read_of, reads_of, text_of, long_response, missing_response, FailedRead}
 use Rattle.kc_kit_files.specs.Outside.{Kept, Shown, OthersStay, Wrote, WroteByPart, SinkFailed, WriteFailed, IsGiven, Responses}
 use Rattle.kc_kit_files.proofs.LongLemmas.{written-all}
 use Rattle.kc_kit_files.proofs.ResponseLemmas.{given-of}
@@ -49,7 +50,7 @@ use Rattle.kc_kit_words.specs.declared.extent.Extent.{Extent}
 use Rattle.kc_kit_words.specs.declared.inputs.Role.{Role}
 use Rattle.kc_kit_words.specs.declared.inputs.Role.TheVariants as role
 use Rattle.kc_lib.specs.Taking.{AreTaken}
-use Rattle.kc_kit_words.specs.Commands.{Beside, Command, Helps, HelpsOn, ReportsVersion, Runs, Profiles, Assembles, Packs, Links, RunsHex, ProfilesHex, Lists, Debugs, Generates, Dumps, Explains, names_of, names_read, names_written, names_beside}
+use Rattle.kc_kit_words.specs.Commands.{Beside, Command, Helps, HelpsOn, ReportsVersion, Runs, Profiles, Assembles, Packs, Links, RunsHex, ProfilesHex, Lists, Debugs, Generates, Dumps, Checks, Explains, names_of, names_read, names_written, names_beside, names_whole}
 use Rattle.kc_kit_words.specs.Words.{placing_of}
 use Rattle.kc_kit_inputs.specs.declared.driving.Driving.{Driving}
 use Rattle.kc_kit_inputs.specs.Analog.{by_bad_line, values_of}
@@ -68,11 +69,22 @@ use Rattle.kc_stim.specs.Faults.{place_of}
 use Rattle.kc_kit_inputs.specs.Stimuli.{by_fault, drives_of}
 use Rattle.kc_kit_inputs.specs.Stimuli as stimulus
 use Rattle.kc_kit_answer.specs.Accepting.{Accepting, IsOneText, AreTwoTexts, reported}
-use Rattle.kc_kit_answer.specs.Answer.{OneText, TwoTexts, Parted, CommandAnswer, MayAnswer, IsAccepted, StaysBut}
+use Rattle.kc_kit_answer.specs.Answer.{OneText, TwoTexts, Parted, CommandAnswer, MayAnswer, IsAccepted, EndsAccepted, StaysBut}
 use Rattle.kc_kit_answer.specs.Assemble.{AreListings, AssembleAnswer, IsAssemblable}
 use Rattle.kc_kit_running.specs.Scripted.{debugged_by}
 use Rattle.kc_kit_answer.specs.Debug.{debug_response, DebugAnswer, IsDebuggable}
 use Rattle.kc_kit_answer.specs.Dump.{DumpAnswer, IsTraceText}
+use Rattle.kc_kit_answer.specs.Check.{Checked, CheckAnswer, CheckTexts, TraceThen, AreCheckable, IsTraceHeld, CheckAccepted}
+use Rattle.kc_kit_verdict.specs.Runs.{count_lives, broken_in, status_by, verdict_response}
+use Rattle.kc_rules.specs.declared.rule.Rule.{Rule}
+use Rattle.kc_rules.specs.Lines.{Book, book_of}
+use Rattle.kc_events.specs.declared.line.Line.{Line}
+use Rattle.kc_events.specs.Lives.{lives_of}
+use Rattle.kc_events.proofs.OneReading.{one_reading}
+use Rattle.kc_life.specs.Lives.{Life}
+use Rattle.kc_kit_inputs.specs.Responses.{unkept_response}
+use Rattle.kc_kit_inputs.specs.Rules.{by_book, rules_of}
+use Rattle.kc_kit_inputs.specs.Runs.{IsRunText, RunIs}
 use Rattle.kc_kit_answer.specs.Explain.{explained_by, explained}
 use Rattle.kc_kit_running.specs.Counted.{summary_of}
 use Rattle.kc_kit_answer.specs.Generate.{made_names, made_texts, made_given}
@@ -111,6 +123,7 @@ is_reported status.Source = true
 is_reported status.Input = true
 is_reported status.Link = true
 is_reported status.Undefined = true
+is_reported status.Broken = true
 is_reported _ = false
 
 -- such a status, and no file, or files of these names
@@ -361,6 +374,42 @@ sound-dump : (name out : List ℕ) (clock : ℕ) (text : List ℕ) (r : Response
 sound-dump name out clock text r (Ok items, read, h) = subst (IsSound (out ∷ [])) (sym h) (record { reported = refl; named = inr refl })
 sound-dump name out clock text r (Err e, reported, h) = sound-err (out ∷ []) (line_response name text reported.0 (codes "BADTRACE")) r refl refl (sym (h ∙ reported.2))
 
+-- a trace that is checked
+
+sound-text : (ns : List (List ℕ)) (name : List ℕ) (content : Option (List ℕ)) (e : Response) → text_of name content ≡ Err e → IsSound ns e
+sound-text ns name None e h = sound-err ns (missing_response name) e refl refl (let k : missing_response name ≡ e = cc in k)
+sound-text ns name (Some text) e h = ok-err (IsSound ns e) text e h
+
+sound-book : (ns : List (List ℕ)) (name text : List ℕ) (x : Result Book ℕ) (e : Response) → by_book name text x ≡ Err e → IsSound ns e
+sound-book ns name text (Ok book) e h = ok-err (IsSound ns e) book e h
+sound-book ns name text (Err line) e h =
+    let reported = line_response name text line (codes "BADRULE") in
+    sound-err ns reported e refl refl (let k : reported ≡ e = cc in k)
+
+reported-verdict : (broken : List Rule) → is_reported (status_by broken) ≡ true
+reported-verdict [] = refl
+reported-verdict (rule ∷ rules) = refl
+
+sound-checked : (trace printed rules text : List ℕ) (book : Book) (drives : Drives) (r : Response) → Checked trace printed rules text book drives r → IsSound [] r
+sound-checked trace printed rules text book drives r (Ok lines, is, h) =
+    subst (IsSound []) (sym h) (record { reported = reported-verdict (broken_in book (lives_of drives lines)); named = inl refl })
+sound-checked trace printed rules text book drives r (Err e, is, h) = sound-err [] (unkept_response trace is.0 (codes "BADTRACE")) r refl refl (sym (h ∙ is.2))
+
+sound-check : (trace rules : List ℕ) (inputs : List (Role × List ℕ)) (clock : ℕ) (printed text : List ℕ) (more : List (List ℕ)) (r : Response) → CheckAnswer trace rules inputs clock printed text more r → IsSound [] r
+sound-check trace rules inputs clock printed text more r h =
+    let stimuli = (given_for inputs more).stimuli in
+    then-all (IsSound []) (rules_of rules clock text) (λ book. Then (drives_of stimuli) (Checked trace printed rules text book)) r (sound-book [] rules text (book_of clock text))
+    (λ book e k. then-all (IsSound []) (drives_of stimuli) (Checked trace printed rules text book) r (sound-drives [] stimuli) (λ drives f l. sound-checked trace printed rules text book drives r l) k) h
+
+sound-check-texts : (trace rules : List ℕ) (inputs : List (Role × List ℕ)) (clock : ℕ) (printed : List ℕ) (texts : List (List ℕ)) (r : Response) → CheckTexts trace rules inputs clock printed texts r → IsSound [] r
+sound-check-texts trace rules inputs clock printed (text ∷ more) r h = sound-check trace rules inputs clock printed text more r h
+sound-check-texts trace rules inputs clock printed [] r h = absurd h
+
+sound-trace : (trace : List ℕ) (may : List ℕ → Response → Type 0) (contents : List (Option (List ℕ))) (r : Response) → ((printed : List ℕ) → may printed r → IsSound [] r) → TraceThen trace may contents r → IsSound [] r
+sound-trace trace may (content ∷ []) r f h = then-all (IsSound []) (text_of trace content) may r (sound-text [] trace content) (λ printed e k. f printed k) h
+sound-trace trace may [] r f h = absurd h
+sound-trace trace may (content ∷ other ∷ contents) r f h = absurd h
+
 sound-explained : (ns : List (List ℕ)) (code : List ℕ) (row : Option Said) → IsSound ns (explained_by code row)
 sound-explained ns code (Some row) = sound-says ns status.Done _ refl
 sound-explained ns code None = record { reported = refl; named = inl refl }
@@ -415,6 +464,10 @@ sound-command (Generates number) contents r h = sound-sources [] made_names (mad
 sound-command (Dumps file out clock) contents r h =
     then-all (IsSound (out ∷ [])) (reads_of (file ∷ []) contents) (OneText (DumpAnswer file out clock)) r (sound-reads (out ∷ []) (file ∷ []) contents)
     (λ texts e k. sound-one (out ∷ []) (DumpAnswer file out clock) texts r (λ t l. sound-dump file out clock t r l) k) h
+sound-command (Checks trace rules inputs clock) contents r h =
+    let names = names_whole rules inputs in
+    then-all (IsSound []) (reads_of names contents) (λ texts. TraceThen trace (λ printed. CheckTexts trace rules inputs clock printed texts) (drop (length names) contents)) r (sound-reads [] names contents)
+    (λ texts e k. sound-trace trace (λ printed. CheckTexts trace rules inputs clock printed texts) (drop (length names) contents) r (λ printed l. sound-check-texts trace rules inputs clock printed texts r l) k) h
 sound-command (Explains code) contents r h = subst (IsSound []) (sym h) (sound-explained [] code (said_of code))
 
 -- a read that has failed
@@ -490,6 +543,7 @@ ends-of may old before given new now h = by given h
     by status.Input k = whole status.Input k
     by status.Link k = whole status.Link k
     by status.Undefined k = whole status.Undefined k
+    by status.Broken k = whole status.Broken k
     by status.ReadFault k = whole status.ReadFault k
 
 -- without a file that is written the files stay as they were
@@ -710,7 +764,57 @@ done-explained : (code : List ℕ) (row : Option Said) → IsAnswer all_codes co
 done-explained code (Some row) is a = inl refl
 done-explained code None is a = absurd (let e : false ≡ true = sym is ∙ a in cc)
 
-pub done-command : (c : Option Command) (contents : List (Option (List ℕ))) (r : Response) → IsAccepted c contents → CommandAnswer AnyDiagnostic c contents r → IsDone r.status
+-- a trace of a run that is checked: no line of it is wrong
+
+abbrev IsVerdictStatus : Status → Type 0
+IsVerdictStatus given = (given ≡ status.Done) ⊎ (given ≡ status.Broken)
+
+done-verdict : (broken : List Rule) → IsVerdictStatus (status_by broken)
+done-verdict [] = inl refl
+done-verdict (rule ∷ rules) = inr refl
+
+done-checked : (trace printed rules text : List ℕ) (book : Book) (drives : Drives) (r : Response) → ((lines : List Line) × IsRunText printed lines) → Checked trace printed rules text book drives r → IsVerdictStatus r.status
+done-checked trace printed rules text book drives r run (Ok lines, is, h) =
+    subst IsVerdictStatus (sym (ap (λ (k : Response). k.status) h)) (done-verdict (broken_in book (lives_of drives lines)))
+done-checked trace printed rules text book drives r run (Err e, is, h) =
+    let same : Ok run.0 ≡ Err is.0 = one_reading printed (Ok run.0) (Err is.0) (run.1.spelled, run.1.run) is.1 in
+    absurd (cc)
+
+-- a step that is accepted
+verdict-then : {A : Type 0} (x : Result A Response) (may : A → Response → Type 0) (r : Response) → ((a : A) → may a r → IsVerdictStatus r.status) → IsOk x → Then x may r → IsVerdictStatus r.status
+verdict-then (Ok a) may r f ok h = f a h
+verdict-then (Err e) may r f ok h = absurd (let k : false ≡ true = ok in cc)
+
+read-book : (name text : List ℕ) (x : Result Book ℕ) → IsOk x → IsOk (by_book name text x)
+read-book name text (Ok book) h = h
+read-book name text (Err line) h = absurd (let k : false ≡ true = h in cc)
+
+done-check : (trace rules : List ℕ) (inputs : List (Role × List ℕ)) (clock : ℕ) (printed : List ℕ) (texts : List (List ℕ)) (r : Response) →
+    AreCheckable inputs clock printed texts → CheckTexts trace rules inputs clock printed texts r → IsVerdictStatus r.status
+done-check trace rules inputs clock printed [] r a h = absurd a
+done-check trace rules inputs clock printed (text ∷ more) r a h =
+    let stimuli = (given_for inputs more).stimuli in
+    verdict-then (rules_of rules clock text) (λ book. Then (drives_of stimuli) (Checked trace printed rules text book)) r
+    (λ book k. verdict-then (drives_of stimuli) (Checked trace printed rules text book) r (λ drives l. done-checked trace printed rules text book drives r a.2 l) a.1 k)
+    (read-book rules text (book_of clock text) a.0) h
+
+done-trace : (trace : List ℕ) (accepts : List ℕ → Type 0) (may : List ℕ → Response → Type 0) (contents : List (Option (List ℕ))) (r : Response) →
+    ((printed : List ℕ) → accepts printed → may printed r → IsVerdictStatus r.status) → IsTraceHeld trace accepts contents → TraceThen trace may contents r → IsVerdictStatus r.status
+done-trace trace accepts may [] r f a h = absurd a
+done-trace trace accepts may (None ∷ []) r f a h = absurd a
+done-trace trace accepts may (Some printed ∷ []) r f a h = f printed a h
+done-trace trace accepts may (content ∷ other ∷ contents) r f a h = absurd a
+
+accepted-check : {A : Type 0} (accepts : A → Type 0) (may : A → Response → Type 0) (x : Result A Response) (r : Response) → ((a : A) → accepts a → may a r → IsVerdictStatus r.status) → Accepting accepts x → Then x may r → IsVerdictStatus r.status
+accepted-check accepts may (Ok a) r f ok h = f a ok h
+accepted-check accepts may (Err e) r f ok h = absurd ok
+
+-- how a command ends that is accepted, where nothing outside fails
+abbrev pub IsDoneBy : Option Command → Status → Type 0
+IsDoneBy (Some (Checks trace rules inputs clock)) given = IsVerdictStatus given
+IsDoneBy _ given = IsDone given
+
+pub done-command : (c : Option Command) (contents : List (Option (List ℕ))) (r : Response) → IsAccepted c contents → CommandAnswer AnyDiagnostic c contents r → IsDoneBy c r.status
 done-command None contents r a h = absurd a
 done-command (Some Helps) contents r a h = inl (ap (λ (k : Response). k.status) h)
 done-command (Some (HelpsOn verb)) contents r a h = inl (ap (λ (k : Response). k.status) h)
@@ -752,37 +856,73 @@ done-command (Some (Generates number)) contents r a h =
     done-sources made_names (made_given number) (placing_of []) (made_texts number) (summary_of number) r
     (λ driving image. done-end (end_of (run_of 1000000 driving image).machine)) a.sources a.modules a.driving h
 done-command (Some (Dumps file out clock)) contents r a h = accepted-then _ (OneText (DumpAnswer file out clock)) (reads_of (file ∷ []) contents) r (λ texts b k. done-dump file out clock texts r b k) a h
+done-command (Some (Checks trace rules inputs clock)) contents r a h =
+    let names = names_whole rules inputs in
+    let held = drop (length names) contents in
+    accepted-check (λ texts. IsTraceHeld trace (λ printed. AreCheckable inputs clock printed texts) held) (λ texts. TraceThen trace (λ printed. CheckTexts trace rules inputs clock printed texts) held) (reads_of names contents) r
+    (λ texts b k. done-trace trace (λ printed. AreCheckable inputs clock printed texts) (λ printed. CheckTexts trace rules inputs clock printed texts) held r (λ printed c l. done-check trace rules inputs clock printed texts r c l) b k) a h
 done-command (Some (Explains code)) contents r a h = done-reported r (explained code) h (done-explained code (said_of code) (meaning-is code) a)
+
+-- how it ends then is how the command may end, and so where memory ran out
+
+abbrev EndsOther : Status → Type 0
+EndsOther given = (given ≡ status.Done) ⊎ ((given ≡ status.Undefined) ⊎ (given ≡ status.NoMemory))
+
+ends-other : (given : Status) → IsDone given ⊎ (given ≡ status.NoMemory) → EndsOther given
+ends-other given (inl (inl e)) = inl e
+ends-other given (inl (inr e)) = inr (inl e)
+ends-other given (inr e) = inr (inr e)
+
+ends-check : (given : Status) → IsVerdictStatus given ⊎ (given ≡ status.NoMemory) → (given ≡ status.Done) ⊎ ((given ≡ status.Broken) ⊎ (given ≡ status.NoMemory))
+ends-check given (inl (inl e)) = inl e
+ends-check given (inl (inr e)) = inr (inl e)
+ends-check given (inr e) = inr (inr e)
+
+ends-by : (c : Option Command) (given : Status) → IsDoneBy c given ⊎ (given ≡ status.NoMemory) → EndsAccepted c given
+ends-by None given h = ends-other given h
+ends-by (Some Helps) given h = ends-other given h
+ends-by (Some (HelpsOn verb)) given h = ends-other given h
+ends-by (Some ReportsVersion) given h = ends-other given h
+ends-by (Some (Runs files inputs extent placing)) given h = ends-other given h
+ends-by (Some (Profiles files inputs states placing out)) given h = ends-other given h
+ends-by (Some (ProfilesHex file inputs states out)) given h = ends-other given h
+ends-by (Some (Assembles file out list)) given h = ends-other given h
+ends-by (Some (Packs files out)) given h = ends-other given h
+ends-by (Some (Links files inputs out beside placing)) given h = ends-other given h
+ends-by (Some (RunsHex file inputs extent)) given h = ends-other given h
+ends-by (Some (Lists file first last)) given h = ends-other given h
+ends-by (Some (Debugs file script inputs)) given h = ends-other given h
+ends-by (Some (Generates number)) given h = ends-other given h
+ends-by (Some (Dumps file out clock)) given h = ends-other given h
+ends-by (Some (Checks trace rules inputs clock)) given h = ends-check given h
+ends-by (Some (Explains code)) given h = ends-other given h
 
 -- a response without a fault outside is done, or because memory ran out
 pub done-of : (c : Option Command) (reported : Option Holding) (rose : Type 0) (old : Kept) (before : Shown) (given : Status) (new : Kept) (now : Shown) →
     Responses (MayAnswer AnyDiagnostic c reported rose) old before given new now →
-    Reported reported (λ held. IsAccepted c (map held (names_read c)) → ¬ rose → ¬ Rose before.faults now.faults → ¬ Rose old.faults new.faults → (given ≡ status.Done) ⊎ ((given ≡ status.Undefined) ⊎ (given ≡ status.NoMemory)))
+    Reported reported (λ held. IsAccepted c (map held (names_read c)) → ¬ rose → ¬ Rose before.faults now.faults → ¬ Rose old.faults new.faults → EndsAccepted c given)
 done-of c None rose old before given new now h = tt
 done-of c (Some held) rose old before given new now h = λ accepted read sink write. by given refl accepted read sink write
   where
-    placed-so : (s : Status) → IsDone s → given ≡ s → (given ≡ status.Done) ⊎ ((given ≡ status.Undefined) ⊎ (given ≡ status.NoMemory))
-    placed-so s (inl e) f = inl (f ∙ e)
-    placed-so s (inr e) f = inr (inl (f ∙ e))
-
-    answer : (r : Response) → given ≡ r.status → IsAccepted c (map held (names_read c)) → ¬ rose → MayAnswer AnyDiagnostic c (Some held) rose r → (given ≡ status.Done) ⊎ ((given ≡ status.Undefined) ⊎ (given ≡ status.NoMemory))
-    answer r e accepted read (contents, holds, inl k) = placed-so r.status (done-command c contents r (subst (IsAccepted c) (sym holds) accepted) k) e
+    answer : (r : Response) → given ≡ r.status → IsAccepted c (map held (names_read c)) → ¬ rose → MayAnswer AnyDiagnostic c (Some held) rose r → EndsAccepted c given
+    answer r e accepted read (contents, holds, inl k) = ends-by c given (inl (subst (λ s. IsDoneBy c s) (sym e) (done-command c contents r (subst (IsAccepted c) (sym holds) accepted) k)))
     answer r e accepted read (contents, holds, inr k) = absurd (read (failed-says (names_read c) contents rose r k).0)
 
     faults : SinkFailed (MayAnswer AnyDiagnostic c (Some held) rose) old before new now ⊎ WriteFailed (MayAnswer AnyDiagnostic c (Some held) rose) old before new now → ¬ Rose before.faults now.faults → ¬ Rose old.faults new.faults → ⊥
     faults (inl k) sink write = sink k.cause
     faults (inr k) sink write = write k.cause
 
-    whole : (s : Status) → given ≡ s → s ≢ status.WriteFault → s ≢ status.NoMemory → IsAccepted c (map held (names_read c)) → ¬ rose → (given ≡ status.Done) ⊎ ((given ≡ status.Undefined) ⊎ (given ≡ status.NoMemory))
+    whole : (s : Status) → given ≡ s → s ≢ status.WriteFault → s ≢ status.NoMemory → IsAccepted c (map held (names_read c)) → ¬ rose → EndsAccepted c given
     whole s e f g accepted read =
         let k = status-of (MayAnswer AnyDiagnostic c (Some held) rose) old before s new now f g (subst (λ t. Responses (MayAnswer AnyDiagnostic c (Some held) rose) old before t new now) e h) in
         answer k.0 (e ∙ k.2) accepted read k.1
 
-    by : (s : Status) → given ≡ s → IsAccepted c (map held (names_read c)) → ¬ rose → ¬ Rose before.faults now.faults → ¬ Rose old.faults new.faults → (given ≡ status.Done) ⊎ ((given ≡ status.Undefined) ⊎ (given ≡ status.NoMemory))
-    by status.NoMemory e a read sink write = inr (inr e)
+    by : (s : Status) → given ≡ s → IsAccepted c (map held (names_read c)) → ¬ rose → ¬ Rose before.faults now.faults → ¬ Rose old.faults new.faults → EndsAccepted c given
+    by status.NoMemory e a read sink write = ends-by c given (inr e)
     by status.WriteFault e a read sink write = absurd (faults (subst (λ t. Responses (MayAnswer AnyDiagnostic c (Some held) rose) old before t new now) e h) sink write)
-    by status.Done e a read sink write = inl e
-    by status.Undefined e a read sink write = inr (inl e)
+    by status.Done e a read sink write = whole status.Done e (λ k. cc) (λ k. cc) a read
+    by status.Undefined e a read sink write = whole status.Undefined e (λ k. cc) (λ k. cc) a read
+    by status.Broken e a read sink write = whole status.Broken e (λ k. cc) (λ k. cc) a read
     by status.Usage e a read sink write = whole status.Usage e (λ k. cc) (λ k. cc) a read
     by status.Missing e a read sink write = whole status.Missing e (λ k. cc) (λ k. cc) a read
     by status.Source e a read sink write = whole status.Source e (λ k. cc) (λ k. cc) a read

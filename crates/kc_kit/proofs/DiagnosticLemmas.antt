@@ -6,7 +6,7 @@ use Rattle.kc_link_place.specs.declared.ranges.Ranges.{Ranges}
 use Rattle.kc_debug_script.specs.declared.line_map.MapEntry.{MapEntry}
 use Rattle.kc_kit_files.specs.Response.{Response}
 use Rattle.kc_kit_files.specs.Reads.{reads_of}
-use Rattle.kc_kit_words.specs.Commands.{Command, Helps, HelpsOn, ReportsVersion, Runs, Profiles, Assembles, Packs, Links, RunsHex, ProfilesHex, Lists, Debugs, Generates, Dumps, Explains, names_of}
+use Rattle.kc_kit_words.specs.Commands.{Command, Helps, HelpsOn, ReportsVersion, Runs, Profiles, Assembles, Packs, Links, RunsHex, ProfilesHex, Lists, Debugs, Generates, Dumps, Checks, Explains, names_of}
 use Rattle.kc_kit_words.specs.Words.{placing_of}
 use Rattle.kc_kit_inputs.specs.declared.driving.Driving.{Driving}
 use Rattle.kc_kit_inputs.specs.Driving.{GivenFiles}
@@ -71,6 +71,7 @@ module _ (IsDiagnostic : DiagnosticRule) where
   command-any (Some (Debugs file script inputs)) contents r h = h
   command-any (Some (Generates number)) contents r h = reported-any made_names (made_given number) (placing_of []) (made_texts number) (summary_of number) r h
   command-any (Some (Dumps file out clock)) contents r h = h
+  command-any (Some (Checks trace rules inputs clock)) contents r h = h
   command-any (Some (Explains code)) contents r h = h
 
   pub may-any : (c : Option Command) (reported : Option Holding) (rose : Type 0) (r : Response) → MayAnswer IsDiagnostic c reported rose r → MayAnswer AnyDiagnostic c reported rose r

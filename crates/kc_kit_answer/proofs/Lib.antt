@@ -9,3 +9,4 @@ pub mod Listed
 pub mod MadeLemmas
 pub mod SourceLemmas
 pub mod WriteLemmas
+pub mod CheckLemmas

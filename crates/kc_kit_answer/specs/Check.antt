@@ -1,60 +1,21 @@
 -- The command that checks a trace by timing rules (this kit's own). The rules and the stimuli are read whole; the trace comes last,
 -- and is read once, line by line, whatever its length.
-use Rattle.std.specs.Prelude.{◌≡◌, ℕ, ◌+◌, Bool, true, false, List, [], ◌∷◌, filter, flat_map, length, drop, Option, Result}
+use Rattle.std.specs.Prelude.{◌≡◌, ℕ, List, [], ◌∷◌, length, drop, Option, Result}
 use Rattle.std.specs.Result.{IsOk}
 use Rattle.kc_stim.specs.Drives.{Drives}
-use Rattle.kc_life.specs.Lives.{Life}
-use Rattle.kc_rules.specs.declared.rule.Rule.{Rule}
 use Rattle.kc_rules.specs.Lines.{Book, book_of}
 use Rattle.kc_events.specs.declared.line.Line.{Line}
-use Rattle.kc_events.specs.declared.line.Line.TheVariants.{Printed, Restarted}
 use Rattle.kc_events.specs.Lives.{lives_of}
-use Rattle.kc_monitor_forms.specs.declared.tally.Tally.{Tally}
-use Rattle.kc_monitor.specs.Verdicts.{tally_of, verdict_of, is_broken}
-use Rattle.kc_kit_messages.specs.Diagnostics.{broken_diagnostic}
-use Rattle.kc_kit_files.specs.declared.status.Status.{Status}
-use Rattle.kc_kit_files.specs.declared.status.Status.TheVariants as status
 use Rattle.kc_kit_files.specs.Reads.{reads_of, text_of}
-use Rattle.kc_kit_files.specs.Response.{Response, reports, Then}
+use Rattle.kc_kit_files.specs.Response.{Response, Then}
 use Rattle.kc_kit_words.specs.declared.inputs.Role.{Role}
 use Rattle.kc_kit_words.specs.Commands.{names_whole}
+use Rattle.kc_kit_verdict.specs.Runs.{count_lives, verdict_response}
 use Rattle.kc_kit_inputs.specs.Driving.{given_for}
 use Rattle.kc_kit_inputs.specs.Rules.{rules_of}
 use Rattle.kc_kit_inputs.specs.Runs.{RunIs, IsRunText}
 use Rattle.kc_kit_inputs.specs.Stimuli.{drives_of}
 use Rattle.kc_kit_answer.specs.Accepting.{Accepting}
-
--- ---- what is answered of a run
-
--- each life but the last ends by a line of its own
-abbrev pub is_restart : Line → Bool
-is_restart (Restarted at by_watchdog) = true
-is_restart (Printed item) = false
-
-abbrev pub count_lives : List Line → ℕ
-count_lives lines = length (filter is_restart lines) + 1
-
--- what became of what a rule has asked in all lives
-abbrev pub tally_in : Book → List Life → Rule → Tally
-tally_in book lives rule = tally_of book.marks rule lives
-
--- the verdicts of the rules, in the order of their lines
-abbrev pub verdicts : Book → ℕ → List Life → List ℕ
-verdicts book count lives = flat_map (λ rule. verdict_of rule count (tally_in book lives rule)) book.rules
-
-abbrev pub broken_in : Book → List Life → List Rule
-broken_in book lives = filter (λ rule. is_broken rule (tally_in book lives rule)) book.rules
-
--- what was asked is so where no rule is broken
-abbrev pub status_by : List Rule → Status
-status_by [] = status.Done
-status_by (rule ∷ rules) = status.Broken
-
--- the verdicts are printed; of each broken rule its line is said
-abbrev pub verdict_response : List ℕ → List ℕ → Book → ℕ → List Life → Response
-verdict_response name text book count lives =
-    reports (status_by (broken_in book lives)) (verdicts book count lives)
-    (flat_map (λ rule. broken_diagnostic name text rule.line) (broken_in book lives))
 
 -- ---- what is answered to files
 

@@ -2,7 +2,7 @@
 use Rattle.std.specs.Prelude.{ℕ, List, ◌++◌, codes, Option, Some, None}
 use Rattle.kc_kit_messages.specs.Meanings.{Said, said_of}
 use Rattle.kc_kit_messages.specs.Text.{meaning_text}
-use Rattle.kc_kit_shown.specs.Shown.{word_shown}
+use Rattle.kc_kit_files.specs.Shown.{word_shown}
 use Rattle.kc_kit_files.specs.declared.status.Status.TheVariants as status
 use Rattle.kc_kit_files.specs.Response.{Response, says, reports}
 

@@ -1,5 +1,6 @@
 // The command that assembles a source to an object.
 ghost use Rattle.std.specs.Prelude.{◌≤◌, length, IfOk};
+ghost use Rattle.kc_base.specs.Limits.{file_limit};
 ghost use Rattle.std.specs.Option.{option_map};
 ghost use Rattle.kc_asm.specs.Assembled.{IsModule};
 ghost use Rattle.kc_kit_inputs.specs.FaultDiagnostics.{IsFaultDiagnostic};
@@ -35,7 +36,7 @@ pub fn prepare_assemble<'a, F: Files>(
 
 // The object of the source with a text.
 fn object_text<'a>(alloc: Global, assemble: &Assemble<'a>, text: &[u8]) -> Result<Job<'a>, Refusal>
-    requires { length text.now ≤ 1048576 }
+    requires { length text.now ≤ file_limit }
     ensures { IsPrepared (AssembleAnswer IsFaultDiagnostic assemble.now.file.now assemble.now.out.now (option_map (λ l. l.now) assemble.now.list) text.now) result }
 {
     let made = match assemble_source(alloc, assemble.file, text) {
@@ -62,7 +63,7 @@ fn listing_file<'a>(
     text: &[u8],
     made: &Module,
 ) -> Result<Option<Output<'a>>, NoMemory>
-    requires short { length text.now ≤ 1048576 }
+    requires short { length text.now ≤ file_limit }
     requires made { IsModule text.now made.now }
     ensures { IfOk result (λ file. AreListings (option_map (λ l. l.now) assemble.now.list) text.now made.now (maybe_written file)) }
 {

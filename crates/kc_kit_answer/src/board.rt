@@ -1,5 +1,6 @@
 // Boards that are to be run.
 ghost use Rattle.std.specs.Prelude.{◌≡◌, ◌≤◌, length, map, string_bytes};
+ghost use Rattle.kc_base.specs.Limits.{file_limit};
 ghost use Rattle.kc_link.specs.Placed.{ArePlacedAt};
 ghost use Rattle.kc_kit_files.specs.Reads.{AllShort};
 ghost use Rattle.kc_kit_words.specs.Asked.{AreLinkable};
@@ -29,7 +30,7 @@ pub(crate) fn board_of_hex(
     text: &[u8],
     given: Given<'_>,
 ) -> Result<Board, Refusal>
-    requires text { length text.now ≤ 1048576 }
+    requires text { length text.now ≤ file_limit }
     requires given { AreShort given }
     ensures { IsBoard (HexReported name.now (given_in given.entry) text.now) result }
 {

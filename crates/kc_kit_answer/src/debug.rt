@@ -1,5 +1,6 @@
 // The command that debugs a hex file by a script.
 ghost use Rattle.std.specs.Prelude.{◌≤◌, ◌∷◌, [], IfOk, IfErr, length, map};
+ghost use Rattle.kc_base.specs.Limits.{file_limit};
 ghost use Rattle.kc_base.specs.Causes.{Rose};
 ghost use Rattle.kc_kit_files.specs.Outside.{OnlyRead};
 ghost use Rattle.kc_kit_files.specs.Reads.{AllShort, AreHeld, MissedRead};
@@ -64,8 +65,8 @@ fn debug_texts<'a>(
     script: &[u8],
     inputs: &[Vec<u8>],
 ) -> Result<Job<'a>, Refusal>
-    requires text { length text.now ≤ 1048576 }
-    requires script { length script.now ≤ 1048576 }
+    requires text { length text.now ≤ file_limit }
+    requires script { length script.now ≤ file_limit }
     requires inputs { AllShort (map (λ t. t.items) inputs.now) }
     ensures { IsPrepared (DebugAnswer debug.now.file.now debug.now.script.now (inputs_in debug.now.inputs) text.now script.now (map (λ t. t.items) inputs.now)) result }
 {

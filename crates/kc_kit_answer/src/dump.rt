@@ -1,5 +1,6 @@
 // The command that writes a trace as a value change dump.
 ghost use Rattle.std.specs.Prelude.{◌≤◌, length};
+ghost use Rattle.kc_base.specs.Limits.{file_limit};
 ghost use Rattle.kc_kit_words.specs.Asked.{asked, IsWithin};
 ghost use Rattle.kc_kit_answer.specs.Dump.{DumpAnswer};
 ghost use Rattle.kc_kit_answer.specs.Jobs.{IsPrepared, Prepares};
@@ -30,7 +31,7 @@ pub fn prepare_dump<'a, F: Files>(
 // The dump of the trace with a text.
 fn dump_text<'a>(alloc: Global, dump: &Dump<'a>, text: &[u8]) -> Result<Job<'a>, Refusal>
     requires clock { 1 ≤ dump.now.clock }
-    requires short { length text.now ≤ 1048576 }
+    requires short { length text.now ≤ file_limit }
     ensures { IsPrepared (DumpAnswer dump.now.file.now dump.now.out.now dump.now.clock text.now) result }
 {
     let trace = match read_trace(alloc, dump.file, text) {

@@ -7,9 +7,8 @@ ghost use Rattle.kc_kit_files.specs.Response.{reports, IsRefused};
 ghost use Rattle.kc_kit_answer.specs.Explain.{explained, no_code_line, no_code_diagnostic};
 
 use kc_base::{NoMemory, Sink};
-use kc_kit_files::{Cause, Ended, Refusal, Status, refusal_of, refuse, say};
+use kc_kit_files::{Cause, Ended, Refusal, Status, put_word, refusal_of, refuse, say};
 use kc_kit_messages::{explain, meaning_text};
-use kc_kit_shown::put_word;
 use kc_trace::TraceOut;
 use std::alloc::Global;
 

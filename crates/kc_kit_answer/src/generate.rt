@@ -1,5 +1,6 @@
 // The command that runs the input that is made from a number.
 ghost use Rattle.std.specs.Prelude.{◌≡◌, ◌≤◌, IfOk, length, map, string_bytes};
+ghost use Rattle.kc_base.specs.Limits.{file_limit};
 ghost use Rattle.kc_gen.specs.Stimuli.{stimuli_text};
 ghost use Rattle.kc_kit_files.specs.Reads.{AllShort};
 ghost use Rattle.kc_kit_inputs.specs.FaultDiagnostics.{IsFaultDiagnostic};
@@ -49,7 +50,7 @@ fn make_input(alloc: Global, number: u16) -> Result<Made, NoMemory>
     ensures count { IfOk result (λ made. length made.texts.items ≡ 3) }
     ensures short { IfOk result (λ made. AllShort (map (λ t. t.items) made.texts.items)) }
     ensures stimuli { IfOk result (λ made. made.stimuli.items ≡ stimuli_text number) }
-    ensures short_stimuli { IfOk result (λ made. length made.stimuli.items ≤ 1048576) }
+    ensures short_stimuli { IfOk result (λ made. length made.stimuli.items ≤ file_limit) }
 {
     Ok(Made {
         names: names(alloc)?,

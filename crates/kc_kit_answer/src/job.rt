@@ -13,19 +13,12 @@ use kc_kit_files::{Ended, Status, report};
 use kc_kit_running::{
     Board, Lines, Output, count_board, debug_board, profile_board, run_board, write_output,
 };
+use kc_kit_verdict::Verdict;
 use kc_kit_words::{Behind, Extent};
 use kc_trace::TraceOut;
 use std::alloc::Global;
 use std::marker::Brand;
 use std::sync::ledger::Blank;
-
-/// What is printed and said of the rules by which a run was checked, and whether one of them is broken.
-#[derive(Drop)]
-pub struct Verdict {
-    pub text: Vec<u8>,
-    pub diagnostic: Vec<u8>,
-    pub is_broken: bool,
-}
 
 /// What is left to do: a run of a board that is printed, with or without a profile that is written, or of which the lines are counted, a listing of an image, a script
 /// over a board, a verdict to be printed, or files to write: a first one, and

@@ -22,7 +22,6 @@ mod placing;
 mod profile;
 mod run;
 mod run_hex;
-mod watching;
 mod writing;
 
 pub use assemble::prepare_assemble;
@@ -33,7 +32,7 @@ pub use explaining::explain_code;
 pub use generate::prepare_generate;
 pub use help::{HELP, VERSION};
 pub use helping::{report_help, report_help_on};
-pub use job::{Job, Verdict, perform};
+pub use job::{Job, perform};
 pub use link::prepare_link;
 pub use list::prepare_list;
 pub use pack::prepare_pack;

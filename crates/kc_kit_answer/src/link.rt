@@ -1,5 +1,6 @@
 // The command that links objects.
 ghost use Rattle.std.specs.Prelude.{◌≡◌, ◌≤◌, ◌++◌, ℕ, Some, IfOk, List, length, map, string_bytes};
+ghost use Rattle.kc_base.specs.Limits.{file_limit};
 ghost use Rattle.kc_link_place.specs.Placements.{IsPlacement};
 ghost use Rattle.kc_link.specs.Placed.{placed, ArePlacedAt};
 ghost use Rattle.kc_link.specs.LineMap.{IsLineMap};
@@ -85,7 +86,7 @@ fn link_library<'a>(
 ) -> Result<Job<'a>, Refusal>
     requires linkable { AreLinkable (length modules.items) link.now.placing }
     requires count { length modules.items ≡ length link.now.files.now }
-    requires short { length bytes.now ≤ 1048576 }
+    requires short { length bytes.now ≤ file_limit }
     ensures { IsPrepared (Completed (map string_bytes link.now.files.now) (Some (name.now, bytes.now)) (λ files. Placing files link.now.placing (LinksTo link.now.out.now (beside_in link.now.beside) link.now.placing)) modules.items) result }
 {
     let library = match read_library(alloc, name, bytes) {

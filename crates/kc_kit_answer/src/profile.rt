@@ -1,5 +1,6 @@
 // The commands that run a board and write where its states go.
 ghost use Rattle.std.specs.Prelude.{◌≡◌, ◌≤◌, IfOk, length, map, string_bytes};
+ghost use Rattle.kc_base.specs.Limits.{file_limit};
 ghost use Rattle.kc_link.specs.Placed.{ArePlacedAt};
 ghost use Rattle.kc_kit_files.specs.Reads.{AllShort};
 ghost use Rattle.kc_kit_words.specs.Asked.{asked, behind_in, AreLinkable, IsBounded, IsWithin};
@@ -56,7 +57,7 @@ fn profile_hex<'a>(
     inputs: &[Vec<u8>],
 ) -> Result<Job<'a>, Refusal>
     requires bounded { IsBounded run.now.extent }
-    requires short { length text.now ≤ 1048576 }
+    requires short { length text.now ≤ file_limit }
     requires inputs { AllShort (map (λ t. t.items) inputs.now) }
     ensures { IsPrepared (ProfileHexAnswer run.now.file.now (inputs_in run.now.inputs) run.now.extent run.now.out.now text.now (map (λ t. t.items) inputs.now)) result }
 {

@@ -1,5 +1,6 @@
 // The command that runs a hex file.
 ghost use Rattle.std.specs.Prelude.{◌≤◌, length, map};
+ghost use Rattle.kc_base.specs.Limits.{file_limit};
 ghost use Rattle.kc_kit_files.specs.Reads.{AllShort};
 ghost use Rattle.kc_kit_words.specs.Asked.{asked, IsBounded, IsWithin};
 ghost use Rattle.kc_kit_words.specs.Inputs.{inputs_in};
@@ -41,7 +42,7 @@ fn run_text<'a>(
     inputs: &[Vec<u8>],
 ) -> Result<Job<'a>, Refusal>
     requires bounded { IsBounded run.now.extent }
-    requires short { length text.now ≤ 1048576 }
+    requires short { length text.now ≤ file_limit }
     requires inputs { AllShort (map (λ t. t.items) inputs.now) }
     ensures { IsPrepared (RunHexAnswer run.now.file.now (inputs_in run.now.inputs) run.now.extent text.now (map (λ t. t.items) inputs.now)) result }
 {

@@ -49,6 +49,7 @@ Ends-widen may wide old before status.Input what new now f h = given-widen (With
 Ends-widen may wide old before status.Link what new now f h = given-widen (WithDiagnostic may what) (WithDiagnostic wide what) status.Link old before new now (with-widen may wide what f) h
 Ends-widen may wide old before status.Undefined what new now f h = given-widen (WithDiagnostic may what) (WithDiagnostic wide what) status.Undefined old before new now (with-widen may wide what f) h
 Ends-widen may wide old before status.ReadFault what new now f h = given-widen (WithDiagnostic may what) (WithDiagnostic wide what) status.ReadFault old before new now (with-widen may wide what f) h
+Ends-widen may wide old before status.Broken what new now f h = given-widen (WithDiagnostic may what) (WithDiagnostic wide what) status.Broken old before new now (with-widen may wide what f) h
 
 -- ---- what a command has done that has ended so, by its status alone
 
@@ -74,6 +75,7 @@ Ends-responses may old before status.Input what new now h = bare may status.Inpu
 Ends-responses may old before status.Link what new now h = bare may status.Link old before what new now h
 Ends-responses may old before status.Undefined what new now h = bare may status.Undefined old before what new now h
 Ends-responses may old before status.ReadFault what new now h = bare may status.ReadFault old before what new now h
+Ends-responses may old before status.Broken what new now h = bare may status.Broken old before what new now h
 
 -- ---- a text alone is printed, and nothing is said of it but what the diagnostic of its response is
 
@@ -106,6 +108,7 @@ Ends-printed may old before status.Input what new now i none diagnostic h = with
 Ends-printed may old before status.Link what new now i none diagnostic h = with-diagnostic may status.Link old before what new now diagnostic h
 Ends-printed may old before status.Undefined what new now i none diagnostic h = with-diagnostic may status.Undefined old before what new now diagnostic h
 Ends-printed may old before status.ReadFault what new now i none diagnostic h = with-diagnostic may status.ReadFault old before what new now diagnostic h
+Ends-printed may old before status.Broken what new now i none diagnostic h = with-diagnostic may status.Broken old before what new now diagnostic h
 
 -- an end of which nothing is said but what its status says
 pub ends-by : (may : Response → Type 0) (old : Kept) (before : Shown) (ended : Ended) (given : Status) (new : Kept) (now : Shown) → ended.status ≡ given → ended.said ≡ said.Nothing → ((r : Response) → may r → r.writes ≡ []) → ((r : Response) → may r → r.diagnostic ≡ []) →
@@ -138,6 +141,7 @@ Ends-noted usage may old before diagnostics status.Input what new now noted f h 
 Ends-noted usage may old before diagnostics status.Link what new now noted f h p = noted-given may status.Link old before diagnostics what new now noted h p
 Ends-noted usage may old before diagnostics status.Undefined what new now noted f h p = noted-given may status.Undefined old before diagnostics what new now noted h p
 Ends-noted usage may old before diagnostics status.ReadFault what new now noted f h p = noted-given may status.ReadFault old before diagnostics what new now noted h p
+Ends-noted usage may old before diagnostics status.Broken what new now noted f h p = noted-given may status.Broken old before diagnostics what new now noted h p
 
 -- ---- the diagnostics of words that are no command: of a response that says nothing else
 

@@ -35,6 +35,7 @@ Responses-widen may wide old before status.Input new now f h = given-widen may w
 Responses-widen may wide old before status.Link new now f h = given-widen may wide status.Link old before new now f h
 Responses-widen may wide old before status.Undefined new now f h = given-widen may wide status.Undefined old before new now f h
 Responses-widen may wide old before status.ReadFault new now f h = given-widen may wide status.ReadFault old before new now f h
+Responses-widen may wide old before status.Broken new now f h = given-widen may wide status.Broken old before new now f h
 
 -- a response that is given whole
 pub Responses-given : (may : Response → Type 0) (given : Status) (old : Kept) (before : Shown) (new : Kept) (now : Shown) → given ≢ status.WriteFault → given ≢ status.NoMemory → IsGiven may given old before new now → Responses may old before given new now
@@ -48,6 +49,7 @@ Responses-given may status.Input old before new now f g h = h
 Responses-given may status.Link old before new now f g h = h
 Responses-given may status.Undefined old before new now f g h = h
 Responses-given may status.ReadFault old before new now f g h = h
+Responses-given may status.Broken old before new now f g h = h
 
 -- the response of a refusal that may be given
 pub said-refused : (may : Response → Type 0) (refusal : Refusal) → IsRefused may refusal → (r : Response) → IsSaid refusal r → may r
@@ -66,3 +68,4 @@ given-of may status.Input old before new now f g h = h
 given-of may status.Link old before new now f g h = h
 given-of may status.Undefined old before new now f g h = h
 given-of may status.ReadFault old before new now f g h = h
+given-of may status.Broken old before new now f g h = h

@@ -1,6 +1,6 @@
 -- What is said in words, on standard error, of a file that cannot be read or written, of the output and of memory (this kit's own).
 use Rattle.std.specs.Prelude.{ℕ, List, ◌++◌, codes}
-use Rattle.kc_kit_shown.specs.Shown.{shown}
+use Rattle.kc_kit_files.specs.Shown.{shown}
 
 -- what is wrong with a file, behind its name
 abbrev pub file_diagnostic : List ℕ → List ℕ → List ℕ

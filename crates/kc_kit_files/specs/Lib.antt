@@ -3,4 +3,5 @@ pub mod Diagnostics
 pub mod Outside
 pub mod Reads
 pub mod Response
+pub mod Shown
 pub mod Writes

@@ -2,6 +2,8 @@
 use Rattle.std.specs.Prelude.{◌≡◌, ◌⊎◌, ℕ, ◌≤◌, List, [], ◌∷◌, ◌++◌, codes, length, map, nat_lt, if◌then◌else◌, Option, Some, None, Result, Ok, Err}
 use Rattle.std.specs.Global.{Vec}
 use Rattle.std.specs.Result.{IsOk}
+-- the most bytes of a file
+pub use Rattle.kc_base.specs.Limits.{file_limit}
 use Rattle.kc_base.specs.Held.{Holding, Reported}
 use Rattle.kc_base.specs.declared.files.FileFault.{FileFault}
 use Rattle.kc_base.specs.declared.files.FileFault.TheVariants as fault
@@ -9,10 +11,6 @@ use Rattle.kc_kit_files.specs.declared.status.Status.TheVariants as status
 use Rattle.kc_kit_files.specs.declared.refusal.Refusal.{Refusal}
 use Rattle.kc_kit_files.specs.Diagnostics.{missing_diagnostic, long_diagnostic, read_diagnostic}
 use Rattle.kc_kit_files.specs.Response.{Response, reports, joined, IsRefused}
-
--- the most bytes of a file
-abbrev pub file_limit : ℕ
-file_limit = 1048576
 
 abbrev pub missing_line : List ℕ → List ℕ
 missing_line name = codes "missing " ++ name ++ codes "\n"

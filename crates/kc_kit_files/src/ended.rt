@@ -7,8 +7,8 @@ ghost use Rattle.kc_kit_files.specs.Diagnostics.{output_diagnostic};
 ghost use Rattle.kc_kit_files.specs.Ended.{said_in, unwritten, diagnostic_in};
 
 use crate::Status;
+use crate::text::report_shown;
 use kc_base::Sink;
-use kc_kit_shown::report_shown;
 use kc_trace::TraceOut;
 
 /// What is said in words, beside what the status says.

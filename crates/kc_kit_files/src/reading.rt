@@ -3,12 +3,12 @@ ghost use Rattle.std.specs.Prelude.{◌≡◌, ◌++◌, ◌∷◌, [], OnOk, ma
 ghost use Rattle.kc_base.specs.Causes.{Rose};
 ghost use Rattle.kc_kit_files.specs.Response.{reports, status_for, IsRefused};
 ghost use Rattle.kc_kit_files.specs.Outside.{OnlyRead};
-ghost use Rattle.kc_kit_shown.specs.Shown.{shown};
+ghost use Rattle.kc_kit_files.specs.Shown.{shown};
 ghost use Rattle.kc_kit_files.specs.Reads.{IsReadOne, IsRead, IsUnread};
 
 use crate::refusal::{Cause, Refusal, refusal_of};
+use crate::text::shown;
 use kc_base::{FileFault, Files, NoMemory};
-use kc_kit_shown::shown;
 use std::alloc::Global;
 
 /// The refusal of a file, with a line of three texts of which its name is the second, and with words behind its name.

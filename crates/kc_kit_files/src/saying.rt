@@ -45,15 +45,12 @@ pub fn report<S: Sink>(
 ) -> Ended<'static>
     requires ready { out.old.failed ≡ false }
     requires wrote { (status ≢ Status.WriteFault) × (status ≢ Status.NoMemory) }
-    ensures { EndsPrinting (λ response. response ≡ reports status text.now diagnostic.items) (shown_by S.written S.faults out.old.sink) result (shown_by S.written S.faults out.new.sink) }
+    ensures response { EndsPrinting (λ response. response ≡ reports status text.now diagnostic.items) (shown_by S.written S.faults out.old.sink) result (shown_by S.written S.faults out.new.sink) }
+    ensures status { (result.status ≡ status) ⊎ (result.status ≡ Status.WriteFault) }
 {
     let status = print(out, text, status);
-    if status == Status::WriteFault {
-        Ended::by(status)
-    } else {
-        let said = Said::Refusal(diagnostic);
-        Ended { status, said }
-    }
+    let said = Said::Refusal(diagnostic);
+    Ended { status, said }
 }
 
 /// Prints the line of a refusal, and gives how the command has ended, with the diagnostic of the refusal. It takes no memory: it
@@ -68,11 +65,7 @@ pub fn refuse<S: Sink>(out: &mut TraceOut<S>, refusal: Refusal) -> Ended<'static
             cause,
             line,
             diagnostic,
-        } => {
-            let status = print(out, &line, cause.status());
-            let said = Said::Refusal(diagnostic);
-            Ended { status, said }
-        }
+        } => report(out, &line, cause.status(), diagnostic),
         Refusal::NoMemory => Ended::by(Status::NoMemory),
     }
 }

@@ -1,6 +1,7 @@
 -- What drives the inputs of a run: its pins, and its analogue inputs (this kit's own).
 use Rattle.std.specs.Prelude.{ℕ, ◌≤◌, List, length, Option, Result, Ok, Err, IfSome}
 use Rattle.std.specs.Option.{option_map}
+use Rattle.kc_base.specs.Limits.{file_limit}
 use Rattle.kc_stim.specs.Drives.{Drives}
 use Rattle.kc_convert.specs.declared.sample.Sample.{Sample}
 use Rattle.kc_kit_files.specs.Response.{Response}
@@ -38,5 +39,5 @@ abbrev pub given_in : Given → GivenFiles
 given_in given = record { stimuli = option_map (λ f. (f.0.now, f.1.now)) given.stimuli; analog = option_map (λ f. (f.0.now, f.1.now)) given.analog }
 
 pub record AreShort (given : Given) : Type 0 where
-  pub stimuli : IfSome given.stimuli (λ f. length f.1.now ≤ 1048576)
-  pub analog : IfSome given.analog (λ f. length f.1.now ≤ 1048576)
+  pub stimuli : IfSome given.stimuli (λ f. length f.1.now ≤ file_limit)
+  pub analog : IfSome given.analog (λ f. length f.1.now ≤ file_limit)

@@ -4,7 +4,7 @@ use Rattle.kc_base.specs.TextLines.{text_lines}
 use Rattle.kc_events.specs.declared.line.Line.{Line}
 use Rattle.kc_events.specs.Grammar.{start_place, IsRun}
 use Rattle.kc_events.specs.Lines.{line_text}
-use Rattle.kc_events.specs.Telling.{IsFirstWrong}
+use Rattle.kc_events.specs.Reporting.{IsFirstWrong}
 use Rattle.kc_kit_files.specs.Response.{Response}
 use Rattle.kc_kit_inputs.specs.Responses.{unkept_response}
 

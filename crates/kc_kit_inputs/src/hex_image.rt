@@ -1,5 +1,6 @@
 // Hex files that are read.
 ghost use Rattle.std.specs.Prelude.{◌≡◌, ◌≤◌, codes, Ok, Err, IfOk, IfErr, length};
+ghost use Rattle.kc_base.specs.Limits.{file_limit};
 ghost use Rattle.kc_kit_files.specs.Response.{IsRefused};
 ghost use Rattle.kc_kit_inputs.specs.Hex.{hex_of};
 ghost use Rattle.kc_kit_inputs.specs.Lines.{coded};
@@ -23,7 +24,7 @@ fn hex_refusal(alloc: Global, name: &str, text: &[u8], line: u32, number: u8) ->
 
 /// The image of a hex text, or the refusal of its first fault.
 pub fn image_of(alloc: Global, name: &str, text: &[u8]) -> Result<Image, Refusal>
-    requires { length text.now ≤ 1048576 }
+    requires { length text.now ≤ file_limit }
     ensures image { IfOk result (λ image. hex_of name.now text.now ≡ Ok image) }
     ensures refusal { IfErr result (IsRefused (λ response. hex_of name.now text.now ≡ Err response)) }
 {

@@ -1,5 +1,6 @@
 // Libraries, and what modules take from them.
 ghost use Rattle.std.specs.Prelude.{◌≡◌, ◌≤◌, Ok, Err, IfOk, IfErr, length};
+ghost use Rattle.kc_base.specs.Limits.{file_limit};
 ghost use Rattle.kc_kit_files.specs.Response.{IsRefused};
 ghost use Rattle.kc_kit_inputs.specs.Library.{library_of, TakenAre};
 
@@ -11,7 +12,7 @@ use std::alloc::Global;
 
 /// The library that a file holds, or the refusal of its first fault.
 pub fn read_library(alloc: Global, name: &str, bytes: &[u8]) -> Result<Library, Refusal>
-    requires { length bytes.now ≤ 1048576 }
+    requires { length bytes.now ≤ file_limit }
     ensures library { IfOk result (λ library. library_of name.now bytes.now ≡ Ok library) }
     ensures refusal { IfErr result (IsRefused (λ response. library_of name.now bytes.now ≡ Err response)) }
 {

@@ -1,5 +1,6 @@
 // Objects read to modules.
 ghost use Rattle.std.specs.Prelude.{◌≡◌, ◌≤◌, ◌<◌, ◌^◌, ◌++◌, ◌∷◌, [], Ok, Err, IfOk, IfErr, OnOk, All, length, map, string_bytes};
+ghost use Rattle.kc_base.specs.Limits.{file_limit};
 ghost use Rattle.kc_obj_module.specs.Spelling.{spelling};
 ghost use Rattle.kc_kit_files.specs.Response.{IsRefused};
 ghost use Rattle.kc_kit_files.specs.Reads.{AllShort};
@@ -14,7 +15,7 @@ use std::alloc::Global;
 
 // The module of an object, or the refusal of its first fault.
 fn read_object(alloc: Global, name: &str, bytes: &[u8]) -> Result<Module, Refusal>
-    requires { length bytes.now ≤ 1048576 }
+    requires { length bytes.now ≤ file_limit }
     ensures object { IfOk result (λ m. object_of name.now bytes.now ≡ Ok m) }
     ensures short { IfOk result (λ m. length (spelling m) < 2 ^ 32) }
     ensures refusal { IfErr result (IsRefused (λ response. object_of name.now bytes.now ≡ Err response)) }

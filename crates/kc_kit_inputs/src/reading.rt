@@ -1,5 +1,6 @@
 // The files that options name for reading.
 ghost use Rattle.std.specs.Prelude.{◌≡◌, ◌≤◌, ◌++◌, ◌∷◌, [], OnOk, IfSome, length, map};
+ghost use Rattle.kc_base.specs.Limits.{file_limit};
 ghost use Rattle.std.specs.Option.{option_map};
 ghost use Rattle.kc_base.specs.Causes.{Rose};
 ghost use Rattle.kc_kit_files.specs.Outside.{OnlyRead};
@@ -62,7 +63,7 @@ pub fn input_for<'a>(
 ) -> Option<(&'a str, &'a [u8])>
     requires { AllShort (map (λ t. t.items) texts.now) }
     ensures input { option_map (λ i. (i.0.now, i.1.now)) result ≡ input_for role (inputs_in inputs.entry) (map (λ t. t.items) texts.now) }
-    ensures short { IfSome result (λ i. length i.1.now ≤ 1048576) }
+    ensures short { IfSome result (λ i. length i.1.now ≤ file_limit) }
 {
     let mut left = inputs;
     let mut behind = texts;

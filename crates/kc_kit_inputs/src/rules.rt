@@ -1,5 +1,6 @@
 // Rules files, and the refusal of a trace that is read line by line.
 ghost use Rattle.std.specs.Prelude.{◌≡◌, ◌≤◌, Ok, Err, IfOk, IfErr, length, codes};
+ghost use Rattle.kc_base.specs.Limits.{file_limit};
 ghost use Rattle.kc_kit_files.specs.Response.{IsRefused};
 ghost use Rattle.kc_kit_inputs.specs.Responses.{unkept_response};
 ghost use Rattle.kc_kit_inputs.specs.Rules.{rules_of};
@@ -11,7 +12,7 @@ use std::alloc::Global;
 
 /// The marks and rules of a file, at an oscillator of so many hertz, or the refusal of its first line that has no reading.
 pub fn read_rules(alloc: Global, name: &str, clock: u32, text: &[u8]) -> Result<Rules, Refusal>
-    requires { length text.now ≤ 1048576 }
+    requires { length text.now ≤ file_limit }
     ensures rules { IfOk result (λ rules. rules_of name.now clock text.now ≡ Ok rules) }
     ensures refusal { IfErr result (IsRefused (λ response. rules_of name.now clock text.now ≡ Err response)) }
 {

@@ -1,5 +1,6 @@
 // Sources assembled to modules.
 ghost use Rattle.std.specs.Prelude.{◌≡◌, ◌≤◌, ◌++◌, ◌∷◌, [], codes, IfOk, IfErr, OnOk, length, map, string_bytes};
+ghost use Rattle.kc_base.specs.Limits.{file_limit};
 ghost use Rattle.kc_asm.specs.Assembled.{IsModule};
 ghost use Rattle.kc_kit_files.specs.Response.{IsRefused};
 ghost use Rattle.kc_kit_files.specs.Reads.{AllShort};
@@ -9,7 +10,7 @@ ghost use Rattle.kc_kit_inputs.specs.Sources.{AreModules, Reports, ReportsFault,
 
 use crate::input_lines::{coded, place_text};
 use kc_asm::assemble;
-use kc_asm_origin::{cause, symbol};
+use kc_asm_origin::{origin, symbol};
 use kc_base::NoMemory;
 use kc_kit_files::{Cause, Refusal, refusal_of};
 use kc_kit_messages::{put_body_line, source_diagnostic};
@@ -26,7 +27,7 @@ fn fault_diagnostic(
     number: u8,
     code: &[u8],
 ) -> Result<Vec<u8>, NoMemory>
-    requires short { length text.now ≤ 1048576 }
+    requires short { length text.now ≤ file_limit }
     requires code { code.now ≡ spec.coded (codes "E") number }
     ensures { IfOk result (λ diagnostic. IsFaultDiagnostic name.now text.now line number diagnostic.items) }
 {
@@ -37,7 +38,7 @@ fn fault_diagnostic(
         }
         None => source_diagnostic(alloc, name, text, line, code, number, None)?,
     };
-    let body_line = cause(alloc, text, line, number)?;
+    let body_line = origin(alloc, text, line, number)?;
     put_body_line(&mut diagnostic, name, text, body_line)?;
     Ok(diagnostic)
 }
@@ -50,7 +51,7 @@ fn fault_texts(
     line: u32,
     number: u8,
 ) -> Result<(Vec<u8>, Vec<u8>), NoMemory>
-    requires { length text.now ≤ 1048576 }
+    requires { length text.now ≤ file_limit }
     ensures printed { IfOk result (λ texts. texts.0.items ≡ spec.place_text line (spec.coded (codes "E") number)) }
     ensures diagnostic { IfOk result (λ texts. IsFaultDiagnostic name.now text.now line number texts.1.items) }
 {
@@ -62,7 +63,7 @@ fn fault_texts(
 
 // The refusal of a source with a fault: its line and the number of its code.
 fn source_refusal(alloc: Global, name: &str, text: &[u8], line: u32, number: u8) -> Refusal
-    requires { length text.now ≤ 1048576 }
+    requires { length text.now ≤ file_limit }
     ensures { IsRefused (Reports IsFaultDiagnostic name.now text.now line number) result }
 {
     let name = name.as_bytes();
@@ -81,7 +82,7 @@ fn source_refusal(alloc: Global, name: &str, text: &[u8], line: u32, number: u8)
 
 /// The module of a source, or the refusal of its first fault.
 pub fn assemble_source(alloc: Global, name: &str, text: &[u8]) -> Result<Module, Refusal>
-    requires { length text.now ≤ 1048576 }
+    requires { length text.now ≤ file_limit }
     ensures made { IfOk result (λ m. IsModule text.now m) }
     ensures refusal { IfErr result (IsRefused (ReportsFault IsFaultDiagnostic name.now text.now)) }
 {

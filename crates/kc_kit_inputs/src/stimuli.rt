@@ -1,5 +1,6 @@
 // What drives the input pins of a board that is run.
 ghost use Rattle.std.specs.Prelude.{◌≡◌, ◌≤◌, Ok, Err, IfOk, IfErr, IfSome, length};
+ghost use Rattle.kc_base.specs.Limits.{file_limit};
 ghost use Rattle.std.specs.Option.{option_map};
 ghost use Rattle.kc_kit_files.specs.declared.status.Status.TheVariants as status;
 ghost use Rattle.kc_kit_files.specs.Response.{says, IsRefused};
@@ -12,7 +13,7 @@ use std::alloc::Global;
 
 // The stimuli that a text says, or the refusal of its first fault.
 fn read_stimuli(alloc: Global, name: &str, text: &[u8]) -> Result<Stimuli, Refusal>
-    requires { length text.now ≤ 1048576 }
+    requires { length text.now ≤ file_limit }
     ensures stimuli { IfOk result (λ s. stimuli_of name.now text.now ≡ Ok s) }
     ensures refusal { IfErr result (IsRefused (λ response. stimuli_of name.now text.now ≡ Err response)) }
 {
@@ -29,7 +30,7 @@ fn read_stimuli(alloc: Global, name: &str, text: &[u8]) -> Result<Stimuli, Refus
 /// What drives the inputs of a run: the stimuli of a file by its name and its text, or the refusal of its first fault; none
 /// without such a file.
 pub fn stimuli_in(alloc: Global, file: Option<(&str, &[u8])>) -> Result<Stimuli, Refusal>
-    requires { IfSome file (λ f. length f.1.now ≤ 1048576) }
+    requires { IfSome file (λ f. length f.1.now ≤ file_limit) }
     ensures stimuli { IfOk result (λ s. drives_of (option_map (λ f. (f.0.now, f.1.now)) file.entry) ≡ Ok s) }
     ensures refusal { IfErr result (IsRefused (λ response. drives_of (option_map (λ f. (f.0.now, f.1.now)) file.entry) ≡ Err response)) }
 {

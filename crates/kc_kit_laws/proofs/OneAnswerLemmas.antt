@@ -7,6 +7,11 @@ use Rattle.kc_base.specs.TextLines.{text_lines}
 use Rattle.kc_trace.specs.declared.record.Record.{Record}
 use Rattle.kc_vcd.specs.Dump.{state_length, dump_of}
 use Rattle.kc_vcd.specs.Laws.{OneReading}
+use Rattle.kc_stim.specs.Drives.{Drives}
+use Rattle.kc_rules.specs.Lines.{Book}
+use Rattle.kc_events.specs.declared.line.Line.{Line}
+use Rattle.kc_events.specs.Lives.{lives_of}
+use Rattle.kc_events.proofs.OneReading.{one_reading as one_run}
 use Rattle.kc_obj_module.specs.Object.{Object}
 use Rattle.kc_obj_module.specs.Spelling as objects
 use Rattle.kc_lib.specs.Laws.{TakenOnce}
@@ -25,10 +30,10 @@ use Rattle.kc_asm_laws.specs.Laws.{OneListing}
 use Rattle.kc_kit_files.specs.declared.status.Status.TheVariants as status
 use Rattle.kc_kit_files.specs.Response.{Response, Write, write, says, done_writing, Then}
 use Rattle.kc_kit_files.specs.Writes.{writing_readable}
-use Rattle.kc_kit_files.specs.Reads.{reads_of}
+use Rattle.kc_kit_files.specs.Reads.{reads_of, text_of}
 use Rattle.kc_kit_words.specs.declared.inputs.Role.{Role}
 use Rattle.kc_kit_words.specs.declared.inputs.Role.TheVariants as role
-use Rattle.kc_kit_words.specs.Commands.{Beside, Command, Helps, HelpsOn, ReportsVersion, Runs, Profiles, Assembles, Packs, Links, RunsHex, ProfilesHex, Lists, Debugs, Generates, Dumps, Explains, names_of}
+use Rattle.kc_kit_words.specs.Commands.{Beside, Command, Helps, HelpsOn, ReportsVersion, Runs, Profiles, Assembles, Packs, Links, RunsHex, ProfilesHex, Lists, Debugs, Generates, Dumps, Checks, Explains, names_of, names_whole}
 use Rattle.kc_kit_words.specs.Words.{placing_of}
 use Rattle.kc_kit_inputs.specs.Hex.{hex_of}
 use Rattle.kc_kit_inputs.specs.declared.driving.Driving.{Driving}
@@ -40,10 +45,16 @@ use Rattle.kc_kit_inputs.specs.Objects.{modules_of, object_of}
 use Rattle.kc_kit_inputs.specs.FaultDiagnostics.{IsFaultDiagnostic}
 use Rattle.kc_kit_inputs.specs.Lines.{coded}
 use Rattle.kc_kit_inputs.specs.Sources.{DiagnosticRule, AnyDiagnostic, Reports, ReportsFault, SourceIs, AreModules, ReportsFirst, SourcesAre}
+use Rattle.kc_kit_inputs.specs.Responses.{unkept_response}
+use Rattle.kc_kit_inputs.specs.Rules.{rules_of}
+use Rattle.kc_kit_inputs.specs.Runs.{RunIs}
+use Rattle.kc_kit_inputs.specs.Stimuli.{drives_of}
 use Rattle.kc_kit_inputs.specs.Traces.{TraceIs}
+use Rattle.kc_kit_verdict.specs.Runs.{count_lives, verdict_response}
 use Rattle.kc_kit_answer.specs.Answer.{OneText, TwoTexts, Parted, CommandAnswer}
 use Rattle.kc_kit_answer.specs.Assemble.{AreListings, WritesObject, AssembleAnswer}
 use Rattle.kc_kit_answer.specs.Debug.{DebugAnswer, debug_response}
+use Rattle.kc_kit_answer.specs.Check.{Checked, CheckAnswer, CheckTexts, TraceThen}
 use Rattle.kc_kit_answer.specs.Dump.{WritesDump, DumpAnswer}
 use Rattle.kc_kit_running.specs.Counted.{summary_of}
 use Rattle.kc_kit_answer.specs.Generate.{made_names, made_texts, made_given}
@@ -172,6 +183,46 @@ one_read law name text (Ok items) (Ok others) h k = (let same : items ≡ others
 one_read law name text (Ok items) (Err r) h k = absurd (law.apart (text_lines text) items k.0 h k.1)
 one_read law name text (Err r) (Ok items) h k = absurd (law.apart (text_lines text) items h.0 k h.1)
 one_read law name text (Err r) (Err s) h k = (let same : r ≡ s = h.2 ∙ (ap (wrong_line name text) (law.lines (text_lines text) h.0 k.0 h.1 k.1) ∙ sym k.2) in λ i. Err (same i))
+
+-- ---- traces that are checked
+
+of_run : (lines others : List Line) (x y : Result (List Line) ℕ) → x ≡ Ok lines → y ≡ Ok others → x ≡ y → lines ≡ others
+of_run lines others x y e f g = cc (e, f, g)
+
+of_wrong : (line other : ℕ) (x y : Result (List Line) ℕ) → x ≡ Err line → y ≡ Err other → x ≡ y → line ≡ other
+of_wrong line other x y e f g = cc (e, f, g)
+
+run_or_wrong : (lines : List Line) (line : ℕ) (x y : Result (List Line) ℕ) → x ≡ Ok lines → y ≡ Err line → x ≡ y → ⊥
+run_or_wrong lines line x y e f g = cc (e, f, g)
+
+one_run_of : (name text : List ℕ) (x y : Result (List Line) Response) → RunIs name text x → RunIs name text y → x ≡ y
+one_run_of name text (Ok lines) (Ok others) h k =
+    (let same : lines ≡ others = of_run lines others (Ok lines) (Ok others) refl refl (one_run text (Ok lines) (Ok others) (h.spelled, h.run) (k.spelled, k.run)) in λ i. Ok (same i))
+one_run_of name text (Ok lines) (Err r) h k = absurd (run_or_wrong lines k.0 (Ok lines) (Err k.0) refl refl (one_run text (Ok lines) (Err k.0) (h.spelled, h.run) k.1))
+one_run_of name text (Err r) (Ok lines) h k = absurd (run_or_wrong lines h.0 (Ok lines) (Err h.0) refl refl (one_run text (Ok lines) (Err h.0) (k.spelled, k.run) h.1))
+one_run_of name text (Err r) (Err s) h k =
+    (let line : h.0 ≡ k.0 = of_wrong h.0 k.0 (Err h.0) (Err k.0) refl refl (one_run text (Err h.0) (Err k.0) h.1 k.1) in
+     let same : r ≡ s = h.2 ∙ (ap (λ number. unkept_response name number (codes "BADTRACE")) line ∙ sym k.2) in λ i. Err (same i))
+
+one_checked : (trace printed rules text : List ℕ) (book : Book) (drives : Drives) → IsOne (Checked trace printed rules text book drives)
+one_checked trace printed rules text book drives =
+    one_given (RunIs trace printed) (λ lines response. response ≡ verdict_response rules text book (count_lives lines) (lives_of drives lines)) (one_run_of trace printed)
+    (λ lines. one_reported (verdict_response rules text book (count_lives lines) (lives_of drives lines)))
+
+one_check : (trace rules : List ℕ) (inputs : List (Role × List ℕ)) (clock : ℕ) (printed text : List ℕ) (more : List (List ℕ)) → IsOne (CheckAnswer trace rules inputs clock printed text more)
+one_check trace rules inputs clock printed text more =
+    let stimuli = (given_for inputs more).stimuli in
+    one_then (rules_of rules clock text) (λ book. Then (drives_of stimuli) (Checked trace printed rules text book))
+    (λ book. one_then (drives_of stimuli) (Checked trace printed rules text book) (λ drives. one_checked trace printed rules text book drives))
+
+one_check_texts : (trace rules : List ℕ) (inputs : List (Role × List ℕ)) (clock : ℕ) (printed : List ℕ) (texts : List (List ℕ)) → IsOne (CheckTexts trace rules inputs clock printed texts)
+one_check_texts trace rules inputs clock printed [] r s h k = absurd h
+one_check_texts trace rules inputs clock printed (text ∷ more) r s h k = one_check trace rules inputs clock printed text more r s h k
+
+one_trace_then : (trace : List ℕ) (may : List ℕ → Response → Type 0) → ((printed : List ℕ) → IsOne (may printed)) → (contents : List (Option (List ℕ))) → IsOne (TraceThen trace may contents)
+one_trace_then trace may one [] r s h k = absurd h
+one_trace_then trace may one (content ∷ []) r s h k = one_then (text_of trace content) may one r s h k
+one_trace_then trace may one (content ∷ other ∷ contents) r s h k = absurd h
 
 -- ---- members of a library
 
@@ -332,6 +383,10 @@ module _
       (λ text commands. one_hex laws file (given_for inputs (drop 2 texts)) text (debug_response (script, commands) (input_for role.Lines inputs (drop 2 texts)))) (take 2 texts)) r s h k)
   answers (Some (Generates number)) contents r s h k = reported_sources made_names (made_given number) (placing_of []) (made_texts number) (summary_of number) r s h k
   answers (Some (Dumps file out clock)) contents r s h k = equal r s (one_then (reads_of (file ∷ []) contents) (OneText (DumpAnswer file out clock)) (one_text (DumpAnswer file out clock) (one_dump laws file out clock)) r s h k)
+  answers (Some (Checks trace rules inputs clock)) contents r s h k =
+      let held = drop (length (names_whole rules inputs)) contents in
+      equal r s (one_then (reads_of (names_whole rules inputs) contents) (λ texts. TraceThen trace (λ printed. CheckTexts trace rules inputs clock printed texts) held)
+      (λ texts. one_trace_then trace (λ printed. CheckTexts trace rules inputs clock printed texts) (λ printed. one_check_texts trace rules inputs clock printed texts) held) r s h k)
   answers (Some (Explains code)) contents r s h k = equal r s (h ∙ sym k)
 
 -- ---- the whole

@@ -23,7 +23,7 @@ use Rattle.kc_kit_files.specs.Response.{Response, Write, write, reports, joined,
 use Rattle.kc_kit_files.specs.Writes.{first_long, unless_long, writing_readable, AreReadable}
 use Rattle.kc_kit_files.proofs.LongLemmas.{readable-of}
 use Rattle.kc_kit_words.specs.declared.inputs.Role.TheVariants as role
-use Rattle.kc_kit_words.specs.Commands.{Beside, Helps, HelpsOn, ReportsVersion, Runs, Profiles, Assembles, Packs, Links, RunsHex, ProfilesHex, Lists, Debugs, Generates, Dumps, Explains, names_of}
+use Rattle.kc_kit_words.specs.Commands.{Beside, Helps, HelpsOn, ReportsVersion, Runs, Profiles, Assembles, Packs, Links, RunsHex, ProfilesHex, Lists, Debugs, Generates, Dumps, Checks, Explains, names_of}
 use Rattle.kc_kit_inputs.specs.Inputs.{input_for}
 use Rattle.kc_kit_inputs.specs.Library as libraries
 use Rattle.kc_kit_inputs.specs.Library.{by_library, library_of, fault_response}
@@ -204,4 +204,5 @@ written_is_readable (Some (Lists file first last)) contents r h = of_none r
 written_is_readable (Some (Debugs file script inputs)) contents r h = of_none r
 written_is_readable (Some (Generates number)) contents r h = of_none r
 written_is_readable (Some (Dumps file out clock)) contents r h = of_none r
+written_is_readable (Some (Checks trace rules inputs clock)) contents r h = of_none r
 written_is_readable (Some (Explains code)) contents r h = of_none r

@@ -3,7 +3,7 @@
 use Rattle.std.specs.Prelude.{ℕ, ◌-◌, ◌==◌, List, [], ◌++◌, codes, decimal, Option, Some, None, slice_get, if◌then◌else◌}
 use Rattle.kc_base.specs.TextLines.{text_lines}
 use Rattle.kc_kit_messages.specs.Meanings.{sentence_of}
-use Rattle.kc_kit_shown.specs.Shown.{shown}
+use Rattle.kc_kit_files.specs.Shown.{shown}
 
 -- the line of this number, from 1 on
 abbrev pub line_at : List ℕ → ℕ → Option (List ℕ)

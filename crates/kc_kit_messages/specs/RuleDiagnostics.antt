@@ -9,7 +9,7 @@ use Rattle.kc_link_place.specs.declared.ranges.LinkFault.{LinkFault}
 use Rattle.kc_link_place.specs.declared.ranges.LinkFault.TheVariants as fault
 use Rattle.kc_link.specs.Map.{kind_word}
 use Rattle.kc_base.specs.Digits.{hex}
-use Rattle.kc_kit_shown.specs.Shown.{shown}
+use Rattle.kc_kit_files.specs.Shown.{shown}
 use Rattle.kc_kit_messages.specs.Diagnostics.{number_text, error_text}
 use Rattle.kc_kit_messages.specs.Rules.{file_at}
 

@@ -2,7 +2,7 @@
 -- macro's body, that line is reported too (this kit's own).
 use Rattle.std.specs.Prelude.{ℕ, ◌==◌, List, [], ◌++◌, codes, Option, Some, None, if◌then◌else◌}
 use Rattle.kc_kit_messages.specs.Meanings.{sentence_of}
-use Rattle.kc_kit_shown.specs.Shown.{shown}
+use Rattle.kc_kit_files.specs.Shown.{shown}
 use Rattle.kc_kit_messages.specs.Diagnostics.{number_text, error_saying, line_at, line_shown}
 
 -- the words before a name and behind it, by the number of the code

@@ -5,7 +5,7 @@ ghost use Rattle.kc_kit_messages.specs.Diagnostics.{line_at, line_shown, number_
 
 use crate::lookup::sentence;
 use kc_base::{NoMemory, after, first_line, prefix};
-use kc_kit_shown::{put_shown, shown};
+use kc_kit_files::{put_shown, shown};
 use std::alloc::Global;
 
 /// The line of this number of a text, from 1 on, without its end.

@@ -10,7 +10,7 @@ use crate::origins::{Origins, file_at, joined};
 use crate::rule_files::in_files;
 use crate::rule_lines::place_text;
 use kc_base::{NoMemory, address_text};
-use kc_kit_shown::{put_shown, shown};
+use kc_kit_files::{put_shown, shown};
 use kc_link::kind_word;
 use kc_link_place::LinkFault;
 use kc_obj_module::{Lines, Module};

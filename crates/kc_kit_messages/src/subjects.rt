@@ -7,7 +7,7 @@ ghost use Rattle.kc_kit_messages.specs.Subjects.{around, sentence_round, sentenc
 use crate::diagnostics::{put_line, put_number};
 use crate::lookup::sentence;
 use kc_base::NoMemory;
-use kc_kit_shown::{put_shown, shown};
+use kc_kit_files::{put_shown, shown};
 use std::alloc::Global;
 
 // The words before a name and behind it, in the sentence of a code that is about one.

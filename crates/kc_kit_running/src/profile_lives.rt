@@ -26,6 +26,7 @@ pub(crate) struct Watched {
 type WatchedMachine = Machine<Pair<FittedUnit, Watchdog>>;
 
 // How a life has ended.
+#[derive(Drop)]
 struct Ending {
     how: End,
     by_watchdog: bool,

@@ -12,12 +12,12 @@ use Rattle.kc_kit_words.specs.declared.extent.Extent.{Extent}
 use Rattle.kc_kit_words.specs.declared.values.Form.{Form}
 use Rattle.kc_kit_words.specs.declared.usage.Wrong.TheVariants as wrong
 use Rattle.kc_kit_words.specs.Number.{number_of}
-use Rattle.kc_kit_words.specs.Options.{form_of, has_form, value_of, are_options, inputs_of, extent_in}
-use Rattle.kc_kit_words.specs.Values.{is_name, range_of}
-use Rattle.kc_kit_words.specs.Usage.{wrong_text, no_command, bad_value, bad_number, twice, lacks, wrong_value, wrong_last, wrong_option, lacks_out, wrong_run_options, wrong_extent, wrong_listing, wrong_placing, wrong_outputs, wrong_name, wrong_files, wrong_file, wrong_pair, wrong_range, wrong_list, wrong_number, wrong_word, wrong_more, wrong_by, wrong_with, wrong_writes, overwrites, plain_usage_of}
+use Rattle.kc_kit_words.specs.Options.{form_of, has_form, value_of, are_options, inputs_of, extent_in, clock_in}
+use Rattle.kc_kit_words.specs.Values.{is_name, is_trace_name, range_of}
+use Rattle.kc_kit_words.specs.Usage.{wrong_text, no_command, bad_value, bad_number, twice, lacks, wrong_value, wrong_last, wrong_option, lacks_out, wrong_run_options, wrong_extent, wrong_listing, wrong_placing, wrong_outputs, wrong_name, wrong_files, wrong_file, wrong_pair, wrong_check, wrong_range, wrong_list, wrong_number, wrong_word, wrong_more, wrong_by, wrong_with, wrong_writes, overwrites, plain_usage_of}
 use Rattle.kc_kit_words.specs.UsageLaw.{WrongWhereNoCommand}
-use Rattle.kc_kit_words.specs.Commands.{Command, Helps, ReportsVersion, Runs, Profiles, Assembles, Packs, Links, ProfilesHex, Lists, Debugs, Generates, overwritten, sparing}
-use Rattle.kc_kit_words.specs.Words.{count_files, files_of, options_of, are_files, placing_of, is_other, are_apart, behind_of, beside_of, differ, run_so, run_by, assembles_by, assemble_by, pack_by, links_by, link_by, hex_so, hex_by, lists_by, list_by, debug_by, generate_by, dump_by, explain_by, alone, command_by, help_on, plain_command_of}
+use Rattle.kc_kit_words.specs.Commands.{Command, Helps, ReportsVersion, Runs, Profiles, Assembles, Packs, Links, ProfilesHex, Lists, Debugs, Generates, Checks, overwritten, sparing}
+use Rattle.kc_kit_words.specs.Words.{count_files, files_of, options_of, are_files, placing_of, is_other, are_apart, behind_of, beside_of, differ, run_so, run_by, assembles_by, assemble_by, pack_by, links_by, link_by, hex_so, hex_by, lists_by, list_by, debug_by, generate_by, dump_by, check_by, explain_by, alone, command_by, help_on, plain_command_of}
 use Rattle.kc_kit_words.proofs.OptionLemmas.{behind}
 
 -- ---- options, in pairs with their values
@@ -246,6 +246,17 @@ dump-agrees [] options = refl
 dump-agrees (file ∷ []) options = gate (wrong_name file) (lacks_out options) (is_name file) _ (name-agrees file) (out-agrees _ (value_of (codes "--out") options))
 dump-agrees (file ∷ other ∷ files) options = refl
 
+check-agrees : (files : List (List ℕ)) (verb : List ℕ) (options : List (List ℕ)) → is_some (wrong_check files) ≡ is_none (check_by files verb options)
+check-agrees [] verb options = refl
+check-agrees (trace ∷ []) verb options = refl
+check-agrees (trace ∷ rules ∷ []) verb options = by (is_trace_name trace) (is_name rules) (Checks trace rules (inputs_of verb options) (clock_in options))
+  where
+    by : (a b : Bool) (c : Command) → is_some (option_or (cond a None (Some (wrong_text wrong.BadName))) (cond b None (Some (wrong_text wrong.BadName)))) ≡ is_none (cond (a && b) (Some c) None)
+    by true true c = refl
+    by true false c = refl
+    by false b c = refl
+check-agrees (trace ∷ rules ∷ third ∷ files) verb options = refl
+
 explain-agrees : (files : List (List ℕ)) → is_some (wrong_word files) ≡ is_none (explain_by files)
 explain-agrees [] = refl
 explain-agrees (code ∷ []) = refl
@@ -275,10 +286,11 @@ verbs-agree verb files options w b e =
     (choose (bytes_eq verb (codes "debug")) _ _ b _ _ (gate w _ b _ e (debug-agrees files verb options))
     (choose (bytes_eq verb (codes "gen")) _ _ b _ _ (gate w _ b _ e (number-agrees files))
     (choose (bytes_eq verb (codes "vcd")) _ _ b _ _ (gate w _ b _ e (dump-agrees files options))
+    (choose (bytes_eq verb (codes "check")) _ _ b _ _ (gate w _ b _ e (check-agrees files verb options))
     (choose (bytes_eq verb (codes "explain")) _ _ b _ _ (gate w _ b _ e (explain-agrees files))
     (choose (bytes_eq verb (codes "--help")) _ _ b _ _ (gate w _ b _ e (alone-agrees files Helps))
     (choose (bytes_eq verb (codes "--version")) _ _ b _ _ (gate w _ b _ e (alone-agrees files ReportsVersion))
-    (other-verb b (no_command verb) None refl))))))))))))
+    (other-verb b (no_command verb) None refl)))))))))))))
 
 -- and a command that would write over what it reads is none
 spared : (w : Option (List ℕ)) (b : Bool) (c : Option Command) → is_some w ≡ is_none (cond b c None) → is_some (option_or w (wrong_writes c)) ≡ is_none (cond b (sparing c) None)

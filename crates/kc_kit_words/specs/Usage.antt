@@ -5,7 +5,7 @@ use Rattle.std.specs.Option.{option_map, option_or}
 use Rattle.std.specs.Str.{bytes_eq}
 use Rattle.kc_base.specs.Limits.{image_start}
 use Rattle.kc_link_place.specs.Ranges.{are_in_bounds, lies_within}
-use Rattle.kc_kit_shown.specs.Shown.{word_shown}
+use Rattle.kc_kit_files.specs.Shown.{word_shown}
 use Rattle.kc_kit_words.specs.declared.usage.Wrong.{Wrong}
 use Rattle.kc_kit_words.specs.declared.usage.Wrong.TheVariants as wrong
 use Rattle.kc_kit_words.specs.declared.values.Form.{Form}

@@ -3,7 +3,7 @@ ghost use Rattle.std.specs.Prelude.{◌≡◌, ◌++◌, codes, map, string_byte
 ghost use Rattle.std.specs.Option.{option_map, option_or};
 ghost use Rattle.kc_trace.specs.Out.{Puts};
 ghost use Rattle.kc_trace.specs.Trace.{out_of};
-ghost use Rattle.kc_kit_shown.specs.Shown.{word_shown};
+ghost use Rattle.kc_kit_files.specs.Shown.{word_shown};
 ghost use Rattle.kc_kit_words.specs.Asked.{asked};
 ghost use Rattle.kc_kit_words.specs.Options.{form_of, value_of};
 ghost use Rattle.kc_kit_words.specs.Usage.{wrong_text, bad_value, lacks, unknown, wrong_writes, wrong_value, wrong_last, wrong_option, lacks_out, wrong_extent, wrong_behind, wrong_run_options, wrong_listing, wrong_placing, wrong_outputs, wrong_name, wrong_files, wrong_file, wrong_pair, wrong_trace, wrong_check, wrong_range, wrong_list, wrong_number, wrong_word, wrong_more, wrong_by, plain_usage_of, usage_of, usage_diagnostic};
@@ -19,7 +19,7 @@ use crate::words::{
     MAX_FILES, are_apart, are_different, are_names, behind_in, beside_in, help_on, is_other, placing, read_command,
 };
 use kc_base::{IMAGE_START, Sink};
-use kc_kit_shown::report_word;
+use kc_kit_files::report_word;
 use kc_trace::TraceOut;
 
 /// What is wrong in words that are no command.

@@ -1,5 +1,5 @@
 -- The codes of the faults of a source (this kit's own), by their numbers and as definitions name them.
-use Rattle.std.specs.Prelude.{ℕ}
+use Rattle.std.specs.Prelude.{ℕ, min, nat_lt, if◌then◌else◌, Option, Some, None}
 use Rattle.kc_lex.specs.declared.fault.SourceCode.{SourceCode}
 use Rattle.kc_lex.specs.declared.fault.SourceCode.TheVariants as source
 
@@ -28,6 +28,15 @@ code_number source.NotExternal = 21
 code_number source.OutsideRegion = 22
 code_number source.SecondModule = 23
 code_number source.NoLabel = 24
+
+-- of two codes the lesser one, and the same of numbers of codes, where there are any
+unfoldable pub lesser_code : SourceCode → SourceCode → SourceCode
+lesser_code c d = if nat_lt (code_number d) (code_number c) then d else c
+
+abbrev pub lesser_number : Option ℕ → Option ℕ → Option ℕ
+lesser_number None b = b
+lesser_number (Some m) None = Some m
+lesser_number (Some m) (Some n) = Some (min m n)
 
 abbrev pub no_statement : ℕ
 no_statement = code_number source.NoStatement

@@ -1,4 +1,5 @@
 ghost use Rattle.std.specs.Prelude.{◌≡◌, ◌≤◌, ◌<◌, false, length, IfOk};
+ghost use Rattle.kc_base.specs.Limits.{file_limit};
 ghost use Rattle.kc_base.specs.TextLines.{begins_with};
 ghost use Rattle.kc_lex.specs.Lines.{includes, comment_begins, quoted_after, is_text_to_comment, control_line, line_tokens, lines_of, IsLines, IsLineAt};
 
@@ -108,7 +109,7 @@ fn line_at(alloc: Global, number: u32, text: &[u8]) -> Result<Line, SourceFault>
 /// written or does not fit 32 bits. (MCS-96 Macro Assembler User's Guide, "Lexical Elements"; the codes are this
 /// kit's own.)
 pub fn lines(alloc: Global, source: &[u8]) -> Result<Vec<Line>, SourceFault>
-    requires { length source.now ≤ 1048576 }
+    requires { length source.now ≤ file_limit }
     ensures { IsLines result (lines_of source.now) }
 {
     let mut lines = Vec::new(alloc);

@@ -1,4 +1,5 @@
 ghost use Rattle.std.specs.Prelude.{◌≡◌, ◌≤◌, length};
+ghost use Rattle.kc_base.specs.Limits.{file_limit};
 ghost use Rattle.kc_lib.specs.Answers.{IsRead, ReportsLibrary, Takes};
 ghost use Rattle.kc_lib.specs.Reading.{read_answer};
 
@@ -35,7 +36,7 @@ impl Library {
     /// checked (a wrong byte of the head, the end before the last member ends, bytes behind the last member), then member
     /// by member (no object, a name that an earlier member gives).
     pub fn read(alloc: Global, bytes: &[u8]) -> Result<Library, LibFault>
-        requires { length bytes.now ≤ 1048576 }
+        requires { length bytes.now ≤ file_limit }
         ensures answer { IsRead result (read_answer bytes.now) }
         ensures format { ReportsLibrary bytes.now result }
     {

@@ -1,5 +1,6 @@
 // A library read: its first bytes, the lengths of its members, and then member by member.
 ghost use Rattle.std.specs.Prelude.{◌≡◌, ◌≤◌, ◌++◌, ◌∷◌, [], List, None, OnOk, length, drop, slice_get};
+ghost use Rattle.kc_base.specs.Limits.{file_limit};
 ghost use Rattle.kc_obj_module.specs.Object.{Object};
 ghost use Rattle.kc_lib.specs.Givers.{Knows};
 ghost use Rattle.kc_lib.specs.Reading as reads;
@@ -70,7 +71,7 @@ fn member_size(rest: &[u8]) -> usize
 // Whether so many members are all that stands behind the head.
 fn check_lengths(count: u8, bytes: &[u8]) -> Result<(), LibFault>
     requires head { 4 ≤ length bytes.now }
-    requires short { length bytes.now ≤ 1048576 }
+    requires short { length bytes.now ≤ file_limit }
     ensures { IsChecked (lengths_fault (length bytes.now) count (drop 4 bytes.now)) result }
 {
     let mut left = after(bytes, HEAD);
@@ -96,8 +97,8 @@ fn check_lengths(count: u8, bytes: &[u8]) -> Result<(), LibFault>
 
 // The module of an object, which gives no name that a member before it gives. Its length field stands at a place.
 fn read_member(alloc: Global, at: usize, givers: &Givers, object: &[u8]) -> Result<Module, LibFault>
-    requires at { at ≤ 1048576 }
-    requires short { length object.now ≤ 1048576 }
+    requires at { at ≤ file_limit }
+    requires short { length object.now ≤ file_limit }
     ensures { (before : List Object) → Knows givers.now.numbers.entries before → IsMemberRead result (member_of at before object.now) }
 {
     match decode(alloc, object) {
@@ -136,7 +137,7 @@ fn keep(
 // The modules of so many members, which fill the bytes behind the head.
 fn read_members(alloc: Global, count: u8, bytes: &[u8]) -> Result<Vec<Module>, LibFault>
     requires head { 4 ≤ length bytes.now }
-    requires short { length bytes.now ≤ 1048576 }
+    requires short { length bytes.now ≤ file_limit }
     requires whole { lengths_fault (length bytes.now) count (drop 4 bytes.now) ≡ None }
     ensures { AreRead result (reads.members (length bytes.now) count [] (drop 4 bytes.now)) }
 {
@@ -155,7 +156,7 @@ fn read_members(alloc: Global, count: u8, bytes: &[u8]) -> Result<Vec<Module>, L
 
 /// The members of a library, or its first fault.
 pub(crate) fn read_library(alloc: Global, bytes: &[u8]) -> Result<Vec<Module>, LibFault>
-    requires { length bytes.now ≤ 1048576 }
+    requires { length bytes.now ≤ file_limit }
     ensures { AreRead result (read_answer bytes.now) }
 {
     check_head(bytes)?;

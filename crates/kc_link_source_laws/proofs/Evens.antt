@@ -15,8 +15,8 @@ use Rattle.kc_asm_bytes.specs.declared.relocatable_byte.RelocatableByte.TheVaria
 use Rattle.kc_asm_bytes.specs.Filling.{base_address, address}
 use Rattle.kc_asm_encode.specs.declared.word.Word.{Word}
 use Rattle.kc_asm_encode.specs.declared.word.Word.TheVariants.{Absent, Register, Immediate, Indirect, Increment, Short, Long, Count, Jump}
-use Rattle.kc_asm_encode.specs.declared.word.Worded.{Worded}
-use Rattle.kc_asm_encode.specs.RelocatableBytes.{byte_of, operand_relocatables, opcode_relocatable, laid_relocatables, row_relocatables, worded_relocatables, all_relocatable_bytes}
+use Rattle.kc_asm_encode.specs.declared.word.RelocatableInsn.{RelocatableInsn}
+use Rattle.kc_asm_encode.specs.RelocatableBytes.{byte_of, operand_relocatables, opcode_relocatable, laid_relocatables, row_relocatables, insn_relocatables, all_relocatable_bytes}
 use Rattle.kc_asm_encode.specs.Suits.{IsInstruction, IsEven}
 
 -- ---- what a byte counts from
@@ -72,20 +72,20 @@ even_operand b form byte (Jump v) e h k = tt
 
 -- ---- an instruction
 
-operand_even : (b : Bases) (w : Worded) (row : Shown) → AllEven b (row_relocatables w row) → AllEven b (operand_relocatables (layout_of row.shape).form (is_byte row.width) w.operand)
+operand_even : (b : Bases) (w : RelocatableInsn) (row : Shown) → AllEven b (row_relocatables w row) → AllEven b (operand_relocatables (layout_of row.shape).form (is_byte row.width) w.operand)
 operand_even b w row h =
     let l = layout_of row.shape in
     let laid : AllEven b (laid_relocatables (layout_of row.shape) (is_byte row.width) w) = (even_behind b (map Plain (prefix w.signed)) (opcode_relocatable (layout_of row.shape).form w.opcode w.operand ∷ laid_relocatables (layout_of row.shape) (is_byte row.width) w) h).1 in
     even_prefix b (operand_relocatables (layout_of row.shape).form (is_byte row.width) w.operand) (map byte_of (take (layout_of row.shape).after (drop (layout_of row.shape).before w.regs)))
     (even_behind b (map byte_of (take (layout_of row.shape).before w.regs)) (operand_relocatables (layout_of row.shape).form (is_byte row.width) w.operand ++ map byte_of (take (layout_of row.shape).after (drop (layout_of row.shape).before w.regs))) laid)
 
-worded_is : (w : Worded) (row : Shown) → row_at w.opcode w.signed ≡ Some row → worded_relocatables w ≡ row_relocatables w row
-worded_is w row e = rw (e, worded_relocatables) refl
+insn_is : (w : RelocatableInsn) (row : Shown) → row_at w.opcode w.signed ≡ Some row → insn_relocatables w ≡ row_relocatables w row
+insn_is w row e = rw (e, insn_relocatables) refl
 
-even_worded : (b : Bases) (word : List ℕ) (w : Worded) → IsInstruction word w → AllEven b (worded_relocatables w) → IsEven (bases_at 0) w.operand → IsEven (bases_at 1) w.operand → IsEven b w.operand
-even_worded b word w i e h k =
-    even_operand b (layout_of i.row.shape).form (is_byte i.row.width) w.operand (operand_even b w i.row (subst (AllEven b) (worded_is w i.row i.is) e)) h k
+even_insn : (b : Bases) (word : List ℕ) (w : RelocatableInsn) → IsInstruction word w → AllEven b (insn_relocatables w) → IsEven (bases_at 0) w.operand → IsEven (bases_at 1) w.operand → IsEven b w.operand
+even_insn b word w i e h k =
+    even_operand b (layout_of i.row.shape).form (is_byte i.row.width) w.operand (operand_even b w i.row (subst (AllEven b) (insn_is w i.row i.is) e)) h k
 
-pub all_even : (b : Bases) (word : List ℕ) (w : Worded) (ws : List Worded) → IsInstruction word w → AllEven b (all_relocatable_bytes (w ∷ ws))
+pub all_even : (b : Bases) (word : List ℕ) (w : RelocatableInsn) (ws : List RelocatableInsn) → IsInstruction word w → AllEven b (all_relocatable_bytes (w ∷ ws))
     → IsEven (bases_at 0) w.operand → IsEven (bases_at 1) w.operand → IsEven b w.operand × AllEven b (all_relocatable_bytes ws)
-all_even b word w ws i e h k = (even_worded b word w i (even_prefix b (worded_relocatables w) (all_relocatable_bytes ws) e) h k, even_behind b (worded_relocatables w) (all_relocatable_bytes ws) e)
+all_even b word w ws i e h k = (even_insn b word w i (even_prefix b (insn_relocatables w) (all_relocatable_bytes ws) e) h k, even_behind b (insn_relocatables w) (all_relocatable_bytes ws) e)

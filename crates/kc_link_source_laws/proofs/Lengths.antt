@@ -23,9 +23,9 @@ use Rattle.kc_asm_bytes.specs.declared.relocatable_byte.RelocatableByte.TheVaria
 use Rattle.kc_asm_bytes.specs.Filling.{address}
 use Rattle.kc_asm_encode.specs.declared.word.Word.{Word}
 use Rattle.kc_asm_encode.specs.declared.word.Word.TheVariants as words
-use Rattle.kc_asm_encode.specs.declared.word.Worded.{Worded}
+use Rattle.kc_asm_encode.specs.declared.word.RelocatableInsn.{RelocatableInsn}
 use Rattle.kc_asm_encode.specs.Words.{operand_of, insn_of}
-use Rattle.kc_asm_encode.specs.RelocatableBytes.{byte_of, word_of, operand_relocatables, opcode_relocatable, laid_relocatables, row_relocatables, worded_relocatables}
+use Rattle.kc_asm_encode.specs.RelocatableBytes.{byte_of, word_of, operand_relocatables, opcode_relocatable, laid_relocatables, row_relocatables, insn_relocatables}
 use Rattle.kc_asm_encode.specs.Values.{or_zero}
 use Rattle.kc_asm_emit.specs.Arguments.{Look, value_of}
 use Rattle.kc_asm_emit.specs.Content.{item_relocatables, data_relocatables, long_relocatables}
@@ -63,7 +63,7 @@ prefix_length b n vs = length-map (take n vs) byte_of ∙ (sym (length-map (take
 back_length : (b : Bases) (m n : ℕ) (vs : List Value) → length (map byte_of (take n (drop m vs))) ≡ length (take n (drop m (map (address b) vs)))
 back_length b m n vs = prefix_length b n (drop m vs) ∙ ap (λ (l : List ℕ). length (take n l)) (sym (drop-map (address b) m vs))
 
-laid_length : (b : Bases) (next : ℕ) (l : Layout) (byte : Bool) (w : Worded) → length (laid_relocatables l byte w) ≡ length (laid_bytes l byte (insn_of b next w))
+laid_length : (b : Bases) (next : ℕ) (l : Layout) (byte : Bool) (w : RelocatableInsn) → length (laid_relocatables l byte w) ≡ length (laid_bytes l byte (insn_of b next w))
 laid_length b next l byte w =
     let i : Insn = insn_of b next w in
     let a = length-append (map byte_of (take l.before w.regs)) (operand_relocatables l.form byte w.operand ++ map byte_of (take l.after (drop l.before w.regs))) in
@@ -75,7 +75,7 @@ laid_length b next l byte w =
     let h = back_length b l.before l.after w.regs in
     omega arith
 
-row_length : (b : Bases) (next : ℕ) (w : Worded) (row : Shown) → length (row_relocatables w row) ≡ length (row_spelling (insn_of b next w) row)
+row_length : (b : Bases) (next : ℕ) (w : RelocatableInsn) (row : Shown) → length (row_relocatables w row) ≡ length (row_spelling (insn_of b next w) row)
 row_length b next w row = by w.signed
   where
     by : (t : Bool) → length (map Plain (prefix t) ++ (opcode_relocatable (layout_of row.shape).form w.opcode w.operand ∷ laid_relocatables (layout_of row.shape) (is_byte row.width) w))
@@ -83,15 +83,15 @@ row_length b next w row = by w.signed
     by true = ap (λ (n : ℕ). suc (suc n)) (laid_length b next (layout_of row.shape) (is_byte row.width) w)
     by false = ap (λ (n : ℕ). suc n) (laid_length b next (layout_of row.shape) (is_byte row.width) w)
 
-pub worded_spelled : (b : Bases) (next : ℕ) (w : Worded) → length (worded_relocatables w) ≡ length (spelling (insn_of b next w))
-worded_spelled b next w = by (row_at w.opcode w.signed)
+pub insn_spelled : (b : Bases) (next : ℕ) (w : RelocatableInsn) → length (insn_relocatables w) ≡ length (spelling (insn_of b next w))
+insn_spelled b next w = by (row_at w.opcode w.signed)
   where
     by : (o : Option Shown) → length (elim o as (λ _. List RelocatableByte) [ None ↦ [] | Some row ↦ row_relocatables w row ]) ≡ length (elim o as (λ _. List ℕ) [ None ↦ [] | Some row ↦ row_spelling (insn_of b next w) row ])
     by None = refl
     by (Some row) = row_length b next w row
 
-pub worded_length : (b : Bases) (next : ℕ) (w : Worded) → length (insn_of b next w).regs ≡ 3 → length (worded_relocatables w) ≡ length_of (insn_of b next w)
-worded_length b next w three = worded_spelled b next w ∙ spelled_count (insn_of b next w) three
+pub insn_length : (b : Bases) (next : ℕ) (w : RelocatableInsn) → length (insn_of b next w).regs ≡ 3 → length (insn_relocatables w) ≡ length_of (insn_of b next w)
+insn_length b next w three = insn_spelled b next w ∙ spelled_count (insn_of b next w) three
 
 -- ---- data
 

@@ -14,10 +14,10 @@ use Rattle.kc_asm_symbols.specs.Located.{Located}
 use Rattle.kc_asm_symbols.specs.Meanings.{meaning}
 use Rattle.kc_obj_module.specs.Numbers.{Bases}
 use Rattle.kc_branch.specs.declared.piece.Form.{Form}
-use Rattle.kc_asm_encode.specs.declared.word.Worded.{Worded}
+use Rattle.kc_asm_encode.specs.declared.word.RelocatableInsn.{RelocatableInsn}
 use Rattle.kc_asm_encode.specs.Instructions.{instructions}
 use Rattle.kc_asm_encode.specs.Words.{insn_of}
-use Rattle.kc_asm_encode.specs.RelocatableBytes.{worded_relocatables, all_relocatable_bytes}
+use Rattle.kc_asm_encode.specs.RelocatableBytes.{insn_relocatables, all_relocatable_bytes}
 use Rattle.kc_asm_encode.specs.Said.{said}
 use Rattle.kc_link_place.specs.Placing.{bases_of}
 use Rattle.kc_link_unlinked_laws.specs.Parts.{part_bases}
@@ -26,7 +26,7 @@ use Rattle.kc_asm_emit.specs.Content.{content, reserved, upto}
 use Rattle.kc_asm_check.specs.Checking.{standing}
 use Rattle.kc_link_source_laws.specs.Saying.{data_of, code_of}
 use Rattle.kc_link_source_laws.specs.Linked.{address_of, Decodes, Reads, size_of, Covers, OneImage}
-use Rattle.kc_link_source_laws.proofs.Lengths.{worded_length, data_length}
+use Rattle.kc_link_source_laws.proofs.Lengths.{insn_length, data_length}
 
 -- ---- lists
 
@@ -54,16 +54,16 @@ module _ (law : OneSpelling) (image other : List ℕ) (bi : IsBytes image) (bo :
       let t : take n (drop at image) ≡ take n (drop at other) = law i (drop at image) (drop at other) n n (drop_bytes at image bi) (drop_bytes at other bo) d e in
       sym (get_drop at k image) ∙ (sym (get_take n k (drop at image) h) ∙ (ap (λ (l : List ℕ). slice_get l k) t ∙ (get_take n k (drop at other) h ∙ get_drop at k other)))
 
-  same_code : (b : Bases) (ws : List Worded) (at place k : ℕ) → Decodes image at (said b place ws) → Decodes other at (said b place ws) → k < length (all_relocatable_bytes ws)
+  same_code : (b : Bases) (ws : List RelocatableInsn) (at place k : ℕ) → Decodes image at (said b place ws) → Decodes other at (said b place ws) → k < length (all_relocatable_bytes ws)
       → slice_get image (at + k) ≡ slice_get other (at + k)
   unfolding said
   same_code b [] at place k d e h = absurd (omega (arith, h))
   same_code b (w ∷ ws) at place k d e h =
-      let next : ℕ = place + length (worded_relocatables w) in
+      let next : ℕ = place + length (insn_relocatables w) in
       let i : Insn = insn_of b next w in
       let prefix = in_front (drop at image) i (length_of i) (drop_bytes at image bi) d.0 in
-      let n : length (worded_relocatables w) ≡ length_of i = worded_length b next w prefix.has.three in
-      let whole : length (all_relocatable_bytes (w ∷ ws)) ≡ length (worded_relocatables w) + length (all_relocatable_bytes ws) = length-append (worded_relocatables w) (all_relocatable_bytes ws) in
+      let n : length (insn_relocatables w) ≡ length_of i = insn_length b next w prefix.has.three in
+      let whole : length (all_relocatable_bytes (w ∷ ws)) ≡ length (insn_relocatables w) + length (all_relocatable_bytes ws) = length-append (insn_relocatables w) (all_relocatable_bytes ws) in
       elim (in_or_behind (length_of i) k) [
         | inl l ↦ same_prefix i (length_of i) at k d.0 e.0 l
         | inr r ↦

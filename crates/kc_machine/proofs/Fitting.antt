@@ -24,7 +24,7 @@ use Rattle.kc_block_spec.specs.Registers.{bytes_read_everywhere, bytes_written_e
 use Rattle.kc_block_spec.specs.Accesses.{latch_edges, after_byte_read, after_word_read, byte_written, word_written}
 use Rattle.kc_block_spec.proofs.Counts.{eighteen_edges}
 use Rattle.kc_machine_spec.specs.Board.{Board, masks_of, with_masks}
-use Rattle.kc_machine_spec.specs.Scene.{Scene, all_kept, opened, with_units, window_at, byte_weight, word_weight, put, kept, scene_answer, after_by, scene_meaning}
+use Rattle.kc_machine_spec.specs.Scene.{Scene, all_kept, opened, with_units, window_at, byte_weight, is_zero_register, word_weight, put, kept, scene_answer, after_by, scene_meaning}
 use Rattle.kc_machine.specs.Keeping.{all_noted, while_counted, fitting}
 use Rattle.kc_machine.specs.Bus.{bus_meaning}
 use Rattle.kc_block_spec.specs.Costs.{CostsAtMost}
@@ -80,7 +80,7 @@ byte_weight-few : {R : Type 0} (everywhere : List (ℕ × R)) (addr : ℕ) → b
 byte_weight-few everywhere addr = either-few (is_some (row_at everywhere addr)) 0 1 (omega arith) (omega arith)
 
 word_weight-few : (addr : ℕ) → word_weight addr ≤ 2
-word_weight-few addr = either-few (nat_lt addr 2) 0 2 (omega arith) (omega arith)
+word_weight-few addr = either-few (is_zero_register (row_at bytes_read_everywhere addr)) 0 2 (omega arith) (omega arith)
 
 -- a count is no more than the sum
 counted-most : (a b : ℕ) (room : Bool) → (if room then a + b else a) ≤ a + b

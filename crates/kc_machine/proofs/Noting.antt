@@ -22,7 +22,7 @@ use Rattle.kc_block_spec.specs.Reading.{after_byte, after_word}
 use Rattle.kc_block_spec.specs.Accesses.{latch_edges, after_byte_read, after_byte_read_as, byte_written, word_read, after_word_read, after_word_read_as, word_written}
 use Rattle.kc_block_spec.proofs.Quiet.{edges_none}
 use Rattle.kc_machine_spec.specs.Board.{with_masks}
-use Rattle.kc_machine_spec.specs.Scene.{Scene, with_units, window_at, byte_weight, word_weight, kept, accepted, scene_answer, after_by}
+use Rattle.kc_machine_spec.specs.Scene.{Scene, with_units, window_at, byte_weight, is_zero_register, word_weight, kept, accepted, scene_answer, after_by}
 use Rattle.kc_machine.specs.Keeping.{one_noted, all_noted, counted, fitting}
 
 -- edges that are handed out to the buffer stand there, as far as there is room
@@ -92,9 +92,19 @@ pub count-none : (a : ℕ) (b : Bool) → (if b then a + 0 else a) ≡ a
 count-none a true = add-zero a
 count-none a false = refl
 
--- a word from 0002H on counts twice
+no_zero : (b : Bool) (r : ReadableByte) (rest : Option ReadableByte) → is_zero_register (Some r) ≡ false → is_zero_register rest ≡ false → is_zero_register (if b then Some r else rest) ≡ false
+no_zero true r rest h k = h
+no_zero false r rest h k = k
+
+-- a word from 0002H on counts twice: the zero register stands below it alone
 pub word-some : (addr : ℕ) → 2 ≤ addr → 2 ≤ word_weight addr
-word-some addr far = let e : nat_lt addr 2 ≡ false = grind (arith, common_steps) in rw e (omega arith)
+unfolding bytes_read_everywhere
+word-some addr far =
+    let e : (addr == 0) ≡ false = grind (arith, common_steps) in
+    let h : (addr == 1) ≡ false = grind (arith, common_steps) in
+    let other : is_zero_register (row_at bytes_read_everywhere addr) ≡ false =
+    rw (e, h) (no_zero (addr == 0x08) IntMask _ refl (no_zero (addr == 0x09) IntPend _ refl (no_zero (addr == 0x12) IntPend1 _ refl (no_zero (addr == 0x13) IntMask1 _ refl (no_zero (addr == 0x14) Wsr _ refl refl))))) in
+    rw other (omega arith)
 
 -- a scene with other units and edges
 scene_with : {X : Type 0} → Scene X → ℕ → Units X → List Edge → ℕ → Scene X
@@ -220,13 +230,13 @@ word-counts n old new reached later some most count few = by-room (nat_lt reache
 
 module _ {X : Type 0} (f : Further X) where
   pub zeros-were-read : (s : Scene X) (by : Master) (addr : ℕ) → addr ≡ 0 → after_by f fitting s (ReadWord by addr) ≡ s
-  unfolding printed_of scene_with
+  unfolding printed_of scene_with bytes_read_everywhere
   zeros-were-read s by addr e =
       subst (λ a. after_by f fitting s (ReadWord by a) ≡ s) (sym e)
       (settled s _ 0 s.time s.board.units s.edges s.reached (sym (zeros-stay f s.time (window_at s by) s.board.units)) refl (ap (all_noted s.edges) (latches-kept s.board.units s.board.units refl)) (sym (count-none s.reached (nat_lt s.reached 64))))
 
   pub zeros-were-written : (s : Scene X) (by : Master) (addr n : ℕ) → addr ≡ 0 → after_by f fitting s (WriteWord by addr n) ≡ s
-  unfolding printed_of scene_with
+  unfolding printed_of scene_with bytes_read_everywhere
   zeros-were-written s by addr n e =
       subst (λ a. after_by f fitting s (WriteWord by a n) ≡ s) (sym e)
       (settled s _ 0 s.time s.board.units s.edges s.reached (ap (kept s.board.units) (zeros-written f s.time (window_at s by) s.board.units n)) refl (ap (all_noted s.edges) (latches-kept s.board.units s.board.units refl)) (sym (count-none s.reached (nat_lt s.reached 64))))

@@ -330,7 +330,7 @@ impl<X: Extra + Drop> Common<X> {
         Ok(value)
     }
 
-    /// A word read below 0018H.
+    /// A word read below 0018H. The zero register is not looked up: it reads 0, and no unit is reached.
     #[inline(never)]
     #[cold]
     pub(crate) fn read_word<L: Ledger>(
@@ -351,7 +351,7 @@ impl<X: Extra + Drop> Common<X> {
         }
         let window = self.window(by);
         let value = self.block.read16_here(window, addr as u8, steps)?;
-        self.reached = count(self.reached, weigh_word(addr));
+        self.reached = count(self.reached, weigh_word(addr as u8));
         Ok(value)
     }
 
@@ -402,7 +402,7 @@ impl<X: Extra + Drop> Common<X> {
         }
     }
 
-    /// A word write below 0018H.
+    /// A word write below 0018H. The zero register is not looked up: it ignores it, and no unit is reached.
     #[inline(never)]
     #[cold]
     pub(crate) fn write_word<L: Ledger>(
@@ -428,7 +428,7 @@ impl<X: Extra + Drop> Common<X> {
             .write16_here(window, addr as u8, value, &mut self.edges, steps)
         {
             Ok(()) => {
-                self.reached = count(self.reached, weigh_word(addr));
+                self.reached = count(self.reached, weigh_word(addr as u8));
                 Ok(())
             }
             Err(kind) => Err(kind),

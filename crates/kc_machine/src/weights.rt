@@ -3,7 +3,7 @@ ghost use Rattle.std.specs.Prelude.{◌≡◌, ◌≤◌};
 ghost use Rattle.kc_block_spec.specs.Registers.{window_seen, bytes_read_everywhere, bytes_written_everywhere};
 ghost use Rattle.kc_machine_spec.specs.Scene.{byte_weight, word_weight};
 
-use kc_block_spec::{Window, readable_everywhere, writable_everywhere};
+use kc_block_spec::{ReadableByte, Window, readable_everywhere, writable_everywhere};
 use kc_bus::Master;
 
 /// The horizontal window that a master sees under this value of WSR.
@@ -41,10 +41,13 @@ pub(crate) fn weigh_write(sfr: u8) -> u8
     }
 }
 
-/// As how many a word access counts.
-pub(crate) fn weigh_word(addr: u16) -> u8
-    ensures value { result ≡ word_weight addr }
+/// As how many a word access counts: the zero register stands beside the units.
+pub(crate) fn weigh_word(sfr: u8) -> u8
+    ensures value { result ≡ word_weight sfr }
     ensures bound { result ≤ 2 }
 {
-    if addr < 2 { 0 } else { 2 }
+    match readable_everywhere(sfr) {
+        Some(ReadableByte::Zeros) => 0,
+        _ => 2,
+    }
 }

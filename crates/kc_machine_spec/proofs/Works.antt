@@ -26,7 +26,7 @@ use Rattle.kc_machine_spec.specs.declared.doing.Activity.TheVariants.{Executes, 
 use Rattle.kc_machine_spec.specs.declared.doing.End.{End as Ending}
 use Rattle.kc_machine_spec.specs.declared.doing.UnderWay.{UnderWay}
 use Rattle.kc_machine_spec.specs.Board.{masks_of}
-use Rattle.kc_machine_spec.specs.Scene.{Scene, with_units as scene_with, all_kept, put, byte_weight, word_weight, scene_answer, after_by, scene_meaning}
+use Rattle.kc_machine_spec.specs.Scene.{Scene, with_units as scene_with, all_kept, put, byte_weight, is_zero_register, word_weight, scene_answer, after_by, scene_meaning}
 use Rattle.kc_machine_spec.specs.Machine.{Machine, Stepped, step, stepped, current, finished, waiting, with_units, with_asked, settled, entered, trapped, prepared, cycled, handed, transferred, own_records, scene_of}
 use Rattle.kc_machine_spec.specs.Run.{run_for}
 use Rattle.kc_machine_spec.specs.Work.{of_register, register_access, if_accepted, register_accesses, accesses_of, work_of, work_with, work_for, TouchIsWithinWork}
@@ -62,16 +62,18 @@ written_within (suc (suc n)) below =
     let few : byte_weight bytes_written_everywhere (suc (suc n)) ≤ 1 = one_most (is_some (row_at bytes_written_everywhere (suc (suc n)))) in
     omega (arith, one, few)
 
+two_most : (b : Bool) → (if b then 0 else 2) ≤ 2
+two_most true = omega arith
+two_most false = omega arith
+
 word_within : (addr : ℕ) → addr < 24 → word_weight addr ≤ 2 * of_register addr
-word_within addr below = by (nat_lt addr 2) refl
-  where
-    by : (b : Bool) → nat_lt addr 2 ≡ b → word_weight addr ≤ 2 * of_register addr
-    by true e = rw e (omega arith)
-    by false e =
-        let far : 2 ≤ addr = grind (arith, nat_tests) in
-        let one = register_one addr far below in
-        let two : word_weight addr ≡ 2 = rw e refl in
-        omega (arith, one, two)
+unfolding bytes_read_everywhere
+word_within zero below = let e : word_weight 0 ≡ 0 = refl in omega (arith, e)
+word_within (suc zero) below = let e : word_weight 1 ≡ 0 = refl in omega (arith, e)
+word_within (suc (suc n)) below =
+    let one = register_one (suc (suc n)) (omega arith) below in
+    let few : word_weight (suc (suc n)) ≤ 2 = two_most (is_zero_register (row_at bytes_read_everywhere (suc (suc n)))) in
+    omega (arith, one, few)
 
 module _ {X : Type 0} where
   either-reaches : (addr n weight : ℕ) (s : Scene X) (u : Units X) (other : Scene X) → (addr < 24 → weight ≤ n) → other.reached ≡ s.reached →

@@ -1,5 +1,5 @@
 -- One access to the common memory (80C196KC User's Manual, "Memory Map" and "Special Function Registers").
-use Rattle.std.specs.Prelude.{ℕ, ◌+◌, ◌*◌, ◌/◌, ◌%◌, nat_lt, is_some, if◌then◌else◌, Result, Ok, Err, List, [], ◌++◌, slice_index, slice_set}
+use Rattle.std.specs.Prelude.{ℕ, ◌+◌, ◌*◌, ◌/◌, ◌%◌, nat_lt, Bool, true, false, is_some, if◌then◌else◌, Option, Some, Result, Ok, Err, List, [], ◌++◌, slice_index, slice_set}
 use Rattle.kc_base.specs.declared.types.Edge.{Edge}
 use Rattle.kc_base.specs.declared.types.Kind.{Kind}
 use Rattle.kc_base.specs.declared.types.Kind.TheVariants.{BadWindow}
@@ -10,6 +10,8 @@ use Rattle.kc_exec_spec.specs.Window.{is_wsr}
 use Rattle.kc_exec_spec.specs.Memory.{if_even, reads, writes}
 use Rattle.kc_extra.specs.Further.{Further}
 use Rattle.kc_block_spec.specs.declared.registers.Window.{Window}
+use Rattle.kc_block_spec.specs.declared.registers.ReadableByte.{ReadableByte}
+use Rattle.kc_block_spec.specs.declared.registers.ReadableByte.TheVariants.{Zeros}
 use Rattle.kc_block_spec.specs.Units.{Units}
 use Rattle.kc_block_spec.specs.Registers.{window_seen, bytes_read_everywhere, bytes_written_everywhere, row_at}
 use Rattle.kc_block_spec.specs.Accesses.{byte_read, after_byte_read, byte_written, word_read, after_word_read, word_written, latch_edges, ◌>>=◌}
@@ -54,9 +56,13 @@ put s addr n = record s { board = record s.board { memory = slice_set s.board.me
 abbrev pub byte_weight : {R : Type 0} → List (ℕ × R) → ℕ → ℕ
 byte_weight everywhere addr = if is_some (row_at everywhere addr) then 0 else 1
 
--- a word is two bytes, whether a word register or not; the one at 0000H reaches nothing
+abbrev pub is_zero_register : Option ReadableByte → Bool
+is_zero_register (Some Zeros) = true
+is_zero_register _ = false
+
+-- the word of the zero register reaches nothing; another is two bytes, whether a word register or not
 abbrev pub word_weight : ℕ → ℕ
-word_weight addr = if nat_lt addr 2 then 0 else 2
+word_weight addr = if is_zero_register (row_at bytes_read_everywhere addr) then 0 else 2
 
 -- the window in which an access is made
 abbrev pub window_at : {X : Type 0} → Scene X → Master → Window

@@ -185,10 +185,11 @@ lives_seen : (lives : List ReportedLife) (v w : Watch) (marks : List Mark) (rule
     ((get_or w.monitors.items k d).life ≡ (get_or v.monitors.items k d).life + length lives)
     × ((get_or w.monitors.items k d).tally
     ≡ tally_from marks (get_or rules k r) ((get_or v.monitors.items k d).life + 1) (get_or v.monitors.items k d).tally (map life_reported lives))
+    × (w.rules ≡ v.rules) × (length w.monitors.items ≡ length v.monitors.items)
 unfolding SeesAll AreReportedLives tally_from
 lives_seen [] v w marks rules k r d sees are m_eq r_eq len tracked less few earlier =
     let same = ap (λ x. get_or x.monitors.items k d) (sym sees) in
-    (ap (λ m. m.life) same ∙ omega arith, ap (λ m. m.tally) same)
+    (ap (λ m. m.life) same ∙ omega arith, ap (λ m. m.tally) same, sym (ap (λ x. x.rules) sees), sym (ap (λ x. length x.monitors.items) sees))
 lives_seen (reported ∷ lives) v w marks rules k r d sees are m_eq r_eq len tracked less few earlier =
     let c = sees.2 in
     let m = get_or v.monitors.items k d in
@@ -204,11 +205,30 @@ lives_seen (reported ∷ lives) v w marks rules k r d sees are m_eq r_eq len tra
     (one.markings ∙ tracked) less (omega (arith, one.life)) bound in (
       rest.0 ∙ omega (arith, one.life),
       rest.1 ∙ (λ i. tally_from marks rule (one.life i + 1) (one.tally i) (map life_reported lives)),
+      rest.2 ∙ one.rules,
+      rest.3 ∙ one.monitors,
     )
   where
     weaker : (n : ℕ) (first : Option Found) → IfSome first (λ f. f.life ≤ n) → IfSome first (λ f. f.life ≤ n + 1)
     weaker n None h = tt
     weaker n (Some f) h = omega arith
+
+-- what the lives have left of the monitor of a rule
+seen_new : (lives : List ReportedLife) (v w : Watch) (marks : List Mark) (rules : List Rule) (k : ℕ) (r : Rule) (d : Monitor) → IsNew marks rules v → SeesAll lives v w → AreReportedLives lives →
+    length lives < 2 ^ 63 → k < length rules →
+    ((get_or w.monitors.items k d).life ≡ length lives) × ((get_or w.monitors.items k d).tally ≡ tally_of marks (get_or rules k r) (map life_reported lives))
+    × (w.rules ≡ v.rules) × (length w.monitors.items ≡ length v.monitors.items)
+seen_new lives v w marks rules k r d new sees are few less =
+    let m = get_or v.monitors.items k d in
+    let in_monitors : k < length v.monitors.items = omega (arith, new.monitors) in
+    let unbegun = new.unbegun k in_monitors d in
+    let seen = lives_seen lives v w marks rules k r d sees are new.marks_are new.rules_are (sym new.monitors) new.markings less (omega (arith, unbegun.0))
+    (subst (λ t. IfSome t.first_bad (λ f. f.life ≤ m.life)) (sym unbegun.1) tt) in (
+      seen.0 ∙ omega (arith, unbegun.0),
+      seen.1 ∙ (λ i. tally_from marks (get_or rules k r) (unbegun.0 i + 1) (unbegun.1 i) (map life_reported lives)),
+      seen.2,
+      seen.3,
+    )
 
 pub all_reported : (lives : List ReportedLife) (v w : Watch) (marks : List Mark) (rules : List Rule) (k : ℕ) (r : Rule) (d : Monitor) → IsNew marks rules v → SeesAll lives v w → AreReportedLives lives →
     length lives < 2 ^ 63 → k < length rules →
@@ -216,12 +236,17 @@ pub all_reported : (lives : List ReportedLife) (v w : Watch) (marks : List Mark)
     × (verdict_of (get_or rules k r) (get_or w.monitors.items k d).life (get_or w.monitors.items k d).tally
     ≡ verdict_of (get_or rules k r) (length lives) (tally_of marks (get_or rules k r) (map life_reported lives)))
 all_reported lives v w marks rules k r d new sees are few less =
-    let m = get_or v.monitors.items k d in
-    let in_monitors : k < length v.monitors.items = omega (arith, new.monitors) in
-    let unbegun = new.unbegun k in_monitors d in
-    let seen = lives_seen lives v w marks rules k r d sees are new.marks_are new.rules_are (sym new.monitors) new.markings less (omega (arith, unbegun.0))
-    (subst (λ t. IfSome t.first_bad (λ f. f.life ≤ m.life)) (sym unbegun.1) tt) in
-    let many : (get_or w.monitors.items k d).life ≡ length lives = seen.0 ∙ omega (arith, unbegun.0) in
-    let tally : (get_or w.monitors.items k d).tally ≡ tally_of marks (get_or rules k r) (map life_reported lives) =
-    seen.1 ∙ (λ i. tally_from marks (get_or rules k r) (unbegun.0 i + 1) (unbegun.1 i) (map life_reported lives)) in
-    (many, tally, λ i. verdict_of (get_or rules k r) (many i) (tally i))
+    let seen = seen_new lives v w marks rules k r d new sees are few less in
+    (seen.0, seen.1, λ i. verdict_of (get_or rules k r) (seen.0 i) (seen.1 i))
+
+-- the rules stay, and each has its monitor
+pub all_kept : (lives : List ReportedLife) (v w : Watch) (marks : List Mark) (rules : List Rule) → IsNew marks rules v → SeesAll lives v w → AreReportedLives lives → length lives < 2 ^ 63 → 0 < length rules →
+    (w.rules ≡ v.rules) × (length w.monitors.items ≡ length rules)
+all_kept lives v w marks [] new sees are few some = absurd (omega (arith, some))
+all_kept lives v w marks (rule ∷ rules) new sees are few some = by v.monitors.items refl
+  where
+    by : (monitors : List Monitor) → v.monitors.items ≡ monitors → (w.rules ≡ v.rules) × (length w.monitors.items ≡ length (rule ∷ rules))
+    by [] none = absurd (omega (arith, new.monitors, ap length none))
+    by (m ∷ monitors) is =
+        let seen = seen_new lives v w marks (rule ∷ rules) 0 rule m new sees are few some in
+        (seen.2, seen.3 ∙ new.monitors)

@@ -1,5 +1,6 @@
 // An object read record by record.
 ghost use Rattle.std.specs.Prelude.{◌≡◌, ◌<◌, ◌≤◌, ◌+◌, ◌-◌, ◌*◌, ◌/◌, ◌^◌, ◌==◌, ℕ, List, length, drop, take, IfOk};
+ghost use Rattle.kc_base.specs.Limits.{file_limit};
 ghost use Rattle.kc_obj_fields.specs.Fields.{word_at};
 ghost use Rattle.kc_obj.specs.Reading.{Read, Answer, fits_name, fits_lines, fits, ended, behind_record, bodied, sized, typed, step_answer, answer_of, IsWithin, IsDecoded, first_fault};
 ghost use Rattle.kc_obj.specs.Law.{ReportsSpelling, ReportsFirst};
@@ -67,7 +68,7 @@ fn body_step(
     len: usize,
     reading: &mut Reading,
 ) -> Result<Step, NoMemory>
-    requires file { length file.now ≤ 1048576 }
+    requires file { length file.now ≤ file_limit }
     requires at { at ≤ length file.now }
     requires len { len < 65536 }
     ensures step { IfOk result (λ s. (goes_on : ℕ → Read → Answer) → bodied first_fault goes_on file.now at kind len (drop at file.now) reading.old ≡ step_answer goes_on s reading.new) }
@@ -94,7 +95,7 @@ fn length_step(
     kind: u8,
     reading: &mut Reading,
 ) -> Result<Step, NoMemory>
-    requires file { length file.now ≤ 1048576 }
+    requires file { length file.now ≤ file_limit }
     requires at { at < length file.now }
     ensures step { IfOk result (λ s. (goes_on : ℕ → Read → Answer) → sized first_fault goes_on file.now at kind (drop 1 (drop at file.now)) reading.old ≡ step_answer goes_on s reading.new) }
     ensures within { IfOk result (λ s. IsWithin (length file.now) s) }
@@ -112,7 +113,7 @@ fn length_step(
 }
 
 fn step(alloc: Global, file: &[u8], at: usize, reading: &mut Reading) -> Result<Step, NoMemory>
-    requires file { length file.now ≤ 1048576 }
+    requires file { length file.now ≤ file_limit }
     requires at { at ≤ length file.now }
     ensures step { IfOk result (λ s. (goes_on : ℕ → Read → Answer) → typed first_fault goes_on file.now at (drop at file.now) reading.old ≡ step_answer goes_on s reading.new) }
     ensures within { IfOk result (λ s. IsWithin (length file.now) s) }
@@ -132,7 +133,7 @@ fn step(alloc: Global, file: &[u8], at: usize, reading: &mut Reading) -> Result<
 
 // The module, or the first fault.
 fn read(alloc: Global, bytes: &[u8]) -> Result<Module, ObjFault>
-    requires { length bytes.now ≤ 1048576 }
+    requires { length bytes.now ≤ file_limit }
     ensures { IsDecoded result (answer_of bytes.now) }
 {
     let mut reading = Reading::new(alloc);
@@ -162,7 +163,7 @@ fn read(alloc: Global, bytes: &[u8]) -> Result<Module, ObjFault>
 /// The module of which the bytes are the spelling, or of all their faults the first by offset, of two at one offset that of
 /// the lesser code, as `ObjCode` numbers them. It stands within the bytes or at their end.
 pub fn decode(alloc: Global, bytes: &[u8]) -> Result<Module, ObjFault>
-    requires { length bytes.now ≤ 1048576 }
+    requires { length bytes.now ≤ file_limit }
     ensures fault { IsDecoded result (answer_of bytes.now) }
     ensures spelling { ReportsSpelling bytes.now result }
     ensures first { ReportsFirst bytes.now result }

@@ -1,5 +1,6 @@
 // What was read of an object so far, record by record.
 ghost use Rattle.std.specs.Prelude.{◌≡◌, ◌==◌, true, if◌then◌else◌, Some, None, Ok, ◌<◌, ◌≤◌, ◌+◌, ◌-◌, ◌/◌, ◌^◌, ℕ, List, length, drop, OnOk, IfOk, slice_get, slice_index};
+ghost use Rattle.kc_base.specs.Limits.{file_limit};
 ghost use Rattle.std.specs.Option.{option_copied, option_map};
 ghost use Rattle.kc_obj_module.specs.Object.{Object, object_of};
 ghost use Rattle.kc_obj_module.specs.Rules.{is_module};
@@ -224,7 +225,7 @@ impl Reading {
     fn take_run(&mut self, alloc: Global, at: u32, len: usize, body: &[u8]) -> Result<(), NoMemory>
         requires at { at < 2 ^ 30 }
         requires len { len < 65536 }
-        requires body { length body.now ≤ 1048576 }
+        requires body { length body.now ≤ file_limit }
         ensures { OnOk result (self.new ≡ after_run noted at len body.now self.old) }
     {
         let run = run_by(alloc, body)?;
@@ -344,7 +345,7 @@ impl Reading {
     ) -> Result<(), NoMemory>
         requires at { at < 2 ^ 29 }
         requires len { len < 65536 }
-        requires body { length body.now ≤ 1048576 }
+        requires body { length body.now ≤ file_limit }
         ensures { OnOk result (self.new ≡ after_record noted kind at len file.now body.now self.old) }
     {
         match kind {

@@ -1,5 +1,6 @@
 // Runs of bytes that were read, and where in the file each byte stands.
 ghost use Rattle.std.specs.Prelude.{◌≡◌, ◌<◌, ◌≤◌, ◌+◌, ◌++◌, ◌∷◌, [], ◌^◌, length, OnOk, OnErr};
+ghost use Rattle.kc_base.specs.Limits.{file_limit};
 ghost use Rattle.std.specs.Option.{option_copied};
 ghost use Rattle.std.specs.HashMap.{IsEmpty};
 ghost use Rattle.kc_obj_fields.specs.Records.{place_of};
@@ -54,7 +55,7 @@ fn put_run(
     start: u32,
 ) -> Result<(), NoMemory>
     requires start { start < 2 ^ 31 }
-    requires run { length run.bytes ≤ 1048576 }
+    requires run { length run.bytes ≤ file_limit }
     ensures places { OnOk result (PutsRun places.old places.new run.piece run.offset start (length run.bytes)) }
     ensures contents { OnOk result (contents.new.items ≡ contents.old.items ++ run ∷ []) }
     ensures starts { OnOk result (starts.new.items ≡ starts.old.items ++ start ∷ []) }
@@ -110,7 +111,7 @@ impl Runs {
     /// Adds a run of which the bytes begin at `start` in the file. After an error nothing is left.
     pub fn push(&mut self, run: Content, start: u32) -> Result<(), NoMemory>
         requires start { start < 2 ^ 31 }
-        requires run { length run.bytes ≤ 1048576 }
+        requires run { length run.bytes ≤ file_limit }
         ensures ok { OnOk result (self.new ≡ laid (self.old.contents ++ run ∷ []) (self.old.starts ++ start ∷ [])) }
         ensures err { OnErr result (self.new ≡ laid [] []) }
     {

@@ -1,6 +1,7 @@
 -- How long requests wait (80C196KC User's Manual, "Interrupts": latency; "Peripheral Transaction Server"). Of states the last
 -- comes first.
-use Rattle.std.specs.Prelude.{◌≡◌, ℕ, zero, suc, ◌+◌, ◌-◌, ◌<◌, ◌≤◌, Bool, true, false, ◌&&◌, ◌||◌, if◌then◌else◌, List, [], ◌∷◌, ◌++◌, Option, Some, None, is_some, count_by}
+use Rattle.std.specs.Prelude.{◌≡◌, ℕ, ◌+◌, ◌-◌, ◌<◌, ◌≤◌, Bool, true, false, ◌&&◌, ◌||◌, if◌then◌else◌, List, [], ◌∷◌, ◌++◌, Option, Some, None, is_some, count_by, All}
+use Rattle.std.specs.List.{prefix_len}
 use Rattle.kc_base.specs.Bits.{bit}
 use Rattle.kc_profile.specs.declared.sight.Sight.{Sight}
 use Rattle.kc_profile.specs.declared.spread.Moment.{Moment}
@@ -18,9 +19,8 @@ abbrev pub handed : Sight → ℕ
 handed s = s.before.service
 
 -- for how many states in a row, up to the last, a request is in a set at their start
-unfoldable pub row : (Sight → ℕ) → ℕ → List Sight → ℕ
-row set n [] = 0
-row set n (s ∷ earlier) = if bit (set s) n then suc (row set n earlier) else 0
+abbrev pub row : (Sight → ℕ) → ℕ → List Sight → ℕ
+row set n sights = prefix_len (λ s. bit (set s) n) sights
 
 -- How long a request has waited whose entry ends in the last state: from the state in which the transfer server handed it over, or
 -- else from that in which it came. States in which it is masked, or interrupts are disabled, count.
@@ -50,6 +50,33 @@ is_missed n s = bit s.raised.0 n && bit s.before.pending n
 abbrev pub missed : ℕ → List Sight → ℕ
 missed n sights = count_by (is_missed n) sights
 
+-- ---- the same in words: the state of the entry minus that in which the request came
+
+-- a state follows others of a life, at whose start no request was there
+abbrev pub Follows : Sight → List Sight → Type 0
+Follows s [] = (s.before.pending ≡ 0) × (s.before.service ≡ 0)
+Follows s (last ∷ earlier) = (s.at ≡ last.at + 1) × (s.before ≡ last.after)
+
+unfoldable pub AreConsecutive : Sight → List Sight → Type 0
+AreConsecutive s [] = Follows s []
+AreConsecutive s (last ∷ earlier) = Follows s (last ∷ earlier) × AreConsecutive last earlier
+
+-- the state in which a request came that is pending at the start of a later one: it was not pending at its start, is pending at its end,
+-- and at the start of each state since
+pub record Came (n : ℕ) (s : Sight) (earlier : List Sight) : Type 0 where
+  pub came : Sight
+  pub since : List Sight
+  pub before : List Sight
+  pub stands : earlier ≡ since ++ came ∷ before
+  pub was_not : bit came.before.pending n ≡ false
+  pub is_then : bit came.after.pending n ≡ true
+  pub stays : All (λ (r : Sight). bit r.before.pending n ≡ true) since
+  pub waited : row pending n (s ∷ earlier) ≡ s.at - came.at
+
+-- a request that is pending has waited since the state in which it came
+abbrev pub WaitsAreSinceItCame : Type 0
+WaitsAreSinceItCame = (n : ℕ) (s : Sight) (earlier : List Sight) → AreConsecutive s earlier → bit s.before.pending n ≡ true → Came n s earlier
+
 -- ---- the same, state by state
 
 -- the state in which a request came that is in a set behind the last state
@@ -71,15 +98,6 @@ pending_after s = s.after.pending
 
 abbrev pub handed_after : Sight → ℕ
 handed_after s = s.after.service
-
--- a state follows others of a life, at whose start no request was there
-abbrev pub Follows : Sight → List Sight → Type 0
-Follows s [] = (s.before.pending ≡ 0) × (s.before.service ≡ 0)
-Follows s (last ∷ earlier) = (s.at ≡ last.at + 1) × (s.before ≡ last.after)
-
-unfoldable pub AreConsecutive : Sight → List Sight → Type 0
-AreConsecutive s [] = Follows s []
-AreConsecutive s (last ∷ earlier) = Follows s (last ∷ earlier) × AreConsecutive last earlier
 
 -- what is told of a request after these states of a life
 pub record AreWaitsOf (n life : ℕ) (sights : List Sight) (w : Waits) : Type 0 where

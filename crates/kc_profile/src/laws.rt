@@ -1,6 +1,18 @@
+ghost use Rattle.kc_profile.specs.Spreads.{SpreadsAreOfAll};
 ghost use Rattle.kc_profile.specs.Tally.{TalliesAreOne};
+ghost use Rattle.kc_profile.specs.Waits.{WaitsAreSinceItCame};
 
 /// The numbers of a tally are those of its states, and no others.
 pub fn tallies_are_one()
     ensures { TalliesAreOne }
+{}
+
+/// A spread has the least and the greatest of its numbers, and the time at which the greatest came first.
+pub fn spreads_are_of_all()
+    ensures { SpreadsAreOfAll }
+{}
+
+/// A request that is pending has waited since the state in which it came.
+pub fn waits_are_since_it_came()
+    ensures { WaitsAreSinceItCame }
 {}

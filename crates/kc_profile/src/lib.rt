@@ -14,7 +14,7 @@ mod told;
 mod telling;
 mod waits;
 
-pub use laws::tallies_are_one;
+pub use laws::{spreads_are_of_all, tallies_are_one, waits_are_since_it_came};
 pub use profile::Profile;
 pub use reporting::report;
 pub use running::run_profiled;

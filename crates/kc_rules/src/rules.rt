@@ -1,5 +1,6 @@
 // A rules file, line by line.
 ghost use Rattle.std.specs.Prelude.{◌≡◌, ◌≤◌, ℕ, Some, None, [], ◌∷◌, ◌++◌, length, OnOk, IfErr};
+ghost use Rattle.kc_base.specs.Limits.{file_limit};
 ghost use Rattle.kc_rules.specs.declared.fault.RulesFault.TheVariants as faults;
 ghost use Rattle.kc_rules.specs.Lines.{IsRead, with_line};
 
@@ -74,7 +75,7 @@ impl Rules {
     /// What a rules file says, of 1,048,576 bytes at most, at an oscillator of so many hertz. Refused is the first line that has
     /// no reading.
     pub fn read(alloc: Global, clock: u32, bytes: &[u8]) -> Result<Rules, RulesFault>
-        requires { length bytes.now ≤ 1048576 }
+        requires { length bytes.now ≤ file_limit }
         ensures { IsRead clock bytes.now result }
     {
         let mut marks = Vec::new(alloc);

@@ -1,10 +1,14 @@
 //! Tests of the units of the board, each over the public calls of its crate, and of what no program shows of instructions, over
-//! the bus without units too.
-//! It stands on the crates of the processor and of the units; nothing stands on it. The expected values come from outside the
+//! the bus without units too. Two further units, made for tests, and what boards do that have them, alone and in a `Pair`.
+//! It stands on the crates of the processor and of the board; nothing stands on it. The expected values come from outside the
 //! program.
 //! A row of `watchdog.rt`: the writes `(0x1E, 4)` and `(0xE1, 9)`, each a value with its state, give the deadline `65_545`.
+//! In `ROW_OF_TWO` both further units end in state 999: `P 999 HSO1 1`, `P 999 HSO2 1`.
 #![tactic(auto)]
 
+mod beacon;
+#[cfg(test)]
+mod blocks;
 #[cfg(test)]
 mod bus;
 #[cfg(test)]
@@ -22,8 +26,16 @@ mod instructions;
 #[cfg(test)]
 mod intc;
 #[cfg(test)]
+mod machines;
+mod metronome;
+#[cfg(test)]
+mod rows;
+#[cfg(test)]
 mod serial;
 #[cfg(test)]
 mod timers;
 #[cfg(test)]
 mod watchdog;
+
+pub use beacon::Beacon;
+pub use metronome::Metronome;

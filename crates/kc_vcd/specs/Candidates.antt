@@ -124,11 +124,11 @@ letter_record c rest =
     else registers_record rest
 
 -- behind a word of one, two (PC) or three letters (PSW, WSR)
-abbrev pub worded : List ℕ → List ℕ → Option Record
-worded (c ∷ []) rest = letter_record c rest
-worded (c ∷ d ∷ []) rest = option_map Pc (word_of rest)
-worded (c ∷ d ∷ e ∷ []) rest = if c == 80 then option_map Psw (word_of rest) else option_map Wsr (byte_of rest)
-worded _ rest = None
+abbrev pub record_by_word : List ℕ → List ℕ → Option Record
+record_by_word (c ∷ []) rest = letter_record c rest
+record_by_word (c ∷ d ∷ []) rest = option_map Pc (word_of rest)
+record_by_word (c ∷ d ∷ e ∷ []) rest = if c == 80 then option_map Psw (word_of rest) else option_map Wsr (byte_of rest)
+record_by_word _ rest = None
 
 abbrev pub candidate_of : List ℕ → Option Record
-candidate_of line = worded (first_of line) (rest_of line)
+candidate_of line = record_by_word (first_of line) (rest_of line)

@@ -4,7 +4,7 @@ ghost use Rattle.kc_trace.specs.declared.record.Record.{Record};
 ghost use Rattle.kc_trace.specs.declared.record.Record.TheVariants.{Wsr};
 ghost use Rattle.kc_trace.specs.Printable.{CanPrint};
 ghost use Rattle.kc_trace.specs.Text.{fields_of};
-ghost use Rattle.kc_vcd.specs.Candidates.{candidate_of, worded as with_word, letter_record as with_letter, pin_record as pin_item, entered_record as entered_item, served_record as served_item, undefined_record as undefined_item, stopped_record as stopped_item, registers_record as registers_item};
+ghost use Rattle.kc_vcd.specs.Candidates.{candidate_of, record_by_word as with_word, letter_record as with_letter, pin_record as pin_item, entered_record as entered_item, served_record as served_item, undefined_record as undefined_item, stopped_record as stopped_item, registers_record as registers_item};
 ghost use Rattle.kc_vcd.specs.History.{IsSound};
 
 use crate::fields::{base, end, kind, level, mode, number};
@@ -117,7 +117,7 @@ fn wsr(value: u8) -> Record
 }
 
 // The record of a line that begins with this word and a space.
-fn worded(first: &[u8], rest: &[u8]) -> Option<Record>
+fn record_by_word(first: &[u8], rest: &[u8]) -> Option<Record>
     ensures value { result ≡ with_word first.now rest.now }
     ensures sound { IfSome result IsSound }
 {
@@ -136,7 +136,7 @@ fn candidate(line: &[u8]) -> Option<Record>
     ensures sound { IfSome result IsSound }
 {
     let (first, rest) = split_at_space(line);
-    worded(first, rest)
+    record_by_word(first, rest)
 }
 
 // Whether a record is spelled as a line.

@@ -1,5 +1,6 @@
 // The text of a trace, line by line.
 ghost use Rattle.std.specs.Prelude.{◌≡◌, ◌≢◌, ◌≤◌, ◌++◌, ◌∷◌, [], length, None, IfSome, OnOk};
+ghost use Rattle.kc_base.specs.Limits.{file_limit};
 ghost use Rattle.kc_trace.specs.declared.record.Record.{Record};
 ghost use Rattle.kc_trace.specs.Text.{fields_of};
 ghost use Rattle.kc_vcd.specs.History.{time_after as time_behind, IsSound, IsHistory};
@@ -68,7 +69,7 @@ impl Trace {
     /// The records of the text of a trace of 1,048,576 bytes at most, as the board prints it, also of a prefix of it. Refused is
     /// the first line that is that of no record, or of one that is earlier than a record before it.
     pub fn read(alloc: Global, text: &[u8]) -> Result<Trace, VcdFault>
-        requires { length text.now ≤ 1048576 }
+        requires { length text.now ≤ file_limit }
         ensures { IsTraceRead text.now result }
     {
         let mut records = Vec::new(alloc);

@@ -1,7 +1,7 @@
 use Rattle.std.proofs.Common.{◌≡◌, ◌+◌, inl, inr, suc, true, false, refl, arith}
 use Rattle.kc_asm_origin.specs.First.{with_first}
 use Rattle.kc_asm_origin.specs.Reported.{Reports}
-use Rattle.kc_asm_origin.specs.Cause.{middle, IsHalved}
+use Rattle.kc_asm_origin.specs.Origin.{middle, IsHalved}
 use Rattle.kc_asm_origin.proofs.seeking.faulty_line.Goals as goal
 
 pub loop-low-preserved-then-branch : goal.loop-low-preserved-then-branch

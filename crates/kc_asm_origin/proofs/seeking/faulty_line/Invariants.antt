@@ -1,7 +1,7 @@
 use Rattle.std.proofs.Common.{ℕ, ◌-◌, ◌<◌, ◌≤◌, true, false}
 use Rattle.kc_asm_origin.specs.First.{with_first}
 use Rattle.kc_asm_origin.specs.Reported.{Reports}
-use Rattle.kc_asm_origin.specs.Cause.{IsHalved}
+use Rattle.kc_asm_origin.specs.Origin.{IsHalved}
 use Rattle.kc_asm_origin.proofs.seeking.faulty_line.Given as goal
 
 abbrev pub invariant-loop-low : goal.invariant-loop-low

@@ -98,6 +98,11 @@ returns-in-Dump g c =
     finished g.F.Files.held g.F.Files.read_faults g.F.Files.write_faults c.args.command.now _ c.args.files.now c.prepare_dump.new.files c.finish-in-Dump.new.files c.prepare_dump.result _ _ _
     c.in-Dump.is c.prepare_dump.ensures c.finish-in-Dump.ensures.answer c.finish-in-Dump.ensures.no_read
 
+pub returns-in-Check : goal.returns-in-Check
+returns-in-Check g c =
+    finished g.F.Files.held g.F.Files.read_faults g.F.Files.write_faults c.args.command.now _ c.args.files.now c.prepare_check.new.files c.finish-in-Check.new.files c.prepare_check.result _ _ _
+    c.in-Check.is c.prepare_check.ensures c.finish-in-Check.ensures.answer c.finish-in-Check.ensures.no_read
+
 pub returns-in-Explain : goal.returns-in-Explain
 returns-in-Explain g c =
     let reported = g.F.Files.held c.args.files.now in

@@ -2,7 +2,7 @@ use Rattle.std.proofs.Common.{sym, subst}
 use Rattle.kc_trace.specs.Out.{Puts}
 use Rattle.kc_trace.specs.Trace.{out_of}
 use Rattle.kc_trace.proofs.Outs.{Puts-append}
-use Rattle.kc_kit_shown.specs.Shown.{shown}
+use Rattle.kc_kit_files.specs.Shown.{shown}
 use Rattle.kc_kit_files.specs.Ended.{unwritten}
 use Rattle.kc_kit_files.proofs.ended.put_unwritten.Goals as goal
 

@@ -1,6 +1,6 @@
 use Rattle.std.proofs.Common.{◌≡◌, ◌++◌, sym, subst}
 use Rattle.std.specs.Prelude.{codes}
-use Rattle.kc_kit_shown.specs.Shown.{shown}
+use Rattle.kc_kit_files.specs.Shown.{shown}
 use Rattle.kc_kit_files.specs.declared.status.Status.TheVariants as status
 use Rattle.kc_kit_files.specs.Response.{reports, IsRefused}
 use Rattle.kc_kit_files.specs.Reads.{IsUnread}

@@ -2,7 +2,7 @@ use Rattle.std.proofs.Common.{subst}
 use Rattle.kc_trace.specs.Out.{Puts}
 use Rattle.kc_trace.specs.Trace.{out_of}
 use Rattle.kc_trace.proofs.Outs.{Puts-append}
-use Rattle.kc_kit_shown.specs.Shown.{word_shown}
+use Rattle.kc_kit_files.specs.Shown.{word_shown}
 use Rattle.kc_kit_words.proofs.usage.put_word.Goals as goal
 
 pub returns : goal.returns

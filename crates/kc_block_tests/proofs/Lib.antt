@@ -1,3 +1,0 @@
-pub mod Blinks
-pub mod Beats
-pub mod Starts

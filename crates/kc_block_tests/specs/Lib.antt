@@ -1,5 +1,0 @@
-pub mod Blinking
-pub mod BlinkingLaws
-pub mod Beating
-pub mod BeatingLaws
-pub mod Starting
