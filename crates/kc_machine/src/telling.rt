@@ -1,9 +1,10 @@
 // One state time, of which is told which requests the units raise in it.
 ghost use Rattle.std.specs.Prelude.{◌≡◌, ◌≤◌, ◌<◌, ◌+◌, ◌-◌, ◌*◌, ◌^◌, IfOk, OnOk, OnErr, None, false};
 ghost use Rattle.kc_trace.specs.Trace.{out_of};
-ghost use Rattle.kc_machine_spec.specs.Machine.{scene_of, current, stepped};
+ghost use Rattle.kc_machine_spec.specs.Machine.{scene_of, current};
+ghost use Rattle.kc_machine_spec.specs.Passing.{left_at, whole};
 ghost use Rattle.kc_machine.specs.Failing.{FailsIn};
-ghost use Rattle.kc_machine.specs.Passing.{ticks_to, GoesAs, MayPass};
+ghost use Rattle.kc_machine.specs.Passing.{ticks_to, GoesAs, MayPass, PassesAs};
 ghost use Rattle.kc_machine.specs.Sound.{IsGoing, IsPredecoded};
 ghost use Rattle.kc_machine.specs.Telling.{raised_in, StepsAs};
 
@@ -39,34 +40,72 @@ impl<X: Extra + Drop> Core<X> {
         raised
     }
 
-    // Goes on by one state of an activity; answers which requests the units raise in it.
+    // Goes on by one state of an activity, which is not its last; answers which requests the units raise in it.
+    fn wait_state<S: Sink, L: Ledger>(
+        &mut self,
+        activity: UnderWay,
+        out: &mut TraceOut<S>,
+        steps: &mut Steps<L>,
+    ) -> IntSet
+        requires more { 1 < activity.left }
+        requires going { IsGoing activity }
+        requires predecoded { IsPredecoded self.old }
+        requires room { self.old.time < 2 * 10 ^ 15 }
+        ensures goes { GoesAs (ticks_to X.further (machine_of self.old) (self.old.time + 1) 1 (left_at activity (activity.left - 1))) self.old self.new (out_of S.written S.faults out.old) (out_of S.written S.faults out.new) steps.old steps.new }
+        ensures raised { result.0 ≡ raised_in X.further (machine_of self.old) }
+        ensures predecoded { IsPredecoded self.new }
+    {
+        let raised = self.tick(out, steps);
+        self.time += 1;
+        self.under_way = Some(UnderWay {
+            doing: activity.doing,
+            left: activity.left - 1,
+        });
+        raised
+    }
+
+    // Goes on by the last state of an activity; answers which requests the units raise in it.
+    fn end_state<S: Sink, L: Ledger>(
+        &mut self,
+        activity: UnderWay,
+        out: &mut TraceOut<S>,
+        steps: &mut Steps<L>,
+    ) -> IntSet
+        requires last { activity.left ≡ 1 }
+        requires going { IsGoing activity }
+        requires predecoded { IsPredecoded self.old }
+        requires room { self.old.time < 2 * 10 ^ 15 }
+        ensures goes { GoesAs (whole X.further (machine_of self.old) activity) self.old self.new (out_of S.written S.faults out.old) (out_of S.written S.faults out.new) steps.old steps.new }
+        ensures time { self.new.time ≡ self.old.time + 1 }
+        ensures raised { result.0 ≡ raised_in X.further (machine_of self.old) }
+        ensures predecoded { IsPredecoded self.new }
+    {
+        let raised = self.tick(out, steps);
+        let at = self.time;
+        let last = self.finish(activity.doing, steps);
+        self.put_edges(at, out);
+        put_last(last, out);
+        raised
+    }
+
+    // Goes on by one state of the current activity; answers which requests the units raise in it.
     fn pass_state<S: Sink, L: Ledger>(
         &mut self,
         activity: UnderWay,
         out: &mut TraceOut<S>,
         steps: &mut Steps<L>,
     ) -> IntSet
+        requires value { activity ≡ current (machine_of self.old) }
         requires going { IsGoing activity }
-        requires predecoded { IsPredecoded self.old }
-        requires room { self.old.time < 2 * 10 ^ 15 }
-        ensures goes { GoesAs (stepped X.further (machine_of self.old) activity) self.old self.new (out_of S.written S.faults out.old) (out_of S.written S.faults out.new) steps.old steps.new }
+        requires may { MayPass (self.old.time + 1) self.old }
+        ensures passed { PassesAs X.further (self.old.time + 1) self.old self.new (out_of S.written S.faults out.old) (out_of S.written S.faults out.new) steps.old steps.new }
         ensures raised { result.0 ≡ raised_in X.further (machine_of self.old) }
-        ensures predecoded { IsPredecoded self.new }
     {
-        let raised = self.tick(out, steps);
-        if activity.left == 1 {
-            let at = self.time;
-            let last = self.finish(activity.doing, steps);
-            self.put_edges(at, out);
-            put_last(last, out);
+        if activity.left > 1 {
+            self.wait_state(activity, out, steps)
         } else {
-            self.time += 1;
-            self.under_way = Some(UnderWay {
-                doing: activity.doing,
-                left: activity.left - 1,
-            });
+            self.end_state(activity, out, steps)
         }
-        raised
     }
 
     /// Goes on by one state, and writes what is printed in it; answers which requests the units raise in it.
