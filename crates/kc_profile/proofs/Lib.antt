@@ -2,3 +2,4 @@ pub mod Spotted
 pub mod Going
 pub mod Numbers
 pub mod Tallies
+pub mod Since

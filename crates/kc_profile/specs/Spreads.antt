@@ -40,6 +40,13 @@ AreFew limit spread = IfSome spread (λ s. s.count ≤ limit)
 
 -- ---- the same in words
 
+-- a number is one of some
+pub record IsAmong (number : ℕ) (numbers : List Dated) : Type 0 where
+  pub before : List Dated
+  pub after : List Dated
+  pub when : Moment
+  pub stands : numbers ≡ before ++ (number, when) ∷ after
+
 -- the greatest came then, and no number before was as great; the last comes first
 pub record IsFirst (greatest : ℕ) (when : Moment) (numbers : List Dated) : Type 0 where
   pub later : List Dated
@@ -52,7 +59,7 @@ pub record IsSpread (numbers : List Dated) (s : Spread) : Type 0 where
   pub count : s.count ≡ length numbers
   pub low : All (λ (number : Dated). s.least ≤ number.0) numbers
   pub high : All (λ (number : Dated). number.0 ≤ s.greatest) numbers
-  pub least : (before after : List Dated) × (when : Moment) × (numbers ≡ before ++ (s.least, when) ∷ after)
+  pub least : IsAmong s.least numbers
   pub first : IsFirst s.greatest s.when numbers
 
 -- the spread of some numbers is one

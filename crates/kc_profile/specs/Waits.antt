@@ -71,6 +71,7 @@ pub record Came (n : ℕ) (s : Sight) (earlier : List Sight) : Type 0 where
   pub was_not : bit came.before.pending n ≡ false
   pub is_then : bit came.after.pending n ≡ true
   pub stays : All (λ (r : Sight). bit r.before.pending n ≡ true) since
+  pub sooner : came.at < s.at
   pub waited : row pending n (s ∷ earlier) ≡ s.at - came.at
 
 -- a request that is pending has waited since the state in which it came
