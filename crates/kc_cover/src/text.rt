@@ -101,12 +101,7 @@ fn put_jumps(
 // ---- lines
 
 // Puts how often a line has run.
-fn put_line(
-    text: &mut Vec<u8>,
-    line: u32,
-    times: u64,
-    tally: &mut Tally,
-) -> Result<(), NoMemory> {
+fn put_line(text: &mut Vec<u8>, line: u32, times: u64, tally: &mut Tally) -> Result<(), NoMemory> {
     tally.add(times);
     text.extend_from_slice(b"DA:")?;
     put_number(text, u128::from(line))?;

@@ -40,11 +40,10 @@ from_base (Some at) base = 0
 -- ---- its instructions: they stand in the image from its first address up to that behind it
 
 unfoldable pub instructions_in : ℕ → ℕ → List ℕ → ℕ → List Instruction
-after_decoded : ℕ → ℕ → List ℕ → ℕ → Decoded → List Instruction
 
+after_decoded : ℕ → ℕ → List ℕ → ℕ → Decoded → List Instruction
 instructions_in zero line bytes at = []
 instructions_in (suc left) line bytes at = after_decoded (suc left) line bytes at (decode_of (take 7 bytes))
-
 after_decoded left line bytes at (Insn insn length) =
     record { line = line; addr = at; is_branch = is_branch insn } ∷ instructions_in (left - length) line (drop length bytes) (at + length)
 after_decoded left line bytes at _ = []

@@ -16,7 +16,8 @@ use crate::options::{count_files, extent_in, form_of, is_option, value_of};
 use crate::overwriting::overwritten;
 use crate::values::{has_form, is_name, is_trace_name, range, short};
 use crate::words::{
-    MAX_FILES, are_apart, are_different, are_names, behind_in, beside_in, help_on, is_other, placing, read_command,
+    MAX_FILES, are_apart, are_different, are_names, behind_in, beside_in, help_on, is_other,
+    placing, read_command,
 };
 use kc_base::{IMAGE_START, Sink};
 use kc_kit_files::report_word;

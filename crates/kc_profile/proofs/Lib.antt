@@ -3,3 +3,5 @@ pub mod Going
 pub mod Numbers
 pub mod Tallies
 pub mod Since
+pub mod SpreadsOf
+pub mod Times

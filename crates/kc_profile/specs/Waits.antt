@@ -100,6 +100,11 @@ pending_after s = s.after.pending
 abbrev pub handed_after : Sight → ℕ
 handed_after s = s.after.service
 
+-- the time since a request came is the number of states in a row at whose start it is there
+abbrev pub TimesAreRows : Type 0
+TimesAreRows = (n : ℕ) (s : Sight) (earlier : List Sight) → AreConsecutive s earlier →
+    (time_since (came pending_after n earlier) s.at ≡ row pending n (s ∷ earlier)) × (time_since (came handed_after n earlier) s.at ≡ row handed n (s ∷ earlier))
+
 -- what is told of a request after these states of a life
 pub record AreWaitsOf (n life : ℕ) (sights : List Sight) (w : Waits) : Type 0 where
   pub pending : w.waiting.pending ≡ came pending_after n sights

@@ -1,6 +1,6 @@
 ghost use Rattle.kc_profile.specs.Spreads.{SpreadsAreOfAll};
 ghost use Rattle.kc_profile.specs.Tally.{TalliesAreOne};
-ghost use Rattle.kc_profile.specs.Waits.{WaitsAreSinceItCame};
+ghost use Rattle.kc_profile.specs.Waits.{TimesAreRows, WaitsAreSinceItCame};
 
 /// The numbers of a tally are those of its states, and no others.
 pub fn tallies_are_one()
@@ -15,4 +15,9 @@ pub fn spreads_are_of_all()
 /// A request that is pending has waited since the state in which it came.
 pub fn waits_are_since_it_came()
     ensures { WaitsAreSinceItCame }
+{}
+
+/// The time since a request came, as it is kept state by state, is the number of states in a row at whose start it is there.
+pub fn times_are_rows()
+    ensures { TimesAreRows }
 {}

@@ -10,11 +10,11 @@ mod running;
 mod sight;
 mod spot;
 mod spread;
-mod told;
 mod telling;
+mod told;
 mod waits;
 
-pub use laws::{spreads_are_of_all, tallies_are_one, waits_are_since_it_came};
+pub use laws::{spreads_are_of_all, tallies_are_one, times_are_rows, waits_are_since_it_came};
 pub use profile::Profile;
 pub use reporting::report;
 pub use running::run_profiled;

@@ -208,7 +208,11 @@ fn sight_of<X: Extra + Drop>(
         raised,
         before: start.requests,
         after: machine.requests(),
-        ends: if u64::from(activity.left) <= passed { Some(activity.doing) } else { None },
+        ends: if u64::from(activity.left) <= passed {
+            Some(activity.doing)
+        } else {
+            None
+        },
         is_broken: is_undefined(machine.ended()),
         pc: start.pc,
         next_pc: machine.pc(),

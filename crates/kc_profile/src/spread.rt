@@ -46,7 +46,11 @@ pub(crate) fn both(earlier: Spread, later: Spread) -> Spread
         count: earlier.count + later.count,
         least: earlier.least.min(later.least),
         greatest: earlier.greatest.max(later.greatest),
-        when: if earlier.greatest < later.greatest { later.when } else { earlier.when },
+        when: if earlier.greatest < later.greatest {
+            later.when
+        } else {
+            earlier.when
+        },
     }
 }
 

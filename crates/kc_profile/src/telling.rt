@@ -162,11 +162,7 @@ fn put_all_missed(text: &mut Vec<u8>, waits: &[Waits]) -> Result<(), NoMemory>
 // ---- the stack
 
 // Puts the line of the stack, where it was moved.
-fn put_depth(
-    text: &mut Vec<u8>,
-    deepest: Option<Depth>,
-    scope: Scope,
-) -> Result<(), NoMemory>
+fn put_depth(text: &mut Vec<u8>, deepest: Option<Depth>, scope: Scope) -> Result<(), NoMemory>
     ensures { OnOk result (text.new.items ≡ text.old.items ++ spec.stack_line scope deepest) }
 {
     let Some(depth) = deepest else {

@@ -168,6 +168,9 @@ impl Told {
         ensures taken { result.0 ≡ slice_index self.now.taken addr }
         ensures passed { result.1 ≡ slice_index self.now.passed addr }
     {
-        (self.taken[usize::from(addr)], self.passed[usize::from(addr)])
+        (
+            self.taken[usize::from(addr)],
+            self.passed[usize::from(addr)],
+        )
     }
 }

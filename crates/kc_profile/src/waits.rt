@@ -101,11 +101,7 @@ impl Waits {
                 is_in(sight.after.pending, n),
                 sight.at,
             ),
-            handed: since_after(
-                self.waiting.handed,
-                is_in(sight.after.service, n),
-                sight.at,
-            ),
+            handed: since_after(self.waiting.handed, is_in(sight.after.service, n), sight.at),
         };
     }
 
