@@ -5,3 +5,4 @@ pub mod Tallies
 pub mod Since
 pub mod SpreadsOf
 pub mod Times
+pub mod Seen

@@ -147,3 +147,7 @@ added w later = record w { latency = together w.latency later.latency; served = 
 -- it was entered or served at all
 abbrev pub is_told : Waits → Bool
 is_told w = is_some w.latency || is_some w.served
+
+-- what is told after a state is what was told before it, and what the state shows
+abbrev pub WaitsAreSeen : Type 0
+WaitsAreSeen = (n life : ℕ) (s : Sight) (sights : List Sight) (w : Waits) → AreConsecutive s sights → AreWaitsOf n life sights w → AreWaitsOf n life (s ∷ sights) (see n life s w)

@@ -1,6 +1,6 @@
 ghost use Rattle.kc_profile.specs.Spreads.{SpreadsAreOfAll};
 ghost use Rattle.kc_profile.specs.Tally.{TalliesAreOne};
-ghost use Rattle.kc_profile.specs.Waits.{TimesAreRows, WaitsAreSinceItCame};
+ghost use Rattle.kc_profile.specs.Waits.{TimesAreRows, WaitsAreSeen, WaitsAreSinceItCame};
 
 /// The numbers of a tally are those of its states, and no others.
 pub fn tallies_are_one()
@@ -20,4 +20,9 @@ pub fn waits_are_since_it_came()
 /// The time since a request came, as it is kept state by state, is the number of states in a row at whose start it is there.
 pub fn times_are_rows()
     ensures { TimesAreRows }
+{}
+
+/// What is told of a request after a state is what was told before it, and what the state shows.
+pub fn waits_are_seen()
+    ensures { WaitsAreSeen }
 {}

@@ -14,7 +14,9 @@ mod telling;
 mod told;
 mod waits;
 
-pub use laws::{spreads_are_of_all, tallies_are_one, times_are_rows, waits_are_since_it_came};
+pub use laws::{
+    spreads_are_of_all, tallies_are_one, times_are_rows, waits_are_seen, waits_are_since_it_came,
+};
 pub use profile::Profile;
 pub use reporting::report;
 pub use running::run_profiled;
