@@ -8,14 +8,14 @@ ghost use Rattle.kc_kit_answer.specs.Jobs.{IsDoable, does, maybe_written, status
 
 use crate::list::list_image;
 use kc_base::{Files, Image, Sink};
-use kc_debug_script::{LineMap, MapEntry, Script};
+use kc_debug_script::{LineMap, Script};
 use kc_kit_files::{Ended, Status, report};
 use kc_kit_running::{
-    Board, Output, Sources, Target, count_board, debug_board, profile_board, run_board,
+    Board, Lines, Output, Sources, count_board, debug_board, profile_board, run_board,
     write_output,
 };
 use kc_kit_verdict::Verdict;
-use kc_kit_words::Extent;
+use kc_kit_words::{Behind, Extent};
 use kc_trace::TraceOut;
 use std::alloc::Global;
 use std::marker::Brand;
@@ -33,9 +33,9 @@ pub enum Job<'a> {
     },
     Profile {
         board: Board,
-        states: u64,
-        entries: Vec<MapEntry>,
-        out: &'a str,
+        extent: Extent,
+        lines: Lines<'a>,
+        behind: Behind<'a>,
     },
     Count {
         board: Board,
@@ -82,15 +82,15 @@ pub fn perform<'a, F: Files, S: Sink>(
         } => run_board::<S, Brand>(alloc, board, &sources, extent, Blank::new(1), out),
         Job::Profile {
             board,
-            states,
-            entries,
-            out: name,
+            extent,
+            lines,
+            behind,
         } => profile_board::<F, S, Brand>(
             alloc,
             board,
-            states,
-            &entries,
-            Target { name },
+            extent,
+            &lines,
+            behind,
             Blank::new(1),
             files,
             out,

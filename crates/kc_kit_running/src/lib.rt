@@ -3,6 +3,7 @@
 //! Example: every board of a command has the serial port, the converter and the three pulse-width outputs.
 #![tactic(auto)]
 
+mod accounts;
 mod board;
 mod count;
 mod debug_run;
@@ -11,13 +12,15 @@ mod fitting;
 mod image_run;
 mod lives_run;
 mod output;
+mod profile_lives;
 mod profile_run;
 mod sources;
 
+pub use accounts::Lines;
 pub use board::Board;
 pub use count::count_board;
 pub use debug_run::debug_board;
 pub use image_run::run_board;
 pub use output::{Output, write_output};
-pub use profile_run::{Target, profile_board};
+pub use profile_run::profile_board;
 pub use sources::Sources;

@@ -32,7 +32,7 @@ out_option = (codes "--out", form.File)
 
 abbrev pub options_for : List ℕ → List (List ℕ × Form)
 options_for verb =
-    if bytes_eq verb (codes "run") then running_options ++ placing_options
+    if bytes_eq verb (codes "run") then (codes "--cover", form.File) ∷ running_options ++ placing_options
     else if bytes_eq verb (codes "asm") then out_option ∷ (codes "--list", form.File) ∷ []
     else if bytes_eq verb (codes "lib") then out_option ∷ []
     else if bytes_eq verb (codes "link") then out_option ∷ (codes "--lines", form.File) ∷ (codes "--map", form.File) ∷ (codes "--lib", form.Input role.Library) ∷ placing_options

@@ -84,9 +84,12 @@ pub(crate) fn form_of(verb: &str, option: &str) -> Option<Form>
     ensures { result ≡ form_of verb.now option.now }
 {
     match verb {
-        "run" => match running_form(option) {
-            None => placing_form(option),
-            form => form,
+        "run" => match option {
+            "--cover" => Some(Form::File),
+            _ => match running_form(option) {
+                None => placing_form(option),
+                form => form,
+            },
         },
         "asm" => match option {
             "--out" | "--list" => Some(Form::File),

@@ -1,5 +1,5 @@
 // The common board of both masters in a state.
-ghost use Rattle.std.specs.Prelude.{◌≡◌, ℕ, ◌+◌, ◌*◌, ◌<◌, ◌≤◌, ◌-◌, ◌%◌, Err, IsTrue, OnOk, OnErr, IfOk, All, vec_len, length, [], true, false, IfSome};
+ghost use Rattle.std.specs.Prelude.{◌≡◌, ℕ, ◌+◌, ◌*◌, ◌<◌, ◌≤◌, ◌-◌, ◌%◌, Err, IsTrue, OnOk, OnErr, IfOk, All, vec_len, length, [], true, false, IfSome, ◌^◌, bit_or};
 ghost use Rattle.std.specs.Bool.{OnTrue};
 ghost use Rattle.kc_base.specs.Limits.{max_states};
 ghost use Rattle.kc_span.specs.Span.{after};
@@ -10,7 +10,7 @@ ghost use Rattle.kc_block_spec.specs.Leading.{Leads};
 ghost use Rattle.kc_block_spec.specs.Looking.{looked};
 ghost use Rattle.kc_machine_spec.specs.Board.{masks_of};
 ghost use Rattle.kc_machine_spec.specs.Scene.{opened, byte, put, refusing, window_at, scene_answer, after_by};
-ghost use Rattle.kc_machine_spec.specs.Machine.{taken, claimed, handed};
+ghost use Rattle.kc_machine_spec.specs.Machine.{taken, claimed, handed, with_asked};
 ghost use Rattle.kc_exec_spec.specs.Memory.{is_rom};
 ghost use Rattle.kc_machine.specs.Keeping.{fitting, counted};
 ghost use Rattle.kc_exec_predecode.specs.Predecoding.{is_blank};
@@ -19,7 +19,7 @@ ghost use Rattle.kc_machine.specs.Prepared.{HasSlot, IsRead, IsSlot, IsTable};
 use crate::choosing::fetch;
 use crate::noted::Noted;
 use crate::weights::{weigh_read, weigh_word, weigh_write, window_for};
-use kc_base::{EdgeOut, IMAGE_START, Kind, NoMemory, StateTime, Steps};
+use kc_base::{EdgeOut, IMAGE_START, IntSet, Kind, NoMemory, StateTime, Steps};
 use kc_block::Block;
 use kc_block_spec::Window;
 use kc_bus::{Masks, Master};
@@ -146,6 +146,29 @@ impl<X: Extra + Drop> Common<X> {
             int_mask1: (mask / 256) as u8,
             wsr: self.block.wsr(),
         }
+    }
+
+    /// Takes all pending requests away, and answers which they were.
+    pub(crate) fn withdraw(&mut self) -> IntSet
+        ensures pending { result.0 ≡ self.old.block.units.board_registers.requests.pending }
+        ensures scene { held_of self.new ≡ with_asked (λ r. record r { pending = 0 }) (held_of self.old) }
+        ensures none { ReachesNone self.old self.new }
+    {
+        let mut requests = self.block.requests();
+        let pending = IntSet(requests.pending);
+        requests.pending = 0;
+        self.block.set_requests(requests);
+        pending
+    }
+
+    /// Adds requests to the pending ones.
+    pub(crate) fn raise(&mut self, set: IntSet)
+        ensures scene { held_of self.new ≡ with_asked (λ r. record r { pending = bit_or r.pending set.0 }) (held_of self.old) }
+        ensures none { ReachesNone self.old self.new }
+    {
+        let mut requests = self.block.requests();
+        requests.raise(set);
+        self.block.set_requests(requests);
     }
 
     /// Takes a request away that is entered.
