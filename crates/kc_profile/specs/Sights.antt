@@ -23,7 +23,7 @@ use Rattle.kc_profile.specs.declared.sight.Way.TheVariants.{Taken, Passed}
 -- ---- what is seen of a state
 
 abbrev pub is_undefined : Option End → Bool
-is_undefined (Some (Undefined what)) = true
+is_undefined (Some (Undefined what access)) = true
 is_undefined _ = false
 
 -- an activity with one state left ends in the coming one

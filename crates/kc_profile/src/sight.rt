@@ -37,7 +37,7 @@ pub(crate) fn is_in(set: u16, n: u8) -> bool
 pub(crate) fn is_undefined(ended: Option<End>) -> bool
     ensures { result ≡ spec.is_undefined ended }
 {
-    matches!(ended, Some(End::Undefined(_)))
+    matches!(ended, Some(End::Undefined(_, _)))
 }
 
 /// Whether an instruction is a conditional jump: JBC, JBS, those on a flag, DJNZ, DJNZW.
