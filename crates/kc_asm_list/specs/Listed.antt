@@ -1,5 +1,5 @@
 -- The listing of a source (this kit's own).
-use Rattle.std.specs.Prelude.{◌≡◌, ◌⊎◌, ℕ, List, Some, Result, Ok, Err}
+use Rattle.std.specs.Prelude.{◌≡◌, ◌⊎◌, ℕ, Bool, true, false, if◌then◌else◌, List, [], ◌∷◌, ◌++◌, Some, Result, Ok, Err}
 use Rattle.std.specs.Global.{Vec}
 use Rattle.kc_lex.specs.declared.token.Line.{Line}
 use Rattle.kc_lex.specs.declared.fault.SourceFault.{SourceFault}
@@ -7,9 +7,12 @@ use Rattle.kc_lex.specs.declared.fault.SourceFault.TheVariants as faults
 use Rattle.kc_lex.specs.Lines.{lines_of}
 use Rattle.kc_macro.specs.Expansion.{expanded}
 use Rattle.kc_macro_depth.specs.Depths.{depths_of}
+use Rattle.kc_source_statement.specs.declared.statement.Action.{Action}
+use Rattle.kc_source_statement.specs.declared.statement.Action.TheVariants as action
 use Rattle.kc_source_statement.specs.declared.statement.Stmt.{Stmt}
 use Rattle.kc_source.specs.Faults.{Fault, AreStatements, faults_of, least}
 use Rattle.kc_obj_module.specs.Object.{Object}
+use Rattle.kc_asm_list.specs.declared.spot.Spot.{Spot}
 use Rattle.kc_asm_list.specs.Rows.{listing}
 use Rattle.kc_asm_list.specs.Spots.{spots_of}
 
@@ -34,6 +37,35 @@ IsUnread source f =
     (lines_of source ≡ Err f)
     ⊎ (((lines : List Line) × (lines_of source ≡ Ok lines) × (expanded lines ≡ Some (Err f)))
     ⊎ ((lines text : List Line) × IsText source lines text × (least (faults_of text) ≡ Some f)))
+
+-- a statement is an instruction or a generic branch
+abbrev pub is_operation : Action → Bool
+is_operation (action.Operation name args) = true
+is_operation _ = false
+
+abbrev pub is_instruction : Stmt → Bool
+is_instruction stmt = is_operation stmt.action
+
+-- of the places of statements those of instructions
+unfoldable pub instructions_of : List Spot → List Stmt → List Spot
+instructions_of (spot ∷ spots) (stmt ∷ stmts) = (if is_instruction stmt then spot ∷ [] else []) ++ instructions_of spots stmts
+instructions_of _ _ = []
+
+-- where the instructions of a source stand
+pub record AreInstructionsOf (source : List ℕ) (spots : List Spot) : Type 0 where
+  pub lines : List Line
+  pub text : List Line
+  pub is_text : IsText source lines text
+  pub depths : List ℕ
+  pub deep : depths_of lines ≡ Some (Ok depths)
+  pub stmts : List Stmt
+  pub said : AreStatements stmts text
+  pub own : spots ≡ instructions_of (spots_of text depths stmts) stmts
+
+abbrev pub AreInstructions : List ℕ → Result (Vec Spot) SourceFault → Type 0
+AreInstructions source (Ok spots) = AreInstructionsOf source spots.items
+AreInstructions source (Err (faults.At line code)) = IsUnread source (line, code)
+AreInstructions source (Err faults.NoMemory) = Unit {0}
 
 abbrev pub IsListed : List ℕ → Object → Result (Vec ℕ) SourceFault → Type 0
 IsListed source m (Ok listed) = IsListing source m listed.items

@@ -13,6 +13,6 @@ mod spot;
 mod spots;
 mod statements;
 
-pub use listed::listing;
+pub use listed::{instructions, listing};
 pub use rows_listing::rows;
 pub use spot::Spot;

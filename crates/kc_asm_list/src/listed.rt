@@ -3,13 +3,16 @@ ghost use Rattle.kc_base.specs.Limits.{file_limit};
 ghost use Rattle.kc_asm_list.specs.Listed as spec;
 
 use crate::rows_listing::rows;
+use crate::spot::Spot;
 use crate::spots::spots_of;
 use kc_asm_symbols::externals_are_few;
 use kc_lex::{SourceFault, lines};
 use kc_macro::expand;
 use kc_macro_depth::depths;
 use kc_obj_module::Module;
+use kc_base::NoMemory;
 use kc_source::statements;
+use kc_source_statement::{Action, Stmt};
 use std::alloc::Global;
 
 /// The listing of a source of at most 1,048,576 bytes, whose module this is: each line with its number and its text, and with
@@ -29,4 +32,51 @@ pub fn listing(alloc: Global, source: &[u8], object: &Module) -> Result<Vec<u8>,
     let spots = spots_of(alloc, &text, &deep, &stmts)?;
     let listed = rows(alloc, source, object, spots)?;
     Ok(listed)
+}
+
+// Whether a statement is an instruction, or a generic branch.
+fn is_instruction(stmt: &Stmt) -> bool
+    ensures { result ≡ spec.is_instruction stmt.now }
+{
+    matches!(stmt.action, Action::Operation { .. })
+}
+
+// Of the places of statements those of instructions.
+#[tactic(auto, unfolding(crate::specs::Listed::instructions_of))]
+fn of_instructions(alloc: Global, spots: &[Spot], stmts: &[Stmt]) -> Result<Vec<Spot>, NoMemory>
+    ensures { IfOk result (λ v. v.items ≡ spec.instructions_of spots.now stmts.now) }
+{
+    let mut own = Vec::new(alloc);
+    let mut left = spots;
+    let mut beside = stmts;
+    while let [spot, rest @ ..] = left {
+        match beside {
+            [] => return Ok(own),
+            [stmt, others @ ..] => {
+                if is_instruction(stmt) {
+                    own.push(*spot)?;
+                }
+                beside = others;
+            }
+        }
+        left = rest;
+    }
+    Ok(own)
+}
+
+/// Where the instructions of a source of at most 1,048,576 bytes stand, in the order in which they come out; generic branches are such.
+/// Else the first fault of the source, as of `listing`.
+pub fn instructions(alloc: Global, source: &[u8]) -> Result<Vec<Spot>, SourceFault>
+    requires { length source.now ≤ 1048576 }
+    ensures { spec.AreInstructions source.now result }
+{
+    let read = lines(alloc, source)?;
+    let again = lines(alloc, source)?;
+    let text = expand(alloc, read)?;
+    let deep = depths(alloc, again)?;
+    let stmts = statements(alloc, &text)?;
+    externals_are_few();
+    let spots = spots_of(alloc, &text, &deep, &stmts)?;
+    let own = of_instructions(alloc, &spots, &stmts)?;
+    Ok(own)
 }

@@ -2,7 +2,8 @@
 -- there.
 use Rattle.std.specs.Prelude.{ℕ, ◌+◌, ◌*◌, ◌/◌, ◌%◌, nat_lt, if◌then◌else◌, Result, List, slice_index, slice_set}
 use Rattle.kc_base.specs.declared.types.Kind.{Kind}
-use Rattle.kc_exec_spec.specs.Access.{Access, ReadByte, ReadWord, WriteByte, WriteWord, SetMasks}
+use Rattle.kc_exec_spec.specs.declared.access.Access.{Access}
+use Rattle.kc_exec_spec.specs.declared.access.Access.TheVariants.{ReadByte, ReadWord, WriteByte, WriteWord, SetMasks}
 use Rattle.kc_exec_spec.specs.Effect.{Meaning}
 use Rattle.kc_exec_spec.specs.Memory.{if_even, reads, writes}
 
@@ -32,4 +33,4 @@ after_beside own h (WriteWord by addr n) = if nat_lt addr 24 then with_registers
 after_beside own h (SetMasks m) = with_registers h (own.after h.registers (SetMasks m))
 
 abbrev pub beside : {R : Type 0} → Meaning R → Meaning (Beside R)
-beside own = record { answer = answer_beside own; after = after_beside own; masks = λ h. own.masks h.registers }
+beside own = record { answer = answer_beside own; after = after_beside own; refused = λ h r. h; masks = λ h. own.masks h.registers }

@@ -4,7 +4,8 @@ use Rattle.std.proofs.Common.{arith, refl}
 use Rattle.kc_base.specs.declared.types.Kind.{Kind}
 use Rattle.kc_base.specs.declared.types.Kind.TheVariants.{BadWindow}
 use Rattle.kc_exec_spec.specs.declared.access.Masks.{Masks}
-use Rattle.kc_exec_spec.specs.Access.{Access, ReadByte, ReadWord, WriteByte, WriteWord, SetMasks}
+use Rattle.kc_exec_spec.specs.declared.access.Access.{Access}
+use Rattle.kc_exec_spec.specs.declared.access.Access.TheVariants.{ReadByte, ReadWord, WriteByte, WriteWord, SetMasks}
 use Rattle.kc_exec_spec.specs.Effect.{Meaning}
 use Rattle.kc_exec_spec.specs.Memory.{IsLawful}
 use Rattle.kc_exec_spec.specs.Window.{is_wsr}
@@ -42,7 +43,7 @@ mask_after m (WriteWord by addr n) = kept m (with_word m addr n)
 mask_after m (SetMasks new) = new
 
 abbrev pub masks_alone : Meaning Masks
-masks_alone = record { answer = mask_answer; after = mask_after; masks = λ m. m }
+masks_alone = record { answer = mask_answer; after = mask_after; refused = λ m r. m; masks = λ m. m }
 
 abbrev pub flat_meaning : Meaning (Beside Masks)
 flat_meaning = beside masks_alone

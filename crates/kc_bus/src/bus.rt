@@ -1,5 +1,6 @@
 ghost use Rattle.std.specs.Prelude.{◌≡◌, ℕ, OnOk, OnErr, IsTrue, false, List};
-ghost use Rattle.kc_exec_spec.specs.Access.{ReadByte, ReadWord, WriteByte, WriteWord, SetMasks, Accepts};
+ghost use Rattle.kc_exec_spec.specs.Access.{Accepts};
+ghost use Rattle.kc_exec_spec.specs.declared.access.Access.TheVariants.{ReadByte, ReadWord, WriteByte, WriteWord, SetMasks};
 ghost use Rattle.kc_exec_spec.specs.Effect.{Meaning};
 ghost use Rattle.kc_exec_spec.specs.Window.{is_wsr};
 ghost use Rattle.kc_exec_spec.specs.Memory.{IsMemory, IsLawful, is_hole};
@@ -8,7 +9,7 @@ ghost use Rattle.kc_bus.specs.Counting.{KeepsCount};
 use kc_base::Kind;
 use kc_exec_spec::{Masks, Master};
 
-/// The common memory. A refused access changes no register and no memory.
+/// The common memory. A refused access changes no register and no memory; a bus may keep which one it was.
 pub trait Bus {
     /// Every register and all memory.
     ghost Held: { Type 0 };
@@ -35,25 +36,25 @@ pub trait Bus {
     fn read8(&mut self, by: Master, addr: u16) -> Result<u8, Kind>
         ensures answer { meaning.answer (held self.old) (ReadByte by addr) ≡ result }
         ensures ok { OnOk result (meaning.after (held self.old) (ReadByte by addr) ≡ held self.new) }
-        ensures err { OnErr result (held self.old ≡ held self.new) }
+        ensures err { OnErr result (meaning.refused (held self.old) (ReadByte by addr) ≡ held self.new) }
         ensures count { KeepsCount spent held allowed lent self.old self.new };
 
     fn read16(&mut self, by: Master, addr: u16) -> Result<u16, Kind>
         ensures answer { meaning.answer (held self.old) (ReadWord by addr) ≡ result }
         ensures ok { OnOk result (meaning.after (held self.old) (ReadWord by addr) ≡ held self.new) }
-        ensures err { OnErr result (held self.old ≡ held self.new) }
+        ensures err { OnErr result (meaning.refused (held self.old) (ReadWord by addr) ≡ held self.new) }
         ensures count { KeepsCount spent held allowed lent self.old self.new };
 
     fn write8(&mut self, by: Master, addr: u16, value: u8) -> Result<(), Kind>
         ensures answer { Accepts result (meaning.answer (held self.old) (WriteByte by addr value)) }
         ensures ok { OnOk result (meaning.after (held self.old) (WriteByte by addr value) ≡ held self.new) }
-        ensures err { OnErr result (held self.old ≡ held self.new) }
+        ensures err { OnErr result (meaning.refused (held self.old) (WriteByte by addr value) ≡ held self.new) }
         ensures count { KeepsCount spent held allowed lent self.old self.new };
 
     fn write16(&mut self, by: Master, addr: u16, value: u16) -> Result<(), Kind>
         ensures answer { Accepts result (meaning.answer (held self.old) (WriteWord by addr value)) }
         ensures ok { OnOk result (meaning.after (held self.old) (WriteWord by addr value) ≡ held self.new) }
-        ensures err { OnErr result (held self.old ≡ held self.new) }
+        ensures err { OnErr result (meaning.refused (held self.old) (WriteWord by addr value) ≡ held self.new) }
         ensures count { KeepsCount spent held allowed lent self.old self.new };
 
     /// The byte there, without an effect.
@@ -70,7 +71,7 @@ pub trait Bus {
     fn set_masks(&mut self, masks: Masks) -> Result<(), Kind>
         ensures answer { Accepts result (meaning.answer (held self.old) (SetMasks masks)) }
         ensures ok { OnOk result (meaning.after (held self.old) (SetMasks masks) ≡ held self.new) }
-        ensures err { OnErr result (held self.old ≡ held self.new) }
+        ensures err { OnErr result (meaning.refused (held self.old) (SetMasks masks) ≡ held self.new) }
         ensures count { KeepsCount spent held allowed lent self.old self.new };
 
     ghost lawful: { IsLawful held meaning IsWhole byte put };

@@ -342,7 +342,7 @@ module _ {X : Type 0} (f : Further X) (deadline : X → Option ℕ) (until : ℕ
       has_run end.Spent time h = tt
       has_run end.Powerdown time h = h
       has_run end.Reset time h = h
-      has_run (end.Undefined what) time h = tt
+      has_run (end.Undefined what access) time h = tt
 
       by_end : (o : Option End) → n.ended ≡ o → HasRun (end_of n) n.time
       by_end None e = rw e tt

@@ -6,7 +6,8 @@ use Rattle.kc_base.specs.declared.types.Kind.TheVariants.{OddWord, NoRegister, B
 use Rattle.kc_isa.specs.declared.insn.Insn.{Insn}
 use Rattle.kc_exec_spec.specs.declared.cpu.Cpu.{Cpu}
 use Rattle.kc_exec_spec.specs.declared.cpu.After.{After}
-use Rattle.kc_exec_spec.specs.Access.{Access, ReadByte, ReadWord, WriteByte, WriteWord, SetMasks}
+use Rattle.kc_exec_spec.specs.declared.access.Access.{Access}
+use Rattle.kc_exec_spec.specs.declared.access.Access.TheVariants.{ReadByte, ReadWord, WriteByte, WriteWord, SetMasks}
 use Rattle.kc_exec_spec.specs.Effect.{Effect, End, Undefined, Look, Ask, Outcome, Done, Refused, answered, run}
 use Rattle.kc_exec_spec.specs.Effects.{effect_of}
 use Rattle.kc_exec_spec.specs.Entering.{entry, vector_at, opcode_trap}
@@ -39,7 +40,7 @@ use Rattle.kc_machine_spec.specs.declared.doing.Activity.{Activity}
 use Rattle.kc_machine_spec.specs.declared.doing.Activity.TheVariants.{Executes, MovesWord, Traps, Enters, SetsUp, Transfers, Idles, Breaks}
 use Rattle.kc_machine_spec.specs.declared.doing.UnderWay.{UnderWay}
 use Rattle.kc_machine_spec.specs.Board.{with_masks}
-use Rattle.kc_machine_spec.specs.Scene.{Scene, all_kept, with_units as scene_with, put, byte_weight, word_weight, window_at, kept, scene_answer, after_by, scene_meaning}
+use Rattle.kc_machine_spec.specs.Scene.{Scene, all_kept, with_units as scene_with, refusing, put, byte_weight, word_weight, window_at, kept, scene_answer, after_by, scene_meaning}
 use Rattle.kc_machine_spec.specs.Machine.{Machine, Stepped, scene_of, settled, entered, trapped, prepared, cycled, transferred, with_asked, own_records, finished, waiting, with_units, stepped, step, current}
 use Rattle.kc_intc.specs.Changes.{ended_of}
 
@@ -187,7 +188,7 @@ module _ {X : Type 0} (f : Further X) (t : ℕ) (P : X → Type 0) (k : Keeps f 
   run_keeps (Undefined kind) s p = p
   run_keeps (Look next) s p = run_keeps (next ((scene_meaning f).masks s)) s p
   run_keeps (Ask r next) s p =
-      answered_keeps (scene_answer f s r) (λ n. run (scene_meaning f) (next n) (after_by f all_kept s r)) s
+      answered_keeps (scene_answer f s r) (λ n. run (scene_meaning f) (next n) (after_by f all_kept s r)) (refusing s r)
       (λ n. run_keeps (next n) (after_by f all_kept s r) (access_keeps s r p)) p
 
   -- ---- activities

@@ -13,6 +13,8 @@ mod restart;
 mod watchdog;
 
 pub use laws::deadlines_are_of_last_feedings;
-pub use lives::{LivesFault, run_lives};
+pub use life::{deadline_in, has_come, span_end};
+pub use lives::{LivesFault, born, run_lives};
 pub use maker::Maker;
+pub use restart::put_restart;
 pub use watchdog::{PATIENCE, Watchdog};

@@ -23,15 +23,15 @@ pub(crate) struct Ending {
     pub by_watchdog: bool,
 }
 
-// The deadline of the watchdog that a machine is fitted with.
-fn deadline_in<X: Extra + Drop>(machine: &Machine<Pair<X, Watchdog>>) -> Option<StateTime>
+/// The deadline of the watchdog that a machine is fitted with.
+pub fn deadline_in<X: Extra + Drop>(machine: &Machine<Pair<X, Watchdog>>) -> Option<StateTime>
     ensures { result ≡ deadline_of machine.now.machine.board.units.further }
 {
     machine.extra().second().deadline()
 }
 
-// Whether this deadline has come.
-fn has_come(deadline: Option<StateTime>, now: StateTime) -> bool
+/// Whether this deadline has come.
+pub fn has_come(deadline: Option<StateTime>, now: StateTime) -> bool
     ensures { result ≡ is_at deadline now }
 {
     match deadline {
@@ -40,8 +40,8 @@ fn has_come(deadline: Option<StateTime>, now: StateTime) -> bool
     }
 }
 
-// The end of the span that begins in a state.
-fn span_end(now: StateTime, deadline: Option<StateTime>, until: StateTime) -> StateTime
+/// The end of the span that begins in a state, in which no deadline can fall.
+pub fn span_end(now: StateTime, deadline: Option<StateTime>, until: StateTime) -> StateTime
     requires { now ≤ 10 ^ 16 }
     ensures { result ≡ end_of_span now deadline until }
 {

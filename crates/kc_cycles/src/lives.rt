@@ -36,8 +36,8 @@ fn copy_of(alloc: Global, image: &Image) -> Result<Image, NoMemory>
     Ok(copy)
 }
 
-// The machine of the life that begins at a state.
-fn born<M: Maker>(
+/// The machine of the life that begins at a state.
+pub fn born<M: Maker>(
     alloc: Global,
     image: &Image,
     stimuli: &Stimuli,

@@ -15,7 +15,7 @@ fn name_of(by_watchdog: bool) -> &'static [u8]
 }
 
 /// Writes the line that reports the last state of a life, and what has reset it.
-pub(crate) fn put_restart<S: Sink>(at: StateTime, by_watchdog: bool, out: &mut TraceOut<S>)
+pub fn put_restart<S: Sink>(at: StateTime, by_watchdog: bool, out: &mut TraceOut<S>)
     ensures { Puts (out_of S.written S.faults out.old) (restart_line at by_watchdog) (out_of S.written S.faults out.new) }
 {
     let mut number = Buffer::new();

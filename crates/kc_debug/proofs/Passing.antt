@@ -32,7 +32,7 @@ has_run : (how : End) (time : ℕ) → 0 < time → HasRun how time
 has_run end.Spent time h = tt
 has_run end.Powerdown time h = h
 has_run end.Reset time h = h
-has_run (end.Undefined what) time h = tt
+has_run (end.Undefined what access) time h = tt
 
 -- ---- tests
 

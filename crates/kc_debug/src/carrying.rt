@@ -166,8 +166,8 @@ fn is_break(breaks: &[u16], addr: u16) -> bool
     breaks.iter().any(|b| *b == addr)
 }
 
-// Whether an activity would start at a breakpoint.
-fn is_at_break<X: Extra + Drop>(breaks: &[u16], machine: &Machine<X>) -> bool
+/// Whether an activity would start at a breakpoint.
+pub(crate) fn is_at_break<X: Extra + Drop>(breaks: &[u16], machine: &Machine<X>) -> bool
     ensures { result ≡ stands_at_break breaks.now machine.now.machine }
 {
     if machine.between() {

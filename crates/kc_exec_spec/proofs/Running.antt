@@ -19,5 +19,5 @@ run_bind bus (End a) f h = refl
 run_bind bus (Undefined k) f h = refl
 run_bind bus (Look next) f h = run_bind bus (next (bus.masks h)) f h
 run_bind bus (Ask r next) f h =
-    ap (λ g. answered (bus.answer h r) g h) (fun_ext (λ n. run_bind bus (next n) f (bus.after h r)))
-    ∙ sym (followed_answer (bus.answer h r) (λ n. run bus (next n) (bus.after h r)) h (λ a m. run bus (f a) m))
+    ap (λ g. answered (bus.answer h r) g (bus.refused h r)) (fun_ext (λ n. run_bind bus (next n) f (bus.after h r)))
+    ∙ sym (followed_answer (bus.answer h r) (λ n. run bus (next n) (bus.after h r)) (bus.refused h r) (λ a m. run bus (f a) m))

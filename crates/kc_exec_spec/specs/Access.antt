@@ -1,15 +1,8 @@
 -- What a master may ask of the bus (80C196KC User's Manual, "Memory Map").
 use Rattle.std.specs.Prelude.{◌≡◌, ℕ, Result, Ok, Err}
 use Rattle.kc_base.specs.declared.types.Kind.{Kind}
-use Rattle.kc_exec_spec.specs.declared.access.Master.{Master}
-use Rattle.kc_exec_spec.specs.declared.access.Masks.{Masks}
-
-pub data Access : Type 0 where
-  ReadByte : Master → ℕ → Access
-  ReadWord : Master → ℕ → Access
-  WriteByte : Master → ℕ → ℕ → Access
-  WriteWord : Master → ℕ → ℕ → Access
-  SetMasks : Masks → Access
+pub use Rattle.kc_exec_spec.specs.declared.access.Access.{Access}
+pub use Rattle.kc_exec_spec.specs.declared.access.Access.TheVariants.{ReadByte, ReadWord, WriteByte, WriteWord, SetMasks}
 
 -- The answer of a call that gives no value: the bus answers 0 where it accepts.
 abbrev pub Accepts : Result (Unit {0}) Kind → Result ℕ Kind → Type 0

@@ -10,7 +10,7 @@ mod cpu;
 mod laws;
 mod plan;
 
-pub use access::{Masks, Master};
+pub use access::{Access, Masks, Master};
 pub use cpu::{After, Cpu, Words};
 pub use laws::{eight_accesses, entry_accesses, trap_accesses, word_accesses};
 pub use plan::{

@@ -188,7 +188,7 @@ reported-end : (how : End) → is_reported (status_of how) ≡ true
 reported-end end.Spent = refl
 reported-end end.Powerdown = refl
 reported-end end.Reset = refl
-reported-end (end.Undefined what) = refl
+reported-end (end.Undefined what access) = refl
 
 sound-run : (ns : List (List ℕ)) (extent : Extent) (driving : Driving) (image : List ℕ) → IsSound ns (board_response extent driving image)
 sound-run ns extent driving image = by extent.lives
@@ -460,7 +460,7 @@ sound-command (Lists file first last) contents r h =
     then-all (IsSound []) (reads_of (file ∷ []) contents) (OneText (ListAnswer file first last)) r (sound-reads [] (file ∷ []) contents)
     (λ texts e k. sound-one [] (ListAnswer file first last) texts r
     (λ t l. then-all (IsSound []) (hex_of file t) (ListingOf first last) r (sound-hex [] file t (image_of t)) (λ image f m. subst (IsSound []) (sym m) (sound-says [] status.Done _ refl)) l) k) h
-sound-command (Debugs file script inputs) contents r h =
+sound-command (Debugs file script inputs lives) contents r h =
     let names = file ∷ script ∷ names_of inputs in
     then-all (IsSound []) (reads_of names contents) (Parted 2 (λ texts more. TwoTexts (λ text commands. DebugAnswer file script inputs text commands more) texts)) r (sound-reads [] names contents)
     (λ texts e k. sound-two [] (λ text commands. DebugAnswer file script inputs text commands (drop 2 texts)) (take 2 texts) r
@@ -641,7 +641,7 @@ done-end : (how : End) → IsDone (status_of how)
 done-end end.Spent = inl refl
 done-end end.Powerdown = inl refl
 done-end end.Reset = inl refl
-done-end (end.Undefined what) = inr refl
+done-end (end.Undefined what access) = inr refl
 
 done-then : {A : Type 0} (x : Result A Response) (may : A → Response → Type 0) (r : Response) → ((a : A) → may a r → IsDone r.status) → IsOk x → Then x may r → IsDone r.status
 done-then (Ok a) may r f ok h = f a h
@@ -862,7 +862,7 @@ done-command (Some (RunsHex file inputs extent)) contents r a h =
 done-command (Some (Lists file first last)) contents r a h =
     accepted-then _ (OneText (ListAnswer file first last)) (reads_of (file ∷ []) contents) r
     (λ texts b k. done-one file (ListingOf first last) texts r (λ image l. inl (ap (λ (k : Response). k.status) l)) b k) a h
-done-command (Some (Debugs file script inputs)) contents r a h =
+done-command (Some (Debugs file script inputs lives)) contents r a h =
     accepted-then _ (Parted 2 (λ texts more. TwoTexts (λ text commands. DebugAnswer file script inputs text commands more) texts)) (reads_of (file ∷ script ∷ names_of inputs) contents) r
     (λ texts b k. done-two (λ text commands. IsDebuggable script inputs text commands (drop 2 texts)) (λ text commands. DebugAnswer file script inputs text commands (drop 2 texts)) (take 2 texts) r
     (λ t u c l. done-debug file script inputs t u (drop 2 texts) r c l) b k) a h

@@ -68,7 +68,7 @@ module _ (IsDiagnostic : DiagnosticRule) where
   command-any (Some (Links files inputs out beside placing)) contents r h = h
   command-any (Some (RunsHex file inputs extent)) contents r h = h
   command-any (Some (Lists file first last)) contents r h = h
-  command-any (Some (Debugs file script inputs)) contents r h = h
+  command-any (Some (Debugs file script inputs lives)) contents r h = h
   command-any (Some (Generates number)) contents r h = reported-any made_names (made_given number) (placing_of []) (made_texts number) (summary_of number) r h
   command-any (Some (Dumps trace inputs out clock)) contents r h = h
   command-any (Some (Checks trace rules inputs clock)) contents r h = h

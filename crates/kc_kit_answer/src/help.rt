@@ -20,7 +20,8 @@ pub static HELP: [Row; 14] = [
        [--analog FILE]            and the analogue inputs
        [--reg A-B] [--code A-B]   with registers and code from A to B
        [--data A-B] [--stack N]   and data, and a stack of N bytes
-       [--profile FILE]           and write where its states were spent, without lives
+       [--profile FILE]           and write where its states were spent, and how long requests waited
+       [--cover FILE]             and write which lines of the sources have run
 ",
     ),
     (
@@ -50,7 +51,7 @@ pub static HELP: [Row; 14] = [
        [--lives K]                in K lives at most: a reset begins another one, and there is a watchdog
        [--stim FILE]              with what drives the input pins
        [--analog FILE]            and the analogue inputs
-       [--profile FILE]           and write where its states were spent, without lives
+       [--profile FILE]           and write where its states were spent, and how long requests waited
 ",
     ),
     (
@@ -61,6 +62,7 @@ pub static HELP: [Row; 14] = [
     (
         "debug",
         "  kc96 debug NAME SCRIPT          debug the hex file NAME by the commands of SCRIPT
+       [--lives K]                go on after a reset, over K lives at most, with the watchdog
        [--lines FILE]             with the source lines of a line map
        [--stim FILE]              with what drives the input pins
        [--analog FILE]            and the analogue inputs

@@ -16,7 +16,7 @@ use kc_trace::TraceOut;
 pub enum Said<'a> {
     /// Nothing more.
     Nothing,
-    /// Why a command is refused, or which rules are broken.
+    /// Why a command is refused, which rules are broken, or in which undefined use a run has ended.
     Refusal(Vec<u8>),
     /// The name of the file that was to be written last.
     File(&'a str),
@@ -41,7 +41,7 @@ impl<'a> Ended<'a> {
         }
     }
 
-    /// Writes what is said of this end in words: nothing where it is done or has come to an undefined use.
+    /// Writes what is said of this end in words.
     pub fn put_diagnostic<N: Sink>(&self, diagnostics: &mut TraceOut<N>)
         ensures { Puts (out_of N.written N.faults diagnostics.old) (diagnostic_in self.now) (out_of N.written N.faults diagnostics.new) }
     {

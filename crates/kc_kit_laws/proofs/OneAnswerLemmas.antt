@@ -364,7 +364,7 @@ module _
   answers (Some (Lists file first last)) contents r s h k = equal r s
       (one_then (reads_of (file ∷ []) contents) (OneText (ListAnswer file first last))
       (one_text (ListAnswer file first last) (λ text. one_then (hex_of file text) (ListingOf first last) (λ image. one_reported (says status.Done (listing image first last))))) r s h k)
-  answers (Some (Debugs file script inputs)) contents r s h k = equal r s
+  answers (Some (Debugs file script inputs lives)) contents r s h k = equal r s
       (one_then (reads_of (file ∷ script ∷ names_of inputs) contents) (Parted 2 (λ texts more. TwoTexts (λ text commands. DebugAnswer file script inputs text commands more) texts))
       (λ texts. one_two (λ text commands. DebugAnswer file script inputs text commands (drop 2 texts))
       (λ text commands. one_hex laws file (given_for inputs (drop 2 texts)) text (debug_response (script, commands) (input_for role.Lines inputs (drop 2 texts)))) (take 2 texts)) r s h k)

@@ -201,7 +201,7 @@ written_is_readable (Some (Links files inputs out beside placing)) contents r h 
     (λ texts k. of_linked files (input_for role.Library inputs (drop (length files) texts)) out beside placing (take (length files) texts) r k) h
 written_is_readable (Some (RunsHex file inputs extent)) contents r h = of_none r
 written_is_readable (Some (Lists file first last)) contents r h = of_none r
-written_is_readable (Some (Debugs file script inputs)) contents r h = of_none r
+written_is_readable (Some (Debugs file script inputs lives)) contents r h = of_none r
 written_is_readable (Some (Generates number)) contents r h = of_none r
 written_is_readable (Some (Dumps trace inputs out clock)) contents r h = of_none r
 written_is_readable (Some (Checks trace rules inputs clock)) contents r h = of_none r

@@ -8,3 +8,4 @@ pub mod Origins
 pub mod RuleDiagnostics
 pub mod Rules
 pub mod Subjects
+pub mod Uses

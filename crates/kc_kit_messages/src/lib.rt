@@ -16,6 +16,7 @@ mod rule_files;
 mod rule_lines;
 mod subjects;
 mod table;
+mod uses;
 
 pub use diagnostics::{byte_diagnostic, line_diagnostic, put_broken, unkept_diagnostic};
 pub use laws::{
@@ -28,3 +29,4 @@ pub use origins::{Members, Origins};
 pub use printing::meaning_text;
 pub use rule_lines::link_refusal;
 pub use subjects::{put_body_line, source_diagnostic};
+pub use uses::{FileLine, use_diagnostic};

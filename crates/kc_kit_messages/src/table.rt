@@ -131,7 +131,10 @@ static RUNS: [Row; 48] = [
         "a command on Timer 2 while it counts every state, or the reverse"
     ),
     row!("kind6", "HSO_TIME is written with channel 12 or 13"; " LDB 06H,#0CH\n LD 04H,#10" => " LDB 06H,#20H\n LD 04H,#10"),
-    row!("kind7", "a register that is not there in this window"),
+    row!(
+        "kind7",
+        "a register that is not there in this window, as the watchdog, 0AH, without --lives"
+    ),
     row!("kind8", "a value of WSR that is no window"; " LDB 14H,#02H" => " LDB 14H,#01H"),
     row!(
         "kind9",

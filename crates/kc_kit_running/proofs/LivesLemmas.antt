@@ -32,7 +32,7 @@ module _ {X : Type 0} (lives : List (Life X)) (may : Response → Type 0) (files
   lives-whole end.Spent h = record { response = lives_response lives; is_answer = is; status = ap status_of h.0; text = h.1.whole h.2; files = refl }
   lives-whole end.Powerdown h = record { response = lives_response lives; is_answer = is; status = ap status_of h.0; text = h.1.whole h.2; files = refl }
   lives-whole end.Reset h = record { response = lives_response lives; is_answer = is; status = ap status_of h.0; text = h.1.whole h.2; files = refl }
-  lives-whole (end.Undefined what) h = record { response = lives_response lives; is_answer = is; status = ap status_of h.0; text = h.1.whole h.2; files = refl }
+  lives-whole (end.Undefined what access) h = record { response = lives_response lives; is_answer = is; status = ap status_of h.0; text = h.1.whole h.2; files = refl }
 
   -- the sink fails in it
   pub lives-part : old.failed ≡ false → AreReported lives old (Err fault.WriteFault) new → Responses may files (shown old.written old.faults) status.WriteFault files (shown new.written new.faults)

@@ -45,7 +45,7 @@ writing-whole how text ws may old new before now ended m e f g h = rw (e, f) (by
     by end.Spent k = given (status_of end.Spent) k
     by end.Powerdown k = given (status_of end.Powerdown) k
     by end.Reset k = given (status_of end.Reset) k
-    by (end.Undefined what) k = given (status_of (end.Undefined what)) k
+    by (end.Undefined what access) k = given (status_of (end.Undefined what access)) k
 
 -- the text is printed whole, and a write fails, or memory is wanted
 pub writing-part : (response : Response) (may : Response → Type 0) (old new : Kept) (before now : Shown) (ended : Ended) → may response → response.pauses ≡ response.text ∷ [] → (ended.status ≡ status.Done → ⊥) → Grew before.written response.text now.written →

@@ -32,7 +32,7 @@ pub run-whole : {X : Type 0} (ran : Stepped X) (may : Response → Type 0) (file
 run-whole ran may files old new end.Spent m e h = record { response = run_response ran; is_answer = m; status = ap status_of e; text = h; files = refl }
 run-whole ran may files old new end.Powerdown m e h = record { response = run_response ran; is_answer = m; status = ap status_of e; text = h; files = refl }
 run-whole ran may files old new end.Reset m e h = record { response = run_response ran; is_answer = m; status = ap status_of e; text = h; files = refl }
-run-whole ran may files old new (end.Undefined what) m e h = record { response = run_response ran; is_answer = m; status = ap status_of e; text = h; files = refl }
+run-whole ran may files old new (end.Undefined what access) m e h = record { response = run_response ran; is_answer = m; status = ap status_of e; text = h; files = refl }
 
 -- a run at whose end or in whose middle the sink has failed
 pub run-part : {X : Type 0} (ran : Stepped X) (may : Response → Type 0) (files : Kept) (old new : Shown) → may (run_response ran) → GrewByPart old.written (trace_of ran) new.written → Rose old.faults new.faults → Responses may files old status.WriteFault files new
@@ -69,7 +69,7 @@ HasRun-start states driving image machine how e f = by_end machine.ended refl
     of_how end.Spent h = tt
     of_how end.Powerdown h = h
     of_how end.Reset h = h
-    of_how (end.Undefined what) h = tt
+    of_how (end.Undefined what access) h = tt
 
     by_end : (ended : Option End) → machine.ended ≡ ended → HasRun how machine.time
     by_end (Some over) g = of_how how (has_run over g)

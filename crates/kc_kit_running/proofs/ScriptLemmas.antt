@@ -28,7 +28,7 @@ pub script-whole : {X : Type 0} (d : Debugged X) (may : Response → Type 0) (fi
 script-whole d may files old new end.Spent m e h = record { response = script_response d; is_answer = m; status = ap status_of e; text = h; files = refl }
 script-whole d may files old new end.Powerdown m e h = record { response = script_response d; is_answer = m; status = ap status_of e; text = h; files = refl }
 script-whole d may files old new end.Reset m e h = record { response = script_response d; is_answer = m; status = ap status_of e; text = h; files = refl }
-script-whole d may files old new (end.Undefined what) m e h = record { response = script_response d; is_answer = m; status = ap status_of e; text = h; files = refl }
+script-whole d may files old new (end.Undefined what access) m e h = record { response = script_response d; is_answer = m; status = ap status_of e; text = h; files = refl }
 
 -- with a prefix of it, where the sink has failed
 pub script-part : {X : Type 0} (d : Debugged X) (may : Response → Type 0) (files : Kept) (old new : Shown) → may (script_response d) → GrewByPart old.written d.text new.written → Rose old.faults new.faults → Responses may files old status.WriteFault files new

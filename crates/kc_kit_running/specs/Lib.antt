@@ -4,5 +4,6 @@ pub mod Lives
 pub mod Profiled
 pub mod Running
 pub mod Scripted
+pub mod Sources
 pub mod Watched
 pub mod Writing

@@ -1,21 +1,126 @@
--- A run of which a profile is written (this kit's own).
-use Rattle.std.specs.Prelude.{ℕ, List, [], ◌∷◌}
-use Rattle.kc_debug_script.specs.declared.line_map.MapEntry.{MapEntry}
+-- A run behind which is written where its states went and what it tells, and which lines of the sources have run (this kit's own).
+use Rattle.std.specs.Prelude.{ℕ, zero, suc, ◌+◌, ◌-◌, List, [], ◌∷◌, ◌++◌, length, map, flat_map, codes, decimal, Option, Some, None}
+use Rattle.std.specs.List.{range_with_len}
+use Rattle.kc_extra.specs.Further.{Further}
+use Rattle.kc_stim.specs.Drives.{driven_from}
+use Rattle.kc_machine_spec.specs.declared.doing.End.{End}
+use Rattle.kc_machine_spec.specs.Machine.{Machine, start}
 use Rattle.kc_machine_spec.specs.Run.{end_of}
 use Rattle.kc_machine_spec.specs.Text.{trace_of}
+use Rattle.kc_cycles.specs.Life.{Life}
+use Rattle.kc_cycles.specs.Making.{deadline_of}
+use Rattle.kc_cycles.specs.Lives.{last_end, lives_text, text_before}
+use Rattle.kc_profile.specs.declared.sight.Sight.{Sight}
+use Rattle.kc_profile.specs.declared.spread.Moment.{Moment}
+use Rattle.kc_profile.specs.declared.telling.Scope.TheVariants as scope
+use Rattle.kc_profile.specs.declared.spot.Spot.{Spot}
 use Rattle.kc_profile.specs.Spots.{spots_for}
+use Rattle.kc_profile.specs.Sights.{history}
 use Rattle.kc_profile.specs.Tally.{tally_of}
 use Rattle.kc_profile.specs.Text.{profile_text}
-use Rattle.kc_kit_files.specs.Response.{Response, write, says_writing}
+use Rattle.kc_profile.specs.Telling.{told_text}
+use Rattle.kc_profile.specs.Told.{Told, told_of, told_of_lives}
+use Rattle.kc_cover.specs.Cover.{cover_text}
+use Rattle.kc_kit_files.specs.Response.{Response, Write, write}
+use Rattle.kc_kit_words.specs.Commands.{Behind}
+use Rattle.kc_kit_words.specs.declared.extent.Extent.{Extent}
 use Rattle.kc_kit_inputs.specs.declared.driving.Driving.{Driving}
+use Rattle.kc_kit_running.specs.declared.accounts.Lines.{Lines}
 use Rattle.kc_kit_running.specs.Fitted.{fitted_further}
-use Rattle.kc_kit_running.specs.Running.{machine_of, run_of, status_of}
+use Rattle.kc_kit_running.specs.Lives.{board_lives}
+use Rattle.kc_kit_running.specs.Running.{machine_of, run_of, said_of, status_of}
+use Rattle.kc_kit_running.specs.Sources.{lines_in}
+use Rattle.kc_kit_running.specs.Watched.{WatchedUnit, watched_further, watched_for}
 
--- where the states of a run go, in words, by a line map with these entries
-abbrev pub profile_of : ℕ → List MapEntry → Driving → List ℕ → List ℕ
-profile_of states entries driving image = profile_text (tally_of (spots_for fitted_further states (machine_of driving image))) entries
+-- the texts of a profile and of a tracefile
+pub record Accounts : Type 0 where
+  pub profile : List ℕ
+  pub cover : List ℕ
 
--- how a run ended, and its text; and behind it the profile is written
-abbrev pub profile_response : ℕ → List ℕ → List MapEntry → Driving → List ℕ → Response
-profile_response states out entries driving image =
-    says_writing (status_of (end_of (run_of states driving image).machine)) (trace_of (run_of states driving image)) (write out (profile_of states entries driving image) ∷ [])
+-- the files that are asked for
+abbrev pub write_of : Option (List ℕ) → List ℕ → List Write
+write_of None text = []
+write_of (Some name) text = write name text ∷ []
+
+abbrev pub writes_of : Behind → Accounts → List Write
+writes_of behind a = write_of behind.profile a.profile ++ write_of behind.cover a.cover
+
+-- ---- one life
+
+-- what was counted of a machine that has run for so many states, in words
+abbrev pub run_text : {X : Type 0} → Further X → Lines → ℕ → Machine X → List ℕ
+run_text f lines states m = profile_text (tally_of (spots_for f states m)) lines.entries.items ++ told_text scope.Life (told_of 1 (history f states m))
+
+abbrev pub run_accounts : Lines → ℕ → Driving → List ℕ → Accounts
+run_accounts lines states driving image =
+    let m = machine_of driving image in
+    record {
+      profile = run_text fitted_further lines states m;
+      cover = cover_text None (told_of 1 (history fitted_further states m)) lines.sources.items;
+    }
+
+-- ---- several lives: each under its heading, and the sums behind them
+
+abbrev pub heading : List ℕ → ℕ → List ℕ
+heading word number = word ++ decimal number ++ codes "\n"
+
+-- what a life has counted: where its states went, and what they have shown, the last first
+pub record Counted : Type 0 where
+  pub spots : List Spot
+  pub sights : List Sight
+
+abbrev pub life_profile : Lines → ℕ → Counted → List ℕ
+life_profile lines life c =
+    heading (codes "life ") life ++ profile_text (tally_of c.spots) lines.entries.items ++ told_text scope.Life (told_of life c.sights)
+
+unfoldable pub lives_profile : Lines → ℕ → List Counted → List ℕ
+lives_profile lines life [] = []
+lives_profile lines life (c ∷ more) = life_profile lines life c ++ lives_profile lines (life + 1) more
+
+unfoldable pub lives_cover : Lines → ℕ → List Counted → List ℕ
+lives_cover lines life [] = []
+lives_cover lines life (c ∷ more) = cover_text (Some life) (told_of life c.sights) lines.sources.items ++ lives_cover lines (life + 1) more
+
+abbrev pub sums_profile : Lines → List Counted → List ℕ
+sums_profile lines lives =
+    heading (codes "lives ") (length lives)
+    ++ profile_text (tally_of (flat_map (λ (c : Counted). c.spots) lives)) lines.entries.items
+    ++ told_text scope.Lives (told_of_lives 1 (map (λ (c : Counted). c.sights) lives))
+
+abbrev pub lives_accounts : Lines → List Counted → Accounts
+lives_accounts lines lives = record {
+  profile = lives_profile lines 1 lives ++ sums_profile lines lives;
+  cover = lives_cover lines 1 lives;
+}
+
+-- what each life of a board counts, by the state at which it begins
+unfoldable pub counted_from : Driving → List ℕ → ℕ → List (Life WatchedUnit) → List Counted
+counted_from driving image from [] = []
+counted_from driving image from (life ∷ more) =
+    let m = start image (driven_from from driving.stimuli) (watched_for driving.values driving.stimuli from) in
+    record { spots = spots_for watched_further life.ran.machine.time m; sights = history watched_further life.ran.machine.time m }
+    ∷ counted_from driving image (from + life.ran.machine.time) more
+
+-- ---- how a run ended, and its text; and behind it the files are written
+
+-- memory may be wanted behind the text, for the files and for what is said
+abbrev pub profiled : Lines → End → List ℕ → List (List ℕ) → List Write → Response
+profiled lines how text pauses writes = record {
+  status = status_of how;
+  text = text;
+  pauses = pauses ++ text ∷ [];
+  writes = writes;
+  diagnostic = said_of (lines_in lines.linked) how;
+}
+
+abbrev pub profile_over : Option ℕ → ℕ → Behind → Lines → Driving → List ℕ → Response
+profile_over None states behind lines driving image =
+    let ran = run_of states driving image in
+    profiled lines (end_of ran.machine) (trace_of ran) [] (writes_of behind (run_accounts lines states driving image))
+profile_over (Some most) states behind lines driving image =
+    let lives = board_lives most states driving image in
+    profiled lines (last_end lives) (lives_text lives) (map (λ n. text_before n lives) (range_with_len 0 (length lives)))
+    (writes_of behind (lives_accounts lines (counted_from driving image 0 lives)))
+
+abbrev pub profile_response : Extent → Behind → Lines → Driving → List ℕ → Response
+profile_response extent behind lines driving image = profile_over extent.lives extent.states behind lines driving image

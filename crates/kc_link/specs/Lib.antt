@@ -1,6 +1,7 @@
 pub mod Filled
 pub mod Laws
 pub mod LineMap
+pub mod SourceLine
 pub mod Placed
 pub mod Writes
 pub mod Linked

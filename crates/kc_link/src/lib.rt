@@ -6,6 +6,7 @@
 //! The map of modules that are linked: where pieces and public names went, the stack, and what is left free.
 #![tactic(auto)]
 
+mod addresses;
 mod fields;
 mod filling;
 mod free;
@@ -18,6 +19,7 @@ mod modules;
 mod placed;
 mod taken;
 
+pub use addresses::{SourceLine, source_line};
 pub use fields::kind_word;
 pub use kc_base::put_number;
 pub use kc_link_place::{LinkFault, Placement, Ranges};

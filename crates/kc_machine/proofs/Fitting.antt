@@ -5,7 +5,8 @@ use Rattle.std.proofs.lemmas.Bool.Decides.{nat_tests}
 use Rattle.kc_base.specs.declared.types.Edge.{Edge}
 use Rattle.kc_base.specs.declared.types.Kind.{Kind}
 use Rattle.kc_exec_spec.specs.declared.cpu.Cpu.{Cpu}
-use Rattle.kc_exec_spec.specs.Access.{Access, ReadByte, ReadWord, WriteByte, WriteWord, SetMasks}
+use Rattle.kc_exec_spec.specs.declared.access.Access.{Access}
+use Rattle.kc_exec_spec.specs.declared.access.Access.TheVariants.{ReadByte, ReadWord, WriteByte, WriteWord, SetMasks}
 use Rattle.kc_exec_spec.specs.Effect.{Effect, End, Undefined, Look, Ask, Outcome, Done, Refused, Gives, answered, run}
 use Rattle.kc_exec_spec.specs.declared.cpu.After.{After}
 use Rattle.kc_exec_spec.specs.Effects.{Performs}
@@ -24,7 +25,7 @@ use Rattle.kc_block_spec.specs.Registers.{bytes_read_everywhere, bytes_written_e
 use Rattle.kc_block_spec.specs.Accesses.{latch_edges, after_byte_read, after_word_read, byte_written, word_written}
 use Rattle.kc_block_spec.proofs.Counts.{eighteen_edges}
 use Rattle.kc_machine_spec.specs.Board.{Board, masks_of, with_masks}
-use Rattle.kc_machine_spec.specs.Scene.{Scene, all_kept, opened, with_units, window_at, byte_weight, is_zero_register, word_weight, put, kept, scene_answer, after_by, scene_meaning}
+use Rattle.kc_machine_spec.specs.Scene.{Scene, all_kept, opened, with_units, window_at, byte_weight, is_zero_register, word_weight, refusing, put, kept, scene_answer, after_by, scene_meaning}
 use Rattle.kc_machine.specs.Keeping.{all_noted, while_counted, fitting}
 use Rattle.kc_machine.specs.Bus.{bus_meaning}
 use Rattle.kc_block_spec.specs.Costs.{CostsAtMost}
@@ -48,7 +49,7 @@ with_units-fits s u n edges reached =
     let e : all_noted s.edges (latch_edges s.board.units u) ≡ s.edges ++ latch_edges s.board.units u =
     noted-whole s.edges (latch_edges s.board.units u) (omega (arith, latch_edges-short s.board.units u)) in
     let some : nat_lt s.reached 64 ≡ true = grind (arith, nat_tests) in
-    λ i. record { time = s.time; board = record { units = u; memory = s.board.memory }; edges = e i; reached = ap (λ b. if b then s.reached + n else s.reached) some i }
+    λ i. record { time = s.time; board = record { units = u; memory = s.board.memory }; edges = e i; reached = ap (λ b. if b then s.reached + n else s.reached) some i; refused = s.refused }
 
 -- what one access may add
 record Grows {X : Type 0} (s x : Scene X) : Type 0 where
@@ -111,8 +112,8 @@ module _ {X : Type 0} (f : Further X) where
       let grown = after-grows s r in
       let more = grown.edges in
       let count = grown.reached in
-      ap (λ x. answered (scene_answer f s r) (λ i. run (bus_meaning f) (next i) x) s) (after-fits s r (omega arith) (omega arith))
-      ∙ ap (λ g. answered (scene_answer f s r) g s) (fun_ext (λ i. runs-alike (n - 1) (next i) (after_by f all_kept s r) (h.1 i) (omega arith) (omega arith)))
+      ap (λ x. answered (scene_answer f s r) (λ i. run (bus_meaning f) (next i) x) (refusing s r)) (after-fits s r (omega arith) (omega arith))
+      ∙ ap (λ g. answered (scene_answer f s r) g (refusing s r)) (fun_ext (λ i. runs-alike (n - 1) (next i) (after_by f all_kept s r) (h.1 i) (omega arith) (omega arith)))
 
   -- what the bus does in an activity is what the definitions say
   pub fits : {A : Type 0} (effect : Effect A) (t : ℕ) (board : Board X) → AtMost 8 effect → run (bus_meaning f) effect (opened t board) ≡ run (scene_meaning f) effect (opened t board)
@@ -146,7 +147,7 @@ module _ {X : Type 0} (f : Further X) where
   after-counts s (WriteWord by addr n) = either-counts (nat_lt addr 24) s _ (put (put s addr (n % 256)) (addr + 1) (n / 256)) (with_units-counts s (kept s.board.units (word_written f s.time (window_at s by) s.board.units addr n)) (word_weight addr) (word_weight-few addr)) (same-counts s (put (put s addr (n % 256)) (addr + 1) (n / 256)) refl)
   after-counts s (SetMasks m) = with_units-counts s (with_masks s.board.units m) 0 (omega arith)
 
-  by-answer : {A : Type 0} (n : ℕ) (next : ℕ → Effect A) (s : Scene X) (r : Access) → AtMost n (Ask r next) → (a : Result ℕ Kind) → ((i : ℕ) → (left_by (run (bus_meaning f) (next i) (after_by f fitting s r))).reached ≤ (after_by f fitting s r).reached + 2 * (n - 1)) → (left_by (answered a (λ i. run (bus_meaning f) (next i) (after_by f fitting s r)) s)).reached ≤ s.reached + 2 * n
+  by-answer : {A : Type 0} (n : ℕ) (next : ℕ → Effect A) (s : Scene X) (r : Access) → AtMost n (Ask r next) → (a : Result ℕ Kind) → ((i : ℕ) → (left_by (run (bus_meaning f) (next i) (after_by f fitting s r))).reached ≤ (after_by f fitting s r).reached + 2 * (n - 1)) → (left_by (answered a (λ i. run (bus_meaning f) (next i) (after_by f fitting s r)) (refusing s r))).reached ≤ s.reached + 2 * n
   by-answer n next s r h (Ok i) rest =
       let some : 0 < n = h.0 in
       let count = (after-counts s r).few in

@@ -5,7 +5,7 @@ use Rattle.kc_base.specs.declared.types.Edge.{Edge}
 use Rattle.kc_base.specs.declared.types.Kind.{Kind}
 use Rattle.kc_exec_spec.specs.declared.access.Master.{Master}
 use Rattle.kc_exec_spec.specs.declared.access.Masks.{Masks}
-use Rattle.kc_exec_spec.specs.Access.{ReadByte, ReadWord, WriteByte, WriteWord, SetMasks}
+use Rattle.kc_exec_spec.specs.declared.access.Access.TheVariants.{ReadByte, ReadWord, WriteByte, WriteWord, SetMasks}
 use Rattle.kc_extra.specs.Further.{Further}
 use Rattle.kc_block_spec.specs.declared.registers.Window.{Window}
 use Rattle.kc_block_spec.specs.declared.registers.Window.TheVariants.{Window0, Window1, Window15}
@@ -108,7 +108,7 @@ word-some addr far =
 
 -- a scene with other units and edges
 scene_with : {X : Type 0} → Scene X → ℕ → Units X → List Edge → ℕ → Scene X
-scene_with s t u edges reached = record { time = t; board = record { units = u; memory = s.board.memory }; edges = edges; reached = reached }
+scene_with s t u edges reached = record { time = t; board = record { units = u; memory = s.board.memory }; edges = edges; reached = reached; refused = s.refused }
 
 settled : {X : Type 0} (s : Scene X) (u : Units X) (n : ℕ) (t : ℕ) (v : Units X) (edges : List Edge) (k : ℕ) → u ≡ v → t ≡ s.time → all_noted s.edges (latch_edges s.board.units v) ≡ edges → k ≡ counted s.reached n → with_units fitting s u n ≡ scene_with s t v edges k
 unfolding with_units scene_with
@@ -120,7 +120,7 @@ settled s u n t v edges k same time noted count =
 
 module _ {X : Type 0} (f : Further X) where
   pub byte-was-read : (s : Scene X) (by : Master) (addr : ℕ) (w : Window) (t : ℕ) (u : Units X) (k : ℕ) → addr < 24 → w ≡ window_at s by → u ≡ after_byte_read f s.time w s.board.units addr → t ≡ s.time → k ≡ counted s.reached (byte_weight bytes_read_everywhere addr) →
-      after_by f fitting s (ReadByte by addr) ≡ record { time = t; board = record { units = u; memory = s.board.memory }; edges = s.edges; reached = k }
+      after_by f fitting s (ReadByte by addr) ≡ record { time = t; board = record { units = u; memory = s.board.memory }; edges = s.edges; reached = k; refused = s.refused }
   unfolding scene_with
   byte-was-read s by addr w t u k below window read time count =
       let on = is_register addr below in
@@ -129,7 +129,7 @@ module _ {X : Type 0} (f : Further X) where
       rw on (settled s _ (byte_weight bytes_read_everywhere addr) t u s.edges k same time (ap (all_noted s.edges) kept) count)
 
   pub word-was-read : (s : Scene X) (by : Master) (addr : ℕ) (w : Window) (t : ℕ) (u : Units X) (k : ℕ) → addr < 24 → w ≡ window_at s by → u ≡ after_word_read f s.time w s.board.units addr → t ≡ s.time → k ≡ counted s.reached (word_weight addr) →
-      after_by f fitting s (ReadWord by addr) ≡ record { time = t; board = record { units = u; memory = s.board.memory }; edges = s.edges; reached = k }
+      after_by f fitting s (ReadWord by addr) ≡ record { time = t; board = record { units = u; memory = s.board.memory }; edges = s.edges; reached = k; refused = s.refused }
   unfolding scene_with
   word-was-read s by addr w t u k below window read time count =
       let on = is_register addr below in
@@ -142,7 +142,7 @@ module _ {X : Type 0} (f : Further X) where
 
   pub byte-was-written : (s : Scene X) (by : Master) (addr n : ℕ) (w : Window) (t : ℕ) (u : Units X) (edges : List Edge) (k : ℕ) → addr < 24 → w ≡ window_at s by → byte_written f s.time w s.board.units addr n ≡ Ok u → t ≡ s.time →
       Leads (λ old at edge new. new ≡ one_noted old edge) s.edges (in_state s.time (latch_edges s.board.units u)) edges → k ≡ counted s.reached (byte_weight bytes_written_everywhere addr) →
-      after_by f fitting s (WriteByte by addr n) ≡ record { time = t; board = record { units = u; memory = s.board.memory }; edges = edges; reached = k }
+      after_by f fitting s (WriteByte by addr n) ≡ record { time = t; board = record { units = u; memory = s.board.memory }; edges = edges; reached = k; refused = s.refused }
   unfolding scene_with
   byte-was-written s by addr n w t u edges k below window written time led count =
       let on = is_register addr below in
@@ -151,7 +151,7 @@ module _ {X : Type 0} (f : Further X) where
 
   pub word-was-written : (s : Scene X) (by : Master) (addr n : ℕ) (w : Window) (t : ℕ) (u : Units X) (edges : List Edge) (k : ℕ) → addr < 24 → w ≡ window_at s by → word_written f s.time w s.board.units addr n ≡ Ok u → t ≡ s.time →
       Leads (λ old at edge new. new ≡ one_noted old edge) s.edges (in_state s.time (latch_edges s.board.units u)) edges → k ≡ counted s.reached (word_weight addr) →
-      after_by f fitting s (WriteWord by addr n) ≡ record { time = t; board = record { units = u; memory = s.board.memory }; edges = edges; reached = k }
+      after_by f fitting s (WriteWord by addr n) ≡ record { time = t; board = record { units = u; memory = s.board.memory }; edges = edges; reached = k; refused = s.refused }
   unfolding scene_with
   word-was-written s by addr n w t u edges k below window written time led count =
       let on = is_register addr below in
@@ -159,7 +159,7 @@ module _ {X : Type 0} (f : Further X) where
       rw on (settled s _ (word_weight addr) t u edges k same time (note-leads s.edges s.time (latch_edges s.board.units u) edges led) count)
 
   pub masks-were-set : (s : Scene X) (m : Masks) (t : ℕ) (u : Units X) (k : ℕ) → u ≡ with_masks s.board.units m → t ≡ s.time → k ≡ s.reached →
-      after_by f fitting s (SetMasks m) ≡ record { time = t; board = record { units = u; memory = s.board.memory }; edges = s.edges; reached = k }
+      after_by f fitting s (SetMasks m) ≡ record { time = t; board = record { units = u; memory = s.board.memory }; edges = s.edges; reached = k; refused = s.refused }
   unfolding scene_with printed_of
   masks-were-set s m t u k set time count =
       let kept : latch_edges s.board.units u ≡ [] = ap (latch_edges s.board.units) set ∙ latches-kept s.board.units (with_masks s.board.units m) refl in
@@ -173,10 +173,10 @@ module _ {X : Type 0} (f : Further X) where
       ap (all_noted o) (sym none) ∙ note-leads o t (latch_edges u v) p h
 
   pub refused-scene : (s : Scene X) (t : ℕ) (u : Units X) (edges : List Edge) → t ≡ s.time → u ≡ s.board.units → Leads (λ old at edge new. new ≡ one_noted old edge) s.edges (in_state s.time (latch_edges s.board.units u)) edges →
-      s ≡ record { time = t; board = record { units = u; memory = s.board.memory }; edges = edges; reached = s.reached }
+      s ≡ record { time = t; board = record { units = u; memory = s.board.memory }; edges = edges; reached = s.reached; refused = s.refused }
   refused-scene s t u edges time same led =
       let noted : s.edges ≡ edges = refused-leads s.board.units u s.time s.edges edges same led in
-      λ i. record { time = sym time i; board = record { units = sym same i; memory = s.board.memory }; edges = noted i; reached = s.reached }
+      λ i. record { time = sym time i; board = record { units = sym same i; memory = s.board.memory }; edges = noted i; reached = s.reached; refused = s.refused }
 
   -- the word at 0000H reads 0, and ignores writes
   pub zeros-read : (t : ℕ) (w : Window) (u : Units X) → word_read f t w u 0 ≡ Ok 0

@@ -12,4 +12,4 @@ bus_meaning f = meaning_by f fitting
 
 -- the accesses of a state come when the units have gone past its Tick
 abbrev pub held_of : {X : Type 0} {d : extra.Ghosts X} → Common X d → Scene X
-held_of bus = record { time = bus.block.time - 1; board = record { units = bus.block.units; memory = bus.memory.items }; edges = bus.edges; reached = bus.reached }
+held_of bus = record { time = bus.block.time - 1; board = record { units = bus.block.units; memory = bus.memory.items }; edges = bus.edges; reached = bus.reached; refused = bus.refused }

@@ -1,16 +1,17 @@
 // The common board of both masters in a state.
-ghost use Rattle.std.specs.Prelude.{◌≡◌, ℕ, ◌+◌, ◌*◌, ◌<◌, ◌≤◌, ◌-◌, ◌%◌, Err, IsTrue, OnOk, OnErr, IfOk, All, vec_len, length, [], true, false, IfSome};
+ghost use Rattle.std.specs.Prelude.{◌≡◌, ℕ, ◌+◌, ◌*◌, ◌<◌, ◌≤◌, ◌-◌, ◌%◌, Err, IsTrue, OnOk, OnErr, IfOk, All, vec_len, length, [], true, false, IfSome, ◌^◌, bit_or};
 ghost use Rattle.std.specs.Bool.{OnTrue};
 ghost use Rattle.kc_base.specs.Limits.{max_states};
 ghost use Rattle.kc_span.specs.Span.{after};
-ghost use Rattle.kc_exec_spec.specs.Access.{ReadByte, ReadWord, WriteByte, WriteWord, SetMasks, Accepts};
+ghost use Rattle.kc_exec_spec.specs.Access.{Accepts};
+ghost use Rattle.kc_exec_spec.specs.declared.access.Access.TheVariants.{ReadByte, ReadWord, WriteByte, WriteWord, SetMasks};
 ghost use Rattle.kc_exec_spec.specs.Window.{is_wsr};
 ghost use Rattle.kc_block_spec.specs.Touch.{block_rule, touch, edges_of};
 ghost use Rattle.kc_block_spec.specs.Leading.{Leads};
 ghost use Rattle.kc_block_spec.specs.Looking.{looked};
 ghost use Rattle.kc_machine_spec.specs.Board.{masks_of};
-ghost use Rattle.kc_machine_spec.specs.Scene.{opened, byte, put, window_at, scene_answer, after_by};
-ghost use Rattle.kc_machine_spec.specs.Machine.{taken, claimed, handed};
+ghost use Rattle.kc_machine_spec.specs.Scene.{opened, byte, put, refusing, window_at, scene_answer, after_by};
+ghost use Rattle.kc_machine_spec.specs.Machine.{taken, claimed, handed, with_asked};
 ghost use Rattle.kc_exec_spec.specs.Memory.{is_rom};
 ghost use Rattle.kc_machine.specs.Keeping.{fitting, counted};
 ghost use Rattle.kc_exec_predecode.specs.Predecoding.{is_blank};
@@ -19,19 +20,20 @@ ghost use Rattle.kc_machine.specs.Prepared.{HasSlot, IsRead, IsSlot, IsTable};
 use crate::choosing::fetch;
 use crate::noted::Noted;
 use crate::weights::{weigh_read, weigh_word, weigh_write, window_for};
-use kc_base::{EdgeOut, IMAGE_START, Kind, NoMemory, StateTime, Steps};
+use kc_base::{EdgeOut, IMAGE_START, IntSet, Kind, NoMemory, StateTime, Steps};
 use kc_block::Block;
 use kc_block_spec::Window;
 use kc_bus::{Masks, Master};
 use kc_code::{Decoded, decode};
 use kc_exec_predecode::{Predecoded, predecode};
+use kc_exec_spec::Access;
 use kc_extra::Extra;
 use std::alloc::Global;
 use std::sync::ledger::Ledger;
 
 /// The memory and the units of a board, and the predecoded instructions of its ROM. After the Tick of a state they are those that
-/// the accesses of the state meet; beside them stand the edges of pins that these accesses have made, and how many of their bytes
-/// have reached a unit.
+/// the accesses of the state meet; beside them stand the edges of pins that these accesses have made, how many of their bytes have
+/// reached a unit, and the one that was refused.
 #[derive(Drop)]
 pub struct Common<X: Extra + Drop> {
     pub(crate) memory: Vec<u8>,
@@ -39,6 +41,7 @@ pub struct Common<X: Extra + Drop> {
     pub(crate) block: Block<X>,
     pub(crate) edges: Noted,
     pub(crate) reached: u8,
+    pub(crate) refused: Option<Access>,
     ghost long: { vec_len memory ≡ 65536 },
     ghost slots: { vec_len predecoded ≡ 0x3FFA },
     ghost known: { IsTable predecoded.items memory.items },
@@ -92,6 +95,7 @@ impl<X: Extra + Drop> Common<X> {
             block,
             edges: Noted::none(),
             reached: 0,
+            refused: None,
         })
     }
 
@@ -116,6 +120,19 @@ impl<X: Extra + Drop> Common<X> {
         self.block.advance(from + count, out, steps);
         self.edges.forget();
         self.reached = 0;
+        self.refused = None;
+    }
+
+    /// Keeps an access that is refused, and gives the kind.
+    #[inline(never)]
+    #[cold]
+    pub(crate) fn refuse(&mut self, access: Access, kind: Kind) -> Kind
+        ensures kind { result ≡ kind }
+        ensures scene { refusing (held_of self.old) access ≡ held_of self.new }
+        ensures none { ReachesNone self.old self.new }
+    {
+        self.refused = Some(access);
+        kind
     }
 
     /// The registers of the units that belong to the processor's state.
@@ -130,6 +147,29 @@ impl<X: Extra + Drop> Common<X> {
             int_mask1: (mask / 256) as u8,
             wsr: self.block.wsr(),
         }
+    }
+
+    /// Takes all pending requests away, and answers which they were.
+    pub(crate) fn withdraw(&mut self) -> IntSet
+        ensures pending { result.0 ≡ self.old.block.units.board_registers.requests.pending }
+        ensures scene { held_of self.new ≡ with_asked (λ r. record r { pending = 0 }) (held_of self.old) }
+        ensures none { ReachesNone self.old self.new }
+    {
+        let mut requests = self.block.requests();
+        let pending = IntSet(requests.pending);
+        requests.pending = 0;
+        self.block.set_requests(requests);
+        pending
+    }
+
+    /// Adds requests to the pending ones.
+    pub(crate) fn raise(&mut self, set: IntSet)
+        ensures scene { held_of self.new ≡ with_asked (λ r. record r { pending = bit_or r.pending set.0 }) (held_of self.old) }
+        ensures none { ReachesNone self.old self.new }
+    {
+        let mut requests = self.block.requests();
+        requests.raise(set);
+        self.block.set_requests(requests);
     }
 
     /// Takes a request away that is entered.

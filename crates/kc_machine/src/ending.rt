@@ -140,7 +140,7 @@ impl<X: Extra + Drop> Core<X> {
         self.close(Next {
             held: self.held,
             going: self.going,
-            ended: Some(End::Undefined(what)),
+            ended: Some(End::Undefined(what, self.bus.refused)),
         });
         Record::Undef(what)
     }

@@ -39,7 +39,7 @@ pub fn stopped(how: End, time: StateTime) -> Record
             at: time - 1,
             how: 2,
         },
-        End::Undefined(what) => Record::Stopped {
+        End::Undefined(what, _) => Record::Stopped {
             at: what.at,
             how: 3,
         },

@@ -4,6 +4,7 @@ ghost use Rattle.std.specs.Prelude.{◌≡◌, ℕ, ◌+◌, ◌*◌, ◌<◌, �
 use crate::common::Common;
 use kc_base::{Kind, Steps};
 use kc_bus::{Bus, Masks, Master, is_fixed, is_known, is_outside};
+use kc_exec_spec::Access;
 use kc_extra::Extra;
 use std::marker::{Brand, PhantomData};
 use std::sync::ledger::Ledger;
@@ -56,10 +57,14 @@ impl<'a, X: Extra + Drop, L: Ledger, K: Began> Bus for Lent<'a, X, L, K> {
 
     #[inline(always)]
     fn read8(&mut self, by: Master, addr: u16) -> Result<u8, Kind> {
+        let access = Access::ReadByte(by, addr);
         if addr < 0x18 {
-            Ok(self.common.read_byte(by, addr, self.steps)?)
+            match self.common.read_byte(by, addr, self.steps) {
+                Ok(value) => Ok(value),
+                Err(kind) => Err(self.common.refuse(access, kind)),
+            }
         } else if is_outside(addr) {
-            Err(Kind::OutsideMap)
+            Err(self.common.refuse(access, Kind::OutsideMap))
         } else {
             Ok(self.common.byte_at(addr))
         }
@@ -67,12 +72,16 @@ impl<'a, X: Extra + Drop, L: Ledger, K: Began> Bus for Lent<'a, X, L, K> {
 
     #[inline(always)]
     fn read16(&mut self, by: Master, addr: u16) -> Result<u16, Kind> {
+        let access = Access::ReadWord(by, addr);
         if addr % 2 == 1 {
-            Err(Kind::OddWord)
+            Err(self.common.refuse(access, Kind::OddWord))
         } else if addr < 0x18 {
-            Ok(self.common.read_word_here(by, addr, self.steps)?)
+            match self.common.read_word_here(by, addr, self.steps) {
+                Ok(value) => Ok(value),
+                Err(kind) => Err(self.common.refuse(access, kind)),
+            }
         } else if is_outside(addr) {
-            Err(Kind::OutsideMap)
+            Err(self.common.refuse(access, Kind::OutsideMap))
         } else {
             let low = self.common.byte_at(addr);
             let high = self.common.byte_at(addr + 1);
@@ -82,13 +91,16 @@ impl<'a, X: Extra + Drop, L: Ledger, K: Began> Bus for Lent<'a, X, L, K> {
 
     #[inline(always)]
     fn write8(&mut self, by: Master, addr: u16, value: u8) -> Result<(), Kind> {
+        let access = Access::WriteByte(by, addr, value);
         if addr < 0x18 {
-            self.common.write_byte(by, addr, value, self.steps)?;
-            Ok(())
+            match self.common.write_byte(by, addr, value, self.steps) {
+                Ok(()) => Ok(()),
+                Err(kind) => Err(self.common.refuse(access, kind)),
+            }
         } else if is_outside(addr) {
-            Err(Kind::OutsideMap)
+            Err(self.common.refuse(access, Kind::OutsideMap))
         } else if is_fixed(addr) {
-            Err(Kind::RomWrite)
+            Err(self.common.refuse(access, Kind::RomWrite))
         } else {
             self.common.put_byte(addr, value);
             Ok(())
@@ -97,15 +109,18 @@ impl<'a, X: Extra + Drop, L: Ledger, K: Began> Bus for Lent<'a, X, L, K> {
 
     #[inline(always)]
     fn write16(&mut self, by: Master, addr: u16, value: u16) -> Result<(), Kind> {
+        let access = Access::WriteWord(by, addr, value);
         if addr % 2 == 1 {
-            Err(Kind::OddWord)
+            Err(self.common.refuse(access, Kind::OddWord))
         } else if addr < 0x18 {
-            self.common.write_word(by, addr, value, self.steps)?;
-            Ok(())
+            match self.common.write_word(by, addr, value, self.steps) {
+                Ok(()) => Ok(()),
+                Err(kind) => Err(self.common.refuse(access, kind)),
+            }
         } else if is_outside(addr) {
-            Err(Kind::OutsideMap)
+            Err(self.common.refuse(access, Kind::OutsideMap))
         } else if is_fixed(addr) {
-            Err(Kind::RomWrite)
+            Err(self.common.refuse(access, Kind::RomWrite))
         } else {
             self.common.put_byte(addr, (value % 256) as u8);
             self.common.put_byte(addr + 1, (value / 256) as u8);
@@ -125,7 +140,8 @@ impl<'a, X: Extra + Drop, L: Ledger, K: Began> Bus for Lent<'a, X, L, K> {
 
     fn set_masks(&mut self, masks: Masks) -> Result<(), Kind> {
         if !is_known(masks.wsr) {
-            return Err(Kind::BadWindow);
+            let access = Access::SetMasks(masks);
+            return Err(self.common.refuse(access, Kind::BadWindow));
         }
         self.common.set_masks(masks);
         Ok(())

@@ -15,6 +15,7 @@ mod noted;
 mod over;
 mod parts;
 mod passing;
+mod telling;
 mod weights;
 
 pub use finals::stopped;

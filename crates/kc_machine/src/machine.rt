@@ -1,13 +1,16 @@
 ghost use Rattle.std.specs.Prelude.{◌≡◌, ◌≤◌, ◌<◌, ◌+◌, ◌-◌, ◌*◌, ◌%◌, ◌↔◌, ℕ, None, IfOk, OnOk, OnErr, IsTrue, false, true, max, vec_len, bit_xor};
 ghost use Rattle.kc_base.specs.Limits.{max_states};
 ghost use Rattle.kc_trace.specs.Counting.{counted_all};
-ghost use Rattle.kc_trace.specs.Out.{Puts};
+ghost use Rattle.kc_trace.specs.Out.{Prints, Puts};
 ghost use Rattle.kc_trace.specs.Text.{line_of, text_of};
 ghost use Rattle.kc_exec_spec.specs.Memory.{IsMemory, is_hole};
 ghost use Rattle.kc_block_spec.specs.Levels.{stimulated_before};
+ghost use Rattle.kc_block_spec.specs.Touch.{block_rule};
+ghost use Rattle.kc_block_units.specs.Next.{IsDueOrLast};
 ghost use Rattle.kc_block_units.specs.Scheduler.{further_goes};
 ghost use Rattle.kc_block.specs.Lent.{IsLent};
 ghost use Rattle.kc_intc.specs.declared.requests.Choice.TheVariants.{Go};
+ghost use Rattle.kc_machine_spec.specs.Board.{word_at};
 ghost use Rattle.kc_machine_spec.specs.Machine.{start, memory_of, asked, current};
 ghost use Rattle.kc_machine_spec.specs.Run.{run_to, end_of};
 ghost use Rattle.kc_machine_spec.specs.Work.{work_to};
@@ -17,14 +20,16 @@ ghost use Rattle.kc_machine_spec.specs.Text.{finals, HasRun};
 ghost use Rattle.kc_machine.specs.Board.{Whole};
 ghost use Rattle.kc_machine.specs.Failing.{FailsIn};
 ghost use Rattle.kc_machine.specs.Stepping.{IsBrief, IdlesFor, end_line, register_lines};
+ghost use Rattle.kc_machine.specs.Telling.{raised_in};
 
 use crate::common::Common;
 use crate::finals::{put_end, put_finals, put_state, word};
 use crate::parts::Core;
-use kc_base::{Image, NoMemory, Sink, StateTime, Steps};
+use kc_base::{Image, IntSet, NoMemory, Sink, StateTime, Steps};
 use kc_block::Block;
 use kc_exec_spec::Cpu;
 use kc_extra::Extra;
+use kc_intc::Requests;
 use kc_machine_spec::{End, UnderWay};
 use kc_stim::Stimuli;
 use kc_trace::{TraceOut, WriteFault};
@@ -163,6 +168,58 @@ impl<X: Extra + Drop> Machine<X> {
         ensures goes { IsIdle self.now.machine → asked self.now.machine ≡ Go → self.now.machine.time < until → self.now.machine.time < result }
     {
         self.core.idles_to(until)
+    }
+
+    /// The pending, mask, select and service sets.
+    pub fn requests(&self) -> Requests
+        ensures { result ≡ self.now.machine.board.units.board_registers.requests }
+    {
+        self.core.bus.block.requests()
+    }
+
+    /// The stack pointer: the word at 0018H of memory.
+    pub fn stack(&self) -> u16
+        ensures { result ≡ word_at self.now.machine.board.memory 0x18 }
+    {
+        word(self.core.bus.byte_at(0x19), self.core.bus.byte_at(0x18))
+    }
+
+    /// The next state, from the present one on, in which the units do something, if no access comes before it; the last value of a
+    /// state time where there is none.
+    pub fn due(&self) -> StateTime
+        ensures due { IsDueOrLast (block_rule X.further) self.now.machine.time self.now.machine.board.units result }
+        ensures later { self.now.machine.time ≤ result }
+    {
+        self.core.bus.block.due()
+    }
+
+    /// Goes on by one state, and writes what is printed in it; answers which requests the units raise in it, also of those that are
+    /// pending already.
+    ///
+    /// After a fault of the sink it stands at the end of the activity in whose lines the sink failed, or at `until` if that comes
+    /// first.
+    pub fn step_state<S: Sink, L: Ledger>(
+        &mut self,
+        until: StateTime,
+        out: &mut TraceOut<S>,
+        steps: &mut Steps<L>,
+    ) -> Result<IntSet, WriteFault>
+        requires lives { self.old.machine.ended ≡ None }
+        requires ahead { self.old.machine.time < until }
+        requires until { until ≤ 2 * max_states }
+        requires unbroken { out.old.failed ≡ false }
+        ensures forward { self.old.machine.time < self.new.machine.time }
+        ensures within { self.new.machine.time ≤ until }
+        ensures one { OnOk result (self.new.machine.time ≡ self.old.machine.time + 1) }
+        ensures raised { IfOk result (λ set. set.0 ≡ raised_in X.further self.old.machine) }
+        ensures machine { self.new.machine ≡ (run_to X.further self.new.machine.time self.old.machine).machine }
+        ensures lines { Prints (out_of S.written S.faults out.old) (run_to X.further self.new.machine.time self.old.machine).records (out_of S.written S.faults out.new) }
+        ensures written { OnOk result (out.new.failed ≡ false) }
+        ensures fails { OnErr result (FailsIn X.further until self.old.machine (out_of S.written S.faults out.old) self.new.machine (out_of S.written S.faults out.new)) }
+        ensures spent { steps.new ≤ steps.old + 4 * (run_to X.further self.new.machine.time self.old.machine).touch }
+        ensures moves { self.new.moves ≤ self.old.moves + 4 * (run_to X.further self.new.machine.time self.old.machine).touch }
+    {
+        self.core.step_state(until, out, steps)
     }
 
     /// Goes on to the end of the run, or to the state `until` if that comes first, and writes what is printed on the way. Units

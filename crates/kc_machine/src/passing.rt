@@ -38,9 +38,9 @@ impl<X: Extra + Drop> Core<X> {
     ghost use Rattle.kc_machine.specs.Bus.{held_of};
     ghost use Rattle.kc_machine.specs.Seen.{machine_of};
 
-    // All units go so many states on, past the last of these states, and the edges that they give are printed.
+    /// All units go so many states on, past the last of these states, and the edges that they give are printed.
     #[inline(always)]
-    fn advance<S: Sink, L: Ledger>(
+    pub(crate) fn advance<S: Sink, L: Ledger>(
         &mut self,
         count: u64,
         out: &mut TraceOut<S>,
@@ -58,9 +58,9 @@ impl<X: Extra + Drop> Core<X> {
         self.time = last;
     }
 
-    // The edges that the accesses of a state have given are printed.
+    /// The edges that the accesses of a state have given are printed.
     #[inline(always)]
-    fn put_edges<S: Sink>(&self, at: StateTime, out: &mut TraceOut<S>)
+    pub(crate) fn put_edges<S: Sink>(&self, at: StateTime, out: &mut TraceOut<S>)
         ensures { Prints (out_of S.written S.faults out.old) (pins at self.now.bus.edges) (out_of S.written S.faults out.new) }
     {
         if self.bus.edges.is_empty() {
@@ -417,8 +417,8 @@ impl<X: Extra + Drop> Core<X> {
         self.complete_predecoded(predecoded, states, out, steps)
     }
 
-    // Goes on to the end of the current activity, or to `until` if that comes first.
-    fn go_through<S: Sink, L: Ledger>(
+    /// Goes on to the end of the current activity, or to `until` if that comes first.
+    pub(crate) fn go_through<S: Sink, L: Ledger>(
         &mut self,
         activity: UnderWay,
         until: StateTime,
@@ -543,8 +543,8 @@ fn put_pins<S: Sink>(edges: &[Edge], at: StateTime, out: &mut TraceOut<S>)
     }
 }
 
-// The record is printed, if there is one.
-fn put_last<S: Sink>(last: Option<Record>, out: &mut TraceOut<S>)
+/// The record is printed, if there is one.
+pub(crate) fn put_last<S: Sink>(last: Option<Record>, out: &mut TraceOut<S>)
     requires { IfSome last CanPrint }
     ensures { Prints (out_of S.written S.faults out.old) (option_to_list last) (out_of S.written S.faults out.new) }
 {

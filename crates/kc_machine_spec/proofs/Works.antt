@@ -5,7 +5,8 @@ use Rattle.kc_base.specs.declared.types.Kind.{Kind}
 use Rattle.kc_isa.specs.declared.insn.Insn.{Insn}
 use Rattle.kc_exec_spec.specs.declared.cpu.After.{After}
 use Rattle.kc_exec_spec.specs.declared.cpu.Cpu.{Cpu}
-use Rattle.kc_exec_spec.specs.Access.{Access, ReadByte, ReadWord, WriteByte, WriteWord, SetMasks}
+use Rattle.kc_exec_spec.specs.declared.access.Access.{Access}
+use Rattle.kc_exec_spec.specs.declared.access.Access.TheVariants.{ReadByte, ReadWord, WriteByte, WriteWord, SetMasks}
 use Rattle.kc_exec_spec.specs.Effect.{Effect, End, Undefined, Look, Ask, Outcome, Done, Refused, answered, run}
 use Rattle.kc_exec_spec.specs.Effects.{effect_of}
 use Rattle.kc_exec_spec.specs.BlockMoves.{moved_word}
@@ -26,7 +27,7 @@ use Rattle.kc_machine_spec.specs.declared.doing.Activity.TheVariants.{Executes, 
 use Rattle.kc_machine_spec.specs.declared.doing.End.{End as Ending}
 use Rattle.kc_machine_spec.specs.declared.doing.UnderWay.{UnderWay}
 use Rattle.kc_machine_spec.specs.Board.{masks_of}
-use Rattle.kc_machine_spec.specs.Scene.{Scene, with_units as scene_with, all_kept, put, byte_weight, is_zero_register, word_weight, scene_answer, after_by, scene_meaning}
+use Rattle.kc_machine_spec.specs.Scene.{Scene, with_units as scene_with, all_kept, refusing, put, byte_weight, is_zero_register, word_weight, scene_answer, after_by, scene_meaning}
 use Rattle.kc_machine_spec.specs.Machine.{Machine, Stepped, step, stepped, current, finished, waiting, with_units, with_asked, settled, entered, trapped, prepared, cycled, handed, transferred, own_records, scene_of}
 use Rattle.kc_machine_spec.specs.Run.{run_for}
 use Rattle.kc_machine_spec.specs.Work.{of_register, register_access, if_accepted, register_accesses, accesses_of, work_of, work_with, work_for, TouchIsWithinWork}
@@ -103,7 +104,7 @@ module _ {X : Type 0} (f : Further X) where
 
   answered-reaches : {A : Type 0} (next : ℕ → Effect A) (s : Scene X) (r : Access) (a : Result ℕ Kind) →
       ((i : ℕ) → left_by (run (scene_meaning f) (next i) (after_by f all_kept s r)) ≤ (after_by f all_kept s r).reached + 2 * register_accesses (scene_meaning f) (next i) (after_by f all_kept s r)) →
-      left_by (answered a (λ i. run (scene_meaning f) (next i) (after_by f all_kept s r)) s)
+      left_by (answered a (λ i. run (scene_meaning f) (next i) (after_by f all_kept s r)) (refusing s r))
       ≤ s.reached + 2 * (register_access r + if_accepted a (λ i. register_accesses (scene_meaning f) (next i) (after_by f all_kept s r)))
   answered-reaches next s r (Ok i) rest = let one = reaches s r in let more = rest i in omega (arith, one, more)
   answered-reaches next s r (Err kind) rest = omega arith

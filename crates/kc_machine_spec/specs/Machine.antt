@@ -186,11 +186,11 @@ closed machine scene cpu next records = record {
   touch = scene.reached;
 }
 
--- an undefined use in this state, reported at an address
+-- an undefined use in this state, reported at an address, with the access that the scene has refused
 abbrev pub broken : {X : Type 0} → Machine X → Scene X → ℕ → Kind → Stepped X
 broken machine scene addr kind =
     let what : Undefined = record { kind = kind; at = machine.time; addr = addr } in
-    closed machine scene machine.cpu (record { held = machine.held; going = machine.going; ended = Some (end.Undefined what) }) (Undef what ∷ [])
+    closed machine scene machine.cpu (record { held = machine.held; going = machine.going; ended = Some (end.Undefined what scene.refused) }) (Undef what ∷ [])
 
 abbrev pub is_trap : Option Mnemonic → Bool
 is_trap (Some Trap) = true

@@ -1,10 +1,11 @@
 -- One access to the common memory (80C196KC User's Manual, "Memory Map" and "Special Function Registers").
-use Rattle.std.specs.Prelude.{ℕ, ◌+◌, ◌*◌, ◌/◌, ◌%◌, nat_lt, Bool, true, false, is_some, if◌then◌else◌, Option, Some, Result, Ok, Err, List, [], ◌++◌, slice_index, slice_set}
+use Rattle.std.specs.Prelude.{ℕ, ◌+◌, ◌*◌, ◌/◌, ◌%◌, nat_lt, Bool, true, false, is_some, if◌then◌else◌, Option, Some, None, Result, Ok, Err, List, [], ◌++◌, slice_index, slice_set}
 use Rattle.kc_base.specs.declared.types.Edge.{Edge}
 use Rattle.kc_base.specs.declared.types.Kind.{Kind}
 use Rattle.kc_base.specs.declared.types.Kind.TheVariants.{BadWindow}
 use Rattle.kc_exec_spec.specs.declared.access.Master.{Master}
-use Rattle.kc_exec_spec.specs.Access.{Access, ReadByte, ReadWord, WriteByte, WriteWord, SetMasks}
+use Rattle.kc_exec_spec.specs.declared.access.Access.{Access}
+use Rattle.kc_exec_spec.specs.declared.access.Access.TheVariants.{ReadByte, ReadWord, WriteByte, WriteWord, SetMasks}
 use Rattle.kc_exec_spec.specs.Effect.{Meaning}
 use Rattle.kc_exec_spec.specs.Window.{is_wsr}
 use Rattle.kc_exec_spec.specs.Memory.{if_even, reads, writes}
@@ -17,17 +18,18 @@ use Rattle.kc_block_spec.specs.Registers.{window_seen, bytes_read_everywhere, by
 use Rattle.kc_block_spec.specs.Accesses.{byte_read, after_byte_read, byte_written, word_read, after_word_read, word_written, latch_edges, ◌>>=◌}
 use Rattle.kc_machine_spec.specs.Board.{Board, masks_of, with_masks}
 
--- the board in a state, after its Tick; the edges of pins that accesses have made in that state, and how many of their bytes
--- have reached a unit
+-- the board in a state, after its Tick; the edges of pins that accesses have made in that state, how many of their bytes have
+-- reached a unit, and the access that was refused
 pub record Scene (X : Type 0) : Type 0 where
   pub time : ℕ
   pub board : Board X
   pub edges : List Edge
   pub reached : ℕ
+  pub refused : Option Access
 
 -- before the first access
 abbrev pub opened : {X : Type 0} → ℕ → Board X → Scene X
-opened time board = record { time = time; board = board; edges = []; reached = 0 }
+opened time board = record { time = time; board = board; edges = []; reached = 0; refused = None }
 
 -- how edges and accesses are kept
 pub record Keeping : Type 0 where
@@ -44,7 +46,12 @@ with_units keeping s u reached = record {
   board = record { units = u; memory = s.board.memory };
   edges = keeping.note s.edges (latch_edges s.board.units u);
   reached = keeping.count s.reached reached;
+  refused = s.refused;
 }
+
+-- a refused access changes nothing else
+abbrev pub refusing : {X : Type 0} → Scene X → Access → Scene X
+refusing s r = record s { refused = Some r }
 
 abbrev pub byte : {X : Type 0} → Scene X → ℕ → ℕ
 byte s addr = slice_index s.board.memory addr
@@ -91,7 +98,7 @@ module _ {X : Type 0} (f : Further X) where
   after_by keeping s (SetMasks m) = with_units keeping s (with_masks s.board.units m) 0
 
   abbrev pub meaning_by : Keeping → Meaning (Scene X)
-  meaning_by keeping = record { answer = scene_answer; after = after_by keeping; masks = λ s. masks_of s.board.units }
+  meaning_by keeping = record { answer = scene_answer; after = after_by keeping; refused = refusing; masks = λ s. masks_of s.board.units }
 
   abbrev pub scene_meaning : Meaning (Scene X)
   scene_meaning = meaning_by all_kept

@@ -13,12 +13,12 @@ abbrev pub end_number : End → ℕ
 end_number end.Spent = 0
 end_number end.Powerdown = 1
 end_number end.Reset = 2
-end_number (end.Undefined what) = 3
+end_number (end.Undefined what access) = 3
 
 -- the state that is printed of an end
 abbrev pub end_state : End → ℕ → ℕ
 end_state end.Spent now = now
-end_state (end.Undefined what) now = what.at
+end_state (end.Undefined what access) now = what.at
 end_state _ now = now - 1
 
 -- a row of the register file as it is shown: the special function registers as 0

@@ -1,5 +1,5 @@
 use kc_base::{Kind, Undefined};
-use kc_exec_spec::Words;
+use kc_exec_spec::{Access, Words};
 use kc_isa::Insn;
 use kc_pts::Cycle;
 
@@ -46,7 +46,8 @@ pub enum End {
     Spent,
     Powerdown,
     Reset,
-    Undefined(Undefined),
+    /// An undefined use, with the access that was refused, where it is one that was.
+    Undefined(Undefined, Option<Access>),
 }
 
 /// How the machine goes on after an activity.

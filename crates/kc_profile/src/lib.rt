@@ -7,9 +7,20 @@ mod laws;
 mod profile;
 mod reporting;
 mod running;
+mod sight;
 mod spot;
+mod spread;
+mod telling;
+mod told;
+mod waits;
 
-pub use laws::tallies_are_one;
+pub use laws::{
+    spreads_are_of_all, tallies_are_one, times_are_rows, waits_are_seen, waits_are_since_it_came,
+};
 pub use profile::Profile;
+pub use reporting::report;
 pub use running::run_profiled;
+pub use sight::is_branch;
 pub use spot::Spot;
+pub use telling::Scope;
+pub use told::Told;

@@ -1,11 +1,11 @@
 // A run whose states are counted.
-ghost use Rattle.std.specs.Prelude.{◌≡◌, ◌+◌, ◌-◌, ◌*◌, ◌^◌, ◌<◌, ◌≤◌, max, List, ◌++◌, length, replicate, None, IfOk, OnOk, OnErr, false, true};
+ghost use Rattle.std.specs.Prelude.{◌≡◌, ◌+◌, ◌-◌, ◌*◌, ◌^◌, ◌<◌, ◌≤◌, max, List, ◌++◌, length, replicate, None, IfOk, OnOk, OnErr, false, true, ℕ};
 ghost use Rattle.kc_base.specs.Limits.{max_states};
 ghost use Rattle.kc_trace.specs.Counting.{counted_all};
 ghost use Rattle.kc_trace.specs.Out.{Puts, Prints};
 ghost use Rattle.kc_trace.specs.Text.{text_of};
 ghost use Rattle.kc_trace.specs.Trace.{out_of};
-ghost use Rattle.kc_machine_spec.specs.Machine.{current};
+ghost use Rattle.kc_machine_spec.specs.Machine.{Machine, current};
 ghost use Rattle.kc_machine_spec.specs.Run.{run_to, end_of};
 ghost use Rattle.kc_machine_spec.specs.Passing.{activity_end};
 ghost use Rattle.kc_machine.specs.Failing.{FailsIn};
@@ -14,12 +14,22 @@ ghost use Rattle.kc_profile.specs.declared.spot.Spot as spots;
 ghost use Rattle.kc_profile.specs.Spots.{coming_spot, spots_for};
 ghost use Rattle.kc_profile.specs.Tally.{IsTallyOf, total};
 ghost use Rattle.kc_profile.specs.Passing.{Went, LastsFor};
+ghost use Rattle.kc_profile.specs.Sights.{seen_of, history, Begins};
+ghost use Rattle.kc_profile.specs.Told.{AreAllFew, IsToldOf};
+ghost use Rattle.kc_span.specs.Span.{QuietFor};
+ghost use Rattle.kc_block_spec.specs.Touch.{block_rule};
+ghost use Rattle.kc_machine_spec.specs.Board.{word_at};
+ghost use Rattle.kc_machine.specs.Telling.{raised_in};
 
 use crate::Profile;
+use crate::sight::{Sight, is_undefined};
 use crate::spot::spot_of;
-use kc_base::{Sink, StateTime, Steps};
+use crate::told::Told;
+use kc_base::{IntSet, Sink, StateTime, Steps};
 use kc_extra::Extra;
+use kc_intc::Requests;
 use kc_machine::{End, Machine, WriteFault};
+use kc_machine_spec::UnderWay;
 use kc_trace::TraceOut;
 use std::sync::ledger::Ledger;
 
@@ -130,10 +140,93 @@ fn pass<X: Extra + Drop, S: Sink, L: Ledger>(
     }
 }
 
+// Goes on by states of one spot in which the units do nothing but perhaps in the last, or by one state. Answers which requests are
+// raised in the last of them; none is in those before.
+fn pass_told<X: Extra + Drop, S: Sink, L: Ledger>(
+    machine: &mut Machine<X>,
+    left: u8,
+    until: StateTime,
+    out: &mut TraceOut<S>,
+    steps: &mut Steps<L>,
+) -> Result<IntSet, WriteFault>
+    requires lives { machine.old.machine.ended ≡ None }
+    requires left { left ≡ (current machine.old.machine).left }
+    requires ahead { machine.old.machine.time < until }
+    requires room { until ≤ 2 * max_states }
+    requires unbroken { out.old.failed ≡ false }
+    ensures went { Went X.further until result machine.old (out_of S.written S.faults out.old) steps.old machine.new (out_of S.written S.faults out.new) steps.new }
+    ensures quiet { OnOk result (QuietFor (block_rule X.further) machine.old.machine.time (machine.new.machine.time - 1 - machine.old.machine.time) machine.old.machine.board.units) }
+    ensures raised { IfOk result (λ set. set.0 ≡ raised_in X.further (run_to X.further (machine.new.machine.time - 1) machine.old.machine).machine) }
+{
+    let quiet = machine.due().min(until);
+    if machine.now() < quiet {
+        match pass(machine, left, quiet, out, steps) {
+            Ok(()) => Ok(IntSet(0)),
+            Err(fault) => Err(fault),
+        }
+    } else {
+        machine.step_state(until, out, steps)
+    }
+}
+
+/// What a machine shows at the start of a state.
+#[derive(Clone, Copy)]
+struct Start {
+    at: StateTime,
+    requests: Requests,
+    pc: u16,
+    stack: u16,
+}
+
+// What a machine shows now.
+fn start_of<X: Extra + Drop>(machine: &Machine<X>) -> Start
+    ensures at { result.at ≡ machine.now.machine.time }
+    ensures requests { result.requests ≡ machine.now.machine.board.units.board_registers.requests }
+    ensures pc { result.pc ≡ machine.now.machine.cpu.pc }
+    ensures stack { result.stack ≡ word_at machine.now.machine.board.memory 0x18 }
+{
+    Start {
+        at: machine.now(),
+        requests: machine.requests(),
+        pc: machine.pc(),
+        stack: machine.stack(),
+    }
+}
+
+// What the last state has shown of those that have passed since a start, of an activity that came then.
+fn sight_of<X: Extra + Drop>(
+    start: Start,
+    activity: UnderWay,
+    raised: IntSet,
+    machine: &Machine<X>,
+) -> Sight
+    requires passed { start.at < machine.now.machine.time }
+    ensures { result ≡ seen_of start.at start.requests start.pc start.stack activity raised machine.now.machine }
+{
+    let passed = machine.now() - start.at;
+    Sight {
+        at: machine.now() - 1,
+        raised,
+        before: start.requests,
+        after: machine.requests(),
+        ends: if u64::from(activity.left) <= passed {
+            Some(activity.doing)
+        } else {
+            None
+        },
+        is_broken: is_undefined(machine.ended()),
+        pc: start.pc,
+        next_pc: machine.pc(),
+        stack: start.stack,
+        next_stack: machine.stack(),
+    }
+}
+
 // Goes on by states of one spot, and counts them.
 fn count<X: Extra + Drop, S: Sink, L: Ledger>(
     machine: &mut Machine<X>,
     profile: &mut Profile,
+    told: &mut Told,
     until: StateTime,
     out: &mut TraceOut<S>,
     steps: &mut Steps<L>,
@@ -143,26 +236,36 @@ fn count<X: Extra + Drop, S: Sink, L: Ledger>(
     requires room { until ≤ 2 * max_states }
     requires fits { total profile.old + (until - machine.old.machine.time) < 2 ^ 64 }
     requires unbroken { out.old.failed ≡ false }
+    requires few { AreAllFew (2 ^ 64 - 2) told.old }
     ensures went { Went X.further until result machine.old (out_of S.written S.faults out.old) steps.old machine.new (out_of S.written S.faults out.new) steps.new }
+    ensures told { (first : Machine X) → Begins first → machine.old.machine ≡ (run_to X.further machine.old.machine.time first).machine → IsToldOf told.old.life (history X.further machine.old.machine.time first) told.old → OnOk result (IsToldOf told.old.life (history X.further machine.new.machine.time first) told.new) }
+    ensures few { (n : ℕ) → AreAllFew n told.old → AreAllFew (n + 1) told.new }
     ensures profile { (before : List spots.Spot) → IsTallyOf before profile.old → IsTallyOf (before ++ replicate (machine.new.machine.time - machine.old.machine.time) (coming_spot machine.old.machine)) profile.new }
     ensures total { total profile.new ≡ total profile.old + (machine.new.machine.time - machine.old.machine.time) }
 {
     let activity = machine.current(steps);
     let spot = spot_of(activity.doing, machine.pc());
-    let began = machine.now();
-    let passed = pass(machine, activity.left, until, out, steps);
-    profile.add(spot, machine.now() - began);
-    passed
+    let start = start_of(machine);
+    let passed = pass_told(machine, activity.left, until, out, steps);
+    profile.add(spot, machine.now() - start.at);
+    match passed {
+        Ok(raised) => {
+            told.see(&sight_of(start, activity, raised, machine));
+            Ok(())
+        }
+        Err(fault) => Err(fault),
+    }
 }
 
-/// Runs a machine as `Machine::run` does, and adds to a profile where each state that passes goes, of which all are counted once.
-/// Idle states are passed and counted at once, as many as there are.
+/// Runs a machine as `Machine::run` does, and adds to a profile where each state that passes goes, of which all are counted once,
+/// and to what is told what each state shows. Idle states are passed at once up to the next in which the units do something.
 ///
 /// After a fault of the sink the machine stands at the end of the activity, or of the idle state, in whose lines the sink failed,
 /// and the states up to there are counted.
 pub fn run_profiled<X: Extra + Drop, S: Sink, L: Ledger>(
     machine: &mut Machine<X>,
     profile: &mut Profile,
+    told: &mut Told,
     until: StateTime,
     out: &mut TraceOut<S>,
     steps: &mut Steps<L>,
@@ -170,6 +273,7 @@ pub fn run_profiled<X: Extra + Drop, S: Sink, L: Ledger>(
     requires until { until ≤ 2 * max_states }
     requires unbroken { out.old.failed ≡ false }
     requires room { total profile.old + until < 2 ^ 64 }
+    requires few { AreAllFew (2 ^ 64 - 1 - until) told.old }
     ensures end { IfOk result (λ end. end ≡ end_of (run_to X.further until machine.old.machine).machine) }
     ensures machine { OnOk result (machine.new.machine ≡ (run_to X.further until machine.old.machine).machine) }
     ensures lines { Puts (out_of S.written S.faults out.old) (text_of (run_to X.further until machine.old.machine).records) (out_of S.written S.faults out.new) }
@@ -185,12 +289,14 @@ pub fn run_profiled<X: Extra + Drop, S: Sink, L: Ledger>(
     ensures all { OnOk result (spots_for X.further (until - machine.old.machine.time) machine.old.machine ≡ spots_for X.further (machine.new.machine.time - machine.old.machine.time) machine.old.machine) }
     ensures passed { length (spots_for X.further (machine.new.machine.time - machine.old.machine.time) machine.old.machine) ≡ machine.new.machine.time - machine.old.machine.time }
     ensures total { total profile.new ≡ total profile.old + (machine.new.machine.time - machine.old.machine.time) }
+    ensures told { (first : Machine X) → Begins first → machine.old.machine ≡ (run_to X.further machine.old.machine.time first).machine → IsToldOf told.old.life (history X.further machine.old.machine.time first) told.old → OnOk result (IsToldOf told.old.life (history X.further machine.new.machine.time first) told.new) }
+    ensures few { (n : ℕ) → AreAllFew n told.old → AreAllFew (n + (machine.new.machine.time - machine.old.machine.time)) told.new }
 {
     while machine.now() < until {
         if let Some(end) = machine.ended() {
             return Ok(end);
         }
-        count(machine, profile, until, out, steps)?;
+        count(machine, profile, told, until, out, steps)?;
     }
     Ok(machine.ended().unwrap_or(End::Spent))
 }

@@ -13,5 +13,5 @@ mod trace;
 pub use kc_base::address_text;
 pub use laws::{records_join, texts_join};
 pub use record::Record;
-pub use spelling::{LineBytes, level_digit, line, put_decimal, put_hex, put_text};
+pub use spelling::{LineBytes, kind_number, level_digit, line, put_decimal, put_hex, put_text};
 pub use trace::{Counts, TraceOut, WriteFault};

@@ -85,7 +85,8 @@ fn mode_name(mode: PtsMode) -> &'static str
     }
 }
 
-fn kind_number(kind: Kind) -> u64
+/// The number of an undefined use of this kind.
+pub fn kind_number(kind: Kind) -> u64
     ensures { result ≡ kind_number kind }
 {
     match kind {

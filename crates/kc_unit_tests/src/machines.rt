@@ -42,7 +42,11 @@ fn run<X: Extra + Drop, L: Ledger>(
     let mut steps = Steps::<L>::new(blank);
     match machine.run(until, out, &mut steps) {
         Ok(End::Spent) => machine.write_finals(End::Spent, out).is_ok(),
-        Ok(End::Undefined(what)) => machine.write_finals(End::Undefined(what), out).is_ok(),
+        Ok(End::Undefined(what, access)) => {
+            machine
+                .write_finals(End::Undefined(what, access), out)
+                .is_ok()
+        }
         _ => false,
     }
 }

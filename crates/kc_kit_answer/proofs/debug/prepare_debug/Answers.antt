@@ -38,7 +38,7 @@ returns-in-Ok-read_inputs g c =
     let commands = c.in-Ok.texts.1.items in
     let more = texts_in c.in-Ok-read_inputs.inputs.items in
     record {
-      answer = prepared-widen (DebugAnswer name script inputs text commands more) (MayAnswer IsFaultDiagnostic (Some (Debugs name script inputs)) reported rose) c.debug_texts.result
+      answer = prepared-widen (DebugAnswer name script inputs text commands more) (MayAnswer IsFaultDiagnostic (Some (Debugs name script inputs lives)) reported rose) c.debug_texts.result
           (λ r m. parts-then (name ∷ script ∷ []) (names_of inputs) 2 may reported (g.F.Files.held c.read_both.new.files) rose (text ∷ commands ∷ []) more r c.read_both.ensures.stays.same refl
           c.in-Ok.ensures.read c.in-Ok-read_inputs.ensures.read m)
           (rw (c.deref.ensures.value, c.deref-in-Ok-read_inputs.ensures.value, c.deref-in-Ok-read_inputs-2.ensures.value) at c.debug_texts.ensures);

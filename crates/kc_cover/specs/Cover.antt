@@ -1,0 +1,76 @@
+-- Which lines of sources have run, as a tracefile of lcov (the manual page of geninfo, "FILES"; that it is written so is this kit's own).
+use Rattle.std.specs.Prelude.{ℕ, suc, ◌+◌, ◌==◌, ◌&&◌, Bool, true, false, not, max, if◌then◌else◌, List, [], ◌∷◌, ◌++◌, map, flat_map, length, codes, decimal, sum, slice_index, count_by, Option, Some, None}
+use Rattle.std.specs.List.{filter}
+use Rattle.kc_profile.specs.Told.{Told}
+use Rattle.kc_cover.specs.declared.source.Instruction.{Instruction}
+use Rattle.kc_cover.specs.declared.source.Source.{Source}
+
+abbrev pub count_line : List ℕ → ℕ → List ℕ
+count_line word number = word ++ decimal number ++ codes "\n"
+
+abbrev pub is_some_times : ℕ → Bool
+is_some_times times = not (times == 0)
+
+-- ---- conditional jumps: for each way of the jump with a number on a line, how often it was gone, and `-` where it never ran
+
+abbrev pub way_line : ℕ → ℕ → List ℕ → List ℕ → List ℕ
+way_line line jump way times = codes "BRDA:" ++ decimal line ++ codes "," ++ decimal jump ++ way ++ times ++ codes "\n"
+
+abbrev pub jump_lines : ℕ → ℕ → ℕ → ℕ → List ℕ
+jump_lines line jump taken passed =
+    if (taken == 0) && (passed == 0)
+    then way_line line jump (codes ",0,") (codes "-") ++ way_line line jump (codes ",1,") (codes "-")
+    else way_line line jump (codes ",0,") (decimal taken) ++ way_line line jump (codes ",1,") (decimal passed)
+
+-- the jumps of a line that stand before an instruction
+abbrev pub is_jump_on : ℕ → Instruction → Bool
+is_jump_on line i = i.is_branch && i.line == line
+
+-- those of instructions behind others
+unfoldable pub jumps_text : Told → List Instruction → List Instruction → List ℕ
+jumps_text t before [] = []
+jumps_text t before (i ∷ rest) =
+    (if i.is_branch then jump_lines i.line (count_by (is_jump_on i.line) before) (slice_index t.taken i.addr) (slice_index t.passed i.addr) else [])
+    ++ jumps_text t (before ++ i ∷ []) rest
+
+-- how often each way of each jump was gone
+abbrev pub ways_of : Told → Instruction → List ℕ
+ways_of t i = if i.is_branch then slice_index t.taken i.addr ∷ slice_index t.passed i.addr ∷ [] else []
+
+abbrev pub all_ways : Told → List Instruction → List ℕ
+all_ways t instructions = flat_map (ways_of t) instructions
+
+abbrev pub sums_of_ways : List ℕ → List ℕ
+sums_of_ways [] = []
+sums_of_ways (way ∷ ways) = count_line (codes "BRF:") (length (way ∷ ways)) ++ count_line (codes "BRH:") (count_by is_some_times (way ∷ ways))
+
+-- ---- lines: the greatest number of the instructions of each
+
+-- the lines that give instructions, each with how often it has run, where so often is known of the first
+unfoldable pub lines_of : Told → ℕ → List Instruction → List (ℕ × ℕ)
+lines_of t times [] = []
+lines_of t times (i ∷ []) = (i.line, max times (slice_index t.hits i.addr)) ∷ []
+lines_of t times (i ∷ next ∷ rest) =
+    let so_far = max times (slice_index t.hits i.addr) in
+    if next.line == i.line then lines_of t so_far (next ∷ rest) else (i.line, so_far) ∷ lines_of t 0 (next ∷ rest)
+
+abbrev pub line_line : ℕ × ℕ → List ℕ
+line_line l = codes "DA:" ++ decimal l.0 ++ codes "," ++ decimal l.1 ++ codes "\n"
+
+abbrev pub lines_text : List (ℕ × ℕ) → List ℕ
+lines_text ls = flat_map line_line ls ++ count_line (codes "LF:") (length ls) ++ count_line (codes "LH:") (count_by (λ l. is_some_times l.1) ls)
+
+-- ---- sources
+
+abbrev pub test_line : Option ℕ → List ℕ
+test_line None = codes "TN:\n"
+test_line (Some life) = count_line (codes "TN:life_") life
+
+abbrev pub source_text : Option ℕ → Told → Source → List ℕ
+source_text life t source =
+    test_line life ++ (codes "SF:" ++ source.name.now ++ codes "\n")
+    ++ jumps_text t [] source.instructions.items ++ sums_of_ways (all_ways t source.instructions.items)
+    ++ lines_text (lines_of t 0 source.instructions.items) ++ codes "end_of_record\n"
+
+abbrev pub cover_text : Option ℕ → Told → List Source → List ℕ
+cover_text life t sources = flat_map (source_text life t) sources

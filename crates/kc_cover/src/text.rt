@@ -1,0 +1,189 @@
+// The text of a coverage, after the manual page of geninfo ("FILES", the tracefile).
+ghost use Rattle.std.specs.Prelude.{◌≡◌, ◌++◌, OnOk};
+ghost use Rattle.kc_cover.specs.Cover as spec;
+
+use crate::source::{Instruction, Source};
+use kc_base::{NoMemory, put_number};
+use kc_profile::Told;
+
+/// How many there are, and how many of them have run.
+#[derive(Clone, Copy)]
+struct Tally {
+    found: u64,
+    hit: u64,
+}
+
+impl Tally {
+    fn none() -> Tally {
+        Tally { found: 0, hit: 0 }
+    }
+
+    // One more, which has run so often.
+    fn add(&mut self, times: u64) {
+        self.found += 1;
+        if times > 0 {
+            self.hit += 1;
+        }
+    }
+}
+
+// Puts a word, a number and the end of a line.
+fn put_count(text: &mut Vec<u8>, word: &[u8], number: u64) -> Result<(), NoMemory>
+    ensures { OnOk result (text.new.items ≡ text.old.items ++ spec.count_line word.now number) }
+{
+    text.extend_from_slice(word)?;
+    put_number(text, u128::from(number))?;
+    text.push(b'\n')?;
+    Ok(())
+}
+
+// ---- conditional jumps
+
+// Puts the beginning of a line on a way of the jump with a number on a line.
+fn put_way(text: &mut Vec<u8>, line: u32, jump: u64, way: &[u8]) -> Result<(), NoMemory> {
+    text.extend_from_slice(b"BRDA:")?;
+    put_number(text, u128::from(line))?;
+    text.push(b',')?;
+    put_number(text, u128::from(jump))?;
+    text.extend_from_slice(way)?;
+    Ok(())
+}
+
+// Puts the two lines of a jump: how often it was taken, and how often not.
+fn put_jump(
+    text: &mut Vec<u8>,
+    line: u32,
+    jump: u64,
+    ways: (u64, u64),
+    tally: &mut Tally,
+) -> Result<(), NoMemory> {
+    let (taken, passed) = ways;
+    tally.add(taken);
+    tally.add(passed);
+    if taken == 0 && passed == 0 {
+        put_way(text, line, jump, b",0,-\n")?;
+        return put_way(text, line, jump, b",1,-\n");
+    }
+    put_way(text, line, jump, b",0,")?;
+    put_count(text, b"", taken)?;
+    put_way(text, line, jump, b",1,")?;
+    put_count(text, b"", passed)
+}
+
+// Puts the lines of all jumps, and how many ways there are; nothing where there is no jump.
+fn put_jumps(
+    text: &mut Vec<u8>,
+    instructions: &[Instruction],
+    told: &Told,
+) -> Result<(), NoMemory> {
+    let mut tally = Tally::none();
+    let mut left = instructions;
+    let mut line = 0;
+    let mut jump = 0;
+    while let [first, rest @ ..] = left {
+        if first.line != line {
+            line = first.line;
+            jump = 0;
+        }
+        if first.is_branch {
+            put_jump(text, line, jump, told.ways(first.addr), &mut tally)?;
+            jump += 1;
+        }
+        left = rest;
+    }
+    if tally.found == 0 {
+        return Ok(());
+    }
+    put_count(text, b"BRF:", tally.found)?;
+    put_count(text, b"BRH:", tally.hit)
+}
+
+// ---- lines
+
+// Puts how often a line has run.
+fn put_line(text: &mut Vec<u8>, line: u32, times: u64, tally: &mut Tally) -> Result<(), NoMemory> {
+    tally.add(times);
+    text.extend_from_slice(b"DA:")?;
+    put_number(text, u128::from(line))?;
+    put_count(text, b",", times)
+}
+
+// Whether the next instruction is one of the same line.
+fn goes_on(line: u32, instructions: &[Instruction]) -> bool {
+    match instructions.first() {
+        Some(next) => next.line == line,
+        None => false,
+    }
+}
+
+// Puts the lines of all lines that give an instruction, with the greatest number of those of its instructions.
+fn put_lines(
+    text: &mut Vec<u8>,
+    instructions: &[Instruction],
+    told: &Told,
+) -> Result<(), NoMemory> {
+    let mut tally = Tally::none();
+    let mut left = instructions;
+    let mut times = 0u64;
+    while let [first, rest @ ..] = left {
+        times = times.max(told.hits(first.addr));
+        if !goes_on(first.line, rest) {
+            put_line(text, first.line, times, &mut tally)?;
+            times = 0;
+        }
+        left = rest;
+    }
+    put_count(text, b"LF:", tally.found)?;
+    put_count(text, b"LH:", tally.hit)
+}
+
+// ---- sources
+
+// Puts the name of the test: none, or that of a life.
+fn put_test(text: &mut Vec<u8>, life: Option<u16>) -> Result<(), NoMemory>
+    ensures { OnOk result (text.new.items ≡ text.old.items ++ spec.test_line life) }
+{
+    match life {
+        None => {
+            text.extend_from_slice(b"TN:\n")?;
+            Ok(())
+        }
+        Some(life) => put_count(text, b"TN:life_", u64::from(life)),
+    }
+}
+
+fn put_source(
+    text: &mut Vec<u8>,
+    source: &Source<'_>,
+    life: Option<u16>,
+    told: &Told,
+) -> Result<(), NoMemory>
+    ensures { OnOk result (text.new.items ≡ text.old.items ++ spec.source_text life told.now source.now) }
+{
+    put_test(text, life)?;
+    text.extend_from_slice(b"SF:")?;
+    text.extend_from_slice(source.name.as_bytes())?;
+    text.push(b'\n')?;
+    put_jumps(text, &source.instructions, told)?;
+    put_lines(text, &source.instructions, told)?;
+    text.extend_from_slice(b"end_of_record\n")?;
+    Ok(())
+}
+
+/// Puts which lines of sources have run behind a text, by what a run has told; the name of the test is that of the life, where there
+/// are several.
+pub fn put_sources(
+    text: &mut Vec<u8>,
+    sources: &[Source<'_>],
+    life: Option<u16>,
+    told: &Told,
+) -> Result<(), NoMemory>
+    ensures { OnOk result (text.new.items ≡ text.old.items ++ spec.cover_text life told.now sources.now) }
+{
+    let mut left = sources;
+    while let [source, rest @ ..] = left {
+        put_source(text, source, life, told)?;
+        left = rest;
+    }
+    Ok(())
+}

@@ -1,0 +1,176 @@
+// What a run tells of its requests, of its stack, and of the instructions that it has done.
+ghost use Rattle.std.specs.Prelude.{◌≡◌, ◌+◌, ◌-◌, ◌<◌, ◌≤◌, ◌^◌, ◌∷◌, [], ℕ, List, IfOk, length, slice_index, slice_set, All};
+ghost use Rattle.kc_profile.specs.declared.sight.Sight as sights;
+ghost use Rattle.kc_profile.specs.Told.{AreAllFew, IsToldOf};
+ghost use Rattle.kc_profile.specs.Told as spec;
+ghost use Rattle.kc_profile.specs.Waits.{see, AreConsecutive};
+
+use crate::sight::{Sight, Way};
+use crate::spread::Moment;
+use crate::waits::Waits;
+use kc_base::NoMemory;
+use std::alloc::Global;
+use std::marker::Model;
+
+/// How many addresses there are.
+const ADDRESSES: usize = 0x10000;
+
+/// The least value to which a run moves the stack pointer, and when it came first.
+#[derive(Clone, Copy)]
+pub struct Depth {
+    pub word: u16,
+    pub when: Moment,
+}
+
+/// What a run tells of its requests, of its stack, and of the instructions that it has done.
+#[derive(Drop)]
+pub struct Told {
+    /// The number of the present life, from 1.
+    pub(crate) life: u16,
+    pub(crate) waits: [Waits; 16],
+    pub(crate) deepest: Option<Depth>,
+    /// At each address, how often an instruction was done, how often a conditional jump was taken, and how often not.
+    pub(crate) hits: Vec<u64>,
+    pub(crate) taken: Vec<u64>,
+    pub(crate) passed: Vec<u64>,
+}
+
+impl Model for Told {
+    ghost use Rattle.kc_profile.specs.Told.{Told, IsWhole};
+
+    ghost Value = { Told };
+
+    ghost view = { λ t. record { life = t.life; waits = t.waits; deepest = t.deepest; hits = t.hits.items; taken = t.taken.items; passed = t.passed.items } };
+
+    ghost invariant = { λ t. IsWhole (record { life = t.life; waits = t.waits; deepest = t.deepest; hits = t.hits.items; taken = t.taken.items; passed = t.passed.items }) };
+}
+
+// Counts once more.
+fn count(numbers: &mut [u64], addr: u16)
+    requires long { length numbers.old ≡ 65536 }
+    requires few { slice_index numbers.old addr < 2 ^ 64 - 1 }
+    ensures { numbers.new ≡ slice_set numbers.old addr (slice_index numbers.old addr + 1) }
+{
+    numbers[usize::from(addr)] += 1;
+}
+
+// Adds numbers to others, each to its own.
+fn add_all(numbers: &mut [u64], more: &[u64])
+    requires same { length numbers.old ≡ length more.now }
+    requires few { All (λ n. n < 2 ^ 63) numbers.old }
+    requires more { All (λ n. n < 2 ^ 63) more.now }
+    ensures { numbers.new ≡ spec.sums numbers.old more.now }
+{
+    for i in 0..numbers.len() {
+        numbers[i] += more[i];
+    }
+}
+
+// The deeper of two depths, the first of those that are equal.
+fn deeper(first: Option<Depth>, second: Depth) -> Depth
+    ensures { result ≡ spec.deeper first second }
+{
+    match first {
+        Some(first) if first.word <= second.word => first,
+        _ => second,
+    }
+}
+
+impl Told {
+    /// Of a life with this number of which no state has passed.
+    pub fn new(alloc: Global, life: u16) -> Result<Told, NoMemory>
+        ensures told { IfOk result (λ told. IsToldOf life [] told) }
+        ensures few { IfOk result (λ told. AreAllFew 0 told) }
+    {
+        Ok(Told {
+            life,
+            waits: [Waits::none(); 16],
+            deepest: None,
+            hits: vec![in alloc; 0u64; ADDRESSES]?,
+            taken: vec![in alloc; 0u64; ADDRESSES]?,
+            passed: vec![in alloc; 0u64; ADDRESSES]?,
+        })
+    }
+
+    // Takes what a state shows of the instructions.
+    fn see_instructions(&mut self, sight: &Sight) {
+        if sight.hits() {
+            count(&mut self.hits, sight.pc);
+        }
+        match sight.way() {
+            Some(Way::Taken) => count(&mut self.taken, sight.pc),
+            Some(Way::Passed) => count(&mut self.passed, sight.pc),
+            None => {}
+        }
+    }
+
+    // Takes what a state shows of the stack.
+    fn see_stack(&mut self, sight: &Sight) {
+        if sight.moves_stack() {
+            let depth = Depth {
+                word: sight.next_stack,
+                when: Moment {
+                    life: self.life,
+                    at: sight.at,
+                },
+            };
+            self.deepest = Some(deeper(self.deepest, depth));
+        }
+    }
+
+    // Takes what a state shows of each request.
+    fn see_requests(&mut self, sight: &Sight) {
+        let life = self.life;
+        for n in 0..16u8 {
+            self.waits[usize::from(n)].see(n, life, sight);
+        }
+    }
+
+    /// Takes the next state of the present life.
+    pub(crate) fn see(&mut self, sight: &Sight)
+        requires few { AreAllFew (2 ^ 64 - 2) self.old }
+        ensures life { self.new.life ≡ self.old.life }
+        ensures waits { (n : ℕ) → n < 16 → slice_index self.new.waits n ≡ see n self.old.life sight.now (slice_index self.old.waits n) }
+        ensures told { (sights : List sights.Sight) → AreConsecutive sight.now sights → IsToldOf self.old.life sights self.old → IsToldOf self.old.life (sight.now ∷ sights) self.new }
+        ensures few { (n : ℕ) → AreAllFew n self.old → AreAllFew (n + 1) self.new }
+    {
+        self.see_instructions(sight);
+        self.see_stack(sight);
+        self.see_requests(sight);
+    }
+
+    /// Adds what a later life tells.
+    pub fn add(&mut self, later: &Told)
+        requires few { AreAllFew (2 ^ 63 - 1) self.old }
+        requires later { AreAllFew (2 ^ 63 - 1) later.now }
+        ensures { self.new ≡ spec.with_life self.old later.now }
+    {
+        for n in 0..16usize {
+            self.waits[n].add(&later.waits[n]);
+        }
+        if let Some(depth) = later.deepest {
+            self.deepest = Some(deeper(self.deepest, depth));
+        }
+        add_all(&mut self.hits, &later.hits);
+        add_all(&mut self.taken, &later.taken);
+        add_all(&mut self.passed, &later.passed);
+    }
+
+    /// How often an instruction was done at an address.
+    pub fn hits(&self, addr: u16) -> u64
+        ensures { result ≡ slice_index self.now.hits addr }
+    {
+        self.hits[usize::from(addr)]
+    }
+
+    /// How often the conditional jump at an address was taken, and how often not.
+    pub fn ways(&self, addr: u16) -> (u64, u64)
+        ensures taken { result.0 ≡ slice_index self.now.taken addr }
+        ensures passed { result.1 ≡ slice_index self.now.passed addr }
+    {
+        (
+            self.taken[usize::from(addr)],
+            self.passed[usize::from(addr)],
+        )
+    }
+}
