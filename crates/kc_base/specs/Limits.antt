@@ -9,6 +9,14 @@ max_states = 10 ^ 15
 abbrev pub file_limit : ℕ
 file_limit = 1048576
 
+-- the requests that a processor may enter: the sixteen, TRAP, and the opcode that no instruction has; and those that the transfer
+-- server may serve (80C196KC User's Manual, "Interrupts" and "Peripheral Transaction Server")
+abbrev pub entry_count : ℕ
+entry_count = 18
+
+abbrev pub transfer_count : ℕ
+transfer_count = 15
+
 -- the memory map: the first address behind the register file, that of the hole where nothing answers, that of an image with
 -- its ROM, and the first behind the ROM (the hole and the ROM's end are this kit's own)
 abbrev pub register_file_end : ℕ

@@ -33,7 +33,10 @@ pub use host::HostFiles;
 pub use host_output::{HostDiagnostics, HostOut};
 pub use host_reading::open_plain;
 pub use image::{IMAGE_LEN, Image};
-pub use limits::{FILE_LIMIT, HOLE_START, IMAGE_START, MAX_STATES, REGISTER_FILE_END, ROM_END};
+pub use limits::{
+    ENTRY_COUNT, FILE_LIMIT, HOLE_START, IMAGE_START, MAX_STATES, REGISTER_FILE_END, ROM_END,
+    TRANSFER_COUNT,
+};
 pub use memory::{MemFiles, MemSink};
 pub use pins::{PIN_COUNT, constants_are_named};
 pub use sink::{Failed, Sink, put_all};

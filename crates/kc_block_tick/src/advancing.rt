@@ -40,8 +40,8 @@ fn go<X: Extra, O: EdgeOut, L: Ledger>(
     at + 1
 }
 
-/// Goes on from the start of state `now` to the start of state `to`: from event to event, and over the states between them
-/// at once. The edges come in the order of their states. No call is made where nothing is touched.
+/// Goes on from the start of state `now` to the start of state `to`, event by event. The edges come in the order of their states. How
+/// often units are called is bounded by how often they are touched (clause `costs`).
 pub fn advance<X: Extra, O: EdgeOut, L: Ledger>(
     scheduler: &mut Scheduler<X>,
     now: StateTime,

@@ -2,6 +2,7 @@
 use Rattle.std.proofs.Common.{◌≡◌, ℕ, zero, suc, ◌<◌, ◌^◌, ◌&&◌, ◌||◌, Bool, true, false, refl, ap, ◌∙◌, arith}
 use Rattle.std.specs.Prelude.{bit_and, bit_or}
 use Rattle.std.specs.Int.{w16, bit_not}
+use Rattle.kc_base.specs.Limits.{transfer_count}
 use Rattle.kc_base.specs.Bits.{bit}
 use Rattle.kc_base.proofs.BitLemmas.{bit_both, bit_either, bit_missing}
 use Rattle.kc_intc.specs.declared.requests.Requests.{Requests}
@@ -22,7 +23,7 @@ grouped false b c = refl
 pub cycles : (r : Requests) → greatest (bit (bit_and (bit_and r.pending r.mask) r.select)) 15 ≡ greatest (wants_cycle r) 15
 cycles r = greatest_same (bit (bit_and (bit_and r.pending r.mask) r.select)) (wants_cycle r) 15 each
   where
-    each : (k : ℕ) → k < 15 → bit (bit_and (bit_and r.pending r.mask) r.select) k ≡ wants_cycle r k
+    each : (k : ℕ) → k < transfer_count → bit (bit_and (bit_and r.pending r.mask) r.select) k ≡ wants_cycle r k
     each k within =
         bit_both (bit_and r.pending r.mask) r.select k
         ∙ ap (λ b. b && bit r.select k) (bit_both r.pending r.mask k)
@@ -33,7 +34,7 @@ pub entries : (r : Requests) → r.select < 2 ^ 16 →
     greatest (bit (bit_and r.mask (bit_or r.service (bit_and r.pending (bit_not w16 r.select))))) 15 ≡ greatest (wants_entry r) 15
 entries r small = greatest_same (bit (bit_and r.mask (bit_or r.service (bit_and r.pending (bit_not w16 r.select))))) (wants_entry r) 15 each
   where
-    each : (k : ℕ) → k < 15 → bit (bit_and r.mask (bit_or r.service (bit_and r.pending (bit_not w16 r.select)))) k ≡ wants_entry r k
+    each : (k : ℕ) → k < transfer_count → bit (bit_and r.mask (bit_or r.service (bit_and r.pending (bit_not w16 r.select)))) k ≡ wants_entry r k
     each k within =
         bit_both r.mask (bit_or r.service (bit_and r.pending (bit_not w16 r.select))) k
         ∙ ap (λ b. bit r.mask k && b) (bit_either r.service (bit_and r.pending (bit_not w16 r.select)) k)

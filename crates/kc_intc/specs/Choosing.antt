@@ -1,5 +1,6 @@
 -- Which request is served next (80C196KC User's Manual, "Interrupts", "Peripheral Transaction Server").
 use Rattle.std.specs.Prelude.{ℕ, zero, suc, ◌<◌, Bool, ◌&&◌, ◌||◌, not, Option, Some, None, if◌then◌else◌}
+use Rattle.kc_base.specs.Limits.{transfer_count}
 use Rattle.kc_base.specs.Bits.{bit}
 use Rattle.kc_intc.specs.declared.requests.Requests.{Requests}
 use Rattle.kc_intc.specs.declared.requests.Choice.{Choice}
@@ -23,15 +24,15 @@ abbrev pub or_else : (ℕ → Choice) → Option ℕ → Choice → Choice
 or_else serve (Some n) other = serve n
 or_else serve None other = other
 
--- NMI first, then the transfer server where PSE is set, then an interrupt where I is set; of each the highest below 15
+-- NMI first, then the transfer server where PSE is set, then an interrupt where I is set; of each the highest below NMI
 abbrev pub choice_of : Bool → Bool → Requests → Choice
 choice_of pse enabled r =
     if bit r.pending 15 then Nmi
-    else or_else Transfer (if pse then greatest (wants_cycle r) 15 else None)
-    (or_else Enter (if enabled then greatest (wants_entry r) 15 else None) Go)
+    else or_else Transfer (if pse then greatest (wants_cycle r) transfer_count else None)
+    (or_else Enter (if enabled then greatest (wants_entry r) transfer_count else None) Go)
 
 -- NMI stands apart from the numbers that are chosen
-abbrev pub IsBelow15 : Choice → Type 0
-IsBelow15 (Transfer n) = n < 15
-IsBelow15 (Enter n) = n < 15
-IsBelow15 _ = Unit {0}
+abbrev pub IsBelowNmi : Choice → Type 0
+IsBelowNmi (Transfer n) = n < transfer_count
+IsBelowNmi (Enter n) = n < transfer_count
+IsBelowNmi _ = Unit {0}

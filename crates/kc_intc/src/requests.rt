@@ -1,10 +1,11 @@
 ghost use Rattle.std.specs.Prelude.{◌≡◌, ◌<◌, bit_or, IfSome};
+ghost use Rattle.kc_base.specs.Limits.{transfer_count};
 ghost use Rattle.kc_base.specs.Bits.{bit};
-ghost use Rattle.kc_intc.specs.Choosing.{wants_cycle, wants_entry, greatest, choice_of, IsBelow15};
+ghost use Rattle.kc_intc.specs.Choosing.{wants_cycle, wants_entry, greatest, choice_of, IsBelowNmi};
 ghost use Rattle.kc_intc.specs.Sets.{without, with_request};
 ghost use Rattle.kc_intc.specs.Changes.{entered_of, ended_of};
 
-use kc_base::IntSet;
+use kc_base::{IntSet, TRANSFER_COUNT};
 
 /// The four sets of interrupt requests; bit n of each is the request of vector n, 0 to 15.
 ///
@@ -58,13 +59,13 @@ fn with_request(n: u8, set: u16) -> u16
 // The highest request of a set, NMI not among them.
 #[tactic(auto, using(crate::proofs::Greatest::greatest_more, crate::proofs::Greatest::none_of_zero, crate::proofs::Greatest::of_low_byte), unfolding(crate::specs::Choosing::greatest))]
 fn highest(set: u16) -> Option<u8>
-    ensures value { result ≡ greatest (bit set) 15 }
-    ensures below { IfSome result (λ n. n < 15) }
+    ensures value { result ≡ greatest (bit set) transfer_count }
+    ensures below { IfSome result (λ n. n < transfer_count) }
 {
     if set == 0 {
         return None;
     }
-    let mut n = if set < 256 { 8 } else { 15 };
+    let mut n = if set < 256 { 8 } else { TRANSFER_COUNT };
     while n > 0 {
         n -= 1;
         if is_in(set, n) {
@@ -86,7 +87,7 @@ impl Requests {
     #[tactic(auto, using(crate::proofs::Greatest::nothing_masked_in))]
     pub fn choose(&self, pse: bool, enabled: bool) -> Choice
         ensures value { result ≡ choice_of pse enabled self.now }
-        ensures below { IsBelow15 result }
+        ensures below { IsBelowNmi result }
     {
         if (self.pending | self.service) & (self.mask | NMI) == 0 {
             return Choice::Go;
@@ -136,8 +137,8 @@ impl Requests {
     // The request that the transfer server serves next.
     #[tactic(auto, using(crate::proofs::Sets::cycles))]
     fn cycle(&self) -> Option<u8>
-        ensures value { result ≡ greatest (wants_cycle self.now) 15 }
-        ensures below { IfSome result (λ n. n < 15) }
+        ensures value { result ≡ greatest (wants_cycle self.now) transfer_count }
+        ensures below { IfSome result (λ n. n < transfer_count) }
     {
         highest(self.pending & self.mask & self.select)
     }
@@ -145,8 +146,8 @@ impl Requests {
     // The request that is entered next.
     #[tactic(auto, using(crate::proofs::Sets::entries))]
     fn entry(&self) -> Option<u8>
-        ensures value { result ≡ greatest (wants_entry self.now) 15 }
-        ensures below { IfSome result (λ n. n < 15) }
+        ensures value { result ≡ greatest (wants_entry self.now) transfer_count }
+        ensures below { IfSome result (λ n. n < transfer_count) }
     {
         highest(self.mask & (self.service | self.pending & !self.select))
     }

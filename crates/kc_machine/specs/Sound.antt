@@ -1,5 +1,6 @@
 -- What is so of each activity that the machine begins, and of what goes on between activities (this kit's own).
 use Rattle.std.specs.Prelude.{◌≡◌, ℕ, ◌<◌, true, IsTrue, Option, Some, None}
+use Rattle.kc_base.specs.Limits.{transfer_count}
 use Rattle.kc_isa.specs.declared.insn.Insn.{Insn}
 use Rattle.kc_isa.specs.Formed.{is_formed}
 use Rattle.kc_exec_spec.specs.declared.cpu.Words.{Words}
@@ -19,9 +20,9 @@ pub record IsSoundMove (insn : Insn) (words : Words) : Type 0 where
   pub formed : IsTrue (is_formed insn)
   pub under_way : IsUnderWay insn words
 
--- this is a cycle of a request below 15, whose control block stands where one may, with transfers left
+-- this is a cycle of a request below NMI, whose control block stands where one may, with transfers left
 pub record IsSoundCycle (number : ℕ) (cycle : Cycle) : Type 0 where
-  pub below : number < 15
+  pub below : number < transfer_count
   pub block : is_block cycle.block ≡ true
   pub some : 0 < cycle.left
 
@@ -29,7 +30,7 @@ abbrev pub IsSoundActivity : Activity → Type 0
 IsSoundActivity (Executes insn) = IsTrue (is_formed insn)
 IsSoundActivity (MovesWord insn words) = IsSoundMove insn words
 IsSoundActivity (Enters number) = number < 16
-IsSoundActivity (SetsUp number) = number < 15
+IsSoundActivity (SetsUp number) = number < transfer_count
 IsSoundActivity (Transfers number cycle) = IsSoundCycle number cycle
 IsSoundActivity _ = Unit {0}
 

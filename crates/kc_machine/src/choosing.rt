@@ -1,5 +1,6 @@
 // What the next activity follows from.
 ghost use Rattle.std.specs.Prelude.{◌≡◌, ◌<◌, length};
+ghost use Rattle.kc_base.specs.Limits.{transfer_count};
 ghost use Rattle.kc_exec_spec.specs.Entering.{vector_at, entry_states};
 ghost use Rattle.kc_pts.specs.Cycles.{vector_of};
 ghost use Rattle.kc_machine_spec.specs.Machine.{fetched, can_fetch};
@@ -57,7 +58,7 @@ pub(crate) fn vector_at(number: u8) -> u16
 
 /// Where the address of the control block of a request stands.
 pub(crate) fn vector_of(number: u8) -> u16
-    requires { number < 15 }
+    requires { number < transfer_count }
     ensures { result ≡ vector_of number }
 {
     0x2040 + 2 * u16::from(number)

@@ -1,5 +1,6 @@
 // How activities end: their accesses, and what is printed of them.
 ghost use Rattle.std.specs.Prelude.{◌≡◌, ◌<◌, ◌+◌, ◌*◌, ◌^◌, ◌++◌, IsTrue, IfSome, IfOk, IfErr, OnOk, OnErr, None, [], ◌∷◌, option_to_list, false, true};
+ghost use Rattle.kc_base.specs.Limits.{transfer_count};
 ghost use Rattle.kc_isa.specs.Formed.{is_formed};
 ghost use Rattle.kc_exec_spec.specs.BlockMoves.{IsOfMove};
 ghost use Rattle.kc_exec_spec.specs.Jumping.{next_pc};
@@ -264,7 +265,7 @@ impl<X: Extra + Drop> Core<X> {
 
     // Sets up a cycle of the transfer server in its last state; answers what is printed behind the edges.
     fn set_up<L: Ledger>(&mut self, number: u8, steps: &mut Steps<L>) -> Option<Record>
-        requires number { number < 15 }
+        requires number { number < transfer_count }
         requires last { IsInLastState self.old }
         ensures over { IsOver X.further (SetsUp number) self.old self.new result }
         ensures within { WithinState self.old.bus self.new.bus steps.old steps.new }

@@ -1,5 +1,6 @@
 // Activities over the machine's board.
 ghost use Rattle.std.specs.Prelude.{◌≡◌, ◌≤◌, ◌<◌, IsTrue, IfOk, None, true};
+ghost use Rattle.kc_base.specs.Limits.{transfer_count};
 ghost use Rattle.kc_isa.specs.Formed.{is_formed};
 ghost use Rattle.kc_exec_spec.specs.Effect.{Gives, run};
 ghost use Rattle.kc_exec_spec.specs.Effects.{effect_of, Performs};
@@ -171,7 +172,7 @@ fn setup_from<X: Extra + Drop, L: Ledger, K: Began>(
     steps: &mut Steps<L>,
 ) -> Result<Cycle, Kind>
     requires began { BeganAt K.steps K.moves common.old steps.old }
-    requires number { number < 15 }
+    requires number { number < transfer_count }
     ensures gives { Gives (λ x. x) result (held_of common.new) (run (bus_meaning X.further) (set_up number) (held_of common.old)) }
     ensures sound { IfOk result (λ cycle. IsSoundCycle number cycle) }
     ensures within { WithinState common.old common.new steps.old steps.new }
@@ -191,7 +192,7 @@ pub(crate) fn setup_over<X: Extra + Drop, L: Ledger>(
     steps: &mut Steps<L>,
 ) -> Result<Cycle, Kind>
     requires unreached { common.old.reached ≡ 0 }
-    requires number { number < 15 }
+    requires number { number < transfer_count }
     ensures gives { Gives (λ x. x) result (held_of common.new) (run (bus_meaning X.further) (set_up number) (held_of common.old)) }
     ensures sound { IfOk result (λ cycle. IsSoundCycle number cycle) }
     ensures within { WithinState common.old common.new steps.old steps.new }

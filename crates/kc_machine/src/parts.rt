@@ -1,10 +1,11 @@
 // The machine's parts, and which activity comes next.
 ghost use Rattle.std.specs.Prelude.{◌≡◌, ◌+◌, ◌<◌, ◌≤◌, true, None, IsTrue};
 ghost use Rattle.std.specs.Bool.{OnTrue, OnFalse};
+ghost use Rattle.kc_base.specs.Limits.{transfer_count};
 ghost use Rattle.kc_intc.specs.declared.requests.Choice.TheVariants.{Go};
 ghost use Rattle.kc_isa.specs.Formed.{is_formed};
 ghost use Rattle.kc_exec_spec.specs.Places.{place_of};
-ghost use Rattle.kc_intc.specs.Choosing.{IsBelow15};
+ghost use Rattle.kc_intc.specs.Choosing.{IsBelowNmi};
 ghost use Rattle.kc_machine_spec.specs.Board.{masks_of, word_at};
 ghost use Rattle.kc_machine_spec.specs.Scene.{byte};
 ghost use Rattle.kc_machine_spec.specs.Machine.{breaks, placed, scene_of, pushing_states, fetches, enters, sets_up, goes_on, goes_first, asked, serves, chosen, current};
@@ -66,7 +67,7 @@ fn goes_first(going: Option<Going>) -> bool
 
 // The setup of a cycle of the transfer server.
 fn setup(number: u8) -> UnderWay
-    requires { number < 15 }
+    requires { number < transfer_count }
     ensures value { result ≡ sets_up number }
     ensures going { IsGoing result }
 {
@@ -186,7 +187,7 @@ impl<X: Extra + Drop> Core<X> {
     #[inline(always)]
     fn asked(&self) -> Choice
         ensures value { result ≡ asked (machine_of self.now) }
-        ensures below { IsBelow15 result }
+        ensures below { IsBelowNmi result }
     {
         let psw = self.cpu.psw_high;
         self.bus
@@ -198,7 +199,7 @@ impl<X: Extra + Drop> Core<X> {
     /// An entry or a cycle of the transfer server, as the requests choose, or what goes on.
     pub(crate) fn serves<L: Ledger>(&mut self, choice: Choice, steps: &mut Steps<L>) -> UnderWay
         requires between { IsSoundGoing self.old.going }
-        requires below { IsBelow15 choice }
+        requires below { IsBelowNmi choice }
         ensures knows { Knows (serves (machine_of self.old) choice) result self.old self.new steps.old steps.new }
     {
         match choice {
@@ -242,7 +243,7 @@ impl<X: Extra + Drop> Core<X> {
     pub(crate) fn asked_if(&self, free: bool) -> Choice
         ensures free { OnTrue free (result ≡ asked (machine_of self.now)) }
         ensures other { OnFalse free (result ≡ Go) }
-        ensures below { IsBelow15 result }
+        ensures below { IsBelowNmi result }
     {
         let requests = self.bus.block.requests();
         if !free || requests.pending == 0 && requests.service == 0 {

@@ -10,7 +10,7 @@ ghost use Rattle.kc_trace.specs.Trace.{out_of};
 ghost use Rattle.kc_block_spec.specs.Touch.{block_rule};
 ghost use Rattle.kc_machine_spec.specs.Board.{pins};
 ghost use Rattle.kc_intc.specs.declared.requests.Choice.TheVariants.{Go};
-ghost use Rattle.kc_intc.specs.Choosing.{IsBelow15};
+ghost use Rattle.kc_intc.specs.Choosing.{IsBelowNmi};
 ghost use Rattle.kc_machine_spec.specs.Machine.{scene_of, current, asked, broken};
 ghost use Rattle.kc_machine_spec.specs.Passing.{IsIdle, left_at, whole, activity_end};
 ghost use Rattle.kc_machine_spec.specs.Run.{run_to, end_of};
@@ -229,7 +229,7 @@ impl<X: Extra + Drop> Core<X> {
     )
         requires free { IsFree (machine_of self.old) }
         requires choice { choice ≡ asked (machine_of self.old) }
-        requires below { IsBelow15 choice }
+        requires below { IsBelowNmi choice }
         requires may { MayPass until self.old }
         ensures passed { PassesAs X.further until self.old self.new (out_of S.written S.faults out.old) (out_of S.written S.faults out.new) steps.old steps.new }
     {

@@ -14,7 +14,7 @@ pub enum Activity {
     Traps,
     /// An entry through the vector of this number, below 16.
     Enters(u8),
-    /// The setup of a cycle of the transfer server for the request of this number, below 15.
+    /// The setup of a cycle of the transfer server for the request of this number, below NMI.
     SetsUp(u8),
     /// One transfer of a cycle for the request of this number, with the end of the cycle after the last.
     Transfers(u8, Cycle),
