@@ -1,4 +1,5 @@
-//! Timer 1 and Timer 2 of the board, each alone: what one Tick does, what a quiet span leaves, and when an overflow comes (80C196KC User's Manual, "Timer 1" and "Timer 2"; the order inside a state is this kit's own).
+//! Timer 1 and Timer 2 of the board, each alone: what one Tick does, what a quiet span leaves, and when an overflow comes (80C196KC
+//! User's Manual, "Timer 1" and "Timer 2"; the order inside a state is this kit's own).
 //! It stands on spans of state times (`kc_span`).
 //! `timer1(87)` gives 10, and `timer1_due(87)` gives 524287. A Timer 2 at FFFFH that counts up at each eighth state is due from
 //! state 9 on in state 15.
