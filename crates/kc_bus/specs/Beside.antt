@@ -2,7 +2,8 @@
 -- there.
 use Rattle.std.specs.Prelude.{ℕ, ◌+◌, ◌*◌, ◌/◌, ◌%◌, nat_lt, if◌then◌else◌, Result, List, slice_index, slice_set}
 use Rattle.kc_base.specs.declared.types.Kind.{Kind}
-use Rattle.kc_exec_spec.specs.Access.{Access, ReadByte, ReadWord, WriteByte, WriteWord, SetMasks}
+use Rattle.kc_exec_spec.specs.declared.access.Access.{Access}
+use Rattle.kc_exec_spec.specs.declared.access.Access.TheVariants.{ReadByte, ReadWord, WriteByte, WriteWord, SetMasks}
 use Rattle.kc_exec_spec.specs.Effect.{Meaning}
 use Rattle.kc_exec_spec.specs.Memory.{if_even, reads, writes}
 

@@ -4,7 +4,8 @@ use Rattle.std.specs.Prelude.{slice_index, slice_set, length, nat_lt, ◌==◌, 
 use Rattle.std.proofs.lemmas.Grind.{common_steps}
 use Rattle.kc_base.specs.declared.types.Kind.TheVariants.{BadWindow}
 use Rattle.kc_exec_spec.specs.declared.access.Masks.{Masks}
-use Rattle.kc_exec_spec.specs.Access.{Access, ReadByte, ReadWord, WriteByte, WriteWord, SetMasks}
+use Rattle.kc_exec_spec.specs.declared.access.Access.{Access}
+use Rattle.kc_exec_spec.specs.declared.access.Access.TheVariants.{ReadByte, ReadWord, WriteByte, WriteWord, SetMasks}
 use Rattle.kc_exec_spec.specs.Effect.{Meaning}
 use Rattle.kc_exec_spec.specs.Memory.{IsLawful, IsMemory, IsOfRegister}
 use Rattle.kc_exec_spec.specs.Window.{is_wsr}

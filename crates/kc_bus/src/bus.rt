@@ -1,5 +1,6 @@
 ghost use Rattle.std.specs.Prelude.{◌≡◌, ℕ, OnOk, OnErr, IsTrue, false, List};
-ghost use Rattle.kc_exec_spec.specs.Access.{ReadByte, ReadWord, WriteByte, WriteWord, SetMasks, Accepts};
+ghost use Rattle.kc_exec_spec.specs.Access.{Accepts};
+ghost use Rattle.kc_exec_spec.specs.declared.access.Access.TheVariants.{ReadByte, ReadWord, WriteByte, WriteWord, SetMasks};
 ghost use Rattle.kc_exec_spec.specs.Effect.{Meaning};
 ghost use Rattle.kc_exec_spec.specs.Window.{is_wsr};
 ghost use Rattle.kc_exec_spec.specs.Memory.{IsMemory, IsLawful, is_hole};

@@ -6,7 +6,8 @@ use Rattle.kc_base.specs.declared.types.Kind.{Kind}
 use Rattle.kc_base.specs.declared.types.Undefined.{Undefined}
 use Rattle.kc_exec_spec.specs.declared.access.Master.{Master}
 use Rattle.kc_exec_spec.specs.declared.access.Master.TheVariants.{Cpu, Server}
-use Rattle.kc_exec_spec.specs.Access.{Access, ReadByte, ReadWord, WriteByte, WriteWord, SetMasks}
+use Rattle.kc_exec_spec.specs.declared.access.Access.{Access}
+use Rattle.kc_exec_spec.specs.declared.access.Access.TheVariants.{ReadByte, ReadWord, WriteByte, WriteWord, SetMasks}
 use Rattle.kc_trace.specs.Text.{kind_number}
 use Rattle.kc_kit_files.specs.Shown.{shown}
 use Rattle.kc_kit_messages.specs.Diagnostics.{number_text}

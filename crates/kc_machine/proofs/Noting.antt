@@ -5,7 +5,7 @@ use Rattle.kc_base.specs.declared.types.Edge.{Edge}
 use Rattle.kc_base.specs.declared.types.Kind.{Kind}
 use Rattle.kc_exec_spec.specs.declared.access.Master.{Master}
 use Rattle.kc_exec_spec.specs.declared.access.Masks.{Masks}
-use Rattle.kc_exec_spec.specs.Access.{ReadByte, ReadWord, WriteByte, WriteWord, SetMasks}
+use Rattle.kc_exec_spec.specs.declared.access.Access.TheVariants.{ReadByte, ReadWord, WriteByte, WriteWord, SetMasks}
 use Rattle.kc_extra.specs.Further.{Further}
 use Rattle.kc_block_spec.specs.declared.registers.Window.{Window}
 use Rattle.kc_block_spec.specs.declared.registers.Window.TheVariants.{Window0, Window1, Window15}

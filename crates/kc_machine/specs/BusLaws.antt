@@ -3,7 +3,8 @@ use Rattle.std.proofs.Common.{◌≡◌, ℕ, ◌+◌, ◌*◌, ◌/◌, ◌%◌
 use Rattle.std.specs.Prelude.{slice_index, slice_set, length, nat_lt, ◌==◌, if◌then◌else◌, false, true, List}
 use Rattle.std.proofs.lemmas.Grind.{common_steps}
 use Rattle.kc_exec_spec.specs.declared.access.Masks.{Masks}
-use Rattle.kc_exec_spec.specs.Access.{Access, ReadByte, ReadWord, WriteByte, WriteWord, SetMasks}
+use Rattle.kc_exec_spec.specs.declared.access.Access.{Access}
+use Rattle.kc_exec_spec.specs.declared.access.Access.TheVariants.{ReadByte, ReadWord, WriteByte, WriteWord, SetMasks}
 use Rattle.kc_exec_spec.specs.Memory.{IsLawful, IsMemory, IsOfRegister}
 use Rattle.kc_machine_spec.specs.Scene.{Scene, with_units, byte, put, scene_answer, after_by}
 use Rattle.kc_machine_spec.specs.Board.{masks_of}

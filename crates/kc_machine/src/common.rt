@@ -3,7 +3,8 @@ ghost use Rattle.std.specs.Prelude.{◌≡◌, ℕ, ◌+◌, ◌*◌, ◌<◌, �
 ghost use Rattle.std.specs.Bool.{OnTrue};
 ghost use Rattle.kc_base.specs.Limits.{max_states};
 ghost use Rattle.kc_span.specs.Span.{after};
-ghost use Rattle.kc_exec_spec.specs.Access.{ReadByte, ReadWord, WriteByte, WriteWord, SetMasks, Accepts};
+ghost use Rattle.kc_exec_spec.specs.Access.{Accepts};
+ghost use Rattle.kc_exec_spec.specs.declared.access.Access.TheVariants.{ReadByte, ReadWord, WriteByte, WriteWord, SetMasks};
 ghost use Rattle.kc_exec_spec.specs.Window.{is_wsr};
 ghost use Rattle.kc_block_spec.specs.Touch.{block_rule, touch, edges_of};
 ghost use Rattle.kc_block_spec.specs.Leading.{Leads};

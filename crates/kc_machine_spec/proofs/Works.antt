@@ -5,7 +5,8 @@ use Rattle.kc_base.specs.declared.types.Kind.{Kind}
 use Rattle.kc_isa.specs.declared.insn.Insn.{Insn}
 use Rattle.kc_exec_spec.specs.declared.cpu.After.{After}
 use Rattle.kc_exec_spec.specs.declared.cpu.Cpu.{Cpu}
-use Rattle.kc_exec_spec.specs.Access.{Access, ReadByte, ReadWord, WriteByte, WriteWord, SetMasks}
+use Rattle.kc_exec_spec.specs.declared.access.Access.{Access}
+use Rattle.kc_exec_spec.specs.declared.access.Access.TheVariants.{ReadByte, ReadWord, WriteByte, WriteWord, SetMasks}
 use Rattle.kc_exec_spec.specs.Effect.{Effect, End, Undefined, Look, Ask, Outcome, Done, Refused, answered, run}
 use Rattle.kc_exec_spec.specs.Effects.{effect_of}
 use Rattle.kc_exec_spec.specs.BlockMoves.{moved_word}
