@@ -11,27 +11,35 @@ count_line word number = word ++ decimal number ++ codes "\n"
 abbrev pub is_some_times : ℕ → Bool
 is_some_times times = not (times == 0)
 
+abbrev pub one_if : Bool → ℕ
+one_if b = if b then 1 else 0
+
 -- ---- conditional jumps: for each way of the jump with a number on a line, how often it was gone, and `-` where it never ran
 
-abbrev pub way_line : ℕ → ℕ → List ℕ → List ℕ → List ℕ
-way_line line jump way times = codes "BRDA:" ++ decimal line ++ codes "," ++ decimal jump ++ way ++ times ++ codes "\n"
+abbrev pub times_text : Bool → ℕ → List ℕ
+times_text never times = if never then codes "-" else decimal times
+
+abbrev pub way_line : ℕ → ℕ → List ℕ → Bool → ℕ → List ℕ
+way_line line jump way never times = codes "BRDA:" ++ decimal line ++ codes "," ++ decimal jump ++ way ++ times_text never times ++ codes "\n"
+
+abbrev pub never_ran : ℕ → ℕ → Bool
+never_ran taken passed = (taken == 0) && (passed == 0)
 
 abbrev pub jump_lines : ℕ → ℕ → ℕ → ℕ → List ℕ
 jump_lines line jump taken passed =
-    if (taken == 0) && (passed == 0)
-    then way_line line jump (codes ",0,") (codes "-") ++ way_line line jump (codes ",1,") (codes "-")
-    else way_line line jump (codes ",0,") (decimal taken) ++ way_line line jump (codes ",1,") (decimal passed)
+    way_line line jump (codes ",0,") (never_ran taken passed) taken ++ way_line line jump (codes ",1,") (never_ran taken passed) passed
 
--- the jumps of a line that stand before an instruction
-abbrev pub is_jump_on : ℕ → Instruction → Bool
-is_jump_on line i = i.is_branch && i.line == line
+-- The jumps of each line are numbered from 0 on. Of a line so many stand before.
+abbrev pub number_on : ℕ → ℕ → Instruction → ℕ
+number_on line before i = if i.line == line then before else 0
 
--- those of instructions behind others
-unfoldable pub jumps_text : Told → List Instruction → List Instruction → List ℕ
-jumps_text t before [] = []
-jumps_text t before (i ∷ rest) =
-    (if i.is_branch then jump_lines i.line (count_by (is_jump_on i.line) before) (slice_index t.taken i.addr) (slice_index t.passed i.addr) else [])
-    ++ jumps_text t (before ++ i ∷ []) rest
+abbrev pub jump_of : Told → ℕ → Instruction → List ℕ
+jump_of t number i = if i.is_branch then jump_lines i.line number (slice_index t.taken i.addr) (slice_index t.passed i.addr) else []
+
+unfoldable pub jumps_text : Told → ℕ → ℕ → List Instruction → List ℕ
+jumps_text t line before [] = []
+jumps_text t line before (i ∷ rest) =
+    jump_of t (number_on line before i) i ++ jumps_text t i.line (number_on line before i + one_if i.is_branch) rest
 
 -- how often each way of each jump was gone
 abbrev pub ways_of : Told → Instruction → List ℕ
@@ -69,7 +77,7 @@ test_line (Some life) = count_line (codes "TN:life_") life
 abbrev pub source_text : Option ℕ → Told → Source → List ℕ
 source_text life t source =
     test_line life ++ (codes "SF:" ++ source.name.now ++ codes "\n")
-    ++ jumps_text t [] source.instructions.items ++ sums_of_ways (all_ways t source.instructions.items)
+    ++ jumps_text t 0 0 source.instructions.items ++ sums_of_ways (all_ways t source.instructions.items)
     ++ lines_text (lines_of t 0 source.instructions.items) ++ codes "end_of_record\n"
 
 abbrev pub cover_text : Option ℕ → Told → List Source → List ℕ

@@ -39,13 +39,28 @@ fn put_count(text: &mut Vec<u8>, word: &[u8], number: u64) -> Result<(), NoMemor
 
 // ---- conditional jumps
 
-// Puts the beginning of a line on a way of the jump with a number on a line.
-fn put_way(text: &mut Vec<u8>, line: u32, jump: u64, way: &[u8]) -> Result<(), NoMemory> {
+// Puts the line of a way of the jump with a number on a line: how often it was gone, or that the jump never ran.
+fn put_way(
+    text: &mut Vec<u8>,
+    line: u32,
+    jump: u64,
+    way: &[u8],
+    never: bool,
+    times: u64,
+) -> Result<(), NoMemory>
+    ensures { OnOk result (text.new.items ≡ text.old.items ++ spec.way_line line jump way.now never times) }
+{
     text.extend_from_slice(b"BRDA:")?;
     put_number(text, u128::from(line))?;
-    text.push(b',')?;
+    text.extend_from_slice(b",")?;
     put_number(text, u128::from(jump))?;
     text.extend_from_slice(way)?;
+    if never {
+        text.extend_from_slice(b"-")?;
+    } else {
+        put_number(text, u128::from(times))?;
+    }
+    text.extend_from_slice(b"\n")?;
     Ok(())
 }
 
@@ -54,20 +69,72 @@ fn put_jump(
     text: &mut Vec<u8>,
     line: u32,
     jump: u64,
-    ways: (u64, u64),
-    tally: &mut Tally,
-) -> Result<(), NoMemory> {
-    let (taken, passed) = ways;
-    tally.add(taken);
-    tally.add(passed);
-    if taken == 0 && passed == 0 {
-        put_way(text, line, jump, b",0,-\n")?;
-        return put_way(text, line, jump, b",1,-\n");
+    taken: u64,
+    passed: u64,
+) -> Result<(), NoMemory>
+    ensures { OnOk result (text.new.items ≡ text.old.items ++ spec.jump_lines line jump taken passed) }
+{
+    let never = taken == 0 && passed == 0;
+    put_way(text, line, jump, b",0,", never, taken)?;
+    put_way(text, line, jump, b",1,", never, passed)
+}
+
+// Puts the lines of an instruction where it is a jump, of which so many stand before it on its line.
+fn put_jump_of(
+    text: &mut Vec<u8>,
+    instruction: &Instruction,
+    number: u64,
+    told: &Told,
+) -> Result<(), NoMemory>
+    ensures { OnOk result (text.new.items ≡ text.old.items ++ spec.jump_of told.now number instruction.now) }
+{
+    if !instruction.is_branch {
+        return Ok(());
     }
-    put_way(text, line, jump, b",0,")?;
-    put_count(text, b"", taken)?;
-    put_way(text, line, jump, b",1,")?;
-    put_count(text, b"", passed)
+    let (taken, passed) = told.ways(instruction.addr);
+    put_jump(text, instruction.line, number, taken, passed)
+}
+
+// How many jumps stand before an instruction on its line, where so many stand on another before it.
+fn number_on(line: u32, before: u64, instruction: &Instruction) -> u64
+    ensures { result ≡ spec.number_on line before instruction.now }
+{
+    if instruction.line == line { before } else { 0 }
+}
+
+// Puts the lines of all jumps.
+#[tactic(auto, unfolding(crate::specs::Cover::jumps_text))]
+fn put_jump_lines(
+    text: &mut Vec<u8>,
+    instructions: &[Instruction],
+    told: &Told,
+) -> Result<(), NoMemory>
+    ensures { OnOk result (text.new.items ≡ text.old.items ++ spec.jumps_text told.now 0 0 instructions.now) }
+{
+    let mut left = instructions;
+    let mut line = 0;
+    let mut before = 0u64;
+    while let [first, rest @ ..] = left {
+        let number = number_on(line, before, first);
+        put_jump_of(text, first, number, told)?;
+        line = first.line;
+        before = number + u64::from(first.is_branch);
+        left = rest;
+    }
+    Ok(())
+}
+
+// How many ways of jumps there are, and how many of them were gone.
+fn ways_of(instructions: &[Instruction], told: &Told) -> Tally {
+    let mut tally = Tally::none();
+    for instruction in instructions {
+        if instruction.is_branch {
+            let (taken, passed) = told.ways(instruction.addr);
+            tally.add(taken);
+            tally.add(passed);
+        }
+    }
+    tally
 }
 
 // Puts the lines of all jumps, and how many ways there are; nothing where there is no jump.
@@ -76,21 +143,8 @@ fn put_jumps(
     instructions: &[Instruction],
     told: &Told,
 ) -> Result<(), NoMemory> {
-    let mut tally = Tally::none();
-    let mut left = instructions;
-    let mut line = 0;
-    let mut jump = 0;
-    while let [first, rest @ ..] = left {
-        if first.line != line {
-            line = first.line;
-            jump = 0;
-        }
-        if first.is_branch {
-            put_jump(text, line, jump, told.ways(first.addr), &mut tally)?;
-            jump += 1;
-        }
-        left = rest;
-    }
+    put_jump_lines(text, instructions, told)?;
+    let tally = ways_of(instructions, told);
     if tally.found == 0 {
         return Ok(());
     }

@@ -10,7 +10,7 @@ use Rattle.kc_machine_spec.specs.Run.{still, and_then, run_to}
 use Rattle.kc_machine_spec.specs.Passing.{activity_end, IsIdle}
 use Rattle.kc_machine_spec.proofs.Runs.{run_to-append, run_to-still}
 use Rattle.kc_machine_spec.proofs.Idle.{QuietEnd, quiet_end}
-use Rattle.kc_machine_spec.proofs.Coming.{Came, Came-next}
+use Rattle.kc_machine_spec.proofs.Coming.{Came, Came-first, Came-next}
 use Rattle.kc_machine.specs.Failing.{Passes, FailsIn}
 
 module _ {X : Type 0} (f : Further X) where
@@ -70,3 +70,7 @@ module _ {X : Type 0} (f : Further X) where
         stands = all.machine;
         over = passed.over ∙ sym (ap (λ k. min until (activity_end k)) there);
       }
+
+  -- a machine in an activity in whose lines the sink fails
+  pub fails-here : (until : ℕ) (m : Machine X) (o : Out) (n : Machine X) (p : Out) → o.failed ≡ false → m.time < n.time → n.time ≡ min until (activity_end m) → n ≡ (run_to f n.time m).machine → Prints o (run_to f n.time m).records p → p.failed ≡ true → FailsIn f until m o n p
+  fails-here until m o n p unbroken forward over next lines failed = fails-in until m o m o n p (Came-first f m o) unbroken (passes-now until m n forward over) next lines failed

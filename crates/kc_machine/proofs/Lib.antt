@@ -6,4 +6,5 @@ pub mod Pins
 pub mod Handing
 pub mod Failing
 pub mod Going
+pub mod Telling
 mod Prepared

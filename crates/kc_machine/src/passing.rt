@@ -1,5 +1,5 @@
 // How the machine passes whole activities, and spans of idle states, at once.
-ghost use Rattle.std.specs.Prelude.{◌≡◌, ◌≤◌, ◌<◌, ◌+◌, ◌-◌, ◌*◌, ◌^◌, ℕ, ◌++◌, IfSome, IfOk, OnOk, OnErr, None, [], option_to_list, max, true, false};
+ghost use Rattle.std.specs.Prelude.{◌≡◌, ◌≤◌, ◌<◌, ◌+◌, ◌-◌, ◌*◌, ◌^◌, ℕ, ◌++◌, IfSome, IfOk, OnOk, OnErr, None, [], option_to_list, max, min, true, false};
 ghost use Rattle.std.specs.List.{All};
 ghost use Rattle.std.specs.Bool.{OnTrue};
 ghost use Rattle.kc_base.specs.Limits.{max_states};
@@ -429,6 +429,7 @@ impl<X: Extra + Drop> Core<X> {
         requires going { IsGoing activity }
         requires may { MayPass until self.old }
         ensures passed { PassesAs X.further until self.old self.new (out_of S.written S.faults out.old) (out_of S.written S.faults out.new) steps.old steps.new }
+        ensures over { self.new.time ≡ min until (activity_end (machine_of self.old)) }
     {
         let ahead = until - self.time;
         if ahead < u64::from(activity.left) {

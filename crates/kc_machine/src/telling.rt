@@ -32,6 +32,7 @@ impl<X: Extra + Drop> Core<X> {
         requires stands { self.old.bus.block.time ≡ self.old.time }
         ensures goes { GoesAs (ticks_to X.further (machine_of self.old) self.old.time 1 self.old.under_way) self.old self.new (out_of S.written S.faults out.old) (out_of S.written S.faults out.new) steps.old steps.new }
         ensures scene { held_of self.new.bus ≡ scene_of (machine_of self.new) }
+        ensures past { self.new.bus.block.time ≡ self.old.time + 1 }
         ensures raised { result.0 ≡ raised_in X.further (machine_of self.old) }
     {
         let pending = self.bus.withdraw();
@@ -56,8 +57,9 @@ impl<X: Extra + Drop> Core<X> {
         ensures raised { result.0 ≡ raised_in X.further (machine_of self.old) }
         ensures predecoded { IsPredecoded self.new }
     {
+        let next = self.time + 1;
         let raised = self.tick(out, steps);
-        self.time += 1;
+        self.time = next;
         self.under_way = Some(UnderWay {
             doing: activity.doing,
             left: activity.left - 1,
@@ -101,12 +103,45 @@ impl<X: Extra + Drop> Core<X> {
         requires may { MayPass (self.old.time + 1) self.old }
         ensures passed { PassesAs X.further (self.old.time + 1) self.old self.new (out_of S.written S.faults out.old) (out_of S.written S.faults out.new) steps.old steps.new }
         ensures raised { result.0 ≡ raised_in X.further (machine_of self.old) }
+        ensures time { self.new.time ≡ self.old.time + 1 }
+        ensures rest { 1 < activity.left → (self.new.under_way ≡ left_at activity (activity.left - 1)) × (self.new.ended ≡ None) }
     {
         if activity.left > 1 {
             self.wait_state(activity, out, steps)
         } else {
             self.end_state(activity, out, steps)
         }
+    }
+
+    // Goes on by one state of the current activity, and writes what is printed in it; after a fault of the sink to the end of the
+    // activity, or to `until` if that comes first. Answers which requests the units raise in the state.
+    fn step_through<S: Sink, L: Ledger>(
+        &mut self,
+        activity: UnderWay,
+        until: StateTime,
+        out: &mut TraceOut<S>,
+        steps: &mut Steps<L>,
+    ) -> Result<IntSet, WriteFault>
+        requires value { activity ≡ current (machine_of self.old) }
+        requires going { IsGoing activity }
+        requires may { MayPass until self.old }
+        requires unbroken { out.old.failed ≡ false }
+        ensures steps { StepsAs X.further until result self.old self.new (out_of S.written S.faults out.old) (out_of S.written S.faults out.new) steps.old steps.new }
+        ensures predecoded { IsPredecoded self.new }
+        ensures written { OnOk result (out.new.failed ≡ false) }
+    {
+        let raised = self.pass_state(activity, out, steps);
+        if out.failed() {
+            if activity.left > 1 && self.time < until {
+                let rest = UnderWay {
+                    doing: activity.doing,
+                    left: activity.left - 1,
+                };
+                self.go_through(rest, until, out, steps);
+            }
+            return Err(WriteFault);
+        }
+        Ok(raised)
     }
 
     /// Goes on by one state, and writes what is printed in it; answers which requests the units raise in it.
@@ -126,17 +161,6 @@ impl<X: Extra + Drop> Core<X> {
         ensures written { OnOk result (out.new.failed ≡ false) }
     {
         let activity = self.current(steps);
-        let raised = self.pass_state(activity, out, steps);
-        if !out.failed() {
-            return Ok(raised);
-        }
-        if activity.left > 1 && self.time < until {
-            let rest = UnderWay {
-                doing: activity.doing,
-                left: activity.left - 1,
-            };
-            self.go_through(rest, until, out, steps);
-        }
-        Err(WriteFault)
+        self.step_through(activity, until, out, steps)
     }
 }

@@ -6,3 +6,4 @@ pub mod Since
 pub mod SpreadsOf
 pub mod Times
 pub mod Seen
+pub mod States

@@ -11,7 +11,7 @@ use Rattle.kc_profile.specs.Sights.{enters, sets_up}
 use Rattle.kc_profile.specs.Waits.{row, pending, handed, latency, latencies, services, moment, missed, is_missed, one_if, came, pending_after, handed_after, since_after, time_since, AreConsecutive, AreWaitsOf, wait_of_entry, see}
 use Rattle.kc_profile.proofs.Times.{times-rows}
 
-counted-first : (p : Sight → Bool) (s : Sight) (ss : List Sight) → count_by p (s ∷ ss) ≡ cond (p s) 1 0 + count_by p ss
+pub counted-first : (p : Sight → Bool) (s : Sight) (ss : List Sight) → count_by p (s ∷ ss) ≡ cond (p s) 1 0 + count_by p ss
 counted-first p s ss =
     let one : 0 + cond {A = ℕ} (p s) 1 0 ≡ cond (p s) 1 0 = omega arith in
     sum_by-append (λ (x : Sight). cond (p x) 1 0) (s ∷ []) ss ∙ ap (λ (n : ℕ). n + count_by p ss) one

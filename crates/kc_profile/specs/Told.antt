@@ -1,6 +1,6 @@
 -- What a run tells besides where its states went: of its requests, of its stack, and of the instructions that it has done (this kit's
 -- own). Of states the last comes first.
-use Rattle.std.specs.Prelude.{◌≡◌, ℕ, zero, suc, ◌+◌, ◌<◌, ◌≤◌, ◌==◌, nat_le, ◌^◌, Bool, true, false, ◌&&◌, if◌then◌else◌, List, [], ◌∷◌, ◌++◌, length, count_by, slice_index, Option, Some, None, All}
+use Rattle.std.specs.Prelude.{◌≡◌, ℕ, zero, suc, ◌+◌, ◌<◌, ◌≤◌, ◌==◌, nat_le, ◌^◌, Bool, true, false, ◌&&◌, if◌then◌else◌, List, [], ◌∷◌, ◌++◌, length, count_by, slice_index, slice_index_or, slice_set, Option, Some, None, All}
 use Rattle.kc_profile.specs.declared.sight.Sight.{Sight}
 use Rattle.kc_profile.specs.declared.sight.Way.{Way}
 use Rattle.kc_profile.specs.declared.sight.Way.TheVariants.{Taken, Passed}
@@ -8,7 +8,7 @@ use Rattle.kc_profile.specs.declared.spread.Moment.{Moment}
 use Rattle.kc_profile.specs.declared.told.Depth.{Depth}
 use Rattle.kc_profile.specs.declared.waits.Waits.{Waits}
 use Rattle.kc_profile.specs.Sights.{hits, way, moves_stack}
-use Rattle.kc_profile.specs.Waits.{AreFewWaits, AreWaitsOf, added, came, handed_after, latencies, missed, moment, pending_after, services}
+use Rattle.kc_profile.specs.Waits.{AreFewWaits, AreWaitsOf, added, came, handed_after, latencies, missed, moment, no_waits, pending_after, see, services}
 use Rattle.kc_profile.specs.Spreads.{spread_of}
 
 -- what is told: of each of the 16 requests, the least value to which the stack pointer was moved, and for each address how often an
@@ -20,6 +20,10 @@ pub record Told : Type 0 where
   pub hits : List ℕ
   pub taken : List ℕ
   pub passed : List ℕ
+
+-- what is told of a request
+abbrev pub waits_at : Told → ℕ → Waits
+waits_at t n = slice_index_or t.waits n no_waits
 
 -- there is a number for each address
 pub record IsWhole (t : Told) : Type 0 where
@@ -68,11 +72,39 @@ deepest life (s ∷ earlier) = if moves_stack s then Some (deeper (deepest life 
 -- what is told of some states of a life
 pub record IsToldOf (life : ℕ) (sights : List Sight) (t : Told) : Type 0 where
   pub whole : IsWhole t
-  pub waits : (n : ℕ) → n < 16 → AreWaitsOf n life sights (slice_index t.waits n)
+  pub waits : (n : ℕ) → n < 16 → AreWaitsOf n life sights (waits_at t n)
   pub deepest : t.deepest ≡ deepest life sights
   pub hits : (addr : ℕ) → slice_index t.hits addr ≡ count_by (is_hit addr) sights
   pub taken : (addr : ℕ) → slice_index t.taken addr ≡ count_by (is_way Taken addr) sights
   pub passed : (addr : ℕ) → slice_index t.passed addr ≡ count_by (is_way Passed addr) sights
+
+-- ---- the same, state by state
+
+-- the number of an address goes up by one
+abbrev pub counted_at : Bool → ℕ → List ℕ → List ℕ
+counted_at false addr numbers = numbers
+counted_at true addr numbers = slice_set numbers addr (slice_index numbers addr + 1)
+
+abbrev pub with_instructions : Sight → Told → Told
+with_instructions s t = record t {
+  hits = counted_at (hits s) s.pc t.hits;
+  taken = counted_at (goes (way s) Taken) s.pc t.taken;
+  passed = counted_at (goes (way s) Passed) s.pc t.passed;
+}
+
+abbrev pub with_stack : Sight → Told → Told
+with_stack s t = record t { deepest = if moves_stack s then Some (deeper t.deepest (depth t.life s)) else t.deepest }
+
+-- each of the first so many requests has seen a state, and the others have not
+pub record HaveSeen (s : Sight) (count : ℕ) (old new : Told) : Type 0 where
+  pub life : new.life ≡ old.life
+  pub length : length new.waits ≡ length old.waits
+  pub first : (n : ℕ) → n < count → waits_at new n ≡ see n old.life s (waits_at old n)
+  pub rest : (n : ℕ) → count ≤ n → waits_at new n ≡ waits_at old n
+  pub deepest : new.deepest ≡ old.deepest
+  pub hits : new.hits ≡ old.hits
+  pub taken : new.taken ≡ old.taken
+  pub passed : new.passed ≡ old.passed
 
 -- ---- the same as a value
 

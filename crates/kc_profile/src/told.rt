@@ -1,7 +1,7 @@
 // What a run tells of its requests, of its stack, and of the instructions that it has done.
 ghost use Rattle.std.specs.Prelude.{◌≡◌, ◌+◌, ◌-◌, ◌<◌, ◌≤◌, ◌^◌, ◌∷◌, [], ℕ, List, IfOk, length, slice_index, slice_set, All};
 ghost use Rattle.kc_profile.specs.declared.sight.Sight as sights;
-ghost use Rattle.kc_profile.specs.Told.{AreAllFew, IsToldOf};
+ghost use Rattle.kc_profile.specs.Told.{AreAllFew, HaveSeen, IsToldOf, waits_at};
 ghost use Rattle.kc_profile.specs.Told as spec;
 ghost use Rattle.kc_profile.specs.Waits.{see, AreConsecutive};
 
@@ -93,7 +93,10 @@ impl Told {
     }
 
     // Takes what a state shows of the instructions.
-    fn see_instructions(&mut self, sight: &Sight) {
+    fn see_instructions(&mut self, sight: &Sight)
+        requires few { AreAllFew (2 ^ 64 - 2) self.old }
+        ensures told { self.new ≡ spec.with_instructions sight.now self.old }
+    {
         if sight.hits() {
             count(&mut self.hits, sight.pc);
         }
@@ -105,7 +108,9 @@ impl Told {
     }
 
     // Takes what a state shows of the stack.
-    fn see_stack(&mut self, sight: &Sight) {
+    fn see_stack(&mut self, sight: &Sight)
+        ensures told { self.new ≡ spec.with_stack sight.now self.old }
+    {
         if sight.moves_stack() {
             let depth = Depth {
                 word: sight.next_stack,
@@ -119,7 +124,10 @@ impl Told {
     }
 
     // Takes what a state shows of each request.
-    fn see_requests(&mut self, sight: &Sight) {
+    fn see_requests(&mut self, sight: &Sight)
+        requires few { AreAllFew (2 ^ 64 - 2) self.old }
+        ensures seen { HaveSeen sight.now 16 self.old self.new }
+    {
         let life = self.life;
         for n in 0..16u8 {
             self.waits[usize::from(n)].see(n, life, sight);
@@ -130,7 +138,7 @@ impl Told {
     pub(crate) fn see(&mut self, sight: &Sight)
         requires few { AreAllFew (2 ^ 64 - 2) self.old }
         ensures life { self.new.life ≡ self.old.life }
-        ensures waits { (n : ℕ) → n < 16 → slice_index self.new.waits n ≡ see n self.old.life sight.now (slice_index self.old.waits n) }
+        ensures waits { (n : ℕ) → n < 16 → waits_at self.new n ≡ see n self.old.life sight.now (waits_at self.old n) }
         ensures told { (sights : List sights.Sight) → AreConsecutive sight.now sights → IsToldOf self.old.life sights self.old → IsToldOf self.old.life (sight.now ∷ sights) self.new }
         ensures few { (n : ℕ) → AreAllFew n self.old → AreAllFew (n + 1) self.new }
     {

@@ -20,6 +20,7 @@ returns-then-ahead-from g c =
         goes = goes-same (sym (ap (λ i. run_to g.X.Extra.further i m) time ∙ cut)) c.wait.ensures.goes;
         predecoded = c.wait.ensures.predecoded;
       };
+      over = omega arith;
     }
 
 pub returns-else-ahead-from : goal.returns-else-ahead-from
@@ -33,4 +34,5 @@ returns-else-ahead-from g c =
         goes = goes-same (sym all) c.complete.ensures.goes;
         predecoded = c.complete.ensures.predecoded;
       };
+      over = omega arith;
     }
