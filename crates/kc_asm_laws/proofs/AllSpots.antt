@@ -16,7 +16,7 @@ use Rattle.kc_asm_layout.specs.declared.size_record.SizeRecord.{SizeRecord}
 use Rattle.kc_asm_layout.specs.declared.location.Location.{Location}
 use Rattle.kc_asm_layout.specs.Places.{Ends, ends_after, locations_from}
 use Rattle.kc_asm_unlinked_laws.proofs.Lists.{seam, mapped_length}
-use Rattle.kc_asm_unlinked_laws.proofs.Untold.{reverse_prefix}
+use Rattle.kc_asm_unlinked_laws.proofs.Unreported.{reverse_prefix}
 use Rattle.kc_asm_list.specs.declared.spot.Spot.{Spot}
 use Rattle.kc_asm_list.specs.Spots.{spot_of, first_spot, spots_from}
 use Rattle.kc_asm_laws.proofs.Counted.{count_seen}

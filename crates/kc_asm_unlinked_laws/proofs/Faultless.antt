@@ -7,7 +7,7 @@ use Rattle.kc_expr.specs.declared.values.Value.{Value}
 use Rattle.kc_expr.specs.declared.values.NoValue.TheVariants.{Fault, ReportedElsewhere}
 use Rattle.kc_expr.specs.Tree.{Tree}
 use Rattle.kc_expr.specs.Meaning.{Answer, answer_by, is_fixed}
-use Rattle.kc_expr.proofs.UntoldLemmas.{AreUntold, expression_untold, is_reported}
+use Rattle.kc_expr.proofs.UnreportedLemmas.{AreUnreported, expression_unreported, is_reported}
 use Rattle.kc_source_statement.specs.Trees.{ActionTree}
 use Rattle.kc_source_statement.specs.Trees as trees
 use Rattle.kc_asm_symbols.specs.declared.segments.Segment.{Segment}
@@ -140,5 +140,5 @@ fixed_value (Ok v) h e = (v.number, by (is_fixed v.base) e)
 fixed_value (Err (Fault code)) h e = absurd cc
 fixed_value (Err ReportedElsewhere) h e = absurd cc
 
-pub fixed_number : (look : Look) → AreUntold look → (x : Tree) → fixed_faults look x ≡ [] → (n : ℕ) × (fixed_of look x ≡ Some n)
-fixed_number look h x e = fixed_value (answer_by look x) (expression_untold look h x) e
+pub fixed_number : (look : Look) → AreUnreported look → (x : Tree) → fixed_faults look x ≡ [] → (n : ℕ) × (fixed_of look x ≡ Some n)
+fixed_number look h x e = fixed_value (answer_by look x) (expression_unreported look h x) e

@@ -8,7 +8,7 @@ use Rattle.kc_obj_module.specs.declared.parts.SegKind.TheVariants.{Reg, Code, Ra
 use Rattle.kc_obj_module.specs.Pieces.{kind_number, in_region}
 use Rattle.kc_expr.specs.Tree.{Tree}
 use Rattle.kc_expr.specs.Meaning.{Answer}
-use Rattle.kc_expr.proofs.UntoldLemmas.{AreUntold}
+use Rattle.kc_expr.proofs.UnreportedLemmas.{AreUnreported}
 use Rattle.kc_source_statement.specs.Trees.{ActionTree}
 use Rattle.kc_source_statement.specs.Trees as trees
 use Rattle.kc_asm_symbols.specs.declared.segments.Segment.{Segment}
@@ -202,7 +202,7 @@ module _ (all before : List Located) (l : Located) (n : SizeRecord) (size_record
 
 -- ---- a piece that is opened
 
-module _ (look : Look) (untold : AreUntold look) (g : Segment) (ends : Ends) (regions : Regions) (list : List (Option ℕ)) (n : SizeRecord) (size_records : List SizeRecord) (parts : List Section)
+module _ (look : Look) (unreported : AreUnreported look) (g : Segment) (ends : Ends) (regions : Regions) (list : List (Option ℕ)) (n : SizeRecord) (size_records : List SizeRecord) (parts : List Section)
     (w : Standing g ends regions list (n ∷ size_records) parts) where
   added : (o : Option ℕ) → n.opens ≡ o → list ≡ map at_of parts ++ address_added o (opened size_records)
   unfolding opened
@@ -264,7 +264,7 @@ module _ (look : Look) (untold : AreUntold look) (g : Segment) (ends : Ends) (re
       → Standing (segment_opened kind at g) (begun n.opens ends) (with_region (opening_of kind look at) regions) list size_records (with_opened kind (opened_at look at) parts)
   goes_on_in kind is None e values outside = back_again kind is e
   goes_on_in kind is (Some x) e values outside =
-      let v = fixed_number look untold x values in
+      let v = fixed_number look unreported x values in
       let inside : in_region kind v.0 0 ≡ true = not_false _ (sym (ap (is_outside kind) v.1) ∙ unless (is_outside kind (fixed_of look x)) 22 outside) in
       let region : region_at kind (fixed_of look x) ≡ Some v.0 = ap (region_at kind) v.1 ∙ ap (λ (b : Bool). cond b (Some v.0) None) inside in
       let opens_is : opened_at look (Some x) ≡ Some v.0 = ap (λ (o : Option ℕ). Some (unwrap_or o 0)) v.1 in

@@ -1,5 +1,5 @@
 pub mod Lists
-pub mod Untold
+pub mod Unreported
 pub mod Faultless
 pub mod Taping
 pub mod Standing

@@ -4,7 +4,7 @@ use Rattle.std.specs.Prelude.{Option, Some, None, slice_get, is_none}
 use Rattle.std.specs.List.{AllByRecursion, flat_map}
 use Rattle.std.specs.Option.{option_to_list}
 use Rattle.kc_expr.specs.Meaning.{Answer}
-use Rattle.kc_expr.proofs.UntoldLemmas.{AreUntold}
+use Rattle.kc_expr.proofs.UnreportedLemmas.{AreUnreported}
 use Rattle.kc_obj_module.specs.declared.parts.SegKind.{SegKind}
 use Rattle.kc_obj_module.specs.declared.parts.SegKind.TheVariants.{Code}
 use Rattle.kc_obj_module.specs.Pieces.{kind_number}
@@ -31,7 +31,7 @@ use Rattle.kc_asm_check.specs.Checking.{standing, location_list}
 use Rattle.kc_asm_check.specs.Laws.{SoundStatements}
 use Rattle.kc_asm_unlinked_laws.specs.Sound.{UnlinkedModulesAreSettled}
 use Rattle.kc_asm_unlinked_laws.proofs.Lists.{no_element, same_element, nothing_left, all_at}
-use Rattle.kc_asm_unlinked_laws.proofs.Untold.{HasValue, value_of_expression}
+use Rattle.kc_asm_unlinked_laws.proofs.Unreported.{HasValue, value_of_expression}
 use Rattle.kc_asm_unlinked_laws.proofs.Standing.{IsOwn}
 use Rattle.kc_asm_unlinked_laws.proofs.Walking.{walked}
 use Rattle.kc_asm_unlinked_laws.proofs.Room.{step_fits}
@@ -42,20 +42,20 @@ use Rattle.kc_asm_unlinked_laws.proofs.Keeping.{IsAhead, kept}
 there : (a : Answer) → HasValue a → is_none (value_in a) ≡ false
 there a v = ap (λ (b : Answer). is_none (value_in b)) v.1
 
-plain_target : (look : Look) → AreUntold look → (a : ArgTree) → operand_faults look a ≡ [] → lacks_value look (plain a) ≡ false
+plain_target : (look : Look) → AreUnreported look → (a : ArgTree) → operand_faults look a ≡ [] → lacks_value look (plain a) ≡ false
 plain_target look h (trees.Plain x) e = there _ (value_of_expression look h x e)
 plain_target look h (trees.Immediate x) e = refl
 plain_target look h (trees.Indirect r) e = refl
 plain_target look h (trees.Increment r) e = refl
 plain_target look h (trees.Indexed x r) e = refl
 
-has_target : (look : Look) → AreUntold look → (args : List ArgTree) → flat_map (operand_faults look) args ≡ [] → lacks_target look args ≡ false
+has_target : (look : Look) → AreUnreported look → (args : List ArgTree) → flat_map (operand_faults look) args ≡ [] → lacks_target look args ≡ false
 unfolding target
 has_target look h [] e = refl
 has_target look h (a ∷ []) e = plain_target look h a (nothing_left (operand_faults look a) [] e).0
 has_target look h (a ∷ b ∷ args) e = has_target look h (b ∷ args) (nothing_left (operand_faults look a) (flat_map (operand_faults look) (b ∷ args)) e).1
 
-all_checked : (look : Look) → AreUntold look → (action : ActionTree) → faults_of look action ≡ [] → checks_jumps look action ≡ true
+all_checked : (look : Look) → AreUnreported look → (action : ActionTree) → faults_of look action ≡ [] → checks_jumps look action ≡ true
 all_checked look h (trees.Operation word args) e =
     ap not (has_target look h args (nothing_left (flat_map (operand_faults look) args) _ e).0)
 all_checked look h _ e = refl
@@ -119,7 +119,7 @@ module _ (written_stands : WrittenStands) (put_stands : PutStands) (no_misfit_st
       look = meaning all before l
 
       none : misfits true s.address l.segment.piece s.place os ≡ []
-      none = (λ i. content_faults (sym (all_checked look a.step.untold l.action a.step.faultless.values) i) s.address l.segment.piece s.place (sym is i)) ∙ a.step.faultless.relocatable_bytes
+      none = (λ i. content_faults (sym (all_checked look a.step.unreported l.action a.step.faultless.values) i) s.address l.segment.piece s.place (sym is i)) ∙ a.step.faultless.relocatable_bytes
 
       own : IsOwn l.segment.piece u.kind u.at
       own = subst (λ (at : Option ℕ). IsOwn l.segment.piece u.kind at) (sym a.behind.at)

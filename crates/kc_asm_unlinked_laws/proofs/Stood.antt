@@ -25,7 +25,7 @@ use Rattle.kc_asm_check.specs.Laws.{SoundStatements}
 use Rattle.kc_asm_unlinked_laws.specs.Collecting.{led, put_content, section_after, kind_opened, with_opened, first_section, parts_after, parts_from, first_parts}
 use Rattle.kc_asm_unlinked_laws.specs.Stood.{StandAt, StatementsStand, IsOfStatement, NothingElseStands}
 use Rattle.kc_asm_unlinked_laws.proofs.Lists.{no_element, same_element, prefix_at, seam, set_itself, all_at}
-use Rattle.kc_asm_unlinked_laws.proofs.Untold.{reverse_prefix}
+use Rattle.kc_asm_unlinked_laws.proofs.Unreported.{reverse_prefix}
 use Rattle.kc_asm_unlinked_laws.proofs.Taping.{laid_extends, led_extends, written_extends, led_stays}
 use Rattle.kc_asm_unlinked_laws.proofs.Walking.{IsStep, AllSteps, walked}
 use Rattle.kc_asm_unlinked_laws.proofs.Room.{step_fits}

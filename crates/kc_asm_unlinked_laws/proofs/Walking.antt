@@ -4,7 +4,7 @@ use Rattle.std.specs.Prelude.{Option, Some, None, unwrap_or, slice_get, slice_se
 use Rattle.std.specs.List.{AllByRecursion}
 use Rattle.kc_obj_module.specs.declared.parts.SegKind.TheVariants.{Code}
 use Rattle.kc_expr.specs.declared.values.Value.{Value}
-use Rattle.kc_expr.proofs.UntoldLemmas.{AreUntold}
+use Rattle.kc_expr.proofs.UnreportedLemmas.{AreUnreported}
 use Rattle.kc_source_statement.specs.declared.statement.Stmt.{Stmt}
 use Rattle.kc_source_statement.specs.Trees.{action_tree}
 use Rattle.kc_asm_symbols.specs.declared.segments.Segment.{Segment}
@@ -26,7 +26,7 @@ use Rattle.kc_asm_check.specs.Checking.{codes_of, first_fault, location_list, pl
 use Rattle.kc_asm_check.specs.Laws.{AreSound, SoundStatements}
 use Rattle.kc_asm_unlinked_laws.specs.Collecting.{section_after, kind_opened, with_opened, first_section, parts_after, parts_from, first_parts}
 use Rattle.kc_asm_unlinked_laws.proofs.Lists.{seam}
-use Rattle.kc_asm_unlinked_laws.proofs.Untold.{none_before, one_more_untold, meaning_untold, reverse_prefix}
+use Rattle.kc_asm_unlinked_laws.proofs.Unreported.{none_before, one_more_unreported, meaning_unreported, reverse_prefix}
 use Rattle.kc_asm_unlinked_laws.proofs.Faultless.{IsFaultless, faultless}
 use Rattle.kc_asm_unlinked_laws.proofs.Standing.{IsWell, StandsAt}
 use Rattle.kc_asm_unlinked_laws.proofs.Going.{head_of, AreHeads, Standing, stands, written, goes_on_behind}
@@ -35,7 +35,7 @@ use Rattle.kc_asm_unlinked_laws.proofs.Going.{head_of, AreHeads, Standing, stand
 pub record IsStep (all before : List Located) (regions : Regions) (sum : ℕ) (l : Located) (s : Location) (parts : List Section) : Type 0 where
   pub after : List Located
   pub split : all ≡ reverse before ++ l ∷ after
-  pub untold : AreUntold (meaning all before l)
+  pub unreported : AreUnreported (meaning all before l)
   pub faultless : IsFaultless (meaning all before l) (in_all all) regions sum l s
   pub t : Section
   pub part : slice_get parts l.segment.piece ≡ Some t
@@ -59,29 +59,29 @@ pub record AreDone (parts : List Section) : Type 0 where
 other_length : {n : ℕ} → zero ≡ suc n → ⊥
 other_length {n} e = omega arith
 
-pub all_untold : (all : List Located) (regions : Regions) (sum : ℕ) (before ls : List Located) (ss : List Location) → length ss ≡ length ls
-    → AreSound all regions sum before ls ss → AreUntold (earlier all before) → AreUntold (earlier all (reverse ls ++ before))
+pub all_unreported : (all : List Located) (regions : Regions) (sum : ℕ) (before ls : List Located) (ss : List Location) → length ss ≡ length ls
+    → AreSound all regions sum before ls ss → AreUnreported (earlier all before) → AreUnreported (earlier all (reverse ls ++ before))
 unfolding AreSound
-all_untold all regions sum before [] ss e sound h = h
-all_untold all regions sum before (l ∷ ls) [] e sound h = absurd (other_length e)
-all_untold all regions sum before (l ∷ ls) (s ∷ ss) e sound h =
+all_unreported all regions sum before [] ss e sound h = h
+all_unreported all regions sum before (l ∷ ls) [] e sound h = absurd (other_length e)
+all_unreported all regions sum before (l ∷ ls) (s ∷ ss) e sound h =
     let look = meaning all before l in
     let f = faultless look (in_all all) regions sum l s sound.0 in
-    subst (λ (b : List Located). AreUntold (earlier all b)) (reverse_prefix l ls before)
-    (all_untold all (regions_after look regions l.action) (stack_after look sum l.action) (l ∷ before) ls ss (let q : length ss ≡ length ls = omega (arith, e) in q) sound.1
-    (one_more_untold all before l h f.values))
+    subst (λ (b : List Located). AreUnreported (earlier all b)) (reverse_prefix l ls before)
+    (all_unreported all (regions_after look regions l.action) (stack_after look sum l.action) (l ∷ before) ls ss (let q : length ss ≡ length ls = omega (arith, e) in q) sound.1
+    (one_more_unreported all before l h f.values))
 
 -- ---- the walk
 
 module _ (all : List Located) (list : List (Option ℕ)) (whole : List SizeRecord) (values : ℕ → Segment → Value)
     (noted : (before after : List Located) (l : Located) → all ≡ reverse before ++ l ∷ after → (n : SizeRecord) → slice_get whole (length before) ≡ Some n → IsSizeRecordOf n all before l)
-    (last : AreUntold (in_all all)) where
+    (last : AreUnreported (in_all all)) where
   size_record_at : (before after : List Located) (l : Located) (pre size_records : List SizeRecord) (n : SizeRecord) → all ≡ reverse before ++ l ∷ after → whole ≡ pre ++ n ∷ size_records → length pre ≡ length before → IsSizeRecordOf n all before l
   size_record_at before after l pre size_records n split is long =
       noted before after l split n ((λ i. slice_get (is i) (sym long i)) ∙ seam pre size_records n)
 
   -- one statement
-  module _ (before after : List Located) (l : Located) (split : all ≡ reverse before ++ l ∷ after) (untold : AreUntold (earlier all before))
+  module _ (before after : List Located) (l : Located) (split : all ≡ reverse before ++ l ∷ after) (unreported : AreUnreported (earlier all before))
       (n : SizeRecord) (size_record : IsSizeRecordOf n all before l) (form : Form) (ends : Ends) (regions : Regions) (sum : ℕ) (size_records : List SizeRecord) (parts : List Section)
       (w : Standing l.segment ends regions list (n ∷ size_records) parts)
       (codes : codes_of (meaning all before l) (in_all all) regions sum l (location_of list form ends n) ≡ []) where
@@ -94,14 +94,14 @@ module _ (all : List Located) (list : List (Option ℕ)) (whole : List SizeRecor
     free : IsFaultless look (in_all all) regions sum l location
     free = faultless look (in_all all) regions sum l location codes
 
-    known : AreUntold look
-    known = meaning_untold all before l untold last
+    known : AreUnreported look
+    known = meaning_unreported all before l unreported last
 
     step : IsStep all before regions sum l location parts
     step = record {
       after = after;
       split = split;
-      untold = known;
+      unreported = known;
       faultless = free;
       t = w.piece.t;
       part = w.piece.part;
@@ -116,15 +116,15 @@ module _ (all : List Located) (list : List (Option ℕ)) (whole : List SizeRecor
 
   pub walk : (i : ℕ) (g : Segment) (tail : List Stmt) (before : List Located) (pre size_records : List SizeRecord) (fs : List Form) (ends : Ends) (regions : Regions) (sum : ℕ) (parts : List Section)
       → all ≡ reverse before ++ located_from values i g tail → whole ≡ pre ++ size_records → length pre ≡ length before → length size_records ≡ length tail
-      → AreUntold (earlier all before)
+      → AreUnreported (earlier all before)
       → AreSound all regions sum before (located_from values i g tail) (locations_from list fs ends size_records)
       → Standing g ends regions list size_records parts
       → AllSteps all regions sum before (located_from values i g tail) (locations_from list fs ends size_records) parts
       × AreDone (parts_from all before (located_from values i g tail) (locations_from list fs ends size_records) parts)
   unfolding located_from locations_from AreSound AllSteps parts_from
-  walk i g [] before pre size_records fs ends regions sum parts split is long same untold sound w = (tt, record { heads = w.heads; wells = w.wells })
-  walk i g (s ∷ ss) before pre [] fs ends regions sum parts split is long same untold sound w = absurd (other_length same)
-  walk i g (s ∷ ss) before pre (n ∷ size_records) fs ends regions sum parts split is long same untold sound w =
+  walk i g [] before pre size_records fs ends regions sum parts split is long same unreported sound w = (tt, record { heads = w.heads; wells = w.wells })
+  walk i g (s ∷ ss) before pre [] fs ends regions sum parts split is long same unreported sound w = absurd (other_length same)
+  walk i g (s ∷ ss) before pre (n ∷ size_records) fs ends regions sum parts split is long same unreported sound w =
       let l = located_at g (values i g) s in
       let after = located_from values (i + 1) (segment_after g (action_tree s.action)) ss in
       let look = meaning all before l in
@@ -135,9 +135,9 @@ module _ (all : List Located) (list : List (Option ℕ)) (whole : List SizeRecor
       (parts_after look l (location_of list form ends n) parts) (further all before after l split) (is ∙ sym (append_assoc pre (n ∷ []) size_records))
       (let q : length (pre ++ n ∷ []) ≡ length pre + 1 = length-append pre (n ∷ []) in let r : length (pre ++ n ∷ []) ≡ suc (length before) = omega (arith, q, long) in r)
       (let r : length size_records ≡ length ss = omega (arith, same) in r)
-      (one_more_untold all before l untold free.values) sound.1
-      (grown before after l split untold n size_record form ends regions sum size_records parts w sound.0) in
-      ((step before after l split untold n size_record form ends regions sum size_records parts w sound.0, rest.0), rest.1)
+      (one_more_unreported all before l unreported free.values) sound.1
+      (grown before after l split unreported n size_record form ends regions sum size_records parts w sound.0) in
+      ((step before after l split unreported n size_record form ends regions sum size_records parts w sound.0, rest.0), rest.1)
 
 -- ---- a whole source
 
@@ -160,7 +160,7 @@ first_standing size_records = record {
 pub record IsWalked (stmts : List Stmt) : Type 0 where
   pub steps : AllSteps (standing stmts) first_regions 0 [] (standing stmts) (location_list stmts) first_parts
   pub done : AreDone (parts_from (standing stmts) [] (standing stmts) (location_list stmts) first_parts)
-  pub last : AreUntold (in_all (standing stmts))
+  pub last : AreUnreported (in_all (standing stmts))
 
 pub walked : SizesStay → SizesHaveLengths → SoundStatements → (stmts : List Stmt) → first_fault stmts ≡ None → IsWalked stmts
 walked stay lengths statements stmts none =
@@ -169,7 +169,7 @@ walked stay lengths statements stmts none =
     let fs = statement_forms (forms (text size_records)) size_records in
     let sound = statements stmts none in
     let count = locations_length (addresses size_records) fs no_bytes size_records ∙ lengths stmts ∙ sym (located_length (λ i g. value_at g (place_at (location_list stmts) i)) 0 first_segment stmts) in
-    let untold = subst (λ (b : List Located). AreUntold (earlier all b)) (append-nil (reverse all)) (all_untold all first_regions 0 [] all (location_list stmts) count sound (none_before all)) in
-    let w = walk all (addresses size_records) size_records (λ i g. value_at g (place_at (location_list stmts) i)) (λ before after l split n at. stay stmts (place_at (location_list stmts)) before after l split n at) untold
+    let unreported = subst (λ (b : List Located). AreUnreported (earlier all b)) (append-nil (reverse all)) (all_unreported all first_regions 0 [] all (location_list stmts) count sound (none_before all)) in
+    let w = walk all (addresses size_records) size_records (λ i g. value_at g (place_at (location_list stmts) i)) (λ before after l split n at. stay stmts (place_at (location_list stmts)) before after l split n at) unreported
     0 first_segment stmts [] [] size_records fs no_bytes first_regions 0 first_parts refl refl refl (lengths stmts) (none_before all) sound (first_standing size_records) in
-    record { steps = w.0; done = w.1; last = untold }
+    record { steps = w.0; done = w.1; last = unreported }

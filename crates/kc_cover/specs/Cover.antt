@@ -1,7 +1,7 @@
 -- Which lines of sources have run, as a tracefile of lcov (the manual page of geninfo, "FILES"; that it is written so is this kit's own).
 use Rattle.std.specs.Prelude.{ℕ, suc, ◌+◌, ◌==◌, ◌&&◌, Bool, true, false, not, max, if◌then◌else◌, List, [], ◌∷◌, ◌++◌, map, flat_map, length, codes, decimal, sum, slice_index, count_by, Option, Some, None}
 use Rattle.std.specs.List.{filter}
-use Rattle.kc_profile.specs.Told.{Told}
+use Rattle.kc_profile.specs.Statistics.{Statistics}
 use Rattle.kc_cover.specs.declared.source.Instruction.{Instruction}
 use Rattle.kc_cover.specs.declared.source.Source.{Source}
 
@@ -33,19 +33,19 @@ jump_lines line jump taken passed =
 abbrev pub number_on : ℕ → ℕ → Instruction → ℕ
 number_on line before i = if i.line == line then before else 0
 
-abbrev pub jump_of : Told → ℕ → Instruction → List ℕ
+abbrev pub jump_of : Statistics → ℕ → Instruction → List ℕ
 jump_of t number i = if i.is_branch then jump_lines i.line number (slice_index t.taken i.addr) (slice_index t.passed i.addr) else []
 
-unfoldable pub jumps_text : Told → ℕ → ℕ → List Instruction → List ℕ
+unfoldable pub jumps_text : Statistics → ℕ → ℕ → List Instruction → List ℕ
 jumps_text t line before [] = []
 jumps_text t line before (i ∷ rest) =
     jump_of t (number_on line before i) i ++ jumps_text t i.line (number_on line before i + one_if i.is_branch) rest
 
 -- how often each way of each jump was gone
-abbrev pub ways_of : Told → Instruction → List ℕ
+abbrev pub ways_of : Statistics → Instruction → List ℕ
 ways_of t i = if i.is_branch then slice_index t.taken i.addr ∷ slice_index t.passed i.addr ∷ [] else []
 
-abbrev pub all_ways : Told → List Instruction → List ℕ
+abbrev pub all_ways : Statistics → List Instruction → List ℕ
 all_ways t instructions = flat_map (ways_of t) instructions
 
 abbrev pub sums_of_ways : List ℕ → List ℕ
@@ -55,7 +55,7 @@ sums_of_ways (way ∷ ways) = count_line (codes "BRF:") (length (way ∷ ways)) 
 -- ---- lines: the greatest number of the instructions of each
 
 -- the lines that give instructions, each with how often it has run, where so often is known of the first
-unfoldable pub lines_of : Told → ℕ → List Instruction → List (ℕ × ℕ)
+unfoldable pub lines_of : Statistics → ℕ → List Instruction → List (ℕ × ℕ)
 lines_of t times [] = []
 lines_of t times (i ∷ []) = (i.line, max times (slice_index t.hits i.addr)) ∷ []
 lines_of t times (i ∷ next ∷ rest) =
@@ -74,11 +74,11 @@ abbrev pub test_line : Option ℕ → List ℕ
 test_line None = codes "TN:\n"
 test_line (Some life) = count_line (codes "TN:life_") life
 
-abbrev pub source_text : Option ℕ → Told → Source → List ℕ
+abbrev pub source_text : Option ℕ → Statistics → Source → List ℕ
 source_text life t source =
     test_line life ++ (codes "SF:" ++ source.name.now ++ codes "\n")
     ++ jumps_text t 0 0 source.instructions.items ++ sums_of_ways (all_ways t source.instructions.items)
     ++ lines_text (lines_of t 0 source.instructions.items) ++ codes "end_of_record\n"
 
-abbrev pub cover_text : Option ℕ → Told → List Source → List ℕ
+abbrev pub cover_text : Option ℕ → Statistics → List Source → List ℕ
 cover_text life t sources = flat_map (source_text life t) sources

@@ -4,7 +4,7 @@ ghost use Rattle.kc_cover.specs.Cover as spec;
 
 use crate::source::{Instruction, Source};
 use kc_base::{NoMemory, put_number};
-use kc_profile::Told;
+use kc_profile::Statistics;
 
 /// How many there are, and how many of them have run.
 #[derive(Clone, Copy)]
@@ -84,14 +84,14 @@ fn put_jump_of(
     text: &mut Vec<u8>,
     instruction: &Instruction,
     number: u64,
-    told: &Told,
+    statistics: &Statistics,
 ) -> Result<(), NoMemory>
-    ensures { OnOk result (text.new.items ≡ text.old.items ++ spec.jump_of told.now number instruction.now) }
+    ensures { OnOk result (text.new.items ≡ text.old.items ++ spec.jump_of statistics.now number instruction.now) }
 {
     if !instruction.is_branch {
         return Ok(());
     }
-    let (taken, passed) = told.ways(instruction.addr);
+    let (taken, passed) = statistics.ways(instruction.addr);
     put_jump(text, instruction.line, number, taken, passed)
 }
 
@@ -107,16 +107,16 @@ fn number_on(line: u32, before: u64, instruction: &Instruction) -> u64
 fn put_jump_lines(
     text: &mut Vec<u8>,
     instructions: &[Instruction],
-    told: &Told,
+    statistics: &Statistics,
 ) -> Result<(), NoMemory>
-    ensures { OnOk result (text.new.items ≡ text.old.items ++ spec.jumps_text told.now 0 0 instructions.now) }
+    ensures { OnOk result (text.new.items ≡ text.old.items ++ spec.jumps_text statistics.now 0 0 instructions.now) }
 {
     let mut left = instructions;
     let mut line = 0;
     let mut before = 0u64;
     while let [first, rest @ ..] = left {
         let number = number_on(line, before, first);
-        put_jump_of(text, first, number, told)?;
+        put_jump_of(text, first, number, statistics)?;
         line = first.line;
         before = number + u64::from(first.is_branch);
         left = rest;
@@ -125,11 +125,11 @@ fn put_jump_lines(
 }
 
 // How many ways of jumps there are, and how many of them were gone.
-fn ways_of(instructions: &[Instruction], told: &Told) -> Tally {
+fn ways_of(instructions: &[Instruction], statistics: &Statistics) -> Tally {
     let mut tally = Tally::none();
     for instruction in instructions {
         if instruction.is_branch {
-            let (taken, passed) = told.ways(instruction.addr);
+            let (taken, passed) = statistics.ways(instruction.addr);
             tally.add(taken);
             tally.add(passed);
         }
@@ -141,10 +141,10 @@ fn ways_of(instructions: &[Instruction], told: &Told) -> Tally {
 fn put_jumps(
     text: &mut Vec<u8>,
     instructions: &[Instruction],
-    told: &Told,
+    statistics: &Statistics,
 ) -> Result<(), NoMemory> {
-    put_jump_lines(text, instructions, told)?;
-    let tally = ways_of(instructions, told);
+    put_jump_lines(text, instructions, statistics)?;
+    let tally = ways_of(instructions, statistics);
     if tally.found == 0 {
         return Ok(());
     }
@@ -174,13 +174,13 @@ fn goes_on(line: u32, instructions: &[Instruction]) -> bool {
 fn put_lines(
     text: &mut Vec<u8>,
     instructions: &[Instruction],
-    told: &Told,
+    statistics: &Statistics,
 ) -> Result<(), NoMemory> {
     let mut tally = Tally::none();
     let mut left = instructions;
     let mut times = 0u64;
     while let [first, rest @ ..] = left {
-        times = times.max(told.hits(first.addr));
+        times = times.max(statistics.hits(first.addr));
         if !goes_on(first.line, rest) {
             put_line(text, first.line, times, &mut tally)?;
             times = 0;
@@ -210,33 +210,33 @@ fn put_source(
     text: &mut Vec<u8>,
     source: &Source<'_>,
     life: Option<u16>,
-    told: &Told,
+    statistics: &Statistics,
 ) -> Result<(), NoMemory>
-    ensures { OnOk result (text.new.items ≡ text.old.items ++ spec.source_text life told.now source.now) }
+    ensures { OnOk result (text.new.items ≡ text.old.items ++ spec.source_text life statistics.now source.now) }
 {
     put_test(text, life)?;
     text.extend_from_slice(b"SF:")?;
     text.extend_from_slice(source.name.as_bytes())?;
     text.push(b'\n')?;
-    put_jumps(text, &source.instructions, told)?;
-    put_lines(text, &source.instructions, told)?;
+    put_jumps(text, &source.instructions, statistics)?;
+    put_lines(text, &source.instructions, statistics)?;
     text.extend_from_slice(b"end_of_record\n")?;
     Ok(())
 }
 
-/// Puts which lines of sources have run behind a text, by what a run has told; the name of the test is that of the life, where there
+/// Puts which lines of sources have run behind a text, by the statistics of a run; the name of the test is that of the life, where there
 /// are several.
 pub fn put_sources(
     text: &mut Vec<u8>,
     sources: &[Source<'_>],
     life: Option<u16>,
-    told: &Told,
+    statistics: &Statistics,
 ) -> Result<(), NoMemory>
-    ensures { OnOk result (text.new.items ≡ text.old.items ++ spec.cover_text life told.now sources.now) }
+    ensures { OnOk result (text.new.items ≡ text.old.items ++ spec.cover_text life statistics.now sources.now) }
 {
     let mut left = sources;
     while let [source, rest @ ..] = left {
-        put_source(text, source, life, told)?;
+        put_source(text, source, life, statistics)?;
         left = rest;
     }
     Ok(())

@@ -22,10 +22,10 @@ use Rattle.kc_debug.specs.InLives.{InLife, end_in, in_lives}
 
 -- The transcript is written whole, and the script has ended so; or the sink fails in it; or memory runs out, before it begins or
 -- behind a line between two lives.
-abbrev pub IsTold : {X : Type 0} → InLife X → Out → Result End LivesFault → Out → Type 0
-IsTold l old (Ok how) new = (how ≡ end_in l) × Puts old l.text new × (new.failed ≡ false)
-IsTold l old (Err fault.WriteFault) new = Puts old l.text new × (new.failed ≡ true)
-IsTold l old (Err fault.NoMemory) new = Any (λ text. Puts old text new) ([] ∷ l.pauses) × (new.failed ≡ false)
+abbrev pub IsAnswered : {X : Type 0} → InLife X → Out → Result End LivesFault → Out → Type 0
+IsAnswered l old (Ok how) new = (how ≡ end_in l) × Puts old l.text new × (new.failed ≡ false)
+IsAnswered l old (Err fault.WriteFault) new = Puts old l.text new × (new.failed ≡ true)
+IsAnswered l old (Err fault.NoMemory) new = Any (λ text. Puts old text new) ([] ∷ l.pauses) × (new.failed ≡ false)
 
 -- no deadline has gone by
 abbrev pub IsAhead : Option ℕ → ℕ → Type 0
@@ -43,7 +43,7 @@ module _ {X : Type 0} (f : Further X) (deadline : X → Option ℕ) where
 
 module _ {X : Type 0} {dx : extra.Ghosts X} {dw : extra.Ghosts Watchdog} where
   -- the further unit of the life that begins at a state is made for that state, beside a new watchdog
-  pub record ToldOf (f : Further (Pair X Watchdog dx dw)) (made : ℕ → X) (image : List ℕ) (drives : Drives) (most : ℕ) (entries : List MapEntry) (commands : List Command) (old : Out) (result : Result End LivesFault) (new : Out) : Type 0 where
+  pub record HasAnswered (f : Further (Pair X Watchdog dx dw)) (made : ℕ → X) (image : List ℕ) (drives : Drives) (most : ℕ) (entries : List MapEntry) (commands : List Command) (old : Out) (result : Result End LivesFault) (new : Out) : Type 0 where
     pub unit : ℕ → Pair X Watchdog dx dw
     pub is_made : (from : ℕ) → IsWatched (made from) (unit from)
-    pub told : IsTold (in_lives f deadline_of image drives unit most entries commands) old result new
+    pub answered : IsAnswered (in_lives f deadline_of image drives unit most entries commands) old result new

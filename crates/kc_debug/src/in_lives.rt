@@ -6,7 +6,7 @@ ghost use Rattle.kc_trace.specs.Text.{text_of};
 ghost use Rattle.kc_trace.specs.Trace.{out_of};
 ghost use Rattle.kc_cycles.specs.Life.{life_for};
 ghost use Rattle.kc_cycles.specs.Making.{deadline_of};
-ghost use Rattle.kc_debug.specs.Debugging.{HasLived, IsAhead, ToldOf};
+ghost use Rattle.kc_debug.specs.Debugging.{HasLived, IsAhead, HasAnswered};
 ghost use Rattle.kc_debug.specs.Faults.{ReportsFault};
 ghost use Rattle.kc_debug.specs.Passing.{IsKept};
 ghost use Rattle.kc_debug.specs.Stops.{states_of_activities, states_of_run};
@@ -386,7 +386,7 @@ pub fn debug_lives<M: Maker, S: Sink, L: Ledger>(
 ) -> Result<End, LivesFault>
     requires some { 1 ≤ lives.now.most }
     requires unbroken { out.old.failed ≡ false }
-    ensures { ToldOf ⟦<Pair<M::X, Watchdog> as Extra>⟧.further (M.made lives.now.maker.now lives.now.stimuli.now) lives.now.image.now lives.now.stimuli.now lives.now.most lines.now script.now (out_of S.written S.faults out.old) result (out_of S.written S.faults out.new) }
+    ensures { HasAnswered ⟦<Pair<M::X, Watchdog> as Extra>⟧.further (M.made lives.now.maker.now lives.now.stimuli.now) lives.now.image.now lives.now.stimuli.now lives.now.most lines.now script.now (out_of S.written S.faults out.old) result (out_of S.written S.faults out.new) }
 {
     let Ok(mut life) = first_life(alloc, lives) else {
         return Err(LivesFault::NoMemory);

@@ -1,6 +1,6 @@
 //! The debugger: a script of commands that is carried out over a machine, and what is printed of it. It stands on
 //! `kc_machine` and `kc_debug_script`. Example: `s 2` passes two activities and prints where the board stands then, as `T 145
-//! 2098`; over lives it tells the number of the life too, as `T 145 2098 1`.
+//! 2098`; over lives it gives the number of the life too, as `T 145 2098 1`.
 #![tactic(auto)]
 
 mod activities;

@@ -78,7 +78,7 @@ fn check_stream<'a, F: Streams>(
     }
 }
 
-// The job that prints a verdict, or the refusal where the run of a trace with this name could not be told to its end.
+// The job that prints a verdict, or the refusal where the run of a trace with this name could not be read to its end.
 fn verdict_job<'a>(
     alloc: Global,
     name: &str,

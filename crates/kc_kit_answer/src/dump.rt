@@ -68,7 +68,7 @@ fn dump_stream<'a, F: Streams>(
     }
 }
 
-// The job that writes a dump, or the refusal where the run of the trace could not be told to its end.
+// The job that writes a dump, or the refusal where the run of the trace could not be read to its end.
 fn dump_job<'a>(
     alloc: Global,
     dump: &Dump<'a>,

@@ -90,7 +90,7 @@ pub static HELP: [Row; 14] = [
     ),
     (
         "explain",
-        "  kc96 explain CODE               tell what a code says, or what the instruction of that name does
+        "  kc96 explain CODE               explain a code, or what the instruction of that name does
 ",
     ),
     (

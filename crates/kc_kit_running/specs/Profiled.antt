@@ -1,4 +1,4 @@
--- A run behind which is written where its states went and what it tells, and which lines of the sources have run (this kit's own).
+-- A run behind which is written where its states went, with its statistics, and which lines of the sources have run (this kit's own).
 use Rattle.std.specs.Prelude.{ℕ, zero, suc, ◌+◌, ◌-◌, List, [], ◌∷◌, ◌++◌, length, map, flat_map, codes, decimal, Option, Some, None}
 use Rattle.std.specs.List.{range_with_len}
 use Rattle.kc_extra.specs.Further.{Further}
@@ -12,14 +12,14 @@ use Rattle.kc_cycles.specs.Making.{deadline_of}
 use Rattle.kc_cycles.specs.Lives.{last_end, lives_text, text_before}
 use Rattle.kc_profile.specs.declared.sight.Sight.{Sight}
 use Rattle.kc_profile.specs.declared.spread.Moment.{Moment}
-use Rattle.kc_profile.specs.declared.telling.Scope.TheVariants as scope
+use Rattle.kc_profile.specs.declared.statistics_text.Scope.TheVariants as scope
 use Rattle.kc_profile.specs.declared.spot.Spot.{Spot}
 use Rattle.kc_profile.specs.Spots.{spots_for}
 use Rattle.kc_profile.specs.Sights.{history}
 use Rattle.kc_profile.specs.Tally.{tally_of}
 use Rattle.kc_profile.specs.Text.{profile_text}
-use Rattle.kc_profile.specs.Telling.{told_text}
-use Rattle.kc_profile.specs.Told.{Told, told_of, told_of_lives}
+use Rattle.kc_profile.specs.StatisticsText.{statistics_text}
+use Rattle.kc_profile.specs.Statistics.{Statistics, statistics_of, statistics_of_lives}
 use Rattle.kc_cover.specs.Cover.{cover_text}
 use Rattle.kc_kit_files.specs.Response.{Response, Write, write}
 use Rattle.kc_kit_words.specs.Commands.{Behind}
@@ -49,14 +49,14 @@ writes_of behind a = write_of behind.profile a.profile ++ write_of behind.cover 
 
 -- what was counted of a machine that has run for so many states, in words
 abbrev pub run_text : {X : Type 0} → Further X → Lines → ℕ → Machine X → List ℕ
-run_text f lines states m = profile_text (tally_of (spots_for f states m)) lines.entries.items ++ told_text scope.Life (told_of 1 (history f states m))
+run_text f lines states m = profile_text (tally_of (spots_for f states m)) lines.entries.items ++ statistics_text scope.Life (statistics_of 1 (history f states m))
 
 abbrev pub run_accounts : Lines → ℕ → Driving → List ℕ → Accounts
 run_accounts lines states driving image =
     let m = machine_of driving image in
     record {
       profile = run_text fitted_further lines states m;
-      cover = cover_text None (told_of 1 (history fitted_further states m)) lines.sources.items;
+      cover = cover_text None (statistics_of 1 (history fitted_further states m)) lines.sources.items;
     }
 
 -- ---- several lives: each under its heading, and the sums behind them
@@ -71,7 +71,7 @@ pub record Counted : Type 0 where
 
 abbrev pub life_profile : Lines → ℕ → Counted → List ℕ
 life_profile lines life c =
-    heading (codes "life ") life ++ profile_text (tally_of c.spots) lines.entries.items ++ told_text scope.Life (told_of life c.sights)
+    heading (codes "life ") life ++ profile_text (tally_of c.spots) lines.entries.items ++ statistics_text scope.Life (statistics_of life c.sights)
 
 unfoldable pub lives_profile : Lines → ℕ → List Counted → List ℕ
 lives_profile lines life [] = []
@@ -79,13 +79,13 @@ lives_profile lines life (c ∷ more) = life_profile lines life c ++ lives_profi
 
 unfoldable pub lives_cover : Lines → ℕ → List Counted → List ℕ
 lives_cover lines life [] = []
-lives_cover lines life (c ∷ more) = cover_text (Some life) (told_of life c.sights) lines.sources.items ++ lives_cover lines (life + 1) more
+lives_cover lines life (c ∷ more) = cover_text (Some life) (statistics_of life c.sights) lines.sources.items ++ lives_cover lines (life + 1) more
 
 abbrev pub sums_profile : Lines → List Counted → List ℕ
 sums_profile lines lives =
     heading (codes "lives ") (length lives)
     ++ profile_text (tally_of (flat_map (λ (c : Counted). c.spots) lives)) lines.entries.items
-    ++ told_text scope.Lives (told_of_lives 1 (map (λ (c : Counted). c.sights) lives))
+    ++ statistics_text scope.Lives (statistics_of_lives 1 (map (λ (c : Counted). c.sights) lives))
 
 abbrev pub lives_accounts : Lines → List Counted → Accounts
 lives_accounts lines lives = record {

@@ -6,7 +6,7 @@ use kc_cover::{Source, put_sources};
 use kc_debug_script::MapEntry;
 use kc_kit_files::{Ended, Status};
 use kc_kit_words::Behind;
-use kc_profile::{Profile, Scope, Told, report};
+use kc_profile::{Profile, Scope, Statistics, report};
 use std::alloc::Global;
 
 /// What is known of the sources of an image: the entries of its line map, its instructions by their lines, and its modules at their
@@ -22,7 +22,7 @@ pub struct Lines<'a> {
 #[derive(Drop)]
 pub(crate) struct Account {
     pub(crate) profile: Profile,
-    pub(crate) told: Told,
+    pub(crate) statistics: Statistics,
 }
 
 impl Account {
@@ -30,14 +30,14 @@ impl Account {
     pub(crate) fn new(alloc: Global, life: u16) -> Result<Account, NoMemory> {
         Ok(Account {
             profile: Profile::new(alloc)?,
-            told: Told::new(alloc, life)?,
+            statistics: Statistics::new(alloc, life)?,
         })
     }
 
     /// Adds what was counted of a later life.
     pub(crate) fn add(&mut self, later: &Account) {
         self.profile.add_all(&later.profile);
-        self.told.add(&later.told);
+        self.statistics.add(&later.statistics);
     }
 }
 
@@ -72,7 +72,7 @@ impl Accounts {
         lines: &Lines<'_>,
         scope: Scope,
     ) -> Result<(), NoMemory> {
-        let text = report(alloc, &account.profile, &account.told, &lines.entries, scope)?;
+        let text = report(alloc, &account.profile, &account.statistics, &lines.entries, scope)?;
         self.profile.extend_from_slice(&text)?;
         Ok(())
     }
@@ -85,7 +85,7 @@ impl Accounts {
         lines: &Lines<'_>,
     ) -> Result<(), NoMemory> {
         self.put_profile(alloc, account, lines, Scope::Life)?;
-        put_sources(&mut self.cover, &lines.sources, None, &account.told)
+        put_sources(&mut self.cover, &lines.sources, None, &account.statistics)
     }
 
     /// Adds what was counted of the life with a number, under its heading.
@@ -98,7 +98,7 @@ impl Accounts {
     ) -> Result<(), NoMemory> {
         put_heading(&mut self.profile, b"life ", life)?;
         self.put_profile(alloc, account, lines, Scope::Life)?;
-        put_sources(&mut self.cover, &lines.sources, Some(life), &account.told)
+        put_sources(&mut self.cover, &lines.sources, Some(life), &account.statistics)
     }
 
     /// Adds the sums of so many lives to the profile.

@@ -44,7 +44,7 @@ fn live<S: Sink, L: Ledger>(
         let how = run_profiled(
             machine,
             &mut account.profile,
-            &mut account.told,
+            &mut account.statistics,
             stop,
             out,
             steps,

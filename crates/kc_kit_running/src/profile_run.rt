@@ -19,7 +19,7 @@ use kc_trace::TraceOut;
 use std::alloc::Global;
 use std::sync::ledger::{Blank, Ledger};
 
-/// Runs a board so far, prints its trace, and then writes the files that are asked for: where its states went and what it tells
+/// Runs a board so far, prints its trace, and then writes the files that are asked for: where its states went, with its statistics
 /// besides, by what is known of its sources, and which of their lines have run.
 pub fn profile_board<'a, F: Files, S: Sink, L: Ledger>(
     alloc: Global,
@@ -89,7 +89,7 @@ fn watch_once<S: Sink, L: Ledger>(
     let ran = run_profiled(
         &mut machine,
         &mut account.profile,
-        &mut account.told,
+        &mut account.statistics,
         states,
         out,
         steps,

@@ -1,4 +1,4 @@
--- What is left of what the host reads piece by piece: what its reader tells of it (this kit's own).
+-- What is left of what the host reads piece by piece: what its reader reports of it (this kit's own).
 use Rattle.std.specs.Prelude.{ℕ, List, Option}
 use Rattle.kc_kit_streams.specs.declared.host_reader.HostReader.{HostReader}
 use Rattle.kc_kit_streams.specs.declared.host_reader.HostReader.TheVariants as reader

@@ -246,10 +246,10 @@ run_seen p d base reported (Printed (Registers at bytes) ∷ lines) v w going ru
 run_seen p d base reported (Restarted at by_watchdog ∷ lines) v w going run h =
     let short : at ≤ max_states = run.follow.0.sound in
     let behind = run_behind p (Restarted at by_watchdog) lines run in
-    let told = reported ++ restart_event at by_watchdog ∷ [] in
+    let with_restart = reported ++ restart_event at by_watchdog ∷ [] in
     let more : length (filter is_restart lines) + 1 + 1 ≡ suc (length (filter is_restart lines)) + 1 = omega arith in
-    subst (λ n. HasSeen (life_of d base told (at + 1) ++ lives_with d (base + at + 1) [] lines) n v w) more
-    (life_seen d base told (at + 1) (steps_with d (base + at + 1) [] lines) (lives_with d (base + at + 1) [] lines) (count_lives lines) v w (omega arith) (omega (arith, short))
+    subst (λ n. HasSeen (life_of d base with_restart (at + 1) ++ lives_with d (base + at + 1) [] lines) n v w) more
+    (life_seen d base with_restart (at + 1) (steps_with d (base + at + 1) [] lines) (lives_with d (base + at + 1) [] lines) (count_lives lines) v w (omega arith) (omega (arith, short))
     (λ u g. run_seen (start_place (p.base + at + 1)) d (base + at + 1) [] lines u w refl behind g) h)
 
 -- ---- how many lives

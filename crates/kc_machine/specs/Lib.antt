@@ -9,4 +9,4 @@ pub mod Failing
 pub mod Stepping
 pub mod Accessing
 pub mod Passing
-pub mod Telling
+pub mod Raising

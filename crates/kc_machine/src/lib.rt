@@ -15,7 +15,7 @@ mod noted;
 mod over;
 mod parts;
 mod passing;
-mod telling;
+mod raising;
 mod weights;
 
 pub use finals::stopped;

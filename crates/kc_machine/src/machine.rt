@@ -20,7 +20,7 @@ ghost use Rattle.kc_machine_spec.specs.Text.{finals, HasRun};
 ghost use Rattle.kc_machine.specs.Board.{Whole};
 ghost use Rattle.kc_machine.specs.Failing.{FailsIn};
 ghost use Rattle.kc_machine.specs.Stepping.{IsBrief, IdlesFor, end_line, register_lines};
-ghost use Rattle.kc_machine.specs.Telling.{raised_in};
+ghost use Rattle.kc_machine.specs.Raising.{raised_in};
 
 use crate::common::Common;
 use crate::finals::{put_end, put_finals, put_state, word};

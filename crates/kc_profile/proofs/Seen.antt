@@ -1,4 +1,4 @@
--- What is told after a state is what was told before it, and what the state shows.
+-- Statistics after a state are those before it, and what the state shows.
 use Rattle.std.proofs.Common.{◌≡◌, ℕ, ◌+◌, Bool, true, false, cond, List, [], ◌∷◌, ◌++◌, Option, Some, None, refl, sym, ◌∙◌, ap, arith}
 use Rattle.std.specs.Prelude.{count_by}
 use Rattle.std.proofs.lemmas.List.Sums.{sum_by-append}
@@ -17,11 +17,11 @@ counted-first p s ss =
     sum_by-append (λ (x : Sight). cond (p x) 1 0) (s ∷ []) ss ∙ ap (λ (n : ℕ). n + count_by p ss) one
 
 -- one number more, where there is one
-spread-more : (b : Bool) (number told : ℕ) (w : Option Spread) (s : Sight) (life : ℕ) (numbers : List Dated) → w ≡ spread_of numbers → told ≡ number →
-    cond b (Some (with_number told (moment life s) w)) w ≡ spread_of (cond b ((number, moment life s) ∷ numbers) numbers)
+spread-more : (b : Bool) (number statistics : ℕ) (w : Option Spread) (s : Sight) (life : ℕ) (numbers : List Dated) → w ≡ spread_of numbers → statistics ≡ number →
+    cond b (Some (with_number statistics (moment life s) w)) w ≡ spread_of (cond b ((number, moment life s) ∷ numbers) numbers)
 unfolding spread_of
-spread-more false number told w s life numbers e same = e
-spread-more true number told w s life numbers e same = ap (λ o. Some (with_number told (moment life s) o)) e ∙ ap (λ k. Some (with_number k (moment life s) (spread_of numbers))) same
+spread-more false number statistics w s life numbers e same = e
+spread-more true number statistics w s life numbers e same = ap (λ o. Some (with_number statistics (moment life s) o)) e ∙ ap (λ k. Some (with_number k (moment life s) (spread_of numbers))) same
 
 pub waits-seen : (n life : ℕ) (s : Sight) (sights : List Sight) (w : Waits) → AreConsecutive s sights → AreWaitsOf n life sights w → AreWaitsOf n life (s ∷ sights) (see n life s w)
 unfolding came latencies services

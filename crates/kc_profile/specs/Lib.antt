@@ -5,5 +5,5 @@ pub mod Text
 pub mod Sights
 pub mod Spreads
 pub mod Waits
-pub mod Told
-pub mod Telling
+pub mod Statistics
+pub mod StatisticsText

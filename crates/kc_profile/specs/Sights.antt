@@ -1,5 +1,5 @@
 -- What a run shows in each of its state times (80C196KC User's Manual, "Interrupts", "Peripheral Transaction Server", "Instruction Set";
--- that it is told is this kit's own).
+-- that it is reported is this kit's own).
 use Rattle.std.specs.Prelude.{◌≡◌, ℕ, zero, suc, ◌+◌, ◌-◌, ◌<◌, ◌==◌, nat_le, Bool, true, false, not, ◌&&◌, ◌||◌, if◌then◌else◌, List, [], ◌∷◌, Option, Some, None}
 use Rattle.kc_base.specs.Bits.{bit}
 use Rattle.kc_base.specs.declared.types.IntSet.{IntSet}
@@ -15,7 +15,7 @@ use Rattle.kc_machine_spec.specs.declared.doing.UnderWay.{UnderWay}
 use Rattle.kc_machine_spec.specs.Board.{word_at}
 use Rattle.kc_machine_spec.specs.Machine.{Machine, current}
 use Rattle.kc_machine_spec.specs.Run.{run_for}
-use Rattle.kc_machine.specs.Telling.{raised_in}
+use Rattle.kc_machine.specs.Raising.{raised_in}
 use Rattle.kc_profile.specs.declared.sight.Sight.{Sight}
 use Rattle.kc_profile.specs.declared.sight.Way.{Way}
 use Rattle.kc_profile.specs.declared.sight.Way.TheVariants.{Taken, Passed}

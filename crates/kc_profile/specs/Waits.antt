@@ -105,7 +105,7 @@ abbrev pub TimesAreRows : Type 0
 TimesAreRows = (n : ℕ) (s : Sight) (earlier : List Sight) → AreConsecutive s earlier →
     (time_since (came pending_after n earlier) s.at ≡ row pending n (s ∷ earlier)) × (time_since (came handed_after n earlier) s.at ≡ row handed n (s ∷ earlier))
 
--- what is told of a request after these states of a life
+-- what is reported of a request after these states of a life
 pub record AreWaitsOf (n life : ℕ) (sights : List Sight) (w : Waits) : Type 0 where
   pub pending : w.waiting.pending ≡ came pending_after n sights
   pub handed : w.waiting.handed ≡ came handed_after n sights
@@ -145,9 +145,9 @@ abbrev pub added : Waits → Waits → Waits
 added w later = record w { latency = together w.latency later.latency; served = together w.served later.served; missed = w.missed + later.missed }
 
 -- it was entered or served at all
-abbrev pub is_told : Waits → Bool
-is_told w = is_some w.latency || is_some w.served
+abbrev pub is_reported : Waits → Bool
+is_reported w = is_some w.latency || is_some w.served
 
--- what is told after a state is what was told before it, and what the state shows
+-- what is reported after a state is what was reported before it, and what the state shows
 abbrev pub WaitsAreSeen : Type 0
 WaitsAreSeen = (n life : ℕ) (s : Sight) (sights : List Sight) (w : Waits) → AreConsecutive s sights → AreWaitsOf n life sights w → AreWaitsOf n life (s ∷ sights) (see n life s w)

@@ -22,7 +22,7 @@ pub fn times_are_rows()
     ensures { TimesAreRows }
 {}
 
-/// What is told of a request after a state is what was told before it, and what the state shows.
+/// What a profile reports of a request after a state is what it reported before it, and what the state shows.
 pub fn waits_are_seen()
     ensures { WaitsAreSeen }
 {}

@@ -2,7 +2,7 @@
 ghost use Rattle.std.specs.Prelude.{◌≡◌, ◌+◌, ◌^◌, ◌<◌, List, [], ◌++◌, length, replicate, sum, slice_index, slice_set, IfOk};
 ghost use Rattle.kc_profile.specs.declared.spot.Spot as spots;
 ghost use Rattle.kc_profile.specs.Tally.{IsTallyOf, number_of, total};
-ghost use Rattle.kc_profile.specs.Told.{sums};
+ghost use Rattle.kc_profile.specs.Statistics.{sums};
 
 use crate::Spot;
 use kc_base::NoMemory;

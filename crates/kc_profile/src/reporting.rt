@@ -1,11 +1,11 @@
 // The text of a profile.
 ghost use Rattle.std.specs.Prelude.{◌≡◌, ◌+◌, ◌^◌, ◌<◌, ◌≤◌, ◌++◌, ◌&&◌, ◌==◌, codes, decimal, length, sum, IfOk, OnOk};
-ghost use Rattle.kc_profile.specs.Telling.{told_text};
+ghost use Rattle.kc_profile.specs.StatisticsText.{statistics_text};
 ghost use Rattle.kc_profile.specs.Text as spec;
 
 use crate::Profile;
-use crate::telling::Scope;
-use crate::told::Told;
+use crate::statistics_text::Scope;
+use crate::statistics::Statistics;
 use kc_base::{NoMemory, put_number};
 use kc_debug_script::MapEntry;
 use kc_trace::address_text;
@@ -177,18 +177,18 @@ fn put_lines(text: &mut Vec<u8>, at: &[u64], entries: &[MapEntry]) -> Result<(),
     Ok(())
 }
 
-/// The text of a profile and of what was told beside it.
+/// The text of a profile and of the statistics beside it.
 pub fn report(
     alloc: Global,
     profile: &Profile,
-    told: &Told,
+    statistics: &Statistics,
     entries: &[MapEntry],
     scope: Scope,
 ) -> Result<Vec<u8>, NoMemory>
-    ensures { IfOk result (λ text. text.items ≡ spec.profile_text profile.now entries.now ++ told_text scope told.now) }
+    ensures { IfOk result (λ text. text.items ≡ spec.profile_text profile.now entries.now ++ statistics_text scope statistics.now) }
 {
     let mut text = profile.text(alloc, entries)?;
-    told.put(&mut text, scope)?;
+    statistics.put(&mut text, scope)?;
     Ok(text)
 }
 

@@ -15,16 +15,16 @@ ghost use Rattle.kc_profile.specs.Spots.{coming_spot, spots_for};
 ghost use Rattle.kc_profile.specs.Tally.{IsTallyOf, total};
 ghost use Rattle.kc_profile.specs.Passing.{Went, LastsFor};
 ghost use Rattle.kc_profile.specs.Sights.{seen_of, history, Begins};
-ghost use Rattle.kc_profile.specs.Told.{AreAllFew, IsToldOf};
+ghost use Rattle.kc_profile.specs.Statistics.{AreAllFew, AreStatisticsOf};
 ghost use Rattle.kc_span.specs.Span.{QuietFor};
 ghost use Rattle.kc_block_spec.specs.Touch.{block_rule};
 ghost use Rattle.kc_machine_spec.specs.Board.{word_at};
-ghost use Rattle.kc_machine.specs.Telling.{raised_in};
+ghost use Rattle.kc_machine.specs.Raising.{raised_in};
 
 use crate::Profile;
 use crate::sight::{Sight, is_undefined};
 use crate::spot::spot_of;
-use crate::told::Told;
+use crate::statistics::Statistics;
 use kc_base::{IntSet, Sink, StateTime, Steps};
 use kc_extra::Extra;
 use kc_intc::Requests;
@@ -142,7 +142,7 @@ fn pass<X: Extra + Drop, S: Sink, L: Ledger>(
 
 // Goes on by states of one spot in which the units do nothing but perhaps in the last, or by one state. Answers which requests are
 // raised in the last of them; none is in those before.
-fn pass_told<X: Extra + Drop, S: Sink, L: Ledger>(
+fn pass_reported<X: Extra + Drop, S: Sink, L: Ledger>(
     machine: &mut Machine<X>,
     left: u8,
     until: StateTime,
@@ -226,7 +226,7 @@ fn sight_of<X: Extra + Drop>(
 fn count<X: Extra + Drop, S: Sink, L: Ledger>(
     machine: &mut Machine<X>,
     profile: &mut Profile,
-    told: &mut Told,
+    statistics: &mut Statistics,
     until: StateTime,
     out: &mut TraceOut<S>,
     steps: &mut Steps<L>,
@@ -236,21 +236,21 @@ fn count<X: Extra + Drop, S: Sink, L: Ledger>(
     requires room { until ≤ 2 * max_states }
     requires fits { total profile.old + (until - machine.old.machine.time) < 2 ^ 64 }
     requires unbroken { out.old.failed ≡ false }
-    requires few { AreAllFew (2 ^ 64 - 2) told.old }
+    requires few { AreAllFew (2 ^ 64 - 2) statistics.old }
     ensures went { Went X.further until result machine.old (out_of S.written S.faults out.old) steps.old machine.new (out_of S.written S.faults out.new) steps.new }
-    ensures told { (first : Machine X) → Begins first → machine.old.machine ≡ (run_to X.further machine.old.machine.time first).machine → IsToldOf told.old.life (history X.further machine.old.machine.time first) told.old → OnOk result (IsToldOf told.old.life (history X.further machine.new.machine.time first) told.new) }
-    ensures few { (n : ℕ) → AreAllFew n told.old → AreAllFew (n + 1) told.new }
+    ensures statistics { (first : Machine X) → Begins first → machine.old.machine ≡ (run_to X.further machine.old.machine.time first).machine → AreStatisticsOf statistics.old.life (history X.further machine.old.machine.time first) statistics.old → OnOk result (AreStatisticsOf statistics.old.life (history X.further machine.new.machine.time first) statistics.new) }
+    ensures few { (n : ℕ) → AreAllFew n statistics.old → AreAllFew (n + 1) statistics.new }
     ensures profile { (before : List spots.Spot) → IsTallyOf before profile.old → IsTallyOf (before ++ replicate (machine.new.machine.time - machine.old.machine.time) (coming_spot machine.old.machine)) profile.new }
     ensures total { total profile.new ≡ total profile.old + (machine.new.machine.time - machine.old.machine.time) }
 {
     let activity = machine.current(steps);
     let spot = spot_of(activity.doing, machine.pc());
     let start = start_of(machine);
-    let passed = pass_told(machine, activity.left, until, out, steps);
+    let passed = pass_reported(machine, activity.left, until, out, steps);
     profile.add(spot, machine.now() - start.at);
     match passed {
         Ok(raised) => {
-            told.see(&sight_of(start, activity, raised, machine));
+            statistics.see(&sight_of(start, activity, raised, machine));
             Ok(())
         }
         Err(fault) => Err(fault),
@@ -258,14 +258,14 @@ fn count<X: Extra + Drop, S: Sink, L: Ledger>(
 }
 
 /// Runs a machine as `Machine::run` does, and adds to a profile where each state that passes goes, of which all are counted once,
-/// and to what is told what each state shows. Idle states are passed at once up to the next in which the units do something.
+/// and to the statistics what each state shows. Idle states are passed at once up to the next in which the units do something.
 ///
 /// After a fault of the sink the machine stands at the end of the activity, or of the idle state, in whose lines the sink failed,
 /// and the states up to there are counted.
 pub fn run_profiled<X: Extra + Drop, S: Sink, L: Ledger>(
     machine: &mut Machine<X>,
     profile: &mut Profile,
-    told: &mut Told,
+    statistics: &mut Statistics,
     until: StateTime,
     out: &mut TraceOut<S>,
     steps: &mut Steps<L>,
@@ -273,7 +273,7 @@ pub fn run_profiled<X: Extra + Drop, S: Sink, L: Ledger>(
     requires until { until ≤ 2 * max_states }
     requires unbroken { out.old.failed ≡ false }
     requires room { total profile.old + until < 2 ^ 64 }
-    requires few { AreAllFew (2 ^ 64 - 1 - until) told.old }
+    requires few { AreAllFew (2 ^ 64 - 1 - until) statistics.old }
     ensures end { IfOk result (λ end. end ≡ end_of (run_to X.further until machine.old.machine).machine) }
     ensures machine { OnOk result (machine.new.machine ≡ (run_to X.further until machine.old.machine).machine) }
     ensures lines { Puts (out_of S.written S.faults out.old) (text_of (run_to X.further until machine.old.machine).records) (out_of S.written S.faults out.new) }
@@ -289,14 +289,14 @@ pub fn run_profiled<X: Extra + Drop, S: Sink, L: Ledger>(
     ensures all { OnOk result (spots_for X.further (until - machine.old.machine.time) machine.old.machine ≡ spots_for X.further (machine.new.machine.time - machine.old.machine.time) machine.old.machine) }
     ensures passed { length (spots_for X.further (machine.new.machine.time - machine.old.machine.time) machine.old.machine) ≡ machine.new.machine.time - machine.old.machine.time }
     ensures total { total profile.new ≡ total profile.old + (machine.new.machine.time - machine.old.machine.time) }
-    ensures told { (first : Machine X) → Begins first → machine.old.machine ≡ (run_to X.further machine.old.machine.time first).machine → IsToldOf told.old.life (history X.further machine.old.machine.time first) told.old → OnOk result (IsToldOf told.old.life (history X.further machine.new.machine.time first) told.new) }
-    ensures few { (n : ℕ) → AreAllFew n told.old → AreAllFew (n + (machine.new.machine.time - machine.old.machine.time)) told.new }
+    ensures statistics { (first : Machine X) → Begins first → machine.old.machine ≡ (run_to X.further machine.old.machine.time first).machine → AreStatisticsOf statistics.old.life (history X.further machine.old.machine.time first) statistics.old → OnOk result (AreStatisticsOf statistics.old.life (history X.further machine.new.machine.time first) statistics.new) }
+    ensures few { (n : ℕ) → AreAllFew n statistics.old → AreAllFew (n + (machine.new.machine.time - machine.old.machine.time)) statistics.new }
 {
     while machine.now() < until {
         if let Some(end) = machine.ended() {
             return Ok(end);
         }
-        count(machine, profile, told, until, out, steps)?;
+        count(machine, profile, statistics, until, out, steps)?;
     }
     Ok(machine.ended().unwrap_or(End::Spent))
 }

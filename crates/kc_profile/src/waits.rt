@@ -16,7 +16,7 @@ pub struct Waiting {
     pub handed: Option<StateTime>,
 }
 
-/// What is told of one request.
+/// What a profile reports of one request.
 #[derive(Clone, Copy)]
 pub struct Waits {
     pub waiting: Waiting,
@@ -105,7 +105,7 @@ impl Waits {
         };
     }
 
-    /// Adds what is told of the request in a later life.
+    /// Adds what a later life reports of the request.
     pub(crate) fn add(&mut self, later: &Waits)
         requires few { AreFewWaits (2 ^ 63 - 1) self.old }
         requires later { AreFewWaits (2 ^ 63 - 1) later.now }
@@ -117,8 +117,8 @@ impl Waits {
     }
 
     /// Whether it was entered or served at all.
-    pub(crate) fn is_told(&self) -> bool
-        ensures { result ≡ spec.is_told self.now }
+    pub(crate) fn is_reported(&self) -> bool
+        ensures { result ≡ spec.is_reported self.now }
     {
         self.latency.is_some() || self.served.is_some()
     }

@@ -54,27 +54,27 @@ free_all (t ∷ ts) h =
 
 -- ---- statements
 
-abbrev is_told_said : Said → Bool
-is_told_said s = nat_lt 0 s.line && list_all is_public (option_to_list s.label ++ names_read s.action)
+abbrev is_reported_said : Said → Bool
+is_reported_said s = nat_lt 0 s.line && list_all is_public (option_to_list s.label ++ names_read s.action)
 
-all_reported : NamesStandOnTheLine → (ls : List Line) → list_all is_reported_line ls ≡ true → list_all is_told_said (all_said ls) ≡ true
+all_reported : NamesStandOnTheLine → (ls : List Line) → list_all is_reported_line ls ≡ true → list_all is_reported_said (all_said ls) ≡ true
 unfolding all_said
 all_reported law [] h = refl
 all_reported law (l ∷ ls) h =
     let both : (is_reported_line l ≡ true) × (list_all is_reported_line ls ≡ true) = and_parts (is_reported_line l) (list_all is_reported_line ls) h in
     let parts : (nat_lt 0 l.number ≡ true) × (list_all is_named l.tokens ≡ true) = and_parts (nat_lt 0 l.number) (list_all is_named l.tokens) both.0 in
-    let rest : list_all is_told_said (all_said ls) ≡ true = all_reported law ls both.1 in
-    let here : is_told_said (said l) ≡ true =
+    let rest : list_all is_reported_said (all_said ls) ≡ true = all_reported law ls both.1 in
+    let here : is_reported_said (said l) ≡ true =
     and_from (nat_lt 0 l.number) (list_all is_public (option_to_list (label_in l.tokens) ++ names_read (statement_in l.tokens))) parts.0 (law is_public l.tokens (free_all l.tokens parts.1)) in
-    elim (is_nil l.tokens) as (λ b. list_all is_told_said (cond b (all_said ls) (said l ∷ all_said ls)) ≡ true) [
+    elim (is_nil l.tokens) as (λ b. list_all is_reported_said (cond b (all_said ls) (said l ∷ all_said ls)) ≡ true) [
       | true ↦ rest
-      | false ↦ and_from (is_told_said (said l)) (list_all is_told_said (all_said ls)) here rest
+      | false ↦ and_from (is_reported_said (said l)) (list_all is_reported_said (all_said ls)) here rest
     ]
 
-back : (stmts : List Stmt) → list_all is_told_said (map stmt_said stmts) ≡ true → list_all is_reported stmts ≡ true
+back : (stmts : List Stmt) → list_all is_reported_said (map stmt_said stmts) ≡ true → list_all is_reported stmts ≡ true
 back [] h = refl
 back (s ∷ ss) h =
-    let both : (is_told_said (stmt_said s) ≡ true) × (list_all is_told_said (map stmt_said ss) ≡ true) = and_parts (is_told_said (stmt_said s)) (list_all is_told_said (map stmt_said ss)) h in
+    let both : (is_reported_said (stmt_said s) ≡ true) × (list_all is_reported_said (map stmt_said ss) ≡ true) = and_parts (is_reported_said (stmt_said s)) (list_all is_reported_said (map stmt_said ss)) h in
     and_from (is_reported s) (list_all is_reported ss) both.0 (back ss both.1)
 
 pub statements_are_reported : NamesStandOnTheLine → StatementsAreReported

@@ -3,7 +3,7 @@ pub mod Declared
 pub mod Trimmed
 pub mod Samples
 pub mod Written
-pub mod Told
+pub mod Reported
 pub mod Known
 pub mod Readings
 pub mod Described

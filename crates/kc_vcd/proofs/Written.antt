@@ -15,7 +15,7 @@ use Rattle.kc_vcd.specs.declared.change.Change.TheVariants.{Takes, Unseen}
 use Rattle.kc_vcd.specs.declared.variable.Variable.{Variable}
 use Rattle.kc_vcd.specs.Changes.{Timed, all_at, beginning, difference, differences, change_by, changes_by, end_by, later, behind, taken, before, after, with_values}
 use Rattle.kc_vcd.specs.Dump.{stamp, change_text, texts}
-use Rattle.kc_vcd.specs.Writing.{Written, with_changes, with_steps, HasPut, HasTold, HasChanged, IsSameLife}
+use Rattle.kc_vcd.specs.Writing.{Written, with_changes, with_steps, HasPut, HasReported, HasChanged, IsSameLife}
 use Rattle.kc_vcd.proofs.Samples.{taken_sooner, before_zero}
 
 -- ---- changes with their times
@@ -107,16 +107,16 @@ levels_over old new (v ∷ vs) at now none so_far = absurd (omega (arith, none))
 
 -- ---- steps
 
-pub told_none : (w : Written) → HasTold w [] w
-told_none w = λ more. refl
+pub reported_none : (w : Written) → HasReported w [] w
+reported_none w = λ more. refl
 
-pub told_more : (old mid new : Written) (first second : List Seen) → HasTold old first mid → HasTold mid second new → HasTold old (first ++ second) new
-told_more old mid new first second h k = λ more. k more ∙ h (second ++ more) ∙ ap (with_steps old) (sym (append_assoc first second more))
+pub reported_more : (old mid new : Written) (first second : List Seen) → HasReported old first mid → HasReported mid second new → HasReported old (first ++ second) new
+reported_more old mid new first second h k = λ more. k more ∙ h (second ++ more) ∙ ap (with_steps old) (sym (append_assoc first second more))
 
-pub told_begin : (old mid late : Written) (levels : Levels) → HasChanged old (all_at old.base (beginning old.first)) mid → IsSameLife old mid →
-    HasChanged mid (all_at old.base (differences mid.shown.variables (level_in mid.levels) (level_in levels))) late → IsSameLife mid late → HasTold old (Begins (level_in levels) ∷ []) (record late { first = false; levels = levels })
+pub reported_begin : (old mid late : Written) (levels : Levels) → HasChanged old (all_at old.base (beginning old.first)) mid → IsSameLife old mid →
+    HasChanged mid (all_at old.base (differences mid.shown.variables (level_in mid.levels) (level_in levels))) late → IsSameLife mid late → HasReported old (Begins (level_in levels) ∷ []) (record late { first = false; levels = levels })
 unfolding changes_by end_by
-told_begin old mid late levels first same second kept = λ more.
+reported_begin old mid late levels first same second kept = λ more.
     let base : late.base ≡ old.base = kept.base ∙ same.base in
     let shown : late.shown ≡ old.shown = kept.shown ∙ same.shown in
     let end = end_by old.base more in
@@ -129,16 +129,16 @@ told_begin old mid late levels first same second kept = λ more.
     ∙ ap (λ (all : List Timed). with_changes old end all) (sym (append_assoc (all_at old.base (beginning old.first)) (all_at old.base apart) rest))
     ∙ ap (λ (all : List Timed). with_changes old end (all ++ rest)) (sym (all_at-append old.base (beginning old.first) apart))
 
-pub told_pass : (old late : Written) (at : ℕ) (whats : List What) (levels : Levels) → HasChanged old (all_at (later old.base at) (map change_by whats)) late → IsSameLife old late →
-    ((signal : Signal) → level_in levels signal ≡ levels_after (level_in old.levels) whats signal) → HasTold old (Passes (record { at = at; whats = whats }) ∷ []) (record late { levels = levels })
+pub reported_pass : (old late : Written) (at : ℕ) (whats : List What) (levels : Levels) → HasChanged old (all_at (later old.base at) (map change_by whats)) late → IsSameLife old late →
+    ((signal : Signal) → level_in levels signal ≡ levels_after (level_in old.levels) whats signal) → HasReported old (Passes (record { at = at; whats = whats }) ∷ []) (record late { levels = levels })
 unfolding changes_by end_by
-told_pass old late at whats levels changed same after = λ more.
+reported_pass old late at whats levels changed same after = λ more.
     (λ i. with_changes late (end_by (same.base i) more) (changes_by (same.shown i).variables (same.first i) (same.base i) (λ signal. after signal i) more))
     ∙ changed (end_by old.base more) (changes_by old.shown.variables old.first old.base (levels_after (level_in old.levels) whats) more)
 
-pub told_end : (old : Written) (last : ℕ) → HasTold old (Ends last ∷ []) (record old { base = behind old.base last })
+pub reported_end : (old : Written) (last : ℕ) → HasReported old (Ends last ∷ []) (record old { base = behind old.base last })
 unfolding changes_by end_by
-told_end old last = λ more. refl
+reported_end old last = λ more. refl
 
 pub finished : (old mid new : Written) → HasPut old (taken (before old.base old.samples)) mid → HasPut mid (record { at = old.base; change = Unseen } ∷ []) new → new.text ≡ with_steps old []
 unfolding texts changes_by end_by with_values

@@ -47,7 +47,7 @@ difference old new _ = []
 unfoldable pub differences : List Variable → (Signal → Level) → (Signal → Level) → List Change
 differences variables old new = flat_map (difference old new) variables
 
--- a life begins; the first one of a run is not told
+-- a life begins; the first one of a run is no event
 abbrev pub beginning : Bool → List Change
 beginning true = []
 beginning false = Happens variable.Life ∷ []

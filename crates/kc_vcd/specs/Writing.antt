@@ -1,4 +1,4 @@
--- A dump that is written as its run is told (this kit's own).
+-- A dump that is written step by step (this kit's own).
 use Rattle.std.specs.Prelude.{◌≡◌, ℕ, Bool, true, List, ◌++◌}
 use Rattle.kc_life.specs.declared.levels.Levels.{Levels}
 use Rattle.kc_life.specs.Tables.{level_in}
@@ -37,7 +37,7 @@ with_changes w end changes = w.text ++ texts w.shown.length w.stamped (timed_to 
 abbrev pub with_steps : Written → List Seen → List ℕ
 with_steps w steps = with_changes w (end_by w.base steps) (changes_by w.shown.variables w.first w.base (level_in w.levels) steps)
 
--- nothing is told yet
+-- nothing is reported yet
 abbrev pub start_of : Kept → Written
 start_of shown = record {
   shown = shown;
@@ -54,9 +54,9 @@ abbrev pub HasPut : Written → List Timed → Written → Type 0
 HasPut old changes new =
     (more : List Timed) → new.text ++ texts new.shown.length new.stamped more ≡ old.text ++ texts old.shown.length old.stamped (changes ++ more)
 
--- these steps were told
-abbrev pub HasTold : Written → List Seen → Written → Type 0
-HasTold old steps new = (more : List Seen) → with_steps new more ≡ with_steps old (steps ++ more)
+-- these steps were reported
+abbrev pub HasReported : Written → List Seen → Written → Type 0
+HasReported old steps new = (more : List Seen) → with_steps new more ≡ with_steps old (steps ++ more)
 
 -- these changes came, with the values up to them
 abbrev pub HasChanged : Written → List Timed → Written → Type 0

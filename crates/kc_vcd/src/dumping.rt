@@ -1,4 +1,4 @@
-// A run as a value change dump, written as it is told.
+// A run as a value change dump, written as its steps are read.
 ghost use Rattle.std.specs.Prelude.{◌≡◌, ◌≤◌, ℕ, ◌∷◌, [], map, List, None, IfOk, IfSome, OnOk};
 ghost use Rattle.kc_base.specs.Series.{up_to};
 ghost use Rattle.kc_life.specs.Tables.{level_in};
@@ -10,7 +10,7 @@ ghost use Rattle.kc_vcd.specs.declared.variable.Variable.TheVariants.{Wire};
 ghost use Rattle.kc_vcd.specs.Changes.{beginning, difference, differences, all_at, change_by as change_of, later as later_by, behind as state_behind, taken, before, after};
 ghost use Rattle.kc_vcd.specs.Dump.{dump_of};
 ghost use Rattle.kc_vcd.specs.Dumped.{IsDumped, IfWrong, Counts};
-ghost use Rattle.kc_vcd.specs.Writing.{shown_in, start_of, with_steps, HasTold, HasPut, HasChanged, IsSameLife};
+ghost use Rattle.kc_vcd.specs.Writing.{shown_in, start_of, with_steps, HasReported, HasPut, HasChanged, IsSameLife};
 
 use crate::change::{Change, change_by, put_change};
 use crate::shown::Shown;
@@ -185,7 +185,7 @@ impl<'a> Writer<'a> {
         Ok(())
     }
 
-    // A life begins behind another one. The first one of a run is not told.
+    // A life begins behind another one. The first one of a run is no event.
     fn change_life(&mut self, at: StateTime) -> Result<(), NoMemory>
         ensures changed { OnOk result (HasChanged self.old (all_at at (beginning self.old.first)) self.new) }
         ensures same { OnOk result (IsSameLife self.old self.new) }
@@ -199,7 +199,7 @@ impl<'a> Writer<'a> {
 
     // A life begins, with these levels before its state 0.
     fn begin(&mut self, levels: &Levels) -> Result<(), NoMemory>
-        ensures { OnOk result (HasTold self.old (Begins (level_in levels.now) ∷ []) self.new) }
+        ensures { OnOk result (HasReported self.old (Begins (level_in levels.now) ∷ []) self.new) }
     {
         let base = self.base;
         self.change_life(base)?;
@@ -224,7 +224,7 @@ impl<'a> Writer<'a> {
 
     // A state of the life passes, in which this happens.
     fn pass(&mut self, at: StateTime, whats: &[What]) -> Result<(), NoMemory>
-        ensures { OnOk result (HasTold self.old (Passes (record { at = at; whats = whats.now }) ∷ []) self.new) }
+        ensures { OnOk result (HasReported self.old (Passes (record { at = at; whats = whats.now }) ∷ []) self.new) }
     {
         self.change_all(later(self.base, at), whats)?;
         self.levels.take_all(whats);
@@ -233,14 +233,14 @@ impl<'a> Writer<'a> {
 
     // The life ends behind its last state.
     fn end(&mut self, last: StateTime)
-        ensures { HasTold self.old (Ends last ∷ []) self.new }
+        ensures { HasReported self.old (Ends last ∷ []) self.new }
     {
         self.base = behind(self.base, last);
     }
 
-    // Takes a step that was just told.
+    // Takes the step that was just read.
     fn take<S: Source + Drop>(&mut self, step: Step, lives: &Lives<S>) -> Result<(), NoMemory>
-        ensures { OnOk result (HasTold self.old (seen_by step lives.now.course ∷ []) self.new) }
+        ensures { OnOk result (HasReported self.old (seen_by step lives.now.course ∷ []) self.new) }
     {
         match step {
             Step::Begins => self.begin(lives.levels())?,
@@ -300,10 +300,10 @@ fn ended(writer: Writer<'_>) -> Result<Vec<u8>, NoMemory>
     Ok(text)
 }
 
-// Tells a run to its end.
-fn tell<S: Source + Drop>(writer: &mut Writer<'_>, lives: &mut Lives<S>) -> Result<(), LivesFault>
+// Writes a run to its end.
+fn report<S: Source + Drop>(writer: &mut Writer<'_>, lives: &mut Lives<S>) -> Result<(), LivesFault>
     requires { lives.old.stopped ≡ None }
-    ensures told { OnOk result ((steps : List Seen) × AreToCome lives.old steps × HasTold writer.old steps writer.new) }
+    ensures reported { OnOk result ((steps : List Seen) × AreToCome lives.old steps × HasReported writer.old steps writer.new) }
     ensures wrong { IfWrong result (IsWrongAt lives.old) }
     ensures faults { Counts lives.old.trace.faults result lives.new.trace.faults }
 {
@@ -321,7 +321,7 @@ fn tell<S: Source + Drop>(writer: &mut Writer<'_>, lives: &mut Lives<S>) -> Resu
     Err(LivesFault::NoMemory)
 }
 
-// The dump of a run whose lives are told, to its end.
+// The dump of a run, to its end.
 fn dump_of_lives<S: Source + Drop>(
     alloc: Global,
     shown: &Shown,
@@ -335,7 +335,7 @@ fn dump_of_lives<S: Source + Drop>(
     let Ok(mut writer) = begun(alloc, shown) else {
         return Err(LivesFault::NoMemory);
     };
-    match tell(&mut writer, lives) {
+    match report(&mut writer, lives) {
         Ok(()) => match ended(writer) {
             Ok(text) => Ok(text),
             Err(NoMemory) => Err(LivesFault::NoMemory),

@@ -19,13 +19,13 @@ loop-low-preserved-then-branch c =
 pub loop-low-preserved : goal.loop-low-preserved
 unfolding IsHalved
 loop-low-preserved c =
-    let untold : Reports (with_first c.args.fault.0 (middle c.loop-low.low c.loop-low.high) c.args.text.now) c.args.fault false = rw c.if-branch.false at c.in_ok-reports_with.ensures in
+    let unreported : Reports (with_first c.args.fault.0 (middle c.loop-low.low c.loop-low.high) c.args.text.now) c.args.fault false = rw c.if-branch.false at c.in_ok-reports_with.ensures in
     record {
       below = omega arith;
       within = c.loop-low.invariant.within;
       with = c.loop-low.invariant.with;
-      without = untold;
-      halved = λ k rounds h. c.loop-low.invariant.halved k (suc rounds) (c.loop-low-test.true, inr (untold, h));
+      without = unreported;
+      halved = λ k rounds h. c.loop-low.invariant.halved k (suc rounds) (c.loop-low-test.true, inr (unreported, h));
     }
 
 pub returns : goal.returns

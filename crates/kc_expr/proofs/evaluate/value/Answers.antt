@@ -1,6 +1,6 @@
 use Rattle.std.proofs.Common.{Err, sym, ap, ◌∙◌}
 use Rattle.kc_expr.specs.Tree.{tree_of}
-use Rattle.kc_expr.proofs.UntoldLemmas.{never_reported}
+use Rattle.kc_expr.proofs.UnreportedLemmas.{never_reported}
 use Rattle.kc_expr.proofs.evaluate.value.Goals as goal
 
 pub unreachable-requires : goal.unreachable-requires

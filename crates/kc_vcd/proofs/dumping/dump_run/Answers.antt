@@ -1,4 +1,4 @@
-use Rattle.kc_vcd.proofs.Told.{run_dumped}
+use Rattle.kc_vcd.proofs.Reported.{run_dumped}
 use Rattle.kc_vcd.proofs.dumping.dump_run.Goals as goal
 
 pub returns-clause-answer : goal.returns-clause-answer

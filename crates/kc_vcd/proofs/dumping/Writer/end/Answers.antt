@@ -1,7 +1,7 @@
 use Rattle.std.proofs.Common.{◌∷◌, drop, ap, ◌∙◌}
 use Rattle.kc_events.specs.Steps.{Ends}
 use Rattle.kc_vcd.specs.Writing.{Written, with_steps}
-use Rattle.kc_vcd.proofs.Written.{told_end}
+use Rattle.kc_vcd.proofs.Written.{reported_end}
 use Rattle.kc_vcd.proofs.dumping.Writer.end.Goals as goal
 
 pub returns : goal.returns
@@ -16,5 +16,5 @@ returns c = λ more.
       samples = drop c.self.inside.taken c.self.inside.shown.now.samples;
     } in
     (λ i. with_steps (record w { base = c.behind-self-inside.ensures i }) more)
-    ∙ told_end w c.args.last more
+    ∙ reported_end w c.args.last more
     ∙ ap (λ (v : Written). with_steps v (Ends c.args.last ∷ more)) c.self.view_is

@@ -1,4 +1,4 @@
--- What is told of one state time of a machine (this kit's own).
+-- One state time of a machine, with the requests that its units raise (this kit's own).
 use Rattle.std.specs.Prelude.{◌≡◌, ℕ, ◌+◌, ◌*◌, ◌<◌, ◌≤◌, IfOk, OnOk, OnErr, Result}
 use Rattle.kc_base.specs.declared.types.IntSet.{IntSet}
 use Rattle.kc_extra.specs.Further.{Further}
@@ -17,7 +17,7 @@ use Rattle.kc_machine.specs.Seen.{machine_of}
 abbrev pub raised_in : {X : Type 0} → Further X → Machine X → ℕ
 raised_in f m = raised_at m.time m.board.units ∪ (further_out_at f m.time m.board.units).raised.0
 
--- the parts have gone on by one state, of which is told which requests were raised; or, where the sink has failed, to the end of
+-- the parts have gone on by one state, with the requests that were raised in it; or, where the sink has failed, to the end of
 -- the activity, or to this state if that comes first
 pub record StepsAs {X : Type 0} {d : extra.Ghosts X} (f : Further X) (until : ℕ) (result : Result IntSet WriteFault) (old new : Core X d) (o p : Out) (steps_before steps_after : ℕ) : Type 0 where
   pub forward : old.time < new.time

@@ -1,10 +1,10 @@
 use Rattle.std.proofs.Common.{◌≡◌, ◌+◌, ◌++◌, length}
-use Rattle.kc_profile.specs.Telling as spec
-use Rattle.kc_profile.proofs.telling.put_all_missed.Given as goal
+use Rattle.kc_profile.specs.StatisticsText as spec
+use Rattle.kc_profile.proofs.statistics_text.put_services.Given as goal
 
 abbrev pub invariant-loop-left : goal.invariant-loop-left
 invariant-loop-left l = record {
-  goes_on : l.text.items ++ spec.missed_lines l.n l.left ≡ l.initial.text.items ++ spec.missed_lines 0 l.fn.waits;
+  goes_on : l.text.items ++ spec.served_lines l.n l.scope l.left ≡ l.initial.text.items ++ spec.served_lines 0 l.scope l.fn.waits;
   count : l.n + length l.left ≡ length l.fn.waits;
 }
 

@@ -1,4 +1,4 @@
--- A Tick leaves the pending requests as they are, but for those that it adds: where none is pending, it tells which it raises.
+-- A Tick leaves the pending requests as they are, but for those that it adds: where none is pending, these are the ones that it raises.
 use Rattle.std.proofs.Common.{◌≡◌, ℕ, zero, suc, ◌+◌, ◌-◌, ◌*◌, ◌<◌, ◌≤◌, List, Option, None, refl, sym, ◌∙◌, ap, subst, arith}
 use Rattle.std.proofs.lemmas.Nat.{and_le_l, or_comm, or_disjoint}
 use Rattle.std.specs.Prelude.{bit_and, bit_or}
@@ -23,7 +23,7 @@ use Rattle.kc_machine.specs.declared.parts.Core.{Core}
 use Rattle.kc_machine.specs.Bus.{held_of}
 use Rattle.kc_machine.specs.Passing.{ticks_to, GoesAs}
 use Rattle.kc_machine.specs.Seen.{machine_of}
-use Rattle.kc_machine.specs.Telling.{raised_in}
+use Rattle.kc_machine.specs.Raising.{raised_in}
 
 zero-or : (n : ℕ) → bit_or 0 n ≡ n
 zero-or n = let none : bit_and 0 n ≤ 0 = and_le_l 0 n in or_disjoint 0 n (omega (arith, none))

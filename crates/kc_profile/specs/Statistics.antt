@@ -1,19 +1,19 @@
--- What a run tells besides where its states went: of its requests, of its stack, and of the instructions that it has done (this kit's
+-- The statistics of a run: of its requests, of its stack, and of the instructions that it has done (this kit's
 -- own). Of states the last comes first.
 use Rattle.std.specs.Prelude.{◌≡◌, ℕ, zero, suc, ◌+◌, ◌<◌, ◌≤◌, ◌==◌, nat_le, ◌^◌, Bool, true, false, ◌&&◌, if◌then◌else◌, List, [], ◌∷◌, ◌++◌, length, count_by, slice_index, slice_index_or, slice_set, Option, Some, None, All}
 use Rattle.kc_profile.specs.declared.sight.Sight.{Sight}
 use Rattle.kc_profile.specs.declared.sight.Way.{Way}
 use Rattle.kc_profile.specs.declared.sight.Way.TheVariants.{Taken, Passed}
 use Rattle.kc_profile.specs.declared.spread.Moment.{Moment}
-use Rattle.kc_profile.specs.declared.told.Depth.{Depth}
+use Rattle.kc_profile.specs.declared.statistics.Depth.{Depth}
 use Rattle.kc_profile.specs.declared.waits.Waits.{Waits}
 use Rattle.kc_profile.specs.Sights.{hits, way, moves_stack}
 use Rattle.kc_profile.specs.Waits.{AreFewWaits, AreWaitsOf, added, came, handed_after, latencies, missed, moment, no_waits, pending_after, see, services}
 use Rattle.kc_profile.specs.Spreads.{spread_of}
 
--- what is told: of each of the 16 requests, the least value to which the stack pointer was moved, and for each address how often an
+-- statistics: of each of the 16 requests, the least value to which the stack pointer was moved, and for each address how often an
 -- instruction was done there, and how often a conditional jump was taken and how often not
-pub record Told : Type 0 where
+pub record Statistics : Type 0 where
   pub life : ℕ
   pub waits : List Waits
   pub deepest : Option Depth
@@ -21,19 +21,19 @@ pub record Told : Type 0 where
   pub taken : List ℕ
   pub passed : List ℕ
 
--- what is told of a request
-abbrev pub waits_at : Told → ℕ → Waits
+-- what is reported of a request
+abbrev pub waits_at : Statistics → ℕ → Waits
 waits_at t n = slice_index_or t.waits n no_waits
 
 -- there is a number for each address
-pub record IsWhole (t : Told) : Type 0 where
+pub record IsWhole (t : Statistics) : Type 0 where
   pub waits : length t.waits ≡ 16
   pub hits : length t.hits ≡ 65536
   pub taken : length t.taken ≡ 65536
   pub passed : length t.passed ≡ 65536
 
 -- no count is more than a limit
-pub record AreAllFew (limit : ℕ) (t : Told) : Type 0 where
+pub record AreAllFew (limit : ℕ) (t : Statistics) : Type 0 where
   pub waits : All (AreFewWaits limit) t.waits
   pub hits : All (λ n. n ≤ limit) t.hits
   pub taken : All (λ n. n ≤ limit) t.taken
@@ -69,8 +69,8 @@ deepest life (s ∷ earlier) = if moves_stack s then Some (deeper (deepest life 
 
 -- ---- all of it
 
--- what is told of some states of a life
-pub record IsToldOf (life : ℕ) (sights : List Sight) (t : Told) : Type 0 where
+-- the statistics of some states of a life
+pub record AreStatisticsOf (life : ℕ) (sights : List Sight) (t : Statistics) : Type 0 where
   pub whole : IsWhole t
   pub waits : (n : ℕ) → n < 16 → AreWaitsOf n life sights (waits_at t n)
   pub deepest : t.deepest ≡ deepest life sights
@@ -85,18 +85,18 @@ abbrev pub counted_at : Bool → ℕ → List ℕ → List ℕ
 counted_at false addr numbers = numbers
 counted_at true addr numbers = slice_set numbers addr (slice_index numbers addr + 1)
 
-abbrev pub with_instructions : Sight → Told → Told
+abbrev pub with_instructions : Sight → Statistics → Statistics
 with_instructions s t = record t {
   hits = counted_at (hits s) s.pc t.hits;
   taken = counted_at (goes (way s) Taken) s.pc t.taken;
   passed = counted_at (goes (way s) Passed) s.pc t.passed;
 }
 
-abbrev pub with_stack : Sight → Told → Told
+abbrev pub with_stack : Sight → Statistics → Statistics
 with_stack s t = record t { deepest = if moves_stack s then Some (deeper t.deepest (depth t.life s)) else t.deepest }
 
 -- each of the first so many requests has seen a state, and the others have not
-pub record HaveSeen (s : Sight) (count : ℕ) (old new : Told) : Type 0 where
+pub record HaveSeen (s : Sight) (count : ℕ) (old new : Statistics) : Type 0 where
   pub life : new.life ≡ old.life
   pub length : length new.waits ≡ length old.waits
   pub first : (n : ℕ) → n < count → waits_at new n ≡ see n old.life s (waits_at old n)
@@ -121,8 +121,8 @@ unfoldable pub values_for : {A : Type 0} → (ℕ → A) → ℕ → List A
 values_for value zero = []
 values_for value (suc n) = values_for value n ++ value n ∷ []
 
-abbrev pub told_of : ℕ → List Sight → Told
-told_of life sights = record {
+abbrev pub statistics_of : ℕ → List Sight → Statistics
+statistics_of life sights = record {
   life = life;
   waits = values_for (λ n. waits_of n life sights) 16;
   deepest = deepest life sights;
@@ -145,8 +145,8 @@ unfoldable pub all_added : List Waits → List Waits → List Waits
 all_added (w ∷ ws) (v ∷ vs) = added w v ∷ all_added ws vs
 all_added _ _ = []
 
--- what is told of a life, or of lives, and of a later one
-abbrev pub with_life : Told → Told → Told
+-- the statistics of a life, or of lives, and of a later one
+abbrev pub with_life : Statistics → Statistics → Statistics
 with_life t later = record {
   life = t.life;
   waits = all_added t.waits later.waits;
@@ -156,10 +156,10 @@ with_life t later = record {
   passed = sums t.passed later.passed;
 }
 
-unfoldable pub with_lives : Told → ℕ → List (List Sight) → Told
+unfoldable pub with_lives : Statistics → ℕ → List (List Sight) → Statistics
 with_lives t life [] = t
-with_lives t life (sights ∷ more) = with_lives (with_life t (told_of life sights)) (life + 1) more
+with_lives t life (sights ∷ more) = with_lives (with_life t (statistics_of life sights)) (life + 1) more
 
--- what lives tell together, the first of which has this number
-abbrev pub told_of_lives : ℕ → List (List Sight) → Told
-told_of_lives life lives = with_lives (told_of life []) life lives
+-- the statistics of lives together, the first of which has this number
+abbrev pub statistics_of_lives : ℕ → List (List Sight) → Statistics
+statistics_of_lives life lives = with_lives (statistics_of life []) life lives

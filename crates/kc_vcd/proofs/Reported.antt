@@ -1,4 +1,4 @@
--- The steps of a run, as they are told to a dump.
+-- The steps of a run, as they are reported to a dump.
 use Rattle.std.proofs.Common.{◌≡◌, ℕ, Option, None, Result, Ok, Err, List, [], ◌∷◌, ◌++◌, IfOk, refl, sym, ap, subst, ◌∙◌, append_assoc, append-nil}
 use Rattle.std.specs.Global.{Vec}
 use Rattle.kc_stim.specs.Drives.{Drives}
@@ -10,21 +10,21 @@ use Rattle.kc_events.specs.Steps.{Seen}
 use Rattle.kc_events.specs.Reporting.{Reporting, AreToCome, AreStepsOf, IsBehind, IsFirstWrongIn, IsWrongAt}
 use Rattle.kc_vcd.specs.Dump.{shown_of, dump_of}
 use Rattle.kc_vcd.specs.Dumped.{IsDumped, IfWrong, Counts}
-use Rattle.kc_vcd.specs.Writing.{Kept, shown_in, Written, start_of, with_steps, HasTold}
-use Rattle.kc_vcd.proofs.Written.{told_none, told_more}
+use Rattle.kc_vcd.specs.Writing.{Kept, shown_in, Written, start_of, with_steps, HasReported}
+use Rattle.kc_vcd.proofs.Written.{reported_none, reported_more}
 
--- the steps that have passed were told, and the source has not failed
+-- the steps that have passed were reported, and the source has not failed
 pub record HasComeTo (old : Reporting) (v : Written) (new : Reporting) (w : Written) : Type 0 where
   pub going : new.stopped ≡ None
   pub faults : new.trace.faults ≡ old.trace.faults
   pub passed : List Seen
   pub behind : IsBehind old passed new
-  pub told : HasTold v passed w
+  pub reported : HasReported v passed w
 
 pub started : (t : Reporting) (v : Written) → t.stopped ≡ None → HasComeTo t v t v
-started t v going = record { going = going; faults = refl; passed = []; behind = record { steps = λ steps h. h; wrong = λ line w. w }; told = told_none v }
+started t v going = record { going = going; faults = refl; passed = []; behind = record { steps = λ steps h. h; wrong = λ line w. w }; reported = reported_none v }
 
-pub one_step : (old : Reporting) (v : Written) (mid : Reporting) (w : Written) (new : Reporting) (x : Written) (step : Seen) → HasComeTo old v mid w → IsBehind mid (step ∷ []) new → HasTold w (step ∷ []) x →
+pub one_step : (old : Reporting) (v : Written) (mid : Reporting) (w : Written) (new : Reporting) (x : Written) (step : Seen) → HasComeTo old v mid w → IsBehind mid (step ∷ []) new → HasReported w (step ∷ []) x →
     new.stopped ≡ None → new.trace.faults ≡ mid.trace.faults → HasComeTo old v new x
 one_step old v mid w new x step h gave now going calm = record {
   going = going;
@@ -34,16 +34,16 @@ one_step old v mid w new x step h gave now going calm = record {
     steps = λ steps t. subst (λ all. AreToCome old all) (sym (append_assoc h.passed (step ∷ []) steps)) (h.behind.steps (step ∷ steps) (gave.steps steps t));
     wrong = λ line wrong. h.behind.wrong line (gave.wrong line wrong);
   };
-  told = told_more v w x h.passed (step ∷ []) h.told now;
+  reported = reported_more v w x h.passed (step ∷ []) h.reported now;
 }
 
-pub all_steps : (old : Reporting) (v : Written) (mid : Reporting) (w : Written) → HasComeTo old v mid w → AreToCome mid [] → (steps : List Seen) × AreToCome old steps × HasTold v steps w
-all_steps old v mid w h none = (h.passed, subst (λ all. AreToCome old all) (append-nil h.passed) (h.behind.steps [] none), h.told)
+pub all_steps : (old : Reporting) (v : Written) (mid : Reporting) (w : Written) → HasComeTo old v mid w → AreToCome mid [] → (steps : List Seen) × AreToCome old steps × HasReported v steps w
+all_steps old v mid w h none = (h.passed, subst (λ all. AreToCome old all) (append-nil h.passed) (h.behind.steps [] none), h.reported)
 
--- the text of a dump to which all steps were told
-pub dumped_all : (shown : Kept) (v w : Written) (steps : List Seen) (text : List ℕ) → v ≡ start_of shown → HasTold v steps w → text ≡ with_steps w [] → text ≡ dump_of (shown_in shown) steps
-dumped_all shown v w steps text start told all =
-    all ∙ told [] ∙ ap (with_steps v) (append-nil steps) ∙ ap (λ (u : Written). with_steps u steps) start
+-- the text of a dump to which all steps were reported
+pub dumped_all : (shown : Kept) (v w : Written) (steps : List Seen) (text : List ℕ) → v ≡ start_of shown → HasReported v steps w → text ≡ with_steps w [] → text ≡ dump_of (shown_in shown) steps
+dumped_all shown v w steps text start reported all =
+    all ∙ reported [] ∙ ap (with_steps v) (append-nil steps) ∙ ap (λ (u : Written). with_steps u steps) start
 
 -- ---- the run of a source
 

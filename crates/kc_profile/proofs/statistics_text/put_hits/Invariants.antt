@@ -1,6 +1,6 @@
 use Rattle.std.proofs.Common.{◌≡◌, ◌+◌, ◌++◌, length}
-use Rattle.kc_profile.specs.Telling as spec
-use Rattle.kc_profile.proofs.telling.put_hits.Given as goal
+use Rattle.kc_profile.specs.StatisticsText as spec
+use Rattle.kc_profile.proofs.statistics_text.put_hits.Given as goal
 
 abbrev pub invariant-loop-left : goal.invariant-loop-left
 invariant-loop-left l = record {

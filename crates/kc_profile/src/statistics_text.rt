@@ -1,10 +1,10 @@
-// The text of what a run tells besides where its states went.
+// The text of the statistics of a run.
 ghost use Rattle.std.specs.Prelude.{◌≡◌, ◌++◌, ◌≤◌, ◌<◌, ◌^◌, length, OnOk};
 ghost use Rattle.kc_profile.specs.Text.{unless_none};
-ghost use Rattle.kc_profile.specs.Telling as spec;
+ghost use Rattle.kc_profile.specs.StatisticsText as spec;
 
 use crate::spread::{Moment, Spread};
-use crate::told::{Depth, Told};
+use crate::statistics::{Depth, Statistics};
 use crate::waits::Waits;
 use kc_base::{NoMemory, put_number};
 use kc_trace::address_text;
@@ -57,7 +57,7 @@ fn put_hit(text: &mut Vec<u8>, addr: u16, hits: u64) -> Result<(), NoMemory>
 }
 
 // Puts the lines of addresses, from 0 on.
-#[tactic(auto, unfolding(crate::specs::Telling::hit_lines))]
+#[tactic(auto, unfolding(crate::specs::StatisticsText::hit_lines))]
 fn put_hits(text: &mut Vec<u8>, hits: &[u64]) -> Result<(), NoMemory>
     requires { length hits.now ≤ 65536 }
     ensures { OnOk result (text.new.items ≡ text.old.items ++ spec.hit_lines 0 hits.now) }
@@ -98,7 +98,7 @@ fn put_spread(
 }
 
 // Puts the lines of the latency of each request.
-#[tactic(auto, unfolding(crate::specs::Telling::latency_lines))]
+#[tactic(auto, unfolding(crate::specs::StatisticsText::latency_lines))]
 fn put_latencies(text: &mut Vec<u8>, waits: &[Waits], scope: Scope) -> Result<(), NoMemory>
     requires { length waits.now ≤ 16 }
     ensures { OnOk result (text.new.items ≡ text.old.items ++ spec.latency_lines 0 scope waits.now) }
@@ -114,7 +114,7 @@ fn put_latencies(text: &mut Vec<u8>, waits: &[Waits], scope: Scope) -> Result<()
 }
 
 // Puts the lines of how long each request waited for the transfer server.
-#[tactic(auto, unfolding(crate::specs::Telling::served_lines))]
+#[tactic(auto, unfolding(crate::specs::StatisticsText::served_lines))]
 fn put_services(text: &mut Vec<u8>, waits: &[Waits], scope: Scope) -> Result<(), NoMemory>
     requires { length waits.now ≤ 16 }
     ensures { OnOk result (text.new.items ≡ text.old.items ++ spec.served_lines 0 scope waits.now) }
@@ -133,7 +133,7 @@ fn put_services(text: &mut Vec<u8>, waits: &[Waits], scope: Scope) -> Result<(),
 fn put_missed(text: &mut Vec<u8>, n: u64, waits: &Waits) -> Result<(), NoMemory>
     ensures { OnOk result (text.new.items ≡ text.old.items ++ spec.missed_line n waits.now) }
 {
-    if waits.missed == 0 || !waits.is_told() {
+    if waits.missed == 0 || !waits.is_reported() {
         return Ok(());
     }
     text.extend_from_slice(b"missed")?;
@@ -144,7 +144,7 @@ fn put_missed(text: &mut Vec<u8>, n: u64, waits: &Waits) -> Result<(), NoMemory>
 }
 
 // Puts the lines of how often each request was raised while it was pending.
-#[tactic(auto, unfolding(crate::specs::Telling::missed_lines))]
+#[tactic(auto, unfolding(crate::specs::StatisticsText::missed_lines))]
 fn put_all_missed(text: &mut Vec<u8>, waits: &[Waits]) -> Result<(), NoMemory>
     requires { length waits.now ≤ 16 }
     ensures { OnOk result (text.new.items ≡ text.old.items ++ spec.missed_lines 0 waits.now) }
@@ -175,13 +175,13 @@ fn put_depth(text: &mut Vec<u8>, deepest: Option<Depth>, scope: Scope) -> Result
     Ok(())
 }
 
-impl Told {
-    /// Puts what a run tells behind a text.
+impl Statistics {
+    /// Puts the statistics of a run behind a text.
     ///
     /// `hit HHHH TIMES`, `latency NUMBER COUNT MIN MAX AT`, `served NUMBER COUNT MIN MAX AT`, `missed NUMBER COUNT` and `stack HHHH
     /// AT`, in this order, and each by rising address or number; over several lives ` life NUMBER` stands behind AT.
     pub(crate) fn put(&self, text: &mut Vec<u8>, scope: Scope) -> Result<(), NoMemory>
-        ensures { OnOk result (text.new.items ≡ text.old.items ++ spec.told_text scope self.now) }
+        ensures { OnOk result (text.new.items ≡ text.old.items ++ spec.statistics_text scope self.now) }
     {
         put_hits(text, self.hits.as_slice())?;
         put_latencies(text, self.waits.as_slice(), scope)?;

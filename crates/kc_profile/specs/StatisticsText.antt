@@ -1,15 +1,15 @@
--- The text of what a run tells besides where its states went (this kit's own).
+-- The text of the statistics of a run (this kit's own).
 use Rattle.std.specs.Prelude.{ℕ, ◌+◌, ◌==◌, Bool, true, false, ◌||◌, not, if◌then◌else◌, List, [], ◌∷◌, ◌++◌, codes, decimal, Option, Some, None}
 use Rattle.kc_trace.specs.Text.{hex}
 use Rattle.kc_profile.specs.declared.spread.Moment.{Moment}
 use Rattle.kc_profile.specs.declared.spread.Spread.{Spread}
-use Rattle.kc_profile.specs.declared.telling.Scope.{Scope}
-use Rattle.kc_profile.specs.declared.telling.Scope.TheVariants as scope
-use Rattle.kc_profile.specs.declared.told.Depth.{Depth}
+use Rattle.kc_profile.specs.declared.statistics_text.Scope.{Scope}
+use Rattle.kc_profile.specs.declared.statistics_text.Scope.TheVariants as scope
+use Rattle.kc_profile.specs.declared.statistics.Depth.{Depth}
 use Rattle.kc_profile.specs.declared.waits.Waits.{Waits}
 use Rattle.kc_profile.specs.Text.{unless_none}
-use Rattle.kc_profile.specs.Told.{Told}
-use Rattle.kc_profile.specs.Waits.{is_told}
+use Rattle.kc_profile.specs.Statistics.{Statistics}
+use Rattle.kc_profile.specs.Waits.{is_reported}
 
 abbrev pub behind : ℕ → List ℕ
 behind number = codes " " ++ decimal number
@@ -44,7 +44,7 @@ served_lines n scope [] = []
 served_lines n scope (w ∷ more) = spread_line (codes "served") n scope w.served ++ served_lines (n + 1) scope more
 
 abbrev pub missed_line : ℕ → Waits → List ℕ
-missed_line n w = if w.missed == 0 || not (is_told w) then [] else codes "missed" ++ behind n ++ behind w.missed ++ codes "\n"
+missed_line n w = if w.missed == 0 || not (is_reported w) then [] else codes "missed" ++ behind n ++ behind w.missed ++ codes "\n"
 
 unfoldable pub missed_lines : ℕ → List Waits → List ℕ
 missed_lines n [] = []
@@ -58,6 +58,6 @@ stack_line scope (Some depth) = codes "stack " ++ hex 4 depth.word ++ when_text 
 
 -- ---- the whole text
 
-abbrev pub told_text : Scope → Told → List ℕ
-told_text scope t =
+abbrev pub statistics_text : Scope → Statistics → List ℕ
+statistics_text scope t =
     hit_lines 0 t.hits ++ latency_lines 0 scope t.waits ++ served_lines 0 scope t.waits ++ missed_lines 0 t.waits ++ stack_line scope t.deepest

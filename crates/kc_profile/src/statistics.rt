@@ -1,8 +1,8 @@
-// What a run tells of its requests, of its stack, and of the instructions that it has done.
+// The statistics of a run: of its requests, of its stack, and of the instructions that it has done.
 ghost use Rattle.std.specs.Prelude.{◌≡◌, ◌+◌, ◌-◌, ◌<◌, ◌≤◌, ◌^◌, ◌∷◌, [], ℕ, List, IfOk, length, slice_index, slice_set, All};
 ghost use Rattle.kc_profile.specs.declared.sight.Sight as sights;
-ghost use Rattle.kc_profile.specs.Told.{AreAllFew, HaveSeen, IsToldOf, waits_at};
-ghost use Rattle.kc_profile.specs.Told as spec;
+ghost use Rattle.kc_profile.specs.Statistics.{AreAllFew, HaveSeen, AreStatisticsOf, waits_at};
+ghost use Rattle.kc_profile.specs.Statistics as spec;
 ghost use Rattle.kc_profile.specs.Waits.{see, AreConsecutive};
 
 use crate::sight::{Sight, Way};
@@ -22,9 +22,9 @@ pub struct Depth {
     pub when: Moment,
 }
 
-/// What a run tells of its requests, of its stack, and of the instructions that it has done.
+/// The statistics of a run: of its requests, of its stack, and of the instructions that it has done.
 #[derive(Drop)]
-pub struct Told {
+pub struct Statistics {
     /// The number of the present life, from 1.
     pub(crate) life: u16,
     pub(crate) waits: [Waits; 16],
@@ -35,10 +35,10 @@ pub struct Told {
     pub(crate) passed: Vec<u64>,
 }
 
-impl Model for Told {
-    ghost use Rattle.kc_profile.specs.Told.{Told, IsWhole};
+impl Model for Statistics {
+    ghost use Rattle.kc_profile.specs.Statistics.{Statistics, IsWhole};
 
-    ghost Value = { Told };
+    ghost Value = { Statistics };
 
     ghost view = { λ t. record { life = t.life; waits = t.waits; deepest = t.deepest; hits = t.hits.items; taken = t.taken.items; passed = t.passed.items } };
 
@@ -76,13 +76,13 @@ fn deeper(first: Option<Depth>, second: Depth) -> Depth
     }
 }
 
-impl Told {
+impl Statistics {
     /// Of a life with this number of which no state has passed.
-    pub fn new(alloc: Global, life: u16) -> Result<Told, NoMemory>
-        ensures told { IfOk result (λ told. IsToldOf life [] told) }
-        ensures few { IfOk result (λ told. AreAllFew 0 told) }
+    pub fn new(alloc: Global, life: u16) -> Result<Statistics, NoMemory>
+        ensures statistics { IfOk result (λ statistics. AreStatisticsOf life [] statistics) }
+        ensures few { IfOk result (λ statistics. AreAllFew 0 statistics) }
     {
-        Ok(Told {
+        Ok(Statistics {
             life,
             waits: [Waits::none(); 16],
             deepest: None,
@@ -95,7 +95,7 @@ impl Told {
     // Takes what a state shows of the instructions.
     fn see_instructions(&mut self, sight: &Sight)
         requires few { AreAllFew (2 ^ 64 - 2) self.old }
-        ensures told { self.new ≡ spec.with_instructions sight.now self.old }
+        ensures statistics { self.new ≡ spec.with_instructions sight.now self.old }
     {
         if sight.hits() {
             count(&mut self.hits, sight.pc);
@@ -109,7 +109,7 @@ impl Told {
 
     // Takes what a state shows of the stack.
     fn see_stack(&mut self, sight: &Sight)
-        ensures told { self.new ≡ spec.with_stack sight.now self.old }
+        ensures statistics { self.new ≡ spec.with_stack sight.now self.old }
     {
         if sight.moves_stack() {
             let depth = Depth {
@@ -139,7 +139,7 @@ impl Told {
         requires few { AreAllFew (2 ^ 64 - 2) self.old }
         ensures life { self.new.life ≡ self.old.life }
         ensures waits { (n : ℕ) → n < 16 → waits_at self.new n ≡ see n self.old.life sight.now (waits_at self.old n) }
-        ensures told { (sights : List sights.Sight) → AreConsecutive sight.now sights → IsToldOf self.old.life sights self.old → IsToldOf self.old.life (sight.now ∷ sights) self.new }
+        ensures statistics { (sights : List sights.Sight) → AreConsecutive sight.now sights → AreStatisticsOf self.old.life sights self.old → AreStatisticsOf self.old.life (sight.now ∷ sights) self.new }
         ensures few { (n : ℕ) → AreAllFew n self.old → AreAllFew (n + 1) self.new }
     {
         self.see_instructions(sight);
@@ -147,8 +147,8 @@ impl Told {
         self.see_requests(sight);
     }
 
-    /// Adds what a later life tells.
-    pub fn add(&mut self, later: &Told)
+    /// Adds those of a later life.
+    pub fn add(&mut self, later: &Statistics)
         requires few { AreAllFew (2 ^ 63 - 1) self.old }
         requires later { AreAllFew (2 ^ 63 - 1) later.now }
         ensures { self.new ≡ spec.with_life self.old later.now }

@@ -1,4 +1,4 @@
-// One state time, of which is told which requests the units raise in it.
+// One state time, with the requests that the units raise in it.
 ghost use Rattle.std.specs.Prelude.{◌≡◌, ◌≤◌, ◌<◌, ◌+◌, ◌-◌, ◌*◌, IfOk, OnOk, OnErr, None, false};
 ghost use Rattle.kc_base.specs.Limits.{max_states};
 ghost use Rattle.kc_trace.specs.Trace.{out_of};
@@ -7,7 +7,7 @@ ghost use Rattle.kc_machine_spec.specs.Passing.{left_at, whole};
 ghost use Rattle.kc_machine.specs.Failing.{FailsIn};
 ghost use Rattle.kc_machine.specs.Passing.{ticks_to, GoesAs, MayPass, PassesAs};
 ghost use Rattle.kc_machine.specs.Sound.{IsGoing, IsPredecoded};
-ghost use Rattle.kc_machine.specs.Telling.{raised_in, StepsAs};
+ghost use Rattle.kc_machine.specs.Raising.{raised_in, StepsAs};
 
 use crate::parts::Core;
 use crate::passing::put_last;
