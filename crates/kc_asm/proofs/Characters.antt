@@ -6,7 +6,7 @@ use Rattle.kc_expr.specs.Tree.{Tree, Number, Chars, Name, Here, One, Two}
 use Rattle.kc_source_statement.specs.declared.statement.Stmt.{Stmt}
 use Rattle.kc_source_statement.specs.Trees.{action_tree}
 use Rattle.kc_asm_symbols.specs.Externals.{action_trees}
-use Rattle.kc_link_source_laws.specs.Characters.{are_bytes, has_bytes}
+use Rattle.kc_asm.specs.Characters.{are_bytes, has_bytes}
 use Rattle.kc_source_laws.specs.Strings.{strings_pass, items_pass, action_passes}
 use Rattle.kc_source_laws.specs.Lines as lines
 use Rattle.kc_source_laws.specs.Lines.{is_good_statement, is_line_of}

@@ -16,7 +16,7 @@ use Rattle.kc_asm_section.specs.declared.unlinked.UnlinkedModule.{UnlinkedModule
 use Rattle.kc_asm_section.specs.ModuleOf.{IsModuleOf, pieces_in}
 use Rattle.kc_asm_check.specs.Checking.{first_fault}
 use Rattle.kc_asm_unlinked_laws.specs.Collecting.{IsUnlinkedModuleOf}
-use Rattle.kc_link_source_laws.specs.Characters.{has_bytes}
+use Rattle.kc_asm.specs.Characters.{has_bytes}
 
 -- the text of a source with all that macros, repetitions and conditions stand for
 abbrev pub IsText : List ℕ → List Line → Type 0

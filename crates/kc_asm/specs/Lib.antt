@@ -1,1 +1,5 @@
 pub mod Assembled
+pub mod Characters
+pub mod Saying
+pub mod Linked
+pub mod Worked

@@ -30,8 +30,8 @@ use Rattle.kc_asm_layout.specs.declared.size_record.Body.TheVariants.{Branch}
 use Rattle.kc_asm_layout.specs.declared.size_record.SizeRecord.{SizeRecord}
 use Rattle.kc_asm_layout.specs.StatementSizes.{at_zero, on_its_own, anchor_by, anchor_in, anchor_of, plain as plain_argument, target, target_of, body_of, branch_of, branch_or, body_in}
 use Rattle.kc_asm_layout.proofs.Stays.{Noted, noted, same_statement, stripped}
-use Rattle.kc_link_source_laws.specs.Characters.{are_bytes, all_bytes, has_bytes}
-use Rattle.kc_link_source_laws.proofs.Meanings.{has_all_bytes, split_test, standing_test}
+use Rattle.kc_asm.specs.Characters.{are_bytes, all_bytes, has_bytes}
+use Rattle.kc_asm.proofs.Meanings.{has_all_bytes, split_test, standing_test}
 use Rattle.kc_asm_laws.specs.Targets.{in_word, CountsFrom, CountsFromExternal, TargetCounts, TargetIsExternal, AnchorsHold, ExternalAnchorsHold}
 use Rattle.kc_asm_laws.proofs.Expressions.{IsBehind, IsSame, Reports}
 use Rattle.kc_asm_laws.proofs.BranchNames.{IsReported, here_in, here_at, all_placed, expression_reported}

@@ -18,8 +18,8 @@ use Rattle.kc_asm_symbols.specs.Externals.{declared, statement_uses_stack, exter
 use Rattle.kc_asm_symbols.specs.Meanings.{or_reported, is_label, label_answer, external_answer, with_here, is_taken_by, defines, by_definition, behind, earlier, is_set, is_set_by, is_definition, in_all, throughout, meaning}
 use Rattle.kc_asm_symbols.proofs.PlaceLemmas.{place_is_no_number}
 use Rattle.kc_asm_layout.specs.StatementSizes.{on_its_own}
-use Rattle.kc_link_source_laws.specs.Characters.{are_bytes, all_bytes, has_bytes}
-use Rattle.kc_link_source_laws.proofs.Words.{IsWordAnswer, answer_word}
+use Rattle.kc_asm.specs.Characters.{are_bytes, all_bytes, has_bytes}
+use Rattle.kc_asm.proofs.Words.{IsWordAnswer, answer_word}
 use Rattle.kc_asm_laws.proofs.Expressions.{Reports, DeterminesAnswer, answer_reports}
 
 -- ---- a statement as a base of its own, and where it stands

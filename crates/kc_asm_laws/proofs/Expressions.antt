@@ -16,8 +16,8 @@ use Rattle.kc_expr.specs.declared.expr.Binary.{Binary}
 use Rattle.kc_expr.specs.declared.expr.Binary.TheVariants.{Plus, Minus}
 use Rattle.kc_expr.specs.Tree.{Tree, Number, Chars, Name, Here, One, Two}
 use Rattle.kc_expr.specs.Meaning.{Answer, plain, is_fixed, same_base, unary_number, binary_number, chars_answer, divided, moved, moved_to, distance, on_one, on_two, unary_answer, is_division, divides_by_zero, binary_answer, here, answer_by}
-use Rattle.kc_link_source_laws.specs.Characters.{are_bytes}
-use Rattle.kc_link_source_laws.proofs.Words.{IsWordAnswer, answer_word}
+use Rattle.kc_asm.specs.Characters.{are_bytes}
+use Rattle.kc_asm.proofs.Words.{IsWordAnswer, answer_word}
 
 -- ---- what a value with own bases reports of the value in a layout, where statements have these places
 

@@ -26,7 +26,7 @@ use Rattle.kc_asm_unlinked_laws.specs.Sound.{UnlinkedModulesAreUnlinked, Unlinke
 use Rattle.kc_asm_unlinked_laws.specs.Stood.{NothingElseStands}
 use Rattle.kc_asm.specs.Assembled.{AreSaid, IsModule}
 use Rattle.kc_asm.proofs.Said.{said_well}
-use Rattle.kc_link_source_laws.specs.Linked.{IsSource, AreSources, LinkedImage, OneImage}
+use Rattle.kc_asm.specs.Linked.{IsSource, AreSources, LinkedImage, OneImage}
 use Rattle.kc_source_laws.specs.Lines.{StatementsAreOfTheText}
 use Rattle.kc_source_laws.specs.Read.{SourcesAreReadWell}
 use Rattle.kc_asm_laws.specs.Modules.{OneModuleOfText}

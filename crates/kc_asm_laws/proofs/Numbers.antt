@@ -54,8 +54,8 @@ use Rattle.kc_asm_unlinked_laws.specs.Stood.{NothingElseStands}
 use Rattle.kc_asm_unlinked_laws.specs.Writable.{PartsAreWritable}
 use Rattle.kc_asm.specs.Assembled.{IsModule}
 use Rattle.kc_asm.proofs.Said.{said_well}
-use Rattle.kc_link_source_laws.proofs.Words.{IsWordAnswer}
-use Rattle.kc_link_source_laws.proofs.Meanings.{places_are_words, in_all_word}
+use Rattle.kc_asm.proofs.Words.{IsWordAnswer}
+use Rattle.kc_asm.proofs.Meanings.{places_are_words, in_all_word}
 use Rattle.kc_source_laws.specs.Lines.{is_line_of, StatementsAreOfTheText}
 use Rattle.kc_source_laws.specs.Read.{SourcesAreReadWell}
 use Rattle.kc_source_laws.proofs.Tests.{all_join, all_map}

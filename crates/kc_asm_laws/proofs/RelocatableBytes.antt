@@ -38,8 +38,8 @@ use Rattle.kc_asm_encode.proofs.Evens.{each_line, argument_words, value_word, Wo
 use Rattle.kc_asm_symbols.specs.Externals.{all_trees, arg_trees, item_trees}
 use Rattle.kc_asm_emit.specs.Arguments as emitted
 use Rattle.kc_asm_emit.specs.Content.{RelocatableBytes, long_relocatables, value_relocatables, data_relocatables, content, reserved, upto}
-use Rattle.kc_link_source_laws.specs.Characters.{are_bytes, all_bytes}
-use Rattle.kc_link_source_laws.proofs.Words.{IsWordAnswer, answer_word}
+use Rattle.kc_asm.specs.Characters.{are_bytes, all_bytes}
+use Rattle.kc_asm.proofs.Words.{IsWordAnswer, answer_word}
 use Rattle.kc_source_laws.specs.Strings.{item_passes, items_pass}
 use Rattle.kc_source_laws.proofs.Tests.{all_split}
 

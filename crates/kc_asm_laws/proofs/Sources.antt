@@ -20,9 +20,9 @@ use Rattle.kc_asm_unlinked_laws.specs.Collecting.{IsUnlinkedModuleOf}
 use Rattle.kc_asm_unlinked_laws.specs.Stood.{HasRelocatableBytes, IsOfStatement, NothingElseStands}
 use Rattle.kc_asm.specs.Assembled.{AreSaid}
 use Rattle.kc_asm.proofs.Characters.{trees_alike}
-use Rattle.kc_link_source_laws.specs.Characters.{all_bytes, has_bytes}
-use Rattle.kc_link_source_laws.proofs.Words.{IsWordAnswer}
-use Rattle.kc_link_source_laws.proofs.Meanings.{split_test, standing_test, places_are_words, has_all_bytes, meaning_word}
+use Rattle.kc_asm.specs.Characters.{all_bytes, has_bytes}
+use Rattle.kc_asm.proofs.Words.{IsWordAnswer}
+use Rattle.kc_asm.proofs.Meanings.{split_test, standing_test, places_are_words, has_all_bytes, meaning_word}
 use Rattle.kc_source_laws.specs.Strings.{strings_pass, items_pass, action_passes}
 use Rattle.kc_source_laws.specs.Lines as lines
 use Rattle.kc_source_laws.specs.Lines.{is_good_statement, is_line_of, StatementsAreOfTheText}

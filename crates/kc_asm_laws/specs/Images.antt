@@ -10,7 +10,7 @@ use Rattle.kc_link_place.specs.Ranges.{are_in_bounds}
 use Rattle.kc_link_place.specs.Placing.{Places}
 use Rattle.kc_link.specs.Placed.{placed}
 use Rattle.kc_link.specs.Filled.{IsFilled}
-use Rattle.kc_link_source_laws.specs.Linked.{AreSources, IsLinked}
+use Rattle.kc_asm.specs.Linked.{AreSources, IsLinked}
 
 -- the modules of texts, each of its own
 pub record AreModulesOf (texts : List (List ℕ)) (modules : List Object) : Type 0 where

@@ -23,7 +23,7 @@ use Rattle.kc_asm_layout.specs.Numbered.{is_code}
 use Rattle.kc_asm_layout.specs.declared.location.Location.{Location}
 use Rattle.kc_asm_layout.specs.Laws.{is_near}
 use Rattle.kc_asm_check.specs.Checking.{location_list, standing}
-use Rattle.kc_link_source_laws.specs.Characters.{has_bytes}
+use Rattle.kc_asm.specs.Characters.{has_bytes}
 
 -- what is left of a place in 16 bits
 abbrev pub in_word : ℤ → ℤ

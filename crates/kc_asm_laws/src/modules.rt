@@ -13,7 +13,7 @@ use kc_asm_unlinked_laws::{
     unlinked_modules_are_whole,
 };
 use kc_link::{one_image as one_filled_image, placed_have_image};
-use kc_link_source_laws::{linked_image, one_image};
+use kc_asm::{linked_image, one_image};
 use kc_link_unlinked_laws::unlinked_modules_are_linked;
 use kc_macro::laws::expansion_ends;
 use kc_source_laws::{sources_are_read_well, statements_are_of_the_text};

@@ -5,7 +5,7 @@ use Rattle.kc_block_spec.specs.Units.{Units}
 use Rattle.kc_block_spec.specs.Accesses.{latch_edges}
 use Rattle.kc_block_spec.specs.Touch.{in_state}
 use Rattle.kc_block_spec.specs.Leading.{Leads}
-use Rattle.kc_block_pins.proofs.Leads.{leads_on}
+use Rattle.kc_block_units.proofs.Leads.{leads_on}
 
 before_next : (time at : ℕ) → time ≡ at + 1 → time - 1 ≡ at
 before_next time at next = omega arith

@@ -4,7 +4,7 @@ ghost use Rattle.kc_base.specs.Bits.{weight as weight_of};
 ghost use Rattle.kc_block_spec.specs.Reading.{port0_levels, port1_levels, port2_read};
 
 use kc_base::{Pin, StateTime, bit, weight};
-use kc_block_pins::has_pin;
+use kc_block_units::has_pin;
 use kc_block_spec::BoardRegisters;
 
 /// IOS1: its bits 0 to 4, Timer 1's overflow, and the bits of HSI.

@@ -10,3 +10,6 @@ pub mod NextDue
 pub mod Carried
 pub mod Started
 mod Wires
+pub mod InputMasks
+pub mod Leads
+pub mod StartLevels

@@ -12,7 +12,7 @@ use Rattle.kc_span.specs.DeferredUnit.{DeferredUnit, deferred_at, IsDeferred}
 use Rattle.kc_span.proofs.DeferredUnits.{asked}
 use Rattle.kc_block_spec.specs.Levels.{follows, wired, stimulated_before}
 use Rattle.kc_block_spec.proofs.Quiet.{bit_none}
-use Rattle.kc_block_pins.proofs.InputMasks.{mask_rest, mask_start}
+use Rattle.kc_block_units.proofs.InputMasks.{mask_rest, mask_start}
 use Rattle.kc_block_units.specs.Scheduler.{Scheduler, AreHeld, IsScheduled}
 use Rattle.kc_block_units.specs.Asked.{AreAsked}
 

@@ -5,7 +5,7 @@ use Rattle.std.proofs.lemmas.Bool.{eq-eqb}
 use Rattle.kc_stim.specs.Drives.{Drives}
 use Rattle.kc_block_spec.specs.Levels.{follows, stimulated_before, wired}
 use Rattle.kc_block_units.specs.Scheduler.{Scheduler, levels_ahead, AreHeld}
-use Rattle.kc_block_pins.proofs.InputMasks.{no_wires}
+use Rattle.kc_block_units.proofs.InputMasks.{no_wires}
 
 no_output : (d : Drives) (outs : ℕ) → (length d.wires == 0) ≡ true → wired d outs ≡ 0
 no_output d outs empty = sym (no_wires d (λ o. follows o outs) refl empty)

@@ -13,7 +13,7 @@ use crate::scheduler::Scheduler;
 use crate::seeing::control;
 use crate::slots::set_slot;
 use kc_base::{StateTime, Steps};
-use kc_block_pins::{has_pin, outputs, unwired, wired};
+use crate::{has_pin, outputs, unwired, wired};
 use kc_extra::Extra;
 use kc_timers::timer1_due;
 use std::sync::ledger::Ledger;

@@ -7,7 +7,7 @@ use Rattle.kc_link_place.specs.Placing.{Places}
 use Rattle.kc_link.specs.declared.lines.LineAt.{LineAt}
 use Rattle.kc_link.specs.LineMap.{IsLineMap}
 use Rattle.kc_link.specs.Placed.{placed}
-use Rattle.kc_link_source_laws.specs.Linked.{LinkedImage}
+use Rattle.kc_asm.specs.Linked.{LinkedImage}
 use Rattle.kc_source_laws.specs.Read.{SourcesAreReadWell}
 use Rattle.kc_obj_module.specs.Object.{Object}
 use Rattle.kc_debug_script.specs.declared.line_map.MapEntry.{MapEntry}

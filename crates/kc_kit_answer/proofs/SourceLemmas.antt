@@ -12,8 +12,8 @@ use Rattle.kc_link_place.specs.declared.ranges.LinkFault.{LinkFault}
 use Rattle.kc_link_place.specs.Placing.{Places}
 use Rattle.kc_link.specs.Placed.{placed}
 use Rattle.kc_link.specs.Filled.{IsFilled}
-use Rattle.kc_link_source_laws.specs.Characters.{has_bytes}
-use Rattle.kc_link_source_laws.specs.Linked.{IsSource, LinkedImage}
+use Rattle.kc_asm.specs.Characters.{has_bytes}
+use Rattle.kc_asm.specs.Linked.{IsSource, LinkedImage}
 use Rattle.kc_obj_module.specs.Object.{Object}
 use Rattle.kc_asm.specs.Assembled.{AreSaid}
 use Rattle.kc_asm.proofs.Said.{said_well}

@@ -9,8 +9,8 @@ use Rattle.kc_asm_section.specs.declared.unlinked.UnlinkedModule.{UnlinkedModule
 use Rattle.kc_asm_section.specs.ModuleOf.{IsModuleOf, pieces_in}
 use Rattle.kc_asm_unlinked_laws.specs.Collecting.{IsUnlinkedModuleOf}
 use Rattle.kc_asm.specs.Assembled.{AreSaid}
-use Rattle.kc_link_source_laws.specs.Characters.{has_bytes}
-use Rattle.kc_link_source_laws.specs.Linked.{IsLinked}
+use Rattle.kc_asm.specs.Characters.{has_bytes}
+use Rattle.kc_asm.specs.Linked.{IsLinked}
 use Rattle.kc_link_place.specs.declared.ranges.Ranges.{Ranges}
 use Rattle.kc_link_place.specs.Placing.{Places}
 use Rattle.kc_link.specs.Filled.{IsFilled}

@@ -19,7 +19,7 @@ use kc_kit_messages::Origins;
 use kc_kit_running::{Board, Sources};
 use kc_kit_words::Ranges;
 use kc_link::{Placement, image_at};
-use kc_link_source_laws::linked_image;
+use kc_asm::linked_image;
 use kc_obj_module::Module;
 use kc_source_laws::sources_are_read_well;
 use std::alloc::Global;

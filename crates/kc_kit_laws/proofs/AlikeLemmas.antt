@@ -17,7 +17,7 @@ use Rattle.kc_link.specs.Placed.{placed}
 use Rattle.kc_hex.specs.Law.{WrittenIsRead}
 use Rattle.kc_hex.specs.Records.{image_of}
 use Rattle.kc_hex.specs.Spelling as records
-use Rattle.kc_link_source_laws.specs.Linked.{LinkedImage}
+use Rattle.kc_asm.specs.Linked.{LinkedImage}
 use Rattle.kc_source_laws.specs.Read.{SourcesAreReadWell}
 use Rattle.kc_asm.specs.Assembled.{IsModule}
 use Rattle.kc_asm_laws.specs.Modules.{ModulesFit}

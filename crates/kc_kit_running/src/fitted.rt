@@ -7,7 +7,7 @@ ghost use Rattle.kc_kit_running.specs.Running.{machine_of};
 
 use crate::board::Board;
 use kc_base::{Level, NoMemory, Pin, StateTime};
-use kc_block_pins::{has_pin, start_levels};
+use kc_block_units::{has_pin, start_levels};
 use kc_convert::{Analog, Converter, Pulses};
 use kc_extra::Pair;
 use kc_kit_inputs::Driving;

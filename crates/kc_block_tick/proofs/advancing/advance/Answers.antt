@@ -3,7 +3,7 @@ use Rattle.kc_span.specs.Span.{after}
 use Rattle.kc_span.proofs.SpanLaws.{after-none, after-over}
 use Rattle.kc_block_spec.specs.Touch.{block_rule, touch, edges_of}
 use Rattle.kc_block_spec.specs.Leading.{Leads}
-use Rattle.kc_block_pins.proofs.Leads.{leads_on}
+use Rattle.kc_block_units.proofs.Leads.{leads_on}
 use Rattle.kc_block_units.specs.Scheduler.{shown_units, IsScheduled}
 use Rattle.kc_block_units.specs.Standing.{standing}
 use Rattle.kc_block_tick.proofs.Going.{edges-none, edges-over, touch-over}

@@ -6,7 +6,7 @@ use Rattle.kc_block_spec.specs.Control.{control_of, timer2_inputs, hsi_edges}
 use Rattle.kc_block_spec.specs.Tick.{edges_at, fired_at, control_at, timer2_inputs_at, hsi_edges_at}
 use Rattle.kc_block_spec.specs.Touch.{timer2_touched, hso_touched, hsi_touched, further_touched, touched}
 use Rattle.kc_block_spec.specs.Leading.{Leads}
-use Rattle.kc_block_pins.proofs.Leads.{leads_on}
+use Rattle.kc_block_units.proofs.Leads.{leads_on}
 use Rattle.kc_block_units.specs.Scheduler.{shown_units}
 use Rattle.kc_block_units.specs.Events.{has_timer2_edge, has_hsi_edge, flag_touched}
 use Rattle.kc_block_units.proofs.CatchingUp.{hso_quiet}

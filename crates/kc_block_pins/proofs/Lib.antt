@@ -1,3 +1,0 @@
-pub mod InputMasks
-pub mod Leads
-pub mod StartLevels

@@ -1,5 +1,0 @@
-use Rattle.kc_link_source_laws.proofs.Alone.{one_image_of_sources}
-use Rattle.kc_link_source_laws.proofs.one_image_of_sources.Goals as goal
-
-pub returns : goal.returns
-returns c = one_image_of_sources c.one_spelling.ensures c.one_module.ensures

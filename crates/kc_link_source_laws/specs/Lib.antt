@@ -1,4 +1,0 @@
-pub mod Characters
-pub mod Saying
-pub mod Linked
-pub mod Worked
