@@ -9,7 +9,7 @@ ghost use Rattle.kc_vcd.specs.Writing.{shown_in};
 ghost use Rattle.kc_vcd.specs.Dump.{state_length as picoseconds, shown_of, prefix as prefix_text, declarations, start_line, start_lines};
 
 use crate::variable::Variable;
-use crate::writing::{put, put_declaration, put_level, put_value};
+use crate::writing::{put_declaration, put_level, put_value};
 use kc_base::{ENTRY_COUNT, NoMemory, PIN_COUNT, Pin, TRANSFER_COUNT};
 use kc_convert::{Analog, CHANNEL_COUNT, Sample};
 use kc_events::start_levels;
@@ -237,11 +237,11 @@ impl Shown {
     pub(crate) fn put_prefix(&self, text: &mut Vec<u8>) -> Result<(), NoMemory>
         ensures { OnOk result (text.new.items ≡ text.old.items ++ prefix_text (shown_in self.now)) }
     {
-        put(text, HEAD)?;
+        text.extend_from_slice(HEAD)?;
         put_declarations(text, self.variables.as_slice())?;
-        put(text, HEAD_END)?;
+        text.extend_from_slice(HEAD_END)?;
         put_starts(text, self.variables.as_slice(), &self.start)?;
-        put(text, b"$end\n")?;
+        text.extend_from_slice(b"$end\n")?;
         Ok(())
     }
 }
