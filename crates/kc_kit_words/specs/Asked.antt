@@ -56,7 +56,7 @@ pub record IsBounded (extent : Extent) : Type 0 where
   pub some : IfSome extent.lives (λ n. 1 ≤ n)
   pub few : IfSome extent.lives (λ n. n ≤ max_lives)
 
--- lives within their limits, where their number is reported
+-- lives within their limits, where an option gives their number
 pub record AreLives (lives : Option ℕ) : Type 0 where
   pub some : IfSome lives (λ n. 1 ≤ n)
   pub few : IfSome lives (λ n. n ≤ max_lives)
