@@ -95,6 +95,7 @@ fn put_refusal(text: &mut Vec<u8>, access: Option<Access>) -> Result<(), NoMemor
 }
 
 // The code of a kind, as `explain` knows it.
+#[tactic(auto, using(crate::proofs::Numbered::kind_digits))]
 fn kind_code(alloc: Global, kind: Kind) -> Result<Vec<u8>, NoMemory>
     ensures { IfOk result (λ code. code.items ≡ kind_code kind) }
 {
