@@ -1,5 +1,5 @@
 -- What a read command asks for, and what a read option sets (this kit's own).
-use Rattle.std.specs.Prelude.{◌≡◌, ℕ, ◌≤◌, ◌<◌, true, map, length, string_bytes, IfSome}
+use Rattle.std.specs.Prelude.{◌≡◌, ℕ, ◌≤◌, ◌<◌, true, map, length, string_bytes, Option, IfSome}
 use Rattle.std.specs.Option.{option_map}
 use Rattle.kc_base.specs.Limits.{image_start}
 use Rattle.kc_link_place.specs.declared.ranges.Ranges.{Ranges}
