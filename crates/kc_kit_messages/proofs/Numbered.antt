@@ -1,5 +1,5 @@
 -- A number below 100, digit by digit; the number of a kind is one.
-use Rattle.std.proofs.Common.{◌≡◌, ℕ, ◌<◌, ◌≤◌, ◌/◌, ◌%◌, ◌+◌, Bool, true, false, cond, ltb, List, [], ◌∷◌, ◌++◌, decimal, ap, ◌∙◌, refl, arith}
+use Rattle.std.proofs.Common.{◌≡◌, ℕ, ◌<◌, ◌/◌, ◌%◌, ◌+◌, Bool, true, false, cond, ltb, List, [], ◌∷◌, ◌++◌, decimal, ap, ◌∙◌, refl, arith, ltb-true, ltb-false}
 use Rattle.std.proofs.lemmas.Fmt.{decimal_digit, decimal_step}
 use Rattle.kc_base.specs.declared.types.Kind.{Kind}
 use Rattle.kc_base.specs.declared.types.Kind.TheVariants as kind
@@ -10,10 +10,9 @@ short_decimal : (n : ℕ) → n < 100 → decimal n ≡ short_number n
 short_decimal n few = by (ltb n 10) refl
   where
     by : (b : Bool) → ltb n 10 ≡ b → decimal n ≡ cond b ((48 + n) ∷ []) ((48 + n / 10) ∷ (48 + n % 10) ∷ [])
-    by true e = decimal_digit n (omega (arith, e))
+    by true e = decimal_digit n (ltb-true n 10 e)
     by false e =
-        let many : 10 ≤ n = omega (arith, e) in
-        decimal_step n many (grind (arith, few)) ∙ ap (λ (ds : List ℕ). ds ++ ((48 + n % 10) ∷ [])) (decimal_digit (n / 10) (omega (arith, few)))
+        decimal_step n (ltb-false n 10 e) (grind (arith, few)) ∙ ap (λ (ds : List ℕ). ds ++ ((48 + n % 10) ∷ [])) (decimal_digit (n / 10) (omega (arith, few)))
 
 few_kinds : (k : Kind) → kind_number k < 100
 few_kinds kind.OddWord = omega arith
