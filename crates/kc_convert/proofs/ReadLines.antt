@@ -59,12 +59,14 @@ item_more samples line (Sampled s) is none h =
 lines_more : (lines : List (List ℕ)) (n : ℕ) (samples : List Sample) → AreOfFile samples → first_bad n samples (map item_of lines) ≡ None → AreOfFile (fold with_item samples (map item_of lines))
 unfolding first_bad
 lines_more [] n samples h none = h
-lines_more (line ∷ lines) n samples h none = by_test (is_bad samples (item_of line)) refl none
+lines_more (line ∷ lines) n samples h none =
+    by_test (is_bad samples (item_of line)) refl none (λ more. lines_more lines (n + 1) (with_item samples (item_of line)) more)
   where
     by_test : (bad : Bool) → is_bad samples (item_of line) ≡ bad → (if bad then Some (n + 1) else first_bad (n + 1) (with_item samples (item_of line)) (map item_of lines)) ≡ None →
+        (AreOfFile (with_item samples (item_of line)) → first_bad (n + 1) (with_item samples (item_of line)) (map item_of lines) ≡ None → AreOfFile (fold with_item (with_item samples (item_of line)) (map item_of lines))) →
         AreOfFile (fold with_item (with_item samples (item_of line)) (map item_of lines))
-    by_test true is found = absurd cc
-    by_test false is rest = lines_more lines (n + 1) (with_item samples (item_of line)) (item_more samples line (item_of line) refl is h) rest
+    by_test true is found later = absurd cc
+    by_test false is rest later = later (item_more samples line (item_of line) refl is h) rest
 
 none_of_file : AreOfFile []
 none_of_file = record { order = λ j k d le lt. absurd (omega arith); values = λ k d lt. absurd (omega arith) }
