@@ -1,7 +1,6 @@
 -- The response of a run of several lives.
-use Rattle.std.proofs.Common.{◌≡◌, ℕ, false, List, ◌++◌, length, map, length-append, Result, Ok, Err, refl, ◌∙◌, ap, subst, arith}
-use Rattle.std.specs.List.{Any, range_with_len}
-use Rattle.std.proofs.lemmas.List.{get_or_append_left}
+use Rattle.std.proofs.Common.{◌≡◌, ℕ, false, List, length, map, Result, Ok, Err, refl, ◌∙◌, ap, subst, arith}
+use Rattle.std.specs.List.{range_with_len}
 use Rattle.std.proofs.lemmas.List.FromFn.{length-map-range_with_len, get_or-map-range_with_len}
 use Rattle.kc_base.specs.Causes.{Grew}
 use Rattle.kc_extra.proofs.Pairs.{same_pair}
@@ -24,7 +23,7 @@ use Rattle.kc_kit_running.specs.Lives.{board_lives, lives_response}
 use Rattle.kc_kit_running.specs.Running.{pauses_behind, IsEndOf}
 use Rattle.kc_kit_running.specs.Sources.{FileLines}
 use Rattle.kc_kit_running.specs.Watched.{WatchedUnit, watched_further, watched_for}
-use Rattle.kc_kit_running.proofs.RunLemmas.{run-ended, run-failed, run-paused}
+use Rattle.kc_kit_running.proofs.RunLemmas.{any-left, run-ended, run-failed, run-paused}
 
 -- what is known of lives whose units were made is known of the lives of the board
 pub as-watched : (most states : ℕ) (driving : Driving) (image : List ℕ) (old new : Out) (s t : ℕ) (result : Result End LivesFault) →
@@ -32,10 +31,6 @@ pub as-watched : (most states : ℕ) (driving : Driving) (image : List ℕ) (old
 as-watched most states driving image old new s t result h =
     let same : h.unit ≡ watched_for driving.values driving.stimuli = λ i. λ from. same_pair (h.unit from) (watched_for driving.values driving.stimuli from) (h.is_made from).first (h.is_made from).second (h.is_made from).moves i in
     subst (λ (unit : ℕ → WatchedUnit). AreReported (lives_of watched_further deadline_of image driving.stimuli unit states most) old result new) same h.reported
-
--- a pause of some is one of those and of more
-any-left : (P : List ℕ → Type 0) (some more : List (List ℕ)) → Any P some → Any P (some ++ more)
-any-left P some more h = (h.0, h.1, omega (arith, h.2, length-append some more), get_or_append_left some more h.1 h.0 h.2 ∙ h.3, h.4)
 
 module _ {X : Type 0} (lines : FileLines) (lives : List (Life X)) (may : Response → Type 0) (files : Kept) (old new : Out) (ended : Ended) (is : may (lives_response lines lives)) where
   -- the text is printed whole

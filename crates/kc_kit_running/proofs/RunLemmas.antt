@@ -1,8 +1,8 @@
 -- The response of a run.
-use Rattle.std.proofs.Common.{◌≡◌, inl, inr, ℕ, ◌<◌, List, [], ◌∷◌, ◌++◌, length, Option, Some, None, refl, sym, ◌∙◌, ap, subst, arith}
+use Rattle.std.proofs.Common.{◌≡◌, inl, inr, ℕ, ◌<◌, List, [], ◌∷◌, ◌++◌, length, length-append, Option, Some, None, refl, sym, ◌∙◌, ap, subst, arith}
 use Rattle.std.specs.List.{Any}
 use Rattle.std.specs.Option.{unwrap_or}
-use Rattle.std.proofs.lemmas.List.{get_or_push, length_push}
+use Rattle.std.proofs.lemmas.List.{get_or_push, get_or_append_left, length_push}
 use Rattle.kc_base.specs.Causes.{Rose, Grew, GrewByPart}
 use Rattle.kc_trace.specs.Out.{Out, Puts}
 use Rattle.kc_trace.specs.Text.{text_of}
@@ -37,6 +37,13 @@ use Rattle.kc_kit_running.specs.Running.{machine_of, run_of, run_response, ends_
 -- behind other pauses
 last-pause : (P : List ℕ → Type 0) (pauses : List (List ℕ)) (text : List ℕ) → P text → Any P (pauses ++ text ∷ [])
 last-pause P pauses text p = (length pauses, text, omega (arith, length_push pauses text), get_or_push pauses text text (length pauses) refl, p)
+
+-- a pause of some is one of those and of more
+pub any-left : (P : List ℕ → Type 0) (some more : List (List ℕ)) → Any P some → Any P (some ++ more)
+any-left P some more h = (h.0, h.1, omega (arith, h.2, length-append some more), get_or_append_left some more h.1 h.0 h.2 ∙ h.3, h.4)
+
+pub any-map : (P Q : List ℕ → Type 0) (pauses : List (List ℕ)) → ((text : List ℕ) → P text → Q text) → Any P pauses → Any Q pauses
+any-map P Q pauses f h = (h.0, h.1, h.2, h.3, f h.1 h.4)
 
 -- the text is printed whole, and nothing is written
 pub run-ended : (lines : FileLines) (how : End) (text : List ℕ) (pauses : List (List ℕ)) (may : Response → Type 0) (files : Kept) (old new : Shown) (ended : Ended) → may (ends_with lines how text pauses) → IsEndOf lines how ended →

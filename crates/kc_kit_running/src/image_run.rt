@@ -1,7 +1,6 @@
 // A run of an image.
 ghost use Rattle.std.specs.Prelude.{◌≡◌, ◌≤◌, false};
 ghost use Rattle.kc_base.specs.Fresh.{IsFresh};
-ghost use Rattle.kc_machine_spec.specs.declared.doing.End.TheVariants as end;
 ghost use Rattle.kc_kit_files.specs.Ended.{EndsPrinting};
 ghost use Rattle.kc_kit_files.specs.Outside.{shown_by};
 ghost use Rattle.kc_kit_words.specs.Values.{max_states};
@@ -14,8 +13,7 @@ use crate::board::Board;
 use crate::fitted::fitted_machine;
 use crate::lives_run::run_board_lives;
 use crate::sources::{Sources, line_in};
-use kc_base::{NoMemory, Sink, Steps, Undefined};
-use kc_exec_spec::Access;
+use kc_base::{NoMemory, Sink, Steps};
 use kc_kit_files::{Ended, Said, Status};
 use kc_kit_messages::use_diagnostic;
 use kc_kit_words::Extent;
@@ -80,27 +78,15 @@ pub(crate) fn ended_run(alloc: Global, sources: &Option<Sources<'_>>, how: End) 
     ensures { IsEndOf (lines_in sources.now) how result }
 {
     match how {
-        End::Undefined(what, access) => ended_by_use(alloc, sources, what, access),
-        End::Spent => Ended::by(Status::Done),
-        End::Powerdown => Ended::by(Status::Done),
-        End::Reset => Ended::by(Status::Done),
-    }
-}
-
-// The same of an undefined use.
-fn ended_by_use(
-    alloc: Global,
-    sources: &Option<Sources<'_>>,
-    what: Undefined,
-    access: Option<Access>,
-) -> Ended<'static>
-    ensures { IsEndOf (lines_in sources.now) (end.Undefined what access) result }
-{
-    match use_diagnostic(alloc, line_in(sources, what.addr), what, access) {
-        Ok(diagnostic) => Ended {
-            status: Status::Undefined,
-            said: Said::Refusal(diagnostic),
-        },
-        Err(NoMemory) => Ended::by(Status::NoMemory),
+        End::Undefined(what, access) => {
+            match use_diagnostic(alloc, line_in(sources, what.addr), what, access) {
+                Ok(diagnostic) => Ended {
+                    status: Status::Undefined,
+                    said: Said::Refusal(diagnostic),
+                },
+                Err(NoMemory) => Ended::by(Status::NoMemory),
+            }
+        }
+        End::Spent | End::Powerdown | End::Reset => Ended::by(Status::Done),
     }
 }
