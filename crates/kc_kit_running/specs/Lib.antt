@@ -1,4 +1,5 @@
 pub mod Counted
+pub mod Counting
 pub mod Fitted
 pub mod Lives
 pub mod Profiled

@@ -1,5 +1,5 @@
 -- A run behind which is written where its states went, with its statistics, and which lines of the sources have run (this kit's own).
-use Rattle.std.specs.Prelude.{ℕ, zero, suc, ◌+◌, ◌-◌, List, [], ◌∷◌, ◌++◌, length, map, flat_map, codes, decimal, Option, Some, None}
+use Rattle.std.specs.Prelude.{ℕ, ◌+◌, List, [], ◌∷◌, ◌++◌, length, map, flat_map, codes, decimal, Option, Some, None}
 use Rattle.std.specs.List.{range_with_len}
 use Rattle.kc_extra.specs.Further.{Further}
 use Rattle.kc_stim.specs.Drives.{driven_from}
@@ -11,12 +11,12 @@ use Rattle.kc_cycles.specs.Life.{Life}
 use Rattle.kc_cycles.specs.Making.{deadline_of}
 use Rattle.kc_cycles.specs.Lives.{last_end, lives_text, text_before}
 use Rattle.kc_profile.specs.declared.sight.Sight.{Sight}
-use Rattle.kc_profile.specs.declared.spread.Moment.{Moment}
+use Rattle.kc_profile.specs.declared.statistics_text.Scope.{Scope}
 use Rattle.kc_profile.specs.declared.statistics_text.Scope.TheVariants as scope
 use Rattle.kc_profile.specs.declared.spot.Spot.{Spot}
 use Rattle.kc_profile.specs.Spots.{spots_for}
 use Rattle.kc_profile.specs.Sights.{history}
-use Rattle.kc_profile.specs.Tally.{tally_of}
+use Rattle.kc_profile.specs.Tally.{Tally, tally_of}
 use Rattle.kc_profile.specs.Text.{profile_text}
 use Rattle.kc_profile.specs.StatisticsText.{statistics_text}
 use Rattle.kc_profile.specs.Statistics.{Statistics, statistics_of, statistics_of_lives}
@@ -33,7 +33,7 @@ use Rattle.kc_kit_running.specs.Sources.{lines_in}
 use Rattle.kc_kit_running.specs.Watched.{WatchedUnit, watched_further, watched_for}
 
 -- the texts of a profile and of a tracefile
-pub record Accounts : Type 0 where
+pub record Texts : Type 0 where
   pub profile : List ℕ
   pub cover : List ℕ
 
@@ -42,63 +42,54 @@ abbrev pub write_of : Option (List ℕ) → List ℕ → List Write
 write_of None text = []
 write_of (Some name) text = write name text ∷ []
 
-abbrev pub writes_of : Behind → Accounts → List Write
-writes_of behind a = write_of behind.profile a.profile ++ write_of behind.cover a.cover
+abbrev pub writes_of : Behind → Texts → List Write
+writes_of behind texts = write_of behind.profile texts.profile ++ write_of behind.cover texts.cover
 
--- ---- one life
+-- where states went, and the statistics besides
+abbrev pub counted_text : Scope → Lines → Tally → Statistics → List ℕ
+counted_text s lines tally statistics = profile_text tally lines.entries.items ++ statistics_text s statistics
 
--- what was counted of a machine that has run for so many states, in words
-abbrev pub run_text : {X : Type 0} → Further X → Lines → ℕ → Machine X → List ℕ
-run_text f lines states m = profile_text (tally_of (spots_for f states m)) lines.entries.items ++ statistics_text scope.Life (statistics_of 1 (history f states m))
+-- ---- one life: the first so many states of a machine, of which what they have shown comes the last first
 
-abbrev pub run_accounts : Lines → ℕ → Driving → List ℕ → Accounts
-run_accounts lines states driving image =
-    let m = machine_of driving image in
-    record {
-      profile = run_text fitted_further lines states m;
-      cover = cover_text None (statistics_of 1 (history fitted_further states m)) lines.sources.items;
-    }
+pub record Counted : Type 0 where
+  pub spots : List Spot
+  pub sights : List Sight
+
+abbrev pub counted_for : {X : Type 0} → Further X → ℕ → Machine X → Counted
+counted_for f states m = record { spots = spots_for f states m; sights = history f states m }
+
+abbrev pub life_text : Lines → ℕ → Counted → List ℕ
+life_text lines life c = counted_text scope.Life lines (tally_of c.spots) (statistics_of life c.sights)
+
+abbrev pub run_texts : Lines → Counted → Texts
+run_texts lines c = record { profile = life_text lines 1 c; cover = cover_text None (statistics_of 1 c.sights) lines.sources.items }
 
 -- ---- several lives: each under its heading, and the sums behind them
 
 abbrev pub heading : List ℕ → ℕ → List ℕ
 heading word number = word ++ decimal number ++ codes "\n"
 
--- what a life has counted: where its states went, and what they have shown, the last first
-pub record Counted : Type 0 where
-  pub spots : List Spot
-  pub sights : List Sight
-
-abbrev pub life_profile : Lines → ℕ → Counted → List ℕ
-life_profile lines life c =
-    heading (codes "life ") life ++ profile_text (tally_of c.spots) lines.entries.items ++ statistics_text scope.Life (statistics_of life c.sights)
-
 unfoldable pub lives_profile : Lines → ℕ → List Counted → List ℕ
 lives_profile lines life [] = []
-lives_profile lines life (c ∷ more) = life_profile lines life c ++ lives_profile lines (life + 1) more
+lives_profile lines life (c ∷ more) = (heading (codes "life ") life ++ life_text lines life c) ++ lives_profile lines (life + 1) more
 
 unfoldable pub lives_cover : Lines → ℕ → List Counted → List ℕ
 lives_cover lines life [] = []
 lives_cover lines life (c ∷ more) = cover_text (Some life) (statistics_of life c.sights) lines.sources.items ++ lives_cover lines (life + 1) more
 
-abbrev pub sums_profile : Lines → List Counted → List ℕ
-sums_profile lines lives =
+abbrev pub sums_text : Lines → List Counted → List ℕ
+sums_text lines lives =
     heading (codes "lives ") (length lives)
-    ++ profile_text (tally_of (flat_map (λ (c : Counted). c.spots) lives)) lines.entries.items
-    ++ statistics_text scope.Lives (statistics_of_lives 1 (map (λ (c : Counted). c.sights) lives))
+    ++ counted_text scope.Lives lines (tally_of (flat_map (λ (c : Counted). c.spots) lives)) (statistics_of_lives 1 (map (λ (c : Counted). c.sights) lives))
 
-abbrev pub lives_accounts : Lines → List Counted → Accounts
-lives_accounts lines lives = record {
-  profile = lives_profile lines 1 lives ++ sums_profile lines lives;
-  cover = lives_cover lines 1 lives;
-}
+abbrev pub lives_texts : Lines → List Counted → Texts
+lives_texts lines lives = record { profile = lives_profile lines 1 lives ++ sums_text lines lives; cover = lives_cover lines 1 lives }
 
 -- what each life of a board counts, by the state at which it begins
 unfoldable pub counted_from : Driving → List ℕ → ℕ → List (Life WatchedUnit) → List Counted
 counted_from driving image from [] = []
 counted_from driving image from (life ∷ more) =
-    let m = start image (driven_from from driving.stimuli) (watched_for driving.values driving.stimuli from) in
-    record { spots = spots_for watched_further life.ran.machine.time m; sights = history watched_further life.ran.machine.time m }
+    counted_for watched_further life.ran.machine.time (start image (driven_from from driving.stimuli) (watched_for driving.values driving.stimuli from))
     ∷ counted_from driving image (from + life.ran.machine.time) more
 
 -- ---- how a run ended, and its text; and behind it the files are written
@@ -116,11 +107,11 @@ profiled lines how text pauses writes = record {
 abbrev pub profile_over : Option ℕ → ℕ → Behind → Lines → Driving → List ℕ → Response
 profile_over None states behind lines driving image =
     let ran = run_of states driving image in
-    profiled lines (end_of ran.machine) (trace_of ran) [] (writes_of behind (run_accounts lines states driving image))
+    profiled lines (end_of ran.machine) (trace_of ran) [] (writes_of behind (run_texts lines (counted_for fitted_further states (machine_of driving image))))
 profile_over (Some most) states behind lines driving image =
     let lives = board_lives most states driving image in
     profiled lines (last_end lives) (lives_text lives) (map (λ n. text_before n lives) (range_with_len 0 (length lives)))
-    (writes_of behind (lives_accounts lines (counted_from driving image 0 lives)))
+    (writes_of behind (lives_texts lines (counted_from driving image 0 lives)))
 
 abbrev pub profile_response : Extent → Behind → Lines → Driving → List ℕ → Response
 profile_response extent behind lines driving image = profile_over extent.lives extent.states behind lines driving image
