@@ -92,26 +92,45 @@ counted_from driving image from (life ∷ more) =
     counted_for watched_further life.ran.machine.time (start image (driven_from from driving.stimuli) (watched_for driving.values driving.stimuli from))
     ∷ counted_from driving image (from + life.ran.machine.time) more
 
--- ---- how a run ended, and its text; and behind it the files are written
+-- ---- a run that is counted: how it ends, its text, where memory may be wanted in that, and the texts behind it
 
--- memory may be wanted behind the text, for the files and for what is said
-abbrev pub profiled : Lines → End → List ℕ → List (List ℕ) → List Write → Response
-profiled lines how text pauses writes = record {
-  status = status_of how;
-  text = text;
-  pauses = pauses ++ text ∷ [];
-  writes = writes;
-  diagnostic = said_of (lines_in lines.linked) how;
+pub record Run : Type 0 where
+  pub how : End
+  pub text : List ℕ
+  pub pauses : List (List ℕ)
+  pub texts : Texts
+
+abbrev pub once : ℕ → Lines → Driving → List ℕ → Run
+once states lines driving image =
+    let ran = run_of states driving image in
+    record { how = end_of ran.machine; text = trace_of ran; pauses = []; texts = run_texts lines (counted_for fitted_further states (machine_of driving image)) }
+
+-- each life makes its machine anew, and puts its texts behind those before
+abbrev pub over_lives : List (Life WatchedUnit) → Lines → Driving → List ℕ → Run
+over_lives lives lines driving image = record {
+  how = last_end lives;
+  text = lives_text lives;
+  pauses = map (λ n. text_before n lives) (range_with_len 0 (length lives));
+  texts = lives_texts lines (counted_from driving image 0 lives);
 }
 
-abbrev pub profile_over : Option ℕ → ℕ → Behind → Lines → Driving → List ℕ → Response
-profile_over None states behind lines driving image =
-    let ran = run_of states driving image in
-    profiled lines (end_of ran.machine) (trace_of ran) [] (writes_of behind (run_texts lines (counted_for fitted_further states (machine_of driving image))))
-profile_over (Some most) states behind lines driving image =
-    let lives = board_lives most states driving image in
-    profiled lines (last_end lives) (lives_text lives) (map (λ n. text_before n lives) (range_with_len 0 (length lives)))
-    (writes_of behind (lives_texts lines (counted_from driving image 0 lives)))
+abbrev pub run_over : Option ℕ → ℕ → Lines → Driving → List ℕ → Run
+run_over None states lines driving image = once states lines driving image
+run_over (Some most) states lines driving image = over_lives (board_lives most states driving image) lines driving image
+
+-- memory may be wanted before the text, in it, and behind it, for the texts, the files and what is said
+abbrev pub pauses_of : Run → List (List ℕ)
+pauses_of run = [] ∷ (run.pauses ++ run.text ∷ [])
+
+-- the response: the text is that of the run without files, and behind it the files are written
+abbrev pub profiled : Behind → Lines → Run → Response
+profiled behind lines run = record {
+  status = status_of run.how;
+  text = run.text;
+  pauses = pauses_of run;
+  writes = writes_of behind run.texts;
+  diagnostic = said_of (lines_in lines.linked) run.how;
+}
 
 abbrev pub profile_response : Extent → Behind → Lines → Driving → List ℕ → Response
-profile_response extent behind lines driving image = profile_over extent.lives extent.states behind lines driving image
+profile_response extent behind lines driving image = profiled behind lines (run_over extent.lives extent.states lines driving image)

@@ -19,6 +19,7 @@ use kc_cover::{Source, put_sources};
 use kc_debug_script::MapEntry;
 use kc_kit_files::{Ended, Status};
 use kc_kit_words::Behind;
+use kc_machine::End;
 use kc_profile::{Profile, Scope, Statistics, report};
 use std::alloc::Global;
 
@@ -68,6 +69,13 @@ impl Account {
 pub(crate) struct Accounts {
     pub(crate) profile: Vec<u8>,
     pub(crate) cover: Vec<u8>,
+}
+
+/// How a run has ended that was counted, and what is written behind it.
+#[derive(Drop)]
+pub(crate) struct Watched {
+    pub(crate) how: End,
+    pub(crate) accounts: Accounts,
 }
 
 // Puts a heading: a word and a number.
