@@ -14,10 +14,9 @@ use Rattle.kc_kit_files.specs.declared.status.Status.TheVariants as status
 use Rattle.kc_kit_files.specs.declared.ended.Ended.{Ended}
 use Rattle.kc_kit_files.specs.Outside.{Kept, Wrote}
 use Rattle.kc_kit_files.specs.Response.{Write}
-use Rattle.kc_kit_running.specs.declared.accounts.Lines.{Lines}
 use Rattle.kc_kit_running.specs.Profiled.{Run, Texts, pauses_of}
 use Rattle.kc_kit_running.specs.Running.{IsEndOf}
-use Rattle.kc_kit_running.specs.Sources.{lines_in}
+use Rattle.kc_kit_running.specs.Sources.{FileLines}
 use Rattle.kc_kit_running.specs.Watched.{WatchedUnit, watched_further}
 use Rattle.kc_kit_running.specs.Writing.{AreWritten}
 
@@ -34,9 +33,9 @@ HasFailed run old fault.WriteFault new = Puts old run.text new × (new.failed �
 HasFailed run old fault.NoMemory new = Any (λ text. Puts old text new) (pauses_of run) × (new.failed ≡ false)
 
 -- these files are written, and the command has ended as its run; or one is refused
-abbrev pub HasFinished : Lines → End → List Write → Kept → Ended → Kept → Type 0
+abbrev pub HasFinished : FileLines → End → List Write → Kept → Ended → Kept → Type 0
 HasFinished lines how ws old ended new =
-    (IsEndOf (lines_in lines.linked) how ended × Wrote old ws new) ⊎ ((ended.status ≢ status.Done) × AreWritten old ws ended new)
+    (IsEndOf lines how ended × Wrote old ws new) ⊎ ((ended.status ≢ status.Done) × AreWritten old ws ended new)
 
 -- ---- one life
 

@@ -107,7 +107,7 @@ impl Accounts {
         lines: &Lines<'_>,
         scope: Scope,
     ) -> Result<(), NoMemory>
-        ensures profile { OnOk result (self.new.profile.items ≡ self.old.profile.items ++ counted_text scope lines.now account.now.profile account.now.statistics) }
+        ensures profile { OnOk result (self.new.profile.items ≡ self.old.profile.items ++ counted_text scope lines.now.entries.items account.now.profile account.now.statistics) }
         ensures cover { self.new.cover ≡ self.old.cover }
     {
         let text = report(alloc, &account.profile, &account.statistics, &lines.entries, scope)?;
@@ -122,7 +122,7 @@ impl Accounts {
         account: &Account,
         lines: &Lines<'_>,
     ) -> Result<(), NoMemory>
-        ensures profile { OnOk result (self.new.profile.items ≡ self.old.profile.items ++ counted_text scopes.Life lines.now account.now.profile account.now.statistics) }
+        ensures profile { OnOk result (self.new.profile.items ≡ self.old.profile.items ++ counted_text scopes.Life lines.now.entries.items account.now.profile account.now.statistics) }
         ensures cover { OnOk result (self.new.cover.items ≡ self.old.cover.items ++ cover_text None account.now.statistics lines.now.sources.items) }
     {
         self.put_profile(alloc, account, lines, Scope::Life)?;
@@ -137,7 +137,7 @@ impl Accounts {
         account: &Account,
         lines: &Lines<'_>,
     ) -> Result<(), NoMemory>
-        ensures profile { OnOk result (self.new.profile.items ≡ self.old.profile.items ++ heading (codes "life ") life ++ counted_text scopes.Life lines.now account.now.profile account.now.statistics) }
+        ensures profile { OnOk result (self.new.profile.items ≡ self.old.profile.items ++ heading (codes "life ") life ++ counted_text scopes.Life lines.now.entries.items account.now.profile account.now.statistics) }
         ensures cover { OnOk result (self.new.cover.items ≡ self.old.cover.items ++ cover_text (Some life) account.now.statistics lines.now.sources.items) }
     {
         put_heading(&mut self.profile, b"life ", life)?;
@@ -153,7 +153,7 @@ impl Accounts {
         sums: &Account,
         lines: &Lines<'_>,
     ) -> Result<(), NoMemory>
-        ensures profile { OnOk result (self.new.profile.items ≡ self.old.profile.items ++ heading (codes "lives ") lives ++ counted_text scopes.Lives lines.now sums.now.profile sums.now.statistics) }
+        ensures profile { OnOk result (self.new.profile.items ≡ self.old.profile.items ++ heading (codes "lives ") lives ++ counted_text scopes.Lives lines.now.entries.items sums.now.profile sums.now.statistics) }
         ensures cover { self.new.cover ≡ self.old.cover }
     {
         put_heading(&mut self.profile, b"lives ", lives)?;

@@ -9,7 +9,8 @@ ghost use Rattle.kc_kit_files.specs.Outside.{kept};
 ghost use Rattle.kc_kit_words.specs.Asked.{behind_in, IsBounded};
 ghost use Rattle.kc_kit_words.specs.Values.{max_states};
 ghost use Rattle.kc_kit_running.specs.Passing.{HasFailed, HasFinished, HasPassed};
-ghost use Rattle.kc_kit_running.specs.Profiled.{counted_text, once, profile_response, run_over, writes_of};
+ghost use Rattle.kc_kit_running.specs.Sources.{lines_in};
+ghost use Rattle.kc_kit_running.specs.Profiled.{counted_text, known, once, profile_response, run_over, writes_of};
 
 use crate::accounts::{Account, Accounts, Lines, Watched};
 use crate::board::Board;
@@ -41,7 +42,7 @@ pub fn profile_board<'a, F: Files, S: Sink, L: Ledger>(
     requires bounded { IsBounded extent }
     requires fresh { IsFresh blank L.name L.parts }
     requires whole { blank.parts ≡ 1 }
-    ensures response { Ends F.held F.write_faults S.written S.faults (λ response. response ≡ profile_response extent (behind_in behind.entry) lines.now board.driving board.image) files.old out.old.sink result files.new out.new.sink }
+    ensures response { Ends F.held F.write_faults S.written S.faults (λ response. response ≡ profile_response extent (behind_in behind.entry) (known lines.now) board.driving board.image) files.old out.old.sink result files.new out.new.sink }
     ensures no_read { F.read_faults files.new ≡ F.read_faults files.old }
 {
     let mut steps = Steps::<L>::new(blank);
@@ -63,8 +64,8 @@ fn watch<S: Sink, L: Ledger>(
 ) -> Result<Watched, LivesFault>
     requires ready { out.old.failed ≡ false }
     requires bounded { IsBounded extent }
-    ensures passed { IfOk result (λ watched. HasPassed (run_over extent.lives extent.states lines.now board.driving board.image) (out_of S.written S.faults out.old) watched.how (record { profile = watched.accounts.profile.items; cover = watched.accounts.cover.items }) (out_of S.written S.faults out.new)) }
-    ensures failed { IfErr result (λ fault. HasFailed (run_over extent.lives extent.states lines.now board.driving board.image) (out_of S.written S.faults out.old) fault (out_of S.written S.faults out.new)) }
+    ensures passed { IfOk result (λ watched. HasPassed (run_over extent.lives extent.states (known lines.now) board.driving board.image) (out_of S.written S.faults out.old) watched.how (record { profile = watched.accounts.profile.items; cover = watched.accounts.cover.items }) (out_of S.written S.faults out.new)) }
+    ensures failed { IfErr result (λ fault. HasFailed (run_over extent.lives extent.states (known lines.now) board.driving board.image) (out_of S.written S.faults out.old) fault (out_of S.written S.faults out.new)) }
 {
     match extent.lives {
         None => watch_once(alloc, board, extent.states, lines, out, steps),
@@ -83,8 +84,8 @@ fn watch_once<S: Sink, L: Ledger>(
 ) -> Result<Watched, LivesFault>
     requires ready { out.old.failed ≡ false }
     requires states { states ≤ max_states }
-    ensures passed { IfOk result (λ watched. HasPassed (once states lines.now board.driving board.image) (out_of S.written S.faults out.old) watched.how (record { profile = watched.accounts.profile.items; cover = watched.accounts.cover.items }) (out_of S.written S.faults out.new)) }
-    ensures failed { IfErr result (λ fault. HasFailed (once states lines.now board.driving board.image) (out_of S.written S.faults out.old) fault (out_of S.written S.faults out.new)) }
+    ensures passed { IfOk result (λ watched. HasPassed (once states (known lines.now) board.driving board.image) (out_of S.written S.faults out.old) watched.how (record { profile = watched.accounts.profile.items; cover = watched.accounts.cover.items }) (out_of S.written S.faults out.new)) }
+    ensures failed { IfErr result (λ fault. HasFailed (once states (known lines.now) board.driving board.image) (out_of S.written S.faults out.old) fault (out_of S.written S.faults out.new)) }
 {
     let Ok(mut account) = Account::new(alloc, 1) else {
         return Err(LivesFault::NoMemory);
@@ -117,7 +118,7 @@ fn accounts_of_run(
     account: &Account,
     lines: &Lines<'_>,
 ) -> Result<Accounts, NoMemory>
-    ensures profile { IfOk result (λ accounts. accounts.profile.items ≡ counted_text scopes.Life lines.now account.now.profile account.now.statistics) }
+    ensures profile { IfOk result (λ accounts. accounts.profile.items ≡ counted_text scopes.Life lines.now.entries.items account.now.profile account.now.statistics) }
     ensures cover { IfOk result (λ accounts. accounts.cover.items ≡ cover_text None account.now.statistics lines.now.sources.items) }
 {
     let mut accounts = Accounts::new(alloc);
@@ -133,7 +134,7 @@ fn finish<'a, F: Files>(
     behind: Behind<'a>,
     files: &mut F,
 ) -> Ended<'a>
-    ensures finished { HasFinished lines.now watched.how (writes_of (behind_in behind.entry) (record { profile = watched.accounts.profile.items; cover = watched.accounts.cover.items })) (kept (F.held files.old) (F.write_faults files.old)) result (kept (F.held files.new) (F.write_faults files.new)) }
+    ensures finished { HasFinished (lines_in lines.now.linked) watched.how (writes_of (behind_in behind.entry) (record { profile = watched.accounts.profile.items; cover = watched.accounts.cover.items })) (kept (F.held files.old) (F.write_faults files.old)) result (kept (F.held files.new) (F.write_faults files.new)) }
     ensures no_read { F.read_faults files.new ≡ F.read_faults files.old }
 {
     let Watched { how, accounts } = watched;
