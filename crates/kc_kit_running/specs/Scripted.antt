@@ -5,7 +5,8 @@ use Rattle.kc_debug_script.specs.declared.command.Command.{Command}
 use Rattle.kc_debug_script.specs.declared.line_map.MapEntry.{MapEntry}
 use Rattle.kc_cycles.specs.Making.{deadline_of}
 use Rattle.kc_debug.specs.Transcript.{Debugged, transcript}
-use Rattle.kc_debug.specs.InLives.{InLife, end_in, in_lives}
+pub use Rattle.kc_debug.specs.InLives.{end_in}
+use Rattle.kc_debug.specs.InLives.{InLife, in_lives}
 use Rattle.kc_kit_files.specs.Response.{Response}
 use Rattle.kc_kit_inputs.specs.declared.driving.Driving.{Driving}
 use Rattle.kc_kit_running.specs.Fitted.{FittedUnit, fitted_further}
