@@ -36,7 +36,7 @@ use Rattle.kc_asm_laws.specs.Modules.{OneModuleOfText}
 pub cons_said : (a b : Said) (xs ys : List Said) → a ∷ xs ≡ b ∷ ys → (a ≡ b) × (xs ≡ ys)
 cons_said a b xs ys e = (cc e, cc e)
 
-ok_tree : (a b : ActionTree) (r s : Result ActionTree ℕ) → r ≡ s → r ≡ Ok a → s ≡ Ok b → a ≡ b
+pub ok_tree : (a b : ActionTree) (r s : Result ActionTree ℕ) → r ≡ s → r ≡ Ok a → s ≡ Ok b → a ≡ b
 ok_tree a b r s e f g = cc (e, f, g)
 
 located_alike : (values : ℕ → Segment → Value) (i : ℕ) (g : Segment) (ss ts : List Stmt) → map stmt_said ss ≡ map stmt_said ts → located_from values i g ss ≡ located_from values i g ts

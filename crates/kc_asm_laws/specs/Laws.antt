@@ -5,12 +5,16 @@ use Rattle.kc_lex.specs.declared.token.Line.{Line}
 use Rattle.kc_source_statement.specs.declared.statement.Stmt.{Stmt}
 use Rattle.kc_obj_module.specs.Object.{Object}
 use Rattle.kc_asm_list.specs.declared.spot.Spot.{Spot}
-use Rattle.kc_asm_list.specs.Listed.{IsListing}
+use Rattle.kc_asm_list.specs.Listed.{IsListing, AreInstructionsOf}
 use Rattle.kc_asm_list.specs.Spots.{spots_of}
 
 -- a source has one listing
 abbrev pub OneListing : Type 0
 OneListing = (source : List ℕ) (m : Object) (listed other : List ℕ) → IsListing source m listed → IsListing source m other → listed ≡ other
+
+-- the instructions of a source stand in one way
+abbrev pub OneInstructions : Type 0
+OneInstructions = (source : List ℕ) (spots others : List Spot) → AreInstructionsOf source spots → AreInstructionsOf source others → spots ≡ others
 
 -- ---- the stretches of the statements of a piece leave nothing out, and none stands over another
 

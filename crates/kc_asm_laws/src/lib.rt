@@ -16,7 +16,7 @@ pub use faults::{
     faults_have_their_lines, faults_of_names_have_names, faults_stand_at_lines,
     symbols_stand_at_their_lines,
 };
-pub use listing::{each_byte_is_shown_once, one_listing, stretches_follow};
+pub use listing::{each_byte_is_shown_once, one_instructions, one_listing, stretches_follow};
 pub use modules::{
     faultless_are_read, faultless_have_modules, filled_are_bytes, filled_is_linked,
     linked_is_filled, modules_fit, one_answer_of_text, one_image_of_texts,

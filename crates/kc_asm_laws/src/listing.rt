@@ -1,6 +1,6 @@
 //! What the listing of a source says of its module: laws of definitions, without code.
 
-ghost use Rattle.kc_asm_laws.specs.Laws.{OneListing, StretchesFollow};
+ghost use Rattle.kc_asm_laws.specs.Laws.{OneInstructions, OneListing, StretchesFollow};
 ghost use Rattle.kc_asm_laws.specs.Shown.{EachByteIsShownOnce};
 
 use kc_asm_check::no_fault_no_codes;
@@ -10,6 +10,11 @@ use kc_asm_section::{put_stands, written_stands};
 /// A source has one listing with the bytes of a module.
 pub fn one_listing()
     ensures { OneListing }
+{}
+
+/// The instructions of a source stand in one way.
+pub fn one_instructions()
+    ensures { OneInstructions }
 {}
 
 /// The stretches of the statements of a piece, in the order in which they come out, begin where the piece begins, and each

@@ -65,6 +65,8 @@ pub record IsSource (name text image : List ℕ) (m : Object) (bases : BaseLists
   pub rises : IsNonDecreasingBy (λ i. i.line) source.instructions.items
   pub same : (line : ℕ) → filter (is_on line) source.instructions.items ≡ filter (is_on line) (flat_map (instructions_of image (code_base m.segments bases.pieces)) spots)
 
+-- one of each file, in this order
 unfoldable pub AreSources : List (List ℕ) → List (List ℕ) → List ℕ → List Object → List BaseLists → List Source → Type 0
+AreSources [] texts image ms bases sources = sources ≡ []
 AreSources (name ∷ names) (text ∷ texts) image (m ∷ ms) (bases ∷ more) (source ∷ sources) = IsSource name text image m bases source × AreSources names texts image ms more sources
-AreSources _ _ image _ _ sources = sources ≡ []
+AreSources _ _ image _ _ _ = ⊥

@@ -29,7 +29,7 @@ use Rattle.kc_kit_answer.specs.Places.{places_of}
 use Rattle.kc_kit_running.specs.Scripted.{debugger_response}
 use Rattle.kc_kit_running.specs.Counted.{summary_of}
 use Rattle.kc_kit_running.specs.Lives.{board_response}
-use Rattle.kc_kit_running.specs.Profiled.{profile_response}
+use Rattle.kc_kit_running.specs.Profiled.{Known, known, profile_response}
 use Rattle.kc_kit_running.specs.Sources.{FileLines, lines_in}
 use Rattle.kc_kit_running.specs.declared.sources.Sources.{Sources}
 use Rattle.kc_kit_running.specs.Writing.{written}
@@ -46,7 +46,7 @@ status_of false = status.Done
 -- the response of a job
 abbrev pub does : Job → Response
 does (job.Run board sources extent) = board_response (lines_in sources) extent board.driving board.image
-does (job.Profile board extent lines behind) = profile_response extent (behind_in behind) lines board.driving board.image
+does (job.Profile board extent lines behind) = profile_response extent (behind_in behind) (known lines) board.driving board.image
 does (job.Count board number) = summary_of number board.driving board.image
 does (job.List image first last) = says status.Done (listing image first last)
 does (job.Debug board lives script lines) = debugger_response lives lines script board.driving board.image
@@ -79,9 +79,9 @@ IsBoardOfSources answer (Ok made) = (report : FileLines → Driving → List ℕ
 IsBoardOfSources answer (Err refusal) = (report : FileLines → Driving → List ℕ → Response) → IsRefused (answer report) refusal
 
 -- a board with what is known of the lines of its sources
-abbrev pub IsBoardWithLines : ((Lines → Driving → List ℕ → Response) → Response → Type 0) → Result (Board × Lines) Refusal → Type 0
-IsBoardWithLines answer (Ok made) = (report : Lines → Driving → List ℕ → Response) → answer report (report made.1 made.0.driving made.0.image)
-IsBoardWithLines answer (Err refusal) = (report : Lines → Driving → List ℕ → Response) → IsRefused (answer report) refusal
+abbrev pub IsBoardWithLines : ((Known → Driving → List ℕ → Response) → Response → Type 0) → Result (Board × Lines) Refusal → Type 0
+IsBoardWithLines answer (Ok made) = (report : Known → Driving → List ℕ → Response) → answer report (report (known made.1) made.0.driving made.0.image)
+IsBoardWithLines answer (Err refusal) = (report : Known → Driving → List ℕ → Response) → IsRefused (answer report) refusal
 
 -- a job or a refusal, of which the response may be given
 abbrev pub IsPrepared : (Response → Type 0) → Result Job Refusal → Type 0

@@ -14,23 +14,19 @@ use Rattle.kc_kit_words.specs.declared.inputs.Role.{Role}
 use Rattle.kc_kit_inputs.specs.declared.driving.Driving.{Driving}
 use Rattle.kc_kit_inputs.specs.Driving.{GivenFiles, given_for, driving_of}
 use Rattle.kc_kit_inputs.specs.Sources.{DiagnosticRule, SourcesAre}
-use Rattle.kc_kit_running.specs.declared.accounts.Lines.{Lines}
-use Rattle.kc_kit_running.specs.Profiled.{profile_response}
-use Rattle.kc_kit_running.specs.Sources.{lines_in, lines_of_files}
+use Rattle.kc_kit_running.specs.Profiled.{Known, none_known, profile_response}
+use Rattle.kc_kit_running.specs.Sources.{lines_of_files}
 use Rattle.kc_kit_answer.specs.Cover.{AreSources}
 use Rattle.kc_kit_answer.specs.Hex.{HexReported}
 use Rattle.kc_kit_answer.specs.Places.{Placing}
 use Rattle.kc_kit_answer.specs.Run.{IsImageOfTexts}
 
--- ---- a hex file, which has no line map
+-- ---- a hex file, of which nothing is known
 
--- a profile alone, of an image of which nothing is known
-pub record ProfileHexAnswer (name : List ℕ) (inputs : List (Role × List ℕ)) (extent : Extent) (out text : List ℕ) (input_texts : List (List ℕ)) (response : Response) : Type 0 where
-  pub lines : Lines
-  pub no_entries : lines.entries.items ≡ []
-  pub no_sources : lines.sources.items ≡ []
-  pub not_linked : lines.linked ≡ None
-  pub reported : HexReported name (given_for inputs input_texts) text (profile_response extent (record { profile = Some out; cover = None }) lines) response
+-- a profile alone
+abbrev pub ProfileHexAnswer : List ℕ → List (Role × List ℕ) → Extent → List ℕ → List ℕ → List (List ℕ) → Response → Type 0
+ProfileHexAnswer name inputs extent out text input_texts response =
+    HexReported name (given_for inputs input_texts) text (profile_response extent (record { profile = Some out; cover = None }) none_known) response
 
 -- ---- sources, with the line map of their modules
 
@@ -42,33 +38,33 @@ abbrev pub AreEntries : List Object → Places → List MapEntry → Type 0
 AreEntries ms places entries = (lines : List LineAt) × IsLineMap ms places lines × (entries ≡ map map_entry lines)
 
 -- what is known of the lines of sources, with their modules at their places in an image
-pub record AreLines (names texts : List (List ℕ)) (image : List ℕ) (ms : List Object) (places : Places) (lines : Lines) : Type 0 where
-  pub entries : AreEntries ms places lines.entries.items
-  pub sources : AreSources names texts image ms (bases_from ms places) lines.sources.items
-  pub linked : lines_in lines.linked ≡ lines_of_files names ms places
+pub record AreLines (names texts : List (List ℕ)) (image : List ℕ) (ms : List Object) (places : Places) (known : Known) : Type 0 where
+  pub entries : AreEntries ms places known.entries
+  pub sources : AreSources names texts image ms (bases_from ms places 0 ms) known.sources
+  pub lines : known.lines ≡ lines_of_files names ms places
 
 -- in the image that is filled from the modules of sources, with what is known of their lines, the answer is this
-pub record FilledWithLines (names texts : List (List ℕ)) (report : Lines → List ℕ → Response) (ms : List Object) (places : Places) (response : Response) : Type 0 where
+pub record FilledWithLines (names texts : List (List ℕ)) (report : Known → List ℕ → Response) (ms : List Object) (places : Places) (response : Response) : Type 0 where
   pub image : List ℕ
   pub is_filled : IsFilled ms places image
-  pub lines : Lines
-  pub are_lines : AreLines names texts image ms places lines
-  pub reported : response ≡ report lines image
+  pub known : Known
+  pub are_lines : AreLines names texts image ms places known
+  pub reported : response ≡ report known image
 
 -- the same in the image that is linked from sources
-pub record LinkedWithLines (names texts : List (List ℕ)) (report : Lines → List ℕ → Response) (ms : List Object) (places : Places) (response : Response) : Type 0 where
+pub record LinkedWithLines (names texts : List (List ℕ)) (report : Known → List ℕ → Response) (ms : List Object) (places : Places) (response : Response) : Type 0 where
   pub image : List ℕ
   pub is_filled : IsFilled ms places image
   pub is_image : IsImageOfTexts texts ms places image
-  pub lines : Lines
-  pub are_lines : AreLines names texts image ms places lines
-  pub reported : response ≡ report lines image
+  pub known : Known
+  pub are_lines : AreLines names texts image ms places known
+  pub reported : response ≡ report known image
 
 -- once modules are placed, it is checked what drives the inputs
-abbrev pub DrivenWithLines : GivenFiles → ((Lines → List ℕ → Response) → List Object → Places → Response → Type 0) → (Lines → Driving → List ℕ → Response) → List Object → Places → Response → Type 0
-DrivenWithLines given may report ms places response = Then (driving_of given) (λ driving. may (λ lines. report lines driving) ms places) response
+abbrev pub DrivenWithLines : GivenFiles → ((Known → List ℕ → Response) → List Object → Places → Response → Type 0) → (Known → Driving → List ℕ → Response) → List Object → Places → Response → Type 0
+DrivenWithLines given may report ms places response = Then (driving_of given) (λ driving. may (λ known. report known driving) ms places) response
 
-abbrev pub LinesReported : DiagnosticRule → List (List ℕ) → GivenFiles → Ranges → List (List ℕ) → (Lines → Driving → List ℕ → Response) → Response → Type 0
+abbrev pub LinesReported : DiagnosticRule → List (List ℕ) → GivenFiles → Ranges → List (List ℕ) → (Known → Driving → List ℕ → Response) → Response → Type 0
 LinesReported IsDiagnostic names given ranges texts report response =
     (sources : Result (List Object) Response) × SourcesAre IsDiagnostic names texts sources × Then sources (Placing names ranges (DrivenWithLines given (LinkedWithLines names texts) report)) response
 

@@ -64,8 +64,7 @@ RunReported IsDiagnostic names given ranges texts report response =
 
 -- the same where the answer does not depend on lines
 abbrev pub SourcesReported : DiagnosticRule → List (List ℕ) → GivenFiles → Ranges → List (List ℕ) → (Driving → List ℕ → Response) → Response → Type 0
-SourcesReported IsDiagnostic names given ranges texts report response =
-    (sources : Result (List Object) Response) × SourcesAre IsDiagnostic names texts sources × Then sources (Placing names ranges (Driven given (LinkedReported texts) report)) response
+SourcesReported IsDiagnostic names given ranges texts report response = RunReported IsDiagnostic names given ranges texts (λ lines. report) response
 
 -- the answer to sources that are run
 abbrev pub RunAnswer : DiagnosticRule → List (List ℕ) → List (Role × List ℕ) → Extent → Ranges → List (List ℕ) → List (List ℕ) → Response → Type 0

@@ -1,5 +1,5 @@
 // Boards that are to be run.
-ghost use Rattle.std.specs.Prelude.{◌≡◌, ◌≤◌, length, map, string_bytes};
+ghost use Rattle.std.specs.Prelude.{◌≡◌, ◌≤◌, length, map, string_bytes, Some};
 ghost use Rattle.kc_base.specs.Limits.{file_limit};
 ghost use Rattle.kc_link.specs.Placed.{ArePlacedAt};
 ghost use Rattle.kc_kit_files.specs.Reads.{AllShort};
@@ -10,7 +10,7 @@ ghost use Rattle.kc_kit_answer.specs.Hex.{HexReported};
 ghost use Rattle.kc_kit_answer.specs.Jobs.{IsBoard, IsBoardOfSources};
 ghost use Rattle.kc_kit_answer.specs.Places.{Placing};
 ghost use Rattle.kc_kit_answer.specs.Run.{Driven, FilledReported, RunReported, SourcesReported};
-ghost use Rattle.kc_kit_running.specs.Sources.{lines_of_files};
+ghost use Rattle.kc_kit_running.specs.Sources.{lines_in, lines_of_files};
 
 use crate::placing::place_modules;
 use kc_asm::linked_image;
@@ -111,15 +111,24 @@ fn board_with_modules<'a>(
         Err(refusal) => return Err(refusal),
     };
     match board_at(alloc, &modules, &placement, given) {
-        Ok(board) => Ok((
-            board,
-            Sources {
-                files,
-                modules,
-                placement,
-            },
-        )),
+        Ok(board) => Ok((board, sources_of(files, modules, placement))),
         Err(refusal) => Err(refusal),
+    }
+}
+
+/// The sources of an image, of modules at their places.
+pub(crate) fn sources_of<'a>(
+    files: &'a [String],
+    modules: Vec<Module>,
+    placement: Placement,
+) -> Sources<'a>
+    requires { ArePlacedAt modules.items placement }
+    ensures { lines_in (Some result) ≡ lines_of_files (map string_bytes files.now) modules.items placement.places }
+{
+    Sources {
+        files,
+        modules,
+        placement,
     }
 }
 

@@ -7,23 +7,24 @@ ghost use Rattle.kc_kit_words.specs.Asked.{asked, behind_in, AreLinkable, IsBoun
 ghost use Rattle.kc_kit_words.specs.Inputs.{inputs_in};
 ghost use Rattle.kc_kit_inputs.specs.Driving.{given_in, AreShort};
 ghost use Rattle.kc_kit_inputs.specs.FaultDiagnostics.{IsFaultDiagnostic};
+ghost use Rattle.kc_kit_running.specs.Profiled.{known};
 ghost use Rattle.kc_kit_answer.specs.Jobs.{IsBoardWithLines, IsPrepared, Prepares};
 ghost use Rattle.kc_kit_answer.specs.Places.{Placing};
 ghost use Rattle.kc_kit_answer.specs.Profile.{map_entry, AreEntries, AreLines, DrivenWithLines, FilledWithLines, LinesReported, ProfileAnswer, ProfileHexAnswer};
 
-use crate::board::{board_at, board_of_hex};
+use crate::board::{board_of_hex, sources_of};
 use crate::cover::sources_at;
 use crate::job::Job;
 use crate::placing::place_modules;
 use kc_asm::linked_image;
-use kc_base::{Files, NoMemory};
+use kc_base::{Files, Image, NoMemory};
 use kc_debug_script::MapEntry;
 use kc_kit_files::{Refusal, read_file, read_files};
-use kc_kit_inputs::{Given, assemble_sources, given_for, read_inputs};
+use kc_kit_inputs::{Given, assemble_sources, driving_in, given_for, read_inputs};
 use kc_kit_messages::Origins;
-use kc_kit_running::{Board, Lines, Sources};
+use kc_kit_running::{Board, Lines};
 use kc_kit_words::{Behind, Command, Profile, ProfileHex, Ranges};
-use kc_link::{LineAt, Placement, lines_at};
+use kc_link::{LineAt, Placement, image_at, lines_at};
 use kc_obj_module::Module;
 use kc_source_laws::sources_are_read_well;
 use std::alloc::Global;
@@ -191,41 +192,40 @@ fn linked_at<'a>(
     requires given { AreShort given }
     ensures { IsBoardWithLines (λ report. DrivenWithLines (given_in given.entry) (FilledWithLines (map string_bytes names.now) (map (λ t. t.items) texts.now)) report modules.items placement.places) result }
 {
-    let board = match board_at(alloc, &modules, &placement, given) {
-        Ok(board) => board,
-        Err(refusal) => return Err(refusal),
+    let Ok(image) = image_at(alloc, &modules, &placement) else {
+        return Err(Refusal::NoMemory);
     };
-    match lines_of(alloc, names, texts, modules, placement, &board) {
-        Ok(lines) => Ok((board, lines)),
-        Err(NoMemory) => Err(Refusal::NoMemory),
+    let lines = match lines_of(alloc, names, texts, modules, placement, &image) {
+        Ok(lines) => lines,
+        Err(NoMemory) => return Err(Refusal::NoMemory),
+    };
+    match driving_in(alloc, given) {
+        Ok(driving) => Ok((Board { image, driving }, lines)),
+        Err(refusal) => Err(refusal),
     }
 }
 
-// What is known of the lines of sources, with their modules at their places on a board.
+// What is known of the lines of sources, with their modules at their places in an image.
 fn lines_of<'a>(
     alloc: Global,
     names: &'a [String],
     texts: &[Vec<u8>],
     modules: Vec<Module>,
     placement: Placement,
-    board: &Board,
+    image: &Image,
 ) -> Result<Lines<'a>, NoMemory>
     requires placed { ArePlacedAt modules.items placement }
     requires count { length texts.now ≡ length names.now }
     requires modules { length modules.items ≡ length names.now }
     requires short { AllShort (map (λ t. t.items) texts.now) }
-    ensures { IfOk result (AreLines (map string_bytes names.now) (map (λ t. t.items) texts.now) board.now.image modules.items placement.places) }
+    ensures { IfOk result (λ lines. AreLines (map string_bytes names.now) (map (λ t. t.items) texts.now) image.now modules.items placement.places (known lines)) }
 {
     let entries = entries_at(alloc, &modules, &placement)?;
-    let sources = sources_at(alloc, names, texts, &modules, &placement, &board.image)?;
+    let sources = sources_at(alloc, names, texts, &modules, &placement, image)?;
     Ok(Lines {
         entries,
         sources,
-        linked: Some(Sources {
-            files: names,
-            modules,
-            placement,
-        }),
+        linked: Some(sources_of(names, modules, placement)),
     })
 }
 

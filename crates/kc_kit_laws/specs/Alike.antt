@@ -21,6 +21,12 @@ use Rattle.kc_kit_laws.specs.OneAnswer.{silent}
 abbrev pub hex_alone : Beside
 hex_alone = record { lines = None; map = None }
 
+-- sources are answered this response to a hex file, but for what is said in words of an undefined use
+abbrev pub IsAlike : List (List ℕ) → List (Role × List ℕ) → Extent → Ranges → List (List ℕ) → List (List ℕ) → Response → Type 0
+IsAlike names inputs extent ranges texts input_texts response =
+    (other : Response) × RunAnswer IsFaultDiagnostic names inputs extent ranges texts input_texts other
+    × (silent other ≡ silent response) × (response.status ≢ status.Undefined → other ≡ response)
+
 -- where each text has fewer than 2^32 bytes: an object counts lines in 32 bits
 abbrev pub RunsAlike : Type 0
 RunsAlike =
@@ -28,5 +34,4 @@ RunsAlike =
     → AreModules texts ms → list_all (λ t. nat_lt (length t) (2 ^ 32)) texts ≡ true → length objects ≡ length ms
     → LinkAnswer objects [] file hex_alone ranges (map spelling ms) [] (done_writing (write file hex ∷ []))
     → RunHexAnswer file inputs extent hex input_texts response
-    → (other : Response) × RunAnswer IsFaultDiagnostic names inputs extent ranges texts input_texts other
-    × (silent other ≡ silent response) × (response.status ≢ status.Undefined → other ≡ response)
+    → IsAlike names inputs extent ranges texts input_texts response

@@ -1,5 +1,8 @@
+pub mod AccountLemmas
 pub mod LivesLemmas
 pub mod ProfileLemmas
 pub mod RunLemmas
 pub mod ScriptLemmas
+pub mod SourceLemmas
+pub mod WatchLemmas
 pub mod WritingLemmas

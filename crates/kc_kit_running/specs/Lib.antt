@@ -1,6 +1,8 @@
 pub mod Counted
+pub mod Counting
 pub mod Fitted
 pub mod Lives
+pub mod Passing
 pub mod Profiled
 pub mod Running
 pub mod Scripted

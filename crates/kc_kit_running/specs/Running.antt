@@ -1,5 +1,5 @@
 -- A run of an image (this kit's own).
-use Rattle.std.specs.Prelude.{◌≡◌, ℕ, List, [], ◌∷◌, ◌++◌}
+use Rattle.std.specs.Prelude.{◌≡◌, ◌⊎◌, ℕ, List, [], ◌∷◌, ◌++◌}
 use Rattle.kc_machine_spec.specs.declared.doing.End.{End}
 use Rattle.kc_machine_spec.specs.declared.doing.End.TheVariants as end
 use Rattle.kc_machine_spec.specs.Machine.{Machine, Stepped, start}
@@ -7,6 +7,8 @@ use Rattle.kc_machine_spec.specs.Run.{run_to, end_of}
 use Rattle.kc_machine_spec.specs.Text.{trace_of}
 use Rattle.kc_kit_files.specs.declared.status.Status.{Status}
 use Rattle.kc_kit_files.specs.declared.status.Status.TheVariants as status
+use Rattle.kc_kit_files.specs.declared.ended.Ended.{Ended}
+use Rattle.kc_kit_files.specs.Ended.{said_in}
 use Rattle.kc_kit_files.specs.Response.{Response}
 use Rattle.kc_kit_messages.specs.Uses.{use_diagnostic}
 use Rattle.kc_kit_inputs.specs.declared.driving.Driving.{Driving}
@@ -22,6 +24,15 @@ status_of _ = status.Done
 abbrev pub said_of : FileLines → End → List ℕ
 said_of lines (end.Undefined what access) = use_diagnostic (lines what.addr) what access
 said_of lines _ = []
+
+abbrev pub IsUndefined : End → Type 0
+IsUndefined (end.Undefined what access) = Unit {0}
+IsUndefined _ = ⊥
+
+-- How a command has ended whose run has ended so: with the status, and what is said in words; or memory ran out for these words.
+abbrev pub IsEndOf : FileLines → End → Ended → Type 0
+IsEndOf lines how ended =
+    ((ended.status ≡ status_of how) × (said_in ended.said ≡ said_of lines how)) ⊎ ((ended.status ≡ status.NoMemory) × IsUndefined how)
 
 -- it takes memory, behind the text
 abbrev pub pauses_behind : End → List ℕ → List (List ℕ)

@@ -1,11 +1,12 @@
 -- A board that is debugged by a script (this kit's own).
-use Rattle.std.specs.Prelude.{ℕ, List, [], Option, Some, None}
+use Rattle.std.specs.Prelude.{ℕ, List, [], ◌∷◌, Option, Some, None}
 use Rattle.kc_machine_spec.specs.Run.{end_of}
 use Rattle.kc_debug_script.specs.declared.command.Command.{Command}
 use Rattle.kc_debug_script.specs.declared.line_map.MapEntry.{MapEntry}
 use Rattle.kc_cycles.specs.Making.{deadline_of}
 use Rattle.kc_debug.specs.Transcript.{Debugged, transcript}
-use Rattle.kc_debug.specs.InLives.{InLife, end_in, in_lives}
+pub use Rattle.kc_debug.specs.InLives.{end_in}
+use Rattle.kc_debug.specs.InLives.{InLife, in_lives}
 use Rattle.kc_kit_files.specs.Response.{Response}
 use Rattle.kc_kit_inputs.specs.declared.driving.Driving.{Driving}
 use Rattle.kc_kit_running.specs.Fitted.{FittedUnit, fitted_further}
@@ -23,12 +24,12 @@ debugged_by lines commands driving image = transcript fitted_further lines comma
 
 -- the same over at most so many lives of the board, with the watchdog; memory is wanted for each life
 abbrev pub lives_script_response : {X : Type 0} → InLife X → Response
-lives_script_response l = ends_with no_lines (end_in l) l.text l.pauses
+lives_script_response l = ends_with no_lines (end_in l) l.text ([] ∷ l.pauses)
 
 abbrev pub debugged_in_lives : ℕ → List MapEntry → List Command → Driving → List ℕ → InLife WatchedUnit
 debugged_in_lives most lines commands driving image = in_lives watched_further deadline_of image driving.stimuli (watched_for driving.values driving.stimuli) most lines commands
 
--- the response of a debugger, over lives where their number is reported
+-- the response of a debugger, over lives where their number is given
 abbrev pub debugger_response : Option ℕ → List MapEntry → List Command → Driving → List ℕ → Response
 debugger_response None lines commands driving image = script_response (debugged_by lines commands driving image)
 debugger_response (Some most) lines commands driving image = lives_script_response (debugged_in_lives most lines commands driving image)

@@ -5,12 +5,17 @@ use Rattle.kc_obj_module.specs.Object.{Object}
 use Rattle.kc_link_place.specs.Placing.{Places}
 use Rattle.kc_link.specs.declared.addresses.SourceLine.{SourceLine}
 use Rattle.kc_link.specs.SourceLine.{source_line}
+use Rattle.kc_kit_messages.specs.declared.uses.FileLine.{FileLine as LineShown}
 use Rattle.kc_kit_messages.specs.Uses.{FileLine}
 use Rattle.kc_kit_running.specs.declared.sources.Sources.{Sources}
 
 -- the line of a file, by the address at which its bytes begin
 abbrev pub FileLines : Type 0
 FileLines = ℕ → Option FileLine
+
+-- the line that is shown
+abbrev pub line_of : LineShown → FileLine
+line_of at = record { file = at.file.now; line = at.line }
 
 -- of a hex file nothing is known
 abbrev pub no_lines : FileLines

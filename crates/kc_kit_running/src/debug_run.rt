@@ -38,7 +38,7 @@ pub fn debug_board<S: Sink, L: Ledger>(
 {
     match lives {
         None => debug_once::<S, L>(alloc, board, script, lines, blank, out),
-        Some(most) => debug_in_lives::<S, L>(alloc, board, most, script, &lines, blank, out),
+        Some(most) => debug_in_lives::<S, L>(alloc, board, most, script, lines, blank, out),
     }
 }
 
@@ -48,7 +48,7 @@ fn debug_in_lives<S: Sink, L: Ledger>(
     board: Board,
     most: u16,
     script: &Script,
-    lines: &LineMap,
+    lines: LineMap,
     blank: Blank,
     out: &mut TraceOut<S>,
 ) -> Ended<'static>
@@ -56,7 +56,7 @@ fn debug_in_lives<S: Sink, L: Ledger>(
     requires some { 1 ≤ most }
     requires fresh { IsFresh blank L.name L.parts }
     requires whole { blank.parts ≡ 1 }
-    ensures { EndsPrinting (λ response. response ≡ lives_script_response (debugged_in_lives most lines.now script.now board.driving board.image)) (shown_by S.written S.faults out.old.sink) result (shown_by S.written S.faults out.new.sink) }
+    ensures { EndsPrinting (λ response. response ≡ lives_script_response (debugged_in_lives most lines script.now board.driving board.image)) (shown_by S.written S.faults out.old.sink) result (shown_by S.written S.faults out.new.sink) }
 {
     let Board { image, driving } = board;
     let Driving { stimuli, values } = driving;
@@ -68,7 +68,7 @@ fn debug_in_lives<S: Sink, L: Ledger>(
         most,
     };
     let mut steps = Steps::<L>::new(blank);
-    match debug_lives(alloc, &lives, script, lines, out, &mut steps) {
+    match debug_lives(alloc, &lives, script, &lines, out, &mut steps) {
         Ok(how) => ended_run(alloc, &None, how),
         Err(LivesFault::WriteFault) => Ended::by(Status::WriteFault),
         Err(LivesFault::NoMemory) => Ended::by(Status::NoMemory),

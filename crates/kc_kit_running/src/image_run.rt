@@ -1,12 +1,12 @@
 // A run of an image.
-ghost use Rattle.std.specs.Prelude.{◌≡◌, ◌≤◌, ◌⊎◌, false};
+ghost use Rattle.std.specs.Prelude.{◌≡◌, ◌≤◌, false};
 ghost use Rattle.kc_base.specs.Fresh.{IsFresh};
-ghost use Rattle.kc_kit_files.specs.Ended.{EndsPrinting, said_in};
+ghost use Rattle.kc_kit_files.specs.Ended.{EndsPrinting};
 ghost use Rattle.kc_kit_files.specs.Outside.{shown_by};
 ghost use Rattle.kc_kit_words.specs.Values.{max_states};
 ghost use Rattle.kc_kit_words.specs.Asked.{IsBounded};
 ghost use Rattle.kc_kit_running.specs.Lives.{board_response};
-ghost use Rattle.kc_kit_running.specs.Running.{run_of, run_response, said_of, status_of};
+ghost use Rattle.kc_kit_running.specs.Running.{run_of, run_response, IsEndOf};
 ghost use Rattle.kc_kit_running.specs.Sources.{lines_in};
 
 use crate::board::Board;
@@ -75,17 +75,18 @@ fn run_once<S: Sink, L: Ledger>(
 
 /// How a command has ended whose run has ended so, with what is said of it in words.
 pub(crate) fn ended_run(alloc: Global, sources: &Option<Sources<'_>>, how: End) -> Ended<'static>
-    ensures status { (result.status ≡ status_of how) ⊎ ((result.status ≡ Status.NoMemory) × (status_of how ≡ Status.Undefined)) }
-    ensures said { result.status ≡ status_of how → said_in result.said ≡ said_of (lines_in sources.now) how }
+    ensures { IsEndOf (lines_in sources.now) how result }
 {
-    let End::Undefined(what, access) = how else {
-        return Ended::by(Status::Done);
-    };
-    match use_diagnostic(alloc, line_in(sources, what.addr), what, access) {
-        Ok(diagnostic) => Ended {
-            status: Status::Undefined,
-            said: Said::Refusal(diagnostic),
-        },
-        Err(NoMemory) => Ended::by(Status::NoMemory),
+    match how {
+        End::Undefined(what, access) => {
+            match use_diagnostic(alloc, line_in(sources, what.addr), what, access) {
+                Ok(diagnostic) => Ended {
+                    status: Status::Undefined,
+                    said: Said::Refusal(diagnostic),
+                },
+                Err(NoMemory) => Ended::by(Status::NoMemory),
+            }
+        }
+        End::Spent | End::Powerdown | End::Reset => Ended::by(Status::Done),
     }
 }

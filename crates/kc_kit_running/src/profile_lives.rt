@@ -1,25 +1,32 @@
 // A run of an image that goes on after a reset and whose states are counted, each life apart.
-use crate::accounts::{Account, Accounts, Lines};
+ghost use Rattle.std.specs.Prelude.{◌≡◌, ◌≤◌, ◌&&◌, ◌++◌, [], codes, nat_lt, Some, None, false, IfOk, IfErr, OnOk, OnErr};
+ghost use Rattle.kc_trace.specs.Trace.{out_of};
+ghost use Rattle.kc_cover.specs.Cover.{cover_text};
+ghost use Rattle.kc_profile.specs.Sights.{history, Begins};
+ghost use Rattle.kc_profile.specs.Spots.{spots_for};
+ghost use Rattle.kc_profile.specs.declared.statistics_text.Scope.TheVariants as scopes;
+ghost use Rattle.kc_cycles.specs.Lives.{is_reset};
+ghost use Rattle.kc_cycles.specs.Making.{deadline_of};
+ghost use Rattle.kc_kit_words.specs.Values.{max_states, max_lives};
+ghost use Rattle.kc_kit_running.specs.Counting.{IsCount};
+ghost use Rattle.kc_kit_running.specs.Lives.{board_lives};
+ghost use Rattle.kc_kit_running.specs.Passing.{HasBroken, HasFailed, HasLived, HasPassed};
+ghost use Rattle.kc_kit_running.specs.Profiled.{known, over_lives};
+ghost use Rattle.kc_kit_running.specs.Watched.{watched_further};
+
+use crate::accounts::{Account, Accounts, Lines, Watched};
 use crate::board::Board;
 use crate::fitted::FittedUnit;
 use crate::fitting::Fitting;
 use kc_base::{NoMemory, Sink, StateTime, Steps};
-use kc_cycles::{Watchdog, born, deadline_in, put_restart, span_end};
+use kc_cycles::{LivesFault, Watchdog, born, deadline_in, has_come, put_restart, span_end};
 use kc_extra::Pair;
-use kc_kit_files::Status;
 use kc_kit_inputs::Driving;
 use kc_machine::{End, Machine, WriteFault};
 use kc_profile::run_profiled;
 use kc_trace::TraceOut;
 use std::alloc::Global;
 use std::sync::ledger::Ledger;
-
-/// For how many states a board is run, and over how many lives at most.
-#[derive(Clone, Copy)]
-pub(crate) struct Watched {
-    pub states: u64,
-    pub most: u16,
-}
 
 type WatchedMachine = Machine<Pair<FittedUnit, Watchdog>>;
 
@@ -37,10 +44,19 @@ fn live<S: Sink, L: Ledger>(
     until: StateTime,
     out: &mut TraceOut<S>,
     steps: &mut Steps<L>,
-) -> Result<Ending, WriteFault> {
+) -> Result<Ending, WriteFault>
+    requires until { until ≤ max_states }
+    requires begins { Begins machine.old.machine }
+    requires lives { machine.old.machine.ended ≡ None }
+    requires unfed { deadline_of machine.old.machine.board.units.further ≡ None }
+    requires unbroken { out.old.failed ≡ false }
+    requires none { IsCount account.old.statistics.life [] [] account.old.profile account.old.statistics }
+    ensures lived { IfOk result (λ ending. HasLived until machine.old.machine (out_of S.written S.faults out.old) ending.how ending.by_watchdog machine.new.machine (out_of S.written S.faults out.new)) }
+    ensures counted { OnOk result (IsCount account.old.statistics.life (spots_for watched_further machine.new.machine.time machine.old.machine) (history watched_further machine.new.machine.time machine.old.machine) account.new.profile account.new.statistics) }
+    ensures broken { OnErr result (HasBroken until machine.old.machine (out_of S.written S.faults out.old) (out_of S.written S.faults out.new)) }
+{
     'spans: loop {
-        let deadline = deadline_in(machine);
-        let stop = span_end(machine.now(), deadline, until);
+        let stop = span_end(machine.now(), deadline_in(machine), until);
         let how = run_profiled(
             machine,
             &mut account.profile,
@@ -55,7 +71,7 @@ fn live<S: Sink, L: Ledger>(
                 by_watchdog: false,
             });
         }
-        if deadline_in(machine) == Some(stop) {
+        if has_come(deadline_in(machine), stop) {
             return Ok(Ending {
                 how: End::Reset,
                 by_watchdog: true,
@@ -64,7 +80,14 @@ fn live<S: Sink, L: Ledger>(
     }
 }
 
-// Adds what was counted of a life to the accounts, and to the sums.
+// Whether another life follows.
+fn is_followed(ending: &Ending, left: u16) -> bool
+    ensures { result ≡ (is_reset ending.now.how && nat_lt 1 left) }
+{
+    matches!(ending.how, End::Reset) && left > 1
+}
+
+// Adds what was counted of the life with a number to the accounts, and to the sums.
 fn account_for(
     alloc: Global,
     life: u16,
@@ -78,62 +101,81 @@ fn account_for(
     Ok(())
 }
 
-/// Runs a board over several lives, prints their traces, and adds what was counted to the accounts: each life under its heading, and
-/// the sums behind them. Answers how the last life has ended.
+/// Runs a board over several lives, prints their traces, and gives what is written behind them: each life under its heading, and the
+/// sums behind them.
 pub(crate) fn watch_lives<S: Sink, L: Ledger>(
     alloc: Global,
     board: Board,
-    watched: Watched,
+    states: u64,
+    most: u16,
     lines: &Lines<'_>,
-    accounts: &mut Accounts,
     out: &mut TraceOut<S>,
     steps: &mut Steps<L>,
-) -> Result<End, Status> {
+) -> Result<Watched, LivesFault>
+    requires ready { out.old.failed ≡ false }
+    requires states { states ≤ max_states }
+    requires some { 1 ≤ most }
+    requires few { most ≤ max_lives }
+    ensures passed { IfOk result (λ watched. HasPassed (over_lives (board_lives most states board.driving board.image) (known lines.now) board.driving board.image) (out_of S.written S.faults out.old) watched.how (record { profile = watched.accounts.profile.items; cover = watched.accounts.cover.items }) (out_of S.written S.faults out.new)) }
+    ensures failed { IfErr result (λ fault. HasFailed (over_lives (board_lives most states board.driving board.image) (known lines.now) board.driving board.image) (out_of S.written S.faults out.old) fault (out_of S.written S.faults out.new)) }
+{
     let Board { image, driving } = board;
     let Driving { stimuli, values } = driving;
     let fitting = Fitting { values };
+    let mut accounts = Accounts::new(alloc);
     let Ok(mut sums) = Account::new(alloc, 1) else {
-        return Err(Status::NoMemory);
+        return Err(LivesFault::NoMemory);
     };
     let mut from = 0;
+    let mut left = most;
     let mut life = 1u16;
     'lives: loop {
         let Ok(mut account) = Account::new(alloc, life) else {
-            return Err(Status::NoMemory);
+            return Err(LivesFault::NoMemory);
         };
         let Ok(mut machine) = born(alloc, &image, &stimuli, &fitting, from) else {
-            return Err(Status::NoMemory);
+            return Err(LivesFault::NoMemory);
         };
-        let Ok(ending) = live(
-            &mut machine,
-            &mut account,
-            watched.states - from,
-            out,
-            steps,
-        ) else {
-            return Err(Status::WriteFault);
+        let Ok(ending) = live(&mut machine, &mut account, states - from, out, steps) else {
+            return Err(LivesFault::WriteFault);
         };
-        let is_last = !matches!(ending.how, End::Reset) || life >= watched.most;
-        if is_last {
+        if !is_followed(&ending, left) {
             if machine.write_finals(ending.how, out).is_err() {
-                return Err(Status::WriteFault);
+                return Err(LivesFault::WriteFault);
             }
-        } else {
-            put_restart(machine.now() - 1, ending.by_watchdog, out);
-            if out.failed() {
-                return Err(Status::WriteFault);
-            }
-        }
-        if account_for(alloc, life, &account, lines, accounts, &mut sums).is_err() {
-            return Err(Status::NoMemory);
-        }
-        if is_last {
-            return match accounts.put_sums(alloc, life, &sums, lines) {
-                Ok(()) => Ok(ending.how),
-                Err(_) => Err(Status::NoMemory),
+            return match last_accounts(alloc, life, &account, lines, accounts, sums) {
+                Ok(accounts) => Ok(Watched {
+                    how: ending.how,
+                    accounts,
+                }),
+                Err(NoMemory) => Err(LivesFault::NoMemory),
             };
         }
+        put_restart(machine.now() - 1, ending.by_watchdog, out);
+        if out.failed() {
+            return Err(LivesFault::WriteFault);
+        }
+        if account_for(alloc, life, &account, lines, &mut accounts, &mut sums).is_err() {
+            return Err(LivesFault::NoMemory);
+        }
         from += machine.now();
+        left -= 1;
         life += 1;
     }
+}
+
+// The accounts of all lives, of which the last has this number, with the sums behind them.
+fn last_accounts(
+    alloc: Global,
+    life: u16,
+    account: &Account,
+    lines: &Lines<'_>,
+    accounts: Accounts,
+    sums: Account,
+) -> Result<Accounts, NoMemory> {
+    let mut all = accounts;
+    let mut sum = sums;
+    account_for(alloc, life, account, lines, &mut all, &mut sum)?;
+    all.put_sums(alloc, life, &sum, lines)?;
+    Ok(all)
 }
