@@ -14,7 +14,7 @@ use Rattle.kc_asm_layout.specs.StatementSizes.{statement_sizes}
 use Rattle.kc_asm_layout.specs.Text.{layout}
 use Rattle.kc_asm_laws.proofs.Alike.{cons_said, ok_tree, sizes_alike}
 use Rattle.kc_asm_list.specs.declared.spot.Spot.{Spot}
-use Rattle.kc_asm_list.specs.Listed.{is_operation, instructions_of}
+use Rattle.kc_asm_list.specs.Listed.{AreStanding, is_operation, instructions_of}
 use Rattle.kc_asm_list.specs.Rows as rows
 use Rattle.kc_asm_list.specs.Spots.{spots_from}
 use Rattle.kc_asm_laws.specs.Laws.{OneInstructions, OneListing}
@@ -77,12 +77,15 @@ instructions_alike (spot ∷ spots) (s ∷ ss) (t ∷ ts) e =
 
 pub one_instructions : OneInstructions
 one_instructions source spots others h k =
-    let lines : h.lines ≡ k.lines = one_ok (lines_of source) h.lines k.lines h.is_text.0 k.is_text.0 in
-    let text : h.text ≡ k.text = one_text source h.lines k.lines h.text k.text h.is_text.0 k.is_text.0 h.is_text.1 k.is_text.1 in
-    let depths : h.depths ≡ k.depths = one_some_ok (depths_of k.lines) h.depths k.depths (ap depths_of (sym lines) ∙ h.deep) k.deep in
-    let said : map stmt_said h.stmts ≡ map stmt_said k.stmts = h.said.said_by ∙ ap all_said text ∙ sym k.said.said_by in
+    let a : AreStanding source h.spots h.stmts = h.standing in
+    let b : AreStanding source k.spots k.stmts = k.standing in
+    let lines : a.lines ≡ b.lines = one_ok (lines_of source) a.lines b.lines a.is_text.0 b.is_text.0 in
+    let text : a.text ≡ b.text = one_text source a.lines b.lines a.text b.text a.is_text.0 b.is_text.0 a.is_text.1 b.is_text.1 in
+    let depths : a.depths ≡ b.depths = one_some_ok (depths_of b.lines) a.depths b.depths (ap depths_of (sym lines) ∙ a.deep) b.deep in
+    let said : map stmt_said h.stmts ≡ map stmt_said k.stmts = a.said.said_by ∙ ap all_said text ∙ sym b.said.said_by in
     let size_records : statement_sizes h.stmts ≡ statement_sizes k.stmts = sizes_alike h.stmts k.stmts said in
     h.own
+    ∙ ap (λ (standing : List Spot). instructions_of standing h.stmts) a.own
     ∙ (λ i. instructions_of (spots_from (text i) (depths i) (size_records i) (layout (size_records i))) h.stmts)
-    ∙ instructions_alike (spots_from k.text k.depths (statement_sizes k.stmts) (layout (statement_sizes k.stmts))) h.stmts k.stmts said
-    ∙ sym k.own
+    ∙ instructions_alike (spots_from b.text b.depths (statement_sizes k.stmts) (layout (statement_sizes k.stmts))) h.stmts k.stmts said
+    ∙ sym (k.own ∙ ap (λ (standing : List Spot). instructions_of standing k.stmts) b.own)
