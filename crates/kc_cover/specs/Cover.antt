@@ -81,9 +81,12 @@ abbrev pub test_line : Option ℕ → List ℕ
 test_line None = codes "TN:\n"
 test_line (Some life) = count_line (codes "TN:life_") life
 
+abbrev pub name_line : List ℕ → List ℕ
+name_line name = codes "SF:" ++ name ++ codes "\n"
+
 abbrev pub source_text : Option ℕ → Statistics → Source → List ℕ
 source_text life t source =
-    test_line life ++ (codes "SF:" ++ source.name.now ++ codes "\n")
+    test_line life ++ name_line source.name.now
     ++ jumps_text t 0 0 source.instructions.items ++ sums_of_ways (all_ways t source.instructions.items)
     ++ lines_text (lines_of t 0 source.instructions.items) ++ codes "end_of_record\n"
 

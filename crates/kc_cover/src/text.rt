@@ -1,5 +1,5 @@
 // The text of a coverage, after the manual page of geninfo ("FILES", the tracefile).
-ghost use Rattle.std.specs.Prelude.{◌≡◌, ◌++◌, ◌+◌, ◌<◌, ◌≤◌, ◌^◌, count_by, flat_map, length, IfOk, OnOk};
+ghost use Rattle.std.specs.Prelude.{◌≡◌, ◌++◌, ◌+◌, ◌-◌, ◌<◌, ◌≤◌, ◌^◌, count_by, flat_map, length, IfOk, OnOk};
 ghost use Rattle.kc_cover.specs.Cover as spec;
 
 use crate::source::{Instruction, Source};
@@ -246,6 +246,17 @@ fn put_test(text: &mut Vec<u8>, life: Option<u16>) -> Result<(), NoMemory>
     }
 }
 
+// Puts the name of a source.
+fn put_name(text: &mut Vec<u8>, name: &str) -> Result<(), NoMemory>
+    ensures { OnOk result (text.new.items ≡ text.old.items ++ spec.name_line name.now) }
+{
+    text.extend_from_slice(b"SF:")?;
+    text.extend_from_slice(name.as_bytes())?;
+    text.push(b'\n')?;
+    Ok(())
+}
+
+// Puts which lines of a source have run.
 fn put_source(
     text: &mut Vec<u8>,
     source: &Source<'_>,
@@ -255,9 +266,7 @@ fn put_source(
     ensures { OnOk result (text.new.items ≡ text.old.items ++ spec.source_text life statistics.now source.now) }
 {
     put_test(text, life)?;
-    text.extend_from_slice(b"SF:")?;
-    text.extend_from_slice(source.name.as_bytes())?;
-    text.push(b'\n')?;
+    put_name(text, source.name)?;
     put_jump_lines(text, &source.instructions, statistics)?;
     put_ways(text, &source.instructions, statistics)?;
     put_lines(text, &source.instructions, statistics)?;

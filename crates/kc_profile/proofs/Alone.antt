@@ -24,10 +24,12 @@ use Rattle.kc_machine_spec.specs.Machine.{Machine, Stepped, asked, current}
 use Rattle.kc_machine_spec.specs.Passing.{after_ticks, ticks_of, passed, IsIdle}
 use Rattle.kc_machine_spec.specs.Run.{run_for}
 use Rattle.kc_machine_spec.proofs.Runs.{run-none, run_for-cut}
-use Rattle.kc_machine_spec.proofs.Idle.{idle_state, current-idle, rests}
+use Rattle.kc_machine_spec.specs.declared.doing.Activity.TheVariants.{Idles}
+use Rattle.kc_machine_spec.proofs.Idle.{rests}
 use Rattle.kc_machine.specs.Raising.{raised_in}
 use Rattle.kc_profile.specs.Passing.{IsNoneOrIdle, IsAlone, PassesAlone}
 use Rattle.kc_profile.specs.Sights.{ending}
+use Rattle.kc_profile.proofs.Spotted.{current-idle}
 
 unworked : (b : Bool) → not b ≡ true → b ≡ false
 unworked true e = sym e
@@ -42,6 +44,9 @@ le-none left k less = grind (arith, nat_tests)
 -- an activity that is under way ends where it would have ended
 ends-later : (a : UnderWay) (k : ℕ) → ending (record a { left = a.left - k }) 1 ≡ ending a (k + 1)
 ends-later a k = ap (λ b. if b then Some a.doing else None) (le-later a.left k)
+
+abbrev idle_state : UnderWay
+idle_state = record { doing = Idles; left = 1 }
 
 ends-not : (a : UnderWay) (k : ℕ) → k < a.left → ending a k ≡ None
 ends-not a k less = ap (λ b. if b then Some a.doing else None) (le-none a.left k less)
@@ -145,11 +150,10 @@ module _ {X : Type 0} (f : Further X) where
   idles-on m k idle = record { idling = idle.idling; free = idle.free; between = refl; lives = idle.lives }
 
   alone-rests : (k : ℕ) (m : Machine X) → IsIdle m → asked m ≡ Go → QuietFor (block_rule f) m.time k m.board.units → IsAlone f k m (run_for f k m).machine
-  unfolding idle_state
   alone-rests k m idle none quiet =
       let there : run_for f k m ≡ ticks_of f m k None = rests f k m idle (λ i below. none-asked i m none (quiet-for (block_rule f) m.time k i m.board.units (omega (arith, below)) quiet)) in
-      let first : current m ≡ idle_state = current-idle m idle none in
-      let later : current (after_ticks f m k None) ≡ idle_state = current-idle (after_ticks f m k None) (idles-on m k idle) (none-asked k m none quiet) in
+      let first : current m ≡ idle_state = current-idle f m idle none in
+      let later : current (after_ticks f m k None) ≡ idle_state = current-idle f (after_ticks f m k None) (idles-on m k idle) (none-asked k m none quiet) in
       let is : IsAlone f k m (after_ticks f m k None) = record {
         time = refl;
         lives = idle.lives;
@@ -164,14 +168,12 @@ module _ {X : Type 0} (f : Further X) where
       one-le i = grind (arith, nat_tests)
 
       idle-ends : (i : ℕ) → ending idle_state 1 ≡ ending idle_state (i + 1)
-      unfolding idle_state
       idle-ends i = sym (ap (λ b. if b then Some idle_state.doing else None) (one-le i))
 
   pub alone-idle : (n : ℕ) (m : Machine X) → IsIdle m → asked m ≡ Go → QuietFor (block_rule f) m.time (n - 1) m.board.units → PassesAlone f n m
-  unfolding idle_state
   alone-idle n m idle none quiet = record {
     each = λ k below. alone-rests k m idle none (quiet-for (block_rule f) m.time (n - 1) k m.board.units (omega (arith, below)) quiet);
-    between = λ k below. inr (ap (λ (a : UnderWay). ending a (k + 1)) (current-idle m idle none) ∙ idle-ended k);
+    between = λ k below. inr (ap (λ (a : UnderWay). ending a (k + 1)) (current-idle f m idle none) ∙ idle-ended k);
     quiet = quiet;
   }
     where
@@ -179,7 +181,6 @@ module _ {X : Type 0} (f : Further X) where
       one-le i = grind (arith, nat_tests)
 
       idle-ended : (i : ℕ) → ending idle_state (i + 1) ≡ Some idle_state.doing
-      unfolding idle_state
       idle-ended i = ap (λ b. if b then Some idle_state.doing else None) (one-le i)
 
   -- ---- what is raised in the last of some quiet states

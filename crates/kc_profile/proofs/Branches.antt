@@ -99,7 +99,7 @@ not-is true h = sym h
 not-is false h = refl
 
 branch-long : (insn : Insn) → is_formed insn ≡ true → is_branch insn ≡ true → branch_length insn.opcode ≡ length_of insn
-unfolding jumps
+unfolding jumps row_at
 branch-long insn formed branch =
     let parts = and_parts _ _ branch in
     let plain : insn.signed ≡ false = not-is insn.signed parts.0 in
@@ -107,7 +107,6 @@ branch-long insn formed branch =
     by (plain_entry insn.opcode) refl plain fitting
   where
     row-is : (e : Entry) → plain_entry insn.opcode ≡ Some e → insn.signed ≡ false → row_at insn.opcode insn.signed ≡ Some (shown_entry e)
-    unfolding row_at
     row-is e same plain = ap (row_at insn.opcode) plain ∙ ap (option_map shown_entry) same
 
     by : (o : Option Entry) → plain_entry insn.opcode ≡ o → insn.signed ≡ false → fits (branch_length insn.opcode) (plain_entry insn.opcode) ≡ true → branch_length insn.opcode ≡ length_of insn

@@ -1,5 +1,5 @@
 -- No count of statistics is more than a limit.
-use Rattle.std.proofs.Common.{◌≡◌, ℕ, zero, suc, ◌+◌, ◌<◌, ◌≤◌, ◌⊎◌, inl, inr, Bool, true, false, cond, List, [], ◌∷◌, length, get_or, Option, Some, None, All, refl, sym, ap, subst, ◌∙◌, arith}
+use Rattle.std.proofs.Common.{◌≡◌, ℕ, zero, suc, ◌+◌, ◌-◌, ◌<◌, ◌≤◌, ◌⊎◌, inl, inr, Bool, true, false, cond, List, [], ◌∷◌, length, get_or, Option, Some, None, All, refl, sym, ap, subst, ◌∙◌, arith}
 use Rattle.std.specs.Prelude.{slice_index, slice_index_or, slice_set}
 use Rattle.std.proofs.lemmas.Bool.{cases_lt}
 use Rattle.std.proofs.lemmas.List.{get_or_default}
@@ -12,7 +12,8 @@ use Rattle.kc_profile.specs.declared.waits.Waits.{Waits}
 use Rattle.kc_profile.specs.Sights.{hits, way, enters, sets_up}
 use Rattle.kc_profile.specs.Spreads.{AreFew, with_number, together}
 use Rattle.kc_profile.specs.Waits.{AreFewWaits, added, is_missed, moment, no_waits, one_if, see, time_since, wait_of_entry}
-use Rattle.kc_profile.specs.Statistics.{Statistics, AreAllFew, HaveSeen, IsWhole, all_added, counted_at, goes, sums, waits_at, with_instructions, with_life, with_stack}
+use Rattle.kc_profile.specs.Statistics.{Statistics, AreAllFew, HaveSeen, IsWhole, all_added, counted_at, goes, waits_at, with_instructions, with_life, with_stack, with_waits}
+use Rattle.kc_profile.specs.Tally.{sums}
 use Rattle.kc_profile.proofs.Added.{sums-long, sums-at, all-long, all-at, set-there, set-else, set-long}
 
 -- ---- a limit that is greater
@@ -34,6 +35,10 @@ few-more n m t less few = record {
   taken = numbers-more n m t.taken less few.taken;
   passed = numbers-more n m t.passed less few.passed;
 }
+
+-- of a run that goes on by a state or more
+pub few-further : (first now next n : ℕ) (t : Statistics) → first ≤ now → now < next → AreAllFew (n + (now - first) + 1) t → AreAllFew (n + (next - first)) t
+few-further first now next n t forward further few = few-more (n + (now - first) + 1) (n + (next - first)) t (omega (arith, forward, further)) few
 
 -- ---- one state more
 
@@ -77,20 +82,33 @@ count-few true n addr xs inside few = λ k d within. by k d (let long = set-long
         let x = few addr 0 inside in
         omega (arith, e, x)
 
-pub few-seen : (n : ℕ) (s : Sight) (t u v w : Statistics) → s.pc < 65536 → IsWhole t → IsWhole w → u ≡ with_instructions s t → v ≡ with_stack s u → HaveSeen s 16 v w → AreAllFew n t → AreAllFew (n + 1) w
-few-seen n s t u v w inside whole after i k seen few =
+counted-long : (b : Bool) (addr : ℕ) (xs : List ℕ) → length (counted_at b addr xs) ≡ length xs
+counted-long false addr xs = refl
+counted-long true addr xs = set-long (λ (x y : ℕ). x) xs addr (slice_index xs addr + 1)
+
+whole-before : (s : Sight) (t v w : Statistics) → v ≡ with_stack s (with_instructions s t) → w ≡ with_waits w.waits v → length w.waits ≡ length v.waits → IsWhole w → IsWhole t
+whole-before s t v w stack rest many whole = record {
+  waits = sym (ap (λ (x : Statistics). length x.waits) stack) ∙ sym many ∙ whole.waits;
+  hits = sym (ap (λ (x : Statistics). length x.hits) rest ∙ ap (λ (x : Statistics). length x.hits) stack ∙ counted-long (hits s) s.pc t.hits) ∙ whole.hits;
+  taken = sym (ap (λ (x : Statistics). length x.taken) rest ∙ ap (λ (x : Statistics). length x.taken) stack ∙ counted-long (goes (way s) Taken) s.pc t.taken) ∙ whole.taken;
+  passed = sym (ap (λ (x : Statistics). length x.passed) rest ∙ ap (λ (x : Statistics). length x.passed) stack ∙ counted-long (goes (way s) Passed) s.pc t.passed) ∙ whole.passed;
+}
+
+pub few-seen : (n : ℕ) (s : Sight) (t u v w : Statistics) → s.pc < 65536 → IsWhole w → u ≡ with_instructions s t → v ≡ with_stack s u → HaveSeen v.life s v.waits w.waits → w ≡ with_waits w.waits v → AreAllFew n t → AreAllFew (n + 1) w
+few-seen n s t u v w inside later i k seen rest few =
     let stack : v ≡ with_stack s (with_instructions s t) = k ∙ ap (with_stack s) i in
     let same : v.waits ≡ t.waits = ap (λ (x : Statistics). x.waits) stack in
+    let whole : IsWhole t = whole-before s t v w stack rest seen.many later in
     record {
       waits = λ j d within.
-          let below : j < 16 = omega (arith, within, after.waits) in
-          let at : get_or w.waits j d ≡ see j v.life s (waits_at v j) = get_or_default w.waits j d no_waits within ∙ seen.first j below in
+          let below : j < 16 = omega (arith, within, later.waits) in
+          let at : get_or w.waits j d ≡ see j v.life s (waits_at v j) = get_or_default w.waits j d no_waits within ∙ seen.each j below in
           let old : AreFewWaits n (get_or t.waits j no_waits) = few.waits j no_waits (omega (arith, below, whole.waits)) in
           let old-v : AreFewWaits n (waits_at v j) = subst (λ l. AreFewWaits n (get_or l j no_waits)) (sym same) old in
           subst (AreFewWaits (n + 1)) (sym at) (see-few n j v.life s (waits_at v j) old-v);
-      hits = subst (All (λ x. x ≤ n + 1)) (sym (seen.hits ∙ ap (λ (x : Statistics). x.hits) stack)) (count-few (hits s) n s.pc t.hits (omega (arith, inside, whole.hits)) few.hits);
-      taken = subst (All (λ x. x ≤ n + 1)) (sym (seen.taken ∙ ap (λ (x : Statistics). x.taken) stack)) (count-few (goes (way s) Taken) n s.pc t.taken (omega (arith, inside, whole.taken)) few.taken);
-      passed = subst (All (λ x. x ≤ n + 1)) (sym (seen.passed ∙ ap (λ (x : Statistics). x.passed) stack)) (count-few (goes (way s) Passed) n s.pc t.passed (omega (arith, inside, whole.passed)) few.passed);
+      hits = subst (All (λ x. x ≤ n + 1)) (sym (ap (λ (x : Statistics). x.hits) rest ∙ ap (λ (x : Statistics). x.hits) stack)) (count-few (hits s) n s.pc t.hits (omega (arith, inside, whole.hits)) few.hits);
+      taken = subst (All (λ x. x ≤ n + 1)) (sym (ap (λ (x : Statistics). x.taken) rest ∙ ap (λ (x : Statistics). x.taken) stack)) (count-few (goes (way s) Taken) n s.pc t.taken (omega (arith, inside, whole.taken)) few.taken);
+      passed = subst (All (λ x. x ≤ n + 1)) (sym (ap (λ (x : Statistics). x.passed) rest ∙ ap (λ (x : Statistics). x.passed) stack)) (count-few (goes (way s) Passed) n s.pc t.passed (omega (arith, inside, whole.passed)) few.passed);
     }
 
 -- ---- a life more

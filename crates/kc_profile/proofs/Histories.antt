@@ -10,13 +10,15 @@ use Rattle.kc_block_spec.specs.Touch.{block_rule}
 use Rattle.kc_block_spec.specs.Units.{Units}
 use Rattle.kc_machine_spec.specs.declared.doing.Activity.{Activity}
 use Rattle.kc_machine_spec.specs.declared.doing.End.{End}
+use Rattle.kc_machine_spec.specs.declared.doing.UnderWay.{UnderWay}
 use Rattle.kc_machine_spec.specs.Board.{word_at}
 use Rattle.kc_machine_spec.specs.Machine.{Machine, Stepped, current, step}
 use Rattle.kc_machine_spec.specs.Run.{still, run_for, run_to}
-use Rattle.kc_machine_spec.proofs.Runs.{run-none, machine-add, run_for-one, run_for-ended, stepped-time}
+use Rattle.kc_machine_spec.proofs.Runs.{run-none, machine-add, run_for-one, run_for-ended, run_to-append, stepped-time}
 use Rattle.kc_machine.specs.Raising.{raised_in}
+use Rattle.kc_profile.specs.declared.running.Start.{Start}
 use Rattle.kc_profile.specs.declared.sight.Sight.{Sight}
-use Rattle.kc_profile.specs.Passing.{IsNoneOrIdle, IsAlone, PassesAlone}
+use Rattle.kc_profile.specs.Passing.{CountsOn, IsNoneOrIdle, IsAlone, PassesAlone}
 use Rattle.kc_profile.specs.Sights.{is_undefined, ending, seen_of, sight_of, history, unless_ended, Begins}
 use Rattle.kc_profile.specs.Statistics.{Statistics, AreStatisticsOf}
 use Rattle.kc_profile.specs.Waits.{Follows, AreConsecutive}
@@ -30,7 +32,7 @@ shown at raised before later ends is_broken pc next_pc stack next_stack = record
 }
 
 module _ {X : Type 0} (f : Further X) where
-  requests : Machine X → Requests
+  abbrev requests : Machine X → Requests
   requests m = m.board.units.board_registers.requests
 
   -- ---- the states of a life
@@ -48,10 +50,10 @@ module _ {X : Type 0} (f : Further X) where
 
   -- a machine that lives has lived before
   lived : (t : ℕ) (m : Machine X) → (at-state (suc t) m).ended ≡ None → (at-state t m).ended ≡ None
+  unfolding at-state
   lived t m lives = by (at-state t m).ended refl
     where
       over : (how : End) → (at-state t m).ended ≡ Some how → at-state 1 (at-state t m) ≡ at-state t m
-      unfolding at-state
       over how e = ap (λ (s : Stepped X). s.machine) (run_for-ended f 1 (at-state t m) how e)
 
       by : (o : Option End) → (at-state t m).ended ≡ o → (at-state t m).ended ≡ None
@@ -150,7 +152,7 @@ module _ {X : Type 0} (f : Further X) where
       PassesAlone f (n.time - m.time) m → raised.0 ≡ raised_in f (run_for f (n.time - m.time - 1) m).machine →
       ((sights : List Sight) → AreConsecutive (seen_of m.time m.board.units.board_registers.requests m.cpu.pc (word_at m.board.memory 0x18) (current m) raised n) sights → AreStatisticsOf life sights t → AreStatisticsOf life (seen_of m.time m.board.units.board_registers.requests m.cpu.pc (word_at m.board.memory 0x18) (current m) raised n ∷ sights) u) →
       AreStatisticsOf life (history f m.time first) t → AreStatisticsOf life (history f n.time first) u
-  unfolding at-state requests
+  unfolding at-state
   statistics-further life first m n t u raised begins there ahead is alone set sees before =
       let k : ℕ = n.time - m.time - 1 in
       let count : n.time - m.time ≡ k + 1 = omega (arith, ahead) in
@@ -165,3 +167,20 @@ module _ {X : Type 0} (f : Further X) where
       let more = subst (λ s. AreStatisticsOf life (s ∷ history f (m.time + k) first) u) seen (sees (history f (m.time + k) first) follows stay) in
       let end : suc (m.time + k) ≡ n.time = omega (arith, ahead) in
       subst (λ i. AreStatisticsOf life (history f i first) u) end (subst (λ l. AreStatisticsOf life l u) (sym (history-more (m.time + k) first lives)) more)
+
+  -- a run that is counted goes on
+  pub counts-first : (life : ℕ) (m : Machine X) (t : Statistics) → CountsOn f life m t m t
+  counts-first life m t = λ first begins there is. is
+
+  pub counts-next : (life other : ℕ) (m0 : Machine X) (t0 : Statistics) (m : Machine X) (t : Statistics) (n : Machine X) (u : Statistics) → m0.time ≤ m.time → m ≡ (run_to f m.time m0).machine → other ≡ life → CountsOn f life m0 t0 m t → CountsOn f other m t n u → CountsOn f life m0 t0 n u
+  counts-next life other m0 t0 m t n u forward is same before next = λ first begins there counted.
+      let time : (run_to f m0.time first).machine.time ≡ m0.time = ap (λ (k : Machine X). k.time) (sym there) in
+      let parts = run_to-append f m0.time m.time first (omega (arith, begins.time)) forward time in
+      let from : m ≡ (run_to f m.time first).machine = is ∙ ap (λ k. (run_to f m.time k).machine) there ∙ sym (ap (λ (s : Stepped X). s.machine) parts) in
+      subst (λ l. AreStatisticsOf l (history f n.time first) u) same
+      (next first begins from (subst (λ l. AreStatisticsOf l (history f m.time first) t) (sym same) (before first begins there counted)))
+
+-- what is seen from a start that is a machine's
+pub seen-from : {X : Type 0} (m : Machine X) (start : Start) (a : UnderWay) (raised : IntSet) (n : Machine X) → start.at ≡ m.time → start.requests ≡ m.board.units.board_registers.requests → start.pc ≡ m.cpu.pc → start.stack ≡ word_at m.board.memory 0x18 → a ≡ current m →
+    seen_of start.at start.requests start.pc start.stack a raised n ≡ seen_of m.time m.board.units.board_registers.requests m.cpu.pc (word_at m.board.memory 0x18) (current m) raised n
+seen-from m start a raised n at requests pc stack same = λ j. seen_of (at j) (requests j) (pc j) (stack j) (same j) raised n

@@ -14,3 +14,5 @@ pub mod StatisticsOne
 pub mod Branches
 pub mod Added
 pub mod Few
+pub mod Empty
+pub mod Together

@@ -114,7 +114,7 @@ module _ {X : Type 0} (f : Further X) where
 
   -- ---- idle states
 
-  current-idle : (m : Machine X) → IsIdle m → asked m ≡ Go → current m ≡ record { doing = Idles; left = 1 }
+  pub current-idle : (m : Machine X) → IsIdle m → asked m ≡ Go → current m ≡ record { doing = Idles; left = 1 }
   unfolding chosen
   current-idle m idle none =
       ap (current_of m) idle.between
