@@ -161,7 +161,11 @@ fn ways_of(instructions: &[Instruction], statistics: &Statistics) -> Tally
 }
 
 // Puts how many ways of jumps there are; nothing where there is no jump.
-fn put_ways(text: &mut Vec<u8>, instructions: &[Instruction], statistics: &Statistics) -> Result<(), NoMemory>
+fn put_ways(
+    text: &mut Vec<u8>,
+    instructions: &[Instruction],
+    statistics: &Statistics,
+) -> Result<(), NoMemory>
     ensures { OnOk result (text.new.items ≡ text.old.items ++ spec.sums_of_ways (spec.all_ways statistics.now instructions.now)) }
 {
     let tally = ways_of(instructions, statistics);
@@ -223,7 +227,11 @@ fn put_each_line(
 }
 
 // Puts the lines of all lines, and how many there are.
-fn put_lines(text: &mut Vec<u8>, instructions: &[Instruction], statistics: &Statistics) -> Result<(), NoMemory>
+fn put_lines(
+    text: &mut Vec<u8>,
+    instructions: &[Instruction],
+    statistics: &Statistics,
+) -> Result<(), NoMemory>
     ensures { OnOk result (text.new.items ≡ text.old.items ++ spec.lines_text (spec.lines_of statistics.now 0 instructions.now)) }
 {
     let tally = put_each_line(text, instructions, statistics)?;

@@ -1,7 +1,7 @@
 -- A well-formed conditional jump has as many bytes as its opcode says.
-use Rattle.std.proofs.Common.{◌≡◌, ℕ, zero, suc, ◌+◌, ◌%◌, ◌<◌, ◌≤◌, ◌==◌, Bool, true, false, not, ◌&&◌, ◌||◌, List, [], ◌∷◌, length, Option, Some, None, refl, sym, ◌∙◌, ap, subst, arith}
-use Rattle.std.specs.Prelude.{nat_le, slice_index_or, if◌then◌else◌}
-use Rattle.std.specs.Option.{option_map}
+use Rattle.std.proofs.Common.{◌≡◌, ℕ, zero, suc, ◌+◌, ◌-◌, ◌%◌, ◌<◌, ◌≤◌, ◌==◌, inl, inr, Bool, true, false, not, ◌&&◌, ◌||◌, Option, Some, None, refl, sym, ◌∙◌, ap, subst, arith}
+use Rattle.std.specs.Prelude.{nat_le, if◌then◌else◌}
+use Rattle.std.proofs.lemmas.Bool.{cases_lt}
 use Rattle.std.proofs.lemmas.Bool.Decides.{nat_tests}
 use Rattle.std.proofs.lemmas.Bool.{and_parts, eqb-true}
 use Rattle.kc_isa.specs.declared.insn.Insn.{Insn}
@@ -10,11 +10,9 @@ use Rattle.kc_isa.specs.declared.insn.Operand.TheVariants.{Absent, Reg, Imm, Ind
 use Rattle.kc_isa.specs.declared.layout.Form.{Form}
 use Rattle.kc_isa.specs.declared.layout.Form.TheVariants.{Distance8}
 use Rattle.kc_isa.specs.declared.layout.Layout.{Layout}
-use Rattle.kc_isa.specs.declared.table.Entry.{Entry}
-use Rattle.kc_isa.specs.declared.table.TheConstants.{MAP}
 use Rattle.kc_isa.specs.Formed.{is_formed, row_fits, row_length, length_of, operand_fits, operand_length, is_byte}
 use Rattle.kc_isa.specs.Layout.{layout_of}
-use Rattle.kc_isa.specs.Names.{Shown, row_at, shown_entry}
+use Rattle.kc_isa.specs.Names.{Shown, row_at}
 use Rattle.kc_isa.specs.Table.{plain_entry}
 use Rattle.kc_profile.specs.Sights.{BranchesPassToTheNext, branch_length, is_branch, lies_in}
 
@@ -29,42 +27,60 @@ is_distance8 _ = false
 abbrev is_long : ℕ → Layout → Bool
 is_long bytes l = is_distance8 l.form && (1 + l.before + 1 + l.after == bytes)
 
-abbrev fits : ℕ → Option Entry → Bool
-fits bytes None = false
-fits bytes (Some e) = is_long bytes (layout_of e.shape)
+abbrev row-fits : ℕ → Bool
+row-fits opcode = elim (row_at opcode false) [ None ↦ false | Some row ↦ is_long (branch_length opcode) (layout_of row.shape) ]
 
-abbrev all_fit : ℕ → List (Option Entry) → Bool
-all_fit opcode [] = true
-all_fit opcode (e ∷ es) = (not (jumps opcode) || fits (branch_length opcode) e) && all_fit (opcode + 1) es
+-- so many opcodes from one on
+abbrev all-fit : ℕ → ℕ → Bool
+all-fit from zero = true
+all-fit from (suc n) = row-fits from && all-fit (from + 1) n
 
-rows_fit : all_fit 0 MAP ≡ true
+fit-registers : all-fit 0x30 16 ≡ true
+unfolding row_at plain_entry
+fit-registers = refl
+
+fit-flags : all-fit 0xD0 16 ≡ true
+unfolding row_at plain_entry
+fit-flags = refl
+
+fit-counts : all-fit 0xE0 2 ≡ true
+unfolding row_at plain_entry
+fit-counts = refl
+
+fit-at : (from n k : ℕ) → all-fit from n ≡ true → k < n → row-fits (from + k) ≡ true
+fit-at from zero k h within = absurd (omega (arith, within))
+fit-at from (suc n) zero h within =
+    let there : from ≡ from + zero = omega arith in
+    subst (λ (i : ℕ). row-fits i ≡ true) there (and_parts _ _ h).0
+fit-at from (suc n) (suc k) h within =
+    let there : from + 1 + k ≡ from + suc k = omega arith in
+    subst (λ (i : ℕ). row-fits i ≡ true) there (fit-at (from + 1) n k (and_parts _ _ h).1 (omega (arith, within)))
+
+fit-from : (from n opcode : ℕ) → all-fit from n ≡ true → from ≤ opcode → opcode < from + n → row-fits opcode ≡ true
+fit-from from n opcode h past below =
+    let there : from + (opcode - from) ≡ opcode = omega (arith, past) in
+    subst (λ (i : ℕ). row-fits i ≡ true) there (fit-at from n (opcode - from) h (omega (arith, past, below)))
+
+from-registers : (opcode : ℕ) → jumps opcode ≡ true → opcode < 0x40 → 0x30 ≤ opcode
 unfolding jumps
-rows_fit = refl
+from-registers opcode is below = grind (arith, nat_tests)
 
-if-jumps : (b c : Bool) → (not b || c) ≡ true → b ≡ true → c ≡ true
-if-jumps true c h k = h
-if-jumps false c h k = absurd (cc k)
-
-fits-at : (es : List (Option Entry)) (n k : ℕ) → all_fit n es ≡ true → k < length es → jumps (n + k) ≡ true → fits (branch_length (n + k)) (slice_index_or es k None) ≡ true
-fits-at [] n k h within is = absurd (omega (arith, within))
-fits-at (e ∷ es) n zero h within is =
-    let there : n + zero ≡ n = omega arith in
-    let first : fits (branch_length n) e ≡ true = if-jumps (jumps n) (fits (branch_length n) e) (and_parts _ _ h).0 (ap jumps (sym there) ∙ is) in
-    subst (λ i. fits (branch_length i) e ≡ true) (sym there) first
-fits-at (e ∷ es) n (suc k) h within is =
-    let there : n + 1 + k ≡ n + suc k = omega arith in
-    subst (λ i. fits (branch_length i) (slice_index_or es k None) ≡ true) there (fits-at es (n + 1) k (and_parts _ _ h).1 (omega (arith, within)) (ap jumps there ∙ is))
-
-few : (opcode : ℕ) → jumps opcode ≡ true → opcode < 256
+from-flags : (opcode : ℕ) → jumps opcode ≡ true → 0x40 ≤ opcode → opcode < 0xE0 → 0xD0 ≤ opcode
 unfolding jumps
-few opcode is = grind (arith, nat_tests)
+from-flags opcode is past below = grind (arith, nat_tests)
 
-rows : length MAP ≡ 256
-rows = refl
+to-counts : (opcode : ℕ) → jumps opcode ≡ true → 0xE0 ≤ opcode → opcode < 0xE2
+unfolding jumps
+to-counts opcode is past = grind (arith, nat_tests)
 
-entry-fits : (opcode : ℕ) → jumps opcode ≡ true → fits (branch_length opcode) (plain_entry opcode) ≡ true
-unfolding plain_entry
-entry-fits opcode is = fits-at MAP 0 opcode rows_fit (let e = few opcode is in omega (arith, e, rows)) is
+jump-fits : (opcode : ℕ) → jumps opcode ≡ true → row-fits opcode ≡ true
+jump-fits opcode is = elim (cases_lt opcode 0x40) [
+  | inl low ↦ fit-from 0x30 16 opcode fit-registers (from-registers opcode is low) low
+  | inr high ↦ elim (cases_lt opcode 0xE0) [
+    | inl middle ↦ fit-from 0xD0 16 opcode fit-flags (from-flags opcode is high middle) middle
+    | inr top ↦ fit-from 0xE0 2 opcode fit-counts top (to-counts opcode is top)
+  ]
+]
 
 one-byte : (opcode : ℕ) (byte : Bool) (o : Operand) → operand_fits Distance8 opcode byte o ≡ true → operand_length Distance8 byte o ≡ 1
 one-byte opcode byte Absent h = absurd (cc h)
@@ -99,23 +115,18 @@ not-is true h = sym h
 not-is false h = refl
 
 branch-long : (insn : Insn) → is_formed insn ≡ true → is_branch insn ≡ true → branch_length insn.opcode ≡ length_of insn
-unfolding jumps row_at
+unfolding jumps
 branch-long insn formed branch =
     let parts = and_parts _ _ branch in
     let plain : insn.signed ≡ false = not-is insn.signed parts.0 in
-    let fitting = entry-fits insn.opcode parts.1 in
-    by (plain_entry insn.opcode) refl plain fitting
+    by (row_at insn.opcode false) refl (ap (row_at insn.opcode) plain) plain (jump-fits insn.opcode parts.1)
   where
-    row-is : (e : Entry) → plain_entry insn.opcode ≡ Some e → insn.signed ≡ false → row_at insn.opcode insn.signed ≡ Some (shown_entry e)
-    row-is e same plain = ap (row_at insn.opcode) plain ∙ ap (option_map shown_entry) same
-
-    by : (o : Option Entry) → plain_entry insn.opcode ≡ o → insn.signed ≡ false → fits (branch_length insn.opcode) (plain_entry insn.opcode) ≡ true → branch_length insn.opcode ≡ length_of insn
-    by None same plain fitting = absurd (cc (sym (ap (fits (branch_length insn.opcode)) same) ∙ fitting))
-    by (Some e) same plain fitting =
-        let row = row-is e same plain in
-        let long : is_long (branch_length insn.opcode) (layout_of e.shape) ≡ true = sym (ap (fits (branch_length insn.opcode)) same) ∙ fitting in
-        let fit : row_fits insn (shown_entry e) ≡ true = sym (ap (λ o. elim o [ None ↦ false | Some r ↦ row_fits insn r ]) row) ∙ formed in
-        sym (ap (λ o. elim o [ None ↦ 0 | Some r ↦ row_length insn r ]) row ∙ row-long insn (shown_entry e) plain long fit)
+    by : (o : Option Shown) → row_at insn.opcode false ≡ o → row_at insn.opcode insn.signed ≡ row_at insn.opcode false → insn.signed ≡ false → row-fits insn.opcode ≡ true → branch_length insn.opcode ≡ length_of insn
+    by None same row plain fitting = absurd (cc (sym (ap (λ o. elim o [ None ↦ false | Some r ↦ is_long (branch_length insn.opcode) (layout_of r.shape) ]) same) ∙ fitting))
+    by (Some r) same row plain fitting =
+        let long : is_long (branch_length insn.opcode) (layout_of r.shape) ≡ true = sym (ap (λ o. elim o [ None ↦ false | Some r ↦ is_long (branch_length insn.opcode) (layout_of r.shape) ]) same) ∙ fitting in
+        let fit : row_fits insn r ≡ true = sym (ap (λ o. elim o [ None ↦ false | Some r ↦ row_fits insn r ]) (row ∙ same)) ∙ formed in
+        sym (ap (λ o. elim o [ None ↦ 0 | Some r ↦ row_length insn r ]) (row ∙ same) ∙ row-long insn r plain long fit)
 
 pub branches-pass : BranchesPassToTheNext
 branches-pass insn pc formed branch = ap (λ n. (pc + n) % 0x10000) (branch-long insn formed branch)

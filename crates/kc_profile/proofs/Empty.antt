@@ -22,7 +22,7 @@ empty life = record { life = life; waits = replicate 16 no_waits; deepest = None
 statistics-none : (life : ℕ) → AreStatisticsOf life [] (empty life)
 unfolding empty deepest
 statistics-none life = record {
-  whole = record { waits = length-replicate 16 no_waits; hits = length-replicate 65536 0; taken = length-replicate 65536 0; passed = length-replicate 65536 0 };
+  whole = record { waits = length-replicate 16 no_waits; hits = length-replicate {A = ℕ} 65536 0; taken = length-replicate {A = ℕ} 65536 0; passed = length-replicate {A = ℕ} 65536 0 };
   waits = λ n below. subst (AreWaitsOf n life []) (sym (get_or-replicate 16 n no_waits no_waits below)) (waits-none n life);
   deepest = refl;
   hits = λ addr. none-at 65536 addr;
@@ -31,7 +31,7 @@ statistics-none life = record {
 }
 
 numbers-none : (n : ℕ) → All (λ x. x ≤ 0) (replicate n 0)
-numbers-none n = λ k d within. let e = get_or-replicate n k 0 d (let long = length-replicate n 0 in omega (arith, within, long)) in omega (arith, e)
+numbers-none n = λ k d within. let e = get_or-replicate {A = ℕ} n k 0 d (let long = length-replicate {A = ℕ} n 0 in omega (arith, within, long)) in omega (arith, e)
 
 few-none : (life : ℕ) → AreAllFew 0 (empty life)
 unfolding empty

@@ -86,22 +86,22 @@ counted-long : (b : Bool) (addr : ℕ) (xs : List ℕ) → length (counted_at b 
 counted-long false addr xs = refl
 counted-long true addr xs = set-long (λ (x y : ℕ). x) xs addr (slice_index xs addr + 1)
 
-whole-before : (s : Sight) (t v w : Statistics) → v ≡ with_stack s (with_instructions s t) → w ≡ with_waits w.waits v → length w.waits ≡ length v.waits → IsWhole w → IsWhole t
-whole-before s t v w stack rest many whole = record {
-  waits = sym (ap (λ (x : Statistics). length x.waits) stack) ∙ sym many ∙ whole.waits;
-  hits = sym (ap (λ (x : Statistics). length x.hits) rest ∙ ap (λ (x : Statistics). length x.hits) stack ∙ counted-long (hits s) s.pc t.hits) ∙ whole.hits;
-  taken = sym (ap (λ (x : Statistics). length x.taken) rest ∙ ap (λ (x : Statistics). length x.taken) stack ∙ counted-long (goes (way s) Taken) s.pc t.taken) ∙ whole.taken;
-  passed = sym (ap (λ (x : Statistics). length x.passed) rest ∙ ap (λ (x : Statistics). length x.passed) stack ∙ counted-long (goes (way s) Passed) s.pc t.passed) ∙ whole.passed;
+whole-before : (s : Sight) (t v : Statistics) → v ≡ with_stack s (with_instructions s t) → IsWhole v → IsWhole t
+whole-before s t v stack whole = record {
+  waits = sym (ap (λ (x : Statistics). length x.waits) stack) ∙ whole.waits;
+  hits = sym (ap (λ (x : Statistics). length x.hits) stack ∙ counted-long (hits s) s.pc t.hits) ∙ whole.hits;
+  taken = sym (ap (λ (x : Statistics). length x.taken) stack ∙ counted-long (goes (way s) Taken) s.pc t.taken) ∙ whole.taken;
+  passed = sym (ap (λ (x : Statistics). length x.passed) stack ∙ counted-long (goes (way s) Passed) s.pc t.passed) ∙ whole.passed;
 }
 
-pub few-seen : (n : ℕ) (s : Sight) (t u v w : Statistics) → s.pc < 65536 → IsWhole w → u ≡ with_instructions s t → v ≡ with_stack s u → HaveSeen v.life s v.waits w.waits → w ≡ with_waits w.waits v → AreAllFew n t → AreAllFew (n + 1) w
+pub few-seen : (n : ℕ) (s : Sight) (t u v w : Statistics) → s.pc < 65536 → IsWhole v → u ≡ with_instructions s t → v ≡ with_stack s u → HaveSeen v.life s v.waits w.waits → w ≡ with_waits w.waits v → AreAllFew n t → AreAllFew (n + 1) w
 few-seen n s t u v w inside later i k seen rest few =
     let stack : v ≡ with_stack s (with_instructions s t) = k ∙ ap (with_stack s) i in
     let same : v.waits ≡ t.waits = ap (λ (x : Statistics). x.waits) stack in
-    let whole : IsWhole t = whole-before s t v w stack rest seen.many later in
+    let whole : IsWhole t = whole-before s t v stack later in
     record {
       waits = λ j d within.
-          let below : j < 16 = omega (arith, within, later.waits) in
+          let below : j < 16 = omega (arith, within, seen.many, later.waits) in
           let at : get_or w.waits j d ≡ see j v.life s (waits_at v j) = get_or_default w.waits j d no_waits within ∙ seen.each j below in
           let old : AreFewWaits n (get_or t.waits j no_waits) = few.waits j no_waits (omega (arith, below, whole.waits)) in
           let old-v : AreFewWaits n (waits_at v j) = subst (λ l. AreFewWaits n (get_or l j no_waits)) (sym same) old in

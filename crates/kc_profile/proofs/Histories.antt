@@ -27,8 +27,16 @@ use Rattle.kc_profile.proofs.Nothing.{IsQuietSight, statistics-kept}
 
 shown : ℕ → IntSet → Requests → Requests → Option Activity → Bool → ℕ → ℕ → ℕ → ℕ → Sight
 shown at raised before later ends is_broken pc next_pc stack next_stack = record {
-  at = at; raised = raised; before = before; after = later; ends = ends; is_broken = is_broken;
-  pc = pc; next_pc = next_pc; stack = stack; next_stack = next_stack;
+  at = at;
+  raised = raised;
+  before = before;
+  after = later;
+  ends = ends;
+  is_broken = is_broken;
+  pc = pc;
+  next_pc = next_pc;
+  stack = stack;
+  next_stack = next_stack;
 }
 
 module _ {X : Type 0} (f : Further X) where

@@ -15,8 +15,8 @@ mod statistics_text;
 mod waits;
 
 pub use laws::{
-    branches_pass_to_the_next, spreads_are_of_all, statistics_are_one, tallies_are_one, times_are_rows,
-    waits_are_seen, waits_are_since_it_came,
+    branches_pass_to_the_next, spreads_are_of_all, statistics_are_one, tallies_are_one,
+    times_are_rows, waits_are_seen, waits_are_since_it_came,
 };
 pub use profile::Profile;
 pub use reporting::report;

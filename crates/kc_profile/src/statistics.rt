@@ -1,7 +1,7 @@
 // The statistics of a run: of its requests, of its stack, and of the instructions that it has done.
 ghost use Rattle.std.specs.Prelude.{◌≡◌, ◌+◌, ◌-◌, ◌<◌, ◌≤◌, ◌^◌, ◌∷◌, [], ℕ, List, IfOk, length, slice_index, slice_set, All};
 ghost use Rattle.kc_profile.specs.declared.sight.Sight as sights;
-ghost use Rattle.kc_profile.specs.Statistics.{AreAllFew, HaveSeen, AreStatisticsOf, waits_at};
+ghost use Rattle.kc_profile.specs.Statistics.{AreAllFew, HaveSeen, AreStatisticsOf, IsWhole, waits_at};
 ghost use Rattle.kc_profile.specs.Statistics as spec;
 ghost use Rattle.kc_profile.specs.Tally.{sums};
 ghost use Rattle.kc_profile.specs.Waits.{see, AreConsecutive, AreFewWaits};
@@ -158,6 +158,7 @@ impl Statistics {
         requires few { All (AreFewWaits (2 ^ 64 - 2)) self.old.waits }
         ensures seen { HaveSeen self.old.life sight.now self.old.waits self.new.waits }
         ensures rest { self.new ≡ spec.with_waits self.new.waits self.old }
+        ensures whole { IsWhole self.old }
     {
         see_all(&mut self.waits, self.life, sight);
     }
@@ -189,7 +190,9 @@ impl Statistics {
     fn add_life(&mut self, later: &Statistics)
         requires few { AreAllFew (2 ^ 63 - 1) self.old }
         requires later { AreAllFew (2 ^ 63 - 1) later.now }
-        ensures { self.new ≡ spec.with_life self.old later.now }
+        ensures statistics { self.new ≡ spec.with_life self.old later.now }
+        ensures whole { IsWhole self.old }
+        ensures other { IsWhole later.now }
     {
         add_waits(&mut self.waits, &later.waits);
         if let Some(depth) = later.deepest {

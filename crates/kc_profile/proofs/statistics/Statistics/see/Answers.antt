@@ -12,6 +12,4 @@ returns-clause-statistics c = λ sights follows statistics.
 
 pub returns-clause-few : goal.returns-clause-few
 returns-clause-few c = λ n few.
-    let inside = c.see_instructions.ensures.inside in
-    let whole : IsWhole c.see_requests.new.self = search rules in
-    few-seen n c.args.sight.now c.args.self.now c.see_instructions.new.self c.see_stack.new.self c.see_requests.new.self inside whole c.see_instructions.ensures.statistics c.see_stack.ensures.statistics c.see_requests.ensures.seen c.see_requests.ensures.rest few
+    few-seen n c.args.sight.now c.args.self.now c.see_instructions.new.self c.see_stack.new.self c.see_requests.new.self c.see_instructions.ensures.inside c.see_requests.ensures.whole c.see_instructions.ensures.statistics c.see_stack.ensures.statistics c.see_requests.ensures.seen c.see_requests.ensures.rest few
