@@ -93,7 +93,6 @@ impl Profile {
     }
 
     // Adds the numbers of another profile.
-    #[tactic(auto, using(crate::proofs::Together::both_whole, crate::proofs::Together::both_total))]
     fn add_numbers(&mut self, other: &Profile)
         requires { total self.old + total other.now < 2 ^ 64 }
         ensures numbers { self.new ≡ both self.old other.now }
