@@ -1,5 +1,5 @@
 -- What a run shows in its states, one after the other.
-use Rattle.std.proofs.Common.{◌≡◌, ℕ, zero, suc, ◌+◌, ◌-◌, ◌<◌, ◌≤◌, eqb, Bool, true, false, List, [], ◌∷◌, Option, Some, None, refl, sym, ◌∙◌, ap, subst, arith}
+use Rattle.std.proofs.Common.{◌≡◌, ℕ, zero, suc, ◌+◌, ◌-◌, ◌<◌, ◌≤◌, max, eqb, Bool, true, false, List, [], ◌∷◌, Option, Some, None, refl, sym, ◌∙◌, ap, subst, arith}
 use Rattle.kc_base.specs.declared.types.IntSet.{IntSet}
 use Rattle.kc_span.specs.Span.{after, QuietFor}
 use Rattle.kc_intc.specs.declared.requests.Requests.{Requests}
@@ -187,6 +187,34 @@ module _ {X : Type 0} (f : Further X) where
       let from : m ≡ (run_to f m.time first).machine = is ∙ ap (λ k. (run_to f m.time k).machine) there ∙ sym (ap (λ (s : Stepped X). s.machine) parts) in
       subst (λ l. AreStatisticsOf l (history f n.time first) u) same
       (next first begins from (subst (λ l. AreStatisticsOf l (history f m.time first) t) (sym same) (before first begins there counted)))
+
+  -- ---- the end of a run
+
+  -- a machine that has ended shows nothing more
+  history-over : (k t : ℕ) (m : Machine X) (how : End) → (at-state t m).ended ≡ Some how → history f (t + k) m ≡ history f t m
+  unfolding history at-state
+  history-over zero t m how over = let e : t + zero ≡ t = omega arith in ap (λ i. history f i m) e
+  history-over (suc k) t m how over =
+      let e : t + suc k ≡ suc (t + k) = omega arith in
+      let same : at-state (t + k) m ≡ at-state t m = machine-add f t k m ∙ ap (λ (s : Stepped X). s.machine) (run_for-ended f k (at-state t m) how over) in
+      let ended : (at-state (t + k) m).ended ≡ Some how = ap (λ (n : Machine X). n.ended) same ∙ over in
+      ap (λ i. history f i m) e
+      ∙ ap (λ o. unless_ended o (sight_of f (run_for f (t + k) m).machine) (history f (t + k) m)) ended
+      ∙ history-over k t m how over
+
+  pub shown-over : (until : ℕ) (m0 m first : Machine X) (how : End) → m0.time ≤ m.time → m ≡ (run_to f m.time m0).machine → m.time ≤ max until m0.time → m0 ≡ (run_to f m0.time first).machine → first.time ≡ 0 → m.ended ≡ Some how →
+      history f (max until m0.time) first ≡ history f m.time first
+  unfolding at-state
+  shown-over until m0 m first how forward is within there none over =
+      let time : (run_to f m0.time first).machine.time ≡ m0.time = ap (λ (k : Machine X). k.time) (sym there) in
+      let parts = run_to-append f m0.time m.time first (omega (arith, none)) forward time in
+      let from : m ≡ (run_to f m.time first).machine = is ∙ ap (λ k. (run_to f m.time k).machine) there ∙ sym (ap (λ (s : Stepped X). s.machine) parts) in
+      let at : m ≡ at-state m.time first = from ∙ ap (λ i. at-state i first) (let e : m.time - first.time ≡ m.time = omega (arith, none) in e) in
+      let sum : max until m0.time ≡ m.time + (max until m0.time - m.time) = omega (arith, within) in
+      ap (λ i. history f i first) sum ∙ history-over (max until m0.time - m.time) m.time first how (ap (λ (k : Machine X). k.ended) (sym at) ∙ over)
+
+  pub shown-far : (until : ℕ) (m0 m first : Machine X) → m0.time ≤ m.time → m.time ≤ max until m0.time → until ≤ m.time → history f (max until m0.time) first ≡ history f m.time first
+  shown-far until m0 m first forward within far = let e : max until m0.time ≡ m.time = omega (arith, forward, within, far) in ap (λ i. history f i first) e
 
 -- what is seen from a start that is a machine's
 pub seen-from : {X : Type 0} (m : Machine X) (start : Start) (a : UnderWay) (raised : IntSet) (n : Machine X) → start.at ≡ m.time → start.requests ≡ m.board.units.board_registers.requests → start.pc ≡ m.cpu.pc → start.stack ≡ word_at m.board.memory 0x18 → a ≡ current m →

@@ -1,5 +1,5 @@
 -- What a part of a run has done to a machine and to a trace (this kit's own).
-use Rattle.std.specs.Prelude.{◌≡◌, ℕ, ◌+◌, ◌-◌, ◌*◌, ◌<◌, ◌≤◌, ◌⊎◌, false, replicate, Option, Some, None, Result, OnOk, OnErr}
+use Rattle.std.specs.Prelude.{◌≡◌, ℕ, ◌+◌, ◌-◌, ◌*◌, ◌<◌, ◌≤◌, ◌⊎◌, max, false, replicate, Option, Some, None, Result, OnOk, OnErr}
 use Rattle.kc_span.specs.Span.{after, QuietFor}
 use Rattle.kc_extra.specs.Further.{Further}
 use Rattle.kc_trace.specs.Out.{Out, Prints}
@@ -58,3 +58,7 @@ module _ {X : Type 0} (f : Further X) where
   -- where some statistics are those of a life up to one machine, others are those up to a later machine
   abbrev pub CountsOn : ℕ → Machine X → Statistics → Machine X → Statistics → Type 0
   CountsOn life m t n u = (first : Machine X) → Begins first → m ≡ (run_to f m.time first).machine → AreStatisticsOf life (history f m.time first) t → AreStatisticsOf life (history f n.time first) u
+
+  -- of a life up to a state nothing is seen that was not seen up to this machine
+  abbrev pub ShowsNoMore : ℕ → Machine X → Machine X → Type 0
+  ShowsNoMore until m n = (first : Machine X) → m ≡ (run_to f m.time first).machine → first.time ≡ 0 → history f (max until m.time) first ≡ history f n.time first

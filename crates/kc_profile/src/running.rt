@@ -13,7 +13,7 @@ ghost use Rattle.kc_machine.specs.Stepping.{IdlesFor};
 ghost use Rattle.kc_profile.specs.declared.spot.Spot as spots;
 ghost use Rattle.kc_profile.specs.Spots.{coming_spot, spots_for};
 ghost use Rattle.kc_profile.specs.Tally.{IsTallyOf, total};
-ghost use Rattle.kc_profile.specs.Passing.{Went, LastsFor, PassesAlone, CountsOn};
+ghost use Rattle.kc_profile.specs.Passing.{Went, LastsFor, PassesAlone, CountsOn, ShowsNoMore};
 ghost use Rattle.kc_profile.specs.Sights.{seen_of};
 ghost use Rattle.kc_profile.specs.Statistics.{AreAllFew};
 ghost use Rattle.kc_span.specs.Span.{QuietFor};
@@ -278,6 +278,7 @@ pub fn run_profiled<X: Extra + Drop, S: Sink, L: Ledger>(
     ensures passed { length (spots_for X.further (machine.new.machine.time - machine.old.machine.time) machine.old.machine) ≡ machine.new.machine.time - machine.old.machine.time }
     ensures total { total profile.new ≡ total profile.old + (machine.new.machine.time - machine.old.machine.time) }
     ensures statistics { OnOk result (CountsOn X.further statistics.old.life machine.old.machine statistics.old machine.new.machine statistics.new) }
+    ensures shown { OnOk result (ShowsNoMore X.further until machine.old.machine machine.new.machine) }
     ensures life { statistics.new.life ≡ statistics.old.life }
     ensures few { (n : ℕ) → AreAllFew n statistics.old → AreAllFew (n + (machine.new.machine.time - machine.old.machine.time)) statistics.new }
 {

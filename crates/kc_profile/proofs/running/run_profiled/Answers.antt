@@ -6,7 +6,7 @@ use Rattle.kc_machine_spec.proofs.Coming.{Came-lines, Came-machine, Came-cut}
 use Rattle.kc_machine_spec.proofs.Calls.{always-failed}
 use Rattle.kc_profile.proofs.Going.{along-first, along-next, fails-later, spots-done, over-same, over-goes}
 use Rattle.kc_profile.proofs.Few.{few-more, few-further}
-use Rattle.kc_profile.proofs.Histories.{counts-first, counts-next}
+use Rattle.kc_profile.proofs.Histories.{counts-first, counts-next, shown-far, shown-over}
 use Rattle.kc_profile.proofs.running.run_profiled.Goals as goal
 
 pub loop-machine-init : goal.loop-machine-init
@@ -118,3 +118,15 @@ returns-in_err-count-clause-few g c = λ n few. few-further _ _ _ n c.count.new.
 
 pub returns-in_err-count-clause-life : goal.returns-in_err-count-clause-life
 returns-in_err-count-clause-life g c = c.count.ensures.life ∙ c.loop-machine.invariant.life
+
+-- ---- what is seen
+
+pub returns-in-Some-clause-shown : goal.returns-in-Some-clause-shown
+returns-in-Some-clause-shown g c = λ first there none.
+    let i = c.loop-machine.invariant in
+    shown-over g.X.Extra.further c.args.until c.args.machine.now.machine c.loop-machine.machine.machine first c.in-Some.end i.along.came.forward i.along.came.machine i.along.within there none (sym c.ended.ensures ∙ c.in-Some.is)
+
+pub returns-clause-shown : goal.returns-clause-shown
+returns-clause-shown g c = λ first there none.
+    let i = c.loop-machine.invariant in
+    shown-far g.X.Extra.further c.args.until c.args.machine.now.machine c.loop-machine.machine.machine first i.along.came.forward i.along.within (omega (arith, c.loop-machine-test.false, c.now.ensures))
