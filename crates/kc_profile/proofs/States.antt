@@ -1,14 +1,14 @@
 -- Statistics after a state are those before it, and what the state shows: of instructions and of the stack.
 use Rattle.std.proofs.Common.{◌≡◌, ℕ, ◌+◌, ◌<◌, ◌≤◌, Bool, true, false, cond, ◌&&◌, List, [], ◌∷◌, length, Option, Some, None, All, refl, sym, ◌∙◌, ap, subst, arith}
-use Rattle.std.specs.Prelude.{◌==◌, if◌then◌else◌, count_by, slice_index, slice_set}
+use Rattle.std.specs.Prelude.{◌==◌, if◌then◌else◌, count_by, slice_index, slice_index_or, slice_set}
 use Rattle.std.proofs.lemmas.Grind.{common_steps}
 use Rattle.kc_profile.specs.declared.sight.Sight.{Sight}
 use Rattle.kc_profile.specs.declared.sight.Way.{Way}
 use Rattle.kc_profile.specs.declared.sight.Way.TheVariants.{Taken, Passed}
 use Rattle.kc_profile.specs.declared.statistics.Depth.{Depth}
 use Rattle.kc_profile.specs.Sights.{hits, way, moves_stack}
-use Rattle.kc_profile.specs.Waits.{AreConsecutive, AreWaitsOf, see}
-use Rattle.kc_profile.specs.Statistics.{Statistics, AreStatisticsOf, IsWhole, HaveSeen, counted_at, deepest, deeper, depth, goes, is_hit, is_way, waits_at, with_instructions, with_stack}
+use Rattle.kc_profile.specs.Waits.{AreConsecutive, AreWaitsOf, no_waits, see}
+use Rattle.kc_profile.specs.Statistics.{Statistics, AreStatisticsOf, IsWhole, HaveSeen, counted_at, deepest, deeper, depth, goes, is_hit, is_way, waits_at, with_instructions, with_stack, with_waits}
 use Rattle.kc_profile.proofs.Seen.{counted-first, waits-seen}
 
 index-set : (numbers : List ℕ) (addr n x : ℕ) → addr < length numbers → slice_index (slice_set numbers addr n) x ≡ (if x == addr then n else slice_index numbers x)
@@ -36,19 +36,19 @@ deepest-more b life s sights d is same =
     ap (λ e. cond b (Some (deeper e (depth life s))) e) same ∙ ap (λ c. cond c (Some (deeper (deepest life sights) (depth life s))) (deepest life sights)) (sym is)
 
 -- statistics of the states of a life and of the next one
-pub statistics-more : (s : Sight) (sights : List Sight) (t u v w : Statistics) → s.pc < 65536 → AreConsecutive s sights → IsWhole w → u ≡ with_instructions s t → v ≡ with_stack s u → HaveSeen s 16 v w → AreStatisticsOf t.life sights t → AreStatisticsOf t.life (s ∷ sights) w
-statistics-more s sights t u v w inside follows whole i k seen statistics =
+pub statistics-more : (s : Sight) (sights : List Sight) (t u v w : Statistics) → s.pc < 65536 → AreConsecutive s sights → IsWhole w → u ≡ with_instructions s t → v ≡ with_stack s u → HaveSeen v.life s v.waits w.waits → w ≡ with_waits w.waits v → AreStatisticsOf t.life sights t → AreStatisticsOf t.life (s ∷ sights) w
+statistics-more s sights t u v w inside follows whole i k seen rest statistics =
     let stack : v ≡ with_stack s (with_instructions s t) = k ∙ ap (with_stack s) i in
-    let waits-same : (n : ℕ) → waits_at v n ≡ waits_at t n = λ n. ap (λ (x : Statistics). waits_at x n) stack in
+    let waits-same : v.waits ≡ t.waits = ap (λ (x : Statistics). x.waits) stack in
     let life-same : v.life ≡ t.life = ap (λ (x : Statistics). x.life) stack in
     record {
       whole = whole;
       waits = λ n lt.
           subst (λ x. AreWaitsOf n t.life (s ∷ sights) x)
-          (sym (seen.first n lt ∙ ap (λ l. see n l s (waits_at v n)) life-same ∙ ap (see n t.life s) (waits-same n)))
+          (sym (seen.each n lt ∙ ap (λ l. see n l s (slice_index_or v.waits n no_waits)) life-same ∙ ap (λ l. see n t.life s (slice_index_or l n no_waits)) waits-same))
           (waits-seen n t.life s sights (waits_at t n) follows (statistics.waits n lt));
-      deepest = seen.deepest ∙ ap (λ (x : Statistics). x.deepest) stack ∙ deepest-more (moves_stack s) t.life s sights t.deepest refl statistics.deepest;
-      hits = λ x. ap (λ ns. slice_index ns x) (seen.hits ∙ ap (λ (y : Statistics). y.hits) stack) ∙ counted-more (hits s) s t.hits (is_hit x) x sights (subst (λ n. s.pc < n) (sym statistics.whole.hits) inside) refl (statistics.hits x);
-      taken = λ x. ap (λ ns. slice_index ns x) (seen.taken ∙ ap (λ (y : Statistics). y.taken) stack) ∙ counted-more (goes (way s) Taken) s t.taken (is_way Taken x) x sights (subst (λ n. s.pc < n) (sym statistics.whole.taken) inside) refl (statistics.taken x);
-      passed = λ x. ap (λ ns. slice_index ns x) (seen.passed ∙ ap (λ (y : Statistics). y.passed) stack) ∙ counted-more (goes (way s) Passed) s t.passed (is_way Passed x) x sights (subst (λ n. s.pc < n) (sym statistics.whole.passed) inside) refl (statistics.passed x);
+      deepest = ap (λ (x : Statistics). x.deepest) rest ∙ ap (λ (x : Statistics). x.deepest) stack ∙ deepest-more (moves_stack s) t.life s sights t.deepest refl statistics.deepest;
+      hits = λ x. ap (λ ns. slice_index ns x) (ap (λ (y : Statistics). y.hits) rest ∙ ap (λ (y : Statistics). y.hits) stack) ∙ counted-more (hits s) s t.hits (is_hit x) x sights (subst (λ n. s.pc < n) (sym statistics.whole.hits) inside) refl (statistics.hits x);
+      taken = λ x. ap (λ ns. slice_index ns x) (ap (λ (y : Statistics). y.taken) rest ∙ ap (λ (y : Statistics). y.taken) stack) ∙ counted-more (goes (way s) Taken) s t.taken (is_way Taken x) x sights (subst (λ n. s.pc < n) (sym statistics.whole.taken) inside) refl (statistics.taken x);
+      passed = λ x. ap (λ ns. slice_index ns x) (ap (λ (y : Statistics). y.passed) rest ∙ ap (λ (y : Statistics). y.passed) stack) ∙ counted-more (goes (way s) Passed) s t.passed (is_way Passed x) x sights (subst (λ n. s.pc < n) (sym statistics.whole.passed) inside) refl (statistics.passed x);
     }

@@ -8,6 +8,7 @@ use Rattle.kc_profile.specs.declared.spread.Moment.{Moment}
 use Rattle.kc_profile.specs.declared.statistics.Depth.{Depth}
 use Rattle.kc_profile.specs.declared.waits.Waits.{Waits}
 use Rattle.kc_profile.specs.Sights.{hits, way, moves_stack}
+use Rattle.kc_profile.specs.Tally.{sums}
 use Rattle.kc_profile.specs.Waits.{AreFewWaits, AreWaitsOf, added, came, handed_after, latencies, missed, moment, no_waits, pending_after, see, services}
 use Rattle.kc_profile.specs.Spreads.{spread_of}
 
@@ -95,16 +96,13 @@ with_instructions s t = record t {
 abbrev pub with_stack : Sight → Statistics → Statistics
 with_stack s t = record t { deepest = if moves_stack s then Some (deeper t.deepest (depth t.life s)) else t.deepest }
 
--- each of the first so many requests has seen a state, and the others have not
-pub record HaveSeen (s : Sight) (count : ℕ) (old new : Statistics) : Type 0 where
-  pub life : new.life ≡ old.life
-  pub length : length new.waits ≡ length old.waits
-  pub first : (n : ℕ) → n < count → waits_at new n ≡ see n old.life s (waits_at old n)
-  pub rest : (n : ℕ) → count ≤ n → waits_at new n ≡ waits_at old n
-  pub deepest : new.deepest ≡ old.deepest
-  pub hits : new.hits ≡ old.hits
-  pub taken : new.taken ≡ old.taken
-  pub passed : new.passed ≡ old.passed
+-- each request has seen a state
+pub record HaveSeen (life : ℕ) (s : Sight) (old new : List Waits) : Type 0 where
+  pub many : length new ≡ length old
+  pub each : (n : ℕ) → n < 16 → slice_index_or new n no_waits ≡ see n life s (slice_index_or old n no_waits)
+
+abbrev pub with_waits : List Waits → Statistics → Statistics
+with_waits waits t = record t { waits = waits }
 
 -- ---- the same as a value
 
@@ -131,15 +129,15 @@ statistics_of life sights = record {
   passed = values_for (λ addr. count_by (is_way Passed addr) sights) 65536;
 }
 
+-- the statistics of some states of a life are this value
+abbrev pub StatisticsAreOne : Type 0
+StatisticsAreOne = (life : ℕ) (sights : List Sight) (t : Statistics) → t.life ≡ life → AreStatisticsOf life sights t → t ≡ statistics_of life sights
+
 -- ---- several lives
 
 abbrev pub deeper_of : Option Depth → Option Depth → Option Depth
 deeper_of first None = first
 deeper_of first (Some second) = Some (deeper first second)
-
-unfoldable pub sums : List ℕ → List ℕ → List ℕ
-sums (n ∷ ns) (m ∷ ms) = n + m ∷ sums ns ms
-sums _ _ = []
 
 unfoldable pub all_added : List Waits → List Waits → List Waits
 all_added (w ∷ ws) (v ∷ vs) = added w v ∷ all_added ws vs

@@ -1,9 +1,10 @@
 // The statistics of a run: of its requests, of its stack, and of the instructions that it has done.
 ghost use Rattle.std.specs.Prelude.{◌≡◌, ◌+◌, ◌-◌, ◌<◌, ◌≤◌, ◌^◌, ◌∷◌, [], ℕ, List, IfOk, length, slice_index, slice_set, All};
 ghost use Rattle.kc_profile.specs.declared.sight.Sight as sights;
-ghost use Rattle.kc_profile.specs.Statistics.{AreAllFew, HaveSeen, AreStatisticsOf, waits_at};
+ghost use Rattle.kc_profile.specs.Statistics.{AreAllFew, HaveSeen, AreStatisticsOf, IsWhole, waits_at};
 ghost use Rattle.kc_profile.specs.Statistics as spec;
-ghost use Rattle.kc_profile.specs.Waits.{see, AreConsecutive};
+ghost use Rattle.kc_profile.specs.Tally.{sums};
+ghost use Rattle.kc_profile.specs.Waits.{see, AreConsecutive, AreFewWaits};
 
 use crate::sight::{Sight, Way};
 use crate::spread::Moment;
@@ -55,14 +56,40 @@ fn count(numbers: &mut [u64], addr: u16)
 }
 
 // Adds numbers to others, each to its own.
+#[tactic(auto, using(crate::proofs::Added::added_sums))]
 fn add_all(numbers: &mut [u64], more: &[u64])
     requires same { length numbers.old ≡ length more.now }
-    requires few { All (λ n. n < 2 ^ 63) numbers.old }
-    requires more { All (λ n. n < 2 ^ 63) more.now }
-    ensures { numbers.new ≡ spec.sums numbers.old more.now }
+    requires few { All (λ n. n ≤ 2 ^ 63 - 1) numbers.old }
+    requires more { All (λ n. n ≤ 2 ^ 63 - 1) more.now }
+    ensures { numbers.new ≡ sums numbers.old more.now }
 {
     for i in 0..numbers.len() {
         numbers[i] += more[i];
+    }
+}
+
+// Takes what a state shows of each request.
+#[tactic(auto, using(crate::proofs::Added::have_seen, crate::proofs::Added::seen_next, crate::proofs::Added::seen_none))]
+fn see_all(waits: &mut [Waits], life: u16, sight: &Sight)
+    requires many { length waits.old ≡ 16 }
+    requires few { All (AreFewWaits (2 ^ 64 - 2)) waits.old }
+    ensures { HaveSeen life sight.now waits.old waits.new }
+{
+    for n in 0..16u8 {
+        waits[usize::from(n)].see(n, life, sight);
+    }
+}
+
+// Adds what a later life reports of each request.
+#[tactic(auto, using(crate::proofs::Added::added_waits))]
+fn add_waits(waits: &mut [Waits], later: &[Waits])
+    requires same { length waits.old ≡ length later.now }
+    requires few { All (AreFewWaits (2 ^ 63 - 1)) waits.old }
+    requires later { All (AreFewWaits (2 ^ 63 - 1)) later.now }
+    ensures { waits.new ≡ spec.all_added waits.old later.now }
+{
+    for n in 0..waits.len() {
+        waits[n].add(&later[n]);
     }
 }
 
@@ -80,6 +107,7 @@ impl Statistics {
     /// Of a life with this number of which no state has passed.
     pub fn new(alloc: Global, life: u16) -> Result<Statistics, NoMemory>
         ensures statistics { IfOk result (λ statistics. AreStatisticsOf life [] statistics) }
+        ensures life { IfOk result (λ statistics. statistics.life ≡ life) }
         ensures few { IfOk result (λ statistics. AreAllFew 0 statistics) }
     {
         Ok(Statistics {
@@ -96,13 +124,15 @@ impl Statistics {
     fn see_instructions(&mut self, sight: &Sight)
         requires few { AreAllFew (2 ^ 64 - 2) self.old }
         ensures statistics { self.new ≡ spec.with_instructions sight.now self.old }
+        ensures inside { sight.now.pc < 65536 }
     {
+        let pc = sight.pc;
         if sight.hits() {
-            count(&mut self.hits, sight.pc);
+            count(&mut self.hits, pc);
         }
         match sight.way() {
-            Some(Way::Taken) => count(&mut self.taken, sight.pc),
-            Some(Way::Passed) => count(&mut self.passed, sight.pc),
+            Some(Way::Taken) => count(&mut self.taken, pc),
+            Some(Way::Passed) => count(&mut self.passed, pc),
             None => {}
         }
     }
@@ -125,13 +155,12 @@ impl Statistics {
 
     // Takes what a state shows of each request.
     fn see_requests(&mut self, sight: &Sight)
-        requires few { AreAllFew (2 ^ 64 - 2) self.old }
-        ensures seen { HaveSeen sight.now 16 self.old self.new }
+        requires few { All (AreFewWaits (2 ^ 64 - 2)) self.old.waits }
+        ensures seen { HaveSeen self.old.life sight.now self.old.waits self.new.waits }
+        ensures rest { self.new ≡ spec.with_waits self.new.waits self.old }
+        ensures whole { IsWhole self.old }
     {
-        let life = self.life;
-        for n in 0..16u8 {
-            self.waits[usize::from(n)].see(n, life, sight);
-        }
+        see_all(&mut self.waits, self.life, sight);
     }
 
     /// Takes the next state of the present life.
@@ -151,11 +180,21 @@ impl Statistics {
     pub fn add(&mut self, later: &Statistics)
         requires few { AreAllFew (2 ^ 63 - 1) self.old }
         requires later { AreAllFew (2 ^ 63 - 1) later.now }
-        ensures { self.new ≡ spec.with_life self.old later.now }
+        ensures statistics { self.new ≡ spec.with_life self.old later.now }
+        ensures few { (n m : ℕ) → AreAllFew n self.old → AreAllFew m later.now → AreAllFew (n + m) self.new }
     {
-        for n in 0..16usize {
-            self.waits[n].add(&later.waits[n]);
-        }
+        self.add_life(later);
+    }
+
+    // Adds those of a later life.
+    fn add_life(&mut self, later: &Statistics)
+        requires few { AreAllFew (2 ^ 63 - 1) self.old }
+        requires later { AreAllFew (2 ^ 63 - 1) later.now }
+        ensures statistics { self.new ≡ spec.with_life self.old later.now }
+        ensures whole { IsWhole self.old }
+        ensures other { IsWhole later.now }
+    {
+        add_waits(&mut self.waits, &later.waits);
         if let Some(depth) = later.deepest {
             self.deepest = Some(deeper(self.deepest, depth));
         }
