@@ -1,0 +1,15 @@
+pub mod Prices
+pub mod States
+pub mod Rom
+pub mod Goes
+pub mod Found
+pub mod Activities
+pub mod Begins
+pub mod Follows
+pub mod Paid
+pub mod Ahead
+pub mod Positive
+pub mod Keeps
+pub mod Ways
+pub mod Steps
+pub mod Passes
