@@ -9,7 +9,7 @@ use Rattle.kc_macro_body.specs.declared.words.Word.{Word}
 use Rattle.kc_macro_body.specs.declared.words.Word.TheVariants as words
 use Rattle.kc_macro_body.specs.declared.macros.Macro.{Macro}
 use Rattle.kc_lex.specs.Kinds.{has_label}
-use Rattle.kc_lex.specs.Codes.{no_statement, no_end, many_lines, too_deep, no_match, many_arguments}
+use Rattle.kc_lex.specs.Codes.{lesser_number, no_statement, no_end, many_lines, too_deep, no_match, many_arguments}
 use Rattle.kc_macro_body.specs.Words.{unlabelled, behind_label}
 use Rattle.kc_macro_body.specs.Arguments.{arguments, definition, over_arguments}
 use Rattle.kc_macro_body.specs.Bodies.{macro_of, only}
@@ -38,12 +38,7 @@ pub data Next : Type 0 where
 abbrev pub counted : ℕ → State → Next
 counted number s = if s.left == 0 then Fault number many_lines else Counted (record s { left = s.left - 1 })
 
--- ---- the least of some codes
-
-abbrev pub least : Option ℕ → Option ℕ → Option ℕ
-least None d = d
-least (Some c) None = Some c
-least (Some c) (Some d) = Some (min c d)
+-- ---- codes of faults
 
 abbrev pub code_if : Bool → ℕ → Option ℕ
 code_if b code = if b then Some code else None
@@ -65,7 +60,7 @@ if_next s number (Some code) (Some p) = Fault number code
 if_next s number None (Some p) = Quiet (record s { ahead = map (marked If) p.0 ++ p.1 })
 
 abbrev pub if_fault : List Mark → Result ℕ ℕ → Option ℕ
-if_fault from value = least (code_if (nat_le 16 (count_by is_if from)) too_deep) (code_of value)
+if_fault from value = lesser_number (code_if (nat_le 16 (count_by is_if from)) too_deep) (code_of value)
 
 abbrev pub if_step : State → ℕ → List Mark → Result ℕ ℕ → Next
 if_step s number from value = if_next s number (if_fault from value) (kept (not (number_of value == 0)) s.ahead)
@@ -145,11 +140,11 @@ names_run_out given count = nat_lt 0 count && nat_le (10 ^ 29) (given + count)
 
 abbrev pub call_fault : ℕ → ℕ → List Mark → Macro → List (List Token) → Filled → Option ℕ
 call_fault left given from m args text =
-    least (text_code text)
-    (least (code_if (left == 0) many_lines)
-    (least (code_if (nat_le 16 (count_by is_call from)) too_deep)
-    (least (code_if (not m.sound) no_match)
-    (least (code_if (nat_lt (length m.formals.params) (length args)) many_arguments)
+    lesser_number (text_code text)
+    (lesser_number (code_if (left == 0) many_lines)
+    (lesser_number (code_if (nat_le 16 (count_by is_call from)) too_deep)
+    (lesser_number (code_if (not m.sound) no_match)
+    (lesser_number (code_if (nat_lt (length m.formals.params) (length args)) many_arguments)
     (code_if (names_run_out given m.formals.locals.count) no_statement)))))
 
 abbrev pub call_next : State → ℕ → ℕ → Option ℕ → Filled → Next

@@ -6,8 +6,9 @@ ghost use Rattle.kc_macro_body.specs.Arguments as arguments;
 ghost use Rattle.kc_macro_body.specs.Calls as calls;
 
 use crate::state::{State, Step};
-use crate::steps::{code_if, least, plain_step};
+use crate::steps::{code_if, plain_step};
 use kc_base::{NoMemory, Text};
+use kc_lex::fault::lesser_number;
 use kc_lex::{SourceCode, Token, Tokens};
 use kc_macro_body::arguments::arguments;
 use kc_macro_body::bodies::{behind_first, macro_of};
@@ -81,7 +82,7 @@ fn call_fault(
 ) -> Option<u8>
     ensures { result ≡ steps.call_fault left given from.now item.now args.now (seen_filled text.now) }
 {
-    let many = least(
+    let many = lesser_number(
         code_if(
             item.formals.params.as_slice().len() < args.len(),
             SourceCode::ManyArguments.number(),
@@ -91,14 +92,14 @@ fn call_fault(
             SourceCode::NoStatement.number(),
         ),
     );
-    let unsound = least(code_if(!item.sound, SourceCode::NoMatch.number()), many);
-    let deep = least(
+    let unsound = lesser_number(code_if(!item.sound, SourceCode::NoMatch.number()), many);
+    let deep = lesser_number(
         code_if(16 <= from.calls(), SourceCode::TooDeep.number()),
         unsound,
     );
-    least(
+    lesser_number(
         text_code(text),
-        least(code_if(left == 0, SourceCode::ManyLines.number()), deep),
+        lesser_number(code_if(left == 0, SourceCode::ManyLines.number()), deep),
     )
 }
 

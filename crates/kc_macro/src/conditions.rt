@@ -3,8 +3,9 @@ ghost use Rattle.kc_macro.specs.Steps as steps;
 ghost use Rattle.kc_macro.specs.Operands as operands;
 
 use crate::state::{State, Step};
-use crate::steps::{code_if, code_of, least, least_unmatched};
+use crate::steps::{code_if, code_of, least_unmatched};
 use kc_base::NoMemory;
+use kc_lex::fault::lesser_number;
 use kc_lex::SourceCode;
 use kc_macro_input::cutting::keep;
 use kc_macro_input::{Mark, Marks};
@@ -28,7 +29,7 @@ pub(crate) fn if_step(
 ) -> Result<Step, NoMemory>
     ensures { IfOk result (λ r. steps.next_of r state.new ≡ steps.if_step state.old number from.now value) }
 {
-    let fault = least(
+    let fault = lesser_number(
         code_if(16 <= from.ifs(), SourceCode::TooDeep.number()),
         code_of(value),
     );

@@ -6,6 +6,7 @@ use Rattle.std.specs.FinMap as fm
 use Rattle.std.proofs.lemmas.Bool.{and_parts, le-ltb, not-true, ne_eqb}
 use Rattle.kc_lex.specs.declared.token.Token.{Token}
 use Rattle.kc_lex.specs.Kinds.{has_label}
+use Rattle.kc_lex.specs.Codes.{lesser_number}
 use Rattle.kc_macro_body.specs.declared.words.Word.{Word}
 use Rattle.kc_macro_body.specs.declared.words.Word.TheVariants as words
 use Rattle.kc_macro_body.specs.declared.macros.Formals.{Formals}
@@ -22,7 +23,7 @@ use Rattle.kc_macro_input.specs.Cuts.{cut_at, kept}
 use Rattle.kc_macro_input.specs.Filled.{Filled, together, all_together, fill_body, fill_turns}
 use Rattle.kc_macro.specs.declared.state.State.{State}
 use Rattle.kc_macro.specs.Operands.{operand}
-use Rattle.kc_macro.specs.Steps.{Fault, Counted, counted, least, code_if, turn_lines, turn_head, rept_next, irp_next, begun, if_next, call_text, names_run_out, call_next, word_step, line_step, labelled_step, step}
+use Rattle.kc_macro.specs.Steps.{Fault, Counted, counted, code_if, turn_lines, turn_head, rept_next, irp_next, begun, if_next, call_text, names_run_out, call_next, word_step, line_step, labelled_step, step}
 use Rattle.kc_macro.specs.Expansion.{run_out}
 use Rattle.kc_macro_laws.specs.Course.{at_text, on_text, matched, one_counted, is_older, HasOldMarks, IsTooDeep}
 use Rattle.kc_macro_laws.specs.Constructs.{is_exitm, has_no_exitm, Block, text_of, IsBlock, IsJoined, ReptIsCopies, IrpIsCopies, MacroIsDefined, IsCall, CallIsItsBody, IfElseIsItsPart, IfIsItsPart}
@@ -269,7 +270,7 @@ body_lines m number from (l ∷ ls) = ap (λ ps. body_line number (m ∷ from) l
 call_first : (s : State) (number : ℕ) (from : List Mark) (tokens : List Token) (rest : List Piece) (m : Macro) (copy : List Piece) → IsCall s tokens m → names_run_out s.given m.formals.locals.count ≡ false →
     fill_body m.formals (arguments (drop 1 tokens)) s.given (map (body_line number from) m.body) ≡ Ok copy →
     step (at_text s (body_line number from tokens ∷ rest))
-    ≡ call_next (on_text s rest) number m.formals.locals.count (least (code_if (s.left == 0) 4) (least (code_if (nat_le 16 (count_by is_call from)) 5) None)) (Ok (map (marked (Call s.left)) copy))
+    ≡ call_next (on_text s rest) number m.formals.locals.count (lesser_number (code_if (s.left == 0) 4) (lesser_number (code_if (nat_le 16 (count_by is_call from)) 5) None)) (Ok (map (marked (Call s.left)) copy))
 call_first s number from tokens rest m copy is names filled =
     let text : call_text s.left s.given number from m (arguments (drop 1 tokens)) ≡ Ok (map (marked (Call s.left)) copy) =
     rw (body_lines (Call s.left) number from m.body) (body_marked (Call s.left) m.formals (arguments (drop 1 tokens)) s.given (map (body_line number from) m.body) copy filled) in
@@ -303,7 +304,7 @@ call_copy s number from tokens rest m copy qs is names filled later = choice (s.
     turned (inl e) f g = inl (f ∙ sym e ∙ sym g)
     turned (inr h) f g = inr (h.1.0, f ∙ h.1.1)
 
-    choice : (b d : Bool) → (s.left == 0) ≡ b → step a ≡ call_next (on_text s rest) number m.formals.locals.count (least (code_if b 4) (least (code_if d 5) None)) (Ok (map (marked (Call s.left)) copy)) →
+    choice : (b d : Bool) → (s.left == 0) ≡ b → step a ≡ call_next (on_text s rest) number m.formals.locals.count (lesser_number (code_if b 4) (lesser_number (code_if d 5) None)) (Ok (map (marked (Call s.left)) copy)) →
         step c ≡ counted number (record (on_text s qs) { given = s.given + m.formals.locals.count }) → (run_out a ≡ run_out c) ⊎ IsTooDeep (run_out a)
     choice true true e f g = inl (after_fault a number 4 f ∙ sym (after_fault c number 4 (g ∙ rw e refl)))
     choice true false e f g = inl (after_fault a number 4 f ∙ sym (after_fault c number 4 (g ∙ rw e refl)))
@@ -347,7 +348,7 @@ if_kept s number from tokens ps prefix rest value first is found = choice (nat_l
     turned (inl e) f = inl (f ∙ sym e)
     turned (inr h) f = inr (h.1.0, f ∙ h.1.1)
 
-    choice : (b : Bool) → step a ≡ if_next (on_text s ps) number (least (code_if b 5) None) (Some (prefix, rest)) → (run_out a ≡ run_out (on_text s (prefix ++ rest))) ⊎ IsTooDeep (run_out a)
+    choice : (b : Bool) → step a ≡ if_next (on_text s ps) number (lesser_number (code_if b 5) None) (Some (prefix, rest)) → (run_out a ≡ run_out (on_text s (prefix ++ rest))) ⊎ IsTooDeep (run_out a)
     choice true f = inr (number, after_fault a number 5 f)
     choice false f = turned (answers_alike If t (prefix ++ rest) (record { pairs = prefix_of If false _ _ (if_pairs prefix rest); above = tt })) (after_quiet a t f)
 

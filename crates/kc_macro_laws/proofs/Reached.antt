@@ -12,7 +12,7 @@ use Rattle.std.proofs.lemmas.Map.Text.{is_eq-slice_cmp}
 use Rattle.kc_lex.specs.declared.token.Token.{Token}
 use Rattle.kc_lex.specs.declared.token.Line.{Line}
 use Rattle.kc_lex.specs.Kinds.{has_label}
-use Rattle.kc_lex.specs.Codes.{no_statement, many_lines, too_deep, no_match, many_arguments}
+use Rattle.kc_lex.specs.Codes.{lesser_number, no_statement, many_lines, too_deep, no_match, many_arguments}
 use Rattle.kc_macro_body.specs.declared.words.Word.{Word}
 use Rattle.kc_macro_body.specs.declared.words.Word.TheVariants as words
 use Rattle.kc_macro_body.specs.declared.macros.Formals.{Formals}
@@ -34,7 +34,7 @@ use Rattle.kc_macro_input.specs.Cuts.{ends, depth_after, Cut, cut_at, after_piec
 use Rattle.kc_macro_input.specs.Filled.{Filled, fill_body, fill_turns}
 use Rattle.kc_macro.specs.declared.state.State.{State}
 use Rattle.kc_macro.specs.Operands.{operand, noted}
-use Rattle.kc_macro.specs.Steps.{Next, Fault, Ended, Quiet, Counted, counted, if_next, turn_lines, turn_head, same_turns, turns_of, rept_next, begun, irp_next, exitm_step, macro_next, call_text, names_run_out, call_next, call_step, call_fault, emitted, plain_step, ended, end_step, label_step, other_step, word_step, is_end, is_replaced, labelled_step, line_step, piece_step, prefix_step, least, code_if, text_code, step}
+use Rattle.kc_macro.specs.Steps.{Next, Fault, Ended, Quiet, Counted, counted, if_next, turn_lines, turn_head, same_turns, turns_of, rept_next, begun, irp_next, exitm_step, macro_next, call_text, names_run_out, call_next, call_step, call_fault, emitted, plain_step, ended, end_step, label_step, other_step, word_step, is_end, is_replaced, labelled_step, line_step, piece_step, prefix_step, code_if, text_code, step}
 use Rattle.kc_macro.specs.Expansion.{start}
 use Rattle.kc_macro_laws.specs.Course.{Goes, GoesBy, Leads, IsReached, is_older}
 use Rattle.kc_macro_laws.proofs.Constructs.{all_append}
@@ -376,7 +376,7 @@ call_good s number locals None (Ok ps) h goes new =
     let next : IsGood (record s { ahead = ps ++ s.ahead; left = s.left - 1 }) = new_good (Call s.left) s ps (own_call s.left (goes refl).0) new h in
     (record { old = next.old; tidy = next.tidy; macros = next.macros; few = (goes refl).1 }, omega arith)
 
-none_both : (c d : Option ℕ) → least c d ≡ None → (c ≡ None) × (d ≡ None)
+none_both : (c d : Option ℕ) → lesser_number c d ≡ None → (c ≡ None) × (d ≡ None)
 none_both None d e = (refl, e)
 none_both (Some c) None e = absurd (cc)
 none_both (Some c) (Some d) e = absurd (cc)
@@ -385,10 +385,10 @@ none_if : (b : Bool) (code : ℕ) → code_if b code ≡ None → b ≡ false
 none_if true code e = absurd (cc)
 none_if false code e = refl
 
-none_second_last : (a b c d e f : Option ℕ) → least a (least b (least c (least d (least e f)))) ≡ None → (b ≡ None) × (f ≡ None)
+none_second_last : (a b c d e f : Option ℕ) → lesser_number a (lesser_number b (lesser_number c (lesser_number d (lesser_number e f)))) ≡ None → (b ≡ None) × (f ≡ None)
 none_second_last a b c d e f h =
-    let second : (b ≡ None) × (least c (least d (least e f)) ≡ None) = none_both b (least c (least d (least e f))) (none_both a (least b (least c (least d (least e f)))) h).1 in
-    let fourth : (d ≡ None) × (least e f ≡ None) = none_both d (least e f) (none_both c (least d (least e f)) second.1).1 in
+    let second : (b ≡ None) × (lesser_number c (lesser_number d (lesser_number e f)) ≡ None) = none_both b (lesser_number c (lesser_number d (lesser_number e f))) (none_both a (lesser_number b (lesser_number c (lesser_number d (lesser_number e f)))) h).1 in
+    let fourth : (d ≡ None) × (lesser_number e f ≡ None) = none_both d (lesser_number e f) (none_both c (lesser_number d (lesser_number e f)) second.1).1 in
     (second.0, (none_both e f fourth.1).1)
 
 -- a call whose names do not run out leaves few given

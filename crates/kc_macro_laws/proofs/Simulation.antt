@@ -6,7 +6,7 @@ use Rattle.std.specs.FinMap as fm
 use Rattle.std.proofs.lemmas.Bool.{cases_lt, leb-true, leb-false}
 use Rattle.kc_lex.specs.declared.token.Token.{Token}
 use Rattle.kc_lex.specs.Kinds.{has_label, is_word}
-use Rattle.kc_lex.specs.Codes.{no_statement, no_match, many_arguments}
+use Rattle.kc_lex.specs.Codes.{lesser_number, no_statement, no_match, many_arguments}
 use Rattle.kc_macro_body.specs.declared.words.Word.{Word}
 use Rattle.kc_macro_body.specs.declared.words.Word.TheVariants as words
 use Rattle.kc_macro_body.specs.declared.macros.Macro.{Macro}
@@ -23,7 +23,7 @@ use Rattle.kc_macro_input.specs.Cuts.{Cut}
 use Rattle.kc_macro_input.specs.Filled.{Filled, fill_body, fill_turns}
 use Rattle.kc_macro.specs.declared.state.State.{State}
 use Rattle.kc_macro.specs.Operands.{operand, number_of, noted}
-use Rattle.kc_macro.specs.Steps.{Next, Fault, Ended, Quiet, Counted, counted, least, code_if, code_of, if_next, if_fault, turn_lines, turn_head, same_turns, turns_of, rept_next, begun, irp_next, exitm_step, macro_next, call_text, text_code, names_run_out, call_fault, call_next, call_step, emitted, plain_step, ended, end_step, label_step, other_step, word_step, is_end, is_replaced, labelled_step, line_step, piece_step, prefix_step, step}
+use Rattle.kc_macro.specs.Steps.{Next, Fault, Ended, Quiet, Counted, counted, code_if, code_of, if_next, if_fault, turn_lines, turn_head, same_turns, turns_of, rept_next, begun, irp_next, exitm_step, macro_next, call_text, text_code, names_run_out, call_fault, call_next, call_step, emitted, plain_step, ended, end_step, label_step, other_step, word_step, is_end, is_replaced, labelled_step, line_step, piece_step, prefix_step, step}
 use Rattle.kc_macro_laws.specs.Constructs.{is_exitm}
 use Rattle.kc_macro_laws.proofs.Marks.{Alike, FewerOf, alike_on, apart}
 use Rattle.kc_macro_laws.proofs.Pairs.{Pairs, Twin, Calm, Within, within_calm, SameTokens, pairs_append, pairs_repeated, pairs_map, pairs_lines, pairs_texts, pairs_left}
@@ -224,7 +224,7 @@ if_same x s number None (Some a) (Some b) qs above h = (
 
 -- one IF too many, among the marks x alone
 if_deep : (x : Mark) (s : State) (number : ℕ) (value : Result ℕ ℕ) (a b : Option (List Piece × List Piece)) (qs : List Piece) → is_deep x ≡ true → KeptPairs (Calm x) a b →
-    NextPairs x (if_next s number (least (Some 5) (code_of value)) a) (if_next (with_text s qs) number (least None (code_of value)) b)
+    NextPairs x (if_next s number (lesser_number (Some 5) (code_of value)) a) (if_next (with_text s qs) number (lesser_number None (code_of value)) b)
 if_deep x s number (Ok v) None None qs deep h = inr (deep, refl)
 if_deep x s number (Ok v) None (Some b) qs deep h = absurd h
 if_deep x s number (Ok v) (Some a) None qs deep h = absurd h
@@ -244,8 +244,8 @@ no_more : (a b : ℕ) → b ≤ a → nat_le 16 a ≡ false → nat_le 16 b ≡ 
 no_more a b le few many = let lo : a < 16 = leb-false 16 a few in let hi : 16 ≤ b = leb-true 16 b many in omega arith
 
 if_counts : (x : Mark) (s : State) (number : ℕ) (value : Result ℕ ℕ) (a b : Option (List Piece × List Piece)) (qs : List Piece) (n m : ℕ) (t u : Bool) → nat_le 16 n ≡ t → nat_le 16 m ≡ u → is_deep x ≡ true → m ≤ n →
-    IsAbove x s.left → KeptPairs (Calm x) a b → NextPairs x (if_next s number (least (code_if t 5) (code_of value)) a) (if_next (with_text s qs) number (least (code_if u 5) (code_of value)) b)
-if_counts x s number value a b qs n m true true e f deep le above h = if_same x s number (least (Some 5) (code_of value)) a b qs above h
+    IsAbove x s.left → KeptPairs (Calm x) a b → NextPairs x (if_next s number (lesser_number (code_if t 5) (code_of value)) a) (if_next (with_text s qs) number (lesser_number (code_if u 5) (code_of value)) b)
+if_counts x s number value a b qs n m true true e f deep le above h = if_same x s number (lesser_number (Some 5) (code_of value)) a b qs above h
 if_counts x s number value a b qs n m false false e f deep le above h = if_same x s number (code_of value) a b qs above h
 if_counts x s number value a b qs n m false true e f deep le above h = absurd (no_more n m le e f)
 if_counts x s number value a b qs n m true false e f deep le above h = if_deep x s number value a b qs deep h
@@ -276,7 +276,7 @@ call_lines x left number xs ys (l ∷ ls) above marks =
 
 -- the faults of a call: of its text, of the lines that are left, of its depth, and others
 abbrev faults : Option ℕ → Bool → Bool → Option ℕ → Option ℕ
-faults text none deep others = least text (least (code_if none 4) (least (code_if deep 5) others))
+faults text none deep others = lesser_number text (lesser_number (code_if none 4) (lesser_number (code_if deep 5) others))
 
 call_same : (x : Mark) (s : State) (number locals : ℕ) (fault : Option ℕ) (a b : Filled) (qs : List Piece) → IsAbove x s.left → FilledPairs (Calm x) a b → Pairs (Calm x) s.ahead qs →
     NextPairs x (call_next s number locals fault a) (call_next (with_text s qs) number locals fault b)
@@ -334,7 +334,7 @@ call_fewer : (x : Mark) (s : State) (number : ℕ) (xs ys : List Mark) (m : Macr
 call_fewer x s number xs ys m args a b qs (inl e) above h k = rw (e, text_codes x a b h) (call_same x s number m.formals.locals.count (call_fault s.left s.given xs m args a) a b qs above h k)
 call_fewer x s number xs ys m args a b qs (inr f) above h k =
     rw (text_codes x a b h) (call_counts x s number m.formals.locals.count (text_code a) (s.left == 0)
-    (least (code_if (not m.sound) no_match) (least (code_if (nat_lt (length m.formals.params) (length args)) many_arguments) (code_if (names_run_out s.given m.formals.locals.count) no_statement))) a b qs
+    (lesser_number (code_if (not m.sound) no_match) (lesser_number (code_if (nat_lt (length m.formals.params) (length args)) many_arguments) (code_if (names_run_out s.given m.formals.locals.count) no_statement))) a b qs
     (count_by is_call xs) (count_by is_call ys) (nat_le 16 (count_by is_call xs)) (nat_le 16 (count_by is_call ys)) refl refl (deep_call x f.0) f.1 above h k)
 
 call_pairs : (x : Mark) (s : State) (number : ℕ) (xs ys : List Mark) (m : Macro) (args : List (List Token)) (qs : List Piece) → Alike x xs ys → IsAbove x s.left → Pairs (Calm x) s.ahead qs →
