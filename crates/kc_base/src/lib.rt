@@ -37,7 +37,7 @@ pub use limits::{
     ENTRY_COUNT, FILE_LIMIT, HOLE_START, IMAGE_START, MAX_STATES, REGISTER_FILE_END, ROM_END,
     TRANSFER_COUNT,
 };
-pub use memory::{MemFiles, MemSink};
+pub use memory::{MemFiles, MemSink, count_call};
 pub use pins::{PIN_COUNT, constants_are_named};
 pub use sink::{Failed, Sink, put_all};
 pub use steps::Steps;

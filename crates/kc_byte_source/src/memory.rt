@@ -4,22 +4,7 @@ ghost use Rattle.kc_base.specs.Causes.{Rose};
 ghost use Rattle.kc_base.specs.Memory.{faults_in, next_call, is_to_fail};
 
 use crate::{Failed, Source};
-
-// Counts a call, and says whether it is one of those that are to fail.
-fn count_call(calls: &mut u64, failing: &[u64]) -> bool
-    ensures number { calls.new ≡ next_call calls.old }
-    ensures listed { result ≡ is_to_fail calls.old failing.now }
-    ensures fault { IsTrue result → faults_in calls.old failing.now + 1 ≤ faults_in calls.new failing.now }
-    ensures calm { result ≡ false → faults_in calls.new failing.now ≡ faults_in calls.old failing.now }
-    ensures later { faults_in calls.old failing.now ≤ faults_in calls.new failing.now }
-{
-    if *calls == u64::MAX {
-        return false;
-    }
-    let number = *calls + 1;
-    *calls = number;
-    failing.contains(&number)
-}
+use kc_base::count_call;
 
 // Copies a prefix of a text to the beginning of the room, at most so many bytes of it, and says how many.
 fn copy_prefix(room: &mut [u8], text: &[u8], most: usize) -> usize
