@@ -4,6 +4,7 @@ ghost use Rattle.kc_asm_laws.specs.Exists.{FaultlessAreRead, FaultlessHaveModule
 ghost use Rattle.kc_asm_laws.specs.Images.{FilledAreBytes, FilledIsLinked, LinkedIsFilled, OneImageOfTexts, OneLinkedImageOfTexts};
 ghost use Rattle.kc_asm_laws.specs.Modules.{ModulesFit, OneAnswerOfText, OneModuleOfText};
 
+use kc_asm::{linked_image, one_image};
 use kc_asm_check::no_fault_no_codes;
 use kc_asm_encode::laws::numbers_are_words;
 use kc_asm_section::one_module;
@@ -13,7 +14,6 @@ use kc_asm_unlinked_laws::{
     unlinked_modules_are_whole,
 };
 use kc_link::{one_image as one_filled_image, placed_have_image};
-use kc_asm::{linked_image, one_image};
 use kc_link_unlinked_laws::unlinked_modules_are_linked;
 use kc_macro::laws::expansion_ends;
 use kc_source_laws::{sources_are_read_well, statements_are_of_the_text};

@@ -10,9 +10,9 @@ ghost use Rattle.kc_block_units.specs.Standing.{standing};
 
 use crate::block::Block;
 use kc_base::{EdgeOut, Kind, StateTime, Steps};
-use kc_block_units::{Scheduler, lead_edges, printed};
 use kc_block_sfr as access;
 use kc_block_spec::Window;
+use kc_block_units::{Scheduler, lead_edges, printed};
 use kc_extra::Extra;
 use std::sync::ledger::Ledger;
 

@@ -9,8 +9,8 @@ ghost use Rattle.kc_block_units.specs.Standing.{standing};
 
 use crate::values::{ios1, port0, port1, port2};
 use kc_base::StateTime;
-use kc_block_units::{Scheduler, has_overflowed, hsi_bits, stimulated, wired_inputs};
 use kc_block_spec::{BoardRegisters, ReadableByte, ReadableWord};
+use kc_block_units::{Scheduler, has_overflowed, hsi_bits, stimulated, wired_inputs};
 use kc_extra::Extra;
 use kc_timers::timer1;
 

@@ -4,8 +4,8 @@ ghost use Rattle.kc_base.specs.Bits.{weight as weight_of};
 ghost use Rattle.kc_block_spec.specs.Reading.{port0_levels, port1_levels, port2_read};
 
 use kc_base::{Pin, StateTime, bit, weight};
-use kc_block_units::has_pin;
 use kc_block_spec::BoardRegisters;
+use kc_block_units::has_pin;
 
 /// IOS1: its bits 0 to 4, Timer 1's overflow, and the bits of HSI.
 pub(crate) fn ios1(low: u8, overflowed: bool, flags: u8) -> u8

@@ -5,8 +5,8 @@ ghost use Rattle.kc_block_units.specs.Events.{has_timer2_edge as timer2_edge_in,
 
 use crate::commands::resets;
 use kc_base::{Pin, weight};
-use kc_block_units::{has_pin, hsi_bits};
 use kc_block_spec::BoardRegisters;
+use kc_block_units::{has_pin, hsi_bits};
 use kc_hsi::PinEdges;
 use kc_timers::{T2Control, T2Inputs};
 

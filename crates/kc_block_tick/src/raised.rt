@@ -6,8 +6,8 @@ ghost use Rattle.kc_block_spec.specs.Fired.{fired_request};
 
 use crate::commands::request_bits;
 use kc_base::{IntSet, Pin, StateTime};
-use kc_block_units::has_pin;
 use kc_block_spec::BoardRegisters;
+use kc_block_units::has_pin;
 use kc_hsi::HsiOut;
 use kc_timers::T2Out;
 

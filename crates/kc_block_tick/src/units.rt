@@ -15,8 +15,8 @@ ghost use Rattle.kc_block_units.specs.Scheduler.{further_goes};
 ghost use Rattle.kc_block_units.specs.Events.{moved_deferred};
 
 use kc_base::{EdgeOut, IntSet, StateTime, Steps};
-use kc_block_units::{DeferredUnit, has_pin, lead_all, lead_edges, printed};
 use kc_block_spec::BoardRegisters;
+use kc_block_units::{DeferredUnit, has_pin, lead_all, lead_edges, printed};
 use kc_extra::Extra;
 use kc_hsi::{Hsi, HsiOut, PinEdges};
 use kc_hso::Hso;

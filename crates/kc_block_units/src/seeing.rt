@@ -15,8 +15,8 @@ ghost use Rattle.kc_block_units.specs.Next.{IsDueOrLast};
 
 use crate::scheduler::Scheduler;
 use crate::slots::is_due;
-use kc_base::{Pin, StateTime};
 use crate::{has_pin, outputs, stimulated, unwired, wired};
+use kc_base::{Pin, StateTime};
 use kc_block_spec::BoardRegisters;
 use kc_extra::Extra;
 use kc_timers::{T2Control, T2View};

@@ -9,8 +9,8 @@ ghost use Rattle.kc_block_units.specs.Scheduler.{shown_units, IsScheduled};
 ghost use Rattle.kc_block_units.specs.Standing.{standing, moves_of};
 
 use crate::scheduler::{DeferredUnit, Scheduler};
-use kc_base::{NoMemory, Steps};
 use crate::start_levels;
+use kc_base::{NoMemory, Steps};
 use kc_block_spec::BoardRegisters;
 use kc_due::DueList;
 use kc_extra::Extra;

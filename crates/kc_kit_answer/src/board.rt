@@ -13,13 +13,13 @@ ghost use Rattle.kc_kit_answer.specs.Run.{Driven, FilledReported, RunReported, S
 ghost use Rattle.kc_kit_running.specs.Sources.{lines_of_files};
 
 use crate::placing::place_modules;
+use kc_asm::linked_image;
 use kc_kit_files::Refusal;
 use kc_kit_inputs::{Given, assemble_sources, driving_in, image_of};
 use kc_kit_messages::Origins;
 use kc_kit_running::{Board, Sources};
 use kc_kit_words::Ranges;
 use kc_link::{Placement, image_at};
-use kc_asm::linked_image;
 use kc_obj_module::Module;
 use kc_source_laws::sources_are_read_well;
 use std::alloc::Global;

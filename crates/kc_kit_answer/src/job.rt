@@ -11,8 +11,7 @@ use kc_base::{Files, Image, Sink};
 use kc_debug_script::{LineMap, Script};
 use kc_kit_files::{Ended, Status, report};
 use kc_kit_running::{
-    Board, Lines, Output, Sources, count_board, debug_board, profile_board, run_board,
-    write_output,
+    Board, Lines, Output, Sources, count_board, debug_board, profile_board, run_board, write_output,
 };
 use kc_kit_verdict::Verdict;
 use kc_kit_words::{Behind, Extent};

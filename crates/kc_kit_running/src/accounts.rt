@@ -72,7 +72,13 @@ impl Accounts {
         lines: &Lines<'_>,
         scope: Scope,
     ) -> Result<(), NoMemory> {
-        let text = report(alloc, &account.profile, &account.statistics, &lines.entries, scope)?;
+        let text = report(
+            alloc,
+            &account.profile,
+            &account.statistics,
+            &lines.entries,
+            scope,
+        )?;
         self.profile.extend_from_slice(&text)?;
         Ok(())
     }
@@ -98,7 +104,12 @@ impl Accounts {
     ) -> Result<(), NoMemory> {
         put_heading(&mut self.profile, b"life ", life)?;
         self.put_profile(alloc, account, lines, Scope::Life)?;
-        put_sources(&mut self.cover, &lines.sources, Some(life), &account.statistics)
+        put_sources(
+            &mut self.cover,
+            &lines.sources,
+            Some(life),
+            &account.statistics,
+        )
     }
 
     /// Adds the sums of so many lives to the profile.

@@ -104,7 +104,13 @@ pub(crate) fn watch_lives<S: Sink, L: Ledger>(
         let Ok(mut machine) = born(alloc, &image, &stimuli, &fitting, from) else {
             return Err(Status::NoMemory);
         };
-        let Ok(ending) = live(&mut machine, &mut account, watched.states - from, out, steps) else {
+        let Ok(ending) = live(
+            &mut machine,
+            &mut account,
+            watched.states - from,
+            out,
+            steps,
+        ) else {
             return Err(Status::WriteFault);
         };
         let is_last = !matches!(ending.how, End::Reset) || life >= watched.most;

@@ -23,11 +23,7 @@ impl<X: Extra + Drop> Core<X> {
 
     // All units go one state on, and the edges that they give are printed. Answers which requests they raise, also of those that
     // are pending already: the Tick is done while none is, and those that were are put back.
-    fn tick<S: Sink, L: Ledger>(
-        &mut self,
-        out: &mut TraceOut<S>,
-        steps: &mut Steps<L>,
-    ) -> IntSet
+    fn tick<S: Sink, L: Ledger>(&mut self, out: &mut TraceOut<S>, steps: &mut Steps<L>) -> IntSet
         requires room { self.old.time < 3 * max_states }
         requires stands { self.old.bus.block.time ≡ self.old.time }
         ensures goes { GoesAs (ticks_to X.further (machine_of self.old) self.old.time 1 self.old.under_way) self.old self.new (out_of S.written S.faults out.old) (out_of S.written S.faults out.new) steps.old steps.new }

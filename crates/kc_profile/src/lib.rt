@@ -10,8 +10,8 @@ mod running;
 mod sight;
 mod spot;
 mod spread;
-mod statistics_text;
 mod statistics;
+mod statistics_text;
 mod waits;
 
 pub use laws::{
@@ -22,5 +22,5 @@ pub use reporting::report;
 pub use running::run_profiled;
 pub use sight::is_branch;
 pub use spot::Spot;
-pub use statistics_text::Scope;
 pub use statistics::Statistics;
+pub use statistics_text::Scope;

@@ -4,8 +4,8 @@ ghost use Rattle.kc_profile.specs.StatisticsText.{statistics_text};
 ghost use Rattle.kc_profile.specs.Text as spec;
 
 use crate::Profile;
-use crate::statistics_text::Scope;
 use crate::statistics::Statistics;
+use crate::statistics_text::Scope;
 use kc_base::{NoMemory, put_number};
 use kc_debug_script::MapEntry;
 use kc_trace::address_text;
