@@ -8,23 +8,15 @@
 
 mod certificate;
 mod checking;
-mod components;
-mod finding;
-mod graph;
 mod instruction_ways;
 mod laws;
 mod looking;
-mod loops;
 mod notes;
-mod reach;
-mod routines;
 mod way;
 
 pub use certificate::{Bound, Certificate, Standing};
 pub use checking::checked;
-pub use finding::{Found, find};
 pub use instruction_ways::ways;
 pub use laws::{certified_is_bounded, found_is_decoded, states_are_most, turn_is_paid};
 pub use notes::{Goes, Loop, Moved, Notes};
-pub use reach::{Refusal, Why};
 pub use way::Way;
