@@ -104,11 +104,14 @@ module _ (notes : Notes) (c : Certificate) (rank : ℕ) where
   -- fewer states have gone by
   pub comes-sooner : (total a : ℕ) (calls : List ℕ) (spent less turns : ℕ) → less ≤ spent → Comes total a calls spent turns → Comes total a calls less turns
   comes-sooner total a calls spent less turns h (inl over) = inl (over.0, (let e : spent + c.floor ≤ total = over.1 in omega (arith, e, h)))
-  comes-sooner total a calls spent less turns h (inr on) = inr (on.0, record {
-    here = on.1.here;
-    open_calls = on.1.open_calls;
-    paid = sooner less spent (potential_at c a) (potentials c calls) turns (total + floors c calls) h on.1.paid;
-  })
+  comes-sooner total a calls spent less turns h (inr on) = inr (
+    on.0,
+    record {
+      here = on.1.here;
+      open_calls = on.1.open_calls;
+      paid = sooner less spent (potential_at c a) (potentials c calls) turns (total + floors c calls) h on.1.paid;
+    },
+  )
     where
       sooner : (l s p q t n : ℕ) → l ≤ s → s + p + q + t ≤ n → l + p + q + t ≤ n
       sooner l s p q t n h paid = omega arith
@@ -147,17 +150,20 @@ module _ (notes : Notes) (c : Certificate) (rank : ℕ) where
         let there : standing_at c target ≡ Some on.standing = on.is_there in
         let few : length calls + here.rank ≤ rank = b.ready.here.few in
         let less : on.standing.rank ≤ here.rank = on.keeps.rank in
-        inr (e, record {
-          here = record {
-            standing = on.standing;
-            is_there = there;
-            few = omega (arith, few, less);
-            leaves = λ yes. b.ready.here.leaves (on.keeps.leaves yes);
-          };
-          open_calls = b.ready.open_calls;
-          paid = subst (λ p. now + p + potentials c calls + after ≤ total + floors c calls) (sym (potential-is target on.standing there))
-              (sums spent states now here.potential price credit on.standing.potential turns after (potentials c calls) (total + floors c calls) soon on.falls paid-here b.counted);
-        })
+        inr (
+          e,
+          record {
+            here = record {
+              standing = on.standing;
+              is_there = there;
+              few = omega (arith, few, less);
+              leaves = λ yes. b.ready.here.leaves (on.keeps.leaves yes);
+            };
+            open_calls = b.ready.open_calls;
+            paid = subst (λ p. now + p + potentials c calls + after ≤ total + floors c calls) (sym (potential-is target on.standing there))
+                (sums spent states now here.potential price credit on.standing.potential turns after (potentials c calls) (total + floors c calls) soon on.falls paid-here b.counted);
+          },
+        )
       where
         sums : (s st now p price credit x t after q n : ℕ) → now ≤ s + st → (st + credit) + x ≤ p + price → s + p + q + t ≤ n → after + price ≤ t + credit → now + x + q + after ≤ n
         sums s st now p price credit x t after q n soon pay paid counted = omega arith
@@ -174,27 +180,30 @@ module _ (notes : Notes) (c : Certificate) (rank : ℕ) where
         let deeper : on.inside.rank < here.rank = on.rank in
         let behind : on.back.rank ≤ here.rank = on.keeps.rank in
         let back_is : potential_at c back ≡ on.back.potential = potential-is back on.back on.is_behind in
-        inr (e, record {
-          here = record {
-            standing = on.inside;
-            is_there = on.is_there;
-            few = (let n : suc (length calls) + on.inside.rank ≤ rank = omega (arith, few, deeper) in n);
-            leaves = λ yes. (
-              let low : c.floor ≤ potential_at c back = subst (λ p. c.floor ≤ p) (sym back_is) (on.kept_back (rw yes refl)) in
-              let covers : floors c calls ≤ potentials c calls = b.ready.here.leaves (on.into.leaves yes) in
-              omega (arith, low, covers));
-          };
-          open_calls = (
-            record {
-              behind = record { standing = on.back; is_there = on.is_behind; few = omega (arith, few, behind); leaves = λ yes. b.ready.here.leaves (on.keeps.leaves yes) };
-              last = λ yes. (subst (λ p. c.floor ≤ p) (sym back_is) (on.kept_back (or-right on.inside.leaves (is_end notes back) yes)), b.ready.here.leaves (on.last yes));
-            },
-            b.ready.open_calls,
-          );
-          paid = subst (λ p. now + p + potentials c (back ∷ calls) + after ≤ total + floors c (back ∷ calls)) (sym (potential-is target on.inside on.is_there))
-              (subst (λ p. now + on.inside.potential + (p + potentials c calls) + after ≤ total + (c.floor + floors c calls)) (sym back_is)
-              (sums spent states now here.potential price credit on.inside.potential on.back.potential c.floor turns after (potentials c calls) total (floors c calls) soon on.falls paid-here b.counted));
-        })
+        inr (
+          e,
+          record {
+            here = record {
+              standing = on.inside;
+              is_there = on.is_there;
+              few = (let n : suc (length calls) + on.inside.rank ≤ rank = omega (arith, few, deeper) in n);
+              leaves = λ yes. (
+                  let low : c.floor ≤ potential_at c back = subst (λ p. c.floor ≤ p) (sym back_is) (on.kept_back (rw yes refl)) in
+                  let covers : floors c calls ≤ potentials c calls = b.ready.here.leaves (on.into.leaves yes) in
+                  omega (arith, low, covers));
+            };
+            open_calls = (
+              record {
+                behind = record { standing = on.back; is_there = on.is_behind; few = omega (arith, few, behind); leaves = λ yes. b.ready.here.leaves (on.keeps.leaves yes) };
+                last = λ yes. (subst (λ p. c.floor ≤ p) (sym back_is) (on.kept_back (or-right on.inside.leaves (is_end notes back) yes)), b.ready.here.leaves (on.last yes));
+              },
+              b.ready.open_calls,
+            );
+            paid = subst (λ p. now + p + potentials c (back ∷ calls) + after ≤ total + floors c (back ∷ calls)) (sym (potential-is target on.inside on.is_there))
+                (subst (λ p. now + on.inside.potential + (p + potentials c calls) + after ≤ total + (c.floor + floors c calls)) (sym back_is)
+                (sums spent states now here.potential price credit on.inside.potential on.back.potential c.floor turns after (potentials c calls) total (floors c calls) soon on.falls paid-here b.counted));
+          },
+        )
       where
         or-right : (x y : Bool) → y ≡ true → (x || y) ≡ true
         or-right true y h = refl
@@ -249,11 +258,14 @@ module _ (notes : Notes) (c : Certificate) (rank : ℕ) where
     where
       sums : (now floor y q after n f : ℕ) → now + floor + (y + q) + after ≤ n + (floor + f) → floor ≤ y → f ≤ q → now + floor ≤ n
       sums now floor y q after n f paid low covers = omega arith
-  behind-by false total back more now after e r = inr (e, record {
-    here = r.open_calls.0.behind;
-    open_calls = r.open_calls.1;
-    paid = sums now c.floor (potential_at c back) (potentials c more) after total (floors c more) r.paid;
-  })
+  behind-by false total back more now after e r = inr (
+    e,
+    record {
+      here = r.open_calls.0.behind;
+      open_calls = r.open_calls.1;
+      paid = sums now c.floor (potential_at c back) (potentials c more) after total (floors c more) r.paid;
+    },
+  )
     where
       sums : (now floor y q after n f : ℕ) → now + floor + (y + q) + after ≤ n + (floor + f) → now + y + q + after ≤ n + f
       sums now floor y q after n f paid = omega arith

@@ -86,11 +86,14 @@ module _ {X : Type 0} (f : Further X) (image : List ℕ) (notes : Notes) (from :
     is = record { between = between; holds = holds };
     free = λ held. going;
     account = subst (λ (g : Option Going). Account image notes from c first.rank total g m.cpu.pc [] 0 (prepaid notes c)) (sym going)
-        (subst (λ a. IsAsked notes from a × Ready notes c first.rank total a [] 0 (prepaid notes c)) (sym pc) (asked-first (is_end notes from) from, record {
-          here = record { standing = first; is_there = certified.begins; few = none-more first.rank; leaves = λ yes. none-more 0 };
-          open_calls = tt;
-          paid = first-paid (potential_at c from) first.potential (prepaid notes c) (ap potential_of certified.begins);
-        }));
+        (subst (λ a. IsAsked notes from a × Ready notes c first.rank total a [] 0 (prepaid notes c)) (sym pc) (
+          asked-first (is_end notes from) from,
+          record {
+            here = record { standing = first; is_there = certified.begins; few = none-more first.rank; leaves = λ yes. none-more 0 };
+            open_calls = tt;
+            paid = first-paid (potential_at c from) first.potential (prepaid notes c) (ap potential_of certified.begins);
+          },
+        ));
   }
 
   at-first : (m : Machine X) → Certified image notes from c first → HoldsImage image m → m.cpu.pc ≡ from → m.under_way ≡ None → m.going ≡ None → IsAt 0 m
@@ -132,15 +135,15 @@ module _ {X : Type 0} (f : Further X) (image : List ℕ) (notes : Notes) (from :
 pub certified-bounded : {X : Type 0} → CertifiedIsBounded X
 certified-bounded f image notes from c b is shows = record {
   over = λ n m p over.
-    let at = is-at f image notes from c shows.first n n m is shows.certified p (omega arith) in
-    let paid : at.spent + c.floor ≤ shows.first.potential + prepaid notes c = at.keeps.at_end over in
-    let time : (moment f n m).time ≡ m.time + at.spent = at.time in
-    let shown : b.over + c.floor ≡ shows.first.potential + prepaid notes c = shows.over in
-    omega (arith, paid, time, shown);
+      let at = is-at f image notes from c shows.first n n m is shows.certified p (omega arith) in
+      let paid : at.spent + c.floor ≤ shows.first.potential + prepaid notes c = at.keeps.at_end over in
+      let time : (moment f n m).time ≡ m.time + at.spent = at.time in
+      let shown : b.over + c.floor ≡ shows.first.potential + prepaid notes c = shows.over in
+      omega (arith, paid, time, shown);
   always = λ n m p.
-    let at = is-at f image notes from c shows.first n n m is shows.certified p (omega arith) in
-    let most : at.spent ≤ shows.first.potential + prepaid notes c + c.floor * shows.first.rank = at.keeps.always in
-    let time : (moment f n m).time ≡ m.time + at.spent = at.time in
-    let shown : b.always ≡ shows.first.potential + prepaid notes c + c.floor * shows.first.rank = shows.always in
-    omega (arith, most, time, shown);
+      let at = is-at f image notes from c shows.first n n m is shows.certified p (omega arith) in
+      let most : at.spent ≤ shows.first.potential + prepaid notes c + c.floor * shows.first.rank = at.keeps.always in
+      let time : (moment f n m).time ≡ m.time + at.spent = at.time in
+      let shown : b.always ≡ shows.first.potential + prepaid notes c + c.floor * shows.first.rank = shows.always in
+      omega (arith, most, time, shown);
 }

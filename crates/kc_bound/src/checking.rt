@@ -4,12 +4,12 @@ ghost use Rattle.kc_bound.specs.Certified as spec;
 ghost use Rattle.kc_bound.specs.Certified.{Shows};
 ghost use Rattle.kc_bound.specs.Times.{times_of};
 
+use crate::certificate::{Bound, Certificate, Standing};
 use crate::instruction_ways::ways;
 use crate::looking::{is_among, is_end};
-use kc_base::{IMAGE_START, Image, MAX_STATES, NoMemory, ROM_END};
-use crate::certificate::{Bound, Certificate, Standing};
 use crate::notes::{Loop, Notes};
 use crate::way::Way;
+use kc_base::{IMAGE_START, Image, MAX_STATES, NoMemory, ROM_END};
 use std::alloc::Global;
 
 /// How many times a price is counted: once where an address is the loop's head, for all its turns where its count starts anew at an

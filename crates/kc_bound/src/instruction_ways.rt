@@ -5,9 +5,9 @@ ghost use Rattle.kc_bound.specs.Notes.{targets_at};
 ghost use Rattle.kc_bound.specs.Ways as spec;
 
 use crate::looking::{found_at, goes_at, is_end, jump_of, most_states, next_of, word_at, words_at};
-use kc_base::{Image, NoMemory};
 use crate::notes::Notes;
 use crate::way::Way;
+use kc_base::{Image, NoMemory};
 use kc_code::Decoded;
 use kc_exec::make_plan;
 use kc_exec_spec::{Plan, Route};

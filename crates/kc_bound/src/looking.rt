@@ -7,8 +7,8 @@ ghost use Rattle.kc_exec_spec.specs.Jumping.{next_pc, jump_pc};
 ghost use Rattle.kc_bound.specs.Notes as notes_say;
 ghost use Rattle.kc_bound.specs.Ways as spec;
 
-use kc_base::{IMAGE_START, Image, REGISTER_FILE_END, ROM_END};
 use crate::notes::{Goes, Notes};
+use kc_base::{IMAGE_START, Image, REGISTER_FILE_END, ROM_END};
 use kc_code::{Decoded, decode};
 use kc_exec::distance_of;
 use kc_exec_spec::{Computation, Plan};
