@@ -27,7 +27,7 @@ use Rattle.kc_bound.specs.declared.notes.Notes.{Notes}
 use Rattle.kc_bound.specs.declared.way.Way.{Way}
 use Rattle.kc_bound.specs.Ways.{found_at, rom_bytes, ways_at, ways_of, ways_named, ways_planned, unless_end, most_states, trap_states}
 use Rattle.kc_bound.specs.Bounded.{IsImage, HoldsImage}
-use Rattle.kc_bound.proofs.Found.{decodes-found}
+use Rattle.kc_bound.proofs.StandsAt.{decodes-found}
 use Rattle.kc_bound.proofs.States.{place-most}
 
 -- ---- an address with ways is one of the ROM

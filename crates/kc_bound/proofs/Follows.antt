@@ -29,8 +29,8 @@ use Rattle.kc_machine_spec.specs.Machine.{Machine, scene_of, current, next_after
 use Rattle.kc_bound.specs.Passes.{after_activity}
 use Rattle.kc_bound.specs.Ways.{image_word}
 use Rattle.kc_bound.proofs.Rom.{SameRom, LeavesRom, run-rom}
-use Rattle.kc_bound.proofs.Found.{RomIs}
-use Rattle.kc_bound.proofs.Goes.{GoesOn, goes-on, IsDoneBy, done-bind, same-done, same-number}
+use Rattle.kc_bound.proofs.StandsAt.{RomIs}
+use Rattle.kc_bound.proofs.GoingOn.{GoesOn, goes-on, IsDoneBy, done-bind, same-done, same-number}
 use Rattle.kc_bound.proofs.Activities.{last_state, after-finished}
 
 -- the run has ended

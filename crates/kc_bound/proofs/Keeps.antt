@@ -15,7 +15,7 @@ use Rattle.kc_bound.specs.declared.certificate.Certificate.{Certificate}
 use Rattle.kc_bound.specs.Notes.{is_end}
 use Rattle.kc_bound.specs.Passes.{begun, is_at_end}
 use Rattle.kc_bound.specs.Bounded.{HoldsImage}
-use Rattle.kc_bound.proofs.Goes.{IsPlain}
+use Rattle.kc_bound.proofs.GoingOn.{IsPlain}
 use Rattle.kc_bound.proofs.Follows.{HasEnded, IsFollowed}
 use Rattle.kc_bound.proofs.Ahead.{Ready, Comes, ready-most, comes-most}
 

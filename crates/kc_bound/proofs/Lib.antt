@@ -1,8 +1,8 @@
 pub mod Prices
 pub mod States
 pub mod Rom
-pub mod Goes
-pub mod Found
+pub mod GoingOn
+pub mod StandsAt
 pub mod Activities
 pub mod Begins
 pub mod Follows
@@ -10,6 +10,7 @@ pub mod Paid
 pub mod Ahead
 pub mod Positive
 pub mod Keeps
-pub mod Ways
+pub mod OnWays
 pub mod Steps
 pub mod Passes
+mod CheckLemmas

@@ -39,11 +39,11 @@ use Rattle.kc_bound.specs.Bounded.{IsImage, HoldsImage}
 use Rattle.kc_bound.proofs.Activities.{own-goes_on, HasPassed, own-passes}
 use Rattle.kc_bound.proofs.Begins.{fetches-found, IsPlaced, begins-placed, trap-most}
 use Rattle.kc_bound.proofs.Positive.{placed-some, traps-some, word-some, word-few}
-use Rattle.kc_bound.proofs.Goes.{GoesOn}
+use Rattle.kc_bound.proofs.GoingOn.{GoesOn}
 use Rattle.kc_bound.proofs.Follows.{HasEnded, IsFollowed, LeadsTo, Leads, MovesOn, IsTrapped, EndsOr, executes-leads, word-moves, traps-lead, breaks-end}
 use Rattle.kc_bound.proofs.Ahead.{Stands, Ready, Begins, Comes, comes-sooner, comes-most, states_on}
 use Rattle.kc_bound.proofs.Keeps.{IsBetween, IsGoing, EndsOrGoes, IsAsked, Account, IsOnWay, Keeps, keeps-ended, keeps-arrived, keeps-moving, begun-at, begun-none}
-use Rattle.kc_bound.proofs.Ways.{IsAssumed, Pays, AllPay, Kept, IsDone, Result, first-pays, way-of, ended-on, kept-into, instruction-keeps}
+use Rattle.kc_bound.proofs.OnWays.{IsAssumed, Pays, AllPay, Kept, IsDone, Result, first-pays, way-of, ended-on, kept-into, instruction-keeps}
 
 -- how the turns of loops are counted over an activity, by the address that begins
 abbrev pub Counted : Notes → Certificate → Option ℕ → ℕ → ℕ → Type 0

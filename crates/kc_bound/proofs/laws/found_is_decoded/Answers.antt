@@ -1,4 +1,4 @@
-use Rattle.kc_bound.proofs.Found.{decodes-found}
+use Rattle.kc_bound.proofs.StandsAt.{decodes-found}
 use Rattle.kc_bound.proofs.laws.found_is_decoded.Goals as goal
 
 pub returns : goal.returns

@@ -28,7 +28,7 @@ use Rattle.kc_bound.specs.Premises.{is_return_plan, is_computed_plan}
 use Rattle.kc_bound.specs.Ways.{ways_planned, ways_to, unless_end, most_states, image_word}
 use Rattle.kc_bound.specs.Certified.{pays, pays_all, price_at, credit_at}
 use Rattle.kc_bound.proofs.Paid.{both}
-use Rattle.kc_bound.proofs.Goes.{GoesOn, IsPlain}
+use Rattle.kc_bound.proofs.GoingOn.{GoesOn, IsPlain}
 use Rattle.kc_bound.proofs.Follows.{HasEnded, IsFollowed, LeadsTo, Leads, EndsOr}
 use Rattle.kc_bound.proofs.Ahead.{Begins, Comes, Returns, states_on, leaves-out, comes-to, comes-into, returns-paid, most-on-way, returns-out, returns-most, comes-back}
 use Rattle.kc_bound.proofs.Keeps.{IsBetween, IsGoing, EndsOrGoes, GoesPlainly, plainly, goes-plainly, Keeps, keeps-last, keeps-ended, keeps-arrived, keeps-moving}
