@@ -1,6 +1,6 @@
 /// What a certificate says of an address: how many state times may be left from there on, beside those that loops pay for; how
 /// many calls may yet be opened; and whether a pass may be over in the routine that is open there, before that returns.
-#[derive(Clone, Copy, Drop)]
+#[derive(Clone, Copy, PartialEq, Eq, Drop)]
 pub struct Standing {
     pub potential: u64,
     pub rank: u16,
@@ -17,7 +17,7 @@ pub struct Certificate {
 }
 
 /// The most state times that a pass takes where it is over, and the most that have gone by at any moment of one.
-#[derive(Clone, Copy, Drop)]
+#[derive(Clone, Copy, PartialEq, Eq, Drop)]
 pub struct Bound {
     pub over: u64,
     pub always: u64,

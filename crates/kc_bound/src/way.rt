@@ -1,5 +1,5 @@
 /// A way on from an instruction, with the most state times that it takes.
-#[derive(Clone, Copy, Drop)]
+#[derive(Clone, Copy, PartialEq, Eq, Drop)]
 pub enum Way {
     /// On to an address.
     To { states: u32, target: u16 },
