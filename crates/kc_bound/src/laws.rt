@@ -1,0 +1,22 @@
+ghost use Rattle.kc_bound.specs.Bounded.{CertifiedIsBounded};
+ghost use Rattle.kc_bound.specs.Steps.{StatesAreMost, FoundIsDecoded, TurnIsPaid};
+
+/// An instruction takes at most the states of its way.
+pub fn states_are_most()
+    ensures { StatesAreMost }
+{}
+
+/// What a machine decodes in the ROM is what stands there in its image.
+pub fn found_is_decoded<X>()
+    ensures { FoundIsDecoded X }
+{}
+
+/// A begin is paid by the turns of its loops.
+pub fn turn_is_paid()
+    ensures { TurnIsPaid }
+{}
+
+/// What a certificate shows is so: each pass keeps to its bound.
+pub fn certified_is_bounded<X>()
+    ensures { CertifiedIsBounded X }
+{}
