@@ -1,5 +1,5 @@
 -- What is known of a script that was carried out over lives (this kit's own).
-use Rattle.std.specs.Prelude.{◌≡◌, ◌≤◌, ◌<◌, ℕ, ◌+◌, ◌-◌, nat_lt, Bool, false, true, IfSome, IfOk, OnOk, Option, Some, None, Result, Ok, Err, List, [], ◌∷◌, ◌++◌, map}
+use Rattle.std.specs.Prelude.{◌≡◌, ◌≤◌, ◌<◌, ℕ, zero, suc, ◌+◌, ◌-◌, nat_lt, Bool, false, true, IfSome, IfOk, OnOk, Option, Some, None, Result, Ok, Err, List, [], ◌∷◌, ◌++◌, map}
 use Rattle.std.specs.List.{Any}
 use Rattle.circular_buffer.specs.Buffer.{Buffer, buffer, keep_last}
 use Rattle.kc_base.specs.Limits.{max_states}
@@ -71,10 +71,10 @@ abbrev pub last_of : {X : Type 0} → Bool → Machine X → Life X
 last_of true m = bitten m
 last_of false m = over m
 
--- of an activity with so many states left, all have passed or some
-abbrev pub IsPart : Bool → ℕ → ℕ → Type 0
-IsPart true states left = states ≡ left
-IsPart false states left = states < left
+-- of an activity with so many states left, some have passed, so that none is over, or all, so that one is
+abbrev pub IsPart : ℕ → ℕ → ℕ → Type 0
+IsPart zero states left = states < left
+IsPart (suc more) states left = (more ≡ 0) × (states ≡ left)
 
 module _ {X : Type 0} (f : Further X) (deadline : X → Option ℕ) where
   -- the deadline comes in none of so many states but the first
@@ -83,13 +83,13 @@ module _ {X : Type 0} (f : Further X) (deadline : X → Option ℕ) where
     pub within : (at : ℕ) → deadline m.board.units.further ≡ Some at → m.time + states ≤ at
 
   -- some states of the present activity have passed, or all of them
-  pub record PassesInLife (m : Machine X) (o : Out) (r : Buffer Begun) (result : Result Bool WriteFault) (n : Machine X) (p : Out) (q : Buffer Begun) : Type 0 where
+  pub record PassesInLife (m : Machine X) (o : Out) (r : Buffer Begun) (result : Result ℕ WriteFault) (n : Machine X) (p : Out) (q : Buffer Begun) : Type 0 where
     pub states : ℕ
     pub passed : Passed f states m o r n p q
     pub few : states ≤ (current m).left
     pub short : (current m).left ≤ 255
     pub clear : IsClearFor states m
-    pub part : IfOk result (λ is_over. IsPart is_over states (current m).left)
+    pub part : IfOk result (λ activities. IsPart activities states (current m).left)
 
   -- so many states of a life have passed, or those to its end, and the activities that began in them are noted; `late` says whether
   -- the watchdog has ended it

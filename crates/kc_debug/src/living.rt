@@ -1,10 +1,9 @@
 // Going on in one life of a board with a watchdog: by activities, or to a state or a breakpoint, and no further than to the deadline.
-ghost use Rattle.std.specs.Prelude.{◌≡◌, ◌==◌, ◌*◌, ◌+◌, ◌≤◌, max, None, IfOk, IfSome, false};
+ghost use Rattle.std.specs.Prelude.{◌≡◌, ◌*◌, ◌+◌, ◌<◌, ◌≤◌, max, None, IfOk, IfSome, false};
 ghost use Rattle.kc_base.specs.Limits.{max_states};
 ghost use Rattle.kc_trace.specs.Out.{Puts};
 ghost use Rattle.kc_trace.specs.Text.{text_of};
 ghost use Rattle.kc_trace.specs.Trace.{out_of};
-ghost use Rattle.kc_machine_spec.specs.Machine.{current};
 ghost use Rattle.kc_machine_spec.specs.Text.{HasRun};
 ghost use Rattle.kc_cycles.specs.Life.{life_for};
 ghost use Rattle.kc_cycles.specs.Making.{deadline_of};
@@ -33,32 +32,39 @@ fn comes_before(deadline: Option<StateTime>, end: StateTime) -> bool
     }
 }
 
-// Goes on to the end of the present activity, or by one state of it where the deadline comes before that end; answers whether the
-// activity is over.
+fn states_left(left: u8) -> u64
+    ensures same { result ≡ left }
+    ensures few { result ≤ 255 }
+{
+    u64::from(left)
+}
+
+// Goes on to the end of the present activity, or by one state of it where the deadline comes before that end; answers how many
+// activities are over then.
 fn pass_in_life<X: Extra + Drop, S: Sink, L: Ledger>(
     begun: &mut HeapCircularBuffer<Begun>,
     machine: &mut Machine<Pair<X, Watchdog>>,
     out: &mut TraceOut<S>,
     steps: &mut Steps<L>,
-) -> Result<bool, WriteFault>
+) -> Result<u32, WriteFault>
     requires kept { IsKept begun.old }
     requires lives { machine.old.machine.ended ≡ None }
     requires ahead { IsAhead (deadline_of machine.old.machine.board.units.further) machine.old.machine.time }
-    requires room { machine.old.machine.time + (current machine.old.machine).left ≤ 2 * max_states }
+    requires room { machine.old.machine.time < 2 * max_states }
     requires unbroken { out.old.failed ≡ false }
     ensures passes { PassesInLife ⟦<Pair<X, Watchdog> as Extra>⟧.further deadline_of machine.old.machine (out_of S.written S.faults out.old) begun.old result machine.new.machine (out_of S.written S.faults out.new) begun.new }
     ensures fault { ReportsFault result out.new.failed }
 {
-    let left = machine.current(steps).left;
-    let end = machine.now() + u64::from(left);
+    let left = states_left(machine.current(steps).left);
+    let end = machine.now() + left;
     if comes_before(deadline_in(machine), end) {
         match pass_state(begun, machine, out, steps) {
-            Ok(()) => Ok(false),
+            Ok(()) => Ok(0),
             Err(fault) => Err(fault),
         }
     } else {
         match pass_activity(begun, machine, out, steps) {
-            Ok(()) => Ok(true),
+            Ok(()) => Ok(1),
             Err(fault) => Err(fault),
         }
     }
@@ -88,12 +94,11 @@ pub(crate) fn step_in_life<X: Extra + Drop, S: Sink, L: Ledger>(
             return Ok(false);
         }
         if has_come(deadline_in(machine), machine.now()) {
-            return Ok(true);
+            // (the present activity has a state left, which the chip does not come to)
+            return Ok(machine.current(steps).left > 0);
         }
-        let over = pass_in_life(begun, machine, out, steps)?;
-        if over {
-            left -= 1;
-        }
+        let passed = pass_in_life(begun, machine, out, steps)?;
+        left -= passed;
     }
     Ok(false)
 }
