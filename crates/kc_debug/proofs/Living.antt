@@ -22,9 +22,9 @@ use Rattle.kc_cycles.proofs.Going.{Feeds, InSpan, IsSpanEnd, span-first, span-ru
 use Rattle.kc_debug.specs.declared.activities.Begun.{Begun}
 use Rattle.kc_debug.specs.Activities.{begun_for}
 use Rattle.kc_debug.specs.Debugging.{is_before, IsInTime, IsAhead, how_of, IsPart, IsClearFor, PassesInLife, HasLived}
-use Rattle.kc_debug.specs.Passing.{IsKept, Passed, Reported, Stood}
-use Rattle.kc_debug.specs.Stops.{states_of_activities, states_to_break, states_of_run}
-use Rattle.kc_debug.proofs.Begins.{states-none, states-more, break-none}
+use Rattle.kc_debug.specs.Passing.{IsKept, IsClear, Passed, Reported, Stood}
+use Rattle.kc_debug.specs.Stops.{is_at_break, states_of_activities, states_to_break, states_of_run}
+use Rattle.kc_debug.proofs.Begins.{states-none, states-more, break-none, break-any, break-past, break-there}
 use Rattle.kc_debug.proofs.Passing.{Along, along-first, along-lines, along-next, ran, activity-reported, activity-stood}
 
 -- ---- tests of the deadline
@@ -420,10 +420,6 @@ module _ {X : Type 0} (f : Further X) (deadline : X → Option ℕ) (breaks : Li
     pub rest : states_of_run f breaks until m0 ≡ states + states_of_run f breaks until m
     pub time : m.time ≤ max until m0.time
 
-  -- the states that pass at once are among those that are left
-  pub running-few : (m0 m : Machine X) (o0 : Out) (r0 : List Begun) (o : Out) (r : Buffer Begun) (s : Running m0 o0 r0 m o r) (a rest : ℕ) → states_of_run f breaks until m ≡ a + rest → a ≤ states_of_run f breaks until m0 - s.states
-  running-few m0 m o0 r0 o r s a rest sum = omega (arith, s.rest, sum)
-
   pub running-first : (m : Machine X) (o : Out) (r : Buffer Begun) → IsKept r → IsInTime (deadline m.board.units.further) m.time → o.failed ≡ false → Running m o r.items m o r
   running-first m o r kept in_time unbroken = record {
     states = 0;
@@ -431,3 +427,49 @@ module _ {X : Type 0} (f : Further X) (deadline : X → Option ℕ) (breaks : Li
     rest = let e : (n : ℕ) → n ≡ 0 + n = λ n. omega arith in e (states_of_run f breaks until m);
     time = omega arith;
   }
+
+  -- a run to a state takes a state, where that is still to come
+  break-some : (k : ℕ) (m : Machine X) → 0 < k → 0 < states_to_break f breaks k m
+  unfolding states_to_break
+  break-some zero m some = absurd (omega (arith, some))
+  break-some (suc k) m some = omega arith
+
+  pub running-more : (m0 m : Machine X) (o0 : Out) (r0 : List Begun) (o : Out) (r : Buffer Begun) (s : Running m0 o0 r0 m o r) → m.time < until → s.states < states_of_run f breaks until m0
+  running-more m0 m o0 r0 o r s less =
+      let some = break-some (until - m.time) m (omega (arith, less)) in
+      omega (arith, s.rest, some)
+
+  -- the state has come
+  pub running-over : (m0 m : Machine X) (o0 : Out) (r0 : List Begun) (o : Out) (r : Buffer Begun) (s : Running m0 o0 r0 m o r) → until ≤ m.time → states_of_run f breaks until m0 ≤ s.states
+  running-over m0 m o0 r0 o r s past =
+      let none : until - m.time ≡ 0 = omega (arith, past) in
+      let over : states_of_run f breaks until m ≡ 0 = ap (λ n. states_to_break f breaks n m) none ∙ break-none f breaks m in
+      omega (arith, s.rest, over)
+
+  module _ (m0 : Machine X) (o0 : Out) (r0 : List Begun) (m : Machine X) (o : Out) (r : Buffer Begun) (s : Running m0 o0 r0 m o r) (a : ℕ) (few : a ≤ until - m.time) (some : 0 < a) (free : IsClear f breaks a m) where
+    -- some states of the run, and others
+    pub running-part : a ≤ states_of_run f breaks until m0 - s.states
+    running-part =
+        let sum : until - m.time ≡ a + (until - m.time - a) = omega (arith, few) in
+        let rest = break-any f breaks a (until - m.time - a) m some free in
+        let all : states_of_run f breaks until m ≡ a + rest.0 = ap (λ n. states_to_break f breaks n m) sum ∙ rest.1 in
+        omega (arith, s.rest, all)
+
+    -- an activity would start at a breakpoint behind them
+    pub running-break : (n : Machine X) → Stood f a m n → is_at_break breaks n ≡ true → states_of_run f breaks until m0 ≤ s.states + a
+    running-break n stood here =
+        let sum : until - m.time ≡ a + (until - n.time) = omega (arith, few, stood.time) in
+        let all : states_of_run f breaks until m ≡ a = ap (λ k. states_to_break f breaks k m) sum ∙ break-there f breaks a (until - n.time) m n some free stood.machine here in
+        omega (arith, s.rest, all)
+
+    -- or not
+    pub running-next : (feeds : Feeds deadline f) → IsClearFor f deadline a m → (n : Machine X) (p : Out) (q : Buffer Begun) → Reported f a m o r p q → Stood f a m n → p.failed ≡ false → is_at_break breaks n ≡ false → Running m0 o0 r0 n p q
+    running-next feeds clear n p q reported stood unbroken none =
+        let sum : until - m.time ≡ a + (until - n.time) = omega (arith, few, stood.time) in
+        let all : states_of_run f breaks until m ≡ a + states_of_run f breaks until n = ap (λ k. states_to_break f breaks k m) sum ∙ break-past f breaks a (until - n.time) m n free stood.machine none in
+        record {
+          states = s.states + a;
+          living = living-next f deadline feeds (states_of_run f breaks until m0) m0 o0 r0 s.states a m o r s.living running-part clear p q reported n stood unbroken;
+          rest = omega (arith, s.rest, all);
+          time = omega (arith, s.time, stood.time, few, some);
+        }

@@ -52,6 +52,7 @@ fn pass_in_life<X: Extra + Drop, S: Sink, L: Ledger>(
     requires ahead { IsAhead (deadline_of machine.old.machine.board.units.further) machine.old.machine.time }
     requires room { machine.old.machine.time < 2 * max_states }
     requires unbroken { out.old.failed ≡ false }
+    ensures few { IfOk result (λ activities. activities ≤ 1) }
     ensures passes { PassesInLife ⟦<Pair<X, Watchdog> as Extra>⟧.further deadline_of machine.old.machine (out_of S.written S.faults out.old) begun.old result machine.new.machine (out_of S.written S.faults out.new) begun.new }
     ensures fault { ReportsFault result out.new.failed }
 {
@@ -127,11 +128,12 @@ pub(crate) fn go_in_life<X: Extra + Drop, S: Sink, L: Ledger>(
         if machine.ended().is_some() {
             return Ok(false);
         }
+        let now = machine.now();
         let deadline = deadline_in(machine);
-        if has_come(deadline, machine.now()) {
+        if has_come(deadline, now) {
             return Ok(true);
         }
-        let stop = span_end(machine.now(), deadline, until);
+        let stop = span_end(now, deadline, until);
         pass(begun, breaks, stop, machine, out, steps)?;
         if is_at_break(breaks, machine) {
             return Ok(false);
