@@ -13,10 +13,10 @@ use Rattle.kc_trace.specs.declared.trace.WriteFault.{WriteFault}
 use Rattle.kc_machine_spec.specs.declared.doing.End.{End}
 use Rattle.kc_machine_spec.specs.declared.doing.End.TheVariants as end
 use Rattle.kc_machine_spec.specs.Machine.{Machine, current, start}
-use Rattle.kc_machine_spec.specs.Run.{end_of}
+use Rattle.kc_machine_spec.specs.Run.{still, end_of}
 use Rattle.kc_machine_spec.specs.Text.{HasRun}
 use Rattle.kc_machine.specs.Stepping.{end_line}
-use Rattle.kc_cycles.specs.Life.{Life, over, bitten, life_for}
+use Rattle.kc_cycles.specs.Life.{Life, life_for}
 use Rattle.kc_cycles.specs.Watching.{patience}
 use Rattle.kc_cycles.specs.declared.lives.LivesFault.{LivesFault}
 use Rattle.kc_cycles.specs.declared.lives.LivesFault.TheVariants as fault
@@ -28,7 +28,7 @@ use Rattle.kc_debug.specs.declared.activities.Begun.{Begun}
 use Rattle.kc_debug.specs.declared.past.Past.{Past}
 use Rattle.kc_debug.specs.declared.life.DebuggedLife.{DebuggedLife}
 use Rattle.kc_debug.specs.Activities.{begun_for}
-use Rattle.kc_debug.specs.InLives.{InLife, end_in, in_lives, settled, says, stand_line}
+use Rattle.kc_debug.specs.InLives.{InLife, end_in, in_lives, says, stand_line}
 use Rattle.kc_debug.specs.Passing.{IsKept, Passed}
 
 -- ---- what is answered
@@ -68,8 +68,11 @@ how_of true m = end.Reset
 how_of false m = end_of m
 
 abbrev pub last_of : {X : Type 0} → Bool → Machine X → Life X
-last_of true m = bitten m
-last_of false m = over m
+last_of late m = record { ran = still m; how = how_of late m; by_watchdog = late }
+
+abbrev pub is_spent : End → Bool
+is_spent end.Spent = true
+is_spent how = false
 
 -- of an activity with so many states left, some have passed, so that none is over, or all, so that one is
 abbrev pub IsPart : ℕ → ℕ → ℕ → Type 0

@@ -6,13 +6,13 @@ ghost use Rattle.kc_trace.specs.Out.{Puts};
 ghost use Rattle.kc_trace.specs.Trace.{out_of};
 ghost use Rattle.kc_machine_spec.specs.Text.{HasRun};
 ghost use Rattle.kc_cycles.specs.declared.lives.LivesFault.TheVariants as faults;
-ghost use Rattle.kc_cycles.specs.Lives.{is_reset as ends_by_reset, restart_line};
+ghost use Rattle.kc_cycles.specs.Lives.{is_reset, restart_line};
 ghost use Rattle.kc_cycles.specs.Making.{deadline_of};
 ghost use Rattle.kc_debug_script.specs.Commands.{IsBounded};
 ghost use Rattle.kc_debug_script.specs.Script.{is_break};
 ghost use Rattle.kc_debug.specs.Activities.{finished};
-ghost use Rattle.kc_debug.specs.Debugging.{how_of, last_of, over_by, over_text, past_in, seen, standing, Goes, IsBorn, IsHeld, IsReady};
-ghost use Rattle.kc_debug.specs.InLives.{after_command, gone_for, history, settled, stand_line as line_of_stand_in_life};
+ghost use Rattle.kc_debug.specs.Debugging.{how_of, is_spent as may_go_on, last_of, over_by, over_text, past_in, seen, standing, Goes, IsBorn, IsHeld, IsReady};
+ghost use Rattle.kc_debug.specs.InLives.{after_command, followed, gone_for, history, settled, stand_line as line_of_stand_in_life};
 ghost use Rattle.kc_debug.specs.Stops.{states_of_activities, states_of_run};
 
 use crate::activities::Begun;
@@ -48,7 +48,7 @@ pub(crate) struct DebuggedLife<X: Extra + Drop> {
 // Whether all was written.
 fn written<S: Sink>(out: &TraceOut<S>) -> Result<(), LivesFault>
     ensures written { OnOk result (out.now.failed ≡ false) }
-    ensures fault { IfErr result (λ fault. (fault ≡ faults.WriteFault)) }
+    ensures fault { IfErr result (λ fault. fault ≡ faults.WriteFault) }
     ensures failed { IfErr result (λ fault. out.now.failed ≡ true) }
 {
     if out.failed() {
@@ -65,7 +65,7 @@ fn report_stand<X: Extra + Drop, S: Sink>(
 ) -> Result<(), LivesFault>
     ensures text { Puts (out_of S.written S.faults out.old) (line_of_stand_in_life life.now.number life.now.machine.machine) (out_of S.written S.faults out.new) }
     ensures written { OnOk result (out.new.failed ≡ false) }
-    ensures fault { IfErr result (λ fault. (fault ≡ faults.WriteFault)) }
+    ensures fault { IfErr result (λ fault. fault ≡ faults.WriteFault) }
     ensures failed { IfErr result (λ fault. out.new.failed ≡ true) }
 {
     out.put_text(stand_line_in_life(&life.machine, life.number).as_slice());
@@ -80,7 +80,7 @@ fn report_history<X: Extra + Drop, S: Sink>(
 ) -> Result<(), LivesFault>
     ensures text { Puts (out_of S.written S.faults out.old) (history lines.now (seen life.now)) (out_of S.written S.faults out.new) }
     ensures written { OnOk result (out.new.failed ≡ false) }
-    ensures fault { IfErr result (λ fault. (fault ≡ faults.WriteFault)) }
+    ensures fault { IfErr result (λ fault. fault ≡ faults.WriteFault) }
     ensures failed { IfErr result (λ fault. out.new.failed ≡ true) }
 {
     let earlier = life.past.len();
@@ -109,19 +109,20 @@ fn how_in<X: Extra + Drop>(machine: &Machine<X>, by_watchdog: bool) -> End
     }
 }
 
-fn is_reset(how: End) -> bool
-    ensures { result ≡ ends_by_reset how }
-{
-    matches!(how, End::Reset)
-}
-
-// Whether another life may begin behind this one.
-fn may_follow<X: Extra + Drop>(life: &DebuggedLife<X>, most: u16) -> bool
+// Whether another life begins behind this one, which has ended so.
+fn is_followed<X: Extra + Drop>(life: &DebuggedLife<X>, how: End, most: u16) -> bool
     requires from { life.now.from ≤ max_states }
     requires time { life.now.machine.machine.time ≤ 2 * max_states }
-    ensures { result ≡ (nat_lt life.now.number most && nat_le (life.now.from + life.now.machine.machine.time) max_states) }
+    ensures { result ≡ (is_reset how && (nat_lt life.now.number most && nat_le (life.now.from + life.now.machine.machine.time) max_states)) }
 {
-    life.number < most && life.from + life.machine.now() <= MAX_STATES
+    matches!(how, End::Reset)
+        && (life.number < most && life.from + life.machine.now() <= MAX_STATES)
+}
+
+fn is_spent(how: End) -> bool
+    ensures { result ≡ may_go_on how }
+{
+    matches!(how, End::Spent)
 }
 
 // Notes how a life has ended that goes no further, and reports it; a life that was spent goes on with the next command.
@@ -129,25 +130,35 @@ fn report_over<X: Extra + Drop, S: Sink>(
     life: &mut DebuggedLife<X>,
     how: End,
     out: &mut TraceOut<S>,
-) -> Result<(), LivesFault>
+)
     requires unbroken { out.old.failed ≡ false }
     requires ran { HasRun how life.old.machine.machine.time }
     ensures text { Puts (out_of S.written S.faults out.old) (over_text how life.old.machine.machine) (out_of S.written S.faults out.new) }
     ensures over { life.new ≡ record life.old { over = over_by how life.old.over } }
+{
+    if is_spent(how) {
+        return;
+    }
+    life.over = Some(how);
+    let _written = life.machine.write_end(how, out);
+}
+
+// Where none follows a life, reports its end if it has come, and where the board stands.
+fn stay<X: Extra + Drop, S: Sink>(
+    life: &mut DebuggedLife<X>,
+    how: End,
+    out: &mut TraceOut<S>,
+) -> Result<(), LivesFault>
+    requires unbroken { out.old.failed ≡ false }
+    requires ran { HasRun how life.old.machine.machine.time }
+    ensures text { Puts (out_of S.written S.faults out.old) (over_text how life.old.machine.machine ++ line_of_stand_in_life life.old.number life.old.machine.machine) (out_of S.written S.faults out.new) }
+    ensures over { life.new ≡ record life.old { over = over_by how life.old.over } }
     ensures written { OnOk result (out.new.failed ≡ false) }
-    ensures fault { IfErr result (λ fault. (fault ≡ faults.WriteFault)) }
+    ensures fault { IfErr result (λ fault. fault ≡ faults.WriteFault) }
     ensures failed { IfErr result (λ fault. out.new.failed ≡ true) }
 {
-    match how {
-        End::Spent => Ok(()),
-        _ => {
-            life.over = Some(how);
-            match life.machine.write_end(how, out) {
-                Ok(()) => Ok(()),
-                Err(_) => Err(LivesFault::WriteFault),
-            }
-        }
-    }
+    report_over(life, how, out);
+    report_stand(life, out)
 }
 
 // Writes the line between two lives, and begins the next one.
@@ -189,6 +200,28 @@ fn begin_next<M: Maker, S: Sink>(
     }
 }
 
+// Begins the next life behind this one, and reports where the board stands.
+fn follow<M: Maker, S: Sink>(
+    alloc: Global,
+    lives: &Lives<'_, M>,
+    life: &mut DebuggedLife<Pair<M::X, Watchdog>>,
+    by_watchdog: bool,
+    out: &mut TraceOut<S>,
+) -> Result<(), LivesFault>
+    requires unbroken { out.old.failed ≡ false }
+    requires held { IsHeld life.old.past life.old.begun }
+    requires more { life.old.number < lives.now.most }
+    requires fits { life.old.from + life.old.machine.machine.time ≤ max_states }
+    requires ran { 0 < life.old.machine.machine.time }
+    ensures goes { Goes (M.made lives.now.maker.now lives.now.stimuli.now) (λ unit. standing (followed ⟦<Pair<M::X, Watchdog> as Extra>⟧.further deadline_of lives.now.image.now lives.now.stimuli.now unit lives.now.most (last_of by_watchdog life.old.machine.machine) (seen life.old))) (out_of S.written S.faults out.old) result life.new (out_of S.written S.faults out.new) }
+    ensures time { OnOk result (life.new.machine.machine.time ≡ 0) }
+{
+    match begin_next(alloc, lives, life, by_watchdog, out) {
+        Ok(()) => report_stand(life, out),
+        Err(fault) => Err(fault),
+    }
+}
+
 // Where a life is over, begins the next one or reports the end; and reports where the board stands.
 fn settle<M: Maker, S: Sink>(
     alloc: Global,
@@ -205,12 +238,11 @@ fn settle<M: Maker, S: Sink>(
     ensures time { OnOk result (life.new.machine.machine.time ≤ life.old.machine.machine.time) }
 {
     let how = how_in(&life.machine, by_watchdog);
-    if is_reset(how) && may_follow(life, lives.most) {
-        begin_next(alloc, lives, life, by_watchdog, out)?;
+    if is_followed(life, how, lives.most) {
+        follow(alloc, lives, life, by_watchdog, out)
     } else {
-        report_over(life, how, out)?;
+        stay(life, how, out)
     }
-    report_stand(life, out)
 }
 
 // Goes on by activities, in this life alone.
