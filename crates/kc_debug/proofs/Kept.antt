@@ -76,7 +76,7 @@ module _ {A : Type 0} (P : A → Type 0) where
   pub any-left : (xs ys : List A) → Any P xs → Any P (xs ++ ys)
   any-left xs ys h =
       let all : length (xs ++ ys) ≡ length xs + length ys = length-append xs ys in
-      (h.0, h.1, omega (arith, h.2, all), get_or_append_left xs ys h.0 h.1 h.2 ∙ h.3, h.4)
+      (h.0, h.1, omega (arith, h.2, all), get_or_append_left xs ys h.1 h.0 h.2 ∙ h.3, h.4)
 
 pub any-mono : {A : Type 0} (P Q : A → Type 0) (xs : List A) → ((x : A) → P x → Q x) → Any P xs → Any Q xs
 any-mono P Q xs f h = (h.0, h.1, h.2, h.3, f h.1 h.4)
