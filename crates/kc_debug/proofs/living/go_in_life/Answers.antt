@@ -3,7 +3,7 @@ use Rattle.kc_cycles.specs.Life.{is_at}
 use Rattle.kc_cycles.specs.Making.{deadline_of}
 use Rattle.kc_cycles.proofs.Fitted.{pair-feeds}
 use Rattle.kc_debug.proofs.Passing.{some_end, none_end, along-kept}
-use Rattle.kc_debug.proofs.Living.{ahead, late-run, clear-span, stop-goes, stop-within, living-lines, living-over, living-late, living-lived, living-next, living-cut, running-first, running-more, running-over, running-part, running-break, running-next}
+use Rattle.kc_debug.proofs.Lived.{ahead, late-run, clear-span, stop-goes, stop-within, living-lines, living-over, living-late, living-lived, living-next, living-cut, running-first, running-more, running-over, running-part, running-break, running-next}
 use Rattle.kc_debug.proofs.living.go_in_life.Goals as goal
 
 pub loop-machine-init : goal.loop-machine-init

@@ -4,7 +4,7 @@ use Rattle.kc_cycles.specs.contracts.watchdog.Watchdog as watchdog_type
 use Rattle.kc_cycles.specs.contracts.watchdog.WatchdogExtra.TheImpl as watchdog
 use Rattle.kc_cycles.specs.Making.{deadline_of}
 use Rattle.std.proofs.Common.{◌-◌}
-use Rattle.kc_debug.proofs.Living.{Running}
+use Rattle.kc_debug.proofs.Lived.{Running}
 use Rattle.kc_debug.proofs.living.go_in_life.Given as goal
 
 -- some states of the life have passed without a stop, and the rest are those of a run from here

@@ -1,6 +1,6 @@
 use Rattle.std.proofs.Common.{◌+◌, sym, ap, refl, ◌∙◌, arith}
 use Rattle.kc_machine.specs.Board.{Whole}
-use Rattle.kc_debug.proofs.Living.{passes-state, passes-whole}
+use Rattle.kc_debug.proofs.Lived.{passes-state, passes-whole}
 use Rattle.kc_debug.proofs.living.pass_in_life.Goals as goal
 
 pub pass_state-requires-clause-lives : goal.pass_state-requires-clause-lives

@@ -10,7 +10,7 @@ use Rattle.kc_cycles.proofs.Fitted.{pair-feeds}
 use Rattle.kc_debug.specs.Debugging.{HasLived}
 use Rattle.kc_debug.specs.Stops.{states_of_activities}
 use Rattle.kc_debug.proofs.Passing.{some_end, none_end, along-kept, activity-reported}
-use Rattle.kc_debug.proofs.Living.{ahead, late-run, room-time, room-some, room-whole, living-lines, living-over, living-lived, living-cut, stepping-first, stepping-late, stepping-next, stepping-smaller, stepping-few, stepping-over}
+use Rattle.kc_debug.proofs.Lived.{ahead, late-run, room-time, room-some, room-whole, living-lines, living-over, living-lived, living-cut, stepping-first, stepping-late, stepping-next, stepping-smaller, stepping-few, stepping-over}
 use Rattle.kc_debug.proofs.living.step_in_life.Goals as goal
 
 pub loop-left-init : goal.loop-left-init

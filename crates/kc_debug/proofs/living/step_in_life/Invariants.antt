@@ -4,7 +4,7 @@ use Rattle.kc_cycles.specs.contracts.watchdog.Watchdog as watchdog_type
 use Rattle.kc_cycles.specs.contracts.watchdog.WatchdogExtra.TheImpl as watchdog
 use Rattle.kc_cycles.specs.Making.{deadline_of}
 use Rattle.kc_debug.specs.Stops.{states_of_activities}
-use Rattle.kc_debug.proofs.Living.{Stepping}
+use Rattle.kc_debug.proofs.Lived.{Stepping}
 use Rattle.kc_debug.proofs.living.step_in_life.Given as goal
 
 -- some states of the life have passed, and the rest are those of the activities that are left
