@@ -1,9 +1,9 @@
 -- What is kept of the lives so far stands for all of them: a command does the same over it.
-use Rattle.std.proofs.Common.{◌≡◌, ℕ, suc, ◌+◌, ◌-◌, ◌<◌, ◌≤◌, Bool, true, false, ◌&&◌, if◌then◌else◌, nat_lt, nat_le, List, [], ◌∷◌, ◌++◌, map, length, drop, flat_map, Option, Some, None, Result, Ok, Err, Any, OnOk, inl, inr, refl, sym, ◌∙◌, ap, subst, append_assoc, append-nil, length-append, length-drop, arith}
+use Rattle.std.proofs.Common.{◌≡◌, ℕ, suc, ◌+◌, ◌-◌, ◌<◌, ◌≤◌, Bool, true, false, ◌&&◌, if◌then◌else◌, nat_lt, nat_le, List, [], ◌∷◌, ◌++◌, map, length, take, drop, get_or, flat_map, Option, Some, None, Result, Ok, Err, Any, OnOk, inl, inr, refl, sym, ◌∙◌, ap, subst, append_assoc, append-nil, length-append, length-drop, arith}
 use Rattle.std.proofs.Math.Seq.{drop-append-add}
 use Rattle.std.proofs.lemmas.Bool.{cases_lt}
-use Rattle.std.proofs.lemmas.List.{drop-map, get_or_append_left, get_or-map, length-map, map_push}
-use Rattle.circular_buffer.specs.Buffer.{keep_last}
+use Rattle.std.proofs.lemmas.List.{drop-map, get_or_append_left, get_or-map, length-map, map_push, take_all, take_more}
+use Rattle.circular_buffer.specs.Buffer.{Buffer, buffer, keep_last}
 use Rattle.kc_base.specs.Limits.{max_states}
 use Rattle.kc_stim.specs.Drives.{Drives}
 use Rattle.kc_extra.specs.Further.{Further}
@@ -22,8 +22,9 @@ use Rattle.kc_debug_script.specs.declared.command.Command.{Command}
 use Rattle.kc_debug_script.specs.declared.command.Command.TheVariants.{Step, Go, Break, Registers, Show, Write, History, Quit}
 use Rattle.kc_debug_script.specs.declared.line_map.MapEntry.{MapEntry}
 use Rattle.kc_debug.specs.declared.activities.Begun.{Begun}
+use Rattle.kc_debug.specs.declared.past.Past.{Past}
 use Rattle.kc_debug.specs.Activities.{begun_for, finished}
-use Rattle.kc_debug.specs.Debugging.{kept_of, standing, IsDone}
+use Rattle.kc_debug.specs.Debugging.{past_in, kept_of, standing, IsDone}
 use Rattle.kc_debug.specs.InLives.{InLife, says, stand_line, activity_line, all_finished, history, over_of, born, lived, is_followed, followed, ended_as, settled, goes_on, gone_for, after_command}
 use Rattle.kc_debug.specs.Lines.{memory_lines}
 use Rattle.kc_debug.specs.Stops.{states_of_activities, states_of_run}
@@ -65,6 +66,28 @@ past-alike p q number u b c e d =
     ∙ sym (last-tail 32 q (map h (finished u b)))
     ∙ ap (λ ys. keep_last 32 (q ++ ys)) last
     ∙ last-tail 32 q (map h (finished u c))
+
+-- ---- activities that are kept one after the other
+
+abbrev are_kept : List Past → ℕ → List Begun → Buffer Past → Type 0
+are_kept before life begun p = p ≡ buffer (keep_last 32 (before ++ map (past_in life) begun)) 32
+
+pub finished-first : (life : ℕ) (p : Buffer Past) (xs : List Begun) → p ≡ buffer (keep_last 32 p.items) 32 → are_kept p.items life (take 0 xs) p
+finished-first life p xs h = h ∙ ap (λ ys. buffer (keep_last 32 ys) 32) (sym (append-nil p.items))
+
+pub finished-more : (before : List Past) (life n : ℕ) (xs : List Begun) (x : Begun) (p q : Buffer Past) → n < length xs → get_or xs n x ≡ x → are_kept before life (take n xs) p →
+    q ≡ buffer (keep_last p.capacity (p.items ++ past_in life x ∷ [])) p.capacity → are_kept before life (take (n + 1) xs) q
+finished-more before life n xs x p q within is h pushed =
+    let some : List Past = map (past_in life) (take n xs) in
+    let more : map (past_in life) (take (n + 1) xs) ≡ some ++ past_in life x ∷ [] =
+    ap (map (past_in life)) (take_more xs n x within ∙ ap (λ y. take n xs ++ y ∷ []) is) ∙ map_push (past_in life) (take n xs) x in
+    pushed
+    ∙ ap (λ (b : Buffer Past). buffer (keep_last b.capacity (b.items ++ past_in life x ∷ [])) b.capacity) h
+    ∙ ap (λ ys. buffer ys 32) (last-append 32 (before ++ some) (past_in life x ∷ []))
+    ∙ ap (λ ys. buffer (keep_last 32 ys) 32) (append_assoc before some (past_in life x ∷ []) ∙ ap (λ ys. before ++ ys) (sym more))
+
+pub finished-same : (before : List Past) (life n : ℕ) (xs : List Begun) (p : Buffer Past) → length xs ≤ n → are_kept before life (take n xs) p → are_kept before life (take (n + 1) xs) p
+finished-same before life n xs p past h = subst (λ ys. are_kept before life ys p) (take_all n xs past ∙ sym (take_all (n + 1) xs (omega arith))) h
 
 -- ---- some of a list
 

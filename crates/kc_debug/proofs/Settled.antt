@@ -43,15 +43,15 @@ past-map : (n : ℕ) (xs : List Begun) → map past_of (map (past_in n) xs) ≡ 
 past-map n [] = refl
 past-map n (x ∷ xs) = ap (λ ys. (n, x) ∷ ys) (past-map n xs)
 
-module _ {X : Type 0} {d : extra.Ghosts X} where
-  items-kept : (s : DebuggedLife X d) → IsHeld s.past s.begun → map past_of s.past.items ≡ keep_last 32 (map past_of s.past.items)
+module _ {X : Type 0} where
+  items-kept : (s : DebuggedLife X) → IsHeld s.past s.begun → map past_of s.past.items ≡ keep_last 32 (map past_of s.past.items)
   items-kept s h = ap (λ (b : Buffer Past). map past_of b.items) h.earlier ∙ sym (last-map past_of 32 s.past.items)
 
-  begun-kept : (s : DebuggedLife X d) → IsHeld s.past s.begun → s.begun.items ≡ keep_last 33 s.begun.items
+  begun-kept : (s : DebuggedLife X) → IsHeld s.past s.begun → s.begun.items ≡ keep_last 33 s.begun.items
   begun-kept s h = ap (λ (b : Buffer Begun). b.items) h.present
 
   -- what is kept is all that is seen
-  pub kept-same : (s : DebuggedLife X d) → IsHeld s.past s.begun → seen s ≡ kept_of (seen s)
+  pub kept-same : (s : DebuggedLife X) → IsHeld s.past s.begun → seen s ≡ kept_of (seen s)
   kept-same s h = λ i. record { number = s.number; from = s.from; machine = s.machine.machine; over = s.over; breaks = s.breaks.items; past = items-kept s h i; begun = begun-kept s h i; text = []; pauses = [] }
 
 module _ {X : Type 0} (f : Further X) (deadline : X → Option ℕ) (image : List ℕ) (drives : Drives) (unit : ℕ → X) (most : ℕ) where
@@ -62,22 +62,22 @@ module _ {X : Type 0} (f : Further X) (deadline : X → Option ℕ) (image : Lis
   ended-is end.Reset l = refl
   ended-is (end.Undefined what access) l = refl
 
-module _ {X : Type 0} {dx : extra.Ghosts X} {dw : extra.Ghosts Watchdog} {d : extra.Ghosts (Pair X Watchdog dx dw)} (f : Further (Pair X Watchdog dx dw)) (made : ℕ → X) (image : List ℕ) (drives : Drives) (most : ℕ) where
-  abbrev Life_ : Type 0
-  Life_ = DebuggedLife (Pair X Watchdog dx dw) d
+module _ {X : Type 0} {dx : extra.Ghosts X} {dw : extra.Ghosts Watchdog} (f : Further (Pair X Watchdog dx dw)) (made : ℕ → X) (image : List ℕ) (drives : Drives) (most : ℕ) where
+  abbrev Debugged : Type 0
+  Debugged = DebuggedLife (Pair X Watchdog dx dw)
 
-  abbrev Unit_ : Type 0
-  Unit_ = ℕ → Pair X Watchdog dx dw
+  abbrev Units : Type 0
+  Units = ℕ → Pair X Watchdog dx dw
 
-  abbrev IsMade : Unit_ → Type 0
+  abbrev IsMade : Units → Type 0
   IsMade unit = (from : ℕ) → IsWatched (made from) (unit from)
 
   -- ---- the next life
 
-  born-is : (unit : Unit_) → IsMade unit → (from : ℕ) (m : Machine (Pair X Watchdog dx dw)) → IsBorn made image drives from m → m ≡ born f deadline_of image drives unit most from
+  born-is : (unit : Units) → IsMade unit → (from : ℕ) (m : Machine (Pair X Watchdog dx dw)) → IsBorn made image drives from m → m ≡ born f deadline_of image drives unit most from
   born-is unit is from m b = b.machine ∙ ap (start image (driven_from from drives)) (watched-same (made from) m.board.units.further (unit from) b.unit (is from))
 
-  abbrev pub next_of : Life_ → Whole (Pair X Watchdog dx dw) → Life_
+  abbrev pub next_of : Debugged → Whole (Pair X Watchdog dx dw) → Debugged
   next_of s w = record s {
     number = s.number + 1;
     from = s.from + s.machine.machine.time;
@@ -86,13 +86,13 @@ module _ {X : Type 0} {dx : extra.Ghosts X} {dw : extra.Ghosts Watchdog} {d : ex
     begun = buffer [] 33;
   }
 
-  next-past : (s : Life_) → map past_of (keep_last 32 (s.past.items ++ map (past_in s.number) (finished s.machine.machine.under_way s.begun.items))) ≡ keep_last 32 (map past_of s.past.items ++ map (λ b. (s.number, b)) (finished s.machine.machine.under_way s.begun.items))
+  next-past : (s : Debugged) → map past_of (keep_last 32 (s.past.items ++ map (past_in s.number) (finished s.machine.machine.under_way s.begun.items))) ≡ keep_last 32 (map past_of s.past.items ++ map (λ b. (s.number, b)) (finished s.machine.machine.under_way s.begun.items))
   next-past s =
       let all : List Begun = finished s.machine.machine.under_way s.begun.items in
       sym (last-map past_of 32 (s.past.items ++ map (past_in s.number) all))
       ∙ ap (keep_last 32) (map-append past_of s.past.items (map (past_in s.number) all) ∙ ap (λ ys. map past_of s.past.items ++ ys) (past-map s.number all))
 
-  next-seen : (s : Life_) (w : Whole (Pair X Watchdog dx dw)) (late : Bool) (unit : Unit_) → IsMade unit → IsBorn made image drives (s.from + s.machine.machine.time) w.machine →
+  next-seen : (s : Debugged) (w : Whole (Pair X Watchdog dx dw)) (late : Bool) (unit : Units) → IsMade unit → IsBorn made image drives (s.from + s.machine.machine.time) w.machine →
       seen (next_of s w) ≡ kept_of (followed f deadline_of image drives unit most (last_of late s.machine.machine) (seen s))
   next-seen s w late unit is b = λ i. record {
     number = s.number + 1;
@@ -106,7 +106,7 @@ module _ {X : Type 0} {dx : extra.Ghosts X} {dw : extra.Ghosts Watchdog} {d : ex
     pauses = [];
   }
 
-  next-ready : (s : Life_) (w : Whole (Pair X Watchdog dx dw)) → s.from + s.machine.machine.time ≤ max_states → IsBorn made image drives (s.from + s.machine.machine.time) w.machine → IsReady (next_of s w)
+  next-ready : (s : Debugged) (w : Whole (Pair X Watchdog dx dw)) → s.from + s.machine.machine.time ≤ max_states → IsBorn made image drives (s.from + s.machine.machine.time) w.machine → IsReady (next_of s w)
   next-ready s w fits b = record {
     held = record { earlier = ap (λ xs. buffer xs 32) (sym (last-same 32 (s.past.items ++ map (past_in s.number) (finished s.machine.machine.under_way s.begun.items)))); present = refl };
     from = fits;
@@ -114,12 +114,12 @@ module _ {X : Type 0} {dx : extra.Ghosts X} {dw : extra.Ghosts Watchdog} {d : ex
     ran = subst (λ (m : Machine (Pair X Watchdog dx dw)). IfSome m.ended (λ how. HasRun how m.time)) (sym b.machine) tt;
   }
 
-  module _ (s t : Life_) (late : Bool) (old mid : Out) (line : Puts old (restart_line (s.machine.machine.time - 1) late) mid) where
+  module _ (s t : Debugged) (late : Bool) (old mid : Out) (line : Puts old (restart_line (s.machine.machine.time - 1) late) mid) where
     pub follow-goes : (new : Out) (r : Result (Unit {0}) LivesFault) → t ≡ next_of s t.machine → s.from + s.machine.machine.time ≤ max_states → IsBorn made image drives (s.from + s.machine.machine.time) t.machine.machine →
         Puts mid (stand_line t.number t.machine.machine) new → OnOk r (new.failed ≡ false) → IfErr r (λ e. e ≡ fault.WriteFault) → IfErr r (λ e. new.failed ≡ true) →
         Goes made (λ unit. standing (followed f deadline_of image drives unit most (last_of late s.machine.machine) (seen s))) old r t new
     follow-goes new r e fits b stand written is failed =
-        let numbers : t.number ≡ s.number + 1 = ap (λ (x : Life_). x.number) e in
+        let numbers : t.number ≡ s.number + 1 = ap (λ (x : Debugged). x.number) e in
         let line_text : List ℕ = restart_line (s.machine.machine.time - 1) late in
         record {
           reported = λ unit made_so.
@@ -146,7 +146,7 @@ module _ {X : Type 0} {dx : extra.Ghosts X} {dw : extra.Ghosts Watchdog} {d : ex
 
   -- ---- no other one follows
 
-  pub stay-goes : (s t : Life_) (late : Bool) (how : End) (old new : Out) (r : Result (Unit {0}) LivesFault) → IsReady s → t ≡ record s { over = over_by how s.over } →
+  pub stay-goes : (s t : Debugged) (late : Bool) (how : End) (old new : Out) (r : Result (Unit {0}) LivesFault) → IsReady s → t ≡ record s { over = over_by how s.over } →
       Puts old (over_text how s.machine.machine ++ stand_line s.number s.machine.machine) new → OnOk r (new.failed ≡ false) → IfErr r (λ e. e ≡ fault.WriteFault) → IfErr r (λ e. new.failed ≡ true) →
       Goes made (λ unit. standing (ended_as f deadline_of image drives unit most (over_of how) (seen s))) old r t new
   stay-goes s t late how old new r ready e text written is failed = record {
@@ -172,8 +172,8 @@ module _ {X : Type 0} {dx : extra.Ghosts X} {dw : extra.Ghosts Watchdog} {d : ex
 
   -- ---- either
 
-  module _ (s t : Life_) (late : Bool) (old new : Out) (r : Result (Unit {0}) LivesFault) (followed_so : Bool) (is : followed_so ≡ (is_reset (how_of late s.machine.machine) && (nat_lt s.number most && nat_le (s.from + s.machine.machine.time) max_states))) where
-    abbrev either : Bool → Unit_ → InLife (Pair X Watchdog dx dw)
+  module _ (s t : Debugged) (late : Bool) (old new : Out) (r : Result (Unit {0}) LivesFault) (followed_so : Bool) (is : followed_so ≡ (is_reset (how_of late s.machine.machine) && (nat_lt s.number most && nat_le (s.from + s.machine.machine.time) max_states))) where
+    abbrev either : Bool → Units → InLife (Pair X Watchdog dx dw)
     either b unit = standing (if b then followed f deadline_of image drives unit most (last_of late s.machine.machine) (seen s) else ended_as f deadline_of image drives unit most (over_of (how_of late s.machine.machine)) (seen s))
 
     pub settled-followed : followed_so ≡ true → Goes made (λ unit. standing (followed f deadline_of image drives unit most (last_of late s.machine.machine) (seen s))) old r t new →
@@ -186,11 +186,11 @@ module _ {X : Type 0} {dx : extra.Ghosts X} {dw : extra.Ghosts Watchdog} {d : ex
 
   -- ---- a command that goes on
 
-  abbrev by_over : ℕ → Life_ → Option End → Unit_ → InLife (Pair X Watchdog dx dw)
+  abbrev by_over : ℕ → Debugged → Option End → Units → InLife (Pair X Watchdog dx dw)
   by_over states s o unit = standing (goes_on f deadline_of image drives unit most o (life_for f deadline_of states s.machine.machine) (seen s))
 
   -- the life is over
-  pub gone-over : (states : ℕ) (s : Life_) (how : End) (old new : Out) (r : Result (Unit {0}) LivesFault) → IsReady s → s.over ≡ Some how →
+  pub gone-over : (states : ℕ) (s : Debugged) (how : End) (old new : Out) (r : Result (Unit {0}) LivesFault) → IsReady s → s.over ≡ Some how →
       Puts old (stand_line s.number s.machine.machine) new → OnOk r (new.failed ≡ false) → IfErr r (λ e. e ≡ fault.WriteFault) → IfErr r (λ e. new.failed ≡ true) →
       Goes made (λ unit. gone_for f deadline_of image drives unit most states (seen s)) old r s new
   gone-over states s how old new r ready over text written is failed =
@@ -200,23 +200,23 @@ module _ {X : Type 0} {dx : extra.Ghosts X} {dw : extra.Ghosts Watchdog} {d : ex
         ready = always r ready;
       })
 
-  module _ (states : ℕ) (s : Life_) (ready : IsReady s) (lives : s.over ≡ None) (old mid : Out) (lines : Puts old (text_of (life_for f deadline_of states s.machine.machine).ran.records) mid) where
+  module _ (states : ℕ) (s : Debugged) (ready : IsReady s) (lives : s.over ≡ None) (old mid : Out) (lines : Puts old (text_of (life_for f deadline_of states s.machine.machine).ran.records) mid) where
     abbrev life : Life (Pair X Watchdog dx dw)
     life = life_for f deadline_of states s.machine.machine
 
-    abbrev after : Unit_ → InLife (Pair X Watchdog dx dw)
+    abbrev after : Units → InLife (Pair X Watchdog dx dw)
     after unit = lived f deadline_of image drives unit most life (seen s)
 
-    abbrev here : Unit_ → InLife (Pair X Watchdog dx dw) → InLife (Pair X Watchdog dx dw)
+    abbrev here : Units → InLife (Pair X Watchdog dx dw) → InLife (Pair X Watchdog dx dw)
     here unit l = standing (settled f deadline_of image drives unit most life l)
 
-    near : (unit : Unit_) → Near (after unit).text (after unit).pauses (here unit (kept_of (after unit))) (here unit (after unit))
+    near : (unit : Units) → Near (after unit).text (after unit).pauses (here unit (kept_of (after unit))) (here unit (after unit))
     near unit =
         near-standing (after unit).text (after unit).pauses (settled f deadline_of image drives unit most life (kept_of (after unit))) (settled f deadline_of image drives unit most life (after unit))
         (near-settled f deadline_of image drives unit most (after unit).text (after unit).pauses life (kept_of (after unit)) (after unit) (near-first (after unit)))
 
     -- the sink has failed on the way
-    pub gone-fails : (t : Life_) → mid.failed ≡ true → Goes {A = Unit {0}} made (λ unit. gone_for f deadline_of image drives unit most states (seen s)) old (Err fault.WriteFault) t mid
+    pub gone-fails : (t : Debugged) → mid.failed ≡ true → Goes {A = Unit {0}} made (λ unit. gone_for f deadline_of image drives unit most states (seen s)) old (Err fault.WriteFault) t mid
     gone-fails t failed =
         subst (λ o. Goes {A = Unit {0}} made (by_over states s o) old (Err fault.WriteFault) t mid) (sym lives) (record {
           reported = λ unit made_so.
@@ -226,10 +226,10 @@ module _ {X : Type 0} {dx : extra.Ghosts X} {dw : extra.Ghosts Watchdog} {d : ex
         })
 
     module _ (late : Bool) (w : Whole (Pair X Watchdog dx dw)) (q : Buffer Begun) (h : HasLived f deadline_of states s.machine.machine s.begun late w.machine q) where
-      abbrev pub gone_to : Life_
+      abbrev pub gone_to : Debugged
       gone_to = record s { machine = w; begun = q }
 
-      gone-seen : (unit : Unit_) → seen gone_to ≡ kept_of (after unit)
+      gone-seen : (unit : Units) → seen gone_to ≡ kept_of (after unit)
       gone-seen unit = λ i. record {
         number = s.number;
         from = s.from;
@@ -247,12 +247,12 @@ module _ {X : Type 0} {dx : extra.Ghosts X} {dw : extra.Ghosts Watchdog} {d : ex
               ap (λ (b : Buffer Begun). b.items) h.begun
               ∙ ap (λ (m : Machine (Pair X Watchdog dx dw)). keep_last 33 (s.begun.items ++ begun_for f (m.time - s.machine.machine.time) s.machine.machine)) h.machine
 
-      gone-settled : (unit : Unit_) → standing (settled f deadline_of image drives unit most (last_of late w.machine) (seen gone_to)) ≡ here unit (kept_of (after unit))
+      gone-settled : (unit : Units) → standing (settled f deadline_of image drives unit most (last_of late w.machine) (seen gone_to)) ≡ here unit (kept_of (after unit))
       gone-settled unit =
           (λ i. standing (settled f deadline_of image drives unit most (record { ran = still (h.machine i); how = h.how i; by_watchdog = h.by_watchdog i }) (seen gone_to)))
           ∙ ap (here unit) (gone-seen unit)
 
-      pub gone-goes : (t : Life_) (new : Out) (r : Result (Unit {0}) LivesFault) → Goes made (λ unit. standing (settled f deadline_of image drives unit most (last_of late w.machine) (seen gone_to))) mid r t new →
+      pub gone-goes : (t : Debugged) (new : Out) (r : Result (Unit {0}) LivesFault) → Goes made (λ unit. standing (settled f deadline_of image drives unit most (last_of late w.machine) (seen gone_to))) mid r t new →
           Goes made (λ unit. gone_for f deadline_of image drives unit most states (seen s)) old r t new
       gone-goes t new r g =
           subst (λ o. Goes made (by_over states s o) old r t new) (sym lives) (record {

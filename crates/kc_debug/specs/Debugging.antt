@@ -115,7 +115,7 @@ abbrev pub past_in : ℕ → Begun → Past
 past_in number b = record { life = number; begun = b }
 
 -- the life that is debugged, by what is kept of it
-abbrev pub seen : {X : Type 0} {d : extra.Ghosts X} → DebuggedLife X d → InLife X
+abbrev pub seen : {X : Type 0} → DebuggedLife X → InLife X
 seen s = record { number = s.number; from = s.from; machine = s.machine.machine; over = s.over; breaks = s.breaks.items; past = map past_of s.past.items; begun = s.begun.items; text = []; pauses = [] }
 
 -- what is kept of a life
@@ -146,20 +146,19 @@ module _ {X : Type 0} {dx : extra.Ghosts X} {dw : extra.Ghosts Watchdog} where
     pub unit : IsWatched (made from) m.board.units.further
     pub machine : m ≡ start image (driven_from from drives) m.board.units.further
 
-  module _ {d : extra.Ghosts (Pair X Watchdog dx dw)} where
-    -- a life that a command may be carried out in
-    pub record IsReady (s : DebuggedLife (Pair X Watchdog dx dw) d) : Type 0 where
-      pub held : IsHeld s.past s.begun
-      pub from : s.from ≤ max_states
-      pub in_time : IsInTime (deadline_of s.machine.machine.board.units.further) s.machine.machine.time
-      pub ran : IfSome s.machine.machine.ended (λ how. HasRun how s.machine.machine.time)
+  -- a life that a command may be carried out in
+  pub record IsReady (s : DebuggedLife (Pair X Watchdog dx dw)) : Type 0 where
+    pub held : IsHeld s.past s.begun
+    pub from : s.from ≤ max_states
+    pub in_time : IsInTime (deadline_of s.machine.machine.board.units.further) s.machine.machine.time
+    pub ran : IfSome s.machine.machine.ended (λ how. HasRun how s.machine.machine.time)
 
-    -- What a call has come to is what the definition says, by whatever units new lives are made with, as long as they are made for
-    -- the state at which the life begins.
-    pub record Goes {A : Type 0} (made : ℕ → X) (next : (ℕ → Pair X Watchdog dx dw) → InLife (Pair X Watchdog dx dw)) (old : Out) (result : Result A LivesFault) (s : DebuggedLife (Pair X Watchdog dx dw) d) (new : Out) : Type 0 where
-      pub reported : (unit : ℕ → Pair X Watchdog dx dw) → ((from : ℕ) → IsWatched (made from) (unit from)) → IsDone (next unit) old result new
-      pub kept : OnOk result ((unit : ℕ → Pair X Watchdog dx dw) → ((from : ℕ) → IsWatched (made from) (unit from)) → seen s ≡ kept_of (next unit))
-      pub ready : OnOk result (IsReady s)
+  -- What a call has come to is what the definition says, by whatever units new lives are made with, as long as they are made for
+  -- the state at which the life begins.
+  pub record Goes {A : Type 0} (made : ℕ → X) (next : (ℕ → Pair X Watchdog dx dw) → InLife (Pair X Watchdog dx dw)) (old : Out) (result : Result A LivesFault) (s : DebuggedLife (Pair X Watchdog dx dw)) (new : Out) : Type 0 where
+    pub reported : (unit : ℕ → Pair X Watchdog dx dw) → ((from : ℕ) → IsWatched (made from) (unit from)) → IsDone (next unit) old result new
+    pub kept : OnOk result ((unit : ℕ → Pair X Watchdog dx dw) → ((from : ℕ) → IsWatched (made from) (unit from)) → seen s ≡ kept_of (next unit))
+    pub ready : OnOk result (IsReady s)
 
   -- the further unit of the life that begins at a state is made for that state, beside a new watchdog
   pub record HasAnswered (f : Further (Pair X Watchdog dx dw)) (made : ℕ → X) (image : List ℕ) (drives : Drives) (most : ℕ) (entries : List MapEntry) (commands : List Command) (old : Out) (result : Result End LivesFault) (new : Out) : Type 0 where
