@@ -1,8 +1,9 @@
 -- What is kept of the lives so far stands for all of them: a command does the same over it.
-use Rattle.std.proofs.Common.{◌≡◌, ℕ, suc, ◌+◌, ◌-◌, ◌<◌, ◌≤◌, Bool, true, false, ◌&&◌, if◌then◌else◌, nat_lt, nat_le, List, [], ◌∷◌, ◌++◌, map, length, take, drop, get_or, flat_map, Option, Some, None, Result, Ok, Err, Any, OnOk, inl, inr, refl, sym, ◌∙◌, ap, subst, append_assoc, append-nil, length-append, length-drop, arith}
+use Rattle.std.proofs.Common.{◌≡◌, ℕ, suc, ◌+◌, ◌-◌, ◌<◌, ◌≤◌, Bool, true, false, ◌&&◌, if◌then◌else◌, nat_lt, nat_le, List, [], ◌∷◌, ◌++◌, map, length, take, drop, get_or, flat_map, Option, Some, None, Result, Ok, Err, Any, OnOk, inl, inr, refl, sym, ◌∙◌, ap, subst, append_assoc, append-nil, length-append, length-drop, length-take-le, ◌↔◌, arith}
 use Rattle.std.proofs.Math.Seq.{drop-append-add}
 use Rattle.std.proofs.lemmas.Bool.{cases_lt}
-use Rattle.std.proofs.lemmas.List.{drop-map, get_or_append_left, get_or-map, length-map, map_push, take_all, take_more}
+use Rattle.std.proofs.lemmas.Grind.{flat_map-append}
+use Rattle.std.proofs.lemmas.List.{drop_all, drop-append-le, drop-map, get_or_append_left, get_or-map, length-map, map_push, take_all, take_more}
 use Rattle.circular_buffer.specs.Buffer.{Buffer, buffer, keep_last}
 use Rattle.kc_base.specs.Limits.{max_states}
 use Rattle.kc_stim.specs.Drives.{Drives}
@@ -24,7 +25,7 @@ use Rattle.kc_debug_script.specs.declared.line_map.MapEntry.{MapEntry}
 use Rattle.kc_debug.specs.declared.activities.Begun.{Begun}
 use Rattle.kc_debug.specs.declared.past.Past.{Past}
 use Rattle.kc_debug.specs.Activities.{begun_for, finished}
-use Rattle.kc_debug.specs.Debugging.{past_in, kept_of, standing, IsDone}
+use Rattle.kc_debug.specs.Debugging.{past_of, past_in, kept_of, standing, IsDone}
 use Rattle.kc_debug.specs.InLives.{InLife, says, stand_line, activity_line, all_finished, history, over_of, born, lived, is_followed, followed, ended_as, settled, goes_on, gone_for, after_command}
 use Rattle.kc_debug.specs.Lines.{memory_lines}
 use Rattle.kc_debug.specs.Stops.{states_of_activities, states_of_run}
@@ -88,6 +89,56 @@ finished-more before life n xs x p q within is h pushed =
 
 pub finished-same : (before : List Past) (life n : ℕ) (xs : List Begun) (p : Buffer Past) → length xs ≤ n → are_kept before life (take n xs) p → are_kept before life (take (n + 1) xs) p
 finished-same before life n xs p past h = subst (λ ys. are_kept before life ys p) (take_all n xs past ∙ sym (take_all (n + 1) xs (omega arith))) h
+
+-- how many of those that have begun have finished
+pub done-finished : (u : Option UnderWay) (bs : List Begun) (b : Bool) (n len : ℕ) → ((b ≡ true) ↔ (u ≡ None)) → len ≡ length bs → n ≡ (if b then len else len - 1) → (finished u bs ≡ take n bs) × (n ≡ length (finished u bs))
+done-finished None bs true n len h long is =
+    let all : n ≡ length bs = is ∙ long in
+    (sym (take_all n bs (omega (arith, all))), all)
+done-finished None bs false n len h long is = absurd (let c : false ≡ true = h.1 refl in cc)
+done-finished (Some a) bs true n len h long is = absurd (let c : Some a ≡ None = h.0 refl in cc)
+done-finished (Some a) bs false n len h long is =
+    let fewer : n ≡ length bs - 1 = omega (arith, is, long) in
+    let some : length (take (length bs - 1) bs) ≡ length bs - 1 = length-take-le (length bs - 1) bs (omega arith) in
+    (ap (λ k. take k bs) (sym fewer), fewer ∙ sym some)
+
+-- ---- the history, in two parts
+
+drop-two : {A : Type 0} (k : ℕ) (xs ys : List A) → drop k (xs ++ ys) ≡ drop k xs ++ drop (k - length xs) ys
+drop-two k xs ys = elim (cases_lt (length xs) k) [
+  | inl more ↦
+      let none : drop k xs ≡ [] = drop_all k xs (omega (arith, more)) in
+      let sum : k ≡ length xs + (k - length xs) = omega (arith, more) in
+      ap (λ i. drop i (xs ++ ys)) sum ∙ drop-append-add xs ys (k - length xs) ∙ ap (λ zs. zs ++ drop (k - length xs) ys) (sym none)
+  | inr few ↦
+      let none : k - length xs ≡ 0 = omega (arith, few) in
+      drop-append-le k xs ys few ∙ ap (λ i. drop k xs ++ drop i ys) (sym none)
+]
+
+flat_map-map : {A B : Type 0} (line : B → List ℕ) (h : A → B) (xs : List A) → flat_map line (map h xs) ≡ flat_map (λ x. line (h x)) xs
+flat_map-map line h [] = refl
+flat_map-map line h (x ∷ xs) = ap (λ t. line (h x) ++ t) (flat_map-map line h xs)
+
+pub history-parts : (line : ℕ × Begun → List ℕ) (ps : List Past) (number : ℕ) (fin bs : List Begun) (n first : ℕ) → fin ≡ take n bs → n ≡ length fin → first ≡ length ps + n - 32 →
+    flat_map (λ p. line (past_of p)) (drop first ps) ++ flat_map (λ b. line (past_of (past_in number b))) (drop (first - length ps) (take n bs)) ≡ flat_map line (keep_last 32 (map past_of ps ++ map (λ b. (number, b)) fin))
+history-parts line ps number fin bs n first are many from =
+    let h : Begun → ℕ × Begun = λ b. (number, b) in
+    let long : length (map past_of ps) ≡ length ps = length-map ps past_of in
+    let short : length (map h fin) ≡ length fin = length-map fin h in
+    let all : length (map past_of ps ++ map h fin) ≡ length (map past_of ps) + length (map h fin) = length-append (map past_of ps) (map h fin) in
+    let there : first ≡ length (map past_of ps ++ map h fin) - 32 = omega (arith, long, short, all, many, from) in
+    let behind : first - length ps ≡ first - length (map past_of ps) = omega (arith, long) in
+    let one : flat_map (λ p. line (past_of p)) (drop first ps) ≡ flat_map line (drop first (map past_of ps)) =
+    sym (ap (flat_map line) (drop-map past_of first ps) ∙ flat_map-map line past_of (drop first ps)) in
+    let two : flat_map (λ b. line (past_of (past_in number b))) (drop (first - length ps) (take n bs)) ≡ flat_map line (drop (first - length (map past_of ps)) (map h fin)) =
+    ap (λ xs. flat_map (λ b. line (h b)) (drop (first - length ps) xs)) (sym are)
+    ∙ ap (λ k. flat_map (λ b. line (h b)) (drop k fin)) behind
+    ∙ sym (ap (flat_map line) (drop-map h (first - length (map past_of ps)) fin) ∙ flat_map-map line h (drop (first - length (map past_of ps)) fin)) in
+    ap (λ xs. xs ++ flat_map (λ b. line (past_of (past_in number b))) (drop (first - length ps) (take n bs))) one
+    ∙ ap (λ xs. flat_map line (drop first (map past_of ps)) ++ xs) two
+    ∙ sym (flat_map-append line (drop first (map past_of ps)) (drop (first - length (map past_of ps)) (map h fin)))
+    ∙ ap (flat_map line) (sym (drop-two first (map past_of ps) (map h fin)))
+    ∙ ap (λ k. flat_map line (drop k (map past_of ps ++ map h fin))) there
 
 -- ---- some of a list
 

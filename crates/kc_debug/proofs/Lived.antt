@@ -1,9 +1,10 @@
 -- A life on its way: so many states have passed since a command began, and the deadline has not gone by.
-use Rattle.std.proofs.Common.{◌≡◌, ◌≢◌, ℕ, zero, suc, ◌+◌, ◌-◌, ◌*◌, ◌<◌, ◌≤◌, min, max, Bool, true, false, eqb, nat_lt, List, [], ◌++◌, Option, Some, None, Result, Ok, IfOk, ◌⊎◌, inl, inr, refl, sym, ◌∙◌, ap, subst, arith, IfSome, unwrap_or}
+use Rattle.std.proofs.Common.{◌≡◌, ◌≢◌, ℕ, zero, suc, ◌+◌, ◌-◌, ◌*◌, ◌<◌, ◌≤◌, min, max, Bool, true, false, eqb, nat_lt, List, [], ◌++◌, Option, Some, None, Result, Ok, IfOk, ◌⊎◌, inl, inr, refl, sym, ◌∙◌, ap, subst, append_assoc, arith, IfSome, unwrap_or}
 use Rattle.std.proofs.lemmas.Bool.{cases_lt}
 use Rattle.std.proofs.lemmas.Bool.Decides.{nat_tests}
 use Rattle.circular_buffer.specs.Buffer.{Buffer, buffer, keep_last}
 use Rattle.kc_extra.specs.Further.{Further}
+use Rattle.kc_trace.specs.declared.record.Record.{Record}
 use Rattle.kc_trace.specs.Out.{Out, Puts}
 use Rattle.kc_trace.specs.declared.trace.WriteFault.{WriteFault}
 use Rattle.kc_trace.specs.Text.{text_of}
@@ -13,12 +14,12 @@ use Rattle.kc_machine_spec.specs.declared.doing.UnderWay.{UnderWay}
 use Rattle.kc_machine_spec.specs.Text.{HasRun}
 use Rattle.kc_machine_spec.specs.Machine.{Machine, Stepped, current}
 use Rattle.kc_machine_spec.specs.Passing.{passed}
-use Rattle.kc_machine_spec.specs.Run.{end_of, run_for}
+use Rattle.kc_machine_spec.specs.Run.{and_then, end_of, run_for}
 use Rattle.kc_machine_spec.proofs.Runs.{run_for-ended, run_for-add, run_for-cut, run-none, machine-add}
 use Rattle.kc_cycles.specs.Watching.{patience}
-use Rattle.kc_cycles.specs.Life.{is_at, goes_on, life_for}
+use Rattle.kc_cycles.specs.Life.{Life, is_at, goes_on, life_for}
 use Rattle.kc_cycles.specs.Spans.{end_of_span}
-use Rattle.kc_cycles.proofs.Going.{Feeds, InSpan, IsSpanEnd, span-first, span-run, nothing-before, before-same, before-more, life-span, IsLeft, Ends, ends-over, ends-bitten, ends-lines, cut-lines}
+use Rattle.kc_cycles.proofs.Going.{Feeds, InSpan, IsSpanEnd, span-first, span-run, nothing-before, before-same, life-span, IsLeft, Ends, ends-over, ends-bitten, ends-lines, cut-lines}
 use Rattle.kc_debug.specs.declared.activities.Begun.{Begun}
 use Rattle.kc_debug.specs.Activities.{begun_for}
 use Rattle.kc_debug.specs.Debugging.{is_before, IsInTime, IsAhead, how_of, IsPart, IsClearFor, PassesInLife, HasLived}
@@ -95,6 +96,18 @@ end-run m run = by_end m.ended refl
 how-run : {X : Type 0} (late : Bool) (m : Machine X) → IfSome m.ended (λ how. HasRun how m.time) → (late ≡ true → 0 < m.time) → HasRun (how_of late m) m.time
 how-run true m run some = some refl
 how-run false m run some = end-run m run
+
+-- ---- what comes before a life
+
+same_stepped : {X : Type 0} (m : Machine X) (xs ys : List Record) (v w : ℕ) → xs ≡ ys → v ≡ w → ◌≡◌ {A = Stepped X} (record { machine = m; records = xs; touch = v }) (record { machine = m; records = ys; touch = w })
+same_stepped m xs ys v w h g = ap (λ l. record { machine = m; records = l; touch = v }) h ∙ ap (λ n. record { machine = m; records = ys; touch = n }) g
+
+before-more : {X : Type 0} (s : Stepped X) (r : Machine X → Stepped X) (rest : Machine X → Life X) → goes_on s (λ m. goes_on (r m) rest) ≡ goes_on (and_then s r) rest
+before-more {X} s r rest =
+    let mid : Stepped X = r s.machine in
+    let life : Life X = rest mid.machine in
+    ap (λ (ran : Stepped X). record life { ran = ran }) (same_stepped life.ran.machine (s.records ++ (mid.records ++ life.ran.records)) ((s.records ++ mid.records) ++ life.ran.records) (s.touch + (mid.touch + life.ran.touch)) ((s.touch + mid.touch) + life.ran.touch)
+    (sym (append_assoc s.records mid.records life.ran.records)) (let e : s.touch + (mid.touch + life.ran.touch) ≡ (s.touch + mid.touch) + life.ran.touch = omega arith in e))
 
 module _ {X : Type 0} (f : Further X) where
   -- a machine that has ended or lives, and goes on
@@ -282,7 +295,7 @@ module _ {X : Type 0} (f : Further X) (deadline : X → Option ℕ) where
         ∙ life-span f deadline feeds m.time (deadline m.board.units.further) (m.time + a) a (total - (i + a)) m (span-of a m clear) (span-first deadline m) (omega arith)) in
         left
         ∙ before-same f deadline (run_for f i m0) (life_for f deadline (total - i)) (λ n. goes_on (run_for f a n) (life_for f deadline (total - (i + a)))) goes
-        ∙ before-more f deadline (run_for f i m0) (run_for f a) (life_for f deadline (total - (i + a)))
+        ∙ before-more (run_for f i m0) (run_for f a) (life_for f deadline (total - (i + a)))
         ∙ sym (ap (λ (s : Stepped X). goes_on s (life_for f deadline (total - (i + a)))) (run_for-add f i a m0))
 
     in-time-more : (a : ℕ) (m n : Machine X) → IsInTime (deadline m.board.units.further) m.time → IsClearFor f deadline a m → n ≡ (run_for f a m).machine → n.time ≡ m.time + a → IsInTime (deadline n.board.units.further) n.time

@@ -1,5 +1,7 @@
 -- What a call has come to, by what it has done to the life that is debugged.
 use Rattle.std.proofs.Common.{◌≡◌, ℕ, ◌+◌, ◌-◌, ◌<◌, ◌≤◌, Bool, true, false, ◌&&◌, if◌then◌else◌, nat_lt, nat_le, List, [], ◌∷◌, ◌++◌, map, Option, Some, None, Result, Ok, Err, OnOk, IfErr, IfSome, refl, sym, ◌∙◌, ap, subst, append-nil, arith}
+use Rattle.std.proofs.lemmas.Bool.{and_parts}
+use Rattle.std.proofs.lemmas.Bool.Decides.{nat_tests}
 use Rattle.std.proofs.lemmas.List.{map-append}
 use Rattle.circular_buffer.specs.Buffer.{Buffer, buffer, keep_last}
 use Rattle.kc_base.specs.Limits.{max_states}
@@ -8,7 +10,7 @@ use Rattle.kc_extra.specs.declared.pair.Pair.{Pair}
 use Rattle.kc_extra.specs.Further.{Further}
 use Rattle.kc_stim.specs.Drives.{Drives, driven_from}
 use Rattle.kc_trace.specs.Out.{Out, Puts}
-use Rattle.kc_trace.specs.Text.{text_of}
+use Rattle.kc_trace.specs.Text.{text_of, line_of}
 use Rattle.kc_trace.proofs.Outs.{Puts-append, Puts-longer}
 use Rattle.kc_machine_spec.specs.declared.doing.End.{End}
 use Rattle.kc_machine_spec.specs.declared.doing.End.TheVariants as end
@@ -17,6 +19,7 @@ use Rattle.kc_machine_spec.specs.Machine.{Machine, start}
 use Rattle.kc_machine_spec.specs.Run.{still}
 use Rattle.kc_machine_spec.proofs.Calls.{always}
 use Rattle.kc_machine.specs.Board.{Whole}
+use Rattle.kc_machine.specs.Stepping.{end_line}
 use Rattle.kc_cycles.specs.Life.{Life, life_for}
 use Rattle.kc_cycles.specs.Lives.{is_reset, restart_line}
 use Rattle.kc_cycles.specs.Making.{IsWatched, deadline_of}
@@ -62,6 +65,56 @@ module _ {X : Type 0} (f : Further X) (deadline : X → Option ℕ) (image : Lis
   ended-is end.Reset l = refl
   ended-is (end.Undefined what access) l = refl
 
+-- ---- an end that is noted, or none
+
+pub spent-text : {X : Type 0} (how : End) (m : Machine X) → is_spent how ≡ true → over_text how m ≡ []
+spent-text end.Spent m e = refl
+spent-text end.Powerdown m e = absurd (let c : false ≡ true = e in cc)
+spent-text end.Reset m e = absurd (let c : false ≡ true = e in cc)
+spent-text (end.Undefined what access) m e = absurd (let c : false ≡ true = e in cc)
+
+pub spent-over : (how : End) (o : Option End) → is_spent how ≡ true → over_by how o ≡ o
+spent-over end.Spent o e = refl
+spent-over end.Powerdown o e = absurd (let c : false ≡ true = e in cc)
+spent-over end.Reset o e = absurd (let c : false ≡ true = e in cc)
+spent-over (end.Undefined what access) o e = absurd (let c : false ≡ true = e in cc)
+
+pub over-text : {X : Type 0} (how : End) (m : Machine X) → is_spent how ≡ false → over_text how m ≡ line_of (end_line how m)
+over-text end.Spent m e = absurd (let c : true ≡ false = e in cc)
+over-text end.Powerdown m e = refl
+over-text end.Reset m e = refl
+over-text (end.Undefined what access) m e = refl
+
+pub over-over : (how : End) (o : Option End) → is_spent how ≡ false → over_by how o ≡ Some how
+over-over end.Spent o e = absurd (let c : true ≡ false = e in cc)
+over-over end.Powerdown o e = refl
+over-over end.Reset o e = refl
+over-over (end.Undefined what access) o e = refl
+
+-- a reset has run
+pub reset-run : (how : End) (time : ℕ) → is_reset how ≡ true → HasRun how time → 0 < time
+reset-run end.Reset time e h = h
+reset-run end.Spent time e h = absurd (let c : false ≡ true = e in cc)
+reset-run end.Powerdown time e h = absurd (let c : false ≡ true = e in cc)
+reset-run (end.Undefined what access) time e h = absurd (let c : false ≡ true = e in cc)
+
+-- where another life follows
+pub followed-parts : (b : Bool) (how : End) (number most from_to limit : ℕ) → b ≡ (is_reset how && (nat_lt number most && nat_le from_to limit)) → b ≡ true → (is_reset how ≡ true) × (number < most) × (from_to ≤ limit)
+followed-parts b how number most from_to limit is e =
+    let one = and_parts (is_reset how) (nat_lt number most && nat_le from_to limit) (sym is ∙ e) in
+    let two = and_parts (nat_lt number most) (nat_le from_to limit) one.1 in
+    (one.0, less number most two.0, fits from_to limit two.1)
+  where
+    less : (n k : ℕ) → nat_lt n k ≡ true → n < k
+    less n k h = grind (arith, nat_tests, h)
+
+    fits : (n k : ℕ) → nat_le n k ≡ true → n ≤ k
+    fits n k h = grind (arith, nat_tests, h)
+
+-- the time of a life of which something else has changed
+pub stay-time : {X A E : Type 0} (s t : DebuggedLife X) (how : End) (r : Result A E) → t ≡ record s { over = over_by how s.over } → OnOk r (t.machine.machine.time ≤ s.machine.machine.time)
+stay-time {X} s t how r e = let same : t.machine.machine.time ≡ s.machine.machine.time = ap (λ (x : DebuggedLife X). x.machine.machine.time) e in always r (omega (arith, same))
+
 module _ {X : Type 0} {dx : extra.Ghosts X} {dw : extra.Ghosts Watchdog} (f : Further (Pair X Watchdog dx dw)) (made : ℕ → X) (image : List ℕ) (drives : Drives) (most : ℕ) where
   abbrev Debugged : Type 0
   Debugged = DebuggedLife (Pair X Watchdog dx dw)
@@ -73,6 +126,9 @@ module _ {X : Type 0} {dx : extra.Ghosts X} {dw : extra.Ghosts Watchdog} (f : Fu
   IsMade unit = (from : ℕ) → IsWatched (made from) (unit from)
 
   -- ---- the next life
+
+  pub follow-time : {A E : Type 0} (from : ℕ) (m : Machine (Pair X Watchdog dx dw)) (r : Result A E) → IsBorn made image drives from m → OnOk r (m.time ≡ 0)
+  follow-time from m r b = always r (ap (λ (x : Machine (Pair X Watchdog dx dw)). x.time) b.machine)
 
   born-is : (unit : Units) → IsMade unit → (from : ℕ) (m : Machine (Pair X Watchdog dx dw)) → IsBorn made image drives from m → m ≡ born f deadline_of image drives unit most from
   born-is unit is from m b = b.machine ∙ ap (start image (driven_from from drives)) (watched-same (made from) m.board.units.further (unit from) b.unit (is from))
@@ -146,16 +202,16 @@ module _ {X : Type 0} {dx : extra.Ghosts X} {dw : extra.Ghosts Watchdog} (f : Fu
 
   -- ---- no other one follows
 
-  pub stay-goes : (s t : Debugged) (late : Bool) (how : End) (old new : Out) (r : Result (Unit {0}) LivesFault) → IsReady s → t ≡ record s { over = over_by how s.over } →
+  pub stay-goes : (s t : Debugged) (late : Bool) (how : End) (old new : Out) (r : Result (Unit {0}) LivesFault) → how ≡ how_of late s.machine.machine → IsReady s → t ≡ record s { over = over_by how s.over } →
       Puts old (over_text how s.machine.machine ++ stand_line s.number s.machine.machine) new → OnOk r (new.failed ≡ false) → IfErr r (λ e. e ≡ fault.WriteFault) → IfErr r (λ e. new.failed ≡ true) →
-      Goes made (λ unit. standing (ended_as f deadline_of image drives unit most (over_of how) (seen s))) old r t new
-  stay-goes s t late how old new r ready e text written is failed = record {
+      Goes made (λ unit. standing (ended_as f deadline_of image drives unit most (over_of (how_of late s.machine.machine)) (seen s))) old r t new
+  stay-goes s t late how old new r so ready e text written is failed = subst (λ h. Goes made (λ unit. standing (ended_as f deadline_of image drives unit most (over_of h) (seen s))) old r t new) so (record {
     reported = λ unit made_so.
         done-of (standing (ended_as f deadline_of image drives unit most (over_of how) (seen s))) old new (over_text how s.machine.machine ++ stand_line s.number s.machine.machine) r text
         (ap (λ (x : InLife (Pair X Watchdog dx dw)). (standing x).text) (sym (ended-is f deadline_of image drives unit most how (seen s)))) written is failed;
     kept = always r (λ unit made_so. ap seen e ∙ same ∙ ap (λ (x : InLife (Pair X Watchdog dx dw)). kept_of (standing x)) (sym (ended-is f deadline_of image drives unit most how (seen s))));
     ready = always r (subst IsReady (sym e) (record { held = ready.held; from = ready.from; in_time = ready.in_time; ran = ready.ran }));
-  }
+  })
     where
       same : seen (record s { over = over_by how s.over }) ≡ kept_of (record (seen s) { over = over_by how s.over; text = over_text how s.machine.machine })
       same = λ i. record {

@@ -1,5 +1,5 @@
 // The activities that have finished in the lives of a board.
-ghost use Rattle.std.specs.Prelude.{◌≡◌, ◌-◌, ◌++◌, if◌then◌else◌, length, drop, take, map, flat_map};
+ghost use Rattle.std.specs.Prelude.{◌≡◌, ◌≤◌, ◌-◌, ◌++◌, if◌then◌else◌, length, drop, take, map, flat_map};
 ghost use Rattle.circular_buffer.specs.Buffer.{buffer, keep_last};
 ghost use Rattle.kc_trace.specs.Out.{Puts};
 ghost use Rattle.kc_trace.specs.Trace.{out_of};
@@ -23,7 +23,8 @@ pub(crate) struct Past {
 
 /// How many of so many activities have finished: where one is under way, it is the last that began.
 pub(crate) fn count_finished(begun: usize, between: bool) -> usize
-    ensures { result ≡ (if between then begun else begun - 1) }
+    ensures count { result ≡ (if between then begun else begun - 1) }
+    ensures few { result ≤ begun }
 {
     if between {
         begun

@@ -1,4 +1,4 @@
-use Rattle.std.proofs.Common.{inl, inr, refl, sym, ap, subst, ◌∙◌, arith, false}
+use Rattle.std.proofs.Common.{nat_lt, inl, inr, refl, sym, ap, subst, ◌∙◌, arith, false}
 use Rattle.kc_extra.specs.contracts.pair_unit.PairExtra.TheImpl as pair
 use Rattle.kc_machine_spec.specs.declared.doing.UnderWay.{UnderWay}
 use Rattle.kc_machine.specs.Board.{Whole}
@@ -63,7 +63,7 @@ returns-then-has_come-clause-lines g c =
     let m = c.loop-left.machine.machine in
     let due = ap (λ o. is_at o m.time) (sym c.deadline_in.ensures) ∙ ap (is_at c.deadline_in.result) (sym c.now.ensures) ∙ sym c.has_come.ensures ∙ c.if-has_come.true in
     let lives = sym c.ended.ensures ∙ none_end c.ended.result c.is_some.result c.if-is_some.false c.is_some.ensures in
-    let ends = stepping-late _ deadline_of _ _ _ c.args.begun.now c.loop-left.left m _ _ s _ c.current.result.left (omega (arith, c.loop-left-test.true)) lives due (ap (λ (u : UnderWay). u.left) c.current.ensures.activity) refl in
+    let ends = stepping-late _ deadline_of _ _ _ c.args.begun.now c.loop-left.left m _ _ s (nat_lt 0 c.current.result.left) c.current.result.left (omega (arith, c.loop-left-test.true)) lives due (ap (λ (u : UnderWay). u.left) c.current.ensures.activity) refl in
     living-lines _ deadline_of _ _ _ c.args.begun.now s.states _ _ _ s.living _ ends
 
 pub returns-then-has_come-clause-lived : goal.returns-then-has_come-clause-lived
@@ -74,9 +74,9 @@ returns-then-has_come-clause-lived g c =
     let m0 = c.args.machine.now.machine in
     let due = ap (λ o. is_at o m.time) (sym c.deadline_in.ensures) ∙ ap (is_at c.deadline_in.result) (sym c.now.ensures) ∙ sym c.has_come.ensures ∙ c.if-has_come.true in
     let lives = sym c.ended.ensures ∙ none_end c.ended.result c.is_some.result c.if-is_some.false c.is_some.ensures in
-    let ends = stepping-late _ deadline_of _ _ _ c.args.begun.now c.loop-left.left m _ _ s _ c.current.result.left (omega (arith, c.loop-left-test.true)) lives due (ap (λ (u : UnderWay). u.left) c.current.ensures.activity) refl in
-    let lived = living-lived _ deadline_of _ _ _ c.args.begun.now s.states _ _ _ s.living _ ends c.requires.ran (λ e. late-run (deadline_of m.board.units.further) m.time s.living.in_time due) in
-    subst (λ (w : Whole _). HasLived f deadline_of (states_of_activities f c.args.count m0) m0 c.args.begun.now _ w.machine c.loop-left.begun) (sym c.current.ensures.same) lived
+    let ends = stepping-late _ deadline_of _ _ _ c.args.begun.now c.loop-left.left m _ _ s (nat_lt 0 c.current.result.left) c.current.result.left (omega (arith, c.loop-left-test.true)) lives due (ap (λ (u : UnderWay). u.left) c.current.ensures.activity) refl in
+    let lived = living-lived _ deadline_of _ _ _ c.args.begun.now s.states _ _ _ s.living (nat_lt 0 c.current.result.left) ends c.requires.ran (λ e. late-run (deadline_of m.board.units.further) m.time s.living.in_time due) in
+    subst (λ (w : Whole _). HasLived f deadline_of (states_of_activities f c.args.count m0) m0 c.args.begun.now (nat_lt 0 c.current.result.left) w.machine c.loop-left.begun) (sym c.current.ensures.same) lived
 
 pub returns-then-has_come-clause-time : goal.returns-then-has_come-clause-time
 returns-then-has_come-clause-time g c =

@@ -2,7 +2,7 @@ use Rattle.std.proofs.Common.{arith}
 use Rattle.kc_trace.specs.Trace.{out_of}
 use Rattle.kc_debug.specs.Debugging.{past_in, past_of}
 use Rattle.kc_debug.specs.InLives.{activity_line}
-use Rattle.kc_debug.proofs.Shown.{reported-none, reported-more, reported-same, got, got-within, lost-behind}
+use Rattle.kc_debug.proofs.Shown.{reported-none, reported-more, reported-same, got, got-within, lost-behind, reported-last}
 use Rattle.kc_debug.proofs.past.report_present.Goals as goal
 use Rattle.kc_debug.proofs.past.report_present.Goals.{in-Some, in-None}
 
@@ -22,3 +22,8 @@ loop-index-preserved g c =
           rw w.out-is (reported-more (λ b. activity_line c.args.lines.now (past_of (past_in c.args.life b))) o p q c.args.first n xs x (omega arith) (got-within xs n x w.in-Some.ensures) (got xs n x w.in-Some.ensures) c.loop-index.invariant w.report_past.ensures)
       | in-None w ↦ rw w.out-is (reported-same (λ b. activity_line c.args.lines.now (past_of (past_in c.args.life b))) o p c.args.first n xs (lost-behind xs n w.in-None.ensures) c.loop-index.invariant)
     ]
+
+pub returns : goal.returns
+returns g c =
+    reported-last (λ b. activity_line c.args.lines.now (past_of (past_in c.args.life b))) (out_of g.S.Sink.written g.S.Sink.faults c.args.out.now) (out_of g.S.Sink.written g.S.Sink.faults c.loop-index.out) c.args.first c.loop-index.index c.args.finished c.args.begun.now.items
+    (omega (arith, c.loop-index-test.false)) (omega (arith, c.loop-index-test.false, c.loop-index.auto.index, c.loop-index.auto.index-end)) (omega (arith, c.loop-index-test.false, c.loop-index.auto.index, c.loop-index.auto.index-end)) c.loop-index.invariant
