@@ -11,7 +11,7 @@ use Rattle.kc_extra.specs.Further.{Further}
 use Rattle.kc_stim.specs.Drives.{Drives, driven_from}
 use Rattle.kc_trace.specs.Out.{Out, Puts}
 use Rattle.kc_trace.specs.Text.{text_of, line_of}
-use Rattle.kc_trace.proofs.Outs.{Puts-append, Puts-longer}
+use Rattle.kc_trace.proofs.Outs.{Puts-nothing, Puts-append, Puts-longer}
 use Rattle.kc_machine_spec.specs.declared.doing.End.{End}
 use Rattle.kc_machine_spec.specs.declared.doing.End.TheVariants as end
 use Rattle.kc_machine_spec.specs.Text.{HasRun}
@@ -332,3 +332,36 @@ module _ {X : Type 0} {dx : extra.Ghosts X} {dw : extra.Ghosts Watchdog} (f : Fu
               h.begun
               ∙ ap (λ xs. buffer xs 33)
               (sym (last-same 33 (s.begun.items ++ begun_for f (w.machine.time - s.machine.machine.time) s.machine.machine)) ∙ ap (λ (b : Buffer Begun). keep_last 33 b.items) (sym h.begun))
+
+  -- ---- a command that leaves the machine in its life
+
+  -- nothing is printed
+  pub goes-still : {A : Type 0} (s t : Debugged) (l : InLife (Pair X Watchdog dx dw)) (o : Out) (a : A) → l.text ≡ [] → seen t ≡ kept_of l → IsReady t → o.failed ≡ false → Goes made (λ unit. l) o (Ok a) t o
+  goes-still s t l o a none kept ready unbroken = record {
+    reported = λ unit made_so. (subst (λ xs. Puts o xs o) (sym none) (Puts-nothing o), unbroken);
+    kept = λ unit made_so. kept;
+    ready = ready;
+  }
+
+  break-kept : (s : Debugged) (breaks : List ℕ) → IsHeld s.past s.begun → (k : List ℕ) → k ≡ breaks →
+      record (seen s) { breaks = k } ≡ kept_of (record (seen s) { breaks = breaks })
+  break-kept s breaks h k e = λ i. record {
+    number = s.number;
+    from = s.from;
+    machine = s.machine.machine;
+    over = s.over;
+    breaks = e i;
+    past = items-kept s h i;
+    begun = begun-kept s h i;
+    text = [];
+    pauses = [];
+  }
+
+  -- what is said of it
+  pub goes-said : (s : Debugged) (text : List ℕ) (old new : Out) (r : Result (Unit {0}) LivesFault) → IsReady s → Puts old text new → OnOk r (new.failed ≡ false) → IfErr r (λ e. e ≡ fault.WriteFault) → IfErr r (λ e. new.failed ≡ true) →
+      Goes made (λ unit. says text (seen s)) old r s new
+  goes-said s text old new r ready puts written is failed = record {
+    reported = λ unit made_so. done-of (says text (seen s)) old new text r puts refl written is failed;
+    kept = always r (λ unit made_so. kept-same s ready.held);
+    ready = always r ready;
+  }

@@ -91,6 +91,7 @@ pub(crate) fn report_present<S: Sink>(
     finished: usize,
     out: &mut TraceOut<S>,
 )
+    requires { first ≤ finished }
     ensures { Puts (out_of S.written S.faults out.old) (flat_map (λ b. line_of_activity lines.now (past_of (past_in life b))) (drop first (take finished begun.now.items))) (out_of S.written S.faults out.new) }
 {
     for index in first..finished {

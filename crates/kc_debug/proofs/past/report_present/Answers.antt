@@ -26,4 +26,4 @@ loop-index-preserved g c =
 pub returns : goal.returns
 returns g c =
     reported-last (λ b. activity_line c.args.lines.now (past_of (past_in c.args.life b))) (out_of g.S.Sink.written g.S.Sink.faults c.args.out.now) (out_of g.S.Sink.written g.S.Sink.faults c.loop-index.out) c.args.first c.loop-index.index c.args.finished c.args.begun.now.items
-    (omega (arith, c.loop-index-test.false)) (omega (arith, c.loop-index-test.false, c.loop-index.auto.index, c.loop-index.auto.index-end)) (omega (arith, c.loop-index-test.false, c.loop-index.auto.index, c.loop-index.auto.index-end)) c.loop-index.invariant
+    (omega (arith, c.loop-index-test.false)) (omega (arith, c.loop-index-test.false, c.loop-index.auto.index, c.loop-index.auto.index-end, c.requires)) (omega (arith, c.loop-index-test.false, c.loop-index.auto.index, c.loop-index.auto.index-end, c.requires)) c.loop-index.invariant
