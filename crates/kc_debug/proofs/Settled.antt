@@ -343,7 +343,7 @@ module _ {X : Type 0} {dx : extra.Ghosts X} {dw : extra.Ghosts Watchdog} (f : Fu
     ready = ready;
   }
 
-  break-kept : (s : Debugged) (breaks : List ℕ) → IsHeld s.past s.begun → (k : List ℕ) → k ≡ breaks →
+  pub break-kept : (s : Debugged) (breaks : List ℕ) → IsHeld s.past s.begun → (k : List ℕ) → k ≡ breaks →
       record (seen s) { breaks = k } ≡ kept_of (record (seen s) { breaks = breaks })
   break-kept s breaks h k e = λ i. record {
     number = s.number;
@@ -364,4 +364,36 @@ module _ {X : Type 0} {dx : extra.Ghosts X} {dw : extra.Ghosts Watchdog} (f : Fu
     reported = λ unit made_so. done-of (says text (seen s)) old new text r puts refl written is failed;
     kept = always r (λ unit made_so. kept-same s ready.held);
     ready = always r ready;
+  }
+
+  -- a machine that stands where another does
+  pub ready-with : (s : Debugged) (w : Whole (Pair X Watchdog dx dw)) (m : Machine (Pair X Watchdog dx dw)) → w.machine ≡ m → IsInTime (deadline_of m.board.units.further) m.time → IfSome m.ended (λ how. HasRun how m.time) → IsReady s →
+      IsReady (record s { machine = w })
+  ready-with s w m same in_time ran ready = record {
+    held = ready.held;
+    from = ready.from;
+    in_time = subst (λ (k : Machine (Pair X Watchdog dx dw)). IsInTime (deadline_of k.board.units.further) k.time) (sym same) in_time;
+    ran = subst (λ (k : Machine (Pair X Watchdog dx dw)). IfSome k.ended (λ how. HasRun how k.time)) (sym same) ran;
+  }
+
+  pub seen-with : (s : Debugged) (w : Whole (Pair X Watchdog dx dw)) (m : Machine (Pair X Watchdog dx dw)) → IsHeld s.past s.begun → w.machine ≡ m → seen (record s { machine = w }) ≡ kept_of (record (seen s) { machine = m })
+  seen-with s w m h same = λ i. record {
+    number = s.number;
+    from = s.from;
+    machine = same i;
+    over = s.over;
+    breaks = s.breaks.items;
+    past = items-kept s h i;
+    begun = begun-kept s h i;
+    text = [];
+    pauses = [];
+  }
+
+  -- bytes are shown
+  pub goes-shown : (s : Debugged) (w : Whole (Pair X Watchdog dx dw)) (text : List ℕ) (old new : Out) (r : Result (Unit {0}) LivesFault) → IsReady s → w.machine ≡ s.machine.machine → Puts old text new → OnOk r (new.failed ≡ false) →
+      IfErr r (λ e. e ≡ fault.WriteFault) → IfErr r (λ e. new.failed ≡ true) → Goes made (λ unit. says text (seen s)) old r (record s { machine = w }) new
+  goes-shown s w text old new r ready same puts written is failed = record {
+    reported = λ unit made_so. done-of (says text (seen s)) old new text r puts refl written is failed;
+    kept = always r (λ unit made_so. seen-with s w s.machine.machine ready.held same);
+    ready = always r (ready-with s w s.machine.machine same ready.in_time ready.ran ready);
   }

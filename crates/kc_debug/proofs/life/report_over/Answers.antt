@@ -16,8 +16,8 @@ returns-then-is_spent-clause-over g c = λ i. record c.args.life.now { over = sy
 pub returns-clause-text : goal.returns-clause-text
 returns-clause-text g c =
     let o = out_of g.S.Sink.written g.S.Sink.faults c.args.out.now in
-    let q = out_of g.S.Sink.written g.S.Sink.faults c.write_end-_written.new.out in
-    subst (λ xs. Puts o xs q) (sym (over-text c.args.how c.args.life.now.machine.machine (sym c.is_spent.ensures ∙ c.if-is_spent.false))) c.write_end-_written.ensures.line
+    let q = out_of g.S.Sink.written g.S.Sink.faults c.write_end-written.new.out in
+    subst (λ xs. Puts o xs q) (sym (over-text c.args.how c.args.life.now.machine.machine (sym c.is_spent.ensures ∙ c.if-is_spent.false))) c.write_end-written.ensures.line
 
 pub returns-clause-over : goal.returns-clause-over
 returns-clause-over g c = λ i. record c.args.life.now { over = sym (over-over c.args.how c.args.life.now.over (sym c.is_spent.ensures ∙ c.if-is_spent.false)) i }
