@@ -1,4 +1,4 @@
-use Rattle.std.proofs.Common.{sym, subst, ◌∙◌, arith}
+use Rattle.std.proofs.Common.{Ok, Err, sym, subst, ◌∙◌, arith}
 use Rattle.kc_extra.specs.contracts.pair_unit.PairExtra.TheImpl as pair
 use Rattle.kc_trace.specs.Trace.{out_of}
 use Rattle.kc_cycles.specs.contracts.watchdog.Watchdog as watchdog_type
@@ -30,7 +30,7 @@ carry_out-requires-clause-few g c = way-room _ _ _ _ _ _ _ _ _ _ _ c.loop-index.
 pub carry_out-requires-clause-room : goal.carry_out-requires-clause-room
 carry_out-requires-clause-room g c =
     let bounded = subst AreBounded (sym c.commands-commands.ensures.value) c.commands-commands.ensures.bounded in
-    omega (arith, c.loop-index.invariant.time, bounded.limited.few, c.loop-index-test.true, c.len.ensures)
+    omega (arith, c.loop-index.invariant.time, bounded.limited.few, c.loop-index-test.true)
 
 pub carry_out-requires-clause-unbroken : goal.carry_out-requires-clause-unbroken
 carry_out-requires-clause-unbroken g c = c.loop-index.invariant.unbroken
@@ -39,7 +39,7 @@ pub returns-then-is_quit : goal.returns-then-is_quit
 returns-then-is_quit g c =
     let f = (pair.ghosts g.row.M-X watchdog_type.the_row g.M.X.Extra pair.no_dict watchdog.ghosts pair.no_dict).further in
     subst
-    (λ cs. HasAnswered f (g.M.Maker.made c.args.lives.now.maker.now c.args.lives.now.stimuli.now) c.args.lives.now.image.now c.args.lives.now.stimuli.now c.args.lives.now.most c.args.lines.now cs (out_of g.S.Sink.written g.S.Sink.faults c.args.out.now) _ (out_of g.S.Sink.written g.S.Sink.faults c.loop-index.out))
+    (λ cs. HasAnswered f (g.M.Maker.made c.args.lives.now.maker.now c.args.lives.now.stimuli.now) c.args.lives.now.image.now c.args.lives.now.stimuli.now c.args.lives.now.most c.args.lines.now cs (out_of g.S.Sink.written g.S.Sink.faults c.args.out.now) (Ok c.unwrap_or.result) (out_of g.S.Sink.written g.S.Sink.faults c.loop-index.out))
     c.commands-commands.ensures.value
     (way-quit _ _ _ _ _ _ _ _ _ _ _ c.loop-index.invariant c.command_at-command.result c.unwrap_or.result c.command_at-command.ensures.here (sym c.is_quit.ensures ∙ c.if-is_quit.true) c.unwrap_or.ensures)
 
@@ -47,7 +47,7 @@ pub returns-in-Err-carry_out : goal.returns-in-Err-carry_out
 returns-in-Err-carry_out g c =
     let f = (pair.ghosts g.row.M-X watchdog_type.the_row g.M.X.Extra pair.no_dict watchdog.ghosts pair.no_dict).further in
     subst
-    (λ cs. HasAnswered f (g.M.Maker.made c.args.lives.now.maker.now c.args.lives.now.stimuli.now) c.args.lives.now.image.now c.args.lives.now.stimuli.now c.args.lives.now.most c.args.lines.now cs (out_of g.S.Sink.written g.S.Sink.faults c.args.out.now) _ (out_of g.S.Sink.written g.S.Sink.faults c.carry_out.new.out))
+    (λ cs. HasAnswered f (g.M.Maker.made c.args.lives.now.maker.now c.args.lives.now.stimuli.now) c.args.lives.now.image.now c.args.lives.now.stimuli.now c.args.lives.now.most c.args.lines.now cs (out_of g.S.Sink.written g.S.Sink.faults c.args.out.now) (Err c.in-Err-carry_out.fault) (out_of g.S.Sink.written g.S.Sink.faults c.carry_out.new.out))
     c.commands-commands.ensures.value
     (way-cut _ _ _ _ _ _ _ _ _ _ _ c.loop-index.invariant c.command_at-command.result c.command_at-command.ensures.here (sym c.is_quit.ensures ∙ c.if-is_quit.false) _ _ c.in-Err-carry_out.fault c.in-Err-carry_out.ensures.goes)
 
@@ -60,6 +60,6 @@ pub returns : goal.returns
 returns g c =
     let f = (pair.ghosts g.row.M-X watchdog_type.the_row g.M.X.Extra pair.no_dict watchdog.ghosts pair.no_dict).further in
     subst
-    (λ cs. HasAnswered f (g.M.Maker.made c.args.lives.now.maker.now c.args.lives.now.stimuli.now) c.args.lives.now.image.now c.args.lives.now.stimuli.now c.args.lives.now.most c.args.lines.now cs (out_of g.S.Sink.written g.S.Sink.faults c.args.out.now) _ (out_of g.S.Sink.written g.S.Sink.faults c.loop-index.out))
+    (λ cs. HasAnswered f (g.M.Maker.made c.args.lives.now.maker.now c.args.lives.now.stimuli.now) c.args.lives.now.image.now c.args.lives.now.stimuli.now c.args.lives.now.most c.args.lines.now cs (out_of g.S.Sink.written g.S.Sink.faults c.args.out.now) (Ok c.unwrap_or-2.result) (out_of g.S.Sink.written g.S.Sink.faults c.loop-index.out))
     c.commands-commands.ensures.value
-    (way-done _ _ _ _ _ _ _ _ _ _ _ c.loop-index.invariant c.unwrap_or-2.result (omega (arith, c.loop-index-test.false, c.len.ensures)) c.unwrap_or-2.ensures)
+    (way-done _ _ _ _ _ _ _ _ _ _ _ c.loop-index.invariant c.unwrap_or-2.result (omega (arith, c.loop-index-test.false)) c.unwrap_or-2.ensures)
