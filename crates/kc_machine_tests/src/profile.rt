@@ -66,8 +66,22 @@ fn counted<L: Ledger>(alloc: Global, blank: Blank) -> Result<Profile, Fail>
     let mut statistics = Statistics::new(alloc, 1)?;
     let mut out = TraceOut::new(MemSink::new(alloc, 4096, Vec::new(alloc))?);
     let mut steps = Steps::<L>::new(blank);
-    go(&mut machine, &mut profile, &mut statistics, 97, &mut out, &mut steps)?;
-    go(&mut machine, &mut profile, &mut statistics, 1000, &mut out, &mut steps)?;
+    go(
+        &mut machine,
+        &mut profile,
+        &mut statistics,
+        97,
+        &mut out,
+        &mut steps,
+    )?;
+    go(
+        &mut machine,
+        &mut profile,
+        &mut statistics,
+        1000,
+        &mut out,
+        &mut steps,
+    )?;
     Ok(profile)
 }
 
