@@ -1,8 +1,6 @@
-pub mod AccountLemmas
 pub mod LivesLemmas
 pub mod ProfileLemmas
 pub mod RunLemmas
 pub mod ScriptLemmas
 pub mod SourceLemmas
-pub mod WatchLemmas
 pub mod WritingLemmas
